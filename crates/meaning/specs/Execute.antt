@@ -1,0 +1,112 @@
+-- What a statement does. n bounds the turns of each loop; a run that needs more is unfinished.
+use Prim.Native.Nat.{ℕ, zero, suc}
+use mathlib.Core.Bool.{Bool, true, false, not}
+use mathlib.Core.List.{List, [], _∷_, _++_}
+use mathlib.Core.Option.{Option, some}
+use mathlib.Core.Option as Option
+use Rattle.meaning.specs.Basics.{if_then_else_}
+use Rattle.meaning.specs.Tree.{Statement, declare, assign, update, when, while, return, block, act, Statements, only, first}
+use Rattle.meaning.specs.Value.{Value, integer, string, boolean, none, table, shape}
+use Rattle.meaning.specs.State.{State, Key, isDeclared, assigned, withVariables, figureOf, keyOf, entryIn, overwritten, withEntries}
+use Rattle.meaning.specs.Run.{Action, unfinished, run, entries, _>>=_, _>>_, give, count, take, refuse, current, become}
+use Rattle.meaning.specs.Operator.{withBoolean, withTable, newShape}
+use Rattle.meaning.specs.Evaluate.{evaluate}
+
+-- how a statement ends: the next one follows, or the procedure returns
+pub data Flow : Type 0 where
+  onward : Flow
+  returned : Value → Flow
+
+unfoldable pub continue : Flow → Action Flow → Action Flow
+continue onward k = k
+continue (returned v) k = give (returned v)
+
+-- ---- variables
+unfoldable pub declaring : ℕ → List ℕ → Action Flow
+declaring p x = do
+  s ← current
+  refuse (isDeclared s x) 60 p
+  become (withVariables s (s .variables ++ (record { name = x; holds = none } ∷ [])))
+  give onward
+
+-- a shape is copied, taking one more; anything else is assigned as it is
+unfoldable pub copied : ℕ → Value → Action Value
+copied p (integer z) = give (integer z)
+copied p (string t) = give (string t)
+copied p (boolean b) = give (boolean b)
+copied p none = give none
+copied p (table t) = give (table t)
+copied p (shape i) = current >>= λ s. newShape p (figureOf s i)
+
+unfoldable pub assigning : ℕ → List ℕ → Value → Action Flow
+assigning p x v = do
+  s ← current
+  refuse (not (isDeclared s x)) 50 p
+  u ← copied p v
+  s′ ← current
+  become (withVariables s′ (assigned (s′ .variables) x u))
+  give onward
+
+-- ---- tables
+-- a new key takes an entry; shapes are shared
+unfoldable pub storing : ℕ → ℕ → Key → Value → Option Value → Action Flow
+storing p t k v Option.none = do
+  take entries 1 p
+  s ← current
+  become (withEntries s (s .entries ++ (record { owner = t; key = k; holds = v } ∷ [])))
+  give onward
+storing p t k v (some old) = do
+  s ← current
+  become (withEntries s (overwritten (s .entries) t k v))
+  give onward
+
+unfoldable pub updating : ℕ → ℕ → Value → Value → Action Flow
+updating p t w v = current >>= λ s. storing p t (keyOf s w) v (entryIn (s .entries) t (keyOf s w))
+
+-- ---- loops
+-- A step is counted for each test; the body runs while the test is true.
+unfoldable pub looping : ℕ → ℕ → Action Value → Action Flow → Action Flow
+looping zero p test body = λ s. run [] unfinished
+looping (suc n) p test body = do
+  count p
+  v ← test
+  withBoolean p v λ b.
+      if b then (λ _. body >>= λ f. continue f (looping n p test body)) else λ _. give onward
+
+-- ---- statements
+unfoldable mutual
+  pub execute : Statement → ℕ → Action Flow
+  execute (declare p x) n = do
+    count p
+    declaring p x
+  execute (assign p x e) n = do
+    count p
+    v ← evaluate e p
+    assigning p x v
+  execute (update p a b e) n = do
+    count p
+    v ← evaluate a p
+    withTable p v λ t. do
+      k ← evaluate b p
+      u ← evaluate e p
+      updating p t k u
+  execute (when p e s) n = do
+    count p
+    v ← evaluate e p
+    withBoolean p v λ b. if b then (λ _. execute s n) else λ _. give onward
+  execute (while p e s) n = looping n p (evaluate e p) (execute s n)
+  execute (return p e) n = do
+    count p
+    v ← evaluate e p
+    give (returned v)
+  execute (block p ss) n = do
+    count p
+    executeAll ss n
+  execute (act p e) n = do
+    count p
+    evaluate e p
+    give onward
+
+  pub executeAll : Statements → ℕ → Action Flow
+  executeAll (only s) n = execute s n
+  executeAll (first s ss) n = execute s n >>= λ f. continue f (executeAll ss n)

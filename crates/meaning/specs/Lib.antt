@@ -1,0 +1,20 @@
+-- What a reader must believe, in the order of document 01. Each file says a topic's definitions once; contracts cite them.
+pub mod Basics
+pub mod Byte
+pub mod Token
+pub mod Tree
+pub mod Grammar
+pub mod Integer
+pub mod Figure
+pub mod Value
+pub mod State
+pub mod Run
+pub mod Operator
+pub mod Library
+pub mod Evaluate
+pub mod Execute
+pub mod Picture
+pub mod Program
+pub mod Book
+pub mod Call
+pub mod Claims

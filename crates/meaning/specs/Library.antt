@@ -1,0 +1,90 @@
+-- The library procedures (section 2.2.6 of the IMG specification, less the trigonometric ones).
+use Prim.Native.Nat.{ℕ}
+use mathlib.Core.List.{List, [], _∷_}
+use mathlib.Core.Option.{Option, some}
+use mathlib.Core.Option as Option
+use lib.IntN.{ℤ}
+use Rattle.meaning.specs.Basics.{bytes, if_then_else_, sameText}
+use Rattle.meaning.specs.Figure.{Figure, line, ellipse, box, text, centreX, centreY, connecting, textOn}
+use Rattle.meaning.specs.Value.{Value, integer, none}
+use Rattle.meaning.specs.State.{State, withShapes, destroyed, cleared}
+use Rattle.meaning.specs.Run.{Action, _>>=_, _>>_, give, fail, current, become}
+use Rattle.meaning.specs.Operator.{usable, withInteger, withString, withShapeNumber, withFigure, newShape}
+
+pub data Library : Type 0 where
+  drawLine drawEllipse drawBox drawText connectShapes drawTextOnShape xCoordinate yCoordinate destroyShape clearScene : Library
+
+unfoldable pub libraryOf : List ℕ → Option Library
+libraryOf f =
+    if sameText f (bytes "drawLine") then (λ _. some drawLine)
+    else λ _. if sameText f (bytes "drawEllipse") then (λ _. some drawEllipse)
+    else λ _. if sameText f (bytes "drawBox") then (λ _. some drawBox)
+    else λ _. if sameText f (bytes "drawText") then (λ _. some drawText)
+    else λ _. if sameText f (bytes "drawLineConnectingShapes") then (λ _. some connectShapes)
+    else λ _. if sameText f (bytes "drawTextOnShape") then (λ _. some drawTextOnShape)
+    else λ _. if sameText f (bytes "getShapeXCoordinate") then (λ _. some xCoordinate)
+    else λ _. if sameText f (bytes "getShapeYCoordinate") then (λ _. some yCoordinate)
+    else λ _. if sameText f (bytes "destroyShape") then (λ _. some destroyShape)
+    else λ _. if sameText f (bytes "clearScene") then (λ _. some clearScene)
+    else λ _. Option.none
+
+-- ---- arguments: a wrong number of them is 20
+unfoldable pub withNone : ℕ → List Value → Action Value → Action Value
+withNone p [] k = k
+withNone p (v ∷ vs) k = fail 20 p
+
+unfoldable pub withOne : ℕ → List Value → (Value → Action Value) → Action Value
+withOne p [] k = fail 20 p
+withOne p (v ∷ vs) k = withNone p vs (k v)
+
+unfoldable pub withTwo : ℕ → List Value → (Value → Value → Action Value) → Action Value
+withTwo p [] k = fail 20 p
+withTwo p (v ∷ vs) k = withOne p vs (k v)
+
+unfoldable pub withThree : ℕ → List Value → (Value → Value → Value → Action Value) → Action Value
+withThree p [] k = fail 20 p
+withThree p (v ∷ vs) k = withTwo p vs (k v)
+
+unfoldable pub withFour : ℕ → List Value → (Value → Value → Value → Value → Action Value) → Action Value
+withFour p [] k = fail 20 p
+withFour p (v ∷ vs) k = withThree p vs (k v)
+
+-- ---- procedures
+-- four integers make a figure
+unfoldable pub drawn : (ℤ → ℤ → ℤ → ℤ → Figure) → ℕ → List Value → Action Value
+drawn make p vs =
+    withFour p vs λ v₁ v₂ v₃ v₄.
+    withInteger p v₁ λ a. withInteger p v₂ λ b. withInteger p v₃ λ c. withInteger p v₄ λ d.
+    newShape p (make a b c d)
+
+unfoldable pub perform : Library → ℕ → List Value → Action Value
+perform drawLine p vs = drawn line p vs
+perform drawEllipse p vs = drawn ellipse p vs
+perform drawBox p vs = drawn box p vs
+perform drawText p vs =
+    withThree p vs λ v₁ v₂ v₃.
+    withInteger p v₁ λ x. withInteger p v₂ λ y. withString p v₃ λ t. newShape p (text x y t)
+perform connectShapes p vs =
+    withTwo p vs λ v₁ v₂. withFigure p v₁ λ a. withFigure p v₂ λ b. newShape p (connecting a b)
+perform drawTextOnShape p vs =
+    withTwo p vs λ v₁ v₂. withFigure p v₁ λ a. withString p v₂ λ t. newShape p (textOn a t)
+perform xCoordinate p vs = withOne p vs λ v. withFigure p v λ a. give (integer (centreX a))
+perform yCoordinate p vs = withOne p vs λ v. withFigure p v λ a. give (integer (centreY a))
+perform destroyShape p vs = withOne p vs λ v. withShapeNumber p v λ i. do
+  s ← current
+  become (withShapes s (destroyed (s .shapes) i))
+  give none
+perform clearScene p vs = withNone p vs do
+  s ← current
+  become (withShapes s (cleared (s .variables) (s .shapes)))
+  give none
+
+-- no argument may be a destroyed shape
+unfoldable pub allUsable : ℕ → List Value → Action (Unit {0})
+allUsable p [] = give tt
+allUsable p (v ∷ vs) = usable p v >> allUsable p vs
+
+-- a call, its arguments evaluated: a procedure that is not known is 20 and uses none of them
+unfoldable pub callLibrary : Option Library → ℕ → List Value → Action Value
+callLibrary Option.none p vs = fail 20 p
+callLibrary (some f) p vs = allUsable p vs >> perform f p vs

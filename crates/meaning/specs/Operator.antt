@@ -1,0 +1,149 @@
+-- What values are asked, and what operators do (figure 3 of the IMG specification).
+use Prim.Native.Nat.{ℕ}
+use mathlib.Core.Bool.{Bool, true, false, not, _&&_, _||_}
+use mathlib.Core.List.{List, _++_}
+use mathlib.Core.Option.{Option, some}
+use mathlib.Core.Option as Option
+use lib.ListN.{length}
+use lib.IntN.{ℤ}
+use lib.Signed.{ltZ}
+use lib.Dec.{eqb}
+use Rattle.meaning.specs.Basics.{if_then_else_}
+use Rattle.meaning.specs.Integer.{sum, difference, product, quotient, shiftedLeft, shiftedRight, isZero}
+use Rattle.meaning.specs.Integer as Integer
+use Rattle.meaning.specs.Figure.{Figure, plusX, plusY, minusX, minusY, scaledUp, scaledDown}
+use Rattle.meaning.specs.Tree.{Operator, concatenate, add, subtract, multiply, divide, remainder, shiftRight, shiftLeft, equal, unequal, greater, less}
+use Rattle.meaning.specs.Value.{Value, integer, string, boolean, none, table, shape, kindOf}
+use Rattle.meaning.specs.State.{State, isDestroyed, figureOf, withShape, keyOf, sameKey}
+use Rattle.meaning.specs.Run.{Action, textBytes, shapes, _>>=_, _>>_, give, fail, take, refuse, current, become}
+
+-- ---- questions about one value, at a place
+-- a destroyed shape is 30
+unfoldable pub isDead : State → Value → Bool
+isDead s (integer z) = false
+isDead s (string t) = false
+isDead s (boolean b) = false
+isDead s none = false
+isDead s (table t) = false
+isDead s (shape i) = isDestroyed s i
+
+unfoldable pub usable : ℕ → Value → Action (Unit {0})
+usable p v = do
+  s ← current
+  refuse (isDead s v) 30 p
+
+-- each of these goes on with a value of one kind; every other kind is 20
+unfoldable pub withInteger : {A : Type 0} → ℕ → Value → (ℤ → Action A) → Action A
+withInteger p (integer z) k = k z
+withInteger p (string t) k = fail 20 p
+withInteger p (boolean b) k = fail 20 p
+withInteger p none k = fail 20 p
+withInteger p (table t) k = fail 20 p
+withInteger p (shape i) k = fail 20 p
+
+unfoldable pub withString : {A : Type 0} → ℕ → Value → (List ℕ → Action A) → Action A
+withString p (integer z) k = fail 20 p
+withString p (string t) k = k t
+withString p (boolean b) k = fail 20 p
+withString p none k = fail 20 p
+withString p (table t) k = fail 20 p
+withString p (shape i) k = fail 20 p
+
+unfoldable pub withBoolean : {A : Type 0} → ℕ → Value → (Bool → Action A) → Action A
+withBoolean p (integer z) k = fail 20 p
+withBoolean p (string t) k = fail 20 p
+withBoolean p (boolean b) k = k b
+withBoolean p none k = fail 20 p
+withBoolean p (table t) k = fail 20 p
+withBoolean p (shape i) k = fail 20 p
+
+unfoldable pub withTable : {A : Type 0} → ℕ → Value → (ℕ → Action A) → Action A
+withTable p (integer z) k = fail 20 p
+withTable p (string t) k = fail 20 p
+withTable p (boolean b) k = fail 20 p
+withTable p none k = fail 20 p
+withTable p (table t) k = k t
+withTable p (shape i) k = fail 20 p
+
+unfoldable pub withShapeNumber : {A : Type 0} → ℕ → Value → (ℕ → Action A) → Action A
+withShapeNumber p (integer z) k = fail 20 p
+withShapeNumber p (string t) k = fail 20 p
+withShapeNumber p (boolean b) k = fail 20 p
+withShapeNumber p none k = fail 20 p
+withShapeNumber p (table t) k = fail 20 p
+withShapeNumber p (shape i) k = k i
+
+unfoldable pub withFigure : {A : Type 0} → ℕ → Value → (Figure → Action A) → Action A
+withFigure p v k = withShapeNumber p v λ i. current >>= λ s. k (figureOf s i)
+
+-- ---- shapes and strings made
+-- a new shape takes one
+unfoldable pub newShape : ℕ → Figure → Action Value
+newShape p a = do
+  take shapes 1 p
+  s ← current
+  become (withShape s a)
+  give (shape (length (s .shapes)))
+
+-- a joined string takes as many text bytes as it is long
+unfoldable pub newString : ℕ → List ℕ → Action Value
+newString p t = do
+  take textBytes (length t) p
+  give (string t)
+
+-- ---- operators
+-- two integers by f, or a shape and an integer by g; where the right side divides it must not be 0
+unfoldable pub calculated : Bool → (ℤ → ℤ → ℤ) → (Figure → ℤ → Figure) → ℕ → Value → Value → Action Value
+calculated divides f g p (integer a) w =
+    withInteger p w λ b. refuse (divides && isZero b) 70 p >> give (integer (f a b))
+calculated divides f g p (string t) w = fail 20 p
+calculated divides f g p (boolean b) w = fail 20 p
+calculated divides f g p none w = fail 20 p
+calculated divides f g p (table t) w = fail 20 p
+calculated divides f g p (shape i) w =
+    withInteger p w λ b. refuse (divides && isZero b) 70 p >> (current >>= λ s. newShape p (g (figureOf s i) b))
+
+-- two integers only
+unfoldable pub compared : (ℤ → ℤ → Bool) → ℕ → Value → Value → Action Value
+compared f p v w = withInteger p v λ a. withInteger p w λ b. give (boolean (f a b))
+
+unfoldable pub remaindered : ℕ → Value → Value → Action Value
+remaindered p v w = withInteger p v λ a. withInteger p w λ b. refuse (isZero b) 70 p >> give (integer (Integer.remainder a b))
+
+unfoldable pub joined : ℕ → Value → Value → Action Value
+joined p v w = withString p v λ a. withString p w λ b. newString p (a ++ b)
+
+-- Values of one kind are compared, tables excepted; none and a value of another kind are unequal; other pairs are 20.
+unfoldable pub equality : State → Value → Value → Option Bool
+equality s v w =
+    if eqb (kindOf v) (kindOf w)
+    then (λ _. if eqb (kindOf v) (kindOf (table 0)) then (λ _. Option.none) else λ _. some (sameKey (keyOf s v) (keyOf s w)))
+    else λ _. if eqb (kindOf v) (kindOf none) || eqb (kindOf w) (kindOf none) then (λ _. some false) else λ _. Option.none
+
+unfoldable pub answered : ℕ → (Bool → Bool) → Option Bool → Action Value
+answered p f Option.none = fail 20 p
+answered p f (some b) = give (boolean (f b))
+
+unfoldable pub equated : (Bool → Bool) → ℕ → Value → Value → Action Value
+equated f p v w = current >>= λ s. answered p f (equality s v w)
+
+unfoldable pub operateOn : Operator → ℕ → Value → Value → Action Value
+operateOn concatenate = joined
+operateOn add = calculated false sum plusY
+operateOn subtract = calculated false difference minusY
+operateOn multiply = calculated false product scaledUp
+operateOn divide = calculated true quotient scaledDown
+operateOn remainder = remaindered
+operateOn shiftRight = calculated false shiftedRight plusX
+operateOn shiftLeft = calculated false shiftedLeft minusX
+operateOn equal = equated (λ b. b)
+operateOn unequal = equated not
+operateOn greater = compared (λ a b. ltZ b a)
+operateOn less = compared ltZ
+
+-- both sides are evaluated; a shape among them must not be destroyed by now
+unfoldable pub operate : Operator → ℕ → Value → Value → Action Value
+operate o p v w = do
+  usable p v
+  usable p w
+  operateOn o p v w

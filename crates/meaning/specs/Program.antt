@@ -1,0 +1,90 @@
+-- The specified run of an operation, from the program, the width and the height alone.
+use Prim.Native.Nat.{ℕ, suc}
+use mathlib.Core.Bool.{Bool, true, false, not, _&&_}
+use mathlib.Core.List.{List, [], _∷_}
+use lib.ListN.{length}
+use lib.ListN as ListN
+use lib.IntN.{ℤ, pos}
+use lib.Signed.{ltZ}
+use lib.Dec.{leb, ltb}
+use Rattle.meaning.specs.Basics.{if_then_else_, sameText}
+use Rattle.meaning.specs.Tree.{Procedure}
+use Rattle.meaning.specs.Grammar.{Reading, wellFormed, malformed, reading}
+use Rattle.meaning.specs.Value.{integer}
+use Rattle.meaning.specs.State.{State, scene}
+use Rattle.meaning.specs.Run.{Run, run, unfinished, Action, picture, _>>=_, _>>_, give, fail, take, refuse, current, become}
+use Rattle.meaning.specs.Execute.{executeAll}
+use Rattle.meaning.specs.Picture.{pictureOf}
+
+pub data Operation : Type 0 where
+  checking measuring drawing : Operation
+
+-- what an operation is to hand back: that the program is well formed, or the picture's bytes
+pub data Outcome : Type 0 where
+  accepted : Outcome
+  drawn : List ℕ → Outcome
+
+-- nothing is declared, made or stored
+abbrev pub empty : State
+empty = record { variables = []; shapes = []; tables = 0; entries = [] }
+
+-- main's two parameters hold the width and the height
+unfoldable pub entering : List (List ℕ) → ℤ → ℤ → Action (Unit {0})
+entering [] width height = fail 20 0
+entering (x ∷ []) width height = fail 20 0
+entering (x ∷ y ∷ []) width height = do
+  refuse (sameText x y) 60 0
+  become (record {
+    variables = record { name = x; holds = integer width } ∷ record { name = y; holds = integer height } ∷ [];
+    shapes = [];
+    tables = 0;
+    entries = [];
+  })
+entering (x ∷ y ∷ z ∷ more) width height = fail 20 0
+
+unfoldable pub sheet : ℤ → ℤ → Action (Unit {0})
+sheet width height = refuse (not (ltZ (pos 0) width && ltZ (pos 0) height)) 72 0
+
+unfoldable pub sized : List ℕ → Action (Unit {0})
+sized program = refuse (ltb 32768 (length program)) 73 0
+
+unfoldable pub understood : Reading → Action Procedure
+understood (wellFormed m) = give m
+understood (malformed n p) = fail n p
+
+-- the picture of a program whose loops turn at most n times each
+unfoldable pub painting : List ℕ → ℤ → ℤ → ℕ → Action (List ℕ)
+painting program width height n = do
+  sheet width height
+  sized program
+  main ← understood (reading program)
+  entering (main .parameters) width height
+  executeAll (main .body) n
+  s ← current
+  give (pictureOf width height (scene s))
+
+unfoldable pub performing : Operation → List ℕ → ℤ → ℤ → ℕ → Action Outcome
+performing checking program width height n = do
+  sized program
+  understood (reading program)
+  give accepted
+performing measuring program width height n = do
+  b ← painting program width height n
+  give (drawn b)
+performing drawing program width height n = do
+  b ← painting program width height n
+  take picture (length b) 0
+  give (drawn b)
+
+-- THE SPECIFIED RUN, as far as it goes when no loop turns more than n times
+unfoldable pub specified : Operation → List ℕ → ℤ → ℤ → ℕ → Run Outcome
+specified o program width height n = performing o program width height n empty
+
+-- ---- its beginnings, one for each number of takings
+-- the first n takings of a run, and its end where there are no more
+unfoldable pub cut : {A : Type 0} → ℕ → Run A → Run A
+cut n r = if leb (length (r .takings)) n then (λ _. r) else λ _. run (ListN.take n (r .takings)) unfinished
+
+-- each turn of a loop counts a step, so n + 1 turns are enough for n takings
+unfoldable pub beginning : Operation → List ℕ → ℤ → ℤ → ℕ → Run Outcome
+beginning o program width height n = cut n (specified o program width height (suc n))

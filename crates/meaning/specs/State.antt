@@ -1,0 +1,148 @@
+-- The state of a run: variables, shapes, and the entries of tables.
+use Prim.Native.Nat.{ℕ, suc, _+_}
+use mathlib.Core.Bool.{Bool, true, false, _&&_, cond}
+use mathlib.Core.List.{List, [], _∷_, _++_}
+use mathlib.Core.Option.{Option, some}
+use mathlib.Core.Option as Option
+use lib.ListN.{length, getD, set}
+use lib.IntN.{ℤ, pos}
+use lib.Dec.{eqb}
+use Rattle.meaning.specs.Basics.{if_then_else_, sameText}
+use Rattle.meaning.specs.Integer.{sameIntegers}
+use Rattle.meaning.specs.Figure.{Figure, line, figureKind, numbersOf, textOf}
+use Rattle.meaning.specs.Value.{Value, integer, string, boolean, none, table, shape, kindOf}
+
+pub record Variable : Type 0 where
+  pub name : List ℕ
+  pub holds : Value
+
+pub record Shape : Type 0 where
+  pub figure : Figure
+  pub destroyed : Bool
+
+-- what a value is as a key: its kind, numbers and text, of a shape its figure's, whatever becomes of the shape
+pub record Key : Type 0 where
+  pub kind : ℕ
+  pub numbers : List ℤ
+  pub text : List ℕ
+
+-- an entry of a table
+pub record Entry : Type 0 where
+  pub owner : ℕ
+  pub key : Key
+  pub holds : Value
+
+-- variables in the order of their declarations, shapes as they were made, how many tables were made, and the entries of all tables
+pub record State : Type 0 where
+  pub variables : List Variable
+  pub shapes : List Shape
+  pub tables : ℕ
+  pub entries : List Entry
+
+-- ---- variables
+unfoldable pub valueIn : List Variable → List ℕ → Option Value
+valueIn [] x = Option.none
+valueIn (v ∷ vs) x = if sameText (v .name) x then (λ _. some (v .holds)) else λ _. valueIn vs x
+
+unfoldable pub isSome : Option Value → Bool
+isSome Option.none = false
+isSome (some v) = true
+
+abbrev pub isDeclared : State → List ℕ → Bool
+isDeclared s x = isSome (valueIn (s .variables) x)
+
+unfoldable pub assigned : List Variable → List ℕ → Value → List Variable
+assigned [] x u = []
+assigned (v ∷ vs) x u =
+    if sameText (v .name) x then (λ _. record { name = v .name; holds = u } ∷ vs) else λ _. v ∷ assigned vs x u
+
+abbrev pub withVariables : State → List Variable → State
+withVariables s vs = record { variables = vs; shapes = s .shapes; tables = s .tables; entries = s .entries }
+
+-- ---- shapes
+-- what the number of no shape stands for; no value holds such a number
+abbrev pub noShape : Shape
+noShape = record { figure = line (pos 0) (pos 0) (pos 0) (pos 0); destroyed = true }
+
+abbrev pub figureOf : State → ℕ → Figure
+figureOf s i = getD (s .shapes) i noShape .figure
+
+abbrev pub isDestroyed : State → ℕ → Bool
+isDestroyed s i = getD (s .shapes) i noShape .destroyed
+
+abbrev pub withShapes : State → List Shape → State
+withShapes s ss = record { variables = s .variables; shapes = ss; tables = s .tables; entries = s .entries }
+
+unfoldable pub withShape : State → Figure → State
+withShape s a = withShapes s (s .shapes ++ (record { figure = a; destroyed = false } ∷ []))
+
+unfoldable pub destroyed : List Shape → ℕ → List Shape
+destroyed ss i = set ss i (record { figure = getD ss i noShape .figure; destroyed = true })
+
+-- the shape that a value is, destroyed
+unfoldable pub destroyedIn : List Shape → Value → List Shape
+destroyedIn ss (integer z) = ss
+destroyedIn ss (string t) = ss
+destroyedIn ss (boolean b) = ss
+destroyedIn ss none = ss
+destroyedIn ss (table t) = ss
+destroyedIn ss (shape i) = destroyed ss i
+
+-- the shapes that variables hold, destroyed
+unfoldable pub cleared : List Variable → List Shape → List Shape
+cleared [] ss = ss
+cleared (v ∷ vs) ss = cleared vs (destroyedIn ss (v .holds))
+
+-- the figures of the undestroyed shapes that variables hold, in their order
+unfoldable pub seen : State → Value → List Figure
+seen s (integer z) = []
+seen s (string t) = []
+seen s (boolean b) = []
+seen s none = []
+seen s (table t) = []
+seen s (shape i) = if isDestroyed s i then (λ _. []) else λ _. figureOf s i ∷ []
+
+unfoldable pub sceneOf : State → List Variable → List Figure
+sceneOf s [] = []
+sceneOf s (v ∷ vs) = seen s (v .holds) ++ sceneOf s vs
+
+abbrev pub scene : State → List Figure
+scene s = sceneOf s (s .variables)
+
+-- ---- tables
+abbrev pub key : ℕ → List ℤ → List ℕ → Key
+key k ns t = record { kind = k; numbers = ns; text = t }
+
+abbrev pub figureKey : Figure → Key
+figureKey a = key (5 + figureKind a) (numbersOf a) (textOf a)
+
+unfoldable pub keyOf : State → Value → Key
+keyOf s (integer z) = key 0 (z ∷ []) []
+keyOf s (string t) = key 1 [] t
+keyOf s (boolean b) = key 2 (pos (cond b 1 0) ∷ []) []
+keyOf s none = key 3 [] []
+keyOf s (table t) = key 4 (pos t ∷ []) []
+keyOf s (shape i) = figureKey (figureOf s i)
+
+-- the same kind, numbers and text
+unfoldable pub sameKey : Key → Key → Bool
+sameKey a b = eqb (a .kind) (b .kind) && sameIntegers (a .numbers) (b .numbers) && sameText (a .text) (b .text)
+
+abbrev pub matches : Entry → ℕ → Key → Bool
+matches e t k = eqb (e .owner) t && sameKey (e .key) k
+
+unfoldable pub entryIn : List Entry → ℕ → Key → Option Value
+entryIn [] t k = Option.none
+entryIn (e ∷ es) t k = if matches e t k then (λ _. some (e .holds)) else λ _. entryIn es t k
+
+-- the entry with this key overwritten
+unfoldable pub overwritten : List Entry → ℕ → Key → Value → List Entry
+overwritten [] t k u = []
+overwritten (e ∷ es) t k u =
+    if matches e t k then (λ _. record { owner = e .owner; key = e .key; holds = u } ∷ es) else λ _. e ∷ overwritten es t k u
+
+abbrev pub withEntries : State → List Entry → State
+withEntries s es = record { variables = s .variables; shapes = s .shapes; tables = s .tables; entries = es }
+
+abbrev pub withTable : State → State
+withTable s = record { variables = s .variables; shapes = s .shapes; tables = suc (s .tables); entries = s .entries }

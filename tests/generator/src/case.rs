@@ -1,0 +1,208 @@
+//! Cases from seeds: a program, an operation, a sheet and grants around what
+//! the run takes.
+
+use crate::random::Random;
+use crate::{damage, limit, program, soup, Case};
+use reference::sheet::{GRANTS, OUT_LENGTH};
+use reference::{run_specified, Answer, End, Grants, Operation, Specified, Taking};
+use std::sync::OnceLock;
+
+/// How many takings of a run are looked at. Runs that take more get so few
+/// steps that they end within these.
+pub const TAKINGS: usize = 8_000;
+
+/// A case with all counts within their ranges.
+pub fn case(seed: u64) -> Case {
+    let mut random = Random::new(seed);
+    let program = any_program(&mut random);
+    let width = side(&mut random);
+    let height = side(&mut random);
+    let operation = match random.weighted(&[10, 30, 60]) {
+        0 => Operation::Check,
+        1 => Operation::Measure,
+        _ => Operation::Draw,
+    };
+    let specified = run_specified(operation, &program, width, height, TAKINGS);
+    let grants = grants(&specified, &mut random);
+    let out_length = out_length(&specified, &mut random);
+    Case {
+        operation,
+        width,
+        height,
+        grants,
+        out_length,
+        program,
+    }
+}
+
+/// A case with at least one count out of its range.
+pub fn case_out_of_range(seed: u64) -> Case {
+    let mut case = case(seed);
+    let mut random = Random::new(!seed);
+    let far = |random: &mut Random, first: u64| match random.below(3) {
+        0 => first,
+        1 => u64::MAX,
+        _ => first + random.bits() % 1_000_000,
+    };
+    let which = random.between(1, 15);
+    if which & 1 != 0 {
+        case.grants.steps = far(&mut random, 4_294_967_296);
+    }
+    if which & 2 != 0 {
+        case.grants.shapes = far(&mut random, 65_536);
+    }
+    if which & 4 != 0 {
+        case.grants.entries = far(&mut random, 65_536);
+    }
+    if which & 8 != 0 {
+        case.grants.text_bytes = far(&mut random, 65_536);
+    }
+    case
+}
+
+/// A program of any sort.
+pub fn any_program(random: &mut Random) -> Vec<u8> {
+    match random.weighted(&[76, 12, 3, 2, 7]) {
+        0 => program::program(random),
+        1 => {
+            let whole = program::program(random);
+            damage::damaged(whole, random)
+        }
+        2 => soup::tokens(random),
+        3 => soup::bytes(random),
+        _ => {
+            let one = random.pick(limits()).clone();
+            if random.chance(100) {
+                damage::damaged(one, random)
+            } else {
+                one
+            }
+        }
+    }
+}
+
+/// The programs at the limits, made once.
+fn limits() -> &'static [Vec<u8>] {
+    static LIMITS: OnceLock<Vec<Vec<u8>>> = OnceLock::new();
+    LIMITS.get_or_init(limit::programs)
+}
+
+/// A width or a height, most often one that is accepted.
+fn side(random: &mut Random) -> i32 {
+    match random.weighted(&[600, 300, 60, 20, 10, 5, 5]) {
+        0 => random.between(1, 40) as i32,
+        1 => random.between(1, 10_000) as i32,
+        2 => *random.pick(&[1, i32::MAX, i32::MAX - 1, 65_536, 99, 100]),
+        3 => random.bits() as i32 & i32::MAX | 1,
+        4 => 0,
+        5 => -1,
+        _ => *random.pick(&[i32::MIN, -20, i32::MIN + 1]),
+    }
+}
+
+/// How much the takings of a list add up to.
+fn totals(takings: &[(Taking, usize)]) -> Grants {
+    let mut totals = Grants::NONE;
+    for (taking, _) in takings {
+        match taking {
+            Taking::Step => totals.steps += 1,
+            Taking::Shape => totals.shapes += 1,
+            Taking::Entry => totals.entries += 1,
+            Taking::Text(bytes) => totals.text_bytes += bytes,
+            Taking::Picture(_) => {}
+        }
+    }
+    totals
+}
+
+fn smaller(one: Grants, other: Grants) -> Grants {
+    Grants {
+        steps: one.steps.min(other.steps),
+        shapes: one.shapes.min(other.shapes),
+        entries: one.entries.min(other.entries),
+        text_bytes: one.text_bytes.min(other.text_bytes),
+    }
+}
+
+/// Grants around what the run takes.
+fn grants(specified: &Specified, random: &mut Random) -> Grants {
+    let needed = smaller(totals(&specified.takings), Grants::LARGEST);
+    let chosen = match random.weighted(&[30, 14, 30, 14, 4, 2, 6]) {
+        0 => GRANTS,
+        // Exactly what is needed.
+        1 => needed,
+        // One less than needed of one kind, and enough of the others.
+        2 => {
+            let mut few = if random.chance(500) { needed } else { GRANTS };
+            let uses = [
+                needed.steps.min(1) as usize,
+                3 * needed.shapes.min(1) as usize,
+                4 * needed.entries.min(1) as usize,
+                4 * needed.text_bytes.min(1) as usize,
+            ];
+            if uses.iter().sum::<usize>() > 0 {
+                match random.weighted(&uses) {
+                    0 => few.steps = needed.steps - 1,
+                    1 => few.shapes = needed.shapes - 1,
+                    2 => few.entries = needed.entries - 1,
+                    _ => few.text_bytes = needed.text_bytes - 1,
+                }
+            }
+            few
+        }
+        // Just too little for one taking along the way.
+        3 => {
+            let at = random.below(specified.takings.len());
+            let before = totals(&specified.takings[..at]);
+            match specified.takings.get(at) {
+                Some((Taking::Step, _)) => Grants {
+                    steps: before.steps,
+                    ..GRANTS
+                },
+                Some((Taking::Shape, _)) => Grants {
+                    shapes: before.shapes,
+                    ..GRANTS
+                },
+                Some((Taking::Entry, _)) => Grants {
+                    entries: before.entries,
+                    ..GRANTS
+                },
+                Some((Taking::Text(bytes), _)) => Grants {
+                    text_bytes: before.text_bytes + random.below(*bytes as usize) as u64,
+                    ..GRANTS
+                },
+                _ => before,
+            }
+        }
+        // Any.
+        4 => Grants {
+            steps: random.below(needed.steps as usize + 20) as u64,
+            shapes: random.below(needed.shapes as usize + 2) as u64,
+            entries: random.below(needed.entries as usize + 2) as u64,
+            text_bytes: random.below(needed.text_bytes as usize + 2) as u64,
+        },
+        5 => Grants::NONE,
+        _ => Grants::LARGEST,
+    };
+    let mut grants = smaller(chosen, Grants::LARGEST);
+    if specified.end == End::Cut {
+        grants.steps = grants.steps.min(needed.steps.saturating_sub(1));
+    }
+    grants
+}
+
+/// A length of the out slice around what the picture needs.
+fn out_length(specified: &Specified, random: &mut Random) -> u64 {
+    let needed = match &specified.end {
+        End::Answer(Answer::Picture { length, .. }) => *length,
+        _ => return *random.pick(&[OUT_LENGTH, 0, 1, 1_000]),
+    };
+    match random.weighted(&[50, 12, 10, 6, 4, 6]) {
+        0 => OUT_LENGTH,
+        1 => needed,
+        2 => needed - 1,
+        3 => needed + 1,
+        4 => 0,
+        _ => random.below(2 * needed as usize) as u64,
+    }
+}

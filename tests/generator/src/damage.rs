@@ -1,0 +1,85 @@
+//! Programs with something wrong in them.
+
+use crate::random::Random;
+use crate::words::token;
+use reference::token::{tokens, Token};
+
+/// Bytes that often matter.
+const BYTES: &[u8] = b" \t\n\r\0\"!=+-*/%<>.,;()[]{}_'&#\x7f\x80\xff\xc3azAZ09d";
+
+/// The program with a few changes, which may leave it well formed.
+pub fn damaged(mut program: Vec<u8>, random: &mut Random) -> Vec<u8> {
+    for _ in 0..random.weighted(&[0, 60, 25, 10, 5]) {
+        program = if random.chance(500) {
+            change_bytes(program, random)
+        } else {
+            change_tokens(program, random)
+        };
+    }
+    program
+}
+
+/// A part of a slice of that length, at most `most` long.
+fn part(length: usize, most: usize, random: &mut Random) -> (usize, usize) {
+    let start = random.below(length + 1);
+    let end = start + random.below(most.min(length - start) + 1);
+    (start, end)
+}
+
+fn change_bytes(mut program: Vec<u8>, random: &mut Random) -> Vec<u8> {
+    let at = random.below(program.len());
+    match random.below(8) {
+        0 | 1 if !program.is_empty() => program[at] ^= 1 << random.below(8),
+        2 if !program.is_empty() => program[at] = *random.pick(BYTES),
+        3 => program.insert(at, *random.pick(BYTES)),
+        4 => program.insert(at, random.bits() as u8),
+        5 if !program.is_empty() => {
+            program.remove(at);
+        }
+        6 => program.truncate(at),
+        _ => {
+            let (start, end) = part(program.len(), 60, random);
+            if random.chance(500) {
+                program.drain(start..end);
+            } else {
+                let copy = program[start..end].to_vec();
+                program.splice(at..at, copy);
+            }
+        }
+    }
+    program
+}
+
+/// Changes whole tokens, if the program has any.
+fn change_tokens(program: Vec<u8>, random: &mut Random) -> Vec<u8> {
+    let found = match tokens(&program) {
+        Ok(found) if !found.is_empty() => found,
+        _ => return change_bytes(program, random),
+    };
+    let one = *random.pick(&found);
+    let other = *random.pick(&found);
+    let text = |token: Token| program[token.start..token.end].to_vec();
+    match random.below(6) {
+        0 => replaced(&program, one, b""),
+        1 => replaced(&program, one, &[text(one), b" ".to_vec(), text(one)].concat()),
+        2 => replaced(&program, one, token(random).as_bytes()),
+        3 => {
+            let more = token(random).into_bytes();
+            replaced(&program, one, &[more, b" ".to_vec(), text(one)].concat())
+        }
+        4 => replaced(&program, one, &text(other)),
+        _ => {
+            let (first, second) = if one.start <= other.start {
+                (one, other)
+            } else {
+                (other, one)
+            };
+            let swapped = replaced(&program, second, &text(first));
+            replaced(&swapped, first, &text(second))
+        }
+    }
+}
+
+fn replaced(program: &[u8], token: Token, by: &[u8]) -> Vec<u8> {
+    [&program[..token.start], by, &program[token.end..]].concat()
+}

@@ -1,0 +1,72 @@
+//! Cases that use much of what can be granted. They are few, and slow.
+
+use crate::Case;
+use reference::{Grants, Operation};
+
+/// All of them, always in the same order.
+pub fn cases() -> Vec<Case> {
+    let mut all = Vec::new();
+    let largest = Grants {
+        steps: 1_500_000,
+        ..Grants::LARGEST
+    };
+    for body in bodies() {
+        for (operation, grants, out_length) in [
+            (Operation::Measure, largest, 0),
+            (Operation::Draw, largest, 65_536),
+            (Operation::Draw, reference::sheet::GRANTS, 65_536),
+        ] {
+            all.push(Case {
+                operation,
+                width: 960,
+                height: 9_999,
+                grants,
+                out_length,
+                program: format!("def main(w,h){{{body}}}").into_bytes(),
+            });
+        }
+    }
+    all
+}
+
+fn bodies() -> Vec<String> {
+    let mut all: Vec<String> = [
+        // Steps: about 900,000, and without an end.
+        "var i;var s;i=0;s=1;while(i<64000){s=(s*31)+(i%7);i=i+1;}w=drawLine(s,i,0,0);",
+        "while(true)1;",
+        "while(true)clearScene();",
+        // Shapes: 4,000, as many as can be, and one more.
+        "var i;i=0;while(i<2000){h=drawBox(i*10,0,8,i);i=i+1;}",
+        "var i;i=0;w=drawEllipse(1,2,3,4);while(i<65533){w>>1;i=i+1;}",
+        "var i;i=0;w=drawEllipse(1,2,3,4);while(i<65534){w>>1;i=i+1;}",
+        "w=drawLine(1,2,3,4);while(true)w=(w+1)>>2;",
+        // Entries: as many as can be, and one more, with keys of all kinds.
+        "var i;i=0;w=[0];while(i<65535){w.i=i;i=i+1;}h=drawLine(w.0,w.65534,0,0);",
+        "var i;i=0;w=[0];while(i<65536){w.i=i;i=i+1;}",
+        "var i;i=0;w=[0];while(true){w.drawBox(i,1,2,i)=i;i=i+1;}",
+        "var i;i=0;w=[0];while(true){w.[i]=i;i=i+1;}",
+        "var t;t=[0];while(true){t.0=t;w=[0];w.0=t;t=w;}",
+        // Text: as much as can be, and more, at once and little by little.
+        "var i;var s;i=0;s=\"a\";while(i<15){s=s++s;i=i+1;}w=drawText(1,2,s);",
+        "var i;var s;i=0;s=\"a\";while(i<16){s=s++s;i=i+1;}w=drawText(1,2,s);",
+        "var s;s=\"a\";while(true)s=s++\"b\";",
+        "while(true)\"a\"++\"bc\";",
+        "w=[0];var s;s=\"a\";while(true){w.s=1;s=s++\"b\";}",
+    ]
+    .iter()
+    .map(|body| body.to_string())
+    .collect();
+    // A picture of many long texts: far more bytes than any store holds.
+    let mut texts = "var s;var a;s=\"a\";a=0;while(a<15){s=s++s;a=a+1;}a=drawText(1,2,s);".to_string();
+    for name in 0..1_100 {
+        texts.push_str(&format!("var v{name};v{name}=a;"));
+    }
+    all.push(texts);
+    // A picture of many shapes.
+    let mut shapes = "var a;a=drawLine(-2147483648,-2147483648,-2147483648,-2147483648);".to_string();
+    for name in 0..1_100 {
+        shapes.push_str(&format!("var v{name};v{name}=a;"));
+    }
+    all.push(shapes);
+    all
+}

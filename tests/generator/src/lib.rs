@@ -1,0 +1,18 @@
+//! Seeded programs and cases for comparing interpreters of IMG drawings.
+//! The same seed gives the same program or case everywhere.
+
+#![forbid(unsafe_code)]
+
+pub mod case;
+pub mod damage;
+pub mod heavy;
+pub mod limit;
+pub mod program;
+pub mod random;
+pub mod soup;
+pub mod spacing;
+pub mod tally;
+pub mod words;
+
+pub use case::{case, case_out_of_range};
+pub use reference::case::Case;

@@ -1,0 +1,713 @@
+//! Well-formed programs. The maker keeps an idea of what each variable holds
+//! so that most programs run for a while, and now and then does something
+//! else than it knows to be right.
+
+use crate::random::Random;
+use crate::spacing::{write, Spacing};
+use crate::words::{constant, string, COUNTERS, LIBRARY, NAMES, OPERATORS, UNKNOWN};
+
+/// The kind of a value.
+#[derive(Clone, Copy, Debug, PartialEq, Eq)]
+enum Kind {
+    Integer,
+    Text,
+    Boolean,
+    None,
+    Table,
+    Shape,
+    /// A destroyed shape.
+    Gone,
+}
+
+const WANTED: [Kind; 6] = [
+    Kind::Integer,
+    Kind::Text,
+    Kind::Boolean,
+    Kind::None,
+    Kind::Table,
+    Kind::Shape,
+];
+
+/// A variable and what it is thought to hold.
+#[derive(Clone, Debug)]
+struct Variable {
+    name: String,
+    holds: Kind,
+    /// The keys of a table, each with the kind of its value.
+    keys: Vec<(Tokens, Kind)>,
+    counts: bool,
+}
+
+type Tokens = Vec<String>;
+
+/// A well-formed program.
+pub fn program(random: &mut Random) -> Vec<u8> {
+    let spacing = Spacing::any(random);
+    let tokens = tokens(random);
+    write(&tokens, spacing, random)
+}
+
+/// The tokens of a well-formed program.
+fn tokens(random: &mut Random) -> Tokens {
+    let noise = *random.pick(&[0, 0, 2, 5, 10, 30, 100]);
+    let danger = *random.pick(&[0, 20, 60, 150]);
+    let left = match random.weighted(&[20, 40, 30, 10]) {
+        0 => random.between(1, 5),
+        1 => random.between(5, 20),
+        2 => random.between(20, 60),
+        _ => random.between(60, 150),
+    };
+    let mut maker = Maker {
+        random,
+        tokens: Vec::new(),
+        variables: Vec::new(),
+        noise,
+        danger,
+        left,
+        loops: 0,
+    };
+    maker.main();
+    maker.tokens
+}
+
+fn texts(items: &[&str]) -> Tokens {
+    items.iter().map(|item| item.to_string()).collect()
+}
+
+struct Maker<'r> {
+    random: &'r mut Random,
+    tokens: Tokens,
+    variables: Vec<Variable>,
+    /// How often, of a thousand times, something is not as it should be.
+    noise: usize,
+    /// How often, of a thousand times, a shape is destroyed on the way.
+    danger: usize,
+    /// How many statements may still come.
+    left: usize,
+    /// How many loops stand around the place.
+    loops: usize,
+}
+
+impl Maker<'_> {
+    fn put(&mut self, items: &[&str]) {
+        self.tokens.extend(texts(items));
+    }
+
+    fn append(&mut self, items: Tokens) {
+        self.tokens.extend(items);
+    }
+
+    fn noisy(&mut self) -> bool {
+        self.random.chance(self.noise)
+    }
+
+    fn know(&mut self, name: &str, holds: Kind, counts: bool) {
+        self.variables.push(Variable {
+            name: name.to_string(),
+            holds,
+            keys: Vec::new(),
+            counts,
+        });
+    }
+
+    fn main(&mut self) {
+        self.put(&["def", "main", "("]);
+        let parameters: &[&str] = match self.random.weighted(&[900, 40, 6, 6, 6, 8, 4]) {
+            0 => &["w", "h"],
+            1 => &["width", "height"],
+            2 => &[],
+            3 => &["w"],
+            4 => &["w", "h", "d"],
+            5 => &["w", "w"],
+            _ => &["w", "h", "w"],
+        };
+        for (place, name) in parameters.iter().enumerate() {
+            if place > 0 {
+                self.put(&[","]);
+            }
+            self.put(&[name]);
+            self.know(name, Kind::Integer, false);
+        }
+        self.put(&[")", "{"]);
+        if self.random.chance(600) {
+            for name in COUNTERS {
+                self.put(&["var", name, ";"]);
+                self.know(name, Kind::None, true);
+            }
+        }
+        if self.random.chance(700) {
+            for _ in 0..self.random.between(1, 6) {
+                self.new_variable();
+            }
+        }
+        self.statement(4);
+        while self.left > 0 {
+            self.statement(4);
+        }
+        self.put(&["}"]);
+    }
+
+    /// A name that is not declared yet.
+    fn fresh_name(&mut self) -> String {
+        for _ in 0..10 {
+            let name = self.random.pick(&NAMES).to_string();
+            if self.place_of(&name).is_none() {
+                return name;
+            }
+        }
+        format!("v{}", self.variables.len())
+    }
+
+    fn place_of(&self, name: &str) -> Option<usize> {
+        self.variables.iter().position(|known| known.name == name)
+    }
+
+    /// A variable that holds the kind, if there is one.
+    fn holder(&mut self, kind: Kind) -> Option<usize> {
+        let places: Vec<usize> = (0..self.variables.len())
+            .filter(|place| self.variables[*place].holds == kind)
+            .collect();
+        if places.is_empty() {
+            return None;
+        }
+        Some(*self.random.pick(&places))
+    }
+
+    fn any_kind(&mut self) -> Kind {
+        let place = self.random.weighted(&[26, 12, 10, 5, 15, 32]);
+        WANTED[place]
+    }
+
+    /// Declares a variable and mostly gives it a value.
+    fn new_variable(&mut self) {
+        let name = self.fresh_name();
+        self.put(&["var", &name, ";"]);
+        self.know(&name, Kind::None, false);
+        if self.random.chance(850) {
+            let kind = self.any_kind();
+            self.assign(self.variables.len() - 1, kind);
+        }
+    }
+
+    /// Assigns a value of the kind to a variable.
+    fn assign(&mut self, place: usize, kind: Kind) {
+        let name = self.variables[place].name.clone();
+        let depth = self.random.between(0, 3);
+        let value = self.expression(kind, depth);
+        self.put(&[&name, "="]);
+        self.append(value);
+        self.put(&[";"]);
+        let keys = self.shared_keys(kind);
+        let variable = &mut self.variables[place];
+        variable.holds = kind;
+        variable.keys = keys;
+    }
+
+    /// The keys of the table that was just mentioned, if it was a variable.
+    fn shared_keys(&self, kind: Kind) -> Vec<(Tokens, Kind)> {
+        if kind != Kind::Table {
+            return Vec::new();
+        }
+        let mentioned = self.tokens.iter().rev().nth(1);
+        let place = mentioned.and_then(|name| self.place_of(name));
+        place.map_or(Vec::new(), |place| self.variables[place].keys.clone())
+    }
+
+    fn statement(&mut self, depth: usize) {
+        self.left = self.left.saturating_sub(1);
+        let nested = if depth > 0 { 1 } else { 0 };
+        let declaring = if self.loops > 0 { 1 } else { 14 };
+        let weights = [
+            declaring,
+            34,
+            12,
+            10 * nested,
+            7 * nested,
+            5 * nested,
+            9,
+            5,
+            1,
+            1,
+            1,
+        ];
+        match self.random.weighted(&weights) {
+            0 => self.new_variable(),
+            1 => self.any_assignment(),
+            2 => self.update(),
+            3 => self.conditional(depth - 1),
+            4 => self.bounded_loop(depth - 1),
+            5 => self.block(depth - 1),
+            6 => self.expression_statement(),
+            7 => self.destruction(),
+            8 => self.rare_statement(),
+            9 => self.finish(),
+            _ => self.growth(),
+        }
+    }
+
+    fn any_assignment(&mut self) {
+        if self.noisy() {
+            let name = self.random.pick(&NAMES).to_string();
+            let kind = self.any_kind();
+            let value = self.expression(kind, 1);
+            self.put(&[&name, "="]);
+            self.append(value);
+            self.put(&[";"]);
+            return;
+        }
+        let places: Vec<usize> = (0..self.variables.len())
+            .filter(|place| !self.variables[*place].counts)
+            .collect();
+        if places.is_empty() {
+            return self.expression_statement();
+        }
+        let place = *self.random.pick(&places);
+        let held = self.variables[place].holds;
+        let kind = match held {
+            Kind::None | Kind::Gone => self.any_kind(),
+            _ if self.loops > 0 || self.random.chance(600) => held,
+            _ => self.any_kind(),
+        };
+        self.assign(place, kind);
+    }
+
+    fn update(&mut self) {
+        let depth = self.random.between(0, 2);
+        let Some(place) = self.holder(Kind::Table) else {
+            if self.random.chance(300) {
+                let table = self.primary(Kind::Table, depth);
+                let key = self.any_primary(depth);
+                let value = self.any_expression(depth);
+                self.put_update(table, key, value);
+                return;
+            }
+            return self.any_assignment();
+        };
+        let name = self.variables[place].name.clone();
+        let kind = self.any_kind();
+        let old = self.variables[place].keys.clone();
+        let key = if !old.is_empty() && self.random.chance(300) {
+            self.random.pick(&old).0.clone()
+        } else {
+            self.any_primary(depth)
+        };
+        let value = self.expression(kind, depth);
+        self.put_update(vec![name], key.clone(), value);
+        self.variables[place].keys.push((key, kind));
+    }
+
+    fn put_update(&mut self, table: Tokens, key: Tokens, value: Tokens) {
+        self.append(table);
+        self.put(&["."]);
+        self.append(key);
+        self.put(&["="]);
+        self.append(value);
+        self.put(&[";"]);
+    }
+
+    fn any_primary(&mut self, depth: usize) -> Tokens {
+        let kind = self.any_kind();
+        self.primary(kind, depth)
+    }
+
+    fn any_expression(&mut self, depth: usize) -> Tokens {
+        let kind = self.any_kind();
+        self.expression(kind, depth)
+    }
+
+    fn conditional(&mut self, depth: usize) {
+        let test = self.expression(Kind::Boolean, 2);
+        self.put(&["if", "("]);
+        self.append(test);
+        self.put(&[")"]);
+        let before = self.variables.clone();
+        self.statement(depth);
+        if self.random.chance(500) && self.variables.len() == before.len() {
+            self.variables = before;
+        }
+    }
+
+    fn block(&mut self, depth: usize) {
+        self.put(&["{"]);
+        for _ in 0..self.random.between(1, 4) {
+            self.statement(depth);
+        }
+        self.put(&["}"]);
+    }
+
+    /// A loop that counts to a small number.
+    fn bounded_loop(&mut self, depth: usize) {
+        let counters: Vec<String> = (self.variables.iter())
+            .filter(|known| known.counts)
+            .map(|known| known.name.clone())
+            .collect();
+        let Some(counter) = counters.get(self.loops) else {
+            return self.conditional(depth);
+        };
+        let counter = counter.clone();
+        if let Some(place) = self.place_of(&counter) {
+            self.variables[place].holds = Kind::Integer;
+        }
+        let rounds = match self.random.weighted(&[80, 15, 5]) {
+            0 => self.random.between(0, 5),
+            1 => self.random.between(6, 20),
+            _ => self.random.between(20, 90),
+        };
+        let rounds = rounds.to_string();
+        self.put(&[&counter, "=", "0", ";"]);
+        self.put(&["while", "(", &counter, "<", &rounds, ")", "{"]);
+        self.loops += 1;
+        for _ in 0..self.random.between(1, 3) {
+            self.statement(depth);
+        }
+        self.loops -= 1;
+        if self.random.chance(985) {
+            self.put(&[&counter, "=", &counter, "+", "1", ";"]);
+        }
+        self.put(&["}"]);
+    }
+
+    fn expression_statement(&mut self) {
+        let depth = self.random.between(0, 4);
+        let expression = self.any_expression(depth);
+        self.append(expression);
+        self.put(&[";"]);
+    }
+
+    /// A statement that destroys something.
+    fn destruction(&mut self) {
+        if self.random.chance(150) {
+            self.put(&["clearScene", "(", ")", ";"]);
+            self.forget_shapes();
+            return;
+        }
+        let shape = self.shape_to_destroy(1);
+        self.put(&["destroyShape", "("]);
+        self.append(shape);
+        self.put(&[")", ";"]);
+    }
+
+    fn forget_shapes(&mut self) {
+        for variable in &mut self.variables {
+            if variable.holds == Kind::Shape {
+                variable.holds = Kind::Gone;
+            }
+        }
+    }
+
+    /// An expression for a shape, which is destroyed if it is a variable's.
+    fn shape_to_destroy(&mut self, depth: usize) -> Tokens {
+        match self.holder(Kind::Shape) {
+            Some(place) if self.random.chance(700) => {
+                self.variables[place].holds = Kind::Gone;
+                vec![self.variables[place].name.clone()]
+            }
+            _ => self.expression(Kind::Shape, depth),
+        }
+    }
+
+    /// A declaration that may not be right, or a loop without an end.
+    fn rare_statement(&mut self) {
+        match self.random.weighted(&[4, 4, 1]) {
+            0 if !self.variables.is_empty() => {
+                // Declares what is declared already, where it may matter.
+                let place = self.random.below(self.variables.len());
+                let name = self.variables[place].name.clone();
+                if self.random.chance(500) {
+                    self.put(&["if", "(", "false", ")"]);
+                }
+                self.put(&["var", &name, ";"]);
+            }
+            1 => {
+                // Declares in a branch, and then uses it either way.
+                let name = self.fresh_name();
+                let test = self.expression(Kind::Boolean, 1);
+                self.put(&["if", "("]);
+                self.append(test);
+                self.put(&[")", "var", &name, ";"]);
+                self.know(&name, Kind::None, false);
+                self.put(&[&name, ";"]);
+            }
+            _ => {
+                self.put(&["while", "(", "true", ")"]);
+                self.loops += 1;
+                self.any_assignment();
+                self.loops -= 1;
+            }
+        }
+    }
+
+    /// A return, most often in a branch.
+    fn finish(&mut self) {
+        if self.random.chance(800) {
+            let test = self.expression(Kind::Boolean, 1);
+            self.put(&["if", "("]);
+            self.append(test);
+            self.put(&[")"]);
+        }
+        let value = self.any_expression(2);
+        self.put(&["return"]);
+        self.append(value);
+        self.put(&[";"]);
+    }
+
+    /// A loop without an end that takes more and more of one store.
+    fn growth(&mut self) {
+        let taken: &[&str] = match self.random.below(4) {
+            0 => &["drawBox", "(", "1", ",", "2", ",", "3", ",", "4", ")", ";"],
+            1 => &["\"a\"", "++", "\"bc\"", ";"],
+            2 => &["[", "0", "]", ".", "1", "=", "2", ";"],
+            _ => &["1", ";"],
+        };
+        self.put(&["while", "(", "true", ")"]);
+        self.put(taken);
+    }
+
+    /// A whole expression of the kind, with at most so many levels.
+    fn expression(&mut self, kind: Kind, depth: usize) -> Tokens {
+        let kind = if self.noisy() { self.any_kind() } else { kind };
+        if self.noisy() {
+            let operator = self.random.pick(&OPERATORS).to_string();
+            let left = self.any_operand(depth);
+            let right = self.any_operand(depth);
+            return [left, vec![operator], right].concat();
+        }
+        let plain = match kind {
+            Kind::None | Kind::Table | Kind::Gone => true,
+            _ => self.random.chance(if depth == 0 { 750 } else { 350 }),
+        };
+        if plain {
+            return self.operand(kind, depth);
+        }
+        let (left, operator, right) = match kind {
+            Kind::Integer => {
+                let operators = &["+", "+", "-", "-", "*", "/", "%", ">>", "<<"];
+                let operator = self.random.pick(operators).to_string();
+                let left = self.operand(Kind::Integer, depth);
+                (left, operator, self.right_integer(depth))
+            }
+            Kind::Text => {
+                let left = self.operand(Kind::Text, depth);
+                (left, "++".to_string(), self.operand(Kind::Text, depth))
+            }
+            Kind::Boolean => self.comparison(depth),
+            _ => {
+                let operators = &["+", "-", "*", "/", ">>", "<<"];
+                let operator = self.random.pick(operators).to_string();
+                let left = self.operand(Kind::Shape, depth);
+                (left, operator, self.right_integer(depth))
+            }
+        };
+        [left, vec![operator], right].concat()
+    }
+
+    /// The right side of an operator that may be a division.
+    fn right_integer(&mut self, depth: usize) -> Tokens {
+        if self.random.chance(700) {
+            let number = self.random.pick(&["1", "2", "3", "-1", "-2", "10", "33"]);
+            return vec![number.to_string()];
+        }
+        self.operand(Kind::Integer, depth)
+    }
+
+    fn comparison(&mut self, depth: usize) -> (Tokens, String, Tokens) {
+        let equality = self.random.pick(&["==", "!="]).to_string();
+        match self.random.weighted(&[40, 25, 10, 10, 10, 15, 8]) {
+            0 => {
+                let order = self.random.pick(&["<", ">"]).to_string();
+                let left = self.operand(Kind::Integer, depth);
+                (left, order, self.operand(Kind::Integer, depth))
+            }
+            place @ 1..=4 => {
+                let kinds = [Kind::Integer, Kind::Text, Kind::Boolean, Kind::Shape];
+                let kind = kinds[place - 1];
+                let left = self.operand(kind, depth);
+                (left, equality, self.operand(kind, depth))
+            }
+            5 => {
+                let left = self.any_operand(depth);
+                (left, equality, self.operand(Kind::None, depth))
+            }
+            _ => {
+                let left = self.operand(Kind::None, depth);
+                (left, equality, self.any_operand(depth))
+            }
+        }
+    }
+
+    fn any_operand(&mut self, depth: usize) -> Tokens {
+        let kind = self.any_kind();
+        self.operand(kind, depth)
+    }
+
+    /// A primary, or a table read.
+    fn operand(&mut self, kind: Kind, depth: usize) -> Tokens {
+        if self.noisy() {
+            let table = self.primary(Kind::Table, depth);
+            let key = self.any_primary(depth);
+            return [table, texts(&["."]), key].concat();
+        }
+        if self.random.chance(200) {
+            let mut entries = Vec::new();
+            for variable in &self.variables {
+                if variable.holds != Kind::Table {
+                    continue;
+                }
+                for (key, value) in &variable.keys {
+                    if *value == kind {
+                        entries.push((variable.name.clone(), key.clone()));
+                    }
+                }
+            }
+            if !entries.is_empty() {
+                let (name, key) = self.random.pick(&entries).clone();
+                return [vec![name], texts(&["."]), key].concat();
+            }
+        }
+        self.primary(kind, depth)
+    }
+
+    fn primary(&mut self, kind: Kind, depth: usize) -> Tokens {
+        if self.noisy() {
+            return self.odd_primary(depth);
+        }
+        if depth > 0 && self.random.chance(250) {
+            let inside = self.expression(kind, depth - 1);
+            return [texts(&["("]), inside, texts(&[")"])].concat();
+        }
+        if self.random.chance(450) {
+            if let Some(place) = self.holder(kind) {
+                return vec![self.variables[place].name.clone()];
+            }
+        }
+        let deeper = depth.saturating_sub(1);
+        match kind {
+            Kind::Integer if depth > 0 && self.random.chance(120) => {
+                let x_or_y = ["getShapeXCoordinate", "getShapeYCoordinate"];
+                let name = *self.random.pick(&x_or_y);
+                let shape = self.expression(Kind::Shape, deeper);
+                call(name, vec![shape])
+            }
+            Kind::Integer => vec![constant(self.random)],
+            Kind::Text => vec![string(self.random)],
+            Kind::Boolean => vec![self.random.pick(&["true", "false"]).to_string()],
+            Kind::None | Kind::Gone => self.none(deeper),
+            Kind::Table => {
+                let size = match self.random.weighted(&[90, 8, 2]) {
+                    0 => vec![self.random.below(10).to_string()],
+                    1 => self.expression(Kind::Integer, deeper),
+                    _ => vec![constant(self.random)],
+                };
+                [texts(&["["]), size, texts(&["]"])].concat()
+            }
+            Kind::Shape => self.drawing(deeper),
+        }
+    }
+
+    /// The value none, now and then by destroying something.
+    fn none(&mut self, depth: usize) -> Tokens {
+        if !self.random.chance(self.danger) {
+            return texts(&["none"]);
+        }
+        if self.random.chance(200) {
+            self.forget_shapes();
+            return call("clearScene", Vec::new());
+        }
+        let shape = self.shape_to_destroy(depth);
+        call("destroyShape", vec![shape])
+    }
+
+    /// A call that draws a shape.
+    fn drawing(&mut self, depth: usize) -> Tokens {
+        let place = self.random.weighted(&[25, 20, 25, 15, 0, 8, 7]);
+        let (name, kinds) = LIBRARY[place];
+        self.library_call(name, kinds, depth)
+    }
+
+    fn library_call(&mut self, name: &str, kinds: &str, depth: usize) -> Tokens {
+        let mut arguments = Vec::new();
+        for kind in kinds.chars() {
+            let kind = match kind {
+                'i' => Kind::Integer,
+                't' => Kind::Text,
+                _ => Kind::Shape,
+            };
+            arguments.push(self.expression(kind, depth));
+        }
+        if self.noisy() {
+            if self.random.chance(500) {
+                arguments.pop();
+            } else {
+                arguments.push(self.any_expression(depth));
+            }
+        }
+        if self.noisy() {
+            // A shape that is destroyed while the call waits for it.
+            let shape = self.shape_to_destroy(depth);
+            arguments.push(call("destroyShape", vec![shape]));
+        }
+        call(name, arguments)
+    }
+
+    /// A primary that is likely to end the run.
+    fn odd_primary(&mut self, depth: usize) -> Tokens {
+        let deeper = depth.saturating_sub(1);
+        match self.random.below(6) {
+            0 => {
+                let name = self.random.pick(&UNKNOWN).to_string();
+                let mut arguments = Vec::new();
+                for _ in 0..self.random.below(4) {
+                    arguments.push(self.any_expression(deeper));
+                }
+                call(&name, arguments)
+            }
+            1 => vec![self.random.pick(&NAMES).to_string()],
+            2 => match self.holder(Kind::Gone) {
+                Some(place) => vec![self.variables[place].name.clone()],
+                None => texts(&["none"]),
+            },
+            3 => {
+                let (name, kinds) = *self.random.pick(&LIBRARY);
+                self.library_call(name, kinds, deeper)
+            }
+            4 => {
+                let size = self.any_expression(deeper);
+                [texts(&["["]), size, texts(&["]"])].concat()
+            }
+            _ => self.used_and_destroyed(),
+        }
+    }
+
+    /// An operation on a variable whose shape its other side destroys.
+    fn used_and_destroyed(&mut self) -> Tokens {
+        let Some(place) = self.holder(Kind::Shape) else {
+            return texts(&["none"]);
+        };
+        let name = self.variables[place].name.clone();
+        self.variables[place].holds = Kind::Gone;
+        let destroying = if self.random.chance(700) {
+            call("destroyShape", vec![vec![name.clone()]])
+        } else {
+            call("clearScene", Vec::new())
+        };
+        if self.random.chance(300) {
+            let (procedure, _) = *self.random.pick(&LIBRARY);
+            return call(procedure, vec![vec![name], destroying]);
+        }
+        let operator = self.random.pick(&OPERATORS).to_string();
+        let sides = [vec![name], vec![operator], destroying].concat();
+        [texts(&["("]), sides, texts(&[")"])].concat()
+    }
+}
+
+fn call(name: &str, arguments: Vec<Tokens>) -> Tokens {
+    let mut tokens = texts(&[name, "("]);
+    for (place, argument) in arguments.into_iter().enumerate() {
+        if place > 0 {
+            tokens.push(",".to_string());
+        }
+        tokens.extend(argument);
+    }
+    tokens.push(")".to_string());
+    tokens
+}

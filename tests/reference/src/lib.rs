@@ -1,0 +1,19 @@
+//! A reference interpreter for IMG drawings, written from the documents
+//! alone. It is simple rather than fast, and judges other interpreters.
+
+#![forbid(unsafe_code)]
+
+pub mod case;
+pub mod grammar;
+pub mod operation;
+pub mod picture;
+pub mod run;
+pub mod shape;
+pub mod sheet;
+pub mod takings;
+pub mod token;
+pub mod tree;
+pub mod value;
+
+pub use operation::{check, draw, measure, Answer, Grants, Operation};
+pub use takings::{book, run_specified, End, Specified, Taking};

@@ -1,0 +1,188 @@
+//! The three operations, with all their questions in order.
+
+use crate::grammar::{self, Refusal};
+use crate::picture;
+use crate::run::{self, Finish};
+use crate::shape::Shape;
+use crate::takings::{Left, Stop};
+use crate::tree::Program;
+
+/// The most bytes a program may have.
+pub const PROGRAM_BYTES: usize = 32_768;
+
+#[derive(Clone, Copy, Debug, PartialEq, Eq)]
+pub enum Operation {
+    Check,
+    Measure,
+    Draw,
+}
+
+/// The four granted counts. They may be out of range; the first question
+/// finds that.
+#[derive(Clone, Copy, Debug, PartialEq, Eq)]
+pub struct Grants {
+    pub steps: u64,
+    pub shapes: u64,
+    pub entries: u64,
+    pub text_bytes: u64,
+}
+
+impl Grants {
+    pub const NONE: Grants = Grants {
+        steps: 0,
+        shapes: 0,
+        entries: 0,
+        text_bytes: 0,
+    };
+
+    /// The largest counts within their ranges.
+    pub const LARGEST: Grants = Grants {
+        steps: 4_294_967_295,
+        shapes: 65_535,
+        entries: 65_535,
+        text_bytes: 65_535,
+    };
+
+    /// Whether no count is larger than that of `other`.
+    pub fn within(&self, other: &Grants) -> bool {
+        self.steps <= other.steps
+            && self.shapes <= other.shapes
+            && self.entries <= other.entries
+            && self.text_bytes <= other.text_bytes
+    }
+
+    /// Whether each count is within its range.
+    pub fn in_range(&self) -> bool {
+        self.within(&Grants::LARGEST)
+    }
+}
+
+/// What an operation hands back.
+#[derive(Clone, Debug, PartialEq, Eq)]
+pub enum Answer {
+    /// A picture; measuring leaves `bytes` empty.
+    Picture {
+        length: u64,
+        steps: u64,
+        bytes: Vec<u8>,
+    },
+    WellFormed,
+    /// A number of document 01's table. Only 80 tells a length.
+    Number {
+        number: u32,
+        place: u64,
+        steps: u64,
+        length_needed: Option<u64>,
+    },
+}
+
+impl Answer {
+    /// A number that tells no length.
+    pub fn number(number: u32, place: usize, steps: u64) -> Answer {
+        Answer::Number {
+            number,
+            place: place as u64,
+            steps,
+            length_needed: None,
+        }
+    }
+}
+
+/// Checking, with all counts within their ranges.
+pub fn check(program: &[u8]) -> Answer {
+    match prepare(Operation::Check, program, 0, 0) {
+        Ok(_) => Answer::WellFormed,
+        Err(answer) => answer,
+    }
+}
+
+/// Checking, with the question about the counts asked first.
+pub fn check_granted(program: &[u8], grants: Grants) -> Answer {
+    if grants.in_range() {
+        check(program)
+    } else {
+        Answer::number(71, 0, 0)
+    }
+}
+
+/// Measuring.
+pub fn measure(program: &[u8], width: i32, height: i32, grants: Grants) -> Answer {
+    match scene(Operation::Measure, program, width, height, grants) {
+        Ok((shapes, steps)) => finished(Operation::Measure, width, height, &shapes, steps),
+        Err(answer) => answer,
+    }
+}
+
+/// Drawing into an out slice of `out_length` bytes.
+pub fn draw(program: &[u8], width: i32, height: i32, grants: Grants, out_length: u64) -> Answer {
+    let (shapes, steps) = match scene(Operation::Draw, program, width, height, grants) {
+        Ok(scene) => scene,
+        Err(answer) => return answer,
+    };
+    let length = picture::length(width, height, &shapes);
+    if length > out_length {
+        return Answer::Number {
+            number: 80,
+            place: 0,
+            steps,
+            length_needed: Some(length),
+        };
+    }
+    finished(Operation::Draw, width, height, &shapes, steps)
+}
+
+/// The questions before reading, but for the first, and those of reading.
+pub(crate) fn prepare(
+    operation: Operation,
+    program: &[u8],
+    width: i32,
+    height: i32,
+) -> Result<Program, Answer> {
+    if operation != Operation::Check && (width < 1 || height < 1) {
+        return Err(Answer::number(72, 0, 0));
+    }
+    if program.len() > PROGRAM_BYTES {
+        return Err(Answer::number(73, 0, 0));
+    }
+    grammar::read(program).map_err(|Refusal { number, place }| Answer::number(number, place, 0))
+}
+
+/// The picture that a run ended in.
+pub(crate) fn finished(
+    operation: Operation,
+    width: i32,
+    height: i32,
+    shapes: &[Shape],
+    steps: u64,
+) -> Answer {
+    let bytes = match operation {
+        Operation::Draw => picture::bytes(width, height, shapes),
+        _ => Vec::new(),
+    };
+    Answer::Picture {
+        length: picture::length(width, height, shapes),
+        steps,
+        bytes,
+    }
+}
+
+/// The picture's shapes and the steps counted.
+fn scene(
+    operation: Operation,
+    program: &[u8],
+    width: i32,
+    height: i32,
+    grants: Grants,
+) -> Result<(Vec<Shape>, u64), Answer> {
+    if !grants.in_range() {
+        return Err(Answer::number(71, 0, 0));
+    }
+    let tree = prepare(operation, program, width, height)?;
+    let Finish { steps, end } = run::run(&tree, width, height, Left::new(grants));
+    match end {
+        Ok(shapes) => Ok((shapes, steps)),
+        Err(Stop::Number { number, place }) => Err(Answer::number(number, place, steps)),
+        // Counts are never cut off.
+        Err(Stop::Cut) => Err(Answer::number(79, 0, steps)),
+    }
+}

@@ -1,0 +1,175 @@
+//! Input that is refused, and input that could upset an interpreter.
+
+mod common;
+
+use common::{main_of, short};
+use reference::sheet::{self, GRANTS, OUT_LENGTH};
+use reference::{check, draw, measure};
+
+fn all_operations(program: &[u8], expected: &str) {
+    assert_eq!(short(&check(program)), expected);
+    assert_eq!(short(&measure(program, 20, 20, GRANTS)), expected);
+    assert_eq!(short(&draw(program, 20, 20, GRANTS, OUT_LENGTH)), expected);
+}
+
+#[test]
+fn empty_file() {
+    all_operations(b"", "10@0 s0");
+    assert_eq!(sheet::print(b""), b"error 72 at 0\n");
+}
+
+#[test]
+fn too_long() {
+    all_operations(&vec![b' '; 32_769], "73@0 s0");
+    all_operations(&vec![b' '; 1_000_000], "73@0 s0");
+    all_operations(&vec![b' '; 32_768], "10@32768 s0");
+}
+
+#[test]
+fn a_byte_above_127() {
+    all_operations("def main(w,h){var ä;}".as_bytes(), "10@18 s0");
+    all_operations(b"\xff", "10@0 s0");
+    all_operations(b"def main(w,h){1;}\x80", "10@17 s0");
+    all_operations(b"def main(w,h){\"a\xe9\";}", "10@14 s0");
+}
+
+#[test]
+fn every_byte_by_itself() {
+    for byte in 0..=255_u8 {
+        let place = match byte {
+            b' ' | b'\t' | b'\n' => 1,
+            _ => 0,
+        };
+        all_operations(&[byte], &format!("10@{place} s0"));
+    }
+}
+
+#[test]
+fn every_byte_behind_a_program() {
+    for byte in 0..=255_u8 {
+        let mut program = main_of("1;");
+        program.push(byte);
+        let expected = match byte {
+            b' ' | b'\t' | b'\n' => "well formed",
+            _ => "10@17 s0",
+        };
+        assert_eq!(short(&check(&program)), expected, "{byte}");
+    }
+}
+
+#[test]
+fn carriage_return() {
+    all_operations(b"def main(w,h){\r\n1;}", "10@14 s0");
+    all_operations(b"def main(w,h){1;}\r", "10@17 s0");
+}
+
+#[test]
+fn other_white_space() {
+    all_operations(b"def main(w,h){\x0b1;}", "10@14 s0");
+    all_operations(b"def main(w,h){\x0c1;}", "10@14 s0");
+    all_operations(b"def main(w,h){\x001;}", "10@14 s0");
+}
+
+#[test]
+fn unclosed_string() {
+    all_operations(b"def main(w,h){\"a;}", "10@14 s0");
+    all_operations(b"def main(w,h){\"", "10@14 s0");
+    all_operations(b"def main(w,h){\"a\n\";}", "10@14 s0");
+    all_operations(b"def main(w,h){w=\"a\"b\";}", "10@20 s0");
+}
+
+#[test]
+fn width_and_height() {
+    let program = main_of("1;");
+    for bad in [0, -1, i32::MIN] {
+        for (width, height) in [(bad, 20), (20, bad), (bad, bad)] {
+            assert_eq!(short(&measure(&program, width, height, GRANTS)), "72@0 s0");
+            // Asked before the program's length and the program.
+            let too_long = vec![b'!'; 40_000];
+            let answer = draw(&too_long, width, height, GRANTS, 0);
+            assert_eq!(short(&answer), "72@0 s0");
+        }
+    }
+    assert_eq!(short(&measure(&program, 1, i32::MAX, GRANTS)), "picture s2");
+}
+
+#[test]
+fn misfits() {
+    for (program, place) in [
+        ("main(w,h){1;}", 0),
+        ("def def main(w,h){1;}", 4),
+        ("def main w,h){1;}", 9),
+        ("def main(,h){1;}", 9),
+        ("def main(w,){1;}", 11),
+        ("def main(w h){1;}", 11),
+        ("def main(if,h){1;}", 9),
+        ("def main(1,h){1;}", 9),
+        ("def main(w,h)1;", 13),
+        ("def main(w,h){1;};", 17),
+        ("def main(w,h){1;}}", 17),
+        ("def main(w,h){1;}def main(w,h){1;}", 17),
+        ("def main(w,h){1;}def foo(w,h){1;}", 17),
+        ("def main(w,h){;}", 14),
+        ("def main(w,h){{}}", 15),
+        ("def main(w,h){1}", 15),
+        ("def main(w,h){var;}", 17),
+        ("def main(w,h){var if;}", 18),
+        ("def main(w,h){var a,b;}", 19),
+        ("def main(w,h){var a=1;}", 19),
+        ("def main(w,h){if 1 2;}", 17),
+        ("def main(w,h){if()1;}", 17),
+        ("def main(w,h){if(1);}", 19),
+        ("def main(w,h){if(1)}", 19),
+        ("def main(w,h){if(1)1;else 2;}", 26),
+        ("def main(w,h){while(1)", 22),
+        ("def main(w,h){return;}", 20),
+        ("def main(w,h){return 1}", 22),
+        ("def main(w,h){w=;}", 16),
+        ("def main(w,h){w=1,2;}", 17),
+        ("def main(w,h){w==;}", 17),
+        ("def main(w,h){w===1;}", 17),
+        ("def main(w,h){f(;}", 16),
+        ("def main(w,h){f(1,);}", 18),
+        ("def main(w,h){f(,1);}", 16),
+        ("def main(w,h){(f)(1);}", 17),
+        ("def main(w,h){f(1)(2);}", 18),
+        ("def main(w,h){\"f\"(1);}", 17),
+        ("def main(w,h){[];}", 15),
+        ("def main(w,h){[1,2];}", 16),
+        ("def main(w,h){[1);}", 16),
+        ("def main(w,h){();}", 15),
+        ("def main(w,h){(1;}", 16),
+        ("def main(w,h){w.;}", 16),
+        ("def main(w,h){w.if;}", 16),
+        ("def main(w,h){.w;}", 14),
+        ("def main(w,h){w+;}", 16),
+        ("def main(w,h){+w;}", 14),
+        ("def main(w,h){w+++h;}", 17),
+        ("def main(w,h){w++ +h;}", 18),
+        ("def main(w,h){w>>>h;}", 17),
+        ("def main(w,h){w<=h;}", 16),
+        ("def main(w,h){w-;}", 16),
+        ("def main(w,h){w=1-", 18),
+        ("def main(w,h){w=-", 16),
+        ("def main(w,h){w=-a;}", 16),
+        ("def main(w,h){w=-1a;}", 18),
+        ("def main(w,h){w instanceOf h;}", 16),
+        ("def main(w,h){foreach x in w do 1;}", 22),
+        ("def main(w,h){def f(){1;}}", 14),
+        ("def main(w,h){else 1;}", 19),
+        ("def main(w,h){w 1;}", 16),
+        ("def main(w,h){1 2;}", 16),
+    ] {
+        all_operations(program.as_bytes(), &format!("10@{place} s0"));
+    }
+}
+
+#[test]
+fn lone_bytes_that_only_begin_signs() {
+    all_operations(b"def main(w,h){w!h;}", "10@15 s0");
+    all_operations(b"def main(w,h){w!", "10@15 s0");
+    all_operations(b"def main(w,h){w&h;}", "10@15 s0");
+    all_operations(b"def main(w,h){a_b;}", "10@15 s0");
+    all_operations(b"def main(w,h){'a';}", "10@14 s0");
+    all_operations(b"def main(w,h){1;}//", "10@17 s0");
+}
