@@ -61,7 +61,11 @@ fn change_tokens(program: Vec<u8>, random: &mut Random) -> Vec<u8> {
     let text = |token: Token| program[token.start..token.end].to_vec();
     match random.below(6) {
         0 => replaced(&program, one, b""),
-        1 => replaced(&program, one, &[text(one), b" ".to_vec(), text(one)].concat()),
+        1 => replaced(
+            &program,
+            one,
+            &[text(one), b" ".to_vec(), text(one)].concat(),
+        ),
         2 => replaced(&program, one, token(random).as_bytes()),
         3 => {
             let more = token(random).into_bytes();

@@ -49,22 +49,29 @@ pub fn program(random: &mut Random) -> Vec<u8> {
 
 /// The tokens of a well-formed program.
 fn tokens(random: &mut Random) -> Tokens {
-    let noise = *random.pick(&[0, 0, 2, 5, 10, 30, 100]);
-    let danger = *random.pick(&[0, 20, 60, 150]);
     let left = match random.weighted(&[20, 40, 30, 10]) {
         0 => random.between(1, 5),
         1 => random.between(5, 20),
         2 => random.between(20, 60),
         _ => random.between(60, 150),
     };
+    let noise = if left <= 5 {
+        *random.pick(&[0, 0, 30, 100, 200])
+    } else {
+        *random.pick(&[0, 0, 0, 0, 0, 0, 0, 1, 3, 10])
+    };
+    let danger = *random.pick(&[0, 20, 60, 150]);
+    let wild = random.chance(250);
     let mut maker = Maker {
         random,
         tokens: Vec::new(),
         variables: Vec::new(),
         noise,
         danger,
+        wild,
         left,
         loops: 0,
+        nesting: 0,
     };
     maker.main();
     maker.tokens
@@ -82,10 +89,14 @@ struct Maker<'r> {
     noise: usize,
     /// How often, of a thousand times, a shape is destroyed on the way.
     danger: usize,
+    /// Whether there are loops without an end and odd declarations.
+    wild: bool,
     /// How many statements may still come.
     left: usize,
     /// How many loops stand around the place.
     loops: usize,
+    /// How many primaries stand around the place.
+    nesting: usize,
 }
 
 impl Maker<'_> {
@@ -97,8 +108,9 @@ impl Maker<'_> {
         self.tokens.extend(items);
     }
 
+    /// Never true deep inside, so that no expression grows without end.
     fn noisy(&mut self) -> bool {
-        self.random.chance(self.noise)
+        self.nesting < 8 && self.random.chance(self.noise)
     }
 
     fn know(&mut self, name: &str, holds: Kind, counts: bool) {
@@ -215,20 +227,21 @@ impl Maker<'_> {
 
     fn statement(&mut self, depth: usize) {
         self.left = self.left.saturating_sub(1);
-        let nested = if depth > 0 { 1 } else { 0 };
-        let declaring = if self.loops > 0 { 1 } else { 14 };
+        let nested = usize::from(depth > 0);
+        let wild = usize::from(self.wild);
+        let declaring = if self.loops > 0 { 2 } else { 42 };
         let weights = [
             declaring,
-            34,
+            102,
+            36,
+            30 * nested,
+            21 * nested,
+            15 * nested,
+            27,
             12,
-            10 * nested,
-            7 * nested,
-            5 * nested,
-            9,
-            5,
-            1,
-            1,
-            1,
+            6 * wild,
+            1 + 2 * wild,
+            3 * wild,
         ];
         match self.random.weighted(&weights) {
             0 => self.new_variable(),
@@ -292,8 +305,13 @@ impl Maker<'_> {
             self.any_primary(depth)
         };
         let value = self.expression(kind, depth);
+        let lasting = key.len() == 1 && self.place_of(&key[0]).is_none();
         self.put_update(vec![name], key.clone(), value);
-        self.variables[place].keys.push((key, kind));
+        let known = &mut self.variables[place].keys;
+        known.retain(|(other, _)| *other != key);
+        if lasting || self.random.chance(200) {
+            self.variables[place].keys.push((key, kind));
+        }
     }
 
     fn put_update(&mut self, table: Tokens, key: Tokens, value: Tokens) {
@@ -321,7 +339,16 @@ impl Maker<'_> {
         self.append(test);
         self.put(&[")"]);
         let before = self.variables.clone();
-        self.statement(depth);
+        match self.random.weighted(&[50, 20, 10, 10, 10]) {
+            0 => self.block(depth),
+            1 => self.any_assignment(),
+            2 => self.update(),
+            3 => self.expression_statement(),
+            _ => self.statement(depth),
+        }
+        if self.random.chance(850) {
+            self.variables.truncate(before.len());
+        }
         if self.random.chance(500) && self.variables.len() == before.len() {
             self.variables = before;
         }
@@ -376,9 +403,15 @@ impl Maker<'_> {
 
     /// A statement that destroys something.
     fn destruction(&mut self) {
-        if self.random.chance(150) {
+        if self.random.chance(100) {
             self.put(&["clearScene", "(", ")", ";"]);
             self.forget_shapes();
+            return;
+        }
+        if self.random.chance(self.danger) {
+            let expression = self.used_and_destroyed();
+            self.append(expression);
+            self.put(&[";"]);
             return;
         }
         let shape = self.shape_to_destroy(1);
@@ -568,6 +601,13 @@ impl Maker<'_> {
     }
 
     fn primary(&mut self, kind: Kind, depth: usize) -> Tokens {
+        self.nesting += 1;
+        let primary = self.any_sort_of_primary(kind, depth);
+        self.nesting -= 1;
+        primary
+    }
+
+    fn any_sort_of_primary(&mut self, kind: Kind, depth: usize) -> Tokens {
         if self.noisy() {
             return self.odd_primary(depth);
         }
