@@ -4,7 +4,9 @@
 
 use crate::random::Random;
 use crate::spacing::{write, Spacing};
-use crate::words::{constant, string, COUNTERS, LIBRARY, NAMES, OPERATORS, UNKNOWN};
+use crate::words::{
+    constant, edge, string, COUNTERS, KEYS, LIBRARY, NAMES, OPERATORS, SHAPES, UNKNOWN,
+};
 
 /// The kind of a value.
 #[derive(Clone, Copy, Debug, PartialEq, Eq)]
@@ -141,6 +143,15 @@ impl Maker<'_> {
             self.know(name, Kind::Integer, false);
         }
         self.put(&[")", "{"]);
+        if self.random.chance(100) {
+            // Names that stand in the program before they are declared.
+            self.put(&["if", "(", "false", ")", "{"]);
+            for _ in 0..self.random.between(2, 12) {
+                let name = self.random.pick(&NAMES).to_string();
+                self.put(&[&name, ";"]);
+            }
+            self.put(&["}"]);
+        }
         if self.random.chance(600) {
             for name in COUNTERS {
                 self.put(&["var", name, ";"]);
@@ -242,6 +253,7 @@ impl Maker<'_> {
             6 * wild,
             1 + 2 * wild,
             3 * wild,
+            6,
         ];
         match self.random.weighted(&weights) {
             0 => self.new_variable(),
@@ -254,7 +266,8 @@ impl Maker<'_> {
             7 => self.destruction(),
             8 => self.rare_statement(),
             9 => self.finish(),
-            _ => self.growth(),
+            10 => self.growth(),
+            _ => self.pattern(),
         }
     }
 
@@ -289,7 +302,7 @@ impl Maker<'_> {
         let Some(place) = self.holder(Kind::Table) else {
             if self.random.chance(300) {
                 let table = self.primary(Kind::Table, depth);
-                let key = self.any_primary(depth);
+                let key = self.key(depth);
                 let value = self.any_expression(depth);
                 self.put_update(table, key, value);
                 return;
@@ -302,15 +315,24 @@ impl Maker<'_> {
         let key = if !old.is_empty() && self.random.chance(300) {
             self.random.pick(&old).0.clone()
         } else {
-            self.any_primary(depth)
+            self.key(depth)
         };
         let value = self.expression(kind, depth);
-        let lasting = key.len() == 1 && self.place_of(&key[0]).is_none();
+        let lasting = key.iter().all(|token| self.place_of(token).is_none());
         self.put_update(vec![name], key.clone(), value);
         let known = &mut self.variables[place].keys;
         known.retain(|(other, _)| *other != key);
         if lasting || self.random.chance(200) {
             self.variables[place].keys.push((key, kind));
+        }
+    }
+
+    /// A primary for a key, most often one that other keys are like.
+    fn key(&mut self, depth: usize) -> Tokens {
+        match self.random.weighted(&[50, 15, 35]) {
+            0 => vec![self.random.pick(&KEYS).to_string()],
+            1 => vec![self.random.pick(&SHAPES).to_string()],
+            _ => self.any_primary(depth),
         }
     }
 
@@ -439,6 +461,59 @@ impl Maker<'_> {
         }
     }
 
+    /// A few statements in which a shape is shared, kept or destroyed.
+    fn pattern(&mut self) {
+        let (Some(shape), Some(table)) = (self.holder(Kind::Shape), self.holder(Kind::Table))
+        else {
+            return self.any_assignment();
+        };
+        let a = self.variables[shape].name.clone();
+        let t = self.variables[table].name.clone();
+        let k = self
+            .random
+            .pick(&["0", "none", "\"a\"", "true"])
+            .to_string();
+        self.variables[table].keys.clear();
+        let (gone, text) = match self.random.below(14) {
+            0 => (true, "T.K=A;destroyShape(A);T.K;"),
+            1 => (true, "T.A=destroyShape(A);"),
+            2 => (true, "T.K=A;clearScene();T.K;"),
+            3 => (true, "T.K=A;A=A+1;clearScene();A=T.K;"),
+            4 => (true, "T.A=1;destroyShape(A);T.K=2;"),
+            5 => (false, "T.K=A;A=T.K;destroyShape(T.K);A;"),
+            6 => (false, "T.K=A;A=1;clearScene();A=T.K;"),
+            7 => (false, "T.K=A+0;clearScene();A=T.K;"),
+            8 => (true, "T.none=A;T.destroyShape(A);"),
+            9 => (false, "T.K=T;(T.K).K=A;A=(T.K).K;"),
+            10 => (true, "T.none=5;A+(T.destroyShape(A));"),
+            11 => (false, "T.A=A;A=T.A;"),
+            12 => (true, "T.K=A;T.1=T.K;destroyShape(T.1);T.K=3;A;"),
+            _ => (true, "T.(A+0)=2;destroyShape(A);T.K=none;"),
+        };
+        if gone {
+            self.variables[shape].holds = Kind::Gone;
+        }
+        for part in text.split_inclusive(';') {
+            let mut rest = part;
+            while let Some(first) = rest.chars().next() {
+                // A run of letters or digits is a token, any sign another.
+                let length = match rest.find(|c: char| !c.is_ascii_alphanumeric()) {
+                    Some(0) => first.len_utf8(),
+                    Some(length) => length,
+                    None => rest.len(),
+                };
+                let token = match &rest[..length] {
+                    "A" => a.clone(),
+                    "T" => t.clone(),
+                    "K" => k.clone(),
+                    other => other.to_string(),
+                };
+                self.tokens.push(token);
+                rest = &rest[length..];
+            }
+        }
+    }
+
     /// A declaration that may not be right, or a loop without an end.
     fn rare_statement(&mut self) {
         match self.random.weighted(&[4, 4, 1]) {
@@ -513,6 +588,12 @@ impl Maker<'_> {
             return self.operand(kind, depth);
         }
         let (left, operator, right) = match kind {
+            Kind::Integer if self.random.chance(80) => {
+                let operators = &["+", "-", "*", "/", "%", ">>", "<<"];
+                let operator = self.random.pick(operators).to_string();
+                let left = vec![edge(self.random)];
+                (left, operator, vec![edge(self.random)])
+            }
             Kind::Integer => {
                 let operators = &["+", "+", "-", "-", "*", "/", "%", ">>", "<<"];
                 let operator = self.random.pick(operators).to_string();
@@ -545,7 +626,7 @@ impl Maker<'_> {
 
     fn comparison(&mut self, depth: usize) -> (Tokens, String, Tokens) {
         let equality = self.random.pick(&["==", "!="]).to_string();
-        match self.random.weighted(&[40, 25, 10, 10, 10, 15, 8]) {
+        match self.random.weighted(&[40, 25, 10, 10, 10, 15, 8, 6, 1]) {
             0 => {
                 let order = self.random.pick(&["<", ">"]).to_string();
                 let left = self.operand(Kind::Integer, depth);
@@ -561,9 +642,18 @@ impl Maker<'_> {
                 let left = self.any_operand(depth);
                 (left, equality, self.operand(Kind::None, depth))
             }
-            _ => {
+            6 => {
                 let left = self.operand(Kind::None, depth);
                 (left, equality, self.any_operand(depth))
+            }
+            7 => {
+                let left = vec![self.random.pick(&SHAPES).to_string()];
+                let right = vec![self.random.pick(&SHAPES).to_string()];
+                (left, equality, right)
+            }
+            _ => {
+                let left = self.operand(Kind::Table, depth);
+                (left, equality, self.operand(Kind::Table, depth))
             }
         }
     }
@@ -577,7 +667,7 @@ impl Maker<'_> {
     fn operand(&mut self, kind: Kind, depth: usize) -> Tokens {
         if self.noisy() {
             let table = self.primary(Kind::Table, depth);
-            let key = self.any_primary(depth);
+            let key = self.key(depth);
             return [table, texts(&["."]), key].concat();
         }
         if self.random.chance(200) {
@@ -730,9 +820,23 @@ impl Maker<'_> {
         } else {
             call("clearScene", Vec::new())
         };
+        // The other side is none or a boolean.
+        let destroying = if self.random.chance(600) {
+            destroying
+        } else {
+            [texts(&["("]), destroying, texts(&["==", "none", ")"])].concat()
+        };
         if self.random.chance(300) {
-            let (procedure, _) = *self.random.pick(&LIBRARY);
-            return call(procedure, vec![vec![name], destroying]);
+            let procedure = if self.random.chance(800) {
+                self.random.pick(&LIBRARY).0
+            } else {
+                self.random.pick(&UNKNOWN)
+            };
+            let mut arguments = vec![vec![name], destroying];
+            for _ in 0..self.random.below(3) {
+                arguments.push(vec![constant(self.random)]);
+            }
+            return call(procedure, arguments);
         }
         let operator = self.random.pick(&OPERATORS).to_string();
         let sides = [vec![name], vec![operator], destroying].concat();

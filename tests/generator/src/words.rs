@@ -125,6 +125,47 @@ const EDGES: [i64; 26] = [
     -2_147_483_648,
 ];
 
+/// Keys of every kind that look alike. Few, so that they meet again.
+pub const KEYS: [&str; 18] = [
+    "0",
+    "1",
+    "-1",
+    "01",
+    "true",
+    "false",
+    "none",
+    "\"none\"",
+    "\"true\"",
+    "\"a\"",
+    "\"A\"",
+    "w",
+    "h",
+    "a",
+    "i",
+    "[0]",
+    "clearScene()",
+    "\"abc\"",
+];
+
+/// Shapes that look alike.
+pub const SHAPES: [&str; 10] = [
+    "drawLine(1,2,3,4)",
+    "drawLine(3,4,1,2)",
+    "drawLine(1,2,1,2)",
+    "drawEllipse(1,2,3,4)",
+    "drawBox(1,2,3,4)",
+    "drawBox(1,2,4,3)",
+    "drawText(1,2,\"a\")",
+    "drawText(1,2,\"ab\")",
+    "drawText(1,2,\"a\"++\"b\")",
+    "drawText(2,1,\"a\")",
+];
+
+/// An integer at which something may change.
+pub fn edge(random: &mut Random) -> String {
+    random.pick(&EDGES).to_string()
+}
+
 /// A constant within its range, small ones more often. A minus stays with
 /// its digits.
 pub fn constant(random: &mut Random) -> String {

@@ -1,0 +1,1 @@
+// Names, strings and digits, prepared for reading.
