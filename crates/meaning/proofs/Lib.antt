@@ -1,2 +1,4 @@
 pub mod Computing
 pub mod Examples
+pub mod Booking
+pub mod Turns
