@@ -2,3 +2,4 @@ pub mod Computing
 pub mod Examples
 pub mod Booking
 pub mod Turns
+pub mod Readings
