@@ -3,3 +3,4 @@ pub mod Examples
 pub mod Booking
 pub mod Turns
 pub mod Readings
+pub mod Ends
