@@ -23,7 +23,8 @@ use Rattle.meaning.specs.Operator.{usable, withInteger, withString, with
 use Rattle.meaning.specs.Library.{Library, drawLine, drawEllipse, drawBox, drawText, connectShapes, drawTextOnShape, xCoordinate, yCoordinate, destroyShape, clearScene, withNone, withOne, withTwo, withThree, withFour, drawn, perform, allUsable, callLibrary}
 use Rattle.meaning.specs.Evaluate.{found, variable, newTable, entryOf, evaluate, evaluateAll}
 use Rattle.meaning.specs.Execute.{Flow, onward, returned, continue, declaring, copied, assigning, storing, updating, looping, execute, executeAll}
-use Rattle.meaning.specs.Program.{entering, sheet, sized, understood, painting}
+use Rattle.meaning.specs.Program.{Operation, checking, measuring, drawing, accepted, empty, entering, sheet, sized, understood, painting, performing, specified}
+use Rattle.meaning.specs.Program as Program
 use Rattle.meaning.specs.Book.{resourceNumber}
 use Rattle.meaning.proofs.Booking.{part, taken, taken-append}
 use Rattle.meaning.proofs.Readings.{LowReading, reading-low}
@@ -424,10 +425,27 @@ module _ {n : ℕ} where
   unfolding sized
   sized-lawful program = refuse-lawful _ 73 0 (lit< tt)
 
-  -- THE LAW
   pub painting-lawful : (program : List ℕ) (width height : ℤ) → Lawful n (painting program width height n)
   unfolding painting sheet
   painting-lawful program width height =
       bind-lawful (refuse-lawful _ 72 0 (lit< tt)) λ _. bind-lawful (sized-lawful program) λ _.
       bind-lawful (understood-lawful _ (reading-low program)) λ m. bind-lawful (entering-lawful _ width height) λ _.
       bind-lawful (all-lawful _) λ _. bind-lawful current-lawful λ s. give-lawful _
+
+-- ---- operations
+-- drawing takes the picture too
+drawing-ended : {n : ℕ} {m : Action (List ℕ)} → Lawful n m → Ended n ((m >>= λ b. take picture (length b) 0 >>= λ _. give (Program.drawn b)) empty)
+unfolding _>>=_ take give goOn
+drawing-ended {n} {m} h = ended-go n (m empty .takings) (m empty .end) _ (h .ended empty) (λ b s. tt)
+
+performing-ended : (o : Operation) (program : List ℕ) (width height : ℤ) (n : ℕ) → Ended n (performing o program width height n empty)
+unfolding performing
+performing-ended checking program width height n =
+    bind-lawful (sized-lawful program) (λ _. bind-lawful (understood-lawful _ (reading-low program)) λ m. give-lawful accepted) .ended empty
+performing-ended measuring program width height n = bind-lawful (painting-lawful program width height) (λ b. give-lawful (Program.drawn b)) .ended empty
+performing-ended drawing program width height n = drawing-ended (painting-lawful program width height)
+
+-- THE LAW
+pub specified-ended : (o : Operation) (program : List ℕ) (width height : ℤ) (n : ℕ) → Ended n (specified o program width height n)
+unfolding specified
+specified-ended o program width height n = performing-ended o program width height n
