@@ -4,3 +4,4 @@ pub mod Booking
 pub mod Turns
 pub mod Readings
 pub mod Ends
+pub mod Beginnings
