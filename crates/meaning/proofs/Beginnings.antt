@@ -1,4 +1,4 @@
--- Beginnings of the specified run: each goes on where a shorter one ends, and what a book decides stays decided.
+-- Beginnings of the specified run: each goes on where a shorter one ends.
 use Prim.Native.Nat.{ℕ, suc, _+_, _≤_, _<_}
 use mathlib.Core.Path.{_≡_, refl, ap, sym, _∙_}
 use mathlib.Core.Logic.{_≢_}
@@ -11,13 +11,11 @@ use lib.IntN.{ℤ}
 use lib.Dec.{leb}
 use borrow.Author.Tests.{leb-true, leb-false, le-leb}
 use Rattle.meaning.specs.Basics.{if_then_else_}
-use Rattle.meaning.specs.Run.{Resource, steps, Taking, End, result, error, unfinished, Run, run}
-use Rattle.meaning.specs.Program.{Operation, Outcome, accepted, drawn, specified, cut, beginning}
-use Rattle.meaning.specs.Book.{Amounts, nothingYet, Booked, allFit, lacking, book, Answer, pictured, number, undecided, answerTo, settled, booked}
-use Rattle.meaning.specs.Claims.{totalOf, FirstShort, shortageAt, BeginningsExtend, EndedStays}
-use Rattle.meaning.proofs.Booking.{taken, total-taken, onFit, book-append, Books, fit, short, books, book-short}
+use Rattle.meaning.specs.Run.{Taking, unfinished, Run, run}
+use Rattle.meaning.specs.Program.{Operation, Outcome, specified, cut, beginning}
+use Rattle.meaning.specs.Claims.{BeginningsExtend, EndedStays}
 use Rattle.meaning.proofs.Turns.{Extends, same, longer, specified-extends}
-use Rattle.meaning.proofs.Ends.{Many, Ending, Ended, specified-ended}
+use Rattle.meaning.proofs.Ends.{Many, Ended, specified-ended}
 
 -- ---- cuts
 module _ {A : Type 0} where
@@ -46,19 +44,19 @@ module _ {A : Type 0} where
 
   -- ---- cuts of longer runs
   -- a longer run takes what the shorter takes, and more
-  extends-behind : {r r′ : Run A} → Extends r r′ → (more : List Taking) × (r′ .takings ≡ r .takings ++ more)
+  pub extends-behind : {r r′ : Run A} → Extends r r′ → (more : List Taking) × (r′ .takings ≡ r .takings ++ more)
   extends-behind {r} (same e) = ([], ap (λ (q : Run A). q .takings) (sym e) ∙ sym (append-nil (r .takings)))
   extends-behind (longer u more e) = (more, e)
 
   -- a cut of a run is lengthened by what lengthens the run
-  cut-extends : (n : ℕ) {r r′ : Run A} → Extends r r′ → Extends (cut n r) r′
+  pub cut-extends : (n : ℕ) {r r′ : Run A} → Extends r r′ → Extends (cut n r) r′
   cut-extends n {r} {r′} h =
       let w = extends-behind h in
       cut-cases n r (λ (q : Run A). Extends q r′) (λ l. h) (longer refl (drop n (r .takings) ++ w .0)
       (w .1 ∙ ap (λ (ts : List Taking). ts ++ w .0) (sym (take-append-drop n (r .takings))) ∙ append-assoc (take n (r .takings)) (drop n (r .takings)) (w .0)))
 
   -- a cut behind the end of a run lengthens it
-  extends-cut : (k : ℕ) {r r′ : Run A} → Extends r r′ → Extends r (cut (length (r .takings) + k) r′)
+  pub extends-cut : (k : ℕ) {r r′ : Run A} → Extends r r′ → Extends r (cut (length (r .takings) + k) r′)
   extends-cut k {r} {r′} (same e) = same (sym (cut-whole (length (r .takings) + k) r (omega arith)) ∙ ap (cut (length (r .takings) + k)) e)
   extends-cut k {r} {r′} (longer u more e) =
       longer u (take k more) (cut-takings (length (r .takings) + k) r′ ∙ ap (take (length (r .takings) + k)) e ∙ take-append-add (r .takings) more k)

@@ -5,3 +5,4 @@ pub mod Turns
 pub mod Readings
 pub mod Ends
 pub mod Beginnings
+pub mod Settling
