@@ -6,3 +6,4 @@ pub mod Readings
 pub mod Ends
 pub mod Beginnings
 pub mod Settling
+pub mod Answers

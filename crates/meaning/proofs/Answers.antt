@@ -1,0 +1,111 @@
+-- Calls: what their answers and their out slices come to.
+use Prim.Native.Nat.{ℕ, suc, _+_, _≤_, _<_}
+use mathlib.Core.Path.{_≡_, refl, ap, sym, _∙_}
+use mathlib.Core.Logic.{_≢_}
+use mathlib.Core.Bool.{Bool, true, false, true≢false}
+use mathlib.Core.List.{List, [], _∷_, _++_, append-nil}
+use native.Mathlib.Omega.{arith}
+use native.Mathlib.Nat.{le-trans, le-of-suc-le-suc, not-suc-le-zero}
+use lib.ListN.{length, take}
+use lib.IntN.{ℤ}
+use lib.Dec.{leb}
+use borrow.Author.Tests.{lt-leb}
+use Rattle.meaning.specs.Basics.{if_then_else_, laidOver}
+use Rattle.meaning.specs.Grammar.{Reading, malformed, reading}
+use Rattle.meaning.specs.State.{State}
+use Rattle.meaning.specs.Run.{Resource, steps, shapes, entries, textBytes, picture, Taking, taking, End, result, error, unfinished, Run, run, Action, goOn, _>>=_, give, fail, refuse}
+use Rattle.meaning.specs.Run as Run
+use Rattle.meaning.specs.Program.{Operation, checking, measuring, drawing, Outcome, accepted, drawn, empty, sheet, sized, understood, painting, performing, specified}
+use Rattle.meaning.specs.Book.{Amounts, nothingYet, resourceNumber, fits, Booked, allFit, lacking, book, Answer, pictured, number, undecided, shortageOf, lengthNeeded, answerTo, settled, booked}
+use Rattle.meaning.specs.Call.{Call, Grants, admitted, granted, grantedTo, runOf, answer, outAfterEnd, outAfter}
+use Rattle.meaning.specs.Claims.{beginningOf, namesShortage, totalFrom, totalOf, FirstShort, shortageAt, BeginningsDecide, AlwaysAnswered, NumbersWriteNothing, PicturesFillTheFront, RefusedTakesNothing, SameButDrawn, MeasuredIsDrawn, Larger, LargerGrant, ShortageExact}
+use Rattle.meaning.proofs.Booking.{part, taken, taken-append, total-taken, all-fit, short-append}
+use Rattle.meaning.proofs.Turns.{Extends, same, longer, specified-extends}
+use Rattle.meaning.proofs.Ends.{Ended, Ending, specified-ended, painting-lawful}
+use Rattle.meaning.proofs.Beginnings.{cut-extends, extends-cut, extends-behind}
+use Rattle.meaning.proofs.Settling.{number-decided, number-no-picture, shortage-named, end-unnamed, booked-short, booked-fit, Settles, complete, stopped, settles, booked-decided, booked-extends}
+
+-- ---- admitted calls
+answer-admitted : (c : Call) → admitted c ≡ true → answer c ≡ booked (grantedTo c) (runOf c)
+unfolding answer if_then_else_
+answer-admitted c e = rw e
+
+out-admitted : (c : Call) → admitted c ≡ true → outAfter c ≡ outAfterEnd (c .operation) (book (grantedTo c) nothingYet (runOf c .takings)) (runOf c .end) (c .out)
+unfolding outAfter if_then_else_
+out-admitted c e = rw e
+
+-- a call's run ends, or has counted more steps than are granted
+run-ended : (c : Call) → Ended (suc (grantedTo c steps)) (runOf c)
+unfolding runOf granted
+run-ended c = specified-ended (c .operation) (c .program) (c .width) (c .height) (suc (c .grants .steps))
+
+run-settles : (c : Call) → Settles (grantedTo c) (runOf c)
+run-settles c = settles (grantedTo c) (runOf c) (run-ended c)
+
+-- ---- every call is answered
+pub always-answered : AlwaysAnswered
+unfolding answer if_then_else_
+always-answered c = by (admitted c)
+  where
+    by : (b : Bool) → (if b then (λ _. booked (grantedTo c) (runOf c)) else λ _. number 71 0 0 0) ≢ undecided
+    by true = booked-decided (grantedTo c) (runOf c) (run-ended c)
+    by false = number-decided
+
+-- ---- beginnings decide
+module _ (c : Call) where
+  abbrev runs : ℕ → Run Outcome
+  runs n = specified (c .operation) (c .program) (c .width) (c .height) n
+
+  extending : (n n′ : ℕ) → n ≤ n′ → Extends (runs n) (runs n′)
+  extending = specified-extends (c .operation) (c .program) (c .width) (c .height)
+
+  -- a beginning and the call's run are both lengthened by the run with as many turns as both
+  abbrev turns : ℕ → ℕ
+  turns n = suc (n + c .grants .steps)
+
+  beginning-run : (n : ℕ) → Extends (beginningOf c n) (runs (turns n))
+  unfolding Rattle.meaning.specs.Program.beginning
+  beginning-run n = cut-extends n (extending (suc n) (turns n) (omega arith))
+
+  call-run : (n : ℕ) → Extends (runOf c) (runs (turns n))
+  unfolding runOf
+  call-run n = extending (suc (c .grants .steps)) (turns n) (omega arith)
+
+  -- and there is a beginning that lengthens the call's run
+  abbrev enough : ℕ
+  enough = length (runOf c .takings) + c .grants .steps
+
+  run-beginning : Extends (runOf c) (beginningOf c enough)
+  unfolding Rattle.meaning.specs.Program.beginning runOf
+  run-beginning = extends-cut (c .grants .steps) (extending (suc (c .grants .steps)) (suc enough) (omega arith))
+
+  decides : admitted c ≡ true → (n : ℕ) → booked (grantedTo c) (beginningOf c n) ≢ undecided → booked (grantedTo c) (beginningOf c n) ≡ answer c
+  decides a n h =
+      sym (booked-extends (grantedTo c) (beginning-run n) h)
+      ∙ booked-extends (grantedTo c) (call-run n) (booked-decided (grantedTo c) (runOf c) (run-ended c))
+      ∙ sym (answer-admitted c a)
+
+pub beginnings-decide : BeginningsDecide
+beginnings-decide c a =
+    (decides c a,
+    (enough c, booked-extends (grantedTo c) (run-beginning c) (booked-decided (grantedTo c) (runOf c) (run-ended c)) ∙ sym (answer-admitted c a)))
+
+-- ---- numbers write nothing
+end-writes-nothing : (o : Operation) (x : Booked) (e : End Outcome) (out : List ℕ) {m p n l : ℕ} → settled x e ≡ number m p n l → outAfterEnd o x e out ≡ out
+unfolding settled answerTo outAfterEnd
+end-writes-nothing checking x e out h = refl
+end-writes-nothing measuring x e out h = refl
+end-writes-nothing drawing (lacking t total) e out h = refl
+end-writes-nothing drawing (allFit total) (result accepted s) out h = refl
+end-writes-nothing drawing (allFit total) (result (drawn b) s) out h = absurd (number-no-picture (sym h))
+end-writes-nothing drawing (allFit total) (error n p) out h = refl
+end-writes-nothing drawing (allFit total) unfinished out h = refl
+
+pub numbers-write-nothing : NumbersWriteNothing
+unfolding answer outAfter if_then_else_ booked
+numbers-write-nothing c m p n l = by (admitted c)
+  where
+    by : (b : Bool) → (if b then (λ _. booked (grantedTo c) (runOf c)) else λ _. number 71 0 0 0) ≡ number m p n l →
+        (if b then (λ _. outAfterEnd (c .operation) (book (grantedTo c) nothingYet (runOf c .takings)) (runOf c .end) (c .out)) else λ _. c .out) ≡ c .out
+    by true h = end-writes-nothing (c .operation) (book (grantedTo c) nothingYet (runOf c .takings)) (runOf c .end) (c .out) h
+    by false h = refl
