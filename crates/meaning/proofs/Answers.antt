@@ -26,11 +26,11 @@ use Rattle.meaning.proofs.Beginnings.{cut-extends, extends-cut, extends
 use Rattle.meaning.proofs.Settling.{number-decided, number-no-picture, shortage-named, end-unnamed, booked-short, booked-fit, Settles, complete, stopped, settles, booked-decided, booked-extends}
 
 -- ---- admitted calls
-answer-admitted : (c : Call) → admitted c ≡ true → answer c ≡ booked (grantedTo c) (runOf c)
+pub answer-admitted : (c : Call) → admitted c ≡ true → answer c ≡ booked (grantedTo c) (runOf c)
 unfolding answer if_then_else_
 answer-admitted c e = rw e
 
-out-admitted : (c : Call) → admitted c ≡ true → outAfter c ≡ outAfterEnd (c .operation) (book (grantedTo c) nothingYet (runOf c .takings)) (runOf c .end) (c .out)
+pub out-admitted : (c : Call) → admitted c ≡ true → outAfter c ≡ outAfterEnd (c .operation) (book (grantedTo c) nothingYet (runOf c .takings)) (runOf c .end) (c .out)
 unfolding outAfter if_then_else_
 out-admitted c e = rw e
 
@@ -39,7 +39,7 @@ run-ended : (c : Call) → Ended (suc (grantedTo c steps)) (runOf c)
 unfolding runOf granted
 run-ended c = specified-ended (c .operation) (c .program) (c .width) (c .height) (suc (c .grants .steps))
 
-run-settles : (c : Call) → Settles (grantedTo c) (runOf c)
+pub run-settles : (c : Call) → Settles (grantedTo c) (runOf c)
 run-settles c = settles (grantedTo c) (runOf c) (run-ended c)
 
 -- ---- every call is answered

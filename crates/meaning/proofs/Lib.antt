@@ -7,3 +7,4 @@ pub mod Ends
 pub mod Beginnings
 pub mod Settling
 pub mod Answers
+pub mod Pictures
