@@ -35,7 +35,7 @@ unfolding outAfter if_then_else_
 out-admitted c e = rw e
 
 -- a call's run ends, or has counted more steps than are granted
-run-ended : (c : Call) → Ended (suc (grantedTo c steps)) (runOf c)
+pub run-ended : (c : Call) → Ended (suc (grantedTo c steps)) (runOf c)
 unfolding runOf granted
 run-ended c = specified-ended (c .operation) (c .program) (c .width) (c .height) (suc (c .grants .steps))
 
@@ -72,10 +72,10 @@ module _ (c : Call) where
   call-run n = extending (suc (c .grants .steps)) (turns n) (omega arith)
 
   -- and there is a beginning that lengthens the call's run
-  abbrev enough : ℕ
+  abbrev pub enough : ℕ
   enough = length (runOf c .takings) + c .grants .steps
 
-  run-beginning : Extends (runOf c) (beginningOf c enough)
+  pub run-beginning : Extends (runOf c) (beginningOf c enough)
   unfolding Rattle.meaning.specs.Program.beginning runOf
   run-beginning = extends-cut (c .grants .steps) (extending (suc (c .grants .steps)) (suc enough) (omega arith))
 

@@ -8,3 +8,4 @@ pub mod Beginnings
 pub mod Settling
 pub mod Answers
 pub mod Pictures
+pub mod Shortages

@@ -1,4 +1,4 @@
--- Pictures: what drawing writes, what measuring foretells, and what reading refuses.
+-- Pictures: what drawing writes, and what measuring foretells.
 use Prim.Native.Nat.{ℕ, suc, _+_, _≤_, _<_}
 use mathlib.Core.Path.{_≡_, refl, ap, sym, _∙_}
 use mathlib.Core.Logic.{_≢_}
@@ -17,7 +17,7 @@ use Rattle.meaning.specs.Run as Run
 use Rattle.meaning.specs.Program.{Operation, checking, measuring, drawing, Outcome, accepted, drawn, empty, sheet, sized, understood, painting, performing, specified}
 use Rattle.meaning.specs.Book.{Amounts, nothingYet, resourceNumber, fits, Booked, allFit, lacking, book, Answer, pictured, number, undecided, shortageOf, lengthNeeded, answerTo, settled, booked}
 use Rattle.meaning.specs.Call.{Call, Grants, admitted, granted, grantedTo, runOf, answer, outAfterEnd, outAfter}
-use Rattle.meaning.specs.Claims.{totalFrom, totalOf, FirstShort, shortageAt, PicturesFillTheFront, RefusedTakesNothing, SameButDrawn, MeasuredIsDrawn}
+use Rattle.meaning.specs.Claims.{totalFrom, totalOf, FirstShort, shortageAt, PicturesFillTheFront, SameButDrawn, MeasuredIsDrawn}
 use Rattle.meaning.proofs.Booking.{part, taken, taken-append, total-taken, all-fit}
 use Rattle.meaning.proofs.Ends.{painting-lawful}
 use Rattle.meaning.proofs.Settling.{number-no-picture, booked-short, booked-fit, Settles, complete, stopped}
@@ -100,12 +100,22 @@ pub out-drawn : (c : Call) {total : Amounts} {b : List ℕ} {s : State} →
 unfolding outAfterEnd
 out-drawn c a o e u = out-admitted c a ∙ rw (e, u, o)
 
-pub pictures-fill-the-front : PicturesFillTheFront
+-- whose front it is
+pub front-drawn : (c : Call) (l : ℕ) {total : Amounts} {b : List ℕ} {s : State} →
+    admitted c ≡ true → c .operation ≡ drawing → book (grantedTo c) nothingYet (runOf c .takings) ≡ allFit total → runOf c .end ≡ result (drawn b) s →
+    length b ≡ l → l ≤ length (c .out) → take l (outAfter c) ≡ b
+front-drawn c l {b = b} a o e u k h = ap (take l) (out-drawn c a o e u) ∙ rw (← k) (laid-front b (c .out) (omega arith))
+
+pub drawn-within : (c : Call) (l n : ℕ) → Fitting c l n → Drawn (runOf c) l → l ≤ length (c .out)
 unfolding granted
+drawn-within c l n f d = omega (arith, d .takes, f .within picture, total-taken nothingYet (runOf c .takings) picture)
+
+-- THE CLAIM
+pub pictures-fill-the-front : PicturesFillTheFront
 pictures-fill-the-front c l n o h =
     let f = fitting c l n h in
     let d = call-drawn c o f in
-    (d .bytes, d .long, omega (arith, d .takes, f .within picture, total-taken nothingYet (runOf c .takings) picture), out-drawn c (f .allowed) o (f .booking) (d .ends))
+    (d .bytes, d .long, drawn-within c l n f d, out-drawn c (f .allowed) o (f .booking) (d .ends))
 
 -- ---- measuring
 -- what a painting takes, where its measure is answered
@@ -224,6 +234,7 @@ same-painting : (c d : Call) → SameButDrawn c d → booked (grantedTo d) (runO
 unfolding runOf
 same-painting c d s = cc
 
+-- THE CLAIM
 pub measured-is-drawn : MeasuredIsDrawn
 unfolding runOf
 measured-is-drawn c d a a′ s l n h =
@@ -233,5 +244,3 @@ measured-is-drawn c d a a′ s l n h =
     let e = answer-admitted d a′ ∙ same-painting c d s in
     ((λ w. e ∙ drawing-fits (c .program) (c .width) (c .height) k l n (c .grants) (c .out) (d .out) m w),
     λ w. e ∙ drawing-short (c .program) (c .width) (c .height) k l n (c .grants) (c .out) (d .out) m w)
-
--- ---- what cannot be read takes nothing

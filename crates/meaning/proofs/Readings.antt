@@ -1,14 +1,20 @@
--- The numbers that reading a program can end with: each is below 76.
+-- Reading a program: each number that it can end with is below 76, and a program that cannot be read takes nothing.
 use Prim.Native.Nat.{ℕ, zero, suc, _+_, _-_, _<_}
+use mathlib.Core.Path.{_≡_, refl, ap}
 use mathlib.Core.Bool.{Bool, true, false}
 use mathlib.Core.List.{List, [], _∷_}
 use mathlib.Core.Option.{Option, none, some}
 use lib.ListN.{length}
+use lib.IntN.{ℤ}
 use lib.Dec.{lit<}
 use Rattle.meaning.specs.Basics.{if_then_else_}
 use Rattle.meaning.specs.Token.{Token, Lexed, lexed, stray, tokensOf}
 use Rattle.meaning.specs.Tree.{Operator, Expression, Statement}
 use Rattle.meaning.specs.Grammar.{Got, good, wrong, after, expect, Inside, noLevel, level, opening, ReadExpression, argumentsFrom, arguments, primary, operand, operated, operatorOf, expressionIn, expression, ReadStatement, Readers, declaration, returning, Target, variable, element, noTarget, targetOf, assignment, simple, guarded, statementsFrom, statements, statementIn, statement, parametersFrom, parameters, procedure, Reading, wellFormed, malformed, readOf, parsed, reading}
+use Rattle.meaning.specs.State.{State}
+use Rattle.meaning.specs.Run.{error, Run, run, Action, goOn, _>>=_, give, fail, refuse}
+use Rattle.meaning.specs.Program.{Operation, checking, measuring, drawing, Outcome, empty, sheet, sized, understood, painting, performing, specified}
+use Rattle.meaning.specs.Claims.{RefusedTakesNothing}
 
 -- ---- the relation
 abbrev LowGot : {A : Type 0} → Got A → Type 0
@@ -187,3 +193,44 @@ parsed-low program (lexed ts) = if-reading _ (malformed 74 _) _ (lit< tt) (read-
 pub reading-low : (program : List ℕ) → LowReading (reading program)
 unfolding reading
 reading-low program = parsed-low program (tokensOf program)
+
+-- ---- what cannot be read takes nothing
+-- a run from any state is a number at once
+record Refused {A : Type 0} (m : Action A) : Type 0 where
+  what : State → ℕ
+  place : State → ℕ
+  ends : (s : State) → m s ≡ run [] (error (what s) (place s))
+
+fail-refused : {A : Type 0} (m p : ℕ) → Refused {A = A} (fail m p)
+unfolding fail
+fail-refused m p = record { what = λ s. m; place = λ s. p; ends = λ s. refl }
+
+bind-refused : {A B : Type 0} {m : Action A} (k : A → Action B) → Refused m → Refused (m >>= k)
+unfolding _>>=_ goOn
+bind-refused k h = record { what = h .what; place = h .place; ends = λ s. rw (h .ends s) }
+
+refuse-refused : {A : Type 0} (b : Bool) (m p : ℕ) {k : Action A} → Refused k → Refused (refuse b m p >>= λ _. k)
+unfolding refuse give fail _>>=_ goOn
+refuse-refused true m p h = record { what = λ s. m; place = λ s. p; ends = λ s. refl }
+refuse-refused false m p h = record { what = h .what; place = h .place; ends = h .ends }
+
+understood-refused : (r : Reading) (m p : ℕ) → r ≡ malformed m p → Refused (understood r)
+unfolding understood
+understood-refused r m p e = rw e (fail-refused m p)
+
+module _ (program : List ℕ) (width height : ℤ) (m p n : ℕ) (e : reading program ≡ malformed m p) where
+  painting-refused : Refused (painting program width height n)
+  unfolding painting sheet sized
+  painting-refused = refuse-refused _ 72 0 (refuse-refused _ 73 0 (bind-refused _ (understood-refused (reading program) m p e)))
+
+  performing-refused : (o : Operation) → Refused (performing o program width height n)
+  unfolding performing sized
+  performing-refused checking = refuse-refused _ 73 0 (bind-refused _ (understood-refused (reading program) m p e))
+  performing-refused measuring = bind-refused _ painting-refused
+  performing-refused drawing = bind-refused _ painting-refused
+
+-- THE CLAIM
+pub refused-takes-nothing : RefusedTakesNothing
+unfolding specified
+refused-takes-nothing o program width height m p n e =
+    ap (λ (r : Run Outcome). r .takings) (performing-refused program width height m p n e o .ends empty)

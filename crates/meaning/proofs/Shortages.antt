@@ -1,0 +1,98 @@
+-- Grants: a larger one changes nothing that named no shortage, and a shortage is answered exactly where a taking does not fit.
+use Prim.Native.Nat.{ℕ, suc, _+_, _≤_, _<_}
+use mathlib.Core.Path.{_≡_, refl, ap, sym, _∙_}
+use mathlib.Core.Logic.{_≢_}
+use mathlib.Core.Bool.{Bool, true, false, true≢false}
+use mathlib.Core.List.{List, [], _∷_, _++_}
+use native.Mathlib.Omega.{arith}
+use native.Mathlib.Nat.{le-trans}
+use lib.ListN.{length, take}
+use Rattle.meaning.specs.Basics.{laidOver}
+use Rattle.meaning.specs.Run.{Resource, steps, picture, Taking, unfinished, Run}
+use Rattle.meaning.specs.Program.{drawing, Outcome}
+use Rattle.meaning.specs.Book.{Amounts, nothingYet, allFit, book, Answer, pictured, number, undecided, answerTo, booked}
+use Rattle.meaning.specs.Call.{Call, admitted, granted, grantedTo, runOf, answer, outAfter}
+use Rattle.meaning.specs.Claims.{beginningOf, namesShortage, totalOf, FirstShort, shortageAt, Larger, LargerGrant, ShortageExact}
+use Rattle.meaning.proofs.Booking.{all-fit, short-append}
+use Rattle.meaning.proofs.Turns.{Extends, same, longer, specified-extends}
+use Rattle.meaning.proofs.Beginnings.{extends-behind}
+use Rattle.meaning.proofs.Settling.{number-decided, shortage-named, end-unnamed, booked-short, booked-fit, Settles, complete, stopped}
+use Rattle.meaning.proofs.Answers.{answer-admitted, run-ended, run-settles, enough, run-beginning, beginnings-decide}
+use Rattle.meaning.proofs.Pictures.{laid-front, Fitting, fitting, Drawn, call-drawn, front-drawn, drawn-within}
+
+-- ---- a larger grant
+-- the longer run
+larger-extends : (c d : Call) → Larger c d → Extends (runOf c) (runOf d)
+unfolding runOf granted
+larger-extends c d h =
+    rw (h .operation, h .program, h .width, h .height)
+    (specified-extends (c .operation) (c .program) (c .width) (c .height) (suc (c .grants .steps)) (suc (d .grants .steps)) (omega (arith, h .more steps)))
+
+-- the runs are one, and all of it fits both grants
+record Alike (c d : Call) : Type 0 where
+  runs : runOf c ≡ runOf d
+  booking : book (grantedTo c) nothingYet (runOf c .takings) ≡ allFit (totalOf (runOf c .takings))
+  larger-booking : book (grantedTo d) nothingYet (runOf c .takings) ≡ allFit (totalOf (runOf c .takings))
+
+larger-alike : (c d : Call) → Larger c d → namesShortage (booked (grantedTo c) (runOf c)) ≡ false → Alike c d
+larger-alike c d h z = by (run-settles c) (larger-extends c d h)
+  where
+    by : Settles (grantedTo c) (runOf c) → Extends (runOf c) (runOf d) → Alike c d
+    by (complete b w u) (same e) = record {
+      runs = e;
+      booking = b;
+      larger-booking = all-fit (grantedTo d) nothingYet (runOf c .takings) (λ x. le-trans (w x) (h .more x));
+    }
+    by (complete b w u) (longer e more q) = absurd (u e)
+    by (stopped before t s) (same e) = absurd (true≢false (sym (shortage-named before t) ∙ ap namesShortage (sym (booked-short (grantedTo c) (runOf c) before t s)) ∙ z))
+    by (stopped before t s) (longer e more q) = absurd (true≢false (sym (shortage-named before t) ∙ ap namesShortage (sym (booked-short (grantedTo c) (runOf c) before t s)) ∙ z))
+
+alike-answers : (c d : Call) → admitted c ≡ true → admitted d ≡ true → Alike c d → answer d ≡ answer c
+alike-answers c d a a′ h =
+    answer-admitted d a′ ∙ ap (booked (grantedTo d)) (sym (h .runs)) ∙ booked-fit (grantedTo d) (runOf c) (h .larger-booking)
+    ∙ sym (booked-fit (grantedTo c) (runOf c) (h .booking)) ∙ sym (answer-admitted c a)
+
+alike-pictures : (c d : Call) → admitted d ≡ true → Larger c d → Alike c d → (l n : ℕ) → c .operation ≡ drawing → answer c ≡ pictured l n → take l (outAfter d) ≡ take l (outAfter c)
+unfolding granted
+alike-pictures c d a′ h k l n o e =
+    let f = fitting c l n e in
+    let w = call-drawn c o f in
+    let m = drawn-within c l n f w in
+    front-drawn d l a′ (h .operation ∙ o) (ap (λ (r : Run Outcome). book (grantedTo d) nothingYet (r .takings)) (sym (k .runs)) ∙ k .larger-booking)
+    (ap (λ (r : Run Outcome). r .end) (sym (k .runs)) ∙ w .ends) (w .long) (omega (arith, h .more picture))
+    ∙ sym (front-drawn c l (f .allowed) o (f .booking) (w .ends) (w .long) m)
+
+-- THE CLAIM
+pub larger-grant : LargerGrant
+larger-grant c d a a′ h z =
+    let k = larger-alike c d h (ap namesShortage (sym (answer-admitted c a)) ∙ z) in
+    (alike-answers c d a a′ k, alike-pictures c d a′ h k)
+
+-- ---- shortages
+-- a call that names one has a first taking that does not fit
+named-short : (c : Call) → namesShortage (booked (grantedTo c) (runOf c)) ≡ true → (before : List Taking) × (t : Taking) × FirstShort (grantedTo c) (runOf c .takings) before t
+named-short c z = by (run-settles c)
+  where
+    by : Settles (grantedTo c) (runOf c) → (before : List Taking) × (t : Taking) × FirstShort (grantedTo c) (runOf c .takings) before t
+    by (complete b w u) = absurd (true≢false (sym z ∙ ap namesShortage (booked-fit (grantedTo c) (runOf c) b) ∙ end-unnamed _ _ _ (runOf c .end) (run-ended c)))
+    by (stopped before t s) = (before, t, s)
+
+-- and there is a beginning in which it stands
+beginning-short : (c : Call) {before : List Taking} {t : Taking} → FirstShort (grantedTo c) (runOf c .takings) before t → FirstShort (grantedTo c) (beginningOf c (enough c) .takings) before t
+beginning-short c s = let w = extends-behind (run-beginning c) in rw (w .1) (short-append (w .0) s)
+
+-- the answer from a beginning
+short-answer : (c : Call) → admitted c ≡ true → (n : ℕ) (before : List Taking) (t : Taking) → FirstShort (grantedTo c) (beginningOf c n .takings) before t → answer c ≡ shortageAt before t
+unfolding shortageAt
+short-answer c a n before t s =
+    let e = booked-short (grantedTo c) (beginningOf c n) before t s in
+    sym (beginnings-decide c a .0 n (rw e number-decided)) ∙ e
+
+-- THE CLAIM
+pub shortage-exact : ShortageExact
+shortage-exact c a = (named, short-answer c a)
+  where
+    named : namesShortage (answer c) ≡ true → (n : ℕ) × (before : List Taking) × (t : Taking) × FirstShort (grantedTo c) (beginningOf c n .takings) before t × (answer c ≡ shortageAt before t)
+    named z =
+        let w = named-short c (ap namesShortage (sym (answer-admitted c a)) ∙ z) in
+        (enough c, w .0, w .1, beginning-short c (w .2), answer-admitted c a ∙ booked-short (grantedTo c) (runOf c) (w .0) (w .1) (w .2))
