@@ -1,29 +1,21 @@
 -- Calls: what their answers and their out slices come to.
-use Prim.Native.Nat.{ℕ, suc, _+_, _≤_, _<_}
-use mathlib.Core.Path.{_≡_, refl, ap, sym, _∙_}
+use Prim.Native.Nat.{ℕ, suc, _+_, _≤_}
+use mathlib.Core.Path.{_≡_, refl, sym, _∙_}
 use mathlib.Core.Logic.{_≢_}
-use mathlib.Core.Bool.{Bool, true, false, true≢false}
-use mathlib.Core.List.{List, [], _∷_, _++_, append-nil}
+use mathlib.Core.Bool.{Bool, true, false}
+use mathlib.Core.List.{List}
 use native.Mathlib.Omega.{arith}
-use native.Mathlib.Nat.{le-trans, le-of-suc-le-suc, not-suc-le-zero}
-use lib.ListN.{length, take}
-use lib.IntN.{ℤ}
-use lib.Dec.{leb}
-use borrow.Author.Tests.{lt-leb}
-use Rattle.meaning.specs.Basics.{if_then_else_, laidOver}
-use Rattle.meaning.specs.Grammar.{Reading, malformed, reading}
-use Rattle.meaning.specs.State.{State}
-use Rattle.meaning.specs.Run.{Resource, steps, shapes, entries, textBytes, picture, Taking, taking, End, result, error, unfinished, Run, run, Action, goOn, _>>=_, give, fail, refuse}
-use Rattle.meaning.specs.Run as Run
-use Rattle.meaning.specs.Program.{Operation, checking, measuring, drawing, Outcome, accepted, drawn, empty, sheet, sized, understood, painting, performing, specified}
-use Rattle.meaning.specs.Book.{Amounts, nothingYet, resourceNumber, fits, Booked, allFit, lacking, book, Answer, pictured, number, undecided, shortageOf, lengthNeeded, answerTo, settled, booked}
-use Rattle.meaning.specs.Call.{Call, Grants, admitted, granted, grantedTo, runOf, answer, outAfterEnd, outAfter}
-use Rattle.meaning.specs.Claims.{beginningOf, namesShortage, totalFrom, totalOf, FirstShort, shortageAt, BeginningsDecide, AlwaysAnswered, NumbersWriteNothing, PicturesFillTheFront, RefusedTakesNothing, SameButDrawn, MeasuredIsDrawn, Larger, LargerGrant, ShortageExact}
-use Rattle.meaning.proofs.Booking.{part, taken, taken-append, total-taken, all-fit, short-append}
-use Rattle.meaning.proofs.Turns.{Extends, same, longer, specified-extends}
-use Rattle.meaning.proofs.Ends.{Ended, Ending, specified-ended, painting-lawful}
-use Rattle.meaning.proofs.Beginnings.{cut-extends, extends-cut, extends-behind}
-use Rattle.meaning.proofs.Settling.{number-decided, number-no-picture, shortage-named, end-unnamed, booked-short, booked-fit, Settles, complete, stopped, settles, booked-decided, booked-extends}
+use lib.ListN.{length}
+use Rattle.meaning.specs.Basics.{if_then_else_}
+use Rattle.meaning.specs.Run.{steps, End, result, error, unfinished, Run}
+use Rattle.meaning.specs.Program.{Operation, checking, measuring, drawing, Outcome, accepted, drawn, specified, beginning}
+use Rattle.meaning.specs.Book.{nothingYet, Booked, allFit, lacking, book, number, undecided, answerTo, settled, booked}
+use Rattle.meaning.specs.Call.{Call, admitted, granted, grantedTo, runOf, answer, outAfterEnd, outAfter}
+use Rattle.meaning.specs.Claims.{beginningOf, BeginningsDecide, AlwaysAnswered, NumbersWriteNothing}
+use Rattle.meaning.proofs.Turns.{Extends, specified-extends}
+use Rattle.meaning.proofs.Ends.{Ended, specified-ended}
+use Rattle.meaning.proofs.Beginnings.{cut-extends, extends-cut}
+use Rattle.meaning.proofs.Settling.{number-decided, number-no-picture, Settles, settles, booked-decided, booked-extends}
 
 -- ---- admitted calls
 pub answer-admitted : (c : Call) → admitted c ≡ true → answer c ≡ booked (grantedTo c) (runOf c)
@@ -64,7 +56,7 @@ module _ (c : Call) where
   turns n = suc (n + c .grants .steps)
 
   beginning-run : (n : ℕ) → Extends (beginningOf c n) (runs (turns n))
-  unfolding Rattle.meaning.specs.Program.beginning
+  unfolding beginning
   beginning-run n = cut-extends n (extending (suc n) (turns n) (omega arith))
 
   call-run : (n : ℕ) → Extends (runOf c) (runs (turns n))
@@ -76,7 +68,7 @@ module _ (c : Call) where
   enough = length (runOf c .takings) + c .grants .steps
 
   pub run-beginning : Extends (runOf c) (beginningOf c enough)
-  unfolding Rattle.meaning.specs.Program.beginning runOf
+  unfolding beginning runOf
   run-beginning = extends-cut (c .grants .steps) (extending (suc (c .grants .steps)) (suc enough) (omega arith))
 
   decides : admitted c ≡ true → (n : ℕ) → booked (grantedTo c) (beginningOf c n) ≢ undecided → booked (grantedTo c) (beginningOf c n) ≡ answer c
@@ -86,9 +78,10 @@ module _ (c : Call) where
       ∙ sym (answer-admitted c a)
 
 pub beginnings-decide : BeginningsDecide
-beginnings-decide c a =
-    (decides c a,
-    (enough c, booked-extends (grantedTo c) (run-beginning c) (booked-decided (grantedTo c) (runOf c) (run-ended c)) ∙ sym (answer-admitted c a)))
+beginnings-decide c a = (
+  decides c a,
+  (enough c, booked-extends (grantedTo c) (run-beginning c) (booked-decided (grantedTo c) (runOf c) (run-ended c)) ∙ sym (answer-admitted c a)),
+)
 
 -- ---- numbers write nothing
 end-writes-nothing : (o : Operation) (x : Booked) (e : End Outcome) (out : List ℕ) {m p n l : ℕ} → settled x e ≡ number m p n l → outAfterEnd o x e out ≡ out

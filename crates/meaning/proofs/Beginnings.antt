@@ -1,18 +1,17 @@
 -- Beginnings of the specified run: each goes on where a shorter one ends.
-use Prim.Native.Nat.{ℕ, suc, _+_, _≤_, _<_}
+use Prim.Native.Nat.{ℕ, suc, _+_, _≤_}
 use mathlib.Core.Path.{_≡_, refl, ap, sym, _∙_}
 use mathlib.Core.Logic.{_≢_}
 use mathlib.Core.Bool.{Bool, true, false}
-use mathlib.Core.List.{List, [], _∷_, _++_, append-assoc, append-nil}
+use mathlib.Core.List.{List, [], _++_, append-assoc, append-nil}
 use native.Mathlib.Omega.{arith}
 use lib.ListN.{length, take, drop, take-append-drop}
 use lib.Seq.{take-all, take-take, take-append-le, take-append-add}
-use lib.IntN.{ℤ}
 use lib.Dec.{leb}
-use borrow.Author.Tests.{leb-true, leb-false, le-leb}
+use borrow.Author.Tests.{leb-true, le-leb}
 use Rattle.meaning.specs.Basics.{if_then_else_}
 use Rattle.meaning.specs.Run.{Taking, unfinished, Run, run}
-use Rattle.meaning.specs.Program.{Operation, Outcome, specified, cut, beginning}
+use Rattle.meaning.specs.Program.{Outcome, specified, cut, beginning}
 use Rattle.meaning.specs.Claims.{BeginningsExtend, EndedStays}
 use Rattle.meaning.proofs.Turns.{Extends, same, longer, specified-extends}
 use Rattle.meaning.proofs.Ends.{Many, Ended, specified-ended}

@@ -1,24 +1,24 @@
 -- How a run ends, and what it has taken by then: its numbers are below 76, a picture is taken only by drawing, and a run that is
 -- unfinished with n turns a loop has counted n steps.
-use Prim.Native.Nat.{ℕ, zero, suc, _+_, _≤_, _<_}
-use mathlib.Core.Path.{_≡_, refl, ap, sym, _∙_}
-use mathlib.Core.Bool.{Bool, true, false, not, _&&_}
+use Prim.Native.Nat.{ℕ, zero, suc, _≤_, _<_}
+use mathlib.Core.Path.{_≡_, refl}
+use mathlib.Core.Bool.{Bool, true, false}
 use mathlib.Core.List.{List, [], _∷_, _++_}
 use mathlib.Core.Option.{Option, some}
 use mathlib.Core.Option as Option
 use native.Mathlib.Omega.{arith}
-use native.Mathlib.Nat.{le-refl, le-trans, not-suc-le-zero, le-of-suc-le-suc}
+use native.Mathlib.Nat.{le-refl}
 use lib.ListN.{length, length-append}
 use lib.IntN.{ℤ}
 use lib.Dec.{lit<, eqb}
 use Rattle.meaning.specs.Basics.{if_then_else_}
 use Rattle.meaning.specs.Figure.{Figure}
-use Rattle.meaning.specs.Tree.{Operator, concatenate, add, subtract, multiply, divide, remainder, shiftRight, shiftLeft, equal, unequal, greater, less, Expression, Arguments, noArgument, argument, Statement, declare, assign, update, when, while, return, block, act, Statements, only, first, Procedure}
+use Rattle.meaning.specs.Tree.{Operator, concatenate, add, subtract, multiply, divide, remainder, shiftRight, shiftLeft, equal, unequal, greater, less, Expression, Arguments, noArgument, argument, Statement, declare, assign, update, when, while, return, block, act, Statements, only, first}
 use Rattle.meaning.specs.Tree as Tree
-use Rattle.meaning.specs.Grammar.{Reading, wellFormed, malformed, reading}
+use Rattle.meaning.specs.Grammar.{Reading, wellFormed, malformed}
 use Rattle.meaning.specs.Value.{Value, integer, string, boolean, none, table, shape}
 use Rattle.meaning.specs.State.{State, Key}
-use Rattle.meaning.specs.Run.{Resource, steps, shapes, entries, textBytes, picture, Taking, taking, End, result, error, unfinished, Run, run, Action, goOn, _>>=_, give, fail, take, refuse, current, become}
+use Rattle.meaning.specs.Run.{Resource, steps, shapes, entries, textBytes, picture, Taking, taking, End, result, error, unfinished, Run, Action, goOn, _>>=_, give, fail, take, refuse, current, become}
 use Rattle.meaning.specs.Operator.{usable, withInteger, withString, withBoolean, withTable, withShapeNumber, withFigure, newShape, newString, calculated, compared, remaindered, joined, answered, equated, operateOn, operate}
 use Rattle.meaning.specs.Library.{Library, drawLine, drawEllipse, drawBox, drawText, connectShapes, drawTextOnShape, xCoordinate, yCoordinate, destroyShape, clearScene, withNone, withOne, withTwo, withThree, withFour, drawn, perform, allUsable, callLibrary}
 use Rattle.meaning.specs.Evaluate.{found, variable, newTable, entryOf, evaluate, evaluateAll}
@@ -309,6 +309,7 @@ module _ {n : ℕ} where
 
   mutual
     unfolding evaluate evaluateAll
+
     evaluate-lawful : (e : Expression) (p : ℕ) → Lawful n (evaluate e p)
     evaluate-lawful (Tree.number z) p = bind-lawful (count-lawful p) λ _. give-lawful _
     evaluate-lawful (Tree.string t) p = bind-lawful (count-lawful p) λ _. give-lawful _
@@ -390,6 +391,7 @@ loop-lawful (suc n) N p e l h =
 module _ {n : ℕ} where
   mutual
     unfolding execute executeAll
+
     execute-lawful : (s : Statement) → Lawful n (execute s n)
     execute-lawful (declare p x) = bind-lawful (count-lawful p) λ _. declaring-lawful p x
     execute-lawful (assign p x e) = bind-lawful (count-lawful p) λ _. bind-lawful (evaluate-lawful e p) λ v. assigning-lawful p x v

@@ -9,3 +9,4 @@ pub mod Settling
 pub mod Answers
 pub mod Pictures
 pub mod Shortages
+pub mod Claimed

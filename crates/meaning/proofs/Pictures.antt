@@ -10,14 +10,13 @@ use lib.ListN.{length, take}
 use lib.IntN.{ℤ}
 use borrow.Author.Tests.{lt-leb}
 use Rattle.meaning.specs.Basics.{if_then_else_, laidOver}
-use Rattle.meaning.specs.Grammar.{Reading, malformed, reading}
 use Rattle.meaning.specs.State.{State}
-use Rattle.meaning.specs.Run.{Resource, steps, shapes, entries, textBytes, picture, Taking, taking, End, result, error, unfinished, Run, run, Action, goOn, _>>=_, give, fail, refuse}
+use Rattle.meaning.specs.Run.{Resource, steps, shapes, entries, textBytes, picture, Taking, taking, End, result, error, unfinished, Run, run, Action, goOn, _>>=_, give}
 use Rattle.meaning.specs.Run as Run
-use Rattle.meaning.specs.Program.{Operation, checking, measuring, drawing, Outcome, accepted, drawn, empty, sheet, sized, understood, painting, performing, specified}
-use Rattle.meaning.specs.Book.{Amounts, nothingYet, resourceNumber, fits, Booked, allFit, lacking, book, Answer, pictured, number, undecided, shortageOf, lengthNeeded, answerTo, settled, booked}
+use Rattle.meaning.specs.Program.{Operation, measuring, drawing, Outcome, drawn, empty, painting, performing, specified}
+use Rattle.meaning.specs.Book.{Amounts, nothingYet, resourceNumber, fits, allFit, book, pictured, number, undecided, shortageOf, lengthNeeded, answerTo, booked}
 use Rattle.meaning.specs.Call.{Call, Grants, admitted, granted, grantedTo, runOf, answer, outAfterEnd, outAfter}
-use Rattle.meaning.specs.Claims.{totalFrom, totalOf, FirstShort, shortageAt, PicturesFillTheFront, SameButDrawn, MeasuredIsDrawn}
+use Rattle.meaning.specs.Claims.{totalOf, shortageAt, PicturesFillTheFront, SameButDrawn, MeasuredIsDrawn}
 use Rattle.meaning.proofs.Booking.{part, taken, taken-append, total-taken, all-fit}
 use Rattle.meaning.proofs.Ends.{painting-lawful}
 use Rattle.meaning.proofs.Settling.{number-no-picture, booked-short, booked-fit, Settles, complete, stopped}
@@ -56,8 +55,10 @@ fitting c l n h = by (run-settles c)
   where
     a : admitted c ≡ true
     a = picture-admitted c l n h
+
     k : booked (grantedTo c) (runOf c) ≡ pictured l n
     k = sym (answer-admitted c a) ∙ h
+
     by : Settles (grantedTo c) (runOf c) → Fitting c l n
     by (complete b w u) = record { allowed = a; booking = b; within = w; ending = sym (booked-fit (grantedTo c) (runOf c) b) ∙ k }
     by (stopped before t s) = absurd (number-no-picture (sym (booked-short (grantedTo c) (runOf c) before t s) ∙ k))
@@ -241,6 +242,7 @@ measured-is-drawn c d a a′ s l n h =
     let f = fitting c l n h in
     let k = suc (c .grants .steps) in
     let m = measured-run (c .program) (c .width) (c .height) k l n (c .operation) (grantedTo c) (s .measures) (f .ending) (f .within) in
-    let e = answer-admitted d a′ ∙ same-painting c d s in
-    ((λ w. e ∙ drawing-fits (c .program) (c .width) (c .height) k l n (c .grants) (c .out) (d .out) m w),
-    λ w. e ∙ drawing-short (c .program) (c .width) (c .height) k l n (c .grants) (c .out) (d .out) m w)
+    let e = answer-admitted d a′ ∙ same-painting c d s in (
+      (λ w. e ∙ drawing-fits (c .program) (c .width) (c .height) k l n (c .grants) (c .out) (d .out) m w),
+      λ w. e ∙ drawing-short (c .program) (c .width) (c .height) k l n (c .grants) (c .out) (d .out) m w,
+    )

@@ -1,16 +1,15 @@
 -- Reading a program: each number that it can end with is below 76, and a program that cannot be read takes nothing.
-use Prim.Native.Nat.{ℕ, zero, suc, _+_, _-_, _<_}
+use Prim.Native.Nat.{ℕ, zero, suc, _+_, _<_}
 use mathlib.Core.Path.{_≡_, refl, ap}
 use mathlib.Core.Bool.{Bool, true, false}
-use mathlib.Core.List.{List, [], _∷_}
+use mathlib.Core.List.{List, []}
 use mathlib.Core.Option.{Option, none, some}
-use lib.ListN.{length}
 use lib.IntN.{ℤ}
 use lib.Dec.{lit<}
 use Rattle.meaning.specs.Basics.{if_then_else_}
 use Rattle.meaning.specs.Token.{Token, Lexed, lexed, stray, tokensOf}
 use Rattle.meaning.specs.Tree.{Operator, Expression, Statement}
-use Rattle.meaning.specs.Grammar.{Got, good, wrong, after, expect, Inside, noLevel, level, opening, ReadExpression, argumentsFrom, arguments, primary, operand, operated, operatorOf, expressionIn, expression, ReadStatement, Readers, declaration, returning, Target, variable, element, noTarget, targetOf, assignment, simple, guarded, statementsFrom, statements, statementIn, statement, parametersFrom, parameters, procedure, Reading, wellFormed, malformed, readOf, parsed, reading}
+use Rattle.meaning.specs.Grammar.{Got, good, wrong, after, expect, Inside, noLevel, level, opening, ReadExpression, argumentsFrom, arguments, primary, operand, operated, expressionIn, expression, ReadStatement, Readers, declaration, returning, Target, variable, element, noTarget, assignment, simple, guarded, statementsFrom, statementIn, statement, parametersFrom, parameters, procedure, Reading, wellFormed, malformed, readOf, parsed, reading}
 use Rattle.meaning.specs.State.{State}
 use Rattle.meaning.specs.Run.{error, Run, run, Action, goOn, _>>=_, give, fail, refuse}
 use Rattle.meaning.specs.Program.{Operation, checking, measuring, drawing, Outcome, empty, sheet, sized, understood, painting, performing, specified}

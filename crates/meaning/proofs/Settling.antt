@@ -1,20 +1,19 @@
 -- What a run comes to under a grant: its own end where everything fits, else the first taking that does not.
-use Prim.Native.Nat.{ℕ, suc, _+_, _≤_, _<_}
-use mathlib.Core.Path.{_≡_, refl, ap, sym, _∙_}
+use Prim.Native.Nat.{ℕ, suc, _≤_}
+use mathlib.Core.Path.{_≡_, refl, ap, sym}
 use mathlib.Core.Logic.{_≢_}
-use mathlib.Core.Bool.{Bool, true, false, _&&_}
-use mathlib.Core.List.{List, [], _∷_, _++_}
+use mathlib.Core.Bool.{true, false, _&&_}
+use mathlib.Core.List.{List}
 use native.Mathlib.Omega.{arith}
-use lib.ListN.{length}
 use lib.Dec.{leb}
 use borrow.Author.Tests.{lt-leb}
 use Rattle.meaning.specs.Run.{Resource, steps, shapes, entries, textBytes, picture, Taking, End, result, error, unfinished, Run}
 use Rattle.meaning.specs.Program.{Outcome, accepted, drawn}
-use Rattle.meaning.specs.Book.{Amounts, nothingYet, fits, Booked, allFit, lacking, book, Answer, pictured, number, undecided, shortageOf, lengthNeeded, answerTo, settled, booked}
-use Rattle.meaning.specs.Claims.{namesShortage, totalFrom, totalOf, FirstShort, shortageAt}
-use Rattle.meaning.proofs.Booking.{taken, total-taken, onFit, book-append, Books, fit, short, books, all-fit, book-short}
+use Rattle.meaning.specs.Book.{Amounts, nothingYet, Booked, allFit, lacking, book, pictured, number, undecided, shortageOf, answerTo, settled, booked}
+use Rattle.meaning.specs.Claims.{namesShortage, totalOf, FirstShort, shortageAt}
+use Rattle.meaning.proofs.Booking.{total-taken, onFit, book-append, Books, fit, short, books, book-short}
 use Rattle.meaning.proofs.Turns.{Extends, same, longer}
-use Rattle.meaning.proofs.Ends.{Many, Ending, Ended}
+use Rattle.meaning.proofs.Ends.{Ending, Ended}
 use Rattle.meaning.proofs.Beginnings.{ended-many}
 
 -- ---- answers are told apart

@@ -1,16 +1,14 @@
 -- Grants: a larger one changes nothing that named no shortage, and a shortage is answered exactly where a taking does not fit.
-use Prim.Native.Nat.{ℕ, suc, _+_, _≤_, _<_}
-use mathlib.Core.Path.{_≡_, refl, ap, sym, _∙_}
-use mathlib.Core.Logic.{_≢_}
-use mathlib.Core.Bool.{Bool, true, false, true≢false}
-use mathlib.Core.List.{List, [], _∷_, _++_}
+use Prim.Native.Nat.{ℕ, suc}
+use mathlib.Core.Path.{_≡_, ap, sym, _∙_}
+use mathlib.Core.Bool.{true, false, true≢false}
+use mathlib.Core.List.{List}
 use native.Mathlib.Omega.{arith}
 use native.Mathlib.Nat.{le-trans}
-use lib.ListN.{length, take}
-use Rattle.meaning.specs.Basics.{laidOver}
-use Rattle.meaning.specs.Run.{Resource, steps, picture, Taking, unfinished, Run}
+use lib.ListN.{take}
+use Rattle.meaning.specs.Run.{steps, picture, Taking, Run}
 use Rattle.meaning.specs.Program.{drawing, Outcome}
-use Rattle.meaning.specs.Book.{Amounts, nothingYet, allFit, book, Answer, pictured, number, undecided, answerTo, booked}
+use Rattle.meaning.specs.Book.{nothingYet, allFit, book, pictured, booked}
 use Rattle.meaning.specs.Call.{Call, admitted, granted, grantedTo, runOf, answer, outAfter}
 use Rattle.meaning.specs.Claims.{beginningOf, namesShortage, totalOf, FirstShort, shortageAt, Larger, LargerGrant, ShortageExact}
 use Rattle.meaning.proofs.Booking.{all-fit, short-append}
@@ -18,7 +16,7 @@ use Rattle.meaning.proofs.Turns.{Extends, same, longer, specified-exten
 use Rattle.meaning.proofs.Beginnings.{extends-behind}
 use Rattle.meaning.proofs.Settling.{number-decided, shortage-named, end-unnamed, booked-short, booked-fit, Settles, complete, stopped}
 use Rattle.meaning.proofs.Answers.{answer-admitted, run-ended, run-settles, enough, run-beginning, beginnings-decide}
-use Rattle.meaning.proofs.Pictures.{laid-front, Fitting, fitting, Drawn, call-drawn, front-drawn, drawn-within}
+use Rattle.meaning.proofs.Pictures.{fitting, call-drawn, front-drawn, drawn-within}
 
 -- ---- a larger grant
 -- the longer run

@@ -2,14 +2,14 @@
 use Prim.Native.Nat.{ℕ, zero, suc, _≤_}
 use mathlib.Core.Path.{_≡_, refl, ap, sym, _∙_}
 use mathlib.Core.Bool.{Bool, true, false}
-use mathlib.Core.List.{List, [], _∷_, _++_, append-assoc, append-nil}
+use mathlib.Core.List.{List, [], _++_, append-assoc, append-nil}
 use native.Mathlib.Nat.{not-suc-le-zero, le-of-suc-le-suc}
 use lib.IntN.{ℤ}
 use Rattle.meaning.specs.Basics.{if_then_else_}
 use Rattle.meaning.specs.Tree.{Statement, declare, assign, update, when, while, return, block, act, Statements, only, first}
 use Rattle.meaning.specs.Value.{Value, integer, string, boolean, none, table, shape}
 use Rattle.meaning.specs.State.{State}
-use Rattle.meaning.specs.Run.{Taking, End, result, error, unfinished, Run, run, Action, following, goOn, _>>=_}
+use Rattle.meaning.specs.Run.{Taking, End, result, error, unfinished, Run, Action, following, goOn, _>>=_}
 use Rattle.meaning.specs.Operator.{withBoolean}
 use Rattle.meaning.specs.Execute.{Flow, onward, returned, continue, looping, execute, executeAll}
 use Rattle.meaning.specs.Program.{Operation, checking, measuring, drawing, empty, painting, performing, specified}
@@ -88,6 +88,7 @@ loop-lengthens (suc n) (suc n′) p test l h =
 
 mutual
   unfolding execute executeAll
+
   execute-lengthens : (s : Statement) {n n′ : ℕ} → n ≤ n′ → Lengthens (execute s n) (execute s n′)
   execute-lengthens (declare p x) l = unchanged
   execute-lengthens (assign p x e) l = unchanged
