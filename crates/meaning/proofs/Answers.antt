@@ -22,7 +22,8 @@ pub answer-admitted : (c : Call) → admitted c ≡ true → answer c ≡ booked
 unfolding answer if_then_else_
 answer-admitted c e = rw e
 
-pub out-admitted : (c : Call) → admitted c ≡ true → outAfter c ≡ outAfterEnd (c .operation) (book (grantedTo c) nothingYet (runOf c .takings)) (runOf c .end) (c .out)
+pub out-admitted : (c : Call) → admitted c ≡ true →
+    outAfter c ≡ outAfterEnd (c .operation) (book (grantedTo c) nothingYet (runOf c .takings)) (runOf c .end) (c .out)
 unfolding outAfter if_then_else_
 out-admitted c e = rw e
 
@@ -71,7 +72,8 @@ module _ (c : Call) where
   unfolding beginning runOf
   run-beginning = extends-cut (c .grants .steps) (extending (suc (c .grants .steps)) (suc enough) (omega arith))
 
-  decides : admitted c ≡ true → (n : ℕ) → booked (grantedTo c) (beginningOf c n) ≢ undecided → booked (grantedTo c) (beginningOf c n) ≡ answer c
+  decides : admitted c ≡ true → (n : ℕ) → booked (grantedTo c) (beginningOf c n) ≢ undecided →
+      booked (grantedTo c) (beginningOf c n) ≡ answer c
   decides a n h =
       sym (booked-extends (grantedTo c) (beginning-run n) h)
       ∙ booked-extends (grantedTo c) (call-run n) (booked-decided (grantedTo c) (runOf c) (run-ended c))
@@ -84,7 +86,8 @@ beginnings-decide c a = (
 )
 
 -- ---- numbers write nothing
-end-writes-nothing : (o : Operation) (x : Booked) (e : End Outcome) (out : List ℕ) {m p n l : ℕ} → settled x e ≡ number m p n l → outAfterEnd o x e out ≡ out
+end-writes-nothing : (o : Operation) (x : Booked) (e : End Outcome) (out : List ℕ) {m p n l : ℕ} → settled x e ≡ number m p n l →
+    outAfterEnd o x e out ≡ out
 unfolding settled answerTo outAfterEnd
 end-writes-nothing checking x e out h = refl
 end-writes-nothing measuring x e out h = refl
@@ -99,6 +102,7 @@ unfolding answer outAfter if_then_else_ booked
 numbers-write-nothing c m p n l = by (admitted c)
   where
     by : (b : Bool) → (if b then (λ _. booked (grantedTo c) (runOf c)) else λ _. number 71 0 0 0) ≡ number m p n l →
-        (if b then (λ _. outAfterEnd (c .operation) (book (grantedTo c) nothingYet (runOf c .takings)) (runOf c .end) (c .out)) else λ _. c .out) ≡ c .out
+        (if b then (λ _. outAfterEnd (c .operation) (book (grantedTo c) nothingYet (runOf c .takings)) (runOf c .end) (c .out))
+        else λ _. c .out) ≡ c .out
     by true h = end-writes-nothing (c .operation) (book (grantedTo c) nothingYet (runOf c .takings)) (runOf c .end) (c .out) h
     by false h = refl

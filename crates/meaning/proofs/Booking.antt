@@ -57,7 +57,8 @@ same-resource r q e = sym (at-number r) ∙ ap resourceAt e ∙ at-number q
 
 -- what a taking adds to a resource fits if it does at the taking's own
 module _ (g total : Amounts) (t : Taking) where
-  added-by : (b : Bool) (r : Resource) → eqb (resourceNumber r) (resourceNumber (t .of)) ≡ b → total r ≤ g r → total (t .of) + t .amount ≤ g (t .of) → total r + cond b (t .amount) 0 ≤ g r
+  added-by : (b : Bool) (r : Resource) → eqb (resourceNumber r) (resourceNumber (t .of)) ≡ b → total r ≤ g r →
+      total (t .of) + t .amount ≤ g (t .of) → total r + cond b (t .amount) 0 ≤ g r
   added-by true r e h w = rw (same-resource r (t .of) (eqb-true _ _ e)) w
   added-by false r e h w = omega arith
 
@@ -70,17 +71,20 @@ unfoldable pub onFit : Booked → (Amounts → Booked) → Booked
 onFit (allFit total) k = k total
 onFit (lacking t total) k = lacking t total
 
-if-fit : (b : Bool) (x y : Unit {0} → Booked) (k : Amounts → Booked) → onFit (if b then x else y) k ≡ if b then (λ _. onFit (x tt) k) else λ _. onFit (y tt) k
+if-fit : (b : Bool) (x y : Unit {0} → Booked) (k : Amounts → Booked) →
+    onFit (if b then x else y) k ≡ if b then (λ _. onFit (x tt) k) else λ _. onFit (y tt) k
 unfolding if_then_else_
 if-fit true x y k = refl
 if-fit false x y k = refl
 
-pub book-append : (g total : Amounts) (ts us : List Taking) → book g total (ts ++ us) ≡ onFit (book g total ts) (λ total′. book g total′ us)
+pub book-append : (g total : Amounts) (ts us : List Taking) →
+    book g total (ts ++ us) ≡ onFit (book g total ts) (λ total′. book g total′ us)
 unfolding book onFit
 book-append g total [] us = refl
 book-append g total (t ∷ ts) us = rw (book-append g (added total t) ts us) (sym (if-fit (fits g total t) _ _ _))
 
-book-cons : (g total : Amounts) (t : Taking) (ts : List Taking) → fits g total t ≡ true → book g total (t ∷ ts) ≡ book g (added total t) ts
+book-cons : (g total : Amounts) (t : Taking) (ts : List Taking) → fits g total t ≡ true →
+    book g total (t ∷ ts) ≡ book g (added total t) ts
 unfolding book if_then_else_
 book-cons g total t ts e = rw e
 
@@ -92,12 +96,15 @@ book-stop g total t ts e = rw e
 -- all takings fit, and so do their totals; or one is the first that does not
 pub data Books (g total : Amounts) (ts : List Taking) : Type 0 where
   fit : book g total ts ≡ allFit (totalFrom total ts) → ((r : Resource) → totalFrom total ts r ≤ g r) → Books g total ts
-  short : (before : List Taking) (t : Taking) (behind : List Taking) → ts ≡ before ++ (t ∷ behind) → book g total before ≡ allFit (totalFrom total before) → fits g (totalFrom total before) t ≡ false → Books g total ts
+  short : (before : List Taking) (t : Taking) (behind : List Taking) → ts ≡ before ++ (t ∷ behind) →
+      book g total before ≡ allFit (totalFrom total before) → fits g (totalFrom total before) t ≡ false → Books g total ts
 
-books-cons : (g total : Amounts) (t : Taking) (ts : List Taking) → fits g total t ≡ true → Books g (added total t) ts → Books g total (t ∷ ts)
+books-cons : (g total : Amounts) (t : Taking) (ts : List Taking) → fits g total t ≡ true → Books g (added total t) ts →
+    Books g total (t ∷ ts)
 unfolding totalFrom
 books-cons g total t ts e (fit b w) = fit (book-cons g total t ts e ∙ b) w
-books-cons g total t ts e (short before u behind s b f) = short (t ∷ before) u behind (ap (λ (l : List Taking). t ∷ l) s) (book-cons g total t before e ∙ b) f
+books-cons g total t ts e (short before u behind s b f) =
+    short (t ∷ before) u behind (ap (λ (l : List Taking). t ∷ l) s) (book-cons g total t before e ∙ b) f
 
 pub books : (g total : Amounts) (ts : List Taking) → ((r : Resource) → total r ≤ g r) → Books g total ts
 unfolding totalFrom book
@@ -109,24 +116,29 @@ books g total (t ∷ ts) h = by (fits g total t) refl (λ e. books g (added tota
     by false e k = short [] t ts refl refl e
 
 -- takings fit if their totals do
-fits-within : (g total : Amounts) (t : Taking) (ts : List Taking) → totalFrom (added total t) ts (t .of) ≤ g (t .of) → fits g total t ≡ true
+fits-within : (g total : Amounts) (t : Taking) (ts : List Taking) → totalFrom (added total t) ts (t .of) ≤ g (t .of) →
+    fits g total t ≡ true
 unfolding fits added part
 fits-within g total t ts h = le-leb (total (t .of) + t .amount) (g (t .of)) (omega (arith, total-taken (added total t) ts (t .of), part-own t))
 
-pub all-fit : (g total : Amounts) (ts : List Taking) → ((r : Resource) → totalFrom total ts r ≤ g r) → book g total ts ≡ allFit (totalFrom total ts)
+pub all-fit : (g total : Amounts) (ts : List Taking) → ((r : Resource) → totalFrom total ts r ≤ g r) →
+    book g total ts ≡ allFit (totalFrom total ts)
 unfolding totalFrom book
 all-fit g total [] h = refl
 all-fit g total (t ∷ ts) h = book-cons g total t ts (fits-within g total t ts (h (t .of))) ∙ all-fit g (added total t) ts h
 
 -- ---- the first that does not fit
 -- the book stops there
-pub book-short : (g : Amounts) (ts before : List Taking) (t : Taking) → FirstShort g ts before t → book g nothingYet ts ≡ lacking t (totalOf before)
+pub book-short : (g : Amounts) (ts before : List Taking) (t : Taking) → FirstShort g ts before t →
+    book g nothingYet ts ≡ lacking t (totalOf before)
 unfolding onFit
 book-short g ts before t h =
-    ap (book g nothingYet) (h .stand) ∙ book-append g nothingYet before (t ∷ h .behind) ∙ rw (h .beforeFit) (book-stop g (totalOf before) t (h .behind) (h .doesNotFit))
+    ap (book g nothingYet) (h .stand) ∙ book-append g nothingYet before (t ∷ h .behind)
+    ∙ rw (h .beforeFit) (book-stop g (totalOf before) t (h .behind) (h .doesNotFit))
 
 -- and takings behind change nothing
-pub short-append : {g : Amounts} {ts before : List Taking} {t : Taking} (us : List Taking) → FirstShort g ts before t → FirstShort g (ts ++ us) before t
+pub short-append : {g : Amounts} {ts before : List Taking} {t : Taking} (us : List Taking) → FirstShort g ts before t →
+    FirstShort g (ts ++ us) before t
 short-append {g} {ts} {before} {t} us h = record {
   behind = h .behind ++ us;
   stand = ap (λ (l : List Taking). l ++ us) (h .stand) ∙ append-assoc before (t ∷ h .behind) us;

@@ -64,13 +64,15 @@ ending-later n ts us (error m p) h = h
 ending-later n ts us unfinished h = omega (arith, taken-append steps ts us, length-append ts us)
 
 module _ {A B : Type 0} where
-  pub ended-go : (n : ℕ) (ts : List Taking) (e : End A) (k : A → Action B) → Ending n ts e → ((a : A) (s : State) → Ended n (k a s)) → Ended n (goOn ts e k)
+  pub ended-go : (n : ℕ) (ts : List Taking) (e : End A) (k : A → Action B) → Ending n ts e →
+      ((a : A) (s : State) → Ended n (k a s)) → Ended n (goOn ts e k)
   unfolding goOn
   ended-go n ts (result a s) k h f = ending-later n ts (k a s .takings) (k a s .end) (f a s)
   ended-go n ts (error m p) k h f = h
   ended-go n ts unfinished k h f = h
 
-  plain-go : (ts : List Taking) (e : End A) (k : A → Action B) → taken picture ts ≡ 0 → ((a : A) (s : State) → taken picture (k a s .takings) ≡ 0) → taken picture (goOn ts e k .takings) ≡ 0
+  plain-go : (ts : List Taking) (e : End A) (k : A → Action B) → taken picture ts ≡ 0 →
+      ((a : A) (s : State) → taken picture (k a s .takings) ≡ 0) → taken picture (goOn ts e k .takings) ≡ 0
   unfolding goOn
   plain-go ts (result a s) k h f = omega (arith, taken-append picture ts (k a s .takings), f a s)
   plain-go ts (error m p) k h f = h
@@ -132,7 +134,8 @@ module _ {n : ℕ} where
   integer-lawful p (table t) h = fail-20 p
   integer-lawful p (shape i) h = fail-20 p
 
-  string-lawful : {A : Type 0} (p : ℕ) (v : Value) {k : List ℕ → Action A} → ((t : List ℕ) → Lawful n (k t)) → Lawful n (withString p v k)
+  string-lawful : {A : Type 0} (p : ℕ) (v : Value) {k : List ℕ → Action A} → ((t : List ℕ) → Lawful n (k t)) →
+      Lawful n (withString p v k)
   unfolding withString
   string-lawful p (integer z) h = fail-20 p
   string-lawful p (string t) h = h t
@@ -141,7 +144,8 @@ module _ {n : ℕ} where
   string-lawful p (table t) h = fail-20 p
   string-lawful p (shape i) h = fail-20 p
 
-  boolean-lawful : {A : Type 0} (p : ℕ) (v : Value) {k : Bool → Action A} → ((b : Bool) → Lawful n (k b)) → Lawful n (withBoolean p v k)
+  boolean-lawful : {A : Type 0} (p : ℕ) (v : Value) {k : Bool → Action A} → ((b : Bool) → Lawful n (k b)) →
+      Lawful n (withBoolean p v k)
   unfolding withBoolean
   boolean-lawful p (integer z) h = fail-20 p
   boolean-lawful p (string t) h = fail-20 p
@@ -168,7 +172,8 @@ module _ {n : ℕ} where
   shape-lawful p (table t) h = fail-20 p
   shape-lawful p (shape i) h = h i
 
-  figure-lawful : {A : Type 0} (p : ℕ) (v : Value) {k : Figure → Action A} → ((a : Figure) → Lawful n (k a)) → Lawful n (withFigure p v k)
+  figure-lawful : {A : Type 0} (p : ℕ) (v : Value) {k : Figure → Action A} → ((a : Figure) → Lawful n (k a)) →
+      Lawful n (withFigure p v k)
   unfolding withFigure
   figure-lawful p v h = shape-lawful p v λ i. bind-lawful current-lawful λ s. h _
 
@@ -238,17 +243,20 @@ module _ {n : ℕ} where
   one-lawful p [] h = fail-20 p
   one-lawful p (v ∷ vs) h = none-lawful p vs (h v)
 
-  two-lawful : (p : ℕ) (vs : List Value) {k : Value → Value → Action Value} → ((v w : Value) → Lawful n (k v w)) → Lawful n (withTwo p vs k)
+  two-lawful : (p : ℕ) (vs : List Value) {k : Value → Value → Action Value} → ((v w : Value) → Lawful n (k v w)) →
+      Lawful n (withTwo p vs k)
   unfolding withTwo
   two-lawful p [] h = fail-20 p
   two-lawful p (v ∷ vs) h = one-lawful p vs (h v)
 
-  three-lawful : (p : ℕ) (vs : List Value) {k : Value → Value → Value → Action Value} → ((u v w : Value) → Lawful n (k u v w)) → Lawful n (withThree p vs k)
+  three-lawful : (p : ℕ) (vs : List Value) {k : Value → Value → Value → Action Value} → ((u v w : Value) → Lawful n (k u v w)) →
+      Lawful n (withThree p vs k)
   unfolding withThree
   three-lawful p [] h = fail-20 p
   three-lawful p (v ∷ vs) h = two-lawful p vs (h v)
 
-  four-lawful : (p : ℕ) (vs : List Value) {k : Value → Value → Value → Value → Action Value} → ((t u v w : Value) → Lawful n (k t u v w)) → Lawful n (withFour p vs k)
+  four-lawful : (p : ℕ) (vs : List Value) {k : Value → Value → Value → Value → Action Value} →
+      ((t u v w : Value) → Lawful n (k t u v w)) → Lawful n (withFour p vs k)
   unfolding withFour
   four-lawful p [] h = fail-20 p
   four-lawful p (v ∷ vs) h = three-lawful p vs (h v)
@@ -436,15 +444,18 @@ module _ {n : ℕ} where
 
 -- ---- operations
 -- drawing takes the picture too
-drawing-ended : {n : ℕ} {m : Action (List ℕ)} → Lawful n m → Ended n ((m >>= λ b. take picture (length b) 0 >>= λ _. give (Program.drawn b)) empty)
+drawing-ended : {n : ℕ} {m : Action (List ℕ)} → Lawful n m →
+    Ended n ((m >>= λ b. take picture (length b) 0 >>= λ _. give (Program.drawn b)) empty)
 unfolding _>>=_ take give goOn
 drawing-ended {n} {m} h = ended-go n (m empty .takings) (m empty .end) _ (h .ended empty) (λ b s. tt)
 
-performing-ended : (o : Operation) (program : List ℕ) (width height : ℤ) (n : ℕ) → Ended n (performing o program width height n empty)
+performing-ended : (o : Operation) (program : List ℕ) (width height : ℤ) (n : ℕ) →
+    Ended n (performing o program width height n empty)
 unfolding performing
 performing-ended checking program width height n =
     bind-lawful (sized-lawful program) (λ _. bind-lawful (understood-lawful _ (reading-low program)) λ m. give-lawful accepted) .ended empty
-performing-ended measuring program width height n = bind-lawful (painting-lawful program width height) (λ b. give-lawful (Program.drawn b)) .ended empty
+performing-ended measuring program width height n =
+    bind-lawful (painting-lawful program width height) (λ b. give-lawful (Program.drawn b)) .ended empty
 performing-ended drawing program width height n = drawing-ended (painting-lawful program width height)
 
 -- THE LAW

@@ -14,12 +14,12 @@ use Rattle.meaning.specs.State.{State}
 use Rattle.meaning.specs.Run.{Resource, steps, shapes, entries, textBytes, picture, Taking, taking, End, result, error, unfinished, Run, run, Action, goOn, _>>=_, give}
 use Rattle.meaning.specs.Run as Run
 use Rattle.meaning.specs.Program.{Operation, measuring, drawing, Outcome, drawn, empty, painting, performing, specified}
-use Rattle.meaning.specs.Book.{Amounts, nothingYet, resourceNumber, fits, allFit, book, pictured, number, undecided, shortageOf, lengthNeeded, answerTo, booked}
+use Rattle.meaning.specs.Book.{Amounts, nothingYet, resourceNumber, fits, pictured, number, undecided, shortageOf, lengthNeeded, answerTo, booked}
 use Rattle.meaning.specs.Call.{Call, Grants, admitted, granted, grantedTo, runOf, answer, outAfterEnd, outAfter}
 use Rattle.meaning.specs.Claims.{totalOf, shortageAt, PicturesFillTheFront, SameButDrawn, MeasuredIsDrawn}
 use Rattle.meaning.proofs.Booking.{part, taken, taken-append, total-taken, all-fit}
 use Rattle.meaning.proofs.Ends.{painting-lawful}
-use Rattle.meaning.proofs.Settling.{number-no-picture, booked-short, booked-fit, Settles, complete, stopped}
+use Rattle.meaning.proofs.Settling.{number-no-picture, result-finished, booked-short, Complete, within-complete, booked-complete, Settles, complete, stopped}
 use Rattle.meaning.proofs.Answers.{answer-admitted, out-admitted, run-settles}
 
 -- ---- what is laid over
@@ -42,11 +42,10 @@ picture-admitted c l n = by (admitted c)
     by true h = refl
     by false h = absurd (number-no-picture h)
 
--- all of its takings fit, and its end is the answer
+-- its run is complete, and the run's end is the answer
 pub record Fitting (c : Call) (l n : ℕ) : Type 0 where
   pub allowed : admitted c ≡ true
-  pub booking : book (grantedTo c) nothingYet (runOf c .takings) ≡ allFit (totalOf (runOf c .takings))
-  pub within : (x : Resource) → totalOf (runOf c .takings) x ≤ grantedTo c x
+  pub whole : Complete (grantedTo c) (runOf c)
   pub ending : answerTo (runOf c .end) (totalOf (runOf c .takings) steps) ≡ pictured l n
 
 pub fitting : (c : Call) (l n : ℕ) → answer c ≡ pictured l n → Fitting c l n
@@ -56,12 +55,12 @@ fitting c l n h = by (run-settles c)
     a : admitted c ≡ true
     a = picture-admitted c l n h
 
-    k : booked (grantedTo c) (runOf c) ≡ pictured l n
-    k = sym (answer-admitted c a) ∙ h
+    e : booked (grantedTo c) (runOf c) ≡ pictured l n
+    e = sym (answer-admitted c a) ∙ h
 
     by : Settles (grantedTo c) (runOf c) → Fitting c l n
-    by (complete b w u) = record { allowed = a; booking = b; within = w; ending = sym (booked-fit (grantedTo c) (runOf c) b) ∙ k }
-    by (stopped before t s) = absurd (number-no-picture (sym (booked-short (grantedTo c) (runOf c) before t s) ∙ k))
+    by (complete k) = record { allowed = a; whole = k; ending = sym (booked-complete (grantedTo c) (runOf c) k) ∙ e }
+    by (stopped before t s) = absurd (number-no-picture (sym (booked-short (grantedTo c) (runOf c) before t s) ∙ e))
 
 -- ---- drawing
 -- the run of an operation that comes behind a painting
@@ -76,7 +75,8 @@ pub record Drawn (r : Run Outcome) (l : ℕ) : Type 0 where
   pub long : length bytes ≡ l
   pub takes : l ≤ taken picture (r .takings)
 
-drawn-by : (ts : List Taking) (e : End (List ℕ)) {l n : ℕ} (m : ℕ) → answerTo (goOn ts e showing .end) m ≡ pictured l n → Drawn (goOn ts e showing) l
+drawn-by : (ts : List Taking) (e : End (List ℕ)) {l n : ℕ} (m : ℕ) → answerTo (goOn ts e showing .end) m ≡ pictured l n →
+    Drawn (goOn ts e showing) l
 unfolding goOn _>>=_ Run.take give answerTo taken part resourceNumber
 drawn-by ts (result b s) {l} m h =
     let e : length b ≡ l = cc in
@@ -84,7 +84,8 @@ drawn-by ts (result b s) {l} m h =
 drawn-by ts (error m p) n h = absurd (number-no-picture h)
 drawn-by ts unfinished n h = absurd (undecided-no-picture h)
 
-drawn-run : (o : Operation) (program : List ℕ) (width height : ℤ) (k m l n : ℕ) → o ≡ drawing → answerTo (specified o program width height k .end) m ≡ pictured l n → Drawn (specified o program width height k) l
+drawn-run : (o : Operation) (program : List ℕ) (width height : ℤ) (k m l n : ℕ) → o ≡ drawing →
+    answerTo (specified o program width height k .end) m ≡ pictured l n → Drawn (specified o program width height k) l
 unfolding specified performing _>>=_
 drawn-run o program width height k m l n e =
     rw e (drawn-by (painting program width height k empty .takings) (painting program width height k empty .end) m)
@@ -95,28 +96,27 @@ unfolding runOf
 call-drawn c {l} {n} e h = drawn-run (c .operation) (c .program) (c .width) (c .height) (suc (c .grants .steps)) _ l n e (h .ending)
 
 -- and writes it
-pub out-drawn : (c : Call) {total : Amounts} {b : List ℕ} {s : State} →
-    admitted c ≡ true → c .operation ≡ drawing → book (grantedTo c) nothingYet (runOf c .takings) ≡ allFit total → runOf c .end ≡ result (drawn b) s →
-    outAfter c ≡ laidOver b (c .out)
+pub out-drawn : (c : Call) {b : List ℕ} {s : State} → admitted c ≡ true → c .operation ≡ drawing →
+    Complete (grantedTo c) (runOf c) → runOf c .end ≡ result (drawn b) s → outAfter c ≡ laidOver b (c .out)
 unfolding outAfterEnd
-out-drawn c a o e u = out-admitted c a ∙ rw (e, u, o)
+out-drawn c a o k u = out-admitted c a ∙ rw (k .booking, u, o)
 
--- whose front it is
-pub front-drawn : (c : Call) (l : ℕ) {total : Amounts} {b : List ℕ} {s : State} →
-    admitted c ≡ true → c .operation ≡ drawing → book (grantedTo c) nothingYet (runOf c .takings) ≡ allFit total → runOf c .end ≡ result (drawn b) s →
-    length b ≡ l → l ≤ length (c .out) → take l (outAfter c) ≡ b
-front-drawn c l {b = b} a o e u k h = ap (take l) (out-drawn c a o e u) ∙ rw (← k) (laid-front b (c .out) (omega arith))
+-- so that it is the out slice's front
+pub front-drawn : (c : Call) (l : ℕ) {b : List ℕ} {s : State} → admitted c ≡ true → c .operation ≡ drawing →
+    Complete (grantedTo c) (runOf c) → runOf c .end ≡ result (drawn b) s → length b ≡ l → l ≤ length (c .out) →
+    take l (outAfter c) ≡ b
+front-drawn c l {b} a o k u e h = ap (take l) (out-drawn c a o k u) ∙ rw (← e) (laid-front b (c .out) (omega arith))
 
 pub drawn-within : (c : Call) (l n : ℕ) → Fitting c l n → Drawn (runOf c) l → l ≤ length (c .out)
 unfolding granted
-drawn-within c l n f d = omega (arith, d .takes, f .within picture, total-taken nothingYet (runOf c .takings) picture)
+drawn-within c l n f d = omega (arith, d .takes, f .whole .within picture, total-taken nothingYet (runOf c .takings) picture)
 
 -- THE CLAIM
 pub pictures-fill-the-front : PicturesFillTheFront
 pictures-fill-the-front c l n o h =
     let f = fitting c l n h in
     let d = call-drawn c o f in
-    (d .bytes, d .long, drawn-within c l n f d, out-drawn c (f .allowed) o (f .booking) (d .ends))
+    (d .bytes, d .long, drawn-within c l n f d, out-drawn c (f .allowed) o (f .whole) (d .ends))
 
 -- ---- measuring
 -- what a painting takes, where its measure is answered
@@ -150,7 +150,8 @@ measured-by ts (error m p) h w = absurd (number-no-picture h)
 measured-by ts unfinished h w = absurd (undecided-no-picture h)
 
 -- a drawing of what was measured
-module _ (g : Grants) (out′ out b : List ℕ) (s : State) (ts : List Taking) (none : taken picture ts ≡ 0) (within : (x : Resource) → taken x ts ≤ granted g out′ x) where
+module _ (g : Grants) (out′ out b : List ℕ) (s : State) (ts : List Taking) (none : taken picture ts ≡ 0)
+    (within : (x : Resource) → taken x ts ≤ granted g out′ x) where
   abbrev whole : Taking
   whole = taking picture (length b) 0
 
@@ -181,7 +182,8 @@ module _ (g : Grants) (out′ out b : List ℕ) (s : State) (ts : List Taking) (
   shown-fit : length b ≤ length out → booked (granted g out) shown ≡ pictured (length b) (taken steps ts)
   unfolding answerTo part resourceNumber
   shown-fit l =
-      booked-fit (granted g out) shown (all-fit (granted g out) nothingYet (ts ++ (whole ∷ [])) (λ x. omega (arith, shown-total x, whole-within l x)))
+      booked-complete (granted g out) shown
+      (within-complete (granted g out) shown (λ x. omega (arith, shown-total x, whole-within l x)) result-finished)
       ∙ ap (pictured (length b)) (shown-total steps ∙ omega arith)
 
   shown-short : length out < length b → booked (granted g out) shown ≡ number 80 0 (taken steps ts) (length b)
@@ -196,7 +198,8 @@ module _ (g : Grants) (out′ out b : List ℕ) (s : State) (ts : List Taking) (
       ∙ ap (λ (k : ℕ). number 80 0 k (length b)) (omega (arith, total-taken nothingYet ts steps))
 
 -- the drawing's run, from the painting's
-drawn-is : (ts : List Taking) (e : End (List ℕ)) (b : List ℕ) (s : State) → e ≡ result b s → goOn ts e showing ≡ run (ts ++ (taking picture (length b) 0 ∷ [])) (result (drawn b) s)
+drawn-is : (ts : List Taking) (e : End (List ℕ)) (b : List ℕ) (s : State) → e ≡ result b s →
+    goOn ts e showing ≡ run (ts ++ (taking picture (length b) 0 ∷ [])) (result (drawn b) s)
 unfolding goOn _>>=_ Run.take give
 drawn-is ts e b s u = rw u
 
@@ -206,12 +209,14 @@ module _ (program : List ℕ) (width height : ℤ) (k l n : ℕ) where
 
   measured-run : (o : Operation) (g : Amounts) → o ≡ measuring →
       answerTo (specified o program width height k .end) (totalOf (specified o program width height k .takings) steps) ≡ pictured l n →
-      ((x : Resource) → totalOf (specified o program width height k .takings) x ≤ g x) → Measured (painted .end) (painted .takings) g l n
+      ((x : Resource) → totalOf (specified o program width height k .takings) x ≤ g x) →
+      Measured (painted .end) (painted .takings) g l n
   unfolding specified performing _>>=_
   measured-run o g e = rw e (measured-by (painted .takings) (painted .end))
 
   module _ (g : Grants) (out′ out : List ℕ) (h : Measured (painted .end) (painted .takings) (granted g out′) l n) where
-    drawing-is : specified drawing program width height k ≡ run (painted .takings ++ (taking picture (length (h .bytes)) 0 ∷ [])) (result (drawn (h .bytes)) (h .final))
+    drawing-is : specified drawing program width height k
+        ≡ run (painted .takings ++ (taking picture (length (h .bytes)) 0 ∷ [])) (result (drawn (h .bytes)) (h .final))
     unfolding specified performing _>>=_
     drawing-is = drawn-is (painted .takings) (painted .end) (h .bytes) (h .final) (h .ends)
 
@@ -231,7 +236,9 @@ module _ (program : List ℕ) (width height : ℤ) (k l n : ℕ) where
         ∙ rw (h .long, h .steps-counted)
 
 -- the run of a call that draws what another measures
-same-painting : (c d : Call) → SameButDrawn c d → booked (grantedTo d) (runOf d) ≡ booked (granted (c .grants) (d .out)) (specified drawing (c .program) (c .width) (c .height) (suc (c .grants .steps)))
+same-painting : (c d : Call) → SameButDrawn c d →
+    booked (grantedTo d) (runOf d)
+    ≡ booked (granted (c .grants) (d .out)) (specified drawing (c .program) (c .width) (c .height) (suc (c .grants .steps)))
 unfolding runOf
 same-painting c d s = cc
 
@@ -241,7 +248,7 @@ unfolding runOf
 measured-is-drawn c d a a′ s l n h =
     let f = fitting c l n h in
     let k = suc (c .grants .steps) in
-    let m = measured-run (c .program) (c .width) (c .height) k l n (c .operation) (grantedTo c) (s .measures) (f .ending) (f .within) in
+    let m = measured-run (c .program) (c .width) (c .height) k l n (c .operation) (grantedTo c) (s .measures) (f .ending) (f .whole .within) in
     let e = answer-admitted d a′ ∙ same-painting c d s in (
       (λ w. e ∙ drawing-fits (c .program) (c .width) (c .height) k l n (c .grants) (c .out) (d .out) m w),
       λ w. e ∙ drawing-short (c .program) (c .width) (c .height) k l n (c .grants) (c .out) (d .out) m w,

@@ -52,7 +52,8 @@ module _ {A B : Type 0} where
   after-low {g = good a j} h f = f a j
   after-low {g = wrong n j} h f = record { low = h .low }
 
-  opening-low : (P : A → Type 0) (inside : Inside A) (p : ℕ) {k : A → Got B} → Within P inside → ((a : A) → P a → Low (k a)) → Low (opening inside p k)
+  opening-low : (P : A → Type 0) (inside : Inside A) (p : ℕ) {k : A → Got B} → Within P inside → ((a : A) → P a → Low (k a)) →
+      Low (opening inside p k)
   unfolding opening
   opening-low P noLevel p h f = wrong-75
   opening-low P (level a) p h f = f a h

@@ -7,16 +7,17 @@ use mathlib.Core.List.{List}
 use native.Mathlib.Omega.{arith}
 use lib.Dec.{leb}
 use borrow.Author.Tests.{lt-leb}
+use Rattle.meaning.specs.State.{State}
 use Rattle.meaning.specs.Run.{Resource, steps, shapes, entries, textBytes, picture, Taking, End, result, error, unfinished, Run}
 use Rattle.meaning.specs.Program.{Outcome, accepted, drawn}
 use Rattle.meaning.specs.Book.{Amounts, nothingYet, Booked, allFit, lacking, book, pictured, number, undecided, shortageOf, answerTo, settled, booked}
 use Rattle.meaning.specs.Claims.{namesShortage, totalOf, FirstShort, shortageAt}
-use Rattle.meaning.proofs.Booking.{total-taken, onFit, book-append, Books, fit, short, books, book-short}
+use Rattle.meaning.proofs.Booking.{total-taken, onFit, book-append, Books, fit, short, books, all-fit, book-short}
 use Rattle.meaning.proofs.Turns.{Extends, same, longer}
 use Rattle.meaning.proofs.Ends.{Ending, Ended}
 use Rattle.meaning.proofs.Beginnings.{ended-many}
 
--- ---- answers are told apart
+-- ---- answers and ends are told apart
 pub number-decided : {m p n l : ℕ} → number m p n l ≢ undecided
 number-decided e = let z : _≡_ {A = ℕ} 0 1 = cc in omega arith
 
@@ -25,6 +26,9 @@ pictured-decided e = let z : _≡_ {A = ℕ} 0 1 = cc in omega arith
 
 pub number-no-picture : {m p n l l′ n′ : ℕ} → number m p n l ≢ pictured l′ n′
 number-no-picture e = let z : _≡_ {A = ℕ} 0 1 = cc in omega arith
+
+pub result-finished : {a : Outcome} {s : State} → result a s ≢ unfinished
+result-finished e = let z : _≡_ {A = ℕ} 0 1 = cc in omega arith
 
 answer-decided : (e : End Outcome) (n : ℕ) → e ≢ unfinished → answerTo e n ≢ undecided
 unfolding answerTo
@@ -56,26 +60,42 @@ end-unnamed n c ts (error m p) h = rw (lt-leb 76 m h)
 end-unnamed n c ts unfinished h = refl
 
 -- the answer where a taking is the first that does not fit
-pub booked-short : (g : Amounts) (r : Run Outcome) (before : List Taking) (t : Taking) → FirstShort g (r .takings) before t → booked g r ≡ shortageAt before t
+pub booked-short : (g : Amounts) (r : Run Outcome) (before : List Taking) (t : Taking) → FirstShort g (r .takings) before t →
+    booked g r ≡ shortageAt before t
 unfolding booked settled shortageAt
 booked-short g r before t h = rw (book-short g (r .takings) before t h)
 
--- and where all fit
-pub booked-fit : (g : Amounts) (r : Run Outcome) → book g nothingYet (r .takings) ≡ allFit (totalOf (r .takings)) → booked g r ≡ answerTo (r .end) (totalOf (r .takings) steps)
-unfolding booked settled
-booked-fit g r e = rw e
-
 -- ---- the two ways of a run that ends or has counted more steps than are granted
+-- the run has ended, and all that it takes fits
+pub record Complete (g : Amounts) (r : Run Outcome) : Type 0 where
+  pub booking : book g nothingYet (r .takings) ≡ allFit (totalOf (r .takings))
+  pub within : (x : Resource) → totalOf (r .takings) x ≤ g x
+  pub finished : r .end ≢ unfinished
+
 pub data Settles (g : Amounts) (r : Run Outcome) : Type 0 where
-  complete : book g nothingYet (r .takings) ≡ allFit (totalOf (r .takings)) → ((x : Resource) → totalOf (r .takings) x ≤ g x) → r .end ≢ unfinished → Settles g r
+  complete : Complete g r → Settles g r
   stopped : (before : List Taking) (t : Taking) → FirstShort g (r .takings) before t → Settles g r
 
 pub settles : (g : Amounts) (r : Run Outcome) → Ended (suc (g steps)) r → Settles g r
 settles g r h = by (books g nothingYet (r .takings) (λ x. omega arith))
   where
     by : Books g nothingYet (r .takings) → Settles g r
-    by (fit b w) = complete b w (λ u. omega (arith, ended-many (suc (g steps)) r h u, w steps, total-taken nothingYet (r .takings) steps))
+    by (fit b w) = complete (record {
+      booking = b;
+      within = w;
+      finished = λ u. omega (arith, ended-many (suc (g steps)) r h u, w steps, total-taken nothingYet (r .takings) steps);
+    })
     by (short before t behind s b f) = stopped before t (record { behind = behind; stand = s; beforeFit = b; doesNotFit = f })
+
+-- a run that has ended is complete if its totals fit
+pub within-complete : (g : Amounts) (r : Run Outcome) → ((x : Resource) → totalOf (r .takings) x ≤ g x) → r .end ≢ unfinished →
+    Complete g r
+within-complete g r w u = record { booking = all-fit g nothingYet (r .takings) w; within = w; finished = u }
+
+-- the answer of a complete run is its end's
+pub booked-complete : (g : Amounts) (r : Run Outcome) → Complete g r → booked g r ≡ answerTo (r .end) (totalOf (r .takings) steps)
+unfolding booked settled
+booked-complete g r h = rw (h .booking)
 
 -- every such run is answered
 pub booked-decided : (g : Amounts) (r : Run Outcome) → Ended (suc (g steps)) r → booked g r ≢ undecided
@@ -83,7 +103,7 @@ unfolding shortageAt
 booked-decided g r h = by (settles g r h)
   where
     by : Settles g r → booked g r ≢ undecided
-    by (complete b w u) = rw (booked-fit g r b) (answer-decided (r .end) (totalOf (r .takings) steps) u)
+    by (complete k) = rw (booked-complete g r k) (answer-decided (r .end) (totalOf (r .takings) steps) (k .finished))
     by (stopped before t s) = rw (booked-short g r before t s) number-decided
 
 -- ---- what is decided stays so in a longer run

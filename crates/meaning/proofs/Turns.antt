@@ -21,8 +21,8 @@ pub data Extends {A : Type 0} (r r′ : Run A) : Type 0 where
   longer : r .end ≡ unfinished → (more : List Taking) → r′ .takings ≡ r .takings ++ more → Extends r r′
 
 -- so from every state
-pub record Lengthens {A : Type 0} (m m′ : Action A) : Type 0 where
-  pub from : (s : State) → Extends (m s) (m′ s)
+record Lengthens {A : Type 0} (m m′ : Action A) : Type 0 where
+  from : (s : State) → Extends (m s) (m′ s)
 
 -- ---- it goes through `do`
 after-takings : {A : Type 0} (ts : List Taking) {r r′ : Run A} → Extends r r′ → Extends (following ts r) (following ts r′)
@@ -30,7 +30,8 @@ after-takings ts (same e) = same (ap (following ts) e)
 after-takings ts {r} (longer u more e) = longer u more (ap (λ (l : List Taking). ts ++ l) e ∙ sym (append-assoc ts (r .takings) more))
 
 module _ {A B : Type 0} where
-  go-same : (ts : List Taking) (e : End A) (k k′ : A → Action B) → ((a : A) → Lengthens (k a) (k′ a)) → Extends (goOn ts e k) (goOn ts e k′)
+  go-same : (ts : List Taking) (e : End A) (k k′ : A → Action B) → ((a : A) → Lengthens (k a) (k′ a)) →
+      Extends (goOn ts e k) (goOn ts e k′)
   unfolding goOn
   go-same ts (result a s) k k′ h = after-takings ts (h a .from s)
   go-same ts (error n p) k k′ h = same refl
@@ -43,27 +44,31 @@ module _ {A B : Type 0} where
   go-behind ts (error n p) k = ([], sym (append-nil ts))
   go-behind ts unfinished k = ([], sym (append-nil ts))
 
-  go-on : (r r′ : Run A) (k k′ : A → Action B) → Extends r r′ → ((a : A) → Lengthens (k a) (k′ a)) → Extends (goOn (r .takings) (r .end) k) (goOn (r′ .takings) (r′ .end) k′)
+  go-on : (r r′ : Run A) (k k′ : A → Action B) → Extends r r′ → ((a : A) → Lengthens (k a) (k′ a)) →
+      Extends (goOn (r .takings) (r .end) k) (goOn (r′ .takings) (r′ .end) k′)
   unfolding goOn
   go-on r r′ k k′ (same e) h = rw e (go-same (r′ .takings) (r′ .end) k k′ h)
   go-on r r′ k k′ (longer u more e) h =
       let w = go-behind (r′ .takings) (r′ .end) k′ in
       rw u (longer refl (more ++ w .0) (w .1 ∙ ap (λ (l : List Taking). l ++ w .0) e ∙ append-assoc (r .takings) more (w .0)))
 
-  pub bind-lengthens : {m m′ : Action A} {k k′ : A → Action B} → Lengthens m m′ → ((a : A) → Lengthens (k a) (k′ a)) → Lengthens (m >>= k) (m′ >>= k′)
+  bind-lengthens : {m m′ : Action A} {k k′ : A → Action B} → Lengthens m m′ → ((a : A) → Lengthens (k a) (k′ a)) →
+      Lengthens (m >>= k) (m′ >>= k′)
   unfolding _>>=_
   bind-lengthens {m} {m′} {k} {k′} h f = record { from = λ s. go-on (m s) (m′ s) k k′ (h .from s) f }
 
 -- ---- and through the rest
-pub unchanged : {A : Type 0} {m : Action A} → Lengthens m m
+unchanged : {A : Type 0} {m : Action A} → Lengthens m m
 unchanged = record { from = λ s. same refl }
 
-if-lengthens : {A : Type 0} (b : Bool) {x x′ y y′ : Action A} → Lengthens x x′ → Lengthens y y′ → Lengthens (if b then (λ _. x) else λ _. y) (if b then (λ _. x′) else λ _. y′)
+if-lengthens : {A : Type 0} (b : Bool) {x x′ y y′ : Action A} → Lengthens x x′ → Lengthens y y′ →
+    Lengthens (if b then (λ _. x) else λ _. y) (if b then (λ _. x′) else λ _. y′)
 unfolding if_then_else_
 if-lengthens true h f = h
 if-lengthens false h f = f
 
-boolean-lengthens : {A : Type 0} (p : ℕ) (v : Value) {k k′ : Bool → Action A} → ((b : Bool) → Lengthens (k b) (k′ b)) → Lengthens (withBoolean p v k) (withBoolean p v k′)
+boolean-lengthens : {A : Type 0} (p : ℕ) (v : Value) {k k′ : Bool → Action A} → ((b : Bool) → Lengthens (k b) (k′ b)) →
+    Lengthens (withBoolean p v k) (withBoolean p v k′)
 unfolding withBoolean
 boolean-lengthens p (integer z) h = unchanged
 boolean-lengthens p (string t) h = unchanged
@@ -78,7 +83,8 @@ continue-lengthens onward h = h
 continue-lengthens (returned v) h = unchanged
 
 -- ---- statements
-loop-lengthens : (n n′ p : ℕ) (test : Action Value) {body body′ : Action Flow} → n ≤ n′ → Lengthens body body′ → Lengthens (looping n p test body) (looping n′ p test body′)
+loop-lengthens : (n n′ p : ℕ) (test : Action Value) {body body′ : Action Flow} → n ≤ n′ → Lengthens body body′ →
+    Lengthens (looping n p test body) (looping n′ p test body′)
 unfolding looping
 loop-lengthens zero n′ p test l h = record { from = λ s. longer refl _ refl }
 loop-lengthens (suc n) zero p test l h = absurd (not-suc-le-zero l)
@@ -105,19 +111,22 @@ mutual
   all-lengthens (first s ss) l = bind-lengthens (execute-lengthens s l) λ f. continue-lengthens f (all-lengthens ss l)
 
 -- ---- operations
-painting-lengthens : (program : List ℕ) (width height : ℤ) {n n′ : ℕ} → n ≤ n′ → Lengthens (painting program width height n) (painting program width height n′)
+painting-lengthens : (program : List ℕ) (width height : ℤ) {n n′ : ℕ} → n ≤ n′ →
+    Lengthens (painting program width height n) (painting program width height n′)
 unfolding painting
 painting-lengthens program width height l =
     bind-lengthens unchanged λ _. bind-lengthens unchanged λ _. bind-lengthens unchanged λ m. bind-lengthens unchanged λ _.
     bind-lengthens (all-lengthens (m .body) l) λ _. unchanged
 
-performing-lengthens : (o : Operation) (program : List ℕ) (width height : ℤ) {n n′ : ℕ} → n ≤ n′ → Lengthens (performing o program width height n) (performing o program width height n′)
+performing-lengthens : (o : Operation) (program : List ℕ) (width height : ℤ) {n n′ : ℕ} → n ≤ n′ →
+    Lengthens (performing o program width height n) (performing o program width height n′)
 unfolding performing
 performing-lengthens checking program width height l = unchanged
 performing-lengthens measuring program width height l = bind-lengthens (painting-lengthens program width height l) λ b. unchanged
 performing-lengthens drawing program width height l = bind-lengthens (painting-lengthens program width height l) λ b. unchanged
 
 -- THE LAW
-pub specified-extends : (o : Operation) (program : List ℕ) (width height : ℤ) (n n′ : ℕ) → n ≤ n′ → Extends (specified o program width height n) (specified o program width height n′)
+pub specified-extends : (o : Operation) (program : List ℕ) (width height : ℤ) (n n′ : ℕ) → n ≤ n′ →
+    Extends (specified o program width height n) (specified o program width height n′)
 unfolding specified
 specified-extends o program width height n n′ l = performing-lengthens o program width height l .from empty
