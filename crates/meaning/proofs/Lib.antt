@@ -1,2 +1,12 @@
 pub mod Computing
 pub mod Examples
+pub mod Booking
+pub mod Turns
+pub mod Readings
+pub mod Ends
+pub mod Beginnings
+pub mod Settling
+pub mod Answers
+pub mod Pictures
+pub mod Shortages
+pub mod Claimed
