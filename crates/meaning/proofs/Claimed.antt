@@ -3,7 +3,7 @@ use Rattle.meaning.specs.Claims.{BeginningsExtend, EndedStays, Beginning
 use Rattle.meaning.proofs.Beginnings
 use Rattle.meaning.proofs.Answers
 use Rattle.meaning.proofs.Pictures
-use Rattle.meaning.proofs.Readings
+use Rattle.meaning.proofs.Refusals
 use Rattle.meaning.proofs.Shortages
 
 pub beginnings-extend : BeginningsExtend
@@ -25,7 +25,7 @@ pub pictures-fill-the-front : PicturesFillTheFront
 pictures-fill-the-front = Pictures.pictures-fill-the-front
 
 pub refused-takes-nothing : RefusedTakesNothing
-refused-takes-nothing = Readings.refused-takes-nothing
+refused-takes-nothing = Refusals.refused-takes-nothing
 
 pub measured-is-drawn : MeasuredIsDrawn
 measured-is-drawn = Pictures.measured-is-drawn

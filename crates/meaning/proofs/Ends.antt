@@ -27,7 +27,7 @@ use Rattle.meaning.specs.Program.{Operation, checking, measuring, drawin
 use Rattle.meaning.specs.Program as Program
 use Rattle.meaning.specs.Book.{resourceNumber}
 use Rattle.meaning.proofs.Booking.{part, taken, taken-append}
-use Rattle.meaning.proofs.Readings.{LowReading, reading-low}
+use Rattle.meaning.proofs.Refusals.{LowReading, reading-low}
 
 -- ---- the relation
 -- n steps among some takings

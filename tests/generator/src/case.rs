@@ -62,7 +62,7 @@ pub fn case_out_of_range(seed: u64) -> Case {
 
 /// A program of any sort.
 pub fn any_program(random: &mut Random) -> Vec<u8> {
-    match random.weighted(&[76, 12, 3, 2, 7]) {
+    match random.weighted(&[80, 9, 2, 2, 7]) {
         0 => program::program(random),
         1 => {
             let whole = program::program(random);
@@ -71,7 +71,8 @@ pub fn any_program(random: &mut Random) -> Vec<u8> {
         2 => soup::tokens(random),
         3 => soup::bytes(random),
         _ => {
-            let one = random.pick(limits()).clone();
+            let group = &limits()[random.weighted(&[2, 2, 5, 3])];
+            let one = random.pick(group).clone();
             if random.chance(100) {
                 damage::damaged(one, random)
             } else {
@@ -82,9 +83,9 @@ pub fn any_program(random: &mut Random) -> Vec<u8> {
 }
 
 /// The programs at the limits, made once.
-fn limits() -> &'static [Vec<u8>] {
-    static LIMITS: OnceLock<Vec<Vec<u8>>> = OnceLock::new();
-    LIMITS.get_or_init(limit::programs)
+fn limits() -> &'static [Vec<Vec<u8>>] {
+    static LIMITS: OnceLock<Vec<Vec<Vec<u8>>>> = OnceLock::new();
+    LIMITS.get_or_init(limit::groups)
 }
 
 /// A width or a height, most often one that is accepted.
@@ -127,7 +128,7 @@ fn smaller(one: Grants, other: Grants) -> Grants {
 /// Grants around what the run takes.
 fn grants(specified: &Specified, random: &mut Random) -> Grants {
     let needed = smaller(totals(&specified.takings), Grants::LARGEST);
-    let chosen = match random.weighted(&[30, 14, 30, 14, 4, 2, 6]) {
+    let chosen = match random.weighted(&[44, 18, 18, 8, 2, 1, 9]) {
         0 => GRANTS,
         // Exactly what is needed.
         1 => needed,
@@ -197,7 +198,7 @@ fn out_length(specified: &Specified, random: &mut Random) -> u64 {
         End::Answer(Answer::Picture { length, .. }) => *length,
         _ => return *random.pick(&[OUT_LENGTH, 0, 1, 1_000]),
     };
-    match random.weighted(&[50, 12, 10, 6, 4, 6]) {
+    match random.weighted(&[55, 12, 8, 6, 2, 5]) {
         0 => OUT_LENGTH,
         1 => needed,
         2 => needed - 1,

@@ -7,6 +7,50 @@ use reference::token::{tokens, Token};
 /// Bytes that often matter.
 const BYTES: &[u8] = b" \t\n\r\0\"!=+-*/%<>.,;()[]{}_'&#\x7f\x80\xff\xc3azAZ09d";
 
+/// Statements and other parts that nearly fit, and some that do.
+const PARTS: [&str; 40] = [
+    "(w)=1;",
+    "(w.h)=1;",
+    "((w).h)=1;",
+    "(w).h=1;",
+    "w.1.2;",
+    "w.1.2=3;",
+    "w.(1.2)=3;",
+    "1.2=3;",
+    "1.2;",
+    "1+2+3;",
+    "(1+2)+3;",
+    "w.1+w.1;",
+    "w+h=1;",
+    "w=h=1;",
+    "w==h==w;",
+    "f()=1;",
+    "[1]=2;",
+    "\"a\"=2;",
+    "none=1;",
+    "-1=1;",
+    "{}",
+    ";",
+    "if(true){}",
+    "if(true);",
+    "while(false)var q;",
+    "var w,h;",
+    "var 1;",
+    "return;",
+    "return-1;",
+    "-w;",
+    "- 1;",
+    "w=-(1);",
+    "1--1;",
+    "1---1;",
+    "w.-1;",
+    "w.- 1;",
+    "f(1,);",
+    "(f)(1);",
+    "f(1)(2);",
+    "def f(){1;}",
+];
+
 /// The program with a few changes, which may leave it well formed.
 pub fn damaged(mut program: Vec<u8>, random: &mut Random) -> Vec<u8> {
     for _ in 0..random.weighted(&[0, 60, 25, 10, 5]) {
@@ -59,15 +103,39 @@ fn change_tokens(program: Vec<u8>, random: &mut Random) -> Vec<u8> {
     let one = *random.pick(&found);
     let other = *random.pick(&found);
     let text = |token: Token| program[token.start..token.end].to_vec();
-    match random.below(6) {
+    match random.below(10) {
         0 => replaced(&program, one, b""),
-        1 => replaced(&program, one, &[text(one), b" ".to_vec(), text(one)].concat()),
+        1 => replaced(
+            &program,
+            one,
+            &[text(one), b" ".to_vec(), text(one)].concat(),
+        ),
         2 => replaced(&program, one, token(random).as_bytes()),
         3 => {
             let more = token(random).into_bytes();
             replaced(&program, one, &[more, b" ".to_vec(), text(one)].concat())
         }
         4 => replaced(&program, one, &text(other)),
+        5 => replaced(
+            &program,
+            one,
+            &[b"(".to_vec(), text(one), b")".to_vec()].concat(),
+        ),
+        6 => {
+            let more = *random.pick(&[".1", ".w", "+1", "-1", "- 1", "=1", "==1", "(1)", ")", "}"]);
+            replaced(&program, one, &[text(one), more.into()].concat())
+        }
+        7 | 8 => {
+            // Behind the end of a statement, a block or the whole program.
+            let ends = |token: &&Token| matches!(program[token.start], b';' | b'{' | b'}');
+            let places: Vec<&Token> = found.iter().filter(ends).collect();
+            let at = match random.below(places.len() + 1) {
+                place if place < places.len() => *places[place],
+                _ => *found.last().unwrap_or(&one),
+            };
+            let more = *random.pick(&PARTS);
+            replaced(&program, at, &[text(at), more.into()].concat())
+        }
         _ => {
             let (first, second) = if one.start <= other.start {
                 (one, other)

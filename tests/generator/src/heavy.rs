@@ -57,13 +57,15 @@ fn bodies() -> Vec<String> {
     .map(|body| body.to_string())
     .collect();
     // A picture of many long texts: far more bytes than any store holds.
-    let mut texts = "var s;var a;s=\"a\";a=0;while(a<15){s=s++s;a=a+1;}a=drawText(1,2,s);".to_string();
+    let mut texts =
+        "var s;var a;s=\"a\";a=0;while(a<15){s=s++s;a=a+1;}a=drawText(1,2,s);".to_string();
     for name in 0..1_100 {
         texts.push_str(&format!("var v{name};v{name}=a;"));
     }
     all.push(texts);
     // A picture of many shapes.
-    let mut shapes = "var a;a=drawLine(-2147483648,-2147483648,-2147483648,-2147483648);".to_string();
+    let mut shapes =
+        "var a;a=drawLine(-2147483648,-2147483648,-2147483648,-2147483648);".to_string();
     for name in 0..1_100 {
         shapes.push_str(&format!("var v{name};v{name}=a;"));
     }

@@ -7,12 +7,12 @@ fn main_of(body: &str) -> Vec<u8> {
 
 /// All of them, always in the same order.
 pub fn programs() -> Vec<Vec<u8>> {
-    let mut all = Vec::new();
-    all.extend(lengths());
-    all.extend(token_numbers());
-    all.extend(levels());
-    all.extend(constants());
-    all
+    groups().concat()
+}
+
+/// All of them, by what they are about.
+pub fn groups() -> Vec<Vec<Vec<u8>>> {
+    vec![lengths(), token_numbers(), levels(), constants()]
 }
 
 /// 32,767, 32,768 and 32,769 bytes.
@@ -68,7 +68,11 @@ fn token_numbers() -> Vec<Vec<u8>> {
     }
     // As many declarations and as many parameters as fit.
     let names = |number: usize| (0..number).map(|name| format!("a{name}"));
-    all.push(main_of(&names(2_700).map(|name| format!("var {name};")).collect::<String>()));
+    all.push(main_of(
+        &names(2_700)
+            .map(|name| format!("var {name};"))
+            .collect::<String>(),
+    ));
     let parameters: Vec<String> = names(4_000).collect();
     all.push(format!("def main({}){{1;}}", parameters.join(",")).into_bytes());
     let arguments = "1,".repeat(4_000);

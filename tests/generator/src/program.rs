@@ -4,7 +4,9 @@
 
 use crate::random::Random;
 use crate::spacing::{write, Spacing};
-use crate::words::{constant, string, COUNTERS, LIBRARY, NAMES, OPERATORS, UNKNOWN};
+use crate::words::{
+    constant, edge, string, COUNTERS, KEYS, LIBRARY, NAMES, OPERATORS, SHAPES, UNKNOWN,
+};
 
 /// The kind of a value.
 #[derive(Clone, Copy, Debug, PartialEq, Eq)]
@@ -49,22 +51,29 @@ pub fn program(random: &mut Random) -> Vec<u8> {
 
 /// The tokens of a well-formed program.
 fn tokens(random: &mut Random) -> Tokens {
-    let noise = *random.pick(&[0, 0, 2, 5, 10, 30, 100]);
-    let danger = *random.pick(&[0, 20, 60, 150]);
     let left = match random.weighted(&[20, 40, 30, 10]) {
         0 => random.between(1, 5),
         1 => random.between(5, 20),
         2 => random.between(20, 60),
         _ => random.between(60, 150),
     };
+    let noise = if left <= 5 {
+        *random.pick(&[0, 0, 30, 100, 200])
+    } else {
+        *random.pick(&[0, 0, 0, 0, 0, 0, 0, 1, 3, 10])
+    };
+    let danger = *random.pick(&[0, 20, 60, 150]);
+    let wild = random.chance(250);
     let mut maker = Maker {
         random,
         tokens: Vec::new(),
         variables: Vec::new(),
         noise,
         danger,
+        wild,
         left,
         loops: 0,
+        nesting: 0,
     };
     maker.main();
     maker.tokens
@@ -82,10 +91,14 @@ struct Maker<'r> {
     noise: usize,
     /// How often, of a thousand times, a shape is destroyed on the way.
     danger: usize,
+    /// Whether there are loops without an end and odd declarations.
+    wild: bool,
     /// How many statements may still come.
     left: usize,
     /// How many loops stand around the place.
     loops: usize,
+    /// How many primaries stand around the place.
+    nesting: usize,
 }
 
 impl Maker<'_> {
@@ -97,8 +110,9 @@ impl Maker<'_> {
         self.tokens.extend(items);
     }
 
+    /// Never true deep inside, so that no expression grows without end.
     fn noisy(&mut self) -> bool {
-        self.random.chance(self.noise)
+        self.nesting < 8 && self.random.chance(self.noise)
     }
 
     fn know(&mut self, name: &str, holds: Kind, counts: bool) {
@@ -129,6 +143,15 @@ impl Maker<'_> {
             self.know(name, Kind::Integer, false);
         }
         self.put(&[")", "{"]);
+        if self.random.chance(100) {
+            // Names that stand in the program before they are declared.
+            self.put(&["if", "(", "false", ")", "{"]);
+            for _ in 0..self.random.between(2, 12) {
+                let name = self.random.pick(&NAMES).to_string();
+                self.put(&[&name, ";"]);
+            }
+            self.put(&["}"]);
+        }
         if self.random.chance(600) {
             for name in COUNTERS {
                 self.put(&["var", name, ";"]);
@@ -215,20 +238,22 @@ impl Maker<'_> {
 
     fn statement(&mut self, depth: usize) {
         self.left = self.left.saturating_sub(1);
-        let nested = if depth > 0 { 1 } else { 0 };
-        let declaring = if self.loops > 0 { 1 } else { 14 };
+        let nested = usize::from(depth > 0);
+        let wild = usize::from(self.wild);
+        let declaring = if self.loops > 0 { 2 } else { 42 };
         let weights = [
             declaring,
-            34,
+            102,
+            36,
+            30 * nested,
+            21 * nested,
+            15 * nested,
+            27,
             12,
-            10 * nested,
-            7 * nested,
-            5 * nested,
-            9,
-            5,
-            1,
-            1,
-            1,
+            6 * wild,
+            1 + 2 * wild,
+            3 * wild,
+            6,
         ];
         match self.random.weighted(&weights) {
             0 => self.new_variable(),
@@ -241,7 +266,8 @@ impl Maker<'_> {
             7 => self.destruction(),
             8 => self.rare_statement(),
             9 => self.finish(),
-            _ => self.growth(),
+            10 => self.growth(),
+            _ => self.pattern(),
         }
     }
 
@@ -276,7 +302,7 @@ impl Maker<'_> {
         let Some(place) = self.holder(Kind::Table) else {
             if self.random.chance(300) {
                 let table = self.primary(Kind::Table, depth);
-                let key = self.any_primary(depth);
+                let key = self.key(depth);
                 let value = self.any_expression(depth);
                 self.put_update(table, key, value);
                 return;
@@ -289,11 +315,25 @@ impl Maker<'_> {
         let key = if !old.is_empty() && self.random.chance(300) {
             self.random.pick(&old).0.clone()
         } else {
-            self.any_primary(depth)
+            self.key(depth)
         };
         let value = self.expression(kind, depth);
+        let lasting = key.iter().all(|token| self.place_of(token).is_none());
         self.put_update(vec![name], key.clone(), value);
-        self.variables[place].keys.push((key, kind));
+        let known = &mut self.variables[place].keys;
+        known.retain(|(other, _)| *other != key);
+        if lasting || self.random.chance(200) {
+            self.variables[place].keys.push((key, kind));
+        }
+    }
+
+    /// A primary for a key, most often one that other keys are like.
+    fn key(&mut self, depth: usize) -> Tokens {
+        match self.random.weighted(&[50, 15, 35]) {
+            0 => vec![self.random.pick(&KEYS).to_string()],
+            1 => vec![self.random.pick(&SHAPES).to_string()],
+            _ => self.any_primary(depth),
+        }
     }
 
     fn put_update(&mut self, table: Tokens, key: Tokens, value: Tokens) {
@@ -321,7 +361,16 @@ impl Maker<'_> {
         self.append(test);
         self.put(&[")"]);
         let before = self.variables.clone();
-        self.statement(depth);
+        match self.random.weighted(&[50, 20, 10, 10, 10]) {
+            0 => self.block(depth),
+            1 => self.any_assignment(),
+            2 => self.update(),
+            3 => self.expression_statement(),
+            _ => self.statement(depth),
+        }
+        if self.random.chance(850) {
+            self.variables.truncate(before.len());
+        }
         if self.random.chance(500) && self.variables.len() == before.len() {
             self.variables = before;
         }
@@ -376,9 +425,15 @@ impl Maker<'_> {
 
     /// A statement that destroys something.
     fn destruction(&mut self) {
-        if self.random.chance(150) {
+        if self.random.chance(100) {
             self.put(&["clearScene", "(", ")", ";"]);
             self.forget_shapes();
+            return;
+        }
+        if self.random.chance(self.danger) {
+            let expression = self.used_and_destroyed();
+            self.append(expression);
+            self.put(&[";"]);
             return;
         }
         let shape = self.shape_to_destroy(1);
@@ -403,6 +458,59 @@ impl Maker<'_> {
                 vec![self.variables[place].name.clone()]
             }
             _ => self.expression(Kind::Shape, depth),
+        }
+    }
+
+    /// A few statements in which a shape is shared, kept or destroyed.
+    fn pattern(&mut self) {
+        let (Some(shape), Some(table)) = (self.holder(Kind::Shape), self.holder(Kind::Table))
+        else {
+            return self.any_assignment();
+        };
+        let a = self.variables[shape].name.clone();
+        let t = self.variables[table].name.clone();
+        let k = self
+            .random
+            .pick(&["0", "none", "\"a\"", "true"])
+            .to_string();
+        self.variables[table].keys.clear();
+        let (gone, text) = match self.random.below(14) {
+            0 => (true, "T.K=A;destroyShape(A);T.K;"),
+            1 => (true, "T.A=destroyShape(A);"),
+            2 => (true, "T.K=A;clearScene();T.K;"),
+            3 => (true, "T.K=A;A=A+1;clearScene();A=T.K;"),
+            4 => (true, "T.A=1;destroyShape(A);T.K=2;"),
+            5 => (false, "T.K=A;A=T.K;destroyShape(T.K);A;"),
+            6 => (false, "T.K=A;A=1;clearScene();A=T.K;"),
+            7 => (false, "T.K=A+0;clearScene();A=T.K;"),
+            8 => (true, "T.none=A;T.destroyShape(A);"),
+            9 => (false, "T.K=T;(T.K).K=A;A=(T.K).K;"),
+            10 => (true, "T.none=5;A+(T.destroyShape(A));"),
+            11 => (false, "T.A=A;A=T.A;"),
+            12 => (true, "T.K=A;T.1=T.K;destroyShape(T.1);T.K=3;A;"),
+            _ => (true, "T.(A+0)=2;destroyShape(A);T.K=none;"),
+        };
+        if gone {
+            self.variables[shape].holds = Kind::Gone;
+        }
+        for part in text.split_inclusive(';') {
+            let mut rest = part;
+            while let Some(first) = rest.chars().next() {
+                // A run of letters or digits is a token, any sign another.
+                let length = match rest.find(|c: char| !c.is_ascii_alphanumeric()) {
+                    Some(0) => first.len_utf8(),
+                    Some(length) => length,
+                    None => rest.len(),
+                };
+                let token = match &rest[..length] {
+                    "A" => a.clone(),
+                    "T" => t.clone(),
+                    "K" => k.clone(),
+                    other => other.to_string(),
+                };
+                self.tokens.push(token);
+                rest = &rest[length..];
+            }
         }
     }
 
@@ -480,6 +588,12 @@ impl Maker<'_> {
             return self.operand(kind, depth);
         }
         let (left, operator, right) = match kind {
+            Kind::Integer if self.random.chance(80) => {
+                let operators = &["+", "-", "*", "/", "%", ">>", "<<"];
+                let operator = self.random.pick(operators).to_string();
+                let left = vec![edge(self.random)];
+                (left, operator, vec![edge(self.random)])
+            }
             Kind::Integer => {
                 let operators = &["+", "+", "-", "-", "*", "/", "%", ">>", "<<"];
                 let operator = self.random.pick(operators).to_string();
@@ -512,7 +626,7 @@ impl Maker<'_> {
 
     fn comparison(&mut self, depth: usize) -> (Tokens, String, Tokens) {
         let equality = self.random.pick(&["==", "!="]).to_string();
-        match self.random.weighted(&[40, 25, 10, 10, 10, 15, 8]) {
+        match self.random.weighted(&[40, 25, 10, 10, 10, 15, 8, 6, 1]) {
             0 => {
                 let order = self.random.pick(&["<", ">"]).to_string();
                 let left = self.operand(Kind::Integer, depth);
@@ -528,9 +642,18 @@ impl Maker<'_> {
                 let left = self.any_operand(depth);
                 (left, equality, self.operand(Kind::None, depth))
             }
-            _ => {
+            6 => {
                 let left = self.operand(Kind::None, depth);
                 (left, equality, self.any_operand(depth))
+            }
+            7 => {
+                let left = vec![self.random.pick(&SHAPES).to_string()];
+                let right = vec![self.random.pick(&SHAPES).to_string()];
+                (left, equality, right)
+            }
+            _ => {
+                let left = self.operand(Kind::Table, depth);
+                (left, equality, self.operand(Kind::Table, depth))
             }
         }
     }
@@ -544,7 +667,7 @@ impl Maker<'_> {
     fn operand(&mut self, kind: Kind, depth: usize) -> Tokens {
         if self.noisy() {
             let table = self.primary(Kind::Table, depth);
-            let key = self.any_primary(depth);
+            let key = self.key(depth);
             return [table, texts(&["."]), key].concat();
         }
         if self.random.chance(200) {
@@ -568,6 +691,13 @@ impl Maker<'_> {
     }
 
     fn primary(&mut self, kind: Kind, depth: usize) -> Tokens {
+        self.nesting += 1;
+        let primary = self.any_sort_of_primary(kind, depth);
+        self.nesting -= 1;
+        primary
+    }
+
+    fn any_sort_of_primary(&mut self, kind: Kind, depth: usize) -> Tokens {
         if self.noisy() {
             return self.odd_primary(depth);
         }
@@ -690,9 +820,23 @@ impl Maker<'_> {
         } else {
             call("clearScene", Vec::new())
         };
+        // The other side is none or a boolean.
+        let destroying = if self.random.chance(600) {
+            destroying
+        } else {
+            [texts(&["("]), destroying, texts(&["==", "none", ")"])].concat()
+        };
         if self.random.chance(300) {
-            let (procedure, _) = *self.random.pick(&LIBRARY);
-            return call(procedure, vec![vec![name], destroying]);
+            let procedure = if self.random.chance(800) {
+                self.random.pick(&LIBRARY).0
+            } else {
+                self.random.pick(&UNKNOWN)
+            };
+            let mut arguments = vec![vec![name], destroying];
+            for _ in 0..self.random.below(3) {
+                arguments.push(vec![constant(self.random)]);
+            }
+            return call(procedure, arguments);
         }
         let operator = self.random.pick(&OPERATORS).to_string();
         let sides = [vec![name], vec![operator], destroying].concat();

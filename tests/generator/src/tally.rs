@@ -28,6 +28,8 @@ impl Tally {
 
     /// Every outcome that was seen, in order.
     pub fn all(&self) -> impl Iterator<Item = (&str, usize)> {
-        self.counts.iter().map(|(name, count)| (name.as_str(), *count))
+        self.counts
+            .iter()
+            .map(|(name, count)| (name.as_str(), *count))
     }
 }

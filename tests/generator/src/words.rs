@@ -125,6 +125,83 @@ const EDGES: [i64; 26] = [
     -2_147_483_648,
 ];
 
+/// Keys of every kind that look alike. Few, so that they meet again.
+pub const KEYS: [&str; 18] = [
+    "0",
+    "1",
+    "-1",
+    "01",
+    "true",
+    "false",
+    "none",
+    "\"none\"",
+    "\"true\"",
+    "\"a\"",
+    "\"A\"",
+    "w",
+    "h",
+    "a",
+    "i",
+    "[0]",
+    "clearScene()",
+    "\"abc\"",
+];
+
+/// Shapes that look alike.
+pub const SHAPES: [&str; 10] = [
+    "drawLine(1,2,3,4)",
+    "drawLine(3,4,1,2)",
+    "drawLine(1,2,1,2)",
+    "drawEllipse(1,2,3,4)",
+    "drawBox(1,2,3,4)",
+    "drawBox(1,2,4,3)",
+    "drawText(1,2,\"a\")",
+    "drawText(1,2,\"ab\")",
+    "drawText(1,2,\"a\"++\"b\")",
+    "drawText(2,1,\"a\")",
+];
+
+/// One expression of each kind, for pairs that may not go together.
+pub const LITERALS: [&str; 12] = [
+    "0",
+    "1",
+    "-1",
+    "-2147483648",
+    "true",
+    "\"a\"",
+    "none",
+    "[0]",
+    "drawLine(1,2,3,4)",
+    "drawEllipse(1,2,3,4)",
+    "drawBox(-2147483648,2147483647,3,4)",
+    "drawText(1,2,\"a\")",
+];
+
+/// Operations on integers in which something special happens.
+pub const SPECIAL: [&str; 16] = [
+    "-2147483648/-1",
+    "-2147483648%-1",
+    "-2147483648*-1",
+    "-2147483648-1",
+    "2147483647+1",
+    "-7/2",
+    "-7%2",
+    "7/-2",
+    "7%-2",
+    "-7>>1",
+    "-1>>31",
+    "1<<31",
+    "1<<-1",
+    "7<<33",
+    "-8>>-31",
+    "-2147483648>>32",
+];
+
+/// An integer at which something may change.
+pub fn edge(random: &mut Random) -> String {
+    random.pick(&EDGES).to_string()
+}
+
 /// A constant within its range, small ones more often. A minus stays with
 /// its digits.
 pub fn constant(random: &mut Random) -> String {

@@ -118,7 +118,7 @@ fn from_hexadecimal(field: &str) -> Option<Vec<u8>> {
     if field == "-" {
         return Some(Vec::new());
     }
-    if field.is_empty() || field.len() % 2 != 0 {
+    if field.is_empty() || !field.len().is_multiple_of(2) {
         return None;
     }
     let half = |byte: u8| char::from(byte).to_digit(16);

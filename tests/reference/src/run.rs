@@ -351,10 +351,7 @@ impl<A: Account> Run<A> {
                     text: text.clone(),
                 })
             }
-            (
-                Procedure::DrawLineConnectingShapes,
-                &[Value::Shape(first), Value::Shape(second)],
-            ) => {
+            (Procedure::DrawLineConnectingShapes, &[Value::Shape(first), Value::Shape(second)]) => {
                 let (x1, y1) = self.centre(first);
                 let (x2, y2) = self.centre(second);
                 self.new_shape(Shape::Line { x1, y1, x2, y2 })

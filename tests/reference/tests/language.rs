@@ -183,7 +183,10 @@ fn destroying() {
         assert_eq!(short(&draw_body(&body)), expected, "{body}");
     }
     assert_eq!(drawn(&format!("{a}destroyShape(a);")), "");
-    assert_eq!(drawn(&format!("{a}clearScene();a=drawLine(2,0,0,0);")), line(2));
+    assert_eq!(
+        drawn(&format!("{a}clearScene();a=drawLine(2,0,0,0);")),
+        line(2)
+    );
 }
 
 #[test]

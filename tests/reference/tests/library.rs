@@ -207,20 +207,40 @@ fn centres() {
         ("drawLine(-3,-5,0,0)", -1, -2),
         ("drawLine(-1,1,0,0)", 0, 0),
         // The exact sum, which has more than 32 bits.
-        ("drawLine(2147483647,-2147483648,2147483647,-2147483648)", i32::MAX, i32::MIN),
-        ("drawLine(2147483647,-2147483648,2147483646,-2147483647)", i32::MAX - 1, i32::MIN + 1),
+        (
+            "drawLine(2147483647,-2147483648,2147483647,-2147483648)",
+            i32::MAX,
+            i32::MIN,
+        ),
+        (
+            "drawLine(2147483647,-2147483648,2147483646,-2147483647)",
+            i32::MAX - 1,
+            i32::MIN + 1,
+        ),
         ("drawLine(2147483647,0,-2147483648,1)", 0, 0),
         ("drawBox(1,1,3,5)", 2, 3),
         ("drawBox(1,1,-3,3)", 0, 2),
         ("drawBox(-5,-5,3,-3)", -4, -6),
         // The sum wraps.
         ("drawBox(2147483647,-2147483648,3,-3)", i32::MIN, i32::MAX),
-        ("drawBox(0,0,-2147483648,2147483647)", -1_073_741_824, 1_073_741_823),
+        (
+            "drawBox(0,0,-2147483648,2147483647)",
+            -1_073_741_824,
+            1_073_741_823,
+        ),
         ("drawEllipse(3,4,100,200)", 3, 4),
         ("drawText(3,4,\"abcdef\")", 3, 4),
     ] {
-        assert_eq!(integer(&format!("getShapeXCoordinate({shape})")), x, "{shape}");
-        assert_eq!(integer(&format!("getShapeYCoordinate({shape})")), y, "{shape}");
+        assert_eq!(
+            integer(&format!("getShapeXCoordinate({shape})")),
+            x,
+            "{shape}"
+        );
+        assert_eq!(
+            integer(&format!("getShapeYCoordinate({shape})")),
+            y,
+            "{shape}"
+        );
     }
 }
 

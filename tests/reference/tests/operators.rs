@@ -268,10 +268,7 @@ fn shapes() {
             "drawBox(1,2,3,4)-1",
             "<rect x=\"1\" y=\"1\" width=\"3\" height=\"4\"/>",
         ),
-        (
-            "drawText(1,2,\"a\")*3",
-            "<text x=\"3\" y=\"6\">a</text>",
-        ),
+        ("drawText(1,2,\"a\")*3", "<text x=\"3\" y=\"6\">a</text>"),
         (
             "drawText(1,2,\"a\"++\"b\")>>3",
             "<text x=\"4\" y=\"2\">ab</text>",

@@ -368,12 +368,7 @@ fn steps() {
             "50@17 s3",
             "50@16 s3",
         ),
-        (
-            "a sequence counts none",
-            "1;1;",
-            "picture s4",
-            "picture s5",
-        ),
+        ("a sequence counts none", "1;1;", "picture s4", "picture s5"),
         (
             "the minus of a constant counts none",
             "-1;",
@@ -496,7 +491,10 @@ fn destroyed_shapes() {
 #[test]
 fn centres() {
     // The other reading, half of the doubled sum, is -3.
-    assert_eq!(common::integer("getShapeXCoordinate(drawBox(-5,0,3,0))"), -4);
+    assert_eq!(
+        common::integer("getShapeXCoordinate(drawBox(-5,0,3,0))"),
+        -4
+    );
 }
 
 #[test]

@@ -8,5 +8,7 @@ use std::io::{self, Read, Write};
 fn main() -> io::Result<()> {
     let mut input = Vec::new();
     io::stdin().lock().read_to_end(&mut input)?;
-    io::stdout().lock().write_all(&reference::sheet::print(&input))
+    io::stdout()
+        .lock()
+        .write_all(&reference::sheet::print(&input))
 }
