@@ -161,6 +161,45 @@ pub const SHAPES: [&str; 10] = [
     "drawText(2,1,\"a\")",
 ];
 
+<<<<<<< HEAD
+=======
+/// One expression of each kind, for pairs that may not go together.
+pub const LITERALS: [&str; 12] = [
+    "0",
+    "1",
+    "-1",
+    "-2147483648",
+    "true",
+    "\"a\"",
+    "none",
+    "[0]",
+    "drawLine(1,2,3,4)",
+    "drawEllipse(1,2,3,4)",
+    "drawBox(-2147483648,2147483647,3,4)",
+    "drawText(1,2,\"a\")",
+];
+
+/// Operations on integers in which something special happens.
+pub const SPECIAL: [&str; 16] = [
+    "-2147483648/-1",
+    "-2147483648%-1",
+    "-2147483648*-1",
+    "-2147483648-1",
+    "2147483647+1",
+    "-7/2",
+    "-7%2",
+    "7/-2",
+    "7%-2",
+    "-7>>1",
+    "-1>>31",
+    "1<<31",
+    "1<<-1",
+    "7<<33",
+    "-8>>-31",
+    "-2147483648>>32",
+];
+
+>>>>>>> main
 /// An integer at which something may change.
 pub fn edge(random: &mut Random) -> String {
     random.pick(&EDGES).to_string()
