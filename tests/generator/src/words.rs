@@ -161,8 +161,6 @@ pub const SHAPES: [&str; 10] = [
     "drawText(2,1,\"a\")",
 ];
 
-<<<<<<< HEAD
-=======
 /// One expression of each kind, for pairs that may not go together.
 pub const LITERALS: [&str; 12] = [
     "0",
@@ -199,7 +197,6 @@ pub const SPECIAL: [&str; 16] = [
     "-2147483648>>32",
 ];
 
->>>>>>> main
 /// An integer at which something may change.
 pub fn edge(random: &mut Random) -> String {
     random.pick(&EDGES).to_string()
