@@ -3,4 +3,5 @@ pub mod Act
 pub mod Texts
 pub mod Shapes
 pub mod Variables
+
 -- pub mod Tables

@@ -42,28 +42,29 @@ destroyedAt ws i = eqb (getD ws (shapePlace i) 0 % 2) 1
 
 unfoldable pub figureAt : List ℕ → ℕ → Figure
 figureAt ws i = record {
-    kind = getD ws (shapePlace i) 0 / 2 % 4;
-    a = lowNumber (getD ws (shapePlace i + 1) 0);
-    b = highNumber (getD ws (shapePlace i + 1) 0);
-    c = lowNumber (getD ws (shapePlace i + 2) 0);
-    d = highNumber (getD ws (shapePlace i + 2) 0);
-    text = getD ws (shapePlace i) 0 / 8 }
+  kind = getD ws (shapePlace i) 0 / 2 % 4;
+  a = lowNumber (getD ws (shapePlace i + 1) 0);
+  b = highNumber (getD ws (shapePlace i + 1) 0);
+  c = lowNumber (getD ws (shapePlace i + 2) 0);
+  d = highNumber (getD ws (shapePlace i + 2) 0);
+  text = getD ws (shapePlace i) 0 / 8;
+}
 
 -- ---- writing
 -- a new shape takes one
 unfoldable pub newShape : List ℕ → ℕ → Figure → Act Value
 newShape g p f = do
-    i ← load shapesUsed
-    spend shapesUsed (shapesGranted g) 1 76 p
-    store (shapePlace i) (firstWord (f .kind) (f .text))
-    store (shapePlace i + 1) (pairWord (f .a) (f .b))
-    store (shapePlace i + 2) (pairWord (f .c) (f .d))
-    give (Shape i)
+  i ← load shapesUsed
+  spend shapesUsed (shapesGranted g) 1 76 p
+  store (shapePlace i) (firstWord (f .kind) (f .text))
+  store (shapePlace i + 1) (pairWord (f .a) (f .b))
+  store (shapePlace i + 2) (pairWord (f .c) (f .d))
+  give (Shape i)
 
 abbrev pub destroyedWord : ℕ → ℕ
 destroyedWord w = w - w % 2 + 1
 
 unfoldable pub destroy : ℕ → Act (Unit {0})
 destroy i = do
-    w ← load (shapePlace i)
-    store (shapePlace i) (destroyedWord w)
+  w ← load (shapePlace i)
+  store (shapePlace i) (destroyedWord w)

@@ -27,20 +27,20 @@ usable p v r = refuse (isDead (r .words) v) 30 p r
 -- what a variable holds: 50 if it is not declared
 unfoldable pub variable : ℕ → ℕ → Act Value
 variable p slot = do
-    w ← load (valuePlace slot)
-    refuse (eqb w 0) 50 p
-    usable p (unpacked w)
-    give (unpacked w)
+  w ← load (valuePlace slot)
+  refuse (eqb w 0) 50 p
+  usable p (unpacked w)
+  give (unpacked w)
 
 -- a declaration: 60 if it is declared
 unfoldable pub declare : ℕ → ℕ → Act (Unit {0})
 declare p slot = do
-    w ← load (valuePlace slot)
-    refuse (not (eqb w 0)) 60 p
-    k ← load declared
-    store (valuePlace slot) (packed Nothing)
-    store (orderPlace (k % 8192)) slot
-    store declared (k % 8192 + 1)
+  w ← load (valuePlace slot)
+  refuse (not (eqb w 0)) 60 p
+  k ← load declared
+  store (valuePlace slot) (packed Nothing)
+  store (orderPlace (k % 8192)) slot
+  store declared (k % 8192 + 1)
 
 unfoldable pub setVariable : ℕ → Value → Act (Unit {0})
 setVariable slot v = store (valuePlace slot) (packed v)
@@ -58,12 +58,12 @@ destroyIn (Shape i) = destroy i
 unfoldable pub clearFrom : ℕ → ℕ → Act (Unit {0})
 clearFrom k zero = give tt
 clearFrom k (suc n) = do
-    slot ← load (orderPlace k)
-    w ← load (valuePlace slot)
-    destroyIn (unpacked w)
-    clearFrom (k + 1) n
+  slot ← load (orderPlace k)
+  w ← load (valuePlace slot)
+  destroyIn (unpacked w)
+  clearFrom (k + 1) n
 
 unfoldable pub clearScene : Act (Unit {0})
 clearScene = do
-    n ← load declared
-    clearFrom 0 n
+  n ← load declared
+  clearFrom 0 n
