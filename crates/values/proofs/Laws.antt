@@ -3,7 +3,7 @@ use Prim.Native.Nat.{ℕ, suc, _+_, _-_, _*_, _/_, _%_, _^_, _<_}
 use mathlib.Core.Path.{_≡_, refl, ap, sym, _∙_}
 use mathlib.Core.Bool.{Bool, true, false}
 use native.Mathlib.Omega.{arith}
-use borrow.Author.Tests.{ne-eqb, lt-ltb, le-ltb}
+use borrow.Author.Tests.{ne-eqb, eqb-true, lt-ltb, le-ltb}
 use lib.Dec.{eqb}
 use lib.IntN.{ℤ, pos, negsuc}
 use lib.Signed.{mag}
@@ -91,6 +91,46 @@ module _ (w : ℕ) where
   pub as-nothing : (kindIn w ≡ 1 → ⊥) → (kindIn w ≡ 2 → ⊥) → (kindIn w ≡ 3 → ⊥) → (kindIn w ≡ 5 → ⊥) → (kindIn w ≡ 6 → ⊥) → Nothing ≡ unpacked w
   unfolding unpacked if_then_else_
   as-nothing a b c d e = rw (ne-eqb _ _ a, ne-eqb _ _ b, ne-eqb _ _ c, ne-eqb _ _ d, ne-eqb _ _ e)
+
+-- ---- values by their words
+module _ (w : ℕ) where
+  pub unpacked-integer : kindIn w ≡ 1 → unpacked w ≡ Integer (toZ w32 (numberIn w))
+  unfolding unpacked if_then_else_
+  unpacked-integer e = rw e
+
+  pub unpacked-text : kindIn w ≡ 2 → unpacked w ≡ Text (handleIn w)
+  unfolding unpacked if_then_else_
+  unpacked-text e = rw e
+
+  pub unpacked-truth : kindIn w ≡ 3 → unpacked w ≡ Boolean (truthIn w)
+  unfolding unpacked if_then_else_
+  unpacked-truth e = rw e
+
+  pub unpacked-table : kindIn w ≡ 5 → unpacked w ≡ Table (numberIn w)
+  unfolding unpacked if_then_else_
+  unpacked-table e = rw e
+
+  pub unpacked-shape : kindIn w ≡ 6 → unpacked w ≡ Shape (numberIn w)
+  unfolding unpacked if_then_else_
+  unpacked-shape e = rw e
+
+  -- what holds of every kind of value, where the word is of that kind, holds of the word's value
+  pub by-kind : (P : Value → Type 0) → (kindIn w ≡ 1 → P (Integer (toZ w32 (numberIn w)))) → (kindIn w ≡ 2 → P (Text (handleIn w)))
+      → (kindIn w ≡ 3 → P (Boolean (truthIn w))) → P Nothing → (kindIn w ≡ 5 → P (Table (numberIn w))) → (kindIn w ≡ 6 → P (Shape (numberIn w))) → P (unpacked w)
+  unfolding unpacked if_then_else_
+  by-kind P a b c d e f = go (eqb (kindIn w) 1) (eqb (kindIn w) 2) (eqb (kindIn w) 3) (eqb (kindIn w) 5) (eqb (kindIn w) 6)
+      (λ q. a (eqb-true _ _ q)) (λ q. b (eqb-true _ _ q)) (λ q. c (eqb-true _ _ q)) (λ q. e (eqb-true _ _ q)) (λ q. f (eqb-true _ _ q))
+    where
+      go : (i j k l m : Bool) → (i ≡ true → P (Integer (toZ w32 (numberIn w)))) → (j ≡ true → P (Text (handleIn w))) → (k ≡ true → P (Boolean (truthIn w)))
+          → (l ≡ true → P (Table (numberIn w))) → (m ≡ true → P (Shape (numberIn w)))
+          → P (if i then (λ _. Integer (toZ w32 (numberIn w))) else λ _. if j then (λ _. Text (handleIn w)) else λ _. if k then (λ _. Boolean (truthIn w))
+          else λ _. if l then (λ _. Table (numberIn w)) else λ _. if m then (λ _. Shape (numberIn w)) else λ _. Nothing)
+      go true j k l m a b c e f = a refl
+      go false true k l m a b c e f = b refl
+      go false false true l m a b c e f = c refl
+      go false false false true m a b c e f = e refl
+      go false false false false true a b c e f = f refl
+      go false false false false false a b c e f = d
 
 -- ---- there and back
 -- a value that code can hold: an integer of 32 bits, a handle of 40, a table's or a shape's number of 32
