@@ -24,7 +24,7 @@ text-same program ts ts′ used h e k = go (eqb (originIn h) 0) refl
   where
     go : (b : Bool) → eqb (originIn h) 0 ≡ b
         → (if b then (λ _. part (startIn h) (sizeIn h) program) else λ _. part (startIn h) (sizeIn h) ts′)
-          ≡ (if b then (λ _. part (startIn h) (sizeIn h) program) else λ _. part (startIn h) (sizeIn h) ts)
+        ≡ (if b then (λ _. part (startIn h) (sizeIn h) program) else λ _. part (startIn h) (sizeIn h) ts)
     go true o = refl
     go false o =
         let l : startIn h + sizeIn h ≤ used = e .within (eqb-false _ _ o) in
@@ -38,7 +38,7 @@ content-same program ts ts′ ws ws′ key p q = go (eqb (kindIn key) 2) (eqb (k
   where
     go : (a b : Bool) → eqb (kindIn key) 2 ≡ a → eqb (kindIn key) 6 ≡ b
         → (if a then (λ _. textOf program ts′ (handleIn key)) else λ _. if b then (λ _. figureContent program ts′ ws′ (numberIn key)) else λ _. numberIn key ∷ [])
-          ≡ (if a then (λ _. textOf program ts (handleIn key)) else λ _. if b then (λ _. figureContent program ts ws (numberIn key)) else λ _. numberIn key ∷ [])
+        ≡ (if a then (λ _. textOf program ts (handleIn key)) else λ _. if b then (λ _. figureContent program ts ws (numberIn key)) else λ _. numberIn key ∷ [])
     go true b e f = p (eqb-true _ _ e)
     go false true e f = q (eqb-true _ _ f)
     go false false e f = refl
@@ -77,9 +77,10 @@ module _ (program g ts ts′ ws ws′ : List ℕ) (n : ℕ) (a : Agree program g
 pub index-agrees : (program g ts ts′ ws ws′ : List ℕ) → Agree program g ts ts′ ws ws′ (getD ws entriesUsed 0) → getD ws′ entriesUsed 0 ≡ getD ws entriesUsed 0
     → ((b : ℕ) → b < entriesGranted g → getD ws′ (headPlace g b) 0 ≡ getD ws (headPlace g b) 0) → Indexed program g ts ws → Indexed program g ts′ ws′
 index-agrees program g ts ts′ ws ws′ a u h x = record {
-  few = rw u (x .few)
-  ; begins = λ b l. rw u (h b l ∙ x .begins b l ∙ sym (lies-agree program g ts ts′ ws ws′ (getD ws entriesUsed 0) a b (getD ws entriesUsed 0) (omega arith)))
-  ; links = λ k l. link-agrees program g ts ts′ ws ws′ (getD ws entriesUsed 0) a k (rw u at l) (x .links k (rw u at l)) }
+  few = rw u (x .few);
+  begins = λ b l. rw u (h b l ∙ x .begins b l ∙ sym (lies-agree program g ts ts′ ws ws′ (getD ws entriesUsed 0) a b (getD ws entriesUsed 0) (omega arith)));
+  links = λ k l. link-agrees program g ts ts′ ws ws′ (getD ws entriesUsed 0) a k (rw u at l) (x .links k (rw u at l));
+}
 
 -- ---- one entry more
 last-more : (f : ℕ → Bool) (n : ℕ) → last f (n + 1) ≡ (if f n then (λ _. n + 1) else λ _. last f n)
@@ -131,6 +132,7 @@ module _ (program g ts ws ws′ : List ℕ) (t key : ℕ) (a : Added program g t
 
   pub index-added : Indexed program g ts ws′
   index-added = record {
-    few = rw (a .used) (omega (arith, a .left))
-    ; begins = λ c l. rw (a .used) (begin c l)
-    ; links = λ k l. link k (rw (a .used) at l) }
+    few = rw (a .used) (omega (arith, a .left));
+    begins = λ c l. rw (a .used) (begin c l);
+    links = λ k l. link k (rw (a .used) at l);
+  }

@@ -16,8 +16,9 @@ use Rattle.invariant.proofs.Agreement.{text-same, content-same, figure-
 
 pub lent-same : {g ts ws ts′ ws′ : List ℕ} → length ts′ ≡ length ts → length ws′ ≡ length ws → Lent g ts ws → Lent g ts′ ws′
 lent-same {g} {ts} {ws} {ts′} {ws′} t w l = record {
-  room = record { steps = l .room .steps; shapes = l .room .shapes; entries = l .room .entries; text = l .room .text; words = rw w (l .room .words) }
-  ; texts = rw t (l .texts) }
+  room = record { steps = l .room .steps; shapes = l .room .shapes; entries = l .room .entries; text = l .room .text; words = rw w (l .room .words) };
+  texts = rw t (l .texts);
+}
 
 module _ (program g ts ws : List ℕ) (v : Valid program g ts ws) (ws′ : List ℕ) (long : length ws′ ≡ length ws) where
   -- ---- the entries as they were
@@ -49,29 +50,31 @@ module _ (program g ts ws : List ℕ) (v : Valid program g ts ws) (ws′ : List 
     pub valid-lower : getD ws′ shapesUsed 0 ≡ getD ws shapesUsed 0 → getD ws′ entriesUsed 0 ≡ getD ws entriesUsed 0 → getD ws′ textUsed 0 ≡ getD ws textUsed 0
         → ((slot : ℕ) → SoundIn ws (getD ws′ (valuePlace slot) 0)) → ((k : ℕ) → SoundIn ws (argumentAt ws′ k)) → Valid program g ts ws′
     valid-lower s e t vs args = record {
-      lent = lent-same refl long (v .lent)
-      ; index = entries-agree upper ts (λ k l. contents (keyAt g ws k)) e
-      ; texts = rw t (v .texts)
-      ; shapes = rw s (v .shapes)
-      ; variables = λ slot. rw (t, s) (vs slot)
-      ; arguments = λ k. rw (t, s) (args k)
-      ; figures = λ i l. rw (t, same (shapePlace i) (omega arith)) (v .figures i l)
-      ; keys = λ k l. rw (t, s, key-same upper k) (v .keys k l)
-      ; values = λ k l. rw (t, s, value-same upper k) (v .values k l) }
+      lent = lent-same refl long (v .lent);
+      index = entries-agree upper ts (λ k l. contents (keyAt g ws k)) e;
+      texts = rw t (v .texts);
+      shapes = rw s (v .shapes);
+      variables = λ slot. rw (t, s) (vs slot);
+      arguments = λ k. rw (t, s) (args k);
+      figures = λ i l. rw (t, same (shapePlace i) (omega arith)) (v .figures i l);
+      keys = λ k l. rw (t, s, key-same upper k) (v .keys k l);
+      values = λ k l. rw (t, s, value-same upper k) (v .values k l);
+    }
 
     -- more is used or made, and nothing else is changed
     pub valid-more : getD ws shapesUsed 0 ≤ getD ws′ shapesUsed 0 → getD ws′ shapesUsed 0 ≤ shapesGranted g → getD ws′ entriesUsed 0 ≡ getD ws entriesUsed 0
         → getD ws textUsed 0 ≤ getD ws′ textUsed 0 → getD ws′ textUsed 0 ≤ textGranted g → ((q : ℕ) → 8 ≤ q → getD ws′ q 0 ≡ getD ws q 0) → Valid program g ts ws′
     valid-more s s′ e t t′ low = record {
-      lent = lent-same refl long (v .lent)
-      ; index = entries-agree upper ts (λ k l. contents (keyAt g ws k)) e
-      ; texts = t′
-      ; shapes = s′
-      ; variables = λ slot. rw (low (valuePlace slot) (omega arith)) (sound-more t s (v .variables slot))
-      ; arguments = λ k. rw (low (argumentPlace k) (omega arith)) (sound-more t s (v .arguments k))
-      ; figures = λ i l. rw (low (shapePlace i) (omega arith)) (held-more t (v .figures i l))
-      ; keys = λ k l. rw (key-same upper k) (sound-more t s (v .keys k l))
-      ; values = λ k l. rw (value-same upper k) (sound-more t s (v .values k l)) }
+      lent = lent-same refl long (v .lent);
+      index = entries-agree upper ts (λ k l. contents (keyAt g ws k)) e;
+      texts = t′;
+      shapes = s′;
+      variables = λ slot. rw (low (valuePlace slot) (omega arith)) (sound-more t s (v .variables slot));
+      arguments = λ k. rw (low (argumentPlace k) (omega arith)) (sound-more t s (v .arguments k));
+      figures = λ i l. rw (low (shapePlace i) (omega arith)) (held-more t (v .figures i l));
+      keys = λ k l. rw (key-same upper k) (sound-more t s (v .keys k l));
+      values = λ k l. rw (value-same upper k) (sound-more t s (v .values k l));
+    }
 
   -- ---- shapes: no key's content is changed, and every text is held
   pub valid-shapes : ((q : ℕ) → q < 24584 → getD ws′ q 0 ≡ getD ws q 0) → ((q : ℕ) → entryPlace g 0 ≤ q → getD ws′ q 0 ≡ getD ws q 0)
@@ -81,15 +84,16 @@ module _ (program g ts ws : List ℕ) (v : Valid program g ts ws) (ws′ : List 
       let t = low textUsed (omega arith) in
       let s = low shapesUsed (omega arith) in
       record {
-        lent = lent-same refl long (v .lent)
-        ; index = entries-agree up ts c (low entriesUsed (omega arith))
-        ; texts = rw t (v .texts)
-        ; shapes = rw s (v .shapes)
-        ; variables = λ slot. rw (t, s, low (valuePlace slot) (omega arith)) (v .variables slot)
-        ; arguments = λ k. rw (t, s, low (argumentPlace k) (omega arith)) (v .arguments k)
-        ; figures = λ i l. rw t (f i l)
-        ; keys = λ k l. rw (t, s, key-same up k) (v .keys k l)
-        ; values = λ k l. rw (t, s, value-same up k) (v .values k l) }
+        lent = lent-same refl long (v .lent);
+        index = entries-agree up ts c (low entriesUsed (omega arith));
+        texts = rw t (v .texts);
+        shapes = rw s (v .shapes);
+        variables = λ slot. rw (t, s, low (valuePlace slot) (omega arith)) (v .variables slot);
+        arguments = λ k. rw (t, s, low (argumentPlace k) (omega arith)) (v .arguments k);
+        figures = λ i l. rw t (f i l);
+        keys = λ k l. rw (t, s, key-same up k) (v .keys k l);
+        values = λ k l. rw (t, s, value-same up k) (v .values k l);
+      }
 
   -- ---- all before the entries as it was: a sound key has the content that it had
   pub content-kept : ((q : ℕ) → 8 ≤ q → q < entryPlace g 0 → getD ws′ q 0 ≡ getD ws q 0) → (key : ℕ) → SoundIn ws key → contentOf program ts ws′ key ≡ contentOf program ts ws key
@@ -105,31 +109,33 @@ module _ (program g ts ws : List ℕ) (v : Valid program g ts ws) (ws′ : List 
   pub valid-entries : getD ws′ shapesUsed 0 ≡ getD ws shapesUsed 0 → getD ws′ textUsed 0 ≡ getD ws textUsed 0 → ((q : ℕ) → 8 ≤ q → q < entryPlace g 0 → getD ws′ q 0 ≡ getD ws q 0)
       → Indexed program g ts ws′ → ((k : ℕ) → k < entriesGranted g → SoundIn ws (keyAt g ws′ k)) → ((k : ℕ) → k < entriesGranted g → SoundIn ws (valueAt g ws′ k)) → Valid program g ts ws′
   valid-entries s t low x ks vs = record {
-    lent = lent-same refl long (v .lent)
-    ; index = x
-    ; texts = rw t (v .texts)
-    ; shapes = rw s (v .shapes)
-    ; variables = λ slot. rw (t, s, low (valuePlace slot) (omega arith) (omega arith)) (v .variables slot)
-    ; arguments = λ k. rw (t, s, low (argumentPlace k) (omega arith) (omega arith)) (v .arguments k)
-    ; figures = λ i l. rw (t, low (shapePlace i) (omega arith) (omega arith)) (v .figures i l)
-    ; keys = λ k l. rw (t, s) (ks k l)
-    ; values = λ k l. rw (t, s) (vs k l) }
+    lent = lent-same refl long (v .lent);
+    index = x;
+    texts = rw t (v .texts);
+    shapes = rw s (v .shapes);
+    variables = λ slot. rw (t, s, low (valuePlace slot) (omega arith) (omega arith)) (v .variables slot);
+    arguments = λ k. rw (t, s, low (argumentPlace k) (omega arith) (omega arith)) (v .arguments k);
+    figures = λ i l. rw (t, low (shapePlace i) (omega arith) (omega arith)) (v .figures i l);
+    keys = λ k l. rw (t, s) (ks k l);
+    values = λ k l. rw (t, s) (vs k l);
+  }
 
 -- ---- texts laid behind what is used
 pub valid-texts : (program g ts ws : List ℕ) → Valid program g ts ws → (ts′ : List ℕ) → length ts′ ≡ length ts → take (getD ws textUsed 0) ts′ ≡ take (getD ws textUsed 0) ts → Valid program g ts′ ws
 valid-texts program g ts ws v ts′ long same = record {
-  lent = lent-same long refl (v .lent)
-  ; index =
+  lent = lent-same long refl (v .lent);
+  index =
       index-agrees program g ts ts′ ws ws
       (record { firsts = λ k l. refl; keys = λ k l. refl; contents = λ k l. content (keyAt g ws k) (v .keys k (omega (arith, v .index .few))) })
-      refl (λ b l. refl) (v .index)
-  ; texts = v .texts
-  ; shapes = v .shapes
-  ; variables = v .variables
-  ; arguments = v .arguments
-  ; figures = v .figures
-  ; keys = v .keys
-  ; values = v .values }
+      refl (λ b l. refl) (v .index);
+  texts = v .texts;
+  shapes = v .shapes;
+  variables = v .variables;
+  arguments = v .arguments;
+  figures = v .figures;
+  keys = v .keys;
+  values = v .values;
+}
   where
     content : (key : ℕ) → SoundIn ws key → contentOf program ts′ ws key ≡ contentOf program ts ws key
     content key e = content-same program ts ts′ ws ws key (λ k. text-same program ts ts′ (getD ws textUsed 0) _ (e .text k) same) (λ k.

@@ -27,15 +27,16 @@ use Rattle.invariant.proofs.Keeping.{grows-same, after-give, after-read
 pub valid-start : (program g ts ws : List ℕ) → Lent g ts ws → ((i : ℕ) → getD ws i 0 ≡ 0) → Valid program g ts ws
 unfolding last
 valid-start program g ts ws l z = record {
-  lent = l
-  ; index = record { few = rw (z entriesUsed) (omega arith); begins = λ b m. rw (z (headPlace g b), z entriesUsed); links = λ k m. absurd (omega (arith, z entriesUsed)) }
-  ; texts = rw (z textUsed) (omega arith)
-  ; shapes = rw (z shapesUsed) (omega arith)
-  ; variables = λ slot. rw (z (valuePlace slot)) (sound-zero _ _)
-  ; arguments = λ k. rw (z (argumentPlace k)) (sound-zero _ _)
-  ; figures = λ i m. rw (z (shapePlace i)) (record { within = λ n. absurd (n refl) })
-  ; keys = λ k m. rw (z (entryPlace g k + 1)) (sound-zero _ _)
-  ; values = λ k m. rw (z (entryPlace g k + 2)) (sound-zero _ _) }
+  lent = l;
+  index = record { few = rw (z entriesUsed) (omega arith); begins = λ b m. rw (z (headPlace g b), z entriesUsed); links = λ k m. absurd (omega (arith, z entriesUsed)) };
+  texts = rw (z textUsed) (omega arith);
+  shapes = rw (z shapesUsed) (omega arith);
+  variables = λ slot. rw (z (valuePlace slot)) (sound-zero _ _);
+  arguments = λ k. rw (z (argumentPlace k)) (sound-zero _ _);
+  figures = λ i m. rw (z (shapePlace i)) (record { small = omega arith; within = λ n. absurd (n refl) });
+  keys = λ k m. rw (z (entryPlace g k + 1)) (sound-zero _ _);
+  values = λ k m. rw (z (entryPlace g k + 2)) (sound-zero _ _);
+}
 
 -- ---- reading
 module _ {program g ts ws : List ℕ} (v : Valid program g ts ws) where
@@ -66,16 +67,18 @@ module _ {program g ts ws : List ℕ} (v : Valid program g ts ws) where
     unfolding store
     overwritten = kept (record {
       valid = valid-entries program g ts ws v (set ws place w) (length-set ws place w) (elsewhere 1 (λ e. omega arith)) (elsewhere 3 (λ e. omega arith)) (λ q a b. elsewhere q (λ e. omega arith))
-        (index-agrees program g ts ts ws (set ws place w)
-        (record { firsts = λ i m. elsewhere (entryPlace g i) (λ e. omega arith); keys = λ i m. elsewhere (entryPlace g i + 1) (λ e. omega arith); contents = same-content })
-        (elsewhere 2 (λ e. omega arith)) (λ b m. elsewhere (headPlace g b) (λ e. omega arith)) (v .index))
-        (λ i m. rw (elsewhere (entryPlace g i + 1) (λ e. omega arith)) (v .keys i m))
-        (λ i m. at-any (SoundIn ws) ws place w (entryPlace g i + 2) (v .values i m) (λ _. s))
-      ; grows = grows-same (elsewhere 3 (λ e. omega arith)) (elsewhere 1 (λ e. omega arith))
-      ; holds = tt })
+          (index-agrees program g ts ts ws (set ws place w)
+          (record { firsts = λ i m. elsewhere (entryPlace g i) (λ e. omega arith); keys = λ i m. elsewhere (entryPlace g i + 1) (λ e. omega arith); contents = same-content })
+          (elsewhere 2 (λ e. omega arith)) (λ b m. elsewhere (headPlace g b) (λ e. omega arith)) (v .index))
+          (λ i m. rw (elsewhere (entryPlace g i + 1) (λ e. omega arith)) (v .keys i m))
+          (λ i m. at-any (SoundIn ws) ws place w (entryPlace g i + 2) (v .values i m) (λ _. s));
+      grows = grows-same (elsewhere 3 (λ e. omega arith)) (elsewhere 1 (λ e. omega arith));
+      holds = tt;
+    })
       where
         low : (q : ℕ) → 8 ≤ q → q < entryPlace g 0 → getD (set ws place w) q 0 ≡ getD ws q 0
         low q a b = elsewhere q (λ e. omega arith)
+
         same-content : (i : ℕ) → i < getD ws entriesUsed 0 → contentOf program ts (set ws place w) (keyAt g ws i) ≡ contentOf program ts ws (keyAt g ws i)
         same-content i m = content-kept program g ts ws v (set ws place w) (length-set ws place w) low (keyAt g ws i) (v .keys i (omega (arith, v .index .few)))
 
@@ -179,17 +182,19 @@ module _ (program g ts ws : List ℕ) (v : Valid program g ts ws) (t key value :
   added : Added program g ts ws ws′ t key
   added = record {
     agree = record {
-      firsts = λ k l. other (entryPlace g k) (λ e. omega arith) (λ e. omega arith) (λ e. omega arith) (λ e. omega arith) (λ e. omega arith)
-      ; keys = λ k l. other (entryPlace g k + 1) (λ e. omega arith) (λ e. omega arith) (λ e. omega arith) (λ e. omega arith) (λ e. omega arith)
-      ; contents = λ k l. content-kept program g ts ws v ws′ long-as low (keyAt g ws k) (v .keys k (omega (arith, v .index .few))) }
-    ; used = laid-used ws at head t key value (n + 1) long (omega arith) (λ e. omega arith) (λ e. omega arith) inside (omega arith)
-    ; left = left
-    ; owner = rw first-is (omega arith)
-    ; key-there = laid-key ws at head t key value (n + 1) long (omega arith) (λ e. omega arith) (λ e. omega arith) inside (omega arith)
-    ; content = content-kept program g ts ws v ws′ long-as low key sk
-    ; link = rw first-is (omega arith)
-    ; head = laid-head ws at head t key value (n + 1) long (omega arith) (λ e. omega arith) (λ e. omega arith) inside (omega arith)
-    ; heads = λ c l m. other (headPlace g c) (λ e. m (omega arith)) (λ e. omega arith) (λ e. omega arith) (λ e. omega arith) (λ e. omega arith) }
+      firsts = λ k l. other (entryPlace g k) (λ e. omega arith) (λ e. omega arith) (λ e. omega arith) (λ e. omega arith) (λ e. omega arith);
+      keys = λ k l. other (entryPlace g k + 1) (λ e. omega arith) (λ e. omega arith) (λ e. omega arith) (λ e. omega arith) (λ e. omega arith);
+      contents = λ k l. content-kept program g ts ws v ws′ long-as low (keyAt g ws k) (v .keys k (omega (arith, v .index .few)));
+    };
+    used = laid-used ws at head t key value (n + 1) long (omega arith) (λ e. omega arith) (λ e. omega arith) inside (omega arith);
+    left = left;
+    owner = rw first-is (omega arith);
+    key-there = laid-key ws at head t key value (n + 1) long (omega arith) (λ e. omega arith) (λ e. omega arith) inside (omega arith);
+    content = content-kept program g ts ws v ws′ long-as low key sk;
+    link = rw first-is (omega arith);
+    head = laid-head ws at head t key value (n + 1) long (omega arith) (λ e. omega arith) (λ e. omega arith) inside (omega arith);
+    heads = λ c l m. other (headPlace g c) (λ e. m (omega arith)) (λ e. omega arith) (λ e. omega arith) (λ e. omega arith) (λ e. omega arith);
+  }
 
   sound : (q : ℕ) → (q ≡ head → ⊥) → (q ≡ 2 → ⊥) → (q ≡ at → ⊥) → SoundIn ws (getD ws q 0) → SoundIn ws (getD ws′ q 0)
   sound q n₁ n₂ n₃ h = laid-any ws at head t key value (n + 1) q n₁ (SoundIn ws) n₂ n₃ h sk sv
@@ -200,10 +205,11 @@ module _ (program g ts ws : List ℕ) (v : Valid program g ts ws) (t key value :
       let shape : getD ws′ 1 0 ≡ getD ws 1 0 = other 1 (λ e. omega arith) (λ e. omega arith) (λ e. omega arith) (λ e. omega arith) (λ e. omega arith) in
       kept {a = tt} {r = raw ts ws′} (record {
         valid = valid-entries program g ts ws v ws′ long-as shape text low (index-added program g ts ws ws′ t key added (v .index))
-          (λ k l. sound (entryPlace g k + 1) (λ e. omega arith) (λ e. omega arith) (λ e. omega arith) (v .keys k l))
-          (λ k l. sound (entryPlace g k + 2) (λ e. omega arith) (λ e. omega arith) (λ e. omega arith) (v .values k l))
-        ; grows = grows-same text shape
-        ; holds = tt })
+            (λ k l. sound (entryPlace g k + 1) (λ e. omega arith) (λ e. omega arith) (λ e. omega arith) (v .keys k l))
+            (λ k l. sound (entryPlace g k + 2) (λ e. omega arith) (λ e. omega arith) (λ e. omega arith) (v .values k l));
+        grows = grows-same text shape;
+        holds = tt;
+      })
 
 -- ---- storing
 module _ {program g ts ws : List ℕ} (v : Valid program g ts ws) (t key value p : ℕ) (small : t < 2 ^ 40) (sk : SoundIn ws key) (sv : SoundIn ws value) where
@@ -213,7 +219,7 @@ module _ {program g ts ws : List ℕ} (v : Valid program g ts ws) (t key value p
     where
       go : (c : Bool) → leb (getD ws 2 0 + 1) (getD g 2 0) ≡ c
           → After program g ws Any (goOn (if c then (λ _. done (tt {0}) (raw ts (set ws 2 (getD ws 2 0 + 1)))) else λ _. stop 77 p (raw ts ws))
-            (λ _. putEntry (entryPlace g (getD ws 2 0)) (headPlace g (bucketOf program g ts ws t key)) t key value (getD ws 2 0 + 1)))
+          (λ _. putEntry (entryPlace g (getD ws 2 0)) (headPlace g (bucketOf program g ts ws t key)) t key value (getD ws 2 0 + 1)))
       go true e = entry-added program g ts ws v t key value small sk sv (omega (arith, leb-true (getD ws 2 0 + 1) (getD g 2 0) e))
       go false e = stopped
 

@@ -12,12 +12,14 @@ use borrow.Author.Tests.{leb-true}
 use Rattle.meaning.specs.Basics.{if_then_else_}
 use Rattle.values.specs.declared.Value.{Value}
 use Rattle.values.specs.declared.Value.the-variants.{Nothing, Table}
+use Rattle.values.specs.declared.Answer.the-variants.{Good}
 use Rattle.values.specs.Words.{packed, unpacked}
 use Rattle.stores.specs.Layout.{shapesUsed, textUsed, declared, argumentsHeld, valuePlace, orderPlace, argumentPlace}
-use Rattle.stores.specs.Act.{raw, Out, done, stop, Act, goOn, _>>=_, give, fail, refuse, load, store, spend, count, newTable}
+use Rattle.stores.specs.Act.{Raw, raw, Out, done, stop, Act, goOn, _>>=_, give, fail, refuse, load, store, spend, count, newTable, shown, passed, Answers, Passes, PassesIn, Gives}
 use Rattle.stores.specs.Variables.{isDead, usable, variable, declare, setVariable}
 use Rattle.stores.specs.Arguments.{push, dropTo}
-use Rattle.invariant.specs.Invariant.{SoundIn, SoundValue, Valid, Grows, After, kept, stopped, Any}
+use Rattle.stores.specs.Tables.{Looks}
+use Rattle.invariant.specs.Invariant.{SoundIn, SoundValue, Valid, Grows, Kept, After, kept, stopped, Any}
 use Rattle.invariant.proofs.Soundness.{sound-more, sound-grows, sound-unpacked, sound-packed}
 use Rattle.invariant.proofs.Changes.{valid-set}
 
@@ -42,6 +44,32 @@ module _ {program g : List ℕ} where
   unfolding goOn
   after-then k (kept {a} {r} h) f = after-longer (h .grows) (f a (r .texts) (r .words) (h .valid) (h .grows) (h .holds))
   after-then k stopped f = stopped
+
+-- what code did and the act says
+pub kept-done : {A : Type 0} {program g before : List ℕ} {P : A → List ℕ → Type 0} {a : A} {r : Raw} → After program g before P (done a r) → Kept program g before P a r
+kept-done (kept k) = k
+
+pub kept-good : {program g before ts ws : List ℕ} {P : Value → List ℕ → Type 0} {u : Value} {o : Out Value} → shown (Good u) ts ws ≡ o → After program g before P o → Kept program g before P u (raw ts ws)
+unfolding shown
+kept-good e h = kept-done (rw (← e) at h)
+
+pub kept-answer : {program g ts ws ws′ : List ℕ} {P : Value → List ℕ → Type 0} {act : Act Value} {u : Value} → Answers ws act (Good u) ws′ → After program g ws P (act (raw ts ws)) → Kept program g ws P u (raw ts ws′)
+kept-answer {ts = ts} e h = kept-good (e .equal ts) h
+
+pub kept-pass : {program g ts ws ws′ : List ℕ} {P : Unit {0} → List ℕ → Type 0} {n p : ℕ} {act : ℕ → Act (Unit {0})} → Passes ws n act true ws′ → After program g ws P (act p (raw ts ws)) → Kept program g ws P tt (raw ts ws′)
+unfolding passed
+kept-pass {ts = ts} {p = p} e h = kept-done (rw (← e .equal p ts) at h)
+
+pub kept-pass-in : {program g ts ws ws′ : List ℕ} {P : Unit {0} → List ℕ → Type 0} {n p : ℕ} {act : ℕ → Act (Unit {0})} → PassesIn ts ws n act true ws′ → After program g ws P (act p (raw ts ws)) → Kept program g ws P tt (raw ts ws′)
+unfolding passed
+kept-pass-in {p = p} e h = kept-done (rw (← e .equal p) at h)
+
+pub kept-gift : {A : Type 0} {program g ts ws ws′ : List ℕ} {P : A → List ℕ → Type 0} {act : Act A} {a : A} → Gives ws act a ws′ → After program g ws P (act (raw ts ws)) → Kept program g ws P a (raw ts ws′)
+kept-gift {ts = ts} e h = kept-done (rw (← e .equal ts) at h)
+
+-- what a look-up needs
+pub looks : {program g ts ws : List ℕ} → Valid program g ts ws → Looks program g ts ws
+looks v = record { room = v .lent .room; index = v .index }
 
 module _ {program g ts ws : List ℕ} (v : Valid program g ts ws) where
   pub after-nothing : {A : Type 0} {P : A → List ℕ → Type 0} {a : A} → P a ws → After program g ws P (done a (raw ts ws))
@@ -75,17 +103,19 @@ module _ {program g ts ws : List ℕ} (v : Valid program g ts ws) where
   pub after-word : (j w : ℕ) → 8 ≤ j → j < 24584 → SoundIn ws w → After program g ws Any (store j w (raw ts ws))
   unfolding store
   after-word j w l m s = kept (record {
-    valid = valid-set program g ts ws v j w m (λ e. omega arith) (λ e. omega arith) (λ e. omega arith) (λ _ _. s) (λ _. s)
-    ; grows = grows-same (getD-set-other ws j 3 w 0 (λ e. omega arith)) (getD-set-other ws j 1 w 0 (λ e. omega arith))
-    ; holds = tt })
+    valid = valid-set program g ts ws v j w m (λ e. omega arith) (λ e. omega arith) (λ e. omega arith) (λ _ _. s) (λ _. s);
+    grows = grows-same (getD-set-other ws j 3 w 0 (λ e. omega arith)) (getD-set-other ws j 1 w 0 (λ e. omega arith));
+    holds = tt;
+  })
 
   -- any word in a place that is neither
   after-plain : (j w : ℕ) → j < 16392 → (j ≡ 1 → ⊥) → (j ≡ 2 → ⊥) → (j ≡ 3 → ⊥) → (8 ≤ j → 8200 ≤ j) → After program g ws Any (store j w (raw ts ws))
   unfolding store
   after-plain j w l n₁ n₂ n₃ n₄ = kept (record {
-    valid = valid-set program g ts ws v j w (omega arith) n₁ n₂ n₃ (λ p q. absurd (omega (arith, n₄ p))) (λ p. absurd (omega arith))
-    ; grows = grows-same (getD-set-other ws j 3 w 0 (λ e. n₃ (sym e))) (getD-set-other ws j 1 w 0 (λ e. n₁ (sym e)))
-    ; holds = tt })
+    valid = valid-set program g ts ws v j w (omega arith) n₁ n₂ n₃ (λ p q. absurd (omega (arith, n₄ p))) (λ p. absurd (omega arith));
+    grows = grows-same (getD-set-other ws j 3 w 0 (λ e. n₃ (sym e))) (getD-set-other ws j 1 w 0 (λ e. n₁ (sym e)));
+    holds = tt;
+  })
 
   after-order : (k w : ℕ) → After program g ws Any (store (orderPlace k) w (raw ts ws))
   after-order k w = after-plain (orderPlace k) w (omega arith) (λ e. omega arith) (λ e. omega arith) (λ e. omega arith) (λ l. omega arith)
@@ -106,7 +136,7 @@ module _ {program g ts ws : List ℕ} (v : Valid program g ts ws) where
   unfolding newTable _>>=_ goOn load SoundValue
   after-new-table =
       after-then (λ _. give (Table (getD ws 4 0 % 2 ^ 32))) (after-counter v 4 (getD ws 4 0 % 2 ^ 32 + 1) (omega arith) (omega arith))
-      (λ _ _ _ v₁ _ _. after-give v₁ SoundValue (Table (getD ws 4 0 % 2 ^ 32)) tt)
+      (λ _ _ _ v₁ _ _. after-give v₁ SoundValue (Table (getD ws 4 0 % 2 ^ 32)) (omega arith))
 
   -- ---- variables
   -- a sound value is given if it is usable

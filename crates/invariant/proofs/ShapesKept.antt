@@ -99,11 +99,12 @@ module _ (program g ts ws : List ℕ) (v : Valid program g ts ws) (f : Figure) (
       rw counted
       (kept {a = Shape i} {r = raw ts (set laid 1 (i + 1))} (record {
         valid = valid-more program g ts laid laid-valid (set laid 1 (i + 1)) (length-set laid 1 (i + 1)) (λ q l. getD-set-other laid 1 q (i + 1) 0 (λ e. omega arith))
-          (rw made (omega (arith, elsewhere 1 (λ e. omega arith) (λ e. omega arith) (λ e. omega arith)))) (rw made (omega arith))
-          (getD-set-other laid 1 2 (i + 1) 0 (λ e. omega arith)) (omega (arith, getD-set-other laid 1 3 (i + 1) 0 (λ e. omega arith))) (rw text-same-used (v .texts))
-          (λ q l. getD-set-other laid 1 q (i + 1) 0 (λ e. omega arith))
-        ; grows = record { texts = omega (arith, text-same-used); shapes = rw made (omega arith) }
-        ; holds = rw made (omega arith) }))
+            (rw made (omega (arith, elsewhere 1 (λ e. omega arith) (λ e. omega arith) (λ e. omega arith)))) (rw made (omega arith))
+            (getD-set-other laid 1 2 (i + 1) 0 (λ e. omega arith)) (omega (arith, getD-set-other laid 1 3 (i + 1) 0 (λ e. omega arith))) (rw text-same-used (v .texts))
+            (λ q l. getD-set-other laid 1 q (i + 1) 0 (λ e. omega arith));
+        grows = record { texts = omega (arith, text-same-used); shapes = rw made (omega arith) };
+        holds = rw made (omega arith);
+      }))
 
 pub after-new-shape : {program g ts ws : List ℕ} → Valid program g ts ws → (p : ℕ) (f : Figure) → HeldIn ws (f .text) → After program g ws SoundValue (newShape g p f (raw ts ws))
 unfolding newShape _>>=_ goOn load spend putFigure give if_then_else_
@@ -111,7 +112,7 @@ after-new-shape {program} {g} {ts} {ws} v p f h = go (leb (getD ws 1 0 + 1) (get
   where
     go : (b : Bool) → leb (getD ws 1 0 + 1) (getD g 1 0) ≡ b
         → After program g ws SoundValue (goOn (if b then (λ _. done (tt {0}) (raw ts (set ws 1 (getD ws 1 0 + 1)))) else λ _. stop 76 p (raw ts ws))
-          (λ _. putFigure (shapePlace (getD ws 1 0)) f >>= λ _. give (Shape (getD ws 1 0))))
+        (λ _. putFigure (shapePlace (getD ws 1 0)) f >>= λ _. give (Shape (getD ws 1 0))))
     go true e = shape-laid program g ts ws v f h (omega (arith, leb-true (getD ws 1 0 + 1) (getD g 1 0) e))
     go false e = stopped
 
@@ -121,25 +122,33 @@ module _ {program g ts ws : List ℕ} (v : Valid program g ts ws) where
   unfolding destroy _>>=_ goOn load store
   after-destroy i l = kept (record {
     valid = valid-shapes program g ts ws v ws′ (length-set ws at w′) (λ q m. other q (λ e. omega arith)) (λ q m. other q (λ e. omega (arith, v .shapes)))
-      (λ k m. content-same program ts ts ws ws′ (keyAt g ws k) (λ _. refl) (λ _. figure _))
-      (λ k m. rw (eighth k) (v .figures k m))
-    ; grows = grows-same (other 3 (λ e. omega arith)) (other 1 (λ e. omega arith))
-    ; holds = tt })
+        (λ k m. content-same program ts ts ws ws′ (keyAt g ws k) (λ _. refl) (λ _. figure _))
+        (λ k m. rw (eighth k) (v .figures k m));
+    grows = grows-same (other 3 (λ e. omega arith)) (other 1 (λ e. omega arith));
+    holds = tt;
+  })
     where
       at : ℕ
       at = shapePlace i
+
       w′ : ℕ
       w′ = destroyedWord (getD ws at 0)
+
       ws′ : List ℕ
       ws′ = set ws at w′
+
       other : (q : ℕ) → (q ≡ at → ⊥) → getD ws′ q 0 ≡ getD ws q 0
       other q n = getD-set-other ws at q w′ 0 n
+
       half : (w : ℕ) → destroyedWord w / 2 ≡ w / 2
       half w = omega arith
+
       halves : (k : ℕ) → getD ws′ (shapePlace k) 0 / 2 ≡ getD ws (shapePlace k) 0 / 2
       halves k = at-any (λ w. w / 2 ≡ getD ws (shapePlace k) 0 / 2) ws at w′ (shapePlace k) refl (λ e. half (getD ws at 0) ∙ ap (λ (q : ℕ). getD ws q 0 / 2) (sym e))
+
       eighth : (k : ℕ) → getD ws′ (shapePlace k) 0 / 8 ≡ getD ws (shapePlace k) 0 / 8
       eighth k = omega (arith, halves k)
+
       figure : (k : ℕ) → figureContent program ts ws′ k ≡ figureContent program ts ws k
       figure k = figure-same program ts ts ws ws′ k (ap (λ (w : ℕ). w % 4) (halves k)) (other (shapePlace k + 1) (λ e. omega arith)) (other (shapePlace k + 2) (λ e. omega arith)) (ap (textOf program ts) (eighth k))
 
@@ -179,14 +188,15 @@ module _ (program g ts ws : List ℕ) (v : Valid program g ts ws) (n : ℕ) (wit
   unfolding SoundValue
   text-laid =
       let v₁ : Valid program g (laidAt ts used x) ws =
-          valid-texts program g ts ws v (laidAt ts used x) (length-laid ts used x) (kept-laid ts used x (omega (arith, v .texts, v .lent .texts))) in
+      valid-texts program g ts ws v (laidAt ts used x) (length-laid ts used x) (kept-laid ts used x (omega (arith, v .texts, v .lent .texts))) in
       let other : (q : ℕ) → (q ≡ 3 → ⊥) → getD ws′ q 0 ≡ getD ws q 0 = λ q e. getD-set-other ws 3 q (used + n) 0 e in
       kept {a = Text (handle 1 used n)} {r = raw (laidAt ts used x) ws′} (record {
         valid = valid-more program g (laidAt ts used x) ws v₁ ws′ (length-set ws 3 (used + n)) (λ q l. other q (λ e. omega arith))
-          (omega (arith, other 1 (λ e. omega arith))) (rw (other 1 (λ e. omega arith)) (v .shapes)) (other 2 (λ e. omega arith)) (rw now-used (omega arith)) (rw now-used within)
-          (λ q l. other q (λ e. omega arith))
-        ; grows = record { texts = rw now-used (omega arith); shapes = omega (arith, other 1 (λ e. omega arith)) }
-        ; holds = rw now-used (held-new used n (used + n) (omega (arith, v .lent .room .text)) (omega arith)) })
+            (omega (arith, other 1 (λ e. omega arith))) (rw (other 1 (λ e. omega arith)) (v .shapes)) (other 2 (λ e. omega arith)) (rw now-used (omega arith)) (rw now-used within)
+            (λ q l. other q (λ e. omega arith));
+        grows = record { texts = rw now-used (omega arith); shapes = omega (arith, other 1 (λ e. omega arith)) };
+        holds = rw now-used (held-new used n (used + n) (omega (arith, v .lent .room .text)) (omega arith));
+      })
 
 pub after-join : {program g ts ws : List ℕ} → Valid program g ts ws → (p a b : ℕ) → After program g ws SoundValue (joinTexts program g p a b (raw ts ws))
 unfolding joinTexts _>>=_ goOn load spend putJoined give if_then_else_
@@ -194,6 +204,6 @@ after-join {program} {g} {ts} {ws} v p a b = go (leb (getD ws 3 0 + (sizeIn a + 
   where
     go : (c : Bool) → leb (getD ws 3 0 + (sizeIn a + sizeIn b)) (getD g 3 0) ≡ c
         → After program g ws SoundValue (goOn (if c then (λ _. done (tt {0}) (raw ts (set ws 3 (getD ws 3 0 + (sizeIn a + sizeIn b))))) else λ _. stop 78 p (raw ts ws))
-          (λ _. putJoined program (getD ws 3 0) a b >>= λ _. give (Text (handle 1 (getD ws 3 0) (sizeIn a + sizeIn b)))))
+        (λ _. putJoined program (getD ws 3 0) a b >>= λ _. give (Text (handle 1 (getD ws 3 0) (sizeIn a + sizeIn b)))))
     go true e = text-laid program g ts ws v (sizeIn a + sizeIn b) (leb-true _ _ e) (joined program ts (getD ws 3 0) a b)
     go false e = stopped

@@ -1,8 +1,9 @@
 -- What holds of the words and the text store all through a run: no word leads to a text or a shape that is not there, and the index of entries is right.
-use Prim.Native.Nat.{ℕ, _+_, _/_, _≤_, _<_}
+use Prim.Native.Nat.{ℕ, _+_, _/_, _^_, _≤_, _<_}
 use mathlib.Core.Path.{_≡_}
 use mathlib.Core.List.{List}
 use lib.ListN.{getD}
+use lib.Signed.{mag}
 use Rattle.values.specs.declared.Value.{Value}
 use Rattle.values.specs.declared.Value.the-variants.{Integer, Text, Boolean, Nothing, Table, Shape}
 use Rattle.values.specs.Words.{kindIn, numberIn, handleIn}
@@ -14,6 +15,7 @@ use Rattle.stores.specs.Tables.{keyAt, valueAt, Indexed}
 
 -- a handle's text lies in the program, or in so much of the text store
 pub record Held (texts h : ℕ) : Type 0 where
+  pub small : h < 2 ^ 40
   pub within : (originIn h ≡ 0 → ⊥) → startIn h + sizeIn h ≤ texts
 
 -- a word's text lies there, and its shape is one of so many
@@ -28,13 +30,13 @@ SoundIn ws w = Sound (getD ws textUsed 0) (getD ws shapesUsed 0) w
 abbrev pub HeldIn : List ℕ → ℕ → Type 0
 HeldIn ws h = Held (getD ws textUsed 0) h
 
--- the same of a value
+-- the same of a value, which a word can hold
 unfoldable pub SoundValue : Value → List ℕ → Type 0
-SoundValue (Integer z) ws = Unit {0}
+SoundValue (Integer z) ws = mag z < 2 ^ 31
 SoundValue (Text h) ws = HeldIn ws h
 SoundValue (Boolean b) ws = Unit {0}
 SoundValue Nothing ws = Unit {0}
-SoundValue (Table t) ws = Unit {0}
+SoundValue (Table t) ws = t < 2 ^ 32
 SoundValue (Shape i) ws = i < getD ws shapesUsed 0
 
 pub record Valid (program g ts ws : List ℕ) : Type 0 where
