@@ -1,0 +1,149 @@
+-- The code of a program: its tree as a list of words, which the evaluator runs.
+-- An expression's word stands behind its parts, so the last word of its code is its root. A statement's word stands before its parts, so the code of
+-- a body's statements is theirs one after the other. Each word holds how many words its code has. Parentheses leave no word.
+use Prim.Native.Nat.{ℕ, _+_, _*_, _/_, _%_}
+use mathlib.Core.Bool.{Bool, true, false}
+use mathlib.Core.List.{List, [], _∷_, _++_}
+use lib.ListN.{length}
+use Rattle.meaning.specs.Token.{Token, aName, aString}
+use Rattle.meaning.specs.Tree.{Operator, concatenate, add, subtract, multiply, divide, remainder, shiftRight, shiftLeft, equal, unequal, greater, less, Expression, number, string, nothing, truth, name, table, entry, operation, call, paren, Arguments, noArgument, argument, Statement, declare, assign, update, when, while, return, block, act, Statements, only, first}
+use Rattle.meaning.specs.Grammar.{startAt}
+use Rattle.meaning.specs.Integer.{bits}
+use Rattle.names.specs.Prepared.{home, libraryNumber}
+
+-- A word: 8 bits for its tag, 24 for how many words its code has, 32 for a number that the tag explains.
+unfoldable pub word : ℕ → ℕ → ℕ → ℕ
+word tag size n = tag + 256 * size + 4294967296 * n
+
+abbrev pub tagIn : ℕ → ℕ
+tagIn w = w % 256
+
+abbrev pub sizeIn : ℕ → ℕ
+sizeIn w = w / 256 % 16777216
+
+abbrev pub numberIn : ℕ → ℕ
+numberIn w = w / 4294967296
+
+-- ---- tags of expressions
+abbrev pub tagNumber : ℕ
+tagNumber = 1
+
+abbrev pub tagString : ℕ
+tagString = 2
+
+abbrev pub tagNone : ℕ
+tagNone = 3
+
+abbrev pub tagTruth : ℕ
+tagTruth = 4
+
+abbrev pub tagName : ℕ
+tagName = 5
+
+abbrev pub tagTable : ℕ
+tagTable = 6
+
+abbrev pub tagEntry : ℕ
+tagEntry = 7
+
+abbrev pub tagCall : ℕ
+tagCall = 8
+
+-- stands before an argument; holds how many words the argument has
+abbrev pub tagArgument : ℕ
+tagArgument = 9
+
+-- 16 to 27
+unfoldable pub tagOf : Operator → ℕ
+tagOf concatenate = 16
+tagOf add = 17
+tagOf subtract = 18
+tagOf multiply = 19
+tagOf divide = 20
+tagOf remainder = 21
+tagOf shiftRight = 22
+tagOf shiftLeft = 23
+tagOf equal = 24
+tagOf unequal = 25
+tagOf greater = 26
+tagOf less = 27
+
+-- ---- tags of statements
+abbrev pub tagDeclare : ℕ
+tagDeclare = 32
+
+abbrev pub tagAssign : ℕ
+tagAssign = 33
+
+abbrev pub tagUpdate : ℕ
+tagUpdate = 34
+
+abbrev pub tagWhen : ℕ
+tagWhen = 35
+
+abbrev pub tagWhile : ℕ
+tagWhile = 36
+
+abbrev pub tagReturn : ℕ
+tagReturn = 37
+
+abbrev pub tagBlock : ℕ
+tagBlock = 38
+
+abbrev pub tagAct : ℕ
+tagAct = 39
+
+-- ---- expressions
+-- a variable is known by the first token with its name
+abbrev pub slotOf : List Token → List ℕ → ℕ
+slotOf ts x = home ts aName x
+
+-- where a string's text stands in the program, and how long it is, of the first token with that string
+abbrev pub partOf : List Token → List ℕ → ℕ
+partOf ts t = startAt ts (home ts aString t) + 1 + 65536 * length t
+
+abbrev pub truthNumber : Bool → ℕ
+truthNumber true = 1
+truthNumber false = 0
+
+-- the code of two parts with a word behind them that holds how many words the second has
+abbrev pub joined : ℕ → List ℕ → List ℕ → List ℕ
+joined tag a b = a ++ (b ++ (word tag (length a + length b + 1) (length b) ∷ []))
+
+unfoldable mutual
+  pub codeOf : Expression → List Token → List ℕ
+  codeOf (number z) ts = word tagNumber 1 (bits z) ∷ []
+  codeOf (string t) ts = word tagString 1 (partOf ts t) ∷ []
+  codeOf nothing ts = word tagNone 1 0 ∷ []
+  codeOf (truth b) ts = word tagTruth 1 (truthNumber b) ∷ []
+  codeOf (name x) ts = word tagName 1 (slotOf ts x) ∷ []
+  codeOf (table e) ts = codeOf e ts ++ (word tagTable (length (codeOf e ts) + 1) 0 ∷ [])
+  codeOf (entry a b) ts = joined tagEntry (codeOf a ts) (codeOf b ts)
+  codeOf (operation o a b) ts = joined (tagOf o) (codeOf a ts) (codeOf b ts)
+  codeOf (call f es) ts =
+      codeOfAll es ts ++ (word tagCall (length (codeOfAll es ts) + 1) (libraryNumber f) ∷ [])
+  codeOf (paren e) ts = codeOf e ts
+
+  pub codeOfAll : Arguments → List Token → List ℕ
+  codeOfAll noArgument ts = []
+  codeOfAll (argument e es) ts = word tagArgument (length (codeOf e ts)) 0 ∷ (codeOf e ts ++ codeOfAll es ts)
+
+-- ---- statements
+-- a word before its parts, with the place and another number
+abbrev pub headed : ℕ → ℕ → ℕ → List ℕ → List ℕ
+headed tag p n parts = word tag (length parts + 1) (p + 65536 * n) ∷ parts
+
+unfoldable mutual
+  pub codeOfStatement : Statement → List Token → List ℕ
+  codeOfStatement (declare p x) ts = headed tagDeclare p (slotOf ts x) []
+  codeOfStatement (assign p x e) ts = headed tagAssign p (slotOf ts x) (codeOf e ts)
+  codeOfStatement (update p a b e) ts = headed tagUpdate p 0 (codeOf a ts ++ (codeOf b ts ++ codeOf e ts))
+  codeOfStatement (when p e s) ts = headed tagWhen p (length (codeOf e ts)) (codeOf e ts ++ codeOfStatement s ts)
+  codeOfStatement (while p e s) ts = headed tagWhile p (length (codeOf e ts)) (codeOf e ts ++ codeOfStatement s ts)
+  codeOfStatement (return p e) ts = headed tagReturn p 0 (codeOf e ts)
+  codeOfStatement (block p ss) ts = headed tagBlock p 0 (codeOfStatements ss ts)
+  codeOfStatement (act p e) ts = headed tagAct p 0 (codeOf e ts)
+
+  pub codeOfStatements : Statements → List Token → List ℕ
+  codeOfStatements (only s) ts = codeOfStatement s ts
+  codeOfStatements (first s ss) ts = codeOfStatement s ts ++ codeOfStatements ss ts

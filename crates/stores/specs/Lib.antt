@@ -1,0 +1,6 @@
+pub mod Layout
+pub mod Act
+pub mod Shapes
+pub mod Variables
+pub mod Arguments
+pub mod Texts
