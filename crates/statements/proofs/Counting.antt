@@ -137,5 +137,5 @@ module _ (ws : List ℕ) (n a b i : ℕ) (g : Counting ws n a b i) where
               count = omega (arith, g .count, length-append (g .done) (x ∷ []));
               first = f;
               second = s;
-              ahead = omega (arith, g .ahead)
+              ahead = omega (arith, g .ahead);
             }

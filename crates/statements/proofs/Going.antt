@@ -61,7 +61,7 @@ going-starts left ws i n s o = record { same = refl; ahead = omega arith; space 
 
 -- a list put before what is read
 shifted : (g : Got (List ℕ)) (c s s₁ : List ℕ) (m q : ℕ) → q ≡ m + length c → take q s₁ ≡ take m s ++ c
-  → writtenCode (after g λ cs j. good (c ++ cs) j) m s ≡ writtenCode g q s₁
+    → writtenCode (after g λ cs j. good (c ++ cs) j) m s ≡ writtenCode g q s₁
 unfolding writtenCode after
 shifted (wrong k p) c s s₁ m q h f = refl
 shifted (good cs j) c s s₁ m q h f =
@@ -88,7 +88,7 @@ module _ (left : ℕ) (ws : List ℕ) (i n : ℕ) (s₀ : List ℕ) (p m : ℕ) 
         record {
           ahead = y .ahead;
           within = y .within;
-          space = record { behind = omega (arith, w .upTo, y .paid, o .behind); wide = omega (arith, o .wide); few = o .few }
+          space = record { behind = omega (arith, w .upTo, y .paid, o .behind); wide = omega (arith, o .wide); few = o .few };
         }
 
     module _ (kind : ℕ) (k : kind ≡ kindAt ws j) where
@@ -98,7 +98,7 @@ module _ (left : ℕ) (ws : List ℕ) (i n : ℕ) (s₀ : List ℕ) (p m : ℕ) 
           let w = wrote-code e (statement left ws p) m s s₁ j q t h u in
           let y = turned in
           let r : writtenCode (rest left ws p) m s ≡ writtenCode (rest left ws j) q s₁ =
-            rw (rest-turns left ws p, w .read, ← k, ne-eqb _ _ c) (shifted (rest left ws j) (w .code) s s₁ m q (w .upTo) (w .front)) in
+          rw (rest-turns left ws p, w .read, ← k, ne-eqb _ _ c) (shifted (rest left ws j) (w .code) s s₁ m q (w .upTo) (w .front)) in
           record { same = g .same ∙ r; ahead = omega (arith, g .ahead, y .ahead); space = y .space; kept = omega (arith, g .kept) }
 
       pub going-ends : kind ≡ 125 → seen (At (j + 1) q 0) s₁ ≡ writtenCode (statements (statement left ws) ws i) n s₀

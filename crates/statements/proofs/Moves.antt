@@ -37,14 +37,14 @@ space-inside ws s i n k o = token-inside ws i k
 
 -- the word before code that was written from the word k on
 pub parts-code : (g : Got (List ℕ)) (ws : List ℕ) (i n k tag x : ℕ) (s s₁ : List ℕ) (e : Read) → seen e s₁ ≡ writtenCode g k s → ((c : List ℕ) (j : ℕ) → g ≡ good c j → Paid c ws i j)
-  → n < k → k ≤ i → length ws ≤ 65536 → tag < 256 → x < 65536 → Parts e n tag x
+    → n < k → k ≤ i → length ws ≤ 65536 → tag < 256 → x < 65536 → Parts e n tag x
 parts-code g ws i n k tag x s s₁ e h pays l b f t u = record {
   smallTag = t;
   smallNumber = u;
   parts = λ j m z q.
-    let w = wrote-code e g k s s₁ j m z h q in
-    let p = pays (w .code) j (w .read) in
-    omega (arith, w .upTo, p .paid, p .within)
+      let w = wrote-code e g k s s₁ j m z h q in
+      let p = pays (w .code) j (w .read) in
+      omega (arith, w .upTo, p .paid, p .within);
 }
 
 -- the same where the code was written before, up to the word m
@@ -53,9 +53,9 @@ parts-closed ws k n j m t tag x e h l b f u = record {
   smallTag = f;
   smallNumber = u;
   parts = λ j′ m′ t′ q.
-    let z = closed-at k ws (At j m t) j′ m′ t′ (sym h ∙ q) in
-    let v : m ≡ m′ = let y = z .2 in cc in
-    omega arith
+      let z = closed-at k ws (At j m t) j′ m′ t′ (sym h ∙ q) in
+      let v : m ≡ m′ = let y = z .2 in cc in
+      omega arith;
 }
 
 -- ---- an expression and a semicolon, a test
@@ -80,8 +80,8 @@ module _ (ws : List ℕ) (i n : ℕ) (s₀ s : List ℕ) (left : ℕ) where
 
 -- ---- the word before an expression and a semicolon
 closed-headed : (g : Got Piece) (d r : Read) (ws b s₀ s s₁ s₂ : List ℕ) (tag p n x k : ℕ) → n < length s₀ → k ≡ n + 1 + length b → take k s ≡ take (n + 1) s₀ ++ b
-  → seen d s₁ ≡ writtenCode (after g λ e j. expect semicolon ws j (e .code)) k s → seen r s₂ ≡ topped tag p n x (seen d s₁)
-  → seen r s₂ ≡ writtenCode (after g λ e j. expect semicolon ws j (headed tag p x (b ++ e .code))) n s₀
+    → seen d s₁ ≡ writtenCode (after g λ e j. expect semicolon ws j (e .code)) k s → seen r s₂ ≡ topped tag p n x (seen d s₁)
+    → seen r s₂ ≡ writtenCode (after g λ e j. expect semicolon ws j (headed tag p x (b ++ e .code))) n s₀
 closed-headed g d r ws b s₀ s s₁ s₂ tag p n x k l u f h q =
     q ∙ ap (topped tag p n x) h ∙ topped-writes _ b s₀ s tag p n x k l u f ∙ ap (λ y. writtenCode y n s₀) (expects-after g semicolon ws (λ c. headed tag p x (b ++ c)))
 
@@ -92,14 +92,14 @@ module _ (ws : List ℕ) (i n : ℕ) (s₀ : List ℕ) (o : Space ws s₀ i n) w
     declaration-other h = rw (← k, ne-eqb _ _ h) (wrong-seen 10 (i + 1) n s₀ s₀)
 
     pub declaration-reads : (e r : Read) (s : List ℕ) (x : ℕ) → kind ≡ 1 → i < length ws → e ≡ closed 59 ws (At (i + 2) (n + 1) 0) → x ≡ homeAt ws (i + 1) → seen r s ≡ topped 32 (placeAt ws i) n x (seen e s₀)
-      → seen r s ≡ writtenCode (declaration ws i) n s₀
+        → seen r s ≡ writtenCode (declaration ws i) n s₀
     unfolding declaration if_then_else_ after
     declaration-reads e r s x h l c u q =
         let d = closed-reads (At (i + 2) (n + 1) 0) _ 59 (n + 1) ws s₀ s₀ (nothing-seen (i + 2) (n + 1) s₀) in
         rw (← k, h, ← u) (closed-headed (good (piece [] 0) (i + 2)) e r ws [] s₀ s₀ s₀ s 32 (placeAt ws i) n x (n + 1) (omega (arith, o .behind, o .wide)) (omega arith) (sym (append-nil _)) (rw c d) q)
 
   pub returning-reads : (left : ℕ) (e r : Read) (s₁ s₂ : List ℕ) → i < length ws → seen e s₁ ≡ writtenCode (ended (expression left ws) ws (i + 1)) (n + 1) s₀ → seen r s₂ ≡ topped 37 (placeAt ws i) n 0 (seen e s₁)
-    → seen r s₂ ≡ writtenCode (returning (expression left ws) ws i) n s₀
+      → seen r s₂ ≡ writtenCode (returning (expression left ws) ws i) n s₀
   unfolding returning ended
   returning-reads left e r s₁ s₂ l h q =
       closed-headed (expression left ws (i + 1)) e r ws [] s₀ s₀ s₁ s₂ 37 (placeAt ws i) n 0 (n + 1) (omega (arith, o .behind, o .wide)) (omega arith) (sym (append-nil _)) h q
@@ -155,7 +155,7 @@ module _ (left : ℕ) (ws : List ℕ) (i n : ℕ) (s₀ s : List ℕ) (o : Space
             rw (w .read, ← k, z, ne-eqb _ _ u, ne-eqb _ _ v) (wrong-seen 10 j n s₀ s)
 
         pub simple-assigns : (d r : Read) (s₁ s₂ : List ℕ) (x : ℕ) → t ≡ 1 → seen d s₁ ≡ writtenCode (ended (expression left ws) ws (j + 1)) (n + 1) s → x ≡ homeAt ws i
-          → seen r s₂ ≡ topped 33 (placeAt ws i) n x (seen d s₁) → seen r s₂ ≡ writtenCode (simple (expression left ws) ws i) n s₀
+            → seen r s₂ ≡ topped 33 (placeAt ws i) n x (seen d s₁) → seen r s₂ ≡ writtenCode (simple (expression left ws) ws i) n s₀
         unfolding simple assignment ended after if_then_else_
         simple-assigns d r s₁ s₂ x f y u q =
             let w = wrote a _ (n + 1) s₀ s j m t h e in
@@ -167,7 +167,7 @@ module _ (left : ℕ) (ws : List ℕ) (i n : ℕ) (s₀ s : List ℕ) (o : Space
             (closed-headed (expression left ws (j + 1)) d r ws [] s₀ s s₁ s₂ 33 (placeAt ws i) n x (n + 1) l (omega arith) v y q)
 
         pub simple-updates : (d r : Read) (s₁ s₂ : List ℕ) → t ≡ 2 → seen d s₁ ≡ writtenCode (ended (expression left ws) ws (j + 1)) (m - 1) s
-          → seen r s₂ ≡ topped 34 (placeAt ws i) n 0 (seen d s₁) → seen r s₂ ≡ writtenCode (simple (expression left ws) ws i) n s₀
+            → seen r s₂ ≡ topped 34 (placeAt ws i) n 0 (seen d s₁) → seen r s₂ ≡ writtenCode (simple (expression left ws) ws i) n s₀
         unfolding simple assignment withoutLast ended after if_then_else_
         simple-updates d r s₁ s₂ f y q =
             let w = wrote a _ (n + 1) s₀ s j m t h e in
@@ -188,13 +188,13 @@ inside-level (suc left) ws h = let q : suc left - 1 ≡ left = omega arith in rw
 
 -- a test, and a body a level further in
 guarded-tests : (left : ℕ) (ws : List ℕ) (tag p i : ℕ)
-  → guarded tag p (insideOf left ws) ws i ≡ after (test (Expressions.insideOf left ws) ws i) λ c m. after (statement (left - 1) ws m) λ s q. good (headed tag p (length c) (c ++ s)) q
+    → guarded tag p (insideOf left ws) ws i ≡ after (test (Expressions.insideOf left ws) ws i) λ c m. after (statement (left - 1) ws m) λ s q. good (headed tag p (length c) (c ++ s)) q
 unfolding guarded test insideOf Expressions.insideOf opening after
 guarded-tests zero ws tag p i = sym (chosen-after (is openParen ws i) (λ _. wrong 75 i) (λ _. wrong 10 i) _)
 guarded-tests (suc left) ws tag p i =
     let q : suc left - 1 ≡ left = omega arith in
     rw q (sym (chosen-after (is openParen ws i) (λ _. after (expression left ws (i + 1)) λ e j. expect closeParen ws j (e .code)) (λ _. wrong 10 i) _
-      ∙ ap (λ g. if is openParen ws i then (λ _. g) else λ _. wrong 10 i) (after-after (expression left ws (i + 1)) _ _)))
+    ∙ ap (λ g. if is openParen ws i then (λ _. g) else λ _. wrong 10 i) (after-after (expression left ws (i + 1)) _ _)))
 
 -- behind a test that ends before token j and word m
 pub record Tested (left : ℕ) (ws s : List ℕ) (i n j m : ℕ) : Type 0 where
@@ -227,11 +227,11 @@ module _ (left : ℕ) (ws : List ℕ) (i n : ℕ) (s₀ s : List ℕ) (o : Space
           ahead = omega (arith, p .ahead);
           within = p .within;
           some = omega (arith, w .upTo, p .some);
-          small = omega (arith, w .upTo, p .paid, p .within, o .few)
+          small = omega (arith, w .upTo, p .paid, p .within, o .few);
         }
 
     pub guarded-reads : (tag : ℕ) (b r : Read) (s₁ s₂ : List ℕ) → seen b s₁ ≡ writtenCode (statement (left - 1) ws j) m s → seen r s₂ ≡ topped tag (placeAt ws i) n (m - n - 1) (seen b s₁)
-      → seen r s₂ ≡ writtenCode (guarded tag (placeAt ws i) (insideOf left ws) ws (i + 1)) n s₀
+        → seen r s₂ ≡ writtenCode (guarded tag (placeAt ws i) (insideOf left ws) ws (i + 1)) n s₀
     unfolding after
     guarded-reads tag b r s₁ s₂ y u =
         let w = wrote-code e _ (n + 1) s₀ s j m t h q in
@@ -248,7 +248,7 @@ module _ (left : ℕ) (ws : List ℕ) (i n : ℕ) (s₀ : List ℕ) (k : kindAt 
   block-none l = rw (statement-levels left ws i, l, k) (wrong-seen 75 i n s₀ s₀)
 
   pub block-reads : (b r : Read) (s₁ s₂ : List ℕ) → Space ws s₀ i n → (left ≡ 0 → ⊥) → seen b s₁ ≡ writtenCode (statements (statement (left - 1) ws) ws (i + 1)) (n + 1) s₀
-    → seen r s₂ ≡ topped 38 (placeAt ws i) n 0 (seen b s₁) → seen r s₂ ≡ writtenCode (statement left ws i) n s₀
+      → seen r s₂ ≡ topped 38 (placeAt ws i) n 0 (seen b s₁) → seen r s₂ ≡ writtenCode (statement left ws i) n s₀
   unfolding statementIn opening if_then_else_
   block-reads b r s₁ s₂ o l y u =
       let w = token-inside ws i 123 k (λ z. omega arith) in

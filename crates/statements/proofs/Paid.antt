@@ -67,9 +67,9 @@ module _ (ws : List ℕ) (inner : ReadCode) (ok : PaysCode ws inner) where
       chosen (Pays ws i) (is closeBrace ws j) _ _
       (λ b. let w = kind-inside ws j 124 b in record { some = p .some; ahead = omega (arith, p .ahead); paid = omega (arith, p .paid); within = omega arith })
       (λ _. on ws i (statementsFrom rounds inner ws j) _ λ ss m q₂.
-        let p₂ = pays ws j _ (statements-from-pay rounds j) ss m q₂ in
-        let l = length-append s ss in
-        record { some = omega (arith, p .some); ahead = omega (arith, p .ahead, p₂ .ahead); paid = omega (arith, p .paid, p₂ .paid); within = p₂ .within })
+      let p₂ = pays ws j _ (statements-from-pay rounds j) ss m q₂ in
+      let l = length-append s ss in
+      record { some = omega (arith, p .some); ahead = omega (arith, p .ahead, p₂ .ahead); paid = omega (arith, p .paid, p₂ .paid); within = p₂ .within })
 
 -- what was expected is what was there
 pub expect-good : {A : Type 0} (k : ℕ) (ws : List ℕ) (j : ℕ) (a b : A) (m : ℕ) → expect k ws j a ≡ good b m → (a ≡ b) × (m ≡ j + 1)
@@ -77,7 +77,7 @@ unfolding expect
 expect-good {A} k ws j a b m = chosen (λ g. g ≡ good b m → (a ≡ b) × (m ≡ j + 1)) (is k ws j) _ _ (λ _ q. (cc, cc)) (λ _ q. let z : _≡_ {A = ℕ} 0 1 = cc in absurd (omega arith))
 
 opened : (ws : List ℕ) (i p : ℕ) (inside : Inside Readers) (f : Readers → Got (List ℕ)) → PaysInside ws inside
-  → ((r : Readers) → PaysPiece ws (r .inExpression) → PaysCode ws (r .inStatement) → Pays ws i (f r)) → Pays ws i (opening inside p f)
+    → ((r : Readers) → PaysPiece ws (r .inExpression) → PaysCode ws (r .inStatement) → Pays ws i (f r)) → Pays ws i (opening inside p f)
 unfolding opening
 opened ws i p noLevel f ok h = tt
 opened ws i p (level r) f ok h = h r (ok .0) (ok .1)
@@ -88,20 +88,20 @@ unfolding guarded
 guarded-pays ws tag p inside deep i =
     chosen (Pays ws i) (is openParen ws (i + 1)) _ _
     (λ _. opened ws i (i + 1) inside _ deep λ r pieces codes.
-      on ws i (r .inExpression (i + 1 + 1)) _ λ e j q.
-      on ws i (expect closeParen ws j (e .code)) _ λ c m q₂.
-      on ws i (r .inStatement m) _ λ s z q₃.
-      let w = pieces (i + 1 + 1) e j q in
-      let v = codes m s z q₃ in
-      let x = expect-good closeParen ws j (e .code) c m q₂ in
-      let l : length (e .code) ≡ length c = rw (x .0) in
-      let a = length-append c s in
-      record { some = omega arith; ahead = omega (arith, w .ahead, v .ahead); paid = omega (arith, w .paid, v .paid); within = v .within })
+    on ws i (r .inExpression (i + 1 + 1)) _ λ e j q.
+    on ws i (expect closeParen ws j (e .code)) _ λ c m q₂.
+    on ws i (r .inStatement m) _ λ s z q₃.
+    let w = pieces (i + 1 + 1) e j q in
+    let v = codes m s z q₃ in
+    let x = expect-good closeParen ws j (e .code) c m q₂ in
+    let l : length (e .code) ≡ length c = rw (x .0) in
+    let a = length-append c s in
+    record { some = omega arith; ahead = omega (arith, w .ahead, v .ahead); paid = omega (arith, w .paid, v .paid); within = v .within })
     (λ _. tt)
 
 -- { .. } at token i
 block-pays : (ws : List ℕ) (p : ℕ) (inside : Inside Readers) → PaysInside ws inside → (i : ℕ)
-  → Pays ws i (opening inside i λ inner. after (statements (inner .inStatement) ws (i + 1)) λ ss j. good (headed 38 p 0 ss) j)
+    → Pays ws i (opening inside i λ inner. after (statements (inner .inStatement) ws (i + 1)) λ ss j. good (headed 38 p 0 ss) j)
 block-pays ws p inside deep i =
     opened ws i i inside _ deep λ r pieces codes.
     on ws i (statements (r .inStatement) ws (i + 1)) _ λ ss j q.
@@ -155,9 +155,10 @@ statement-levels (suc left) ws i = refl
 inside-pays : (left : ℕ) (ws : List ℕ) → PaysInside ws (insideOf left ws)
 unfolding insideOf
 inside-pays zero ws = tt
-inside-pays (suc left) ws =
-    (expression-paid left ws,
-    λ i c j q. pays ws i _ (statement-in-pays ws (expression left ws) (expression-paid left ws) (insideOf left ws) (inside-pays left ws) i) c j (sym (statement-levels left ws i) ∙ q))
+inside-pays (suc left) ws = (
+  expression-paid left ws,
+  λ i c j q. pays ws i _ (statement-in-pays ws (expression left ws) (expression-paid left ws) (insideOf left ws) (inside-pays left ws) i) c j (sym (statement-levels left ws i) ∙ q),
+)
 
 -- ---- each word is paid
 module _ (left : ℕ) (ws : List ℕ) (i : ℕ) (c : List ℕ) (j : ℕ) where
@@ -185,8 +186,8 @@ unfolding body
 body-paid ws i c j q = pays ws i _ (
     chosen (Pays ws i) (is openBrace ws i) _ _
     (λ _. on ws i (statements (statement 64 ws) ws (i + 1)) _ λ ss m e.
-      let p = statements-paid 64 ws (i + 1) ss m e in
-      chosen (Pays ws i) (is ending ws m) _ _
-      (λ _. record { some = p .some; ahead = omega (arith, p .ahead); paid = omega (arith, p .paid); within = p .within })
-      (λ _. tt))
+    let p = statements-paid 64 ws (i + 1) ss m e in
+    chosen (Pays ws i) (is ending ws m) _ _
+    (λ _. record { some = p .some; ahead = omega (arith, p .ahead); paid = omega (arith, p .paid); within = p .within })
+    (λ _. tt))
     (λ _. tt)) c j q

@@ -44,7 +44,7 @@ expect-maps k ws j a f = go (is k ws j)
 
 -- what is made of a piece's code may be made before the token behind is looked at
 pub expects-after : {B : Type 0} (g : Got Piece) (k : ℕ) (ws : List ℕ) (f : List ℕ → B)
-  → after (after g λ e j. expect k ws j (e .code)) (λ c q. good (f c) q) ≡ after g λ e j. expect k ws j (f (e .code))
+    → after (after g λ e j. expect k ws j (e .code)) (λ c q. good (f c) q) ≡ after g λ e j. expect k ws j (f (e .code))
 expects-after g k ws f = after-after g _ _ ∙ same-after g _ _ λ e j _. expect-maps k ws j (e .code) f
 
 -- ---- answers
@@ -85,13 +85,13 @@ module _ (ws : List ℕ) (kind : ℕ) (e : Read) where
   close-other j m t found h f q = rw (h, ← f, ne-eqb _ _ q)
 
 closed-picks : (b : Bool) (c s₀ s : List ℕ) (n j m : ℕ) → m ≡ n + length c → take m s ≡ take n s₀ ++ c
-  → seen (if b then (λ _. At (j + 1) m 0) else λ _. Wrong 10 j) s ≡ writtenCode (if b then (λ _. good c (j + 1)) else λ _. wrong 10 j) n s₀
+    → seen (if b then (λ _. At (j + 1) m 0) else λ _. Wrong 10 j) s ≡ writtenCode (if b then (λ _. good c (j + 1)) else λ _. wrong 10 j) n s₀
 unfolding if_then_else_ seen writtenCode
 closed-picks true c s₀ s n j m h f = cc
 closed-picks false c s₀ s n j m h f = refl
 
 pub closed-reads : (e : Read) (g : Got Piece) (k n : ℕ) (ws s₀ s : List ℕ) → seen e s ≡ written g n s₀
-  → seen (closed k ws e) s ≡ writtenCode (after g λ x j. expect k ws j (x .code)) n s₀
+    → seen (closed k ws e) s ≡ writtenCode (after g λ x j. expect k ws j (x .code)) n s₀
 unfolding closed after expect
 closed-reads (At j m t) g k n ws s₀ s h =
     let w = wrote (At j m t) g n s₀ s j m t h refl in
@@ -126,7 +126,7 @@ set-before s₀ b n w h =
 
 -- the parts are b, which stands behind the place of the word, and what is read then
 pub topped-writes : (g : Got (List ℕ)) (b s₀ s : List ℕ) (tag p n x k : ℕ) → n < length s₀ → k ≡ n + 1 + length b → take k s ≡ take (n + 1) s₀ ++ b
-  → topped tag p n x (writtenCode g k s) ≡ writtenCode (after g λ c j. good (headed tag p x (b ++ c)) j) n s₀
+    → topped tag p n x (writtenCode g k s) ≡ writtenCode (after g λ c j. good (headed tag p x (b ++ c)) j) n s₀
 unfolding topped writtenCode after
 topped-writes (wrong l q) b s₀ s tag p n x k h u f = refl
 topped-writes (good c j) b s₀ s tag p n x k h u f =

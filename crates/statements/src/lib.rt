@@ -38,7 +38,11 @@ fn head(tokens: &[u64], words: &mut [u64], e: Read, tag: u64, i: usize, n: usize
         Read::Wrong(k, p) => Read::Wrong(k, p),
         Read::At(j, m, _) => {
             let place = token::place_at(tokens, i);
-            code::put(words, n, code::word_of(tag, (m - n) as u64, place + 65536 * x));
+            code::put(
+                words,
+                n,
+                code::word_of(tag, (m - n) as u64, place + 65536 * x),
+            );
             Read::At(j, m, 0)
         }
     }
@@ -136,7 +140,14 @@ fn read_simple(tokens: &[u64], words: &mut [u64], i: usize, n: usize, left: usiz
 }
 
 // if or while, at token i: a test and a body, both a level further in.
-fn read_guarded(tokens: &[u64], words: &mut [u64], tag: u64, i: usize, n: usize, left: usize) -> Read
+fn read_guarded(
+    tokens: &[u64],
+    words: &mut [u64],
+    tag: u64,
+    i: usize,
+    n: usize,
+    left: usize,
+) -> Read
     requires { ⌜ Space (now tokens) (now words) i n ⌝ }
     requires { ⌜ (i < length (now tokens)) × (tag < 256) ⌝ }
     ensures { λ r. ⌜ seen r (now (words .exit)) ≡ writtenCode (guarded tag (placeAt (now (tokens .entry)) i) (insideOf left (now (tokens .entry))) (now (tokens .entry)) (i + 1)) n (now (words .entry)) ⌝ }

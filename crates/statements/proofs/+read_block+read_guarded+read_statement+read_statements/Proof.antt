@@ -113,7 +113,7 @@ read-block-add-read-statements : (t : ℕ) → read-block-lts.Need-add-read-stat
   head-reads.Asked,
   head-reads.Learnt,
 ) (read-block-at t) read-block.Post
-read-block-add-read-statements t c = 
+read-block-add-read-statements t c =
     let o = c .before .before .before .before .pre .1 .0 in
     let w = space-inside _ _ _ _ _ o (c .before .before .before .before .pre .1 .1) (λ z. omega arith) in
     omega (arith, o .few)
@@ -125,7 +125,7 @@ read-block-add-read-statements-2 : (t : ℕ) → read-block-lts.Need-add-read-st
   head-reads.Asked,
   head-reads.Learnt,
 ) (read-block-at t) read-block.Post
-read-block-add-read-statements-2 t c = 
+read-block-add-read-statements-2 t c =
     let o = c .before .before .before .before .pre .1 .0 in
     let w = space-inside _ _ _ _ _ o (c .before .before .before .before .pre .1 .1) (λ z. omega arith) in
     omega (arith, o .behind, o .few)
@@ -146,7 +146,7 @@ read-block-read-statements-requires : (t : ℕ) → read-block-lts.Need-read-sta
   head-reads.Asked,
   head-reads.Learnt,
 ) (read-block-at t) read-block.Post
-read-block-read-statements-requires t c κs = 
+read-block-read-statements-requires t c κs =
     let o = c .before .before .before .before .pre .1 .0 in
     let w = space-inside _ _ _ _ _ o (c .before .before .before .before .pre .1 .1) (λ z. omega arith) in
     (omega (arith, c .before .before .before .before .pre .0), record { behind = omega (arith, o .behind); wide = o .wide; few = o .few })
@@ -187,7 +187,7 @@ read-guarded-add-read-test : (t : ℕ) → read-guarded-lts.Need-add-read-test (
   head-reads.Asked,
   head-reads.Learnt,
 ) (read-guarded-at t) read-guarded.Post
-read-guarded-add-read-test t c = 
+read-guarded-add-read-test t c =
     let o = c .before .before .before .pre .1 .0 in
     omega (arith, o .behind, o .few, c .before .before .before .pre .1 .1 .0)
 
@@ -200,7 +200,7 @@ read-guarded-add-read-test-2 : (t : ℕ) → read-guarded-lts.Need-add-read-test
   head-reads.Asked,
   head-reads.Learnt,
 ) (read-guarded-at t) read-guarded.Post
-read-guarded-add-read-test-2 t c = 
+read-guarded-add-read-test-2 t c =
     let o = c .before .before .before .pre .1 .0 in
     omega (arith, o .behind, o .few, c .before .before .before .pre .1 .1 .0)
 
@@ -213,7 +213,7 @@ read-guarded-read-test-requires : (t : ℕ) → read-guarded-lts.Need-read-test-
   head-reads.Asked,
   head-reads.Learnt,
 ) (read-guarded-at t) read-guarded.Post
-read-guarded-read-test-requires t c κs = 
+read-guarded-read-test-requires t c κs =
     let o = c .before .before .before .pre .1 .0 in
     record { behind = omega (arith, o .behind); wide = o .wide; short = omega (arith, o .few) }
 
@@ -248,7 +248,7 @@ read-guarded-sub-read-statement : (t : ℕ) → read-guarded-lts.Need-sub-read-s
   head-reads.Asked,
   head-reads.Learnt,
 ) (read-guarded-at t) read-guarded.Post
-read-guarded-sub-read-statement t c = 
+read-guarded-sub-read-statement t c =
     let o = c .before .before .before .before .before .before .before .before .before .before .pre .1 .0 in
     let p = tested _ _ _ _ _ _ o _ (c .before .before .before .before .before .before .read-test .ensures) _ _ _ (c .before .before .e2 .given .1) (c .before .before .before .before .before .before .read-test .kept .1 .0) in
     omega (arith, p .opens)
@@ -262,7 +262,7 @@ read-guarded-read-statement-requires : (t : ℕ) → read-guarded-lts.Need-read-
   head-reads.Asked,
   head-reads.Learnt,
 ) (read-guarded-at t) read-guarded.Post
-read-guarded-read-statement-requires t c κs = 
+read-guarded-read-statement-requires t c κs =
     let o = c .before .before .before .before .before .before .before .before .before .before .pre .1 .0 in
     let p = tested _ _ _ _ _ _ o _ (c .before .before .before .before .before .before .read-test .ensures) _ _ _ (c .before .before .e2 .given .1) (c .before .before .before .before .before .before .read-test .kept .1 .0) in
     (omega (arith, p .ahead, p .within, c .before .before .before .before .before .before .before .before .before .before .pre .0), p .space)
@@ -276,7 +276,7 @@ read-guarded-sub-head : (t : ℕ) → read-guarded-lts.Need-sub-head (
   head-reads.Asked,
   head-reads.Learnt,
 ) (read-guarded-at t) read-guarded.Post
-read-guarded-sub-head t c = 
+read-guarded-sub-head t c =
     let o = c .before .before .before .before .before .before .before .before .before .before .before .before .before .before .pre .1 .0 in
     let p = tested _ _ _ _ _ _ o _ (c .before .before .before .before .before .before .before .before .before .before .read-test .ensures) _ _ _ (c .before .before .before .before .before .before .e2 .given .1) (c .before .before .before .before .before .before .before .before .before .before .read-test .kept .1 .0) in
     omega (arith, p .some)
@@ -290,7 +290,7 @@ read-guarded-sub-head-2 : (t : ℕ) → read-guarded-lts.Need-sub-head-2 (
   head-reads.Asked,
   head-reads.Learnt,
 ) (read-guarded-at t) read-guarded.Post
-read-guarded-sub-head-2 t c = 
+read-guarded-sub-head-2 t c =
     let o = c .before .before .before .before .before .before .before .before .before .before .before .before .before .before .pre .1 .0 in
     let p = tested _ _ _ _ _ _ o _ (c .before .before .before .before .before .before .before .before .before .before .read-test .ensures) _ _ _ (c .before .before .before .before .before .before .e2 .given .1) (c .before .before .before .before .before .before .before .before .before .before .read-test .kept .1 .0) in
     omega (arith, p .some)
@@ -304,7 +304,7 @@ read-guarded-head-requires : (t : ℕ) → read-guarded-lts.Need-head-requires (
   head-reads.Asked,
   head-reads.Learnt,
 ) (read-guarded-at t) read-guarded.Post
-read-guarded-head-requires t c κs = 
+read-guarded-head-requires t c κs =
     let o = c .before .before .before .before .before .before .before .before .before .before .before .before .before .before .pre .1 .0 in
     let p = tested _ _ _ _ _ _ o _ (c .before .before .before .before .before .before .before .before .before .before .read-test .ensures) _ _ _ (c .before .before .before .before .before .before .e2 .given .1) (c .before .before .before .before .before .before .before .before .before .before .read-test .kept .1 .0) in
     parts-code _ _ _ _ _ _ _ _ _ _ (c .before .before .before .read-statement .ensures) (statement-paid _ _ _) (omega (arith, p .some)) (omega (arith, p .space .behind)) (o .few) (c .before .before .before .before .before .before .before .before .before .before .before .before .before .before .pre .1 .1 .1) (p .small)
@@ -386,7 +386,7 @@ read-statement-read-declaration-requires :
       read-simple-reads.Asked,
       read-simple-reads.Learnt,
     ) (read-statement-at t) read-statement.Post
-read-statement-read-declaration-requires t c κs = 
+read-statement-read-declaration-requires t c κs =
     let o = c .before .before .before .before .before .pre .1 in
     let w = space-inside _ _ _ _ _ o (sym (c .before .before .kind-at .ensures)) (λ z. omega (arith, c .before .match .keys1)) in
     (o, w)
@@ -406,7 +406,7 @@ read-statement-read-guarded-requires : (t : ℕ) → read-statement-lts.Need-rea
   read-simple-reads.Asked,
   read-simple-reads.Learnt,
 ) (read-statement-at t) read-statement.Post
-read-statement-read-guarded-requires t c κs = 
+read-statement-read-guarded-requires t c κs =
     let o = c .before .before .before .before .before .pre .1 in
     let w = space-inside _ _ _ _ _ o (sym (c .before .before .kind-at .ensures)) (λ z. omega (arith, c .before .match .keys2)) in
     (omega (arith, c .before .before .before .before .before .pre .0), (o, (w, omega arith)))
@@ -426,7 +426,7 @@ read-statement-read-guarded-requires-2 : (t : ℕ) → read-statement-lts.Need-r
   read-simple-reads.Asked,
   read-simple-reads.Learnt,
 ) (read-statement-at t) read-statement.Post
-read-statement-read-guarded-requires-2 t c κs = 
+read-statement-read-guarded-requires-2 t c κs =
     let o = c .before .before .before .before .before .pre .1 in
     let w = space-inside _ _ _ _ _ o (sym (c .before .before .kind-at .ensures)) (λ z. omega (arith, c .before .match .keys3)) in
     (omega (arith, c .before .before .before .before .before .pre .0), (o, (w, omega arith)))
@@ -446,7 +446,7 @@ read-statement-read-return-requires : (t : ℕ) → read-statement-lts.Need-read
   read-simple-reads.Asked,
   read-simple-reads.Learnt,
 ) (read-statement-at t) read-statement.Post
-read-statement-read-return-requires t c κs = 
+read-statement-read-return-requires t c κs =
     let o = c .before .before .before .before .before .pre .1 in
     let w = space-inside _ _ _ _ _ o (sym (c .before .before .kind-at .ensures)) (λ z. omega (arith, c .before .match .keys4)) in
     (o, w)
@@ -687,7 +687,7 @@ read-statement-returns-6 : (t : ℕ) → read-statement-lts.Need-returns-6 (
   read-simple-reads.Asked,
   read-simple-reads.Learnt,
 ) (read-statement-at t) read-statement.Post
-read-statement-returns-6 t c = 
+read-statement-returns-6 t c =
     let x = c .before .before .before .before .match .rest in
     states-simple _ _ _ _ _ _ _ _ (c .before .before .before .before .before .kind-at .ensures) (x .0 .0 .0 .0 .1) (x .0 .0 .0 .1) (x .0 .0 .1) (x .0 .1) (x .1) (c .before .before .read-simple .ensures)
 
@@ -768,7 +768,7 @@ read-statements-add-t17 : (t : ℕ) → read-statements-lts.Need-add-t17 (
   kind-at-reads.Asked,
   kind-at-reads.Learnt,
 ) (read-statements-at t) read-statements.Post read-statements-Inv-loop read-statements-μ-loop
-read-statements-add-t17 t c = 
+read-statements-add-t17 t c =
     let x = turned _ _ _ _ _ _ _ _ (c .before .before .before .before .before .before .before .before .before .loop .inv) _ _ (c .before .before .before .before .before .before .before .read-statement .ensures) _ _ _ (c .before .before .before .s2 .given .1) (c .before .before .before .before .before .before .before .read-statement .kept .1 .0) in
     omega (arith, x .within, x .space .few)
 
@@ -797,7 +797,7 @@ read-statements-loop-less : (t : ℕ) → read-statements-lts.Need-loop-less (
   kind-at-reads.Asked,
   kind-at-reads.Learnt,
 ) (read-statements-at t) read-statements.Post read-statements-Inv-loop read-statements-μ-loop
-read-statements-loop-less t c = 
+read-statements-loop-less t c =
     let x = turned _ _ _ _ _ _ _ _ (c .before .before .before .before .before .before .before .before .before .loop .inv) _ _ (c .before .before .before .before .before .before .before .read-statement .ensures) _ _ _ (c .before .before .before .s2 .given .1) (c .before .before .before .before .before .before .before .read-statement .kept .1 .0) in
     omega (arith, x .ahead, x .within)
 

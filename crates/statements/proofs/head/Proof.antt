@@ -35,7 +35,7 @@ add-word-of c = search needs
 
 -- src/lib.rt:41:33
 word-of-requires : tie.Need-word-of-requires
-word-of-requires c κs = 
+word-of-requires c κs =
     let p = c .before .before .before .before .before .before .before .pre in
     omega (arith, p .smallTag, p .smallNumber, p .parts _ _ _ (c .before .before .before .e2 .given .1), c .before .place-at .ensures)
 
@@ -53,7 +53,7 @@ same-length c = search needs
 
 -- src/lib.rt:33:1
 returns-2 : tie.Need-returns-2
-returns-2 c = 
+returns-2 c =
     let f = c .before .before .before .before .before .before .before .before .before .before .before .pre .parts _ _ _ (c .before .before .before .before .before .before .before .e2 .given .1) in
     head-at _ _ _ _ _ _ _ _ _ _ _ _ (c .before .before .before .before .before .before .before .e2 .given .1) (c .before .before .before .before .before .place-at .ensures) (c .before .before .before .word-of .ensures) (c .before .before .put .ensures) (f .0)
 

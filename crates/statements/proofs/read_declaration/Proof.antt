@@ -48,7 +48,7 @@ home-at-requires c κs = search needs
 
 -- src/lib.rt:97:5
 head-requires : tie.Need-head-requires
-head-requires c κs = 
+head-requires c κs =
     let o = c .before .before .before .before .before .before .before .pre in
     parts-closed _ _ _ _ _ _ _ _ _ (c .before .before .close .ensures) (omega arith) (omega (arith, o .0 .behind, o .1, o .0 .few)) (omega arith) (omega (arith, c .home-at .ensures))
 

@@ -46,13 +46,13 @@ home-at-requires c κs = search needs
 
 -- src/lib.rt:247:9
 add-n : tie.Need-add-n Inv-loop μ-loop
-add-n c = 
+add-n c =
     let w = token-inside (now (c .before .before .before .before .before .before .before .before .before .args .tokens)) (c .before .before .before .before .before .loop .i) _ (sym (c .before .before .before .before .kind-at2 .ensures) ∙ c .before .before .before .if2 .left) (λ z. omega arith) in
     omega (arith, c .before .before .before .before .before .loop .inv .ahead)
 
 -- src/lib.rt:248:40
 add-kind-at : tie.Need-add-kind-at Inv-loop μ-loop
-add-kind-at c = 
+add-kind-at c =
     let w = token-inside (now (c .before .before .before .before .before .before .before .before .before .args .tokens)) (c .before .before .before .before .before .loop .i) _ (sym (c .before .before .before .before .kind-at2 .ensures) ∙ c .before .before .before .if2 .left) (λ z. omega arith) in
     omega arith
 
@@ -62,20 +62,20 @@ kind-at-requires-3 c κs = search needs
 
 -- src/lib.rt:250:42
 add-t13 : tie.Need-add-t13 Inv-loop μ-loop
-add-t13 c = 
+add-t13 c =
     let w = token-inside (now (c .before .before .before .before .before .before .before .before .before .before .before .args .tokens)) (c .before .before .before .before .before .before .before .loop .i) _ (sym (c .before .before .before .before .before .before .kind-at2 .ensures) ∙ c .before .before .before .before .before .if2 .left) (λ z. omega arith) in
     omega arith
 
 -- src/lib.rt:250:13
 returns-3 : tie.Need-returns-3 Inv-loop μ-loop
-returns-3 c = 
+returns-3 c =
     let f = ⊎-elim (λ w. first-now _ _ _ _ _ (c .before .before .before .before .before .before .before .loop .inv) _ _ (w .0 .taken) (w .1)) (λ w. first-kept _ _ _ _ _ (c .before .before .before .before .before .before .before .loop .inv) _ _ (w .0 .left) (w .1)) (c .before .before .before .if3 .came) in
     let s = ⊎-elim (λ w. second-now _ _ _ _ _ (c .before .before .before .before .before .before .before .loop .inv) _ _ (w .0 .taken) (w .1)) (λ w. second-kept _ _ _ _ _ (c .before .before .before .before .before .before .before .loop .inv) _ _ (w .0 .left) (w .1)) (c .before .before .if4 .came) in
     counting-ends _ _ _ _ _ (c .before .before .before .before .before .before .before .loop .inv) _ (c .before .before .before .before .before .before .kind-at2 .ensures) (c .before .before .before .before .before .if2 .left) _ (c .before .before .before .before .home-at .ensures) _ (c .before .kind-at3 .ensures) _ _ f s (c .if5 .taken)
 
 -- src/lib.rt:253:39
 add-t14 : tie.Need-add-t14 Inv-loop μ-loop
-add-t14 c = 
+add-t14 c =
     let w = token-inside (now (c .before .before .before .before .before .before .before .before .before .before .before .before .args .tokens)) (c .before .before .before .before .before .before .before .before .loop .i) _ (sym (c .before .before .before .before .before .before .before .kind-at2 .ensures) ∙ c .before .before .before .before .before .before .if2 .left) (λ z. omega arith) in
     omega arith
 
@@ -85,19 +85,19 @@ returns-4 c = counting-fails _ _ _ _ _ (c .before .before .before .before .befor
 
 -- src/lib.rt:255:9
 add-i : tie.Need-add-i Inv-loop μ-loop
-add-i c = 
+add-i c =
     let w = token-inside (now (c .before .before .before .before .before .before .before .before .before .before .before .before .args .tokens)) (c .before .before .before .before .before .before .before .before .loop .i) _ (sym (c .before .before .before .before .before .before .before .kind-at2 .ensures) ∙ c .before .before .before .before .before .before .if2 .left) (λ z. omega arith) in
     omega arith
 
 -- src/lib.rt:236:5
 loop-less : tie.Need-loop-less Inv-loop μ-loop
-loop-less c = 
+loop-less c =
     let w = token-inside (now (c .before .before .before .before .before .before .before .before .before .before .before .before .args .tokens)) (c .before .before .before .before .before .before .before .before .loop .i) _ (sym (c .before .before .before .before .before .before .before .kind-at2 .ensures) ∙ c .before .before .before .before .before .before .if2 .left) (λ z. omega arith) in
     omega arith
 
 -- src/lib.rt:236:5
 loop-again : tie.Need-loop-again Inv-loop μ-loop
-loop-again c = 
+loop-again c =
     let f = ⊎-elim (λ w. first-now _ _ _ _ _ (c .before .before .before .before .before .before .before .before .loop .inv) _ _ (w .0 .taken) (w .1)) (λ w. first-kept _ _ _ _ _ (c .before .before .before .before .before .before .before .before .loop .inv) _ _ (w .0 .left) (w .1)) (c .before .before .before .before .if3 .came) in
     let s = ⊎-elim (λ w. second-now _ _ _ _ _ (c .before .before .before .before .before .before .before .before .loop .inv) _ _ (w .0 .taken) (w .1)) (λ w. second-kept _ _ _ _ _ (c .before .before .before .before .before .before .before .before .loop .inv) _ _ (w .0 .left) (w .1)) (c .before .before .before .if4 .came) in
     counting-on _ _ _ _ _ (c .before .before .before .before .before .before .before .before .loop .inv) _ (c .before .before .before .before .before .before .before .kind-at2 .ensures) (c .before .before .before .before .before .before .if2 .left) _ (c .before .before .before .before .before .home-at .ensures) _ (c .before .before .kind-at3 .ensures) _ _ f s (c .if6 .left)

@@ -23,7 +23,7 @@ read-ended-requires c κs = search needs
 
 -- src/lib.rt:107:5
 head-requires : tie.Need-head-requires
-head-requires c κs = 
+head-requires c κs =
     let o = c .before .before .before .before .before .before .before .pre .0 in
     parts-code _ _ _ _ _ _ _ _ _ _ (c .before .before .before .read-ended .ensures) (ended-paid _ _ _) (omega arith) (omega (arith, o .behind)) (o .few) (omega arith) (omega arith)
 

@@ -39,7 +39,7 @@ close-requires c κs = search needs
 
 -- src/lib.rt:121:17
 head-requires : tie.Need-head-requires
-head-requires c κs = 
+head-requires c κs =
     let o = c .before .before .before .before .before .before .before .before .before .before .before .before .before .pre in
     let p = sided _ _ _ _ _ _ o _ (c .before .before .before .before .before .before .before .before .before .read-expression .ensures) _ _ _ (c .before .before .before .before .before .a2 .given .1) in
     parts-closed _ _ _ _ _ _ _ _ _ (c .before .close .ensures) (omega (arith, p .some)) (omega (arith, p .paid, p .within, o .few)) (omega arith) (omega arith)
@@ -54,7 +54,7 @@ returns c = simple-acts _ _ _ _ _ _ (c .before .before .before .before .before .
 
 -- src/lib.rt:125:55
 add-read-ended : tie.Need-add-read-ended
-add-read-ended c = 
+add-read-ended c =
     let o = c .before .before .before .before .before .before .before .before .before .before .before .before .before .pre in
     let p = sided _ _ _ _ _ _ o _ (c .before .before .before .before .before .before .before .before .before .read-expression .ensures) _ _ _ (c .before .before .before .before .before .a2 .given .1) in
     omega (arith, p .within, o .few)
@@ -65,7 +65,7 @@ add-read-ended-2 c = search needs
 
 -- src/lib.rt:125:25
 read-ended-requires : tie.Need-read-ended-requires
-read-ended-requires c κs = 
+read-ended-requires c κs =
     let o = c .before .before .before .before .before .before .before .before .before .before .before .before .before .pre in
     let p = sided _ _ _ _ _ _ o _ (c .before .before .before .before .before .before .before .before .before .read-expression .ensures) _ _ _ (c .before .before .before .before .before .a2 .given .1) in
     sided-room _ _ _ _ _ _ _ _ o p (c .before .before .before .before .before .before .before .before .before .read-expression .kept .1 .0) (omega (arith, p .some, p .paid))
@@ -76,35 +76,35 @@ home-at-requires c κs = search needs
 
 -- src/lib.rt:126:21
 head-requires-2 : tie.Need-head-requires-2
-head-requires-2 c κs = 
+head-requires-2 c κs =
     let o = c .before .before .before .before .before .before .before .before .before .before .before .before .before .before .before .before .before .before .pre in
     let p = sided _ _ _ _ _ _ o _ (c .before .before .before .before .before .before .before .before .before .before .before .before .before .before .read-expression .ensures) _ _ _ (c .before .before .before .before .before .before .before .before .before .before .a2 .given .1) in
     parts-code _ _ _ _ _ _ _ _ _ _ (c .before .before .before .before .read-ended .ensures) (ended-paid _ _ _) (omega arith) (omega (arith, p .some, p .paid)) (o .few) (omega arith) (omega (arith, c .home-at .ensures))
 
 -- src/lib.rt:129:55
 add-read-ended-3 : tie.Need-add-read-ended-3
-add-read-ended-3 c = 
+add-read-ended-3 c =
     let o = c .before .before .before .before .before .before .before .before .before .before .before .before .before .pre in
     let p = sided _ _ _ _ _ _ o _ (c .before .before .before .before .before .before .before .before .before .read-expression .ensures) _ _ _ (c .before .before .before .before .before .a2 .given .1) in
     omega (arith, p .within, o .few)
 
 -- src/lib.rt:129:62
 sub-read-ended : tie.Need-sub-read-ended
-sub-read-ended c = 
+sub-read-ended c =
     let o = c .before .before .before .before .before .before .before .before .before .before .before .before .before .pre in
     let p = sided _ _ _ _ _ _ o _ (c .before .before .before .before .before .before .before .before .before .read-expression .ensures) _ _ _ (c .before .before .before .before .before .a2 .given .1) in
     omega (arith, p .some)
 
 -- src/lib.rt:129:25
 read-ended-requires-2 : tie.Need-read-ended-requires-2
-read-ended-requires-2 c κs = 
+read-ended-requires-2 c κs =
     let o = c .before .before .before .before .before .before .before .before .before .before .before .before .before .pre in
     let p = sided _ _ _ _ _ _ o _ (c .before .before .before .before .before .before .before .before .before .read-expression .ensures) _ _ _ (c .before .before .before .before .before .a2 .given .1) in
     sided-room _ _ _ _ _ _ _ _ o p (c .before .before .before .before .before .before .before .before .before .read-expression .kept .1 .0) (omega (arith, p .some, p .paid))
 
 -- src/lib.rt:130:21
 head-requires-3 : tie.Need-head-requires-3
-head-requires-3 c κs = 
+head-requires-3 c κs =
     let o = c .before .before .before .before .before .before .before .before .before .before .before .before .before .before .before .before .before .pre in
     let p = sided _ _ _ _ _ _ o _ (c .before .before .before .before .before .before .before .before .before .before .before .before .before .read-expression .ensures) _ _ _ (c .before .before .before .before .before .before .before .before .before .a2 .given .1) in
     parts-code _ _ _ _ _ _ _ _ _ _ (c .before .before .before .read-ended2 .ensures) (ended-paid _ _ _) (omega (arith, p .some)) (omega (arith, p .some, p .paid)) (o .few) (omega arith) (omega arith)

@@ -25,7 +25,7 @@ returns-2 c = test-none _ _ _ _ _ _ _ (c .before .before .kind-at .ensures) (c .
 
 -- src/lib.rt:83:57
 add-read-expression : tie.Need-add-read-expression
-add-read-expression c = 
+add-read-expression c =
     let o = c .before .before .before .before .before .before .pre in
     let w = room-inside _ _ _ _ _ o (sym (c .before .before .before .kind-at .ensures)) (λ z. omega (arith, c .before .before .if1 .left)) in
     omega (arith, o .short)
