@@ -2,18 +2,16 @@
 -- Assumes nothing.
 use Prim.Native.Nat.{ℕ, zero, suc, _+_, _-_, _<_, _≤_}
 use mathlib.Core.Path.{_≡_, _∙_, refl, sym, ap}
-use mathlib.Core.Bool.{true}
 use mathlib.Core.List.{List, [], _∷_, _++_, append-assoc}
 use native.Mathlib.Omega.{arith}
-use borrow.Author.Tests.{eqb-true, ne-eqb}
+use borrow.Author.Tests.{ne-eqb}
 use lib.ListN.{length, getD, length-append}
 use lib.Seq.{getD-append-seam}
 use Rattle.meaning.specs.Basics.{if_then_else_}
 use Rattle.meaning.specs.Token.{aName, comma, closeParen}
 use Rattle.meaning.specs.Grammar.{Got, good, wrong, after}
 use Rattle.expressions.specs.Words.{kindAt, homeAt, is, expect}
-use Rattle.expressions.proofs.Tokens.{chosen, token-inside}
-use Rattle.statements.specs.declared.Parsed.{Parsed}
+use Rattle.expressions.proofs.Tokens.{chosen}
 use Rattle.statements.specs.declared.Parsed.the-variants.{Body, Misfit}
 use Rattle.statements.specs.Words.{parametersFrom, parameters}
 use Rattle.statements.specs.Steps.{counted}
@@ -30,7 +28,9 @@ same-turn ws f h x j q = rw q
 
 expect-inside : {A : Type 0} (k : ℕ) (ws : List ℕ) (j : ℕ) (a b : A) (m : ℕ) → expect (suc k) ws j a ≡ good b m → j < length ws
 unfolding expect
-expect-inside k ws j a b m = chosen (λ g. g ≡ good b m → j < length ws) (is (suc k) ws j) _ _ (λ e _. kind-inside ws j k e) (λ _ q. let z : _≡_ {A = ℕ} 0 1 = cc in absurd (omega arith))
+expect-inside k ws j a b m =
+    chosen (λ g. g ≡ good b m → j < length ws) (is (suc k) ws j) _ _ (λ e _. kind-inside ws j k e)
+    (λ _ q. let z : _≡_ {A = ℕ} 0 1 = cc in absurd (omega arith))
 
 -- rounds enough are enough
 enough : (ws : List ℕ) (r r′ i : ℕ) → length ws - i < r → length ws - i < r′ → parametersFrom r ws i ≡ parametersFrom r′ ws i

@@ -2,7 +2,7 @@
 -- Assumes nothing.
 use Prim.Native.Nat.{ℕ, zero, suc, _+_, _-_, _<_, _≤_}
 use mathlib.Core.Path.{_≡_, _∙_, refl, sym, ap}
-use mathlib.Core.List.{List, [], _∷_, _++_, append-assoc}
+use mathlib.Core.List.{List, _++_, append-assoc}
 use native.Mathlib.Omega.{arith}
 use borrow.Author.Tests.{ne-eqb}
 use lib.ListN.{length, take, length-append}
@@ -11,8 +11,8 @@ use Rattle.meaning.specs.Token.{closeBrace}
 use Rattle.meaning.specs.Grammar.{Got, good, wrong, after}
 use Rattle.expressions.specs.declared.Read.{Read}
 use Rattle.expressions.specs.declared.Read.the-variants.{At, Wrong}
-use Rattle.expressions.specs.Words.{kindAt, is, Seen, at, failed, seen, writtenCode}
-use Rattle.expressions.proofs.Answers.{WroteCode, wrote-code, erred-code}
+use Rattle.expressions.specs.Words.{kindAt, is, at, seen, writtenCode}
+use Rattle.expressions.proofs.Answers.{wrote-code, erred-code}
 use Rattle.statements.specs.Words.{statementsFrom, statements, statement}
 use Rattle.statements.specs.Room.{Space}
 use Rattle.statements.proofs.Paid.{statement-paid}
@@ -27,7 +27,8 @@ same-turn : (ws : List ℕ) (f h : ℕ → Got (List ℕ)) (s : List ℕ) (j : �
 same-turn ws f h s j q = rw q
 
 -- rounds enough are enough
-enough : (left : ℕ) (ws : List ℕ) (r r′ i : ℕ) → length ws - i < r → length ws - i < r′ → statementsFrom r (statement left ws) ws i ≡ statementsFrom r′ (statement left ws) ws i
+enough : (left : ℕ) (ws : List ℕ) (r r′ i : ℕ) → length ws - i < r → length ws - i < r′
+    → statementsFrom r (statement left ws) ws i ≡ statementsFrom r′ (statement left ws) ws i
 unfolding statementsFrom
 enough left ws zero r′ i h l = absurd (omega arith)
 enough left ws (suc r) zero i h l = absurd (omega arith)

@@ -1,31 +1,29 @@
 -- What each way through a reading function answers is what reading yields. a, e and r are what calls answered, s₀ is the slice at the entry.
 -- Assumes nothing.
-use Prim.Native.Nat.{ℕ, zero, suc, _+_, _-_, _*_, _<_, _≤_}
+use Prim.Native.Nat.{ℕ, zero, suc, _+_, _-_, _<_, _≤_}
 use mathlib.Core.Path.{_≡_, _∙_, refl, sym, ap}
-use mathlib.Core.Bool.{Bool, true, false}
-use mathlib.Core.List.{List, [], _∷_, _++_, append-nil}
+use mathlib.Core.List.{List, [], _++_, append-nil}
 use native.Mathlib.Omega.{arith}
 use borrow.Author.Tests.{eq-eqb, ne-eqb}
-use lib.Dec.{eqb}
 use lib.ListN.{length, take}
 use lib.Seq.{length-take-le, take-append-add, take-take}
 use Rattle.meaning.specs.Basics.{if_then_else_}
 use Rattle.meaning.specs.Token.{semicolon, openParen, closeParen}
-use Rattle.meaning.specs.Grammar.{Got, good, wrong, after, Inside, noLevel, level, opening}
+use Rattle.meaning.specs.Grammar.{Got, good, wrong, after, level, opening}
 use Rattle.code.specs.Code.{headed}
 use Rattle.expressions.specs.declared.Read.{Read}
 use Rattle.expressions.specs.declared.Read.the-variants.{At, Wrong}
-use Rattle.expressions.specs.Words.{kindAt, placeAt, homeAt, is, Piece, piece, expect, expression, Seen, at, failed, seen, written, writtenCode}
+use Rattle.expressions.specs.Words.{kindAt, placeAt, homeAt, is, Piece, piece, expect, expression, at, seen, written, writtenCode}
 use Rattle.expressions.specs.Words as Expressions
 use Rattle.expressions.specs.Room.{Room}
 use Rattle.expressions.specs.Steps.{closed}
 use Rattle.expressions.proofs.Tokens.{chosen, token-inside}
 use Rattle.expressions.proofs.Paid.{Paid, expression-paid, inside-levels}
-use Rattle.expressions.proofs.Answers.{Wrote, WroteCode, wrote, wrote-code, erred, erred-code}
-use Rattle.statements.specs.Words.{Readers, declaration, returning, withoutLast, assignment, simple, guarded, statements, statementIn, statement}
+use Rattle.expressions.proofs.Answers.{wrote, wrote-code, erred, erred-code}
+use Rattle.statements.specs.Words.{declaration, returning, withoutLast, assignment, simple, guarded, statements, statementIn, statement}
 use Rattle.statements.specs.Room.{Space, Parts}
 use Rattle.statements.specs.Steps.{insideOf, ended, test, topped}
-use Rattle.statements.proofs.Paid.{statement-levels, ended-paid, test-paid, statement-paid, statements-paid, without-size}
+use Rattle.statements.proofs.Paid.{statement-levels, ended-paid, test-paid, statements-paid}
 use Rattle.statements.proofs.Written.{after-after, chosen-after, expects-after, wrong-seen, good-seen, nothing-seen, closed-reads, closed-at, topped-writes}
 
 -- ---- room
@@ -36,7 +34,8 @@ pub space-inside : (ws s : List ℕ) (i n k : ℕ) → Space ws s i n → kindAt
 space-inside ws s i n k o = token-inside ws i k
 
 -- the word before code that was written from the word k on
-pub parts-code : (g : Got (List ℕ)) (ws : List ℕ) (i n k tag x : ℕ) (s s₁ : List ℕ) (e : Read) → seen e s₁ ≡ writtenCode g k s → ((c : List ℕ) (j : ℕ) → g ≡ good c j → Paid c ws i j)
+pub parts-code : (g : Got (List ℕ)) (ws : List ℕ) (i n k tag x : ℕ) (s s₁ : List ℕ) (e : Read) → seen e s₁ ≡ writtenCode g k s
+    → ((c : List ℕ) (j : ℕ) → g ≡ good c j → Paid c ws i j)
     → n < k → k ≤ i → length ws ≤ 65536 → tag < 256 → x < 65536 → Parts e n tag x
 parts-code g ws i n k tag x s s₁ e h pays l b f t u = record {
   smallTag = t;
@@ -46,6 +45,10 @@ parts-code g ws i n k tag x s s₁ e h pays l b f t u = record {
       let p = pays (w .code) j (w .read) in
       omega (arith, w .upTo, p .paid, p .within);
 }
+
+pub parts-ended : (left : ℕ) (ws : List ℕ) (i n k tag x : ℕ) (s s₁ : List ℕ) (e : Read) → seen e s₁ ≡ writtenCode (ended (expression left ws) ws i) k s → n < k
+    → k ≤ i → length ws ≤ 65536 → tag < 256 → x < 65536 → Parts e n tag x
+parts-ended left ws i n k tag x s s₁ e h = parts-code _ ws i n k tag x s s₁ e h (ended-paid left ws i)
 
 -- the same where the code was written before, up to the word m
 pub parts-closed : (ws : List ℕ) (k n j m t tag x : ℕ) (e : Read) → e ≡ closed k ws (At j m t) → n < m → m ≤ 65536 → tag < 256 → x < 65536 → Parts e n tag x
@@ -74,7 +77,8 @@ module _ (ws : List ℕ) (i n : ℕ) (s₀ s : List ℕ) (left : ℕ) where
       unfolding test if_then_else_ opening Expressions.insideOf
       test-none l = rw (l, ← k, o) (wrong-seen 75 i n s₀ s)
 
-      pub test-reads : (e r : Read) → (left ≡ 0 → ⊥) → seen e s ≡ written (expression (left - 1) ws (i + 1)) n s₀ → r ≡ closed 41 ws e → seen r s ≡ writtenCode (test (Expressions.insideOf left ws) ws i) n s₀
+      pub test-reads : (e r : Read) → (left ≡ 0 → ⊥) → seen e s ≡ written (expression (left - 1) ws (i + 1)) n s₀ → r ≡ closed 41 ws e
+          → seen r s ≡ writtenCode (test (Expressions.insideOf left ws) ws i) n s₀
       unfolding test if_then_else_ opening
       test-reads e r l h q = rw (inside-levels left ws l, ← k, o, q) (closed-reads e _ 41 n ws s₀ s h)
 
@@ -91,14 +95,17 @@ module _ (ws : List ℕ) (i n : ℕ) (s₀ : List ℕ) (o : Space ws s₀ i n) w
     unfolding declaration if_then_else_
     declaration-other h = rw (← k, ne-eqb _ _ h) (wrong-seen 10 (i + 1) n s₀ s₀)
 
-    pub declaration-reads : (e r : Read) (s : List ℕ) (x : ℕ) → kind ≡ 1 → i < length ws → e ≡ closed 59 ws (At (i + 2) (n + 1) 0) → x ≡ homeAt ws (i + 1) → seen r s ≡ topped 32 (placeAt ws i) n x (seen e s₀)
+    pub declaration-reads : (e r : Read) (s : List ℕ) (x : ℕ) → kind ≡ 1 → i < length ws → e ≡ closed 59 ws (At (i + 2) (n + 1) 0) → x ≡ homeAt ws (i + 1)
+        → seen r s ≡ topped 32 (placeAt ws i) n x (seen e s₀)
         → seen r s ≡ writtenCode (declaration ws i) n s₀
     unfolding declaration if_then_else_ after
     declaration-reads e r s x h l c u q =
         let d = closed-reads (At (i + 2) (n + 1) 0) _ 59 (n + 1) ws s₀ s₀ (nothing-seen (i + 2) (n + 1) s₀) in
-        rw (← k, h, ← u) (closed-headed (good (piece [] 0) (i + 2)) e r ws [] s₀ s₀ s₀ s 32 (placeAt ws i) n x (n + 1) (omega (arith, o .behind, o .wide)) (omega arith) (sym (append-nil _)) (rw c d) q)
+        rw (← k, h, ← u)
+        (closed-headed (good (piece [] 0) (i + 2)) e r ws [] s₀ s₀ s₀ s 32 (placeAt ws i) n x (n + 1) (omega (arith, o .behind, o .wide)) (omega arith) (sym (append-nil _)) (rw c d) q)
 
-  pub returning-reads : (left : ℕ) (e r : Read) (s₁ s₂ : List ℕ) → i < length ws → seen e s₁ ≡ writtenCode (ended (expression left ws) ws (i + 1)) (n + 1) s₀ → seen r s₂ ≡ topped 37 (placeAt ws i) n 0 (seen e s₁)
+  pub returning-reads : (left : ℕ) (e r : Read) (s₁ s₂ : List ℕ) → i < length ws → seen e s₁ ≡ writtenCode (ended (expression left ws) ws (i + 1)) (n + 1) s₀
+      → seen r s₂ ≡ topped 37 (placeAt ws i) n 0 (seen e s₁)
       → seen r s₂ ≡ writtenCode (returning (expression left ws) ws i) n s₀
   unfolding returning ended
   returning-reads left e r s₁ s₂ l h q =
@@ -136,14 +143,16 @@ module _ (left : ℕ) (ws : List ℕ) (i n : ℕ) (s₀ s : List ℕ) (o : Space
         record { ahead = p .ahead; within = p .within; some = omega (arith, w .upTo, p .some); paid = omega (arith, w .upTo, p .paid, o .behind) }
 
     module _ (kind : ℕ) (k : kind ≡ kindAt ws j) where
-      pub simple-acts : (d r : Read) (s₁ : List ℕ) → (kind ≡ 61 → ⊥) → d ≡ closed 59 ws (At j m t) → seen r s₁ ≡ topped 39 (placeAt ws i) n 0 (seen d s) → seen r s₁ ≡ writtenCode (simple (expression left ws) ws i) n s₀
+      pub simple-acts : (d r : Read) (s₁ : List ℕ) → (kind ≡ 61 → ⊥) → d ≡ closed 59 ws (At j m t) → seen r s₁ ≡ topped 39 (placeAt ws i) n 0 (seen d s)
+          → seen r s₁ ≡ writtenCode (simple (expression left ws) ws i) n s₀
       unfolding simple after if_then_else_
       simple-acts d r s₁ z c q =
           let w = wrote a _ (n + 1) s₀ s j m t h e in
           let p = sided in
+          let l : n < length s₀ = omega (arith, o .behind, o .wide, p .ahead, p .within) in
           let y = closed-reads (At j m t) _ 59 (n + 1) ws s₀ s (good-seen _ (n + 1) s₀ j m t s w) in
           rw (w .read, ← k, ne-eqb _ _ z)
-          (closed-headed (good (w .piece) j) d r ws [] s₀ s₀ s s₁ 39 (placeAt ws i) n 0 (n + 1) (omega (arith, o .behind, o .wide, p .ahead, p .within)) (omega arith) (sym (append-nil _)) (rw c y) q)
+          (closed-headed (good (w .piece) j) d r ws [] s₀ s₀ s s₁ 39 (placeAt ws i) n 0 (n + 1) l (omega arith) (sym (append-nil _)) (rw c y) q)
 
       module _ (z : kind ≡ 61) where
         pub simple-refuses : (t ≡ 1 → ⊥) → (t ≡ 2 → ⊥) → seen (Wrong 10 j) s ≡ writtenCode (simple (expression left ws) ws i) n s₀
@@ -181,7 +190,8 @@ module _ (left : ℕ) (ws : List ℕ) (i n : ℕ) (s₀ s : List ℕ) (o : Space
             (closed-headed (expression left ws (j + 1)) d r ws (take (length c - 1) c) s₀ s s₁ s₂ 34 (placeAt ws i) n 0 (m - 1) l (rw (length-take-le (length c - 1) c (omega arith)) b) v y q)
 
 -- ---- if and while
-inside-level : (left : ℕ) (ws : List ℕ) → (left ≡ 0 → ⊥) → insideOf left ws ≡ level (record { inExpression = expression (left - 1) ws; inStatement = statement (left - 1) ws })
+inside-level : (left : ℕ) (ws : List ℕ) → (left ≡ 0 → ⊥)
+    → insideOf left ws ≡ level (record { inExpression = expression (left - 1) ws; inStatement = statement (left - 1) ws })
 unfolding insideOf
 inside-level zero ws h = absurd (h refl)
 inside-level (suc left) ws h = let q : suc left - 1 ≡ left = omega arith in rw q
@@ -230,7 +240,8 @@ module _ (left : ℕ) (ws : List ℕ) (i n : ℕ) (s₀ s : List ℕ) (o : Space
           small = omega (arith, w .upTo, p .paid, p .within, o .few);
         }
 
-    pub guarded-reads : (tag : ℕ) (b r : Read) (s₁ s₂ : List ℕ) → seen b s₁ ≡ writtenCode (statement (left - 1) ws j) m s → seen r s₂ ≡ topped tag (placeAt ws i) n (m - n - 1) (seen b s₁)
+    pub guarded-reads : (tag : ℕ) (b r : Read) (s₁ s₂ : List ℕ) → seen b s₁ ≡ writtenCode (statement (left - 1) ws j) m s
+        → seen r s₂ ≡ topped tag (placeAt ws i) n (m - n - 1) (seen b s₁)
         → seen r s₂ ≡ writtenCode (guarded tag (placeAt ws i) (insideOf left ws) ws (i + 1)) n s₀
     unfolding after
     guarded-reads tag b r s₁ s₂ y u =
@@ -247,7 +258,8 @@ module _ (left : ℕ) (ws : List ℕ) (i n : ℕ) (s₀ : List ℕ) (k : kindAt 
   unfolding statementIn insideOf opening if_then_else_
   block-none l = rw (statement-levels left ws i, l, k) (wrong-seen 75 i n s₀ s₀)
 
-  pub block-reads : (b r : Read) (s₁ s₂ : List ℕ) → Space ws s₀ i n → (left ≡ 0 → ⊥) → seen b s₁ ≡ writtenCode (statements (statement (left - 1) ws) ws (i + 1)) (n + 1) s₀
+  pub block-reads : (b r : Read) (s₁ s₂ : List ℕ) → Space ws s₀ i n → (left ≡ 0 → ⊥)
+      → seen b s₁ ≡ writtenCode (statements (statement (left - 1) ws) ws (i + 1)) (n + 1) s₀
       → seen r s₂ ≡ topped 38 (placeAt ws i) n 0 (seen b s₁) → seen r s₂ ≡ writtenCode (statement left ws i) n s₀
   unfolding statementIn opening if_then_else_
   block-reads b r s₁ s₂ o l y u =
@@ -255,8 +267,10 @@ module _ (left : ℕ) (ws : List ℕ) (i n : ℕ) (s₀ : List ℕ) (k : kindAt 
       rw (statement-levels left ws i, inside-level left ws l, k)
       (u ∙ ap (topped 38 (placeAt ws i) n 0) y ∙ topped-writes _ [] s₀ s₀ 38 (placeAt ws i) n 0 (n + 1) (omega (arith, o .behind, o .wide)) (omega arith) (sym (append-nil _)))
 
-pub block-parts : (left : ℕ) (ws : List ℕ) (i n : ℕ) (s₀ s : List ℕ) (b : Read) → Space ws s₀ i n → seen b s ≡ writtenCode (statements (statement left ws) ws (i + 1)) (n + 1) s₀ → Parts b n 38 0
-block-parts left ws i n s₀ s b o h = parts-code _ ws (i + 1) n (n + 1) 38 0 s₀ s b h (statements-paid left ws (i + 1)) (omega arith) (omega (arith, o .behind)) (o .few) (omega arith) (omega arith)
+pub block-parts : (left : ℕ) (ws : List ℕ) (i n : ℕ) (s₀ s : List ℕ) (b : Read) → Space ws s₀ i n
+    → seen b s ≡ writtenCode (statements (statement left ws) ws (i + 1)) (n + 1) s₀ → Parts b n 38 0
+block-parts left ws i n s₀ s b o h =
+    parts-code _ ws (i + 1) n (n + 1) 38 0 s₀ s b h (statements-paid left ws (i + 1)) (omega arith) (omega (arith, o .behind)) (o .few) (omega arith) (omega arith)
 
 module _ (left : ℕ) (ws : List ℕ) (i n : ℕ) (s₀ s : List ℕ) (r : Read) (kind : ℕ) (k : kind ≡ kindAt ws i) where
   pub states-declaration : kind ≡ 5 → seen r s ≡ writtenCode (declaration ws i) n s₀ → seen r s ≡ writtenCode (statement left ws i) n s₀
@@ -275,6 +289,7 @@ module _ (left : ℕ) (ws : List ℕ) (i n : ℕ) (s₀ s : List ℕ) (r : Read)
   unfolding statementIn if_then_else_
   states-return e h = rw (statement-levels left ws i, ← k, e) h
 
-  pub states-simple : (kind ≡ 5 → ⊥) → (kind ≡ 6 → ⊥) → (kind ≡ 7 → ⊥) → (kind ≡ 8 → ⊥) → (kind ≡ 123 → ⊥) → seen r s ≡ writtenCode (simple (expression left ws) ws i) n s₀ → seen r s ≡ writtenCode (statement left ws i) n s₀
+  pub states-simple : (kind ≡ 5 → ⊥) → (kind ≡ 6 → ⊥) → (kind ≡ 7 → ⊥) → (kind ≡ 8 → ⊥) → (kind ≡ 123 → ⊥)
+      → seen r s ≡ writtenCode (simple (expression left ws) ws i) n s₀ → seen r s ≡ writtenCode (statement left ws i) n s₀
   unfolding statementIn if_then_else_
   states-simple h5 h6 h7 h8 h123 h = rw (statement-levels left ws i, ← k, ne-eqb _ _ h5, ne-eqb _ _ h6, ne-eqb _ _ h7, ne-eqb _ _ h8, ne-eqb _ _ h123) h

@@ -2,22 +2,21 @@
 -- Assumes nothing.
 use Prim.Native.Nat.{ℕ, zero, suc, _+_, _-_, _<_, _≤_}
 use mathlib.Core.Path.{_≡_, _∙_, refl, sym, subst}
-use mathlib.Core.Bool.{Bool, true, false}
-use mathlib.Core.List.{List, [], _∷_, _++_}
+use mathlib.Core.Bool.{Bool, true, _&&_}
+use mathlib.Core.List.{List, [], _++_}
 use native.Mathlib.Omega.{arith}
 use borrow.Author.Tests.{eqb-true}
 use lib.Dec.{eqb}
-use lib.ListN.{length, take, length-append}
+use lib.ListN.{length, length-append}
 use lib.Seq.{length-take-le}
-use Rattle.meaning.specs.Basics.{if_then_else_}
-use Rattle.meaning.specs.Token.{ending, aName, wordVar, wordIf, wordWhile, wordReturn, semicolon, openParen, closeParen, openBrace, closeBrace, becomes}
+use Rattle.meaning.specs.Token.{ending, aName, wordDef, wordVar, wordIf, wordWhile, wordReturn, semicolon, openParen, closeParen, openBrace, closeBrace, becomes}
 use Rattle.meaning.specs.Grammar.{Got, good, wrong, after, Inside, noLevel, level, opening}
 use Rattle.code.specs.Code.{headed}
 use Rattle.expressions.specs.Words.{is, Piece, ReadPiece, expect, expression}
 use Rattle.expressions.specs.Words as Expressions
 use Rattle.expressions.proofs.Tokens.{chosen, token-inside}
-use Rattle.expressions.proofs.Paid.{Paid, expression-paid, inside-levels, inside-none}
-use Rattle.statements.specs.Words.{ReadCode, Readers, declaration, returning, withoutLast, assignment, simple, guarded, statementsFrom, statements, statementIn, statement, body}
+use Rattle.expressions.proofs.Paid.{Paid, expression-paid}
+use Rattle.statements.specs.Words.{ReadCode, Readers, declaration, returning, withoutLast, assignment, simple, guarded, statementsFrom, statements, statementIn, statement, Head, parameters, body, procedure}
 use Rattle.statements.specs.Steps.{insideOf, ended, test}
 
 -- what has a kind is a token
@@ -42,10 +41,13 @@ PaysInside ws (level r) = PaysPiece ws (r .inExpression) × PaysCode ws (r .inSt
 pays : (ws : List ℕ) (i : ℕ) (g : Got (List ℕ)) → Pays ws i g → (c : List ℕ) (j : ℕ) → g ≡ good c j → Paid c ws i j
 pays ws i g p c j q = subst (Pays ws i) q p
 
-on : {A : Type 0} (ws : List ℕ) (i : ℕ) (g : Got A) (f : A → ℕ → Got (List ℕ)) → ((a : A) (j : ℕ) → g ≡ good a j → Pays ws i (f a j)) → Pays ws i (after g f)
+over : {A B : Type 0} (P : Got B → Type 0) (g : Got A) (f : A → ℕ → Got B) → ((k p : ℕ) → P (wrong k p)) → ((a : A) (j : ℕ) → g ≡ good a j → P (f a j)) → P (after g f)
 unfolding after
-on ws i (good a j) f h = h a j refl
-on ws i (wrong k p) f h = tt
+over P (good a j) f w h = h a j refl
+over P (wrong k p) f w h = w k p
+
+on : {A : Type 0} (ws : List ℕ) (i : ℕ) (g : Got A) (f : A → ℕ → Got (List ℕ)) → ((a : A) (j : ℕ) → g ≡ good a j → Pays ws i (f a j)) → Pays ws i (after g f)
+on ws i g f h = over (Pays ws i) g f (λ k p. tt) h
 
 expect-pays : (ws : List ℕ) (i j k : ℕ) (c : List ℕ) → 0 < length c → i ≤ j → i + length c ≤ j + 1 → Pays ws i (expect (suc k) ws j c)
 unfolding expect
@@ -74,7 +76,9 @@ module _ (ws : List ℕ) (inner : ReadCode) (ok : PaysCode ws inner) where
 -- what was expected is what was there
 pub expect-good : {A : Type 0} (k : ℕ) (ws : List ℕ) (j : ℕ) (a b : A) (m : ℕ) → expect k ws j a ≡ good b m → (a ≡ b) × (m ≡ j + 1)
 unfolding expect
-expect-good {A} k ws j a b m = chosen (λ g. g ≡ good b m → (a ≡ b) × (m ≡ j + 1)) (is k ws j) _ _ (λ _ q. (cc, cc)) (λ _ q. let z : _≡_ {A = ℕ} 0 1 = cc in absurd (omega arith))
+expect-good k ws j a b m =
+    chosen (λ g. g ≡ good b m → (a ≡ b) × (m ≡ j + 1)) (is k ws j) _ _ (λ _ q. (cc, cc))
+    (λ _ q. let z : _≡_ {A = ℕ} 0 1 = cc in absurd (omega arith))
 
 opened : (ws : List ℕ) (i p : ℕ) (inside : Inside Readers) (f : Readers → Got (List ℕ)) → PaysInside ws inside
     → ((r : Readers) → PaysPiece ws (r .inExpression) → PaysCode ws (r .inStatement) → Pays ws i (f r)) → Pays ws i (opening inside p f)
@@ -191,3 +195,20 @@ body-paid ws i c j q = pays ws i _ (
     (λ _. record { some = p .some; ahead = omega (arith, p .ahead); paid = omega (arith, p .paid); within = p .within })
     (λ _. tt))
     (λ _. tt)) c j q
+
+abbrev PaysHead : List ℕ → Got Head → Type 0
+PaysHead ws (good h j) = Paid (h .code) ws 0 j
+PaysHead ws (wrong k p) = Unit {0}
+
+procedure-pays : (main : Bool) (ws : List ℕ) → PaysHead ws (procedure main ws)
+unfolding procedure
+procedure-pays main ws =
+    chosen (PaysHead ws) (is wordDef ws 0) _ _ (λ _. chosen (PaysHead ws) (main && is aName ws 1) _ _ (λ _. chosen (PaysHead ws) (is openParen ws 2) _ _ (λ _.
+    over (PaysHead ws) (parameters ws 3) _ (λ k p. tt) λ xs i _.
+    over (PaysHead ws) (body ws i) _ (λ k p. tt) λ ss j q.
+    let p = body-paid ws i ss j q in
+    record { some = p .some; ahead = omega (arith, p .ahead); paid = omega (arith, p .paid); within = p .within })
+    (λ _. tt)) (λ _. tt)) (λ _. tt)
+
+pub procedure-paid : (main : Bool) (ws : List ℕ) (h : Head) (j : ℕ) → procedure main ws ≡ good h j → Paid (h .code) ws 0 j
+procedure-paid main ws h j q = subst (PaysHead ws) q (procedure-pays main ws)

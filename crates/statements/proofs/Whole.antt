@@ -1,21 +1,21 @@
 -- A body, and the procedure whole.
 -- Assumes nothing.
-use Prim.Native.Nat.{ℕ, _+_, _<_, _≤_}
-use mathlib.Core.Path.{_≡_, _∙_, refl, sym, ap}
-use mathlib.Core.Bool.{Bool, true, false, _&&_}
-use mathlib.Core.List.{List, [], _∷_, _++_}
+use Prim.Native.Nat.{ℕ, _+_}
+use mathlib.Core.Path.{_≡_, _∙_, sym, ap}
+use mathlib.Core.Bool.{Bool, true, false}
+use mathlib.Core.List.{List}
 use native.Mathlib.Omega.{arith}
 use borrow.Author.Tests.{ne-eqb}
-use lib.ListN.{length, getD, take}
+use lib.ListN.{length, getD}
 use Rattle.meaning.specs.Basics.{if_then_else_}
 use Rattle.meaning.specs.Grammar.{Got, good, wrong, after}
 use Rattle.expressions.specs.declared.Read.{Read}
 use Rattle.expressions.specs.declared.Read.the-variants.{At, Wrong}
-use Rattle.expressions.specs.Words.{kindAt, is, Seen, at, failed, seen, writtenCode}
-use Rattle.expressions.proofs.Answers.{WroteCode, wrote-code, erred-code}
+use Rattle.expressions.specs.Words.{kindAt, seen, writtenCode}
+use Rattle.expressions.proofs.Answers.{wrote-code, erred-code}
 use Rattle.statements.specs.declared.Parsed.{Parsed}
 use Rattle.statements.specs.declared.Parsed.the-variants.{Body, Misfit}
-use Rattle.statements.specs.Words.{statements, statement, Head, parameters, body, procedure, SeenWhole, whole, failedWhole, seenWhole, writtenWhole}
+use Rattle.statements.specs.Words.{statements, statement, parameters, body, procedure, whole, seenWhole, writtenWhole}
 use Rattle.statements.specs.Steps.{counted}
 use Rattle.statements.proofs.Written.{wrong-seen, code-seen}
 

@@ -1,7 +1,7 @@
 -- What the smaller functions make of what was read and written.
 -- Assumes nothing.
-use Prim.Native.Nat.{ℕ, zero, suc, _+_, _-_, _*_, _<_, _≤_}
-use mathlib.Core.Path.{_≡_, _∙_, refl, sym, ap}
+use Prim.Native.Nat.{ℕ, _+_, _-_, _*_, _<_}
+use mathlib.Core.Path.{_≡_, _∙_, refl, sym}
 use mathlib.Core.Bool.{Bool, true, false}
 use mathlib.Core.List.{List, [], _∷_, _++_, append-assoc, append-nil}
 use native.Mathlib.Omega.{arith}
@@ -13,9 +13,9 @@ use Rattle.meaning.specs.Grammar.{Got, good, wrong, after}
 use Rattle.code.specs.Code.{word, headed}
 use Rattle.expressions.specs.declared.Read.{Read}
 use Rattle.expressions.specs.declared.Read.the-variants.{At, Wrong}
-use Rattle.expressions.specs.Words.{kindAt, is, Piece, piece, expect, Seen, at, failed, seen, written, writtenCode}
+use Rattle.expressions.specs.Words.{kindAt, is, Piece, piece, expect, at, seen, written, writtenCode}
 use Rattle.expressions.specs.Steps.{closed}
-use Rattle.expressions.proofs.Answers.{take-put, Wrote, WroteCode, wrote, wrote-code, erred, erred-code}
+use Rattle.expressions.proofs.Answers.{take-put, Wrote, WroteCode, wrote, erred}
 use Rattle.statements.specs.Steps.{topped}
 
 -- ---- one after the other
@@ -29,7 +29,8 @@ unfolding after
 after-after (good a j) f h = refl
 after-after (wrong k p) f h = refl
 
-pub chosen-after : {A B : Type 0} (b : Bool) (x y : Unit {0} → Got A) (f : A → ℕ → Got B) → after (if b then x else y) f ≡ (if b then (λ _. after (x tt) f) else λ _. after (y tt) f)
+pub chosen-after : {A B : Type 0} (b : Bool) (x y : Unit {0} → Got A) (f : A → ℕ → Got B)
+    → after (if b then x else y) f ≡ (if b then (λ _. after (x tt) f) else λ _. after (y tt) f)
 unfolding if_then_else_
 chosen-after true x y f = refl
 chosen-after false x y f = refl
@@ -114,7 +115,8 @@ module _ (s₀ : List ℕ) (e : Read) (tag p n x : ℕ) where
   unfolding seen topped
   head-wrong k q h = rw h
 
-  pub head-at : (s : List ℕ) (j m t place w : ℕ) → e ≡ At j m t → place ≡ p → w ≡ word tag (m - n) (place + 65536 * x) → s ≡ set s₀ n w → n < m → seen (At j m 0) s ≡ topped tag p n x (seen e s₀)
+  pub head-at : (s : List ℕ) (j m t place w : ℕ) → e ≡ At j m t → place ≡ p → w ≡ word tag (m - n) (place + 65536 * x) → s ≡ set s₀ n w → n < m
+      → seen (At j m 0) s ≡ topped tag p n x (seen e s₀)
   unfolding seen topped
   head-at s j m t place w h q v u l = rw (h, u, take-set-lt m s₀ n w l, v, q)
 

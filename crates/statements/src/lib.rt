@@ -139,7 +139,7 @@ fn read_simple(tokens: &[u64], words: &mut [u64], i: usize, n: usize, left: usiz
     }
 }
 
-// if or while, at token i: a test and a body, both a level further in.
+// if or while, at token i: a test and a body, both a level further in. Where a test was read a level was left.
 fn read_guarded(
     tokens: &[u64],
     words: &mut [u64],

@@ -1,3 +1,5 @@
+-- Statements, tests with bodies, blocks and what stands in braces meet their contracts: each way is one law. The measures are the tokens left, then the rank.
+-- Assumes nothing.
 use Prim.Native.Nat.{ℕ, _<_, _+_, _-_, _*_}
 use mathlib.Core.Path.{_∙_, sym}
 use lib.ListN.{length}
@@ -97,7 +99,6 @@ read-statements-below t =
     (falls 2 read-statements-kinds.ps _<_ μ-read-statements t)
     read-statements.Pre
 
--- src/lib.rt:161:9
 read-block-returns : (t : ℕ) → read-block-lts.Need-returns (
   read-statements-below t,
   read-statements.Post,
@@ -106,7 +107,6 @@ read-block-returns : (t : ℕ) → read-block-lts.Need-returns (
 ) (read-block-at t) read-block.Post
 read-block-returns t c = block-none _ _ _ _ _ (c .before .before .before .pre .1 .1) (c .if1 .taken)
 
--- src/lib.rt:163:44
 read-block-add-read-statements : (t : ℕ) → read-block-lts.Need-add-read-statements (
   read-statements-below t,
   read-statements.Post,
@@ -118,7 +118,6 @@ read-block-add-read-statements t c =
     let w = space-inside _ _ _ _ _ o (c .before .before .before .before .pre .1 .1) (λ z. omega arith) in
     omega (arith, o .few)
 
--- src/lib.rt:163:51
 read-block-add-read-statements-2 : (t : ℕ) → read-block-lts.Need-add-read-statements-2 (
   read-statements-below t,
   read-statements.Post,
@@ -130,7 +129,6 @@ read-block-add-read-statements-2 t c =
     let w = space-inside _ _ _ _ _ o (c .before .before .before .before .pre .1 .1) (λ z. omega arith) in
     omega (arith, o .behind, o .few)
 
--- src/lib.rt:163:58
 read-block-sub-read-statements : (t : ℕ) → read-block-lts.Need-sub-read-statements (
   read-statements-below t,
   read-statements.Post,
@@ -139,7 +137,6 @@ read-block-sub-read-statements : (t : ℕ) → read-block-lts.Need-sub-read-stat
 ) (read-block-at t) read-block.Post
 read-block-sub-read-statements t c = search needs
 
--- src/lib.rt:163:9
 read-block-read-statements-requires : (t : ℕ) → read-block-lts.Need-read-statements-requires (
   read-statements-below t,
   read-statements.Post,
@@ -151,7 +148,6 @@ read-block-read-statements-requires t c κs =
     let w = space-inside _ _ _ _ _ o (c .before .before .before .before .pre .1 .1) (λ z. omega arith) in
     (omega (arith, c .before .before .before .before .pre .0), record { behind = omega (arith, o .behind); wide = o .wide; few = o .few })
 
--- src/lib.rt:164:5
 read-block-head-requires : (t : ℕ) → read-block-lts.Need-head-requires (
   read-statements-below t,
   read-statements.Post,
@@ -160,7 +156,6 @@ read-block-head-requires : (t : ℕ) → read-block-lts.Need-head-requires (
 ) (read-block-at t) read-block.Post
 read-block-head-requires t c κs = block-parts _ _ _ _ _ _ _ (c .before .before .before .before .before .before .before .before .pre .1 .0) (c .before .before .before .read-statements .ensures)
 
--- src/lib.rt:155:1
 read-block-same-length : (t : ℕ) → read-block-lts.Need-same-length (
   read-statements-below t,
   read-statements.Post,
@@ -169,7 +164,6 @@ read-block-same-length : (t : ℕ) → read-block-lts.Need-same-length (
 ) (read-block-at t) read-block.Post
 read-block-same-length t c = search needs
 
--- src/lib.rt:155:1
 read-block-returns-2 : (t : ℕ) → read-block-lts.Need-returns-2 (
   read-statements-below t,
   read-statements.Post,
@@ -178,7 +172,6 @@ read-block-returns-2 : (t : ℕ) → read-block-lts.Need-returns-2 (
 ) (read-block-at t) read-block.Post
 read-block-returns-2 t c = block-reads _ _ _ _ _ (c .before .before .before .before .before .before .before .before .before .before .before .pre .1 .1) _ _ _ _ (c .before .before .before .before .before .before .before .before .before .before .before .pre .1 .0) (c .before .before .before .before .before .before .before .before .if1 .left) (c .before .before .before .before .before .before .read-statements .ensures) (c .before .before .head .ensures)
 
--- src/lib.rt:144:38
 read-guarded-add-read-test : (t : ℕ) → read-guarded-lts.Need-add-read-test (
   read-test-reads.Asked,
   read-test-reads.Learnt,
@@ -191,7 +184,6 @@ read-guarded-add-read-test t c =
     let o = c .before .before .before .pre .1 .0 in
     omega (arith, o .behind, o .few, c .before .before .before .pre .1 .1 .0)
 
--- src/lib.rt:144:45
 read-guarded-add-read-test-2 : (t : ℕ) → read-guarded-lts.Need-add-read-test-2 (
   read-test-reads.Asked,
   read-test-reads.Learnt,
@@ -204,7 +196,6 @@ read-guarded-add-read-test-2 t c =
     let o = c .before .before .before .pre .1 .0 in
     omega (arith, o .behind, o .few, c .before .before .before .pre .1 .1 .0)
 
--- src/lib.rt:144:9
 read-guarded-read-test-requires : (t : ℕ) → read-guarded-lts.Need-read-test-requires (
   read-test-reads.Asked,
   read-test-reads.Learnt,
@@ -217,7 +208,6 @@ read-guarded-read-test-requires t c κs =
     let o = c .before .before .before .pre .1 .0 in
     record { behind = omega (arith, o .behind); wide = o .wide; short = omega (arith, o .few) }
 
--- src/lib.rt:146:21
 read-guarded-enum-known-e : (t : ℕ) → read-guarded-lts.Need-enum-known-e (
   read-test-reads.Asked,
   read-test-reads.Learnt,
@@ -228,7 +218,6 @@ read-guarded-enum-known-e : (t : ℕ) → read-guarded-lts.Need-enum-known-e (
 ) (read-guarded-at t) read-guarded.Post
 read-guarded-enum-known-e t c = search needs
 
--- src/lib.rt:147:18
 read-guarded-enum-known-e-2 : (t : ℕ) → read-guarded-lts.Need-enum-known-e-2 (
   read-test-reads.Asked,
   read-test-reads.Learnt,
@@ -239,7 +228,6 @@ read-guarded-enum-known-e-2 : (t : ℕ) → read-guarded-lts.Need-enum-known-e-2
 ) (read-guarded-at t) read-guarded.Post
 read-guarded-enum-known-e-2 t c = search needs
 
--- src/lib.rt:148:57
 read-guarded-sub-read-statement : (t : ℕ) → read-guarded-lts.Need-sub-read-statement (
   read-test-reads.Asked,
   read-test-reads.Learnt,
@@ -253,7 +241,6 @@ read-guarded-sub-read-statement t c =
     let p = tested _ _ _ _ _ _ o _ (c .before .before .before .before .before .before .read-test .ensures) _ _ _ (c .before .before .e2 .given .1) (c .before .before .before .before .before .before .read-test .kept .1 .0) in
     omega (arith, p .opens)
 
--- src/lib.rt:148:17
 read-guarded-read-statement-requires : (t : ℕ) → read-guarded-lts.Need-read-statement-requires (
   read-test-reads.Asked,
   read-test-reads.Learnt,
@@ -267,7 +254,6 @@ read-guarded-read-statement-requires t c κs =
     let p = tested _ _ _ _ _ _ o _ (c .before .before .before .before .before .before .read-test .ensures) _ _ _ (c .before .before .e2 .given .1) (c .before .before .before .before .before .before .read-test .kept .1 .0) in
     (omega (arith, p .ahead, p .within, c .before .before .before .before .before .before .before .before .before .before .pre .0), p .space)
 
--- src/lib.rt:149:48
 read-guarded-sub-head : (t : ℕ) → read-guarded-lts.Need-sub-head (
   read-test-reads.Asked,
   read-test-reads.Learnt,
@@ -281,7 +267,6 @@ read-guarded-sub-head t c =
     let p = tested _ _ _ _ _ _ o _ (c .before .before .before .before .before .before .before .before .before .before .read-test .ensures) _ _ _ (c .before .before .before .before .before .before .e2 .given .1) (c .before .before .before .before .before .before .before .before .before .before .read-test .kept .1 .0) in
     omega (arith, p .some)
 
--- src/lib.rt:149:48
 read-guarded-sub-head-2 : (t : ℕ) → read-guarded-lts.Need-sub-head-2 (
   read-test-reads.Asked,
   read-test-reads.Learnt,
@@ -295,7 +280,6 @@ read-guarded-sub-head-2 t c =
     let p = tested _ _ _ _ _ _ o _ (c .before .before .before .before .before .before .before .before .before .before .read-test .ensures) _ _ _ (c .before .before .before .before .before .before .e2 .given .1) (c .before .before .before .before .before .before .before .before .before .before .read-test .kept .1 .0) in
     omega (arith, p .some)
 
--- src/lib.rt:149:13
 read-guarded-head-requires : (t : ℕ) → read-guarded-lts.Need-head-requires (
   read-test-reads.Asked,
   read-test-reads.Learnt,
@@ -309,7 +293,6 @@ read-guarded-head-requires t c κs =
     let p = tested _ _ _ _ _ _ o _ (c .before .before .before .before .before .before .before .before .before .before .read-test .ensures) _ _ _ (c .before .before .before .before .before .before .e2 .given .1) (c .before .before .before .before .before .before .before .before .before .before .read-test .kept .1 .0) in
     parts-code _ _ _ _ _ _ _ _ _ _ (c .before .before .before .read-statement .ensures) (statement-paid _ _ _) (omega (arith, p .some)) (omega (arith, p .space .behind)) (o .few) (c .before .before .before .before .before .before .before .before .before .before .before .before .before .before .pre .1 .1 .1) (p .small)
 
--- src/lib.rt:139:1
 read-guarded-same-length : (t : ℕ) → read-guarded-lts.Need-same-length (
   read-test-reads.Asked,
   read-test-reads.Learnt,
@@ -320,7 +303,6 @@ read-guarded-same-length : (t : ℕ) → read-guarded-lts.Need-same-length (
 ) (read-guarded-at t) read-guarded.Post
 read-guarded-same-length t c = search needs
 
--- src/lib.rt:139:1
 read-guarded-returns : (t : ℕ) → read-guarded-lts.Need-returns (
   read-test-reads.Asked,
   read-test-reads.Learnt,
@@ -331,7 +313,6 @@ read-guarded-returns : (t : ℕ) → read-guarded-lts.Need-returns (
 ) (read-guarded-at t) read-guarded.Post
 read-guarded-returns t c = guarded-wrong _ _ _ _ _ _ (c .before .before .before .before .before .before .before .before .before .pre .1 .0) _ (c .before .before .before .before .before .read-test .ensures) _ _ _ (c .before .e .given .1)
 
--- src/lib.rt:139:1
 read-guarded-same-length-2 : (t : ℕ) → read-guarded-lts.Need-same-length-2 (
   read-test-reads.Asked,
   read-test-reads.Learnt,
@@ -342,7 +323,6 @@ read-guarded-same-length-2 : (t : ℕ) → read-guarded-lts.Need-same-length-2 (
 ) (read-guarded-at t) read-guarded.Post
 read-guarded-same-length-2 t c = search needs
 
--- src/lib.rt:139:1
 read-guarded-returns-2 : (t : ℕ) → read-guarded-lts.Need-returns-2 (
   read-test-reads.Asked,
   read-test-reads.Learnt,
@@ -353,7 +333,6 @@ read-guarded-returns-2 : (t : ℕ) → read-guarded-lts.Need-returns-2 (
 ) (read-guarded-at t) read-guarded.Post
 read-guarded-returns-2 t c = guarded-reads _ _ _ _ _ _ (c .before .before .before .before .before .before .before .before .before .before .before .before .before .before .before .before .before .pre .1 .0) _ (c .before .before .before .before .before .before .before .before .before .before .before .before .before .read-test .ensures) _ _ _ (c .before .before .before .before .before .before .before .before .before .e2 .given .1) (c .before .before .before .before .before .before .before .before .before .before .before .before .before .read-test .kept .1 .0) _ _ _ _ _ (c .before .before .before .before .before .before .read-statement .ensures) (c .before .before .head .ensures)
 
--- src/lib.rt:21:9
 read-statement-kind-at-requires : (t : ℕ) → read-statement-lts.Need-kind-at-requires (
   kind-at-reads.Asked,
   kind-at-reads.Learnt,
@@ -370,7 +349,6 @@ read-statement-kind-at-requires : (t : ℕ) → read-statement-lts.Need-kind-at-
 ) (read-statement-at t) read-statement.Post
 read-statement-kind-at-requires t c κs = search needs
 
--- src/lib.rt:23:14
 read-statement-read-declaration-requires :
     (t : ℕ) → read-statement-lts.Need-read-declaration-requires (
       kind-at-reads.Asked,
@@ -391,7 +369,6 @@ read-statement-read-declaration-requires t c κs =
     let w = space-inside _ _ _ _ _ o (sym (c .before .before .kind-at .ensures)) (λ z. omega (arith, c .before .match .keys1)) in
     (o, w)
 
--- src/lib.rt:24:14
 read-statement-read-guarded-requires : (t : ℕ) → read-statement-lts.Need-read-guarded-requires (
   kind-at-reads.Asked,
   kind-at-reads.Learnt,
@@ -411,7 +388,6 @@ read-statement-read-guarded-requires t c κs =
     let w = space-inside _ _ _ _ _ o (sym (c .before .before .kind-at .ensures)) (λ z. omega (arith, c .before .match .keys2)) in
     (omega (arith, c .before .before .before .before .before .pre .0), (o, (w, omega arith)))
 
--- src/lib.rt:25:14
 read-statement-read-guarded-requires-2 : (t : ℕ) → read-statement-lts.Need-read-guarded-requires-2 (
   kind-at-reads.Asked,
   kind-at-reads.Learnt,
@@ -431,7 +407,6 @@ read-statement-read-guarded-requires-2 t c κs =
     let w = space-inside _ _ _ _ _ o (sym (c .before .before .kind-at .ensures)) (λ z. omega (arith, c .before .match .keys3)) in
     (omega (arith, c .before .before .before .before .before .pre .0), (o, (w, omega arith)))
 
--- src/lib.rt:26:14
 read-statement-read-return-requires : (t : ℕ) → read-statement-lts.Need-read-return-requires (
   kind-at-reads.Asked,
   kind-at-reads.Learnt,
@@ -451,7 +426,6 @@ read-statement-read-return-requires t c κs =
     let w = space-inside _ _ _ _ _ o (sym (c .before .before .kind-at .ensures)) (λ z. omega (arith, c .before .match .keys4)) in
     (o, w)
 
--- src/lib.rt:27:16
 read-statement-read-block-requires : (t : ℕ) → read-statement-lts.Need-read-block-requires (
   kind-at-reads.Asked,
   kind-at-reads.Learnt,
@@ -468,7 +442,6 @@ read-statement-read-block-requires : (t : ℕ) → read-statement-lts.Need-read-
 ) (read-statement-at t) read-statement.Post
 read-statement-read-block-requires t c κs = (omega (arith, c .before .before .before .before .before .pre .0), (c .before .before .before .before .before .pre .1, sym (c .before .before .kind-at .ensures) ∙ c .before .match .keys5))
 
--- src/lib.rt:28:14
 read-statement-read-simple-requires : (t : ℕ) → read-statement-lts.Need-read-simple-requires (
   kind-at-reads.Asked,
   kind-at-reads.Learnt,
@@ -485,7 +458,6 @@ read-statement-read-simple-requires : (t : ℕ) → read-statement-lts.Need-read
 ) (read-statement-at t) read-statement.Post
 read-statement-read-simple-requires t c κs = c .before .before .before .before .before .pre .1
 
--- src/lib.rt:17:1
 read-statement-same-length : (t : ℕ) → read-statement-lts.Need-same-length (
   kind-at-reads.Asked,
   kind-at-reads.Learnt,
@@ -502,7 +474,6 @@ read-statement-same-length : (t : ℕ) → read-statement-lts.Need-same-length (
 ) (read-statement-at t) read-statement.Post
 read-statement-same-length t c = search needs
 
--- src/lib.rt:17:1
 read-statement-returns : (t : ℕ) → read-statement-lts.Need-returns (
   kind-at-reads.Asked,
   kind-at-reads.Learnt,
@@ -519,7 +490,6 @@ read-statement-returns : (t : ℕ) → read-statement-lts.Need-returns (
 ) (read-statement-at t) read-statement.Post
 read-statement-returns t c = states-declaration _ _ _ _ _ _ _ _ (c .before .before .before .before .before .kind-at .ensures) (c .before .before .before .before .match .keys1) (c .before .before .read-declaration .ensures)
 
--- src/lib.rt:17:1
 read-statement-same-length-2 : (t : ℕ) → read-statement-lts.Need-same-length-2 (
   kind-at-reads.Asked,
   kind-at-reads.Learnt,
@@ -536,7 +506,6 @@ read-statement-same-length-2 : (t : ℕ) → read-statement-lts.Need-same-length
 ) (read-statement-at t) read-statement.Post
 read-statement-same-length-2 t c = search needs
 
--- src/lib.rt:17:1
 read-statement-returns-2 : (t : ℕ) → read-statement-lts.Need-returns-2 (
   kind-at-reads.Asked,
   kind-at-reads.Learnt,
@@ -553,7 +522,6 @@ read-statement-returns-2 : (t : ℕ) → read-statement-lts.Need-returns-2 (
 ) (read-statement-at t) read-statement.Post
 read-statement-returns-2 t c = states-when _ _ _ _ _ _ _ _ (c .before .before .before .before .before .kind-at .ensures) (c .before .before .before .before .match .keys2) (c .before .before .read-guarded .ensures)
 
--- src/lib.rt:17:1
 read-statement-same-length-3 : (t : ℕ) → read-statement-lts.Need-same-length-3 (
   kind-at-reads.Asked,
   kind-at-reads.Learnt,
@@ -570,7 +538,6 @@ read-statement-same-length-3 : (t : ℕ) → read-statement-lts.Need-same-length
 ) (read-statement-at t) read-statement.Post
 read-statement-same-length-3 t c = search needs
 
--- src/lib.rt:17:1
 read-statement-returns-3 : (t : ℕ) → read-statement-lts.Need-returns-3 (
   kind-at-reads.Asked,
   kind-at-reads.Learnt,
@@ -587,7 +554,6 @@ read-statement-returns-3 : (t : ℕ) → read-statement-lts.Need-returns-3 (
 ) (read-statement-at t) read-statement.Post
 read-statement-returns-3 t c = states-while _ _ _ _ _ _ _ _ (c .before .before .before .before .before .kind-at .ensures) (c .before .before .before .before .match .keys3) (c .before .before .read-guarded2 .ensures)
 
--- src/lib.rt:17:1
 read-statement-same-length-4 : (t : ℕ) → read-statement-lts.Need-same-length-4 (
   kind-at-reads.Asked,
   kind-at-reads.Learnt,
@@ -604,7 +570,6 @@ read-statement-same-length-4 : (t : ℕ) → read-statement-lts.Need-same-length
 ) (read-statement-at t) read-statement.Post
 read-statement-same-length-4 t c = search needs
 
--- src/lib.rt:17:1
 read-statement-returns-4 : (t : ℕ) → read-statement-lts.Need-returns-4 (
   kind-at-reads.Asked,
   kind-at-reads.Learnt,
@@ -621,7 +586,6 @@ read-statement-returns-4 : (t : ℕ) → read-statement-lts.Need-returns-4 (
 ) (read-statement-at t) read-statement.Post
 read-statement-returns-4 t c = states-return _ _ _ _ _ _ _ _ (c .before .before .before .before .before .kind-at .ensures) (c .before .before .before .before .match .keys4) (c .before .before .read-return .ensures)
 
--- src/lib.rt:17:1
 read-statement-same-length-5 : (t : ℕ) → read-statement-lts.Need-same-length-5 (
   kind-at-reads.Asked,
   kind-at-reads.Learnt,
@@ -638,7 +602,6 @@ read-statement-same-length-5 : (t : ℕ) → read-statement-lts.Need-same-length
 ) (read-statement-at t) read-statement.Post
 read-statement-same-length-5 t c = search needs
 
--- src/lib.rt:17:1
 read-statement-returns-5 : (t : ℕ) → read-statement-lts.Need-returns-5 (
   kind-at-reads.Asked,
   kind-at-reads.Learnt,
@@ -655,7 +618,6 @@ read-statement-returns-5 : (t : ℕ) → read-statement-lts.Need-returns-5 (
 ) (read-statement-at t) read-statement.Post
 read-statement-returns-5 t c = c .before .before .read-block .ensures
 
--- src/lib.rt:17:1
 read-statement-same-length-6 : (t : ℕ) → read-statement-lts.Need-same-length-6 (
   kind-at-reads.Asked,
   kind-at-reads.Learnt,
@@ -672,7 +634,6 @@ read-statement-same-length-6 : (t : ℕ) → read-statement-lts.Need-same-length
 ) (read-statement-at t) read-statement.Post
 read-statement-same-length-6 t c = search needs
 
--- src/lib.rt:17:1
 read-statement-returns-6 : (t : ℕ) → read-statement-lts.Need-returns-6 (
   kind-at-reads.Asked,
   kind-at-reads.Learnt,
@@ -697,7 +658,6 @@ read-statements-Inv-loop tokens words₀ i n left at₀ m₀ words at m = Going 
 abbrev read-statements-μ-loop : read-statements-lts.MeasureT-loop
 read-statements-μ-loop tokens words₀ i n left at₀ m₀ words at m = length tokens - at
 
--- src/lib.rt:174:5
 read-statements-loop-holds : (t : ℕ) → read-statements-lts.Need-loop-holds (
   read-statement-below t,
   read-statement.Post,
@@ -706,7 +666,6 @@ read-statements-loop-holds : (t : ℕ) → read-statements-lts.Need-loop-holds (
 ) (read-statements-at t) read-statements.Post read-statements-Inv-loop read-statements-μ-loop
 read-statements-loop-holds t c = going-starts _ _ _ _ _ (c .before .before .pre .1)
 
--- src/lib.rt:175:13
 read-statements-read-statement-requires :
     (t : ℕ) → read-statements-lts.Need-read-statement-requires (
       read-statement-below t,
@@ -716,7 +675,6 @@ read-statements-read-statement-requires :
     ) (read-statements-at t) read-statements.Post read-statements-Inv-loop read-statements-μ-loop
 read-statements-read-statement-requires t c κs = (omega (arith, c .before .loop .inv .ahead, c .before .before .before .before .pre .0), c .before .loop .inv .space)
 
--- src/lib.rt:177:25
 read-statements-enum-known-s : (t : ℕ) → read-statements-lts.Need-enum-known-s (
   read-statement-below t,
   read-statement.Post,
@@ -725,7 +683,6 @@ read-statements-enum-known-s : (t : ℕ) → read-statements-lts.Need-enum-known
 ) (read-statements-at t) read-statements.Post read-statements-Inv-loop read-statements-μ-loop
 read-statements-enum-known-s t c = search needs
 
--- src/lib.rt:177:34
 read-statements-same-length : (t : ℕ) → read-statements-lts.Need-same-length (
   read-statement-below t,
   read-statement.Post,
@@ -734,7 +691,6 @@ read-statements-same-length : (t : ℕ) → read-statements-lts.Need-same-length
 ) (read-statements-at t) read-statements.Post read-statements-Inv-loop read-statements-μ-loop
 read-statements-same-length t c = omega (arith, c .before .before .before .before .before .before .before .loop .inv .kept, c .before .before .before .before .before .read-statement .kept .1 .0)
 
--- src/lib.rt:177:34
 read-statements-returns : (t : ℕ) → read-statements-lts.Need-returns (
   read-statement-below t,
   read-statement.Post,
@@ -743,7 +699,6 @@ read-statements-returns : (t : ℕ) → read-statements-lts.Need-returns (
 ) (read-statements-at t) read-statements.Post read-statements-Inv-loop read-statements-μ-loop
 read-statements-returns t c = going-fails _ _ _ _ _ _ _ _ (c .before .before .before .before .before .before .before .loop .inv) _ _ (c .before .before .before .before .before .read-statement .ensures) _ _ (c .before .s .given .1)
 
--- src/lib.rt:178:22
 read-statements-enum-known-s-2 : (t : ℕ) → read-statements-lts.Need-enum-known-s-2 (
   read-statement-below t,
   read-statement.Post,
@@ -752,7 +707,6 @@ read-statements-enum-known-s-2 : (t : ℕ) → read-statements-lts.Need-enum-kno
 ) (read-statements-at t) read-statements.Post read-statements-Inv-loop read-statements-μ-loop
 read-statements-enum-known-s-2 t c = search needs
 
--- src/lib.rt:179:20
 read-statements-kind-at-requires : (t : ℕ) → read-statements-lts.Need-kind-at-requires (
   read-statement-below t,
   read-statement.Post,
@@ -761,7 +715,6 @@ read-statements-kind-at-requires : (t : ℕ) → read-statements-lts.Need-kind-a
 ) (read-statements-at t) read-statements.Post read-statements-Inv-loop read-statements-μ-loop
 read-statements-kind-at-requires t c κs = search needs
 
--- src/lib.rt:180:37
 read-statements-add-t17 : (t : ℕ) → read-statements-lts.Need-add-t17 (
   read-statement-below t,
   read-statement.Post,
@@ -772,7 +725,6 @@ read-statements-add-t17 t c =
     let x = turned _ _ _ _ _ _ _ _ (c .before .before .before .before .before .before .before .before .before .loop .inv) _ _ (c .before .before .before .before .before .before .before .read-statement .ensures) _ _ _ (c .before .before .before .s2 .given .1) (c .before .before .before .before .before .before .before .read-statement .kept .1 .0) in
     omega (arith, x .within, x .space .few)
 
--- src/lib.rt:180:21
 read-statements-same-length-2 : (t : ℕ) → read-statements-lts.Need-same-length-2 (
   read-statement-below t,
   read-statement.Post,
@@ -781,7 +733,6 @@ read-statements-same-length-2 : (t : ℕ) → read-statements-lts.Need-same-leng
 ) (read-statements-at t) read-statements.Post read-statements-Inv-loop read-statements-μ-loop
 read-statements-same-length-2 t c = omega (arith, c .before .before .before .before .before .before .before .before .before .loop .inv .kept, c .before .before .before .before .before .before .before .read-statement .kept .1 .0)
 
--- src/lib.rt:180:21
 read-statements-returns-2 : (t : ℕ) → read-statements-lts.Need-returns-2 (
   read-statement-below t,
   read-statement.Post,
@@ -790,7 +741,6 @@ read-statements-returns-2 : (t : ℕ) → read-statements-lts.Need-returns-2 (
 ) (read-statements-at t) read-statements.Post read-statements-Inv-loop read-statements-μ-loop
 read-statements-returns-2 t c = going-ends _ _ _ _ _ _ _ _ (c .before .before .before .before .before .before .before .before .before .loop .inv) _ _ (c .before .before .before .before .before .before .before .read-statement .ensures) _ _ _ (c .before .before .before .s2 .given .1) (c .before .before .before .before .before .before .before .read-statement .kept .1 .0) _ (c .before .kind-at .ensures) (c .if1 .taken)
 
--- src/lib.rt:174:5
 read-statements-loop-less : (t : ℕ) → read-statements-lts.Need-loop-less (
   read-statement-below t,
   read-statement.Post,
@@ -801,7 +751,6 @@ read-statements-loop-less t c =
     let x = turned _ _ _ _ _ _ _ _ (c .before .before .before .before .before .before .before .before .before .loop .inv) _ _ (c .before .before .before .before .before .before .before .read-statement .ensures) _ _ _ (c .before .before .before .s2 .given .1) (c .before .before .before .before .before .before .before .read-statement .kept .1 .0) in
     omega (arith, x .ahead, x .within)
 
--- src/lib.rt:174:5
 read-statements-loop-again : (t : ℕ) → read-statements-lts.Need-loop-again (
   read-statement-below t,
   read-statement.Post,
