@@ -68,10 +68,13 @@ fn best(rounds: usize, mut run: impl FnMut()) -> f64 {
     least
 }
 
+/// A shape of program, by its length.
+type Shape = fn(usize) -> Vec<u8>;
+
 fn main() {
     println!("| program | bytes | ours, µs | reference, µs |");
     println!("|---|---|---|---|");
-    let shapes: [(&str, fn(usize) -> Vec<u8>); 4] = [
+    let shapes: [(&str, Shape); 4] = [
         ("one name", one_name),
         ("different names", different_names),
         ("64 levels", nested),
