@@ -1,18 +1,18 @@
 -- The index stays right where entries, heads and the contents of keys stay as they are; and with a new entry.
-use Prim.Native.Nat.{ℕ, zero, suc, _+_, _*_, _-_, _/_, _%_, _^_, _≤_, _<_}
+use Prim.Native.Nat.{ℕ, _+_, _/_, _%_, _^_, _≤_, _<_}
 use mathlib.Core.Path.{_≡_, _∙_, refl, sym, ap}
 use mathlib.Core.Bool.{Bool, true, false}
 use mathlib.Core.List.{List, [], _∷_}
 use native.Mathlib.Omega.{arith}
 use native.Mathlib.Numerals.{add-one}
-use lib.ListN.{getD, set, take, length}
+use lib.ListN.{getD, take}
 use lib.Dec.{eqb, ltb}
 use borrow.Author.Tests.{eqb-true, eqb-false, ltb-true, ltb-false}
 use Rattle.meaning.specs.Basics.{if_then_else_}
 use Rattle.values.specs.Words.{kindIn, numberIn, handleIn}
 use Rattle.stores.specs.Layout.{entriesUsed, entriesGranted, shapePlace, entryPlace}
 use Rattle.stores.specs.Texts.{originIn, startIn, sizeIn, part, textOf}
-use Rattle.stores.specs.Tables.{ownerAt, keyAt, last, figureContent, contentOf, hashFrom, spread, bucketOf, headPlace, linkAt, lies, Indexed}
+use Rattle.stores.specs.Tables.{ownerAt, keyAt, last, figureContent, contentOf, bucketOf, headPlace, linkAt, lies, Indexed}
 use Rattle.texts.proofs.Layer.{part-take}
 use Rattle.tables.proofs.IndexLaws.{last-cong, bucket-less}
 use Rattle.invariant.specs.Invariant.{Held}

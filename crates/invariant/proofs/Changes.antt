@@ -1,18 +1,18 @@
 -- What the words and the text store may become.
-use Prim.Native.Nat.{ℕ, _+_, _*_, _-_, _/_, _%_, _^_, _≤_, _<_}
-use mathlib.Core.Path.{_≡_, _∙_, refl, sym, ap}
+use Prim.Native.Nat.{ℕ, _+_, _/_, _%_, _≤_, _<_}
+use mathlib.Core.Path.{_≡_, refl, sym, ap}
 use mathlib.Core.List.{List}
 use native.Mathlib.Omega.{arith}
 use lib.ListN.{getD, set, take, length, length-set}
 use lib.Seq.{getD-set-other}
 use Rattle.values.specs.Words.{numberIn}
-use Rattle.stores.specs.Layout.{shapesUsed, entriesUsed, textUsed, shapesGranted, entriesGranted, textGranted, valuePlace, argumentPlace, shapePlace, entryPlace, Room, Lent}
+use Rattle.stores.specs.Layout.{shapesUsed, entriesUsed, textUsed, shapesGranted, entriesGranted, textGranted, valuePlace, argumentPlace, shapePlace, entryPlace, Lent}
 use Rattle.stores.specs.Arguments.{argumentAt}
 use Rattle.stores.specs.Texts.{textOf}
 use Rattle.stores.specs.Tables.{keyAt, valueAt, figureContent, contentOf, headPlace, Indexed}
-use Rattle.invariant.specs.Invariant.{Held, Sound, SoundIn, HeldIn, Valid}
+use Rattle.invariant.specs.Invariant.{SoundIn, HeldIn, Valid}
 use Rattle.invariant.proofs.Soundness.{held-more, sound-more, at-any}
-use Rattle.invariant.proofs.Agreement.{text-same, content-same, figure-same, Agree, index-agrees}
+use Rattle.invariant.proofs.Agreement.{text-same, content-same, figure-same, index-agrees}
 
 pub lent-same : {g ts ws ts′ ws′ : List ℕ} → length ts′ ≡ length ts → length ws′ ≡ length ws → Lent g ts ws → Lent g ts′ ws′
 lent-same {g} {ts} {ws} {ts′} {ws′} t w l = record {

@@ -1,27 +1,24 @@
 -- The acts on entries keep what holds; and what holds at the start.
-use Prim.Native.Nat.{ℕ, zero, suc, _+_, _*_, _-_, _/_, _%_, _^_, _≤_, _<_}
+use Prim.Native.Nat.{ℕ, zero, suc, _+_, _*_, _-_, _^_, _≤_, _<_}
 use mathlib.Core.Path.{_≡_, _∙_, refl, sym, ap}
 use mathlib.Core.Bool.{Bool, true, false}
 use mathlib.Core.List.{List}
 use native.Mathlib.Omega.{arith}
-use lib.ListN.{getD, set, length, length-set}
+use lib.ListN.{getD, set, length, replicate, length-set}
 use lib.Seq.{getD-set-same, getD-set-other}
-use lib.Dec.{eqb, leb}
-use borrow.Author.Tests.{leb-true, eqb-true, eqb-false, eq-eqb, ne-eqb}
+use lib.Dec.{leb}
+use borrow.Author.Tests.{leb-true, ne-eqb}
 use Rattle.meaning.specs.Basics.{if_then_else_}
-use Rattle.values.specs.declared.Value.{Value}
 use Rattle.values.specs.Words.{unpacked}
-use Rattle.stores.specs.Layout.{shapesUsed, entriesUsed, textUsed, shapesGranted, entriesGranted, valuePlace, argumentPlace, shapePlace, entryPlace, Lent}
-use Rattle.stores.specs.Act.{raw, done, stop, goOn, _>>=_, give, fail, refuse, load, store, spend}
-use Rattle.stores.specs.Texts.{textOf}
-use Rattle.stores.specs.Variables.{usable}
-use Rattle.stores.specs.Tables.{keyAt, valueAt, matches, last, findEntry, readFrom, readEntry, contentOf, bucketOf, headPlace, Indexed, entryLaid, putEntry, addEntry, storeIn, storeEntry}
-use Rattle.tables.proofs.IndexLaws.{last-le, last-none, bucket-less}
-use Rattle.invariant.specs.Invariant.{Held, SoundIn, SoundValue, Valid, After, kept, stopped, Any}
+use Rattle.stores.specs.Layout.{shapesUsed, entriesUsed, textUsed, entriesGranted, valuePlace, argumentPlace, shapePlace, entryPlace, Lent}
+use Rattle.stores.specs.Act.{raw, done, stop, goOn, give, fail, refuse, load, store, spend, _>>=_}
+use Rattle.stores.specs.Tables.{keyAt, valueAt, matches, last, findEntry, readFrom, readEntry, contentOf, bucketOf, headPlace, entryLaid, putEntry, addEntry, storeIn, storeEntry}
+use Rattle.tables.proofs.IndexLaws.{last-le, bucket-less}
+use Rattle.invariant.specs.Invariant.{SoundIn, SoundValue, Valid, After, kept, stopped, Any}
 use Rattle.invariant.proofs.Soundness.{sound-zero, sound-unpacked, at-any}
-use Rattle.invariant.proofs.Agreement.{content-same, figure-same, Agree, index-agrees, Added, index-added}
+use Rattle.invariant.proofs.Agreement.{index-agrees, Added, index-added}
 use Rattle.invariant.proofs.Changes.{content-kept, valid-entries}
-use Rattle.invariant.proofs.Keeping.{grows-same, after-give, after-reading}
+use Rattle.invariant.proofs.Keeping.{grows-same, after-reading}
 
 -- ---- the start
 pub valid-start : (program g ts ws : List ℕ) → Lent g ts ws → ((i : ℕ) → getD ws i 0 ≡ 0) → Valid program g ts ws
@@ -37,6 +34,14 @@ valid-start program g ts ws l z = record {
   keys = λ k m. rw (z (entryPlace g k + 1)) (sound-zero _ _);
   values = λ k m. rw (z (entryPlace g k + 2)) (sound-zero _ _);
 }
+
+zero-at : (n i : ℕ) → _≡_ {A = ℕ} (getD (replicate n 0) i 0) 0
+zero-at zero i = refl
+zero-at (suc n) zero = refl
+zero-at (suc n) (suc i) = zero-at n i
+
+pub valid-cleared : (program g ts : List ℕ) (n : ℕ) → Lent g ts (replicate n 0) → Valid program g ts (replicate n 0)
+valid-cleared program g ts n l = valid-start program g ts (replicate n 0) l (zero-at n)
 
 -- ---- reading
 module _ {program g ts ws : List ℕ} (v : Valid program g ts ws) where

@@ -1,26 +1,26 @@
 -- The acts on shapes and texts keep what holds.
-use Prim.Native.Nat.{ℕ, zero, suc, _+_, _*_, _-_, _/_, _%_, _^_, _≤_, _<_}
+use Prim.Native.Nat.{ℕ, zero, suc, _+_, _/_, _%_, _^_, _≤_, _<_}
 use mathlib.Core.Path.{_≡_, _∙_, refl, sym, ap}
 use mathlib.Core.Bool.{Bool, true, false}
 use mathlib.Core.List.{List}
 use native.Mathlib.Omega.{arith}
-use lib.ListN.{getD, set, take, length, length-set}
+use lib.ListN.{getD, set, length, length-set}
 use lib.Seq.{getD-set-same, getD-set-other, set-comm}
 use lib.Dec.{leb}
 use borrow.Author.Tests.{leb-true}
 use Rattle.meaning.specs.Basics.{if_then_else_}
 use Rattle.values.specs.declared.Value.{Value}
 use Rattle.values.specs.declared.Value.the-variants.{Integer, Text, Boolean, Nothing, Table, Shape}
-use Rattle.values.specs.Words.{kindIn, numberIn, unpacked}
-use Rattle.stores.specs.Layout.{shapesUsed, entriesUsed, textUsed, shapesGranted, textGranted, declared, valuePlace, orderPlace, shapePlace, entryPlace, Lent}
-use Rattle.stores.specs.Act.{raw, Out, done, stop, goOn, _>>=_, give, load, store, spend}
+use Rattle.values.specs.Words.{unpacked}
+use Rattle.stores.specs.Layout.{shapesUsed, textUsed, shapesGranted, textGranted, declared, valuePlace, orderPlace, shapePlace}
+use Rattle.stores.specs.Act.{raw, done, stop, goOn, _>>=_, give, load, store, spend}
 use Rattle.stores.specs.Texts.{textOf, laidAt, joined, handle, sizeIn, putJoined, joinTexts}
 use Rattle.stores.specs.declared.Figure.{Figure}
 use Rattle.stores.specs.Shapes.{firstWord, pairWord, figureLaid, putFigure, newShape, destroyedWord, destroy}
 use Rattle.stores.specs.Variables.{destroyIn, clearFrom, clearScene}
-use Rattle.stores.specs.Tables.{keyAt, contentOf, figureContent}
+use Rattle.stores.specs.Tables.{keyAt, figureContent}
 use Rattle.texts.proofs.Layer.{length-laid, kept-laid}
-use Rattle.invariant.specs.Invariant.{Held, SoundIn, HeldIn, SoundValue, Valid, Grows, After, kept, stopped, Any}
+use Rattle.invariant.specs.Invariant.{HeldIn, SoundValue, Valid, After, kept, stopped, Any}
 use Rattle.invariant.proofs.Soundness.{held-low, held-new, sound-unpacked, at-any}
 use Rattle.invariant.proofs.Agreement.{content-same, figure-same}
 use Rattle.invariant.proofs.Changes.{valid-shapes, valid-more, valid-texts}

@@ -1,6 +1,6 @@
 -- Words that lead to what is there.
 use Prim.Native.Nat.{ℕ, _+_, _*_, _/_, _%_, _^_, _≤_, _<_}
-use mathlib.Core.Path.{_≡_, _∙_, refl, sym, ap}
+use mathlib.Core.Path.{_≡_, refl, sym}
 use mathlib.Core.Bool.{Bool, true, false}
 use mathlib.Core.List.{List}
 use native.Mathlib.Omega.{arith}
@@ -14,10 +14,10 @@ use mir.ValLaws.{toZ-fits}
 use Rattle.meaning.specs.Integer.{bits}
 use Rattle.values.specs.declared.Value.{Value}
 use Rattle.values.specs.declared.Value.the-variants.{Integer, Text, Boolean, Nothing, Table, Shape}
-use Rattle.values.specs.Words.{kindIn, numberIn, handleIn, packed, unpacked}
+use Rattle.values.specs.Words.{kindIn, numberIn, packed, unpacked}
 use Rattle.values.proofs.Laws.{by-kind, InRange, unpacked-packed}
-use Rattle.stores.specs.Texts.{originIn, startIn, sizeIn, handle}
-use Rattle.invariant.specs.Invariant.{Held, Sound, SoundIn, HeldIn, SoundValue, Valid, Grows}
+use Rattle.stores.specs.Texts.{handle}
+use Rattle.invariant.specs.Invariant.{Held, Sound, SoundIn, SoundValue, Valid, Grows}
 
 pub held-more : {t t′ h : ℕ} → t ≤ t′ → Held t h → Held t′ h
 held-more p e = record { small = e .small; within = λ o. omega (arith, e .within o) }

@@ -110,25 +110,34 @@ arguments inner ts i =
     if is closeParen ts i then (λ _. good noArgument (i + 1))
     else λ _. argumentsFrom (suc (length ts - i)) inner ts i
 
+-- a constant whose minus is token i: its digits stand directly behind
+abbrev pub signedConstant : List Token → ℕ → Got Expression
+signedConstant ts i =
+    if negativeAt ts (i + 1) then (λ _. good (number (negℤ (pos (numeral (textAt ts (i + 1)))))) (i + 2)) else λ _. wrong 10 (i + 1)
+
+-- a name, or a call if a parenthesis follows
+abbrev pub nameOrCall : Inside ReadExpression → List Token → ℕ → Got Expression
+nameOrCall inside ts i =
+    if is openParen ts (i + 1)
+    then (λ _. opening inside (i + 1) λ inner. after (arguments inner ts (i + 2)) λ es j. good (call (textAt ts i) es) j)
+    else λ _. good (name (textAt ts i)) (i + 1)
+
+-- an expression behind the opening token i, and the token that closes it
+abbrev pub enclosed : ℕ → (Expression → Expression) → Inside ReadExpression → List Token → ℕ → Got Expression
+enclosed closing make inside ts i = opening inside i λ inner. after (inner (i + 1)) λ e j. expect closing ts j (make e)
+
 -- a primary: a constant, a name, a call, a table creation or a parenthesised expression
 unfoldable pub primary : Inside ReadExpression → List Token → ℕ → Got Expression
 primary inside ts i =
     if positiveAt ts i then (λ _. good (number (pos (numeral (textAt ts i)))) (i + 1))
-    else λ _. if signedAt ts i then (λ _.
-    if negativeAt ts (i + 1) then (λ _. good (number (negℤ (pos (numeral (textAt ts (i + 1)))))) (i + 2))
-    else λ _. wrong 10 (i + 1))
+    else λ _. if signedAt ts i then (λ _. signedConstant ts i)
     else λ _. if is aString ts i then (λ _. good (string (textAt ts i)) (i + 1))
     else λ _. if is wordNone ts i then (λ _. good nothing (i + 1))
     else λ _. if is wordTrue ts i then (λ _. good (truth true) (i + 1))
     else λ _. if is wordFalse ts i then (λ _. good (truth false) (i + 1))
-    else λ _. if is aName ts i then (λ _.
-    if is openParen ts (i + 1) then (λ _.
-    opening inside (i + 1) λ inner. after (arguments inner ts (i + 2)) λ es j. good (call (textAt ts i) es) j)
-    else λ _. good (name (textAt ts i)) (i + 1))
-    else λ _. if is openParen ts i then (λ _.
-    opening inside i λ inner. after (inner (i + 1)) λ e j. expect closeParen ts j (paren e))
-    else λ _. if is openBracket ts i then (λ _.
-    opening inside i λ inner. after (inner (i + 1)) λ e j. expect closeBracket ts j (table e))
+    else λ _. if is aName ts i then (λ _. nameOrCall inside ts i)
+    else λ _. if is openParen ts i then (λ _. enclosed closeParen paren inside ts i)
+    else λ _. if is openBracket ts i then (λ _. enclosed closeBracket table inside ts i)
     else λ _. wrong 10 i
 
 -- an operand: a primary, or a primary, a dot and a primary

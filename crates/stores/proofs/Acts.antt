@@ -1,6 +1,6 @@
 -- How acts go on after what code did.
 use Prim.Native.Nat.{ℕ, _+_, _≤_, _<_}
-use mathlib.Core.Path.{_≡_, refl, ap, sym, _∙_}
+use mathlib.Core.Path.{_≡_, refl, ap, sym}
 use mathlib.Core.Bool.{Bool, true, false}
 use mathlib.Core.List.{List, []}
 use native.Mathlib.Omega.{arith}
@@ -9,9 +9,8 @@ use lib.Dec.{leb}
 use borrow.Author.Tests.{leb-true, leb-false}
 use Rattle.meaning.specs.Basics.{if_then_else_}
 use Rattle.values.specs.declared.Value.{Value}
-use Rattle.values.specs.declared.Answer.{Answer}
 use Rattle.values.specs.declared.Answer.the-variants.{Good, Bad}
-use Rattle.stores.specs.Act.{Raw, raw, Out, done, stop, Act, goOn, _>>=_, spend, shown, passed, Answers, Passes, Pays, Gives}
+use Rattle.stores.specs.Act.{raw, Out, done, stop, Act, goOn, _>>=_, spend, shown, passed, Answers, Passes, Pays, Gives}
 
 -- ---- one act and then another
 module _ {B : Type 0} (k : Value → Act B) where

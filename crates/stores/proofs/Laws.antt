@@ -1,33 +1,31 @@
 -- What each way through the code does.
 use Prim.Native.Nat.{ℕ, zero, suc, _+_, _-_, _*_, _/_, _%_, _^_, _≤_, _<_}
-use mathlib.Core.Path.{_≡_, refl, ap, sym, _∙_}
+use mathlib.Core.Path.{_≡_, refl, sym, _∙_}
 use mathlib.Core.Bool.{Bool, true, false, not}
 use mathlib.Core.List.{List, [], _∷_}
 use native.Mathlib.Omega.{arith}
-use native.Mathlib.Numerals.{add-one}
-use lib.ListN.{getD, set, length, length-set}
-use lib.Seq.{set-out}
-use lib.Dec.{eqb, leb}
+use lib.ListN.{getD, set, length}
+use lib.Dec.{eqb}
 use lib.IntN.{ℤ}
 use lib.Signed.{mag}
 use mir.Syntax.{w32}
 use mir.Val.{toZ, ofZ, SFits}
 use mir.Facts.{toZ-ofZ}
-use borrow.Author.Tests.{not-true, not-false, le-leb, lt-leb, eq-eqb, ne-eqb}
-use Rattle.meaning.specs.Basics.{if_then_else_}
+use borrow.Author.Tests.{not-true, not-false, le-leb, lt-leb, ne-eqb}
 use Rattle.meaning.specs.Integer.{bits}
 use Rattle.values.specs.declared.Value.{Value}
-use Rattle.values.specs.declared.Value.the-variants.{Integer, Text, Boolean, Nothing, Table, Shape}
+use Rattle.values.specs.declared.Value.the-variants.{Table, Shape}
 use Rattle.values.specs.declared.Answer.the-variants.{Good, Bad}
 use Rattle.values.specs.Words.{kindIn, numberIn, packed, unpacked}
 use Rattle.values.proofs.Laws.{unpacked-shape, by-kind}
-use Rattle.stores.specs.Layout.{valuePlace, orderPlace, shapePlace, argumentPlace, Room}
-use Rattle.stores.specs.Act.{Raw, raw, Out, done, stop, Act, goOn, _>>=_, give, fail, refuse, load, store, spend, count, newTable, shown, passed, Answers, Passes, Pays, Gives}
+use Rattle.stores.specs.Layout.{shapePlace, Room}
+use Rattle.stores.specs.Act.{raw, Out, done, goOn, give, fail, refuse, load, store, spend, count, newTable, shown, passed, Answers, Passes, Pays, Gives, _>>=_}
 use Rattle.stores.specs.declared.Figure.{Figure}
 use Rattle.stores.specs.Shapes.{firstWord, pairWord, figureLaid, putFigure, lowNumber, highNumber, figureAt, destroyedAt, newShape, destroy}
-use Rattle.stores.specs.Variables.{isDead, usable, isDeclared, variable, declare, setVariable, destroyIn, clearFrom, clearScene}
+use Rattle.stores.specs.Variables.{isDead, usable, variable, declare, setVariable, destroyIn, clearFrom, clearScene}
 use Rattle.stores.specs.Arguments.{push, dropTo}
-use Rattle.stores.proofs.Acts.{Paid, paid, Short, short}
+use Rattle.stores.proofs.Acts.{paid, short}
+use Rattle.meaning.specs.Basics.{if_then_else_}
 
 -- ---- words
 pub past-end : (ws : List ℕ) (i : ℕ) → length ws ≤ i → 0 ≡ getD ws i 0

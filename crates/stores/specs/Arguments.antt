@@ -4,7 +4,7 @@ use mathlib.Core.List.{List}
 use lib.ListN.{getD}
 use lib.Dec.{leb}
 use Rattle.stores.specs.Layout.{argumentsHeld, argumentPlace}
-use Rattle.stores.specs.Act.{Act, _>>=_, _>>_, refuse, load, store}
+use Rattle.stores.specs.Act.{Act, refuse, load, store, _>>=_, _>>_}
 
 abbrev pub argumentAt : List ℕ → ℕ → ℕ
 argumentAt ws k = getD ws (argumentPlace k) 0

@@ -12,7 +12,7 @@ use Rattle.values.specs.declared.Value.{Value}
 use Rattle.values.specs.declared.Value.the-variants.{Shape}
 use Rattle.stores.specs.declared.Figure.{Figure}
 use Rattle.stores.specs.Layout.{shapesUsed, shapesGranted, shapePlace}
-use Rattle.stores.specs.Act.{raw, done, Act, _>>=_, _>>_, give, load, store, spend}
+use Rattle.stores.specs.Act.{raw, done, Act, give, load, store, spend, _>>=_, _>>_}
 
 -- ---- words
 abbrev pub firstWord : ℕ → ℕ → ℕ

@@ -1,7 +1,7 @@
 -- Entries of tables, four words each: the table that owns it (40 bits) and a link, its key, its value, and a word of the index.
 use Prim.Native.Nat.{ℕ, zero, suc, _+_, _-_, _*_, _/_, _%_, _^_, _≤_, _<_}
 use mathlib.Core.Path.{_≡_}
-use mathlib.Core.Bool.{Bool, true, false, _&&_}
+use mathlib.Core.Bool.{Bool, _&&_}
 use mathlib.Core.List.{List, [], _∷_}
 use lib.ListN.{getD, set}
 use lib.Dec.{eqb}
@@ -9,7 +9,7 @@ use Rattle.meaning.specs.Basics.{if_then_else_, sameText}
 use Rattle.values.specs.declared.Value.{Value}
 use Rattle.values.specs.Words.{kindIn, numberIn, handleIn, unpacked}
 use Rattle.stores.specs.Layout.{entriesUsed, entriesGranted, shapePlace, entryPlace, Room}
-use Rattle.stores.specs.Act.{raw, done, Act, _>>=_, _>>_, give, refuse, load, store, spend}
+use Rattle.stores.specs.Act.{raw, done, Act, give, refuse, load, store, spend, _>>=_, _>>_}
 use Rattle.stores.specs.Texts.{textOf}
 use Rattle.stores.specs.Variables.{usable}
 

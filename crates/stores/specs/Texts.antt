@@ -7,7 +7,7 @@ use Rattle.meaning.specs.Basics.{if_then_else_, laidOver}
 use Rattle.values.specs.declared.Value.{Value}
 use Rattle.values.specs.declared.Value.the-variants.{Text}
 use Rattle.stores.specs.Layout.{textUsed, textGranted}
-use Rattle.stores.specs.Act.{raw, done, Act, _>>=_, _>>_, give, load, spend}
+use Rattle.stores.specs.Act.{raw, done, Act, give, load, spend, _>>=_, _>>_}
 
 abbrev pub handle : ℕ → ℕ → ℕ → ℕ
 handle origin start size = origin + 2 * (start + 65536 * size)

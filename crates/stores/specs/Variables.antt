@@ -3,12 +3,12 @@ use Prim.Native.Nat.{ℕ, zero, suc, _+_, _%_}
 use mathlib.Core.Bool.{Bool, false, not}
 use mathlib.Core.List.{List}
 use lib.ListN.{getD}
-use lib.Dec.{eqb, leb}
+use lib.Dec.{eqb}
 use Rattle.values.specs.declared.Value.{Value}
 use Rattle.values.specs.declared.Value.the-variants.{Integer, Text, Boolean, Nothing, Table, Shape}
 use Rattle.values.specs.Words.{packed, unpacked}
-use Rattle.stores.specs.Layout.{declared, argumentsHeld, valuePlace, orderPlace, argumentPlace}
-use Rattle.stores.specs.Act.{Act, _>>=_, _>>_, give, refuse, load, store}
+use Rattle.stores.specs.Layout.{declared, valuePlace, orderPlace}
+use Rattle.stores.specs.Act.{Act, give, refuse, load, store, _>>=_, _>>_}
 use Rattle.stores.specs.Shapes.{destroyedAt, destroy}
 
 -- a destroyed shape is 30

@@ -9,7 +9,7 @@ ghost use mathlib.Core.Path.{_≡_};
 ghost use lib.ListN.{length};
 ghost use Rattle.stores.specs.Layout.{Room, shapePlace};
 ghost use Rattle.stores.specs.Act.{Answers, Gives};
-ghost use Rattle.stores.specs.Shapes.{firstWord, pairWord, figureLaid, lowNumber, highNumber, destroyedAt, figureAt, newShape, destroyedWord, destroy};
+ghost use Rattle.stores.specs.Shapes.{firstWord, pairWord, figureLaid, lowNumber, highNumber, destroyedAt, figureAt, newShape, destroy};
 
 // Where a shape's words stand.
 pub fn place_of(i: u32) -> usize
@@ -22,13 +22,13 @@ pub fn place_of(i: u32) -> usize
 fn low_number(w: u64) -> i32
     ensures { λ r. ⌜ r ≡ lowNumber w ⌝ }
 {
-    values::signed_of((w % 4294967296) as u32)
+    arithmetic::signed_of((w % 4294967296) as u32)
 }
 
 fn high_number(w: u64) -> i32
     ensures { λ r. ⌜ r ≡ highNumber w ⌝ }
 {
-    values::signed_of((w / 4294967296 % 4294967296) as u32)
+    arithmetic::signed_of((w / 4294967296 % 4294967296) as u32)
 }
 
 // A shape's first word.
@@ -42,7 +42,7 @@ fn first_word(kind: u64, text: u64) -> u64
 fn pair_word(x: i32, y: i32) -> u64
     ensures { λ r. ⌜ r ≡ pairWord x y ⌝ }
 {
-    (values::bits_of(x) as u64) + 4294967296 * (values::bits_of(y) as u64)
+    (arithmetic::bits_of(x) as u64) + 4294967296 * (arithmetic::bits_of(y) as u64)
 }
 
 pub fn is_destroyed(words: &[u64], i: u32) -> bool

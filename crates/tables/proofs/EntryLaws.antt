@@ -1,23 +1,22 @@
 -- What each way through reading and storing an entry does.
-use Prim.Native.Nat.{ℕ, zero, suc, _+_, _*_, _-_, _^_, _≤_, _<_}
-use mathlib.Core.Path.{_≡_, _∙_, refl, sym, ap}
+use Prim.Native.Nat.{ℕ, _+_, _-_, _^_, _≤_, _<_}
+use mathlib.Core.Path.{_≡_, _∙_}
 use mathlib.Core.List.{List}
 use mathlib.Core.Bool.{Bool, true, false}
 use native.Mathlib.Omega.{arith}
 use lib.ListN.{length, getD, set, length-set}
 use lib.Seq.{getD-set-other}
-use lib.Dec.{eqb}
-use borrow.Author.Tests.{ne-eqb, eq-eqb, le-leb, lt-leb}
-use Rattle.meaning.specs.Basics.{if_then_else_}
+use borrow.Author.Tests.{ne-eqb, le-leb, lt-leb}
 use Rattle.values.specs.declared.Value.{Value}
 use Rattle.values.specs.declared.Answer.the-variants.{Good, Bad}
 use Rattle.values.specs.Words.{unpacked}
-use Rattle.stores.specs.Layout.{Room, entryPlace}
-use Rattle.stores.specs.Act.{raw, goOn, _>>=_, give, fail, refuse, load, store, spend, shown, passed, PassesIn}
+use Rattle.stores.specs.Layout.{entryPlace}
+use Rattle.stores.specs.Act.{raw, goOn, give, fail, refuse, load, store, spend, shown, passed, PassesIn, _>>=_}
 use Rattle.stores.specs.Variables.{isDead, usable}
 use Rattle.stores.specs.Tables.{matches, findEntry, readFrom, readEntry, bucketOf, lies, Looks, entryLaid, putEntry, addEntry, storeIn, storeEntry}
 use Rattle.tables.specs.Asked.{Puts}
 use Rattle.tables.proofs.IndexLaws.{last-le, bucket-less}
+use Rattle.meaning.specs.Basics.{if_then_else_}
 
 -- ---- where a found entry stands
 module _ (program g ts ws : List ℕ) (t key k : ℕ) (l : Looks program g ts ws) (e : k ≡ findEntry program g ts ws t key) where

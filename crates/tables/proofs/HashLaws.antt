@@ -1,19 +1,16 @@
 -- Hashes.
-use Prim.Native.Nat.{ℕ, zero, suc, _+_, _*_, _/_, _%_, _^_, _≤_, _<_}
-use mathlib.Core.Path.{_≡_, _∙_, refl, sym, ap}
-use mathlib.Core.Bool.{Bool, true, false}
-use mathlib.Core.List.{List, [], _∷_}
-use native.Mathlib.Omega.{arith}
+use Prim.Native.Nat.{ℕ, _+_, _/_, _%_, _^_, _≤_, _<_}
+use mathlib.Core.Path.{_≡_, _∙_, refl, sym}
+use mathlib.Core.List.{List}
 use native.Mathlib.Numerals.{add-one}
 use lib.ListN.{length, getD, drop, drop-of-length-le}
 use lib.Seq.{drop-cons}
-use lib.Dec.{eqb}
 use borrow.Author.Tests.{ne-eqb}
-use Rattle.meaning.specs.Basics.{if_then_else_}
-use Rattle.values.specs.Words.{kindIn, numberIn}
+use Rattle.values.specs.Words.{numberIn}
 use Rattle.stores.specs.Layout.{shapePlace}
 use Rattle.stores.specs.Texts.{textOf}
 use Rattle.stores.specs.Tables.{figureContent, contentOf, hashed, hashFrom}
+use Rattle.meaning.specs.Basics.{if_then_else_}
 
 -- ---- a loop that hashes byte by byte: i are taken in
 pub record Hashing (s : List ℕ) (h hash i : ℕ) : Type 0 where

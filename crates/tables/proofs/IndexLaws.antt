@@ -1,16 +1,15 @@
 -- Look-up by the index.
 use Prim.Native.Nat.{ℕ, zero, suc, _+_, _*_, _-_, _/_, _%_, _^_, _≤_, _<_}
 use mathlib.Core.Path.{_≡_, _∙_, refl, sym, ap}
-use mathlib.Core.List.{List, [], _∷_}
-use mathlib.Core.Bool.{Bool, true, false, _&&_}
+use mathlib.Core.List.{List}
+use mathlib.Core.Bool.{Bool, true, false}
 use native.Mathlib.Omega.{arith}
 use native.Mathlib.Nat.{le-of-lt, mul-le-mul-right, mod-lt, div-lt-iff-lt-mul, mul-lt-mul-of-pos-right, mul-comm}
 use lib.ListN.{length, getD}
-use lib.Dec.{eqb}
-use borrow.Author.Tests.{eq-eqb, eqb-true, ne-eqb}
+use borrow.Author.Tests.{eq-eqb, eqb-true}
 use Rattle.meaning.specs.Basics.{if_then_else_}
-use Rattle.stores.specs.Layout.{Room, entryPlace, entriesUsed, entriesGranted}
-use Rattle.stores.specs.Tables.{sameKey, ownerAt, keyAt, matches, last, findEntry, contentOf, hashFrom, spread, bucketOf, headPlace, linkAt, lies, Indexed, Looks}
+use Rattle.stores.specs.Layout.{entryPlace, entriesUsed, entriesGranted}
+use Rattle.stores.specs.Tables.{ownerAt, keyAt, matches, last, findEntry, contentOf, hashFrom, spread, bucketOf, headPlace, lies, Looks}
 use Rattle.tables.specs.Asked.{matchesAt}
 use Rattle.tables.proofs.KeyLaws.{both, same-content}
 

@@ -1,22 +1,22 @@
 -- What each way through the code does, and what a joined text holds.
 use mathlib.Core.Path.{_≡_, _∙_, refl, sym, ap}
 use mathlib.Core.Bool.{Bool, true, false, not}
-use mathlib.Core.List.{List, [], _∷_, _++_}
-use Prim.Native.Nat.{ℕ, zero, suc, _+_, _-_, _*_, _/_, _%_, _^_, _≤_, _<_}
+use mathlib.Core.List.{List, []}
+use Prim.Native.Nat.{ℕ, zero, suc, _+_, _-_, _*_, _%_, _≤_, _<_}
 use native.Mathlib.Omega.{arith}
-use borrow.Author.Tests.{eq-eqb, ne-eqb, eqb-true, eqb-false, le-leb, lt-leb, not-true, not-false}
+use borrow.Author.Tests.{ne-eqb, eqb-true, eqb-false, le-leb, lt-leb, not-true, not-false}
 use lib.Dec.{eqb}
-use lib.ListN.{length, getD, set, take, drop, length-take, length-drop, drop-of-length-le}
+use lib.ListN.{length, getD, take, drop, length-take, length-drop, drop-of-length-le}
 use lib.Seq.{take-all, take-nil, length-take-le}
 use Rattle.meaning.specs.Basics.{if_then_else_, sameText}
 use Rattle.values.specs.declared.Value.the-variants.{Text}
 use Rattle.values.specs.declared.Answer.the-variants.{Good, Bad}
-use Rattle.stores.specs.Layout.{Lent, Room}
-use Rattle.stores.specs.Act.{raw, done, stop, goOn, _>>=_, load, give, spend, shown, Pays}
+use Rattle.stores.specs.Layout.{Lent}
+use Rattle.stores.specs.Act.{raw, goOn, load, give, spend, shown, Pays, _>>=_}
 use Rattle.stores.specs.Texts.{originIn, startIn, sizeIn, part, textOf, laidAt, joined, putJoined, joinTexts}
-use Rattle.stores.proofs.Acts.{Paid, paid, Short, short}
+use Rattle.stores.proofs.Acts.{paid, short}
 use Rattle.texts.specs.Laying.{Clipped, Lays, Laid}
-use Rattle.texts.proofs.Layer.{length-laid, laid-laid, kept-laid, part-take, part-clip, length-part}
+use Rattle.texts.proofs.Layer.{laid-laid, kept-laid, part-take, part-clip, length-part}
 use Rattle.texts.proofs.Comparison.{same-self}
 
 -- ---- a part of a slice

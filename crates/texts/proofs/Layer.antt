@@ -5,11 +5,10 @@ use Prim.Native.Nat.{ℕ, zero, suc, _+_, _-_, _≤_, _<_}
 use native.Mathlib.Nat.{le-of-suc-le-suc, not-suc-le-zero}
 use native.Mathlib.Omega.{arith}
 use native.Mathlib.Numerals.{add-one}
-use lib.ListN.{length, set, getD, take, drop, length-append, length-drop, length-take, take-append-drop, drop-of-length-le}
-use lib.Seq.{take-all, take-at, take-take, take-suc, take-nil, getD-drop, getD-take, length-take-le}
+use lib.ListN.{length, set, getD, take, drop, length-append, length-drop, take-append-drop}
+use lib.Seq.{take-all, take-at, take-take, take-suc, getD-drop, getD-take, length-take-le}
 use Rattle.meaning.specs.Basics.{laidOver}
 use Rattle.stores.specs.Texts.{part, laidAt}
-use Rattle.texts.specs.Laying.{Copies}
 
 -- ---- over the front
 over-more : (xs : List ℕ) (x : ℕ) (d : List ℕ) → laidOver (xs ++ x ∷ []) d ≡ set (laidOver xs d) (length xs) x

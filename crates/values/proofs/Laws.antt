@@ -1,21 +1,21 @@
 -- Words and their values.
-use Prim.Native.Nat.{ℕ, suc, _+_, _-_, _*_, _/_, _%_, _^_, _<_}
-use mathlib.Core.Path.{_≡_, refl, ap, sym, _∙_}
+use Prim.Native.Nat.{ℕ, _+_, _*_, _/_, _%_, _^_, _<_}
+use mathlib.Core.Path.{_≡_, refl, ap, _∙_}
 use mathlib.Core.Bool.{Bool, true, false}
 use native.Mathlib.Omega.{arith}
-use borrow.Author.Tests.{ne-eqb, eqb-true, lt-ltb, le-ltb}
+use borrow.Author.Tests.{ne-eqb, eqb-true}
 use lib.Dec.{eqb}
-use lib.IntN.{ℤ, pos, negsuc}
+use lib.IntN.{ℤ}
 use lib.Signed.{mag}
 use mir.Syntax.{w32}
 use mir.Val.{toZ, ofZ, SFits}
 use mir.Facts.{toZ-ofZ}
 use Rattle.meaning.specs.Basics.{if_then_else_}
 use Rattle.meaning.specs.Integer.{bits}
+use Rattle.arithmetic.proofs.Ranges.{bits-below, signed-bits}
 use Rattle.values.specs.declared.Value.{Value}
 use Rattle.values.specs.declared.Value.the-variants.{Integer, Text, Boolean, Nothing, Table, Shape}
 use Rattle.values.specs.Words.{kindIn, numberIn, handleIn, truthIn, packed, unpacked}
-use Rattle.values.proofs.Bits.{bits-below}
 
 -- an integer that a call gave, read back from its bits
 pub same-back : {r : ℤ} {n k : ℕ} → mag r < 2 ^ 31 → r ≡ toZ w32 n → n ≡ k → toZ w32 (ofZ w32 r) ≡ toZ w32 k
@@ -142,14 +142,6 @@ InRange Nothing = Unit {0}
 InRange (Table t) = t < 2 ^ 32
 InRange (Shape i) = i < 2 ^ 32
 
-bits-back : (z : ℤ) → mag z < 2 ^ 31 → toZ w32 (bits z) ≡ z
-unfolding bits
-bits-back (pos n) h = let e : n % 2 ^ 32 ≡ n = omega arith in rw (e, lt-ltb n 2147483648 h)
-bits-back (negsuc n) h =
-    let e : 2 ^ 32 - 1 - n % 2 ^ 32 ≡ 2 ^ 32 - suc n = omega arith in
-    let k : 2 ^ 32 - suc (2 ^ 32 - suc n) ≡ n = omega arith in
-    rw (e, le-ltb (2 ^ 32 - suc n) 2147483648 (omega arith), k)
-
 kind-is : (k n : ℕ) → k < 8 → (k + 8 * n) % 8 ≡ k
 kind-is k n h = omega arith
 
@@ -162,7 +154,7 @@ small n h = omega arith
 pub unpacked-packed : (v : Value) → InRange v → unpacked (packed v) ≡ v
 unfolding packed unpacked InRange if_then_else_
 unpacked-packed (Integer z) h =
-    rw (kind-is 1 (bits z) (omega arith), above-is 1 (bits z) (omega arith), small (bits z) (bits-below z), bits-back z h)
+    rw (kind-is 1 (bits z) (omega arith), above-is 1 (bits z) (omega arith), small (bits z) (bits-below z), signed-bits z h)
 unpacked-packed (Text h) l =
     let e : h % 2 ^ 40 ≡ h = omega arith in
     rw (e, kind-is 2 h (omega arith), above-is 2 h (omega arith))

@@ -1,7 +1,6 @@
 -- Values as words of 64 bits.
 use Prim.Native.Nat.{ℕ, _+_, _*_, _/_, _%_, _^_}
-use mathlib.Core.Bool.{Bool, true, false, cond}
-use lib.IntN.{ℤ}
+use mathlib.Core.Bool.{Bool, cond}
 use lib.Dec.{eqb}
 use mir.Syntax.{w32}
 use mir.Val.{toZ}

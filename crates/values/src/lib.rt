@@ -2,7 +2,6 @@
 ghost use mathlib.Core.Path.{_≡_};
 ghost use mir.Syntax.{w32};
 ghost use mir.Val.{toZ};
-ghost use Rattle.meaning.specs.Integer.{bits};
 ghost use Rattle.values.specs.Words.{kindIn, numberIn, handleIn, truthIn, packed, unpacked};
 
 // A value. A text is a part of the program or of the text store; tables and shapes are known by their numbers.
@@ -19,24 +18,6 @@ pub enum Value {
 pub enum Answer {
     Good(Value),
     Bad(u64, u64),
-}
-
-// The bits of z, in two's complement.
-pub fn bits_of(z: i32) -> u32
-    ensures { λ r. ⌜ r ≡ bits z ⌝ }
-{
-    (z as i64 & 4294967295) as u32
-}
-
-// The integer whose bits are n.
-pub fn signed_of(n: u32) -> i32
-    ensures { λ r. ⌜ r ≡ toZ w32 n ⌝ }
-{
-    if n < 2147483648 {
-        n as i32
-    } else {
-        (n as i64 - 4294967296) as i32
-    }
 }
 
 // Which value a word holds: 1 an integer, 2 a text, 3 a truth, 4 nothing, 5 a table, 6 a shape.
@@ -63,7 +44,7 @@ pub fn handle_of(w: u64) -> u64
 pub fn integer_of(w: u64) -> i32
     ensures { λ r. ⌜ r ≡ toZ w32 (numberIn w) ⌝ }
 {
-    signed_of(number_of(w))
+    arithmetic::signed_of(number_of(w))
 }
 
 pub fn truth_of(w: u64) -> bool
@@ -75,7 +56,7 @@ pub fn truth_of(w: u64) -> bool
 pub fn integer_word(z: i32) -> u64
     ensures { λ r. ⌜ r ≡ packed (Value.Integer z) ⌝ }
 {
-    1 + 8 * (bits_of(z) as u64)
+    1 + 8 * (arithmetic::bits_of(z) as u64)
 }
 
 pub fn text_word(h: u64) -> u64

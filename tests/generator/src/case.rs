@@ -2,7 +2,7 @@
 //! the run takes.
 
 use crate::random::Random;
-use crate::{damage, limit, program, soup, Case};
+use crate::{damage, limit, program, quiz, soup, Case};
 use reference::sheet::{GRANTS, OUT_LENGTH};
 use reference::{run_specified, Answer, End, Grants, Operation, Specified, Taking};
 use std::sync::OnceLock;
@@ -22,7 +22,13 @@ pub fn case(seed: u64) -> Case {
         1 => Operation::Measure,
         _ => Operation::Draw,
     };
-    let specified = run_specified(operation, &program, width, height, TAKINGS);
+    // Checking takes nothing; its grants are those of a run all the same, so
+    // that no other operation on the case goes on for ever.
+    let run_as = match operation {
+        Operation::Check => Operation::Measure,
+        other => other,
+    };
+    let specified = run_specified(run_as, &program, width, height, TAKINGS);
     let grants = grants(&specified, &mut random);
     let out_length = out_length(&specified, &mut random);
     Case {
@@ -62,7 +68,7 @@ pub fn case_out_of_range(seed: u64) -> Case {
 
 /// A program of any sort.
 pub fn any_program(random: &mut Random) -> Vec<u8> {
-    match random.weighted(&[80, 9, 2, 2, 7]) {
+    match random.weighted(&[65, 10, 2, 2, 6, 15]) {
         0 => program::program(random),
         1 => {
             let whole = program::program(random);
@@ -70,7 +76,7 @@ pub fn any_program(random: &mut Random) -> Vec<u8> {
         }
         2 => soup::tokens(random),
         3 => soup::bytes(random),
-        _ => {
+        4 => {
             let group = &limits()[random.weighted(&[2, 2, 5, 3])];
             let one = random.pick(group).clone();
             if random.chance(100) {
@@ -79,6 +85,7 @@ pub fn any_program(random: &mut Random) -> Vec<u8> {
                 one
             }
         }
+        _ => quiz::program(random),
     }
 }
 
@@ -183,7 +190,11 @@ fn grants(specified: &Specified, random: &mut Random) -> Grants {
             text_bytes: random.below(needed.text_bytes as usize + 2) as u64,
         },
         5 => Grants::NONE,
-        _ => Grants::LARGEST,
+        // The largest; a run that should have ended long ago is stopped sooner.
+        _ => Grants {
+            steps: *random.pick(&[1_000_000, 1_000_000, 1_000_000, Grants::LARGEST.steps]),
+            ..Grants::LARGEST
+        },
     };
     let mut grants = smaller(chosen, Grants::LARGEST);
     if specified.end == End::Cut {

@@ -8,9 +8,11 @@ pub mod damage;
 pub mod heavy;
 pub mod limit;
 pub mod program;
+pub mod quiz;
 pub mod random;
 pub mod soup;
 pub mod spacing;
+pub mod systematic;
 pub mod tally;
 pub mod words;
 

@@ -5,7 +5,8 @@
 use crate::random::Random;
 use crate::spacing::{write, Spacing};
 use crate::words::{
-    constant, edge, string, COUNTERS, KEYS, LIBRARY, NAMES, OPERATORS, SHAPES, UNKNOWN,
+    constant, edge, string, COUNTERS, KEYS, LIBRARY, LITERALS, NAMES, OPERATORS, SHAPES, SPECIAL,
+    UNKNOWN,
 };
 
 /// The kind of a value.
@@ -60,10 +61,10 @@ fn tokens(random: &mut Random) -> Tokens {
     let noise = if left <= 5 {
         *random.pick(&[0, 0, 30, 100, 200])
     } else {
-        *random.pick(&[0, 0, 0, 0, 0, 0, 0, 1, 3, 10])
+        *random.pick(&[0, 0, 0, 0, 0, 0, 0, 0, 2, 8])
     };
     let danger = *random.pick(&[0, 20, 60, 150]);
-    let wild = random.chance(250);
+    let wild = random.chance(200);
     let mut maker = Maker {
         random,
         tokens: Vec::new(),
@@ -166,6 +167,11 @@ impl Maker<'_> {
         self.statement(4);
         while self.left > 0 {
             self.statement(4);
+        }
+        if self.random.chance(80) {
+            let odd = self.odd_primary(1);
+            self.append(odd);
+            self.put(&[";"]);
         }
         self.put(&["}"]);
     }
@@ -461,6 +467,17 @@ impl Maker<'_> {
         }
     }
 
+    /// A key that means the same wherever it stands.
+    fn lasting_key(&mut self) -> String {
+        if self.random.chance(300) {
+            return self.random.pick(&SHAPES).to_string();
+        }
+        let keys = [
+            "0", "1", "01", "true", "false", "none", "\"none\"", "\"true\"", "\"a\"",
+        ];
+        self.random.pick(&keys).to_string()
+    }
+
     /// A few statements in which a shape is shared, kept or destroyed.
     fn pattern(&mut self) {
         let (Some(shape), Some(table)) = (self.holder(Kind::Shape), self.holder(Kind::Table))
@@ -469,12 +486,9 @@ impl Maker<'_> {
         };
         let a = self.variables[shape].name.clone();
         let t = self.variables[table].name.clone();
-        let k = self
-            .random
-            .pick(&["0", "none", "\"a\"", "true"])
-            .to_string();
+        let [k, l, m] = [(); 3].map(|()| self.lasting_key());
         self.variables[table].keys.clear();
-        let (gone, text) = match self.random.below(14) {
+        let (gone, text) = match self.random.below(18) {
             0 => (true, "T.K=A;destroyShape(A);T.K;"),
             1 => (true, "T.A=destroyShape(A);"),
             2 => (true, "T.K=A;clearScene();T.K;"),
@@ -487,6 +501,7 @@ impl Maker<'_> {
             9 => (false, "T.K=T;(T.K).K=A;A=(T.K).K;"),
             10 => (true, "T.none=5;A+(T.destroyShape(A));"),
             11 => (false, "T.A=A;A=T.A;"),
+            14..=17 => (false, "T=[0];T.K=1;T.L=2;A=drawBox(T.K,T.L,T.K,T.L);T.M;"),
             12 => (true, "T.K=A;T.1=T.K;destroyShape(T.1);T.K=3;A;"),
             _ => (true, "T.(A+0)=2;destroyShape(A);T.K=none;"),
         };
@@ -506,6 +521,8 @@ impl Maker<'_> {
                     "A" => a.clone(),
                     "T" => t.clone(),
                     "K" => k.clone(),
+                    "L" => l.clone(),
+                    "M" => m.clone(),
                     other => other.to_string(),
                 };
                 self.tokens.push(token);
@@ -718,6 +735,10 @@ impl Maker<'_> {
                 let shape = self.expression(Kind::Shape, deeper);
                 call(name, vec![shape])
             }
+            Kind::Integer if depth > 0 && self.random.chance(20) => {
+                let special = *self.random.pick(&SPECIAL);
+                texts(&["(", special, ")"])
+            }
             Kind::Integer => vec![constant(self.random)],
             Kind::Text => vec![string(self.random)],
             Kind::Boolean => vec![self.random.pick(&["true", "false"]).to_string()],
@@ -782,7 +803,7 @@ impl Maker<'_> {
     /// A primary that is likely to end the run.
     fn odd_primary(&mut self, depth: usize) -> Tokens {
         let deeper = depth.saturating_sub(1);
-        match self.random.below(6) {
+        match self.random.below(9) {
             0 => {
                 let name = self.random.pick(&UNKNOWN).to_string();
                 let mut arguments = Vec::new();
@@ -801,6 +822,26 @@ impl Maker<'_> {
                 self.library_call(name, kinds, deeper)
             }
             4 => {
+                // A library procedure with one argument too few or too many,
+                // or in another place.
+                let (name, kinds) = *self.random.pick(&LIBRARY);
+                let mut kinds: Vec<char> = kinds.chars().collect();
+                let at = self.random.below(kinds.len() + 1);
+                if at < kinds.len() && self.random.chance(500) {
+                    kinds.remove(at);
+                } else {
+                    kinds.insert(at, *self.random.pick(&['i', 't', 's']));
+                }
+                let kinds: String = kinds.into_iter().collect();
+                self.library_call(name, &kinds, deeper)
+            }
+            5 | 6 => {
+                let operator = self.random.pick(&OPERATORS).to_string();
+                let left = self.random.pick(&LITERALS).to_string();
+                let right = self.random.pick(&LITERALS).to_string();
+                vec!["(".to_string(), left, operator, right, ")".to_string()]
+            }
+            7 => {
                 let size = self.any_expression(deeper);
                 [texts(&["["]), size, texts(&["]"])].concat()
             }

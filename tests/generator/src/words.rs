@@ -96,7 +96,7 @@ pub const SIGNS_AND_WORDS: [&str; 30] = [
 ];
 
 /// Integers at which something may change.
-const EDGES: [i64; 26] = [
+pub const EDGES: [i64; 26] = [
     0,
     1,
     -1,

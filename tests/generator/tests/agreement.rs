@@ -3,11 +3,11 @@
 //! nothing but a shortage, and a drawing is as long as it was measured.
 
 use generator::random::Random;
-use generator::{case, case_out_of_range, heavy, limit, Case};
+use generator::{case, case_out_of_range, heavy, limit, systematic, Case};
 use reference::sheet::{GRANTS, OUT_LENGTH};
 use reference::{book, draw, measure, run_specified, Answer, Grants, Operation};
 
-const CASES: u64 = 8_000;
+const CASES: u64 = 6_000;
 
 /// What the book answers, if the list of takings is long enough.
 fn booked(case: &Case, limit: usize) -> Option<Answer> {
@@ -35,8 +35,8 @@ fn counting_agrees_with_the_book() {
 }
 
 #[test]
-fn counting_agrees_with_the_book_at_the_limits() {
-    for program in limit::programs() {
+fn counting_agrees_with_the_book_on_fixed_programs() {
+    for program in [limit::programs(), systematic::programs()].concat() {
         for operation in [Operation::Check, Operation::Measure, Operation::Draw] {
             let case = Case {
                 operation,

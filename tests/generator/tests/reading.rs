@@ -30,7 +30,7 @@ fn everything_before_a_misfit_fits() {
     // lack nothing. A constant's digits are left out: without them their
     // minus is at fault.
     let mut misfits = 0;
-    for seed in 0..8_000 {
+    for seed in 0..6_000 {
         let program = any_program(&mut Random::new(seed));
         let Answer::Number {
             number: 10 | 75,
@@ -54,7 +54,7 @@ fn everything_before_a_misfit_fits() {
 
 #[test]
 fn a_well_formed_program_has_no_well_formed_beginning() {
-    for seed in 0..300 {
+    for seed in 0..80 {
         let whole = program::program(&mut Random::new(seed));
         if check(&whole) != Answer::WellFormed {
             continue;

@@ -3,6 +3,7 @@
 //! ```text
 //! cases [NUMBER [FIRST]]
 //! cases limits
+//! cases systematic
 //! cases heavy
 //! cases out-of-range [NUMBER [FIRST]]
 //! ```
@@ -11,7 +12,7 @@
 
 #![forbid(unsafe_code)]
 
-use generator::{case, case_out_of_range, heavy, limit, Case};
+use generator::{case, case_out_of_range, heavy, limit, systematic, Case};
 use reference::sheet::{GRANTS, OUT_LENGTH};
 use reference::Operation;
 use std::io::{self, BufWriter, Write};
@@ -28,7 +29,8 @@ fn main() -> io::Result<()> {
     let cases: Box<dyn Iterator<Item = Case>> = match set.as_deref() {
         None => Box::new((first..first + number).map(case)),
         Some("out-of-range") => Box::new((first..first + number).map(case_out_of_range)),
-        Some("limits") => Box::new(limit::programs().into_iter().flat_map(limit_cases)),
+        Some("limits") => Box::new(limit::programs().into_iter().flat_map(all_operations)),
+        Some("systematic") => Box::new(systematic::programs().into_iter().flat_map(all_operations)),
         Some("heavy") => Box::new(heavy::cases().into_iter()),
         Some(other) => {
             eprintln!("no such set: {other}");
@@ -43,7 +45,7 @@ fn main() -> io::Result<()> {
 }
 
 /// The three operations on one program.
-fn limit_cases(program: Vec<u8>) -> Vec<Case> {
+fn all_operations(program: Vec<u8>) -> Vec<Case> {
     [Operation::Check, Operation::Measure, Operation::Draw]
         .map(|operation| Case {
             operation,

@@ -1,0 +1,143 @@
+-- What the meaning says of a call of checking.
+use Prim.Native.Nat.{ℕ, _≤_, _<_}
+use mathlib.Core.Path.{_≡_, refl, ap, sym, _∙_}
+use mathlib.Core.Bool.{Bool, true, false, _&&_}
+use mathlib.Core.List.{List, [], _∷_}
+use lib.ListN.{length, replicate}
+use lib.Dec.{leb, ltb}
+use native.Mathlib.Omega.{arith}
+use borrow.Author.Tests.{le-leb, lt-leb, lt-ltb, le-ltb}
+use Rattle.meaning.specs.Basics.{if_then_else_}
+use Rattle.meaning.specs.Grammar.{Reading, wellFormed, malformed, reading}
+use Rattle.meaning.specs.Run.{Run, goOn, _>>=_, give, fail, refuse}
+use Rattle.meaning.specs.Program.{Outcome, accepted, understood, sized, performing, specified, empty}
+use Rattle.meaning.specs.Book.{Amounts, Answer, pictured, number, book, settled, answerTo, booked}
+use Rattle.meaning.specs.Call.{inRange, needed, longEnough, admitted, granted, grantedTo, runOf, answer, workAfter}
+use Rattle.answers.specs.declared.Answer as Declared
+use Rattle.answers.specs.declared.Answer.the-variants.{Picture, Number}
+use Rattle.answers.specs.Answers.{meant}
+use Rattle.reader.specs.declared.Program.{Program}
+use Rattle.reader.specs.declared.Program.the-variants.{Formed, Malformed}
+use Rattle.reader.specs.Reading.{tokensIn, Seen, formed, refused, seen, coded}
+use Rattle.checking.specs.Checking.{called, Checked, Lent, answerOf, readAnswer}
+
+-- ---- the first question
+enough : (program tokens code : List ℕ) → Lent tokens code → admitted (called program tokens code) ≡ true
+unfolding admitted inRange needed longEnough
+enough program tokens code h = rw (le-leb 8193 (length tokens) (h .tokensLong), le-leb 16384 (length code) (h .codeLong))
+
+short-tokens : (program tokens code : List ℕ) → length tokens < 8193 → admitted (called program tokens code) ≡ false
+unfolding admitted inRange needed longEnough
+short-tokens program tokens code h = rw (lt-leb 8193 (length tokens) h)
+
+both-short : (a b : Bool) → b ≡ false → _&&_ a (_&&_ b true) ≡ false
+both-short true b e = rw e
+both-short false b e = refl
+
+short-code : (program tokens code : List ℕ) → length code < 16384 → admitted (called program tokens code) ≡ false
+unfolding admitted inRange needed longEnough
+short-code program tokens code h = both-short (leb 8193 (length tokens)) _ (lt-leb 16384 (length code) h)
+
+-- ---- the answer
+-- whatever is granted, reading takes nothing
+answer-read : (g : Amounts) (r : Reading) → booked g ((understood r >>= λ _. give accepted) empty) ≡ answerOf r
+unfolding understood booked book settled answerTo goOn _>>=_ give fail answerOf
+answer-read g (wellFormed m) = refl
+answer-read g (malformed n p) = refl
+
+answer-sized : (g : Amounts) (b : Bool) (r : Reading) →
+    booked g ((refuse b 73 0 >>= λ _. (understood r >>= λ _. give accepted)) empty)
+    ≡ (if b then (λ _. number 73 0 0 0) else λ _. answerOf r)
+unfolding booked book settled answerTo goOn _>>=_ give fail refuse if_then_else_
+answer-sized g true r = refl
+answer-sized g false r = answer-read g r
+
+module _ (program tokens code : List ℕ) where
+  run-answer : booked (grantedTo (called program tokens code)) (runOf (called program tokens code)) ≡ readAnswer program
+  unfolding runOf specified performing sized readAnswer
+  run-answer = answer-sized _ (ltb 32768 (length program)) (reading program)
+
+  by-admitted : (b : Bool) (x : Answer) → b ≡ true → (if b then (λ _. x) else λ _. number 71 0 0 0) ≡ x
+  unfolding if_then_else_
+  by-admitted b x e = rw e
+
+  pub admitted-answer : Lent tokens code → answer (called program tokens code) ≡ readAnswer program
+  unfolding answer
+  admitted-answer h = by-admitted _ _ (enough program tokens code h) ∙ run-answer
+
+  pub admitted-work : Lent tokens code → (work : List ℕ) → workAfter (called program tokens code) work ≡ replicate (length work) 0
+  unfolding workAfter if_then_else_
+  admitted-work h work = rw (enough program tokens code h)
+
+  -- after 71
+  pub record Short : Type 0 where
+    pub answered : answer (called program tokens code) ≡ number 71 0 0 0
+    pub kept : (work : List ℕ) → workAfter (called program tokens code) work ≡ work
+
+  short : admitted (called program tokens code) ≡ false → Short
+  unfolding answer workAfter if_then_else_
+  short e = record { answered = rw e; kept = λ work. rw e }
+
+  pub too-few-tokens : length tokens < 8193 → Short
+  too-few-tokens h = short (short-tokens program tokens code h)
+
+  pub too-little-code : length code < 16384 → Short
+  too-little-code h = short (short-code program tokens code h)
+
+-- ---- the ways through `check`
+module _ (program tokens code : List ℕ) where
+  by-short : Short program tokens code → Checked program tokens code (Number 71 0 0 0) tokens code
+  unfolding meant
+  by-short s = record { answered = sym (s .answered); tokensAfter = sym (s .kept tokens); codeAfter = sym (s .kept code) }
+
+  pub check-few-tokens : length tokens < 8193 → Checked program tokens code (Number 71 0 0 0) tokens code
+  check-few-tokens h = by-short (too-few-tokens program tokens code h)
+
+  pub check-little-code : length code < 16384 → Checked program tokens code (Number 71 0 0 0) tokens code
+  check-little-code h = by-short (too-little-code program tokens code h)
+
+  -- the slices were written and then cleared
+  module _ (long : 8193 ≤ length tokens) (enough-code : 16384 ≤ length code) where
+    lent : Lent tokens code
+    lent = record { tokensLong = long; codeLong = enough-code }
+
+    cleared : (work after : List ℕ) (n : ℕ) → n ≡ length work → after ≡ replicate n 0 → after ≡ workAfter (called program tokens code) work
+    cleared work after n e h = h ∙ ap (λ (m : ℕ). replicate m 0) e ∙ sym (admitted-work program tokens code lent work)
+
+    pub check-read : (r : Declared.Answer) → meant r ≡ readAnswer program → (tokens′ code′ : List ℕ) (n m : ℕ) →
+        n ≡ length tokens → tokens′ ≡ replicate n 0 → m ≡ length code → code′ ≡ replicate m 0 → Checked program tokens code r tokens′ code′
+    check-read r a tokens′ code′ n m k t l d = record {
+      answered = a ∙ sym (admitted-answer program tokens code lent);
+      tokensAfter = cleared tokens tokens′ n k t;
+      codeAfter = cleared code code′ m l d;
+    }
+
+-- ---- the ways through `read_answer`
+module _ (program : List ℕ) where
+  pub read-long : 32768 < length program → meant (Number 73 0 0 0) ≡ readAnswer program
+  unfolding readAnswer meant if_then_else_
+  read-long h = rw (lt-ltb 32768 (length program) h)
+
+  module _ (short : length program ≤ 32768) (p : Program) (slice : List ℕ) (h : seen p slice ≡ coded (tokensIn program) (reading program)) where
+    is-read : readAnswer program ≡ answerOf (reading program)
+    unfolding readAnswer if_then_else_
+    is-read = rw (le-ltb 32768 (length program) short)
+
+    pub read-formed : (n a b m : ℕ) → p ≡ Formed n a b m → meant (Picture 0 0) ≡ readAnswer program
+    unfolding meant seen coded answerOf
+    read-formed n a b m e = go (reading program) (ap (λ (x : Program). seen x slice) (sym e) ∙ h) ∙ sym is-read
+      where
+        go : (r : Reading) → seen (Formed n a b m) slice ≡ coded (tokensIn program) r → pictured 0 0 ≡ answerOf r
+        go (wellFormed q) k = refl
+        go (malformed i q) k = absurd (let z : _≡_ {A = ℕ} 0 1 = cc in omega arith)
+
+    pub read-malformed : (k i : ℕ) → p ≡ Malformed k i → meant (Number k i 0 0) ≡ readAnswer program
+    unfolding meant seen coded answerOf
+    read-malformed k i e = go (reading program) (ap (λ (x : Program). seen x slice) (sym e) ∙ h) ∙ sym is-read
+      where
+        go : (r : Reading) → seen (Malformed k i) slice ≡ coded (tokensIn program) r → number k i 0 0 ≡ answerOf r
+        go (wellFormed q) g = absurd (let z : _≡_ {A = ℕ} 0 1 = cc in omega arith)
+        go (malformed j q) g =
+            let x : k ≡ j = cc in
+            let y : i ≡ q = cc in
+            rw (x, y)

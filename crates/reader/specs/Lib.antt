@@ -1,0 +1,3 @@
+pub mod Coded
+pub mod Sane
+pub mod Reading

@@ -1,0 +1,198 @@
+//! Small programs that go through all combinations: operators and kinds,
+//! integers at the edges, keys, library procedures and their arguments.
+
+use crate::words::{EDGES, LIBRARY, LITERALS, OPERATORS, SHAPES, UNKNOWN};
+
+/// All of them, always in the same order.
+pub fn programs() -> Vec<Vec<u8>> {
+    let mut bodies = Vec::new();
+    bodies.extend(operators());
+    bodies.extend(equal_shapes());
+    bodies.extend(integers());
+    bodies.extend(moved_shapes());
+    bodies.extend(centres());
+    bodies.extend(keys());
+    bodies.extend(calls());
+    let whole = |body: &String| format!("def main(w,h){{{body}}}").into_bytes();
+    bodies.iter().map(whole).collect()
+}
+
+/// Every operator on every pair of literals, so that the result shows.
+fn operators() -> Vec<String> {
+    let mut bodies = Vec::new();
+    for operator in OPERATORS {
+        for left in LITERALS {
+            for right in LITERALS {
+                let pair = format!("{left}{operator}{right}");
+                bodies.push(match operator {
+                    "==" | "!=" | "<" | ">" => format!("if({pair})h=drawLine(1,2,3,4);"),
+                    "++" => format!("h=drawText(1,2,{pair});"),
+                    _ => format!("var v;v={pair};if(v!=none)h=drawLine(v,1,2,3);"),
+                });
+            }
+        }
+    }
+    bodies
+}
+
+fn equal_shapes() -> Vec<String> {
+    let mut bodies = Vec::new();
+    for left in SHAPES {
+        for right in SHAPES {
+            bodies.push(format!(
+                "var a;var b;a={left};b={right};if(a==b)h=drawLine(1,2,3,4);if(a!=b)w=a;"
+            ));
+        }
+    }
+    bodies
+}
+
+/// As many drawings as there are groups of four values.
+fn drawn(values: &[String]) -> String {
+    let mut body = String::new();
+    for (place, group) in values.chunks(4).enumerate() {
+        let mut four = group.to_vec();
+        four.resize(4, "0".to_string());
+        body.push_str(&format!(
+            "var v{place};v{place}=drawLine({});",
+            four.join(",")
+        ));
+    }
+    body
+}
+
+/// Every operator of integers on every pair of edges.
+fn integers() -> Vec<String> {
+    let mut bodies = Vec::new();
+    for operator in ["+", "-", "*", "/", "%", ">>", "<<"] {
+        for left in EDGES {
+            let values: Vec<String> = EDGES
+                .iter()
+                .filter(|right| **right != 0 || !matches!(operator, "/" | "%"))
+                .map(|right| format!("{left}{operator}{right}"))
+                .collect();
+            bodies.push(drawn(&values));
+        }
+    }
+    bodies
+}
+
+/// Every operator on a shape of each kind, by every edge.
+fn moved_shapes() -> Vec<String> {
+    let mut bodies = Vec::new();
+    for operator in ["+", "-", "*", "/", ">>", "<<"] {
+        for by in EDGES {
+            bodies.push(format!(
+                "var a;a=drawLine(-7,2147483647,-2147483648,9){operator}{by};\
+                 var b;b=drawEllipse(-2147483648,7,-3,4){operator}{by};\
+                 var c;c=drawBox(2147483647,-9,5,-6){operator}{by};\
+                 var d;d=drawText(65536,-1,\"x\"){operator}{by};"
+            ));
+        }
+    }
+    bodies
+}
+
+/// The centres of lines and boxes between all pairs of edges.
+fn centres() -> Vec<String> {
+    let mut bodies = Vec::new();
+    for first in EDGES {
+        let mut values = Vec::new();
+        for second in EDGES {
+            values.push(format!(
+                "getShapeXCoordinate(drawLine({first},0,{second},0))"
+            ));
+            values.push(format!(
+                "getShapeYCoordinate(drawLine(0,{first},0,{second}))"
+            ));
+            values.push(format!(
+                "getShapeXCoordinate(drawBox({first},0,{second},0))"
+            ));
+            values.push(format!(
+                "getShapeYCoordinate(drawBox(0,{first},0,{second}))"
+            ));
+        }
+        bodies.push(drawn(&values));
+        bodies.push(format!(
+            "h=drawLineConnectingShapes(drawEllipse({first},1,2,3),drawText(4,{first},\"a\"));\
+             w=drawTextOnShape(drawBox({first},{first},{first},{first}),\"b\");"
+        ));
+    }
+    bodies
+}
+
+/// Every pair of keys in one table.
+fn keys() -> Vec<String> {
+    let mut all: Vec<&str> = vec![
+        "0", "1", "-1", "true", "false", "none", "\"none\"", "\"true\"", "\"a\"", "t", "u", "[0]",
+        "a",
+    ];
+    all.extend(SHAPES);
+    let mut bodies = Vec::new();
+    for first in &all {
+        for second in &all {
+            bodies.push(format!(
+                "var t;t=[0];var u;u=[0];var a;a=drawBox(1,2,3,4);\
+                 t.{first}=1;t.{second}=2;h=drawLine(t.{second},t.{first},0,0);"
+            ));
+        }
+    }
+    bodies
+}
+
+/// Every procedure with the right arguments, one of another kind, one too
+/// few, one too many, and one destroyed before the call.
+fn calls() -> Vec<String> {
+    let mut bodies = Vec::new();
+    for (name, kinds) in LIBRARY {
+        let right: Vec<&str> = kinds
+            .chars()
+            .map(|kind| match kind {
+                'i' => "7",
+                't' => "\"ab\"",
+                _ => "b",
+            })
+            .collect();
+        let mut lists = vec![right.clone()];
+        for place in 0..=right.len() {
+            for other in LITERALS {
+                let mut more = right.clone();
+                more.insert(place, other);
+                lists.push(more);
+                let mut changed = right.clone();
+                if let Some(argument) = changed.get_mut(place) {
+                    *argument = other;
+                    lists.push(changed);
+                }
+            }
+            let mut fewer = right.clone();
+            if place < right.len() {
+                fewer.remove(place);
+                lists.push(fewer);
+            }
+            for destroying in ["destroyShape(a)", "clearScene()"] {
+                let mut destroyed = right.clone();
+                destroyed.insert(place, destroying);
+                destroyed.insert(0, "a");
+                lists.push(destroyed);
+                let mut destroyed = right.clone();
+                if let Some(argument) = destroyed.get_mut(place) {
+                    *argument = destroying;
+                    lists.push(destroyed);
+                }
+            }
+        }
+        for list in lists {
+            bodies.push(format!(
+                "var a;a=drawBox(1,2,3,4);var b;b=drawLine(5,6,7,8);w={name}({});",
+                list.join(",")
+            ));
+        }
+    }
+    for name in UNKNOWN {
+        for list in ["", "1", "a", "a,destroyShape(a)", "x", "1,2,3,4"] {
+            bodies.push(format!("var a;a=drawBox(1,2,3,4);{name}({list});"));
+        }
+    }
+    bodies
+}
