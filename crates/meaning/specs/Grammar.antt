@@ -210,16 +210,18 @@ simple read ts i =
     if is becomes ts j then (λ _. assignment read ts (startAt ts i) j (targetOf a))
     else λ _. expect semicolon ts j (act (startAt ts i) a)
 
--- (e) and a body, behind if or while. The parenthesis opens a level, which ends with the test; so does the body's first token.
-unfoldable pub guarded : (Expression → Statement → Statement) → Inside Readers → List Token → ℕ → Got Statement
-guarded make inside ts i =
-    if is openParen ts i then (λ _.
-    opening inside i λ inner.
+-- (e) and a body, from the parenthesis at token i on, which opens a level
+abbrev pub guardedIn : (Expression → Statement → Statement) → Readers → List Token → ℕ → Got Statement
+guardedIn make inner ts i =
     after (inner .inExpression (i + 1)) λ e j.
     after (skip closeParen ts j) λ _ m.
     after (inner .inStatement m) λ s n.
-    good (make e s) n)
-    else λ _. wrong 10 i
+    good (make e s) n
+
+-- The same behind if or while. The level ends with the test, and the body's first token opens it again.
+unfoldable pub guarded : (Expression → Statement → Statement) → Inside Readers → List Token → ℕ → Got Statement
+guarded make inside ts i =
+    if is openParen ts i then (λ _. opening inside i λ inner. guardedIn make inner ts i) else λ _. wrong 10 i
 
 -- one statement or more and the closing brace. Each statement takes a token at least, so rounds need be no more than the tokens left.
 unfoldable pub statementsFrom : ℕ → ReadStatement → List Token → ℕ → Got Statements
@@ -232,6 +234,10 @@ statementsFrom (suc rounds) inner ts i =
 abbrev pub statements : ReadStatement → List Token → ℕ → Got Statements
 statements inner ts i = statementsFrom (suc (length ts - i)) inner ts i
 
+-- { .. } at token i, which opens a level
+abbrev pub blockAt : Inside Readers → List Token → ℕ → Got Statement
+blockAt inside ts i = opening inside i λ inner. after (statements (inner .inStatement) ts (i + 1)) λ ss j. good (block (startAt ts i) ss) j
+
 -- by the first token
 unfoldable pub statementIn : ReadExpression → Inside Readers → List Token → ℕ → Got Statement
 statementIn read inside ts i =
@@ -239,10 +245,7 @@ statementIn read inside ts i =
     else λ _. if is wordIf ts i then (λ _. guarded (when (startAt ts i)) inside ts (i + 1))
     else λ _. if is wordWhile ts i then (λ _. guarded (while (startAt ts i)) inside ts (i + 1))
     else λ _. if is wordReturn ts i then (λ _. returning read ts i)
-    else λ _. if is openBrace ts i then (λ _.
-    opening inside i λ inner.
-    after (statements (inner .inStatement) ts (i + 1)) λ ss j.
-    good (block (startAt ts i) ss) j)
+    else λ _. if is openBrace ts i then (λ _. blockAt inside ts i)
     else λ _. simple read ts i
 
 unfoldable pub statement : ℕ → List Token → ℕ → Got Statement

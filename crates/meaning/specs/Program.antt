@@ -42,12 +42,15 @@ entering (x ∷ y ∷ []) width height = do
   })
 entering (x ∷ y ∷ z ∷ more) width height = fail 20 0
 
+-- a sheet is at least 1 wide and 1 high
 unfoldable pub sheet : ℤ → ℤ → Action (Unit {0})
 sheet width height = refuse (not (ltZ (pos 0) width && ltZ (pos 0) height)) 72 0
 
+-- a program has at most 32,768 bytes
 unfoldable pub sized : List ℕ → Action (Unit {0})
 sized program = refuse (ltb 32768 (length program)) 73 0
 
+-- a program that was read, or the number of what fails
 unfoldable pub understood : Reading → Action Procedure
 understood (wellFormed m) = give m
 understood (malformed n p) = fail n p
@@ -63,6 +66,7 @@ painting program width height n = do
   s ← current
   give (pictureOf width height (scene s))
 
+-- the three operations, each with its questions in document 01's order
 unfoldable pub performing : Operation → List ℕ → ℤ → ℤ → ℕ → Action Outcome
 performing checking program width height n = do
   sized program
