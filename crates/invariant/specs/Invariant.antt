@@ -13,7 +13,7 @@ use Rattle.stores.specs.Texts.{originIn, startIn, sizeIn}
 use Rattle.stores.specs.Arguments.{argumentAt}
 use Rattle.stores.specs.Tables.{keyAt, valueAt, Indexed}
 
--- a handle's text lies in the program, or in so much of the text store
+-- a handle's text is the program's, or lies in so much of the text store
 pub record Held (texts h : ℕ) : Type 0 where
   pub small : h < 2 ^ 40
   pub within : (originIn h ≡ 0 → ⊥) → startIn h + sizeIn h ≤ texts
@@ -39,6 +39,7 @@ SoundValue Nothing ws = Unit {0}
 SoundValue (Table t) ws = t < 2 ^ 32
 SoundValue (Shape i) ws = i < getD ws shapesUsed 0
 
+-- the slices are long enough, the index is right, no more is used than granted, and every word that may be read is sound
 pub record Valid (program g ts ws : List ℕ) : Type 0 where
   pub lent : Lent g ts ws
   pub index : Indexed program g ts ws
@@ -55,12 +56,13 @@ pub record Grows (before after : List ℕ) : Type 0 where
   pub texts : getD before textUsed 0 ≤ getD after textUsed 0
   pub shapes : getD before shapesUsed 0 ≤ getD after shapesUsed 0
 
+-- it still holds, nothing fell, and P holds of the result
 pub record Kept {A : Type 0} (program g before : List ℕ) (P : A → List ℕ → Type 0) (a : A) (r : Raw) : Type 0 where
   pub valid : Valid program g (r .texts) (r .words)
   pub grows : Grows before (r .words)
   pub holds : P a (r .words)
 
--- all that still holds after an act that gave a result, and of the result P; after one that stopped nothing is asked
+-- so it is after an act that gave a result; after one that stopped nothing is asked
 pub data After {A : Type 0} (program g before : List ℕ) (P : A → List ℕ → Type 0) : Out A → Type 0 where
   kept : {a : A} {r : Raw} → Kept program g before P a r → After program g before P (done a r)
   stopped : {n p : ℕ} {r : Raw} → After program g before P (stop n p r)
