@@ -1,0 +1,112 @@
+-- Library procedures on values as the code holds them. The arguments of a call stand in the words, n of them from the one numbered base on.
+use Prim.Native.Nat.{ℕ, zero, suc, _+_, _-_}
+use mathlib.Core.Bool.{Bool, not}
+use mathlib.Core.List.{List}
+use lib.ListN.{getD}
+use lib.IntN.{ℤ, pos, _+ℤ_}
+use lib.Dec.{eqb, ltb}
+use Rattle.meaning.specs.Basics.{if_then_else_}
+use Rattle.meaning.specs.Integer.{sum, half}
+use Rattle.values.specs.declared.Value.{Value}
+use Rattle.values.specs.declared.Value.the-variants.{Integer, Nothing}
+use Rattle.values.specs.Words.{unpacked}
+use Rattle.stores.specs.Layout.{argumentPlace}
+use Rattle.stores.specs.Act.{Raw, Act, _>>=_, _>>_, give, fail, refuse}
+use Rattle.stores.specs.Shapes.{Figure, figureAt, newShape, destroy}
+use Rattle.stores.specs.Variables.{usable, clearScene}
+use Rattle.evaluator.specs.Operate.{Setting, withInteger, withText, withShape}
+
+abbrev pub argumentAt : Raw → ℕ → Value
+argumentAt r k = unpacked (getD (r .words) (argumentPlace k) 0)
+
+-- no argument may be a destroyed shape
+unfoldable pub allUsable : ℕ → ℕ → ℕ → Act (Unit {0})
+allUsable p base zero = give tt
+allUsable p base (suc n) = (λ r. usable p (argumentAt r base) r) >> allUsable p (base + 1) n
+
+-- ---- figures
+abbrev pub figure : ℕ → ℤ → ℤ → ℤ → ℤ → ℕ → Figure
+figure k x y z w t = record { kind = k; a = x; b = y; c = z; d = w; text = t }
+
+unfoldable pub centreX : Figure → ℤ
+centreX s =
+    if eqb (s .kind) 0 then (λ _. half (s .a +ℤ s .c))
+    else λ _. if eqb (s .kind) 2 then (λ _. sum (s .a) (half (s .c)))
+    else λ _. s .a
+
+unfoldable pub centreY : Figure → ℤ
+centreY s =
+    if eqb (s .kind) 0 then (λ _. half (s .b +ℤ s .d))
+    else λ _. if eqb (s .kind) 2 then (λ _. sum (s .b) (half (s .d)))
+    else λ _. s .b
+
+unfoldable pub connecting : Figure → Figure → Figure
+connecting s t = figure 0 (centreX s) (centreY s) (centreX t) (centreY t) 0
+
+unfoldable pub textOn : Figure → ℕ → Figure
+textOn s h = figure 3 (centreX s) (centreY s) (pos 0) (pos 0) h
+
+-- ---- procedures
+unfoldable pub withFigure : {A : Type 0} → ℕ → Value → (Figure → Act A) → Act A
+withFigure p v k = withShape p v λ i r. k (figureAt (r .words) i) r
+
+-- four integers make a figure of a kind
+unfoldable pub drawn : Setting → ℕ → ℕ → ℕ → ℕ → Act Value
+drawn e kind p base n r = (do
+    refuse (not (eqb n 4)) 20 p
+    withInteger p (argumentAt r base) λ x. withInteger p (argumentAt r (base + 1)) λ y.
+      withInteger p (argumentAt r (base + 2)) λ z. withInteger p (argumentAt r (base + 3)) λ w.
+      newShape (e .grants) p (figure kind x y z w 0)) r
+
+unfoldable pub drawnText : Setting → ℕ → ℕ → ℕ → Act Value
+drawnText e p base n r = (do
+    refuse (not (eqb n 3)) 20 p
+    withInteger p (argumentAt r base) λ x. withInteger p (argumentAt r (base + 1)) λ y. withText p (argumentAt r (base + 2)) λ h.
+      newShape (e .grants) p (figure 3 x y (pos 0) (pos 0) h)) r
+
+unfoldable pub connected : Setting → ℕ → ℕ → ℕ → Act Value
+connected e p base n r = (do
+    refuse (not (eqb n 2)) 20 p
+    withFigure p (argumentAt r base) λ s. withFigure p (argumentAt r (base + 1)) λ t.
+      newShape (e .grants) p (connecting s t)) r
+
+unfoldable pub labelled : Setting → ℕ → ℕ → ℕ → Act Value
+labelled e p base n r = (do
+    refuse (not (eqb n 2)) 20 p
+    withFigure p (argumentAt r base) λ s. withText p (argumentAt r (base + 1)) λ h.
+      newShape (e .grants) p (textOn s h)) r
+
+unfoldable pub coordinate : (Figure → ℤ) → ℕ → ℕ → ℕ → Act Value
+coordinate f p base n r = (do
+    refuse (not (eqb n 1)) 20 p
+    withFigure p (argumentAt r base) λ s. give (Integer (f s))) r
+
+unfoldable pub destroyed : ℕ → ℕ → ℕ → Act Value
+destroyed p base n r = (do
+    refuse (not (eqb n 1)) 20 p
+    withShape p (argumentAt r base) λ i. destroy i >> give Nothing) r
+
+unfoldable pub clearing : ℕ → ℕ → Act Value
+clearing p n = do
+    refuse (not (eqb n 0)) 20 p
+    clearScene
+    give Nothing
+
+-- by the procedure's number
+unfoldable pub perform : Setting → ℕ → ℕ → ℕ → ℕ → Act Value
+perform e number p base n =
+    if eqb number 0 then (λ _. drawn e 0 p base n)
+    else λ _. if eqb number 1 then (λ _. drawn e 1 p base n)
+    else λ _. if eqb number 2 then (λ _. drawn e 2 p base n)
+    else λ _. if eqb number 3 then (λ _. drawnText e p base n)
+    else λ _. if eqb number 4 then (λ _. connected e p base n)
+    else λ _. if eqb number 5 then (λ _. labelled e p base n)
+    else λ _. if eqb number 6 then (λ _. coordinate centreX p base n)
+    else λ _. if eqb number 7 then (λ _. coordinate centreY p base n)
+    else λ _. if eqb number 8 then (λ _. destroyed p base n)
+    else λ _. clearing p n
+
+-- a procedure that is not known is 20 and uses no argument
+unfoldable pub callLibrary : Setting → ℕ → ℕ → ℕ → ℕ → Act Value
+callLibrary e number p base n =
+    if ltb number 10 then (λ _. allUsable p base n >> perform e number p base n) else λ _. fail 20 p
