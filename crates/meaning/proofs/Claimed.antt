@@ -1,7 +1,8 @@
 -- The claims of specs/Claims, each proved.
-use Rattle.meaning.specs.Claims.{BeginningsExtend, EndedStays, BeginningsDecide, AlwaysAnswered, NumbersWriteNothing, PicturesFillTheFront, RefusedTakesNothing, MeasuredIsDrawn, LargerGrant, ShortageExact}
+use Rattle.meaning.specs.Claims.{BeginningsExtend, BeginningsFill, EndedStays, NeededIsBounded, BeginningsDecide, AlwaysAnswered, NumbersWriteNothing, PicturesFillTheFront, RefusedTakesNothing, MeasuredIsDrawn, LargerGrant, ShortageExact}
 use Rattle.meaning.proofs.Beginnings
 use Rattle.meaning.proofs.Answers
+use Rattle.meaning.proofs.Lent
 use Rattle.meaning.proofs.Pictures
 use Rattle.meaning.proofs.Refusals
 use Rattle.meaning.proofs.Shortages
@@ -9,11 +10,17 @@ use Rattle.meaning.proofs.Shortages
 pub beginnings-extend : BeginningsExtend
 beginnings-extend = Beginnings.beginnings-extend
 
+pub beginnings-fill : BeginningsFill
+beginnings-fill = Beginnings.unfinished-long
+
 pub ended-stays : EndedStays
 ended-stays = Beginnings.ended-stays
 
 pub beginnings-decide : BeginningsDecide
 beginnings-decide = Answers.beginnings-decide
+
+pub needed-is-bounded : NeededIsBounded
+needed-is-bounded = Lent.needed-is-bounded
 
 pub always-answered : AlwaysAnswered
 always-answered = Answers.always-answered

@@ -18,6 +18,7 @@ pub mod Ends
 pub mod Beginnings
 pub mod Settling
 pub mod Answers
+pub mod Lent
 pub mod Pictures
 pub mod Shortages
 pub mod Claimed

@@ -116,7 +116,7 @@ pub pictures-fill-the-front : PicturesFillTheFront
 pictures-fill-the-front c l n o h =
     let f = fitting c l n h in
     let d = call-drawn c o f in
-    (d .bytes, d .long, drawn-within c l n f d, out-drawn c (f .allowed) o (f .whole) (d .ends))
+    (d .bytes, d .final, d .ends, d .long, drawn-within c l n f d, out-drawn c (f .allowed) o (f .whole) (d .ends))
 
 -- ---- measuring
 -- what a painting takes, where its measure is answered

@@ -30,11 +30,18 @@ pub record Call : Type 0 where
 unfoldable pub inRange : Grants → Bool
 inRange g = leb (g .steps) 4294967295 && leb (g .shapes) 65535 && leb (g .entries) 65535 && leb (g .textBytes) 65535
 
--- how long each work slice must be: the program's form; variables, shapes and entries; text bytes. Checking lends the first alone.
+-- How long each work slice must be: token words, code, the words of a run (variables, arguments, shapes, entries), and text bytes. Checking
+-- is lent the first two alone.
+abbrev pub readingSlices : List ℕ → List ℕ
+readingSlices ls = 8193 ∷ 16384 ∷ ls
+
+abbrev pub runningSlices : Grants → List ℕ
+runningSlices g = (24584 + 3 * g .shapes + 4 * g .entries) ∷ g .textBytes ∷ []
+
 unfoldable pub needed : Operation → Grants → List ℕ
-needed checking g = 65536 ∷ []
-needed measuring g = 65536 ∷ (32768 + 3 * g .shapes + 4 * g .entries) ∷ g .textBytes ∷ []
-needed drawing g = 65536 ∷ (32768 + 3 * g .shapes + 4 * g .entries) ∷ g .textBytes ∷ []
+needed checking g = readingSlices []
+needed measuring g = readingSlices (runningSlices g)
+needed drawing g = readingSlices (runningSlices g)
 
 -- each of the first lengths is there, and at least as long
 unfoldable pub longEnough : List ℕ → List ℕ → Bool

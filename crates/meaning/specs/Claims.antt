@@ -9,10 +9,11 @@ use lib.IntN.{ℤ}
 use lib.Dec.{leb}
 use Rattle.meaning.specs.Basics.{laidOver}
 use Rattle.meaning.specs.Grammar.{malformed, reading}
-use Rattle.meaning.specs.Run.{Resource, steps, Taking, Run, End, unfinished}
-use Rattle.meaning.specs.Program.{Operation, measuring, drawing, Outcome, specified, beginning}
+use Rattle.meaning.specs.State.{State}
+use Rattle.meaning.specs.Run.{Resource, steps, Taking, Run, End, result, unfinished}
+use Rattle.meaning.specs.Program.{Operation, measuring, drawing, Outcome, drawn, specified, beginning}
 use Rattle.meaning.specs.Book.{Amounts, nothingYet, added, fits, allFit, book, Answer, pictured, number, undecided, shortageOf, lengthNeeded, booked}
-use Rattle.meaning.specs.Call.{Call, admitted, grantedTo, answer, outAfter}
+use Rattle.meaning.specs.Call.{Call, Grants, inRange, needed, admitted, grantedTo, runOf, answer, outAfter}
 
 -- ---- beginnings
 -- a longer beginning goes on where a shorter one ends
@@ -20,6 +21,12 @@ abbrev pub BeginningsExtend : Type 0
 BeginningsExtend =
     (o : Operation) (program : List ℕ) (width height : ℤ) (n k : ℕ) →
     take n (beginning o program width height (n + k) .takings) ≡ beginning o program width height n .takings
+
+-- a beginning of n takings has n, where the run has not ended
+abbrev pub BeginningsFill : Type 0
+BeginningsFill =
+    (o : Operation) (program : List ℕ) (width height : ℤ) (n : ℕ) →
+    beginning o program width height n .end ≡ unfinished → length (beginning o program width height n .takings) ≡ n
 
 -- a run that has ended stays as it is
 abbrev pub EndedStays : Type 0
@@ -38,6 +45,15 @@ BeginningsDecide =
     ((n : ℕ) → booked (grantedTo c) (beginningOf c n) ≢ undecided → booked (grantedTo c) (beginningOf c n) ≡ answer c)
     × ((n : ℕ) × (booked (grantedTo c) (beginningOf c n) ≡ answer c))
 
+-- ---- work slices
+-- no work slice need be longer than 67,108,864 elements, whatever counts are granted
+unfoldable pub allWithin : ℕ → List ℕ → Bool
+allWithin n [] = true
+allWithin n (x ∷ xs) = leb x n && allWithin n xs
+
+abbrev pub NeededIsBounded : Type 0
+NeededIsBounded = (o : Operation) (g : Grants) → inRange g ≡ true → allWithin 67108864 (needed o g) ≡ true
+
 -- ---- answers
 -- every call is answered
 abbrev pub AlwaysAnswered : Type 0
@@ -47,11 +63,11 @@ AlwaysAnswered = (c : Call) → answer c ≢ undecided
 abbrev pub NumbersWriteNothing : Type 0
 NumbersWriteNothing = (c : Call) (m p n l : ℕ) → answer c ≡ number m p n l → outAfter c ≡ c .out
 
--- a picture fills the front of the out slice, and nothing else in it changes
+-- the picture that the specified run ends in fills the front of the out slice, and nothing else in it changes
 abbrev pub PicturesFillTheFront : Type 0
 PicturesFillTheFront =
     (c : Call) (l n : ℕ) → c .operation ≡ drawing → answer c ≡ pictured l n →
-    (b : List ℕ) × (length b ≡ l) × (l ≤ length (c .out)) × (outAfter c ≡ laidOver b (c .out))
+    (b : List ℕ) × (s : State) × (runOf c .end ≡ result (drawn b) s) × (length b ≡ l) × (l ≤ length (c .out)) × (outAfter c ≡ laidOver b (c .out))
 
 -- a program that cannot be read takes nothing
 abbrev pub RefusedTakesNothing : Type 0
