@@ -1,0 +1,4 @@
+mod Classes
+mod Runs
+mod Texts
+mod Fronts

@@ -1,0 +1,68 @@
+use borrow.Author.Needs.{needs}
+use Rattle.lexer.proofs.front.string_at.Statement.{statement}
+use Rattle.lexer.proofs.front.string_at.Tie as tie
+use Rattle.lexer.proofs.front.string_at.Reads as reads
+use Rattle.lexer.proofs.front.string_at.Lts as lts
+use Rattle.lexer.proofs.class.class_at.Reads as class-at-reads
+use Rattle.lexer.proofs.class.run_end.Reads as run-end-reads
+use Rattle.lexer.proofs.word.word_of.Reads as word-of-reads
+
+-- src/front.rt:38:40
+add-class-at : tie.Need-add-class-at
+add-class-at c = search needs
+
+-- src/front.rt:38:9
+class-at-requires : tie.Need-class-at-requires
+class-at-requires c κs = search needs
+
+-- src/front.rt:40:9
+returns : tie.Need-returns
+returns c = ?
+
+-- src/front.rt:42:39
+add-run-end : tie.Need-add-run-end
+add-run-end c = search needs
+
+-- src/front.rt:42:9
+run-end-requires : tie.Need-run-end-requires
+run-end-requires c κs = search needs
+
+-- src/front.rt:43:9
+class-at-requires-2 : tie.Need-class-at-requires-2
+class-at-requires-2 c κs = search needs
+
+-- src/front.rt:45:9
+returns-2 : tie.Need-returns-2
+returns-2 c = ?
+
+-- src/front.rt:47:20
+add-word-of : tie.Need-add-word-of
+add-word-of c = ?
+
+-- src/front.rt:47:20
+sub-word-of : tie.Need-sub-word-of
+sub-word-of c = search needs
+
+-- src/front.rt:47:5
+word-of-requires : tie.Need-word-of-requires
+word-of-requires c κs = ?
+
+-- src/front.rt:33:1
+returns-3 : tie.Need-returns-3
+returns-3 c = ?
+
+pub string-at-spec : {M : Type 1} → statement M
+string-at-spec =
+    tie.close
+    (tie.spec
+    add-class-at
+    class-at-requires
+    returns
+    add-run-end
+    run-end-requires
+    class-at-requires-2
+    returns-2
+    add-word-of
+    sub-word-of
+    word-of-requires
+    returns-3)

@@ -1,0 +1,81 @@
+use borrow.Author.Needs.{needs}
+use Rattle.lexer.proofs.front.token_at.Statement.{statement}
+use Rattle.lexer.proofs.front.token_at.Tie as tie
+use Rattle.lexer.proofs.front.token_at.Reads as reads
+use Rattle.lexer.proofs.front.token_at.Lts as lts
+use Rattle.lexer.proofs.class.byte_at.Reads as byte-at-reads
+use Rattle.lexer.proofs.class.class_of.Reads as class-of-reads
+use Rattle.lexer.proofs.front.digits_at.Reads as digits-at-reads
+use Rattle.lexer.proofs.front.name_at.Reads as name-at-reads
+use Rattle.lexer.proofs.front.sign_at.Reads as sign-at-reads
+use Rattle.lexer.proofs.front.string_at.Reads as string-at-reads
+
+-- src/front.rt:85:13
+shared-slice-read-b : tie.Need-shared-slice-read-b
+shared-slice-read-b c = search needs
+
+-- src/front.rt:86:9
+class-of-requires : tie.Need-class-of-requires
+class-of-requires c κs = search needs
+
+-- src/front.rt:88:14
+name-at-requires : tie.Need-name-at-requires
+name-at-requires c κs = search needs
+
+-- src/front.rt:89:14
+digits-at-requires : tie.Need-digits-at-requires
+digits-at-requires c κs = search needs
+
+-- src/front.rt:90:14
+string-at-requires : tie.Need-string-at-requires
+string-at-requires c κs = search needs
+
+-- src/front.rt:91:42
+add-byte-at : tie.Need-add-byte-at
+add-byte-at c = search needs
+
+-- src/front.rt:91:25
+byte-at-requires : tie.Need-byte-at-requires
+byte-at-requires c κs = search needs
+
+-- src/front.rt:91:14
+sign-at-requires : tie.Need-sign-at-requires
+sign-at-requires c κs = ?
+
+-- src/front.rt:80:1
+returns : tie.Need-returns
+returns c = ?
+
+-- src/front.rt:80:1
+returns-2 : tie.Need-returns-2
+returns-2 c = ?
+
+-- src/front.rt:80:1
+returns-3 : tie.Need-returns-3
+returns-3 c = ?
+
+-- src/front.rt:80:1
+returns-4 : tie.Need-returns-4
+returns-4 c = ?
+
+-- src/front.rt:80:1
+returns-5 : tie.Need-returns-5
+returns-5 c = ?
+
+pub token-at-spec : {M : Type 1} → statement M
+token-at-spec =
+    tie.close
+    (tie.spec
+    shared-slice-read-b
+    class-of-requires
+    name-at-requires
+    digits-at-requires
+    string-at-requires
+    add-byte-at
+    byte-at-requires
+    sign-at-requires
+    returns
+    returns-2
+    returns-3
+    returns-4
+    returns-5)
