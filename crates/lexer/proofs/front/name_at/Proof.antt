@@ -1,3 +1,8 @@
+use mathlib.Core.Path.{_∙_, ap}
+use denote.Ref.{now}
+use native.Mathlib.Omega.{arith}
+use Rattle.meaning.specs.Token.{wordKind}
+use Rattle.lexer.proofs.Fronts.{end-fits, name-word}
 use borrow.Author.Needs.{needs}
 use Rattle.lexer.proofs.front.name_at.Statement.{statement}
 use Rattle.lexer.proofs.front.name_at.Tie as tie
@@ -26,11 +31,11 @@ sub-word-of c = search needs
 
 -- src/front.rt:19:5
 word-of-requires : tie.Need-word-of-requires
-word-of-requires c κs = ?
+word-of-requires c κs = let f = end-fits (now (c .before .before .before .before .args .program)) (c .before .before .before .before .args .at) 2 _ (omega arith) (c .before .before .run-end .ensures) in omega arith
 
 -- src/front.rt:12:1
 returns : tie.Need-returns
-returns c = ?
+returns c = name-word (now (c .before .before .before .before .before .args .program)) (c .before .before .before .before .before .args .at) _ _ _ (c .before .before .before .run-end .ensures) (c .before .word-kind .ensures ∙ ap wordKind (c .before .before .spelling .ensures)) (c .word-of .ensures)
 
 pub name-at-spec : {M : Type 1} → statement M
 name-at-spec =

@@ -1,3 +1,5 @@
+use mathlib.Core.Path.{_∙_, sym}
+use Rattle.lexer.proofs.Fronts.{sign-double, sign-none, sign-single}
 use borrow.Author.Needs.{needs}
 use Rattle.lexer.proofs.front.sign_at.Statement.{statement}
 use Rattle.lexer.proofs.front.sign_at.Tie as tie
@@ -20,11 +22,11 @@ word-of-requires c κs = search needs
 
 -- src/front.rt:71:9
 returns : tie.Need-returns
-returns c = ?
+returns c = sign-double (c .before .before .before .args .b) (c .before .before .before .args .c) (c .before .before .before .args .at) _ (sym (c .before .before .is-double .ensures) ∙ c .before .if1 .taken) (c .word-of .ensures)
 
 -- src/front.rt:74:9
 returns-2 : tie.Need-returns-2
-returns-2 c = ?
+returns-2 c = sign-none (c .before .before .before .args .b) (c .before .before .before .args .c) (c .before .before .before .args .at) 0 (sym (c .before .before .is-double .ensures) ∙ c .before .if1 .left) (c .if2 .taken)
 
 -- src/front.rt:76:5
 word-of-requires-2 : tie.Need-word-of-requires-2
@@ -32,7 +34,7 @@ word-of-requires-2 c κs = search needs
 
 -- src/front.rt:65:1
 returns-3 : tie.Need-returns-3
-returns-3 c = ?
+returns-3 c = sign-single (c .before .before .before .before .args .b) (c .before .before .before .before .args .c) (c .before .before .before .before .args .at) _ (sym (c .before .before .before .is-double .ensures) ∙ c .before .before .if1 .left) (c .before .if2 .left) (c .word-of2 .ensures)
 
 pub sign-at-spec : {M : Type 1} → statement M
 sign-at-spec =

@@ -1,3 +1,7 @@
+use denote.Ref.{now}
+use Prim.Native.Nat.{_+_}
+use native.Mathlib.Omega.{arith}
+use Rattle.lexer.proofs.Fronts.{end-fits, no-first, no-last, string-word}
 use borrow.Author.Needs.{needs}
 use Rattle.lexer.proofs.front.string_at.Statement.{statement}
 use Rattle.lexer.proofs.front.string_at.Tie as tie
@@ -17,7 +21,7 @@ class-at-requires c κs = search needs
 
 -- src/front.rt:40:9
 returns : tie.Need-returns
-returns c = ?
+returns c = no-first (now (c .before .before .before .args .program)) (c .before .before .before .args .at) _ (c .before .class-at .ensures) (c .if1 .taken)
 
 -- src/front.rt:42:39
 add-run-end : tie.Need-add-run-end
@@ -33,11 +37,11 @@ class-at-requires-2 c κs = search needs
 
 -- src/front.rt:45:9
 returns-2 : tie.Need-returns-2
-returns-2 c = ?
+returns-2 c = no-last (now (c .before .before .before .before .before .before .args .program)) (c .before .before .before .before .before .before .args .at) _ _ _ (c .before .before .before .before .class-at .ensures) (c .before .before .before .if1 .left) (c .before .before .run-end .ensures) (c .before .class-at2 .ensures) (c .if2 .taken)
 
 -- src/front.rt:47:20
 add-word-of : tie.Need-add-word-of
-add-word-of c = ?
+add-word-of c = let f = end-fits (now (c .before .before .before .before .before .before .args .program)) (c .before .before .before .before .before .before .args .at + 1) 2 _ (omega arith) (c .before .before .run-end .ensures) in omega arith
 
 -- src/front.rt:47:20
 sub-word-of : tie.Need-sub-word-of
@@ -45,11 +49,11 @@ sub-word-of c = search needs
 
 -- src/front.rt:47:5
 word-of-requires : tie.Need-word-of-requires
-word-of-requires c κs = ?
+word-of-requires c κs = let f = end-fits (now (c .before .before .before .before .before .before .args .program)) (c .before .before .before .before .before .before .args .at + 1) 2 _ (omega arith) (c .before .before .run-end .ensures) in omega arith
 
 -- src/front.rt:33:1
 returns-3 : tie.Need-returns-3
-returns-3 c = ?
+returns-3 c = string-word (now (c .before .before .before .before .before .before .before .args .program)) (c .before .before .before .before .before .before .before .args .at) _ _ _ _ (c .before .before .before .before .before .class-at .ensures) (c .before .before .before .before .if1 .left) (c .before .before .before .run-end .ensures) (c .before .before .class-at2 .ensures) (c .before .if2 .left) (c .word-of .ensures)
 
 pub string-at-spec : {M : Type 1} → statement M
 string-at-spec =

@@ -1,3 +1,11 @@
+use mathlib.Core.Path.{_∙_, sym, ap}
+use denote.Ref.{now}
+use Prim.Native.Nat.{_+_}
+use native.Mathlib.Omega.{arith}
+use Rattle.meaning.specs.Token.{Front, foundSign}
+use Rattle.lexer.specs.Words.{frontWord}
+use Rattle.lexer.proofs.Classes.{sign-low}
+use Rattle.lexer.proofs.Fronts.{front-2, front-3, front-4, front-5, front-none}
 use borrow.Author.Needs.{needs}
 use Rattle.lexer.proofs.front.token_at.Statement.{statement}
 use Rattle.lexer.proofs.front.token_at.Tie as tie
@@ -40,27 +48,28 @@ byte-at-requires c κs = search needs
 
 -- src/front.rt:91:14
 sign-at-requires : tie.Need-sign-at-requires
-sign-at-requires c κs = ?
+sign-at-requires c κs = let l = sign-low _ (sym (c .before .before .class-of .ensures) ∙ c .before .match .keys4) in omega arith
 
 -- src/front.rt:80:1
 returns : tie.Need-returns
-returns c = ?
+returns c = c .name-at .ensures ∙ ap (frontWord (c .before .before .before .before .before .args .at)) (sym (front-2 (now (c .before .before .before .before .before .args .program)) (c .before .before .before .before .before .args .at) (c .before .before .before .before .before .pre .1 .0) (sym (c .before .before .class-of .ensures) ∙ c .before .match .keys1)))
 
 -- src/front.rt:80:1
 returns-2 : tie.Need-returns-2
-returns-2 c = ?
+returns-2 c = c .digits-at .ensures ∙ ap (frontWord (c .before .before .before .before .before .args .at)) (sym (front-3 (now (c .before .before .before .before .before .args .program)) (c .before .before .before .before .before .args .at) (c .before .before .before .before .before .pre .1 .0) (sym (c .before .before .class-of .ensures) ∙ c .before .match .keys2)))
 
 -- src/front.rt:80:1
 returns-3 : tie.Need-returns-3
-returns-3 c = ?
+returns-3 c = c .string-at .ensures ∙ ap (frontWord (c .before .before .before .before .before .args .at)) (sym (front-4 (now (c .before .before .before .before .before .args .program)) (c .before .before .before .before .before .args .at) (c .before .before .before .before .before .pre .1 .0) (sym (c .before .before .class-of .ensures) ∙ c .before .match .keys3)))
 
 -- src/front.rt:80:1
 returns-4 : tie.Need-returns-4
-returns-4 c = ?
+returns-4 c = rw (front-5 (now (c .before .before .before .before .before .before .args .program)) (c .before .before .before .before .before .before .args .at) (c .before .before .before .before .before .before .pre .1 .0) (sym (c .before .before .before .class-of .ensures) ∙ c .before .before .match .keys4), ← c .before .byte-at .ensures) (c .sign-at .ensures)
 
 -- src/front.rt:80:1
 returns-5 : tie.Need-returns-5
-returns-5 c = ?
+unfolding frontWord
+returns-5 c = let n = c .match .rest in rw (front-none (now (c .before .before .before .before .args .program)) (c .before .before .before .before .args .at) (c .before .before .before .before .pre .1 .0) _ (sym (c .before .class-of .ensures)) (n .0 .0 .0 .1) (n .0 .0 .1) (n .0 .1) (n .1))
 
 pub token-at-spec : {M : Type 1} → statement M
 token-at-spec =

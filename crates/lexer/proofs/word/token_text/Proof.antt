@@ -1,3 +1,7 @@
+use mathlib.Core.Path.{_∙_, sym}
+use denote.Ref.{now}
+use Rattle.lexer.specs.Words.{kindIn, placeIn, sizeIn, tokenIn}
+use Rattle.lexer.proofs.Texts.{text-plain, text-short, text-string}
 use borrow.Author.Needs.{needs}
 use Rattle.lexer.proofs.word.token_text.Statement.{statement}
 use Rattle.lexer.proofs.word.token_text.Tie as tie
@@ -30,7 +34,8 @@ spelling-requires c κs = search needs
 
 -- src/word.rt:57:9
 returns : tie.Need-returns
-returns c = ?
+unfolding tokenIn
+returns c = c .spelling .ensures ∙ rw (c .before .before .before .before .place-of .ensures, c .before .before .before .token-size .ensures) (text-plain (now (c .before .before .before .before .before .before .args .program)) (kindIn (c .before .before .before .before .before .before .args .w)) (placeIn (c .before .before .before .before .before .before .args .w)) (sizeIn (c .before .before .before .before .before .before .args .w)) (λ e. c .before .if1 .taken (c .before .before .kind-of .ensures ∙ e)))
 
 -- src/word.rt:60:9
 spelling-requires-2 : tie.Need-spelling-requires-2
@@ -38,7 +43,8 @@ spelling-requires-2 c κs = search needs
 
 -- src/word.rt:60:9
 returns-2 : tie.Need-returns-2
-returns-2 c = ?
+unfolding tokenIn
+returns-2 c = c .spelling2 .ensures ∙ rw (c .before .before .before .before .before .place-of .ensures) (text-short (now (c .before .before .before .before .before .before .before .args .program)) (kindIn (c .before .before .before .before .before .before .before .args .w)) (placeIn (c .before .before .before .before .before .before .before .args .w)) (sizeIn (c .before .before .before .before .before .before .before .args .w)) (sym (c .before .before .before .kind-of .ensures) ∙ c .before .before .if1 .left) (rw (c .before .before .before .before .token-size .ensures) at (c .before .if2 .taken)))
 
 -- src/word.rt:62:23
 add-spelling-2 : tie.Need-add-spelling-2
@@ -58,7 +64,8 @@ spelling-requires-3 c κs = search needs
 
 -- src/word.rt:50:1
 returns-3 : tie.Need-returns-3
-returns-3 c = ?
+unfolding tokenIn
+returns-3 c = c .spelling3 .ensures ∙ rw (c .before .before .before .before .before .place-of .ensures, c .before .before .before .before .token-size .ensures) (text-string (now (c .before .before .before .before .before .before .before .args .program)) (kindIn (c .before .before .before .before .before .before .before .args .w)) (placeIn (c .before .before .before .before .before .before .before .args .w)) (sizeIn (c .before .before .before .before .before .before .before .args .w)) (sym (c .before .before .before .kind-of .ensures) ∙ c .before .before .if1 .left) (rw (c .before .before .before .before .token-size .ensures) at (c .before .if2 .left)))
 
 pub token-text-spec : {M : Type 1} → statement M
 token-text-spec =
