@@ -98,10 +98,12 @@ sign : (b : ℕ) → isSign b ≡ true → classOf b ≡ 5
 unfolding standsIn isSpace isLetter isDigit isQuote isSign classOf
 sign b e = eqb-true (classOf b) 5 (stands (λ x. eqb (classOf x) 5) b (bytes "+-*/%><=!.,;()[]{}") refl e)
 
--- each sign is below 128
-sign-below : (b : ℕ) → isSign b ≡ true → b < 128
+-- each sign is above 32 and below 128
+pub sign-range : (b : ℕ) → isSign b ≡ true → (32 < b) × (b < 128)
 unfolding standsIn isSign
-sign-below b e = ltb-true b 128 (stands (λ x. ltb x 128) b (bytes "+-*/%><=!.,;()[]{}") refl e)
+sign-range b e =
+    both ((32 < b) × (b < 128)) (ltb 32 b) (ltb b 128) (λ p q. (ltb-true 32 b p, ltb-true b 128 q))
+    (stands (λ x. ltb 32 x && ltb x 128) b (bytes "+-*/%><=!.,;()[]{}") refl e)
 
 -- ---- and the class tells the test
 -- a test that gives class k, and without which the class is another
@@ -140,7 +142,7 @@ module _ (b : ℕ) where
   is-sign = same-test (isSign b) b 5 (sign b) λ e. rw e (others 5 (isSpace b) (isLetter b) (isDigit b) (isQuote b) 1 2 3 4 refl refl refl refl refl)
 
 pub sign-low : (b : ℕ) → classOf b ≡ 5 → b < 128
-sign-low b e = sign-below b (is-sign b ∙ eq-eqb (classOf b) 5 e)
+sign-low b e = sign-range b (is-sign b ∙ eq-eqb (classOf b) 5 e) .1
 
 -- ---- the classes of a run
 high : (n c : ℕ) → 3 < c → leb n c && leb c 3 ≡ false
