@@ -6,3 +6,4 @@ mod Fits
 mod Laid
 mod Scan
 mod Going
+pub mod Decode
