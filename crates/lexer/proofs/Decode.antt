@@ -128,11 +128,11 @@ held program before slice n h l = go (tokensOf program) refl
         let c : n ≡ length ts = cc in
         let s : slice ≡ laidOver (map wordOf ts) before = cc in
         record {
-          tokens = ts
-          ; are = e
-          ; count = sym c
-          ; words = rw (s, c ∙ sym (length-map ts wordOf)) (laid-front (map wordOf ts) before (omega (arith, length-map ts wordOf)))
-          }
+          tokens = ts;
+          are = e;
+          count = sym c;
+          words = rw (s, c ∙ sym (length-map ts wordOf)) (laid-front (map wordOf ts) before (omega (arith, length-map ts wordOf)));
+        }
     go (stray p) e =
         let q : seen (Found n) slice ≡ laidTokens (stray p) before = h ∙ ap (λ (x : Lexed). laidTokens x before) e in
         let z : _≡_ {A = ℕ} 0 1 = cc in

@@ -59,13 +59,13 @@ word-plain w =
 plain : (s : List ℕ) (k n : ℕ) → Plain k → 0 < n → n ≤ length s → Fits s k n (take n s)
 unfolding textIn
 plain s k n p h l = record {
-    kind-some = p .0
-    ; kind-small = p .1
-    ; size-some = h
-    ; size-within = l
-    ; size-is = rw (ne-eqb k 3 (p .2)) (omega (arith, length-take-le n s l))
-    ; text-is = rw (ne-eqb k 3 (p .2))
-    }
+  kind-some = p .0;
+  kind-small = p .1;
+  size-some = h;
+  size-within = l;
+  size-is = rw (ne-eqb k 3 (p .2)) (omega (arith, length-take-le n s l));
+  text-is = rw (ne-eqb k 3 (p .2));
+}
 
 name-part : (b : ℕ) → isLetter b ≡ true → isNamePart b ≡ true
 unfolding isNamePart
@@ -96,17 +96,17 @@ unfolding textIn
 string-fits b bs =
     by-if (Fit (b ∷ bs)) (isLetter (getD bs 0 0) && isQuote (getD bs (span isNamePart bs) 0)) _ _
     (λ e.
-      let n : ℕ = span isNamePart bs in
-      let l : n < length bs = inside bs n (quote-some (isLetter (getD bs 0 0)) (getD bs n 0) e) in
-      let m : n + 2 - 2 ≡ n = omega arith in
-      record {
-        kind-some = omega arith
-        ; kind-small = omega arith
-        ; size-some = omega arith
-        ; size-within = omega arith
-        ; size-is = ap (λ (x : ℕ). x + 2) (length-take-le n bs (span-le isNamePart bs))
-        ; text-is = ap (λ (x : ℕ). take x bs) m
-        })
+    let n : ℕ = span isNamePart bs in
+    let l : n < length bs = inside bs n (quote-some (isLetter (getD bs 0 0)) (getD bs n 0) e) in
+    let m : n + 2 - 2 ≡ n = omega arith in
+    record {
+      kind-some = omega arith;
+      kind-small = omega arith;
+      size-some = omega arith;
+      size-within = omega arith;
+      size-is = ap (λ (x : ℕ). x + 2) (length-take-le n bs (span-le isNamePart bs));
+      text-is = ap (λ (x : ℕ). take x bs) m;
+    })
     (λ _. tt)
 
 -- ---- signs

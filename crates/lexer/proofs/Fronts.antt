@@ -38,7 +38,7 @@ module _ (s : List ℕ) (at : ℕ) where
   unfolding frontWord
   digits-word e r q hr = hr ∙ rw (digits-size e q)
 
--- ---- strings: i is the place behind the quote
+  -- ---- strings: i is the place behind the quote
   abbrev i : ℕ
   i = at + 1
 

@@ -73,24 +73,24 @@ module _ (s tokens₀ : List ℕ) where
   pub start : Going s tokens₀ tokens₀ 0 0
   unfolding tokensOf
   start = record {
-      done = []
-      ; place = zero-le
-      ; few = zero-le
-      ; count = refl
-      ; rest = sym (prepend-none (here s 0))
-      ; held = sym (laid-none tokens₀)
-      }
+    done = [];
+    place = zero-le;
+    few = zero-le;
+    count = refl;
+    rest = sym (prepend-none (here s 0));
+    held = sym (laid-none tokens₀);
+  }
 
   module _ (tokens : List ℕ) (at n : ℕ) (g : Going s tokens₀ tokens at n) where
     pub space : at < length s → classOf (getD s at 0) ≡ 1 → Going s tokens₀ tokens (at + 1) n
     space h e = record {
-        done = g .done
-        ; place = omega arith
-        ; few = omega arith
-        ; count = g .count
-        ; rest = g .rest ∙ ap (prependAll (g .done)) (at-space s at h e)
-        ; held = g .held
-        }
+      done = g .done;
+      place = omega arith;
+      few = omega arith;
+      count = g .count;
+      rest = g .rest ∙ ap (prependAll (g .done)) (at-space s at h e);
+      held = g .held;
+    }
 
     pub token : length s ≤ 32768 → at < length s → (classOf (getD s at 0) ≡ 1 → ⊥) → (w z : ℕ) (tokens′ : List ℕ) → w ≡ frontWord at (front (drop at s)) → (w ≡ 0 → ⊥) → z ≡ sizeIn w
         → tokens′ ≡ set tokens n w → Going s tokens₀ tokens′ (at + z) (n + 1)
@@ -103,13 +103,13 @@ module _ (s tokens₀ : List ℕ) where
         let f = ends s small at w z h e m hz in
         let x : Token = record { kind = k; place = at; text = t } in
         record {
-          done = g .done ++ x ∷ []
-          ; place = f .1
-          ; few = omega arith
-          ; count = length-append (g .done) (x ∷ []) ∙ ap (λ (j : ℕ). j + 1) (g .count)
-          ; rest = g .rest ∙ ap (prependAll (g .done)) (at-token s at k z t h c is (omega arith)) ∙ prepend-more (g .done) x (here s (at + z))
-          ; held = more (g .done) x tokens₀ tokens tokens′ n w (g .count) (b .word ∙ ap (λ (j : ℕ). k + 256 * at + 16777216 * j) (sym q) ∙ sym (word-is s small at k z t h is)) (g .held) ht
-          }
+          done = g .done ++ x ∷ [];
+          place = f .1;
+          few = omega arith;
+          count = length-append (g .done) (x ∷ []) ∙ ap (λ (j : ℕ). j + 1) (g .count);
+          rest = g .rest ∙ ap (prependAll (g .done)) (at-token s at k z t h c is (omega arith)) ∙ prepend-more (g .done) x (here s (at + z));
+          held = more (g .done) x tokens₀ tokens tokens′ n w (g .count) (b .word ∙ ap (λ (j : ℕ). k + 256 * at + 16777216 * j) (sym q) ∙ sym (word-is s small at k z t h is)) (g .held) ht;
+        }
 
     pub same-length : length tokens ≡ length tokens₀
     same-length = rw (g .held) (laid-length _ _)

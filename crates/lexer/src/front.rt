@@ -1,6 +1,10 @@
 // The token that begins at a place, as its word; 0 where none does.
-use crate::class::{byte_at, class_at, class_of, run_end};
-use crate::text::{spelling, word_kind};
+use crate::class::byte_at;
+use crate::class::class_at;
+use crate::class::class_of;
+use crate::class::run_end;
+use crate::text::spelling;
+use crate::text::word_kind;
 use crate::word::word_of;
 ghost use mathlib.Core.Path.{_≡_};
 ghost use Prim.Native.Nat.{_+_, _≤_, _<_};
