@@ -1,18 +1,18 @@
 -- What a token at the front of some bytes is bounded by, and what its word says.
 -- Assumes nothing.
 use mathlib.Core.Path.{_≡_, _∙_, refl, sym, ap, subst}
-use mathlib.Core.Bool.{Bool, true, false, _&&_, _||_, cond}
+use mathlib.Core.Bool.{Bool, true, false, _&&_, cond}
 use mathlib.Core.List.{List, [], _∷_}
-use Prim.Native.Nat.{ℕ, zero, suc, _+_, _-_, _*_, _^_, _≤_, _<_}
+use Prim.Native.Nat.{ℕ, _+_, _-_, _*_, _^_, _≤_, _<_}
 use native.Mathlib.Omega.{arith}
 use borrow.Author.Tests.{ne-eqb, eqb-true, leb-true, leb-false}
 use lib.Dec.{eqb, leb}
 use lib.ListN.{length, getD, take, drop, length-drop, List·getD-eq-default}
 use lib.Seq.{length-take-le, drop-drop}
-use Rattle.meaning.specs.Basics.{bytes, if_then_else_, sameText, span, standsIn}
+use Rattle.meaning.specs.Basics.{bytes, if_then_else_, sameText, span}
 use Rattle.meaning.specs.Byte.{isLetter, isDigit, isNamePart, isQuote, isSign}
 use Rattle.meaning.specs.Token.{Token, Front, found, nothing, foundName, foundDigits, foundString, foundSign, isDouble, front, wordKind}
-use Rattle.lexer.specs.Words.{frontWord, sizeOf, wordOf, kindIn, placeIn, sizeIn, textIn, tokenIn}
+use Rattle.lexer.specs.Words.{sizeOf, wordOf, kindIn, placeIn, sizeIn, textIn, tokenIn}
 use Rattle.lexer.proofs.Classes.{sign-range}
 use Rattle.lexer.proofs.Runs.{span-le, span-some}
 

@@ -2,8 +2,8 @@
 -- Assumes nothing.
 use mathlib.Core.Path.{_≡_, _∙_, refl, sym, ap}
 use mathlib.Core.Bool.{Bool, true, false, _&&_, _||_}
-use mathlib.Core.List.{List, [], _∷_}
-use Prim.Native.Nat.{ℕ, zero, suc, _+_, _-_, _*_, _≤_, _<_}
+use mathlib.Core.List.{List}
+use Prim.Native.Nat.{ℕ, suc, _+_, _-_, _*_, _≤_, _<_}
 use native.Mathlib.Numerals.{add-one}
 use native.Mathlib.Nat.{add-zero}
 use native.Mathlib.Omega.{arith}
@@ -13,7 +13,7 @@ use lib.ListN.{length, getD, take, drop, length-drop}
 use lib.Seq.{drop-cons, getD-drop}
 use Rattle.meaning.specs.Basics.{bytes, if_then_else_, span, standsIn}
 use Rattle.meaning.specs.Byte.{isLetter, isDigit, isNamePart, isQuote, classOf}
-use Rattle.meaning.specs.Token.{Front, found, nothing, foundName, foundDigits, foundString, foundSign, isDouble, front, wordKind}
+use Rattle.meaning.specs.Token.{nothing, foundName, foundDigits, foundString, foundSign, isDouble, front, wordKind}
 use Rattle.lexer.specs.Words.{fromClass, frontWord}
 use Rattle.lexer.proofs.Classes.{is-letter, is-digit, is-quote, is-sign, name-part, digit-part}
 use Rattle.lexer.proofs.Runs.{endOf, span-le, span-same}

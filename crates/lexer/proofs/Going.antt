@@ -2,15 +2,15 @@
 -- Assumes nothing.
 use mathlib.Core.Path.{_≡_, _∙_, refl, sym, ap}
 use mathlib.Core.List.{List, [], _∷_, _++_, map, append-nil}
-use Prim.Native.Nat.{ℕ, zero, suc, _+_, _*_, _≤_, _<_, zero-le}
+use Prim.Native.Nat.{ℕ, _+_, _*_, _≤_, _<_, zero-le}
 use native.Mathlib.Omega.{arith}
 use lib.ListN.{length, getD, set, drop, length-append, length-map}
 use Rattle.meaning.specs.Basics.{laidOver}
 use Rattle.meaning.specs.Byte.{classOf}
-use Rattle.meaning.specs.Token.{Token, Front, found, nothing, front, Lexed, lexed, stray, scan, tokensOf}
+use Rattle.meaning.specs.Token.{Token, Front, found, nothing, front, lexed, stray, tokensOf}
 use Rattle.lexer.specs.declared.Tokens.the-variants.{Found, Stray}
-use Rattle.lexer.specs.Words.{frontWord, wordOf, sizeIn, seen, laidTokens, all, strayAt}
-use Rattle.lexer.proofs.Fits.{Fits, fits, end-within, word-is, size-told}
+use Rattle.lexer.specs.Words.{frontWord, wordOf, sizeIn, seen, laidTokens}
+use Rattle.lexer.proofs.Fits.{fits, end-within, word-is, size-told}
 use Rattle.lexer.proofs.Laid.{laid-none, laid-more, laid-length, map-more}
 use Rattle.lexer.proofs.Scan.{here, at-end, at-space, at-stray, at-token, prependAll, prepend-none, prepend-more}
 

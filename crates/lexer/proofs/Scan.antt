@@ -1,18 +1,18 @@
 -- Reading on from a place.
 -- Assumes nothing.
 use mathlib.Core.Path.{_≡_, _∙_, refl, sym, ap}
-use mathlib.Core.Bool.{Bool, true, false}
+use mathlib.Core.Bool.{false}
 use mathlib.Core.List.{List, [], _∷_, _++_, append-assoc}
 use Prim.Native.Nat.{ℕ, zero, suc, _+_, _-_, _≤_, _<_}
 use native.Mathlib.Numerals.{add-one}
 use native.Mathlib.Nat.{add-zero}
 use native.Mathlib.Omega.{arith}
-use borrow.Author.Tests.{eq-eqb, ne-eqb}
+use borrow.Author.Tests.{ne-eqb}
 use lib.ListN.{length, getD, drop, drop-of-length-le}
 use lib.Seq.{drop-cons, drop-drop}
 use Rattle.meaning.specs.Basics.{if_then_else_}
 use Rattle.meaning.specs.Byte.{isSpace, classOf}
-use Rattle.meaning.specs.Token.{Token, Front, found, nothing, front, Lexed, lexed, stray, prepend, starting, scan}
+use Rattle.meaning.specs.Token.{Token, found, nothing, front, Lexed, lexed, stray, prepend, starting, scan}
 use Rattle.lexer.proofs.Classes.{is-space}
 
 -- what is left of a program at a place

@@ -1,4 +1,5 @@
 // Bytes of a program, and their classes.
+use crate::table::DIGIT;
 ghost use mathlib.Core.Path.{_≡_};
 ghost use Prim.Native.Nat.{_+_};
 ghost use lib.ListN.{getD, drop};
@@ -41,7 +42,7 @@ pub fn run_end(classes: &[u8; 256], program: &[u8], from: usize, least: u8) -> u
         if c < least {
             return i;
         }
-        if 3 < c {
+        if DIGIT < c {
             return i;
         }
         i += 1;

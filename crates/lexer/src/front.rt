@@ -3,6 +3,11 @@ use crate::class::byte_at;
 use crate::class::class_at;
 use crate::class::class_of;
 use crate::class::run_end;
+use crate::kind;
+use crate::table::DIGIT;
+use crate::table::LETTER;
+use crate::table::QUOTE;
+use crate::table::SIGN;
 use crate::text::spelling;
 use crate::text::word_kind;
 use crate::word::word_of;
@@ -18,7 +23,7 @@ fn name_at(classes: &[u8; 256], program: &[u8], at: usize) -> u64
     requires { ⌜ (at < length (now program)) × (length (now program) ≤ 32768) ⌝ }
     ensures { λ r. ⌜ r ≡ frontWord at (foundName (drop at (now (program .entry)))) ⌝ }
 {
-    let e = run_end(classes, program, at, 2);
+    let e = run_end(classes, program, at, LETTER);
     let k = word_kind(spelling(program, at, e));
     word_of(k, at, e - at)
 }
@@ -29,8 +34,8 @@ fn digits_at(classes: &[u8; 256], program: &[u8], at: usize) -> u64
     requires { ⌜ (at < length (now program)) × (length (now program) ≤ 32768) ⌝ }
     ensures { λ r. ⌜ r ≡ frontWord at (foundDigits (drop at (now (program .entry)))) ⌝ }
 {
-    let e = run_end(classes, program, at, 3);
-    word_of(2, at, e - at)
+    let e = run_end(classes, program, at, DIGIT);
+    word_of(kind::DIGITS, at, e - at)
 }
 
 // A string, whose quote stands at the place.
@@ -40,15 +45,15 @@ fn string_at(classes: &[u8; 256], program: &[u8], at: usize) -> u64
     ensures { λ r. ⌜ r ≡ frontWord at (foundString (drop (at + 1) (now (program .entry)))) ⌝ }
 {
     let c = class_at(classes, program, at + 1);
-    if c != 2 {
+    if c != LETTER {
         return 0;
     }
-    let e = run_end(classes, program, at + 1, 2);
+    let e = run_end(classes, program, at + 1, LETTER);
     let q = class_at(classes, program, e);
-    if q != 4 {
+    if q != QUOTE {
         return 0;
     }
-    word_of(3, at, e + 1 - at)
+    word_of(kind::STRING, at, e + 1 - at)
 }
 
 // Whether two bytes are one sign: ++ >> << == or !=.
@@ -89,10 +94,10 @@ pub fn token_at(classes: &[u8; 256], program: &[u8], at: usize) -> u64
     let b = program[at];
     let c = class_of(classes, b);
     match c {
-        2 => name_at(classes, program, at),
-        3 => digits_at(classes, program, at),
-        4 => string_at(classes, program, at),
-        5 => sign_at(b, byte_at(program, at + 1), at),
+        LETTER => name_at(classes, program, at),
+        DIGIT => digits_at(classes, program, at),
+        QUOTE => string_at(classes, program, at),
+        SIGN => sign_at(b, byte_at(program, at + 1), at),
         _ => 0,
     }
 }

@@ -1,5 +1,6 @@
 // Tokens of a program, as words in a slice that is lent for them.
 use table::CLASSES;
+use table::WHITE;
 ghost use mathlib.Core.Path.{_≡_};
 ghost use Prim.Native.Nat.{_≤_};
 ghost use lib.ListN.{length, set};
@@ -8,6 +9,7 @@ ghost use Rattle.lexer.specs.Words.{classTable, seen, laidTokens};
 
 mod class;
 mod front;
+pub mod kind;
 mod table;
 mod text;
 mod word;
@@ -46,7 +48,7 @@ fn lex_by(classes: &[u8; 256], program: &[u8], tokens: &mut [u64]) -> Tokens
     let mut n = 0;
     while at < program.len() {
         let c = class::class_at(classes, program, at);
-        if c == 1 {
+        if c == WHITE {
             at += 1;
             continue;
         }

@@ -1,4 +1,15 @@
-// The class of each byte: 0 no token has it, 1 white space, 2 letter, 3 digit, 4 quote, 5 sign.
+// The classes of bytes. A byte of class 0 belongs to no token.
+pub const WHITE: u8 = 1;
+
+pub const LETTER: u8 = 2;
+
+pub const DIGIT: u8 = 3;
+
+pub const QUOTE: u8 = 4;
+
+pub const SIGN: u8 = 5;
+
+// The class of each byte.
 pub const CLASSES: [u8; 256] = [
     0,
     0,

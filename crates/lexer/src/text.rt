@@ -1,4 +1,5 @@
 // Parts of a program, compared with each other and with the reserved words.
+use crate::kind;
 ghost use mathlib.Core.Path.{_≡_};
 ghost use Prim.Native.Nat.{_-_, min};
 ghost use lib.ListN.{take, drop};
@@ -46,43 +47,43 @@ pub fn word_kind(w: &[u8]) -> u8
     match n {
         2 => {
             if same_text(w, b"if") {
-                return 6;
+                return kind::IF;
             }
-            1
+            kind::NAME
         }
         3 => {
             if same_text(w, b"def") {
-                return 4;
+                return kind::DEF;
             }
             if same_text(w, b"var") {
-                return 5;
+                return kind::VAR;
             }
-            1
+            kind::NAME
         }
         4 => {
             if same_text(w, b"none") {
-                return 9;
+                return kind::NONE;
             }
             if same_text(w, b"true") {
-                return 10;
+                return kind::TRUE;
             }
-            1
+            kind::NAME
         }
         5 => {
             if same_text(w, b"while") {
-                return 7;
+                return kind::WHILE;
             }
             if same_text(w, b"false") {
-                return 11;
+                return kind::FALSE;
             }
-            1
+            kind::NAME
         }
         6 => {
             if same_text(w, b"return") {
-                return 8;
+                return kind::RETURN;
             }
-            1
+            kind::NAME
         }
-        _ => 1,
+        _ => kind::NAME,
     }
 }

@@ -1,4 +1,5 @@
 // Tokens as words: 8 bits for the kind, 16 for the place, 16 for the size.
+use crate::kind;
 use crate::text::spelling;
 ghost use mathlib.Core.Path.{_≡_};
 ghost use Prim.Native.Nat.{_+_, _*_, _<_};
@@ -53,7 +54,7 @@ pub fn token_text(program: &[u8], w: u64) -> &[u8]
     let p = place_of(w);
     let n = token_size(w);
     let k = kind_of(w);
-    if k != 3 {
+    if k != kind::STRING {
         return spelling(program, p, p + n);
     }
     if n < 2 {

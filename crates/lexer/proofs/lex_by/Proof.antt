@@ -1,3 +1,5 @@
+-- `lexer::lex_by` meets its contract: the invariant is `Going`, with a law for each move.
+-- Assumes nothing.
 use mathlib.Core.Path.{_∙_, sym}
 use denote.Ref.{now}
 use Prim.Native.Nat.{_-_}
@@ -7,12 +9,6 @@ use borrow.Author.Needs.{needs}
 use Rattle.lexer.proofs.Going.{Going, start, space, token, ends, same-length as laid-length, ended, refused}
 use Rattle.lexer.proofs.lex_by.Statement.{statement}
 use Rattle.lexer.proofs.lex_by.Tie as tie
-use Rattle.lexer.proofs.lex_by.Reads as reads
-use Rattle.lexer.proofs.lex_by.Lts as lts
-use Rattle.lexer.proofs.class.class_at.Reads as class-at-reads
-use Rattle.lexer.proofs.front.token_at.Reads as token-at-reads
-use Rattle.lexer.proofs.put.Reads as put-reads
-use Rattle.lexer.proofs.word.token_size.Reads as token-size-reads
 
 abbrev Inv-loop : tie.InvT-loop
 Inv-loop classes program tokens₀ at₀ n₀ tokens at n = Going program tokens₀ tokens at n
@@ -20,67 +16,51 @@ Inv-loop classes program tokens₀ at₀ n₀ tokens at n = Going program tokens
 abbrev μ-loop : tie.MeasureT-loop
 μ-loop classes program tokens₀ at₀ n₀ tokens at n = length program - at
 
--- src/lib.rt:65:5
 loop-holds : tie.Need-loop-holds Inv-loop μ-loop
 loop-holds c = start _ _
 
--- src/lib.rt:66:13
 class-at-requires : tie.Need-class-at-requires Inv-loop μ-loop
 class-at-requires c κs = search needs
 
--- src/lib.rt:68:13
 add-at : tie.Need-add-at Inv-loop μ-loop
 add-at c = omega arith
 
--- src/lib.rt:65:5
 loop-less : tie.Need-loop-less Inv-loop μ-loop
 loop-less c = omega arith
 
--- src/lib.rt:65:5
 loop-again : tie.Need-loop-again Inv-loop μ-loop
 loop-again c = space (now (c .before .before .before .before .before .before .args .program)) (now (c .before .before .before .before .before .before .args .tokens)) (c .before .before .before .loop .tokens) (c .before .before .before .loop .at) (c .before .before .before .loop .n) (c .before .before .before .loop .inv) (c .before .before .loop-test .taken) (sym (c .before .class-at .ensures) ∙ c .if1 .taken)
 
--- src/lib.rt:71:13
 token-at-requires : tie.Need-token-at-requires Inv-loop μ-loop
 token-at-requires c κs = search needs
 
--- src/lib.rt:73:13
 same-length : tie.Need-same-length Inv-loop μ-loop
 same-length c = laid-length (now (c .before .before .before .before .before .before .before .before .args .program)) (now (c .before .before .before .before .before .before .before .before .args .tokens)) (c .before .before .before .before .before .loop .tokens) (c .before .before .before .before .before .loop .at) (c .before .before .before .before .before .loop .n) (c .before .before .before .before .before .loop .inv)
 
--- src/lib.rt:73:13
 returns : tie.Need-returns Inv-loop μ-loop
 returns c = refused (now (c .before .before .before .before .before .before .before .before .args .program)) (now (c .before .before .before .before .before .before .before .before .args .tokens)) (c .before .before .before .before .before .loop .tokens) (c .before .before .before .before .before .loop .at) (c .before .before .before .before .before .loop .n) (c .before .before .before .before .before .loop .inv) (c .before .before .before .before .loop-test .taken) (λ e. c .before .before .if1 .left (c .before .before .before .class-at .ensures ∙ e)) _ (c .before .token-at .ensures) (c .if2 .taken)
 
--- src/lib.rt:75:9
 put-requires : tie.Need-put-requires Inv-loop μ-loop
 put-requires c κs = search needs
 
--- src/lib.rt:76:9
 add-n : tie.Need-add-n Inv-loop μ-loop
 add-n c = omega (arith, c .before .before .before .before .before .before .before .before .before .loop .inv .few, c .before .before .before .before .before .before .before .before .loop-test .taken, c .before .before .before .before .before .before .before .before .before .before .before .before .pre .1)
 
--- src/lib.rt:77:15
 token-size-requires : tie.Need-token-size-requires Inv-loop μ-loop
 token-size-requires c κs = search needs
 
--- src/lib.rt:77:9
 add-at-2 : tie.Need-add-at-2 Inv-loop μ-loop
 add-at-2 c = let f = ends (now (c .before .before .before .before .before .before .before .before .before .before .before .before .before .args .program)) (c .before .before .before .before .before .before .before .before .before .before .before .before .before .pre .1) (c .before .before .before .before .before .before .before .before .before .before .loop .at) _ _ (c .before .before .before .before .before .before .before .before .before .loop-test .taken) (c .before .before .before .before .before .before .token-at .ensures) (c .before .before .before .before .before .if2 .left) (c .token-size .ensures) in omega (arith, c .before .before .before .before .before .before .before .before .before .before .before .before .before .pre .1)
 
--- src/lib.rt:65:5
 loop-less-2 : tie.Need-loop-less-2 Inv-loop μ-loop
 loop-less-2 c = let f = ends (now (c .before .before .before .before .before .before .before .before .before .before .before .before .before .args .program)) (c .before .before .before .before .before .before .before .before .before .before .before .before .before .pre .1) (c .before .before .before .before .before .before .before .before .before .before .loop .at) _ _ (c .before .before .before .before .before .before .before .before .before .loop-test .taken) (c .before .before .before .before .before .before .token-at .ensures) (c .before .before .before .before .before .if2 .left) (c .token-size .ensures) in omega arith
 
--- src/lib.rt:65:5
 loop-again-2 : tie.Need-loop-again-2 Inv-loop μ-loop
 loop-again-2 c = token (now (c .before .before .before .before .before .before .before .before .before .before .before .before .before .args .program)) (now (c .before .before .before .before .before .before .before .before .before .before .before .before .before .args .tokens)) (c .before .before .before .before .before .before .before .before .before .before .loop .tokens) (c .before .before .before .before .before .before .before .before .before .before .loop .at) (c .before .before .before .before .before .before .before .before .before .before .loop .n) (c .before .before .before .before .before .before .before .before .before .before .loop .inv) (c .before .before .before .before .before .before .before .before .before .before .before .before .before .pre .1) (c .before .before .before .before .before .before .before .before .before .loop-test .taken) (λ e. c .before .before .before .before .before .before .before .if1 .left (c .before .before .before .before .before .before .before .before .class-at .ensures ∙ e)) _ _ _ (c .before .before .before .before .before .before .token-at .ensures) (c .before .before .before .before .before .if2 .left) (c .token-size .ensures) (c .before .before .before .put .ensures)
 
--- src/lib.rt:58:1
 same-length-2 : tie.Need-same-length-2 Inv-loop μ-loop
 same-length-2 c = laid-length (now (c .before .before .before .before .args .program)) (now (c .before .before .before .before .args .tokens)) (c .before .loop .tokens) (c .before .loop .at) (c .before .loop .n) (c .before .loop .inv)
 
--- src/lib.rt:58:1
 returns-2 : tie.Need-returns-2 Inv-loop μ-loop
 returns-2 c = ended (now (c .before .before .before .before .args .program)) (now (c .before .before .before .before .args .tokens)) (c .before .loop .tokens) (c .before .loop .at) (c .before .loop .n) (c .before .loop .inv) (c .loop-test .left)
 

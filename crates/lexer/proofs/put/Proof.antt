@@ -1,29 +1,24 @@
+-- `lexer::put` meets its contract: a store past the end changes nothing.
+-- Assumes nothing.
 use mathlib.Core.Path.{sym}
 use denote.Ref.{now}
 use lib.Seq.{set-out}
 use borrow.Author.Needs.{needs}
 use Rattle.lexer.proofs.put.Statement.{statement}
 use Rattle.lexer.proofs.put.Tie as tie
-use Rattle.lexer.proofs.put.Reads as reads
-use Rattle.lexer.proofs.put.Lts as lts
 
--- src/lib.rt:87:9
 mul-tokens : tie.Need-mul-tokens
 mul-tokens c = search needs
 
--- src/lib.rt:87:9
 slice-write-tokens : tie.Need-slice-write-tokens
 slice-write-tokens c = search needs
 
--- src/lib.rt:83:1
 same-length : tie.Need-same-length
 same-length c = search needs
 
--- src/lib.rt:83:1
 returns : tie.Need-returns
 returns c = search needs
 
--- src/lib.rt:83:1
 returns-2 : tie.Need-returns-2
 returns-2 c = sym (set-out (now (c .before .args .tokens)) (c .before .args .i) (c .before .args .w) (c .if1 .left))
 

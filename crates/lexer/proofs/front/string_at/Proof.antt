@@ -1,3 +1,5 @@
+-- `lexer::front::string_at` meets its contract: a letter behind the quote and a quote behind the run.
+-- Assumes nothing.
 use denote.Ref.{now}
 use Prim.Native.Nat.{_+_}
 use native.Mathlib.Omega.{arith}
@@ -5,53 +7,37 @@ use Rattle.lexer.proofs.Fronts.{end-fits, no-first, no-last, string-wor
 use borrow.Author.Needs.{needs}
 use Rattle.lexer.proofs.front.string_at.Statement.{statement}
 use Rattle.lexer.proofs.front.string_at.Tie as tie
-use Rattle.lexer.proofs.front.string_at.Reads as reads
-use Rattle.lexer.proofs.front.string_at.Lts as lts
-use Rattle.lexer.proofs.class.class_at.Reads as class-at-reads
-use Rattle.lexer.proofs.class.run_end.Reads as run-end-reads
-use Rattle.lexer.proofs.word.word_of.Reads as word-of-reads
 
--- src/front.rt:38:40
 add-class-at : tie.Need-add-class-at
 add-class-at c = search needs
 
--- src/front.rt:38:9
 class-at-requires : tie.Need-class-at-requires
 class-at-requires c κs = search needs
 
--- src/front.rt:40:9
 returns : tie.Need-returns
 returns c = no-first (now (c .before .before .before .args .program)) (c .before .before .before .args .at) _ (c .before .class-at .ensures) (c .if1 .taken)
 
--- src/front.rt:42:39
 add-run-end : tie.Need-add-run-end
 add-run-end c = search needs
 
--- src/front.rt:42:9
 run-end-requires : tie.Need-run-end-requires
 run-end-requires c κs = search needs
 
--- src/front.rt:43:9
 class-at-requires-2 : tie.Need-class-at-requires-2
 class-at-requires-2 c κs = search needs
 
--- src/front.rt:45:9
 returns-2 : tie.Need-returns-2
 returns-2 c = no-last (now (c .before .before .before .before .before .before .args .program)) (c .before .before .before .before .before .before .args .at) _ _ _ (c .before .before .before .before .class-at .ensures) (c .before .before .before .if1 .left) (c .before .before .run-end .ensures) (c .before .class-at2 .ensures) (c .if2 .taken)
 
--- src/front.rt:47:20
 add-word-of : tie.Need-add-word-of
 add-word-of c = let f = end-fits (now (c .before .before .before .before .before .before .args .program)) (c .before .before .before .before .before .before .args .at + 1) 2 _ (omega arith) (c .before .before .run-end .ensures) in omega arith
 
--- src/front.rt:47:20
 sub-word-of : tie.Need-sub-word-of
 sub-word-of c = search needs
 
--- src/front.rt:47:5
 word-of-requires : tie.Need-word-of-requires
 word-of-requires c κs = let f = end-fits (now (c .before .before .before .before .before .before .args .program)) (c .before .before .before .before .before .before .args .at + 1) 2 _ (omega arith) (c .before .before .run-end .ensures) in omega arith
 
--- src/front.rt:33:1
 returns-3 : tie.Need-returns-3
 returns-3 c = string-word (now (c .before .before .before .before .before .before .before .args .program)) (c .before .before .before .before .before .before .before .args .at) _ _ _ _ (c .before .before .before .before .before .class-at .ensures) (c .before .before .before .before .if1 .left) (c .before .before .before .run-end .ensures) (c .before .before .class-at2 .ensures) (c .before .if2 .left) (c .word-of .ensures)
 

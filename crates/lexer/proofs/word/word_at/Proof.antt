@@ -1,28 +1,23 @@
+-- `lexer::word::word_at` meets its contract: an index below n and the length is read, any other yields 0.
+-- Assumes nothing.
 use denote.Ref.{now}
 use Rattle.lexer.proofs.Texts.{at-within, at-behind, at-missing}
 use borrow.Author.Needs.{needs}
 use Rattle.lexer.proofs.word.word_at.Statement.{statement}
 use Rattle.lexer.proofs.word.word_at.Tie as tie
-use Rattle.lexer.proofs.word.word_at.Reads as reads
-use Rattle.lexer.proofs.word.word_at.Lts as lts
 
--- src/word.rt:43:20
 mul-result : tie.Need-mul-result
 mul-result c = search needs
 
--- src/word.rt:43:20
 shared-slice-read-result : tie.Need-shared-slice-read-result
 shared-slice-read-result c = search needs
 
--- src/word.rt:43:13
 returns : tie.Need-returns
 returns c = at-within _ _ _ (c .before .before .if1 .taken)
 
--- src/word.rt:38:1
 returns-2 : tie.Need-returns-2
 returns-2 c = at-missing (c .before .before .args .n) (now (c .before .before .args .tokens)) (c .before .before .args .i) (c .if2 .left)
 
--- src/word.rt:38:1
 returns-3 : tie.Need-returns-3
 returns-3 c = at-behind _ _ _ (c .if1 .left)
 
