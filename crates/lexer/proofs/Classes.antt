@@ -50,7 +50,9 @@ space b e = rw e
 no-space : (b : ℕ) → 33 ≤ b → isSpace b ≡ false
 unfolding isSpace
 no-space b h =
-    neither (eqb b 32 || eqb b 9) (eqb b 10) (neither (eqb b 32) (eqb b 9) (ne-eqb b 32 (omega arith)) (ne-eqb b 9 (omega arith))) (ne-eqb b 10 (omega arith))
+    neither (eqb b 32 || eqb b 9) (eqb b 10)
+    (neither (eqb b 32) (eqb b 9) (ne-eqb b 32 (omega arith)) (ne-eqb b 9 (omega arith)))
+    (ne-eqb b 10 (omega arith))
 
 letter-high : (b : ℕ) → isLetter b ≡ true → 58 ≤ b
 unfolding isLetter
@@ -112,7 +114,8 @@ same-test true b k f g = sym (eq-eqb (classOf b) k (f refl))
 same-test false b k f g = sym (g refl)
 
 -- four tests, none of which gives class k
-others : (k : ℕ) (t u v w : Bool) (x y z o : ℕ) → eqb x k ≡ false → eqb y k ≡ false → eqb z k ≡ false → eqb o k ≡ false → eqb 0 k ≡ false
+others : (k : ℕ) (t u v w : Bool) (x y z o : ℕ)
+    → eqb x k ≡ false → eqb y k ≡ false → eqb z k ≡ false → eqb o k ≡ false → eqb 0 k ≡ false
     → eqb (cond t x (cond u y (cond v z (cond w o 0)))) k ≡ false
 others k true u v w x y z o hx hy hz ho h0 = hx
 others k false true v w x y z o hx hy hz ho h0 = hy
@@ -123,23 +126,33 @@ others k false false false false x y z o hx hy hz ho h0 = h0
 module _ (b : ℕ) where
   pub is-space : isSpace b ≡ eqb (classOf b) 1
   unfolding classOf
-  is-space = same-test (isSpace b) b 1 (space b) λ e. rw e (others 1 (isLetter b) (isDigit b) (isQuote b) (isSign b) 2 3 4 5 refl refl refl refl refl)
+  is-space =
+      same-test (isSpace b) b 1 (space b) λ e.
+      rw e (others 1 (isLetter b) (isDigit b) (isQuote b) (isSign b) 2 3 4 5 refl refl refl refl refl)
 
   pub is-letter : isLetter b ≡ eqb (classOf b) 2
   unfolding classOf
-  is-letter = same-test (isLetter b) b 2 (letter b) λ e. rw e (others 2 (isSpace b) (isDigit b) (isQuote b) (isSign b) 1 3 4 5 refl refl refl refl refl)
+  is-letter =
+      same-test (isLetter b) b 2 (letter b) λ e.
+      rw e (others 2 (isSpace b) (isDigit b) (isQuote b) (isSign b) 1 3 4 5 refl refl refl refl refl)
 
   pub is-digit : isDigit b ≡ eqb (classOf b) 3
   unfolding classOf
-  is-digit = same-test (isDigit b) b 3 (digit b) λ e. rw e (others 3 (isSpace b) (isLetter b) (isQuote b) (isSign b) 1 2 4 5 refl refl refl refl refl)
+  is-digit =
+      same-test (isDigit b) b 3 (digit b) λ e.
+      rw e (others 3 (isSpace b) (isLetter b) (isQuote b) (isSign b) 1 2 4 5 refl refl refl refl refl)
 
   pub is-quote : isQuote b ≡ eqb (classOf b) 4
   unfolding classOf
-  is-quote = same-test (isQuote b) b 4 (quote b) λ e. rw e (others 4 (isSpace b) (isLetter b) (isDigit b) (isSign b) 1 2 3 5 refl refl refl refl refl)
+  is-quote =
+      same-test (isQuote b) b 4 (quote b) λ e.
+      rw e (others 4 (isSpace b) (isLetter b) (isDigit b) (isSign b) 1 2 3 5 refl refl refl refl refl)
 
   pub is-sign : isSign b ≡ eqb (classOf b) 5
   unfolding classOf
-  is-sign = same-test (isSign b) b 5 (sign b) λ e. rw e (others 5 (isSpace b) (isLetter b) (isDigit b) (isQuote b) 1 2 3 4 refl refl refl refl refl)
+  is-sign =
+      same-test (isSign b) b 5 (sign b) λ e.
+      rw e (others 5 (isSpace b) (isLetter b) (isDigit b) (isQuote b) 1 2 3 4 refl refl refl refl refl)
 
 pub sign-low : (b : ℕ) → classOf b ≡ 5 → b < 128
 sign-low b e = sign-range b (is-sign b ∙ eq-eqb (classOf b) 5 e) .1

@@ -31,7 +31,8 @@ module _ (s : List ℕ) (at b : ℕ) (bs : List ℕ) (e : drop at s ≡ b ∷ bs
 
 -- ---- what holds of each token that begins in a program holds of all its tokens, and those are no more than its bytes
 module _ (P : Token → Type 0) (program : List ℕ)
-    (holds : (at k n : ℕ) (w : List ℕ) → at < length program → front (drop at program) ≡ found k n w → P (record { kind = k; place = at; text = w })) where
+    (holds : (at k n : ℕ) (w : List ℕ) → at < length program → front (drop at program) ≡ found k n w
+    → P (record { kind = k; place = at; text = w })) where
   abbrev Claim : ℕ → Lexed → Type 0
   Claim m r = (ts : List Token) → r ≡ lexed ts → Each P ts × (length ts ≤ m)
 

@@ -29,7 +29,8 @@ Fit s (found k n w) = Fits s k n w
 Fit s nothing = Unit {0}
 
 -- by cases of a test
-by-if : (P : Front → Type 0) (t : Bool) (x y : Unit {0} → Front) → (t ≡ true → P (x tt)) → (t ≡ false → P (y tt)) → P (if t then x else y)
+by-if : (P : Front → Type 0) (t : Bool) (x y : Unit {0} → Front) → (t ≡ true → P (x tt)) → (t ≡ false → P (y tt))
+    → P (if t then x else y)
 unfolding if_then_else_
 by-if P true x y f g = f refl
 by-if P false x y f g = g refl
@@ -120,7 +121,8 @@ lone b n = rw (ne-eqb b 0 n) (and-false (eqb b 33))
 
 -- the sign alone, or none
 single-fits : (b : ℕ) (bs : List ℕ) → (32 < b) × (b < 128) → Fit (b ∷ bs) (if eqb b 33 then (λ _. nothing) else λ _. found b 1 (b ∷ []))
-single-fits b bs r = by-if (Fit (b ∷ bs)) (eqb b 33) _ _ (λ _. tt) (λ _. plain (b ∷ bs) b 1 (omega arith) (omega arith) (omega arith))
+single-fits b bs r =
+    by-if (Fit (b ∷ bs)) (eqb b 33) _ _ (λ _. tt) (λ _. plain (b ∷ bs) b 1 (omega arith) (omega arith) (omega arith))
 
 sign-fits : (b : ℕ) (bs : List ℕ) → (32 < b) × (b < 128) → Fit (b ∷ bs) (foundSign b (getD bs 0 0))
 unfolding if_then_else_
@@ -148,7 +150,8 @@ text-at : (program : List ℕ) (at k n : ℕ) → textIn (drop at program) k 0 n
 unfolding textIn
 text-at program at k n = rw (drop-drop 1 at program)
 
-module _ (program : List ℕ) (small : length program ≤ 32768) (at k n : ℕ) (w : List ℕ) (h : at < length program) (e : front (drop at program) ≡ found k n w) where
+module _ (program : List ℕ) (small : length program ≤ 32768) (at k n : ℕ) (w : List ℕ)
+    (h : at < length program) (e : front (drop at program) ≡ found k n w) where
   abbrev token : Token
   token = record { kind = k; place = at; text = w }
 

@@ -12,7 +12,7 @@ use lib.Dec.{eqb}
 use lib.ListN.{length, getD, take, drop, length-drop}
 use lib.Seq.{drop-cons, getD-drop}
 use Rattle.meaning.specs.Basics.{bytes, if_then_else_, span, standsIn}
-use Rattle.meaning.specs.Byte.{isLetter, isDigit, isNamePart, isQuote, classOf}
+use Rattle.meaning.specs.Byte.{isLetter, isDigit, isNamePart, isQuote, isSign, classOf}
 use Rattle.meaning.specs.Token.{nothing, foundName, foundDigits, foundString, foundSign, isDouble, front, wordKind}
 use Rattle.lexer.specs.Words.{fromClass, frontWord}
 use Rattle.lexer.proofs.Classes.{is-letter, is-digit, is-quote, is-sign, name-part, digit-part}
@@ -107,9 +107,11 @@ pub double-62 : (b c : ℕ) → b ≡ 62 → eqb c 62 ≡ isDouble b c
 unfolding standsIn
 double-62 b c e = double 62 b c refl refl e
 
-pub double-none : (b c : ℕ) → (b ≡ 33 → ⊥) → (b ≡ 43 → ⊥) → (b ≡ 60 → ⊥) → (b ≡ 61 → ⊥) → (b ≡ 62 → ⊥) → false ≡ isDouble b c
+pub double-none : (b c : ℕ) → (b ≡ 33 → ⊥) → (b ≡ 43 → ⊥) → (b ≡ 60 → ⊥) → (b ≡ 61 → ⊥) → (b ≡ 62 → ⊥)
+    → false ≡ isDouble b c
 unfolding isDouble standsIn
-double-none b c h33 h43 h60 h61 h62 = rw (ne-eqb b 33 h33, ne-eqb b 43 h43, ne-eqb b 60 h60, ne-eqb b 61 h61, ne-eqb b 62 h62) (and-false (eqb b c) false)
+double-none b c h33 h43 h60 h61 h62 =
+    rw (ne-eqb b 33 h33, ne-eqb b 43 h43, ne-eqb b 60 h60, ne-eqb b 61 h61, ne-eqb b 62 h62) (and-false (eqb b c) false)
 
 module _ (b c at r : ℕ) where
   pub sign-double : isDouble b c ≡ true → r ≡ b + 128 + 256 * at + 16777216 * 2 → r ≡ frontWord at (foundSign b c)
@@ -144,7 +146,13 @@ module _ (s : List ℕ) (at : ℕ) (h : at < length s) where
       let q : getD (drop (suc at) s) 0 0 ≡ getD s (at + 1) 0 = getD-drop (suc at) s 0 0 ∙ ap (λ (n : ℕ). getD s n 0) (omega arith) in
       rw (drop-cons s at 0, is-letter (getD s at 0), is-digit (getD s at 0), is-quote (getD s at 0), is-sign (getD s at 0), e, q)
 
-  pub front-none : (c : ℕ) → classOf (getD s at 0) ≡ c → (c ≡ 2 → ⊥) → (c ≡ 3 → ⊥) → (c ≡ 4 → ⊥) → (c ≡ 5 → ⊥) → front (drop at s) ≡ nothing
+  pub front-none : (c : ℕ) → classOf (getD s at 0) ≡ c → (c ≡ 2 → ⊥) → (c ≡ 3 → ⊥) → (c ≡ 4 → ⊥) → (c ≡ 5 → ⊥)
+      → front (drop at s) ≡ nothing
   unfolding front if_then_else_
   front-none c e h2 h3 h4 h5 =
-      rw (drop-cons s at 0, is-letter (getD s at 0) ∙ ne-eqb _ 2 (λ q. h2 (sym e ∙ q)), is-digit (getD s at 0) ∙ ne-eqb _ 3 (λ q. h3 (sym e ∙ q)), is-quote (getD s at 0) ∙ ne-eqb _ 4 (λ q. h4 (sym e ∙ q)), is-sign (getD s at 0) ∙ ne-eqb _ 5 (λ q. h5 (sym e ∙ q)))
+      let b : ℕ = getD s at 0 in
+      let n2 : isLetter b ≡ false = is-letter b ∙ ne-eqb (classOf b) 2 (λ q. h2 (sym e ∙ q)) in
+      let n3 : isDigit b ≡ false = is-digit b ∙ ne-eqb (classOf b) 3 (λ q. h3 (sym e ∙ q)) in
+      let n4 : isQuote b ≡ false = is-quote b ∙ ne-eqb (classOf b) 4 (λ q. h4 (sym e ∙ q)) in
+      let n5 : isSign b ≡ false = is-sign b ∙ ne-eqb (classOf b) 5 (λ q. h5 (sym e ∙ q)) in
+      rw (drop-cons s at 0, n2, n3, n4, n5)

@@ -42,7 +42,8 @@ none-begun s at w e z = go (front (drop at s)) refl
         absurd (omega (arith, f .kind-some))
     go nothing q = q
 
-module _ (s : List ℕ) (small : length s ≤ 32768) (at w z : ℕ) (h : at < length s) (e : w ≡ frontWord at (front (drop at s))) (n : w ≡ 0 → ⊥) (hz : z ≡ sizeIn w) where
+module _ (s : List ℕ) (small : length s ≤ 32768) (at w z : ℕ) (h : at < length s)
+    (e : w ≡ frontWord at (front (drop at s))) (n : w ≡ 0 → ⊥) (hz : z ≡ sizeIn w) where
   abbrev b : Begun s at w
   b = begun s at w e n
 
@@ -65,7 +66,8 @@ pub record Going (s tokens₀ tokens : List ℕ) (at n : ℕ) : Type 0 where
   pub held : tokens ≡ laidOver (map wordOf done) tokens₀
 
 -- one word more
-more : (ts : List Token) (t : Token) (d a b : List ℕ) (n w : ℕ) → length ts ≡ n → w ≡ wordOf t → a ≡ laidOver (map wordOf ts) d → b ≡ set a n w
+more : (ts : List Token) (t : Token) (d a b : List ℕ) (n w : ℕ)
+    → length ts ≡ n → w ≡ wordOf t → a ≡ laidOver (map wordOf ts) d → b ≡ set a n w
     → b ≡ laidOver (map wordOf (ts ++ t ∷ [])) d
 more ts t d a b n w l v h e = e ∙ rw (v, h, map-more wordOf ts t, laid-more (map wordOf ts) (wordOf t) d, length-map ts wordOf, l)
 
@@ -92,7 +94,8 @@ module _ (s tokens₀ : List ℕ) where
       held = g .held;
     }
 
-    pub token : length s ≤ 32768 → at < length s → (classOf (getD s at 0) ≡ 1 → ⊥) → (w z : ℕ) (tokens′ : List ℕ) → w ≡ frontWord at (front (drop at s)) → (w ≡ 0 → ⊥) → z ≡ sizeIn w
+    pub token : length s ≤ 32768 → at < length s → (classOf (getD s at 0) ≡ 1 → ⊥) → (w z : ℕ) (tokens′ : List ℕ)
+        → w ≡ frontWord at (front (drop at s)) → (w ≡ 0 → ⊥) → z ≡ sizeIn w
         → tokens′ ≡ set tokens n w → Going s tokens₀ tokens′ (at + z) (n + 1)
     token small h c w z tokens′ e m hz ht =
         let b = begun s at w e m in
@@ -102,13 +105,14 @@ module _ (s tokens₀ : List ℕ) where
         let is : front (drop at s) ≡ found k z t = b .is ∙ ap (λ (x : ℕ). found k x t) (sym q) in
         let f = ends s small at w z h e m hz in
         let x : Token = record { kind = k; place = at; text = t } in
+        let v : w ≡ wordOf x = b .word ∙ ap (λ (j : ℕ). k + 256 * at + 16777216 * j) (sym q) ∙ sym (word-is s small at k z t h is) in
         record {
           done = g .done ++ x ∷ [];
           place = f .1;
           few = omega arith;
           count = length-append (g .done) (x ∷ []) ∙ ap (λ (j : ℕ). j + 1) (g .count);
           rest = g .rest ∙ ap (prependAll (g .done)) (at-token s at k z t h c is (omega arith)) ∙ prepend-more (g .done) x (here s (at + z));
-          held = more (g .done) x tokens₀ tokens tokens′ n w (g .count) (b .word ∙ ap (λ (j : ℕ). k + 256 * at + 16777216 * j) (sym q) ∙ sym (word-is s small at k z t h is)) (g .held) ht;
+          held = more (g .done) x tokens₀ tokens tokens′ n w (g .count) v (g .held) ht;
         }
 
     pub same-length : length tokens ≡ length tokens₀

@@ -2,8 +2,8 @@ mod Classes
 mod Runs
 mod Texts
 mod Fronts
-mod Fits
-mod Laid
 mod Scan
 mod Going
+pub mod Fits
+pub mod Laid
 pub mod Decode

@@ -3,6 +3,7 @@
 use mathlib.Core.Path.{_≡_, _∙_, refl, sym, ap}
 use mathlib.Core.Bool.{Bool, true, false, _&&_, cond}
 use mathlib.Core.List.{List, [], _∷_}
+use Prim.Native.String.{String}
 use Prim.Native.Nat.{ℕ, suc, _+_, _-_, _≤_, _<_, min}
 use native.Mathlib.Numerals.{add-one}
 use native.Mathlib.Omega.{arith}
@@ -31,7 +32,8 @@ module _ (x y : List ℕ) (i : ℕ) where
   unfolding sameText
   other-here h k n = rw (drop-cons x i 0, drop-cons y i 0, ne-eqb _ _ n)
 
-  pub same-here : i < length x → i < length y → getD x i 0 ≡ getD y i 0 → sameText (drop i x) (drop i y) ≡ sameText (drop (i + 1) x) (drop (i + 1) y)
+  pub same-here : i < length x → i < length y → getD x i 0 ≡ getD y i 0
+      → sameText (drop i x) (drop i y) ≡ sameText (drop (i + 1) x) (drop (i + 1) y)
   unfolding sameText
   same-here h k e = rw (drop-cons x i 0, drop-cons y i 0, eq-eqb _ _ e, add-one i)
 
@@ -41,32 +43,85 @@ module _ (x y : List ℕ) (i : ℕ) where
 
 -- ---- reserved words, by their length
 module _ (w : List ℕ) where
-  far : (v : List ℕ) → (length w ≡ length v → ⊥) → sameText w v ≡ false
-  far v h = other-lengths w v h
+  far : (v : String) → (length w ≡ length (bytes v) → ⊥) → sameText w (bytes v) ≡ false
+  far v h = other-lengths w (bytes v) h
 
   pub kind-2 : length w ≡ 2 → wordKind w ≡ cond (sameText w (bytes "if")) 6 1
   unfolding wordKind
-  kind-2 h = simp (far (bytes "def") (omega arith), far (bytes "var") (omega arith), far (bytes "while") (omega arith), far (bytes "return") (omega arith), far (bytes "none") (omega arith), far (bytes "true") (omega arith), far (bytes "false") (omega arith))
+  kind-2 h =
+      simp (
+        far "def" (omega arith),
+        far "var" (omega arith),
+        far "while" (omega arith),
+        far "return" (omega arith),
+        far "none" (omega arith),
+        far "true" (omega arith),
+        far "false" (omega arith),
+      )
 
   pub kind-3 : length w ≡ 3 → wordKind w ≡ cond (sameText w (bytes "def")) 4 (cond (sameText w (bytes "var")) 5 1)
   unfolding wordKind
-  kind-3 h = simp (far (bytes "if") (omega arith), far (bytes "while") (omega arith), far (bytes "return") (omega arith), far (bytes "none") (omega arith), far (bytes "true") (omega arith), far (bytes "false") (omega arith))
+  kind-3 h =
+      simp (
+        far "if" (omega arith),
+        far "while" (omega arith),
+        far "return" (omega arith),
+        far "none" (omega arith),
+        far "true" (omega arith),
+        far "false" (omega arith),
+      )
 
   pub kind-4 : length w ≡ 4 → wordKind w ≡ cond (sameText w (bytes "none")) 9 (cond (sameText w (bytes "true")) 10 1)
   unfolding wordKind
-  kind-4 h = simp (far (bytes "def") (omega arith), far (bytes "var") (omega arith), far (bytes "if") (omega arith), far (bytes "while") (omega arith), far (bytes "return") (omega arith), far (bytes "false") (omega arith))
+  kind-4 h =
+      simp (
+        far "def" (omega arith),
+        far "var" (omega arith),
+        far "if" (omega arith),
+        far "while" (omega arith),
+        far "return" (omega arith),
+        far "false" (omega arith),
+      )
 
   pub kind-5 : length w ≡ 5 → wordKind w ≡ cond (sameText w (bytes "while")) 7 (cond (sameText w (bytes "false")) 11 1)
   unfolding wordKind
-  kind-5 h = simp (far (bytes "def") (omega arith), far (bytes "var") (omega arith), far (bytes "if") (omega arith), far (bytes "return") (omega arith), far (bytes "none") (omega arith), far (bytes "true") (omega arith))
+  kind-5 h =
+      simp (
+        far "def" (omega arith),
+        far "var" (omega arith),
+        far "if" (omega arith),
+        far "return" (omega arith),
+        far "none" (omega arith),
+        far "true" (omega arith),
+      )
 
   pub kind-6 : length w ≡ 6 → wordKind w ≡ cond (sameText w (bytes "return")) 8 1
   unfolding wordKind
-  kind-6 h = simp (far (bytes "def") (omega arith), far (bytes "var") (omega arith), far (bytes "if") (omega arith), far (bytes "while") (omega arith), far (bytes "none") (omega arith), far (bytes "true") (omega arith), far (bytes "false") (omega arith))
+  kind-6 h =
+      simp (
+        far "def" (omega arith),
+        far "var" (omega arith),
+        far "if" (omega arith),
+        far "while" (omega arith),
+        far "none" (omega arith),
+        far "true" (omega arith),
+        far "false" (omega arith),
+      )
 
-  pub kind-other : (length w ≡ 2 → ⊥) → (length w ≡ 3 → ⊥) → (length w ≡ 4 → ⊥) → (length w ≡ 5 → ⊥) → (length w ≡ 6 → ⊥) → wordKind w ≡ 1
+  pub kind-other : (length w ≡ 2 → ⊥) → (length w ≡ 3 → ⊥) → (length w ≡ 4 → ⊥) → (length w ≡ 5 → ⊥) → (length w ≡ 6 → ⊥)
+      → wordKind w ≡ 1
   unfolding wordKind
-  kind-other h h1 h2 h3 h4 = simp (far (bytes "def") (omega arith), far (bytes "var") (omega arith), far (bytes "if") (omega arith), far (bytes "while") (omega arith), far (bytes "return") (omega arith), far (bytes "none") (omega arith), far (bytes "true") (omega arith), far (bytes "false") (omega arith))
+  kind-other h h1 h2 h3 h4 =
+      simp (
+        far "def" (omega arith),
+        far "var" (omega arith),
+        far "if" (omega arith),
+        far "while" (omega arith),
+        far "return" (omega arith),
+        far "none" (omega arith),
+        far "true" (omega arith),
+        far "false" (omega arith),
+      )
 
 -- ---- parts
 by-order : (P : Type 0) (m n : ℕ) → (m ≤ n → P) → (n < m → P) → P
