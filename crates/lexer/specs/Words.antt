@@ -1,12 +1,12 @@
 -- Tokens as words of 64 bits, and what the lexer leaves in the slice that is lent for them.
 use Prim.Native.Nat.{ℕ, zero, suc, _+_, _-_, _*_, _/_, _%_}
-use mathlib.Core.Bool.{cond}
+use mathlib.Core.Bool.{Bool, _&&_, cond}
 use mathlib.Core.List.{List, [], _∷_, map}
 use lib.ListN.{length, take, drop}
-use lib.Dec.{eqb}
+use lib.Dec.{eqb, leb}
 use Rattle.meaning.specs.Basics.{laidOver}
 use Rattle.meaning.specs.Byte.{classOf}
-use Rattle.meaning.specs.Token.{Token, aString, Lexed, lexed, stray}
+use Rattle.meaning.specs.Token.{Token, aString, Front, found, nothing, Lexed, lexed, stray}
 use Rattle.lexer.specs.declared.Tokens.{Tokens}
 use Rattle.lexer.specs.declared.Tokens.the-variants.{Found, Stray}
 
@@ -17,6 +17,10 @@ classesFrom i (suc n) = classOf i ∷ classesFrom (suc i) n
 
 abbrev pub classTable : List ℕ
 classTable = classesFrom 0 256
+
+-- whether a byte is a digit or, where the least class is 2, a letter
+unfoldable pub fromClass : ℕ → ℕ → Bool
+fromClass least b = leb least (classOf b) && leb (classOf b) 3
 
 -- how many bytes of the program a token covers: a string's quotes too
 unfoldable pub sizeOf : Token → ℕ
@@ -43,6 +47,11 @@ textIn program k p n = cond (eqb k aString) (take (n - 2) (drop (p + 1) program)
 unfoldable pub tokenIn : List ℕ → ℕ → Token
 tokenIn program w =
     record { kind = kindIn w; place = placeIn w; text = textIn program (kindIn w) (placeIn w) (sizeIn w) }
+
+-- the word of what stands at the front, at a place: 0 where that is no token
+unfoldable pub frontWord : ℕ → Front → ℕ
+frontWord at (found k n w) = k + 256 * at + 16777216 * n
+frontWord at nothing = 0
 
 -- ---- the lexer's answer
 -- with what the slice holds then; where there is a stray byte, that is left open

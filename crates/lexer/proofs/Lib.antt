@@ -1,0 +1,9 @@
+mod Classes
+mod Runs
+mod Texts
+mod Fronts
+mod Scan
+mod Going
+pub mod Fits
+pub mod Laid
+pub mod Decode
