@@ -1,0 +1,4 @@
+pub mod Homes
+pub mod Fields
+pub mod Mapped
+pub mod Expressions
