@@ -54,16 +54,16 @@ tag-nonzero unequal = refl
 tag-nonzero greater = refl
 tag-nonzero less = refl
 
-module _ (ts : List Token) (sane : Sane ts) where
-  -- two readers of expressions, the first over words
-  abbrev pub Readers : Words.ReadPiece → ReadExpression → Type 0
-  Readers g f = (i : ℕ) → Maps (pieceOf ts) (g i) (f i)
+-- two readers of expressions, the first over words
+abbrev pub Reads : List Token → Words.ReadPiece → ReadExpression → Type 0
+Reads ts g f = (i : ℕ) → Maps (pieceOf ts) (g i) (f i)
 
+module _ (ts : List Token) (sane : Sane ts) where
   pub expect-maps : {A B : Type 0} {f : A → B} (k j : ℕ) (a : A) (b : B) → b ≡ f a → Maps f (Words.expect k (wordsOf ts) j b) (expect k ts j a)
   unfolding expect Words.expect
   expect-maps k j a b e = maps-if _ _ _ _ _ _ (is-at ts sane k j) (λ _. maps-good e) (λ _. maps-wrong)
 
-  pub arguments-from-maps : {g : Words.ReadPiece} {f : ReadExpression} → Readers g f
+  pub arguments-from-maps : {g : Words.ReadPiece} {f : ReadExpression} → Reads ts g f
     → (rounds i : ℕ) → Maps (λ es. codeOfAll es ts) (Words.argumentsFrom rounds g (wordsOf ts) i) (argumentsFrom rounds f ts i)
   unfolding argumentsFrom Words.argumentsFrom pieceOf codeOfAll
   arguments-from-maps r zero i = maps-wrong
@@ -73,14 +73,14 @@ module _ (ts : List Token) (sane : Sane ts) where
         (λ _. maps-after _ _ (arguments-from-maps r rounds (j + 1)) λ es m _. maps-good refl)
         λ _. expect-maps _ j _ _ refl
 
-  pub arguments-maps : {g : Words.ReadPiece} {f : ReadExpression} → Readers g f
+  pub arguments-maps : {g : Words.ReadPiece} {f : ReadExpression} → Reads ts g f
     → (i : ℕ) → Maps (λ es. codeOfAll es ts) (Words.arguments g (wordsOf ts) i) (arguments f ts i)
   unfolding arguments Words.arguments codeOfAll
   arguments-maps r i =
       maps-if _ _ _ _ _ _ (is-at ts sane _ i) (λ _. maps-good refl)
         λ _. rw (length-map ts (prepared ts)) (arguments-from-maps r (suc (length ts - i)) i)
 
-  pub primary-maps : {x : Inside Words.ReadPiece} {y : Inside ReadExpression} → Levels Readers x y
+  pub primary-maps : {x : Inside Words.ReadPiece} {y : Inside ReadExpression} → Levels (Reads ts) x y
     → (i : ℕ) → Maps (pieceOf ts) (Words.primary x (wordsOf ts) i) (primary y ts i)
   unfolding primary Words.primary pieceOf codeOf targetNumber
   primary-maps l i =
@@ -106,7 +106,7 @@ module _ (ts : List Token) (sane : Sane ts) where
         (λ _. maps-opening _ _ _ l λ g f r. maps-after _ _ (r (i + 1)) λ e j _. expect-maps _ j _ _ refl)
       λ _. maps-wrong
 
-  pub operand-maps : {x : Inside Words.ReadPiece} {y : Inside ReadExpression} → Levels Readers x y
+  pub operand-maps : {x : Inside Words.ReadPiece} {y : Inside ReadExpression} → Levels (Reads ts) x y
     → (i : ℕ) → Maps (pieceOf ts) (Words.operand x (wordsOf ts) i) (operand y ts i)
   unfolding operand Words.operand pieceOf codeOf targetNumber
   operand-maps l i =
@@ -115,14 +115,14 @@ module _ (ts : List Token) (sane : Sane ts) where
         (λ _. maps-after _ _ (primary-maps l (j + 1)) λ b m _. maps-good refl)
         λ _. maps-good refl
 
-  pub operated-maps : {x : Inside Words.ReadPiece} {y : Inside ReadExpression} → Levels Readers x y
+  pub operated-maps : {x : Inside Words.ReadPiece} {y : Inside ReadExpression} → Levels (Reads ts) x y
     → (o : Option Operator) (a : Expression) (j : ℕ) → Maps (pieceOf ts) (Words.operated (tagFor o) x (wordsOf ts) (pieceOf ts a) j) (operated o y ts a j)
   unfolding operated Words.operated tagFor if_then_else_ pieceOf codeOf targetNumber
   operated-maps l none a j = maps-good refl
   operated-maps l (some o) a j =
       rw (tag-nonzero o) (maps-after _ _ (operand-maps l (j + 1)) λ b m _. maps-good refl)
 
-  pub expression-in-maps : {x : Inside Words.ReadPiece} {y : Inside ReadExpression} → Levels Readers x y
+  pub expression-in-maps : {x : Inside Words.ReadPiece} {y : Inside ReadExpression} → Levels (Reads ts) x y
     → (i : ℕ) → Maps (pieceOf ts) (Words.expressionIn x (wordsOf ts) i) (expressionIn y ts i)
   unfolding expressionIn Words.expressionIn
   expression-in-maps l i =

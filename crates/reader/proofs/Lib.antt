@@ -2,3 +2,6 @@ pub mod Homes
 pub mod Fields
 pub mod Mapped
 pub mod Expressions
+pub mod Yields
+pub mod Spans
+pub mod Statements

@@ -14,6 +14,17 @@ pub data Levels {I J : Type 0} (R : I → J → Type 0) : Inside I → Inside J 
   neither : Levels R noLevel noLevel
   both : {a : I} {b : J} → R a b → Levels R (level a) (level b)
 
+pub after-after : {A B C : Type 0} (x : Got A) (k : A → ℕ → Got B) (l : B → ℕ → Got C) → after (after x k) l ≡ after x (λ a j. after (k a j) l)
+unfolding after
+after-after (good a j) k l = refl
+after-after (wrong n p) k l = refl
+
+pub after-if : {A B : Type 0} (b : Bool) (t u : Unit {0} → Got A) (k : A → ℕ → Got B)
+  → after (if b then t else u) k ≡ (if b then (λ _. after (t tt) k) else λ _. after (u tt) k)
+unfolding if_then_else_
+after-if true t u k = refl
+after-if false t u k = refl
+
 module _ {A B : Type 0} {f : A → B} where
   pub maps-good : {a : A} {b : B} {j : ℕ} → b ≡ f a → Maps f (good b j) (good a j)
   unfolding mapGot
