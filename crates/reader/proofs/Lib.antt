@@ -5,3 +5,4 @@ pub mod Expressions
 pub mod Yields
 pub mod Spans
 pub mod Statements
+pub mod Lexing
