@@ -1,22 +1,25 @@
 -- What the fields of words hold: of token words, and of words of code.
 use Prim.Native.Nat.{ℕ, zero, suc, _+_, _-_, _*_, _/_, _%_, _^_, _≤_, _<_, min}
 use native.Mathlib.Nat.{add-zero}
+use native.Mathlib.Numerals.{add-one}
 use native.Mathlib.Omega.{arith}
 use mathlib.Core.Path.{_≡_, refl, sym, ap, _∙_}
 use mathlib.Core.Bool.{Bool, true, false, _&&_, cond}
-use mathlib.Core.List.{List, [], _∷_, _++_, map}
+use mathlib.Core.List.{List, [], _∷_, _++_, append-assoc, map}
 use mathlib.Core.Option.{Option, none, some}
-use lib.ListN.{length, getD, List·getD-map, List·getD-eq-default, length-map}
+use lib.ListN.{length, getD, length-append, List·getD-map, List·getD-eq-default, length-map}
+use lib.Seq.{getD-at}
 use lib.Dec.{eqb, leb}
 use lib.IntN.{ℤ, pos, negsuc, negℤ}
-use borrow.Author.Tests.{eqb-true, eq-eqb, leb-true, leb-false, le-leb, lt-leb}
+use borrow.Author.Tests.{eqb-true, eq-eqb, leb-true, leb-false, le-leb, lt-leb, lt-ltb, le-ltb}
 use Rattle.meaning.specs.Token.{Token, aName, digits, aString, minus}
 use Rattle.meaning.specs.Grammar.{afterLast, kindAt, textAt, startAt, is, numeral, positiveAt, negativeAt, signedAt}
-use Rattle.meaning.specs.Integer.{bits}
+use Rattle.meaning.specs.Tree.{Operator, concatenate, add, subtract, multiply, divide, remainder, shiftRight, shiftLeft, equal, unequal, greater, less, Expression, number, string, nothing, truth, name, table, entry, operation, call, paren, Statement, declare, assign, update, when, while, return, block, act}
+use Rattle.meaning.specs.Integer.{bits, wrap}
 use Rattle.meaning.specs.Library.{Library, drawLine, drawEllipse, drawBox, drawText, connectShapes, drawTextOnShape, xCoordinate, yCoordinate, destroyShape, clearScene, libraryOf}
 use Rattle.lexer.specs.Words.{sizeOf}
 use Rattle.names.specs.Prepared.{home, numberOf, libraryNumber, payload, prepared}
-use Rattle.code.specs.Code.{word, tagIn, sizeIn, numberIn, partOf}
+use Rattle.code.specs.Code.{word, tagIn, sizeIn, numberIn, tagOf, partOf, joined, codeOf, codeOfAll, headed, codeOfStatement}
 use Rattle.expressions.specs.Words as Words
 use Rattle.reader.specs.Coded.{wordsOf}
 use Rattle.reader.specs.Sane.{Sane}
@@ -76,6 +79,18 @@ pub minus-bits : (n : ℕ) → n ≤ 2147483648 → Words.minusBits n ≡ bits (
 unfolding bits
 minus-bits zero h = refl
 minus-bits (suc n) h = omega arith
+
+pub plain-wrap : (n : ℕ) → n < 2147483648 → wrap (pos n) ≡ pos n
+unfolding wrap
+plain-wrap n h = rw (plain-bits n (omega arith), lt-ltb n 2147483648 h)
+
+pub minus-wrap : (n : ℕ) → n ≤ 2147483648 → wrap (negℤ (pos n)) ≡ negℤ (pos n)
+unfolding wrap bits
+minus-wrap zero h = refl
+minus-wrap (suc n) h =
+    let m = 4294967295 - n % 4294967296 in
+    let back : 4294967296 - suc m ≡ n = omega arith in
+    rw (le-ltb m 2147483648 (omega arith)) (ap negsuc back)
 
 -- ---- token words
 module _ (ts : List Token) where
@@ -178,17 +193,15 @@ module _ (ts : List Token) (sane : Sane ts) where
       ap Words.minusBits (c .0) ∙ minus-bits _ (c .1)
 
 -- ---- words of code
-pub tag-in : (tag size n : ℕ) → tag < 256 → tagIn (word tag size n) ≡ tag
-unfolding word
-tag-in tag size n h = omega arith
+-- what the fields of a word hold
+pub record Told (w tag size n : ℕ) : Type 0 where
+  pub tag-is : tagIn w ≡ tag
+  pub size-is : sizeIn w ≡ size
+  pub number-is : numberIn w ≡ n
 
-pub size-in : (tag size n : ℕ) → tag < 256 → size < 16777216 → sizeIn (word tag size n) ≡ size
+pub word-told : (tag size n : ℕ) → tag < 256 → size < 16777216 → Told (word tag size n) tag size n
 unfolding word
-size-in tag size n h h' = omega arith
-
-pub number-in : (tag size n : ℕ) → tag < 256 → size < 16777216 → numberIn (word tag size n) ≡ n
-unfolding word
-number-in tag size n h h' = omega arith
+word-told tag size n h h' = omega arith
 
 -- two numbers in the number of a word: of a statement, its place and another number; of a string, where its text stands and how long it is
 pub first-half : (p n : ℕ) → p < 65536 → (p + 65536 * n) % 65536 ≡ p
@@ -196,3 +209,99 @@ first-half p n h = omega arith
 
 pub second-half : (p n : ℕ) → p < 65536 → (p + 65536 * n) / 65536 ≡ n
 second-half p n h = omega arith
+
+module _ (ts : List Token) (sane : Sane ts) (t : List ℕ) where
+  pub part-start : partOf ts t % 65536 ≡ startAt ts (home ts aString t) + 1
+  part-start = first-half _ (length t) (omega (arith, sane .places (home ts aString t)))
+
+  pub part-length : partOf ts t / 65536 ≡ length t
+  part-length = second-half (startAt ts (home ts aString t) + 1) _ (omega (arith, sane .places (home ts aString t)))
+
+-- ---- the size in an expression's last word and in a statement's first
+pub tag-small : (o : Operator) → tagOf o < 256
+unfolding tagOf
+tag-small concatenate = omega arith
+tag-small add = omega arith
+tag-small subtract = omega arith
+tag-small multiply = omega arith
+tag-small divide = omega arith
+tag-small remainder = omega arith
+tag-small shiftRight = omega arith
+tag-small shiftLeft = omega arith
+tag-small equal = omega arith
+tag-small unequal = omega arith
+tag-small greater = omega arith
+tag-small less = omega arith
+
+-- code that ends in a word which holds how many words it has
+pub record Rooted (c : List ℕ) : Type 0 where
+  pub front : List ℕ
+  pub tag : ℕ
+  pub number : ℕ
+  pub small : tag < 256
+  pub whole : c ≡ front ++ (word tag (length c) number ∷ [])
+
+rooted : (front : List ℕ) (tag size n : ℕ) → tag < 256 → size ≡ length front + 1 → Rooted (front ++ (word tag size n ∷ []))
+rooted front tag size n h e = record { front = front; tag = tag; number = n; small = h; whole = rw (length-append, e) }
+
+joined-rooted : (tag : ℕ) (a b : List ℕ) → tag < 256 → Rooted (joined tag a b)
+joined-rooted tag a b h =
+    rw (← append-assoc) (rooted (a ++ b) tag (length a + length b + 1) (length b) h (rw length-append))
+
+pub code-rooted : (e : Expression) (ts : List Token) → Rooted (codeOf e ts)
+unfolding codeOf
+code-rooted (number z) ts = rooted [] _ 1 _ (omega arith) refl
+code-rooted (string t) ts = rooted [] _ 1 _ (omega arith) refl
+code-rooted nothing ts = rooted [] _ 1 _ (omega arith) refl
+code-rooted (truth b) ts = rooted [] _ 1 _ (omega arith) refl
+code-rooted (name x) ts = rooted [] _ 1 _ (omega arith) refl
+code-rooted (table e) ts = rooted (codeOf e ts) _ _ _ (omega arith) refl
+code-rooted (entry a b) ts = joined-rooted _ (codeOf a ts) (codeOf b ts) (omega arith)
+code-rooted (operation o a b) ts = joined-rooted _ (codeOf a ts) (codeOf b ts) (tag-small o)
+code-rooted (call f es) ts = rooted (codeOfAll es ts) _ _ _ (omega arith) refl
+code-rooted (paren e) ts = code-rooted e ts
+
+module _ (e : Expression) (ts : List Token) where
+  pub code-some : 0 < length (codeOf e ts)
+  code-some = let r = code-rooted e ts in omega (arith, simp length-append at (ap length (r .whole)))
+
+  pub root-size : length (codeOf e ts) < 16777216 → sizeIn (getD (codeOf e ts) (length (codeOf e ts) - 1) 0) ≡ length (codeOf e ts)
+  root-size h =
+      let c = codeOf e ts in
+      let r = code-rooted e ts in
+      let last : getD c (length c - 1) 0 ≡ word (r .tag) (length c) (r .number) =
+        ap (λ (l : List ℕ). getD l (length c - 1) 0) (r .whole)
+          ∙ getD-at (r .front) _ [] 0 (length c - 1) (omega (arith, simp length-append at (ap length (r .whole)))) in
+      ap sizeIn last ∙ word-told (r .tag) (length c) (r .number) (r .small) h .size-is
+
+-- code that begins with such a word
+pub record Headed (c : List ℕ) : Type 0 where
+  pub rest : List ℕ
+  pub tag : ℕ
+  pub number : ℕ
+  pub small : tag < 256
+  pub whole : c ≡ word tag (length c) number ∷ rest
+
+has-head : (tag size n : ℕ) (rest : List ℕ) → tag < 256 → size ≡ length rest + 1 → Headed (word tag size n ∷ rest)
+has-head tag size n rest h e = record { rest = rest; tag = tag; number = n; small = h; whole = rw (e, add-one) }
+
+pub statement-headed : (s : Statement) (ts : List Token) → Headed (codeOfStatement s ts)
+unfolding codeOfStatement
+statement-headed (declare p x) ts = has-head _ _ _ _ (omega arith) refl
+statement-headed (assign p x e) ts = has-head _ _ _ _ (omega arith) refl
+statement-headed (update p a b e) ts = has-head _ _ _ _ (omega arith) refl
+statement-headed (when p e s) ts = has-head _ _ _ _ (omega arith) refl
+statement-headed (while p e s) ts = has-head _ _ _ _ (omega arith) refl
+statement-headed (return p e) ts = has-head _ _ _ _ (omega arith) refl
+statement-headed (block p ss) ts = has-head _ _ _ _ (omega arith) refl
+statement-headed (act p e) ts = has-head _ _ _ _ (omega arith) refl
+
+module _ (s : Statement) (ts : List Token) where
+  pub statement-some : 0 < length (codeOfStatement s ts)
+  statement-some = let h = statement-headed s ts in omega (arith, ap length (h .whole))
+
+  pub head-size : length (codeOfStatement s ts) < 16777216 → sizeIn (getD (codeOfStatement s ts) 0 0) ≡ length (codeOfStatement s ts)
+  head-size small =
+      let c = codeOfStatement s ts in
+      let h = statement-headed s ts in
+      ap (λ (l : List ℕ). sizeIn (getD l 0 0)) (h .whole) ∙ word-told (h .tag) (length c) (h .number) (h .small) small .size-is

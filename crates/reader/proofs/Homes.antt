@@ -64,19 +64,33 @@ home-found (t ∷ ts) k x (suc i) k≢ p q = go (eqb (t .kind) k && sameText (t 
         record { first = zero-le; kind = eqb-true (t .kind) k (both .0); text = same-text (t .text) x (both .1) }
     go false e f = record { first = suc-le-suc (f .first); kind = f .kind; text = f .text }
 
--- ---- names
--- a token that is a name, spelled x
-pub record Occurs (ts : List Token) (x : List ℕ) : Type 0 where
+-- a token of a kind that is spelled x
+pub record Occurs (ts : List Token) (k : ℕ) (x : List ℕ) : Type 0 where
   pub index : ℕ
-  pub kind : kindAt ts index ≡ aName
+  pub kind : kindAt ts index ≡ k
   pub text : textAt ts index ≡ x
 
-pub name-found : (ts : List Token) (x : List ℕ) (o : Occurs ts x) → Found ts aName x (o .index) (slotOf ts x)
-name-found ts x o = home-found ts aName x (o .index) (omega arith) (o .kind) (o .text)
+pub occurs-found : (ts : List Token) (k : ℕ) (x : List ℕ) → k ≢ ending → (o : Occurs ts k x) → Found ts k x (o .index) (home ts k x)
+occurs-found ts k x k≢ o = home-found ts k x (o .index) k≢ (o .kind) (o .text)
 
+-- a token that is of a kind is there
+pub there : (ts : List Token) (i k : ℕ) → k ≢ ending → kindAt ts i ≡ k → i < length ts
+there [] i k k≢ e = absurd (k≢ (sym e))
+there (t ∷ ts) zero k k≢ e = omega arith
+there (t ∷ ts) (suc i) k k≢ e = let h = there ts i k k≢ e in omega arith
+
+-- ---- names
 pub name-first : (ts : List Token) (i : ℕ) → kindAt ts i ≡ aName → home ts aName (textAt ts i) ≤ i
 name-first ts i e = home-found ts aName (textAt ts i) i (omega arith) e refl .first
 
+pub slot-small : (ts : List Token) (x : List ℕ) → Occurs ts aName x → slotOf ts x < length ts
+slot-small ts x o =
+    let f = occurs-found ts aName x (omega arith) o in
+    omega (arith, there ts (o .index) aName (omega arith) (o .kind))
+
 -- slots tell names apart
-pub slots-apart : (ts : List Token) (x y : List ℕ) → Occurs ts x → Occurs ts y → (slotOf ts x ≡ slotOf ts y) ↔ (x ≡ y)
-slots-apart ts x y o p = (λ e. sym (name-found ts x o .text) ∙ ap (textAt ts) e ∙ name-found ts y p .text, ap (slotOf ts))
+pub slots-apart : (ts : List Token) (x y : List ℕ) → Occurs ts aName x → Occurs ts aName y → (slotOf ts x ≡ slotOf ts y) ↔ (x ≡ y)
+slots-apart ts x y o p =
+    let f = occurs-found ts aName x (omega arith) o in
+    let g = occurs-found ts aName y (omega arith) p in
+    (λ e. sym (f .text) ∙ ap (textAt ts) e ∙ g .text, ap (slotOf ts))

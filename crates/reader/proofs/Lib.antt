@@ -3,6 +3,8 @@ pub mod Fields
 pub mod Mapped
 pub mod Expressions
 pub mod Yields
+pub mod Known
 pub mod Spans
 pub mod Statements
 pub mod Lexing
+pub mod Walk

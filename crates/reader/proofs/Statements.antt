@@ -20,7 +20,7 @@ use Rattle.reader.specs.Sane.{Sane}
 use Rattle.reader.proofs.Fields.{is-at, place-at, name-home-at}
 use Rattle.reader.proofs.Mapped.{Maps, Levels, neither, both, maps-good, maps-wrong, maps-if, maps-after, maps-opening, after-after, after-if}
 use Rattle.reader.proofs.Yields.{yielded}
-use Rattle.reader.proofs.Spans.{Names, Spelled, Spelling, expression-spells}
+use Rattle.reader.proofs.Spans.{Names, Spelled, Spelling, expression-spelled}
 use Rattle.reader.proofs.Expressions.{Reads, expect-maps, expression-maps}
 
 -- two readers of statements, the first over words
@@ -125,9 +125,9 @@ module _ (ts : List Token) (sane : Sane ts) where
 
   pub statement-maps : (left i : ℕ) → Maps (λ s. codeOfStatement s ts) (Bodies.statement left (wordsOf ts) i) (statement left ts i)
   unfolding statement Bodies.statement
-  statement-maps zero i = statement-in-maps (expression-maps ts sane zero) (expression-spells ts zero) neither i
+  statement-maps zero i = statement-in-maps (expression-maps ts sane zero) (expression-spelled ts zero) neither i
   statement-maps (suc left) i =
-      statement-in-maps (expression-maps ts sane (suc left)) (expression-spells ts (suc left))
+      statement-in-maps (expression-maps ts sane (suc left)) (expression-spelled ts (suc left))
         (both (record { expressions = expression-maps ts sane left; statements = statement-maps left })) i
 
   -- ---- the procedure
