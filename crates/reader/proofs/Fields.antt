@@ -1,25 +1,25 @@
 -- What the fields of words hold: of token words, and of words of code.
-use Prim.Native.Nat.{ℕ, zero, suc, _+_, _-_, _*_, _/_, _%_, _^_, _≤_, _<_, min}
+use Prim.Native.Nat.{ℕ, zero, suc, _+_, _-_, _*_, _/_, _%_, _≤_, _<_, min}
 use native.Mathlib.Nat.{add-zero}
 use native.Mathlib.Numerals.{add-one}
 use native.Mathlib.Omega.{arith}
 use mathlib.Core.Path.{_≡_, refl, sym, ap, _∙_}
-use mathlib.Core.Bool.{Bool, true, false, _&&_, cond}
+use mathlib.Core.Bool.{Bool, true, false, _&&_}
 use mathlib.Core.List.{List, [], _∷_, _++_, append-assoc, map}
 use mathlib.Core.Option.{Option, none, some}
 use lib.ListN.{length, getD, length-append, List·getD-map, List·getD-eq-default, length-map}
 use lib.Seq.{getD-at}
 use lib.Dec.{eqb, leb}
-use lib.IntN.{ℤ, pos, negsuc, negℤ}
-use borrow.Author.Tests.{eqb-true, eq-eqb, leb-true, leb-false, le-leb, lt-leb, lt-ltb, le-ltb}
-use Rattle.meaning.specs.Token.{Token, aName, digits, aString, minus}
+use lib.IntN.{pos, negsuc, negℤ}
+use borrow.Author.Tests.{eqb-true, leb-true, leb-false, le-leb, lt-leb, lt-ltb, le-ltb}
+use Rattle.meaning.specs.Token.{Token, aName, digits, aString}
 use Rattle.meaning.specs.Grammar.{afterLast, kindAt, textAt, startAt, is, numeral, positiveAt, negativeAt, signedAt}
 use Rattle.meaning.specs.Tree.{Operator, concatenate, add, subtract, multiply, divide, remainder, shiftRight, shiftLeft, equal, unequal, greater, less, Expression, number, string, nothing, truth, name, table, entry, operation, call, paren, Statement, declare, assign, update, when, while, return, block, act}
 use Rattle.meaning.specs.Integer.{bits, wrap}
 use Rattle.meaning.specs.Library.{Library, drawLine, drawEllipse, drawBox, drawText, connectShapes, drawTextOnShape, xCoordinate, yCoordinate, destroyShape, clearScene, libraryOf}
-use Rattle.lexer.specs.Words.{sizeOf}
-use Rattle.names.specs.Prepared.{home, numberOf, libraryNumber, payload, prepared}
-use Rattle.code.specs.Code.{word, tagIn, sizeIn, numberIn, tagOf, partOf, joined, codeOf, codeOfAll, headed, codeOfStatement}
+use Rattle.lexer.specs.Words.{sizeOf, tokenIn}
+use Rattle.names.specs.Prepared.{home, numberOf, libraryNumber, payload, prepared, preparedAll}
+use Rattle.code.specs.Code.{word, tagIn, sizeIn, numberIn, tagOf, partOf, joined, codeOf, codeOfAll, codeOfStatement}
 use Rattle.expressions.specs.Words as Words
 use Rattle.reader.specs.Coded.{wordsOf}
 use Rattle.reader.specs.Sane.{Sane}
@@ -93,14 +93,21 @@ minus-wrap (suc n) h =
     rw (le-ltb m 2147483648 (omega arith)) (ap negsuc back)
 
 -- ---- token words
+pub prepared-words : (program words : List ℕ) (ts : List Token) → map (tokenIn program) words ≡ ts → preparedAll program words ≡ wordsOf ts
+unfolding preparedAll
+prepared-words program words ts e = ap wordsOf e
+
 module _ (ts : List Token) where
-  -- behind the last token the word is 0, and so are all its fields
   pub word-at : (i : ℕ) → getD (wordsOf ts) i 0 ≡ prepared ts (getD ts i afterLast)
   unfolding prepared payload sizeOf
   word-at i = List·getD-map (prepared ts) ts i afterLast
 
+  -- behind the last token the word is 0, and with it each of its fields
   pub word-behind : (i : ℕ) → length ts ≤ i → getD (wordsOf ts) i 0 ≡ 0
   word-behind i h = List·getD-eq-default (wordsOf ts) 0 (rw (length-map ts (prepared ts)) h)
+
+  pub token-behind : (i : ℕ) → length ts ≤ i → getD ts i afterLast ≡ afterLast
+  token-behind i h = List·getD-eq-default ts afterLast h
 
 module _ (ts : List Token) (sane : Sane ts) where
   pub kind-at : (i : ℕ) → Words.kindAt (wordsOf ts) i ≡ kindAt ts i
@@ -122,7 +129,7 @@ module _ (ts : List Token) (sane : Sane ts) where
 
   -- of names
   name-payload : (i : ℕ) → kindAt ts i ≡ aName
-    → Words.payloadAt (wordsOf ts) i ≡ length (textAt ts i) + 65536 * home ts aName (textAt ts i) + 4294967296 * libraryNumber (textAt ts i)
+      → Words.payloadAt (wordsOf ts) i ≡ length (textAt ts i) + 65536 * home ts aName (textAt ts i) + 4294967296 * libraryNumber (textAt ts i)
   unfolding payload sizeOf
   name-payload i e = payload-at i ∙ rw (e, add-zero)
 
@@ -140,7 +147,7 @@ module _ (ts : List Token) (sane : Sane ts) where
 
   -- of strings
   string-payload : (i : ℕ) → kindAt ts i ≡ aString
-    → Words.payloadAt (wordsOf ts) i ≡ (length (textAt ts i) + 2) + 65536 * home ts aString (textAt ts i) + 4294967296 * 0
+      → Words.payloadAt (wordsOf ts) i ≡ (length (textAt ts i) + 2) + 65536 * home ts aString (textAt ts i) + 4294967296 * 0
   unfolding payload sizeOf
   string-payload i e = payload-at i ∙ rw (e, add-zero)
 
@@ -158,7 +165,7 @@ module _ (ts : List Token) (sane : Sane ts) where
   is-at k i = ap (λ n. eqb n k) (kind-at i)
 
   below-at : (b : ℕ) → b < 4294967295 → (i : ℕ)
-    → Words.is digits (wordsOf ts) i && leb (Words.payloadAt (wordsOf ts) i) b ≡ is digits ts i && leb (numeral (textAt ts i)) b
+      → Words.is digits (wordsOf ts) i && leb (Words.payloadAt (wordsOf ts) i) b ≡ is digits ts i && leb (numeral (textAt ts i)) b
   below-at b h i = rw (is-at digits i) (go (is digits ts i) refl)
     where
       go : (t : Bool) → is digits ts i ≡ t → t && leb (Words.payloadAt (wordsOf ts) i) b ≡ t && leb (numeral (textAt ts i)) b
@@ -176,7 +183,7 @@ module _ (ts : List Token) (sane : Sane ts) where
 
   -- constants
   constant-at : (b : ℕ) → b ≤ 2147483648 → (i : ℕ) → is digits ts i && leb (numeral (textAt ts i)) b ≡ true
-    → (Words.payloadAt (wordsOf ts) i ≡ numeral (textAt ts i)) × (numeral (textAt ts i) ≤ 2147483648)
+      → (Words.payloadAt (wordsOf ts) i ≡ numeral (textAt ts i)) × (numeral (textAt ts i) ≤ 2147483648)
   constant-at b h i e =
       let both = both-true (is digits ts i) (leb (numeral (textAt ts i)) b) e in
       let small : numeral (textAt ts i) ≤ 2147483648 = omega (arith, leb-true (numeral (textAt ts i)) b (both .1)) in
@@ -270,8 +277,8 @@ module _ (e : Expression) (ts : List Token) where
       let c = codeOf e ts in
       let r = code-rooted e ts in
       let last : getD c (length c - 1) 0 ≡ word (r .tag) (length c) (r .number) =
-        ap (λ (l : List ℕ). getD l (length c - 1) 0) (r .whole)
-          ∙ getD-at (r .front) _ [] 0 (length c - 1) (omega (arith, simp length-append at (ap length (r .whole)))) in
+      ap (λ (l : List ℕ). getD l (length c - 1) 0) (r .whole)
+      ∙ getD-at (r .front) _ [] 0 (length c - 1) (omega (arith, simp length-append at (ap length (r .whole)))) in
       ap sizeIn last ∙ word-told (r .tag) (length c) (r .number) (r .small) h .size-is
 
 -- code that begins with such a word

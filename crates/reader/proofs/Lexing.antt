@@ -1,22 +1,22 @@
 -- The tokens of a program of at most 32,768 bytes fit their words, if they are at most 8,192.
 use Prim.Native.Nat.{ℕ, zero, suc, _+_, _-_, _≤_, _<_}
 use native.Mathlib.Omega.{arith}
-use mathlib.Core.Path.{_≡_, refl, sym, ap, subst}
+use mathlib.Core.Path.{_≡_, refl, subst}
 use mathlib.Core.Bool.{Bool, true, false, _&&_, _||_, cond}
 use mathlib.Core.List.{List, [], _∷_}
 use lib.ListN.{length, getD, take, length-take}
 use lib.Dec.{eqb, ltb}
 use borrow.Author.Tests.{eqb-true, ltb-true}
 use Rattle.meaning.specs.Basics.{bytes, if_then_else_, sameText, standsIn, span}
-use Rattle.meaning.specs.Byte.{isSpace, isLetter, isDigit, isNamePart, isQuote, isSign}
-use Rattle.meaning.specs.Token.{Token, aName, wordDef, wordVar, wordIf, wordWhile, wordReturn, wordNone, wordTrue, wordFalse, Front, found, nothing, wordKind, isDouble, foundName, foundDigits, foundString, foundSign, front, Lexed, lexed, stray, prepend, starting, scan, tokensOf}
+use Rattle.meaning.specs.Byte.{isSpace, isDigit, isNamePart, isSign}
+use Rattle.meaning.specs.Token.{Token, aName, wordDef, wordVar, wordIf, wordWhile, wordReturn, wordNone, wordTrue, wordFalse, Front, found, nothing, wordKind, front, Lexed, lexed, stray, prepend, starting, scan, tokensOf}
 use Rattle.meaning.specs.Grammar.{afterLast}
 use Rattle.reader.specs.Sane.{Sane}
 use Rattle.reader.proofs.Homes.{both-true}
 
 -- ---- kinds
 one-of : (a b c d e f g h : Bool)
-  → cond a wordDef (cond b wordVar (cond c wordIf (cond d wordWhile (cond e wordReturn (cond f wordNone (cond g wordTrue (cond h wordFalse aName))))))) < 256
+    → cond a wordDef (cond b wordVar (cond c wordIf (cond d wordWhile (cond e wordReturn (cond f wordNone (cond g wordTrue (cond h wordFalse aName))))))) < 256
 one-of true b c d e f g h = omega arith
 one-of false true c d e f g h = omega arith
 one-of false false true d e f g h = omega arith
@@ -31,7 +31,7 @@ word-kind-small : (w : List ℕ) → wordKind w < 256
 unfolding wordKind
 word-kind-small w =
     one-of (sameText w (bytes "def")) (sameText w (bytes "var")) (sameText w (bytes "if")) (sameText w (bytes "while"))
-      (sameText w (bytes "return")) (sameText w (bytes "none")) (sameText w (bytes "true")) (sameText w (bytes "false"))
+    (sameText w (bytes "return")) (sameText w (bytes "none")) (sameText w (bytes "true")) (sameText w (bytes "false"))
 
 -- whether all of some bytes are below a number
 abbrev allBelow : ℕ → List ℕ → Bool
@@ -74,8 +74,8 @@ front-fits size (b ∷ bs) two h =
     λ _. fits-if size _ _ _ (λ _. fits (omega arith) (part-fits size (span isDigit (b ∷ bs)) (b ∷ bs) h))
     λ _. fits-if size _ _ _ (λ _. fits-if size _ _ _ (λ _. fits (omega arith) (part-fits size (span isNamePart bs) bs (omega arith))) (λ _. misses))
     λ _. fits-if size _ _ _
-      (λ s. fits-if size _ _ _ (λ _. fits (omega (arith, sign-small b s)) (omega arith))
-        λ _. fits-if size _ _ _ (λ _. misses) (λ _. fits (omega (arith, sign-small b s)) (omega arith)))
+    (λ s. fits-if size _ _ _ (λ _. fits (omega (arith, sign-small b s)) (omega arith))
+    λ _. fits-if size _ _ _ (λ _. misses) (λ _. fits (omega (arith, sign-small b s)) (omega arith)))
     λ _. misses
 
 -- ---- all tokens
@@ -110,8 +110,8 @@ prepend-small t p (good a) = good (more p a)
 prepend-small t p bad = bad
 
 starting-small : (end size : ℕ) {f : Front} → Fits size f → (at : ℕ) → at < end
-  → (rest : ℕ → Lexed) → ((k : ℕ) → AllOf (Small end size) (rest k))
-  → AllOf (Small end size) (starting f at rest)
+    → (rest : ℕ → Lexed) → ((k : ℕ) → AllOf (Small end size) (rest k))
+    → AllOf (Small end size) (starting f at rest)
 unfolding starting
 starting-small end size (fits {n = n} k w) at h rest r = prepend-small _ (record { kind = k; place = h; text = w }) (r (n - 1))
 starting-small end size misses at h rest r = bad
@@ -124,7 +124,7 @@ scan-small end size two (b ∷ bs) zero at h s =
     go (isSpace b) (λ k. scan-small end size two bs k (suc at) (omega arith) (omega arith))
   where
     go : (t : Bool) → ((k : ℕ) → AllOf (Small end size) (scan k (suc at) bs))
-      → AllOf (Small end size) (if t then (λ _. scan 0 (suc at) bs) else λ _. starting (front (b ∷ bs)) at (λ k. scan k (suc at) bs))
+        → AllOf (Small end size) (if t then (λ _. scan 0 (suc at) bs) else λ _. starting (front (b ∷ bs)) at (λ k. scan k (suc at) bs))
     go true r = r 0
     go false r = starting-small end size (front-fits size (b ∷ bs) two s) at (omega arith) _ r
 
@@ -132,8 +132,9 @@ pub lexed-sane : (program : List ℕ) (ts : List Token) → length program ≤ 3
 unfolding tokensOf
 lexed-sane program ts h e n =
     let small = all-at (all-of (scan-small 32768 32768 (omega arith) program 0 0 (omega arith) h) e) (omega arith) in
-    record
-      { kinds = λ i. small i .kind
-      ; places = λ i. small i .place
-      ; texts = λ i. small i .text
-      ; few = n }
+    record {
+      kinds = λ i. small i .kind;
+      places = λ i. small i .place;
+      texts = λ i. small i .text;
+      few = n;
+    }

@@ -1,6 +1,6 @@
 -- Two readings of which one is the other with a function applied to what was read.
-use Prim.Native.Nat.{ℕ, suc, _+_}
-use mathlib.Core.Path.{_≡_, refl, sym, ap, _∙_}
+use Prim.Native.Nat.{ℕ}
+use mathlib.Core.Path.{_≡_, refl, ap}
 use mathlib.Core.Bool.{Bool, true, false}
 use Rattle.meaning.specs.Basics.{if_then_else_}
 use Rattle.meaning.specs.Grammar.{Got, good, wrong, after, Inside, noLevel, level, opening}
@@ -20,7 +20,7 @@ after-after (good a j) k l = refl
 after-after (wrong n p) k l = refl
 
 pub after-if : {A B : Type 0} (b : Bool) (t u : Unit {0} → Got A) (k : A → ℕ → Got B)
-  → after (if b then t else u) k ≡ (if b then (λ _. after (t tt) k) else λ _. after (u tt) k)
+    → after (if b then t else u) k ≡ (if b then (λ _. after (t tt) k) else λ _. after (u tt) k)
 unfolding if_then_else_
 after-if true t u k = refl
 after-if false t u k = refl
@@ -36,10 +36,10 @@ module _ {A B : Type 0} {f : A → B} where
 
   -- a choice by the same test
   pub maps-if : (b c : Bool) (t u : Unit {0} → Got A) (t' u' : Unit {0} → Got B)
-    → b ≡ c
-    → (c ≡ true → Maps f (t' tt) (t tt))
-    → (c ≡ false → Maps f (u' tt) (u tt))
-    → Maps f (if b then t' else u') (if c then t else u)
+      → b ≡ c
+      → (c ≡ true → Maps f (t' tt) (t tt))
+      → (c ≡ false → Maps f (u' tt) (u tt))
+      → Maps f (if b then t' else u') (if c then t else u)
   unfolding if_then_else_
   maps-if b c t u t' u' e p q = rw e (go c p q)
     where
@@ -49,9 +49,9 @@ module _ {A B : Type 0} {f : A → B} where
 
   -- what follows on what was read
   pub maps-after : {C D : Type 0} {g : C → D} {x : Got C} {y : Got D} (k : C → ℕ → Got A) (k' : D → ℕ → Got B)
-    → Maps g y x
-    → ((c : C) (j : ℕ) → x ≡ good c j → Maps f (k' (g c) j) (k c j))
-    → Maps f (after y k') (after x k)
+      → Maps g y x
+      → ((c : C) (j : ℕ) → x ≡ good c j → Maps f (k' (g c) j) (k c j))
+      → Maps f (after y k') (after x k)
   unfolding after mapGot
   maps-after {C} {D} {g} {x} {y} k k' m h = rw (m .same) (go x h)
     where
@@ -61,9 +61,9 @@ module _ {A B : Type 0} {f : A → B} where
 
   -- what follows on a level's opening
   pub maps-opening : {I J : Type 0} {R : I → J → Type 0} {x : Inside I} {y : Inside J} (p : ℕ) (k : J → Got A) (k' : I → Got B)
-    → Levels R x y
-    → ((a : I) (b : J) → R a b → Maps f (k' a) (k b))
-    → Maps f (opening x p k') (opening y p k)
+      → Levels R x y
+      → ((a : I) (b : J) → R a b → Maps f (k' a) (k b))
+      → Maps f (opening x p k') (opening y p k)
   unfolding opening
   maps-opening p k k' neither h = maps-wrong
   maps-opening p k k' (both r) h = h _ _ r

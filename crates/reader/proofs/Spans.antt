@@ -4,11 +4,10 @@ use Prim.Native.Nat.{ℕ, zero, suc, _+_, _-_, _≤_, _<_}
 use native.Mathlib.Omega.{arith}
 use mathlib.Core.Path.{_≡_, refl}
 use mathlib.Core.Logic.{_≢_}
-use mathlib.Core.Bool.{Bool, true, _&&_}
-use mathlib.Core.List.{List, [], _∷_}
+use mathlib.Core.Bool.{true}
+use mathlib.Core.List.{List}
 use mathlib.Core.Option.{Option, none, some}
 use lib.ListN.{length, length-append}
-use lib.Dec.{eqb, leb}
 use lib.IntN.{pos, negℤ}
 use borrow.Author.Tests.{eqb-true, leb-true}
 use Rattle.meaning.specs.Token.{Token, ending, aName, digits, aString}
@@ -19,7 +18,7 @@ use Rattle.code.specs.Code.{codeOf, codeOfAll, codeOfStatement, codeOfStatement
 use Rattle.reader.proofs.Homes.{both-true, Occurs, there}
 use Rattle.reader.proofs.Fields.{plain-wrap, minus-wrap}
 use Rattle.reader.proofs.Known.{Placed, Known, KnownAll, KnownStatement, KnownStatements, KnownNames}
-use Rattle.reader.proofs.Yields.{Yields, yields, fails, yielded, Inner, closed, opened, yields-if, yields-after, yields-opening}
+use Rattle.reader.proofs.Yields.{Yields, yields, fails, Inner, closed, opened, yields-if, yields-after, yields-opening}
 
 -- from token i up to token j at least n tokens were read
 pub record Spans (ts : List Token) (i n j : ℕ) : Type 0 where
@@ -76,7 +75,7 @@ pub record Both (ts : List Token) (r : Readers) : Type 0 where
 
 module _ (ts : List Token) where
   yields-expect : {A : Type 0} {P : A → ℕ → Type 0} (k j : ℕ) (a : A) → k ≢ ending → (kindAt ts j ≡ k → j < length ts → P a (j + 1))
-    → Yields P (expect k ts j a)
+      → Yields P (expect k ts j a)
   unfolding expect
   yields-expect k j a k≢ h = yields-if _ _ _ (λ e. yields (h (eqb-true _ _ e) (is-there ts j k k≢ e))) (λ _. fails)
 
@@ -88,17 +87,17 @@ module _ (ts : List Token) where
       yields-after _ (s i) λ e j p.
       let p' = p .spans in
       yields-if _ _ _
-        (λ _. yields-after _ (arguments-from-spelled s rounds (j + 1)) λ es m q.
-          let q' = q .spans in
-          yields (record { spans = simp length-append (omega arith); known = (p .known, q .known) }))
-        λ _. yields-expect _ j _ (omega arith) λ _ h. record { spans = simp length-append (omega arith); known = (p .known, tt) }
+      (λ _. yields-after _ (arguments-from-spelled s rounds (j + 1)) λ es m q.
+      let q' = q .spans in
+      yields (record { spans = simp length-append (omega arith); known = (p .known, q .known) }))
+      λ _. yields-expect _ j _ (omega arith) λ _ h. record { spans = simp length-append (omega arith); known = (p .known, tt) }
 
   arguments-spelled : {f : ReadExpression} → Spelling ts f → (i : ℕ) → Yields (SpelledAll ts i) (arguments f ts i)
   unfolding arguments codeOfAll KnownAll
   arguments-spelled s i =
       yields-if _ _ _
-        (λ e. yields (record { spans = omega (arith, is-there ts i _ (omega arith) e); known = tt }))
-        λ _. arguments-from-spelled s (suc (length ts - i)) i
+      (λ e. yields (record { spans = omega (arith, is-there ts i _ (omega arith) e); known = tt }))
+      λ _. arguments-from-spelled s (suc (length ts - i)) i
 
   -- one word for one token
   alone : (i k : ℕ) → k ≢ ending → is k ts i ≡ true → Spans ts i 1 (i + 1)
@@ -119,30 +118,30 @@ module _ (ts : List Token) where
   unfolding primary codeOf Known
   primary-spelled l i =
       yields-if _ _ _
-        (λ e. yields (record { spans = alone i digits (omega arith) (both-true _ _ e .0); known = positive-known i e; names = tt }))
+      (λ e. yields (record { spans = alone i digits (omega arith) (both-true _ _ e .0); known = positive-known i e; names = tt }))
       λ _. yields-if _ _ _
-        (λ _. yields-if _ _ _
-          (λ e. yields
-            (record { spans = omega (arith, is-there ts (i + 1) digits (omega arith) (both-true _ _ e .0)); known = negative-known (i + 1) e; names = tt }))
-          λ _. fails)
+      (λ _. yields-if _ _ _
+      (λ e. yields
+      (record { spans = omega (arith, is-there ts (i + 1) digits (omega arith) (both-true _ _ e .0)); known = negative-known (i + 1) e; names = tt }))
+      λ _. fails)
       λ _. yields-if _ _ _ (λ e. yields (record { spans = alone i _ (omega arith) e; known = occurs i aString e; names = tt }))
       λ _. yields-if _ _ _ (λ e. yields (record { spans = alone i _ (omega arith) e; known = tt; names = tt }))
       λ _. yields-if _ _ _ (λ e. yields (record { spans = alone i _ (omega arith) e; known = tt; names = tt }))
       λ _. yields-if _ _ _ (λ e. yields (record { spans = alone i _ (omega arith) e; known = tt; names = tt }))
       λ _. yields-if _ _ _
-        (λ e. yields-if _ _ _
-          (λ _. yields-opening _ _ l λ f s. yields-after _ (arguments-spelled s (i + 2)) λ es j p.
-            let p' = p .spans in
-            yields (record { spans = simp length-append (omega arith); known = p .known; names = tt }))
-          λ _. yields (record { spans = alone i _ (omega arith) e; known = occurs i aName e; names = (eqb-true _ _ e, refl) }))
+      (λ e. yields-if _ _ _
+      (λ _. yields-opening _ _ l λ f s. yields-after _ (arguments-spelled s (i + 2)) λ es j p.
+      let p' = p .spans in
+      yields (record { spans = simp length-append (omega arith); known = p .known; names = tt }))
+      λ _. yields (record { spans = alone i _ (omega arith) e; known = occurs i aName e; names = (eqb-true _ _ e, refl) }))
       λ _. yields-if _ _ _
-        (λ _. yields-opening _ _ l λ f s. yields-after _ (s (i + 1)) λ e j p. yields-expect _ j _ (omega arith) λ _ h.
-          let p' = p .spans in
-          record { spans = omega arith; known = p .known; names = tt })
+      (λ _. yields-opening _ _ l λ f s. yields-after _ (s (i + 1)) λ e j p. yields-expect _ j _ (omega arith) λ _ h.
+      let p' = p .spans in
+      record { spans = omega arith; known = p .known; names = tt })
       λ _. yields-if _ _ _
-        (λ _. yields-opening _ _ l λ f s. yields-after _ (s (i + 1)) λ e j p. yields-expect _ j _ (omega arith) λ _ h.
-          let p' = p .spans in
-          record { spans = simp length-append (omega arith); known = p .known; names = tt })
+      (λ _. yields-opening _ _ l λ f s. yields-after _ (s (i + 1)) λ e j p. yields-expect _ j _ (omega arith) λ _ h.
+      let p' = p .spans in
+      record { spans = simp length-append (omega arith); known = p .known; names = tt })
       λ _. fails
 
   operand-spelled : {x : Inside ReadExpression} → Inner (Spelling ts) x → (i : ℕ) → Yields (Spelled ts i) (operand x ts i)
@@ -150,15 +149,15 @@ module _ (ts : List Token) where
   operand-spelled l i =
       yields-after _ (primary-spelled l i) λ a j p.
       yields-if _ _ _
-        (λ _. yields-after _ (primary-spelled l (j + 1)) λ b m q.
-          let p' = p .spans in
-          let q' = q .spans in
-          yields (record { spans = simp length-append (omega arith); known = (p .known, q .known); names = tt }))
-        λ _. yields p
+      (λ _. yields-after _ (primary-spelled l (j + 1)) λ b m q.
+      let p' = p .spans in
+      let q' = q .spans in
+      yields (record { spans = simp length-append (omega arith); known = (p .known, q .known); names = tt }))
+      λ _. yields p
 
   operated-spelled : {x : Inside ReadExpression} → Inner (Spelling ts) x → (o : Option Operator) (i : ℕ) (a : Expression) (j : ℕ)
-    → Spelled ts i a j
-    → Yields (Spelled ts i) (operated o x ts a j)
+      → Spelled ts i a j
+      → Yields (Spelled ts i) (operated o x ts a j)
   unfolding operated codeOf Known
   operated-spelled l none i a j p = yields p
   operated-spelled l (some o) i a j p =
@@ -185,8 +184,8 @@ module _ (ts : List Token) where
   unfolding declaration codeOfStatement KnownStatement
   declaration-stated i =
       yields-if _ _ _
-        (λ e. yields-expect _ (i + 2) _ (omega arith) λ _ h. record { spans = omega arith; known = (placed i, occurs (i + 1) aName e) })
-        λ _. fails
+      (λ e. yields-expect _ (i + 2) _ (omega arith) λ _ h. record { spans = omega arith; known = (placed i, occurs (i + 1) aName e) })
+      λ _. fails
 
   returning-stated : {f : ReadExpression} → Spelling ts f → (i : ℕ) → Yields (Stated ts i) (returning f ts i)
   unfolding returning codeOfStatement KnownStatement
@@ -196,7 +195,7 @@ module _ (ts : List Token) where
       record { spans = omega arith; known = (placed i, p .known) }
 
   assignment-stated : {f : ReadExpression} → Spelling ts f → (i j : ℕ) (a : Expression) → Spelled ts i a j
-    → Yields (Stated ts i) (assignment f ts (startAt ts i) j (targetOf a))
+      → Yields (Stated ts i) (assignment f ts (startAt ts i) j (targetOf a))
   unfolding assignment targetOf codeOf codeOfStatement Known KnownStatement
   assignment-stated s i j (name x) p =
       yields-after _ (s (j + 1)) λ e m q. yields-expect _ m _ (omega arith) λ _ h.
@@ -222,26 +221,26 @@ module _ (ts : List Token) where
   simple-stated s i =
       yields-after _ (s i) λ a j p.
       yields-if _ _ _ (λ _. assignment-stated s i j a p)
-        λ _. yields-expect _ j _ (omega arith) λ _ h.
-          let p' = p .spans in
-          record { spans = omega arith; known = (placed i, p .known) }
+      λ _. yields-expect _ j _ (omega arith) λ _ h.
+      let p' = p .spans in
+      record { spans = omega arith; known = (placed i, p .known) }
 
   -- `make` makes a statement of an expression and a statement
   guarded-stated : {x : Inside Readers} → Inner (Both ts) x → (make : Expression → Statement → Statement) (i : ℕ)
-    → ((e : Expression) (s : Statement) → length (codeOfStatement (make e s) ts) ≡ length (codeOf e ts) + length (codeOfStatement s ts) + 1)
-    → ((e : Expression) (s : Statement) → Known e ts → KnownStatement s ts → KnownStatement (make e s) ts)
-    → Yields (Stated ts i) (guarded make x ts (i + 1))
+      → ((e : Expression) (s : Statement) → length (codeOfStatement (make e s) ts) ≡ length (codeOf e ts) + length (codeOfStatement s ts) + 1)
+      → ((e : Expression) (s : Statement) → Known e ts → KnownStatement s ts → KnownStatement (make e s) ts)
+      → Yields (Stated ts i) (guarded make x ts (i + 1))
   unfolding guarded
   guarded-stated l make i size makes =
       yields-if _ _ _
-        (λ _. yields-opening _ _ l λ f b.
-          yields-after _ (b .expressions (i + 1 + 1)) λ e j p.
-          yields-after {Q = λ _ m. m ≡ j + 1} _ (yields-expect _ j _ (omega arith) λ _ _. refl) λ _ m next.
-          yields-after _ (b .statements m) λ s n q.
-          let p' = p .spans in
-          let q' = q .spans in
-          yields (record { spans = rw (size e s) (omega arith); known = makes e s (p .known) (q .known) }))
-        λ _. fails
+      (λ _. yields-opening _ _ l λ f b.
+      yields-after _ (b .expressions (i + 1 + 1)) λ e j p.
+      yields-after {Q = λ _ m. m ≡ j + 1} _ (yields-expect _ j _ (omega arith) λ _ _. refl) λ _ m next.
+      yields-after _ (b .statements m) λ s n q.
+      let p' = p .spans in
+      let q' = q .spans in
+      yields (record { spans = rw (size e s) (omega arith); known = makes e s (p .known) (q .known) }))
+      λ _. fails
 
   statements-from-stated : {f : ReadStatement} → Stating ts f → (rounds i : ℕ) → Yields (StatedAll ts i) (statementsFrom rounds f ts i)
   unfolding statementsFrom codeOfStatements KnownStatements
@@ -250,27 +249,27 @@ module _ (ts : List Token) where
       yields-after _ (s i) λ a j p.
       let p' = p .spans in
       yields-if _ _ _ (λ e. yields (record { spans = omega (arith, is-there ts j _ (omega arith) e); known = p .known }))
-        λ _. yields-after _ (statements-from-stated s rounds j) λ ss m q.
-          let q' = q .spans in
-          yields (record { spans = simp length-append (omega arith); known = (p .known, q .known) })
+      λ _. yields-after _ (statements-from-stated s rounds j) λ ss m q.
+      let q' = q .spans in
+      yields (record { spans = simp length-append (omega arith); known = (p .known, q .known) })
 
   statements-stated : {f : ReadStatement} → Stating ts f → (i : ℕ) → Yields (StatedAll ts i) (statements f ts i)
   statements-stated s i = statements-from-stated s (suc (length ts - i)) i
 
   statement-in-stated : {f : ReadExpression} {x : Inside Readers} → Spelling ts f → Inner (Both ts) x
-    → (i : ℕ) → Yields (Stated ts i) (statementIn f x ts i)
+      → (i : ℕ) → Yields (Stated ts i) (statementIn f x ts i)
   unfolding statementIn codeOfStatement KnownStatement
   statement-in-stated s l i =
       yields-if _ _ _ (λ _. declaration-stated i)
       λ _. yields-if _ _ _
-        (λ _. guarded-stated l (when (startAt ts i)) i (λ e s. simp length-append (omega arith)) λ e s p q. (placed i, p, q))
+      (λ _. guarded-stated l (when (startAt ts i)) i (λ e s. simp length-append (omega arith)) λ e s p q. (placed i, p, q))
       λ _. yields-if _ _ _
-        (λ _. guarded-stated l (while (startAt ts i)) i (λ e s. simp length-append (omega arith)) λ e s p q. (placed i, p, q))
+      (λ _. guarded-stated l (while (startAt ts i)) i (λ e s. simp length-append (omega arith)) λ e s p q. (placed i, p, q))
       λ _. yields-if _ _ _ (λ _. returning-stated s i)
       λ _. yields-if _ _ _
-        (λ _. yields-opening _ _ l λ f b. yields-after _ (statements-stated (b .statements) (i + 1)) λ ss j p.
-          let p' = p .spans in
-          yields (record { spans = omega arith; known = (placed i, p .known) }))
+      (λ _. yields-opening _ _ l λ f b. yields-after _ (statements-stated (b .statements) (i + 1)) λ ss j p.
+      let p' = p .spans in
+      yields (record { spans = omega arith; known = (placed i, p .known) }))
       λ _. simple-stated s i
 
   pub statement-stated : (left i : ℕ) → Yields (Stated ts i) (statement left ts i)
@@ -278,7 +277,7 @@ module _ (ts : List Token) where
   statement-stated zero i = statement-in-stated (expression-spelled zero) closed i
   statement-stated (suc left) i =
       statement-in-stated (expression-spelled (suc left))
-        (opened (record { expressions = expression-spelled left; statements = statement-stated left })) i
+      (opened (record { expressions = expression-spelled left; statements = statement-stated left })) i
 
   -- ---- the procedure
   parameters-from-named : (rounds i : ℕ) → Yields (Named ts i) (parametersFrom rounds ts i)
@@ -287,8 +286,8 @@ module _ (ts : List Token) where
   parameters-from-named (suc rounds) i =
       yields-after {Q = λ x _. Occurs ts aName x} _ (yields-expect aName i _ (omega arith) λ e _. record { index = i; kind = e; text = refl }) λ x j o.
       yields-if _ _ _
-        (λ _. yields-after _ (parameters-from-named rounds (j + 1)) λ xs m p. yields (record { known = (o, p .known) }))
-        λ _. yields-expect _ j _ (omega arith) λ _ _. record { known = (o, tt) }
+      (λ _. yields-after _ (parameters-from-named rounds (j + 1)) λ xs m p. yields (record { known = (o, p .known) }))
+      λ _. yields-expect _ j _ (omega arith) λ _ _. record { known = (o, tt) }
 
   parameters-named : (i : ℕ) → Yields (Named ts i) (parameters ts i)
   unfolding parameters KnownNames

@@ -1,8 +1,8 @@
 -- Where the parts of code stand, for who goes through it: an expression is known by its last word, a statement by its first.
-use Prim.Native.Nat.{ℕ, zero, suc, _+_, _-_, _*_, _≤_, _<_}
+use Prim.Native.Nat.{ℕ, _+_, _-_, _≤_, _<_}
 use native.Mathlib.Nat.{add-zero}
 use native.Mathlib.Omega.{arith}
-use mathlib.Core.Path.{_≡_, refl, sym, ap, _∙_, subst}
+use mathlib.Core.Path.{_≡_, sym, ap, _∙_, subst}
 use mathlib.Core.List.{List, [], _∷_, _++_, append-nil, append-assoc}
 use lib.ListN.{length, getD, drop, length-append, length-drop}
 use lib.Seq.{drop-drop, drop-append-seam, getD-drop}
@@ -23,12 +23,13 @@ module _ {code : List ℕ} {at : ℕ} where
 
   pub stands-back : (a b : List ℕ) → Stands code at (a ++ b) → Stands code (at + length a) b
   stands-back a b s =
-      record
-        { behind = s .behind
-        ; here =
+      record {
+        behind = s .behind;
+        here =
             sym (drop-drop (length a) at code)
-              ∙ ap (drop (length a)) (s .here ∙ append-assoc a b (s .behind))
-              ∙ drop-append-seam a (b ++ s .behind) }
+            ∙ ap (drop (length a)) (s .here ∙ append-assoc a b (s .behind))
+            ∙ drop-append-seam a (b ++ s .behind);
+      }
 
   pub stands-first : {w : ℕ} {c : List ℕ} → Stands code at (w ∷ c) → getD code at 0 ≡ w
   stands-first s = ap (λ i. getD code i 0) (sym (add-zero at)) ∙ sym (getD-drop at code 0 0) ∙ ap (λ (l : List ℕ). getD l 0 0) (s .here)
@@ -52,6 +53,9 @@ pub record Joint (code : List ℕ) (x tag : ℕ) (a b : List ℕ) : Type 0 where
   pub left : Ends code (x - 1 - length b) a
   pub right : Ends code (x - 1) b
 
+pub stands-ends : {code c : List ℕ} {at : ℕ} → 0 < length c → Stands code at c → Ends code (at + length c - 1) c
+stands-ends {at = at} h s = record { start = at; stands = s; last = omega arith }
+
 module _ {code : List ℕ} {x : ℕ} where
   pub ends-word : (c : List ℕ) (w : ℕ) → Ends code x (c ++ (w ∷ [])) → getD code x 0 ≡ w
   ends-word c w e =
@@ -73,10 +77,11 @@ module _ {code : List ℕ} {x : ℕ} where
       let w = word tag (length a + length b + 1) (length b) in
       let back = stands-back a (b ++ (w ∷ [])) (e .stands) in
       let all : e .start + length a + length b ≡ x = omega (arith, length-append a (b ++ (w ∷ [])), length-append b (w ∷ [])) in
-      record
-        { root = subst (λ i. getD code i 0 ≡ w) all (stands-first (stands-back b (w ∷ []) back))
-        ; left = record { start = e .start; stands = stands-front a (b ++ (w ∷ [])) (e .stands); last = omega arith }
-        ; right = record { start = e .start + length a; stands = stands-front b (w ∷ []) back; last = omega arith } }
+      record {
+        root = subst (λ i. getD code i 0 ≡ w) all (stands-first (stands-back b (w ∷ []) back));
+        left = record { start = e .start; stands = stands-front a (b ++ (w ∷ [])) (e .stands); last = omega arith };
+        right = record { start = e .start + length a; stands = stands-front b (w ∷ []) back; last = omega arith };
+      }
 
 -- ---- arguments
 -- an argument with the word before it, and those that follow
@@ -89,7 +94,8 @@ pub stands-argument : {code : List ℕ} {at : ℕ} (c cs : List ℕ) → Stands 
 stands-argument {code} {at} c cs s =
     let rest = stands-rest s in
     let there : at + 1 + length c ≡ at + length c + 1 = omega arith in
-    record
-      { before = stands-first s
-      ; one = record { start = at + 1; stands = stands-front c cs rest; last = there }
-      ; more = subst (λ i. Stands code i cs) there (stands-back c cs rest) }
+    record {
+      before = stands-first s;
+      one = record { start = at + 1; stands = stands-front c cs rest; last = there };
+      more = subst (λ i. Stands code i cs) there (stands-back c cs rest);
+    }

@@ -32,17 +32,17 @@ module _ {A : Type 0} {P : A → ℕ → Type 0} where
   yields-if false t u p q = q refl
 
   pub yields-after : {C : Type 0} {Q : C → ℕ → Type 0} {x : Got C} (k : C → ℕ → Got A)
-    → Yields Q x
-    → ((c : C) (j : ℕ) → Q c j → Yields P (k c j))
-    → Yields P (after x k)
+      → Yields Q x
+      → ((c : C) (j : ℕ) → Q c j → Yields P (k c j))
+      → Yields P (after x k)
   unfolding after
   yields-after k (yields q) h = h _ _ q
   yields-after k fails h = fails
 
   pub yields-opening : {I : Type 0} {R : I → Type 0} {x : Inside I} (p : ℕ) (k : I → Got A)
-    → Inner R x
-    → ((a : I) → R a → Yields P (k a))
-    → Yields P (opening x p k)
+      → Inner R x
+      → ((a : I) → R a → Yields P (k a))
+      → Yields P (opening x p k)
   unfolding opening
   yields-opening p k closed h = fails
   yields-opening p k (opened r) h = h _ r

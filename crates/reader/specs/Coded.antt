@@ -1,9 +1,9 @@
 -- What was read, with code in place of trees.
-use Prim.Native.Nat.{ℕ}
+use Prim.Native.Nat.{ℕ, zero, suc}
 use mathlib.Core.List.{List, map}
 use Rattle.meaning.specs.Token.{Token}
 use Rattle.meaning.specs.Tree.{Expression, number, string, nothing, truth, name, table, entry, operation, call, paren, Procedure}
-use Rattle.meaning.specs.Grammar.{Got, good, wrong}
+use Rattle.meaning.specs.Grammar.{Got, good, wrong, Inside, noLevel, level, ReadExpression, expression}
 use Rattle.names.specs.Prepared.{prepared}
 use Rattle.code.specs.Code.{slotOf, codeOf, codeOfStatements}
 use Rattle.expressions.specs.Words.{Piece, piece}
@@ -35,3 +35,8 @@ pieceOf ts e = piece (codeOf e ts) (targetNumber e)
 
 unfoldable pub headOf : List Token → Procedure → Head
 headOf ts m = record { slots = map (slotOf ts) (m .parameters); code = codeOfStatements (m .body) ts }
+
+-- how the inside of a level is read, where so many are left
+unfoldable pub insideOf : ℕ → List Token → Inside ReadExpression
+insideOf zero ts = noLevel
+insideOf (suc left) ts = level (expression left ts)
