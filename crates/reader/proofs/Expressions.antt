@@ -116,7 +116,8 @@ module _ (ts : List Token) (sane : Sane ts) where
       λ _. maps-good refl
 
   pub operated-maps : {x : Inside Words.ReadPiece} {y : Inside ReadExpression} → Levels (Reads ts) x y
-      → (o : Option Operator) (a : Expression) (j : ℕ) → Maps (pieceOf ts) (Words.operated (tagFor o) x (wordsOf ts) (pieceOf ts a) j) (operated o y ts a j)
+      → (o : Option Operator) (a : Expression) (j : ℕ)
+      → Maps (pieceOf ts) (Words.operated (tagFor o) x (wordsOf ts) (pieceOf ts a) j) (operated o y ts a j)
   unfolding operated Words.operated tagFor if_then_else_ pieceOf codeOf targetNumber
   operated-maps l none a j = maps-good refl
   operated-maps l (some o) a j =

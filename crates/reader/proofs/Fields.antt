@@ -194,7 +194,8 @@ module _ (ts : List Token) (sane : Sane ts) where
       let c = constant-at 2147483647 (omega arith) i e in
       c .0 ∙ sym (plain-bits _ (c .1))
 
-  pub negative-bits : (i : ℕ) → negativeAt ts i ≡ true → Words.minusBits (Words.payloadAt (wordsOf ts) i) ≡ bits (negℤ (pos (numeral (textAt ts i))))
+  pub negative-bits : (i : ℕ) → negativeAt ts i ≡ true
+      → Words.minusBits (Words.payloadAt (wordsOf ts) i) ≡ bits (negℤ (pos (numeral (textAt ts i))))
   negative-bits i e =
       let c = constant-at 2147483648 (omega arith) i e in
       ap Words.minusBits (c .0) ∙ minus-bits _ (c .1)

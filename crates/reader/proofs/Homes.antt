@@ -49,7 +49,8 @@ pub record Found (ts : List Token) (k : ℕ) (x : List ℕ) (i h : ℕ) : Type 0
   pub kind : kindAt ts h ≡ k
   pub text : textAt ts h ≡ x
 
-pub home-found : (ts : List Token) (k : ℕ) (x : List ℕ) (i : ℕ) → k ≢ ending → kindAt ts i ≡ k → textAt ts i ≡ x → Found ts k x i (home ts k x)
+pub home-found : (ts : List Token) (k : ℕ) (x : List ℕ) (i : ℕ) → k ≢ ending → kindAt ts i ≡ k → textAt ts i ≡ x
+    → Found ts k x i (home ts k x)
 unfolding home if_then_else_
 home-found [] k x i k≢ p q = absurd (k≢ (sym p))
 home-found (t ∷ ts) k x zero k≢ p q =
@@ -58,7 +59,8 @@ home-found (t ∷ ts) k x zero k≢ p q =
     rw same here
 home-found (t ∷ ts) k x (suc i) k≢ p q = go (eqb (t .kind) k && sameText (t .text) x) refl (home-found ts k x i k≢ p q)
   where
-    go : (b : Bool) → eqb (t .kind) k && sameText (t .text) x ≡ b → Found ts k x i (home ts k x) → Found (t ∷ ts) k x (suc i) (if b then (λ _. 0) else λ _. suc (home ts k x))
+    go : (b : Bool) → eqb (t .kind) k && sameText (t .text) x ≡ b → Found ts k x i (home ts k x)
+        → Found (t ∷ ts) k x (suc i) (if b then (λ _. 0) else λ _. suc (home ts k x))
     go true e f =
         let both = both-true (eqb (t .kind) k) (sameText (t .text) x) e in
         record { first = zero-le; kind = eqb-true (t .kind) k (both .0); text = same-text (t .text) x (both .1) }

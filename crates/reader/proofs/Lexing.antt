@@ -54,7 +54,8 @@ data Fits (size : ℕ) : Front → Type 0 where
   fits : {k n : ℕ} {w : List ℕ} → k < 256 → length w ≤ size → Fits size (found k n w)
   misses : Fits size nothing
 
-fits-if : (size : ℕ) (b : Bool) (t u : Unit {0} → Front) → (b ≡ true → Fits size (t tt)) → (b ≡ false → Fits size (u tt)) → Fits size (if b then t else u)
+fits-if : (size : ℕ) (b : Bool) (t u : Unit {0} → Front) → (b ≡ true → Fits size (t tt)) → (b ≡ false → Fits size (u tt))
+    → Fits size (if b then t else u)
 unfolding if_then_else_
 fits-if size true t u p q = p refl
 fits-if size false t u p q = q refl
@@ -79,7 +80,7 @@ front-fits size (b ∷ bs) two h =
     λ _. misses
 
 -- ---- all tokens
--- a token that ends before a place and whose text has at most so many bytes
+-- a token that begins before a place and whose text has at most so many bytes
 record Small (end size : ℕ) (t : Token) : Type 0 where
   kind : t .kind < 256
   place : t .place < end
@@ -116,7 +117,8 @@ unfolding starting
 starting-small end size (fits {n = n} k w) at h rest r = prepend-small _ (record { kind = k; place = h; text = w }) (r (n - 1))
 starting-small end size misses at h rest r = bad
 
-scan-small : (end size : ℕ) → 2 ≤ size → (bs : List ℕ) (k at : ℕ) → at + length bs ≤ end → length bs ≤ size → AllOf (Small end size) (scan k at bs)
+scan-small : (end size : ℕ) → 2 ≤ size → (bs : List ℕ) (k at : ℕ) → at + length bs ≤ end → length bs ≤ size
+    → AllOf (Small end size) (scan k at bs)
 unfolding scan if_then_else_
 scan-small end size two [] k at h s = good none
 scan-small end size two (b ∷ bs) (suc k) at h s = scan-small end size two bs k (suc at) (omega arith) (omega arith)

@@ -4,7 +4,7 @@ pub mod Mapped
 pub mod Expressions
 pub mod Yields
 pub mod Known
-pub mod Spans
+pub mod Trees
 pub mod Statements
 pub mod Lexing
 pub mod Walk

@@ -43,7 +43,8 @@ module _ {A B : Type 0} {f : A → B} where
   unfolding if_then_else_
   maps-if b c t u t' u' e p q = rw e (go c p q)
     where
-      go : (d : Bool) → (d ≡ true → Maps f (t' tt) (t tt)) → (d ≡ false → Maps f (u' tt) (u tt)) → Maps f (if d then t' else u') (if d then t else u)
+      go : (d : Bool) → (d ≡ true → Maps f (t' tt) (t tt)) → (d ≡ false → Maps f (u' tt) (u tt))
+          → Maps f (if d then t' else u') (if d then t else u)
       go true p q = p refl
       go false p q = q refl
 

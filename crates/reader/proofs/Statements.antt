@@ -20,7 +20,7 @@ use Rattle.reader.specs.Sane.{Sane}
 use Rattle.reader.proofs.Fields.{is-at, place-at, name-home-at}
 use Rattle.reader.proofs.Mapped.{Maps, Levels, neither, both, maps-good, maps-wrong, maps-if, maps-after, maps-opening, after-after, after-if}
 use Rattle.reader.proofs.Yields.{yielded}
-use Rattle.reader.proofs.Spans.{Names, Spelling, expression-spelled}
+use Rattle.reader.proofs.Trees.{Names, Spelling, expression-spelled}
 use Rattle.reader.proofs.Expressions.{Reads, expect-maps, expression-maps}
 
 -- two readers of statements, the first over words

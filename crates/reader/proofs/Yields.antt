@@ -26,7 +26,8 @@ pub data Inner {I : Type 0} (R : I → Type 0) : Inside I → Type 0 where
   opened : {a : I} → R a → Inner R (level a)
 
 module _ {A : Type 0} {P : A → ℕ → Type 0} where
-  pub yields-if : (c : Bool) (t u : Unit {0} → Got A) → (c ≡ true → Yields P (t tt)) → (c ≡ false → Yields P (u tt)) → Yields P (if c then t else u)
+  pub yields-if : (c : Bool) (t u : Unit {0} → Got A) → (c ≡ true → Yields P (t tt)) → (c ≡ false → Yields P (u tt))
+      → Yields P (if c then t else u)
   unfolding if_then_else_
   yields-if true t u p q = p refl
   yields-if false t u p q = q refl
