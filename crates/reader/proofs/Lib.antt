@@ -1,0 +1,10 @@
+pub mod Homes
+pub mod Fields
+pub mod Mapped
+pub mod Expressions
+pub mod Yields
+pub mod Known
+pub mod Trees
+pub mod Statements
+pub mod Lexing
+pub mod Walk
