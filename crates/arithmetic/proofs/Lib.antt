@@ -1,2 +1,4 @@
+-- What callers' proofs cite.
 pub mod Ranges
-pub mod Held
+-- What this crate's proofs cite.
+mod Held

@@ -1,15 +1,15 @@
--- Bits and integers of 32 bits are the same thing, and what each operation gives is such an integer: at most 2 ^ 31 - 1, at least -2 ^ 31.
-use Prim.Native.Nat.{ℕ, zero, suc, _+_, _-_, _*_, _/_, _%_, _^_, _<_, _≤_}
-use mathlib.Core.Path.{_≡_, refl, ap, sym, _∙_}
+-- Integers of 32 bits are those from -2 ^ 31 to 2 ^ 31 - 1: `mag z < 2 ^ 31`. Their bits tell them apart, and every
+-- operation gives one.
+use Prim.Native.Nat.{ℕ, zero, suc, _+_, _-_, _*_, _/_, _^_, _<_, _≤_}
+use mathlib.Core.Path.{_≡_, refl, ap, _∙_}
 use mathlib.Core.Bool.{Bool, true, false, cond}
 use native.Mathlib.Omega.{arith}
 use native.Mathlib.Nat.{le-refl, le-trans, lt-of-le-of-lt, div-le-self, div-lt-self, mul-le-mul-left}
-use borrow.Author.Tests.{ltb-true, ltb-false}
 use lib.Dec.{ltb}
 use lib.IntN.{ℤ, pos, negsuc, subℕ, negℤ, _+ℤ_, _-ℤ_, _*ℤ_}
-use lib.Signed.{mag, mag-rem, mag-shr, quotZ, remZ, shrZ}
+use lib.Signed.{mag, mag-shr, quotZ, remZ}
 use mir.Syntax.{w32}
-use mir.Val.{toZ, ofZ, Fits, SFits}
+use mir.Val.{toZ, ofZ}
 use mir.ValLaws.{toZ-ofZ, ofZ-toZ, toZ-fits}
 use Rattle.meaning.specs.Integer.{bits, wrap, sum, difference, product, quotient, remainder}
 use Rattle.meaning.specs.Integer.{amount, shiftedLeft, shiftedRight, half}
@@ -20,7 +20,7 @@ unfolding bits
 bits-below (pos n) = omega arith
 bits-below (negsuc n) = omega arith
 
--- the machine's bits of an integer that has 32
+-- of an integer that has 32 bits they are the bits that the machine holds
 pub bits-held : (z : ℤ) → mag z < 2 ^ 31 → bits z ≡ ofZ w32 z
 unfolding bits
 bits-held (pos n) h = omega arith
@@ -43,6 +43,10 @@ wrap-small z = signed-small (bits z) (bits-below z)
 pub wrap-kept : (z : ℤ) → mag z < 2 ^ 31 → wrap z ≡ z
 unfolding wrap
 wrap-kept z h = signed-bits z h
+
+pub bits-wrap : (z : ℤ) → bits (wrap z) ≡ bits z
+unfolding wrap
+bits-wrap z = bits-signed (bits z) (bits-below z)
 
 -- ---- how large sums, products and quotients can be
 difference-bound : (m n : ℕ) → mag (subℕ m n) ≤ m + n
@@ -73,8 +77,10 @@ factors m n h k = le-trans (mul-le-mul-left m k) (let e : m * 2 ^ 31 ≤ 2 ^ 62 
 
 pub product-bound : (a b : ℤ) → mag a < 2 ^ 31 → mag b < 2 ^ 31 → mag (a *ℤ b) ≤ 2 ^ 62
 product-bound (pos a) (pos b) h k = factors a b (omega arith) (omega arith)
-product-bound (pos a) (negsuc b) h k = minus-bound (a * suc b) (2 ^ 62) (omega (arith, factors a (suc b) (omega arith) k))
-product-bound (negsuc a) (pos b) h k = minus-bound (suc a * b) (2 ^ 62) (omega (arith, factors (suc a) b h (omega arith)))
+product-bound (pos a) (negsuc b) h k =
+    minus-bound (a * suc b) (2 ^ 62) (omega (arith, factors a (suc b) (omega arith) k))
+product-bound (negsuc a) (pos b) h k =
+    minus-bound (suc a * b) (2 ^ 62) (omega (arith, factors (suc a) b h (omega arith)))
 product-bound (negsuc a) (negsuc b) h k = factors (suc a) (suc b) h k
 
 -- only a quotient by -1 can be larger than the dividend
@@ -83,9 +89,10 @@ quotient-bound (pos a) (pos b) h = div-le-self a b
 quotient-bound (pos a) (negsuc b) h = minus-bound (a / suc b) a (omega (arith, div-le-self a (suc b)))
 quotient-bound (negsuc a) (pos b) h = minus-bound (suc a / b) a (div-le-self (suc a) b)
 quotient-bound (negsuc a) (negsuc zero) h = absurd (h refl)
-quotient-bound (negsuc a) (negsuc (suc b)) h = omega (arith, div-lt-self {n = suc a} {k = suc (suc b)} (omega arith) (omega arith))
+quotient-bound (negsuc a) (negsuc (suc b)) h =
+    omega (arith, div-lt-self {n = suc a} {k = suc (suc b)} (omega arith) (omega arith))
 
-pub half-bound : (a : ℤ) → mag (half a) ≤ mag a / 2
+half-bound : (a : ℤ) → mag (half a) ≤ mag a / 2
 unfolding half
 half-bound (pos a) = le-refl (a / 2)
 half-bound (negsuc a) = minus-bound (suc a / 2) (a / 2) (omega arith)

@@ -1,7 +1,8 @@
 // Integers of 32 bits: they wrap, division rounds toward zero, a right shift rounds down. Sums, differences and products are
 // computed in 64 bits, where none of them overflows, and their lowest 32 bits kept.
 ghost use mathlib.Core.Path.{_≡_};
-ghost use lib.IntN.{pos, _+ℤ_};
+ghost use mathlib.Core.Bool.{false};
+ghost use lib.IntN.{_+ℤ_};
 ghost use lib.Signed.{ltZ};
 ghost use mir.Syntax.{w32};
 ghost use mir.Val.{toZ};
@@ -61,7 +62,7 @@ pub fn product(a: i32, b: i32) -> i32
 
 // Rounded toward zero. The quotient by -1 is taken apart, since -2147483648 / -1 does not fit.
 pub fn quotient(a: i32, b: i32) -> i32
-    requires { ⌜ (b ≡ pos 0 → ⊥) ⌝ }
+    requires { ⌜ isZero b ≡ false ⌝ }
     ensures { λ r. ⌜ r ≡ quotient a b ⌝ }
 {
     if b == -1 { difference(0, a) } else { a / b }
@@ -69,7 +70,7 @@ pub fn quotient(a: i32, b: i32) -> i32
 
 // With the dividend's sign.
 pub fn remainder(a: i32, b: i32) -> i32
-    requires { ⌜ (b ≡ pos 0 → ⊥) ⌝ }
+    requires { ⌜ isZero b ≡ false ⌝ }
     ensures { λ r. ⌜ r ≡ remainder a b ⌝ }
 {
     if b == -1 { 0 } else { a % b }

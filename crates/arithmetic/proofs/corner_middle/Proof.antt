@@ -10,7 +10,10 @@ sum-requires : tie.Need-sum-requires
 sum-requires c κs = search needs
 
 returns : tie.Need-returns
-returns c = let z = c .before .before in corner-is (z .fits .x) (z .fits .w) (c .before .half .ok) (c .sum .ok) (c .before .half .ensures) (c .sum .ensures)
+returns c =
+    let z = c .before .before .fits in
+    let h = c .before .half in
+    corner-is (z .x) (z .w) (h .ok) (c .sum .ok) (h .ensures) (c .sum .ensures)
 
 pub corner-middle-spec : {M : Type 1} → statement M
 corner-middle-spec = tie.close (tie.spec half-requires sum-requires returns)

@@ -19,7 +19,9 @@ wrapped-requires c κs = search needs
 
 returns : tie.Need-returns
 unfolding difference
-returns c = wide-wraps _-ℤ_ differences-fit (c .before .fits .a) (c .before .fits .b) (c .wrapped .ok) (c .wrapped .ensures)
+returns c =
+    let z = c .before .fits in
+    wide-wraps _-ℤ_ differences-fit (z .a) (z .b) (c .wrapped .ok) (c .wrapped .ensures)
 
 pub difference-spec : {M : Type 1} → statement M
 difference-spec = tie.close (tie.spec cast-wrapped cast-wrapped-2 sub-wrapped wrapped-requires returns)

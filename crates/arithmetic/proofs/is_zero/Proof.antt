@@ -1,4 +1,3 @@
-use Prim.Native.Nat.{zero}
 use lib.IntN.{pos}
 use mir.Facts.{sfits-lit}
 use Rattle.arithmetic.proofs.Held.{same-is}

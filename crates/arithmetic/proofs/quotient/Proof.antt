@@ -1,5 +1,5 @@
 use borrow.Author.Needs.{needs}
-use Rattle.arithmetic.proofs.Held.{divides, quotient-turns, quotient-is}
+use Rattle.arithmetic.proofs.Held.{divides, quotient-negates, quotient-is}
 use Rattle.arithmetic.proofs.quotient.Statement.{statement}
 use Rattle.arithmetic.proofs.quotient.Tie as tie
 
@@ -10,7 +10,9 @@ div-result : tie.Need-div-result
 div-result c = divides (c .before .fits .a) (c .before .fits .b) (c .if1 .left) (c .before .pre)
 
 returns : tie.Need-returns
-returns c = let z = c .before .before in quotient-turns (z .fits .a) (z .fits .b) (c .before .if1 .taken) (c .difference .ok) (c .difference .ensures)
+returns c =
+    let z = c .before .before .fits in
+    quotient-negates (z .a) (z .b) (c .before .if1 .taken) (c .difference .ok) (c .difference .ensures)
 
 returns-2 : tie.Need-returns-2
 returns-2 c = quotient-is (c .before .fits .a) (c .before .fits .b) (c .if1 .left)

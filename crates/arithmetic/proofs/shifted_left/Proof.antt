@@ -16,7 +16,9 @@ shl-result : tie.Need-shl-result
 shl-result c = amount-below _ (c .shift-amount .ensures)
 
 returns : tie.Need-returns
-returns c = left-is _ (c .shift-amount .ensures ∙ ap amount (toZ-ofZ (c .before .fits .b))) (c .before .fits .a)
+returns c =
+    let z = c .before .fits in
+    left-is _ (c .shift-amount .ensures ∙ ap amount (toZ-ofZ (z .b))) (z .a)
 
 pub shifted-left-spec : {M : Type 1} → statement M
 shifted-left-spec = tie.close (tie.spec shift-amount-requires cast-result shl-result returns)

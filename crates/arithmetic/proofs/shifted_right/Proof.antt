@@ -16,7 +16,9 @@ shr-result : tie.Need-shr-result
 shr-result c = amount-below _ (c .shift-amount .ensures)
 
 returns : tie.Need-returns
-returns c = right-is _ (c .shift-amount .ensures ∙ ap amount (toZ-ofZ (c .before .fits .b))) (c .before .fits .a)
+returns c =
+    let z = c .before .fits in
+    right-is _ (c .shift-amount .ensures ∙ ap amount (toZ-ofZ (z .b))) (z .a)
 
 pub shifted-right-spec : {M : Type 1} → statement M
 shifted-right-spec = tie.close (tie.spec shift-amount-requires cast-result shr-result returns)

@@ -19,7 +19,9 @@ wrapped-requires c κs = search needs
 
 returns : tie.Need-returns
 unfolding sum
-returns c = wide-wraps _+ℤ_ sums-fit (c .before .fits .a) (c .before .fits .b) (c .wrapped .ok) (c .wrapped .ensures)
+returns c =
+    let z = c .before .fits in
+    wide-wraps _+ℤ_ sums-fit (z .a) (z .b) (c .wrapped .ok) (c .wrapped .ensures)
 
 pub sum-spec : {M : Type 1} → statement M
 sum-spec = tie.close (tie.spec cast-wrapped cast-wrapped-2 add-wrapped wrapped-requires returns)

@@ -4,6 +4,7 @@ use mir.Val.{toZ}
 use mir.Facts.{toZ-ofZ}
 use Rattle.meaning.specs.Integer.{bits, wrap}
 use borrow.Author.Needs.{needs}
+use Rattle.arithmetic.proofs.Held.{given}
 use Rattle.arithmetic.proofs.wrapped.Statement.{statement}
 use Rattle.arithmetic.proofs.wrapped.Tie as tie
 
@@ -15,7 +16,9 @@ signed-of-requires c κs = search needs
 
 returns : tie.Need-returns
 unfolding wrap
-returns c = toZ-ofZ (record { sfits = c .signed-of .ok }) ∙ c .signed-of .ensures ∙ ap (toZ w32) (c .before .low-bits .ensures ∙ ap bits (toZ-ofZ (c .before .before .fits .z)))
+returns c =
+    let e = c .before .low-bits .ensures ∙ ap bits (toZ-ofZ (c .before .before .fits .z)) in
+    given (c .signed-of .ok) ∙ c .signed-of .ensures ∙ ap (toZ w32) e
 
 pub wrapped-spec : {M : Type 1} → statement M
 wrapped-spec = tie.close (tie.spec low-bits-requires signed-of-requires returns)
