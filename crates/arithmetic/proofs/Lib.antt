@@ -1,0 +1,4 @@
+-- What callers' proofs cite.
+pub mod Ranges
+-- What this crate's proofs cite.
+mod Held
