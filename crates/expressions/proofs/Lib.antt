@@ -1,0 +1,4 @@
+pub mod Paid
+pub mod Answers
+mod Primaries
+mod Moves
