@@ -2,3 +2,4 @@ pub mod Paid
 pub mod Answers
 mod Primaries
 mod Moves
+mod Going
