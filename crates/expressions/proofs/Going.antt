@@ -1,6 +1,6 @@
 -- The loop over arguments: what is left from the start is what is left from here.
 -- Assumes nothing.
-use Prim.Native.Nat.{ℕ, zero, suc, _+_, _-_, _<_, _≤_}
+use Prim.Native.Nat.{ℕ, zero, suc, _+_, _-_, _^_, _<_, _≤_}
 use mathlib.Core.Path.{_≡_, _∙_, refl, sym, ap, subst}
 use mathlib.Core.Bool.{Bool, true, false}
 use mathlib.Core.List.{List, [], _∷_, _++_, append-assoc, append-nil}
@@ -16,7 +16,7 @@ use Rattle.expressions.specs.declared.Read.{Read}
 use Rattle.expressions.specs.declared.Read.the-variants.{At, Wrong}
 use Rattle.expressions.specs.Words.{kindAt, is, Piece, piece, ReadPiece, expect, argumentCode, argumentsFrom, arguments, expression, Seen, at, failed, seen, written, writtenCode}
 use Rattle.expressions.specs.Room.{Room}
-use Rattle.expressions.proofs.Paid.{token-inside, Paid, expression-paid}
+use Rattle.expressions.proofs.Paid.{Paid, expression-paid}
 use Rattle.expressions.proofs.Answers.{take-put-before, Wrote, wrote, erred}
 
 -- ---- rounds
@@ -66,12 +66,13 @@ arguments-none left ws i n s kind k e =
 pub record Going (left : ℕ) (ws : List ℕ) (i n : ℕ) (s₀ : List ℕ) (p m : ℕ) (s : List ℕ) : Type 0 where
   pub same : writtenCode (arguments (expression left ws) ws i) n s₀ ≡ writtenCode (rest left ws p) m s
   pub ahead : i ≤ p
+  pub fits : p < 2 ^ 64
   pub room : Room ws s p (m + 1)
   pub kept : length s ≡ length s₀
 
-pub going-starts : (left : ℕ) (ws : List ℕ) (i n : ℕ) (s : List ℕ) (kind : ℕ) → kind ≡ kindAt ws i → (kind ≡ 41 → ⊥) → Room ws s i (n + 1) → Going left ws i n s i n s
+pub going-starts : (left : ℕ) (ws : List ℕ) (i n : ℕ) (s : List ℕ) (kind : ℕ) → kind ≡ kindAt ws i → (kind ≡ 41 → ⊥) → i < 2 ^ 64 → Room ws s i (n + 1) → Going left ws i n s i n s
 unfolding arguments if_then_else_ rest
-going-starts left ws i n s kind k h o = record { same = rw (← k, ne-eqb _ _ h); ahead = omega arith; room = o; kept = refl }
+going-starts left ws i n s kind k h f o = record { same = rw (← k, ne-eqb _ _ h); ahead = omega arith; fits = f; room = o; kept = refl }
 
 -- a list put before what is read
 shifted : (g : Got (List ℕ)) (c s s₂ : List ℕ) (m q : ℕ) → q ≡ m + length c → take q s₂ ≡ take m s ++ c
@@ -133,6 +134,7 @@ module _ (left : ℕ) (ws : List ℕ) (i n : ℕ) (s₀ : List ℕ) (p m : ℕ) 
           record {
             same = g .same ∙ r;
             ahead = omega (arith, g .ahead, z .ahead);
+            fits = omega (arith, z .within, o .short);
             room = record { behind = z .paid; wide = omega (arith, o .wide); short = o .short };
             kept = omega (arith, g .kept)
           }

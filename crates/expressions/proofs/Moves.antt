@@ -17,7 +17,8 @@ use Rattle.expressions.specs.declared.Read.the-variants.{At, Wrong}
 use Rattle.expressions.specs.Words.{kindAt, placeAt, homeAt, libraryAt, partAt, is, operatorTag, Piece, piece, leaf, ReadPiece, expect, arguments, callCode, tableCode, primary, operand, operated, expressionIn, expression, insideOf, Seen, at, failed, seen, written, writtenCode}
 use Rattle.expressions.specs.Room.{Room, Spot, Spare}
 use Rattle.expressions.specs.Steps.{closed, finished, combined}
-use Rattle.expressions.proofs.Paid.{chosen, token-inside, Paid, PaidAll, primary-paid, operand-paid, expression-paid, arguments-paid, joined-size, expression-levels, inside-levels, inside-none}
+use Rattle.expressions.proofs.Tokens.{token-inside, operator-small, library-small}
+use Rattle.expressions.proofs.Paid.{Paid, PaidAll, primary-paid, operand-paid, expression-paid, arguments-paid, joined-size, expression-levels, inside-levels, inside-none}
 use Rattle.expressions.proofs.Answers.{Wrote, WroteCode, wrote, wrote-code, erred, erred-code}
 use Rattle.expressions.proofs.Primaries.{primary-string, primary-none, primary-true, primary-false, primary-name, primary-call, primary-paren, primary-table, primary-other, primary-constant, primary-signed}
 
@@ -162,22 +163,6 @@ spare-both code ws s₀ s₂ g s i n j m tag b o p h l small pays y = record {
     omega (arith, w .upTo, p₂ .paid, p₂ .within, p .paid, p .some, o .behind, o .wide, o .short)
 }
 
-pub operator-small : (kind : ℕ) → operatorTag kind < 256
-unfolding operatorTag
-operator-small k =
-    chosen (λ t. t < 256) (eqb k 171) _ _ (λ _. omega arith) λ _.
-    chosen (λ t. t < 256) (eqb k 43) _ _ (λ _. omega arith) λ _.
-    chosen (λ t. t < 256) (eqb k 45) _ _ (λ _. omega arith) λ _.
-    chosen (λ t. t < 256) (eqb k 42) _ _ (λ _. omega arith) λ _.
-    chosen (λ t. t < 256) (eqb k 47) _ _ (λ _. omega arith) λ _.
-    chosen (λ t. t < 256) (eqb k 37) _ _ (λ _. omega arith) λ _.
-    chosen (λ t. t < 256) (eqb k 190) _ _ (λ _. omega arith) λ _.
-    chosen (λ t. t < 256) (eqb k 188) _ _ (λ _. omega arith) λ _.
-    chosen (λ t. t < 256) (eqb k 189) _ _ (λ _. omega arith) λ _.
-    chosen (λ t. t < 256) (eqb k 161) _ _ (λ _. omega arith) λ _.
-    chosen (λ t. t < 256) (eqb k 62) _ _ (λ _. omega arith) λ _.
-    chosen (λ t. t < 256) (eqb k 60) _ _ (λ _. omega arith) λ _. omega arith
-
 -- behind a first part that ends at token j and word m
 pub record Next (ws s : List ℕ) (i j m : ℕ) : Type 0 where
   pub room : Room ws s (j + 1) m
@@ -217,15 +202,6 @@ pub spot-at : (ws s : List ℕ) (i n kind tag x : ℕ) → Room ws s i n → kin
 spot-at ws s i n kind tag x o k h l m =
     let w = token-inside ws i kind (sym k) h in
     record { behind = o .behind; inside = omega (arith, o .wide); smallTag = l; smallNumber = m }
-
-pub part-small : (ws : List ℕ) (i x : ℕ) → x ≡ partAt ws i → x < 4294967296
-part-small ws i x e = omega arith
-
-pub home-small : (ws : List ℕ) (i x : ℕ) → x ≡ homeAt ws i → x < 4294967296
-home-small ws i x e = omega arith
-
-pub library-small : (ws : List ℕ) (i x : ℕ) → getD ws i 0 < 2 ^ 64 → x ≡ libraryAt ws i → x < 4294967296
-library-small ws i x h e = omega arith
 
 -- ---- primaries
 module _ (left : ℕ) (ws : List ℕ) (i n : ℕ) (s₀ s : List ℕ) (r : Read) (kind : ℕ) (k : kind ≡ kindAt ws i) where

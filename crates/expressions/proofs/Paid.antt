@@ -5,45 +5,19 @@ use mathlib.Core.Path.{_≡_, refl, sym, ap, subst}
 use mathlib.Core.Bool.{Bool, true, false, _&&_}
 use mathlib.Core.List.{List, [], _∷_, _++_}
 use native.Mathlib.Omega.{arith}
-use borrow.Author.Tests.{eqb-true, ltb-true, ltb-false}
-use lib.Dec.{eqb, ltb, leb}
-use lib.ListN.{length, getD, length-append, List·getD-eq-default}
+use borrow.Author.Tests.{eqb-true}
+use lib.Dec.{eqb}
+use lib.ListN.{length, length-append}
 use Rattle.meaning.specs.Basics.{if_then_else_}
 use Rattle.meaning.specs.Token.{dot, comma, closeParen, closeBracket}
 use Rattle.meaning.specs.Grammar.{Got, good, wrong, after, Inside, noLevel, level, opening}
 use Rattle.code.specs.Code.{joined}
 use Rattle.expressions.specs.Words.{kindAt, libraryAt, is, positiveAt, signedAt, negativeAt, operatorTag, Piece, piece, ReadPiece, expect, argumentCode, argumentsFrom, arguments, callCode, tableCode, primary, operand, operated, expressionIn, expression, insideOf}
+use Rattle.expressions.proofs.Tokens.{chosen, both-left, token-inside}
 
--- ---- choices
--- what holds on both sides holds of a choice
-pub chosen : {A : Type 0} (P : A → Type 0) (b : Bool) (x y : Unit {0} → A) → (b ≡ true → P (x tt)) → (b ≡ false → P (y tt)) → P (if b then x else y)
-unfolding if_then_else_
-chosen P true x y f g = f refl
-chosen P false x y f g = g refl
-
-pub both-left : (a b : Bool) → (a && b) ≡ true → a ≡ true
-both-left true b e = refl
-both-left false b e = e
-
-pub both-right : (a b : Bool) → (a && b) ≡ true → b ≡ true
-both-right true b e = e
-both-right false b e = let z : _≡_ {A = ℕ} 0 1 = cc in absurd (omega arith)
-
--- ---- tokens
--- behind the last token a kind is 0
-pub token-inside : (ws : List ℕ) (i k : ℕ) → kindAt ws i ≡ k → (k ≡ 0 → ⊥) → i < length ws
-token-inside ws i k e h = go (ltb i (length ws)) refl
-  where
-    go : (b : Bool) → ltb i (length ws) ≡ b → i < length ws
-    go true l = ltb-true _ _ l
-    go false l = let q : getD ws i 0 ≡ 0 = List·getD-eq-default ws 0 (ltb-false _ _ l) in absurd (h (omega arith))
-
+-- what has a kind is a token
 kind-inside : (ws : List ℕ) (i k : ℕ) → (suc k) < 256 → is (suc k) ws i ≡ true → i < length ws
 kind-inside ws i k l e = token-inside ws i (suc k) (eqb-true _ _ e) (λ z. omega arith)
-
-pub operator-inside : (ws : List ℕ) (j : ℕ) → (operatorTag (kindAt ws j) ≡ 0 → ⊥) → j < length ws
-unfolding operatorTag if_then_else_
-operator-inside ws j h = token-inside ws j _ refl (λ e. h (ap operatorTag e))
 
 -- ---- what is read
 -- read with a size of at least so many words

@@ -1,4 +1,14 @@
-use Prim.Native.Nat.{ℕ, _<_}
+-- Expressions, operands, primaries and arguments meet their contracts: each way is one law. The measures are the tokens left, and then the rank.
+-- Assumes nothing.
+use Prim.Native.Nat.{ℕ, _<_, _+_, _-_, _*_}
+use mathlib.Core.Path.{_∙_, sym}
+use denote.Ref.{now}
+use lib.ListN.{length}
+use native.Mathlib.Omega.{arith}
+use borrow.Author.Needs.{needs}
+use Rattle.expressions.proofs.Tokens.{room-inside, part-small, home-small}
+use Rattle.expressions.proofs.Moves.{expression-wrong, expression-one, expression-two, operand-wrong, operand-one, operand-two, operand-next, primary-next, operand-spare, primary-spare, spot-at, call-spare, table-spare, reads-digits, reads-negative, reads-string, reads-none, reads-true, reads-false, reads-name, reads-call, reads-paren, reads-table, reads-no-call, reads-no-paren, reads-no-table, reads-other}
+use Rattle.expressions.proofs.Going.{Going, arguments-none, going-starts, going-fails, turned, going-on, going-ends, going-stops}
 use borrow.Fn.Kinds.{In}
 use borrow.Fn.PlainCycle.{Measures, is, falls, and}
 use Rattle.expressions.proofs.read_arguments.Reads as read-arguments
@@ -34,16 +44,16 @@ use Rattle.expressions.proofs.+read_arguments+read_expression+read_oper
 }
 
 abbrev μ-read-arguments : Measures 2 read-arguments-kinds.ps ℕ
-μ-read-arguments κs a = ?
+μ-read-arguments κs a = 4 * (length (a .0 .now) - a .1 .1 .0) + 3
 
 abbrev μ-read-expression : Measures 2 read-expression-kinds.ps ℕ
-μ-read-expression κs a = ?
+μ-read-expression κs a = 4 * (length (a .0 .now) - a .1 .1 .0) + 2
 
 abbrev μ-read-operand : Measures 2 read-operand-kinds.ps ℕ
-μ-read-operand κs a = ?
+μ-read-operand κs a = 4 * (length (a .0 .now) - a .1 .1 .0) + 1
 
 abbrev μ-read-primary : Measures 2 read-primary-kinds.ps ℕ
-μ-read-primary κs a = ?
+μ-read-primary κs a = 4 * (length (a .0 .now) - a .1 .1 .0) + 0
 
 abbrev read-arguments-at : ℕ → In 2 read-arguments-kinds.ps
 read-arguments-at t =
@@ -102,10 +112,10 @@ read-primary-below t =
     read-primary.Pre
 
 abbrev read-arguments-Inv-loop : read-arguments-lts.InvT-loop
-read-arguments-Inv-loop tokens words₀ i n left at₀ m₀ words at m = ?
+read-arguments-Inv-loop tokens words₀ i n left at₀ m₀ words at m = Going left tokens i n words₀ at m words
 
 abbrev read-arguments-μ-loop : read-arguments-lts.MeasureT-loop
-read-arguments-μ-loop tokens words₀ i n left at₀ m₀ words at m = ?
+read-arguments-μ-loop tokens words₀ i n left at₀ m₀ words at m = length tokens - at
 
 -- src/lib.rt:191:8
 read-arguments-kind-at-requires : (t : ℕ) → read-arguments-lts.Need-kind-at-requires (
@@ -118,7 +128,7 @@ read-arguments-kind-at-requires : (t : ℕ) → read-arguments-lts.Need-kind-at-
   put-reads.Asked,
   put-reads.Learnt,
 ) (read-arguments-at t) read-arguments.Post read-arguments-Inv-loop read-arguments-μ-loop
-read-arguments-kind-at-requires t c κs = ?
+read-arguments-kind-at-requires t c κs = search needs
 
 -- src/lib.rt:192:25
 read-arguments-add-t16 : (t : ℕ) → read-arguments-lts.Need-add-t16 (
@@ -131,7 +141,7 @@ read-arguments-add-t16 : (t : ℕ) → read-arguments-lts.Need-add-t16 (
   put-reads.Asked,
   put-reads.Learnt,
 ) (read-arguments-at t) read-arguments.Post read-arguments-Inv-loop read-arguments-μ-loop
-read-arguments-add-t16 t c = ?
+read-arguments-add-t16 t c = omega (arith, room-inside _ _ _ _ _ (c .before .before .before .before .pre .1) (sym (c .before .kind-at .ensures)) (λ z. omega (arith, c .if1 .taken)), c .before .before .before .before .pre .1 .short)
 
 -- src/lib.rt:192:9
 read-arguments-returns : (t : ℕ) → read-arguments-lts.Need-returns (
@@ -144,7 +154,7 @@ read-arguments-returns : (t : ℕ) → read-arguments-lts.Need-returns (
   put-reads.Asked,
   put-reads.Learnt,
 ) (read-arguments-at t) read-arguments.Post read-arguments-Inv-loop read-arguments-μ-loop
-read-arguments-returns t c = ?
+read-arguments-returns t c = arguments-none _ _ _ _ _ _ (c .before .kind-at .ensures) (c .if1 .taken)
 
 -- src/lib.rt:196:5
 read-arguments-loop-holds : (t : ℕ) → read-arguments-lts.Need-loop-holds (
@@ -157,7 +167,7 @@ read-arguments-loop-holds : (t : ℕ) → read-arguments-lts.Need-loop-holds (
   put-reads.Asked,
   put-reads.Learnt,
 ) (read-arguments-at t) read-arguments.Post read-arguments-Inv-loop read-arguments-μ-loop
-read-arguments-loop-holds t c = ?
+read-arguments-loop-holds t c = going-starts _ _ _ _ _ _ (c .before .kind-at .ensures) (c .if1 .left) (c .before .before .before .before .fits .i .fits) (c .before .before .before .before .pre .1)
 
 -- src/lib.rt:197:52
 read-arguments-add-read-expression : (t : ℕ) → read-arguments-lts.Need-add-read-expression (
@@ -170,7 +180,9 @@ read-arguments-add-read-expression : (t : ℕ) → read-arguments-lts.Need-add-r
   put-reads.Asked,
   put-reads.Learnt,
 ) (read-arguments-at t) read-arguments.Post read-arguments-Inv-loop read-arguments-μ-loop
-read-arguments-add-read-expression t c = ?
+read-arguments-add-read-expression t c = 
+    let g = c .before .loop .inv in
+    omega (arith, g .fits, g .room .behind)
 
 -- src/lib.rt:197:13
 read-arguments-read-expression-requires :
@@ -184,7 +196,7 @@ read-arguments-read-expression-requires :
       put-reads.Asked,
       put-reads.Learnt,
     ) (read-arguments-at t) read-arguments.Post read-arguments-Inv-loop read-arguments-μ-loop
-read-arguments-read-expression-requires t c κs = ?
+read-arguments-read-expression-requires t c κs = (omega (arith, c .before .loop .inv .ahead, c .before .before .before .before .before .before .pre .0), c .before .loop .inv .room)
 
 -- src/lib.rt:199:25
 read-arguments-enum-known-e : (t : ℕ) → read-arguments-lts.Need-enum-known-e (
@@ -197,7 +209,7 @@ read-arguments-enum-known-e : (t : ℕ) → read-arguments-lts.Need-enum-known-e
   put-reads.Asked,
   put-reads.Learnt,
 ) (read-arguments-at t) read-arguments.Post read-arguments-Inv-loop read-arguments-μ-loop
-read-arguments-enum-known-e t c = ?
+read-arguments-enum-known-e t c = search needs
 
 -- src/lib.rt:199:34
 read-arguments-same-length : (t : ℕ) → read-arguments-lts.Need-same-length (
@@ -210,7 +222,7 @@ read-arguments-same-length : (t : ℕ) → read-arguments-lts.Need-same-length (
   put-reads.Asked,
   put-reads.Learnt,
 ) (read-arguments-at t) read-arguments.Post read-arguments-Inv-loop read-arguments-μ-loop
-read-arguments-same-length t c = ?
+read-arguments-same-length t c = omega (arith, c .before .before .before .before .before .before .before .loop .inv .kept, c .before .before .before .before .before .read-expression .kept .1 .0)
 
 -- src/lib.rt:199:34
 read-arguments-returns-2 : (t : ℕ) → read-arguments-lts.Need-returns-2 (
@@ -223,7 +235,7 @@ read-arguments-returns-2 : (t : ℕ) → read-arguments-lts.Need-returns-2 (
   put-reads.Asked,
   put-reads.Learnt,
 ) (read-arguments-at t) read-arguments.Post read-arguments-Inv-loop read-arguments-μ-loop
-read-arguments-returns-2 t c = ?
+read-arguments-returns-2 t c = going-fails _ _ _ _ _ _ _ _ (c .before .before .before .before .before .before .before .loop .inv) _ _ (c .before .before .before .before .before .read-expression .ensures) _ _ (c .before .e .given .1)
 
 -- src/lib.rt:200:22
 read-arguments-enum-known-e-2 : (t : ℕ) → read-arguments-lts.Need-enum-known-e-2 (
@@ -236,7 +248,7 @@ read-arguments-enum-known-e-2 : (t : ℕ) → read-arguments-lts.Need-enum-known
   put-reads.Asked,
   put-reads.Learnt,
 ) (read-arguments-at t) read-arguments.Post read-arguments-Inv-loop read-arguments-μ-loop
-read-arguments-enum-known-e-2 t c = ?
+read-arguments-enum-known-e-2 t c = search needs
 
 -- src/lib.rt:201:55
 read-arguments-sub-word-of : (t : ℕ) → read-arguments-lts.Need-sub-word-of (
@@ -249,7 +261,9 @@ read-arguments-sub-word-of : (t : ℕ) → read-arguments-lts.Need-sub-word-of (
   put-reads.Asked,
   put-reads.Learnt,
 ) (read-arguments-at t) read-arguments.Post read-arguments-Inv-loop read-arguments-μ-loop
-read-arguments-sub-word-of t c = ?
+read-arguments-sub-word-of t c = 
+    let x = turned _ _ _ _ _ _ _ _ (c .before .before .before .before .before .before .before .before .loop .inv) _ _ (c .before .before .before .before .before .before .read-expression .ensures) _ _ _ (c .before .before .e2 .given .1) (c .before .before .before .before .before .before .read-expression .kept .1 .0) in
+    omega (arith, x .some)
 
 -- src/lib.rt:201:55
 read-arguments-sub-word-of-2 : (t : ℕ) → read-arguments-lts.Need-sub-word-of-2 (
@@ -262,7 +276,9 @@ read-arguments-sub-word-of-2 : (t : ℕ) → read-arguments-lts.Need-sub-word-of
   put-reads.Asked,
   put-reads.Learnt,
 ) (read-arguments-at t) read-arguments.Post read-arguments-Inv-loop read-arguments-μ-loop
-read-arguments-sub-word-of-2 t c = ?
+read-arguments-sub-word-of-2 t c = 
+    let x = turned _ _ _ _ _ _ _ _ (c .before .before .before .before .before .before .before .before .loop .inv) _ _ (c .before .before .before .before .before .before .read-expression .ensures) _ _ _ (c .before .before .e2 .given .1) (c .before .before .before .before .before .before .read-expression .kept .1 .0) in
+    omega (arith, x .some)
 
 -- src/lib.rt:201:37
 read-arguments-word-of-requires : (t : ℕ) → read-arguments-lts.Need-word-of-requires (
@@ -275,7 +291,9 @@ read-arguments-word-of-requires : (t : ℕ) → read-arguments-lts.Need-word-of-
   put-reads.Asked,
   put-reads.Learnt,
 ) (read-arguments-at t) read-arguments.Post read-arguments-Inv-loop read-arguments-μ-loop
-read-arguments-word-of-requires t c κs = ?
+read-arguments-word-of-requires t c κs = 
+    let x = turned _ _ _ _ _ _ _ _ (c .before .before .before .before .before .before .before .before .loop .inv) _ _ (c .before .before .before .before .before .before .read-expression .ensures) _ _ _ (c .before .before .e2 .given .1) (c .before .before .before .before .before .before .read-expression .kept .1 .0) in
+    omega (arith, x .some, x .size)
 
 -- src/lib.rt:201:17
 read-arguments-put-requires : (t : ℕ) → read-arguments-lts.Need-put-requires (
@@ -288,7 +306,7 @@ read-arguments-put-requires : (t : ℕ) → read-arguments-lts.Need-put-requires
   put-reads.Asked,
   put-reads.Learnt,
 ) (read-arguments-at t) read-arguments.Post read-arguments-Inv-loop read-arguments-μ-loop
-read-arguments-put-requires t c κs = ?
+read-arguments-put-requires t c κs = search needs
 
 -- src/lib.rt:202:21
 read-arguments-kind-at-requires-2 : (t : ℕ) → read-arguments-lts.Need-kind-at-requires-2 (
@@ -301,7 +319,7 @@ read-arguments-kind-at-requires-2 : (t : ℕ) → read-arguments-lts.Need-kind-a
   put-reads.Asked,
   put-reads.Learnt,
 ) (read-arguments-at t) read-arguments.Post read-arguments-Inv-loop read-arguments-μ-loop
-read-arguments-kind-at-requires-2 t c κs = ?
+read-arguments-kind-at-requires-2 t c κs = search needs
 
 -- src/lib.rt:204:37
 read-arguments-add-t28 : (t : ℕ) → read-arguments-lts.Need-add-t28 (
@@ -314,7 +332,9 @@ read-arguments-add-t28 : (t : ℕ) → read-arguments-lts.Need-add-t28 (
   put-reads.Asked,
   put-reads.Learnt,
 ) (read-arguments-at t) read-arguments.Post read-arguments-Inv-loop read-arguments-μ-loop
-read-arguments-add-t28 t c = ?
+read-arguments-add-t28 t c = 
+    let x = turned _ _ _ _ _ _ _ _ (c .before .before .before .before .before .before .before .before .before .before .before .before .before .before .loop .inv) _ _ (c .before .before .before .before .before .before .before .before .before .before .before .before .read-expression .ensures) _ _ _ (c .before .before .before .before .before .before .before .before .e2 .given .1) (c .before .before .before .before .before .before .before .before .before .before .before .before .read-expression .kept .1 .0) in
+    omega (arith, x .within, c .before .before .before .before .before .before .before .before .before .before .before .before .before .before .loop .inv .room .short)
 
 -- src/lib.rt:204:21
 read-arguments-same-length-2 : (t : ℕ) → read-arguments-lts.Need-same-length-2 (
@@ -327,7 +347,7 @@ read-arguments-same-length-2 : (t : ℕ) → read-arguments-lts.Need-same-length
   put-reads.Asked,
   put-reads.Learnt,
 ) (read-arguments-at t) read-arguments.Post read-arguments-Inv-loop read-arguments-μ-loop
-read-arguments-same-length-2 t c = ?
+read-arguments-same-length-2 t c = omega (arith, c .before .before .before .before .before .before .before .before .before .before .before .before .before .before .loop .inv .kept, c .before .before .before .before .before .before .before .before .before .before .before .before .read-expression .kept .1 .0)
 
 -- src/lib.rt:204:21
 read-arguments-returns-3 : (t : ℕ) → read-arguments-lts.Need-returns-3 (
@@ -340,7 +360,7 @@ read-arguments-returns-3 : (t : ℕ) → read-arguments-lts.Need-returns-3 (
   put-reads.Asked,
   put-reads.Learnt,
 ) (read-arguments-at t) read-arguments.Post read-arguments-Inv-loop read-arguments-μ-loop
-read-arguments-returns-3 t c = ?
+read-arguments-returns-3 t c = going-ends _ _ _ _ _ _ _ _ (c .before .before .before .before .before .before .before .before .before .before .before .before .before .before .loop .inv) _ _ (c .before .before .before .before .before .before .before .before .before .before .before .before .read-expression .ensures) _ _ _ (c .before .before .before .before .before .before .before .before .e2 .given .1) (c .before .before .before .before .before .before .before .before .before .before .before .before .read-expression .kept .1 .0) _ _ _ (c .before .before .before .before .before .word-of .ensures) (c .before .before .before .before .put .ensures) (c .before .kind-at2 .ensures) (c .if2 .taken)
 
 -- src/lib.rt:207:21
 read-arguments-same-length-3 : (t : ℕ) → read-arguments-lts.Need-same-length-3 (
@@ -353,7 +373,7 @@ read-arguments-same-length-3 : (t : ℕ) → read-arguments-lts.Need-same-length
   put-reads.Asked,
   put-reads.Learnt,
 ) (read-arguments-at t) read-arguments.Post read-arguments-Inv-loop read-arguments-μ-loop
-read-arguments-same-length-3 t c = ?
+read-arguments-same-length-3 t c = omega (arith, c .before .before .before .before .before .before .before .before .before .before .before .before .before .before .before .loop .inv .kept, c .before .before .before .before .before .before .before .before .before .before .before .before .before .read-expression .kept .1 .0)
 
 -- src/lib.rt:207:21
 read-arguments-returns-4 : (t : ℕ) → read-arguments-lts.Need-returns-4 (
@@ -366,7 +386,7 @@ read-arguments-returns-4 : (t : ℕ) → read-arguments-lts.Need-returns-4 (
   put-reads.Asked,
   put-reads.Learnt,
 ) (read-arguments-at t) read-arguments.Post read-arguments-Inv-loop read-arguments-μ-loop
-read-arguments-returns-4 t c = ?
+read-arguments-returns-4 t c = going-stops _ _ _ _ _ _ _ _ (c .before .before .before .before .before .before .before .before .before .before .before .before .before .before .before .loop .inv) _ _ (c .before .before .before .before .before .before .before .before .before .before .before .before .before .read-expression .ensures) _ _ _ (c .before .before .before .before .before .before .before .before .before .e2 .given .1) (c .before .before .before .before .before .before .before .before .before .before .before .before .before .read-expression .kept .1 .0) _ _ _ (c .before .before .before .before .before .before .word-of .ensures) (c .before .before .before .before .before .put .ensures) (c .before .before .kind-at2 .ensures) (c .before .if2 .left) (c .if3 .taken)
 
 -- src/lib.rt:209:22
 read-arguments-add-at : (t : ℕ) → read-arguments-lts.Need-add-at (
@@ -379,7 +399,9 @@ read-arguments-add-at : (t : ℕ) → read-arguments-lts.Need-add-at (
   put-reads.Asked,
   put-reads.Learnt,
 ) (read-arguments-at t) read-arguments.Post read-arguments-Inv-loop read-arguments-μ-loop
-read-arguments-add-at t c = ?
+read-arguments-add-at t c = 
+    let x = turned _ _ _ _ _ _ _ _ (c .before .before .before .before .before .before .before .before .before .before .before .before .before .before .before .loop .inv) _ _ (c .before .before .before .before .before .before .before .before .before .before .before .before .before .read-expression .ensures) _ _ _ (c .before .before .before .before .before .before .before .before .before .e2 .given .1) (c .before .before .before .before .before .before .before .before .before .before .before .before .before .read-expression .kept .1 .0) in
+    omega (arith, x .within, c .before .before .before .before .before .before .before .before .before .before .before .before .before .before .before .loop .inv .room .short)
 
 -- src/lib.rt:196:5
 read-arguments-loop-less : (t : ℕ) → read-arguments-lts.Need-loop-less (
@@ -392,7 +414,9 @@ read-arguments-loop-less : (t : ℕ) → read-arguments-lts.Need-loop-less (
   put-reads.Asked,
   put-reads.Learnt,
 ) (read-arguments-at t) read-arguments.Post read-arguments-Inv-loop read-arguments-μ-loop
-read-arguments-loop-less t c = ?
+read-arguments-loop-less t c = 
+    let x = turned _ _ _ _ _ _ _ _ (c .before .before .before .before .before .before .before .before .before .before .before .before .before .before .before .loop .inv) _ _ (c .before .before .before .before .before .before .before .before .before .before .before .before .before .read-expression .ensures) _ _ _ (c .before .before .before .before .before .before .before .before .before .e2 .given .1) (c .before .before .before .before .before .before .before .before .before .before .before .before .before .read-expression .kept .1 .0) in
+    omega (arith, x .ahead, x .within)
 
 -- src/lib.rt:196:5
 read-arguments-loop-again : (t : ℕ) → read-arguments-lts.Need-loop-again (
@@ -405,7 +429,7 @@ read-arguments-loop-again : (t : ℕ) → read-arguments-lts.Need-loop-again (
   put-reads.Asked,
   put-reads.Learnt,
 ) (read-arguments-at t) read-arguments.Post read-arguments-Inv-loop read-arguments-μ-loop
-read-arguments-loop-again t c = ?
+read-arguments-loop-again t c = going-on _ _ _ _ _ _ _ _ (c .before .before .before .before .before .before .before .before .before .before .before .before .before .before .before .loop .inv) _ _ (c .before .before .before .before .before .before .before .before .before .before .before .before .before .read-expression .ensures) _ _ _ (c .before .before .before .before .before .before .before .before .before .e2 .given .1) (c .before .before .before .before .before .before .before .before .before .before .before .before .before .read-expression .kept .1 .0) _ _ _ (c .before .before .before .before .before .before .word-of .ensures) (c .before .before .before .before .before .put .ensures) (c .before .before .kind-at2 .ensures) (c .if3 .left)
 
 -- src/lib.rt:24:9
 read-expression-read-operand-requires : (t : ℕ) → read-expression-lts.Need-read-operand-requires (
@@ -418,7 +442,7 @@ read-expression-read-operand-requires : (t : ℕ) → read-expression-lts.Need-r
   join-reads.Asked,
   join-reads.Learnt,
 ) (read-expression-at t) read-expression.Post
-read-expression-read-operand-requires t c κs = ?
+read-expression-read-operand-requires t c κs = (omega (arith, c .before .before .before .pre .0), c .before .before .before .pre .1)
 
 -- src/lib.rt:26:21
 read-expression-enum-known-a : (t : ℕ) → read-expression-lts.Need-enum-known-a (
@@ -431,7 +455,7 @@ read-expression-enum-known-a : (t : ℕ) → read-expression-lts.Need-enum-known
   join-reads.Asked,
   join-reads.Learnt,
 ) (read-expression-at t) read-expression.Post
-read-expression-enum-known-a t c = ?
+read-expression-enum-known-a t c = search needs
 
 -- src/lib.rt:27:18
 read-expression-enum-known-a-2 : (t : ℕ) → read-expression-lts.Need-enum-known-a-2 (
@@ -444,7 +468,7 @@ read-expression-enum-known-a-2 : (t : ℕ) → read-expression-lts.Need-enum-kno
   join-reads.Asked,
   join-reads.Learnt,
 ) (read-expression-at t) read-expression.Post
-read-expression-enum-known-a-2 t c = ?
+read-expression-enum-known-a-2 t c = search needs
 
 -- src/lib.rt:28:43
 read-expression-kind-at-requires : (t : ℕ) → read-expression-lts.Need-kind-at-requires (
@@ -457,7 +481,7 @@ read-expression-kind-at-requires : (t : ℕ) → read-expression-lts.Need-kind-a
   join-reads.Asked,
   join-reads.Learnt,
 ) (read-expression-at t) read-expression.Post
-read-expression-kind-at-requires t c κs = ?
+read-expression-kind-at-requires t c κs = search needs
 
 -- src/lib.rt:28:17
 read-expression-operator-tag-requires : (t : ℕ) → read-expression-lts.Need-operator-tag-requires (
@@ -470,7 +494,7 @@ read-expression-operator-tag-requires : (t : ℕ) → read-expression-lts.Need-o
   join-reads.Asked,
   join-reads.Learnt,
 ) (read-expression-at t) read-expression.Post
-read-expression-operator-tag-requires t c κs = ?
+read-expression-operator-tag-requires t c κs = search needs
 
 -- src/lib.rt:30:17
 read-expression-same-length : (t : ℕ) → read-expression-lts.Need-same-length (
@@ -483,7 +507,7 @@ read-expression-same-length : (t : ℕ) → read-expression-lts.Need-same-length
   join-reads.Asked,
   join-reads.Learnt,
 ) (read-expression-at t) read-expression.Post
-read-expression-same-length t c = ?
+read-expression-same-length t c = search needs
 
 -- src/lib.rt:30:17
 read-expression-returns : (t : ℕ) → read-expression-lts.Need-returns (
@@ -496,7 +520,7 @@ read-expression-returns : (t : ℕ) → read-expression-lts.Need-returns (
   join-reads.Asked,
   join-reads.Learnt,
 ) (read-expression-at t) read-expression.Post
-read-expression-returns t c = ?
+read-expression-returns t c = expression-one _ _ _ _ _ _ _ _ _ _ _ _ (c .before .before .before .before .before .before .before .before .read-operand .ensures) (c .before .before .before .before .a2 .given .1) (c .before .before .kind-at .ensures) (c .before .operator-tag .ensures) (c .if1 .taken)
 
 -- src/lib.rt:32:49
 read-expression-add-read-operand : (t : ℕ) → read-expression-lts.Need-add-read-operand (
@@ -509,7 +533,10 @@ read-expression-add-read-operand : (t : ℕ) → read-expression-lts.Need-add-re
   join-reads.Asked,
   join-reads.Learnt,
 ) (read-expression-at t) read-expression.Post
-read-expression-add-read-operand t c = ?
+read-expression-add-read-operand t c = 
+    let o = c .before .before .before .before .before .before .before .before .before .before .before .before .before .pre .1 in
+    let x = operand-next _ _ _ _ _ _ _ _ _ _ o (c .before .before .before .before .before .before .before .before .before .read-operand .kept .1 .0) (c .before .before .before .before .before .a2 .given .1) (c .before .before .before .before .before .before .before .before .before .read-operand .ensures) in
+    omega (arith, x .within, o .short)
 
 -- src/lib.rt:32:17
 read-expression-read-operand-requires-2 :
@@ -523,7 +550,10 @@ read-expression-read-operand-requires-2 :
       join-reads.Asked,
       join-reads.Learnt,
     ) (read-expression-at t) read-expression.Post
-read-expression-read-operand-requires-2 t c κs = ?
+read-expression-read-operand-requires-2 t c κs = 
+    let o = c .before .before .before .before .before .before .before .before .before .before .before .before .before .pre .1 in
+    let x = operand-next _ _ _ _ _ _ _ _ _ _ o (c .before .before .before .before .before .before .before .before .before .read-operand .kept .1 .0) (c .before .before .before .before .before .a2 .given .1) (c .before .before .before .before .before .before .before .before .before .read-operand .ensures) in
+    (omega (arith, x .ahead, x .within, c .before .before .before .before .before .before .before .before .before .before .before .before .before .pre .0), x .room)
 
 -- src/lib.rt:33:13
 read-expression-join-requires : (t : ℕ) → read-expression-lts.Need-join-requires (
@@ -536,7 +566,7 @@ read-expression-join-requires : (t : ℕ) → read-expression-lts.Need-join-requ
   join-reads.Asked,
   join-reads.Learnt,
 ) (read-expression-at t) read-expression.Post
-read-expression-join-requires t c κs = ?
+read-expression-join-requires t c κs = operand-spare _ _ _ _ _ _ _ _ _ _ (c .before .before .before .before .before .before .before .before .before .before .before .before .before .before .before .before .before .pre .1) (c .before .before .before .before .before .before .before .before .before .before .before .before .before .read-operand .kept .1 .0) (c .before .before .before .before .before .before .before .before .before .a2 .given .1) _ _ _ _ (c .before .before .before .before .before .before .operator-tag .ensures) (c .before .before .before .read-operand2 .kept .1 .0) (c .before .before .before .before .before .before .before .before .before .before .before .before .before .read-operand .ensures) (c .before .before .before .read-operand2 .ensures)
 
 -- src/lib.rt:20:1
 read-expression-same-length-2 : (t : ℕ) → read-expression-lts.Need-same-length-2 (
@@ -549,7 +579,7 @@ read-expression-same-length-2 : (t : ℕ) → read-expression-lts.Need-same-leng
   join-reads.Asked,
   join-reads.Learnt,
 ) (read-expression-at t) read-expression.Post
-read-expression-same-length-2 t c = ?
+read-expression-same-length-2 t c = search needs
 
 -- src/lib.rt:20:1
 read-expression-returns-2 : (t : ℕ) → read-expression-lts.Need-returns-2 (
@@ -562,7 +592,7 @@ read-expression-returns-2 : (t : ℕ) → read-expression-lts.Need-returns-2 (
   join-reads.Asked,
   join-reads.Learnt,
 ) (read-expression-at t) read-expression.Post
-read-expression-returns-2 t c = ?
+read-expression-returns-2 t c = expression-wrong _ _ _ _ _ _ _ _ _ (c .before .before .before .before .before .read-operand .ensures) (c .before .a .given .1)
 
 -- src/lib.rt:20:1
 read-expression-same-length-3 : (t : ℕ) → read-expression-lts.Need-same-length-3 (
@@ -575,7 +605,7 @@ read-expression-same-length-3 : (t : ℕ) → read-expression-lts.Need-same-leng
   join-reads.Asked,
   join-reads.Learnt,
 ) (read-expression-at t) read-expression.Post
-read-expression-same-length-3 t c = ?
+read-expression-same-length-3 t c = search needs
 
 -- src/lib.rt:20:1
 read-expression-returns-3 : (t : ℕ) → read-expression-lts.Need-returns-3 (
@@ -588,7 +618,7 @@ read-expression-returns-3 : (t : ℕ) → read-expression-lts.Need-returns-3 (
   join-reads.Asked,
   join-reads.Learnt,
 ) (read-expression-at t) read-expression.Post
-read-expression-returns-3 t c = ?
+read-expression-returns-3 t c = expression-two _ _ _ _ _ _ _ _ _ _ _ _ (c .before .before .before .before .before .before .before .before .before .before .before .before .before .before .before .before .read-operand .ensures) (c .before .before .before .before .before .before .before .before .before .before .before .before .a2 .given .1) (c .before .before .before .before .before .before .before .before .before .before .kind-at .ensures) (c .before .before .before .before .before .before .before .before .before .operator-tag .ensures) _ _ _ _ (c .before .before .before .before .before .before .before .before .if1 .left) (c .before .before .before .before .before .before .read-operand2 .ensures) (c .before .before .join .ensures)
 
 -- src/lib.rt:43:9
 read-operand-read-primary-requires : (t : ℕ) → read-operand-lts.Need-read-primary-requires (
@@ -599,7 +629,7 @@ read-operand-read-primary-requires : (t : ℕ) → read-operand-lts.Need-read-pr
   join-reads.Asked,
   join-reads.Learnt,
 ) (read-operand-at t) read-operand.Post
-read-operand-read-primary-requires t c κs = ?
+read-operand-read-primary-requires t c κs = (omega (arith, c .before .before .before .pre .0), c .before .before .before .pre .1)
 
 -- src/lib.rt:45:21
 read-operand-enum-known-a : (t : ℕ) → read-operand-lts.Need-enum-known-a (
@@ -610,7 +640,7 @@ read-operand-enum-known-a : (t : ℕ) → read-operand-lts.Need-enum-known-a (
   join-reads.Asked,
   join-reads.Learnt,
 ) (read-operand-at t) read-operand.Post
-read-operand-enum-known-a t c = ?
+read-operand-enum-known-a t c = search needs
 
 -- src/lib.rt:46:18
 read-operand-enum-known-a-2 : (t : ℕ) → read-operand-lts.Need-enum-known-a-2 (
@@ -621,7 +651,7 @@ read-operand-enum-known-a-2 : (t : ℕ) → read-operand-lts.Need-enum-known-a-2
   join-reads.Asked,
   join-reads.Learnt,
 ) (read-operand-at t) read-operand.Post
-read-operand-enum-known-a-2 t c = ?
+read-operand-enum-known-a-2 t c = search needs
 
 -- src/lib.rt:47:16
 read-operand-kind-at-requires : (t : ℕ) → read-operand-lts.Need-kind-at-requires (
@@ -632,7 +662,7 @@ read-operand-kind-at-requires : (t : ℕ) → read-operand-lts.Need-kind-at-requ
   join-reads.Asked,
   join-reads.Learnt,
 ) (read-operand-at t) read-operand.Post
-read-operand-kind-at-requires t c κs = ?
+read-operand-kind-at-requires t c κs = search needs
 
 -- src/lib.rt:48:17
 read-operand-same-length : (t : ℕ) → read-operand-lts.Need-same-length (
@@ -643,7 +673,7 @@ read-operand-same-length : (t : ℕ) → read-operand-lts.Need-same-length (
   join-reads.Asked,
   join-reads.Learnt,
 ) (read-operand-at t) read-operand.Post
-read-operand-same-length t c = ?
+read-operand-same-length t c = search needs
 
 -- src/lib.rt:48:17
 read-operand-returns : (t : ℕ) → read-operand-lts.Need-returns (
@@ -654,7 +684,7 @@ read-operand-returns : (t : ℕ) → read-operand-lts.Need-returns (
   join-reads.Asked,
   join-reads.Learnt,
 ) (read-operand-at t) read-operand.Post
-read-operand-returns t c = ?
+read-operand-returns t c = operand-one _ _ _ _ _ _ _ _ _ _ _ (c .before .before .before .before .before .before .before .read-primary .ensures) (c .before .before .before .a2 .given .1) (c .before .kind-at .ensures) (c .if1 .taken)
 
 -- src/lib.rt:50:49
 read-operand-add-read-primary : (t : ℕ) → read-operand-lts.Need-add-read-primary (
@@ -665,7 +695,10 @@ read-operand-add-read-primary : (t : ℕ) → read-operand-lts.Need-add-read-pri
   join-reads.Asked,
   join-reads.Learnt,
 ) (read-operand-at t) read-operand.Post
-read-operand-add-read-primary t c = ?
+read-operand-add-read-primary t c = 
+    let o = c .before .before .before .before .before .before .before .before .before .before .before .before .pre .1 in
+    let x = primary-next _ _ _ _ _ _ _ _ _ _ o (c .before .before .before .before .before .before .before .before .read-primary .kept .1 .0) (c .before .before .before .before .a2 .given .1) (c .before .before .before .before .before .before .before .before .read-primary .ensures) in
+    omega (arith, x .within, o .short)
 
 -- src/lib.rt:50:17
 read-operand-read-primary-requires-2 : (t : ℕ) → read-operand-lts.Need-read-primary-requires-2 (
@@ -676,7 +709,10 @@ read-operand-read-primary-requires-2 : (t : ℕ) → read-operand-lts.Need-read-
   join-reads.Asked,
   join-reads.Learnt,
 ) (read-operand-at t) read-operand.Post
-read-operand-read-primary-requires-2 t c κs = ?
+read-operand-read-primary-requires-2 t c κs = 
+    let o = c .before .before .before .before .before .before .before .before .before .before .before .before .pre .1 in
+    let x = primary-next _ _ _ _ _ _ _ _ _ _ o (c .before .before .before .before .before .before .before .before .read-primary .kept .1 .0) (c .before .before .before .before .a2 .given .1) (c .before .before .before .before .before .before .before .before .read-primary .ensures) in
+    (omega (arith, x .ahead, x .within, c .before .before .before .before .before .before .before .before .before .before .before .before .pre .0), x .room)
 
 -- src/lib.rt:51:13
 read-operand-join-requires : (t : ℕ) → read-operand-lts.Need-join-requires (
@@ -687,7 +723,7 @@ read-operand-join-requires : (t : ℕ) → read-operand-lts.Need-join-requires (
   join-reads.Asked,
   join-reads.Learnt,
 ) (read-operand-at t) read-operand.Post
-read-operand-join-requires t c κs = ?
+read-operand-join-requires t c κs = primary-spare _ _ _ _ _ _ _ _ _ _ (c .before .before .before .before .before .before .before .before .before .before .before .before .before .before .before .before .pre .1) (c .before .before .before .before .before .before .before .before .before .before .before .before .read-primary .kept .1 .0) (c .before .before .before .before .before .before .before .before .a2 .given .1) _ _ (c .before .before .before .read-primary2 .kept .1 .0) (c .before .before .before .before .before .before .before .before .before .before .before .before .read-primary .ensures) (c .before .before .before .read-primary2 .ensures)
 
 -- src/lib.rt:39:1
 read-operand-same-length-2 : (t : ℕ) → read-operand-lts.Need-same-length-2 (
@@ -698,7 +734,7 @@ read-operand-same-length-2 : (t : ℕ) → read-operand-lts.Need-same-length-2 (
   join-reads.Asked,
   join-reads.Learnt,
 ) (read-operand-at t) read-operand.Post
-read-operand-same-length-2 t c = ?
+read-operand-same-length-2 t c = search needs
 
 -- src/lib.rt:39:1
 read-operand-returns-2 : (t : ℕ) → read-operand-lts.Need-returns-2 (
@@ -709,7 +745,7 @@ read-operand-returns-2 : (t : ℕ) → read-operand-lts.Need-returns-2 (
   join-reads.Asked,
   join-reads.Learnt,
 ) (read-operand-at t) read-operand.Post
-read-operand-returns-2 t c = ?
+read-operand-returns-2 t c = operand-wrong _ _ _ _ _ _ _ _ _ (c .before .before .before .before .before .read-primary .ensures) (c .before .a .given .1)
 
 -- src/lib.rt:39:1
 read-operand-same-length-3 : (t : ℕ) → read-operand-lts.Need-same-length-3 (
@@ -720,7 +756,7 @@ read-operand-same-length-3 : (t : ℕ) → read-operand-lts.Need-same-length-3 (
   join-reads.Asked,
   join-reads.Learnt,
 ) (read-operand-at t) read-operand.Post
-read-operand-same-length-3 t c = ?
+read-operand-same-length-3 t c = search needs
 
 -- src/lib.rt:39:1
 read-operand-returns-3 : (t : ℕ) → read-operand-lts.Need-returns-3 (
@@ -731,7 +767,7 @@ read-operand-returns-3 : (t : ℕ) → read-operand-lts.Need-returns-3 (
   join-reads.Asked,
   join-reads.Learnt,
 ) (read-operand-at t) read-operand.Post
-read-operand-returns-3 t c = ?
+read-operand-returns-3 t c = operand-two _ _ _ _ _ _ _ _ _ _ _ (c .before .before .before .before .before .before .before .before .before .before .before .before .before .before .before .read-primary .ensures) (c .before .before .before .before .before .before .before .before .before .before .before .a2 .given .1) (c .before .before .before .before .before .before .before .before .before .kind-at .ensures) _ _ _ _ (c .before .before .before .before .before .before .before .before .if1 .left) (c .before .before .before .before .before .before .read-primary2 .ensures) (c .before .before .join .ensures)
 
 -- src/lib.rt:79:9
 read-primary-kind-at-requires : (t : ℕ) → read-primary-lts.Need-kind-at-requires (
@@ -758,7 +794,7 @@ read-primary-kind-at-requires : (t : ℕ) → read-primary-lts.Need-kind-at-requ
   close-reads.Asked,
   close-reads.Learnt,
 ) (read-primary-at t) read-primary.Post
-read-primary-kind-at-requires t c κs = ?
+read-primary-kind-at-requires t c κs = search needs
 
 -- src/lib.rt:81:14
 read-primary-read-digits-requires : (t : ℕ) → read-primary-lts.Need-read-digits-requires (
@@ -785,7 +821,7 @@ read-primary-read-digits-requires : (t : ℕ) → read-primary-lts.Need-read-dig
   close-reads.Asked,
   close-reads.Learnt,
 ) (read-primary-at t) read-primary.Post
-read-primary-read-digits-requires t c κs = ?
+read-primary-read-digits-requires t c κs = (c .before .before .before .before .before .pre .1, sym (c .before .before .kind-at .ensures) ∙ c .before .match .keys1)
 
 -- src/lib.rt:82:15
 read-primary-read-negative-requires : (t : ℕ) → read-primary-lts.Need-read-negative-requires (
@@ -812,7 +848,7 @@ read-primary-read-negative-requires : (t : ℕ) → read-primary-lts.Need-read-n
   close-reads.Asked,
   close-reads.Learnt,
 ) (read-primary-at t) read-primary.Post
-read-primary-read-negative-requires t c κs = ?
+read-primary-read-negative-requires t c κs = (c .before .before .before .before .before .pre .1, sym (c .before .before .kind-at .ensures) ∙ c .before .match .keys2)
 
 -- src/lib.rt:83:39
 read-primary-part-at-requires : (t : ℕ) → read-primary-lts.Need-part-at-requires (
@@ -839,7 +875,7 @@ read-primary-part-at-requires : (t : ℕ) → read-primary-lts.Need-part-at-requ
   close-reads.Asked,
   close-reads.Learnt,
 ) (read-primary-at t) read-primary.Post
-read-primary-part-at-requires t c κs = ?
+read-primary-part-at-requires t c κs = search needs
 
 -- src/lib.rt:83:14
 read-primary-put-leaf-requires : (t : ℕ) → read-primary-lts.Need-put-leaf-requires (
@@ -866,7 +902,7 @@ read-primary-put-leaf-requires : (t : ℕ) → read-primary-lts.Need-put-leaf-re
   close-reads.Asked,
   close-reads.Learnt,
 ) (read-primary-at t) read-primary.Post
-read-primary-put-leaf-requires t c κs = ?
+read-primary-put-leaf-requires t c κs = spot-at _ _ _ _ _ _ _ (c .before .before .before .before .before .before .pre .1) (c .before .before .before .kind-at .ensures) (λ z. omega (arith, c .before .before .match .keys3)) (omega arith) (part-small (now (c .before .before .before .before .before .before .args .tokens)) (c .before .before .before .before .before .before .args .i) _ (c .part-at .ensures))
 
 -- src/lib.rt:84:14
 read-primary-put-leaf-requires-2 : (t : ℕ) → read-primary-lts.Need-put-leaf-requires-2 (
@@ -893,7 +929,7 @@ read-primary-put-leaf-requires-2 : (t : ℕ) → read-primary-lts.Need-put-leaf-
   close-reads.Asked,
   close-reads.Learnt,
 ) (read-primary-at t) read-primary.Post
-read-primary-put-leaf-requires-2 t c κs = ?
+read-primary-put-leaf-requires-2 t c κs = spot-at _ _ _ _ _ _ _ (c .before .before .before .before .before .pre .1) (c .before .before .kind-at .ensures) (λ z. omega (arith, c .before .match .keys4)) (omega arith) (omega arith)
 
 -- src/lib.rt:85:15
 read-primary-put-leaf-requires-3 : (t : ℕ) → read-primary-lts.Need-put-leaf-requires-3 (
@@ -920,7 +956,7 @@ read-primary-put-leaf-requires-3 : (t : ℕ) → read-primary-lts.Need-put-leaf-
   close-reads.Asked,
   close-reads.Learnt,
 ) (read-primary-at t) read-primary.Post
-read-primary-put-leaf-requires-3 t c κs = ?
+read-primary-put-leaf-requires-3 t c κs = spot-at _ _ _ _ _ _ _ (c .before .before .before .before .before .pre .1) (c .before .before .kind-at .ensures) (λ z. omega (arith, c .before .match .keys5)) (omega arith) (omega arith)
 
 -- src/lib.rt:86:15
 read-primary-put-leaf-requires-4 : (t : ℕ) → read-primary-lts.Need-put-leaf-requires-4 (
@@ -947,7 +983,7 @@ read-primary-put-leaf-requires-4 : (t : ℕ) → read-primary-lts.Need-put-leaf-
   close-reads.Asked,
   close-reads.Learnt,
 ) (read-primary-at t) read-primary.Post
-read-primary-put-leaf-requires-4 t c κs = ?
+read-primary-put-leaf-requires-4 t c κs = spot-at _ _ _ _ _ _ _ (c .before .before .before .before .before .pre .1) (c .before .before .kind-at .ensures) (λ z. omega (arith, c .before .match .keys6)) (omega arith) (omega arith)
 
 -- src/lib.rt:88:39
 read-primary-add-kind-at : (t : ℕ) → read-primary-lts.Need-add-kind-at (
@@ -974,7 +1010,10 @@ read-primary-add-kind-at : (t : ℕ) → read-primary-lts.Need-add-kind-at (
   close-reads.Asked,
   close-reads.Learnt,
 ) (read-primary-at t) read-primary.Post
-read-primary-add-kind-at t c = ?
+read-primary-add-kind-at t c = 
+    let o = c .before .before .before .before .pre .1 in
+    let w = room-inside _ _ _ _ _ o (sym (c .before .kind-at .ensures)) (λ z. omega (arith, c .match .keys7)) in
+    omega (arith, o .short)
 
 -- src/lib.rt:88:16
 read-primary-kind-at-requires-2 : (t : ℕ) → read-primary-lts.Need-kind-at-requires-2 (
@@ -1001,7 +1040,7 @@ read-primary-kind-at-requires-2 : (t : ℕ) → read-primary-lts.Need-kind-at-re
   close-reads.Asked,
   close-reads.Learnt,
 ) (read-primary-at t) read-primary.Post
-read-primary-kind-at-requires-2 t c κs = ?
+read-primary-kind-at-requires-2 t c κs = search needs
 
 -- src/lib.rt:89:49
 read-primary-home-at-requires : (t : ℕ) → read-primary-lts.Need-home-at-requires (
@@ -1028,7 +1067,7 @@ read-primary-home-at-requires : (t : ℕ) → read-primary-lts.Need-home-at-requ
   close-reads.Asked,
   close-reads.Learnt,
 ) (read-primary-at t) read-primary.Post
-read-primary-home-at-requires t c κs = ?
+read-primary-home-at-requires t c κs = search needs
 
 -- src/lib.rt:89:17
 read-primary-put-leaf-requires-5 : (t : ℕ) → read-primary-lts.Need-put-leaf-requires-5 (
@@ -1055,7 +1094,7 @@ read-primary-put-leaf-requires-5 : (t : ℕ) → read-primary-lts.Need-put-leaf-
   close-reads.Asked,
   close-reads.Learnt,
 ) (read-primary-at t) read-primary.Post
-read-primary-put-leaf-requires-5 t c κs = ?
+read-primary-put-leaf-requires-5 t c κs = spot-at _ _ _ _ _ _ _ (c .before .before .before .before .before .before .before .before .pre .1) (c .before .before .before .before .before .kind-at .ensures) (λ z. omega (arith, c .before .before .before .before .match .keys7)) (omega arith) (home-small (now (c .before .before .before .before .before .before .before .before .args .tokens)) (c .before .before .before .before .before .before .before .before .args .i) _ (c .home-at .ensures))
 
 -- src/lib.rt:89:17
 read-primary-same-length : (t : ℕ) → read-primary-lts.Need-same-length (
@@ -1082,7 +1121,7 @@ read-primary-same-length : (t : ℕ) → read-primary-lts.Need-same-length (
   close-reads.Asked,
   close-reads.Learnt,
 ) (read-primary-at t) read-primary.Post
-read-primary-same-length t c = ?
+read-primary-same-length t c = search needs
 
 -- src/lib.rt:89:17
 read-primary-returns : (t : ℕ) → read-primary-lts.Need-returns (
@@ -1109,7 +1148,7 @@ read-primary-returns : (t : ℕ) → read-primary-lts.Need-returns (
   close-reads.Asked,
   close-reads.Learnt,
 ) (read-primary-at t) read-primary.Post
-read-primary-returns t c = ?
+read-primary-returns t c = reads-name _ _ _ _ _ _ _ _ (c .before .before .before .before .before .before .before .before .kind-at .ensures) _ _ (c .before .before .before .before .before .before .before .match .keys7) (c .before .before .before .before .before .before .kind-at2 .ensures) (c .before .before .before .before .before .if1 .taken) (c .before .before .before .home-at .ensures) (c .before .before .put-leaf5 .ensures)
 
 -- src/lib.rt:92:40
 read-primary-add-t30 : (t : ℕ) → read-primary-lts.Need-add-t30 (
@@ -1136,7 +1175,10 @@ read-primary-add-t30 : (t : ℕ) → read-primary-lts.Need-add-t30 (
   close-reads.Asked,
   close-reads.Learnt,
 ) (read-primary-at t) read-primary.Post
-read-primary-add-t30 t c = ?
+read-primary-add-t30 t c = 
+    let o = c .before .before .before .before .before .before .before .pre .1 in
+    let w = room-inside _ _ _ _ _ o (sym (c .before .before .before .before .kind-at .ensures)) (λ z. omega (arith, c .before .before .before .match .keys7)) in
+    omega (arith, o .short)
 
 -- src/lib.rt:92:17
 read-primary-returns-2 : (t : ℕ) → read-primary-lts.Need-returns-2 (
@@ -1163,7 +1205,7 @@ read-primary-returns-2 : (t : ℕ) → read-primary-lts.Need-returns-2 (
   close-reads.Asked,
   close-reads.Learnt,
 ) (read-primary-at t) read-primary.Post
-read-primary-returns-2 t c = ?
+read-primary-returns-2 t c = reads-no-call _ _ _ _ _ _ (c .before .before .before .before .kind-at .ensures) _ (c .before .before .before .match .keys7) (c .before .before .kind-at2 .ensures) (c .before .if1 .left) (c .if2 .taken)
 
 -- src/lib.rt:94:52
 read-primary-add-read-arguments : (t : ℕ) → read-primary-lts.Need-add-read-arguments (
@@ -1190,7 +1232,10 @@ read-primary-add-read-arguments : (t : ℕ) → read-primary-lts.Need-add-read-a
   close-reads.Asked,
   close-reads.Learnt,
 ) (read-primary-at t) read-primary.Post
-read-primary-add-read-arguments t c = ?
+read-primary-add-read-arguments t c = 
+    let o = c .before .before .before .before .before .before .before .before .pre .1 in
+    let w = room-inside _ _ _ _ _ o (sym (c .before .before .before .before .before .kind-at .ensures)) (λ z. omega (arith, c .before .before .before .before .match .keys7)) in
+    omega (arith, o .short)
 
 -- src/lib.rt:94:62
 read-primary-sub-read-arguments : (t : ℕ) → read-primary-lts.Need-sub-read-arguments (
@@ -1217,7 +1262,7 @@ read-primary-sub-read-arguments : (t : ℕ) → read-primary-lts.Need-sub-read-a
   close-reads.Asked,
   close-reads.Learnt,
 ) (read-primary-at t) read-primary.Post
-read-primary-sub-read-arguments t c = ?
+read-primary-sub-read-arguments t c = search needs
 
 -- src/lib.rt:94:17
 read-primary-read-arguments-requires : (t : ℕ) → read-primary-lts.Need-read-arguments-requires (
@@ -1244,7 +1289,10 @@ read-primary-read-arguments-requires : (t : ℕ) → read-primary-lts.Need-read-
   close-reads.Asked,
   close-reads.Learnt,
 ) (read-primary-at t) read-primary.Post
-read-primary-read-arguments-requires t c κs = ?
+read-primary-read-arguments-requires t c κs = 
+    let o = c .before .before .before .before .before .before .before .before .pre .1 in
+    let w = room-inside _ _ _ _ _ o (sym (c .before .before .before .before .before .kind-at .ensures)) (λ z. omega (arith, c .before .before .before .before .match .keys7)) in
+    (omega (arith, c .before .before .before .before .before .before .before .before .pre .0), record { behind = omega (arith, o .behind); wide = o .wide; short = o .short })
 
 -- src/lib.rt:95:37
 read-primary-library-at-requires : (t : ℕ) → read-primary-lts.Need-library-at-requires (
@@ -1271,7 +1319,7 @@ read-primary-library-at-requires : (t : ℕ) → read-primary-lts.Need-library-a
   close-reads.Asked,
   close-reads.Learnt,
 ) (read-primary-at t) read-primary.Post
-read-primary-library-at-requires t c κs = ?
+read-primary-library-at-requires t c κs = search needs
 
 -- src/lib.rt:95:13
 read-primary-finish-requires : (t : ℕ) → read-primary-lts.Need-finish-requires (
@@ -1298,7 +1346,7 @@ read-primary-finish-requires : (t : ℕ) → read-primary-lts.Need-finish-requir
   close-reads.Asked,
   close-reads.Learnt,
 ) (read-primary-at t) read-primary.Post
-read-primary-finish-requires t c κs = ?
+read-primary-finish-requires t c κs = call-spare _ _ _ _ _ _ _ _ (c .before .before .before .before .before .before .before .before .before .before .before .before .before .pre .1) (c .before .before .before .before .read-arguments .kept .1 .0) (c .before .before .before .before .before .before .before .before .before .before .before .before .shared-slice-known .given (c .before .before .before .before .before .before .before .before .before .before .before .before .before .args .i) .fits) (c .library-at .ensures) (c .before .before .before .before .read-arguments .ensures)
 
 -- src/lib.rt:99:17
 read-primary-returns-3 : (t : ℕ) → read-primary-lts.Need-returns-3 (
@@ -1325,7 +1373,7 @@ read-primary-returns-3 : (t : ℕ) → read-primary-lts.Need-returns-3 (
   close-reads.Asked,
   close-reads.Learnt,
 ) (read-primary-at t) read-primary.Post
-read-primary-returns-3 t c = ?
+read-primary-returns-3 t c = reads-no-paren _ _ _ _ _ _ (c .before .before .kind-at .ensures) (c .before .match .keys8) (c .if3 .taken)
 
 -- src/lib.rt:101:52
 read-primary-add-read-expression : (t : ℕ) → read-primary-lts.Need-add-read-expression (
@@ -1352,7 +1400,10 @@ read-primary-add-read-expression : (t : ℕ) → read-primary-lts.Need-add-read-
   close-reads.Asked,
   close-reads.Learnt,
 ) (read-primary-at t) read-primary.Post
-read-primary-add-read-expression t c = ?
+read-primary-add-read-expression t c = 
+    let o = c .before .before .before .before .before .before .pre .1 in
+    let w = room-inside _ _ _ _ _ o (sym (c .before .before .before .kind-at .ensures)) (λ z. omega (arith, c .before .before .match .keys8)) in
+    omega (arith, o .short)
 
 -- src/lib.rt:101:62
 read-primary-sub-read-expression : (t : ℕ) → read-primary-lts.Need-sub-read-expression (
@@ -1379,7 +1430,7 @@ read-primary-sub-read-expression : (t : ℕ) → read-primary-lts.Need-sub-read-
   close-reads.Asked,
   close-reads.Learnt,
 ) (read-primary-at t) read-primary.Post
-read-primary-sub-read-expression t c = ?
+read-primary-sub-read-expression t c = search needs
 
 -- src/lib.rt:101:17
 read-primary-read-expression-requires : (t : ℕ) → read-primary-lts.Need-read-expression-requires (
@@ -1406,7 +1457,10 @@ read-primary-read-expression-requires : (t : ℕ) → read-primary-lts.Need-read
   close-reads.Asked,
   close-reads.Learnt,
 ) (read-primary-at t) read-primary.Post
-read-primary-read-expression-requires t c κs = ?
+read-primary-read-expression-requires t c κs = 
+    let o = c .before .before .before .before .before .before .pre .1 in
+    let w = room-inside _ _ _ _ _ o (sym (c .before .before .before .kind-at .ensures)) (λ z. omega (arith, c .before .before .match .keys8)) in
+    (omega (arith, c .before .before .before .before .before .before .pre .0), record { behind = omega (arith, o .behind); wide = o .wide; short = o .short })
 
 -- src/lib.rt:102:13
 read-primary-close-requires : (t : ℕ) → read-primary-lts.Need-close-requires (
@@ -1433,7 +1487,7 @@ read-primary-close-requires : (t : ℕ) → read-primary-lts.Need-close-requires
   close-reads.Asked,
   close-reads.Learnt,
 ) (read-primary-at t) read-primary.Post
-read-primary-close-requires t c κs = ?
+read-primary-close-requires t c κs = λ z. omega arith
 
 -- src/lib.rt:106:17
 read-primary-returns-4 : (t : ℕ) → read-primary-lts.Need-returns-4 (
@@ -1460,7 +1514,7 @@ read-primary-returns-4 : (t : ℕ) → read-primary-lts.Need-returns-4 (
   close-reads.Asked,
   close-reads.Learnt,
 ) (read-primary-at t) read-primary.Post
-read-primary-returns-4 t c = ?
+read-primary-returns-4 t c = reads-no-table _ _ _ _ _ _ (c .before .before .kind-at .ensures) (c .before .match .keys9) (c .if4 .taken)
 
 -- src/lib.rt:108:52
 read-primary-add-read-expression-2 : (t : ℕ) → read-primary-lts.Need-add-read-expression-2 (
@@ -1487,7 +1541,10 @@ read-primary-add-read-expression-2 : (t : ℕ) → read-primary-lts.Need-add-rea
   close-reads.Asked,
   close-reads.Learnt,
 ) (read-primary-at t) read-primary.Post
-read-primary-add-read-expression-2 t c = ?
+read-primary-add-read-expression-2 t c = 
+    let o = c .before .before .before .before .before .before .pre .1 in
+    let w = room-inside _ _ _ _ _ o (sym (c .before .before .before .kind-at .ensures)) (λ z. omega (arith, c .before .before .match .keys9)) in
+    omega (arith, o .short)
 
 -- src/lib.rt:108:62
 read-primary-sub-read-expression-2 : (t : ℕ) → read-primary-lts.Need-sub-read-expression-2 (
@@ -1514,7 +1571,7 @@ read-primary-sub-read-expression-2 : (t : ℕ) → read-primary-lts.Need-sub-rea
   close-reads.Asked,
   close-reads.Learnt,
 ) (read-primary-at t) read-primary.Post
-read-primary-sub-read-expression-2 t c = ?
+read-primary-sub-read-expression-2 t c = search needs
 
 -- src/lib.rt:108:17
 read-primary-read-expression-requires-2 :
@@ -1542,7 +1599,10 @@ read-primary-read-expression-requires-2 :
       close-reads.Asked,
       close-reads.Learnt,
     ) (read-primary-at t) read-primary.Post
-read-primary-read-expression-requires-2 t c κs = ?
+read-primary-read-expression-requires-2 t c κs = 
+    let o = c .before .before .before .before .before .before .pre .1 in
+    let w = room-inside _ _ _ _ _ o (sym (c .before .before .before .kind-at .ensures)) (λ z. omega (arith, c .before .before .match .keys9)) in
+    (omega (arith, c .before .before .before .before .before .before .pre .0), record { behind = omega (arith, o .behind); wide = o .wide; short = o .short })
 
 -- src/lib.rt:109:27
 read-primary-close-requires-2 : (t : ℕ) → read-primary-lts.Need-close-requires-2 (
@@ -1569,7 +1629,7 @@ read-primary-close-requires-2 : (t : ℕ) → read-primary-lts.Need-close-requir
   close-reads.Asked,
   close-reads.Learnt,
 ) (read-primary-at t) read-primary.Post
-read-primary-close-requires-2 t c κs = ?
+read-primary-close-requires-2 t c κs = λ z. omega arith
 
 -- src/lib.rt:109:13
 read-primary-finish-requires-2 : (t : ℕ) → read-primary-lts.Need-finish-requires-2 (
@@ -1596,7 +1656,7 @@ read-primary-finish-requires-2 : (t : ℕ) → read-primary-lts.Need-finish-requ
   close-reads.Asked,
   close-reads.Learnt,
 ) (read-primary-at t) read-primary.Post
-read-primary-finish-requires-2 t c κs = ?
+read-primary-finish-requires-2 t c κs = table-spare _ _ _ _ _ _ _ _ (c .before .before .before .before .before .before .before .before .before .before .before .pre .1) (c .before .before .before .before .read-expression2 .kept .1 .0) (c .before .before .before .before .read-expression2 .ensures) (c .close2 .ensures)
 
 -- src/lib.rt:75:1
 read-primary-same-length-2 : (t : ℕ) → read-primary-lts.Need-same-length-2 (
@@ -1623,7 +1683,7 @@ read-primary-same-length-2 : (t : ℕ) → read-primary-lts.Need-same-length-2 (
   close-reads.Asked,
   close-reads.Learnt,
 ) (read-primary-at t) read-primary.Post
-read-primary-same-length-2 t c = ?
+read-primary-same-length-2 t c = search needs
 
 -- src/lib.rt:75:1
 read-primary-returns-5 : (t : ℕ) → read-primary-lts.Need-returns-5 (
@@ -1650,7 +1710,7 @@ read-primary-returns-5 : (t : ℕ) → read-primary-lts.Need-returns-5 (
   close-reads.Asked,
   close-reads.Learnt,
 ) (read-primary-at t) read-primary.Post
-read-primary-returns-5 t c = ?
+read-primary-returns-5 t c = reads-digits _ _ _ _ _ _ _ _ (c .before .before .before .before .before .kind-at .ensures) (c .before .before .before .before .match .keys1) (c .before .before .read-digits .ensures)
 
 -- src/lib.rt:75:1
 read-primary-same-length-3 : (t : ℕ) → read-primary-lts.Need-same-length-3 (
@@ -1677,7 +1737,7 @@ read-primary-same-length-3 : (t : ℕ) → read-primary-lts.Need-same-length-3 (
   close-reads.Asked,
   close-reads.Learnt,
 ) (read-primary-at t) read-primary.Post
-read-primary-same-length-3 t c = ?
+read-primary-same-length-3 t c = search needs
 
 -- src/lib.rt:75:1
 read-primary-returns-6 : (t : ℕ) → read-primary-lts.Need-returns-6 (
@@ -1704,7 +1764,7 @@ read-primary-returns-6 : (t : ℕ) → read-primary-lts.Need-returns-6 (
   close-reads.Asked,
   close-reads.Learnt,
 ) (read-primary-at t) read-primary.Post
-read-primary-returns-6 t c = ?
+read-primary-returns-6 t c = reads-negative _ _ _ _ _ _ _ _ (c .before .before .before .before .before .kind-at .ensures) (c .before .before .before .before .match .keys2) (c .before .before .read-negative .ensures)
 
 -- src/lib.rt:75:1
 read-primary-same-length-4 : (t : ℕ) → read-primary-lts.Need-same-length-4 (
@@ -1731,7 +1791,7 @@ read-primary-same-length-4 : (t : ℕ) → read-primary-lts.Need-same-length-4 (
   close-reads.Asked,
   close-reads.Learnt,
 ) (read-primary-at t) read-primary.Post
-read-primary-same-length-4 t c = ?
+read-primary-same-length-4 t c = search needs
 
 -- src/lib.rt:75:1
 read-primary-returns-7 : (t : ℕ) → read-primary-lts.Need-returns-7 (
@@ -1758,7 +1818,7 @@ read-primary-returns-7 : (t : ℕ) → read-primary-lts.Need-returns-7 (
   close-reads.Asked,
   close-reads.Learnt,
 ) (read-primary-at t) read-primary.Post
-read-primary-returns-7 t c = ?
+read-primary-returns-7 t c = reads-string _ _ _ _ _ _ _ _ (c .before .before .before .before .before .before .kind-at .ensures) _ (c .before .before .before .before .before .match .keys3) (c .before .before .before .part-at .ensures) (c .before .before .put-leaf .ensures)
 
 -- src/lib.rt:75:1
 read-primary-same-length-5 : (t : ℕ) → read-primary-lts.Need-same-length-5 (
@@ -1785,7 +1845,7 @@ read-primary-same-length-5 : (t : ℕ) → read-primary-lts.Need-same-length-5 (
   close-reads.Asked,
   close-reads.Learnt,
 ) (read-primary-at t) read-primary.Post
-read-primary-same-length-5 t c = ?
+read-primary-same-length-5 t c = search needs
 
 -- src/lib.rt:75:1
 read-primary-returns-8 : (t : ℕ) → read-primary-lts.Need-returns-8 (
@@ -1812,7 +1872,7 @@ read-primary-returns-8 : (t : ℕ) → read-primary-lts.Need-returns-8 (
   close-reads.Asked,
   close-reads.Learnt,
 ) (read-primary-at t) read-primary.Post
-read-primary-returns-8 t c = ?
+read-primary-returns-8 t c = reads-none _ _ _ _ _ _ _ _ (c .before .before .before .before .before .kind-at .ensures) (c .before .before .before .before .match .keys4) (c .before .before .put-leaf2 .ensures)
 
 -- src/lib.rt:75:1
 read-primary-same-length-6 : (t : ℕ) → read-primary-lts.Need-same-length-6 (
@@ -1839,7 +1899,7 @@ read-primary-same-length-6 : (t : ℕ) → read-primary-lts.Need-same-length-6 (
   close-reads.Asked,
   close-reads.Learnt,
 ) (read-primary-at t) read-primary.Post
-read-primary-same-length-6 t c = ?
+read-primary-same-length-6 t c = search needs
 
 -- src/lib.rt:75:1
 read-primary-returns-9 : (t : ℕ) → read-primary-lts.Need-returns-9 (
@@ -1866,7 +1926,7 @@ read-primary-returns-9 : (t : ℕ) → read-primary-lts.Need-returns-9 (
   close-reads.Asked,
   close-reads.Learnt,
 ) (read-primary-at t) read-primary.Post
-read-primary-returns-9 t c = ?
+read-primary-returns-9 t c = reads-true _ _ _ _ _ _ _ _ (c .before .before .before .before .before .kind-at .ensures) (c .before .before .before .before .match .keys5) (c .before .before .put-leaf3 .ensures)
 
 -- src/lib.rt:75:1
 read-primary-same-length-7 : (t : ℕ) → read-primary-lts.Need-same-length-7 (
@@ -1893,7 +1953,7 @@ read-primary-same-length-7 : (t : ℕ) → read-primary-lts.Need-same-length-7 (
   close-reads.Asked,
   close-reads.Learnt,
 ) (read-primary-at t) read-primary.Post
-read-primary-same-length-7 t c = ?
+read-primary-same-length-7 t c = search needs
 
 -- src/lib.rt:75:1
 read-primary-returns-10 : (t : ℕ) → read-primary-lts.Need-returns-10 (
@@ -1920,7 +1980,7 @@ read-primary-returns-10 : (t : ℕ) → read-primary-lts.Need-returns-10 (
   close-reads.Asked,
   close-reads.Learnt,
 ) (read-primary-at t) read-primary.Post
-read-primary-returns-10 t c = ?
+read-primary-returns-10 t c = reads-false _ _ _ _ _ _ _ _ (c .before .before .before .before .before .kind-at .ensures) (c .before .before .before .before .match .keys6) (c .before .before .put-leaf4 .ensures)
 
 -- src/lib.rt:75:1
 read-primary-same-length-8 : (t : ℕ) → read-primary-lts.Need-same-length-8 (
@@ -1947,7 +2007,7 @@ read-primary-same-length-8 : (t : ℕ) → read-primary-lts.Need-same-length-8 (
   close-reads.Asked,
   close-reads.Learnt,
 ) (read-primary-at t) read-primary.Post
-read-primary-same-length-8 t c = ?
+read-primary-same-length-8 t c = search needs
 
 -- src/lib.rt:75:1
 read-primary-returns-11 : (t : ℕ) → read-primary-lts.Need-returns-11 (
@@ -1974,7 +2034,7 @@ read-primary-returns-11 : (t : ℕ) → read-primary-lts.Need-returns-11 (
   close-reads.Asked,
   close-reads.Learnt,
 ) (read-primary-at t) read-primary.Post
-read-primary-returns-11 t c = ?
+read-primary-returns-11 t c = reads-call _ _ _ _ _ _ _ _ (c .before .before .before .before .before .before .before .before .before .before .before .before .before .kind-at .ensures) _ _ _ _ (c .before .before .before .before .before .before .before .before .before .before .before .before .match .keys7) (c .before .before .before .before .before .before .before .before .before .before .before .kind-at2 .ensures) (c .before .before .before .before .before .before .before .before .before .before .if1 .left) (c .before .before .before .before .before .before .before .before .before .if2 .left) (c .before .before .before .before .before .before .before .read-arguments .ensures) (c .before .before .before .library-at .ensures) (c .before .before .finish .ensures)
 
 -- src/lib.rt:75:1
 read-primary-same-length-9 : (t : ℕ) → read-primary-lts.Need-same-length-9 (
@@ -2001,7 +2061,7 @@ read-primary-same-length-9 : (t : ℕ) → read-primary-lts.Need-same-length-9 (
   close-reads.Asked,
   close-reads.Learnt,
 ) (read-primary-at t) read-primary.Post
-read-primary-same-length-9 t c = ?
+read-primary-same-length-9 t c = search needs
 
 -- src/lib.rt:75:1
 read-primary-returns-12 : (t : ℕ) → read-primary-lts.Need-returns-12 (
@@ -2028,7 +2088,7 @@ read-primary-returns-12 : (t : ℕ) → read-primary-lts.Need-returns-12 (
   close-reads.Asked,
   close-reads.Learnt,
 ) (read-primary-at t) read-primary.Post
-read-primary-returns-12 t c = ?
+read-primary-returns-12 t c = reads-paren _ _ _ _ _ _ _ _ (c .before .before .before .before .before .before .before .kind-at .ensures) _ (c .before .before .before .before .before .before .match .keys8) (c .before .before .before .before .before .if3 .left) (c .before .before .before .read-expression .ensures) (c .close .ensures)
 
 -- src/lib.rt:75:1
 read-primary-same-length-10 : (t : ℕ) → read-primary-lts.Need-same-length-10 (
@@ -2055,7 +2115,7 @@ read-primary-same-length-10 : (t : ℕ) → read-primary-lts.Need-same-length-10
   close-reads.Asked,
   close-reads.Learnt,
 ) (read-primary-at t) read-primary.Post
-read-primary-same-length-10 t c = ?
+read-primary-same-length-10 t c = search needs
 
 -- src/lib.rt:75:1
 read-primary-returns-13 : (t : ℕ) → read-primary-lts.Need-returns-13 (
@@ -2082,7 +2142,7 @@ read-primary-returns-13 : (t : ℕ) → read-primary-lts.Need-returns-13 (
   close-reads.Asked,
   close-reads.Learnt,
 ) (read-primary-at t) read-primary.Post
-read-primary-returns-13 t c = ?
+read-primary-returns-13 t c = reads-table _ _ _ _ _ _ _ _ (c .before .before .before .before .before .before .before .before .before .before .before .kind-at .ensures) _ _ _ (c .before .before .before .before .before .before .before .before .before .before .match .keys9) (c .before .before .before .before .before .before .before .before .before .if4 .left) (c .before .before .before .before .before .before .before .read-expression2 .ensures) (c .before .before .before .close2 .ensures) (c .before .before .finish2 .ensures)
 
 -- src/lib.rt:75:1
 read-primary-returns-14 : (t : ℕ) → read-primary-lts.Need-returns-14 (
@@ -2109,7 +2169,9 @@ read-primary-returns-14 : (t : ℕ) → read-primary-lts.Need-returns-14 (
   close-reads.Asked,
   close-reads.Learnt,
 ) (read-primary-at t) read-primary.Post
-read-primary-returns-14 t c = ?
+read-primary-returns-14 t c = 
+    let x = c .match .rest in
+    reads-other _ _ _ _ _ _ (c .before .kind-at .ensures) (x .0 .0 .0 .0 .0 .0 .0 .0 .1) (x .0 .0 .0 .0 .0 .0 .0 .1) (x .0 .0 .0 .0 .0 .0 .1) (x .0 .0 .0 .0 .0 .1) (x .0 .0 .0 .0 .1) (x .0 .0 .0 .1) (x .0 .0 .1) (x .0 .1) (x .1)
 
 pub +read-arguments+read-expression+read-operand+read-primary-spec : {M : Type 1} → statement M
 +read-arguments+read-expression+read-operand+read-primary-spec =

@@ -1,3 +1,5 @@
+use native.Mathlib.Omega.{arith}
+use Rattle.expressions.proofs.Puts.{finish-wrong, finish-at}
 use borrow.Author.Needs.{needs}
 use Rattle.expressions.proofs.finish.Statement.{statement}
 use Rattle.expressions.proofs.finish.Tie as tie
@@ -16,15 +18,24 @@ enum-known-e-2 c = search needs
 
 -- src/lib.rt:180:53
 sub-word-of : tie.Need-sub-word-of
-sub-word-of c = ?
+sub-word-of c = 
+    let p = c .before .before .before .before .before .pre in
+    let f = p .spare _ _ _ (c .before .before .e2 .given .1) in
+    omega (arith, f)
 
 -- src/lib.rt:180:53
 add-word-of : tie.Need-add-word-of
-add-word-of c = ?
+add-word-of c = 
+    let p = c .before .before .before .before .before .pre in
+    let f = p .spare _ _ _ (c .before .before .e2 .given .1) in
+    omega (arith, f)
 
 -- src/lib.rt:180:33
 word-of-requires : tie.Need-word-of-requires
-word-of-requires c κs = ?
+word-of-requires c κs = 
+    let p = c .before .before .before .before .before .pre in
+    let f = p .spare _ _ _ (c .before .before .e2 .given .1) in
+    omega (arith, p .smallTag, p .smallNumber, f)
 
 -- src/lib.rt:180:13
 put-requires : tie.Need-put-requires
@@ -32,11 +43,14 @@ put-requires c κs = search needs
 
 -- src/lib.rt:181:25
 add-t15 : tie.Need-add-t15
-add-t15 c = ?
+add-t15 c = 
+    let p = c .before .before .before .before .before .before .before .before .before .pre in
+    let f = p .spare _ _ _ (c .before .before .before .before .before .before .e2 .given .1) in
+    omega (arith, f)
 
 -- src/lib.rt:173:1
 returns : tie.Need-returns
-returns c = ?
+returns c = finish-wrong _ _ _ _ _ _ _ (c .before .e .given .1)
 
 -- src/lib.rt:173:1
 same-length : tie.Need-same-length
@@ -44,7 +58,10 @@ same-length c = search needs
 
 -- src/lib.rt:173:1
 returns-2 : tie.Need-returns-2
-returns-2 c = ?
+returns-2 c = 
+    let p = c .before .before .before .before .before .before .before .before .before .pre in
+    let f = p .spare _ _ _ (c .before .before .before .before .before .before .e2 .given .1) in
+    finish-at _ _ _ _ _ _ _ _ _ _ (c .before .before .before .before .before .before .e2 .given .1) (c .before .before .before .word-of .ensures) (c .before .before .put .ensures) (f .1)
 
 pub finish-spec : {M : Type 1} → statement M
 finish-spec =

@@ -1,3 +1,5 @@
+use native.Mathlib.Omega.{arith}
+use Rattle.expressions.proofs.Puts.{leaf-put}
 use borrow.Author.Needs.{needs}
 use Rattle.expressions.proofs.put_leaf.Statement.{statement}
 use Rattle.expressions.proofs.put_leaf.Tie as tie
@@ -28,7 +30,7 @@ same-length c = search needs
 
 -- src/lib.rt:116:1
 returns : tie.Need-returns
-returns c = ?
+returns c = leaf-put _ _ _ _ _ _ _ _ (c .before .before .before .word-of .ensures) (c .before .before .put .ensures) (omega (arith, c .before .before .before .before .before .before .pre .behind, c .before .before .before .before .before .before .pre .inside))
 
 pub put-leaf-spec : {M : Type 1} → statement M
 put-leaf-spec =

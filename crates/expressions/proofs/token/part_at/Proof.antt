@@ -1,3 +1,5 @@
+use denote.Ref.{now}
+use Rattle.expressions.proofs.Tokens.{part-short, part-long}
 use borrow.Author.Needs.{needs}
 use Rattle.expressions.proofs.token.part_at.Statement.{statement}
 use Rattle.expressions.proofs.token.part_at.Tie as tie
@@ -25,7 +27,7 @@ add-result c = search needs
 
 -- src/token.rt:52:9
 returns : tie.Need-returns
-returns c = ?
+returns c = part-short (now (c .before .before .before .before .before .args .tokens)) (c .before .before .before .before .before .args .i) _ _ _ (c .before .before .before .home-at .ensures) (c .before .before .payload-at .ensures) (c .place-at .ensures) (c .before .if1 .taken)
 
 -- src/token.rt:54:5
 place-at-requires-2 : tie.Need-place-at-requires-2
@@ -45,7 +47,7 @@ add-result-3 c = search needs
 
 -- src/token.rt:46:1
 returns-2 : tie.Need-returns-2
-returns-2 c = ?
+returns-2 c = part-long (now (c .before .before .before .before .before .args .tokens)) (c .before .before .before .before .before .args .i) _ _ _ (c .before .before .before .home-at .ensures) (c .before .before .payload-at .ensures) (c .place-at2 .ensures) (c .before .if1 .left)
 
 pub part-at-spec : {M : Type 1} → statement M
 part-at-spec =
