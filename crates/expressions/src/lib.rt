@@ -3,7 +3,11 @@
 pub mod token;
 
 ghost use mathlib.Core.Path.{_≡_};
-ghost use Rattle.expressions.specs.Words.{expression, operand, primary, arguments, insideOf, seen, written, writtenCode};
+ghost use Prim.Native.Nat.{_+_};
+ghost use Rattle.meaning.specs.Grammar.{noLevel};
+ghost use Rattle.expressions.specs.Words.{kindAt, leaf, expression, operand, primary, arguments, insideOf, seen, written, writtenCode};
+ghost use Rattle.expressions.specs.Room.{Room, Spot, Spare};
+ghost use Rattle.expressions.specs.Steps.{closed, finished, combined};
 
 // What was read: the token behind it, the word behind its code, and what it is as an assignment's left side, 1 a name, 2 an entry, 0 neither.
 // Or a number, and the token that fails.
@@ -13,7 +17,10 @@ pub enum Read {
 }
 
 // An operand, or two with one operator.
-pub fn read_expression(tokens: &[u64], words: &mut [u64], i: usize, n: usize, left: usize) -> Read {
+pub fn read_expression(tokens: &[u64], words: &mut [u64], i: usize, n: usize, left: usize) -> Read
+    requires { ⌜ Room (now tokens) (now words) i n ⌝ }
+    ensures { λ r. ⌜ seen r (now (words .exit)) ≡ written (expression left (now (tokens .entry)) i) n (now (words .entry)) ⌝ }
+{
     let a = read_operand(tokens, words, i, n, left);
     match a {
         Read::Wrong(k, p) => Read::Wrong(k, p),
@@ -29,7 +36,10 @@ pub fn read_expression(tokens: &[u64], words: &mut [u64], i: usize, n: usize, le
 }
 
 // A primary, or two with a dot between.
-fn read_operand(tokens: &[u64], words: &mut [u64], i: usize, n: usize, left: usize) -> Read {
+fn read_operand(tokens: &[u64], words: &mut [u64], i: usize, n: usize, left: usize) -> Read
+    requires { ⌜ Room (now tokens) (now words) i n ⌝ }
+    ensures { λ r. ⌜ seen r (now (words .exit)) ≡ written (operand (insideOf left (now (tokens .entry))) (now (tokens .entry)) i) n (now (words .entry)) ⌝ }
+{
     let a = read_primary(tokens, words, i, n, left);
     match a {
         Read::Wrong(k, p) => Read::Wrong(k, p),
@@ -44,7 +54,10 @@ fn read_operand(tokens: &[u64], words: &mut [u64], i: usize, n: usize, left: usi
 }
 
 // The word behind two parts: the first has the words from n up to m, the second was read as b.
-fn join(words: &mut [u64], b: Read, tag: u64, n: usize, m: usize, target: u64) -> Read {
+fn join(words: &mut [u64], b: Read, tag: u64, n: usize, m: usize, target: u64) -> Read
+    requires { ⌜ Spare (now words) b n m tag 0 ⌝ }
+    ensures { λ r. ⌜ seen r (now (words .exit)) ≡ combined tag n m target (seen b (now (words .entry))) ⌝ }
+{
     match b {
         Read::Wrong(k, p) => Read::Wrong(k, p),
         Read::At(j, e, _) => {
@@ -59,60 +72,74 @@ fn join(words: &mut [u64], b: Read, tag: u64, n: usize, m: usize, target: u64) -
 }
 
 // A constant, a name, a call, a table creation or a parenthesised expression.
-fn read_primary(tokens: &[u64], words: &mut [u64], i: usize, n: usize, left: usize) -> Read {
+fn read_primary(tokens: &[u64], words: &mut [u64], i: usize, n: usize, left: usize) -> Read
+    requires { ⌜ Room (now tokens) (now words) i n ⌝ }
+    ensures { λ r. ⌜ seen r (now (words .exit)) ≡ written (primary (insideOf left (now (tokens .entry))) (now (tokens .entry)) i) n (now (words .entry)) ⌝ }
+{
     let kind = token::kind_at(tokens, i);
     match kind {
         2 => read_digits(tokens, words, i, n),
         45 => read_negative(tokens, words, i, n),
-        3 => leaf(words, i, n, 2, token::part_at(tokens, i), 0),
-        9 => leaf(words, i, n, 3, 0, 0),
-        10 => leaf(words, i, n, 4, 1, 0),
-        11 => leaf(words, i, n, 4, 0, 0),
+        3 => put_leaf(words, i, n, 2, token::part_at(tokens, i), 0),
+        9 => put_leaf(words, i, n, 3, 0, 0),
+        10 => put_leaf(words, i, n, 4, 1, 0),
+        11 => put_leaf(words, i, n, 4, 0, 0),
         1 => {
             if token::kind_at(tokens, i + 1) != 40 {
-                return leaf(words, i, n, 5, token::home_at(tokens, i), 1);
+                return put_leaf(words, i, n, 5, token::home_at(tokens, i), 1);
             }
             if left == 0 {
                 return Read::Wrong(75, i + 1);
             }
             let es = read_arguments(tokens, words, i + 2, n, left - 1);
-            close_call(words, es, n, token::library_at(tokens, i))
+            finish(words, es, 8, n, token::library_at(tokens, i))
         }
         40 => {
             if left == 0 {
                 return Read::Wrong(75, i);
             }
             let e = read_expression(tokens, words, i + 1, n, left - 1);
-            close_paren(tokens, e)
+            close(tokens, e, 41)
         }
         91 => {
             if left == 0 {
                 return Read::Wrong(75, i);
             }
             let e = read_expression(tokens, words, i + 1, n, left - 1);
-            close_table(tokens, words, e, n)
+            finish(words, close(tokens, e, 93), 6, n, 0)
         }
         _ => Read::Wrong(10, i),
     }
 }
 
 // One word, for token i.
-fn leaf(words: &mut [u64], i: usize, n: usize, tag: u64, x: u64, target: u64) -> Read {
+fn put_leaf(words: &mut [u64], i: usize, n: usize, tag: u64, x: u64, target: u64) -> Read
+    requires { ⌜ Spot (now words) i n tag x ⌝ }
+    ensures { λ r. ⌜ seen r (now (words .exit)) ≡ written (leaf tag x target (i + 1)) n (now (words .entry)) ⌝ }
+{
     code::put(words, n, code::word_of(tag, 1, x));
     Read::At(i + 1, n + 1, target)
 }
 
-// A constant without a minus.
-fn read_digits(tokens: &[u64], words: &mut [u64], i: usize, n: usize) -> Read {
+// A constant without a minus. It opens no level.
+fn read_digits(tokens: &[u64], words: &mut [u64], i: usize, n: usize) -> Read
+    requires { ⌜ Room (now tokens) (now words) i n ⌝ }
+    requires { ⌜ kindAt (now tokens) i ≡ 2 ⌝ }
+    ensures { λ r. ⌜ seen r (now (words .exit)) ≡ written (primary noLevel (now (tokens .entry)) i) n (now (words .entry)) ⌝ }
+{
     let x = token::payload_at(tokens, i);
     if 2147483647 < x {
         return Read::Wrong(10, i);
     }
-    leaf(words, i, n, 1, x, 0)
+    put_leaf(words, i, n, 1, x, 0)
 }
 
-// A constant with a minus, which is token i: the digits stand directly behind it.
-fn read_negative(tokens: &[u64], words: &mut [u64], i: usize, n: usize) -> Read {
+// A constant with a minus, which is token i: the digits stand directly behind it. It opens no level.
+fn read_negative(tokens: &[u64], words: &mut [u64], i: usize, n: usize) -> Read
+    requires { ⌜ Room (now tokens) (now words) i n ⌝ }
+    requires { ⌜ kindAt (now tokens) i ≡ 45 ⌝ }
+    ensures { λ r. ⌜ seen r (now (words .exit)) ≡ written (primary noLevel (now (tokens .entry)) i) n (now (words .entry)) ⌝ }
+{
     if token::kind_at(tokens, i + 1) != 2 {
         return Read::Wrong(10, i);
     }
@@ -123,15 +150,18 @@ fn read_negative(tokens: &[u64], words: &mut [u64], i: usize, n: usize) -> Read 
     if 2147483648 < x {
         return Read::Wrong(10, i + 1);
     }
-    leaf(words, i + 1, n, 1, (4294967296 - x) % 4294967296, 0)
+    put_leaf(words, i + 1, n, 1, (4294967296 - x) % 4294967296, 0)
 }
 
-// The closing parenthesis.
-fn close_paren(tokens: &[u64], e: Read) -> Read {
+// The token of a kind that has to follow what was read.
+fn close(tokens: &[u64], e: Read, kind: u64) -> Read
+    requires { ⌜ (kind ≡ 0 → ⊥) ⌝ }
+    ensures { λ r. ⌜ r ≡ closed kind (now (tokens .entry)) e ⌝ }
+{
     match e {
         Read::Wrong(k, p) => Read::Wrong(k, p),
         Read::At(j, m, _) => {
-            if token::kind_at(tokens, j) != 41 {
+            if token::kind_at(tokens, j) != kind {
                 return Read::Wrong(10, j);
             }
             Read::At(j + 1, m, 0)
@@ -139,33 +169,25 @@ fn close_paren(tokens: &[u64], e: Read) -> Read {
     }
 }
 
-// The closing bracket, and the word of a table creation whose size has the words from n on.
-fn close_table(tokens: &[u64], words: &mut [u64], e: Read, n: usize) -> Read {
+// The word behind what was read, which has the words from n on.
+fn finish(words: &mut [u64], e: Read, tag: u64, n: usize, x: u64) -> Read
+    requires { ⌜ Spare (now words) e n n tag x ⌝ }
+    ensures { λ r. ⌜ seen r (now (words .exit)) ≡ finished tag n x (seen e (now (words .entry))) ⌝ }
+{
     match e {
         Read::Wrong(k, p) => Read::Wrong(k, p),
         Read::At(j, m, _) => {
-            if token::kind_at(tokens, j) != 93 {
-                return Read::Wrong(10, j);
-            }
-            code::put(words, m, code::word_of(6, (m - n + 1) as u64, 0));
-            Read::At(j + 1, m + 1, 0)
-        }
-    }
-}
-
-// The word of a call whose arguments have the words from n on.
-fn close_call(words: &mut [u64], es: Read, n: usize, library: u64) -> Read {
-    match es {
-        Read::Wrong(k, p) => Read::Wrong(k, p),
-        Read::At(j, m, _) => {
-            code::put(words, m, code::word_of(8, (m - n + 1) as u64, library));
+            code::put(words, m, code::word_of(tag, (m - n + 1) as u64, x));
             Read::At(j, m + 1, 0)
         }
     }
 }
 
 // Arguments and the closing parenthesis. The word before each argument holds how many words it has.
-fn read_arguments(tokens: &[u64], words: &mut [u64], i: usize, n: usize, left: usize) -> Read {
+fn read_arguments(tokens: &[u64], words: &mut [u64], i: usize, n: usize, left: usize) -> Read
+    requires { ⌜ Room (now tokens) (now words) i (n + 1) ⌝ }
+    ensures { λ r. ⌜ seen r (now (words .exit)) ≡ writtenCode (arguments (expression left (now (tokens .entry))) (now (tokens .entry)) i) n (now (words .entry)) ⌝ }
+{
     if token::kind_at(tokens, i) == 41 {
         return Read::At(i + 1, n, 0);
     }

@@ -1,0 +1,27 @@
+use mathlib.Core.Path.{sym}
+use denote.Ref.{now}
+use lib.ListN.{List·getD-eq-default}
+use borrow.Author.Needs.{needs}
+use Rattle.expressions.proofs.token.word_at.Statement.{statement}
+use Rattle.expressions.proofs.token.word_at.Tie as tie
+use Rattle.expressions.proofs.token.word_at.Reads as reads
+use Rattle.expressions.proofs.token.word_at.Lts as lts
+
+-- src/token.rt:9:27
+mul-result : tie.Need-mul-result
+mul-result c = search needs
+
+-- src/token.rt:9:27
+shared-slice-read-result : tie.Need-shared-slice-read-result
+shared-slice-read-result c = search needs
+
+-- src/token.rt:6:1
+returns : tie.Need-returns
+returns c = search needs
+
+-- src/token.rt:6:1
+returns-2 : tie.Need-returns-2
+returns-2 c = sym (List·getD-eq-default (now (c .before .args .tokens)) 0 (c .if1 .left))
+
+pub word-at-spec : {M : Type 1} → statement M
+word-at-spec = tie.close (tie.spec mul-result shared-slice-read-result returns returns-2)
