@@ -1,5 +1,5 @@
-// Expressions, operands, primaries and arguments, which call each other: the levels left or the tokens left fall. Token words are read from left
-// to right, and the code of what was read is written. `left` is how many levels may still be opened, `i` a token, and `n` the first free word.
+// Expressions, operands, primaries and arguments, which call each other: the tokens left fall. Token words are read from left to right, and the
+// code of what was read is written. `left` is how many levels may still be opened, `i` a token, and `n` the first free word.
 pub mod token;
 
 ghost use mathlib.Core.Path.{_≡_};
