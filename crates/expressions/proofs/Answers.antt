@@ -1,16 +1,16 @@
 -- What an answer and the slice behind it say of what was read, and what a store of one word makes of them.
 -- Assumes nothing.
-use Prim.Native.Nat.{ℕ, suc, _+_, _-_, _<_, _≤_}
-use mathlib.Core.Path.{_≡_, _∙_, refl, sym, ap}
+use Prim.Native.Nat.{ℕ, _+_, _<_}
+use mathlib.Core.Path.{_≡_, refl, sym, ap}
 use mathlib.Core.List.{List, [], _∷_, _++_, append-assoc}
 use native.Mathlib.Numerals.{add-one}
 use native.Mathlib.Omega.{arith}
-use lib.ListN.{length, take, set, length-append, length-set, length-take}
-use lib.Seq.{take-suc-set, take-set-lt, set-append-left, length-take-le, take-suc}
-use Rattle.meaning.specs.Grammar.{Got, good, wrong}
+use lib.ListN.{length, take, set, length-append, length-take}
+use lib.Seq.{take-suc-set, take-set-lt, set-append-left}
+use Rattle.meaning.specs.Grammar.{Got, good, wrong, after}
 use Rattle.expressions.specs.declared.Read.{Read}
 use Rattle.expressions.specs.declared.Read.the-variants.{At, Wrong}
-use Rattle.expressions.specs.Words.{Piece, Seen, at, failed, seen, written, writtenCode}
+use Rattle.expressions.specs.Words.{Piece, at, seen, written, writtenCode}
 
 -- ---- stores
 -- a word behind the first e
@@ -69,3 +69,28 @@ erred-code r (good c j) n s₀ s k p h q =
     let l : seen (Wrong k p) s ≡ writtenCode (good c j) n s₀ = rw q at h in
     let z : _≡_ {A = ℕ} 0 1 = cc in absurd (omega arith)
 erred-code r (wrong k′ p′) n s₀ s k p h q = let l : seen (Wrong k p) s ≡ writtenCode (wrong k′ p′) n s₀ = rw q at h in cc
+
+pub wrong-seen : (k p n : ℕ) (s₀ s : List ℕ) → seen (Wrong k p) s ≡ written (wrong k p) n s₀
+unfolding seen written
+wrong-seen k p n s₀ s = refl
+
+-- what was read is what its answer says
+pub good-seen : (g : Got Piece) (n : ℕ) (s₀ : List ℕ) (j m t : ℕ) (s : List ℕ) (w : Wrote g n s₀ j m t s) → seen (At j m t) s ≡ written (good (w .piece) j) n s₀
+unfolding seen written
+good-seen g n s₀ j m t s w = let h = w .upTo in let l = w .targeted in let f = w .front in cc
+
+-- ---- what follows
+-- the same, where what follows is
+pub same-after : {A B : Type 0} (g : Got A) (f h : A → ℕ → Got B) → ((a : A) (j : ℕ) → g ≡ good a j → f a j ≡ h a j) → after g f ≡ after g h
+unfolding after
+same-after (good a j) f h e = e a j refl
+same-after (wrong k p) f h e = refl
+
+-- a list put before what is read
+pub shifted : (g : Got (List ℕ)) (c s s₂ : List ℕ) (m q : ℕ) → q ≡ m + length c → take q s₂ ≡ take m s ++ c
+    → writtenCode (after g λ es j. good (c ++ es) j) m s ≡ writtenCode g q s₂
+unfolding writtenCode after
+shifted (wrong k p) c s s₂ m q h f = refl
+shifted (good es j) c s s₂ m q h f =
+    let u : m + length (c ++ es) ≡ q + length es = omega (arith, length-append c es) in
+    rw (u, f) (ap (at j (q + length es) 0) (sym (append-assoc (take m s) c es)))

@@ -1,30 +1,23 @@
 -- The loop over arguments: what is left from the start is what is left from here.
 -- Assumes nothing.
 use Prim.Native.Nat.{ℕ, zero, suc, _+_, _-_, _^_, _<_, _≤_}
-use mathlib.Core.Path.{_≡_, _∙_, refl, sym, ap, subst}
-use mathlib.Core.Bool.{Bool, true, false}
-use mathlib.Core.List.{List, [], _∷_, _++_, append-assoc, append-nil}
+use mathlib.Core.Path.{_≡_, _∙_, refl, sym, ap}
+use mathlib.Core.List.{List, [], _++_, append-nil}
 use native.Mathlib.Omega.{arith}
-use borrow.Author.Tests.{eq-eqb, ne-eqb}
-use lib.Dec.{eqb}
+use borrow.Author.Tests.{ne-eqb}
 use lib.ListN.{length, take, set, length-append, length-set}
 use Rattle.meaning.specs.Basics.{if_then_else_}
 use Rattle.meaning.specs.Token.{comma, closeParen}
-use Rattle.meaning.specs.Grammar.{Got, good, wrong, after}
+use Rattle.meaning.specs.Grammar.{Got, good, after}
 use Rattle.code.specs.Code.{word}
 use Rattle.expressions.specs.declared.Read.{Read}
 use Rattle.expressions.specs.declared.Read.the-variants.{At, Wrong}
-use Rattle.expressions.specs.Words.{kindAt, is, Piece, piece, ReadPiece, expect, argumentCode, argumentsFrom, arguments, expression, Seen, at, failed, seen, written, writtenCode}
+use Rattle.expressions.specs.Words.{kindAt, is, Piece, piece, expect, argumentCode, argumentsFrom, arguments, expression, at, seen, written, writtenCode}
 use Rattle.expressions.specs.Room.{Room}
-use Rattle.expressions.proofs.Paid.{Paid, expression-paid}
-use Rattle.expressions.proofs.Answers.{take-put-before, Wrote, wrote, erred}
+use Rattle.expressions.proofs.Paid.{expression-paid}
+use Rattle.expressions.proofs.Answers.{take-put-before, Wrote, wrote, erred, same-after, shifted}
 
 -- ---- rounds
-same-after : {A B : Type 0} (g : Got A) (f h : A → ℕ → Got B) → ((a : A) (j : ℕ) → g ≡ good a j → f a j ≡ h a j) → after g f ≡ after g h
-unfolding after
-same-after (good a j) f h e = e a j refl
-same-after (wrong k p) f h e = refl
-
 -- an argument, and what `rest` yields behind a comma
 abbrev turn : List ℕ → (ℕ → Got (List ℕ)) → Piece → ℕ → Got (List ℕ)
 turn ws rest e j =
@@ -74,15 +67,6 @@ pub going-starts : (left : ℕ) (ws : List ℕ) (i n : ℕ) (s : List ℕ) (kind
 unfolding arguments if_then_else_ rest
 going-starts left ws i n s kind k h f o = record { same = rw (← k, ne-eqb _ _ h); ahead = omega arith; fits = f; room = o; kept = refl }
 
--- a list put before what is read
-shifted : (g : Got (List ℕ)) (c s s₂ : List ℕ) (m q : ℕ) → q ≡ m + length c → take q s₂ ≡ take m s ++ c
-  → writtenCode (after g λ es j. good (c ++ es) j) m s ≡ writtenCode g q s₂
-unfolding writtenCode after
-shifted (wrong k p) c s s₂ m q h f = refl
-shifted (good es j) c s s₂ m q h f =
-    let u : m + length (c ++ es) ≡ q + length es = omega (arith, length-append c es) in
-    rw (u, f) (ap (at j (q + length es) 0) (sym (append-assoc (take m s) c es)))
-
 -- a turn: the argument ended before token j, with the words up to q, and its own word was put before it
 pub record Turned (ws s₁ : List ℕ) (p m j q : ℕ) : Type 0 where
   pub ahead : p < j
@@ -109,7 +93,7 @@ module _ (left : ℕ) (ws : List ℕ) (i n : ℕ) (s₀ : List ℕ) (p m : ℕ) 
           place = omega (arith, y .ahead, y .within, o .behind, o .wide);
           some = omega (arith, w .upTo, y .some);
           size = omega (arith, w .upTo, y .paid, y .within, o .short);
-          paid = omega (arith, w .upTo, y .paid, o .behind)
+          paid = omega (arith, w .upTo, y .paid, o .behind);
         }
 
     module _ (w kind : ℕ) (s₂ : List ℕ) (v : w ≡ word 9 (q - m - 1) 0) (x : s₂ ≡ set s₁ m w) (k : kind ≡ kindAt ws j) where
@@ -129,14 +113,14 @@ module _ (left : ℕ) (ws : List ℕ) (i n : ℕ) (s₀ : List ℕ) (p m : ℕ) 
           let o = g .room in
           let b : q ≡ m + length (argumentCode (y .piece .code)) = omega (arith, y .upTo) in
           let r : writtenCode (rest left ws p) m s ≡ writtenCode (rest left ws (j + 1)) q s₂ =
-            rw (rest-turns left ws p, y .read, ← k, c) (shifted (rest left ws (j + 1)) (argumentCode (y .piece .code)) s s₂ m q b (front y)) in
+          rw (rest-turns left ws p, y .read, ← k, c) (shifted (rest left ws (j + 1)) (argumentCode (y .piece .code)) s s₂ m q b (front y)) in
           let d : length s₂ ≡ length s₁ = rw x (length-set s₁ m w) in
           record {
             same = g .same ∙ r;
             ahead = omega (arith, g .ahead, z .ahead);
             fits = omega (arith, z .within, o .short);
             room = record { behind = z .paid; wide = omega (arith, o .wide); short = o .short };
-            kept = omega (arith, g .kept)
+            kept = omega (arith, g .kept);
           }
 
       pub going-ends : kind ≡ 41 → seen (At (j + 1) q 0) s₂ ≡ writtenCode (arguments (expression left ws) ws i) n s₀

@@ -1,15 +1,13 @@
 -- What a primary is, by the kind of its first token.
 -- Assumes nothing.
-use Prim.Native.Nat.{ℕ, _+_, _-_, _<_, _≤_}
-use mathlib.Core.Path.{_≡_, refl}
-use mathlib.Core.Bool.{_&&_, true, false}
-use mathlib.Core.List.{List, [], _∷_}
+use Prim.Native.Nat.{ℕ, _+_, _<_, _≤_}
+use mathlib.Core.Path.{_≡_}
+use mathlib.Core.List.{List}
 use borrow.Author.Tests.{eq-eqb, ne-eqb, le-leb, lt-leb}
-use lib.Dec.{eqb, leb}
 use Rattle.meaning.specs.Basics.{if_then_else_}
 use Rattle.meaning.specs.Token.{closeParen, closeBracket}
-use Rattle.meaning.specs.Grammar.{Got, good, wrong, after, Inside, noLevel, level, opening}
-use Rattle.expressions.specs.Words.{kindAt, payloadAt, placeAt, homeAt, libraryAt, partAt, Piece, piece, leaf, minusBits, ReadPiece, expect, arguments, callCode, tableCode, primary}
+use Rattle.meaning.specs.Grammar.{good, wrong, after, Inside, noLevel, opening}
+use Rattle.expressions.specs.Words.{kindAt, payloadAt, placeAt, homeAt, libraryAt, partAt, piece, leaf, minusBits, ReadPiece, expect, arguments, callCode, tableCode, primary}
 
 module _ (inside : Inside ReadPiece) (ws : List ℕ) (i : ℕ) where
   pub primary-digits : kindAt ws i ≡ 2 → payloadAt ws i ≤ 2147483647 → primary inside ws i ≡ leaf 1 (payloadAt ws i) 0 (i + 1)

@@ -1,17 +1,17 @@
 -- The word behind what was read: what the small functions answer.
 -- Assumes nothing.
 use Prim.Native.Nat.{ℕ, _+_, _-_, _%_, _<_, _≤_}
-use mathlib.Core.Path.{_≡_, _∙_, refl, sym, ap}
+use mathlib.Core.Path.{_≡_, _∙_, sym}
 use mathlib.Core.List.{List, [], _∷_, _++_}
 use borrow.Author.Tests.{eq-eqb, ne-eqb}
 use native.Mathlib.Omega.{arith}
 use lib.ListN.{length, take, set}
 use Rattle.meaning.specs.Basics.{if_then_else_}
-use Rattle.meaning.specs.Grammar.{Got, good, wrong, Inside, noLevel}
+use Rattle.meaning.specs.Grammar.{Got, wrong, noLevel}
 use Rattle.code.specs.Code.{word}
 use Rattle.expressions.specs.declared.Read.{Read}
 use Rattle.expressions.specs.declared.Read.the-variants.{At, Wrong}
-use Rattle.expressions.specs.Words.{kindAt, payloadAt, placeAt, Piece, leaf, minusBits, primary, Seen, at, failed, seen, written}
+use Rattle.expressions.specs.Words.{kindAt, payloadAt, placeAt, Piece, leaf, primary, at, seen, written}
 use Rattle.expressions.specs.Steps.{closed, finished, combined}
 use Rattle.expressions.proofs.Answers.{take-put}
 use Rattle.expressions.proofs.Primaries.{primary-digits, primary-large, primary-minus, primary-apart, primary-lower, primary-negative}

@@ -1,6 +1,6 @@
 -- Tokens by their words: where one stands, the bounds of what its word holds, and the tag of an operator.
 -- Assumes nothing.
-use Prim.Native.Nat.{ℕ, _+_, _-_, _*_, _/_, _%_, _^_, _<_, _≤_}
+use Prim.Native.Nat.{ℕ, _+_, _-_, _*_, _%_, _^_, _<_, _≤_}
 use mathlib.Core.Path.{_≡_, _∙_, refl, ap}
 use mathlib.Core.Bool.{Bool, true, false, _&&_}
 use mathlib.Core.List.{List}
@@ -22,10 +22,6 @@ chosen P false x y f g = g refl
 pub both-left : (a b : Bool) → (a && b) ≡ true → a ≡ true
 both-left true b e = refl
 both-left false b e = e
-
-pub both-right : (a b : Bool) → (a && b) ≡ true → b ≡ true
-both-right true b e = e
-both-right false b e = let z : _≡_ {A = ℕ} 0 1 = cc in absurd (omega arith)
 
 -- ---- where a token stands
 -- behind the last token a kind is 0
@@ -77,7 +73,7 @@ operator-small k =
     chosen (λ t. t < 256) (eqb k 60) _ _ (λ _. omega arith) λ _. omega arith
 
 pub operator-none : (k : ℕ) → (k ≡ 171 → ⊥) → (k ≡ 43 → ⊥) → (k ≡ 45 → ⊥) → (k ≡ 42 → ⊥) → (k ≡ 47 → ⊥) → (k ≡ 37 → ⊥) → (k ≡ 190 → ⊥) → (k ≡ 188 → ⊥) → (k ≡ 189 → ⊥) → (k ≡ 161 → ⊥) → (k ≡ 62 → ⊥) → (k ≡ 60 → ⊥)
-  → 0 ≡ operatorTag k
+    → 0 ≡ operatorTag k
 unfolding operatorTag if_then_else_
 operator-none k a b c d e f g h i j l m =
     rw (ne-eqb _ _ a, ne-eqb _ _ b, ne-eqb _ _ c, ne-eqb _ _ d, ne-eqb _ _ e, ne-eqb _ _ f)

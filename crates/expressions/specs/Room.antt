@@ -20,8 +20,7 @@ pub record Spot (words : List ℕ) (i n tag x : ℕ) : Type 0 where
   pub smallNumber : x < 4294967296
 
 -- one word behind what was read and written, of which the words from m on are the last part and those from n on all
-pub record Spare (words : List ℕ) (a : Read) (n m tag x : ℕ) : Type 0 where
+pub record Spare (words : List ℕ) (a : Read) (n m tag : ℕ) : Type 0 where
   pub order : n ≤ m
   pub smallTag : tag < 256
-  pub smallNumber : x < 4294967296
   pub spare : (j e t : ℕ) → a ≡ At j e t → (m ≤ e) × (e < length words) × (e < n + 16777215)

@@ -1,9 +1,9 @@
-// Expressions, operands, primaries and arguments, which call each other: the levels left or the tokens left fall. Token words are read from left
-// to right, and the code of what was read is written. `left` is how many levels may still be opened, `i` a token, and `n` the first free word.
+// Expressions, operands, primaries and arguments, which call each other: the tokens left fall. Token words are read from left to right, and the
+// code of what was read is written. `left` is how many levels may still be opened, `i` a token, and `n` the first free word.
 pub mod token;
 
 ghost use mathlib.Core.Path.{_≡_};
-ghost use Prim.Native.Nat.{_+_};
+ghost use Prim.Native.Nat.{_+_, _<_};
 ghost use Rattle.meaning.specs.Grammar.{noLevel};
 ghost use Rattle.expressions.specs.Words.{kindAt, leaf, expression, operand, primary, arguments, insideOf, seen, written, writtenCode};
 ghost use Rattle.expressions.specs.Room.{Room, Spot, Spare};
@@ -55,7 +55,7 @@ fn read_operand(tokens: &[u64], words: &mut [u64], i: usize, n: usize, left: usi
 
 // The word behind two parts: the first has the words from n up to m, the second was read as b.
 fn join(words: &mut [u64], b: Read, tag: u64, n: usize, m: usize, target: u64) -> Read
-    requires { ⌜ Spare (now words) b n m tag 0 ⌝ }
+    requires { ⌜ Spare (now words) b n m tag ⌝ }
     ensures { λ r. ⌜ seen r (now (words .exit)) ≡ combined tag n m target (seen b (now (words .entry))) ⌝ }
 {
     match b {
@@ -171,7 +171,8 @@ fn close(tokens: &[u64], e: Read, kind: u64) -> Read
 
 // The word behind what was read, which has the words from n on.
 fn finish(words: &mut [u64], e: Read, tag: u64, n: usize, x: u64) -> Read
-    requires { ⌜ Spare (now words) e n n tag x ⌝ }
+    requires { ⌜ Spare (now words) e n n tag ⌝ }
+    requires { ⌜ x < 4294967296 ⌝ }
     ensures { λ r. ⌜ seen r (now (words .exit)) ≡ finished tag n x (seen e (now (words .entry))) ⌝ }
 {
     match e {

@@ -1,3 +1,4 @@
+-- `close` meets its contract. Assumes nothing.
 use denote.Ref.{now}
 use mathlib.Core.Path.{_∙_, sym}
 use native.Mathlib.Omega.{arith}
@@ -6,35 +7,25 @@ use Rattle.expressions.proofs.Puts.{close-wrong, close-at, close-other}
 use borrow.Author.Needs.{needs}
 use Rattle.expressions.proofs.close.Statement.{statement}
 use Rattle.expressions.proofs.close.Tie as tie
-use Rattle.expressions.proofs.close.Reads as reads
-use Rattle.expressions.proofs.close.Lts as lts
-use Rattle.expressions.proofs.token.kind_at.Reads as kind-at-reads
 
--- src/lib.rt:162:21
 enum-known-e : tie.Need-enum-known-e
 enum-known-e c = search needs
 
--- src/lib.rt:163:18
 enum-known-e-2 : tie.Need-enum-known-e-2
 enum-known-e-2 c = search needs
 
--- src/lib.rt:164:16
 kind-at-requires : tie.Need-kind-at-requires
 kind-at-requires c κs = search needs
 
--- src/lib.rt:165:17
 returns : tie.Need-returns
 returns c = close-other _ _ _ _ _ _ _ (c .before .before .before .e2 .given .1) (c .before .kind-at .ensures) (c .if1 .taken)
 
--- src/lib.rt:167:22
 add-t11 : tie.Need-add-t11
 add-t11 c = omega (arith, token-inside (now (c .before .before .before .before .before .before .args .tokens)) (c .before .before .before .e2 .given .0 .0) _ (sym (c .before .kind-at .ensures) ∙ c .if1 .left) (c .before .before .before .before .before .before .pre))
 
--- src/lib.rt:157:1
 returns-2 : tie.Need-returns-2
 returns-2 c = close-wrong _ _ _ _ _ (c .before .e .given .1)
 
--- src/lib.rt:157:1
 returns-3 : tie.Need-returns-3
 returns-3 c = close-at _ _ _ _ _ _ _ (c .before .before .before .e2 .given .1) (c .before .kind-at .ensures) (c .if1 .left)
 

@@ -1,34 +1,25 @@
+-- `put_leaf` meets its contract. Assumes nothing.
 use native.Mathlib.Omega.{arith}
 use Rattle.expressions.proofs.Puts.{leaf-put}
 use borrow.Author.Needs.{needs}
 use Rattle.expressions.proofs.put_leaf.Statement.{statement}
 use Rattle.expressions.proofs.put_leaf.Tie as tie
-use Rattle.expressions.proofs.put_leaf.Reads as reads
-use Rattle.expressions.proofs.put_leaf.Lts as lts
-use Rattle.code.proofs.put.Reads as put-reads
-use Rattle.code.proofs.word_of.Reads as word-of-reads
 
--- src/lib.rt:120:25
 word-of-requires : tie.Need-word-of-requires
 word-of-requires c κs = search needs
 
--- src/lib.rt:120:5
 put-requires : tie.Need-put-requires
 put-requires c κs = search needs
 
--- src/lib.rt:121:14
 add-t11 : tie.Need-add-t11
 add-t11 c = search needs
 
--- src/lib.rt:121:21
 add-t12 : tie.Need-add-t12
 add-t12 c = search needs
 
--- src/lib.rt:116:1
 same-length : tie.Need-same-length
 same-length c = search needs
 
--- src/lib.rt:116:1
 returns : tie.Need-returns
 returns c = leaf-put _ _ _ _ _ _ _ _ (c .before .before .before .word-of .ensures) (c .before .before .put .ensures) (omega (arith, c .before .before .before .before .before .before .pre .behind, c .before .before .before .before .before .before .pre .inside))
 

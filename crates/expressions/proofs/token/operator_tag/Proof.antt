@@ -1,74 +1,60 @@
+-- `token::operator_tag` meets its contract: an arm for each operator. Assumes nothing.
 use Rattle.meaning.specs.Basics.{if_then_else_}
 use Rattle.expressions.specs.Words.{operatorTag}
 use Rattle.expressions.proofs.Tokens.{operator-none}
 use Rattle.expressions.proofs.token.operator_tag.Statement.{statement}
 use Rattle.expressions.proofs.token.operator_tag.Tie as tie
-use Rattle.expressions.proofs.token.operator_tag.Reads as reads
-use Rattle.expressions.proofs.token.operator_tag.Lts as lts
 
--- src/token.rt:58:1
 returns : tie.Need-returns
 unfolding operatorTag if_then_else_
 returns c = rw (c .match .keys1)
 
--- src/token.rt:58:1
 returns-2 : tie.Need-returns-2
 unfolding operatorTag if_then_else_
 returns-2 c = rw (c .match .keys2)
 
--- src/token.rt:58:1
 returns-3 : tie.Need-returns-3
 unfolding operatorTag if_then_else_
 returns-3 c = rw (c .match .keys3)
 
--- src/token.rt:58:1
 returns-4 : tie.Need-returns-4
 unfolding operatorTag if_then_else_
 returns-4 c = rw (c .match .keys4)
 
--- src/token.rt:58:1
 returns-5 : tie.Need-returns-5
 unfolding operatorTag if_then_else_
 returns-5 c = rw (c .match .keys5)
 
--- src/token.rt:58:1
 returns-6 : tie.Need-returns-6
 unfolding operatorTag if_then_else_
 returns-6 c = rw (c .match .keys6)
 
--- src/token.rt:58:1
 returns-7 : tie.Need-returns-7
 unfolding operatorTag if_then_else_
 returns-7 c = rw (c .match .keys7)
 
--- src/token.rt:58:1
 returns-8 : tie.Need-returns-8
 unfolding operatorTag if_then_else_
 returns-8 c = rw (c .match .keys8)
 
--- src/token.rt:58:1
 returns-9 : tie.Need-returns-9
 unfolding operatorTag if_then_else_
 returns-9 c = rw (c .match .keys9)
 
--- src/token.rt:58:1
 returns-10 : tie.Need-returns-10
 unfolding operatorTag if_then_else_
 returns-10 c = rw (c .match .keys10)
 
--- src/token.rt:58:1
 returns-11 : tie.Need-returns-11
 unfolding operatorTag if_then_else_
 returns-11 c = rw (c .match .keys11)
 
--- src/token.rt:58:1
 returns-12 : tie.Need-returns-12
 unfolding operatorTag if_then_else_
 returns-12 c = rw (c .match .keys12)
 
--- src/token.rt:58:1
 returns-13 : tie.Need-returns-13
-returns-13 c = 
+returns-13 c =
     let r = c .match .rest in
     operator-none _ (r .0 .0 .0 .0 .0 .0 .0 .0 .0 .0 .0 .1) (r .0 .0 .0 .0 .0 .0 .0 .0 .0 .0 .1) (r .0 .0 .0 .0 .0 .0 .0 .0 .0 .1) (r .0 .0 .0 .0 .0 .0 .0 .0 .1) (r .0 .0 .0 .0 .0 .0 .0 .1) (r .0 .0 .0 .0 .0 .0 .1) (r .0 .0 .0 .0 .0 .1) (r .0 .0 .0 .0 .1) (r .0 .0 .0 .1) (r .0 .0 .1) (r .0 .1) (r .1)
 

@@ -1,51 +1,37 @@
+-- `token::part_at` meets its contract. Assumes nothing.
 use denote.Ref.{now}
 use Rattle.expressions.proofs.Tokens.{part-short, part-long}
 use borrow.Author.Needs.{needs}
 use Rattle.expressions.proofs.token.part_at.Statement.{statement}
 use Rattle.expressions.proofs.token.part_at.Tie as tie
-use Rattle.expressions.proofs.token.part_at.Reads as reads
-use Rattle.expressions.proofs.token.part_at.Lts as lts
-use Rattle.expressions.proofs.token.home_at.Reads as home-at-reads
-use Rattle.expressions.proofs.token.payload_at.Reads as payload-at-reads
-use Rattle.expressions.proofs.token.place_at.Reads as place-at-reads
 
--- src/token.rt:49:16
 home-at-requires : tie.Need-home-at-requires
 home-at-requires c κs = search needs
 
--- src/token.rt:50:16
 payload-at-requires : tie.Need-payload-at-requires
 payload-at-requires c κs = search needs
 
--- src/token.rt:52:16
 place-at-requires : tie.Need-place-at-requires
 place-at-requires c κs = search needs
 
--- src/token.rt:52:16
 add-result : tie.Need-add-result
 add-result c = search needs
 
--- src/token.rt:52:9
 returns : tie.Need-returns
 returns c = part-short (now (c .before .before .before .before .before .args .tokens)) (c .before .before .before .before .before .args .i) _ _ _ (c .before .before .before .home-at .ensures) (c .before .before .payload-at .ensures) (c .place-at .ensures) (c .before .if1 .taken)
 
--- src/token.rt:54:5
 place-at-requires-2 : tie.Need-place-at-requires-2
 place-at-requires-2 c κs = search needs
 
--- src/token.rt:54:5
 add-result-2 : tie.Need-add-result-2
 add-result-2 c = search needs
 
--- src/token.rt:54:34
 mul-result : tie.Need-mul-result
 mul-result c = search needs
 
--- src/token.rt:54:5
 add-result-3 : tie.Need-add-result-3
 add-result-3 c = search needs
 
--- src/token.rt:46:1
 returns-2 : tie.Need-returns-2
 returns-2 c = part-long (now (c .before .before .before .before .before .args .tokens)) (c .before .before .before .before .before .args .i) _ _ _ (c .before .before .before .home-at .ensures) (c .before .before .payload-at .ensures) (c .place-at2 .ensures) (c .before .if1 .left)
 

@@ -1,25 +1,20 @@
+-- `token::word_at` meets its contract: behind the last token the word is 0. Assumes nothing.
 use mathlib.Core.Path.{sym}
 use denote.Ref.{now}
 use lib.ListN.{List·getD-eq-default}
 use borrow.Author.Needs.{needs}
 use Rattle.expressions.proofs.token.word_at.Statement.{statement}
 use Rattle.expressions.proofs.token.word_at.Tie as tie
-use Rattle.expressions.proofs.token.word_at.Reads as reads
-use Rattle.expressions.proofs.token.word_at.Lts as lts
 
--- src/token.rt:9:27
 mul-result : tie.Need-mul-result
 mul-result c = search needs
 
--- src/token.rt:9:27
 shared-slice-read-result : tie.Need-shared-slice-read-result
 shared-slice-read-result c = search needs
 
--- src/token.rt:6:1
 returns : tie.Need-returns
 returns c = search needs
 
--- src/token.rt:6:1
 returns-2 : tie.Need-returns-2
 returns-2 c = sym (List·getD-eq-default (now (c .before .args .tokens)) 0 (c .if1 .left))
 
