@@ -1,11 +1,16 @@
 -- What code does to the two lent slices: it gives a result, or it stops with a number and its place.
-use Prim.Native.Nat.{ℕ, _+_}
+use Prim.Native.Nat.{ℕ, _+_, _%_, _^_}
+use mathlib.Core.Path.{_≡_}
 use mathlib.Core.Bool.{Bool, true, false}
 use mathlib.Core.List.{List}
 use lib.ListN.{getD, set}
-use lib.Dec.{ltb, leb}
+use lib.Dec.{leb}
 use Rattle.meaning.specs.Basics.{if_then_else_}
-use Rattle.stores.specs.Layout.{stepsUsed, stepsGranted}
+use Rattle.values.specs.declared.Value.{Value}
+use Rattle.values.specs.declared.Value.the-variants.{Table}
+use Rattle.values.specs.declared.Answer.{Answer}
+use Rattle.values.specs.declared.Answer.the-variants.{Good, Bad}
+use Rattle.stores.specs.Layout.{stepsUsed, stepsGranted, tablesMade}
 
 -- the text store and the words
 pub record Raw : Type 0 where
@@ -60,3 +65,35 @@ spend counter granted amount number p r =
 -- a step is counted
 abbrev pub count : List ℕ → ℕ → Act (Unit {0})
 count g p = spend stepsUsed (stepsGranted g) 1 79 p
+
+-- a new table takes nothing
+unfoldable pub newTable : Act Value
+newTable = do
+  t ← load tablesMade
+  store tablesMade (t % 2 ^ 32 + 1)
+  give (Table (t % 2 ^ 32))
+
+-- ---- what code answers
+unfoldable pub shown : Answer → List ℕ → List ℕ → Out Value
+shown (Good v) ts ws = done v (raw ts ws)
+shown (Bad n p) ts ws = stop n p (raw ts ws)
+
+unfoldable pub passed : Bool → ℕ → ℕ → List ℕ → List ℕ → Out (Unit {0})
+passed true n p ts ws = done tt (raw ts ws)
+passed false n p ts ws = stop n p (raw ts ws)
+
+-- Code that is handed the words alone does what an act does, whatever the text store holds: with the words before and after, it answers so,
+pub record Answers (before : List ℕ) (act : Act Value) (answer : Answer) (after : List ℕ) : Type 0 where
+  pub equal : (ts : List ℕ) → shown answer ts after ≡ act (raw ts before)
+
+-- says whether it passed (if not, the act stops with this number),
+pub record Passes (before : List ℕ) (number : ℕ) (act : ℕ → Act (Unit {0})) (ok : Bool) (after : List ℕ) : Type 0 where
+  pub equal : (p : ℕ) (ts : List ℕ) → passed ok number p ts after ≡ act p (raw ts before)
+
+-- pays (a shortage may have any number),
+pub record Pays (before : List ℕ) (counter granted amount : ℕ) (ok : Bool) (after : List ℕ) : Type 0 where
+  pub equal : (n p : ℕ) (ts : List ℕ) → passed ok n p ts after ≡ spend counter granted amount n p (raw ts before)
+
+-- or gives a result.
+pub record Gives {A : Type 0} (before : List ℕ) (act : Act A) (result : A) (after : List ℕ) : Type 0 where
+  pub equal : (ts : List ℕ) → done result (raw ts after) ≡ act (raw ts before)

@@ -1,9 +1,9 @@
 -- Where everything stands in the words that are lent for a run.
 -- 8 counters; 8,192 variables by slot; the slots in the order of their declarations; the arguments of calls under way; shapes of three words each;
 -- entries of four words each, behind as many shapes as are granted.
-use Prim.Native.Nat.{ℕ, _+_, _*_}
+use Prim.Native.Nat.{ℕ, _+_, _*_, _%_, _^_, _≤_, _<_}
 use mathlib.Core.List.{List}
-use lib.ListN.{getD}
+use lib.ListN.{getD, length}
 
 -- ---- counters
 abbrev pub stepsUsed : ℕ
@@ -42,13 +42,13 @@ textGranted g = getD g 3 0
 
 -- ---- regions
 abbrev pub valuePlace : ℕ → ℕ
-valuePlace slot = 8 + slot
+valuePlace slot = 8 + slot % 8192
 
 abbrev pub orderPlace : ℕ → ℕ
-orderPlace k = 8200 + k
+orderPlace k = 8200 + k % 8192
 
 abbrev pub argumentPlace : ℕ → ℕ
-argumentPlace k = 16392 + k
+argumentPlace k = 16392 + k % 8192
 
 abbrev pub shapePlace : ℕ → ℕ
 shapePlace i = 24584 + 3 * i
@@ -59,3 +59,17 @@ entryPlace g k = 24584 + 3 * shapesGranted g + 4 * k
 -- how many words a run needs
 abbrev pub wordsNeeded : List ℕ → ℕ
 wordsNeeded g = 24584 + 3 * shapesGranted g + 4 * entriesGranted g
+
+-- ---- lengths
+-- the grants are in their ranges, and the words are as many as they need
+pub record Room (g ws : List ℕ) : Type 0 where
+  pub steps : stepsGranted g < 2 ^ 32
+  pub shapes : shapesGranted g < 2 ^ 16
+  pub entries : entriesGranted g < 2 ^ 16
+  pub text : textGranted g < 2 ^ 16
+  pub words : wordsNeeded g ≤ length ws
+
+-- so is the text store
+pub record Lent (g ts ws : List ℕ) : Type 0 where
+  pub room : Room g ws
+  pub texts : textGranted g ≤ length ts

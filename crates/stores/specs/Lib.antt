@@ -1,6 +1,6 @@
 pub mod Layout
 pub mod Act
-pub mod Texts
 pub mod Shapes
 pub mod Variables
--- pub mod Tables
+pub mod Arguments
+pub mod Texts

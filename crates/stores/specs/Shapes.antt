@@ -7,21 +7,12 @@ use lib.IntN.{ℤ}
 use lib.Dec.{eqb}
 use mir.Syntax.{w32}
 use mir.Val.{toZ}
-use Rattle.meaning.specs.Basics.{if_then_else_}
 use Rattle.meaning.specs.Integer.{bits}
 use Rattle.values.specs.declared.Value.{Value}
 use Rattle.values.specs.declared.Value.the-variants.{Shape}
+pub use Rattle.stores.specs.declared.Figure.{Figure}
 use Rattle.stores.specs.Layout.{shapesUsed, shapesGranted, shapePlace}
-use Rattle.stores.specs.Act.{Raw, raw, Act, done, _>>=_, _>>_, give, load, store, spend}
-
--- a figure as plain numbers: its kind (0 line, 1 ellipse, 2 box, 3 text), four numbers, and a text's handle, each 0 where it has none
-pub record Figure : Type 0 where
-  pub kind : ℕ
-  pub a : ℤ
-  pub b : ℤ
-  pub c : ℤ
-  pub d : ℤ
-  pub text : ℕ
+use Rattle.stores.specs.Act.{raw, done, Act, _>>=_, _>>_, give, load, store, spend}
 
 -- ---- words
 abbrev pub firstWord : ℕ → ℕ → ℕ
@@ -40,30 +31,38 @@ highNumber w = toZ w32 (w / 2 ^ 32 % 2 ^ 32)
 abbrev pub destroyedAt : List ℕ → ℕ → Bool
 destroyedAt ws i = eqb (getD ws (shapePlace i) 0 % 2) 1
 
+-- a figure: its kind (0 line, 1 ellipse, 2 box, 3 text), four numbers, and a text's handle, each 0 where it has none
 unfoldable pub figureAt : List ℕ → ℕ → Figure
 figureAt ws i = record {
-    kind = getD ws (shapePlace i) 0 / 2 % 4;
-    a = lowNumber (getD ws (shapePlace i + 1) 0);
-    b = highNumber (getD ws (shapePlace i + 1) 0);
-    c = lowNumber (getD ws (shapePlace i + 2) 0);
-    d = highNumber (getD ws (shapePlace i + 2) 0);
-    text = getD ws (shapePlace i) 0 / 8 }
+  kind = getD ws (shapePlace i) 0 / 2 % 4;
+  a = lowNumber (getD ws (shapePlace i + 1) 0);
+  b = highNumber (getD ws (shapePlace i + 1) 0);
+  c = lowNumber (getD ws (shapePlace i + 2) 0);
+  d = highNumber (getD ws (shapePlace i + 2) 0);
+  text = getD ws (shapePlace i) 0 / 8;
+}
 
 -- ---- writing
+-- a figure's words, from a place on
+abbrev pub figureLaid : List ℕ → ℕ → Figure → List ℕ
+figureLaid ws at f =
+    set (set (set ws at (firstWord (f .kind) (f .text))) (at + 1) (pairWord (f .a) (f .b))) (at + 2) (pairWord (f .c) (f .d))
+
+unfoldable pub putFigure : ℕ → Figure → Act (Unit {0})
+putFigure at f r = done tt (raw (r .texts) (figureLaid (r .words) at f))
+
 -- a new shape takes one
 unfoldable pub newShape : List ℕ → ℕ → Figure → Act Value
 newShape g p f = do
-    i ← load shapesUsed
-    spend shapesUsed (shapesGranted g) 1 76 p
-    store (shapePlace i) (firstWord (f .kind) (f .text))
-    store (shapePlace i + 1) (pairWord (f .a) (f .b))
-    store (shapePlace i + 2) (pairWord (f .c) (f .d))
-    give (Shape i)
+  i ← load shapesUsed
+  spend shapesUsed (shapesGranted g) 1 76 p
+  putFigure (shapePlace i) f
+  give (Shape i)
 
 abbrev pub destroyedWord : ℕ → ℕ
 destroyedWord w = w - w % 2 + 1
 
 unfoldable pub destroy : ℕ → Act (Unit {0})
 destroy i = do
-    w ← load (shapePlace i)
-    store (shapePlace i) (destroyedWord w)
+  w ← load (shapePlace i)
+  store (shapePlace i) (destroyedWord w)

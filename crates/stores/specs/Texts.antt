@@ -38,7 +38,7 @@ put at s r = done tt (raw (laidAt (r .texts) at s) (r .words))
 -- two texts, one behind the other, in the store: as many text bytes are taken as they are long. The store's texts are read before it is written.
 unfoldable pub joinTexts : List ℕ → List ℕ → ℕ → ℕ → ℕ → Act ℕ
 joinTexts program g p a b r = (do
-    used ← load textUsed
-    spend textUsed (textGranted g) (sizeIn a + sizeIn b) 78 p
-    put (used % 65536) (textOf program (r .texts) a ++ textOf program (r .texts) b)
-    give (handle 1 (used % 65536) ((sizeIn a + sizeIn b) % 65536))) r
+  used ← load textUsed
+  spend textUsed (textGranted g) (sizeIn a + sizeIn b) 78 p
+  put (used % 65536) (textOf program (r .texts) a ++ textOf program (r .texts) b)
+  give (handle 1 (used % 65536) ((sizeIn a + sizeIn b) % 65536))) r

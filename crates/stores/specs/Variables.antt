@@ -2,14 +2,13 @@
 use Prim.Native.Nat.{ℕ, zero, suc, _+_, _%_}
 use mathlib.Core.Bool.{Bool, false, not}
 use mathlib.Core.List.{List}
-use lib.ListN.{getD, set}
-use lib.Dec.{eqb}
-use Rattle.meaning.specs.Basics.{if_then_else_}
+use lib.ListN.{getD}
+use lib.Dec.{eqb, leb}
 use Rattle.values.specs.declared.Value.{Value}
 use Rattle.values.specs.declared.Value.the-variants.{Integer, Text, Boolean, Nothing, Table, Shape}
 use Rattle.values.specs.Words.{packed, unpacked}
-use Rattle.stores.specs.Layout.{declared, valuePlace, orderPlace}
-use Rattle.stores.specs.Act.{Raw, raw, Act, done, _>>=_, _>>_, give, refuse, load, store}
+use Rattle.stores.specs.Layout.{declared, argumentsHeld, valuePlace, orderPlace, argumentPlace}
+use Rattle.stores.specs.Act.{Act, _>>=_, _>>_, give, refuse, load, store}
 use Rattle.stores.specs.Shapes.{destroyedAt, destroy}
 
 -- a destroyed shape is 30
@@ -24,28 +23,34 @@ isDead ws (Shape i) = destroyedAt ws i
 unfoldable pub usable : ℕ → Value → Act (Unit {0})
 usable p v r = refuse (isDead (r .words) v) 30 p r
 
+-- ---- variables
+abbrev pub isDeclared : List ℕ → ℕ → Bool
+isDeclared ws slot = not (eqb (getD ws (valuePlace slot) 0) 0)
+
 -- what a variable holds: 50 if it is not declared
 unfoldable pub variable : ℕ → ℕ → Act Value
 variable p slot = do
-    w ← load (valuePlace slot)
-    refuse (eqb w 0) 50 p
-    usable p (unpacked w)
-    give (unpacked w)
+  w ← load (valuePlace slot)
+  refuse (eqb w 0) 50 p
+  usable p (unpacked w)
+  give (unpacked w)
 
 -- a declaration: 60 if it is declared
 unfoldable pub declare : ℕ → ℕ → Act (Unit {0})
-declare p slot = do
-    w ← load (valuePlace slot)
-    refuse (not (eqb w 0)) 60 p
-    k ← load declared
-    store (valuePlace slot) (packed Nothing)
-    store (orderPlace (k % 8192)) slot
-    store declared (k % 8192 + 1)
+declare slot p = do
+  w ← load (valuePlace slot)
+  refuse (not (eqb w 0)) 60 p
+  k ← load declared
+  store (valuePlace slot) (packed Nothing)
+  store (orderPlace k) slot
+  store declared (k % 8192 + 1)
 
-unfoldable pub setVariable : ℕ → Value → Act (Unit {0})
-setVariable slot v = store (valuePlace slot) (packed v)
+-- a variable holds the value of this word from now on
+unfoldable pub setVariable : ℕ → ℕ → Act (Unit {0})
+setVariable slot w = store (valuePlace slot) w
 
--- the shape that a word holds, destroyed
+-- ---- the scene
+-- the shape that a value is, destroyed
 unfoldable pub destroyIn : Value → Act (Unit {0})
 destroyIn (Integer z) = give tt
 destroyIn (Text h) = give tt
@@ -58,12 +63,12 @@ destroyIn (Shape i) = destroy i
 unfoldable pub clearFrom : ℕ → ℕ → Act (Unit {0})
 clearFrom k zero = give tt
 clearFrom k (suc n) = do
-    slot ← load (orderPlace k)
-    w ← load (valuePlace slot)
-    destroyIn (unpacked w)
-    clearFrom (k + 1) n
+  slot ← load (orderPlace k)
+  w ← load (valuePlace slot)
+  destroyIn (unpacked w)
+  clearFrom (k + 1) n
 
 unfoldable pub clearScene : Act (Unit {0})
 clearScene = do
-    n ← load declared
-    clearFrom 0 n
+  n ← load declared
+  clearFrom 0 n

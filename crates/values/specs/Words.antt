@@ -11,19 +11,32 @@ use Rattle.values.specs.declared.Value.{Value}
 use Rattle.values.specs.declared.Value.the-variants.{Integer, Text, Boolean, Nothing, Table, Shape}
 
 -- The lowest three bits say which value it is, 1 to 6; a word of 0 is none.
+abbrev pub kindIn : ℕ → ℕ
+kindIn w = w % 8
+
+-- what stands above them: an integer's bits, a table's or a shape's number; a text's handle; a truth
+abbrev pub numberIn : ℕ → ℕ
+numberIn w = w / 8 % 2 ^ 32
+
+abbrev pub handleIn : ℕ → ℕ
+handleIn w = w / 8
+
+abbrev pub truthIn : ℕ → Bool
+truthIn w = eqb (w / 8 % 2) 1
+
 unfoldable pub packed : Value → ℕ
 packed (Integer z) = 1 + 8 * bits z
 packed (Text h) = 2 + 8 * (h % 2 ^ 40)
-packed (Boolean b) = 3 + 8 * cond b 1 0
+packed (Boolean b) = cond b 11 3
 packed Nothing = 4
-packed (Table t) = 5 + 8 * (t % 2 ^ 40)
-packed (Shape i) = 6 + 8 * (i % 2 ^ 40)
+packed (Table t) = 5 + 8 * t
+packed (Shape i) = 6 + 8 * i
 
 unfoldable pub unpacked : ℕ → Value
 unpacked w =
-    if eqb (w % 8) 1 then (λ _. Integer (toZ w32 (w / 8 % 2 ^ 32)))
-    else λ _. if eqb (w % 8) 2 then (λ _. Text (w / 8))
-    else λ _. if eqb (w % 8) 3 then (λ _. Boolean (eqb (w / 8 % 2) 1))
-    else λ _. if eqb (w % 8) 5 then (λ _. Table (w / 8))
-    else λ _. if eqb (w % 8) 6 then (λ _. Shape (w / 8))
+    if eqb (kindIn w) 1 then (λ _. Integer (toZ w32 (numberIn w)))
+    else λ _. if eqb (kindIn w) 2 then (λ _. Text (handleIn w))
+    else λ _. if eqb (kindIn w) 3 then (λ _. Boolean (truthIn w))
+    else λ _. if eqb (kindIn w) 5 then (λ _. Table (numberIn w))
+    else λ _. if eqb (kindIn w) 6 then (λ _. Shape (numberIn w))
     else λ _. Nothing

@@ -1,6 +1,9 @@
 // Values, and the words that they are stored as.
 ghost use mathlib.Core.Path.{_≡_};
-ghost use Rattle.values.specs.Words.{packed, unpacked};
+ghost use mir.Syntax.{w32};
+ghost use mir.Val.{toZ};
+ghost use Rattle.meaning.specs.Integer.{bits};
+ghost use Rattle.values.specs.Words.{kindIn, numberIn, handleIn, truthIn, packed, unpacked};
 
 // A value. A text is a part of the program or of the text store; tables and shapes are known by their numbers.
 pub enum Value {
@@ -8,12 +11,130 @@ pub enum Value {
     Text(u64),
     Boolean(bool),
     Nothing,
-    Table(u64),
-    Shape(u64),
+    Table(u32),
+    Shape(u32),
 }
 
 // What an evaluation gives: a value, or a number and its place.
 pub enum Answer {
     Good(Value),
     Bad(u64, u64),
+}
+
+// The bits of z, in two's complement.
+pub fn bits_of(z: i32) -> u32
+    ensures { λ r. ⌜ r ≡ bits z ⌝ }
+{
+    (z as i64 & 4294967295) as u32
+}
+
+// The integer whose bits are n.
+pub fn signed_of(n: u32) -> i32
+    ensures { λ r. ⌜ r ≡ toZ w32 n ⌝ }
+{
+    if n < 2147483648 {
+        n as i32
+    } else {
+        (n as i64 - 4294967296) as i32
+    }
+}
+
+// Which value a word holds: 1 an integer, 2 a text, 3 a truth, 4 nothing, 5 a table, 6 a shape.
+pub fn kind_of(w: u64) -> u64
+    ensures { λ r. ⌜ r ≡ kindIn w ⌝ }
+{
+    w % 8
+}
+
+// An integer's bits, or the number of a table or a shape.
+pub fn number_of(w: u64) -> u32
+    ensures { λ r. ⌜ r ≡ numberIn w ⌝ }
+{
+    (w / 8 % 4294967296) as u32
+}
+
+// A text's handle.
+pub fn handle_of(w: u64) -> u64
+    ensures { λ r. ⌜ r ≡ handleIn w ⌝ }
+{
+    w / 8
+}
+
+pub fn integer_of(w: u64) -> i32
+    ensures { λ r. ⌜ r ≡ toZ w32 (numberIn w) ⌝ }
+{
+    signed_of(number_of(w))
+}
+
+pub fn truth_of(w: u64) -> bool
+    ensures { λ r. ⌜ r ≡ truthIn w ⌝ }
+{
+    w / 8 % 2 == 1
+}
+
+pub fn integer_word(z: i32) -> u64
+    ensures { λ r. ⌜ r ≡ packed (Value.Integer z) ⌝ }
+{
+    1 + 8 * (bits_of(z) as u64)
+}
+
+pub fn text_word(h: u64) -> u64
+    ensures { λ r. ⌜ r ≡ packed (Value.Text h) ⌝ }
+{
+    2 + 8 * (h % 1099511627776)
+}
+
+pub fn truth_word(b: bool) -> u64
+    ensures { λ r. ⌜ r ≡ packed (Value.Boolean b) ⌝ }
+{
+    if b { 11 } else { 3 }
+}
+
+pub fn table_word(t: u32) -> u64
+    ensures { λ r. ⌜ r ≡ packed (Value.Table t) ⌝ }
+{
+    5 + 8 * (t as u64)
+}
+
+pub fn shape_word(i: u32) -> u64
+    ensures { λ r. ⌜ r ≡ packed (Value.Shape i) ⌝ }
+{
+    6 + 8 * (i as u64)
+}
+
+// The word of a value.
+pub fn pack(v: Value) -> u64
+    ensures { λ r. ⌜ r ≡ packed v ⌝ }
+{
+    match v {
+        Value::Integer(z) => integer_word(z),
+        Value::Text(h) => text_word(h),
+        Value::Boolean(b) => truth_word(b),
+        Value::Nothing => 4,
+        Value::Table(t) => table_word(t),
+        Value::Shape(i) => shape_word(i),
+    }
+}
+
+// The value of a word.
+pub fn unpack(w: u64) -> Value
+    ensures { λ r. ⌜ r ≡ unpacked w ⌝ }
+{
+    let kind = w % 8;
+    if kind == 1 {
+        return Value::Integer(integer_of(w));
+    }
+    if kind == 2 {
+        return Value::Text(w / 8);
+    }
+    if kind == 3 {
+        return Value::Boolean(truth_of(w));
+    }
+    if kind == 5 {
+        return Value::Table(number_of(w));
+    }
+    if kind == 6 {
+        return Value::Shape(number_of(w));
+    }
+    Value::Nothing
 }

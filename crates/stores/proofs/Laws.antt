@@ -1,0 +1,197 @@
+-- What each way through the code does.
+use Prim.Native.Nat.{ℕ, zero, suc, _+_, _-_, _*_, _/_, _%_, _^_, _≤_, _<_}
+use mathlib.Core.Path.{_≡_, refl, ap, sym, _∙_}
+use mathlib.Core.Bool.{Bool, true, false, not}
+use mathlib.Core.List.{List, [], _∷_}
+use native.Mathlib.Omega.{arith}
+use native.Mathlib.Numerals.{add-one}
+use lib.ListN.{getD, set, length, length-set}
+use lib.Seq.{set-out}
+use lib.Dec.{eqb, leb}
+use lib.IntN.{ℤ}
+use lib.Signed.{mag}
+use mir.Syntax.{w32}
+use mir.Val.{toZ, ofZ, SFits}
+use mir.Facts.{toZ-ofZ}
+use borrow.Author.Tests.{not-true, not-false, le-leb, lt-leb, eq-eqb, ne-eqb}
+use Rattle.meaning.specs.Basics.{if_then_else_}
+use Rattle.meaning.specs.Integer.{bits}
+use Rattle.values.specs.declared.Value.{Value}
+use Rattle.values.specs.declared.Value.the-variants.{Integer, Text, Boolean, Nothing, Table, Shape}
+use Rattle.values.specs.declared.Answer.the-variants.{Good, Bad}
+use Rattle.values.specs.Words.{kindIn, numberIn, packed, unpacked}
+use Rattle.values.proofs.Laws.{unpacked-shape, by-kind}
+use Rattle.stores.specs.Layout.{valuePlace, orderPlace, shapePlace, argumentPlace, Room}
+use Rattle.stores.specs.Act.{Raw, raw, Out, done, stop, Act, goOn, _>>=_, give, fail, refuse, load, store, spend, count, newTable, shown, passed, Answers, Passes, Pays, Gives}
+use Rattle.stores.specs.Shapes.{Figure, firstWord, pairWord, figureLaid, putFigure, lowNumber, highNumber, figureAt, destroyedAt, newShape, destroy}
+use Rattle.stores.specs.Variables.{isDead, usable, isDeclared, variable, declare, setVariable, destroyIn, clearFrom, clearScene}
+use Rattle.stores.specs.Arguments.{push, dropTo}
+use Rattle.stores.proofs.Acts.{Paid, paid, Short, short}
+
+-- ---- words
+pub past-end : (ws : List ℕ) (i : ℕ) → length ws ≤ i → 0 ≡ getD ws i 0
+past-end [] i h = refl
+past-end (w ∷ ws) zero h = absurd (omega arith)
+past-end (w ∷ ws) (suc i) h = past-end ws i (omega arith)
+
+-- ---- counters
+module _ (ws : List ℕ) (counter granted amount : ℕ) where
+  pub amount-beyond : granted < amount → Pays ws counter granted amount false ws
+  unfolding spend passed if_then_else_
+  amount-beyond h = record { equal = λ n p ts. rw (lt-leb (getD ws counter 0 + amount) granted (omega arith)) }
+
+  pub left-beyond : amount ≤ granted → granted - amount < getD ws counter 0 → Pays ws counter granted amount false ws
+  unfolding spend passed if_then_else_
+  left-beyond l h = record { equal = λ n p ts. rw (lt-leb (getD ws counter 0 + amount) granted (omega arith)) }
+
+  pub pays : amount ≤ granted → getD ws counter 0 ≤ granted - amount → Pays ws counter granted amount true (set ws counter (getD ws counter 0 + amount))
+  unfolding spend passed if_then_else_
+  pays l h = record { equal = λ n p ts. rw (le-leb (getD ws counter 0 + amount) granted (omega arith)) }
+
+pub counts : (ws g ws′ : List ℕ) (ok : Bool) → Pays ws 0 (getD g 0 0) 1 ok ws′ → Passes ws 79 (count g) ok ws′
+counts ws g ws′ ok h = record { equal = λ p ts. h .equal 79 p ts }
+
+pub makes-table : (ws : List ℕ) → Gives ws newTable (Table (getD ws 4 0 % 4294967296)) (set ws 4 (getD ws 4 0 % 4294967296 + 1))
+unfolding newTable _>>=_ goOn load store give
+makes-table ws = record { equal = λ ts. refl }
+
+-- ---- shapes
+pub destroys : (ws ws′ : List ℕ) (i at w : ℕ) → at ≡ shapePlace i → w ≡ getD ws at 0 → ws′ ≡ set ws at (w - w % 2 + 1) → Gives ws (destroy i) tt ws′
+unfolding destroy _>>=_ goOn load store
+destroys ws ws′ i at w e f h = record { equal = λ ts. rw (h, f, e) }
+
+pub is-destroyed : (ws : List ℕ) (i at w : ℕ) → at ≡ shapePlace i → w ≡ getD ws at 0 → eqb (w % 2) 1 ≡ destroyedAt ws i
+is-destroyed ws i at w e f = rw (f, e)
+
+-- A signed local holds bits, and is read back from them.
+pub pair-is : {x y : ℤ} {a b : ℕ} → SFits w32 x → SFits w32 y → a ≡ bits (toZ w32 (ofZ w32 x)) → b ≡ bits (toZ w32 (ofZ w32 y)) → a + 4294967296 * b ≡ pairWord x y
+pair-is f g h k = rw (h, k, toZ-ofZ f, toZ-ofZ g)
+
+back : {z r : ℤ} → mag r < 2 ^ 31 → r ≡ z → toZ w32 (ofZ w32 r) ≡ z
+back h e = toZ-ofZ (record { sfits = h }) ∙ e
+
+pub figure-is : (ws : List ℕ) (i at x y z : ℕ) {a b c d : ℤ} → at ≡ shapePlace i → x ≡ getD ws at 0 → y ≡ getD ws (at + 1) 0 → z ≡ getD ws (at + 2) 0
+    → mag a < 2 ^ 31 → a ≡ lowNumber y → mag b < 2 ^ 31 → b ≡ highNumber y → mag c < 2 ^ 31 → c ≡ lowNumber z → mag d < 2 ^ 31 → d ≡ highNumber z
+    → _≡_ {A = Figure} (record { kind = x / 2 % 4; a = toZ w32 (ofZ w32 a); b = toZ w32 (ofZ w32 b); c = toZ w32 (ofZ w32 c); d = toZ w32 (ofZ w32 d); text = x / 8 }) (figureAt ws i)
+unfolding figureAt
+figure-is ws i at x y z e f g h la a lb b lc c ld d = rw (back la a, back lb b, back lc c, back ld d, f, g, h, e)
+
+pub lays-figure : (ws : List ℕ) (at : ℕ) (f : Figure) (w x y : ℕ) → mag (f .a) < 2 ^ 31 → mag (f .b) < 2 ^ 31 → mag (f .c) < 2 ^ 31 → mag (f .d) < 2 ^ 31
+    → w ≡ firstWord (f .kind) (f .text) → x ≡ pairWord (toZ w32 (ofZ w32 (f .a))) (toZ w32 (ofZ w32 (f .b))) → y ≡ pairWord (toZ w32 (ofZ w32 (f .c))) (toZ w32 (ofZ w32 (f .d)))
+    → set (set (set ws at w) (at + 1) x) (at + 2) y ≡ figureLaid ws at f
+lays-figure ws at f w x y la lb lc ld h k l = rw (h, k, l, back {r = f .a} la refl, back {r = f .b} lb refl, back {r = f .c} lc refl, back {r = f .d} ld refl)
+
+module _ (ws g : List ℕ) (p : ℕ) (f : Figure) (ws′ : List ℕ) (ok : Bool) (h : Pays ws 1 (getD g 1 0) 1 ok ws′) where
+  pub no-shape : not ok ≡ true → Answers ws (newShape g p f) (Bad 76 p) ws′
+  unfolding newShape _>>=_ goOn load spend shown if_then_else_
+  no-shape t =
+      let q = short (rw (not-true ok t) at h) in
+      record { equal = λ ts. rw (q .words, lt-leb (getD ws 1 0 + 1) (getD g 1 0) (q .beyond)) }
+
+  pub new-shape : (k at : ℕ) (ws″ : List ℕ) → not ok ≡ false → k ≡ getD ws 1 0 → at ≡ shapePlace k → ws″ ≡ figureLaid ws′ at f → Answers ws (newShape g p f) (Good (Shape k)) ws″
+  unfolding newShape _>>=_ goOn load putFigure spend give shown if_then_else_
+  new-shape k at ws″ t i j d =
+      let q = paid (rw (not-false ok t) at h) in
+      record { equal = λ ts. rw (d, j, i, q .words, le-leb (getD ws 1 0 + 1) (getD g 1 0) (q .within)) }
+
+-- there is room for one more
+module _ (ws g ws′ : List ℕ) (ok : Bool) (h : Pays ws 1 (getD g 1 0) 1 ok ws′) (t : not ok ≡ false) (r : Room g ws) where
+  pub shape-number : getD ws 1 0 < 65536
+  shape-number = omega (arith, paid (rw (not-false ok t) at h) .within, r .shapes)
+
+  pub shape-room : (k at : ℕ) → k ≡ getD ws 1 0 → at ≡ shapePlace k → length ws′ ≡ length ws → at + 3 ≤ length ws′
+  shape-room k at i j l = omega (arith, paid (rw (not-false ok t) at h) .within, r .words)
+
+-- ---- variables
+module _ (ws : List ℕ) (w : ℕ) where
+  pub not-dead : (kindIn w ≡ 6 → ⊥) → false ≡ isDead ws (unpacked w)
+  unfolding isDead
+  not-dead h = by-kind w (λ v. false ≡ isDead ws v) (λ _. refl) (λ _. refl) (λ _. refl) refl (λ _. refl) (λ e. absurd (h e))
+
+  pub dead-shape : (b : Bool) (i : ℕ) → kindIn w ≡ 6 → i ≡ numberIn w → b ≡ destroyedAt ws i → b ≡ isDead ws (unpacked w)
+  unfolding isDead
+  dead-shape b i h e d = d ∙ rw (e, unpacked-shape w h)
+
+  pub destroys-nothing : (kindIn w ≡ 6 → ⊥) → Gives ws (destroyIn (unpacked w)) tt ws
+  unfolding destroyIn give
+  destroys-nothing h = record { equal = λ ts. by-kind w (λ v. _≡_ {A = Out (Unit {0})} (done tt (raw ts ws)) (destroyIn v (raw ts ws))) (λ _. refl) (λ _. refl) (λ _. refl) refl (λ _. refl) (λ e. absurd (h e)) }
+
+  pub destroys-shape : (i : ℕ) (ws′ : List ℕ) → kindIn w ≡ 6 → i ≡ numberIn w → Gives ws (destroy i) tt ws′ → Gives ws (destroyIn (unpacked w)) tt ws′
+  unfolding destroyIn
+  destroys-shape i ws′ h e d = record { equal = λ ts. d .equal ts ∙ rw (e, unpacked-shape w h) }
+
+module _ (ws : List ℕ) (p slot : ℕ) where
+  pub unknown : getD ws (8 + slot % 8192) 0 ≡ 0 → Answers ws (variable p slot) (Bad 50 p) ws
+  unfolding variable _>>=_ goOn load refuse fail shown
+  unknown h = record { equal = λ ts. rw h }
+
+  pub dead : (b : Bool) → (getD ws (8 + slot % 8192) 0 ≡ 0 → ⊥) → b ≡ isDead ws (unpacked (getD ws (8 + slot % 8192) 0)) → b ≡ true → Answers ws (variable p slot) (Bad 30 p) ws
+  unfolding variable _>>=_ goOn load refuse fail give usable shown
+  dead b h e t = record { equal = λ ts. rw (ne-eqb _ _ h, ← e, t) }
+
+  pub found : (b : Bool) (v : Value) → (getD ws (8 + slot % 8192) 0 ≡ 0 → ⊥) → b ≡ isDead ws (unpacked (getD ws (8 + slot % 8192) 0)) → b ≡ false
+      → v ≡ unpacked (getD ws (8 + slot % 8192) 0) → Answers ws (variable p slot) (Good v) ws
+  unfolding variable _>>=_ goOn load refuse fail give usable shown
+  found b v h e t q = record { equal = λ ts. rw (q, ne-eqb _ _ h, ← e, t) }
+
+module _ (ws : List ℕ) (slot : ℕ) where
+  pub declared-before : (getD ws (8 + slot % 8192) 0 ≡ 0 → ⊥) → Passes ws 60 (declare slot) false ws
+  unfolding declare _>>=_ goOn load refuse fail passed
+  declared-before h = record { equal = λ p ts. rw (ne-eqb _ _ h) }
+
+  pub declares : getD ws (8 + slot % 8192) 0 ≡ 0
+      → Passes ws 60 (declare slot) true (set (set (set ws (8 + slot % 8192) 4) (8200 + getD ws 5 0 % 8192) slot) 5 (getD ws 5 0 % 8192 + 1))
+  unfolding declare _>>=_ goOn load store refuse fail give passed packed
+  declares h = record { equal = λ p ts. rw h }
+
+  pub sets-variable : (w : ℕ) → Gives ws (setVariable slot w) tt (set ws (8 + slot % 8192) w)
+  unfolding setVariable store
+  sets-variable w = record { equal = λ ts. refl }
+
+-- ---- the scene
+-- k of n variables are cleared: what is left to do from here comes to what was to be done at first
+pub record Clearing (ws₀ ws : List ℕ) (n k : ℕ) : Type 0 where
+  pub few : k ≤ n
+  pub small : n < 2 ^ 64
+  pub rest : (ts : List ℕ) → clearFrom 0 n (raw ts ws₀) ≡ clearFrom k (n - k) (raw ts ws)
+  pub long : length ws ≡ length ws₀
+
+module _ (ws₀ : List ℕ) where
+  pub clear-first : getD ws₀ 5 0 < 2 ^ 64 → Clearing ws₀ ws₀ (getD ws₀ 5 0) 0
+  clear-first h = record { few = omega arith; small = h; rest = λ ts. rw (sub-zero (getD ws₀ 5 0)); long = refl }
+    where
+      sub-zero : (n : ℕ) → n - 0 ≡ n
+      sub-zero n = omega arith
+
+  module _ (ws : List ℕ) (n k : ℕ) (g : Clearing ws₀ ws n k) where
+    pub clear-more : (ws′ : List ℕ) → k < n → Gives ws (destroyIn (unpacked (getD ws (8 + getD ws (8200 + k % 8192) 0 % 8192) 0))) tt ws′
+        → length ws′ ≡ length ws → Clearing ws₀ ws′ n (k + 1)
+    unfolding clearFrom _>>=_ goOn load
+    clear-more ws′ h d l =
+        let q : n - k ≡ suc (n - (k + 1)) = omega arith in
+        record {
+          few = omega arith;
+          small = g .small;
+          rest = λ ts. g .rest ts ∙ rw (q, ← d .equal ts);
+          long = l ∙ g .long;
+        }
+
+    pub clear-all : n ≡ getD ws₀ 5 0 → n ≤ k → Gives ws₀ clearScene tt ws
+    unfolding clearFrom clearScene _>>=_ goOn load give
+    clear-all e h =
+        let q : n - k ≡ 0 = omega (arith, g .few) in
+        record { equal = λ ts. sym (rw (← e, g .rest ts, q)) }
+
+-- ---- arguments
+module _ (ws : List ℕ) (w : ℕ) where
+  pub push-full : 8192 ≤ getD ws 6 0 → Passes ws 20 (push w) false ws
+  unfolding push _>>=_ goOn load store refuse fail give passed
+  push-full h = record { equal = λ p ts. rw (le-leb 8192 (getD ws 6 0) h) }
+
+  pub pushes : getD ws 6 0 < 8192 → Passes ws 20 (push w) true (set (set ws (16392 + getD ws 6 0 % 8192) w) 6 (getD ws 6 0 + 1))
+  unfolding push _>>=_ goOn load store refuse fail give passed
+  pushes h = record { equal = λ p ts. rw (lt-leb 8192 (getD ws 6 0) h) }
+
+pub drops : (ws : List ℕ) (base : ℕ) → Gives ws (dropTo base) tt (set ws 6 base)
+unfolding dropTo store
+drops ws base = record { equal = λ ts. refl }

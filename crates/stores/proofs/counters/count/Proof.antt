@@ -1,0 +1,19 @@
+use borrow.Author.Needs.{needs}
+use Rattle.stores.proofs.Laws.{counts}
+use Rattle.stores.proofs.counters.count.Statement.{statement}
+use Rattle.stores.proofs.counters.count.Tie as tie
+
+element-copy-out-granted : tie.Need-element-copy-out-granted
+element-copy-out-granted c = search needs
+
+spend-requires : tie.Need-spend-requires
+spend-requires c κs = search needs
+
+same-length : tie.Need-same-length
+same-length c = search needs
+
+returns : tie.Need-returns
+returns c = search counts
+
+pub count-spec : {M : Type 1} → statement M
+count-spec = tie.close (tie.spec element-copy-out-granted spend-requires same-length returns)

@@ -1,0 +1,104 @@
+// Shapes.
+use crate::Figure;
+use crate::counters;
+use crate::words;
+use values::Answer;
+use values::Value;
+ghost use Prim.Native.Nat.{_+_, _≤_};
+ghost use mathlib.Core.Path.{_≡_};
+ghost use lib.ListN.{length};
+ghost use Rattle.stores.specs.Layout.{Room, shapePlace};
+ghost use Rattle.stores.specs.Act.{Answers, Gives};
+ghost use Rattle.stores.specs.Shapes.{firstWord, pairWord, figureLaid, lowNumber, highNumber, destroyedAt, figureAt, newShape, destroyedWord, destroy};
+
+// Where a shape's words stand.
+fn place_of(i: u32) -> usize
+    ensures { λ r. ⌜ r ≡ shapePlace i ⌝ }
+{
+    24584 + 3 * (i as usize)
+}
+
+// The two numbers of a word.
+fn low_number(w: u64) -> i32
+    ensures { λ r. ⌜ r ≡ lowNumber w ⌝ }
+{
+    values::signed_of((w % 4294967296) as u32)
+}
+
+fn high_number(w: u64) -> i32
+    ensures { λ r. ⌜ r ≡ highNumber w ⌝ }
+{
+    values::signed_of((w / 4294967296 % 4294967296) as u32)
+}
+
+// A shape's first word.
+fn first_word(kind: u64, text: u64) -> u64
+    ensures { λ r. ⌜ r ≡ firstWord kind text ⌝ }
+{
+    2 * (kind % 4) + 8 * (text % 1099511627776)
+}
+
+// A word of two numbers.
+fn pair_word(x: i32, y: i32) -> u64
+    ensures { λ r. ⌜ r ≡ pairWord x y ⌝ }
+{
+    (values::bits_of(x) as u64) + 4294967296 * (values::bits_of(y) as u64)
+}
+
+pub fn is_destroyed(words: &[u64], i: u32) -> bool
+    ensures { λ r. ⌜ r ≡ destroyedAt (now (words .entry)) i ⌝ }
+{
+    words::word_at(words, place_of(i)) % 2 == 1
+}
+
+pub fn figure_at(words: &[u64], i: u32) -> Figure
+    ensures { λ r. ⌜ r ≡ figureAt (now (words .entry)) i ⌝ }
+{
+    let at = place_of(i);
+    let first = words::word_at(words, at);
+    let second = words::word_at(words, at + 1);
+    let third = words::word_at(words, at + 2);
+    Figure {
+        kind: first / 2 % 4,
+        a: low_number(second),
+        b: high_number(second),
+        c: low_number(third),
+        d: high_number(third),
+        text: first / 8,
+    }
+}
+
+// The three words of a shape, from a place on.
+fn put_figure(words: &mut [u64], at: usize, f: Figure)
+    requires { ⌜ at + 3 ≤ length (now words) ⌝ }
+    ensures { λ _. ⌜ now (words .exit) ≡ figureLaid (now (words .entry)) at f ⌝ }
+{
+    let x = pair_word(f.a, f.b);
+    let y = pair_word(f.c, f.d);
+    words[at] = first_word(f.kind, f.text);
+    words[at + 1] = x;
+    words[at + 2] = y;
+}
+
+// A new shape; 76 if none is left.
+pub fn new_shape(words: &mut [u64], grants: &[u64; 4], p: u64, f: Figure) -> Answer
+    requires { ⌜ Room (now grants) (now words) ⌝ }
+    ensures { λ r. ⌜ Answers (now (words .entry)) (newShape (now (grants .entry)) p f) r (now (words .exit)) ⌝ }
+{
+    let i = words[1];
+    let granted = grants[1];
+    if !counters::spend(words, 1, granted, 1) {
+        return Answer::Bad(76, p);
+    }
+    let k = i as u32;
+    put_figure(words, place_of(k), f);
+    Answer::Good(Value::Shape(k))
+}
+
+pub fn destroy(words: &mut [u64], i: u32)
+    ensures { λ _. ⌜ Gives (now (words .entry)) (destroy i) tt (now (words .exit)) ⌝ }
+{
+    let at = place_of(i);
+    let w = words::word_at(words, at);
+    words::put_word(words, at, w - w % 2 + 1);
+}
