@@ -11,42 +11,26 @@ use Rattle.meaning.specs.Basics.{if_then_else_}
 use Rattle.meaning.specs.Integer.{isNegative}
 use Rattle.code.specs.Code.{tagIn, sizeIn, numberIn, tagNumber, tagString, tagNone, tagTruth, tagName, tagTable, tagEntry, tagCall}
 use Rattle.values.specs.declared.Value.{Value}
-use Rattle.values.specs.declared.Value.the-variants.{Integer, Text, Boolean, Nothing, Table}
-use Rattle.values.specs.declared.Answer.{Answer}
-use Rattle.values.specs.declared.Answer.the-variants.{Good, Bad}
+use Rattle.values.specs.declared.Value.the-variants.{Integer, Text, Boolean, Nothing}
 use Rattle.values.specs.Words.{packed, unpacked}
-use Rattle.stores.specs.Layout.{tablesMade, argumentsHeld, argumentPlace}
-use Rattle.stores.specs.Act.{Raw, raw, Out, done, stop, Act, _>>=_, _>>_, give, fail, refuse, load, store, count}
+use Rattle.stores.specs.Layout.{argumentsHeld}
+use Rattle.stores.specs.Act.{Act, _>>=_, _>>_, give, fail, refuse, load, count, newTable}
+use Rattle.stores.specs.Arguments.{push, dropTo}
 use Rattle.stores.specs.Variables.{variable}
 use Rattle.stores.specs.Tables.{readEntry}
 use Rattle.evaluator.specs.Operate.{Setting, withInteger, withTable, operate}
 use Rattle.evaluator.specs.Library.{callLibrary}
-
--- what an answer says, with the slices then
-unfoldable pub shown : Answer → List ℕ → List ℕ → Out Value
-shown (Good v) ts ws = done v (raw ts ws)
-shown (Bad n p) ts ws = stop n p (raw ts ws)
 
 -- a value that was put into a word and taken out again
 abbrev pub through : Value → Value
 through v = unpacked (packed v)
 
 -- ---- tables
-unfoldable pub newTable : ℕ → ℤ → Act Value
-newTable p size = do
-    refuse (isNegative size) 40 p
-    t ← load tablesMade
-    store tablesMade ((t + 1) % 2 ^ 32)
-    give (Table t)
+-- a new table, 40 if its size is negative
+unfoldable pub sized : ℕ → ℤ → Act Value
+sized p size = refuse (isNegative size) 40 p >> newTable
 
 -- ---- arguments
-unfoldable pub push : ℕ → Value → Act (Unit {0})
-push p v = do
-    k ← load argumentsHeld
-    refuse (leb 8192 k) 20 p
-    store (argumentPlace k) (packed v)
-    store argumentsHeld (k + 1)
-
 -- how one expression is evaluated, by its root and the place
 abbrev pub Evaluator : Type 0
 Evaluator = ℕ → ℕ → Act Value
@@ -56,7 +40,7 @@ unfoldable pub pushAll : ℕ → Evaluator → Setting → ℕ → ℕ → ℕ �
 pushAll zero inner e a x p = give tt
 pushAll (suc rounds) inner e a x p =
     let n = sizeIn (getD (e .code) a 0) in
-    if ltb (a + n) x then (λ _. inner (a + n) p >>= λ v. push p v >> pushAll rounds inner e (a + n + 1) x p) else λ _. give tt
+    if ltb (a + n) x then (λ _. inner (a + n) p >>= λ v. push (packed v) p >> pushAll rounds inner e (a + n + 1) x p) else λ _. give tt
 
 -- ---- expressions
 unfoldable pub calling : Evaluator → Setting → ℕ → ℕ → ℕ → Act Value
@@ -65,7 +49,7 @@ calling inner e w x p = do
     pushAll (suc x) inner e (x + 1 - sizeIn w) x p
     top ← load argumentsHeld
     v ← callLibrary e (numberIn w) p base (top - base)
-    store argumentsHeld base
+    dropTo base
     give v
 
 -- by the root's word
@@ -75,8 +59,8 @@ evaluateBy inner e w x p =
     else λ _. if eqb (tagIn w) tagString then (λ _. give (Text (2 * numberIn w)))
     else λ _. if eqb (tagIn w) tagNone then (λ _. give Nothing)
     else λ _. if eqb (tagIn w) tagTruth then (λ _. give (Boolean (eqb (numberIn w) 1)))
-    else λ _. if eqb (tagIn w) tagName then (λ _. variable p (numberIn w % 8192))
-    else λ _. if eqb (tagIn w) tagTable then (λ _. inner (x - 1) p >>= λ v. withInteger p v (newTable p))
+    else λ _. if eqb (tagIn w) tagName then (λ _. variable p (numberIn w))
+    else λ _. if eqb (tagIn w) tagTable then (λ _. inner (x - 1) p >>= λ v. withInteger p v (sized p))
     else λ _. if eqb (tagIn w) tagEntry then (λ _.
       inner (x - 1 - numberIn w) p >>= λ v. withTable p v λ t. inner (x - 1) p >>= λ k. readEntry (e .program) (e .grants) p t (through k))
     else λ _. if eqb (tagIn w) tagCall then (λ _. calling inner e w x p)

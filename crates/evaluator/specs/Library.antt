@@ -2,7 +2,6 @@
 use Prim.Native.Nat.{ℕ, zero, suc, _+_, _-_}
 use mathlib.Core.Bool.{Bool, not}
 use mathlib.Core.List.{List}
-use lib.ListN.{getD}
 use lib.IntN.{ℤ, pos, _+ℤ_}
 use lib.Dec.{eqb, ltb}
 use Rattle.meaning.specs.Basics.{if_then_else_}
@@ -10,19 +9,20 @@ use Rattle.meaning.specs.Integer.{sum, half}
 use Rattle.values.specs.declared.Value.{Value}
 use Rattle.values.specs.declared.Value.the-variants.{Integer, Nothing}
 use Rattle.values.specs.Words.{unpacked}
-use Rattle.stores.specs.Layout.{argumentPlace}
+use Rattle.stores.specs.Arguments.{argumentAt}
 use Rattle.stores.specs.Act.{Raw, Act, _>>=_, _>>_, give, fail, refuse}
 use Rattle.stores.specs.Shapes.{Figure, figureAt, newShape, destroy}
 use Rattle.stores.specs.Variables.{usable, clearScene}
 use Rattle.evaluator.specs.Operate.{Setting, withInteger, withText, withShape}
 
-abbrev pub argumentAt : Raw → ℕ → Value
-argumentAt r k = unpacked (getD (r .words) (argumentPlace k) 0)
+-- the k-th argument held
+abbrev pub argument : Raw → ℕ → Value
+argument r k = unpacked (argumentAt (r .words) k)
 
 -- no argument may be a destroyed shape
 unfoldable pub allUsable : ℕ → ℕ → ℕ → Act (Unit {0})
 allUsable p base zero = give tt
-allUsable p base (suc n) = (λ r. usable p (argumentAt r base) r) >> allUsable p (base + 1) n
+allUsable p base (suc n) = (λ r. usable p (argument r base) r) >> allUsable p (base + 1) n
 
 -- ---- figures
 abbrev pub figure : ℕ → ℤ → ℤ → ℤ → ℤ → ℕ → Figure
@@ -54,37 +54,37 @@ withFigure p v k = withShape p v λ i r. k (figureAt (r .words) i) r
 unfoldable pub drawn : Setting → ℕ → ℕ → ℕ → ℕ → Act Value
 drawn e kind p base n r = (do
     refuse (not (eqb n 4)) 20 p
-    withInteger p (argumentAt r base) λ x. withInteger p (argumentAt r (base + 1)) λ y.
-      withInteger p (argumentAt r (base + 2)) λ z. withInteger p (argumentAt r (base + 3)) λ w.
+    withInteger p (argument r base) λ x. withInteger p (argument r (base + 1)) λ y.
+      withInteger p (argument r (base + 2)) λ z. withInteger p (argument r (base + 3)) λ w.
       newShape (e .grants) p (figure kind x y z w 0)) r
 
 unfoldable pub drawnText : Setting → ℕ → ℕ → ℕ → Act Value
 drawnText e p base n r = (do
     refuse (not (eqb n 3)) 20 p
-    withInteger p (argumentAt r base) λ x. withInteger p (argumentAt r (base + 1)) λ y. withText p (argumentAt r (base + 2)) λ h.
+    withInteger p (argument r base) λ x. withInteger p (argument r (base + 1)) λ y. withText p (argument r (base + 2)) λ h.
       newShape (e .grants) p (figure 3 x y (pos 0) (pos 0) h)) r
 
 unfoldable pub connected : Setting → ℕ → ℕ → ℕ → Act Value
 connected e p base n r = (do
     refuse (not (eqb n 2)) 20 p
-    withFigure p (argumentAt r base) λ s. withFigure p (argumentAt r (base + 1)) λ t.
+    withFigure p (argument r base) λ s. withFigure p (argument r (base + 1)) λ t.
       newShape (e .grants) p (connecting s t)) r
 
 unfoldable pub labelled : Setting → ℕ → ℕ → ℕ → Act Value
 labelled e p base n r = (do
     refuse (not (eqb n 2)) 20 p
-    withFigure p (argumentAt r base) λ s. withText p (argumentAt r (base + 1)) λ h.
+    withFigure p (argument r base) λ s. withText p (argument r (base + 1)) λ h.
       newShape (e .grants) p (textOn s h)) r
 
 unfoldable pub coordinate : (Figure → ℤ) → ℕ → ℕ → ℕ → Act Value
 coordinate f p base n r = (do
     refuse (not (eqb n 1)) 20 p
-    withFigure p (argumentAt r base) λ s. give (Integer (f s))) r
+    withFigure p (argument r base) λ s. give (Integer (f s))) r
 
 unfoldable pub destroyed : ℕ → ℕ → ℕ → Act Value
 destroyed p base n r = (do
     refuse (not (eqb n 1)) 20 p
-    withShape p (argumentAt r base) λ i. destroy i >> give Nothing) r
+    withShape p (argument r base) λ i. destroy i >> give Nothing) r
 
 unfoldable pub clearing : ℕ → ℕ → Act Value
 clearing p n = do

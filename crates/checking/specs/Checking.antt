@@ -1,0 +1,40 @@
+-- The checking operation as a call of the meaning's.
+use Prim.Native.Nat.{ℕ, _≤_}
+use mathlib.Core.Path.{_≡_}
+use mathlib.Core.List.{List, [], _∷_}
+use lib.ListN.{length}
+use lib.IntN.{pos}
+use lib.Dec.{ltb}
+use Rattle.meaning.specs.Basics.{if_then_else_}
+use Rattle.meaning.specs.Grammar.{Reading, wellFormed, malformed, reading}
+use Rattle.meaning.specs.Program.{checking}
+use Rattle.meaning.specs.Book.{Answer, pictured, number}
+use Rattle.meaning.specs.Call.{Call, answer, workAfter}
+use Rattle.answers.specs.declared.Answer as Declared
+use Rattle.answers.specs.Answers.{meant}
+
+-- Checking is granted nothing and writes no picture; its two work slices are for token words and code.
+abbrev pub called : List ℕ → List ℕ → List ℕ → Call
+called program tokens code = record {
+    operation = checking; program = program; width = pos 0; height = pos 0;
+    grants = record { steps = 0; shapes = 0; entries = 0; textBytes = 0 };
+    lent = length tokens ∷ length code ∷ []; out = [] }
+
+-- what it promises: the answer, and what both slices hold when it returns
+pub record Checked (program tokens code : List ℕ) (r : Declared.Answer) (tokens′ code′ : List ℕ) : Type 0 where
+  pub answered : meant r ≡ answer (called program tokens code)
+  pub tokensAfter : tokens′ ≡ workAfter (called program tokens code) tokens
+  pub codeAfter : code′ ≡ workAfter (called program tokens code) code
+
+-- ---- inside
+pub record Lent (tokens code : List ℕ) : Type 0 where
+  pub tokens : 8193 ≤ length tokens
+  pub code : 16384 ≤ length code
+
+unfoldable pub answerOf : Reading → Answer
+answerOf (wellFormed m) = pictured 0 0
+answerOf (malformed n p) = number n p 0 0
+
+-- the answer where enough is lent
+unfoldable pub readAnswer : List ℕ → Answer
+readAnswer program = if ltb 32768 (length program) then (λ _. number 73 0 0 0) else λ _. answerOf (reading program)

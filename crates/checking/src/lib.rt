@@ -1,0 +1,51 @@
+// Checking: whether a program is well formed.
+use answers::Answer;
+use reader::Program;
+ghost use mathlib.Core.Path.{_≡_};
+ghost use Prim.Native.Nat.{_≤_};
+ghost use lib.ListN.{length, replicate};
+ghost use Rattle.checking.specs.Checking.{Checked, Lent, called, readAnswer};
+ghost use Rattle.answers.specs.Answers.{meant};
+
+// Reads the program and says whether it is well formed. `tokens` must hold 8,193 words and `code` 16,384; both hold zeros afterwards, and keep what
+// they had after 71.
+pub fn check(program: &[u8], tokens: &mut [u64], code: &mut [u64]) -> Answer
+    ensures { λ r. ⌜ Checked (now (program .entry)) (now (tokens .entry)) (now (code .entry)) r (now (tokens .exit)) (now (code .exit)) ⌝ }
+{
+    if tokens.len() < 8193 {
+        return Answer::Number(71, 0, 0, 0);
+    }
+    if code.len() < 16384 {
+        return Answer::Number(71, 0, 0, 0);
+    }
+    let r = read_answer(program, tokens, code);
+    clear(tokens);
+    clear(code);
+    r
+}
+
+// The answer of a program that is lent enough.
+fn read_answer(program: &[u8], tokens: &mut [u64], code: &mut [u64]) -> Answer
+    requires { ⌜ Lent (now tokens) (now code) ⌝ }
+    ensures { λ r. ⌜ meant r ≡ readAnswer (now (program .entry)) ⌝ }
+{
+    if 32768 < program.len() {
+        return Answer::Number(73, 0, 0, 0);
+    }
+    let p = reader::read(program, tokens, code);
+    match p {
+        Program::Formed(_, _, _, _) => Answer::Picture(0, 0),
+        Program::Malformed(k, at) => Answer::Number(k, at as u64, 0, 0),
+    }
+}
+
+// Zeros in a whole slice.
+fn clear(slice: &mut [u64])
+    ensures { λ _. ⌜ now (slice .exit) ≡ replicate (length (now (slice .entry))) 0 ⌝ }
+{
+    let mut i = 0;
+    while i < slice.len() {
+        slice[i] = 0;
+        i += 1;
+    }
+}
