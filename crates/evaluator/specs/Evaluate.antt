@@ -18,8 +18,8 @@ use Rattle.stores.specs.Act.{Act, _>>=_, _>>_, give, fail, refuse, load, count,
 use Rattle.stores.specs.Arguments.{push, dropTo}
 use Rattle.stores.specs.Variables.{variable}
 use Rattle.stores.specs.Tables.{readEntry}
-use Rattle.evaluator.specs.Operate.{Setting, withInteger, withTable, operate}
-use Rattle.evaluator.specs.Library.{callLibrary}
+use Rattle.operators.specs.Operate.{Setting, withInteger, withTable, operate}
+use Rattle.operators.specs.Library.{callLibrary}
 
 -- a value that was put into a word and taken out again
 abbrev pub through : Value → Value

@@ -1,3 +1,1 @@
-pub mod Operate
-pub mod Library
--- pub mod Evaluate
+pub mod Evaluate

@@ -13,7 +13,7 @@ use Rattle.stores.specs.Act.{Raw, raw, Out, done, stop, Act, _>>=_, _>>_, give,
 use Rattle.stores.specs.Shapes.{figureAt, newShape}
 use Rattle.stores.specs.Variables.{declare, setVariable}
 use Rattle.stores.specs.Tables.{storeEntry}
-use Rattle.evaluator.specs.Operate.{Setting, withBoolean, withTable}
+use Rattle.operators.specs.Operate.{Setting, withBoolean, withTable}
 use Rattle.evaluator.specs.Evaluate.{through, evaluateAt}
 use Rattle.executor.specs.declared.Flow.{Flow}
 use Rattle.executor.specs.declared.Flow.the-variants.{Onward, Returned, Stopped}

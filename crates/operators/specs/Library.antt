@@ -13,7 +13,7 @@ use Rattle.stores.specs.Arguments.{argumentAt}
 use Rattle.stores.specs.Act.{Raw, Act, _>>=_, _>>_, give, fail, refuse}
 use Rattle.stores.specs.Shapes.{Figure, figureAt, newShape, destroy}
 use Rattle.stores.specs.Variables.{usable, clearScene}
-use Rattle.evaluator.specs.Operate.{Setting, withInteger, withText, withShape}
+use Rattle.operators.specs.Operate.{Setting, withInteger, withText, withShape}
 
 -- the k-th argument held
 abbrev pub argument : Raw → ℕ → Value

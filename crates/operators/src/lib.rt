@@ -1,0 +1,1 @@
+// Operators and library procedures on values.
