@@ -11,7 +11,8 @@ use Rattle.values.specs.declared.Value.the-variants.{Integer, Nothing}
 use Rattle.values.specs.Words.{unpacked}
 use Rattle.stores.specs.Arguments.{argumentAt}
 use Rattle.stores.specs.Act.{Raw, Act, _>>=_, _>>_, give, fail, refuse}
-use Rattle.stores.specs.Shapes.{Figure, figureAt, newShape, destroy}
+use Rattle.stores.specs.declared.Figure.{Figure}
+use Rattle.stores.specs.Shapes.{figureAt, newShape, destroy}
 use Rattle.stores.specs.Variables.{usable, clearScene}
 use Rattle.operators.specs.Operate.{Setting, withInteger, withText, withShape}
 

@@ -13,7 +13,8 @@ use Rattle.values.specs.declared.Value.{Value}
 use Rattle.values.specs.declared.Value.the-variants.{Integer, Text, Boolean, Nothing, Table, Shape}
 use Rattle.stores.specs.Act.{Raw, Act, done, _>>=_, _>>_, give, fail, refuse}
 use Rattle.stores.specs.Texts.{textOf, joinTexts}
-use Rattle.stores.specs.Shapes.{Figure, figureAt, newShape}
+use Rattle.stores.specs.declared.Figure.{Figure}
+use Rattle.stores.specs.Shapes.{figureAt, newShape}
 use Rattle.stores.specs.Variables.{usable}
 
 -- what does not change in a run

@@ -1,11 +1,13 @@
 -- Texts: a part of the program or of the text store. A handle holds which, where and how long: 1, 16 and 16 bits.
 use Prim.Native.Nat.{ℕ, _+_, _*_, _/_, _%_}
 use mathlib.Core.List.{List, _++_}
-use lib.ListN.{length, getD, set, take, drop}
+use lib.ListN.{take, drop}
 use lib.Dec.{eqb}
 use Rattle.meaning.specs.Basics.{if_then_else_, laidOver}
+use Rattle.values.specs.declared.Value.{Value}
+use Rattle.values.specs.declared.Value.the-variants.{Text}
 use Rattle.stores.specs.Layout.{textUsed, textGranted}
-use Rattle.stores.specs.Act.{Raw, raw, Act, done, _>>=_, _>>_, give, load, spend}
+use Rattle.stores.specs.Act.{raw, done, Act, _>>=_, _>>_, give, load, spend}
 
 abbrev pub handle : ℕ → ℕ → ℕ → ℕ
 handle origin start size = origin + 2 * (start + 65536 * size)
@@ -19,26 +21,30 @@ startIn h = h / 2 % 65536
 abbrev pub sizeIn : ℕ → ℕ
 sizeIn h = h / 131072 % 65536
 
-abbrev pub part : ℕ → ℕ → List ℕ → List ℕ
+-- as far as it reaches
+unfoldable pub part : ℕ → ℕ → List ℕ → List ℕ
 part start size s = take size (drop start s)
 
--- the text that a handle stands for
+-- the text that a handle stands for: of the program if the origin is 0, else of the text store
 unfoldable pub textOf : List ℕ → List ℕ → ℕ → List ℕ
 textOf program texts h =
     if eqb (originIn h) 0 then (λ _. part (startIn h) (sizeIn h) program) else λ _. part (startIn h) (sizeIn h) texts
 
 -- a text laid into the store from a place on, as far as the store reaches
-abbrev pub laidAt : List ℕ → ℕ → List ℕ → List ℕ
+unfoldable pub laidAt : List ℕ → ℕ → List ℕ → List ℕ
 laidAt texts at s = take at texts ++ laidOver s (drop at texts)
 
--- a text put into the store from a place on
-unfoldable pub put : ℕ → List ℕ → Act (Unit {0})
-put at s r = done tt (raw (laidAt (r .texts) at s) (r .words))
+-- two texts, one behind the other. Of the store only what is used is read
+abbrev pub joined : List ℕ → List ℕ → ℕ → ℕ → ℕ → List ℕ
+joined program texts used a b = textOf program (take used texts) a ++ textOf program (take used texts) b
 
--- two texts, one behind the other, in the store: as many text bytes are taken as they are long. The store's texts are read before it is written.
-unfoldable pub joinTexts : List ℕ → List ℕ → ℕ → ℕ → ℕ → Act ℕ
-joinTexts program g p a b r = (do
+unfoldable pub putJoined : List ℕ → ℕ → ℕ → ℕ → Act (Unit {0})
+putJoined program used a b r = done tt (raw (laidAt (r .texts) used (joined program (r .texts) used a b)) (r .words))
+
+-- a joined text takes as many text bytes as it is long
+unfoldable pub joinTexts : List ℕ → List ℕ → ℕ → ℕ → ℕ → Act Value
+joinTexts program g p a b = do
   used ← load textUsed
   spend textUsed (textGranted g) (sizeIn a + sizeIn b) 78 p
-  put (used % 65536) (textOf program (r .texts) a ++ textOf program (r .texts) b)
-  give (handle 1 (used % 65536) ((sizeIn a + sizeIn b) % 65536))) r
+  putJoined program used a b
+  give (Text (handle 1 used (sizeIn a + sizeIn b)))

@@ -1,0 +1,3 @@
+pub mod Layer
+pub mod Comparison
+pub mod Laws
