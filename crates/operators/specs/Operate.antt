@@ -118,7 +118,7 @@ unfoldable pub remaindered : ℕ → Value → Value → Act Value
 remaindered p v w = withInteger p v λ a. withInteger p w λ b. refuse (isZero b) 70 p >> give (Integer (Integer.remainder a b))
 
 unfoldable pub joined : Setting → ℕ → Value → Value → Act Value
-joined e p v w = withText p v λ a. withText p w λ b. joinTexts (e .program) (e .grants) p a b >>= λ h. give (Text h)
+joined e p v w = withText p v λ a. withText p w λ b. joinTexts (e .program) (e .grants) p a b
 
 -- whether two values are equal, where they may be compared
 unfoldable pub equality : List ℕ → Raw → Value → Value → Option Bool
