@@ -4,3 +4,8 @@ mod Last
 mod Entries
 mod Hashing
 mod Walk
+mod Noting
+mod Digits
+mod Procedures
+mod Payloads
+mod Rewriting
