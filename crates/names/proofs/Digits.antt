@@ -41,8 +41,10 @@ module _ (x : List ℕ) (v i : ℕ) (g : Reading x v i) where
   pub read-more : (r : ℕ) → i < length x → r ≡ min (10 * v + (getD x i 0 - 48)) 4294967295 → Reading x r (i + 1)
   unfolding numeralFrom
   read-more r l e =
-      record { small = omega arith
-        ; rest = g .rest ∙ rw (drop-cons x i 0, add-one i, e) (cap-first (10 * v + (getD x i 0 - 48)) (drop (Prim.Native.Nat.suc i) x)) }
+      record {
+        small = omega arith;
+        rest = g .rest ∙ rw (drop-cons x i 0, add-one i, e) (cap-first (10 * v + (getD x i 0 - 48)) (drop (Prim.Native.Nat.suc i) x));
+      }
 
   pub read-all : length x ≤ i → v ≡ min (numeral x) 4294967295
   unfolding numeralFrom

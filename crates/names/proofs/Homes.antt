@@ -65,8 +65,8 @@ module _ (k : ℕ) (x : List ℕ) where
   home-kind (t ∷ ts) h = go (fits t k x) refl (home-kind ts) h
     where
       go : (b : Bool) → fits t k x ≡ b → (home ts k x < length ts → kindAt ts (home ts k x) ≡ k)
-        → (if b then (λ _. 0) else λ _. suc (home ts k x)) < suc (length ts)
-        → kindAt (t ∷ ts) (if b then (λ _. 0) else λ _. suc (home ts k x)) ≡ k
+          → (if b then (λ _. 0) else λ _. suc (home ts k x)) < suc (length ts)
+          → kindAt (t ∷ ts) (if b then (λ _. 0) else λ _. suc (home ts k x)) ≡ k
       go true e r l = eqb-true (t .kind) k (and-true (eqb (t .kind) k) (sameText (t .text) x) e .0)
       go false e r l = r (omega arith)
 
@@ -76,8 +76,8 @@ module _ (k : ℕ) (x : List ℕ) where
   home-text (t ∷ ts) h = go (fits t k x) refl (home-text ts) h
     where
       go : (b : Bool) → fits t k x ≡ b → (home ts k x < length ts → textAt ts (home ts k x) ≡ x)
-        → (if b then (λ _. 0) else λ _. suc (home ts k x)) < suc (length ts)
-        → textAt (t ∷ ts) (if b then (λ _. 0) else λ _. suc (home ts k x)) ≡ x
+          → (if b then (λ _. 0) else λ _. suc (home ts k x)) < suc (length ts)
+          → textAt (t ∷ ts) (if b then (λ _. 0) else λ _. suc (home ts k x)) ≡ x
       go true e r l = same-equal (t .text) x (and-true (eqb (t .kind) k) (sameText (t .text) x) e .1)
       go false e r l = r (omega arith)
 

@@ -68,6 +68,7 @@ module _ (f : ℕ → Bool) (m : ℕ) (one : (i : ℕ) → f i ≡ true → i �
     where
       other : f n ≡ false → m ≡ n → ⊥
       other e q = let z : _≡_ {A = Bool} true false = sym t ∙ ap f q ∙ e in let w : _≡_ {A = ℕ} 0 1 = cc in omega arith
+
       go : (b : Bool) → f n ≡ b → (m < n → last f n ≡ suc m) → cond (f n) (suc n) (last f n) ≡ suc m
       go true e r = rw e (ap suc (one n e))
       go false e r = rw e (r (let q = other e in omega arith))

@@ -9,3 +9,4 @@ mod Digits
 mod Procedures
 mod Payloads
 mod Rewriting
+mod Clearing

@@ -54,9 +54,9 @@ module _ (p ws : List ℕ) (i : ℕ) where
 module _ (p ws ix : List ℕ) (i : ℕ) (g : Files p ws ix i) where
   -- what an index of one more token has to keep and to add
   advance : (ix′ : List ℕ) → length ix′ ≡ length ix → ((b : ℕ) → b < 8192 → getD ix′ b 0 ≡ last (lies p ws b) (suc i))
-    → ((m : ℕ) → m < i → getD ix′ (8192 + m) 0 ≡ getD ix (8192 + m) 0)
-    → (isEntry p ws i ≡ true → linkAt ix′ i ≡ last (lies p ws (bucketAt p ws i)) i)
-    → (named (kindIn (getD ws i 0)) ≡ true → homeAt ix′ i ≡ homeOf p ws i) → Indexed p ws ix′ (i + 1)
+      → ((m : ℕ) → m < i → getD ix′ (8192 + m) 0 ≡ getD ix (8192 + m) 0)
+      → (isEntry p ws i ≡ true → linkAt ix′ i ≡ last (lies p ws (bucketAt p ws i)) i)
+      → (named (kindIn (getD ws i 0)) ≡ true → homeAt ix′ i ≡ homeOf p ws i) → Indexed p ws ix′ (i + 1)
   unfolding linkAt homeAt
   advance ix′ long heads′ old link home =
       record {
@@ -65,19 +65,19 @@ module _ (p ws ix : List ℕ) (i : ℕ) (g : Files p ws ix i) where
         within = omega (arith, g .here);
         heads = λ b l. rw (add-one i) (heads′ b l);
         links = λ m l e.
-          ⊎-elim (λ (q : m ≡ i). rw q (link (rw q at e)))
-          (λ (q : m < i). ap (λ (v : ℕ). v % 65536) (old m q) ∙ g .index .links m q e)
-          (eq-or-lt-of-le (omega arith));
+            ⊎-elim (λ (q : m ≡ i). rw q (link (rw q at e)))
+            (λ (q : m < i). ap (λ (v : ℕ). v % 65536) (old m q) ∙ g .index .links m q e)
+            (eq-or-lt-of-le (omega arith));
         homes = λ m l e.
-          ⊎-elim (λ (q : m ≡ i). rw q (home (rw q at e)))
-          (λ (q : m < i). ap (λ (v : ℕ). v / 65536 % 65536) (old m q) ∙ g .index .homes m q e)
-          (eq-or-lt-of-le (omega arith))
+            ⊎-elim (λ (q : m ≡ i). rw q (home (rw q at e)))
+            (λ (q : m < i). ap (λ (v : ℕ). v / 65536 % 65536) (old m q) ∙ g .index .homes m q e)
+            (eq-or-lt-of-le (omega arith));
       }
 
   -- a token that is no name and no string
-  pub skip : (k : ℕ) → k ≡ kindIn (getD ws i 0) → named k ≡ false → Indexed p ws ix (i + 1)
-  skip k u e =
-      let n : named (kindIn (getD ws i 0)) ≡ false = rw u at e in
+  pub skip : (k : ℕ) (t : Bool) → k ≡ kindIn (getD ws i 0) → t ≡ named k → t ≡ false → Indexed p ws ix (i + 1)
+  skip k t u v e =
+      let n : named (kindIn (getD ws i 0)) ≡ false = rw u at (sym v ∙ e) in
       advance ix refl (λ b l. g .index .heads b l ∙ sym (past p ws i b (no-name p ws i n))) (λ m l. refl)
       (λ e. absurd (never (sym e ∙ no-name p ws i n))) (λ e. absurd (never (sym e ∙ n)))
 
@@ -130,14 +130,14 @@ module _ (p ws ix : List ℕ) (i : ℕ) (g : Files p ws ix i) where
         (λ c h. entered-heads c h (entry p ws i e q))
         (λ m h. entered-high m ∙ getD-set-other ix (8192 + i) (8192 + m) (getD ix b 0 + 65536 * i) 0 (λ u. omega arith))
         (λ u.
-          let r : (getD ix b 0 + 65536 * i) % 65536 ≡ getD ix b 0 = omega (arith, newest, g .here, g .index .few) in
-          ap (λ (v : ℕ). v % 65536) entered-here ∙ r ∙ g .index .heads b slot ∙ ap (λ (c : ℕ). last (lies p ws c) i) (sym bucket))
+        let r : (getD ix b 0 + 65536 * i) % 65536 ≡ getD ix b 0 = omega (arith, newest, g .here, g .index .few) in
+        ap (λ (v : ℕ). v % 65536) entered-here ∙ r ∙ g .index .heads b slot ∙ ap (λ (c : ℕ). last (lies p ws c) i) (sym bucket))
         (λ u.
-          let r : (getD ix b 0 + 65536 * i) / 65536 % 65536 ≡ i = omega (arith, newest, g .here, g .index .few) in
-          ap (λ (v : ℕ). v / 65536 % 65536) entered-here ∙ r ∙ sym q)
+        let r : (getD ix b 0 + 65536 * i) / 65536 % 65536 ≡ i = omega (arith, newest, g .here, g .index .few) in
+        ap (λ (v : ℕ). v / 65536 % 65536) entered-here ∙ r ∙ sym q)
 
-  pub files-look : (k : ℕ) (x : List ℕ) (b : ℕ) → k < 256 → b ≡ bucketOf k x → Looks p ws ix i k x b
-  files-look k x b h e = record { index = g .index; bucket = e; slot = bucket-small k b x h e }
+  pub files-look : (k : ℕ) (x : List ℕ) (b : ℕ) → k ≡ kindIn (getD ws i 0) → b ≡ bucketOf k x → Looks p ws ix i k x b
+  files-look k x b h e = record { index = g .index; bucket = e; slot = bucket-small k b x (omega arith) e }
 
   -- a name or a string: its home is what the look-up found, or itself
   module _ (k : ℕ) (x : List ℕ) (b j : ℕ) (kind : k ≡ kindIn (getD ws i 0)) (text : x ≡ tokenIn p (getD ws i 0) .text) (bucket : b ≡ bucketOf k x) (look : j ≡ found p ws i k x) where
@@ -151,25 +151,71 @@ module _ (p ws ix : List ℕ) (i : ℕ) (g : Files p ws ix i) where
     unfolding bucketAt
     in-bucket = sym (bucket ∙ rw (kind, text))
 
-    pub filed : (ix′ : List ℕ) → named k ≡ true → ix′ ≡ noted ix i b j → Indexed p ws ix′ (i + 1)
+    pub filed : (ix′ : List ℕ) (t : Bool) → t ≡ named k → t ≡ true → ix′ ≡ noted ix i b j → Indexed p ws ix′ (i + 1)
     unfolding noted
-    filed ix′ name e = rw e (go (eqb j 0) refl)
+    filed ix′ t v y e = rw e (go (eqb j 0) refl)
       where
         is : named (kindIn (getD ws i 0)) ≡ true
-        is = rw kind at name
+        is = rw kind at (sym v ∙ y)
+
         go : (t : Bool) → eqb j 0 ≡ t → Indexed p ws (cond (eqb j 0) (set (set ix (8192 + i) (getD ix b 0 + 65536 * i)) b (i + 1)) (set ix (8192 + i) (65536 * (j - 1)))) (i + 1)
         go true q = rw q (own b slot in-bucket is (own-home p ws i (g .here) is j looked (eqb-true j 0 q)))
         go false q = rw q (older j (eqb-false j 0 q) (place-few p ws i (g .here) is j looked) (older-home p ws i (g .here) is j looked (eqb-false j 0 q)))
 
-    pub files-note : named k ≡ true → Notes ix i b j
-    files-note name =
-        record { room = g .index .room; token = omega (arith, g .here, g .index .few); slot = slot
-          ; place = omega (arith, place-few p ws i (g .here) (rw kind at name) j looked, g .here, g .index .few)
-          ; newest = omega (arith, newest b slot in-bucket, g .here, g .index .few) }
+    pub files-note : (t : Bool) → t ≡ named k → t ≡ true → Notes ix i b j
+    files-note t v y =
+        record {
+          room = g .index .room;
+          token = omega (arith, g .here, g .index .few);
+          slot = slot;
+          place = omega (arith, place-few p ws i (g .here) (rw kind at (sym v ∙ y)) j looked, g .here, g .index .few);
+          newest = omega (arith, newest b slot in-bucket, g .here, g .index .few);
+        }
 
 -- an index of zeroes is that of no token
-pub index-none : (p ws ix : List ℕ) → Room ws ix → Indexed p ws (replicate (length ix) 0) 0
+pub index-none : (p ws ix ix′ : List ℕ) → Room ws ix → ix′ ≡ replicate (length ix) 0 → Indexed p ws ix′ 0
 unfolding last
-index-none p ws ix r =
-    record { few = r .few; room = omega (arith, length-replicate {A = ℕ} (length ix) 0, r .room); within = omega arith
-      ; heads = λ b l. getD-replicate (length ix) b 0 0 (omega (arith, r .room)); links = λ i l e. absurd (omega arith); homes = λ i l e. absurd (omega arith) }
+index-none p ws ix ix′ r e =
+    rw e
+    (record {
+      few = r .few;
+      room = omega (arith, length-replicate {A = ℕ} (length ix) 0, r .room);
+      within = omega arith;
+      heads = λ b l. getD-replicate (length ix) b 0 0 (omega (arith, r .room));
+      links = λ i l e. absurd (omega arith);
+      homes = λ i l e. absurd (omega arith);
+    })
+
+-- ---- all tokens
+pub record Filling (p ws ix₀ ix : List ℕ) (i : ℕ) : Type 0 where
+  pub index : Indexed p ws ix i
+  pub long : length ix ≡ length ix₀
+
+module _ (p ws ix₀ : List ℕ) where
+  pub fill-begin : Indexed p ws ix₀ 0 → Filling p ws ix₀ ix₀ 0
+  fill-begin g = record { index = g; long = refl }
+
+  module _ (ix : List ℕ) (i : ℕ) (g : Filling p ws ix₀ ix i) where
+    pub fill-files : i < length ws → Files p ws ix i
+    fill-files h = record { index = g .index; here = h }
+
+    pub fill-next : (ix′ : List ℕ) → Indexed p ws ix′ (i + 1) → length ix′ ≡ length ix → Filling p ws ix₀ ix′ (i + 1)
+    fill-next ix′ h e = record { index = h; long = e ∙ g .long }
+
+    pub fill-long : length ix ≡ length ix₀
+    fill-long = g .long
+
+    pub fill-all : length ws ≤ i → Indexed p ws ix (length ws)
+    fill-all h =
+        let q : length ws ≡ i = omega (arith, g .index .within) in
+        rw q (g .index)
+
+-- ---- the stores
+module _ (ix : List ℕ) (i b j : ℕ) where
+  pub note-own : j ≡ 0 → set (set ix (8192 + i) (getD ix b 0 + 65536 * i)) b (i + 1) ≡ noted ix i b j
+  unfolding noted
+  note-own e = rw e
+
+  pub note-older : (j ≡ 0 → ⊥) → set ix (8192 + i) (65536 * (j - 1)) ≡ noted ix i b j
+  unfolding noted
+  note-older n = rw (ne-eqb j 0 n)

@@ -56,10 +56,10 @@ module _ (p ws₀ ix : List ℕ) where
           index = g .index;
           long = length-set ws i r ∙ g .long;
           done = λ m l k.
-            ⊎-elim (λ (q : m ≡ i). rw q (getD-set-same ws i r 0 here ∙ right h r u e))
-            (λ (q : m < i). getD-set-other ws i m r 0 (λ z. omega arith) ∙ g .done m q k)
-            (eq-or-lt-of-le (omega arith));
-          rest = λ m l. getD-set-other ws i m r 0 (λ z. omega arith) ∙ g .rest m (omega arith)
+              ⊎-elim (λ (q : m ≡ i). rw q (getD-set-same ws i r 0 here ∙ right h r u e))
+              (λ (q : m < i). getD-set-other ws i m r 0 (λ z. omega arith) ∙ g .done m q k)
+              (eq-or-lt-of-le (omega arith));
+          rest = λ m l. getD-set-other ws i m r 0 (λ z. omega arith) ∙ g .rest m (omega arith);
         }
 
   pub rewrite-all : (ws : List ℕ) (i : ℕ) → Rewriting p ws₀ ix ws i → length ws ≤ i → ws ≡ preparedAll p ws₀

@@ -64,12 +64,12 @@ module _ (s : List ℕ) (start end : ℕ) where
   clipped e b he hb =
       by-order (take (e - b) (drop b s) ≡ take (end - start) (drop start s)) start e
       (λ h.
-        let q : b ≡ start = omega arith in
-        let m : e - start ≡ min (end - start) (length (drop start s)) = omega (arith, length-drop start s) in
-        rw (q, m) (take-least (end - start) (drop start s)))
+      let q : b ≡ start = omega arith in
+      let m : e - start ≡ min (end - start) (length (drop start s)) = omega (arith, length-drop start s) in
+      rw (q, m) (take-least (end - start) (drop start s)))
       (λ h.
-        let m : e - b ≡ 0 = omega arith in
-        rw m (sym (empty (omega arith))))
+      let m : e - b ≡ 0 = omega arith in
+      rw m (sym (empty (omega arith))))
 
 -- the text of a word's token
 module _ (program : List ℕ) (k p n : ℕ) where

@@ -5,9 +5,11 @@ use mathlib.Core.Path.{_≡_, _∙_, refl, sym, ap}
 use mathlib.Core.Bool.{Bool, true, false, _&&_}
 use mathlib.Core.List.{List}
 use native.Mathlib.Omega.{arith}
-use borrow.Author.Tests.{eqb-true}
+use borrow.Author.Tests.{eq-eqb, ne-eqb, eqb-true}
 use lib.Dec.{eqb}
 use lib.ListN.{length, getD}
+use Rattle.meaning.specs.Basics.{sameText}
+use Rattle.lexer.specs.Words.{tokenIn, kindIn}
 use Rattle.names.specs.Index.{bucketOf, spelled, bucketAt, isEntry, lies, meets, last, found, linkAt, Indexed, Looks}
 use Rattle.names.proofs.Homes.{and-true}
 use Rattle.names.proofs.Last.{last-here, last-below, last-none, last-le, last-meets, last-skip}
@@ -22,6 +24,9 @@ pub record Walking (p ws ix : List ℕ) (n k : ℕ) (x : List ℕ) (b j : ℕ) :
 module _ (p ws ix : List ℕ) (n k : ℕ) (x : List ℕ) (b : ℕ) where
   to-bucket : (m : ℕ) → b ≡ bucketOf k x → last (meets p ws k x) m ≡ last (meets p ws k x) (last (lies p ws b) m)
   to-bucket m e = rw e (last-skip (meets p ws k x) (lies p ws (bucketOf k x)) m (meets-lies p ws k x))
+
+  pub look-slot : Looks p ws ix n k x b → b < length ix
+  look-slot l = omega (arith, l .slot, l .index .room)
 
   pub walk-begin : Looks p ws ix n k x b → Walking p ws ix n k x b (getD ix b 0)
   unfolding found
@@ -51,8 +56,12 @@ module _ (p ws ix : List ℕ) (n k : ℕ) (x : List ℕ) (b : ℕ) where
     pub walk-on : (r : Bool) (m : ℕ) → 0 < j → r ≡ spelled p (getD ws (j - 1) 0) k x → r ≡ false → m ≡ linkAt ix (j - 1) → Walking p ws ix n k x b m
     walk-on r m h e q u =
         rw (next m h u)
-        (record { looks = g .looks; few = omega (arith, g .few, last-le (lies p ws b) (j - 1)); here = last-meets (lies p ws b) (j - 1)
-          ; rest = g .rest ∙ last-below (meets p ws k x) j h (decides h ∙ sym e ∙ q) ∙ to-bucket (j - 1) (g .looks .bucket) })
+        (record {
+          looks = g .looks;
+          few = omega (arith, g .few, last-le (lies p ws b) (j - 1));
+          here = last-meets (lies p ws b) (j - 1);
+          rest = g .rest ∙ last-below (meets p ws k x) j h (decides h ∙ sym e ∙ q) ∙ to-bucket (j - 1) (g .looks .bucket);
+        })
 
     pub walk-over : j ≤ 0 → 0 ≡ found p ws n k x
     walk-over h = sym (g .rest ∙ last-none (meets p ws k x) j h)
@@ -63,3 +72,13 @@ module _ (p ws ix : List ℕ) (n k : ℕ) (x : List ℕ) (b : ℕ) where
 
     pub walk-link : 0 < j → 8192 + (j - 1) < length ix
     walk-link h = omega (arith, g .few, g .looks .index .within, g .looks .index .few, g .looks .index .room)
+
+-- ---- a comparison
+module _ (p : List ℕ) (w k v : ℕ) (x : List ℕ) where
+  pub other-kind : v ≡ kindIn w → (v ≡ k → ⊥) → false ≡ spelled p w k x
+  unfolding spelled
+  other-kind e n = rw (← e, ne-eqb v k n)
+
+  pub one-kind : (y : List ℕ) (r : Bool) → v ≡ kindIn w → v ≡ k → y ≡ tokenIn p w .text → r ≡ sameText y x → r ≡ spelled p w k x
+  unfolding spelled
+  one-kind y r e q u h = h ∙ rw (u, ← e, eq-eqb v k q)

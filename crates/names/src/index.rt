@@ -38,13 +38,12 @@ fn file(program: &[u8], tokens: &[u64], index: &mut [u64], i: usize)
 {
     let w = tokens[i];
     let kind = kind_of(w);
-    if !is_named(kind) {
-        return;
+    if is_named(kind) {
+        let x = token_text(program, w);
+        let b = bucket(kind, x);
+        let j = find(program, tokens, index, i, kind, x, b);
+        note(index, i, b, j);
     }
-    let x = token_text(program, w);
-    let b = bucket(kind, x);
-    let j = find(program, tokens, index, i, kind, x, b);
-    note(index, i, b, j);
 }
 
 // Whether a kind is that of names or of strings.
