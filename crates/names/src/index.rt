@@ -142,9 +142,10 @@ fn note(index: &mut [u64], i: usize, b: usize, j: usize)
     ensures { λ _. ⌜ now (index .exit) ≡ noted (now (index .entry)) i b j ⌝ }
 {
     if j == 0 {
+        let newest = i as u64 + 1;
         let older = index[b];
         index[8192 + i] = older + 65536 * (i as u64);
-        index[b] = i as u64 + 1;
+        index[b] = newest;
         return;
     }
     index[8192 + i] = 65536 * (j as u64 - 1);

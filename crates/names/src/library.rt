@@ -11,17 +11,18 @@ pub fn library_number(w: &[u8]) -> u64
     let n = w.len();
     match n {
         7 => one_of(w, b"drawBox", 2, 10),
-        8 => one_of(w, b"drawLine", 0, one_of(w, b"drawText", 3, 10)),
+        8 => {
+            let other = one_of(w, b"drawText", 3, 10);
+            one_of(w, b"drawLine", 0, other)
+        }
         10 => one_of(w, b"clearScene", 9, 10),
         11 => one_of(w, b"drawEllipse", 1, 10),
         12 => one_of(w, b"destroyShape", 8, 10),
         15 => one_of(w, b"drawTextOnShape", 5, 10),
-        19 => one_of(
-            w,
-            b"getShapeXCoordinate",
-            6,
-            one_of(w, b"getShapeYCoordinate", 7, 10),
-        ),
+        19 => {
+            let other = one_of(w, b"getShapeYCoordinate", 7, 10);
+            one_of(w, b"getShapeXCoordinate", 6, other)
+        }
         24 => one_of(w, b"drawLineConnectingShapes", 4, 10),
         _ => 10,
     }

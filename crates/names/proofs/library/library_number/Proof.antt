@@ -14,75 +14,75 @@ slice-aggregate-one-of c = search needs
 one-of-requires : tie.Need-one-of-requires
 one-of-requires c κs = search needs
 
--- src/library.rt:14:24
+-- src/library.rt:15:35
 slice-aggregate-one-of-2 : tie.Need-slice-aggregate-one-of-2
 slice-aggregate-one-of-2 c = search needs
 
--- src/library.rt:14:50
-slice-aggregate-one-of-3 : tie.Need-slice-aggregate-one-of-3
-slice-aggregate-one-of-3 c = search needs
-
--- src/library.rt:14:40
+-- src/library.rt:15:17
 one-of-requires-2 : tie.Need-one-of-requires-2
 one-of-requires-2 c κs = search needs
 
--- src/library.rt:14:14
+-- src/library.rt:16:23
+slice-aggregate-one-of-3 : tie.Need-slice-aggregate-one-of-3
+slice-aggregate-one-of-3 c = search needs
+
+-- src/library.rt:16:13
 one-of-requires-3 : tie.Need-one-of-requires-3
 one-of-requires-3 c κs = search needs
 
--- src/library.rt:15:25
+-- src/library.rt:18:25
 slice-aggregate-one-of-4 : tie.Need-slice-aggregate-one-of-4
 slice-aggregate-one-of-4 c = search needs
 
--- src/library.rt:15:15
+-- src/library.rt:18:15
 one-of-requires-4 : tie.Need-one-of-requires-4
 one-of-requires-4 c κs = search needs
 
--- src/library.rt:16:25
+-- src/library.rt:19:25
 slice-aggregate-one-of-5 : tie.Need-slice-aggregate-one-of-5
 slice-aggregate-one-of-5 c = search needs
 
--- src/library.rt:16:15
+-- src/library.rt:19:15
 one-of-requires-5 : tie.Need-one-of-requires-5
 one-of-requires-5 c κs = search needs
 
--- src/library.rt:17:25
+-- src/library.rt:20:25
 slice-aggregate-one-of-6 : tie.Need-slice-aggregate-one-of-6
 slice-aggregate-one-of-6 c = search needs
 
--- src/library.rt:17:15
+-- src/library.rt:20:15
 one-of-requires-6 : tie.Need-one-of-requires-6
 one-of-requires-6 c κs = search needs
 
--- src/library.rt:18:25
+-- src/library.rt:21:25
 slice-aggregate-one-of-7 : tie.Need-slice-aggregate-one-of-7
 slice-aggregate-one-of-7 c = search needs
 
--- src/library.rt:18:15
+-- src/library.rt:21:15
 one-of-requires-7 : tie.Need-one-of-requires-7
 one-of-requires-7 c κs = search needs
 
--- src/library.rt:21:13
+-- src/library.rt:23:35
 slice-aggregate-one-of-8 : tie.Need-slice-aggregate-one-of-8
 slice-aggregate-one-of-8 c = search needs
 
--- src/library.rt:23:23
-slice-aggregate-one-of-9 : tie.Need-slice-aggregate-one-of-9
-slice-aggregate-one-of-9 c = search needs
-
--- src/library.rt:23:13
+-- src/library.rt:23:17
 one-of-requires-8 : tie.Need-one-of-requires-8
 one-of-requires-8 c κs = search needs
 
--- src/library.rt:19:15
+-- src/library.rt:24:23
+slice-aggregate-one-of-9 : tie.Need-slice-aggregate-one-of-9
+slice-aggregate-one-of-9 c = search needs
+
+-- src/library.rt:24:13
 one-of-requires-9 : tie.Need-one-of-requires-9
 one-of-requires-9 c κs = search needs
 
--- src/library.rt:25:25
+-- src/library.rt:26:25
 slice-aggregate-one-of-10 : tie.Need-slice-aggregate-one-of-10
 slice-aggregate-one-of-10 c = search needs
 
--- src/library.rt:25:15
+-- src/library.rt:26:15
 one-of-requires-10 : tie.Need-one-of-requires-10
 one-of-requires-10 c κs = search needs
 
@@ -129,8 +129,8 @@ library-number-spec =
     slice-aggregate-one-of
     one-of-requires
     slice-aggregate-one-of-2
-    slice-aggregate-one-of-3
     one-of-requires-2
+    slice-aggregate-one-of-3
     one-of-requires-3
     slice-aggregate-one-of-4
     one-of-requires-4
@@ -141,8 +141,8 @@ library-number-spec =
     slice-aggregate-one-of-7
     one-of-requires-7
     slice-aggregate-one-of-8
-    slice-aggregate-one-of-9
     one-of-requires-8
+    slice-aggregate-one-of-9
     one-of-requires-9
     slice-aggregate-one-of-10
     one-of-requires-10
