@@ -1,5 +1,6 @@
 pub mod Texts
 pub mod Homes
+pub mod Decoded
 mod Last
 mod Entries
 mod Hashing
