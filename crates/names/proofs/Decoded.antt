@@ -1,7 +1,7 @@
 -- What a prepared word says of its token.
 -- Assumes nothing.
 use Prim.Native.Nat.{ℕ, _+_, _-_, _*_, _/_, _%_, _≤_, _<_, min}
-use mathlib.Core.Path.{_≡_, _∙_, refl, sym, ap}
+use mathlib.Core.Path.{_≡_}
 use mathlib.Core.Bool.{Bool, true, false, cond}
 use mathlib.Core.List.{List, map}
 use native.Mathlib.Omega.{arith}
@@ -74,7 +74,10 @@ module _ (ts : List Token) (t : Token) (h : Held t) where
 
     pub name-home : t .kind ≡ aName → payload ts t / 65536 % 65536 ≡ home ts (t .kind) (t .text)
     name-home e =
-        let q : (sizeOf t + 65536 * home ts (t .kind) (t .text) + 4294967296 * libraryNumber (t .text)) / 65536 ≡ home ts (t .kind) (t .text) + 65536 * libraryNumber (t .text) = omega (arith, h .size) in
+        let s : ℕ = sizeOf t in
+        let m : ℕ = home ts (t .kind) (t .text) in
+        let n : ℕ = libraryNumber (t .text) in
+        let q : (s + 65536 * m + 4294967296 * n) / 65536 ≡ m + 65536 * n = omega (arith, h .size) in
         rw (name-is e, q) (omega arith)
 
     pub name-library : t .kind ≡ aName → payload ts t / 4294967296 ≡ libraryNumber (t .text)

@@ -2,7 +2,7 @@
 -- Assumes nothing.
 use Prim.Native.Nat.{ℕ, zero, suc, _-_, _≤_, _<_}
 use mathlib.Core.Path.{_≡_, _∙_, refl, sym, ap}
-use mathlib.Core.Bool.{Bool, true, false, _&&_}
+use mathlib.Core.Bool.{true}
 use mathlib.Core.List.{List, [], _∷_, map}
 use mathlib.Core.Logic.{⊎-elim}
 use native.Mathlib.Nat.{eq-or-lt-of-le}
@@ -47,13 +47,16 @@ module _ (p ws : List ℕ) where
   unfolding meets
   meets-entry k x i e = and-true (isEntry p ws i) (spelled p (getD ws i 0) k x) e .0
 
-  meets-kind : (k : ℕ) (x : List ℕ) (i : ℕ) → meets p ws k x i ≡ true → kind i ≡ k
+  meets-both : (k : ℕ) (x : List ℕ) (i : ℕ) → meets p ws k x i ≡ true → (eqb (kind i) k ≡ true) × (sameText (text i) x ≡ true)
   unfolding meets spelled
-  meets-kind k x i e = eqb-true (kind i) k (and-true (eqb (kind i) k) (sameText (text i) x) (and-true (isEntry p ws i) (spelled p (getD ws i 0) k x) e .1) .0)
+  meets-both k x i e =
+      and-true (eqb (kind i) k) (sameText (text i) x) (and-true (isEntry p ws i) (spelled p (getD ws i 0) k x) e .1)
+
+  meets-kind : (k : ℕ) (x : List ℕ) (i : ℕ) → meets p ws k x i ≡ true → kind i ≡ k
+  meets-kind k x i e = eqb-true (kind i) k (meets-both k x i e .0)
 
   meets-text : (k : ℕ) (x : List ℕ) (i : ℕ) → meets p ws k x i ≡ true → text i ≡ x
-  unfolding meets spelled
-  meets-text k x i e = same-equal (text i) x (and-true (eqb (kind i) k) (sameText (text i) x) (and-true (isEntry p ws i) (spelled p (getD ws i 0) k x) e .1) .1)
+  meets-text k x i e = same-equal (text i) x (meets-both k x i e .1)
 
   pub meets-lies : (k : ℕ) (x : List ℕ) (i : ℕ) → meets p ws k x i ≡ true → lies p ws (bucketOf k x) i ≡ true
   unfolding lies bucketAt
@@ -88,11 +91,21 @@ module _ (p ws : List ℕ) where
     home-home = same-home (homeOf p ws i) i kind-home text-home
 
     only : (m : ℕ) → meets p ws (kind i) (text i) m ≡ true → m ≡ homeOf p ws i
-    only m e = sym (entry-home m (meets-entry (kind i) (text i) m e)) ∙ same-home m i (meets-kind (kind i) (text i) m e) (meets-text (kind i) (text i) m e)
+    only m e =
+        sym (entry-home m (meets-entry (kind i) (text i) m e))
+        ∙ same-home m i (meets-kind (kind i) (text i) m e) (meets-text (kind i) (text i) m e)
 
     home-meets : named (kind i) ≡ true → meets p ws (kind i) (text i) (homeOf p ws i) ≡ true
     unfolding meets isEntry spelled
-    home-meets e = rw (home-home, kind-home, text-home, e, eq-eqb (homeOf p ws i) (homeOf p ws i) refl, eq-eqb (kind i) (kind i) refl) (same-itself (text i))
+    home-meets e =
+        let q : (n : ℕ) → eqb n n ≡ true = λ n. eq-eqb n n refl in
+        rw (home-home, kind-home, text-home, e, q (homeOf p ws i), q (kind i)) (same-itself (text i))
+
+    before : (n : ℕ) → n ≤ homeOf p ws i → last (meets p ws (kind i) (text i)) n ≡ 0
+    before = only-before (meets p ws (kind i) (text i)) (homeOf p ws i) only
+
+    behind : named (kind i) ≡ true → (n : ℕ) → homeOf p ws i < n → last (meets p ws (kind i) (text i)) n ≡ suc (homeOf p ws i)
+    behind e n = only-behind (meets p ws (kind i) (text i)) (homeOf p ws i) only n (home-meets e)
 
     -- what a look-up among the tokens before i says
     module _ (name : named (kind i) ≡ true) (j : ℕ) (look : j ≡ found p ws i (kind i) (text i)) where
@@ -100,14 +113,14 @@ module _ (p ws : List ℕ) where
       unfolding found
       own-home e =
           ⊎-elim (λ q. q)
-          (λ (l : homeOf p ws i < i). absurd (omega (arith, look, only-behind (meets p ws (kind i) (text i)) (homeOf p ws i) only i (home-meets name) l)))
+          (λ (l : homeOf p ws i < i). absurd (omega (arith, look, behind name i l)))
           (eq-or-lt-of-le home-before)
 
       pub older-home : (j ≡ 0 → ⊥) → homeOf p ws i ≡ j - 1
       unfolding found
       older-home n =
-          ⊎-elim (λ (q : homeOf p ws i ≡ i). absurd (n (look ∙ only-before (meets p ws (kind i) (text i)) (homeOf p ws i) only i (omega arith))))
-          (λ (l : homeOf p ws i < i). omega (arith, look, only-behind (meets p ws (kind i) (text i)) (homeOf p ws i) only i (home-meets name) l))
+          ⊎-elim (λ (q : homeOf p ws i ≡ i). absurd (n (look ∙ before i (omega arith))))
+          (λ (l : homeOf p ws i < i). omega (arith, look, behind name i l))
           (eq-or-lt-of-le home-before)
 
       pub place-few : j ≤ i

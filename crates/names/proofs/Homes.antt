@@ -7,7 +7,7 @@ use Prim.Native.Nat.{ℕ, zero, suc, _≤_, _<_}
 use native.Mathlib.Omega.{arith}
 use borrow.Author.Tests.{eq-eqb, eqb-true}
 use lib.Dec.{eqb}
-use lib.ListN.{length, getD}
+use lib.ListN.{length}
 use Rattle.meaning.specs.Basics.{if_then_else_, sameText}
 use Rattle.meaning.specs.Token.{Token}
 use Rattle.meaning.specs.Grammar.{kindAt, textAt}
@@ -89,8 +89,9 @@ module _ (ts : List Token) (i j k : ℕ) where
   pub home-same : textAt ts i ≡ textAt ts j → home ts k (textAt ts i) ≡ home ts k (textAt ts j)
   home-same e = ap (home ts k) e
 
-  pub home-tells : i < length ts → j < length ts → kindAt ts i ≡ k → kindAt ts j ≡ k → home ts k (textAt ts i) ≡ home ts k (textAt ts j) → textAt ts i ≡ textAt ts j
+  pub home-tells : i < length ts → j < length ts → kindAt ts i ≡ k → kindAt ts j ≡ k
+      → home ts k (textAt ts i) ≡ home ts k (textAt ts j) → textAt ts i ≡ textAt ts j
   home-tells h l u v e =
-      let p : textAt ts (home ts k (textAt ts i)) ≡ textAt ts i = home-text k (textAt ts i) ts (omega (arith, home-least k (textAt ts i) ts i h u refl)) in
-      let q : textAt ts (home ts k (textAt ts j)) ≡ textAt ts j = home-text k (textAt ts j) ts (omega (arith, home-least k (textAt ts j) ts j l v refl)) in
+      let p = home-text k (textAt ts i) ts (omega (arith, home-least k (textAt ts i) ts i h u refl)) in
+      let q = home-text k (textAt ts j) ts (omega (arith, home-least k (textAt ts j) ts j l v refl)) in
       sym p ∙ ap (textAt ts) e ∙ q

@@ -1,6 +1,6 @@
 -- One more token: the index of i tokens becomes that of i + 1.
 -- Assumes nothing.
-use Prim.Native.Nat.{ℕ, zero, suc, _+_, _-_, _*_, _/_, _%_, _≤_, _<_}
+use Prim.Native.Nat.{ℕ, suc, _+_, _-_, _*_, _/_, _%_, _≤_, _<_}
 use mathlib.Core.Path.{_≡_, _∙_, refl, sym, ap}
 use mathlib.Core.Bool.{Bool, true, false, _&&_, cond}
 use mathlib.Core.List.{List}
@@ -13,7 +13,8 @@ use lib.Dec.{eqb}
 use lib.ListN.{length, getD, set, replicate, length-set, length-replicate, getD-replicate}
 use lib.Seq.{getD-set-same, getD-set-other}
 use Rattle.lexer.specs.Words.{tokenIn, kindIn}
-use Rattle.names.specs.Index.{Room, bucketOf, named, homeOf, bucketAt, isEntry, lies, last, found, linkAt, homeAt, Indexed, Looks, Files, Notes, noted}
+use Rattle.names.specs.Index.{Room, bucketOf, named, homeOf, bucketAt, isEntry, lies, last, found, linkAt, homeAt}
+use Rattle.names.specs.Index.{Indexed, Looks, Files, Notes, noted}
 use Rattle.names.proofs.Last.{last-le}
 use Rattle.names.proofs.Entries.{own-home, older-home, place-few}
 use Rattle.names.proofs.Hashing.{bucket-small}
@@ -118,7 +119,8 @@ module _ (p ws ix : List ℕ) (i : ℕ) (g : Files p ws ix i) where
         go : (t : Bool) → eqb c b ≡ t → getD entered c 0 ≡ last (lies p ws c) (suc i)
         go true q =
             rw (eqb-true c b q)
-            (getD-set-same (set ix (8192 + i) (getD ix b 0 + 65536 * i)) b (i + 1) 0 (omega (arith, length-set ix (8192 + i) (getD ix b 0 + 65536 * i), g .index .room))
+            (getD-set-same (set ix (8192 + i) (getD ix b 0 + 65536 * i)) b (i + 1) 0
+            (omega (arith, length-set ix (8192 + i) (getD ix b 0 + 65536 * i), g .index .room))
             ∙ add-one i ∙ sym (past-own p ws i b bucket e))
         go false q =
             entered-low c h (eqb-false c b q) ∙ g .index .heads c h ∙ sym (past-other p ws i c (λ u. eqb-false c b q (sym u ∙ bucket)) e)
@@ -140,7 +142,9 @@ module _ (p ws ix : List ℕ) (i : ℕ) (g : Files p ws ix i) where
   files-look k x b h e = record { index = g .index; bucket = e; slot = bucket-small k b x (omega arith) e }
 
   -- a name or a string: its home is what the look-up found, or itself
-  module _ (k : ℕ) (x : List ℕ) (b j : ℕ) (kind : k ≡ kindIn (getD ws i 0)) (text : x ≡ tokenIn p (getD ws i 0) .text) (bucket : b ≡ bucketOf k x) (look : j ≡ found p ws i k x) where
+  module _
+      (k : ℕ) (x : List ℕ) (b j : ℕ) (kind : k ≡ kindIn (getD ws i 0)) (text : x ≡ tokenIn p (getD ws i 0) .text)
+      (bucket : b ≡ bucketOf k x) (look : j ≡ found p ws i k x) where
     slot : b < 8192
     slot = bucket-small k b x (omega arith) bucket
 
@@ -158,9 +162,11 @@ module _ (p ws ix : List ℕ) (i : ℕ) (g : Files p ws ix i) where
         is : named (kindIn (getD ws i 0)) ≡ true
         is = rw kind at (sym v ∙ y)
 
-        go : (t : Bool) → eqb j 0 ≡ t → Indexed p ws (cond (eqb j 0) (set (set ix (8192 + i) (getD ix b 0 + 65536 * i)) b (i + 1)) (set ix (8192 + i) (65536 * (j - 1)))) (i + 1)
+        go : (t : Bool) → eqb j 0 ≡ t → Indexed p ws (noted ix i b j) (i + 1)
         go true q = rw q (own b slot in-bucket is (own-home p ws i (g .here) is j looked (eqb-true j 0 q)))
-        go false q = rw q (older j (eqb-false j 0 q) (place-few p ws i (g .here) is j looked) (older-home p ws i (g .here) is j looked (eqb-false j 0 q)))
+        go false q =
+            let n = eqb-false j 0 q in
+            rw q (older j n (place-few p ws i (g .here) is j looked) (older-home p ws i (g .here) is j looked n))
 
     pub files-note : (t : Bool) → t ≡ named k → t ≡ true → Notes ix i b j
     files-note t v y =

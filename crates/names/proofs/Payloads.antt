@@ -1,17 +1,18 @@
 -- The payload of a token, and its word.
 -- Assumes nothing.
 use Prim.Native.Nat.{ℕ, _+_, _-_, _*_, _/_, _%_, _≤_, _<_, min}
-use mathlib.Core.Path.{_≡_, _∙_, refl, sym, ap}
+use mathlib.Core.Path.{_≡_, refl}
 use mathlib.Core.Bool.{Bool, true, false, cond}
 use mathlib.Core.List.{List}
 use mathlib.Core.Option.{Option, none, some}
 use native.Mathlib.Omega.{arith}
-use borrow.Author.Tests.{eq-eqb, ne-eqb, eqb-true}
+use borrow.Author.Tests.{ne-eqb, eqb-true}
 use lib.Dec.{eqb}
 use lib.ListN.{length, take, drop, length-take}
-use Rattle.meaning.specs.Token.{Token, aName, aString, digits}
+use Rattle.meaning.specs.Token.{Token, aString}
 use Rattle.meaning.specs.Grammar.{numeral}
-use Rattle.meaning.specs.Library.{Library, drawLine, drawEllipse, drawBox, drawText, connectShapes, drawTextOnShape, xCoordinate, yCoordinate, destroyShape, clearScene, libraryOf}
+use Rattle.meaning.specs.Library.{Library, libraryOf, drawLine, drawEllipse, drawBox, drawText, connectShapes, drawTextOnShape}
+use Rattle.meaning.specs.Library.{xCoordinate, yCoordinate, destroyShape, clearScene}
 use Rattle.lexer.specs.Words.{sizeOf, textIn, tokenIn, kindIn, placeIn, sizeIn}
 use Rattle.names.specs.Prepared.{home, numberOf, libraryNumber, payload, prepared}
 use Rattle.names.specs.Index.{payloadWith, wordWith, named}
@@ -65,14 +66,17 @@ module _ (k : ℕ) (x : List ℕ) (h : ℕ) where
   unfolding payloadWith
   payload-small v l s e = rw e (go (eqb k 2) (eqb k 1) (eqb k 3))
     where
-      go : (a b c : Bool) → cond a (min (numeral x) 4294967295) (cond b (length x + 65536 * h + 4294967296 * libraryNumber x) (cond c (length x + 2 + 65536 * h) (length x))) < 1099511627776
+      go : (a b c : Bool)
+          → cond a (min (numeral x) 4294967295) (cond b (length x + 65536 * h + 4294967296 * libraryNumber x) (cond c (length x + 2 + 65536 * h) (length x)))
+          < 1099511627776
       go true b c = omega arith
       go false true c = omega (arith, library-few x (libraryNumber x) refl)
       go false false true = omega arith
       go false false false = omega arith
 
 -- the low 24 bits are the kind and the place
-pub word-is : (p : List ℕ) (w h k v : ℕ) (x : List ℕ) → x ≡ tokenIn p w .text → k ≡ kindIn w → v ≡ payloadWith k x h → w % 16777216 + 16777216 * v ≡ wordWith (tokenIn p w) h
+pub word-is : (p : List ℕ) (w h k v : ℕ) (x : List ℕ) → x ≡ tokenIn p w .text → k ≡ kindIn w → v ≡ payloadWith k x h
+    → w % 16777216 + 16777216 * v ≡ wordWith (tokenIn p w) h
 unfolding wordWith tokenIn
 word-is p w h k v x e u q =
     let low : w % 16777216 ≡ w % 256 + 256 * (w / 256 % 65536) = omega arith in

@@ -5,11 +5,10 @@ use mathlib.Core.Path.{_≡_, _∙_, refl, sym, ap}
 use mathlib.Core.Bool.{Bool, true, false, cond}
 use mathlib.Core.List.{List, [], _∷_}
 use mathlib.Core.Option.{Option}
-use native.Mathlib.Omega.{arith}
 use borrow.Author.Tests.{ne-eqb, eqb-false}
 use lib.Dec.{eqb}
 use lib.ListN.{length}
-use Rattle.meaning.specs.Basics.{bytes, if_then_else_, sameText}
+use Rattle.meaning.specs.Basics.{bytes, if_then_else_}
 use Rattle.meaning.specs.Library.{Library, libraryOf}
 use Rattle.names.specs.Prepared.{numberOf, libraryNumber}
 use Rattle.names.specs.Index.{either}
@@ -47,7 +46,7 @@ module _ (w : List ℕ) where
   by-length l (v ∷ vs) i h = go (eqb (length v) l) refl (by-length l vs (suc i) h)
     where
       go : (b : Bool) → eqb (length v) l ≡ b → number vs (suc i) ≡ numberOfLength l vs (suc i)
-        → either w v i (number vs (suc i)) ≡ compared b v i (numberOfLength l vs (suc i))
+          → either w v i (number vs (suc i)) ≡ compared b v i (numberOfLength l vs (suc i))
       go true e r = ap (either w v i) r
       go false e r = rw (other-lengths w v (λ q. eqb-false (length v) l e (sym q ∙ h))) r
 
@@ -73,7 +72,8 @@ module _ (w : List ℕ) where
   pub number-15 : (r : ℕ) → length w ≡ 15 → r ≡ either w (bytes "drawTextOnShape") 5 10 → r ≡ libraryNumber w
   number-15 r h e = e ∙ number-is 15 h
 
-  pub number-19 : (r s : ℕ) → length w ≡ 19 → s ≡ either w (bytes "getShapeYCoordinate") 7 10 → r ≡ either w (bytes "getShapeXCoordinate") 6 s → r ≡ libraryNumber w
+  pub number-19 : (r s : ℕ) → length w ≡ 19 → s ≡ either w (bytes "getShapeYCoordinate") 7 10
+      → r ≡ either w (bytes "getShapeXCoordinate") 6 s → r ≡ libraryNumber w
   number-19 r s h u e = e ∙ ap (either w (bytes "getShapeXCoordinate") 6) u ∙ number-is 19 h
 
   pub number-24 : (r : ℕ) → length w ≡ 24 → r ≡ either w (bytes "drawLineConnectingShapes") 4 10 → r ≡ libraryNumber w
@@ -83,6 +83,6 @@ module _ (w : List ℕ) where
   off l h = ne-eqb l (length w) (λ e. h (sym e))
 
   pub number-other : (length w ≡ 7 → ⊥) → (length w ≡ 8 → ⊥) → (length w ≡ 10 → ⊥) → (length w ≡ 11 → ⊥)
-    → (length w ≡ 12 → ⊥) → (length w ≡ 15 → ⊥) → (length w ≡ 19 → ⊥) → (length w ≡ 24 → ⊥) → 10 ≡ libraryNumber w
+      → (length w ≡ 12 → ⊥) → (length w ≡ 15 → ⊥) → (length w ≡ 19 → ⊥) → (length w ≡ 24 → ⊥) → 10 ≡ libraryNumber w
   number-other h7 h8 h10 h11 h12 h15 h19 h24 =
       rw (off 7 h7, off 8 h8, off 10 h10, off 11 h11, off 12 h12, off 15 h15, off 19 h19, off 24 h24) at (number-is (length w) refl)

@@ -2,18 +2,18 @@
 -- Assumes nothing.
 use Prim.Native.Nat.{ℕ, _+_, _≤_, _<_}
 use mathlib.Core.Path.{_≡_, _∙_, refl, sym, ap}
-use mathlib.Core.Bool.{Bool, true, false}
 use mathlib.Core.List.{List, map}
 use mathlib.Core.Logic.{⊎-elim}
-use native.Mathlib.Nat.{eq-or-lt-of-le, mod-lt}
+use native.Mathlib.Nat.{eq-or-lt-of-le}
 use native.Mathlib.Omega.{arith}
 use lib.ListN.{length, getD, set, length-set, length-map}
 use lib.Seq.{getD-set-same, getD-set-other, ext-getD}
-use Rattle.meaning.specs.Token.{Token}
-use Rattle.lexer.specs.Words.{tokenIn, kindIn}
+use Rattle.meaning.specs.Grammar.{afterLast}
+use Rattle.lexer.specs.Words.{tokenIn}
 use Rattle.names.specs.Prepared.{prepared, preparedAll}
-use Rattle.names.specs.Index.{named, homeOf, homeAt, wordWith, Indexed}
+use Rattle.names.specs.Index.{homeOf, homeAt, wordWith, Indexed}
 use Rattle.names.proofs.Entries.{getD-map}
+use Rattle.names.proofs.Decoded.{prepared-at}
 use Rattle.names.proofs.Payloads.{word-prepared}
 
 pub record Rewriting (p ws₀ ix ws : List ℕ) (i : ℕ) : Type 0 where
@@ -31,11 +31,8 @@ module _ (p ws₀ ix : List ℕ) where
   rewrite-none g = record { index = g; long = refl; done = λ m l h. absurd (omega arith); rest = λ m l. refl }
 
   -- the word at an index, prepared
-  prepared-at : (i : ℕ) → i < length ws₀ → getD (preparedAll p ws₀) i 0 ≡ prepared (map (tokenIn p) ws₀) (tokenIn p (getD ws₀ i 0))
-  unfolding preparedAll
-  prepared-at i h =
-      getD-map (prepared (map (tokenIn p) ws₀)) (map (tokenIn p) ws₀) i (tokenIn p 0) 0 (rw (length-map ws₀ (tokenIn p)) h)
-      ∙ ap (prepared (map (tokenIn p) ws₀)) (getD-map (tokenIn p) ws₀ i 0 (tokenIn p 0) h)
+  word-at : (i : ℕ) → i < length ws₀ → getD (preparedAll p ws₀) i 0 ≡ prepared (map (tokenIn p) ws₀) (tokenIn p (getD ws₀ i 0))
+  word-at i h = prepared-at p ws₀ i h ∙ ap (prepared (map (tokenIn p) ws₀)) (getD-map (tokenIn p) ws₀ i 0 afterLast h)
 
   module _ (ws : List ℕ) (i : ℕ) (g : Rewriting p ws₀ ix ws i) (here : i < length ws) where
     pub rewrite-room : 8192 + i < length ix
@@ -48,7 +45,7 @@ module _ (p ws₀ ix : List ℕ) where
         let l : i < length ws₀ = omega (arith, g .long) in
         e ∙ ap (λ (w : ℕ). wordWith (tokenIn p w) h) (g .rest i (omega arith))
         ∙ word-prepared (map (tokenIn p) ws₀) (tokenIn p (getD ws₀ i 0)) h (λ n. u ∙ g .index .homes i l n)
-        ∙ sym (prepared-at i l)
+        ∙ sym (word-at i l)
 
     pub rewrite-more : (h r : ℕ) → h ≡ homeAt ix i → r ≡ wordWith (tokenIn p (getD ws i 0)) h → Rewriting p ws₀ ix (set ws i r) (i + 1)
     rewrite-more h r u e =

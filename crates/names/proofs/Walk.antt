@@ -1,8 +1,8 @@
 -- A walk along a bucket: the entries from place j on are not of the kind and the text, and the one before it lies in the bucket.
 -- Assumes nothing.
 use Prim.Native.Nat.{ℕ, _+_, _-_, _≤_, _<_}
-use mathlib.Core.Path.{_≡_, _∙_, refl, sym, ap}
-use mathlib.Core.Bool.{Bool, true, false, _&&_}
+use mathlib.Core.Path.{_≡_, _∙_, sym, ap}
+use mathlib.Core.Bool.{Bool, true, false}
 use mathlib.Core.List.{List}
 use native.Mathlib.Omega.{arith}
 use borrow.Author.Tests.{eq-eqb, ne-eqb, eqb-true}
@@ -10,7 +10,7 @@ use lib.Dec.{eqb}
 use lib.ListN.{length, getD}
 use Rattle.meaning.specs.Basics.{sameText}
 use Rattle.lexer.specs.Words.{tokenIn, kindIn}
-use Rattle.names.specs.Index.{bucketOf, spelled, bucketAt, isEntry, lies, meets, last, found, linkAt, Indexed, Looks}
+use Rattle.names.specs.Index.{bucketOf, spelled, bucketAt, isEntry, lies, meets, last, found, linkAt, Looks}
 use Rattle.names.proofs.Homes.{and-true}
 use Rattle.names.proofs.Last.{last-here, last-below, last-none, last-le, last-meets, last-skip}
 use Rattle.names.proofs.Entries.{meets-lies}

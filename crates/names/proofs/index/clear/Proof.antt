@@ -1,12 +1,11 @@
-use Rattle.names.proofs.Clearing.{Clearing, clear-none, clear-long, clear-more, clear-all}
-use lib.ListN.{length, length-set}
+-- `names::index::clear` meets its contract: the words before i are zero.
 use Prim.Native.Nat.{_-_}
 use native.Mathlib.Omega.{arith}
 use borrow.Author.Needs.{needs}
+use lib.ListN.{length, length-set}
+use Rattle.names.proofs.Clearing.{Clearing, clear-none, clear-long, clear-more, clear-all}
 use Rattle.names.proofs.index.clear.Statement.{statement}
 use Rattle.names.proofs.index.clear.Tie as tie
-use Rattle.names.proofs.index.clear.Reads as reads
-use Rattle.names.proofs.index.clear.Lts as lts
 
 abbrev Inv-loop : tie.InvT-loop
 Inv-loop index₀ i₀ index i = Clearing index₀ index i
@@ -14,35 +13,27 @@ Inv-loop index₀ i₀ index i = Clearing index₀ index i
 abbrev μ-loop : tie.MeasureT-loop
 μ-loop index₀ i₀ index i = length index - i
 
--- src/index.rt:16:5
 loop-holds : tie.Need-loop-holds Inv-loop μ-loop
 loop-holds c = search clear-none
 
--- src/index.rt:17:9
 mul-index : tie.Need-mul-index Inv-loop μ-loop
 mul-index c = search needs
 
--- src/index.rt:17:9
 slice-write-index : tie.Need-slice-write-index Inv-loop μ-loop
 slice-write-index c = omega arith
 
--- src/index.rt:18:9
 add-i : tie.Need-add-i Inv-loop μ-loop
 add-i c = search needs
 
--- src/index.rt:16:5
 loop-less : tie.Need-loop-less Inv-loop μ-loop
 loop-less c = simp length-set (omega arith)
 
--- src/index.rt:16:5
 loop-again : tie.Need-loop-again Inv-loop μ-loop
 loop-again c = search clear-more
 
--- src/index.rt:12:1
 same-length : tie.Need-same-length Inv-loop μ-loop
 same-length c = search clear-long
 
--- src/index.rt:12:1
 returns : tie.Need-returns Inv-loop μ-loop
 returns c = search clear-all
 

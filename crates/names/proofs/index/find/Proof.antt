@@ -1,12 +1,8 @@
-use Rattle.names.proofs.Walk.{Walking, look-slot, walk-begin, walk-found, walk-less, walk-on, walk-over, walk-token, walk-link}
-use native.Mathlib.Omega.{arith}
+-- `names::index::find` meets its contract: a walk along the bucket, whose links fall.
 use borrow.Author.Needs.{needs}
+use Rattle.names.proofs.Walk.{Walking, look-slot, walk-begin, walk-found, walk-less, walk-on, walk-over, walk-token, walk-link}
 use Rattle.names.proofs.index.find.Statement.{statement}
 use Rattle.names.proofs.index.find.Tie as tie
-use Rattle.names.proofs.index.find.Reads as reads
-use Rattle.names.proofs.index.find.Lts as lts
-use Rattle.names.proofs.index.is_spelled.Reads as is-spelled-reads
-use Rattle.names.proofs.index.link_at.Reads as link-at-reads
 
 abbrev Inv-loop : tie.InvT-loop
 Inv-loop program tokens index n kind x b j₀ j = Walking program tokens index n kind x b j
@@ -14,55 +10,42 @@ Inv-loop program tokens index n kind x b j₀ j = Walking program tokens index n
 abbrev μ-loop : tie.MeasureT-loop
 μ-loop program tokens index n kind x b j₀ j = j
 
--- src/index.rt:102:17
 mul-j : tie.Need-mul-j Inv-loop μ-loop
 mul-j c = search (needs, look-slot)
 
--- src/index.rt:102:17
 shared-slice-read-j : tie.Need-shared-slice-read-j Inv-loop μ-loop
 shared-slice-read-j c = search look-slot
 
--- src/index.rt:103:5
 loop-holds : tie.Need-loop-holds Inv-loop μ-loop
 loop-holds c = search walk-begin
 
--- src/index.rt:104:39
 sub-is-spelled : tie.Need-sub-is-spelled Inv-loop μ-loop
 sub-is-spelled c = search needs
 
--- src/index.rt:104:32
 mul-is-spelled : tie.Need-mul-is-spelled Inv-loop μ-loop
 mul-is-spelled c = search (needs, walk-token)
 
--- src/index.rt:104:32
 shared-slice-read-is-spelled : tie.Need-shared-slice-read-is-spelled Inv-loop μ-loop
 shared-slice-read-is-spelled c = search walk-token
 
--- src/index.rt:104:12
 is-spelled-requires : tie.Need-is-spelled-requires Inv-loop μ-loop
 is-spelled-requires c κs = search needs
 
--- src/index.rt:105:13
 returns : tie.Need-returns Inv-loop μ-loop
 returns c = search walk-found
 
--- src/index.rt:107:28
 sub-link-at : tie.Need-sub-link-at Inv-loop μ-loop
 sub-link-at c = search needs
 
--- src/index.rt:107:9
 link-at-requires : tie.Need-link-at-requires Inv-loop μ-loop
 link-at-requires c κs = search walk-link
 
--- src/index.rt:103:5
 loop-less : tie.Need-loop-less Inv-loop μ-loop
 loop-less c = search walk-less
 
--- src/index.rt:103:5
 loop-again : tie.Need-loop-again Inv-loop μ-loop
 loop-again c = search walk-on
 
--- src/index.rt:90:1
 returns-2 : tie.Need-returns-2 Inv-loop μ-loop
 returns-2 c = search walk-over
 

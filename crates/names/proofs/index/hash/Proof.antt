@@ -1,13 +1,11 @@
-use Rattle.names.proofs.Hashing.{Hashing, hash-begin, hash-more, hash-all}
-use lib.ListN.{length}
+-- `names::index::hash` meets its contract: what is left to hash is the bytes from i on.
 use Prim.Native.Nat.{_-_}
 use native.Mathlib.Omega.{arith}
 use borrow.Author.Needs.{needs}
+use lib.ListN.{length}
+use Rattle.names.proofs.Hashing.{Hashing, hash-begin, hash-more, hash-all}
 use Rattle.names.proofs.index.hash.Statement.{statement}
 use Rattle.names.proofs.index.hash.Tie as tie
-use Rattle.names.proofs.index.hash.Reads as reads
-use Rattle.names.proofs.index.hash.Lts as lts
-use Rattle.names.proofs.index.mix.Reads as mix-reads
 
 abbrev Inv-loop : tie.InvT-loop
 Inv-loop from x h₀ i₀ h i = Hashing x from h i
@@ -15,31 +13,24 @@ Inv-loop from x h₀ i₀ h i = Hashing x from h i
 abbrev μ-loop : tie.MeasureT-loop
 μ-loop from x h₀ i₀ h i = length x - i
 
--- src/index.rt:74:5
 loop-holds : tie.Need-loop-holds Inv-loop μ-loop
 loop-holds c = search hash-begin
 
--- src/index.rt:75:20
 shared-slice-read-mix : tie.Need-shared-slice-read-mix Inv-loop μ-loop
 shared-slice-read-mix c = omega arith
 
--- src/index.rt:75:9
 mix-requires : tie.Need-mix-requires Inv-loop μ-loop
 mix-requires c κs = search needs
 
--- src/index.rt:76:9
 add-i : tie.Need-add-i Inv-loop μ-loop
 add-i c = omega arith
 
--- src/index.rt:74:5
 loop-less : tie.Need-loop-less Inv-loop μ-loop
 loop-less c = omega arith
 
--- src/index.rt:74:5
 loop-again : tie.Need-loop-again Inv-loop μ-loop
 loop-again c = search hash-more
 
--- src/index.rt:68:1
 returns : tie.Need-returns Inv-loop μ-loop
 returns c = search hash-all
 

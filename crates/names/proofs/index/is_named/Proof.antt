@@ -1,21 +1,17 @@
-use Rattle.names.specs.Index.{named}
+-- `names::index::is_named` meets its contract, by the kinds.
 use borrow.Author.Tests.{ne-eqb}
+use Rattle.names.specs.Index.{named}
 use Rattle.names.proofs.index.is_named.Statement.{statement}
 use Rattle.names.proofs.index.is_named.Tie as tie
-use Rattle.names.proofs.index.is_named.Reads as reads
-use Rattle.names.proofs.index.is_named.Lts as lts
 
--- src/index.rt:50:1
 returns : tie.Need-returns
 unfolding named
 returns c = rw (c .match .keys1)
 
--- src/index.rt:50:1
 returns-2 : tie.Need-returns-2
 unfolding named
 returns-2 c = rw (c .match .keys2)
 
--- src/index.rt:50:1
 returns-3 : tie.Need-returns-3
 unfolding named
 returns-3 c = rw (ne-eqb _ _ (c .match .rest .0 .1), ne-eqb _ _ (c .match .rest .1))

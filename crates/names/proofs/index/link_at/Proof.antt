@@ -1,24 +1,19 @@
-use Rattle.names.specs.Index.{linkAt}
+-- `names::index::link_at` meets its contract.
 use mathlib.Core.Path.{refl}
 use borrow.Author.Needs.{needs}
+use Rattle.names.specs.Index.{linkAt}
 use Rattle.names.proofs.index.link_at.Statement.{statement}
 use Rattle.names.proofs.index.link_at.Tie as tie
-use Rattle.names.proofs.index.link_at.Reads as reads
-use Rattle.names.proofs.index.link_at.Lts as lts
 
--- src/index.rt:128:12
 add-result : tie.Need-add-result
 add-result c = search needs
 
--- src/index.rt:128:6
 mul-result : tie.Need-mul-result
 mul-result c = search needs
 
--- src/index.rt:128:6
 shared-slice-read-result : tie.Need-shared-slice-read-result
 shared-slice-read-result c = search needs
 
--- src/index.rt:124:1
 returns : tie.Need-returns
 unfolding linkAt
 returns c = refl

@@ -1,22 +1,17 @@
-use Rattle.names.specs.Index.{either}
+-- `names::library::one_of` meets its contract.
 use mathlib.Core.Path.{_∙_, sym}
 use borrow.Author.Needs.{needs}
+use Rattle.names.specs.Index.{either}
 use Rattle.names.proofs.library.one_of.Statement.{statement}
 use Rattle.names.proofs.library.one_of.Tie as tie
-use Rattle.names.proofs.library.one_of.Reads as reads
-use Rattle.names.proofs.library.one_of.Lts as lts
-use Rattle.names.proofs.text.same_text.Reads as same-text-reads
 
--- src/library.rt:34:8
 same-text-requires : tie.Need-same-text-requires
 same-text-requires c κs = search needs
 
--- src/library.rt:35:9
 returns : tie.Need-returns
 unfolding either
 returns c = rw (sym (c .before .same-text .ensures) ∙ c .if1 .taken)
 
--- src/library.rt:31:1
 returns-2 : tie.Need-returns-2
 unfolding either
 returns-2 c = rw (sym (c .before .same-text .ensures) ∙ c .if1 .left)

@@ -1,62 +1,46 @@
-use Rattle.names.proofs.Payloads.{library-few, payload-name, payload-digits, payload-string, payload-other}
+-- `names::payload::payload` meets its contract, by the kinds.
 use native.Mathlib.Omega.{arith}
 use borrow.Author.Needs.{needs}
+use Rattle.names.proofs.Payloads.{library-few, payload-name, payload-digits, payload-string, payload-other}
 use Rattle.names.proofs.payload.payload.Statement.{statement}
 use Rattle.names.proofs.payload.payload.Tie as tie
-use Rattle.names.proofs.payload.payload.Reads as reads
-use Rattle.names.proofs.payload.payload.Lts as lts
-use Rattle.names.proofs.library.library_number.Reads as library-number-reads
-use Rattle.names.proofs.payload.value_of.Reads as value-of-reads
 
--- src/payload.rt:29:18
 mul-result : tie.Need-mul-result
 mul-result c = search needs
 
--- src/payload.rt:29:14
 add-result : tie.Need-add-result
 add-result c = search needs
 
--- src/payload.rt:29:46
 library-number-requires : tie.Need-library-number-requires
 library-number-requires c κs = search needs
 
--- src/payload.rt:29:33
 mul-result-2 : tie.Need-mul-result-2
 mul-result-2 c = let h = library-few _ _ (c .library-number .ensures) in omega arith
 
--- src/payload.rt:29:14
 add-result-2 : tie.Need-add-result-2
 add-result-2 c = let h = library-few _ _ (c .library-number .ensures) in omega arith
 
--- src/payload.rt:30:14
 value-of-requires : tie.Need-value-of-requires
 value-of-requires c κs = search needs
 
--- src/payload.rt:31:14
 add-result-3 : tie.Need-add-result-3
 add-result-3 c = search needs
 
--- src/payload.rt:31:22
 mul-result-3 : tie.Need-mul-result-3
 mul-result-3 c = search needs
 
--- src/payload.rt:31:14
 add-result-4 : tie.Need-add-result-4
 add-result-4 c = search needs
 
--- src/payload.rt:23:1
 returns : tie.Need-returns
 returns c = search payload-name
 
--- src/payload.rt:23:1
 returns-2 : tie.Need-returns-2
 returns-2 c = search payload-digits
 
--- src/payload.rt:23:1
 returns-3 : tie.Need-returns-3
 returns-3 c = search payload-string
 
--- src/payload.rt:23:1
 returns-4 : tie.Need-returns-4
 returns-4 c = let n = c .match .rest in payload-other _ _ _ (n .0 .0 .1) (n .0 .1) (n .1)
 
