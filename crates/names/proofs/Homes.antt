@@ -1,4 +1,4 @@
--- The home of a kind and a text: the first token that has them.
+-- Texts compared, and the home of a kind and a text: the first token that has them.
 -- Assumes nothing.
 use mathlib.Core.Path.{_≡_, _∙_, refl, sym, ap}
 use mathlib.Core.Bool.{Bool, true, false, _&&_}
@@ -32,6 +32,17 @@ same-equal (a ∷ x) (b ∷ y) e =
     let u : a ≡ b = eqb-true a b (q .0) in
     let v : x ≡ y = same-equal x y (q .1) in
     cc
+
+pub and-false : (b : Bool) → b && false ≡ false
+and-false true = refl
+and-false false = refl
+
+pub other-lengths : (x y : List ℕ) → (length x ≡ length y → ⊥) → sameText x y ≡ false
+unfolding sameText
+other-lengths [] [] h = absurd (h refl)
+other-lengths [] (b ∷ y) h = refl
+other-lengths (a ∷ x) [] h = refl
+other-lengths (a ∷ x) (b ∷ y) h = rw (other-lengths x y (λ e. h (ap suc e))) (and-false (eqb a b))
 
 -- whether a token is of a kind and a text
 abbrev fits : Token → ℕ → List ℕ → Bool

@@ -1,4 +1,4 @@
-pub mod Texts
+mod Texts
 pub mod Homes
 pub mod Decoded
 mod Last

@@ -2,7 +2,7 @@
 -- Assumes nothing.
 use Prim.Native.Nat.{ℕ, suc, _+_, _-_, _*_, _/_, _%_, _≤_, _<_}
 use mathlib.Core.Path.{_≡_, _∙_, refl, sym, ap}
-use mathlib.Core.Bool.{Bool, true, false, _&&_, cond}
+use mathlib.Core.Bool.{Bool, true, false}
 use mathlib.Core.List.{List}
 use mathlib.Core.Logic.{⊎-elim}
 use native.Mathlib.Nat.{eq-or-lt-of-le}
@@ -15,6 +15,7 @@ use lib.Seq.{getD-set-same, getD-set-other}
 use Rattle.lexer.specs.Words.{tokenIn, kindIn}
 use Rattle.names.specs.Index.{Room, bucketOf, named, homeOf, bucketAt, isEntry, lies, last, found, linkAt, homeAt}
 use Rattle.names.specs.Index.{Indexed, Looks, Files, Notes, noted}
+use Rattle.names.proofs.Homes.{and-false}
 use Rattle.names.proofs.Last.{last-le}
 use Rattle.names.proofs.Entries.{own-home, older-home, place-few}
 use Rattle.names.proofs.Hashing.{bucket-small}
@@ -42,11 +43,7 @@ module _ (p ws : List ℕ) (i : ℕ) where
 
   no-home : (homeOf p ws i ≡ i → ⊥) → isEntry p ws i ≡ false
   unfolding isEntry
-  no-home n = rw (ne-eqb (homeOf p ws i) i n) (go (named (kindIn (getD ws i 0))))
-    where
-      go : (b : Bool) → b && false ≡ false
-      go true = refl
-      go false = refl
+  no-home n = rw (ne-eqb (homeOf p ws i) i n) (and-false (named (kindIn (getD ws i 0))))
 
   entry : named (kindIn (getD ws i 0)) ≡ true → homeOf p ws i ≡ i → isEntry p ws i ≡ true
   unfolding isEntry

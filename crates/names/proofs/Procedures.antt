@@ -12,7 +12,7 @@ use Rattle.meaning.specs.Basics.{bytes, if_then_else_}
 use Rattle.meaning.specs.Library.{Library, libraryOf}
 use Rattle.names.specs.Prepared.{numberOf, libraryNumber}
 use Rattle.names.specs.Index.{either}
-use Rattle.names.proofs.Texts.{other-lengths}
+use Rattle.names.proofs.Homes.{other-lengths}
 
 -- the names in the order of their numbers
 abbrev names : List (List ℕ)
