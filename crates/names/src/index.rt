@@ -4,8 +4,8 @@ use crate::text::same_text;
 use crate::word::kind_of;
 use crate::word::token_text;
 ghost use mathlib.Core.Path.{_≡_};
-ghost use Prim.Native.Nat.{_+_, _<_, _≤_};
-ghost use lib.ListN.{length, getD, replicate};
+ghost use Prim.Native.Nat.{_+_, _<_};
+ghost use lib.ListN.{length, replicate};
 ghost use Rattle.names.specs.Index.{mixed, hashFrom, bucketOf, named, spelled, found, linkAt, homeAt, Indexed, Looks, Files, Notes, noted};
 
 // Zeroes the index.

@@ -3,7 +3,7 @@ use crate::library::library_number;
 use crate::word::kind_of;
 use crate::word::token_text;
 ghost use mathlib.Core.Path.{_≡_};
-ghost use Prim.Native.Nat.{_+_, _*_, _-_, _<_, _≤_, min};
+ghost use Prim.Native.Nat.{_+_, _*_, _-_, _<_, min};
 ghost use lib.ListN.{length};
 ghost use Rattle.meaning.specs.Grammar.{numeral};
 ghost use Rattle.lexer.specs.Words.{tokenIn};
