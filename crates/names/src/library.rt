@@ -1,0 +1,39 @@
+// The library procedures, by their names.
+use crate::text::same_text;
+ghost use mathlib.Core.Path.{_≡_};
+ghost use Rattle.names.specs.Prepared.{libraryNumber};
+ghost use Rattle.names.specs.Index.{either};
+
+// The number of a library procedure, 10 for every other name. The name's length leaves two of them at most.
+pub fn library_number(w: &[u8]) -> u64
+    ensures { λ r. ⌜ r ≡ libraryNumber (now (w .entry)) ⌝ }
+{
+    let n = w.len();
+    match n {
+        7 => one_of(w, b"drawBox", 2, 10),
+        8 => {
+            let other = one_of(w, b"drawText", 3, 10);
+            one_of(w, b"drawLine", 0, other)
+        }
+        10 => one_of(w, b"clearScene", 9, 10),
+        11 => one_of(w, b"drawEllipse", 1, 10),
+        12 => one_of(w, b"destroyShape", 8, 10),
+        15 => one_of(w, b"drawTextOnShape", 5, 10),
+        19 => {
+            let other = one_of(w, b"getShapeYCoordinate", 7, 10);
+            one_of(w, b"getShapeXCoordinate", 6, other)
+        }
+        24 => one_of(w, b"drawLineConnectingShapes", 4, 10),
+        _ => 10,
+    }
+}
+
+// A number for one name, and another for the rest.
+fn one_of(w: &[u8], name: &[u8], n: u64, other: u64) -> u64
+    ensures { λ r. ⌜ r ≡ either (now (w .entry)) (now (name .entry)) n other ⌝ }
+{
+    if same_text(w, name) {
+        return n;
+    }
+    other
+}
