@@ -16,9 +16,14 @@ use Rattle.answers.specs.Answers.{meant}
 -- Checking is granted nothing and writes no picture; its two work slices are for token words and code.
 abbrev pub called : List ℕ → List ℕ → List ℕ → Call
 called program tokens code = record {
-    operation = checking; program = program; width = pos 0; height = pos 0;
-    grants = record { steps = 0; shapes = 0; entries = 0; textBytes = 0 };
-    lent = length tokens ∷ length code ∷ []; out = [] }
+  operation = checking;
+  program = program;
+  width = pos 0;
+  height = pos 0;
+  grants = record { steps = 0; shapes = 0; entries = 0; textBytes = 0 };
+  lent = length tokens ∷ length code ∷ [];
+  out = [];
+}
 
 -- what it promises: the answer, and what both slices hold when it returns
 pub record Checked (program tokens code : List ℕ) (r : Declared.Answer) (tokens′ code′ : List ℕ) : Type 0 where

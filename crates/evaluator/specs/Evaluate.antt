@@ -45,12 +45,12 @@ pushAll (suc rounds) inner e a x p =
 -- ---- expressions
 unfoldable pub calling : Evaluator → Setting → ℕ → ℕ → ℕ → Act Value
 calling inner e w x p = do
-    base ← load argumentsHeld
-    pushAll (suc x) inner e (x + 1 - sizeIn w) x p
-    top ← load argumentsHeld
-    v ← callLibrary e (numberIn w) p base (top - base)
-    dropTo base
-    give v
+  base ← load argumentsHeld
+  pushAll (suc x) inner e (x + 1 - sizeIn w) x p
+  top ← load argumentsHeld
+  v ← callLibrary e (numberIn w) p base (top - base)
+  dropTo base
+  give v
 
 -- by the root's word
 unfoldable pub evaluateBy : Evaluator → Setting → ℕ → ℕ → ℕ → Act Value
@@ -62,7 +62,7 @@ evaluateBy inner e w x p =
     else λ _. if eqb (tagIn w) tagName then (λ _. variable p (numberIn w))
     else λ _. if eqb (tagIn w) tagTable then (λ _. inner (x - 1) p >>= λ v. withInteger p v (sized p))
     else λ _. if eqb (tagIn w) tagEntry then (λ _.
-      inner (x - 1 - numberIn w) p >>= λ v. withTable p v λ t. inner (x - 1) p >>= λ k. readEntry (e .program) (e .grants) p t (through k))
+    inner (x - 1 - numberIn w) p >>= λ v. withTable p v λ t. inner (x - 1) p >>= λ k. readEntry (e .program) (e .grants) p t (through k))
     else λ _. if eqb (tagIn w) tagCall then (λ _. calling inner e w x p)
     else λ _. inner (x - 1 - numberIn w) p >>= λ v. inner (x - 1) p >>= λ u. operate e (tagIn w) p (through v) (through u)
 

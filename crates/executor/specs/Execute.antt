@@ -55,11 +55,11 @@ copied e p (Shape i) = λ r. newShape (e .grants) p (figureAt (r .words) i) r
 
 unfoldable pub assigning : Setting → ℕ → ℕ → Value → Act Flow
 assigning e p slot v = do
-    w ← load (valuePlace slot)
-    refuse (eqb w 0) 50 p
-    u ← copied e p v
-    setVariable slot u
-    give Onward
+  w ← load (valuePlace slot)
+  refuse (eqb w 0) 50 p
+  u ← copied e p v
+  setVariable slot u
+  give Onward
 
 -- a.b = c, by the root of c
 unfoldable pub updating : Setting → ℕ → ℕ → Act Flow
@@ -78,9 +78,9 @@ Executor = ℕ → Act Flow
 unfoldable pub looping : ℕ → Setting → ℕ → ℕ → Act Flow → Act Flow
 looping zero e x p body = fail 79 p
 looping (suc turns) e x p body = do
-    count (e .grants) p
-    v ← valueOf e x p
-    withBoolean p v λ b.
+  count (e .grants) p
+  v ← valueOf e x p
+  withBoolean p v λ b.
       if b then (λ _. body >>= λ f. continue f (looping turns e x p body)) else λ _. give Onward
 
 -- the statements from a up to end, one after the other
@@ -94,15 +94,15 @@ unfoldable pub executeBy : Executor → Setting → ℕ → ℕ → ℕ → Act 
 executeBy inner e w x p =
     if eqb (tagIn w) tagWhile then (λ _. looping (suc (stepsGranted (e .grants))) e (x + extraIn w) p (inner (x + extraIn w + 1)))
     else λ _. count (e .grants) p >>
-      (if eqb (tagIn w) tagDeclare then (λ _. declare p (extraIn w % 8192) >> give Onward)
-      else λ _. if eqb (tagIn w) tagAssign then (λ _. valueOf e (x + sizeIn w - 1) p >>= λ v. assigning e p (extraIn w % 8192) v)
-      else λ _. if eqb (tagIn w) tagUpdate then (λ _. updating e (x + sizeIn w - 1) p)
-      else λ _. if eqb (tagIn w) tagWhen then (λ _.
-        valueOf e (x + extraIn w) p >>= λ v. withBoolean p v λ b.
-        if b then (λ _. inner (x + extraIn w + 1)) else λ _. give Onward)
-      else λ _. if eqb (tagIn w) tagReturn then (λ _. valueOf e (x + sizeIn w - 1) p >>= λ v. give (Returned v))
-      else λ _. if eqb (tagIn w) tagBlock then (λ _. executeAll (suc (sizeIn w)) inner e (x + 1) (x + sizeIn w))
-      else λ _. valueOf e (x + sizeIn w - 1) p >> give Onward)
+    (if eqb (tagIn w) tagDeclare then (λ _. declare p (extraIn w % 8192) >> give Onward)
+    else λ _. if eqb (tagIn w) tagAssign then (λ _. valueOf e (x + sizeIn w - 1) p >>= λ v. assigning e p (extraIn w % 8192) v)
+    else λ _. if eqb (tagIn w) tagUpdate then (λ _. updating e (x + sizeIn w - 1) p)
+    else λ _. if eqb (tagIn w) tagWhen then (λ _.
+    valueOf e (x + extraIn w) p >>= λ v. withBoolean p v λ b.
+    if b then (λ _. inner (x + extraIn w + 1)) else λ _. give Onward)
+    else λ _. if eqb (tagIn w) tagReturn then (λ _. valueOf e (x + sizeIn w - 1) p >>= λ v. give (Returned v))
+    else λ _. if eqb (tagIn w) tagBlock then (λ _. executeAll (suc (sizeIn w)) inner e (x + 1) (x + sizeIn w))
+    else λ _. valueOf e (x + sizeIn w - 1) p >> give Onward)
 
 unfoldable pub executeAt : ℕ → Setting → ℕ → Act Flow
 executeAt zero e x = fail 20 0

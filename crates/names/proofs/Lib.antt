@@ -1,4 +1,3 @@
-mod Texts
 pub mod Homes
 pub mod Decoded
 mod Last

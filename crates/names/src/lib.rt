@@ -7,8 +7,6 @@ ghost use Rattle.names.specs.Index.{Room, Indexed};
 mod index;
 mod library;
 mod payload;
-mod text;
-mod word;
 
 pub use library::library_number;
 

@@ -1,7 +1,7 @@
 // What a token's word holds above its kind and place.
 use crate::library::library_number;
-use crate::word::kind_of;
-use crate::word::token_text;
+use lexer::kind_of;
+use lexer::token_text;
 ghost use mathlib.Core.Path.{_≡_};
 ghost use Prim.Native.Nat.{_+_, _*_, _-_, _<_, min};
 ghost use lib.ListN.{length};

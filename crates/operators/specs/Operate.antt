@@ -68,10 +68,13 @@ withShape p (Shape i) k = k i
 -- each x coordinate by f, each y coordinate by g
 unfoldable pub moved : (ℤ → ℤ) → (ℤ → ℤ) → Figure → Figure
 moved f g s = record {
-    kind = s .kind; a = f (s .a); b = g (s .b);
-    c = cond (eqb (s .kind) 0) (f (s .c)) (s .c);
-    d = cond (eqb (s .kind) 0) (g (s .d)) (s .d);
-    text = s .text }
+  kind = s .kind;
+  a = f (s .a);
+  b = g (s .b);
+  c = cond (eqb (s .kind) 0) (f (s .c)) (s .c);
+  d = cond (eqb (s .kind) 0) (g (s .d)) (s .d);
+  text = s .text;
+}
 
 abbrev pub kept : ℤ → ℤ
 kept z = z
@@ -186,6 +189,6 @@ operateOn e tag p v w =
 -- a shape among the sides must not be destroyed by now
 unfoldable pub operate : Setting → ℕ → ℕ → Value → Value → Act Value
 operate e tag p v w = do
-    usable p v
-    usable p w
-    operateOn e tag p v w
+  usable p v
+  usable p w
+  operateOn e tag p v w
