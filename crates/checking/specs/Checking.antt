@@ -33,8 +33,8 @@ pub record Checked (program tokens code : List ℕ) (r : Declared.Answer) (token
 
 -- ---- inside
 pub record Lent (tokens code : List ℕ) : Type 0 where
-  pub tokens : 8193 ≤ length tokens
-  pub code : 16384 ≤ length code
+  pub tokensLong : 8193 ≤ length tokens
+  pub codeLong : 16384 ≤ length code
 
 unfoldable pub answerOf : Reading → Answer
 answerOf (wellFormed m) = pictured 0 0

@@ -16,17 +16,17 @@ use Rattle.reader.specs.Coded.{headOf}
 -- ---- what is lent
 pub record Lent (program tokens code : List ℕ) : Type 0 where
   pub short : length program ≤ 32768
-  pub tokens : 8193 ≤ length tokens
-  pub code : 16384 ≤ length code
+  pub tokensLong : 8193 ≤ length tokens
+  pub codeLong : 16384 ≤ length code
 
 -- the words are those of the program's tokens
 pub record Worded (program words code : List ℕ) : Type 0 where
   pub short : length program ≤ 32768
   pub tokens : List Token
   pub are : tokensOf program ≡ lexed tokens
-  pub words : words ≡ map wordOf tokens
+  pub worded : words ≡ map wordOf tokens
   pub few : length tokens ≤ 8192
-  pub code : 16384 ≤ length code
+  pub codeLong : 16384 ≤ length code
 
 -- ---- answers
 unfoldable pub tokensAmong : Lexed → List Token
