@@ -2,9 +2,7 @@
 use answers::Answer;
 use reader::Program;
 ghost use mathlib.Core.Path.{_≡_};
-ghost use Prim.Native.Nat.{_≤_};
-ghost use lib.ListN.{length, replicate};
-ghost use Rattle.checking.specs.Checking.{Checked, Lent, called, readAnswer};
+ghost use Rattle.checking.specs.Checking.{Checked, Lent, readAnswer};
 ghost use Rattle.answers.specs.Answers.{meant};
 
 // Reads the program and says whether it is well formed. `tokens` must hold 8,193 words and `code` 16,384; both hold zeros afterwards, and keep what
@@ -19,8 +17,8 @@ pub fn check(program: &[u8], tokens: &mut [u64], code: &mut [u64]) -> Answer
         return Answer::Number(71, 0, 0, 0);
     }
     let r = read_answer(program, tokens, code);
-    clear(tokens);
-    clear(code);
+    slices::clear_words(tokens);
+    slices::clear_words(code);
     r
 }
 
@@ -36,16 +34,5 @@ fn read_answer(program: &[u8], tokens: &mut [u64], code: &mut [u64]) -> Answer
     match p {
         Program::Formed(_, _, _, _) => Answer::Picture(0, 0),
         Program::Malformed(k, at) => Answer::Number(k, at as u64, 0, 0),
-    }
-}
-
-// Zeros in a whole slice.
-fn clear(slice: &mut [u64])
-    ensures { λ _. ⌜ now (slice .exit) ≡ replicate (length (now (slice .entry))) 0 ⌝ }
-{
-    let mut i = 0;
-    while i < slice.len() {
-        slice[i] = 0;
-        i += 1;
     }
 }

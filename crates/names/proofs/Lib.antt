@@ -9,4 +9,3 @@ mod Digits
 mod Procedures
 mod Payloads
 mod Rewriting
-mod Clearing

@@ -8,17 +8,6 @@ ghost use Prim.Native.Nat.{_+_, _<_};
 ghost use lib.ListN.{length, replicate};
 ghost use Rattle.names.specs.Index.{mixed, hashFrom, bucketOf, named, spelled, found, linkAt, homeAt, Indexed, Looks, Files, Notes, noted};
 
-// Zeroes the index.
-pub fn clear(index: &mut [u64])
-    ensures { λ _. ⌜ now (index .exit) ≡ replicate (length (now (index .entry))) 0 ⌝ }
-{
-    let mut i = 0;
-    while i < index.len() {
-        index[i] = 0;
-        i += 1;
-    }
-}
-
 // Finds the homes of all tokens.
 pub fn fill(program: &[u8], tokens: &[u64], index: &mut [u64])
     requires { ⌜ Indexed (now program) (now tokens) (now index) 0 ⌝ }

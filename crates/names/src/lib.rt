@@ -16,10 +16,10 @@ pub fn prepare(program: &[u8], tokens: &mut [u64], index: &mut [u64])
     ensures words { λ _. ⌜ now (tokens .exit) ≡ preparedAll (now (program .entry)) (now (tokens .entry)) ⌝ }
     ensures cleared { λ _. ⌜ now (index .exit) ≡ replicate (length (now (index .entry))) 0 ⌝ }
 {
-    index::clear(index);
+    slices::clear_words(index);
     index::fill(program, tokens, index);
     rewrite(program, tokens, index);
-    index::clear(index);
+    slices::clear_words(index);
 }
 
 // Rewrites the words by the homes that the index holds.

@@ -8,3 +8,4 @@ pub mod Trees
 pub mod Statements
 pub mod Lexing
 pub mod Walk
+pub mod Ways

@@ -7,8 +7,8 @@ use Rattle.names.proofs.Noting.{index-none}
 use Rattle.names.proofs.prepare.Statement.{statement}
 use Rattle.names.proofs.prepare.Tie as tie
 
-clear-requires : tie.Need-clear-requires
-clear-requires c κs = search needs
+clear-words-requires : tie.Need-clear-words-requires
+clear-words-requires c κs = search needs
 
 fill-requires : tie.Need-fill-requires
 fill-requires c κs = search index-none
@@ -16,8 +16,8 @@ fill-requires c κs = search index-none
 rewrite-requires : tie.Need-rewrite-requires
 rewrite-requires c κs = search needs
 
-clear-requires-2 : tie.Need-clear-requires-2
-clear-requires-2 c κs = search needs
+clear-words-requires-2 : tie.Need-clear-words-requires-2
+clear-words-requires-2 c κs = search needs
 
 same-length : tie.Need-same-length
 same-length c = search needs
@@ -27,17 +27,17 @@ same-length-2 c = search needs
 
 returns : tie.Need-returns
 returns c =
-    let same = c .before .before .before .before .before .before .before .before .before .before .before .fill .kept .1 .1 .0 ∙ c .before .before .before .before .before .before .before .before .before .before .before .before .before .before .before .before .clear .kept .0 in
-    (search needs, c .before .before .clear2 .ensures ∙ ap (λ (n : ℕ). replicate n 0) same)
+    let same = c .before .before .before .before .before .before .before .before .before .before .before .fill .kept .1 .1 .0 ∙ c .before .before .before .before .before .before .before .before .before .before .before .before .before .before .before .before .clear-words .kept .0 in
+    (search needs, c .before .before .clear-words2 .ensures ∙ ap (λ (n : ℕ). replicate n 0) same)
 
 pub prepare-spec : {M : Type 1} → statement M
 prepare-spec =
     tie.close
     (tie.spec
-    clear-requires
+    clear-words-requires
     fill-requires
     rewrite-requires
-    clear-requires-2
+    clear-words-requires-2
     same-length
     same-length-2
     returns)

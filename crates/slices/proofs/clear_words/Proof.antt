@@ -1,26 +1,26 @@
--- `names::index::clear` meets its contract: the words before i are zero.
+-- `slices::clear_words` meets its contract: the words before i are zero.
 use Prim.Native.Nat.{_-_}
 use native.Mathlib.Omega.{arith}
 use borrow.Author.Needs.{needs}
 use lib.ListN.{length, length-set}
-use Rattle.names.proofs.Clearing.{Clearing, clear-none, clear-long, clear-more, clear-all}
-use Rattle.names.proofs.index.clear.Statement.{statement}
-use Rattle.names.proofs.index.clear.Tie as tie
+use Rattle.slices.proofs.Clearing.{Clearing, clear-none, clear-long, clear-more, clear-all}
+use Rattle.slices.proofs.clear_words.Statement.{statement}
+use Rattle.slices.proofs.clear_words.Tie as tie
 
 abbrev Inv-loop : tie.InvT-loop
-Inv-loop index₀ i₀ index i = Clearing index₀ index i
+Inv-loop words₀ i₀ words i = Clearing words₀ words i
 
 abbrev μ-loop : tie.MeasureT-loop
-μ-loop index₀ i₀ index i = length index - i
+μ-loop words₀ i₀ words i = length words - i
 
 loop-holds : tie.Need-loop-holds Inv-loop μ-loop
 loop-holds c = search clear-none
 
-mul-index : tie.Need-mul-index Inv-loop μ-loop
-mul-index c = search needs
+mul-words : tie.Need-mul-words Inv-loop μ-loop
+mul-words c = search needs
 
-slice-write-index : tie.Need-slice-write-index Inv-loop μ-loop
-slice-write-index c = omega arith
+slice-write-words : tie.Need-slice-write-words Inv-loop μ-loop
+slice-write-words c = omega arith
 
 add-i : tie.Need-add-i Inv-loop μ-loop
 add-i c = search needs
@@ -37,15 +37,15 @@ same-length c = search clear-long
 returns : tie.Need-returns Inv-loop μ-loop
 returns c = search clear-all
 
-pub clear-spec : {M : Type 1} → statement M
-clear-spec =
+pub clear-words-spec : {M : Type 1} → statement M
+clear-words-spec =
     tie.close
     (tie.spec
     Inv-loop
     μ-loop
     loop-holds
-    mul-index
-    slice-write-index
+    mul-words
+    slice-write-words
     add-i
     loop-less
     loop-again
