@@ -1,0 +1,2 @@
+pub mod Paid
+-- mod Written

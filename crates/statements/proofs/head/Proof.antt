@@ -1,0 +1,68 @@
+use borrow.Author.Needs.{needs}
+use Rattle.statements.proofs.head.Statement.{statement}
+use Rattle.statements.proofs.head.Tie as tie
+use Rattle.statements.proofs.head.Reads as reads
+use Rattle.statements.proofs.head.Lts as lts
+use Rattle.code.proofs.put.Reads as put-reads
+use Rattle.code.proofs.word_of.Reads as word-of-reads
+use Rattle.expressions.proofs.token.place_at.Reads as place-at-reads
+
+-- src/lib.rt:38:21
+enum-known-e : tie.Need-enum-known-e
+enum-known-e c = search needs
+
+-- src/lib.rt:39:18
+enum-known-e-2 : tie.Need-enum-known-e-2
+enum-known-e-2 c = search needs
+
+-- src/lib.rt:40:17
+place-at-requires : tie.Need-place-at-requires
+place-at-requires c κs = search needs
+
+-- src/lib.rt:41:53
+sub-word-of : tie.Need-sub-word-of
+sub-word-of c = ?
+
+-- src/lib.rt:41:76
+mul-word-of : tie.Need-mul-word-of
+mul-word-of c = search needs
+
+-- src/lib.rt:41:68
+add-word-of : tie.Need-add-word-of
+add-word-of c = search needs
+
+-- src/lib.rt:41:33
+word-of-requires : tie.Need-word-of-requires
+word-of-requires c κs = ?
+
+-- src/lib.rt:41:13
+put-requires : tie.Need-put-requires
+put-requires c κs = search needs
+
+-- src/lib.rt:33:1
+returns : tie.Need-returns
+returns c = ?
+
+-- src/lib.rt:33:1
+same-length : tie.Need-same-length
+same-length c = search needs
+
+-- src/lib.rt:33:1
+returns-2 : tie.Need-returns-2
+returns-2 c = ?
+
+pub head-spec : {M : Type 1} → statement M
+head-spec =
+    tie.close
+    (tie.spec
+    enum-known-e
+    enum-known-e-2
+    place-at-requires
+    sub-word-of
+    mul-word-of
+    add-word-of
+    word-of-requires
+    put-requires
+    returns
+    same-length
+    returns-2)

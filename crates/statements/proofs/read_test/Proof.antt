@@ -1,0 +1,58 @@
+use borrow.Author.Needs.{needs}
+use Rattle.statements.proofs.read_test.Statement.{statement}
+use Rattle.statements.proofs.read_test.Tie as tie
+use Rattle.statements.proofs.read_test.Reads as reads
+use Rattle.statements.proofs.read_test.Lts as lts
+use Rattle.expressions.proofs.read_expression.Reads as read-expression-reads
+use Rattle.expressions.proofs.token.kind_at.Reads as kind-at-reads
+use Rattle.statements.proofs.close.Reads as close-reads
+
+-- src/lib.rt:77:8
+kind-at-requires : tie.Need-kind-at-requires
+kind-at-requires c κs = search needs
+
+-- src/lib.rt:78:9
+returns : tie.Need-returns
+returns c = ?
+
+-- src/lib.rt:81:9
+returns-2 : tie.Need-returns-2
+returns-2 c = ?
+
+-- src/lib.rt:83:57
+add-read-expression : tie.Need-add-read-expression
+add-read-expression c = ?
+
+-- src/lib.rt:83:67
+sub-read-expression : tie.Need-sub-read-expression
+sub-read-expression c = search needs
+
+-- src/lib.rt:83:9
+read-expression-requires : tie.Need-read-expression-requires
+read-expression-requires c κs = search needs
+
+-- src/lib.rt:84:5
+close-requires : tie.Need-close-requires
+close-requires c κs = search needs
+
+-- src/lib.rt:73:1
+same-length : tie.Need-same-length
+same-length c = search needs
+
+-- src/lib.rt:73:1
+returns-3 : tie.Need-returns-3
+returns-3 c = ?
+
+pub read-test-spec : {M : Type 1} → statement M
+read-test-spec =
+    tie.close
+    (tie.spec
+    kind-at-requires
+    returns
+    returns-2
+    add-read-expression
+    sub-read-expression
+    read-expression-requires
+    close-requires
+    same-length
+    returns-3)
