@@ -1,2 +1,3 @@
 pub mod Paid
--- mod Written
+mod Written
+mod Moves
