@@ -61,6 +61,10 @@ pub good-seen : (g : Got Piece) (n : ℕ) (s₀ : List ℕ) (j m t : ℕ) (s : L
 unfolding seen written
 good-seen g n s₀ j m t s w = let h = w .upTo in let l = w .targeted in let f = w .front in cc
 
+pub code-seen : (g : Got (List ℕ)) (n : ℕ) (s₀ : List ℕ) (j m : ℕ) (s : List ℕ) (w : WroteCode g n s₀ j m s) → seen (At j m 0) s ≡ writtenCode (good (w .code) j) n s₀
+unfolding seen writtenCode
+code-seen g n s₀ j m s w = let h = w .upTo in let f = w .front in cc
+
 -- nothing was written
 pub nothing-seen : (j n : ℕ) (s : List ℕ) → seen (At j n 0) s ≡ written (good (piece [] 0) j) n s
 unfolding seen written
