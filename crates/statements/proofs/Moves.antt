@@ -32,6 +32,9 @@ use Rattle.statements.proofs.Written.{after-after, chosen-after, expect
 pub space-room : (ws s : List ℕ) (i n : ℕ) → Space ws s i n → Room ws s i (n + 1)
 space-room ws s i n o = record { behind = omega (arith, o .behind); wide = o .wide; short = omega (arith, o .few) }
 
+pub space-inside : (ws s : List ℕ) (i n k : ℕ) → Space ws s i n → kindAt ws i ≡ k → (k ≡ 0 → ⊥) → i < length ws
+space-inside ws s i n k o = token-inside ws i k
+
 -- the word before code that was written from the word k on
 pub parts-code : (g : Got (List ℕ)) (ws : List ℕ) (i n k tag x : ℕ) (s s₁ : List ℕ) (e : Read) → seen e s₁ ≡ writtenCode g k s → ((c : List ℕ) (j : ℕ) → g ≡ good c j → Paid c ws i j)
   → n < k → k ≤ i → length ws ≤ 65536 → tag < 256 → x < 65536 → Parts e n tag x
@@ -115,6 +118,10 @@ pub record Sided (ws : List ℕ) (i n j m : ℕ) : Type 0 where
   pub within : j ≤ length ws
   pub some : n + 1 < m
   pub paid : m ≤ j
+
+-- the right side has room behind the sign, from a word on that is not behind the left side's
+pub sided-room : (ws s₀ s : List ℕ) (i n j m k : ℕ) → Space ws s₀ i n → Sided ws i n j m → length s ≡ length s₀ → k ≤ m → Room ws s (j + 1) k
+sided-room ws s₀ s i n j m k o p l h = record { behind = omega (arith, p .paid); wide = omega (arith, o .wide); short = omega (arith, o .few) }
 
 module _ (left : ℕ) (ws : List ℕ) (i n : ℕ) (s₀ s : List ℕ) (o : Space ws s₀ i n) (a : Read) (h : seen a s ≡ written (expression left ws i) (n + 1) s₀) where
   pub simple-wrong : (k p : ℕ) → a ≡ Wrong k p → seen (Wrong k p) s ≡ writtenCode (simple (expression left ws) ws i) n s₀
@@ -204,10 +211,10 @@ test-opens zero ws i c j q z =
     chosen (λ g. g ≡ good c j → ⊥) (is openParen ws i) _ _ (λ _ e. let y : _≡_ {A = ℕ} 0 1 = cc in omega arith) (λ _ e. let y : _≡_ {A = ℕ} 0 1 = cc in omega arith) q
 test-opens (suc left) ws i c j q z = omega arith
 
-module _ (left : ℕ) (ws : List ℕ) (i n : ℕ) (s₀ s : List ℕ) (tag : ℕ) (o : Space ws s₀ i n) (e : Read) (h : seen e s ≡ writtenCode (test (Expressions.insideOf left ws) ws (i + 1)) (n + 1) s₀) where
-  pub guarded-wrong : (k p : ℕ) → e ≡ Wrong k p → seen (Wrong k p) s ≡ writtenCode (guarded tag (placeAt ws i) (insideOf left ws) ws (i + 1)) n s₀
+module _ (left : ℕ) (ws : List ℕ) (i n : ℕ) (s₀ s : List ℕ) (o : Space ws s₀ i n) (e : Read) (h : seen e s ≡ writtenCode (test (Expressions.insideOf left ws) ws (i + 1)) (n + 1) s₀) where
+  pub guarded-wrong : (tag k p : ℕ) → e ≡ Wrong k p → seen (Wrong k p) s ≡ writtenCode (guarded tag (placeAt ws i) (insideOf left ws) ws (i + 1)) n s₀
   unfolding after
-  guarded-wrong k p q = rw (guarded-tests left ws tag (placeAt ws i) (i + 1), erred-code e _ (n + 1) s₀ s k p h q) (wrong-seen k p n s₀ s)
+  guarded-wrong tag k p q = rw (guarded-tests left ws tag (placeAt ws i) (i + 1), erred-code e _ (n + 1) s₀ s k p h q) (wrong-seen k p n s₀ s)
 
   module _ (j m t : ℕ) (q : e ≡ At j m t) (l : length s ≡ length s₀) where
     pub tested : Tested left ws s i n j m
@@ -223,10 +230,10 @@ module _ (left : ℕ) (ws : List ℕ) (i n : ℕ) (s₀ s : List ℕ) (tag : ℕ
           small = omega (arith, w .upTo, p .paid, p .within, o .few)
         }
 
-    pub guarded-reads : (b r : Read) (s₁ s₂ : List ℕ) → seen b s₁ ≡ writtenCode (statement (left - 1) ws j) m s → seen r s₂ ≡ topped tag (placeAt ws i) n (m - n - 1) (seen b s₁)
+    pub guarded-reads : (tag : ℕ) (b r : Read) (s₁ s₂ : List ℕ) → seen b s₁ ≡ writtenCode (statement (left - 1) ws j) m s → seen r s₂ ≡ topped tag (placeAt ws i) n (m - n - 1) (seen b s₁)
       → seen r s₂ ≡ writtenCode (guarded tag (placeAt ws i) (insideOf left ws) ws (i + 1)) n s₀
     unfolding after
-    guarded-reads b r s₁ s₂ y u =
+    guarded-reads tag b r s₁ s₂ y u =
         let w = wrote-code e _ (n + 1) s₀ s j m t h q in
         let p = tested in
         let d : m - n - 1 ≡ length (w .code) = omega (arith, w .upTo) in
@@ -247,6 +254,9 @@ module _ (left : ℕ) (ws : List ℕ) (i n : ℕ) (s₀ : List ℕ) (k : kindAt 
       let w = token-inside ws i 123 k (λ z. omega arith) in
       rw (statement-levels left ws i, inside-level left ws l, k)
       (u ∙ ap (topped 38 (placeAt ws i) n 0) y ∙ topped-writes _ [] s₀ s₀ 38 (placeAt ws i) n 0 (n + 1) (omega (arith, o .behind, o .wide)) (omega arith) (sym (append-nil _)))
+
+pub block-parts : (left : ℕ) (ws : List ℕ) (i n : ℕ) (s₀ s : List ℕ) (b : Read) → Space ws s₀ i n → seen b s ≡ writtenCode (statements (statement left ws) ws (i + 1)) (n + 1) s₀ → Parts b n 38 0
+block-parts left ws i n s₀ s b o h = parts-code _ ws (i + 1) n (n + 1) 38 0 s₀ s b h (statements-paid left ws (i + 1)) (omega arith) (omega (arith, o .behind)) (o .few) (omega arith) (omega arith)
 
 module _ (left : ℕ) (ws : List ℕ) (i n : ℕ) (s₀ s : List ℕ) (r : Read) (kind : ℕ) (k : kind ≡ kindAt ws i) where
   pub states-declaration : kind ≡ 5 → seen r s ≡ writtenCode (declaration ws i) n s₀ → seen r s ≡ writtenCode (statement left ws i) n s₀

@@ -1,4 +1,11 @@
-use Prim.Native.Nat.{ℕ, _<_}
+use Prim.Native.Nat.{ℕ, _<_, _+_, _-_, _*_}
+use mathlib.Core.Path.{_∙_, sym}
+use lib.ListN.{length}
+use native.Mathlib.Omega.{arith}
+use borrow.Author.Needs.{needs}
+use Rattle.statements.proofs.Paid.{statement-paid}
+use Rattle.statements.proofs.Moves.{space-inside, parts-code, tested, guarded-wrong, guarded-reads, block-none, block-parts, block-reads, states-declaration, states-when, states-while, states-return, states-simple}
+use Rattle.statements.proofs.Going.{Going, going-starts, going-fails, turned, going-on, going-ends}
 use borrow.Fn.Kinds.{In}
 use borrow.Fn.PlainCycle.{Measures, is, falls, and}
 use Rattle.statements.proofs.read_block.Reads as read-block
@@ -27,16 +34,16 @@ use Rattle.statements.proofs.+read_block+read_guarded+read_statement+re
 }
 
 abbrev μ-read-block : Measures 2 read-block-kinds.ps ℕ
-μ-read-block κs a = ?
+μ-read-block κs a = 3 * (length (a .0 .now) - a .1 .1 .0) + 0
 
 abbrev μ-read-guarded : Measures 2 read-guarded-kinds.ps ℕ
-μ-read-guarded κs a = ?
+μ-read-guarded κs a = 3 * (length (a .0 .now) - a .1 .1 .1 .0) + 0
 
 abbrev μ-read-statement : Measures 2 read-statement-kinds.ps ℕ
-μ-read-statement κs a = ?
+μ-read-statement κs a = 3 * (length (a .0 .now) - a .1 .1 .0) + 1
 
 abbrev μ-read-statements : Measures 2 read-statements-kinds.ps ℕ
-μ-read-statements κs a = ?
+μ-read-statements κs a = 3 * (length (a .0 .now) - a .1 .1 .0) + 2
 
 abbrev read-block-at : ℕ → In 2 read-block-kinds.ps
 read-block-at t =
@@ -97,7 +104,7 @@ read-block-returns : (t : ℕ) → read-block-lts.Need-returns (
   head-reads.Asked,
   head-reads.Learnt,
 ) (read-block-at t) read-block.Post
-read-block-returns t c = ?
+read-block-returns t c = block-none _ _ _ _ _ (c .before .before .before .pre .1 .1) (c .if1 .taken)
 
 -- src/lib.rt:163:44
 read-block-add-read-statements : (t : ℕ) → read-block-lts.Need-add-read-statements (
@@ -106,7 +113,10 @@ read-block-add-read-statements : (t : ℕ) → read-block-lts.Need-add-read-stat
   head-reads.Asked,
   head-reads.Learnt,
 ) (read-block-at t) read-block.Post
-read-block-add-read-statements t c = ?
+read-block-add-read-statements t c = 
+    let o = c .before .before .before .before .pre .1 .0 in
+    let w = space-inside _ _ _ _ _ o (c .before .before .before .before .pre .1 .1) (λ z. omega arith) in
+    omega (arith, o .few)
 
 -- src/lib.rt:163:51
 read-block-add-read-statements-2 : (t : ℕ) → read-block-lts.Need-add-read-statements-2 (
@@ -115,7 +125,10 @@ read-block-add-read-statements-2 : (t : ℕ) → read-block-lts.Need-add-read-st
   head-reads.Asked,
   head-reads.Learnt,
 ) (read-block-at t) read-block.Post
-read-block-add-read-statements-2 t c = ?
+read-block-add-read-statements-2 t c = 
+    let o = c .before .before .before .before .pre .1 .0 in
+    let w = space-inside _ _ _ _ _ o (c .before .before .before .before .pre .1 .1) (λ z. omega arith) in
+    omega (arith, o .behind, o .few)
 
 -- src/lib.rt:163:58
 read-block-sub-read-statements : (t : ℕ) → read-block-lts.Need-sub-read-statements (
@@ -124,7 +137,7 @@ read-block-sub-read-statements : (t : ℕ) → read-block-lts.Need-sub-read-stat
   head-reads.Asked,
   head-reads.Learnt,
 ) (read-block-at t) read-block.Post
-read-block-sub-read-statements t c = ?
+read-block-sub-read-statements t c = search needs
 
 -- src/lib.rt:163:9
 read-block-read-statements-requires : (t : ℕ) → read-block-lts.Need-read-statements-requires (
@@ -133,7 +146,10 @@ read-block-read-statements-requires : (t : ℕ) → read-block-lts.Need-read-sta
   head-reads.Asked,
   head-reads.Learnt,
 ) (read-block-at t) read-block.Post
-read-block-read-statements-requires t c κs = ?
+read-block-read-statements-requires t c κs = 
+    let o = c .before .before .before .before .pre .1 .0 in
+    let w = space-inside _ _ _ _ _ o (c .before .before .before .before .pre .1 .1) (λ z. omega arith) in
+    (omega (arith, c .before .before .before .before .pre .0), record { behind = omega (arith, o .behind); wide = o .wide; few = o .few })
 
 -- src/lib.rt:164:5
 read-block-head-requires : (t : ℕ) → read-block-lts.Need-head-requires (
@@ -142,7 +158,7 @@ read-block-head-requires : (t : ℕ) → read-block-lts.Need-head-requires (
   head-reads.Asked,
   head-reads.Learnt,
 ) (read-block-at t) read-block.Post
-read-block-head-requires t c κs = ?
+read-block-head-requires t c κs = block-parts _ _ _ _ _ _ _ (c .before .before .before .before .before .before .before .before .pre .1 .0) (c .before .before .before .read-statements .ensures)
 
 -- src/lib.rt:155:1
 read-block-same-length : (t : ℕ) → read-block-lts.Need-same-length (
@@ -151,7 +167,7 @@ read-block-same-length : (t : ℕ) → read-block-lts.Need-same-length (
   head-reads.Asked,
   head-reads.Learnt,
 ) (read-block-at t) read-block.Post
-read-block-same-length t c = ?
+read-block-same-length t c = search needs
 
 -- src/lib.rt:155:1
 read-block-returns-2 : (t : ℕ) → read-block-lts.Need-returns-2 (
@@ -160,7 +176,7 @@ read-block-returns-2 : (t : ℕ) → read-block-lts.Need-returns-2 (
   head-reads.Asked,
   head-reads.Learnt,
 ) (read-block-at t) read-block.Post
-read-block-returns-2 t c = ?
+read-block-returns-2 t c = block-reads _ _ _ _ _ (c .before .before .before .before .before .before .before .before .before .before .before .pre .1 .1) _ _ _ _ (c .before .before .before .before .before .before .before .before .before .before .before .pre .1 .0) (c .before .before .before .before .before .before .before .before .if1 .left) (c .before .before .before .before .before .before .read-statements .ensures) (c .before .before .head .ensures)
 
 -- src/lib.rt:144:38
 read-guarded-add-read-test : (t : ℕ) → read-guarded-lts.Need-add-read-test (
@@ -171,7 +187,9 @@ read-guarded-add-read-test : (t : ℕ) → read-guarded-lts.Need-add-read-test (
   head-reads.Asked,
   head-reads.Learnt,
 ) (read-guarded-at t) read-guarded.Post
-read-guarded-add-read-test t c = ?
+read-guarded-add-read-test t c = 
+    let o = c .before .before .before .pre .1 .0 in
+    omega (arith, o .behind, o .few, c .before .before .before .pre .1 .1 .0)
 
 -- src/lib.rt:144:45
 read-guarded-add-read-test-2 : (t : ℕ) → read-guarded-lts.Need-add-read-test-2 (
@@ -182,7 +200,9 @@ read-guarded-add-read-test-2 : (t : ℕ) → read-guarded-lts.Need-add-read-test
   head-reads.Asked,
   head-reads.Learnt,
 ) (read-guarded-at t) read-guarded.Post
-read-guarded-add-read-test-2 t c = ?
+read-guarded-add-read-test-2 t c = 
+    let o = c .before .before .before .pre .1 .0 in
+    omega (arith, o .behind, o .few, c .before .before .before .pre .1 .1 .0)
 
 -- src/lib.rt:144:9
 read-guarded-read-test-requires : (t : ℕ) → read-guarded-lts.Need-read-test-requires (
@@ -193,7 +213,9 @@ read-guarded-read-test-requires : (t : ℕ) → read-guarded-lts.Need-read-test-
   head-reads.Asked,
   head-reads.Learnt,
 ) (read-guarded-at t) read-guarded.Post
-read-guarded-read-test-requires t c κs = ?
+read-guarded-read-test-requires t c κs = 
+    let o = c .before .before .before .pre .1 .0 in
+    record { behind = omega (arith, o .behind); wide = o .wide; short = omega (arith, o .few) }
 
 -- src/lib.rt:146:21
 read-guarded-enum-known-e : (t : ℕ) → read-guarded-lts.Need-enum-known-e (
@@ -204,7 +226,7 @@ read-guarded-enum-known-e : (t : ℕ) → read-guarded-lts.Need-enum-known-e (
   head-reads.Asked,
   head-reads.Learnt,
 ) (read-guarded-at t) read-guarded.Post
-read-guarded-enum-known-e t c = ?
+read-guarded-enum-known-e t c = search needs
 
 -- src/lib.rt:147:18
 read-guarded-enum-known-e-2 : (t : ℕ) → read-guarded-lts.Need-enum-known-e-2 (
@@ -215,7 +237,7 @@ read-guarded-enum-known-e-2 : (t : ℕ) → read-guarded-lts.Need-enum-known-e-2
   head-reads.Asked,
   head-reads.Learnt,
 ) (read-guarded-at t) read-guarded.Post
-read-guarded-enum-known-e-2 t c = ?
+read-guarded-enum-known-e-2 t c = search needs
 
 -- src/lib.rt:148:57
 read-guarded-sub-read-statement : (t : ℕ) → read-guarded-lts.Need-sub-read-statement (
@@ -226,7 +248,10 @@ read-guarded-sub-read-statement : (t : ℕ) → read-guarded-lts.Need-sub-read-s
   head-reads.Asked,
   head-reads.Learnt,
 ) (read-guarded-at t) read-guarded.Post
-read-guarded-sub-read-statement t c = ?
+read-guarded-sub-read-statement t c = 
+    let o = c .before .before .before .before .before .before .before .before .before .before .pre .1 .0 in
+    let p = tested _ _ _ _ _ _ o _ (c .before .before .before .before .before .before .read-test .ensures) _ _ _ (c .before .before .e2 .given .1) (c .before .before .before .before .before .before .read-test .kept .1 .0) in
+    omega (arith, p .opens)
 
 -- src/lib.rt:148:17
 read-guarded-read-statement-requires : (t : ℕ) → read-guarded-lts.Need-read-statement-requires (
@@ -237,7 +262,10 @@ read-guarded-read-statement-requires : (t : ℕ) → read-guarded-lts.Need-read-
   head-reads.Asked,
   head-reads.Learnt,
 ) (read-guarded-at t) read-guarded.Post
-read-guarded-read-statement-requires t c κs = ?
+read-guarded-read-statement-requires t c κs = 
+    let o = c .before .before .before .before .before .before .before .before .before .before .pre .1 .0 in
+    let p = tested _ _ _ _ _ _ o _ (c .before .before .before .before .before .before .read-test .ensures) _ _ _ (c .before .before .e2 .given .1) (c .before .before .before .before .before .before .read-test .kept .1 .0) in
+    (omega (arith, p .ahead, p .within, c .before .before .before .before .before .before .before .before .before .before .pre .0), p .space)
 
 -- src/lib.rt:149:48
 read-guarded-sub-head : (t : ℕ) → read-guarded-lts.Need-sub-head (
@@ -248,7 +276,10 @@ read-guarded-sub-head : (t : ℕ) → read-guarded-lts.Need-sub-head (
   head-reads.Asked,
   head-reads.Learnt,
 ) (read-guarded-at t) read-guarded.Post
-read-guarded-sub-head t c = ?
+read-guarded-sub-head t c = 
+    let o = c .before .before .before .before .before .before .before .before .before .before .before .before .before .before .pre .1 .0 in
+    let p = tested _ _ _ _ _ _ o _ (c .before .before .before .before .before .before .before .before .before .before .read-test .ensures) _ _ _ (c .before .before .before .before .before .before .e2 .given .1) (c .before .before .before .before .before .before .before .before .before .before .read-test .kept .1 .0) in
+    omega (arith, p .some)
 
 -- src/lib.rt:149:48
 read-guarded-sub-head-2 : (t : ℕ) → read-guarded-lts.Need-sub-head-2 (
@@ -259,7 +290,10 @@ read-guarded-sub-head-2 : (t : ℕ) → read-guarded-lts.Need-sub-head-2 (
   head-reads.Asked,
   head-reads.Learnt,
 ) (read-guarded-at t) read-guarded.Post
-read-guarded-sub-head-2 t c = ?
+read-guarded-sub-head-2 t c = 
+    let o = c .before .before .before .before .before .before .before .before .before .before .before .before .before .before .pre .1 .0 in
+    let p = tested _ _ _ _ _ _ o _ (c .before .before .before .before .before .before .before .before .before .before .read-test .ensures) _ _ _ (c .before .before .before .before .before .before .e2 .given .1) (c .before .before .before .before .before .before .before .before .before .before .read-test .kept .1 .0) in
+    omega (arith, p .some)
 
 -- src/lib.rt:149:13
 read-guarded-head-requires : (t : ℕ) → read-guarded-lts.Need-head-requires (
@@ -270,7 +304,10 @@ read-guarded-head-requires : (t : ℕ) → read-guarded-lts.Need-head-requires (
   head-reads.Asked,
   head-reads.Learnt,
 ) (read-guarded-at t) read-guarded.Post
-read-guarded-head-requires t c κs = ?
+read-guarded-head-requires t c κs = 
+    let o = c .before .before .before .before .before .before .before .before .before .before .before .before .before .before .pre .1 .0 in
+    let p = tested _ _ _ _ _ _ o _ (c .before .before .before .before .before .before .before .before .before .before .read-test .ensures) _ _ _ (c .before .before .before .before .before .before .e2 .given .1) (c .before .before .before .before .before .before .before .before .before .before .read-test .kept .1 .0) in
+    parts-code _ _ _ _ _ _ _ _ _ _ (c .before .before .before .read-statement .ensures) (statement-paid _ _ _) (omega (arith, p .some)) (omega (arith, p .space .behind)) (o .few) (c .before .before .before .before .before .before .before .before .before .before .before .before .before .before .pre .1 .1 .1) (p .small)
 
 -- src/lib.rt:139:1
 read-guarded-same-length : (t : ℕ) → read-guarded-lts.Need-same-length (
@@ -281,7 +318,7 @@ read-guarded-same-length : (t : ℕ) → read-guarded-lts.Need-same-length (
   head-reads.Asked,
   head-reads.Learnt,
 ) (read-guarded-at t) read-guarded.Post
-read-guarded-same-length t c = ?
+read-guarded-same-length t c = search needs
 
 -- src/lib.rt:139:1
 read-guarded-returns : (t : ℕ) → read-guarded-lts.Need-returns (
@@ -292,7 +329,7 @@ read-guarded-returns : (t : ℕ) → read-guarded-lts.Need-returns (
   head-reads.Asked,
   head-reads.Learnt,
 ) (read-guarded-at t) read-guarded.Post
-read-guarded-returns t c = ?
+read-guarded-returns t c = guarded-wrong _ _ _ _ _ _ (c .before .before .before .before .before .before .before .before .before .pre .1 .0) _ (c .before .before .before .before .before .read-test .ensures) _ _ _ (c .before .e .given .1)
 
 -- src/lib.rt:139:1
 read-guarded-same-length-2 : (t : ℕ) → read-guarded-lts.Need-same-length-2 (
@@ -303,7 +340,7 @@ read-guarded-same-length-2 : (t : ℕ) → read-guarded-lts.Need-same-length-2 (
   head-reads.Asked,
   head-reads.Learnt,
 ) (read-guarded-at t) read-guarded.Post
-read-guarded-same-length-2 t c = ?
+read-guarded-same-length-2 t c = search needs
 
 -- src/lib.rt:139:1
 read-guarded-returns-2 : (t : ℕ) → read-guarded-lts.Need-returns-2 (
@@ -314,7 +351,7 @@ read-guarded-returns-2 : (t : ℕ) → read-guarded-lts.Need-returns-2 (
   head-reads.Asked,
   head-reads.Learnt,
 ) (read-guarded-at t) read-guarded.Post
-read-guarded-returns-2 t c = ?
+read-guarded-returns-2 t c = guarded-reads _ _ _ _ _ _ (c .before .before .before .before .before .before .before .before .before .before .before .before .before .before .before .before .before .pre .1 .0) _ (c .before .before .before .before .before .before .before .before .before .before .before .before .before .read-test .ensures) _ _ _ (c .before .before .before .before .before .before .before .before .before .e2 .given .1) (c .before .before .before .before .before .before .before .before .before .before .before .before .before .read-test .kept .1 .0) _ _ _ _ _ (c .before .before .before .before .before .before .read-statement .ensures) (c .before .before .head .ensures)
 
 -- src/lib.rt:21:9
 read-statement-kind-at-requires : (t : ℕ) → read-statement-lts.Need-kind-at-requires (
@@ -331,7 +368,7 @@ read-statement-kind-at-requires : (t : ℕ) → read-statement-lts.Need-kind-at-
   read-simple-reads.Asked,
   read-simple-reads.Learnt,
 ) (read-statement-at t) read-statement.Post
-read-statement-kind-at-requires t c κs = ?
+read-statement-kind-at-requires t c κs = search needs
 
 -- src/lib.rt:23:14
 read-statement-read-declaration-requires :
@@ -349,7 +386,10 @@ read-statement-read-declaration-requires :
       read-simple-reads.Asked,
       read-simple-reads.Learnt,
     ) (read-statement-at t) read-statement.Post
-read-statement-read-declaration-requires t c κs = ?
+read-statement-read-declaration-requires t c κs = 
+    let o = c .before .before .before .before .before .pre .1 in
+    let w = space-inside _ _ _ _ _ o (sym (c .before .before .kind-at .ensures)) (λ z. omega (arith, c .before .match .keys1)) in
+    (o, w)
 
 -- src/lib.rt:24:14
 read-statement-read-guarded-requires : (t : ℕ) → read-statement-lts.Need-read-guarded-requires (
@@ -366,7 +406,10 @@ read-statement-read-guarded-requires : (t : ℕ) → read-statement-lts.Need-rea
   read-simple-reads.Asked,
   read-simple-reads.Learnt,
 ) (read-statement-at t) read-statement.Post
-read-statement-read-guarded-requires t c κs = ?
+read-statement-read-guarded-requires t c κs = 
+    let o = c .before .before .before .before .before .pre .1 in
+    let w = space-inside _ _ _ _ _ o (sym (c .before .before .kind-at .ensures)) (λ z. omega (arith, c .before .match .keys2)) in
+    (omega (arith, c .before .before .before .before .before .pre .0), (o, (w, omega arith)))
 
 -- src/lib.rt:25:14
 read-statement-read-guarded-requires-2 : (t : ℕ) → read-statement-lts.Need-read-guarded-requires-2 (
@@ -383,7 +426,10 @@ read-statement-read-guarded-requires-2 : (t : ℕ) → read-statement-lts.Need-r
   read-simple-reads.Asked,
   read-simple-reads.Learnt,
 ) (read-statement-at t) read-statement.Post
-read-statement-read-guarded-requires-2 t c κs = ?
+read-statement-read-guarded-requires-2 t c κs = 
+    let o = c .before .before .before .before .before .pre .1 in
+    let w = space-inside _ _ _ _ _ o (sym (c .before .before .kind-at .ensures)) (λ z. omega (arith, c .before .match .keys3)) in
+    (omega (arith, c .before .before .before .before .before .pre .0), (o, (w, omega arith)))
 
 -- src/lib.rt:26:14
 read-statement-read-return-requires : (t : ℕ) → read-statement-lts.Need-read-return-requires (
@@ -400,7 +446,10 @@ read-statement-read-return-requires : (t : ℕ) → read-statement-lts.Need-read
   read-simple-reads.Asked,
   read-simple-reads.Learnt,
 ) (read-statement-at t) read-statement.Post
-read-statement-read-return-requires t c κs = ?
+read-statement-read-return-requires t c κs = 
+    let o = c .before .before .before .before .before .pre .1 in
+    let w = space-inside _ _ _ _ _ o (sym (c .before .before .kind-at .ensures)) (λ z. omega (arith, c .before .match .keys4)) in
+    (o, w)
 
 -- src/lib.rt:27:16
 read-statement-read-block-requires : (t : ℕ) → read-statement-lts.Need-read-block-requires (
@@ -417,7 +466,7 @@ read-statement-read-block-requires : (t : ℕ) → read-statement-lts.Need-read-
   read-simple-reads.Asked,
   read-simple-reads.Learnt,
 ) (read-statement-at t) read-statement.Post
-read-statement-read-block-requires t c κs = ?
+read-statement-read-block-requires t c κs = (omega (arith, c .before .before .before .before .before .pre .0), (c .before .before .before .before .before .pre .1, sym (c .before .before .kind-at .ensures) ∙ c .before .match .keys5))
 
 -- src/lib.rt:28:14
 read-statement-read-simple-requires : (t : ℕ) → read-statement-lts.Need-read-simple-requires (
@@ -434,7 +483,7 @@ read-statement-read-simple-requires : (t : ℕ) → read-statement-lts.Need-read
   read-simple-reads.Asked,
   read-simple-reads.Learnt,
 ) (read-statement-at t) read-statement.Post
-read-statement-read-simple-requires t c κs = ?
+read-statement-read-simple-requires t c κs = c .before .before .before .before .before .pre .1
 
 -- src/lib.rt:17:1
 read-statement-same-length : (t : ℕ) → read-statement-lts.Need-same-length (
@@ -451,7 +500,7 @@ read-statement-same-length : (t : ℕ) → read-statement-lts.Need-same-length (
   read-simple-reads.Asked,
   read-simple-reads.Learnt,
 ) (read-statement-at t) read-statement.Post
-read-statement-same-length t c = ?
+read-statement-same-length t c = search needs
 
 -- src/lib.rt:17:1
 read-statement-returns : (t : ℕ) → read-statement-lts.Need-returns (
@@ -468,7 +517,7 @@ read-statement-returns : (t : ℕ) → read-statement-lts.Need-returns (
   read-simple-reads.Asked,
   read-simple-reads.Learnt,
 ) (read-statement-at t) read-statement.Post
-read-statement-returns t c = ?
+read-statement-returns t c = states-declaration _ _ _ _ _ _ _ _ (c .before .before .before .before .before .kind-at .ensures) (c .before .before .before .before .match .keys1) (c .before .before .read-declaration .ensures)
 
 -- src/lib.rt:17:1
 read-statement-same-length-2 : (t : ℕ) → read-statement-lts.Need-same-length-2 (
@@ -485,7 +534,7 @@ read-statement-same-length-2 : (t : ℕ) → read-statement-lts.Need-same-length
   read-simple-reads.Asked,
   read-simple-reads.Learnt,
 ) (read-statement-at t) read-statement.Post
-read-statement-same-length-2 t c = ?
+read-statement-same-length-2 t c = search needs
 
 -- src/lib.rt:17:1
 read-statement-returns-2 : (t : ℕ) → read-statement-lts.Need-returns-2 (
@@ -502,7 +551,7 @@ read-statement-returns-2 : (t : ℕ) → read-statement-lts.Need-returns-2 (
   read-simple-reads.Asked,
   read-simple-reads.Learnt,
 ) (read-statement-at t) read-statement.Post
-read-statement-returns-2 t c = ?
+read-statement-returns-2 t c = states-when _ _ _ _ _ _ _ _ (c .before .before .before .before .before .kind-at .ensures) (c .before .before .before .before .match .keys2) (c .before .before .read-guarded .ensures)
 
 -- src/lib.rt:17:1
 read-statement-same-length-3 : (t : ℕ) → read-statement-lts.Need-same-length-3 (
@@ -519,7 +568,7 @@ read-statement-same-length-3 : (t : ℕ) → read-statement-lts.Need-same-length
   read-simple-reads.Asked,
   read-simple-reads.Learnt,
 ) (read-statement-at t) read-statement.Post
-read-statement-same-length-3 t c = ?
+read-statement-same-length-3 t c = search needs
 
 -- src/lib.rt:17:1
 read-statement-returns-3 : (t : ℕ) → read-statement-lts.Need-returns-3 (
@@ -536,7 +585,7 @@ read-statement-returns-3 : (t : ℕ) → read-statement-lts.Need-returns-3 (
   read-simple-reads.Asked,
   read-simple-reads.Learnt,
 ) (read-statement-at t) read-statement.Post
-read-statement-returns-3 t c = ?
+read-statement-returns-3 t c = states-while _ _ _ _ _ _ _ _ (c .before .before .before .before .before .kind-at .ensures) (c .before .before .before .before .match .keys3) (c .before .before .read-guarded2 .ensures)
 
 -- src/lib.rt:17:1
 read-statement-same-length-4 : (t : ℕ) → read-statement-lts.Need-same-length-4 (
@@ -553,7 +602,7 @@ read-statement-same-length-4 : (t : ℕ) → read-statement-lts.Need-same-length
   read-simple-reads.Asked,
   read-simple-reads.Learnt,
 ) (read-statement-at t) read-statement.Post
-read-statement-same-length-4 t c = ?
+read-statement-same-length-4 t c = search needs
 
 -- src/lib.rt:17:1
 read-statement-returns-4 : (t : ℕ) → read-statement-lts.Need-returns-4 (
@@ -570,7 +619,7 @@ read-statement-returns-4 : (t : ℕ) → read-statement-lts.Need-returns-4 (
   read-simple-reads.Asked,
   read-simple-reads.Learnt,
 ) (read-statement-at t) read-statement.Post
-read-statement-returns-4 t c = ?
+read-statement-returns-4 t c = states-return _ _ _ _ _ _ _ _ (c .before .before .before .before .before .kind-at .ensures) (c .before .before .before .before .match .keys4) (c .before .before .read-return .ensures)
 
 -- src/lib.rt:17:1
 read-statement-same-length-5 : (t : ℕ) → read-statement-lts.Need-same-length-5 (
@@ -587,7 +636,7 @@ read-statement-same-length-5 : (t : ℕ) → read-statement-lts.Need-same-length
   read-simple-reads.Asked,
   read-simple-reads.Learnt,
 ) (read-statement-at t) read-statement.Post
-read-statement-same-length-5 t c = ?
+read-statement-same-length-5 t c = search needs
 
 -- src/lib.rt:17:1
 read-statement-returns-5 : (t : ℕ) → read-statement-lts.Need-returns-5 (
@@ -604,7 +653,7 @@ read-statement-returns-5 : (t : ℕ) → read-statement-lts.Need-returns-5 (
   read-simple-reads.Asked,
   read-simple-reads.Learnt,
 ) (read-statement-at t) read-statement.Post
-read-statement-returns-5 t c = ?
+read-statement-returns-5 t c = c .before .before .read-block .ensures
 
 -- src/lib.rt:17:1
 read-statement-same-length-6 : (t : ℕ) → read-statement-lts.Need-same-length-6 (
@@ -621,7 +670,7 @@ read-statement-same-length-6 : (t : ℕ) → read-statement-lts.Need-same-length
   read-simple-reads.Asked,
   read-simple-reads.Learnt,
 ) (read-statement-at t) read-statement.Post
-read-statement-same-length-6 t c = ?
+read-statement-same-length-6 t c = search needs
 
 -- src/lib.rt:17:1
 read-statement-returns-6 : (t : ℕ) → read-statement-lts.Need-returns-6 (
@@ -638,13 +687,15 @@ read-statement-returns-6 : (t : ℕ) → read-statement-lts.Need-returns-6 (
   read-simple-reads.Asked,
   read-simple-reads.Learnt,
 ) (read-statement-at t) read-statement.Post
-read-statement-returns-6 t c = ?
+read-statement-returns-6 t c = 
+    let x = c .before .before .before .before .match .rest in
+    states-simple _ _ _ _ _ _ _ _ (c .before .before .before .before .before .kind-at .ensures) (x .0 .0 .0 .0 .1) (x .0 .0 .0 .1) (x .0 .0 .1) (x .0 .1) (x .1) (c .before .before .read-simple .ensures)
 
 abbrev read-statements-Inv-loop : read-statements-lts.InvT-loop
-read-statements-Inv-loop tokens words₀ i n left at₀ m₀ words at m = ?
+read-statements-Inv-loop tokens words₀ i n left at₀ m₀ words at m = Going left tokens i n words₀ at m words
 
 abbrev read-statements-μ-loop : read-statements-lts.MeasureT-loop
-read-statements-μ-loop tokens words₀ i n left at₀ m₀ words at m = ?
+read-statements-μ-loop tokens words₀ i n left at₀ m₀ words at m = length tokens - at
 
 -- src/lib.rt:174:5
 read-statements-loop-holds : (t : ℕ) → read-statements-lts.Need-loop-holds (
@@ -653,7 +704,7 @@ read-statements-loop-holds : (t : ℕ) → read-statements-lts.Need-loop-holds (
   kind-at-reads.Asked,
   kind-at-reads.Learnt,
 ) (read-statements-at t) read-statements.Post read-statements-Inv-loop read-statements-μ-loop
-read-statements-loop-holds t c = ?
+read-statements-loop-holds t c = going-starts _ _ _ _ _ (c .before .before .pre .1)
 
 -- src/lib.rt:175:13
 read-statements-read-statement-requires :
@@ -663,7 +714,7 @@ read-statements-read-statement-requires :
       kind-at-reads.Asked,
       kind-at-reads.Learnt,
     ) (read-statements-at t) read-statements.Post read-statements-Inv-loop read-statements-μ-loop
-read-statements-read-statement-requires t c κs = ?
+read-statements-read-statement-requires t c κs = (omega (arith, c .before .loop .inv .ahead, c .before .before .before .before .pre .0), c .before .loop .inv .space)
 
 -- src/lib.rt:177:25
 read-statements-enum-known-s : (t : ℕ) → read-statements-lts.Need-enum-known-s (
@@ -672,7 +723,7 @@ read-statements-enum-known-s : (t : ℕ) → read-statements-lts.Need-enum-known
   kind-at-reads.Asked,
   kind-at-reads.Learnt,
 ) (read-statements-at t) read-statements.Post read-statements-Inv-loop read-statements-μ-loop
-read-statements-enum-known-s t c = ?
+read-statements-enum-known-s t c = search needs
 
 -- src/lib.rt:177:34
 read-statements-same-length : (t : ℕ) → read-statements-lts.Need-same-length (
@@ -681,7 +732,7 @@ read-statements-same-length : (t : ℕ) → read-statements-lts.Need-same-length
   kind-at-reads.Asked,
   kind-at-reads.Learnt,
 ) (read-statements-at t) read-statements.Post read-statements-Inv-loop read-statements-μ-loop
-read-statements-same-length t c = ?
+read-statements-same-length t c = omega (arith, c .before .before .before .before .before .before .before .loop .inv .kept, c .before .before .before .before .before .read-statement .kept .1 .0)
 
 -- src/lib.rt:177:34
 read-statements-returns : (t : ℕ) → read-statements-lts.Need-returns (
@@ -690,7 +741,7 @@ read-statements-returns : (t : ℕ) → read-statements-lts.Need-returns (
   kind-at-reads.Asked,
   kind-at-reads.Learnt,
 ) (read-statements-at t) read-statements.Post read-statements-Inv-loop read-statements-μ-loop
-read-statements-returns t c = ?
+read-statements-returns t c = going-fails _ _ _ _ _ _ _ _ (c .before .before .before .before .before .before .before .loop .inv) _ _ (c .before .before .before .before .before .read-statement .ensures) _ _ (c .before .s .given .1)
 
 -- src/lib.rt:178:22
 read-statements-enum-known-s-2 : (t : ℕ) → read-statements-lts.Need-enum-known-s-2 (
@@ -699,7 +750,7 @@ read-statements-enum-known-s-2 : (t : ℕ) → read-statements-lts.Need-enum-kno
   kind-at-reads.Asked,
   kind-at-reads.Learnt,
 ) (read-statements-at t) read-statements.Post read-statements-Inv-loop read-statements-μ-loop
-read-statements-enum-known-s-2 t c = ?
+read-statements-enum-known-s-2 t c = search needs
 
 -- src/lib.rt:179:20
 read-statements-kind-at-requires : (t : ℕ) → read-statements-lts.Need-kind-at-requires (
@@ -708,7 +759,7 @@ read-statements-kind-at-requires : (t : ℕ) → read-statements-lts.Need-kind-a
   kind-at-reads.Asked,
   kind-at-reads.Learnt,
 ) (read-statements-at t) read-statements.Post read-statements-Inv-loop read-statements-μ-loop
-read-statements-kind-at-requires t c κs = ?
+read-statements-kind-at-requires t c κs = search needs
 
 -- src/lib.rt:180:37
 read-statements-add-t17 : (t : ℕ) → read-statements-lts.Need-add-t17 (
@@ -717,7 +768,9 @@ read-statements-add-t17 : (t : ℕ) → read-statements-lts.Need-add-t17 (
   kind-at-reads.Asked,
   kind-at-reads.Learnt,
 ) (read-statements-at t) read-statements.Post read-statements-Inv-loop read-statements-μ-loop
-read-statements-add-t17 t c = ?
+read-statements-add-t17 t c = 
+    let x = turned _ _ _ _ _ _ _ _ (c .before .before .before .before .before .before .before .before .before .loop .inv) _ _ (c .before .before .before .before .before .before .before .read-statement .ensures) _ _ _ (c .before .before .before .s2 .given .1) (c .before .before .before .before .before .before .before .read-statement .kept .1 .0) in
+    omega (arith, x .within, x .space .few)
 
 -- src/lib.rt:180:21
 read-statements-same-length-2 : (t : ℕ) → read-statements-lts.Need-same-length-2 (
@@ -726,7 +779,7 @@ read-statements-same-length-2 : (t : ℕ) → read-statements-lts.Need-same-leng
   kind-at-reads.Asked,
   kind-at-reads.Learnt,
 ) (read-statements-at t) read-statements.Post read-statements-Inv-loop read-statements-μ-loop
-read-statements-same-length-2 t c = ?
+read-statements-same-length-2 t c = omega (arith, c .before .before .before .before .before .before .before .before .before .loop .inv .kept, c .before .before .before .before .before .before .before .read-statement .kept .1 .0)
 
 -- src/lib.rt:180:21
 read-statements-returns-2 : (t : ℕ) → read-statements-lts.Need-returns-2 (
@@ -735,7 +788,7 @@ read-statements-returns-2 : (t : ℕ) → read-statements-lts.Need-returns-2 (
   kind-at-reads.Asked,
   kind-at-reads.Learnt,
 ) (read-statements-at t) read-statements.Post read-statements-Inv-loop read-statements-μ-loop
-read-statements-returns-2 t c = ?
+read-statements-returns-2 t c = going-ends _ _ _ _ _ _ _ _ (c .before .before .before .before .before .before .before .before .before .loop .inv) _ _ (c .before .before .before .before .before .before .before .read-statement .ensures) _ _ _ (c .before .before .before .s2 .given .1) (c .before .before .before .before .before .before .before .read-statement .kept .1 .0) _ (c .before .kind-at .ensures) (c .if1 .taken)
 
 -- src/lib.rt:174:5
 read-statements-loop-less : (t : ℕ) → read-statements-lts.Need-loop-less (
@@ -744,7 +797,9 @@ read-statements-loop-less : (t : ℕ) → read-statements-lts.Need-loop-less (
   kind-at-reads.Asked,
   kind-at-reads.Learnt,
 ) (read-statements-at t) read-statements.Post read-statements-Inv-loop read-statements-μ-loop
-read-statements-loop-less t c = ?
+read-statements-loop-less t c = 
+    let x = turned _ _ _ _ _ _ _ _ (c .before .before .before .before .before .before .before .before .before .loop .inv) _ _ (c .before .before .before .before .before .before .before .read-statement .ensures) _ _ _ (c .before .before .before .s2 .given .1) (c .before .before .before .before .before .before .before .read-statement .kept .1 .0) in
+    omega (arith, x .ahead, x .within)
 
 -- src/lib.rt:174:5
 read-statements-loop-again : (t : ℕ) → read-statements-lts.Need-loop-again (
@@ -753,7 +808,7 @@ read-statements-loop-again : (t : ℕ) → read-statements-lts.Need-loop-again (
   kind-at-reads.Asked,
   kind-at-reads.Learnt,
 ) (read-statements-at t) read-statements.Post read-statements-Inv-loop read-statements-μ-loop
-read-statements-loop-again t c = ?
+read-statements-loop-again t c = going-on _ _ _ _ _ _ _ _ (c .before .before .before .before .before .before .before .before .before .loop .inv) _ _ (c .before .before .before .before .before .before .before .read-statement .ensures) _ _ _ (c .before .before .before .s2 .given .1) (c .before .before .before .before .before .before .before .read-statement .kept .1 .0) _ (c .before .kind-at .ensures) (c .if1 .left)
 
 pub +read-block+read-guarded+read-statement+read-statements-spec : {M : Type 1} → statement M
 +read-block+read-guarded+read-statement+read-statements-spec =

@@ -1,3 +1,5 @@
+use native.Mathlib.Omega.{arith}
+use Rattle.statements.proofs.Written.{head-wrong, head-at}
 use borrow.Author.Needs.{needs}
 use Rattle.statements.proofs.head.Statement.{statement}
 use Rattle.statements.proofs.head.Tie as tie
@@ -21,7 +23,7 @@ place-at-requires c κs = search needs
 
 -- src/lib.rt:41:53
 sub-word-of : tie.Need-sub-word-of
-sub-word-of c = ?
+sub-word-of c = omega (arith, c .before .before .before .before .before .before .before .pre .parts _ _ _ (c .before .before .before .e2 .given .1))
 
 -- src/lib.rt:41:76
 mul-word-of : tie.Need-mul-word-of
@@ -33,7 +35,9 @@ add-word-of c = search needs
 
 -- src/lib.rt:41:33
 word-of-requires : tie.Need-word-of-requires
-word-of-requires c κs = ?
+word-of-requires c κs = 
+    let p = c .before .before .before .before .before .before .before .pre in
+    omega (arith, p .smallTag, p .smallNumber, p .parts _ _ _ (c .before .before .before .e2 .given .1), c .before .place-at .ensures)
 
 -- src/lib.rt:41:13
 put-requires : tie.Need-put-requires
@@ -41,7 +45,7 @@ put-requires c κs = search needs
 
 -- src/lib.rt:33:1
 returns : tie.Need-returns
-returns c = ?
+returns c = head-wrong _ _ _ _ _ _ _ _ (c .before .e .given .1)
 
 -- src/lib.rt:33:1
 same-length : tie.Need-same-length
@@ -49,7 +53,9 @@ same-length c = search needs
 
 -- src/lib.rt:33:1
 returns-2 : tie.Need-returns-2
-returns-2 c = ?
+returns-2 c = 
+    let f = c .before .before .before .before .before .before .before .before .before .before .before .pre .parts _ _ _ (c .before .before .before .before .before .before .before .e2 .given .1) in
+    head-at _ _ _ _ _ _ _ _ _ _ _ _ (c .before .before .before .before .before .before .before .e2 .given .1) (c .before .before .before .before .before .place-at .ensures) (c .before .before .before .word-of .ensures) (c .before .before .put .ensures) (f .0)
 
 pub head-spec : {M : Type 1} → statement M
 head-spec =

@@ -1,3 +1,5 @@
+use native.Mathlib.Omega.{arith}
+use Rattle.statements.proofs.Moves.{parts-closed, declaration-other, declaration-reads}
 use borrow.Author.Needs.{needs}
 use Rattle.statements.proofs.read_declaration.Statement.{statement}
 use Rattle.statements.proofs.read_declaration.Tie as tie
@@ -22,7 +24,7 @@ add-t9 c = search needs
 
 -- src/lib.rt:94:9
 returns : tie.Need-returns
-returns c = ?
+returns c = declaration-other _ _ _ _ (c .before .before .before .before .pre .0) _ (c .before .kind-at .ensures) (c .if1 .taken)
 
 -- src/lib.rt:96:36
 add-home-at : tie.Need-add-home-at
@@ -46,7 +48,9 @@ home-at-requires c κs = search needs
 
 -- src/lib.rt:97:5
 head-requires : tie.Need-head-requires
-head-requires c κs = ?
+head-requires c κs = 
+    let o = c .before .before .before .before .before .before .before .pre in
+    parts-closed _ _ _ _ _ _ _ _ _ (c .before .before .close .ensures) (omega arith) (omega (arith, o .0 .behind, o .1, o .0 .few)) (omega arith) (omega (arith, c .home-at .ensures))
 
 -- src/lib.rt:88:1
 same-length : tie.Need-same-length
@@ -54,7 +58,7 @@ same-length c = search needs
 
 -- src/lib.rt:88:1
 returns-2 : tie.Need-returns-2
-returns-2 c = ?
+returns-2 c = declaration-reads _ _ _ _ (c .before .before .before .before .before .before .before .before .before .before .pre .0) _ (c .before .before .before .before .before .before .before .kind-at .ensures) _ _ _ _ (c .before .before .before .before .before .before .if1 .left) (c .before .before .before .before .before .before .before .before .before .before .pre .1) (c .before .before .before .before .before .close .ensures) (c .before .before .before .home-at .ensures) (c .before .before .head .ensures)
 
 pub read-declaration-spec : {M : Type 1} → statement M
 read-declaration-spec =

@@ -1,3 +1,4 @@
+use Rattle.statements.proofs.Moves.{ended-reads}
 use borrow.Author.Needs.{needs}
 use Rattle.statements.proofs.read_ended.Statement.{statement}
 use Rattle.statements.proofs.read_ended.Tie as tie
@@ -20,7 +21,7 @@ same-length c = search needs
 
 -- src/lib.rt:64:1
 returns : tie.Need-returns
-returns c = ?
+returns c = ended-reads _ _ _ _ _ _ _ _ (c .before .before .before .read-expression .ensures) (c .close .ensures)
 
 pub read-ended-spec : {M : Type 1} → statement M
 read-ended-spec = tie.close (tie.spec read-expression-requires close-requires same-length returns)

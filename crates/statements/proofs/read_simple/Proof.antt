@@ -1,3 +1,6 @@
+use native.Mathlib.Omega.{arith}
+use Rattle.statements.proofs.Paid.{ended-paid}
+use Rattle.statements.proofs.Moves.{parts-code, parts-closed, sided, sided-room, simple-wrong, simple-acts, simple-assigns, simple-updates, simple-refuses}
 use borrow.Author.Needs.{needs}
 use Rattle.statements.proofs.read_simple.Statement.{statement}
 use Rattle.statements.proofs.read_simple.Tie as tie
@@ -36,7 +39,10 @@ close-requires c κs = search needs
 
 -- src/lib.rt:121:17
 head-requires : tie.Need-head-requires
-head-requires c κs = ?
+head-requires c κs = 
+    let o = c .before .before .before .before .before .before .before .before .before .before .before .before .before .pre in
+    let p = sided _ _ _ _ _ _ o _ (c .before .before .before .before .before .before .before .before .before .read-expression .ensures) _ _ _ (c .before .before .before .before .before .a2 .given .1) in
+    parts-closed _ _ _ _ _ _ _ _ _ (c .before .close .ensures) (omega (arith, p .some)) (omega (arith, p .paid, p .within, o .few)) (omega arith) (omega arith)
 
 -- src/lib.rt:121:17
 same-length : tie.Need-same-length
@@ -44,11 +50,14 @@ same-length c = search needs
 
 -- src/lib.rt:121:17
 returns : tie.Need-returns
-returns c = ?
+returns c = simple-acts _ _ _ _ _ _ (c .before .before .before .before .before .before .before .before .before .before .before .before .before .before .before .before .pre) _ (c .before .before .before .before .before .before .before .before .before .before .before .before .read-expression .ensures) _ _ _ (c .before .before .before .before .before .before .before .before .a2 .given .1) _ (c .before .before .before .before .before .before .kind-at .ensures) _ _ _ (c .before .before .before .before .before .if1 .taken) (c .before .before .before .before .close .ensures) (c .before .before .head .ensures)
 
 -- src/lib.rt:125:55
 add-read-ended : tie.Need-add-read-ended
-add-read-ended c = ?
+add-read-ended c = 
+    let o = c .before .before .before .before .before .before .before .before .before .before .before .before .before .pre in
+    let p = sided _ _ _ _ _ _ o _ (c .before .before .before .before .before .before .before .before .before .read-expression .ensures) _ _ _ (c .before .before .before .before .before .a2 .given .1) in
+    omega (arith, p .within, o .few)
 
 -- src/lib.rt:125:62
 add-read-ended-2 : tie.Need-add-read-ended-2
@@ -56,7 +65,10 @@ add-read-ended-2 c = search needs
 
 -- src/lib.rt:125:25
 read-ended-requires : tie.Need-read-ended-requires
-read-ended-requires c κs = ?
+read-ended-requires c κs = 
+    let o = c .before .before .before .before .before .before .before .before .before .before .before .before .before .pre in
+    let p = sided _ _ _ _ _ _ o _ (c .before .before .before .before .before .before .before .before .before .read-expression .ensures) _ _ _ (c .before .before .before .before .before .a2 .given .1) in
+    sided-room _ _ _ _ _ _ _ _ o p (c .before .before .before .before .before .before .before .before .before .read-expression .kept .1 .0) (omega (arith, p .some, p .paid))
 
 -- src/lib.rt:126:54
 home-at-requires : tie.Need-home-at-requires
@@ -64,23 +76,38 @@ home-at-requires c κs = search needs
 
 -- src/lib.rt:126:21
 head-requires-2 : tie.Need-head-requires-2
-head-requires-2 c κs = ?
+head-requires-2 c κs = 
+    let o = c .before .before .before .before .before .before .before .before .before .before .before .before .before .before .before .before .before .before .pre in
+    let p = sided _ _ _ _ _ _ o _ (c .before .before .before .before .before .before .before .before .before .before .before .before .before .before .read-expression .ensures) _ _ _ (c .before .before .before .before .before .before .before .before .before .before .a2 .given .1) in
+    parts-code _ _ _ _ _ _ _ _ _ _ (c .before .before .before .before .read-ended .ensures) (ended-paid _ _ _) (omega arith) (omega (arith, p .some, p .paid)) (o .few) (omega arith) (omega (arith, c .home-at .ensures))
 
 -- src/lib.rt:129:55
 add-read-ended-3 : tie.Need-add-read-ended-3
-add-read-ended-3 c = ?
+add-read-ended-3 c = 
+    let o = c .before .before .before .before .before .before .before .before .before .before .before .before .before .pre in
+    let p = sided _ _ _ _ _ _ o _ (c .before .before .before .before .before .before .before .before .before .read-expression .ensures) _ _ _ (c .before .before .before .before .before .a2 .given .1) in
+    omega (arith, p .within, o .few)
 
 -- src/lib.rt:129:62
 sub-read-ended : tie.Need-sub-read-ended
-sub-read-ended c = ?
+sub-read-ended c = 
+    let o = c .before .before .before .before .before .before .before .before .before .before .before .before .before .pre in
+    let p = sided _ _ _ _ _ _ o _ (c .before .before .before .before .before .before .before .before .before .read-expression .ensures) _ _ _ (c .before .before .before .before .before .a2 .given .1) in
+    omega (arith, p .some)
 
 -- src/lib.rt:129:25
 read-ended-requires-2 : tie.Need-read-ended-requires-2
-read-ended-requires-2 c κs = ?
+read-ended-requires-2 c κs = 
+    let o = c .before .before .before .before .before .before .before .before .before .before .before .before .before .pre in
+    let p = sided _ _ _ _ _ _ o _ (c .before .before .before .before .before .before .before .before .before .read-expression .ensures) _ _ _ (c .before .before .before .before .before .a2 .given .1) in
+    sided-room _ _ _ _ _ _ _ _ o p (c .before .before .before .before .before .before .before .before .before .read-expression .kept .1 .0) (omega (arith, p .some, p .paid))
 
 -- src/lib.rt:130:21
 head-requires-3 : tie.Need-head-requires-3
-head-requires-3 c κs = ?
+head-requires-3 c κs = 
+    let o = c .before .before .before .before .before .before .before .before .before .before .before .before .before .before .before .before .before .pre in
+    let p = sided _ _ _ _ _ _ o _ (c .before .before .before .before .before .before .before .before .before .before .before .before .before .read-expression .ensures) _ _ _ (c .before .before .before .before .before .before .before .before .before .a2 .given .1) in
+    parts-code _ _ _ _ _ _ _ _ _ _ (c .before .before .before .read-ended2 .ensures) (ended-paid _ _ _) (omega (arith, p .some)) (omega (arith, p .some, p .paid)) (o .few) (omega arith) (omega arith)
 
 -- src/lib.rt:111:1
 same-length-2 : tie.Need-same-length-2
@@ -88,7 +115,7 @@ same-length-2 c = search needs
 
 -- src/lib.rt:111:1
 returns-2 : tie.Need-returns-2
-returns-2 c = ?
+returns-2 c = simple-wrong _ _ _ _ _ _ (c .before .before .before .before .before .before .before .before .before .pre) _ (c .before .before .before .before .before .read-expression .ensures) _ _ (c .before .a .given .1)
 
 -- src/lib.rt:111:1
 same-length-3 : tie.Need-same-length-3
@@ -96,7 +123,7 @@ same-length-3 c = search needs
 
 -- src/lib.rt:111:1
 returns-3 : tie.Need-returns-3
-returns-3 c = ?
+returns-3 c = simple-assigns _ _ _ _ _ _ (c .before .before .before .before .before .before .before .before .before .before .before .before .before .before .before .before .before .before .before .before .before .pre) _ (c .before .before .before .before .before .before .before .before .before .before .before .before .before .before .before .before .before .read-expression .ensures) _ _ _ (c .before .before .before .before .before .before .before .before .before .before .before .before .before .a2 .given .1) _ (c .before .before .before .before .before .before .before .before .before .before .before .kind-at .ensures) (c .before .before .before .before .before .before .before .before .before .before .if1 .left) _ _ _ _ _ (c .before .before .before .before .before .before .before .before .before .match2 .keys1) (c .before .before .before .before .before .before .before .read-ended .ensures) (c .before .before .before .home-at .ensures) (c .before .before .head2 .ensures)
 
 -- src/lib.rt:111:1
 same-length-4 : tie.Need-same-length-4
@@ -104,7 +131,7 @@ same-length-4 c = search needs
 
 -- src/lib.rt:111:1
 returns-4 : tie.Need-returns-4
-returns-4 c = ?
+returns-4 c = simple-updates _ _ _ _ _ _ (c .before .before .before .before .before .before .before .before .before .before .before .before .before .before .before .before .before .before .before .before .pre) _ (c .before .before .before .before .before .before .before .before .before .before .before .before .before .before .before .before .read-expression .ensures) _ _ _ (c .before .before .before .before .before .before .before .before .before .before .before .before .a2 .given .1) _ (c .before .before .before .before .before .before .before .before .before .before .kind-at .ensures) (c .before .before .before .before .before .before .before .before .before .if1 .left) _ _ _ _ (c .before .before .before .before .before .before .before .before .match2 .keys2) (c .before .before .before .before .before .before .read-ended2 .ensures) (c .before .before .head3 .ensures)
 
 -- src/lib.rt:111:1
 same-length-5 : tie.Need-same-length-5
@@ -112,7 +139,7 @@ same-length-5 c = search needs
 
 -- src/lib.rt:111:1
 returns-5 : tie.Need-returns-5
-returns-5 c = ?
+returns-5 c = simple-refuses _ _ _ _ _ _ (c .before .before .before .before .before .before .before .before .before .before .before .before .pre) _ (c .before .before .before .before .before .before .before .before .read-expression .ensures) _ _ _ (c .before .before .before .before .a2 .given .1) _ (c .before .before .kind-at .ensures) (c .before .if1 .left) (c .match2 .rest .0 .1) (c .match2 .rest .1)
 
 pub read-simple-spec : {M : Type 1} → statement M
 read-simple-spec =

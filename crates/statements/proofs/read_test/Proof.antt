@@ -1,3 +1,7 @@
+use mathlib.Core.Path.{sym}
+use native.Mathlib.Omega.{arith}
+use Rattle.expressions.proofs.Tokens.{room-inside}
+use Rattle.statements.proofs.Moves.{test-other, test-none, test-reads}
 use borrow.Author.Needs.{needs}
 use Rattle.statements.proofs.read_test.Statement.{statement}
 use Rattle.statements.proofs.read_test.Tie as tie
@@ -13,15 +17,18 @@ kind-at-requires c κs = search needs
 
 -- src/lib.rt:78:9
 returns : tie.Need-returns
-returns c = ?
+returns c = test-other _ _ _ _ _ _ _ (c .before .kind-at .ensures) (c .if1 .taken)
 
 -- src/lib.rt:81:9
 returns-2 : tie.Need-returns-2
-returns-2 c = ?
+returns-2 c = test-none _ _ _ _ _ _ _ (c .before .before .kind-at .ensures) (c .before .if1 .left) (c .if2 .taken)
 
 -- src/lib.rt:83:57
 add-read-expression : tie.Need-add-read-expression
-add-read-expression c = ?
+add-read-expression c = 
+    let o = c .before .before .before .before .before .before .pre in
+    let w = room-inside _ _ _ _ _ o (sym (c .before .before .before .kind-at .ensures)) (λ z. omega (arith, c .before .before .if1 .left)) in
+    omega (arith, o .short)
 
 -- src/lib.rt:83:67
 sub-read-expression : tie.Need-sub-read-expression
@@ -41,7 +48,7 @@ same-length c = search needs
 
 -- src/lib.rt:73:1
 returns-3 : tie.Need-returns-3
-returns-3 c = ?
+returns-3 c = test-reads _ _ _ _ _ _ _ (c .before .before .before .before .before .before .before .kind-at .ensures) (c .before .before .before .before .before .before .if1 .left) _ _ (c .before .before .before .before .before .if2 .left) (c .before .before .before .read-expression .ensures) (c .close .ensures)
 
 pub read-test-spec : {M : Type 1} → statement M
 read-test-spec =
