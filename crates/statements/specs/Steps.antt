@@ -1,0 +1,37 @@
+-- What the smaller functions read, and what is done with what was read.
+use Prim.Native.Nat.{ℕ, zero, suc, _+_, _-_, _*_}
+use mathlib.Core.List.{List, []}
+use lib.ListN.{length, getD, set}
+use Rattle.meaning.specs.Basics.{if_then_else_}
+use Rattle.meaning.specs.Token.{semicolon, openParen, closeParen}
+use Rattle.meaning.specs.Grammar.{Got, good, wrong, after, Inside, noLevel, level, opening}
+use Rattle.code.specs.Code.{word}
+use Rattle.expressions.specs.Words.{is, ReadPiece, expect, expression, Seen, at, failed}
+use Rattle.statements.specs.declared.Parsed.{Parsed}
+use Rattle.statements.specs.declared.Parsed.the-variants.{Body, Misfit}
+use Rattle.statements.specs.Words.{Readers, statement}
+
+-- how the inside of a level is read, where so many are left
+unfoldable pub insideOf : ℕ → List ℕ → Inside Readers
+insideOf zero ws = noLevel
+insideOf (suc left) ws = level (record { inExpression = expression left ws; inStatement = statement left ws })
+
+-- an expression and a semicolon
+unfoldable pub ended : ReadPiece → List ℕ → ℕ → Got (List ℕ)
+ended read ws i = after (read i) λ e j. expect semicolon ws j (e .code)
+
+-- (e)
+unfoldable pub test : Inside ReadPiece → List ℕ → ℕ → Got (List ℕ)
+test inside ws i =
+    if is openParen ws i then (λ _. opening inside i λ inner. after (inner (i + 1)) λ e j. expect closeParen ws j (e .code))
+    else λ _. wrong 10 i
+
+-- a statement's word at n, before its parts, with a place p and a number x
+unfoldable pub topped : ℕ → ℕ → ℕ → ℕ → Seen → Seen
+topped tag p n x (at j m t xs) = at j m 0 (set xs n (word tag (m - n) (p + 65536 * x)))
+topped tag p n x (failed k q) = failed k q
+
+-- the slots of the parameters: how many, and the first two
+unfoldable pub counted : Got (List ℕ) → Parsed
+counted (good xs i) = Body (length xs) (getD xs 0 0) (getD xs 1 0) i
+counted (wrong k p) = Misfit k p
