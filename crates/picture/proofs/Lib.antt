@@ -1,0 +1,4 @@
+pub mod Laying
+pub mod Decimals
+mod Table
+mod Signs

@@ -1,0 +1,26 @@
+-- The parts that a picture is written in, and a figure from plain numbers.
+use Prim.Native.Nat.{ℕ, zero, suc}
+use mathlib.Core.List.{List, _++_}
+use lib.IntN.{ℤ}
+use Rattle.meaning.specs.Basics.{bytes}
+use Rattle.meaning.specs.Figure.{Figure, line, ellipse, box, text}
+use Rattle.meaning.specs.Picture.{decimal}
+
+-- by the kind's number: 0 a line, 1 an ellipse, 2 a box, else a text, which has two of the numbers
+unfoldable pub figureFrom : ℕ → ℤ → ℤ → ℤ → ℤ → List ℕ → Figure
+figureFrom zero a b c d s = line a b c d
+figureFrom (suc zero) a b c d s = ellipse a b c d
+figureFrom (suc (suc zero)) a b c d s = box a b c d
+figureFrom (suc (suc (suc k))) a b c d s = text a b s
+
+-- the lines before the shapes
+unfoldable pub head : ℤ → ℤ → List ℕ
+head width height =
+    bytes "<?xml version=\"1.0\"?>\n" ++
+    bytes "<svg viewBox=\"0 0 " ++ decimal width ++ bytes " " ++ decimal height ++
+    bytes "\" xmlns=\"http://www.w3.org/2000/svg\" version=\"1.1\">\n" ++
+    bytes "<g stroke=\"black\" fill=\"black\">\n"
+
+-- the lines behind them
+unfoldable pub tail : List ℕ
+tail = bytes "</g>\n" ++ bytes "</svg>\n"
