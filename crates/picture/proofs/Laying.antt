@@ -7,6 +7,7 @@ use native.Mathlib.Decide.{decLt}
 use native.Mathlib.Numerals.{add-one}
 use lib.ListN.{length, getD, set, take, drop, length-append, length-drop, length-set, take-append-drop, drop-of-length-le}
 use lib.Seq.{drop-cons, take-all, take-at, drop-nil, take-nil}
+use borrow.Rule.Slice.PartMut.{putMid}
 use Rattle.meaning.specs.Basics.{laidOver}
 use Rattle.picture.specs.Placed.{laidAt, saturated, Wrote, WroteAt}
 
@@ -114,6 +115,22 @@ pub from-front : {b d after : List ℕ} {r : ℕ} → length b < 2 ^ 64 → Wrot
 from-front {b} {d} {after} {r} h p = record {
   laid = p .laid ∙ at-zero b d
   ; counts = p .ends ∙ (let q : 0 + length b ≡ length b = omega arith in rw q (saturated-small (length b) h)) }
+
+-- lent what follows a place
+pub lent : {at n r : ℕ} {b d last : List ℕ} → at ≤ length d → Wrote b (take (length d - at) (drop at d)) last n → r ≡ saturated (at + n)
+    → WroteAt at b d (putMid at (length d - at) d last) r
+unfolding laidAt
+lent {at} {n} {r} {b} {d} h w e =
+    let l = length-drop at d in
+    let whole : take (length d - at) (drop at d) ≡ drop at d = take-all (length d - at) (drop at d) (omega arith) in
+    let none : drop (length d - at) (drop at d) ≡ [] = drop-of-length-le (drop at d) {i = length d - at} (omega arith) in
+    record {
+      laid = rw (w .laid, whole, none) (ap (λ (l : List ℕ). take at d ++ l) (append-nil (laidOver b (drop at d))))
+      ; ends = e ∙ ap (λ (m : ℕ). saturated (at + m)) (w .counts) }
+
+-- past the end
+pub past : {at n r : ℕ} {b d : List ℕ} → length d < at → n ≡ length b → r ≡ saturated (at + n) → WroteAt at b d d r
+past {at} {n} {r} {b} {d} h w e = record { laid = sym (at-beyond at b d (omega arith)); ends = e ∙ ap (λ (m : ℕ). saturated (at + m)) w }
 
 -- ---- a loop that writes b from at on over what was there: i bytes are laid, rest is left
 pub record Going (at : ℕ) (b rest before now : List ℕ) (i : ℕ) : Type 0 where

@@ -1,4 +1,5 @@
 pub mod Laying
 pub mod Decimals
+pub mod Lines
 mod Table
 mod Signs

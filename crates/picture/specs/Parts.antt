@@ -1,4 +1,4 @@
--- The parts that a picture is written in, and a figure from plain numbers.
+-- A picture by the parts in which it is written.
 use Prim.Native.Nat.{ℕ, zero, suc}
 use mathlib.Core.List.{List, _++_}
 use lib.IntN.{ℤ}
@@ -6,7 +6,7 @@ use Rattle.meaning.specs.Basics.{bytes}
 use Rattle.meaning.specs.Figure.{Figure, line, ellipse, box, text}
 use Rattle.meaning.specs.Picture.{decimal}
 
--- by the kind's number: 0 a line, 1 an ellipse, 2 a box, else a text, which has two of the numbers
+-- the figure of a kind by its number: 0 a line, 1 an ellipse, 2 a box, else a text, which has two of the numbers
 unfoldable pub figureFrom : ℕ → ℤ → ℤ → ℤ → ℤ → List ℕ → Figure
 figureFrom zero a b c d s = line a b c d
 figureFrom (suc zero) a b c d s = ellipse a b c d
@@ -24,3 +24,11 @@ head width height =
 -- the lines behind them
 unfoldable pub tail : List ℕ
 tail = bytes "</g>\n" ++ bytes "</svg>\n"
+
+-- a byte string and then a number
+abbrev pub pair : List ℕ → ℤ → List ℕ
+pair lead z = lead ++ decimal z
+
+-- an element with four numbers, each behind its byte string
+unfoldable pub element : List ℕ → ℤ → List ℕ → ℤ → List ℕ → ℤ → List ℕ → ℤ → List ℕ
+element l a m b n c o d = pair l a ++ pair m b ++ pair n c ++ pair o d ++ bytes "\"/>\n"

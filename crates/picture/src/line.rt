@@ -1,0 +1,85 @@
+// The lines of shapes.
+ghost use mathlib.Core.Path.{_≡_};
+ghost use mathlib.Core.List.{_++_};
+ghost use Prim.Native.Nat.{_+_, _≤_};
+ghost use lib.ListN.{length};
+ghost use Rattle.meaning.specs.Figure.{text};
+ghost use Rattle.meaning.specs.Picture.{decimal, lineOf};
+ghost use Rattle.picture.specs.Placed.{Wrote, WroteAt};
+ghost use Rattle.picture.specs.Parts.{figureFrom, pair, element};
+use crate::decimal::decimal_length;
+use crate::decimal::write_decimal_at;
+use crate::place::saturating_add;
+use crate::place::write_bytes_at;
+
+// A byte string and then a number.
+fn write_pair_at(out: &mut [u8], at: usize, lead: &[u8], z: i32) -> usize
+    ensures { λ r. ⌜ WroteAt at (pair (now (lead .entry)) z) (now (out .entry)) (now (out .exit)) r ⌝ }
+{
+    let next = write_bytes_at(out, at, lead);
+    write_decimal_at(out, next, z)
+}
+
+// An element with four numbers, each behind its byte string.
+fn write_element(out: &mut [u8], l: &[u8], a: i32, m: &[u8], b: i32, n: &[u8], c: i32, o: &[u8], d: i32) -> usize
+    ensures { λ r. ⌜ WroteAt 0 (element (now (l .entry)) a (now (m .entry)) b (now (n .entry)) c (now (o .entry)) d) (now (out .entry)) (now (out .exit)) r ⌝ }
+{
+    let second = write_pair_at(out, 0, l, a);
+    let third = write_pair_at(out, second, m, b);
+    let fourth = write_pair_at(out, third, n, c);
+    let end = write_pair_at(out, fourth, o, d);
+    write_bytes_at(out, end, b"\"/>\n")
+}
+
+fn write_text(out: &mut [u8], x: i32, y: i32, bytes: &[u8]) -> usize
+    ensures { λ r. ⌜ Wrote (lineOf (text x y (now (bytes .entry)))) (now (out .entry)) (now (out .exit)) r ⌝ }
+{
+    let second = write_pair_at(out, 0, b"<text x=\"", x);
+    let third = write_pair_at(out, second, b"\" y=\"", y);
+    let start = write_bytes_at(out, third, b"\">");
+    let end = write_bytes_at(out, start, bytes);
+    write_bytes_at(out, end, b"</text>\n")
+}
+
+// The line of a figure, given by its kind's number, its numbers and its text. The slice is the unwritten rest of a picture.
+pub fn write_line(out: &mut [u8], kind: u8, a: i32, b: i32, c: i32, d: i32, text: &[u8]) -> usize
+    ensures { λ r. ⌜ Wrote (lineOf (figureFrom kind a b c d (now (text .entry)))) (now (out .entry)) (now (out .exit)) r ⌝ }
+{
+    match kind {
+        0 => write_element(out, b"<line x1=\"", a, b"\" y1=\"", b, b"\" x2=\"", c, b"\" y2=\"", d),
+        1 => write_element(out, b"<ellipse cx=\"", a, b"\" cy=\"", b, b"\" rx=\"", c, b"\" ry=\"", d),
+        2 => write_element(out, b"<rect x=\"", a, b"\" y=\"", b, b"\" width=\"", c, b"\" height=\"", d),
+        _ => write_text(out, a, b, text),
+    }
+}
+
+// How many bytes two numbers have.
+fn pair_length(a: i32, b: i32) -> usize
+    ensures { λ r. ⌜ r ≡ length (decimal a) + length (decimal b) ⌝ }
+    ensures { λ r. ⌜ r ≤ 22 ⌝ }
+{
+    decimal_length(a) + decimal_length(b)
+}
+
+// How many bytes the line of a figure has: those of every line of its kind, and those of its numbers and text.
+pub fn line_length(kind: u8, a: i32, b: i32, c: i32, d: i32, text: &[u8]) -> usize
+    ensures { λ r. ⌜ r ≡ length (lineOf (figureFrom kind a b c d (now (text .entry)))) ⌝ }
+{
+    match kind {
+        0 => 32 + pair_length(a, b) + pair_length(c, d),
+        1 => 35 + pair_length(a, b) + pair_length(c, d),
+        2 => 37 + pair_length(a, b) + pair_length(c, d),
+        _ => 24 + pair_length(a, b) + text.len(),
+    }
+}
+
+// The line from a place on, lent what follows the place; the place behind the line.
+pub fn write_line_at(out: &mut [u8], at: usize, kind: u8, a: i32, b: i32, c: i32, d: i32, text: &[u8]) -> usize
+    ensures { λ r. ⌜ WroteAt at (lineOf (figureFrom kind a b c d (now (text .entry)))) (now (out .entry)) (now (out .exit)) r ⌝ }
+{
+    if out.len() < at {
+        return saturating_add(at, line_length(kind, a, b, c, d, text));
+    }
+    let filled = write_line(&mut out[at..], kind, a, b, c, d, text);
+    saturating_add(at, filled)
+}
