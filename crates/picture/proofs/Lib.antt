@@ -1,5 +1,6 @@
 pub mod Laying
 pub mod Decimals
 pub mod Lines
+pub mod Frames
 mod Table
 mod Signs

@@ -1,10 +1,11 @@
 // Numbers in decimal.
 ghost use mathlib.Core.Path.{_≡_};
-ghost use Prim.Native.Nat.{_≤_, _^_};
+ghost use Prim.Native.Nat.{_+_, _≤_, _^_};
 ghost use lib.ListN.{length};
 ghost use lib.IntN.{natAbs};
 ghost use Rattle.meaning.specs.Picture.{digitsOf, decimal};
 ghost use Rattle.picture.specs.Placed.{Wrote, WroteAt};
+ghost use Rattle.picture.specs.Parts.{pair};
 ghost use Rattle.picture.specs.Digits.{tens, digitAt, lastDigits, isNegative};
 use crate::place::room;
 use crate::place::saturating_add;
@@ -104,4 +105,20 @@ pub fn write_decimal(out: &mut [u8], z: i32) -> usize
     ensures { λ r. ⌜ Wrote (decimal z) (now (out .entry)) (now (out .exit)) r ⌝ }
 {
     write_decimal_at(out, 0, z)
+}
+
+// A byte string and then a number.
+pub fn write_pair_at(out: &mut [u8], at: usize, lead: &[u8], z: i32) -> usize
+    ensures { λ r. ⌜ WroteAt at (pair (now (lead .entry)) z) (now (out .entry)) (now (out .exit)) r ⌝ }
+{
+    let next = write_bytes_at(out, at, lead);
+    write_decimal_at(out, next, z)
+}
+
+// How many bytes two numbers have.
+pub fn pair_length(a: i32, b: i32) -> usize
+    ensures { λ r. ⌜ r ≡ length (decimal a) + length (decimal b) ⌝ }
+    ensures { λ r. ⌜ r ≤ 22 ⌝ }
+{
+    decimal_length(a) + decimal_length(b)
 }

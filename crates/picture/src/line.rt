@@ -1,24 +1,14 @@
 // The lines of shapes.
 ghost use mathlib.Core.Path.{_≡_};
-ghost use mathlib.Core.List.{_++_};
-ghost use Prim.Native.Nat.{_+_, _≤_};
 ghost use lib.ListN.{length};
 ghost use Rattle.meaning.specs.Figure.{text};
-ghost use Rattle.meaning.specs.Picture.{decimal, lineOf};
+ghost use Rattle.meaning.specs.Picture.{lineOf};
 ghost use Rattle.picture.specs.Placed.{Wrote, WroteAt};
-ghost use Rattle.picture.specs.Parts.{figureFrom, pair, element};
-use crate::decimal::decimal_length;
-use crate::decimal::write_decimal_at;
+ghost use Rattle.picture.specs.Parts.{figureFrom, element};
+use crate::decimal::pair_length;
+use crate::decimal::write_pair_at;
 use crate::place::saturating_add;
 use crate::place::write_bytes_at;
-
-// A byte string and then a number.
-fn write_pair_at(out: &mut [u8], at: usize, lead: &[u8], z: i32) -> usize
-    ensures { λ r. ⌜ WroteAt at (pair (now (lead .entry)) z) (now (out .entry)) (now (out .exit)) r ⌝ }
-{
-    let next = write_bytes_at(out, at, lead);
-    write_decimal_at(out, next, z)
-}
 
 // An element with four numbers, each behind its byte string.
 fn write_element(out: &mut [u8], l: &[u8], a: i32, m: &[u8], b: i32, n: &[u8], c: i32, o: &[u8], d: i32) -> usize
@@ -51,14 +41,6 @@ pub fn write_line(out: &mut [u8], kind: u8, a: i32, b: i32, c: i32, d: i32, text
         2 => write_element(out, b"<rect x=\"", a, b"\" y=\"", b, b"\" width=\"", c, b"\" height=\"", d),
         _ => write_text(out, a, b, text),
     }
-}
-
-// How many bytes two numbers have.
-fn pair_length(a: i32, b: i32) -> usize
-    ensures { λ r. ⌜ r ≡ length (decimal a) + length (decimal b) ⌝ }
-    ensures { λ r. ⌜ r ≤ 22 ⌝ }
-{
-    decimal_length(a) + decimal_length(b)
 }
 
 // How many bytes the line of a figure has: those of every line of its kind, and those of its numbers and text.

@@ -4,7 +4,7 @@ use Rattle.picture.proofs.line.line_length.Statement.{statement}
 use Rattle.picture.proofs.line.line_length.Tie as tie
 use Rattle.picture.proofs.line.line_length.Reads as reads
 use Rattle.picture.proofs.line.line_length.Lts as lts
-use Rattle.picture.proofs.line.pair_length.Reads as pair-length-reads
+use Rattle.picture.proofs.decimal.pair_length.Reads as pair-length-reads
 
 -- src/line.rt:69:19
 pair-length-requires : tie.Need-pair-length-requires

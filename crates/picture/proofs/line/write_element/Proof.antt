@@ -4,7 +4,7 @@ use Rattle.picture.proofs.line.write_element.Statement.{statement}
 use Rattle.picture.proofs.line.write_element.Tie as tie
 use Rattle.picture.proofs.line.write_element.Reads as reads
 use Rattle.picture.proofs.line.write_element.Lts as lts
-use Rattle.picture.proofs.line.write_pair_at.Reads as write-pair-at-reads
+use Rattle.picture.proofs.decimal.write_pair_at.Reads as write-pair-at-reads
 use Rattle.picture.proofs.place.write_bytes_at.Reads as write-bytes-at-reads
 
 -- src/line.rt:27:9

@@ -1,9 +1,9 @@
 use Rattle.picture.proofs.Lines.{wrote-pair}
 use borrow.Author.Needs.{needs}
-use Rattle.picture.proofs.line.write_pair_at.Statement.{statement}
-use Rattle.picture.proofs.line.write_pair_at.Tie as tie
-use Rattle.picture.proofs.line.write_pair_at.Reads as reads
-use Rattle.picture.proofs.line.write_pair_at.Lts as lts
+use Rattle.picture.proofs.decimal.write_pair_at.Statement.{statement}
+use Rattle.picture.proofs.decimal.write_pair_at.Tie as tie
+use Rattle.picture.proofs.decimal.write_pair_at.Reads as reads
+use Rattle.picture.proofs.decimal.write_pair_at.Lts as lts
 use Rattle.picture.proofs.decimal.write_decimal_at.Reads as write-decimal-at-reads
 use Rattle.picture.proofs.place.write_bytes_at.Reads as write-bytes-at-reads
 

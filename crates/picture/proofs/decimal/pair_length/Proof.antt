@@ -2,10 +2,10 @@ use Rattle.picture.proofs.Lines.{length-pair, pair-short}
 use Prim.Native.Nat.{_+_, _≤_}
 use native.Mathlib.Omega.{arith}
 use borrow.Author.Needs.{needs}
-use Rattle.picture.proofs.line.pair_length.Statement.{statement}
-use Rattle.picture.proofs.line.pair_length.Tie as tie
-use Rattle.picture.proofs.line.pair_length.Reads as reads
-use Rattle.picture.proofs.line.pair_length.Lts as lts
+use Rattle.picture.proofs.decimal.pair_length.Statement.{statement}
+use Rattle.picture.proofs.decimal.pair_length.Tie as tie
+use Rattle.picture.proofs.decimal.pair_length.Reads as reads
+use Rattle.picture.proofs.decimal.pair_length.Lts as lts
 use Rattle.picture.proofs.decimal.decimal_length.Reads as decimal-length-reads
 
 -- src/line.rt:61:5
