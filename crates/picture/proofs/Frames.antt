@@ -1,17 +1,18 @@
 -- The laws of a picture's frame, and of the picture by its parts.
-use mathlib.Core.Path.{_≡_, _∙_, refl, sym, ap}
+-- Assumes nothing.
 use mathlib.Core.List.{List, [], _∷_, _++_, append-assoc, append-nil}
-use Prim.Native.Nat.{ℕ, _+_, _^_, _≤_, _<_}
+use mathlib.Core.Path.{_≡_, _∙_, refl, sym, ap}
+use Prim.Native.Nat.{ℕ, _+_, _^_, _<_}
 use native.Mathlib.Omega.{arith}
-use lib.ListN.{length, length-append}
 use lib.IntN.{ℤ}
+use lib.ListN.{length, length-append}
 use mir.Syntax.{w32}
 use mir.Val.{SFits, toZ, ofZ}
 use Rattle.meaning.specs.Basics.{bytes}
 use Rattle.meaning.specs.Figure.{Figure}
 use Rattle.meaning.specs.Picture.{decimal, lineOf, linesOf, pictureOf}
-use Rattle.picture.specs.Placed.{WroteAt}
 use Rattle.picture.specs.Parts.{head, tail, pair}
+use Rattle.picture.specs.Placed.{WroteAt}
 use Rattle.picture.proofs.Laying.{then}
 use Rattle.picture.proofs.Signs.{handed}
 

@@ -1,13 +1,14 @@
 -- The laws of texts laid over the front of another, or from a place on.
-use mathlib.Core.Path.{_≡_, _∙_, refl, sym, ap}
+-- Assumes nothing.
 use mathlib.Core.List.{List, [], _∷_, _++_, append-nil, append-assoc}
+use mathlib.Core.Path.{_≡_, _∙_, refl, sym, ap}
 use Prim.Native.Nat.{ℕ, zero, suc, _+_, _-_, _^_, min, _≤_, _<_}
-use native.Mathlib.Omega.{arith}
 use native.Mathlib.Decide.{decLt}
 use native.Mathlib.Numerals.{add-one}
-use lib.ListN.{length, getD, set, take, drop, length-append, length-drop, length-set, take-append-drop, drop-of-length-le}
-use lib.Seq.{drop-cons, take-all, take-at, drop-nil, take-nil}
+use native.Mathlib.Omega.{arith}
 use borrow.Rule.Slice.PartMut.{putMid}
+use lib.ListN.{length, getD, set, take, drop, length-append, length-drop, take-append-drop, drop-of-length-le}
+use lib.Seq.{drop-cons, take-all, take-at, drop-nil, take-nil}
 use Rattle.meaning.specs.Basics.{laidOver}
 use Rattle.picture.specs.Placed.{laidAt, saturated, Wrote, WroteAt}
 
@@ -105,16 +106,22 @@ pub then : {at m r : ℕ} {b e d after last : List ℕ} → length d < 2 ^ 64 �
 then {at} {m} {r} {b} {e} {d} {after} {last} h p q = record {
   laid =
       q .laid ∙ ap (λ (n : ℕ). laidAt n e after) (p .ends) ∙ at-saturated (at + length b) e after (rw (p .laid, length-at at b d) h)
-      ∙ ap (λ (l : List ℕ). laidAt (at + length b) e l) (p .laid) ∙ at-append at b e d
-  ; ends =
+      ∙ ap (λ (l : List ℕ). laidAt (at + length b) e l) (p .laid) ∙ at-append at b e d;
+  ends =
       q .ends ∙ ap (λ (n : ℕ). saturated (n + length e)) (p .ends) ∙ saturated-sum (at + length b) (length e)
-      ∙ ap saturated (let a = length-append b e in omega arith) }
+      ∙ ap saturated (let a = length-append b e in omega arith);
+}
+
+-- the place behind, where a usize holds it
+pub exact : {at r : ℕ} {b d after : List ℕ} → WroteAt at b d after r → at + length b < 2 ^ 64 → r ≡ at + length b
+exact {at} {r} {b} p h = p .ends ∙ saturated-small (at + length b) h
 
 -- from the front
 pub from-front : {b d after : List ℕ} {r : ℕ} → length b < 2 ^ 64 → WroteAt 0 b d after r → Wrote b d after r
 from-front {b} {d} {after} {r} h p = record {
-  laid = p .laid ∙ at-zero b d
-  ; counts = p .ends ∙ (let q : 0 + length b ≡ length b = omega arith in rw q (saturated-small (length b) h)) }
+  laid = p .laid ∙ at-zero b d;
+  counts = p .ends ∙ (let q : 0 + length b ≡ length b = omega arith in rw q (saturated-small (length b) h));
+}
 
 -- lent what follows a place
 pub lent : {at n r : ℕ} {b d last : List ℕ} → at ≤ length d → Wrote b (take (length d - at) (drop at d)) last n → r ≡ saturated (at + n)
@@ -125,8 +132,9 @@ lent {at} {n} {r} {b} {d} h w e =
     let whole : take (length d - at) (drop at d) ≡ drop at d = take-all (length d - at) (drop at d) (omega arith) in
     let none : drop (length d - at) (drop at d) ≡ [] = drop-of-length-le (drop at d) {i = length d - at} (omega arith) in
     record {
-      laid = rw (w .laid, whole, none) (ap (λ (l : List ℕ). take at d ++ l) (append-nil (laidOver b (drop at d))))
-      ; ends = e ∙ ap (λ (m : ℕ). saturated (at + m)) (w .counts) }
+      laid = rw (w .laid, whole, none) (ap (λ (l : List ℕ). take at d ++ l) (append-nil (laidOver b (drop at d))));
+      ends = e ∙ ap (λ (m : ℕ). saturated (at + m)) (w .counts);
+    }
 
 -- past the end
 pub past : {at n r : ℕ} {b d : List ℕ} → length d < at → n ≡ length b → r ≡ saturated (at + n) → WroteAt at b d d r
@@ -145,10 +153,11 @@ begin at b before = record { done = []; count = refl; parts = refl; holds = sym 
 
 pub lay : {at i x : ℕ} {b rest rest′ before now : List ℕ} → Going at b rest before now i → rest ≡ x ∷ rest′ → Going at b rest′ before (set now (at + i) x) (i + 1)
 lay {at} {i} {x} {b} {rest} {rest′} {before} {now} g e = record {
-  done = g .done ++ x ∷ []
-  ; count = length-append (g .done) (x ∷ []) ∙ ap (λ (m : ℕ). m + 1) (g .count)
-  ; parts = g .parts ∙ ap (λ (l : List ℕ). g .done ++ l) e ∙ sym (append-assoc (g .done) (x ∷ []) rest′)
-  ; holds = rw (g .holds, ← g .count) (sym (at-more at (g .done) x before)) }
+  done = g .done ++ x ∷ [];
+  count = length-append (g .done) (x ∷ []) ∙ ap (λ (m : ℕ). m + 1) (g .count);
+  parts = g .parts ∙ ap (λ (l : List ℕ). g .done ++ l) e ∙ sym (append-assoc (g .done) (x ∷ []) rest′);
+  holds = rw (g .holds, ← g .count) (sym (at-more at (g .done) x before));
+}
 
 pub lay-next : {at i : ℕ} {b before now : List ℕ} → Going at b (drop i b) before now i → i < length b → Going at b (drop (i + 1) b) before (set now (at + i) (getD b i 0)) (i + 1)
 lay-next {i = i} {b = b} g h = lay g (rw add-one (drop-cons b i 0 h))
@@ -161,5 +170,6 @@ pub end : {at n r : ℕ} {b rest before now : List ℕ} → Going at b rest befo
 end {at} {n} {r} {b} {rest} {before} {now} g h e = record {
   laid =
       g .holds ∙ ap (λ (l : List ℕ). laidAt at l before) (sym (take-at (g .done) rest n (g .count)))
-      ∙ ap (λ (l : List ℕ). laidAt at (take n l) before) (sym (g .parts)) ∙ at-clipped at n b before h
-  ; ends = e }
+      ∙ ap (λ (l : List ℕ). laidAt at (take n l) before) (sym (g .parts)) ∙ at-clipped at n b before h;
+  ends = e;
+}

@@ -1,20 +1,21 @@
 -- The laws of lines: by their parts, their lengths, and what writers of the parts come to.
-use mathlib.Core.Path.{_≡_, _∙_, refl, sym, ap}
-use mathlib.Core.List.{List, [], _∷_, _++_, append-assoc}
+-- Assumes nothing.
+use mathlib.Core.List.{List, _++_, append-assoc}
+use mathlib.Core.Path.{_≡_, _∙_, refl, ap}
 use Prim.Native.Nat.{ℕ, zero, suc, _+_, _-_, _*_, _^_, _≤_, _<_}
 use native.Mathlib.Omega.{arith}
-use lib.ListN.{length, take, drop, length-append}
 use borrow.Rule.Slice.PartMut.{putMid}
-use lib.IntN.{ℤ}
+use lib.IntN.{ℤ, pos}
+use lib.ListN.{length, getD, take, drop, length-append}
 use mir.Syntax.{w32}
 use mir.Val.{SFits, toZ, ofZ}
 use Rattle.meaning.specs.Basics.{bytes}
-use Rattle.meaning.specs.Figure.{Figure, line, ellipse, box, text}
-use Rattle.meaning.specs.Picture.{decimal, attribute, lineOf, linesOf, pictureOf}
+use Rattle.meaning.specs.Figure.{Figure, line, ellipse, box, text, figureKind, numbersOf, textOf}
+use Rattle.meaning.specs.Picture.{decimal, attribute, lineOf}
+use Rattle.picture.specs.Parts.{figureFrom, pair, element}
 use Rattle.picture.specs.Placed.{saturated, Wrote, WroteAt}
-use Rattle.picture.specs.Parts.{figureFrom, head, tail, pair, element}
-use Rattle.picture.proofs.Laying.{then, from-front, lent, past}
 use Rattle.picture.proofs.Decimals.{decimal-some, decimal-short}
+use Rattle.picture.proofs.Laying.{then, from-front, lent, past}
 use Rattle.picture.proofs.Signs.{handed}
 
 -- ---- figures by their kind's number
@@ -37,6 +38,15 @@ figure-text zero a b c d s n₀ n₁ n₂ = absurd (n₀ refl)
 figure-text (suc zero) a b c d s n₀ n₁ n₂ = absurd (n₁ refl)
 figure-text (suc (suc zero)) a b c d s n₀ n₁ n₂ = absurd (n₂ refl)
 figure-text (suc (suc (suc k))) a b c d s n₀ n₁ n₂ = refl
+
+-- a figure is that of its own kind, numbers and text
+pub figure-parts : (a : Figure)
+    → figureFrom (figureKind a) (getD (numbersOf a) 0 (pos 0)) (getD (numbersOf a) 1 (pos 0)) (getD (numbersOf a) 2 (pos 0)) (getD (numbersOf a) 3 (pos 0)) (textOf a) ≡ a
+unfolding figureFrom figureKind numbersOf textOf
+figure-parts (line x₁ y₁ x₂ y₂) = refl
+figure-parts (ellipse x y a b) = refl
+figure-parts (box x y w h) = refl
+figure-parts (text x y s) = refl
 
 -- ---- lines by their parts
 element-of : (p q r t u : List ℕ) (a b c d : ℤ) → p ++ attribute q a ++ attribute r b ++ attribute t c ++ attribute u d ++ bytes "/>\n"
@@ -114,6 +124,10 @@ wrote-text x y {s} fx fy h k w₁ w₂ w₃ w₄ w₅ =
     from-front (omega (arith, length-text x y s))
     (rw (text-element x y s) (rw (handed x fx, handed y fy) at (then h (then h (then h (then h w₁ w₂) w₃) w₄) w₅)))
 
+numbers-some : (a b c d : ℤ) → 4 ≤ numbers a b c d
+unfolding numbers
+numbers-some a b c d = omega (arith, decimal-some a, decimal-some b, decimal-some c, decimal-some d)
+
 -- ---- the line of each kind
 numbers-short : (a b c d : ℤ) → SFits w32 a → SFits w32 b → SFits w32 c → SFits w32 d → numbers a b c d ≤ 44
 unfolding numbers
@@ -168,6 +182,20 @@ module _ (k : ℕ) (a b c d : ℤ) (s : List ℕ) {m n : ℕ} (fa : SFits w32 a)
 pub counted-other : (k : ℕ) (a b c d : ℤ) (s : List ℕ) {m : ℕ} → SFits w32 a → SFits w32 b → (k ≡ 0 → ⊥) → (k ≡ 1 → ⊥) → (k ≡ 2 → ⊥)
     → m ≡ length (decimal (seen a)) + length (decimal (seen b)) → 24 + m + length s ≡ length (lineOf (figureFrom k a b c d s))
 counted-other k a b c d s fa fb n₀ n₁ n₂ p = rw (figure-text k a b c d s n₀ n₁ n₂, length-text a b s, p, handed a fa, handed b fb) (omega arith)
+
+-- no line of numbers in range is longer, and none at all is shorter
+pub line-short : (k : ℕ) (a b c d : ℤ) (s : List ℕ) → SFits w32 a → SFits w32 b → SFits w32 c → SFits w32 d → length (lineOf (figureFrom k a b c d s)) ≤ 81 + length s
+unfolding figureFrom
+line-short zero a b c d s fa fb fc fd = omega (arith, length-line a b c d, numbers-short a b c d fa fb fc fd)
+line-short (suc zero) a b c d s fa fb fc fd = omega (arith, length-ellipse a b c d, numbers-short a b c d fa fb fc fd)
+line-short (suc (suc zero)) a b c d s fa fb fc fd = omega (arith, length-box a b c d, numbers-short a b c d fa fb fc fd)
+line-short (suc (suc (suc k))) a b c d s fa fb fc fd = omega (arith, length-text a b s, decimal-short a fa, decimal-short b fb)
+
+pub line-long : (a : Figure) → 26 ≤ length (lineOf a)
+line-long (line a b c d) = omega (arith, length-line a b c d, numbers-some a b c d)
+line-long (ellipse a b c d) = omega (arith, length-ellipse a b c d, numbers-some a b c d)
+line-long (box a b c d) = omega (arith, length-box a b c d, numbers-some a b c d)
+line-long (text x y s) = omega (arith, length-text x y s, decimal-some x, decimal-some y)
 
 -- ---- the line in the rest of a picture
 module _ (k : ℕ) (a b c d : ℤ) (s : List ℕ) {at n r : ℕ} {before : List ℕ} (fa : SFits w32 a) (fb : SFits w32 b) (fc : SFits w32 c) (fd : SFits w32 d) where

@@ -1,24 +1,23 @@
 -- A negative number's magnitude.
 -- Assumes nothing.
-use mathlib.Core.Path.{_≡_, _∙_, refl, sym, ap}
 use mathlib.Core.Bool.{Bool, true, false}
 use mathlib.Core.List.{List, [], _∷_, _++_}
-use Prim.Native.Nat.{ℕ, zero, suc, _+_, _<_, _^_, zero-le}
+use mathlib.Core.Path.{_≡_, _∙_, refl, sym, ap}
+use Prim.Native.Nat.{ℕ, suc, _+_, _<_, _^_, zero-le}
 use native.Mathlib.Nat.{zero-add}
 use native.Mathlib.Omega.{arith}
-use lib.Dec.{lit<}
+use borrow.Author.Tests.{ltb-true, le-ltb}
 use lib.IntN.{ℤ, pos, negsuc, natAbs, _-ℤ_}
+use lib.ListN.{length}
 use lib.Signed.{ltZ, mag}
 use mir.Syntax.{w32, w64}
 use mir.Val.{SFits, toZ, ofZ}
 use mir.ValLaws.{toZ-ofZ}
-use lib.ListN.{length}
 use Rattle.meaning.specs.Picture.{digitsOf, decimal}
-use Rattle.picture.specs.Placed.{Wrote, WroteAt}
-use Rattle.picture.proofs.Laying.{then, from-front}
-use Rattle.picture.proofs.Decimals.{length-last, digits-last, decimal-negative, decimal-positive, decimal-short}
-use borrow.Author.Tests.{ltb-true, le-ltb}
 use Rattle.picture.specs.Digits.{lastDigits, isNegative}
+use Rattle.picture.specs.Placed.{Wrote, WroteAt}
+use Rattle.picture.proofs.Decimals.{length-last, digits-last, decimal-negative, decimal-positive, decimal-short}
+use Rattle.picture.proofs.Laying.{then, from-front}
 
 pub wide : (x : ℤ) → SFits w32 x → SFits w64 x
 wide x f = let h : mag x < 2 ^ 31 = f .sfits in record { sfits = omega arith }

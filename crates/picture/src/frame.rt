@@ -16,9 +16,18 @@ pub fn head_length(width: i32, height: i32) -> usize
 pub fn write_head_at(out: &mut [u8], at: usize, width: i32, height: i32) -> usize
     ensures { λ r. ⌜ WroteAt at (head width height) (now (out .entry)) (now (out .exit)) r ⌝ }
 {
-    let space = write_pair_at(out, at, b"<?xml version=\"1.0\"?>\n<svg viewBox=\"0 0 ", width);
+    let space = write_pair_at(
+        out,
+        at,
+        b"<?xml version=\"1.0\"?>\n<svg viewBox=\"0 0 ",
+        width,
+    );
     let quote = write_pair_at(out, space, b" ", height);
-    write_bytes_at(out, quote, b"\" xmlns=\"http://www.w3.org/2000/svg\" version=\"1.1\">\n<g stroke=\"black\" fill=\"black\">\n")
+    write_bytes_at(
+        out,
+        quote,
+        b"\" xmlns=\"http://www.w3.org/2000/svg\" version=\"1.1\">\n<g stroke=\"black\" fill=\"black\">\n",
+    )
 }
 
 pub fn tail_length() -> usize

@@ -11,24 +11,35 @@ use crate::place::saturating_add;
 use crate::place::write_bytes_at;
 
 // An element with four numbers, each behind its byte string.
-fn write_element(out: &mut [u8], l: &[u8], a: i32, m: &[u8], b: i32, n: &[u8], c: i32, o: &[u8], d: i32) -> usize
-    ensures { λ r. ⌜ WroteAt 0 (element (now (l .entry)) a (now (m .entry)) b (now (n .entry)) c (now (o .entry)) d) (now (out .entry)) (now (out .exit)) r ⌝ }
+fn write_element(
+    out: &mut [u8],
+    first: &[u8],
+    a: i32,
+    second: &[u8],
+    b: i32,
+    third: &[u8],
+    c: i32,
+    fourth: &[u8],
+    d: i32,
+) -> usize
+    ensures { λ r. ⌜ WroteAt 0 (element (now (first .entry)) a (now (second .entry)) b (now (third .entry)) c (now (fourth .entry)) d)
+        (now (out .entry)) (now (out .exit)) r ⌝ }
 {
-    let second = write_pair_at(out, 0, l, a);
-    let third = write_pair_at(out, second, m, b);
-    let fourth = write_pair_at(out, third, n, c);
-    let end = write_pair_at(out, fourth, o, d);
-    write_bytes_at(out, end, b"\"/>\n")
+    let at_b = write_pair_at(out, 0, first, a);
+    let at_c = write_pair_at(out, at_b, second, b);
+    let at_d = write_pair_at(out, at_c, third, c);
+    let at_end = write_pair_at(out, at_d, fourth, d);
+    write_bytes_at(out, at_end, b"\"/>\n")
 }
 
 fn write_text(out: &mut [u8], x: i32, y: i32, bytes: &[u8]) -> usize
     ensures { λ r. ⌜ Wrote (lineOf (text x y (now (bytes .entry)))) (now (out .entry)) (now (out .exit)) r ⌝ }
 {
-    let second = write_pair_at(out, 0, b"<text x=\"", x);
-    let third = write_pair_at(out, second, b"\" y=\"", y);
-    let start = write_bytes_at(out, third, b"\">");
-    let end = write_bytes_at(out, start, bytes);
-    write_bytes_at(out, end, b"</text>\n")
+    let at_y = write_pair_at(out, 0, b"<text x=\"", x);
+    let at_close = write_pair_at(out, at_y, b"\" y=\"", y);
+    let at_bytes = write_bytes_at(out, at_close, b"\">");
+    let at_end = write_bytes_at(out, at_bytes, bytes);
+    write_bytes_at(out, at_end, b"</text>\n")
 }
 
 // The line of a figure, given by its kind's number, its numbers and its text. The slice is the unwritten rest of a picture.
@@ -36,9 +47,39 @@ pub fn write_line(out: &mut [u8], kind: u8, a: i32, b: i32, c: i32, d: i32, text
     ensures { λ r. ⌜ Wrote (lineOf (figureFrom kind a b c d (now (text .entry)))) (now (out .entry)) (now (out .exit)) r ⌝ }
 {
     match kind {
-        0 => write_element(out, b"<line x1=\"", a, b"\" y1=\"", b, b"\" x2=\"", c, b"\" y2=\"", d),
-        1 => write_element(out, b"<ellipse cx=\"", a, b"\" cy=\"", b, b"\" rx=\"", c, b"\" ry=\"", d),
-        2 => write_element(out, b"<rect x=\"", a, b"\" y=\"", b, b"\" width=\"", c, b"\" height=\"", d),
+        0 => write_element(
+            out,
+            b"<line x1=\"",
+            a,
+            b"\" y1=\"",
+            b,
+            b"\" x2=\"",
+            c,
+            b"\" y2=\"",
+            d,
+        ),
+        1 => write_element(
+            out,
+            b"<ellipse cx=\"",
+            a,
+            b"\" cy=\"",
+            b,
+            b"\" rx=\"",
+            c,
+            b"\" ry=\"",
+            d,
+        ),
+        2 => write_element(
+            out,
+            b"<rect x=\"",
+            a,
+            b"\" y=\"",
+            b,
+            b"\" width=\"",
+            c,
+            b"\" height=\"",
+            d,
+        ),
         _ => write_text(out, a, b, text),
     }
 }
@@ -56,7 +97,16 @@ pub fn line_length(kind: u8, a: i32, b: i32, c: i32, d: i32, text: &[u8]) -> usi
 }
 
 // The line from a place on, lent what follows the place; the place behind the line.
-pub fn write_line_at(out: &mut [u8], at: usize, kind: u8, a: i32, b: i32, c: i32, d: i32, text: &[u8]) -> usize
+pub fn write_line_at(
+    out: &mut [u8],
+    at: usize,
+    kind: u8,
+    a: i32,
+    b: i32,
+    c: i32,
+    d: i32,
+    text: &[u8],
+) -> usize
     ensures { λ r. ⌜ WroteAt at (lineOf (figureFrom kind a b c d (now (text .entry)))) (now (out .entry)) (now (out .exit)) r ⌝ }
 {
     if out.len() < at {

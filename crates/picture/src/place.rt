@@ -3,14 +3,12 @@ ghost use mathlib.Core.Path.{_≡_};
 ghost use Prim.Native.Nat.{_+_, _-_, min};
 ghost use Rattle.picture.specs.Placed.{saturated, Wrote, WroteAt};
 
+const LARGEST: usize = 0xffff_ffff_ffff_ffff;
+
 pub fn saturating_add(m: usize, n: usize) -> usize
     ensures { λ r. ⌜ r ≡ saturated (m + n) ⌝ }
 {
-    if n <= 18446744073709551615 - m {
-        m + n
-    } else {
-        18446744073709551615
-    }
+    if n <= LARGEST - m { m + n } else { LARGEST }
 }
 
 // How many of `count` bytes fit from a place on.

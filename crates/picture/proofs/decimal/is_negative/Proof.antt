@@ -1,12 +1,11 @@
+-- `picture::decimal::is_negative` meets its contract: the test is the sign's.
+-- Assumes nothing.
 use mir.Syntax.{w32}
 use mir.ValLaws.{toZ-ofZ}
 use Rattle.picture.proofs.Signs.{below-zero}
 use Rattle.picture.proofs.decimal.is_negative.Statement.{statement}
 use Rattle.picture.proofs.decimal.is_negative.Tie as tie
-use Rattle.picture.proofs.decimal.is_negative.Reads as reads
-use Rattle.picture.proofs.decimal.is_negative.Lts as lts
 
--- src/lib.rt:40:1
 returns : tie.Need-returns
 returns c = rw (toZ-ofZ w32 (c .args .z) (c .fits .z)) (below-zero (c .args .z))
 

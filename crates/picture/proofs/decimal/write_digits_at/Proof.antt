@@ -1,19 +1,14 @@
-use native.Mathlib.Nat.{sub-zero}
-use mathlib.Core.Path.{sym, _∙_, ap}
-use Rattle.picture.proofs.Decimals.{last-more, length-last}
-use Rattle.picture.specs.Digits.{lastDigits}
-use borrow.Author.Needs.{needs}
-use lib.ListN.{length, drop}
+-- `picture::decimal::write_digits_at` meets its contract: the invariant says which digits are laid and which are left.
+-- Assumes nothing.
 use Prim.Native.Nat.{_≤_, _-_}
-use Rattle.picture.proofs.Laying.{Going, begin, lay, kept, end}
+use native.Mathlib.Nat.{sub-zero}
 use native.Mathlib.Omega.{arith}
+use borrow.Author.Needs.{needs}
+use Rattle.picture.specs.Digits.{lastDigits}
+use Rattle.picture.proofs.Decimals.{last-more, length-last}
+use Rattle.picture.proofs.Laying.{Going, begin, lay, kept, end}
 use Rattle.picture.proofs.decimal.write_digits_at.Statement.{statement}
 use Rattle.picture.proofs.decimal.write_digits_at.Tie as tie
-use Rattle.picture.proofs.decimal.write_digits_at.Reads as reads
-use Rattle.picture.proofs.decimal.write_digits_at.Lts as lts
-use Rattle.picture.proofs.decimal.digit.Reads as digit-reads
-use Rattle.picture.proofs.place.room.Reads as room-reads
-use Rattle.picture.proofs.place.saturating_add.Reads as saturating-add-reads
 
 abbrev Inv-loop : tie.InvT-loop
 Inv-loop out₀ at powers n count fits i₀ out i = (i ≤ fits) × Going at (lastDigits count n) (lastDigits (count - i) n) out₀ out i
@@ -21,55 +16,42 @@ Inv-loop out₀ at powers n count fits i₀ out i = (i ≤ fits) × Going at (la
 abbrev μ-loop : tie.MeasureT-loop
 μ-loop out₀ at powers n count fits i₀ out i = fits - i
 
--- src/decimal.rt:56:9
 room-requires : tie.Need-room-requires Inv-loop μ-loop
 room-requires c κs = search needs
 
--- src/decimal.rt:58:5
 loop-holds : tie.Need-loop-holds Inv-loop μ-loop
 loop-holds c = (omega arith, rw sub-zero (begin _ _ _))
 
--- src/decimal.rt:59:40
 sub-digit : tie.Need-sub-digit Inv-loop μ-loop
 sub-digit c = omega arith
 
--- src/decimal.rt:59:40
 sub-digit-2 : tie.Need-sub-digit-2 Inv-loop μ-loop
 sub-digit-2 c = omega arith
 
--- src/decimal.rt:59:23
 digit-requires : tie.Need-digit-requires Inv-loop μ-loop
 digit-requires c κs = search needs
 
--- src/decimal.rt:59:13
 add-out : tie.Need-add-out Inv-loop μ-loop
 add-out c = omega arith
 
--- src/decimal.rt:59:9
 slice-write-out : tie.Need-slice-write-out Inv-loop μ-loop
 slice-write-out c = omega (arith, kept (c .before .before .loop .inv .1))
 
--- src/decimal.rt:60:9
 add-i : tie.Need-add-i Inv-loop μ-loop
 add-i c = omega arith
 
--- src/decimal.rt:58:5
 loop-less : tie.Need-loop-less Inv-loop μ-loop
 loop-less c = omega arith
 
--- src/decimal.rt:58:5
 loop-again : tie.Need-loop-again Inv-loop μ-loop
 loop-again c = (omega arith, lay (c .before .before .loop .inv .1) (rw (c .digit .ensures) (last-more _ _ _ (omega arith))))
 
--- src/decimal.rt:62:5
 saturating-add-requires : tie.Need-saturating-add-requires Inv-loop μ-loop
 saturating-add-requires c κs = search needs
 
--- src/decimal.rt:51:1
 same-length : tie.Need-same-length Inv-loop μ-loop
 same-length c = kept (c .before .before .loop .inv .1)
 
--- src/decimal.rt:51:1
 returns : tie.Need-returns Inv-loop μ-loop
 returns c = end (c .before .before .loop .inv .1) (rw length-last (omega arith)) (rw length-last (c .saturating-add .ensures))
 

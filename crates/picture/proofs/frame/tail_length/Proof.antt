@@ -1,11 +1,10 @@
-use Rattle.picture.proofs.Frames.{length-tail}
+-- `picture::frame::tail_length` meets its contract: the length is computed.
+-- Assumes nothing.
 use mathlib.Core.Path.{sym}
+use Rattle.picture.proofs.Frames.{length-tail}
 use Rattle.picture.proofs.frame.tail_length.Statement.{statement}
 use Rattle.picture.proofs.frame.tail_length.Tie as tie
-use Rattle.picture.proofs.frame.tail_length.Reads as reads
-use Rattle.picture.proofs.frame.tail_length.Lts as lts
 
--- src/frame.rt:24:1
 returns : tie.Need-returns
 returns c = sym length-tail
 

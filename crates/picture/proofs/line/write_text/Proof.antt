@@ -1,53 +1,40 @@
-use Rattle.picture.proofs.Lines.{wrote-text}
+-- `picture::line::write_text` meets its contract: one part after the other.
+-- Assumes nothing.
 use borrow.Author.Needs.{needs}
+use Rattle.picture.proofs.Lines.{wrote-text}
 use Rattle.picture.proofs.line.write_text.Statement.{statement}
 use Rattle.picture.proofs.line.write_text.Tie as tie
-use Rattle.picture.proofs.line.write_text.Reads as reads
-use Rattle.picture.proofs.line.write_text.Lts as lts
-use Rattle.picture.proofs.decimal.write_pair_at.Reads as write-pair-at-reads
-use Rattle.picture.proofs.place.write_bytes_at.Reads as write-bytes-at-reads
 
--- src/line.rt:37:40
 slice-aggregate-write-pair-at : tie.Need-slice-aggregate-write-pair-at
 slice-aggregate-write-pair-at c = search needs
 
--- src/line.rt:37:9
 write-pair-at-requires : tie.Need-write-pair-at-requires
 write-pair-at-requires c κs = search needs
 
--- src/line.rt:38:44
 slice-aggregate-write-pair-at-2 : tie.Need-slice-aggregate-write-pair-at-2
 slice-aggregate-write-pair-at-2 c = search needs
 
--- src/line.rt:38:9
 write-pair-at-requires-2 : tie.Need-write-pair-at-requires-2
 write-pair-at-requires-2 c κs = search needs
 
--- src/line.rt:39:44
 slice-aggregate-write-bytes-at : tie.Need-slice-aggregate-write-bytes-at
 slice-aggregate-write-bytes-at c = search needs
 
--- src/line.rt:39:9
 write-bytes-at-requires : tie.Need-write-bytes-at-requires
 write-bytes-at-requires c κs = search needs
 
--- src/line.rt:40:9
 write-bytes-at-requires-2 : tie.Need-write-bytes-at-requires-2
 write-bytes-at-requires-2 c κs = search needs
 
--- src/line.rt:41:30
 slice-aggregate-write-bytes-at-2 : tie.Need-slice-aggregate-write-bytes-at-2
 slice-aggregate-write-bytes-at-2 c = search needs
 
--- src/line.rt:41:5
 write-bytes-at-requires-3 : tie.Need-write-bytes-at-requires-3
 write-bytes-at-requires-3 c κs = search needs
 
--- src/line.rt:34:1
 same-length : tie.Need-same-length
 same-length c = search needs
 
--- src/line.rt:34:1
 returns : tie.Need-returns
 returns c = search wrote-text
 

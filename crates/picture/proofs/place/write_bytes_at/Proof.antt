@@ -1,14 +1,12 @@
-use borrow.Author.Needs.{needs}
-use lib.ListN.{length, drop}
+-- `picture::place::write_bytes_at` meets its contract: the invariant says which bytes are laid and which are left.
+-- Assumes nothing.
 use Prim.Native.Nat.{_≤_, _-_}
-use Rattle.picture.proofs.Laying.{Going, begin, lay-next, kept, end}
 use native.Mathlib.Omega.{arith}
+use borrow.Author.Needs.{needs}
+use lib.ListN.{drop}
+use Rattle.picture.proofs.Laying.{Going, begin, lay-next, kept, end}
 use Rattle.picture.proofs.place.write_bytes_at.Statement.{statement}
 use Rattle.picture.proofs.place.write_bytes_at.Tie as tie
-use Rattle.picture.proofs.place.write_bytes_at.Reads as reads
-use Rattle.picture.proofs.place.write_bytes_at.Lts as lts
-use Rattle.picture.proofs.place.room.Reads as room-reads
-use Rattle.picture.proofs.place.saturating_add.Reads as saturating-add-reads
 
 abbrev Inv-loop : tie.InvT-loop
 Inv-loop out₀ at bytes n i₀ out i = (i ≤ n) × Going at bytes (drop i bytes) out₀ out i
@@ -16,47 +14,36 @@ Inv-loop out₀ at bytes n i₀ out i = (i ≤ n) × Going at bytes (drop i byte
 abbrev μ-loop : tie.MeasureT-loop
 μ-loop out₀ at bytes n i₀ out i = n - i
 
--- src/place.rt:29:9
 room-requires : tie.Need-room-requires Inv-loop μ-loop
 room-requires c κs = search needs
 
--- src/place.rt:31:5
 loop-holds : tie.Need-loop-holds Inv-loop μ-loop
 loop-holds c = (omega arith, begin _ _ _)
 
--- src/place.rt:32:23
 shared-slice-read-out : tie.Need-shared-slice-read-out Inv-loop μ-loop
 shared-slice-read-out c = omega arith
 
--- src/place.rt:32:13
 add-out : tie.Need-add-out Inv-loop μ-loop
 add-out c = omega arith
 
--- src/place.rt:32:9
 slice-write-out : tie.Need-slice-write-out Inv-loop μ-loop
 slice-write-out c = omega (arith, kept (c .before .before .loop .inv .1))
 
--- src/place.rt:33:9
 add-i : tie.Need-add-i Inv-loop μ-loop
 add-i c = omega arith
 
--- src/place.rt:31:5
 loop-less : tie.Need-loop-less Inv-loop μ-loop
 loop-less c = omega arith
 
--- src/place.rt:31:5
 loop-again : tie.Need-loop-again Inv-loop μ-loop
 loop-again c = (omega arith, lay-next (c .before .before .loop .inv .1) (omega arith))
 
--- src/place.rt:35:5
 saturating-add-requires : tie.Need-saturating-add-requires Inv-loop μ-loop
 saturating-add-requires c κs = search needs
 
--- src/place.rt:26:1
 same-length : tie.Need-same-length Inv-loop μ-loop
 same-length c = kept (c .before .before .loop .inv .1)
 
--- src/place.rt:26:1
 returns : tie.Need-returns Inv-loop μ-loop
 returns c = end (c .before .before .loop .inv .1) (omega arith) (c .saturating-add .ensures)
 
