@@ -7,14 +7,24 @@ use Prim.Native.Nat.{ℕ, zero, suc, _+_, _-_, _/_, _%_, _^_, _≤_, _<_}
 use native.Mathlib.Nat.{one-le-pow, pow-suc, pow-succ', div-div-eq-div-mul, div-one}
 use native.Mathlib.Omega.{arith}
 use borrow.Author.Tests.{lt-ltb, le-ltb, ltb-true, ltb-false}
-use lib.Dec.{ltb, lit<}
+use lib.Dec.{ltb, eqb, eqb→eq, lit<}
 use lib.IntN.{ℤ, pos, negsuc, natAbs}
-use lib.ListN.{length, length-append}
+use lib.ListN.{length, getD, length-append}
 use mir.Syntax.{w32}
 use mir.Val.{SFits}
 use Rattle.meaning.specs.Basics.{if_then_else_}
 use Rattle.meaning.specs.Picture.{digitsWithin, digitsOf, decimal}
-use Rattle.picture.specs.Digits.{digitAt, lastDigits, isNegative}
+use Rattle.picture.specs.Digits.{tens, digitAt, lastDigits, isNegative}
+use Rattle.picture.proofs.Table.{at}
+
+-- ---- powers of ten
+-- the table's rule, by one test over its entries
+isPower : ℕ → ℕ → Bool
+isPower p x = eqb x (10 ^ p)
+
+pub tens-at : (p : ℕ) → p ≤ 9 → getD tens p 0 ≡ 10 ^ p
+unfolding isPower
+tens-at p h = eqb→eq (getD tens p 0) (10 ^ p) (at isPower tens tt p (omega arith))
 
 pub tens-positive : (p : ℕ) → 0 < 10 ^ p
 tens-positive p = one-le-pow p 10 (lit< tt)
@@ -89,7 +99,8 @@ unfolding digitsWithin if_then_else_ lastDigits
 all zero n h = absurd (omega arith)
 all (suc rounds) n h = by (ltb n 10) refl (all rounds (n / 10))
   where
-    by : (b : Bool) → ltb n 10 ≡ b → (n / 10 < rounds → lastDigits (length (digitsWithin rounds (n / 10))) (n / 10) ≡ digitsWithin rounds (n / 10))
+    by : (b : Bool) → ltb n 10 ≡ b
+        → (n / 10 < rounds → lastDigits (length (digitsWithin rounds (n / 10))) (n / 10) ≡ digitsWithin rounds (n / 10))
         → lastDigits (length (if b then (λ _. (n + 48) ∷ []) else λ _. digitsWithin rounds (n / 10) ++ ((n % 10 + 48) ∷ []))) n
         ≡ (if b then (λ _. (n + 48) ∷ []) else λ _. digitsWithin rounds (n / 10) ++ ((n % 10 + 48) ∷ []))
     by true e less =
@@ -113,7 +124,8 @@ unfolding digitsWithin if_then_else_
 short k zero n h = omega arith
 short k (suc rounds) n h = by (ltb n 10) refl k h (λ j. short j rounds (n / 10))
   where
-    by : (b : Bool) → ltb n 10 ≡ b → (k : ℕ) → n < 10 ^ suc k → ((j : ℕ) → n / 10 < 10 ^ suc j → length (digitsWithin rounds (n / 10)) ≤ suc j)
+    by : (b : Bool) → ltb n 10 ≡ b → (k : ℕ) → n < 10 ^ suc k
+        → ((j : ℕ) → n / 10 < 10 ^ suc j → length (digitsWithin rounds (n / 10)) ≤ suc j)
         → length (if b then (λ _. (n + 48) ∷ []) else λ _. digitsWithin rounds (n / 10) ++ ((n % 10 + 48) ∷ [])) ≤ suc k
     by true e k h less = omega arith
     by false e zero h less = absurd (omega (arith, ltb-false n 10 e))

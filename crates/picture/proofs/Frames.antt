@@ -2,29 +2,26 @@
 -- Assumes nothing.
 use mathlib.Core.List.{List, [], _∷_, _++_, append-assoc, append-nil}
 use mathlib.Core.Path.{_≡_, _∙_, refl, sym, ap}
-use Prim.Native.Nat.{ℕ, _+_, _^_, _<_}
+use Prim.Native.Nat.{ℕ, _+_}
 use native.Mathlib.Omega.{arith}
 use lib.IntN.{ℤ}
 use lib.ListN.{length, length-append}
-use mir.Syntax.{w32}
-use mir.Val.{SFits, toZ, ofZ}
 use Rattle.meaning.specs.Basics.{bytes}
 use Rattle.meaning.specs.Figure.{Figure}
 use Rattle.meaning.specs.Picture.{decimal, lineOf, linesOf, pictureOf}
 use Rattle.picture.specs.Parts.{head, tail, pair}
-use Rattle.picture.specs.Placed.{WroteAt}
-use Rattle.picture.proofs.Laying.{then}
-use Rattle.picture.proofs.Signs.{handed}
 
 -- ---- the head by its parts
 join : (l m n o p : List ℕ) (w h : ℤ) → l ++ m ++ decimal w ++ n ++ decimal h ++ o ++ p ≡ pair (l ++ m) w ++ pair n h ++ (o ++ p)
 join l m n o p w h = simp append-assoc
 
-head-parts : (w h : ℤ) → head w h
+pub head-parts : (w h : ℤ) → head w h
     ≡ pair (bytes "<?xml version=\"1.0\"?>\n<svg viewBox=\"0 0 ") w ++ pair (bytes " ") h
     ++ bytes "\" xmlns=\"http://www.w3.org/2000/svg\" version=\"1.1\">\n<g stroke=\"black\" fill=\"black\">\n"
 unfolding head
-head-parts w h = join (bytes "<?xml version=\"1.0\"?>\n") (bytes "<svg viewBox=\"0 0 ") (bytes " ") (bytes "\" xmlns=\"http://www.w3.org/2000/svg\" version=\"1.1\">\n")
+head-parts w h =
+    join (bytes "<?xml version=\"1.0\"?>\n") (bytes "<svg viewBox=\"0 0 ") (bytes " ")
+    (bytes "\" xmlns=\"http://www.w3.org/2000/svg\" version=\"1.1\">\n")
     (bytes "<g stroke=\"black\" fill=\"black\">\n") w h
 
 pub length-head : (w h : ℤ) → length (head w h) ≡ 125 + (length (decimal w) + length (decimal h))
@@ -49,15 +46,3 @@ pub lines-more : (figures : List Figure) (a : Figure) → linesOf (figures ++ a 
 unfolding linesOf
 lines-more [] a = append-nil (lineOf a)
 lines-more (b ∷ more) a = ap (λ (l : List ℕ). lineOf b ++ l) (lines-more more a) ∙ sym (append-assoc (lineOf b) (linesOf more) (lineOf a))
-
--- ---- writers of the parts
-module _ (w h : ℤ) (fw : SFits w32 w) (fh : SFits w32 h) where
-  pub wrote-head : {before e₁ e₂ e₃ : List ℕ} {at p₁ p₂ r : ℕ} → length before < 2 ^ 64
-      → WroteAt at (pair (bytes "<?xml version=\"1.0\"?>\n<svg viewBox=\"0 0 ") (toZ w32 (ofZ w32 w))) before e₁ p₁
-      → WroteAt p₁ (pair (bytes " ") (toZ w32 (ofZ w32 h))) e₁ e₂ p₂
-      → WroteAt p₂ (bytes "\" xmlns=\"http://www.w3.org/2000/svg\" version=\"1.1\">\n<g stroke=\"black\" fill=\"black\">\n") e₂ e₃ r
-      → WroteAt at (head w h) before e₃ r
-  wrote-head l w₁ w₂ w₃ = rw (head-parts w h) (rw (handed w fw, handed h fh) at (then l (then l w₁ w₂) w₃))
-
-  pub counted-head : {n : ℕ} → n ≡ length (decimal (toZ w32 (ofZ w32 w))) + length (decimal (toZ w32 (ofZ w32 h))) → 125 + n ≡ length (head w h)
-  counted-head e = rw (length-head w h, e, handed w fw, handed h fh)

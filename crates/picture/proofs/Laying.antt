@@ -102,7 +102,8 @@ at-saturated n b d h = by (decLt n (2 ^ 64))
 
 -- ---- writers
 -- one after the other
-pub then : {at m r : ℕ} {b e d after last : List ℕ} → length d < 2 ^ 64 → WroteAt at b d after m → WroteAt m e after last r → WroteAt at (b ++ e) d last r
+pub then : {at m r : ℕ} {b e d after last : List ℕ} → length d < 2 ^ 64 → WroteAt at b d after m → WroteAt m e after last r
+    → WroteAt at (b ++ e) d last r
 then {at} {m} {r} {b} {e} {d} {after} {last} h p q = record {
   laid =
       q .laid ∙ ap (λ (n : ℕ). laidAt n e after) (p .ends) ∙ at-saturated (at + length b) e after (rw (p .laid, length-at at b d) h)
@@ -151,7 +152,8 @@ pub begin : (at : ℕ) (b before : List ℕ) → Going at b b before before 0
 unfolding laidAt laidOver
 begin at b before = record { done = []; count = refl; parts = refl; holds = sym (take-append-drop at before) }
 
-pub lay : {at i x : ℕ} {b rest rest′ before now : List ℕ} → Going at b rest before now i → rest ≡ x ∷ rest′ → Going at b rest′ before (set now (at + i) x) (i + 1)
+pub lay : {at i x : ℕ} {b rest rest′ before now : List ℕ} → Going at b rest before now i → rest ≡ x ∷ rest′
+    → Going at b rest′ before (set now (at + i) x) (i + 1)
 lay {at} {i} {x} {b} {rest} {rest′} {before} {now} g e = record {
   done = g .done ++ x ∷ [];
   count = length-append (g .done) (x ∷ []) ∙ ap (λ (m : ℕ). m + 1) (g .count);
@@ -159,14 +161,16 @@ lay {at} {i} {x} {b} {rest} {rest′} {before} {now} g e = record {
   holds = rw (g .holds, ← g .count) (sym (at-more at (g .done) x before));
 }
 
-pub lay-next : {at i : ℕ} {b before now : List ℕ} → Going at b (drop i b) before now i → i < length b → Going at b (drop (i + 1) b) before (set now (at + i) (getD b i 0)) (i + 1)
+pub lay-next : {at i : ℕ} {b before now : List ℕ} → Going at b (drop i b) before now i → i < length b
+    → Going at b (drop (i + 1) b) before (set now (at + i) (getD b i 0)) (i + 1)
 lay-next {i = i} {b = b} g h = lay g (rw add-one (drop-cons b i 0 h))
 
 pub kept : {at i : ℕ} {b rest before now : List ℕ} → Going at b rest before now i → length now ≡ length before
 kept {at} {i} {b} {rest} {before} g = rw (g .holds) (length-at at (g .done) before)
 
 -- as many as there is room for are laid
-pub end : {at n r : ℕ} {b rest before now : List ℕ} → Going at b rest before now n → n ≡ min (length b) (length before - at) → r ≡ saturated (at + length b) → WroteAt at b before now r
+pub end : {at n r : ℕ} {b rest before now : List ℕ} → Going at b rest before now n → n ≡ min (length b) (length before - at)
+    → r ≡ saturated (at + length b) → WroteAt at b before now r
 end {at} {n} {r} {b} {rest} {before} {now} g h e = record {
   laid =
       g .holds ∙ ap (λ (l : List ℕ). laidAt at l before) (sym (take-at (g .done) rest n (g .count)))

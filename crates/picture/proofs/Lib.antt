@@ -4,3 +4,4 @@ pub mod Lines
 pub mod Frames
 mod Table
 mod Signs
+mod Writers

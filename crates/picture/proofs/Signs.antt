@@ -1,72 +1,80 @@
--- A negative number's magnitude.
+-- Signed numbers as the machine has them.
 -- Assumes nothing.
-use mathlib.Core.Bool.{Bool, true, false}
-use mathlib.Core.List.{List, [], _∷_, _++_}
-use mathlib.Core.Path.{_≡_, _∙_, refl, sym, ap}
+use mathlib.Core.Bool.{true, false}
+use mathlib.Core.Path.{_≡_, _∙_, refl, ap}
 use Prim.Native.Nat.{ℕ, suc, _+_, _<_, _^_, zero-le}
 use native.Mathlib.Nat.{zero-add}
 use native.Mathlib.Omega.{arith}
 use borrow.Author.Tests.{ltb-true, le-ltb}
+use lib.Dec.{T}
 use lib.IntN.{ℤ, pos, negsuc, natAbs, _-ℤ_}
-use lib.ListN.{length}
-use lib.Signed.{ltZ, mag}
+use lib.Signed.{ltZ, mag, nonNeg}
 use mir.Syntax.{w32, w64}
-use mir.Val.{SFits, toZ, ofZ}
+use mir.Val.{Fits, SFits, toZ, ofZ}
 use mir.ValLaws.{toZ-ofZ}
-use Rattle.meaning.specs.Picture.{digitsOf, decimal}
-use Rattle.picture.specs.Digits.{lastDigits, isNegative}
-use Rattle.picture.specs.Placed.{Wrote, WroteAt}
-use Rattle.picture.proofs.Decimals.{length-last, digits-last, decimal-negative, decimal-positive, decimal-short}
-use Rattle.picture.proofs.Laying.{then, from-front}
+use Rattle.picture.specs.Digits.{isNegative}
 
-pub wide : (x : ℤ) → SFits w32 x → SFits w64 x
-wide x f = let h : mag x < 2 ^ 31 = f .sfits in record { sfits = omega arith }
+-- a number as a call hands it on: its bits, read back
+abbrev pub seen : ℤ → ℤ
+seen z = toZ w32 (ofZ w32 z)
 
-pub record Flipped (x : ℤ) : Type 0 where
-  pub fits : SFits w64 (pos 0 -ℤ x)
-  pub is : pos 0 -ℤ x ≡ pos (natAbs x)
-  pub small : natAbs x < 2 ^ 32
+pub handed : (z : ℤ) → SFits w32 z → seen z ≡ z
+handed z f = toZ-ofZ w32 z f
 
-pub flip : (x : ℤ) → SFits w32 x → ltZ x (pos 0) ≡ true → Flipped x
-flip (pos n) f e = let h = ltb-true n 0 e in absurd (omega arith)
-flip (negsuc n) f e =
-    let h : n < 2 ^ 31 = f .sfits in
-    record { fits = record { sfits = (let q : 0 + suc n < 2 ^ 63 = omega arith in q) }; is = ap pos (zero-add (suc n)); small = omega arith }
-
-pub plain : (x : ℤ) → SFits w32 x → ltZ x (pos 0) ≡ false → (n : ℕ) × (x ≡ pos n) × (n < 2 ^ 31)
-plain (pos n) f e = (n, refl, f .sfits)
-plain (negsuc n) f e = let z : true ≡ false = e in let y : _≡_ {A = ℕ} 0 1 = cc in absurd (omega arith)
-
-pub below-zero : (x : ℤ) → ltZ x (pos 0) ≡ isNegative x
+-- ---- signs
+below-zero : (z : ℤ) → ltZ z (pos 0) ≡ isNegative z
 below-zero (pos n) = le-ltb n 0 zero-le
 below-zero (negsuc n) = refl
 
--- a number as a call hands it on
-pub handed : (z : ℤ) → SFits w32 z → toZ w32 (ofZ w32 z) ≡ z
-handed z f = toZ-ofZ w32 z f
+pub sign : (z : ℤ) → SFits w32 z → ltZ (seen z) (pos 0) ≡ isNegative z
+sign z f = rw (handed z f) (below-zero z)
 
--- ---- what the parts come to
-module _ (z : ℤ) {n count : ℕ} {t : Bool} (f : SFits w32 z) (m : n ≡ natAbs (toZ w32 (ofZ w32 z))) (k : count ≡ length (digitsOf n)) (s : t ≡ isNegative (toZ w32 (ofZ w32 z))) where
-  spelled : lastDigits count n ≡ digitsOf (natAbs z)
-  spelled = rw (k, digits-last n, m, handed z f)
+-- ---- the opposite of a negative number, by 64 bits
+wide : (z : ℤ) → SFits w32 z → SFits w64 z
+wide z f = let h : mag z < 2 ^ 31 = f .sfits in record { sfits = omega arith }
 
-  split : t ≡ true → decimal z ≡ (45 ∷ []) ++ lastDigits count n
-  split e = rw (decimal-negative z (sym (s ∙ ap isNegative (handed z f)) ∙ e), spelled)
+abbrev doubled : ℤ → ℤ
+doubled z = toZ w64 (ofZ w64 z)
 
-  whole : t ≡ false → decimal z ≡ lastDigits count n
-  whole e = rw (decimal-positive z (sym (s ∙ ap isNegative (handed z f)) ∙ e), spelled)
+record Flipped (z : ℤ) : Type 0 where
+  pub fits : SFits w64 (pos 0 -ℤ z)
+  pub is : pos 0 -ℤ z ≡ pos (natAbs z)
+  pub small : natAbs z < 2 ^ 32
 
-  pub length-negative : t ≡ true → count + 1 ≡ length (decimal z)
-  length-negative e = rw (split e, length-last count n) (omega arith)
+flip : (z : ℤ) → SFits w32 z → ltZ z (pos 0) ≡ true → Flipped z
+flip (pos n) f e = let h = ltb-true n 0 e in absurd (omega arith)
+flip (negsuc n) f e =
+    let h : n < 2 ^ 31 = f .sfits in
+    let q : 0 + suc n < 2 ^ 63 = omega arith in
+    record { fits = record { sfits = q }; is = ap pos (zero-add (suc n)); small = omega arith }
 
-  pub length-positive : t ≡ false → count ≡ length (decimal z)
-  length-positive e = rw (whole e, length-last count n)
+module _ (z : ℤ) (f : SFits w32 z) where
+  pub wide-seen : SFits w64 (seen z)
+  wide-seen = rw (handed z f) (wide z f)
 
-  pub wrote-negative : t ≡ true → {at next r : ℕ} {d after last : List ℕ} → length d < 2 ^ 64 → WroteAt at (45 ∷ []) d after next → WroteAt next (lastDigits count n) after last r → WroteAt at (decimal z) d last r
-  wrote-negative e h p q = rw (split e) (then h p q)
+  same : doubled (seen z) ≡ z
+  same = toZ-ofZ w64 (seen z) wide-seen ∙ handed z f
 
-  pub wrote-positive : t ≡ false → {at r : ℕ} {d last : List ℕ} → WroteAt at (lastDigits count n) d last r → WroteAt at (decimal z) d last r
-  wrote-positive e p = rw (whole e) p
+  flipped : ltZ (seen z) (pos 0) ≡ true → Flipped z
+  flipped e = flip z f (rw (handed z f) at e)
 
-pub front-decimal : (z : ℤ) {r : ℕ} {d after : List ℕ} → SFits w32 z → WroteAt 0 (decimal (toZ w32 (ofZ w32 z))) d after r → Wrote (decimal z) d after r
-front-decimal z f p = let h = decimal-short z f in from-front (omega arith) (rw (handed z f) at p)
+  pub opposite-fits : ltZ (seen z) (pos 0) ≡ true → SFits w64 (pos 0 -ℤ doubled (seen z))
+  opposite-fits e = rw same (flipped e .fits)
+
+  back : ltZ (seen z) (pos 0) ≡ true → doubled (pos 0 -ℤ doubled (seen z)) ≡ pos (natAbs z)
+  back e = toZ-ofZ w64 (pos 0 -ℤ doubled (seen z)) (opposite-fits e) ∙ ap (λ (x : ℤ). pos 0 -ℤ x) same ∙ flipped e .is
+
+  pub opposite-cast : ltZ (seen z) (pos 0) ≡ true
+      → T (nonNeg (doubled (pos 0 -ℤ doubled (seen z)))) × Fits w32 (natAbs (doubled (pos 0 -ℤ doubled (seen z))))
+  opposite-cast e = rw (back e) (tt, record { fits = flipped e .small })
+
+  pub opposite-is : ltZ (seen z) (pos 0) ≡ true → natAbs (doubled (pos 0 -ℤ doubled (seen z))) ≡ natAbs z
+  opposite-is e = ap natAbs (back e)
+
+-- ---- a number that is not negative
+plain : (z : ℤ) → SFits w32 z → ltZ z (pos 0) ≡ false → T (nonNeg z) × Fits w32 (natAbs z)
+plain (pos n) f e = let h : n < 2 ^ 31 = f .sfits in (tt, record { fits = omega arith })
+plain (negsuc n) f e = let z : true ≡ false = e in let y : _≡_ {A = ℕ} 0 1 = cc in absurd (omega arith)
+
+pub plain-cast : (z : ℤ) → SFits w32 z → ltZ (seen z) (pos 0) ≡ false → T (nonNeg (seen z)) × Fits w32 (natAbs (seen z))
+plain-cast z f e = rw (handed z f) (plain z f (rw (handed z f) at e))

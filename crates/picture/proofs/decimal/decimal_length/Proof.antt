@@ -4,7 +4,7 @@ use Prim.Native.Nat.{_≤_}
 use native.Mathlib.Omega.{arith}
 use borrow.Author.Needs.{needs}
 use Rattle.picture.proofs.Decimals.{digits-limit}
-use Rattle.picture.proofs.Signs.{length-negative, length-positive}
+use Rattle.picture.proofs.Writers.{length-negative, length-positive}
 use Rattle.picture.proofs.decimal.decimal_length.Statement.{statement}
 use Rattle.picture.proofs.decimal.decimal_length.Tie as tie
 

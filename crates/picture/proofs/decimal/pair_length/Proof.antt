@@ -3,7 +3,7 @@
 use Prim.Native.Nat.{_+_, _≤_}
 use native.Mathlib.Omega.{arith}
 use borrow.Author.Needs.{needs}
-use Rattle.picture.proofs.Lines.{length-pair, pair-short}
+use Rattle.picture.proofs.Writers.{length-pair, pair-short}
 use Rattle.picture.proofs.decimal.pair_length.Statement.{statement}
 use Rattle.picture.proofs.decimal.pair_length.Tie as tie
 

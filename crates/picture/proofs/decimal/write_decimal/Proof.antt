@@ -1,7 +1,7 @@
 -- `picture::decimal::write_decimal` meets its contract: a decimal is short enough to be counted.
 -- Assumes nothing.
 use borrow.Author.Needs.{needs}
-use Rattle.picture.proofs.Signs.{front-decimal}
+use Rattle.picture.proofs.Writers.{front-decimal}
 use Rattle.picture.proofs.decimal.write_decimal.Statement.{statement}
 use Rattle.picture.proofs.decimal.write_decimal.Tie as tie
 

@@ -3,7 +3,7 @@
 use mathlib.Core.Path.{refl}
 use borrow.Author.Needs.{needs}
 use Rattle.picture.proofs.Decimals.{digits-limit}
-use Rattle.picture.proofs.Signs.{wrote-negative, wrote-positive}
+use Rattle.picture.proofs.Writers.{wrote-negative, wrote-positive}
 use Rattle.picture.proofs.decimal.write_decimal_at.Statement.{statement}
 use Rattle.picture.proofs.decimal.write_decimal_at.Tie as tie
 

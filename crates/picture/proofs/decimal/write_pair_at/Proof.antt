@@ -1,7 +1,7 @@
 -- `picture::decimal::write_pair_at` meets its contract: one after the other.
 -- Assumes nothing.
 use borrow.Author.Needs.{needs}
-use Rattle.picture.proofs.Lines.{wrote-pair}
+use Rattle.picture.proofs.Writers.{wrote-pair}
 use Rattle.picture.proofs.decimal.write_pair_at.Statement.{statement}
 use Rattle.picture.proofs.decimal.write_pair_at.Tie as tie
 

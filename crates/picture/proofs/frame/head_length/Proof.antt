@@ -1,7 +1,7 @@
 -- `picture::frame::head_length` meets its contract: by the head's parts.
 -- Assumes nothing.
 use borrow.Author.Needs.{needs}
-use Rattle.picture.proofs.Frames.{counted-head}
+use Rattle.picture.proofs.Writers.{counted-head}
 use Rattle.picture.proofs.frame.head_length.Statement.{statement}
 use Rattle.picture.proofs.frame.head_length.Tie as tie
 

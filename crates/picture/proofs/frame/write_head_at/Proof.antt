@@ -1,7 +1,7 @@
 -- `picture::frame::write_head_at` meets its contract: by the head's parts.
 -- Assumes nothing.
 use borrow.Author.Needs.{needs}
-use Rattle.picture.proofs.Frames.{wrote-head}
+use Rattle.picture.proofs.Writers.{wrote-head}
 use Rattle.picture.proofs.frame.write_head_at.Statement.{statement}
 use Rattle.picture.proofs.frame.write_head_at.Tie as tie
 

@@ -1,7 +1,7 @@
 -- `picture::line::line_length` meets its contract: by the kind.
 -- Assumes nothing.
 use borrow.Author.Needs.{needs}
-use Rattle.picture.proofs.Lines.{counted-line, counted-ellipse, counted-box, counted-other}
+use Rattle.picture.proofs.Writers.{counted-line, counted-ellipse, counted-box, counted-other}
 use Rattle.picture.proofs.line.line_length.Statement.{statement}
 use Rattle.picture.proofs.line.line_length.Tie as tie
 

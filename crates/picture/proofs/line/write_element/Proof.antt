@@ -1,7 +1,7 @@
 -- `picture::line::write_element` meets its contract: one part after the other.
 -- Assumes nothing.
 use borrow.Author.Needs.{needs}
-use Rattle.picture.proofs.Lines.{wrote-element}
+use Rattle.picture.proofs.Writers.{wrote-element}
 use Rattle.picture.proofs.line.write_element.Statement.{statement}
 use Rattle.picture.proofs.line.write_element.Tie as tie
 

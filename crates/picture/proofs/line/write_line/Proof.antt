@@ -1,7 +1,7 @@
 -- `picture::line::write_line` meets its contract: by the kind.
 -- Assumes nothing.
 use borrow.Author.Needs.{needs}
-use Rattle.picture.proofs.Lines.{wrote-line, wrote-ellipse, wrote-box, wrote-other}
+use Rattle.picture.proofs.Writers.{wrote-line, wrote-ellipse, wrote-box, wrote-other}
 use Rattle.picture.proofs.line.write_line.Statement.{statement}
 use Rattle.picture.proofs.line.write_line.Tie as tie
 

@@ -1,7 +1,7 @@
 -- `picture::line::write_line_at` meets its contract: what is laid over the rest is laid from the place on.
 -- Assumes nothing.
 use borrow.Author.Needs.{needs}
-use Rattle.picture.proofs.Lines.{lent-line, past-line}
+use Rattle.picture.proofs.Writers.{lent-line, past-line}
 use Rattle.picture.proofs.line.write_line_at.Statement.{statement}
 use Rattle.picture.proofs.line.write_line_at.Tie as tie
 

@@ -1,7 +1,7 @@
 -- `picture::line::write_text` meets its contract: one part after the other.
 -- Assumes nothing.
 use borrow.Author.Needs.{needs}
-use Rattle.picture.proofs.Lines.{wrote-text}
+use Rattle.picture.proofs.Writers.{wrote-text}
 use Rattle.picture.proofs.line.write_text.Statement.{statement}
 use Rattle.picture.proofs.line.write_text.Tie as tie
 
