@@ -7,6 +7,7 @@ use crate::decimal::pair_length;
 use crate::decimal::write_pair_at;
 use crate::place::write_bytes_at;
 
+// Its fixed bytes, and those of its two numbers.
 pub fn head_length(width: i32, height: i32) -> usize
     ensures { λ r. ⌜ r ≡ length (head width height) ⌝ }
 {
