@@ -1,0 +1,117 @@
+// The lines of shapes.
+ghost use mathlib.Core.Path.{_≡_};
+ghost use lib.ListN.{length};
+ghost use Rattle.meaning.specs.Figure.{text};
+ghost use Rattle.meaning.specs.Picture.{lineOf};
+ghost use Rattle.picture.specs.Placed.{Wrote, WroteAt};
+ghost use Rattle.picture.specs.Parts.{figureFrom, element};
+use crate::decimal::pair_length;
+use crate::decimal::write_pair_at;
+use crate::place::saturating_add;
+use crate::place::write_bytes_at;
+
+// An element with four numbers, each behind its byte string.
+fn write_element(
+    out: &mut [u8],
+    first: &[u8],
+    a: i32,
+    second: &[u8],
+    b: i32,
+    third: &[u8],
+    c: i32,
+    fourth: &[u8],
+    d: i32,
+) -> usize
+    ensures { λ r. ⌜ WroteAt 0 (element (now (first .entry)) a (now (second .entry)) b (now (third .entry)) c (now (fourth .entry)) d)
+        (now (out .entry)) (now (out .exit)) r ⌝ }
+{
+    let at_b = write_pair_at(out, 0, first, a);
+    let at_c = write_pair_at(out, at_b, second, b);
+    let at_d = write_pair_at(out, at_c, third, c);
+    let at_end = write_pair_at(out, at_d, fourth, d);
+    write_bytes_at(out, at_end, b"\"/>\n")
+}
+
+fn write_text(out: &mut [u8], x: i32, y: i32, bytes: &[u8]) -> usize
+    ensures { λ r. ⌜ Wrote (lineOf (text x y (now (bytes .entry)))) (now (out .entry)) (now (out .exit)) r ⌝ }
+{
+    let at_y = write_pair_at(out, 0, b"<text x=\"", x);
+    let at_close = write_pair_at(out, at_y, b"\" y=\"", y);
+    let at_bytes = write_bytes_at(out, at_close, b"\">");
+    let at_end = write_bytes_at(out, at_bytes, bytes);
+    write_bytes_at(out, at_end, b"</text>\n")
+}
+
+// The line of a figure, given by its kind's number, its numbers and its text. The slice is the unwritten rest of a picture.
+pub fn write_line(out: &mut [u8], kind: u8, a: i32, b: i32, c: i32, d: i32, text: &[u8]) -> usize
+    ensures { λ r. ⌜ Wrote (lineOf (figureFrom kind a b c d (now (text .entry)))) (now (out .entry)) (now (out .exit)) r ⌝ }
+{
+    match kind {
+        0 => write_element(
+            out,
+            b"<line x1=\"",
+            a,
+            b"\" y1=\"",
+            b,
+            b"\" x2=\"",
+            c,
+            b"\" y2=\"",
+            d,
+        ),
+        1 => write_element(
+            out,
+            b"<ellipse cx=\"",
+            a,
+            b"\" cy=\"",
+            b,
+            b"\" rx=\"",
+            c,
+            b"\" ry=\"",
+            d,
+        ),
+        2 => write_element(
+            out,
+            b"<rect x=\"",
+            a,
+            b"\" y=\"",
+            b,
+            b"\" width=\"",
+            c,
+            b"\" height=\"",
+            d,
+        ),
+        _ => write_text(out, a, b, text),
+    }
+}
+
+// How many bytes the line of a figure has: those of every line of its kind, and those of its numbers and text.
+pub fn line_length(kind: u8, a: i32, b: i32, c: i32, d: i32, text: &[u8]) -> usize
+    ensures { λ r. ⌜ r ≡ length (lineOf (figureFrom kind a b c d (now (text .entry)))) ⌝ }
+{
+    match kind {
+        0 => 32 + pair_length(a, b) + pair_length(c, d),
+        1 => 35 + pair_length(a, b) + pair_length(c, d),
+        2 => 37 + pair_length(a, b) + pair_length(c, d),
+        _ => 24 + pair_length(a, b) + text.len(),
+    }
+}
+
+// The line from a place on, lent what follows the place; the place behind the line.
+pub fn write_line_at(
+    out: &mut [u8],
+    at: usize,
+    kind: u8,
+    a: i32,
+    b: i32,
+    c: i32,
+    d: i32,
+    text: &[u8],
+) -> usize
+    ensures { λ r. ⌜ WroteAt at (lineOf (figureFrom kind a b c d (now (text .entry)))) (now (out .entry)) (now (out .exit)) r ⌝ }
+{
+    if out.len() < at {
+        return saturating_add(at, line_length(kind, a, b, c, d, text));
+    }
+    let filled = write_line(&mut out[at..], kind, a, b, c, d, text);
+    saturating_add(at, filled)
+}
