@@ -1,8 +1,12 @@
 // Reading a program: its tokens, its names, its grammar.
+use expressions::token;
 use lexer::Tokens;
 use statements::Parsed;
 ghost use mathlib.Core.Path.{_≡_};
+ghost use lib.ListN.{getD};
+ghost use Rattle.meaning.specs.Basics.{bytes, sameText};
 ghost use Rattle.meaning.specs.Grammar.{reading};
+ghost use Rattle.lexer.specs.Words.{tokenIn};
 ghost use Rattle.reader.specs.Reading.{Lent, Worded, tokensIn, seen, coded, placeAmong};
 
 // A program that was read: how many parameters main has, the slots of the first two, and how many words its code has. Or a number and its place.
@@ -43,8 +47,10 @@ fn parse(program: &[u8], tokens: &mut [u64], code: &mut [u64]) -> Program
 }
 
 // Whether the second token is spelled main.
-fn is_main(program: &[u8], tokens: &[u64]) -> bool {
-    let w = lexer::word_at(tokens, tokens.len(), 1);
+fn is_main(program: &[u8], tokens: &[u64]) -> bool
+    ensures { λ r. ⌜ r ≡ sameText (tokenIn (now (program .entry)) (getD (now (tokens .entry)) 1 0) .text) (bytes "main") ⌝ }
+{
+    let w = token::word_at(tokens, 1);
     lexer::same_text(lexer::token_text(program, w), b"main")
 }
 
