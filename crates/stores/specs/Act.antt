@@ -90,6 +90,10 @@ pub record Answers (before : List ℕ) (act : Act Value) (answer : Answer) (afte
 pub record Passes (before : List ℕ) (number : ℕ) (act : ℕ → Act (Unit {0})) (ok : Bool) (after : List ℕ) : Type 0 where
   pub equal : (p : ℕ) (ts : List ℕ) → passed ok number p ts after ≡ act p (raw ts before)
 
+-- (the same where it is handed the text store too),
+pub record PassesIn (ts before : List ℕ) (number : ℕ) (act : ℕ → Act (Unit {0})) (ok : Bool) (after : List ℕ) : Type 0 where
+  pub equal : (p : ℕ) → passed ok number p ts after ≡ act p (raw ts before)
+
 -- pays (a shortage may have any number),
 pub record Pays (before : List ℕ) (counter granted amount : ℕ) (ok : Bool) (after : List ℕ) : Type 0 where
   pub equal : (n p : ℕ) (ts : List ℕ) → passed ok n p ts after ≡ spend counter granted amount n p (raw ts before)

@@ -12,7 +12,7 @@ ghost use Rattle.stores.specs.Act.{Answers, Gives};
 ghost use Rattle.stores.specs.Shapes.{firstWord, pairWord, figureLaid, lowNumber, highNumber, destroyedAt, figureAt, newShape, destroyedWord, destroy};
 
 // Where a shape's words stand.
-fn place_of(i: u32) -> usize
+pub fn place_of(i: u32) -> usize
     ensures { λ r. ⌜ r ≡ shapePlace i ⌝ }
 {
     24584 + 3 * (i as usize)

@@ -1,0 +1,4 @@
+pub mod KeyLaws
+pub mod HashLaws
+pub mod IndexLaws
+pub mod EntryLaws

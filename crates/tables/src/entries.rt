@@ -1,0 +1,166 @@
+// Look-up and update.
+use crate::hashes;
+use crate::keys;
+use values::Answer;
+ghost use Prim.Native.Nat.{_+_, _^_, _≤_, _<_};
+ghost use mathlib.Core.Path.{_≡_};
+ghost use lib.ListN.{length, getD};
+ghost use Rattle.stores.specs.Layout.{entryPlace};
+ghost use Rattle.stores.specs.Act.{raw, shown, PassesIn};
+ghost use Rattle.stores.specs.Tables.{findEntry, readEntry, bucketOf, Looks, entryLaid, addEntry, storeEntry};
+ghost use Rattle.tables.specs.Asked.{matchesAt, Puts};
+
+fn entry_place(grants: &[u64; 4], k: usize) -> usize
+    requires { ⌜ (getD (now grants) 1 0 < 2 ^ 16) × (k < 2 ^ 16) ⌝ }
+    ensures { λ r. ⌜ r ≡ entryPlace (now (grants .entry)) k ⌝ }
+{
+    24584 + 3 * (grants[1] as usize) + 4 * k
+}
+
+// The bucket of a table and a key.
+fn bucket<'a>(
+    program: &'a [u8],
+    texts: &'a [u8],
+    words: &[u64],
+    grants: &[u64; 4],
+    t: u32,
+    key: u64,
+) -> usize
+    requires { ⌜ getD (now grants) 2 0 < 2 ^ 16 ⌝ }
+    ensures { λ r. ⌜ r ≡ bucketOf (now (program .entry)) (now (grants .entry)) (now (texts .entry)) (now (words .entry)) t key ⌝ }
+{
+    let size = grants[2];
+    let h = hashes::hash_key(program, texts, words, t, key);
+    (h as u64 * 2654435769 % 4294967296 * size / 4294967296) as usize
+}
+
+// Whether the entry at a place has an owner and a key.
+fn entry_matches<'a>(
+    program: &'a [u8],
+    texts: &'a [u8],
+    words: &[u64],
+    at: usize,
+    t: u32,
+    key: u64,
+) -> bool
+    requires { ⌜ at + 2 ≤ length (now words) ⌝ }
+    ensures { λ r. ⌜ r ≡ matchesAt (now (program .entry)) (now (texts .entry)) (now (words .entry)) at t key ⌝ }
+{
+    if words[at] % 1099511627776 != t as u64 {
+        return false;
+    }
+    keys::same_key(program, texts, words, words[at + 1], key)
+}
+
+// The place behind the entry of a table with a key; 0 if there is none.
+pub fn find_entry<'a>(
+    program: &'a [u8],
+    texts: &'a [u8],
+    words: &[u64],
+    grants: &[u64; 4],
+    t: u32,
+    key: u64,
+) -> usize
+    requires { ⌜ Looks (now program) (now grants) (now texts) (now words) ⌝ }
+    ensures { λ r. ⌜ r ≡ findEntry (now (program .entry)) (now (grants .entry)) (now (texts .entry)) (now (words .entry)) t key ⌝ }
+{
+    if grants[2] == 0 {
+        return 0;
+    }
+    let base = entry_place(grants, 0);
+    let b = bucket(program, texts, words, grants, t, key);
+    let mut k = words[base + 4 * b + 3] as usize;
+    while 0 < k {
+        let at = base + 4 * (k - 1);
+        if entry_matches(program, texts, words, at, t, key) {
+            return k;
+        }
+        k = (words[at] / 1099511627776) as usize;
+    }
+    0
+}
+
+// The value of an entry: 20 if there is none, 30 if it is a destroyed shape.
+pub fn read_entry<'a>(
+    program: &'a [u8],
+    texts: &'a [u8],
+    words: &[u64],
+    grants: &[u64; 4],
+    p: u64,
+    t: u32,
+    key: u64,
+) -> Answer
+    requires { ⌜ Looks (now program) (now grants) (now texts) (now words) ⌝ }
+    ensures { λ r. ⌜ shown r (now (texts .entry)) (now (words .entry)) ≡ readEntry (now (program .entry)) (now (grants .entry)) p t key (raw (now (texts .entry)) (now (words .entry))) ⌝ }
+{
+    let k = find_entry(program, texts, words, grants, t, key);
+    if k == 0 {
+        return Answer::Bad(20, p);
+    }
+    let w = words[entry_place(grants, k - 1) + 2];
+    if stores::variables::is_dead(words, w) {
+        return Answer::Bad(30, p);
+    }
+    Answer::Good(values::unpack(w))
+}
+
+// An entry's words at a place, first in the bucket whose head stands at another.
+fn put_entry(words: &mut [u64], at: usize, head: usize, t: u32, key: u64, value: u64, number: u64)
+    requires { ⌜ Puts (now words) at head ⌝ }
+    ensures { λ _. ⌜ now (words .exit) ≡ entryLaid (now (words .entry)) at head t key value number ⌝ }
+{
+    let link = words[head];
+    words[at] = t as u64 + 1099511627776 * link;
+    words[at + 1] = key;
+    words[at + 2] = value;
+    words[head] = number;
+}
+
+// A new entry; not if none is left.
+fn add_entry<'a>(
+    program: &'a [u8],
+    texts: &'a [u8],
+    words: &mut [u64],
+    grants: &[u64; 4],
+    t: u32,
+    key: u64,
+    value: u64,
+) -> bool
+    requires { ⌜ Looks (now program) (now grants) (now texts) (now words) ⌝ }
+    ensures { λ r. ⌜ PassesIn (now (texts .entry)) (now (words .entry)) 77 (addEntry (now (program .entry)) (now (grants .entry)) t key value) r (now (words .exit)) ⌝ }
+{
+    let n = words[2];
+    let size = grants[2];
+    if size <= n {
+        return false;
+    }
+    let b = bucket(program, texts, words, grants, t, key);
+    let at = entry_place(grants, n as usize);
+    let head = entry_place(grants, b) + 3;
+    words[2] = n + 1;
+    put_entry(words, at, head, t, key, value, n + 1);
+    true
+}
+
+// Overwrites the value of an entry, or adds one; not if none is left.
+pub fn store_entry<'a>(
+    program: &'a [u8],
+    texts: &'a [u8],
+    words: &mut [u64],
+    grants: &[u64; 4],
+    t: u32,
+    key: u64,
+    value: u64,
+) -> bool
+    requires { ⌜ Looks (now program) (now grants) (now texts) (now words) ⌝ }
+    ensures { λ r. ⌜ PassesIn (now (texts .entry)) (now (words .entry)) 77 (storeEntry (now (program .entry)) (now (grants .entry)) t key value) r (now (words .exit)) ⌝ }
+{
+    let k = find_entry(program, texts, words, grants, t, key);
+    if k == 0 {
+        let ok = add_entry(program, texts, words, grants, t, key, value);
+        return ok;
+    }
+    let at = entry_place(grants, k - 1);
+    words[at + 2] = value;
+    true
+}
