@@ -62,7 +62,7 @@ evaluateBy inner e w x p =
     else λ _. if eqb (tagIn w) tagName then (λ _. variable p (numberIn w))
     else λ _. if eqb (tagIn w) tagTable then (λ _. inner (x - 1) p >>= λ v. withInteger p v (sized p))
     else λ _. if eqb (tagIn w) tagEntry then (λ _.
-    inner (x - 1 - numberIn w) p >>= λ v. withTable p v λ t. inner (x - 1) p >>= λ k. readEntry (e .program) (e .grants) p t (through k))
+    inner (x - 1 - numberIn w) p >>= λ v. withTable p v λ t. inner (x - 1) p >>= λ k. readEntry (e .program) (e .grants) p t (packed k))
     else λ _. if eqb (tagIn w) tagCall then (λ _. calling inner e w x p)
     else λ _. inner (x - 1 - numberIn w) p >>= λ v. inner (x - 1) p >>= λ u. operate e (tagIn w) p (through v) (through u)
 

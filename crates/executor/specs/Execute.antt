@@ -8,13 +8,14 @@ use Rattle.meaning.specs.Basics.{if_then_else_}
 use Rattle.code.specs.Code.{tagIn, sizeIn, numberIn, tagDeclare, tagAssign, tagUpdate, tagWhen, tagWhile, tagReturn, tagBlock}
 use Rattle.values.specs.declared.Value.{Value}
 use Rattle.values.specs.declared.Value.the-variants.{Integer, Text, Boolean, Nothing, Table, Shape}
+use Rattle.values.specs.Words.{packed}
 use Rattle.stores.specs.Layout.{valuePlace, stepsGranted}
 use Rattle.stores.specs.Act.{Raw, raw, Out, done, stop, Act, _>>=_, _>>_, give, fail, refuse, load, count}
 use Rattle.stores.specs.Shapes.{figureAt, newShape}
 use Rattle.stores.specs.Variables.{declare, setVariable}
 use Rattle.stores.specs.Tables.{storeEntry}
 use Rattle.operators.specs.Operate.{Setting, withBoolean, withTable}
-use Rattle.evaluator.specs.Evaluate.{through, evaluateAt}
+use Rattle.evaluator.specs.Evaluate.{evaluateAt}
 use Rattle.executor.specs.declared.Flow.{Flow}
 use Rattle.executor.specs.declared.Flow.the-variants.{Onward, Returned, Stopped}
 
@@ -58,7 +59,7 @@ assigning e p slot v = do
   w ← load (valuePlace slot)
   refuse (eqb w 0) 50 p
   u ← copied e p v
-  setVariable slot u
+  setVariable slot (packed u)
   give Onward
 
 -- a.b = c, by the root of c
@@ -68,7 +69,7 @@ updating e c p =
     let a = b - sizeAt e b in
     valueOf e a p >>= λ v. withTable p v λ t.
     valueOf e b p >>= λ k. valueOf e c p >>= λ u.
-    storeEntry (e .program) (e .grants) p t (through k) (through u) >> give Onward
+    storeEntry (e .program) (e .grants) t (packed k) (packed u) p >> give Onward
 
 -- ---- bodies
 -- how one statement is executed, by the place of its word
@@ -94,8 +95,8 @@ unfoldable pub executeBy : Executor → Setting → ℕ → ℕ → ℕ → Act 
 executeBy inner e w x p =
     if eqb (tagIn w) tagWhile then (λ _. looping (suc (stepsGranted (e .grants))) e (x + extraIn w) p (inner (x + extraIn w + 1)))
     else λ _. count (e .grants) p >>
-    (if eqb (tagIn w) tagDeclare then (λ _. declare p (extraIn w % 8192) >> give Onward)
-    else λ _. if eqb (tagIn w) tagAssign then (λ _. valueOf e (x + sizeIn w - 1) p >>= λ v. assigning e p (extraIn w % 8192) v)
+    (if eqb (tagIn w) tagDeclare then (λ _. declare (extraIn w) p >> give Onward)
+    else λ _. if eqb (tagIn w) tagAssign then (λ _. valueOf e (x + sizeIn w - 1) p >>= λ v. assigning e p (extraIn w) v)
     else λ _. if eqb (tagIn w) tagUpdate then (λ _. updating e (x + sizeIn w - 1) p)
     else λ _. if eqb (tagIn w) tagWhen then (λ _.
     valueOf e (x + extraIn w) p >>= λ v. withBoolean p v λ b.
