@@ -1,1 +1,2 @@
 // Operators and library procedures on values.
+pub mod integers;
