@@ -1,9 +1,11 @@
 -- Integers as locals hold them, and words by their kinds.
 use Prim.Native.Nat.{ℕ, _^_, _<_}
-use mathlib.Core.Path.{_≡_, _∙_, sym}
+use mathlib.Core.Path.{_≡_, _∙_, refl, sym}
 use mathlib.Core.Bool.{Bool, true, false}
 use Rattle.meaning.specs.Basics.{if_then_else_}
 use Rattle.stores.specs.Act.{Raw, Out, Act}
+use borrow.Author.Tests.{eqb-true, eqb-false}
+use lib.Dec.{eqb}
 use lib.IntN.{ℤ}
 use lib.Signed.{mag}
 use mir.Syntax.{w32}
@@ -32,3 +34,11 @@ pub either : {A : Type 0} (b : Bool) (f g : Act A) (r : Raw) {o : Out A} → f r
 unfolding if_then_else_
 either true f g r h k = h
 either false f g r h k = k
+
+-- a number is this one, or it is another
+pub by-number : (P : ℕ → Type 0) (n k : ℕ) → P k → ((n ≡ k → ⊥) → P n) → P n
+by-number P n k h o = go (eqb n k) refl
+  where
+    go : (b : Bool) → eqb n k ≡ b → P n
+    go true e = rw (eqb-true n k e) h
+    go false e = o (eqb-false n k e)

@@ -46,7 +46,7 @@ changed tag s n =
     else λ _. minusX s n
 
 -- a figure's first point, and its second if it is a line, in their new places
-abbrev pub placed : Figure → ℤ → ℤ → ℤ → ℤ → Figure
+unfoldable pub placed : Figure → ℤ → ℤ → ℤ → ℤ → Figure
 placed s x y z w = record {
     kind = s .kind; a = x; b = y;
     c = cond (eqb (s .kind) 0) z (s .c);
