@@ -1,2 +1,3 @@
 pub mod Operate
+pub mod Parts
 pub mod Library

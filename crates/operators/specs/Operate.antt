@@ -17,12 +17,6 @@ use Rattle.stores.specs.declared.Figure.{Figure}
 use Rattle.stores.specs.Shapes.{figureAt, newShape}
 use Rattle.stores.specs.Variables.{usable}
 
--- what does not change in a run
-pub record Setting : Type 0 where
-  pub program : List ℕ
-  pub code : List ℕ
-  pub grants : List ℕ
-
 -- ---- values of one kind; every other kind is 20
 unfoldable pub withInteger : {A : Type 0} → ℕ → Value → (ℤ → Act A) → Act A
 withInteger p (Integer z) k = k z
@@ -68,13 +62,10 @@ withShape p (Shape i) k = k i
 -- each x coordinate by f, each y coordinate by g
 unfoldable pub moved : (ℤ → ℤ) → (ℤ → ℤ) → Figure → Figure
 moved f g s = record {
-  kind = s .kind;
-  a = f (s .a);
-  b = g (s .b);
-  c = cond (eqb (s .kind) 0) (f (s .c)) (s .c);
-  d = cond (eqb (s .kind) 0) (g (s .d)) (s .d);
-  text = s .text;
-}
+    kind = s .kind; a = f (s .a); b = g (s .b);
+    c = cond (eqb (s .kind) 0) (f (s .c)) (s .c);
+    d = cond (eqb (s .kind) 0) (g (s .d)) (s .d);
+    text = s .text }
 
 abbrev pub kept : ℤ → ℤ
 kept z = z
@@ -104,24 +95,26 @@ sameFigure program texts s t =
     sameInteger (s .d) (t .d) && sameText (textOf program texts (s .text)) (textOf program texts (t .text))
 
 -- ---- operators
-unfoldable pub calculated : Setting → Bool → (ℤ → ℤ → ℤ) → (Figure → ℤ → Figure) → ℕ → Value → Value → Act Value
-calculated e divides f g p (Integer a) w =
+-- two integers by f, or a shape and an integer by g; where the right side divides it must not be 0
+unfoldable pub calculated : List ℕ → Bool → (ℤ → ℤ → ℤ) → (Figure → ℤ → Figure) → ℕ → Value → Value → Act Value
+calculated grants divides f g p (Integer a) w =
     withInteger p w λ b. refuse (divides && isZero b) 70 p >> give (Integer (f a b))
-calculated e divides f g p (Text h) w = fail 20 p
-calculated e divides f g p (Boolean b) w = fail 20 p
-calculated e divides f g p Nothing w = fail 20 p
-calculated e divides f g p (Table t) w = fail 20 p
-calculated e divides f g p (Shape i) w =
-    withInteger p w λ b. refuse (divides && isZero b) 70 p >> λ r. newShape (e .grants) p (g (figureAt (r .words) i) b) r
+calculated grants divides f g p (Text h) w = fail 20 p
+calculated grants divides f g p (Boolean b) w = fail 20 p
+calculated grants divides f g p Nothing w = fail 20 p
+calculated grants divides f g p (Table t) w = fail 20 p
+calculated grants divides f g p (Shape i) w =
+    withInteger p w λ b. refuse (divides && isZero b) 70 p >> λ r. newShape grants p (g (figureAt (r .words) i) b) r
 
+-- two integers only
 unfoldable pub compared : (ℤ → ℤ → Bool) → ℕ → Value → Value → Act Value
 compared f p v w = withInteger p v λ a. withInteger p w λ b. give (Boolean (f a b))
 
 unfoldable pub remaindered : ℕ → Value → Value → Act Value
 remaindered p v w = withInteger p v λ a. withInteger p w λ b. refuse (isZero b) 70 p >> give (Integer (Integer.remainder a b))
 
-unfoldable pub joined : Setting → ℕ → Value → Value → Act Value
-joined e p v w = withText p v λ a. withText p w λ b. joinTexts (e .program) (e .grants) p a b
+unfoldable pub joined : List ℕ → List ℕ → ℕ → Value → Value → Act Value
+joined program grants p v w = withText p v λ a. withText p w λ b. joinTexts program grants p a b
 
 -- whether two values are equal, where they may be compared
 unfoldable pub equality : List ℕ → Raw → Value → Value → Option Bool
@@ -166,29 +159,29 @@ unfoldable pub answered : ℕ → (Bool → Bool) → Option Bool → Act Value
 answered p f none = fail 20 p
 answered p f (some b) = give (Boolean (f b))
 
-unfoldable pub equated : Setting → (Bool → Bool) → ℕ → Value → Value → Act Value
-equated e f p v w r = answered p f (equality (e .program) r v w) r
+unfoldable pub equated : List ℕ → (Bool → Bool) → ℕ → Value → Value → Act Value
+equated program f p v w r = answered p f (equality program r v w) r
 
 -- by the operator's tag, 16 to 27
-unfoldable pub operateOn : Setting → ℕ → ℕ → Value → Value → Act Value
-operateOn e tag p v w =
-    if eqb tag 16 then (λ _. joined e p v w)
-    else λ _. if eqb tag 17 then (λ _. calculated e false sum plusY p v w)
-    else λ _. if eqb tag 18 then (λ _. calculated e false difference minusY p v w)
-    else λ _. if eqb tag 19 then (λ _. calculated e false product scaledUp p v w)
-    else λ _. if eqb tag 20 then (λ _. calculated e true quotient scaledDown p v w)
+unfoldable pub operateOn : List ℕ → List ℕ → ℕ → ℕ → Value → Value → Act Value
+operateOn program grants tag p v w =
+    if eqb tag 16 then (λ _. joined program grants p v w)
+    else λ _. if eqb tag 17 then (λ _. calculated grants false sum plusY p v w)
+    else λ _. if eqb tag 18 then (λ _. calculated grants false difference minusY p v w)
+    else λ _. if eqb tag 19 then (λ _. calculated grants false product scaledUp p v w)
+    else λ _. if eqb tag 20 then (λ _. calculated grants true quotient scaledDown p v w)
     else λ _. if eqb tag 21 then (λ _. remaindered p v w)
-    else λ _. if eqb tag 22 then (λ _. calculated e false shiftedRight plusX p v w)
-    else λ _. if eqb tag 23 then (λ _. calculated e false shiftedLeft minusX p v w)
-    else λ _. if eqb tag 24 then (λ _. equated e (λ b. b) p v w)
-    else λ _. if eqb tag 25 then (λ _. equated e not p v w)
+    else λ _. if eqb tag 22 then (λ _. calculated grants false shiftedRight plusX p v w)
+    else λ _. if eqb tag 23 then (λ _. calculated grants false shiftedLeft minusX p v w)
+    else λ _. if eqb tag 24 then (λ _. equated program (λ b. b) p v w)
+    else λ _. if eqb tag 25 then (λ _. equated program not p v w)
     else λ _. if eqb tag 26 then (λ _. compared (λ a b. ltZ b a) p v w)
     else λ _. if eqb tag 27 then (λ _. compared ltZ p v w)
     else λ _. fail 20 p
 
 -- a shape among the sides must not be destroyed by now
-unfoldable pub operate : Setting → ℕ → ℕ → Value → Value → Act Value
-operate e tag p v w = do
-  usable p v
-  usable p w
-  operateOn e tag p v w
+unfoldable pub operate : List ℕ → List ℕ → ℕ → ℕ → Value → Value → Act Value
+operate program grants tag p v w = do
+    usable p v
+    usable p w
+    operateOn program grants tag p v w

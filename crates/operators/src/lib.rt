@@ -1,1 +1,3 @@
 // Operators and library procedures on values.
+pub mod figures;
+pub mod integers;

@@ -1,0 +1,3 @@
+mod Held
+mod IntegerLaws
+mod FigureLaws
