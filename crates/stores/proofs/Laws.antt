@@ -23,7 +23,8 @@ use Rattle.values.specs.Words.{kindIn, numberIn, packed, unpacked}
 use Rattle.values.proofs.Laws.{unpacked-shape, by-kind}
 use Rattle.stores.specs.Layout.{valuePlace, orderPlace, shapePlace, argumentPlace, Room}
 use Rattle.stores.specs.Act.{Raw, raw, Out, done, stop, Act, goOn, _>>=_, give, fail, refuse, load, store, spend, count, newTable, shown, passed, Answers, Passes, Pays, Gives}
-use Rattle.stores.specs.Shapes.{Figure, firstWord, pairWord, figureLaid, putFigure, lowNumber, highNumber, figureAt, destroyedAt, newShape, destroy}
+use Rattle.stores.specs.declared.Figure.{Figure}
+use Rattle.stores.specs.Shapes.{firstWord, pairWord, figureLaid, putFigure, lowNumber, highNumber, figureAt, destroyedAt, newShape, destroy}
 use Rattle.stores.specs.Variables.{isDead, usable, isDeclared, variable, declare, setVariable, destroyIn, clearFrom, clearScene}
 use Rattle.stores.specs.Arguments.{push, dropTo}
 use Rattle.stores.proofs.Acts.{Paid, paid, Short, short}

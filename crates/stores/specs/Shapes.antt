@@ -10,7 +10,7 @@ use mir.Val.{toZ}
 use Rattle.meaning.specs.Integer.{bits}
 use Rattle.values.specs.declared.Value.{Value}
 use Rattle.values.specs.declared.Value.the-variants.{Shape}
-pub use Rattle.stores.specs.declared.Figure.{Figure}
+use Rattle.stores.specs.declared.Figure.{Figure}
 use Rattle.stores.specs.Layout.{shapesUsed, shapesGranted, shapePlace}
 use Rattle.stores.specs.Act.{raw, done, Act, _>>=_, _>>_, give, load, store, spend}
 

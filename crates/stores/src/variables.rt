@@ -3,8 +3,9 @@ use crate::shapes;
 use values::Answer;
 ghost use Prim.Native.Nat.{_≤_};
 ghost use mathlib.Core.Path.{_≡_};
-ghost use lib.ListN.{length};
+ghost use lib.ListN.{length, getD};
 ghost use Rattle.values.specs.Words.{unpacked};
+ghost use Rattle.stores.specs.Layout.{declared, valuePlace, orderPlace};
 ghost use Rattle.stores.specs.Act.{Answers, Passes, Gives};
 ghost use Rattle.stores.specs.Variables.{isDead, isDeclared, variable, declare, setVariable, destroyIn, clearScene};
 
@@ -23,6 +24,30 @@ pub fn is_declared(words: &[u64], slot: usize) -> bool
     ensures { λ r. ⌜ r ≡ isDeclared (now (words .entry)) slot ⌝ }
 {
     words[8 + slot % 8192] != 0
+}
+
+// The word of a variable; 0 if it is not declared.
+pub fn word_of(words: &[u64], slot: usize) -> u64
+    requires { ⌜ 24584 ≤ length (now words) ⌝ }
+    ensures { λ r. ⌜ r ≡ getD (now (words .entry)) (valuePlace slot) 0 ⌝ }
+{
+    words[8 + slot % 8192]
+}
+
+// How many variables are declared.
+pub fn declared_count(words: &[u64]) -> usize
+    requires { ⌜ 24584 ≤ length (now words) ⌝ }
+    ensures { λ r. ⌜ r ≡ getD (now (words .entry)) declared 0 ⌝ }
+{
+    words[5] as usize
+}
+
+// The slot of the k-th declaration.
+pub fn slot_at(words: &[u64], k: usize) -> usize
+    requires { ⌜ 24584 ≤ length (now words) ⌝ }
+    ensures { λ r. ⌜ r ≡ getD (now (words .entry)) (orderPlace k) 0 ⌝ }
+{
+    words[8200 + k % 8192] as usize
 }
 
 // What a variable holds: 50 if it is not declared, 30 if it holds a destroyed shape.

@@ -155,12 +155,12 @@ pub fn store_entry<'a>(
     requires { ⌜ Looks (now program) (now grants) (now texts) (now words) ⌝ }
     ensures { λ r. ⌜ PassesIn (now (texts .entry)) (now (words .entry)) 77 (storeEntry (now (program .entry)) (now (grants .entry)) t key value) r (now (words .exit)) ⌝ }
 {
-    let k = find_entry(program, texts, words, grants, t, key);
-    if k == 0 {
+    let found = find_entry(program, texts, words, grants, t, key);
+    if found == 0 {
         let ok = add_entry(program, texts, words, grants, t, key, value);
         return ok;
     }
-    let at = entry_place(grants, k - 1);
+    let at = entry_place(grants, found - 1);
     words[at + 2] = value;
     true
 }

@@ -134,7 +134,7 @@ module _ (w : ℕ) where
 
 -- ---- there and back
 -- a value that code can hold: an integer of 32 bits, a handle of 40, a table's or a shape's number of 32
-pub InRange : Value → Type 0
+unfoldable pub InRange : Value → Type 0
 InRange (Integer z) = mag z < 2 ^ 31
 InRange (Text h) = h < 2 ^ 40
 InRange (Boolean b) = Unit {0}
