@@ -25,124 +25,89 @@ use Rattle.stores.specs.Variables.{variable}
 use Rattle.stores.specs.Tables.{readEntry, Looks}
 use Rattle.operators.specs.Operate.{withInteger, withTable, operate}
 use Rattle.operators.specs.Library.{callLibrary}
-use Rattle.invariant.specs.Invariant.{Held, SoundIn, SoundValue, Valid, Grows, After, kept, stopped, Any}
-use Rattle.invariant.proofs.Soundness.{sound-grows, sound-unpacked, sound-packed}
-use Rattle.invariant.proofs.Keeping.{grows-self, grows-on, after-then, after-give, after-refuse, after-count, after-new-table, after-variable, after-push, after-drop}
+use Rattle.invariant.specs.Invariant.{SoundValue, Valid, After, kept, stopped}
+use Rattle.invariant.proofs.Soundness.{sound-unpacked}
+use Rattle.invariant.proofs.EntriesKept.{after-read-entry}
+use Rattle.invariant.proofs.Keeping.{after-then, after-give, after-refuse, after-count, after-new-table, after-variable, after-push, after-drop}
+use Rattle.evaluator.proofs.Leading.{Leads, leads-grows, leads-packed, after-leads, after-choice, after-integer, after-table, gives-integer, gives-string, after-operate, after-library}
 use Rattle.evaluator.specs.Evaluate.{Evaluator, Setting, setting, through, sized, pushed, pushAll, called, calling, tableOf, entryOf, entryAt, operationOf, operationAt, evaluateBy, evaluateAt}
 
--- ---- choices
-pub after-choice : {A : Type 0} {P : A → List ℕ → Type 0} {program g before : List ℕ} (b : Bool) (f h : Act A) (r : Raw)
-    → After program g before P (f r) → After program g before P (h r) → After program g before P ((if b then (λ _. f) else λ _. h) r)
-unfolding if_then_else_
-after-choice true f h r y n = y
-after-choice false f h r y n = n
-
-module _ {A : Type 0} {P : A → List ℕ → Type 0} {program g before : List ℕ} (p : ℕ) (r : Raw) where
-  pub after-integer : (v : Value) (k : ℤ → Act A) → ((z : ℤ) → After program g before P (k z r)) → After program g before P (withInteger p v k r)
-  unfolding withInteger fail
-  after-integer (Integer z) k h = h z
-  after-integer (Text t) k h = stopped
-  after-integer (Boolean b) k h = stopped
-  after-integer Nothing k h = stopped
-  after-integer (Table t) k h = stopped
-  after-integer (Shape i) k h = stopped
-
-  pub after-table : (v : Value) (k : ℕ → Act A) → ((t : ℕ) → After program g before P (k t r)) → After program g before P (withTable p v k r)
-  unfolding withTable fail
-  after-table (Integer z) k h = stopped
-  after-table (Text t) k h = stopped
-  after-table (Boolean b) k h = stopped
-  after-table Nothing k h = stopped
-  after-table (Table t) k h = h t
-  after-table (Shape i) k h = stopped
-
--- ---- from the parts outside
-after-operate : {program g ts ws : List ℕ} → Valid program g ts ws → (tag p : ℕ) (v w : Value) → SoundValue v ws → SoundValue w ws
-    → After program g ws SoundValue (operate program g tag p v w (raw ts ws))
-after-operate v tag p a b s t = ?
-
-after-library : {program g ts ws : List ℕ} → Valid program g ts ws → (number p base n : ℕ) → After program g ws SoundValue (callLibrary g number p base n (raw ts ws))
-after-library v number p base n = ?
-
-after-read-entry : {program g ts ws : List ℕ} → Valid program g ts ws → (p t key : ℕ) → After program g ws SoundValue (readEntry program g p t key (raw ts ws))
-after-read-entry v p t key = ?
-
 -- ---- parts of expressions
-through-sound : (v : Value) (ws : List ℕ) → SoundValue v ws → SoundValue (through v) ws
-through-sound v ws s = sound-unpacked (packed v) ws (sound-packed v ws s)
+through-sound : (v : Value) (ws : List ℕ) → Leads v ws → SoundValue (through v) ws
+through-sound v ws s = sound-unpacked (packed v) ws (leads-packed v ws s)
 
-after-sized : {program g ts ws : List ℕ} → Valid program g ts ws → (p : ℕ) (z : ℤ) → After program g ws SoundValue (sized p z (raw ts ws))
+after-sized : {program g ts ws : List ℕ} → Valid program g ts ws → (p : ℕ) (z : ℤ) → After program g ws Leads (sized p z (raw ts ws))
 unfolding sized _>>=_
-after-sized v p z = after-then (λ _. newTable) (after-refuse v (isNegative z) 40 p) (λ _ _ _ v₁ _ _. after-new-table v₁)
+after-sized v p z = after-then (λ _. newTable) (after-refuse v (isNegative z) 40 p) (λ _ _ _ v₁ _ _. after-leads (after-new-table v₁))
 
-after-called : {program g ts ws : List ℕ} → Valid program g ts ws → (number p base : ℕ) → After program g ws SoundValue (called g number p base (raw ts ws))
+after-called : {program g ts ws : List ℕ} → Valid program g ts ws → (number p base : ℕ) → After program g ws Leads (called g number p base (raw ts ws))
 unfolding called _>>=_ goOn load
 after-called {ws = ws} v number p base =
     after-then (λ u. dropTo base >>= λ _. give u) (after-library v number p base (getD ws 6 0 - base))
-    (λ u _ _ v₁ _ s₁. after-then (λ _. give u) (after-drop v₁ base) (λ _ _ _ v₂ g₂ _. after-give v₂ SoundValue u (sound-grows u g₂ s₁)))
+    (λ u _ _ v₁ _ s₁. after-then (λ _. give u) (after-drop v₁ base) (λ _ _ _ v₂ g₂ _. after-give v₂ Leads u (leads-grows u g₂ s₁)))
 
 module _ (program code g : List ℕ) (inner : Evaluator)
-  (keeps : (x p : ℕ) (ts ws : List ℕ) → Valid program g ts ws → After program g ws SoundValue (inner x p (raw ts ws))) where
+  (keeps : (x p : ℕ) (ts ws : List ℕ) → Valid program g ts ws → After program g ws Leads (inner x p (raw ts ws))) where
   abbrev e : Setting
   e = setting program code g
 
-  after-pushed : (y p : ℕ) (ts ws : List ℕ) → Valid program g ts ws → After program g ws SoundValue (pushed inner y p (raw ts ws))
-  unfolding pushed _>>=_ SoundValue
+  after-pushed : (y p : ℕ) (ts ws : List ℕ) → Valid program g ts ws → After program g ws Leads (pushed inner y p (raw ts ws))
+  unfolding pushed _>>=_ Leads
   after-pushed y p ts ws v =
       after-then (λ u. push (packed u) p >>= λ _. give Nothing) (keeps y p ts ws v)
-      (λ u _ ws₁ v₁ _ s₁. after-then (λ _. give Nothing) (after-push v₁ (packed u) p (sound-packed u ws₁ s₁)) (λ _ _ _ v₂ _ _. after-give v₂ SoundValue Nothing tt))
+      (λ u _ ws₁ v₁ _ s₁. after-then (λ _. give Nothing) (after-push v₁ (packed u) p (leads-packed u ws₁ s₁)) (λ _ _ _ v₂ _ _. after-give v₂ Leads Nothing tt))
 
-  after-push-all : (rounds a x p : ℕ) (ts ws : List ℕ) → Valid program g ts ws → After program g ws SoundValue (pushAll rounds inner e a x p (raw ts ws))
-  unfolding pushAll _>>=_ SoundValue
-  after-push-all zero a x p ts ws v = after-give v SoundValue Nothing tt
+  after-push-all : (rounds a x p : ℕ) (ts ws : List ℕ) → Valid program g ts ws → After program g ws Leads (pushAll rounds inner e a x p (raw ts ws))
+  unfolding pushAll _>>=_ Leads
+  after-push-all zero a x p ts ws v = after-give v Leads Nothing tt
   after-push-all (suc rounds) a x p ts ws v =
       after-choice (ltb (a + sizeIn (getD code a 0)) x)
       (pushed inner (a + sizeIn (getD code a 0)) p >>= λ _. pushAll rounds inner e (a + sizeIn (getD code a 0) + 1) x p) (give Nothing) (raw ts ws)
       (after-then (λ _. pushAll rounds inner e (a + sizeIn (getD code a 0) + 1) x p) (after-pushed (a + sizeIn (getD code a 0)) p ts ws v)
       (λ _ ts₁ ws₁ v₁ _ _. after-push-all rounds (a + sizeIn (getD code a 0) + 1) x p ts₁ ws₁ v₁))
-      (after-give v SoundValue Nothing tt)
+      (after-give v Leads Nothing tt)
 
-  after-calling : (w x p : ℕ) (ts ws : List ℕ) → Valid program g ts ws → After program g ws SoundValue (calling inner e w x p (raw ts ws))
+  after-calling : (w x p : ℕ) (ts ws : List ℕ) → Valid program g ts ws → After program g ws Leads (calling inner e w x p (raw ts ws))
   unfolding calling _>>=_ goOn load
   after-calling w x p ts ws v =
       after-then (λ _. called g (numberIn w) p (getD ws 6 0)) (after-push-all (suc x) (x - (sizeIn w - 1)) x p ts ws v)
       (λ _ _ _ v₁ _ _. after-called v₁ (numberIn w) p (getD ws 6 0))
 
-  after-table-of : (y p : ℕ) (ts ws : List ℕ) → Valid program g ts ws → After program g ws SoundValue (tableOf inner y p (raw ts ws))
+  after-table-of : (y p : ℕ) (ts ws : List ℕ) → Valid program g ts ws → After program g ws Leads (tableOf inner y p (raw ts ws))
   unfolding tableOf _>>=_
   after-table-of y p ts ws v =
       after-then (λ u. withInteger p u (sized p)) (keeps y p ts ws v) (λ u ts₁ ws₁ v₁ _ _. after-integer p (raw ts₁ ws₁) u (sized p) (λ z. after-sized v₁ p z))
 
-  after-entry-at : (w x p : ℕ) (ts ws : List ℕ) → Valid program g ts ws → After program g ws SoundValue (entryAt inner e w x p (raw ts ws))
+  after-entry-at : (w x p : ℕ) (ts ws : List ℕ) → Valid program g ts ws → After program g ws Leads (entryAt inner e w x p (raw ts ws))
   unfolding entryAt entryOf _>>=_
   after-entry-at w x p ts ws v =
       after-then (λ u. withTable p u λ t. entryOf inner e t (x - 1) p) (keeps (x - 1 - numberIn w) p ts ws v)
       (λ u ts₁ ws₁ v₁ _ _. after-table p (raw ts₁ ws₁) u (λ t. entryOf inner e t (x - 1) p)
-      (λ t. after-then (λ k. readEntry program g p t (packed k)) (keeps (x - 1) p ts₁ ws₁ v₁) (λ k _ _ v₂ _ _. after-read-entry v₂ p t (packed k))))
+      (λ t. after-then (λ k. readEntry program g p t (packed k)) (keeps (x - 1) p ts₁ ws₁ v₁) (λ k _ _ v₂ _ _. after-leads (after-read-entry v₂ p t (packed k)))))
 
-  after-operation-at : (w x p : ℕ) (ts ws : List ℕ) → Valid program g ts ws → After program g ws SoundValue (operationAt inner e w x p (raw ts ws))
+  after-operation-at : (w x p : ℕ) (ts ws : List ℕ) → Valid program g ts ws → After program g ws Leads (operationAt inner e w x p (raw ts ws))
   unfolding operationAt operationOf _>>=_
   after-operation-at w x p ts ws v =
       after-then (λ u. operationOf inner e (tagIn w) (packed u) (x - 1) p) (keeps (x - 1 - numberIn w) p ts ws v)
       (λ u ts₁ ws₁ v₁ _ s₁. after-then (λ k. operate program g (tagIn w) p (through u) (through k)) (keeps (x - 1) p ts₁ ws₁ v₁)
-      (λ k _ ws₂ v₂ g₂ s₂. after-operate v₂ (tagIn w) p (through u) (through k) (through-sound u ws₂ (sound-grows u g₂ s₁)) (through-sound k ws₂ s₂)))
+      (λ k _ ws₂ v₂ g₂ s₂. after-operate v₂ (tagIn w) p (through u) (through k) (through-sound u ws₂ (leads-grows u g₂ s₁)) (through-sound k ws₂ s₂)))
 
-  after-by : (w x p : ℕ) (ts ws : List ℕ) → Valid program g ts ws → After program g ws SoundValue (evaluateBy inner e w x p (raw ts ws))
-  unfolding evaluateBy SoundValue
+  after-by : (w x p : ℕ) (ts ws : List ℕ) → Valid program g ts ws → After program g ws Leads (evaluateBy inner e w x p (raw ts ws))
+  unfolding evaluateBy Leads
   after-by w x p ts ws v =
       let r : Raw = raw ts ws in
-      after-choice (eqb (tagIn w) 1) _ _ r (after-give v SoundValue (Integer (toZ w32 (numberIn w))) tt)
-      (after-choice (eqb (tagIn w) 2) _ _ r (after-give v SoundValue (Text (2 * numberIn w)) (record { within = λ h. absurd (h (omega arith)) }))
-      (after-choice (eqb (tagIn w) 3) _ _ r (after-give v SoundValue Nothing tt)
-      (after-choice (eqb (tagIn w) 4) _ _ r (after-give v SoundValue (Boolean (eqb (numberIn w) 1)) tt)
-      (after-choice (eqb (tagIn w) 5) _ _ r (after-variable v p (numberIn w))
+      after-choice (eqb (tagIn w) 1) _ _ r (gives-integer v (toZ w32 (numberIn w)))
+      (after-choice (eqb (tagIn w) 2) _ _ r (gives-string v (numberIn w))
+      (after-choice (eqb (tagIn w) 3) _ _ r (after-give v Leads Nothing tt)
+      (after-choice (eqb (tagIn w) 4) _ _ r (after-give v Leads (Boolean (eqb (numberIn w) 1)) tt)
+      (after-choice (eqb (tagIn w) 5) _ _ r (after-leads (after-variable v p (numberIn w)))
       (after-choice (eqb (tagIn w) 6) _ _ r (after-table-of (x - 1) p ts ws v)
       (after-choice (eqb (tagIn w) 7) _ _ r (after-entry-at w x p ts ws v)
       (after-choice (eqb (tagIn w) 8) _ _ r (after-calling w x p ts ws v) (after-operation-at w x p ts ws v))))))))
 
 -- ---- expressions
 pub after-evaluate : (depth : ℕ) (program code g : List ℕ) (x p : ℕ) (ts ws : List ℕ) → Valid program g ts ws
-    → After program g ws SoundValue (evaluateAt depth (setting program code g) x p (raw ts ws))
+    → After program g ws Leads (evaluateAt depth (setting program code g) x p (raw ts ws))
 unfolding evaluateAt fail _>>=_
 after-evaluate zero program code g x p ts ws v = stopped
 after-evaluate (suc depth) program code g x p ts ws v =
@@ -179,7 +144,4 @@ module _ (program code g : List ℕ) (depth : ℕ) (ts ws : List ℕ) (p : ℕ) 
 
 pub valid-counted : (program g ts ws ws₁ : List ℕ) (ok : Bool) → Valid program g ts ws → Passes ws 79 (count g) ok ws₁ → not ok ≡ false → Valid program g ts ws₁
 unfolding passed
-valid-counted program g ts ws ws₁ ok v h t = valid-then tt ts ws₁ (after-count v 0) (sym (rw (← not-false ok t) (h .equal 0 ts)))
-
-pub looks : {program g ts ws : List ℕ} → Valid program g ts ws → Looks program g ts ws
-looks v = record { room = v .lent .room; index = v .index }
+valid-counted program g ts ws ws₁ ok v h t = valid-then tt ts ws₁ (after-count v 0) (sym ((rw (not-false ok t) at h) .equal 0 ts))
