@@ -5,7 +5,7 @@ use mathlib.Core.Bool.{Bool, true, false, not}
 use mathlib.Core.List.{List, [], _∷_}
 use mathlib.Core.Logic.{⊎-elim}
 use native.Mathlib.Omega.{arith}
-use lib.ListN.{getD, set}
+use lib.ListN.{getD, length}
 use lib.IntN.{ℤ}
 use lib.Signed.{mag}
 use lib.Dec.{eqb, ltb}
@@ -236,6 +236,8 @@ module _ (program code g : List ℕ) (x p : ℕ) (ts ws : List ℕ) (depth : ℕ
 -- what is left to push from a place on comes to what was to be pushed at first
 pub record Pushing (program code g : List ℕ) (depth : ℕ) (ts₀ ws₀ : List ℕ) (a x p : ℕ) (ts ws : List ℕ) (at : ℕ) : Type 0 where
   pub valid : Valid program g ts ws
+  pub texts : length ts ≡ length ts₀
+  pub words : length ws ≡ length ws₀
   pub rounds : ℕ
   pub enough : x < at + rounds
   pub rest : pushAll (suc x) (evaluateAt depth (setting program code g)) (setting program code g) a x p (raw ts₀ ws₀)
@@ -243,7 +245,7 @@ pub record Pushing (program code g : List ℕ) (depth : ℕ) (ts₀ ws₀ : List
 
 module _ (program code g : List ℕ) (depth : ℕ) (ts₀ ws₀ : List ℕ) (a x p : ℕ) where
   pub push-first : Valid program g ts₀ ws₀ → Pushing program code g depth ts₀ ws₀ a x p ts₀ ws₀ a
-  push-first v = record { valid = v; rounds = suc x; enough = omega arith; rest = refl }
+  push-first v = record { valid = v; texts = refl; words = refl; rounds = suc x; enough = omega arith; rest = refl }
 
   module _ (ts ws : List ℕ) (at : ℕ) (h : Pushing program code g depth ts₀ ws₀ a x p ts ws at) where
     ends : (rounds n : ℕ) → n ≡ sizeIn (getD code at 0) → x ≤ at + n
@@ -277,10 +279,12 @@ module _ (program code g : List ℕ) (depth : ℕ) (ts₀ ws₀ : List ℕ) (a x
       unfolding shown goOn
       push-fails q z d = sym (h .rest ∙ again (h .rounds) (h .enough) ∙ rw d)
 
-      pub push-more : (v : Value) → Valid program g ts₁ ws₁ → r ≡ Good v → Pushing program code g depth ts₀ ws₀ a x p ts₁ ws₁ (at + n + 1)
+      pub push-more : (v : Value) → Valid program g ts₁ ws₁ → length ts₁ ≡ length ts → length ws₁ ≡ length ws → r ≡ Good v → Pushing program code g depth ts₀ ws₀ a x p ts₁ ws₁ (at + n + 1)
       unfolding shown goOn
-      push-more v u d = record {
+      push-more v u j k d = record {
         valid = u;
+        texts = j ∙ h .texts;
+        words = k ∙ h .words;
         rounds = h .rounds - 1;
         enough = omega (arith, h .enough);
         rest = h .rest ∙ again (h .rounds) (h .enough) ∙ rw d;

@@ -1,3 +1,10 @@
+use mathlib.Core.Path.{refl}
+use native.Mathlib.Omega.{arith}
+use borrow.Author.Needs.{needs}
+use Prim.Native.Nat.{_+_, _-_, _*_}
+use Rattle.evaluator.proofs.Laws.{table-stops, table-other, table-made, entry-stops, entry-other, entry-goes, operation-stops, operation-goes, key-stops, key-goes, side-stops, side-goes, push-stops, push-refused, push-done, call-stops, call-goes, by-number, by-string, by-none, by-truth, by-name, by-table, by-entry, by-call, by-operator, too-deep, no-step, evaluated, Pushing, push-first, push-last, push-end, push-fails, push-more}
+use Rattle.evaluator.proofs.Kept.{valid-evaluated, valid-pushed, valid-all, valid-counted}
+use Rattle.invariant.proofs.Keeping.{looks}
 use Prim.Native.Nat.{ℕ, _<_}
 use borrow.Fn.Kinds.{In}
 use borrow.Fn.PlainCycle.{Measures, is, falls, and}
@@ -57,34 +64,34 @@ use Rattle.evaluator.proofs.+by_word+calling+entry_at+entry_of+evaluate
 }
 
 abbrev μ-by-word : Measures 5 by-word-kinds.ps ℕ
-μ-by-word κs a = ?
+μ-by-word κs a = 8 * (a .1 .1 .1 .1 .1 .0) + 4
 
 abbrev μ-calling : Measures 5 calling-kinds.ps ℕ
-μ-calling κs a = ?
+μ-calling κs a = 8 * (a .1 .1 .1 .1 .1 .0) + 3
 
 abbrev μ-entry-at : Measures 5 entry-at-kinds.ps ℕ
-μ-entry-at κs a = ?
+μ-entry-at κs a = 8 * (a .1 .1 .1 .1 .1 .0) + 2
 
 abbrev μ-entry-of : Measures 5 entry-of-kinds.ps ℕ
-μ-entry-of κs a = ?
+μ-entry-of κs a = 8 * (a .1 .1 .1 .1 .1 .0) + 1
 
 abbrev μ-evaluate : Measures 5 evaluate-kinds.ps ℕ
-μ-evaluate κs a = ?
+μ-evaluate κs a = 8 * (a .1 .1 .1 .1 .1 .0)
 
 abbrev μ-operation-at : Measures 5 operation-at-kinds.ps ℕ
-μ-operation-at κs a = ?
+μ-operation-at κs a = 8 * (a .1 .1 .1 .1 .1 .0) + 2
 
 abbrev μ-operation-of : Measures 5 operation-of-kinds.ps ℕ
-μ-operation-of κs a = ?
+μ-operation-of κs a = 8 * (a .1 .1 .1 .1 .1 .0) + 1
 
 abbrev μ-push-all : Measures 5 push-all-kinds.ps ℕ
-μ-push-all κs a = ?
+μ-push-all κs a = 8 * (a .1 .1 .1 .1 .1 .0) + 2
 
 abbrev μ-pushed : Measures 5 pushed-kinds.ps ℕ
-μ-pushed κs a = ?
+μ-pushed κs a = 8 * (a .1 .1 .1 .1 .1 .0) + 1
 
 abbrev μ-table-of : Measures 5 table-of-kinds.ps ℕ
-μ-table-of κs a = ?
+μ-table-of κs a = 8 * (a .1 .1 .1 .1 .1 .0) + 1
 
 abbrev by-word-at : ℕ → In 5 by-word-kinds.ps
 by-word-at t = and 5 by-word-kinds.ps (is 5 by-word-kinds.ps μ-by-word t) by-word.Pre
@@ -186,7 +193,7 @@ by-word-tag-of-requires : (t : ℕ) → by-word-lts.Need-tag-of-requires (
   operation-at-below t,
   operation-at.Post,
 ) (by-word-at t) by-word.Post
-by-word-tag-of-requires t c κs = ?
+by-word-tag-of-requires t c κs = search needs
 
 -- src/lib.rt:56:14
 by-word-number-requires : (t : ℕ) → by-word-lts.Need-number-requires (
@@ -211,7 +218,7 @@ by-word-number-requires : (t : ℕ) → by-word-lts.Need-number-requires (
   operation-at-below t,
   operation-at.Post,
 ) (by-word-at t) by-word.Post
-by-word-number-requires t c κs = ?
+by-word-number-requires t c κs = search needs
 
 -- src/lib.rt:57:14
 by-word-string-requires : (t : ℕ) → by-word-lts.Need-string-requires (
@@ -236,7 +243,7 @@ by-word-string-requires : (t : ℕ) → by-word-lts.Need-string-requires (
   operation-at-below t,
   operation-at.Post,
 ) (by-word-at t) by-word.Post
-by-word-string-requires t c κs = ?
+by-word-string-requires t c κs = search needs
 
 -- src/lib.rt:59:14
 by-word-truth-requires : (t : ℕ) → by-word-lts.Need-truth-requires (
@@ -261,7 +268,7 @@ by-word-truth-requires : (t : ℕ) → by-word-lts.Need-truth-requires (
   operation-at-below t,
   operation-at.Post,
 ) (by-word-at t) by-word.Post
-by-word-truth-requires t c κs = ?
+by-word-truth-requires t c κs = search needs
 
 -- src/lib.rt:60:14
 by-word-name-requires : (t : ℕ) → by-word-lts.Need-name-requires (
@@ -286,7 +293,7 @@ by-word-name-requires : (t : ℕ) → by-word-lts.Need-name-requires (
   operation-at-below t,
   operation-at.Post,
 ) (by-word-at t) by-word.Post
-by-word-name-requires t c κs = ?
+by-word-name-requires t c κs = search needs
 
 -- src/lib.rt:69:17
 by-word-less-requires : (t : ℕ) → by-word-lts.Need-less-requires (
@@ -311,7 +318,7 @@ by-word-less-requires : (t : ℕ) → by-word-lts.Need-less-requires (
   operation-at-below t,
   operation-at.Post,
 ) (by-word-at t) by-word.Post
-by-word-less-requires t c κs = ?
+by-word-less-requires t c κs = search needs
 
 -- src/lib.rt:62:17
 by-word-table-of-requires : (t : ℕ) → by-word-lts.Need-table-of-requires (
@@ -336,7 +343,7 @@ by-word-table-of-requires : (t : ℕ) → by-word-lts.Need-table-of-requires (
   operation-at-below t,
   operation-at.Post,
 ) (by-word-at t) by-word.Post
-by-word-table-of-requires t c κs = ?
+by-word-table-of-requires t c κs = (omega arith, search needs)
 
 -- src/lib.rt:75:17
 by-word-entry-at-requires : (t : ℕ) → by-word-lts.Need-entry-at-requires (
@@ -361,7 +368,7 @@ by-word-entry-at-requires : (t : ℕ) → by-word-lts.Need-entry-at-requires (
   operation-at-below t,
   operation-at.Post,
 ) (by-word-at t) by-word.Post
-by-word-entry-at-requires t c κs = ?
+by-word-entry-at-requires t c κs = (omega arith, search needs)
 
 -- src/lib.rt:79:17
 by-word-calling-requires : (t : ℕ) → by-word-lts.Need-calling-requires (
@@ -386,7 +393,7 @@ by-word-calling-requires : (t : ℕ) → by-word-lts.Need-calling-requires (
   operation-at-below t,
   operation-at.Post,
 ) (by-word-at t) by-word.Post
-by-word-calling-requires t c κs = ?
+by-word-calling-requires t c κs = (omega arith, search needs)
 
 -- src/lib.rt:83:17
 by-word-operation-at-requires : (t : ℕ) → by-word-lts.Need-operation-at-requires (
@@ -411,7 +418,7 @@ by-word-operation-at-requires : (t : ℕ) → by-word-lts.Need-operation-at-requ
   operation-at-below t,
   operation-at.Post,
 ) (by-word-at t) by-word.Post
-by-word-operation-at-requires t c κs = ?
+by-word-operation-at-requires t c κs = (omega arith, search needs)
 
 -- src/lib.rt:40:1
 by-word-returns : (t : ℕ) → by-word-lts.Need-returns (
@@ -436,7 +443,7 @@ by-word-returns : (t : ℕ) → by-word-lts.Need-returns (
   operation-at-below t,
   operation-at.Post,
 ) (by-word-at t) by-word.Post
-by-word-returns t c = ?
+by-word-returns t c = search by-number
 
 -- src/lib.rt:40:1
 by-word-returns-2 : (t : ℕ) → by-word-lts.Need-returns-2 (
@@ -461,7 +468,7 @@ by-word-returns-2 : (t : ℕ) → by-word-lts.Need-returns-2 (
   operation-at-below t,
   operation-at.Post,
 ) (by-word-at t) by-word.Post
-by-word-returns-2 t c = ?
+by-word-returns-2 t c = search by-string
 
 -- src/lib.rt:40:1
 by-word-returns-3 : (t : ℕ) → by-word-lts.Need-returns-3 (
@@ -486,7 +493,7 @@ by-word-returns-3 : (t : ℕ) → by-word-lts.Need-returns-3 (
   operation-at-below t,
   operation-at.Post,
 ) (by-word-at t) by-word.Post
-by-word-returns-3 t c = ?
+by-word-returns-3 t c = search by-none
 
 -- src/lib.rt:40:1
 by-word-returns-4 : (t : ℕ) → by-word-lts.Need-returns-4 (
@@ -511,7 +518,7 @@ by-word-returns-4 : (t : ℕ) → by-word-lts.Need-returns-4 (
   operation-at-below t,
   operation-at.Post,
 ) (by-word-at t) by-word.Post
-by-word-returns-4 t c = ?
+by-word-returns-4 t c = search by-truth
 
 -- src/lib.rt:40:1
 by-word-same-length : (t : ℕ) → by-word-lts.Need-same-length (
@@ -536,7 +543,7 @@ by-word-same-length : (t : ℕ) → by-word-lts.Need-same-length (
   operation-at-below t,
   operation-at.Post,
 ) (by-word-at t) by-word.Post
-by-word-same-length t c = ?
+by-word-same-length t c = search needs
 
 -- src/lib.rt:40:1
 by-word-returns-5 : (t : ℕ) → by-word-lts.Need-returns-5 (
@@ -561,7 +568,7 @@ by-word-returns-5 : (t : ℕ) → by-word-lts.Need-returns-5 (
   operation-at-below t,
   operation-at.Post,
 ) (by-word-at t) by-word.Post
-by-word-returns-5 t c = ?
+by-word-returns-5 t c = search by-name
 
 -- src/lib.rt:40:1
 by-word-same-length-2 : (t : ℕ) → by-word-lts.Need-same-length-2 (
@@ -586,7 +593,7 @@ by-word-same-length-2 : (t : ℕ) → by-word-lts.Need-same-length-2 (
   operation-at-below t,
   operation-at.Post,
 ) (by-word-at t) by-word.Post
-by-word-same-length-2 t c = ?
+by-word-same-length-2 t c = search needs
 
 -- src/lib.rt:40:1
 by-word-same-length-3 : (t : ℕ) → by-word-lts.Need-same-length-3 (
@@ -611,7 +618,7 @@ by-word-same-length-3 : (t : ℕ) → by-word-lts.Need-same-length-3 (
   operation-at-below t,
   operation-at.Post,
 ) (by-word-at t) by-word.Post
-by-word-same-length-3 t c = ?
+by-word-same-length-3 t c = search needs
 
 -- src/lib.rt:40:1
 by-word-returns-6 : (t : ℕ) → by-word-lts.Need-returns-6 (
@@ -636,7 +643,7 @@ by-word-returns-6 : (t : ℕ) → by-word-lts.Need-returns-6 (
   operation-at-below t,
   operation-at.Post,
 ) (by-word-at t) by-word.Post
-by-word-returns-6 t c = ?
+by-word-returns-6 t c = search by-table
 
 -- src/lib.rt:40:1
 by-word-same-length-4 : (t : ℕ) → by-word-lts.Need-same-length-4 (
@@ -661,7 +668,7 @@ by-word-same-length-4 : (t : ℕ) → by-word-lts.Need-same-length-4 (
   operation-at-below t,
   operation-at.Post,
 ) (by-word-at t) by-word.Post
-by-word-same-length-4 t c = ?
+by-word-same-length-4 t c = search needs
 
 -- src/lib.rt:40:1
 by-word-same-length-5 : (t : ℕ) → by-word-lts.Need-same-length-5 (
@@ -686,7 +693,7 @@ by-word-same-length-5 : (t : ℕ) → by-word-lts.Need-same-length-5 (
   operation-at-below t,
   operation-at.Post,
 ) (by-word-at t) by-word.Post
-by-word-same-length-5 t c = ?
+by-word-same-length-5 t c = search needs
 
 -- src/lib.rt:40:1
 by-word-returns-7 : (t : ℕ) → by-word-lts.Need-returns-7 (
@@ -711,7 +718,7 @@ by-word-returns-7 : (t : ℕ) → by-word-lts.Need-returns-7 (
   operation-at-below t,
   operation-at.Post,
 ) (by-word-at t) by-word.Post
-by-word-returns-7 t c = ?
+by-word-returns-7 t c = search by-entry
 
 -- src/lib.rt:40:1
 by-word-same-length-6 : (t : ℕ) → by-word-lts.Need-same-length-6 (
@@ -736,7 +743,7 @@ by-word-same-length-6 : (t : ℕ) → by-word-lts.Need-same-length-6 (
   operation-at-below t,
   operation-at.Post,
 ) (by-word-at t) by-word.Post
-by-word-same-length-6 t c = ?
+by-word-same-length-6 t c = search needs
 
 -- src/lib.rt:40:1
 by-word-same-length-7 : (t : ℕ) → by-word-lts.Need-same-length-7 (
@@ -761,7 +768,7 @@ by-word-same-length-7 : (t : ℕ) → by-word-lts.Need-same-length-7 (
   operation-at-below t,
   operation-at.Post,
 ) (by-word-at t) by-word.Post
-by-word-same-length-7 t c = ?
+by-word-same-length-7 t c = search needs
 
 -- src/lib.rt:40:1
 by-word-returns-8 : (t : ℕ) → by-word-lts.Need-returns-8 (
@@ -786,7 +793,7 @@ by-word-returns-8 : (t : ℕ) → by-word-lts.Need-returns-8 (
   operation-at-below t,
   operation-at.Post,
 ) (by-word-at t) by-word.Post
-by-word-returns-8 t c = ?
+by-word-returns-8 t c = search by-call
 
 -- src/lib.rt:40:1
 by-word-same-length-8 : (t : ℕ) → by-word-lts.Need-same-length-8 (
@@ -811,7 +818,7 @@ by-word-same-length-8 : (t : ℕ) → by-word-lts.Need-same-length-8 (
   operation-at-below t,
   operation-at.Post,
 ) (by-word-at t) by-word.Post
-by-word-same-length-8 t c = ?
+by-word-same-length-8 t c = search needs
 
 -- src/lib.rt:40:1
 by-word-same-length-9 : (t : ℕ) → by-word-lts.Need-same-length-9 (
@@ -836,7 +843,7 @@ by-word-same-length-9 : (t : ℕ) → by-word-lts.Need-same-length-9 (
   operation-at-below t,
   operation-at.Post,
 ) (by-word-at t) by-word.Post
-by-word-same-length-9 t c = ?
+by-word-same-length-9 t c = search needs
 
 -- src/lib.rt:40:1
 by-word-returns-9 : (t : ℕ) → by-word-lts.Need-returns-9 (
@@ -861,7 +868,7 @@ by-word-returns-9 : (t : ℕ) → by-word-lts.Need-returns-9 (
   operation-at-below t,
   operation-at.Post,
 ) (by-word-at t) by-word.Post
-by-word-returns-9 t c = ?
+by-word-returns-9 t c = search by-operator
 
 -- src/lib.rt:275:9
 calling-arguments-held-requires : (t : ℕ) → calling-lts.Need-arguments-held-requires (
@@ -878,7 +885,7 @@ calling-arguments-held-requires : (t : ℕ) → calling-lts.Need-arguments-held-
   called-reads.Asked,
   called-reads.Learnt,
 ) (calling-at t) calling.Post
-calling-arguments-held-requires t c κs = ?
+calling-arguments-held-requires t c κs = search needs
 
 -- src/lib.rt:276:40
 calling-size-of-requires : (t : ℕ) → calling-lts.Need-size-of-requires (
@@ -895,7 +902,7 @@ calling-size-of-requires : (t : ℕ) → calling-lts.Need-size-of-requires (
   called-reads.Asked,
   called-reads.Learnt,
 ) (calling-at t) calling.Post
-calling-size-of-requires t c κs = ?
+calling-size-of-requires t c κs = search needs
 
 -- src/lib.rt:276:28
 calling-less-requires : (t : ℕ) → calling-lts.Need-less-requires (
@@ -912,7 +919,7 @@ calling-less-requires : (t : ℕ) → calling-lts.Need-less-requires (
   called-reads.Asked,
   called-reads.Learnt,
 ) (calling-at t) calling.Post
-calling-less-requires t c κs = ?
+calling-less-requires t c κs = search needs
 
 -- src/lib.rt:276:9
 calling-less-requires-2 : (t : ℕ) → calling-lts.Need-less-requires-2 (
@@ -929,7 +936,7 @@ calling-less-requires-2 : (t : ℕ) → calling-lts.Need-less-requires-2 (
   called-reads.Asked,
   called-reads.Learnt,
 ) (calling-at t) calling.Post
-calling-less-requires-2 t c κs = ?
+calling-less-requires-2 t c κs = search needs
 
 -- src/lib.rt:277:11
 calling-push-all-requires : (t : ℕ) → calling-lts.Need-push-all-requires (
@@ -946,7 +953,7 @@ calling-push-all-requires : (t : ℕ) → calling-lts.Need-push-all-requires (
   called-reads.Asked,
   called-reads.Learnt,
 ) (calling-at t) calling.Post
-calling-push-all-requires t c κs = ?
+calling-push-all-requires t c κs = (omega arith, search needs)
 
 -- src/lib.rt:279:52
 calling-enum-told : (t : ℕ) → calling-lts.Need-enum-told (
@@ -963,7 +970,7 @@ calling-enum-told : (t : ℕ) → calling-lts.Need-enum-told (
   called-reads.Asked,
   called-reads.Learnt,
 ) (calling-at t) calling.Post
-calling-enum-told t c = ?
+calling-enum-told t c = search needs
 
 -- src/lib.rt:279:66
 calling-number-of-requires : (t : ℕ) → calling-lts.Need-number-of-requires (
@@ -980,7 +987,7 @@ calling-number-of-requires : (t : ℕ) → calling-lts.Need-number-of-requires (
   called-reads.Asked,
   called-reads.Learnt,
 ) (calling-at t) calling.Post
-calling-number-of-requires t c κs = ?
+calling-number-of-requires t c κs = search needs
 
 -- src/lib.rt:279:17
 calling-called-requires : (t : ℕ) → calling-lts.Need-called-requires (
@@ -997,7 +1004,7 @@ calling-called-requires : (t : ℕ) → calling-lts.Need-called-requires (
   called-reads.Asked,
   called-reads.Learnt,
 ) (calling-at t) calling.Post
-calling-called-requires t c κs = ?
+calling-called-requires t c κs = search needs
 
 -- src/lib.rt:282:21
 calling-enum-known-n : (t : ℕ) → calling-lts.Need-enum-known-n (
@@ -1014,7 +1021,7 @@ calling-enum-known-n : (t : ℕ) → calling-lts.Need-enum-known-n (
   called-reads.Asked,
   called-reads.Learnt,
 ) (calling-at t) calling.Post
-calling-enum-known-n t c = ?
+calling-enum-known-n t c = search needs
 
 -- src/lib.rt:260:1
 calling-same-length : (t : ℕ) → calling-lts.Need-same-length (
@@ -1031,7 +1038,7 @@ calling-same-length : (t : ℕ) → calling-lts.Need-same-length (
   called-reads.Asked,
   called-reads.Learnt,
 ) (calling-at t) calling.Post
-calling-same-length t c = ?
+calling-same-length t c = search needs
 
 -- src/lib.rt:260:1
 calling-same-length-2 : (t : ℕ) → calling-lts.Need-same-length-2 (
@@ -1048,7 +1055,7 @@ calling-same-length-2 : (t : ℕ) → calling-lts.Need-same-length-2 (
   called-reads.Asked,
   called-reads.Learnt,
 ) (calling-at t) calling.Post
-calling-same-length-2 t c = ?
+calling-same-length-2 t c = search needs
 
 -- src/lib.rt:260:1
 calling-returns : (t : ℕ) → calling-lts.Need-returns (
@@ -1065,7 +1072,7 @@ calling-returns : (t : ℕ) → calling-lts.Need-returns (
   called-reads.Asked,
   called-reads.Learnt,
 ) (calling-at t) calling.Post
-calling-returns t c = ?
+calling-returns t c = search call-goes
 
 -- src/lib.rt:260:1
 calling-same-length-3 : (t : ℕ) → calling-lts.Need-same-length-3 (
@@ -1082,7 +1089,7 @@ calling-same-length-3 : (t : ℕ) → calling-lts.Need-same-length-3 (
   called-reads.Asked,
   called-reads.Learnt,
 ) (calling-at t) calling.Post
-calling-same-length-3 t c = ?
+calling-same-length-3 t c = search needs
 
 -- src/lib.rt:260:1
 calling-same-length-4 : (t : ℕ) → calling-lts.Need-same-length-4 (
@@ -1099,7 +1106,7 @@ calling-same-length-4 : (t : ℕ) → calling-lts.Need-same-length-4 (
   called-reads.Asked,
   called-reads.Learnt,
 ) (calling-at t) calling.Post
-calling-same-length-4 t c = ?
+calling-same-length-4 t c = search needs
 
 -- src/lib.rt:260:1
 calling-returns-2 : (t : ℕ) → calling-lts.Need-returns-2 (
@@ -1116,7 +1123,7 @@ calling-returns-2 : (t : ℕ) → calling-lts.Need-returns-2 (
   called-reads.Asked,
   called-reads.Learnt,
 ) (calling-at t) calling.Post
-calling-returns-2 t c = ?
+calling-returns-2 t c = search call-stops
 
 -- src/lib.rt:132:9
 entry-at-less-requires : (t : ℕ) → entry-at-lts.Need-less-requires (
@@ -1129,7 +1136,7 @@ entry-at-less-requires : (t : ℕ) → entry-at-lts.Need-less-requires (
   entry-of-below t,
   entry-of.Post,
 ) (entry-at-at t) entry-at.Post
-entry-at-less-requires t c κs = ?
+entry-at-less-requires t c κs = search needs
 
 -- src/lib.rt:140:24
 entry-at-index-of-requires : (t : ℕ) → entry-at-lts.Need-index-of-requires (
@@ -1142,7 +1149,7 @@ entry-at-index-of-requires : (t : ℕ) → entry-at-lts.Need-index-of-requires (
   entry-of-below t,
   entry-of.Post,
 ) (entry-at-at t) entry-at.Post
-entry-at-index-of-requires t c κs = ?
+entry-at-index-of-requires t c κs = search needs
 
 -- src/lib.rt:140:9
 entry-at-less-requires-2 : (t : ℕ) → entry-at-lts.Need-less-requires-2 (
@@ -1155,7 +1162,7 @@ entry-at-less-requires-2 : (t : ℕ) → entry-at-lts.Need-less-requires-2 (
   entry-of-below t,
   entry-of.Post,
 ) (entry-at-at t) entry-at.Post
-entry-at-less-requires-2 t c κs = ?
+entry-at-less-requires-2 t c κs = search needs
 
 -- src/lib.rt:133:11
 entry-at-evaluate-requires : (t : ℕ) → entry-at-lts.Need-evaluate-requires (
@@ -1168,7 +1175,7 @@ entry-at-evaluate-requires : (t : ℕ) → entry-at-lts.Need-evaluate-requires (
   entry-of-below t,
   entry-of.Post,
 ) (entry-at-at t) entry-at.Post
-entry-at-evaluate-requires t c κs = ?
+entry-at-evaluate-requires t c κs = (omega arith, search needs)
 
 -- src/lib.rt:143:22
 entry-at-enum-known-v : (t : ℕ) → entry-at-lts.Need-enum-known-v (
@@ -1181,7 +1188,7 @@ entry-at-enum-known-v : (t : ℕ) → entry-at-lts.Need-enum-known-v (
   entry-of-below t,
   entry-of.Post,
 ) (entry-at-at t) entry-at.Post
-entry-at-enum-known-v t c = ?
+entry-at-enum-known-v t c = search needs
 
 -- src/lib.rt:144:26
 entry-at-enum-known-v-2 : (t : ℕ) → entry-at-lts.Need-enum-known-v-2 (
@@ -1194,7 +1201,7 @@ entry-at-enum-known-v-2 : (t : ℕ) → entry-at-lts.Need-enum-known-v-2 (
   entry-of-below t,
   entry-of.Post,
 ) (entry-at-at t) entry-at.Post
-entry-at-enum-known-v-2 t c = ?
+entry-at-enum-known-v-2 t c = search needs
 
 -- src/lib.rt:145:21
 entry-at-entry-of-requires : (t : ℕ) → entry-at-lts.Need-entry-of-requires (
@@ -1207,7 +1214,7 @@ entry-at-entry-of-requires : (t : ℕ) → entry-at-lts.Need-entry-of-requires (
   entry-of-below t,
   entry-of.Post,
 ) (entry-at-at t) entry-at.Post
-entry-at-entry-of-requires t c κs = ?
+entry-at-entry-of-requires t c κs = (omega arith, valid-evaluated _ _ _ _ _ _ _ (c .before .before .before .before .before .before .before .before .before .before .before .before .before .before .before .before .before .before .before .before .before .before .pre .1) _ _ _ _ _ (c .before .before .before .before .before .before .before .before .before .before .before .before .evaluate .ensures) (c .before .before .before .before .before .before .v .given .1))
 
 -- src/lib.rt:150:21
 entry-at-enum-known-n : (t : ℕ) → entry-at-lts.Need-enum-known-n (
@@ -1220,7 +1227,7 @@ entry-at-enum-known-n : (t : ℕ) → entry-at-lts.Need-enum-known-n (
   entry-of-below t,
   entry-of.Post,
 ) (entry-at-at t) entry-at.Post
-entry-at-enum-known-n t c = ?
+entry-at-enum-known-n t c = search needs
 
 -- src/lib.rt:117:1
 entry-at-same-length : (t : ℕ) → entry-at-lts.Need-same-length (
@@ -1233,7 +1240,7 @@ entry-at-same-length : (t : ℕ) → entry-at-lts.Need-same-length (
   entry-of-below t,
   entry-of.Post,
 ) (entry-at-at t) entry-at.Post
-entry-at-same-length t c = ?
+entry-at-same-length t c = search needs
 
 -- src/lib.rt:117:1
 entry-at-same-length-2 : (t : ℕ) → entry-at-lts.Need-same-length-2 (
@@ -1246,7 +1253,7 @@ entry-at-same-length-2 : (t : ℕ) → entry-at-lts.Need-same-length-2 (
   entry-of-below t,
   entry-of.Post,
 ) (entry-at-at t) entry-at.Post
-entry-at-same-length-2 t c = ?
+entry-at-same-length-2 t c = search needs
 
 -- src/lib.rt:117:1
 entry-at-returns : (t : ℕ) → entry-at-lts.Need-returns (
@@ -1259,7 +1266,7 @@ entry-at-returns : (t : ℕ) → entry-at-lts.Need-returns (
   entry-of-below t,
   entry-of.Post,
 ) (entry-at-at t) entry-at.Post
-entry-at-returns t c = ?
+entry-at-returns t c = search entry-goes
 
 -- src/lib.rt:117:1
 entry-at-same-length-3 : (t : ℕ) → entry-at-lts.Need-same-length-3 (
@@ -1272,7 +1279,7 @@ entry-at-same-length-3 : (t : ℕ) → entry-at-lts.Need-same-length-3 (
   entry-of-below t,
   entry-of.Post,
 ) (entry-at-at t) entry-at.Post
-entry-at-same-length-3 t c = ?
+entry-at-same-length-3 t c = search needs
 
 -- src/lib.rt:117:1
 entry-at-same-length-4 : (t : ℕ) → entry-at-lts.Need-same-length-4 (
@@ -1285,7 +1292,7 @@ entry-at-same-length-4 : (t : ℕ) → entry-at-lts.Need-same-length-4 (
   entry-of-below t,
   entry-of.Post,
 ) (entry-at-at t) entry-at.Post
-entry-at-same-length-4 t c = ?
+entry-at-same-length-4 t c = search needs
 
 -- src/lib.rt:117:1
 entry-at-returns-2 : (t : ℕ) → entry-at-lts.Need-returns-2 (
@@ -1298,7 +1305,7 @@ entry-at-returns-2 : (t : ℕ) → entry-at-lts.Need-returns-2 (
   entry-of-below t,
   entry-of.Post,
 ) (entry-at-at t) entry-at.Post
-entry-at-returns-2 t c = ?
+entry-at-returns-2 t c = search entry-other
 
 -- src/lib.rt:117:1
 entry-at-same-length-5 : (t : ℕ) → entry-at-lts.Need-same-length-5 (
@@ -1311,7 +1318,7 @@ entry-at-same-length-5 : (t : ℕ) → entry-at-lts.Need-same-length-5 (
   entry-of-below t,
   entry-of.Post,
 ) (entry-at-at t) entry-at.Post
-entry-at-same-length-5 t c = ?
+entry-at-same-length-5 t c = search needs
 
 -- src/lib.rt:117:1
 entry-at-same-length-6 : (t : ℕ) → entry-at-lts.Need-same-length-6 (
@@ -1324,7 +1331,7 @@ entry-at-same-length-6 : (t : ℕ) → entry-at-lts.Need-same-length-6 (
   entry-of-below t,
   entry-of.Post,
 ) (entry-at-at t) entry-at.Post
-entry-at-same-length-6 t c = ?
+entry-at-same-length-6 t c = search needs
 
 -- src/lib.rt:117:1
 entry-at-returns-3 : (t : ℕ) → entry-at-lts.Need-returns-3 (
@@ -1337,7 +1344,7 @@ entry-at-returns-3 : (t : ℕ) → entry-at-lts.Need-returns-3 (
   entry-of-below t,
   entry-of.Post,
 ) (entry-at-at t) entry-at.Post
-entry-at-returns-3 t c = ?
+entry-at-returns-3 t c = search entry-stops
 
 -- src/lib.rt:170:11
 entry-of-evaluate-requires : (t : ℕ) → entry-of-lts.Need-evaluate-requires (
@@ -1348,7 +1355,7 @@ entry-of-evaluate-requires : (t : ℕ) → entry-of-lts.Need-evaluate-requires (
   read-entry-reads.Asked,
   read-entry-reads.Learnt,
 ) (entry-of-at t) entry-of.Post
-entry-of-evaluate-requires t c κs = ?
+entry-of-evaluate-requires t c κs = (omega arith, search needs)
 
 -- src/lib.rt:171:22
 entry-of-enum-known-k : (t : ℕ) → entry-of-lts.Need-enum-known-k (
@@ -1359,7 +1366,7 @@ entry-of-enum-known-k : (t : ℕ) → entry-of-lts.Need-enum-known-k (
   read-entry-reads.Asked,
   read-entry-reads.Learnt,
 ) (entry-of-at t) entry-of.Post
-entry-of-enum-known-k t c = ?
+entry-of-enum-known-k t c = search needs
 
 -- src/lib.rt:179:17
 entry-of-pack-requires : (t : ℕ) → entry-of-lts.Need-pack-requires (
@@ -1370,7 +1377,7 @@ entry-of-pack-requires : (t : ℕ) → entry-of-lts.Need-pack-requires (
   read-entry-reads.Asked,
   read-entry-reads.Learnt,
 ) (entry-of-at t) entry-of.Post
-entry-of-pack-requires t c κs = ?
+entry-of-pack-requires t c κs = search needs
 
 -- src/lib.rt:172:17
 entry-of-read-entry-requires : (t : ℕ) → entry-of-lts.Need-read-entry-requires (
@@ -1381,7 +1388,7 @@ entry-of-read-entry-requires : (t : ℕ) → entry-of-lts.Need-read-entry-requir
   read-entry-reads.Asked,
   read-entry-reads.Learnt,
 ) (entry-of-at t) entry-of.Post
-entry-of-read-entry-requires t c κs = ?
+entry-of-read-entry-requires t c κs = looks (valid-evaluated _ _ _ _ _ _ _ (c .before .before .before .before .before .before .before .before .before .before .before .before .before .before .before .before .before .pre .1) _ _ _ _ _ (c .before .before .before .before .before .before .before .before .before .before .evaluate .ensures) (c .before .before .before .before .k .given .1))
 
 -- src/lib.rt:183:21
 entry-of-enum-known-n : (t : ℕ) → entry-of-lts.Need-enum-known-n (
@@ -1392,7 +1399,7 @@ entry-of-enum-known-n : (t : ℕ) → entry-of-lts.Need-enum-known-n (
   read-entry-reads.Asked,
   read-entry-reads.Learnt,
 ) (entry-of-at t) entry-of.Post
-entry-of-enum-known-n t c = ?
+entry-of-enum-known-n t c = search needs
 
 -- src/lib.rt:155:1
 entry-of-same-length : (t : ℕ) → entry-of-lts.Need-same-length (
@@ -1403,7 +1410,7 @@ entry-of-same-length : (t : ℕ) → entry-of-lts.Need-same-length (
   read-entry-reads.Asked,
   read-entry-reads.Learnt,
 ) (entry-of-at t) entry-of.Post
-entry-of-same-length t c = ?
+entry-of-same-length t c = search needs
 
 -- src/lib.rt:155:1
 entry-of-same-length-2 : (t : ℕ) → entry-of-lts.Need-same-length-2 (
@@ -1414,7 +1421,7 @@ entry-of-same-length-2 : (t : ℕ) → entry-of-lts.Need-same-length-2 (
   read-entry-reads.Asked,
   read-entry-reads.Learnt,
 ) (entry-of-at t) entry-of.Post
-entry-of-same-length-2 t c = ?
+entry-of-same-length-2 t c = search needs
 
 -- src/lib.rt:155:1
 entry-of-returns : (t : ℕ) → entry-of-lts.Need-returns (
@@ -1425,7 +1432,7 @@ entry-of-returns : (t : ℕ) → entry-of-lts.Need-returns (
   read-entry-reads.Asked,
   read-entry-reads.Learnt,
 ) (entry-of-at t) entry-of.Post
-entry-of-returns t c = ?
+entry-of-returns t c = search key-goes
 
 -- src/lib.rt:155:1
 entry-of-same-length-3 : (t : ℕ) → entry-of-lts.Need-same-length-3 (
@@ -1436,7 +1443,7 @@ entry-of-same-length-3 : (t : ℕ) → entry-of-lts.Need-same-length-3 (
   read-entry-reads.Asked,
   read-entry-reads.Learnt,
 ) (entry-of-at t) entry-of.Post
-entry-of-same-length-3 t c = ?
+entry-of-same-length-3 t c = search needs
 
 -- src/lib.rt:155:1
 entry-of-same-length-4 : (t : ℕ) → entry-of-lts.Need-same-length-4 (
@@ -1447,7 +1454,7 @@ entry-of-same-length-4 : (t : ℕ) → entry-of-lts.Need-same-length-4 (
   read-entry-reads.Asked,
   read-entry-reads.Learnt,
 ) (entry-of-at t) entry-of.Post
-entry-of-same-length-4 t c = ?
+entry-of-same-length-4 t c = search needs
 
 -- src/lib.rt:155:1
 entry-of-returns-2 : (t : ℕ) → entry-of-lts.Need-returns-2 (
@@ -1458,7 +1465,7 @@ entry-of-returns-2 : (t : ℕ) → entry-of-lts.Need-returns-2 (
   read-entry-reads.Asked,
   read-entry-reads.Learnt,
 ) (entry-of-at t) entry-of.Post
-entry-of-returns-2 t c = ?
+entry-of-returns-2 t c = search key-stops
 
 -- src/lib.rt:29:9
 evaluate-returns : (t : ℕ) → evaluate-lts.Need-returns (
@@ -1469,7 +1476,7 @@ evaluate-returns : (t : ℕ) → evaluate-lts.Need-returns (
   by-word-below t,
   by-word.Post,
 ) (evaluate-at t) evaluate.Post
-evaluate-returns t c = ?
+evaluate-returns t c = search too-deep
 
 -- src/lib.rt:31:9
 evaluate-count-requires : (t : ℕ) → evaluate-lts.Need-count-requires (
@@ -1480,7 +1487,7 @@ evaluate-count-requires : (t : ℕ) → evaluate-lts.Need-count-requires (
   by-word-below t,
   by-word.Post,
 ) (evaluate-at t) evaluate.Post
-evaluate-count-requires t c κs = ?
+evaluate-count-requires t c κs = search needs
 
 -- src/lib.rt:32:9
 evaluate-same-length : (t : ℕ) → evaluate-lts.Need-same-length (
@@ -1491,7 +1498,7 @@ evaluate-same-length : (t : ℕ) → evaluate-lts.Need-same-length (
   by-word-below t,
   by-word.Post,
 ) (evaluate-at t) evaluate.Post
-evaluate-same-length t c = ?
+evaluate-same-length t c = search needs
 
 -- src/lib.rt:32:9
 evaluate-returns-2 : (t : ℕ) → evaluate-lts.Need-returns-2 (
@@ -1502,7 +1509,7 @@ evaluate-returns-2 : (t : ℕ) → evaluate-lts.Need-returns-2 (
   by-word-below t,
   by-word.Post,
 ) (evaluate-at t) evaluate.Post
-evaluate-returns-2 t c = ?
+evaluate-returns-2 t c = search no-step
 
 -- src/lib.rt:34:9
 evaluate-word-at-requires : (t : ℕ) → evaluate-lts.Need-word-at-requires (
@@ -1513,7 +1520,7 @@ evaluate-word-at-requires : (t : ℕ) → evaluate-lts.Need-word-at-requires (
   by-word-below t,
   by-word.Post,
 ) (evaluate-at t) evaluate.Post
-evaluate-word-at-requires t c κs = ?
+evaluate-word-at-requires t c κs = search needs
 
 -- src/lib.rt:35:58
 evaluate-sub-by-word : (t : ℕ) → evaluate-lts.Need-sub-by-word (
@@ -1524,7 +1531,7 @@ evaluate-sub-by-word : (t : ℕ) → evaluate-lts.Need-sub-by-word (
   by-word-below t,
   by-word.Post,
 ) (evaluate-at t) evaluate.Post
-evaluate-sub-by-word t c = ?
+evaluate-sub-by-word t c = search needs
 
 -- src/lib.rt:35:9
 evaluate-by-word-requires : (t : ℕ) → evaluate-lts.Need-by-word-requires (
@@ -1535,7 +1542,7 @@ evaluate-by-word-requires : (t : ℕ) → evaluate-lts.Need-by-word-requires (
   by-word-below t,
   by-word.Post,
 ) (evaluate-at t) evaluate.Post
-evaluate-by-word-requires t c κs = ?
+evaluate-by-word-requires t c κs = (omega arith, search valid-counted)
 
 -- src/lib.rt:14:1
 evaluate-same-length-2 : (t : ℕ) → evaluate-lts.Need-same-length-2 (
@@ -1546,7 +1553,7 @@ evaluate-same-length-2 : (t : ℕ) → evaluate-lts.Need-same-length-2 (
   by-word-below t,
   by-word.Post,
 ) (evaluate-at t) evaluate.Post
-evaluate-same-length-2 t c = ?
+evaluate-same-length-2 t c = search needs
 
 -- src/lib.rt:14:1
 evaluate-same-length-3 : (t : ℕ) → evaluate-lts.Need-same-length-3 (
@@ -1557,7 +1564,7 @@ evaluate-same-length-3 : (t : ℕ) → evaluate-lts.Need-same-length-3 (
   by-word-below t,
   by-word.Post,
 ) (evaluate-at t) evaluate.Post
-evaluate-same-length-3 t c = ?
+evaluate-same-length-3 t c = search needs
 
 -- src/lib.rt:14:1
 evaluate-returns-3 : (t : ℕ) → evaluate-lts.Need-returns-3 (
@@ -1568,7 +1575,7 @@ evaluate-returns-3 : (t : ℕ) → evaluate-lts.Need-returns-3 (
   by-word-below t,
   by-word.Post,
 ) (evaluate-at t) evaluate.Post
-evaluate-returns-3 t c = ?
+evaluate-returns-3 t c = search evaluated
 
 -- src/lib.rt:203:9
 operation-at-less-requires : (t : ℕ) → operation-at-lts.Need-less-requires (
@@ -1585,7 +1592,7 @@ operation-at-less-requires : (t : ℕ) → operation-at-lts.Need-less-requires (
   operation-of-below t,
   operation-of.Post,
 ) (operation-at-at t) operation-at.Post
-operation-at-less-requires t c κs = ?
+operation-at-less-requires t c κs = search needs
 
 -- src/lib.rt:211:24
 operation-at-index-of-requires : (t : ℕ) → operation-at-lts.Need-index-of-requires (
@@ -1602,7 +1609,7 @@ operation-at-index-of-requires : (t : ℕ) → operation-at-lts.Need-index-of-re
   operation-of-below t,
   operation-of.Post,
 ) (operation-at-at t) operation-at.Post
-operation-at-index-of-requires t c κs = ?
+operation-at-index-of-requires t c κs = search needs
 
 -- src/lib.rt:211:9
 operation-at-less-requires-2 : (t : ℕ) → operation-at-lts.Need-less-requires-2 (
@@ -1619,7 +1626,7 @@ operation-at-less-requires-2 : (t : ℕ) → operation-at-lts.Need-less-requires
   operation-of-below t,
   operation-of.Post,
 ) (operation-at-at t) operation-at.Post
-operation-at-less-requires-2 t c κs = ?
+operation-at-less-requires-2 t c κs = search needs
 
 -- src/lib.rt:204:11
 operation-at-evaluate-requires : (t : ℕ) → operation-at-lts.Need-evaluate-requires (
@@ -1636,7 +1643,7 @@ operation-at-evaluate-requires : (t : ℕ) → operation-at-lts.Need-evaluate-re
   operation-of-below t,
   operation-of.Post,
 ) (operation-at-at t) operation-at.Post
-operation-at-evaluate-requires t c κs = ?
+operation-at-evaluate-requires t c κs = (omega arith, search needs)
 
 -- src/lib.rt:214:22
 operation-at-enum-known-v : (t : ℕ) → operation-at-lts.Need-enum-known-v (
@@ -1653,7 +1660,7 @@ operation-at-enum-known-v : (t : ℕ) → operation-at-lts.Need-enum-known-v (
   operation-of-below t,
   operation-of.Post,
 ) (operation-at-at t) operation-at.Post
-operation-at-enum-known-v t c = ?
+operation-at-enum-known-v t c = search needs
 
 -- src/lib.rt:222:17
 operation-at-tag-of-requires : (t : ℕ) → operation-at-lts.Need-tag-of-requires (
@@ -1670,7 +1677,7 @@ operation-at-tag-of-requires : (t : ℕ) → operation-at-lts.Need-tag-of-requir
   operation-of-below t,
   operation-of.Post,
 ) (operation-at-at t) operation-at.Post
-operation-at-tag-of-requires t c κs = ?
+operation-at-tag-of-requires t c κs = search needs
 
 -- src/lib.rt:223:17
 operation-at-pack-requires : (t : ℕ) → operation-at-lts.Need-pack-requires (
@@ -1687,7 +1694,7 @@ operation-at-pack-requires : (t : ℕ) → operation-at-lts.Need-pack-requires (
   operation-of-below t,
   operation-of.Post,
 ) (operation-at-at t) operation-at.Post
-operation-at-pack-requires t c κs = ?
+operation-at-pack-requires t c κs = search needs
 
 -- src/lib.rt:215:17
 operation-at-operation-of-requires : (t : ℕ) → operation-at-lts.Need-operation-of-requires (
@@ -1704,7 +1711,7 @@ operation-at-operation-of-requires : (t : ℕ) → operation-at-lts.Need-operati
   operation-of-below t,
   operation-of.Post,
 ) (operation-at-at t) operation-at.Post
-operation-at-operation-of-requires t c κs = ?
+operation-at-operation-of-requires t c κs = (omega arith, valid-evaluated _ _ _ _ _ _ _ (c .before .before .before .before .before .before .before .before .before .before .before .before .before .before .before .before .before .before .before .before .before .pre .1) _ _ _ _ _ (c .before .before .before .before .before .before .before .before .before .before .before .evaluate .ensures) (c .before .before .before .before .before .v .given .1))
 
 -- src/lib.rt:229:21
 operation-at-enum-known-n : (t : ℕ) → operation-at-lts.Need-enum-known-n (
@@ -1721,7 +1728,7 @@ operation-at-enum-known-n : (t : ℕ) → operation-at-lts.Need-enum-known-n (
   operation-of-below t,
   operation-of.Post,
 ) (operation-at-at t) operation-at.Post
-operation-at-enum-known-n t c = ?
+operation-at-enum-known-n t c = search needs
 
 -- src/lib.rt:188:1
 operation-at-same-length : (t : ℕ) → operation-at-lts.Need-same-length (
@@ -1738,7 +1745,7 @@ operation-at-same-length : (t : ℕ) → operation-at-lts.Need-same-length (
   operation-of-below t,
   operation-of.Post,
 ) (operation-at-at t) operation-at.Post
-operation-at-same-length t c = ?
+operation-at-same-length t c = search needs
 
 -- src/lib.rt:188:1
 operation-at-same-length-2 : (t : ℕ) → operation-at-lts.Need-same-length-2 (
@@ -1755,7 +1762,7 @@ operation-at-same-length-2 : (t : ℕ) → operation-at-lts.Need-same-length-2 (
   operation-of-below t,
   operation-of.Post,
 ) (operation-at-at t) operation-at.Post
-operation-at-same-length-2 t c = ?
+operation-at-same-length-2 t c = search needs
 
 -- src/lib.rt:188:1
 operation-at-returns : (t : ℕ) → operation-at-lts.Need-returns (
@@ -1772,7 +1779,7 @@ operation-at-returns : (t : ℕ) → operation-at-lts.Need-returns (
   operation-of-below t,
   operation-of.Post,
 ) (operation-at-at t) operation-at.Post
-operation-at-returns t c = ?
+operation-at-returns t c = search operation-goes
 
 -- src/lib.rt:188:1
 operation-at-same-length-3 : (t : ℕ) → operation-at-lts.Need-same-length-3 (
@@ -1789,7 +1796,7 @@ operation-at-same-length-3 : (t : ℕ) → operation-at-lts.Need-same-length-3 (
   operation-of-below t,
   operation-of.Post,
 ) (operation-at-at t) operation-at.Post
-operation-at-same-length-3 t c = ?
+operation-at-same-length-3 t c = search needs
 
 -- src/lib.rt:188:1
 operation-at-same-length-4 : (t : ℕ) → operation-at-lts.Need-same-length-4 (
@@ -1806,7 +1813,7 @@ operation-at-same-length-4 : (t : ℕ) → operation-at-lts.Need-same-length-4 (
   operation-of-below t,
   operation-of.Post,
 ) (operation-at-at t) operation-at.Post
-operation-at-same-length-4 t c = ?
+operation-at-same-length-4 t c = search needs
 
 -- src/lib.rt:188:1
 operation-at-returns-2 : (t : ℕ) → operation-at-lts.Need-returns-2 (
@@ -1823,7 +1830,7 @@ operation-at-returns-2 : (t : ℕ) → operation-at-lts.Need-returns-2 (
   operation-of-below t,
   operation-of.Post,
 ) (operation-at-at t) operation-at.Post
-operation-at-returns-2 t c = ?
+operation-at-returns-2 t c = search operation-stops
 
 -- src/lib.rt:250:11
 operation-of-evaluate-requires : (t : ℕ) → operation-of-lts.Need-evaluate-requires (
@@ -1834,7 +1841,7 @@ operation-of-evaluate-requires : (t : ℕ) → operation-of-lts.Need-evaluate-re
   operate-reads.Asked,
   operate-reads.Learnt,
 ) (operation-of-at t) operation-of.Post
-operation-of-evaluate-requires t c κs = ?
+operation-of-evaluate-requires t c κs = (omega arith, search needs)
 
 -- src/lib.rt:251:22
 operation-of-enum-known-v : (t : ℕ) → operation-of-lts.Need-enum-known-v (
@@ -1845,7 +1852,7 @@ operation-of-enum-known-v : (t : ℕ) → operation-of-lts.Need-enum-known-v (
   operate-reads.Asked,
   operate-reads.Learnt,
 ) (operation-of-at t) operation-of.Post
-operation-of-enum-known-v t c = ?
+operation-of-enum-known-v t c = search needs
 
 -- src/lib.rt:252:80
 operation-of-pack-requires : (t : ℕ) → operation-of-lts.Need-pack-requires (
@@ -1856,7 +1863,7 @@ operation-of-pack-requires : (t : ℕ) → operation-of-lts.Need-pack-requires (
   operate-reads.Asked,
   operate-reads.Learnt,
 ) (operation-of-at t) operation-of.Post
-operation-of-pack-requires t c κs = ?
+operation-of-pack-requires t c κs = search needs
 
 -- src/lib.rt:252:17
 operation-of-operate-requires : (t : ℕ) → operation-of-lts.Need-operate-requires (
@@ -1867,7 +1874,7 @@ operation-of-operate-requires : (t : ℕ) → operation-of-lts.Need-operate-requ
   operate-reads.Asked,
   operate-reads.Learnt,
 ) (operation-of-at t) operation-of.Post
-operation-of-operate-requires t c κs = ?
+operation-of-operate-requires t c κs = search needs
 
 -- src/lib.rt:255:21
 operation-of-enum-known-n : (t : ℕ) → operation-of-lts.Need-enum-known-n (
@@ -1878,7 +1885,7 @@ operation-of-enum-known-n : (t : ℕ) → operation-of-lts.Need-enum-known-n (
   operate-reads.Asked,
   operate-reads.Learnt,
 ) (operation-of-at t) operation-of.Post
-operation-of-enum-known-n t c = ?
+operation-of-enum-known-n t c = search needs
 
 -- src/lib.rt:234:1
 operation-of-same-length : (t : ℕ) → operation-of-lts.Need-same-length (
@@ -1889,7 +1896,7 @@ operation-of-same-length : (t : ℕ) → operation-of-lts.Need-same-length (
   operate-reads.Asked,
   operate-reads.Learnt,
 ) (operation-of-at t) operation-of.Post
-operation-of-same-length t c = ?
+operation-of-same-length t c = search needs
 
 -- src/lib.rt:234:1
 operation-of-same-length-2 : (t : ℕ) → operation-of-lts.Need-same-length-2 (
@@ -1900,7 +1907,7 @@ operation-of-same-length-2 : (t : ℕ) → operation-of-lts.Need-same-length-2 (
   operate-reads.Asked,
   operate-reads.Learnt,
 ) (operation-of-at t) operation-of.Post
-operation-of-same-length-2 t c = ?
+operation-of-same-length-2 t c = search needs
 
 -- src/lib.rt:234:1
 operation-of-returns : (t : ℕ) → operation-of-lts.Need-returns (
@@ -1911,7 +1918,7 @@ operation-of-returns : (t : ℕ) → operation-of-lts.Need-returns (
   operate-reads.Asked,
   operate-reads.Learnt,
 ) (operation-of-at t) operation-of.Post
-operation-of-returns t c = ?
+operation-of-returns t c = search side-goes
 
 -- src/lib.rt:234:1
 operation-of-same-length-3 : (t : ℕ) → operation-of-lts.Need-same-length-3 (
@@ -1922,7 +1929,7 @@ operation-of-same-length-3 : (t : ℕ) → operation-of-lts.Need-same-length-3 (
   operate-reads.Asked,
   operate-reads.Learnt,
 ) (operation-of-at t) operation-of.Post
-operation-of-same-length-3 t c = ?
+operation-of-same-length-3 t c = search needs
 
 -- src/lib.rt:234:1
 operation-of-same-length-4 : (t : ℕ) → operation-of-lts.Need-same-length-4 (
@@ -1933,7 +1940,7 @@ operation-of-same-length-4 : (t : ℕ) → operation-of-lts.Need-same-length-4 (
   operate-reads.Asked,
   operate-reads.Learnt,
 ) (operation-of-at t) operation-of.Post
-operation-of-same-length-4 t c = ?
+operation-of-same-length-4 t c = search needs
 
 -- src/lib.rt:234:1
 operation-of-returns-2 : (t : ℕ) → operation-of-lts.Need-returns-2 (
@@ -1944,13 +1951,14 @@ operation-of-returns-2 : (t : ℕ) → operation-of-lts.Need-returns-2 (
   operate-reads.Asked,
   operate-reads.Learnt,
 ) (operation-of-at t) operation-of.Post
-operation-of-returns-2 t c = ?
+operation-of-returns-2 t c = search side-stops
 
 abbrev push-all-Inv-loop : push-all-lts.InvT-loop
-push-all-Inv-loop program code grants texts₀ words₀ depth a x p at₀ texts words at = ?
+push-all-Inv-loop program code grants texts₀ words₀ depth a x p at₀ texts words at =
+    Pushing program code grants depth texts₀ words₀ a x p texts words at
 
 abbrev push-all-μ-loop : push-all-lts.MeasureT-loop
-push-all-μ-loop program code grants texts₀ words₀ depth a x p at₀ texts words at = ?
+push-all-μ-loop program code grants texts₀ words₀ depth a x p at₀ texts words at = x - at
 
 -- src/lib.rt:303:5
 push-all-loop-holds : (t : ℕ) → push-all-lts.Need-loop-holds (
@@ -1961,7 +1969,7 @@ push-all-loop-holds : (t : ℕ) → push-all-lts.Need-loop-holds (
   pushed-below t,
   pushed.Post,
 ) (push-all-at t) push-all.Post push-all-Inv-loop push-all-μ-loop
-push-all-loop-holds t c = ?
+push-all-loop-holds t c = search push-first
 
 -- src/lib.rt:304:31
 push-all-word-at-requires : (t : ℕ) → push-all-lts.Need-word-at-requires (
@@ -1972,7 +1980,7 @@ push-all-word-at-requires : (t : ℕ) → push-all-lts.Need-word-at-requires (
   pushed-below t,
   pushed.Post,
 ) (push-all-at t) push-all.Post push-all-Inv-loop push-all-μ-loop
-push-all-word-at-requires t c κs = ?
+push-all-word-at-requires t c κs = search needs
 
 -- src/lib.rt:304:13
 push-all-size-of-requires : (t : ℕ) → push-all-lts.Need-size-of-requires (
@@ -1983,7 +1991,7 @@ push-all-size-of-requires : (t : ℕ) → push-all-lts.Need-size-of-requires (
   pushed-below t,
   pushed.Post,
 ) (push-all-at t) push-all.Post push-all-Inv-loop push-all-μ-loop
-push-all-size-of-requires t c κs = ?
+push-all-size-of-requires t c κs = search needs
 
 -- src/lib.rt:305:12
 push-all-sub-if1 : (t : ℕ) → push-all-lts.Need-sub-if1 (
@@ -1994,7 +2002,7 @@ push-all-sub-if1 : (t : ℕ) → push-all-lts.Need-sub-if1 (
   pushed-below t,
   pushed.Post,
 ) (push-all-at t) push-all.Post push-all-Inv-loop push-all-μ-loop
-push-all-sub-if1 t c = ?
+push-all-sub-if1 t c = search needs
 
 -- src/lib.rt:306:13
 push-all-same-length : (t : ℕ) → push-all-lts.Need-same-length (
@@ -2005,7 +2013,7 @@ push-all-same-length : (t : ℕ) → push-all-lts.Need-same-length (
   pushed-below t,
   pushed.Post,
 ) (push-all-at t) push-all.Post push-all-Inv-loop push-all-μ-loop
-push-all-same-length t c = ?
+push-all-same-length t c = search needs
 
 -- src/lib.rt:306:13
 push-all-same-length-2 : (t : ℕ) → push-all-lts.Need-same-length-2 (
@@ -2016,7 +2024,7 @@ push-all-same-length-2 : (t : ℕ) → push-all-lts.Need-same-length-2 (
   pushed-below t,
   pushed.Post,
 ) (push-all-at t) push-all.Post push-all-Inv-loop push-all-μ-loop
-push-all-same-length-2 t c = ?
+push-all-same-length-2 t c = search needs
 
 -- src/lib.rt:306:13
 push-all-returns : (t : ℕ) → push-all-lts.Need-returns (
@@ -2027,7 +2035,7 @@ push-all-returns : (t : ℕ) → push-all-lts.Need-returns (
   pushed-below t,
   pushed.Post,
 ) (push-all-at t) push-all.Post push-all-Inv-loop push-all-μ-loop
-push-all-returns t c = ?
+push-all-returns t c = search push-last
 
 -- src/lib.rt:308:66
 push-all-add-pushed : (t : ℕ) → push-all-lts.Need-add-pushed (
@@ -2038,7 +2046,7 @@ push-all-add-pushed : (t : ℕ) → push-all-lts.Need-add-pushed (
   pushed-below t,
   pushed.Post,
 ) (push-all-at t) push-all.Post push-all-Inv-loop push-all-μ-loop
-push-all-add-pushed t c = ?
+push-all-add-pushed t c = search needs
 
 -- src/lib.rt:308:15
 push-all-pushed-requires : (t : ℕ) → push-all-lts.Need-pushed-requires (
@@ -2049,7 +2057,7 @@ push-all-pushed-requires : (t : ℕ) → push-all-lts.Need-pushed-requires (
   pushed-below t,
   pushed.Post,
 ) (push-all-at t) push-all.Post push-all-Inv-loop push-all-μ-loop
-push-all-pushed-requires t c κs = ?
+push-all-pushed-requires t c κs = (omega arith, search needs)
 
 -- src/lib.rt:310:22
 push-all-enum-told : (t : ℕ) → push-all-lts.Need-enum-told (
@@ -2060,7 +2068,7 @@ push-all-enum-told : (t : ℕ) → push-all-lts.Need-enum-told (
   pushed-below t,
   pushed.Post,
 ) (push-all-at t) push-all.Post push-all-Inv-loop push-all-μ-loop
-push-all-enum-told t c = ?
+push-all-enum-told t c = search needs
 
 -- src/lib.rt:310:22
 push-all-add-at : (t : ℕ) → push-all-lts.Need-add-at (
@@ -2071,7 +2079,7 @@ push-all-add-at : (t : ℕ) → push-all-lts.Need-add-at (
   pushed-below t,
   pushed.Post,
 ) (push-all-at t) push-all.Post push-all-Inv-loop push-all-μ-loop
-push-all-add-at t c = ?
+push-all-add-at t c = search needs
 
 -- src/lib.rt:310:22
 push-all-add-at-2 : (t : ℕ) → push-all-lts.Need-add-at-2 (
@@ -2082,7 +2090,7 @@ push-all-add-at-2 : (t : ℕ) → push-all-lts.Need-add-at-2 (
   pushed-below t,
   pushed.Post,
 ) (push-all-at t) push-all.Post push-all-Inv-loop push-all-μ-loop
-push-all-add-at-2 t c = ?
+push-all-add-at-2 t c = search needs
 
 -- src/lib.rt:303:5
 push-all-loop-less : (t : ℕ) → push-all-lts.Need-loop-less (
@@ -2093,7 +2101,7 @@ push-all-loop-less : (t : ℕ) → push-all-lts.Need-loop-less (
   pushed-below t,
   pushed.Post,
 ) (push-all-at t) push-all.Post push-all-Inv-loop push-all-μ-loop
-push-all-loop-less t c = ?
+push-all-loop-less t c = search needs
 
 -- src/lib.rt:303:5
 push-all-loop-again : (t : ℕ) → push-all-lts.Need-loop-again (
@@ -2104,7 +2112,7 @@ push-all-loop-again : (t : ℕ) → push-all-lts.Need-loop-again (
   pushed-below t,
   pushed.Post,
 ) (push-all-at t) push-all.Post push-all-Inv-loop push-all-μ-loop
-push-all-loop-again t c = ?
+push-all-loop-again t c = push-more _ _ _ _ _ _ _ _ _ _ _ _ (c .before .before .before .before .before .before .before .before .before .before .before .before .before .loop .inv) _ _ _ _ _ _ (c .before .before .before .before .before .before .before .before .before .before .before .word-at .ensures) (c .before .before .before .before .before .before .before .before .before .before .size-of .ensures) (c .before .before .before .before .before .before .before .before .before .before .before .before .loop-test .taken) (c .before .before .before .before .before .before .before .before .before .if1 .left) refl (c .before .before .before .before .before .before .pushed .ensures) _ (valid-pushed _ _ _ _ _ _ _ (c .before .before .before .before .before .before .before .before .before .before .before .before .before .loop .inv .valid) _ _ _ _ _ (c .before .before .before .before .before .before .pushed .ensures) (c .enum-told .given .1)) (search needs) (search needs) (c .enum-told .given .1)
 
 -- src/lib.rt:312:25
 push-all-enum-known-n : (t : ℕ) → push-all-lts.Need-enum-known-n (
@@ -2115,7 +2123,7 @@ push-all-enum-known-n : (t : ℕ) → push-all-lts.Need-enum-known-n (
   pushed-below t,
   pushed.Post,
 ) (push-all-at t) push-all.Post push-all-Inv-loop push-all-μ-loop
-push-all-enum-known-n t c = ?
+push-all-enum-known-n t c = search needs
 
 -- src/lib.rt:312:34
 push-all-same-length-3 : (t : ℕ) → push-all-lts.Need-same-length-3 (
@@ -2126,7 +2134,7 @@ push-all-same-length-3 : (t : ℕ) → push-all-lts.Need-same-length-3 (
   pushed-below t,
   pushed.Post,
 ) (push-all-at t) push-all.Post push-all-Inv-loop push-all-μ-loop
-push-all-same-length-3 t c = ?
+push-all-same-length-3 t c = search needs
 
 -- src/lib.rt:312:34
 push-all-same-length-4 : (t : ℕ) → push-all-lts.Need-same-length-4 (
@@ -2137,7 +2145,7 @@ push-all-same-length-4 : (t : ℕ) → push-all-lts.Need-same-length-4 (
   pushed-below t,
   pushed.Post,
 ) (push-all-at t) push-all.Post push-all-Inv-loop push-all-μ-loop
-push-all-same-length-4 t c = ?
+push-all-same-length-4 t c = search needs
 
 -- src/lib.rt:312:34
 push-all-returns-2 : (t : ℕ) → push-all-lts.Need-returns-2 (
@@ -2148,7 +2156,7 @@ push-all-returns-2 : (t : ℕ) → push-all-lts.Need-returns-2 (
   pushed-below t,
   pushed.Post,
 ) (push-all-at t) push-all.Post push-all-Inv-loop push-all-μ-loop
-push-all-returns-2 t c = ?
+push-all-returns-2 t c = search push-fails
 
 -- src/lib.rt:287:1
 push-all-same-length-5 : (t : ℕ) → push-all-lts.Need-same-length-5 (
@@ -2159,7 +2167,7 @@ push-all-same-length-5 : (t : ℕ) → push-all-lts.Need-same-length-5 (
   pushed-below t,
   pushed.Post,
 ) (push-all-at t) push-all.Post push-all-Inv-loop push-all-μ-loop
-push-all-same-length-5 t c = ?
+push-all-same-length-5 t c = search needs
 
 -- src/lib.rt:287:1
 push-all-same-length-6 : (t : ℕ) → push-all-lts.Need-same-length-6 (
@@ -2170,7 +2178,7 @@ push-all-same-length-6 : (t : ℕ) → push-all-lts.Need-same-length-6 (
   pushed-below t,
   pushed.Post,
 ) (push-all-at t) push-all.Post push-all-Inv-loop push-all-μ-loop
-push-all-same-length-6 t c = ?
+push-all-same-length-6 t c = search needs
 
 -- src/lib.rt:287:1
 push-all-returns-3 : (t : ℕ) → push-all-lts.Need-returns-3 (
@@ -2181,7 +2189,7 @@ push-all-returns-3 : (t : ℕ) → push-all-lts.Need-returns-3 (
   pushed-below t,
   pushed.Post,
 ) (push-all-at t) push-all.Post push-all-Inv-loop push-all-μ-loop
-push-all-returns-3 t c = ?
+push-all-returns-3 t c = search push-end
 
 -- src/lib.rt:333:11
 pushed-evaluate-requires : (t : ℕ) → pushed-lts.Need-evaluate-requires (
@@ -2192,7 +2200,7 @@ pushed-evaluate-requires : (t : ℕ) → pushed-lts.Need-evaluate-requires (
   push-reads.Asked,
   push-reads.Learnt,
 ) (pushed-at t) pushed.Post
-pushed-evaluate-requires t c κs = ?
+pushed-evaluate-requires t c κs = (omega arith, search needs)
 
 -- src/lib.rt:334:22
 pushed-enum-known-v : (t : ℕ) → pushed-lts.Need-enum-known-v (
@@ -2203,7 +2211,7 @@ pushed-enum-known-v : (t : ℕ) → pushed-lts.Need-enum-known-v (
   push-reads.Asked,
   push-reads.Learnt,
 ) (pushed-at t) pushed.Post
-pushed-enum-known-v t c = ?
+pushed-enum-known-v t c = search needs
 
 -- src/lib.rt:335:48
 pushed-pack-requires : (t : ℕ) → pushed-lts.Need-pack-requires (
@@ -2214,7 +2222,7 @@ pushed-pack-requires : (t : ℕ) → pushed-lts.Need-pack-requires (
   push-reads.Asked,
   push-reads.Learnt,
 ) (pushed-at t) pushed.Post
-pushed-pack-requires t c κs = ?
+pushed-pack-requires t c κs = search needs
 
 -- src/lib.rt:335:17
 pushed-push-requires : (t : ℕ) → pushed-lts.Need-push-requires (
@@ -2225,7 +2233,7 @@ pushed-push-requires : (t : ℕ) → pushed-lts.Need-push-requires (
   push-reads.Asked,
   push-reads.Learnt,
 ) (pushed-at t) pushed.Post
-pushed-push-requires t c κs = ?
+pushed-push-requires t c κs = search needs
 
 -- src/lib.rt:336:17
 pushed-same-length : (t : ℕ) → pushed-lts.Need-same-length (
@@ -2236,7 +2244,7 @@ pushed-same-length : (t : ℕ) → pushed-lts.Need-same-length (
   push-reads.Asked,
   push-reads.Learnt,
 ) (pushed-at t) pushed.Post
-pushed-same-length t c = ?
+pushed-same-length t c = search needs
 
 -- src/lib.rt:336:17
 pushed-same-length-2 : (t : ℕ) → pushed-lts.Need-same-length-2 (
@@ -2247,7 +2255,7 @@ pushed-same-length-2 : (t : ℕ) → pushed-lts.Need-same-length-2 (
   push-reads.Asked,
   push-reads.Learnt,
 ) (pushed-at t) pushed.Post
-pushed-same-length-2 t c = ?
+pushed-same-length-2 t c = search needs
 
 -- src/lib.rt:336:17
 pushed-returns : (t : ℕ) → pushed-lts.Need-returns (
@@ -2258,7 +2266,7 @@ pushed-returns : (t : ℕ) → pushed-lts.Need-returns (
   push-reads.Asked,
   push-reads.Learnt,
 ) (pushed-at t) pushed.Post
-pushed-returns t c = ?
+pushed-returns t c = search push-refused
 
 -- src/lib.rt:340:21
 pushed-enum-known-n : (t : ℕ) → pushed-lts.Need-enum-known-n (
@@ -2269,7 +2277,7 @@ pushed-enum-known-n : (t : ℕ) → pushed-lts.Need-enum-known-n (
   push-reads.Asked,
   push-reads.Learnt,
 ) (pushed-at t) pushed.Post
-pushed-enum-known-n t c = ?
+pushed-enum-known-n t c = search needs
 
 -- src/lib.rt:319:1
 pushed-same-length-3 : (t : ℕ) → pushed-lts.Need-same-length-3 (
@@ -2280,7 +2288,7 @@ pushed-same-length-3 : (t : ℕ) → pushed-lts.Need-same-length-3 (
   push-reads.Asked,
   push-reads.Learnt,
 ) (pushed-at t) pushed.Post
-pushed-same-length-3 t c = ?
+pushed-same-length-3 t c = search needs
 
 -- src/lib.rt:319:1
 pushed-same-length-4 : (t : ℕ) → pushed-lts.Need-same-length-4 (
@@ -2291,7 +2299,7 @@ pushed-same-length-4 : (t : ℕ) → pushed-lts.Need-same-length-4 (
   push-reads.Asked,
   push-reads.Learnt,
 ) (pushed-at t) pushed.Post
-pushed-same-length-4 t c = ?
+pushed-same-length-4 t c = search needs
 
 -- src/lib.rt:319:1
 pushed-returns-2 : (t : ℕ) → pushed-lts.Need-returns-2 (
@@ -2302,7 +2310,7 @@ pushed-returns-2 : (t : ℕ) → pushed-lts.Need-returns-2 (
   push-reads.Asked,
   push-reads.Learnt,
 ) (pushed-at t) pushed.Post
-pushed-returns-2 t c = ?
+pushed-returns-2 t c = search push-done
 
 -- src/lib.rt:319:1
 pushed-same-length-5 : (t : ℕ) → pushed-lts.Need-same-length-5 (
@@ -2313,7 +2321,7 @@ pushed-same-length-5 : (t : ℕ) → pushed-lts.Need-same-length-5 (
   push-reads.Asked,
   push-reads.Learnt,
 ) (pushed-at t) pushed.Post
-pushed-same-length-5 t c = ?
+pushed-same-length-5 t c = search needs
 
 -- src/lib.rt:319:1
 pushed-same-length-6 : (t : ℕ) → pushed-lts.Need-same-length-6 (
@@ -2324,7 +2332,7 @@ pushed-same-length-6 : (t : ℕ) → pushed-lts.Need-same-length-6 (
   push-reads.Asked,
   push-reads.Learnt,
 ) (pushed-at t) pushed.Post
-pushed-same-length-6 t c = ?
+pushed-same-length-6 t c = search needs
 
 -- src/lib.rt:319:1
 pushed-returns-3 : (t : ℕ) → pushed-lts.Need-returns-3 (
@@ -2335,7 +2343,7 @@ pushed-returns-3 : (t : ℕ) → pushed-lts.Need-returns-3 (
   push-reads.Asked,
   push-reads.Learnt,
 ) (pushed-at t) pushed.Post
-pushed-returns-3 t c = ?
+pushed-returns-3 t c = search push-stops
 
 -- src/lib.rt:104:11
 table-of-evaluate-requires : (t : ℕ) → table-of-lts.Need-evaluate-requires (
@@ -2344,7 +2352,7 @@ table-of-evaluate-requires : (t : ℕ) → table-of-lts.Need-evaluate-requires (
   new-table-reads.Asked,
   new-table-reads.Learnt,
 ) (table-of-at t) table-of.Post
-table-of-evaluate-requires t c κs = ?
+table-of-evaluate-requires t c κs = (omega arith, search needs)
 
 -- src/lib.rt:105:22
 table-of-enum-known-v : (t : ℕ) → table-of-lts.Need-enum-known-v (
@@ -2353,7 +2361,7 @@ table-of-enum-known-v : (t : ℕ) → table-of-lts.Need-enum-known-v (
   new-table-reads.Asked,
   new-table-reads.Learnt,
 ) (table-of-at t) table-of.Post
-table-of-enum-known-v t c = ?
+table-of-enum-known-v t c = search needs
 
 -- src/lib.rt:106:28
 table-of-enum-known-v-2 : (t : ℕ) → table-of-lts.Need-enum-known-v-2 (
@@ -2362,7 +2370,7 @@ table-of-enum-known-v-2 : (t : ℕ) → table-of-lts.Need-enum-known-v-2 (
   new-table-reads.Asked,
   new-table-reads.Learnt,
 ) (table-of-at t) table-of.Post
-table-of-enum-known-v-2 t c = ?
+table-of-enum-known-v-2 t c = search needs
 
 -- src/lib.rt:107:21
 table-of-new-table-requires : (t : ℕ) → table-of-lts.Need-new-table-requires (
@@ -2371,7 +2379,7 @@ table-of-new-table-requires : (t : ℕ) → table-of-lts.Need-new-table-requires
   new-table-reads.Asked,
   new-table-reads.Learnt,
 ) (table-of-at t) table-of.Post
-table-of-new-table-requires t c κs = ?
+table-of-new-table-requires t c κs = search needs
 
 -- src/lib.rt:112:21
 table-of-enum-known-n : (t : ℕ) → table-of-lts.Need-enum-known-n (
@@ -2380,7 +2388,7 @@ table-of-enum-known-n : (t : ℕ) → table-of-lts.Need-enum-known-n (
   new-table-reads.Asked,
   new-table-reads.Learnt,
 ) (table-of-at t) table-of.Post
-table-of-enum-known-n t c = ?
+table-of-enum-known-n t c = search needs
 
 -- src/lib.rt:90:1
 table-of-same-length : (t : ℕ) → table-of-lts.Need-same-length (
@@ -2389,7 +2397,7 @@ table-of-same-length : (t : ℕ) → table-of-lts.Need-same-length (
   new-table-reads.Asked,
   new-table-reads.Learnt,
 ) (table-of-at t) table-of.Post
-table-of-same-length t c = ?
+table-of-same-length t c = search needs
 
 -- src/lib.rt:90:1
 table-of-same-length-2 : (t : ℕ) → table-of-lts.Need-same-length-2 (
@@ -2398,7 +2406,7 @@ table-of-same-length-2 : (t : ℕ) → table-of-lts.Need-same-length-2 (
   new-table-reads.Asked,
   new-table-reads.Learnt,
 ) (table-of-at t) table-of.Post
-table-of-same-length-2 t c = ?
+table-of-same-length-2 t c = search needs
 
 -- src/lib.rt:90:1
 table-of-returns : (t : ℕ) → table-of-lts.Need-returns (
@@ -2407,7 +2415,7 @@ table-of-returns : (t : ℕ) → table-of-lts.Need-returns (
   new-table-reads.Asked,
   new-table-reads.Learnt,
 ) (table-of-at t) table-of.Post
-table-of-returns t c = ?
+table-of-returns t c = search table-made
 
 -- src/lib.rt:90:1
 table-of-same-length-3 : (t : ℕ) → table-of-lts.Need-same-length-3 (
@@ -2416,7 +2424,7 @@ table-of-same-length-3 : (t : ℕ) → table-of-lts.Need-same-length-3 (
   new-table-reads.Asked,
   new-table-reads.Learnt,
 ) (table-of-at t) table-of.Post
-table-of-same-length-3 t c = ?
+table-of-same-length-3 t c = search needs
 
 -- src/lib.rt:90:1
 table-of-same-length-4 : (t : ℕ) → table-of-lts.Need-same-length-4 (
@@ -2425,7 +2433,7 @@ table-of-same-length-4 : (t : ℕ) → table-of-lts.Need-same-length-4 (
   new-table-reads.Asked,
   new-table-reads.Learnt,
 ) (table-of-at t) table-of.Post
-table-of-same-length-4 t c = ?
+table-of-same-length-4 t c = search needs
 
 -- src/lib.rt:90:1
 table-of-returns-2 : (t : ℕ) → table-of-lts.Need-returns-2 (
@@ -2434,7 +2442,7 @@ table-of-returns-2 : (t : ℕ) → table-of-lts.Need-returns-2 (
   new-table-reads.Asked,
   new-table-reads.Learnt,
 ) (table-of-at t) table-of.Post
-table-of-returns-2 t c = ?
+table-of-returns-2 t c = search table-other
 
 -- src/lib.rt:90:1
 table-of-same-length-5 : (t : ℕ) → table-of-lts.Need-same-length-5 (
@@ -2443,7 +2451,7 @@ table-of-same-length-5 : (t : ℕ) → table-of-lts.Need-same-length-5 (
   new-table-reads.Asked,
   new-table-reads.Learnt,
 ) (table-of-at t) table-of.Post
-table-of-same-length-5 t c = ?
+table-of-same-length-5 t c = search needs
 
 -- src/lib.rt:90:1
 table-of-same-length-6 : (t : ℕ) → table-of-lts.Need-same-length-6 (
@@ -2452,7 +2460,7 @@ table-of-same-length-6 : (t : ℕ) → table-of-lts.Need-same-length-6 (
   new-table-reads.Asked,
   new-table-reads.Learnt,
 ) (table-of-at t) table-of.Post
-table-of-same-length-6 t c = ?
+table-of-same-length-6 t c = search needs
 
 -- src/lib.rt:90:1
 table-of-returns-3 : (t : ℕ) → table-of-lts.Need-returns-3 (
@@ -2461,7 +2469,7 @@ table-of-returns-3 : (t : ℕ) → table-of-lts.Need-returns-3 (
   new-table-reads.Asked,
   new-table-reads.Learnt,
 ) (table-of-at t) table-of.Post
-table-of-returns-3 t c = ?
+table-of-returns-3 t c = search table-stops
 
 pub +by-word+calling+entry-at+entry-of+evaluate+operation-at+operation-of+push-all+pushed+table-of-spec :
     {M : Type 1} → statement M

@@ -1,3 +1,4 @@
+use Rattle.evaluator.proofs.Laws.{library-called, library-stops}
 use borrow.Author.Needs.{needs}
 use Rattle.evaluator.proofs.parts.called.Statement.{statement}
 use Rattle.evaluator.proofs.parts.called.Tie as tie
@@ -42,7 +43,7 @@ same-length-2 c = search needs
 
 -- src/parts.rt:86:1
 returns : tie.Need-returns
-returns c = ?
+returns c = search library-called
 
 -- src/parts.rt:86:1
 same-length-3 : tie.Need-same-length-3
@@ -54,7 +55,7 @@ same-length-4 c = search needs
 
 -- src/parts.rt:86:1
 returns-2 : tie.Need-returns-2
-returns-2 c = ?
+returns-2 c = search library-stops
 
 pub called-spec : {M : Type 1} → statement M
 called-spec =

@@ -1,3 +1,4 @@
+use Rattle.evaluator.proofs.Laws.{named}
 use borrow.Author.Needs.{needs}
 use Rattle.evaluator.proofs.parts.name.Statement.{statement}
 use Rattle.evaluator.proofs.parts.name.Tie as tie
@@ -16,7 +17,7 @@ variable-requires c κs = search needs
 
 -- src/parts.rt:65:1
 returns : tie.Need-returns
-returns c = ?
+returns c = search named
 
 pub name-spec : {M : Type 1} → statement M
 name-spec = tie.close (tie.spec index-of-requires variable-requires returns)

@@ -1,3 +1,4 @@
+use Rattle.evaluator.proofs.Laws.{negative-size, new-table}
 use borrow.Author.Needs.{needs}
 use Rattle.evaluator.proofs.parts.new_table.Statement.{statement}
 use Rattle.evaluator.proofs.parts.new_table.Tie as tie
@@ -12,7 +13,7 @@ is-negative-requires c κs = search needs
 
 -- src/parts.rt:79:9
 returns : tie.Need-returns
-returns c = ?
+returns c = search negative-size
 
 -- src/parts.rt:81:9
 new-table-requires : tie.Need-new-table-requires
@@ -24,7 +25,7 @@ same-length c = search needs
 
 -- src/parts.rt:74:1
 returns-2 : tie.Need-returns-2
-returns-2 c = ?
+returns-2 c = search new-table
 
 pub new-table-spec : {M : Type 1} → statement M
 new-table-spec =
