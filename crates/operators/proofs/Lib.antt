@@ -1,3 +1,4 @@
 mod Held
 mod IntegerLaws
 mod FigureLaws
+mod EqualityLaws

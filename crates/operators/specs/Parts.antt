@@ -1,13 +1,13 @@
 -- What the parts of the code for operators answer.
 use Prim.Native.Nat.{ℕ}
 use mathlib.Core.Path.{_≡_}
-use mathlib.Core.Bool.{Bool, true, false, cond}
+use mathlib.Core.Bool.{Bool, cond, _&&_}
 use mathlib.Core.List.{List}
 use mathlib.Core.Option.{Option, none, some}
 use lib.IntN.{ℤ}
 use lib.Dec.{eqb}
 use Rattle.meaning.specs.Basics.{if_then_else_}
-use Rattle.meaning.specs.Integer.{isZero}
+use Rattle.meaning.specs.Integer.{isZero, sameInteger}
 use Rattle.values.specs.declared.Value.{Value}
 use Rattle.values.specs.declared.Value.the-variants.{Integer, Text, Boolean, Nothing, Table, Shape}
 use Rattle.values.specs.declared.Answer.{Answer}
@@ -65,6 +65,13 @@ pub record Calculates (grants before : List ℕ) (tag p a b : ℕ) (answer : Ans
   pub equal : Other tag a b → Draws grants before tag p (unpacked a) (unpacked b) answer after
 
 -- ---- equality
+-- two numbers of a figure, and all four
+unfoldable pub samePair : ℤ → ℤ → ℤ → ℤ → Bool
+samePair x y z w = sameInteger x z && sameInteger y w
+
+unfoldable pub sameNumbers : Figure → Figure → Bool
+sameNumbers s t = samePair (s .a) (s .b) (t .a) (t .b) && samePair (s .c) (s .d) (t .c) (t .d)
+
 -- a kind's number: every word that is of no other kind holds nothing
 unfoldable pub kindNumber : Value → ℕ
 kindNumber (Integer z) = 1
@@ -78,3 +85,11 @@ kindNumber (Shape i) = 6
 unfoldable pub verdict : Option Bool → ℕ
 verdict none = 2
 verdict (some b) = cond b 1 0
+
+-- of two kinds
+abbrev pub unlike : ℕ → ℕ → ℕ
+unlike k l = cond (eqb k 4) 0 (cond (eqb l 4) 0 2)
+
+-- the slices are not changed
+pub record Compares (program ts ws : List ℕ) (tag p a b : ℕ) (answer : Answer) : Type 0 where
+  pub equal : (grants : List ℕ) → shown answer ts ws ≡ operateOn program grants tag p (unpacked a) (unpacked b) (raw ts ws)
