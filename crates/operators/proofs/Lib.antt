@@ -2,3 +2,4 @@ mod Held
 mod IntegerLaws
 mod FigureLaws
 mod EqualityLaws
+mod OperateLaws

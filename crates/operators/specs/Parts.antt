@@ -14,7 +14,7 @@ use Rattle.values.specs.declared.Answer.{Answer}
 use Rattle.values.specs.Words.{kindIn, unpacked}
 use Rattle.stores.specs.declared.Figure.{Figure}
 use Rattle.stores.specs.Act.{raw, shown}
-use Rattle.operators.specs.Operate.{plusX, plusY, minusX, minusY, scaledUp, scaledDown, operateOn}
+use Rattle.operators.specs.Operate.{plusX, plusY, minusX, minusY, scaledUp, scaledDown, operateOn, operate}
 
 -- ---- two integers: the slices are neither read nor changed
 pub record Computes (tag p : ℕ) (v w : Value) (answer : Answer) : Type 0 where
@@ -93,3 +93,17 @@ unlike k l = cond (eqb k 4) 0 (cond (eqb l 4) 0 2)
 -- the slices are not changed
 pub record Compares (program ts ws : List ℕ) (tag p a b : ℕ) (answer : Answer) : Type 0 where
   pub equal : (grants : List ℕ) → shown answer ts ws ≡ operateOn program grants tag p (unpacked a) (unpacked b) (raw ts ws)
+
+-- ---- any values that are not both integers
+unfoldable pub bothIntegers : ℕ → ℕ → Bool
+bothIntegers a b = eqb (kindIn a) 1 && eqb (kindIn b) 1
+
+abbrev pub NotBoth : ℕ → ℕ → Type 0
+NotBoth a b = kindIn a ≡ 1 → kindIn b ≡ 1 → ⊥
+
+-- neither of them a destroyed shape
+pub record Mixes (program grants ts ws : List ℕ) (tag p a b : ℕ) (answer : Answer) (ts′ ws′ : List ℕ) : Type 0 where
+  pub equal : NotBoth a b → shown answer ts′ ws′ ≡ operateOn program grants tag p (unpacked a) (unpacked b) (raw ts ws)
+
+pub record Operates (program grants ts ws : List ℕ) (tag p a b : ℕ) (answer : Answer) (ts′ ws′ : List ℕ) : Type 0 where
+  pub equal : NotBoth a b → shown answer ts′ ws′ ≡ operate program grants tag p (unpacked a) (unpacked b) (raw ts ws)
