@@ -1,3 +1,4 @@
 pub mod Operate
 pub mod Parts
 pub mod Library
+pub mod Given

@@ -2,6 +2,7 @@
 pub mod equality;
 pub mod figures;
 pub mod integers;
+pub mod library;
 
 use values::Answer;
 ghost use mathlib.Core.Path.{_≡_};

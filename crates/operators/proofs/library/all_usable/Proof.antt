@@ -1,0 +1,59 @@
+use Rattle.operators.proofs.library.all_usable.Statement.{statement}
+use Rattle.operators.proofs.library.all_usable.Tie as tie
+use Rattle.operators.proofs.library.all_usable.Reads as reads
+use Rattle.operators.proofs.library.all_usable.Lts as lts
+use Rattle.operators.proofs.library.argument.Reads as argument-reads
+use Rattle.stores.proofs.variables.is_dead.Reads as is-dead-reads
+
+abbrev Inv-loop : tie.InvT-loop
+Inv-loop words base n k₀ k = ?
+
+abbrev μ-loop : tie.MeasureT-loop
+μ-loop words base n k₀ k = ?
+
+-- src/library.rt:97:5
+loop-holds : tie.Need-loop-holds Inv-loop μ-loop
+loop-holds c = ?
+
+-- src/library.rt:98:46
+argument-requires : tie.Need-argument-requires Inv-loop μ-loop
+argument-requires c κs = ?
+
+-- src/library.rt:98:12
+is-dead-requires : tie.Need-is-dead-requires Inv-loop μ-loop
+is-dead-requires c κs = ?
+
+-- src/library.rt:99:13
+returns : tie.Need-returns Inv-loop μ-loop
+returns c = ?
+
+-- src/library.rt:101:9
+add-k : tie.Need-add-k Inv-loop μ-loop
+add-k c = ?
+
+-- src/library.rt:97:5
+loop-less : tie.Need-loop-less Inv-loop μ-loop
+loop-less c = ?
+
+-- src/library.rt:97:5
+loop-again : tie.Need-loop-again Inv-loop μ-loop
+loop-again c = ?
+
+-- src/library.rt:92:1
+returns-2 : tie.Need-returns-2 Inv-loop μ-loop
+returns-2 c = ?
+
+pub all-usable-spec : {M : Type 1} → statement M
+all-usable-spec =
+    tie.close
+    (tie.spec
+    Inv-loop
+    μ-loop
+    loop-holds
+    argument-requires
+    is-dead-requires
+    returns
+    add-k
+    loop-less
+    loop-again
+    returns-2)

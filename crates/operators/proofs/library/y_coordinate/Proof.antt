@@ -1,0 +1,37 @@
+use borrow.Author.Needs.{needs}
+use Rattle.operators.proofs.library.y_coordinate.Statement.{statement}
+use Rattle.operators.proofs.library.y_coordinate.Tie as tie
+use Rattle.operators.proofs.library.y_coordinate.Reads as reads
+use Rattle.operators.proofs.library.y_coordinate.Lts as lts
+use Rattle.operators.proofs.library.centre_y.Reads as centre-y-reads
+use Rattle.operators.proofs.library.given_figure.Reads as given-figure-reads
+use Rattle.operators.proofs.library.is_kind.Reads as is-kind-reads
+
+-- src/library.rt:250:9
+returns : tie.Need-returns
+returns c = ?
+
+-- src/library.rt:252:9
+is-kind-requires : tie.Need-is-kind-requires
+is-kind-requires c κs = search needs
+
+-- src/library.rt:253:9
+returns-2 : tie.Need-returns-2
+returns-2 c = ?
+
+-- src/library.rt:255:42
+given-figure-requires : tie.Need-given-figure-requires
+given-figure-requires c κs = search needs
+
+-- src/library.rt:255:33
+centre-y-requires : tie.Need-centre-y-requires
+centre-y-requires c κs = search needs
+
+-- src/library.rt:245:1
+returns-3 : tie.Need-returns-3
+returns-3 c = ?
+
+pub y-coordinate-spec : {M : Type 1} → statement M
+y-coordinate-spec =
+    tie.close
+    (tie.spec returns is-kind-requires returns-2 given-figure-requires centre-y-requires returns-3)

@@ -1,0 +1,40 @@
+-- What the code for library procedures asks of a call's arguments.
+use Prim.Native.Nat.{ℕ, _+_}
+use mathlib.Core.Bool.{Bool, _&&_}
+use mathlib.Core.List.{List}
+use lib.IntN.{ℤ}
+use lib.Dec.{eqb}
+use mir.Syntax.{w32}
+use mir.Val.{toZ}
+use Rattle.values.specs.Words.{kindIn, numberIn, handleIn}
+use Rattle.stores.specs.Arguments.{argumentAt}
+use Rattle.stores.specs.declared.Figure.{Figure}
+use Rattle.stores.specs.Shapes.{figureAt}
+
+-- ---- kinds
+-- argument i is of kind k
+unfoldable pub isKind : List ℕ → ℕ → ℕ → ℕ → Bool
+isKind ws base i k = eqb (kindIn (argumentAt ws (base + i))) k
+
+-- argument i is of kind k, and argument j of kind l
+unfoldable pub areKinds : List ℕ → ℕ → ℕ → ℕ → ℕ → ℕ → Bool
+areKinds ws base i k j l = isKind ws base i k && isKind ws base j l
+
+unfoldable pub fourIntegers : List ℕ → ℕ → Bool
+fourIntegers ws base = areKinds ws base 0 1 1 1 && areKinds ws base 2 1 3 1
+
+unfoldable pub pointAndText : List ℕ → ℕ → Bool
+pointAndText ws base = areKinds ws base 0 1 1 1 && isKind ws base 2 2
+
+-- ---- what they hold, if they are of the kind
+unfoldable pub integerAt : List ℕ → ℕ → ℕ → ℤ
+integerAt ws base i = toZ w32 (numberIn (argumentAt ws (base + i)))
+
+unfoldable pub handleAt : List ℕ → ℕ → ℕ → ℕ
+handleAt ws base i = handleIn (argumentAt ws (base + i))
+
+unfoldable pub shapeAt : List ℕ → ℕ → ℕ → ℕ
+shapeAt ws base i = numberIn (argumentAt ws (base + i))
+
+unfoldable pub givenFigure : List ℕ → ℕ → ℕ → Figure
+givenFigure ws base i = figureAt ws (shapeAt ws base i)
