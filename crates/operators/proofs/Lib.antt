@@ -3,3 +3,4 @@ mod IntegerLaws
 mod FigureLaws
 mod EqualityLaws
 mod OperateLaws
+mod LibraryLaws

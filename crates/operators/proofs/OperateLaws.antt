@@ -21,7 +21,7 @@ use Rattle.stores.specs.declared.Figure.{Figure}
 use Rattle.stores.specs.Act.{Raw, raw, Out, done, stop, Act, goOn, _>>=_, give, fail, refuse, shown}
 use Rattle.stores.specs.Texts.{joinTexts}
 use Rattle.stores.specs.Variables.{isDead, usable}
-use Rattle.operators.specs.Operate.{withInteger, withText, calculated, compared, remaindered, joined, operateOn, operate}
+use Rattle.operators.specs.Operate.{withInteger, withText, withShape, calculated, compared, remaindered, joined, operateOn, operate}
 use Rattle.operators.specs.Parts.{Computes, Draws, Other, Calculates, Compares, bothIntegers, NotBoth, Mixes, Operates}
 use Rattle.operators.proofs.Held.{held, back, either, past}
 
@@ -34,6 +34,10 @@ module _ {A : Type 0} (p a : ℕ) (s : Raw) where
   pub no-text : (k : ℕ → Act A) → (kindIn a ≡ 2 → ⊥) → withText p (unpacked a) k s ≡ stop 20 p s
   unfolding withText fail
   no-text k h = by-kind a (λ v. withText p v k s ≡ stop 20 p s) (λ _. refl) (λ e. absurd (h e)) (λ _. refl) refl (λ _. refl) (λ _. refl)
+
+  pub no-shape-number : (k : ℕ → Act A) → (kindIn a ≡ 6 → ⊥) → withShape p (unpacked a) k s ≡ stop 20 p s
+  unfolding withShape fail
+  no-shape-number k h = by-kind a (λ v. withShape p v k s ≡ stop 20 p s) (λ _. refl) (λ _. refl) (λ _. refl) refl (λ _. refl) (λ e. absurd (h e))
 
 -- ---- texts
 module _ (program g ts ws : List ℕ) (p a b : ℕ) where

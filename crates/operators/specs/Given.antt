@@ -2,7 +2,7 @@
 use Prim.Native.Nat.{ℕ, _+_}
 use mathlib.Core.Bool.{Bool, _&&_}
 use mathlib.Core.List.{List}
-use lib.IntN.{ℤ}
+use lib.IntN.{ℤ, pos}
 use lib.Dec.{eqb}
 use mir.Syntax.{w32}
 use mir.Val.{toZ}
@@ -10,6 +10,7 @@ use Rattle.values.specs.Words.{kindIn, numberIn, handleIn}
 use Rattle.stores.specs.Arguments.{argumentAt}
 use Rattle.stores.specs.declared.Figure.{Figure}
 use Rattle.stores.specs.Shapes.{figureAt}
+use Rattle.operators.specs.Library.{figure, connecting, textOn}
 
 -- ---- kinds
 -- argument i is of kind k
@@ -38,3 +39,16 @@ shapeAt ws base i = numberIn (argumentAt ws (base + i))
 
 unfoldable pub givenFigure : List ℕ → ℕ → ℕ → Figure
 givenFigure ws base i = figureAt ws (shapeAt ws base i)
+
+-- ---- the figures that procedures make of them
+unfoldable pub drawnFigure : List ℕ → ℕ → ℕ → Figure
+drawnFigure ws kind base = figure kind (integerAt ws base 0) (integerAt ws base 1) (integerAt ws base 2) (integerAt ws base 3) 0
+
+unfoldable pub textFigure : List ℕ → ℕ → Figure
+textFigure ws base = figure 3 (integerAt ws base 0) (integerAt ws base 1) (pos 0) (pos 0) (handleAt ws base 2)
+
+unfoldable pub connectingFigure : List ℕ → ℕ → Figure
+connectingFigure ws base = connecting (givenFigure ws base 0) (givenFigure ws base 1)
+
+unfoldable pub labelFigure : List ℕ → ℕ → Figure
+labelFigure ws base = textOn (givenFigure ws base 0) (handleAt ws base 1)

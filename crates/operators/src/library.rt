@@ -4,14 +4,14 @@ use values::Answer;
 use values::Value;
 ghost use Prim.Native.Nat.{_+_, _≤_};
 ghost use mathlib.Core.Path.{_≡_};
-ghost use lib.IntN.{pos};
 ghost use lib.ListN.{length};
 ghost use Rattle.stores.specs.Layout.{Room};
 ghost use Rattle.stores.specs.Act.{Answers, Passes};
 ghost use Rattle.stores.specs.Arguments.{argumentAt};
-ghost use Rattle.operators.specs.Library.{figure, centreX, centreY, connecting, textOn, allUsable};
+ghost use Rattle.operators.specs.Library.{centreX, centreY, connecting, textOn, allUsable};
 ghost use Rattle.operators.specs.Library.{drawn, drawnText, connected, labelled, coordinate, destroyed, clearing, perform, callLibrary};
 ghost use Rattle.operators.specs.Given.{isKind, areKinds, fourIntegers, pointAndText, integerAt, handleAt, shapeAt, givenFigure};
+ghost use Rattle.operators.specs.Given.{drawnFigure, textFigure, connectingFigure, labelFigure};
 
 // ---- arguments
 
@@ -133,7 +133,7 @@ fn centre_y(f: Figure) -> i32
 
 fn drawn_figure(words: &[u64], kind: u64, base: u64) -> Figure
     requires { ⌜ 24584 ≤ length (now words) ⌝ }
-    ensures { λ r. ⌜ r ≡ figure kind (integerAt (now (words .entry)) base 0) (integerAt (now (words .entry)) base 1) (integerAt (now (words .entry)) base 2) (integerAt (now (words .entry)) base 3) 0 ⌝ }
+    ensures { λ r. ⌜ r ≡ drawnFigure (now (words .entry)) kind base ⌝ }
 {
     let x = integer_at(words, base, 0);
     let y = integer_at(words, base, 1);
@@ -144,7 +144,7 @@ fn drawn_figure(words: &[u64], kind: u64, base: u64) -> Figure
 
 fn text_figure(words: &[u64], base: u64) -> Figure
     requires { ⌜ 24584 ≤ length (now words) ⌝ }
-    ensures { λ r. ⌜ r ≡ figure 3 (integerAt (now (words .entry)) base 0) (integerAt (now (words .entry)) base 1) (pos 0) (pos 0) (handleAt (now (words .entry)) base 2) ⌝ }
+    ensures { λ r. ⌜ r ≡ textFigure (now (words .entry)) base ⌝ }
 {
     let x = integer_at(words, base, 0);
     let y = integer_at(words, base, 1);
@@ -159,11 +159,25 @@ fn connecting(f: Figure, g: Figure) -> Figure
     Figure { kind: 0, a: centre_x(f), b: centre_y(f), c: centre_x(g), d: centre_y(g), text: 0 }
 }
 
+fn connecting_figure(words: &[u64], base: u64) -> Figure
+    requires { ⌜ 24584 ≤ length (now words) ⌝ }
+    ensures { λ r. ⌜ r ≡ connectingFigure (now (words .entry)) base ⌝ }
+{
+    connecting(given_figure(words, base, 0), given_figure(words, base, 1))
+}
+
 // A text at a centre.
 fn text_on(f: Figure, h: u64) -> Figure
     ensures { λ r. ⌜ r ≡ textOn f h ⌝ }
 {
     Figure { kind: 3, a: centre_x(f), b: centre_y(f), c: 0, d: 0, text: h }
+}
+
+fn label_figure(words: &[u64], base: u64) -> Figure
+    requires { ⌜ 24584 ≤ length (now words) ⌝ }
+    ensures { λ r. ⌜ r ≡ labelFigure (now (words .entry)) base ⌝ }
+{
+    text_on(given_figure(words, base, 0), handle_at(words, base, 1))
 }
 
 // ---- procedures
@@ -209,7 +223,7 @@ fn connect(words: &mut [u64], grants: &[u64; 4], p: u64, base: u64, n: u64) -> A
     if !are_kinds(words, base, 0, 6, 1, 6) {
         return Answer::Bad(20, p);
     }
-    let f = connecting(given_figure(words, base, 0), given_figure(words, base, 1));
+    let f = connecting_figure(words, base);
     let r = stores::shapes::new_shape(words, grants, p, f);
     r
 }
@@ -224,7 +238,7 @@ fn label(words: &mut [u64], grants: &[u64; 4], p: u64, base: u64, n: u64) -> Ans
     if !are_kinds(words, base, 0, 6, 1, 2) {
         return Answer::Bad(20, p);
     }
-    let f = text_on(given_figure(words, base, 0), handle_at(words, base, 1));
+    let f = label_figure(words, base);
     let r = stores::shapes::new_shape(words, grants, p, f);
     r
 }

@@ -1,3 +1,7 @@
+use Prim.Native.Nat.{_-_}
+use native.Mathlib.Omega.{arith}
+use borrow.Author.Needs.{needs}
+use Rattle.operators.proofs.LibraryLaws.{Asking, ask-first, ask-dead, ask-more, ask-all}
 use Rattle.operators.proofs.library.all_usable.Statement.{statement}
 use Rattle.operators.proofs.library.all_usable.Tie as tie
 use Rattle.operators.proofs.library.all_usable.Reads as reads
@@ -6,42 +10,42 @@ use Rattle.operators.proofs.library.argument.Reads as argument-reads
 use Rattle.stores.proofs.variables.is_dead.Reads as is-dead-reads
 
 abbrev Inv-loop : tie.InvT-loop
-Inv-loop words base n k₀ k = ?
+Inv-loop words base n k₀ k = Asking words base n k
 
 abbrev μ-loop : tie.MeasureT-loop
-μ-loop words base n k₀ k = ?
+μ-loop words base n k₀ k = n - k
 
 -- src/library.rt:97:5
 loop-holds : tie.Need-loop-holds Inv-loop μ-loop
-loop-holds c = ?
+loop-holds c = ask-first _ _ _
 
 -- src/library.rt:98:46
 argument-requires : tie.Need-argument-requires Inv-loop μ-loop
-argument-requires c κs = ?
+argument-requires c κs = search needs
 
 -- src/library.rt:98:12
 is-dead-requires : tie.Need-is-dead-requires Inv-loop μ-loop
-is-dead-requires c κs = ?
+is-dead-requires c κs = search needs
 
 -- src/library.rt:99:13
 returns : tie.Need-returns Inv-loop μ-loop
-returns c = ?
+returns c = ask-dead _ _ _ _ _ _ (c .before .before .before .before .loop .inv) (c .before .before .before .loop-test .taken) (c .before .before .argument .ensures) (c .before .is-dead .ensures) (c .if1 .taken)
 
 -- src/library.rt:101:9
 add-k : tie.Need-add-k Inv-loop μ-loop
-add-k c = ?
+add-k c = omega arith
 
 -- src/library.rt:97:5
 loop-less : tie.Need-loop-less Inv-loop μ-loop
-loop-less c = ?
+loop-less c = omega arith
 
 -- src/library.rt:97:5
 loop-again : tie.Need-loop-again Inv-loop μ-loop
-loop-again c = ?
+loop-again c = search ask-more
 
 -- src/library.rt:92:1
 returns-2 : tie.Need-returns-2 Inv-loop μ-loop
-returns-2 c = ?
+returns-2 c = ask-all _ _ _ _ (c .before .loop .inv) (c .loop-test .left)
 
 pub all-usable-spec : {M : Type 1} → statement M
 all-usable-spec =

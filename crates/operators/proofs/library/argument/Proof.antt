@@ -1,3 +1,4 @@
+use Rattle.operators.proofs.LibraryLaws.{argument-is}
 use borrow.Author.Needs.{needs}
 use Rattle.operators.proofs.library.argument.Statement.{statement}
 use Rattle.operators.proofs.library.argument.Tie as tie
@@ -15,7 +16,7 @@ argument-requires c κs = search needs
 
 -- src/library.rt:19:1
 returns : tie.Need-returns
-returns c = ?
+returns c = search argument-is
 
 pub argument-spec : {M : Type 1} → statement M
 argument-spec = tie.close (tie.spec add-argument argument-requires returns)

@@ -1,3 +1,4 @@
+use Rattle.operators.proofs.LibraryLaws.{line-x, box-x, other-x}
 use borrow.Author.Needs.{needs}
 use Rattle.operators.proofs.library.centre_x.Statement.{statement}
 use Rattle.operators.proofs.library.centre_x.Tie as tie
@@ -12,7 +13,7 @@ middle-requires c κs = search needs
 
 -- src/library.rt:112:9
 returns : tie.Need-returns
-returns c = ?
+returns c = search line-x
 
 -- src/library.rt:115:9
 corner-middle-requires : tie.Need-corner-middle-requires
@@ -20,11 +21,11 @@ corner-middle-requires c κs = search needs
 
 -- src/library.rt:115:9
 returns-2 : tie.Need-returns-2
-returns-2 c = ?
+returns-2 c = search box-x
 
 -- src/library.rt:108:1
 returns-3 : tie.Need-returns-3
-returns-3 c = ?
+returns-3 c = search other-x
 
 pub centre-x-spec : {M : Type 1} → statement M
 centre-x-spec =

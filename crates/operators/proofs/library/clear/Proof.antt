@@ -1,3 +1,4 @@
+use Rattle.operators.proofs.LibraryLaws.{clear-count, clear-done}
 use borrow.Author.Needs.{needs}
 use Rattle.operators.proofs.library.clear.Statement.{statement}
 use Rattle.operators.proofs.library.clear.Tie as tie
@@ -7,7 +8,7 @@ use Rattle.stores.proofs.variables.clear_scene.Reads as clear-scene-reads
 
 -- src/library.rt:278:9
 returns : tie.Need-returns
-returns c = ?
+returns c = search clear-count
 
 -- src/library.rt:280:5
 clear-scene-requires : tie.Need-clear-scene-requires
@@ -19,7 +20,7 @@ same-length c = search needs
 
 -- src/library.rt:273:1
 returns-2 : tie.Need-returns-2
-returns-2 c = ?
+returns-2 c = search clear-done
 
 pub clear-spec : {M : Type 1} → statement M
 clear-spec = tie.close (tie.spec returns clear-scene-requires same-length returns-2)

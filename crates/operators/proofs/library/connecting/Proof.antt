@@ -1,3 +1,4 @@
+use Rattle.operators.proofs.LibraryLaws.{connecting-is}
 use borrow.Author.Needs.{needs}
 use Rattle.operators.proofs.library.connecting.Statement.{statement}
 use Rattle.operators.proofs.library.connecting.Tie as tie
@@ -24,7 +25,7 @@ centre-y-requires-2 c κs = search needs
 
 -- src/library.rt:156:1
 returns : tie.Need-returns
-returns c = ?
+returns c = search connecting-is
 
 pub connecting-spec : {M : Type 1} → statement M
 connecting-spec =

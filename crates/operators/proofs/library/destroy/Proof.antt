@@ -1,3 +1,4 @@
+use Rattle.operators.proofs.LibraryLaws.{destroy-count, destroy-kind, destroy-done}
 use borrow.Author.Needs.{needs}
 use Rattle.operators.proofs.library.destroy.Statement.{statement}
 use Rattle.operators.proofs.library.destroy.Tie as tie
@@ -9,7 +10,7 @@ use Rattle.stores.proofs.shapes.destroy.Reads as destroy-reads
 
 -- src/library.rt:263:9
 returns : tie.Need-returns
-returns c = ?
+returns c = search destroy-count
 
 -- src/library.rt:265:9
 is-kind-requires : tie.Need-is-kind-requires
@@ -21,7 +22,7 @@ same-length c = search needs
 
 -- src/library.rt:266:9
 returns-2 : tie.Need-returns-2
-returns-2 c = ?
+returns-2 c = search destroy-kind
 
 -- src/library.rt:268:9
 shape-at-requires : tie.Need-shape-at-requires
@@ -37,7 +38,7 @@ same-length-2 c = search needs
 
 -- src/library.rt:258:1
 returns-3 : tie.Need-returns-3
-returns-3 c = ?
+returns-3 c = search destroy-done
 
 pub destroy-spec : {M : Type 1} → statement M
 destroy-spec =

@@ -1,3 +1,4 @@
+use Rattle.operators.proofs.LibraryLaws.{draw-count, draw-kinds, draw-made}
 use borrow.Author.Needs.{needs}
 use Rattle.operators.proofs.library.draw.Statement.{statement}
 use Rattle.operators.proofs.library.draw.Tie as tie
@@ -9,7 +10,7 @@ use Rattle.stores.proofs.shapes.new_shape.Reads as new-shape-reads
 
 -- src/library.rt:177:9
 returns : tie.Need-returns
-returns c = ?
+returns c = search draw-count
 
 -- src/library.rt:179:9
 four-integers-requires : tie.Need-four-integers-requires
@@ -21,7 +22,7 @@ same-length c = search needs
 
 -- src/library.rt:180:9
 returns-2 : tie.Need-returns-2
-returns-2 c = ?
+returns-2 c = search draw-kinds
 
 -- src/library.rt:182:9
 drawn-figure-requires : tie.Need-drawn-figure-requires
@@ -37,7 +38,7 @@ same-length-2 c = search needs
 
 -- src/library.rt:172:1
 returns-3 : tie.Need-returns-3
-returns-3 c = ?
+returns-3 c = search draw-made
 
 pub draw-spec : {M : Type 1} → statement M
 draw-spec =

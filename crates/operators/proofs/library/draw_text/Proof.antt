@@ -1,3 +1,4 @@
+use Rattle.operators.proofs.LibraryLaws.{text-count, text-kinds, text-made}
 use borrow.Author.Needs.{needs}
 use Rattle.operators.proofs.library.draw_text.Statement.{statement}
 use Rattle.operators.proofs.library.draw_text.Tie as tie
@@ -9,7 +10,7 @@ use Rattle.stores.proofs.shapes.new_shape.Reads as new-shape-reads
 
 -- src/library.rt:192:9
 returns : tie.Need-returns
-returns c = ?
+returns c = search text-count
 
 -- src/library.rt:194:9
 point-and-text-requires : tie.Need-point-and-text-requires
@@ -21,7 +22,7 @@ same-length c = search needs
 
 -- src/library.rt:195:9
 returns-2 : tie.Need-returns-2
-returns-2 c = ?
+returns-2 c = search text-kinds
 
 -- src/library.rt:197:9
 text-figure-requires : tie.Need-text-figure-requires
@@ -37,7 +38,7 @@ same-length-2 c = search needs
 
 -- src/library.rt:187:1
 returns-3 : tie.Need-returns-3
-returns-3 c = ?
+returns-3 c = search text-made
 
 pub draw-text-spec : {M : Type 1} → statement M
 draw-text-spec =

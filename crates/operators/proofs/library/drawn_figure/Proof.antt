@@ -1,3 +1,4 @@
+use Rattle.operators.proofs.LibraryLaws.{drawn-is}
 use borrow.Author.Needs.{needs}
 use Rattle.operators.proofs.library.drawn_figure.Statement.{statement}
 use Rattle.operators.proofs.library.drawn_figure.Tie as tie
@@ -23,7 +24,7 @@ integer-at-requires-4 c κs = search needs
 
 -- src/library.rt:134:1
 returns : tie.Need-returns
-returns c = ?
+returns c = search drawn-is
 
 pub drawn-figure-spec : {M : Type 1} → statement M
 drawn-figure-spec =

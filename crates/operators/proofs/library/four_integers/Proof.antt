@@ -1,3 +1,4 @@
+use Rattle.operators.proofs.LibraryLaws.{four-apart, four-rest}
 use borrow.Author.Needs.{needs}
 use Rattle.operators.proofs.library.four_integers.Statement.{statement}
 use Rattle.operators.proofs.library.four_integers.Tie as tie
@@ -11,7 +12,7 @@ are-kinds-requires c κs = search needs
 
 -- src/library.rt:48:9
 returns : tie.Need-returns
-returns c = ?
+returns c = search four-apart
 
 -- src/library.rt:50:5
 are-kinds-requires-2 : tie.Need-are-kinds-requires-2
@@ -19,7 +20,7 @@ are-kinds-requires-2 c κs = search needs
 
 -- src/library.rt:43:1
 returns-2 : tie.Need-returns-2
-returns-2 c = ?
+returns-2 c = search four-rest
 
 pub four-integers-spec : {M : Type 1} → statement M
 four-integers-spec = tie.close (tie.spec are-kinds-requires returns are-kinds-requires-2 returns-2)

@@ -1,3 +1,4 @@
+use Rattle.operators.proofs.LibraryLaws.{figure-is}
 use borrow.Author.Needs.{needs}
 use Rattle.operators.proofs.library.given_figure.Statement.{statement}
 use Rattle.operators.proofs.library.given_figure.Tie as tie
@@ -16,7 +17,7 @@ figure-at-requires c κs = search needs
 
 -- src/library.rt:84:1
 returns : tie.Need-returns
-returns c = ?
+returns c = search figure-is
 
 pub given-figure-spec : {M : Type 1} → statement M
 given-figure-spec = tie.close (tie.spec shape-at-requires figure-at-requires returns)

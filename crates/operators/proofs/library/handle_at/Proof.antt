@@ -1,3 +1,4 @@
+use Rattle.operators.proofs.LibraryLaws.{handle-is}
 use borrow.Author.Needs.{needs}
 use Rattle.operators.proofs.library.handle_at.Statement.{statement}
 use Rattle.operators.proofs.library.handle_at.Tie as tie
@@ -16,7 +17,7 @@ handle-of-requires c κs = search needs
 
 -- src/library.rt:70:1
 returns : tie.Need-returns
-returns c = ?
+returns c = search handle-is
 
 pub handle-at-spec : {M : Type 1} → statement M
 handle-at-spec = tie.close (tie.spec argument-requires handle-of-requires returns)

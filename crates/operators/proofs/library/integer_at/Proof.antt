@@ -1,3 +1,4 @@
+use Rattle.operators.proofs.LibraryLaws.{integer-is}
 use borrow.Author.Needs.{needs}
 use Rattle.operators.proofs.library.integer_at.Statement.{statement}
 use Rattle.operators.proofs.library.integer_at.Tie as tie
@@ -16,7 +17,7 @@ integer-of-requires c κs = search needs
 
 -- src/library.rt:63:1
 returns : tie.Need-returns
-returns c = ?
+returns c = search integer-is
 
 pub integer-at-spec : {M : Type 1} → statement M
 integer-at-spec = tie.close (tie.spec argument-requires integer-of-requires returns)

@@ -1,3 +1,4 @@
+use Rattle.operators.proofs.LibraryLaws.{kind-is}
 use borrow.Author.Needs.{needs}
 use Rattle.operators.proofs.library.is_kind.Statement.{statement}
 use Rattle.operators.proofs.library.is_kind.Tie as tie
@@ -11,7 +12,7 @@ argument-requires c κs = search needs
 
 -- src/library.rt:26:1
 returns : tie.Need-returns
-returns c = ?
+returns c = search kind-is
 
 pub is-kind-spec : {M : Type 1} → statement M
 is-kind-spec = tie.close (tie.spec argument-requires returns)

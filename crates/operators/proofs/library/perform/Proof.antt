@@ -1,3 +1,6 @@
+use Rattle.meaning.specs.Basics.{if_then_else_}
+use Rattle.operators.specs.Library.{perform}
+use Rattle.operators.proofs.LibraryLaws.{performs-9}
 use borrow.Author.Needs.{needs}
 use Rattle.operators.proofs.library.perform.Statement.{statement}
 use Rattle.operators.proofs.library.perform.Tie as tie
@@ -58,7 +61,8 @@ same-length c = search needs
 
 -- src/library.rt:287:1
 returns : tie.Need-returns
-returns c = ?
+unfolding perform if_then_else_
+returns c = rw (c .before .before .before .before .match .keys1) (c .before .before .draw .ensures)
 
 -- src/library.rt:287:1
 same-length-2 : tie.Need-same-length-2
@@ -66,7 +70,8 @@ same-length-2 c = search needs
 
 -- src/library.rt:287:1
 returns-2 : tie.Need-returns-2
-returns-2 c = ?
+unfolding perform if_then_else_
+returns-2 c = rw (c .before .before .before .before .match .keys2) (c .before .before .draw2 .ensures)
 
 -- src/library.rt:287:1
 same-length-3 : tie.Need-same-length-3
@@ -74,7 +79,8 @@ same-length-3 c = search needs
 
 -- src/library.rt:287:1
 returns-3 : tie.Need-returns-3
-returns-3 c = ?
+unfolding perform if_then_else_
+returns-3 c = rw (c .before .before .before .before .match .keys3) (c .before .before .draw3 .ensures)
 
 -- src/library.rt:287:1
 same-length-4 : tie.Need-same-length-4
@@ -82,7 +88,8 @@ same-length-4 c = search needs
 
 -- src/library.rt:287:1
 returns-4 : tie.Need-returns-4
-returns-4 c = ?
+unfolding perform if_then_else_
+returns-4 c = rw (c .before .before .before .before .match .keys4) (c .before .before .draw-text .ensures)
 
 -- src/library.rt:287:1
 same-length-5 : tie.Need-same-length-5
@@ -90,7 +97,8 @@ same-length-5 c = search needs
 
 -- src/library.rt:287:1
 returns-5 : tie.Need-returns-5
-returns-5 c = ?
+unfolding perform if_then_else_
+returns-5 c = rw (c .before .before .before .before .match .keys5) (c .before .before .connect .ensures)
 
 -- src/library.rt:287:1
 same-length-6 : tie.Need-same-length-6
@@ -98,7 +106,8 @@ same-length-6 c = search needs
 
 -- src/library.rt:287:1
 returns-6 : tie.Need-returns-6
-returns-6 c = ?
+unfolding perform if_then_else_
+returns-6 c = rw (c .before .before .before .before .match .keys6) (c .before .before .label .ensures)
 
 -- src/library.rt:287:1
 same-length-7 : tie.Need-same-length-7
@@ -106,7 +115,8 @@ same-length-7 c = search needs
 
 -- src/library.rt:287:1
 returns-7 : tie.Need-returns-7
-returns-7 c = ?
+unfolding perform if_then_else_
+returns-7 c = rw (c .before .before .match .keys7) (c .x-coordinate .ensures)
 
 -- src/library.rt:287:1
 same-length-8 : tie.Need-same-length-8
@@ -114,7 +124,8 @@ same-length-8 c = search needs
 
 -- src/library.rt:287:1
 returns-8 : tie.Need-returns-8
-returns-8 c = ?
+unfolding perform if_then_else_
+returns-8 c = rw (c .before .before .match .keys8) (c .y-coordinate .ensures)
 
 -- src/library.rt:287:1
 same-length-9 : tie.Need-same-length-9
@@ -122,7 +133,8 @@ same-length-9 c = search needs
 
 -- src/library.rt:287:1
 returns-9 : tie.Need-returns-9
-returns-9 c = ?
+unfolding perform if_then_else_
+returns-9 c = rw (c .before .before .before .before .match .keys9) (c .before .before .destroy .ensures)
 
 -- src/library.rt:287:1
 same-length-10 : tie.Need-same-length-10
@@ -130,7 +142,7 @@ same-length-10 c = search needs
 
 -- src/library.rt:287:1
 returns-10 : tie.Need-returns-10
-returns-10 c = ?
+returns-10 c = search performs-9
 
 pub perform-spec : {M : Type 1} → statement M
 perform-spec =

@@ -1,3 +1,4 @@
+use Rattle.operators.proofs.LibraryLaws.{shape-is}
 use borrow.Author.Needs.{needs}
 use Rattle.operators.proofs.library.shape_at.Statement.{statement}
 use Rattle.operators.proofs.library.shape_at.Tie as tie
@@ -16,7 +17,7 @@ number-of-requires c κs = search needs
 
 -- src/library.rt:77:1
 returns : tie.Need-returns
-returns c = ?
+returns c = search shape-is
 
 pub shape-at-spec : {M : Type 1} → statement M
 shape-at-spec = tie.close (tie.spec argument-requires number-of-requires returns)

@@ -1,3 +1,4 @@
+use Rattle.operators.proofs.LibraryLaws.{text-is}
 use borrow.Author.Needs.{needs}
 use Rattle.operators.proofs.library.text_figure.Statement.{statement}
 use Rattle.operators.proofs.library.text_figure.Tie as tie
@@ -20,7 +21,7 @@ handle-at-requires c κs = search needs
 
 -- src/library.rt:145:1
 returns : tie.Need-returns
-returns c = ?
+returns c = search text-is
 
 pub text-figure-spec : {M : Type 1} → statement M
 text-figure-spec =

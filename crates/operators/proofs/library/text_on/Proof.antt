@@ -1,3 +1,4 @@
+use Rattle.operators.proofs.LibraryLaws.{text-on-is}
 use borrow.Author.Needs.{needs}
 use Rattle.operators.proofs.library.text_on.Statement.{statement}
 use Rattle.operators.proofs.library.text_on.Tie as tie
@@ -16,7 +17,7 @@ centre-y-requires c κs = search needs
 
 -- src/library.rt:163:1
 returns : tie.Need-returns
-returns c = ?
+returns c = search text-on-is
 
 pub text-on-spec : {M : Type 1} → statement M
 text-on-spec = tie.close (tie.spec centre-x-requires centre-y-requires returns)

@@ -1,3 +1,4 @@
+use Rattle.operators.proofs.LibraryLaws.{coordinate-count, coordinate-kind, coordinate-given}
 use borrow.Author.Needs.{needs}
 use Rattle.operators.proofs.library.y_coordinate.Statement.{statement}
 use Rattle.operators.proofs.library.y_coordinate.Tie as tie
@@ -9,7 +10,7 @@ use Rattle.operators.proofs.library.is_kind.Reads as is-kind-reads
 
 -- src/library.rt:250:9
 returns : tie.Need-returns
-returns c = ?
+returns c = search coordinate-count
 
 -- src/library.rt:252:9
 is-kind-requires : tie.Need-is-kind-requires
@@ -17,7 +18,7 @@ is-kind-requires c κs = search needs
 
 -- src/library.rt:253:9
 returns-2 : tie.Need-returns-2
-returns-2 c = ?
+returns-2 c = search coordinate-kind
 
 -- src/library.rt:255:42
 given-figure-requires : tie.Need-given-figure-requires
@@ -29,7 +30,7 @@ centre-y-requires c κs = search needs
 
 -- src/library.rt:245:1
 returns-3 : tie.Need-returns-3
-returns-3 c = ?
+returns-3 c = search coordinate-given
 
 pub y-coordinate-spec : {M : Type 1} → statement M
 y-coordinate-spec =
