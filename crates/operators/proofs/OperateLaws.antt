@@ -21,23 +21,10 @@ use Rattle.stores.specs.declared.Figure.{Figure}
 use Rattle.stores.specs.Act.{Raw, raw, Out, done, stop, Act, goOn, _>>=_, give, fail, refuse, shown}
 use Rattle.stores.specs.Texts.{joinTexts}
 use Rattle.stores.specs.Variables.{isDead, usable}
-use Rattle.operators.specs.Operate.{withInteger, withText, withShape, calculated, compared, remaindered, joined, operateOn, operate}
+use Rattle.operators.specs.Operate.{withInteger, withText, calculated, compared, remaindered, joined, operateOn, operate}
 use Rattle.operators.specs.Parts.{Computes, Draws, Other, Calculates, Compares, bothIntegers, NotBoth, Mixes, Operates}
 use Rattle.operators.proofs.Held.{held, back, either, past}
-
--- ---- values of another kind
-module _ {A : Type 0} (p a : ℕ) (s : Raw) where
-  pub no-integer : (k : ℤ → Act A) → (kindIn a ≡ 1 → ⊥) → withInteger p (unpacked a) k s ≡ stop 20 p s
-  unfolding withInteger fail
-  no-integer k h = by-kind a (λ v. withInteger p v k s ≡ stop 20 p s) (λ e. absurd (h e)) (λ _. refl) (λ _. refl) refl (λ _. refl) (λ _. refl)
-
-  pub no-text : (k : ℕ → Act A) → (kindIn a ≡ 2 → ⊥) → withText p (unpacked a) k s ≡ stop 20 p s
-  unfolding withText fail
-  no-text k h = by-kind a (λ v. withText p v k s ≡ stop 20 p s) (λ _. refl) (λ e. absurd (h e)) (λ _. refl) refl (λ _. refl) (λ _. refl)
-
-  pub no-shape-number : (k : ℕ → Act A) → (kindIn a ≡ 6 → ⊥) → withShape p (unpacked a) k s ≡ stop 20 p s
-  unfolding withShape fail
-  no-shape-number k h = by-kind a (λ v. withShape p v k s ≡ stop 20 p s) (λ _. refl) (λ _. refl) (λ _. refl) refl (λ _. refl) (λ e. absurd (h e))
+use Rattle.operators.proofs.KindLaws.{no-integer, no-text}
 
 -- ---- texts
 module _ (program g ts ws : List ℕ) (p a b : ℕ) where
@@ -84,11 +71,11 @@ module _ {g ws : List ℕ} {tag p a b : ℕ} where
   unfolding shown
   uncalculated o = record { equal = λ q. record { equal = λ program ts. sym (not-operated program g p a b (raw ts ws) o (q .mixed) tag q) } }
 
-  pub no-shape : (a % 8 ≡ 6 → ⊥) → Calculates g ws tag p a b (Bad 20 p) ws
-  no-shape h = uncalculated (λ e _. h e)
+  pub not-shape : (a % 8 ≡ 6 → ⊥) → Calculates g ws tag p a b (Bad 20 p) ws
+  not-shape h = uncalculated (λ e _. h e)
 
-  pub no-number : (b % 8 ≡ 1 → ⊥) → Calculates g ws tag p a b (Bad 20 p) ws
-  no-number h = uncalculated (λ _ e. h e)
+  pub not-number : (b % 8 ≡ 1 → ⊥) → Calculates g ws tag p a b (Bad 20 p) ws
+  not-number h = uncalculated (λ _ e. h e)
 
   pub calculates : {i : ℕ} {n : ℤ} {r : Answer} {ws′ : List ℕ} → a % 8 ≡ 6 → b % 8 ≡ 1 → Draws g ws tag p (Shape i) (Integer (held n)) r ws′ → i ≡ numberIn a
       → n ≡ toZ w32 (numberIn b) → mag n < 2 ^ 31 → Calculates g ws tag p a b r ws′

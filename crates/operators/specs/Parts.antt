@@ -48,10 +48,13 @@ changed tag s n =
 -- a figure's first point, and its second if it is a line, in their new places
 unfoldable pub placed : Figure → ℤ → ℤ → ℤ → ℤ → Figure
 placed s x y z w = record {
-    kind = s .kind; a = x; b = y;
-    c = cond (eqb (s .kind) 0) z (s .c);
-    d = cond (eqb (s .kind) 0) w (s .d);
-    text = s .text }
+  kind = s .kind;
+  a = x;
+  b = y;
+  c = cond (eqb (s .kind) 0) z (s .c);
+  d = cond (eqb (s .kind) 0) w (s .d);
+  text = s .text;
+}
 
 -- ---- other values
 -- an operator that is no concatenation and no equality, on two values that are not both integers

@@ -96,13 +96,26 @@ fn equality<'a>(program: &'a [u8], texts: &'a [u8], words: &[u64], a: u64, b: u6
         2 => number(texts::same_text(program, texts, values::handle_of(a), values::handle_of(b))),
         3 => number(a / 8 % 2 == b / 8 % 2),
         4 => 1,
-        6 => number(same_shape(program, texts, words, values::number_of(a), values::number_of(b))),
+        6 => number(same_shape(
+            program,
+            texts,
+            words,
+            values::number_of(a),
+            values::number_of(b),
+        )),
         _ => 2,
     }
 }
 
 // a == b.
-pub fn equal<'a>(program: &'a [u8], texts: &'a [u8], words: &[u64], p: u64, a: u64, b: u64) -> Answer
+pub fn equal<'a>(
+    program: &'a [u8],
+    texts: &'a [u8],
+    words: &[u64],
+    p: u64,
+    a: u64,
+    b: u64,
+) -> Answer
     ensures { λ r. ⌜ Compares (now (program .entry)) (now (texts .entry)) (now (words .entry)) 24 p a b r ⌝ }
 {
     let found = equality(program, texts, words, a, b);
@@ -113,7 +126,14 @@ pub fn equal<'a>(program: &'a [u8], texts: &'a [u8], words: &[u64], p: u64, a: u
 }
 
 // a != b.
-pub fn unequal<'a>(program: &'a [u8], texts: &'a [u8], words: &[u64], p: u64, a: u64, b: u64) -> Answer
+pub fn unequal<'a>(
+    program: &'a [u8],
+    texts: &'a [u8],
+    words: &[u64],
+    p: u64,
+    a: u64,
+    b: u64,
+) -> Answer
     ensures { λ r. ⌜ Compares (now (program .entry)) (now (texts .entry)) (now (words .entry)) 25 p a b r ⌝ }
 {
     let found = equality(program, texts, words, a, b);

@@ -2,7 +2,6 @@
 pub mod equality;
 pub mod figures;
 pub mod integers;
-pub mod library;
 
 use values::Answer;
 ghost use mathlib.Core.Path.{_≡_};
@@ -31,7 +30,15 @@ fn join(
     if b % 8 != 2 {
         return Answer::Bad(20, p);
     }
-    let r = texts::join_texts(program, texts, words, grants, p, values::handle_of(a), values::handle_of(b));
+    let r = texts::join_texts(
+        program,
+        texts,
+        words,
+        grants,
+        p,
+        values::handle_of(a),
+        values::handle_of(b),
+    );
     r
 }
 
@@ -46,7 +53,14 @@ fn calculate(words: &mut [u64], grants: &[u64; 4], tag: u64, p: u64, a: u64, b: 
     if b % 8 != 1 {
         return Answer::Bad(20, p);
     }
-    let r = figures::on_shape(words, grants, tag, p, values::number_of(a), values::integer_of(b));
+    let r = figures::on_shape(
+        words,
+        grants,
+        tag,
+        p,
+        values::number_of(a),
+        values::integer_of(b),
+    );
     r
 }
 

@@ -1,49 +1,35 @@
-use Rattle.operators.proofs.OperateLaws.{dead-left, dead-right, both-usable}
 use borrow.Author.Needs.{needs}
+use Rattle.operators.proofs.OperateLaws.{dead-left, dead-right, both-usable}
 use Rattle.operators.proofs.on_mixed.Statement.{statement}
 use Rattle.operators.proofs.on_mixed.Tie as tie
-use Rattle.operators.proofs.on_mixed.Reads as reads
-use Rattle.operators.proofs.on_mixed.Lts as lts
-use Rattle.operators.proofs.on_usable.Reads as on-usable-reads
-use Rattle.stores.proofs.variables.is_dead.Reads as is-dead-reads
 
--- src/lib.rt:96:8
 is-dead-requires : tie.Need-is-dead-requires
 is-dead-requires c κs = search needs
 
--- src/lib.rt:97:9
 same-length : tie.Need-same-length
 same-length c = search needs
 
--- src/lib.rt:97:9
 returns : tie.Need-returns
 returns c = search dead-left
 
--- src/lib.rt:99:8
 is-dead-requires-2 : tie.Need-is-dead-requires-2
 is-dead-requires-2 c κs = search needs
 
--- src/lib.rt:100:9
 same-length-2 : tie.Need-same-length-2
 same-length-2 c = search needs
 
--- src/lib.rt:100:9
 returns-2 : tie.Need-returns-2
 returns-2 c = search dead-right
 
--- src/lib.rt:102:9
 on-usable-requires : tie.Need-on-usable-requires
 on-usable-requires c κs = search needs
 
--- src/lib.rt:83:1
 same-length-3 : tie.Need-same-length-3
 same-length-3 c = search needs
 
--- src/lib.rt:83:1
 same-length-4 : tie.Need-same-length-4
 same-length-4 c = search needs
 
--- src/lib.rt:83:1
 returns-3 : tie.Need-returns-3
 returns-3 c = search both-usable
 

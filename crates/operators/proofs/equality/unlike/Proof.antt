@@ -1,18 +1,13 @@
 use Rattle.operators.proofs.EqualityLaws.{unlike-4, unlike-to-4, unlike-other}
 use Rattle.operators.proofs.equality.unlike.Statement.{statement}
 use Rattle.operators.proofs.equality.unlike.Tie as tie
-use Rattle.operators.proofs.equality.unlike.Reads as reads
-use Rattle.operators.proofs.equality.unlike.Lts as lts
 
--- src/equality.rt:76:9
 returns : tie.Need-returns
 returns c = search unlike-4
 
--- src/equality.rt:79:9
 returns-2 : tie.Need-returns-2
 returns-2 c = search unlike-to-4
 
--- src/equality.rt:72:1
 returns-3 : tie.Need-returns-3
 returns-3 c = search unlike-other
 
