@@ -24,7 +24,7 @@ use Rattle.stores.specs.Arguments.{push, dropTo}
 use Rattle.stores.specs.Variables.{variable}
 use Rattle.stores.specs.Tables.{readEntry, Looks}
 use Rattle.operators.specs.Operate.{withInteger, withTable, operate}
-use Rattle.operators.specs.Library.{callLibrary}
+use Rattle.library.specs.Library.{callLibrary}
 use Rattle.invariant.specs.Invariant.{SoundValue, Valid, After, kept, stopped}
 use Rattle.invariant.proofs.Soundness.{sound-unpacked}
 use Rattle.invariant.proofs.EntriesKept.{after-read-entry}

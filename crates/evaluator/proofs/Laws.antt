@@ -29,7 +29,7 @@ use Rattle.stores.specs.Arguments.{push, dropTo}
 use Rattle.stores.specs.Variables.{variable}
 use Rattle.stores.specs.Tables.{readEntry}
 use Rattle.operators.specs.Operate.{withInteger, withTable, operate}
-use Rattle.operators.specs.Library.{callLibrary}
+use Rattle.library.specs.Library.{callLibrary}
 use Rattle.invariant.specs.Invariant.{Valid}
 use Rattle.evaluator.specs.Evaluate.{Evaluator, Setting, setting, sized, pushed, pushAll, called, calling, tableOf, entryOf, entryAt, operationOf, operationAt, evaluateBy, evaluateAt}
 use Rattle.stores.proofs.Acts.{after-pass, after-refusal}
@@ -52,16 +52,14 @@ module _ (ws : List ℕ) (p : ℕ) (z : ℤ) (b : Bool) (f : SFits w32 z) (e : b
   unfolding sized _>>=_ goOn refuse give shown
   new-table t ws′ g h = record { equal = λ ts. rw (← toZ-ofZ f, ← e, g) (h .equal ts) }
 
-module _ (g : List ℕ) (number p base n : ℕ) (a : Answer) (ts ws ts₁ ws₁ : List ℕ) where
-  pub library-stops : (m q : ℕ) → n ≡ getD ws 6 0 - base → shown a ts₁ ws₁ ≡ callLibrary g number p base n (raw ts ws) → a ≡ Bad m q
-      → shown (Bad m q) ts₁ ws₁ ≡ called g number p base (raw ts ws)
+module _ (g : List ℕ) (number p base h n : ℕ) (a : Answer) (ws ws₁ : List ℕ) (i : h ≡ getD ws 6 0) (j : n ≡ h - base) (e : Answers ws (callLibrary g number p base n) a ws₁) where
+  pub library-stops : (m q : ℕ) → a ≡ Bad m q → Answers ws (called g number p base) (Bad m q) ws₁
   unfolding called _>>=_ goOn load shown
-  library-stops m q i e f = sym (rw (← i) (stops _ e f))
+  library-stops m q f = record { equal = λ ts. sym (rw (← i, ← j) (stops _ (e .equal ts) f)) }
 
-  pub library-called : (v : Value) (ws₂ : List ℕ) → n ≡ getD ws 6 0 - base → shown a ts₁ ws₁ ≡ callLibrary g number p base n (raw ts ws) → a ≡ Good v
-      → Gives ws₁ (dropTo base) tt ws₂ → shown (Good v) ts₁ ws₂ ≡ called g number p base (raw ts ws)
+  pub library-called : (v : Value) (ws₂ : List ℕ) → a ≡ Good v → Gives ws₁ (dropTo base) tt ws₂ → Answers ws (called g number p base) (Good v) ws₂
   unfolding called _>>=_ goOn load give shown
-  library-called v ws₂ i e f d = sym (rw (← i) (goes-on _ e f ∙ rw (← d .equal ts₁)))
+  library-called v ws₂ f d = record { equal = λ ts. sym (rw (← i, ← j) (goes-on _ (e .equal ts) f ∙ rw (← d .equal ts))) }
 
 -- ---- expressions
 -- the root of the first part, and where the arguments begin
@@ -168,10 +166,10 @@ module _ (inner : Evaluator) (e : Setting) (p : ℕ) (ts ws : List ℕ) (a : Ans
     unfolding calling _>>=_ goOn load shown
     call-stops n q h g = sym (rw (← first-argument x w s l b c d f) (stops _ h g))
 
-    pub call-goes : (n : ℕ) (v : Value) (o : Out Value) → shown a ts₁ ws₁ ≡ pushAll (suc x) inner e b x p (raw ts ws) → a ≡ Good v → n ≡ numberIn w
-        → o ≡ called (e .grants) n p base (raw ts₁ ws₁) → o ≡ calling inner e w x p (raw ts ws)
+    pub call-goes : (n : ℕ) (v : Value) (r : Answer) (ws₂ : List ℕ) → shown a ts₁ ws₁ ≡ pushAll (suc x) inner e b x p (raw ts ws) → a ≡ Good v → n ≡ numberIn w
+        → Answers ws₁ (called (e .grants) n p base) r ws₂ → shown r ts₁ ws₂ ≡ calling inner e w x p (raw ts ws)
     unfolding calling _>>=_ goOn load
-    call-goes n v o h g m r = r ∙ sym (rw (← first-argument x w s l b c d f) (goes-on _ h g ∙ rw (m, i)))
+    call-goes n v r ws₂ h g m q = q .equal ts₁ ∙ sym (rw (← first-argument x w s l b c d f) (goes-on _ h g ∙ rw (m, i)))
 
 -- ---- by the root's word
 module _ (inner : Evaluator) (e : Setting) (w x p : ℕ) (ts ws : List ℕ) (tag : ℕ) (i : tag ≡ tagIn w) where

@@ -19,7 +19,7 @@ use Rattle.stores.specs.Arguments.{push, dropTo}
 use Rattle.stores.specs.Variables.{variable}
 use Rattle.stores.specs.Tables.{readEntry}
 use Rattle.operators.specs.Operate.{withInteger, withTable, operate}
-use Rattle.operators.specs.Library.{callLibrary}
+use Rattle.library.specs.Library.{callLibrary}
 
 -- what does not change in a run
 pub record Setting : Type 0 where

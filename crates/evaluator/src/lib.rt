@@ -1,6 +1,5 @@
 // Evaluating expressions over code.
 pub mod parts;
-pub mod pending;
 
 use values::Answer;
 use values::Value;
@@ -249,7 +248,7 @@ fn operation_of(
 {
     match evaluate(program, code, grants, texts, words, depth, y, p) {
         Answer::Good(v) => {
-            let r = pending::operate(program, grants, texts, words, tag, p, a, values::pack(v));
+            let r = operators::operate(program, grants, texts, words, tag, p, a, values::pack(v));
             r
         }
         Answer::Bad(n, q) => Answer::Bad(n, q),
@@ -276,7 +275,7 @@ fn calling(
     let a = parts::less(x, parts::less(code::size_of(w), 1));
     match push_all(program, code, grants, texts, words, depth, a, x, p) {
         Answer::Good(_) => {
-            let r = parts::called(program, grants, texts, words, code::number_of(w), p, base);
+            let r = parts::called(words, grants, code::number_of(w), p, base);
             r
         }
         Answer::Bad(n, q) => Answer::Bad(n, q),

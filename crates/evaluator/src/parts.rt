@@ -10,9 +10,9 @@ ghost use mir.Val.{toZ};
 ghost use Rattle.code.specs.Code.{numberIn};
 ghost use Rattle.values.specs.declared.Value.the-variants.{Integer, Text, Boolean};
 ghost use Rattle.values.specs.declared.Answer.the-variants.{Good};
-ghost use Rattle.stores.specs.Act.{raw, shown, Answers};
+ghost use Rattle.stores.specs.Act.{Answers};
 ghost use Rattle.stores.specs.Variables.{variable};
-ghost use Rattle.stores.specs.Layout.{Lent};
+ghost use Rattle.stores.specs.Layout.{Room};
 ghost use Rattle.evaluator.specs.Evaluate.{sized, called};
 
 // The difference, 0 if it were less.
@@ -83,20 +83,12 @@ pub fn new_table(words: &mut [u64], size: i32, p: u64) -> Answer
 }
 
 // A library procedure on the arguments held from the one numbered base on, which are then dropped.
-pub fn called(
-    program: &[u8],
-    grants: &[u64; 4],
-    texts: &mut [u8],
-    words: &mut [u64],
-    number: u64,
-    p: u64,
-    base: u64,
-) -> Answer
-    requires { ⌜ Lent (now grants) (now texts) (now words) ⌝ }
-    ensures { λ r. ⌜ shown r (now (texts .exit)) (now (words .exit)) ≡ called (now (grants .entry)) number p base (raw (now (texts .entry)) (now (words .entry))) ⌝ }
+pub fn called(words: &mut [u64], grants: &[u64; 4], number: u64, p: u64, base: u64) -> Answer
+    requires { ⌜ Room (now grants) (now words) ⌝ }
+    ensures { λ r. ⌜ Answers (now (words .entry)) (called (now (grants .entry)) number p base) r (now (words .exit)) ⌝ }
 {
     let n = less_word(stores::arguments::arguments_held(words), base);
-    match crate::pending::call_library(program, grants, texts, words, number, p, base, n) {
+    match library::call_library(words, grants, number, p, base, n) {
         Answer::Good(v) => {
             stores::arguments::drop_to(words, base);
             Answer::Good(v)

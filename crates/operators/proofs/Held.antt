@@ -35,6 +35,11 @@ unfolding if_then_else_
 either true f g r h k = h
 either false f g r h k = k
 
+-- the second way
+pub past : {A : Type 0} {b : Bool} → b ≡ false → (f g : Act A) (r : Raw) {o : Out A} → g r ≡ o → (if b then (λ _. f) else λ _. g) r ≡ o
+unfolding if_then_else_
+past e f g r h = rw e h
+
 -- a number is this one, or it is another
 pub by-number : (P : ℕ → Type 0) (n k : ℕ) → P k → ((n ≡ k → ⊥) → P n) → P n
 by-number P n k h o = go (eqb n k) refl

@@ -88,6 +88,8 @@ module _ {tag : ℕ} (p : ℕ) {x y : ℤ} (i : SFits w32 x) (j : SFits w32 y) w
 pub no-operator : {tag : ℕ} (p : ℕ) {x y : ℤ} → (tag ≡ 17 → ⊥) → (tag ≡ 18 → ⊥) → (tag ≡ 19 → ⊥) → (tag ≡ 20 → ⊥) → (tag ≡ 21 → ⊥) → (tag ≡ 22 → ⊥)
     → (tag ≡ 23 → ⊥) → (tag ≡ 24 → ⊥) → (tag ≡ 25 → ⊥) → (tag ≡ 26 → ⊥) → (tag ≡ 27 → ⊥) → Computes tag p (Integer x) (Integer y) (Bad 20 p)
 unfolding operateOn joined withText fail shown if_then_else_
-no-operator {tag} p a b c d e f g h i j k = record { equal = λ program grants ts ws. sym (either (eqb tag 16) _ _ _ refl
-    (rw (ne-eqb _ _ a, ne-eqb _ _ b, ne-eqb _ _ c, ne-eqb _ _ d, ne-eqb _ _ e, ne-eqb _ _ f)
-    (rw (ne-eqb _ _ g, ne-eqb _ _ h, ne-eqb _ _ i, ne-eqb _ _ j, ne-eqb _ _ k) refl))) }
+no-operator {tag} p a b c d e f g h i j k = record {
+  equal = λ program grants ts ws. sym (either (eqb tag 16) _ _ _ refl
+      (rw (ne-eqb _ _ a, ne-eqb _ _ b, ne-eqb _ _ c, ne-eqb _ _ d, ne-eqb _ _ e, ne-eqb _ _ f)
+      (rw (ne-eqb _ _ g, ne-eqb _ _ h, ne-eqb _ _ i, ne-eqb _ _ j, ne-eqb _ _ k) refl)));
+}

@@ -1,3 +1,6 @@
-mod Held
+pub mod Held
+pub mod KindLaws
 mod IntegerLaws
 mod FigureLaws
+mod EqualityLaws
+mod OperateLaws

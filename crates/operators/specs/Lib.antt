@@ -1,3 +1,2 @@
 pub mod Operate
 pub mod Parts
-pub mod Library

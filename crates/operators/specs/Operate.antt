@@ -62,10 +62,13 @@ withShape p (Shape i) k = k i
 -- each x coordinate by f, each y coordinate by g
 unfoldable pub moved : (ℤ → ℤ) → (ℤ → ℤ) → Figure → Figure
 moved f g s = record {
-    kind = s .kind; a = f (s .a); b = g (s .b);
-    c = cond (eqb (s .kind) 0) (f (s .c)) (s .c);
-    d = cond (eqb (s .kind) 0) (g (s .d)) (s .d);
-    text = s .text }
+  kind = s .kind;
+  a = f (s .a);
+  b = g (s .b);
+  c = cond (eqb (s .kind) 0) (f (s .c)) (s .c);
+  d = cond (eqb (s .kind) 0) (g (s .d)) (s .d);
+  text = s .text;
+}
 
 abbrev pub kept : ℤ → ℤ
 kept z = z
@@ -182,6 +185,6 @@ operateOn program grants tag p v w =
 -- a shape among the sides must not be destroyed by now
 unfoldable pub operate : List ℕ → List ℕ → ℕ → ℕ → Value → Value → Act Value
 operate program grants tag p v w = do
-    usable p v
-    usable p w
-    operateOn program grants tag p v w
+  usable p v
+  usable p w
+  operateOn program grants tag p v w

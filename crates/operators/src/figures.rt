@@ -14,9 +14,23 @@ fn placed(f: Figure, x: i32, y: i32, z: i32, w: i32) -> Figure
     ensures { λ r. ⌜ r ≡ placed f x y z w ⌝ }
 {
     if f.kind == 0 {
-        return Figure { kind: f.kind, a: x, b: y, c: z, d: w, text: f.text };
+        return Figure {
+            kind: f.kind,
+            a: x,
+            b: y,
+            c: z,
+            d: w,
+            text: f.text,
+        };
     }
-    Figure { kind: f.kind, a: x, b: y, c: f.c, d: f.d, text: f.text }
+    Figure {
+        kind: f.kind,
+        a: x,
+        b: y,
+        c: f.c,
+        d: f.d,
+        text: f.text,
+    }
 }
 
 fn plus_y(f: Figure, n: i32) -> Figure

@@ -1,33 +1,23 @@
-use Rattle.operators.proofs.FigureLaws.{scaled-up-is}
 use borrow.Author.Needs.{needs}
+use Rattle.operators.proofs.FigureLaws.{scaled-up-is}
 use Rattle.operators.proofs.figures.scaled_up.Statement.{statement}
 use Rattle.operators.proofs.figures.scaled_up.Tie as tie
-use Rattle.operators.proofs.figures.scaled_up.Reads as reads
-use Rattle.operators.proofs.figures.scaled_up.Lts as lts
-use Rattle.arithmetic.proofs.product.Reads as product-reads
-use Rattle.operators.proofs.figures.placed.Reads as placed-reads
 
--- src/figures.rt:57:9
 product-requires : tie.Need-product-requires
 product-requires c κs = search needs
 
--- src/figures.rt:58:9
 product-requires-2 : tie.Need-product-requires-2
 product-requires-2 c κs = search needs
 
--- src/figures.rt:59:9
 product-requires-3 : tie.Need-product-requires-3
 product-requires-3 c κs = search needs
 
--- src/figures.rt:60:9
 product-requires-4 : tie.Need-product-requires-4
 product-requires-4 c κs = search needs
 
--- src/figures.rt:61:5
 placed-requires : tie.Need-placed-requires
 placed-requires c κs = search needs
 
--- src/figures.rt:54:1
 returns : tie.Need-returns
 returns c = search scaled-up-is
 

@@ -54,44 +54,44 @@ withFigure p v k = withShape p v λ i r. k (figureAt (r .words) i) r
 -- four integers make a figure of a kind
 unfoldable pub drawn : List ℕ → ℕ → ℕ → ℕ → ℕ → Act Value
 drawn grants kind p base n r = (do
-    refuse (not (eqb n 4)) 20 p
-    withInteger p (argument r base) λ x. withInteger p (argument r (base + 1)) λ y.
+  refuse (not (eqb n 4)) 20 p
+  withInteger p (argument r base) λ x. withInteger p (argument r (base + 1)) λ y.
       withInteger p (argument r (base + 2)) λ z. withInteger p (argument r (base + 3)) λ w.
       newShape grants p (figure kind x y z w 0)) r
 
 unfoldable pub drawnText : List ℕ → ℕ → ℕ → ℕ → Act Value
 drawnText grants p base n r = (do
-    refuse (not (eqb n 3)) 20 p
-    withInteger p (argument r base) λ x. withInteger p (argument r (base + 1)) λ y. withText p (argument r (base + 2)) λ h.
+  refuse (not (eqb n 3)) 20 p
+  withInteger p (argument r base) λ x. withInteger p (argument r (base + 1)) λ y. withText p (argument r (base + 2)) λ h.
       newShape grants p (figure 3 x y (pos 0) (pos 0) h)) r
 
 unfoldable pub connected : List ℕ → ℕ → ℕ → ℕ → Act Value
 connected grants p base n r = (do
-    refuse (not (eqb n 2)) 20 p
-    withFigure p (argument r base) λ s. withFigure p (argument r (base + 1)) λ t.
+  refuse (not (eqb n 2)) 20 p
+  withFigure p (argument r base) λ s. withFigure p (argument r (base + 1)) λ t.
       newShape grants p (connecting s t)) r
 
 unfoldable pub labelled : List ℕ → ℕ → ℕ → ℕ → Act Value
 labelled grants p base n r = (do
-    refuse (not (eqb n 2)) 20 p
-    withFigure p (argument r base) λ s. withText p (argument r (base + 1)) λ h.
+  refuse (not (eqb n 2)) 20 p
+  withFigure p (argument r base) λ s. withText p (argument r (base + 1)) λ h.
       newShape grants p (textOn s h)) r
 
 unfoldable pub coordinate : (Figure → ℤ) → ℕ → ℕ → ℕ → Act Value
 coordinate f p base n r = (do
-    refuse (not (eqb n 1)) 20 p
-    withFigure p (argument r base) λ s. give (Integer (f s))) r
+  refuse (not (eqb n 1)) 20 p
+  withFigure p (argument r base) λ s. give (Integer (f s))) r
 
 unfoldable pub destroyed : ℕ → ℕ → ℕ → Act Value
 destroyed p base n r = (do
-    refuse (not (eqb n 1)) 20 p
-    withShape p (argument r base) λ i. destroy i >> give Nothing) r
+  refuse (not (eqb n 1)) 20 p
+  withShape p (argument r base) λ i. destroy i >> give Nothing) r
 
 unfoldable pub clearing : ℕ → ℕ → Act Value
 clearing p n = do
-    refuse (not (eqb n 0)) 20 p
-    clearScene
-    give Nothing
+  refuse (not (eqb n 0)) 20 p
+  clearScene
+  give Nothing
 
 -- by the procedure's number
 unfoldable pub perform : List ℕ → ℕ → ℕ → ℕ → ℕ → Act Value
