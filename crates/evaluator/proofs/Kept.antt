@@ -47,7 +47,7 @@ after-called {ws = ws} v number p base =
     (λ u _ _ v₁ _ s₁. after-then (λ _. give u) (after-drop v₁ base) (λ _ _ _ v₂ g₂ _. after-give v₂ Leads u (leads-grows u g₂ s₁)))
 
 module _ (program code g : List ℕ) (inner : Evaluator)
-  (keeps : (x p : ℕ) (ts ws : List ℕ) → Valid program g ts ws → After program g ws Leads (inner x p (raw ts ws))) where
+    (keeps : (x p : ℕ) (ts ws : List ℕ) → Valid program g ts ws → After program g ws Leads (inner x p (raw ts ws))) where
   abbrev e : Setting
   e = setting program code g
 

@@ -262,7 +262,7 @@ module _ (program code g : List ℕ) (depth : ℕ) (ts₀ ws₀ : List ℕ) (a x
     push-end l = sym (h .rest ∙ sym (ends (h .rounds) (sizeIn (getD code at 0)) refl (omega arith)))
 
     module _ (r : Answer) (ts₁ ws₁ : List ℕ) (w n y : ℕ) (e : w ≡ getD code at 0) (f : n ≡ sizeIn w) (m : at < x) (l : n < x - at) (i : y ≡ at + n)
-      (c : shown r ts₁ ws₁ ≡ pushed (evaluateAt depth (setting program code g)) y p (raw ts ws)) where
+        (c : shown r ts₁ ws₁ ≡ pushed (evaluateAt depth (setting program code g)) y p (raw ts ws)) where
       again : (rounds : ℕ) → x < at + rounds
           → pushAll rounds (evaluateAt depth (setting program code g)) (setting program code g) at x p (raw ts ws)
           ≡ goOn (shown r ts₁ ws₁) (λ _. pushAll (rounds - 1) (evaluateAt depth (setting program code g)) (setting program code g) (at + n + 1) x p)

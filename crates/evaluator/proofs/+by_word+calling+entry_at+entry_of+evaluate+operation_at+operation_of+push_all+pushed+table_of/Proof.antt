@@ -49,7 +49,7 @@ use Rattle.evaluator.proofs.parts.new_table.Reads as new-table-reads
 use Rattle.evaluator.proofs.parts.number.Reads as number-reads
 use Rattle.evaluator.proofs.parts.string.Reads as string-reads
 use Rattle.evaluator.proofs.parts.truth.Reads as truth-reads
-use Rattle.evaluator.proofs.pending.operate.Reads as operate-reads
+use Rattle.operators.proofs.operate.Reads as operate-reads
 use Rattle.stores.proofs.arguments.arguments_held.Reads as arguments-held-reads
 use Rattle.stores.proofs.arguments.push.Reads as push-reads
 use Rattle.stores.proofs.counters.count.Reads as count-reads
@@ -170,7 +170,7 @@ abbrev table-of-below : ℕ → In 5 table-of-kinds.ps
 table-of-below t =
     and 5 table-of-kinds.ps (falls 5 table-of-kinds.ps _<_ μ-table-of t) table-of.Pre
 
--- src/lib.rt:55:11
+-- src/lib.rt:54:11
 by-word-tag-of-requires : (t : ℕ) → by-word-lts.Need-tag-of-requires (
   tag-of-reads.Asked,
   tag-of-reads.Learnt,
@@ -195,7 +195,7 @@ by-word-tag-of-requires : (t : ℕ) → by-word-lts.Need-tag-of-requires (
 ) (by-word-at t) by-word.Post
 by-word-tag-of-requires t c κs = search needs
 
--- src/lib.rt:56:14
+-- src/lib.rt:55:14
 by-word-number-requires : (t : ℕ) → by-word-lts.Need-number-requires (
   tag-of-reads.Asked,
   tag-of-reads.Learnt,
@@ -220,7 +220,7 @@ by-word-number-requires : (t : ℕ) → by-word-lts.Need-number-requires (
 ) (by-word-at t) by-word.Post
 by-word-number-requires t c κs = search needs
 
--- src/lib.rt:57:14
+-- src/lib.rt:56:14
 by-word-string-requires : (t : ℕ) → by-word-lts.Need-string-requires (
   tag-of-reads.Asked,
   tag-of-reads.Learnt,
@@ -245,7 +245,7 @@ by-word-string-requires : (t : ℕ) → by-word-lts.Need-string-requires (
 ) (by-word-at t) by-word.Post
 by-word-string-requires t c κs = search needs
 
--- src/lib.rt:59:14
+-- src/lib.rt:58:14
 by-word-truth-requires : (t : ℕ) → by-word-lts.Need-truth-requires (
   tag-of-reads.Asked,
   tag-of-reads.Learnt,
@@ -270,7 +270,7 @@ by-word-truth-requires : (t : ℕ) → by-word-lts.Need-truth-requires (
 ) (by-word-at t) by-word.Post
 by-word-truth-requires t c κs = search needs
 
--- src/lib.rt:60:14
+-- src/lib.rt:59:14
 by-word-name-requires : (t : ℕ) → by-word-lts.Need-name-requires (
   tag-of-reads.Asked,
   tag-of-reads.Learnt,
@@ -295,7 +295,7 @@ by-word-name-requires : (t : ℕ) → by-word-lts.Need-name-requires (
 ) (by-word-at t) by-word.Post
 by-word-name-requires t c κs = search needs
 
--- src/lib.rt:69:17
+-- src/lib.rt:68:17
 by-word-less-requires : (t : ℕ) → by-word-lts.Need-less-requires (
   tag-of-reads.Asked,
   tag-of-reads.Learnt,
@@ -320,7 +320,7 @@ by-word-less-requires : (t : ℕ) → by-word-lts.Need-less-requires (
 ) (by-word-at t) by-word.Post
 by-word-less-requires t c κs = search needs
 
--- src/lib.rt:62:17
+-- src/lib.rt:61:17
 by-word-table-of-requires : (t : ℕ) → by-word-lts.Need-table-of-requires (
   tag-of-reads.Asked,
   tag-of-reads.Learnt,
@@ -345,7 +345,7 @@ by-word-table-of-requires : (t : ℕ) → by-word-lts.Need-table-of-requires (
 ) (by-word-at t) by-word.Post
 by-word-table-of-requires t c κs = (omega arith, search needs)
 
--- src/lib.rt:75:17
+-- src/lib.rt:74:17
 by-word-entry-at-requires : (t : ℕ) → by-word-lts.Need-entry-at-requires (
   tag-of-reads.Asked,
   tag-of-reads.Learnt,
@@ -370,7 +370,7 @@ by-word-entry-at-requires : (t : ℕ) → by-word-lts.Need-entry-at-requires (
 ) (by-word-at t) by-word.Post
 by-word-entry-at-requires t c κs = (omega arith, search needs)
 
--- src/lib.rt:79:17
+-- src/lib.rt:78:17
 by-word-calling-requires : (t : ℕ) → by-word-lts.Need-calling-requires (
   tag-of-reads.Asked,
   tag-of-reads.Learnt,
@@ -395,7 +395,7 @@ by-word-calling-requires : (t : ℕ) → by-word-lts.Need-calling-requires (
 ) (by-word-at t) by-word.Post
 by-word-calling-requires t c κs = (omega arith, search needs)
 
--- src/lib.rt:83:17
+-- src/lib.rt:82:17
 by-word-operation-at-requires : (t : ℕ) → by-word-lts.Need-operation-at-requires (
   tag-of-reads.Asked,
   tag-of-reads.Learnt,
@@ -420,7 +420,7 @@ by-word-operation-at-requires : (t : ℕ) → by-word-lts.Need-operation-at-requ
 ) (by-word-at t) by-word.Post
 by-word-operation-at-requires t c κs = (omega arith, search needs)
 
--- src/lib.rt:40:1
+-- src/lib.rt:39:1
 by-word-returns : (t : ℕ) → by-word-lts.Need-returns (
   tag-of-reads.Asked,
   tag-of-reads.Learnt,
@@ -445,7 +445,7 @@ by-word-returns : (t : ℕ) → by-word-lts.Need-returns (
 ) (by-word-at t) by-word.Post
 by-word-returns t c = search by-number
 
--- src/lib.rt:40:1
+-- src/lib.rt:39:1
 by-word-returns-2 : (t : ℕ) → by-word-lts.Need-returns-2 (
   tag-of-reads.Asked,
   tag-of-reads.Learnt,
@@ -470,7 +470,7 @@ by-word-returns-2 : (t : ℕ) → by-word-lts.Need-returns-2 (
 ) (by-word-at t) by-word.Post
 by-word-returns-2 t c = search by-string
 
--- src/lib.rt:40:1
+-- src/lib.rt:39:1
 by-word-returns-3 : (t : ℕ) → by-word-lts.Need-returns-3 (
   tag-of-reads.Asked,
   tag-of-reads.Learnt,
@@ -495,7 +495,7 @@ by-word-returns-3 : (t : ℕ) → by-word-lts.Need-returns-3 (
 ) (by-word-at t) by-word.Post
 by-word-returns-3 t c = search by-none
 
--- src/lib.rt:40:1
+-- src/lib.rt:39:1
 by-word-returns-4 : (t : ℕ) → by-word-lts.Need-returns-4 (
   tag-of-reads.Asked,
   tag-of-reads.Learnt,
@@ -520,7 +520,7 @@ by-word-returns-4 : (t : ℕ) → by-word-lts.Need-returns-4 (
 ) (by-word-at t) by-word.Post
 by-word-returns-4 t c = search by-truth
 
--- src/lib.rt:40:1
+-- src/lib.rt:39:1
 by-word-same-length : (t : ℕ) → by-word-lts.Need-same-length (
   tag-of-reads.Asked,
   tag-of-reads.Learnt,
@@ -545,7 +545,7 @@ by-word-same-length : (t : ℕ) → by-word-lts.Need-same-length (
 ) (by-word-at t) by-word.Post
 by-word-same-length t c = search needs
 
--- src/lib.rt:40:1
+-- src/lib.rt:39:1
 by-word-returns-5 : (t : ℕ) → by-word-lts.Need-returns-5 (
   tag-of-reads.Asked,
   tag-of-reads.Learnt,
@@ -570,7 +570,7 @@ by-word-returns-5 : (t : ℕ) → by-word-lts.Need-returns-5 (
 ) (by-word-at t) by-word.Post
 by-word-returns-5 t c = search by-name
 
--- src/lib.rt:40:1
+-- src/lib.rt:39:1
 by-word-same-length-2 : (t : ℕ) → by-word-lts.Need-same-length-2 (
   tag-of-reads.Asked,
   tag-of-reads.Learnt,
@@ -595,7 +595,7 @@ by-word-same-length-2 : (t : ℕ) → by-word-lts.Need-same-length-2 (
 ) (by-word-at t) by-word.Post
 by-word-same-length-2 t c = search needs
 
--- src/lib.rt:40:1
+-- src/lib.rt:39:1
 by-word-same-length-3 : (t : ℕ) → by-word-lts.Need-same-length-3 (
   tag-of-reads.Asked,
   tag-of-reads.Learnt,
@@ -620,7 +620,7 @@ by-word-same-length-3 : (t : ℕ) → by-word-lts.Need-same-length-3 (
 ) (by-word-at t) by-word.Post
 by-word-same-length-3 t c = search needs
 
--- src/lib.rt:40:1
+-- src/lib.rt:39:1
 by-word-returns-6 : (t : ℕ) → by-word-lts.Need-returns-6 (
   tag-of-reads.Asked,
   tag-of-reads.Learnt,
@@ -645,7 +645,7 @@ by-word-returns-6 : (t : ℕ) → by-word-lts.Need-returns-6 (
 ) (by-word-at t) by-word.Post
 by-word-returns-6 t c = search by-table
 
--- src/lib.rt:40:1
+-- src/lib.rt:39:1
 by-word-same-length-4 : (t : ℕ) → by-word-lts.Need-same-length-4 (
   tag-of-reads.Asked,
   tag-of-reads.Learnt,
@@ -670,7 +670,7 @@ by-word-same-length-4 : (t : ℕ) → by-word-lts.Need-same-length-4 (
 ) (by-word-at t) by-word.Post
 by-word-same-length-4 t c = search needs
 
--- src/lib.rt:40:1
+-- src/lib.rt:39:1
 by-word-same-length-5 : (t : ℕ) → by-word-lts.Need-same-length-5 (
   tag-of-reads.Asked,
   tag-of-reads.Learnt,
@@ -695,7 +695,7 @@ by-word-same-length-5 : (t : ℕ) → by-word-lts.Need-same-length-5 (
 ) (by-word-at t) by-word.Post
 by-word-same-length-5 t c = search needs
 
--- src/lib.rt:40:1
+-- src/lib.rt:39:1
 by-word-returns-7 : (t : ℕ) → by-word-lts.Need-returns-7 (
   tag-of-reads.Asked,
   tag-of-reads.Learnt,
@@ -720,7 +720,7 @@ by-word-returns-7 : (t : ℕ) → by-word-lts.Need-returns-7 (
 ) (by-word-at t) by-word.Post
 by-word-returns-7 t c = search by-entry
 
--- src/lib.rt:40:1
+-- src/lib.rt:39:1
 by-word-same-length-6 : (t : ℕ) → by-word-lts.Need-same-length-6 (
   tag-of-reads.Asked,
   tag-of-reads.Learnt,
@@ -745,7 +745,7 @@ by-word-same-length-6 : (t : ℕ) → by-word-lts.Need-same-length-6 (
 ) (by-word-at t) by-word.Post
 by-word-same-length-6 t c = search needs
 
--- src/lib.rt:40:1
+-- src/lib.rt:39:1
 by-word-same-length-7 : (t : ℕ) → by-word-lts.Need-same-length-7 (
   tag-of-reads.Asked,
   tag-of-reads.Learnt,
@@ -770,7 +770,7 @@ by-word-same-length-7 : (t : ℕ) → by-word-lts.Need-same-length-7 (
 ) (by-word-at t) by-word.Post
 by-word-same-length-7 t c = search needs
 
--- src/lib.rt:40:1
+-- src/lib.rt:39:1
 by-word-returns-8 : (t : ℕ) → by-word-lts.Need-returns-8 (
   tag-of-reads.Asked,
   tag-of-reads.Learnt,
@@ -795,7 +795,7 @@ by-word-returns-8 : (t : ℕ) → by-word-lts.Need-returns-8 (
 ) (by-word-at t) by-word.Post
 by-word-returns-8 t c = search by-call
 
--- src/lib.rt:40:1
+-- src/lib.rt:39:1
 by-word-same-length-8 : (t : ℕ) → by-word-lts.Need-same-length-8 (
   tag-of-reads.Asked,
   tag-of-reads.Learnt,
@@ -820,7 +820,7 @@ by-word-same-length-8 : (t : ℕ) → by-word-lts.Need-same-length-8 (
 ) (by-word-at t) by-word.Post
 by-word-same-length-8 t c = search needs
 
--- src/lib.rt:40:1
+-- src/lib.rt:39:1
 by-word-same-length-9 : (t : ℕ) → by-word-lts.Need-same-length-9 (
   tag-of-reads.Asked,
   tag-of-reads.Learnt,
@@ -845,7 +845,7 @@ by-word-same-length-9 : (t : ℕ) → by-word-lts.Need-same-length-9 (
 ) (by-word-at t) by-word.Post
 by-word-same-length-9 t c = search needs
 
--- src/lib.rt:40:1
+-- src/lib.rt:39:1
 by-word-returns-9 : (t : ℕ) → by-word-lts.Need-returns-9 (
   tag-of-reads.Asked,
   tag-of-reads.Learnt,
@@ -870,7 +870,7 @@ by-word-returns-9 : (t : ℕ) → by-word-lts.Need-returns-9 (
 ) (by-word-at t) by-word.Post
 by-word-returns-9 t c = search by-operator
 
--- src/lib.rt:275:9
+-- src/lib.rt:274:9
 calling-arguments-held-requires : (t : ℕ) → calling-lts.Need-arguments-held-requires (
   arguments-held-reads.Asked,
   arguments-held-reads.Learnt,
@@ -887,7 +887,7 @@ calling-arguments-held-requires : (t : ℕ) → calling-lts.Need-arguments-held-
 ) (calling-at t) calling.Post
 calling-arguments-held-requires t c κs = search needs
 
--- src/lib.rt:276:40
+-- src/lib.rt:275:40
 calling-size-of-requires : (t : ℕ) → calling-lts.Need-size-of-requires (
   arguments-held-reads.Asked,
   arguments-held-reads.Learnt,
@@ -904,7 +904,7 @@ calling-size-of-requires : (t : ℕ) → calling-lts.Need-size-of-requires (
 ) (calling-at t) calling.Post
 calling-size-of-requires t c κs = search needs
 
--- src/lib.rt:276:28
+-- src/lib.rt:275:28
 calling-less-requires : (t : ℕ) → calling-lts.Need-less-requires (
   arguments-held-reads.Asked,
   arguments-held-reads.Learnt,
@@ -921,7 +921,7 @@ calling-less-requires : (t : ℕ) → calling-lts.Need-less-requires (
 ) (calling-at t) calling.Post
 calling-less-requires t c κs = search needs
 
--- src/lib.rt:276:9
+-- src/lib.rt:275:9
 calling-less-requires-2 : (t : ℕ) → calling-lts.Need-less-requires-2 (
   arguments-held-reads.Asked,
   arguments-held-reads.Learnt,
@@ -938,7 +938,7 @@ calling-less-requires-2 : (t : ℕ) → calling-lts.Need-less-requires-2 (
 ) (calling-at t) calling.Post
 calling-less-requires-2 t c κs = search needs
 
--- src/lib.rt:277:11
+-- src/lib.rt:276:11
 calling-push-all-requires : (t : ℕ) → calling-lts.Need-push-all-requires (
   arguments-held-reads.Asked,
   arguments-held-reads.Learnt,
@@ -955,7 +955,7 @@ calling-push-all-requires : (t : ℕ) → calling-lts.Need-push-all-requires (
 ) (calling-at t) calling.Post
 calling-push-all-requires t c κs = (omega arith, search needs)
 
--- src/lib.rt:279:52
+-- src/lib.rt:278:35
 calling-enum-told : (t : ℕ) → calling-lts.Need-enum-told (
   arguments-held-reads.Asked,
   arguments-held-reads.Learnt,
@@ -972,7 +972,7 @@ calling-enum-told : (t : ℕ) → calling-lts.Need-enum-told (
 ) (calling-at t) calling.Post
 calling-enum-told t c = search needs
 
--- src/lib.rt:279:66
+-- src/lib.rt:278:50
 calling-number-of-requires : (t : ℕ) → calling-lts.Need-number-of-requires (
   arguments-held-reads.Asked,
   arguments-held-reads.Learnt,
@@ -989,7 +989,7 @@ calling-number-of-requires : (t : ℕ) → calling-lts.Need-number-of-requires (
 ) (calling-at t) calling.Post
 calling-number-of-requires t c κs = search needs
 
--- src/lib.rt:279:17
+-- src/lib.rt:278:17
 calling-called-requires : (t : ℕ) → calling-lts.Need-called-requires (
   arguments-held-reads.Asked,
   arguments-held-reads.Learnt,
@@ -1006,7 +1006,7 @@ calling-called-requires : (t : ℕ) → calling-lts.Need-called-requires (
 ) (calling-at t) calling.Post
 calling-called-requires t c κs = search needs
 
--- src/lib.rt:282:21
+-- src/lib.rt:281:21
 calling-enum-known-n : (t : ℕ) → calling-lts.Need-enum-known-n (
   arguments-held-reads.Asked,
   arguments-held-reads.Learnt,
@@ -1023,7 +1023,7 @@ calling-enum-known-n : (t : ℕ) → calling-lts.Need-enum-known-n (
 ) (calling-at t) calling.Post
 calling-enum-known-n t c = search needs
 
--- src/lib.rt:260:1
+-- src/lib.rt:259:1
 calling-same-length : (t : ℕ) → calling-lts.Need-same-length (
   arguments-held-reads.Asked,
   arguments-held-reads.Learnt,
@@ -1040,7 +1040,7 @@ calling-same-length : (t : ℕ) → calling-lts.Need-same-length (
 ) (calling-at t) calling.Post
 calling-same-length t c = search needs
 
--- src/lib.rt:260:1
+-- src/lib.rt:259:1
 calling-same-length-2 : (t : ℕ) → calling-lts.Need-same-length-2 (
   arguments-held-reads.Asked,
   arguments-held-reads.Learnt,
@@ -1057,7 +1057,7 @@ calling-same-length-2 : (t : ℕ) → calling-lts.Need-same-length-2 (
 ) (calling-at t) calling.Post
 calling-same-length-2 t c = search needs
 
--- src/lib.rt:260:1
+-- src/lib.rt:259:1
 calling-returns : (t : ℕ) → calling-lts.Need-returns (
   arguments-held-reads.Asked,
   arguments-held-reads.Learnt,
@@ -1074,7 +1074,7 @@ calling-returns : (t : ℕ) → calling-lts.Need-returns (
 ) (calling-at t) calling.Post
 calling-returns t c = search call-goes
 
--- src/lib.rt:260:1
+-- src/lib.rt:259:1
 calling-same-length-3 : (t : ℕ) → calling-lts.Need-same-length-3 (
   arguments-held-reads.Asked,
   arguments-held-reads.Learnt,
@@ -1091,7 +1091,7 @@ calling-same-length-3 : (t : ℕ) → calling-lts.Need-same-length-3 (
 ) (calling-at t) calling.Post
 calling-same-length-3 t c = search needs
 
--- src/lib.rt:260:1
+-- src/lib.rt:259:1
 calling-same-length-4 : (t : ℕ) → calling-lts.Need-same-length-4 (
   arguments-held-reads.Asked,
   arguments-held-reads.Learnt,
@@ -1108,7 +1108,7 @@ calling-same-length-4 : (t : ℕ) → calling-lts.Need-same-length-4 (
 ) (calling-at t) calling.Post
 calling-same-length-4 t c = search needs
 
--- src/lib.rt:260:1
+-- src/lib.rt:259:1
 calling-returns-2 : (t : ℕ) → calling-lts.Need-returns-2 (
   arguments-held-reads.Asked,
   arguments-held-reads.Learnt,
@@ -1125,7 +1125,7 @@ calling-returns-2 : (t : ℕ) → calling-lts.Need-returns-2 (
 ) (calling-at t) calling.Post
 calling-returns-2 t c = search call-stops
 
--- src/lib.rt:132:9
+-- src/lib.rt:131:9
 entry-at-less-requires : (t : ℕ) → entry-at-lts.Need-less-requires (
   less-reads.Asked,
   less-reads.Learnt,
@@ -1138,7 +1138,7 @@ entry-at-less-requires : (t : ℕ) → entry-at-lts.Need-less-requires (
 ) (entry-at-at t) entry-at.Post
 entry-at-less-requires t c κs = search needs
 
--- src/lib.rt:140:24
+-- src/lib.rt:139:24
 entry-at-index-of-requires : (t : ℕ) → entry-at-lts.Need-index-of-requires (
   less-reads.Asked,
   less-reads.Learnt,
@@ -1151,7 +1151,7 @@ entry-at-index-of-requires : (t : ℕ) → entry-at-lts.Need-index-of-requires (
 ) (entry-at-at t) entry-at.Post
 entry-at-index-of-requires t c κs = search needs
 
--- src/lib.rt:140:9
+-- src/lib.rt:139:9
 entry-at-less-requires-2 : (t : ℕ) → entry-at-lts.Need-less-requires-2 (
   less-reads.Asked,
   less-reads.Learnt,
@@ -1164,7 +1164,7 @@ entry-at-less-requires-2 : (t : ℕ) → entry-at-lts.Need-less-requires-2 (
 ) (entry-at-at t) entry-at.Post
 entry-at-less-requires-2 t c κs = search needs
 
--- src/lib.rt:133:11
+-- src/lib.rt:132:11
 entry-at-evaluate-requires : (t : ℕ) → entry-at-lts.Need-evaluate-requires (
   less-reads.Asked,
   less-reads.Learnt,
@@ -1177,7 +1177,7 @@ entry-at-evaluate-requires : (t : ℕ) → entry-at-lts.Need-evaluate-requires (
 ) (entry-at-at t) entry-at.Post
 entry-at-evaluate-requires t c κs = (omega arith, search needs)
 
--- src/lib.rt:143:22
+-- src/lib.rt:142:22
 entry-at-enum-known-v : (t : ℕ) → entry-at-lts.Need-enum-known-v (
   less-reads.Asked,
   less-reads.Learnt,
@@ -1190,7 +1190,7 @@ entry-at-enum-known-v : (t : ℕ) → entry-at-lts.Need-enum-known-v (
 ) (entry-at-at t) entry-at.Post
 entry-at-enum-known-v t c = search needs
 
--- src/lib.rt:144:26
+-- src/lib.rt:143:26
 entry-at-enum-known-v-2 : (t : ℕ) → entry-at-lts.Need-enum-known-v-2 (
   less-reads.Asked,
   less-reads.Learnt,
@@ -1203,7 +1203,7 @@ entry-at-enum-known-v-2 : (t : ℕ) → entry-at-lts.Need-enum-known-v-2 (
 ) (entry-at-at t) entry-at.Post
 entry-at-enum-known-v-2 t c = search needs
 
--- src/lib.rt:145:21
+-- src/lib.rt:144:21
 entry-at-entry-of-requires : (t : ℕ) → entry-at-lts.Need-entry-of-requires (
   less-reads.Asked,
   less-reads.Learnt,
@@ -1216,7 +1216,7 @@ entry-at-entry-of-requires : (t : ℕ) → entry-at-lts.Need-entry-of-requires (
 ) (entry-at-at t) entry-at.Post
 entry-at-entry-of-requires t c κs = (omega arith, valid-evaluated _ _ _ _ _ _ _ (c .before .before .before .before .before .before .before .before .before .before .before .before .before .before .before .before .before .before .before .before .before .before .pre .1) _ _ _ _ _ (c .before .before .before .before .before .before .before .before .before .before .before .before .evaluate .ensures) (c .before .before .before .before .before .before .v .given .1))
 
--- src/lib.rt:150:21
+-- src/lib.rt:149:21
 entry-at-enum-known-n : (t : ℕ) → entry-at-lts.Need-enum-known-n (
   less-reads.Asked,
   less-reads.Learnt,
@@ -1229,7 +1229,7 @@ entry-at-enum-known-n : (t : ℕ) → entry-at-lts.Need-enum-known-n (
 ) (entry-at-at t) entry-at.Post
 entry-at-enum-known-n t c = search needs
 
--- src/lib.rt:117:1
+-- src/lib.rt:116:1
 entry-at-same-length : (t : ℕ) → entry-at-lts.Need-same-length (
   less-reads.Asked,
   less-reads.Learnt,
@@ -1242,7 +1242,7 @@ entry-at-same-length : (t : ℕ) → entry-at-lts.Need-same-length (
 ) (entry-at-at t) entry-at.Post
 entry-at-same-length t c = search needs
 
--- src/lib.rt:117:1
+-- src/lib.rt:116:1
 entry-at-same-length-2 : (t : ℕ) → entry-at-lts.Need-same-length-2 (
   less-reads.Asked,
   less-reads.Learnt,
@@ -1255,7 +1255,7 @@ entry-at-same-length-2 : (t : ℕ) → entry-at-lts.Need-same-length-2 (
 ) (entry-at-at t) entry-at.Post
 entry-at-same-length-2 t c = search needs
 
--- src/lib.rt:117:1
+-- src/lib.rt:116:1
 entry-at-returns : (t : ℕ) → entry-at-lts.Need-returns (
   less-reads.Asked,
   less-reads.Learnt,
@@ -1268,7 +1268,7 @@ entry-at-returns : (t : ℕ) → entry-at-lts.Need-returns (
 ) (entry-at-at t) entry-at.Post
 entry-at-returns t c = search entry-goes
 
--- src/lib.rt:117:1
+-- src/lib.rt:116:1
 entry-at-same-length-3 : (t : ℕ) → entry-at-lts.Need-same-length-3 (
   less-reads.Asked,
   less-reads.Learnt,
@@ -1281,7 +1281,7 @@ entry-at-same-length-3 : (t : ℕ) → entry-at-lts.Need-same-length-3 (
 ) (entry-at-at t) entry-at.Post
 entry-at-same-length-3 t c = search needs
 
--- src/lib.rt:117:1
+-- src/lib.rt:116:1
 entry-at-same-length-4 : (t : ℕ) → entry-at-lts.Need-same-length-4 (
   less-reads.Asked,
   less-reads.Learnt,
@@ -1294,7 +1294,7 @@ entry-at-same-length-4 : (t : ℕ) → entry-at-lts.Need-same-length-4 (
 ) (entry-at-at t) entry-at.Post
 entry-at-same-length-4 t c = search needs
 
--- src/lib.rt:117:1
+-- src/lib.rt:116:1
 entry-at-returns-2 : (t : ℕ) → entry-at-lts.Need-returns-2 (
   less-reads.Asked,
   less-reads.Learnt,
@@ -1307,7 +1307,7 @@ entry-at-returns-2 : (t : ℕ) → entry-at-lts.Need-returns-2 (
 ) (entry-at-at t) entry-at.Post
 entry-at-returns-2 t c = search entry-other
 
--- src/lib.rt:117:1
+-- src/lib.rt:116:1
 entry-at-same-length-5 : (t : ℕ) → entry-at-lts.Need-same-length-5 (
   less-reads.Asked,
   less-reads.Learnt,
@@ -1320,7 +1320,7 @@ entry-at-same-length-5 : (t : ℕ) → entry-at-lts.Need-same-length-5 (
 ) (entry-at-at t) entry-at.Post
 entry-at-same-length-5 t c = search needs
 
--- src/lib.rt:117:1
+-- src/lib.rt:116:1
 entry-at-same-length-6 : (t : ℕ) → entry-at-lts.Need-same-length-6 (
   less-reads.Asked,
   less-reads.Learnt,
@@ -1333,7 +1333,7 @@ entry-at-same-length-6 : (t : ℕ) → entry-at-lts.Need-same-length-6 (
 ) (entry-at-at t) entry-at.Post
 entry-at-same-length-6 t c = search needs
 
--- src/lib.rt:117:1
+-- src/lib.rt:116:1
 entry-at-returns-3 : (t : ℕ) → entry-at-lts.Need-returns-3 (
   less-reads.Asked,
   less-reads.Learnt,
@@ -1346,7 +1346,7 @@ entry-at-returns-3 : (t : ℕ) → entry-at-lts.Need-returns-3 (
 ) (entry-at-at t) entry-at.Post
 entry-at-returns-3 t c = search entry-stops
 
--- src/lib.rt:170:11
+-- src/lib.rt:169:11
 entry-of-evaluate-requires : (t : ℕ) → entry-of-lts.Need-evaluate-requires (
   evaluate-below t,
   evaluate.Post,
@@ -1357,7 +1357,7 @@ entry-of-evaluate-requires : (t : ℕ) → entry-of-lts.Need-evaluate-requires (
 ) (entry-of-at t) entry-of.Post
 entry-of-evaluate-requires t c κs = (omega arith, search needs)
 
--- src/lib.rt:171:22
+-- src/lib.rt:170:22
 entry-of-enum-known-k : (t : ℕ) → entry-of-lts.Need-enum-known-k (
   evaluate-below t,
   evaluate.Post,
@@ -1368,7 +1368,7 @@ entry-of-enum-known-k : (t : ℕ) → entry-of-lts.Need-enum-known-k (
 ) (entry-of-at t) entry-of.Post
 entry-of-enum-known-k t c = search needs
 
--- src/lib.rt:179:17
+-- src/lib.rt:178:17
 entry-of-pack-requires : (t : ℕ) → entry-of-lts.Need-pack-requires (
   evaluate-below t,
   evaluate.Post,
@@ -1379,7 +1379,7 @@ entry-of-pack-requires : (t : ℕ) → entry-of-lts.Need-pack-requires (
 ) (entry-of-at t) entry-of.Post
 entry-of-pack-requires t c κs = search needs
 
--- src/lib.rt:172:17
+-- src/lib.rt:171:17
 entry-of-read-entry-requires : (t : ℕ) → entry-of-lts.Need-read-entry-requires (
   evaluate-below t,
   evaluate.Post,
@@ -1390,7 +1390,7 @@ entry-of-read-entry-requires : (t : ℕ) → entry-of-lts.Need-read-entry-requir
 ) (entry-of-at t) entry-of.Post
 entry-of-read-entry-requires t c κs = looks (valid-evaluated _ _ _ _ _ _ _ (c .before .before .before .before .before .before .before .before .before .before .before .before .before .before .before .before .before .pre .1) _ _ _ _ _ (c .before .before .before .before .before .before .before .before .before .before .evaluate .ensures) (c .before .before .before .before .k .given .1))
 
--- src/lib.rt:183:21
+-- src/lib.rt:182:21
 entry-of-enum-known-n : (t : ℕ) → entry-of-lts.Need-enum-known-n (
   evaluate-below t,
   evaluate.Post,
@@ -1401,7 +1401,7 @@ entry-of-enum-known-n : (t : ℕ) → entry-of-lts.Need-enum-known-n (
 ) (entry-of-at t) entry-of.Post
 entry-of-enum-known-n t c = search needs
 
--- src/lib.rt:155:1
+-- src/lib.rt:154:1
 entry-of-same-length : (t : ℕ) → entry-of-lts.Need-same-length (
   evaluate-below t,
   evaluate.Post,
@@ -1412,7 +1412,7 @@ entry-of-same-length : (t : ℕ) → entry-of-lts.Need-same-length (
 ) (entry-of-at t) entry-of.Post
 entry-of-same-length t c = search needs
 
--- src/lib.rt:155:1
+-- src/lib.rt:154:1
 entry-of-same-length-2 : (t : ℕ) → entry-of-lts.Need-same-length-2 (
   evaluate-below t,
   evaluate.Post,
@@ -1423,7 +1423,7 @@ entry-of-same-length-2 : (t : ℕ) → entry-of-lts.Need-same-length-2 (
 ) (entry-of-at t) entry-of.Post
 entry-of-same-length-2 t c = search needs
 
--- src/lib.rt:155:1
+-- src/lib.rt:154:1
 entry-of-returns : (t : ℕ) → entry-of-lts.Need-returns (
   evaluate-below t,
   evaluate.Post,
@@ -1434,7 +1434,7 @@ entry-of-returns : (t : ℕ) → entry-of-lts.Need-returns (
 ) (entry-of-at t) entry-of.Post
 entry-of-returns t c = search key-goes
 
--- src/lib.rt:155:1
+-- src/lib.rt:154:1
 entry-of-same-length-3 : (t : ℕ) → entry-of-lts.Need-same-length-3 (
   evaluate-below t,
   evaluate.Post,
@@ -1445,7 +1445,7 @@ entry-of-same-length-3 : (t : ℕ) → entry-of-lts.Need-same-length-3 (
 ) (entry-of-at t) entry-of.Post
 entry-of-same-length-3 t c = search needs
 
--- src/lib.rt:155:1
+-- src/lib.rt:154:1
 entry-of-same-length-4 : (t : ℕ) → entry-of-lts.Need-same-length-4 (
   evaluate-below t,
   evaluate.Post,
@@ -1456,7 +1456,7 @@ entry-of-same-length-4 : (t : ℕ) → entry-of-lts.Need-same-length-4 (
 ) (entry-of-at t) entry-of.Post
 entry-of-same-length-4 t c = search needs
 
--- src/lib.rt:155:1
+-- src/lib.rt:154:1
 entry-of-returns-2 : (t : ℕ) → entry-of-lts.Need-returns-2 (
   evaluate-below t,
   evaluate.Post,
@@ -1467,7 +1467,7 @@ entry-of-returns-2 : (t : ℕ) → entry-of-lts.Need-returns-2 (
 ) (entry-of-at t) entry-of.Post
 entry-of-returns-2 t c = search key-stops
 
--- src/lib.rt:29:9
+-- src/lib.rt:28:9
 evaluate-returns : (t : ℕ) → evaluate-lts.Need-returns (
   count-reads.Asked,
   count-reads.Learnt,
@@ -1478,7 +1478,7 @@ evaluate-returns : (t : ℕ) → evaluate-lts.Need-returns (
 ) (evaluate-at t) evaluate.Post
 evaluate-returns t c = search too-deep
 
--- src/lib.rt:31:9
+-- src/lib.rt:30:9
 evaluate-count-requires : (t : ℕ) → evaluate-lts.Need-count-requires (
   count-reads.Asked,
   count-reads.Learnt,
@@ -1489,7 +1489,7 @@ evaluate-count-requires : (t : ℕ) → evaluate-lts.Need-count-requires (
 ) (evaluate-at t) evaluate.Post
 evaluate-count-requires t c κs = search needs
 
--- src/lib.rt:32:9
+-- src/lib.rt:31:9
 evaluate-same-length : (t : ℕ) → evaluate-lts.Need-same-length (
   count-reads.Asked,
   count-reads.Learnt,
@@ -1500,7 +1500,7 @@ evaluate-same-length : (t : ℕ) → evaluate-lts.Need-same-length (
 ) (evaluate-at t) evaluate.Post
 evaluate-same-length t c = search needs
 
--- src/lib.rt:32:9
+-- src/lib.rt:31:9
 evaluate-returns-2 : (t : ℕ) → evaluate-lts.Need-returns-2 (
   count-reads.Asked,
   count-reads.Learnt,
@@ -1511,7 +1511,7 @@ evaluate-returns-2 : (t : ℕ) → evaluate-lts.Need-returns-2 (
 ) (evaluate-at t) evaluate.Post
 evaluate-returns-2 t c = search no-step
 
--- src/lib.rt:34:9
+-- src/lib.rt:33:9
 evaluate-word-at-requires : (t : ℕ) → evaluate-lts.Need-word-at-requires (
   count-reads.Asked,
   count-reads.Learnt,
@@ -1522,7 +1522,7 @@ evaluate-word-at-requires : (t : ℕ) → evaluate-lts.Need-word-at-requires (
 ) (evaluate-at t) evaluate.Post
 evaluate-word-at-requires t c κs = search needs
 
--- src/lib.rt:35:58
+-- src/lib.rt:34:58
 evaluate-sub-by-word : (t : ℕ) → evaluate-lts.Need-sub-by-word (
   count-reads.Asked,
   count-reads.Learnt,
@@ -1533,7 +1533,7 @@ evaluate-sub-by-word : (t : ℕ) → evaluate-lts.Need-sub-by-word (
 ) (evaluate-at t) evaluate.Post
 evaluate-sub-by-word t c = search needs
 
--- src/lib.rt:35:9
+-- src/lib.rt:34:9
 evaluate-by-word-requires : (t : ℕ) → evaluate-lts.Need-by-word-requires (
   count-reads.Asked,
   count-reads.Learnt,
@@ -1544,7 +1544,7 @@ evaluate-by-word-requires : (t : ℕ) → evaluate-lts.Need-by-word-requires (
 ) (evaluate-at t) evaluate.Post
 evaluate-by-word-requires t c κs = (omega arith, search valid-counted)
 
--- src/lib.rt:14:1
+-- src/lib.rt:13:1
 evaluate-same-length-2 : (t : ℕ) → evaluate-lts.Need-same-length-2 (
   count-reads.Asked,
   count-reads.Learnt,
@@ -1555,7 +1555,7 @@ evaluate-same-length-2 : (t : ℕ) → evaluate-lts.Need-same-length-2 (
 ) (evaluate-at t) evaluate.Post
 evaluate-same-length-2 t c = search needs
 
--- src/lib.rt:14:1
+-- src/lib.rt:13:1
 evaluate-same-length-3 : (t : ℕ) → evaluate-lts.Need-same-length-3 (
   count-reads.Asked,
   count-reads.Learnt,
@@ -1566,7 +1566,7 @@ evaluate-same-length-3 : (t : ℕ) → evaluate-lts.Need-same-length-3 (
 ) (evaluate-at t) evaluate.Post
 evaluate-same-length-3 t c = search needs
 
--- src/lib.rt:14:1
+-- src/lib.rt:13:1
 evaluate-returns-3 : (t : ℕ) → evaluate-lts.Need-returns-3 (
   count-reads.Asked,
   count-reads.Learnt,
@@ -1577,7 +1577,7 @@ evaluate-returns-3 : (t : ℕ) → evaluate-lts.Need-returns-3 (
 ) (evaluate-at t) evaluate.Post
 evaluate-returns-3 t c = search evaluated
 
--- src/lib.rt:203:9
+-- src/lib.rt:202:9
 operation-at-less-requires : (t : ℕ) → operation-at-lts.Need-less-requires (
   less-reads.Asked,
   less-reads.Learnt,
@@ -1594,7 +1594,7 @@ operation-at-less-requires : (t : ℕ) → operation-at-lts.Need-less-requires (
 ) (operation-at-at t) operation-at.Post
 operation-at-less-requires t c κs = search needs
 
--- src/lib.rt:211:24
+-- src/lib.rt:210:24
 operation-at-index-of-requires : (t : ℕ) → operation-at-lts.Need-index-of-requires (
   less-reads.Asked,
   less-reads.Learnt,
@@ -1611,7 +1611,7 @@ operation-at-index-of-requires : (t : ℕ) → operation-at-lts.Need-index-of-re
 ) (operation-at-at t) operation-at.Post
 operation-at-index-of-requires t c κs = search needs
 
--- src/lib.rt:211:9
+-- src/lib.rt:210:9
 operation-at-less-requires-2 : (t : ℕ) → operation-at-lts.Need-less-requires-2 (
   less-reads.Asked,
   less-reads.Learnt,
@@ -1628,7 +1628,7 @@ operation-at-less-requires-2 : (t : ℕ) → operation-at-lts.Need-less-requires
 ) (operation-at-at t) operation-at.Post
 operation-at-less-requires-2 t c κs = search needs
 
--- src/lib.rt:204:11
+-- src/lib.rt:203:11
 operation-at-evaluate-requires : (t : ℕ) → operation-at-lts.Need-evaluate-requires (
   less-reads.Asked,
   less-reads.Learnt,
@@ -1645,7 +1645,7 @@ operation-at-evaluate-requires : (t : ℕ) → operation-at-lts.Need-evaluate-re
 ) (operation-at-at t) operation-at.Post
 operation-at-evaluate-requires t c κs = (omega arith, search needs)
 
--- src/lib.rt:214:22
+-- src/lib.rt:213:22
 operation-at-enum-known-v : (t : ℕ) → operation-at-lts.Need-enum-known-v (
   less-reads.Asked,
   less-reads.Learnt,
@@ -1662,7 +1662,7 @@ operation-at-enum-known-v : (t : ℕ) → operation-at-lts.Need-enum-known-v (
 ) (operation-at-at t) operation-at.Post
 operation-at-enum-known-v t c = search needs
 
--- src/lib.rt:222:17
+-- src/lib.rt:221:17
 operation-at-tag-of-requires : (t : ℕ) → operation-at-lts.Need-tag-of-requires (
   less-reads.Asked,
   less-reads.Learnt,
@@ -1679,7 +1679,7 @@ operation-at-tag-of-requires : (t : ℕ) → operation-at-lts.Need-tag-of-requir
 ) (operation-at-at t) operation-at.Post
 operation-at-tag-of-requires t c κs = search needs
 
--- src/lib.rt:223:17
+-- src/lib.rt:222:17
 operation-at-pack-requires : (t : ℕ) → operation-at-lts.Need-pack-requires (
   less-reads.Asked,
   less-reads.Learnt,
@@ -1696,7 +1696,7 @@ operation-at-pack-requires : (t : ℕ) → operation-at-lts.Need-pack-requires (
 ) (operation-at-at t) operation-at.Post
 operation-at-pack-requires t c κs = search needs
 
--- src/lib.rt:215:17
+-- src/lib.rt:214:17
 operation-at-operation-of-requires : (t : ℕ) → operation-at-lts.Need-operation-of-requires (
   less-reads.Asked,
   less-reads.Learnt,
@@ -1713,7 +1713,7 @@ operation-at-operation-of-requires : (t : ℕ) → operation-at-lts.Need-operati
 ) (operation-at-at t) operation-at.Post
 operation-at-operation-of-requires t c κs = (omega arith, valid-evaluated _ _ _ _ _ _ _ (c .before .before .before .before .before .before .before .before .before .before .before .before .before .before .before .before .before .before .before .before .before .pre .1) _ _ _ _ _ (c .before .before .before .before .before .before .before .before .before .before .before .evaluate .ensures) (c .before .before .before .before .before .v .given .1))
 
--- src/lib.rt:229:21
+-- src/lib.rt:228:21
 operation-at-enum-known-n : (t : ℕ) → operation-at-lts.Need-enum-known-n (
   less-reads.Asked,
   less-reads.Learnt,
@@ -1730,7 +1730,7 @@ operation-at-enum-known-n : (t : ℕ) → operation-at-lts.Need-enum-known-n (
 ) (operation-at-at t) operation-at.Post
 operation-at-enum-known-n t c = search needs
 
--- src/lib.rt:188:1
+-- src/lib.rt:187:1
 operation-at-same-length : (t : ℕ) → operation-at-lts.Need-same-length (
   less-reads.Asked,
   less-reads.Learnt,
@@ -1747,7 +1747,7 @@ operation-at-same-length : (t : ℕ) → operation-at-lts.Need-same-length (
 ) (operation-at-at t) operation-at.Post
 operation-at-same-length t c = search needs
 
--- src/lib.rt:188:1
+-- src/lib.rt:187:1
 operation-at-same-length-2 : (t : ℕ) → operation-at-lts.Need-same-length-2 (
   less-reads.Asked,
   less-reads.Learnt,
@@ -1764,7 +1764,7 @@ operation-at-same-length-2 : (t : ℕ) → operation-at-lts.Need-same-length-2 (
 ) (operation-at-at t) operation-at.Post
 operation-at-same-length-2 t c = search needs
 
--- src/lib.rt:188:1
+-- src/lib.rt:187:1
 operation-at-returns : (t : ℕ) → operation-at-lts.Need-returns (
   less-reads.Asked,
   less-reads.Learnt,
@@ -1781,7 +1781,7 @@ operation-at-returns : (t : ℕ) → operation-at-lts.Need-returns (
 ) (operation-at-at t) operation-at.Post
 operation-at-returns t c = search operation-goes
 
--- src/lib.rt:188:1
+-- src/lib.rt:187:1
 operation-at-same-length-3 : (t : ℕ) → operation-at-lts.Need-same-length-3 (
   less-reads.Asked,
   less-reads.Learnt,
@@ -1798,7 +1798,7 @@ operation-at-same-length-3 : (t : ℕ) → operation-at-lts.Need-same-length-3 (
 ) (operation-at-at t) operation-at.Post
 operation-at-same-length-3 t c = search needs
 
--- src/lib.rt:188:1
+-- src/lib.rt:187:1
 operation-at-same-length-4 : (t : ℕ) → operation-at-lts.Need-same-length-4 (
   less-reads.Asked,
   less-reads.Learnt,
@@ -1815,7 +1815,7 @@ operation-at-same-length-4 : (t : ℕ) → operation-at-lts.Need-same-length-4 (
 ) (operation-at-at t) operation-at.Post
 operation-at-same-length-4 t c = search needs
 
--- src/lib.rt:188:1
+-- src/lib.rt:187:1
 operation-at-returns-2 : (t : ℕ) → operation-at-lts.Need-returns-2 (
   less-reads.Asked,
   less-reads.Learnt,
@@ -1832,7 +1832,7 @@ operation-at-returns-2 : (t : ℕ) → operation-at-lts.Need-returns-2 (
 ) (operation-at-at t) operation-at.Post
 operation-at-returns-2 t c = search operation-stops
 
--- src/lib.rt:250:11
+-- src/lib.rt:249:11
 operation-of-evaluate-requires : (t : ℕ) → operation-of-lts.Need-evaluate-requires (
   evaluate-below t,
   evaluate.Post,
@@ -1843,7 +1843,7 @@ operation-of-evaluate-requires : (t : ℕ) → operation-of-lts.Need-evaluate-re
 ) (operation-of-at t) operation-of.Post
 operation-of-evaluate-requires t c κs = (omega arith, search needs)
 
--- src/lib.rt:251:22
+-- src/lib.rt:250:22
 operation-of-enum-known-v : (t : ℕ) → operation-of-lts.Need-enum-known-v (
   evaluate-below t,
   evaluate.Post,
@@ -1854,7 +1854,7 @@ operation-of-enum-known-v : (t : ℕ) → operation-of-lts.Need-enum-known-v (
 ) (operation-of-at t) operation-of.Post
 operation-of-enum-known-v t c = search needs
 
--- src/lib.rt:252:80
+-- src/lib.rt:251:82
 operation-of-pack-requires : (t : ℕ) → operation-of-lts.Need-pack-requires (
   evaluate-below t,
   evaluate.Post,
@@ -1865,7 +1865,7 @@ operation-of-pack-requires : (t : ℕ) → operation-of-lts.Need-pack-requires (
 ) (operation-of-at t) operation-of.Post
 operation-of-pack-requires t c κs = search needs
 
--- src/lib.rt:252:17
+-- src/lib.rt:251:17
 operation-of-operate-requires : (t : ℕ) → operation-of-lts.Need-operate-requires (
   evaluate-below t,
   evaluate.Post,
@@ -1876,7 +1876,7 @@ operation-of-operate-requires : (t : ℕ) → operation-of-lts.Need-operate-requ
 ) (operation-of-at t) operation-of.Post
 operation-of-operate-requires t c κs = search needs
 
--- src/lib.rt:255:21
+-- src/lib.rt:254:21
 operation-of-enum-known-n : (t : ℕ) → operation-of-lts.Need-enum-known-n (
   evaluate-below t,
   evaluate.Post,
@@ -1887,7 +1887,7 @@ operation-of-enum-known-n : (t : ℕ) → operation-of-lts.Need-enum-known-n (
 ) (operation-of-at t) operation-of.Post
 operation-of-enum-known-n t c = search needs
 
--- src/lib.rt:234:1
+-- src/lib.rt:233:1
 operation-of-same-length : (t : ℕ) → operation-of-lts.Need-same-length (
   evaluate-below t,
   evaluate.Post,
@@ -1898,7 +1898,7 @@ operation-of-same-length : (t : ℕ) → operation-of-lts.Need-same-length (
 ) (operation-of-at t) operation-of.Post
 operation-of-same-length t c = search needs
 
--- src/lib.rt:234:1
+-- src/lib.rt:233:1
 operation-of-same-length-2 : (t : ℕ) → operation-of-lts.Need-same-length-2 (
   evaluate-below t,
   evaluate.Post,
@@ -1909,7 +1909,7 @@ operation-of-same-length-2 : (t : ℕ) → operation-of-lts.Need-same-length-2 (
 ) (operation-of-at t) operation-of.Post
 operation-of-same-length-2 t c = search needs
 
--- src/lib.rt:234:1
+-- src/lib.rt:233:1
 operation-of-returns : (t : ℕ) → operation-of-lts.Need-returns (
   evaluate-below t,
   evaluate.Post,
@@ -1920,7 +1920,7 @@ operation-of-returns : (t : ℕ) → operation-of-lts.Need-returns (
 ) (operation-of-at t) operation-of.Post
 operation-of-returns t c = search side-goes
 
--- src/lib.rt:234:1
+-- src/lib.rt:233:1
 operation-of-same-length-3 : (t : ℕ) → operation-of-lts.Need-same-length-3 (
   evaluate-below t,
   evaluate.Post,
@@ -1931,7 +1931,7 @@ operation-of-same-length-3 : (t : ℕ) → operation-of-lts.Need-same-length-3 (
 ) (operation-of-at t) operation-of.Post
 operation-of-same-length-3 t c = search needs
 
--- src/lib.rt:234:1
+-- src/lib.rt:233:1
 operation-of-same-length-4 : (t : ℕ) → operation-of-lts.Need-same-length-4 (
   evaluate-below t,
   evaluate.Post,
@@ -1942,7 +1942,7 @@ operation-of-same-length-4 : (t : ℕ) → operation-of-lts.Need-same-length-4 (
 ) (operation-of-at t) operation-of.Post
 operation-of-same-length-4 t c = search needs
 
--- src/lib.rt:234:1
+-- src/lib.rt:233:1
 operation-of-returns-2 : (t : ℕ) → operation-of-lts.Need-returns-2 (
   evaluate-below t,
   evaluate.Post,
@@ -1960,7 +1960,7 @@ push-all-Inv-loop program code grants texts₀ words₀ depth a x p at₀ texts 
 abbrev push-all-μ-loop : push-all-lts.MeasureT-loop
 push-all-μ-loop program code grants texts₀ words₀ depth a x p at₀ texts words at = x - at
 
--- src/lib.rt:303:5
+-- src/lib.rt:302:5
 push-all-loop-holds : (t : ℕ) → push-all-lts.Need-loop-holds (
   word-at-reads.Asked,
   word-at-reads.Learnt,
@@ -1971,7 +1971,7 @@ push-all-loop-holds : (t : ℕ) → push-all-lts.Need-loop-holds (
 ) (push-all-at t) push-all.Post push-all-Inv-loop push-all-μ-loop
 push-all-loop-holds t c = search push-first
 
--- src/lib.rt:304:31
+-- src/lib.rt:303:31
 push-all-word-at-requires : (t : ℕ) → push-all-lts.Need-word-at-requires (
   word-at-reads.Asked,
   word-at-reads.Learnt,
@@ -1982,7 +1982,7 @@ push-all-word-at-requires : (t : ℕ) → push-all-lts.Need-word-at-requires (
 ) (push-all-at t) push-all.Post push-all-Inv-loop push-all-μ-loop
 push-all-word-at-requires t c κs = search needs
 
--- src/lib.rt:304:13
+-- src/lib.rt:303:13
 push-all-size-of-requires : (t : ℕ) → push-all-lts.Need-size-of-requires (
   word-at-reads.Asked,
   word-at-reads.Learnt,
@@ -1993,7 +1993,7 @@ push-all-size-of-requires : (t : ℕ) → push-all-lts.Need-size-of-requires (
 ) (push-all-at t) push-all.Post push-all-Inv-loop push-all-μ-loop
 push-all-size-of-requires t c κs = search needs
 
--- src/lib.rt:305:12
+-- src/lib.rt:304:12
 push-all-sub-if1 : (t : ℕ) → push-all-lts.Need-sub-if1 (
   word-at-reads.Asked,
   word-at-reads.Learnt,
@@ -2004,7 +2004,7 @@ push-all-sub-if1 : (t : ℕ) → push-all-lts.Need-sub-if1 (
 ) (push-all-at t) push-all.Post push-all-Inv-loop push-all-μ-loop
 push-all-sub-if1 t c = search needs
 
--- src/lib.rt:306:13
+-- src/lib.rt:305:13
 push-all-same-length : (t : ℕ) → push-all-lts.Need-same-length (
   word-at-reads.Asked,
   word-at-reads.Learnt,
@@ -2015,7 +2015,7 @@ push-all-same-length : (t : ℕ) → push-all-lts.Need-same-length (
 ) (push-all-at t) push-all.Post push-all-Inv-loop push-all-μ-loop
 push-all-same-length t c = search needs
 
--- src/lib.rt:306:13
+-- src/lib.rt:305:13
 push-all-same-length-2 : (t : ℕ) → push-all-lts.Need-same-length-2 (
   word-at-reads.Asked,
   word-at-reads.Learnt,
@@ -2026,7 +2026,7 @@ push-all-same-length-2 : (t : ℕ) → push-all-lts.Need-same-length-2 (
 ) (push-all-at t) push-all.Post push-all-Inv-loop push-all-μ-loop
 push-all-same-length-2 t c = search needs
 
--- src/lib.rt:306:13
+-- src/lib.rt:305:13
 push-all-returns : (t : ℕ) → push-all-lts.Need-returns (
   word-at-reads.Asked,
   word-at-reads.Learnt,
@@ -2037,7 +2037,7 @@ push-all-returns : (t : ℕ) → push-all-lts.Need-returns (
 ) (push-all-at t) push-all.Post push-all-Inv-loop push-all-μ-loop
 push-all-returns t c = search push-last
 
--- src/lib.rt:308:66
+-- src/lib.rt:307:66
 push-all-add-pushed : (t : ℕ) → push-all-lts.Need-add-pushed (
   word-at-reads.Asked,
   word-at-reads.Learnt,
@@ -2048,7 +2048,7 @@ push-all-add-pushed : (t : ℕ) → push-all-lts.Need-add-pushed (
 ) (push-all-at t) push-all.Post push-all-Inv-loop push-all-μ-loop
 push-all-add-pushed t c = search needs
 
--- src/lib.rt:308:15
+-- src/lib.rt:307:15
 push-all-pushed-requires : (t : ℕ) → push-all-lts.Need-pushed-requires (
   word-at-reads.Asked,
   word-at-reads.Learnt,
@@ -2059,7 +2059,7 @@ push-all-pushed-requires : (t : ℕ) → push-all-lts.Need-pushed-requires (
 ) (push-all-at t) push-all.Post push-all-Inv-loop push-all-μ-loop
 push-all-pushed-requires t c κs = (omega arith, search needs)
 
--- src/lib.rt:310:22
+-- src/lib.rt:309:22
 push-all-enum-told : (t : ℕ) → push-all-lts.Need-enum-told (
   word-at-reads.Asked,
   word-at-reads.Learnt,
@@ -2070,7 +2070,7 @@ push-all-enum-told : (t : ℕ) → push-all-lts.Need-enum-told (
 ) (push-all-at t) push-all.Post push-all-Inv-loop push-all-μ-loop
 push-all-enum-told t c = search needs
 
--- src/lib.rt:310:22
+-- src/lib.rt:309:22
 push-all-add-at : (t : ℕ) → push-all-lts.Need-add-at (
   word-at-reads.Asked,
   word-at-reads.Learnt,
@@ -2081,7 +2081,7 @@ push-all-add-at : (t : ℕ) → push-all-lts.Need-add-at (
 ) (push-all-at t) push-all.Post push-all-Inv-loop push-all-μ-loop
 push-all-add-at t c = search needs
 
--- src/lib.rt:310:22
+-- src/lib.rt:309:22
 push-all-add-at-2 : (t : ℕ) → push-all-lts.Need-add-at-2 (
   word-at-reads.Asked,
   word-at-reads.Learnt,
@@ -2092,7 +2092,7 @@ push-all-add-at-2 : (t : ℕ) → push-all-lts.Need-add-at-2 (
 ) (push-all-at t) push-all.Post push-all-Inv-loop push-all-μ-loop
 push-all-add-at-2 t c = search needs
 
--- src/lib.rt:303:5
+-- src/lib.rt:302:5
 push-all-loop-less : (t : ℕ) → push-all-lts.Need-loop-less (
   word-at-reads.Asked,
   word-at-reads.Learnt,
@@ -2103,7 +2103,7 @@ push-all-loop-less : (t : ℕ) → push-all-lts.Need-loop-less (
 ) (push-all-at t) push-all.Post push-all-Inv-loop push-all-μ-loop
 push-all-loop-less t c = search needs
 
--- src/lib.rt:303:5
+-- src/lib.rt:302:5
 push-all-loop-again : (t : ℕ) → push-all-lts.Need-loop-again (
   word-at-reads.Asked,
   word-at-reads.Learnt,
@@ -2114,7 +2114,7 @@ push-all-loop-again : (t : ℕ) → push-all-lts.Need-loop-again (
 ) (push-all-at t) push-all.Post push-all-Inv-loop push-all-μ-loop
 push-all-loop-again t c = push-more _ _ _ _ _ _ _ _ _ _ _ _ (c .before .before .before .before .before .before .before .before .before .before .before .before .before .loop .inv) _ _ _ _ _ _ (c .before .before .before .before .before .before .before .before .before .before .before .word-at .ensures) (c .before .before .before .before .before .before .before .before .before .before .size-of .ensures) (c .before .before .before .before .before .before .before .before .before .before .before .before .loop-test .taken) (c .before .before .before .before .before .before .before .before .before .if1 .left) refl (c .before .before .before .before .before .before .pushed .ensures) _ (valid-pushed _ _ _ _ _ _ _ (c .before .before .before .before .before .before .before .before .before .before .before .before .before .loop .inv .valid) _ _ _ _ _ (c .before .before .before .before .before .before .pushed .ensures) (c .enum-told .given .1)) (search needs) (search needs) (c .enum-told .given .1)
 
--- src/lib.rt:312:25
+-- src/lib.rt:311:25
 push-all-enum-known-n : (t : ℕ) → push-all-lts.Need-enum-known-n (
   word-at-reads.Asked,
   word-at-reads.Learnt,
@@ -2125,7 +2125,7 @@ push-all-enum-known-n : (t : ℕ) → push-all-lts.Need-enum-known-n (
 ) (push-all-at t) push-all.Post push-all-Inv-loop push-all-μ-loop
 push-all-enum-known-n t c = search needs
 
--- src/lib.rt:312:34
+-- src/lib.rt:311:34
 push-all-same-length-3 : (t : ℕ) → push-all-lts.Need-same-length-3 (
   word-at-reads.Asked,
   word-at-reads.Learnt,
@@ -2136,7 +2136,7 @@ push-all-same-length-3 : (t : ℕ) → push-all-lts.Need-same-length-3 (
 ) (push-all-at t) push-all.Post push-all-Inv-loop push-all-μ-loop
 push-all-same-length-3 t c = search needs
 
--- src/lib.rt:312:34
+-- src/lib.rt:311:34
 push-all-same-length-4 : (t : ℕ) → push-all-lts.Need-same-length-4 (
   word-at-reads.Asked,
   word-at-reads.Learnt,
@@ -2147,7 +2147,7 @@ push-all-same-length-4 : (t : ℕ) → push-all-lts.Need-same-length-4 (
 ) (push-all-at t) push-all.Post push-all-Inv-loop push-all-μ-loop
 push-all-same-length-4 t c = search needs
 
--- src/lib.rt:312:34
+-- src/lib.rt:311:34
 push-all-returns-2 : (t : ℕ) → push-all-lts.Need-returns-2 (
   word-at-reads.Asked,
   word-at-reads.Learnt,
@@ -2158,7 +2158,7 @@ push-all-returns-2 : (t : ℕ) → push-all-lts.Need-returns-2 (
 ) (push-all-at t) push-all.Post push-all-Inv-loop push-all-μ-loop
 push-all-returns-2 t c = search push-fails
 
--- src/lib.rt:287:1
+-- src/lib.rt:286:1
 push-all-same-length-5 : (t : ℕ) → push-all-lts.Need-same-length-5 (
   word-at-reads.Asked,
   word-at-reads.Learnt,
@@ -2169,7 +2169,7 @@ push-all-same-length-5 : (t : ℕ) → push-all-lts.Need-same-length-5 (
 ) (push-all-at t) push-all.Post push-all-Inv-loop push-all-μ-loop
 push-all-same-length-5 t c = search needs
 
--- src/lib.rt:287:1
+-- src/lib.rt:286:1
 push-all-same-length-6 : (t : ℕ) → push-all-lts.Need-same-length-6 (
   word-at-reads.Asked,
   word-at-reads.Learnt,
@@ -2180,7 +2180,7 @@ push-all-same-length-6 : (t : ℕ) → push-all-lts.Need-same-length-6 (
 ) (push-all-at t) push-all.Post push-all-Inv-loop push-all-μ-loop
 push-all-same-length-6 t c = search needs
 
--- src/lib.rt:287:1
+-- src/lib.rt:286:1
 push-all-returns-3 : (t : ℕ) → push-all-lts.Need-returns-3 (
   word-at-reads.Asked,
   word-at-reads.Learnt,
@@ -2191,7 +2191,7 @@ push-all-returns-3 : (t : ℕ) → push-all-lts.Need-returns-3 (
 ) (push-all-at t) push-all.Post push-all-Inv-loop push-all-μ-loop
 push-all-returns-3 t c = search push-end
 
--- src/lib.rt:333:11
+-- src/lib.rt:332:11
 pushed-evaluate-requires : (t : ℕ) → pushed-lts.Need-evaluate-requires (
   evaluate-below t,
   evaluate.Post,
@@ -2202,7 +2202,7 @@ pushed-evaluate-requires : (t : ℕ) → pushed-lts.Need-evaluate-requires (
 ) (pushed-at t) pushed.Post
 pushed-evaluate-requires t c κs = (omega arith, search needs)
 
--- src/lib.rt:334:22
+-- src/lib.rt:333:22
 pushed-enum-known-v : (t : ℕ) → pushed-lts.Need-enum-known-v (
   evaluate-below t,
   evaluate.Post,
@@ -2213,7 +2213,7 @@ pushed-enum-known-v : (t : ℕ) → pushed-lts.Need-enum-known-v (
 ) (pushed-at t) pushed.Post
 pushed-enum-known-v t c = search needs
 
--- src/lib.rt:335:48
+-- src/lib.rt:334:48
 pushed-pack-requires : (t : ℕ) → pushed-lts.Need-pack-requires (
   evaluate-below t,
   evaluate.Post,
@@ -2224,7 +2224,7 @@ pushed-pack-requires : (t : ℕ) → pushed-lts.Need-pack-requires (
 ) (pushed-at t) pushed.Post
 pushed-pack-requires t c κs = search needs
 
--- src/lib.rt:335:17
+-- src/lib.rt:334:17
 pushed-push-requires : (t : ℕ) → pushed-lts.Need-push-requires (
   evaluate-below t,
   evaluate.Post,
@@ -2235,7 +2235,7 @@ pushed-push-requires : (t : ℕ) → pushed-lts.Need-push-requires (
 ) (pushed-at t) pushed.Post
 pushed-push-requires t c κs = search needs
 
--- src/lib.rt:336:17
+-- src/lib.rt:335:17
 pushed-same-length : (t : ℕ) → pushed-lts.Need-same-length (
   evaluate-below t,
   evaluate.Post,
@@ -2246,7 +2246,7 @@ pushed-same-length : (t : ℕ) → pushed-lts.Need-same-length (
 ) (pushed-at t) pushed.Post
 pushed-same-length t c = search needs
 
--- src/lib.rt:336:17
+-- src/lib.rt:335:17
 pushed-same-length-2 : (t : ℕ) → pushed-lts.Need-same-length-2 (
   evaluate-below t,
   evaluate.Post,
@@ -2257,7 +2257,7 @@ pushed-same-length-2 : (t : ℕ) → pushed-lts.Need-same-length-2 (
 ) (pushed-at t) pushed.Post
 pushed-same-length-2 t c = search needs
 
--- src/lib.rt:336:17
+-- src/lib.rt:335:17
 pushed-returns : (t : ℕ) → pushed-lts.Need-returns (
   evaluate-below t,
   evaluate.Post,
@@ -2268,7 +2268,7 @@ pushed-returns : (t : ℕ) → pushed-lts.Need-returns (
 ) (pushed-at t) pushed.Post
 pushed-returns t c = search push-refused
 
--- src/lib.rt:340:21
+-- src/lib.rt:339:21
 pushed-enum-known-n : (t : ℕ) → pushed-lts.Need-enum-known-n (
   evaluate-below t,
   evaluate.Post,
@@ -2279,7 +2279,7 @@ pushed-enum-known-n : (t : ℕ) → pushed-lts.Need-enum-known-n (
 ) (pushed-at t) pushed.Post
 pushed-enum-known-n t c = search needs
 
--- src/lib.rt:319:1
+-- src/lib.rt:318:1
 pushed-same-length-3 : (t : ℕ) → pushed-lts.Need-same-length-3 (
   evaluate-below t,
   evaluate.Post,
@@ -2290,7 +2290,7 @@ pushed-same-length-3 : (t : ℕ) → pushed-lts.Need-same-length-3 (
 ) (pushed-at t) pushed.Post
 pushed-same-length-3 t c = search needs
 
--- src/lib.rt:319:1
+-- src/lib.rt:318:1
 pushed-same-length-4 : (t : ℕ) → pushed-lts.Need-same-length-4 (
   evaluate-below t,
   evaluate.Post,
@@ -2301,7 +2301,7 @@ pushed-same-length-4 : (t : ℕ) → pushed-lts.Need-same-length-4 (
 ) (pushed-at t) pushed.Post
 pushed-same-length-4 t c = search needs
 
--- src/lib.rt:319:1
+-- src/lib.rt:318:1
 pushed-returns-2 : (t : ℕ) → pushed-lts.Need-returns-2 (
   evaluate-below t,
   evaluate.Post,
@@ -2312,7 +2312,7 @@ pushed-returns-2 : (t : ℕ) → pushed-lts.Need-returns-2 (
 ) (pushed-at t) pushed.Post
 pushed-returns-2 t c = search push-done
 
--- src/lib.rt:319:1
+-- src/lib.rt:318:1
 pushed-same-length-5 : (t : ℕ) → pushed-lts.Need-same-length-5 (
   evaluate-below t,
   evaluate.Post,
@@ -2323,7 +2323,7 @@ pushed-same-length-5 : (t : ℕ) → pushed-lts.Need-same-length-5 (
 ) (pushed-at t) pushed.Post
 pushed-same-length-5 t c = search needs
 
--- src/lib.rt:319:1
+-- src/lib.rt:318:1
 pushed-same-length-6 : (t : ℕ) → pushed-lts.Need-same-length-6 (
   evaluate-below t,
   evaluate.Post,
@@ -2334,7 +2334,7 @@ pushed-same-length-6 : (t : ℕ) → pushed-lts.Need-same-length-6 (
 ) (pushed-at t) pushed.Post
 pushed-same-length-6 t c = search needs
 
--- src/lib.rt:319:1
+-- src/lib.rt:318:1
 pushed-returns-3 : (t : ℕ) → pushed-lts.Need-returns-3 (
   evaluate-below t,
   evaluate.Post,
@@ -2345,7 +2345,7 @@ pushed-returns-3 : (t : ℕ) → pushed-lts.Need-returns-3 (
 ) (pushed-at t) pushed.Post
 pushed-returns-3 t c = search push-stops
 
--- src/lib.rt:104:11
+-- src/lib.rt:103:11
 table-of-evaluate-requires : (t : ℕ) → table-of-lts.Need-evaluate-requires (
   evaluate-below t,
   evaluate.Post,
@@ -2354,7 +2354,7 @@ table-of-evaluate-requires : (t : ℕ) → table-of-lts.Need-evaluate-requires (
 ) (table-of-at t) table-of.Post
 table-of-evaluate-requires t c κs = (omega arith, search needs)
 
--- src/lib.rt:105:22
+-- src/lib.rt:104:22
 table-of-enum-known-v : (t : ℕ) → table-of-lts.Need-enum-known-v (
   evaluate-below t,
   evaluate.Post,
@@ -2363,7 +2363,7 @@ table-of-enum-known-v : (t : ℕ) → table-of-lts.Need-enum-known-v (
 ) (table-of-at t) table-of.Post
 table-of-enum-known-v t c = search needs
 
--- src/lib.rt:106:28
+-- src/lib.rt:105:28
 table-of-enum-known-v-2 : (t : ℕ) → table-of-lts.Need-enum-known-v-2 (
   evaluate-below t,
   evaluate.Post,
@@ -2372,7 +2372,7 @@ table-of-enum-known-v-2 : (t : ℕ) → table-of-lts.Need-enum-known-v-2 (
 ) (table-of-at t) table-of.Post
 table-of-enum-known-v-2 t c = search needs
 
--- src/lib.rt:107:21
+-- src/lib.rt:106:21
 table-of-new-table-requires : (t : ℕ) → table-of-lts.Need-new-table-requires (
   evaluate-below t,
   evaluate.Post,
@@ -2381,7 +2381,7 @@ table-of-new-table-requires : (t : ℕ) → table-of-lts.Need-new-table-requires
 ) (table-of-at t) table-of.Post
 table-of-new-table-requires t c κs = search needs
 
--- src/lib.rt:112:21
+-- src/lib.rt:111:21
 table-of-enum-known-n : (t : ℕ) → table-of-lts.Need-enum-known-n (
   evaluate-below t,
   evaluate.Post,
@@ -2390,7 +2390,7 @@ table-of-enum-known-n : (t : ℕ) → table-of-lts.Need-enum-known-n (
 ) (table-of-at t) table-of.Post
 table-of-enum-known-n t c = search needs
 
--- src/lib.rt:90:1
+-- src/lib.rt:89:1
 table-of-same-length : (t : ℕ) → table-of-lts.Need-same-length (
   evaluate-below t,
   evaluate.Post,
@@ -2399,7 +2399,7 @@ table-of-same-length : (t : ℕ) → table-of-lts.Need-same-length (
 ) (table-of-at t) table-of.Post
 table-of-same-length t c = search needs
 
--- src/lib.rt:90:1
+-- src/lib.rt:89:1
 table-of-same-length-2 : (t : ℕ) → table-of-lts.Need-same-length-2 (
   evaluate-below t,
   evaluate.Post,
@@ -2408,7 +2408,7 @@ table-of-same-length-2 : (t : ℕ) → table-of-lts.Need-same-length-2 (
 ) (table-of-at t) table-of.Post
 table-of-same-length-2 t c = search needs
 
--- src/lib.rt:90:1
+-- src/lib.rt:89:1
 table-of-returns : (t : ℕ) → table-of-lts.Need-returns (
   evaluate-below t,
   evaluate.Post,
@@ -2417,7 +2417,7 @@ table-of-returns : (t : ℕ) → table-of-lts.Need-returns (
 ) (table-of-at t) table-of.Post
 table-of-returns t c = search table-made
 
--- src/lib.rt:90:1
+-- src/lib.rt:89:1
 table-of-same-length-3 : (t : ℕ) → table-of-lts.Need-same-length-3 (
   evaluate-below t,
   evaluate.Post,
@@ -2426,7 +2426,7 @@ table-of-same-length-3 : (t : ℕ) → table-of-lts.Need-same-length-3 (
 ) (table-of-at t) table-of.Post
 table-of-same-length-3 t c = search needs
 
--- src/lib.rt:90:1
+-- src/lib.rt:89:1
 table-of-same-length-4 : (t : ℕ) → table-of-lts.Need-same-length-4 (
   evaluate-below t,
   evaluate.Post,
@@ -2435,7 +2435,7 @@ table-of-same-length-4 : (t : ℕ) → table-of-lts.Need-same-length-4 (
 ) (table-of-at t) table-of.Post
 table-of-same-length-4 t c = search needs
 
--- src/lib.rt:90:1
+-- src/lib.rt:89:1
 table-of-returns-2 : (t : ℕ) → table-of-lts.Need-returns-2 (
   evaluate-below t,
   evaluate.Post,
@@ -2444,7 +2444,7 @@ table-of-returns-2 : (t : ℕ) → table-of-lts.Need-returns-2 (
 ) (table-of-at t) table-of.Post
 table-of-returns-2 t c = search table-other
 
--- src/lib.rt:90:1
+-- src/lib.rt:89:1
 table-of-same-length-5 : (t : ℕ) → table-of-lts.Need-same-length-5 (
   evaluate-below t,
   evaluate.Post,
@@ -2453,7 +2453,7 @@ table-of-same-length-5 : (t : ℕ) → table-of-lts.Need-same-length-5 (
 ) (table-of-at t) table-of.Post
 table-of-same-length-5 t c = search needs
 
--- src/lib.rt:90:1
+-- src/lib.rt:89:1
 table-of-same-length-6 : (t : ℕ) → table-of-lts.Need-same-length-6 (
   evaluate-below t,
   evaluate.Post,
@@ -2462,7 +2462,7 @@ table-of-same-length-6 : (t : ℕ) → table-of-lts.Need-same-length-6 (
 ) (table-of-at t) table-of.Post
 table-of-same-length-6 t c = search needs
 
--- src/lib.rt:90:1
+-- src/lib.rt:89:1
 table-of-returns-3 : (t : ℕ) → table-of-lts.Need-returns-3 (
   evaluate-below t,
   evaluate.Post,

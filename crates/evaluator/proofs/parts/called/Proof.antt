@@ -5,31 +5,31 @@ use Rattle.evaluator.proofs.parts.called.Tie as tie
 use Rattle.evaluator.proofs.parts.called.Reads as reads
 use Rattle.evaluator.proofs.parts.called.Lts as lts
 use Rattle.evaluator.proofs.parts.less_word.Reads as less-word-reads
-use Rattle.evaluator.proofs.pending.call_library.Reads as call-library-reads
+use Rattle.library.proofs.call_library.Reads as call-library-reads
 use Rattle.stores.proofs.arguments.arguments_held.Reads as arguments-held-reads
 use Rattle.stores.proofs.arguments.drop_to.Reads as drop-to-reads
 
--- src/parts.rt:98:23
+-- src/parts.rt:90:23
 arguments-held-requires : tie.Need-arguments-held-requires
 arguments-held-requires c κs = search needs
 
--- src/parts.rt:98:9
+-- src/parts.rt:90:9
 less-word-requires : tie.Need-less-word-requires
 less-word-requires c κs = search needs
 
--- src/parts.rt:99:11
+-- src/parts.rt:91:11
 call-library-requires : tie.Need-call-library-requires
 call-library-requires c κs = search needs
 
--- src/parts.rt:100:22
+-- src/parts.rt:92:22
 enum-known-v : tie.Need-enum-known-v
 enum-known-v c = search needs
 
--- src/parts.rt:101:13
+-- src/parts.rt:93:13
 drop-to-requires : tie.Need-drop-to-requires
 drop-to-requires c κs = search needs
 
--- src/parts.rt:104:21
+-- src/parts.rt:96:21
 enum-known-n : tie.Need-enum-known-n
 enum-known-n c = search needs
 
@@ -38,20 +38,12 @@ same-length : tie.Need-same-length
 same-length c = search needs
 
 -- src/parts.rt:86:1
-same-length-2 : tie.Need-same-length-2
-same-length-2 c = search needs
-
--- src/parts.rt:86:1
 returns : tie.Need-returns
 returns c = search library-called
 
 -- src/parts.rt:86:1
-same-length-3 : tie.Need-same-length-3
-same-length-3 c = search needs
-
--- src/parts.rt:86:1
-same-length-4 : tie.Need-same-length-4
-same-length-4 c = search needs
+same-length-2 : tie.Need-same-length-2
+same-length-2 c = search needs
 
 -- src/parts.rt:86:1
 returns-2 : tie.Need-returns-2
@@ -68,8 +60,6 @@ called-spec =
     drop-to-requires
     enum-known-n
     same-length
-    same-length-2
     returns
-    same-length-3
-    same-length-4
+    same-length-2
     returns-2)
