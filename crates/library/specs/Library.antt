@@ -1,6 +1,6 @@
 -- Library procedures on values as the code holds them. The arguments of a call stand in the words, n of them from the one numbered base on.
 use Prim.Native.Nat.{ℕ, zero, suc, _+_, _-_}
-use mathlib.Core.Bool.{Bool, not}
+use mathlib.Core.Bool.{not}
 use mathlib.Core.List.{List}
 use lib.IntN.{ℤ, pos, _+ℤ_}
 use lib.Dec.{eqb, ltb}

@@ -53,13 +53,13 @@ pub fn text_figure(words: &[u64], base: u64) -> Figure
     requires { ⌜ 24584 ≤ length (now words) ⌝ }
     ensures { λ r. ⌜ r ≡ textFigure (now (words .entry)) base ⌝ }
 {
-    let x = arguments::integer_at(words, base, 0);
-    let y = arguments::integer_at(words, base, 1);
+    let left = arguments::integer_at(words, base, 0);
+    let top = arguments::integer_at(words, base, 1);
     let h = arguments::handle_at(words, base, 2);
     Figure {
         kind: 3,
-        a: x,
-        b: y,
+        a: left,
+        b: top,
         c: 0,
         d: 0,
         text: h,

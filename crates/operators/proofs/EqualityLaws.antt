@@ -17,10 +17,10 @@ use Rattle.meaning.specs.Integer.{sameInteger}
 use Rattle.values.specs.declared.Value.{Value}
 use Rattle.values.specs.declared.Value.the-variants.{Integer, Text, Boolean, Nothing, Table, Shape}
 use Rattle.values.specs.declared.Answer.the-variants.{Good, Bad}
-use Rattle.values.specs.Words.{kindIn, numberIn, handleIn, truthIn, unpacked}
+use Rattle.values.specs.Words.{numberIn, handleIn, truthIn, unpacked}
 use Rattle.values.proofs.Laws.{unpacked-integer, unpacked-text, unpacked-truth, unpacked-table, unpacked-shape, as-nothing, by-kind}
 use Rattle.stores.specs.declared.Figure.{Figure}
-use Rattle.stores.specs.Act.{Raw, raw, Out, done, stop, give, fail, shown}
+use Rattle.stores.specs.Act.{Raw, raw, done, stop, give, fail, shown}
 use Rattle.stores.specs.Texts.{textOf}
 use Rattle.stores.specs.Shapes.{figureAt}
 use Rattle.operators.specs.Operate.{sameFigure, equality, answered, equated, operateOn}

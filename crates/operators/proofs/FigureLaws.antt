@@ -1,10 +1,10 @@
 -- Figures moved and scaled, and the shapes made of them.
 use Prim.Native.Nat.{ℕ, _^_, _<_}
-use mathlib.Core.Path.{_≡_, _∙_, refl, ap, sym}
-use mathlib.Core.Bool.{Bool, true, false, cond, _&&_}
+use mathlib.Core.Path.{_≡_, _∙_, refl, sym}
+use mathlib.Core.Bool.{Bool, true, false, cond}
 use mathlib.Core.List.{List}
 use native.Mathlib.Omega.{arith}
-use borrow.Author.Tests.{ne-eqb, eqb-true, eqb-false}
+use borrow.Author.Tests.{ne-eqb}
 use lib.Dec.{eqb}
 use lib.IntN.{ℤ}
 use lib.Signed.{mag}
@@ -16,14 +16,14 @@ use Rattle.meaning.specs.Integer.{sum, difference, product, quotient, isZero}
 use Rattle.values.specs.declared.Value.{Value}
 use Rattle.values.specs.declared.Value.the-variants.{Integer, Shape}
 use Rattle.values.specs.declared.Answer.{Answer}
-use Rattle.values.specs.declared.Answer.the-variants.{Good, Bad}
+use Rattle.values.specs.declared.Answer.the-variants.{Bad}
 use Rattle.stores.specs.declared.Figure.{Figure}
-use Rattle.stores.specs.Act.{Raw, raw, Out, stop, goOn, _>>=_, give, fail, refuse, shown, Answers}
+use Rattle.stores.specs.Act.{Raw, Out, stop, goOn, _>>=_, give, fail, refuse, shown, Answers}
 use Rattle.stores.specs.Shapes.{figureAt, newShape}
 use Rattle.operators.specs.Operate.{withInteger, withText, calculated, compared, remaindered, joined, equality, answered, equated, operateOn}
 use Rattle.operators.specs.Operate.{moved, kept, plusX, plusY, minusX, minusY, scaledUp, scaledDown}
 use Rattle.operators.specs.Parts.{placed, refusal, changed, Draws}
-use Rattle.operators.proofs.Held.{held, back, back-to, back-by, test-is, either, by-number}
+use Rattle.operators.proofs.Held.{held, back, back-by, test-is, by-number}
 
 -- ---- points in other places
 module _ (f : Figure) {x y : ℤ} (z w : ℤ) (i : SFits w32 x) (j : SFits w32 y) where

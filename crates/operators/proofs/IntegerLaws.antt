@@ -1,7 +1,7 @@
 -- What each way through the operators on two integers computes.
 use Prim.Native.Nat.{ℕ, _^_, _<_}
-use mathlib.Core.Path.{_≡_, _∙_, refl, ap, sym}
-use mathlib.Core.Bool.{Bool, true, false, not, _&&_}
+use mathlib.Core.Path.{_≡_, refl, sym}
+use mathlib.Core.Bool.{Bool, true, false, not}
 use borrow.Author.Tests.{ne-eqb}
 use lib.Dec.{eqb}
 use lib.IntN.{ℤ}
@@ -12,14 +12,13 @@ use mir.Facts.{toZ-ofZ}
 use Rattle.meaning.specs.Basics.{if_then_else_}
 use Rattle.meaning.specs.Integer.{sum, difference, product, quotient, shiftedLeft, shiftedRight, isZero, sameInteger}
 use Rattle.meaning.specs.Integer as Integer
-use Rattle.values.specs.declared.Value.{Value}
 use Rattle.values.specs.declared.Value.the-variants.{Integer, Boolean}
 use Rattle.values.specs.declared.Answer.{Answer}
 use Rattle.values.specs.declared.Answer.the-variants.{Good, Bad}
-use Rattle.stores.specs.Act.{raw, goOn, _>>=_, give, fail, refuse, shown}
+use Rattle.stores.specs.Act.{goOn, _>>=_, give, fail, refuse, shown}
 use Rattle.operators.specs.Operate.{withInteger, withText, calculated, compared, remaindered, joined, equality, answered, equated, operateOn}
 use Rattle.operators.specs.Parts.{Computes}
-use Rattle.operators.proofs.Held.{held, back, back-by, test-is, either}
+use Rattle.operators.proofs.Held.{held, back-by, test-is, either}
 
 -- ---- division
 module _ (p : ℕ) {x y : ℤ} where

@@ -3,4 +3,4 @@ pub mod KindLaws
 mod IntegerLaws
 mod FigureLaws
 mod EqualityLaws
-mod OperateLaws
+pub mod OperateLaws

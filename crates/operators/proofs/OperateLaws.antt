@@ -1,24 +1,23 @@
 -- An operator on any two values, by their words.
 use Prim.Native.Nat.{ℕ, _%_, _^_, _<_}
-use mathlib.Core.Path.{_≡_, _∙_, refl, ap, sym}
+use mathlib.Core.Path.{_≡_, _∙_, refl, sym}
 use mathlib.Core.Bool.{Bool, true, false, _&&_}
 use mathlib.Core.List.{List}
 use native.Mathlib.Omega.{arith}
-use borrow.Author.Tests.{ne-eqb, eqb-true, eqb-false}
+use borrow.Author.Tests.{ne-eqb, eqb-true}
 use lib.Dec.{eqb}
 use lib.IntN.{ℤ}
 use lib.Signed.{mag}
 use mir.Syntax.{w32}
 use mir.Val.{toZ}
 use Rattle.meaning.specs.Basics.{if_then_else_}
-use Rattle.values.specs.declared.Value.{Value}
-use Rattle.values.specs.declared.Value.the-variants.{Integer, Text, Boolean, Nothing, Table, Shape}
+use Rattle.values.specs.declared.Value.the-variants.{Integer, Shape}
 use Rattle.values.specs.declared.Answer.{Answer}
-use Rattle.values.specs.declared.Answer.the-variants.{Good, Bad}
+use Rattle.values.specs.declared.Answer.the-variants.{Bad}
 use Rattle.values.specs.Words.{kindIn, numberIn, handleIn, unpacked}
 use Rattle.values.proofs.Laws.{unpacked-integer, unpacked-text, unpacked-shape, by-kind}
 use Rattle.stores.specs.declared.Figure.{Figure}
-use Rattle.stores.specs.Act.{Raw, raw, Out, done, stop, Act, goOn, _>>=_, give, fail, refuse, shown}
+use Rattle.stores.specs.Act.{Raw, raw, stop, goOn, _>>=_, give, fail, refuse, shown}
 use Rattle.stores.specs.Texts.{joinTexts}
 use Rattle.stores.specs.Variables.{isDead, usable}
 use Rattle.operators.specs.Operate.{withInteger, withText, calculated, compared, remaindered, joined, operateOn, operate}

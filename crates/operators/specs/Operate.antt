@@ -1,6 +1,6 @@
 -- Operators on values as the code holds them.
-use Prim.Native.Nat.{ℕ, _+_}
-use mathlib.Core.Bool.{Bool, true, false, not, _&&_, _||_, cond}
+use Prim.Native.Nat.{ℕ}
+use mathlib.Core.Bool.{Bool, true, false, not, _&&_, cond}
 use mathlib.Core.List.{List}
 use mathlib.Core.Option.{Option, none, some}
 use lib.IntN.{ℤ}
@@ -11,7 +11,7 @@ use Rattle.meaning.specs.Integer.{sum, difference, product, quotient, shiftedLe
 use Rattle.meaning.specs.Integer as Integer
 use Rattle.values.specs.declared.Value.{Value}
 use Rattle.values.specs.declared.Value.the-variants.{Integer, Text, Boolean, Nothing, Table, Shape}
-use Rattle.stores.specs.Act.{Raw, Act, done, _>>=_, _>>_, give, fail, refuse}
+use Rattle.stores.specs.Act.{Raw, Act, _>>=_, _>>_, give, fail, refuse}
 use Rattle.stores.specs.Texts.{textOf, joinTexts}
 use Rattle.stores.specs.declared.Figure.{Figure}
 use Rattle.stores.specs.Shapes.{figureAt, newShape}

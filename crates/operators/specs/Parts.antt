@@ -57,12 +57,19 @@ placed s x y z w = record {
 }
 
 -- ---- other values
+-- whether both words are integers
+unfoldable pub bothIntegers : ℕ → ℕ → Bool
+bothIntegers a b = eqb (kindIn a) 1 && eqb (kindIn b) 1
+
+abbrev pub NotBoth : ℕ → ℕ → Type 0
+NotBoth a b = kindIn a ≡ 1 → kindIn b ≡ 1 → ⊥
+
 -- an operator that is no concatenation and no equality, on two values that are not both integers
 pub record Other (tag a b : ℕ) : Type 0 where
   pub joins : tag ≡ 16 → ⊥
   pub equals : tag ≡ 24 → ⊥
   pub differs : tag ≡ 25 → ⊥
-  pub mixed : kindIn a ≡ 1 → kindIn b ≡ 1 → ⊥
+  pub mixed : NotBoth a b
 
 pub record Calculates (grants before : List ℕ) (tag p a b : ℕ) (answer : Answer) (after : List ℕ) : Type 0 where
   pub equal : Other tag a b → Draws grants before tag p (unpacked a) (unpacked b) answer after
@@ -98,12 +105,6 @@ pub record Compares (program ts ws : List ℕ) (tag p a b : ℕ) (answer : Answe
   pub equal : (grants : List ℕ) → shown answer ts ws ≡ operateOn program grants tag p (unpacked a) (unpacked b) (raw ts ws)
 
 -- ---- any values that are not both integers
-unfoldable pub bothIntegers : ℕ → ℕ → Bool
-bothIntegers a b = eqb (kindIn a) 1 && eqb (kindIn b) 1
-
-abbrev pub NotBoth : ℕ → ℕ → Type 0
-NotBoth a b = kindIn a ≡ 1 → kindIn b ≡ 1 → ⊥
-
 -- neither of them a destroyed shape
 pub record Mixes (program grants ts ws : List ℕ) (tag p a b : ℕ) (answer : Answer) (ts′ ws′ : List ℕ) : Type 0 where
   pub equal : NotBoth a b → shown answer ts′ ws′ ≡ operateOn program grants tag p (unpacked a) (unpacked b) (raw ts ws)

@@ -116,7 +116,8 @@ fn on_mixed(
     r
 }
 
-fn both_integers(a: u64, b: u64) -> bool
+// Whether both words are integers: a caller that asks can go to `integers` itself.
+pub fn both_integers(a: u64, b: u64) -> bool
     ensures { λ r. ⌜ r ≡ bothIntegers a b ⌝ }
 {
     if a % 8 != 1 {
