@@ -1,0 +1,4 @@
+pub mod Acts
+pub mod Laws
+pub mod Leading
+pub mod Kept

@@ -1,0 +1,27 @@
+use borrow.Author.Needs.{needs}
+use Rattle.library.proofs.ProcedureLaws.{coordinate-count, coordinate-kind, coordinate-given}
+use Rattle.library.proofs.x_coordinate.Statement.{statement}
+use Rattle.library.proofs.x_coordinate.Tie as tie
+
+returns : tie.Need-returns
+returns c = search coordinate-count
+
+is-kind-requires : tie.Need-is-kind-requires
+is-kind-requires c κs = search needs
+
+returns-2 : tie.Need-returns-2
+returns-2 c = search coordinate-kind
+
+given-figure-requires : tie.Need-given-figure-requires
+given-figure-requires c κs = search needs
+
+centre-x-requires : tie.Need-centre-x-requires
+centre-x-requires c κs = search needs
+
+returns-3 : tie.Need-returns-3
+returns-3 c = search coordinate-given
+
+pub x-coordinate-spec : {M : Type 1} → statement M
+x-coordinate-spec =
+    tie.close
+    (tie.spec returns is-kind-requires returns-2 given-figure-requires centre-x-requires returns-3)

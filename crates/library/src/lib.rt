@@ -1,0 +1,189 @@
+// Library procedures, on the arguments of a call: n of them, held from the one numbered base on.
+pub mod arguments;
+pub mod figures;
+
+use values::Answer;
+use values::Value;
+ghost use Prim.Native.Nat.{_≤_};
+ghost use lib.ListN.{length};
+ghost use Rattle.stores.specs.Layout.{Room};
+ghost use Rattle.stores.specs.Act.{Answers};
+ghost use Rattle.library.specs.Library.{centreX, centreY, drawn, drawnText, connected, labelled, coordinate, destroyed, clearing, perform, callLibrary};
+
+// Four integers make a figure of a kind.
+fn draw(words: &mut [u64], grants: &[u64; 4], kind: u64, p: u64, base: u64, n: u64) -> Answer
+    requires { ⌜ Room (now grants) (now words) ⌝ }
+    ensures { λ r. ⌜ Answers (now (words .entry)) (drawn (now (grants .entry)) kind p base n) r (now (words .exit)) ⌝ }
+{
+    if n != 4 {
+        return Answer::Bad(20, p);
+    }
+    if !arguments::four_integers(words, base) {
+        return Answer::Bad(20, p);
+    }
+    let f = figures::drawn_figure(words, kind, base);
+    let r = stores::shapes::new_shape(words, grants, p, f);
+    r
+}
+
+fn draw_text(words: &mut [u64], grants: &[u64; 4], p: u64, base: u64, n: u64) -> Answer
+    requires { ⌜ Room (now grants) (now words) ⌝ }
+    ensures { λ r. ⌜ Answers (now (words .entry)) (drawnText (now (grants .entry)) p base n) r (now (words .exit)) ⌝ }
+{
+    if n != 3 {
+        return Answer::Bad(20, p);
+    }
+    if !arguments::point_and_text(words, base) {
+        return Answer::Bad(20, p);
+    }
+    let f = figures::text_figure(words, base);
+    let r = stores::shapes::new_shape(words, grants, p, f);
+    r
+}
+
+fn connect(words: &mut [u64], grants: &[u64; 4], p: u64, base: u64, n: u64) -> Answer
+    requires { ⌜ Room (now grants) (now words) ⌝ }
+    ensures { λ r. ⌜ Answers (now (words .entry)) (connected (now (grants .entry)) p base n) r (now (words .exit)) ⌝ }
+{
+    if n != 2 {
+        return Answer::Bad(20, p);
+    }
+    if !arguments::are_kinds(words, base, 0, 6, 1, 6) {
+        return Answer::Bad(20, p);
+    }
+    let f = figures::connecting_figure(words, base);
+    let r = stores::shapes::new_shape(words, grants, p, f);
+    r
+}
+
+fn label(words: &mut [u64], grants: &[u64; 4], p: u64, base: u64, n: u64) -> Answer
+    requires { ⌜ Room (now grants) (now words) ⌝ }
+    ensures { λ r. ⌜ Answers (now (words .entry)) (labelled (now (grants .entry)) p base n) r (now (words .exit)) ⌝ }
+{
+    if n != 2 {
+        return Answer::Bad(20, p);
+    }
+    if !arguments::are_kinds(words, base, 0, 6, 1, 2) {
+        return Answer::Bad(20, p);
+    }
+    let f = figures::label_figure(words, base);
+    let r = stores::shapes::new_shape(words, grants, p, f);
+    r
+}
+
+fn x_coordinate(words: &[u64], p: u64, base: u64, n: u64) -> Answer
+    requires { ⌜ 24584 ≤ length (now words) ⌝ }
+    ensures { λ r. ⌜ Answers (now (words .entry)) (coordinate centreX p base n) r (now (words .entry)) ⌝ }
+{
+    if n != 1 {
+        return Answer::Bad(20, p);
+    }
+    if !arguments::is_kind(words, base, 0, 6) {
+        return Answer::Bad(20, p);
+    }
+    Answer::Good(Value::Integer(figures::centre_x(arguments::given_figure(words, base, 0))))
+}
+
+fn y_coordinate(words: &[u64], p: u64, base: u64, n: u64) -> Answer
+    requires { ⌜ 24584 ≤ length (now words) ⌝ }
+    ensures { λ r. ⌜ Answers (now (words .entry)) (coordinate centreY p base n) r (now (words .entry)) ⌝ }
+{
+    if n != 1 {
+        return Answer::Bad(20, p);
+    }
+    if !arguments::is_kind(words, base, 0, 6) {
+        return Answer::Bad(20, p);
+    }
+    Answer::Good(Value::Integer(figures::centre_y(arguments::given_figure(words, base, 0))))
+}
+
+fn destroy(words: &mut [u64], p: u64, base: u64, n: u64) -> Answer
+    requires { ⌜ 24584 ≤ length (now words) ⌝ }
+    ensures { λ r. ⌜ Answers (now (words .entry)) (destroyed p base n) r (now (words .exit)) ⌝ }
+{
+    if n != 1 {
+        return Answer::Bad(20, p);
+    }
+    if !arguments::is_kind(words, base, 0, 6) {
+        return Answer::Bad(20, p);
+    }
+    let i = arguments::shape_at(words, base, 0);
+    stores::shapes::destroy(words, i);
+    Answer::Good(Value::Nothing)
+}
+
+fn clear(words: &mut [u64], p: u64, n: u64) -> Answer
+    requires { ⌜ 24584 ≤ length (now words) ⌝ }
+    ensures { λ r. ⌜ Answers (now (words .entry)) (clearing p n) r (now (words .exit)) ⌝ }
+{
+    if n != 0 {
+        return Answer::Bad(20, p);
+    }
+    stores::variables::clear_scene(words);
+    Answer::Good(Value::Nothing)
+}
+
+// A procedure by its number.
+fn perform(words: &mut [u64], grants: &[u64; 4], number: u64, p: u64, base: u64, n: u64) -> Answer
+    requires { ⌜ Room (now grants) (now words) ⌝ }
+    ensures { λ r. ⌜ Answers (now (words .entry)) (perform (now (grants .entry)) number p base n) r (now (words .exit)) ⌝ }
+{
+    match number {
+        0 => {
+            let r = draw(words, grants, 0, p, base, n);
+            r
+        }
+        1 => {
+            let r = draw(words, grants, 1, p, base, n);
+            r
+        }
+        2 => {
+            let r = draw(words, grants, 2, p, base, n);
+            r
+        }
+        3 => {
+            let r = draw_text(words, grants, p, base, n);
+            r
+        }
+        4 => {
+            let r = connect(words, grants, p, base, n);
+            r
+        }
+        5 => {
+            let r = label(words, grants, p, base, n);
+            r
+        }
+        6 => x_coordinate(words, p, base, n),
+        7 => y_coordinate(words, p, base, n),
+        8 => {
+            let r = destroy(words, p, base, n);
+            r
+        }
+        _ => {
+            let r = clear(words, p, n);
+            r
+        }
+    }
+}
+
+// A call. A procedure that is not known is 20; else a destroyed shape among the arguments is 30.
+pub fn call_library(
+    words: &mut [u64],
+    grants: &[u64; 4],
+    number: u64,
+    p: u64,
+    base: u64,
+    n: u64,
+) -> Answer
+    requires { ⌜ Room (now grants) (now words) ⌝ }
+    ensures { λ r. ⌜ Answers (now (words .entry)) (callLibrary (now (grants .entry)) number p base n) r (now (words .exit)) ⌝ }
+{
+    if 10 <= number {
+        return Answer::Bad(20, p);
+    }
+    if !arguments::all_usable(words, base, n) {
+        return Answer::Bad(30, p);
+    }
+    let r = perform(words, grants, number, p, base, n);
+    r
+}

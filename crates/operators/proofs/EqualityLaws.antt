@@ -1,0 +1,262 @@
+-- Equality.
+use Prim.Native.Nat.{ℕ, zero, suc, _/_, _%_, _^_, _<_}
+use mathlib.Core.Path.{_≡_, _∙_, refl, ap, sym}
+use mathlib.Core.Bool.{Bool, true, false, not, _&&_, cond}
+use mathlib.Core.List.{List}
+use mathlib.Core.Option.{Option, none, some}
+use native.Mathlib.Omega.{arith}
+use borrow.Author.Tests.{ne-eqb, eq-eqb, not-true, not-false}
+use lib.Dec.{eqb}
+use lib.IntN.{ℤ}
+use lib.Signed.{mag}
+use mir.Syntax.{w32}
+use mir.Val.{toZ, SFits}
+use mir.Facts.{toZ-ofZ}
+use Rattle.meaning.specs.Basics.{if_then_else_, sameText}
+use Rattle.meaning.specs.Integer.{sameInteger}
+use Rattle.values.specs.declared.Value.{Value}
+use Rattle.values.specs.declared.Value.the-variants.{Integer, Text, Boolean, Nothing, Table, Shape}
+use Rattle.values.specs.declared.Answer.the-variants.{Good, Bad}
+use Rattle.values.specs.Words.{numberIn, handleIn, truthIn, unpacked}
+use Rattle.values.proofs.Laws.{unpacked-integer, unpacked-text, unpacked-truth, unpacked-table, unpacked-shape, as-nothing, by-kind}
+use Rattle.stores.specs.declared.Figure.{Figure}
+use Rattle.stores.specs.Act.{Raw, raw, done, stop, give, fail, shown}
+use Rattle.stores.specs.Texts.{textOf}
+use Rattle.stores.specs.Shapes.{figureAt}
+use Rattle.operators.specs.Operate.{sameFigure, equality, answered, equated, operateOn}
+use Rattle.operators.specs.Parts.{samePair, sameNumbers, kindNumber, verdict, unlike, Compares}
+use Rattle.operators.proofs.Held.{held, back}
+
+-- ---- kinds
+module _ (w : ℕ) where
+  pub kind-1 : w % 8 ≡ 1 → 1 ≡ kindNumber (unpacked w)
+  unfolding kindNumber
+  kind-1 e = rw (unpacked-integer w e)
+
+  pub kind-2 : w % 8 ≡ 2 → 2 ≡ kindNumber (unpacked w)
+  unfolding kindNumber
+  kind-2 e = rw (unpacked-text w e)
+
+  pub kind-3 : w % 8 ≡ 3 → 3 ≡ kindNumber (unpacked w)
+  unfolding kindNumber
+  kind-3 e = rw (unpacked-truth w e)
+
+  pub kind-5 : w % 8 ≡ 5 → 5 ≡ kindNumber (unpacked w)
+  unfolding kindNumber
+  kind-5 e = rw (unpacked-table w e)
+
+  pub kind-6 : w % 8 ≡ 6 → 6 ≡ kindNumber (unpacked w)
+  unfolding kindNumber
+  kind-6 e = rw (unpacked-shape w e)
+
+  pub kind-4 : (w % 8 ≡ 1 → ⊥) → (w % 8 ≡ 2 → ⊥) → (w % 8 ≡ 3 → ⊥) → (w % 8 ≡ 5 → ⊥) → (w % 8 ≡ 6 → ⊥) → 4 ≡ kindNumber (unpacked w)
+  unfolding kindNumber
+  kind-4 a b c d e = rw (← as-nothing w a b c d e)
+
+  -- a word's value, by its kind
+  valueAs : ℕ → Value
+  valueAs k =
+      if eqb k 1 then (λ _. Integer (toZ w32 (numberIn w)))
+      else λ _. if eqb k 2 then (λ _. Text (handleIn w))
+      else λ _. if eqb k 3 then (λ _. Boolean (truthIn w))
+      else λ _. if eqb k 5 then (λ _. Table (numberIn w))
+      else λ _. if eqb k 6 then (λ _. Shape (numberIn w))
+      else λ _. Nothing
+
+  value-as : (k n : ℕ) → k ≡ kindNumber (unpacked w) → k ≡ n → unpacked w ≡ valueAs n
+  unfolding kindNumber valueAs if_then_else_
+  value-as k n e f = by-kind w (λ v. v ≡ valueAs (kindNumber v)) (λ _. refl) (λ _. refl) (λ _. refl) refl (λ _. refl) (λ _. refl) ∙ ap valueAs (sym e ∙ f)
+
+-- ---- figures
+module _ {x : ℤ} (y : ℤ) {z : ℤ} (w : ℤ) {b : Bool} (i : SFits w32 x) (k : SFits w32 z) (e : b ≡ sameInteger (held x) (held z)) where
+  pub pair-apart : not b ≡ true → false ≡ samePair x y z w
+  unfolding samePair
+  pair-apart h = rw (← toZ-ofZ i, ← toZ-ofZ k, ← e, not-true b h)
+
+  pub pair-rest : {r : Bool} → SFits w32 y → SFits w32 w → not b ≡ false → r ≡ sameInteger (held y) (held w) → r ≡ samePair x y z w
+  unfolding samePair
+  pair-rest j l h q = rw (q, ← toZ-ofZ i, ← toZ-ofZ k, ← e, not-false b h, toZ-ofZ j, toZ-ofZ l)
+
+module _ (f g : Figure) {b : Bool} (i : mag (f .a) < 2 ^ 31) (j : mag (f .b) < 2 ^ 31) (k : mag (g .a) < 2 ^ 31) (l : mag (g .b) < 2 ^ 31)
+    (e : b ≡ samePair (held (f .a)) (held (f .b)) (held (g .a)) (held (g .b))) where
+  first-pair : samePair (f .a) (f .b) (g .a) (g .b) ≡ b
+  first-pair = sym (e ∙ rw (back {r = f .a} i, back {r = f .b} j, back {r = g .a} k, back {r = g .b} l))
+
+  pub numbers-apart : not b ≡ true → false ≡ sameNumbers f g
+  unfolding sameNumbers
+  numbers-apart h = rw (first-pair, not-true b h)
+
+  pub numbers-rest : {r : Bool} → not b ≡ false → mag (f .c) < 2 ^ 31 → mag (f .d) < 2 ^ 31 → mag (g .c) < 2 ^ 31 → mag (g .d) < 2 ^ 31
+      → r ≡ samePair (held (f .c)) (held (f .d)) (held (g .c)) (held (g .d)) → r ≡ sameNumbers f g
+  unfolding sameNumbers
+  numbers-rest h m n o p q = q ∙ rw (first-pair, not-false b h, back {r = f .c} m, back {r = f .d} n, back {r = g .c} o, back {r = g .d} p)
+
+regroup : (k a b c d t : Bool) → k && a && b && c && d && t ≡ k && (a && b && (c && d) && t)
+regroup false a b c d t = refl
+regroup true false b c d t = refl
+regroup true true false c d t = refl
+regroup true true true false d t = refl
+regroup true true true true d t = refl
+
+module _ (program ts : List ℕ) (f g : Figure) where
+  figures-by : sameFigure program ts f g ≡ eqb (f .kind) (g .kind) && (sameNumbers f g && sameText (textOf program ts (f .text)) (textOf program ts (g .text)))
+  unfolding sameFigure sameNumbers samePair
+  figures-by =
+      regroup (eqb (f .kind) (g .kind)) (sameInteger (f .a) (g .a)) (sameInteger (f .b) (g .b)) (sameInteger (f .c) (g .c)) (sameInteger (f .d) (g .d))
+      (sameText (textOf program ts (f .text)) (textOf program ts (g .text)))
+
+  pub other-kind : (f .kind ≡ g .kind → ⊥) → false ≡ sameFigure program ts f g
+  other-kind h = sym (figures-by ∙ rw (ne-eqb _ _ h))
+
+  pub other-numbers : (b : Bool) → b ≡ sameNumbers f g → not b ≡ true → f .kind ≡ g .kind → false ≡ sameFigure program ts f g
+  other-numbers b e h k = sym (figures-by ∙ rw (eq-eqb _ _ k, ← e, not-true b h))
+
+  pub text-left : (b : Bool) {r : Bool} → f .kind ≡ g .kind → b ≡ sameNumbers f g → not b ≡ false
+      → r ≡ sameText (textOf program ts (f .text)) (textOf program ts (g .text)) → r ≡ sameFigure program ts f g
+  text-left b k e h q = q ∙ sym (figures-by ∙ rw (eq-eqb _ _ k, ← e, not-false b h))
+
+pub same-shapes : (program ts ws : List ℕ) (i j : ℕ) (f g : Figure) {r : Bool} → f ≡ figureAt ws i → g ≡ figureAt ws j → r ≡ sameFigure program ts f g
+    → r ≡ sameFigure program ts (figureAt ws i) (figureAt ws j)
+same-shapes program ts ws i j f g e q h = rw (← e, ← q) h
+
+-- ---- values
+pub unlike-4 : (k l : ℕ) → k ≡ 4 → 0 ≡ unlike k l
+unlike-4 k l e = rw e
+
+pub unlike-to-4 : (k l : ℕ) → (k ≡ 4 → ⊥) → l ≡ 4 → 0 ≡ unlike k l
+unlike-to-4 k l h e = rw (ne-eqb _ _ h, e)
+
+pub unlike-other : (k l : ℕ) → (k ≡ 4 → ⊥) → (l ≡ 4 → ⊥) → 2 ≡ unlike k l
+unlike-other k l h e = rw (ne-eqb _ _ h, ne-eqb _ _ e)
+
+module _ (program : List ℕ) (s : Raw) where
+  kinds-apart : (v w : Value) → (kindNumber v ≡ kindNumber w → ⊥) → unlike (kindNumber v) (kindNumber w) ≡ verdict (equality program s v w)
+  unfolding equality verdict kindNumber
+  kinds-apart (Integer x) (Integer y) h = absurd (h refl)
+  kinds-apart (Integer x) (Text y) h = refl
+  kinds-apart (Integer x) (Boolean y) h = refl
+  kinds-apart (Integer x) Nothing h = refl
+  kinds-apart (Integer x) (Table y) h = refl
+  kinds-apart (Integer x) (Shape y) h = refl
+  kinds-apart (Text x) (Integer y) h = refl
+  kinds-apart (Text x) (Text y) h = absurd (h refl)
+  kinds-apart (Text x) (Boolean y) h = refl
+  kinds-apart (Text x) Nothing h = refl
+  kinds-apart (Text x) (Table y) h = refl
+  kinds-apart (Text x) (Shape y) h = refl
+  kinds-apart (Boolean x) (Integer y) h = refl
+  kinds-apart (Boolean x) (Text y) h = refl
+  kinds-apart (Boolean x) (Boolean y) h = absurd (h refl)
+  kinds-apart (Boolean x) Nothing h = refl
+  kinds-apart (Boolean x) (Table y) h = refl
+  kinds-apart (Boolean x) (Shape y) h = refl
+  kinds-apart Nothing (Integer y) h = refl
+  kinds-apart Nothing (Text y) h = refl
+  kinds-apart Nothing (Boolean y) h = refl
+  kinds-apart Nothing Nothing h = absurd (h refl)
+  kinds-apart Nothing (Table y) h = refl
+  kinds-apart Nothing (Shape y) h = refl
+  kinds-apart (Table x) (Integer y) h = refl
+  kinds-apart (Table x) (Text y) h = refl
+  kinds-apart (Table x) (Boolean y) h = refl
+  kinds-apart (Table x) Nothing h = refl
+  kinds-apart (Table x) (Table y) h = absurd (h refl)
+  kinds-apart (Table x) (Shape y) h = refl
+  kinds-apart (Shape x) (Integer y) h = refl
+  kinds-apart (Shape x) (Text y) h = refl
+  kinds-apart (Shape x) (Boolean y) h = refl
+  kinds-apart (Shape x) Nothing h = refl
+  kinds-apart (Shape x) (Table y) h = refl
+  kinds-apart (Shape x) (Shape y) h = absurd (h refl)
+
+  no-comparison : (v w : Value) → kindNumber v ≡ kindNumber w → (kindNumber v ≡ 1 → ⊥) → (kindNumber v ≡ 2 → ⊥) → (kindNumber v ≡ 3 → ⊥) → (kindNumber v ≡ 4 → ⊥)
+      → (kindNumber v ≡ 6 → ⊥) → 2 ≡ verdict (equality program s v w)
+  unfolding equality verdict kindNumber
+  no-comparison (Integer x) w e i j k l m = absurd (i refl)
+  no-comparison (Text x) w e i j k l m = absurd (j refl)
+  no-comparison (Boolean x) w e i j k l m = absurd (k refl)
+  no-comparison Nothing w e i j k l m = absurd (l refl)
+  no-comparison (Table x) (Integer y) e i j k l m = refl
+  no-comparison (Table x) (Text y) e i j k l m = refl
+  no-comparison (Table x) (Boolean y) e i j k l m = refl
+  no-comparison (Table x) Nothing e i j k l m = absurd (omega arith)
+  no-comparison (Table x) (Table y) e i j k l m = refl
+  no-comparison (Table x) (Shape y) e i j k l m = refl
+  no-comparison (Shape x) w e i j k l m = absurd (m refl)
+
+same-truth : (m n : ℕ) → m < 2 → n < 2 → eqb m n ≡ cond (eqb m 1) (eqb n 1) (not (eqb n 1))
+same-truth zero zero h k = refl
+same-truth zero (suc zero) h k = refl
+same-truth zero (suc (suc n)) h k = absurd (omega arith)
+same-truth (suc zero) zero h k = refl
+same-truth (suc zero) (suc zero) h k = refl
+same-truth (suc zero) (suc (suc n)) h k = absurd (omega arith)
+same-truth (suc (suc m)) n h k = absurd (omega arith)
+
+module _ (program ts ws : List ℕ) (a b k l : ℕ) (e : k ≡ kindNumber (unpacked a)) (f : l ≡ kindNumber (unpacked b)) where
+  pub apart : {r : ℕ} → (k ≡ l → ⊥) → r ≡ unlike k l → r ≡ verdict (equality program (raw ts ws) (unpacked a) (unpacked b))
+  apart h q = q ∙ rw (e, f) (kinds-apart program (raw ts ws) (unpacked a) (unpacked b) (rw (e, f) at h))
+
+  module _ (t : k ≡ l) where
+    pub integers : {x y : ℤ} {c : Bool} {r : ℕ} → k ≡ 1 → r ≡ cond c 1 0 → c ≡ sameInteger (held x) (held y) → mag x < 2 ^ 31 → mag y < 2 ^ 31
+        → x ≡ toZ w32 (numberIn a) → y ≡ toZ w32 (numberIn b) → r ≡ verdict (equality program (raw ts ws) (unpacked a) (unpacked b))
+    unfolding verdict equality valueAs if_then_else_
+    integers {x = x′} {y = y′} n q c i j x y = q ∙ rw (c, back {r = x′} i, back {r = y′} j, x, y, value-as a k 1 e n, value-as b l 1 f (sym t ∙ n))
+
+    pub strings : {x y : ℕ} {c : Bool} {r : ℕ} → k ≡ 2 → r ≡ cond c 1 0 → c ≡ sameText (textOf program ts x) (textOf program ts y)
+        → x ≡ handleIn a → y ≡ handleIn b → r ≡ verdict (equality program (raw ts ws) (unpacked a) (unpacked b))
+    unfolding verdict equality valueAs if_then_else_
+    strings n q c x y = q ∙ rw (c, x, y, value-as a k 2 e n, value-as b l 2 f (sym t ∙ n))
+
+    pub truths : {r : ℕ} → k ≡ 3 → r ≡ cond (eqb (a / 8 % 2) (b / 8 % 2)) 1 0 → r ≡ verdict (equality program (raw ts ws) (unpacked a) (unpacked b))
+    unfolding verdict equality valueAs if_then_else_
+    truths n q = q ∙ rw (same-truth (a / 8 % 2) (b / 8 % 2) (omega arith) (omega arith), value-as a k 3 e n, value-as b l 3 f (sym t ∙ n))
+
+    pub nothings : k ≡ 4 → 1 ≡ verdict (equality program (raw ts ws) (unpacked a) (unpacked b))
+    unfolding verdict equality valueAs if_then_else_
+    nothings n = rw (value-as a k 4 e n, value-as b l 4 f (sym t ∙ n))
+
+    pub shapes : {i j : ℕ} {c : Bool} {r : ℕ} → k ≡ 6 → r ≡ cond c 1 0 → c ≡ sameFigure program ts (figureAt ws i) (figureAt ws j)
+        → i ≡ numberIn a → j ≡ numberIn b → r ≡ verdict (equality program (raw ts ws) (unpacked a) (unpacked b))
+    unfolding verdict equality valueAs if_then_else_
+    shapes n q c i j = q ∙ rw (c, i, j, value-as a k 6 e n, value-as b l 6 f (sym t ∙ n))
+
+    pub uncompared : (k ≡ 1 → ⊥) → (k ≡ 2 → ⊥) → (k ≡ 3 → ⊥) → (k ≡ 4 → ⊥) → (k ≡ 6 → ⊥) → 2 ≡ verdict (equality program (raw ts ws) (unpacked a) (unpacked b))
+    uncompared u v w x y = no-comparison program (raw ts ws) (unpacked a) (unpacked b) (sym e ∙ t ∙ f) (rw e at u) (rw e at v) (rw e at w) (rw e at x) (rw e at y)
+
+-- ---- the answers
+module _ (p : ℕ) (s : Raw) where
+  uncompared-is : (f : Bool → Bool) (o : Option Bool) → verdict o ≡ 2 → answered p f o s ≡ stop 20 p s
+  unfolding verdict answered fail
+  uncompared-is f none h = refl
+  uncompared-is f (some true) h = absurd (omega arith)
+  uncompared-is f (some false) h = absurd (omega arith)
+
+  same-is : (o : Option Bool) → (verdict o ≡ 2 → ⊥) → answered p (λ b. b) o s ≡ done (Boolean (eqb (verdict o) 1)) s
+  unfolding verdict answered give
+  same-is none h = absurd (h refl)
+  same-is (some true) h = refl
+  same-is (some false) h = refl
+
+  other-is : (o : Option Bool) → (verdict o ≡ 2 → ⊥) → answered p not o s ≡ done (Boolean (eqb (verdict o) 0)) s
+  unfolding verdict answered give
+  other-is none h = absurd (h refl)
+  other-is (some true) h = refl
+  other-is (some false) h = refl
+
+module _ {program ts ws : List ℕ} {p a b : ℕ} (k : ℕ) (e : k ≡ verdict (equality program (raw ts ws) (unpacked a) (unpacked b))) where
+  pub equal-refused : k ≡ 2 → Compares program ts ws 24 p a b (Bad 20 p)
+  unfolding operateOn if_then_else_ equated shown
+  equal-refused h = record { equal = λ grants. sym (uncompared-is p (raw ts ws) (λ b. b) (equality program (raw ts ws) (unpacked a) (unpacked b)) (sym e ∙ h)) }
+
+  pub equal-answered : (k ≡ 2 → ⊥) → Compares program ts ws 24 p a b (Good (Boolean (eqb k 1)))
+  unfolding operateOn if_then_else_ equated shown
+  equal-answered h = record { equal = λ grants. sym (rw e (same-is p (raw ts ws) (equality program (raw ts ws) (unpacked a) (unpacked b)) (rw e at h))) }
+
+  pub unequal-refused : k ≡ 2 → Compares program ts ws 25 p a b (Bad 20 p)
+  unfolding operateOn if_then_else_ equated shown
+  unequal-refused h = record { equal = λ grants. sym (uncompared-is p (raw ts ws) not (equality program (raw ts ws) (unpacked a) (unpacked b)) (sym e ∙ h)) }
+
+  pub unequal-answered : (k ≡ 2 → ⊥) → Compares program ts ws 25 p a b (Good (Boolean (eqb k 0)))
+  unfolding operateOn if_then_else_ equated shown
+  unequal-answered h = record { equal = λ grants. sym (rw e (other-is p (raw ts ws) (equality program (raw ts ws) (unpacked a) (unpacked b)) (rw e at h))) }

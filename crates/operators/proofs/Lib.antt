@@ -1,0 +1,6 @@
+pub mod Held
+pub mod KindLaws
+mod IntegerLaws
+mod FigureLaws
+mod EqualityLaws
+pub mod OperateLaws

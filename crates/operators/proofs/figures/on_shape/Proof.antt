@@ -1,0 +1,37 @@
+use borrow.Author.Needs.{needs}
+use Rattle.operators.proofs.FigureLaws.{refuses, draws}
+use Rattle.operators.proofs.figures.on_shape.Statement.{statement}
+use Rattle.operators.proofs.figures.on_shape.Tie as tie
+
+refusal-requires : tie.Need-refusal-requires
+refusal-requires c κs = search needs
+
+returns : tie.Need-returns
+returns c = search refuses
+
+figure-at-requires : tie.Need-figure-at-requires
+figure-at-requires c κs = search needs
+
+changed-requires : tie.Need-changed-requires
+changed-requires c κs = cc
+
+new-shape-requires : tie.Need-new-shape-requires
+new-shape-requires c κs = search needs
+
+same-length : tie.Need-same-length
+same-length c = search needs
+
+returns-2 : tie.Need-returns-2
+returns-2 c = search draws
+
+pub on-shape-spec : {M : Type 1} → statement M
+on-shape-spec =
+    tie.close
+    (tie.spec
+    refusal-requires
+    returns
+    figure-at-requires
+    changed-requires
+    new-shape-requires
+    same-length
+    returns-2)

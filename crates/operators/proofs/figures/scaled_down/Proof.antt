@@ -1,0 +1,33 @@
+use borrow.Author.Needs.{needs}
+use Rattle.operators.proofs.FigureLaws.{scaled-down-is}
+use Rattle.operators.proofs.figures.scaled_down.Statement.{statement}
+use Rattle.operators.proofs.figures.scaled_down.Tie as tie
+
+quotient-requires : tie.Need-quotient-requires
+quotient-requires c κs = search needs
+
+quotient-requires-2 : tie.Need-quotient-requires-2
+quotient-requires-2 c κs = search needs
+
+quotient-requires-3 : tie.Need-quotient-requires-3
+quotient-requires-3 c κs = search needs
+
+quotient-requires-4 : tie.Need-quotient-requires-4
+quotient-requires-4 c κs = search needs
+
+placed-requires : tie.Need-placed-requires
+placed-requires c κs = search needs
+
+returns : tie.Need-returns
+returns c = search scaled-down-is
+
+pub scaled-down-spec : {M : Type 1} → statement M
+scaled-down-spec =
+    tie.close
+    (tie.spec
+    quotient-requires
+    quotient-requires-2
+    quotient-requires-3
+    quotient-requires-4
+    placed-requires
+    returns)

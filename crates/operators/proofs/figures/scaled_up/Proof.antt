@@ -1,0 +1,33 @@
+use borrow.Author.Needs.{needs}
+use Rattle.operators.proofs.FigureLaws.{scaled-up-is}
+use Rattle.operators.proofs.figures.scaled_up.Statement.{statement}
+use Rattle.operators.proofs.figures.scaled_up.Tie as tie
+
+product-requires : tie.Need-product-requires
+product-requires c κs = search needs
+
+product-requires-2 : tie.Need-product-requires-2
+product-requires-2 c κs = search needs
+
+product-requires-3 : tie.Need-product-requires-3
+product-requires-3 c κs = search needs
+
+product-requires-4 : tie.Need-product-requires-4
+product-requires-4 c κs = search needs
+
+placed-requires : tie.Need-placed-requires
+placed-requires c κs = search needs
+
+returns : tie.Need-returns
+returns c = search scaled-up-is
+
+pub scaled-up-spec : {M : Type 1} → statement M
+scaled-up-spec =
+    tie.close
+    (tie.spec
+    product-requires
+    product-requires-2
+    product-requires-3
+    product-requires-4
+    placed-requires
+    returns)

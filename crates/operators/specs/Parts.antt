@@ -1,0 +1,113 @@
+-- What the parts of the code for operators answer.
+use Prim.Native.Nat.{ℕ}
+use mathlib.Core.Path.{_≡_}
+use mathlib.Core.Bool.{Bool, cond, _&&_}
+use mathlib.Core.List.{List}
+use mathlib.Core.Option.{Option, none, some}
+use lib.IntN.{ℤ}
+use lib.Dec.{eqb}
+use Rattle.meaning.specs.Basics.{if_then_else_}
+use Rattle.meaning.specs.Integer.{isZero, sameInteger}
+use Rattle.values.specs.declared.Value.{Value}
+use Rattle.values.specs.declared.Value.the-variants.{Integer, Text, Boolean, Nothing, Table, Shape}
+use Rattle.values.specs.declared.Answer.{Answer}
+use Rattle.values.specs.Words.{kindIn, unpacked}
+use Rattle.stores.specs.declared.Figure.{Figure}
+use Rattle.stores.specs.Act.{raw, shown}
+use Rattle.operators.specs.Operate.{plusX, plusY, minusX, minusY, scaledUp, scaledDown, operateOn, operate}
+
+-- ---- two integers: the slices are neither read nor changed
+pub record Computes (tag p : ℕ) (v w : Value) (answer : Answer) : Type 0 where
+  pub equal : (program grants ts ws : List ℕ) → shown answer ts ws ≡ operateOn program grants tag p v w (raw ts ws)
+
+-- ---- a shape and an integer: the texts are neither read nor changed
+pub record Draws (grants before : List ℕ) (tag p : ℕ) (v w : Value) (answer : Answer) (after : List ℕ) : Type 0 where
+  pub equal : (program ts : List ℕ) → shown answer ts after ≡ operateOn program grants tag p v w (raw ts before)
+
+-- why an operator makes no shape of a shape and n: 20, or 70 where it divides and n is 0; 0 if it makes one
+unfoldable pub refusal : ℕ → ℤ → ℕ
+refusal tag n =
+    if eqb tag 17 then (λ _. 0)
+    else λ _. if eqb tag 18 then (λ _. 0)
+    else λ _. if eqb tag 19 then (λ _. 0)
+    else λ _. if eqb tag 20 then (λ _. cond (isZero n) 70 0)
+    else λ _. if eqb tag 22 then (λ _. 0)
+    else λ _. if eqb tag 23 then (λ _. 0)
+    else λ _. 20
+
+-- the figure that it makes
+unfoldable pub changed : ℕ → Figure → ℤ → Figure
+changed tag s n =
+    if eqb tag 17 then (λ _. plusY s n)
+    else λ _. if eqb tag 18 then (λ _. minusY s n)
+    else λ _. if eqb tag 19 then (λ _. scaledUp s n)
+    else λ _. if eqb tag 20 then (λ _. scaledDown s n)
+    else λ _. if eqb tag 22 then (λ _. plusX s n)
+    else λ _. minusX s n
+
+-- a figure's first point, and its second if it is a line, in their new places
+unfoldable pub placed : Figure → ℤ → ℤ → ℤ → ℤ → Figure
+placed s x y z w = record {
+  kind = s .kind;
+  a = x;
+  b = y;
+  c = cond (eqb (s .kind) 0) z (s .c);
+  d = cond (eqb (s .kind) 0) w (s .d);
+  text = s .text;
+}
+
+-- ---- other values
+-- whether both words are integers
+unfoldable pub bothIntegers : ℕ → ℕ → Bool
+bothIntegers a b = eqb (kindIn a) 1 && eqb (kindIn b) 1
+
+abbrev pub NotBoth : ℕ → ℕ → Type 0
+NotBoth a b = kindIn a ≡ 1 → kindIn b ≡ 1 → ⊥
+
+-- an operator that is no concatenation and no equality, on two values that are not both integers
+pub record Other (tag a b : ℕ) : Type 0 where
+  pub joins : tag ≡ 16 → ⊥
+  pub equals : tag ≡ 24 → ⊥
+  pub differs : tag ≡ 25 → ⊥
+  pub mixed : NotBoth a b
+
+pub record Calculates (grants before : List ℕ) (tag p a b : ℕ) (answer : Answer) (after : List ℕ) : Type 0 where
+  pub equal : Other tag a b → Draws grants before tag p (unpacked a) (unpacked b) answer after
+
+-- ---- equality
+-- two numbers of a figure, and all four
+unfoldable pub samePair : ℤ → ℤ → ℤ → ℤ → Bool
+samePair x y z w = sameInteger x z && sameInteger y w
+
+unfoldable pub sameNumbers : Figure → Figure → Bool
+sameNumbers s t = samePair (s .a) (s .b) (t .a) (t .b) && samePair (s .c) (s .d) (t .c) (t .d)
+
+-- a kind's number: every word that is of no other kind holds nothing
+unfoldable pub kindNumber : Value → ℕ
+kindNumber (Integer z) = 1
+kindNumber (Text h) = 2
+kindNumber (Boolean b) = 3
+kindNumber Nothing = 4
+kindNumber (Table t) = 5
+kindNumber (Shape i) = 6
+
+-- 0 unequal, 1 equal, 2 not to be compared
+unfoldable pub verdict : Option Bool → ℕ
+verdict none = 2
+verdict (some b) = cond b 1 0
+
+-- of two kinds
+abbrev pub unlike : ℕ → ℕ → ℕ
+unlike k l = cond (eqb k 4) 0 (cond (eqb l 4) 0 2)
+
+-- the slices are not changed
+pub record Compares (program ts ws : List ℕ) (tag p a b : ℕ) (answer : Answer) : Type 0 where
+  pub equal : (grants : List ℕ) → shown answer ts ws ≡ operateOn program grants tag p (unpacked a) (unpacked b) (raw ts ws)
+
+-- ---- any values that are not both integers
+-- neither of them a destroyed shape
+pub record Mixes (program grants ts ws : List ℕ) (tag p a b : ℕ) (answer : Answer) (ts′ ws′ : List ℕ) : Type 0 where
+  pub equal : NotBoth a b → shown answer ts′ ws′ ≡ operateOn program grants tag p (unpacked a) (unpacked b) (raw ts ws)
+
+pub record Operates (program grants ts ws : List ℕ) (tag p a b : ℕ) (answer : Answer) (ts′ ws′ : List ℕ) : Type 0 where
+  pub equal : NotBoth a b → shown answer ts′ ws′ ≡ operate program grants tag p (unpacked a) (unpacked b) (raw ts ws)

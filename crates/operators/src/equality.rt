@@ -1,0 +1,144 @@
+// Equality of values.
+use stores::Figure;
+use values::Answer;
+use values::Value;
+ghost use mathlib.Core.Path.{_≡_};
+ghost use mathlib.Core.Bool.{cond};
+ghost use Rattle.values.specs.Words.{unpacked};
+ghost use Rattle.stores.specs.Act.{raw};
+ghost use Rattle.stores.specs.Shapes.{figureAt};
+ghost use Rattle.operators.specs.Operate.{sameFigure, equality};
+ghost use Rattle.operators.specs.Parts.{samePair, sameNumbers, kindNumber, verdict, unlike, Compares};
+
+// A value's kind; a word of no other kind holds nothing.
+fn kind(w: u64) -> u64
+    ensures { λ r. ⌜ r ≡ kindNumber (unpacked w) ⌝ }
+{
+    match w % 8 {
+        1 => 1,
+        2 => 2,
+        3 => 3,
+        5 => 5,
+        6 => 6,
+        _ => 4,
+    }
+}
+
+// 1 if so, else 0.
+fn number(b: bool) -> u64
+    ensures { λ r. ⌜ r ≡ cond b 1 0 ⌝ }
+{
+    if b { 1 } else { 0 }
+}
+
+fn same_pair(x: i32, y: i32, z: i32, w: i32) -> bool
+    ensures { λ r. ⌜ r ≡ samePair x y z w ⌝ }
+{
+    if !arithmetic::same(x, z) {
+        return false;
+    }
+    arithmetic::same(y, w)
+}
+
+fn same_numbers(f: Figure, g: Figure) -> bool
+    ensures { λ r. ⌜ r ≡ sameNumbers f g ⌝ }
+{
+    if !same_pair(f.a, f.b, g.a, g.b) {
+        return false;
+    }
+    same_pair(f.c, f.d, g.c, g.d)
+}
+
+fn same_figure<'a>(program: &'a [u8], texts: &'a [u8], f: Figure, g: Figure) -> bool
+    ensures { λ r. ⌜ r ≡ sameFigure (now (program .entry)) (now (texts .entry)) f g ⌝ }
+{
+    if f.kind != g.kind {
+        return false;
+    }
+    if !same_numbers(f, g) {
+        return false;
+    }
+    texts::same_text(program, texts, f.text, g.text)
+}
+
+fn same_shape<'a>(program: &'a [u8], texts: &'a [u8], words: &[u64], i: u32, j: u32) -> bool
+    ensures { λ r. ⌜ r ≡ sameFigure (now (program .entry)) (now (texts .entry)) (figureAt (now (words .entry)) i) (figureAt (now (words .entry)) j) ⌝ }
+{
+    let f = stores::shapes::figure_at(words, i);
+    let g = stores::shapes::figure_at(words, j);
+    same_figure(program, texts, f, g)
+}
+
+// Of values of two kinds: nothing and any other value are unequal.
+fn unlike(k: u64, l: u64) -> u64
+    ensures { λ r. ⌜ r ≡ unlike k l ⌝ }
+{
+    if k == 4 {
+        return 0;
+    }
+    if l == 4 {
+        return 0;
+    }
+    2
+}
+
+// Whether two values are equal: 0 no, 1 yes, 2 if they may not be compared.
+fn equality<'a>(program: &'a [u8], texts: &'a [u8], words: &[u64], a: u64, b: u64) -> u64
+    ensures { λ r. ⌜ r ≡ verdict (equality (now (program .entry)) (raw (now (texts .entry)) (now (words .entry))) (unpacked a) (unpacked b)) ⌝ }
+{
+    let k = kind(a);
+    let l = kind(b);
+    if k != l {
+        return unlike(k, l);
+    }
+    match k {
+        1 => number(arithmetic::same(values::integer_of(a), values::integer_of(b))),
+        2 => number(texts::same_text(program, texts, values::handle_of(a), values::handle_of(b))),
+        3 => number(a / 8 % 2 == b / 8 % 2),
+        4 => 1,
+        6 => number(same_shape(
+            program,
+            texts,
+            words,
+            values::number_of(a),
+            values::number_of(b),
+        )),
+        _ => 2,
+    }
+}
+
+// a == b.
+pub fn equal<'a>(
+    program: &'a [u8],
+    texts: &'a [u8],
+    words: &[u64],
+    p: u64,
+    a: u64,
+    b: u64,
+) -> Answer
+    ensures { λ r. ⌜ Compares (now (program .entry)) (now (texts .entry)) (now (words .entry)) 24 p a b r ⌝ }
+{
+    let found = equality(program, texts, words, a, b);
+    if found == 2 {
+        return Answer::Bad(20, p);
+    }
+    Answer::Good(Value::Boolean(found == 1))
+}
+
+// a != b.
+pub fn unequal<'a>(
+    program: &'a [u8],
+    texts: &'a [u8],
+    words: &[u64],
+    p: u64,
+    a: u64,
+    b: u64,
+) -> Answer
+    ensures { λ r. ⌜ Compares (now (program .entry)) (now (texts .entry)) (now (words .entry)) 25 p a b r ⌝ }
+{
+    let found = equality(program, texts, words, a, b);
+    if found == 2 {
+        return Answer::Bad(20, p);
+    }
+    Answer::Good(Value::Boolean(found == 0))
+}
