@@ -34,7 +34,7 @@ Leads (Integer z) ws = Unit {0}
 Leads (Text h) ws = HeldIn ws (h % 2 ^ 40)
 Leads (Boolean b) ws = Unit {0}
 Leads Nothing ws = Unit {0}
-Leads (Table t) ws = Unit {0}
+Leads (Table t) ws = t < 2 ^ 32
 Leads (Shape i) ws = i < getD ws shapesUsed 0
 
 pub leads-sound : (v : Value) (ws : List ℕ) → SoundValue v ws → Leads v ws
@@ -43,7 +43,7 @@ leads-sound (Integer z) ws s = tt
 leads-sound (Text h) ws s = held-low _ h s
 leads-sound (Boolean b) ws s = tt
 leads-sound Nothing ws s = tt
-leads-sound (Table t) ws s = tt
+leads-sound (Table t) ws s = s
 leads-sound (Shape i) ws s = s
 
 pub leads-grows : (v : Value) {ws ws′ : List ℕ} → Grows ws ws′ → Leads v ws → Leads v ws′
@@ -52,7 +52,7 @@ leads-grows (Integer z) g s = tt
 leads-grows (Text h) g s = held-more (g .texts) s
 leads-grows (Boolean b) g s = tt
 leads-grows Nothing g s = tt
-leads-grows (Table t) g s = tt
+leads-grows (Table t) g s = s
 leads-grows (Shape i) g s = omega (arith, g .shapes)
 
 pub leads-packed : (v : Value) (ws : List ℕ) → Leads v ws → SoundIn ws (packed v)

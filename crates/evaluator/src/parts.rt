@@ -46,7 +46,7 @@ pub fn index_of(w: u64) -> usize
 pub fn number(w: u64) -> Answer
     ensures { λ r. ⌜ r ≡ Good (Integer (toZ w32 (numberIn w))) ⌝ }
 {
-    Answer::Good(Value::Integer(values::signed_of((w / 4294967296) as u32)))
+    Answer::Good(Value::Integer(arithmetic::signed_of((w / 4294967296) as u32)))
 }
 
 pub fn string(w: u64) -> Answer

@@ -1,9 +1,0 @@
-// Executing statements.
-use values::Value;
-
-// How a statement ends: the next one follows, the procedure returns, or a number and its place.
-pub enum Flow {
-    Onward,
-    Returned(Value),
-    Stopped(u64, u64),
-}
