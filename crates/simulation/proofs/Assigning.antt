@@ -1,0 +1,85 @@
+-- Assignments: a shape is copied, anything else is put as it is.
+use Prim.Native.Nat.{ℕ, zero, suc, _+_, _%_, _≤_, _<_}
+use native.Mathlib.Omega.{arith}
+use mathlib.Core.Path.{_≡_, refl, ap, ap₂, sym, _∙_, subst}
+use mathlib.Core.Logic.{_≢_}
+use mathlib.Core.Bool.{Bool, true, false, not}
+use mathlib.Core.List.{List, []}
+use mathlib.Core.Option.{Option, some}
+use mathlib.Core.Option as Option
+use lib.ListN.{getD, length, set}
+use lib.Dec.{eqb}
+use borrow.Author.Tests.{eqb-true, eqb-false}
+use Rattle.meaning.specs.Token.{Token, aName}
+use Rattle.meaning.specs.Value as Value
+use Rattle.meaning.specs.State.{State, figureOf, valueIn, isSome, assigned, withVariables}
+use Rattle.meaning.specs.Run as Run
+use Rattle.meaning.specs.Book.{Amounts}
+use Rattle.meaning.specs.Execute as Execute
+use Rattle.code.specs.Code.{slotOf}
+use Rattle.reader.proofs.Homes.{Occurs}
+use Rattle.values.specs.declared.Value.{Value}
+use Rattle.values.specs.declared.Value.the-variants.{Integer, Text, Boolean, Nothing, Table, Shape}
+use Rattle.values.specs.Words.{kindIn, packed, unpacked}
+use Rattle.stores.specs.Layout.{valuePlace}
+use Rattle.stores.specs.Act.{Raw, raw}
+use Rattle.stores.specs.Act as Act
+use Rattle.stores.specs.Shapes.{figureAt}
+use Rattle.stores.specs.Variables.{setVariable}
+use Rattle.operators.specs.Operate.{Setting}
+use Rattle.executor.specs.declared.Flow.the-variants.{Onward}
+use Rattle.executor.specs.Execute.{copied, assigning}
+use Rattle.simulation.specs.Meant.{meantValue, meantWord}
+use Rattle.simulation.specs.Sound.{Valid}
+use Rattle.simulation.specs.Follows.{Grants, Related, Follows}
+use Rattle.simulation.proofs.Binding.{bind}
+use Rattle.simulation.proofs.Results.{given, failed, After, AfterValue, unmoved, onward, steps-told}
+use Rattle.simulation.proofs.Usable.{figure-found}
+use Rattle.simulation.proofs.Shapes.{AfterShape, makes-shape}
+use Rattle.simulation.proofs.Variables.{undeclared, is-declared}
+use Rattle.simulation.proofs.Keys.{kind-packed, back-again}
+use Rattle.simulation.proofs.Flows.{both-onward, AfterFlow, Flows}
+use Rattle.simulation.proofs.Declaring.{put-after}
+
+module _ (e : Setting) {ts : List Token} {granted : Amounts} (gr : Grants (e .grants) granted) {r : Raw} {s : State} {total : Amounts}
+    (h : Related (e .program) ts (e .grants) r s total) (p : ℕ) where
+  copies : (v : Value) → Valid (e .program) (r .words) v
+      → Follows granted total (λ w u r′ s′ total′. AfterShape (e .program) ts (e .grants) r s w u r′ s′ total′) (copied e p v r) (Execute.copied p (meantValue (e .program) (r .texts) v) s)
+  unfolding copied Execute.copied meantValue Valid Act.give Run.give Run._>>=_ Run.goOn Run.current
+  copies (Integer z) l = given (record { value = record { after = unmoved h; valid = l; means = refl }; variables = refl })
+  copies (Text t) l = given (record { value = record { after = unmoved h; valid = l; means = refl }; variables = refl })
+  copies (Boolean b) l = given (record { value = record { after = unmoved h; valid = tt; means = refl }; variables = refl })
+  copies Nothing l = given (record { value = record { after = unmoved h; valid = tt; means = refl }; variables = refl })
+  copies (Table t) l = given (record { value = record { after = unmoved h; valid = l; means = refl }; variables = refl })
+  copies (Shape i) l = makes-shape gr h (figureAt (r .words) i) (figureOf s i) (h .sound .shapes .proper i l) (figure-found h i l) p
+
+-- no value is packed as 0
+packed-some : {program : List ℕ} {ts : List Token} {g : List ℕ} {r : Raw} {s : State} {total : Amounts} (h : Related program ts g r s total) (v : Value) → packed v ≢ 0
+packed-some h v q = let k = kind-packed (h .sound) v in omega (arith, rw q at k)
+
+module _ (e : Setting) {ts : List Token} (few : length ts ≤ 8192) {granted : Amounts} (gr : Grants (e .grants) granted) (x : List ℕ) (o : Occurs ts aName x) where
+  -- a value put into a declared variable
+  puts : {r₀ r : Raw} {s : State} {total : Amounts} (w : Value.Value) {v : Value} {u : Value.Value} → AfterValue (e .program) ts (e .grants) r₀ v u r s total
+      → valueIn (s .variables) x ≡ some w
+      → After (e .program) ts (e .grants) r₀ (raw (r .texts) (set (r .words) (valuePlace (slotOf ts x)) (packed v))) (withVariables s (assigned (s .variables) x u)) total
+  puts {r = r} {s = s} {total = total} w {v} {u} a d =
+      let h = a .after .related in
+      let back = back-again (h .sound) v (a .valid) in
+      let there : getD (r .words) (valuePlace (slotOf ts x)) 0 ≢ 0 = λ z. let n : some w ≡ Option.none = sym d ∙ undeclared few h x o z in let y : _≡_ {A = ℕ} 0 1 = cc in omega arith in
+      let m : meantWord (e .program) r (packed v) ≡ u = rw back (sym (a .means)) in
+      onward (a .after) (subst (λ (y : Value.Value). After (e .program) ts (e .grants) r (raw (r .texts) (set (r .words) (valuePlace (slotOf ts x)) (packed v))) (withVariables s (assigned (s .variables) x y)) total) m
+      (put-after few h x o (packed v) there (packed-some h v) (rw back (a .valid))))
+
+  pub assigns : (p : ℕ) {r : Raw} {s : State} {total : Amounts} (h : Related (e .program) ts (e .grants) r s total) (v : Value) → Valid (e .program) (r .words) v
+      → Follows granted total (Flows (e .program) ts (e .grants) r) (assigning e p (slotOf ts x) v r) (Execute.assigning p x (meantValue (e .program) (r .texts) v) s)
+  unfolding assigning Execute.assigning setVariable isSome Act._>>=_ Act.goOn Act.load Act.store Act.refuse Act.fail Act.give Run._>>=_ Run.goOn Run.current Run.refuse Run.fail Run.become Run.give
+  assigns p {r} {s} {total} h v l = go (eqb (getD (r .words) (valuePlace (slotOf ts x)) 0) 0) refl
+    where
+      go : (b : Bool) → eqb (getD (r .words) (valuePlace (slotOf ts x)) 0) 0 ≡ b
+          → Follows granted total (Flows (e .program) ts (e .grants) r) (assigning e p (slotOf ts x) v r) (Execute.assigning p x (meantValue (e .program) (r .texts) v) s)
+      go true q = rw (q, undeclared few h x o (eqb-true _ _ q)) (failed 50 p r (steps-told h))
+      go false q =
+          let d = is-declared few h x o (eqb-false _ _ q) in
+          rw (q, d)
+          (bind (copies e gr h p v l) (λ w u r′ s′ total′ c.
+          given (record { after = puts (meantWord (e .program) r (getD (r .words) (valuePlace (slotOf ts x)) 0)) (c .value) (rw (c .variables) d); flow = both-onward })))

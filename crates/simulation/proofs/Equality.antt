@@ -1,0 +1,148 @@
+-- Values and figures are compared as the meaning compares them.
+use Prim.Native.Nat.{ℕ, zero, suc, _+_, _*_, _/_, _%_, _^_, _≤_, _<_}
+use native.Mathlib.Omega.{arith}
+use mathlib.Core.Path.{_≡_, refl, ap, ap₂, sym, _∙_}
+use mathlib.Core.Logic.{_≢_}
+use mathlib.Core.Bool.{Bool, true, false, not, cond, _&&_}
+use mathlib.Core.List.{List, [], _∷_}
+use mathlib.Core.Option.{Option, some}
+use mathlib.Core.Option as Option
+use lib.ListN.{getD, length}
+use lib.Dec.{eqb}
+use lib.IntN.{ℤ, pos}
+use borrow.Author.Tests.{eqb-true, eqb-false, eq-eqb, ne-eqb}
+use Rattle.meaning.specs.Basics.{if_then_else_, sameText}
+use Rattle.meaning.specs.Token.{Token}
+use Rattle.meaning.specs.Integer.{sameInteger, sameIntegers}
+use Rattle.meaning.specs.Figure.{line, ellipse, box, text, figureKind, numbersOf}
+use Rattle.meaning.specs.Figure as Meaning
+use Rattle.meaning.specs.Value.{integer, string, boolean, none, table, shape, kindOf}
+use Rattle.meaning.specs.State.{State, figureKey, keyOf, sameKey}
+use Rattle.meaning.specs.State as State
+use Rattle.meaning.specs.Book.{Amounts}
+use Rattle.meaning.specs.Operator as Operator
+use Rattle.meaning.proofs.KeyLaws.{sameText-same, sameInteger-same}
+use Rattle.values.specs.declared.Value.{Value}
+use Rattle.values.specs.declared.Value.the-variants.{Integer, Text, Boolean, Nothing, Table, Shape}
+use Rattle.stores.specs.Act.{Raw}
+use Rattle.stores.specs.Texts.{textOf}
+use Rattle.stores.specs.declared.Figure.{Figure}
+use Rattle.stores.specs.Shapes.{figureAt}
+use Rattle.operators.specs.Operate.{sameFigure, equality}
+use Rattle.simulation.specs.Meant.{meantValue, meantFigure}
+use Rattle.simulation.specs.Sound.{Valid, Proper}
+use Rattle.simulation.specs.Follows.{Related}
+use Rattle.simulation.proofs.Usable.{figure-found}
+use Rattle.simulation.proofs.Figures.{kinds, as-line, as-ellipse, as-box, as-text}
+
+-- ---- truths
+pub and-true : (a : Bool) → (a && true) ≡ a
+and-true true = refl
+and-true false = refl
+
+pub and-false : (a : Bool) → (a && false) ≡ false
+and-false true = refl
+and-false false = refl
+
+pub and-assoc : (a b c : Bool) → ((a && b) && c) ≡ (a && (b && c))
+and-assoc true b c = refl
+and-assoc false b c = refl
+
+four : (a b c d : Bool) (t u : List ℕ) → t ≡ u → (a && b && c && d && sameText t u) ≡ ((a && (b && (c && (d && true)))) && true)
+four true true true true t u e = rw (← e) (sameText-same t)
+four true true true false t u e = refl
+four true true false d t u e = refl
+four true false c d t u e = refl
+four false b c d t u e = refl
+
+two : (a b : Bool) (c d : ℤ) (t : Bool) → c ≡ d → (a && b && sameInteger c d && sameInteger c d && t) ≡ ((a && (b && true)) && t)
+two true true c d t e = rw (← e, sameInteger-same c)
+two true false c d t e = refl
+two false b c d t e = refl
+
+-- ---- figures
+module _ (program texts : List ℕ) where
+  pub kind-meant : (f : Figure) → f .kind < 4 → figureKind (meantFigure program texts f) ≡ f .kind
+  unfolding figureKind
+  kind-meant f l = kinds (f .kind) l
+      (λ e. rw (as-line program texts f e, e)) (λ e. rw (as-ellipse program texts f e, e))
+      (λ e. rw (as-box program texts f e, e)) (λ e. rw (as-text program texts f e, e))
+
+  pub figures-compared : {used : ℕ} (f h : Figure) → Proper program used f → Proper program used h
+      → sameFigure program texts f h ≡ sameKey (figureKey (meantFigure program texts f)) (figureKey (meantFigure program texts h))
+  unfolding sameFigure sameKey figureKind numbersOf Meaning.textOf sameIntegers sameText
+  figures-compared f h v w = go (eqb (f .kind) (h .kind)) refl
+    where
+      plainly : f .kind ≢ 3 → h .kind ≢ 3 → textOf program texts (f .text) ≡ textOf program texts (h .text)
+      plainly m n = ap (textOf program texts) (v .plain m ∙ sym (w .plain n))
+
+      go : (b : Bool) → eqb (f .kind) (h .kind) ≡ b
+          → sameFigure program texts f h ≡ sameKey (figureKey (meantFigure program texts f)) (figureKey (meantFigure program texts h))
+      go false e =
+          let n : 5 + f .kind ≢ 5 + h .kind = λ q. eqb-false (f .kind) (h .kind) e (omega arith) in
+          rw (e, kind-meant f (v .kind), kind-meant h (w .kind), ne-eqb (5 + f .kind) (5 + h .kind) n)
+      go true q =
+          let e = eqb-true _ _ q in
+          kinds (f .kind) (v .kind)
+          (λ z. let y : h .kind ≡ 0 = sym e ∙ z in
+          rw (as-line program texts f z, as-line program texts h y, z, y) (four (sameInteger (f .a) (h .a)) (sameInteger (f .b) (h .b)) (sameInteger (f .c) (h .c)) (sameInteger (f .d) (h .d)) (textOf program texts (f .text)) (textOf program texts (h .text)) (plainly (λ x. omega arith) (λ x. omega arith))))
+          (λ z. let y : h .kind ≡ 1 = sym e ∙ z in
+          rw (as-ellipse program texts f z, as-ellipse program texts h y, z, y) (four (sameInteger (f .a) (h .a)) (sameInteger (f .b) (h .b)) (sameInteger (f .c) (h .c)) (sameInteger (f .d) (h .d)) (textOf program texts (f .text)) (textOf program texts (h .text)) (plainly (λ x. omega arith) (λ x. omega arith))))
+          (λ z. let y : h .kind ≡ 2 = sym e ∙ z in
+          rw (as-box program texts f z, as-box program texts h y, z, y) (four (sameInteger (f .a) (h .a)) (sameInteger (f .b) (h .b)) (sameInteger (f .c) (h .c)) (sameInteger (f .d) (h .d)) (textOf program texts (f .text)) (textOf program texts (h .text)) (plainly (λ x. omega arith) (λ x. omega arith))))
+          (λ z. let y : h .kind ≡ 3 = sym e ∙ z in
+          rw (as-text program texts f z, as-text program texts h y, z, y, v .lettered z .0, v .lettered z .1, w .lettered y .0, w .lettered y .1)
+          (two (sameInteger (f .a) (h .a)) (sameInteger (f .b) (h .b)) (pos 0) (pos 0) (sameText (textOf program texts (f .text)) (textOf program texts (h .text))) refl))
+
+-- ---- values
+whole : (a b : ℤ) → sameInteger a b ≡ ((sameInteger a b && true) && true)
+whole a b = sym (and-true (sameInteger a b && true) ∙ and-true (sameInteger a b))
+
+truths : (a b : Bool) → cond a b (not b) ≡ ((sameInteger (pos (cond a 1 0)) (pos (cond b 1 0)) && true) && true)
+unfolding sameInteger
+truths true true = refl
+truths true false = refl
+truths false true = refl
+truths false false = refl
+
+module _ {program : List ℕ} {ts : List Token} {g : List ℕ} {r : Raw} {s : State} {total : Amounts} (h : Related program ts g r s total) where
+  pub equal-alike : (v w : Value) → Valid program (r .words) v → Valid program (r .words) w
+      → equality program r v w ≡ Operator.equality s (meantValue program (r .texts) v) (meantValue program (r .texts) w)
+  unfolding equality Operator.equality meantValue Valid kindOf keyOf sameKey sameIntegers sameText if_then_else_
+  equal-alike (Integer a) (Integer b) p q = ap some (whole a b)
+  equal-alike (Integer a) (Text b) p q = refl
+  equal-alike (Integer a) (Boolean b) p q = refl
+  equal-alike (Integer a) Nothing p q = refl
+  equal-alike (Integer a) (Table b) p q = refl
+  equal-alike (Integer a) (Shape b) p q = refl
+  equal-alike (Text a) (Integer b) p q = refl
+  equal-alike (Text a) (Text b) p q = refl
+  equal-alike (Text a) (Boolean b) p q = refl
+  equal-alike (Text a) Nothing p q = refl
+  equal-alike (Text a) (Table b) p q = refl
+  equal-alike (Text a) (Shape b) p q = refl
+  equal-alike (Boolean a) (Integer b) p q = refl
+  equal-alike (Boolean a) (Text b) p q = refl
+  equal-alike (Boolean a) (Boolean b) p q = ap some (truths a b)
+  equal-alike (Boolean a) Nothing p q = refl
+  equal-alike (Boolean a) (Table b) p q = refl
+  equal-alike (Boolean a) (Shape b) p q = refl
+  equal-alike Nothing (Integer b) p q = refl
+  equal-alike Nothing (Text b) p q = refl
+  equal-alike Nothing (Boolean b) p q = refl
+  equal-alike Nothing Nothing p q = refl
+  equal-alike Nothing (Table b) p q = refl
+  equal-alike Nothing (Shape b) p q = refl
+  equal-alike (Table a) (Integer b) p q = refl
+  equal-alike (Table a) (Text b) p q = refl
+  equal-alike (Table a) (Boolean b) p q = refl
+  equal-alike (Table a) Nothing p q = refl
+  equal-alike (Table a) (Table b) p q = refl
+  equal-alike (Table a) (Shape b) p q = refl
+  equal-alike (Shape a) (Integer b) p q = refl
+  equal-alike (Shape a) (Text b) p q = refl
+  equal-alike (Shape a) (Boolean b) p q = refl
+  equal-alike (Shape a) Nothing p q = refl
+  equal-alike (Shape a) (Table b) p q = refl
+  equal-alike (Shape a) (Shape b) p q = rw (figure-found h a p, figure-found h b q)
+      (ap some (figures-compared program (r .texts) (figureAt (r .words) a) (figureAt (r .words) b) (h .sound .shapes .proper a p) (h .sound .shapes .proper b q)))

@@ -1,0 +1,356 @@
+-- Expressions: evaluating their code follows what they mean.
+use Prim.Native.Nat.{ℕ, zero, suc, _+_, _-_, _*_, _/_, _%_, _^_, _≤_, _<_}
+use native.Mathlib.Omega.{arith}
+use native.Mathlib.Nat.{le-refl}
+use mathlib.Core.Path.{_≡_, refl, ap, ap₂, sym, _∙_, subst}
+use mathlib.Core.Logic.{_≢_}
+use mathlib.Core.Bool.{Bool, true, false}
+use mathlib.Core.List.{List, [], _∷_, _++_}
+use lib.ListN.{getD, length, length-append}
+use lib.IntN.{ℤ}
+use lib.Signed.{mag}
+use lib.Dec.{eqb, ltb}
+use mir.Syntax.{w32}
+use mir.Val.{toZ}
+use borrow.Author.Tests.{ne-eqb, lt-ltb, le-ltb}
+use Rattle.meaning.specs.Basics.{if_then_else_}
+use Rattle.meaning.specs.Token.{Token, aString}
+use Rattle.meaning.specs.Integer.{bits, wrap}
+use Rattle.meaning.proofs.IntegerLaws.{wrap-range}
+use Rattle.meaning.specs.Tree.{Operator, concatenate, add, subtract, multiply, divide, remainder, shiftRight, shiftLeft, equal, unequal, greater, less, Expression, number, string, nothing, truth, name, table, entry, operation, call, paren, Arguments, noArgument, argument}
+use Rattle.meaning.specs.Value as Value
+use Rattle.meaning.specs.State.{State}
+use Rattle.meaning.specs.Run as Run
+use Rattle.meaning.specs.Book.{Amounts}
+use Rattle.meaning.specs.Library.{libraryOf}
+use Rattle.meaning.specs.Library as Library
+use Rattle.meaning.specs.Evaluate.{evaluate, evaluateAll}
+use Rattle.names.specs.Prepared.{libraryNumber}
+use Rattle.code.specs.Code.{word, tagIn, sizeIn, numberIn, tagOf, tagNumber, tagString, tagNone, tagTruth, tagName, tagTable, tagEntry, tagCall, tagArgument, slotOf, partOf, truthNumber, joined, codeOf, codeOfAll}
+use Rattle.reader.proofs.Homes.{Occurs}
+use Rattle.reader.proofs.Fields.{Told, word-told, tag-small, code-some}
+use Rattle.reader.proofs.Known.{Known, KnownAll}
+use Rattle.reader.proofs.Walk.{Stands, Ends, Joint, Argument, ends-word, ends-front, ends-start, ends-joined, stands-argument}
+use Rattle.values.specs.declared.Value.{Value}
+use Rattle.values.specs.declared.Value.the-variants.{Integer, Text, Boolean, Nothing}
+use Rattle.values.specs.Words.{packed, unpacked}
+use Rattle.stores.specs.Act.{Raw, Act, done}
+use Rattle.stores.specs.Act as Act
+use Rattle.stores.specs.Texts.{textOf}
+use Rattle.stores.specs.Variables.{variable}
+use Rattle.stores.specs.Arguments.{argumentAt, push, dropTo}
+use Rattle.stores.specs.Tables.{readEntry}
+use Rattle.operators.specs.Operate.{Setting, withInteger, withTable, operate}
+use Rattle.operators.specs.Library.{callLibrary}
+use Rattle.evaluator.specs.Evaluate.{through, sized, Evaluator, pushAll, calling, evaluateBy, evaluateAt}
+use Rattle.simulation.specs.Meant.{meantValue}
+use Rattle.simulation.specs.Sound.{Held, Valid}
+use Rattle.simulation.specs.Follows.{Grants, Related, Follows}
+use Rattle.simulation.proofs.Binding.{bind, give-after, Succeeds, act-after}
+use Rattle.simulation.proofs.Frames.{later-trans, valid-later}
+use Rattle.simulation.proofs.Results.{mapped, given, After, AfterValue, Values, unmoved, onward, still, from-here}
+use Rattle.simulation.proofs.Counting.{AfterStep, counts, stepped-on, makes-table}
+use Rattle.simulation.proofs.Arguments.{Pushed, pushedOn, pushed, pushes, dropped, drop-later, drops}
+use Rattle.simulation.proofs.Variables.{reads-variable}
+use Rattle.simulation.proofs.Operators.{operates}
+use Rattle.simulation.proofs.Keys.{back-again}
+use Rattle.simulation.proofs.Lookup.{reads-entry}
+use Rattle.simulation.proofs.Asked.{with-integer, with-table}
+use Rattle.simulation.proofs.Library.{Stacked, calls}
+use Rattle.simulation.proofs.Stacking.{AfterArguments, no-more, one-more}
+
+-- ---- words of code
+pub told : {w tag size n : ℕ} → w ≡ word tag size n → tag < 256 → size < 16777216 → Told w tag size n
+told {w} {tag} {size} {n} e a b = subst (λ v. Told v tag size n) (sym e) (word-told tag size n a b)
+
+module _ (inner : Evaluator) (e : Setting) (w x p size n : ℕ) where
+  by-number : Told w tagNumber size n → evaluateBy inner e w x p ≡ Act.give (Integer (toZ w32 n))
+  unfolding evaluateBy if_then_else_
+  by-number t = rw (t .tag-is, t .number-is)
+
+  by-string : Told w tagString size n → evaluateBy inner e w x p ≡ Act.give (Text (2 * n))
+  unfolding evaluateBy if_then_else_
+  by-string t = rw (t .tag-is, t .number-is)
+
+  by-none : Told w tagNone size n → evaluateBy inner e w x p ≡ Act.give Nothing
+  unfolding evaluateBy if_then_else_
+  by-none t = rw (t .tag-is)
+
+  by-truth : Told w tagTruth size n → evaluateBy inner e w x p ≡ Act.give (Boolean (eqb n 1))
+  unfolding evaluateBy if_then_else_
+  by-truth t = rw (t .tag-is, t .number-is)
+
+  by-name : Told w tagName size n → evaluateBy inner e w x p ≡ variable p n
+  unfolding evaluateBy if_then_else_
+  by-name t = rw (t .tag-is, t .number-is)
+
+  by-table : Told w tagTable size n → evaluateBy inner e w x p ≡ Act._>>=_ (inner (x - 1) p) (λ v. withInteger p v (sized p))
+  unfolding evaluateBy if_then_else_
+  by-table t = rw (t .tag-is)
+
+  by-entry : Told w tagEntry size n → evaluateBy inner e w x p
+      ≡ Act._>>=_ (inner (x - 1 - n) p) (λ v. withTable p v λ t. Act._>>=_ (inner (x - 1) p) (λ k. readEntry (e .program) (e .grants) p t (packed k)))
+  unfolding evaluateBy if_then_else_
+  by-entry t = rw (t .tag-is, t .number-is)
+
+  by-call : Told w tagCall size n → evaluateBy inner e w x p ≡ calling inner e w x p
+  unfolding evaluateBy if_then_else_
+  by-call t = rw (t .tag-is)
+
+  by-operator : (tag : ℕ) → 16 ≤ tag → Told w tag size n → evaluateBy inner e w x p
+      ≡ Act._>>=_ (inner (x - 1 - n) p) (λ v. Act._>>=_ (inner (x - 1) p) (λ u. operate e tag p (through v) (through u)))
+  unfolding evaluateBy if_then_else_
+  by-operator tag l t =
+      rw (t .tag-is, t .number-is, ne-eqb tag 1 (λ q. omega arith), ne-eqb tag 2 (λ q. omega arith), ne-eqb tag 3 (λ q. omega arith), ne-eqb tag 4 (λ q. omega arith))
+      (rw (ne-eqb tag 5 (λ q. omega arith), ne-eqb tag 6 (λ q. omega arith), ne-eqb tag 7 (λ q. omega arith), ne-eqb tag 8 (λ q. omega arith)))
+
+operator-tag : (o : Operator) → 16 ≤ tagOf o
+unfolding tagOf
+operator-tag concatenate = omega arith
+operator-tag add = omega arith
+operator-tag subtract = omega arith
+operator-tag multiply = omega arith
+operator-tag divide = omega arith
+operator-tag remainder = omega arith
+operator-tag shiftRight = omega arith
+operator-tag shiftLeft = omega arith
+operator-tag equal = omega arith
+operator-tag unequal = omega arith
+operator-tag greater = omega arith
+operator-tag less = omega arith
+
+truth-back : (b : Bool) → eqb (truthNumber b) 1 ≡ b
+truth-back true = refl
+truth-back false = refl
+
+-- ---- strings stand in the program
+pub record Strings (program : List ℕ) (ts : List Token) : Type 0 where
+  pub held : (t : List ℕ) → Occurs ts aString t → (used : ℕ) → Held program used (2 * partOf ts t)
+  pub text : (t : List ℕ) → Occurs ts aString t → (texts : List ℕ) → textOf program texts (2 * partOf ts t) ≡ t
+
+-- ---- arguments in code
+module _ (inner : Evaluator) (e : Setting) (rounds a x p len : ℕ) where
+  by-argument : Told (getD (e .code) a 0) tagArgument len 0 → a + len < x
+      → pushAll (suc rounds) inner e a x p ≡ Act._>>=_ (inner (a + len) p) (λ v. Act._>>_ (push (packed v) p) (pushAll rounds inner e (a + len + 1) x p))
+  unfolding pushAll if_then_else_
+  by-argument t l = rw (t .size-is, lt-ltb (a + len) x l)
+
+  by-no-argument : x ≤ a → pushAll (suc rounds) inner e a x p ≡ Act.give tt
+  unfolding pushAll if_then_else_
+  by-no-argument l = rw (le-ltb (a + sizeIn (getD (e .code) a 0)) x (omega arith))
+
+module _ (e : Setting) {ts : List Token} (few : length ts ≤ 8192) (strings : Strings (e .program) ts) {granted : Amounts} (gr : Grants (e .grants) granted) where
+  abbrev Here : Raw → State → Amounts → Type 0
+  Here r s total = Related (e .program) ts (e .grants) r s total
+
+  -- what evaluating the code whose root stands at a place comes to
+  abbrev Evaluates : Expression → ℕ → ℕ → ℕ → Type 0
+  Evaluates x depth at p = (r : Raw) (s : State) (total : Amounts) → Here r s total → getD (r .words) 6 0 + length (codeOf x ts) ≤ 8192
+      → Follows granted total (Values (e .program) ts (e .grants) r) (evaluateAt depth e at p r) (evaluate x p s)
+
+  -- ---- each kind of expression, its parts evaluated so
+  module _ (depth at p : ℕ) {r : Raw} {s : State} {total : Amounts} (h : Here r s total) where
+    -- a step, and then the root
+    begun : {m : Run.Action Value.Value}
+        → ((r₁ : Raw) (s₁ : State) (total₁ : Amounts) → AfterStep (e .program) ts (e .grants) r r₁ s₁ total₁
+        → Follows granted total₁ (Values (e .program) ts (e .grants) r) (evaluateBy (evaluateAt depth e) e (getD (e .code) at 0) at p r₁) (m s₁))
+        → Follows granted total (Values (e .program) ts (e .grants) r) (evaluateAt (suc depth) e at p r) (Run._>>_ (Run.count p) m s)
+    unfolding evaluateAt Act._>>=_ Run._>>=_
+    begun f = bind (counts gr h p) (λ _ _ r₁ s₁ total₁ a. f r₁ s₁ total₁ a)
+
+    at-once : (o : Act Value) (v : Value) (u : Value.Value) → o ≡ Act.give v
+        → evaluateBy (evaluateAt depth e) e (getD (e .code) at 0) at p ≡ o
+        → ((r₁ : Raw) → Valid (e .program) (r₁ .words) v) → ((r₁ : Raw) → u ≡ meantValue (e .program) (r₁ .texts) v)
+        → Follows granted total (Values (e .program) ts (e .grants) r) (evaluateAt (suc depth) e at p r) (Run._>>_ (Run.count p) (Run.give u) s)
+    unfolding Act.give Run.give
+    at-once o v u g q x y = begun (λ r₁ s₁ total₁ a. rw (q, g) (given (record { after = a .after; valid = x r₁; means = y r₁ })))
+
+  number-follows : (z : ℤ) → wrap z ≡ z → (depth at p : ℕ) → Ends (e .code) at (codeOf (number z) ts) → Evaluates (number z) (suc depth) at p
+  unfolding codeOf evaluate Valid meantValue wrap
+  number-follows z k depth at p en r s total h l =
+      at-once depth at p h _ (Integer z) (Value.integer z) (ap (λ y. Act.give (Integer y)) k)
+      (by-number _ e _ at p 1 (bits z) (told (ends-word [] _ en) (omega arith) (omega arith)))
+      (λ r₁. subst (λ y. mag y < 2 ^ 31) k (wrap-range z)) (λ r₁. refl)
+
+  string-follows : (t : List ℕ) → Occurs ts aString t → (depth at p : ℕ) → Ends (e .code) at (codeOf (string t) ts) → Evaluates (string t) (suc depth) at p
+  unfolding codeOf evaluate Valid meantValue
+  string-follows t k depth at p en r s total h l =
+      at-once depth at p h _ (Text (2 * partOf ts t)) (Value.string t) refl
+      (by-string _ e _ at p 1 (partOf ts t) (told (ends-word [] _ en) (omega arith) (omega arith)))
+      (λ r₁. strings .held t k _) (λ r₁. ap Value.string (sym (strings .text t k (r₁ .texts))))
+
+  none-follows : (depth at p : ℕ) → Ends (e .code) at (codeOf nothing ts) → Evaluates nothing (suc depth) at p
+  unfolding codeOf evaluate Valid meantValue
+  none-follows depth at p en r s total h l =
+      at-once depth at p h _ Nothing Value.none refl (by-none _ e _ at p 1 0 (told (ends-word [] _ en) (omega arith) (omega arith))) (λ r₁. tt) (λ r₁. refl)
+
+  truth-follows : (b : Bool) (depth at p : ℕ) → Ends (e .code) at (codeOf (truth b) ts) → Evaluates (truth b) (suc depth) at p
+  unfolding codeOf evaluate Valid meantValue
+  truth-follows b depth at p en r s total h l =
+      at-once depth at p h _ (Boolean b) (Value.boolean b) (ap (λ y. Act.give (Boolean y)) (truth-back b))
+      (by-truth _ e _ at p 1 (truthNumber b) (told (ends-word [] _ en) (omega arith) (omega arith))) (λ r₁. tt) (λ r₁. refl)
+
+  name-follows : (x : List ℕ) → Known (name x) ts → (depth at p : ℕ) → Ends (e .code) at (codeOf (name x) ts) → Evaluates (name x) (suc depth) at p
+  unfolding codeOf evaluate Known
+  name-follows x k depth at p en r s total h l =
+      begun depth at p h (λ r₁ s₁ total₁ a.
+      rw (by-name (evaluateAt depth e) e (getD (e .code) at 0) at p 1 (slotOf ts x) (told (ends-word [] _ en) (omega arith) (omega arith)))
+      (from-here (a .after) (reads-variable few (a .after .related) x k p)))
+
+  table-follows : (x : Expression) (depth at p : ℕ) → Ends (e .code) at (codeOf (table x) ts) → Evaluates x depth (at - 1) p → Evaluates (table x) (suc depth) at p
+  unfolding codeOf evaluate Act._>>=_ Run._>>=_
+  table-follows x depth at p en inner r s total h l =
+      let long = simp length-append at l in
+      begun depth at p h (λ r₁ s₁ total₁ a.
+      rw (by-table (evaluateAt depth e) e (getD (e .code) at 0) at p (length (codeOf x ts) + 1) 0
+      (told (ends-word (codeOf x ts) _ en) (omega arith) (omega arith)))
+      (bind (inner r₁ s₁ total₁ (a .after .related) (omega (arith, a .after .held))) (λ v u r₂ s₂ total₂ b.
+      rw (b .means) (with-integer (b .after .related) p v (b .valid) _ _ (λ z w. makes-table (stepped-on a (b .after)) p z)))))
+
+  entry-follows : (x y : Expression) (depth at p : ℕ) → Joint (e .code) at tagEntry (codeOf x ts) (codeOf y ts)
+      → Evaluates x depth (at - 1 - length (codeOf y ts)) p → Evaluates y depth (at - 1) p → Evaluates (entry x y) (suc depth) at p
+  unfolding codeOf evaluate Act._>>=_ Run._>>=_
+  entry-follows x y depth at p joint left right r s total h l =
+      let long = simp length-append at l in
+      begun depth at p h (λ r₁ s₁ total₁ a.
+      rw (by-entry (evaluateAt depth e) e (getD (e .code) at 0) at p _ (length (codeOf y ts)) (told (joint .root) (omega arith) (omega arith)))
+      (bind (left r₁ s₁ total₁ (a .after .related) (omega (arith, a .after .held))) (λ v u r₂ s₂ total₂ b.
+      rw (b .means) (with-table (b .after .related) p v (b .valid) _ _ (λ t w.
+      bind (right r₂ s₂ total₂ (b .after .related) (omega (arith, a .after .held, b .after .held))) (λ k q r₃ s₃ total₃ c.
+      rw (c .means) (from-here (onward (a .after) (onward (b .after) (c .after))) (reads-entry (c .after .related) t k (c .valid) p))))))))
+
+  operation-follows : (o : Operator) (x y : Expression) (depth at p : ℕ) → Joint (e .code) at (tagOf o) (codeOf x ts) (codeOf y ts)
+      → Evaluates x depth (at - 1 - length (codeOf y ts)) p → Evaluates y depth (at - 1) p → Evaluates (operation o x y) (suc depth) at p
+  unfolding codeOf evaluate Act._>>=_ Run._>>=_
+  operation-follows o x y depth at p joint left right r s total h l =
+      let long = simp length-append at l in
+      begun depth at p h (λ r₁ s₁ total₁ a.
+      rw (by-operator (evaluateAt depth e) e (getD (e .code) at 0) at p _ (length (codeOf y ts)) (tagOf o) (operator-tag o)
+      (told (joint .root) (tag-small o) (omega arith)))
+      (bind (left r₁ s₁ total₁ (a .after .related) (omega (arith, a .after .held))) (λ v u r₂ s₂ total₂ b.
+      bind (right r₂ s₂ total₂ (b .after .related) (omega (arith, a .after .held, b .after .held))) (λ w q r₃ s₃ total₃ c.
+      let b′ = still b (c .after) in
+      rw (back-again (c .after .related .sound) v (b′ .valid), back-again (c .after .related .sound) w (c .valid))
+      (from-here (onward (a .after) (onward (b .after) (c .after)))
+      (operates e gr o p (c .after .related) v w (b′ .valid) (c .valid) u q (b′ .means) (c .means)))))))
+
+  -- ---- arguments and calls
+  abbrev Pushes : Arguments → ℕ → ℕ → ℕ → ℕ → ℕ → Type 0
+  Pushes es depth rounds a x p = (r : Raw) (s : State) (total : Amounts) → Here r s total → getD (r .words) 6 0 + length (codeOfAll es ts) ≤ 8192
+      → Follows granted total (λ _ us r′ s′ total′. AfterArguments (e .program) ts (e .grants) r us r′ s′ total′)
+      (pushAll rounds (evaluateAt depth e) e a x p r) (evaluateAll es p s)
+
+  no-argument-follows : (depth rounds a p : ℕ) → Pushes noArgument depth (suc rounds) a a p
+  unfolding evaluateAll Act.give Run.give
+  no-argument-follows depth rounds a p r s total h l =
+      rw (by-no-argument (evaluateAt depth e) e rounds a a p 0 (le-refl a)) (given (no-more h))
+
+  argument-follows : (x : Expression) (es : Arguments) (depth rounds a at p : ℕ) → Argument (e .code) a (codeOf x ts) (codeOfAll es ts)
+      → a + length (codeOf x ts) < at → Evaluates x depth (a + length (codeOf x ts)) p → Pushes es depth rounds (a + length (codeOf x ts) + 1) at p
+      → Pushes (argument x es) depth (suc rounds) a at p
+  unfolding codeOfAll evaluateAll Act._>>=_ Act.goOn Run._>>=_
+  argument-follows x es depth rounds a at p here below one more r s total h l =
+      let long = simp length-append at l in
+      rw (by-argument (evaluateAt depth e) e rounds a at p (length (codeOf x ts)) (told (here .before) (omega arith) (omega arith)) below)
+      (bind (one r s total h (omega arith)) (λ v u r₁ s₁ total₁ b.
+      let room : getD (r₁ .words) 6 0 < 8192 = omega (arith, b .after .held) in
+      let q = pushed (b .after .related) room (packed v) in
+      rw (pushes (b .after .related) room (packed v) p)
+      (give-after (λ us. u ∷ us) (λ _ us r₃ s₃ total₃ c. one-more b q c)
+      (more (pushedOn (b .after .related) room (packed v)) s₁ total₁ (q .related) (omega (arith, q .held, b .after .held))))))
+
+  called : (f : List ℕ) (p : ℕ) {r₁ r₂ : Raw} {us : List Value.Value} {s₂ : State} {total₁ total₂ : Amounts} {s₁ : State} → Here r₁ s₁ total₁
+      → (c : AfterArguments (e .program) ts (e .grants) r₁ us r₂ s₂ total₂)
+      → Follows granted total₂ (Values (e .program) ts (e .grants) r₁)
+      (Act._>>=_ (callLibrary e (libraryNumber f) p (getD (r₁ .words) 6 0) (c .many)) (λ v. Act._>>_ (dropTo (getD (r₁ .words) 6 0)) (Act.give v)) r₂)
+      (Library.callLibrary (libraryOf f) p us s₂)
+  unfolding libraryNumber Act._>>=_ Act.goOn Act.give Act.store dropTo
+  called f p {r₁} {r₂} {us} h c =
+      act-after (λ v. Act._>>_ (dropTo (getD (r₁ .words) 6 0)) (Act.give v))
+      (λ v u r₃ s₃ total₃ w.
+      let l = later-trans (c .later) (w .after .later) in
+      let spare : getD (r₃ .words) 4 0 + getD (r₁ .words) 0 0 ≤ getD (r₁ .words) 4 0 + getD (r₃ .words) 0 0 = omega (arith, c .spare, w .after .spare) in
+      let low = h .sound .counted .arguments in
+      let below : (k : ℕ) → k < getD (r₁ .words) 6 0 → argumentAt (r₃ .words) k ≡ argumentAt (r₁ .words) k =
+      λ k q. w .after .arguments k (omega (arith, c .held)) ∙ c .arguments k q in
+      record {
+        result = v;
+        slices = dropped (w .after .related) l spare low below;
+        is = refl;
+        holds = record {
+          after = drops (w .after .related) l spare low below;
+          valid = valid-later (drop-later (w .after .related) l spare low below) v (w .valid);
+          means = w .means;
+        };
+      })
+      (calls e gr (libraryOf f) p (getD (r₁ .words) 6 0) (c .many) (c .related) us (c .stacked))
+
+  call-follows : (f : List ℕ) (es : Arguments) (depth at p : ℕ) → Ends (e .code) at (codeOf (call f es) ts)
+      → Pushes es depth (suc at) (at + 1 - (length (codeOfAll es ts) + 1)) at p → Evaluates (call f es) (suc depth) at p
+  unfolding codeOf evaluate calling Act._>>=_ Act.goOn Act.load Run._>>=_
+  call-follows f es depth at p en all r s total h l =
+      let long = simp length-append at l in
+      let t = told (ends-word (codeOfAll es ts) _ en) (omega arith) (omega arith) in
+      begun depth at p h (λ r₁ s₁ total₁ a.
+      from-here (a .after)
+      (rw (by-call (evaluateAt depth e) e (getD (e .code) at 0) at p _ _ t, t .size-is, t .number-is)
+      (bind (all r₁ s₁ total₁ (a .after .related) (omega (arith, a .after .held))) (λ _ us r₂ s₂ total₂ c.
+      let n : getD (r₂ .words) 6 0 - getD (r₁ .words) 6 0 ≡ c .many = omega (arith, c .held) in
+      rw n (called f p (a .after .related) c)))))
+
+  -- ---- all expressions
+  deeper : (x : Expression) (depth at p : ℕ) → length (codeOf x ts) ≤ depth → Evaluates x (suc (depth - 1)) at p → Evaluates x depth at p
+  deeper x depth at p l f =
+      let z : suc (depth - 1) ≡ depth = omega (arith, code-some x ts) in
+      subst (λ d. Evaluates x d at p) z f
+
+  longer : (es : Arguments) (depth rounds a at p : ℕ) → length (codeOfAll es ts) < rounds → Pushes es depth (suc (rounds - 1)) a at p → Pushes es depth rounds a at p
+  longer es depth rounds a at p l f =
+      let z : suc (rounds - 1) ≡ rounds = omega arith in
+      subst (λ d. Pushes es depth d a at p) z f
+
+  mutual
+    unfolding codeOf codeOfAll Known KnownAll evaluate
+
+    pub evaluates : (x : Expression) → Known x ts → (depth at p : ℕ) → Ends (e .code) at (codeOf x ts) → length (codeOf x ts) ≤ depth → Evaluates x depth at p
+    evaluates (number z) k depth at p en l = deeper (number z) depth at p l (number-follows z k (depth - 1) at p en)
+    evaluates (string t) k depth at p en l = deeper (string t) depth at p l (string-follows t k (depth - 1) at p en)
+    evaluates nothing k depth at p en l = deeper nothing depth at p l (none-follows (depth - 1) at p en)
+    evaluates (truth b) k depth at p en l = deeper (truth b) depth at p l (truth-follows b (depth - 1) at p en)
+    evaluates (name x) k depth at p en l = deeper (name x) depth at p l (name-follows x k (depth - 1) at p en)
+    evaluates (table x) k depth at p en l =
+        let long = simp length-append at l in
+        deeper (table x) depth at p l (table-follows x (depth - 1) at p en
+        (evaluates x k (depth - 1) (at - 1) p (ends-front (codeOf x ts) _ en (code-some x ts)) (omega arith)))
+    evaluates (entry x y) k depth at p en l =
+        let long = simp length-append at l in
+        let joint = ends-joined tagEntry (codeOf x ts) (codeOf y ts) (code-some x ts) (code-some y ts) en in
+        deeper (entry x y) depth at p l (entry-follows x y (depth - 1) at p joint
+        (evaluates x (k .0) (depth - 1) (at - 1 - length (codeOf y ts)) p (joint .left) (omega arith))
+        (evaluates y (k .1) (depth - 1) (at - 1) p (joint .right) (omega arith)))
+    evaluates (operation o x y) k depth at p en l =
+        let long = simp length-append at l in
+        let joint = ends-joined (tagOf o) (codeOf x ts) (codeOf y ts) (code-some x ts) (code-some y ts) en in
+        deeper (operation o x y) depth at p l (operation-follows o x y (depth - 1) at p joint
+        (evaluates x (k .0) (depth - 1) (at - 1 - length (codeOf y ts)) p (joint .left) (omega arith))
+        (evaluates y (k .1) (depth - 1) (at - 1) p (joint .right) (omega arith)))
+    evaluates (call f es) k depth at p en l =
+        let long = simp length-append at l in
+        let last = simp length-append at (en .last) in
+        deeper (call f es) depth at p l (call-follows f es (depth - 1) at p en
+        (pushes-all es k (depth - 1) (suc at) (at + 1 - (length (codeOfAll es ts) + 1)) at p (ends-start (codeOfAll es ts) _ en) (omega arith) (omega arith) (omega arith)))
+    evaluates (paren x) k depth at p en l = evaluates x k depth at p en l
+
+    pub pushes-all : (es : Arguments) → KnownAll es ts → (depth rounds a at p : ℕ) → Stands (e .code) a (codeOfAll es ts) → length (codeOfAll es ts) ≤ depth
+        → length (codeOfAll es ts) < rounds → a + length (codeOfAll es ts) ≡ at → Pushes es depth rounds a at p
+    pushes-all noArgument k depth rounds a at p st l m q =
+        let z : a ≡ at = omega arith in
+        longer noArgument depth rounds a at p m (subst (λ i. Pushes noArgument depth (suc (rounds - 1)) a i p) z (no-argument-follows depth (rounds - 1) a p))
+    pushes-all (argument x es) k depth rounds a at p st l m q =
+        let long = simp length-append at l in
+        let long′ = simp length-append at m in
+        let long″ = simp length-append at q in
+        let here = stands-argument (codeOf x ts) (codeOfAll es ts) st in
+        longer (argument x es) depth rounds a at p m (argument-follows x es depth (rounds - 1) a at p here (omega arith)
+        (evaluates x (k .0) depth (a + length (codeOf x ts)) p (here .one) (omega arith))
+        (pushes-all es (k .1) depth (rounds - 1) (a + length (codeOf x ts) + 1) at p (here .more) (omega arith) (omega arith) (omega arith)))

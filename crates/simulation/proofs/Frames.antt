@@ -1,0 +1,220 @@
+-- What stays when words change that do not matter.
+use Prim.Native.Nat.{ℕ, zero, suc, _+_, _*_, _/_, _%_, _^_, _≤_, _<_}
+use native.Mathlib.Omega.{arith}
+use native.Mathlib.Nat.{le-refl, le-trans, add-zero}
+use mathlib.Core.Path.{_≡_, refl, ap, ap₂, sym, _∙_, subst}
+use mathlib.Core.Logic.{_≢_}
+use mathlib.Core.Bool.{Bool, true, false, cond, not}
+use mathlib.Core.List.{List, [], _∷_, _++_}
+use lib.ListN.{length, getD, set}
+use lib.Dec.{eqb}
+use lib.Signed.{mag}
+use Rattle.meaning.specs.Basics.{if_then_else_}
+use Rattle.meaning.specs.Token.{Token}
+use Rattle.meaning.specs.Value.{integer, string, boolean, none, table, shape}
+use Rattle.meaning.specs.Value as Value
+use Rattle.meaning.specs.State.{Variable, Entry, Key, keyOf, figureKey, noShape}
+use Rattle.meaning.specs.State as State
+use Rattle.values.specs.declared.Value.{Value}
+use Rattle.values.specs.declared.Value.the-variants.{Integer, Text, Boolean, Nothing, Table, Shape}
+use Rattle.values.specs.Words.{packed, unpacked}
+use Rattle.stores.specs.Layout.{stepsUsed, shapesUsed, entriesUsed, textUsed, tablesMade, declared, argumentsHeld, valuePlace, orderPlace, shapePlace}
+use Rattle.stores.specs.Act.{Raw, raw}
+use Rattle.stores.specs.Texts.{originIn, startIn, sizeIn, textOf}
+use Rattle.stores.specs.declared.Figure.{Figure}
+use Rattle.stores.specs.Shapes.{figureAt, destroyedAt}
+use Rattle.stores.specs.Variables.{isDeclared}
+use Rattle.stores.specs.Arguments.{argumentAt}
+use Rattle.stores.specs.Tables.{ownerAt, keyAt, valueAt}
+use Rattle.simulation.specs.Meant.{meantValue, meantWord, meantFigure, listed, slotAt, variableAt, variablesOf, shapeAt, shapesOf, keyAmong, meantKey, entryAt, entriesOf}
+use Rattle.simulation.specs.Sound.{Held, Valid, Proper, Counted, declaredAmong, Variables, Shapes, Entries}
+use Rattle.simulation.specs.Follows.{Later}
+use Rattle.simulation.proofs.Listed.{listed-same, listed-first, getD-listed}
+
+-- ---- what is held stays held
+pub held-more : {program : List ℕ} {used used′ h : ℕ} → used ≤ used′ → Held program used h → Held program used′ h
+held-more {program} {used} {used′} {h} l v = record { small = v .small; inside = go (eqb (originIn h) 0) (v .inside) }
+  where
+    go : (b : Bool) → startIn h + sizeIn h ≤ cond b (length program) used → startIn h + sizeIn h ≤ cond b (length program) used′
+    go true e = e
+    go false e = omega arith
+
+pub later-refl : (program : List ℕ) (r : Raw) → Later program r r
+later-refl program r = record {
+  steps = le-refl _;
+  shapes = le-refl _;
+  text = le-refl _;
+  tables = le-refl _;
+  texts = λ h v. refl;
+  figures = λ i l. refl;
+}
+
+pub later-trans : {program : List ℕ} {r r′ r″ : Raw} → Later program r r′ → Later program r′ r″ → Later program r r″
+later-trans a b = record {
+  steps = le-trans (a .steps) (b .steps);
+  shapes = le-trans (a .shapes) (b .shapes);
+  text = le-trans (a .text) (b .text);
+  tables = le-trans (a .tables) (b .tables);
+  texts = λ h v. b .texts h (held-more (a .text) v) ∙ a .texts h v;
+  figures = λ i l. b .figures i (le-trans l (a .shapes)) ∙ a .figures i l;
+}
+
+module _ {program : List ℕ} {r r′ : Raw} (l : Later program r r′) where
+  pub valid-later : (v : Value) → Valid program (r .words) v → Valid program (r′ .words) v
+  unfolding Valid
+  valid-later (Integer z) h = h
+  valid-later (Text t) h = held-more (l .text) h
+  valid-later (Boolean b) h = tt
+  valid-later Nothing h = tt
+  valid-later (Table t) h = le-trans h (l .tables)
+  valid-later (Shape i) h = le-trans h (l .shapes)
+
+  pub meant-later : (v : Value) → Valid program (r .words) v → meantValue program (r′ .texts) v ≡ meantValue program (r .texts) v
+  unfolding Valid meantValue
+  meant-later (Integer z) h = refl
+  meant-later (Text t) h = ap string (l .texts t h)
+  meant-later (Boolean b) h = refl
+  meant-later Nothing h = refl
+  meant-later (Table t) h = refl
+  meant-later (Shape i) h = refl
+
+  -- ---- variables
+  pub record SameVariables : Type 0 where
+    pub count : getD (r′ .words) declared 0 ≡ getD (r .words) declared 0
+    pub words : (i : ℕ) → 8 ≤ i → i < 16392 → getD (r′ .words) i 0 ≡ getD (r .words) i 0
+
+  module _ (same : SameVariables) where
+    slot-same : (k : ℕ) → slotAt (r′ .words) k ≡ slotAt (r .words) k
+    slot-same k = same .words (orderPlace k) (omega arith) (omega arith)
+
+    value-same : (slot : ℕ) → getD (r′ .words) (valuePlace slot) 0 ≡ getD (r .words) (valuePlace slot) 0
+    value-same slot = same .words (valuePlace slot) (omega arith) (omega arith)
+
+    among-same : (n : ℕ) → declaredAmong (r′ .words) n ≡ declaredAmong (r .words) n
+    unfolding declaredAmong
+    among-same zero = refl
+    among-same (suc n) = ap₂ _+_ (ap (λ w. cond (not (eqb w 0)) 1 0) (value-same n)) (among-same n)
+
+    pub variables-kept : (ts : List Token) → Variables program ts (r .words) → Variables program ts (r′ .words)
+    variables-kept ts v = record {
+      few = rw (same .count, among-same 8192) (v .few);
+      slots = λ k h. rw (slot-same k) (v .slots k (rw (same .count) at h));
+      names = λ k h. rw (slot-same k) (v .names k (rw (same .count) at h));
+      there = λ k h. rw (slot-same k, value-same (slotAt (r .words) k)) (v .there k (rw (same .count) at h));
+      apart = λ j k a b e. v .apart j k (rw (same .count) at a) (rw (same .count) at b) (sym (slot-same j) ∙ e ∙ slot-same k);
+      found = λ slot h n.
+          let q = v .found slot h (rw (value-same slot) at n) in
+          (q .0, rw (same .count) (q .1), slot-same (q .0) ∙ q .2);
+      holds = λ slot. rw (value-same slot) (valid-later _ (v .holds slot));
+    }
+
+    variable-same : (ts : List Token) → Variables program ts (r .words) → (j : ℕ) → variableAt program ts r′ j ≡ variableAt program ts r j
+    unfolding variableAt
+    variable-same ts v j = rw (slot-same j, value-same (slotAt (r .words) j), meant-later _ (v .holds (slotAt (r .words) j)))
+
+    pub variables-part : (ts : List Token) → Variables program ts (r .words) → (k n : ℕ) → listed (variableAt program ts r′) k n ≡ listed (variableAt program ts r) k n
+    variables-part ts v k n = listed-same (variableAt program ts r′) (variableAt program ts r) k n (λ j a b. variable-same ts v j)
+
+    pub variables-same : (ts : List Token) → Variables program ts (r .words) → variablesOf program ts r′ ≡ variablesOf program ts r
+    unfolding variablesOf
+    variables-same ts v = rw (same .count) (variables-part ts v 0 (getD (r .words) declared 0))
+
+  -- ---- shapes
+  pub proper-later : {f : Figure} → Proper program (getD (r .words) textUsed 0) f → Proper program (getD (r′ .words) textUsed 0) f
+  proper-later p = record {
+    kind = p .kind;
+    a = p .a;
+    b = p .b;
+    c = p .c;
+    d = p .d;
+    text = held-more (l .text) (p .text);
+    plain = p .plain;
+    lettered = p .lettered;
+  }
+
+  module _ (shapes : Shapes program (r .words)) where
+    pub figure-later : (i : ℕ) → i < getD (r .words) shapesUsed 0
+        → meantFigure program (r′ .texts) (figureAt (r′ .words) i) ≡ meantFigure program (r .texts) (figureAt (r .words) i)
+    unfolding meantFigure
+    figure-later i h = rw (l .figures i h, l .texts (figureAt (r .words) i .text) (shapes .proper i h .text))
+
+    pub proper-kept : (i : ℕ) → i < getD (r .words) shapesUsed 0 → Proper program (getD (r′ .words) textUsed 0) (figureAt (r′ .words) i)
+    proper-kept i h = rw (l .figures i h) (proper-later (shapes .proper i h))
+
+  pub record SameShapes : Type 0 where
+    pub count : getD (r′ .words) shapesUsed 0 ≡ getD (r .words) shapesUsed 0
+    pub words : (i j : ℕ) → i < getD (r .words) shapesUsed 0 → j < 3 → getD (r′ .words) (shapePlace i + j) 0 ≡ getD (r .words) (shapePlace i + j) 0
+
+  module _ (same : SameShapes) (shapes : Shapes program (r .words)) where
+    pub shapes-kept : Shapes program (r′ .words)
+    shapes-kept = record {
+      proper = λ i h. proper-kept shapes i (rw (same .count) at h);
+      first = λ i h. let k = rw (same .count) at h in rw (same .words i 1 k (omega arith)) (shapes .first i k);
+      second = λ i h. let k = rw (same .count) at h in rw (same .words i 2 k (omega arith)) (shapes .second i k);
+    }
+
+    pub shapes-same : shapesOf program r′ ≡ shapesOf program r
+    unfolding shapesOf shapeAt
+    shapes-same =
+        rw (same .count) (listed-first (shapeAt program r′) (shapeAt program r) (getD (r .words) shapesUsed 0)
+        (λ j b.
+        let w : getD (r′ .words) (shapePlace j) 0 ≡ getD (r .words) (shapePlace j) 0 =
+        rw (← add-zero (shapePlace j)) (same .words j 0 b (omega arith)) in
+        rw (figure-later shapes j b, w)))
+
+-- the figure of a shape that was made
+pub figure-made : (program : List ℕ) (r : Raw) (i : ℕ) → i < getD (r .words) shapesUsed 0
+    → getD (shapesOf program r) i noShape ≡ shapeAt program r i
+unfolding shapesOf
+figure-made program r i h =
+    let q : 0 + i ≡ i = omega arith in
+    getD-listed (shapeAt program r) 0 (getD (r .words) shapesUsed 0) i noShape h ∙ ap (shapeAt program r) q
+
+-- ---- keys and entries
+module _ {program : List ℕ} {r r′ : Raw} (l : Later program r r′) (shapes : Shapes program (r .words)) where
+  pub key-later : (v : Value) → Valid program (r .words) v
+      → keyAmong (shapesOf program r′) (meantValue program (r′ .texts) v) ≡ keyAmong (shapesOf program r) (meantValue program (r .texts) v)
+  unfolding Valid meantValue keyAmong keyOf shapeAt
+  key-later (Integer z) h = refl
+  key-later (Text t) h = rw (l .texts t h)
+  key-later (Boolean b) h = refl
+  key-later Nothing h = refl
+  key-later (Table t) h = refl
+  key-later (Shape i) h =
+      ap figureKey (ap (λ (s : State.Shape). s .figure) (figure-made program r′ i (le-trans h (l .shapes)))
+      ∙ figure-later l shapes i h ∙ sym (ap (λ (s : State.Shape). s .figure) (figure-made program r i h)))
+
+  pub record SameEntries (g : List ℕ) : Type 0 where
+    pub count : getD (r′ .words) entriesUsed 0 ≡ getD (r .words) entriesUsed 0
+    pub owners : (k : ℕ) → k < getD (r .words) entriesUsed 0 → ownerAt g (r′ .words) k ≡ ownerAt g (r .words) k
+    pub keys : (k : ℕ) → k < getD (r .words) entriesUsed 0 → keyAt g (r′ .words) k ≡ keyAt g (r .words) k
+    pub values : (k : ℕ) → k < getD (r .words) entriesUsed 0 → valueAt g (r′ .words) k ≡ valueAt g (r .words) k
+
+  module _ (g : List ℕ) (same : SameEntries g) (entries : Entries program g r) where
+    key-kept : (k : ℕ) → k < getD (r .words) entriesUsed 0 → meantKey program r′ (keyAt g (r′ .words) k) ≡ meantKey program r (keyAt g (r .words) k)
+    key-kept k h = rw (same .keys k h) (key-later (unpacked (keyAt g (r .words) k)) (entries .keys k h))
+
+    pub entries-kept : Entries program g r′
+    entries-kept = record {
+      packs = λ k h. let q = rw (same .count) at h in rw (same .keys k q) (entries .packs k q);
+      keys = λ k h. let q = rw (same .count) at h in rw (same .keys k q) (valid-later l _ (entries .keys k q));
+      holds = λ k h. let q = rw (same .count) at h in rw (same .values k q) (valid-later l _ (entries .holds k q));
+      apart = λ j k a b o e.
+          let p = rw (same .count) at a in
+          let q = rw (same .count) at b in
+          entries .apart j k p q (sym (same .owners j p) ∙ o ∙ same .owners k q) (sym (key-kept j p) ∙ e ∙ key-kept k q);
+    }
+
+    entry-kept : (k : ℕ) → k < getD (r .words) entriesUsed 0 → entryAt program g r′ k ≡ entryAt program g r k
+    unfolding entryAt
+    entry-kept k h =
+        let o = same .owners k h in
+        let e = key-kept k h in
+        let v : meantWord program r′ (valueAt g (r′ .words) k) ≡ meantWord program r (valueAt g (r .words) k) =
+        rw (same .values k h) (meant-later l _ (entries .holds k h)) in
+        λ i. record { owner = o i; key = e i; holds = v i }
+
+    pub entries-same : entriesOf program g r′ ≡ entriesOf program g r
+    unfolding entriesOf
+    entries-same =
+        rw (same .count) (listed-first (entryAt program g r′) (entryAt program g r) (getD (r .words) entriesUsed 0) (λ j b. entry-kept j b))

@@ -1,0 +1,252 @@
+-- The library procedures, their arguments on the stack.
+use Prim.Native.Nat.{ℕ, zero, suc, _+_, _-_, _^_, _≤_, _<_}
+use native.Mathlib.Omega.{arith}
+use native.Mathlib.Nat.{le-trans}
+use native.Mathlib.Numerals.{add-one}
+use mathlib.Core.Path.{_≡_, refl, ap, ap₂, sym, _∙_}
+use mathlib.Core.Bool.{Bool, true, false, not}
+use mathlib.Core.List.{List, [], _∷_}
+use mathlib.Core.Option.{Option, some}
+use mathlib.Core.Option as Option
+use lib.ListN.{getD}
+use lib.IntN.{ℤ, pos}
+use lib.Signed.{mag}
+use lib.Dec.{eqb, ltb}
+use borrow.Author.Tests.{ne-eqb}
+use Rattle.meaning.specs.Basics.{if_then_else_}
+use Rattle.meaning.specs.Token.{Token}
+use Rattle.meaning.specs.Figure.{line, ellipse, box, text}
+use Rattle.meaning.specs.Figure as Meaning
+use Rattle.meaning.specs.Value as Value
+use Rattle.meaning.specs.State.{State, figureOf}
+use Rattle.meaning.specs.Run as Run
+use Rattle.meaning.specs.Book.{Amounts}
+use Rattle.meaning.specs.Operator as Operator
+use Rattle.meaning.specs.Library.{Library, drawLine, drawEllipse, drawBox, drawText, connectShapes, drawTextOnShape, xCoordinate, yCoordinate, destroyShape, clearScene}
+use Rattle.meaning.specs.Library as Library
+use Rattle.names.specs.Prepared.{numberOf}
+use Rattle.values.specs.declared.Value.{Value}
+use Rattle.values.specs.declared.Value.the-variants.{Integer, Nothing}
+use Rattle.values.specs.Words.{unpacked}
+use Rattle.stores.specs.Act.{Raw, done}
+use Rattle.stores.specs.Act as Act
+use Rattle.stores.specs.Arguments.{argumentAt}
+use Rattle.stores.specs.Texts.{textOf}
+use Rattle.stores.specs.declared.Figure.{Figure}
+use Rattle.stores.specs.Shapes.{figureAt}
+use Rattle.stores.specs.Shapes as Shapes
+use Rattle.operators.specs.Operate.{Setting}
+use Rattle.operators.specs.Library.{argument, allUsable, figure, centreX, centreY, connecting, textOn, withFigure, drawn, drawnText, connected, labelled, coordinate, destroyed, clearing, perform, callLibrary}
+use Rattle.simulation.specs.Meant.{meantValue, meantWord, meantFigure, listed}
+use Rattle.simulation.specs.Sound.{Held, Valid, Proper}
+use Rattle.simulation.specs.Follows.{Grants, Related, Follows}
+use Rattle.simulation.proofs.Binding.{bind}
+use Rattle.simulation.proofs.Listed.{listed-same}
+use Rattle.simulation.proofs.Frames.{valid-later, meant-later}
+use Rattle.simulation.proofs.Results.{mapped, given, failed, After, AfterValue, Units, Values, unmoved, onward, from-here, steps-told}
+use Rattle.simulation.proofs.Usable.{figure-found, uses}
+use Rattle.simulation.proofs.Shapes.{makes-shape}
+use Rattle.simulation.proofs.Destroying.{gone, destroys, destroy-is, clears}
+use Rattle.simulation.proofs.Figures.{as-line, as-ellipse, as-box, as-text, centre-x, centre-y, centre-x-range, centre-y-range, proper-plain, proper-text}
+use Rattle.simulation.proofs.Asked.{with-integer, with-text, with-shape}
+
+-- ---- arguments on the stack: n of them, from the one numbered base on
+module _ (program : List ℕ) where
+  pub record Stacked (r : Raw) (base n : ℕ) (us : List Value.Value) : Type 0 where
+    pub within : base + n ≤ getD (r .words) 6 0
+    pub valid : (k : ℕ) → base ≤ k → k < base + n → Valid program (r .words) (unpacked (argumentAt (r .words) k))
+    pub are : us ≡ listed (λ k. meantWord program r (argumentAt (r .words) k)) base n
+
+module _ {program : List ℕ} {ts : List Token} {g : List ℕ} where
+  -- they stay
+  pub stacked-later : {r r′ : Raw} {s : State} {total : Amounts} {base n : ℕ} {us : List Value.Value} → After program ts g r r′ s total
+      → Stacked program r base n us → Stacked program r′ base n us
+  stacked-later {r} {r′} {base = base} {n = n} a st = record {
+    within = rw (a .held) (st .within);
+    valid = λ k x y. rw (a .arguments k (omega (arith, st .within))) (valid-later (a .later) _ (st .valid k x y));
+    are = st .are ∙ listed-same _ _ base n (λ k x y. sym (rw (a .arguments k (omega (arith, st .within))) (meant-later (a .later) _ (st .valid k x y))));
+  }
+
+  uses-all : {granted : Amounts} (p n base : ℕ) {r : Raw} {s : State} {total : Amounts} → Related program ts g r s total
+      → (us : List Value.Value) → Stacked program r base n us
+      → Follows granted total (Units program ts g r) (allUsable p base n r) (Library.allUsable p us s)
+  unfolding allUsable Library.allUsable listed Act._>>=_ Act.give Run._>>=_ Run.give
+  uses-all p zero base h us st = rw (st .are) (given (unmoved h))
+  uses-all p (suc n) base {r} h us st =
+      rw (st .are)
+      (bind (uses h (unpacked (argumentAt (r .words) base)) _ (st .valid base (omega arith) (omega arith)) refl p) (λ _ _ r₁ s₁ total₁ a.
+      let rest : Stacked program r (base + 1) n (listed (λ k. meantWord program r (argumentAt (r .words) k)) (suc base) n) = record {
+        within = omega (arith, st .within);
+        valid = λ k x y. st .valid k (omega arith) (omega arith);
+        are = rw (add-one base);
+      } in
+      mapped (λ _ _ r₂ s₂ total₂ b. onward a b) (uses-all p n (base + 1) (a .related) _ (stacked-later a rest))))
+
+-- ---- the procedures
+module _ (e : Setting) {ts : List Token} {granted : Amounts} (gr : Grants (e .grants) granted) {r : Raw} {s : State} {total : Amounts}
+    (h : Related (e .program) ts (e .grants) r s total) (p base : ℕ) where
+  abbrev Works : Act.Out Value → Run.Run Value.Value → Type 0
+  Works o m = Follows granted total (Values (e .program) ts (e .grants) r) o m
+
+  wrong : Works (Act.stop 20 p r) (Run.run [] (Run.error 20 p))
+  wrong = failed 20 p r (steps-told h)
+
+  abbrev word : ℕ → Value
+  word k = unpacked (argumentAt (r .words) k)
+
+  -- the arguments by number
+  abbrev Sane : ℕ → Type 0
+  Sane n = (k : ℕ) → base ≤ k → k < base + n → Valid (e .program) (r .words) (unpacked (argumentAt (r .words) k))
+
+  abbrev given-args : ℕ → List Value.Value
+  given-args n = listed (λ k. meantWord (e .program) r (argumentAt (r .words) k)) base n
+
+  shape-made : (f : Figure) (a : Meaning.Figure) → Proper (e .program) (getD (r .words) 3 0) f → a ≡ meantFigure (e .program) (r .texts) f
+      → Works (Shapes.newShape (e .grants) p f r) (Operator.newShape p a s)
+  shape-made f a v m = mapped (λ v u r₁ s₁ total₁ w. w .value) (makes-shape gr h f a v m p)
+
+  draws : (kind : ℕ) (make : ℤ → ℤ → ℤ → ℤ → Meaning.Figure) → kind < 3
+      → ((x y z w : ℤ) → make x y z w ≡ meantFigure (e .program) (r .texts) (figure kind x y z w 0)) → (n : ℕ) → Sane n
+      → Works (drawn e kind p base n r) (Library.drawn make p (given-args n) s)
+  unfolding drawn Library.drawn Library.withFour Library.withThree Library.withTwo Library.withOne Library.withNone listed Act._>>=_ Act.goOn Act.refuse Act.give Act.fail Run.fail
+  draws kind make l m zero v = wrong
+  draws kind make l m (suc zero) v = wrong
+  draws kind make l m (suc (suc zero)) v = wrong
+  draws kind make l m (suc (suc (suc zero))) v = wrong
+  draws kind make l m (suc (suc (suc (suc zero)))) v =
+      let one : base + 1 ≡ suc base = omega arith in
+      let two : base + 2 ≡ suc (suc base) = omega arith in
+      let three : base + 3 ≡ suc (suc (suc base)) = omega arith in
+      rw (one, two, three)
+      (with-integer h p (word base) (v base (omega arith) (omega arith)) _ _ (λ x a.
+      with-integer h p (word (suc base)) (v (suc base) (omega arith) (omega arith)) _ _ (λ y b.
+      with-integer h p (word (suc (suc base))) (v (suc (suc base)) (omega arith) (omega arith)) _ _ (λ z c.
+      with-integer h p (word (suc (suc (suc base)))) (v (suc (suc (suc base))) (omega arith) (omega arith)) _ _ (λ w d.
+      shape-made (figure kind x y z w 0) (make x y z w) (proper-plain (e .program) _ kind x y z w l a b c d) (m x y z w))))))
+  draws kind make l m (suc (suc (suc (suc (suc n))))) v = rw (ne-eqb (suc (suc (suc (suc (suc n))))) 4 (λ q. omega arith)) wrong
+
+  draws-text : (n : ℕ) → Sane n → Works (drawnText e p base n r) (Library.perform drawText p (given-args n) s)
+  unfolding drawnText Library.perform Library.withThree Library.withTwo Library.withOne Library.withNone listed Act._>>=_ Act.goOn Act.refuse Act.give Act.fail Run.fail
+  draws-text zero v = wrong
+  draws-text (suc zero) v = wrong
+  draws-text (suc (suc zero)) v = wrong
+  draws-text (suc (suc (suc zero))) v =
+      let one : base + 1 ≡ suc base = omega arith in
+      let two : base + 2 ≡ suc (suc base) = omega arith in
+      rw (one, two)
+      (with-integer h p (word base) (v base (omega arith) (omega arith)) _ _ (λ x a.
+      with-integer h p (word (suc base)) (v (suc base) (omega arith) (omega arith)) _ _ (λ y b.
+      with-text h p (word (suc (suc base))) (v (suc (suc base)) (omega arith) (omega arith)) _ _ (λ t c.
+      shape-made (figure 3 x y (pos 0) (pos 0) t) (text x y (textOf (e .program) (r .texts) t)) (proper-text x y a b c)
+      (sym (as-text (e .program) (r .texts) (figure 3 x y (pos 0) (pos 0) t) refl))))))
+  draws-text (suc (suc (suc (suc n)))) v = rw (ne-eqb (suc (suc (suc (suc n)))) 3 (λ q. omega arith)) wrong
+
+  connects : (n : ℕ) → Sane n → Works (connected e p base n r) (Library.perform connectShapes p (given-args n) s)
+  unfolding connected Library.perform Library.withTwo Library.withOne Library.withNone withFigure Operator.withFigure connecting Meaning.connecting listed Act._>>=_ Act.goOn Act.refuse Act.give Act.fail Run.fail Run._>>=_ Run.goOn Run.current
+  connects zero v = wrong
+  connects (suc zero) v = wrong
+  connects (suc (suc zero)) v =
+      let one : base + 1 ≡ suc base = omega arith in
+      rw one
+      (with-shape h p (word base) (v base (omega arith) (omega arith)) _ _ (λ i a.
+      with-shape h p (word (suc base)) (v (suc base) (omega arith) (omega arith)) _ _ (λ j b.
+      let x = h .sound .shapes .proper i a in
+      let y = h .sound .shapes .proper j b in
+      let f = figureAt (r .words) i in
+      let f′ = figureAt (r .words) j in
+      shape-made (figure 0 (centreX f) (centreY f) (centreX f′) (centreY f′) 0) _
+      (proper-plain (e .program) _ 0 (centreX f) (centreY f) (centreX f′) (centreY f′) (omega arith) (centre-x-range x) (centre-y-range x) (centre-x-range y) (centre-y-range y))
+      (rw (
+        figure-found h i a,
+        figure-found h j b,
+        ← centre-x (e .program) (r .texts) f (x .kind),
+        ← centre-y (e .program) (r .texts) f (x .kind),
+        ← centre-x (e .program) (r .texts) f′ (y .kind),
+        ← centre-y (e .program) (r .texts) f′ (y .kind),
+      )
+      (sym (as-line (e .program) (r .texts) (figure 0 (centreX f) (centreY f) (centreX f′) (centreY f′) 0) refl))))))
+  connects (suc (suc (suc n))) v = rw (ne-eqb (suc (suc (suc n))) 2 (λ q. omega arith)) wrong
+
+  labels : (n : ℕ) → Sane n → Works (labelled e p base n r) (Library.perform drawTextOnShape p (given-args n) s)
+  unfolding labelled Library.perform Library.withTwo Library.withOne Library.withNone withFigure Operator.withFigure textOn Meaning.textOn listed Act._>>=_ Act.goOn Act.refuse Act.give Act.fail Run.fail Run._>>=_ Run.goOn Run.current
+  labels zero v = wrong
+  labels (suc zero) v = wrong
+  labels (suc (suc zero)) v =
+      let one : base + 1 ≡ suc base = omega arith in
+      rw one
+      (with-shape h p (word base) (v base (omega arith) (omega arith)) _ _ (λ i a.
+      with-text h p (word (suc base)) (v (suc base) (omega arith) (omega arith)) _ _ (λ t b.
+      let x = h .sound .shapes .proper i a in
+      let f = figureAt (r .words) i in
+      shape-made (figure 3 (centreX f) (centreY f) (pos 0) (pos 0) t) _ (proper-text (centreX f) (centreY f) (centre-x-range x) (centre-y-range x) b)
+      (rw (figure-found h i a, ← centre-x (e .program) (r .texts) f (x .kind), ← centre-y (e .program) (r .texts) f (x .kind))
+      (sym (as-text (e .program) (r .texts) (figure 3 (centreX f) (centreY f) (pos 0) (pos 0) t) refl))))))
+  labels (suc (suc (suc n))) v = rw (ne-eqb (suc (suc (suc n))) 2 (λ q. omega arith)) wrong
+
+  x-read : (n : ℕ) → Sane n → Works (coordinate centreX p base n r) (Library.perform xCoordinate p (given-args n) s)
+  unfolding coordinate Library.perform Library.withOne Library.withNone withFigure Operator.withFigure listed Act._>>=_ Act.goOn Act.refuse Act.give Act.fail Run.fail Run._>>=_ Run.goOn Run.current Run.give Valid meantValue
+  x-read zero v = wrong
+  x-read (suc zero) v =
+      with-shape h p (word base) (v base (omega arith) (omega arith)) _ _ (λ i a.
+      let x = h .sound .shapes .proper i a in
+      given (record { after = unmoved h; valid = centre-x-range x; means = ap Value.integer (rw (figure-found h i a) (sym (centre-x (e .program) (r .texts) (figureAt (r .words) i) (x .kind)))) }))
+  x-read (suc (suc n)) v = rw (ne-eqb (suc (suc n)) 1 (λ q. omega arith)) wrong
+
+  y-read : (n : ℕ) → Sane n → Works (coordinate centreY p base n r) (Library.perform yCoordinate p (given-args n) s)
+  unfolding coordinate Library.perform Library.withOne Library.withNone withFigure Operator.withFigure listed Act._>>=_ Act.goOn Act.refuse Act.give Act.fail Run.fail Run._>>=_ Run.goOn Run.current Run.give Valid meantValue
+  y-read zero v = wrong
+  y-read (suc zero) v =
+      with-shape h p (word base) (v base (omega arith) (omega arith)) _ _ (λ i a.
+      let x = h .sound .shapes .proper i a in
+      given (record { after = unmoved h; valid = centre-y-range x; means = ap Value.integer (rw (figure-found h i a) (sym (centre-y (e .program) (r .texts) (figureAt (r .words) i) (x .kind)))) }))
+  y-read (suc (suc n)) v = rw (ne-eqb (suc (suc n)) 1 (λ q. omega arith)) wrong
+
+  one-destroyed : (n : ℕ) → Sane n → Works (destroyed p base n r) (Library.perform destroyShape p (given-args n) s)
+  unfolding destroyed Library.perform Library.withOne Library.withNone listed Act._>>=_ Act.goOn Act.refuse Act.give Act.fail Run.fail Run._>>=_ Run.goOn Run.current Run.become Run.give Valid meantValue
+  one-destroyed zero v = wrong
+  one-destroyed (suc zero) v =
+      with-shape h p (word base) (v base (omega arith) (omega arith)) _ _ (λ i a.
+      rw (destroy-is h i a) (given (record { after = destroys h i a; valid = tt; means = refl })))
+  one-destroyed (suc (suc n)) v = rw (ne-eqb (suc (suc n)) 1 (λ q. omega arith)) wrong
+
+  all-cleared : (n : ℕ) → Works (clearing p n r) (Library.perform clearScene p (given-args n) s)
+  unfolding clearing Library.perform Library.withNone listed Act._>>=_ Act.goOn Act.refuse Act.give Act.fail Run.fail Run._>>=_ Run.goOn Run.current Run.become Run.give Valid meantValue
+  all-cleared zero = let c = clears h in rw (c .is) (given (record { after = c .after; valid = tt; means = refl }))
+  all-cleared (suc n) = rw (ne-eqb (suc n) 0 (λ q. omega arith)) wrong
+
+  performs : (f : Library) (n : ℕ) (us : List Value.Value) → Stacked (e .program) r base n us → Works (perform e (numberOf (some f)) p base n r) (Library.perform f p us s)
+  unfolding perform Library.perform numberOf if_then_else_
+  performs drawLine n us st = rw (st .are) (draws 0 line (omega arith) (λ x y z w. sym (as-line (e .program) (r .texts) (figure 0 x y z w 0) refl)) n (st .valid))
+  performs drawEllipse n us st = rw (st .are) (draws 1 ellipse (omega arith) (λ x y z w. sym (as-ellipse (e .program) (r .texts) (figure 1 x y z w 0) refl)) n (st .valid))
+  performs drawBox n us st = rw (st .are) (draws 2 box (omega arith) (λ x y z w. sym (as-box (e .program) (r .texts) (figure 2 x y z w 0) refl)) n (st .valid))
+  performs drawText n us st = rw (st .are) (draws-text n (st .valid))
+  performs connectShapes n us st = rw (st .are) (connects n (st .valid))
+  performs drawTextOnShape n us st = rw (st .are) (labels n (st .valid))
+  performs xCoordinate n us st = rw (st .are) (x-read n (st .valid))
+  performs yCoordinate n us st = rw (st .are) (y-read n (st .valid))
+  performs destroyShape n us st = rw (st .are) (one-destroyed n (st .valid))
+  performs clearScene n us st = rw (st .are) (all-cleared n)
+
+number-less : (f : Library) → ltb (numberOf (some f)) 10 ≡ true
+unfolding numberOf
+number-less drawLine = refl
+number-less drawEllipse = refl
+number-less drawBox = refl
+number-less drawText = refl
+number-less connectShapes = refl
+number-less drawTextOnShape = refl
+number-less xCoordinate = refl
+number-less yCoordinate = refl
+number-less destroyShape = refl
+number-less clearScene = refl
+
+-- a call, its arguments on the stack
+module _ (e : Setting) {ts : List Token} {granted : Amounts} (gr : Grants (e .grants) granted) where
+  pub calls : (l : Option Library) (p base n : ℕ) {r : Raw} {s : State} {total : Amounts} → Related (e .program) ts (e .grants) r s total
+      → (us : List Value.Value) → Stacked (e .program) r base n us
+      → Follows granted total (Values (e .program) ts (e .grants) r) (callLibrary e (numberOf l) p base n r) (Library.callLibrary l p us s)
+  unfolding callLibrary Library.callLibrary numberOf if_then_else_ Act._>>=_ Run._>>=_ Act.fail Run.fail
+  calls (some f) p base n h us st =
+      rw (number-less f)
+      (bind (uses-all p n base h us st) (λ _ _ r₁ s₁ total₁ a. from-here a (performs e gr (a .related) p base f n us (stacked-later a st))))
+  calls Option.none p base n {r} h us st = failed 20 p r (steps-told h)

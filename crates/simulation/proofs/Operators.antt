@@ -1,0 +1,231 @@
+-- Operators do what the meaning says.
+use Prim.Native.Nat.{ℕ, _+_, _^_, _≤_, _<_}
+use native.Mathlib.Omega.{arith}
+use native.Mathlib.Nat.{le-trans}
+use mathlib.Core.Path.{_≡_, refl, ap, ap₂, sym, _∙_}
+use mathlib.Core.Bool.{Bool, true, false, not, _&&_}
+use mathlib.Core.List.{List, [], _++_}
+use mathlib.Core.Option.{Option, some}
+use mathlib.Core.Option as Option
+use lib.ListN.{getD}
+use lib.IntN.{ℤ}
+use lib.Signed.{mag, ltZ}
+use Rattle.meaning.specs.Basics.{if_then_else_}
+use Rattle.meaning.specs.Token.{Token}
+use Rattle.meaning.specs.Integer.{sum, difference, product, quotient, shiftedLeft, shiftedRight, isZero}
+use Rattle.meaning.specs.Integer as Integer
+use Rattle.meaning.proofs.IntegerLaws.{sum-range, difference-range, product-range, quotient-range, remainder-range, shiftedLeft-range, shiftedRight-range}
+use Rattle.meaning.specs.Figure as Meaning
+use Rattle.meaning.specs.Tree.{Operator, concatenate, add, subtract, multiply, divide, remainder, shiftRight, shiftLeft, equal, unequal, greater, less}
+use Rattle.meaning.specs.Value as Value
+use Rattle.meaning.specs.State.{State, figureOf}
+use Rattle.meaning.specs.Run as Run
+use Rattle.meaning.specs.Book.{Amounts}
+use Rattle.meaning.specs.Operator as Operator
+use Rattle.code.specs.Code.{tagOf}
+use Rattle.values.specs.declared.Value.{Value}
+use Rattle.values.specs.declared.Value.the-variants.{Integer, Text, Boolean, Nothing, Table, Shape}
+use Rattle.stores.specs.Act.{Raw}
+use Rattle.stores.specs.Act as Act
+use Rattle.stores.specs.declared.Figure.{Figure}
+use Rattle.stores.specs.Shapes.{figureAt}
+use Rattle.operators.specs.Operate.{Setting, withInteger, withText, plusX, plusY, minusX, minusY, scaledUp, scaledDown, calculated, compared, remaindered, joined, equality, answered, equated, operateOn, operate}
+use Rattle.simulation.specs.Meant.{meantValue, meantFigure}
+use Rattle.simulation.specs.Sound.{Valid, Proper}
+use Rattle.simulation.specs.Follows.{Grants, Related, Follows}
+use Rattle.simulation.proofs.Binding.{bind}
+use Rattle.simulation.proofs.Frames.{valid-later, meant-later}
+use Rattle.simulation.proofs.Results.{mapped, given, failed, After, AfterValue, Units, Values, unmoved, onward, from-here, steps-told, refused}
+use Rattle.simulation.proofs.Usable.{figure-found, uses}
+use Rattle.simulation.proofs.Shapes.{makes-shape}
+use Rattle.simulation.proofs.Texts.{joins}
+use Rattle.simulation.proofs.Figures.{moved-meant, moved-proper}
+use Rattle.simulation.proofs.Equality.{equal-alike}
+
+-- a figure made from a figure and an integer, as the meaning makes it
+pub record Makes (G : Figure → ℤ → Figure) (G′ : Meaning.Figure → ℤ → Meaning.Figure) : Type 0 where
+  pub proper : {program : List ℕ} {used : ℕ} (f : Figure) (n : ℤ) → Proper program used f → Proper program used (G f n)
+  pub meant : (program texts : List ℕ) (f : Figure) (n : ℤ) → f .kind < 4 → meantFigure program texts (G f n) ≡ G′ (meantFigure program texts f) n
+
+module _ (e : Setting) {ts : List Token} {granted : Amounts} (gr : Grants (e .grants) granted) {r : Raw} {s : State} {total : Amounts}
+    (h : Related (e .program) ts (e .grants) r s total) (p : ℕ) where
+  no : {A B : Type 0} {R : A → B → Raw → State → Amounts → Type 0} → Follows granted total R (Act.fail 20 p r) (Run.fail 20 p s)
+  unfolding Act.fail Run.fail
+  no = failed 20 p r (steps-told h)
+
+  -- ---- arithmetic
+  module _ (divides : Bool) (f : ℤ → ℤ → ℤ) (G : Figure → ℤ → Figure) (G′ : Meaning.Figure → ℤ → Meaning.Figure)
+      (range : (a b : ℤ) → mag a < 2 ^ 31 → mag (f a b) < 2 ^ 31) (makes : Makes G G′) where
+    numbers : (a b : ℤ) → mag a < 2 ^ 31 → Follows granted total (Values (e .program) ts (e .grants) r)
+        (calculated e divides f G p (Integer a) (Integer b) r) (Operator.calculated divides f G′ p (Value.integer a) (Value.integer b) s)
+    unfolding calculated Operator.calculated withInteger Operator.withInteger Act._>>=_ Run._>>=_ Act.give Run.give Valid meantValue
+    numbers a b v =
+        bind (refused h (divides && isZero b) (divides && isZero b) refl 70 p) (λ _ _ r′ s′ total′ q. given (record { after = q; valid = range a b v; means = refl }))
+
+    shaped : (i : ℕ) (b : ℤ) → i < getD (r .words) 1 0 → Follows granted total (Values (e .program) ts (e .grants) r)
+        (calculated e divides f G p (Shape i) (Integer b) r) (Operator.calculated divides f G′ p (Value.shape i) (Value.integer b) s)
+    unfolding calculated Operator.calculated withInteger Operator.withInteger Act._>>=_ Run._>>=_ Run.goOn Run.current
+    shaped i b l =
+        bind (refused h (divides && isZero b) (divides && isZero b) refl 70 p) (λ _ _ r′ s′ total′ q.
+        let k = le-trans l (q .later .shapes) in
+        let proper = q .related .sound .shapes .proper i k in
+        from-here q (mapped (λ v u r₁ s₁ total₁ w. w .value)
+        (makes-shape gr (q .related) (G (figureAt (r′ .words) i) b) (G′ (figureOf s′ i) b) (makes .proper (figureAt (r′ .words) i) b proper)
+        (ap (λ (a : Meaning.Figure). G′ a b) (figure-found (q .related) i k) ∙ sym (makes .meant (e .program) (r′ .texts) (figureAt (r′ .words) i) b (proper .kind))) p)))
+
+    pub calculates : (v w : Value) → Valid (e .program) (r .words) v → Valid (e .program) (r .words) w
+        → Follows granted total (Values (e .program) ts (e .grants) r) (calculated e divides f G p v w r)
+        (Operator.calculated divides f G′ p (meantValue (e .program) (r .texts) v) (meantValue (e .program) (r .texts) w) s)
+    unfolding calculated Operator.calculated withInteger Operator.withInteger meantValue Valid
+    calculates (Integer a) (Integer b) x y = numbers a b x
+    calculates (Integer a) (Text b) x y = no
+    calculates (Integer a) (Boolean b) x y = no
+    calculates (Integer a) Nothing x y = no
+    calculates (Integer a) (Table b) x y = no
+    calculates (Integer a) (Shape b) x y = no
+    calculates (Text a) w x y = no
+    calculates (Boolean a) w x y = no
+    calculates Nothing w x y = no
+    calculates (Table a) w x y = no
+    calculates (Shape a) (Integer b) x y = shaped a b x
+    calculates (Shape a) (Text b) x y = no
+    calculates (Shape a) (Boolean b) x y = no
+    calculates (Shape a) Nothing x y = no
+    calculates (Shape a) (Table b) x y = no
+    calculates (Shape a) (Shape b) x y = no
+
+  -- ---- the other operators
+  pub compares : (f : ℤ → ℤ → Bool) (v w : Value) → Follows granted total (Values (e .program) ts (e .grants) r) (compared f p v w r)
+      (Operator.compared f p (meantValue (e .program) (r .texts) v) (meantValue (e .program) (r .texts) w) s)
+  unfolding compared Operator.compared withInteger Operator.withInteger meantValue Valid Act.give Run.give
+  compares f (Integer a) (Integer b) = given (record { after = unmoved h; valid = tt; means = refl })
+  compares f (Integer a) (Text b) = no
+  compares f (Integer a) (Boolean b) = no
+  compares f (Integer a) Nothing = no
+  compares f (Integer a) (Table b) = no
+  compares f (Integer a) (Shape b) = no
+  compares f (Text a) w = no
+  compares f (Boolean a) w = no
+  compares f Nothing w = no
+  compares f (Table a) w = no
+  compares f (Shape a) w = no
+
+  pub remainders : (v w : Value) → Follows granted total (Values (e .program) ts (e .grants) r) (remaindered p v w r)
+      (Operator.remaindered p (meantValue (e .program) (r .texts) v) (meantValue (e .program) (r .texts) w) s)
+  unfolding remaindered Operator.remaindered withInteger Operator.withInteger meantValue Valid Act._>>=_ Run._>>=_ Act.give Run.give
+  remainders (Integer a) (Integer b) = bind (refused h (isZero b) (isZero b) refl 70 p) (λ _ _ r′ s′ total′ q. given (record { after = q; valid = remainder-range a b; means = refl }))
+  remainders (Integer a) (Text b) = no
+  remainders (Integer a) (Boolean b) = no
+  remainders (Integer a) Nothing = no
+  remainders (Integer a) (Table b) = no
+  remainders (Integer a) (Shape b) = no
+  remainders (Text a) w = no
+  remainders (Boolean a) w = no
+  remainders Nothing w = no
+  remainders (Table a) w = no
+  remainders (Shape a) w = no
+
+  pub concatenates : (v w : Value) → Valid (e .program) (r .words) v → Valid (e .program) (r .words) w
+      → Follows granted total (Values (e .program) ts (e .grants) r) (joined e p v w r)
+      (Operator.joined p (meantValue (e .program) (r .texts) v) (meantValue (e .program) (r .texts) w) s)
+  unfolding joined Operator.joined withText Operator.withString meantValue Valid
+  concatenates (Integer a) w x y = no
+  concatenates (Text a) (Integer b) x y = no
+  concatenates (Text a) (Text b) x y = joins gr h a b x y p
+  concatenates (Text a) (Boolean b) x y = no
+  concatenates (Text a) Nothing x y = no
+  concatenates (Text a) (Table b) x y = no
+  concatenates (Text a) (Shape b) x y = no
+  concatenates (Boolean a) w x y = no
+  concatenates Nothing w x y = no
+  concatenates (Table a) w x y = no
+  concatenates (Shape a) w x y = no
+
+  answers : (f : Bool → Bool) (o : Option Bool) → Follows granted total (Values (e .program) ts (e .grants) r) (answered p f o r) (Operator.answered p f o s)
+  unfolding answered Operator.answered Act.give Run.give meantValue Valid
+  answers f Option.none = no
+  answers f (some b) = given (record { after = unmoved h; valid = tt; means = refl })
+
+  pub equates : (f : Bool → Bool) (v w : Value) → Valid (e .program) (r .words) v → Valid (e .program) (r .words) w
+      → Follows granted total (Values (e .program) ts (e .grants) r) (equated e f p v w r)
+      (Operator.equated f p (meantValue (e .program) (r .texts) v) (meantValue (e .program) (r .texts) w) s)
+  unfolding equated Operator.equated Run._>>=_ Run.goOn Run.current
+  equates f v w x y = rw (equal-alike h v w x y) (answers f _)
+
+-- ---- figures moved and scaled
+own : (z : ℤ) → mag z < 2 ^ 31 → mag z < 2 ^ 31
+own z l = l
+
+makes-plusY : Makes plusY Meaning.plusY
+unfolding plusY Meaning.plusY
+makes-plusY = record {
+  proper = λ f n v. moved-proper Meaning.kept (λ y. sum y n) f own (λ z l. sum-range z n) v;
+  meant = λ program texts f n l. moved-meant Meaning.kept (λ y. sum y n) f program texts l;
+}
+
+makes-minusY : Makes minusY Meaning.minusY
+unfolding minusY Meaning.minusY
+makes-minusY = record {
+  proper = λ f n v. moved-proper Meaning.kept (λ y. difference y n) f own (λ z l. difference-range z n) v;
+  meant = λ program texts f n l. moved-meant Meaning.kept (λ y. difference y n) f program texts l;
+}
+
+makes-plusX : Makes plusX Meaning.plusX
+unfolding plusX Meaning.plusX
+makes-plusX = record {
+  proper = λ f n v. moved-proper (λ x. sum x n) Meaning.kept f (λ z l. sum-range z n) own v;
+  meant = λ program texts f n l. moved-meant (λ x. sum x n) Meaning.kept f program texts l;
+}
+
+makes-minusX : Makes minusX Meaning.minusX
+unfolding minusX Meaning.minusX
+makes-minusX = record {
+  proper = λ f n v. moved-proper (λ x. difference x n) Meaning.kept f (λ z l. difference-range z n) own v;
+  meant = λ program texts f n l. moved-meant (λ x. difference x n) Meaning.kept f program texts l;
+}
+
+makes-scaledUp : Makes scaledUp Meaning.scaledUp
+unfolding scaledUp Meaning.scaledUp
+makes-scaledUp = record {
+  proper = λ f n v. moved-proper (λ x. product x n) (λ y. product y n) f (λ z l. product-range z n) (λ z l. product-range z n) v;
+  meant = λ program texts f n l. moved-meant (λ x. product x n) (λ y. product y n) f program texts l;
+}
+
+makes-scaledDown : Makes scaledDown Meaning.scaledDown
+unfolding scaledDown Meaning.scaledDown
+makes-scaledDown = record {
+  proper = λ f n v. moved-proper (λ x. quotient x n) (λ y. quotient y n) f (λ z l. quotient-range z n) (λ z l. quotient-range z n) v;
+  meant = λ program texts f n l. moved-meant (λ x. quotient x n) (λ y. quotient y n) f program texts l;
+}
+
+-- ---- all operators
+module _ (e : Setting) {ts : List Token} {granted : Amounts} (gr : Grants (e .grants) granted) where
+  pub operates-on : (o : Operator) (p : ℕ) {r : Raw} {s : State} {total : Amounts} → Related (e .program) ts (e .grants) r s total
+      → (v w : Value) → Valid (e .program) (r .words) v → Valid (e .program) (r .words) w
+      → Follows granted total (Values (e .program) ts (e .grants) r) (operateOn e (tagOf o) p v w r)
+      (Operator.operateOn o p (meantValue (e .program) (r .texts) v) (meantValue (e .program) (r .texts) w) s)
+  unfolding operateOn Operator.operateOn tagOf if_then_else_
+  operates-on concatenate p h v w x y = concatenates e gr h p v w x y
+  operates-on add p h v w x y = calculates e gr h p false sum plusY Meaning.plusY (λ a b l. sum-range a b) makes-plusY v w x y
+  operates-on subtract p h v w x y = calculates e gr h p false difference minusY Meaning.minusY (λ a b l. difference-range a b) makes-minusY v w x y
+  operates-on multiply p h v w x y = calculates e gr h p false product scaledUp Meaning.scaledUp (λ a b l. product-range a b) makes-scaledUp v w x y
+  operates-on divide p h v w x y = calculates e gr h p true quotient scaledDown Meaning.scaledDown (λ a b l. quotient-range a b) makes-scaledDown v w x y
+  operates-on remainder p h v w x y = remainders e gr h p v w
+  operates-on shiftRight p h v w x y = calculates e gr h p false shiftedRight plusX Meaning.plusX (λ a b l. shiftedRight-range a b l) makes-plusX v w x y
+  operates-on shiftLeft p h v w x y = calculates e gr h p false shiftedLeft minusX Meaning.minusX (λ a b l. shiftedLeft-range a b) makes-minusX v w x y
+  operates-on equal p h v w x y = equates e gr h p (λ b. b) v w x y
+  operates-on unequal p h v w x y = equates e gr h p not v w x y
+  operates-on greater p h v w x y = compares e gr h p (λ a b. ltZ b a) v w
+  operates-on less p h v w x y = compares e gr h p ltZ v w
+
+  pub operates : (o : Operator) (p : ℕ) {r : Raw} {s : State} {total : Amounts} → Related (e .program) ts (e .grants) r s total
+      → (v w : Value) → Valid (e .program) (r .words) v → Valid (e .program) (r .words) w → (u u′ : Value.Value)
+      → u ≡ meantValue (e .program) (r .texts) v → u′ ≡ meantValue (e .program) (r .texts) w
+      → Follows granted total (Values (e .program) ts (e .grants) r) (operate e (tagOf o) p v w r) (Operator.operate o p u u′ s)
+  unfolding operate Operator.operate Act._>>=_ Run._>>=_
+  operates o p {r} h v w x y u u′ m m′ =
+      bind (uses h v u x m p) (λ _ _ r₁ s₁ total₁ a.
+      from-here a (bind (uses (a .related) w u′ (valid-later (a .later) w y) (m′ ∙ sym (meant-later (a .later) w y)) p) (λ _ _ r₂ s₂ total₂ b.
+      let l = onward a b in
+      from-here b (rw (m ∙ sym (meant-later (l .later) v x), m′ ∙ sym (meant-later (l .later) w y))
+      (operates-on o p (b .related) v w (valid-later (l .later) v x) (valid-later (l .later) w y))))))

@@ -1,0 +1,93 @@
+-- Arguments evaluated, each pushed.
+use Prim.Native.Nat.{ℕ, zero, suc, _+_, _≤_, _<_}
+use native.Mathlib.Omega.{arith}
+use native.Mathlib.Nat.{le-refl}
+use native.Mathlib.Numerals.{add-one}
+use mathlib.Core.Path.{_≡_, refl, ap, ap₂, sym, _∙_, subst}
+use mathlib.Core.Logic.{_≢_}
+use mathlib.Core.Bool.{Bool, true, false}
+use mathlib.Core.List.{List, [], _∷_}
+use lib.ListN.{getD}
+use lib.Dec.{eqb}
+use borrow.Author.Tests.{eqb-true, eqb-false}
+use Rattle.meaning.specs.Token.{Token}
+use Rattle.meaning.specs.Value as Value
+use Rattle.meaning.specs.State.{State}
+use Rattle.meaning.specs.Book.{Amounts}
+use Rattle.values.specs.declared.Value.{Value}
+use Rattle.values.specs.Words.{packed, unpacked}
+use Rattle.stores.specs.Act.{Raw}
+use Rattle.stores.specs.Arguments.{argumentAt}
+use Rattle.simulation.specs.Meant.{meantValue, meantWord, listed}
+use Rattle.simulation.specs.Sound.{Valid}
+use Rattle.simulation.specs.Follows.{Related, Later}
+use Rattle.simulation.proofs.Frames.{later-refl, later-trans, valid-later, meant-later}
+use Rattle.simulation.proofs.Results.{After, AfterValue}
+use Rattle.simulation.proofs.Arguments.{Pushed}
+use Rattle.simulation.proofs.Keys.{back-again}
+use Rattle.simulation.proofs.Library.{Stacked}
+
+-- some more arguments are held, on top of those that were
+module _ (program : List ℕ) (ts : List Token) (g : List ℕ) where
+  pub record AfterArguments (r : Raw) (us : List Value.Value) (r′ : Raw) (s : State) (total : Amounts) : Type 0 where
+    pub many : ℕ
+    pub related : Related program ts g r′ s total
+    pub later : Later program r r′
+    pub spare : getD (r′ .words) 4 0 + getD (r .words) 0 0 ≤ getD (r .words) 4 0 + getD (r′ .words) 0 0
+    pub held : getD (r′ .words) 6 0 ≡ getD (r .words) 6 0 + many
+    pub arguments : (k : ℕ) → k < getD (r .words) 6 0 → argumentAt (r′ .words) k ≡ argumentAt (r .words) k
+    pub stacked : Stacked program r′ (getD (r .words) 6 0) many us
+
+module _ {program : List ℕ} {ts : List Token} {g : List ℕ} where
+  pub no-more : {r : Raw} {s : State} {total : Amounts} → Related program ts g r s total → AfterArguments program ts g r [] r s total
+  unfolding listed
+  no-more {r} h = record {
+    many = 0;
+    related = h;
+    later = later-refl program r;
+    spare = le-refl _;
+    held = omega arith;
+    arguments = λ k l. refl;
+    stacked = record { within = omega arith; valid = λ k x y. absurd (omega arith); are = refl };
+  }
+
+  module _ {r r₁ r₂ r₃ : Raw} {v : Value} {u : Value.Value} {us : List Value.Value} {s₁ s₃ : State} {total₁ total₃ : Amounts}
+      (a : AfterValue program ts g r v u r₁ s₁ total₁) (b : Pushed program ts g r₁ (packed v) r₂ s₁ total₁) (c : AfterArguments program ts g r₂ us r₃ s₃ total₃) where
+    base : getD (r₂ .words) 6 0 ≡ suc (getD (r .words) 6 0)
+    base = b .held ∙ ap (λ n. n + 1) (a .after .held) ∙ add-one (getD (r .words) 6 0)
+
+    later₃ : Later program r₁ r₃
+    later₃ = later-trans (b .later) (c .later)
+
+    own : argumentAt (r₃ .words) (getD (r .words) 6 0) ≡ packed v
+    own =
+        c .arguments (getD (r .words) 6 0) (omega (arith, base)) ∙ ap (argumentAt (r₂ .words)) (sym (a .after .held)) ∙ b .newest
+
+    own-value : unpacked (argumentAt (r₃ .words) (getD (r .words) 6 0)) ≡ v
+    own-value = rw own (back-again (a .after .related .sound) v (a .valid))
+
+    now-valid : Valid program (r₃ .words) v
+    now-valid = valid-later later₃ v (a .valid)
+
+    pub one-more : AfterArguments program ts g r (u ∷ us) r₃ s₃ total₃
+    unfolding listed
+    one-more = record {
+      many = suc (c .many);
+      related = c .related;
+      later = later-trans (a .after .later) later₃;
+      spare = omega (arith, a .after .spare, b .steps, b .tables, c .spare);
+      held = omega (arith, c .held, base);
+      arguments = λ k l.
+          c .arguments k (omega (arith, base)) ∙ b .arguments k (rw (a .after .held) l) ∙ a .after .arguments k l;
+      stacked = record {
+        within = omega (arith, c .held, base);
+        valid = λ k x y. at k x y (eqb k (getD (r .words) 6 0)) refl;
+        are = ap₂ _∷_ (a .means ∙ sym (meant-later later₃ v (a .valid)) ∙ ap (meantValue program (r₃ .texts)) (sym own-value))
+            (c .stacked .are ∙ ap (λ n. listed (λ k. meantWord program r₃ (argumentAt (r₃ .words) k)) n (c .many)) base);
+      };
+    }
+      where
+        at : (k : ℕ) → getD (r .words) 6 0 ≤ k → k < getD (r .words) 6 0 + suc (c .many) → (t : Bool) → eqb k (getD (r .words) 6 0) ≡ t
+            → Valid program (r₃ .words) (unpacked (argumentAt (r₃ .words) k))
+        at k x y true e = rw (eqb-true k (getD (r .words) 6 0) e, own-value) now-valid
+        at k x y false e = let d : k ≢ getD (r .words) 6 0 = eqb-false k (getD (r .words) 6 0) e in c .stacked .valid k (omega (arith, base)) (omega (arith, base))

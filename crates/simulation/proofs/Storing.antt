@@ -1,0 +1,379 @@
+-- Entries stored: a new one added, or the one with the key overwritten.
+use Prim.Native.Nat.{ℕ, zero, suc, _+_, _-_, _*_, _/_, _%_, _^_, _≤_, _<_}
+use native.Mathlib.Omega.{arith}
+use mathlib.Core.Path.{_≡_, refl, ap, ap₂, sym, _∙_, subst}
+use mathlib.Core.Logic.{_≢_}
+use mathlib.Core.Bool.{Bool, true, false, _&&_}
+use mathlib.Core.List.{List, [], _∷_, _++_}
+use mathlib.Core.Option.{Option, some}
+use mathlib.Core.Option as Option
+use lib.ListN.{getD, set, length, length-set}
+use lib.Seq.{getD-set-same, getD-set-other}
+use lib.Dec.{eqb}
+use borrow.Author.Tests.{eqb-true, eqb-false, eq-eqb, ne-eqb}
+use Rattle.meaning.specs.Basics.{if_then_else_}
+use Rattle.meaning.specs.Token.{Token}
+use Rattle.meaning.proofs.KeyLaws.{sameKey-same, sameKey-iff}
+use Rattle.meaning.specs.Value as Value
+use Rattle.meaning.specs.State.{State, Key, Entry, keyOf, matches, sameKey, entryIn, overwritten, withEntries}
+use Rattle.meaning.specs.Run.{taking}
+use Rattle.meaning.specs.Run as Run
+use Rattle.meaning.specs.Book.{Amounts, added, resourceNumber, shortageOf}
+use Rattle.meaning.specs.Execute.{storing, updating}
+use Rattle.meaning.specs.Execute as Execute
+use Rattle.values.specs.declared.Value.{Value}
+use Rattle.values.specs.Words.{packed, unpacked}
+use Rattle.stores.specs.Layout.{entriesUsed, entryPlace}
+use Rattle.stores.specs.Act.{Raw, raw}
+use Rattle.stores.specs.Act as Act
+use Rattle.stores.specs.Tables.{ownerAt, keyAt, valueAt, findEntry, bucketOf, headPlace, entryLaid, putEntry, addEntry, storeIn, storeEntry}
+use Rattle.executor.specs.declared.Flow.the-variants.{Onward}
+use Rattle.simulation.specs.Meant.{meantValue, meantWord, listed, shapesOf, keyAmong, meantKey, entryAt, entriesOf}
+use Rattle.simulation.specs.Sound.{Valid, Counted, Entries}
+use Rattle.simulation.specs.Follows.{Grants, Related, Later, Follows}
+use Rattle.simulation.proofs.Binding.{act-after}
+use Rattle.simulation.proofs.Listed.{listed-first, listed-more}
+use Rattle.simulation.proofs.Frames.{valid-later, meant-later, key-later, SameVariables, variables-kept, variables-same, SameShapes, shapes-kept, shapes-same}
+use Rattle.simulation.proofs.Results.{given, After, steps-told, spent-then}
+use Rattle.simulation.proofs.Counting.{figure-same}
+use Rattle.simulation.proofs.Shapes.{up-to, read-four, read-first, read-second, read-third}
+use Rattle.simulation.proofs.Keys.{back-again}
+use Rattle.simulation.proofs.Lookup.{key-is, matches-alike, others, found-less, found-meets, missing-all, missing, present, one-overwritten}
+use Rattle.simulation.proofs.Flows.{both-onward, AfterFlow, Flows}
+
+-- ---- nothing but entries has changed
+module _ {program : List ℕ} {ts : List Token} {g : List ℕ} {r : Raw} {s : State} {total : Amounts} (h : Related program ts g r s total) (ws′ : List ℕ)
+    (low : (j : ℕ) → j ≢ 2 → j < 24584 + 3 * getD g 1 0 → getD ws′ j 0 ≡ getD (r .words) j 0) where
+  counter : (j : ℕ) → j ≢ 2 → j < 7 → getD ws′ j 0 ≡ getD (r .words) j 0
+  counter j n l = low j n (omega arith)
+
+  pub stored-later : Later program r (raw (r .texts) ws′)
+  stored-later = record {
+    steps = omega (arith, counter 0 (λ e. omega arith) (omega arith));
+    shapes = omega (arith, counter 1 (λ e. omega arith) (omega arith));
+    text = omega (arith, counter 3 (λ e. omega arith) (omega arith));
+    tables = omega (arith, counter 4 (λ e. omega arith) (omega arith));
+    texts = λ t v. refl;
+    figures = λ i l. figure-same (r .words) ws′ i (λ j k. low _ (λ e. omega arith) (omega (arith, h .sound .counted .shapes)));
+  }
+
+  stored-variables : SameVariables stored-later
+  stored-variables = record { count = counter 5 (λ e. omega arith) (omega arith); words = λ i a b. low i (λ e. omega arith) (omega arith) }
+
+  stored-shapes : SameShapes stored-later
+  stored-shapes = record {
+    count = counter 1 (λ e. omega arith) (omega arith);
+    words = λ i j a b. low _ (λ e. omega arith) (omega (arith, h .sound .counted .shapes));
+  }
+
+  pub stored : (es : List Entry) (total′ : Amounts) → length ws′ ≡ length (r .words) → getD ws′ 2 0 ≤ getD g 2 0 → Entries program g (raw (r .texts) ws′)
+      → es ≡ entriesOf program g (raw (r .texts) ws′)
+      → total′ Run.steps ≡ total Run.steps → total′ Run.shapes ≡ total Run.shapes → total′ Run.entries ≡ getD ws′ 2 0 → total′ Run.textBytes ≡ total Run.textBytes
+      → After program ts g r (raw (r .texts) ws′) (withEntries s es) total′
+  stored es total′ long fit en e a b c d = let n = h .sound .counted in let l = h .sound .lent in record {
+    related = record {
+      sound = record {
+        lent = record {
+          room = record { steps = l .room .steps; shapes = l .room .shapes; entries = l .room .entries; text = l .room .text; words = rw long (l .room .words) };
+          texts = l .texts;
+        };
+        counted = record {
+          steps = rw (counter 0 (λ e. omega arith) (omega arith)) (n .steps);
+          shapes = rw (counter 1 (λ e. omega arith) (omega arith)) (n .shapes);
+          entries = fit;
+          text = rw (counter 3 (λ e. omega arith) (omega arith)) (n .text);
+          tables = rw (counter 4 (λ e. omega arith) (omega arith), counter 0 (λ e. omega arith) (omega arith)) (n .tables);
+          arguments = rw (counter 6 (λ e. omega arith) (omega arith)) (n .arguments);
+        };
+        variables = variables-kept stored-later stored-variables ts (h .sound .variables);
+        shapes = shapes-kept stored-later stored-shapes (h .sound .shapes);
+        entries = en;
+      };
+      variables = h .variables ∙ sym (variables-same stored-later stored-variables ts (h .sound .variables));
+      shapes = h .shapes ∙ sym (shapes-same stored-later stored-shapes (h .sound .shapes));
+      tables = h .tables ∙ sym (counter 4 (λ e. omega arith) (omega arith));
+      entries = e;
+      stepsTaken = a ∙ h .stepsTaken ∙ sym (counter 0 (λ e. omega arith) (omega arith));
+      shapesTaken = b ∙ h .shapesTaken ∙ sym (counter 1 (λ e. omega arith) (omega arith));
+      entriesTaken = c;
+      textTaken = d ∙ h .textTaken ∙ sym (counter 3 (λ e. omega arith) (omega arith));
+    };
+    later = stored-later;
+    spare = omega (arith, counter 0 (λ e. omega arith) (omega arith), counter 4 (λ e. omega arith) (omega arith));
+    held = counter 6 (λ e. omega arith) (omega arith);
+    arguments = λ k b. low _ (λ e. omega arith) (omega arith);
+  }
+
+  -- what an entry is called and holds, by its words
+  pub key-stays : (w : ℕ) → Valid program (r .words) (unpacked w) → meantKey program (raw (r .texts) ws′) w ≡ meantKey program r w
+  key-stays w l = key-later stored-later (h .sound .shapes) (unpacked w) l
+
+module _ {program : List ℕ} {ts : List Token} {g : List ℕ} {r : Raw} {s : State} {total : Amounts} (h : Related program ts g r s total)
+    (t : ℕ) (made : t < getD (r .words) 4 0) (v : Value) (valid : Valid program (r .words) v) (w : Value) (valid′ : Valid program (r .words) w) where
+  abbrev used : ℕ
+  used = getD (r .words) 2 0
+
+  abbrev found : ℕ
+  found = findEntry program g (r .texts) (r .words) t (packed v)
+
+  abbrev key : Key
+  key = keyAmong (shapesOf program r) (meantValue program (r .texts) v)
+
+  old : Entries program g r
+  old = h .sound .entries
+
+  back : unpacked (packed w) ≡ w
+  back = back-again (h .sound) w valid′
+
+  back-key : unpacked (packed v) ≡ v
+  back-key = back-again (h .sound) v valid
+
+  -- ---- overwritten
+  module _ (n : findEntry program g (r .texts) (r .words) t (packed v) ≢ 0) where
+    abbrev at : ℕ
+    at = findEntry program g (r .texts) (r .words) t (packed v) - 1
+
+    less : at < used
+    less = found-less h t v valid n
+
+    abbrev over : List ℕ
+    over = set (r .words) (entryPlace g (findEntry program g (r .texts) (r .words) t (packed v) - 1) + 2) (packed w)
+
+    over-other : (j : ℕ) → j ≢ entryPlace g at + 2 → getD over j 0 ≡ getD (r .words) j 0
+    over-other j d = getD-set-other (r .words) (entryPlace g at + 2) j (packed w) 0 d
+
+    over-own : valueAt g over at ≡ packed w
+    over-own = getD-set-same (r .words) (entryPlace g at + 2) (packed w) 0 (omega (arith, less, h .sound .counted .entries, h .sound .lent .room .words))
+
+    over-low : (j : ℕ) → j ≢ 2 → j < 24584 + 3 * getD g 1 0 → getD over j 0 ≡ getD (r .words) j 0
+    over-low j d l = over-other j (λ e. omega arith)
+
+    over-count : getD over 2 0 ≡ used
+    over-count = over-other 2 (λ e. omega arith)
+
+    over-owner : (k : ℕ) → ownerAt g over k ≡ ownerAt g (r .words) k
+    over-owner k = ap (λ w. w % 2 ^ 40) (over-other _ (λ e. omega arith))
+
+    over-key : (k : ℕ) → keyAt g over k ≡ keyAt g (r .words) k
+    over-key k = over-other _ (λ e. omega arith)
+
+    over-value : (k : ℕ) → k ≢ at → valueAt g over k ≡ valueAt g (r .words) k
+    over-value k d = over-other _ (λ e. d (omega arith))
+
+    abbrev over-later : Later program r (raw (r .texts) over)
+    over-later = stored-later h over over-low
+
+    over-meant : (k : ℕ) → k < used → meantKey program (raw (r .texts) over) (keyAt g over k) ≡ meantKey program r (keyAt g (r .words) k)
+    over-meant k l = rw (over-key k) (key-stays h over over-low (keyAt g (r .words) k) (old .keys k l))
+
+    over-holds : (k : ℕ) → k < used → Valid program over (unpacked (valueAt g over k))
+    over-holds k l = go (eqb k at) refl
+      where
+        go : (b : Bool) → eqb k at ≡ b → Valid program over (unpacked (valueAt g over k))
+        go true e = rw (eqb-true k at e, over-own, back) (valid-later over-later w valid′)
+        go false e = rw (over-value k (eqb-false k at e)) (valid-later over-later (unpacked (valueAt g (r .words) k)) (old .holds k l))
+
+    over-entries : Entries program g (raw (r .texts) over)
+    over-entries = record {
+      packs = λ k l. rw (over-key k) (old .packs k (rw over-count at l));
+      keys = λ k l. rw (over-key k) (valid-later over-later _ (old .keys k (rw over-count at l)));
+      holds = λ k l. over-holds k (rw over-count at l);
+      apart = λ j k a b x y.
+          let p = rw over-count at a in
+          let q = rw over-count at b in
+          old .apart j k p q (sym (over-owner j) ∙ x ∙ over-owner k) (sym (over-meant j p) ∙ y ∙ over-meant k q);
+    }
+
+    over-this : entryAt program g (raw (r .texts) over) at
+        ≡ record { owner = entryAt program g r at .owner; key = entryAt program g r at .key; holds = meantValue program (r .texts) w }
+    unfolding entryAt
+    over-this =
+        let o = over-owner at in
+        let k = over-meant at less in
+        let u : meantWord program (raw (r .texts) over) (valueAt g over at) ≡ meantValue program (r .texts) w = rw (over-own, back) in
+        λ i. record { owner = o i; key = k i; holds = u i }
+
+    over-that : (j : ℕ) → j < used → j ≢ at → entryAt program g (raw (r .texts) over) j ≡ entryAt program g r j
+    unfolding entryAt
+    over-that j l d =
+        let o = over-owner j in
+        let k = over-meant j l in
+        let u : meantWord program (raw (r .texts) over) (valueAt g over j) ≡ meantWord program r (valueAt g (r .words) j) = rw (over-value j d) in
+        λ i. record { owner = o i; key = k i; holds = u i }
+
+    over-list : overwritten (s .entries) t key (meantValue program (r .texts) w) ≡ entriesOf program g (raw (r .texts) over)
+    unfolding entriesOf
+    over-list = rw (h .entries) (one-overwritten (entryAt program g r) t key (meantValue program (r .texts) w) (entryAt program g (raw (r .texts) over)) 0 used at
+        (omega arith) (omega (arith, less)) (matches-alike h t v valid at less ∙ found-meets h t v valid n)
+        (λ j a b d. matches-alike h t v valid j (omega arith) ∙ others h t v valid at less (found-meets h t v valid n) j (omega arith) d)
+        over-this (λ j a b d. over-that j (omega arith) d)
+        ∙ ap (listed (entryAt program g (raw (r .texts) over)) 0) (sym over-count))
+
+    pub overwrites : After program ts g r (raw (r .texts) over) (withEntries s (overwritten (s .entries) t key (meantValue program (r .texts) w))) total
+    overwrites = stored h over over-low (overwritten (s .entries) t key (meantValue program (r .texts) w)) total (length-set (r .words) (entryPlace g at + 2) (packed w))
+        (rw over-count (h .sound .counted .entries)) over-entries over-list refl refl (h .entriesTaken ∙ sym over-count) refl
+
+  -- ---- added
+  module _ (none : findEntry program g (r .texts) (r .words) t (packed v) ≡ 0) (fit : getD (r .words) 2 0 + 1 ≤ getD g 2 0) (bucket : ℕ) where
+    abbrev place : ℕ
+    place = entryPlace g (getD (r .words) 2 0)
+
+    abbrev head : ℕ
+    head = headPlace g bucket
+
+    abbrev paid : List ℕ
+    paid = set (r .words) 2 (getD (r .words) 2 0 + 1)
+
+    abbrev more : List ℕ
+    more = entryLaid (set (r .words) 2 (getD (r .words) 2 0 + 1)) (entryPlace g (getD (r .words) 2 0)) (headPlace g bucket) t (packed v) (packed w) (getD (r .words) 2 0 + 1)
+
+    long : place + 3 ≤ length (r .words)
+    long = omega (arith, fit, h .sound .lent .room .words)
+
+    long-paid : place + 3 ≤ length paid
+    long-paid = rw (length-set (r .words) 2 (used + 1)) long
+
+    more-other : (j : ℕ) → j ≢ 2 → j ≢ place → j ≢ place + 1 → j ≢ place + 2 → j ≢ head → getD more j 0 ≡ getD (r .words) j 0
+    more-other j a b c d e =
+        read-four paid place (place + 1) (place + 2) head (t + 2 ^ 40 * getD paid head 0) (packed v) (packed w) (used + 1) j b c d e
+        ∙ getD-set-other (r .words) 2 j (used + 1) 0 a
+
+    more-count : getD more 2 0 ≡ used + 1
+    more-count =
+        read-four paid place (place + 1) (place + 2) head (t + 2 ^ 40 * getD paid head 0) (packed v) (packed w) (used + 1) 2
+        (λ e. omega arith) (λ e. omega arith) (λ e. omega arith) (λ e. omega arith)
+        ∙ getD-set-same (r .words) 2 (used + 1) 0 (omega (arith, long))
+
+    small : t < 2 ^ 40
+    small = omega (arith, h .sound .counted .tables, h .sound .counted .steps, h .sound .lent .room .steps)
+
+    new-owner : ownerAt g more used ≡ t
+    new-owner =
+        let q : getD more place 0 ≡ t + 2 ^ 40 * getD paid head 0 =
+        read-first paid place (place + 1) (place + 2) head (t + 2 ^ 40 * getD paid head 0) (packed v) (packed w) (used + 1) (omega (arith, long-paid))
+        (λ e. omega arith) (λ e. omega arith) (λ e. omega arith) in
+        rw q (omega (arith, small))
+
+    new-key : keyAt g more used ≡ packed v
+    new-key = read-second paid place (place + 1) (place + 2) head (t + 2 ^ 40 * getD paid head 0) (packed v) (packed w) (used + 1) (omega (arith, long-paid))
+        (λ e. omega arith) (λ e. omega arith)
+
+    new-value : valueAt g more used ≡ packed w
+    new-value = read-third paid place (place + 1) (place + 2) head (t + 2 ^ 40 * getD paid head 0) (packed v) (packed w) (used + 1) (omega (arith, long-paid))
+        (λ e. omega arith)
+
+    more-low : (j : ℕ) → j ≢ 2 → j < 24584 + 3 * getD g 1 0 → getD more j 0 ≡ getD (r .words) j 0
+    more-low j d l = more-other j d (λ e. omega arith) (λ e. omega arith) (λ e. omega arith) (λ e. omega arith)
+
+    old-owner : (k : ℕ) → k < used → ownerAt g more k ≡ ownerAt g (r .words) k
+    old-owner k l = ap (λ w. w % 2 ^ 40) (more-other _ (λ e. omega arith) (λ e. omega arith) (λ e. omega arith) (λ e. omega arith) (λ e. omega arith))
+
+    old-key : (k : ℕ) → k < used → keyAt g more k ≡ keyAt g (r .words) k
+    old-key k l = more-other _ (λ e. omega arith) (λ e. omega arith) (λ e. omega arith) (λ e. omega arith) (λ e. omega arith)
+
+    old-value : (k : ℕ) → k < used → valueAt g more k ≡ valueAt g (r .words) k
+    old-value k l = more-other _ (λ e. omega arith) (λ e. omega arith) (λ e. omega arith) (λ e. omega arith) (λ e. omega arith)
+
+    abbrev more-later : Later program r (raw (r .texts) more)
+    more-later = stored-later h more more-low
+
+    old-meant : (k : ℕ) → k < used → meantKey program (raw (r .texts) more) (keyAt g more k) ≡ meantKey program r (keyAt g (r .words) k)
+    old-meant k l = rw (old-key k l) (key-stays h more more-low (keyAt g (r .words) k) (old .keys k l))
+
+    new-meant : meantKey program (raw (r .texts) more) (keyAt g more used) ≡ key
+    new-meant = rw (new-key, back-key) (key-later more-later (h .sound .shapes) v valid)
+
+    -- no entry has this owner and this key yet
+    fresh : (k : ℕ) → k < used → ownerAt g (r .words) k ≡ t → meantKey program r (keyAt g (r .words) k) ≡ key → ⊥
+    unfolding entryAt
+    fresh k l a b =
+        let m = missing-all h t v valid none k l in
+        let q : matches (entryAt program g r k) t key ≡ true = rw (eq-eqb _ _ a, b, sameKey-same key) in
+        let z : true ≡ false = sym q ∙ m in
+        let y : _≡_ {A = ℕ} 0 1 = cc in omega arith
+
+    more-entries : Entries program g (raw (r .texts) more)
+    more-entries = record {
+      packs = λ k l. up-to (λ k. packed (unpacked (keyAt g more k)) ≡ keyAt g more k) used (λ k l. rw (old-key k l) (old .packs k l)) (rw (new-key, back-key)) k (rw more-count at l);
+      keys = λ k l. up-to (λ k. Valid program more (unpacked (keyAt g more k))) used (λ k l. rw (old-key k l) (valid-later more-later _ (old .keys k l)))
+          (rw (new-key, back-key) (valid-later more-later v valid)) k (rw more-count at l);
+      holds = λ k l. up-to (λ k. Valid program more (unpacked (valueAt g more k))) used (λ k l. rw (old-value k l) (valid-later more-later _ (old .holds k l)))
+          (rw (new-value, back) (valid-later more-later w valid′)) k (rw more-count at l);
+      apart = λ j k a b.
+          up-to (λ j. ownerAt g more j ≡ ownerAt g more k → meantKey program (raw (r .texts) more) (keyAt g more j) ≡ meantKey program (raw (r .texts) more) (keyAt g more k) → j ≡ k) used
+          (λ j a. up-to (λ k. ownerAt g more j ≡ ownerAt g more k → meantKey program (raw (r .texts) more) (keyAt g more j) ≡ meantKey program (raw (r .texts) more) (keyAt g more k) → j ≡ k) used
+          (λ k b x y. old .apart j k a b (sym (old-owner j a) ∙ x ∙ old-owner k b) (sym (old-meant j a) ∙ y ∙ old-meant k b))
+          (λ x y. absurd (fresh j a (sym (old-owner j a) ∙ x ∙ new-owner) (sym (old-meant j a) ∙ y ∙ new-meant))) k (rw more-count at b))
+          (up-to (λ k. ownerAt g more used ≡ ownerAt g more k → meantKey program (raw (r .texts) more) (keyAt g more used) ≡ meantKey program (raw (r .texts) more) (keyAt g more k) → used ≡ k) used
+          (λ k b x y. absurd (fresh k b (sym (old-owner k b) ∙ sym x ∙ new-owner) (sym (old-meant k b) ∙ sym y ∙ new-meant)))
+          (λ x y. refl) k (rw more-count at b))
+          j (rw more-count at a);
+    }
+
+    last-entry : entryAt program g (raw (r .texts) more) (0 + used) ≡ record { owner = t; key = key; holds = meantValue program (r .texts) w }
+    unfolding entryAt
+    last-entry =
+        let z : 0 + used ≡ used = omega arith in
+        let u : meantWord program (raw (r .texts) more) (valueAt g more used) ≡ meantValue program (r .texts) w = rw (new-value, back) in
+        let o = new-owner in
+        let k = new-meant in
+        ap (entryAt program g (raw (r .texts) more)) z ∙ (λ i. record { owner = o i; key = k i; holds = u i })
+
+    entry-as : (k : ℕ) → k < used → entryAt program g (raw (r .texts) more) k ≡ entryAt program g r k
+    unfolding entryAt
+    entry-as j l =
+        let o = old-owner j l in
+        let k = old-meant j l in
+        let u : meantWord program (raw (r .texts) more) (valueAt g more j) ≡ meantWord program r (valueAt g (r .words) j) = rw (old-value j l) in
+        λ i. record { owner = o i; key = k i; holds = u i }
+
+    more-list : s .entries ++ (record { owner = t; key = key; holds = meantValue program (r .texts) w } ∷ []) ≡ entriesOf program g (raw (r .texts) more)
+    unfolding entriesOf
+    more-list =
+        let z : used + 1 ≡ suc used = omega arith in
+        rw (h .entries)
+        (sym (ap (listed (entryAt program g (raw (r .texts) more)) 0) (more-count ∙ z) ∙ listed-more (entryAt program g (raw (r .texts) more)) 0 used
+        ∙ ap₂ (λ (l : List Entry) (a : Entry). l ++ (a ∷ [])) (listed-first (entryAt program g (raw (r .texts) more)) (entryAt program g r) used entry-as) last-entry))
+
+    pub adds : (p : ℕ) → After program ts g r (raw (r .texts) more)
+        (withEntries s (s .entries ++ (record { owner = t; key = key; holds = meantValue program (r .texts) w } ∷ []))) (added total (taking Run.entries 1 p))
+    unfolding added resourceNumber
+    adds p = stored h more more-low _ (added total (taking Run.entries 1 p))
+        (length-set (set (set (set paid place (t + 2 ^ 40 * getD paid head 0)) (place + 1) (packed v)) (place + 2) (packed w)) head (used + 1)
+        ∙ length-set (set (set paid place (t + 2 ^ 40 * getD paid head 0)) (place + 1) (packed v)) (place + 2) (packed w)
+        ∙ length-set (set paid place (t + 2 ^ 40 * getD paid head 0)) (place + 1) (packed v)
+        ∙ length-set paid place (t + 2 ^ 40 * getD paid head 0) ∙ length-set (r .words) 2 (used + 1))
+        (rw more-count fit) more-entries more-list (omega arith) (omega arith) (omega (arith, h .entriesTaken, more-count)) (omega arith)
+
+  -- ---- stored
+  module _ {granted : Amounts} (gr : Grants g granted) (p : ℕ) where
+    stores-new : findEntry program g (r .texts) (r .words) t (packed v) ≡ 0
+        → Follows granted total (λ _ f r′ s′ total′. AfterFlow program ts g r Onward f r′ s′ total′) (addEntry program g t (packed v) (packed w) p r)
+        (storing p t key (meantValue program (r .texts) w) Option.none s)
+    unfolding addEntry storing putEntry Act._>>=_ Act.goOn Act.load Run._>>=_ Run.goOn Run.current Run.become Run.give shortageOf
+    stores-new none =
+        spent-then Run.entries 2 (getD g 2 0) 1 77 p r s (h .entriesTaken) (gr .entries) refl (steps-told h) _ _
+        (λ fit. given (record { after = adds none fit (bucketOf program g (r .texts) (r .words) t (packed v)) p; flow = both-onward }))
+
+    stores-old : (n : findEntry program g (r .texts) (r .words) t (packed v) ≢ 0) (u : Value.Value)
+        → Follows granted total (λ _ f r′ s′ total′. AfterFlow program ts g r Onward f r′ s′ total′)
+        (Act.store (entryPlace g (findEntry program g (r .texts) (r .words) t (packed v) - 1) + 2) (packed w) r)
+        (storing p t key (meantValue program (r .texts) w) (some u) s)
+    unfolding storing Act.store Run._>>=_ Run.goOn Run.current Run.become Run.give
+    stores-old n u = given (record { after = overwrites n; flow = both-onward })
+
+    stores-in : Follows granted total (λ _ f r′ s′ total′. AfterFlow program ts g r Onward f r′ s′ total′) (storeEntry program g t (packed v) (packed w) p r)
+        (updating p t (meantValue program (r .texts) v) (meantValue program (r .texts) w) s)
+    unfolding storeEntry storeIn updating if_then_else_ Run._>>=_ Run.goOn Run.current
+    stores-in = go (eqb found 0) refl
+      where
+        go : (b : Bool) → eqb found 0 ≡ b
+            → Follows granted total (λ _ f r′ s′ total′. AfterFlow program ts g r Onward f r′ s′ total′) (storeEntry program g t (packed v) (packed w) p r)
+            (updating p t (meantValue program (r .texts) v) (meantValue program (r .texts) w) s)
+        go true e = rw (e, missing h t v valid (eqb-true _ _ e), key-is h t v valid) (stores-new (eqb-true _ _ e))
+        go false e = rw (e, present h t v valid (eqb-false _ _ e), key-is h t v valid) (stores-old (eqb-false _ _ e) _)
+
+    pub stores : Follows granted total (Flows program ts g r) (Act._>>_ (storeEntry program g t (packed v) (packed w) p) (Act.give Onward) r)
+        (updating p t (meantValue program (r .texts) v) (meantValue program (r .texts) w) s)
+    unfolding Act._>>=_ Act.give
+    stores = act-after (λ _. Act.give Onward) (λ _ f r′ s′ total′ q. record { result = Onward; slices = r′; is = refl; holds = q }) stores-in

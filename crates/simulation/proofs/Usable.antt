@@ -1,0 +1,46 @@
+-- Destroyed shapes are refused alike.
+use Prim.Native.Nat.{ℕ, _+_, _≤_, _<_}
+use mathlib.Core.Path.{_≡_, refl, ap, sym, _∙_}
+use mathlib.Core.Bool.{Bool, true, false}
+use mathlib.Core.List.{List, [], _∷_, _++_}
+use lib.ListN.{getD}
+use Rattle.meaning.specs.Token.{Token}
+use Rattle.meaning.specs.Figure.{Figure}
+use Rattle.meaning.specs.Value as Value
+use Rattle.meaning.specs.State.{State, noShape, isDestroyed, figureOf}
+use Rattle.meaning.specs.State as State
+use Rattle.meaning.specs.Run as Run
+use Rattle.meaning.specs.Book.{Amounts}
+use Rattle.meaning.specs.Operator as Operator
+use Rattle.values.specs.declared.Value.{Value}
+use Rattle.values.specs.declared.Value.the-variants.{Integer, Text, Boolean, Nothing, Table, Shape}
+use Rattle.stores.specs.Act.{Raw}
+use Rattle.stores.specs.Shapes.{figureAt}
+use Rattle.stores.specs.Variables.{isDead, usable}
+use Rattle.simulation.specs.Meant.{meantValue, meantFigure, shapeAt, shapesOf}
+use Rattle.simulation.specs.Sound.{Valid}
+use Rattle.simulation.specs.Follows.{Related, Follows}
+use Rattle.simulation.proofs.Frames.{figure-made}
+use Rattle.simulation.proofs.Results.{Units, refused}
+
+module _ {program : List ℕ} {ts : List Token} {g : List ℕ} {r : Raw} {s : State} {total : Amounts} (h : Related program ts g r s total) where
+  pub shape-found : (i : ℕ) → i < getD (r .words) 1 0 → getD (s .shapes) i noShape ≡ shapeAt program r i
+  shape-found i l = rw (h .shapes) (figure-made program r i l)
+
+  pub figure-found : (i : ℕ) → i < getD (r .words) 1 0 → figureOf s i ≡ meantFigure program (r .texts) (figureAt (r .words) i)
+  unfolding shapeAt
+  figure-found i l = ap (λ (a : State.Shape). a .figure) (shape-found i l)
+
+  dead-same : (v : Value) → Valid program (r .words) v → isDead (r .words) v ≡ Operator.isDead s (meantValue program (r .texts) v)
+  unfolding isDead Operator.isDead Valid meantValue shapeAt
+  dead-same (Integer z) w = refl
+  dead-same (Text t) w = refl
+  dead-same (Boolean b) w = refl
+  dead-same Nothing w = refl
+  dead-same (Table t) w = refl
+  dead-same (Shape i) w = sym (ap (λ (a : State.Shape). a .destroyed) (shape-found i w))
+
+  pub uses : {granted : Amounts} (v : Value) (u : Value.Value) → Valid program (r .words) v → u ≡ meantValue program (r .texts) v → (p : ℕ)
+      → Follows granted total (Units program ts g r) (usable p v r) (Operator.usable p u s)
+  unfolding usable Operator.usable Run._>>=_ Run.goOn Run.current
+  uses v u w e p = refused h (isDead (r .words) v) (Operator.isDead s u) (dead-same v w ∙ rw e) 30 p

@@ -1,0 +1,110 @@
+-- Variables: looked up by slot as by name.
+use Prim.Native.Nat.{ℕ, zero, suc, _+_, _%_, _≤_, _<_}
+use native.Mathlib.Omega.{arith}
+use mathlib.Core.Path.{_≡_, refl, ap, ap₂, sym, _∙_}
+use mathlib.Core.Logic.{_≢_}
+use mathlib.Core.Bool.{Bool, true, false, not, cond}
+use mathlib.Core.List.{List, [], _∷_, _++_}
+use mathlib.Core.Option.{Option, some}
+use mathlib.Core.Option as Option
+use lib.ListN.{getD, set, length}
+use lib.Dec.{eqb}
+use borrow.Author.Tests.{eqb-true, eqb-false, eq-eqb, ne-eqb}
+use Rattle.meaning.specs.Basics.{if_then_else_, sameText}
+use Rattle.meaning.specs.Token.{Token, aName}
+use Rattle.meaning.specs.Grammar.{textAt}
+use Rattle.meaning.specs.Value as Value
+use Rattle.meaning.specs.State.{State, Variable, valueIn, isSome, assigned}
+use Rattle.meaning.specs.State as State
+use Rattle.meaning.specs.Run as Run
+use Rattle.meaning.specs.Book.{Amounts}
+use Rattle.meaning.specs.Operator as Operator
+use Rattle.meaning.specs.Evaluate as Evaluate
+use Rattle.code.specs.Code.{slotOf}
+use Rattle.reader.proofs.Homes.{Occurs, Found, occurs-found, slot-small, same-text, text-same}
+use Rattle.values.specs.declared.Value.{Value}
+use Rattle.values.specs.Words.{packed, unpacked}
+use Rattle.stores.specs.Layout.{declared, valuePlace, orderPlace}
+use Rattle.stores.specs.Act.{Raw, raw}
+use Rattle.stores.specs.Act as Act
+use Rattle.stores.specs.Variables.{isDeclared, variable}
+use Rattle.simulation.specs.Meant.{meantValue, meantWord, listed, slotAt, variableAt, variablesOf}
+use Rattle.simulation.specs.Sound.{Valid, declaredAmong, Variables}
+use Rattle.simulation.specs.Follows.{Related, Follows}
+use Rattle.simulation.proofs.Binding.{bind}
+use Rattle.simulation.proofs.Results.{given, failed, After, AfterValue, Units, Values, unmoved, onward, still, steps-told}
+use Rattle.simulation.proofs.Usable.{uses}
+
+-- ---- looking up
+module _ (f : ℕ → Variable) (x : List ℕ) where
+  pub none-found : (k n : ℕ) → ((j : ℕ) → k ≤ j → j < k + n → sameText (f j .name) x ≡ false) → valueIn (listed f k n) x ≡ Option.none
+  unfolding listed valueIn if_then_else_
+  none-found k zero h = refl
+  none-found k (suc n) h = rw (h k (omega arith) (omega arith)) (none-found (suc k) n (λ j a b. h j (omega arith) (omega arith)))
+
+  pub one-found : (u : Value.Value) (k n : ℕ) → ((j : ℕ) → k ≤ j → j < k + n → sameText (f j .name) x ≡ true → f j .holds ≡ u)
+      → (i : ℕ) → k ≤ i → i < k + n → sameText (f i .name) x ≡ true → valueIn (listed f k n) x ≡ some u
+  unfolding listed valueIn if_then_else_
+  one-found u k zero h i a b e = absurd (omega arith)
+  one-found u k (suc n) h i a b e = go (sameText (f k .name) x) refl (λ q. one-found u (suc k) n (λ j y z. h j (omega arith) (omega arith)) i (behind q) (omega arith) e)
+    where
+      behind : sameText (f k .name) x ≡ false → suc k ≤ i
+      behind q = let n : k ≢ i = λ z. let w : true ≡ false = sym e ∙ ap (λ j. sameText (f j .name) x) (sym z) ∙ q in let y : _≡_ {A = ℕ} 0 1 = cc in omega arith in omega arith
+
+      go : (b : Bool) → sameText (f k .name) x ≡ b → (sameText (f k .name) x ≡ false → valueIn (listed f (suc k) n) x ≡ some u)
+          → (if b then (λ _. some (f k .holds)) else λ _. valueIn (listed f (suc k) n) x) ≡ some u
+      go true q r = ap some (h k (omega arith) (omega arith) q)
+      go false q r = r q
+
+module _ {program : List ℕ} {ts : List Token} {g : List ℕ} (few : length ts ≤ 8192) {r : Raw} {s : State} {total : Amounts} (h : Related program ts g r s total)
+    (x : List ℕ) (o : Occurs ts aName x) where
+  v : Variables program ts (r .words)
+  v = h .sound .variables
+
+  pub slot-less : slotOf ts x < 8192
+  slot-less = omega (arith, slot-small ts x o)
+
+  -- a declaration is called x exactly if its slot is x's
+  pub slot-named : (k : ℕ) → k < getD (r .words) declared 0 → textAt ts (slotAt (r .words) k) ≡ x → slotAt (r .words) k ≡ slotOf ts x
+  slot-named k l e = sym (v .names k l) ∙ ap (slotOf ts) e
+
+  pub name-slotted : (k : ℕ) → slotAt (r .words) k ≡ slotOf ts x → textAt ts (slotAt (r .words) k) ≡ x
+  name-slotted k e = ap (textAt ts) e ∙ occurs-found ts aName x (omega arith) o .text
+
+  pub apart-text : (a b : List ℕ) → (a ≡ b → ⊥) → sameText a b ≡ false
+  apart-text a b n = go (sameText a b) refl
+    where
+      go : (t : Bool) → sameText a b ≡ t → t ≡ false
+      go true e = absurd (n (same-text a b e))
+      go false e = refl
+
+  pub undeclared : getD (r .words) (valuePlace (slotOf ts x)) 0 ≡ 0 → valueIn (s .variables) x ≡ Option.none
+  unfolding variablesOf variableAt
+  undeclared z = rw (h .variables)
+      (none-found (variableAt program ts r) x 0 (getD (r .words) declared 0) (λ j a b.
+      apart-text _ _ (λ e.
+      let q = slot-named j (omega arith) e in
+      v .there j (omega arith) (rw q z))))
+
+  pub is-declared : getD (r .words) (valuePlace (slotOf ts x)) 0 ≢ 0
+      → valueIn (s .variables) x ≡ some (meantWord program r (getD (r .words) (valuePlace (slotOf ts x)) 0))
+  unfolding variablesOf variableAt
+  is-declared n =
+      let q = v .found (slotOf ts x) slot-less n in
+      rw (h .variables)
+      (one-found (variableAt program ts r) x (meantWord program r (getD (r .words) (valuePlace (slotOf ts x)) 0)) 0 (getD (r .words) declared 0)
+      (λ j a b e. rw (slot-named j (omega arith) (same-text _ _ e)))
+      (q .0) (omega arith) (omega (arith, q .1)) (rw (name-slotted (q .0) (q .2)) (text-same x)))
+
+  -- ---- a variable's value
+  pub reads-variable : {granted : Amounts} (p : ℕ) → Follows granted total (Values program ts g r) (variable p (slotOf ts x) r) (Evaluate.variable p x s)
+  unfolding variable Evaluate.variable Evaluate.found Act._>>=_ Act.goOn Act.load Act.refuse Act.fail Act.give Run._>>=_ Run.goOn Run.current Run.fail Run.give
+  reads-variable p = go (eqb (getD (r .words) (valuePlace (slotOf ts x)) 0) 0) refl
+    where
+      go : {granted : Amounts} (b : Bool) → eqb (getD (r .words) (valuePlace (slotOf ts x)) 0) 0 ≡ b
+          → Follows granted total (Values program ts g r) (variable p (slotOf ts x) r) (Evaluate.variable p x s)
+      go true e = rw (e, undeclared (eqb-true _ _ e)) (failed 50 p r (steps-told h))
+      go false e =
+          rw (e, is-declared (eqb-false _ _ e))
+          (bind (uses h _ _ (v .holds (slotOf ts x)) refl p) (λ _ _ r′ s′ total′ a.
+          given (still (record { after = unmoved h; valid = v .holds (slotOf ts x); means = refl }) a)))

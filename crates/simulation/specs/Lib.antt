@@ -1,0 +1,3 @@
+pub mod Meant
+pub mod Sound
+pub mod Follows

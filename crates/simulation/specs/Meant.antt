@@ -1,0 +1,88 @@
+-- What the code's values, figures and lent slices stand for.
+use Prim.Native.Nat.{ℕ, zero, suc, _+_}
+use mathlib.Core.List.{List, [], _∷_}
+use lib.ListN.{getD}
+use lib.Dec.{eqb}
+use Rattle.meaning.specs.Basics.{if_then_else_}
+use Rattle.meaning.specs.Token.{Token}
+use Rattle.meaning.specs.Grammar.{textAt}
+use Rattle.meaning.specs.Figure.{line, ellipse, box, text}
+use Rattle.meaning.specs.Figure as Meaning
+use Rattle.meaning.specs.Value.{integer, string, boolean, none, table, shape}
+use Rattle.meaning.specs.Value as Value
+use Rattle.meaning.specs.State.{Variable, Key, Entry, keyOf}
+use Rattle.meaning.specs.State as State
+use Rattle.values.specs.declared.Value.{Value}
+use Rattle.values.specs.declared.Value.the-variants.{Integer, Text, Boolean, Nothing, Table, Shape}
+use Rattle.values.specs.Words.{unpacked}
+use Rattle.stores.specs.Layout.{shapesUsed, entriesUsed, declared, valuePlace, orderPlace}
+use Rattle.stores.specs.Act.{Raw}
+use Rattle.stores.specs.Texts.{textOf}
+use Rattle.stores.specs.declared.Figure.{Figure}
+use Rattle.stores.specs.Shapes.{figureAt, destroyedAt}
+use Rattle.stores.specs.Tables.{ownerAt, keyAt, valueAt}
+
+-- ---- values and figures: a handle stands for its text, a number for itself
+unfoldable pub meantValue : List ℕ → List ℕ → Value → Value.Value
+meantValue program texts (Integer z) = integer z
+meantValue program texts (Text h) = string (textOf program texts h)
+meantValue program texts (Boolean b) = boolean b
+meantValue program texts Nothing = none
+meantValue program texts (Table t) = table t
+meantValue program texts (Shape i) = shape i
+
+abbrev pub meantWord : List ℕ → Raw → ℕ → Value.Value
+meantWord program r w = meantValue program (r .texts) (unpacked w)
+
+unfoldable pub meantFigure : List ℕ → List ℕ → Figure → Meaning.Figure
+meantFigure program texts f =
+    if eqb (f .kind) 0 then (λ _. line (f .a) (f .b) (f .c) (f .d))
+    else λ _. if eqb (f .kind) 1 then (λ _. ellipse (f .a) (f .b) (f .c) (f .d))
+    else λ _. if eqb (f .kind) 2 then (λ _. box (f .a) (f .b) (f .c) (f .d))
+    else λ _. text (f .a) (f .b) (textOf program texts (f .text))
+
+-- ---- the state
+-- f k, f (k + 1) and so on, n of them
+unfoldable pub listed : {A : Type 0} → (ℕ → A) → ℕ → ℕ → List A
+listed f k zero = []
+listed f k (suc n) = f k ∷ listed f (suc k) n
+
+-- the slot of the k-th declaration
+abbrev pub slotAt : List ℕ → ℕ → ℕ
+slotAt ws k = getD ws (orderPlace k) 0
+
+unfoldable pub variableAt : List ℕ → List Token → Raw → ℕ → Variable
+variableAt program ts r k = record {
+  name = textAt ts (slotAt (r .words) k);
+  holds = meantWord program r (getD (r .words) (valuePlace (slotAt (r .words) k)) 0);
+}
+
+-- in the order of their declarations
+unfoldable pub variablesOf : List ℕ → List Token → Raw → List Variable
+variablesOf program ts r = listed (variableAt program ts r) 0 (getD (r .words) declared 0)
+
+unfoldable pub shapeAt : List ℕ → Raw → ℕ → State.Shape
+shapeAt program r i = record {
+  figure = meantFigure program (r .texts) (figureAt (r .words) i);
+  destroyed = destroyedAt (r .words) i;
+}
+
+unfoldable pub shapesOf : List ℕ → Raw → List State.Shape
+shapesOf program r = listed (shapeAt program r) 0 (getD (r .words) shapesUsed 0)
+
+-- a key among some shapes
+unfoldable pub keyAmong : List State.Shape → Value.Value → Key
+keyAmong ss v = keyOf (record { variables = []; shapes = ss; tables = 0; entries = [] }) v
+
+abbrev pub meantKey : List ℕ → Raw → ℕ → Key
+meantKey program r w = keyAmong (shapesOf program r) (meantWord program r w)
+
+unfoldable pub entryAt : List ℕ → List ℕ → Raw → ℕ → Entry
+entryAt program g r k = record {
+  owner = ownerAt g (r .words) k;
+  key = meantKey program r (keyAt g (r .words) k);
+  holds = meantWord program r (valueAt g (r .words) k);
+}
+
+unfoldable pub entriesOf : List ℕ → List ℕ → Raw → List Entry
+entriesOf program g r = listed (entryAt program g r) 0 (getD (r .words) entriesUsed 0)
