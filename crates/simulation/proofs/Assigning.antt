@@ -26,7 +26,7 @@ use Rattle.stores.specs.Act.{Raw, raw}
 use Rattle.stores.specs.Act as Act
 use Rattle.stores.specs.Shapes.{figureAt}
 use Rattle.stores.specs.Variables.{setVariable}
-use Rattle.operators.specs.Operate.{Setting}
+use Rattle.evaluator.specs.Evaluate.{Setting}
 use Rattle.executor.specs.declared.Flow.the-variants.{Onward}
 use Rattle.executor.specs.Execute.{copied, assigning}
 use Rattle.simulation.specs.Meant.{meantValue, meantWord}
@@ -44,7 +44,7 @@ use Rattle.simulation.proofs.Declaring.{put-after}
 module _ (e : Setting) {ts : List Token} {granted : Amounts} (gr : Grants (e .grants) granted) {r : Raw} {s : State} {total : Amounts}
     (h : Related (e .program) ts (e .grants) r s total) (p : ℕ) where
   copies : (v : Value) → Valid (e .program) (r .words) v
-      → Follows granted total (λ w u r′ s′ total′. AfterShape (e .program) ts (e .grants) r s w u r′ s′ total′) (copied e p v r) (Execute.copied p (meantValue (e .program) (r .texts) v) s)
+      → Follows granted total (λ w u r′ s′ total′. AfterShape (e .program) ts (e .grants) r s w u r′ s′ total′) (copied (e .grants) p v r) (Execute.copied p (meantValue (e .program) (r .texts) v) s)
   unfolding copied Execute.copied meantValue Valid Act.give Run.give Run._>>=_ Run.goOn Run.current
   copies (Integer z) l = given (record { value = record { after = unmoved h; valid = l; means = refl }; variables = refl })
   copies (Text t) l = given (record { value = record { after = unmoved h; valid = l; means = refl }; variables = refl })
@@ -71,12 +71,12 @@ module _ (e : Setting) {ts : List Token} (few : length ts ≤ 8192) {granted : A
       (put-after few h x o (packed v) there (packed-some h v) (rw back (a .valid))))
 
   pub assigns : (p : ℕ) {r : Raw} {s : State} {total : Amounts} (h : Related (e .program) ts (e .grants) r s total) (v : Value) → Valid (e .program) (r .words) v
-      → Follows granted total (Flows (e .program) ts (e .grants) r) (assigning e p (slotOf ts x) v r) (Execute.assigning p x (meantValue (e .program) (r .texts) v) s)
+      → Follows granted total (Flows (e .program) ts (e .grants) r) (assigning (e .grants) p (slotOf ts x) v r) (Execute.assigning p x (meantValue (e .program) (r .texts) v) s)
   unfolding assigning Execute.assigning setVariable isSome Act._>>=_ Act.goOn Act.load Act.store Act.refuse Act.fail Act.give Run._>>=_ Run.goOn Run.current Run.refuse Run.fail Run.become Run.give
   assigns p {r} {s} {total} h v l = go (eqb (getD (r .words) (valuePlace (slotOf ts x)) 0) 0) refl
     where
       go : (b : Bool) → eqb (getD (r .words) (valuePlace (slotOf ts x)) 0) 0 ≡ b
-          → Follows granted total (Flows (e .program) ts (e .grants) r) (assigning e p (slotOf ts x) v r) (Execute.assigning p x (meantValue (e .program) (r .texts) v) s)
+          → Follows granted total (Flows (e .program) ts (e .grants) r) (assigning (e .grants) p (slotOf ts x) v r) (Execute.assigning p x (meantValue (e .program) (r .texts) v) s)
       go true q = rw (q, undeclared few h x o (eqb-true _ _ q)) (failed 50 p r (steps-told h))
       go false q =
           let d = is-declared few h x o (eqb-false _ _ q) in

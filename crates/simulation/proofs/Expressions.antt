@@ -40,9 +40,9 @@ use Rattle.stores.specs.Texts.{textOf}
 use Rattle.stores.specs.Variables.{variable}
 use Rattle.stores.specs.Arguments.{argumentAt, push, dropTo}
 use Rattle.stores.specs.Tables.{readEntry}
-use Rattle.operators.specs.Operate.{Setting, withInteger, withTable, operate}
-use Rattle.operators.specs.Library.{callLibrary}
-use Rattle.evaluator.specs.Evaluate.{through, sized, Evaluator, pushAll, calling, evaluateBy, evaluateAt}
+use Rattle.operators.specs.Operate.{withInteger, withTable, operate}
+use Rattle.library.specs.Library.{callLibrary}
+use Rattle.evaluator.specs.Evaluate.{Setting, through, sized, Evaluator, pushAll, called, calling, tableOf, entryOf, entryAt, operationOf, operationAt, evaluateBy, evaluateAt}
 use Rattle.simulation.specs.Meant.{meantValue}
 use Rattle.simulation.specs.Sound.{Held, Valid}
 use Rattle.simulation.specs.Follows.{Grants, Related, Follows}
@@ -57,6 +57,7 @@ use Rattle.simulation.proofs.Keys.{back-again}
 use Rattle.simulation.proofs.Lookup.{reads-entry}
 use Rattle.simulation.proofs.Asked.{with-integer, with-table}
 use Rattle.simulation.proofs.Library.{Stacked, calls}
+use Rattle.simulation.proofs.Chaining.{pushed-then}
 use Rattle.simulation.proofs.Stacking.{AfterArguments, no-more, one-more}
 
 -- ---- words of code
@@ -85,12 +86,12 @@ module _ (inner : Evaluator) (e : Setting) (w x p size n : ℕ) where
   by-name t = rw (t .tag-is, t .number-is)
 
   by-table : Told w tagTable size n → evaluateBy inner e w x p ≡ Act._>>=_ (inner (x - 1) p) (λ v. withInteger p v (sized p))
-  unfolding evaluateBy if_then_else_
+  unfolding evaluateBy if_then_else_ tableOf
   by-table t = rw (t .tag-is)
 
   by-entry : Told w tagEntry size n → evaluateBy inner e w x p
       ≡ Act._>>=_ (inner (x - 1 - n) p) (λ v. withTable p v λ t. Act._>>=_ (inner (x - 1) p) (λ k. readEntry (e .program) (e .grants) p t (packed k)))
-  unfolding evaluateBy if_then_else_
+  unfolding evaluateBy if_then_else_ entryAt entryOf
   by-entry t = rw (t .tag-is, t .number-is)
 
   by-call : Told w tagCall size n → evaluateBy inner e w x p ≡ calling inner e w x p
@@ -98,8 +99,8 @@ module _ (inner : Evaluator) (e : Setting) (w x p size n : ℕ) where
   by-call t = rw (t .tag-is)
 
   by-operator : (tag : ℕ) → 16 ≤ tag → Told w tag size n → evaluateBy inner e w x p
-      ≡ Act._>>=_ (inner (x - 1 - n) p) (λ v. Act._>>=_ (inner (x - 1) p) (λ u. operate e tag p (through v) (through u)))
-  unfolding evaluateBy if_then_else_
+      ≡ Act._>>=_ (inner (x - 1 - n) p) (λ v. Act._>>=_ (inner (x - 1) p) (λ u. operate (e .program) (e .grants) tag p (through v) (through u)))
+  unfolding evaluateBy if_then_else_ operationAt operationOf
   by-operator tag l t =
       rw (t .tag-is, t .number-is, ne-eqb tag 1 (λ q. omega arith), ne-eqb tag 2 (λ q. omega arith), ne-eqb tag 3 (λ q. omega arith), ne-eqb tag 4 (λ q. omega arith))
       (rw (ne-eqb tag 5 (λ q. omega arith), ne-eqb tag 6 (λ q. omega arith), ne-eqb tag 7 (λ q. omega arith), ne-eqb tag 8 (λ q. omega arith)))
@@ -133,9 +134,9 @@ module _ (inner : Evaluator) (e : Setting) (rounds a x p len : ℕ) where
   by-argument : Told (getD (e .code) a 0) tagArgument len 0 → a + len < x
       → pushAll (suc rounds) inner e a x p ≡ Act._>>=_ (inner (a + len) p) (λ v. Act._>>_ (push (packed v) p) (pushAll rounds inner e (a + len + 1) x p))
   unfolding pushAll if_then_else_
-  by-argument t l = rw (t .size-is, lt-ltb (a + len) x l)
+  by-argument t l = rw (t .size-is, lt-ltb (a + len) x l) (pushed-then inner (a + len) p (pushAll rounds inner e (a + len + 1) x p))
 
-  by-no-argument : x ≤ a → pushAll (suc rounds) inner e a x p ≡ Act.give tt
+  by-no-argument : x ≤ a → pushAll (suc rounds) inner e a x p ≡ Act.give Nothing
   unfolding pushAll if_then_else_
   by-no-argument l = rw (le-ltb (a + sizeIn (getD (e .code) a 0)) x (omega arith))
 
@@ -259,13 +260,13 @@ module _ (e : Setting) {ts : List Token} (few : length ts ≤ 8192) (strings : S
       (give-after (λ us. u ∷ us) (λ _ us r₃ s₃ total₃ c. one-more b q c)
       (more (pushedOn (b .after .related) room (packed v)) s₁ total₁ (q .related) (omega (arith, q .held, b .after .held))))))
 
-  called : (f : List ℕ) (p : ℕ) {r₁ r₂ : Raw} {us : List Value.Value} {s₂ : State} {total₁ total₂ : Amounts} {s₁ : State} → Here r₁ s₁ total₁
+  call-ends : (f : List ℕ) (p : ℕ) {r₁ r₂ : Raw} {us : List Value.Value} {s₂ : State} {total₁ total₂ : Amounts} {s₁ : State} → Here r₁ s₁ total₁
       → (c : AfterArguments (e .program) ts (e .grants) r₁ us r₂ s₂ total₂)
       → Follows granted total₂ (Values (e .program) ts (e .grants) r₁)
-      (Act._>>=_ (callLibrary e (libraryNumber f) p (getD (r₁ .words) 6 0) (c .many)) (λ v. Act._>>_ (dropTo (getD (r₁ .words) 6 0)) (Act.give v)) r₂)
+      (Act._>>=_ (callLibrary (e .grants) (libraryNumber f) p (getD (r₁ .words) 6 0) (c .many)) (λ v. Act._>>_ (dropTo (getD (r₁ .words) 6 0)) (Act.give v)) r₂)
       (Library.callLibrary (libraryOf f) p us s₂)
   unfolding libraryNumber Act._>>=_ Act.goOn Act.give Act.store dropTo
-  called f p {r₁} {r₂} {us} h c =
+  call-ends f p {r₁} {r₂} {us} h c =
       act-after (λ v. Act._>>_ (dropTo (getD (r₁ .words) 6 0)) (Act.give v))
       (λ v u r₃ s₃ total₃ w.
       let l = later-trans (c .later) (w .after .later) in
@@ -287,16 +288,17 @@ module _ (e : Setting) {ts : List Token} (few : length ts ≤ 8192) (strings : S
 
   call-follows : (f : List ℕ) (es : Arguments) (depth at p : ℕ) → Ends (e .code) at (codeOf (call f es) ts)
       → Pushes es depth (suc at) (at + 1 - (length (codeOfAll es ts) + 1)) at p → Evaluates (call f es) (suc depth) at p
-  unfolding codeOf evaluate calling Act._>>=_ Act.goOn Act.load Run._>>=_
+  unfolding codeOf evaluate calling called Act._>>=_ Act.goOn Act.load Run._>>=_
   call-follows f es depth at p en all r s total h l =
       let long = simp length-append at l in
       let t = told (ends-word (codeOfAll es ts) _ en) (omega arith) (omega arith) in
+      let begins : at - (length (codeOfAll es ts) + 1 - 1) ≡ at + 1 - (length (codeOfAll es ts) + 1) = omega arith in
       begun depth at p h (λ r₁ s₁ total₁ a.
       from-here (a .after)
-      (rw (by-call (evaluateAt depth e) e (getD (e .code) at 0) at p _ _ t, t .size-is, t .number-is)
+      (rw (by-call (evaluateAt depth e) e (getD (e .code) at 0) at p _ _ t, t .size-is, t .number-is, begins)
       (bind (all r₁ s₁ total₁ (a .after .related) (omega (arith, a .after .held))) (λ _ us r₂ s₂ total₂ c.
       let n : getD (r₂ .words) 6 0 - getD (r₁ .words) 6 0 ≡ c .many = omega (arith, c .held) in
-      rw n (called f p (a .after .related) c)))))
+      rw n (call-ends f p (a .after .related) c)))))
 
   -- ---- all expressions
   deeper : (x : Expression) (depth at p : ℕ) → length (codeOf x ts) ≤ depth → Evaluates x (suc (depth - 1)) at p → Evaluates x depth at p

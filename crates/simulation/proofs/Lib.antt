@@ -17,6 +17,7 @@ mod Lookup
 mod Asked
 mod Library
 mod Stacking
+mod Chaining
 mod Expressions
 mod Flows
 mod Declaring

@@ -35,8 +35,8 @@ use Rattle.stores.specs.Texts.{textOf}
 use Rattle.stores.specs.declared.Figure.{Figure}
 use Rattle.stores.specs.Shapes.{figureAt}
 use Rattle.stores.specs.Shapes as Shapes
-use Rattle.operators.specs.Operate.{Setting}
-use Rattle.operators.specs.Library.{argument, allUsable, figure, centreX, centreY, connecting, textOn, withFigure, drawn, drawnText, connected, labelled, coordinate, destroyed, clearing, perform, callLibrary}
+use Rattle.evaluator.specs.Evaluate.{Setting}
+use Rattle.library.specs.Library.{argument, allUsable, figure, centreX, centreY, connecting, textOn, withFigure, drawn, drawnText, connected, labelled, coordinate, destroyed, clearing, perform, callLibrary}
 use Rattle.simulation.specs.Meant.{meantValue, meantWord, meantFigure, listed}
 use Rattle.simulation.specs.Sound.{Held, Valid, Proper}
 use Rattle.simulation.specs.Follows.{Grants, Related, Follows}
@@ -107,7 +107,7 @@ module _ (e : Setting) {ts : List Token} {granted : Amounts} (gr : Grants (e .gr
 
   draws : (kind : ℕ) (make : ℤ → ℤ → ℤ → ℤ → Meaning.Figure) → kind < 3
       → ((x y z w : ℤ) → make x y z w ≡ meantFigure (e .program) (r .texts) (figure kind x y z w 0)) → (n : ℕ) → Sane n
-      → Works (drawn e kind p base n r) (Library.drawn make p (given-args n) s)
+      → Works (drawn (e .grants) kind p base n r) (Library.drawn make p (given-args n) s)
   unfolding drawn Library.drawn Library.withFour Library.withThree Library.withTwo Library.withOne Library.withNone listed Act._>>=_ Act.goOn Act.refuse Act.give Act.fail Run.fail
   draws kind make l m zero v = wrong
   draws kind make l m (suc zero) v = wrong
@@ -125,7 +125,7 @@ module _ (e : Setting) {ts : List Token} {granted : Amounts} (gr : Grants (e .gr
       shape-made (figure kind x y z w 0) (make x y z w) (proper-plain (e .program) _ kind x y z w l a b c d) (m x y z w))))))
   draws kind make l m (suc (suc (suc (suc (suc n))))) v = rw (ne-eqb (suc (suc (suc (suc (suc n))))) 4 (λ q. omega arith)) wrong
 
-  draws-text : (n : ℕ) → Sane n → Works (drawnText e p base n r) (Library.perform drawText p (given-args n) s)
+  draws-text : (n : ℕ) → Sane n → Works (drawnText (e .grants) p base n r) (Library.perform drawText p (given-args n) s)
   unfolding drawnText Library.perform Library.withThree Library.withTwo Library.withOne Library.withNone listed Act._>>=_ Act.goOn Act.refuse Act.give Act.fail Run.fail
   draws-text zero v = wrong
   draws-text (suc zero) v = wrong
@@ -141,7 +141,7 @@ module _ (e : Setting) {ts : List Token} {granted : Amounts} (gr : Grants (e .gr
       (sym (as-text (e .program) (r .texts) (figure 3 x y (pos 0) (pos 0) t) refl))))))
   draws-text (suc (suc (suc (suc n)))) v = rw (ne-eqb (suc (suc (suc (suc n)))) 3 (λ q. omega arith)) wrong
 
-  connects : (n : ℕ) → Sane n → Works (connected e p base n r) (Library.perform connectShapes p (given-args n) s)
+  connects : (n : ℕ) → Sane n → Works (connected (e .grants) p base n r) (Library.perform connectShapes p (given-args n) s)
   unfolding connected Library.perform Library.withTwo Library.withOne Library.withNone withFigure Operator.withFigure connecting Meaning.connecting listed Act._>>=_ Act.goOn Act.refuse Act.give Act.fail Run.fail Run._>>=_ Run.goOn Run.current
   connects zero v = wrong
   connects (suc zero) v = wrong
@@ -167,7 +167,7 @@ module _ (e : Setting) {ts : List Token} {granted : Amounts} (gr : Grants (e .gr
       (sym (as-line (e .program) (r .texts) (figure 0 (centreX f) (centreY f) (centreX f′) (centreY f′) 0) refl))))))
   connects (suc (suc (suc n))) v = rw (ne-eqb (suc (suc (suc n))) 2 (λ q. omega arith)) wrong
 
-  labels : (n : ℕ) → Sane n → Works (labelled e p base n r) (Library.perform drawTextOnShape p (given-args n) s)
+  labels : (n : ℕ) → Sane n → Works (labelled (e .grants) p base n r) (Library.perform drawTextOnShape p (given-args n) s)
   unfolding labelled Library.perform Library.withTwo Library.withOne Library.withNone withFigure Operator.withFigure textOn Meaning.textOn listed Act._>>=_ Act.goOn Act.refuse Act.give Act.fail Run.fail Run._>>=_ Run.goOn Run.current
   labels zero v = wrong
   labels (suc zero) v = wrong
@@ -214,7 +214,7 @@ module _ (e : Setting) {ts : List Token} {granted : Amounts} (gr : Grants (e .gr
   all-cleared zero = let c = clears h in rw (c .is) (given (record { after = c .after; valid = tt; means = refl }))
   all-cleared (suc n) = rw (ne-eqb (suc n) 0 (λ q. omega arith)) wrong
 
-  performs : (f : Library) (n : ℕ) (us : List Value.Value) → Stacked (e .program) r base n us → Works (perform e (numberOf (some f)) p base n r) (Library.perform f p us s)
+  performs : (f : Library) (n : ℕ) (us : List Value.Value) → Stacked (e .program) r base n us → Works (perform (e .grants) (numberOf (some f)) p base n r) (Library.perform f p us s)
   unfolding perform Library.perform numberOf if_then_else_
   performs drawLine n us st = rw (st .are) (draws 0 line (omega arith) (λ x y z w. sym (as-line (e .program) (r .texts) (figure 0 x y z w 0) refl)) n (st .valid))
   performs drawEllipse n us st = rw (st .are) (draws 1 ellipse (omega arith) (λ x y z w. sym (as-ellipse (e .program) (r .texts) (figure 1 x y z w 0) refl)) n (st .valid))
@@ -244,7 +244,7 @@ number-less clearScene = refl
 module _ (e : Setting) {ts : List Token} {granted : Amounts} (gr : Grants (e .grants) granted) where
   pub calls : (l : Option Library) (p base n : ℕ) {r : Raw} {s : State} {total : Amounts} → Related (e .program) ts (e .grants) r s total
       → (us : List Value.Value) → Stacked (e .program) r base n us
-      → Follows granted total (Values (e .program) ts (e .grants) r) (callLibrary e (numberOf l) p base n r) (Library.callLibrary l p us s)
+      → Follows granted total (Values (e .program) ts (e .grants) r) (callLibrary (e .grants) (numberOf l) p base n r) (Library.callLibrary l p us s)
   unfolding callLibrary Library.callLibrary numberOf if_then_else_ Act._>>=_ Run._>>=_ Act.fail Run.fail
   calls (some f) p base n h us st =
       rw (number-less f)

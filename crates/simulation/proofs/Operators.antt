@@ -29,7 +29,8 @@ use Rattle.stores.specs.Act.{Raw}
 use Rattle.stores.specs.Act as Act
 use Rattle.stores.specs.declared.Figure.{Figure}
 use Rattle.stores.specs.Shapes.{figureAt}
-use Rattle.operators.specs.Operate.{Setting, withInteger, withText, plusX, plusY, minusX, minusY, scaledUp, scaledDown, calculated, compared, remaindered, joined, equality, answered, equated, operateOn, operate}
+use Rattle.operators.specs.Operate.{withInteger, withText, plusX, plusY, minusX, minusY, scaledUp, scaledDown, calculated, compared, remaindered, joined, equality, answered, equated, operateOn, operate}
+use Rattle.evaluator.specs.Evaluate.{Setting}
 use Rattle.simulation.specs.Meant.{meantValue, meantFigure}
 use Rattle.simulation.specs.Sound.{Valid, Proper}
 use Rattle.simulation.specs.Follows.{Grants, Related, Follows}
@@ -57,13 +58,13 @@ module _ (e : Setting) {ts : List Token} {granted : Amounts} (gr : Grants (e .gr
   module _ (divides : Bool) (f : ℤ → ℤ → ℤ) (G : Figure → ℤ → Figure) (G′ : Meaning.Figure → ℤ → Meaning.Figure)
       (range : (a b : ℤ) → mag a < 2 ^ 31 → mag (f a b) < 2 ^ 31) (makes : Makes G G′) where
     numbers : (a b : ℤ) → mag a < 2 ^ 31 → Follows granted total (Values (e .program) ts (e .grants) r)
-        (calculated e divides f G p (Integer a) (Integer b) r) (Operator.calculated divides f G′ p (Value.integer a) (Value.integer b) s)
+        (calculated (e .grants) divides f G p (Integer a) (Integer b) r) (Operator.calculated divides f G′ p (Value.integer a) (Value.integer b) s)
     unfolding calculated Operator.calculated withInteger Operator.withInteger Act._>>=_ Run._>>=_ Act.give Run.give Valid meantValue
     numbers a b v =
         bind (refused h (divides && isZero b) (divides && isZero b) refl 70 p) (λ _ _ r′ s′ total′ q. given (record { after = q; valid = range a b v; means = refl }))
 
     shaped : (i : ℕ) (b : ℤ) → i < getD (r .words) 1 0 → Follows granted total (Values (e .program) ts (e .grants) r)
-        (calculated e divides f G p (Shape i) (Integer b) r) (Operator.calculated divides f G′ p (Value.shape i) (Value.integer b) s)
+        (calculated (e .grants) divides f G p (Shape i) (Integer b) r) (Operator.calculated divides f G′ p (Value.shape i) (Value.integer b) s)
     unfolding calculated Operator.calculated withInteger Operator.withInteger Act._>>=_ Run._>>=_ Run.goOn Run.current
     shaped i b l =
         bind (refused h (divides && isZero b) (divides && isZero b) refl 70 p) (λ _ _ r′ s′ total′ q.
@@ -74,7 +75,7 @@ module _ (e : Setting) {ts : List Token} {granted : Amounts} (gr : Grants (e .gr
         (ap (λ (a : Meaning.Figure). G′ a b) (figure-found (q .related) i k) ∙ sym (makes .meant (e .program) (r′ .texts) (figureAt (r′ .words) i) b (proper .kind))) p)))
 
     pub calculates : (v w : Value) → Valid (e .program) (r .words) v → Valid (e .program) (r .words) w
-        → Follows granted total (Values (e .program) ts (e .grants) r) (calculated e divides f G p v w r)
+        → Follows granted total (Values (e .program) ts (e .grants) r) (calculated (e .grants) divides f G p v w r)
         (Operator.calculated divides f G′ p (meantValue (e .program) (r .texts) v) (meantValue (e .program) (r .texts) w) s)
     unfolding calculated Operator.calculated withInteger Operator.withInteger meantValue Valid
     calculates (Integer a) (Integer b) x y = numbers a b x
@@ -126,7 +127,7 @@ module _ (e : Setting) {ts : List Token} {granted : Amounts} (gr : Grants (e .gr
   remainders (Shape a) w = no
 
   pub concatenates : (v w : Value) → Valid (e .program) (r .words) v → Valid (e .program) (r .words) w
-      → Follows granted total (Values (e .program) ts (e .grants) r) (joined e p v w r)
+      → Follows granted total (Values (e .program) ts (e .grants) r) (joined (e .program) (e .grants) p v w r)
       (Operator.joined p (meantValue (e .program) (r .texts) v) (meantValue (e .program) (r .texts) w) s)
   unfolding joined Operator.joined withText Operator.withString meantValue Valid
   concatenates (Integer a) w x y = no
@@ -147,7 +148,7 @@ module _ (e : Setting) {ts : List Token} {granted : Amounts} (gr : Grants (e .gr
   answers f (some b) = given (record { after = unmoved h; valid = tt; means = refl })
 
   pub equates : (f : Bool → Bool) (v w : Value) → Valid (e .program) (r .words) v → Valid (e .program) (r .words) w
-      → Follows granted total (Values (e .program) ts (e .grants) r) (equated e f p v w r)
+      → Follows granted total (Values (e .program) ts (e .grants) r) (equated (e .program) f p v w r)
       (Operator.equated f p (meantValue (e .program) (r .texts) v) (meantValue (e .program) (r .texts) w) s)
   unfolding equated Operator.equated Run._>>=_ Run.goOn Run.current
   equates f v w x y = rw (equal-alike h v w x y) (answers f _)
@@ -202,7 +203,7 @@ makes-scaledDown = record {
 module _ (e : Setting) {ts : List Token} {granted : Amounts} (gr : Grants (e .grants) granted) where
   pub operates-on : (o : Operator) (p : ℕ) {r : Raw} {s : State} {total : Amounts} → Related (e .program) ts (e .grants) r s total
       → (v w : Value) → Valid (e .program) (r .words) v → Valid (e .program) (r .words) w
-      → Follows granted total (Values (e .program) ts (e .grants) r) (operateOn e (tagOf o) p v w r)
+      → Follows granted total (Values (e .program) ts (e .grants) r) (operateOn (e .program) (e .grants) (tagOf o) p v w r)
       (Operator.operateOn o p (meantValue (e .program) (r .texts) v) (meantValue (e .program) (r .texts) w) s)
   unfolding operateOn Operator.operateOn tagOf if_then_else_
   operates-on concatenate p h v w x y = concatenates e gr h p v w x y
@@ -221,7 +222,7 @@ module _ (e : Setting) {ts : List Token} {granted : Amounts} (gr : Grants (e .gr
   pub operates : (o : Operator) (p : ℕ) {r : Raw} {s : State} {total : Amounts} → Related (e .program) ts (e .grants) r s total
       → (v w : Value) → Valid (e .program) (r .words) v → Valid (e .program) (r .words) w → (u u′ : Value.Value)
       → u ≡ meantValue (e .program) (r .texts) v → u′ ≡ meantValue (e .program) (r .texts) w
-      → Follows granted total (Values (e .program) ts (e .grants) r) (operate e (tagOf o) p v w r) (Operator.operate o p u u′ s)
+      → Follows granted total (Values (e .program) ts (e .grants) r) (operate (e .program) (e .grants) (tagOf o) p v w r) (Operator.operate o p u u′ s)
   unfolding operate Operator.operate Act._>>=_ Run._>>=_
   operates o p {r} h v w x y u u′ m m′ =
       bind (uses h v u x m p) (λ _ _ r₁ s₁ total₁ a.

@@ -33,10 +33,11 @@ use Rattle.stores.specs.Act.{Raw, Act, done}
 use Rattle.stores.specs.Act as Act
 use Rattle.stores.specs.Variables as Stored
 use Rattle.stores.specs.Tables.{storeEntry}
-use Rattle.operators.specs.Operate.{Setting, withBoolean, withTable}
+use Rattle.operators.specs.Operate.{withBoolean, withTable}
+use Rattle.evaluator.specs.Evaluate.{Setting}
 use Rattle.executor.specs.declared.Flow.{Flow}
 use Rattle.executor.specs.declared.Flow.the-variants.{Onward, Returned}
-use Rattle.executor.specs.Execute.{continue, placeIn, extraIn, valueOf, sizeAt, assigning, updating, Executor, looping, executeAll, executeBy, executeAt, executeBody}
+use Rattle.executor.specs.Execute.{continue, placeIn, extraIn, valueOf, sizeAt, declaring, assigning, assigningOf, updateValue, updateIn, updating, returning, acting, Executor, looping, loopFrom, whenAt, executeAll, blockAt, executeSimple, executeBy, executeAt}
 use Rattle.simulation.specs.Meant.{meantValue}
 use Rattle.simulation.specs.Sound.{Valid}
 use Rattle.simulation.specs.Follows.{Grants, Related, Follows}
@@ -45,6 +46,7 @@ use Rattle.simulation.proofs.Results.{given, mapped, After, AfterValue,
 use Rattle.simulation.proofs.Results as Results
 use Rattle.simulation.proofs.Counting.{AfterStep, counts}
 use Rattle.simulation.proofs.Asked.{with-boolean, with-table}
+use Rattle.simulation.proofs.Chaining.{tested-then, turning-then}
 use Rattle.simulation.proofs.Expressions.{told, Strings, evaluates}
 use Rattle.simulation.proofs.Flows.{SameFlow, both-onward, both-returned, AfterFlow, Flows, flow-from}
 use Rattle.simulation.proofs.Declaring.{declares}
@@ -65,37 +67,37 @@ heads {w} {tag} {size} {p} {n} e a b c =
 
 module _ (inner : Executor) (e : Setting) (w x p size q n : ℕ) where
   by-declare : Heads w tagDeclare size q n → executeBy inner e w x p ≡ Act._>>_ (Act.count (e .grants) p) (Act._>>_ (Stored.declare n p) (Act.give Onward))
-  unfolding executeBy if_then_else_
+  unfolding executeBy if_then_else_ executeSimple declaring
   by-declare t = rw (t .tag-is, t .extra-is)
 
-  by-assign : Heads w tagAssign size q n → executeBy inner e w x p ≡ Act._>>_ (Act.count (e .grants) p) (Act._>>=_ (valueOf e (x + size - 1) p) (λ v. assigning e p n v))
-  unfolding executeBy if_then_else_
+  by-assign : Heads w tagAssign size q n → executeBy inner e w x p ≡ Act._>>_ (Act.count (e .grants) p) (Act._>>=_ (valueOf e (x + size - 1) p) (λ v. assigning (e .grants) p n v))
+  unfolding executeBy if_then_else_ executeSimple assigningOf
   by-assign t = rw (t .tag-is, t .extra-is, t .size-is)
 
   by-update : Heads w tagUpdate size q n → executeBy inner e w x p ≡ Act._>>_ (Act.count (e .grants) p) (updating e (x + size - 1) p)
-  unfolding executeBy if_then_else_
+  unfolding executeBy if_then_else_ executeSimple
   by-update t = rw (t .tag-is, t .size-is)
 
   by-when : Heads w tagWhen size q n → executeBy inner e w x p
       ≡ Act._>>_ (Act.count (e .grants) p) (Act._>>=_ (valueOf e (x + n) p) (λ v. withBoolean p v λ b. if b then (λ _. inner (x + n + 1)) else λ _. Act.give Onward))
-  unfolding executeBy if_then_else_
-  by-when t = rw (t .tag-is, t .extra-is)
+  unfolding executeBy if_then_else_ executeSimple whenAt
+  by-when t = rw (t .tag-is, t .extra-is) (ap (λ f. Act._>>_ (Act.count (e .grants) p) f) (tested-then e (x + n) p (λ b. if b then (λ _. inner (x + n + 1)) else λ _. Act.give Onward)))
 
-  by-while : Heads w tagWhile size q n → executeBy inner e w x p ≡ looping (suc (stepsGranted (e .grants))) e (x + n) p (inner (x + n + 1))
-  unfolding executeBy if_then_else_
+  by-while : Heads w tagWhile size q n → executeBy inner e w x p ≡ looping (stepsGranted (e .grants) + 1) e (x + n) p (inner (x + n + 1))
+  unfolding executeBy if_then_else_ loopFrom
   by-while t = rw (t .tag-is, t .extra-is)
 
   by-return : Heads w tagReturn size q n → executeBy inner e w x p
       ≡ Act._>>_ (Act.count (e .grants) p) (Act._>>=_ (valueOf e (x + size - 1) p) (λ v. Act.give (Returned v)))
-  unfolding executeBy if_then_else_
+  unfolding executeBy if_then_else_ executeSimple returning
   by-return t = rw (t .tag-is, t .size-is)
 
-  by-block : Heads w tagBlock size q n → executeBy inner e w x p ≡ Act._>>_ (Act.count (e .grants) p) (executeAll (suc size) inner e (x + 1) (x + size))
-  unfolding executeBy if_then_else_
+  by-block : Heads w tagBlock size q n → executeBy inner e w x p ≡ Act._>>_ (Act.count (e .grants) p) (executeAll (size + 1) inner e (x + 1) (x + size))
+  unfolding executeBy if_then_else_ executeSimple blockAt
   by-block t = rw (t .tag-is, t .size-is)
 
   by-act : Heads w tagAct size q n → executeBy inner e w x p ≡ Act._>>_ (Act.count (e .grants) p) (Act._>>_ (valueOf e (x + size - 1) p) (Act.give Onward))
-  unfolding executeBy if_then_else_
+  unfolding executeBy if_then_else_ executeSimple acting
   by-act t = rw (t .tag-is, t .size-is)
 
 -- ---- how a statement ends
@@ -129,7 +131,7 @@ module _ (e : Setting) {ts : List Token} (sane : Sane ts) (strings : Strings (e 
       → {r : Raw} {s : State} {total : Amounts} → Here r s total → getD (r .words) 6 0 ≡ 0 → length (codeOf x ts) ≤ 8192
       → Follows granted total (Values (e .program) ts (e .grants) r) (valueOf e at p r) (evaluate x p s)
   valued x k a at p st q {r} {s} {total} h z l =
-      evaluates e (sane .few) strings gr x k (suc at) at p (record { start = a; stands = st; last = q }) (omega arith) r s total h (omega arith)
+      evaluates e (sane .few) strings gr x k (at + 1) at p (record { start = a; stands = st; last = q }) (omega arith) r s total h (omega arith)
 
   -- how many words it has
   sized-at : (x : Expression) (a at : ℕ) → Stands (e .code) a (codeOf x ts) → a + length (codeOf x ts) ≡ at + 1 → length (codeOf x ts) ≤ 8192
@@ -177,15 +179,20 @@ module _ (e : Setting) {ts : List Token} (sane : Sane ts) (strings : Strings (e 
             (omega (arith, c .later .steps, d .after .later .steps, b .spare, b .after .later .tables, d .after .related .sound .counted .steps)))))
         branch false r₁ s₁ total₁ c = given (record { after = c; flow = both-onward })
 
+    by-turn : (turns : ℕ) → looping (suc turns) e at p body
+        ≡ Act._>>_ (Act.count (e .grants) p) (Act._>>=_ (valueOf e at p) (λ v. withBoolean p v λ b. if b then (λ _. Act._>>=_ body (λ f. continue f (looping turns e at p body))) else λ _. Act.give Onward))
+    unfolding looping
+    by-turn turns = turning-then e at p (λ b. if b then (λ _. Act._>>=_ body (λ f. continue f (looping turns e at p body))) else λ _. Act.give Onward)
+
     loops : (m turns : ℕ) (r : Raw) (s : State) (total : Amounts) → Here r s total → getD (r .words) 6 0 ≡ 0 → left r < limit → left r < m → left r < turns
         → Follows granted total (Flows (e .program) ts (e .grants) r) (looping turns e at p body r) (Execute.looping m p (evaluate x p) body′ s)
-    unfolding Act._>>=_ Run._>>=_ looping Execute.looping
+    unfolding Act._>>=_ Run._>>=_ Execute.looping
     loops zero turns r s total h z lim i j = absurd (omega arith)
     loops (suc m) turns r s total h z lim i j =
         let w : suc (turns - 1) ≡ turns = omega arith in
         subst (λ n. Follows granted total (Flows (e .program) ts (e .grants) r) (looping n e at p body r) (Execute.looping (suc m) p (evaluate x p) body′ s)) w
-        (bind (counts gr h p) (λ _ _ r₁ s₁ total₁ b.
-        turn (turns - 1) m r r₁ s₁ total₁ (λ r′ s′ total′ h′ z′ lim′ few. loops m (turns - 1) r′ s′ total′ h′ z′ lim′ (omega arith) (omega arith)) b z lim))
+        (rw (by-turn (turns - 1)) (bind (counts gr h p) (λ _ _ r₁ s₁ total₁ b.
+        turn (turns - 1) m r r₁ s₁ total₁ (λ r′ s′ total′ h′ z′ lim′ few. loops m (turns - 1) r′ s′ total′ h′ z′ lim′ (omega arith) (omega arith)) b z lim)))
 
   -- ---- each kind of statement
   abbrev Does : Statement → ℕ → ℕ → ℕ → Type 0
@@ -261,13 +268,13 @@ module _ (e : Setting) {ts : List Token} (sane : Sane ts) (strings : Strings (e 
         let t = heads (stands-first st) (omega arith) (omega (arith, size)) (placed pl) in
         rw (t .place-is, by-while (executeAt depth e) e (getD (e .code) at 0) at p _ p (length (codeOf y ts)) t)
         (loops y k (at + 1) (at + length (codeOf y ts)) p (stands-front (codeOf y ts) (codeOfStatement d ts) rest) (omega arith) (omega arith)
-        (executeAt depth e (at + length (codeOf y ts) + 1)) (execute d limit) limit inner limit (suc (getD (e .grants) 0 0)) r s total h z lim lim (omega arith))
+        (executeAt depth e (at + length (codeOf y ts) + 1)) (execute d limit) limit inner limit (getD (e .grants) 0 0 + 1) r s total h z lim lim (omega arith))
 
     -- a.b = c
     update-by : (c p n m : ℕ) → sizeAt e c ≡ n → sizeAt e (c - n) ≡ m → updating e c p
         ≡ Act._>>=_ (valueOf e (c - n - m) p) (λ v. withTable p v λ t. Act._>>=_ (valueOf e (c - n) p) (λ k. Act._>>=_ (valueOf e c p) (λ u.
         Act._>>_ (storeEntry (e .program) (e .grants) t (packed k) (packed u) p) (Act.give Onward))))
-    unfolding updating
+    unfolding updating updateIn updateValue
     update-by c p n m x y = rw (x, y)
 
     update-does : (p : ℕ) (x y w : Expression) → Placed ts p → Known x ts → Known y ts → Known w ts
@@ -343,7 +350,7 @@ module _ (e : Setting) {ts : List Token} (sane : Sane ts) (strings : Strings (e 
       continues _ _ w (flow-from (w .after) (more r₁ s₁ total₁ (w .after .related) (w .after .held ∙ z) (omega (arith, w .after .later .steps))))))
 
   block-does : (p : ℕ) (ds : Statements) (depth at limit : ℕ) → Placed ts p → length (codeOfStatements ds ts) ≤ 8192 → Stands (e .code) at (codeOfStatement (block p ds) ts)
-      → DoesAll ds depth (suc (length (codeOfStatements ds ts) + 1)) (at + 1) (at + (length (codeOfStatements ds ts) + 1)) limit → Does (block p ds) (suc depth) at limit
+      → DoesAll ds depth (length (codeOfStatements ds ts) + 1 + 1) (at + 1) (at + (length (codeOfStatements ds ts) + 1)) limit → Does (block p ds) (suc depth) at limit
   unfolding codeOfStatement execute executeAt Act._>>=_ Run._>>=_
   block-does p ds depth at limit pl short st inner r s total h z lim =
       let t : Heads (getD (e .code) at 0) tagBlock (length (codeOfStatements ds ts) + 1) p 0 = heads (stands-first st) (omega arith) (omega arith) (placed pl) in
@@ -395,7 +402,7 @@ module _ (e : Setting) {ts : List Token} (sane : Sane ts) (strings : Strings (e 
     executes (return p y) k depth at limit st l m = deeper (return p y) depth at limit l (return-does (depth - 1) at limit p y (k .0) (k .1) (omega arith) st)
     executes (block p ds) k depth at limit st l m =
         deeper (block p ds) depth at limit l (block-does p ds (depth - 1) at limit (k .0) (omega arith) st
-        (executes-all ds (k .1) (depth - 1) (suc (length (codeOfStatements ds ts) + 1)) (at + 1) (at + (length (codeOfStatements ds ts) + 1)) limit (stands-rest st)
+        (executes-all ds (k .1) (depth - 1) (length (codeOfStatements ds ts) + 1 + 1) (at + 1) (at + (length (codeOfStatements ds ts) + 1)) limit (stands-rest st)
         (omega arith) (omega arith) (omega arith) (omega arith)))
     executes (act p y) k depth at limit st l m = deeper (act p y) depth at limit l (act-does (depth - 1) at limit p y (k .0) (k .1) (omega arith) st)
 
