@@ -1,9 +1,8 @@
 -- The stack of arguments: pushing and dropping change nothing else.
-use Prim.Native.Nat.{ℕ, zero, suc, _+_, _*_, _%_, _≤_, _<_}
+use Prim.Native.Nat.{ℕ, _+_, _≤_, _<_}
 use native.Mathlib.Omega.{arith}
-use mathlib.Core.Path.{_≡_, refl, ap, sym, _∙_}
+use mathlib.Core.Path.{_≡_, refl, sym, _∙_}
 use mathlib.Core.Logic.{_≢_}
-use mathlib.Core.Bool.{Bool, true, false}
 use mathlib.Core.List.{List}
 use lib.ListN.{getD, set}
 use borrow.Author.Tests.{lt-leb}
@@ -13,12 +12,12 @@ use Rattle.meaning.specs.Book.{Amounts}
 use Rattle.stores.specs.Layout.{argumentPlace}
 use Rattle.stores.specs.Act.{Raw, raw, done}
 use Rattle.stores.specs.Act as Act
-use Rattle.stores.specs.Arguments.{argumentAt, push, dropTo}
+use Rattle.stores.specs.Arguments.{argumentAt, push}
 use Rattle.simulation.specs.Sound.{Counted}
 use Rattle.simulation.specs.Follows.{Related, Later}
 use Rattle.simulation.proofs.Frames.{later-trans}
 use Rattle.simulation.proofs.Results.{After}
-use Rattle.simulation.proofs.Counting.{figure-same, words′, other, here, set-related}
+use Rattle.simulation.proofs.Counting.{figure-same, other, here, set-related}
 
 module _ {program : List ℕ} {ts : List Token} {g : List ℕ} where
   -- ---- one word of the stack, or its height

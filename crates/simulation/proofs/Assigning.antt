@@ -1,10 +1,10 @@
 -- Assignments: a shape is copied, anything else is put as it is.
-use Prim.Native.Nat.{ℕ, zero, suc, _+_, _%_, _≤_, _<_}
+use Prim.Native.Nat.{ℕ, _≤_}
 use native.Mathlib.Omega.{arith}
-use mathlib.Core.Path.{_≡_, refl, ap, ap₂, sym, _∙_, subst}
+use mathlib.Core.Path.{_≡_, refl, sym, _∙_, subst}
 use mathlib.Core.Logic.{_≢_}
-use mathlib.Core.Bool.{Bool, true, false, not}
-use mathlib.Core.List.{List, []}
+use mathlib.Core.Bool.{Bool, true, false}
+use mathlib.Core.List.{List}
 use mathlib.Core.Option.{Option, some}
 use mathlib.Core.Option as Option
 use lib.ListN.{getD, length, set}
@@ -20,7 +20,7 @@ use Rattle.code.specs.Code.{slotOf}
 use Rattle.reader.proofs.Homes.{Occurs}
 use Rattle.values.specs.declared.Value.{Value}
 use Rattle.values.specs.declared.Value.the-variants.{Integer, Text, Boolean, Nothing, Table, Shape}
-use Rattle.values.specs.Words.{kindIn, packed, unpacked}
+use Rattle.values.specs.Words.{packed}
 use Rattle.stores.specs.Layout.{valuePlace}
 use Rattle.stores.specs.Act.{Raw, raw}
 use Rattle.stores.specs.Act as Act
@@ -38,7 +38,7 @@ use Rattle.simulation.proofs.Usable.{figure-found}
 use Rattle.simulation.proofs.Shapes.{AfterShape, makes-shape}
 use Rattle.simulation.proofs.Variables.{undeclared, is-declared}
 use Rattle.simulation.proofs.Keys.{kind-packed, back-again}
-use Rattle.simulation.proofs.Flows.{both-onward, AfterFlow, Flows}
+use Rattle.simulation.proofs.Flows.{both-onward, Flows}
 use Rattle.simulation.proofs.Declaring.{put-after}
 
 module _ (e : Setting) {ts : List Token} {granted : Amounts} (gr : Grants (e .grants) granted) {r : Raw} {s : State} {total : Amounts}

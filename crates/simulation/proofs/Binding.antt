@@ -1,7 +1,6 @@
 -- What follows goes through one act and then another.
-use mathlib.Core.Path.{_≡_, _∙_, refl, ap, sym}
+use mathlib.Core.Path.{_≡_, _∙_, ap}
 use mathlib.Core.List.{List, [], _++_, append-nil}
-use Prim.Native.Nat.{ℕ}
 use Rattle.meaning.specs.State.{State}
 use Rattle.meaning.specs.Run.{Taking, End, result, error, unfinished, Run, Action}
 use Rattle.meaning.specs.Run as Run

@@ -1,17 +1,12 @@
 -- Steps, tables and the arguments held: acts that change nothing else.
-use Prim.Native.Nat.{ℕ, zero, suc, _+_, _*_, _%_, _^_, _≤_, _<_}
-use native.Mathlib.Nat.{le-refl, le-trans}
+use Prim.Native.Nat.{ℕ, suc, _+_, _*_, _%_, _^_, _≤_, _<_}
 use native.Mathlib.Omega.{arith}
 use mathlib.Core.Path.{_≡_, refl, ap, sym, _∙_}
 use mathlib.Core.Logic.{_≢_}
-use mathlib.Core.Bool.{Bool, true, false, cond}
-use mathlib.Core.List.{List, [], _∷_}
-use lib.ListN.{getD, set, length, length-set}
+use mathlib.Core.List.{List, []}
+use lib.ListN.{getD, set, length-set}
 use lib.Seq.{getD-set-same, getD-set-other}
-use lib.Dec.{leb, eqb}
 use lib.IntN.{ℤ}
-use borrow.Author.Tests.{lt-leb}
-use Rattle.meaning.specs.Basics.{if_then_else_}
 use Rattle.meaning.specs.Token.{Token}
 use Rattle.meaning.specs.Integer.{isNegative}
 use Rattle.meaning.specs.Value as Value
@@ -22,17 +17,17 @@ use Rattle.meaning.specs.Book.{Amounts, added, resourceNumber, shortageOf}
 use Rattle.meaning.specs.Evaluate as Evaluate
 use Rattle.values.specs.declared.Value.{Value}
 use Rattle.values.specs.declared.Value.the-variants.{Table}
-use Rattle.stores.specs.Layout.{argumentPlace, Lent, Room}
-use Rattle.stores.specs.Act.{Raw, raw, done}
+use Rattle.stores.specs.Layout.{Lent}
+use Rattle.stores.specs.Act.{Raw, raw}
 use Rattle.stores.specs.Act as Act
 use Rattle.stores.specs.Shapes.{figureAt}
 use Rattle.evaluator.specs.Evaluate.{sized}
 use Rattle.simulation.specs.Meant.{meantValue}
-use Rattle.simulation.specs.Sound.{Valid, Counted, Sound}
+use Rattle.simulation.specs.Sound.{Valid, Counted}
 use Rattle.simulation.specs.Follows.{Grants, Related, Later, Follows}
-use Rattle.simulation.proofs.Binding.{Relation, bind}
-use Rattle.simulation.proofs.Frames.{later-refl, later-trans, SameVariables, SameShapes, SameEntries}
-use Rattle.simulation.proofs.Results.{given, failed, After, AfterValue, Units, Values, unmoved, onward, steps-told, refused, kept-related, spent}
+use Rattle.simulation.proofs.Binding.{bind}
+use Rattle.simulation.proofs.Frames.{later-trans, SameVariables, SameShapes, SameEntries}
+use Rattle.simulation.proofs.Results.{given, After, AfterValue, Values, onward, steps-told, refused, kept-related, spent}
 
 -- ---- lengths
 pub lent-set : {g ts ws : List ℕ} (i x : ℕ) → Lent g ts ws → Lent g ts (set ws i x)

@@ -1,47 +1,42 @@
 -- Variables declared and assigned.
-use Prim.Native.Nat.{ℕ, zero, suc, _+_, _*_, _%_, _^_, _≤_, _<_}
+use Prim.Native.Nat.{ℕ, zero, suc, _+_, _%_, _^_, _≤_, _<_}
 use native.Mathlib.Omega.{arith}
 use mathlib.Core.Path.{_≡_, refl, ap, ap₂, sym, _∙_, subst}
 use mathlib.Core.Logic.{_≢_}
 use mathlib.Core.Bool.{Bool, true, false, not, cond}
 use mathlib.Core.List.{List, [], _∷_, _++_}
-use mathlib.Core.Option.{Option, some}
-use mathlib.Core.Option as Option
 use lib.ListN.{getD, set, length, length-set}
 use lib.Seq.{getD-set-same, getD-set-other}
 use lib.Dec.{eqb}
-use borrow.Author.Tests.{eqb-true, eqb-false, eq-eqb, ne-eqb}
+use borrow.Author.Tests.{eqb-true, eqb-false, ne-eqb}
 use Rattle.meaning.specs.Basics.{if_then_else_, sameText}
 use Rattle.meaning.specs.Token.{Token, aName}
 use Rattle.meaning.specs.Grammar.{textAt}
 use Rattle.meaning.specs.Value as Value
-use Rattle.meaning.specs.State.{State, Variable, valueIn, isSome, isDeclared, assigned, withVariables}
+use Rattle.meaning.specs.State.{State, Variable, isSome, isDeclared, assigned, withVariables}
 use Rattle.meaning.specs.Run as Run
 use Rattle.meaning.specs.Book.{Amounts}
-use Rattle.meaning.specs.Execute.{onward, declaring, assigning}
-use Rattle.meaning.specs.Execute as Execute
+use Rattle.meaning.specs.Execute.{onward, declaring}
 use Rattle.code.specs.Code.{slotOf}
-use Rattle.reader.proofs.Homes.{Occurs, occurs-found, same-text, text-same}
+use Rattle.reader.proofs.Homes.{Occurs, occurs-found, text-same}
 use Rattle.values.specs.declared.Value.{Value}
-use Rattle.values.specs.declared.Value.the-variants.{Nothing}
-use Rattle.values.specs.Words.{kindIn, packed, unpacked}
+use Rattle.values.specs.Words.{packed, unpacked}
 use Rattle.stores.specs.Layout.{declared, valuePlace, orderPlace}
 use Rattle.stores.specs.Act.{Raw, raw}
 use Rattle.stores.specs.Act as Act
-use Rattle.stores.specs.Variables.{declare, setVariable}
+use Rattle.stores.specs.Variables.{declare}
 use Rattle.stores.specs.Variables as Stored
 use Rattle.executor.specs.declared.Flow.the-variants.{Onward}
 use Rattle.simulation.specs.Meant.{meantValue, meantWord, listed, slotAt, variableAt, variablesOf}
-use Rattle.simulation.specs.Sound.{Valid, Counted, declaredAmong, Variables}
+use Rattle.simulation.specs.Sound.{Valid, declaredAmong, Variables}
 use Rattle.simulation.specs.Follows.{Related, Later, Follows}
-use Rattle.simulation.proofs.Binding.{bind}
 use Rattle.simulation.proofs.Listed.{listed-same, listed-first, listed-more}
-use Rattle.simulation.proofs.Frames.{valid-later, meant-later, SameShapes, shapes-kept, shapes-same, SameEntries, entries-kept, entries-same}
-use Rattle.simulation.proofs.Results.{given, failed, After, steps-told, unmoved}
-use Rattle.simulation.proofs.Counting.{lent-set, figure-same}
+use Rattle.simulation.proofs.Frames.{valid-later, SameShapes, shapes-kept, shapes-same, SameEntries, entries-kept, entries-same}
+use Rattle.simulation.proofs.Results.{given, failed, After, steps-told}
+use Rattle.simulation.proofs.Counting.{figure-same}
 use Rattle.simulation.proofs.Shapes.{up-to}
 use Rattle.simulation.proofs.Variables.{slot-less, slot-named, name-slotted, apart-text, undeclared, is-declared}
-use Rattle.simulation.proofs.Flows.{both-onward, AfterFlow, Flows}
+use Rattle.simulation.proofs.Flows.{both-onward, Flows}
 
 -- ---- counting the declared
 among-few : (ws : List ℕ) (n : ℕ) → declaredAmong ws n ≤ n

@@ -1,33 +1,32 @@
 -- Shapes destroyed, one of them or those that variables hold.
-use Prim.Native.Nat.{ℕ, zero, suc, _+_, _*_, _-_, _/_, _%_, _^_, _≤_, _<_}
+use Prim.Native.Nat.{ℕ, zero, suc, _+_, _/_, _%_, _^_, _<_}
 use native.Mathlib.Omega.{arith}
 use native.Mathlib.Numerals.{add-one}
-use mathlib.Core.Path.{_≡_, refl, ap, ap₂, sym, _∙_, subst}
+use mathlib.Core.Path.{_≡_, refl, ap, sym, _∙_, subst}
 use mathlib.Core.Logic.{_≢_}
 use mathlib.Core.Bool.{Bool, true, false}
-use mathlib.Core.List.{List, [], _∷_}
-use lib.ListN.{getD, set, length}
-use lib.Seq.{getD-set-same, getD-set-other}
+use mathlib.Core.List.{List}
+use lib.ListN.{getD, set}
+use lib.Seq.{getD-set-same}
 use lib.Dec.{eqb}
-use borrow.Author.Tests.{eqb-true, eqb-false, eq-eqb}
+use borrow.Author.Tests.{eqb-true, eqb-false}
 use Rattle.meaning.specs.Token.{Token}
-use Rattle.meaning.specs.Value as Value
 use Rattle.meaning.specs.State.{State, noShape, withShapes, destroyed, destroyedIn, cleared}
 use Rattle.meaning.specs.State as State
 use Rattle.meaning.specs.Book.{Amounts}
 use Rattle.values.specs.declared.Value.{Value}
 use Rattle.values.specs.declared.Value.the-variants.{Integer, Text, Boolean, Nothing, Table, Shape}
 use Rattle.values.specs.Words.{unpacked}
-use Rattle.stores.specs.Layout.{declared, shapePlace, valuePlace, orderPlace}
+use Rattle.stores.specs.Layout.{declared, shapePlace, valuePlace}
 use Rattle.stores.specs.Act.{Raw, raw, done}
 use Rattle.stores.specs.Act as Act
-use Rattle.stores.specs.Shapes.{figureAt, destroyedAt, destroyedWord, destroy}
+use Rattle.stores.specs.Shapes.{figureAt, destroyedWord, destroy}
 use Rattle.stores.specs.Variables.{destroyIn, clearFrom, clearScene}
-use Rattle.simulation.specs.Meant.{meantValue, meantFigure, listed, slotAt, variableAt, variablesOf, shapeAt, shapesOf}
-use Rattle.simulation.specs.Sound.{Valid, Proper, Counted, Shapes}
+use Rattle.simulation.specs.Meant.{meantValue, listed, slotAt, variableAt, variablesOf, shapeAt, shapesOf}
+use Rattle.simulation.specs.Sound.{Valid, Shapes}
 use Rattle.simulation.specs.Follows.{Related, Later}
 use Rattle.simulation.proofs.Listed.{set-listed}
-use Rattle.simulation.proofs.Frames.{later-refl, figure-made, proper-kept, figure-later, SameVariables, variables-kept, variables-part, variables-same, SameEntries, entries-kept, entries-same}
+use Rattle.simulation.proofs.Frames.{figure-made, proper-kept, SameVariables, variables-kept, variables-part, variables-same, SameEntries, entries-kept, entries-same}
 use Rattle.simulation.proofs.Results.{After, unmoved, onward}
 use Rattle.simulation.proofs.Counting.{lent-set, figure-same, other}
 

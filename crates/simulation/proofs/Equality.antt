@@ -1,24 +1,21 @@
 -- Values and figures are compared as the meaning compares them.
-use Prim.Native.Nat.{ℕ, zero, suc, _+_, _*_, _/_, _%_, _^_, _≤_, _<_}
+use Prim.Native.Nat.{ℕ, _+_, _<_}
 use native.Mathlib.Omega.{arith}
-use mathlib.Core.Path.{_≡_, refl, ap, ap₂, sym, _∙_}
+use mathlib.Core.Path.{_≡_, refl, ap, sym, _∙_}
 use mathlib.Core.Logic.{_≢_}
 use mathlib.Core.Bool.{Bool, true, false, not, cond, _&&_}
-use mathlib.Core.List.{List, [], _∷_}
-use mathlib.Core.Option.{Option, some}
-use mathlib.Core.Option as Option
-use lib.ListN.{getD, length}
+use mathlib.Core.List.{List}
+use mathlib.Core.Option.{some}
 use lib.Dec.{eqb}
 use lib.IntN.{ℤ, pos}
-use borrow.Author.Tests.{eqb-true, eqb-false, eq-eqb, ne-eqb}
+use borrow.Author.Tests.{eqb-true, eqb-false, ne-eqb}
 use Rattle.meaning.specs.Basics.{if_then_else_, sameText}
 use Rattle.meaning.specs.Token.{Token}
 use Rattle.meaning.specs.Integer.{sameInteger, sameIntegers}
-use Rattle.meaning.specs.Figure.{line, ellipse, box, text, figureKind, numbersOf}
+use Rattle.meaning.specs.Figure.{text, figureKind, numbersOf}
 use Rattle.meaning.specs.Figure as Meaning
-use Rattle.meaning.specs.Value.{integer, string, boolean, none, table, shape, kindOf}
+use Rattle.meaning.specs.Value.{kindOf}
 use Rattle.meaning.specs.State.{State, figureKey, keyOf, sameKey}
-use Rattle.meaning.specs.State as State
 use Rattle.meaning.specs.Book.{Amounts}
 use Rattle.meaning.specs.Operator as Operator
 use Rattle.meaning.proofs.KeyLaws.{sameText-same, sameInteger-same}

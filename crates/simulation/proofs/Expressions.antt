@@ -1,15 +1,14 @@
 -- Expressions: evaluating their code follows what they mean.
-use Prim.Native.Nat.{ℕ, zero, suc, _+_, _-_, _*_, _/_, _%_, _^_, _≤_, _<_}
+use Prim.Native.Nat.{ℕ, suc, _+_, _-_, _*_, _^_, _≤_, _<_}
 use native.Mathlib.Omega.{arith}
 use native.Mathlib.Nat.{le-refl}
-use mathlib.Core.Path.{_≡_, refl, ap, ap₂, sym, _∙_, subst}
-use mathlib.Core.Logic.{_≢_}
+use mathlib.Core.Path.{_≡_, refl, ap, sym, _∙_, subst}
 use mathlib.Core.Bool.{Bool, true, false}
-use mathlib.Core.List.{List, [], _∷_, _++_}
+use mathlib.Core.List.{List, [], _∷_}
 use lib.ListN.{getD, length, length-append}
 use lib.IntN.{ℤ}
 use lib.Signed.{mag}
-use lib.Dec.{eqb, ltb}
+use lib.Dec.{eqb}
 use mir.Syntax.{w32}
 use mir.Val.{toZ}
 use borrow.Author.Tests.{ne-eqb, lt-ltb, le-ltb}
@@ -26,15 +25,15 @@ use Rattle.meaning.specs.Library.{libraryOf}
 use Rattle.meaning.specs.Library as Library
 use Rattle.meaning.specs.Evaluate.{evaluate, evaluateAll}
 use Rattle.names.specs.Prepared.{libraryNumber}
-use Rattle.code.specs.Code.{word, tagIn, sizeIn, numberIn, tagOf, tagNumber, tagString, tagNone, tagTruth, tagName, tagTable, tagEntry, tagCall, tagArgument, slotOf, partOf, truthNumber, joined, codeOf, codeOfAll}
+use Rattle.code.specs.Code.{word, sizeIn, tagOf, tagNumber, tagString, tagNone, tagTruth, tagName, tagTable, tagEntry, tagCall, tagArgument, slotOf, partOf, truthNumber, codeOf, codeOfAll}
 use Rattle.reader.proofs.Homes.{Occurs}
 use Rattle.reader.proofs.Fields.{Told, word-told, tag-small, code-some}
 use Rattle.reader.proofs.Known.{Known, KnownAll}
 use Rattle.reader.proofs.Walk.{Stands, Ends, Joint, Argument, ends-word, ends-front, ends-start, ends-joined, stands-argument}
 use Rattle.values.specs.declared.Value.{Value}
 use Rattle.values.specs.declared.Value.the-variants.{Integer, Text, Boolean, Nothing}
-use Rattle.values.specs.Words.{packed, unpacked}
-use Rattle.stores.specs.Act.{Raw, Act, done}
+use Rattle.values.specs.Words.{packed}
+use Rattle.stores.specs.Act.{Raw, Act}
 use Rattle.stores.specs.Act as Act
 use Rattle.stores.specs.Texts.{textOf}
 use Rattle.stores.specs.Variables.{variable}
@@ -46,17 +45,17 @@ use Rattle.evaluator.specs.Evaluate.{Setting, through, sized, Evaluator, pushAl
 use Rattle.simulation.specs.Meant.{meantValue}
 use Rattle.simulation.specs.Sound.{Held, Valid}
 use Rattle.simulation.specs.Follows.{Grants, Related, Follows}
-use Rattle.simulation.proofs.Binding.{bind, give-after, Succeeds, act-after}
+use Rattle.simulation.proofs.Binding.{bind, give-after, act-after}
 use Rattle.simulation.proofs.Frames.{later-trans, valid-later}
-use Rattle.simulation.proofs.Results.{mapped, given, After, AfterValue, Values, unmoved, onward, still, from-here}
+use Rattle.simulation.proofs.Results.{given, Values, onward, still, from-here}
 use Rattle.simulation.proofs.Counting.{AfterStep, counts, stepped-on, makes-table}
-use Rattle.simulation.proofs.Arguments.{Pushed, pushedOn, pushed, pushes, dropped, drop-later, drops}
+use Rattle.simulation.proofs.Arguments.{pushedOn, pushed, pushes, dropped, drop-later, drops}
 use Rattle.simulation.proofs.Variables.{reads-variable}
 use Rattle.simulation.proofs.Operators.{operates}
 use Rattle.simulation.proofs.Keys.{back-again}
 use Rattle.simulation.proofs.Lookup.{reads-entry}
 use Rattle.simulation.proofs.Asked.{with-integer, with-table}
-use Rattle.simulation.proofs.Library.{Stacked, calls}
+use Rattle.simulation.proofs.Library.{calls}
 use Rattle.simulation.proofs.Chaining.{pushed-then}
 use Rattle.simulation.proofs.Stacking.{AfterArguments, no-more, one-more}
 

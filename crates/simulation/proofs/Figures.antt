@@ -1,21 +1,16 @@
 -- Figures: moved and compared as the meaning does it.
-use Prim.Native.Nat.{ℕ, zero, suc, _+_, _*_, _/_, _%_, _^_, _≤_, _<_}
+use Prim.Native.Nat.{ℕ, zero, suc, _^_, _<_}
 use native.Mathlib.Omega.{arith}
-use mathlib.Core.Path.{_≡_, refl, ap, ap₂, sym, _∙_}
-use mathlib.Core.Logic.{_≢_}
-use mathlib.Core.Bool.{Bool, true, false, cond, _&&_}
-use mathlib.Core.List.{List, [], _∷_}
-use lib.ListN.{length}
+use mathlib.Core.Path.{_≡_, refl, _∙_}
+use mathlib.Core.Bool.{Bool, true, false, cond}
+use mathlib.Core.List.{List}
 use lib.Dec.{eqb}
-use lib.IntN.{ℤ, pos, _+ℤ_}
+use lib.IntN.{ℤ, pos}
 use lib.Signed.{mag}
-use borrow.Author.Tests.{eqb-true, eqb-false, eq-eqb, ne-eqb}
-use Rattle.meaning.specs.Basics.{if_then_else_, sameText}
-use Rattle.meaning.specs.Integer.{sum, half, sameInteger, sameIntegers}
-use Rattle.meaning.specs.Figure.{line, ellipse, box, text, figureKind, numbersOf}
+use Rattle.meaning.specs.Basics.{if_then_else_}
+use Rattle.meaning.specs.Integer.{half}
+use Rattle.meaning.specs.Figure.{line, ellipse, box, text}
 use Rattle.meaning.specs.Figure as Meaning
-use Rattle.meaning.specs.State.{figureKey, sameKey}
-use Rattle.meaning.proofs.KeyLaws.{sameText-same, sameInteger-same}
 use Rattle.meaning.proofs.IntegerLaws.{sum-range, half-sum-range}
 use Rattle.stores.specs.Texts.{textOf}
 use Rattle.stores.specs.declared.Figure.{Figure}

@@ -1,33 +1,27 @@
 -- What stays when words change that do not matter.
-use Prim.Native.Nat.{ℕ, zero, suc, _+_, _*_, _/_, _%_, _^_, _≤_, _<_}
+use Prim.Native.Nat.{ℕ, zero, suc, _+_, _≤_, _<_}
 use native.Mathlib.Omega.{arith}
 use native.Mathlib.Nat.{le-refl, le-trans, add-zero}
-use mathlib.Core.Path.{_≡_, refl, ap, ap₂, sym, _∙_, subst}
-use mathlib.Core.Logic.{_≢_}
+use mathlib.Core.Path.{_≡_, refl, ap, ap₂, sym, _∙_}
 use mathlib.Core.Bool.{Bool, true, false, cond, not}
-use mathlib.Core.List.{List, [], _∷_, _++_}
-use lib.ListN.{length, getD, set}
+use mathlib.Core.List.{List}
+use lib.ListN.{length, getD}
 use lib.Dec.{eqb}
-use lib.Signed.{mag}
-use Rattle.meaning.specs.Basics.{if_then_else_}
 use Rattle.meaning.specs.Token.{Token}
-use Rattle.meaning.specs.Value.{integer, string, boolean, none, table, shape}
-use Rattle.meaning.specs.Value as Value
-use Rattle.meaning.specs.State.{Variable, Entry, Key, keyOf, figureKey, noShape}
+use Rattle.meaning.specs.Value.{string, shape}
+use Rattle.meaning.specs.State.{keyOf, figureKey, noShape}
 use Rattle.meaning.specs.State as State
 use Rattle.values.specs.declared.Value.{Value}
 use Rattle.values.specs.declared.Value.the-variants.{Integer, Text, Boolean, Nothing, Table, Shape}
-use Rattle.values.specs.Words.{packed, unpacked}
-use Rattle.stores.specs.Layout.{stepsUsed, shapesUsed, entriesUsed, textUsed, tablesMade, declared, argumentsHeld, valuePlace, orderPlace, shapePlace}
-use Rattle.stores.specs.Act.{Raw, raw}
-use Rattle.stores.specs.Texts.{originIn, startIn, sizeIn, textOf}
+use Rattle.values.specs.Words.{unpacked}
+use Rattle.stores.specs.Layout.{shapesUsed, entriesUsed, textUsed, declared, valuePlace, orderPlace, shapePlace}
+use Rattle.stores.specs.Act.{Raw}
+use Rattle.stores.specs.Texts.{originIn, startIn, sizeIn}
 use Rattle.stores.specs.declared.Figure.{Figure}
-use Rattle.stores.specs.Shapes.{figureAt, destroyedAt}
-use Rattle.stores.specs.Variables.{isDeclared}
-use Rattle.stores.specs.Arguments.{argumentAt}
+use Rattle.stores.specs.Shapes.{figureAt}
 use Rattle.stores.specs.Tables.{ownerAt, keyAt, valueAt}
 use Rattle.simulation.specs.Meant.{meantValue, meantWord, meantFigure, listed, slotAt, variableAt, variablesOf, shapeAt, shapesOf, keyAmong, meantKey, entryAt, entriesOf}
-use Rattle.simulation.specs.Sound.{Held, Valid, Proper, Counted, declaredAmong, Variables, Shapes, Entries}
+use Rattle.simulation.specs.Sound.{Held, Valid, Proper, declaredAmong, Variables, Shapes, Entries}
 use Rattle.simulation.specs.Follows.{Later}
 use Rattle.simulation.proofs.Listed.{listed-same, listed-first, getD-listed}
 

@@ -1,42 +1,39 @@
 -- Keys: words are compared as the meaning compares keys.
-use Prim.Native.Nat.{ℕ, zero, suc, _+_, _*_, _/_, _%_, _^_, _≤_, _<_}
+use Prim.Native.Nat.{ℕ, suc, _+_, _*_, _/_, _%_, _^_, _<_}
 use native.Mathlib.Omega.{arith}
 use mathlib.Core.Path.{_≡_, refl, ap, ap₂, sym, _∙_}
 use mathlib.Core.Logic.{_≢_}
-use mathlib.Core.Bool.{Bool, true, false, cond, _&&_}
-use mathlib.Core.List.{List, [], _∷_}
+use mathlib.Core.Bool.{Bool, true, false, _&&_}
+use mathlib.Core.List.{List, []}
 use lib.ListN.{getD}
 use lib.Dec.{eqb}
 use lib.IntN.{ℤ, pos, negsuc}
 use lib.Signed.{mag}
 use mir.Syntax.{w32}
 use mir.Val.{toZ}
-use borrow.Author.Tests.{eqb-true, eqb-false, eq-eqb, ne-eqb}
+use borrow.Author.Tests.{eqb-true, eq-eqb}
 use Rattle.meaning.specs.Basics.{if_then_else_, sameText}
 use Rattle.meaning.specs.Token.{Token}
 use Rattle.meaning.specs.Integer.{bits, wrap, sameInteger, sameIntegers}
 use Rattle.meaning.proofs.IntegerLaws.{bits-wrap, wrap-id}
 use Rattle.meaning.proofs.KeyLaws.{sameInteger-same, sameInteger-iff, sameKey-kind}
-use Rattle.meaning.specs.Value.{integer, string, boolean, none, table, shape, kindOf}
-use Rattle.meaning.specs.Value as Value
+use Rattle.meaning.specs.Value.{kindOf}
 use Rattle.meaning.specs.State.{State, keyOf, sameKey, figureKey}
 use Rattle.meaning.specs.State as State
-use Rattle.meaning.specs.Book.{Amounts}
 use Rattle.values.specs.declared.Value.{Value}
 use Rattle.values.specs.declared.Value.the-variants.{Integer, Text, Boolean, Nothing, Table, Shape}
-use Rattle.values.specs.Words.{kindIn, numberIn, handleIn, packed, unpacked}
+use Rattle.values.specs.Words.{kindIn, packed, unpacked}
 use Rattle.values.proofs.Laws.{unpacked-integer, unpacked-text, unpacked-truth, unpacked-table, unpacked-shape}
-use Rattle.stores.specs.Layout.{shapePlace}
 use Rattle.stores.specs.Act.{Raw}
 use Rattle.stores.specs.Texts.{textOf}
 use Rattle.stores.specs.Shapes.{lowNumber, highNumber, figureAt}
 use Rattle.stores.specs.Tables as Tables
 use Rattle.tables.proofs.KeyLaws.{other-kinds, text-keys, shape-keys, other-keys}
 use Rattle.operators.specs.Operate.{sameFigure}
-use Rattle.simulation.specs.Meant.{meantValue, meantFigure, shapeAt, shapesOf, keyAmong}
+use Rattle.simulation.specs.Meant.{meantValue, shapeAt, shapesOf, keyAmong}
 use Rattle.simulation.specs.Sound.{Valid, Sound}
 use Rattle.simulation.proofs.Frames.{figure-made}
-use Rattle.simulation.proofs.Equality.{and-true, and-assoc, figures-compared}
+use Rattle.simulation.proofs.Equality.{and-true, figures-compared}
 
 -- two tests are the same if each passes with the other
 pub same-test : (s t : Bool) → (s ≡ true → t ≡ true) → (t ≡ true → s ≡ true) → s ≡ t

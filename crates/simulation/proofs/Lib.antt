@@ -1,7 +1,7 @@
-mod Binding
+pub mod Binding
 mod Listed
 mod Frames
-mod Results
+pub mod Results
 mod Counting
 mod Arguments
 mod Usable
@@ -19,8 +19,11 @@ mod Library
 mod Stacking
 mod Chaining
 mod Expressions
-mod Flows
-mod Declaring
+pub mod Flows
+pub mod Declaring
 mod Assigning
 mod Storing
 mod Statements
+mod Quoted
+pub mod Body
+pub mod Beginning

@@ -1,24 +1,22 @@
 -- The library procedures, their arguments on the stack.
-use Prim.Native.Nat.{ℕ, zero, suc, _+_, _-_, _^_, _≤_, _<_}
+use Prim.Native.Nat.{ℕ, zero, suc, _+_, _≤_, _<_}
 use native.Mathlib.Omega.{arith}
-use native.Mathlib.Nat.{le-trans}
 use native.Mathlib.Numerals.{add-one}
-use mathlib.Core.Path.{_≡_, refl, ap, ap₂, sym, _∙_}
-use mathlib.Core.Bool.{Bool, true, false, not}
-use mathlib.Core.List.{List, [], _∷_}
+use mathlib.Core.Path.{_≡_, refl, ap, sym, _∙_}
+use mathlib.Core.Bool.{true}
+use mathlib.Core.List.{List, []}
 use mathlib.Core.Option.{Option, some}
 use mathlib.Core.Option as Option
 use lib.ListN.{getD}
 use lib.IntN.{ℤ, pos}
-use lib.Signed.{mag}
-use lib.Dec.{eqb, ltb}
+use lib.Dec.{ltb}
 use borrow.Author.Tests.{ne-eqb}
 use Rattle.meaning.specs.Basics.{if_then_else_}
 use Rattle.meaning.specs.Token.{Token}
 use Rattle.meaning.specs.Figure.{line, ellipse, box, text}
 use Rattle.meaning.specs.Figure as Meaning
 use Rattle.meaning.specs.Value as Value
-use Rattle.meaning.specs.State.{State, figureOf}
+use Rattle.meaning.specs.State.{State}
 use Rattle.meaning.specs.Run as Run
 use Rattle.meaning.specs.Book.{Amounts}
 use Rattle.meaning.specs.Operator as Operator
@@ -26,9 +24,8 @@ use Rattle.meaning.specs.Library.{Library, drawLine, drawEllipse, drawBox, draw
 use Rattle.meaning.specs.Library as Library
 use Rattle.names.specs.Prepared.{numberOf}
 use Rattle.values.specs.declared.Value.{Value}
-use Rattle.values.specs.declared.Value.the-variants.{Integer, Nothing}
 use Rattle.values.specs.Words.{unpacked}
-use Rattle.stores.specs.Act.{Raw, done}
+use Rattle.stores.specs.Act.{Raw}
 use Rattle.stores.specs.Act as Act
 use Rattle.stores.specs.Arguments.{argumentAt}
 use Rattle.stores.specs.Texts.{textOf}
@@ -38,15 +35,15 @@ use Rattle.stores.specs.Shapes as Shapes
 use Rattle.evaluator.specs.Evaluate.{Setting}
 use Rattle.library.specs.Library.{argument, allUsable, figure, centreX, centreY, connecting, textOn, withFigure, drawn, drawnText, connected, labelled, coordinate, destroyed, clearing, perform, callLibrary}
 use Rattle.simulation.specs.Meant.{meantValue, meantWord, meantFigure, listed}
-use Rattle.simulation.specs.Sound.{Held, Valid, Proper}
+use Rattle.simulation.specs.Sound.{Valid, Proper}
 use Rattle.simulation.specs.Follows.{Grants, Related, Follows}
 use Rattle.simulation.proofs.Binding.{bind}
 use Rattle.simulation.proofs.Listed.{listed-same}
 use Rattle.simulation.proofs.Frames.{valid-later, meant-later}
-use Rattle.simulation.proofs.Results.{mapped, given, failed, After, AfterValue, Units, Values, unmoved, onward, from-here, steps-told}
+use Rattle.simulation.proofs.Results.{mapped, given, failed, After, Units, Values, unmoved, onward, from-here, steps-told}
 use Rattle.simulation.proofs.Usable.{figure-found, uses}
 use Rattle.simulation.proofs.Shapes.{makes-shape}
-use Rattle.simulation.proofs.Destroying.{gone, destroys, destroy-is, clears}
+use Rattle.simulation.proofs.Destroying.{destroys, destroy-is, clears}
 use Rattle.simulation.proofs.Figures.{as-line, as-ellipse, as-box, as-text, centre-x, centre-y, centre-x-range, centre-y-range, proper-plain, proper-text}
 use Rattle.simulation.proofs.Asked.{with-integer, with-text, with-shape}
 

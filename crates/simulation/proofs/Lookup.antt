@@ -1,15 +1,15 @@
 -- Entries looked up alike.
-use Prim.Native.Nat.{ℕ, zero, suc, _+_, _-_, _*_, _/_, _%_, _^_, _≤_, _<_}
+use Prim.Native.Nat.{ℕ, zero, suc, _+_, _-_, _≤_, _<_}
 use native.Mathlib.Omega.{arith}
-use mathlib.Core.Path.{_≡_, refl, ap, ap₂, sym, _∙_, subst}
+use mathlib.Core.Path.{_≡_, refl, ap, ap₂, sym, _∙_}
 use mathlib.Core.Logic.{_≢_}
 use mathlib.Core.Bool.{Bool, true, false, _&&_}
-use mathlib.Core.List.{List, [], _∷_}
+use mathlib.Core.List.{List, _∷_}
 use mathlib.Core.Option.{Option, some}
 use mathlib.Core.Option as Option
 use lib.ListN.{getD}
 use lib.Dec.{eqb}
-use borrow.Author.Tests.{eqb-true, eqb-false, eq-eqb, ne-eqb}
+use borrow.Author.Tests.{eqb-true, eqb-false}
 use Rattle.meaning.specs.Basics.{if_then_else_}
 use Rattle.meaning.specs.Token.{Token}
 use Rattle.meaning.proofs.KeyLaws.{sameKey-iff}
@@ -22,7 +22,7 @@ use Rattle.meaning.specs.Book.{Amounts}
 use Rattle.meaning.specs.Evaluate as Evaluate
 use Rattle.values.specs.declared.Value.{Value}
 use Rattle.values.specs.Words.{packed, unpacked}
-use Rattle.stores.specs.Layout.{entriesUsed, entryPlace}
+use Rattle.stores.specs.Layout.{entriesUsed}
 use Rattle.stores.specs.Act.{Raw}
 use Rattle.stores.specs.Act as Act
 use Rattle.stores.specs.Tables.{ownerAt, keyAt, valueAt, last, findEntry, readFrom, readEntry}
@@ -33,7 +33,7 @@ use Rattle.simulation.specs.Sound.{Valid, Entries}
 use Rattle.simulation.specs.Follows.{Related, Follows}
 use Rattle.simulation.proofs.Binding.{bind}
 use Rattle.simulation.proofs.Listed.{listed-same}
-use Rattle.simulation.proofs.Results.{given, failed, AfterValue, Values, unmoved, still, steps-told}
+use Rattle.simulation.proofs.Results.{given, failed, Values, unmoved, still, steps-told}
 use Rattle.simulation.proofs.Usable.{uses}
 use Rattle.simulation.proofs.Keys.{both-true, keys-alike}
 

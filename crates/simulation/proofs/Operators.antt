@@ -1,10 +1,9 @@
 -- Operators do what the meaning says.
-use Prim.Native.Nat.{ℕ, _+_, _^_, _≤_, _<_}
-use native.Mathlib.Omega.{arith}
+use Prim.Native.Nat.{ℕ, _^_, _<_}
 use native.Mathlib.Nat.{le-trans}
-use mathlib.Core.Path.{_≡_, refl, ap, ap₂, sym, _∙_}
+use mathlib.Core.Path.{_≡_, refl, ap, sym, _∙_}
 use mathlib.Core.Bool.{Bool, true, false, not, _&&_}
-use mathlib.Core.List.{List, [], _++_}
+use mathlib.Core.List.{List}
 use mathlib.Core.Option.{Option, some}
 use mathlib.Core.Option as Option
 use lib.ListN.{getD}
@@ -13,7 +12,6 @@ use lib.Signed.{mag, ltZ}
 use Rattle.meaning.specs.Basics.{if_then_else_}
 use Rattle.meaning.specs.Token.{Token}
 use Rattle.meaning.specs.Integer.{sum, difference, product, quotient, shiftedLeft, shiftedRight, isZero}
-use Rattle.meaning.specs.Integer as Integer
 use Rattle.meaning.proofs.IntegerLaws.{sum-range, difference-range, product-range, quotient-range, remainder-range, shiftedLeft-range, shiftedRight-range}
 use Rattle.meaning.specs.Figure as Meaning
 use Rattle.meaning.specs.Tree.{Operator, concatenate, add, subtract, multiply, divide, remainder, shiftRight, shiftLeft, equal, unequal, greater, less}
@@ -36,7 +34,7 @@ use Rattle.simulation.specs.Sound.{Valid, Proper}
 use Rattle.simulation.specs.Follows.{Grants, Related, Follows}
 use Rattle.simulation.proofs.Binding.{bind}
 use Rattle.simulation.proofs.Frames.{valid-later, meant-later}
-use Rattle.simulation.proofs.Results.{mapped, given, failed, After, AfterValue, Units, Values, unmoved, onward, from-here, steps-told, refused}
+use Rattle.simulation.proofs.Results.{mapped, given, failed, Values, unmoved, onward, from-here, steps-told, refused}
 use Rattle.simulation.proofs.Usable.{figure-found, uses}
 use Rattle.simulation.proofs.Shapes.{makes-shape}
 use Rattle.simulation.proofs.Texts.{joins}

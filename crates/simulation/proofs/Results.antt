@@ -1,11 +1,11 @@
 -- The results that belong together, and the smallest acts.
-use Prim.Native.Nat.{ℕ, _+_, _≤_, _<_}
+use Prim.Native.Nat.{ℕ, _+_, _≤_}
 use native.Mathlib.Nat.{le-refl}
 use native.Mathlib.Omega.{arith}
-use mathlib.Core.Path.{_≡_, refl, ap, sym, _∙_}
+use mathlib.Core.Path.{_≡_, refl, sym, _∙_}
 use mathlib.Core.Bool.{Bool, true, false}
 use mathlib.Core.List.{List, [], _∷_}
-use lib.ListN.{getD, set, length, length-set}
+use lib.ListN.{getD, set}
 use lib.Dec.{leb}
 use borrow.Author.Tests.{leb-true}
 use Rattle.meaning.specs.Basics.{if_then_else_}
@@ -14,15 +14,14 @@ use Rattle.meaning.specs.Value as Value
 use Rattle.meaning.specs.State.{State}
 use Rattle.meaning.specs.Run.{Resource, Taking, taking, End, result, error, Run, run}
 use Rattle.meaning.specs.Run as Run
-use Rattle.meaning.specs.Book.{Amounts, added, fits, book, allFit, lacking, shortageOf}
+use Rattle.meaning.specs.Book.{Amounts, added, fits, book, shortageOf}
 use Rattle.values.specs.declared.Value.{Value}
-use Rattle.stores.specs.Layout.{stepsUsed, tablesMade, argumentsHeld, Lent, Room}
+use Rattle.stores.specs.Layout.{stepsUsed, tablesMade, Lent}
 use Rattle.stores.specs.Act.{Raw, raw, Out, done, stop}
 use Rattle.stores.specs.Act as Act
-use Rattle.stores.specs.Arguments.{argumentAt}
-use Rattle.simulation.specs.Meant.{meantValue}
-use Rattle.simulation.specs.Sound.{Valid, Counted, Sound}
+use Rattle.simulation.specs.Sound.{Counted}
 use Rattle.simulation.specs.Follows.{Related, Later, Together, gives, lacks, fails, Follows}
+pub use Rattle.simulation.specs.After.{After, AfterValue}
 use Rattle.simulation.proofs.Binding.{Relation, bind}
 use Rattle.simulation.proofs.Frames.{later-refl, later-trans, valid-later, meant-later, SameVariables, variables-kept, variables-same, SameShapes, shapes-kept, shapes-same, SameEntries, entries-kept, entries-same}
 
@@ -51,24 +50,11 @@ module _ {granted total : Amounts} {A B : Type 0} {R : Relation A B} where
 
 -- ---- results from slices r on
 module _ (program : List ℕ) (ts : List Token) (g : List ℕ) where
-  -- no more tables are made than steps counted, and the arguments of calls under way are untouched
-  pub record After (r r′ : Raw) (s : State) (total : Amounts) : Type 0 where
-    pub related : Related program ts g r′ s total
-    pub later : Later program r r′
-    pub spare : getD (r′ .words) tablesMade 0 + getD (r .words) stepsUsed 0 ≤ getD (r .words) tablesMade 0 + getD (r′ .words) stepsUsed 0
-    pub held : getD (r′ .words) argumentsHeld 0 ≡ getD (r .words) argumentsHeld 0
-    pub arguments : (k : ℕ) → k < getD (r .words) argumentsHeld 0 → argumentAt (r′ .words) k ≡ argumentAt (r .words) k
-
-  pub record AfterValue (r : Raw) (v : Value) (u : Value.Value) (r′ : Raw) (s : State) (total : Amounts) : Type 0 where
-    pub after : After r r′ s total
-    pub valid : Valid program (r′ .words) v
-    pub means : u ≡ meantValue program (r′ .texts) v
-
   abbrev pub Units : Raw → Relation (Unit {0}) (Unit {0})
-  Units r a b r′ s total = After r r′ s total
+  Units r a b r′ s total = After program ts g r r′ s total
 
   abbrev pub Values : Raw → Relation Value Value.Value
-  Values r v u r′ s total = AfterValue r v u r′ s total
+  Values r v u r′ s total = AfterValue program ts g r v u r′ s total
 
 module _ {program : List ℕ} {ts : List Token} {g : List ℕ} where
   pub unmoved : {r : Raw} {s : State} {total : Amounts} → Related program ts g r s total → After program ts g r r s total

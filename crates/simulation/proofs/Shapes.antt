@@ -1,10 +1,9 @@
 -- Shapes made.
-use Prim.Native.Nat.{ℕ, zero, suc, _+_, _*_, _-_, _/_, _%_, _^_, _≤_, _<_}
+use Prim.Native.Nat.{ℕ, suc, _+_, _*_, _/_, _%_, _^_, _≤_, _<_}
 use native.Mathlib.Omega.{arith}
-use native.Mathlib.Nat.{add-zero, le-refl}
-use mathlib.Core.Path.{_≡_, refl, ap, ap₂, sym, _∙_, subst}
-use mathlib.Core.Logic.{_≢_, _⊎_, inl, inr}
-use mathlib.Core.Bool.{Bool, true, false, cond}
+use mathlib.Core.Path.{_≡_, refl, ap, ap₂, sym, _∙_}
+use mathlib.Core.Logic.{_≢_}
+use mathlib.Core.Bool.{Bool, true, false}
 use mathlib.Core.List.{List, [], _∷_, _++_}
 use lib.ListN.{getD, set, length, length-set}
 use lib.Seq.{getD-set-same, getD-set-other}
@@ -13,13 +12,13 @@ use lib.IntN.{ℤ, pos, negsuc}
 use lib.Signed.{mag}
 use mir.Syntax.{w32}
 use mir.Val.{toZ}
-use borrow.Author.Tests.{eqb-true, eqb-false, eq-eqb, ne-eqb}
+use borrow.Author.Tests.{eqb-true, eqb-false}
 use Rattle.meaning.specs.Token.{Token}
 use Rattle.meaning.specs.Integer.{bits, wrap}
 use Rattle.meaning.proofs.IntegerLaws.{wrap-id}
 use Rattle.meaning.specs.Figure as Meaning
 use Rattle.meaning.specs.Value as Value
-use Rattle.meaning.specs.State.{State, withShape, withShapes}
+use Rattle.meaning.specs.State.{State, withShape}
 use Rattle.meaning.specs.State as State
 use Rattle.meaning.specs.Run.{taking}
 use Rattle.meaning.specs.Run as Run
@@ -27,18 +26,17 @@ use Rattle.meaning.specs.Book.{Amounts, added, resourceNumber, shortageOf}
 use Rattle.meaning.specs.Operator as Operator
 use Rattle.values.specs.declared.Value.{Value}
 use Rattle.values.specs.declared.Value.the-variants.{Shape}
-use Rattle.stores.specs.Layout.{shapePlace, Lent}
+use Rattle.stores.specs.Layout.{shapePlace}
 use Rattle.stores.specs.Act.{Raw, raw}
 use Rattle.stores.specs.Act as Act
 use Rattle.stores.specs.declared.Figure.{Figure}
-use Rattle.stores.specs.Shapes.{firstWord, pairWord, lowNumber, highNumber, figureAt, destroyedAt, figureLaid, putFigure, newShape}
-use Rattle.stores.specs.Arguments.{argumentAt}
+use Rattle.stores.specs.Shapes.{firstWord, pairWord, lowNumber, highNumber, figureAt, figureLaid, putFigure, newShape}
 use Rattle.simulation.specs.Meant.{meantValue, meantFigure, listed, shapeAt, shapesOf}
 use Rattle.simulation.specs.Sound.{Valid, Proper, Counted, Shapes}
 use Rattle.simulation.specs.Follows.{Grants, Related, Later, Follows}
 use Rattle.simulation.proofs.Listed.{listed-first, listed-more, length-listed}
 use Rattle.simulation.proofs.Frames.{proper-kept, figure-later, SameVariables, variables-kept, variables-same, SameEntries, entries-kept, entries-same}
-use Rattle.simulation.proofs.Results.{given, After, AfterValue, steps-told, spent-then}
+use Rattle.simulation.proofs.Results.{given, AfterValue, steps-told, spent-then}
 use Rattle.simulation.proofs.Counting.{lent-set, figure-same}
 
 -- ---- a figure's words

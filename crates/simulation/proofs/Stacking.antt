@@ -1,9 +1,9 @@
 -- Arguments evaluated, each pushed.
-use Prim.Native.Nat.{ℕ, zero, suc, _+_, _≤_, _<_}
+use Prim.Native.Nat.{ℕ, suc, _+_, _≤_, _<_}
 use native.Mathlib.Omega.{arith}
 use native.Mathlib.Nat.{le-refl}
 use native.Mathlib.Numerals.{add-one}
-use mathlib.Core.Path.{_≡_, refl, ap, ap₂, sym, _∙_, subst}
+use mathlib.Core.Path.{_≡_, refl, ap, ap₂, sym, _∙_}
 use mathlib.Core.Logic.{_≢_}
 use mathlib.Core.Bool.{Bool, true, false}
 use mathlib.Core.List.{List, [], _∷_}
@@ -22,7 +22,7 @@ use Rattle.simulation.specs.Meant.{meantValue, meantWord, listed}
 use Rattle.simulation.specs.Sound.{Valid}
 use Rattle.simulation.specs.Follows.{Related, Later}
 use Rattle.simulation.proofs.Frames.{later-refl, later-trans, valid-later, meant-later}
-use Rattle.simulation.proofs.Results.{After, AfterValue}
+use Rattle.simulation.proofs.Results.{AfterValue}
 use Rattle.simulation.proofs.Arguments.{Pushed}
 use Rattle.simulation.proofs.Keys.{back-again}
 use Rattle.simulation.proofs.Library.{Stacked}

@@ -1,35 +1,31 @@
 -- Statements: executing their code follows what they mean.
-use Prim.Native.Nat.{ℕ, zero, suc, _+_, _-_, _*_, _/_, _%_, _^_, _≤_, _<_}
+use Prim.Native.Nat.{ℕ, zero, suc, _+_, _-_, _*_, _≤_, _<_}
 use native.Mathlib.Omega.{arith}
 use native.Mathlib.Nat.{le-trans}
-use mathlib.Core.Path.{_≡_, refl, ap, ap₂, sym, _∙_, subst}
-use mathlib.Core.Logic.{_≢_}
+use mathlib.Core.Path.{_≡_, refl, ap, _∙_, subst}
 use mathlib.Core.Bool.{Bool, true, false}
 use mathlib.Core.List.{List, [], _∷_, _++_}
 use lib.ListN.{getD, length, length-append}
-use lib.Dec.{eqb, ltb}
-use borrow.Author.Tests.{ne-eqb, lt-ltb, le-ltb}
+use borrow.Author.Tests.{lt-ltb, le-ltb}
 use Rattle.meaning.specs.Basics.{if_then_else_}
 use Rattle.meaning.specs.Token.{Token, aName}
 use Rattle.meaning.specs.Tree.{Expression, Statement, declare, assign, update, when, while, return, block, act, Statements, only, first}
-use Rattle.meaning.specs.Value as Value
 use Rattle.meaning.specs.State.{State}
 use Rattle.meaning.specs.Run as Run
 use Rattle.meaning.specs.Book.{Amounts}
 use Rattle.meaning.specs.Operator as Operator
 use Rattle.meaning.specs.Evaluate.{evaluate}
-use Rattle.meaning.specs.Execute.{onward, returned, execute}
+use Rattle.meaning.specs.Execute.{onward, execute}
 use Rattle.meaning.specs.Execute as Execute
-use Rattle.code.specs.Code.{word, tagIn, sizeIn, numberIn, tagDeclare, tagAssign, tagUpdate, tagWhen, tagWhile, tagReturn, tagBlock, tagAct, slotOf, headed, codeOf, codeOfStatement, codeOfStatements}
+use Rattle.code.specs.Code.{word, tagIn, sizeIn, tagDeclare, tagAssign, tagUpdate, tagWhen, tagWhile, tagReturn, tagBlock, tagAct, slotOf, codeOf, codeOfStatement, codeOfStatements}
 use Rattle.reader.specs.Sane.{Sane}
 use Rattle.reader.proofs.Homes.{Occurs}
-use Rattle.reader.proofs.Fields.{Told, word-told, first-half, second-half, code-rooted, code-some, statement-headed, statement-some}
+use Rattle.reader.proofs.Fields.{first-half, second-half, code-rooted, statement-headed, statement-some}
 use Rattle.reader.proofs.Known.{Placed, Known, KnownStatement, KnownStatements}
 use Rattle.reader.proofs.Walk.{Stands, Ends, stands-front, stands-back, stands-first, stands-rest, ends-word}
-use Rattle.values.specs.declared.Value.{Value}
 use Rattle.values.specs.Words.{packed}
 use Rattle.stores.specs.Layout.{stepsGranted}
-use Rattle.stores.specs.Act.{Raw, Act, done}
+use Rattle.stores.specs.Act.{Raw, Act}
 use Rattle.stores.specs.Act as Act
 use Rattle.stores.specs.Variables as Stored
 use Rattle.stores.specs.Tables.{storeEntry}
@@ -42,7 +38,7 @@ use Rattle.simulation.specs.Meant.{meantValue}
 use Rattle.simulation.specs.Sound.{Valid}
 use Rattle.simulation.specs.Follows.{Grants, Related, Follows}
 use Rattle.simulation.proofs.Binding.{bind, Succeeds, act-after}
-use Rattle.simulation.proofs.Results.{given, mapped, After, AfterValue, Values, unmoved, still}
+use Rattle.simulation.proofs.Results.{given, After, Values, unmoved, still}
 use Rattle.simulation.proofs.Results as Results
 use Rattle.simulation.proofs.Counting.{AfterStep, counts}
 use Rattle.simulation.proofs.Asked.{with-boolean, with-table}

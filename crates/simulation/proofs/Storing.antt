@@ -1,39 +1,38 @@
 -- Entries stored: a new one added, or the one with the key overwritten.
-use Prim.Native.Nat.{ℕ, zero, suc, _+_, _-_, _*_, _/_, _%_, _^_, _≤_, _<_}
+use Prim.Native.Nat.{ℕ, suc, _+_, _-_, _*_, _%_, _^_, _≤_, _<_}
 use native.Mathlib.Omega.{arith}
-use mathlib.Core.Path.{_≡_, refl, ap, ap₂, sym, _∙_, subst}
+use mathlib.Core.Path.{_≡_, refl, ap, ap₂, sym, _∙_}
 use mathlib.Core.Logic.{_≢_}
-use mathlib.Core.Bool.{Bool, true, false, _&&_}
+use mathlib.Core.Bool.{Bool, true, false}
 use mathlib.Core.List.{List, [], _∷_, _++_}
 use mathlib.Core.Option.{Option, some}
 use mathlib.Core.Option as Option
 use lib.ListN.{getD, set, length, length-set}
 use lib.Seq.{getD-set-same, getD-set-other}
 use lib.Dec.{eqb}
-use borrow.Author.Tests.{eqb-true, eqb-false, eq-eqb, ne-eqb}
+use borrow.Author.Tests.{eqb-true, eqb-false, eq-eqb}
 use Rattle.meaning.specs.Basics.{if_then_else_}
 use Rattle.meaning.specs.Token.{Token}
-use Rattle.meaning.proofs.KeyLaws.{sameKey-same, sameKey-iff}
+use Rattle.meaning.proofs.KeyLaws.{sameKey-same}
 use Rattle.meaning.specs.Value as Value
-use Rattle.meaning.specs.State.{State, Key, Entry, keyOf, matches, sameKey, entryIn, overwritten, withEntries}
+use Rattle.meaning.specs.State.{State, Key, Entry, matches, overwritten, withEntries}
 use Rattle.meaning.specs.Run.{taking}
 use Rattle.meaning.specs.Run as Run
 use Rattle.meaning.specs.Book.{Amounts, added, resourceNumber, shortageOf}
 use Rattle.meaning.specs.Execute.{storing, updating}
-use Rattle.meaning.specs.Execute as Execute
 use Rattle.values.specs.declared.Value.{Value}
 use Rattle.values.specs.Words.{packed, unpacked}
-use Rattle.stores.specs.Layout.{entriesUsed, entryPlace}
+use Rattle.stores.specs.Layout.{entryPlace}
 use Rattle.stores.specs.Act.{Raw, raw}
 use Rattle.stores.specs.Act as Act
 use Rattle.stores.specs.Tables.{ownerAt, keyAt, valueAt, findEntry, bucketOf, headPlace, entryLaid, putEntry, addEntry, storeIn, storeEntry}
 use Rattle.executor.specs.declared.Flow.the-variants.{Onward}
 use Rattle.simulation.specs.Meant.{meantValue, meantWord, listed, shapesOf, keyAmong, meantKey, entryAt, entriesOf}
-use Rattle.simulation.specs.Sound.{Valid, Counted, Entries}
+use Rattle.simulation.specs.Sound.{Valid, Entries}
 use Rattle.simulation.specs.Follows.{Grants, Related, Later, Follows}
 use Rattle.simulation.proofs.Binding.{act-after}
 use Rattle.simulation.proofs.Listed.{listed-first, listed-more}
-use Rattle.simulation.proofs.Frames.{valid-later, meant-later, key-later, SameVariables, variables-kept, variables-same, SameShapes, shapes-kept, shapes-same}
+use Rattle.simulation.proofs.Frames.{valid-later, key-later, SameVariables, variables-kept, variables-same, SameShapes, shapes-kept, shapes-same}
 use Rattle.simulation.proofs.Results.{given, After, steps-told, spent-then}
 use Rattle.simulation.proofs.Counting.{figure-same}
 use Rattle.simulation.proofs.Shapes.{up-to, read-four, read-first, read-second, read-third}

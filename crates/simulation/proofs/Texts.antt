@@ -1,13 +1,12 @@
 -- Texts: what a handle stands for, and two texts joined.
-use Prim.Native.Nat.{ℕ, zero, suc, _+_, _*_, _-_, _/_, _%_, _^_, _≤_, _<_}
+use Prim.Native.Nat.{ℕ, _+_, _*_, _/_, _%_, _^_, _≤_, _<_}
 use native.Mathlib.Omega.{arith}
-use mathlib.Core.Path.{_≡_, refl, ap, ap₂, sym, _∙_, subst}
+use mathlib.Core.Path.{_≡_, refl, ap, ap₂, sym, _∙_}
 use mathlib.Core.Logic.{_≢_}
 use mathlib.Core.Bool.{Bool, true, false, cond}
-use mathlib.Core.List.{List, [], _∷_, _++_}
-use lib.ListN.{getD, set, length, take, drop, length-append}
+use mathlib.Core.List.{List, _++_}
+use lib.ListN.{getD, set, length, take, length-append}
 use lib.Dec.{eqb}
-use borrow.Author.Tests.{eqb-true, eqb-false, eq-eqb, ne-eqb}
 use Rattle.meaning.specs.Basics.{if_then_else_}
 use Rattle.meaning.specs.Token.{Token}
 use Rattle.meaning.specs.Value as Value
@@ -18,15 +17,13 @@ use Rattle.meaning.specs.Book.{Amounts, added, resourceNumber, shortageOf}
 use Rattle.meaning.specs.Operator as Operator
 use Rattle.values.specs.declared.Value.{Value}
 use Rattle.values.specs.declared.Value.the-variants.{Text}
-use Rattle.stores.specs.Layout.{Lent}
 use Rattle.stores.specs.Act.{Raw, raw}
 use Rattle.stores.specs.Act as Act
 use Rattle.stores.specs.Texts.{handle, originIn, startIn, sizeIn, part, textOf, laidAt, joined, putJoined, joinTexts}
 use Rattle.texts.proofs.Layer.{length-laid, kept-laid, part-laid, part-take, length-part}
 use Rattle.simulation.specs.Meant.{meantValue}
-use Rattle.simulation.specs.Sound.{Held, Valid, Counted}
+use Rattle.simulation.specs.Sound.{Held, Valid}
 use Rattle.simulation.specs.Follows.{Grants, Related, Later, Follows}
-use Rattle.simulation.proofs.Frames.{SameVariables, SameShapes, SameEntries}
 use Rattle.simulation.proofs.Results.{given, AfterValue, Values, steps-told, kept-related, spent-then}
 use Rattle.simulation.proofs.Counting.{lent-set, figure-same, other, here}
 

@@ -1,13 +1,11 @@
 -- Destroyed shapes are refused alike.
-use Prim.Native.Nat.{ℕ, _+_, _≤_, _<_}
+use Prim.Native.Nat.{ℕ, _<_}
 use mathlib.Core.Path.{_≡_, refl, ap, sym, _∙_}
-use mathlib.Core.Bool.{Bool, true, false}
-use mathlib.Core.List.{List, [], _∷_, _++_}
+use mathlib.Core.List.{List}
 use lib.ListN.{getD}
 use Rattle.meaning.specs.Token.{Token}
-use Rattle.meaning.specs.Figure.{Figure}
 use Rattle.meaning.specs.Value as Value
-use Rattle.meaning.specs.State.{State, noShape, isDestroyed, figureOf}
+use Rattle.meaning.specs.State.{State, noShape, figureOf}
 use Rattle.meaning.specs.State as State
 use Rattle.meaning.specs.Run as Run
 use Rattle.meaning.specs.Book.{Amounts}
@@ -17,7 +15,7 @@ use Rattle.values.specs.declared.Value.the-variants.{Integer, Text, Boolean, No
 use Rattle.stores.specs.Act.{Raw}
 use Rattle.stores.specs.Shapes.{figureAt}
 use Rattle.stores.specs.Variables.{isDead, usable}
-use Rattle.simulation.specs.Meant.{meantValue, meantFigure, shapeAt, shapesOf}
+use Rattle.simulation.specs.Meant.{meantValue, meantFigure, shapeAt}
 use Rattle.simulation.specs.Sound.{Valid}
 use Rattle.simulation.specs.Follows.{Related, Follows}
 use Rattle.simulation.proofs.Frames.{figure-made}

@@ -1,38 +1,35 @@
 -- Variables: looked up by slot as by name.
-use Prim.Native.Nat.{ℕ, zero, suc, _+_, _%_, _≤_, _<_}
+use Prim.Native.Nat.{ℕ, zero, suc, _+_, _≤_, _<_}
 use native.Mathlib.Omega.{arith}
-use mathlib.Core.Path.{_≡_, refl, ap, ap₂, sym, _∙_}
+use mathlib.Core.Path.{_≡_, refl, ap, sym, _∙_}
 use mathlib.Core.Logic.{_≢_}
-use mathlib.Core.Bool.{Bool, true, false, not, cond}
-use mathlib.Core.List.{List, [], _∷_, _++_}
+use mathlib.Core.Bool.{Bool, true, false}
+use mathlib.Core.List.{List}
 use mathlib.Core.Option.{Option, some}
 use mathlib.Core.Option as Option
-use lib.ListN.{getD, set, length}
+use lib.ListN.{getD, length}
 use lib.Dec.{eqb}
-use borrow.Author.Tests.{eqb-true, eqb-false, eq-eqb, ne-eqb}
+use borrow.Author.Tests.{eqb-true, eqb-false}
 use Rattle.meaning.specs.Basics.{if_then_else_, sameText}
 use Rattle.meaning.specs.Token.{Token, aName}
 use Rattle.meaning.specs.Grammar.{textAt}
 use Rattle.meaning.specs.Value as Value
-use Rattle.meaning.specs.State.{State, Variable, valueIn, isSome, assigned}
-use Rattle.meaning.specs.State as State
+use Rattle.meaning.specs.State.{State, Variable, valueIn}
 use Rattle.meaning.specs.Run as Run
 use Rattle.meaning.specs.Book.{Amounts}
-use Rattle.meaning.specs.Operator as Operator
 use Rattle.meaning.specs.Evaluate as Evaluate
 use Rattle.code.specs.Code.{slotOf}
-use Rattle.reader.proofs.Homes.{Occurs, Found, occurs-found, slot-small, same-text, text-same}
+use Rattle.reader.proofs.Homes.{Occurs, occurs-found, slot-small, same-text, text-same}
 use Rattle.values.specs.declared.Value.{Value}
-use Rattle.values.specs.Words.{packed, unpacked}
-use Rattle.stores.specs.Layout.{declared, valuePlace, orderPlace}
-use Rattle.stores.specs.Act.{Raw, raw}
+use Rattle.stores.specs.Layout.{declared, valuePlace}
+use Rattle.stores.specs.Act.{Raw}
 use Rattle.stores.specs.Act as Act
-use Rattle.stores.specs.Variables.{isDeclared, variable}
-use Rattle.simulation.specs.Meant.{meantValue, meantWord, listed, slotAt, variableAt, variablesOf}
-use Rattle.simulation.specs.Sound.{Valid, declaredAmong, Variables}
+use Rattle.stores.specs.Variables.{variable}
+use Rattle.simulation.specs.Meant.{meantWord, listed, slotAt, variableAt, variablesOf}
+use Rattle.simulation.specs.Sound.{Variables}
 use Rattle.simulation.specs.Follows.{Related, Follows}
 use Rattle.simulation.proofs.Binding.{bind}
-use Rattle.simulation.proofs.Results.{given, failed, After, AfterValue, Units, Values, unmoved, onward, still, steps-told}
+use Rattle.simulation.proofs.Results.{given, failed, Values, unmoved, still, steps-told}
 use Rattle.simulation.proofs.Usable.{uses}
 
 -- ---- looking up

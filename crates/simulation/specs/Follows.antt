@@ -1,5 +1,5 @@
 -- The run of the code and the specified run, side by side.
-use Prim.Native.Nat.{ℕ, _+_, _≤_, _<_}
+use Prim.Native.Nat.{ℕ, _≤_, _<_}
 use mathlib.Core.Path.{_≡_}
 use mathlib.Core.List.{List}
 use lib.ListN.{getD}
@@ -7,7 +7,7 @@ use Rattle.meaning.specs.Token.{Token}
 use Rattle.meaning.specs.State.{State}
 use Rattle.meaning.specs.Run as Run
 use Rattle.meaning.specs.Run.{steps, shapes, entries, textBytes, Taking, End, result, error, Run}
-use Rattle.meaning.specs.Book.{Amounts, Booked, allFit, lacking, book, shortageOf}
+use Rattle.meaning.specs.Book.{Amounts, allFit, lacking, book, shortageOf}
 use Rattle.stores.specs.Layout.{stepsUsed, shapesUsed, entriesUsed, textUsed, tablesMade, stepsGranted, shapesGranted, entriesGranted, textGranted}
 use Rattle.stores.specs.Act.{Raw, Out, done, stop}
 use Rattle.stores.specs.Texts.{textOf}

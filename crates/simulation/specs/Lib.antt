@@ -1,3 +1,4 @@
 pub mod Meant
 pub mod Sound
 pub mod Follows
+pub mod After

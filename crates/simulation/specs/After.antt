@@ -1,0 +1,43 @@
+-- The results that belong together, from slices r on.
+use Prim.Native.Nat.{ℕ, _+_, _≤_, _<_}
+use mathlib.Core.Path.{_≡_}
+use mathlib.Core.List.{List}
+use lib.ListN.{getD}
+use Rattle.meaning.specs.Token.{Token}
+use Rattle.meaning.specs.Value as Value
+use Rattle.meaning.specs.State.{State}
+use Rattle.meaning.specs.Book.{Amounts}
+use Rattle.meaning.specs.Execute.{onward, returned}
+use Rattle.meaning.specs.Execute as Execute
+use Rattle.values.specs.declared.Value.{Value}
+use Rattle.stores.specs.Layout.{stepsUsed, tablesMade, argumentsHeld}
+use Rattle.stores.specs.Act.{Raw}
+use Rattle.stores.specs.Arguments.{argumentAt}
+use Rattle.executor.specs.declared.Flow.{Flow}
+use Rattle.executor.specs.declared.Flow.the-variants.{Onward, Returned}
+use Rattle.simulation.specs.Meant.{meantValue}
+use Rattle.simulation.specs.Sound.{Valid}
+use Rattle.simulation.specs.Follows.{Related, Later}
+
+-- The slices stand for the state. No more tables were made than steps counted, and the arguments of calls under way are untouched.
+pub record After (program : List ℕ) (ts : List Token) (g : List ℕ) (r r′ : Raw) (s : State) (total : Amounts) : Type 0 where
+  pub related : Related program ts g r′ s total
+  pub later : Later program r r′
+  pub spare : getD (r′ .words) tablesMade 0 + getD (r .words) stepsUsed 0 ≤ getD (r .words) tablesMade 0 + getD (r′ .words) stepsUsed 0
+  pub held : getD (r′ .words) argumentsHeld 0 ≡ getD (r .words) argumentsHeld 0
+  pub arguments : (k : ℕ) → k < getD (r .words) argumentsHeld 0 → argumentAt (r′ .words) k ≡ argumentAt (r .words) k
+
+-- values: the code's is held and stands for the meaning's
+pub record AfterValue (program : List ℕ) (ts : List Token) (g : List ℕ) (r : Raw) (v : Value) (u : Value.Value) (r′ : Raw) (s : State) (total : Amounts) : Type 0 where
+  pub after : After program ts g r r′ s total
+  pub valid : Valid program (r′ .words) v
+  pub means : u ≡ meantValue program (r′ .texts) v
+
+-- how a statement ends: both go on, or both return values that belong together
+pub data SameFlow (program : List ℕ) (r : Raw) : Flow → Execute.Flow → Type 0 where
+  both-onward : SameFlow program r Onward onward
+  both-returned : {v : Value} {u : Value.Value} → Valid program (r .words) v → u ≡ meantValue program (r .texts) v → SameFlow program r (Returned v) (returned u)
+
+pub record AfterFlow (program : List ℕ) (ts : List Token) (g : List ℕ) (r : Raw) (f : Flow) (f′ : Execute.Flow) (r′ : Raw) (s : State) (total : Amounts) : Type 0 where
+  pub after : After program ts g r r′ s total
+  pub flow : SameFlow program r′ f f′
