@@ -1,0 +1,4 @@
+pub mod Acts
+pub mod StepLaws
+pub mod Laws
+pub mod Kept
