@@ -17,9 +17,9 @@ pub fn clear_words(words: &mut [u64])
 pub fn clear_bytes(bytes: &mut [u8])
     ensures { λ _. ⌜ now (bytes .exit) ≡ replicate (length (now (bytes .entry))) 0 ⌝ }
 {
-    let mut i = 0;
-    while i < bytes.len() {
-        bytes[i] = 0;
-        i += 1;
+    let mut k = 0;
+    while k < bytes.len() {
+        bytes[k] = 0;
+        k += 1;
     }
 }

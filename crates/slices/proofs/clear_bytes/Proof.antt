@@ -19,8 +19,8 @@ loop-holds c = search clear-none
 slice-write-bytes : tie.Need-slice-write-bytes Inv-loop μ-loop
 slice-write-bytes c = omega arith
 
-add-i : tie.Need-add-i Inv-loop μ-loop
-add-i c = search needs
+add-k : tie.Need-add-k Inv-loop μ-loop
+add-k c = search needs
 
 loop-less : tie.Need-loop-less Inv-loop μ-loop
 loop-less c = simp length-set (omega arith)
@@ -42,7 +42,7 @@ clear-bytes-spec =
     μ-loop
     loop-holds
     slice-write-bytes
-    add-i
+    add-k
     loop-less
     loop-again
     same-length
