@@ -1,0 +1,3 @@
+mod Figures
+mod Shown
+mod Turns
