@@ -96,10 +96,10 @@ pub fn picture_length<'a>(
 {
     let n = stores::variables::declared_count(words);
     let mut total = picture::head_length(width, height) + picture::tail_length();
-    let mut k = 0;
-    while k < n {
-        total += shown_length(program, texts, words, declared_word(words, k));
-        k += 1;
+    let mut counted = 0;
+    while counted < n {
+        total += shown_length(program, texts, words, declared_word(words, counted));
+        counted += 1;
     }
     total
 }
@@ -119,10 +119,10 @@ pub fn write_picture<'a>(
 {
     let n = stores::variables::declared_count(words);
     let mut at = picture::write_head_at(out, 0, width, height);
-    let mut k = 0;
-    while k < n {
-        at = write_shown(program, texts, words, declared_word(words, k), out, at);
-        k += 1;
+    let mut drawn = 0;
+    while drawn < n {
+        at = write_shown(program, texts, words, declared_word(words, drawn), out, at);
+        drawn += 1;
     }
     picture::write_tail_at(out, at)
 }

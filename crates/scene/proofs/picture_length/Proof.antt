@@ -8,10 +8,10 @@ use Rattle.scene.proofs.picture_length.Statement.{statement}
 use Rattle.scene.proofs.picture_length.Tie as tie
 
 abbrev Inv-loop : tie.InvT-loop
-Inv-loop program texts words width height n total₀ k₀ total k = Counting program texts words n k total₀ total
+Inv-loop program texts words width height n total₀ counted₀ total counted = Counting program texts words n counted total₀ total
 
 abbrev μ-loop : tie.MeasureT-loop
-μ-loop program texts words width height n total₀ k₀ total k = n - k
+μ-loop program texts words width height n total₀ counted₀ total counted = n - counted
 
 declared-count-requires : tie.Need-declared-count-requires Inv-loop μ-loop
 declared-count-requires c κs = search needs
@@ -37,8 +37,8 @@ shown-length-requires c κs = search needs
 add-total-2 : tie.Need-add-total-2 Inv-loop μ-loop
 add-total-2 c = search total-fits
 
-add-k : tie.Need-add-k Inv-loop μ-loop
-add-k c = omega arith
+add-counted : tie.Need-add-counted Inv-loop μ-loop
+add-counted c = omega arith
 
 loop-less : tie.Need-loop-less Inv-loop μ-loop
 loop-less c = omega arith
@@ -63,7 +63,7 @@ picture-length-spec =
     declared-word-requires
     shown-length-requires
     add-total-2
-    add-k
+    add-counted
     loop-less
     loop-again
     returns)

@@ -8,10 +8,10 @@ use Rattle.scene.proofs.write_picture.Statement.{statement}
 use Rattle.scene.proofs.write_picture.Tie as tie
 
 abbrev Inv-loop : tie.InvT-loop
-Inv-loop program texts words width height out₀ n at₀ k₀ out at k = Writing program texts words n k at₀ out₀ out at
+Inv-loop program texts words width height out₀ n at₀ drawn₀ out at drawn = Writing program texts words n drawn at₀ out₀ out at
 
 abbrev μ-loop : tie.MeasureT-loop
-μ-loop program texts words width height out₀ n at₀ k₀ out at k = n - k
+μ-loop program texts words width height out₀ n at₀ drawn₀ out at drawn = n - drawn
 
 declared-count-requires : tie.Need-declared-count-requires Inv-loop μ-loop
 declared-count-requires c κs = search needs
@@ -28,8 +28,8 @@ declared-word-requires c κs = search needs
 write-shown-requires : tie.Need-write-shown-requires Inv-loop μ-loop
 write-shown-requires c κs = search needs
 
-add-k : tie.Need-add-k Inv-loop μ-loop
-add-k c = omega arith
+add-drawn : tie.Need-add-drawn Inv-loop μ-loop
+add-drawn c = omega arith
 
 loop-less : tie.Need-loop-less Inv-loop μ-loop
 loop-less c = omega arith
@@ -60,7 +60,7 @@ write-picture-spec =
     loop-holds
     declared-word-requires
     write-shown-requires
-    add-k
+    add-drawn
     loop-less
     loop-again
     write-tail-at-requires
