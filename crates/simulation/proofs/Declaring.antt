@@ -39,7 +39,7 @@ use Rattle.simulation.proofs.Variables.{slot-less, slot-named, name-slo
 use Rattle.simulation.proofs.Flows.{both-onward, Flows}
 
 -- ---- counting the declared
-among-few : (ws : List ℕ) (n : ℕ) → declaredAmong ws n ≤ n
+pub among-few : (ws : List ℕ) (n : ℕ) → declaredAmong ws n ≤ n
 unfolding declaredAmong
 among-few ws zero = omega arith
 among-few ws (suc n) = go (not (eqb (getD ws (valuePlace n) 0) 0)) (among-few ws n)
@@ -256,7 +256,7 @@ module _ {program : List ℕ} {ts : List Token} {g : List ℕ} (few : length ts 
     abbrev two : List ℕ
     two = set (set (r .words) (valuePlace (slotOf ts x)) 4) (orderPlace (getD (r .words) 5 0)) (slotOf ts x)
 
-    abbrev three : List ℕ
+    abbrev pub three : List ℕ
     three = set (set (set (r .words) (valuePlace (slotOf ts x)) 4) (orderPlace (getD (r .words) 5 0)) (slotOf ts x)) 5 (getD (r .words) 5 0 + 1)
 
     one-own : getD one (valuePlace slot) 0 ≡ 4
@@ -268,7 +268,7 @@ module _ {program : List ℕ} {ts : List Token} {g : List ℕ} (few : length ts 
     one-among : declaredAmong one 8192 ≡ suc (declaredAmong (r .words) 8192)
     one-among = among-more (r .words) one slot one-values free (λ q. omega (arith, one-own)) 8192 less (omega arith)
 
-    room : many < 8192
+    pub room : many < 8192
     room = omega (arith, v .few, one-among, among-few one 8192)
 
     new-other : (j : ℕ) → j ≢ valuePlace slot → j ≢ orderPlace many → j ≢ 5 → getD three j 0 ≡ getD (r .words) j 0
@@ -351,7 +351,7 @@ module _ {program : List ℕ} {ts : List Token} {g : List ℕ} (few : length ts 
         (listed-first (variableAt program ts (raw (r .texts) three)) (variableAt program ts r) many
         (λ k l. rw (old-slot k l, old-values (slotAt (r .words) k) (v .slots k l) (fresh k l)))) last))
 
-    new-after : After program ts g r (raw (r .texts) three) (withVariables s (s .variables ++ (record { name = x; holds = Value.none } ∷ []))) total
+    pub new-after : After program ts g r (raw (r .texts) three) (withVariables s (s .variables ++ (record { name = x; holds = Value.none } ∷ []))) total
     new-after = changed h three (λ j l. new-other j (λ e. omega arith) (λ e. omega arith) (λ e. omega arith))
         (new-other 6 (λ e. omega arith) (λ e. omega arith) (λ e. omega arith)) (λ j l. new-other j (λ e. omega arith) (λ e. omega arith) (λ e. omega arith))
         _ (length-set two 5 (many + 1) ∙ length-set one (orderPlace many) slot ∙ length-set (r .words) (valuePlace slot) 4) new-variables new-list

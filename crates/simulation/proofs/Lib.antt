@@ -1,11 +1,11 @@
 pub mod Binding
-mod Listed
+pub mod Listed
 mod Frames
 pub mod Results
 mod Counting
 mod Arguments
-mod Usable
-mod Variables
+pub mod Usable
+pub mod Variables
 mod Shapes
 mod Destroying
 mod Texts

@@ -1,0 +1,4 @@
+mod Scenes
+mod Entering
+mod Painting
+mod Ways

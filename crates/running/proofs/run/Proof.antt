@@ -1,0 +1,74 @@
+use Rattle.running.proofs.Ways.{run-no-sheet, run-too-long, run-ready, run-as-read}
+use borrow.Author.Needs.{needs}
+use Rattle.running.proofs.run.Statement.{statement}
+use Rattle.running.proofs.run.Tie as tie
+use Rattle.running.proofs.run.Reads as reads
+use Rattle.running.proofs.run.Lts as lts
+use Rattle.running.proofs.is_sheet.Reads as is-sheet-reads
+use Rattle.running.proofs.run_read.Reads as run-read-reads
+use Rattle.slices.proofs.clear_words.Reads as clear-words-reads
+
+-- src/lib.rt:133:5
+clear-words-requires : tie.Need-clear-words-requires
+clear-words-requires c κs = search needs
+
+-- src/lib.rt:134:9
+is-sheet-requires : tie.Need-is-sheet-requires
+is-sheet-requires c κs = search needs
+
+-- src/lib.rt:135:9
+same-length : tie.Need-same-length
+same-length c = search needs
+
+-- src/lib.rt:135:9
+returns : tie.Need-returns
+returns c = search run-no-sheet
+
+-- src/lib.rt:138:9
+same-length-2 : tie.Need-same-length-2
+same-length-2 c = search needs
+
+-- src/lib.rt:138:9
+returns-2 : tie.Need-returns-2
+returns-2 c = search run-too-long
+
+-- src/lib.rt:140:9
+run-read-requires : tie.Need-run-read-requires
+run-read-requires c κs = search run-ready
+
+-- src/lib.rt:119:1
+same-length-3 : tie.Need-same-length-3
+same-length-3 c = search needs
+
+-- src/lib.rt:119:1
+same-length-4 : tie.Need-same-length-4
+same-length-4 c = search needs
+
+-- src/lib.rt:119:1
+same-length-5 : tie.Need-same-length-5
+same-length-5 c = search needs
+
+-- src/lib.rt:119:1
+same-length-6 : tie.Need-same-length-6
+same-length-6 c = search needs
+
+-- src/lib.rt:119:1
+returns-3 : tie.Need-returns-3
+returns-3 c = search run-as-read
+
+pub run-spec : {M : Type 1} → statement M
+run-spec =
+    tie.close
+    (tie.spec
+    clear-words-requires
+    is-sheet-requires
+    same-length
+    returns
+    same-length-2
+    returns-2
+    run-read-requires
+    same-length-3
+    same-length-4
+    same-length-5
+    same-length-6
+    returns-3)
