@@ -2,3 +2,5 @@ mod Scenes
 mod Entering
 mod Painting
 mod Ways
+pub mod Admitted
+pub mod Booked

@@ -1,2 +1,3 @@
 pub mod Specified
 pub mod Running
+pub mod Called

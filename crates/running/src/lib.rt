@@ -1,4 +1,6 @@
 // A run from the program to its picture.
+pub mod lent;
+
 use executor::Flow;
 use reader::Program;
 use values::Value;

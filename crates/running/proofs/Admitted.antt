@@ -1,0 +1,202 @@
+-- The first question: the grants' ranges and the lengths of the work slices.
+use Prim.Native.Nat.{ℕ, suc, _+_, _*_, _^_, _≤_, _<_}
+use native.Mathlib.Omega.{arith}
+use mathlib.Core.Path.{_≡_, refl, ap, sym, _∙_}
+use mathlib.Core.Bool.{Bool, true, false, not, _&&_}
+use mathlib.Core.List.{List, [], _∷_}
+use lib.ListN.{length, replicate}
+use lib.IntN.{ℤ}
+use lib.Dec.{leb}
+use mir.Syntax.{w64}
+use mir.Val.{Fits}
+use borrow.Author.Tests.{le-leb, lt-leb, leb-true, not-true, not-false}
+use Rattle.meaning.specs.Basics.{if_then_else_}
+use Rattle.meaning.specs.Program.{Operation, checking, measuring, drawing, specified}
+use Rattle.meaning.specs.Book.{Answer, number, booked}
+use Rattle.meaning.specs.Call.{Call, inRange, needed, longEnough, admitted, granted, runOf, answer, workAfter}
+use Rattle.stores.specs.Layout.{stepsGranted, shapesGranted, entriesGranted, textGranted, wordsNeeded}
+use Rattle.running.specs.Running.{Ready}
+use Rattle.running.specs.Called.{grantsOf, enough, called, Performed}
+
+-- ---- conjunctions
+no-truth : {A : Type 0} → false ≡ true → A
+no-truth e = let z : _≡_ {A = ℕ} 0 1 = cc in absurd (omega arith)
+
+all-four : (a b c d : Bool) → a && b && c && d ≡ true → (a ≡ true) × (b ≡ true) × (c ≡ true) × (d ≡ true)
+all-four true true true d e = (refl, refl, refl, e)
+all-four true true false d e = no-truth e
+all-four true false c d e = no-truth e
+all-four false b c d e = no-truth e
+
+all-five : (a b c d f : Bool) → a && (b && (c && (d && (f && true)))) ≡ true → (a ≡ true) × (b ≡ true) × (c ≡ true) × (d ≡ true) × (f ≡ true)
+all-five true true true true true e = (refl, refl, refl, refl, refl)
+all-five true true true true false e = no-truth e
+all-five true true true false f e = no-truth e
+all-five true true false d f e = no-truth e
+all-five true false c d f e = no-truth e
+all-five false b c d f e = no-truth e
+
+and-true : (a : Bool) → a && true ≡ a
+and-true true = refl
+and-true false = refl
+
+-- ---- `in_range`
+module _ (g : List ℕ) where
+  pub steps-out : 4294967295 < stepsGranted g → false ≡ inRange (grantsOf g)
+  unfolding inRange
+  steps-out h = rw (lt-leb _ _ h)
+
+  module _ (a : stepsGranted g ≤ 4294967295) where
+    pub shapes-out : 65535 < shapesGranted g → false ≡ inRange (grantsOf g)
+    unfolding inRange
+    shapes-out h = rw (le-leb _ _ a, lt-leb _ _ h)
+
+    module _ (b : shapesGranted g ≤ 65535) where
+      pub entries-out : 65535 < entriesGranted g → false ≡ inRange (grantsOf g)
+      unfolding inRange
+      entries-out h = rw (le-leb _ _ a, le-leb _ _ b, lt-leb _ _ h)
+
+      pub text-asked : entriesGranted g ≤ 65535 → leb (textGranted g) 65535 ≡ inRange (grantsOf g)
+      unfolding inRange
+      text-asked c = rw (le-leb _ _ a, le-leb _ _ b, le-leb _ _ c)
+
+-- ---- what is known then
+pub record Ranges (g : List ℕ) : Type 0 where
+  pub steps : stepsGranted g ≤ 4294967295
+  pub shapes : shapesGranted g ≤ 65535
+  pub entries : entriesGranted g ≤ 65535
+  pub text : textGranted g ≤ 65535
+
+pub in-ranges : (g : List ℕ) → inRange (grantsOf g) ≡ true → Ranges g
+unfolding inRange
+in-ranges g e =
+    let q = all-four (leb (stepsGranted g) 4294967295) (leb (shapesGranted g) 65535) (leb (entriesGranted g) 65535) (leb (textGranted g) 65535) e in
+    record { steps = leb-true _ _ (q .0); shapes = leb-true _ _ (q .1); entries = leb-true _ _ (q .2); text = leb-true _ _ (q .3) }
+
+-- ---- `words_needed`
+module _ (g : List ℕ) (e : inRange (grantsOf g) ≡ true) where
+  pub shapes-fit : Fits w64 (3 * shapesGranted g)
+  shapes-fit = record { fits = omega (arith, in-ranges g e .shapes) }
+
+  pub shapes-end-fits : Fits w64 (24584 + 3 * shapesGranted g)
+  shapes-end-fits = record { fits = omega (arith, in-ranges g e .shapes) }
+
+  pub entries-fit : Fits w64 (4 * entriesGranted g)
+  entries-fit = record { fits = omega (arith, in-ranges g e .entries) }
+
+  pub words-fit : Fits w64 (wordsNeeded g)
+  words-fit = record { fits = omega (arith, in-ranges g e .shapes, in-ranges g e .entries) }
+
+-- ---- `is_enough`
+module _ (g : List ℕ) (tokens code words texts : ℕ) (ok : Bool) (ranges : ok ≡ inRange (grantsOf g)) where
+  pub out-of-range : not ok ≡ true → false ≡ enough g tokens code words texts
+  unfolding enough
+  out-of-range t = rw (sym ranges ∙ not-true ok t)
+
+  module _ (t : not ok ≡ false) where
+    pub is-in-range : inRange (grantsOf g) ≡ true
+    is-in-range = sym ranges ∙ not-false ok t
+
+    pub few-tokens : tokens < 8193 → false ≡ enough g tokens code words texts
+    unfolding enough needed longEnough
+    few-tokens h = rw (is-in-range, lt-leb _ _ h)
+
+    module _ (a : 8193 ≤ tokens) where
+      pub little-code : code < 16384 → false ≡ enough g tokens code words texts
+      unfolding enough needed longEnough
+      little-code h = rw (is-in-range, le-leb _ _ a, lt-leb _ _ h)
+
+      module _ (b : 16384 ≤ code) (n : ℕ) (is-needed : n ≡ wordsNeeded g) where
+        pub few-words : words < n → false ≡ enough g tokens code words texts
+        unfolding enough needed longEnough
+        few-words h = rw (is-in-range, le-leb _ _ a, le-leb _ _ b, lt-leb (wordsNeeded g) words (rw is-needed at h))
+
+        pub texts-asked : n ≤ words → leb (textGranted g) texts ≡ enough g tokens code words texts
+        unfolding enough needed longEnough
+        texts-asked h = rw (is-in-range, le-leb _ _ a, le-leb _ _ b, le-leb (wordsNeeded g) words (rw is-needed at h), and-true (leb (textGranted g) texts))
+
+-- ---- operations on all four work slices
+pub data Runs : Operation → Type 0 where
+  measures : Runs measuring
+  draws : Runs drawing
+
+module _ (o : Operation) (runs : Runs o) (program : List ℕ) (width height : ℤ) (g tokens code words texts out : List ℕ) where
+  abbrev call : Call
+  call = called o program width height g tokens code words texts out
+
+  asked : admitted call ≡ enough g (length tokens) (length code) (length words) (length texts)
+  unfolding admitted enough needed
+  asked = go o runs
+    where
+      go : (o : Operation) → Runs o → admitted (called o program width height g tokens code words texts out) ≡ enough g (length tokens) (length code) (length words) (length texts)
+      go measuring measures = refl
+      go drawing draws = refl
+
+  module _ (ok : Bool) (e : ok ≡ enough g (length tokens) (length code) (length words) (length texts)) where
+    -- ---- 71: nothing is touched
+    module _ (t : not ok ≡ true) where
+      refused : admitted call ≡ false
+      refused = asked ∙ sym e ∙ not-true ok t
+
+      refused-answer : number 71 0 0 0 ≡ answer call
+      unfolding answer if_then_else_
+      refused-answer = rw refused
+
+      unchanged : (work : List ℕ) → work ≡ workAfter call work
+      unfolding workAfter if_then_else_
+      unchanged work = rw refused
+
+      pub performed-nothing : Performed call (number 71 0 0 0) tokens code words texts tokens code words texts
+      performed-nothing = record {
+        answered = refused-answer;
+        tokensAfter = unchanged tokens;
+        codeAfter = unchanged code;
+        wordsAfter = unchanged words;
+        textsAfter = unchanged texts;
+      }
+
+    -- ---- else the slices are cleared at the length they had
+    module _ (t : not ok ≡ false) where
+      accepted : admitted call ≡ true
+      accepted = asked ∙ sym e ∙ not-false ok t
+
+      pub ready : Ready g tokens code texts words
+      unfolding enough needed longEnough
+      ready =
+          let q = all-five (inRange (grantsOf g)) (leb 8193 (length tokens)) (leb 16384 (length code)) (leb (wordsNeeded g) (length words)) (leb (textGranted g) (length texts))
+          (sym e ∙ not-false ok t) in
+          let r = in-ranges g (q .0) in
+          record {
+            tokensLong = leb-true _ _ (q .1);
+            codeLong = leb-true _ _ (q .2);
+            lent = record {
+              room = record {
+                steps = omega (arith, r .steps);
+                shapes = omega (arith, r .shapes);
+                entries = omega (arith, r .entries);
+                text = omega (arith, r .text);
+                words = leb-true _ _ (q .3);
+              };
+              texts = leb-true _ _ (q .4);
+            };
+          }
+
+      booked-answer : booked (granted (grantsOf g) out) (specified o program width height (suc (stepsGranted g))) ≡ answer call
+      unfolding answer runOf if_then_else_
+      booked-answer = rw accepted
+
+      cleared : (work after : List ℕ) (n : ℕ) → n ≡ length work → after ≡ replicate n 0 → after ≡ workAfter call work
+      unfolding workAfter if_then_else_
+      cleared work after n l h = h ∙ rw (l, accepted)
+
+      pub performed : (a : Answer) → a ≡ booked (granted (grantsOf g) out) (specified o program width height (suc (stepsGranted g)))
+          → (tokens′ code′ words′ texts′ : List ℕ) (k l m n : ℕ) → k ≡ length tokens → tokens′ ≡ replicate k 0 → l ≡ length code → code′ ≡ replicate l 0
+          → m ≡ length words → words′ ≡ replicate m 0 → n ≡ length texts → texts′ ≡ replicate n 0
+          → Performed call a tokens code words texts tokens′ code′ words′ texts′
+      performed a h tokens′ code′ words′ texts′ k l m n ek et el ec em ew en ex = record {
+        answered = h ∙ booked-answer;
+        tokensAfter = cleared tokens tokens′ k ek et;
+        codeAfter = cleared code code′ l el ec;
+        wordsAfter = cleared words words′ m em ew;
+        textsAfter = cleared texts texts′ n en ex;
+      }

@@ -1,0 +1,46 @@
+use Rattle.running.proofs.Admitted.{shapes-fit, shapes-end-fits, entries-fit, words-fit}
+use borrow.Author.Needs.{needs}
+use Rattle.running.proofs.lent.words_needed.Statement.{statement}
+use Rattle.running.proofs.lent.words_needed.Tie as tie
+use Rattle.running.proofs.lent.words_needed.Reads as reads
+use Rattle.running.proofs.lent.words_needed.Lts as lts
+
+-- src/lent.rt:31:17
+element-copy-out-result : tie.Need-element-copy-out-result
+element-copy-out-result c = search needs
+
+-- src/lent.rt:31:13
+mul-result : tie.Need-mul-result
+mul-result c = search shapes-fit
+
+-- src/lent.rt:31:5
+add-result : tie.Need-add-result
+add-result c = search shapes-end-fits
+
+-- src/lent.rt:31:33
+element-copy-out-result-2 : tie.Need-element-copy-out-result-2
+element-copy-out-result-2 c = search needs
+
+-- src/lent.rt:31:29
+mul-result-2 : tie.Need-mul-result-2
+mul-result-2 c = search entries-fit
+
+-- src/lent.rt:31:5
+add-result-2 : tie.Need-add-result-2
+add-result-2 c = search words-fit
+
+-- src/lent.rt:27:1
+returns : tie.Need-returns
+returns c = search needs
+
+pub words-needed-spec : {M : Type 1} → statement M
+words-needed-spec =
+    tie.close
+    (tie.spec
+    element-copy-out-result
+    mul-result
+    add-result
+    element-copy-out-result-2
+    mul-result-2
+    add-result-2
+    returns)

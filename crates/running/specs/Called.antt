@@ -1,0 +1,38 @@
+-- Measuring and drawing as calls of the meaning's, and what they promise.
+use Prim.Native.Nat.{ℕ}
+use mathlib.Core.Path.{_≡_}
+use mathlib.Core.Bool.{Bool, _&&_}
+use mathlib.Core.List.{List, [], _∷_}
+use lib.ListN.{length}
+use lib.IntN.{ℤ}
+use Rattle.meaning.specs.Program.{Operation, measuring}
+use Rattle.meaning.specs.Book.{Answer}
+use Rattle.meaning.specs.Call.{Grants, Call, inRange, needed, longEnough, answer, workAfter}
+use Rattle.stores.specs.Layout.{stepsGranted, shapesGranted, entriesGranted, textGranted}
+
+-- the four counts of a list
+abbrev pub grantsOf : List ℕ → Grants
+grantsOf g = record { steps = stepsGranted g; shapes = shapesGranted g; entries = entriesGranted g; textBytes = textGranted g }
+
+-- whether they are in their ranges, and work slices of these lengths long enough for them
+unfoldable pub enough : List ℕ → ℕ → ℕ → ℕ → ℕ → Bool
+enough g tokens code words texts = inRange (grantsOf g) && longEnough (needed measuring (grantsOf g)) (tokens ∷ code ∷ words ∷ texts ∷ [])
+
+abbrev pub called : Operation → List ℕ → ℤ → ℤ → List ℕ → List ℕ → List ℕ → List ℕ → List ℕ → List ℕ → Call
+called o program width height g tokens code words texts out = record {
+  operation = o;
+  program = program;
+  width = width;
+  height = height;
+  grants = grantsOf g;
+  lent = length tokens ∷ length code ∷ length words ∷ length texts ∷ [];
+  out = out;
+}
+
+-- what an operation promises beside the out slice: the answer, and what each work slice holds when it returns
+pub record Performed (c : Call) (a : Answer) (tokens code words texts tokens′ code′ words′ texts′ : List ℕ) : Type 0 where
+  pub answered : a ≡ answer c
+  pub tokensAfter : tokens′ ≡ workAfter c tokens
+  pub codeAfter : code′ ≡ workAfter c code
+  pub wordsAfter : words′ ≡ workAfter c words
+  pub textsAfter : texts′ ≡ workAfter c texts

@@ -1,0 +1,70 @@
+// What is lent and granted for a run.
+ghost use Prim.Native.Nat.{_≤_};
+ghost use mathlib.Core.Path.{_≡_};
+ghost use mathlib.Core.Bool.{true};
+ghost use lib.ListN.{length, replicate};
+ghost use Rattle.meaning.specs.Call.{inRange};
+ghost use Rattle.stores.specs.Layout.{wordsNeeded};
+ghost use Rattle.running.specs.Called.{grantsOf, enough};
+
+// Whether each count is in its range.
+fn in_range(grants: &[u64; 4]) -> bool
+    ensures { λ r. ⌜ r ≡ inRange (grantsOf (now (grants .entry))) ⌝ }
+{
+    if 4294967295 < grants[0] {
+        return false;
+    }
+    if 65535 < grants[1] {
+        return false;
+    }
+    if 65535 < grants[2] {
+        return false;
+    }
+    grants[3] <= 65535
+}
+
+// How many words a run needs.
+fn words_needed(grants: &[u64; 4]) -> u64
+    requires { ⌜ inRange (grantsOf (now grants)) ≡ true ⌝ }
+    ensures { λ r. ⌜ r ≡ wordsNeeded (now (grants .entry)) ⌝ }
+{
+    24584 + 3 * grants[1] + 4 * grants[2]
+}
+
+// Whether the counts are in their ranges, and work slices of these lengths as long as they need to be.
+pub fn is_enough(
+    grants: &[u64; 4],
+    tokens: usize,
+    code: usize,
+    words: usize,
+    texts: usize,
+) -> bool
+    ensures { λ r. ⌜ r ≡ enough (now (grants .entry)) tokens code words texts ⌝ }
+{
+    if !in_range(grants) {
+        return false;
+    }
+    if tokens < 8193 {
+        return false;
+    }
+    if code < 16384 {
+        return false;
+    }
+    if (words as u64) < words_needed(grants) {
+        return false;
+    }
+    grants[3] <= texts as u64
+}
+
+// Zeros in all four work slices.
+pub fn clear(tokens: &mut [u64], code: &mut [u64], words: &mut [u64], texts: &mut [u8])
+    ensures { λ _. ⌜ now (tokens .exit) ≡ replicate (length (now (tokens .entry))) 0 ⌝ }
+    ensures { λ _. ⌜ now (code .exit) ≡ replicate (length (now (code .entry))) 0 ⌝ }
+    ensures { λ _. ⌜ now (words .exit) ≡ replicate (length (now (words .entry))) 0 ⌝ }
+    ensures { λ _. ⌜ now (texts .exit) ≡ replicate (length (now (texts .entry))) 0 ⌝ }
+{
+    slices::clear_words(tokens);
+    slices::clear_words(code);
+    slices::clear_words(words);
+    slices::clear_bytes(texts);
+}
