@@ -11,9 +11,10 @@ use mir.Syntax.{w64}
 use mir.Val.{Fits}
 use borrow.Author.Tests.{le-leb, lt-leb, leb-true, not-true, not-false}
 use Rattle.meaning.specs.Basics.{if_then_else_}
-use Rattle.meaning.specs.Program.{Operation, checking, measuring, drawing, specified}
-use Rattle.meaning.specs.Book.{Answer, number, booked}
-use Rattle.meaning.specs.Call.{Call, inRange, needed, longEnough, admitted, granted, runOf, answer, workAfter}
+use Rattle.meaning.specs.Run.{Run}
+use Rattle.meaning.specs.Program.{Operation, Outcome, measuring, drawing, specified}
+use Rattle.meaning.specs.Book.{nothingYet, book, Answer, number, booked}
+use Rattle.meaning.specs.Call.{Call, inRange, needed, longEnough, admitted, granted, runOf, answer, workAfter, outAfterEnd, outAfter}
 use Rattle.stores.specs.Layout.{stepsGranted, shapesGranted, entriesGranted, textGranted, wordsNeeded}
 use Rattle.running.specs.Running.{Ready}
 use Rattle.running.specs.Called.{grantsOf, enough, called, Performed}
@@ -200,3 +201,14 @@ module _ (o : Operation) (runs : Runs o) (program : List ℕ) (width height : �
         wordsAfter = cleared words words′ m em ew;
         textsAfter = cleared texts texts′ n en ex;
       }
+
+-- what drawing leaves in the out slice
+module _ (program : List ℕ) (width height : ℤ) (g tokens code words texts out : List ℕ) (ok : Bool) (e : ok ≡ enough g (length tokens) (length code) (length words) (length texts))
+    (t : not ok ≡ false) where
+  abbrev whole : Run Outcome
+  whole = specified drawing program width height (suc (stepsGranted g))
+
+  pub written : outAfterEnd drawing (book (granted (grantsOf g) out) nothingYet (whole .takings)) (whole .end) out
+      ≡ outAfter (called drawing program width height g tokens code words texts out)
+  unfolding outAfter runOf if_then_else_
+  written = rw (accepted drawing draws program width height g tokens code words texts out ok e t)

@@ -95,6 +95,15 @@ module _ (program : List ℕ) (width height : ℤ) (g : List ℕ) (out : List �
   stopped-go n p k us unfinished z (lacks t total′ f x y w) = rw (f, lack-picture amounts nothingYet total′ t us f z, x, y, w)
   stopped-go n p k us (error m q) z (fails total′ f w) = rw (f, w)
 
+  untouched-go : (n p : ℕ) (k : List ℕ → Action Outcome) (us : List Taking) (e : End (List ℕ))
+      → Together amounts nothingYet (Painted program width height) (stop n p (raw ts ws)) us e
+      → outAfterEnd drawing (book amounts nothingYet (Run.goOn us e k .takings)) (Run.goOn us e k .end) out ≡ out
+  unfolding outAfterEnd onFit Run.goOn
+  untouched-go n p k us (result b s) (lacks t total′ f x y w) = rw (book-append amounts nothingYet us (k b s .takings), f)
+  untouched-go n p k us (error m q) (lacks t total′ f x y w) = rw f
+  untouched-go n p k us unfinished (lacks t total′ f x y w) = rw f
+  untouched-go n p k us (error m q) (fails total′ f w) = rw f
+
   module _ (n p : ℕ) (ran : Ran program width height g painted (Stopped n p) ts ws) where
     together : Together amounts nothingYet (Painted program width height) (stop n p (raw ts ws)) (painted .takings) (painted .end)
     unfolding shownEnding
@@ -107,6 +116,11 @@ module _ (program : List ℕ) (width height : ℤ) (g : List ℕ) (out : List �
     pub drawn-number : booked amounts (specified drawing program width height (suc (stepsGranted g))) ≡ number n p (getD ws stepsUsed 0) 0
     unfolding specified performing Run._>>=_
     drawn-number = stopped-go n p _ (painted .takings) (painted .end) plain together
+
+    pub out-untouched : outAfterEnd drawing (book amounts nothingYet (specified drawing program width height (suc (stepsGranted g)) .takings))
+        (specified drawing program width height (suc (stepsGranted g)) .end) out ≡ out
+    unfolding specified performing Run._>>=_
+    out-untouched = untouched-go n p _ (painted .takings) (painted .end) together
 
   -- ---- a picture
   -- how the painting ended

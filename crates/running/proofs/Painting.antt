@@ -133,8 +133,10 @@ module _ (program code g texts words : List ℕ) (short : length program ≤ 327
             let known : KnownNames (x ∷ y ∷ []) (tokensIn program) = subst (λ (xs : List (List ℕ)). KnownNames xs (tokensIn program)) s (u .parameters) in
             let c = same-formed (f ∙ ap (λ (xs : List (List ℕ)). formed (length xs) (getD (map (slotOf (tokensIn program)) xs) 0 0) (getD (map (slotOf (tokensIn program)) xs) 1 0)
             (codeOfStatements (p .body) (tokensIn program))) s) in
-            record { follows = λ granted gr. rw (h, is-n, c .1, c .2, c .3)
-            (body-paints program code g short (tokensIn program) x y (known .0) (known .1 .0) p s read m (c .3) texts words lent zeros width height w-small h-small gr) }
+            record {
+              follows = λ granted gr. rw (h, is-n, c .1, c .2, c .3)
+                  (body-paints program code g short (tokensIn program) x y (known .0) (known .1 .0) p s read m (c .3) texts words lent zeros width height w-small h-small gr);
+            }
         by-names (x ∷ y ∷ z ∷ xs) p q s f = absurd (omega (arith, same-formed f .0 ∙ ap (λ (l : List (List ℕ)). length l) s))
 
         go : (p : Reading) → reading program ≡ p → seen (Formed 2 a b m) code ≡ coded (tokensIn program) p

@@ -32,13 +32,7 @@ fn words_needed(grants: &[u64; 4]) -> u64
 }
 
 // Whether the counts are in their ranges, and work slices of these lengths as long as they need to be.
-pub fn is_enough(
-    grants: &[u64; 4],
-    tokens: usize,
-    code: usize,
-    words: usize,
-    texts: usize,
-) -> bool
+pub fn is_enough(grants: &[u64; 4], tokens: usize, code: usize, words: usize, texts: usize) -> bool
     ensures { λ r. ⌜ r ≡ enough (now (grants .entry)) tokens code words texts ⌝ }
 {
     if !in_range(grants) {
