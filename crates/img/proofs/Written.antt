@@ -4,13 +4,20 @@ use mathlib.Core.Path.{_≡_, refl, ap, sym, _∙_}
 use mathlib.Core.List.{List, [], _∷_}
 use native.Mathlib.Nat.{not-suc-le-zero, le-of-suc-le-suc}
 use lib.ListN.{length, set}
+use lib.IntN.{ℤ}
+use mir.Syntax.{w32}
+use mir.Val.{toZ, ofZ, SFits}
+use mir.Facts.{toZ-ofZ}
 use Rattle.meaning.specs.Basics.{laidOver}
+use Rattle.meaning.specs.Program.{Operation}
+use Rattle.meaning.specs.Call.{outAfter}
 use Rattle.meaning.specs.Book.{Answer}
 use Rattle.answers.specs.declared.Answer as Declared
 use Rattle.answers.specs.declared.Answer.the-variants.{Picture, Number}
 use Rattle.answers.specs.Answers.{meant}
 use Rattle.checking.specs.Checking.{Checked}
-use Rattle.img.specs.Numbers.{Checks, numbersOf}
+use Rattle.running.specs.Called.{called, Performed}
+use Rattle.img.specs.Numbers.{Checks, Performs, numbersOf}
 
 four : (a b c d : ℕ) (xs : List ℕ) → set (set (set (set xs 0 a) 1 b) 2 c) 3 d ≡ laidOver (a ∷ b ∷ c ∷ d ∷ []) xs
 unfolding laidOver
@@ -38,6 +45,30 @@ checks program tokens code words r tokens′ code′ words′ k h = record {
   tokensAfter = k .tokensAfter;
   codeAfter = k .codeAfter;
 }
+
+-- a signed number handed over, as its bits
+abbrev held : ℤ → ℤ
+held z = toZ w32 (ofZ w32 z)
+
+module _ (o : Operation) (program : List ℕ) (width height : ℤ) (f : SFits w32 width) (f₂ : SFits w32 height) (g tokens code words texts out : List ℕ) where
+  pub performs : (r : Declared.Answer) (front tokens′ code′ words′ texts′ front′ : List ℕ)
+      → Performed (called o program (held width) (held height) g tokens code words texts out) (meant r) tokens code words texts tokens′ code′ words′ texts′
+      → front′ ≡ laidOver (numbersOf (meant r)) front
+      → Performs (called o program width height g tokens code words texts out) tokens code words texts front tokens′ code′ words′ texts′ front′
+  performs r front tokens′ code′ words′ texts′ front′ p h =
+      let q : Performed (called o program width height g tokens code words texts out) (meant r) tokens code words texts tokens′ code′ words′ texts′ =
+      rw (toZ-ofZ f, toZ-ofZ f₂) at p in
+      record {
+        answered = h ∙ ap (λ (x : Answer). laidOver (numbersOf x) front) (q .answered);
+        tokensAfter = q .tokensAfter;
+        codeAfter = q .codeAfter;
+        wordsAfter = q .wordsAfter;
+        textsAfter = q .textsAfter;
+      }
+
+  pub draws : (out′ : List ℕ) → out′ ≡ outAfter (called o program (held width) (held height) g tokens code words texts out)
+      → out′ ≡ outAfter (called o program width height g tokens code words texts out)
+  draws out′ h = h ∙ rw (toZ-ofZ f, toZ-ofZ f₂)
 
 -- a word that lies past the end
 pub set-past : (xs : List ℕ) (i w : ℕ) → length xs ≤ i → xs ≡ set xs i w

@@ -2,9 +2,13 @@
 use answers::Answer;
 ghost use mathlib.Core.Path.{_≡_};
 ghost use lib.ListN.{set};
+ghost use mathlib.Core.List.{[], _∷_};
 ghost use Rattle.meaning.specs.Basics.{laidOver};
+ghost use Rattle.meaning.specs.Program.{measuring, drawing};
+ghost use Rattle.meaning.specs.Call.{outAfter};
+ghost use Rattle.running.specs.Called.{called};
 ghost use Rattle.answers.specs.Answers.{meant};
-ghost use Rattle.img.specs.Numbers.{Checks, numbersOf};
+ghost use Rattle.img.specs.Numbers.{Checks, Performs, numbersOf};
 
 // Reads the program and says whether it is well formed: checking::check, with its answer in four words at the front of `answer`, as far as that
 // reaches. The words are the number (0: well formed), its place, the steps and the length.
@@ -18,6 +22,66 @@ pub extern "C" fn img_check(
     ensures { λ _. ⌜ Checks (now (program .entry)) (now (tokens .entry)) (now (code .entry)) (now (answer .entry)) (now (tokens .exit)) (now (code .exit)) (now (answer .exit)) ⌝ }
 {
     let r = checking::check(program, tokens, code);
+    write_answer(r, answer);
+}
+
+// Runs the program and says how long its picture is: measuring::measure, with its answer as above.
+#[no_mangle]
+pub extern "C" fn img_measure(
+    program: &[u8],
+    width: i32,
+    height: i32,
+    steps: u64,
+    shapes: u64,
+    entries: u64,
+    bytes: u64,
+    tokens: &mut [u64],
+    code: &mut [u64],
+    words: &mut [u64],
+    texts: &mut [u8],
+    answer: &mut [u64],
+)
+    ensures { λ _. ⌜ Performs (called measuring (now (program .entry)) width height (steps ∷ shapes ∷ entries ∷ bytes ∷ []) (now (tokens .entry)) (now (code .entry)) (now (words .entry)) (now (texts .entry)) [])
+        (now (tokens .entry)) (now (code .entry)) (now (words .entry)) (now (texts .entry)) (now (answer .entry)) (now (tokens .exit)) (now (code .exit)) (now (words .exit)) (now (texts .exit)) (now (answer .exit)) ⌝ }
+{
+    let grants = [steps, shapes, entries, bytes];
+    let r = measuring::measure(program, width, height, &grants, tokens, code, words, texts);
+    write_answer(r, answer);
+}
+
+// Runs the program and draws its picture into the front of `out`: drawing::draw, with its answer as above.
+#[no_mangle]
+pub extern "C" fn img_draw(
+    program: &[u8],
+    width: i32,
+    height: i32,
+    steps: u64,
+    shapes: u64,
+    entries: u64,
+    bytes: u64,
+    tokens: &mut [u64],
+    code: &mut [u64],
+    words: &mut [u64],
+    texts: &mut [u8],
+    out: &mut [u8],
+    answer: &mut [u64],
+)
+    ensures { λ _. ⌜ Performs (called drawing (now (program .entry)) width height (steps ∷ shapes ∷ entries ∷ bytes ∷ []) (now (tokens .entry)) (now (code .entry)) (now (words .entry)) (now (texts .entry)) (now (out .entry)))
+        (now (tokens .entry)) (now (code .entry)) (now (words .entry)) (now (texts .entry)) (now (answer .entry)) (now (tokens .exit)) (now (code .exit)) (now (words .exit)) (now (texts .exit)) (now (answer .exit)) ⌝ }
+    ensures { λ _. ⌜ now (out .exit) ≡ outAfter (called drawing (now (program .entry)) width height (steps ∷ shapes ∷ entries ∷ bytes ∷ []) (now (tokens .entry)) (now (code .entry)) (now (words .entry)) (now (texts .entry)) (now (out .entry))) ⌝ }
+{
+    let grants = [steps, shapes, entries, bytes];
+    let r = drawing::draw(
+        program,
+        width,
+        height,
+        &grants,
+        tokens,
+        code,
+        words,
+        texts,
+        out,
+    );
     write_answer(r, answer);
 }
 
