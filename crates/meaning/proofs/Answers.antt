@@ -11,7 +11,7 @@ use Rattle.meaning.specs.Run.{steps, End, result, error, unfinished, Run
 use Rattle.meaning.specs.Program.{Operation, checking, measuring, drawing, Outcome, accepted, drawn, specified, beginning}
 use Rattle.meaning.specs.Book.{nothingYet, Booked, allFit, lacking, book, number, undecided, answerTo, settled, booked}
 use Rattle.meaning.specs.Call.{Call, admitted, granted, grantedTo, runOf, answer, outAfterEnd, outAfter}
-use Rattle.meaning.specs.Claims.{beginningOf, BeginningsDecide, AlwaysAnswered, NumbersWriteNothing}
+use Rattle.meaning.specs.Claims.{errors, beginningOf, BeginningsDecide, AlwaysAnswered, NumbersWriteNothing}
 use Rattle.meaning.proofs.Turns.{Extends, specified-extends}
 use Rattle.meaning.proofs.Ends.{Ended, specified-ended}
 use Rattle.meaning.proofs.Beginnings.{cut-extends, extends-cut}
@@ -28,7 +28,7 @@ unfolding outAfter if_then_else_
 out-admitted c e = rw e
 
 -- a call's run ends, or has counted more steps than are granted
-pub run-ended : (c : Call) → Ended (suc (grantedTo c steps)) (runOf c)
+pub run-ended : (c : Call) → Ended errors (suc (grantedTo c steps)) (runOf c)
 unfolding runOf granted
 run-ended c = specified-ended (c .operation) (c .program) (c .width) (c .height) (suc (c .grants .steps))
 

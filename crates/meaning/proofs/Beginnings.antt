@@ -13,7 +13,7 @@ use borrow.Author.Tests.{leb-true, leb-false, le-leb}
 use Rattle.meaning.specs.Basics.{if_then_else_}
 use Rattle.meaning.specs.Run.{Taking, unfinished, Run, run}
 use Rattle.meaning.specs.Program.{Operation, Outcome, specified, cut, beginning}
-use Rattle.meaning.specs.Claims.{BeginningsExtend, EndedStays}
+use Rattle.meaning.specs.Claims.{errors, BeginningsExtend, EndedStays}
 use Rattle.meaning.proofs.Turns.{Extends, same, longer, specified-extends}
 use Rattle.meaning.proofs.Ends.{Many, Ended, specified-ended}
 
@@ -59,11 +59,11 @@ module _ {A : Type 0} where
       longer u (take k more) (cut-takings (length (r .takings) + k) r′ ∙ ap (take (length (r .takings) + k)) e ∙ take-append-add (r .takings) more k)
 
   -- what is unfinished has counted its steps
-  pub ended-many : (n : ℕ) (r : Run A) → Ended n r → r .end ≡ unfinished → Many n (r .takings)
+  pub ended-many : (n : ℕ) (r : Run A) → Ended errors n r → r .end ≡ unfinished → Many n (r .takings)
   ended-many n r h u = rw u at h
 
   -- the first n takings are those of a longer run
-  same-front : (n : ℕ) {r r′ : Run A} → Ended (suc n) r → Extends r r′ → take n (r′ .takings) ≡ take n (r .takings)
+  same-front : (n : ℕ) {r r′ : Run A} → Ended errors (suc n) r → Extends r r′ → take n (r′ .takings) ≡ take n (r .takings)
   same-front n h (same e) = ap (λ (q : Run A). take n (q .takings)) (sym e)
   same-front n {r} h (longer u more e) = ap (take n) e ∙ take-append-le n (r .takings) more (omega (arith, ended-many (suc n) r h u))
 

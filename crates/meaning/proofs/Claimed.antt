@@ -1,5 +1,6 @@
 -- The claims of specs/Claims, each proved.
-use Rattle.meaning.specs.Claims.{BeginningsExtend, BeginningsFill, EndedStays, NeededIsBounded, BeginningsDecide, AlwaysAnswered, NumbersWriteNothing, PicturesFillTheFront, RefusedTakesNothing, MeasuredIsDrawn, LargerGrant, ShortageExact}
+use Rattle.meaning.specs.Claims.{ReadingErrors, LanguageErrors, BeginningsExtend, BeginningsFill, EndedStays, NeededIsBounded, BeginningsDecide, AlwaysAnswered, NumbersWriteNothing, PicturesFillTheFront, RefusedTakesNothing, MeasuredIsDrawn, LargerGrant, ShortageExact}
+use Rattle.meaning.proofs.Ends
 use Rattle.meaning.proofs.Beginnings
 use Rattle.meaning.proofs.Answers
 use Rattle.meaning.proofs.Lent
@@ -18,6 +19,12 @@ ended-stays = Beginnings.ended-stays
 
 pub beginnings-decide : BeginningsDecide
 beginnings-decide = Answers.beginnings-decide
+
+pub reading-errors : ReadingErrors
+reading-errors = Refusals.reading-errors
+
+pub language-errors : LanguageErrors
+language-errors = Ends.language-errors
 
 pub needed-is-bounded : NeededIsBounded
 needed-is-bounded = Lent.needed-is-bounded

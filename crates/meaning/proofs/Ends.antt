@@ -1,23 +1,25 @@
--- How a run ends, and what it has taken by then: its numbers are below 76, a picture is taken only by drawing, and a run that is
+-- How a run ends, and what it has taken by then: which numbers it can have, that a picture is taken only by drawing, and a run that is
 -- unfinished with n turns a loop has counted n steps.
 use Prim.Native.Nat.{ℕ, zero, suc, _≤_, _<_}
-use mathlib.Core.Path.{_≡_, refl}
-use mathlib.Core.Bool.{Bool, true, false}
+use mathlib.Core.Path.{_≡_, refl, subst}
+use mathlib.Core.Bool.{Bool, true, false, _&&_, _||_}
 use mathlib.Core.List.{List, [], _∷_, _++_}
 use mathlib.Core.Option.{Option, some}
 use mathlib.Core.Option as Option
 use native.Mathlib.Omega.{arith}
 use native.Mathlib.Nat.{le-refl}
 use lib.ListN.{length, length-append}
-use lib.IntN.{ℤ}
-use lib.Dec.{lit<, eqb}
-use Rattle.meaning.specs.Basics.{if_then_else_}
+use lib.IntN.{ℤ, pos}
+use lib.Signed.{ltZ}
+use lib.Dec.{eqb}
+use borrow.Author.Tests.{le-ltb}
+use Rattle.meaning.specs.Basics.{if_then_else_, standsIn}
 use Rattle.meaning.specs.Figure.{Figure}
-use Rattle.meaning.specs.Tree.{Operator, concatenate, add, subtract, multiply, divide, remainder, shiftRight, shiftLeft, equal, unequal, greater, less, Expression, Arguments, noArgument, argument, Statement, declare, assign, update, when, while, return, block, act, Statements, only, first}
+use Rattle.meaning.specs.Tree.{Operator, concatenate, add, subtract, multiply, divide, remainder, shiftRight, shiftLeft, equal, unequal, greater, less, Expression, Arguments, noArgument, argument, Statement, declare, assign, update, when, while, return, block, act, Statements, only, first, Procedure}
 use Rattle.meaning.specs.Tree as Tree
-use Rattle.meaning.specs.Grammar.{Reading, wellFormed, malformed}
+use Rattle.meaning.specs.Grammar.{Reading, wellFormed, malformed, reading}
 use Rattle.meaning.specs.Value.{Value, integer, string, boolean, none, table, shape}
-use Rattle.meaning.specs.State.{State, Key}
+use Rattle.meaning.specs.State.{State, Key, scene}
 use Rattle.meaning.specs.Run.{Resource, steps, shapes, entries, textBytes, picture, Taking, taking, End, result, error, unfinished, Run, Action, goOn, _>>=_, give, fail, take, refuse, current, become}
 use Rattle.meaning.specs.Operator.{usable, withInteger, withString, withBoolean, withTable, withShapeNumber, withFigure, newShape, newString, calculated, compared, remaindered, joined, answered, equated, operateOn, operate}
 use Rattle.meaning.specs.Library.{Library, drawLine, drawEllipse, drawBox, drawText, connectShapes, drawTextOnShape, xCoordinate, yCoordinate, destroyShape, clearScene, withNone, withOne, withTwo, withThree, withFour, drawn, perform, allUsable, callLibrary}
@@ -25,7 +27,9 @@ use Rattle.meaning.specs.Evaluate.{found, variable, newTable, entryOf, e
 use Rattle.meaning.specs.Execute.{Flow, onward, returned, continue, declaring, copied, assigning, storing, updating, looping, execute, executeAll}
 use Rattle.meaning.specs.Program.{Operation, checking, measuring, drawing, accepted, empty, entering, sheet, sized, understood, painting, performing, specified}
 use Rattle.meaning.specs.Program as Program
+use Rattle.meaning.specs.Picture.{pictureOf}
 use Rattle.meaning.specs.Book.{resourceNumber}
+use Rattle.meaning.specs.Claims.{among, readingErrors, languageErrors, errors, LanguageErrors}
 use Rattle.meaning.proofs.Booking.{part, taken, taken-append}
 use Rattle.meaning.proofs.Refusals.{LowReading, reading-low}
 
@@ -35,41 +39,41 @@ pub record Many (n : ℕ) (ts : List Taking) : Type 0 where
   pub counted : n ≤ taken steps ts
   pub long : n ≤ length ts
 
--- an end after some takings
-abbrev pub Ending : {A : Type 0} → ℕ → List Taking → End A → Type 0
-Ending n ts (result a s) = Unit {0}
-Ending n ts (error m p) = m < 76
-Ending n ts unfinished = Many n ts
+-- an end after some takings, with one of some numbers if it has one
+abbrev pub Ending : {A : Type 0} → List ℕ → ℕ → List Taking → End A → Type 0
+Ending ns n ts (result a s) = Unit {0}
+Ending ns n ts (error m p) = among ns m
+Ending ns n ts unfinished = Many n ts
 
-abbrev pub Ended : {A : Type 0} → ℕ → Run A → Type 0
-Ended n r = Ending n (r .takings) (r .end)
+abbrev pub Ended : {A : Type 0} → List ℕ → ℕ → Run A → Type 0
+Ended ns n r = Ending ns n (r .takings) (r .end)
 
 -- from every state: no picture is taken, and a run ends so
-pub record Lawful {A : Type 0} (n : ℕ) (m : Action A) : Type 0 where
+pub record Lawful {A : Type 0} (ns : List ℕ) (n : ℕ) (m : Action A) : Type 0 where
   pub plain : (s : State) → taken picture (m s .takings) ≡ 0
-  pub ended : (s : State) → Ended n (m s)
+  pub ended : (s : State) → Ended ns n (m s)
 
 -- ---- it goes through `do`
-ending-weaken : {A : Type 0} {n n′ : ℕ} (ts : List Taking) (e : End A) → n′ ≤ n → Ending n ts e → Ending n′ ts e
-ending-weaken ts (result a s) l h = tt
-ending-weaken ts (error m p) l h = h
-ending-weaken ts unfinished l h = omega arith
+ending-weaken : {A : Type 0} (ns : List ℕ) {n n′ : ℕ} (ts : List Taking) (e : End A) → n′ ≤ n → Ending ns n ts e → Ending ns n′ ts e
+ending-weaken ns ts (result a s) l h = tt
+ending-weaken ns ts (error m p) l h = h
+ending-weaken ns ts unfinished l h = omega arith
 
-weaken : {A : Type 0} {n n′ : ℕ} {m : Action A} → n′ ≤ n → Lawful n m → Lawful n′ m
-weaken {m = m} l h = record { plain = h .plain; ended = λ s. ending-weaken (m s .takings) (m s .end) l (h .ended s) }
+weaken : {A : Type 0} {ns : List ℕ} {n n′ : ℕ} {m : Action A} → n′ ≤ n → Lawful ns n m → Lawful ns n′ m
+weaken {ns = ns} {m = m} l h = record { plain = h .plain; ended = λ s. ending-weaken ns (m s .takings) (m s .end) l (h .ended s) }
 
-ending-later : {A : Type 0} (n : ℕ) (ts us : List Taking) (e : End A) → Ending n us e → Ending n (ts ++ us) e
-ending-later n ts us (result a s) h = tt
-ending-later n ts us (error m p) h = h
-ending-later n ts us unfinished h = omega (arith, taken-append steps ts us, length-append ts us)
+ending-later : {A : Type 0} (ns : List ℕ) (n : ℕ) (ts us : List Taking) (e : End A) → Ending ns n us e → Ending ns n (ts ++ us) e
+ending-later ns n ts us (result a s) h = tt
+ending-later ns n ts us (error m p) h = h
+ending-later ns n ts us unfinished h = omega (arith, taken-append steps ts us, length-append ts us)
 
 module _ {A B : Type 0} where
-  pub ended-go : (n : ℕ) (ts : List Taking) (e : End A) (k : A → Action B) → Ending n ts e →
-      ((a : A) (s : State) → Ended n (k a s)) → Ended n (goOn ts e k)
+  pub ended-go : (ns : List ℕ) (n : ℕ) (ts : List Taking) (e : End A) (k : A → Action B) → Ending ns n ts e →
+      ((a : A) (s : State) → Ended ns n (k a s)) → Ended ns n (goOn ts e k)
   unfolding goOn
-  ended-go n ts (result a s) k h f = ending-later n ts (k a s .takings) (k a s .end) (f a s)
-  ended-go n ts (error m p) k h f = h
-  ended-go n ts unfinished k h f = h
+  ended-go ns n ts (result a s) k h f = ending-later ns n ts (k a s .takings) (k a s .end) (f a s)
+  ended-go ns n ts (error m p) k h f = h
+  ended-go ns n ts unfinished k h f = h
 
   plain-go : (ts : List Taking) (e : End A) (k : A → Action B) → taken picture ts ≡ 0 →
       ((a : A) (s : State) → taken picture (k a s .takings) ≡ 0) → taken picture (goOn ts e k .takings) ≡ 0
@@ -78,54 +82,80 @@ module _ {A B : Type 0} where
   plain-go ts (error m p) k h f = h
   plain-go ts unfinished k h f = h
 
-  bind-lawful : {n : ℕ} {m : Action A} {k : A → Action B} → Lawful n m → ((a : A) → Lawful n (k a)) → Lawful n (m >>= k)
+  bind-lawful : {ns : List ℕ} {n : ℕ} {m : Action A} {k : A → Action B} → Lawful ns n m → ((a : A) → Lawful ns n (k a)) → Lawful ns n (m >>= k)
   unfolding _>>=_
-  bind-lawful {n} {m} {k} h f = record {
+  bind-lawful {ns} {n} {m} {k} h f = record {
     plain = λ s. plain-go (m s .takings) (m s .end) k (h .plain s) (λ a s′. f a .plain s′);
-    ended = λ s. ended-go n (m s .takings) (m s .end) k (h .ended s) (λ a s′. f a .ended s′);
+    ended = λ s. ended-go ns n (m s .takings) (m s .end) k (h .ended s) (λ a s′. f a .ended s′);
   }
 
 -- ---- the smallest actions
-module _ {n : ℕ} where
-  give-lawful : {A : Type 0} (a : A) → Lawful n (give a)
+module _ {ns : List ℕ} {n : ℕ} where
+  give-lawful : {A : Type 0} (a : A) → Lawful ns n (give a)
   unfolding give taken
   give-lawful a = record { plain = λ s. refl; ended = λ s. tt }
 
-  fail-lawful : {A : Type 0} (m p : ℕ) → m < 76 → Lawful {A = A} n (fail m p)
+  fail-lawful : {A : Type 0} (m p : ℕ) → among ns m → Lawful {A = A} ns n (fail m p)
   unfolding fail taken
   fail-lawful m p h = record { plain = λ s. refl; ended = λ s. h }
 
-  take-lawful : (r : Resource) (a p : ℕ) → eqb (resourceNumber picture) (resourceNumber r) ≡ false → Lawful n (take r a p)
+  take-lawful : (r : Resource) (a p : ℕ) → eqb (resourceNumber picture) (resourceNumber r) ≡ false → Lawful ns n (take r a p)
   unfolding take taken part
   take-lawful r a p e = record { plain = λ s. rw e; ended = λ s. tt }
 
-  refuse-lawful : (b : Bool) (m p : ℕ) → m < 76 → Lawful n (refuse b m p)
+  refuse-lawful : (b : Bool) (m p : ℕ) → among ns m → Lawful ns n (refuse b m p)
   unfolding refuse
   refuse-lawful true m p h = fail-lawful m p h
   refuse-lawful false m p h = give-lawful tt
 
-  current-lawful : Lawful n current
+  current-lawful : Lawful ns n current
   unfolding current taken
   current-lawful = record { plain = λ s. refl; ended = λ s. tt }
 
-  become-lawful : (s : State) → Lawful n (become s)
+  become-lawful : (s : State) → Lawful ns n (become s)
   unfolding become taken
   become-lawful s′ = record { plain = λ s. refl; ended = λ s. tt }
 
-  if-lawful : {A : Type 0} (b : Bool) {x y : Action A} → Lawful n x → Lawful n y → Lawful n (if b then (λ _. x) else λ _. y)
+  if-lawful : {A : Type 0} (b : Bool) {x y : Action A} → Lawful ns n x → Lawful ns n y → Lawful ns n (if b then (λ _. x) else λ _. y)
   unfolding if_then_else_
   if-lawful true h f = h
   if-lawful false h f = f
 
-  fail-20 : {A : Type 0} (p : ℕ) → Lawful {A = A} n (fail 20 p)
-  fail-20 p = fail-lawful 20 p (lit< tt)
+-- ---- a program that runs
+is-20 : among languageErrors 20
+unfolding standsIn
+is-20 = refl
+
+is-30 : among languageErrors 30
+unfolding standsIn
+is-30 = refl
+
+is-40 : among languageErrors 40
+unfolding standsIn
+is-40 = refl
+
+is-50 : among languageErrors 50
+unfolding standsIn
+is-50 = refl
+
+is-60 : among languageErrors 60
+unfolding standsIn
+is-60 = refl
+
+is-70 : among languageErrors 70
+unfolding standsIn
+is-70 = refl
+
+module _ {n : ℕ} where
+  fail-20 : {A : Type 0} (p : ℕ) → Lawful {A = A} languageErrors n (fail 20 p)
+  fail-20 p = fail-lawful 20 p is-20
 
   -- ---- questions about one value
-  usable-lawful : (p : ℕ) (v : Value) → Lawful n (usable p v)
+  usable-lawful : (p : ℕ) (v : Value) → Lawful languageErrors n (usable p v)
   unfolding usable
-  usable-lawful p v = bind-lawful current-lawful λ s. refuse-lawful _ 30 p (lit< tt)
+  usable-lawful p v = bind-lawful current-lawful λ s. refuse-lawful _ 30 p is-30
 
-  integer-lawful : {A : Type 0} (p : ℕ) (v : Value) {k : ℤ → Action A} → ((z : ℤ) → Lawful n (k z)) → Lawful n (withInteger p v k)
+  integer-lawful : {A : Type 0} (p : ℕ) (v : Value) {k : ℤ → Action A} → ((z : ℤ) → Lawful languageErrors n (k z)) → Lawful languageErrors n (withInteger p v k)
   unfolding withInteger
   integer-lawful p (integer z) h = h z
   integer-lawful p (string t) h = fail-20 p
@@ -134,8 +164,8 @@ module _ {n : ℕ} where
   integer-lawful p (table t) h = fail-20 p
   integer-lawful p (shape i) h = fail-20 p
 
-  string-lawful : {A : Type 0} (p : ℕ) (v : Value) {k : List ℕ → Action A} → ((t : List ℕ) → Lawful n (k t)) →
-      Lawful n (withString p v k)
+  string-lawful : {A : Type 0} (p : ℕ) (v : Value) {k : List ℕ → Action A} → ((t : List ℕ) → Lawful languageErrors n (k t)) →
+      Lawful languageErrors n (withString p v k)
   unfolding withString
   string-lawful p (integer z) h = fail-20 p
   string-lawful p (string t) h = h t
@@ -144,8 +174,8 @@ module _ {n : ℕ} where
   string-lawful p (table t) h = fail-20 p
   string-lawful p (shape i) h = fail-20 p
 
-  boolean-lawful : {A : Type 0} (p : ℕ) (v : Value) {k : Bool → Action A} → ((b : Bool) → Lawful n (k b)) →
-      Lawful n (withBoolean p v k)
+  boolean-lawful : {A : Type 0} (p : ℕ) (v : Value) {k : Bool → Action A} → ((b : Bool) → Lawful languageErrors n (k b)) →
+      Lawful languageErrors n (withBoolean p v k)
   unfolding withBoolean
   boolean-lawful p (integer z) h = fail-20 p
   boolean-lawful p (string t) h = fail-20 p
@@ -154,7 +184,7 @@ module _ {n : ℕ} where
   boolean-lawful p (table t) h = fail-20 p
   boolean-lawful p (shape i) h = fail-20 p
 
-  table-lawful : {A : Type 0} (p : ℕ) (v : Value) {k : ℕ → Action A} → ((t : ℕ) → Lawful n (k t)) → Lawful n (withTable p v k)
+  table-lawful : {A : Type 0} (p : ℕ) (v : Value) {k : ℕ → Action A} → ((t : ℕ) → Lawful languageErrors n (k t)) → Lawful languageErrors n (withTable p v k)
   unfolding withTable
   table-lawful p (integer z) h = fail-20 p
   table-lawful p (string t) h = fail-20 p
@@ -163,7 +193,7 @@ module _ {n : ℕ} where
   table-lawful p (table t) h = h t
   table-lawful p (shape i) h = fail-20 p
 
-  shape-lawful : {A : Type 0} (p : ℕ) (v : Value) {k : ℕ → Action A} → ((i : ℕ) → Lawful n (k i)) → Lawful n (withShapeNumber p v k)
+  shape-lawful : {A : Type 0} (p : ℕ) (v : Value) {k : ℕ → Action A} → ((i : ℕ) → Lawful languageErrors n (k i)) → Lawful languageErrors n (withShapeNumber p v k)
   unfolding withShapeNumber
   shape-lawful p (integer z) h = fail-20 p
   shape-lawful p (string t) h = fail-20 p
@@ -172,25 +202,25 @@ module _ {n : ℕ} where
   shape-lawful p (table t) h = fail-20 p
   shape-lawful p (shape i) h = h i
 
-  figure-lawful : {A : Type 0} (p : ℕ) (v : Value) {k : Figure → Action A} → ((a : Figure) → Lawful n (k a)) →
-      Lawful n (withFigure p v k)
+  figure-lawful : {A : Type 0} (p : ℕ) (v : Value) {k : Figure → Action A} → ((a : Figure) → Lawful languageErrors n (k a)) →
+      Lawful languageErrors n (withFigure p v k)
   unfolding withFigure
   figure-lawful p v h = shape-lawful p v λ i. bind-lawful current-lawful λ s. h _
 
   -- ---- operators
-  new-shape-lawful : (p : ℕ) (a : Figure) → Lawful n (newShape p a)
+  new-shape-lawful : (p : ℕ) (a : Figure) → Lawful languageErrors n (newShape p a)
   unfolding newShape resourceNumber
   new-shape-lawful p a =
       bind-lawful (take-lawful shapes 1 p refl) λ _. bind-lawful current-lawful λ s. bind-lawful (become-lawful _) λ _. give-lawful _
 
-  new-string-lawful : (p : ℕ) (t : List ℕ) → Lawful n (newString p t)
+  new-string-lawful : (p : ℕ) (t : List ℕ) → Lawful languageErrors n (newString p t)
   unfolding newString resourceNumber
   new-string-lawful p t = bind-lawful (take-lawful textBytes _ p refl) λ _. give-lawful _
 
-  nonzero-lawful : (b : Bool) (p : ℕ) → Lawful n (refuse b 70 p)
-  nonzero-lawful b p = refuse-lawful b 70 p (lit< tt)
+  nonzero-lawful : (b : Bool) (p : ℕ) → Lawful languageErrors n (refuse b 70 p)
+  nonzero-lawful b p = refuse-lawful b 70 p is-70
 
-  calculated-lawful : (d : Bool) (f : ℤ → ℤ → ℤ) (g : Figure → ℤ → Figure) (p : ℕ) (v w : Value) → Lawful n (calculated d f g p v w)
+  calculated-lawful : (d : Bool) (f : ℤ → ℤ → ℤ) (g : Figure → ℤ → Figure) (p : ℕ) (v w : Value) → Lawful languageErrors n (calculated d f g p v w)
   unfolding calculated
   calculated-lawful d f g p (integer a) w = integer-lawful p w λ b. bind-lawful (nonzero-lawful _ p) λ _. give-lawful _
   calculated-lawful d f g p (string t) w = fail-20 p
@@ -200,20 +230,20 @@ module _ {n : ℕ} where
   calculated-lawful d f g p (shape i) w =
       integer-lawful p w λ b. bind-lawful (nonzero-lawful _ p) λ _. bind-lawful current-lawful λ s. new-shape-lawful p _
 
-  compared-lawful : (f : ℤ → ℤ → Bool) (p : ℕ) (v w : Value) → Lawful n (compared f p v w)
+  compared-lawful : (f : ℤ → ℤ → Bool) (p : ℕ) (v w : Value) → Lawful languageErrors n (compared f p v w)
   unfolding compared
   compared-lawful f p v w = integer-lawful p v λ a. integer-lawful p w λ b. give-lawful _
 
-  answered-lawful : (p : ℕ) (f : Bool → Bool) (o : Option Bool) → Lawful n (answered p f o)
+  answered-lawful : (p : ℕ) (f : Bool → Bool) (o : Option Bool) → Lawful languageErrors n (answered p f o)
   unfolding answered
   answered-lawful p f Option.none = fail-20 p
   answered-lawful p f (some b) = give-lawful _
 
-  equated-lawful : (f : Bool → Bool) (p : ℕ) (v w : Value) → Lawful n (equated f p v w)
+  equated-lawful : (f : Bool → Bool) (p : ℕ) (v w : Value) → Lawful languageErrors n (equated f p v w)
   unfolding equated
   equated-lawful f p v w = bind-lawful current-lawful λ s. answered-lawful p f _
 
-  operate-on-lawful : (o : Operator) (p : ℕ) (v w : Value) → Lawful n (operateOn o p v w)
+  operate-on-lawful : (o : Operator) (p : ℕ) (v w : Value) → Lawful languageErrors n (operateOn o p v w)
   unfolding operateOn joined remaindered
   operate-on-lawful concatenate p v w = string-lawful p v λ a. string-lawful p w λ b. new-string-lawful p _
   operate-on-lawful add p v w = calculated-lawful _ _ _ p v w
@@ -228,46 +258,46 @@ module _ {n : ℕ} where
   operate-on-lawful greater p v w = compared-lawful _ p v w
   operate-on-lawful less p v w = compared-lawful _ p v w
 
-  operate-lawful : (o : Operator) (p : ℕ) (v w : Value) → Lawful n (operate o p v w)
+  operate-lawful : (o : Operator) (p : ℕ) (v w : Value) → Lawful languageErrors n (operate o p v w)
   unfolding operate
   operate-lawful o p v w = bind-lawful (usable-lawful p v) λ _. bind-lawful (usable-lawful p w) λ _. operate-on-lawful o p v w
 
   -- ---- library procedures
-  none-lawful : (p : ℕ) (vs : List Value) {k : Action Value} → Lawful n k → Lawful n (withNone p vs k)
+  none-lawful : (p : ℕ) (vs : List Value) {k : Action Value} → Lawful languageErrors n k → Lawful languageErrors n (withNone p vs k)
   unfolding withNone
   none-lawful p [] h = h
   none-lawful p (v ∷ vs) h = fail-20 p
 
-  one-lawful : (p : ℕ) (vs : List Value) {k : Value → Action Value} → ((v : Value) → Lawful n (k v)) → Lawful n (withOne p vs k)
+  one-lawful : (p : ℕ) (vs : List Value) {k : Value → Action Value} → ((v : Value) → Lawful languageErrors n (k v)) → Lawful languageErrors n (withOne p vs k)
   unfolding withOne
   one-lawful p [] h = fail-20 p
   one-lawful p (v ∷ vs) h = none-lawful p vs (h v)
 
-  two-lawful : (p : ℕ) (vs : List Value) {k : Value → Value → Action Value} → ((v w : Value) → Lawful n (k v w)) →
-      Lawful n (withTwo p vs k)
+  two-lawful : (p : ℕ) (vs : List Value) {k : Value → Value → Action Value} → ((v w : Value) → Lawful languageErrors n (k v w)) →
+      Lawful languageErrors n (withTwo p vs k)
   unfolding withTwo
   two-lawful p [] h = fail-20 p
   two-lawful p (v ∷ vs) h = one-lawful p vs (h v)
 
-  three-lawful : (p : ℕ) (vs : List Value) {k : Value → Value → Value → Action Value} → ((u v w : Value) → Lawful n (k u v w)) →
-      Lawful n (withThree p vs k)
+  three-lawful : (p : ℕ) (vs : List Value) {k : Value → Value → Value → Action Value} → ((u v w : Value) → Lawful languageErrors n (k u v w)) →
+      Lawful languageErrors n (withThree p vs k)
   unfolding withThree
   three-lawful p [] h = fail-20 p
   three-lawful p (v ∷ vs) h = two-lawful p vs (h v)
 
   four-lawful : (p : ℕ) (vs : List Value) {k : Value → Value → Value → Value → Action Value} →
-      ((t u v w : Value) → Lawful n (k t u v w)) → Lawful n (withFour p vs k)
+      ((t u v w : Value) → Lawful languageErrors n (k t u v w)) → Lawful languageErrors n (withFour p vs k)
   unfolding withFour
   four-lawful p [] h = fail-20 p
   four-lawful p (v ∷ vs) h = three-lawful p vs (h v)
 
-  drawn-lawful : (make : ℤ → ℤ → ℤ → ℤ → Figure) (p : ℕ) (vs : List Value) → Lawful n (drawn make p vs)
+  drawn-lawful : (make : ℤ → ℤ → ℤ → ℤ → Figure) (p : ℕ) (vs : List Value) → Lawful languageErrors n (drawn make p vs)
   unfolding drawn
   drawn-lawful make p vs =
       four-lawful p vs λ v₁ v₂ v₃ v₄. integer-lawful p v₁ λ a. integer-lawful p v₂ λ b. integer-lawful p v₃ λ c. integer-lawful p v₄ λ d.
       new-shape-lawful p _
 
-  perform-lawful : (f : Library) (p : ℕ) (vs : List Value) → Lawful n (perform f p vs)
+  perform-lawful : (f : Library) (p : ℕ) (vs : List Value) → Lawful languageErrors n (perform f p vs)
   unfolding perform
   perform-lawful drawLine p vs = drawn-lawful _ p vs
   perform-lawful drawEllipse p vs = drawn-lawful _ p vs
@@ -282,43 +312,43 @@ module _ {n : ℕ} where
       one-lawful p vs λ v. shape-lawful p v λ i. bind-lawful current-lawful λ s. bind-lawful (become-lawful _) λ _. give-lawful _
   perform-lawful clearScene p vs = none-lawful p vs (bind-lawful current-lawful λ s. bind-lawful (become-lawful _) λ _. give-lawful _)
 
-  all-usable-lawful : (p : ℕ) (vs : List Value) → Lawful n (allUsable p vs)
+  all-usable-lawful : (p : ℕ) (vs : List Value) → Lawful languageErrors n (allUsable p vs)
   unfolding allUsable
   all-usable-lawful p [] = give-lawful tt
   all-usable-lawful p (v ∷ vs) = bind-lawful (usable-lawful p v) λ _. all-usable-lawful p vs
 
-  call-lawful : (f : Option Library) (p : ℕ) (vs : List Value) → Lawful n (callLibrary f p vs)
+  call-lawful : (f : Option Library) (p : ℕ) (vs : List Value) → Lawful languageErrors n (callLibrary f p vs)
   unfolding callLibrary
   call-lawful Option.none p vs = fail-20 p
   call-lawful (some f) p vs = bind-lawful (all-usable-lawful p vs) λ _. perform-lawful f p vs
 
   -- ---- expressions
-  found-lawful : (m p : ℕ) (o : Option Value) → m < 76 → Lawful n (found m p o)
+  found-lawful : (m p : ℕ) (o : Option Value) → among languageErrors m → Lawful languageErrors n (found m p o)
   unfolding found
   found-lawful m p Option.none h = fail-lawful m p h
   found-lawful m p (some v) h = bind-lawful (usable-lawful p v) λ _. give-lawful v
 
-  variable-lawful : (p : ℕ) (x : List ℕ) → Lawful n (variable p x)
+  variable-lawful : (p : ℕ) (x : List ℕ) → Lawful languageErrors n (variable p x)
   unfolding variable
-  variable-lawful p x = bind-lawful current-lawful λ s. found-lawful 50 p _ (lit< tt)
+  variable-lawful p x = bind-lawful current-lawful λ s. found-lawful 50 p _ is-50
 
-  new-table-lawful : (p : ℕ) (z : ℤ) → Lawful n (newTable p z)
+  new-table-lawful : (p : ℕ) (z : ℤ) → Lawful languageErrors n (newTable p z)
   unfolding newTable
   new-table-lawful p z =
-      bind-lawful (refuse-lawful _ 40 p (lit< tt)) λ _. bind-lawful current-lawful λ s. bind-lawful (become-lawful _) λ _. give-lawful _
+      bind-lawful (refuse-lawful _ 40 p is-40) λ _. bind-lawful current-lawful λ s. bind-lawful (become-lawful _) λ _. give-lawful _
 
-  entry-lawful : (p t : ℕ) (v : Value) → Lawful n (entryOf p t v)
+  entry-lawful : (p t : ℕ) (v : Value) → Lawful languageErrors n (entryOf p t v)
   unfolding entryOf
-  entry-lawful p t v = bind-lawful current-lawful λ s. found-lawful 20 p _ (lit< tt)
+  entry-lawful p t v = bind-lawful current-lawful λ s. found-lawful 20 p _ is-20
 
-  count-lawful : (p : ℕ) → Lawful n (take steps 1 p)
+  count-lawful : (p : ℕ) → Lawful languageErrors n (take steps 1 p)
   unfolding resourceNumber
   count-lawful p = take-lawful steps 1 p refl
 
   mutual
     unfolding evaluate evaluateAll
 
-    evaluate-lawful : (e : Expression) (p : ℕ) → Lawful n (evaluate e p)
+    evaluate-lawful : (e : Expression) (p : ℕ) → Lawful languageErrors n (evaluate e p)
     evaluate-lawful (Tree.number z) p = bind-lawful (count-lawful p) λ _. give-lawful _
     evaluate-lawful (Tree.string t) p = bind-lawful (count-lawful p) λ _. give-lawful _
     evaluate-lawful Tree.nothing p = bind-lawful (count-lawful p) λ _. give-lawful _
@@ -334,23 +364,23 @@ module _ {n : ℕ} where
     evaluate-lawful (Tree.call f es) p = bind-lawful (count-lawful p) λ _. bind-lawful (arguments-lawful es p) λ vs. call-lawful _ p vs
     evaluate-lawful (Tree.paren e) p = evaluate-lawful e p
 
-    arguments-lawful : (es : Arguments) (p : ℕ) → Lawful n (evaluateAll es p)
+    arguments-lawful : (es : Arguments) (p : ℕ) → Lawful languageErrors n (evaluateAll es p)
     arguments-lawful noArgument p = give-lawful []
     arguments-lawful (argument e es) p =
         bind-lawful (evaluate-lawful e p) λ v. bind-lawful (arguments-lawful es p) λ vs. give-lawful _
 
   -- ---- statements
-  continue-lawful : (f : Flow) {k : Action Flow} → Lawful n k → Lawful n (continue f k)
+  continue-lawful : (f : Flow) {k : Action Flow} → Lawful languageErrors n k → Lawful languageErrors n (continue f k)
   unfolding continue
   continue-lawful onward h = h
   continue-lawful (returned v) h = give-lawful _
 
-  declaring-lawful : (p : ℕ) (x : List ℕ) → Lawful n (declaring p x)
+  declaring-lawful : (p : ℕ) (x : List ℕ) → Lawful languageErrors n (declaring p x)
   unfolding declaring
   declaring-lawful p x =
-      bind-lawful current-lawful λ s. bind-lawful (refuse-lawful _ 60 p (lit< tt)) λ _. bind-lawful (become-lawful _) λ _. give-lawful _
+      bind-lawful current-lawful λ s. bind-lawful (refuse-lawful _ 60 p is-60) λ _. bind-lawful (become-lawful _) λ _. give-lawful _
 
-  copied-lawful : (p : ℕ) (v : Value) → Lawful n (copied p v)
+  copied-lawful : (p : ℕ) (v : Value) → Lawful languageErrors n (copied p v)
   unfolding copied
   copied-lawful p (integer z) = give-lawful _
   copied-lawful p (string t) = give-lawful _
@@ -359,48 +389,53 @@ module _ {n : ℕ} where
   copied-lawful p (table t) = give-lawful _
   copied-lawful p (shape i) = bind-lawful current-lawful λ s. new-shape-lawful p _
 
-  assigning-lawful : (p : ℕ) (x : List ℕ) (v : Value) → Lawful n (assigning p x v)
+  assigning-lawful : (p : ℕ) (x : List ℕ) (v : Value) → Lawful languageErrors n (assigning p x v)
   unfolding assigning
   assigning-lawful p x v =
-      bind-lawful current-lawful λ s. bind-lawful (refuse-lawful _ 50 p (lit< tt)) λ _. bind-lawful (copied-lawful p v) λ u.
+      bind-lawful current-lawful λ s. bind-lawful (refuse-lawful _ 50 p is-50) λ _. bind-lawful (copied-lawful p v) λ u.
       bind-lawful current-lawful λ s′. bind-lawful (become-lawful _) λ _. give-lawful _
 
-  storing-lawful : (p t : ℕ) (k : Key) (v : Value) (o : Option Value) → Lawful n (storing p t k v o)
+  storing-lawful : (p t : ℕ) (k : Key) (v : Value) (o : Option Value) → Lawful languageErrors n (storing p t k v o)
   unfolding storing resourceNumber
   storing-lawful p t k v Option.none =
       bind-lawful (take-lawful entries 1 p refl) λ _. bind-lawful current-lawful λ s. bind-lawful (become-lawful _) λ _. give-lawful _
   storing-lawful p t k v (some u) = bind-lawful current-lawful λ s. bind-lawful (become-lawful _) λ _. give-lawful _
 
-  updating-lawful : (p t : ℕ) (w v : Value) → Lawful n (updating p t w v)
+  updating-lawful : (p t : ℕ) (w v : Value) → Lawful languageErrors n (updating p t w v)
   unfolding updating
   updating-lawful p t w v = bind-lawful current-lawful λ s. storing-lawful p t _ v _
 
 -- a step counted is one more
-ending-counted : {A : Type 0} (n p : ℕ) (ts : List Taking) (e : End A) → Ending n ts e → Ending (suc n) (taking steps 1 p ∷ ts) e
+ending-counted : {A : Type 0} (ns : List ℕ) (n p : ℕ) (ts : List Taking) (e : End A) → Ending ns n ts e → Ending ns (suc n) (taking steps 1 p ∷ ts) e
 unfolding taken part resourceNumber
-ending-counted n p ts (result a s) h = tt
-ending-counted n p ts (error m q) h = h
-ending-counted n p ts unfinished h = omega arith
+ending-counted ns n p ts (result a s) h = tt
+ending-counted ns n p ts (error m q) h = h
+ending-counted ns n p ts unfinished h = omega arith
 
-counted-lawful : {A : Type 0} {n : ℕ} (p : ℕ) {m : Action A} → Lawful n m → Lawful (suc n) (take steps 1 p >>= λ _. m)
+counted-lawful : {A : Type 0} {n : ℕ} (p : ℕ) {m : Action A} → Lawful languageErrors n m → Lawful languageErrors (suc n) (take steps 1 p >>= λ _. m)
 unfolding _>>=_ goOn take taken part resourceNumber
 counted-lawful {n = n} p {m} h = record {
   plain = λ s. omega (arith, h .plain s);
-  ended = λ s. ending-counted n p (m s .takings) (m s .end) (h .ended s);
+  ended = λ s. ending-counted languageErrors n p (m s .takings) (m s .end) (h .ended s);
 }
 
-loop-lawful : (n N p : ℕ) (e : Expression) {body : Action Flow} → n ≤ N → Lawful N body → Lawful n (looping n p (evaluate e p) body)
+loop-lawful : (n N p : ℕ) (e : Expression) {body : Action Flow} → n ≤ N → Lawful languageErrors N body → Lawful languageErrors n (looping n p (evaluate e p) body)
 unfolding looping taken
 loop-lawful zero N p e l h = record { plain = λ s. refl; ended = λ s. record { counted = le-refl 0; long = le-refl 0 } }
 loop-lawful (suc n) N p e l h =
     counted-lawful p (bind-lawful (evaluate-lawful e p) λ v. boolean-lawful p v λ b.
     if-lawful b (bind-lawful (weaken (omega arith) h) λ f. continue-lawful f (loop-lawful n N p e (omega arith) h)) (give-lawful _))
 
+-- the picture of a procedure
+abbrev paintingOf : ℕ → Procedure → ℤ → ℤ → Action (List ℕ)
+paintingOf n main width height =
+    entering (main .parameters) width height >>= λ _. executeAll (main .body) n >>= λ _. current >>= λ s. give (pictureOf width height (scene s))
+
 module _ {n : ℕ} where
   mutual
     unfolding execute executeAll
 
-    execute-lawful : (s : Statement) → Lawful n (execute s n)
+    execute-lawful : (s : Statement) → Lawful languageErrors n (execute s n)
     execute-lawful (declare p x) = bind-lawful (count-lawful p) λ _. declaring-lawful p x
     execute-lawful (assign p x e) = bind-lawful (count-lawful p) λ _. bind-lawful (evaluate-lawful e p) λ v. assigning-lawful p x v
     execute-lawful (update p a b e) =
@@ -414,43 +449,94 @@ module _ {n : ℕ} where
     execute-lawful (block p ss) = bind-lawful (count-lawful p) λ _. all-lawful ss
     execute-lawful (act p e) = bind-lawful (count-lawful p) λ _. bind-lawful (evaluate-lawful e p) λ v. give-lawful _
 
-    all-lawful : (ss : Statements) → Lawful n (executeAll ss n)
+    all-lawful : (ss : Statements) → Lawful languageErrors n (executeAll ss n)
     all-lawful (only s) = execute-lawful s
     all-lawful (first s ss) = bind-lawful (execute-lawful s) λ f. continue-lawful f (all-lawful ss)
 
-  -- ---- paintings
-  understood-lawful : (r : Reading) → LowReading r → Lawful n (understood r)
-  unfolding understood
-  understood-lawful (wellFormed m) h = give-lawful m
-  understood-lawful (malformed m p) h = fail-lawful m p h
-
-  entering-lawful : (xs : List (List ℕ)) (width height : ℤ) → Lawful n (entering xs width height)
+  entering-lawful : (xs : List (List ℕ)) (width height : ℤ) → Lawful languageErrors n (entering xs width height)
   unfolding entering
   entering-lawful [] width height = fail-20 0
   entering-lawful (x ∷ []) width height = fail-20 0
-  entering-lawful (x ∷ y ∷ []) width height = bind-lawful (refuse-lawful _ 60 0 (lit< tt)) λ _. become-lawful _
+  entering-lawful (x ∷ y ∷ []) width height = bind-lawful (refuse-lawful _ 60 0 is-60) λ _. become-lawful _
   entering-lawful (x ∷ y ∷ z ∷ xs) width height = fail-20 0
 
-  pub sized-lawful : (program : List ℕ) → Lawful n (sized program)
-  unfolding sized
-  sized-lawful program = refuse-lawful _ 73 0 (lit< tt)
+  painting-of-lawful : (main : Procedure) (width height : ℤ) → Lawful languageErrors n (paintingOf n main width height)
+  painting-of-lawful main width height =
+      bind-lawful (entering-lawful _ width height) λ _. bind-lawful (all-lawful _) λ _. bind-lawful current-lawful λ s. give-lawful _
 
-  pub painting-lawful : (program : List ℕ) (width height : ℤ) → Lawful n (painting program width height n)
+-- ---- paintings
+-- among some numbers, among more
+more : {A : Type 0} {ns ns′ : List ℕ} {n : ℕ} → ((m : ℕ) → among ns m → among ns′ m) → {a : Action A} → Lawful ns n a → Lawful ns′ n a
+more {A} {ns} {ns′} {n} f {a} h = record { plain = h .plain; ended = λ s. go (a s .takings) (a s .end) (h .ended s) }
+  where
+    go : (ts : List Taking) (e : End A) → Ending ns n ts e → Ending ns′ n ts e
+    go ts (result b s) h = tt
+    go ts (error m p) h = f m h
+    go ts unfinished h = h
+
+-- numbers that stand in a longer list
+or-later : (a b : Bool) → b ≡ true → a || b ≡ true
+or-later true b e = refl
+or-later false b e = e
+
+languages : (m : ℕ) → among languageErrors m → among errors m
+unfolding standsIn
+languages m h = or-later (eqb m 10) _ (go (eqb m 20) (eqb m 30) (eqb m 40) (eqb m 50) (eqb m 60) (eqb m 70) _ h)
+  where
+    go : (a b c d e f g : Bool) → a || (b || (c || (d || (e || (f || false))))) ≡ true → a || (b || (c || (d || (e || (f || g))))) ≡ true
+    go true b c d e f g h = refl
+    go false true c d e f g h = refl
+    go false false true d e f g h = refl
+    go false false false true e f g h = refl
+    go false false false false true f g h = refl
+    go false false false false false true g h = refl
+    go false false false false false false g h = let z : _≡_ {A = ℕ} 0 1 = cc in absurd (omega arith)
+
+readings : (m : ℕ) → among readingErrors m → among errors m
+unfolding standsIn
+readings m h = go (eqb m 10) (eqb m 20) (eqb m 30) (eqb m 40) (eqb m 50) (eqb m 60) (eqb m 70) (eqb m 72) (eqb m 73) (eqb m 74) (eqb m 75) h
+  where
+    late : (i j : Bool) → i || (j || false) ≡ true → (a b c d e f g h : Bool) → a || (b || (c || (d || (e || (f || (g || (h || (i || (j || false))))))))) ≡ true
+    late i j q a b c d e f g h =
+        or-later a _ (or-later b _ (or-later c _ (or-later d _ (or-later e _ (or-later f _ (or-later g _ (or-later h _ q)))))))
+
+    go : (a b c d e f g h k i j : Bool) → a || (i || (j || false)) ≡ true → a || (b || (c || (d || (e || (f || (g || (h || (k || (i || (j || false))))))))))  ≡ true
+    go true b c d e f g h k i j q = refl
+    go false b c d e f g h k i j q = late i j q b c d e f g h k
+
+is-72 : among errors 72
+unfolding standsIn
+is-72 = refl
+
+is-73 : among errors 73
+unfolding standsIn
+is-73 = refl
+
+module _ {n : ℕ} where
+  understood-lawful : (r : Reading) → LowReading r → Lawful errors n (understood r)
+  unfolding understood
+  understood-lawful (wellFormed m) h = give-lawful m
+  understood-lawful (malformed m p) h = fail-lawful m p (readings m h)
+
+  pub sized-lawful : (program : List ℕ) → Lawful errors n (sized program)
+  unfolding sized
+  sized-lawful program = refuse-lawful _ 73 0 is-73
+
+  pub painting-lawful : (program : List ℕ) (width height : ℤ) → Lawful errors n (painting program width height n)
   unfolding painting sheet
   painting-lawful program width height =
-      bind-lawful (refuse-lawful _ 72 0 (lit< tt)) λ _. bind-lawful (sized-lawful program) λ _.
-      bind-lawful (understood-lawful _ (reading-low program)) λ m. bind-lawful (entering-lawful _ width height) λ _.
-      bind-lawful (all-lawful _) λ _. bind-lawful current-lawful λ s. give-lawful _
+      bind-lawful (refuse-lawful _ 72 0 is-72) λ _. bind-lawful (sized-lawful program) λ _.
+      bind-lawful (understood-lawful _ (reading-low program)) λ m. more languages (painting-of-lawful m width height)
 
 -- ---- operations
 -- drawing takes the picture too
-drawing-ended : {n : ℕ} {m : Action (List ℕ)} → Lawful n m →
-    Ended n ((m >>= λ b. take picture (length b) 0 >>= λ _. give (Program.drawn b)) empty)
+drawing-ended : {ns : List ℕ} {n : ℕ} {m : Action (List ℕ)} → Lawful ns n m →
+    Ended ns n ((m >>= λ b. take picture (length b) 0 >>= λ _. give (Program.drawn b)) empty)
 unfolding _>>=_ take give goOn
-drawing-ended {n} {m} h = ended-go n (m empty .takings) (m empty .end) _ (h .ended empty) (λ b s. tt)
+drawing-ended {ns} {n} {m} h = ended-go ns n (m empty .takings) (m empty .end) _ (h .ended empty) (λ b s. tt)
 
 performing-ended : (o : Operation) (program : List ℕ) (width height : ℤ) (n : ℕ) →
-    Ended n (performing o program width height n empty)
+    Ended errors n (performing o program width height n empty)
 unfolding performing
 performing-ended checking program width height n =
     bind-lawful (sized-lawful program) (λ _. bind-lawful (understood-lawful _ (reading-low program)) λ m. give-lawful accepted) .ended empty
@@ -459,6 +545,31 @@ performing-ended measuring program width height n =
 performing-ended drawing program width height n = drawing-ended (painting-lawful program width height)
 
 -- THE LAW
-pub specified-ended : (o : Operation) (program : List ℕ) (width height : ℤ) (n : ℕ) → Ended n (specified o program width height n)
+pub specified-ended : (o : Operation) (program : List ℕ) (width height : ℤ) (n : ℕ) → Ended errors n (specified o program width height n)
 unfolding specified
 specified-ended o program width height n = performing-ended o program width height n
+
+-- ---- a program that keeps the grammar and the limits, on a sheet
+module _ (program : List ℕ) (width height : ℤ) (main : Procedure) (n : ℕ) (formed : reading program ≡ wellFormed main) (short : length program ≤ 32768)
+    (a-sheet : ltZ (pos 0) width && ltZ (pos 0) height ≡ true) where
+  -- is painted by its procedure alone
+  painting-is : painting program width height n empty ≡ paintingOf n main width height empty
+  unfolding painting sheet sized understood refuse give _>>=_ goOn
+  painting-is = rw (a-sheet, le-ltb 32768 (length program) short, formed)
+
+  painted-ended : Ended languageErrors n (painting program width height n empty)
+  painted-ended = rw painting-is (painting-of-lawful main width height .ended empty)
+
+  abbrev painted : Run (List ℕ)
+  painted = painting program width height n empty
+
+  formed-ended : (o : Operation) → Ended languageErrors n (specified o program width height n)
+  unfolding specified performing sized understood refuse give take _>>=_ goOn
+  formed-ended checking = rw (le-ltb 32768 (length program) short, formed) tt
+  formed-ended measuring = ended-go languageErrors n (painted .takings) (painted .end) (λ b. give (Program.drawn b)) painted-ended (λ b s. tt)
+  formed-ended drawing =
+      ended-go languageErrors n (painted .takings) (painted .end) (λ b. take picture (length b) 0 >>= λ _. give (Program.drawn b)) painted-ended (λ b s. tt)
+
+pub language-errors : LanguageErrors
+language-errors o program width height main n m p formed short a-sheet e =
+    subst (Ending languageErrors n (specified o program width height n .takings)) e (formed-ended program width height main n formed short a-sheet o)

@@ -1,26 +1,25 @@
--- Reading a program: each number that it can end with is below 76, and a program that cannot be read takes nothing.
-use Prim.Native.Nat.{ℕ, zero, suc, _+_, _<_}
-use mathlib.Core.Path.{_≡_, refl, ap}
+-- Reading a program: which numbers it can end with, and that a program that cannot be read takes nothing.
+use Prim.Native.Nat.{ℕ, zero, suc, _+_}
+use mathlib.Core.Path.{_≡_, refl, ap, subst}
 use mathlib.Core.Bool.{Bool, true, false}
 use mathlib.Core.List.{List, []}
 use mathlib.Core.Option.{Option, none, some}
 use lib.IntN.{ℤ}
-use lib.Dec.{lit<}
-use Rattle.meaning.specs.Basics.{if_then_else_}
+use Rattle.meaning.specs.Basics.{if_then_else_, standsIn}
 use Rattle.meaning.specs.Token.{Token, Lexed, lexed, stray, tokensOf}
 use Rattle.meaning.specs.Tree.{Operator, Expression, Statement}
 use Rattle.meaning.specs.Grammar.{Got, good, wrong, after, expect, Inside, noLevel, level, opening, ReadExpression, argumentsFrom, arguments, primary, operand, operated, expressionIn, expression, ReadStatement, Readers, declaration, returning, Target, variable, element, noTarget, assignment, simple, guarded, statementsFrom, statementIn, statement, parametersFrom, parameters, procedure, Reading, wellFormed, malformed, readOf, parsed, reading}
 use Rattle.meaning.specs.State.{State}
 use Rattle.meaning.specs.Run.{error, Run, run, Action, goOn, _>>=_, give, fail, refuse}
 use Rattle.meaning.specs.Program.{Operation, checking, measuring, drawing, Outcome, empty, sheet, sized, understood, painting, performing, specified}
-use Rattle.meaning.specs.Claims.{RefusedTakesNothing}
+use Rattle.meaning.specs.Claims.{among, readingErrors, ReadingErrors, RefusedTakesNothing}
 
 -- ---- the relation
 abbrev LowGot : {A : Type 0} → Got A → Type 0
 LowGot (good a j) = Unit {0}
-LowGot (wrong n j) = n < 76
+LowGot (wrong n j) = among readingErrors n
 
--- what is wrong has a number below 76
+-- what is wrong has such a number
 record Low {A : Type 0} (g : Got A) : Type 0 where
   low : LowGot g
 
@@ -29,10 +28,12 @@ fine = record { low = tt }
 
 -- the grammar's own number
 wrong-10 : {A : Type 0} {j : ℕ} → Low {A = A} (wrong 10 j)
-wrong-10 = record { low = lit< tt }
+unfolding standsIn
+wrong-10 = record { low = refl }
 
 wrong-75 : {A : Type 0} {j : ℕ} → Low {A = A} (wrong 75 j)
-wrong-75 = record { low = lit< tt }
+unfolding standsIn
+wrong-75 = record { low = refl }
 
 -- a reader that yields only such, and what may be read inside a level
 abbrev LowAt : {A : Type 0} → (ℕ → Got A) → Type 0
@@ -172,7 +173,7 @@ module _ (ts : List Token) where
 -- ---- the program
 abbrev pub LowReading : Reading → Type 0
 LowReading (wellFormed m) = Unit {0}
-LowReading (malformed n p) = n < 76
+LowReading (malformed n p) = among readingErrors n
 
 read-low : (program : List ℕ) (ts : List Token) (g : Got _) → Low g → LowReading (readOf program ts g)
 unfolding readOf
@@ -185,14 +186,17 @@ if-reading true x y h f = h
 if-reading false x y h f = f
 
 parsed-low : (program : List ℕ) (l : Lexed) → LowReading (parsed program l)
-unfolding parsed
-parsed-low program (stray p) = lit< tt
-parsed-low program (lexed ts) = if-reading _ (malformed 74 _) _ (lit< tt) (read-low program ts (procedure ts) (procedure-low ts))
+unfolding parsed standsIn
+parsed-low program (stray p) = refl
+parsed-low program (lexed ts) = if-reading _ (malformed 74 _) _ refl (read-low program ts (procedure ts) (procedure-low ts))
 
 -- THE LAW
 pub reading-low : (program : List ℕ) → LowReading (reading program)
 unfolding reading
 reading-low program = parsed-low program (tokensOf program)
+
+pub reading-errors : ReadingErrors
+reading-errors program m p e = subst LowReading e (reading-low program)
 
 -- ---- what cannot be read takes nothing
 -- a run from any state is a number at once

@@ -2,16 +2,17 @@
 use Prim.Native.Nat.{ℕ, suc, _≤_}
 use mathlib.Core.Path.{_≡_, refl, ap, sym}
 use mathlib.Core.Logic.{_≢_}
-use mathlib.Core.Bool.{true, false, _&&_}
-use mathlib.Core.List.{List}
+use mathlib.Core.Bool.{Bool, true, false, _&&_, _||_}
+use mathlib.Core.List.{List, [], _∷_}
 use native.Mathlib.Omega.{arith}
-use lib.Dec.{leb}
-use borrow.Author.Tests.{lt-leb}
+use lib.Dec.{leb, eqb}
+use borrow.Author.Tests.{lt-leb, leb-true, eqb-true}
+use Rattle.meaning.specs.Basics.{standsIn}
 use Rattle.meaning.specs.State.{State}
 use Rattle.meaning.specs.Run.{Resource, steps, shapes, entries, textBytes, picture, Taking, End, result, error, unfinished, Run}
 use Rattle.meaning.specs.Program.{Outcome, accepted, drawn}
 use Rattle.meaning.specs.Book.{Amounts, nothingYet, Booked, allFit, lacking, book, pictured, number, undecided, shortageOf, answerTo, settled, booked}
-use Rattle.meaning.specs.Claims.{namesShortage, totalOf, FirstShort, shortageAt}
+use Rattle.meaning.specs.Claims.{among, errors, allWithin, namesShortage, totalOf, FirstShort, shortageAt}
 use Rattle.meaning.proofs.Booking.{total-taken, onFit, book-append, Books, fit, short, books, all-fit, book-short}
 use Rattle.meaning.proofs.Turns.{Extends, same, longer}
 use Rattle.meaning.proofs.Ends.{Ending, Ended}
@@ -52,11 +53,26 @@ unfolding namesShortage shortageAt
 shortage-named before t = named (t .of)
 
 -- an end is none
-pub end-unnamed : (n c : ℕ) (ts : List Taking) (e : End Outcome) → Ending c ts e → namesShortage (answerTo e n) ≡ false
+error-low : (m : ℕ) (ns : List ℕ) → allWithin 75 ns ≡ true → among ns m → m ≤ 75
+unfolding allWithin standsIn
+error-low m [] w h = let z : _≡_ {A = ℕ} 0 1 = cc in absurd (omega arith)
+error-low m (x ∷ ns) w h = go (eqb m x) (leb x 75) refl refl h w (λ w h. error-low m ns w h)
+  where
+    go : (b c : Bool) → eqb m x ≡ b → leb x 75 ≡ c → b || standsIn m ns ≡ true → c && allWithin 75 ns ≡ true
+        → (allWithin 75 ns ≡ true → standsIn m ns ≡ true → m ≤ 75) → m ≤ 75
+    go true true e l h w k = rw (eqb-true m x e) (leb-true x 75 l)
+    go false true e l h w k = k w h
+    go b false e l h w k = let z : _≡_ {A = ℕ} 0 1 = cc in absurd (omega arith)
+
+errors-within : allWithin 75 errors ≡ true
+unfolding allWithin
+errors-within = refl
+
+pub end-unnamed : (n c : ℕ) (ts : List Taking) (e : End Outcome) → Ending errors c ts e → namesShortage (answerTo e n) ≡ false
 unfolding namesShortage answerTo
 end-unnamed n c ts (result accepted s) h = refl
 end-unnamed n c ts (result (drawn b) s) h = refl
-end-unnamed n c ts (error m p) h = rw (lt-leb 76 m h)
+end-unnamed n c ts (error m p) h = rw (lt-leb 76 m (omega (arith, error-low m errors errors-within h)))
 end-unnamed n c ts unfinished h = refl
 
 -- the answer where a taking is the first that does not fit
@@ -76,7 +92,7 @@ pub data Settles (g : Amounts) (r : Run Outcome) : Type 0 where
   complete : Complete g r → Settles g r
   stopped : (before : List Taking) (t : Taking) → FirstShort g (r .takings) before t → Settles g r
 
-pub settles : (g : Amounts) (r : Run Outcome) → Ended (suc (g steps)) r → Settles g r
+pub settles : (g : Amounts) (r : Run Outcome) → Ended errors (suc (g steps)) r → Settles g r
 settles g r h = by (books g nothingYet (r .takings) (λ x. omega arith))
   where
     by : Books g nothingYet (r .takings) → Settles g r
@@ -98,7 +114,7 @@ unfolding booked settled
 booked-complete g r h = rw (h .booking)
 
 -- every such run is answered
-pub booked-decided : (g : Amounts) (r : Run Outcome) → Ended (suc (g steps)) r → booked g r ≢ undecided
+pub booked-decided : (g : Amounts) (r : Run Outcome) → Ended errors (suc (g steps)) r → booked g r ≢ undecided
 unfolding shortageAt
 booked-decided g r h = by (settles g r h)
   where

@@ -5,12 +5,14 @@ use mathlib.Core.Logic.{_≢_}
 use mathlib.Core.Bool.{Bool, true, false, _&&_}
 use mathlib.Core.List.{List, [], _∷_, _++_}
 use lib.ListN.{length, take}
-use lib.IntN.{ℤ}
+use lib.IntN.{ℤ, pos}
+use lib.Signed.{ltZ}
 use lib.Dec.{leb}
-use Rattle.meaning.specs.Basics.{laidOver}
-use Rattle.meaning.specs.Grammar.{malformed, reading}
+use Rattle.meaning.specs.Basics.{laidOver, standsIn}
+use Rattle.meaning.specs.Tree.{Procedure}
+use Rattle.meaning.specs.Grammar.{wellFormed, malformed, reading}
 use Rattle.meaning.specs.State.{State}
-use Rattle.meaning.specs.Run.{Resource, steps, Taking, Run, End, result, unfinished}
+use Rattle.meaning.specs.Run.{Resource, steps, Taking, Run, End, result, error, unfinished}
 use Rattle.meaning.specs.Program.{Operation, measuring, drawing, Outcome, drawn, specified, beginning}
 use Rattle.meaning.specs.Book.{Amounts, nothingYet, added, fits, allFit, book, Answer, pictured, number, undecided, shortageOf, lengthNeeded, booked}
 use Rattle.meaning.specs.Call.{Call, Grants, inRange, needed, admitted, grantedTo, runOf, answer, outAfter}
@@ -44,6 +46,29 @@ BeginningsDecide =
     (c : Call) → admitted c ≡ true →
     ((n : ℕ) → booked (grantedTo c) (beginningOf c n) ≢ undecided → booked (grantedTo c) (beginningOf c n) ≡ answer c)
     × ((n : ℕ) × (booked (grantedTo c) (beginningOf c n) ≡ answer c))
+
+-- ---- the numbers of document 01
+-- what reading can end in, what a program that runs can, and both with 72 and 73. 71 and the shortages, 76 to 80, stand apart.
+abbrev pub readingErrors : List ℕ
+readingErrors = 10 ∷ 74 ∷ 75 ∷ []
+
+abbrev pub languageErrors : List ℕ
+languageErrors = 20 ∷ 30 ∷ 40 ∷ 50 ∷ 60 ∷ 70 ∷ []
+
+abbrev pub errors : List ℕ
+errors = 10 ∷ 20 ∷ 30 ∷ 40 ∷ 50 ∷ 60 ∷ 70 ∷ 72 ∷ 73 ∷ 74 ∷ 75 ∷ []
+
+abbrev pub among : List ℕ → ℕ → Type 0
+among ns m = standsIn m ns ≡ true
+
+abbrev pub ReadingErrors : Type 0
+ReadingErrors = (program : List ℕ) (m p : ℕ) → reading program ≡ malformed m p → among readingErrors m
+
+abbrev pub LanguageErrors : Type 0
+LanguageErrors =
+    (o : Operation) (program : List ℕ) (width height : ℤ) (main : Procedure) (n m p : ℕ) →
+    reading program ≡ wellFormed main → length program ≤ 32768 → ltZ (pos 0) width && ltZ (pos 0) height ≡ true →
+    specified o program width height n .end ≡ error m p → among languageErrors m
 
 -- ---- work slices
 -- no work slice need be longer than 67,108,864 elements, whatever counts are granted
