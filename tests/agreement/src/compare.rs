@@ -1,15 +1,32 @@
-//! One program, judged by the proved library and by the reference.
+//! One call, judged by the proved library and by the reference.
 
-use crate::{check, Lent, Numbers};
-use reference::Answer;
+use crate::{check, draw, measure, Lent, Numbers, Work, CODE_WORDS, RUN_WORDS, TOKEN_WORDS};
+use generator::case::{totals, TAKINGS};
+use reference::case::Case;
+use reference::{run_specified, Answer, End, Grants, Operation};
 
-fn expected(program: &[u8]) -> Numbers {
-    match reference::check(program) {
+/// What counts out of their ranges and slices that are too short give.
+pub const REFUSED: Numbers = Numbers {
+    number: 71,
+    place: 0,
+    steps: 0,
+    length: 0,
+};
+
+/// The four numbers of a reference's answer.
+pub fn numbers(answer: &Answer) -> Numbers {
+    match *answer {
         Answer::WellFormed => Numbers {
             number: 0,
             place: 0,
             steps: 0,
             length: 0,
+        },
+        Answer::Picture { length, steps, .. } => Numbers {
+            number: 0,
+            place: 0,
+            steps,
+            length,
         },
         Answer::Number {
             number,
@@ -22,7 +39,6 @@ fn expected(program: &[u8]) -> Numbers {
             steps,
             length: length_needed.unwrap_or(0),
         },
-        other => panic!("checking gives no {other:?}"),
     }
 }
 
@@ -30,7 +46,7 @@ fn expected(program: &[u8]) -> Numbers {
 pub fn misfit(program: &[u8], seed: u64) -> Option<String> {
     let mut lent = Lent::filled(seed);
     let found = check(program, &mut lent.tokens, &mut lent.code);
-    let wanted = expected(program);
+    let wanted = numbers(&reference::check(program));
     if found != wanted {
         return Some(format!("{found:?} where {wanted:?} is due"));
     }
@@ -38,4 +54,315 @@ pub fn misfit(program: &[u8], seed: u64) -> Option<String> {
         return Some("a work slice is not zero".to_string());
     }
     None
+}
+
+/// The lengths of the four work slices.
+#[derive(Clone, Copy, Debug, PartialEq, Eq)]
+pub struct Lengths {
+    pub tokens: usize,
+    pub code: usize,
+    pub words: usize,
+    pub texts: usize,
+}
+
+impl Lengths {
+    /// The least that docs/INTERFACE.md asks for. A count far out of its range is taken for the first that is out of it.
+    pub fn needed(grants: Grants) -> Lengths {
+        let count = |granted: u64| granted.min(65_536) as usize;
+        Lengths {
+            tokens: TOKEN_WORDS,
+            code: CODE_WORDS,
+            words: RUN_WORDS + 3 * count(grants.shapes) + 4 * count(grants.entries),
+            texts: count(grants.text_bytes),
+        }
+    }
+
+    /// Each slice so much longer.
+    pub fn longer(self, by: usize) -> Lengths {
+        Lengths {
+            tokens: self.tokens + by,
+            code: self.code + by,
+            words: self.words + by,
+            texts: self.texts + by,
+        }
+    }
+
+    /// One slice, by its number from 0 to 3, one element shorter, if it has one.
+    pub fn shorter(self, which: u64) -> Option<Lengths> {
+        let mut short = self;
+        let slice = match which {
+            0 => &mut short.tokens,
+            1 => &mut short.code,
+            2 => &mut short.words,
+            _ => &mut short.texts,
+        };
+        *slice = slice.checked_sub(1)?;
+        Some(short)
+    }
+
+    fn suffice(self, grants: Grants) -> bool {
+        let needed = Lengths::needed(grants);
+        self.tokens >= needed.tokens
+            && self.code >= needed.code
+            && self.words >= needed.words
+            && self.texts >= needed.texts
+    }
+}
+
+/// How long a stretch of garbage is; longer slices repeat it.
+const STRETCH: usize = 65_521;
+
+/// What slices hold before calls: one kind of garbage as words and as bytes.
+struct Garbage {
+    words: Vec<u64>,
+    bytes: Vec<u8>,
+}
+
+impl Garbage {
+    fn new(element: impl Fn(u64) -> u64) -> Garbage {
+        let words: Vec<u64> = (0..STRETCH as u64).map(element).collect();
+        let bytes = words.iter().map(|word| *word as u8).collect();
+        Garbage { words, bytes }
+    }
+
+    /// Zeros, small numbers, all ones, and bits that differ from place to place.
+    fn kinds() -> [Garbage; 4] {
+        [
+            Garbage::new(|_| 0),
+            Garbage::new(|at| at & 7),
+            Garbage::new(|_| u64::MAX),
+            Garbage::new(|at| {
+                let mixed = (at + 1).wrapping_mul(0x9e37_79b9_7f4a_7c15);
+                mixed ^ (mixed >> 29)
+            }),
+        ]
+    }
+}
+
+/// Makes a slice of this length that holds the stretch over and over.
+fn fill<T: Copy>(slice: &mut Vec<T>, length: usize, stretch: &[T]) {
+    slice.clear();
+    while slice.len() < length {
+        let part = stretch.len().min(length - slice.len());
+        slice.extend_from_slice(&stretch[..part]);
+    }
+}
+
+/// Whether a slice holds, from this element on, what it was filled with.
+fn is_kept<T: PartialEq>(slice: &[T], mut from: usize, stretch: &[T]) -> bool {
+    while from < slice.len() {
+        let start = from % stretch.len();
+        let part = (stretch.len() - start).min(slice.len() - from);
+        if slice[from..from + part] != stretch[start..start + part] {
+            return false;
+        }
+        from += part;
+    }
+    true
+}
+
+/// Bytes kept behind the lent part of the out slice; no call may reach them.
+const BEHIND: usize = 32;
+
+/// Slices that are lent again and again.
+pub struct Lender {
+    garbage: [Garbage; 4],
+    work: Work,
+    out: Vec<u8>,
+    calls: u64,
+}
+
+impl Default for Lender {
+    fn default() -> Lender {
+        Lender {
+            garbage: Garbage::kinds(),
+            work: Work::default(),
+            out: Vec::new(),
+            calls: 0,
+        }
+    }
+}
+
+impl Lender {
+    /// How many calls were compared.
+    pub fn calls(&self) -> u64 {
+        self.calls
+    }
+
+    /// What is wrong with one call of the library, if anything is. The slices have these lengths and hold garbage by the seed.
+    pub fn misfit(&mut self, case: &Case, lengths: Lengths, seed: u64) -> Option<String> {
+        self.misfit_with(case, lengths, seed, library)
+    }
+
+    /// The same for anything that can be called as the library is.
+    pub fn misfit_with(
+        &mut self,
+        case: &Case,
+        lengths: Lengths,
+        seed: u64,
+        call: impl FnOnce(&Case, &mut Work, &mut [u8]) -> Numbers,
+    ) -> Option<String> {
+        self.calls += 1;
+        let (wanted, picture) = if lengths.suffice(case.grants) {
+            let answer = case.answer();
+            let numbers = numbers(&answer);
+            match answer {
+                Answer::Picture { bytes, .. } => (numbers, bytes),
+                _ => (numbers, Vec::new()),
+            }
+        } else {
+            (REFUSED, Vec::new())
+        };
+        let out_length = match case.operation {
+            Operation::Draw => case.out_length as usize,
+            _ => 0,
+        };
+        self.fill(lengths, out_length, seed);
+        let found = call(case, &mut self.work, &mut self.out[..out_length]);
+        if found != wanted {
+            return Some(format!("{found:?} where {wanted:?} is due"));
+        }
+        if wanted.number == 71 {
+            if !self.is_kept(seed) {
+                return Some("a work slice is changed after 71".to_string());
+            }
+        } else if !self.is_zero() {
+            return Some("a work slice is not zero".to_string());
+        }
+        if self.out[..picture.len()] != picture {
+            return Some("another picture".to_string());
+        }
+        let garbage = &self.garbage[(seed % 4) as usize];
+        if !is_kept(&self.out, picture.len(), &garbage.bytes) {
+            return Some(if wanted.number == 0 {
+                "the out slice is changed behind the picture".to_string()
+            } else {
+                "the out slice is changed after a number".to_string()
+            });
+        }
+        None
+    }
+
+    /// The same, for the case's own grants in slices somewhat longer than they must be.
+    pub fn misfit_of(&mut self, case: &Case, seed: u64) -> Option<String> {
+        let longer = (seed % 5) as usize * 7;
+        self.misfit(case, Lengths::needed(case.grants).longer(longer), seed)
+    }
+
+    /// What is wrong with any of the calls around a case: with its own grants, with exactly what its run takes, with one less of each kind, with out slices
+    /// of every length around the picture's, and with one work slice an element too short.
+    pub fn misfit_around(&mut self, case: &Case, seed: u64) -> Option<String> {
+        for (case, lengths) in around(case, seed) {
+            if let Some(what) = self.misfit(&case, lengths, seed) {
+                return Some(format!("{what}, {lengths:?}, {}", case.to_line()));
+            }
+        }
+        None
+    }
+
+    fn fill(&mut self, lengths: Lengths, out_length: usize, seed: u64) {
+        let Garbage { words, bytes } = &self.garbage[(seed % 4) as usize];
+        fill(&mut self.work.tokens, lengths.tokens, words);
+        fill(&mut self.work.code, lengths.code, words);
+        fill(&mut self.work.words, lengths.words, words);
+        fill(&mut self.work.texts, lengths.texts, bytes);
+        fill(&mut self.out, out_length + BEHIND, bytes);
+    }
+
+    fn is_zero(&self) -> bool {
+        let zeros = &self.garbage[0];
+        self.holds(zeros)
+    }
+
+    fn is_kept(&self, seed: u64) -> bool {
+        self.holds(&self.garbage[(seed % 4) as usize])
+    }
+
+    fn holds(&self, garbage: &Garbage) -> bool {
+        is_kept(&self.work.tokens, 0, &garbage.words)
+            && is_kept(&self.work.code, 0, &garbage.words)
+            && is_kept(&self.work.words, 0, &garbage.words)
+            && is_kept(&self.work.texts, 0, &garbage.bytes)
+    }
+}
+
+/// Calls the library.
+pub fn library(case: &Case, work: &mut Work, out: &mut [u8]) -> Numbers {
+    let Case {
+        operation,
+        width,
+        height,
+        grants,
+        program,
+        ..
+    } = case;
+    match operation {
+        Operation::Check => check(program, &mut work.tokens, &mut work.code),
+        Operation::Measure => measure(program, *width, *height, *grants, work),
+        Operation::Draw => draw(program, *width, *height, *grants, work, out),
+    }
+}
+
+/// The calls around a case, each with the lengths of its work slices.
+fn around(case: &Case, seed: u64) -> Vec<(Case, Lengths)> {
+    let own = Lengths::needed(case.grants);
+    let longer = (seed % 5) as usize * 7;
+    let mut all = vec![(case.clone(), own.longer(longer))];
+    if let Some(short) = own.shorter(seed / 4 % 4) {
+        all.push((case.clone(), short));
+    }
+    let specified = run_specified(
+        case.operation,
+        &case.program,
+        case.width,
+        case.height,
+        TAKINGS,
+    );
+    let End::Answer(end) = &specified.end else {
+        return all;
+    };
+    let exact = totals(&specified.takings);
+    let mut add = |grants: Grants, out_length: u64| {
+        let call = Case {
+            grants,
+            out_length,
+            ..case.clone()
+        };
+        all.push((call, Lengths::needed(grants)));
+    };
+    // Of drawing, the picture's length.
+    let need = match end {
+        Answer::Picture { length, .. } if case.operation == Operation::Draw => Some(*length),
+        _ => None,
+    };
+    let out_length = need.unwrap_or(case.out_length);
+    add(exact, out_length);
+    for few in one_less(exact) {
+        add(few, out_length);
+    }
+    if let Some(need) = need {
+        for out_length in [0, need - 1, need, need + 1, need + 2 + seed % 1_000] {
+            add(case.grants, out_length);
+        }
+    }
+    all
+}
+
+/// The same grants with one less of one kind, for each kind that has one.
+pub fn one_less(grants: Grants) -> Vec<Grants> {
+    let mut all = Vec::new();
+    for kind in 0..4 {
+        let mut few = grants;
+        let count = match kind {
+            0 => &mut few.steps,
+            1 => &mut few.shapes,
+            2 => &mut few.entries,
+            _ => &mut few.text_bytes,
+        };
+        if *count > 0 {
+            *count -= 1;
+            all.push(few);
+        }
+    }
+    all
 }

@@ -109,7 +109,7 @@ fn side(random: &mut Random) -> i32 {
 }
 
 /// How much the takings of a list add up to.
-fn totals(takings: &[(Taking, usize)]) -> Grants {
+pub fn totals(takings: &[(Taking, usize)]) -> Grants {
     let mut totals = Grants::NONE;
     for (taking, _) in takings {
         match taking {

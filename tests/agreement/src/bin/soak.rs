@@ -1,22 +1,53 @@
-//! Compares checking on many generated programs: `soak FIRST COUNT`. Prints how many were compared and how many differ.
+//! Compares one operation on many generated cases: `soak [checking|measuring|drawing] FIRST COUNT`, checking if none is named. Prints how many cases were
+//! compared, in how many calls, and how many differ.
 
-use agreement::compare::misfit;
+use agreement::compare::{misfit, Lender};
 use generator::case::any_program;
 use generator::random::Random;
+use generator::Case;
+use reference::Operation;
 
 fn main() {
-    let mut words = std::env::args()
-        .skip(1)
-        .map(|w| w.parse::<u64>().expect("a number"));
-    let first = words.next().unwrap_or(0);
-    let count = words.next().unwrap_or(1_000_000);
+    let mut words = std::env::args().skip(1).peekable();
+    let operation = words.next_if(|word| word.parse::<u64>().is_err());
+    let mut number = |instead| {
+        words
+            .next()
+            .map_or(instead, |word| word.parse::<u64>().expect("a number"))
+    };
+    let first = number(0);
+    let count = number(1_000_000);
+    let mut lender = Lender::default();
+    let mut compare: Box<dyn FnMut(u64) -> Option<String>> = match operation.as_deref() {
+        None | Some("checking") => {
+            Box::new(|seed| misfit(&any_program(&mut Random::new(seed)), seed))
+        }
+        Some("measuring") => Box::new(|seed| {
+            let case = Case {
+                operation: Operation::Measure,
+                ..generator::case(seed)
+            };
+            lender.misfit_around(&case, seed)
+        }),
+        Some("drawing") => Box::new(|seed| {
+            let case = Case {
+                operation: Operation::Draw,
+                ..generator::case(seed)
+            };
+            lender.misfit_around(&case, seed)
+        }),
+        Some(other) => panic!("no operation {other}"),
+    };
     let mut different = 0;
     for seed in first..first + count {
-        let program = any_program(&mut Random::new(seed));
-        if let Some(what) = misfit(&program, seed) {
+        if let Some(what) = compare(seed) {
             different += 1;
             println!("seed {seed}: {what}");
         }
     }
-    println!("{count} compared, {different} different");
+    drop(compare);
+    match lender.calls() {
+        0 => println!("{count} compared, {different} different"),
+        calls => println!("{count} compared in {calls} calls, {different} different"),
+    }
 }

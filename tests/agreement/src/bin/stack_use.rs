@@ -1,0 +1,176 @@
+//! How much stack a level of nesting takes, by what nests. Each call runs on a thread whose stack was filled with a pattern; the deepest byte that lost the
+//! pattern tells what was used. Prints a table, in bytes.
+
+use agreement::compare::{library, Lengths};
+use agreement::Work;
+use generator::Case;
+use reference::sheet::GRANTS;
+use reference::Operation;
+use std::alloc::{alloc, dealloc, Layout};
+use std::ffi::c_void;
+
+const STACK: usize = 4 << 20;
+const PATTERN: u8 = 0xa5;
+const CALLS: usize = 64;
+
+/// Large enough for what the C library keeps there.
+#[repr(C, align(16))]
+struct Attributes([u8; 128]);
+
+extern "C" {
+    fn pthread_attr_init(attributes: *mut Attributes) -> i32;
+    fn pthread_attr_setstack(attributes: *mut Attributes, stack: *mut c_void, size: usize) -> i32;
+    fn pthread_attr_destroy(attributes: *mut Attributes) -> i32;
+    fn pthread_create(
+        thread: *mut usize,
+        attributes: *const Attributes,
+        start: extern "C" fn(*mut c_void) -> *mut c_void,
+        argument: *mut c_void,
+    ) -> i32;
+    fn pthread_join(thread: usize, result: *mut *mut c_void) -> i32;
+}
+
+/// A call, its slices and what it answered.
+struct Run {
+    case: Case,
+    work: Work,
+    number: u64,
+}
+
+extern "C" fn start(run: *mut c_void) -> *mut c_void {
+    // The thread that made it waits until this one is done.
+    let run = unsafe { &mut *(run as *mut Run) };
+    run.number = library(&run.case, &mut run.work, &mut []).number;
+    std::ptr::null_mut()
+}
+
+/// The number that a call answers and the stack that it uses.
+fn used(operation: Operation, program: &str) -> (u64, usize) {
+    let lengths = Lengths::needed(GRANTS);
+    let mut run = Run {
+        case: Case {
+            operation,
+            width: 20,
+            height: 20,
+            grants: GRANTS,
+            out_length: 0,
+            program: program.as_bytes().to_vec(),
+        },
+        work: Work {
+            tokens: vec![0; lengths.tokens],
+            code: vec![0; lengths.code],
+            words: vec![0; lengths.words],
+            texts: vec![0; lengths.texts],
+        },
+        number: 0,
+    };
+    let layout = Layout::from_size_align(STACK, 4096).expect("a layout");
+    // The stack is this thread's until the other one starts and again once it is joined.
+    let untouched = unsafe {
+        let stack = alloc(layout);
+        assert!(!stack.is_null(), "no memory");
+        stack.write_bytes(PATTERN, STACK);
+        let mut attributes = Attributes([0; 128]);
+        let mut thread = 0;
+        let argument = (&mut run as *mut Run).cast();
+        let mut failed = pthread_attr_init(&mut attributes);
+        failed |= pthread_attr_setstack(&mut attributes, stack.cast(), STACK);
+        failed |= pthread_create(&mut thread, &attributes, start, argument);
+        assert_eq!(failed, 0, "no thread");
+        pthread_join(thread, std::ptr::null_mut());
+        pthread_attr_destroy(&mut attributes);
+        let bytes = std::slice::from_raw_parts(stack, STACK);
+        let untouched = bytes.iter().take_while(|byte| **byte == PATTERN).count();
+        dealloc(stack, layout);
+        untouched
+    };
+    (run.number, STACK - untouched)
+}
+
+/// What nests: its name, what opens its levels, what stands before and behind the inside, what closes them, and how many levels it opens.
+struct Nest {
+    name: &'static str,
+    open: &'static str,
+    before: &'static str,
+    behind: &'static str,
+    close: &'static str,
+    levels: usize,
+}
+
+const fn expression(name: &'static str, open: &'static str, close: &'static str) -> Nest {
+    Nest {
+        name,
+        open,
+        before: "",
+        behind: "",
+        close,
+        levels: 1,
+    }
+}
+
+const fn statement(name: &'static str, open: &'static str, close: &'static str) -> Nest {
+    Nest {
+        name,
+        open,
+        before: "return ",
+        behind: ";",
+        close,
+        levels: 1 + close.len(),
+    }
+}
+
+const NESTS: [Nest; 14] = [
+    expression("`(…)`", "(", ")"),
+    expression("`[…]`", "[", "]"),
+    expression("`f(…)`", "f(", ")"),
+    expression("`1+(…)`", "1+(", ")"),
+    expression("`(…)+1`", "(", "+1)"),
+    expression("`t.(…)`", "w.(", ")"),
+    expression("`1+t.(…)`", "1+w.(", ")"),
+    expression("`1+t.[…]`", "1+w.[", "]"),
+    expression("`1+t.f(…)`", "1+w.f(", ")"),
+    Nest {
+        levels: 1,
+        ..statement("`{…}`", "{", "}")
+    },
+    statement("`if(true)…`", "if(true)", ""),
+    statement("`while(true)…`", "while(true)", ""),
+    statement("`if(true){…}`", "if(true){", "}"),
+    statement("`while(true){…}`", "while(true){", "}"),
+];
+
+/// A program whose main nests so many levels around an inside, which is an expression.
+fn program(nest: &Nest, levels: usize, inside: &str) -> String {
+    let times = levels / nest.levels;
+    let (open, close) = (nest.open.repeat(times), nest.close.repeat(times));
+    let whole = format!("{open}{}{inside}{}{close}", nest.before, nest.behind);
+    let end = if nest.behind.is_empty() { ";" } else { "" };
+    format!("def main(w,h){{w=[0];{whole}{end}}}")
+}
+
+/// What a level adds, between so few and so many of them around the same inside.
+fn share(operation: Operation, nest: &Nest, few: usize, many: usize, inside: &str) -> f64 {
+    let (_, shallow) = used(operation, &program(nest, few, inside));
+    let (number, deep) = used(operation, &program(nest, many, inside));
+    assert!(matches!(number, 0 | 20), "{} is {number}", nest.name);
+    (deep - shallow) as f64 / (many - few) as f64
+}
+
+fn main() {
+    println!("| nested | reading, a level | running, a level | measuring, 64 levels | running, 64 × {CALLS} levels |");
+    println!("|---|---|---|---|---|");
+    // Deep enough that running it takes more than reading it, so that what is around it shows.
+    let deep = format!("({}1{})", "1+w.f(".repeat(32), ")".repeat(32));
+    for nest in &NESTS {
+        let reading = share(Operation::Check, nest, 4, 64, "1");
+        let running = share(Operation::Measure, nest, 2, 18, &deep);
+        let (_, whole) = used(Operation::Measure, &program(nest, 64, "1"));
+        let all = running * (64 * CALLS) as f64 / 1e6;
+        println!(
+            "| {} | {reading:.0} | {running:.0} | {whole} | {all:.1} MB |",
+            nest.name
+        );
+    }
+    let (_, least) = used(Operation::Measure, "def main(w,h){1;}");
+    println!("\nA program without nesting uses {least}, the thread's own share among it.");
+}
