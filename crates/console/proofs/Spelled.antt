@@ -13,6 +13,7 @@ use Rattle.meaning.specs.Basics.{if_then_else_}
 use Rattle.meaning.specs.Picture.{digitsWithin, digitsOf}
 use Rattle.io.specs.Digits.{digits, glyph, Fewest}
 use Rattle.picture.proofs.Decimals.{tens-positive}
+use Rattle.picture.proofs.Laying.{then as joined}
 use Rattle.picture.specs.Placed.{WroteAt}
 use Rattle.console.specs.Numbers.{NumberAt}
 
@@ -60,10 +61,11 @@ few n k h (l, u, f) (yes p) =
     let g = f (omega arith) in
     absurd (omega (arith, pow-le-pow-right {n = 10} (omega arith) {i = 20} {j = k - 1} (omega arith)))
 
--- the digits were written as they stand in front of a text
-pub number-written : (n k : ℕ) {at next : ℕ} {front before after : List ℕ} → Fewest 10 1 n k → front ≡ digits 10 k n → n < 2 ^ 64
-    → WroteAt at front before after next → NumberAt at n before after next
-number-written n k f e h w =
+-- the lead was written, and behind it the digits that stand in front of a text
+pub number-written : (n k : ℕ) {at next last : ℕ} {lead front before between after : List ℕ} → n < 2 ^ 64 → Fewest 10 1 n k
+    → front ≡ digits 10 k n → length before < 2 ^ 64 → WroteAt at lead before between next → WroteAt next front between after last
+    → NumberAt at lead n before after last
+number-written n k h f e d v w =
     let q = e ∙ spelled k n f in
     let l = few n k h f (decLt 20 k) in
-    record { wrote = rw q at w; short = omega (arith, ap (λ (b : List ℕ). length b) (spelled k n f), length-digits k n) }
+    record { wrote = joined d v (rw q at w); short = omega (arith, ap (λ (b : List ℕ). length b) (spelled k n f), length-digits k n) }
