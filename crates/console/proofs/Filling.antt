@@ -21,8 +21,13 @@ fill-none d = record { within = omega arith; kept = refl }
 pub fill-end : (d₀ d : List ℕ) (n : ℕ) → Full d₀ d n → Within d (Bytes n)
 fill-end d₀ d n g = (g .within, simp length-take (omega (arith, g .within)))
 
-counted : (last : List ℕ) (r : Filled) (k : ℕ) → Within last r → r ≡ Bytes k → k ≤ length last
-counted last r k w e = (rw e at w) .0
+-- the bytes that were read
+module _ (xs : List ℕ) (r : Filled) (k : ℕ) (w : Within xs r) (e : r ≡ Bytes k) where
+  pub filled-fits : k ≤ length xs
+  filled-fits = (rw e at w) .0
+
+  pub filled-counts : k ≡ length (take k xs)
+  filled-counts = (rw e at w) .1
 
 -- the rest of d was lent to a read, which brought k bytes
 module _ (d₀ d : List ℕ) (n : ℕ) (g : Full d₀ d n) (last : List ℕ)
@@ -36,6 +41,6 @@ module _ (d₀ d : List ℕ) (n : ℕ) (g : Full d₀ d n) (last : List ℕ)
   pub fill-more : (r : Filled) (k : ℕ) → Within last r → r ≡ Bytes k → length last ≡ length (midOf n (length d - n) d)
       → Full d₀ (putMid n (length d - n) d last) (n + k)
   fill-more r k w e l =
-      let h = counted last r k w e in
+      let h = filled-fits last r k w e in
       let m : length (midOf n (length d - n) d) ≤ length d - n = simp (length-take, length-drop) (omega arith) in
       record { within = omega (arith, g .within); kept = fill-same }

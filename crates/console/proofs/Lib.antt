@@ -1,2 +1,3 @@
-mod Filling
+pub mod Filling
+pub mod Spans
 pub mod Spelled
