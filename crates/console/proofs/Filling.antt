@@ -1,13 +1,13 @@
 -- Reading into the rest of a slice, turn by turn.
 -- Assumes nothing.
-use Prim.Native.Nat.{ℕ, _+_, _-_, _≤_, _<_}
-use mathlib.Core.Path.{_≡_, refl, sym, ap}
+use Prim.Native.Nat.{ℕ, _+_, _-_, _≤_}
+use mathlib.Core.Path.{_≡_, refl}
 use mathlib.Core.List.{List}
 use native.Mathlib.Omega.{arith}
 use borrow.Rule.Slice.PartMut.{midOf, putMid}
-use lib.ListN.{length, take, drop, length-take, length-drop}
+use lib.ListN.{length, take, length-take, length-drop}
 use Rattle.console.specs.declared.input.Filled.{Filled}
-use Rattle.console.specs.declared.input.Filled.the-variants.{Bytes, Failed}
+use Rattle.console.specs.declared.input.Filled.the-variants.{Bytes}
 use Rattle.console.specs.Filling.{Within}
 
 -- n bytes were read into d, which is as long as it was

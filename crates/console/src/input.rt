@@ -44,8 +44,8 @@ fn skip_some() -> bool {
     libc::read(0, &mut bytes) > 0
 }
 
-// Reads what is left of the input and forgets it, so that the program that writes it can end as it would have. It gives up after 65,536 reads, 4 GiB
-// at most, since the input may have no end.
+// Reads what is left of the input and forgets it, so that whoever writes it can write it all. It stops after 65,536 reads, 4 GiB at most, since the
+// input may have no end.
 pub fn skip() {
     let mut turns: u64 = 65536;
     while turns > 0 {

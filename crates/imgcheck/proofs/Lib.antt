@@ -1,4 +1,2 @@
-mod Placing
-mod Marking
-mod Wording
 mod Reporting
+pub mod Enough

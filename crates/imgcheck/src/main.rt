@@ -1,18 +1,32 @@
 // Says whether the program on standard input is well formed, and where it is not.
-mod answer;
-mod excerpt;
-mod heading;
-mod place;
-mod report;
-mod sentence;
-
+use answers::Answer;
 use console::Filled;
+ghost use mathlib.Core.Path.{_≡_};
+ghost use Rattle.answers.specs.Answers.{meant};
+ghost use Rattle.checking.specs.Checking.{readAnswer};
+ghost use Rattle.imgcheck.specs.Reports.{Reported};
 
-// Writes what there is to say about a program.
+// Checking with work slices of its own.
+fn answer(program: &[u8]) -> Answer
+    ensures { λ r. ⌜ meant r ≡ readAnswer (now (program .entry)) ⌝ }
+{
+    let mut tokens = [0u64; 8193];
+    let mut code = [0u64; 16384];
+    checking::check(program, &mut tokens, &mut code)
+}
+
+// Writes all that is printed about a program, and how many bytes that is.
+fn checked_report(program: &[u8], out: &mut [u8]) -> usize
+    ensures { λ r. ⌜ Reported (now (program .entry)) (now (out .entry)) (now (out .exit)) r ⌝ }
+{
+    let r = answer(program);
+    report::write_report(out, program, r)
+}
+
 fn print_report(program: &[u8]) {
     let mut text = [0u8; 512];
-    let n = report::report(program, &mut text);
-    io::write_all(1, &text[..n]);
+    let n = checked_report(program, &mut text);
+    console::print(&text[..n]);
 }
 
 // One byte more than a program may have is enough to say that it has too many.
@@ -26,8 +40,6 @@ fn main() {
                 console::skip();
             }
         }
-        Filled::Failed => {
-            io::write_all(2, b"imgcheck: standard input cannot be read\n");
-        }
+        Filled::Failed => console::say_unread(),
     }
 }

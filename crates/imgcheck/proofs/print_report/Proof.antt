@@ -6,20 +6,20 @@ use lib.ListN.{length-take}
 use Rattle.imgcheck.proofs.print_report.Statement.{statement}
 use Rattle.imgcheck.proofs.print_report.Tie as tie
 
-slice-aggregate-report : tie.Need-slice-aggregate-report
-slice-aggregate-report c = search needs
+slice-aggregate-checked-report : tie.Need-slice-aggregate-checked-report
+slice-aggregate-checked-report c = search needs
 
-report-requires : tie.Need-report-requires
-report-requires c κs = search needs
+checked-report-requires : tie.Need-checked-report-requires
+checked-report-requires c κs = search needs
 
 array-share-prefix-text : tie.Need-array-share-prefix-text
 array-share-prefix-text c = search needs
 
-slice-aggregate-write-all : tie.Need-slice-aggregate-write-all
-slice-aggregate-write-all c = simp length-take (omega (arith, c .before .before .report .ensures .short))
+slice-aggregate-print : tie.Need-slice-aggregate-print
+slice-aggregate-print c = simp length-take (omega (arith, c .before .before .checked-report .ensures .short))
 
-write-all-requires : tie.Need-write-all-requires
-write-all-requires c κs = search needs
+print-requires : tie.Need-print-requires
+print-requires c κs = search needs
 
 returns : tie.Need-returns
 returns c = search needs
@@ -28,9 +28,9 @@ pub print-report-spec : {M : Type 1} → statement M
 print-report-spec =
     tie.close
     (tie.spec
-    slice-aggregate-report
-    report-requires
+    slice-aggregate-checked-report
+    checked-report-requires
     array-share-prefix-text
-    slice-aggregate-write-all
-    write-all-requires
+    slice-aggregate-print
+    print-requires
     returns)
