@@ -1,0 +1,4 @@
+mod Digits
+pub mod Fields
+mod Errors
+mod Examples
