@@ -53,23 +53,29 @@ module _ (s : List ℕ) (n : ℕ) (c : n ≡ span isDigit s) where
 -- what is known of a number that was found
 pub record Found (s : List ℕ) (v n : ℕ) : Type 0 where
   pub small : v ≤ 2147483647
+  pub few : n ≤ 10
   pub within : n ≤ length s
 
 field-found : (s : List ℕ) (v n : ℕ) → fieldOf s ≡ Digits v n → Found s v n
 unfolding fieldOf fieldWith if_then_else_
-field-found s v n = by (leb 1 m && leb m 10) (leb (numeral (take m s)) 2147483647) refl
+field-found s v n = by (leb 1 m) (leb m 10) (leb (numeral (take m s)) 2147483647) refl refl
   where
     m : ℕ
     m = span isDigit s
 
-    by : (a b : Bool) → leb (numeral (take m s)) 2147483647 ≡ b
-        → (if (a && b) then (λ _. Digits (numeral (take m s)) m) else λ _. Unfit) ≡ Digits v n → Found s v n
-    by true true k e =
+    by : (a b c : Bool) → leb m 10 ≡ b → leb (numeral (take m s)) 2147483647 ≡ c
+        → (if (a && b && c) then (λ _. Digits (numeral (take m s)) m) else λ _. Unfit) ≡ Digits v n → Found s v n
+    by true true true l k e =
         let x : numeral (take m s) ≡ v = cc in
         let y : m ≡ n = cc in
-        record { small = omega (arith, leb-true (numeral (take m s)) 2147483647 k); within = omega (arith, span-le isDigit s) }
-    by true false k e = let z : _≡_ {A = ℕ} 0 1 = cc in absurd (omega arith)
-    by false b k e = let z : _≡_ {A = ℕ} 0 1 = cc in absurd (omega arith)
+        record {
+          small = omega (arith, leb-true (numeral (take m s)) 2147483647 k);
+          few = omega (arith, leb-true m 10 l);
+          within = omega (arith, span-le isDigit s);
+        }
+    by true true false l k e = let z : _≡_ {A = ℕ} 0 1 = cc in absurd (omega arith)
+    by true false c l k e = let z : _≡_ {A = ℕ} 0 1 = cc in absurd (omega arith)
+    by false b c l k e = let z : _≡_ {A = ℕ} 0 1 = cc in absurd (omega arith)
 
 pub found : (s : List ℕ) (f : Field) (v n : ℕ) → f ≡ fieldOf s → f ≡ Digits v n → Found s v n
 found s f v n e k = field-found s v n (sym e ∙ k)
@@ -131,33 +137,39 @@ module _ (s : List ℕ) (f : Field) (g : f ≡ fieldOf s) where
   unfolding withWidth
   width-behind w n r a q = q ∙ (rw a at width-is)
 
--- ---- the line ends within the input
-height-fits : (s : List ℕ) (v w end : ℕ) (x y : ℤ) (n : ℕ) → afterHeight s v w end ≡ Sized x y n → n ≤ length s
+-- ---- the line ends within the input, and has at most 22 bytes
+pub record Ends (s : List ℕ) (n : ℕ) : Type 0 where
+  pub within : n ≤ length s
+  pub few : n ≤ 22
+
+height-ends : (s : List ℕ) (v w end : ℕ) (x y : ℤ) (n : ℕ) → end ≤ 21 → afterHeight s v w end ≡ Sized x y n → Ends s n
 unfolding afterHeight if_then_else_
-height-fits s v w end x y n = by (eqb (getD s end 0) 10) refl
+height-ends s v w end x y n h = by (eqb (getD s end 0) 10) refl
   where
     by : (b : Bool) → eqb (getD s end 0) 10 ≡ b
-        → (if b then (λ _. Sized (pos v) (pos w) (end + 1)) else λ _. Unread) ≡ Sized x y n → n ≤ length s
+        → (if b then (λ _. Sized (pos v) (pos w) (end + 1)) else λ _. Unread) ≡ Sized x y n → Ends s n
     by true k e =
         let q : end + 1 ≡ n = cc in
         let t = eqb-true (getD s end 0) 10 k in
-        omega (arith, stands s end (getD s end 0) refl (omega arith))
+        record { within = omega (arith, stands s end (getD s end 0) refl (omega arith)); few = omega arith }
     by false k e = let z : _≡_ {A = ℕ} 0 1 = cc in absurd (omega arith)
 
-with-height-fits : (s : List ℕ) (v k : ℕ) (f : Field) (x y : ℤ) (n : ℕ) → withHeight s v k f ≡ Sized x y n → n ≤ length s
+with-height-ends : (s : List ℕ) (v k : ℕ) (f : Field) (x y : ℤ) (n : ℕ) → k ≤ 10 → f ≡ fieldOf (drop (k + 1) s)
+    → withHeight s v k f ≡ Sized x y n → Ends s n
 unfolding withHeight
-with-height-fits s v k (Digits w m) x y n e = height-fits s v w (k + 1 + m) x y n e
-with-height-fits s v k Unfit x y n e = let z : _≡_ {A = ℕ} 0 1 = cc in absurd (omega arith)
+with-height-ends s v k (Digits w m) x y n h g e =
+    height-ends s v w (k + 1 + m) x y n (omega (arith, found (drop (k + 1) s) (Digits w m) w m g refl .few)) e
+with-height-ends s v k Unfit x y n h g e = let z : _≡_ {A = ℕ} 0 1 = cc in absurd (omega arith)
 
-with-width-fits : (s : List ℕ) (f : Field) (x y : ℤ) (n : ℕ) → withWidth s f ≡ Sized x y n → n ≤ length s
+with-width-ends : (s : List ℕ) (f : Field) (x y : ℤ) (n : ℕ) → f ≡ fieldOf s → withWidth s f ≡ Sized x y n → Ends s n
 unfolding withWidth afterWidth if_then_else_
-with-width-fits s (Digits v k) x y n = by (eqb (getD s k 0) 32)
+with-width-ends s (Digits v k) x y n g = by (eqb (getD s k 0) 32)
   where
-    by : (b : Bool) → (if b then (λ _. withHeight s v k (fieldOf (drop (k + 1) s))) else λ _. Unread) ≡ Sized x y n → n ≤ length s
-    by true e = with-height-fits s v k (fieldOf (drop (k + 1) s)) x y n e
+    by : (b : Bool) → (if b then (λ _. withHeight s v k (fieldOf (drop (k + 1) s))) else λ _. Unread) ≡ Sized x y n → Ends s n
+    by true e = with-height-ends s v k (fieldOf (drop (k + 1) s)) x y n (found s (Digits v k) v k g refl .few) refl e
     by false e = let z : _≡_ {A = ℕ} 0 1 = cc in absurd (omega arith)
-with-width-fits s Unfit x y n = λ e. let z : _≡_ {A = ℕ} 0 1 = cc in absurd (omega arith)
+with-width-ends s Unfit x y n g = λ e. let z : _≡_ {A = ℕ} 0 1 = cc in absurd (omega arith)
 
-pub sheet-fits : (s : List ℕ) (r : Sheet) (x y : ℤ) (n : ℕ) → r ≡ sheetOf s → r ≡ Sized x y n → n ≤ length s
+pub sheet-ends : (s : List ℕ) (r : Sheet) (x y : ℤ) (n : ℕ) → r ≡ sheetOf s → r ≡ Sized x y n → Ends s n
 unfolding sheetOf
-sheet-fits s r x y n e k = with-width-fits s (fieldOf s) x y n (sym e ∙ k)
+sheet-ends s r x y n e k = with-width-ends s (fieldOf s) x y n refl (sym e ∙ k)
