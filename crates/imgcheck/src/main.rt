@@ -1,0 +1,45 @@
+// Says whether the program on standard input is well formed, and where it is not.
+use answers::Answer;
+use console::Filled;
+ghost use mathlib.Core.Path.{_≡_};
+ghost use Rattle.answers.specs.Answers.{meant};
+ghost use Rattle.checking.specs.Checking.{readAnswer};
+ghost use Rattle.imgcheck.specs.Reports.{Reported};
+
+// Checking with work slices of its own.
+fn answer(program: &[u8]) -> Answer
+    ensures { λ r. ⌜ meant r ≡ readAnswer (now (program .entry)) ⌝ }
+{
+    let mut tokens = [0u64; 8193];
+    let mut code = [0u64; 16384];
+    checking::check(program, &mut tokens, &mut code)
+}
+
+// Writes all that is printed about a program, and how many bytes that is.
+fn checked_report(program: &[u8], out: &mut [u8]) -> usize
+    ensures { λ r. ⌜ Reported (now (program .entry)) (now (out .entry)) (now (out .exit)) r ⌝ }
+{
+    let r = answer(program);
+    report::write_report(out, program, r)
+}
+
+fn print_report(program: &[u8]) {
+    let mut text = [0u8; 512];
+    let n = checked_report(program, &mut text);
+    console::print(&text[..n]);
+}
+
+// One byte more than a program may have is enough to say that it has too many.
+fn main() {
+    let mut bytes = [0u8; 32769];
+    let filled = console::fill(&mut bytes);
+    match filled {
+        Filled::Bytes(n) => {
+            print_report(&bytes[..n]);
+            if n == 32769 {
+                console::skip();
+            }
+        }
+        Filled::Failed => console::say_unread(),
+    }
+}

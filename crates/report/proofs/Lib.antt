@@ -1,0 +1,4 @@
+mod Placing
+mod Marking
+mod Wording
+mod Reporting

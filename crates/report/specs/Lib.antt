@@ -1,0 +1,4 @@
+pub mod Positions
+pub mod Excerpts
+pub mod Sentences
+pub mod Reports

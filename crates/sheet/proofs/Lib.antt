@@ -1,0 +1,5 @@
+mod Digits
+pub mod Fields
+pub mod Cuts
+mod Errors
+mod Examples
