@@ -1,0 +1,3 @@
+mod Fronts
+mod Whole
+pub mod Enough

@@ -1,0 +1,41 @@
+-- From what drawing promises to all that is printed: for the contracts of `draw_program` and `draw` once drawing has one.
+-- Assumes nothing.
+use Prim.Native.Nat.{ℕ, _-_, _≤_}
+use mathlib.Core.List.{List}
+use mathlib.Core.Path.{_≡_, _∙_, sym}
+use native.Mathlib.Omega.{arith}
+use lib.IntN.{ℤ}
+use lib.ListN.{length, take, drop, length-drop}
+use lib.Seq.{take-all}
+use mir.Syntax.{w32}
+use mir.Val.{SFits, toZ, ofZ}
+use mir.ValLaws.{toZ-ofZ}
+use Rattle.meaning.specs.Call.{Call, answer, outAfter}
+use Rattle.answers.specs.declared.Answer as Declared
+use Rattle.answers.specs.Answers.{meant}
+use Rattle.sheet.specs.declared.line.Sheet.{Sheet}
+use Rattle.sheet.specs.declared.line.Sheet.the-variants.{Sized, Unread}
+use Rattle.sheet.specs.Errors.{ErrorWritten}
+use Rattle.sheet.specs.Lines.{sheetOf}
+use Rattle.imgdraw.specs.Printed.{callOf, textOf, drawnText, printedOn, printedOf, Front}
+use Rattle.imgdraw.proofs.Fronts.{error-line}
+
+-- the answer and the out slice are those of the call
+pub drawn-front : (c : Call) (a : Declared.Answer) {out after : List ℕ} {r : ℕ} → meant a ≡ answer c → out ≡ outAfter c
+    → Front (textOf (meant a) out) after r → Front (drawnText c) after r
+unfolding drawnText
+drawn-front c a e o f = rw (e, o) at f
+
+module _ (input out : List ℕ) (s : Sheet) (e : s ≡ sheetOf input) {after : List ℕ} {r : ℕ} where
+  pub whole-unread : s ≡ Unread → 64 ≤ length out → ErrorWritten 72 0 out after r → Front (printedOf input out) after r
+  unfolding printedOf printedOn
+  whole-unread k h w = rw (sym e ∙ k) (error-line 72 0 r out after h w)
+
+  -- a call hands a signed number on as its bits, and the program as a part of the input
+  pub whole-drawn : (x y : ℤ) (n : ℕ) → s ≡ Sized x y n → SFits w32 x → SFits w32 y
+      → Front (drawnText (callOf (take (length input - n) (drop n input)) (toZ w32 (ofZ w32 x)) (toZ w32 (ofZ w32 y)) out)) after r
+      → Front (printedOf input out) after r
+  unfolding printedOf printedOn
+  whole-drawn x y n k fx fy f =
+      let rest : take (length input - n) (drop n input) ≡ drop n input = take-all (length input - n) (drop n input) (omega (arith, length-drop n input)) in
+      rw (sym e ∙ k) (rw (rest, toZ-ofZ w32 x fx, toZ-ofZ w32 y fy) at f)

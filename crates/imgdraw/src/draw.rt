@@ -1,0 +1,61 @@
+// What is printed for an input.
+use answers::Answer;
+use sheet::Sheet;
+ghost use Prim.Native.Nat.{_≤_, min};
+ghost use mathlib.Core.Path.{_≡_};
+ghost use lib.ListN.{length};
+ghost use Rattle.answers.specs.Answers.{meant};
+ghost use Rattle.imgdraw.specs.Printed.{Front, Printed, textOf};
+
+fn least(m: usize, n: usize) -> usize
+    ensures { λ r. ⌜ r ≡ min m n ⌝ }
+{
+    if m < n { m } else { n }
+}
+
+// The text of an answer, in the front of `out`: a picture stands there already, and the line of an error is put there. Says how many bytes it has.
+fn put_answer(answer: Answer, out: &mut [u8]) -> usize
+    requires { ⌜ 64 ≤ length (now out) ⌝ }
+    ensures { λ r. ⌜ Front (textOf (meant answer) (now (out .entry))) (now (out .exit)) r ⌝ }
+{
+    match answer {
+        Answer::Picture(n, _) => least(n as usize, out.len()),
+        Answer::Number(number, place, _, _) => sheet::write_error(out, number, place),
+    }
+}
+
+// Draws with the counts that every drawing is granted, and work slices that are long enough for them.
+fn draw_program(program: &[u8], width: i32, height: i32, out: &mut [u8]) -> usize
+    requires { ⌜ 64 ≤ length (now out) ⌝ }
+    ensures { λ r. ⌜ r ≤ length (now (out .exit)) ⌝ }
+{
+    let grants = [1000000u64, 1024, 1024, 16384];
+    let mut tokens = [0u64; 8193];
+    let mut code = [0u64; 16384];
+    let mut words = [0u64; 31752];
+    let mut texts = [0u8; 16384];
+    let answer = drawing::draw(
+        program,
+        width,
+        height,
+        &grants,
+        &mut tokens,
+        &mut code,
+        &mut words,
+        &mut texts,
+        out,
+    );
+    put_answer(answer, out)
+}
+
+// Puts the picture or the line of an error into the front of `out`, and says how many bytes that is.
+pub fn draw(input: &[u8], out: &mut [u8]) -> usize
+    requires { ⌜ 64 ≤ length (now out) ⌝ }
+    ensures { λ r. ⌜ Printed (now (input .entry)) (now (out .exit)) r ⌝ }
+{
+    let s = sheet::read_sheet(input);
+    match s {
+        Sheet::Unread => sheet::write_error(out, 72, 0),
+        Sheet::Sized(width, height, n) => draw_program(&input[n..], width, height, out),
+    }
+}
