@@ -1,6 +1,5 @@
 // Says whether the program on standard input is well formed, and where it is not.
 use answers::Answer;
-use console::Filled;
 ghost use mathlib.Core.Path.{_≡_};
 ghost use Rattle.answers.specs.Answers.{meant};
 ghost use Rattle.checking.specs.Checking.{readAnswer};
@@ -26,20 +25,40 @@ fn checked_report(program: &[u8], out: &mut [u8]) -> usize
 fn print_report(program: &[u8]) {
     let mut text = [0u8; 512];
     let n = checked_report(program, &mut text);
-    console::print(&text[..n]);
+    print(&text[..n]);
+}
+
+// Prints a text, and says on standard error if that cannot be done.
+fn print(text: &[u8]) {
+    if !io::write_all(1, text) {
+        io::write_all(2, b"standard output cannot be written\n");
+    }
+}
+
+// Whether a read brought anything.
+fn skip_some() -> bool {
+    let mut bytes = io::large_buffer();
+    io::read_full(0, &mut bytes) > 0
+}
+
+// Reads what is left of the input and forgets it, so that whoever writes it can write it all. It stops after 65,536 reads, 4 GiB at most, since the
+// input may have no end.
+fn skip_rest() {
+    let mut turns: u64 = 65536;
+    while turns > 0 {
+        if !skip_some() {
+            return;
+        }
+        turns -= 1;
+    }
 }
 
 // One byte more than a program may have is enough to say that it has too many.
 fn main() {
     let mut bytes = [0u8; 32769];
-    let filled = console::fill(&mut bytes);
-    match filled {
-        Filled::Bytes(n) => {
-            print_report(&bytes[..n]);
-            if n == 32769 {
-                console::skip();
-            }
-        }
-        Filled::Failed => console::say_unread(),
+    let n = io::read_full(0, &mut bytes);
+    print_report(&bytes[..n]);
+    if n == 32769 {
+        skip_rest();
     }
 }

@@ -5,7 +5,6 @@ use mathlib.Core.List.{List}
 use mathlib.Core.Path.{_≡_, _∙_, sym}
 use native.Mathlib.Decide.{decLe}
 use native.Mathlib.Omega.{arith}
-use lib.IntN.{ℤ}
 use lib.ListN.{length, take}
 use lib.Seq.{take-all}
 use Rattle.meaning.proofs.Pictures.{laid-front}
@@ -14,10 +13,7 @@ use Rattle.answers.specs.declared.Answer.the-variants.{Picture, Number}
 use Rattle.answers.specs.Answers.{meant}
 use Rattle.picture.proofs.Laying.{length-over}
 use Rattle.sheet.specs.Errors.{errorLine, ErrorWritten}
-use Rattle.sheet.specs.declared.line.Sheet.{Sheet}
-use Rattle.sheet.specs.declared.line.Sheet.the-variants.{Sized}
-use Rattle.sheet.specs.Lines.{sheetOf}
-use Rattle.imgdraw.specs.Printed.{Front, Printed, textOf}
+use Rattle.imgdraw.specs.Printed.{Front, textOf}
 
 -- no more is taken than there is
 take-least : (n : ℕ) (xs : List ℕ) → take (min n (length xs)) xs ≡ take n xs
@@ -46,11 +42,3 @@ module _ (a : Declared.Answer) (out : List ℕ) where
       → Front (textOf (meant a) out) after r
   unfolding textOf meant
   error-front n place s l r after e h w = rw e (error-line n place r out after h w)
-
--- ---- by the first line
-module _ (input : List ℕ) (s : Sheet) (e : s ≡ sheetOf input) (r : ℕ) (after : List ℕ) where
-  pub print-unread : (out : List ℕ) → 64 ≤ length out → ErrorWritten 72 0 out after r → Printed input after r
-  print-unread out h w = let f = error-line 72 0 r out after h w in record { unread = λ u. f; fits = f .within }
-
-  pub print-drawn : (x y : ℤ) (n : ℕ) → s ≡ Sized x y n → r ≤ length after → Printed input after r
-  print-drawn x y n k h = record { unread = λ u. let z : _≡_ {A = ℕ} 0 1 = cc in absurd (omega arith); fits = h }

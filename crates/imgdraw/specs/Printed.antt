@@ -45,8 +45,3 @@ printedOf input out = printedOn input out (sheetOf input)
 pub record Front (text slice : List ℕ) (size : ℕ) : Type 0 where
   pub holds : take size slice ≡ text
   pub within : size ≤ length slice
-
--- What is promised of a whole input as long as drawing promises nothing: its first line decides 72.
-pub record Printed (input after : List ℕ) (size : ℕ) : Type 0 where
-  pub unread : sheetOf input ≡ Unread → Front (errorLine 72 0) after size
-  pub fits : size ≤ length after

@@ -5,7 +5,7 @@ ghost use Prim.Native.Nat.{_≤_, min};
 ghost use mathlib.Core.Path.{_≡_};
 ghost use lib.ListN.{length};
 ghost use Rattle.answers.specs.Answers.{meant};
-ghost use Rattle.imgdraw.specs.Printed.{Front, Printed, textOf};
+ghost use Rattle.imgdraw.specs.Printed.{Front, callOf, textOf, drawnText, printedOf};
 
 fn least(m: usize, n: usize) -> usize
     ensures { λ r. ⌜ r ≡ min m n ⌝ }
@@ -27,7 +27,7 @@ fn put_answer(answer: Answer, out: &mut [u8]) -> usize
 // Draws with the counts that every drawing is granted, and work slices that are long enough for them.
 fn draw_program(program: &[u8], width: i32, height: i32, out: &mut [u8]) -> usize
     requires { ⌜ 64 ≤ length (now out) ⌝ }
-    ensures { λ r. ⌜ r ≤ length (now (out .exit)) ⌝ }
+    ensures { λ r. ⌜ Front (drawnText (callOf (now (program .entry)) width height (now (out .entry)))) (now (out .exit)) r ⌝ }
 {
     let grants = [1000000u64, 1024, 1024, 16384];
     let mut tokens = [0u64; 8193];
@@ -51,7 +51,7 @@ fn draw_program(program: &[u8], width: i32, height: i32, out: &mut [u8]) -> usiz
 // Puts the picture or the line of an error into the front of `out`, and says how many bytes that is.
 pub fn draw(input: &[u8], out: &mut [u8]) -> usize
     requires { ⌜ 64 ≤ length (now out) ⌝ }
-    ensures { λ r. ⌜ Printed (now (input .entry)) (now (out .exit)) r ⌝ }
+    ensures { λ r. ⌜ Front (printedOf (now (input .entry)) (now (out .entry))) (now (out .exit)) r ⌝ }
 {
     let s = sheet::read_sheet(input);
     match s {

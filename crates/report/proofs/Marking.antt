@@ -14,7 +14,7 @@ use Rattle.meaning.specs.Basics.{bytes, span, laidOver}
 use Rattle.picture.specs.Placed.{laidAt, WroteAt}
 use Rattle.picture.proofs.Laying.{length-at, saturated-small}
 use Rattle.picture.proofs.Laying.{then as joined}
-use Rattle.console.proofs.Spans.{span-le}
+use Rattle.numerals.proofs.Spans.{span-le}
 use Rattle.report.specs.Excerpts.{glyphOf, glyphsOf, optional, inLine, shownLine, markLine, excerptOf, Around}
 
 -- ---- one byte

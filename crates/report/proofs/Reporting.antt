@@ -16,7 +16,7 @@ use Rattle.answers.specs.Answers.{meant}
 use Rattle.picture.specs.Placed.{Wrote, WroteAt}
 use Rattle.picture.proofs.Laying.{from-front}
 use Rattle.picture.proofs.Laying.{then as joined}
-use Rattle.console.specs.Numbers.{NumberAt}
+use Rattle.numerals.specs.Numbers.{NumberAt}
 use Rattle.report.specs.declared.place.Position.{Position}
 use Rattle.report.specs.Positions.{positionOf}
 use Rattle.report.specs.Excerpts.{optional, excerptOf, Around}

@@ -14,7 +14,7 @@ use lib.Seq.{drop-cons}
 use Rattle.meaning.specs.Basics.{span}
 use Rattle.meaning.specs.Byte.{isDigit}
 use Rattle.meaning.specs.Grammar.{numeral, numeralFrom}
-use Rattle.console.proofs.Spans.{Spanning, span-stop, span-over}
+use Rattle.numerals.proofs.Spans.{Spanning, span-stop, span-over}
 
 -- ---- one digit
 module _ (b : ℕ) where

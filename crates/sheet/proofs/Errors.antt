@@ -8,7 +8,7 @@ use Rattle.meaning.specs.Basics.{bytes}
 use Rattle.picture.specs.Placed.{WroteAt}
 use Rattle.picture.proofs.Laying.{from-front}
 use Rattle.picture.proofs.Laying.{then as joined}
-use Rattle.console.specs.Numbers.{NumberAt}
+use Rattle.numerals.specs.Numbers.{NumberAt}
 use Rattle.sheet.specs.Errors.{errorLine, ErrorWritten}
 
 pub error-written : (n place : ℕ) {p₁ p₂ r : ℕ} {d e₁ e₂ e₃ : List ℕ} → length d < 2 ^ 64 → NumberAt 0 (bytes "error ") n d e₁ p₁

@@ -17,7 +17,7 @@ use mir.ValLaws.{toZ-pos}
 use Rattle.meaning.specs.Basics.{if_then_else_, span}
 use Rattle.meaning.specs.Byte.{isDigit}
 use Rattle.meaning.specs.Grammar.{numeral}
-use Rattle.console.proofs.Spans.{span-le}
+use Rattle.numerals.proofs.Spans.{span-le}
 use Rattle.sheet.specs.declared.line.Field.{Field}
 use Rattle.sheet.specs.declared.line.Field.the-variants.{Digits, Unfit}
 use Rattle.sheet.specs.declared.line.Sheet.{Sheet}

@@ -16,7 +16,7 @@ array-share-prefix-out : tie.Need-array-share-prefix-out
 array-share-prefix-out c = search needs
 
 slice-aggregate-print : tie.Need-slice-aggregate-print
-slice-aggregate-print c = simp length-take (omega (arith, c .before .before .draw .ensures .fits))
+slice-aggregate-print c = simp length-take (omega (arith, c .before .before .draw .ensures .within))
 
 print-requires : tie.Need-print-requires
 print-requires c κs = search needs

@@ -3,7 +3,7 @@
 use Prim.Native.Nat.{_-_}
 use native.Mathlib.Omega.{arith}
 use lib.ListN.{length}
-use Rattle.console.proofs.Spans.{Spanning, span-none, span-more, span-stop, span-over}
+use Rattle.numerals.proofs.Spans.{Spanning, span-none, span-more, span-stop, span-over}
 use Rattle.report.specs.Excerpts.{inLine}
 use Rattle.report.proofs.Marking.{line-goes-on, line-ends}
 use Rattle.report.proofs.excerpt.line_rest.Statement.{statement}

@@ -7,7 +7,7 @@ use borrow.Author.Needs.{needs}
 use borrow.Author.Tests.{not-true, not-false}
 use lib.ListN.{length}
 use Rattle.meaning.specs.Byte.{isDigit}
-use Rattle.console.proofs.Spans.{Spanning, span-none, span-more}
+use Rattle.numerals.proofs.Spans.{Spanning, span-none, span-more}
 use Rattle.sheet.proofs.Digits.{count-stop, count-over}
 use Rattle.sheet.proofs.line.digit_count.Statement.{statement}
 use Rattle.sheet.proofs.line.digit_count.Tie as tie

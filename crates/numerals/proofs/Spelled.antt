@@ -15,7 +15,7 @@ use Rattle.io.specs.Digits.{digits, glyph, Fewest}
 use Rattle.picture.proofs.Decimals.{tens-positive}
 use Rattle.picture.proofs.Laying.{then as joined}
 use Rattle.picture.specs.Placed.{WroteAt}
-use Rattle.console.specs.Numbers.{NumberAt}
+use Rattle.numerals.specs.Numbers.{NumberAt}
 
 decimal-glyph : (d : ℕ) → d < 10 → glyph d ≡ d + 48
 decimal-glyph d h = rw (lt-ltb d 10 h) (omega arith)

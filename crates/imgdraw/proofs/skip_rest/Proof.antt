@@ -1,8 +1,8 @@
--- `console::input::skip` is safe and ends: the reads that are left are counted down.
+-- `imgdraw::skip_rest` is safe and ends: the reads that are left are counted down.
 -- Assumes nothing.
 use borrow.Author.Needs.{needs}
-use Rattle.console.proofs.input.skip.Statement.{statement}
-use Rattle.console.proofs.input.skip.Tie as tie
+use Rattle.imgdraw.proofs.skip_rest.Statement.{statement}
+use Rattle.imgdraw.proofs.skip_rest.Tie as tie
 
 abbrev Inv-loop : tie.InvT-loop
 Inv-loop turns₀ turns = Unit {0}
@@ -31,8 +31,8 @@ loop-again c = search needs
 returns-2 : tie.Need-returns-2 Inv-loop μ-loop
 returns-2 c = search needs
 
-pub skip-spec : {M : Type 1} → statement M
-skip-spec =
+pub skip-rest-spec : {M : Type 1} → statement M
+skip-rest-spec =
     tie.close
     (tie.spec
     Inv-loop

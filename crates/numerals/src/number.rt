@@ -1,5 +1,5 @@
 // Numbers as text.
-ghost use Rattle.console.specs.Numbers.{NumberAt};
+ghost use Rattle.numerals.specs.Numbers.{NumberAt};
 
 // A byte string and then a number in decimal, from a place on; the place behind them. What does not fit is left out.
 pub fn write_number_at(out: &mut [u8], at: usize, lead: &[u8], n: u64) -> usize

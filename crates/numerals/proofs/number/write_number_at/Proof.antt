@@ -1,10 +1,10 @@
--- `console::number::write_number_at` meets its contract: what `io::decimal` put in front of its text are the number's digits.
+-- `numerals::number::write_number_at` meets its contract: what `io::decimal` put in front of its text are the number's digits.
 -- Assumes nothing.
 use native.Mathlib.Omega.{arith}
 use borrow.Author.Needs.{needs}
-use Rattle.console.proofs.Spelled.{number-written}
-use Rattle.console.proofs.number.write_number_at.Statement.{statement}
-use Rattle.console.proofs.number.write_number_at.Tie as tie
+use Rattle.numerals.proofs.Spelled.{number-written}
+use Rattle.numerals.proofs.number.write_number_at.Statement.{statement}
+use Rattle.numerals.proofs.number.write_number_at.Tie as tie
 
 decimal-requires : tie.Need-decimal-requires
 decimal-requires c κs = search needs
