@@ -1,0 +1,132 @@
+//! The picture. Its length is worked out before the first byte is written.
+
+use crate::shape::{Kind, Shape};
+use crate::stores::Stores;
+use crate::value::Value;
+
+const HEAD: &[u8] = b"<?xml version=\"1.0\"?>\n<svg viewBox=\"0 0 ";
+const REST: &[u8] = b"\" xmlns=\"http://www.w3.org/2000/svg\" version=\"1.1\">\n<g stroke=\"black\" fill=\"black\">\n";
+const TAIL: &[u8] = b"</g>\n</svg>\n";
+const LINE: [&[u8]; 5] = [
+    b"<line x1=\"",
+    b"\" y1=\"",
+    b"\" x2=\"",
+    b"\" y2=\"",
+    b"\"/>\n",
+];
+const ELLIPSE: [&[u8]; 5] = [
+    b"<ellipse cx=\"",
+    b"\" cy=\"",
+    b"\" rx=\"",
+    b"\" ry=\"",
+    b"\"/>\n",
+];
+const BOX: [&[u8]; 5] = [
+    b"<rect x=\"",
+    b"\" y=\"",
+    b"\" width=\"",
+    b"\" height=\"",
+    b"\"/>\n",
+];
+const TEXT: [&[u8]; 4] = [b"<text x=\"", b"\" y=\"", b"\">", b"</text>\n"];
+
+/// The shapes that variables hold undestroyed, in the order of declaration.
+fn shown(stores: &Stores, declared: usize) -> impl Iterator<Item = &Shape> {
+    let slots = stores.order[..declared].iter();
+    slots.filter_map(|slot| match stores.variables[usize::from(*slot)] {
+        Value::Shape(i) => Some(&stores.shapes[usize::from(i)]).filter(|shape| !shape.destroyed),
+        _ => None,
+    })
+}
+
+pub fn length(stores: &Stores, program: &[u8], width: i32, height: i32, declared: usize) -> usize {
+    let frame = HEAD.len() + digits(width) + 1 + digits(height) + REST.len() + TAIL.len();
+    let lines = shown(stores, declared).map(|shape| {
+        let parts = |parts: &[&[u8]]| parts.iter().map(|part| part.len()).sum::<usize>();
+        let numbers = |numbers: &[i32]| numbers.iter().map(|n| digits(*n)).sum::<usize>();
+        match shape.kind {
+            Kind::Line => parts(&LINE) + numbers(&shape.numbers),
+            Kind::Ellipse => parts(&ELLIPSE) + numbers(&shape.numbers),
+            Kind::Box => parts(&BOX) + numbers(&shape.numbers),
+            Kind::Text => {
+                let text = shape.text.bytes(program, &stores.texts);
+                parts(&TEXT) + numbers(&shape.numbers[..2]) + text.len()
+            }
+        }
+    });
+    frame + lines.sum::<usize>()
+}
+
+/// Writes the picture to the front of a slice in which it fits.
+pub fn write(
+    stores: &Stores,
+    program: &[u8],
+    width: i32,
+    height: i32,
+    declared: usize,
+    out: &mut [u8],
+) {
+    let mut writer = Writer { out, at: 0 };
+    writer.bytes(HEAD);
+    writer.number(width);
+    writer.bytes(b" ");
+    writer.number(height);
+    writer.bytes(REST);
+    for shape in shown(stores, declared) {
+        match shape.kind {
+            Kind::Line => writer.element(&LINE, &shape.numbers),
+            Kind::Ellipse => writer.element(&ELLIPSE, &shape.numbers),
+            Kind::Box => writer.element(&BOX, &shape.numbers),
+            Kind::Text => {
+                writer.bytes(TEXT[0]);
+                writer.number(shape.numbers[0]);
+                writer.bytes(TEXT[1]);
+                writer.number(shape.numbers[1]);
+                writer.bytes(TEXT[2]);
+                writer.bytes(shape.text.bytes(program, &stores.texts));
+                writer.bytes(TEXT[3]);
+            }
+        }
+    }
+    writer.bytes(TAIL);
+}
+
+struct Writer<'a> {
+    out: &'a mut [u8],
+    at: usize,
+}
+
+impl Writer<'_> {
+    fn bytes(&mut self, bytes: &[u8]) {
+        self.out[self.at..self.at + bytes.len()].copy_from_slice(bytes);
+        self.at += bytes.len();
+    }
+
+    fn number(&mut self, number: i32) {
+        let size = digits(number);
+        let place = &mut self.out[self.at..self.at + size];
+        self.at += size;
+        let mut rest = number.unsigned_abs();
+        for byte in place.iter_mut().rev() {
+            *byte = b'0' + (rest % 10) as u8;
+            rest /= 10;
+        }
+        if number < 0 {
+            place[0] = b'-';
+        }
+    }
+
+    fn element(&mut self, parts: &[&[u8]; 5], numbers: &[i32; 4]) {
+        for (part, number) in parts.iter().zip(numbers) {
+            self.bytes(part);
+            self.number(*number);
+        }
+        self.bytes(parts[4]);
+    }
+}
+
+/// How many bytes a number has.
+fn digits(number: i32) -> usize {
+    let size = number.unsigned_abs().checked_ilog10().unwrap_or(0) + 1;
+    size as usize + usize::from(number < 0)
+}

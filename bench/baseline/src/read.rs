@@ -1,0 +1,430 @@
+//! The reader: tokens, then the tree. Variables become slots.
+
+use crate::stores::{boxed, Stores, TOKENS};
+use crate::token::{self, Kind, Token};
+use crate::tree::{Action, Expression, Link, Main, Operator, Procedure, Statement, Tree, NO_LINK};
+use crate::value::{Text, Value};
+
+const LEVELS: u32 = 64;
+const BUCKETS: usize = 16_384;
+
+/// Why a program is not well formed.
+pub struct Refusal {
+    pub number: u8,
+    pub place: usize,
+}
+
+/// The names that have slots, by a hash.
+pub struct Index {
+    /// One more than the slot of a bucket's name.
+    slots: Box<[u16; BUCKETS]>,
+    /// The token of each slot's name.
+    names: Box<[u16; TOKENS]>,
+}
+
+impl Index {
+    pub fn new() -> Index {
+        Index {
+            slots: boxed(0),
+            names: boxed(0),
+        }
+    }
+
+    pub fn clear(&mut self) {
+        self.slots.fill(0);
+        self.names.fill(0);
+    }
+}
+
+/// Reads a program into the tree.
+pub fn read(stores: &mut Stores, program: &[u8]) -> Result<Main, Refusal> {
+    let count = tokens(&mut stores.tokens, program)?;
+    if count > TOKENS {
+        return Err(Refusal {
+            number: 74,
+            place: stores.tokens[TOKENS].place.into(),
+        });
+    }
+    stores.tokens[count] = Token::default();
+    stores.index.slots.fill(0);
+    let reader = Reader {
+        program,
+        tokens: &stores.tokens,
+        next: 0,
+        level: 0,
+        index: &mut stores.index,
+        slots: 0,
+        tree: &mut stores.tree,
+        expressions: 0,
+        statements: 0,
+    };
+    reader.program()
+}
+
+/// The tokens, as far as they have room, and their number.
+fn tokens(tokens: &mut [Token; TOKENS + 1], program: &[u8]) -> Result<usize, Refusal> {
+    let mut count = 0;
+    let mut at = 0;
+    while at < program.len() {
+        if matches!(program[at], b' ' | b'\t' | b'\n') {
+            at += 1;
+            continue;
+        }
+        let Some((kind, size)) = token::first(&program[at..]) else {
+            return Err(Refusal {
+                number: 10,
+                place: at,
+            });
+        };
+        if let Some(token) = tokens.get_mut(count) {
+            *token = Token {
+                place: at as u16,
+                size: size as u16,
+                kind,
+            };
+        }
+        count += 1;
+        at += size;
+    }
+    Ok(count)
+}
+
+struct Reader<'a> {
+    program: &'a [u8],
+    tokens: &'a [Token; TOKENS + 1],
+    next: usize,
+    level: u32,
+    index: &'a mut Index,
+    slots: u16,
+    tree: &'a mut Tree,
+    expressions: usize,
+    statements: usize,
+}
+
+/// What an operand may still become.
+#[derive(Clone, Copy, PartialEq, Eq)]
+enum Form {
+    Name,
+    Entry,
+    Other,
+}
+
+impl Reader<'_> {
+    fn token(&self) -> Token {
+        self.tokens[self.next]
+    }
+
+    fn kind(&self) -> Kind {
+        self.token().kind
+    }
+
+    fn refusal<T>(&self, number: u8) -> Result<T, Refusal> {
+        let place = match self.kind() {
+            Kind::End => self.program.len(),
+            _ => self.token().place.into(),
+        };
+        Err(Refusal { number, place })
+    }
+
+    fn accept(&mut self, kind: Kind) -> bool {
+        let here = self.kind() == kind;
+        self.next += usize::from(here);
+        here
+    }
+
+    fn expect(&mut self, kind: Kind) -> Result<(), Refusal> {
+        if self.accept(kind) {
+            Ok(())
+        } else {
+            self.refusal(10)
+        }
+    }
+
+    fn open_level(&mut self) -> Result<(), Refusal> {
+        if self.level == LEVELS {
+            return self.refusal(75);
+        }
+        self.level += 1;
+        Ok(())
+    }
+
+    fn open(&mut self, kind: Kind) -> Result<(), Refusal> {
+        if self.kind() != kind {
+            return self.refusal(10);
+        }
+        self.open_level()?;
+        self.next += 1;
+        Ok(())
+    }
+
+    fn close(&mut self, kind: Kind) -> Result<(), Refusal> {
+        self.expect(kind)?;
+        self.level -= 1;
+        Ok(())
+    }
+
+    /// A name's slot.
+    fn name(&mut self) -> Result<u16, Refusal> {
+        if self.kind() != Kind::Name {
+            return self.refusal(10);
+        }
+        let slot = self.slot(self.next);
+        self.next += 1;
+        Ok(slot)
+    }
+
+    /// The slot of the name that a token is.
+    fn slot(&mut self, token: usize) -> u16 {
+        let bytes = self.tokens[token].bytes(self.program);
+        let hash = bytes.iter().fold(0, |hash: u32, b| {
+            hash.wrapping_mul(31).wrapping_add(u32::from(*b))
+        });
+        let mut bucket = (hash.wrapping_mul(0x9e37_79b9) >> 18) as usize;
+        loop {
+            let slot = self.index.slots[bucket];
+            if slot == 0 {
+                self.index.names[usize::from(self.slots)] = token as u16;
+                self.slots += 1;
+                self.index.slots[bucket] = self.slots;
+                return self.slots - 1;
+            }
+            let home = self.index.names[usize::from(slot) - 1];
+            if self.tokens[usize::from(home)].bytes(self.program) == bytes {
+                return slot - 1;
+            }
+            bucket = (bucket + 1) % BUCKETS;
+        }
+    }
+
+    fn add(&mut self, expression: Expression) -> Link {
+        let at = self.expressions;
+        self.tree.expressions[at] = expression;
+        self.tree.siblings[at] = NO_LINK;
+        self.expressions += 1;
+        at as Link
+    }
+
+    fn program(mut self) -> Result<Main, Refusal> {
+        self.expect(Kind::Def)?;
+        if self.token().bytes(self.program) != b"main" {
+            return self.refusal(10);
+        }
+        self.next += 1;
+        self.expect(Kind::OpenParen)?;
+        let mut main = Main {
+            parameters: 0,
+            first: 0,
+            second: 0,
+            body: 0,
+        };
+        if !self.accept(Kind::CloseParen) {
+            loop {
+                let slot = self.name()?;
+                match main.parameters {
+                    0 => main.first = slot,
+                    1 => main.second = slot,
+                    _ => {}
+                }
+                main.parameters += 1;
+                if !self.accept(Kind::Comma) {
+                    break;
+                }
+            }
+            self.expect(Kind::CloseParen)?;
+        }
+        self.expect(Kind::OpenBrace)?;
+        main.body = self.body()?;
+        self.expect(Kind::CloseBrace)?;
+        if self.kind() != Kind::End {
+            return self.refusal(10);
+        }
+        Ok(main)
+    }
+
+    /// One or more statements, up to a closing brace.
+    fn body(&mut self) -> Result<Link, Refusal> {
+        let first = self.statement()?;
+        let mut last = first;
+        while self.kind() != Kind::CloseBrace {
+            let link = self.statement()?;
+            self.tree.statements[usize::from(last)].next = link;
+            last = link;
+        }
+        Ok(first)
+    }
+
+    fn statement(&mut self) -> Result<Link, Refusal> {
+        let place = self.token().place;
+        let action = match self.kind() {
+            Kind::Var => {
+                self.next += 1;
+                let slot = self.name()?;
+                self.expect(Kind::Semicolon)?;
+                Action::Declare(slot)
+            }
+            Kind::If => {
+                let (test, body) = self.test_and_body()?;
+                Action::If(test, body)
+            }
+            Kind::While => {
+                let (test, body) = self.test_and_body()?;
+                Action::While(test, body)
+            }
+            Kind::Return => {
+                self.next += 1;
+                let value = self.expression()?;
+                self.expect(Kind::Semicolon)?;
+                Action::Return(value)
+            }
+            Kind::OpenBrace => {
+                self.open(Kind::OpenBrace)?;
+                let first = self.body()?;
+                self.close(Kind::CloseBrace)?;
+                Action::Block(first)
+            }
+            _ => self.simple()?,
+        };
+        let at = self.statements;
+        self.tree.statements[at] = Statement {
+            place,
+            next: NO_LINK,
+            action,
+        };
+        self.statements += 1;
+        Ok(at as Link)
+    }
+
+    fn test_and_body(&mut self) -> Result<(Link, Link), Refusal> {
+        self.next += 1;
+        self.open(Kind::OpenParen)?;
+        let test = self.expression()?;
+        self.close(Kind::CloseParen)?;
+        self.open_level()?;
+        let body = self.statement()?;
+        self.level -= 1;
+        Ok((test, body))
+    }
+
+    fn simple(&mut self) -> Result<Action, Refusal> {
+        let (first, form) = self.operand()?;
+        let action = if self.kind() == Kind::Assign {
+            if form == Form::Other {
+                return self.refusal(10);
+            }
+            self.next += 1;
+            let value = self.expression()?;
+            match self.tree.expressions[usize::from(first)] {
+                Expression::Variable(slot) => Action::Assign(slot, value),
+                Expression::Read(table, key) => Action::Update(table, key, value),
+                _ => return self.refusal(10),
+            }
+        } else {
+            Action::Evaluate(self.rest(first)?)
+        };
+        self.expect(Kind::Semicolon)?;
+        Ok(action)
+    }
+
+    fn expression(&mut self) -> Result<Link, Refusal> {
+        let (first, _) = self.operand()?;
+        self.rest(first)
+    }
+
+    /// An operator and a second operand, if an operator follows.
+    fn rest(&mut self, first: Link) -> Result<Link, Refusal> {
+        let Kind::Operator(operator) = self.kind() else {
+            return Ok(first);
+        };
+        self.next += 1;
+        let (second, _) = self.operand()?;
+        Ok(self.add(Expression::Operate(operator, first, second)))
+    }
+
+    /// A primary, or two with a dot between them.
+    fn operand(&mut self) -> Result<(Link, Form), Refusal> {
+        let (first, form) = self.primary()?;
+        if !self.accept(Kind::Dot) {
+            return Ok((first, form));
+        }
+        let (key, _) = self.primary()?;
+        Ok((self.add(Expression::Read(first, key)), Form::Entry))
+    }
+
+    fn primary(&mut self) -> Result<(Link, Form), Refusal> {
+        let value = match self.kind() {
+            Kind::Digits => self.integer(false)?,
+            Kind::Operator(Operator::Subtract) if self.digits_follow() => {
+                self.next += 1;
+                self.integer(true)?
+            }
+            Kind::Text => {
+                let token = self.token();
+                Value::Text(Text {
+                    stored: false,
+                    start: token.place + 1,
+                    size: token.size - 2,
+                })
+            }
+            Kind::None => Value::Nothing,
+            Kind::True => Value::Boolean(true),
+            Kind::False => Value::Boolean(false),
+            Kind::Name => return self.name_or_call(),
+            Kind::OpenBracket => {
+                self.open(Kind::OpenBracket)?;
+                let size = self.expression()?;
+                self.close(Kind::CloseBracket)?;
+                return Ok((self.add(Expression::Create(size)), Form::Other));
+            }
+            Kind::OpenParen => {
+                self.open(Kind::OpenParen)?;
+                let inside = self.expression()?;
+                self.close(Kind::CloseParen)?;
+                return Ok((inside, Form::Other));
+            }
+            _ => return self.refusal(10),
+        };
+        self.next += 1;
+        Ok((self.add(Expression::Constant(value)), Form::Other))
+    }
+
+    /// The constant whose digits are the next token.
+    fn integer(&mut self, negative: bool) -> Result<Value, Refusal> {
+        let mut size: i64 = 0;
+        for digit in self.token().bytes(self.program) {
+            size = (size * 10 + i64::from(digit - b'0')).min(1 << 32);
+        }
+        match i32::try_from(if negative { -size } else { size }) {
+            Ok(number) => Ok(Value::Integer(number)),
+            Err(_) => self.refusal(10),
+        }
+    }
+
+    /// Whether the token behind the next one is digits that touch it.
+    fn digits_follow(&self) -> bool {
+        let digits = self.tokens[self.next + 1];
+        digits.kind == Kind::Digits && usize::from(digits.place) == self.token().end()
+    }
+
+    fn name_or_call(&mut self) -> Result<(Link, Form), Refusal> {
+        let token = self.next;
+        self.next += 1;
+        if self.kind() != Kind::OpenParen {
+            let slot = self.slot(token);
+            return Ok((self.add(Expression::Variable(slot)), Form::Name));
+        }
+        self.open(Kind::OpenParen)?;
+        let mut first = NO_LINK;
+        if self.kind() != Kind::CloseParen {
+            first = self.expression()?;
+            let mut last = first;
+            while self.accept(Kind::Comma) {
+                let argument = self.expression()?;
+                self.tree.siblings[usize::from(last)] = argument;
+                last = argument;
+            }
+        }
+        self.close(Kind::CloseParen)?;
+        let procedure = Procedure::named(self.tokens[token].bytes(self.program));
+        Ok((self.add(Expression::Call(procedure, first)), Form::Other))
+    }
+}

@@ -1,0 +1,443 @@
+//! The run: a walk over the tree.
+
+use crate::shape::{Kind, Shape};
+use crate::stores::{Stores, TOKENS};
+use crate::table::{Entry, Keys};
+use crate::tree::{Action, Expression, Link, Main, Operator, Procedure, Tree, NODES, NO_LINK};
+use crate::value::{calculate, Stop, Text, Value};
+
+/// How a run ended: the number is 0 if it came to its end.
+pub struct End {
+    pub number: u64,
+    pub place: u64,
+    pub steps: u64,
+    pub declared: usize,
+}
+
+/// Whether the next statement follows, or the run is over.
+#[derive(Clone, Copy, PartialEq, Eq)]
+enum Flow {
+    Next,
+    Return,
+}
+
+struct Run<'a> {
+    /// How many steps, shapes, entries and text bytes are used.
+    steps: u64,
+    granted: u64,
+    tree: &'a Tree,
+    variables: &'a mut [Value; TOKENS],
+    /// The first byte of the innermost statement under way.
+    place: u16,
+    program: &'a [u8],
+    order: &'a mut [u16; TOKENS],
+    declared: usize,
+    arguments: &'a mut [Value; TOKENS],
+    held: usize,
+    shapes: &'a mut [Shape],
+    shapes_used: usize,
+    tables: u32,
+    entries: &'a mut [Entry],
+    entries_used: usize,
+    heads: &'a mut [u16],
+    texts: &'a mut [u8],
+    texts_used: usize,
+}
+
+/// Runs a program that has been read and has two parameters.
+pub fn run(stores: &mut Stores, program: &[u8], main: &Main, width: i32, height: i32) -> End {
+    stores.prepare();
+    let mut run = Run {
+        steps: 0,
+        granted: stores.steps,
+        tree: &stores.tree,
+        variables: &mut stores.variables,
+        place: 0,
+        program,
+        order: &mut stores.order,
+        declared: 0,
+        arguments: &mut stores.arguments,
+        held: 0,
+        shapes: &mut stores.shapes,
+        shapes_used: 0,
+        tables: 0,
+        entries: &mut stores.entries,
+        entries_used: 0,
+        heads: &mut stores.heads,
+        texts: &mut stores.texts,
+        texts_used: 0,
+    };
+    run.bind(main.first, Value::Integer(width));
+    run.bind(main.second, Value::Integer(height));
+    let (number, place) = match run.sequence(main.body) {
+        Ok(_) => (0, 0),
+        Err(Stop(number)) => (number.into(), run.place.into()),
+    };
+    End {
+        number,
+        place,
+        steps: run.steps,
+        declared: run.declared,
+    }
+}
+
+impl Run<'_> {
+    #[inline(always)]
+    fn step(&mut self) -> Result<(), Stop> {
+        if self.steps >= self.granted {
+            return Err(Stop(79));
+        }
+        self.steps += 1;
+        Ok(())
+    }
+
+    fn bind(&mut self, slot: u16, value: Value) {
+        self.variables[usize::from(slot) % TOKENS] = value;
+        self.order[self.declared % TOKENS] = slot;
+        self.declared += 1;
+    }
+
+    fn sequence(&mut self, first: Link) -> Result<Flow, Stop> {
+        let mut at = first;
+        while at != NO_LINK {
+            if self.statement(at)? == Flow::Return {
+                return Ok(Flow::Return);
+            }
+            at = self.tree.statements[usize::from(at) % NODES].next;
+        }
+        Ok(Flow::Next)
+    }
+
+    fn statement(&mut self, at: Link) -> Result<Flow, Stop> {
+        let statement = &self.tree.statements[usize::from(at) % NODES];
+        let place = statement.place;
+        self.place = place;
+        self.step()?;
+        match statement.action {
+            Action::Assign(slot, value) => {
+                let value = self.evaluate(value)?;
+                self.assign(slot, value)?;
+            }
+            Action::If(test, body) => {
+                if self.test(test)? {
+                    return self.statement(body);
+                }
+            }
+            Action::While(test, body) => {
+                while self.test(test)? {
+                    if self.statement(body)? == Flow::Return {
+                        return Ok(Flow::Return);
+                    }
+                    self.place = place;
+                    self.step()?;
+                }
+            }
+            Action::Block(first) => return self.sequence(first),
+            Action::Update(table, key, value) => self.update(table, key, value)?,
+            Action::Evaluate(value) => {
+                self.evaluate(value)?;
+            }
+            Action::Declare(slot) => {
+                if !matches!(
+                    self.variables[usize::from(slot) % TOKENS],
+                    Value::Undeclared
+                ) {
+                    return Err(Stop(60));
+                }
+                self.bind(slot, Value::Nothing);
+            }
+            Action::Return(value) => {
+                self.evaluate(value)?;
+                return Ok(Flow::Return);
+            }
+        }
+        Ok(Flow::Next)
+    }
+
+    #[inline(always)]
+    fn test(&mut self, test: Link) -> Result<bool, Stop> {
+        match self.evaluate(test)? {
+            Value::Boolean(answer) => Ok(answer),
+            _ => Err(Stop(20)),
+        }
+    }
+
+    /// Assigns to a variable; a shape is copied.
+    #[inline(always)]
+    fn assign(&mut self, slot: u16, value: Value) -> Result<(), Stop> {
+        let slot = usize::from(slot) % TOKENS;
+        if let Value::Undeclared = self.variables[slot] {
+            return Err(Stop(50));
+        }
+        self.variables[slot] = match value {
+            Value::Shape(i) => {
+                let copy = self.shapes[usize::from(i)];
+                self.new_shape(copy)?
+            }
+            other => other,
+        };
+        Ok(())
+    }
+
+    /// Sets a table's entry; a shape is shared.
+    fn update(&mut self, table: Link, key: Link, value: Link) -> Result<(), Stop> {
+        let Value::Table(table) = self.evaluate(table)? else {
+            return Err(Stop(20));
+        };
+        let key = self.evaluate(key)?;
+        let value = self.evaluate(value)?;
+        if let Some(found) = self.find(table, key) {
+            self.entries[found].value = value;
+            return Ok(());
+        }
+        let at = self.entries_used;
+        if at >= self.entries.len() {
+            return Err(Stop(77));
+        }
+        let bucket = self.keys().bucket(table, key, self.heads.len());
+        self.entries[at] = Entry {
+            table,
+            next: self.heads[bucket],
+            key,
+            value,
+        };
+        self.heads[bucket] = at as u16 + 1;
+        self.entries_used += 1;
+        Ok(())
+    }
+
+    fn keys(&self) -> Keys<'_> {
+        Keys {
+            program: self.program,
+            texts: self.texts,
+            shapes: self.shapes,
+        }
+    }
+
+    fn find(&self, table: u32, key: Value) -> Option<usize> {
+        if self.heads.is_empty() {
+            return None;
+        }
+        let keys = self.keys();
+        let mut next = self.heads[keys.bucket(table, key, self.heads.len())];
+        while next != 0 {
+            let at = usize::from(next) - 1;
+            let entry = &self.entries[at];
+            if entry.table == table && keys.same(entry.key, key) {
+                return Some(at);
+            }
+            next = entry.next;
+        }
+        None
+    }
+
+    /// The value of a constant, a variable or any other expression.
+    #[inline(always)]
+    fn operand(&mut self, at: Link) -> Result<Value, Stop> {
+        match self.tree.expressions[usize::from(at) % NODES] {
+            Expression::Constant(value) => {
+                self.step()?;
+                Ok(value)
+            }
+            Expression::Variable(slot) => {
+                self.step()?;
+                self.variable(slot)
+            }
+            _ => self.evaluate(at),
+        }
+    }
+
+    #[inline(always)]
+    fn variable(&self, slot: u16) -> Result<Value, Stop> {
+        match self.variables[usize::from(slot) % TOKENS] {
+            Value::Undeclared => Err(Stop(50)),
+            Value::Shape(i) => self.usable(Value::Shape(i)),
+            value => Ok(value),
+        }
+    }
+
+    fn evaluate(&mut self, at: Link) -> Result<Value, Stop> {
+        self.step()?;
+        match self.tree.expressions[usize::from(at) % NODES] {
+            Expression::Constant(value) => Ok(value),
+            Expression::Variable(slot) => self.variable(slot),
+            Expression::Operate(operator, left, right) => {
+                let left = self.operand(left)?;
+                let right = self.operand(right)?;
+                if let (Value::Integer(left), Value::Integer(right)) = (left, right) {
+                    return calculate(operator, left, right);
+                }
+                self.operate(operator, left, right)
+            }
+            Expression::Read(table, key) => self.read(table, key),
+            Expression::Call(procedure, first) => self.call(procedure, first),
+            Expression::Create(size) => match self.evaluate(size)? {
+                Value::Integer(size) if size >= 0 => {
+                    let table = self.tables;
+                    self.tables += 1;
+                    Ok(Value::Table(table))
+                }
+                Value::Integer(_) => Err(Stop(40)),
+                _ => Err(Stop(20)),
+            },
+        }
+    }
+
+    #[inline(never)]
+    fn read(&mut self, table: Link, key: Link) -> Result<Value, Stop> {
+        let Value::Table(table) = self.operand(table)? else {
+            return Err(Stop(20));
+        };
+        let key = self.operand(key)?;
+        match self.find(table, key) {
+            Some(at) => self.usable(self.entries[at].value),
+            None => Err(Stop(20)),
+        }
+    }
+
+    /// Asks that a value is no destroyed shape.
+    #[inline(always)]
+    fn usable(&self, value: Value) -> Result<Value, Stop> {
+        match value {
+            Value::Shape(i) if self.shapes[usize::from(i)].destroyed => Err(Stop(30)),
+            other => Ok(other),
+        }
+    }
+
+    #[inline(always)]
+    fn new_shape(&mut self, shape: Shape) -> Result<Value, Stop> {
+        let at = self.shapes_used;
+        match self.shapes.get_mut(at) {
+            None => Err(Stop(76)),
+            Some(place) => {
+                *place = shape;
+                self.shapes_used += 1;
+                Ok(Value::Shape(at as u16))
+            }
+        }
+    }
+
+    /// An operator on values that are not both integers.
+    #[inline(never)]
+    fn operate(&mut self, operator: Operator, left: Value, right: Value) -> Result<Value, Stop> {
+        self.usable(left)?;
+        self.usable(right)?;
+        match (operator, left, right) {
+            (Operator::Equal, _, _) => Ok(Value::Boolean(self.equal(left, right)?)),
+            (Operator::Unequal, _, _) => Ok(Value::Boolean(!self.equal(left, right)?)),
+            (Operator::Join, Value::Text(left), Value::Text(right)) => self.join(left, right),
+            (_, Value::Shape(i), Value::Integer(by)) => {
+                let changed = self.shapes[usize::from(i)].changed(operator, by)?;
+                self.new_shape(changed)
+            }
+            _ => Err(Stop(20)),
+        }
+    }
+
+    fn equal(&self, left: Value, right: Value) -> Result<bool, Stop> {
+        match (left, right) {
+            (Value::Nothing, Value::Nothing) => Ok(true),
+            (Value::Nothing, _) | (_, Value::Nothing) => Ok(false),
+            (Value::Table(_), Value::Table(_)) => Err(Stop(20)),
+            (Value::Text(_), Value::Text(_))
+            | (Value::Boolean(_), Value::Boolean(_))
+            | (Value::Shape(_), Value::Shape(_)) => Ok(self.keys().same(left, right)),
+            _ => Err(Stop(20)),
+        }
+    }
+
+    fn join(&mut self, left: Text, right: Text) -> Result<Value, Stop> {
+        let size = usize::from(left.size) + usize::from(right.size);
+        let start = self.texts_used;
+        if size > self.texts.len() - start {
+            return Err(Stop(78));
+        }
+        let mut at = start;
+        for part in [left, right] {
+            let from = usize::from(part.start);
+            let end = from + usize::from(part.size);
+            if part.stored {
+                self.texts.copy_within(from..end, at);
+            } else {
+                self.texts[at..at + end - from].copy_from_slice(&self.program[from..end]);
+            }
+            at += end - from;
+        }
+        self.texts_used = at;
+        Ok(Value::Text(Text {
+            stored: true,
+            start: start as u16,
+            size: size as u16,
+        }))
+    }
+
+    #[inline(never)]
+    fn call(&mut self, procedure: Procedure, first: Link) -> Result<Value, Stop> {
+        let base = self.held;
+        let mut next = first;
+        while next != NO_LINK {
+            let value = self.operand(next)?;
+            self.arguments[self.held % TOKENS] = value;
+            self.held += 1;
+            next = self.tree.siblings[usize::from(next) % NODES];
+        }
+        let result = self.perform(procedure, base)?;
+        self.held = base;
+        Ok(result)
+    }
+
+    /// A procedure on the arguments from the one numbered base on.
+    fn perform(&mut self, procedure: Procedure, base: usize) -> Result<Value, Stop> {
+        if procedure == Procedure::Unknown {
+            return Err(Stop(20));
+        }
+        let arguments = &self.arguments[base..self.held];
+        for value in arguments {
+            self.usable(*value)?;
+        }
+        match (procedure, arguments) {
+            (
+                Procedure::DrawLine | Procedure::DrawEllipse | Procedure::DrawBox,
+                &[Value::Integer(a), Value::Integer(b), Value::Integer(c), Value::Integer(d)],
+            ) => {
+                let kind = match procedure {
+                    Procedure::DrawLine => Kind::Line,
+                    Procedure::DrawEllipse => Kind::Ellipse,
+                    _ => Kind::Box,
+                };
+                self.new_shape(Shape::new(kind, [a, b, c, d]))
+            }
+            (Procedure::DrawText, &[Value::Integer(x), Value::Integer(y), Value::Text(text)]) => {
+                self.new_shape(Shape::text(x, y, text))
+            }
+            (Procedure::Connect, &[Value::Shape(i), Value::Shape(j)]) => {
+                let (a, b) = self.shapes[usize::from(i)].centre();
+                let (c, d) = self.shapes[usize::from(j)].centre();
+                self.new_shape(Shape::new(Kind::Line, [a, b, c, d]))
+            }
+            (Procedure::Label, &[Value::Shape(i), Value::Text(text)]) => {
+                let (x, y) = self.shapes[usize::from(i)].centre();
+                self.new_shape(Shape::text(x, y, text))
+            }
+            (Procedure::XCoordinate, &[Value::Shape(i)]) => {
+                Ok(Value::Integer(self.shapes[usize::from(i)].centre().0))
+            }
+            (Procedure::YCoordinate, &[Value::Shape(i)]) => {
+                Ok(Value::Integer(self.shapes[usize::from(i)].centre().1))
+            }
+            (Procedure::Destroy, &[Value::Shape(i)]) => {
+                self.shapes[usize::from(i)].destroyed = true;
+                Ok(Value::Nothing)
+            }
+            (Procedure::ClearScene, []) => {
+                for slot in &self.order[..self.declared] {
+                    if let Value::Shape(i) = self.variables[usize::from(*slot) % TOKENS] {
+                        self.shapes[usize::from(i)].destroyed = true;
+                    }
+                }
+                Ok(Value::Nothing)
+            }
+            _ => Err(Stop(20)),
+        }
+    }
+}

@@ -1,0 +1,92 @@
+//! The stores of a drawing.
+
+use crate::read::Index;
+use crate::shape::Shape;
+use crate::table::Entry;
+use crate::token::Token;
+use crate::tree::{Expression, Statement, Tree, NODES};
+use crate::value::Value;
+
+/// As many tokens as a program may have.
+pub const TOKENS: usize = 8_192;
+
+/// What a drawing may take.
+#[derive(Clone, Copy, Debug)]
+pub struct Grants {
+    pub steps: u64,
+    pub shapes: u64,
+    pub entries: u64,
+    pub text_bytes: u64,
+}
+
+pub struct Stores {
+    pub(crate) steps: u64,
+    pub(crate) tokens: Box<[Token; TOKENS + 1]>,
+    pub(crate) index: Index,
+    pub(crate) tree: Tree,
+    pub(crate) variables: Box<[Value; TOKENS]>,
+    pub(crate) order: Box<[u16; TOKENS]>,
+    pub(crate) arguments: Box<[Value; TOKENS]>,
+    pub(crate) shapes: Box<[Shape]>,
+    pub(crate) entries: Box<[Entry]>,
+    /// For each bucket, one more than the entry that was added last.
+    pub(crate) heads: Box<[u16]>,
+    pub(crate) texts: Box<[u8]>,
+}
+
+impl Stores {
+    /// Stores for these counts, which must be within their ranges.
+    pub fn new(grants: Grants) -> Stores {
+        let largest = grants.shapes.max(grants.entries).max(grants.text_bytes);
+        assert!(grants.steps <= u64::from(u32::MAX) && largest <= u64::from(u16::MAX));
+        Stores {
+            steps: grants.steps,
+            tokens: boxed(Token::default()),
+            index: Index::new(),
+            tree: Tree {
+                expressions: boxed(Expression::EMPTY),
+                siblings: boxed(0),
+                statements: boxed(Statement::EMPTY),
+            },
+            variables: boxed(Value::Undeclared),
+            order: boxed(0),
+            arguments: boxed(Value::Undeclared),
+            shapes: vec![Shape::default(); grants.shapes as usize].into(),
+            entries: vec![Entry::default(); grants.entries as usize].into(),
+            heads: vec![0; grants.entries as usize].into(),
+            texts: vec![0; grants.text_bytes as usize].into(),
+        }
+    }
+
+    /// Clears what a run expects to be clear.
+    pub(crate) fn prepare(&mut self) {
+        self.variables.fill(Value::Undeclared);
+        self.heads.fill(0);
+    }
+
+    /// Clears everything.
+    pub(crate) fn clear(&mut self) {
+        self.tokens.fill(Token::default());
+        self.index.clear();
+        self.tree.expressions.fill(Expression::EMPTY);
+        self.tree.siblings.fill(0);
+        self.tree.statements.fill(Statement::EMPTY);
+        self.variables.fill(Value::Undeclared);
+        self.order.fill(0);
+        self.arguments.fill(Value::Undeclared);
+        self.shapes.fill(Shape::default());
+        self.entries.fill(Entry::default());
+        self.heads.fill(0);
+        self.texts.fill(0);
+    }
+}
+
+/// An array that never stands on the stack.
+pub fn boxed<T: Clone, const N: usize>(value: T) -> Box<[T; N]> {
+    match vec![value; N].into_boxed_slice().try_into() {
+        Ok(array) => array,
+        Err(_) => unreachable!(),
+    }
+}
+
+const _: () = assert!(NODES >= TOKENS);

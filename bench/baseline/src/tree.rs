@@ -1,0 +1,119 @@
+//! What the reader makes of a program: expressions and statements in two arrays, which know each other by their places there.
+
+use crate::value::Value;
+
+/// As many expressions, and as many statements, as a program can have.
+pub const NODES: usize = 8_192;
+
+/// The place of an expression or a statement in its array.
+pub type Link = u16;
+
+/// No expression or statement.
+pub const NO_LINK: Link = u16::MAX;
+
+#[derive(Clone, Copy)]
+pub enum Expression {
+    Constant(Value),
+    Variable(u16),
+    Create(Link),
+    Read(Link, Link),
+    Operate(Operator, Link, Link),
+    /// A procedure and the first argument; the others follow by `siblings`.
+    Call(Procedure, Link),
+}
+
+#[derive(Clone, Copy)]
+pub struct Statement {
+    pub place: u16,
+    /// The statement behind it in its block.
+    pub next: Link,
+    pub action: Action,
+}
+
+#[derive(Clone, Copy)]
+pub enum Action {
+    Declare(u16),
+    Assign(u16, Link),
+    Update(Link, Link, Link),
+    If(Link, Link),
+    While(Link, Link),
+    Return(Link),
+    Block(Link),
+    Evaluate(Link),
+}
+
+#[derive(Clone, Copy, PartialEq, Eq)]
+pub enum Operator {
+    Join,
+    Add,
+    Subtract,
+    Multiply,
+    Divide,
+    Remainder,
+    ShiftRight,
+    ShiftLeft,
+    Equal,
+    Unequal,
+    Greater,
+    Less,
+}
+
+#[derive(Clone, Copy, PartialEq, Eq)]
+pub enum Procedure {
+    DrawLine,
+    DrawEllipse,
+    DrawBox,
+    DrawText,
+    Connect,
+    Label,
+    XCoordinate,
+    YCoordinate,
+    Destroy,
+    ClearScene,
+    Unknown,
+}
+
+impl Procedure {
+    pub fn named(name: &[u8]) -> Procedure {
+        match name {
+            b"drawLine" => Procedure::DrawLine,
+            b"drawEllipse" => Procedure::DrawEllipse,
+            b"drawBox" => Procedure::DrawBox,
+            b"drawText" => Procedure::DrawText,
+            b"drawLineConnectingShapes" => Procedure::Connect,
+            b"drawTextOnShape" => Procedure::Label,
+            b"getShapeXCoordinate" => Procedure::XCoordinate,
+            b"getShapeYCoordinate" => Procedure::YCoordinate,
+            b"destroyShape" => Procedure::Destroy,
+            b"clearScene" => Procedure::ClearScene,
+            _ => Procedure::Unknown,
+        }
+    }
+}
+
+/// Where main's parts are.
+pub struct Main {
+    pub parameters: usize,
+    pub first: u16,
+    pub second: u16,
+    pub body: Link,
+}
+
+pub struct Tree {
+    pub expressions: Box<[Expression; NODES]>,
+    /// The argument behind an argument.
+    pub siblings: Box<[Link; NODES]>,
+    pub statements: Box<[Statement; NODES]>,
+}
+
+impl Expression {
+    pub const EMPTY: Expression = Expression::Constant(Value::Undeclared);
+}
+
+impl Statement {
+    pub const EMPTY: Statement = Statement {
+        place: 0,
+        next: 0,
+        action: Action::Declare(0),
+    };
+}

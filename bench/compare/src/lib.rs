@@ -1,0 +1,198 @@
+//! Two ways to draw, and what they are measured on.
+
+use baseline::{Answer, Grants, Stores};
+
+/// A program with its width, its height and its grants.
+#[derive(Clone, Copy, Debug)]
+pub struct Drawing {
+    pub name: &'static str,
+    pub program: &'static [u8],
+    pub width: i32,
+    pub height: i32,
+    pub grants: Grants,
+}
+
+/// What `imgdraw` grants.
+pub const SHEET: Grants = Grants {
+    steps: 1_000_000,
+    shapes: 1_024,
+    entries: 1_024,
+    text_bytes: 16_384,
+};
+
+/// A loop of 900,000 steps.
+pub const LOOP: Drawing = Drawing {
+    name: "loop",
+    program: include_bytes!("../../drawings/loop.img"),
+    width: 640,
+    height: 480,
+    grants: SHEET,
+};
+
+/// 4,000 shapes.
+pub const SHAPES: Drawing = Drawing {
+    name: "shapes",
+    program: include_bytes!("../../drawings/shapes.img"),
+    width: 640,
+    height: 480,
+    grants: Grants {
+        shapes: 4_000,
+        ..SHEET
+    },
+};
+
+/// A table of so many entries, and so many look-ups in it.
+pub fn look_ups(entries: i32, times: i32) -> Drawing {
+    Drawing {
+        name: "lookup",
+        program: include_bytes!("../../drawings/lookup.img"),
+        width: entries,
+        height: times,
+        grants: Grants {
+            steps: u32::MAX.into(),
+            shapes: 0,
+            entries: 65_535,
+            text_bytes: 0,
+        },
+    }
+}
+
+/// A drawing by its name.
+pub fn drawing(name: &str) -> Option<Drawing> {
+    match name {
+        "loop" => Some(LOOP),
+        "shapes" => Some(SHAPES),
+        "few" => Some(look_ups(16, 100_000)),
+        "many" => Some(look_ups(60_000, 100_000)),
+        _ => None,
+    }
+}
+
+/// Something that draws, with stores that were made before.
+pub trait Drawer {
+    fn draw(&mut self, drawing: &Drawing, out: &mut [u8]) -> Answer;
+}
+
+pub struct Baseline(Stores);
+
+impl Baseline {
+    pub fn new(grants: Grants) -> Baseline {
+        Baseline(Stores::new(grants))
+    }
+}
+
+impl Drawer for Baseline {
+    fn draw(&mut self, drawing: &Drawing, out: &mut [u8]) -> Answer {
+        let Drawing {
+            program,
+            width,
+            height,
+            ..
+        } = *drawing;
+        baseline::draw(&mut self.0, program, width, height, out)
+    }
+}
+
+#[cfg(ours)]
+pub use ours::Ours;
+
+#[cfg(ours)]
+mod ours {
+    use super::{Answer, Drawer, Drawing, Grants};
+
+    extern "C" {
+        fn img_draw(
+            program: *const u8,
+            program_length: usize,
+            width: i32,
+            height: i32,
+            steps: u64,
+            shapes: u64,
+            entries: u64,
+            text_bytes: u64,
+            tokens: *mut u64,
+            tokens_length: usize,
+            code: *mut u64,
+            code_length: usize,
+            words: *mut u64,
+            words_length: usize,
+            texts: *mut u8,
+            texts_length: usize,
+            out: *mut u8,
+            out_length: usize,
+            answer: *mut u64,
+            answer_length: usize,
+        );
+    }
+
+    /// The proved library with its work slices.
+    pub struct Ours {
+        tokens: Vec<u64>,
+        code: Vec<u64>,
+        words: Vec<u64>,
+        texts: Vec<u8>,
+    }
+
+    impl Ours {
+        /// Slices as long as docs/INTERFACE.md asks.
+        pub fn new(grants: Grants) -> Ours {
+            let words = 24_584 + 3 * grants.shapes + 4 * grants.entries;
+            Ours {
+                tokens: vec![0; 8_193],
+                code: vec![0; 16_384],
+                words: vec![0; words as usize],
+                texts: vec![0; grants.text_bytes as usize],
+            }
+        }
+    }
+
+    impl Drawer for Ours {
+        fn draw(&mut self, drawing: &Drawing, out: &mut [u8]) -> Answer {
+            let mut answer = [0; 4];
+            let grants = drawing.grants;
+            // The library reads and writes within the lengths that it is handed; it is proved to.
+            unsafe {
+                img_draw(
+                    drawing.program.as_ptr(),
+                    drawing.program.len(),
+                    drawing.width,
+                    drawing.height,
+                    grants.steps,
+                    grants.shapes,
+                    grants.entries,
+                    grants.text_bytes,
+                    self.tokens.as_mut_ptr(),
+                    self.tokens.len(),
+                    self.code.as_mut_ptr(),
+                    self.code.len(),
+                    self.words.as_mut_ptr(),
+                    self.words.len(),
+                    self.texts.as_mut_ptr(),
+                    self.texts.len(),
+                    out.as_mut_ptr(),
+                    out.len(),
+                    answer.as_mut_ptr(),
+                    answer.len(),
+                );
+            }
+            let [number, place, steps, length] = answer;
+            Answer {
+                number,
+                place,
+                steps,
+                length,
+            }
+        }
+    }
+}
+
+/// The proved library, if this was built with it.
+pub fn ours(grants: Grants) -> Option<Box<dyn Drawer>> {
+    #[cfg(ours)]
+    return Some(Box::new(Ours::new(grants)));
+    #[cfg(not(ours))]
+    {
+        let _ = grants;
+        None
+    }
+}
