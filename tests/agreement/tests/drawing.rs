@@ -65,6 +65,18 @@ fn runs_that_take_much() {
     common::much(DRAW);
 }
 
+// Would catch what only goes wrong after very many steps.
+#[test]
+fn long_runs() {
+    common::long_runs(DRAW, 0..1_500);
+}
+
+// Would catch two names taken for one, or one for two, by the index of names.
+#[test]
+fn many_names() {
+    common::many_names(DRAW);
+}
+
 // Would catch a picture of 36 megabytes that wraps, stops or is written twice.
 #[test]
 fn the_largest_pictures() {

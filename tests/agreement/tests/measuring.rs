@@ -58,6 +58,18 @@ fn runs_that_take_much() {
     common::much(MEASURE);
 }
 
+// Would catch what only goes wrong after very many steps.
+#[test]
+fn long_runs() {
+    common::long_runs(MEASURE, 0..1_500);
+}
+
+// Would catch two names taken for one, or one for two, by the index of names.
+#[test]
+fn many_names() {
+    common::many_names(MEASURE);
+}
+
 // Would catch 72 asked late, of one side only or not at all, and a side's digits miscounted.
 #[test]
 fn widths_and_heights() {

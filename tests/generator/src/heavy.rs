@@ -46,6 +46,16 @@ fn bodies() -> Vec<String> {
         "var i;i=0;w=[0];while(true){w.drawBox(i,1,2,i)=i;i=i+1;}",
         "var i;i=0;w=[0];while(true){w.[i]=i;i=i+1;}",
         "var t;t=[0];while(true){t.0=t;w=[0];w.0=t;t=w;}",
+        // Keys of all kinds in one table, written twice and read back into a sum that shows.
+        "w=[0];var i;i=0;while(i<3000){w.i=i;w.(i*65536)=i+1;w.(0-i)=i+2;w.drawLine(i,0,0,i)=i+3;w.drawText(i,0,\"a\")=i+4;w.i=i*3;i=i+1;}\
+         var s;s=0;i=0;while(i<3000){s=(s*31)+(w.i+w.(i*65536));s=(s*31)+w.(0-i);s=(s*31)+w.drawLine(i,0,0,i);s=(s*31)+w.drawText(i,0,\"a\");i=i+1;}\
+         h=drawBox(s,i,w.0,w.2999);",
+        // Tables in tables, as values and as keys, read back.
+        "w=[0];var i;var j;var t;var s;s=0;i=0;while(i<120){t=[i];w.i=t;w.t=i;j=0;while(j<120){t.j=i*j;j=j+1;}i=i+1;}\
+         i=0;while(i<120){j=0;t=w.i;s=s+w.t;while(j<120){s=(s*17)+((w.i).j);j=j+1;}i=i+1;}h=drawLine(s,i,j,0);",
+        // Strings as keys, read back by equal ones that are made in another way.
+        "w=[0];var s;var r;var i;s=\"a\";i=0;while(i<150){w.s=i;s=s++\"a\";i=i+1;}r=\"a\";i=0;s=0;\
+         while(i<150){s=(s*31)+w.r;r=\"a\"++r;i=i+1;}h=drawText(s,i,r);",
         // Text: as much as can be, and more, at once and little by little.
         "var i;var s;i=0;s=\"a\";while(i<15){s=s++s;i=i+1;}w=drawText(1,2,s);",
         "var i;var s;i=0;s=\"a\";while(i<16){s=s++s;i=i+1;}w=drawText(1,2,s);",

@@ -3,9 +3,12 @@
 #![allow(dead_code)]
 
 use agreement::compare::{one_less, Lender, Lengths};
+use generator::case::TAKINGS;
+use generator::random::Random;
 use generator::{case, case_out_of_range, heavy, limit, systematic, Case};
 use reference::sheet::{GRANTS, OUT_LENGTH};
-use reference::{Answer, Grants, Operation};
+use reference::{run_specified, Answer, End, Grants, Operation};
+use std::collections::BTreeSet;
 use std::ops::Range;
 
 /// `def main(w,h){...}` around a body.
@@ -82,6 +85,64 @@ pub fn much(operation: Operation) {
     for (i, case) in heavy::cases().into_iter().enumerate() {
         let case = Case { operation, ..case };
         assert_eq!(lender.misfit_of(&case, i as u64), None, "heavy {i}");
+    }
+}
+
+/// Runs that go on for longer than those of generated cases may: 100,000 steps and all the stores.
+pub fn long_runs(operation: Operation, seeds: Range<u64>) {
+    let mut lender = Lender::default();
+    let mut long = 0;
+    for seed in seeds {
+        let case = case(seed);
+        let specified = run_specified(operation, &case.program, 20, 20, TAKINGS);
+        if specified.end != End::Cut {
+            continue;
+        }
+        long += 1;
+        let case = Case {
+            grants: Grants {
+                steps: 100_000,
+                ..Grants::LARGEST
+            },
+            ..plain(operation, &case.program)
+        };
+        assert_eq!(lender.misfit_of(&case, seed), None, "seed {seed}");
+    }
+    assert!(long > 20, "only {long} runs");
+}
+
+/// Many variables whose names are alike, some of them declared twice or used undeclared.
+pub fn many_names(operation: Operation) {
+    let mut lender = Lender::default();
+    for seed in 0..80 {
+        let mut random = Random::new(seed);
+        let letters = random.pick(&["ab", "aA0", "xyzXYZ0189"]).as_bytes();
+        let longest = random.between(8, 20);
+        let mut name = || {
+            let mut name = String::from("v");
+            for _ in 0..random.between(3, longest) {
+                name.push(char::from(*random.pick(letters)));
+            }
+            name
+        };
+        let names: Vec<String> = (0..500).map(|_| name()).collect();
+        let mut body = String::new();
+        let mut declared = BTreeSet::new();
+        for (i, name) in names.iter().enumerate() {
+            // Now and then one is declared again, which ends the run.
+            if declared.insert(name) || i % 400 == 399 {
+                body.push_str(&format!("var {name};"));
+            }
+            body.push_str(&format!("{name}={i};"));
+        }
+        for group in names.chunks(4).take(60) {
+            if let [a, b, c, d] = group {
+                body.push_str(&format!("{a}=drawLine({a},{b},{c},{d});{a}=1;"));
+            }
+        }
+        body.push_str(&format!("h=drawText({},{},\"a\");", names[7], names[333]));
+        let case = plain(operation, &main_of(&body));
+        assert_eq!(lender.misfit_around(&case, seed), None, "seed {seed}");
     }
 }
 
