@@ -212,11 +212,12 @@ demand-3 = record {
       (y .0 ∙ z .0 ∙ sym (x .0), λ i j o e. rw (y .1, x .1) (z .1 i j o (sym (x .0) ∙ e)));
   exactly = λ c a out′ h f.
       let x = demand-2 c a out′ h in
-      let z = Claimed.shortage-exact c f in
-      (λ n.
-      let w = z .0 (rw (x .0) at n) in
-      (w .0, w .1, w .2, w .3, x .0 ∙ w .4),
-      λ n before t s. x .0 ∙ z .1 n before t s);
+      let z = Claimed.shortage-exact c f in (
+        λ n.
+            let w = z .0 (rw (x .0) at n) in
+            (w .0, w .1, w .2, w .3, x .0 ∙ w .4),
+        λ n before t s. x .0 ∙ z .1 n before t s,
+      );
 }
 
 -- ---- no demand is empty

@@ -500,7 +500,7 @@ readings m h = go (eqb m 10) (eqb m 20) (eqb m 30) (eqb m 40) (eqb m 50) (eqb m 
     late i j q a b c d e f g h =
         or-later a _ (or-later b _ (or-later c _ (or-later d _ (or-later e _ (or-later f _ (or-later g _ (or-later h _ q)))))))
 
-    go : (a b c d e f g h k i j : Bool) → a || (i || (j || false)) ≡ true → a || (b || (c || (d || (e || (f || (g || (h || (k || (i || (j || false))))))))))  ≡ true
+    go : (a b c d e f g h k i j : Bool) → a || (i || (j || false)) ≡ true → a || (b || (c || (d || (e || (f || (g || (h || (k || (i || (j || false)))))))))) ≡ true
     go true b c d e f g h k i j q = refl
     go false b c d e f g h k i j q = late i j q b c d e f g h k
 
