@@ -100,7 +100,8 @@ impl Lengths {
         Some(short)
     }
 
-    fn suffice(self, grants: Grants) -> bool {
+    /// Whether each slice is long enough.
+    pub fn suffice(self, grants: Grants) -> bool {
         let needed = Lengths::needed(grants);
         self.tokens >= needed.tokens
             && self.code >= needed.code

@@ -235,3 +235,4 @@ impl Lent {
 }
 
 pub mod compare;
+pub mod inputs;
