@@ -10,7 +10,7 @@ use Rattle.meaning.specs.Book.{Answer, pictured, number}
 use Rattle.meaning.specs.Call.{Call, answer}
 use Rattle.meaning.proofs.Computing.{everything}
 use Rattle.meaning.proofs.Readings.{main}
-use Rattle.running.specs.Called.{called}
+use Rattle.lending.specs.Lending.{called}
 use Rattle.demands.specs.Demands.{Returned}
 use Rattle.demands.proofs.Proved.{not-empty}
 

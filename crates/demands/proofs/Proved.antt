@@ -27,7 +27,7 @@ use Rattle.answers.specs.declared.Answer as Declared
 use Rattle.answers.specs.declared.Answer.the-variants.{Picture, Number}
 use Rattle.answers.specs.Answers.{meant}
 use Rattle.checking.specs.Checking as Checking
-use Rattle.running.specs.Called.{called}
+use Rattle.lending.specs.Lending.{called}
 use Rattle.demands.specs.Demands.{Returned, checked, measured, drawn, Proper, Ends, inPicture, inError, inShortage, Other, notLent, noSheet, tooLong, unreadable, Either, proper, other, Numbered, Demand1, Demand2, Demand3, Possible, NotEmpty}
 
 -- ---- demand 2

@@ -21,7 +21,7 @@ use Rattle.answers.specs.declared.Answer as Declared
 use Rattle.answers.specs.Answers.{meant}
 use Rattle.checking.specs.Checking.{Checked}
 use Rattle.checking.specs.Checking as Checking
-use Rattle.running.specs.Called.{called, Performed}
+use Rattle.lending.specs.Lending.{called, Performed}
 
 -- ---- a call that has returned
 -- All that its operation's promise says of it is used: `Returned c a out′` where call c was answered a, and its out slice held out′ then. Checking

@@ -22,9 +22,9 @@ use Rattle.picture.specs.Placed.{Wrote}
 use Rattle.scene.specs.Scene.{sceneIn, Drawable}
 use Rattle.running.specs.declared.Ending.{Ending}
 use Rattle.running.specs.declared.Ending.the-variants.{Complete, Stopped}
-use Rattle.running.specs.Running.{Ran, paintingRun, Ready}
-use Rattle.running.specs.Called.{enough, called, Performed}
-use Rattle.running.proofs.Admitted.{draws, performed-nothing, ready, performed, written}
+use Rattle.running.specs.Running.{Ran, paintingRun}
+use Rattle.lending.specs.Lending.{enough, Ready, called, Performed}
+use Rattle.lending.proofs.Admitted.{draws, performed-nothing, ready, performed, written}
 use Rattle.running.proofs.Booked.{drawn-number, out-untouched, drawn-short, out-kept, drawn-picture, out-laid, painted-ended}
 use Rattle.drawing.specs.Drawing.{drawingRun, Drawn, Scene}
 

@@ -10,7 +10,7 @@ use Rattle.meaning.specs.Call.{granted, outAfterEnd}
 use Rattle.stores.specs.Layout.{stepsGranted}
 use Rattle.running.specs.declared.Ending.the-variants.{Complete}
 use Rattle.running.specs.Running.{Ran, paintingRun}
-use Rattle.running.specs.Called.{grantsOf}
+use Rattle.lending.specs.Lending.{grantsOf}
 
 abbrev pub drawingRun : List ℕ → ℤ → ℤ → List ℕ → Run Outcome
 drawingRun program width height g = specified drawing program width height (suc (stepsGranted g))

@@ -6,8 +6,7 @@ ghost use mathlib.Core.Path.{_≡_};
 ghost use Rattle.meaning.specs.Program.{drawing};
 ghost use Rattle.meaning.specs.Call.{outAfter};
 ghost use Rattle.answers.specs.Answers.{meant};
-ghost use Rattle.running.specs.Running.{Ready};
-ghost use Rattle.running.specs.Called.{called, Performed};
+ghost use Rattle.lending.specs.Lending.{Ready, called, Performed};
 ghost use Rattle.drawing.specs.Drawing.{Drawn, Scene};
 
 // Runs the program and draws its picture into the front of `out`; after a number `out` is as it was. The grants are steps, shapes, entries and text
@@ -28,7 +27,7 @@ pub fn draw(
         (meant r) (now (tokens .entry)) (now (code .entry)) (now (words .entry)) (now (texts .entry)) (now (tokens .exit)) (now (code .exit)) (now (words .exit)) (now (texts .exit)) ⌝ }
     ensures { λ _. ⌜ now (out .exit) ≡ outAfter (called drawing (now (program .entry)) width height (now (grants .entry)) (now (tokens .entry)) (now (code .entry)) (now (words .entry)) (now (texts .entry)) (now (out .entry))) ⌝ }
 {
-    if !running::lent::is_enough(grants, tokens.len(), code.len(), words.len(), texts.len()) {
+    if !lending::is_enough(grants, tokens.len(), code.len(), words.len(), texts.len()) {
         return Answer::Number(71, 0, 0, 0);
     }
     let r = draw_lent(
@@ -42,7 +41,7 @@ pub fn draw(
         texts,
         out,
     );
-    running::lent::clear(tokens, code, words, texts);
+    lending::clear(tokens, code, words, texts);
     r
 }
 

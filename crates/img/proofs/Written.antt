@@ -16,7 +16,7 @@ use Rattle.answers.specs.declared.Answer as Declared
 use Rattle.answers.specs.declared.Answer.the-variants.{Picture, Number}
 use Rattle.answers.specs.Answers.{meant}
 use Rattle.checking.specs.Checking.{Checked}
-use Rattle.running.specs.Called.{called, Performed}
+use Rattle.lending.specs.Lending.{called, Performed}
 use Rattle.img.specs.Numbers.{Checks, Performs, numbersOf}
 
 four : (a b c d : ℕ) (xs : List ℕ) → set (set (set (set xs 0 a) 1 b) 2 c) 3 d ≡ laidOver (a ∷ b ∷ c ∷ d ∷ []) xs

@@ -6,7 +6,7 @@ ghost use mathlib.Core.List.{[], _∷_};
 ghost use Rattle.meaning.specs.Basics.{laidOver};
 ghost use Rattle.meaning.specs.Program.{measuring, drawing};
 ghost use Rattle.meaning.specs.Call.{outAfter};
-ghost use Rattle.running.specs.Called.{called};
+ghost use Rattle.lending.specs.Lending.{called};
 ghost use Rattle.answers.specs.Answers.{meant};
 ghost use Rattle.img.specs.Numbers.{Checks, Performs, numbersOf};
 

@@ -14,7 +14,7 @@ use Rattle.meaning.specs.Program.{drawing}
 use Rattle.meaning.specs.Call.{Call, answer, outAfter}
 use Rattle.answers.specs.declared.Answer as Declared
 use Rattle.answers.specs.Answers.{meant}
-use Rattle.running.specs.Called.{called}
+use Rattle.lending.specs.Lending.{called}
 use Rattle.sheet.specs.declared.line.Sheet.{Sheet}
 use Rattle.sheet.specs.declared.line.Sheet.the-variants.{Sized, Unread}
 use Rattle.sheet.specs.Errors.{ErrorWritten}

@@ -19,9 +19,9 @@ use Rattle.stores.specs.Act.{raw}
 use Rattle.scene.specs.Scene.{sceneIn, Drawable}
 use Rattle.running.specs.declared.Ending.{Ending}
 use Rattle.running.specs.declared.Ending.the-variants.{Complete, Stopped}
-use Rattle.running.specs.Running.{Ran, paintingRun, Ready}
-use Rattle.running.specs.Called.{enough, called, Performed}
-use Rattle.running.proofs.Admitted.{measures, performed-nothing, ready, performed}
+use Rattle.running.specs.Running.{Ran, paintingRun}
+use Rattle.lending.specs.Lending.{enough, Ready, called, Performed}
+use Rattle.lending.proofs.Admitted.{measures, performed-nothing, ready, performed}
 use Rattle.running.proofs.Booked.{measured-number, measured-picture, painted-ended}
 use Rattle.measuring.specs.Measuring.{bookedMeasuring}
 

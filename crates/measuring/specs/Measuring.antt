@@ -6,7 +6,7 @@ use Rattle.meaning.specs.Program.{measuring, specified}
 use Rattle.meaning.specs.Book.{Answer, booked}
 use Rattle.meaning.specs.Call.{granted}
 use Rattle.stores.specs.Layout.{stepsGranted}
-use Rattle.running.specs.Called.{grantsOf}
+use Rattle.lending.specs.Lending.{grantsOf}
 
 abbrev pub bookedMeasuring : List ℕ → ℤ → ℤ → List ℕ → Answer
 bookedMeasuring program width height g = booked (granted (grantsOf g) []) (specified measuring program width height (suc (stepsGranted g)))

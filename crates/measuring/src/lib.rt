@@ -5,8 +5,7 @@ ghost use mathlib.Core.Path.{_≡_};
 ghost use mathlib.Core.List.{[]};
 ghost use Rattle.meaning.specs.Program.{measuring};
 ghost use Rattle.answers.specs.Answers.{meant};
-ghost use Rattle.running.specs.Running.{Ready};
-ghost use Rattle.running.specs.Called.{called, Performed};
+ghost use Rattle.lending.specs.Lending.{Ready, called, Performed};
 ghost use Rattle.measuring.specs.Measuring.{bookedMeasuring};
 
 // Runs the program and says how long its picture is. The grants are steps, shapes, entries and text bytes; `tokens` must hold 8,193 words, `code`
@@ -25,11 +24,11 @@ pub fn measure(
     ensures { λ r. ⌜ Performed (called measuring (now (program .entry)) width height (now (grants .entry)) (now (tokens .entry)) (now (code .entry)) (now (words .entry)) (now (texts .entry)) [])
         (meant r) (now (tokens .entry)) (now (code .entry)) (now (words .entry)) (now (texts .entry)) (now (tokens .exit)) (now (code .exit)) (now (words .exit)) (now (texts .exit)) ⌝ }
 {
-    if !running::lent::is_enough(grants, tokens.len(), code.len(), words.len(), texts.len()) {
+    if !lending::is_enough(grants, tokens.len(), code.len(), words.len(), texts.len()) {
         return Answer::Number(71, 0, 0, 0);
     }
     let r = measure_lent(program, width, height, grants, tokens, code, words, texts);
-    running::lent::clear(tokens, code, words, texts);
+    lending::clear(tokens, code, words, texts);
     r
 }
 

@@ -25,7 +25,7 @@ use Rattle.scene.specs.Scene.{sceneIn, Drawable}
 use Rattle.running.specs.declared.Ending.{Ending}
 use Rattle.running.specs.declared.Ending.the-variants.{Complete, Stopped}
 use Rattle.running.specs.Running.{shownEnding, Painted, Ran, paintingRun}
-use Rattle.running.specs.Called.{grantsOf}
+use Rattle.lending.specs.Lending.{grantsOf}
 
 -- ---- takings of which none is a picture
 pictureIn : Booked → ℕ

@@ -2,5 +2,4 @@ mod Scenes
 mod Entering
 mod Painting
 mod Ways
-pub mod Admitted
 pub mod Booked

@@ -36,7 +36,8 @@ use Rattle.executor.specs.Asked.{Body}
 use Rattle.executor.proofs.Acts.{flow-on, flow-returns, flow-stops}
 use Rattle.running.specs.declared.Ending.{Ending}
 use Rattle.running.specs.declared.Ending.the-variants.{Complete, Stopped}
-use Rattle.running.specs.Running.{entered, bodyRun, shownEnding, Ran, paintingRun, readingRun, Ready, ReadyToRead}
+use Rattle.lending.specs.Lending.{Ready}
+use Rattle.running.specs.Running.{entered, bodyRun, shownEnding, Ran, paintingRun, readingRun, ReadyToRead}
 use Rattle.running.proofs.Painting.{read-malformed, read-parameters, body-small, read-body, no-sheet, too-long, as-read}
 
 -- a signed number handed over, as its bits

@@ -1,3 +1,2 @@
 pub mod Specified
 pub mod Running
-pub mod Called

@@ -12,12 +12,13 @@ use Rattle.meaning.specs.Program.{empty, painting}
 use Rattle.meaning.specs.Picture.{pictureOf}
 use Rattle.values.specs.declared.Value.the-variants.{Integer}
 use Rattle.values.specs.Words.{packed}
-use Rattle.stores.specs.Layout.{stepsUsed, stepsGranted, Lent}
+use Rattle.stores.specs.Layout.{stepsUsed, stepsGranted}
 use Rattle.stores.specs.Act.{Raw, raw, Out, done, stop, Act, give, _>>_, _>>=_}
 use Rattle.stores.specs.Variables.{declare, setVariable}
 use Rattle.evaluator.specs.Evaluate.{Setting}
 use Rattle.executor.specs.Execute.{executeBody}
 use Rattle.simulation.specs.Follows.{Grants, Follows}
+use Rattle.lending.specs.Lending.{Ready}
 use Rattle.scene.specs.Scene.{sceneIn, Drawable}
 use Rattle.running.specs.Specified.{paintRead}
 use Rattle.running.specs.declared.Ending.{Ending}
@@ -61,11 +62,6 @@ abbrev pub readingRun : List ℕ → ℤ → ℤ → List ℕ → Run (List ℕ)
 readingRun program width height g = paintRead (reading program) width height (suc (stepsGranted g)) empty
 
 -- ---- what is asked
-pub record Ready (g tokens code ts ws : List ℕ) : Type 0 where
-  pub tokensLong : 8193 ≤ length tokens
-  pub codeLong : 16384 ≤ length code
-  pub lent : Lent g ts ws
-
 pub record ReadyToRead (program g tokens code ts ws : List ℕ) : Type 0 where
   pub ready : Ready g tokens code ts ws
   pub short : length program ≤ 32768

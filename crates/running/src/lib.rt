@@ -1,6 +1,4 @@
 // A run from the program to its picture.
-pub mod lent;
-
 use executor::Flow;
 use reader::Program;
 use values::Value;
@@ -13,7 +11,8 @@ ghost use lib.ListN.{length, take};
 ghost use Rattle.stores.specs.Act.{raw, Passes};
 ghost use Rattle.evaluator.specs.Evaluate.{setting};
 ghost use Rattle.executor.specs.Asked.{Body};
-ghost use Rattle.running.specs.Running.{entered, bodyRun, shownEnding, Ran, paintingRun, readingRun, Ready, ReadyToRead};
+ghost use Rattle.lending.specs.Lending.{Ready};
+ghost use Rattle.running.specs.Running.{entered, bodyRun, shownEnding, Ran, paintingRun, readingRun, ReadyToRead};
 
 // How a run ends: main is done, or a number and its place.
 pub enum Ending {

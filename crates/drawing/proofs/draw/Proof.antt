@@ -5,8 +5,8 @@ use Rattle.drawing.proofs.draw.Tie as tie
 use Rattle.drawing.proofs.draw.Reads as reads
 use Rattle.drawing.proofs.draw.Lts as lts
 use Rattle.drawing.proofs.draw_lent.Reads as draw-lent-reads
-use Rattle.running.proofs.lent.clear.Reads as clear-reads
-use Rattle.running.proofs.lent.is_enough.Reads as is-enough-reads
+use Rattle.lending.proofs.clear.Reads as clear-reads
+use Rattle.lending.proofs.is_enough.Reads as is-enough-reads
 
 -- src/lib.rt:31:9
 is-enough-requires : tie.Need-is-enough-requires

@@ -1,39 +1,39 @@
-use Rattle.running.proofs.Admitted.{steps-out, shapes-out, entries-out, text-asked}
+use Rattle.lending.proofs.Admitted.{steps-out, shapes-out, entries-out, text-asked}
 use borrow.Author.Needs.{needs}
-use Rattle.running.proofs.lent.in_range.Statement.{statement}
-use Rattle.running.proofs.lent.in_range.Tie as tie
-use Rattle.running.proofs.lent.in_range.Reads as reads
-use Rattle.running.proofs.lent.in_range.Lts as lts
+use Rattle.lending.proofs.in_range.Statement.{statement}
+use Rattle.lending.proofs.in_range.Tie as tie
+use Rattle.lending.proofs.in_range.Reads as reads
+use Rattle.lending.proofs.in_range.Lts as lts
 
--- src/lent.rt:14:21
+-- src/lib.rt:14:21
 element-copy-out-if1 : tie.Need-element-copy-out-if1
 element-copy-out-if1 c = search needs
 
--- src/lent.rt:15:9
+-- src/lib.rt:15:9
 returns : tie.Need-returns
 returns c = search steps-out
 
--- src/lent.rt:17:16
+-- src/lib.rt:17:16
 element-copy-out-if2 : tie.Need-element-copy-out-if2
 element-copy-out-if2 c = search needs
 
--- src/lent.rt:18:9
+-- src/lib.rt:18:9
 returns-2 : tie.Need-returns-2
 returns-2 c = search shapes-out
 
--- src/lent.rt:20:16
+-- src/lib.rt:20:16
 element-copy-out-if3 : tie.Need-element-copy-out-if3
 element-copy-out-if3 c = search needs
 
--- src/lent.rt:21:9
+-- src/lib.rt:21:9
 returns-3 : tie.Need-returns-3
 returns-3 c = search entries-out
 
--- src/lent.rt:23:5
+-- src/lib.rt:23:5
 element-copy-out-result : tie.Need-element-copy-out-result
 element-copy-out-result c = search needs
 
--- src/lent.rt:11:1
+-- src/lib.rt:11:1
 returns-4 : tie.Need-returns-4
 returns-4 c = search text-asked
 

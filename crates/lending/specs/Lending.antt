@@ -1,5 +1,5 @@
--- Measuring and drawing as calls of the meaning's, and what they promise.
-use Prim.Native.Nat.{ℕ}
+-- What is lent and granted for measuring and drawing, these as calls of the meaning's, and what they promise.
+use Prim.Native.Nat.{ℕ, _≤_}
 use mathlib.Core.Path.{_≡_}
 use mathlib.Core.Bool.{Bool, _&&_}
 use mathlib.Core.List.{List, [], _∷_}
@@ -8,7 +8,7 @@ use lib.IntN.{ℤ}
 use Rattle.meaning.specs.Program.{Operation, measuring}
 use Rattle.meaning.specs.Book.{Answer}
 use Rattle.meaning.specs.Call.{Grants, Call, inRange, needed, longEnough, answer, workAfter}
-use Rattle.stores.specs.Layout.{stepsGranted, shapesGranted, entriesGranted, textGranted}
+use Rattle.stores.specs.Layout.{stepsGranted, shapesGranted, entriesGranted, textGranted, Lent}
 
 -- the four counts of a list
 abbrev pub grantsOf : List ℕ → Grants
@@ -17,6 +17,12 @@ grantsOf g = record { steps = stepsGranted g; shapes = shapesGranted g; entries 
 -- whether they are in their ranges, and work slices of these lengths long enough for them
 unfoldable pub enough : List ℕ → ℕ → ℕ → ℕ → ℕ → Bool
 enough g tokens code words texts = inRange (grantsOf g) && longEnough (needed measuring (grantsOf g)) (tokens ∷ code ∷ words ∷ texts ∷ [])
+
+-- what a run asks of them
+pub record Ready (g tokens code ts ws : List ℕ) : Type 0 where
+  pub tokensLong : 8193 ≤ length tokens
+  pub codeLong : 16384 ≤ length code
+  pub lent : Lent g ts ws
 
 abbrev pub called : Operation → List ℕ → ℤ → ℤ → List ℕ → List ℕ → List ℕ → List ℕ → List ℕ → List ℕ → Call
 called o program width height g tokens code words texts out = record {

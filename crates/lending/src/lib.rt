@@ -5,7 +5,7 @@ ghost use mathlib.Core.Bool.{true};
 ghost use lib.ListN.{length, replicate};
 ghost use Rattle.meaning.specs.Call.{inRange};
 ghost use Rattle.stores.specs.Layout.{wordsNeeded};
-ghost use Rattle.running.specs.Called.{grantsOf, enough};
+ghost use Rattle.lending.specs.Lending.{grantsOf, enough};
 
 // Whether each count is in its range.
 fn in_range(grants: &[u64; 4]) -> bool

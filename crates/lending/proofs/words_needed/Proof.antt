@@ -1,35 +1,35 @@
-use Rattle.running.proofs.Admitted.{shapes-fit, shapes-end-fits, entries-fit, words-fit}
+use Rattle.lending.proofs.Admitted.{shapes-fit, shapes-end-fits, entries-fit, words-fit}
 use borrow.Author.Needs.{needs}
-use Rattle.running.proofs.lent.words_needed.Statement.{statement}
-use Rattle.running.proofs.lent.words_needed.Tie as tie
-use Rattle.running.proofs.lent.words_needed.Reads as reads
-use Rattle.running.proofs.lent.words_needed.Lts as lts
+use Rattle.lending.proofs.words_needed.Statement.{statement}
+use Rattle.lending.proofs.words_needed.Tie as tie
+use Rattle.lending.proofs.words_needed.Reads as reads
+use Rattle.lending.proofs.words_needed.Lts as lts
 
--- src/lent.rt:31:17
+-- src/lib.rt:31:17
 element-copy-out-result : tie.Need-element-copy-out-result
 element-copy-out-result c = search needs
 
--- src/lent.rt:31:13
+-- src/lib.rt:31:13
 mul-result : tie.Need-mul-result
 mul-result c = search shapes-fit
 
--- src/lent.rt:31:5
+-- src/lib.rt:31:5
 add-result : tie.Need-add-result
 add-result c = search shapes-end-fits
 
--- src/lent.rt:31:33
+-- src/lib.rt:31:33
 element-copy-out-result-2 : tie.Need-element-copy-out-result-2
 element-copy-out-result-2 c = search needs
 
--- src/lent.rt:31:29
+-- src/lib.rt:31:29
 mul-result-2 : tie.Need-mul-result-2
 mul-result-2 c = search entries-fit
 
--- src/lent.rt:31:5
+-- src/lib.rt:31:5
 add-result-2 : tie.Need-add-result-2
 add-result-2 c = search words-fit
 
--- src/lent.rt:27:1
+-- src/lib.rt:27:1
 returns : tie.Need-returns
 returns c = search needs
 

@@ -16,8 +16,7 @@ use Rattle.meaning.specs.Program.{Operation, Outcome, measuring, drawing, speci
 use Rattle.meaning.specs.Book.{nothingYet, book, Answer, number, booked}
 use Rattle.meaning.specs.Call.{Call, inRange, needed, longEnough, admitted, granted, runOf, answer, workAfter, outAfterEnd, outAfter}
 use Rattle.stores.specs.Layout.{stepsGranted, shapesGranted, entriesGranted, textGranted, wordsNeeded}
-use Rattle.running.specs.Running.{Ready}
-use Rattle.running.specs.Called.{grantsOf, enough, called, Performed}
+use Rattle.lending.specs.Lending.{grantsOf, enough, Ready, called, Performed}
 
 -- ---- conjunctions
 no-truth : {A : Type 0} → false ≡ true → A
