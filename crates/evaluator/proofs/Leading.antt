@@ -22,7 +22,8 @@ use Rattle.stores.specs.Shapes.{figureAt, newShape, destroy}
 use Rattle.stores.specs.Variables.{usable, clearScene}
 use Rattle.stores.specs.Arguments.{argumentAt}
 use Rattle.operators.specs.Operate.{withInteger, withText, withTable, withShape, moved, plusX, plusY, minusX, minusY, scaledUp, scaledDown, calculated, compared, remaindered, joined, equality, answered, equated, operateOn, operate}
-use Rattle.library.specs.Library.{argument, allUsable, figure, centreX, centreY, connecting, textOn, withFigure, drawn, drawnText, connected, labelled, coordinate, destroyed, clearing, perform, callLibrary}
+use Rattle.library.specs.Library.{withFigure, drawn, drawnText, connected, labelled, coordinate, destroyed, clearing, perform, callLibrary}
+use Rattle.arguments.specs.Arguments.{argument, allUsable, figure, centreX, centreY, connecting, textOn}
 use Rattle.invariant.specs.Invariant.{Held, Sound, SoundIn, HeldIn, SoundValue, Valid, Grows, Kept, After, kept, stopped, Any}
 use Rattle.invariant.proofs.Soundness.{held-more, held-low, sound-grows, sound-unpacked, sound-packed}
 use Rattle.invariant.proofs.Keeping.{grows-self, grows-on, after-then, after-give, after-refuse, after-usable}

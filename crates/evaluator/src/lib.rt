@@ -248,7 +248,7 @@ fn operation_of(
 {
     match evaluate(program, code, grants, texts, words, depth, y, p) {
         Answer::Good(v) => {
-            let r = operators::operate(program, grants, texts, words, tag, p, a, values::pack(v));
+            let r = operation::operate(program, grants, texts, words, tag, p, a, values::pack(v));
             r
         }
         Answer::Bad(n, q) => Answer::Bad(n, q),

@@ -24,11 +24,12 @@ use Rattle.invariant.proofs.EntriesKept.{after-store-entry}
 use Rattle.evaluator.specs.Evaluate.{Setting, setting}
 use Rattle.evaluator.proofs.Leading.{Leads, leads-grows, leads-packed, after-leads, after-choice, figure-held}
 use Rattle.evaluator.proofs.Kept.{after-evaluate}
-use Rattle.executor.specs.declared.Flow.{Flow}
-use Rattle.executor.specs.declared.Flow.the-variants.{Onward, Returned, Stopped}
-use Rattle.executor.specs.declared.Outcome.{Outcome}
-use Rattle.executor.specs.declared.Outcome.the-variants as outcome
-use Rattle.executor.specs.Execute.{Executor, shownFlow, shownTest, continue, placeIn, extraIn, sizeAt, declaring, copied, assigning, assigningOf, updateValue, updateIn, updating, returning, acting, tested, turning, looping, loopFrom, whenAt, executeAll, blockAt, executeSimple, executeBy, executeAt}
+use Rattle.plain.specs.declared.Flow.{Flow}
+use Rattle.plain.specs.declared.Flow.the-variants.{Onward, Returned, Stopped}
+use Rattle.plain.specs.declared.Outcome.{Outcome}
+use Rattle.plain.specs.declared.Outcome.the-variants as outcome
+use Rattle.executor.specs.Execute.{Executor, continue, looping, loopFrom, whenAt, executeAll, blockAt, executeSimple, executeBy, executeAt}
+use Rattle.plain.specs.Plain.{shownFlow, shownTest, placeIn, extraIn, sizeAt, declaring, copied, assigning, assigningOf, updateValue, updateIn, updating, returning, acting, tested, turning}
 
 -- ---- values of one kind
 module _ {A : Type 0} {P : A → List ℕ → Type 0} {program g before : List ℕ} (p : ℕ) (r : Raw) where

@@ -14,13 +14,14 @@ use Rattle.stores.specs.Act.{raw, Out, done, stop, Act, goOn, _>>=_, give, fail
 use Rattle.stores.proofs.Acts.{after-pass, after-refusal}
 use Rattle.invariant.specs.Invariant.{Valid}
 use Rattle.evaluator.specs.Evaluate.{Setting, setting}
-use Rattle.executor.specs.declared.Flow.{Flow}
-use Rattle.executor.specs.declared.Flow.the-variants.{Onward, Returned, Stopped}
-use Rattle.executor.specs.declared.Outcome.{Outcome}
-use Rattle.executor.specs.declared.Outcome.the-variants as outcome
-use Rattle.executor.specs.Asked.{Flows}
-use Rattle.executor.specs.Execute.{Executor, shownFlow, shownTest, continue, placeIn, extraIn, declaring, assigningOf, updating, returning, acting, tested, turning, looping, loopFrom, whenAt, executeAll, blockAt, executeSimple, executeBy, executeAt, executeBody}
-use Rattle.executor.proofs.Acts.{flow-on, flow-returns, flow-stops, test-holds, test-fails, test-stops}
+use Rattle.plain.specs.declared.Flow.{Flow}
+use Rattle.plain.specs.declared.Flow.the-variants.{Onward, Returned, Stopped}
+use Rattle.plain.specs.declared.Outcome.{Outcome}
+use Rattle.plain.specs.declared.Outcome.the-variants as outcome
+use Rattle.plain.specs.Asked.{Flows}
+use Rattle.executor.specs.Execute.{Executor, continue, looping, loopFrom, whenAt, executeAll, blockAt, executeSimple, executeBy, executeAt, executeBody}
+use Rattle.plain.specs.Plain.{shownFlow, shownTest, placeIn, extraIn, declaring, assigningOf, updating, returning, acting, tested, turning}
+use Rattle.plain.proofs.Acts.{flow-on, flow-returns, flow-stops, test-holds, test-fails, test-stops}
 
 -- ---- at a depth
 module _ (program code g : List ℕ) (x : ℕ) (ts ws : List ℕ) (depth : ℕ) where

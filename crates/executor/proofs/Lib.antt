@@ -1,4 +1,2 @@
-pub mod Acts
-pub mod StepLaws
 pub mod Laws
 pub mod Kept

@@ -1,27 +1,13 @@
 // Executing statements over code.
-pub mod steps;
-
-use values::Value;
+use plain::Flow;
+use plain::Outcome;
 ghost use Prim.Native.Nat.{_+_};
 ghost use mathlib.Core.Path.{_≡_};
 ghost use Rattle.stores.specs.Act.{raw};
 ghost use Rattle.evaluator.specs.Evaluate.{setting};
 ghost use Rattle.executor.specs.Asked.{Runs, Goes, Body};
-ghost use Rattle.executor.specs.Execute.{shownFlow, placeIn, whenAt, loopFrom, blockAt, executeAll, executeSimple, executeBy, executeAt, executeBody};
-
-// How a statement ends: the next one follows, the procedure returns, or a number and its place.
-pub enum Flow {
-    Onward,
-    Returned(Value),
-    Stopped(u64, u64),
-}
-
-// Whether a test holds, or a number and its place.
-pub enum Outcome {
-    Yes,
-    No,
-    Stopped(u64, u64),
-}
+ghost use Rattle.executor.specs.Execute.{whenAt, loopFrom, blockAt, executeAll, executeSimple, executeBy, executeAt, executeBody};
+ghost use Rattle.plain.specs.Plain.{shownFlow, placeIn};
 
 // A statement by the place of its word.
 fn execute(
@@ -60,7 +46,7 @@ fn by_word(
     ensures { λ r. ⌜ shownFlow r (now (texts .exit)) (now (words .exit))
         ≡ executeBy (executeAt depth (setting (now (program .entry)) (now (code .entry)) (now (grants .entry)))) (setting (now (program .entry)) (now (code .entry)) (now (grants .entry))) w x (placeIn w) (raw (now (texts .entry)) (now (words .entry))) ⌝ }
 {
-    let p = steps::place_of(w);
+    let p = plain::place_of(w);
     if code::tag_of(w) == 36 {
         let r = run_while(
             program,
@@ -69,7 +55,7 @@ fn by_word(
             texts,
             words,
             depth,
-            x + steps::extra_of(w),
+            x + plain::extra_of(w),
             p,
         );
         return r;
@@ -99,24 +85,24 @@ fn simple(
 {
     match code::tag_of(w) {
         32 => {
-            let r = steps::declare(words, steps::extra_of(w), p);
+            let r = plain::declare(words, plain::extra_of(w), p);
             r
         }
         33 => {
-            let r = steps::assign(
+            let r = plain::assign(
                 program,
                 code,
                 grants,
                 texts,
                 words,
-                steps::last_of(w, x),
-                steps::extra_of(w),
+                plain::last_of(w, x),
+                plain::extra_of(w),
                 p,
             );
             r
         }
         34 => {
-            let r = steps::update(program, code, grants, texts, words, steps::last_of(w, x), p);
+            let r = plain::update(program, code, grants, texts, words, plain::last_of(w, x), p);
             r
         }
         35 => {
@@ -127,13 +113,13 @@ fn simple(
                 texts,
                 words,
                 depth,
-                x + steps::extra_of(w),
+                x + plain::extra_of(w),
                 p,
             );
             r
         }
         37 => {
-            let r = steps::give_back(program, code, grants, texts, words, steps::last_of(w, x), p);
+            let r = plain::give_back(program, code, grants, texts, words, plain::last_of(w, x), p);
             r
         }
         38 => {
@@ -141,7 +127,7 @@ fn simple(
             r
         }
         _ => {
-            let r = steps::act(program, code, grants, texts, words, steps::last_of(w, x), p);
+            let r = plain::act(program, code, grants, texts, words, plain::last_of(w, x), p);
             r
         }
     }
@@ -162,7 +148,7 @@ fn when(
     ensures { λ r. ⌜ shownFlow r (now (texts .exit)) (now (words .exit))
         ≡ whenAt (executeAt depth (setting (now (program .entry)) (now (code .entry)) (now (grants .entry)))) (setting (now (program .entry)) (now (code .entry)) (now (grants .entry))) y p (raw (now (texts .entry)) (now (words .entry))) ⌝ }
 {
-    match steps::test(program, code, grants, texts, words, y, p) {
+    match plain::test(program, code, grants, texts, words, y, p) {
         Outcome::Yes => {
             let r = execute(program, code, grants, texts, words, depth, y + 1);
             r
@@ -190,7 +176,7 @@ fn run_while(
     let mut turns = grants[0] + 1;
     while 0 < turns {
         turns -= 1;
-        match steps::turn(program, code, grants, texts, words, y, p) {
+        match plain::turn(program, code, grants, texts, words, y, p) {
             Outcome::Yes => {}
             Outcome::No => return Flow::Onward,
             Outcome::Stopped(n, q) => return Flow::Stopped(n, q),

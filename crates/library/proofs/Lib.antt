@@ -1,3 +1,1 @@
-mod ArgumentLaws
-mod FigureLaws
 mod ProcedureLaws

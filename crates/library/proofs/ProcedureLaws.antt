@@ -25,10 +25,11 @@ use Rattle.stores.proofs.Acts.{after-pass, after-refusal, after-gift}
 use Rattle.operators.specs.Operate.{withInteger, withText}
 use Rattle.operators.proofs.Held.{held, back-to}
 use Rattle.operators.proofs.KindLaws.{integer-or, text-or, shape-or}
-use Rattle.library.specs.Library.{figure, connecting, textOn, allUsable, withFigure}
+use Rattle.library.specs.Library.{withFigure}
+use Rattle.arguments.specs.Arguments.{figure, connecting, textOn, allUsable}
 use Rattle.library.specs.Library.{drawn, drawnText, connected, labelled, coordinate, destroyed, clearing, perform, callLibrary}
-use Rattle.library.specs.Given.{isKind, areKinds, fourIntegers, pointAndText, integerAt, handleAt, shapeAt, givenFigure}
-use Rattle.library.specs.Given.{drawnFigure, textFigure, connectingFigure, labelFigure}
+use Rattle.arguments.specs.Given.{isKind, areKinds, fourIntegers, pointAndText, integerAt, handleAt, shapeAt, givenFigure}
+use Rattle.arguments.specs.Given.{drawnFigure, textFigure, connectingFigure, labelFigure}
 
 -- ---- several questions
 module _ {A : Type 0} (x y : A) where

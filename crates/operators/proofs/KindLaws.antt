@@ -1,8 +1,9 @@
 -- What asks a value's kind, by the value's word.
-use Prim.Native.Nat.{ℕ}
+use Prim.Native.Nat.{ℕ, _%_}
+use native.Mathlib.Omega.{arith}
 use mathlib.Core.Path.{_≡_, refl}
-use mathlib.Core.Bool.{Bool, true, false, cond}
-use borrow.Author.Tests.{eqb-true, eqb-false}
+use mathlib.Core.Bool.{Bool, true, false, cond, _&&_}
+use borrow.Author.Tests.{eqb-true, eqb-false, ne-eqb}
 use lib.Dec.{eqb}
 use lib.IntN.{ℤ}
 use mir.Syntax.{w32}
@@ -11,6 +12,7 @@ use Rattle.values.specs.Words.{kindIn, numberIn, handleIn, unpacked}
 use Rattle.values.proofs.Laws.{unpacked-integer, unpacked-text, unpacked-shape, by-kind}
 use Rattle.stores.specs.Act.{Raw, stop, Act, fail}
 use Rattle.operators.specs.Operate.{withInteger, withText, withShape}
+use Rattle.operators.specs.Parts.{bothIntegers, NotBoth}
 
 module _ {A : Type 0} (p a : ℕ) (s : Raw) where
   -- any other kind is 20
@@ -50,3 +52,33 @@ module _ {A : Type 0} (p a : ℕ) (s : Raw) where
       go : (b : Bool) → eqb (kindIn a) 6 ≡ b → withShape p (unpacked a) k s ≡ cond b (k (numberIn a) s) (stop 20 p s)
       go true e = rw (unpacked-shape a (eqb-true _ _ e))
       go false e = no-shape k (eqb-false _ _ e)
+
+-- ---- both integers, or not
+module _ (a b : ℕ) where
+  pub left-apart : (a % 8 ≡ 1 → ⊥) → false ≡ bothIntegers a b
+  unfolding bothIntegers
+  left-apart h = rw (ne-eqb _ _ h)
+
+  pub right-left : a % 8 ≡ 1 → eqb (b % 8) 1 ≡ bothIntegers a b
+  unfolding bothIntegers
+  right-left e = rw e
+
+  pub left-is : bothIntegers a b ≡ true → kindIn a ≡ 1
+  unfolding bothIntegers
+  left-is h = eqb-true _ _ (go (eqb (kindIn a) 1) (eqb (kindIn b) 1) h)
+    where
+      go : (x y : Bool) → x && y ≡ true → x ≡ true
+      go true y h = refl
+      go false y h = h
+
+  pub right-is : bothIntegers a b ≡ true → kindIn b ≡ 1
+  unfolding bothIntegers
+  right-is h = eqb-true _ _ (go (eqb (kindIn a) 1) (eqb (kindIn b) 1) h)
+    where
+      go : (x y : Bool) → x && y ≡ true → y ≡ true
+      go true y h = h
+      go false y h = let z : _≡_ {A = ℕ} 0 1 = cc in absurd (omega arith)
+
+  pub not-both : bothIntegers a b ≡ false → NotBoth a b
+  unfolding bothIntegers
+  not-both h e f = let x : true ≡ false = rw (e, f) at h in let z : _≡_ {A = ℕ} 0 1 = cc in absurd (omega arith)

@@ -3,4 +3,3 @@ pub mod KindLaws
 mod IntegerLaws
 mod FigureLaws
 mod EqualityLaws
-pub mod OperateLaws

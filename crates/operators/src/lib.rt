@@ -1,120 +1,10 @@
-// Operators on values. A value is handed over as its word.
+// Operators on integers, on a shape and an integer, and equality. A value of any kind is handed over as its word.
 pub mod equality;
 pub mod figures;
 pub mod integers;
 
-use values::Answer;
 ghost use mathlib.Core.Path.{_≡_};
-ghost use Rattle.values.specs.Words.{unpacked};
-ghost use Rattle.stores.specs.Layout.{Room, Lent};
-ghost use Rattle.stores.specs.Act.{raw, shown};
-ghost use Rattle.operators.specs.Operate.{joined, operate};
-ghost use Rattle.operators.specs.Parts.{bothIntegers, Calculates, Mixes, Operates};
-
-// Two texts, one behind the other.
-fn join(
-    program: &[u8],
-    grants: &[u64; 4],
-    texts: &mut [u8],
-    words: &mut [u64],
-    p: u64,
-    a: u64,
-    b: u64,
-) -> Answer
-    requires { ⌜ Lent (now grants) (now texts) (now words) ⌝ }
-    ensures { λ r. ⌜ shown r (now (texts .exit)) (now (words .exit)) ≡ joined (now (program .entry)) (now (grants .entry)) p (unpacked a) (unpacked b) (raw (now (texts .entry)) (now (words .entry))) ⌝ }
-{
-    if a % 8 != 2 {
-        return Answer::Bad(20, p);
-    }
-    if b % 8 != 2 {
-        return Answer::Bad(20, p);
-    }
-    let r = texts::join_texts(
-        program,
-        texts,
-        words,
-        grants,
-        p,
-        values::handle_of(a),
-        values::handle_of(b),
-    );
-    r
-}
-
-// A shape and an integer; 20 for any other values that are not both integers.
-fn calculate(words: &mut [u64], grants: &[u64; 4], tag: u64, p: u64, a: u64, b: u64) -> Answer
-    requires { ⌜ Room (now grants) (now words) ⌝ }
-    ensures { λ r. ⌜ Calculates (now (grants .entry)) (now (words .entry)) tag p a b r (now (words .exit)) ⌝ }
-{
-    if a % 8 != 6 {
-        return Answer::Bad(20, p);
-    }
-    if b % 8 != 1 {
-        return Answer::Bad(20, p);
-    }
-    let r = figures::on_shape(
-        words,
-        grants,
-        tag,
-        p,
-        values::number_of(a),
-        values::integer_of(b),
-    );
-    r
-}
-
-// Values that are not both integers, neither of them a destroyed shape.
-fn on_usable(
-    program: &[u8],
-    grants: &[u64; 4],
-    texts: &mut [u8],
-    words: &mut [u64],
-    tag: u64,
-    p: u64,
-    a: u64,
-    b: u64,
-) -> Answer
-    requires { ⌜ Lent (now grants) (now texts) (now words) ⌝ }
-    ensures { λ r. ⌜ Mixes (now (program .entry)) (now (grants .entry)) (now (texts .entry)) (now (words .entry)) tag p a b r (now (texts .exit)) (now (words .exit)) ⌝ }
-{
-    match tag {
-        16 => {
-            let r = join(program, grants, texts, words, p, a, b);
-            r
-        }
-        24 => equality::equal(program, texts, words, p, a, b),
-        25 => equality::unequal(program, texts, words, p, a, b),
-        _ => {
-            let r = calculate(words, grants, tag, p, a, b);
-            r
-        }
-    }
-}
-
-// Values that are not both integers.
-fn on_mixed(
-    program: &[u8],
-    grants: &[u64; 4],
-    texts: &mut [u8],
-    words: &mut [u64],
-    tag: u64,
-    p: u64,
-    a: u64,
-    b: u64,
-) -> Answer
-    requires { ⌜ Lent (now grants) (now texts) (now words) ⌝ }
-    ensures { λ r. ⌜ Operates (now (program .entry)) (now (grants .entry)) (now (texts .entry)) (now (words .entry)) tag p a b r (now (texts .exit)) (now (words .exit)) ⌝ }
-{
-    if stores::variables::is_dead(words, a) {
-        return Answer::Bad(30, p);
-    }
-    if stores::variables::is_dead(words, b) {
-        return Answer::Bad(30, p);
-    }
-    let r = on_usable(program, grants, texts, words, tag, p, a, b);
-    r
-}
+ghost use Rattle.operators.specs.Parts.{bothIntegers};
 
 // Whether both words are integers: a caller that asks can go to `integers` itself.
 pub fn both_integers(a: u64, b: u64) -> bool
@@ -124,25 +14,4 @@ pub fn both_integers(a: u64, b: u64) -> bool
         return false;
     }
     b % 8 == 1
-}
-
-// An operator, by its tag, on two values at a place.
-pub fn operate(
-    program: &[u8],
-    grants: &[u64; 4],
-    texts: &mut [u8],
-    words: &mut [u64],
-    tag: u64,
-    p: u64,
-    a: u64,
-    b: u64,
-) -> Answer
-    requires { ⌜ Lent (now grants) (now texts) (now words) ⌝ }
-    ensures { λ r. ⌜ shown r (now (texts .exit)) (now (words .exit)) ≡ operate (now (program .entry)) (now (grants .entry)) tag p (unpacked a) (unpacked b) (raw (now (texts .entry)) (now (words .entry))) ⌝ }
-{
-    if both_integers(a, b) {
-        return integers::on_integers(tag, p, values::integer_of(a), values::integer_of(b));
-    }
-    let r = on_mixed(program, grants, texts, words, tag, p, a, b);
-    r
 }

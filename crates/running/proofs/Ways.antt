@@ -29,11 +29,12 @@ use Rattle.invariant.proofs.Keeping.{after-then, after-declare, after-set-varia
 use Rattle.invariant.proofs.Changes.{lent-same}
 use Rattle.invariant.proofs.EntriesKept.{valid-start}
 use Rattle.evaluator.specs.Evaluate.{setting}
-use Rattle.executor.specs.declared.Flow.{Flow}
-use Rattle.executor.specs.declared.Flow.the-variants as flows
-use Rattle.executor.specs.Execute.{shownFlow, executeBody}
+use Rattle.plain.specs.declared.Flow.{Flow}
+use Rattle.plain.specs.declared.Flow.the-variants as flows
+use Rattle.executor.specs.Execute.{executeBody}
+use Rattle.plain.specs.Plain.{shownFlow}
 use Rattle.executor.specs.Asked.{Body}
-use Rattle.executor.proofs.Acts.{flow-on, flow-returns, flow-stops}
+use Rattle.plain.proofs.Acts.{flow-on, flow-returns, flow-stops}
 use Rattle.running.specs.declared.Ending.{Ending}
 use Rattle.running.specs.declared.Ending.the-variants.{Complete, Stopped}
 use Rattle.lending.specs.Lending.{Ready}

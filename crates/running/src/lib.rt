@@ -1,5 +1,5 @@
 // A run from the program to its picture.
-use executor::Flow;
+use plain::Flow;
 use reader::Program;
 use values::Value;
 ghost use Prim.Native.Nat.{_≤_};

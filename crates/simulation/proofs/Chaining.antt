@@ -9,7 +9,7 @@ use Rattle.stores.specs.Act.{Out, done, stop, Act, goOn, _>>=_, _>>_, give, fai
 use Rattle.stores.specs.Arguments.{push}
 use Rattle.operators.specs.Operate.{withBoolean}
 use Rattle.evaluator.specs.Evaluate.{Setting, Evaluator, pushed}
-use Rattle.executor.specs.Execute.{valueOf, tested, turning}
+use Rattle.plain.specs.Plain.{valueOf, tested, turning}
 
 regroup : {A B C : Type 0} (o : Out A) (f : A → Act B) (g : B → Act C) → goOn (goOn o f) g ≡ goOn o (λ a r. goOn (f a r) g)
 unfolding goOn

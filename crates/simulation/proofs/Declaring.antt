@@ -26,7 +26,7 @@ use Rattle.stores.specs.Act.{Raw, raw}
 use Rattle.stores.specs.Act as Act
 use Rattle.stores.specs.Variables.{declare}
 use Rattle.stores.specs.Variables as Stored
-use Rattle.executor.specs.declared.Flow.the-variants.{Onward}
+use Rattle.plain.specs.declared.Flow.the-variants.{Onward}
 use Rattle.simulation.specs.Meant.{meantValue, meantWord, listed, slotAt, variableAt, variablesOf}
 use Rattle.simulation.specs.Sound.{Valid, declaredAmong, Variables}
 use Rattle.simulation.specs.Follows.{Related, Later, Follows}

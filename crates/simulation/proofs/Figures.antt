@@ -15,7 +15,7 @@ use Rattle.meaning.proofs.IntegerLaws.{sum-range, half-sum-range}
 use Rattle.stores.specs.Texts.{textOf}
 use Rattle.stores.specs.declared.Figure.{Figure}
 use Rattle.operators.specs.Operate.{moved, sameFigure}
-use Rattle.library.specs.Library.{figure, centreX, centreY, connecting, textOn}
+use Rattle.arguments.specs.Arguments.{figure, centreX, centreY, connecting, textOn}
 use Rattle.simulation.specs.Meant.{meantFigure}
 use Rattle.simulation.specs.Sound.{Held, Proper}
 

@@ -31,9 +31,10 @@ use Rattle.stores.specs.Variables as Stored
 use Rattle.stores.specs.Tables.{storeEntry}
 use Rattle.operators.specs.Operate.{withBoolean, withTable}
 use Rattle.evaluator.specs.Evaluate.{Setting}
-use Rattle.executor.specs.declared.Flow.{Flow}
-use Rattle.executor.specs.declared.Flow.the-variants.{Onward, Returned}
-use Rattle.executor.specs.Execute.{continue, placeIn, extraIn, valueOf, sizeAt, declaring, assigning, assigningOf, updateValue, updateIn, updating, returning, acting, Executor, looping, loopFrom, whenAt, executeAll, blockAt, executeSimple, executeBy, executeAt}
+use Rattle.plain.specs.declared.Flow.{Flow}
+use Rattle.plain.specs.declared.Flow.the-variants.{Onward, Returned}
+use Rattle.executor.specs.Execute.{continue, Executor, looping, loopFrom, whenAt, executeAll, blockAt, executeSimple, executeBy, executeAt}
+use Rattle.plain.specs.Plain.{placeIn, extraIn, valueOf, sizeAt, declaring, assigning, assigningOf, updateValue, updateIn, updating, returning, acting}
 use Rattle.simulation.specs.Meant.{meantValue}
 use Rattle.simulation.specs.Sound.{Valid}
 use Rattle.simulation.specs.Follows.{Grants, Related, Follows}

@@ -26,7 +26,7 @@ use Rattle.stores.specs.Layout.{entryPlace}
 use Rattle.stores.specs.Act.{Raw, raw}
 use Rattle.stores.specs.Act as Act
 use Rattle.stores.specs.Tables.{ownerAt, keyAt, valueAt, findEntry, bucketOf, headPlace, entryLaid, putEntry, addEntry, storeIn, storeEntry}
-use Rattle.executor.specs.declared.Flow.the-variants.{Onward}
+use Rattle.plain.specs.declared.Flow.the-variants.{Onward}
 use Rattle.simulation.specs.Meant.{meantValue, meantWord, listed, shapesOf, keyAmong, meantKey, entryAt, entriesOf}
 use Rattle.simulation.specs.Sound.{Valid, Entries}
 use Rattle.simulation.specs.Follows.{Grants, Related, Later, Follows}

@@ -13,8 +13,8 @@ use Rattle.values.specs.declared.Value.{Value}
 use Rattle.stores.specs.Layout.{stepsUsed, tablesMade, argumentsHeld}
 use Rattle.stores.specs.Act.{Raw}
 use Rattle.stores.specs.Arguments.{argumentAt}
-use Rattle.executor.specs.declared.Flow.{Flow}
-use Rattle.executor.specs.declared.Flow.the-variants.{Onward, Returned}
+use Rattle.plain.specs.declared.Flow.{Flow}
+use Rattle.plain.specs.declared.Flow.the-variants.{Onward, Returned}
 use Rattle.simulation.specs.Meant.{meantValue}
 use Rattle.simulation.specs.Sound.{Valid}
 use Rattle.simulation.specs.Follows.{Related, Later}

@@ -49,7 +49,7 @@ use Rattle.evaluator.proofs.parts.new_table.Reads as new-table-reads
 use Rattle.evaluator.proofs.parts.number.Reads as number-reads
 use Rattle.evaluator.proofs.parts.string.Reads as string-reads
 use Rattle.evaluator.proofs.parts.truth.Reads as truth-reads
-use Rattle.operators.proofs.operate.Reads as operate-reads
+use Rattle.operation.proofs.operate.Reads as operate-reads
 use Rattle.stores.proofs.arguments.arguments_held.Reads as arguments-held-reads
 use Rattle.stores.proofs.arguments.push.Reads as push-reads
 use Rattle.stores.proofs.counters.count.Reads as count-reads

@@ -31,16 +31,16 @@ use Rattle.executor.proofs.when.Kinds as when-kinds
 use Rattle.executor.proofs.+block+by_word+execute+execute_all+run_while+simple+when.Lts-when as when-lts
 use Rattle.code.proofs.size_of.Reads as size-of-reads
 use Rattle.code.proofs.tag_of.Reads as tag-of-reads
-use Rattle.executor.proofs.steps.act.Reads as act-reads
-use Rattle.executor.proofs.steps.assign.Reads as assign-reads
-use Rattle.executor.proofs.steps.declare.Reads as declare-reads
-use Rattle.executor.proofs.steps.extra_of.Reads as extra-of-reads
-use Rattle.executor.proofs.steps.give_back.Reads as give-back-reads
-use Rattle.executor.proofs.steps.last_of.Reads as last-of-reads
-use Rattle.executor.proofs.steps.place_of.Reads as place-of-reads
-use Rattle.executor.proofs.steps.test.Reads as test-reads
-use Rattle.executor.proofs.steps.turn.Reads as turn-reads
-use Rattle.executor.proofs.steps.update.Reads as update-reads
+use Rattle.plain.proofs.act.Reads as act-reads
+use Rattle.plain.proofs.assign.Reads as assign-reads
+use Rattle.plain.proofs.declare.Reads as declare-reads
+use Rattle.plain.proofs.extra_of.Reads as extra-of-reads
+use Rattle.plain.proofs.give_back.Reads as give-back-reads
+use Rattle.plain.proofs.last_of.Reads as last-of-reads
+use Rattle.plain.proofs.place_of.Reads as place-of-reads
+use Rattle.plain.proofs.test.Reads as test-reads
+use Rattle.plain.proofs.turn.Reads as turn-reads
+use Rattle.plain.proofs.update.Reads as update-reads
 use Rattle.stores.proofs.counters.count.Reads as count-reads
 use Rattle.stores.proofs.words.word_at.Reads as word-at-reads
 use Rattle.executor.proofs.+block+by_word+execute+execute_all+run_while+simple+when.{

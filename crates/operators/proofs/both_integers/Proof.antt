@@ -1,4 +1,4 @@
-use Rattle.operators.proofs.OperateLaws.{left-apart, right-left}
+use Rattle.operators.proofs.KindLaws.{left-apart, right-left}
 use Rattle.operators.proofs.both_integers.Statement.{statement}
 use Rattle.operators.proofs.both_integers.Tie as tie
 

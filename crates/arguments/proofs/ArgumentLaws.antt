@@ -1,0 +1,103 @@
+-- The arguments of a call, by their words.
+use Prim.Native.Nat.{ℕ, suc, _+_, _-_, _%_, _^_, _≤_, _<_}
+use mathlib.Core.Path.{_≡_, _∙_, sym}
+use mathlib.Core.Bool.{Bool, true, false, not}
+use mathlib.Core.List.{List}
+use native.Mathlib.Omega.{arith}
+use borrow.Author.Tests.{not-true, not-false}
+use lib.Dec.{eqb}
+use lib.IntN.{ℤ}
+use lib.Signed.{mag}
+use mir.Syntax.{w32}
+use mir.Val.{toZ}
+use Rattle.values.specs.Words.{numberIn, handleIn, unpacked}
+use Rattle.stores.specs.declared.Figure.{Figure}
+use Rattle.stores.specs.Act.{raw, goOn, _>>=_, give, fail, refuse, passed, Passes}
+use Rattle.stores.specs.Arguments.{argumentAt}
+use Rattle.stores.specs.Shapes.{figureAt}
+use Rattle.stores.specs.Variables.{isDead, usable}
+use Rattle.operators.proofs.Held.{held, back}
+use Rattle.arguments.specs.Arguments.{allUsable}
+use Rattle.arguments.specs.Given.{isKind, areKinds, fourIntegers, pointAndText, integerAt, handleAt, shapeAt, givenFigure}
+
+-- ---- arguments
+pub argument-is : (ws : List ℕ) (base i : ℕ) {r : ℕ} → r ≡ argumentAt ws (base % 8192 + i % 8192) → r ≡ argumentAt ws (base + i)
+argument-is ws base i e = let q : (base % 8192 + i % 8192) % 8192 ≡ (base + i) % 8192 = omega arith in e ∙ rw q
+
+module _ (ws : List ℕ) (base i : ℕ) {w : ℕ} (e : w ≡ argumentAt ws (base + i)) where
+  pub kind-is : (k : ℕ) → eqb (w % 8) k ≡ isKind ws base i k
+  unfolding isKind
+  kind-is k = rw e
+
+  pub integer-is : {r : ℤ} → r ≡ toZ w32 (numberIn w) → mag r < 2 ^ 31 → held r ≡ integerAt ws base i
+  unfolding integerAt
+  integer-is {r} q h = back {r = r} h ∙ q ∙ rw e
+
+  pub handle-is : {r : ℕ} → r ≡ handleIn w → r ≡ handleAt ws base i
+  unfolding handleAt
+  handle-is q = q ∙ rw e
+
+  pub shape-is : {r : ℕ} → r ≡ numberIn w → r ≡ shapeAt ws base i
+  unfolding shapeAt
+  shape-is q = q ∙ rw e
+
+pub figure-is : (ws : List ℕ) (base i j : ℕ) {f : Figure} → j ≡ shapeAt ws base i → f ≡ figureAt ws j → f ≡ givenFigure ws base i
+unfolding givenFigure
+figure-is ws base i j e q = q ∙ rw e
+
+module _ (ws : List ℕ) (base i k j l : ℕ) {b : Bool} (e : b ≡ isKind ws base i k) where
+  pub kinds-apart : not b ≡ true → false ≡ areKinds ws base i k j l
+  unfolding areKinds
+  kinds-apart h = rw (← e, not-true b h)
+
+  pub kinds-rest : {r : Bool} → not b ≡ false → r ≡ isKind ws base j l → r ≡ areKinds ws base i k j l
+  unfolding areKinds
+  kinds-rest h q = q ∙ rw (← e, not-false b h)
+
+module _ (ws : List ℕ) (base : ℕ) {b : Bool} (e : b ≡ areKinds ws base 0 1 1 1) where
+  pub four-apart : not b ≡ true → false ≡ fourIntegers ws base
+  unfolding fourIntegers
+  four-apart h = rw (← e, not-true b h)
+
+  pub four-rest : {r : Bool} → not b ≡ false → r ≡ areKinds ws base 2 1 3 1 → r ≡ fourIntegers ws base
+  unfolding fourIntegers
+  four-rest h q = q ∙ rw (← e, not-false b h)
+
+  pub point-apart : not b ≡ true → false ≡ pointAndText ws base
+  unfolding pointAndText
+  point-apart h = rw (← e, not-true b h)
+
+  pub point-rest : {r : Bool} → not b ≡ false → r ≡ isKind ws base 2 2 → r ≡ pointAndText ws base
+  unfolding pointAndText
+  point-rest h q = q ∙ rw (← e, not-false b h)
+
+-- ---- destroyed shapes among them
+-- k of n arguments are asked: what is left to ask comes to what was to be asked at first
+pub record Asking (ws : List ℕ) (base n k : ℕ) : Type 0 where
+  pub few : k ≤ n
+  pub rest : (p : ℕ) (ts : List ℕ) → allUsable p base n (raw ts ws) ≡ allUsable p (base + k) (n - k) (raw ts ws)
+
+module _ (ws : List ℕ) (base n : ℕ) where
+  pub ask-first : Asking ws base n 0
+  ask-first =
+      let i : base + 0 ≡ base = omega arith in
+      let j : n - 0 ≡ n = omega arith in
+      record { few = omega arith; rest = λ p ts. rw (i, j) }
+
+  module _ (k w : ℕ) (b : Bool) (g : Asking ws base n k) (h : k < n) (e : w ≡ argumentAt ws (base + k)) (d : b ≡ isDead ws (unpacked w)) where
+    pub ask-dead : b ≡ true → Passes ws 30 (λ p. allUsable p base n) false ws
+    unfolding allUsable usable _>>=_ goOn refuse fail passed
+    ask-dead t =
+        let q : n - k ≡ suc (n - (k + 1)) = omega arith in
+        record { equal = λ p ts. sym (g .rest p ts ∙ rw (q, ← e, ← d, t)) }
+
+    pub ask-more : b ≡ false → Asking ws base n (k + 1)
+    unfolding allUsable usable _>>=_ goOn refuse give
+    ask-more t =
+        let q : n - k ≡ suc (n - (k + 1)) = omega arith in
+        let s : base + k + 1 ≡ base + (k + 1) = omega arith in
+        record { few = omega arith; rest = λ p ts. g .rest p ts ∙ rw (q, ← e, ← d, t, s) }
+
+  pub ask-all : (k : ℕ) → Asking ws base n k → n ≤ k → Passes ws 30 (λ p. allUsable p base n) true ws
+  unfolding allUsable give passed
+  ask-all k g h = let q : n - k ≡ 0 = omega (arith, g .few) in record { equal = λ p ts. sym (g .rest p ts ∙ rw q) }

@@ -1,0 +1,23 @@
+use borrow.Author.Needs.{needs}
+use Rattle.arguments.proofs.FigureLaws.{line-y, box-y, other-y}
+use Rattle.arguments.proofs.figures.centre_y.Statement.{statement}
+use Rattle.arguments.proofs.figures.centre_y.Tie as tie
+
+middle-requires : tie.Need-middle-requires
+middle-requires c κs = search needs
+
+returns : tie.Need-returns
+returns c = search line-y
+
+corner-middle-requires : tie.Need-corner-middle-requires
+corner-middle-requires c κs = search needs
+
+returns-2 : tie.Need-returns-2
+returns-2 c = search box-y
+
+returns-3 : tie.Need-returns-3
+returns-3 c = search other-y
+
+pub centre-y-spec : {M : Type 1} → statement M
+centre-y-spec =
+    tie.close (tie.spec middle-requires returns corner-middle-requires returns-2 returns-3)

@@ -1,0 +1,99 @@
+// The arguments of a call: they are held from the one numbered base on.
+pub mod figures;
+
+use stores::Figure;
+ghost use Prim.Native.Nat.{_+_, _≤_};
+ghost use mathlib.Core.Path.{_≡_};
+ghost use lib.ListN.{length};
+ghost use Rattle.stores.specs.Act.{Passes};
+ghost use Rattle.stores.specs.Arguments.{argumentAt};
+ghost use Rattle.arguments.specs.Arguments.{allUsable};
+ghost use Rattle.arguments.specs.Given.{isKind, areKinds, fourIntegers, pointAndText, integerAt, handleAt, shapeAt, givenFigure};
+
+// The word of argument i.
+pub fn argument(words: &[u64], base: u64, i: u64) -> u64
+    requires { ⌜ 24584 ≤ length (now words) ⌝ }
+    ensures { λ r. ⌜ r ≡ argumentAt (now (words .entry)) (base + i) ⌝ }
+{
+    stores::arguments::argument(words, (base % 8192 + i % 8192) as usize)
+}
+
+pub fn is_kind(words: &[u64], base: u64, i: u64, k: u64) -> bool
+    requires { ⌜ 24584 ≤ length (now words) ⌝ }
+    ensures { λ r. ⌜ r ≡ isKind (now (words .entry)) base i k ⌝ }
+{
+    argument(words, base, i) % 8 == k
+}
+
+pub fn are_kinds(words: &[u64], base: u64, i: u64, k: u64, j: u64, l: u64) -> bool
+    requires { ⌜ 24584 ≤ length (now words) ⌝ }
+    ensures { λ r. ⌜ r ≡ areKinds (now (words .entry)) base i k j l ⌝ }
+{
+    if !is_kind(words, base, i, k) {
+        return false;
+    }
+    is_kind(words, base, j, l)
+}
+
+pub fn four_integers(words: &[u64], base: u64) -> bool
+    requires { ⌜ 24584 ≤ length (now words) ⌝ }
+    ensures { λ r. ⌜ r ≡ fourIntegers (now (words .entry)) base ⌝ }
+{
+    if !are_kinds(words, base, 0, 1, 1, 1) {
+        return false;
+    }
+    are_kinds(words, base, 2, 1, 3, 1)
+}
+
+pub fn point_and_text(words: &[u64], base: u64) -> bool
+    requires { ⌜ 24584 ≤ length (now words) ⌝ }
+    ensures { λ r. ⌜ r ≡ pointAndText (now (words .entry)) base ⌝ }
+{
+    if !are_kinds(words, base, 0, 1, 1, 1) {
+        return false;
+    }
+    is_kind(words, base, 2, 2)
+}
+
+pub fn integer_at(words: &[u64], base: u64, i: u64) -> i32
+    requires { ⌜ 24584 ≤ length (now words) ⌝ }
+    ensures { λ r. ⌜ r ≡ integerAt (now (words .entry)) base i ⌝ }
+{
+    values::integer_of(argument(words, base, i))
+}
+
+pub fn handle_at(words: &[u64], base: u64, i: u64) -> u64
+    requires { ⌜ 24584 ≤ length (now words) ⌝ }
+    ensures { λ r. ⌜ r ≡ handleAt (now (words .entry)) base i ⌝ }
+{
+    values::handle_of(argument(words, base, i))
+}
+
+pub fn shape_at(words: &[u64], base: u64, i: u64) -> u32
+    requires { ⌜ 24584 ≤ length (now words) ⌝ }
+    ensures { λ r. ⌜ r ≡ shapeAt (now (words .entry)) base i ⌝ }
+{
+    values::number_of(argument(words, base, i))
+}
+
+pub fn given_figure(words: &[u64], base: u64, i: u64) -> Figure
+    requires { ⌜ 24584 ≤ length (now words) ⌝ }
+    ensures { λ r. ⌜ r ≡ givenFigure (now (words .entry)) base i ⌝ }
+{
+    stores::shapes::figure_at(words, shape_at(words, base, i))
+}
+
+// Whether no argument is a destroyed shape.
+pub fn all_usable(words: &[u64], base: u64, n: u64) -> bool
+    requires { ⌜ 24584 ≤ length (now words) ⌝ }
+    ensures { λ r. ⌜ Passes (now (words .entry)) 30 (λ p. allUsable p base n) r (now (words .entry)) ⌝ }
+{
+    let mut k = 0;
+    while k < n {
+        if stores::variables::is_dead(words, argument(words, base, k)) {
+            return false;
+        }
+        k += 1;
+    }
+    true
+}

@@ -1,0 +1,81 @@
+use Rattle.plain.proofs.StepLaws.{unknown-copy, copy-put, no-copy}
+use borrow.Author.Needs.{needs}
+use Rattle.plain.proofs.put_copy.Statement.{statement}
+use Rattle.plain.proofs.put_copy.Tie as tie
+use Rattle.plain.proofs.put_copy.Reads as reads
+use Rattle.plain.proofs.put_copy.Lts as lts
+use Rattle.stores.proofs.shapes.figure_at.Reads as figure-at-reads
+use Rattle.stores.proofs.shapes.new_shape.Reads as new-shape-reads
+use Rattle.stores.proofs.variables.is_declared.Reads as is-declared-reads
+use Rattle.stores.proofs.variables.set_variable.Reads as set-variable-reads
+use Rattle.values.proofs.pack.Reads as pack-reads
+
+-- src/lib.rt:94:9
+is-declared-requires : tie.Need-is-declared-requires
+is-declared-requires c κs = search needs
+
+-- src/lib.rt:95:9
+same-length : tie.Need-same-length
+same-length c = search needs
+
+-- src/lib.rt:95:9
+returns : tie.Need-returns
+returns c = search unknown-copy
+
+-- src/lib.rt:97:55
+figure-at-requires : tie.Need-figure-at-requires
+figure-at-requires c κs = search needs
+
+-- src/lib.rt:97:11
+new-shape-requires : tie.Need-new-shape-requires
+new-shape-requires c κs = search needs
+
+-- src/lib.rt:98:22
+enum-known-v : tie.Need-enum-known-v
+enum-known-v c = search needs
+
+-- src/lib.rt:99:58
+pack-requires : tie.Need-pack-requires
+pack-requires c κs = search needs
+
+-- src/lib.rt:99:13
+set-variable-requires : tie.Need-set-variable-requires
+set-variable-requires c κs = search needs
+
+-- src/lib.rt:102:21
+enum-known-n : tie.Need-enum-known-n
+enum-known-n c = search needs
+
+-- src/lib.rt:90:1
+same-length-2 : tie.Need-same-length-2
+same-length-2 c = search needs
+
+-- src/lib.rt:90:1
+returns-2 : tie.Need-returns-2
+returns-2 c = search copy-put
+
+-- src/lib.rt:90:1
+same-length-3 : tie.Need-same-length-3
+same-length-3 c = search needs
+
+-- src/lib.rt:90:1
+returns-3 : tie.Need-returns-3
+returns-3 c = search no-copy
+
+pub put-copy-spec : {M : Type 1} → statement M
+put-copy-spec =
+    tie.close
+    (tie.spec
+    is-declared-requires
+    same-length
+    returns
+    figure-at-requires
+    new-shape-requires
+    enum-known-v
+    pack-requires
+    set-variable-requires
+    enum-known-n
+    same-length-2
+    returns-2
+    same-length-3
+    returns-3)

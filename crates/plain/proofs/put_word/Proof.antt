@@ -1,0 +1,43 @@
+use Rattle.plain.proofs.StepLaws.{unknown-word, word-put}
+use borrow.Author.Needs.{needs}
+use Rattle.plain.proofs.put_word.Statement.{statement}
+use Rattle.plain.proofs.put_word.Tie as tie
+use Rattle.plain.proofs.put_word.Reads as reads
+use Rattle.plain.proofs.put_word.Lts as lts
+use Rattle.stores.proofs.variables.is_declared.Reads as is-declared-reads
+use Rattle.stores.proofs.variables.set_variable.Reads as set-variable-reads
+
+-- src/lib.rt:82:9
+is-declared-requires : tie.Need-is-declared-requires
+is-declared-requires c κs = search needs
+
+-- src/lib.rt:83:9
+same-length : tie.Need-same-length
+same-length c = search needs
+
+-- src/lib.rt:83:9
+returns : tie.Need-returns
+returns c = search unknown-word
+
+-- src/lib.rt:85:5
+set-variable-requires : tie.Need-set-variable-requires
+set-variable-requires c κs = search needs
+
+-- src/lib.rt:78:1
+same-length-2 : tie.Need-same-length-2
+same-length-2 c = search needs
+
+-- src/lib.rt:78:1
+returns-2 : tie.Need-returns-2
+returns-2 c = search word-put
+
+pub put-word-spec : {M : Type 1} → statement M
+put-word-spec =
+    tie.close
+    (tie.spec
+    is-declared-requires
+    same-length
+    returns
+    set-variable-requires
+    same-length-2
+    returns-2)
