@@ -1,9 +1,9 @@
 use Rattle.executor.proofs.StepLaws.{assign-copy, assign-plain, assign-stops}
 use borrow.Author.Needs.{needs}
-use Rattle.executor.proofs.steps.assign.Statement.{statement}
-use Rattle.executor.proofs.steps.assign.Tie as tie
-use Rattle.executor.proofs.steps.assign.Reads as reads
-use Rattle.executor.proofs.steps.assign.Lts as lts
+use Rattle.executor.proofs.steps.assign_evaluated.Statement.{statement}
+use Rattle.executor.proofs.steps.assign_evaluated.Tie as tie
+use Rattle.executor.proofs.steps.assign_evaluated.Reads as reads
+use Rattle.executor.proofs.steps.assign_evaluated.Lts as lts
 use Rattle.executor.proofs.steps.put_copy.Reads as put-copy-reads
 use Rattle.executor.proofs.steps.put_word.Reads as put-word-reads
 use Rattle.executor.proofs.steps.value.Reads as value-reads
@@ -73,8 +73,8 @@ same-length-6 c = search needs
 returns-3 : tie.Need-returns-3
 returns-3 c = search assign-stops
 
-pub assign-spec : {M : Type 1} → statement M
-assign-spec =
+pub assign-evaluated-spec : {M : Type 1} → statement M
+assign-evaluated-spec =
     tie.close
     (tie.spec
     value-requires

@@ -1,9 +1,9 @@
 use Rattle.executor.proofs.StepLaws.{test-yes, test-no, test-other, value-stops}
 use borrow.Author.Needs.{needs}
-use Rattle.executor.proofs.steps.test.Statement.{statement}
-use Rattle.executor.proofs.steps.test.Tie as tie
-use Rattle.executor.proofs.steps.test.Reads as reads
-use Rattle.executor.proofs.steps.test.Lts as lts
+use Rattle.executor.proofs.steps.test_evaluated.Statement.{statement}
+use Rattle.executor.proofs.steps.test_evaluated.Tie as tie
+use Rattle.executor.proofs.steps.test_evaluated.Reads as reads
+use Rattle.executor.proofs.steps.test_evaluated.Lts as lts
 use Rattle.executor.proofs.steps.value.Reads as value-reads
 
 -- src/steps.rt:270:11
@@ -70,8 +70,8 @@ same-length-8 c = search needs
 returns-4 : tie.Need-returns-4
 returns-4 c = search value-stops
 
-pub test-spec : {M : Type 1} → statement M
-test-spec =
+pub test-evaluated-spec : {M : Type 1} → statement M
+test-evaluated-spec =
     tie.close
     (tie.spec
     value-requires
