@@ -4,7 +4,8 @@ use mathlib.Core.Path.{_≡_, refl, sym, _∙_}
 use mathlib.Core.Bool.{Bool, true, false, not, _&&_}
 use mathlib.Core.List.{List}
 use native.Mathlib.Omega.{arith}
-use lib.ListN.{getD, set}
+use lib.ListN.{getD, set, length, take, drop}
+use borrow.Rule.Slice.PartAt.{part-to-end}
 use lib.IntN.{ℤ}
 use lib.Signed.{mag, ltZ}
 use lib.Dec.{eqb, ltb, leb}
@@ -143,20 +144,35 @@ pub agree : (w u v a b c : ℕ) → a ≡ sizeIn w → b ≡ sizeIn u → c ≡ 
 agree w u v a b c e f g = rw (e, f, g)
 
 -- ---- expressions
-module _ (depth : ℕ) (code ws : List ℕ) (w x y z u v : ℕ) (e : z ≡ x - 1 - numberIn w) (f : y ≡ x - 1) (g : u ≡ getD code z 0) (h : v ≡ getD code y 0)
+-- a slice lent anew, as the part of it from 0 on
+abbrev whole : List ℕ → List ℕ
+whole s = take (length s - 0) (drop 0 s)
+
+whole-is : (s : List ℕ) → whole s ≡ s
+whole-is s = part-to-end s 0
+
+module _ (depth : ℕ) (code ws : List ℕ) (w x y z u v : ℕ) (e : z ≡ x - 1 - numberIn w) (f : y ≡ x - 1) (g : u ≡ getD (whole code) z 0) (h : v ≡ getD (whole code) y 0)
     (ok : Bool) (s : ok ≡ sizesAgree w u v) where
+  agreed : ok ≡ sizesAgree w (getD code (x - 1 - numberIn w) 0) (getD code (x - 1) 0)
+  agreed = s ∙ rw (g, h, whole-is code, e, f)
+
   pub sizes-differ : not ok ≡ true → 0 ≡ operationWord (fastAt depth code ws) code w x
   unfolding operationWord if_then_else_
-  sizes-differ t = rw (← e, ← f, ← g, ← h, ← s, not-true ok t)
+  sizes-differ t = rw (← agreed, not-true ok t)
 
-  module _ (a : ℕ) (t : not ok ≡ false) (c : a ≡ fastAt depth code ws z) where
+  module _ (a : ℕ) (t : not ok ≡ false) (c : a ≡ fastAt depth (whole code) (whole ws) z) where
+    left : a ≡ fastAt depth code ws (x - 1 - numberIn w)
+    left = c ∙ rw (whole-is code, whole-is ws, e)
+
     pub left-fails : (a % 8 ≡ 1 → ⊥) → 0 ≡ operationWord (fastAt depth code ws) code w x
     unfolding operationWord if_then_else_
-    left-fails n = rw (← e, ← f, ← g, ← h, ← s, not-false ok t, ← c) (left-other _ a _ n)
+    left-fails n = rw (← agreed, not-false ok t, ← left) (left-other _ a _ n)
 
-    pub operates : (b tag r : ℕ) → b ≡ fastAt depth code ws y → tag ≡ tagIn w → r ≡ wordOn tag a b → r ≡ operationWord (fastAt depth code ws) code w x
+    pub operates : (b tag r : ℕ) → b ≡ fastAt depth (whole code) (whole ws) y → tag ≡ tagIn w → r ≡ wordOn tag a b → r ≡ operationWord (fastAt depth code ws) code w x
     unfolding operationWord if_then_else_
-    operates b tag r d k o = o ∙ rw (← e, ← f, ← g, ← h, ← s, not-false ok t) (rw (← c, ← d, ← k))
+    operates b tag r d k o =
+        let m : b ≡ fastAt depth code ws (x - 1) = d ∙ rw (whole-is code, whole-is ws, f) in
+        o ∙ rw (← agreed, not-false ok t) (rw (← left, ← m, ← k))
 
 module _ (depth : ℕ) (code ws : List ℕ) (w x : ℕ) where
   pub too-deep : depth ≡ 0 → 0 ≡ fastAt depth code ws x
@@ -176,7 +192,13 @@ module _ (depth : ℕ) (code ws : List ℕ) (w x : ℕ) where
     is-operation l h = rw deeper (rw (← e, ← t, le-ltb tag 16 l) h)
 
 -- ---- their steps
-module _ (depth : ℕ) (code g ws : List ℕ) (x v w : ℕ) (e : w ≡ getD code x 0) (f : v ≡ fastAt depth code ws x) where
+module _ (depth : ℕ) (code g ws : List ℕ) (x v w : ℕ) (c : w ≡ getD (whole code) x 0) (d : v ≡ fastAt depth (whole code) ws x) where
+  e : w ≡ getD code x 0
+  e = rw (whole-is code) at c
+
+  f : v ≡ fastAt depth code ws x
+  f = rw (whole-is code) at d
+
   pub not-fast : v ≡ 0 → Values depth code g ws x 0 ws
   unfolding applies if_then_else_
   not-fast z = record { result = rw (← f, z); words = rw (← f, z) }

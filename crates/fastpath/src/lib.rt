@@ -120,6 +120,8 @@ fn operation(code: &[u64], words: &[u64], depth: usize, w: u64, x: usize) -> u64
     requires { ⌜ 24584 ≤ length (now words) ⌝ }
     ensures { λ r. ⌜ r ≡ operationWord (fastAt depth (now (code .entry)) (now (words .entry))) (now (code .entry)) w x ⌝ }
 {
+    let code = &code[0..];
+    let words = &words[0..];
     let z = left_of(w, x);
     let y = right_of(x);
     let u = stores::words::word_at(code, z);
@@ -151,13 +153,30 @@ fn expression(code: &[u64], words: &[u64], depth: usize, w: u64, x: usize) -> u6
     r
 }
 
+// The same of a root. It stands outside the cycle, so that the compiler puts the leaves of an operator into `operation`.
+fn root(code: &[u64], words: &[u64], depth: usize, w: u64, x: usize) -> u64
+    requires { ⌜ 24584 ≤ length (now words) ⌝ }
+    requires { ⌜ w ≡ getD (now code) x 0 ⌝ }
+    ensures { λ r. ⌜ r ≡ fastAt depth (now (code .entry)) (now (words .entry)) x ⌝ }
+{
+    if depth == 0 {
+        return 0;
+    }
+    if code::tag_of(w) < 16 {
+        return leaf_word(words, w);
+    }
+    let r = operation(code, words, depth - 1, w, x);
+    r
+}
+
 // The value of the expression whose root stands at x, its steps counted; 0, and nothing counted, where this does not apply.
 pub fn fast_value(words: &mut [u64], code: &[u64], grants: &[u64; 4], depth: usize, x: usize) -> u64
     requires { ⌜ 24584 ≤ length (now words) ⌝ }
     ensures { λ r. ⌜ Values depth (now (code .entry)) (now (grants .entry)) (now (words .entry)) x r (now (words .exit)) ⌝ }
 {
+    let code = &code[0..];
     let w = stores::words::word_at(code, x);
-    let v = expression(code, words, depth, w, x);
+    let v = root(code, words, depth, w, x);
     if v == 0 {
         return 0;
     }

@@ -118,7 +118,114 @@ expression-returns-3 : (t : ℕ) → expression-lts.Need-returns-3 (
 ) (expression-at t) expression.Post
 expression-returns-3 t c = search is-operation
 
--- src/lib.rt:123:9
+operation-sub-code : (t : ℕ) → operation-lts.Need-sub-code (
+  left-of-reads.Asked,
+  left-of-reads.Learnt,
+  right-of-reads.Asked,
+  right-of-reads.Learnt,
+  word-at-reads.Asked,
+  word-at-reads.Learnt,
+  sizes-agree-reads.Asked,
+  sizes-agree-reads.Learnt,
+  expression-below t,
+  expression.Post,
+  tag-of-reads.Asked,
+  tag-of-reads.Learnt,
+  word-on-reads.Asked,
+  word-on-reads.Learnt,
+) (operation-at t) operation.Post
+operation-sub-code t c = search needs
+
+operation-part-code-start : (t : ℕ) → operation-lts.Need-part-code-start (
+  left-of-reads.Asked,
+  left-of-reads.Learnt,
+  right-of-reads.Asked,
+  right-of-reads.Learnt,
+  word-at-reads.Asked,
+  word-at-reads.Learnt,
+  sizes-agree-reads.Asked,
+  sizes-agree-reads.Learnt,
+  expression-below t,
+  expression.Post,
+  tag-of-reads.Asked,
+  tag-of-reads.Learnt,
+  word-on-reads.Asked,
+  word-on-reads.Learnt,
+) (operation-at t) operation.Post
+operation-part-code-start t c = search needs
+
+operation-part-code-end : (t : ℕ) → operation-lts.Need-part-code-end (
+  left-of-reads.Asked,
+  left-of-reads.Learnt,
+  right-of-reads.Asked,
+  right-of-reads.Learnt,
+  word-at-reads.Asked,
+  word-at-reads.Learnt,
+  sizes-agree-reads.Asked,
+  sizes-agree-reads.Learnt,
+  expression-below t,
+  expression.Post,
+  tag-of-reads.Asked,
+  tag-of-reads.Learnt,
+  word-on-reads.Asked,
+  word-on-reads.Learnt,
+) (operation-at t) operation.Post
+operation-part-code-end t c = search needs
+
+operation-sub-words : (t : ℕ) → operation-lts.Need-sub-words (
+  left-of-reads.Asked,
+  left-of-reads.Learnt,
+  right-of-reads.Asked,
+  right-of-reads.Learnt,
+  word-at-reads.Asked,
+  word-at-reads.Learnt,
+  sizes-agree-reads.Asked,
+  sizes-agree-reads.Learnt,
+  expression-below t,
+  expression.Post,
+  tag-of-reads.Asked,
+  tag-of-reads.Learnt,
+  word-on-reads.Asked,
+  word-on-reads.Learnt,
+) (operation-at t) operation.Post
+operation-sub-words t c = search needs
+
+operation-part-words-start : (t : ℕ) → operation-lts.Need-part-words-start (
+  left-of-reads.Asked,
+  left-of-reads.Learnt,
+  right-of-reads.Asked,
+  right-of-reads.Learnt,
+  word-at-reads.Asked,
+  word-at-reads.Learnt,
+  sizes-agree-reads.Asked,
+  sizes-agree-reads.Learnt,
+  expression-below t,
+  expression.Post,
+  tag-of-reads.Asked,
+  tag-of-reads.Learnt,
+  word-on-reads.Asked,
+  word-on-reads.Learnt,
+) (operation-at t) operation.Post
+operation-part-words-start t c = search needs
+
+operation-part-words-end : (t : ℕ) → operation-lts.Need-part-words-end (
+  left-of-reads.Asked,
+  left-of-reads.Learnt,
+  right-of-reads.Asked,
+  right-of-reads.Learnt,
+  word-at-reads.Asked,
+  word-at-reads.Learnt,
+  sizes-agree-reads.Asked,
+  sizes-agree-reads.Learnt,
+  expression-below t,
+  expression.Post,
+  tag-of-reads.Asked,
+  tag-of-reads.Learnt,
+  word-on-reads.Asked,
+  word-on-reads.Learnt,
+) (operation-at t) operation.Post
+operation-part-words-end t c = search needs
+
 operation-left-of-requires : (t : ℕ) → operation-lts.Need-left-of-requires (
   left-of-reads.Asked,
   left-of-reads.Learnt,
@@ -137,7 +244,6 @@ operation-left-of-requires : (t : ℕ) → operation-lts.Need-left-of-requires (
 ) (operation-at t) operation.Post
 operation-left-of-requires t c κs = search needs
 
--- src/lib.rt:124:9
 operation-right-of-requires : (t : ℕ) → operation-lts.Need-right-of-requires (
   left-of-reads.Asked,
   left-of-reads.Learnt,
@@ -156,7 +262,6 @@ operation-right-of-requires : (t : ℕ) → operation-lts.Need-right-of-requires
 ) (operation-at t) operation.Post
 operation-right-of-requires t c κs = search needs
 
--- src/lib.rt:125:9
 operation-word-at-requires : (t : ℕ) → operation-lts.Need-word-at-requires (
   left-of-reads.Asked,
   left-of-reads.Learnt,
@@ -175,7 +280,6 @@ operation-word-at-requires : (t : ℕ) → operation-lts.Need-word-at-requires (
 ) (operation-at t) operation.Post
 operation-word-at-requires t c κs = search needs
 
--- src/lib.rt:126:9
 operation-word-at-requires-2 : (t : ℕ) → operation-lts.Need-word-at-requires-2 (
   left-of-reads.Asked,
   left-of-reads.Learnt,
@@ -194,7 +298,6 @@ operation-word-at-requires-2 : (t : ℕ) → operation-lts.Need-word-at-requires
 ) (operation-at t) operation.Post
 operation-word-at-requires-2 t c κs = search needs
 
--- src/lib.rt:127:9
 operation-sizes-agree-requires : (t : ℕ) → operation-lts.Need-sizes-agree-requires (
   left-of-reads.Asked,
   left-of-reads.Learnt,
@@ -213,7 +316,6 @@ operation-sizes-agree-requires : (t : ℕ) → operation-lts.Need-sizes-agree-re
 ) (operation-at t) operation.Post
 operation-sizes-agree-requires t c κs = search needs
 
--- src/lib.rt:128:9
 operation-returns : (t : ℕ) → operation-lts.Need-returns (
   left-of-reads.Asked,
   left-of-reads.Learnt,
@@ -230,9 +332,8 @@ operation-returns : (t : ℕ) → operation-lts.Need-returns (
   word-on-reads.Asked,
   word-on-reads.Learnt,
 ) (operation-at t) operation.Post
-operation-returns t c = search sizes-differ
+operation-returns t c = sizes-differ _ _ _ _ _ _ _ _ _ (c .before .before .before .before .before .left-of .ensures) (c .before .before .before .before .right-of .ensures) (c .before .before .before .word-at .ensures) (c .before .before .word-at2 .ensures) _ (c .before .sizes-agree .ensures) (c .if1 .taken)
 
--- src/lib.rt:130:9
 operation-expression-requires : (t : ℕ) → operation-lts.Need-expression-requires (
   left-of-reads.Asked,
   left-of-reads.Learnt,
@@ -251,7 +352,6 @@ operation-expression-requires : (t : ℕ) → operation-lts.Need-expression-requ
 ) (operation-at t) operation.Post
 operation-expression-requires t c κs = (omega arith, search needs)
 
--- src/lib.rt:132:9
 operation-returns-2 : (t : ℕ) → operation-lts.Need-returns-2 (
   left-of-reads.Asked,
   left-of-reads.Learnt,
@@ -268,9 +368,8 @@ operation-returns-2 : (t : ℕ) → operation-lts.Need-returns-2 (
   word-on-reads.Asked,
   word-on-reads.Learnt,
 ) (operation-at t) operation.Post
-operation-returns-2 t c = search left-fails
+operation-returns-2 t c = left-fails _ _ _ _ _ _ _ _ _ (c .before .before .before .before .before .before .before .left-of .ensures) (c .before .before .before .before .before .before .right-of .ensures) (c .before .before .before .before .before .word-at .ensures) (c .before .before .before .before .word-at2 .ensures) _ (c .before .before .before .sizes-agree .ensures) _ (c .before .before .if1 .left) (c .before .expression .ensures) (c .if2 .taken)
 
--- src/lib.rt:134:9
 operation-expression-requires-2 : (t : ℕ) → operation-lts.Need-expression-requires-2 (
   left-of-reads.Asked,
   left-of-reads.Learnt,
@@ -289,7 +388,6 @@ operation-expression-requires-2 : (t : ℕ) → operation-lts.Need-expression-re
 ) (operation-at t) operation.Post
 operation-expression-requires-2 t c κs = (omega arith, search needs)
 
--- src/lib.rt:135:13
 operation-tag-of-requires : (t : ℕ) → operation-lts.Need-tag-of-requires (
   left-of-reads.Asked,
   left-of-reads.Learnt,
@@ -308,7 +406,6 @@ operation-tag-of-requires : (t : ℕ) → operation-lts.Need-tag-of-requires (
 ) (operation-at t) operation.Post
 operation-tag-of-requires t c κs = search needs
 
--- src/lib.rt:135:5
 operation-word-on-requires : (t : ℕ) → operation-lts.Need-word-on-requires (
   left-of-reads.Asked,
   left-of-reads.Learnt,
@@ -327,7 +424,6 @@ operation-word-on-requires : (t : ℕ) → operation-lts.Need-word-on-requires (
 ) (operation-at t) operation.Post
 operation-word-on-requires t c κs = search needs
 
--- src/lib.rt:119:1
 operation-returns-3 : (t : ℕ) → operation-lts.Need-returns-3 (
   left-of-reads.Asked,
   left-of-reads.Learnt,
@@ -344,7 +440,7 @@ operation-returns-3 : (t : ℕ) → operation-lts.Need-returns-3 (
   word-on-reads.Asked,
   word-on-reads.Learnt,
 ) (operation-at t) operation.Post
-operation-returns-3 t c = search operates
+operation-returns-3 t c = operates _ _ _ _ _ _ _ _ _ (c .before .before .before .before .before .before .before .before .before .before .left-of .ensures) (c .before .before .before .before .before .before .before .before .before .right-of .ensures) (c .before .before .before .before .before .before .before .before .word-at .ensures) (c .before .before .before .before .before .before .before .word-at2 .ensures) _ (c .before .before .before .before .before .before .sizes-agree .ensures) _ (c .before .before .before .before .before .if1 .left) (c .before .before .before .before .expression .ensures) _ _ _ (c .before .before .expression2 .ensures) (c .before .tag-of .ensures) (c .word-on .ensures)
 
 pub +expression+operation-spec : {M : Type 1} → statement M
 +expression+operation-spec = close μ-expression μ-operation (λ t. expression-lts.spec (
@@ -382,6 +478,12 @@ pub +expression+operation-spec : {M : Type 1} → statement M
     )
     (operation-at t)
     operation.Post
+    (operation-sub-code t)
+    (operation-part-code-start t)
+    (operation-part-code-end t)
+    (operation-sub-words t)
+    (operation-part-words-start t)
+    (operation-part-words-end t)
     (operation-left-of-requires t)
     (operation-right-of-requires t)
     (operation-word-at-requires t)
