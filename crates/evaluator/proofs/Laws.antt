@@ -31,7 +31,7 @@ use Rattle.stores.specs.Tables.{readEntry}
 use Rattle.operators.specs.Operate.{withInteger, withTable, operate}
 use Rattle.library.specs.Library.{callLibrary}
 use Rattle.invariant.specs.Invariant.{Valid}
-use Rattle.evaluator.specs.Evaluate.{Evaluator, Setting, setting, sized, pushed, pushAll, called, calling, tableOf, entryOf, entryAt, operationOf, operationAt, evaluateBy, evaluateAt}
+use Rattle.evaluator.specs.Evaluate.{Evaluator, Setting, setting, sized, pushWord, pushed, pushAll, called, calling, tableOf, entryOf, entryAt, operationOf, operationAt, evaluateBy, evaluateAt}
 use Rattle.stores.proofs.Acts.{after-pass, after-refusal}
 use Rattle.evaluator.proofs.Acts.{goes-on, stops}
 
@@ -51,6 +51,15 @@ module _ (ws : List ℕ) (p : ℕ) (z : ℤ) (b : Bool) (f : SFits w32 z) (e : b
   pub new-table : (t : ℕ) (ws′ : List ℕ) → b ≡ false → Gives ws newTable (Table t) ws′ → Answers ws (sized p z) (Good (Table t)) ws′
   unfolding sized _>>=_ goOn refuse give shown
   new-table t ws′ g h = record { equal = λ ts. rw (← toZ-ofZ f, ← e, g) (h .equal ts) }
+
+module _ (w p : ℕ) (ws : List ℕ) (ok : Bool) (ws₁ : List ℕ) (h : Passes ws 20 (push w) ok ws₁) where
+  pub word-refused : not ok ≡ true → Answers ws (pushWord w p) (Bad 20 p) ws₁
+  unfolding pushWord _>>=_ shown
+  word-refused t = record { equal = λ ts. sym (after-refusal _ p ts (rw (not-true ok t) at h)) }
+
+  pub word-pushed : not ok ≡ false → Answers ws (pushWord w p) (Good Nothing) ws₁
+  unfolding pushWord _>>=_ shown give
+  word-pushed t = record { equal = λ ts. sym (after-pass _ p ts (rw (not-false ok t) at h)) }
 
 module _ (g : List ℕ) (number p base h n : ℕ) (a : Answer) (ws ws₁ : List ℕ) (i : h ≡ getD ws 6 0) (j : n ≡ h - base) (e : Answers ws (callLibrary g number p base n) a ws₁) where
   pub library-stops : (m q : ℕ) → a ≡ Bad m q → Answers ws (called g number p base) (Bad m q) ws₁
@@ -146,20 +155,6 @@ module _ (inner : Evaluator) (e : Setting) (p : ℕ) (ts ws : List ℕ) (a : Ans
   side-goes tag k y l v o h f g r = r ∙ sym (goes-on _ h f ∙ rw g)
 
   -- ---- calls
-  pub push-stops : (y n q : ℕ) → shown a ts₁ ws₁ ≡ inner y p (raw ts ws) → a ≡ Bad n q → shown (Bad n q) ts₁ ws₁ ≡ pushed inner y p (raw ts ws)
-  unfolding pushed _>>=_ shown
-  push-stops y n q h f = sym (stops _ h f)
-
-  pub push-refused : (y k : ℕ) (v : Value) (ok : Bool) (ws₂ : List ℕ) → shown a ts₁ ws₁ ≡ inner y p (raw ts ws) → a ≡ Good v → k ≡ packed v
-      → Passes ws₁ 20 (push k) ok ws₂ → not ok ≡ true → shown (Bad 20 p) ts₁ ws₂ ≡ pushed inner y p (raw ts ws)
-  unfolding pushed _>>=_ shown
-  push-refused y k v ok ws₂ h f g d t = sym (goes-on _ h f ∙ rw (← g) (after-refusal _ p ts₁ (rw (not-true ok t) at d)))
-
-  pub push-done : (y k : ℕ) (v : Value) (ok : Bool) (ws₂ : List ℕ) → shown a ts₁ ws₁ ≡ inner y p (raw ts ws) → a ≡ Good v → k ≡ packed v
-      → Passes ws₁ 20 (push k) ok ws₂ → not ok ≡ false → shown (Good Nothing) ts₁ ws₂ ≡ pushed inner y p (raw ts ws)
-  unfolding pushed _>>=_ shown give
-  push-done y k v ok ws₂ h f g d t = sym (goes-on _ h f ∙ rw (← g) (after-pass _ p ts₁ (rw (not-false ok t) at d)))
-
   -- where the arguments begin
   module _ (x w base s l b : ℕ) (i : base ≡ getD ws 6 0) (c : s ≡ sizeIn w) (d : l ≡ s - 1) (f : b ≡ x - l) where
     pub call-stops : (n q : ℕ) → shown a ts₁ ws₁ ≡ pushAll (suc x) inner e b x p (raw ts ws) → a ≡ Bad n q → shown (Bad n q) ts₁ ws₁ ≡ calling inner e w x p (raw ts ws)
@@ -170,6 +165,17 @@ module _ (inner : Evaluator) (e : Setting) (p : ℕ) (ts ws : List ℕ) (a : Ans
         → Answers ws₁ (called (e .grants) n p base) r ws₂ → shown r ts₁ ws₂ ≡ calling inner e w x p (raw ts ws)
     unfolding calling _>>=_ goOn load
     call-goes n v r ws₂ h g m q = q .equal ts₁ ∙ sym (rw (← first-argument x w s l b c d f) (goes-on _ h g ∙ rw (m, i)))
+
+-- ---- an argument
+module _ (inner : Evaluator) (p : ℕ) (ts ws : List ℕ) (a : Answer) (ts₁ ws₁ : List ℕ) where
+  pub push-stops : (y n q : ℕ) → shown a ts₁ ws₁ ≡ inner y p (raw ts ws) → a ≡ Bad n q → shown (Bad n q) ts₁ ws₁ ≡ pushed inner y p (raw ts ws)
+  unfolding pushed _>>=_ shown
+  push-stops y n q h f = sym (stops _ h f)
+
+  pub push-goes : (y k : ℕ) (v : Value) (r : Answer) (ws₂ : List ℕ) → shown a ts₁ ws₁ ≡ inner y p (raw ts ws) → a ≡ Good v → k ≡ packed v
+      → Answers ws₁ (pushWord k p) r ws₂ → shown r ts₁ ws₂ ≡ pushed inner y p (raw ts ws)
+  unfolding pushed pushWord _>>=_
+  push-goes y k v r ws₂ h f g q = q .equal ts₁ ∙ sym (goes-on _ h f ∙ rw g)
 
 -- ---- by the root's word
 module _ (inner : Evaluator) (e : Setting) (w x p : ℕ) (ts ws : List ℕ) (tag : ℕ) (i : tag ≡ tagIn w) where

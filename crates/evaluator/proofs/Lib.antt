@@ -2,3 +2,4 @@ pub mod Acts
 pub mod Laws
 pub mod Leading
 pub mod Kept
+pub mod Fast

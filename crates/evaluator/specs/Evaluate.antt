@@ -44,6 +44,10 @@ sized p size = refuse (isNegative size) 40 p >> newTable
 abbrev pub Evaluator : Type 0
 Evaluator = ℕ → ℕ → Act Value
 
+-- the word of an argument, pushed
+unfoldable pub pushWord : ℕ → ℕ → Act Value
+pushWord w p = push w p >> give Nothing
+
 -- an argument, pushed
 unfoldable pub pushed : Evaluator → ℕ → ℕ → Act Value
 pushed inner y p = inner y p >>= λ v. push (packed v) p >> give Nothing

@@ -314,7 +314,7 @@ fn push_all(
     Answer::Good(Value::Nothing)
 }
 
-// An argument, by its root.
+// An argument, by its root: worked out at once where it can be.
 fn pushed(
     program: &[u8],
     code: &[u64],
@@ -329,12 +329,15 @@ fn pushed(
     ensures { λ r. ⌜ shown r (now (texts .exit)) (now (words .exit))
         ≡ pushed (evaluateAt depth (setting (now (program .entry)) (now (code .entry)) (now (grants .entry)))) y p (raw (now (texts .entry)) (now (words .entry))) ⌝ }
 {
+    let w = fastpath::fast_value(words, code, grants, depth, y);
+    if w != 0 {
+        let r = parts::push_word(words, w, p);
+        return r;
+    }
     match evaluate(program, code, grants, texts, words, depth, y, p) {
         Answer::Good(v) => {
-            if !stores::arguments::push(words, values::pack(v)) {
-                return Answer::Bad(20, p);
-            }
-            Answer::Good(Value::Nothing)
+            let r = parts::push_word(words, values::pack(v), p);
+            r
         }
         Answer::Bad(n, q) => Answer::Bad(n, q),
     }

@@ -13,7 +13,7 @@ ghost use Rattle.values.specs.declared.Answer.the-variants.{Good};
 ghost use Rattle.stores.specs.Act.{Answers};
 ghost use Rattle.stores.specs.Variables.{variable};
 ghost use Rattle.stores.specs.Layout.{Room};
-ghost use Rattle.evaluator.specs.Evaluate.{sized, called};
+ghost use Rattle.evaluator.specs.Evaluate.{sized, pushWord, called};
 
 // The difference, 0 if it were less.
 pub fn less(a: usize, b: usize) -> usize
@@ -80,6 +80,17 @@ pub fn new_table(words: &mut [u64], size: i32, p: u64) -> Answer
     }
     let t = stores::counters::new_table(words);
     Answer::Good(Value::Table(t))
+}
+
+// An argument by its word, pushed.
+pub fn push_word(words: &mut [u64], w: u64, p: u64) -> Answer
+    requires { ⌜ 24584 ≤ length (now words) ⌝ }
+    ensures { λ r. ⌜ Answers (now (words .entry)) (pushWord w p) r (now (words .exit)) ⌝ }
+{
+    if !stores::arguments::push(words, w) {
+        return Answer::Bad(20, p);
+    }
+    Answer::Good(Value::Nothing)
 }
 
 // A library procedure on the arguments held from the one numbered base on, which are then dropped.

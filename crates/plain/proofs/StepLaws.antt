@@ -5,18 +5,20 @@ use mathlib.Core.Bool.{Bool, true, false, not}
 use mathlib.Core.List.{List, [], _∷_}
 use mathlib.Core.Logic.{⊎-elim}
 use native.Mathlib.Omega.{arith}
-use lib.ListN.{getD}
+use lib.ListN.{getD, length}
 use lib.Dec.{eqb}
 use denote.Enum.Declared.{tagOf}
 use types.Run.{OneOf}
-use borrow.Author.Tests.{not-true, not-false}
+use borrow.Author.Tests.{eqb-true, eqb-false, ne-eqb, not-true, not-false}
+use Rattle.meaning.specs.Basics.{if_then_else_}
 use Rattle.code.specs.Code.{sizeIn}
 use Rattle.values.proofs.Value as value
 use Rattle.values.specs.declared.Value.{Value}
 use Rattle.values.specs.declared.Value.the-variants.{Integer, Text, Boolean, Nothing, Table, Shape}
 use Rattle.values.specs.declared.Answer.{Answer}
 use Rattle.values.specs.declared.Answer.the-variants.{Good, Bad}
-use Rattle.values.specs.Words.{packed}
+use Rattle.values.specs.Words.{kindIn, truthIn, packed, unpacked}
+use Rattle.values.proofs.Laws.{unpacked-truth, by-kind}
 use Rattle.stores.specs.Act.{Raw, raw, Out, done, stop, Act, goOn, _>>=_, give, fail, refuse, load, count, shown, passed, Answers, Passes, PassesIn, Gives}
 use Rattle.stores.specs.declared.Figure.{Figure}
 use Rattle.stores.specs.Shapes.{figureAt, newShape}
@@ -24,14 +26,16 @@ use Rattle.stores.specs.Variables.{isDeclared, declare, setVariable}
 use Rattle.stores.specs.Tables.{storeEntry}
 use Rattle.stores.proofs.Acts.{after-pass, after-refusal}
 use Rattle.operators.specs.Operate.{withBoolean, withTable}
+use Rattle.fastpath.specs.Fast.{Values}
 use Rattle.evaluator.specs.Evaluate.{setting, evaluateAt}
+use Rattle.evaluator.proofs.Fast.{Plain, plain, evaluates, unchanged}
 use Rattle.evaluator.proofs.Acts.{goes-on, stops}
 use Rattle.plain.specs.declared.Flow.{Flow}
 use Rattle.plain.specs.declared.Flow.the-variants.{Onward, Returned, Stopped}
 use Rattle.plain.specs.declared.Outcome.{Outcome}
 use Rattle.plain.specs.declared.Outcome.the-variants as outcome
-use Rattle.plain.specs.Asked.{Flows}
-use Rattle.plain.specs.Plain.{shownFlow, shownTest, declaring, copied, assigning, storing, assigningOf, updateValue, updateIn, updating, returning, acting, tested, turning, valueOf}
+use Rattle.plain.specs.Asked.{Starts, Flows}
+use Rattle.plain.specs.Plain.{shownFlow, shownTest, declaring, copied, assigning, storing, assigningOf, updateValue, updateIn, updating, returning, acting, outcomeIn, tested, turning, valueOf}
 
 -- ---- declarations
 module _ (ws : List ℕ) (slot p : ℕ) (ok : Bool) (ws₁ : List ℕ) (h : Passes ws 60 (declare slot) ok ws₁) where
@@ -190,6 +194,62 @@ module _ (program code g : List ℕ) (p : ℕ) (ts ws : List ℕ) (a : Answer) (
           → o ≡ updating (setting program code g) y p (raw ts ws)
       unfolding updating _>>=_ withTable
       table-goes t v o f e q = q ∙ sym (rw (← b, ← c) (goes-on _ h f ∙ rw e))
+
+-- ---- worked out at once
+-- what a word says to a test
+module _ (w p : ℕ) where
+  pub no-truth : (w % 8 ≡ 3 → ⊥) → outcome.Stopped 20 p ≡ outcomeIn w p
+  unfolding outcomeIn if_then_else_
+  no-truth n = rw (ne-eqb _ _ n)
+
+  pub says-yes : (b : Bool) → w % 8 ≡ 3 → b ≡ truthIn w → b ≡ true → outcome.Yes ≡ outcomeIn w p
+  unfolding outcomeIn if_then_else_
+  says-yes b k e t = rw (k, ← e, t)
+
+  pub says-no : (b : Bool) → w % 8 ≡ 3 → b ≡ truthIn w → b ≡ false → outcome.No ≡ outcomeIn w p
+  unfolding outcomeIn if_then_else_
+  says-no b k e t = rw (k, ← e, t)
+
+  tests-word : (ts ws : List ℕ) → shownTest (outcomeIn w p) ts ws ≡ withBoolean p (unpacked w) (λ b. give b) (raw ts ws)
+  unfolding outcomeIn if_then_else_ shownTest withBoolean give fail
+  tests-word ts ws = go (eqb (kindIn w) 3) (truthIn w) refl refl
+    where
+      go : (i b : Bool) → eqb (kindIn w) 3 ≡ i → truthIn w ≡ b
+          → shownTest (if i then (λ _. if b then (λ _. outcome.Yes) else λ _. outcome.No) else λ _. outcome.Stopped 20 p) ts ws ≡ withBoolean p (unpacked w) (λ c. give c) (raw ts ws)
+      go true true q t = rw (unpacked-truth w (eqb-true _ _ q), t)
+      go true false q t = rw (unpacked-truth w (eqb-true _ _ q), t)
+      go false b q t =
+          by-kind w (λ u. stop 20 p (raw ts ws) ≡ withBoolean p u (λ c. give c) (raw ts ws)) (λ _. refl) (λ _. refl) (λ k. absurd (eqb-false _ _ q k)) refl (λ _. refl) (λ _. refl)
+
+-- a word that is no shape
+word-assigns : (g : List ℕ) (p slot w : ℕ) (r : Raw) → Plain w → assigning g p slot (unpacked w) r ≡ storing p slot w r
+unfolding assigning storing copied _>>=_ goOn give
+word-assigns g p slot w r c =
+    by-kind w (λ u. assigning g p slot u r ≡ storing p slot (packed u) r) (λ _. refl) (λ _. refl) (λ _. refl) refl (λ _. refl) (λ k. absurd (c .no-shape k)) ∙ rw (c .back)
+
+module _ (program code g : List ℕ) (p : ℕ) (ts ws : List ℕ) (y w : ℕ) (ws₁ : List ℕ) (h : Values (y + 1) code g ws y w ws₁) where
+  module _ (s : Starts program g ts ws y) (n : w ≡ 0 → ⊥) where
+    long : 24584 ≤ length ws
+    long = omega (arith, s .valid .lent .room .words)
+
+    pub assign-fast : (slot : ℕ) (r : Flow) (ws₂ : List ℕ) → Flows ws₁ (storing p slot w) r ws₂ → shownFlow r ts ws₂ ≡ assigningOf (setting program code g) y slot p (raw ts ws)
+    unfolding assigningOf _>>=_
+    assign-fast slot r ws₂ q =
+        q .equal ts ∙ sym (goes-on _ (evaluates (y + 1) code g ws y w ws₁ h long n program ts p) refl ∙ word-assigns g p slot w (raw ts ws₁) (plain (y + 1) code g ws y w ws₁ h long n))
+
+    pub test-fast : (t : Outcome) → t ≡ outcomeIn w p → shownTest t ts ws₁ ≡ tested (setting program code g) y p (raw ts ws)
+    unfolding tested _>>=_
+    test-fast t q = rw q (tests-word w p ts ws₁) ∙ sym (goes-on _ (evaluates (y + 1) code g ws y w ws₁ h long n program ts p) refl)
+
+  module _ (z : w ≡ 0) where
+    pub still-starts : Starts program g ts ws y → Starts program g ts ws₁ y
+    still-starts s = rw (unchanged (y + 1) code g ws y w ws₁ h z) s
+
+    pub assign-slow : (slot : ℕ) (o : Out Flow) → o ≡ assigningOf (setting program code g) y slot p (raw ts ws₁) → o ≡ assigningOf (setting program code g) y slot p (raw ts ws)
+    assign-slow slot o q = rw (unchanged (y + 1) code g ws y w ws₁ h z) at q
+
+    pub test-slow : (o : Out Bool) → o ≡ tested (setting program code g) y p (raw ts ws₁) → o ≡ tested (setting program code g) y p (raw ts ws)
+    test-slow o q = rw (unchanged (y + 1) code g ws y w ws₁ h z) at q
 
 -- ---- a test that takes a step
 module _ (program code g : List ℕ) (y p : ℕ) (ts ws : List ℕ) (ok : Bool) (ws₁ : List ℕ) (c : Passes ws 79 (count g) ok ws₁) where

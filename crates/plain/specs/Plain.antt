@@ -4,10 +4,11 @@ use mathlib.Core.Bool.{Bool, true, false}
 use mathlib.Core.List.{List}
 use lib.ListN.{getD}
 use lib.Dec.{eqb}
+use Rattle.meaning.specs.Basics.{if_then_else_}
 use Rattle.code.specs.Code.{sizeIn, numberIn}
 use Rattle.values.specs.declared.Value.{Value}
 use Rattle.values.specs.declared.Value.the-variants.{Integer, Text, Boolean, Nothing, Table, Shape}
-use Rattle.values.specs.Words.{packed}
+use Rattle.values.specs.Words.{kindIn, truthIn, packed}
 use Rattle.stores.specs.Layout.{valuePlace}
 use Rattle.stores.specs.Act.{Raw, raw, Out, done, stop, Act, _>>=_, _>>_, give, refuse, load, count}
 use Rattle.stores.specs.Shapes.{figureAt, newShape}
@@ -101,6 +102,12 @@ acting e y p = valueOf e y p >> give Onward
 -- ---- tests
 unfoldable pub tested : Setting → ℕ → ℕ → Act Bool
 tested e y p = valueOf e y p >>= λ v. withBoolean p v λ b. give b
+
+-- what a value says, by its word
+unfoldable pub outcomeIn : ℕ → ℕ → Outcome
+outcomeIn w p =
+    if eqb (kindIn w) 3 then (λ _. if truthIn w then (λ _. outcome.Yes) else λ _. outcome.No)
+    else λ _. outcome.Stopped 20 p
 
 -- one that takes a step
 unfoldable pub turning : Setting → ℕ → ℕ → Act Bool

@@ -10,7 +10,7 @@ ghost use Rattle.stores.specs.Act.{raw, shown};
 ghost use Rattle.stores.specs.Layout.{Room};
 ghost use Rattle.evaluator.specs.Evaluate.{setting};
 ghost use Rattle.plain.specs.Asked.{Starts, Flows};
-ghost use Rattle.plain.specs.Plain.{shownFlow, shownTest, placeIn, extraIn, declaring, storing, assigning, assigningOf, updating, updateIn, updateValue, valueOf, tested, turning, returning, acting};
+ghost use Rattle.plain.specs.Plain.{shownFlow, shownTest, placeIn, extraIn, declaring, storing, assigning, assigningOf, updating, updateIn, updateValue, valueOf, outcomeIn, tested, turning, returning, acting};
 
 // How a statement ends: the next one follows, the procedure returns, or a number and its place.
 pub enum Flow {
@@ -115,8 +115,8 @@ fn put_copy(words: &mut [u64], grants: &[u64; 4], slot: usize, i: u32, p: u64) -
     }
 }
 
-// A variable holds the value whose root is y.
-pub fn assign(
+// A variable holds the value whose root is y, which is evaluated.
+fn assign_evaluated(
     program: &[u8],
     code: &[u64],
     grants: &[u64; 4],
@@ -143,6 +143,30 @@ pub fn assign(
         },
         Answer::Bad(n, q) => Flow::Stopped(n, q),
     }
+}
+
+// A variable holds the value whose root is y: worked out at once where it can be.
+pub fn assign(
+    program: &[u8],
+    code: &[u64],
+    grants: &[u64; 4],
+    texts: &mut [u8],
+    words: &mut [u64],
+    y: usize,
+    slot: usize,
+    p: u64,
+) -> Flow
+    requires { ⌜ Starts (now program) (now grants) (now texts) (now words) y ⌝ }
+    ensures { λ r. ⌜ shownFlow r (now (texts .exit)) (now (words .exit))
+        ≡ assigningOf (setting (now (program .entry)) (now (code .entry)) (now (grants .entry))) y slot p (raw (now (texts .entry)) (now (words .entry))) ⌝ }
+{
+    let w = fastpath::fast_value(words, code, grants, y + 1, y);
+    if w != 0 {
+        let r = put_word(words, slot, w, p);
+        return r;
+    }
+    let r = assign_evaluated(program, code, grants, texts, words, y, slot, p);
+    r
 }
 
 // ---- updates
@@ -291,8 +315,8 @@ pub fn act(
 }
 
 // ---- tests
-// A test by its root.
-pub fn test(
+// A test by its root, which is evaluated.
+fn test_evaluated(
     program: &[u8],
     code: &[u64],
     grants: &[u64; 4],
@@ -317,6 +341,41 @@ pub fn test(
         },
         Answer::Bad(n, q) => Outcome::Stopped(n, q),
     }
+}
+
+// What a value says to a test, by its word.
+fn outcome_of(w: u64, p: u64) -> Outcome
+    ensures { λ r. ⌜ r ≡ outcomeIn w p ⌝ }
+{
+    if w % 8 != 3 {
+        return Outcome::Stopped(20, p);
+    }
+    if values::truth_of(w) {
+        return Outcome::Yes;
+    }
+    Outcome::No
+}
+
+// A test by its root: worked out at once where it can be.
+pub fn test(
+    program: &[u8],
+    code: &[u64],
+    grants: &[u64; 4],
+    texts: &mut [u8],
+    words: &mut [u64],
+    y: usize,
+    p: u64,
+) -> Outcome
+    requires { ⌜ Starts (now program) (now grants) (now texts) (now words) y ⌝ }
+    ensures { λ r. ⌜ shownTest r (now (texts .exit)) (now (words .exit))
+        ≡ tested (setting (now (program .entry)) (now (code .entry)) (now (grants .entry))) y p (raw (now (texts .entry)) (now (words .entry))) ⌝ }
+{
+    let w = fastpath::fast_value(words, code, grants, y + 1, y);
+    if w != 0 {
+        return outcome_of(w, p);
+    }
+    let r = test_evaluated(program, code, grants, texts, words, y, p);
+    r
 }
 
 // A test that takes a step.

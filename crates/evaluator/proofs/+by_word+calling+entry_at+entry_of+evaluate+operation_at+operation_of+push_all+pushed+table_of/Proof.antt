@@ -2,8 +2,9 @@ use mathlib.Core.Path.{refl}
 use native.Mathlib.Omega.{arith}
 use borrow.Author.Needs.{needs}
 use Prim.Native.Nat.{_+_, _-_, _*_}
-use Rattle.evaluator.proofs.Laws.{table-stops, table-other, table-made, entry-stops, entry-other, entry-goes, operation-stops, operation-goes, key-stops, key-goes, side-stops, side-goes, push-stops, push-refused, push-done, call-stops, call-goes, by-number, by-string, by-none, by-truth, by-name, by-table, by-entry, by-call, by-operator, too-deep, no-step, evaluated, Pushing, push-first, push-last, push-end, push-fails, push-more}
+use Rattle.evaluator.proofs.Laws.{table-stops, table-other, table-made, entry-stops, entry-other, entry-goes, operation-stops, operation-goes, key-stops, key-goes, side-stops, side-goes, push-stops, push-goes, call-stops, call-goes, by-number, by-string, by-none, by-truth, by-name, by-table, by-entry, by-call, by-operator, too-deep, no-step, evaluated, Pushing, push-first, push-last, push-end, push-fails, push-more}
 use Rattle.evaluator.proofs.Kept.{valid-evaluated, valid-pushed, valid-all, valid-counted}
+use Rattle.evaluator.proofs.Fast.{push-fast, push-slow, still-valid}
 use Rattle.invariant.proofs.Keeping.{looks}
 use Prim.Native.Nat.{ℕ, _<_}
 use borrow.Fn.Kinds.{In}
@@ -49,9 +50,10 @@ use Rattle.evaluator.proofs.parts.new_table.Reads as new-table-reads
 use Rattle.evaluator.proofs.parts.number.Reads as number-reads
 use Rattle.evaluator.proofs.parts.string.Reads as string-reads
 use Rattle.evaluator.proofs.parts.truth.Reads as truth-reads
+use Rattle.evaluator.proofs.parts.push_word.Reads as push-word-reads
+use Rattle.fastpath.proofs.fast_value.Reads as fast-value-reads
 use Rattle.operation.proofs.operate.Reads as operate-reads
 use Rattle.stores.proofs.arguments.arguments_held.Reads as arguments-held-reads
-use Rattle.stores.proofs.arguments.push.Reads as push-reads
 use Rattle.stores.proofs.counters.count.Reads as count-reads
 use Rattle.stores.proofs.words.word_at.Reads as word-at-reads
 use Rattle.tables.proofs.entries.read_entry.Reads as read-entry-reads
@@ -2191,159 +2193,185 @@ push-all-returns-3 : (t : ℕ) → push-all-lts.Need-returns-3 (
 ) (push-all-at t) push-all.Post push-all-Inv-loop push-all-μ-loop
 push-all-returns-3 t c = search push-end
 
--- src/lib.rt:332:11
-pushed-evaluate-requires : (t : ℕ) → pushed-lts.Need-evaluate-requires (
+pushed-fast-value-requires : (t : ℕ) → pushed-lts.Need-fast-value-requires (
+  fast-value-reads.Asked,
+  fast-value-reads.Learnt,
+  push-word-reads.Asked,
+  push-word-reads.Learnt,
   evaluate-below t,
   evaluate.Post,
   pack-reads.Asked,
   pack-reads.Learnt,
-  push-reads.Asked,
-  push-reads.Learnt,
 ) (pushed-at t) pushed.Post
-pushed-evaluate-requires t c κs = (omega arith, search needs)
+pushed-fast-value-requires t c κs = search needs
 
--- src/lib.rt:333:22
-pushed-enum-known-v : (t : ℕ) → pushed-lts.Need-enum-known-v (
+pushed-push-word-requires : (t : ℕ) → pushed-lts.Need-push-word-requires (
+  fast-value-reads.Asked,
+  fast-value-reads.Learnt,
+  push-word-reads.Asked,
+  push-word-reads.Learnt,
   evaluate-below t,
   evaluate.Post,
   pack-reads.Asked,
   pack-reads.Learnt,
-  push-reads.Asked,
-  push-reads.Learnt,
 ) (pushed-at t) pushed.Post
-pushed-enum-known-v t c = search needs
+pushed-push-word-requires t c κs = search needs
 
--- src/lib.rt:334:48
-pushed-pack-requires : (t : ℕ) → pushed-lts.Need-pack-requires (
-  evaluate-below t,
-  evaluate.Post,
-  pack-reads.Asked,
-  pack-reads.Learnt,
-  push-reads.Asked,
-  push-reads.Learnt,
-) (pushed-at t) pushed.Post
-pushed-pack-requires t c κs = search needs
-
--- src/lib.rt:334:17
-pushed-push-requires : (t : ℕ) → pushed-lts.Need-push-requires (
-  evaluate-below t,
-  evaluate.Post,
-  pack-reads.Asked,
-  pack-reads.Learnt,
-  push-reads.Asked,
-  push-reads.Learnt,
-) (pushed-at t) pushed.Post
-pushed-push-requires t c κs = search needs
-
--- src/lib.rt:335:17
 pushed-same-length : (t : ℕ) → pushed-lts.Need-same-length (
+  fast-value-reads.Asked,
+  fast-value-reads.Learnt,
+  push-word-reads.Asked,
+  push-word-reads.Learnt,
   evaluate-below t,
   evaluate.Post,
   pack-reads.Asked,
   pack-reads.Learnt,
-  push-reads.Asked,
-  push-reads.Learnt,
 ) (pushed-at t) pushed.Post
 pushed-same-length t c = search needs
 
--- src/lib.rt:335:17
-pushed-same-length-2 : (t : ℕ) → pushed-lts.Need-same-length-2 (
-  evaluate-below t,
-  evaluate.Post,
-  pack-reads.Asked,
-  pack-reads.Learnt,
-  push-reads.Asked,
-  push-reads.Learnt,
-) (pushed-at t) pushed.Post
-pushed-same-length-2 t c = search needs
-
--- src/lib.rt:335:17
 pushed-returns : (t : ℕ) → pushed-lts.Need-returns (
+  fast-value-reads.Asked,
+  fast-value-reads.Learnt,
+  push-word-reads.Asked,
+  push-word-reads.Learnt,
   evaluate-below t,
   evaluate.Post,
   pack-reads.Asked,
   pack-reads.Learnt,
-  push-reads.Asked,
-  push-reads.Learnt,
 ) (pushed-at t) pushed.Post
-pushed-returns t c = search push-refused
+pushed-returns t c = push-fast _ _ _ _ _ _ _ _ _ _ (c .before .before .before .before .before .before .before .fast-value .ensures) _ _ (c .before .before .before .before .before .before .before .before .before .before .before .before .before .pre .1) (c .before .before .before .before .if1 .taken) (c .before .before .push-word .ensures)
 
--- src/lib.rt:339:21
-pushed-enum-known-n : (t : ℕ) → pushed-lts.Need-enum-known-n (
+pushed-evaluate-requires : (t : ℕ) → pushed-lts.Need-evaluate-requires (
+  fast-value-reads.Asked,
+  fast-value-reads.Learnt,
+  push-word-reads.Asked,
+  push-word-reads.Learnt,
   evaluate-below t,
   evaluate.Post,
   pack-reads.Asked,
   pack-reads.Learnt,
-  push-reads.Asked,
-  push-reads.Learnt,
+) (pushed-at t) pushed.Post
+pushed-evaluate-requires t c κs = (omega arith, still-valid _ _ _ _ 0 _ _ _ _ _ (c .before .before .before .before .before .fast-value .ensures) (c .before .before .if1 .left) (c .before .before .before .before .before .before .before .before .before .before .before .pre .1))
+
+pushed-enum-known-v : (t : ℕ) → pushed-lts.Need-enum-known-v (
+  fast-value-reads.Asked,
+  fast-value-reads.Learnt,
+  push-word-reads.Asked,
+  push-word-reads.Learnt,
+  evaluate-below t,
+  evaluate.Post,
+  pack-reads.Asked,
+  pack-reads.Learnt,
+) (pushed-at t) pushed.Post
+pushed-enum-known-v t c = search needs
+
+pushed-pack-requires : (t : ℕ) → pushed-lts.Need-pack-requires (
+  fast-value-reads.Asked,
+  fast-value-reads.Learnt,
+  push-word-reads.Asked,
+  push-word-reads.Learnt,
+  evaluate-below t,
+  evaluate.Post,
+  pack-reads.Asked,
+  pack-reads.Learnt,
+) (pushed-at t) pushed.Post
+pushed-pack-requires t c κs = search needs
+
+pushed-push-word-requires-2 : (t : ℕ) → pushed-lts.Need-push-word-requires-2 (
+  fast-value-reads.Asked,
+  fast-value-reads.Learnt,
+  push-word-reads.Asked,
+  push-word-reads.Learnt,
+  evaluate-below t,
+  evaluate.Post,
+  pack-reads.Asked,
+  pack-reads.Learnt,
+) (pushed-at t) pushed.Post
+pushed-push-word-requires-2 t c κs = search needs
+
+pushed-enum-known-n : (t : ℕ) → pushed-lts.Need-enum-known-n (
+  fast-value-reads.Asked,
+  fast-value-reads.Learnt,
+  push-word-reads.Asked,
+  push-word-reads.Learnt,
+  evaluate-below t,
+  evaluate.Post,
+  pack-reads.Asked,
+  pack-reads.Learnt,
 ) (pushed-at t) pushed.Post
 pushed-enum-known-n t c = search needs
 
--- src/lib.rt:318:1
-pushed-same-length-3 : (t : ℕ) → pushed-lts.Need-same-length-3 (
+pushed-same-length-2 : (t : ℕ) → pushed-lts.Need-same-length-2 (
+  fast-value-reads.Asked,
+  fast-value-reads.Learnt,
+  push-word-reads.Asked,
+  push-word-reads.Learnt,
   evaluate-below t,
   evaluate.Post,
   pack-reads.Asked,
   pack-reads.Learnt,
-  push-reads.Asked,
-  push-reads.Learnt,
+) (pushed-at t) pushed.Post
+pushed-same-length-2 t c = search needs
+
+pushed-same-length-3 : (t : ℕ) → pushed-lts.Need-same-length-3 (
+  fast-value-reads.Asked,
+  fast-value-reads.Learnt,
+  push-word-reads.Asked,
+  push-word-reads.Learnt,
+  evaluate-below t,
+  evaluate.Post,
+  pack-reads.Asked,
+  pack-reads.Learnt,
 ) (pushed-at t) pushed.Post
 pushed-same-length-3 t c = search needs
 
--- src/lib.rt:318:1
-pushed-same-length-4 : (t : ℕ) → pushed-lts.Need-same-length-4 (
+pushed-returns-2 : (t : ℕ) → pushed-lts.Need-returns-2 (
+  fast-value-reads.Asked,
+  fast-value-reads.Learnt,
+  push-word-reads.Asked,
+  push-word-reads.Learnt,
   evaluate-below t,
   evaluate.Post,
   pack-reads.Asked,
   pack-reads.Learnt,
-  push-reads.Asked,
-  push-reads.Learnt,
+) (pushed-at t) pushed.Post
+pushed-returns-2 t c = push-slow _ _ _ _ _ _ _ _ _ _ (c .before .before .before .before .before .before .before .before .before .before .before .before .before .before .before .before .before .before .fast-value .ensures) (c .before .before .before .before .before .before .before .before .before .before .before .before .before .before .before .if1 .left) _ (push-goes _ _ _ _ _ _ _ _ _ _ _ _ (c .before .before .before .before .before .before .before .before .before .before .before .before .evaluate .ensures) (c .before .before .before .before .before .before .v .given .1) (c .before .before .before .pack .ensures) (c .before .before .push-word2 .ensures))
+
+pushed-same-length-4 : (t : ℕ) → pushed-lts.Need-same-length-4 (
+  fast-value-reads.Asked,
+  fast-value-reads.Learnt,
+  push-word-reads.Asked,
+  push-word-reads.Learnt,
+  evaluate-below t,
+  evaluate.Post,
+  pack-reads.Asked,
+  pack-reads.Learnt,
 ) (pushed-at t) pushed.Post
 pushed-same-length-4 t c = search needs
 
--- src/lib.rt:318:1
-pushed-returns-2 : (t : ℕ) → pushed-lts.Need-returns-2 (
-  evaluate-below t,
-  evaluate.Post,
-  pack-reads.Asked,
-  pack-reads.Learnt,
-  push-reads.Asked,
-  push-reads.Learnt,
-) (pushed-at t) pushed.Post
-pushed-returns-2 t c = search push-done
-
--- src/lib.rt:318:1
 pushed-same-length-5 : (t : ℕ) → pushed-lts.Need-same-length-5 (
+  fast-value-reads.Asked,
+  fast-value-reads.Learnt,
+  push-word-reads.Asked,
+  push-word-reads.Learnt,
   evaluate-below t,
   evaluate.Post,
   pack-reads.Asked,
   pack-reads.Learnt,
-  push-reads.Asked,
-  push-reads.Learnt,
 ) (pushed-at t) pushed.Post
 pushed-same-length-5 t c = search needs
 
--- src/lib.rt:318:1
-pushed-same-length-6 : (t : ℕ) → pushed-lts.Need-same-length-6 (
-  evaluate-below t,
-  evaluate.Post,
-  pack-reads.Asked,
-  pack-reads.Learnt,
-  push-reads.Asked,
-  push-reads.Learnt,
-) (pushed-at t) pushed.Post
-pushed-same-length-6 t c = search needs
-
--- src/lib.rt:318:1
 pushed-returns-3 : (t : ℕ) → pushed-lts.Need-returns-3 (
+  fast-value-reads.Asked,
+  fast-value-reads.Learnt,
+  push-word-reads.Asked,
+  push-word-reads.Learnt,
   evaluate-below t,
   evaluate.Post,
   pack-reads.Asked,
   pack-reads.Learnt,
-  push-reads.Asked,
-  push-reads.Learnt,
 ) (pushed-at t) pushed.Post
-pushed-returns-3 t c = search push-stops
+pushed-returns-3 t c = push-slow _ _ _ _ _ _ _ _ _ _ (c .before .before .before .before .before .before .before .before .before .before .before .before .before .fast-value .ensures) (c .before .before .before .before .before .before .before .before .before .before .if1 .left) _ (push-stops _ _ _ _ _ _ _ _ _ _ (c .before .before .before .before .before .before .before .evaluate .ensures) (c .before .n .given .1))
 
 -- src/lib.rt:103:11
 table-of-evaluate-requires : (t : ℕ) → table-of-lts.Need-evaluate-requires (
@@ -2724,28 +2752,31 @@ pub +by-word+calling+entry-at+entry-of+evaluate+operation-at+operation-of+push-a
     (push-all-same-length-6 t)
     (push-all-returns-3 t))
     (λ t. pushed-lts.spec (
+      fast-value-reads.Asked,
+      fast-value-reads.Learnt,
+      push-word-reads.Asked,
+      push-word-reads.Learnt,
       evaluate-below t,
       evaluate.Post,
       pack-reads.Asked,
       pack-reads.Learnt,
-      push-reads.Asked,
-      push-reads.Learnt,
     )
     (pushed-at t)
     pushed.Post
+    (pushed-fast-value-requires t)
+    (pushed-push-word-requires t)
+    (pushed-same-length t)
+    (pushed-returns t)
     (pushed-evaluate-requires t)
     (pushed-enum-known-v t)
     (pushed-pack-requires t)
-    (pushed-push-requires t)
-    (pushed-same-length t)
-    (pushed-same-length-2 t)
-    (pushed-returns t)
+    (pushed-push-word-requires-2 t)
     (pushed-enum-known-n t)
+    (pushed-same-length-2 t)
     (pushed-same-length-3 t)
-    (pushed-same-length-4 t)
     (pushed-returns-2 t)
+    (pushed-same-length-4 t)
     (pushed-same-length-5 t)
-    (pushed-same-length-6 t)
     (pushed-returns-3 t))
     λ t. table-of-lts.spec
     (evaluate-below t, evaluate.Post, new-table-reads.Asked, new-table-reads.Learnt)

@@ -1,92 +1,59 @@
-use Rattle.plain.proofs.StepLaws.{test-yes, test-no, test-other, value-stops}
+use Rattle.plain.proofs.StepLaws.{test-fast, test-slow, still-starts}
 use borrow.Author.Needs.{needs}
 use Rattle.plain.proofs.test.Statement.{statement}
 use Rattle.plain.proofs.test.Tie as tie
 use Rattle.plain.proofs.test.Reads as reads
 use Rattle.plain.proofs.test.Lts as lts
-use Rattle.plain.proofs.value.Reads as value-reads
+use Rattle.plain.proofs.outcome_of.Reads as outcome-of-reads
+use Rattle.plain.proofs.test_evaluated.Reads as test-evaluated-reads
+use Rattle.fastpath.proofs.fast_value.Reads as fast-value-reads
 
--- src/lib.rt:270:11
-value-requires : tie.Need-value-requires
-value-requires c κs = search needs
+-- src/lib.rt:361:55
+add-fast-value : tie.Need-add-fast-value
+add-fast-value c = search needs
 
--- src/lib.rt:271:22
-enum-known-v : tie.Need-enum-known-v
-enum-known-v c = search needs
+-- src/lib.rt:361:9
+fast-value-requires : tie.Need-fast-value-requires
+fast-value-requires c κs = search needs
 
--- src/lib.rt:272:28
-enum-known-v-2 : tie.Need-enum-known-v-2
-enum-known-v-2 c = search needs
+-- src/lib.rt:363:9
+outcome-of-requires : tie.Need-outcome-of-requires
+outcome-of-requires c κs = search needs
 
--- src/lib.rt:274:21
+-- src/lib.rt:363:9
 same-length : tie.Need-same-length
 same-length c = search needs
 
--- src/lib.rt:274:21
+-- src/lib.rt:363:9
+returns : tie.Need-returns
+returns c = search test-fast
+
+-- src/lib.rt:365:9
+test-evaluated-requires : tie.Need-test-evaluated-requires
+test-evaluated-requires c κs = search still-starts
+
+-- src/lib.rt:348:1
 same-length-2 : tie.Need-same-length-2
 same-length-2 c = search needs
 
--- src/lib.rt:274:21
-returns : tie.Need-returns
-returns c = search test-yes
-
--- src/lib.rt:280:21
-enum-known-n : tie.Need-enum-known-n
-enum-known-n c = search needs
-
--- src/lib.rt:257:1
+-- src/lib.rt:348:1
 same-length-3 : tie.Need-same-length-3
 same-length-3 c = search needs
 
--- src/lib.rt:257:1
-same-length-4 : tie.Need-same-length-4
-same-length-4 c = search needs
-
--- src/lib.rt:257:1
+-- src/lib.rt:348:1
 returns-2 : tie.Need-returns-2
-returns-2 c = search test-no
-
--- src/lib.rt:257:1
-same-length-5 : tie.Need-same-length-5
-same-length-5 c = search needs
-
--- src/lib.rt:257:1
-same-length-6 : tie.Need-same-length-6
-same-length-6 c = search needs
-
--- src/lib.rt:257:1
-returns-3 : tie.Need-returns-3
-returns-3 c = search test-other
-
--- src/lib.rt:257:1
-same-length-7 : tie.Need-same-length-7
-same-length-7 c = search needs
-
--- src/lib.rt:257:1
-same-length-8 : tie.Need-same-length-8
-same-length-8 c = search needs
-
--- src/lib.rt:257:1
-returns-4 : tie.Need-returns-4
-returns-4 c = search value-stops
+returns-2 c = search test-slow
 
 pub test-spec : {M : Type 1} → statement M
 test-spec =
     tie.close
     (tie.spec
-    value-requires
-    enum-known-v
-    enum-known-v-2
+    add-fast-value
+    fast-value-requires
+    outcome-of-requires
     same-length
-    same-length-2
     returns
-    enum-known-n
+    test-evaluated-requires
+    same-length-2
     same-length-3
-    same-length-4
-    returns-2
-    same-length-5
-    same-length-6
-    returns-3
-    same-length-7
-    same-length-8
-    returns-4)
+    returns-2)

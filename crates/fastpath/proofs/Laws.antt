@@ -1,0 +1,219 @@
+-- One law for each way through each function.
+use Prim.Native.Nat.{ℕ, suc, _+_, _-_, _*_, _/_, _%_, _^_, _≤_, _<_}
+use mathlib.Core.Path.{_≡_, refl, sym, _∙_}
+use mathlib.Core.Bool.{Bool, true, false, not, _&&_}
+use mathlib.Core.List.{List}
+use native.Mathlib.Omega.{arith}
+use lib.ListN.{getD, set, length, take, drop}
+use borrow.Rule.Slice.PartAt.{part-to-end}
+use lib.IntN.{ℤ}
+use lib.Signed.{mag, ltZ}
+use lib.Dec.{eqb, ltb, leb}
+use mir.Syntax.{w32}
+use mir.Val.{toZ, SFits}
+use mir.Facts.{toZ-ofZ}
+use borrow.Author.Tests.{not-true, not-false, lt-ltb, le-ltb, le-leb, lt-leb, eq-eqb, ne-eqb}
+use Rattle.meaning.specs.Basics.{if_then_else_}
+use Rattle.meaning.specs.Integer.{sum, difference, product, quotient, remainder, shiftedLeft, shiftedRight, isZero, sameInteger}
+use Rattle.code.specs.Code.{tagIn, sizeIn, numberIn}
+use Rattle.values.specs.declared.Value.the-variants.{Integer, Boolean}
+use Rattle.values.specs.Words.{kindIn, packed}
+use Rattle.values.specs.Words as Words
+use Rattle.stores.specs.Layout.{valuePlace}
+use Rattle.stores.specs.Act.{Pays}
+use Rattle.stores.proofs.Acts.{paid, short}
+use Rattle.operators.proofs.Held.{held, back-by, test-is}
+use Rattle.fastpath.specs.Fast.{plainWord, leafWord, operatorWord, wordOn, sizesAgree, operationWord, fastAt, applies, Values}
+
+-- ---- constants and variables
+module _ (u : ℕ) where
+  pub plain-integer : u % 8 ≡ 1 → u % 34359738368 ≡ plainWord u
+  unfolding plainWord if_then_else_
+  plain-integer h = rw h
+
+  pub plain-truth : (u % 8 ≡ 1 → ⊥) → u % 8 ≡ 3 → u % 16 ≡ plainWord u
+  unfolding plainWord if_then_else_
+  plain-truth n h = rw h
+
+  pub plain-other : (u % 8 ≡ 1 → ⊥) → (u % 8 ≡ 3 → ⊥) → 0 ≡ plainWord u
+  unfolding plainWord if_then_else_
+  plain-other n m = rw (ne-eqb _ _ n, ne-eqb _ _ m)
+
+module _ (ws : List ℕ) (w : ℕ) where
+  pub leaf-number : w % 4294967296 ≡ 257 → w < 2 ^ 64 → 1 + 8 * (w / 4294967296) ≡ leafWord ws w
+  unfolding leafWord if_then_else_
+  leaf-number h l = rw (h, lt-ltb (w / 4294967296) (2 ^ 32) (omega arith))
+
+  pub leaf-name : (r k : ℕ) → w % 4294967296 ≡ 261 → k ≡ getD ws (valuePlace (w / 4294967296)) 0 → r ≡ plainWord k → r ≡ leafWord ws w
+  unfolding leafWord if_then_else_
+  leaf-name r k h f g = g ∙ rw (h, f)
+
+  pub leaf-other : (w % 4294967296 ≡ 257 → ⊥) → (w % 4294967296 ≡ 261 → ⊥) → 0 ≡ leafWord ws w
+  unfolding leafWord if_then_else_
+  leaf-other n m = rw (ne-eqb _ _ n, ne-eqb _ _ m)
+
+-- ---- operators
+module _ {x y : ℤ} (i : SFits w32 x) (j : SFits w32 y) {r : ℕ} {s : ℤ} (h : mag s < 2 ^ 31) (k : r ≡ packed (Integer (held s))) where
+  by : (f : ℤ → ℤ → ℤ) → s ≡ f (held x) (held y) → r ≡ packed (Integer (f x y))
+  by f e = rw (← back-by f i j h e) k
+
+  module _ {b : Bool} (z : b ≡ isZero (held y)) (n : b ≡ false) where
+    pub divides : s ≡ quotient (held x) (held y) → r ≡ operatorWord 20 x y
+    unfolding operatorWord if_then_else_
+    divides e = rw (test-is isZero j z n) (by quotient e)
+
+    pub leaves : s ≡ remainder (held x) (held y) → r ≡ operatorWord 21 x y
+    unfolding operatorWord if_then_else_
+    leaves e = rw (test-is isZero j z n) (by remainder e)
+
+  module _ {tag : ℕ} where
+    pub adds : tag ≡ 17 → s ≡ sum (held x) (held y) → r ≡ operatorWord tag x y
+    unfolding operatorWord if_then_else_
+    adds t e = rw t (by sum e)
+
+    pub subtracts : tag ≡ 18 → s ≡ difference (held x) (held y) → r ≡ operatorWord tag x y
+    unfolding operatorWord if_then_else_
+    subtracts t e = rw t (by difference e)
+
+    pub multiplies : tag ≡ 19 → s ≡ product (held x) (held y) → r ≡ operatorWord tag x y
+    unfolding operatorWord if_then_else_
+    multiplies t e = rw t (by product e)
+
+    pub shifts-right : tag ≡ 22 → s ≡ shiftedRight (held x) (held y) → r ≡ operatorWord tag x y
+    unfolding operatorWord if_then_else_
+    shifts-right t e = rw t (by shiftedRight e)
+
+    pub shifts-left : tag ≡ 23 → s ≡ shiftedLeft (held x) (held y) → r ≡ operatorWord tag x y
+    unfolding operatorWord if_then_else_
+    shifts-left t e = rw t (by shiftedLeft e)
+
+module _ (x : ℤ) {y : ℤ} (j : SFits w32 y) {b : Bool} (z : b ≡ isZero (held y)) (n : b ≡ true) where
+  pub divides-by-zero : 0 ≡ operatorWord 20 x y
+  unfolding operatorWord if_then_else_
+  divides-by-zero = rw (test-is isZero j z n)
+
+  pub no-remainder : 0 ≡ operatorWord 21 x y
+  unfolding operatorWord if_then_else_
+  no-remainder = rw (test-is isZero j z n)
+
+module _ {x y : ℤ} (i : SFits w32 x) (j : SFits w32 y) {r tag : ℕ} where
+  pub by-tag : (n : ℕ) → tag ≡ n → r ≡ operatorWord n (held x) (held y) → r ≡ operatorWord tag x y
+  by-tag n t h = rw (t, ← toZ-ofZ i, ← toZ-ofZ j) h
+
+  module _ {b : Bool} where
+    pub equals : tag ≡ 24 → b ≡ sameInteger (held x) (held y) → r ≡ packed (Boolean b) → r ≡ operatorWord tag x y
+    unfolding operatorWord if_then_else_
+    equals t e k = k ∙ rw (t, e, toZ-ofZ i, toZ-ofZ j)
+
+    pub differs : tag ≡ 25 → b ≡ sameInteger (held x) (held y) → r ≡ packed (Boolean (not b)) → r ≡ operatorWord tag x y
+    unfolding operatorWord if_then_else_
+    differs t e k = k ∙ rw (t, e, toZ-ofZ i, toZ-ofZ j)
+
+    pub exceeds : tag ≡ 26 → b ≡ ltZ (held y) (held x) → r ≡ packed (Boolean b) → r ≡ operatorWord tag x y
+    unfolding operatorWord if_then_else_
+    exceeds t e k = k ∙ rw (t, e, toZ-ofZ i, toZ-ofZ j)
+
+    pub is-less : tag ≡ 27 → b ≡ ltZ (held x) (held y) → r ≡ packed (Boolean b) → r ≡ operatorWord tag x y
+    unfolding operatorWord if_then_else_
+    is-less t e k = k ∙ rw (t, e, toZ-ofZ i, toZ-ofZ j)
+
+pub no-operator : {tag : ℕ} (x y : ℤ) → (tag ≡ 17 → ⊥) → (tag ≡ 18 → ⊥) → (tag ≡ 19 → ⊥) → (tag ≡ 20 → ⊥) → (tag ≡ 21 → ⊥) → (tag ≡ 22 → ⊥)
+    → (tag ≡ 23 → ⊥) → (tag ≡ 24 → ⊥) → (tag ≡ 25 → ⊥) → (tag ≡ 26 → ⊥) → (tag ≡ 27 → ⊥) → 0 ≡ operatorWord tag x y
+unfolding operatorWord if_then_else_
+no-operator {tag} x y a b c d e f g h i j k =
+    rw (ne-eqb _ _ a, ne-eqb _ _ b, ne-eqb _ _ c, ne-eqb _ _ d, ne-eqb _ _ e, ne-eqb _ _ f)
+    (rw (ne-eqb _ _ g, ne-eqb _ _ h, ne-eqb _ _ i, ne-eqb _ _ j, ne-eqb _ _ k) refl)
+
+-- ---- on words
+module _ (tag a b : ℕ) where
+  pub left-other : (a % 8 ≡ 1 → ⊥) → 0 ≡ wordOn tag a b
+  unfolding wordOn if_then_else_
+  left-other n = rw (ne-eqb _ _ n)
+
+  pub right-other : a % 8 ≡ 1 → (b % 8 ≡ 1 → ⊥) → 0 ≡ wordOn tag a b
+  unfolding wordOn if_then_else_
+  right-other h n = rw (h, ne-eqb _ _ n)
+
+  pub on-integers : {r : ℕ} {x y : ℤ} → a % 8 ≡ 1 → b % 8 ≡ 1 → mag x < 2 ^ 31 → mag y < 2 ^ 31 → x ≡ toZ w32 (Words.numberIn a) → y ≡ toZ w32 (Words.numberIn b)
+      → r ≡ operatorWord tag (held x) (held y) → r ≡ wordOn tag a b
+  unfolding wordOn if_then_else_
+  on-integers h k i j e f g =
+      rw (h, k, ← e, ← f) (rw (toZ-ofZ {w = w32} (record { sfits = i }), toZ-ofZ {w = w32} (record { sfits = j })) at g)
+
+pub agree : (w u v a b c : ℕ) → a ≡ sizeIn w → b ≡ sizeIn u → c ≡ sizeIn v → eqb a (b + c + 1) ≡ sizesAgree w u v
+agree w u v a b c e f g = rw (e, f, g)
+
+-- ---- expressions
+-- a slice lent anew, as the part of it from 0 on
+abbrev whole : List ℕ → List ℕ
+whole s = take (length s - 0) (drop 0 s)
+
+whole-is : (s : List ℕ) → whole s ≡ s
+whole-is s = part-to-end s 0
+
+module _ (depth : ℕ) (code ws : List ℕ) (w x y z u v : ℕ) (e : z ≡ x - 1 - numberIn w) (f : y ≡ x - 1) (g : u ≡ getD (whole code) z 0) (h : v ≡ getD (whole code) y 0)
+    (ok : Bool) (s : ok ≡ sizesAgree w u v) where
+  agreed : ok ≡ sizesAgree w (getD code (x - 1 - numberIn w) 0) (getD code (x - 1) 0)
+  agreed = s ∙ rw (g, h, whole-is code, e, f)
+
+  pub sizes-differ : not ok ≡ true → 0 ≡ operationWord (fastAt depth code ws) code w x
+  unfolding operationWord if_then_else_
+  sizes-differ t = rw (← agreed, not-true ok t)
+
+  module _ (a : ℕ) (t : not ok ≡ false) (c : a ≡ fastAt depth (whole code) (whole ws) z) where
+    left : a ≡ fastAt depth code ws (x - 1 - numberIn w)
+    left = c ∙ rw (whole-is code, whole-is ws, e)
+
+    pub left-fails : (a % 8 ≡ 1 → ⊥) → 0 ≡ operationWord (fastAt depth code ws) code w x
+    unfolding operationWord if_then_else_
+    left-fails n = rw (← agreed, not-false ok t, ← left) (left-other _ a _ n)
+
+    pub operates : (b tag r : ℕ) → b ≡ fastAt depth (whole code) (whole ws) y → tag ≡ tagIn w → r ≡ wordOn tag a b → r ≡ operationWord (fastAt depth code ws) code w x
+    unfolding operationWord if_then_else_
+    operates b tag r d k o =
+        let m : b ≡ fastAt depth code ws (x - 1) = d ∙ rw (whole-is code, whole-is ws, f) in
+        o ∙ rw (← agreed, not-false ok t) (rw (← left, ← m, ← k))
+
+module _ (depth : ℕ) (code ws : List ℕ) (w x : ℕ) where
+  pub too-deep : depth ≡ 0 → 0 ≡ fastAt depth code ws x
+  unfolding fastAt
+  too-deep z = rw z
+
+  module _ (n : depth ≡ 0 → ⊥) (e : w ≡ getD code x 0) (tag r : ℕ) (t : tag ≡ tagIn w) where
+    deeper : depth ≡ suc (depth - 1)
+    deeper = omega (arith, n)
+
+    pub is-leaf : tag < 16 → r ≡ leafWord ws w → r ≡ fastAt depth code ws x
+    unfolding fastAt if_then_else_
+    is-leaf l h = rw deeper (rw (← e, ← t, lt-ltb tag 16 l) h)
+
+    pub is-operation : 16 ≤ tag → r ≡ operationWord (fastAt (depth - 1) code ws) code w x → r ≡ fastAt depth code ws x
+    unfolding fastAt if_then_else_
+    is-operation l h = rw deeper (rw (← e, ← t, le-ltb tag 16 l) h)
+
+-- ---- their steps
+module _ (depth : ℕ) (code g ws : List ℕ) (x v w : ℕ) (c : w ≡ getD (whole code) x 0) (d : v ≡ fastAt depth (whole code) ws x) where
+  e : w ≡ getD code x 0
+  e = rw (whole-is code) at c
+
+  f : v ≡ fastAt depth code ws x
+  f = rw (whole-is code) at d
+
+  pub not-fast : v ≡ 0 → Values depth code g ws x 0 ws
+  unfolding applies if_then_else_
+  not-fast z = record { result = rw (← f, z); words = rw (← f, z) }
+
+  module _ (n : v ≡ 0 → ⊥) (size : ℕ) (s : size ≡ sizeIn w) (ok : Bool) (ws₁ : List ℕ) (p : Pays ws 0 (getD g 0 0) size ok ws₁) where
+    pub too-many : not ok ≡ true → Values depth code g ws x 0 ws₁
+    unfolding applies if_then_else_
+    too-many t =
+        let q = short (rw (not-true ok t) at p) in
+        let b : leb (getD ws 0 0 + sizeIn w) (getD g 0 0) ≡ false = rw (← s) (lt-leb _ _ (q .beyond)) in
+        record { result = rw (← f, ne-eqb _ _ n, ← e, b); words = q .words ∙ rw (← f, ne-eqb _ _ n, ← e, b) }
+
+    pub counted : not ok ≡ false → Values depth code g ws x v ws₁
+    unfolding applies if_then_else_
+    counted t =
+        let q = paid (rw (not-false ok t) at p) in
+        let b : leb (getD ws 0 0 + sizeIn w) (getD g 0 0) ≡ true = rw (← s) (le-leb _ _ (q .within)) in
+        record { result = f ∙ rw (← f, ne-eqb _ _ n, ← e, b); words = q .words ∙ rw (← f, ne-eqb _ _ n, ← e, b, s) }

@@ -1,0 +1,33 @@
+use Rattle.fastpath.proofs.Laws.{divides-by-zero, divides}
+use borrow.Author.Needs.{needs}
+use Rattle.fastpath.proofs.quotient_word.Statement.{statement}
+use Rattle.fastpath.proofs.quotient_word.Tie as tie
+use Rattle.fastpath.proofs.quotient_word.Reads as reads
+use Rattle.fastpath.proofs.quotient_word.Lts as lts
+use Rattle.arithmetic.proofs.is_zero.Reads as is-zero-reads
+use Rattle.arithmetic.proofs.quotient.Reads as quotient-reads
+use Rattle.values.proofs.integer_word.Reads as integer-word-reads
+
+-- src/lib.rt:42:8
+is-zero-requires : tie.Need-is-zero-requires
+is-zero-requires c κs = search needs
+
+-- src/lib.rt:43:9
+returns : tie.Need-returns
+returns c = search divides-by-zero
+
+-- src/lib.rt:45:26
+quotient-requires : tie.Need-quotient-requires
+quotient-requires c κs = cc
+
+-- src/lib.rt:45:5
+integer-word-requires : tie.Need-integer-word-requires
+integer-word-requires c κs = search needs
+
+-- src/lib.rt:39:1
+returns-2 : tie.Need-returns-2
+returns-2 c = search divides
+
+pub quotient-word-spec : {M : Type 1} → statement M
+quotient-word-spec =
+    tie.close (tie.spec is-zero-requires returns quotient-requires integer-word-requires returns-2)

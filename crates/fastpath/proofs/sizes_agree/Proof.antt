@@ -1,0 +1,42 @@
+use Rattle.fastpath.proofs.Laws.{agree}
+use borrow.Author.Needs.{needs}
+use Rattle.fastpath.proofs.sizes_agree.Statement.{statement}
+use Rattle.fastpath.proofs.sizes_agree.Tie as tie
+use Rattle.fastpath.proofs.sizes_agree.Reads as reads
+use Rattle.fastpath.proofs.sizes_agree.Lts as lts
+use Rattle.code.proofs.size_of.Reads as size-of-reads
+
+-- src/lib.rt:94:5
+size-of-requires : tie.Need-size-of-requires
+size-of-requires c κs = search needs
+
+-- src/lib.rt:94:25
+size-of-requires-2 : tie.Need-size-of-requires-2
+size-of-requires-2 c κs = search needs
+
+-- src/lib.rt:94:44
+size-of-requires-3 : tie.Need-size-of-requires-3
+size-of-requires-3 c κs = search needs
+
+-- src/lib.rt:94:25
+add-result : tie.Need-add-result
+add-result c = search needs
+
+-- src/lib.rt:94:25
+add-result-2 : tie.Need-add-result-2
+add-result-2 c = search needs
+
+-- src/lib.rt:91:1
+returns : tie.Need-returns
+returns c = search agree
+
+pub sizes-agree-spec : {M : Type 1} → statement M
+sizes-agree-spec =
+    tie.close
+    (tie.spec
+    size-of-requires
+    size-of-requires-2
+    size-of-requires-3
+    add-result
+    add-result-2
+    returns)

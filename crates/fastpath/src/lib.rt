@@ -1,0 +1,188 @@
+// Expressions of integers worked out at once, as words: constants, variables and operators on integers. A word of 0 says that
+// this does not apply; nothing has changed then, and the expression is evaluated as any other.
+ghost use Prim.Native.Nat.{_-_, _≤_};
+ghost use mathlib.Core.Path.{_≡_};
+ghost use lib.ListN.{length, getD};
+ghost use Rattle.code.specs.Code.{numberIn};
+ghost use Rattle.fastpath.specs.Fast.{plainWord, leafWord, operatorWord, wordOn, sizesAgree, operationWord, fastAt, Values};
+
+// ---- constants and variables
+// What a variable's word holds, if it is an integer or a truth.
+fn plain_word(u: u64) -> u64
+    ensures { λ r. ⌜ r ≡ plainWord u ⌝ }
+{
+    if u % 8 == 1 {
+        return u % 34359738368;
+    }
+    if u % 8 == 3 {
+        return u % 16;
+    }
+    0
+}
+
+// A constant or a variable, by the word of the code: its lower half is the tag and a size of 1.
+fn leaf_word(words: &[u64], w: u64) -> u64
+    requires { ⌜ 24584 ≤ length (now words) ⌝ }
+    ensures { λ r. ⌜ r ≡ leafWord (now (words .entry)) w ⌝ }
+{
+    let head = w % 4294967296;
+    if head == 257 {
+        return 1 + 8 * (w / 4294967296);
+    }
+    if head == 261 {
+        return plain_word(stores::variables::word_of(words, (w / 4294967296) as usize));
+    }
+    0
+}
+
+// ---- operators
+fn quotient_word(x: i32, y: i32) -> u64
+    ensures { λ r. ⌜ r ≡ operatorWord 20 x y ⌝ }
+{
+    if arithmetic::is_zero(y) {
+        return 0;
+    }
+    values::integer_word(arithmetic::quotient(x, y))
+}
+
+fn remainder_word(x: i32, y: i32) -> u64
+    ensures { λ r. ⌜ r ≡ operatorWord 21 x y ⌝ }
+{
+    if arithmetic::is_zero(y) {
+        return 0;
+    }
+    values::integer_word(arithmetic::remainder(x, y))
+}
+
+// An operator, by its tag, on two integers.
+fn operator_word(tag: u64, x: i32, y: i32) -> u64
+    ensures { λ r. ⌜ r ≡ operatorWord tag x y ⌝ }
+{
+    match tag {
+        17 => values::integer_word(arithmetic::sum(x, y)),
+        18 => values::integer_word(arithmetic::difference(x, y)),
+        19 => values::integer_word(arithmetic::product(x, y)),
+        20 => quotient_word(x, y),
+        21 => remainder_word(x, y),
+        22 => values::integer_word(arithmetic::shifted_right(x, y)),
+        23 => values::integer_word(arithmetic::shifted_left(x, y)),
+        24 => values::truth_word(arithmetic::same(x, y)),
+        25 => values::truth_word(!arithmetic::same(x, y)),
+        26 => values::truth_word(arithmetic::less(y, x)),
+        27 => values::truth_word(arithmetic::less(x, y)),
+        _ => 0,
+    }
+}
+
+// The same on two words, which must hold integers.
+fn word_on(tag: u64, a: u64, b: u64) -> u64
+    ensures { λ r. ⌜ r ≡ wordOn tag a b ⌝ }
+{
+    if a % 8 != 1 {
+        return 0;
+    }
+    if b % 8 != 1 {
+        return 0;
+    }
+    operator_word(tag, values::integer_of(a), values::integer_of(b))
+}
+
+// Whether an operator's word has one word more than its sides.
+fn sizes_agree(w: u64, u: u64, v: u64) -> bool
+    ensures { λ r. ⌜ r ≡ sizesAgree w u v ⌝ }
+{
+    code::size_of(w) == code::size_of(u) + code::size_of(v) + 1
+}
+
+// The root of the left side, and of the right.
+fn left_of(w: u64, x: usize) -> usize
+    ensures { λ r. ⌜ r ≡ x - 1 - numberIn w ⌝ }
+{
+    let n = (w / 4294967296) as usize;
+    if x <= n {
+        return 0;
+    }
+    x - n - 1
+}
+
+fn right_of(x: usize) -> usize
+    ensures { λ r. ⌜ r ≡ x - 1 ⌝ }
+{
+    if x == 0 {
+        return 0;
+    }
+    x - 1
+}
+
+// ---- expressions
+// An operator on two expressions.
+fn operation(code: &[u64], words: &[u64], depth: usize, w: u64, x: usize) -> u64
+    requires { ⌜ 24584 ≤ length (now words) ⌝ }
+    ensures { λ r. ⌜ r ≡ operationWord (fastAt depth (now (code .entry)) (now (words .entry))) (now (code .entry)) w x ⌝ }
+{
+    let code = &code[0..];
+    let words = &words[0..];
+    let z = left_of(w, x);
+    let y = right_of(x);
+    let u = stores::words::word_at(code, z);
+    let v = stores::words::word_at(code, y);
+    if !sizes_agree(w, u, v) {
+        return 0;
+    }
+    let a = expression(code, words, depth, u, z);
+    if a % 8 != 1 {
+        return 0;
+    }
+    let b = expression(code, words, depth, v, y);
+    word_on(code::tag_of(w), a, b)
+}
+
+// The expression whose root, the word w, stands at x.
+fn expression(code: &[u64], words: &[u64], depth: usize, w: u64, x: usize) -> u64
+    requires { ⌜ 24584 ≤ length (now words) ⌝ }
+    requires { ⌜ w ≡ getD (now code) x 0 ⌝ }
+    ensures { λ r. ⌜ r ≡ fastAt depth (now (code .entry)) (now (words .entry)) x ⌝ }
+{
+    if depth == 0 {
+        return 0;
+    }
+    if code::tag_of(w) < 16 {
+        return leaf_word(words, w);
+    }
+    let r = operation(code, words, depth - 1, w, x);
+    r
+}
+
+// The same of a root. It stands outside the cycle, so that the compiler puts the leaves of an operator into `operation`.
+fn root(code: &[u64], words: &[u64], depth: usize, w: u64, x: usize) -> u64
+    requires { ⌜ 24584 ≤ length (now words) ⌝ }
+    requires { ⌜ w ≡ getD (now code) x 0 ⌝ }
+    ensures { λ r. ⌜ r ≡ fastAt depth (now (code .entry)) (now (words .entry)) x ⌝ }
+{
+    if depth == 0 {
+        return 0;
+    }
+    if code::tag_of(w) < 16 {
+        return leaf_word(words, w);
+    }
+    let r = operation(code, words, depth - 1, w, x);
+    r
+}
+
+// The value of the expression whose root stands at x, its steps counted; 0, and nothing counted, where this does not apply.
+pub fn fast_value(words: &mut [u64], code: &[u64], grants: &[u64; 4], depth: usize, x: usize) -> u64
+    requires { ⌜ 24584 ≤ length (now words) ⌝ }
+    ensures { λ r. ⌜ Values depth (now (code .entry)) (now (grants .entry)) (now (words .entry)) x r (now (words .exit)) ⌝ }
+{
+    let code = &code[0..];
+    let w = stores::words::word_at(code, x);
+    let v = root(code, words, depth, w, x);
+    if v == 0 {
+        return 0;
+    }
+    let granted = grants[0];
+    if !stores::counters::spend(words, 0, granted, code::size_of(w) as u64) {
+        return 0;
+    }
+    v
+}

@@ -1,0 +1,26 @@
+use Rattle.plain.proofs.StepLaws.{no-truth, says-yes, says-no}
+use borrow.Author.Needs.{needs}
+use Rattle.plain.proofs.outcome_of.Statement.{statement}
+use Rattle.plain.proofs.outcome_of.Tie as tie
+use Rattle.plain.proofs.outcome_of.Reads as reads
+use Rattle.plain.proofs.outcome_of.Lts as lts
+use Rattle.values.proofs.truth_of.Reads as truth-of-reads
+
+-- src/lib.rt:339:9
+returns : tie.Need-returns
+returns c = search no-truth
+
+-- src/lib.rt:341:8
+truth-of-requires : tie.Need-truth-of-requires
+truth-of-requires c κs = search needs
+
+-- src/lib.rt:342:9
+returns-2 : tie.Need-returns-2
+returns-2 c = search says-yes
+
+-- src/lib.rt:335:1
+returns-3 : tie.Need-returns-3
+returns-3 c = search says-no
+
+pub outcome-of-spec : {M : Type 1} → statement M
+outcome-of-spec = tie.close (tie.spec returns truth-of-requires returns-2 returns-3)
