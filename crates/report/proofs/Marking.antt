@@ -11,9 +11,9 @@ use lib.Dec.{ltb}
 use lib.ListN.{length, getD, take, drop, length-append, length-take, length-drop, length-map, take-append-drop}
 use lib.Seq.{take-suc, take-all}
 use Rattle.meaning.specs.Basics.{bytes, span, laidOver}
-use Rattle.picture.specs.Placed.{laidAt, WroteAt}
-use Rattle.picture.proofs.Laying.{length-at, saturated-small}
-use Rattle.picture.proofs.Laying.{then as joined}
+use Rattle.writing.specs.Placed.{laidAt, WroteAt}
+use Rattle.writing.proofs.Laying.{length-at, saturated-small}
+use Rattle.writing.proofs.Laying.{then as joined}
 use Rattle.numerals.proofs.Spans.{span-le}
 use Rattle.report.specs.Excerpts.{glyphOf, glyphsOf, optional, inLine, shownLine, markLine, excerptOf, Around}
 

@@ -13,9 +13,9 @@ use Rattle.meaning.specs.Book.{Answer}
 use Rattle.answers.specs.declared.Answer as Declared
 use Rattle.answers.specs.declared.Answer.the-variants.{Picture, Number}
 use Rattle.answers.specs.Answers.{meant}
-use Rattle.picture.specs.Placed.{Wrote, WroteAt}
-use Rattle.picture.proofs.Laying.{from-front}
-use Rattle.picture.proofs.Laying.{then as joined}
+use Rattle.writing.specs.Placed.{Wrote, WroteAt}
+use Rattle.writing.proofs.Laying.{from-front}
+use Rattle.writing.proofs.Laying.{then as joined}
 use Rattle.numerals.specs.Numbers.{NumberAt}
 use Rattle.report.specs.declared.place.Position.{Position}
 use Rattle.report.specs.Positions.{positionOf}

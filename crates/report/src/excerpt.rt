@@ -3,7 +3,7 @@ ghost use Prim.Native.Nat.{_≤_, min};
 ghost use mathlib.Core.Path.{_≡_};
 ghost use lib.ListN.{length, drop};
 ghost use Rattle.meaning.specs.Basics.{span};
-ghost use Rattle.picture.specs.Placed.{WroteAt};
+ghost use Rattle.writing.specs.Placed.{WroteAt};
 ghost use Rattle.report.specs.Excerpts.{glyphOf, glyphsOf, inLine, optional, shownLine, markLine, Around, excerptOf};
 
 // A byte as it is shown, or what stands under it in the mark's line.
@@ -32,7 +32,7 @@ fn write_glyphs_at(out: &mut [u8], at: usize, bytes: &[u8], marking: bool) -> us
     let mut i = 0;
     while i < bytes.len() {
         let one = [glyph(bytes[i], marking)];
-        next = picture::write_bytes_at(out, next, &one);
+        next = writing::write_bytes_at(out, next, &one);
         i += 1;
     }
     next
@@ -42,7 +42,7 @@ fn write_if_at(out: &mut [u8], at: usize, bytes: &[u8], wanted: bool) -> usize
     ensures { λ r. ⌜ WroteAt at (optional wanted (now (bytes .entry))) (now (out .entry)) (now (out .exit)) r ⌝ }
 {
     if wanted {
-        return picture::write_bytes_at(out, at, bytes);
+        return writing::write_bytes_at(out, at, bytes);
     }
     at
 }
@@ -54,7 +54,7 @@ fn write_shown_at(out: &mut [u8], at: usize, part: &[u8], shortened: bool, conti
     let a = write_if_at(out, at, b"...", shortened);
     let b = write_glyphs_at(out, a, part, false);
     let c = write_if_at(out, b, b"...", continued);
-    picture::write_bytes_at(out, c, b"\n")
+    writing::write_bytes_at(out, c, b"\n")
 }
 
 // The line under it, with the mark behind what stands before the place.
@@ -63,7 +63,7 @@ fn write_mark_at(out: &mut [u8], at: usize, part: &[u8], shortened: bool) -> usi
 {
     let a = write_if_at(out, at, b"   ", shortened);
     let b = write_glyphs_at(out, a, part, true);
-    picture::write_bytes_at(out, b, b"^\n")
+    writing::write_bytes_at(out, b, b"^\n")
 }
 
 // How many bytes the line has from the place on.

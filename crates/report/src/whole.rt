@@ -6,7 +6,7 @@ use crate::place::locate;
 use crate::sentence::write_sentence_at;
 use answers::Answer;
 ghost use Rattle.answers.specs.Answers.{meant};
-ghost use Rattle.picture.specs.Placed.{WroteAt};
+ghost use Rattle.writing.specs.Placed.{WroteAt};
 ghost use Rattle.report.specs.Excerpts.{Around, optional, excerptOf};
 ghost use Rattle.report.specs.Reports.{Said, Failed, hasLine};
 
@@ -45,7 +45,7 @@ pub fn write_report(out: &mut [u8], program: &[u8], r: Answer) -> usize
     ensures { λ n. ⌜ Said (now (program .entry)) (meant r) (now (out .entry)) (now (out .exit)) n ⌝ }
 {
     match r {
-        Answer::Picture(_, _) => picture::write_bytes(out, b"well formed\n"),
+        Answer::Picture(_, _) => writing::write_bytes(out, b"well formed\n"),
         Answer::Number(number, place, _, _) => write_failure(out, program, number, place),
     }
 }
