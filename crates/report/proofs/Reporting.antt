@@ -17,13 +17,13 @@ use Rattle.writing.specs.Placed.{Wrote, WroteAt}
 use Rattle.writing.proofs.Laying.{from-front}
 use Rattle.writing.proofs.Laying.{then as joined}
 use Rattle.numerals.specs.Numbers.{NumberAt}
+use Rattle.excerpts.specs.Excerpts.{optional, excerptOf, Around}
+use Rattle.excerpts.proofs.Marking.{wrote-wanted, wrote-unwanted, length-optional, length-excerpt}
 use Rattle.report.specs.declared.place.Position.{Position}
 use Rattle.report.specs.Positions.{positionOf}
-use Rattle.report.specs.Excerpts.{optional, excerptOf, Around}
 use Rattle.report.specs.Sentences.{sentenceOf}
 use Rattle.report.specs.Reports.{headingOf, hasLine, failureOf, saidOf, Said, HeadingAt, Failed}
 use Rattle.report.proofs.Placing.{position-bounded}
-use Rattle.report.proofs.Marking.{wrote-wanted, wrote-unwanted, length-optional, length-excerpt}
 use Rattle.report.proofs.Wording.{length-sentence}
 
 -- ---- the heading

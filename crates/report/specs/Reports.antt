@@ -8,9 +8,9 @@ use Rattle.meaning.specs.Basics.{bytes}
 use Rattle.meaning.specs.Book.{Answer, pictured, number, undecided}
 use Rattle.meaning.specs.Picture.{digitsOf}
 use Rattle.writing.specs.Placed.{Wrote, WroteAt}
+use Rattle.excerpts.specs.Excerpts.{optional, excerptOf}
 use Rattle.report.specs.declared.place.Position.{Position}
 use Rattle.report.specs.Positions.{positionOf}
-use Rattle.report.specs.Excerpts.{optional, excerptOf}
 use Rattle.report.specs.Sentences.{sentenceOf}
 
 -- error 10 at byte 17, line 2, column 3

@@ -1,13 +1,13 @@
 // All that is said about a program that was checked.
-use crate::excerpt::least;
-use crate::excerpt::write_excerpt_at;
 use crate::heading::write_heading_at;
 use crate::place::locate;
 use crate::sentence::write_sentence_at;
 use answers::Answer;
+use excerpts::least;
+use excerpts::write_excerpt_at;
 ghost use Rattle.answers.specs.Answers.{meant};
 ghost use Rattle.writing.specs.Placed.{WroteAt};
-ghost use Rattle.report.specs.Excerpts.{Around, optional, excerptOf};
+ghost use Rattle.excerpts.specs.Excerpts.{Around, optional, excerptOf};
 ghost use Rattle.report.specs.Reports.{Said, Failed, hasLine};
 
 // The line of the place, unless the number is about the whole program.

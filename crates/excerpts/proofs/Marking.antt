@@ -15,7 +15,7 @@ use Rattle.writing.specs.Placed.{laidAt, WroteAt}
 use Rattle.writing.proofs.Laying.{length-at, saturated-small}
 use Rattle.writing.proofs.Laying.{then as joined}
 use Rattle.numerals.proofs.Spans.{span-le}
-use Rattle.report.specs.Excerpts.{glyphOf, glyphsOf, optional, inLine, shownLine, markLine, excerptOf, Around}
+use Rattle.excerpts.specs.Excerpts.{glyphOf, glyphsOf, optional, inLine, shownLine, markLine, excerptOf, Around}
 
 -- ---- one byte
 module _ (m : Bool) (b : ℕ) where

@@ -1,10 +1,10 @@
--- `report::excerpt::write_excerpt_at` meets its contract: the two parts of the program are those of the definition.
+-- `excerpts::write_excerpt_at` meets its contract: the two parts of the program are those of the definition.
 -- Assumes nothing.
 use native.Mathlib.Omega.{arith}
 use borrow.Author.Needs.{needs}
-use Rattle.report.proofs.Marking.{end-fits, wrote-excerpt}
-use Rattle.report.proofs.excerpt.write_excerpt_at.Statement.{statement}
-use Rattle.report.proofs.excerpt.write_excerpt_at.Tie as tie
+use Rattle.excerpts.proofs.Marking.{end-fits, wrote-excerpt}
+use Rattle.excerpts.proofs.write_excerpt_at.Statement.{statement}
+use Rattle.excerpts.proofs.write_excerpt_at.Tie as tie
 
 line-rest-requires : tie.Need-line-rest-requires
 line-rest-requires c κs = search needs

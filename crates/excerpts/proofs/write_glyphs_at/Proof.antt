@@ -1,12 +1,12 @@
--- `report::excerpt::write_glyphs_at` meets its contract: the first i bytes are shown.
+-- `excerpts::write_glyphs_at` meets its contract: the first i bytes are shown.
 -- Assumes nothing.
 use Prim.Native.Nat.{_-_}
 use native.Mathlib.Omega.{arith}
 use borrow.Author.Needs.{needs}
 use lib.ListN.{length}
-use Rattle.report.proofs.Marking.{Showing, show-none, show-kept, show-more, show-all}
-use Rattle.report.proofs.excerpt.write_glyphs_at.Statement.{statement}
-use Rattle.report.proofs.excerpt.write_glyphs_at.Tie as tie
+use Rattle.excerpts.proofs.Marking.{Showing, show-none, show-kept, show-more, show-all}
+use Rattle.excerpts.proofs.write_glyphs_at.Statement.{statement}
+use Rattle.excerpts.proofs.write_glyphs_at.Tie as tie
 
 abbrev Inv-loop : tie.InvT-loop
 Inv-loop out₀ at bytes marking next₀ i₀ out next i = Showing marking bytes at out₀ out next i

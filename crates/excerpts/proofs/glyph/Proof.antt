@@ -1,8 +1,8 @@
--- `report::excerpt::glyph` meets its contract: one law for each kind of byte.
+-- `excerpts::glyph` meets its contract: one law for each kind of byte.
 -- Assumes nothing.
-use Rattle.report.proofs.Marking.{glyph-tab, glyph-mark, glyph-low, glyph-high, glyph-plain}
-use Rattle.report.proofs.excerpt.glyph.Statement.{statement}
-use Rattle.report.proofs.excerpt.glyph.Tie as tie
+use Rattle.excerpts.proofs.Marking.{glyph-tab, glyph-mark, glyph-low, glyph-high, glyph-plain}
+use Rattle.excerpts.proofs.glyph.Statement.{statement}
+use Rattle.excerpts.proofs.glyph.Tie as tie
 
 returns : tie.Need-returns
 returns c = glyph-tab _ _ (c .if1 .taken)

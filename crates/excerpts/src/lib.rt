@@ -4,7 +4,7 @@ ghost use mathlib.Core.Path.{_≡_};
 ghost use lib.ListN.{length, drop};
 ghost use Rattle.meaning.specs.Basics.{span};
 ghost use Rattle.writing.specs.Placed.{WroteAt};
-ghost use Rattle.report.specs.Excerpts.{glyphOf, glyphsOf, inLine, optional, shownLine, markLine, Around, excerptOf};
+ghost use Rattle.excerpts.specs.Excerpts.{glyphOf, glyphsOf, inLine, optional, shownLine, markLine, Around, excerptOf};
 
 // A byte as it is shown, or what stands under it in the mark's line.
 fn glyph(b: u8, marking: bool) -> u8

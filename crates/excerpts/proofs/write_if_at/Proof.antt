@@ -1,9 +1,9 @@
--- `report::excerpt::write_if_at` meets its contract: the bytes, or nothing.
+-- `excerpts::write_if_at` meets its contract: the bytes, or nothing.
 -- Assumes nothing.
 use borrow.Author.Needs.{needs}
-use Rattle.report.proofs.Marking.{wrote-wanted, wrote-unwanted}
-use Rattle.report.proofs.excerpt.write_if_at.Statement.{statement}
-use Rattle.report.proofs.excerpt.write_if_at.Tie as tie
+use Rattle.excerpts.proofs.Marking.{wrote-wanted, wrote-unwanted}
+use Rattle.excerpts.proofs.write_if_at.Statement.{statement}
+use Rattle.excerpts.proofs.write_if_at.Tie as tie
 
 write-bytes-at-requires : tie.Need-write-bytes-at-requires
 write-bytes-at-requires c κs = search needs

@@ -1,13 +1,13 @@
--- `report::excerpt::line_rest` meets its contract: the bytes before i are the line's.
+-- `excerpts::line_rest` meets its contract: the bytes before i are the line's.
 -- Assumes nothing.
 use Prim.Native.Nat.{_-_}
 use native.Mathlib.Omega.{arith}
 use lib.ListN.{length}
 use Rattle.numerals.proofs.Spans.{Spanning, span-none, span-more, span-stop, span-over}
-use Rattle.report.specs.Excerpts.{inLine}
-use Rattle.report.proofs.Marking.{line-goes-on, line-ends}
-use Rattle.report.proofs.excerpt.line_rest.Statement.{statement}
-use Rattle.report.proofs.excerpt.line_rest.Tie as tie
+use Rattle.excerpts.specs.Excerpts.{inLine}
+use Rattle.excerpts.proofs.Marking.{line-goes-on, line-ends}
+use Rattle.excerpts.proofs.line_rest.Statement.{statement}
+use Rattle.excerpts.proofs.line_rest.Tie as tie
 
 abbrev Inv-loop : tie.InvT-loop
 Inv-loop program place i₀ i = Spanning inLine program place i
