@@ -1,12 +1,12 @@
--- `lexer::word::token_text` meets its contract: a string's text stands within its quotes.
+-- `tokens::word::token_text` meets its contract: a string's text stands within its quotes.
 -- Assumes nothing.
 use mathlib.Core.Path.{_∙_, sym}
 use denote.Ref.{now}
-use Rattle.lexer.specs.Words.{kindIn, placeIn, sizeIn, tokenIn}
-use Rattle.lexer.proofs.Texts.{text-plain, text-short, text-string}
+use Rattle.tokens.specs.Words.{kindIn, placeIn, sizeIn, tokenIn}
+use Rattle.tokens.proofs.Texts.{text-plain, text-short, text-string}
 use borrow.Author.Needs.{needs}
-use Rattle.lexer.proofs.word.token_text.Statement.{statement}
-use Rattle.lexer.proofs.word.token_text.Tie as tie
+use Rattle.tokens.proofs.word.token_text.Statement.{statement}
+use Rattle.tokens.proofs.word.token_text.Tie as tie
 
 place-of-requires : tie.Need-place-of-requires
 place-of-requires c κs = search needs

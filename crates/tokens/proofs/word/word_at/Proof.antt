@@ -1,10 +1,10 @@
--- `lexer::word::word_at` meets its contract: an index below n and the length is read, any other yields 0.
+-- `tokens::word::word_at` meets its contract: an index below n and the length is read, any other yields 0.
 -- Assumes nothing.
 use denote.Ref.{now}
-use Rattle.lexer.proofs.Texts.{at-within, at-behind, at-missing}
+use Rattle.tokens.proofs.Texts.{at-within, at-behind, at-missing}
 use borrow.Author.Needs.{needs}
-use Rattle.lexer.proofs.word.word_at.Statement.{statement}
-use Rattle.lexer.proofs.word.word_at.Tie as tie
+use Rattle.tokens.proofs.word.word_at.Statement.{statement}
+use Rattle.tokens.proofs.word.word_at.Tie as tie
 
 mul-result : tie.Need-mul-result
 mul-result c = search needs

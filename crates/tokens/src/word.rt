@@ -4,7 +4,7 @@ use crate::text::spelling;
 ghost use mathlib.Core.Path.{_≡_};
 ghost use Prim.Native.Nat.{_+_, _*_, _<_};
 ghost use lib.ListN.{take, getD};
-ghost use Rattle.lexer.specs.Words.{kindIn, placeIn, sizeIn, tokenIn};
+ghost use Rattle.tokens.specs.Words.{kindIn, placeIn, sizeIn, tokenIn};
 
 // The word of a token.
 pub fn word_of(kind: u8, place: usize, size: usize) -> u64

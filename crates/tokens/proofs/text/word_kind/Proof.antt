@@ -1,10 +1,10 @@
--- `lexer::text::word_kind` meets its contract: a word of another length is not the text's.
+-- `tokens::text::word_kind` meets its contract: a word of another length is not the text's.
 -- Assumes nothing.
 use mathlib.Core.Path.{_∙_, sym}
-use Rattle.lexer.proofs.Texts.{kind-2, kind-3, kind-4, kind-5, kind-6, kind-other}
+use Rattle.tokens.proofs.Texts.{kind-2, kind-3, kind-4, kind-5, kind-6, kind-other}
 use borrow.Author.Needs.{needs}
-use Rattle.lexer.proofs.text.word_kind.Statement.{statement}
-use Rattle.lexer.proofs.text.word_kind.Tie as tie
+use Rattle.tokens.proofs.text.word_kind.Statement.{statement}
+use Rattle.tokens.proofs.text.word_kind.Tie as tie
 
 slice-aggregate-same-text : tie.Need-slice-aggregate-same-text
 slice-aggregate-same-text c = search needs

@@ -1,10 +1,10 @@
--- `lexer::text::spelling` meets its contract: clipped ends leave what `take` and `drop` leave.
+-- `tokens::text::spelling` meets its contract: clipped ends leave what `take` and `drop` leave.
 -- Assumes nothing.
 use denote.Ref.{now}
-use Rattle.lexer.proofs.Texts.{clipped}
+use Rattle.tokens.proofs.Texts.{clipped}
 use borrow.Author.Needs.{needs}
-use Rattle.lexer.proofs.text.spelling.Statement.{statement}
-use Rattle.lexer.proofs.text.spelling.Tie as tie
+use Rattle.tokens.proofs.text.spelling.Statement.{statement}
+use Rattle.tokens.proofs.text.spelling.Tie as tie
 
 least-requires : tie.Need-least-requires
 least-requires c κs = search needs

@@ -13,7 +13,7 @@ use lib.ListN.{length, getD, take, drop, drop-of-length-le, length-take, length-
 use lib.Seq.{drop-cons, take-all, take-nil, getD-take}
 use Rattle.meaning.specs.Basics.{bytes, sameText}
 use Rattle.meaning.specs.Token.{wordKind}
-use Rattle.lexer.specs.Words.{textIn}
+use Rattle.tokens.specs.Words.{textIn}
 
 -- ---- comparison
 and-false : (b : Bool) → b && false ≡ false

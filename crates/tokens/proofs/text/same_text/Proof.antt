@@ -1,4 +1,4 @@
--- `lexer::text::same_text` meets its contract: the invariant says that what is left compares as the whole does.
+-- `tokens::text::same_text` meets its contract: the invariant says that what is left compares as the whole does.
 -- Assumes nothing.
 use denote.Ref.{now}
 use mathlib.Core.Path.{_≡_, _∙_, refl, sym}
@@ -7,9 +7,9 @@ use native.Mathlib.Omega.{arith}
 use borrow.Author.Needs.{needs}
 use lib.ListN.{length, drop}
 use Rattle.meaning.specs.Basics.{sameText}
-use Rattle.lexer.proofs.Texts.{other-lengths, other-here, same-here, same-over}
-use Rattle.lexer.proofs.text.same_text.Statement.{statement}
-use Rattle.lexer.proofs.text.same_text.Tie as tie
+use Rattle.tokens.proofs.Texts.{other-lengths, other-here, same-here, same-over}
+use Rattle.tokens.proofs.text.same_text.Statement.{statement}
+use Rattle.tokens.proofs.text.same_text.Tie as tie
 
 abbrev Inv-loop : tie.InvT-loop
 Inv-loop x y i₀ i = (i ≤ length x) × (length x ≡ length y) × (sameText x y ≡ sameText (drop i x) (drop i y))
