@@ -18,7 +18,7 @@ use Rattle.answers.specs.declared.Answer.the-variants.{Picture, Number}
 use Rattle.answers.specs.Answers.{meant}
 use Rattle.stores.specs.Layout.{stepsUsed}
 use Rattle.stores.specs.Act.{raw}
-use Rattle.picture.specs.Placed.{Wrote}
+use Rattle.writing.specs.Placed.{Wrote}
 use Rattle.scene.specs.Scene.{sceneIn, Drawable}
 use Rattle.running.specs.declared.Ending.{Ending}
 use Rattle.running.specs.declared.Ending.the-variants.{Complete, Stopped}

@@ -11,8 +11,8 @@ use lib.ListN.{length, take, length-take}
 use lib.Seq.{take-all}
 use Rattle.meaning.specs.Basics.{if_then_else_}
 use Rattle.checking.specs.Checking.{readAnswer}
+use Rattle.excerpts.specs.Excerpts.{optional}
 use Rattle.report.specs.Positions.{first, positionOf, afterBytes}
-use Rattle.report.specs.Excerpts.{optional}
 use Rattle.report.specs.Reports.{failureOf, saidOf}
 use Rattle.imgcheck.specs.Reports.{reportOf}
 

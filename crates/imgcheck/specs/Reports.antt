@@ -1,7 +1,7 @@
 -- What `imgcheck` prints about a program.
 use Prim.Native.Nat.{ℕ, _≤_}
 use mathlib.Core.List.{List}
-use Rattle.picture.specs.Placed.{Wrote}
+use Rattle.writing.specs.Placed.{Wrote}
 use Rattle.checking.specs.Checking.{readAnswer}
 use Rattle.report.specs.Reports.{saidOf}
 

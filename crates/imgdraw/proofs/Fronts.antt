@@ -11,7 +11,7 @@ use Rattle.meaning.proofs.Pictures.{laid-front}
 use Rattle.answers.specs.declared.Answer as Declared
 use Rattle.answers.specs.declared.Answer.the-variants.{Picture, Number}
 use Rattle.answers.specs.Answers.{meant}
-use Rattle.picture.proofs.Laying.{length-over}
+use Rattle.writing.proofs.Laying.{length-over}
 use Rattle.sheet.specs.Errors.{errorLine, ErrorWritten}
 use Rattle.imgdraw.specs.Printed.{Front, textOf}
 

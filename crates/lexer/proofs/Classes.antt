@@ -11,7 +11,7 @@ use lib.Dec.{eqb, leb, ltb}
 use lib.ListN.{getD}
 use Rattle.meaning.specs.Basics.{standsIn, bytes}
 use Rattle.meaning.specs.Byte.{isSpace, isLetter, isDigit, isNamePart, isQuote, isSign, classOf}
-use Rattle.lexer.specs.Words.{classesFrom, classTable, fromClass}
+use Rattle.lexer.specs.Lexing.{classesFrom, classTable, fromClass}
 
 -- ---- the table
 entry : (i n k : ℕ) → k < n → getD (classesFrom i n) k 0 ≡ classOf (i + k)

@@ -12,7 +12,8 @@ use Rattle.meaning.specs.Byte.{isSpace}
 use Rattle.meaning.specs.Token.{Token, Front, found, nothing, front, Lexed, lexed, stray, prepend, starting, scan, tokensOf}
 use Rattle.meaning.specs.Grammar.{afterLast}
 use Rattle.lexer.specs.declared.Tokens.the-variants.{Found}
-use Rattle.lexer.specs.Words.{wordOf, textIn, tokenIn, seen, laidTokens}
+use Rattle.tokens.specs.Words.{wordOf, textIn, tokenIn}
+use Rattle.lexer.specs.Lexing.{seen, laidTokens}
 use Rattle.lexer.proofs.Fits.{decoded, word-small}
 use Rattle.lexer.proofs.Laid.{laid-front}
 

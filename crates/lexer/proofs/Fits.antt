@@ -12,7 +12,7 @@ use lib.Seq.{length-take-le, drop-drop}
 use Rattle.meaning.specs.Basics.{bytes, if_then_else_, sameText, span}
 use Rattle.meaning.specs.Byte.{isLetter, isDigit, isNamePart, isQuote, isSign}
 use Rattle.meaning.specs.Token.{Token, Front, found, nothing, foundName, foundDigits, foundString, foundSign, isDouble, front, wordKind}
-use Rattle.lexer.specs.Words.{sizeOf, wordOf, kindIn, placeIn, sizeIn, textIn, tokenIn}
+use Rattle.tokens.specs.Words.{sizeOf, wordOf, kindIn, placeIn, sizeIn, textIn, tokenIn}
 use Rattle.lexer.proofs.Classes.{sign-range}
 use Rattle.lexer.proofs.Runs.{span-le, span-some}
 

@@ -14,7 +14,7 @@ use lib.Seq.{drop-cons, getD-drop}
 use Rattle.meaning.specs.Basics.{bytes, if_then_else_, span, standsIn}
 use Rattle.meaning.specs.Byte.{isLetter, isDigit, isNamePart, isQuote, isSign, classOf}
 use Rattle.meaning.specs.Token.{nothing, foundName, foundDigits, foundString, foundSign, isDouble, front, wordKind}
-use Rattle.lexer.specs.Words.{fromClass, frontWord}
+use Rattle.lexer.specs.Lexing.{fromClass, frontWord}
 use Rattle.lexer.proofs.Classes.{is-letter, is-digit, is-quote, is-sign, name-part, digit-part}
 use Rattle.lexer.proofs.Runs.{endOf, span-le, span-same}
 

@@ -9,7 +9,8 @@ use Rattle.meaning.specs.Basics.{laidOver}
 use Rattle.meaning.specs.Byte.{classOf}
 use Rattle.meaning.specs.Token.{Token, Front, found, nothing, front, lexed, stray, tokensOf}
 use Rattle.lexer.specs.declared.Tokens.the-variants.{Found, Stray}
-use Rattle.lexer.specs.Words.{frontWord, wordOf, sizeIn, seen, laidTokens}
+use Rattle.tokens.specs.Words.{wordOf, sizeIn}
+use Rattle.lexer.specs.Lexing.{frontWord, seen, laidTokens}
 use Rattle.lexer.proofs.Fits.{fits, end-within, word-is, size-told}
 use Rattle.lexer.proofs.Laid.{laid-none, laid-more, laid-length, map-more}
 use Rattle.lexer.proofs.Scan.{here, at-end, at-space, at-stray, at-token, prependAll, prepend-none, prepend-more}

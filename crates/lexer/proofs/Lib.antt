@@ -1,6 +1,5 @@
 mod Classes
 mod Runs
-mod Texts
 mod Fronts
 mod Scan
 mod Going

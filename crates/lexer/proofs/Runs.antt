@@ -12,7 +12,7 @@ use lib.ListN.{length, getD, drop, drop-of-length-le}
 use lib.Seq.{drop-cons}
 use Rattle.meaning.specs.Basics.{if_then_else_, span}
 use Rattle.meaning.specs.Byte.{classOf}
-use Rattle.lexer.specs.Words.{fromClass}
+use Rattle.lexer.specs.Lexing.{fromClass}
 
 -- where the run from a place on ends
 abbrev pub endOf : ℕ → List ℕ → ℕ → ℕ

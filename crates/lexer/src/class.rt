@@ -5,7 +5,7 @@ ghost use Prim.Native.Nat.{_+_};
 ghost use lib.ListN.{getD, drop};
 ghost use Rattle.meaning.specs.Basics.{span};
 ghost use Rattle.meaning.specs.Byte.{classOf};
-ghost use Rattle.lexer.specs.Words.{classTable, fromClass};
+ghost use Rattle.lexer.specs.Lexing.{classTable, fromClass};
 
 // The byte at a place, 0 past the end.
 pub fn byte_at(program: &[u8], i: usize) -> u8

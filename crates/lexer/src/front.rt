@@ -3,19 +3,19 @@ use crate::class::byte_at;
 use crate::class::class_at;
 use crate::class::class_of;
 use crate::class::run_end;
-use crate::kind;
 use crate::table::DIGIT;
 use crate::table::LETTER;
 use crate::table::QUOTE;
 use crate::table::SIGN;
-use crate::text::spelling;
-use crate::text::word_kind;
-use crate::word::word_of;
+use tokens::kind;
+use tokens::spelling;
+use tokens::word_kind;
+use tokens::word_of;
 ghost use mathlib.Core.Path.{_≡_};
 ghost use Prim.Native.Nat.{_+_, _≤_, _<_};
 ghost use lib.ListN.{length, getD, drop};
 ghost use Rattle.meaning.specs.Token.{front, foundName, foundDigits, foundString, foundSign, isDouble};
-ghost use Rattle.lexer.specs.Words.{classTable, frontWord};
+ghost use Rattle.lexer.specs.Lexing.{classTable, frontWord};
 
 // A name or a reserved word.
 fn name_at(classes: &[u8; 256], program: &[u8], at: usize) -> u64

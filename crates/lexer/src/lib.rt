@@ -1,27 +1,16 @@
 // Tokens of a program, as words in a slice that is lent for them.
 use table::CLASSES;
 use table::WHITE;
+use tokens::token_size;
 ghost use mathlib.Core.Path.{_≡_};
 ghost use Prim.Native.Nat.{_≤_};
 ghost use lib.ListN.{length, set};
 ghost use Rattle.meaning.specs.Token.{tokensOf};
-ghost use Rattle.lexer.specs.Words.{classTable, seen, laidTokens};
+ghost use Rattle.lexer.specs.Lexing.{classTable, seen, laidTokens};
 
 mod class;
 mod front;
-pub mod kind;
 mod table;
-mod text;
-mod word;
-
-pub use text::same_text;
-pub use text::spelling;
-pub use text::word_kind;
-pub use word::kind_of;
-pub use word::place_of;
-pub use word::token_size;
-pub use word::token_text;
-pub use word::word_at;
 
 // How many tokens a program has; or its first byte at which none begins.
 pub enum Tokens {
@@ -58,7 +47,7 @@ fn lex_by(classes: &[u8; 256], program: &[u8], tokens: &mut [u64]) -> Tokens
         }
         put(tokens, n, w);
         n += 1;
-        at += word::token_size(w);
+        at += token_size(w);
     }
     Tokens::Found(n)
 }

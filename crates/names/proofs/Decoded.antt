@@ -9,7 +9,7 @@ use lib.Dec.{eqb}
 use lib.ListN.{length, getD, take, drop, length-take, length-map, List·getD-eq-default}
 use Rattle.meaning.specs.Token.{Token, aName, aString, digits}
 use Rattle.meaning.specs.Grammar.{afterLast, numeral}
-use Rattle.lexer.specs.Words.{sizeOf, textIn, tokenIn, kindIn, placeIn, sizeIn}
+use Rattle.tokens.specs.Words.{sizeOf, textIn, tokenIn, kindIn, placeIn, sizeIn}
 use Rattle.names.specs.Prepared.{home, libraryNumber, payload, prepared, preparedAll}
 use Rattle.names.proofs.Entries.{getD-map}
 

@@ -12,7 +12,7 @@ use borrow.Author.Tests.{eq-eqb, ne-eqb, eqb-true, eqb-false}
 use lib.Dec.{eqb}
 use lib.ListN.{length, getD, set, replicate, length-set, length-replicate, getD-replicate}
 use lib.Seq.{getD-set-same, getD-set-other}
-use Rattle.lexer.specs.Words.{tokenIn, kindIn}
+use Rattle.tokens.specs.Words.{tokenIn, kindIn}
 use Rattle.names.specs.Index.{Room, bucketOf, named, homeOf, bucketAt, isEntry, lies, last, found, linkAt, homeAt}
 use Rattle.names.specs.Index.{Indexed, Looks, Files, Notes, noted}
 use Rattle.names.proofs.Homes.{and-false}

@@ -13,7 +13,7 @@ use Rattle.meaning.specs.Token.{Token, aString}
 use Rattle.meaning.specs.Grammar.{numeral}
 use Rattle.meaning.specs.Library.{Library, libraryOf, drawLine, drawEllipse, drawBox, drawText, connectShapes, drawTextOnShape}
 use Rattle.meaning.specs.Library.{xCoordinate, yCoordinate, destroyShape, clearScene}
-use Rattle.lexer.specs.Words.{sizeOf, textIn, tokenIn, kindIn, placeIn, sizeIn}
+use Rattle.tokens.specs.Words.{sizeOf, textIn, tokenIn, kindIn, placeIn, sizeIn}
 use Rattle.names.specs.Prepared.{home, numberOf, libraryNumber, payload, prepared}
 use Rattle.names.specs.Index.{payloadWith, wordWith, named}
 

@@ -9,7 +9,7 @@ use native.Mathlib.Omega.{arith}
 use lib.ListN.{length, getD, set, length-set, length-map}
 use lib.Seq.{getD-set-same, getD-set-other, ext-getD}
 use Rattle.meaning.specs.Grammar.{afterLast}
-use Rattle.lexer.specs.Words.{tokenIn}
+use Rattle.tokens.specs.Words.{tokenIn}
 use Rattle.names.specs.Prepared.{prepared, preparedAll}
 use Rattle.names.specs.Index.{homeOf, homeAt, wordWith, Indexed}
 use Rattle.names.proofs.Entries.{getD-map}

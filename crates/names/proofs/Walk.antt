@@ -9,7 +9,7 @@ use borrow.Author.Tests.{eq-eqb, ne-eqb, eqb-true}
 use lib.Dec.{eqb}
 use lib.ListN.{length, getD}
 use Rattle.meaning.specs.Basics.{sameText}
-use Rattle.lexer.specs.Words.{tokenIn, kindIn}
+use Rattle.tokens.specs.Words.{tokenIn, kindIn}
 use Rattle.names.specs.Index.{bucketOf, spelled, bucketAt, isEntry, lies, meets, last, found, linkAt, Looks}
 use Rattle.names.proofs.Homes.{and-true}
 use Rattle.names.proofs.Last.{last-here, last-below, last-none, last-le, last-meets, last-skip}

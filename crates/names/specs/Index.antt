@@ -8,7 +8,7 @@ use lib.Dec.{eqb}
 use Rattle.meaning.specs.Basics.{sameText}
 use Rattle.meaning.specs.Token.{Token, aName, aString, digits}
 use Rattle.meaning.specs.Grammar.{numeral}
-use Rattle.lexer.specs.Words.{tokenIn, kindIn}
+use Rattle.tokens.specs.Words.{tokenIn, kindIn}
 use Rattle.names.specs.Prepared.{home, libraryNumber}
 
 -- what `prepare` needs

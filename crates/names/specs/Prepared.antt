@@ -8,7 +8,7 @@ use Rattle.meaning.specs.Basics.{if_then_else_, sameText}
 use Rattle.meaning.specs.Token.{Token, aName, aString, digits}
 use Rattle.meaning.specs.Grammar.{numeral}
 use Rattle.meaning.specs.Library.{Library, drawLine, drawEllipse, drawBox, drawText, connectShapes, drawTextOnShape, xCoordinate, yCoordinate, destroyShape, clearScene, libraryOf}
-use Rattle.lexer.specs.Words.{sizeOf, tokenIn}
+use Rattle.tokens.specs.Words.{sizeOf, tokenIn}
 
 -- the index of the first token of a kind and a text; how many tokens there are if none is
 unfoldable pub home : List Token → ℕ → List ℕ → ℕ

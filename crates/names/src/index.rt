@@ -1,8 +1,8 @@
 // The index of names and strings. Words 0 to 8191 begin the buckets: the place behind the bucket's newest entry, 0 if it has none. Word 8192 + i is
 // of token i: the place behind the next older entry of its bucket, and above 16 bits its home. An entry is the first token of its kind and text.
-use lexer::kind_of;
-use lexer::same_text;
-use lexer::token_text;
+use tokens::kind_of;
+use tokens::same_text;
+use tokens::token_text;
 ghost use mathlib.Core.Path.{_≡_};
 ghost use Prim.Native.Nat.{_+_, _<_};
 ghost use lib.ListN.{length, replicate};

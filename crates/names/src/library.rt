@@ -1,5 +1,5 @@
 // The library procedures, by their names.
-use lexer::same_text;
+use tokens::same_text;
 ghost use mathlib.Core.Path.{_≡_};
 ghost use Rattle.names.specs.Prepared.{libraryNumber};
 ghost use Rattle.names.specs.Index.{either};

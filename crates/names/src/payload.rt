@@ -1,12 +1,12 @@
 // What a token's word holds above its kind and place.
 use crate::library::library_number;
-use lexer::kind_of;
-use lexer::token_text;
+use tokens::kind_of;
+use tokens::token_text;
 ghost use mathlib.Core.Path.{_≡_};
 ghost use Prim.Native.Nat.{_+_, _*_, _-_, _<_, min};
 ghost use lib.ListN.{length};
 ghost use Rattle.meaning.specs.Grammar.{numeral};
-ghost use Rattle.lexer.specs.Words.{tokenIn};
+ghost use Rattle.tokens.specs.Words.{tokenIn};
 ghost use Rattle.names.specs.Index.{payloadWith, wordWith};
 
 // The word of a word's token with its payload; home is that of a name or a string.

@@ -12,9 +12,9 @@ use lib.ListN.{length, length-append}
 use Rattle.meaning.specs.Basics.{if_then_else_}
 use Rattle.meaning.specs.Picture.{digitsWithin, digitsOf}
 use Rattle.io.specs.Digits.{digits, glyph, Fewest}
-use Rattle.picture.proofs.Decimals.{tens-positive}
-use Rattle.picture.proofs.Laying.{then as joined}
-use Rattle.picture.specs.Placed.{WroteAt}
+use Rattle.writing.proofs.Decimals.{tens-positive}
+use Rattle.writing.proofs.Laying.{then as joined}
+use Rattle.writing.specs.Placed.{WroteAt}
 use Rattle.numerals.specs.Numbers.{NumberAt}
 
 decimal-glyph : (d : ℕ) → d < 10 → glyph d ≡ d + 48

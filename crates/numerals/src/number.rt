@@ -7,6 +7,6 @@ pub fn write_number_at(out: &mut [u8], at: usize, lead: &[u8], n: u64) -> usize
 {
     let mut text = [0u8; 20];
     let count = io::decimal(n, &mut text);
-    let next = picture::write_bytes_at(out, at, lead);
-    picture::write_bytes_at(out, next, &text[..count])
+    let next = writing::write_bytes_at(out, at, lead);
+    writing::write_bytes_at(out, next, &text[..count])
 }

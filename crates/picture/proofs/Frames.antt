@@ -9,9 +9,10 @@ use lib.ListN.{length, length-append}
 use Rattle.meaning.specs.Basics.{bytes}
 use Rattle.meaning.specs.Figure.{Figure}
 use Rattle.meaning.specs.Picture.{decimal, lineOf, linesOf, pictureOf}
-use Rattle.picture.specs.Parts.{head, tail, front, pair}
-use Rattle.picture.specs.Placed.{Wrote, WroteAt}
-use Rattle.picture.proofs.Laying.{then, from-front}
+use Rattle.writing.specs.Digits.{pair}
+use Rattle.writing.specs.Placed.{Wrote, WroteAt}
+use Rattle.writing.proofs.Laying.{then, from-front}
+use Rattle.picture.specs.Parts.{head, tail, front}
 
 -- ---- the head by its parts
 join : (l m n o p : List ℕ) (w h : ℤ) → l ++ m ++ decimal w ++ n ++ decimal h ++ o ++ p ≡ pair (l ++ m) w ++ pair n h ++ (o ++ p)

@@ -11,8 +11,9 @@ use mir.Val.{SFits}
 use Rattle.meaning.specs.Basics.{bytes}
 use Rattle.meaning.specs.Figure.{Figure, line, ellipse, box, text, figureKind, numbersOf, textOf}
 use Rattle.meaning.specs.Picture.{decimal, attribute, lineOf}
-use Rattle.picture.specs.Parts.{figureFrom, pair, element}
-use Rattle.picture.proofs.Decimals.{decimal-some, decimal-short}
+use Rattle.writing.specs.Digits.{pair}
+use Rattle.writing.proofs.Decimals.{decimal-some, decimal-short}
+use Rattle.picture.specs.Parts.{figureFrom, element}
 
 -- ---- figures by their kind's number
 module _ {k : ℕ} (a b c d : ℤ) (s : List ℕ) where

@@ -1,24 +1,24 @@
 -- What the calls of each writer come to together. A call hands a number on as its bits, which `seen` reads back.
 -- Assumes nothing.
-use mathlib.Core.Bool.{Bool, true, false}
-use mathlib.Core.List.{List, [], _∷_, _++_}
-use mathlib.Core.Path.{_≡_, _∙_, sym, ap}
+use mathlib.Core.List.{List}
+use mathlib.Core.Path.{_≡_}
 use Prim.Native.Nat.{ℕ, _+_, _-_, _*_, _^_, _≤_, _<_}
 use native.Mathlib.Omega.{arith}
 use borrow.Rule.Slice.PartMut.{putMid}
-use lib.IntN.{ℤ, natAbs}
+use lib.IntN.{ℤ}
 use lib.ListN.{length, take, drop}
 use mir.Syntax.{w32}
 use mir.Val.{SFits}
 use Rattle.meaning.specs.Basics.{bytes}
 use Rattle.meaning.specs.Figure.{Figure, line, ellipse, box, text}
-use Rattle.meaning.specs.Picture.{digitsOf, decimal, lineOf}
-use Rattle.picture.specs.Digits.{lastDigits, isNegative}
-use Rattle.picture.specs.Parts.{figureFrom, head, pair, element}
-use Rattle.picture.specs.Placed.{saturated, Wrote, WroteAt}
-use Rattle.picture.proofs.Decimals.{length-last, digits-last, decimal-negative, decimal-positive, decimal-short}
+use Rattle.meaning.specs.Picture.{decimal, lineOf}
+use Rattle.writing.specs.Digits.{pair}
+use Rattle.writing.specs.Placed.{saturated, Wrote, WroteAt}
+use Rattle.writing.proofs.Decimals.{decimal-short}
+use Rattle.writing.proofs.Laying.{then, from-front, lent, past}
+use Rattle.writing.proofs.Signs.{seen, handed}
+use Rattle.picture.specs.Parts.{figureFrom, head, element}
 use Rattle.picture.proofs.Frames.{head-parts, length-head}
-use Rattle.picture.proofs.Laying.{then, from-front, lent, past}
 use Rattle.picture.proofs.Lines.{
   figure-line,
   figure-ellipse,
@@ -35,41 +35,8 @@ use Rattle.picture.proofs.Lines.{
   length-box,
   length-text,
 }
-use Rattle.picture.proofs.Signs.{seen, handed}
-
--- ---- numbers
-module _ (z : ℤ) {n count : ℕ} {t : Bool} (f : SFits w32 z) (m : n ≡ natAbs (seen z)) (k : count ≡ length (digitsOf n))
-    (s : t ≡ isNegative (seen z)) where
-  spelled : lastDigits count n ≡ digitsOf (natAbs z)
-  spelled = rw (k, digits-last n, m, handed z f)
-
-  split : t ≡ true → decimal z ≡ (45 ∷ []) ++ lastDigits count n
-  split e = rw (decimal-negative z (sym (s ∙ ap isNegative (handed z f)) ∙ e), spelled)
-
-  whole : t ≡ false → decimal z ≡ lastDigits count n
-  whole e = rw (decimal-positive z (sym (s ∙ ap isNegative (handed z f)) ∙ e), spelled)
-
-  pub length-negative : t ≡ true → count + 1 ≡ length (decimal z)
-  length-negative e = rw (split e, length-last count n) (omega arith)
-
-  pub length-positive : t ≡ false → count ≡ length (decimal z)
-  length-positive e = rw (whole e, length-last count n)
-
-  pub wrote-negative : t ≡ true → {at next r : ℕ} {d after last : List ℕ} → length d < 2 ^ 64 → WroteAt at (45 ∷ []) d after next
-      → WroteAt next (lastDigits count n) after last r → WroteAt at (decimal z) d last r
-  wrote-negative e h p q = rw (split e) (then h p q)
-
-  pub wrote-positive : t ≡ false → {at r : ℕ} {d last : List ℕ} → WroteAt at (lastDigits count n) d last r → WroteAt at (decimal z) d last r
-  wrote-positive e p = rw (whole e) p
-
-pub front-decimal : (z : ℤ) {r : ℕ} {d after : List ℕ} → SFits w32 z → WroteAt 0 (decimal (seen z)) d after r → Wrote (decimal z) d after r
-front-decimal z f p = let h = decimal-short z f in from-front (omega arith) (rw (handed z f) at p)
 
 -- ---- elements
-pub wrote-pair : (z : ℤ) {lead d after last : List ℕ} {at next r : ℕ} → SFits w32 z → length d < 2 ^ 64
-    → WroteAt at lead d after next → WroteAt next (decimal (seen z)) after last r → WroteAt at (pair lead z) d last r
-wrote-pair z f h p q = then h p (rw (handed z f) at q)
-
 pub wrote-element : (a b c d : ℤ) (l m n o : List ℕ) {before e₁ e₂ e₃ e₄ e₅ : List ℕ} {p₁ p₂ p₃ p₄ r : ℕ}
     → SFits w32 a → SFits w32 b → SFits w32 c → SFits w32 d → length before < 2 ^ 64
     → WroteAt 0 (pair l (seen a)) before e₁ p₁ → WroteAt p₁ (pair m (seen b)) e₁ e₂ p₂ → WroteAt p₂ (pair n (seen c)) e₂ e₃ p₃
@@ -120,14 +87,6 @@ module _ (k : ℕ) (a b c d : ℤ) (s : List ℕ) {before after : List ℕ} {r :
   wrote-other n₀ n₁ n₂ w = rw (figure-text k a b c d s n₀ n₁ n₂) (rw (handed a fa, handed b fb) at w)
 
 -- ---- lengths
-pub length-pair : (a b : ℤ) {m n : ℕ} → SFits w32 a → SFits w32 b → m ≡ length (decimal (seen a)) → n ≡ length (decimal (seen b))
-    → m + n ≡ length (decimal a) + length (decimal b)
-length-pair a b fa fb p q = rw (p, q, handed a fa, handed b fb)
-
-pub pair-short : (a b : ℤ) {m n : ℕ} → SFits w32 a → SFits w32 b → m ≡ length (decimal (seen a)) → n ≡ length (decimal (seen b))
-    → m + n ≤ 22
-pair-short a b fa fb p q = rw (length-pair a b fa fb p q) (omega (arith, decimal-short a fa, decimal-short b fb))
-
 module _ (k : ℕ) (a b c d : ℤ) (s : List ℕ) {m n : ℕ}
     (fa : SFits w32 a) (fb : SFits w32 b) (fc : SFits w32 c) (fd : SFits w32 d) where
   counted : (f : Figure) (x : ℕ) → figureFrom k a b c d s ≡ f → length (lineOf f) ≡ x + numbers a b c d

@@ -5,6 +5,7 @@ use lib.IntN.{ℤ}
 use Rattle.meaning.specs.Basics.{bytes}
 use Rattle.meaning.specs.Figure.{Figure, line, ellipse, box, text}
 use Rattle.meaning.specs.Picture.{decimal, linesOf}
+use Rattle.writing.specs.Digits.{pair}
 
 -- the figure of a kind by its number: 0 a line, 1 an ellipse, 2 a box, else a text, which has two of the numbers
 unfoldable pub figureFrom : ℕ → ℤ → ℤ → ℤ → ℤ → List ℕ → Figure
@@ -28,10 +29,6 @@ tail = bytes "</g>\n" ++ bytes "</svg>\n"
 -- a picture's front: the head and the lines of the figures so far
 unfoldable pub front : ℤ → ℤ → List Figure → List ℕ
 front width height figures = head width height ++ linesOf figures
-
--- a byte string and then a number
-abbrev pub pair : List ℕ → ℤ → List ℕ
-pair lead z = lead ++ decimal z
 
 -- an element with four numbers, each behind its byte string
 unfoldable pub element : List ℕ → ℤ → List ℕ → ℤ → List ℕ → ℤ → List ℕ → ℤ → List ℕ

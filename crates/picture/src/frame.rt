@@ -1,11 +1,11 @@
 // The lines before and behind those of the shapes.
 ghost use mathlib.Core.Path.{_≡_};
 ghost use lib.ListN.{length};
-ghost use Rattle.picture.specs.Placed.{WroteAt};
+ghost use Rattle.writing.specs.Placed.{WroteAt};
 ghost use Rattle.picture.specs.Parts.{head, tail};
-use crate::decimal::pair_length;
-use crate::decimal::write_pair_at;
-use crate::place::write_bytes_at;
+use writing::pair_length;
+use writing::write_bytes_at;
+use writing::write_pair_at;
 
 // Its fixed bytes, and those of its two numbers.
 pub fn head_length(width: i32, height: i32) -> usize

@@ -3,12 +3,12 @@ ghost use mathlib.Core.Path.{_≡_};
 ghost use lib.ListN.{length};
 ghost use Rattle.meaning.specs.Figure.{text};
 ghost use Rattle.meaning.specs.Picture.{lineOf};
-ghost use Rattle.picture.specs.Placed.{Wrote, WroteAt};
+ghost use Rattle.writing.specs.Placed.{Wrote, WroteAt};
 ghost use Rattle.picture.specs.Parts.{figureFrom, element};
-use crate::decimal::pair_length;
-use crate::decimal::write_pair_at;
-use crate::place::saturating_add;
-use crate::place::write_bytes_at;
+use writing::pair_length;
+use writing::saturating_add;
+use writing::write_bytes_at;
+use writing::write_pair_at;
 
 // An element with four numbers, each behind its byte string.
 fn write_element(

@@ -17,7 +17,7 @@ use Rattle.meaning.specs.Grammar.{afterLast, kindAt, textAt, startAt, is, numer
 use Rattle.meaning.specs.Tree.{Operator, concatenate, add, subtract, multiply, divide, remainder, shiftRight, shiftLeft, equal, unequal, greater, less, Expression, number, string, nothing, truth, name, table, entry, operation, call, paren, Statement, declare, assign, update, when, while, return, block, act}
 use Rattle.meaning.specs.Integer.{bits, wrap}
 use Rattle.meaning.specs.Library.{Library, drawLine, drawEllipse, drawBox, drawText, connectShapes, drawTextOnShape, xCoordinate, yCoordinate, destroyShape, clearScene, libraryOf}
-use Rattle.lexer.specs.Words.{sizeOf, tokenIn}
+use Rattle.tokens.specs.Words.{sizeOf, tokenIn}
 use Rattle.names.specs.Prepared.{home, numberOf, libraryNumber, payload, prepared, preparedAll}
 use Rattle.code.specs.Code.{word, tagIn, sizeIn, numberIn, tagOf, partOf, joined, codeOf, codeOfAll, codeOfStatement}
 use Rattle.expressions.specs.Words as Words

@@ -12,10 +12,11 @@ use Rattle.meaning.specs.Basics.{bytes, if_then_else_, sameText, laidOver}
 use Rattle.meaning.specs.Token.{Token, Lexed, lexed, stray, tokensOf}
 use Rattle.meaning.specs.Tree.{Procedure}
 use Rattle.meaning.specs.Grammar.{Got, good, wrong, textAt, startAt, afterLast, procedure, Reading, wellFormed, malformed, placeOf, readOf, parsed, reading}
+use Rattle.tokens.specs.Words.{wordOf, placeIn, tokenIn}
 use Rattle.lexer.specs.declared.Tokens.{Tokens}
 use Rattle.lexer.specs.declared.Tokens.the-variants.{Found, Stray}
-use Rattle.lexer.specs.Words.{wordOf, placeIn, tokenIn, laidTokens}
-use Rattle.lexer.specs.Words as Lexing
+use Rattle.lexer.specs.Lexing.{laidTokens}
+use Rattle.lexer.specs.Lexing as Lexing
 use Rattle.lexer.proofs.Decode.{Held, held, words-decode, word-decodes}
 use Rattle.names.specs.Prepared.{preparedAll}
 use Rattle.names.specs.Index.{Room}

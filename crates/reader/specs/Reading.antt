@@ -8,7 +8,7 @@ use Rattle.meaning.specs.Basics.{if_then_else_}
 use Rattle.meaning.specs.Token.{Token, Lexed, lexed, stray, tokensOf}
 use Rattle.meaning.specs.Tree.{Procedure}
 use Rattle.meaning.specs.Grammar.{Reading, wellFormed, malformed}
-use Rattle.lexer.specs.Words.{wordOf, placeIn}
+use Rattle.tokens.specs.Words.{wordOf, placeIn}
 use Rattle.reader.specs.declared.Program.{Program}
 use Rattle.reader.specs.declared.Program.the-variants.{Formed, Malformed}
 use Rattle.reader.specs.Coded.{headOf}

@@ -2,11 +2,14 @@
 use expressions::token;
 use lexer::Tokens;
 use statements::Parsed;
+use tokens::place_of;
+use tokens::same_text;
+use tokens::token_text;
 ghost use mathlib.Core.Path.{_≡_};
 ghost use lib.ListN.{getD};
 ghost use Rattle.meaning.specs.Basics.{bytes, sameText};
 ghost use Rattle.meaning.specs.Grammar.{reading};
-ghost use Rattle.lexer.specs.Words.{tokenIn};
+ghost use Rattle.tokens.specs.Words.{tokenIn};
 ghost use Rattle.reader.specs.Reading.{Lent, Worded, tokensIn, seen, coded, placeAmong};
 
 // A program that was read: how many parameters main has, the slots of the first two, and how many words its code has. Or a number and its place.
@@ -25,7 +28,7 @@ pub fn read(program: &[u8], tokens: &mut [u64], code: &mut [u64]) -> Program
         Tokens::Stray(p) => Program::Malformed(10, p),
         Tokens::Found(n) => {
             if 8192 < n {
-                return Program::Malformed(74, lexer::place_of(tokens[8192]));
+                return Program::Malformed(74, place_of(tokens[8192]));
             }
             parse(program, &mut tokens[0..n], code)
         }
@@ -51,7 +54,7 @@ fn is_main(program: &[u8], tokens: &[u64]) -> bool
     ensures { λ r. ⌜ r ≡ sameText (tokenIn (now (program .entry)) (getD (now (tokens .entry)) 1 0) .text) (bytes "main") ⌝ }
 {
     let w = token::word_at(tokens, 1);
-    lexer::same_text(lexer::token_text(program, w), b"main")
+    same_text(token_text(program, w), b"main")
 }
 
 // The place of token i; behind the last token the program's length.
@@ -59,7 +62,7 @@ fn place_among(tokens: &[u64], i: usize, length: usize) -> usize
     ensures { λ r. ⌜ r ≡ placeAmong (now (tokens .entry)) i length ⌝ }
 {
     if i < tokens.len() {
-        return lexer::place_of(tokens[i]);
+        return place_of(tokens[i]);
     }
     length
 }

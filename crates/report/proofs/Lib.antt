@@ -1,4 +1,3 @@
 mod Placing
-mod Marking
 mod Wording
 mod Reporting

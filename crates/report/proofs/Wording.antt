@@ -9,7 +9,7 @@ use borrow.Author.Tests.{ne-eqb}
 use lib.Dec.{eqb}
 use lib.ListN.{length}
 use Rattle.meaning.specs.Basics.{bytes}
-use Rattle.picture.specs.Placed.{WroteAt}
+use Rattle.writing.specs.Placed.{WroteAt}
 use Rattle.report.specs.Sentences.{sentenceOf}
 
 module _ (t : Bool) {at r : ℕ} {d after : List ℕ} where

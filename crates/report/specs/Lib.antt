@@ -1,4 +1,3 @@
 pub mod Positions
-pub mod Excerpts
 pub mod Sentences
 pub mod Reports

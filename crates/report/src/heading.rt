@@ -9,5 +9,5 @@ pub fn write_heading_at(out: &mut [u8], at: usize, number: u64, place: u64, p: P
     let b = numerals::write_number_at(out, a, b" at byte ", place);
     let c = numerals::write_number_at(out, b, b", line ", p.line as u64);
     let d = numerals::write_number_at(out, c, b", column ", p.column as u64);
-    picture::write_bytes_at(out, d, b"\n")
+    writing::write_bytes_at(out, d, b"\n")
 }

@@ -1,5 +1,4 @@
 // What is said about a program that was checked: that it is well formed, or the number, where it stands, its line with a mark, and a sentence.
-mod excerpt;
 mod heading;
 mod place;
 mod sentence;

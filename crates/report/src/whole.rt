@@ -1,13 +1,13 @@
 // All that is said about a program that was checked.
-use crate::excerpt::least;
-use crate::excerpt::write_excerpt_at;
 use crate::heading::write_heading_at;
 use crate::place::locate;
 use crate::sentence::write_sentence_at;
 use answers::Answer;
+use excerpts::least;
+use excerpts::write_excerpt_at;
 ghost use Rattle.answers.specs.Answers.{meant};
-ghost use Rattle.picture.specs.Placed.{WroteAt};
-ghost use Rattle.report.specs.Excerpts.{Around, optional, excerptOf};
+ghost use Rattle.writing.specs.Placed.{WroteAt};
+ghost use Rattle.excerpts.specs.Excerpts.{Around, optional, excerptOf};
 ghost use Rattle.report.specs.Reports.{Said, Failed, hasLine};
 
 // The line of the place, unless the number is about the whole program.
@@ -45,7 +45,7 @@ pub fn write_report(out: &mut [u8], program: &[u8], r: Answer) -> usize
     ensures { λ n. ⌜ Said (now (program .entry)) (meant r) (now (out .entry)) (now (out .exit)) n ⌝ }
 {
     match r {
-        Answer::Picture(_, _) => picture::write_bytes(out, b"well formed\n"),
+        Answer::Picture(_, _) => writing::write_bytes(out, b"well formed\n"),
         Answer::Number(number, place, _, _) => write_failure(out, program, number, place),
     }
 }

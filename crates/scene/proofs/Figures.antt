@@ -20,7 +20,7 @@ use Rattle.stores.specs.Layout.{shapePlace}
 use Rattle.stores.specs.Shapes.{lowNumber, highNumber, figureAt}
 use Rattle.stores.specs.Texts.{originIn, startIn, sizeIn, part, textOf}
 use Rattle.picture.specs.Parts.{figureFrom}
-use Rattle.picture.specs.Placed.{WroteAt}
+use Rattle.writing.specs.Placed.{WroteAt}
 use Rattle.picture.proofs.Lines.{line-short}
 use Rattle.scene.specs.Scene.{figureFor}
 

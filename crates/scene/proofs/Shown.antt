@@ -14,9 +14,9 @@ use Rattle.values.specs.Words.{kindIn, numberIn}
 use Rattle.stores.specs.Act.{Raw, raw}
 use Rattle.stores.specs.Layout.{valuePlace, orderPlace}
 use Rattle.stores.specs.Shapes.{destroyedAt}
-use Rattle.picture.specs.Placed.{laidAt, WroteAt}
+use Rattle.writing.specs.Placed.{laidAt, WroteAt}
 use Rattle.picture.proofs.Frames.{lines-append}
-use Rattle.picture.proofs.Laying.{saturated-small}
+use Rattle.writing.proofs.Laying.{saturated-small}
 use Rattle.scene.specs.Scene.{figureFor, shownBy, shownFirst, wordOf}
 use Rattle.scene.proofs.Figures.{line-bound}
 

@@ -14,10 +14,10 @@ use Rattle.meaning.specs.Picture.{linesOf, pictureOf}
 use Rattle.stores.specs.Act.{raw}
 use Rattle.stores.specs.Layout.{declared}
 use Rattle.picture.specs.Parts.{head, tail, front}
-use Rattle.picture.specs.Placed.{Wrote, WroteAt}
-use Rattle.picture.proofs.Decimals.{decimal-short}
+use Rattle.writing.specs.Placed.{Wrote, WroteAt}
+use Rattle.writing.proofs.Decimals.{decimal-short}
 use Rattle.picture.proofs.Frames.{length-head, length-tail, length-picture, lines-append, ended}
-use Rattle.picture.proofs.Laying.{length-at, then}
+use Rattle.writing.proofs.Laying.{length-at, then}
 use Rattle.scene.specs.Scene.{shownBy, shownFirst, sceneIn, wordOf, Drawable}
 use Rattle.scene.proofs.Figures.{seen}
 use Rattle.scene.proofs.Shown.{writes-nothing, length-more, all-bound}

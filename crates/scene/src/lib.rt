@@ -8,7 +8,7 @@ ghost use Rattle.meaning.specs.Picture.{lineOf, linesOf, pictureOf};
 ghost use Rattle.values.specs.Words.{kindIn, numberIn};
 ghost use Rattle.stores.specs.Act.{raw};
 ghost use Rattle.stores.specs.Shapes.{destroyedAt};
-ghost use Rattle.picture.specs.Placed.{Wrote, WroteAt};
+ghost use Rattle.writing.specs.Placed.{Wrote, WroteAt};
 ghost use Rattle.scene.specs.Scene.{figureFor, shownBy, wordOf, sceneIn, Drawable};
 
 // Whether a word's value is a shape that is not destroyed.

@@ -5,9 +5,9 @@ use mathlib.Core.List.{List}
 use native.Mathlib.Omega.{arith}
 use lib.ListN.{length, length-append}
 use Rattle.meaning.specs.Basics.{bytes}
-use Rattle.picture.specs.Placed.{WroteAt}
-use Rattle.picture.proofs.Laying.{from-front}
-use Rattle.picture.proofs.Laying.{then as joined}
+use Rattle.writing.specs.Placed.{WroteAt}
+use Rattle.writing.proofs.Laying.{from-front}
+use Rattle.writing.proofs.Laying.{then as joined}
 use Rattle.numerals.specs.Numbers.{NumberAt}
 use Rattle.sheet.specs.Errors.{errorLine, ErrorWritten}
 

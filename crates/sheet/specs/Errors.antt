@@ -3,7 +3,7 @@ use Prim.Native.Nat.{ℕ, _≤_}
 use mathlib.Core.List.{List, _++_}
 use Rattle.meaning.specs.Basics.{bytes}
 use Rattle.meaning.specs.Picture.{digitsOf}
-use Rattle.picture.specs.Placed.{Wrote}
+use Rattle.writing.specs.Placed.{Wrote}
 
 -- error 72 at 0
 unfoldable pub errorLine : ℕ → ℕ → List ℕ

@@ -6,5 +6,5 @@ pub fn write_error(out: &mut [u8], number: u64, place: u64) -> usize
 {
     let a = numerals::write_number_at(out, 0, b"error ", number);
     let b = numerals::write_number_at(out, a, b" at ", place);
-    picture::write_bytes_at(out, b, b"\n")
+    writing::write_bytes_at(out, b, b"\n")
 }

@@ -7,7 +7,7 @@ use lib.ListN.{getD, length, take, drop, List·getD-map}
 use Rattle.meaning.specs.Basics.{if_then_else_}
 use Rattle.meaning.specs.Token.{Token, aString, found, front, lexed, tokensOf}
 use Rattle.meaning.specs.Grammar.{afterLast, kindAt, textAt, startAt}
-use Rattle.lexer.specs.Words.{sizeOf, wordOf, textIn, tokenIn}
+use Rattle.tokens.specs.Words.{sizeOf, wordOf, textIn, tokenIn}
 use Rattle.lexer.proofs.Decode.{Each, each-token, word-decodes}
 use Rattle.lexer.proofs.Fits.{fits, end-within}
 use Rattle.names.specs.Prepared.{home}

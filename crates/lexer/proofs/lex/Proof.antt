@@ -3,7 +3,7 @@
 use mathlib.Core.Path.{refl}
 use Rattle.meaning.specs.Basics.{standsIn}
 use Rattle.meaning.specs.Byte.{isSpace, isLetter, isDigit, isQuote, isSign, classOf}
-use Rattle.lexer.specs.Words.{classesFrom}
+use Rattle.lexer.specs.Lexing.{classesFrom}
 use borrow.Author.Needs.{needs}
 use Rattle.lexer.proofs.lex.Statement.{statement}
 use Rattle.lexer.proofs.lex.Tie as tie

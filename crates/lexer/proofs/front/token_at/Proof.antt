@@ -3,7 +3,7 @@
 use mathlib.Core.Path.{_∙_, sym, ap}
 use denote.Ref.{now}
 use native.Mathlib.Omega.{arith}
-use Rattle.lexer.specs.Words.{frontWord}
+use Rattle.lexer.specs.Lexing.{frontWord}
 use Rattle.lexer.proofs.Classes.{sign-low}
 use Rattle.lexer.proofs.Fronts.{front-2, front-3, front-4, front-5, front-none}
 use borrow.Author.Needs.{needs}

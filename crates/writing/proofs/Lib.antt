@@ -1,0 +1,5 @@
+pub mod Laying
+pub mod Decimals
+pub mod Signs
+mod Table
+mod Writers
