@@ -9,8 +9,8 @@ use native.Mathlib.Numerals.{add-one}
 use native.Mathlib.Omega.{arith}
 use borrow.Author.Tests.{eq-eqb, ne-eqb, leb-true, leb-false}
 use lib.Dec.{eqb, leb}
-use lib.ListN.{length, getD, take, drop, drop-of-length-le, length-take, length-drop, List·getD-eq-default}
-use lib.Seq.{drop-cons, take-all, take-nil, getD-take}
+use lib.ListN.{length, getD, take, drop, drop-of-length-le, length-take, length-drop}
+use lib.Seq.{drop-cons, take-all, take-nil}
 use Rattle.meaning.specs.Basics.{bytes, sameText}
 use Rattle.meaning.specs.Token.{wordKind}
 use Rattle.tokens.specs.Words.{textIn}
@@ -155,17 +155,6 @@ module _ (s : List ℕ) (start end : ℕ) where
       (λ h.
       let m : e - b ≡ 0 = omega arith in
       rw m (sym (empty (omega arith))))
-
--- the word at an index among n
-module _ (n : ℕ) (l : List ℕ) (i : ℕ) where
-  pub at-within : i < n → getD l i 0 ≡ getD (take n l) i 0
-  at-within h = sym (getD-take n l i 0 h)
-
-  pub at-behind : n ≤ i → 0 ≡ getD (take n l) i 0
-  at-behind h = sym (List·getD-eq-default (take n l) 0 (omega (arith, length-take n l)))
-
-  pub at-missing : length l ≤ i → 0 ≡ getD (take n l) i 0
-  at-missing h = sym (List·getD-eq-default (take n l) 0 (omega (arith, length-take n l)))
 
 -- the text of a word's token
 module _ (program : List ℕ) (k p n : ℕ) where

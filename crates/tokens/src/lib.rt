@@ -10,5 +10,4 @@ pub use word::kind_of;
 pub use word::place_of;
 pub use word::token_size;
 pub use word::token_text;
-pub use word::word_at;
 pub use word::word_of;

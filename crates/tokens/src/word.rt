@@ -3,7 +3,6 @@ use crate::kind;
 use crate::text::spelling;
 ghost use mathlib.Core.Path.{_≡_};
 ghost use Prim.Native.Nat.{_+_, _*_, _<_};
-ghost use lib.ListN.{take, getD};
 ghost use Rattle.tokens.specs.Words.{kindIn, placeIn, sizeIn, tokenIn};
 
 // The word of a token.
@@ -33,18 +32,6 @@ pub fn token_size(w: u64) -> usize
     ensures { λ r. ⌜ r ≡ sizeIn w ⌝ }
 {
     (w / 16777216 % 65536) as usize
-}
-
-// The word at an index among n tokens, 0 behind the last.
-pub fn word_at(tokens: &[u64], n: usize, i: usize) -> u64
-    ensures { λ r. ⌜ r ≡ getD (take n (now (tokens .entry))) i 0 ⌝ }
-{
-    if i < n {
-        if i < tokens.len() {
-            return tokens[i];
-        }
-    }
-    0
 }
 
 // The text of a word's token, of a string without the quotes.

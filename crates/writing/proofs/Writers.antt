@@ -11,9 +11,9 @@ use mir.Syntax.{w32}
 use mir.Val.{SFits}
 use Rattle.meaning.specs.Picture.{digitsOf, decimal}
 use Rattle.writing.specs.Digits.{lastDigits, isNegative, pair}
-use Rattle.writing.specs.Placed.{Wrote, WroteAt}
+use Rattle.writing.specs.Placed.{WroteAt}
 use Rattle.writing.proofs.Decimals.{length-last, digits-last, decimal-negative, decimal-positive, decimal-short}
-use Rattle.writing.proofs.Laying.{then, from-front}
+use Rattle.writing.proofs.Laying.{then}
 use Rattle.writing.proofs.Signs.{seen, handed}
 
 -- ---- a number
@@ -40,9 +40,6 @@ module _ (z : ℤ) {n count : ℕ} {t : Bool} (f : SFits w32 z) (m : n ≡ natAb
 
   pub wrote-positive : t ≡ false → {at r : ℕ} {d last : List ℕ} → WroteAt at (lastDigits count n) d last r → WroteAt at (decimal z) d last r
   wrote-positive e p = rw (whole e) p
-
-pub front-decimal : (z : ℤ) {r : ℕ} {d after : List ℕ} → SFits w32 z → WroteAt 0 (decimal (seen z)) d after r → Wrote (decimal z) d after r
-front-decimal z f p = let h = decimal-short z f in from-front (omega arith) (rw (handed z f) at p)
 
 -- ---- a number behind a byte string
 pub wrote-pair : (z : ℤ) {lead d after last : List ℕ} {at next r : ℕ} → SFits w32 z → length d < 2 ^ 64

@@ -4,7 +4,7 @@ ghost use Prim.Native.Nat.{_+_, _≤_, _^_};
 ghost use lib.ListN.{length};
 ghost use lib.IntN.{natAbs};
 ghost use Rattle.meaning.specs.Picture.{digitsOf, decimal};
-ghost use Rattle.writing.specs.Placed.{Wrote, WroteAt};
+ghost use Rattle.writing.specs.Placed.{WroteAt};
 ghost use Rattle.writing.specs.Digits.{tens, digitAt, lastDigits, isNegative, pair};
 use crate::place::room;
 use crate::place::saturating_add;
@@ -107,12 +107,6 @@ pub fn write_decimal_at(out: &mut [u8], at: usize, z: i32) -> usize
         return write_digits_at(out, next, &powers, n, count);
     }
     write_digits_at(out, at, &powers, n, count)
-}
-
-pub fn write_decimal(out: &mut [u8], z: i32) -> usize
-    ensures { λ r. ⌜ Wrote (decimal z) (now (out .entry)) (now (out .exit)) r ⌝ }
-{
-    write_decimal_at(out, 0, z)
 }
 
 // A byte string and then a number.

@@ -5,7 +5,6 @@ mod place;
 
 pub use decimal::decimal_length;
 pub use decimal::pair_length;
-pub use decimal::write_decimal;
 pub use decimal::write_decimal_at;
 pub use decimal::write_pair_at;
 pub use place::saturating_add;
