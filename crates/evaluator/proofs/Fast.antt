@@ -30,7 +30,8 @@ use Rattle.operators.specs.Operate.{withInteger, calculated, compared, remainde
 use Rattle.operators.proofs.Held.{by-number}
 use Rattle.invariant.specs.Invariant.{Valid}
 use Rattle.fastpath.specs.Fast.{plainWord, leafWord, operatorWord, wordOn, sizesAgree, operationWord, fastAt, applies, Values}
-use Rattle.evaluator.specs.Evaluate.{Evaluator, Setting, setting, through, pushWord, pushed, operationOf, operationAt, evaluateBy, evaluateAt}
+use Rattle.evaluator.specs.Evaluate.{Evaluator, Setting, setting, through, pushed, operationOf, operationAt, evaluateBy, evaluateAt}
+use Rattle.primaries.specs.Primaries.{pushWord}
 use Rattle.evaluator.proofs.Laws as laws
 
 -- ---- words of integers and truths

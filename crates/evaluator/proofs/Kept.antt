@@ -30,7 +30,8 @@ use Rattle.invariant.proofs.Soundness.{sound-unpacked}
 use Rattle.invariant.proofs.EntriesKept.{after-read-entry}
 use Rattle.invariant.proofs.Keeping.{after-then, after-give, after-refuse, after-count, after-new-table, after-variable, after-push, after-drop}
 use Rattle.evaluator.proofs.Leading.{Leads, leads-grows, leads-packed, after-leads, after-choice, after-integer, after-table, gives-integer, gives-string, after-operate, after-library}
-use Rattle.evaluator.specs.Evaluate.{Evaluator, Setting, setting, through, sized, pushed, pushAll, called, calling, tableOf, entryOf, entryAt, operationOf, operationAt, evaluateBy, evaluateAt}
+use Rattle.evaluator.specs.Evaluate.{Evaluator, Setting, setting, through, pushed, pushAll, calling, tableOf, entryOf, entryAt, operationOf, operationAt, evaluateBy, evaluateAt}
+use Rattle.primaries.specs.Primaries.{sized, called}
 
 -- ---- parts of expressions
 through-sound : (v : Value) (ws : List ℕ) → Leads v ws → SoundValue (through v) ws

@@ -1,25 +1,22 @@
 -- Expressions over code. x is the root's place in the code, p the statement's place; depth bounds how deep expressions are nested.
-use Prim.Native.Nat.{ℕ, zero, suc, _+_, _-_, _*_, _%_, _^_}
-use mathlib.Core.Bool.{Bool, _&&_}
+use Prim.Native.Nat.{ℕ, zero, suc, _+_, _-_, _*_}
 use mathlib.Core.List.{List}
 use lib.ListN.{getD}
-use lib.IntN.{ℤ}
-use lib.Dec.{eqb, ltb, leb}
+use lib.Dec.{eqb, ltb}
 use mir.Syntax.{w32}
 use mir.Val.{toZ}
 use Rattle.meaning.specs.Basics.{if_then_else_}
-use Rattle.meaning.specs.Integer.{isNegative}
 use Rattle.code.specs.Code.{tagIn, sizeIn, numberIn, tagNumber, tagString, tagNone, tagTruth, tagName, tagTable, tagEntry, tagCall}
 use Rattle.values.specs.declared.Value.{Value}
 use Rattle.values.specs.declared.Value.the-variants.{Integer, Text, Boolean, Nothing}
 use Rattle.values.specs.Words.{packed, unpacked}
 use Rattle.stores.specs.Layout.{argumentsHeld}
-use Rattle.stores.specs.Act.{Act, _>>=_, _>>_, give, fail, refuse, load, count, newTable}
-use Rattle.stores.specs.Arguments.{push, dropTo}
+use Rattle.stores.specs.Act.{Act, _>>=_, _>>_, give, fail, load, count}
+use Rattle.stores.specs.Arguments.{push}
 use Rattle.stores.specs.Variables.{variable}
 use Rattle.stores.specs.Tables.{readEntry}
 use Rattle.operators.specs.Operate.{withInteger, withTable, operate}
-use Rattle.library.specs.Library.{callLibrary}
+use Rattle.primaries.specs.Primaries.{sized, called}
 
 -- what does not change in a run
 pub record Setting : Type 0 where
@@ -34,19 +31,10 @@ setting program code grants = record { program = program; code = code; grants = 
 abbrev pub through : Value → Value
 through v = unpacked (packed v)
 
--- ---- tables
--- a new table, 40 if its size is negative
-unfoldable pub sized : ℕ → ℤ → Act Value
-sized p size = refuse (isNegative size) 40 p >> newTable
-
 -- ---- arguments
 -- how one expression is evaluated, by its root and the place
 abbrev pub Evaluator : Type 0
 Evaluator = ℕ → ℕ → Act Value
-
--- the word of an argument, pushed
-unfoldable pub pushWord : ℕ → ℕ → Act Value
-pushWord w p = push w p >> give Nothing
 
 -- an argument, pushed
 unfoldable pub pushed : Evaluator → ℕ → ℕ → Act Value
@@ -60,14 +48,6 @@ pushAll (suc rounds) inner e a x p =
     if ltb (a + n) x then (λ _. pushed inner (a + n) p >> pushAll rounds inner e (a + n + 1) x p) else λ _. give Nothing
 
 -- ---- calls
--- a library procedure on the arguments held from the one numbered base on, which are then dropped
-unfoldable pub called : List ℕ → ℕ → ℕ → ℕ → Act Value
-called grants number p base = do
-  top ← load argumentsHeld
-  v ← callLibrary grants number p base (top - base)
-  dropTo base
-  give v
-
 unfoldable pub calling : Evaluator → Setting → ℕ → ℕ → ℕ → Act Value
 calling inner e w x p = do
   base ← load argumentsHeld

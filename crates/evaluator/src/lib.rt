@@ -1,6 +1,4 @@
 // Evaluating expressions over code.
-pub mod parts;
-
 use values::Answer;
 use values::Value;
 ghost use Prim.Native.Nat.{suc};
@@ -52,11 +50,11 @@ fn by_word(
         ≡ evaluateBy (evaluateAt depth (setting (now (program .entry)) (now (code .entry)) (now (grants .entry)))) (setting (now (program .entry)) (now (code .entry)) (now (grants .entry))) w x p (raw (now (texts .entry)) (now (words .entry))) ⌝ }
 {
     match code::tag_of(w) {
-        1 => parts::number(w),
-        2 => parts::string(w),
+        1 => primaries::number(w),
+        2 => primaries::string(w),
         3 => Answer::Good(Value::Nothing),
-        4 => parts::truth(w),
-        5 => parts::name(words, w, p),
+        4 => primaries::truth(w),
+        5 => primaries::name(words, w, p),
         6 => {
             let r = table_of(
                 program,
@@ -65,7 +63,7 @@ fn by_word(
                 texts,
                 words,
                 depth,
-                parts::less(x, 1),
+                primaries::less(x, 1),
                 p,
             );
             r
@@ -103,7 +101,7 @@ fn table_of(
     match evaluate(program, code, grants, texts, words, depth, y, p) {
         Answer::Good(v) => match v {
             Value::Integer(size) => {
-                let r = parts::new_table(words, size, p);
+                let r = primaries::new_table(words, size, p);
                 r
             }
             _ => Answer::Bad(20, p),
@@ -128,7 +126,7 @@ fn entry_at(
     ensures { λ r. ⌜ shown r (now (texts .exit)) (now (words .exit))
         ≡ entryAt (evaluateAt depth (setting (now (program .entry)) (now (code .entry)) (now (grants .entry)))) (setting (now (program .entry)) (now (code .entry)) (now (grants .entry))) w x p (raw (now (texts .entry)) (now (words .entry))) ⌝ }
 {
-    let y = parts::less(x, 1);
+    let y = primaries::less(x, 1);
     match evaluate(
         program,
         code,
@@ -136,7 +134,7 @@ fn entry_at(
         texts,
         words,
         depth,
-        parts::less(y, parts::index_of(w)),
+        primaries::less(y, primaries::index_of(w)),
         p,
     ) {
         Answer::Good(v) => match v {
@@ -199,7 +197,7 @@ fn operation_at(
     ensures { λ r. ⌜ shown r (now (texts .exit)) (now (words .exit))
         ≡ operationAt (evaluateAt depth (setting (now (program .entry)) (now (code .entry)) (now (grants .entry)))) (setting (now (program .entry)) (now (code .entry)) (now (grants .entry))) w x p (raw (now (texts .entry)) (now (words .entry))) ⌝ }
 {
-    let y = parts::less(x, 1);
+    let y = primaries::less(x, 1);
     match evaluate(
         program,
         code,
@@ -207,7 +205,7 @@ fn operation_at(
         texts,
         words,
         depth,
-        parts::less(y, parts::index_of(w)),
+        primaries::less(y, primaries::index_of(w)),
         p,
     ) {
         Answer::Good(v) => {
@@ -272,10 +270,10 @@ fn calling(
         ≡ calling (evaluateAt depth (setting (now (program .entry)) (now (code .entry)) (now (grants .entry)))) (setting (now (program .entry)) (now (code .entry)) (now (grants .entry))) w x p (raw (now (texts .entry)) (now (words .entry))) ⌝ }
 {
     let base = stores::arguments::arguments_held(words);
-    let a = parts::less(x, parts::less(code::size_of(w), 1));
+    let a = primaries::less(x, primaries::less(code::size_of(w), 1));
     match push_all(program, code, grants, texts, words, depth, a, x, p) {
         Answer::Good(_) => {
-            let r = parts::called(words, grants, code::number_of(w), p, base);
+            let r = primaries::called(words, grants, code::number_of(w), p, base);
             r
         }
         Answer::Bad(n, q) => Answer::Bad(n, q),
@@ -331,12 +329,12 @@ fn pushed(
 {
     let w = fastpath::fast_value(words, code, grants, depth, y);
     if w != 0 {
-        let r = parts::push_word(words, w, p);
+        let r = primaries::push_word(words, w, p);
         return r;
     }
     match evaluate(program, code, grants, texts, words, depth, y, p) {
         Answer::Good(v) => {
-            let r = parts::push_word(words, values::pack(v), p);
+            let r = primaries::push_word(words, values::pack(v), p);
             r
         }
         Answer::Bad(n, q) => Answer::Bad(n, q),

@@ -29,7 +29,7 @@ use Rattle.operators.specs.Operate.{withBoolean, withTable}
 use Rattle.fastpath.specs.Fast.{Values}
 use Rattle.evaluator.specs.Evaluate.{setting, evaluateAt}
 use Rattle.evaluator.proofs.Fast.{Plain, plain, evaluates, unchanged}
-use Rattle.evaluator.proofs.Acts.{goes-on, stops}
+use Rattle.primaries.proofs.Acts.{goes-on, stops}
 use Rattle.plain.specs.declared.Flow.{Flow}
 use Rattle.plain.specs.declared.Flow.the-variants.{Onward, Returned, Stopped}
 use Rattle.plain.specs.declared.Outcome.{Outcome}

@@ -46,14 +46,14 @@ pub fn last_of(w: u64, x: usize) -> usize
     requires { ⌜ x < 2 ^ 62 ⌝ }
     ensures { λ r. ⌜ (r ≡ x + sizeIn w - 1) × (r < 2 ^ 63) ⌝ }
 {
-    evaluator::parts::less(x + code::size_of(w), 1)
+    primaries::less(x + code::size_of(w), 1)
 }
 
 // The place before the code of the expression whose root is y.
 fn before(code: &[u64], y: usize) -> usize
     ensures { λ r. ⌜ (r ≡ y - sizeIn (getD (now (code .entry)) y 0)) × (r ≤ y) ⌝ }
 {
-    evaluator::parts::less(y, code::size_of(stores::words::word_at(code, y)))
+    primaries::less(y, code::size_of(stores::words::word_at(code, y)))
 }
 
 // The value of the expression whose root is y.

@@ -21,7 +21,7 @@ use Rattle.stores.specs.Layout.{Lent}
 use Rattle.stores.specs.Act.{Raw, raw}
 use Rattle.stores.specs.Act as Act
 use Rattle.stores.specs.Shapes.{figureAt}
-use Rattle.evaluator.specs.Evaluate.{sized}
+use Rattle.primaries.specs.Primaries.{sized}
 use Rattle.simulation.specs.Meant.{meantValue}
 use Rattle.simulation.specs.Sound.{Valid, Counted}
 use Rattle.simulation.specs.Follows.{Grants, Related, Later, Follows}

@@ -41,7 +41,8 @@ use Rattle.stores.specs.Arguments.{argumentAt, push, dropTo}
 use Rattle.stores.specs.Tables.{readEntry}
 use Rattle.operators.specs.Operate.{withInteger, withTable, operate}
 use Rattle.library.specs.Library.{callLibrary}
-use Rattle.evaluator.specs.Evaluate.{Setting, through, sized, Evaluator, pushAll, called, calling, tableOf, entryOf, entryAt, operationOf, operationAt, evaluateBy, evaluateAt}
+use Rattle.evaluator.specs.Evaluate.{Setting, through, Evaluator, pushAll, calling, tableOf, entryOf, entryAt, operationOf, operationAt, evaluateBy, evaluateAt}
+use Rattle.primaries.specs.Primaries.{sized, called}
 use Rattle.simulation.specs.Meant.{meantValue}
 use Rattle.simulation.specs.Sound.{Held, Valid}
 use Rattle.simulation.specs.Follows.{Grants, Related, Follows}

@@ -1,29 +1,29 @@
-use Rattle.evaluator.proofs.Laws.{negative-size, new-table}
+use Rattle.primaries.proofs.Laws.{negative-size, new-table}
 use borrow.Author.Needs.{needs}
-use Rattle.evaluator.proofs.parts.new_table.Statement.{statement}
-use Rattle.evaluator.proofs.parts.new_table.Tie as tie
-use Rattle.evaluator.proofs.parts.new_table.Reads as reads
-use Rattle.evaluator.proofs.parts.new_table.Lts as lts
+use Rattle.primaries.proofs.new_table.Statement.{statement}
+use Rattle.primaries.proofs.new_table.Tie as tie
+use Rattle.primaries.proofs.new_table.Reads as reads
+use Rattle.primaries.proofs.new_table.Lts as lts
 use Rattle.arithmetic.proofs.is_negative.Reads as is-negative-reads
 use Rattle.stores.proofs.counters.new_table.Reads as new-table-reads
 
--- src/parts.rt:78:8
+-- src/lib.rt:78:8
 is-negative-requires : tie.Need-is-negative-requires
 is-negative-requires c κs = search needs
 
--- src/parts.rt:79:9
+-- src/lib.rt:79:9
 returns : tie.Need-returns
 returns c = search negative-size
 
--- src/parts.rt:81:9
+-- src/lib.rt:81:9
 new-table-requires : tie.Need-new-table-requires
 new-table-requires c κs = search needs
 
--- src/parts.rt:74:1
+-- src/lib.rt:74:1
 same-length : tie.Need-same-length
 same-length c = search needs
 
--- src/parts.rt:74:1
+-- src/lib.rt:74:1
 returns-2 : tie.Need-returns-2
 returns-2 c = search new-table
 

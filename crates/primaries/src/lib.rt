@@ -1,4 +1,4 @@
-// What is done beside evaluating parts.
+// Constants and variables, and what an expression does once its parts are evaluated.
 use values::Answer;
 use values::Value;
 ghost use Prim.Native.Nat.{_-_, _*_, _≤_};
@@ -13,7 +13,7 @@ ghost use Rattle.values.specs.declared.Answer.the-variants.{Good};
 ghost use Rattle.stores.specs.Act.{Answers};
 ghost use Rattle.stores.specs.Variables.{variable};
 ghost use Rattle.stores.specs.Layout.{Room};
-ghost use Rattle.evaluator.specs.Evaluate.{sized, pushWord, called};
+ghost use Rattle.primaries.specs.Primaries.{sized, pushWord, called};
 
 // The difference, 0 if it were less.
 pub fn less(a: usize, b: usize) -> usize

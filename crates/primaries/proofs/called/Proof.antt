@@ -1,51 +1,51 @@
-use Rattle.evaluator.proofs.Laws.{library-called, library-stops}
+use Rattle.primaries.proofs.Laws.{library-called, library-stops}
 use borrow.Author.Needs.{needs}
-use Rattle.evaluator.proofs.parts.called.Statement.{statement}
-use Rattle.evaluator.proofs.parts.called.Tie as tie
-use Rattle.evaluator.proofs.parts.called.Reads as reads
-use Rattle.evaluator.proofs.parts.called.Lts as lts
-use Rattle.evaluator.proofs.parts.less_word.Reads as less-word-reads
+use Rattle.primaries.proofs.called.Statement.{statement}
+use Rattle.primaries.proofs.called.Tie as tie
+use Rattle.primaries.proofs.called.Reads as reads
+use Rattle.primaries.proofs.called.Lts as lts
+use Rattle.primaries.proofs.less_word.Reads as less-word-reads
 use Rattle.library.proofs.call_library.Reads as call-library-reads
 use Rattle.stores.proofs.arguments.arguments_held.Reads as arguments-held-reads
 use Rattle.stores.proofs.arguments.drop_to.Reads as drop-to-reads
 
--- src/parts.rt:90:23
+-- src/lib.rt:90:23
 arguments-held-requires : tie.Need-arguments-held-requires
 arguments-held-requires c κs = search needs
 
--- src/parts.rt:90:9
+-- src/lib.rt:90:9
 less-word-requires : tie.Need-less-word-requires
 less-word-requires c κs = search needs
 
--- src/parts.rt:91:11
+-- src/lib.rt:91:11
 call-library-requires : tie.Need-call-library-requires
 call-library-requires c κs = search needs
 
--- src/parts.rt:92:22
+-- src/lib.rt:92:22
 enum-known-v : tie.Need-enum-known-v
 enum-known-v c = search needs
 
--- src/parts.rt:93:13
+-- src/lib.rt:93:13
 drop-to-requires : tie.Need-drop-to-requires
 drop-to-requires c κs = search needs
 
--- src/parts.rt:96:21
+-- src/lib.rt:96:21
 enum-known-n : tie.Need-enum-known-n
 enum-known-n c = search needs
 
--- src/parts.rt:86:1
+-- src/lib.rt:86:1
 same-length : tie.Need-same-length
 same-length c = search needs
 
--- src/parts.rt:86:1
+-- src/lib.rt:86:1
 returns : tie.Need-returns
 returns c = search library-called
 
--- src/parts.rt:86:1
+-- src/lib.rt:86:1
 same-length-2 : tie.Need-same-length-2
 same-length-2 c = search needs
 
--- src/parts.rt:86:1
+-- src/lib.rt:86:1
 returns-2 : tie.Need-returns-2
 returns-2 c = search library-stops
 

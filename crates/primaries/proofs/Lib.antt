@@ -1,0 +1,2 @@
+pub mod Acts
+mod Laws
