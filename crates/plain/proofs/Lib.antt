@@ -1,2 +1,2 @@
 pub mod Acts
-mod StepLaws
+mod Laws

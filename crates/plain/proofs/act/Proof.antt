@@ -1,4 +1,4 @@
-use Rattle.plain.proofs.StepLaws.{act-done, act-stops}
+use Rattle.plain.proofs.Laws.{act-done, act-stops}
 use borrow.Author.Needs.{needs}
 use Rattle.plain.proofs.act.Statement.{statement}
 use Rattle.plain.proofs.act.Tie as tie

@@ -1,4 +1,4 @@
-use Rattle.plain.proofs.StepLaws.{assign-fast, assign-slow, still-starts}
+use Rattle.plain.proofs.Laws.{assign-fast, assign-slow, still-starts}
 use borrow.Author.Needs.{needs}
 use Rattle.plain.proofs.assign.Statement.{statement}
 use Rattle.plain.proofs.assign.Tie as tie

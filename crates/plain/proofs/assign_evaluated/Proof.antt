@@ -1,4 +1,4 @@
-use Rattle.plain.proofs.StepLaws.{assign-copy, assign-plain, assign-stops}
+use Rattle.plain.proofs.Laws.{assign-copy, assign-plain, assign-stops}
 use borrow.Author.Needs.{needs}
 use Rattle.plain.proofs.assign_evaluated.Statement.{statement}
 use Rattle.plain.proofs.assign_evaluated.Tie as tie

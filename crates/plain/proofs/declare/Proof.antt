@@ -1,4 +1,4 @@
-use Rattle.plain.proofs.StepLaws.{declared-before, declared-now}
+use Rattle.plain.proofs.Laws.{declared-before, declared-now}
 use borrow.Author.Needs.{needs}
 use Rattle.plain.proofs.declare.Statement.{statement}
 use Rattle.plain.proofs.declare.Tie as tie

@@ -1,4 +1,4 @@
-use Rattle.plain.proofs.StepLaws.{given-back, return-stops}
+use Rattle.plain.proofs.Laws.{given-back, return-stops}
 use borrow.Author.Needs.{needs}
 use Rattle.plain.proofs.give_back.Statement.{statement}
 use Rattle.plain.proofs.give_back.Tie as tie

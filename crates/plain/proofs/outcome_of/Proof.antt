@@ -1,4 +1,4 @@
-use Rattle.plain.proofs.StepLaws.{no-truth, says-yes, says-no}
+use Rattle.plain.proofs.Laws.{no-truth, says-yes, says-no}
 use borrow.Author.Needs.{needs}
 use Rattle.plain.proofs.outcome_of.Statement.{statement}
 use Rattle.plain.proofs.outcome_of.Tie as tie

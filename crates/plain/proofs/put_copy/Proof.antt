@@ -1,4 +1,4 @@
-use Rattle.plain.proofs.StepLaws.{unknown-copy, copy-put, no-copy}
+use Rattle.plain.proofs.Laws.{unknown-copy, copy-put, no-copy}
 use borrow.Author.Needs.{needs}
 use Rattle.plain.proofs.put_copy.Statement.{statement}
 use Rattle.plain.proofs.put_copy.Tie as tie

@@ -1,4 +1,4 @@
-use Rattle.plain.proofs.StepLaws.{unknown-word, word-put}
+use Rattle.plain.proofs.Laws.{unknown-word, word-put}
 use borrow.Author.Needs.{needs}
 use Rattle.plain.proofs.put_word.Statement.{statement}
 use Rattle.plain.proofs.put_word.Tie as tie

@@ -1,4 +1,4 @@
-use Rattle.plain.proofs.StepLaws.{test-fast, test-slow, still-starts}
+use Rattle.plain.proofs.Laws.{test-fast, test-slow, still-starts}
 use borrow.Author.Needs.{needs}
 use Rattle.plain.proofs.test.Statement.{statement}
 use Rattle.plain.proofs.test.Tie as tie

@@ -1,4 +1,4 @@
-use Rattle.plain.proofs.StepLaws.{test-yes, test-no, test-other, value-stops}
+use Rattle.plain.proofs.Laws.{test-yes, test-no, test-other, value-stops}
 use borrow.Author.Needs.{needs}
 use Rattle.plain.proofs.test_evaluated.Statement.{statement}
 use Rattle.plain.proofs.test_evaluated.Tie as tie

@@ -1,4 +1,4 @@
-use Rattle.plain.proofs.StepLaws.{turn-refused, turn-tests}
+use Rattle.plain.proofs.Laws.{turn-refused, turn-tests}
 use Rattle.evaluator.proofs.Kept.{valid-counted}
 use borrow.Author.Needs.{needs}
 use Rattle.plain.proofs.turn.Statement.{statement}

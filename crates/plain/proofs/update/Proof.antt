@@ -1,4 +1,4 @@
-use Rattle.plain.proofs.StepLaws.{table-goes, table-other, table-stops}
+use Rattle.plain.proofs.Laws.{table-goes, table-other, table-stops}
 use Rattle.evaluator.proofs.Kept.{valid-evaluated}
 use borrow.Author.Needs.{needs}
 use Rattle.plain.proofs.update.Statement.{statement}

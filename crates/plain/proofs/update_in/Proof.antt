@@ -1,4 +1,4 @@
-use Rattle.plain.proofs.StepLaws.{key-goes, key-stops}
+use Rattle.plain.proofs.Laws.{key-goes, key-stops}
 use Rattle.evaluator.proofs.Kept.{valid-evaluated}
 use borrow.Author.Needs.{needs}
 use Rattle.plain.proofs.update_in.Statement.{statement}

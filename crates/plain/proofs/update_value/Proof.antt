@@ -1,4 +1,4 @@
-use Rattle.plain.proofs.StepLaws.{update-refused, update-done, update-stops}
+use Rattle.plain.proofs.Laws.{update-refused, update-done, update-stops}
 use Rattle.evaluator.proofs.Kept.{valid-evaluated}
 use Rattle.invariant.proofs.Keeping.{looks}
 use borrow.Author.Needs.{needs}
