@@ -90,9 +90,9 @@ in-block inner e w x n ts ws o f h = h ∙ rw f
 
 -- ---- a statement if a test holds
 module _ (inner : Executor) (e : Setting) (y p : ℕ) (ts ws : List ℕ) (t : Outcome) (ts₁ ws₁ : List ℕ) (h : shownTest t ts₁ ws₁ ≡ tested e y p (raw ts ws)) where
-  pub when-holds : (o : Out Flow) → t ≡ outcome.Yes → o ≡ inner (y + 1) (raw ts₁ ws₁) → o ≡ whenAt inner e y p (raw ts ws)
+  pub when-holds : (r s : Flow) (ts₂ ws₂ : List ℕ) → t ≡ outcome.Yes → shownFlow r ts₂ ws₂ ≡ inner (y + 1) (raw ts₁ ws₁) → r ≡ s → shownFlow s ts₂ ws₂ ≡ whenAt inner e y p (raw ts ws)
   unfolding whenAt _>>=_ if_then_else_
-  when-holds o f q = q ∙ sym (test-holds _ h f)
+  when-holds r s ts₂ ws₂ f q b = rw (← b) q ∙ sym (test-holds _ h f)
 
   pub when-not : t ≡ outcome.No → shownFlow Onward ts₁ ws₁ ≡ whenAt inner e y p (raw ts ws)
   unfolding whenAt _>>=_ if_then_else_ give shownFlow

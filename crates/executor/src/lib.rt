@@ -149,10 +149,11 @@ fn when(
         ≡ whenAt (executeAt depth (setting (now (program .entry)) (now (code .entry)) (now (grants .entry)))) (setting (now (program .entry)) (now (code .entry)) (now (grants .entry))) y p (raw (now (texts .entry)) (now (words .entry))) ⌝ }
 {
     match plain::test(program, code, grants, texts, words, y, p) {
-        Outcome::Yes => {
-            let r = execute(program, code, grants, texts, words, depth, y + 1);
-            r
-        }
+        Outcome::Yes => match execute(program, code, grants, texts, words, depth, y + 1) {
+            Flow::Onward => Flow::Onward,
+            Flow::Returned(v) => Flow::Returned(v),
+            Flow::Stopped(n, q) => Flow::Stopped(n, q),
+        },
         Outcome::No => Flow::Onward,
         Outcome::Stopped(n, q) => Flow::Stopped(n, q),
     }

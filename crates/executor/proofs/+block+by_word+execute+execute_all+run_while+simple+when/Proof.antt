@@ -1941,7 +1941,6 @@ simple-returns-7 : (t : ℕ) → simple-lts.Need-returns-7 (
 ) (simple-at t) simple.Post
 simple-returns-7 t c = search is-act
 
--- src/lib.rt:138:11
 when-test-requires : (t : ℕ) → when-lts.Need-test-requires (
   test-reads.Asked,
   test-reads.Learnt,
@@ -1950,7 +1949,6 @@ when-test-requires : (t : ℕ) → when-lts.Need-test-requires (
 ) (when-at t) when.Post
 when-test-requires t c κs = record { valid = c .before .before .before .before .before .before .pre .1 .valid; small = omega (arith, c .before .before .before .before .before .before .pre .1 .room) }
 
--- src/lib.rt:140:52
 when-enum-told : (t : ℕ) → when-lts.Need-enum-told (
   test-reads.Asked,
   test-reads.Learnt,
@@ -1959,7 +1957,6 @@ when-enum-told : (t : ℕ) → when-lts.Need-enum-told (
 ) (when-at t) when.Post
 when-enum-told t c = search needs
 
--- src/lib.rt:140:73
 when-add-execute : (t : ℕ) → when-lts.Need-add-execute (
   test-reads.Asked,
   test-reads.Learnt,
@@ -1968,7 +1965,6 @@ when-add-execute : (t : ℕ) → when-lts.Need-add-execute (
 ) (when-at t) when.Post
 when-add-execute t c = omega (arith, c .before .before .before .before .before .before .before .before .before .before .before .before .before .before .before .pre .1 .room)
 
--- src/lib.rt:140:17
 when-execute-requires : (t : ℕ) → when-lts.Need-execute-requires (
   test-reads.Asked,
   test-reads.Learnt,
@@ -1977,7 +1973,6 @@ when-execute-requires : (t : ℕ) → when-lts.Need-execute-requires (
 ) (when-at t) when.Post
 when-execute-requires t c κs = (omega arith, record { valid = valid-tested _ _ _ _ _ (c .before .before .before .before .before .before .before .before .before .before .before .before .before .before .before .pre .1 .valid) _ _ _ _ _ (c .before .before .before .before .before .before .before .before .test .ensures) (c .before .before .enum-told .given .1); room = c .before .before .before .before .before .before .before .before .before .before .before .before .before .before .before .pre .1 .room })
 
--- src/lib.rt:143:24
 when-enum-told-2 : (t : ℕ) → when-lts.Need-enum-told-2 (
   test-reads.Asked,
   test-reads.Learnt,
@@ -1986,7 +1981,14 @@ when-enum-told-2 : (t : ℕ) → when-lts.Need-enum-told-2 (
 ) (when-at t) when.Post
 when-enum-told-2 t c = search needs
 
--- src/lib.rt:144:26
+when-enum-known-v : (t : ℕ) → when-lts.Need-enum-known-v (
+  test-reads.Asked,
+  test-reads.Learnt,
+  execute-below t,
+  execute.Post,
+) (when-at t) when.Post
+when-enum-known-v t c = search needs
+
 when-enum-known-n : (t : ℕ) → when-lts.Need-enum-known-n (
   test-reads.Asked,
   test-reads.Learnt,
@@ -1995,7 +1997,22 @@ when-enum-known-n : (t : ℕ) → when-lts.Need-enum-known-n (
 ) (when-at t) when.Post
 when-enum-known-n t c = search needs
 
--- src/lib.rt:124:1
+when-enum-told-3 : (t : ℕ) → when-lts.Need-enum-told-3 (
+  test-reads.Asked,
+  test-reads.Learnt,
+  execute-below t,
+  execute.Post,
+) (when-at t) when.Post
+when-enum-told-3 t c = search needs
+
+when-enum-known-n-2 : (t : ℕ) → when-lts.Need-enum-known-n-2 (
+  test-reads.Asked,
+  test-reads.Learnt,
+  execute-below t,
+  execute.Post,
+) (when-at t) when.Post
+when-enum-known-n-2 t c = search needs
+
 when-same-length : (t : ℕ) → when-lts.Need-same-length (
   test-reads.Asked,
   test-reads.Learnt,
@@ -2004,7 +2021,6 @@ when-same-length : (t : ℕ) → when-lts.Need-same-length (
 ) (when-at t) when.Post
 when-same-length t c = search needs
 
--- src/lib.rt:124:1
 when-same-length-2 : (t : ℕ) → when-lts.Need-same-length-2 (
   test-reads.Asked,
   test-reads.Learnt,
@@ -2013,16 +2029,14 @@ when-same-length-2 : (t : ℕ) → when-lts.Need-same-length-2 (
 ) (when-at t) when.Post
 when-same-length-2 t c = search needs
 
--- src/lib.rt:124:1
 when-returns : (t : ℕ) → when-lts.Need-returns (
   test-reads.Asked,
   test-reads.Learnt,
   execute-below t,
   execute.Post,
 ) (when-at t) when.Post
-when-returns t c = search when-holds
+when-returns t c = when-holds _ _ _ _ _ _ _ _ _ (c .before .before .before .before .before .before .before .before .before .before .before .before .before .before .before .test .ensures) _ _ _ _ (c .before .before .before .before .before .before .before .before .before .enum-told .given .1) (c .before .before .before .before .before .before .execute .ensures) (c .enum-told2 .given .1)
 
--- src/lib.rt:124:1
 when-same-length-3 : (t : ℕ) → when-lts.Need-same-length-3 (
   test-reads.Asked,
   test-reads.Learnt,
@@ -2031,7 +2045,6 @@ when-same-length-3 : (t : ℕ) → when-lts.Need-same-length-3 (
 ) (when-at t) when.Post
 when-same-length-3 t c = search needs
 
--- src/lib.rt:124:1
 when-same-length-4 : (t : ℕ) → when-lts.Need-same-length-4 (
   test-reads.Asked,
   test-reads.Learnt,
@@ -2040,16 +2053,14 @@ when-same-length-4 : (t : ℕ) → when-lts.Need-same-length-4 (
 ) (when-at t) when.Post
 when-same-length-4 t c = search needs
 
--- src/lib.rt:124:1
 when-returns-2 : (t : ℕ) → when-lts.Need-returns-2 (
   test-reads.Asked,
   test-reads.Learnt,
   execute-below t,
   execute.Post,
 ) (when-at t) when.Post
-when-returns-2 t c = search when-not
+when-returns-2 t c = when-holds _ _ _ _ _ _ _ _ _ (c .before .before .before .before .before .before .before .before .before .before .before .before .before .before .before .before .test .ensures) _ _ _ _ (c .before .before .before .before .before .before .before .before .before .before .enum-told .given .1) (c .before .before .before .before .before .before .before .execute .ensures) (c .before .v .given .1)
 
--- src/lib.rt:124:1
 when-same-length-5 : (t : ℕ) → when-lts.Need-same-length-5 (
   test-reads.Asked,
   test-reads.Learnt,
@@ -2058,7 +2069,6 @@ when-same-length-5 : (t : ℕ) → when-lts.Need-same-length-5 (
 ) (when-at t) when.Post
 when-same-length-5 t c = search needs
 
--- src/lib.rt:124:1
 when-same-length-6 : (t : ℕ) → when-lts.Need-same-length-6 (
   test-reads.Asked,
   test-reads.Learnt,
@@ -2067,14 +2077,61 @@ when-same-length-6 : (t : ℕ) → when-lts.Need-same-length-6 (
 ) (when-at t) when.Post
 when-same-length-6 t c = search needs
 
--- src/lib.rt:124:1
 when-returns-3 : (t : ℕ) → when-lts.Need-returns-3 (
   test-reads.Asked,
   test-reads.Learnt,
   execute-below t,
   execute.Post,
 ) (when-at t) when.Post
-when-returns-3 t c = search when-stops
+when-returns-3 t c = when-holds _ _ _ _ _ _ _ _ _ (c .before .before .before .before .before .before .before .before .before .before .before .before .before .before .before .before .test .ensures) _ _ _ _ (c .before .before .before .before .before .before .before .before .before .before .enum-told .given .1) (c .before .before .before .before .before .before .before .execute .ensures) (c .before .n .given .1)
+
+when-same-length-7 : (t : ℕ) → when-lts.Need-same-length-7 (
+  test-reads.Asked,
+  test-reads.Learnt,
+  execute-below t,
+  execute.Post,
+) (when-at t) when.Post
+when-same-length-7 t c = search needs
+
+when-same-length-8 : (t : ℕ) → when-lts.Need-same-length-8 (
+  test-reads.Asked,
+  test-reads.Learnt,
+  execute-below t,
+  execute.Post,
+) (when-at t) when.Post
+when-same-length-8 t c = search needs
+
+when-returns-4 : (t : ℕ) → when-lts.Need-returns-4 (
+  test-reads.Asked,
+  test-reads.Learnt,
+  execute-below t,
+  execute.Post,
+) (when-at t) when.Post
+when-returns-4 t c = search when-not
+
+when-same-length-9 : (t : ℕ) → when-lts.Need-same-length-9 (
+  test-reads.Asked,
+  test-reads.Learnt,
+  execute-below t,
+  execute.Post,
+) (when-at t) when.Post
+when-same-length-9 t c = search needs
+
+when-same-length-10 : (t : ℕ) → when-lts.Need-same-length-10 (
+  test-reads.Asked,
+  test-reads.Learnt,
+  execute-below t,
+  execute.Post,
+) (when-at t) when.Post
+when-same-length-10 t c = search needs
+
+when-returns-5 : (t : ℕ) → when-lts.Need-returns-5 (
+  test-reads.Asked,
+  test-reads.Learnt,
+  execute-below t,
+  execute.Post,
+) (when-at t) when.Post
+when-returns-5 t c = search when-stops
 
 pub +block+by-word+execute+execute-all+run-while+simple+when-spec : {M : Type 1} → statement M
 +block+by-word+execute+execute-all+run-while+simple+when-spec =
@@ -2288,7 +2345,10 @@ pub +block+by-word+execute+execute-all+run-while+simple+when-spec : {M : Type 1}
     (when-add-execute t)
     (when-execute-requires t)
     (when-enum-told-2 t)
+    (when-enum-known-v t)
     (when-enum-known-n t)
+    (when-enum-told-3 t)
+    (when-enum-known-n-2 t)
     (when-same-length t)
     (when-same-length-2 t)
     (when-returns t)
@@ -2298,3 +2358,9 @@ pub +block+by-word+execute+execute-all+run-while+simple+when-spec : {M : Type 1}
     (when-same-length-5 t)
     (when-same-length-6 t)
     (when-returns-3 t)
+    (when-same-length-7 t)
+    (when-same-length-8 t)
+    (when-returns-4 t)
+    (when-same-length-9 t)
+    (when-same-length-10 t)
+    (when-returns-5 t)
