@@ -1,5 +1,4 @@
 -- What each case of an answer means.
-use Prim.Native.Nat.{ℕ}
 use Rattle.meaning.specs.Book.{Answer, pictured, number}
 use Rattle.answers.specs.declared.Answer as declared
 use Rattle.answers.specs.declared.Answer.the-variants.{Picture, Number}

@@ -1,5 +1,4 @@
 // What an operation hands back.
-ghost use mathlib.Core.Path.{_≡_};
 
 // A picture with its length and steps (from checking: well formed, both 0); or a number with its place, the steps counted, and after 80 the
 // length that the picture needs, else 0.

@@ -2,23 +2,23 @@
 use Prim.Native.Nat.{ℕ, _≤_, _<_}
 use mathlib.Core.Path.{_≡_, refl, ap, sym, _∙_}
 use mathlib.Core.Bool.{Bool, true, false, _&&_}
-use mathlib.Core.List.{List, [], _∷_}
+use mathlib.Core.List.{List}
 use lib.ListN.{length, replicate}
 use lib.Dec.{leb, ltb}
 use native.Mathlib.Omega.{arith}
 use borrow.Author.Tests.{le-leb, lt-leb, lt-ltb, le-ltb}
 use Rattle.meaning.specs.Basics.{if_then_else_}
 use Rattle.meaning.specs.Grammar.{Reading, wellFormed, malformed, reading}
-use Rattle.meaning.specs.Run.{Run, goOn, _>>=_, give, fail, refuse}
-use Rattle.meaning.specs.Program.{Outcome, accepted, understood, sized, performing, specified, empty}
+use Rattle.meaning.specs.Run.{goOn, _>>=_, give, fail, refuse}
+use Rattle.meaning.specs.Program.{accepted, understood, sized, performing, specified, empty}
 use Rattle.meaning.specs.Book.{Amounts, Answer, pictured, number, book, settled, answerTo, booked}
-use Rattle.meaning.specs.Call.{inRange, needed, longEnough, admitted, granted, grantedTo, runOf, answer, workAfter}
+use Rattle.meaning.specs.Call.{inRange, needed, longEnough, admitted, grantedTo, runOf, answer, workAfter}
 use Rattle.answers.specs.declared.Answer as Declared
 use Rattle.answers.specs.declared.Answer.the-variants.{Picture, Number}
 use Rattle.answers.specs.Answers.{meant}
 use Rattle.reader.specs.declared.Program.{Program}
 use Rattle.reader.specs.declared.Program.the-variants.{Formed, Malformed}
-use Rattle.reader.specs.Reading.{tokensIn, Seen, formed, refused, seen, coded}
+use Rattle.reader.specs.Reading.{tokensIn, seen, coded}
 use Rattle.checking.specs.Checking.{called, Checked, Lent, answerOf, readAnswer}
 
 -- ---- the first question

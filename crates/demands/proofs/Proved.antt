@@ -1,7 +1,7 @@
 -- Each demand, proved from what the operations promise and what is claimed of the definitions.
 use Prim.Native.Nat.{ℕ, suc, _≤_, _<_}
 use native.Mathlib.Omega.{arith}
-use mathlib.Core.Path.{_≡_, refl, ap, sym, _∙_, subst}
+use mathlib.Core.Path.{_≡_, refl, ap, sym, _∙_}
 use mathlib.Core.Logic.{_≢_}
 use mathlib.Core.Bool.{Bool, true, false, _&&_, _||_}
 use mathlib.Core.List.{List, [], _∷_}
@@ -17,9 +17,9 @@ use Rattle.meaning.specs.Run.{steps, picture, Taking, End, result, error, unfin
 use Rattle.meaning.specs.Run as Run
 use Rattle.meaning.specs.Program.{Operation, checking, measuring, drawing, accepted, empty, sheet, sized, understood, painting, performing, specified}
 use Rattle.meaning.specs.Program as Program
-use Rattle.meaning.specs.Book.{Amounts, Booked, allFit, lacking, Answer, pictured, number, undecided, nothingYet, book, settled, answerTo, booked}
+use Rattle.meaning.specs.Book.{Amounts, Booked, allFit, Answer, pictured, number, undecided, nothingYet, book, settled, answerTo, booked}
 use Rattle.meaning.specs.Call.{Call, admitted, grantedTo, runOf, answer, workAfter, outAfterEnd, outAfter}
-use Rattle.meaning.specs.Claims.{among, readingErrors, languageErrors, namesShortage, totalOf, FirstShort, shortageAt}
+use Rattle.meaning.specs.Claims.{among, readingErrors, totalOf, shortageAt}
 use Rattle.meaning.proofs.Settling.{Complete, Settles, complete, stopped, booked-short, booked-complete}
 use Rattle.meaning.proofs.Answers.{answer-admitted, out-admitted, run-settles}
 use Rattle.meaning.proofs.Claimed as Claimed
@@ -28,7 +28,7 @@ use Rattle.answers.specs.declared.Answer.the-variants.{Picture, Number}
 use Rattle.answers.specs.Answers.{meant}
 use Rattle.checking.specs.Checking as Checking
 use Rattle.lending.specs.Lending.{called}
-use Rattle.demands.specs.Demands.{Returned, checked, measured, drawn, Proper, Ends, inPicture, inError, inShortage, Other, notLent, noSheet, tooLong, unreadable, Either, proper, other, Numbered, Demand1, Demand2, Demand3, Possible, NotEmpty}
+use Rattle.demands.specs.Demands.{Returned, checked, measured, drawn, Proper, Ends, inPicture, inError, inShortage, Other, notLent, noSheet, tooLong, unreadable, Either, proper, other, Numbered, Demand1, Demand2, Demand3, NotEmpty}
 
 -- ---- demand 2
 -- an operation without an out slice leaves none

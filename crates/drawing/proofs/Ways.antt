@@ -1,6 +1,6 @@
 -- One law for each way through the functions.
 use Prim.Native.Nat.{ℕ, _≤_, _<_}
-use mathlib.Core.Path.{_≡_, refl, sym, _∙_}
+use mathlib.Core.Path.{_≡_, sym, _∙_}
 use mathlib.Core.Bool.{Bool, true, false, not}
 use mathlib.Core.List.{List}
 use lib.ListN.{length, getD, replicate}
@@ -26,7 +26,7 @@ use Rattle.running.specs.Running.{Ran, paintingRun}
 use Rattle.lending.specs.Lending.{enough, Ready, called, Performed}
 use Rattle.lending.proofs.Admitted.{draws, performed-nothing, ready, performed, written}
 use Rattle.running.proofs.Booked.{drawn-number, out-untouched, drawn-short, out-kept, drawn-picture, out-laid, painted-ended}
-use Rattle.drawing.specs.Drawing.{drawingRun, Drawn, Scene}
+use Rattle.drawing.specs.Drawing.{Drawn, Scene}
 
 -- a signed number handed over, as its bits
 abbrev held : ℤ → ℤ

@@ -12,7 +12,7 @@ use mir.Syntax.{w32}
 use mir.Val.{toZ}
 use borrow.Author.Tests.{eqb-true, eqb-false, ltb-true, ltb-false, leb-true, le-leb, ne-eqb}
 use Rattle.meaning.specs.Basics.{if_then_else_}
-use Rattle.meaning.specs.Integer.{bits, sum, difference, product, quotient, remainder, shiftedLeft, shiftedRight, isZero, sameInteger}
+use Rattle.meaning.specs.Integer.{sum, difference, product, quotient, remainder, shiftedLeft, shiftedRight, isZero, sameInteger}
 use Rattle.arithmetic.proofs.Ranges.{bits-signed, signed-small, sum-small, difference-small, product-small, quotient-small, remainder-small, shifted-left-small, shifted-right-small}
 use Rattle.code.specs.Code.{tagIn, sizeIn, numberIn}
 use Rattle.values.specs.declared.Value.{Value}
@@ -24,13 +24,13 @@ use Rattle.values.specs.Words as Words
 use Rattle.values.proofs.Laws.{InRange, unpacked-packed, unpacked-integer, unpacked-truth}
 use Rattle.stores.specs.Layout.{valuePlace}
 use Rattle.stores.specs.Act.{Raw, raw, Out, done, goOn, _>>=_, give, refuse, spend, shown, Answers}
-use Rattle.stores.specs.Variables.{isDead, usable, variable}
+use Rattle.stores.specs.Variables.{isDead, usable}
 use Rattle.stores.proofs.Laws.{not-dead, found}
 use Rattle.operators.specs.Operate.{withInteger, calculated, compared, remaindered, equality, answered, equated, operateOn, operate}
 use Rattle.operators.proofs.Held.{by-number}
 use Rattle.invariant.specs.Invariant.{Valid}
 use Rattle.fastpath.specs.Fast.{plainWord, leafWord, operatorWord, wordOn, sizesAgree, operationWord, fastAt, applies, Values}
-use Rattle.evaluator.specs.Evaluate.{Evaluator, Setting, setting, through, pushed, operationOf, operationAt, evaluateBy, evaluateAt}
+use Rattle.evaluator.specs.Evaluate.{Evaluator, Setting, setting, pushed, operationOf, operationAt, evaluateBy, evaluateAt}
 use Rattle.primaries.specs.Primaries.{pushWord}
 use Rattle.evaluator.proofs.Laws as laws
 

@@ -1,30 +1,25 @@
 -- What holds all through a run still holds after an expression.
-use Prim.Native.Nat.{ℕ, zero, suc, _+_, _-_, _*_, _/_, _%_, _^_, _≤_, _<_}
-use mathlib.Core.Path.{_≡_, refl, ap, sym, _∙_, subst}
-use mathlib.Core.Bool.{Bool, true, false, not}
+use Prim.Native.Nat.{ℕ, zero, suc, _+_, _-_}
+use mathlib.Core.Path.{_≡_, sym, subst}
+use mathlib.Core.Bool.{Bool, false, not}
 use mathlib.Core.List.{List}
-use native.Mathlib.Omega.{arith}
-use lib.ListN.{getD, length}
+use lib.ListN.{getD}
 use lib.IntN.{ℤ}
 use lib.Dec.{eqb, ltb}
 use mir.Syntax.{w32}
 use mir.Val.{toZ}
-use borrow.Author.Tests.{not-true, not-false}
-use Rattle.meaning.specs.Basics.{if_then_else_}
+use borrow.Author.Tests.{not-false}
 use Rattle.meaning.specs.Integer.{isNegative}
 use Rattle.code.specs.Code.{tagIn, sizeIn, numberIn}
 use Rattle.values.specs.declared.Value.{Value}
-use Rattle.values.specs.declared.Value.the-variants.{Integer, Text, Boolean, Nothing, Table, Shape}
+use Rattle.values.specs.declared.Value.the-variants.{Boolean, Nothing}
 use Rattle.values.specs.declared.Answer.{Answer}
-use Rattle.values.specs.declared.Answer.the-variants.{Good, Bad}
-use Rattle.values.specs.Words.{packed, unpacked}
-use Rattle.stores.specs.Layout.{argumentsHeld, Lent}
-use Rattle.stores.specs.Act.{Raw, raw, Out, done, stop, Act, goOn, _>>=_, give, fail, refuse, load, count, newTable, shown, passed, Passes}
+use Rattle.values.specs.declared.Answer.the-variants.{Good}
+use Rattle.values.specs.Words.{packed}
+use Rattle.stores.specs.Act.{Raw, raw, Out, done, goOn, _>>=_, give, fail, load, count, newTable, shown, passed, Passes}
 use Rattle.stores.specs.Arguments.{push, dropTo}
-use Rattle.stores.specs.Variables.{variable}
-use Rattle.stores.specs.Tables.{readEntry, Looks}
+use Rattle.stores.specs.Tables.{readEntry}
 use Rattle.operators.specs.Operate.{withInteger, withTable, operate}
-use Rattle.library.specs.Library.{callLibrary}
 use Rattle.invariant.specs.Invariant.{SoundValue, Valid, After, kept, stopped}
 use Rattle.invariant.proofs.Soundness.{sound-unpacked}
 use Rattle.invariant.proofs.EntriesKept.{after-read-entry}

@@ -1,22 +1,20 @@
 -- One law for each way through each function.
-use Prim.Native.Nat.{ℕ, zero, suc, _+_, _-_, _*_, _^_, _≤_, _<_}
-use mathlib.Core.Path.{_≡_, refl, ap, sym, _∙_}
+use Prim.Native.Nat.{ℕ, zero, suc, _+_, _-_, _*_, _≤_, _<_}
+use mathlib.Core.Path.{_≡_, refl, sym, _∙_}
 use mathlib.Core.Bool.{Bool, true, false, not}
 use mathlib.Core.List.{List, [], _∷_}
 use mathlib.Core.Logic.{⊎-elim}
 use native.Mathlib.Omega.{arith}
 use lib.ListN.{getD, length}
 use lib.IntN.{ℤ}
-use lib.Signed.{mag}
-use lib.Dec.{eqb, ltb}
+use lib.Dec.{eqb}
 use mir.Syntax.{w32}
 use mir.Val.{toZ, ofZ, SFits}
 use mir.Facts.{toZ-ofZ}
 use denote.Enum.Declared.{tagOf}
 use types.Run.{OneOf}
-use borrow.Author.Tests.{lt-ltb, le-ltb, eq-eqb, ne-eqb, not-true, not-false}
+use borrow.Author.Tests.{lt-ltb, le-ltb, ne-eqb, not-true, not-false}
 use Rattle.meaning.specs.Basics.{if_then_else_}
-use Rattle.meaning.specs.Integer.{isNegative}
 use Rattle.code.specs.Code.{tagIn, sizeIn, numberIn}
 use Rattle.values.proofs.Value as value
 use Rattle.values.specs.declared.Value.{Value}
@@ -24,12 +22,10 @@ use Rattle.values.specs.declared.Value.the-variants.{Integer, Text, Boolean, No
 use Rattle.values.specs.declared.Answer.{Answer}
 use Rattle.values.specs.declared.Answer.the-variants.{Good, Bad}
 use Rattle.values.specs.Words.{packed, unpacked}
-use Rattle.stores.specs.Act.{raw, Out, done, stop, Act, goOn, _>>=_, give, fail, refuse, load, count, newTable, shown, passed, Answers, Passes, Gives}
-use Rattle.stores.specs.Arguments.{push, dropTo}
+use Rattle.stores.specs.Act.{raw, Out, done, stop, Act, goOn, _>>=_, give, fail, load, count, shown, Answers, Passes}
 use Rattle.stores.specs.Variables.{variable}
 use Rattle.stores.specs.Tables.{readEntry}
 use Rattle.operators.specs.Operate.{withInteger, withTable, operate}
-use Rattle.library.specs.Library.{callLibrary}
 use Rattle.invariant.specs.Invariant.{Valid}
 use Rattle.evaluator.specs.Evaluate.{Evaluator, Setting, setting, pushed, pushAll, calling, tableOf, entryOf, entryAt, operationOf, operationAt, evaluateBy, evaluateAt}
 use Rattle.primaries.specs.Primaries.{sized, pushWord, called}

@@ -1,6 +1,6 @@
 -- Values that lead to what is there, and the acts that make them: a text lies in the program or in what is used of the text store, a shape is one of those made.
-use Prim.Native.Nat.{ℕ, zero, suc, _+_, _*_, _/_, _%_, _^_, _≤_, _<_}
-use mathlib.Core.Path.{_≡_, refl, ap, sym, _∙_}
+use Prim.Native.Nat.{ℕ, zero, suc, _+_, _*_, _/_, _%_, _^_, _<_}
+use mathlib.Core.Path.{_≡_, refl}
 use mathlib.Core.Bool.{Bool, true, false, not, _&&_}
 use mathlib.Core.List.{List}
 use mathlib.Core.Option.{Option, none, some}
@@ -10,23 +10,23 @@ use lib.IntN.{ℤ, pos}
 use lib.Dec.{eqb, ltb}
 use lib.Signed.{ltZ}
 use Rattle.meaning.specs.Basics.{if_then_else_}
-use Rattle.meaning.specs.Integer.{bits, sum, difference, product, quotient, shiftedLeft, shiftedRight, isZero, remainder}
+use Rattle.meaning.specs.Integer.{sum, difference, product, quotient, shiftedLeft, shiftedRight, isZero, remainder}
 use Rattle.values.specs.declared.Value.{Value}
 use Rattle.values.specs.declared.Value.the-variants.{Integer, Text, Boolean, Nothing, Table, Shape}
-use Rattle.values.specs.Words.{packed, unpacked}
+use Rattle.values.specs.Words.{packed}
 use Rattle.stores.specs.Layout.{shapesUsed}
-use Rattle.stores.specs.Act.{Raw, raw, Out, done, stop, Act, goOn, _>>=_, give, fail, refuse}
+use Rattle.stores.specs.Act.{Raw, raw, Out, Act, _>>=_, give, fail, refuse}
 use Rattle.stores.specs.declared.Figure.{Figure}
 use Rattle.stores.specs.Texts.{joinTexts}
-use Rattle.stores.specs.Shapes.{figureAt, newShape, destroy}
+use Rattle.stores.specs.Shapes.{figureAt, newShape}
 use Rattle.stores.specs.Variables.{usable, clearScene}
 use Rattle.stores.specs.Arguments.{argumentAt}
 use Rattle.operators.specs.Operate.{withInteger, withText, withTable, withShape, moved, plusX, plusY, minusX, minusY, scaledUp, scaledDown, calculated, compared, remaindered, joined, equality, answered, equated, operateOn, operate}
 use Rattle.library.specs.Library.{withFigure, drawn, drawnText, connected, labelled, coordinate, destroyed, clearing, perform, callLibrary}
 use Rattle.arguments.specs.Arguments.{argument, allUsable, figure, centreX, centreY, connecting, textOn}
-use Rattle.invariant.specs.Invariant.{Held, Sound, SoundIn, HeldIn, SoundValue, Valid, Grows, Kept, After, kept, stopped, Any}
+use Rattle.invariant.specs.Invariant.{Held, SoundIn, HeldIn, SoundValue, Valid, Grows, After, kept, stopped, Any}
 use Rattle.invariant.proofs.Soundness.{held-more, held-low, sound-grows, sound-unpacked, sound-packed}
-use Rattle.invariant.proofs.Keeping.{grows-self, grows-on, after-then, after-give, after-refuse, after-usable}
+use Rattle.invariant.proofs.Keeping.{grows-on, after-then, after-give, after-refuse, after-usable}
 use Rattle.invariant.proofs.ShapesKept.{after-new-shape, after-destroy, after-clear-scene, after-join}
 
 -- ---- values

@@ -1,7 +1,7 @@
 -- What holds all through a run still holds after a statement.
 use Prim.Native.Nat.{ℕ, zero, suc, _+_, _-_, _^_, _<_}
 use mathlib.Core.Path.{_≡_, subst}
-use mathlib.Core.Bool.{Bool, true, false}
+use mathlib.Core.Bool.{Bool, true}
 use mathlib.Core.List.{List}
 use native.Mathlib.Omega.{arith}
 use lib.ListN.{getD}
@@ -12,11 +12,11 @@ use Rattle.values.specs.declared.Value.{Value}
 use Rattle.values.specs.declared.Value.the-variants.{Integer, Text, Boolean, Nothing, Table, Shape}
 use Rattle.values.specs.Words.{packed}
 use Rattle.stores.specs.Act.{Raw, raw, Out, done, Act, goOn, _>>=_, give, fail, load, count}
-use Rattle.stores.specs.Shapes.{figureAt, newShape}
-use Rattle.stores.specs.Variables.{declare, setVariable}
+use Rattle.stores.specs.Shapes.{figureAt}
+use Rattle.stores.specs.Variables.{setVariable}
 use Rattle.stores.specs.Tables.{storeEntry}
 use Rattle.operators.specs.Operate.{withBoolean, withTable}
-use Rattle.invariant.specs.Invariant.{SoundIn, Valid, Grows, After, stopped, Any}
+use Rattle.invariant.specs.Invariant.{SoundIn, Valid, After, stopped, Any}
 use Rattle.invariant.proofs.Soundness.{sound-more}
 use Rattle.invariant.proofs.Keeping.{kept-done, after-then, after-give, after-refuse, after-count, after-set-variable, after-declare}
 use Rattle.invariant.proofs.ShapesKept.{after-new-shape}

@@ -1,16 +1,15 @@
 -- One law for each way through each function on statements that hold others.
-use Prim.Native.Nat.{ℕ, zero, suc, _+_, _-_, _*_, _≤_, _<_}
-use mathlib.Core.Path.{_≡_, refl, ap, sym, _∙_}
+use Prim.Native.Nat.{ℕ, suc, _+_, _-_, _≤_, _<_}
+use mathlib.Core.Path.{_≡_, refl, sym, _∙_}
 use mathlib.Core.Bool.{Bool, true, false, not}
 use mathlib.Core.List.{List}
 use native.Mathlib.Omega.{arith}
 use lib.ListN.{getD, length}
-use lib.Dec.{eqb, ltb}
 use borrow.Author.Tests.{lt-ltb, le-ltb, ne-eqb, not-true, not-false}
 use Rattle.meaning.specs.Basics.{if_then_else_}
 use Rattle.code.specs.Code.{tagIn, sizeIn}
 use Rattle.values.specs.declared.Value.{Value}
-use Rattle.stores.specs.Act.{raw, Out, done, stop, Act, goOn, _>>=_, give, fail, count, Passes}
+use Rattle.stores.specs.Act.{raw, Out, goOn, _>>=_, give, fail, count, Passes}
 use Rattle.stores.proofs.Acts.{after-pass, after-refusal}
 use Rattle.invariant.specs.Invariant.{Valid}
 use Rattle.evaluator.specs.Evaluate.{Setting, setting}

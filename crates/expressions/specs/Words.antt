@@ -1,7 +1,7 @@
 -- The grammar of expressions once more, over prepared token words and with code in place of trees: what the functions here yield.
 -- The crate `reader` shows that it is the meaning's grammar with the code of each tree.
 use Prim.Native.Nat.{ℕ, zero, suc, _+_, _-_, _*_, _/_, _%_}
-use mathlib.Core.Bool.{Bool, true, false, _&&_}
+use mathlib.Core.Bool.{Bool, _&&_}
 use mathlib.Core.List.{List, [], _∷_, _++_}
 use lib.ListN.{length, getD, take}
 use lib.Dec.{eqb, leb}

@@ -1,23 +1,23 @@
 -- One law for each way through each function.
 use Prim.Native.Nat.{ℕ, suc, _+_, _-_, _*_, _/_, _%_, _^_, _≤_, _<_}
-use mathlib.Core.Path.{_≡_, refl, sym, _∙_}
-use mathlib.Core.Bool.{Bool, true, false, not, _&&_}
+use mathlib.Core.Path.{_≡_, refl, _∙_}
+use mathlib.Core.Bool.{Bool, true, false, not}
 use mathlib.Core.List.{List}
 use native.Mathlib.Omega.{arith}
-use lib.ListN.{getD, set, length, take, drop}
+use lib.ListN.{getD, length, take, drop}
 use borrow.Rule.Slice.PartAt.{part-to-end}
 use lib.IntN.{ℤ}
 use lib.Signed.{mag, ltZ}
-use lib.Dec.{eqb, ltb, leb}
+use lib.Dec.{eqb, leb}
 use mir.Syntax.{w32}
 use mir.Val.{toZ, SFits}
 use mir.Facts.{toZ-ofZ}
-use borrow.Author.Tests.{not-true, not-false, lt-ltb, le-ltb, le-leb, lt-leb, eq-eqb, ne-eqb}
+use borrow.Author.Tests.{not-true, not-false, lt-ltb, le-ltb, le-leb, lt-leb, ne-eqb}
 use Rattle.meaning.specs.Basics.{if_then_else_}
 use Rattle.meaning.specs.Integer.{sum, difference, product, quotient, remainder, shiftedLeft, shiftedRight, isZero, sameInteger}
 use Rattle.code.specs.Code.{tagIn, sizeIn, numberIn}
 use Rattle.values.specs.declared.Value.the-variants.{Integer, Boolean}
-use Rattle.values.specs.Words.{kindIn, packed}
+use Rattle.values.specs.Words.{packed}
 use Rattle.values.specs.Words as Words
 use Rattle.stores.specs.Layout.{valuePlace}
 use Rattle.stores.specs.Act.{Pays}

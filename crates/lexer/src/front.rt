@@ -13,7 +13,7 @@ use tokens::word_kind;
 use tokens::word_of;
 ghost use mathlib.Core.Path.{_≡_};
 ghost use Prim.Native.Nat.{_+_, _≤_, _<_};
-ghost use lib.ListN.{length, getD, drop};
+ghost use lib.ListN.{length, drop};
 ghost use Rattle.meaning.specs.Token.{front, foundName, foundDigits, foundString, foundSign, isDouble};
 ghost use Rattle.lexer.specs.Lexing.{classTable, frontWord};
 

@@ -7,7 +7,7 @@ use lib.Dec.{eqb, ltb}
 use Rattle.meaning.specs.Basics.{if_then_else_}
 use Rattle.values.specs.declared.Value.{Value}
 use Rattle.values.specs.declared.Value.the-variants.{Integer, Nothing}
-use Rattle.stores.specs.Act.{Raw, Act, _>>=_, _>>_, give, fail, refuse}
+use Rattle.stores.specs.Act.{Act, _>>=_, _>>_, give, fail, refuse}
 use Rattle.stores.specs.declared.Figure.{Figure}
 use Rattle.stores.specs.Shapes.{figureAt, newShape, destroy}
 use Rattle.stores.specs.Variables.{clearScene}

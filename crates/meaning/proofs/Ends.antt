@@ -1,6 +1,6 @@
 -- How a run ends, and what it has taken by then: which numbers it can have, that a picture is taken only by drawing, and a run that is
 -- unfinished with n turns a loop has counted n steps.
-use Prim.Native.Nat.{ℕ, zero, suc, _≤_, _<_}
+use Prim.Native.Nat.{ℕ, zero, suc, _≤_}
 use mathlib.Core.Path.{_≡_, refl, subst}
 use mathlib.Core.Bool.{Bool, true, false, _&&_, _||_}
 use mathlib.Core.List.{List, [], _∷_, _++_}

@@ -5,7 +5,7 @@ use mathlib.Core.Path.{_≡_, refl}
 use mathlib.Core.List.{List, [], _∷_}
 use mathlib.Core.Option.{Option, none, some}
 use lib.ListN.{length, replicate}
-use lib.IntN.{ℤ, pos, negsuc}
+use lib.IntN.{pos, negsuc}
 use Rattle.meaning.specs.Basics.{bytes}
 use Rattle.meaning.specs.Token.{Lexed, lexed, stray, tokensOf}
 use Rattle.meaning.specs.Tree.{Expression}

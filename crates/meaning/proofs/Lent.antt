@@ -6,7 +6,7 @@ use mathlib.Core.List.{List, [], _∷_}
 use native.Mathlib.Omega.{arith}
 use lib.Dec.{leb}
 use borrow.Author.Tests.{leb-true, le-leb}
-use Rattle.meaning.specs.Program.{Operation, checking, measuring, drawing}
+use Rattle.meaning.specs.Program.{checking, measuring, drawing}
 use Rattle.meaning.specs.Call.{Grants, inRange, readingSlices, runningSlices, needed}
 use Rattle.meaning.specs.Claims.{NeededIsBounded, allWithin}
 

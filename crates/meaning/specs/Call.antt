@@ -6,7 +6,7 @@ use lib.ListN.{length, replicate}
 use lib.IntN.{ℤ}
 use lib.Dec.{leb}
 use Rattle.meaning.specs.Basics.{if_then_else_, laidOver}
-use Rattle.meaning.specs.Run.{Resource, steps, shapes, entries, textBytes, picture, End, result, error, unfinished, Run}
+use Rattle.meaning.specs.Run.{steps, shapes, entries, textBytes, picture, End, result, error, unfinished, Run}
 use Rattle.meaning.specs.Program.{Operation, checking, measuring, drawing, Outcome, accepted, drawn, specified}
 use Rattle.meaning.specs.Book.{Amounts, Booked, allFit, lacking, nothingYet, book, Answer, number, booked}
 

@@ -12,7 +12,7 @@ use Rattle.meaning.specs.Basics.{laidOver, standsIn}
 use Rattle.meaning.specs.Tree.{Procedure}
 use Rattle.meaning.specs.Grammar.{wellFormed, malformed, reading}
 use Rattle.meaning.specs.State.{State}
-use Rattle.meaning.specs.Run.{Resource, steps, Taking, Run, End, result, error, unfinished}
+use Rattle.meaning.specs.Run.{Resource, steps, Taking, Run, result, error, unfinished}
 use Rattle.meaning.specs.Program.{Operation, measuring, drawing, Outcome, drawn, specified, beginning}
 use Rattle.meaning.specs.Book.{Amounts, nothingYet, added, fits, allFit, book, Answer, pictured, number, undecided, shortageOf, lengthNeeded, booked}
 use Rattle.meaning.specs.Call.{Call, Grants, inRange, needed, admitted, grantedTo, runOf, answer, outAfter}

@@ -1,6 +1,5 @@
 -- What an expression is evaluated to. p is the place of the statement under way; a step is counted before the parts.
 use Prim.Native.Nat.{ℕ}
-use mathlib.Core.Bool.{Bool}
 use mathlib.Core.List.{List, [], _∷_}
 use mathlib.Core.Option.{Option, some}
 use mathlib.Core.Option as Option
@@ -9,7 +8,7 @@ use Rattle.meaning.specs.Integer.{isNegative}
 use Rattle.meaning.specs.Tree.{Expression, number, string, nothing, truth, name, table, entry, operation, call, paren, Arguments, noArgument, argument}
 use Rattle.meaning.specs.Value.{Value}
 use Rattle.meaning.specs.Value as Value
-use Rattle.meaning.specs.State.{State, valueIn, keyOf, entryIn, withTable}
+use Rattle.meaning.specs.State.{valueIn, keyOf, entryIn, withTable}
 use Rattle.meaning.specs.Run.{Action, _>>=_, _>>_, give, fail, count, refuse, current, become}
 use Rattle.meaning.specs.Operator.{usable, withInteger, operate}
 use Rattle.meaning.specs.Operator as Operator

@@ -1,13 +1,13 @@
 -- What a statement does. n bounds the turns of each loop; a run that needs more is unfinished.
 use Prim.Native.Nat.{ℕ, zero, suc}
-use mathlib.Core.Bool.{Bool, true, false, not}
+use mathlib.Core.Bool.{not}
 use mathlib.Core.List.{List, [], _∷_, _++_}
 use mathlib.Core.Option.{Option, some}
 use mathlib.Core.Option as Option
 use Rattle.meaning.specs.Basics.{if_then_else_}
 use Rattle.meaning.specs.Tree.{Statement, declare, assign, update, when, while, return, block, act, Statements, only, first}
 use Rattle.meaning.specs.Value.{Value, integer, string, boolean, none, table, shape}
-use Rattle.meaning.specs.State.{State, Key, isDeclared, assigned, withVariables, figureOf, keyOf, entryIn, overwritten, withEntries}
+use Rattle.meaning.specs.State.{Key, isDeclared, assigned, withVariables, figureOf, keyOf, entryIn, overwritten, withEntries}
 use Rattle.meaning.specs.Run.{Action, unfinished, run, entries, _>>=_, _>>_, give, count, take, refuse, current, become}
 use Rattle.meaning.specs.Operator.{withBoolean, withTable, newShape}
 use Rattle.meaning.specs.Evaluate.{evaluate}

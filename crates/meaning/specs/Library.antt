@@ -7,7 +7,7 @@ use lib.IntN.{ℤ}
 use Rattle.meaning.specs.Basics.{bytes, if_then_else_, sameText}
 use Rattle.meaning.specs.Figure.{Figure, line, ellipse, box, text, centreX, centreY, connecting, textOn}
 use Rattle.meaning.specs.Value.{Value, integer, none}
-use Rattle.meaning.specs.State.{State, withShapes, destroyed, cleared}
+use Rattle.meaning.specs.State.{withShapes, destroyed, cleared}
 use Rattle.meaning.specs.Run.{Action, _>>=_, _>>_, give, fail, current, become}
 use Rattle.meaning.specs.Operator.{usable, withInteger, withString, withShapeNumber, withFigure, newShape}
 

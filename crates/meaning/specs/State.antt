@@ -4,13 +4,13 @@ use mathlib.Core.Bool.{Bool, true, false, _&&_, cond}
 use mathlib.Core.List.{List, [], _∷_, _++_}
 use mathlib.Core.Option.{Option, some}
 use mathlib.Core.Option as Option
-use lib.ListN.{length, getD, set}
+use lib.ListN.{getD, set}
 use lib.IntN.{ℤ, pos}
 use lib.Dec.{eqb}
 use Rattle.meaning.specs.Basics.{if_then_else_, sameText}
 use Rattle.meaning.specs.Integer.{sameIntegers}
 use Rattle.meaning.specs.Figure.{Figure, line, figureKind, numbersOf, textOf}
-use Rattle.meaning.specs.Value.{Value, integer, string, boolean, none, table, shape, kindOf}
+use Rattle.meaning.specs.Value.{Value, integer, string, boolean, none, table, shape}
 
 pub record Variable : Type 0 where
   pub name : List ℕ

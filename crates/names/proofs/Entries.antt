@@ -14,7 +14,6 @@ use Rattle.meaning.specs.Basics.{sameText}
 use Rattle.meaning.specs.Token.{Token}
 use Rattle.meaning.specs.Grammar.{afterLast, kindAt, textAt}
 use Rattle.tokens.specs.Words.{tokenIn, kindIn}
-use Rattle.names.specs.Prepared.{home}
 use Rattle.names.specs.Index.{bucketOf, named, spelled, homeOf, bucketAt, isEntry, lies, meets, last, found}
 use Rattle.names.proofs.Homes.{and-true, same-itself, same-equal, home-least, home-kind, home-text}
 use Rattle.names.proofs.Last.{last-le, only-before, only-behind}

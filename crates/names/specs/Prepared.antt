@@ -1,6 +1,6 @@
 -- Token words prepared for reading: digits carry their value, names and strings the first token that is spelled like them.
 use Prim.Native.Nat.{ℕ, suc, _+_, _*_, min}
-use mathlib.Core.Bool.{Bool, _&&_, cond}
+use mathlib.Core.Bool.{_&&_, cond}
 use mathlib.Core.List.{List, [], _∷_, map}
 use mathlib.Core.Option.{Option, none, some}
 use lib.Dec.{eqb}

@@ -5,7 +5,7 @@ use tokens::same_text;
 use tokens::token_text;
 ghost use mathlib.Core.Path.{_≡_};
 ghost use Prim.Native.Nat.{_+_, _<_};
-ghost use lib.ListN.{length, replicate};
+ghost use lib.ListN.{length};
 ghost use Rattle.names.specs.Index.{mixed, hashFrom, bucketOf, named, spelled, found, linkAt, homeAt, Indexed, Looks, Files, Notes, noted};
 
 // Finds the homes of all tokens.

@@ -4,7 +4,7 @@ use mathlib.Core.Path.{_≡_}
 use mathlib.Core.Bool.{Bool, true, false}
 use mathlib.Core.List.{List}
 use Rattle.values.specs.declared.Value.{Value}
-use Rattle.stores.specs.Act.{raw, Out, done, stop, Act, goOn}
+use Rattle.stores.specs.Act.{raw, Out, stop, Act, goOn}
 use Rattle.plain.specs.declared.Flow.{Flow}
 use Rattle.plain.specs.declared.Flow.the-variants.{Onward, Returned, Stopped}
 use Rattle.plain.specs.declared.Outcome.{Outcome}

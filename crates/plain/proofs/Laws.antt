@@ -1,6 +1,6 @@
 -- One law for each way through each function on statements that hold no others.
-use Prim.Native.Nat.{ℕ, _+_, _-_, _%_, _≤_, _<_}
-use mathlib.Core.Path.{_≡_, refl, ap, sym, _∙_}
+use Prim.Native.Nat.{ℕ, _+_, _-_, _%_, _≤_}
+use mathlib.Core.Path.{_≡_, refl, sym, _∙_}
 use mathlib.Core.Bool.{Bool, true, false, not}
 use mathlib.Core.List.{List, [], _∷_}
 use mathlib.Core.Logic.{⊎-elim}
@@ -19,7 +19,7 @@ use Rattle.values.specs.declared.Answer.{Answer}
 use Rattle.values.specs.declared.Answer.the-variants.{Good, Bad}
 use Rattle.values.specs.Words.{kindIn, truthIn, packed, unpacked}
 use Rattle.values.proofs.Laws.{unpacked-truth, by-kind}
-use Rattle.stores.specs.Act.{Raw, raw, Out, done, stop, Act, goOn, _>>=_, give, fail, refuse, load, count, shown, passed, Answers, Passes, PassesIn, Gives}
+use Rattle.stores.specs.Act.{Raw, raw, Out, stop, Act, goOn, _>>=_, give, fail, refuse, load, count, shown, passed, Answers, Passes, PassesIn, Gives}
 use Rattle.stores.specs.declared.Figure.{Figure}
 use Rattle.stores.specs.Shapes.{figureAt, newShape}
 use Rattle.stores.specs.Variables.{isDeclared, declare, setVariable}
@@ -35,7 +35,7 @@ use Rattle.plain.specs.declared.Flow.the-variants.{Onward, Returned, Sto
 use Rattle.plain.specs.declared.Outcome.{Outcome}
 use Rattle.plain.specs.declared.Outcome.the-variants as outcome
 use Rattle.plain.specs.Asked.{Starts, Flows}
-use Rattle.plain.specs.Plain.{shownFlow, shownTest, declaring, copied, assigning, storing, assigningOf, updateValue, updateIn, updating, returning, acting, outcomeIn, tested, turning, valueOf}
+use Rattle.plain.specs.Plain.{shownFlow, shownTest, declaring, copied, assigning, storing, assigningOf, updateValue, updateIn, updating, returning, acting, outcomeIn, tested, turning}
 
 -- ---- declarations
 module _ (ws : List ℕ) (slot p : ℕ) (ok : Bool) (ws₁ : List ℕ) (h : Passes ws 60 (declare slot) ok ws₁) where

@@ -10,7 +10,7 @@ use Rattle.values.specs.declared.Value.{Value}
 use Rattle.values.specs.declared.Value.the-variants.{Integer, Text, Boolean, Nothing, Table, Shape}
 use Rattle.values.specs.Words.{kindIn, truthIn, packed}
 use Rattle.stores.specs.Layout.{valuePlace}
-use Rattle.stores.specs.Act.{Raw, raw, Out, done, stop, Act, _>>=_, _>>_, give, refuse, load, count}
+use Rattle.stores.specs.Act.{raw, Out, done, stop, Act, _>>=_, _>>_, give, refuse, load, count}
 use Rattle.stores.specs.Shapes.{figureAt, newShape}
 use Rattle.stores.specs.Variables.{declare, setVariable}
 use Rattle.stores.specs.Tables.{storeEntry}

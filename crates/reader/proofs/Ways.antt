@@ -1,34 +1,33 @@
 -- The ways through reading: what the lexer, the names and the grammar leave is what the meaning reads.
 use Prim.Native.Nat.{ℕ, zero, suc, _-_, _≤_, _<_}
 use mathlib.Core.Path.{_≡_, refl, ap, sym, _∙_}
-use mathlib.Core.Bool.{Bool, true, false}
+use mathlib.Core.Bool.{Bool}
 use mathlib.Core.List.{List, [], _∷_, map}
 use native.Mathlib.Omega.{arith}
 use native.Mathlib.Nat.{not-suc-le-zero, le-of-suc-le-suc, sub-zero}
 use lib.ListN.{length, getD, take, replicate, length-map, length-replicate}
-use lib.Dec.{ltb}
 use borrow.Author.Tests.{lt-ltb, le-ltb}
 use Rattle.meaning.specs.Basics.{bytes, if_then_else_, sameText, laidOver}
 use Rattle.meaning.specs.Token.{Token, Lexed, lexed, stray, tokensOf}
 use Rattle.meaning.specs.Tree.{Procedure}
-use Rattle.meaning.specs.Grammar.{Got, good, wrong, textAt, startAt, afterLast, procedure, Reading, wellFormed, malformed, placeOf, readOf, parsed, reading}
+use Rattle.meaning.specs.Grammar.{Got, good, wrong, textAt, startAt, procedure, placeOf, readOf, parsed, reading}
 use Rattle.tokens.specs.Words.{wordOf, placeIn, tokenIn}
 use Rattle.lexer.specs.declared.Tokens.{Tokens}
 use Rattle.lexer.specs.declared.Tokens.the-variants.{Found, Stray}
 use Rattle.lexer.specs.Lexing.{laidTokens}
 use Rattle.lexer.specs.Lexing as Lexing
-use Rattle.lexer.proofs.Decode.{Held, held, words-decode, word-decodes}
+use Rattle.lexer.proofs.Decode.{held, words-decode, word-decodes}
 use Rattle.names.specs.Prepared.{preparedAll}
 use Rattle.names.specs.Index.{Room}
 use Rattle.code.specs.Code.{slotOf, codeOfStatements}
 use Rattle.statements.specs.declared.Parsed.{Parsed}
 use Rattle.statements.specs.declared.Parsed.the-variants.{Body, Misfit}
-use Rattle.statements.specs.Words.{Head, SeenWhole, whole, failedWhole, seenWhole, writtenWhole}
+use Rattle.statements.specs.Words.{seenWhole, writtenWhole}
 use Rattle.statements.specs.Words as Bodies
 use Rattle.reader.specs.declared.Program.{Program}
 use Rattle.reader.specs.declared.Program.the-variants.{Formed, Malformed}
 use Rattle.reader.specs.Coded.{wordsOf, mapGot, headOf}
-use Rattle.reader.specs.Reading.{Lent, Worded, tokensAmong, tokensIn, Seen, formed, refused, seen, coded, placeAmong}
+use Rattle.reader.specs.Reading.{Lent, Worded, tokensAmong, tokensIn, refused, seen, coded, placeAmong}
 use Rattle.reader.specs.Sane.{Sane}
 use Rattle.reader.proofs.Fields.{prepared-words, place-at}
 use Rattle.reader.proofs.Statements.{procedure-law}

@@ -1,12 +1,11 @@
 -- What reading leaves behind: the program's code, or a number and its place.
-use Prim.Native.Nat.{ℕ, _≤_, _<_}
+use Prim.Native.Nat.{ℕ, _≤_}
 use mathlib.Core.Path.{_≡_}
 use mathlib.Core.List.{List, [], map}
 use lib.ListN.{length, getD, take}
 use lib.Dec.{ltb}
 use Rattle.meaning.specs.Basics.{if_then_else_}
 use Rattle.meaning.specs.Token.{Token, Lexed, lexed, stray, tokensOf}
-use Rattle.meaning.specs.Tree.{Procedure}
 use Rattle.meaning.specs.Grammar.{Reading, wellFormed, malformed}
 use Rattle.tokens.specs.Words.{wordOf, placeIn}
 use Rattle.reader.specs.declared.Program.{Program}

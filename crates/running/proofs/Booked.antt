@@ -1,7 +1,7 @@
 -- What a run that follows the painting comes to in the book.
 use Prim.Native.Nat.{ℕ, suc, _+_, _≤_, _<_}
 use native.Mathlib.Omega.{arith}
-use mathlib.Core.Path.{_≡_, refl, ap, sym, _∙_, subst}
+use mathlib.Core.Path.{_≡_, refl, ap, sym, _∙_}
 use mathlib.Core.Bool.{Bool, true, false, cond}
 use mathlib.Core.List.{List, [], _∷_, _++_, append-nil}
 use lib.ListN.{length, getD}
@@ -13,16 +13,15 @@ use Rattle.meaning.specs.State.{State}
 use Rattle.meaning.specs.Run.{Resource, steps, shapes, entries, textBytes, picture, Taking, taking, End, result, error, unfinished, Run, run, Action}
 use Rattle.meaning.specs.Run as Run
 use Rattle.meaning.specs.Picture.{pictureOf}
-use Rattle.meaning.specs.Program.{Outcome, drawn, Operation, measuring, drawing, empty, painting, performing, specified}
-use Rattle.meaning.specs.Book.{Amounts, nothingYet, added, fits, Booked, allFit, lacking, book, Answer, pictured, number, shortageOf, lengthNeeded, resourceNumber, answerTo, settled, booked}
+use Rattle.meaning.specs.Program.{Outcome, drawn, measuring, drawing, empty, performing, specified}
+use Rattle.meaning.specs.Book.{Amounts, nothingYet, added, fits, Booked, allFit, lacking, book, pictured, number, shortageOf, lengthNeeded, resourceNumber, answerTo, settled, booked}
 use Rattle.meaning.specs.Call.{granted, outAfterEnd}
 use Rattle.meaning.proofs.Booking.{part, taken, onFit, book-append}
 use Rattle.meaning.proofs.Ends.{painting-lawful}
 use Rattle.stores.specs.Layout.{stepsUsed, stepsGranted}
-use Rattle.stores.specs.Act.{Raw, raw, Out, done, stop}
-use Rattle.simulation.specs.Follows.{Grants, Together, gives, lacks, fails, Follows}
-use Rattle.scene.specs.Scene.{sceneIn, Drawable}
-use Rattle.running.specs.declared.Ending.{Ending}
+use Rattle.stores.specs.Act.{raw, done, stop}
+use Rattle.simulation.specs.Follows.{Grants, Together, gives, lacks, fails}
+use Rattle.scene.specs.Scene.{sceneIn}
 use Rattle.running.specs.declared.Ending.the-variants.{Complete, Stopped}
 use Rattle.running.specs.Running.{shownEnding, Painted, Ran, paintingRun}
 use Rattle.lending.specs.Lending.{grantsOf}

@@ -16,7 +16,7 @@ use Rattle.meaning.specs.Basics.{if_then_else_, sameText}
 use Rattle.meaning.specs.Token.{Token, aName}
 use Rattle.meaning.specs.Value.{integer}
 use Rattle.meaning.specs.Value as Value
-use Rattle.meaning.specs.State.{State, Variable, valueIn, assigned, withVariables}
+use Rattle.meaning.specs.State.{Variable, valueIn, assigned, withVariables}
 use Rattle.meaning.specs.Run.{run, error, result}
 use Rattle.meaning.specs.Run as Run
 use Rattle.meaning.specs.Book.{Amounts, nothingYet}
@@ -27,7 +27,7 @@ use Rattle.values.specs.declared.Value.the-variants.{Integer}
 use Rattle.values.specs.Words.{packed, unpacked}
 use Rattle.values.proofs.Laws.{InRange, unpacked-packed}
 use Rattle.stores.specs.Layout.{valuePlace, orderPlace, Lent}
-use Rattle.stores.specs.Act.{Raw, raw, Out, done, stop}
+use Rattle.stores.specs.Act.{Raw, raw, done, stop}
 use Rattle.stores.specs.Act as Act
 use Rattle.stores.specs.Variables.{declare, setVariable}
 use Rattle.simulation.specs.Meant.{meantValue, meantWord}

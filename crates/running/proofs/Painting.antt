@@ -1,13 +1,12 @@
 -- The run of a program's body paints the picture that is meant.
-use Prim.Native.Nat.{ℕ, suc, _+_, _-_, _^_, _≤_, _<_}
+use Prim.Native.Nat.{ℕ, suc, _-_, _^_, _≤_, _<_}
 use native.Mathlib.Omega.{arith}
 use mathlib.Core.Path.{_≡_, refl, ap, sym, _∙_, subst}
-use mathlib.Core.Bool.{Bool, true, false, not, _&&_}
+use mathlib.Core.Bool.{true, false, _&&_}
 use mathlib.Core.List.{List, [], _∷_, map}
 use lib.ListN.{getD, length, take}
 use lib.IntN.{ℤ, pos}
 use lib.Signed.{mag, ltZ}
-use lib.Dec.{ltb}
 use borrow.Author.Tests.{lt-ltb, le-ltb}
 use Rattle.meaning.specs.Token.{Token, aName}
 use Rattle.meaning.specs.Tree.{Procedure}
@@ -16,27 +15,26 @@ use Rattle.meaning.specs.Picture.{pictureOf}
 use Rattle.meaning.specs.State.{scene}
 use Rattle.meaning.specs.Run as Run
 use Rattle.meaning.specs.Book.{Amounts, nothingYet}
-use Rattle.meaning.specs.Execute as Execute
 use Rattle.meaning.specs.Program.{empty, sheet, sized, understood, entering, painting}
 use Rattle.code.specs.Code.{slotOf, codeOfStatements}
 use Rattle.reader.specs.declared.Program.{Program}
 use Rattle.reader.specs.declared.Program.the-variants.{Formed, Malformed}
 use Rattle.reader.specs.Coded.{headOf}
-use Rattle.reader.specs.Reading.{Seen, formed, refused, seen, coded, tokensIn}
+use Rattle.reader.specs.Reading.{formed, refused, seen, coded, tokensIn}
 use Rattle.reader.proofs.Homes.{Occurs}
 use Rattle.reader.proofs.Known.{KnownNames}
 use Rattle.reader.proofs.Yields.{yielded}
 use Rattle.reader.proofs.Trees.{procedure-understood}
 use Rattle.stores.specs.Layout.{stepsUsed, argumentsHeld, stepsGranted, Lent}
-use Rattle.stores.specs.Act.{Raw, raw, Out, done, stop}
+use Rattle.stores.specs.Act.{raw}
 use Rattle.stores.specs.Act as Act
-use Rattle.evaluator.specs.Evaluate.{Setting, setting}
+use Rattle.evaluator.specs.Evaluate.{setting}
 use Rattle.simulation.specs.Follows.{Grants, Follows}
 use Rattle.simulation.proofs.Binding.{bind}
 use Rattle.simulation.proofs.Results.{given, failed, steps-told}
 use Rattle.simulation.proofs.Body.{Read, was-read, body-follows, stands-taken}
 use Rattle.running.specs.declared.Ending.{Ending}
-use Rattle.running.specs.declared.Ending.the-variants.{Complete, Stopped}
+use Rattle.running.specs.declared.Ending.the-variants.{Stopped}
 use Rattle.running.specs.Specified.{paintRead}
 use Rattle.running.specs.Running.{bodyRun, shownEnding, Painted, Ran, paintingRun, readingRun}
 use Rattle.running.proofs.Scenes.{scene-shown, is-drawable}

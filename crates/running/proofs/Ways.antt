@@ -1,7 +1,7 @@
 -- One law for each way through each function.
 use Prim.Native.Nat.{ℕ, zero, suc, _^_, _≤_, _<_}
 use native.Mathlib.Omega.{arith}
-use mathlib.Core.Path.{_≡_, refl, ap, sym, _∙_, subst}
+use mathlib.Core.Path.{_≡_, refl, ap, sym, _∙_}
 use mathlib.Core.Bool.{Bool, true, false, not, _&&_}
 use mathlib.Core.List.{List}
 use lib.ListN.{getD, length, take, replicate, length-replicate}
@@ -20,10 +20,10 @@ use Rattle.values.specs.declared.Value.{Value}
 use Rattle.values.specs.declared.Value.the-variants.{Integer}
 use Rattle.values.specs.Words.{packed}
 use Rattle.stores.specs.Layout.{stepsUsed}
-use Rattle.stores.specs.Act.{raw, Out, done, stop, Act, goOn, _>>=_, give, passed, Passes, Gives}
+use Rattle.stores.specs.Act.{raw, goOn, _>>=_, give, passed, Passes, Gives}
 use Rattle.stores.specs.Variables.{declare, setVariable}
 use Rattle.stores.proofs.Acts.{after-pass, after-refusal, after-gift}
-use Rattle.invariant.specs.Invariant.{SoundValue, SoundIn, Any, Valid, Grows, After}
+use Rattle.invariant.specs.Invariant.{SoundValue, SoundIn, Any, Valid, After}
 use Rattle.invariant.proofs.Soundness.{sound-packed}
 use Rattle.invariant.proofs.Keeping.{after-then, after-declare, after-set-variable, kept-pass}
 use Rattle.invariant.proofs.Changes.{lent-same}

@@ -27,7 +27,6 @@ use Rattle.stores.specs.Act as Act
 use Rattle.stores.specs.Shapes.{figureAt}
 use Rattle.stores.specs.Variables.{setVariable}
 use Rattle.evaluator.specs.Evaluate.{Setting}
-use Rattle.plain.specs.declared.Flow.the-variants.{Onward}
 use Rattle.plain.specs.Plain.{copied, assigning}
 use Rattle.simulation.specs.Meant.{meantValue, meantWord}
 use Rattle.simulation.specs.Sound.{Valid}

@@ -14,8 +14,8 @@ use Rattle.meaning.specs.Figure as Meaning
 use Rattle.meaning.proofs.IntegerLaws.{sum-range, half-sum-range}
 use Rattle.stores.specs.Texts.{textOf}
 use Rattle.stores.specs.declared.Figure.{Figure}
-use Rattle.operators.specs.Operate.{moved, sameFigure}
-use Rattle.arguments.specs.Arguments.{figure, centreX, centreY, connecting, textOn}
+use Rattle.operators.specs.Operate.{moved}
+use Rattle.arguments.specs.Arguments.{figure, centreX, centreY}
 use Rattle.simulation.specs.Meant.{meantFigure}
 use Rattle.simulation.specs.Sound.{Held, Proper}
 

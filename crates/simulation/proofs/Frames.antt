@@ -8,7 +8,7 @@ use mathlib.Core.List.{List}
 use lib.ListN.{length, getD}
 use lib.Dec.{eqb}
 use Rattle.meaning.specs.Token.{Token}
-use Rattle.meaning.specs.Value.{string, shape}
+use Rattle.meaning.specs.Value.{string}
 use Rattle.meaning.specs.State.{keyOf, figureKey, noShape}
 use Rattle.meaning.specs.State as State
 use Rattle.values.specs.declared.Value.{Value}

@@ -34,7 +34,7 @@ use Rattle.stores.specs.Shapes.{figureAt}
 use Rattle.stores.specs.Shapes as Shapes
 use Rattle.evaluator.specs.Evaluate.{Setting}
 use Rattle.library.specs.Library.{withFigure, drawn, drawnText, connected, labelled, coordinate, destroyed, clearing, perform, callLibrary}
-use Rattle.arguments.specs.Arguments.{argument, allUsable, figure, centreX, centreY, connecting, textOn}
+use Rattle.arguments.specs.Arguments.{allUsable, figure, centreX, centreY, connecting, textOn}
 use Rattle.simulation.specs.Meant.{meantValue, meantWord, meantFigure, listed}
 use Rattle.simulation.specs.Sound.{Valid, Proper}
 use Rattle.simulation.specs.Follows.{Grants, Related, Follows}

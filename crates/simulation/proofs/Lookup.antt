@@ -29,7 +29,7 @@ use Rattle.stores.specs.Tables.{ownerAt, keyAt, valueAt, last, findEntry, readF
 use Rattle.stores.specs.Tables as Tables
 use Rattle.tables.proofs.IndexLaws.{last-le, last-meets}
 use Rattle.simulation.specs.Meant.{meantValue, meantWord, listed, shapesOf, keyAmong, meantKey, entryAt, entriesOf}
-use Rattle.simulation.specs.Sound.{Valid, Entries}
+use Rattle.simulation.specs.Sound.{Valid}
 use Rattle.simulation.specs.Follows.{Related, Follows}
 use Rattle.simulation.proofs.Binding.{bind}
 use Rattle.simulation.proofs.Listed.{listed-same}

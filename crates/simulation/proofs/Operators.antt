@@ -27,7 +27,7 @@ use Rattle.stores.specs.Act.{Raw}
 use Rattle.stores.specs.Act as Act
 use Rattle.stores.specs.declared.Figure.{Figure}
 use Rattle.stores.specs.Shapes.{figureAt}
-use Rattle.operators.specs.Operate.{withInteger, withText, plusX, plusY, minusX, minusY, scaledUp, scaledDown, calculated, compared, remaindered, joined, equality, answered, equated, operateOn, operate}
+use Rattle.operators.specs.Operate.{withInteger, withText, plusX, plusY, minusX, minusY, scaledUp, scaledDown, calculated, compared, remaindered, joined, answered, equated, operateOn, operate}
 use Rattle.evaluator.specs.Evaluate.{Setting}
 use Rattle.simulation.specs.Meant.{meantValue, meantFigure}
 use Rattle.simulation.specs.Sound.{Valid, Proper}

@@ -35,8 +35,6 @@ use Rattle.plain.specs.declared.Flow.{Flow}
 use Rattle.plain.specs.declared.Flow.the-variants.{Onward, Returned}
 use Rattle.executor.specs.Execute.{continue, Executor, looping, loopFrom, whenAt, executeAll, blockAt, executeSimple, executeBy, executeAt}
 use Rattle.plain.specs.Plain.{placeIn, extraIn, valueOf, sizeAt, declaring, assigning, assigningOf, updateValue, updateIn, updating, returning, acting}
-use Rattle.simulation.specs.Meant.{meantValue}
-use Rattle.simulation.specs.Sound.{Valid}
 use Rattle.simulation.specs.Follows.{Grants, Related, Follows}
 use Rattle.simulation.proofs.Binding.{bind, Succeeds, act-after}
 use Rattle.simulation.proofs.Results.{given, After, Values, unmoved, still}

@@ -2,11 +2,6 @@ use Rattle.drawing.proofs.Ways.{lent-number, lent-scene, lent-drawn}
 use borrow.Author.Needs.{needs}
 use Rattle.drawing.proofs.draw_lent.Statement.{statement}
 use Rattle.drawing.proofs.draw_lent.Tie as tie
-use Rattle.drawing.proofs.draw_lent.Reads as reads
-use Rattle.drawing.proofs.draw_lent.Lts as lts
-use Rattle.drawing.proofs.draw_scene.Reads as draw-scene-reads
-use Rattle.running.proofs.run.Reads as run-reads
-use Rattle.stores.proofs.words.word_at.Reads as word-at-reads
 
 -- src/lib.rt:54:11
 run-requires : tie.Need-run-requires

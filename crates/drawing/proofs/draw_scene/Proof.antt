@@ -2,11 +2,6 @@ use Rattle.drawing.proofs.Ways.{scene-drawable, scene-short, scene-draw
 use borrow.Author.Needs.{needs}
 use Rattle.drawing.proofs.draw_scene.Statement.{statement}
 use Rattle.drawing.proofs.draw_scene.Tie as tie
-use Rattle.drawing.proofs.draw_scene.Reads as reads
-use Rattle.drawing.proofs.draw_scene.Lts as lts
-use Rattle.scene.proofs.picture_length.Reads as picture-length-reads
-use Rattle.scene.proofs.write_picture.Reads as write-picture-reads
-use Rattle.stores.proofs.words.word_at.Reads as word-at-reads
 
 -- src/lib.rt:76:9
 word-at-requires : tie.Need-word-at-requires

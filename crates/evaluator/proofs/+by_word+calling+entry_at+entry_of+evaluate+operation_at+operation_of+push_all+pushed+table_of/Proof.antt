@@ -3,7 +3,7 @@ use native.Mathlib.Omega.{arith}
 use borrow.Author.Needs.{needs}
 use Prim.Native.Nat.{_+_, _-_, _*_}
 use Rattle.evaluator.proofs.Laws.{table-stops, table-other, table-made, entry-stops, entry-other, entry-goes, operation-stops, operation-goes, key-stops, key-goes, side-stops, side-goes, push-stops, push-goes, call-stops, call-goes, by-number, by-string, by-none, by-truth, by-name, by-table, by-entry, by-call, by-operator, too-deep, no-step, evaluated, Pushing, push-first, push-last, push-end, push-fails, push-more}
-use Rattle.evaluator.proofs.Kept.{valid-evaluated, valid-pushed, valid-all, valid-counted}
+use Rattle.evaluator.proofs.Kept.{valid-evaluated, valid-pushed, valid-counted}
 use Rattle.evaluator.proofs.Fast.{push-fast, push-slow, still-valid}
 use Rattle.invariant.proofs.Keeping.{looks}
 use Prim.Native.Nat.{ℕ, _<_}

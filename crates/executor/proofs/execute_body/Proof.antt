@@ -2,9 +2,6 @@ use Rattle.executor.proofs.Laws.{in-body}
 use borrow.Author.Needs.{needs}
 use Rattle.executor.proofs.execute_body.Statement.{statement}
 use Rattle.executor.proofs.execute_body.Tie as tie
-use Rattle.executor.proofs.execute_body.Reads as reads
-use Rattle.executor.proofs.execute_body.Lts as lts
-use Rattle.executor.proofs.execute_all.Reads as execute-all-reads
 
 -- src/lib.rt:246:62
 add-execute-all : tie.Need-add-execute-all

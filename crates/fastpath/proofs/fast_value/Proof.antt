@@ -2,12 +2,6 @@ use Rattle.fastpath.proofs.Laws.{not-fast, too-many, counted}
 use borrow.Author.Needs.{needs}
 use Rattle.fastpath.proofs.fast_value.Statement.{statement}
 use Rattle.fastpath.proofs.fast_value.Tie as tie
-use Rattle.fastpath.proofs.fast_value.Reads as reads
-use Rattle.fastpath.proofs.fast_value.Lts as lts
-use Rattle.code.proofs.size_of.Reads as size-of-reads
-use Rattle.fastpath.proofs.root.Reads as root-reads
-use Rattle.stores.proofs.counters.spend.Reads as spend-reads
-use Rattle.stores.proofs.words.word_at.Reads as word-at-reads
 
 -- src/lib.rt:177:16
 sub-code : tie.Need-sub-code

@@ -2,10 +2,6 @@ use Rattle.fastpath.proofs.Laws.{leaf-number, leaf-name, leaf-other}
 use borrow.Author.Needs.{needs}
 use Rattle.fastpath.proofs.leaf_word.Statement.{statement}
 use Rattle.fastpath.proofs.leaf_word.Tie as tie
-use Rattle.fastpath.proofs.leaf_word.Reads as reads
-use Rattle.fastpath.proofs.leaf_word.Lts as lts
-use Rattle.fastpath.proofs.plain_word.Reads as plain-word-reads
-use Rattle.stores.proofs.variables.word_of.Reads as word-of-reads
 
 -- src/lib.rt:30:20
 mul-result : tie.Need-mul-result

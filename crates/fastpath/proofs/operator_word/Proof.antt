@@ -2,19 +2,6 @@ use Rattle.fastpath.proofs.Laws.{adds, subtracts, multiplies, by-tag, s
 use borrow.Author.Needs.{needs}
 use Rattle.fastpath.proofs.operator_word.Statement.{statement}
 use Rattle.fastpath.proofs.operator_word.Tie as tie
-use Rattle.fastpath.proofs.operator_word.Reads as reads
-use Rattle.fastpath.proofs.operator_word.Lts as lts
-use Rattle.arithmetic.proofs.difference.Reads as difference-reads
-use Rattle.arithmetic.proofs.less.Reads as less-reads
-use Rattle.arithmetic.proofs.product.Reads as product-reads
-use Rattle.arithmetic.proofs.same.Reads as same-reads
-use Rattle.arithmetic.proofs.shifted_left.Reads as shifted-left-reads
-use Rattle.arithmetic.proofs.shifted_right.Reads as shifted-right-reads
-use Rattle.arithmetic.proofs.sum.Reads as sum-reads
-use Rattle.fastpath.proofs.quotient_word.Reads as quotient-word-reads
-use Rattle.fastpath.proofs.remainder_word.Reads as remainder-word-reads
-use Rattle.values.proofs.integer_word.Reads as integer-word-reads
-use Rattle.values.proofs.truth_word.Reads as truth-word-reads
 
 -- src/lib.rt:62:36
 sum-requires : tie.Need-sum-requires

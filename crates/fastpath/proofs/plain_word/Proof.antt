@@ -1,8 +1,6 @@
 use Rattle.fastpath.proofs.Laws.{plain-integer, plain-truth, plain-other}
 use Rattle.fastpath.proofs.plain_word.Statement.{statement}
 use Rattle.fastpath.proofs.plain_word.Tie as tie
-use Rattle.fastpath.proofs.plain_word.Reads as reads
-use Rattle.fastpath.proofs.plain_word.Lts as lts
 
 -- src/lib.rt:15:9
 returns : tie.Need-returns

@@ -2,11 +2,6 @@ use Rattle.fastpath.proofs.Laws.{divides-by-zero, divides}
 use borrow.Author.Needs.{needs}
 use Rattle.fastpath.proofs.quotient_word.Statement.{statement}
 use Rattle.fastpath.proofs.quotient_word.Tie as tie
-use Rattle.fastpath.proofs.quotient_word.Reads as reads
-use Rattle.fastpath.proofs.quotient_word.Lts as lts
-use Rattle.arithmetic.proofs.is_zero.Reads as is-zero-reads
-use Rattle.arithmetic.proofs.quotient.Reads as quotient-reads
-use Rattle.values.proofs.integer_word.Reads as integer-word-reads
 
 -- src/lib.rt:42:8
 is-zero-requires : tie.Need-is-zero-requires

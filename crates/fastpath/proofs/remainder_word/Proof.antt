@@ -2,11 +2,6 @@ use Rattle.fastpath.proofs.Laws.{no-remainder, leaves}
 use borrow.Author.Needs.{needs}
 use Rattle.fastpath.proofs.remainder_word.Statement.{statement}
 use Rattle.fastpath.proofs.remainder_word.Tie as tie
-use Rattle.fastpath.proofs.remainder_word.Reads as reads
-use Rattle.fastpath.proofs.remainder_word.Lts as lts
-use Rattle.arithmetic.proofs.is_zero.Reads as is-zero-reads
-use Rattle.arithmetic.proofs.remainder.Reads as remainder-reads
-use Rattle.values.proofs.integer_word.Reads as integer-word-reads
 
 -- src/lib.rt:51:8
 is-zero-requires : tie.Need-is-zero-requires

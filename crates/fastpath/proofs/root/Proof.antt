@@ -2,11 +2,6 @@ use Rattle.fastpath.proofs.Laws.{too-deep, is-leaf, is-operation}
 use borrow.Author.Needs.{needs}
 use Rattle.fastpath.proofs.root.Statement.{statement}
 use Rattle.fastpath.proofs.root.Tie as tie
-use Rattle.fastpath.proofs.root.Reads as reads
-use Rattle.fastpath.proofs.root.Lts as lts
-use Rattle.code.proofs.tag_of.Reads as tag-of-reads
-use Rattle.fastpath.proofs.leaf_word.Reads as leaf-word-reads
-use Rattle.fastpath.proofs.operation.Reads as operation-reads
 
 -- src/lib.rt:163:9
 returns : tie.Need-returns

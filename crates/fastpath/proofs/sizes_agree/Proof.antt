@@ -2,9 +2,6 @@ use Rattle.fastpath.proofs.Laws.{agree}
 use borrow.Author.Needs.{needs}
 use Rattle.fastpath.proofs.sizes_agree.Statement.{statement}
 use Rattle.fastpath.proofs.sizes_agree.Tie as tie
-use Rattle.fastpath.proofs.sizes_agree.Reads as reads
-use Rattle.fastpath.proofs.sizes_agree.Lts as lts
-use Rattle.code.proofs.size_of.Reads as size-of-reads
 
 -- src/lib.rt:94:5
 size-of-requires : tie.Need-size-of-requires

@@ -2,10 +2,6 @@ use Rattle.fastpath.proofs.Laws.{left-other, right-other, on-integers}
 use borrow.Author.Needs.{needs}
 use Rattle.fastpath.proofs.word_on.Statement.{statement}
 use Rattle.fastpath.proofs.word_on.Tie as tie
-use Rattle.fastpath.proofs.word_on.Reads as reads
-use Rattle.fastpath.proofs.word_on.Lts as lts
-use Rattle.fastpath.proofs.operator_word.Reads as operator-word-reads
-use Rattle.values.proofs.integer_of.Reads as integer-of-reads
 
 -- src/lib.rt:82:9
 returns : tie.Need-returns

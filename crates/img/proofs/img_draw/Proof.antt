@@ -3,10 +3,6 @@ use Rattle.img.proofs.Written.{performs, draws}
 use borrow.Author.Needs.{needs}
 use Rattle.img.proofs.img_draw.Statement.{statement}
 use Rattle.img.proofs.img_draw.Tie as tie
-use Rattle.img.proofs.img_draw.Reads as reads
-use Rattle.img.proofs.img_draw.Lts as lts
-use Rattle.drawing.proofs.draw.Reads as draw-reads
-use Rattle.img.proofs.write_answer.Reads as write-answer-reads
 
 -- src/lib.rt:74:9
 draw-requires : tie.Need-draw-requires

@@ -3,10 +3,6 @@ use Rattle.img.proofs.Written.{performs}
 use borrow.Author.Needs.{needs}
 use Rattle.img.proofs.img_measure.Statement.{statement}
 use Rattle.img.proofs.img_measure.Tie as tie
-use Rattle.img.proofs.img_measure.Reads as reads
-use Rattle.img.proofs.img_measure.Lts as lts
-use Rattle.img.proofs.write_answer.Reads as write-answer-reads
-use Rattle.measuring.proofs.measure.Reads as measure-reads
 
 -- src/lib.rt:48:9
 measure-requires : tie.Need-measure-requires

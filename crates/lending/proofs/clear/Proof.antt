@@ -1,10 +1,6 @@
 use borrow.Author.Needs.{needs}
 use Rattle.lending.proofs.clear.Statement.{statement}
 use Rattle.lending.proofs.clear.Tie as tie
-use Rattle.lending.proofs.clear.Reads as reads
-use Rattle.lending.proofs.clear.Lts as lts
-use Rattle.slices.proofs.clear_bytes.Reads as clear-bytes-reads
-use Rattle.slices.proofs.clear_words.Reads as clear-words-reads
 
 -- src/lib.rt:66:5
 clear-words-requires : tie.Need-clear-words-requires

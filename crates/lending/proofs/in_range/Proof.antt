@@ -2,8 +2,6 @@ use Rattle.lending.proofs.Admitted.{steps-out, shapes-out, entries-out,
 use borrow.Author.Needs.{needs}
 use Rattle.lending.proofs.in_range.Statement.{statement}
 use Rattle.lending.proofs.in_range.Tie as tie
-use Rattle.lending.proofs.in_range.Reads as reads
-use Rattle.lending.proofs.in_range.Lts as lts
 
 -- src/lib.rt:14:21
 element-copy-out-if1 : tie.Need-element-copy-out-if1

@@ -2,10 +2,6 @@ use Rattle.lending.proofs.Admitted.{out-of-range, is-in-range, few-toke
 use borrow.Author.Needs.{needs}
 use Rattle.lending.proofs.is_enough.Statement.{statement}
 use Rattle.lending.proofs.is_enough.Tie as tie
-use Rattle.lending.proofs.is_enough.Reads as reads
-use Rattle.lending.proofs.is_enough.Lts as lts
-use Rattle.lending.proofs.in_range.Reads as in-range-reads
-use Rattle.lending.proofs.words_needed.Reads as words-needed-reads
 
 -- src/lib.rt:44:9
 in-range-requires : tie.Need-in-range-requires

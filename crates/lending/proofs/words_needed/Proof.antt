@@ -2,8 +2,6 @@ use Rattle.lending.proofs.Admitted.{shapes-fit, shapes-end-fits, entrie
 use borrow.Author.Needs.{needs}
 use Rattle.lending.proofs.words_needed.Statement.{statement}
 use Rattle.lending.proofs.words_needed.Tie as tie
-use Rattle.lending.proofs.words_needed.Reads as reads
-use Rattle.lending.proofs.words_needed.Lts as lts
 
 -- src/lib.rt:31:17
 element-copy-out-result : tie.Need-element-copy-out-result

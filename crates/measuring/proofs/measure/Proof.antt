@@ -2,11 +2,6 @@ use Rattle.measuring.proofs.Ways.{measure-refused, measure-ready, measu
 use borrow.Author.Needs.{needs}
 use Rattle.measuring.proofs.measure.Statement.{statement}
 use Rattle.measuring.proofs.measure.Tie as tie
-use Rattle.measuring.proofs.measure.Reads as reads
-use Rattle.measuring.proofs.measure.Lts as lts
-use Rattle.measuring.proofs.measure_lent.Reads as measure-lent-reads
-use Rattle.lending.proofs.clear.Reads as clear-reads
-use Rattle.lending.proofs.is_enough.Reads as is-enough-reads
 
 -- src/lib.rt:28:9
 is-enough-requires : tie.Need-is-enough-requires

@@ -2,11 +2,6 @@ use Rattle.measuring.proofs.Ways.{lent-number, lent-drawable, lent-pict
 use borrow.Author.Needs.{needs}
 use Rattle.measuring.proofs.measure_lent.Statement.{statement}
 use Rattle.measuring.proofs.measure_lent.Tie as tie
-use Rattle.measuring.proofs.measure_lent.Reads as reads
-use Rattle.measuring.proofs.measure_lent.Lts as lts
-use Rattle.running.proofs.run.Reads as run-reads
-use Rattle.scene.proofs.picture_length.Reads as picture-length-reads
-use Rattle.stores.proofs.words.word_at.Reads as word-at-reads
 
 -- src/lib.rt:50:11
 run-requires : tie.Need-run-requires

@@ -2,9 +2,6 @@ use Rattle.plain.proofs.Laws.{act-done, act-stops}
 use borrow.Author.Needs.{needs}
 use Rattle.plain.proofs.act.Statement.{statement}
 use Rattle.plain.proofs.act.Tie as tie
-use Rattle.plain.proofs.act.Reads as reads
-use Rattle.plain.proofs.act.Lts as lts
-use Rattle.plain.proofs.value.Reads as value-reads
 
 -- src/lib.rt:249:11
 value-requires : tie.Need-value-requires

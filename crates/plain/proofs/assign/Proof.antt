@@ -2,11 +2,6 @@ use Rattle.plain.proofs.Laws.{assign-fast, assign-slow, still-starts}
 use borrow.Author.Needs.{needs}
 use Rattle.plain.proofs.assign.Statement.{statement}
 use Rattle.plain.proofs.assign.Tie as tie
-use Rattle.plain.proofs.assign.Reads as reads
-use Rattle.plain.proofs.assign.Lts as lts
-use Rattle.plain.proofs.assign_evaluated.Reads as assign-evaluated-reads
-use Rattle.plain.proofs.put_word.Reads as put-word-reads
-use Rattle.fastpath.proofs.fast_value.Reads as fast-value-reads
 
 -- src/lib.rt:151:55
 add-fast-value : tie.Need-add-fast-value

@@ -2,12 +2,6 @@ use Rattle.plain.proofs.Laws.{assign-copy, assign-plain, assign-stops}
 use borrow.Author.Needs.{needs}
 use Rattle.plain.proofs.assign_evaluated.Statement.{statement}
 use Rattle.plain.proofs.assign_evaluated.Tie as tie
-use Rattle.plain.proofs.assign_evaluated.Reads as reads
-use Rattle.plain.proofs.assign_evaluated.Lts as lts
-use Rattle.plain.proofs.put_copy.Reads as put-copy-reads
-use Rattle.plain.proofs.put_word.Reads as put-word-reads
-use Rattle.plain.proofs.value.Reads as value-reads
-use Rattle.values.proofs.pack.Reads as pack-reads
 
 -- src/lib.rt:121:11
 value-requires : tie.Need-value-requires

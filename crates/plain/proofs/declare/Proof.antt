@@ -2,9 +2,6 @@ use Rattle.plain.proofs.Laws.{declared-before, declared-now}
 use borrow.Author.Needs.{needs}
 use Rattle.plain.proofs.declare.Statement.{statement}
 use Rattle.plain.proofs.declare.Tie as tie
-use Rattle.plain.proofs.declare.Reads as reads
-use Rattle.plain.proofs.declare.Lts as lts
-use Rattle.stores.proofs.variables.declare.Reads as declare-reads
 
 -- src/lib.rt:70:9
 declare-requires : tie.Need-declare-requires

@@ -2,9 +2,6 @@ use Rattle.plain.proofs.Laws.{given-back, return-stops}
 use borrow.Author.Needs.{needs}
 use Rattle.plain.proofs.give_back.Statement.{statement}
 use Rattle.plain.proofs.give_back.Tie as tie
-use Rattle.plain.proofs.give_back.Reads as reads
-use Rattle.plain.proofs.give_back.Lts as lts
-use Rattle.plain.proofs.value.Reads as value-reads
 
 -- src/lib.rt:229:11
 value-requires : tie.Need-value-requires

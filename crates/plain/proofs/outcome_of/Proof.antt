@@ -2,9 +2,6 @@ use Rattle.plain.proofs.Laws.{no-truth, says-yes, says-no}
 use borrow.Author.Needs.{needs}
 use Rattle.plain.proofs.outcome_of.Statement.{statement}
 use Rattle.plain.proofs.outcome_of.Tie as tie
-use Rattle.plain.proofs.outcome_of.Reads as reads
-use Rattle.plain.proofs.outcome_of.Lts as lts
-use Rattle.values.proofs.truth_of.Reads as truth-of-reads
 
 -- src/lib.rt:339:9
 returns : tie.Need-returns

@@ -2,13 +2,6 @@ use Rattle.plain.proofs.Laws.{unknown-copy, copy-put, no-copy}
 use borrow.Author.Needs.{needs}
 use Rattle.plain.proofs.put_copy.Statement.{statement}
 use Rattle.plain.proofs.put_copy.Tie as tie
-use Rattle.plain.proofs.put_copy.Reads as reads
-use Rattle.plain.proofs.put_copy.Lts as lts
-use Rattle.stores.proofs.shapes.figure_at.Reads as figure-at-reads
-use Rattle.stores.proofs.shapes.new_shape.Reads as new-shape-reads
-use Rattle.stores.proofs.variables.is_declared.Reads as is-declared-reads
-use Rattle.stores.proofs.variables.set_variable.Reads as set-variable-reads
-use Rattle.values.proofs.pack.Reads as pack-reads
 
 -- src/lib.rt:94:9
 is-declared-requires : tie.Need-is-declared-requires

@@ -2,10 +2,6 @@ use Rattle.plain.proofs.Laws.{unknown-word, word-put}
 use borrow.Author.Needs.{needs}
 use Rattle.plain.proofs.put_word.Statement.{statement}
 use Rattle.plain.proofs.put_word.Tie as tie
-use Rattle.plain.proofs.put_word.Reads as reads
-use Rattle.plain.proofs.put_word.Lts as lts
-use Rattle.stores.proofs.variables.is_declared.Reads as is-declared-reads
-use Rattle.stores.proofs.variables.set_variable.Reads as set-variable-reads
 
 -- src/lib.rt:82:9
 is-declared-requires : tie.Need-is-declared-requires

@@ -2,11 +2,6 @@ use Rattle.plain.proofs.Laws.{test-fast, test-slow, still-starts}
 use borrow.Author.Needs.{needs}
 use Rattle.plain.proofs.test.Statement.{statement}
 use Rattle.plain.proofs.test.Tie as tie
-use Rattle.plain.proofs.test.Reads as reads
-use Rattle.plain.proofs.test.Lts as lts
-use Rattle.plain.proofs.outcome_of.Reads as outcome-of-reads
-use Rattle.plain.proofs.test_evaluated.Reads as test-evaluated-reads
-use Rattle.fastpath.proofs.fast_value.Reads as fast-value-reads
 
 -- src/lib.rt:361:55
 add-fast-value : tie.Need-add-fast-value

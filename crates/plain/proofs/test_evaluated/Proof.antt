@@ -2,9 +2,6 @@ use Rattle.plain.proofs.Laws.{test-yes, test-no, test-other, value-stop
 use borrow.Author.Needs.{needs}
 use Rattle.plain.proofs.test_evaluated.Statement.{statement}
 use Rattle.plain.proofs.test_evaluated.Tie as tie
-use Rattle.plain.proofs.test_evaluated.Reads as reads
-use Rattle.plain.proofs.test_evaluated.Lts as lts
-use Rattle.plain.proofs.value.Reads as value-reads
 
 -- src/lib.rt:270:11
 value-requires : tie.Need-value-requires

@@ -3,10 +3,6 @@ use Rattle.evaluator.proofs.Kept.{valid-counted}
 use borrow.Author.Needs.{needs}
 use Rattle.plain.proofs.turn.Statement.{statement}
 use Rattle.plain.proofs.turn.Tie as tie
-use Rattle.plain.proofs.turn.Reads as reads
-use Rattle.plain.proofs.turn.Lts as lts
-use Rattle.plain.proofs.test.Reads as test-reads
-use Rattle.stores.proofs.counters.count.Reads as count-reads
 
 -- src/lib.rt:298:9
 count-requires : tie.Need-count-requires

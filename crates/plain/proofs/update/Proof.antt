@@ -3,11 +3,6 @@ use Rattle.evaluator.proofs.Kept.{valid-evaluated}
 use borrow.Author.Needs.{needs}
 use Rattle.plain.proofs.update.Statement.{statement}
 use Rattle.plain.proofs.update.Tie as tie
-use Rattle.plain.proofs.update.Reads as reads
-use Rattle.plain.proofs.update.Lts as lts
-use Rattle.plain.proofs.before.Reads as before-reads
-use Rattle.plain.proofs.update_in.Reads as update-in-reads
-use Rattle.plain.proofs.value.Reads as value-reads
 
 -- src/lib.rt:202:67
 before-requires : tie.Need-before-requires

@@ -3,12 +3,6 @@ use Rattle.evaluator.proofs.Kept.{valid-evaluated}
 use borrow.Author.Needs.{needs}
 use Rattle.plain.proofs.update_in.Statement.{statement}
 use Rattle.plain.proofs.update_in.Tie as tie
-use Rattle.plain.proofs.update_in.Reads as reads
-use Rattle.plain.proofs.update_in.Lts as lts
-use Rattle.plain.proofs.before.Reads as before-reads
-use Rattle.plain.proofs.update_value.Reads as update-value-reads
-use Rattle.plain.proofs.value.Reads as value-reads
-use Rattle.values.proofs.pack.Reads as pack-reads
 
 -- src/lib.rt:179:54
 before-requires : tie.Need-before-requires

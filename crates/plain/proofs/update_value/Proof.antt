@@ -4,11 +4,6 @@ use Rattle.invariant.proofs.Keeping.{looks}
 use borrow.Author.Needs.{needs}
 use Rattle.plain.proofs.update_value.Statement.{statement}
 use Rattle.plain.proofs.update_value.Tie as tie
-use Rattle.plain.proofs.update_value.Reads as reads
-use Rattle.plain.proofs.update_value.Lts as lts
-use Rattle.plain.proofs.value.Reads as value-reads
-use Rattle.tables.proofs.entries.store_entry.Reads as store-entry-reads
-use Rattle.values.proofs.pack.Reads as pack-reads
 
 -- src/lib.rt:153:11
 value-requires : tie.Need-value-requires

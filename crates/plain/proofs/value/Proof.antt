@@ -1,9 +1,6 @@
 use borrow.Author.Needs.{needs}
 use Rattle.plain.proofs.value.Statement.{statement}
 use Rattle.plain.proofs.value.Tie as tie
-use Rattle.plain.proofs.value.Reads as reads
-use Rattle.plain.proofs.value.Lts as lts
-use Rattle.evaluator.proofs.evaluate.Reads as evaluate-reads
 
 -- src/lib.rt:61:70
 add-evaluate : tie.Need-add-evaluate

@@ -2,12 +2,6 @@ use Rattle.primaries.proofs.Laws.{library-called, library-stops}
 use borrow.Author.Needs.{needs}
 use Rattle.primaries.proofs.called.Statement.{statement}
 use Rattle.primaries.proofs.called.Tie as tie
-use Rattle.primaries.proofs.called.Reads as reads
-use Rattle.primaries.proofs.called.Lts as lts
-use Rattle.primaries.proofs.less_word.Reads as less-word-reads
-use Rattle.library.proofs.call_library.Reads as call-library-reads
-use Rattle.stores.proofs.arguments.arguments_held.Reads as arguments-held-reads
-use Rattle.stores.proofs.arguments.drop_to.Reads as drop-to-reads
 
 -- src/lib.rt:90:23
 arguments-held-requires : tie.Need-arguments-held-requires

@@ -2,10 +2,6 @@ use Rattle.primaries.proofs.Laws.{named}
 use borrow.Author.Needs.{needs}
 use Rattle.primaries.proofs.name.Statement.{statement}
 use Rattle.primaries.proofs.name.Tie as tie
-use Rattle.primaries.proofs.name.Reads as reads
-use Rattle.primaries.proofs.name.Lts as lts
-use Rattle.primaries.proofs.index_of.Reads as index-of-reads
-use Rattle.stores.proofs.variables.variable.Reads as variable-reads
 
 -- src/lib.rt:69:51
 index-of-requires : tie.Need-index-of-requires

@@ -2,10 +2,6 @@ use Rattle.primaries.proofs.Laws.{negative-size, new-table}
 use borrow.Author.Needs.{needs}
 use Rattle.primaries.proofs.new_table.Statement.{statement}
 use Rattle.primaries.proofs.new_table.Tie as tie
-use Rattle.primaries.proofs.new_table.Reads as reads
-use Rattle.primaries.proofs.new_table.Lts as lts
-use Rattle.arithmetic.proofs.is_negative.Reads as is-negative-reads
-use Rattle.stores.proofs.counters.new_table.Reads as new-table-reads
 
 -- src/lib.rt:78:8
 is-negative-requires : tie.Need-is-negative-requires

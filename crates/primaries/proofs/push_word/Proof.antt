@@ -2,9 +2,6 @@ use Rattle.primaries.proofs.Laws.{word-refused, word-pushed}
 use borrow.Author.Needs.{needs}
 use Rattle.primaries.proofs.push_word.Statement.{statement}
 use Rattle.primaries.proofs.push_word.Tie as tie
-use Rattle.primaries.proofs.push_word.Reads as reads
-use Rattle.primaries.proofs.push_word.Lts as lts
-use Rattle.stores.proofs.arguments.push.Reads as push-reads
 
 push-requires : tie.Need-push-requires
 push-requires c κs = search needs

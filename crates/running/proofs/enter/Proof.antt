@@ -2,11 +2,6 @@ use borrow.Author.Needs.{needs}
 use Rattle.running.proofs.Ways.{first-refused, second-refused, both-entered}
 use Rattle.running.proofs.enter.Statement.{statement}
 use Rattle.running.proofs.enter.Tie as tie
-use Rattle.running.proofs.enter.Reads as reads
-use Rattle.running.proofs.enter.Lts as lts
-use Rattle.stores.proofs.variables.declare.Reads as declare-reads
-use Rattle.stores.proofs.variables.set_variable.Reads as set-variable-reads
-use Rattle.values.proofs.pack.Reads as pack-reads
 
 -- src/lib.rt:34:9
 declare-requires : tie.Need-declare-requires

@@ -1,8 +1,6 @@
 use Rattle.running.proofs.Ways.{sheet-if, no-sheet-if}
 use Rattle.running.proofs.is_sheet.Statement.{statement}
 use Rattle.running.proofs.is_sheet.Tie as tie
-use Rattle.running.proofs.is_sheet.Reads as reads
-use Rattle.running.proofs.is_sheet.Lts as lts
 
 -- src/lib.rt:23:1
 returns : tie.Need-returns

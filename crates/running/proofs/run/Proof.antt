@@ -2,11 +2,6 @@ use Rattle.running.proofs.Ways.{run-no-sheet, run-too-long, run-ready, 
 use borrow.Author.Needs.{needs}
 use Rattle.running.proofs.run.Statement.{statement}
 use Rattle.running.proofs.run.Tie as tie
-use Rattle.running.proofs.run.Reads as reads
-use Rattle.running.proofs.run.Lts as lts
-use Rattle.running.proofs.is_sheet.Reads as is-sheet-reads
-use Rattle.running.proofs.run_read.Reads as run-read-reads
-use Rattle.slices.proofs.clear_words.Reads as clear-words-reads
 
 -- src/lib.rt:133:5
 clear-words-requires : tie.Need-clear-words-requires

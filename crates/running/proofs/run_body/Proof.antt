@@ -2,10 +2,6 @@ use borrow.Author.Needs.{needs}
 use Rattle.running.proofs.Ways.{not-entered, body-entered, body-onward, body-returned, body-stopped}
 use Rattle.running.proofs.run_body.Statement.{statement}
 use Rattle.running.proofs.run_body.Tie as tie
-use Rattle.running.proofs.run_body.Reads as reads
-use Rattle.running.proofs.run_body.Lts as lts
-use Rattle.executor.proofs.execute_body.Reads as execute-body-reads
-use Rattle.running.proofs.enter.Reads as enter-reads
 
 -- src/lib.rt:62:9
 enter-requires : tie.Need-enter-requires

@@ -2,11 +2,6 @@ use Rattle.running.proofs.Ways.{way-malformed, way-parameters, way-star
 use borrow.Author.Needs.{needs}
 use Rattle.running.proofs.run_read.Statement.{statement}
 use Rattle.running.proofs.run_read.Tie as tie
-use Rattle.running.proofs.run_read.Reads as reads
-use Rattle.running.proofs.run_read.Lts as lts
-use Rattle.reader.proofs.read.Reads as read-reads
-use Rattle.running.proofs.run_body.Reads as run-body-reads
-use Rattle.running.proofs.within.Reads as within-reads
 
 -- src/lib.rt:94:11
 read-requires : tie.Need-read-requires

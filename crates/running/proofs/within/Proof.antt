@@ -1,8 +1,6 @@
 use Rattle.running.proofs.Ways.{less-within, all-within}
 use Rattle.running.proofs.within.Statement.{statement}
 use Rattle.running.proofs.within.Tie as tie
-use Rattle.running.proofs.within.Reads as reads
-use Rattle.running.proofs.within.Lts as lts
 
 -- src/lib.rt:73:1
 returns : tie.Need-returns

@@ -4,10 +4,6 @@ use mathlib.Core.Path.{refl}
 use borrow.Author.Needs.{needs}
 use Rattle.imgdraw.proofs.draw.draw_program.Statement.{statement}
 use Rattle.imgdraw.proofs.draw.draw_program.Tie as tie
-use Rattle.imgdraw.proofs.draw.draw_program.Reads as reads
-use Rattle.imgdraw.proofs.draw.draw_program.Lts as lts
-use Rattle.drawing.proofs.draw.Reads as draw-reads
-use Rattle.imgdraw.proofs.draw.put_answer.Reads as put-answer-reads
 
 -- src/draw.rt:42:9
 slice-aggregate-draw : tie.Need-slice-aggregate-draw
