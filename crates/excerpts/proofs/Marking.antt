@@ -13,6 +13,7 @@ use lib.Seq.{take-suc, take-all}
 use Rattle.meaning.specs.Basics.{bytes, span, laidOver}
 use Rattle.writing.specs.Placed.{laidAt, WroteAt}
 use Rattle.writing.proofs.Laying.{length-at, saturated-small}
+use Rattle.writing.proofs.Laying.{then as joined}
 use Rattle.numerals.proofs.Spans.{span-le}
 use Rattle.excerpts.specs.Excerpts.{glyphOf, glyphsOf, optional, inLine, shownLine, markLine, excerptOf, Around}
 

@@ -13,6 +13,7 @@ use Rattle.meaning.specs.Basics.{if_then_else_}
 use Rattle.meaning.specs.Picture.{digitsWithin, digitsOf}
 use Rattle.io.specs.Digits.{digits, glyph, Fewest}
 use Rattle.writing.proofs.Decimals.{tens-positive}
+use Rattle.writing.proofs.Laying.{then as joined}
 use Rattle.writing.specs.Placed.{WroteAt}
 use Rattle.numerals.specs.Numbers.{NumberAt}
 

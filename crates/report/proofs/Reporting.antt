@@ -15,6 +15,7 @@ use Rattle.answers.specs.declared.Answer.the-variants.{Picture, Number}
 use Rattle.answers.specs.Answers.{meant}
 use Rattle.writing.specs.Placed.{Wrote, WroteAt}
 use Rattle.writing.proofs.Laying.{from-front}
+use Rattle.writing.proofs.Laying.{then as joined}
 use Rattle.numerals.specs.Numbers.{NumberAt}
 use Rattle.excerpts.specs.Excerpts.{optional, excerptOf, Around}
 use Rattle.excerpts.proofs.Marking.{wrote-wanted, wrote-unwanted, length-optional, length-excerpt}

@@ -7,6 +7,7 @@ use lib.ListN.{length, length-append}
 use Rattle.meaning.specs.Basics.{bytes}
 use Rattle.writing.specs.Placed.{WroteAt}
 use Rattle.writing.proofs.Laying.{from-front}
+use Rattle.writing.proofs.Laying.{then as joined}
 use Rattle.numerals.specs.Numbers.{NumberAt}
 use Rattle.sheet.specs.Errors.{errorLine, ErrorWritten}
 
