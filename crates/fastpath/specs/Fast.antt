@@ -26,7 +26,7 @@ plainWord u =
     else λ _. if eqb (kindIn u) 3 then (λ _. u % 16)
     else λ _. 0
 
--- by the word of the code, whose lower half is 1 + 256 for a number and 5 + 256 for a name: the tag and a size of 1
+-- by the word of the code, whose lower half is 1 + 256 for a number and 5 + 256 for a name: the tag and a size of 1; the number above has 32 bits
 unfoldable pub leafWord : List ℕ → ℕ → ℕ
 leafWord ws w =
     if eqb (w % 2 ^ 32) 257 then (λ _. if ltb (numberIn w) (2 ^ 32) then (λ _. 1 + 8 * numberIn w) else λ _. 0)
