@@ -18,6 +18,9 @@
 #include <stddef.h>
 #include <stdint.h>
 
+/* The version of the library, its header and the programs. */
+#define IMG_VERSION "0.1.0"
+
 #ifdef __cplusplus
 extern "C" {
 #endif
@@ -39,8 +42,11 @@ extern "C" {
 /* The most bytes that a program may have; more gives the number 73. */
 #define IMG_MOST_PROGRAM ((size_t)32768)
 
+/* A call needs less stack than this many bytes. */
+#define IMG_STACK ((size_t)98304)
+
 /* An answer has four words. A function writes as many as `answer` has room
- * for. */
+ * for, and returns the number whether or not there is room. */
 #define IMG_ANSWER ((size_t)4)
 enum {
     IMG_NUMBER = 0, /* 0: a picture, or well formed; else 10 to 80 */
@@ -49,36 +55,82 @@ enum {
     IMG_LENGTH = 3  /* the picture's length; with 80 the length it needs */
 };
 
-/* Says whether a program is well formed. */
-void img_check(const uint8_t *program, size_t program_length,
-               uint64_t *tokens, size_t tokens_length,
-               uint64_t *code, size_t code_length,
-               uint64_t *answer, size_t answer_length);
+/* Says whether a program is well formed. Nothing is taken of the counts; they
+ * are only asked about their ranges. */
+uint64_t img_check(const uint8_t *program, size_t program_length,
+                   uint64_t steps, uint64_t shapes,
+                   uint64_t entries, uint64_t text_bytes,
+                   uint64_t *tokens, size_t tokens_length,
+                   uint64_t *code, size_t code_length,
+                   uint64_t *answer, size_t answer_length);
 
 /* Runs a program and tells how long its picture is. */
-void img_measure(const uint8_t *program, size_t program_length,
-                 int32_t width, int32_t height,
-                 uint64_t steps, uint64_t shapes,
-                 uint64_t entries, uint64_t text_bytes,
-                 uint64_t *tokens, size_t tokens_length,
-                 uint64_t *code, size_t code_length,
-                 uint64_t *words, size_t words_length,
-                 uint8_t *texts, size_t texts_length,
-                 uint64_t *answer, size_t answer_length);
+uint64_t img_measure(const uint8_t *program, size_t program_length,
+                     int32_t width, int32_t height,
+                     uint64_t steps, uint64_t shapes,
+                     uint64_t entries, uint64_t text_bytes,
+                     uint64_t *tokens, size_t tokens_length,
+                     uint64_t *code, size_t code_length,
+                     uint64_t *words, size_t words_length,
+                     uint8_t *texts, size_t texts_length,
+                     uint64_t *answer, size_t answer_length);
 
 /* Runs a program and writes its picture to the front of `out`. Bytes of `out`
  * behind the picture stay as they were, and so does all of `out` after a
  * number. */
-void img_draw(const uint8_t *program, size_t program_length,
-              int32_t width, int32_t height,
-              uint64_t steps, uint64_t shapes,
-              uint64_t entries, uint64_t text_bytes,
-              uint64_t *tokens, size_t tokens_length,
-              uint64_t *code, size_t code_length,
-              uint64_t *words, size_t words_length,
-              uint8_t *texts, size_t texts_length,
-              uint8_t *out, size_t out_length,
-              uint64_t *answer, size_t answer_length);
+uint64_t img_draw(const uint8_t *program, size_t program_length,
+                  int32_t width, int32_t height,
+                  uint64_t steps, uint64_t shapes,
+                  uint64_t entries, uint64_t text_bytes,
+                  uint64_t *tokens, size_t tokens_length,
+                  uint64_t *code, size_t code_length,
+                  uint64_t *words, size_t words_length,
+                  uint8_t *texts, size_t texts_length,
+                  uint8_t *out, size_t out_length,
+                  uint64_t *answer, size_t answer_length);
+
+/* What a number says, in plain words; tools/numbers writes these lines. */
+static inline const char *img_sentence(uint64_t number)
+{
+    switch (number) {
+    case 10:
+        return "the drawing is not written as the language asks from here on";
+    case 20:
+        return "a value is of the wrong kind, the procedure is not known, it has too few or too many arguments, or a table has no such key";
+    case 30:
+        return "a shape is used that `destroyShape` or `clearScene` destroyed";
+    case 40:
+        return "a table is made with a negative size";
+    case 50:
+        return "a variable is used that is not declared by then";
+    case 60:
+        return "a variable is declared a second time";
+    case 70:
+        return "a division, or a remainder, by 0";
+    case 71:
+        return "a slice is too short, or a granted count is out of its range";
+    case 72:
+        return "width and height are not both at least 1, or the sheet's first line is not `width height`";
+    case 73:
+        return "the drawing has more than 32,768 bytes";
+    case 74:
+        return "the drawing has more than 8,192 tokens (names, numbers, signs); this is the first one too many";
+    case 75:
+        return "this opens a 65th level of brackets and bodies, and there are 64";
+    case 76:
+        return "no shape is left of those granted";
+    case 77:
+        return "no table entry is left of those granted";
+    case 78:
+        return "too few bytes for joined strings are left of those granted";
+    case 79:
+        return "no step is left of those granted";
+    case 80:
+        return "the picture is longer than the place lent for it";
+    default:
+        return "there is no such number";
+    }
+}
 
 /* When a function returns, all of each work slice (tokens, code, words, texts)
  * holds zeros; only after 71 each is as it was. */

@@ -1,8 +1,8 @@
 /* Draws one IMG program: draw WIDTH HEIGHT FILE
  *
  * The picture goes to standard output. If there is none, `error N at P` goes
- * there instead, N the number and P the byte of the file that it names, and
- * the exit status is 1. It is 2 if the call is wrong or the file or the output
+ * there instead, N the number and P the byte of the file that it names; what
+ * the number says goes to standard error, and the exit status is 1. It is 2 if the call is wrong or the file or the output
  * fails. Grants and the longest picture are those of imgdraw.
  */
 #include <errno.h>
@@ -67,22 +67,24 @@ int main(int count, char **arguments)
     }
 
     uint64_t answer[IMG_ANSWER];
-    img_draw(program, length, width, height,
-             STEPS, SHAPES, ENTRIES, TEXT_BYTES,
-             tokens, sizeof tokens / sizeof tokens[0],
-             code, sizeof code / sizeof code[0],
-             words, sizeof words / sizeof words[0],
-             texts, sizeof texts,
-             out, sizeof out,
-             answer, IMG_ANSWER);
+    uint64_t number = img_draw(program, length, width, height,
+                               STEPS, SHAPES, ENTRIES, TEXT_BYTES,
+                               tokens, sizeof tokens / sizeof tokens[0],
+                               code, sizeof code / sizeof code[0],
+                               words, sizeof words / sizeof words[0],
+                               texts, sizeof texts,
+                               out, sizeof out,
+                               answer, IMG_ANSWER);
 
-    if (answer[IMG_NUMBER] == 0)
+    if (number == 0) {
         fwrite(out, 1, (size_t)answer[IMG_LENGTH], stdout);
-    else
-        printf("error %" PRIu64 " at %" PRIu64 "\n", answer[IMG_NUMBER], answer[IMG_PLACE]);
+    } else {
+        printf("error %" PRIu64 " at %" PRIu64 "\n", number, answer[IMG_PLACE]);
+        fprintf(stderr, "%s: %s\n", arguments[3], img_sentence(number));
+    }
     if (fflush(stdout) != 0 || ferror(stdout)) {
         fprintf(stderr, "standard output cannot be written\n");
         return 2;
     }
-    return answer[IMG_NUMBER] == 0 ? 0 : 1;
+    return number == 0 ? 0 : 1;
 }

@@ -30,11 +30,23 @@
 //! assert_eq!(out, [7; 1_000]);
 //! ```
 
-mod raw;
+pub mod ffi;
+pub mod numbers;
 mod refusal;
 
 pub use refusal::Refusal;
 
+/// The lines of Rust that the README shows are run as tests.
+#[cfg(doctest)]
+#[doc = include_str!("../../README.md")]
+struct Readme;
+
+/// The version of the library, its header, the programs and this crate.
+pub const VERSION: &str = env!("CARGO_PKG_VERSION");
+/// A call needs less stack than this many bytes.
+pub const STACK: usize = 98_304;
+/// The most bytes that a program may have.
+pub const MOST_PROGRAM: usize = 32_768;
 /// How many words the slice for tokens must have.
 pub const TOKENS: usize = 8_193;
 /// How many words the slice for code must have.
@@ -120,7 +132,8 @@ impl Workspace {
         self.grants
     }
 
-    /// Says whether a program is well formed. It is not run, so grants, width and height do not matter.
+    /// Says whether a program is well formed. It is not run, so width and height do not matter, nor does what is granted, as long as each count is in its
+    /// range.
     ///
     /// ```
     /// # use img::{Grants, Workspace};
@@ -132,19 +145,23 @@ impl Workspace {
     pub fn check(&mut self, program: &[u8]) -> Result<(), Refusal> {
         let mut answer = [0; 4];
         // SAFETY: each pointer and length is that of one slice, the slices do not overlap, and the library is proved to read and write within them.
-        unsafe {
-            raw::img_check(
+        let number = unsafe {
+            ffi::img_check(
                 program.as_ptr(),
                 program.len(),
+                self.grants.steps,
+                self.grants.shapes,
+                self.grants.entries,
+                self.grants.text_bytes,
                 self.tokens.as_mut_ptr(),
                 self.tokens.len(),
                 self.code.as_mut_ptr(),
                 self.code.len(),
                 answer.as_mut_ptr(),
                 answer.len(),
-            );
-        }
-        told(answer).map(|_| ())
+            )
+        };
+        told(number, answer).map(|_| ())
     }
 
     /// Runs a program and tells the length of its picture.
@@ -161,8 +178,8 @@ impl Workspace {
     pub fn measure(&mut self, program: &[u8], width: i32, height: i32) -> Result<Picture, Refusal> {
         let mut answer = [0; 4];
         // SAFETY: as in `check`.
-        unsafe {
-            raw::img_measure(
+        let number = unsafe {
+            ffi::img_measure(
                 program.as_ptr(),
                 program.len(),
                 width,
@@ -181,9 +198,9 @@ impl Workspace {
                 self.texts.len(),
                 answer.as_mut_ptr(),
                 answer.len(),
-            );
-        }
-        told(answer)
+            )
+        };
+        told(number, answer)
     }
 
     /// Runs a program and draws its picture into the front of `out`. The bytes behind it stay as they were; after a refusal all of `out` does.
@@ -196,8 +213,8 @@ impl Workspace {
     ) -> Result<Picture, Refusal> {
         let mut answer = [0; 4];
         // SAFETY: as in `check`.
-        unsafe {
-            raw::img_draw(
+        let number = unsafe {
+            ffi::img_draw(
                 program.as_ptr(),
                 program.len(),
                 width,
@@ -218,14 +235,15 @@ impl Workspace {
                 out.len(),
                 answer.as_mut_ptr(),
                 answer.len(),
-            );
-        }
-        told(answer)
+            )
+        };
+        told(number, answer)
     }
 }
 
-/// An answer's four words as a result. The library is for x86-64, where a `usize` has as many bits as they.
-fn told([number, place, steps, length]: [u64; 4]) -> Result<Picture, Refusal> {
+/// The number returned and the answer's four words, the first of which is that number again, as a result. The library is for x86-64, where a `usize` has as
+/// many bits as they.
+fn told(number: u64, [_, place, steps, length]: [u64; 4]) -> Result<Picture, Refusal> {
     let length = length as usize;
     if number == 0 {
         return Ok(Picture { length, steps });

@@ -1,5 +1,6 @@
 //! Why there is no picture.
 
+use crate::numbers;
 use std::error::Error;
 use std::fmt;
 
@@ -19,30 +20,16 @@ pub struct Refusal {
 impl Refusal {
     /// What the number means, in plain words.
     pub fn sentence(&self) -> &'static str {
-        match self.number {
-            10 => "the program is not written as the grammar asks from here on",
-            20 => "a value, a procedure, its number of arguments or a key does not fit here",
-            30 => "a shape is used that was destroyed",
-            40 => "a table's size is negative",
-            50 => "a variable is used that is not declared",
-            60 => "a variable is declared that is declared already",
-            70 => "a division by 0",
-            71 => "a work slice is too short, or a granted count is out of its range",
-            72 => "width and height must be at least 1",
-            73 => "the program has more than 32,768 bytes",
-            74 => "the program has more than 8,192 tokens; this is the first one too many",
-            75 => "this opens a 65th level, and a program has at most 64",
-            76 => "no shape is left of those granted",
-            77 => "no table entry is left of those granted",
-            78 => "too few text bytes are left of those granted",
-            79 => "no step is left of those granted",
-            80 => "the picture is longer than the place lent for it",
-            _ => "the library gave a number that is not known here",
-        }
+        numbers::sentence(self.number).unwrap_or("the library gave a number that is not known here")
+    }
+
+    /// What to do about it in the drawing.
+    pub fn help(&self) -> &'static str {
+        numbers::help(self.number).unwrap_or("nothing is known about it")
     }
 }
 
-/// For example `error 50 at 14: a variable is used that is not declared`.
+/// For example `error 50 at 14: a variable is used that is not declared by then`.
 impl fmt::Display for Refusal {
     fn fmt(&self, f: &mut fmt::Formatter<'_>) -> fmt::Result {
         write!(

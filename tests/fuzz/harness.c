@@ -32,16 +32,7 @@
 #define IS_KNOWN(bytes, size) 1
 #endif
 
-void img_check(const uint8_t *program, size_t program_length, uint64_t *tokens, size_t tokens_length, uint64_t *code,
-               size_t code_length, uint64_t *answer, size_t answer_length);
-void img_measure(const uint8_t *program, size_t program_length, int32_t width, int32_t height, uint64_t steps, uint64_t shapes,
-                 uint64_t entries, uint64_t bytes, uint64_t *tokens, size_t tokens_length, uint64_t *code, size_t code_length,
-                 uint64_t *words, size_t words_length, uint8_t *texts, size_t texts_length, uint64_t *answer,
-                 size_t answer_length);
-void img_draw(const uint8_t *program, size_t program_length, int32_t width, int32_t height, uint64_t steps, uint64_t shapes,
-              uint64_t entries, uint64_t bytes, uint64_t *tokens, size_t tokens_length, uint64_t *code, size_t code_length,
-              uint64_t *words, size_t words_length, uint8_t *texts, size_t texts_length, uint8_t *out, size_t out_length,
-              uint64_t *answer, size_t answer_length);
+#include "../../include/img.h"
 
 enum { HEAD = 26, LONGER = 5, MOST_STEPS = 250000, MOST_OUT = 262144, MOST_PROGRAM = 65536, PROGRAM_BYTES = 32768 };
 enum { CHECKING, MEASURING, DRAWING };
@@ -254,22 +245,25 @@ static void one(const uint8_t *input, size_t input_length) {
     uint64_t *w = (uint64_t *)words.bytes;
     uint64_t *answer = (uint64_t *)answer_at.bytes;
 
+    uint64_t returned;
     if (operation == CHECKING) {
-        img_check(program.bytes, program_length, t, lent[0], c, lent[1], answer, 4);
+        returned =
+            img_check(program.bytes, program_length, steps, shapes, entries, bytes, t, lent[0], c, lent[1], answer, 4);
     } else if (operation == MEASURING) {
-        img_measure(program.bytes, program_length, width, height, steps, shapes, entries, bytes, t, lent[0], c, lent[1], w,
-                    lent[2], texts.bytes, lent[3], answer, 4);
+        returned = img_measure(program.bytes, program_length, width, height, steps, shapes, entries, bytes, t, lent[0], c,
+                               lent[1], w, lent[2], texts.bytes, lent[3], answer, 4);
     } else {
-        img_draw(program.bytes, program_length, width, height, steps, shapes, entries, bytes, t, lent[0], c, lent[1], w,
-                 lent[2], texts.bytes, lent[3], out.bytes, out_length, answer, 4);
+        returned = img_draw(program.bytes, program_length, width, height, steps, shapes, entries, bytes, t, lent[0], c,
+                            lent[1], w, lent[2], texts.bytes, lent[3], out.bytes, out_length, answer, 4);
     }
 
     ask(IS_KNOWN(answer, 32), "the answer depends on nothing that slices held");
+    ask(IS_KNOWN(&returned, sizeof returned) && returned == answer[0], "the number is returned as well");
     uint64_t number = answer[0];
     uint64_t place = answer[1];
     uint64_t length = answer[3];
     int runs = operation != CHECKING;
-    int refused = is_short[0] || is_short[1] || (runs && (is_short[2] || is_short[3] || beyond));
+    int refused = beyond || is_short[0] || is_short[1] || (runs && (is_short[2] || is_short[3]));
     int no_sheet = runs && (width < 1 || height < 1);
 
     /* The program is only read. */

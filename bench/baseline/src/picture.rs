@@ -39,18 +39,34 @@ fn shown(stores: &Stores, declared: usize) -> impl Iterator<Item = &Shape> {
     })
 }
 
+/// The numbers that a shape's line shows: no size is negative.
+fn turned(shape: &Shape) -> [i64; 4] {
+    let mut numbers = shape.numbers.map(i64::from);
+    for (start, size) in [(0, 2), (1, 3)] {
+        if numbers[size] < 0 && matches!(shape.kind, Kind::Box | Kind::Ellipse) {
+            if matches!(shape.kind, Kind::Box) {
+                numbers[start] += numbers[size];
+            }
+            numbers[size] = -numbers[size];
+        }
+    }
+    numbers
+}
+
 pub fn length(stores: &Stores, program: &[u8], width: i32, height: i32, declared: usize) -> usize {
-    let frame = HEAD.len() + digits(width) + 1 + digits(height) + REST.len() + TAIL.len();
+    let sides = digits(width.into()) + 1 + digits(height.into());
+    let frame = HEAD.len() + sides + REST.len() + TAIL.len();
     let lines = shown(stores, declared).map(|shape| {
         let parts = |parts: &[&[u8]]| parts.iter().map(|part| part.len()).sum::<usize>();
-        let numbers = |numbers: &[i32]| numbers.iter().map(|n| digits(*n)).sum::<usize>();
+        let numbers = |numbers: &[i64]| numbers.iter().map(|n| digits(*n)).sum::<usize>();
+        let shown = turned(shape);
         match shape.kind {
-            Kind::Line => parts(&LINE) + numbers(&shape.numbers),
-            Kind::Ellipse => parts(&ELLIPSE) + numbers(&shape.numbers),
-            Kind::Box => parts(&BOX) + numbers(&shape.numbers),
+            Kind::Line => parts(&LINE) + numbers(&shown),
+            Kind::Ellipse => parts(&ELLIPSE) + numbers(&shown),
+            Kind::Box => parts(&BOX) + numbers(&shown),
             Kind::Text => {
                 let text = shape.text.bytes(program, &stores.texts);
-                parts(&TEXT) + numbers(&shape.numbers[..2]) + text.len()
+                parts(&TEXT) + numbers(&shown[..2]) + text.len()
             }
         }
     });
@@ -68,20 +84,21 @@ pub fn write(
 ) {
     let mut writer = Writer { out, at: 0 };
     writer.bytes(HEAD);
-    writer.number(width);
+    writer.number(width.into());
     writer.bytes(b" ");
-    writer.number(height);
+    writer.number(height.into());
     writer.bytes(REST);
     for shape in shown(stores, declared) {
+        let numbers = turned(shape);
         match shape.kind {
-            Kind::Line => writer.element(&LINE, &shape.numbers),
-            Kind::Ellipse => writer.element(&ELLIPSE, &shape.numbers),
-            Kind::Box => writer.element(&BOX, &shape.numbers),
+            Kind::Line => writer.element(&LINE, &numbers),
+            Kind::Ellipse => writer.element(&ELLIPSE, &numbers),
+            Kind::Box => writer.element(&BOX, &numbers),
             Kind::Text => {
                 writer.bytes(TEXT[0]);
-                writer.number(shape.numbers[0]);
+                writer.number(numbers[0]);
                 writer.bytes(TEXT[1]);
-                writer.number(shape.numbers[1]);
+                writer.number(numbers[1]);
                 writer.bytes(TEXT[2]);
                 writer.bytes(shape.text.bytes(program, &stores.texts));
                 writer.bytes(TEXT[3]);
@@ -102,7 +119,7 @@ impl Writer<'_> {
         self.at += bytes.len();
     }
 
-    fn number(&mut self, number: i32) {
+    fn number(&mut self, number: i64) {
         let size = digits(number);
         let place = &mut self.out[self.at..self.at + size];
         self.at += size;
@@ -116,7 +133,7 @@ impl Writer<'_> {
         }
     }
 
-    fn element(&mut self, parts: &[&[u8]; 5], numbers: &[i32; 4]) {
+    fn element(&mut self, parts: &[&[u8]; 5], numbers: &[i64; 4]) {
         for (part, number) in parts.iter().zip(numbers) {
             self.bytes(part);
             self.number(*number);
@@ -126,7 +143,7 @@ impl Writer<'_> {
 }
 
 /// How many bytes a number has.
-fn digits(number: i32) -> usize {
+fn digits(number: i64) -> usize {
     let size = number.unsigned_abs().checked_ilog10().unwrap_or(0) + 1;
     size as usize + usize::from(number < 0)
 }

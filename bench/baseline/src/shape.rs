@@ -55,9 +55,9 @@ impl Shape {
             Operator::Subtract => Ok(self.placed(|x| x, |y| y.wrapping_sub(by))),
             Operator::ShiftRight => Ok(self.placed(|x| x.wrapping_add(by), |y| y)),
             Operator::ShiftLeft => Ok(self.placed(|x| x.wrapping_sub(by), |y| y)),
-            Operator::Multiply => Ok(self.placed(|x| x.wrapping_mul(by), |y| y.wrapping_mul(by))),
+            Operator::Multiply => Ok(self.scaled(|n| n.wrapping_mul(by))),
             Operator::Divide if by == 0 => Err(Stop(70)),
-            Operator::Divide => Ok(self.placed(|x| x.wrapping_div(by), |y| y.wrapping_div(by))),
+            Operator::Divide => Ok(self.scaled(|n| n.wrapping_div(by))),
             _ => Err(Stop(20)),
         }
     }
@@ -70,6 +70,15 @@ impl Shape {
             _ => [x(a), y(b), c, d],
         };
         Shape { numbers, ..*self }
+    }
+
+    /// Each number by a rule that gives 0 for 0.
+    #[inline(always)]
+    fn scaled(&self, rule: impl Fn(i32) -> i32) -> Shape {
+        Shape {
+            numbers: self.numbers.map(rule),
+            ..*self
+        }
     }
 
     /// Whether kind, numbers and text are the same.

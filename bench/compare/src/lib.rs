@@ -57,6 +57,20 @@ pub fn look_ups(entries: i32, times: i32) -> Drawing {
     }
 }
 
+/// 500 boxes with four numbers each, all of them the sheet's width and height.
+pub fn numbers(number: i32) -> Drawing {
+    let boxes: String = (0..500)
+        .map(|i| format!("var a{i};a{i}=drawBox(w,h,w,h);"))
+        .collect();
+    Drawing {
+        name: "numbers",
+        program: format!("def main(w,h){{{boxes}}}").leak().as_bytes(),
+        width: number,
+        height: number,
+        grants: SHEET,
+    }
+}
+
 /// A drawing by its name.
 pub fn drawing(name: &str) -> Option<Drawing> {
     match name {
@@ -64,6 +78,8 @@ pub fn drawing(name: &str) -> Option<Drawing> {
         "shapes" => Some(SHAPES),
         "few" => Some(look_ups(16, 100_000)),
         "many" => Some(look_ups(60_000, 100_000)),
+        "ten-digits" => Some(numbers(2_147_483_647)),
+        "one-digit" => Some(numbers(7)),
         _ => None,
     }
 }
@@ -96,34 +112,16 @@ impl Drawer for Baseline {
 #[cfg(ours)]
 pub use ours::Ours;
 
+/// The one declaration of the library's functions in Rust.
+#[cfg(ours)]
+#[allow(dead_code)]
+#[path = "../../../rust/src/ffi.rs"]
+mod ffi;
+
 #[cfg(ours)]
 mod ours {
+    use super::ffi::img_draw;
     use super::{Answer, Drawer, Drawing, Grants};
-
-    extern "C" {
-        fn img_draw(
-            program: *const u8,
-            program_length: usize,
-            width: i32,
-            height: i32,
-            steps: u64,
-            shapes: u64,
-            entries: u64,
-            text_bytes: u64,
-            tokens: *mut u64,
-            tokens_length: usize,
-            code: *mut u64,
-            code_length: usize,
-            words: *mut u64,
-            words_length: usize,
-            texts: *mut u8,
-            texts_length: usize,
-            out: *mut u8,
-            out_length: usize,
-            answer: *mut u64,
-            answer_length: usize,
-        );
-    }
 
     /// The proved library with its work slices.
     pub struct Ours {

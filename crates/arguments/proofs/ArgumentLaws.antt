@@ -10,14 +10,14 @@ use lib.IntN.{ℤ}
 use lib.Signed.{mag}
 use mir.Syntax.{w32}
 use mir.Val.{toZ}
-use Rattle.values.specs.Words.{numberIn, handleIn, unpacked}
-use Rattle.stores.specs.declared.Figure.{Figure}
-use Rattle.stores.specs.Act.{raw, goOn, _>>=_, give, fail, refuse, passed, Passes}
-use Rattle.stores.specs.Arguments.{argumentAt}
-use Rattle.stores.specs.Shapes.{figureAt}
-use Rattle.stores.specs.Variables.{isDead, usable}
+use Rattle.machine.specs.Words.{numberIn, handleIn, unpacked}
+use Rattle.machine.specs.declared.Figure.{Figure}
+use Rattle.machine.specs.Act.{raw, goOn, _>>=_, give, fail, refuse, passed, Passes}
+use Rattle.machine.specs.Stack.{argumentAt}
+use Rattle.machine.specs.Shapes.{figureAt}
+use Rattle.machine.specs.Variables.{isDead, usable}
 use Rattle.operators.proofs.Held.{held, back}
-use Rattle.arguments.specs.Arguments.{allUsable}
+use Rattle.machine.specs.Arguments.{allUsable}
 use Rattle.arguments.specs.Given.{isKind, areKinds, fourIntegers, pointAndText, integerAt, handleAt, shapeAt, givenFigure}
 
 -- ---- arguments

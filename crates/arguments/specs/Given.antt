@@ -6,11 +6,11 @@ use lib.IntN.{ℤ, pos}
 use lib.Dec.{eqb}
 use mir.Syntax.{w32}
 use mir.Val.{toZ}
-use Rattle.values.specs.Words.{kindIn, numberIn, handleIn}
-use Rattle.stores.specs.Arguments.{argumentAt}
-use Rattle.stores.specs.declared.Figure.{Figure}
-use Rattle.stores.specs.Shapes.{figureAt}
-use Rattle.arguments.specs.Arguments.{figure, connecting, textOn}
+use Rattle.machine.specs.Words.{kindIn, numberIn, handleIn}
+use Rattle.machine.specs.Stack.{argumentAt}
+use Rattle.machine.specs.declared.Figure.{Figure}
+use Rattle.machine.specs.Shapes.{figureAt}
+use Rattle.machine.specs.Arguments.{figure, connecting, textOn}
 
 -- ---- kinds
 -- argument i is of kind k

@@ -1,9 +1,9 @@
 // Centres of figures, and the figures that procedures make.
-use stores::Figure;
+use machine::Figure;
 ghost use Prim.Native.Nat.{_≤_};
 ghost use mathlib.Core.Path.{_≡_};
 ghost use lib.ListN.{length};
-ghost use Rattle.arguments.specs.Arguments.{centreX, centreY, connecting, textOn};
+ghost use Rattle.machine.specs.Arguments.{centreX, centreY, connecting, textOn};
 ghost use Rattle.arguments.specs.Given.{drawnFigure, textFigure, connectingFigure, labelFigure};
 
 pub fn centre_x(f: Figure) -> i32

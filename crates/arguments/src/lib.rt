@@ -1,13 +1,13 @@
 // The arguments of a call: they are held from the one numbered base on.
 pub mod figures;
 
-use stores::Figure;
+use machine::Figure;
 ghost use Prim.Native.Nat.{_+_, _≤_};
 ghost use mathlib.Core.Path.{_≡_};
 ghost use lib.ListN.{length};
-ghost use Rattle.stores.specs.Act.{Passes};
-ghost use Rattle.stores.specs.Arguments.{argumentAt};
-ghost use Rattle.arguments.specs.Arguments.{allUsable};
+ghost use Rattle.machine.specs.Act.{Passes};
+ghost use Rattle.machine.specs.Stack.{argumentAt};
+ghost use Rattle.machine.specs.Arguments.{allUsable};
 ghost use Rattle.arguments.specs.Given.{isKind, areKinds, fourIntegers, pointAndText, integerAt, handleAt, shapeAt, givenFigure};
 
 // The word of argument i.

@@ -1,5 +1,6 @@
 // Integers of 32 bits: they wrap, division rounds toward zero, a right shift rounds down. Sums, differences and products are
 // computed in 64 bits, where none of them overflows, and their lowest 32 bits kept.
+ghost use Prim.Native.Nat.{_-_};
 ghost use mathlib.Core.Path.{_≡_};
 ghost use mathlib.Core.Bool.{false};
 ghost use lib.IntN.{_+ℤ_};
@@ -139,4 +140,25 @@ pub fn corner_middle(x: i32, w: i32) -> i32
     ensures { λ r. ⌜ r ≡ sum x (half w) ⌝ }
 {
     sum(x, half(w))
+}
+
+// ---- counts and places
+// One lowered by another, 0 at least.
+pub fn lowered(a: usize, b: usize) -> usize
+    ensures { λ r. ⌜ r ≡ a - b ⌝ }
+{
+    if a < b {
+        return 0;
+    }
+    a - b
+}
+
+// The same of words.
+pub fn lowered_word(a: u64, b: u64) -> u64
+    ensures { λ r. ⌜ r ≡ a - b ⌝ }
+{
+    if a < b {
+        return 0;
+    }
+    a - b
 }

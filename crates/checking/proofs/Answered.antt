@@ -1,12 +1,12 @@
 -- What the meaning says of a call of checking.
 use Prim.Native.Nat.{ℕ, _≤_, _<_}
 use mathlib.Core.Path.{_≡_, refl, ap, sym, _∙_}
-use mathlib.Core.Bool.{Bool, true, false, _&&_}
+use mathlib.Core.Bool.{Bool, true, false, not, _&&_}
 use mathlib.Core.List.{List}
 use lib.ListN.{length, replicate}
 use lib.Dec.{leb, ltb}
 use native.Mathlib.Omega.{arith}
-use borrow.Author.Tests.{le-leb, lt-leb, lt-ltb, le-ltb}
+use borrow.Author.Tests.{le-leb, lt-leb, lt-ltb, le-ltb, not-true, not-false}
 use Rattle.meaning.specs.Basics.{if_then_else_}
 use Rattle.meaning.specs.Grammar.{Reading, wellFormed, malformed, reading}
 use Rattle.meaning.specs.Run.{goOn, _>>=_, give, fail, refuse}
@@ -16,27 +16,34 @@ use Rattle.meaning.specs.Call.{inRange, needed, longEnough, admitted, grantedTo
 use Rattle.answers.specs.declared.Answer as Declared
 use Rattle.answers.specs.declared.Answer.the-variants.{Picture, Number}
 use Rattle.answers.specs.Answers.{meant}
+use Rattle.lending.specs.Lending.{grantsOf}
 use Rattle.reader.specs.declared.Program.{Program}
 use Rattle.reader.specs.declared.Program.the-variants.{Formed, Malformed}
 use Rattle.reader.specs.Reading.{tokensIn, seen, coded}
 use Rattle.checking.specs.Checking.{called, Checked, Lent, answerOf, readAnswer}
 
 -- ---- the first question
-enough : (program tokens code : List ℕ) → Lent tokens code → admitted (called program tokens code) ≡ true
-unfolding admitted inRange needed longEnough
-enough program tokens code h = rw (le-leb 8193 (length tokens) (h .tokensLong), le-leb 16384 (length code) (h .codeLong))
-
-short-tokens : (program tokens code : List ℕ) → length tokens < 8193 → admitted (called program tokens code) ≡ false
-unfolding admitted inRange needed longEnough
-short-tokens program tokens code h = rw (lt-leb 8193 (length tokens) h)
-
 both-short : (a b : Bool) → b ≡ false → _&&_ a (_&&_ b true) ≡ false
 both-short true b e = rw e
 both-short false b e = refl
 
-short-code : (program tokens code : List ℕ) → length code < 16384 → admitted (called program tokens code) ≡ false
-unfolding admitted inRange needed longEnough
-short-code program tokens code h = both-short (leb 8193 (length tokens)) _ (lt-leb 16384 (length code) h)
+module _ (program g tokens code : List ℕ) where
+  out-of-range : inRange (grantsOf g) ≡ false → admitted (called program g tokens code) ≡ false
+  unfolding admitted
+  out-of-range e = rw e
+
+  module _ (e : inRange (grantsOf g) ≡ true) where
+    enough : Lent tokens code → admitted (called program g tokens code) ≡ true
+    unfolding admitted needed longEnough
+    enough h = rw (e, le-leb 8193 (length tokens) (h .tokensLong), le-leb 16384 (length code) (h .codeLong))
+
+    short-tokens : length tokens < 8193 → admitted (called program g tokens code) ≡ false
+    unfolding admitted needed longEnough
+    short-tokens h = rw (e, lt-leb 8193 (length tokens) h)
+
+    short-code : length code < 16384 → admitted (called program g tokens code) ≡ false
+    unfolding admitted needed longEnough
+    short-code h = rw e (both-short (leb 8193 (length tokens)) _ (lt-leb 16384 (length code) h))
 
 -- ---- the answer
 -- whatever is granted, reading takes nothing
@@ -52,8 +59,8 @@ unfolding booked book settled answerTo goOn _>>=_ give fail refuse if_then_else_
 answer-sized g true r = refl
 answer-sized g false r = answer-read g r
 
-module _ (program tokens code : List ℕ) where
-  run-answer : booked (grantedTo (called program tokens code)) (runOf (called program tokens code)) ≡ readAnswer program
+module _ (program g tokens code : List ℕ) where
+  run-answer : booked (grantedTo (called program g tokens code)) (runOf (called program g tokens code)) ≡ readAnswer program
   unfolding runOf specified performing sized readAnswer
   run-answer = answer-sized _ (ltb 32768 (length program)) (reading program)
 
@@ -61,56 +68,49 @@ module _ (program tokens code : List ℕ) where
   unfolding if_then_else_
   by-admitted b x e = rw e
 
-  pub admitted-answer : Lent tokens code → answer (called program tokens code) ≡ readAnswer program
+  pub admitted-answer : inRange (grantsOf g) ≡ true → Lent tokens code → answer (called program g tokens code) ≡ readAnswer program
   unfolding answer
-  admitted-answer h = by-admitted _ _ (enough program tokens code h) ∙ run-answer
+  admitted-answer e h = by-admitted _ _ (enough program g tokens code e h) ∙ run-answer
 
-  pub admitted-work : Lent tokens code → (work : List ℕ) → workAfter (called program tokens code) work ≡ replicate (length work) 0
+  admitted-work : inRange (grantsOf g) ≡ true → Lent tokens code → (work : List ℕ) → workAfter (called program g tokens code) work ≡ replicate (length work) 0
   unfolding workAfter if_then_else_
-  admitted-work h work = rw (enough program tokens code h)
+  admitted-work e h work = rw (enough program g tokens code e h)
 
+  -- ---- the ways through `check`
   -- after 71
-  pub record Short : Type 0 where
-    pub answered : answer (called program tokens code) ≡ number 71 0 0 0
-    pub kept : (work : List ℕ) → workAfter (called program tokens code) work ≡ work
+  refused : admitted (called program g tokens code) ≡ false → Checked program g tokens code (Number 71 0 0 0) tokens code
+  unfolding meant answer workAfter if_then_else_
+  refused e = record { answered = rw e; tokensAfter = rw e; codeAfter = rw e }
 
-  short : admitted (called program tokens code) ≡ false → Short
-  unfolding answer workAfter if_then_else_
-  short e = record { answered = rw e; kept = λ work. rw e }
+  module _ (ok : Bool) (ranges : ok ≡ inRange (grantsOf g)) where
+    pub check-out-of-range : not ok ≡ true → Checked program g tokens code (Number 71 0 0 0) tokens code
+    check-out-of-range t = refused (out-of-range program g tokens code (sym ranges ∙ not-true ok t))
 
-  pub too-few-tokens : length tokens < 8193 → Short
-  too-few-tokens h = short (short-tokens program tokens code h)
+    module _ (t : not ok ≡ false) where
+      granted : inRange (grantsOf g) ≡ true
+      granted = sym ranges ∙ not-false ok t
 
-  pub too-little-code : length code < 16384 → Short
-  too-little-code h = short (short-code program tokens code h)
+      pub check-few-tokens : length tokens < 8193 → Checked program g tokens code (Number 71 0 0 0) tokens code
+      check-few-tokens h = refused (short-tokens program g tokens code granted h)
 
--- ---- the ways through `check`
-module _ (program tokens code : List ℕ) where
-  by-short : Short program tokens code → Checked program tokens code (Number 71 0 0 0) tokens code
-  unfolding meant
-  by-short s = record { answered = sym (s .answered); tokensAfter = sym (s .kept tokens); codeAfter = sym (s .kept code) }
+      pub check-little-code : length code < 16384 → Checked program g tokens code (Number 71 0 0 0) tokens code
+      check-little-code h = refused (short-code program g tokens code granted h)
 
-  pub check-few-tokens : length tokens < 8193 → Checked program tokens code (Number 71 0 0 0) tokens code
-  check-few-tokens h = by-short (too-few-tokens program tokens code h)
+      -- the slices were written and then cleared
+      module _ (long : 8193 ≤ length tokens) (enough-code : 16384 ≤ length code) where
+        lent : Lent tokens code
+        lent = record { tokensLong = long; codeLong = enough-code }
 
-  pub check-little-code : length code < 16384 → Checked program tokens code (Number 71 0 0 0) tokens code
-  check-little-code h = by-short (too-little-code program tokens code h)
+        cleared : (work after : List ℕ) (n : ℕ) → n ≡ length work → after ≡ replicate n 0 → after ≡ workAfter (called program g tokens code) work
+        cleared work after n e h = h ∙ ap (λ (m : ℕ). replicate m 0) e ∙ sym (admitted-work granted lent work)
 
-  -- the slices were written and then cleared
-  module _ (long : 8193 ≤ length tokens) (enough-code : 16384 ≤ length code) where
-    lent : Lent tokens code
-    lent = record { tokensLong = long; codeLong = enough-code }
-
-    cleared : (work after : List ℕ) (n : ℕ) → n ≡ length work → after ≡ replicate n 0 → after ≡ workAfter (called program tokens code) work
-    cleared work after n e h = h ∙ ap (λ (m : ℕ). replicate m 0) e ∙ sym (admitted-work program tokens code lent work)
-
-    pub check-read : (r : Declared.Answer) → meant r ≡ readAnswer program → (tokens′ code′ : List ℕ) (n m : ℕ) →
-        n ≡ length tokens → tokens′ ≡ replicate n 0 → m ≡ length code → code′ ≡ replicate m 0 → Checked program tokens code r tokens′ code′
-    check-read r a tokens′ code′ n m k t l d = record {
-      answered = a ∙ sym (admitted-answer program tokens code lent);
-      tokensAfter = cleared tokens tokens′ n k t;
-      codeAfter = cleared code code′ m l d;
-    }
+        pub check-read : (r : Declared.Answer) → meant r ≡ readAnswer program → (tokens′ code′ : List ℕ) (n m : ℕ) →
+            n ≡ length tokens → tokens′ ≡ replicate n 0 → m ≡ length code → code′ ≡ replicate m 0 → Checked program g tokens code r tokens′ code′
+        check-read r a tokens′ code′ n m k t l d = record {
+          answered = a ∙ sym (admitted-answer granted lent);
+          tokensAfter = cleared tokens tokens′ n k t;
+          codeAfter = cleared code code′ m l d;
+        }
 
 -- ---- the ways through `read_answer`
 module _ (program : List ℕ) where

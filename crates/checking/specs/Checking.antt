@@ -12,24 +12,25 @@ use Rattle.meaning.specs.Book.{Answer, pictured, number}
 use Rattle.meaning.specs.Call.{Call, answer, workAfter}
 use Rattle.answers.specs.declared.Answer as Declared
 use Rattle.answers.specs.Answers.{meant}
+use Rattle.lending.specs.Lending.{grantsOf}
 
--- Checking is granted nothing and writes no picture; its two work slices are for token words and code.
-abbrev pub called : List ℕ → List ℕ → List ℕ → Call
-called program tokens code = record {
+-- Checking takes nothing of what it is granted and writes no picture; its two work slices are for token words and code.
+abbrev pub called : List ℕ → List ℕ → List ℕ → List ℕ → Call
+called program g tokens code = record {
   operation = checking;
   program = program;
   width = pos 0;
   height = pos 0;
-  grants = record { steps = 0; shapes = 0; entries = 0; textBytes = 0 };
+  grants = grantsOf g;
   lent = length tokens ∷ length code ∷ [];
   out = [];
 }
 
 -- what it promises: the answer, and what both slices hold when it returns
-pub record Checked (program tokens code : List ℕ) (r : Declared.Answer) (tokens′ code′ : List ℕ) : Type 0 where
-  pub answered : meant r ≡ answer (called program tokens code)
-  pub tokensAfter : tokens′ ≡ workAfter (called program tokens code) tokens
-  pub codeAfter : code′ ≡ workAfter (called program tokens code) code
+pub record Checked (program g tokens code : List ℕ) (r : Declared.Answer) (tokens′ code′ : List ℕ) : Type 0 where
+  pub answered : meant r ≡ answer (called program g tokens code)
+  pub tokensAfter : tokens′ ≡ workAfter (called program g tokens code) tokens
+  pub codeAfter : code′ ≡ workAfter (called program g tokens code) code
 
 -- ---- inside
 pub record Lent (tokens code : List ℕ) : Type 0 where
@@ -40,6 +41,6 @@ unfoldable pub answerOf : Reading → Answer
 answerOf (wellFormed m) = pictured 0 0
 answerOf (malformed n p) = number n p 0 0
 
--- the answer where enough is lent
+-- the answer where the counts are in their ranges and enough is lent
 unfoldable pub readAnswer : List ℕ → Answer
 readAnswer program = if ltb 32768 (length program) then (λ _. number 73 0 0 0) else λ _. answerOf (reading program)

@@ -5,11 +5,14 @@ ghost use mathlib.Core.Path.{_≡_};
 ghost use Rattle.checking.specs.Checking.{Checked, Lent, readAnswer};
 ghost use Rattle.answers.specs.Answers.{meant};
 
-// Reads the program and says whether it is well formed. `tokens` must hold 8,193 words and `code` 16,384; both hold zeros afterwards, and keep what
-// they had after 71.
-pub fn check(program: &[u8], tokens: &mut [u64], code: &mut [u64]) -> Answer
-    ensures { λ r. ⌜ Checked (now (program .entry)) (now (tokens .entry)) (now (code .entry)) r (now (tokens .exit)) (now (code .exit)) ⌝ }
+// Reads the program and says whether it is well formed. The grants are steps, shapes, entries and text bytes, of which it takes nothing: it asks whether
+// they are in their ranges. `tokens` must hold 8,193 words and `code` 16,384; both hold zeros afterwards, and keep what they had after 71.
+pub fn check(program: &[u8], grants: &[u64; 4], tokens: &mut [u64], code: &mut [u64]) -> Answer
+    ensures { λ r. ⌜ Checked (now (program .entry)) (now (grants .entry)) (now (tokens .entry)) (now (code .entry)) r (now (tokens .exit)) (now (code .exit)) ⌝ }
 {
+    if !lending::in_range(grants) {
+        return Answer::Number(71, 0, 0, 0);
+    }
     if tokens.len() < 8193 {
         return Answer::Number(71, 0, 0, 0);
     }

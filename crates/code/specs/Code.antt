@@ -1,97 +1,16 @@
 -- The code of a program: its tree as a list of words, which the evaluator runs.
 -- An expression's word stands behind its parts, so the last word of its code is its root. A statement's word stands before its parts, so the code of
 -- a body's statements is theirs one after the other. Each word holds how many words its code has. Parentheses leave no word.
-use Prim.Native.Nat.{ℕ, _+_, _*_, _/_, _%_}
+use Prim.Native.Nat.{ℕ, _+_, _*_}
 use mathlib.Core.Bool.{Bool, true, false}
 use mathlib.Core.List.{List, [], _∷_, _++_}
 use lib.ListN.{length}
 use Rattle.meaning.specs.Token.{Token, aName, aString}
-use Rattle.meaning.specs.Tree.{Operator, concatenate, add, subtract, multiply, divide, remainder, shiftRight, shiftLeft, equal, unequal, greater, less, Expression, number, string, nothing, truth, name, table, entry, operation, call, paren, Arguments, noArgument, argument, Statement, declare, assign, update, when, while, return, block, act, Statements, only, first}
+use Rattle.meaning.specs.Tree.{Expression, number, string, nothing, truth, name, table, entry, operation, call, paren, Arguments, noArgument, argument, Statement, declare, assign, update, when, while, return, block, act, Statements, only, first}
 use Rattle.meaning.specs.Grammar.{startAt}
 use Rattle.meaning.specs.Integer.{bits}
+use Rattle.machine.specs.Opcodes.{word, tagNumber, tagString, tagNone, tagTruth, tagName, tagTable, tagEntry, tagCall, tagArgument, tagOf, tagDeclare, tagAssign, tagUpdate, tagWhen, tagWhile, tagReturn, tagBlock, tagAct}
 use Rattle.names.specs.Prepared.{home, libraryNumber}
-
--- A word: 8 bits for its tag, 24 for how many words its code has, 32 for a number that the tag explains.
-unfoldable pub word : ℕ → ℕ → ℕ → ℕ
-word tag size n = tag + 256 * size + 4294967296 * n
-
-abbrev pub tagIn : ℕ → ℕ
-tagIn w = w % 256
-
-abbrev pub sizeIn : ℕ → ℕ
-sizeIn w = w / 256 % 16777216
-
-abbrev pub numberIn : ℕ → ℕ
-numberIn w = w / 4294967296
-
--- ---- tags of expressions
-abbrev pub tagNumber : ℕ
-tagNumber = 1
-
-abbrev pub tagString : ℕ
-tagString = 2
-
-abbrev pub tagNone : ℕ
-tagNone = 3
-
-abbrev pub tagTruth : ℕ
-tagTruth = 4
-
-abbrev pub tagName : ℕ
-tagName = 5
-
-abbrev pub tagTable : ℕ
-tagTable = 6
-
-abbrev pub tagEntry : ℕ
-tagEntry = 7
-
-abbrev pub tagCall : ℕ
-tagCall = 8
-
--- stands before an argument; holds how many words the argument has
-abbrev pub tagArgument : ℕ
-tagArgument = 9
-
--- 16 to 27
-unfoldable pub tagOf : Operator → ℕ
-tagOf concatenate = 16
-tagOf add = 17
-tagOf subtract = 18
-tagOf multiply = 19
-tagOf divide = 20
-tagOf remainder = 21
-tagOf shiftRight = 22
-tagOf shiftLeft = 23
-tagOf equal = 24
-tagOf unequal = 25
-tagOf greater = 26
-tagOf less = 27
-
--- ---- tags of statements
-abbrev pub tagDeclare : ℕ
-tagDeclare = 32
-
-abbrev pub tagAssign : ℕ
-tagAssign = 33
-
-abbrev pub tagUpdate : ℕ
-tagUpdate = 34
-
-abbrev pub tagWhen : ℕ
-tagWhen = 35
-
-abbrev pub tagWhile : ℕ
-tagWhile = 36
-
-abbrev pub tagReturn : ℕ
-tagReturn = 37
-
-abbrev pub tagBlock : ℕ
-tagBlock = 38
-
-abbrev pub tagAct : ℕ
-tagAct = 39
 
 -- ---- expressions
 -- a variable is known by the first token with its name

@@ -1,8 +1,8 @@
 // Words of code.
 ghost use mathlib.Core.Path.{_≡_};
-ghost use Prim.Native.Nat.{_<_};
+ghost use Prim.Native.Nat.{_+_, _-_, _^_, _<_, _≤_};
 ghost use lib.ListN.{set};
-ghost use Rattle.code.specs.Code.{word, tagIn, sizeIn, numberIn};
+ghost use Rattle.machine.specs.Opcodes.{word, tagIn, sizeIn, numberIn, placeIn, extraIn, argumentRoot};
 
 // A word of a tag, a size and a number.
 pub fn word_of(tag: u64, size: u64, n: u64) -> u64
@@ -31,6 +31,83 @@ pub fn number_of(w: u64) -> u64
     ensures { λ r. ⌜ r ≡ numberIn w ⌝ }
 {
     w / 4294967296
+}
+
+// The same as an index.
+pub fn index_of(w: u64) -> usize
+    ensures { λ r. ⌜ r ≡ numberIn w ⌝ }
+{
+    (w / 4294967296) as usize
+}
+
+// ---- a statement's word
+// Its place.
+pub fn place_of(w: u64) -> u64
+    ensures { λ r. ⌜ r ≡ placeIn w ⌝ }
+{
+    w / 4294967296 % 65536
+}
+
+// The number beside it.
+pub fn extra_of(w: u64) -> usize
+    ensures { λ r. ⌜ (r ≡ extraIn w) × (r < 65536) ⌝ }
+{
+    (w / 4294967296 / 65536) as usize
+}
+
+// ---- where code stands, by a word of it
+// The root of the first part of the expression whose root, w, is at x, and of the last part.
+pub fn left_of(w: u64, x: usize) -> usize
+    ensures { λ r. ⌜ r ≡ x - 1 - numberIn w ⌝ }
+{
+    let n = index_of(w);
+    if x <= n {
+        return 0;
+    }
+    x - n - 1
+}
+
+pub fn right_of(x: usize) -> usize
+    ensures { λ r. ⌜ r ≡ x - 1 ⌝ }
+{
+    if x == 0 {
+        return 0;
+    }
+    x - 1
+}
+
+// The first word of the arguments of the call whose root, w, is at x.
+pub fn first_argument(w: u64, x: usize) -> usize
+    ensures { λ r. ⌜ r ≡ x - (sizeIn w - 1) ⌝ }
+{
+    arithmetic::lowered(x, arithmetic::lowered(size_of(w), 1))
+}
+
+// The root of the argument whose first word, w, is at a; x if it does not end before x.
+pub fn argument_root(w: u64, a: usize, x: usize) -> usize
+    requires { ⌜ a ≤ x ⌝ }
+    ensures { λ r. ⌜ r ≡ argumentRoot w a x ⌝ }
+{
+    let n = size_of(w);
+    if x - a <= n {
+        return x;
+    }
+    a + n
+}
+
+// Where the code of the statement ends whose word, w, is at x.
+pub fn last_of(w: u64, x: usize) -> usize
+    requires { ⌜ x < 2 ^ 62 ⌝ }
+    ensures { λ r. ⌜ (r ≡ x + sizeIn w - 1) × (r < 2 ^ 63) ⌝ }
+{
+    arithmetic::lowered(x + size_of(w), 1)
+}
+
+// The place before the code of the expression whose root, w, is at y.
+pub fn before(w: u64, y: usize) -> usize
+    ensures { λ r. ⌜ (r ≡ y - sizeIn w) × (r ≤ y) ⌝ }
+{
+    arithmetic::lowered(y, size_of(w))
 }
 
 // A store, which past the end does nothing.

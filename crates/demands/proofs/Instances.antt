@@ -58,7 +58,7 @@ table =
 
 -- each can have returned so, and then it was answered so
 abbrev pub Returns : Instance → Type 0
-Returns i = (a : Answer) × (out′ : List ℕ) × Returned (callOf i) a out′ × (a ≡ i .expected)
+Returns i = (a : Answer) × (work : List (List ℕ)) × (work′ : List (List ℕ)) × (out′ : List ℕ) × Returned (callOf i) a work work′ out′ × (a ≡ i .expected)
 
 abbrev pub AllReturn : List Instance → Type 0
 AllReturn [] = Unit {0}
@@ -76,7 +76,7 @@ returns : (i : Instance) → answer (callOf i) ≡ i .expected → Returns i
 returns i e =
     let p = not-empty .drawing (main (i .body)) (pos (i .width)) (pos 20) (i .grants) (replicate (i .tokens) 0) (replicate 16384 0) (replicate 25000 0) (replicate 2 0)
     (replicate (i .room) 0) in
-    (p .handed, p .out, p .returned, p .is ∙ e)
+    (p .handed, p .work, p .work′, p .out, p .returned, p .is ∙ e)
 
 all-return : (is : List Instance) → AllAnswered is → AllReturn is
 all-return [] h = tt

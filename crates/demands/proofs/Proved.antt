@@ -15,20 +15,23 @@ use Rattle.meaning.specs.Grammar.{Reading, wellFormed, malformed, reading}
 use Rattle.meaning.specs.State.{State}
 use Rattle.meaning.specs.Run.{steps, picture, Taking, End, result, error, unfinished, Run, run, goOn, _>>=_, give, fail, refuse}
 use Rattle.meaning.specs.Run as Run
+use Rattle.meaning.specs.Figure.{Figure}
+use Rattle.meaning.specs.Picture.{pictureOf}
 use Rattle.meaning.specs.Program.{Operation, checking, measuring, drawing, accepted, empty, sheet, sized, understood, painting, performing, specified}
 use Rattle.meaning.specs.Program as Program
 use Rattle.meaning.specs.Book.{Amounts, Booked, allFit, Answer, pictured, number, undecided, nothingYet, book, settled, answerTo, booked}
 use Rattle.meaning.specs.Call.{Call, admitted, grantedTo, runOf, answer, workAfter, outAfterEnd, outAfter}
-use Rattle.meaning.specs.Claims.{among, readingErrors, totalOf, shortageAt}
-use Rattle.meaning.proofs.Settling.{Complete, Settles, complete, stopped, booked-short, booked-complete}
-use Rattle.meaning.proofs.Answers.{answer-admitted, out-admitted, run-settles}
-use Rattle.meaning.proofs.Claimed as Claimed
+use Rattle.claims.specs.Claims.{among, readingErrors, totalOf, shortageAt}
+use Rattle.claims.proofs.Settling.{Complete, Settles, complete, stopped, booked-short, booked-complete}
+use Rattle.claims.proofs.Answers.{answer-admitted, out-admitted, run-settles}
+use Rattle.claims.proofs.Claimed as Claimed
 use Rattle.answers.specs.declared.Answer as Declared
 use Rattle.answers.specs.declared.Answer.the-variants.{Picture, Number}
 use Rattle.answers.specs.Answers.{meant}
 use Rattle.checking.specs.Checking as Checking
 use Rattle.lending.specs.Lending.{called}
-use Rattle.demands.specs.Demands.{Returned, checked, measured, drawn, Proper, Ends, inPicture, inError, inShortage, Other, notLent, noSheet, tooLong, unreadable, Either, proper, other, Numbered, Demand1, Demand2, Demand3, NotEmpty}
+use Rattle.demands.specs.Demands.{Returned, checked, measured, drawn, Proper, Ends, inPicture, inError, inShortage, Other, notLent, noSheet}
+use Rattle.demands.specs.Demands.{tooLong, unreadable, Either, proper, other, Numbered, Demand1, Demand2, Demand3, WorkSlices, NotEmpty}
 
 -- ---- demand 2
 -- an operation without an out slice leaves none
@@ -51,9 +54,14 @@ apart₂ e = let z : _≡_ {A = ℕ} 0 1 = cc in absurd (omega arith)
 
 pub demand-2 : Demand2
 unfolding outAfter
-demand-2 c a out′ (checked r h) = (h .answered, sym (no-out (admitted c) c refl apart))
-demand-2 c a out′ (measured g r h) = (h .answered, sym (no-out (admitted c) c refl apart₂))
-demand-2 c a out′ (drawn g r h e) = (h .answered, e)
+demand-2 c a work work′ out′ (checked r h) = (h .answered, sym (no-out (admitted c) c refl apart))
+demand-2 c a work work′ out′ (measured g r h) = (h .answered, sym (no-out (admitted c) c refl apart₂))
+demand-2 c a work work′ out′ (drawn g r h e) = (h .answered, e)
+
+pub work-slices : WorkSlices
+work-slices c a work work′ out′ (checked r h) = cc
+work-slices c a work work′ out′ (measured g r h) = cc
+work-slices c a work work′ out′ (drawn g r h e) = cc
 
 -- ---- demand 1: what is proper and what is not
 is-either : (c : Call) → Either c
@@ -87,14 +95,15 @@ unfinished-not : {s : State} {A : Type 0} → unfinished ≡ result accepted s �
 unfinished-not e = let z : _≡_ {A = ℕ} 0 1 = cc in absurd (omega arith)
 
 module _ (program : List ℕ) (width height : ℤ) (n : ℕ) (s : State) where
-  measures-none : (us : List Taking) (e : End (List ℕ)) → goOn us e (λ b. give (Program.drawn b)) .end ≡ result accepted s → ⊥
+  measures-none : (us : List Taking) (e : End (List Figure)) → goOn us e (λ a. give (Program.drawn (pictureOf width height a))) .end ≡ result accepted s → ⊥
   unfolding goOn give
   measures-none us (result b s′) q = accepts-not q
   measures-none us (error m p) q = error-not q
   measures-none us unfinished q = unfinished-not q
 
-  draws-none : (us : List Taking) (e : End (List ℕ)) → goOn us e (λ b. Run.take picture (length b) 0 >>= λ _. give (Program.drawn b)) .end ≡ result accepted s → ⊥
-  unfolding goOn give Run.take _>>=_
+  draws-none : (us : List Taking) (e : End (List Figure))
+      → goOn us e (λ a. Run.spend picture (length (pictureOf width height a)) 0 >>= λ _. give (Program.drawn (pictureOf width height a))) .end ≡ result accepted s → ⊥
+  unfolding goOn give Run.spend _>>=_
   draws-none us (result b s′) q = accepts-not q
   draws-none us (error m p) q = error-not q
   draws-none us unfinished q = unfinished-not q
@@ -111,13 +120,13 @@ laid-picture : {o : Operation} {x : Booked} {e : End Program.Outcome} {total : A
 unfolding outAfterEnd
 laid-picture out p q r = rw (p, q, r)
 
-module _ (c : Call) (a : Answer) (out′ : List ℕ) (h : Returned c a out′) (runs : c .operation ≢ checking) where
+module _ (c : Call) (a : Answer) {work work′ : List (List ℕ)} (out′ : List ℕ) (h : Returned c a work work′ out′) (runs : c .operation ≢ checking) where
   is-answer : a ≡ answer c
-  is-answer = demand-2 c a out′ h .0
+  is-answer = demand-2 c a _ _ out′ h .0
 
   -- after a number the out slice is as it was
   out-kept : {m p n l : ℕ} → a ≡ number m p n l → out′ ≡ c .out
-  out-kept {m} {p} {n} {l} e = demand-2 c a out′ h .1 ∙ Claimed.numbers-write-nothing c m p n l (sym is-answer ∙ e)
+  out-kept {m} {p} {n} {l} e = demand-2 c a _ _ out′ h .1 ∙ Claimed.numbers-write-nothing c m p n l (sym is-answer ∙ e)
 
   module _ (q : Proper c) where
     is-booked : a ≡ booked (grantedTo c) (runOf c)
@@ -127,8 +136,10 @@ module _ (c : Call) (a : Answer) (out′ : List ℕ) (h : Returned c a out′) (
     unfolding answerTo runOf
     by-end k (result accepted s) e = absurd (accepts-none (c .program) (c .width) (c .height) _ s (c .operation) runs e)
     by-end k (result (Program.drawn b) s) e =
-        inPicture b s e (is-booked ∙ booked-complete (grantedTo c) (runOf c) k ∙ ap (λ (x : End Program.Outcome). answerTo x (totalOf (runOf c .takings) steps)) e)
-        (λ o. demand-2 c a out′ h .1 ∙ out-admitted c (q .first) ∙ laid-picture (c .out) o (k .booking) e)
+        let d : a ≡ pictured (length b) (totalOf (runOf c .takings) steps) =
+        is-booked ∙ booked-complete (grantedTo c) (runOf c) k ∙ ap (λ (x : End Program.Outcome). answerTo x (totalOf (runOf c .takings) steps)) e in
+        inPicture b s e d
+        (λ o. (Claimed.pictures-fill-the-front c _ _ o (sym is-answer ∙ d) .4, demand-2 c a _ _ out′ h .1 ∙ out-admitted c (q .first) ∙ laid-picture (c .out) o (k .booking) e))
     by-end k (error m p) e =
         let d : a ≡ number m p (totalOf (runOf c .takings) steps) 0 =
         is-booked ∙ booked-complete (grantedTo c) (runOf c) k ∙ ap (λ (x : End Program.Outcome). answerTo x (totalOf (runOf c .takings) steps)) e in
@@ -147,7 +158,7 @@ module _ (c : Call) (a : Answer) (out′ : List ℕ) (h : Returned c a out′) (
 
 -- ---- all other input
 module _ (c : Call) (n : ℕ) where
-  abbrev painted : Run (List ℕ)
+  abbrev painted : Run (List Figure)
   painted = painting (c .program) (c .width) (c .height) n empty
 
   -- a painting that is refused is a number at once
@@ -178,7 +189,7 @@ known-later m h = or-later (eqb m 71) _ (or-later (eqb m 72) _ (or-later (eqb m 
     or-later true b e = refl
     or-later false b e = e
 
-module _ (c : Call) (a : Answer) (out′ : List ℕ) (h : Returned c a out′) (runs : c .operation ≢ checking) where
+module _ (c : Call) (a : Answer) {work work′ : List (List ℕ)} (out′ : List ℕ) (h : Returned c a work work′ out′) (runs : c .operation ≢ checking) where
   numbered : (m p : ℕ) → among (71 ∷ 72 ∷ 73 ∷ readingErrors) m → answer c ≡ number m p 0 0 → Numbered c a out′ m p
   numbered m p k e =
       let d : a ≡ number m p 0 0 = is-answer c a out′ h runs ∙ e in
@@ -198,20 +209,20 @@ module _ (c : Call) (a : Answer) (out′ : List ℕ) (h : Returned c a out′) (
 pub demand-1 : Demand1
 demand-1 = record {
   either = is-either;
-  runs = λ c a out′ h n q. ends c a out′ h n q;
-  refuses = λ c a out′ h n m p o. refuses c a out′ h n m p o;
+  runs = λ c a work work′ out′ h n q. ends c a out′ h n q;
+  refuses = λ c a work work′ out′ h n m p o. refuses c a out′ h n m p o;
 }
 
 -- ---- demand 3
 pub demand-3 : Demand3
 demand-3 = record {
-  larger = λ c d a b out′ out″ h k f g l n.
-      let x = demand-2 c a out′ h in
-      let y = demand-2 d b out″ k in
+  larger = λ c d a b v v′ w w′ out′ out″ h k f g l n.
+      let x = demand-2 c a _ _ out′ h in
+      let y = demand-2 d b _ _ out″ k in
       let z = Claimed.larger-grant c d f g l (rw (x .0) at n) in
       (y .0 ∙ z .0 ∙ sym (x .0), λ i j o e. rw (y .1, x .1) (z .1 i j o (sym (x .0) ∙ e)));
-  exactly = λ c a out′ h f.
-      let x = demand-2 c a out′ h in
+  exactly = λ c a work work′ out′ h f.
+      let x = demand-2 c a _ _ out′ h in
       let z = Claimed.shortage-exact c f in (
         λ n.
             let w = z .0 (rw (x .0) at n) in
@@ -234,13 +245,16 @@ can-mean undecided h = absurd (h refl)
 
 pub not-empty : NotEmpty
 not-empty = record {
-  checking = λ program tokens code.
-      let c = Checking.called program tokens code in
+  checking = λ program g tokens code.
+      let c = Checking.called program g tokens code in
       let m = can-mean (answer c) (Claimed.always-answered c) in
       record {
         handed = meant (m .answer-is);
+        work = tokens ∷ code ∷ [];
+        work′ = workAfter c tokens ∷ workAfter c code ∷ [];
         out = [];
-        returned = checked {tokens = tokens} {code = code} {tokens′ = workAfter c tokens} {code′ = workAfter c code} (m .answer-is) (record { answered = m .means; tokensAfter = refl; codeAfter = refl });
+        returned = checked {g = g} {tokens = tokens} {code = code} {tokens′ = workAfter c tokens} {code′ = workAfter c code} (m .answer-is)
+            (record { answered = m .means; tokensAfter = refl; codeAfter = refl });
         is = m .means;
       };
   measuring = λ program width height g tokens code words texts.
@@ -248,8 +262,11 @@ not-empty = record {
       let m = can-mean (answer c) (Claimed.always-answered c) in
       record {
         handed = meant (m .answer-is);
+        work = tokens ∷ code ∷ words ∷ texts ∷ [];
+        work′ = workAfter c tokens ∷ workAfter c code ∷ workAfter c words ∷ workAfter c texts ∷ [];
         out = [];
-        returned = measured {tokens = tokens} {code = code} {words = words} {texts = texts} {tokens′ = workAfter c tokens} {code′ = workAfter c code} {words′ = workAfter c words} {texts′ = workAfter c texts} g (m .answer-is)
+        returned = measured {tokens = tokens} {code = code} {words = words} {texts = texts}
+            {tokens′ = workAfter c tokens} {code′ = workAfter c code} {words′ = workAfter c words} {texts′ = workAfter c texts} g (m .answer-is)
             (record { answered = m .means; tokensAfter = refl; codeAfter = refl; wordsAfter = refl; textsAfter = refl });
         is = m .means;
       };
@@ -258,8 +275,11 @@ not-empty = record {
       let m = can-mean (answer c) (Claimed.always-answered c) in
       record {
         handed = meant (m .answer-is);
+        work = tokens ∷ code ∷ words ∷ texts ∷ [];
+        work′ = workAfter c tokens ∷ workAfter c code ∷ workAfter c words ∷ workAfter c texts ∷ [];
         out = outAfter c;
-        returned = drawn {tokens = tokens} {code = code} {words = words} {texts = texts} {tokens′ = workAfter c tokens} {code′ = workAfter c code} {words′ = workAfter c words} {texts′ = workAfter c texts} g (m .answer-is)
+        returned = drawn {tokens = tokens} {code = code} {words = words} {texts = texts}
+            {tokens′ = workAfter c tokens} {code′ = workAfter c code} {words′ = workAfter c words} {texts′ = workAfter c texts} g (m .answer-is)
             (record { answered = m .means; tokensAfter = refl; codeAfter = refl; wordsAfter = refl; textsAfter = refl }) refl;
         is = m .means;
       };

@@ -12,12 +12,12 @@ use Rattle.meaning.specs.Basics.{laidOver}
 use Rattle.meaning.specs.Picture.{pictureOf}
 use Rattle.meaning.specs.Program.{drawing}
 use Rattle.meaning.specs.Call.{Call, outAfter}
-use Rattle.meaning.proofs.Claimed.{numbers-write-nothing}
+use Rattle.claims.proofs.Claimed.{numbers-write-nothing}
 use Rattle.answers.specs.declared.Answer as Declared
 use Rattle.answers.specs.declared.Answer.the-variants.{Picture, Number}
 use Rattle.answers.specs.Answers.{meant}
-use Rattle.stores.specs.Layout.{stepsUsed}
-use Rattle.stores.specs.Act.{raw}
+use Rattle.machine.specs.Layout.{stepsUsed}
+use Rattle.machine.specs.Act.{raw}
 use Rattle.writing.specs.Placed.{Wrote}
 use Rattle.scene.specs.Scene.{sceneIn, Drawable}
 use Rattle.running.specs.declared.Ending.{Ending}
@@ -66,16 +66,16 @@ module _ (program : List ℕ) (width height : ℤ) (g words texts out : List ℕ
         }
 
 -- ---- `draw_lent`
-module _ (program : List ℕ) (width height : ℤ) (g ts ws : List ℕ) (e : Ending) (ran : Ran program width height g (paintingRun program width height g) e ts ws) where
+module _ (program : List ℕ) (width height : ℤ) (g ts ws : List ℕ) (e : Ending) (ran : Ran program g (paintingRun program width height g) e ts ws) where
   pub lent-scene : e ≡ Complete → Scene program width height g ws ts
   lent-scene q = record { ran = rw q at ran }
 
 module _ (program : List ℕ) (width height : ℤ) (g out : List ℕ) (f : SFits w32 width) (f₂ : SFits w32 height) where
-  pub lent-number : (ts ws : List ℕ) (e : Ending) → Ran program (held width) (held height) g (paintingRun program (held width) (held height) g) e ts ws
+  pub lent-number : (ts ws : List ℕ) (e : Ending) → Ran program g (paintingRun program (held width) (held height) g) e ts ws
       → (n p : ℕ) → e ≡ Stopped n p → (k : ℕ) → k ≡ getD ws stepsUsed 0 → Drawn program width height g out (meant (Number n p k 0)) out
   unfolding meant
   lent-number ts ws e ran n p q k h =
-      let z : Ran program width height g (paintingRun program width height g) e ts ws = rw (toZ-ofZ f, toZ-ofZ f₂) at ran in
+      let z : Ran program g (paintingRun program width height g) e ts ws = rw (toZ-ofZ f, toZ-ofZ f₂) at ran in
       record {
         answered = rw h (sym (drawn-number program width height g out ts ws n p (rw q at z)));
         written = sym (out-untouched program width height g out ts ws n p (rw q at z));

@@ -7,7 +7,7 @@ use Rattle.meaning.specs.Run.{Run}
 use Rattle.meaning.specs.Program.{Outcome, drawing, specified}
 use Rattle.meaning.specs.Book.{Answer, nothingYet, book, booked}
 use Rattle.meaning.specs.Call.{granted, outAfterEnd}
-use Rattle.stores.specs.Layout.{stepsGranted}
+use Rattle.machine.specs.Layout.{stepsGranted}
 use Rattle.running.specs.declared.Ending.the-variants.{Complete}
 use Rattle.running.specs.Running.{Ran, paintingRun}
 use Rattle.lending.specs.Lending.{grantsOf}
@@ -22,4 +22,4 @@ pub record Drawn (program : List ℕ) (width height : ℤ) (g out : List ℕ) (a
 
 -- the run was completed, and these are its stores
 pub record Scene (program : List ℕ) (width height : ℤ) (g words texts : List ℕ) : Type 0 where
-  pub ran : Ran program width height g (paintingRun program width height g) Complete texts words
+  pub ran : Ran program g (paintingRun program width height g) Complete texts words

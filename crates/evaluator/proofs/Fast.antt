@@ -10,28 +10,27 @@ use lib.Signed.{mag, ltZ}
 use lib.Dec.{eqb, ltb, leb}
 use mir.Syntax.{w32}
 use mir.Val.{toZ}
-use borrow.Author.Tests.{eqb-true, eqb-false, ltb-true, ltb-false, leb-true, le-leb, ne-eqb}
+use borrow.Author.Tests.{eqb-true, eqb-false, ltb-true, ltb-false, leb-true, le-leb, le-ltb, ne-eqb}
 use Rattle.meaning.specs.Basics.{if_then_else_}
 use Rattle.meaning.specs.Integer.{sum, difference, product, quotient, remainder, shiftedLeft, shiftedRight, isZero, sameInteger}
 use Rattle.arithmetic.proofs.Ranges.{bits-signed, signed-small, sum-small, difference-small, product-small, quotient-small, remainder-small, shifted-left-small, shifted-right-small}
-use Rattle.code.specs.Code.{tagIn, sizeIn, numberIn}
-use Rattle.values.specs.declared.Value.{Value}
-use Rattle.values.specs.declared.Value.the-variants.{Integer, Boolean}
-use Rattle.values.specs.declared.Answer.{Answer}
-use Rattle.values.specs.declared.Answer.the-variants.{Good}
-use Rattle.values.specs.Words.{kindIn, packed, unpacked}
-use Rattle.values.specs.Words as Words
+use Rattle.machine.specs.Opcodes.{tagIn, sizeIn, numberIn, tagNumber, tagName, tagTable, tagEntry, tagCall, firstOperator, headNumber, headName, tagAdd, tagSubtract, tagMultiply, tagDivide, tagRemainder, tagShiftRight, tagShiftLeft, tagEqual, tagUnequal, tagGreater, tagLess}
+use Rattle.machine.specs.declared.Value.{Value}
+use Rattle.machine.specs.declared.Value.the-variants.{Integer, Boolean}
+use Rattle.machine.specs.declared.Answer.{Answer}
+use Rattle.machine.specs.declared.Answer.the-variants.{Good, Bad}
+use Rattle.machine.specs.Words.{kindIn, packed, unpacked}
+use Rattle.machine.specs.Words as Words
 use Rattle.values.proofs.Laws.{InRange, unpacked-packed, unpacked-integer, unpacked-truth}
-use Rattle.stores.specs.Layout.{valuePlace}
-use Rattle.stores.specs.Act.{Raw, raw, Out, done, goOn, _>>=_, give, refuse, spend, shown, Answers}
-use Rattle.stores.specs.Variables.{isDead, usable}
+use Rattle.machine.specs.Layout.{fixedWords, valuePlace, Lent, stepsUsed, stepsGranted}
+use Rattle.machine.specs.Act.{Raw, raw, Out, done, goOn, _>>=_, give, refuse, spend, shown, Answers}
+use Rattle.machine.specs.Variables.{isDead, usable}
 use Rattle.stores.proofs.Laws.{not-dead, found}
-use Rattle.operators.specs.Operate.{withInteger, calculated, compared, remaindered, equality, answered, equated, operateOn, operate}
+use Rattle.machine.specs.Operate.{withInteger, calculated, compared, remaindered, equality, answered, equated, operateOn, operate}
 use Rattle.operators.proofs.Held.{by-number}
-use Rattle.invariant.specs.Invariant.{Valid}
 use Rattle.fastpath.specs.Fast.{plainWord, leafWord, operatorWord, wordOn, sizesAgree, operationWord, fastAt, applies, Values}
-use Rattle.evaluator.specs.Evaluate.{Evaluator, Setting, setting, pushed, operationOf, operationAt, evaluateBy, evaluateAt}
-use Rattle.primaries.specs.Primaries.{pushWord}
+use Rattle.machine.specs.Evaluate.{Evaluator, Setting, setting, argumentOf, secondOf, firstOf, operandsAt, expressionBy, expressionAt}
+use Rattle.machine.specs.Primaries.{leaf, applied, pushWord}
 use Rattle.evaluator.proofs.Laws as laws
 
 -- ---- words of integers and truths
@@ -121,60 +120,60 @@ module _ (program g : List ℕ) (p : ℕ) (x y : ℤ) where
   abbrev Works : ℕ → Type 0
   Works tag = (v : ℕ) → operatorWord tag x y ≡ v → (v ≡ 0 → ⊥) → Operated program g tag p x y v
 
-  works-17 : Works 17
+  works-add : Works tagAdd
   unfolding operatorWord operateOn if_then_else_ calculated withInteger _>>=_ goOn refuse give
-  works-17 v e n = with-integer 17 (sum x y) (sum-small x y) (λ r. refl) v e
+  works-add v e n = with-integer tagAdd (sum x y) (sum-small x y) (λ r. refl) v e
 
-  works-18 : Works 18
+  works-subtract : Works tagSubtract
   unfolding operatorWord operateOn if_then_else_ calculated withInteger _>>=_ goOn refuse give
-  works-18 v e n = with-integer 18 (difference x y) (difference-small x y) (λ r. refl) v e
+  works-subtract v e n = with-integer tagSubtract (difference x y) (difference-small x y) (λ r. refl) v e
 
-  works-19 : Works 19
+  works-multiply : Works tagMultiply
   unfolding operatorWord operateOn if_then_else_ calculated withInteger _>>=_ goOn refuse give
-  works-19 v e n = with-integer 19 (product x y) (product-small x y) (λ r. refl) v e
+  works-multiply v e n = with-integer tagMultiply (product x y) (product-small x y) (λ r. refl) v e
 
-  works-20 : Works 20
+  works-divide : Works tagDivide
   unfolding operatorWord operateOn if_then_else_ calculated withInteger _>>=_ goOn refuse give
-  works-20 v e n = go (isZero y) refl e
+  works-divide v e n = go (isZero y) refl e
     where
-      go : (b : Bool) → isZero y ≡ b → (if b then (λ _. 0) else λ _. packed (Integer (quotient x y))) ≡ v → Operated program g 20 p x y v
+      go : (b : Bool) → isZero y ≡ b → (if b then (λ _. 0) else λ _. packed (Integer (quotient x y))) ≡ v → Operated program g tagDivide p x y v
       go true q f = absurd (n (sym f))
-      go false q f = with-integer 20 (quotient x y) (quotient-small x y) (λ r. rw q) v f
+      go false q f = with-integer tagDivide (quotient x y) (quotient-small x y) (λ r. rw q) v f
 
-  works-21 : Works 21
+  works-remainder : Works tagRemainder
   unfolding operatorWord operateOn if_then_else_ remaindered withInteger _>>=_ goOn refuse give
-  works-21 v e n = go (isZero y) refl e
+  works-remainder v e n = go (isZero y) refl e
     where
-      go : (b : Bool) → isZero y ≡ b → (if b then (λ _. 0) else λ _. packed (Integer (remainder x y))) ≡ v → Operated program g 21 p x y v
+      go : (b : Bool) → isZero y ≡ b → (if b then (λ _. 0) else λ _. packed (Integer (remainder x y))) ≡ v → Operated program g tagRemainder p x y v
       go true q f = absurd (n (sym f))
-      go false q f = with-integer 21 (remainder x y) (remainder-small x y) (λ r. rw q) v f
+      go false q f = with-integer tagRemainder (remainder x y) (remainder-small x y) (λ r. rw q) v f
 
-  works-22 : mag x < 2 ^ 31 → Works 22
+  works-shift-right : mag x < 2 ^ 31 → Works tagShiftRight
   unfolding operatorWord operateOn if_then_else_ calculated withInteger _>>=_ goOn refuse give
-  works-22 h v e n = with-integer 22 (shiftedRight x y) (shifted-right-small x y h) (λ r. refl) v e
+  works-shift-right h v e n = with-integer tagShiftRight (shiftedRight x y) (shifted-right-small x y h) (λ r. refl) v e
 
-  works-23 : Works 23
+  works-shift-left : Works tagShiftLeft
   unfolding operatorWord operateOn if_then_else_ calculated withInteger _>>=_ goOn refuse give
-  works-23 v e n = with-integer 23 (shiftedLeft x y) (shifted-left-small x y) (λ r. refl) v e
+  works-shift-left v e n = with-integer tagShiftLeft (shiftedLeft x y) (shifted-left-small x y) (λ r. refl) v e
 
-  works-24 : Works 24
+  works-equal : Works tagEqual
   unfolding operatorWord operateOn if_then_else_ equated equality answered give
-  works-24 v e n = with-truth 24 (sameInteger x y) (λ r. refl) v e
+  works-equal v e n = with-truth tagEqual (sameInteger x y) (λ r. refl) v e
 
-  works-25 : Works 25
+  works-unequal : Works tagUnequal
   unfolding operatorWord operateOn if_then_else_ equated equality answered give
-  works-25 v e n = with-truth 25 (not (sameInteger x y)) (λ r. refl) v e
+  works-unequal v e n = with-truth tagUnequal (not (sameInteger x y)) (λ r. refl) v e
 
-  works-26 : Works 26
+  works-greater : Works tagGreater
   unfolding operatorWord operateOn if_then_else_ compared withInteger give
-  works-26 v e n = with-truth 26 (ltZ y x) (λ r. refl) v e
+  works-greater v e n = with-truth tagGreater (ltZ y x) (λ r. refl) v e
 
-  works-27 : Works 27
+  works-less : Works tagLess
   unfolding operatorWord operateOn if_then_else_ compared withInteger give
-  works-27 v e n = with-truth 27 (ltZ x y) (λ r. refl) v e
+  works-less v e n = with-truth tagLess (ltZ x y) (λ r. refl) v e
 
-  no-operator : (tag : ℕ) → (tag ≡ 17 → ⊥) → (tag ≡ 18 → ⊥) → (tag ≡ 19 → ⊥) → (tag ≡ 20 → ⊥) → (tag ≡ 21 → ⊥) → (tag ≡ 22 → ⊥)
-      → (tag ≡ 23 → ⊥) → (tag ≡ 24 → ⊥) → (tag ≡ 25 → ⊥) → (tag ≡ 26 → ⊥) → (tag ≡ 27 → ⊥) → operatorWord tag x y ≡ 0
+  no-operator : (tag : ℕ) → (tag ≡ tagAdd → ⊥) → (tag ≡ tagSubtract → ⊥) → (tag ≡ tagMultiply → ⊥) → (tag ≡ tagDivide → ⊥) → (tag ≡ tagRemainder → ⊥) → (tag ≡ tagShiftRight → ⊥)
+      → (tag ≡ tagShiftLeft → ⊥) → (tag ≡ tagEqual → ⊥) → (tag ≡ tagUnequal → ⊥) → (tag ≡ tagGreater → ⊥) → (tag ≡ tagLess → ⊥) → operatorWord tag x y ≡ 0
   unfolding operatorWord if_then_else_
   no-operator tag a b c d e f h i j k l =
       rw (ne-eqb _ _ a, ne-eqb _ _ b, ne-eqb _ _ c, ne-eqb _ _ d, ne-eqb _ _ e, ne-eqb _ _ f)
@@ -182,17 +181,17 @@ module _ (program g : List ℕ) (p : ℕ) (x y : ℤ) where
 
   works : mag x < 2 ^ 31 → (tag : ℕ) → Works tag
   works s tag =
-      by-number Works tag 17 works-17 λ a.
-      by-number Works tag 18 works-18 λ b.
-      by-number Works tag 19 works-19 λ c.
-      by-number Works tag 20 works-20 λ d.
-      by-number Works tag 21 works-21 λ e.
-      by-number Works tag 22 (works-22 s) λ f.
-      by-number Works tag 23 works-23 λ h.
-      by-number Works tag 24 works-24 λ i.
-      by-number Works tag 25 works-25 λ j.
-      by-number Works tag 26 works-26 λ k.
-      by-number Works tag 27 works-27 λ l.
+      by-number Works tag tagAdd works-add λ a.
+      by-number Works tag tagSubtract works-subtract λ b.
+      by-number Works tag tagMultiply works-multiply λ c.
+      by-number Works tag tagDivide works-divide λ d.
+      by-number Works tag tagRemainder works-remainder λ e.
+      by-number Works tag tagShiftRight (works-shift-right s) λ f.
+      by-number Works tag tagShiftLeft works-shift-left λ h.
+      by-number Works tag tagEqual works-equal λ i.
+      by-number Works tag tagUnequal works-unequal λ j.
+      by-number Works tag tagGreater works-greater λ k.
+      by-number Works tag tagLess works-less λ l.
       λ v q n. absurd (n (sym q ∙ no-operator tag a b c d e f h i j k l))
 
 operate-integers : (program g : List ℕ) (tag p : ℕ) (x y : ℤ) (r : Raw) → operate program g tag p (Integer x) (Integer y) r ≡ operateOn program g tag p (Integer x) (Integer y) r
@@ -244,34 +243,33 @@ module _ (program code g ts rest : List ℕ) (u p : ℕ) where
   record Leaf (w v : ℕ) : Type 0 where
     pub size : sizeIn w ≡ 1
     pub plain : Plain v
-    pub gives : (inner : Evaluator) (x n : ℕ) → evaluateBy inner e w x p (raw ts (n ∷ rest)) ≡ done (unpacked v) (raw ts (n ∷ rest))
+    pub gives : (inner : Evaluator) (x n : ℕ) → expressionBy inner e w x p (raw ts (n ∷ rest)) ≡ done (unpacked v) (raw ts (n ∷ rest))
 
-  number-leaf : (w v : ℕ) → w % 2 ^ 32 ≡ 257 → numberIn w < 2 ^ 32 → 1 + 8 * numberIn w ≡ v → Leaf w v
-  unfolding evaluateBy if_then_else_ give
+  number-leaf : (w v : ℕ) → w % 2 ^ 32 ≡ headNumber → numberIn w < 2 ^ 32 → 1 + 8 * numberIn w ≡ v → Leaf w v
+  unfolding expressionBy leaf if_then_else_ give
   number-leaf w v h l f =
-      let t : tagIn w ≡ 1 = tag-below w 1 (omega arith) h in
+      let t : tagIn w ≡ tagNumber = tag-below w tagNumber (omega arith) h in
       let k : kindIn v ≡ 1 = omega arith in
       let m : Words.numberIn v ≡ numberIn w = constant-number (numberIn w) v f l in
       record {
-        size = one-word w 1 (omega arith) h;
+        size = one-word w tagNumber (omega arith) h;
         plain = back-integer v k (omega arith);
         gives = λ inner x n. rw (t, unpacked-integer v k, m);
       }
 
-  name-leaf : (w v k : ℕ) → w % 2 ^ 32 ≡ 261 → k ≡ getD (u ∷ rest) (valuePlace (numberIn w)) 0 → (k ≡ 0 → ⊥) → (kindIn k ≡ 6 → ⊥) → unpacked v ≡ unpacked k → Plain v → Leaf w v
-  unfolding shown
+  name-leaf : (w v k : ℕ) → w % 2 ^ 32 ≡ headName → k ≡ getD (u ∷ rest) (valuePlace (numberIn w)) 0 → (k ≡ 0 → ⊥) → (kindIn k ≡ 6 → ⊥) → unpacked v ≡ unpacked k → Plain v → Leaf w v
+  unfolding expressionBy leaf if_then_else_ shown
   name-leaf w v k h f z n q c =
-      let t : tagIn w ≡ 5 = tag-below w 5 (omega arith) h in
+      let t : tagIn w ≡ tagName = tag-below w tagName (omega arith) h in
       record {
-        size = one-word w 5 (omega arith) h;
+        size = one-word w tagName (omega arith) h;
         plain = c;
         gives = λ inner x m.
-            let d : getD (m ∷ rest) (8 + numberIn w % 8192) 0 ≡ k = elsewhere rest m u (numberIn w % 8192) ∙ sym f in
-            sym (laws.by-name inner e w x p ts (m ∷ rest) (tagIn w) refl (Good (unpacked v)) t
-            (found (m ∷ rest) p (numberIn w) false (unpacked v) (rw d z) (rw d (not-dead (m ∷ rest) k n)) refl (rw d q)));
+            let d : getD (m ∷ rest) (valuePlace (numberIn w)) 0 ≡ k = elsewhere rest m u (numberIn w % 8192) ∙ sym f in
+            rw t (sym (found (m ∷ rest) p (numberIn w) false (unpacked v) (rw d z) (rw d (not-dead (m ∷ rest) k n)) refl (rw d q) .equal ts));
       }
 
-  plain-leaf : (w v k : ℕ) → w % 2 ^ 32 ≡ 261 → k ≡ getD (u ∷ rest) (valuePlace (numberIn w)) 0 → plainWord k ≡ v → (v ≡ 0 → ⊥) → Leaf w v
+  plain-leaf : (w v k : ℕ) → w % 2 ^ 32 ≡ headName → k ≡ getD (u ∷ rest) (valuePlace (numberIn w)) 0 → plainWord k ≡ v → (v ≡ 0 → ⊥) → Leaf w v
   unfolding plainWord if_then_else_
   plain-leaf w v k h f r n = go (eqb (kindIn k) 1) (eqb (kindIn k) 3) refl refl r
     where
@@ -286,11 +284,11 @@ module _ (program code g ts rest : List ℕ) (u p : ℕ) where
           name-leaf w v k h f (λ z. omega arith) (λ z. omega arith) (rw (b, unpacked-truth k a) (truth-back _)) (rw b (truth-plain _))
       go false false q s m = absurd (n (sym m))
 
-  leaf : (w v : ℕ) → leafWord (u ∷ rest) w ≡ v → (v ≡ 0 → ⊥) → Leaf w v
+  leaf-found : (w v : ℕ) → leafWord (u ∷ rest) w ≡ v → (v ≡ 0 → ⊥) → Leaf w v
   unfolding leafWord if_then_else_
-  leaf w v r n = go (eqb (w % 2 ^ 32) 257) (eqb (w % 2 ^ 32) 261) (ltb (numberIn w) (2 ^ 32)) refl refl refl r
+  leaf-found w v r n = go (eqb (w % 2 ^ 32) headNumber) (eqb (w % 2 ^ 32) headName) (ltb (numberIn w) (2 ^ 32)) refl refl refl r
     where
-      go : (i j k : Bool) → eqb (w % 2 ^ 32) 257 ≡ i → eqb (w % 2 ^ 32) 261 ≡ j → ltb (numberIn w) (2 ^ 32) ≡ k
+      go : (i j k : Bool) → eqb (w % 2 ^ 32) headNumber ≡ i → eqb (w % 2 ^ 32) headName ≡ j → ltb (numberIn w) (2 ^ 32) ≡ k
           → (if i then (λ _. if k then (λ _. 1 + 8 * numberIn w) else λ _. 0) else λ _. if j then (λ _. plainWord (getD (u ∷ rest) (valuePlace (numberIn w)) 0)) else λ _. 0) ≡ v
           → Leaf w v
       go true j true q s l m = number-leaf w v (eqb-true _ _ q) (ltb-true _ _ l) m
@@ -299,29 +297,33 @@ module _ (program code g ts rest : List ℕ) (u p : ℕ) where
       go false false k q s l m = absurd (n (sym m))
 
   -- an operator, where its two sides were evaluated
-  sides : (inner : Evaluator) (w x a b v l m n : ℕ) → 16 ≤ tagIn w → Combined program g (tagIn w) p a b v
+  sides : (inner : Evaluator) (w x a b v l m n : ℕ) → firstOperator ≤ tagIn w → Combined program g (tagIn w) p a b v
       → inner (x - 1 - numberIn w) p (raw ts (l ∷ rest)) ≡ done (unpacked a) (raw ts (m ∷ rest)) → inner (x - 1) p (raw ts (m ∷ rest)) ≡ done (unpacked b) (raw ts (n ∷ rest))
-      → evaluateBy inner e w x p (raw ts (l ∷ rest)) ≡ done (unpacked v) (raw ts (n ∷ rest))
-  unfolding operationAt operationOf _>>=_ goOn
+      → expressionBy inner e w x p (raw ts (l ∷ rest)) ≡ done (unpacked v) (raw ts (n ∷ rest))
+  unfolding expressionBy operandsAt firstOf secondOf applied if_then_else_ _>>=_ goOn refuse give
   sides inner w x a b v l m n t c i j =
-      sym (laws.by-operator inner e w x p ts (l ∷ rest) (tagIn w) refl (done (unpacked v) (raw ts (n ∷ rest)))
-      (λ q. omega arith) (λ q. omega arith) (λ q. omega arith) (λ q. omega arith) (λ q. omega arith) (λ q. omega arith) (λ q. omega arith) (λ q. omega arith)
-      (sym (rw (i, j, through-integer a (c .left), through-integer b (c .right)) (operate-integers program g (tagIn w) p _ _ (raw ts (n ∷ rest)) ∙ c .operated .gives (raw ts (n ∷ rest))))))
+      let behind = le-ltb (tagIn w) tagTable (omega arith) in
+      let no-call = ne-eqb (tagIn w) tagCall (λ q. omega arith) in
+      let no-table = ne-eqb (tagIn w) tagTable (λ q. omega arith) in
+      let no-entry = ne-eqb (tagIn w) tagEntry (λ q. omega arith) in
+      let operator = le-ltb (tagIn w) firstOperator t in
+      rw (behind, no-call, i) (rw (no-table, operator, j) (rw (no-entry, through-integer a (c .left), through-integer b (c .right))
+      (operate-integers program g (tagIn w) p _ _ (raw ts (n ∷ rest)) ∙ c .operated .gives (raw ts (n ∷ rest)))))
 
-  counted : (depth x n : ℕ) → n + 1 ≤ getD g 0 0
-      → evaluateAt (suc depth) e x p (raw ts (n ∷ rest)) ≡ evaluateBy (evaluateAt depth e) e (getD code x 0) x p (raw ts ((n + 1) ∷ rest))
-  unfolding evaluateAt _>>=_ goOn spend if_then_else_
-  counted depth x n l = rw (le-leb (n + 1) (getD g 0 0) l)
+  counted : (depth x n : ℕ) → n + 1 ≤ stepsGranted g
+      → expressionAt (suc depth) e x p (raw ts (n ∷ rest)) ≡ expressionBy (expressionAt depth e) e (getD code x 0) x p (raw ts ((n + 1) ∷ rest))
+  unfolding expressionAt _>>=_ goOn spend if_then_else_
+  counted depth x n l = rw (le-leb (n + 1) (stepsGranted g) l)
 
   record Found (depth x v : ℕ) : Type 0 where
     pub plain : Plain v
-    pub gives : (n : ℕ) → n + sizeIn (getD code x 0) ≤ getD g 0 0
-        → evaluateAt depth e x p (raw ts (n ∷ rest)) ≡ done (unpacked v) (raw ts ((n + sizeIn (getD code x 0)) ∷ rest))
+    pub gives : (n : ℕ) → n + sizeIn (getD code x 0) ≤ stepsGranted g
+        → expressionAt depth e x p (raw ts (n ∷ rest)) ≡ done (unpacked v) (raw ts ((n + sizeIn (getD code x 0)) ∷ rest))
 
   -- an operator, where its two sides are found
   module _ (depth x v : ℕ) (n : v ≡ 0 → ⊥) (inner : (y a : ℕ) → fastAt depth code (u ∷ rest) y ≡ a → (a ≡ 0 → ⊥) → Found depth y a) where
     operation : (w y z : ℕ) → w ≡ getD code x 0 → y ≡ x - 1 → z ≡ x - 1 - numberIn w → (a b : ℕ) → fastAt depth code (u ∷ rest) z ≡ a → fastAt depth code (u ∷ rest) y ≡ b
-        → 16 ≤ tagIn w → sizeIn w ≡ sizeIn (getD code z 0) + sizeIn (getD code y 0) + 1 → wordOn (tagIn w) a b ≡ v → Found (suc depth) x v
+        → firstOperator ≤ tagIn w → sizeIn w ≡ sizeIn (getD code z 0) + sizeIn (getD code y 0) + 1 → wordOn (tagIn w) a b ≡ v → Found (suc depth) x v
     operation w y z ew ey ez a b i j t s f =
         let c = combines program g (tagIn w) p a b v f n in
         let k : kindIn a ≡ 1 = c .left in
@@ -333,25 +335,25 @@ module _ (program code g ts rest : List ℕ) (u p : ℕ) where
           gives = rw (← ew) λ m d.
               let o : m + 1 + sizeIn (getD code z 0) + sizeIn (getD code y 0) ≡ m + sizeIn w = omega arith in
               rw (← o) (counted depth x m (omega arith)
-              ∙ rw (← ew) (sides (evaluateAt depth e) w x a b v (m + 1) (m + 1 + sizeIn (getD code z 0)) (m + 1 + sizeIn (getD code z 0) + sizeIn (getD code y 0)) t c
+              ∙ rw (← ew) (sides (expressionAt depth e) w x a b v (m + 1) (m + 1 + sizeIn (getD code z 0)) (m + 1 + sizeIn (getD code z 0) + sizeIn (getD code y 0)) t c
               (rw (← ez) (left .gives (m + 1) (omega arith))) (rw (← ey) (right .gives (m + 1 + sizeIn (getD code z 0)) (omega arith)))));
         }
 
   runs : (depth x v : ℕ) → fastAt depth code (u ∷ rest) x ≡ v → (v ≡ 0 → ⊥) → Found depth x v
   unfolding fastAt operationWord if_then_else_
   runs zero x v h n = absurd (n (sym h))
-  runs (suc depth) x v h n = go (λ y a q m. runs depth y a q m) (ltb (tagIn (getD code x 0)) 16) (sizesAgree (getD code x 0) (getD code (x - 1 - numberIn (getD code x 0)) 0) (getD code (x - 1) 0)) refl refl h
+  runs (suc depth) x v h n = go (λ y a q m. runs depth y a q m) (ltb (tagIn (getD code x 0)) firstOperator) (sizesAgree (getD code x 0) (getD code (x - 1 - numberIn (getD code x 0)) 0) (getD code (x - 1) 0)) refl refl h
     where
-      go : ((y a : ℕ) → fastAt depth code (u ∷ rest) y ≡ a → (a ≡ 0 → ⊥) → Found depth y a) → (i j : Bool) → ltb (tagIn (getD code x 0)) 16 ≡ i
+      go : ((y a : ℕ) → fastAt depth code (u ∷ rest) y ≡ a → (a ≡ 0 → ⊥) → Found depth y a) → (i j : Bool) → ltb (tagIn (getD code x 0)) firstOperator ≡ i
           → sizesAgree (getD code x 0) (getD code (x - 1 - numberIn (getD code x 0)) 0) (getD code (x - 1) 0) ≡ j
           → (if i then (λ _. leafWord (u ∷ rest) (getD code x 0)) else λ _. if j then (λ _. wordOn (tagIn (getD code x 0)) (fastAt depth code (u ∷ rest) (x - 1 - numberIn (getD code x 0))) (fastAt depth code (u ∷ rest) (x - 1))) else λ _. 0) ≡ v
           → Found (suc depth) x v
       go inner true j q s f =
-          let c = leaf (getD code x 0) v f n in
+          let c = leaf-found (getD code x 0) v f n in
           let o : sizeIn (getD code x 0) ≡ 1 = c .size in
           record {
             plain = c .plain;
-            gives = λ m d. rw o (counted depth x m (omega arith) ∙ c .gives (evaluateAt depth e) x (m + 1));
+            gives = λ m d. rw o (counted depth x m (omega arith) ∙ c .gives (expressionAt depth e) x (m + 1));
           }
       go inner false true q s f = operation depth x v n inner (getD code x 0) (x - 1) (x - 1 - numberIn (getD code x 0)) refl refl refl _ _ refl refl (ltb-false _ _ q) (eqb-true _ _ s) f
       go inner false false q s f = absurd (n (sym f))
@@ -359,17 +361,17 @@ module _ (program code g ts rest : List ℕ) (u p : ℕ) where
 -- ---- as the code has it
 record Applied (depth : ℕ) (code g ws : List ℕ) (x v : ℕ) (ws₁ : List ℕ) : Type 0 where
   pub fast : fastAt depth code ws x ≡ v
-  pub within : getD ws 0 0 + sizeIn (getD code x 0) ≤ getD g 0 0
-  pub words : ws₁ ≡ set ws 0 (getD ws 0 0 + sizeIn (getD code x 0))
+  pub within : getD ws stepsUsed 0 + sizeIn (getD code x 0) ≤ stepsGranted g
+  pub words : ws₁ ≡ set ws stepsUsed (getD ws stepsUsed 0 + sizeIn (getD code x 0))
 
 module _ (depth : ℕ) (code g ws : List ℕ) (x v : ℕ) (ws₁ : List ℕ) (h : Values depth code g ws x v ws₁) where
-  applied : (v ≡ 0 → ⊥) → Applied depth code g ws x v ws₁
+  as-applied : (v ≡ 0 → ⊥) → Applied depth code g ws x v ws₁
   unfolding applies if_then_else_
-  applied n = go (eqb (fastAt depth code ws x) 0) (leb (getD ws 0 0 + sizeIn (getD code x 0)) (getD g 0 0)) refl (h .result) (h .words)
+  as-applied n = go (eqb (fastAt depth code ws x) 0) (leb (getD ws stepsUsed 0 + sizeIn (getD code x 0)) (stepsGranted g)) refl (h .result) (h .words)
     where
-      go : (i j : Bool) → leb (getD ws 0 0 + sizeIn (getD code x 0)) (getD g 0 0) ≡ j
+      go : (i j : Bool) → leb (getD ws stepsUsed 0 + sizeIn (getD code x 0)) (stepsGranted g) ≡ j
           → v ≡ (if not i && j then (λ _. fastAt depth code ws x) else λ _. 0)
-          → ws₁ ≡ (if not i && j then (λ _. set ws 0 (getD ws 0 0 + sizeIn (getD code x 0))) else λ _. ws)
+          → ws₁ ≡ (if not i && j then (λ _. set ws stepsUsed (getD ws stepsUsed 0 + sizeIn (getD code x 0))) else λ _. ws)
           → Applied depth code g ws x v ws₁
       go true j q f d = absurd (n f)
       go false false q f d = absurd (n f)
@@ -378,18 +380,18 @@ module _ (depth : ℕ) (code g ws : List ℕ) (x v : ℕ) (ws₁ : List ℕ) (h 
   -- where it does not apply, nothing has changed
   pub unchanged : v ≡ 0 → ws₁ ≡ ws
   unfolding applies if_then_else_
-  unchanged z = go (eqb (fastAt depth code ws x) 0) (leb (getD ws 0 0 + sizeIn (getD code x 0)) (getD g 0 0)) refl (h .result) (h .words)
+  unchanged z = go (eqb (fastAt depth code ws x) 0) (leb (getD ws stepsUsed 0 + sizeIn (getD code x 0)) (stepsGranted g)) refl (h .result) (h .words)
     where
       go : (i j : Bool) → eqb (fastAt depth code ws x) 0 ≡ i
           → v ≡ (if not i && j then (λ _. fastAt depth code ws x) else λ _. 0)
-          → ws₁ ≡ (if not i && j then (λ _. set ws 0 (getD ws 0 0 + sizeIn (getD code x 0))) else λ _. ws)
+          → ws₁ ≡ (if not i && j then (λ _. set ws stepsUsed (getD ws stepsUsed 0 + sizeIn (getD code x 0))) else λ _. ws)
           → ws₁ ≡ ws
       go true j q f d = d
       go false false q f d = d
       go false true q f d = absurd (eqb-false _ _ q (sym f ∙ z))
 
-fast-found : (program code g ts ws : List ℕ) (p depth x v : ℕ) → 0 < length ws → fastAt depth code ws x ≡ v → (v ≡ 0 → ⊥) → getD ws 0 0 + sizeIn (getD code x 0) ≤ getD g 0 0
-    → evaluateAt depth (setting program code g) x p (raw ts ws) ≡ done (unpacked v) (raw ts (set ws 0 (getD ws 0 0 + sizeIn (getD code x 0))))
+fast-found : (program code g ts ws : List ℕ) (p depth x v : ℕ) → 0 < length ws → fastAt depth code ws x ≡ v → (v ≡ 0 → ⊥) → getD ws stepsUsed 0 + sizeIn (getD code x 0) ≤ stepsGranted g
+    → expressionAt depth (setting program code g) x p (raw ts ws) ≡ done (unpacked v) (raw ts (set ws stepsUsed (getD ws stepsUsed 0 + sizeIn (getD code x 0))))
 fast-found program code g ts [] p depth x v l h n d = absurd (omega arith)
 fast-found program code g ts (u ∷ rest) p depth x v l h n d = runs program code g ts rest u p depth x v h n .gives u d
 
@@ -397,29 +399,38 @@ fast-plain : (code ws : List ℕ) (depth x v : ℕ) → 0 < length ws → fastAt
 fast-plain code [] depth x v l h n = absurd (omega arith)
 fast-plain code (u ∷ rest) depth x v l h n = runs [] code [] [] rest u 0 depth x v h n .plain
 
-module _ (depth : ℕ) (code g ws : List ℕ) (x v : ℕ) (ws₁ : List ℕ) (h : Values depth code g ws x v ws₁) (l : 24584 ≤ length ws) (n : v ≡ 0 → ⊥) where
+module _ (depth : ℕ) (code g ws : List ℕ) (x v : ℕ) (ws₁ : List ℕ) (h : Values depth code g ws x v ws₁) (l : fixedWords ≤ length ws) (n : v ≡ 0 → ⊥) where
   pub plain : Plain v
-  plain = fast-plain code ws depth x v (omega arith) (applied depth code g ws x v ws₁ h n .fast) n
+  plain = fast-plain code ws depth x v (omega arith) (as-applied depth code g ws x v ws₁ h n .fast) n
 
   -- the evaluator gives the word's value, and leaves the words so
-  pub evaluates : (program ts : List ℕ) (p : ℕ) → shown (Good (unpacked v)) ts ws₁ ≡ evaluateAt depth (setting program code g) x p (raw ts ws)
+  pub evaluates : (program ts : List ℕ) (p : ℕ) → shown (Good (unpacked v)) ts ws₁ ≡ expressionAt depth (setting program code g) x p (raw ts ws)
   unfolding shown
   evaluates program ts p =
-      let q = applied depth code g ws x v ws₁ h n in
+      let q = as-applied depth code g ws x v ws₁ h n in
       sym (rw (q .words) (fast-found program code g ts ws p depth x v (omega arith) (q .fast) n (q .within)))
 
 -- ---- an argument
 module _ (program code g : List ℕ) (depth p : ℕ) (ts ws : List ℕ) (y w : ℕ) (ws₁ : List ℕ) (h : Values depth code g ws y w ws₁) where
-  pub push-fast : (r : Answer) (ws₂ : List ℕ) → Valid program g ts ws → (w ≡ 0 → ⊥) → Answers ws₁ (pushWord w p) r ws₂
-      → shown r ts ws₂ ≡ pushed (evaluateAt depth (setting program code g)) y p (raw ts ws)
+  pub push-fast : (r : Answer) (ws₂ : List ℕ) → Lent g ts ws → (w ≡ 0 → ⊥) → Answers ws₁ (pushWord w p) r ws₂
+      → shown r ts ws₂ ≡ argumentOf (expressionAt depth (setting program code g)) y p (raw ts ws)
   push-fast r ws₂ v n q =
-      let l : 24584 ≤ length ws = omega (arith, v .lent .room .words) in
-      laws.push-goes (evaluateAt depth (setting program code g)) p ts ws (Good (unpacked w)) ts ws₁ y w (unpacked w) r ws₂
+      let l : fixedWords ≤ length ws = omega (arith, v .room .words) in
+      laws.push-goes (expressionAt depth (setting program code g)) p ts ws (Good (unpacked w)) ts ws₁ y w (unpacked w) r ws₂
       (evaluates depth code g ws y w ws₁ h l n program ts p) refl (sym (plain depth code g ws y w ws₁ h l n .back)) q
 
+  -- where it does not apply, the argument is evaluated
   module _ (z : w ≡ 0) where
-    pub still-valid : Valid program g ts ws → Valid program g ts ws₁
-    still-valid v = rw (unchanged depth code g ws y w ws₁ h z) v
+    same : ws₁ ≡ ws
+    same = unchanged depth code g ws y w ws₁ h z
 
-    pub push-slow : (o : Out Value) → o ≡ pushed (evaluateAt depth (setting program code g)) y p (raw ts ws₁) → o ≡ pushed (evaluateAt depth (setting program code g)) y p (raw ts ws)
-    push-slow o q = rw (unchanged depth code g ws y w ws₁ h z) at q
+    pub slow-lent : Lent g ts ws → Lent g ts ws₁
+    slow-lent l = rw same l
+
+    module _ (a : Answer) (ts₂ ws₂ : List ℕ) (c : shown a ts₂ ws₂ ≡ expressionAt depth (setting program code g) y p (raw ts ws₁)) where
+      pub slow-stops : (n q : ℕ) → a ≡ Bad n q → shown (Bad n q) ts₂ ws₂ ≡ argumentOf (expressionAt depth (setting program code g)) y p (raw ts ws)
+      slow-stops n q f = laws.push-stops (expressionAt depth (setting program code g)) p ts ws a ts₂ ws₂ y n q (rw same at c) f
+
+      pub slow-goes : (k : ℕ) (v : Value) (r : Answer) (ws₃ : List ℕ) → a ≡ Good v → k ≡ packed v → Answers ws₂ (pushWord k p) r ws₃
+          → shown r ts₂ ws₃ ≡ argumentOf (expressionAt depth (setting program code g)) y p (raw ts ws)
+      slow-goes k v r ws₃ f e q = laws.push-goes (expressionAt depth (setting program code g)) p ts ws a ts₂ ws₂ y k v r ws₃ (rw same at c) f e q

@@ -1,4 +1,2 @@
 pub mod Laws
-pub mod Leading
-pub mod Kept
 pub mod Fast

@@ -1,94 +1,218 @@
--- One law for each way through each function on statements that hold others.
-use Prim.Native.Nat.{ℕ, suc, _+_, _-_, _≤_, _<_}
+-- One law for each way through each function.
+use Prim.Native.Nat.{ℕ, suc, _+_, _-_, _^_, _≤_, _<_}
 use mathlib.Core.Path.{_≡_, refl, sym, _∙_}
 use mathlib.Core.Bool.{Bool, true, false, not}
-use mathlib.Core.List.{List}
+use mathlib.Core.List.{List, [], _∷_}
+use mathlib.Core.Logic.{⊎-elim}
 use native.Mathlib.Omega.{arith}
 use lib.ListN.{getD, length}
+use denote.Enum.Declared.{tagOf}
+use types.Run.{OneOf}
 use borrow.Author.Tests.{lt-ltb, le-ltb, ne-eqb, not-true, not-false}
 use Rattle.meaning.specs.Basics.{if_then_else_}
-use Rattle.code.specs.Code.{tagIn, sizeIn}
-use Rattle.values.specs.declared.Value.{Value}
-use Rattle.stores.specs.Act.{raw, Out, goOn, _>>=_, give, fail, count, Passes}
+use Rattle.machine.proofs.Value as value
+use Rattle.machine.specs.Opcodes.{tagIn, sizeIn, placeIn, extraIn, tagDeclare, tagUpdate, tagWhen, tagWhile, tagBlock}
+use Rattle.machine.specs.declared.Value.{Value}
+use Rattle.machine.specs.declared.Value.the-variants.{Integer, Text, Boolean, Nothing, Table, Shape}
+use Rattle.machine.specs.declared.Answer.{Answer}
+use Rattle.machine.specs.declared.Answer.the-variants.{Good, Bad}
+use Rattle.machine.specs.Words.{kindIn, kindShape, packed, unpacked}
+use Rattle.machine.specs.Layout.{fixedWords, stepsGranted, Room, Lent}
+use Rattle.machine.specs.Act.{Raw, raw, Out, stop, Act, goOn, _>>=_, give, fail, count, shown, passed, Passes, PassesIn}
+use Rattle.machine.specs.Tables.{storeEntry}
+use Rattle.machine.specs.Operate.{withTable}
+use Rattle.machine.specs.Evaluate.{Setting, setting, expressionAt}
+use Rattle.machine.specs.declared.Flow.{Flow}
+use Rattle.machine.specs.declared.Flow.the-variants.{Onward, Returned, Stopped}
+use Rattle.machine.specs.declared.Outcome.{Outcome}
+use Rattle.machine.specs.declared.Outcome.the-variants as outcome
+use Rattle.machine.specs.Effects.{shownFlow, shownTest, Flows, declaring, finishing, outcomeIn, saying}
+use Rattle.machine.specs.Execute.{Executor, valueOf, simpleAt, updateValue, updateIn, updateAt, testOf, continue, whenAt, turning, looping, repeatAt, statementsFrom, countedAt, statementBy, statementAt, bodyOf}
+use Rattle.fastpath.specs.Fast.{Values}
 use Rattle.stores.proofs.Acts.{after-pass, after-refusal}
-use Rattle.invariant.specs.Invariant.{Valid}
-use Rattle.evaluator.specs.Evaluate.{Setting, setting}
-use Rattle.plain.specs.declared.Flow.{Flow}
-use Rattle.plain.specs.declared.Flow.the-variants.{Onward, Returned, Stopped}
-use Rattle.plain.specs.declared.Outcome.{Outcome}
-use Rattle.plain.specs.declared.Outcome.the-variants as outcome
-use Rattle.plain.specs.Asked.{Flows}
-use Rattle.executor.specs.Execute.{Executor, continue, looping, loopFrom, whenAt, executeAll, blockAt, executeSimple, executeBy, executeAt, executeBody}
-use Rattle.plain.specs.Plain.{shownFlow, shownTest, placeIn, extraIn, declaring, assigningOf, updating, returning, acting, tested, turning}
-use Rattle.plain.proofs.Acts.{flow-on, flow-returns, flow-stops, test-holds, test-fails, test-stops}
+use Rattle.primaries.proofs.Acts.{goes-on, stops}
+use Rattle.effects.proofs.Acts.{flow-on, flow-returns, flow-stops, test-holds, test-fails, test-stops}
+use Rattle.evaluator.proofs.Laws.{still-lent}
+use Rattle.evaluator.proofs.Fast.{plain, evaluates, unchanged}
+use Rattle.executor.specs.Asked.{Starts, Runs, Body}
+
+-- ---- what is lent stays as long
+module _ (g ts ws ts₁ ws₁ : List ℕ) (i : length ts₁ ≡ length ts) (j : length ws₁ ≡ length ws) where
+  pub still-starts : (y z : ℕ) → Starts g ts ws y → z ≤ y → Starts g ts₁ ws₁ z
+  still-starts y z s l = record { lent = still-lent g ts ws ts₁ ws₁ (s .lent) i j; small = omega (arith, s .small) }
+
+  pub still-runs : (depth x : ℕ) → Runs g ts ws depth x → Runs g ts₁ ws₁ depth x
+  still-runs depth x s = record { lent = still-lent g ts ws ts₁ ws₁ (s .lent) i j; room = s .room }
+
+pub still-room : (g ts ws ws₁ : List ℕ) → Lent g ts ws → length ws₁ ≡ length ws → Room g ws₁
+still-room g ts ws ws₁ l j = still-lent g ts ws ts ws₁ l refl j .room
+
+pub slow-starts : (code g ts ws : List ℕ) (y k : ℕ) (ws₁ : List ℕ) → Values (y + 1) code g ws y k ws₁ → k ≡ 0 → Lent g ts ws → y < 2 ^ 63 → Starts g ts ws₁ y
+slow-starts code g ts ws y k ws₁ h z l s = record { lent = rw (unchanged (y + 1) code g ws y k ws₁ h z) l; small = s }
+
+-- ---- an expression
+pub valued : (program code g : List ℕ) (y p : ℕ) (ts ws : List ℕ) (o : Out Value) → o ≡ expressionAt (y + 1) (setting program code g) y p (raw ts ws)
+    → o ≡ valueOf (setting program code g) y p (raw ts ws)
+unfolding valueOf
+valued program code g y p ts ws o h = h
+
+-- ---- worked out at once
+pub no-shape : (code g ts ws : List ℕ) (y k : ℕ) (ws₁ : List ℕ) → Values (y + 1) code g ws y k ws₁ → Lent g ts ws → (k ≡ 0 → ⊥) → kindIn k ≡ kindShape → ⊥
+no-shape code g ts ws y k ws₁ h l n = plain (y + 1) code g ws y k ws₁ h (omega (arith, l .room .words)) n .no-shape
+
+module _ (program code g : List ℕ) (p : ℕ) (ts ws : List ℕ) (y k : ℕ) (ws₁ : List ℕ) (h : Values (y + 1) code g ws y k ws₁) where
+  module _ (l : Lent g ts ws) (n : k ≡ 0 → ⊥) where
+    long : fixedWords ≤ length ws
+    long = omega (arith, l .room .words)
+
+    at-once : {B : Type 0} (f : Value → Act B) → goOn (valueOf (setting program code g) y p (raw ts ws)) f ≡ f (unpacked k) (raw ts ws₁)
+    unfolding valueOf
+    at-once f = goes-on f (evaluates (y + 1) code g ws y k ws₁ h long n program ts p) refl
+
+    pub simple-fast : (w x : ℕ) (r : Flow) (ws₂ : List ℕ) → y ≡ x + sizeIn w - 1 → Flows ws₁ (finishing g w k p) r ws₂
+        → shownFlow r ts ws₂ ≡ simpleAt (setting program code g) w x p (raw ts ws)
+    unfolding simpleAt _>>=_
+    simple-fast w x r ws₂ e q = q .equal ts ∙ sym (rw (← e) (at-once _ ∙ rw (plain (y + 1) code g ws y k ws₁ h long n .back)))
+
+    pub test-fast : (t : Outcome) → t ≡ outcomeIn k p → shownTest t ts ws₁ ≡ testOf (setting program code g) y p (raw ts ws)
+    unfolding testOf saying _>>=_
+    test-fast t q = sym (at-once _ ∙ rw (plain (y + 1) code g ws y k ws₁ h long n .back, q))
+
+-- ---- a statement of one expression, and a test, where that does not apply
+module _ (program code g : List ℕ) (p : ℕ) (ts ws : List ℕ) (y i : ℕ) (ws₀ : List ℕ) (c : Values (y + 1) code g ws y i ws₀) (z : i ≡ 0) (a : Answer) (ts₁ ws₁ : List ℕ)
+    (h : shown a ts₁ ws₁ ≡ valueOf (setting program code g) y p (raw ts ws₀)) where
+  there : shown a ts₁ ws₁ ≡ valueOf (setting program code g) y p (raw ts ws)
+  there = rw (unchanged (y + 1) code g ws y i ws₀ c z) at h
+
+  pub simple-done : (w x k : ℕ) (v : Value) (r : Flow) (ws₂ : List ℕ) → y ≡ x + sizeIn w - 1 → a ≡ Good v → k ≡ packed v → Flows ws₁ (finishing g w k p) r ws₂
+      → shownFlow r ts₁ ws₂ ≡ simpleAt (setting program code g) w x p (raw ts ws)
+  unfolding simpleAt _>>=_
+  simple-done w x k v r ws₂ e f m q = q .equal ts₁ ∙ sym (rw (← e) (goes-on _ there f ∙ rw m))
+
+  pub simple-stops : (w x n q : ℕ) → y ≡ x + sizeIn w - 1 → a ≡ Bad n q → shownFlow (Stopped n q) ts₁ ws₁ ≡ simpleAt (setting program code g) w x p (raw ts ws)
+  unfolding simpleAt _>>=_ shownFlow
+  simple-stops w x n q e f = sym (rw (← e) (stops _ there f))
+
+  pub test-says : (k : ℕ) (v : Value) (t : Outcome) → a ≡ Good v → k ≡ packed v → t ≡ outcomeIn k p → shownTest t ts₁ ws₁ ≡ testOf (setting program code g) y p (raw ts ws)
+  unfolding testOf saying _>>=_
+  test-says k v t f m q = sym (goes-on _ there f ∙ rw (← m, q))
+
+  pub test-refused : (n q : ℕ) → a ≡ Bad n q → shownTest (outcome.Stopped n q) ts₁ ws₁ ≡ testOf (setting program code g) y p (raw ts ws)
+  unfolding testOf _>>=_ shownTest
+  test-refused n q f = sym (stops _ there f)
+
+-- ---- an update
+not-table : {A : Type 0} (p : ℕ) (r : Raw) (v : Value) (k : ℕ → Act A) → OneOf (0 ∷ 1 ∷ 2 ∷ 3 ∷ 5 ∷ []) (tagOf value.the-type v) → withTable p v k r ≡ stop 20 p r
+unfolding withTable fail
+not-table p r (Table t) k o =
+    ⊎-elim (λ z. absurd (omega arith)) (⊎-elim (λ z. absurd (omega arith)) (⊎-elim (λ z. absurd (omega arith)) (⊎-elim (λ z. absurd (omega arith)) (λ z. absurd (omega arith))))) o
+not-table p r (Integer z) k o = refl
+not-table p r (Text h) k o = refl
+not-table p r (Boolean b) k o = refl
+not-table p r Nothing k o = refl
+not-table p r (Shape i) k o = refl
+
+module _ (program code g : List ℕ) (p : ℕ) (ts ws : List ℕ) (y wy b wb a : ℕ) (d₁ : wy ≡ getD code y 0) (d₂ : b ≡ y - sizeIn wy) (d₃ : wb ≡ getD code b 0) (d₄ : a ≡ b - sizeIn wb)
+    (r₁ : Answer) (ts₁ ws₁ : List ℕ) (h₁ : shown r₁ ts₁ ws₁ ≡ valueOf (setting program code g) a p (raw ts ws)) where
+  key-is : b ≡ y - sizeIn (getD code y 0)
+  key-is = d₂ ∙ rw d₁
+
+  table-is : a ≡ b - sizeIn (getD code b 0)
+  table-is = d₄ ∙ rw d₃
+
+  pub table-stops : (n q : ℕ) → r₁ ≡ Bad n q → shownFlow (Stopped n q) ts₁ ws₁ ≡ updateAt (setting program code g) y p (raw ts ws)
+  unfolding updateAt _>>=_ shownFlow
+  table-stops n q f = sym (rw (← key-is, ← table-is) (stops _ h₁ f))
+
+  pub table-other : (v : Value) → r₁ ≡ Good v → OneOf (0 ∷ 1 ∷ 2 ∷ 3 ∷ 5 ∷ []) (tagOf value.the-type v) → shownFlow (Stopped 20 p) ts₁ ws₁ ≡ updateAt (setting program code g) y p (raw ts ws)
+  unfolding updateAt _>>=_ shownFlow
+  table-other v f o = sym (rw (← key-is, ← table-is) (goes-on _ h₁ f ∙ not-table p (raw ts₁ ws₁) v _ o))
+
+  module _ (v₁ : Value) (t : ℕ) (f₁ : r₁ ≡ Good v₁) (e₁ : v₁ ≡ Table t) (r₂ : Answer) (ts₂ ws₂ : List ℕ) (h₂ : shown r₂ ts₂ ws₂ ≡ valueOf (setting program code g) b p (raw ts₁ ws₁)) where
+    with-table : updateAt (setting program code g) y p (raw ts ws) ≡ goOn (valueOf (setting program code g) b p (raw ts₁ ws₁)) (λ k. updateValue (setting program code g) t (packed k) y p)
+    unfolding updateAt updateIn _>>=_ withTable
+    with-table = rw (← key-is, ← table-is) (goes-on _ h₁ f₁ ∙ rw e₁)
+
+    pub key-stops : (n q : ℕ) → r₂ ≡ Bad n q → shownFlow (Stopped n q) ts₂ ws₂ ≡ updateAt (setting program code g) y p (raw ts ws)
+    unfolding shownFlow
+    key-stops n q f = sym (with-table ∙ stops _ h₂ f)
+
+    module _ (v₂ : Value) (key : ℕ) (f₂ : r₂ ≡ Good v₂) (e₂ : key ≡ packed v₂) (r₃ : Answer) (ts₃ ws₃ : List ℕ) (h₃ : shown r₃ ts₃ ws₃ ≡ valueOf (setting program code g) y p (raw ts₂ ws₂)) where
+      with-key : updateAt (setting program code g) y p (raw ts ws)
+          ≡ goOn (valueOf (setting program code g) y p (raw ts₂ ws₂)) (λ u. storeEntry program g t key (packed u) p >>= λ _. give Onward)
+      unfolding updateValue _>>=_
+      with-key = with-table ∙ goes-on _ h₂ f₂ ∙ rw e₂
+
+      pub value-stops : (n q : ℕ) → r₃ ≡ Bad n q → shownFlow (Stopped n q) ts₃ ws₃ ≡ updateAt (setting program code g) y p (raw ts ws)
+      unfolding shownFlow
+      value-stops n q f = sym (with-key ∙ stops _ h₃ f)
+
+      module _ (v₃ : Value) (k : ℕ) (f₃ : r₃ ≡ Good v₃) (e₃ : k ≡ packed v₃) (ok : Bool) (ws₄ : List ℕ) (d : PassesIn ts₃ ws₃ 77 (storeEntry program g t key k) ok ws₄) where
+        pub update-refused : not ok ≡ true → shownFlow (Stopped 77 p) ts₃ ws₄ ≡ updateAt (setting program code g) y p (raw ts ws)
+        unfolding _>>=_ goOn passed shownFlow
+        update-refused c = sym (with-key ∙ goes-on _ h₃ f₃ ∙ rw (← e₃, ← d .equal p, not-true ok c))
+
+        pub update-done : not ok ≡ false → shownFlow Onward ts₃ ws₄ ≡ updateAt (setting program code g) y p (raw ts ws)
+        unfolding _>>=_ goOn passed give shownFlow
+        update-done c = sym (with-key ∙ goes-on _ h₃ f₃ ∙ rw (← e₃, ← d .equal p, not-false ok c))
 
 -- ---- at a depth
 module _ (program code g : List ℕ) (x : ℕ) (ts ws : List ℕ) (depth : ℕ) where
-  pub too-deep : depth ≡ 0 → shownFlow (Stopped 20 0) ts ws ≡ executeAt depth (setting program code g) x (raw ts ws)
-  unfolding executeAt fail shownFlow
+  pub too-deep : depth ≡ 0 → shownFlow (Stopped 20 0) ts ws ≡ statementAt depth (setting program code g) x (raw ts ws)
+  unfolding statementAt fail shownFlow
   too-deep z = rw z
 
-  pub executed : (w : ℕ) (o : Out Flow) → (depth ≡ 0 → ⊥) → w ≡ getD code x 0
-      → o ≡ executeBy (executeAt (depth - 1) (setting program code g)) (setting program code g) w x (placeIn w) (raw ts ws) → o ≡ executeAt depth (setting program code g) x (raw ts ws)
-  unfolding executeAt
-  executed w o n e h =
-      let d : depth ≡ suc (depth - 1) = omega (arith, n) in
-      h ∙ sym (rw d (rw (← d, e)))
+  module _ (n : depth ≡ 0 → ⊥) (w : ℕ) (f : w ≡ getD code x 0) (p : ℕ) (j : p ≡ placeIn w) (tag : ℕ) (i : tag ≡ tagIn w) where
+    deeper : depth ≡ suc (depth - 1)
+    deeper = omega (arith, n)
 
--- ---- by the word
-module _ (inner : Executor) (program code g : List ℕ) (w x : ℕ) (ts ws : List ℕ) (tag p : ℕ) (i : tag ≡ tagIn w) (j : p ≡ placeIn w) where
-  pub is-loop : (k : ℕ) (o : Out Flow) → tag ≡ 36 → k ≡ extraIn w → o ≡ loopFrom inner (setting program code g) (x + k) p (raw ts ws)
-      → o ≡ executeBy inner (setting program code g) w x (placeIn w) (raw ts ws)
-  unfolding executeBy if_then_else_
-  is-loop k o t e h = h ∙ rw (← i, t, j, e)
+    begun : statementAt depth (setting program code g) x (raw ts ws) ≡ statementBy (statementAt (depth - 1) (setting program code g)) (setting program code g) w x p (raw ts ws)
+    unfolding statementAt
+    begun = rw deeper (rw (← deeper, ← f, ← j))
 
-  module _ (n : tag ≡ 36 → ⊥) (ok : Bool) (ws₁ : List ℕ) (c : Passes ws 79 (count g) ok ws₁) where
-    pub no-step : not ok ≡ true → shownFlow (Stopped 79 p) ts ws₁ ≡ executeBy inner (setting program code g) w x (placeIn w) (raw ts ws)
-    unfolding executeBy if_then_else_ _>>=_ shownFlow
-    no-step t = sym (rw (← i, ne-eqb _ _ n, ← j) (after-refusal _ p ts (rw (not-true ok t) at c)))
+    pub is-loop : (k : ℕ) (o : Out Flow) → tag ≡ tagWhile → k ≡ extraIn w → o ≡ repeatAt (statementAt (depth - 1) (setting program code g)) (setting program code g) (x + k) p (raw ts ws)
+        → o ≡ statementAt depth (setting program code g) x (raw ts ws)
+    unfolding statementBy if_then_else_
+    is-loop k o t e h = h ∙ sym (begun ∙ rw (← i, t, e))
 
-    pub is-simple : (o : Out Flow) → not ok ≡ false → o ≡ executeSimple inner (setting program code g) w x p (raw ts ws₁)
-        → o ≡ executeBy inner (setting program code g) w x (placeIn w) (raw ts ws)
-    unfolding executeBy if_then_else_ _>>=_
-    is-simple o t h = h ∙ sym (rw (← i, ne-eqb _ _ n, ← j) (after-pass _ p ts (rw (not-false ok t) at c)))
+    module _ (m : tag ≡ tagWhile → ⊥) (ok : Bool) (ws₁ : List ℕ) (c : Passes ws 79 (count g) ok ws₁) where
+      pub no-step : not ok ≡ true → shownFlow (Stopped 79 p) ts ws₁ ≡ statementAt depth (setting program code g) x (raw ts ws)
+      unfolding statementBy if_then_else_ _>>=_ shownFlow
+      no-step t = sym (begun ∙ rw (← i, ne-eqb _ _ m) (after-refusal _ p ts (rw (not-true ok t) at c)))
 
-module _ (inner : Executor) (e : Setting) (w x p : ℕ) (ts ws : List ℕ) (tag : ℕ) (i : tag ≡ tagIn w) where
-  pub is-declaration : (k : ℕ) (r : Flow) (ws₁ : List ℕ) → tag ≡ 32 → k ≡ extraIn w → Flows ws (declaring k p) r ws₁ → shownFlow r ts ws₁ ≡ executeSimple inner e w x p (raw ts ws)
-  unfolding executeSimple if_then_else_
-  is-declaration k r ws₁ t f h = h .equal ts ∙ rw (← i, t, f)
+      module _ (t : not ok ≡ false) where
+        stepped : statementAt depth (setting program code g) x (raw ts ws) ≡ countedAt (statementAt (depth - 1) (setting program code g)) (setting program code g) w x p (raw ts ws₁)
+        unfolding statementBy if_then_else_ _>>=_
+        stepped = begun ∙ rw (← i, ne-eqb _ _ m) (after-pass _ p ts (rw (not-false ok t) at c))
 
-  pub is-assignment : (y k : ℕ) (o : Out Flow) → tag ≡ 33 → y ≡ x + sizeIn w - 1 → k ≡ extraIn w → o ≡ assigningOf e y k p (raw ts ws) → o ≡ executeSimple inner e w x p (raw ts ws)
-  unfolding executeSimple if_then_else_
-  is-assignment y k o t f g h = h ∙ rw (← i, t, f, g)
+        pub is-declaration : (k : ℕ) (r : Flow) (ws₂ : List ℕ) → tag ≡ tagDeclare → k ≡ extraIn w → Flows ws₁ (declaring k p) r ws₂
+            → shownFlow r ts ws₂ ≡ statementAt depth (setting program code g) x (raw ts ws)
+        unfolding countedAt if_then_else_
+        is-declaration k r ws₂ q e h = h .equal ts ∙ sym (stepped ∙ rw (← i, q, e))
 
-  pub is-update : (y : ℕ) (o : Out Flow) → tag ≡ 34 → y ≡ x + sizeIn w - 1 → o ≡ updating e y p (raw ts ws) → o ≡ executeSimple inner e w x p (raw ts ws)
-  unfolding executeSimple if_then_else_
-  is-update y o t f h = h ∙ rw (← i, t, f)
+        pub is-update : (y : ℕ) (o : Out Flow) → tag ≡ tagUpdate → y ≡ x + sizeIn w - 1 → o ≡ updateAt (setting program code g) y p (raw ts ws₁)
+            → o ≡ statementAt depth (setting program code g) x (raw ts ws)
+        unfolding countedAt if_then_else_
+        is-update y o q e h = h ∙ sym (stepped ∙ rw (← i, q, e))
 
-  pub is-when : (k : ℕ) (o : Out Flow) → tag ≡ 35 → k ≡ extraIn w → o ≡ whenAt inner e (x + k) p (raw ts ws) → o ≡ executeSimple inner e w x p (raw ts ws)
-  unfolding executeSimple if_then_else_
-  is-when k o t f h = h ∙ rw (← i, t, f)
+        pub is-when : (k : ℕ) (o : Out Flow) → tag ≡ tagWhen → k ≡ extraIn w → o ≡ whenAt (statementAt (depth - 1) (setting program code g)) (setting program code g) (x + k) p (raw ts ws₁)
+            → o ≡ statementAt depth (setting program code g) x (raw ts ws)
+        unfolding countedAt if_then_else_
+        is-when k o q e h = h ∙ sym (stepped ∙ rw (← i, q, e))
 
-  pub is-return : (y : ℕ) (o : Out Flow) → tag ≡ 37 → y ≡ x + sizeIn w - 1 → o ≡ returning e y p (raw ts ws) → o ≡ executeSimple inner e w x p (raw ts ws)
-  unfolding executeSimple if_then_else_
-  is-return y o t f h = h ∙ rw (← i, t, f)
+        pub is-block : (k : ℕ) (o : Out Flow) → tag ≡ tagBlock → k ≡ sizeIn w
+            → o ≡ statementsFrom (k + 1) (statementAt (depth - 1) (setting program code g)) (setting program code g) (x + 1) (x + k) (raw ts ws₁)
+            → o ≡ statementAt depth (setting program code g) x (raw ts ws)
+        unfolding countedAt if_then_else_
+        is-block k o q e h = h ∙ sym (stepped ∙ rw (← i, q, e))
 
-  pub is-block : (o : Out Flow) → tag ≡ 38 → o ≡ blockAt inner e w x (raw ts ws) → o ≡ executeSimple inner e w x p (raw ts ws)
-  unfolding executeSimple if_then_else_
-  is-block o t h = h ∙ rw (← i, t)
-
-  pub is-act : (y : ℕ) (o : Out Flow) → (tag ≡ 32 → ⊥) → (tag ≡ 33 → ⊥) → (tag ≡ 34 → ⊥) → (tag ≡ 35 → ⊥) → (tag ≡ 37 → ⊥) → (tag ≡ 38 → ⊥) → y ≡ x + sizeIn w - 1
-      → o ≡ acting e y p (raw ts ws) → o ≡ executeSimple inner e w x p (raw ts ws)
-  unfolding executeSimple if_then_else_
-  is-act y o a b c d f g k h = h ∙ rw (← i, ne-eqb _ _ a, ne-eqb _ _ b, ne-eqb _ _ c, ne-eqb _ _ d, ne-eqb _ _ f, ne-eqb _ _ g, k)
-
-pub in-block : (inner : Executor) (e : Setting) (w x n : ℕ) (ts ws : List ℕ) (o : Out Flow) → n ≡ sizeIn w → o ≡ executeAll (n + 1) inner e (x + 1) (x + n) (raw ts ws)
-    → o ≡ blockAt inner e w x (raw ts ws)
-unfolding blockAt
-in-block inner e w x n ts ws o f h = h ∙ rw f
+        pub is-simple : (o : Out Flow) → (tag ≡ tagDeclare → ⊥) → (tag ≡ tagUpdate → ⊥) → (tag ≡ tagWhen → ⊥) → (tag ≡ tagBlock → ⊥)
+            → o ≡ simpleAt (setting program code g) w x p (raw ts ws₁) → o ≡ statementAt depth (setting program code g) x (raw ts ws)
+        unfolding countedAt if_then_else_
+        is-simple o a b d e h = h ∙ sym (stepped ∙ rw (← i, ne-eqb _ _ a, ne-eqb _ _ b, ne-eqb _ _ d, ne-eqb _ _ e))
 
 -- ---- a statement if a test holds
-module _ (inner : Executor) (e : Setting) (y p : ℕ) (ts ws : List ℕ) (t : Outcome) (ts₁ ws₁ : List ℕ) (h : shownTest t ts₁ ws₁ ≡ tested e y p (raw ts ws)) where
+module _ (inner : Executor) (e : Setting) (y p : ℕ) (ts ws : List ℕ) (t : Outcome) (ts₁ ws₁ : List ℕ) (h : shownTest t ts₁ ws₁ ≡ testOf e y p (raw ts ws)) where
   pub when-holds : (r s : Flow) (ts₂ ws₂ : List ℕ) → t ≡ outcome.Yes → shownFlow r ts₂ ws₂ ≡ inner (y + 1) (raw ts₁ ws₁) → r ≡ s → shownFlow s ts₂ ws₂ ≡ whenAt inner e y p (raw ts ws)
   unfolding whenAt _>>=_ if_then_else_
   when-holds r s ts₂ ws₂ f q b = rw (← b) q ∙ sym (test-holds _ h f)
@@ -104,104 +228,121 @@ module _ (inner : Executor) (e : Setting) (y p : ℕ) (ts ws : List ℕ) (t : Ou
 -- ---- a loop
 -- what is left of it with so many turns comes to the whole
 pub record Looping (program code g : List ℕ) (depth : ℕ) (ts₀ ws₀ : List ℕ) (y p : ℕ) (ts ws : List ℕ) (turns : ℕ) : Type 0 where
-  pub valid : Valid program g ts ws
+  pub runs : Runs g ts ws depth (y + 1)
   pub texts : length ts ≡ length ts₀
   pub words : length ws ≡ length ws₀
-  pub rest : loopFrom (executeAt depth (setting program code g)) (setting program code g) y p (raw ts₀ ws₀)
-      ≡ looping turns (setting program code g) y p (executeAt depth (setting program code g) (y + 1)) (raw ts ws)
+  pub rest : repeatAt (statementAt depth (setting program code g)) (setting program code g) y p (raw ts₀ ws₀)
+      ≡ looping turns (setting program code g) y p (statementAt depth (setting program code g) (y + 1)) (raw ts ws)
 
 module _ (program code g : List ℕ) (depth : ℕ) (ts₀ ws₀ : List ℕ) (y p : ℕ) where
-  pub loop-first : Valid program g ts₀ ws₀ → Looping program code g depth ts₀ ws₀ y p ts₀ ws₀ (getD g 0 0 + 1)
-  unfolding loopFrom
-  loop-first v = record { valid = v; texts = refl; words = refl; rest = refl }
+  abbrev whole : Out Flow
+  whole = repeatAt (statementAt depth (setting program code g)) (setting program code g) y p (raw ts₀ ws₀)
+
+  pub loop-first : Runs g ts₀ ws₀ depth (y + 1) → Looping program code g depth ts₀ ws₀ y p ts₀ ws₀ (stepsGranted g + 1)
+  unfolding repeatAt
+  loop-first s = record { runs = s; texts = refl; words = refl; rest = refl }
 
   module _ (ts ws : List ℕ) (turns : ℕ) (l : Looping program code g depth ts₀ ws₀ y p ts ws turns) where
-    pub loop-short : turns ≡ 0 → shownFlow (Stopped 79 p) ts ws ≡ loopFrom (executeAt depth (setting program code g)) (setting program code g) y p (raw ts₀ ws₀)
+    pub loop-short : turns ≡ 0 → shownFlow (Stopped 79 p) ts ws ≡ whole
     unfolding looping fail shownFlow
     loop-short z = sym (l .rest ∙ rw z)
 
-    module _ (m : 0 < turns) (t : Outcome) (ts₁ ws₁ : List ℕ) (h : shownTest t ts₁ ws₁ ≡ turning (setting program code g) y p (raw ts ws)) where
-      one-turn : loopFrom (executeAt depth (setting program code g)) (setting program code g) y p (raw ts₀ ws₀)
-          ≡ goOn (turning (setting program code g) y p (raw ts ws))
-          (λ b. if b then (λ _. executeAt depth (setting program code g) (y + 1) >>= λ f. continue f (looping (turns - 1) (setting program code g) y p (executeAt depth (setting program code g) (y + 1)))) else λ _. give Onward)
+    module _ (m : 0 < turns) (ok : Bool) (wsₛ : List ℕ) (c : Passes ws 79 (count g) ok wsₛ) where
+      turn-by : whole ≡ goOn (turning (setting program code g) y p (raw ts ws))
+          (λ b. if b then (λ _. statementAt depth (setting program code g) (y + 1) >>= λ f. continue f (looping (turns - 1) (setting program code g) y p (statementAt depth (setting program code g) (y + 1)))) else λ _. give Onward)
       unfolding looping _>>=_
-      one-turn =
+      turn-by =
           let d : turns ≡ suc (turns - 1) = omega arith in
           l .rest ∙ rw d (rw (← d))
 
-      pub loop-stops : (n q : ℕ) → t ≡ outcome.Stopped n q → shownFlow (Stopped n q) ts₁ ws₁ ≡ loopFrom (executeAt depth (setting program code g)) (setting program code g) y p (raw ts₀ ws₀)
-      unfolding shownFlow
-      loop-stops n q f = sym (one-turn ∙ test-stops _ h f)
+      pub loop-refused : not ok ≡ true → shownFlow (Stopped 79 p) ts wsₛ ≡ whole
+      unfolding turning _>>=_ goOn shownFlow
+      loop-refused t = sym (turn-by ∙ rw (after-refusal (λ _. testOf (setting program code g) y p) p ts (rw (not-true ok t) at c)))
 
-      pub loop-ends : t ≡ outcome.No → shownFlow Onward ts₁ ws₁ ≡ loopFrom (executeAt depth (setting program code g)) (setting program code g) y p (raw ts₀ ws₀)
-      unfolding if_then_else_ give shownFlow
-      loop-ends f = sym (one-turn ∙ test-fails _ h f)
+      module _ (u : not ok ≡ false) (t : Outcome) (ts₁ ws₁ : List ℕ) (h : shownTest t ts₁ ws₁ ≡ testOf (setting program code g) y p (raw ts wsₛ)) where
+        tested : shownTest t ts₁ ws₁ ≡ turning (setting program code g) y p (raw ts ws)
+        unfolding turning _>>=_
+        tested = h ∙ sym (after-pass _ p ts (rw (not-false ok u) at c))
 
-      module _ (f : t ≡ outcome.Yes) (r : Flow) (ts₂ ws₂ : List ℕ) (q : shownFlow r ts₂ ws₂ ≡ executeAt depth (setting program code g) (y + 1) (raw ts₁ ws₁)) where
-        into : loopFrom (executeAt depth (setting program code g)) (setting program code g) y p (raw ts₀ ws₀)
-            ≡ goOn (executeAt depth (setting program code g) (y + 1) (raw ts₁ ws₁))
-            (λ a. continue a (looping (turns - 1) (setting program code g) y p (executeAt depth (setting program code g) (y + 1))))
-        unfolding if_then_else_ _>>=_
-        into = one-turn ∙ test-holds _ h f
-
-        pub loop-fails : (n z : ℕ) → r ≡ Stopped n z → shownFlow (Stopped n z) ts₂ ws₂ ≡ loopFrom (executeAt depth (setting program code g)) (setting program code g) y p (raw ts₀ ws₀)
+        pub loop-stops : (n q : ℕ) → t ≡ outcome.Stopped n q → shownFlow (Stopped n q) ts₁ ws₁ ≡ whole
         unfolding shownFlow
-        loop-fails n z b = sym (into ∙ flow-stops _ q b)
+        loop-stops n q f = sym (turn-by ∙ test-stops _ tested f)
 
-        pub loop-returns : (v : Value) → r ≡ Returned v → shownFlow (Returned v) ts₂ ws₂ ≡ loopFrom (executeAt depth (setting program code g)) (setting program code g) y p (raw ts₀ ws₀)
-        unfolding continue give shownFlow
-        loop-returns v b = sym (into ∙ flow-returns _ q b)
+        pub loop-ends : t ≡ outcome.No → shownFlow Onward ts₁ ws₁ ≡ whole
+        unfolding if_then_else_ give shownFlow
+        loop-ends f = sym (turn-by ∙ test-fails _ tested f)
 
-        pub loop-again : Valid program g ts₂ ws₂ → length ts₂ ≡ length ts → length ws₂ ≡ length ws → r ≡ Onward → Looping program code g depth ts₀ ws₀ y p ts₂ ws₂ (turns - 1)
-        unfolding continue
-        loop-again u j k b = record { valid = u; texts = j ∙ l .texts; words = k ∙ l .words; rest = into ∙ flow-on _ q b }
+        module _ (f : t ≡ outcome.Yes) (r : Flow) (ts₂ ws₂ : List ℕ) (q : shownFlow r ts₂ ws₂ ≡ statementAt depth (setting program code g) (y + 1) (raw ts₁ ws₁)) where
+          into : whole ≡ goOn (statementAt depth (setting program code g) (y + 1) (raw ts₁ ws₁))
+              (λ a. continue a (looping (turns - 1) (setting program code g) y p (statementAt depth (setting program code g) (y + 1))))
+          unfolding if_then_else_ _>>=_
+          into = turn-by ∙ test-holds _ tested f
+
+          pub loop-fails : (n z : ℕ) → r ≡ Stopped n z → shownFlow (Stopped n z) ts₂ ws₂ ≡ whole
+          unfolding shownFlow
+          loop-fails n z b = sym (into ∙ flow-stops _ q b)
+
+          pub loop-returns : (v : Value) → r ≡ Returned v → shownFlow (Returned v) ts₂ ws₂ ≡ whole
+          unfolding continue give shownFlow
+          loop-returns v b = sym (into ∙ flow-returns _ q b)
+
+          pub loop-again : length ts₂ ≡ length ts → length ws₂ ≡ length ws → r ≡ Onward → Looping program code g depth ts₀ ws₀ y p ts₂ ws₂ (turns - 1)
+          unfolding continue
+          loop-again j k b = record { runs = still-runs g ts ws ts₂ ws₂ j k depth (y + 1) (l .runs); texts = j ∙ l .texts; words = k ∙ l .words; rest = into ∙ flow-on _ q b }
 
 -- ---- one statement after the other
 pub record Following (program code g : List ℕ) (depth : ℕ) (ts₀ ws₀ : List ℕ) (a end rounds : ℕ) (ts ws : List ℕ) (at left : ℕ) : Type 0 where
-  pub valid : Valid program g ts ws
+  pub runs : Runs g ts ws depth end
   pub texts : length ts ≡ length ts₀
   pub words : length ws ≡ length ws₀
-  pub rest : executeAll rounds (executeAt depth (setting program code g)) (setting program code g) a end (raw ts₀ ws₀)
-      ≡ executeAll left (executeAt depth (setting program code g)) (setting program code g) at end (raw ts ws)
+  pub rest : statementsFrom rounds (statementAt depth (setting program code g)) (setting program code g) a end (raw ts₀ ws₀)
+      ≡ statementsFrom left (statementAt depth (setting program code g)) (setting program code g) at end (raw ts ws)
 
 module _ (program code g : List ℕ) (depth : ℕ) (ts₀ ws₀ : List ℕ) (a end rounds : ℕ) where
-  pub all-first : Valid program g ts₀ ws₀ → Following program code g depth ts₀ ws₀ a end rounds ts₀ ws₀ a rounds
-  all-first v = record { valid = v; texts = refl; words = refl; rest = refl }
+  abbrev all : Out Flow
+  all = statementsFrom rounds (statementAt depth (setting program code g)) (setting program code g) a end (raw ts₀ ws₀)
+
+  pub all-first : Runs g ts₀ ws₀ depth end → Following program code g depth ts₀ ws₀ a end rounds ts₀ ws₀ a rounds
+  all-first s = record { runs = s; texts = refl; words = refl; rest = refl }
 
   module _ (ts ws : List ℕ) (at left : ℕ) (l : Following program code g depth ts₀ ws₀ a end rounds ts ws at left) where
-    pub all-short : left ≡ 0 → shownFlow Onward ts ws ≡ executeAll rounds (executeAt depth (setting program code g)) (setting program code g) a end (raw ts₀ ws₀)
-    unfolding executeAll give shownFlow
+    pub runs-before : at < end → Runs g ts ws depth at
+    runs-before b = record { lent = l .runs .lent; room = omega (arith, l .runs .room) }
+
+    pub all-short : left ≡ 0 → shownFlow Onward ts ws ≡ all
+    unfolding statementsFrom give shownFlow
     all-short z = sym (l .rest ∙ rw z)
 
-    pub all-done : 0 < left → end ≤ at → shownFlow Onward ts ws ≡ executeAll rounds (executeAt depth (setting program code g)) (setting program code g) a end (raw ts₀ ws₀)
-    unfolding executeAll if_then_else_ give shownFlow
+    pub all-done : 0 < left → end ≤ at → shownFlow Onward ts ws ≡ all
+    unfolding statementsFrom if_then_else_ give shownFlow
     all-done m b =
         let d : left ≡ suc (left - 1) = omega arith in
         sym (l .rest ∙ rw d (rw (le-ltb at end b)))
 
-    module _ (m : 0 < left) (b : at < end) (r : Flow) (ts₁ ws₁ : List ℕ) (q : shownFlow r ts₁ ws₁ ≡ executeAt depth (setting program code g) at (raw ts ws)) where
-      one-more : executeAll rounds (executeAt depth (setting program code g)) (setting program code g) a end (raw ts₀ ws₀)
-          ≡ goOn (executeAt depth (setting program code g) at (raw ts ws))
-          (λ f. continue f (executeAll (left - 1) (executeAt depth (setting program code g)) (setting program code g) (at + sizeIn (getD code at 0)) end))
-      unfolding executeAll if_then_else_ _>>=_
+    module _ (m : 0 < left) (b : at < end) (r : Flow) (ts₁ ws₁ : List ℕ) (q : shownFlow r ts₁ ws₁ ≡ statementAt depth (setting program code g) at (raw ts ws)) where
+      one-more : all ≡ goOn (statementAt depth (setting program code g) at (raw ts ws))
+          (λ f. continue f (statementsFrom (left - 1) (statementAt depth (setting program code g)) (setting program code g) (at + sizeIn (getD code at 0)) end))
+      unfolding statementsFrom if_then_else_ _>>=_
       one-more =
           let d : left ≡ suc (left - 1) = omega arith in
           l .rest ∙ rw d (rw (lt-ltb at end b, ← d))
 
-      pub all-fails : (n z : ℕ) → r ≡ Stopped n z → shownFlow (Stopped n z) ts₁ ws₁ ≡ executeAll rounds (executeAt depth (setting program code g)) (setting program code g) a end (raw ts₀ ws₀)
+      pub all-fails : (n z : ℕ) → r ≡ Stopped n z → shownFlow (Stopped n z) ts₁ ws₁ ≡ all
       unfolding shownFlow
       all-fails n z f = sym (one-more ∙ flow-stops _ q f)
 
-      pub all-returns : (v : Value) → r ≡ Returned v → shownFlow (Returned v) ts₁ ws₁ ≡ executeAll rounds (executeAt depth (setting program code g)) (setting program code g) a end (raw ts₀ ws₀)
+      pub all-returns : (v : Value) → r ≡ Returned v → shownFlow (Returned v) ts₁ ws₁ ≡ all
       unfolding continue give shownFlow
       all-returns v f = sym (one-more ∙ flow-returns _ q f)
 
-      pub all-again : (w n : ℕ) → Valid program g ts₁ ws₁ → length ts₁ ≡ length ts → length ws₁ ≡ length ws → r ≡ Onward → w ≡ getD code at 0 → n ≡ sizeIn w
+      pub all-again : (w n : ℕ) → length ts₁ ≡ length ts → length ws₁ ≡ length ws → r ≡ Onward → w ≡ getD code at 0 → n ≡ sizeIn w
           → Following program code g depth ts₀ ws₀ a end rounds ts₁ ws₁ (at + n) (left - 1)
       unfolding continue
-      all-again w n u j k f c d = record { valid = u; texts = j ∙ l .texts; words = k ∙ l .words; rest = one-more ∙ flow-on _ q f ∙ rw (d, c) }
+      all-again w n j k f c d =
+          record { runs = still-runs g ts ws ts₁ ws₁ j k depth end (l .runs); texts = j ∙ l .texts; words = k ∙ l .words; rest = one-more ∙ flow-on _ q f ∙ rw (d, c) }
 
 -- ---- a body
-pub in-body : (e : Setting) (n : ℕ) (ts ws : List ℕ) (o : Out Flow) → o ≡ executeAll (n + 1) (executeAt (n + 1) e) e 0 n (raw ts ws) → o ≡ executeBody e n (raw ts ws)
-unfolding executeBody
-in-body e n ts ws o h = h
+pub in-body : (program code g : List ℕ) (n : ℕ) (ts ws : List ℕ) (o : Out Flow) → o ≡ statementsFrom (n + 1) (statementAt (n + 1) (setting program code g)) (setting program code g) 0 n (raw ts ws)
+    → o ≡ bodyOf (setting program code g) n (raw ts ws)
+unfolding bodyOf
+in-body program code g n ts ws o h = h

@@ -1,2 +1,1 @@
-pub mod Execute
 pub mod Asked

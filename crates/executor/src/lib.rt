@@ -1,16 +1,141 @@
 // Executing statements over code.
-use plain::Flow;
-use plain::Outcome;
+use machine::Answer;
+use machine::Flow;
+use machine::Outcome;
+use machine::Value;
+use machine::granted;
+use machine::tags;
 ghost use Prim.Native.Nat.{_+_};
 ghost use mathlib.Core.Path.{_≡_};
-ghost use Rattle.stores.specs.Act.{raw};
-ghost use Rattle.evaluator.specs.Evaluate.{setting};
-ghost use Rattle.executor.specs.Asked.{Runs, Goes, Body};
-ghost use Rattle.executor.specs.Execute.{whenAt, loopFrom, blockAt, executeAll, executeSimple, executeBy, executeAt, executeBody};
-ghost use Rattle.plain.specs.Plain.{shownFlow, placeIn};
+ghost use Rattle.machine.specs.Act.{raw, shown};
+ghost use Rattle.machine.specs.Effects.{shownFlow, shownTest};
+ghost use Rattle.machine.specs.Evaluate.{setting};
+ghost use Rattle.machine.specs.Execute.{valueOf, simpleAt, updateAt, testOf, whenAt, repeatAt, statementsFrom, statementAt, bodyOf};
+ghost use Rattle.executor.specs.Asked.{Starts, Runs, Body};
 
-// A statement by the place of its word.
-fn execute(
+// ---- statements that hold no others
+// An expression by its root.
+fn value(
+    program: &[u8],
+    code: &[u64],
+    grants: &[u64; 4],
+    texts: &mut [u8],
+    words: &mut [u64],
+    y: usize,
+    p: u64,
+) -> Answer
+    requires { ⌜ Starts (now grants) (now texts) (now words) y ⌝ }
+    ensures { λ r. ⌜ shown r (now (texts .exit)) (now (words .exit))
+        ≡ valueOf (setting (now (program .entry)) (now (code .entry)) (now (grants .entry))) y p (raw (now (texts .entry)) (now (words .entry))) ⌝ }
+{
+    let r = evaluator::expression(program, code, grants, texts, words, y + 1, y, p);
+    r
+}
+
+// A statement of one expression, by its word: worked out at once where it can be.
+fn simple(
+    program: &[u8],
+    code: &[u64],
+    grants: &[u64; 4],
+    texts: &mut [u8],
+    words: &mut [u64],
+    w: u64,
+    x: usize,
+    p: u64,
+) -> Flow
+    requires { ⌜ Runs (now grants) (now texts) (now words) 0 x ⌝ }
+    ensures { λ r. ⌜ shownFlow r (now (texts .exit)) (now (words .exit))
+        ≡ simpleAt (setting (now (program .entry)) (now (code .entry)) (now (grants .entry))) w x p (raw (now (texts .entry)) (now (words .entry))) ⌝ }
+{
+    let y = code::last_of(w, x);
+    let k = fastpath::fast_value(words, code, grants, y + 1, y);
+    if k != 0 {
+        let r = effects::finish_plain(words, grants, w, k, p);
+        return r;
+    }
+    match value(program, code, grants, texts, words, y, p) {
+        Answer::Good(v) => {
+            let r = effects::finish(words, grants, w, values::pack(v), p);
+            r
+        }
+        Answer::Bad(n, q) => Flow::Stopped(n, q),
+    }
+}
+
+// An update: the table and the key stand before the value whose root is y.
+fn update(
+    program: &[u8],
+    code: &[u64],
+    grants: &[u64; 4],
+    texts: &mut [u8],
+    words: &mut [u64],
+    y: usize,
+    p: u64,
+) -> Flow
+    requires { ⌜ Starts (now grants) (now texts) (now words) y ⌝ }
+    ensures { λ r. ⌜ shownFlow r (now (texts .exit)) (now (words .exit))
+        ≡ updateAt (setting (now (program .entry)) (now (code .entry)) (now (grants .entry))) y p (raw (now (texts .entry)) (now (words .entry))) ⌝ }
+{
+    let b = code::before(stores::words::word_at(code, y), y);
+    let a = code::before(stores::words::word_at(code, b), b);
+    match value(program, code, grants, texts, words, a, p) {
+        Answer::Good(v) => match v {
+            Value::Table(t) => match value(program, code, grants, texts, words, b, p) {
+                Answer::Good(u) => {
+                    let key = values::pack(u);
+                    match value(program, code, grants, texts, words, y, p) {
+                        Answer::Good(z) => {
+                            if !tables::entries::store_entry(
+                                program,
+                                texts,
+                                words,
+                                grants,
+                                t,
+                                key,
+                                values::pack(z),
+                            ) {
+                                return Flow::Stopped(77, p);
+                            }
+                            Flow::Onward
+                        }
+                        Answer::Bad(n, q) => Flow::Stopped(n, q),
+                    }
+                }
+                Answer::Bad(n, q) => Flow::Stopped(n, q),
+            },
+            _ => Flow::Stopped(20, p),
+        },
+        Answer::Bad(n, q) => Flow::Stopped(n, q),
+    }
+}
+
+// A test by its root: worked out at once where it can be.
+fn test(
+    program: &[u8],
+    code: &[u64],
+    grants: &[u64; 4],
+    texts: &mut [u8],
+    words: &mut [u64],
+    y: usize,
+    p: u64,
+) -> Outcome
+    requires { ⌜ Starts (now grants) (now texts) (now words) y ⌝ }
+    ensures { λ r. ⌜ shownTest r (now (texts .exit)) (now (words .exit))
+        ≡ testOf (setting (now (program .entry)) (now (code .entry)) (now (grants .entry))) y p (raw (now (texts .entry)) (now (words .entry))) ⌝ }
+{
+    let k = fastpath::fast_value(words, code, grants, y + 1, y);
+    if k != 0 {
+        return effects::outcome_of(k, p);
+    }
+    match value(program, code, grants, texts, words, y, p) {
+        Answer::Good(v) => effects::outcome_of(values::pack(v), p),
+        Answer::Bad(n, q) => Outcome::Stopped(n, q),
+    }
+}
+
+// ---- statements that hold others
+// A statement by the place of its word. A loop counts its steps itself.
+fn statement(
     program: &[u8],
     code: &[u64],
     grants: &[u64; 4],
@@ -19,43 +144,25 @@ fn execute(
     depth: usize,
     x: usize,
 ) -> Flow
-    requires { ⌜ Runs (now program) (now grants) (now texts) (now words) depth x ⌝ }
+    requires { ⌜ Runs (now grants) (now texts) (now words) depth x ⌝ }
     ensures { λ r. ⌜ shownFlow r (now (texts .exit)) (now (words .exit))
-        ≡ executeAt depth (setting (now (program .entry)) (now (code .entry)) (now (grants .entry))) x (raw (now (texts .entry)) (now (words .entry))) ⌝ }
+        ≡ statementAt depth (setting (now (program .entry)) (now (code .entry)) (now (grants .entry))) x (raw (now (texts .entry)) (now (words .entry))) ⌝ }
 {
     if depth == 0 {
         return Flow::Stopped(20, 0);
     }
     let w = stores::words::word_at(code, x);
-    let r = by_word(program, code, grants, texts, words, depth - 1, w, x);
-    r
-}
-
-// By its word. A loop counts its steps itself.
-fn by_word(
-    program: &[u8],
-    code: &[u64],
-    grants: &[u64; 4],
-    texts: &mut [u8],
-    words: &mut [u64],
-    depth: usize,
-    w: u64,
-    x: usize,
-) -> Flow
-    requires { ⌜ Goes (now program) (now grants) (now texts) (now words) depth x ⌝ }
-    ensures { λ r. ⌜ shownFlow r (now (texts .exit)) (now (words .exit))
-        ≡ executeBy (executeAt depth (setting (now (program .entry)) (now (code .entry)) (now (grants .entry)))) (setting (now (program .entry)) (now (code .entry)) (now (grants .entry))) w x (placeIn w) (raw (now (texts .entry)) (now (words .entry))) ⌝ }
-{
-    let p = plain::place_of(w);
-    if code::tag_of(w) == 36 {
-        let r = run_while(
+    let p = code::place_of(w);
+    let tag = code::tag_of(w);
+    if tag == tags::WHILE {
+        let r = repeat(
             program,
             code,
             grants,
             texts,
             words,
-            depth,
-            x + plain::extra_of(w),
+            depth - 1,
+            x + code::extra_of(w),
             p,
         );
         return r;
@@ -63,77 +170,51 @@ fn by_word(
     if !stores::counters::count(words, grants) {
         return Flow::Stopped(79, p);
     }
-    let r = simple(program, code, grants, texts, words, depth, w, x, p);
-    r
-}
-
-// A statement whose step is counted.
-fn simple(
-    program: &[u8],
-    code: &[u64],
-    grants: &[u64; 4],
-    texts: &mut [u8],
-    words: &mut [u64],
-    depth: usize,
-    w: u64,
-    x: usize,
-    p: u64,
-) -> Flow
-    requires { ⌜ Goes (now program) (now grants) (now texts) (now words) depth x ⌝ }
-    ensures { λ r. ⌜ shownFlow r (now (texts .exit)) (now (words .exit))
-        ≡ executeSimple (executeAt depth (setting (now (program .entry)) (now (code .entry)) (now (grants .entry)))) (setting (now (program .entry)) (now (code .entry)) (now (grants .entry))) w x p (raw (now (texts .entry)) (now (words .entry))) ⌝ }
-{
-    match code::tag_of(w) {
-        32 => {
-            let r = plain::declare(words, plain::extra_of(w), p);
+    match tag {
+        tags::DECLARE => {
+            let r = effects::declare(words, code::extra_of(w), p);
             r
         }
-        33 => {
-            let r = plain::assign(
-                program,
-                code,
-                grants,
-                texts,
-                words,
-                plain::last_of(w, x),
-                plain::extra_of(w),
-                p,
-            );
+        tags::UPDATE => {
+            let r = update(program, code, grants, texts, words, code::last_of(w, x), p);
             r
         }
-        34 => {
-            let r = plain::update(program, code, grants, texts, words, plain::last_of(w, x), p);
-            r
-        }
-        35 => {
+        tags::WHEN => {
             let r = when(
                 program,
                 code,
                 grants,
                 texts,
                 words,
-                depth,
-                x + plain::extra_of(w),
+                depth - 1,
+                x + code::extra_of(w),
                 p,
             );
             r
         }
-        37 => {
-            let r = plain::give_back(program, code, grants, texts, words, plain::last_of(w, x), p);
-            r
-        }
-        38 => {
-            let r = block(program, code, grants, texts, words, depth, w, x);
+        tags::BLOCK => {
+            let n = code::size_of(w);
+            let r = statements(
+                program,
+                code,
+                grants,
+                texts,
+                words,
+                depth - 1,
+                x + 1,
+                x + n,
+                n + 1,
+            );
             r
         }
         _ => {
-            let r = plain::act(program, code, grants, texts, words, plain::last_of(w, x), p);
+            let r = simple(program, code, grants, texts, words, w, x, p);
             r
         }
     }
 }
 
-// A statement if a test holds; y is the test's root.
+// The statement behind the test whose root is y, if it holds.
 fn when(
     program: &[u8],
     code: &[u64],
@@ -144,12 +225,12 @@ fn when(
     y: usize,
     p: u64,
 ) -> Flow
-    requires { ⌜ Runs (now program) (now grants) (now texts) (now words) depth (y + 1) ⌝ }
+    requires { ⌜ Runs (now grants) (now texts) (now words) depth (y + 1) ⌝ }
     ensures { λ r. ⌜ shownFlow r (now (texts .exit)) (now (words .exit))
-        ≡ whenAt (executeAt depth (setting (now (program .entry)) (now (code .entry)) (now (grants .entry)))) (setting (now (program .entry)) (now (code .entry)) (now (grants .entry))) y p (raw (now (texts .entry)) (now (words .entry))) ⌝ }
+        ≡ whenAt (statementAt depth (setting (now (program .entry)) (now (code .entry)) (now (grants .entry)))) (setting (now (program .entry)) (now (code .entry)) (now (grants .entry))) y p (raw (now (texts .entry)) (now (words .entry))) ⌝ }
 {
-    match plain::test(program, code, grants, texts, words, y, p) {
-        Outcome::Yes => match execute(program, code, grants, texts, words, depth, y + 1) {
+    match test(program, code, grants, texts, words, y, p) {
+        Outcome::Yes => match statement(program, code, grants, texts, words, depth, y + 1) {
             Flow::Onward => Flow::Onward,
             Flow::Returned(v) => Flow::Returned(v),
             Flow::Stopped(n, q) => Flow::Stopped(n, q),
@@ -159,8 +240,8 @@ fn when(
     }
 }
 
-// A loop: while the test whose root is y holds, the statement behind it.
-fn run_while(
+// The statement behind the test whose root is y, as long as it holds.
+fn repeat(
     program: &[u8],
     code: &[u64],
     grants: &[u64; 4],
@@ -170,19 +251,22 @@ fn run_while(
     y: usize,
     p: u64,
 ) -> Flow
-    requires { ⌜ Runs (now program) (now grants) (now texts) (now words) depth (y + 1) ⌝ }
+    requires { ⌜ Runs (now grants) (now texts) (now words) depth (y + 1) ⌝ }
     ensures { λ r. ⌜ shownFlow r (now (texts .exit)) (now (words .exit))
-        ≡ loopFrom (executeAt depth (setting (now (program .entry)) (now (code .entry)) (now (grants .entry)))) (setting (now (program .entry)) (now (code .entry)) (now (grants .entry))) y p (raw (now (texts .entry)) (now (words .entry))) ⌝ }
+        ≡ repeatAt (statementAt depth (setting (now (program .entry)) (now (code .entry)) (now (grants .entry)))) (setting (now (program .entry)) (now (code .entry)) (now (grants .entry))) y p (raw (now (texts .entry)) (now (words .entry))) ⌝ }
 {
-    let mut turns = grants[0] + 1;
+    let mut turns = grants[granted::STEPS] + 1;
     while 0 < turns {
         turns -= 1;
-        match plain::turn(program, code, grants, texts, words, y, p) {
+        if !stores::counters::count(words, grants) {
+            return Flow::Stopped(79, p);
+        }
+        match test(program, code, grants, texts, words, y, p) {
             Outcome::Yes => {}
             Outcome::No => return Flow::Onward,
             Outcome::Stopped(n, q) => return Flow::Stopped(n, q),
         }
-        match execute(program, code, grants, texts, words, depth, y + 1) {
+        match statement(program, code, grants, texts, words, depth, y + 1) {
             Flow::Onward => {}
             Flow::Returned(v) => return Flow::Returned(v),
             Flow::Stopped(n, q) => return Flow::Stopped(n, q),
@@ -191,38 +275,8 @@ fn run_while(
     Flow::Stopped(79, p)
 }
 
-// The statements of a block.
-fn block(
-    program: &[u8],
-    code: &[u64],
-    grants: &[u64; 4],
-    texts: &mut [u8],
-    words: &mut [u64],
-    depth: usize,
-    w: u64,
-    x: usize,
-) -> Flow
-    requires { ⌜ Goes (now program) (now grants) (now texts) (now words) depth x ⌝ }
-    ensures { λ r. ⌜ shownFlow r (now (texts .exit)) (now (words .exit))
-        ≡ blockAt (executeAt depth (setting (now (program .entry)) (now (code .entry)) (now (grants .entry)))) (setting (now (program .entry)) (now (code .entry)) (now (grants .entry))) w x (raw (now (texts .entry)) (now (words .entry))) ⌝ }
-{
-    let n = code::size_of(w);
-    let r = execute_all(
-        program,
-        code,
-        grants,
-        texts,
-        words,
-        depth,
-        x + 1,
-        x + n,
-        n + 1,
-    );
-    r
-}
-
 // The statements from a up to end, one after the other, at most so many.
-fn execute_all(
+fn statements(
     program: &[u8],
     code: &[u64],
     grants: &[u64; 4],
@@ -233,9 +287,9 @@ fn execute_all(
     end: usize,
     rounds: usize,
 ) -> Flow
-    requires { ⌜ Runs (now program) (now grants) (now texts) (now words) depth end ⌝ }
+    requires { ⌜ Runs (now grants) (now texts) (now words) depth end ⌝ }
     ensures { λ r. ⌜ shownFlow r (now (texts .exit)) (now (words .exit))
-        ≡ executeAll rounds (executeAt depth (setting (now (program .entry)) (now (code .entry)) (now (grants .entry)))) (setting (now (program .entry)) (now (code .entry)) (now (grants .entry))) a end (raw (now (texts .entry)) (now (words .entry))) ⌝ }
+        ≡ statementsFrom rounds (statementAt depth (setting (now (program .entry)) (now (code .entry)) (now (grants .entry)))) (setting (now (program .entry)) (now (code .entry)) (now (grants .entry))) a end (raw (now (texts .entry)) (now (words .entry))) ⌝ }
 {
     let mut at = a;
     let mut left = rounds;
@@ -244,7 +298,7 @@ fn execute_all(
         if end <= at {
             return Flow::Onward;
         }
-        match execute(program, code, grants, texts, words, depth, at) {
+        match statement(program, code, grants, texts, words, depth, at) {
             Flow::Onward => {}
             Flow::Returned(v) => return Flow::Returned(v),
             Flow::Stopped(n, q) => return Flow::Stopped(n, q),
@@ -255,7 +309,7 @@ fn execute_all(
 }
 
 // A procedure's body of n words.
-pub fn execute_body(
+pub fn body(
     program: &[u8],
     code: &[u64],
     grants: &[u64; 4],
@@ -263,10 +317,10 @@ pub fn execute_body(
     words: &mut [u64],
     n: usize,
 ) -> Flow
-    requires { ⌜ Body (now program) (now grants) (now texts) (now words) n ⌝ }
+    requires { ⌜ Body (now grants) (now texts) (now words) n ⌝ }
     ensures { λ r. ⌜ shownFlow r (now (texts .exit)) (now (words .exit))
-        ≡ executeBody (setting (now (program .entry)) (now (code .entry)) (now (grants .entry))) n (raw (now (texts .entry)) (now (words .entry))) ⌝ }
+        ≡ bodyOf (setting (now (program .entry)) (now (code .entry)) (now (grants .entry))) n (raw (now (texts .entry)) (now (words .entry))) ⌝ }
 {
-    let r = execute_all(program, code, grants, texts, words, n + 1, 0, n, n + 1);
+    let r = statements(program, code, grants, texts, words, n + 1, 0, n, n + 1);
     r
 }

@@ -9,7 +9,7 @@ use lib.ListN.{length, take, set, length-append, length-set}
 use Rattle.meaning.specs.Basics.{if_then_else_}
 use Rattle.meaning.specs.Token.{comma, closeParen}
 use Rattle.meaning.specs.Grammar.{Got, good, after}
-use Rattle.code.specs.Code.{word}
+use Rattle.machine.specs.Opcodes.{word}
 use Rattle.expressions.specs.declared.Read.{Read}
 use Rattle.expressions.specs.declared.Read.the-variants.{At, Wrong}
 use Rattle.expressions.specs.Words.{kindAt, is, Piece, piece, expect, argumentCode, argumentsFrom, arguments, expression, at, seen, written, writtenCode}

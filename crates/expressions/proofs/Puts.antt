@@ -8,7 +8,7 @@ use native.Mathlib.Omega.{arith}
 use lib.ListN.{length, take, set}
 use Rattle.meaning.specs.Basics.{if_then_else_}
 use Rattle.meaning.specs.Grammar.{Got, wrong, noLevel}
-use Rattle.code.specs.Code.{word}
+use Rattle.machine.specs.Opcodes.{word}
 use Rattle.expressions.specs.declared.Read.{Read}
 use Rattle.expressions.specs.declared.Read.the-variants.{At, Wrong}
 use Rattle.expressions.specs.Words.{kindAt, payloadAt, placeAt, Piece, leaf, primary, at, seen, written}

@@ -8,7 +8,8 @@ use native.Mathlib.Omega.{arith}
 use lib.ListN.{length, take, length-append}
 use Rattle.meaning.specs.Basics.{if_then_else_}
 use Rattle.meaning.specs.Grammar.{Got, good, wrong, after}
-use Rattle.code.specs.Code.{word, joined}
+use Rattle.machine.specs.Opcodes.{word}
+use Rattle.code.specs.Code.{joined}
 use Rattle.expressions.specs.declared.Read.{Read}
 use Rattle.expressions.specs.declared.Read.the-variants.{At, Wrong}
 use Rattle.expressions.specs.Words.{is, Piece, piece, expect, tableCode, at, seen, written, writtenCode}

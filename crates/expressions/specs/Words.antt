@@ -10,7 +10,8 @@ use Rattle.meaning.specs.Token.{aName, digits, aString, wordNone, wordTrue, wor
 use Rattle.meaning.specs.Grammar.{Got, good, wrong, after, Inside, noLevel, level, opening}
 use Rattle.expressions.specs.declared.Read.{Read}
 use Rattle.expressions.specs.declared.Read.the-variants.{At, Wrong}
-use Rattle.code.specs.Code.{word, tagNumber, tagString, tagNone, tagTruth, tagName, tagTable, tagEntry, tagCall, tagArgument, joined}
+use Rattle.machine.specs.Opcodes.{word, tagNumber, tagString, tagNone, tagTruth, tagName, tagTable, tagEntry, tagCall, tagArgument}
+use Rattle.code.specs.Code.{joined}
 
 -- ---- token words
 abbrev pub kindAt : List ℕ → ℕ → ℕ

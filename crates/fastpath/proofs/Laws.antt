@@ -15,12 +15,12 @@ use mir.Facts.{toZ-ofZ}
 use borrow.Author.Tests.{not-true, not-false, lt-ltb, le-ltb, le-leb, lt-leb, ne-eqb}
 use Rattle.meaning.specs.Basics.{if_then_else_}
 use Rattle.meaning.specs.Integer.{sum, difference, product, quotient, remainder, shiftedLeft, shiftedRight, isZero, sameInteger}
-use Rattle.code.specs.Code.{tagIn, sizeIn, numberIn}
-use Rattle.values.specs.declared.Value.the-variants.{Integer, Boolean}
-use Rattle.values.specs.Words.{packed}
-use Rattle.values.specs.Words as Words
-use Rattle.stores.specs.Layout.{valuePlace}
-use Rattle.stores.specs.Act.{Pays}
+use Rattle.machine.specs.Opcodes.{tagIn, sizeIn, numberIn, firstOperator, headNumber, headName, tagAdd, tagSubtract, tagMultiply, tagDivide, tagRemainder, tagShiftRight, tagShiftLeft, tagEqual, tagUnequal, tagGreater, tagLess}
+use Rattle.machine.specs.declared.Value.the-variants.{Integer, Boolean}
+use Rattle.machine.specs.Words.{packed}
+use Rattle.machine.specs.Words as Words
+use Rattle.machine.specs.Layout.{valuePlace, stepsUsed, stepsGranted}
+use Rattle.machine.specs.Act.{Pays}
 use Rattle.stores.proofs.Acts.{paid, short}
 use Rattle.operators.proofs.Held.{held, back-by, test-is}
 use Rattle.fastpath.specs.Fast.{plainWord, leafWord, operatorWord, wordOn, sizesAgree, operationWord, fastAt, applies, Values}
@@ -40,15 +40,15 @@ module _ (u : ℕ) where
   plain-other n m = rw (ne-eqb _ _ n, ne-eqb _ _ m)
 
 module _ (ws : List ℕ) (w : ℕ) where
-  pub leaf-number : w % 4294967296 ≡ 257 → w < 2 ^ 64 → 1 + 8 * (w / 4294967296) ≡ leafWord ws w
+  pub leaf-number : w % 4294967296 ≡ headNumber → w < 2 ^ 64 → 1 + 8 * (w / 4294967296) ≡ leafWord ws w
   unfolding leafWord if_then_else_
   leaf-number h l = rw (h, lt-ltb (w / 4294967296) (2 ^ 32) (omega arith))
 
-  pub leaf-name : (r k : ℕ) → w % 4294967296 ≡ 261 → k ≡ getD ws (valuePlace (w / 4294967296)) 0 → r ≡ plainWord k → r ≡ leafWord ws w
+  pub leaf-name : (r k : ℕ) → w % 4294967296 ≡ headName → k ≡ getD ws (valuePlace (w / 4294967296)) 0 → r ≡ plainWord k → r ≡ leafWord ws w
   unfolding leafWord if_then_else_
   leaf-name r k h f g = g ∙ rw (h, f)
 
-  pub leaf-other : (w % 4294967296 ≡ 257 → ⊥) → (w % 4294967296 ≡ 261 → ⊥) → 0 ≡ leafWord ws w
+  pub leaf-other : (w % 4294967296 ≡ headNumber → ⊥) → (w % 4294967296 ≡ headName → ⊥) → 0 ≡ leafWord ws w
   unfolding leafWord if_then_else_
   leaf-other n m = rw (ne-eqb _ _ n, ne-eqb _ _ m)
 
@@ -58,41 +58,41 @@ module _ {x y : ℤ} (i : SFits w32 x) (j : SFits w32 y) {r : ℕ} {s : ℤ} (h 
   by f e = rw (← back-by f i j h e) k
 
   module _ {b : Bool} (z : b ≡ isZero (held y)) (n : b ≡ false) where
-    pub divides : s ≡ quotient (held x) (held y) → r ≡ operatorWord 20 x y
+    pub divides : s ≡ quotient (held x) (held y) → r ≡ operatorWord tagDivide x y
     unfolding operatorWord if_then_else_
     divides e = rw (test-is isZero j z n) (by quotient e)
 
-    pub leaves : s ≡ remainder (held x) (held y) → r ≡ operatorWord 21 x y
+    pub leaves : s ≡ remainder (held x) (held y) → r ≡ operatorWord tagRemainder x y
     unfolding operatorWord if_then_else_
     leaves e = rw (test-is isZero j z n) (by remainder e)
 
   module _ {tag : ℕ} where
-    pub adds : tag ≡ 17 → s ≡ sum (held x) (held y) → r ≡ operatorWord tag x y
+    pub adds : tag ≡ tagAdd → s ≡ sum (held x) (held y) → r ≡ operatorWord tag x y
     unfolding operatorWord if_then_else_
     adds t e = rw t (by sum e)
 
-    pub subtracts : tag ≡ 18 → s ≡ difference (held x) (held y) → r ≡ operatorWord tag x y
+    pub subtracts : tag ≡ tagSubtract → s ≡ difference (held x) (held y) → r ≡ operatorWord tag x y
     unfolding operatorWord if_then_else_
     subtracts t e = rw t (by difference e)
 
-    pub multiplies : tag ≡ 19 → s ≡ product (held x) (held y) → r ≡ operatorWord tag x y
+    pub multiplies : tag ≡ tagMultiply → s ≡ product (held x) (held y) → r ≡ operatorWord tag x y
     unfolding operatorWord if_then_else_
     multiplies t e = rw t (by product e)
 
-    pub shifts-right : tag ≡ 22 → s ≡ shiftedRight (held x) (held y) → r ≡ operatorWord tag x y
+    pub shifts-right : tag ≡ tagShiftRight → s ≡ shiftedRight (held x) (held y) → r ≡ operatorWord tag x y
     unfolding operatorWord if_then_else_
     shifts-right t e = rw t (by shiftedRight e)
 
-    pub shifts-left : tag ≡ 23 → s ≡ shiftedLeft (held x) (held y) → r ≡ operatorWord tag x y
+    pub shifts-left : tag ≡ tagShiftLeft → s ≡ shiftedLeft (held x) (held y) → r ≡ operatorWord tag x y
     unfolding operatorWord if_then_else_
     shifts-left t e = rw t (by shiftedLeft e)
 
 module _ (x : ℤ) {y : ℤ} (j : SFits w32 y) {b : Bool} (z : b ≡ isZero (held y)) (n : b ≡ true) where
-  pub divides-by-zero : 0 ≡ operatorWord 20 x y
+  pub divides-by-zero : 0 ≡ operatorWord tagDivide x y
   unfolding operatorWord if_then_else_
   divides-by-zero = rw (test-is isZero j z n)
 
-  pub no-remainder : 0 ≡ operatorWord 21 x y
+  pub no-remainder : 0 ≡ operatorWord tagRemainder x y
   unfolding operatorWord if_then_else_
   no-remainder = rw (test-is isZero j z n)
 
@@ -101,24 +101,24 @@ module _ {x y : ℤ} (i : SFits w32 x) (j : SFits w32 y) {r tag : ℕ} where
   by-tag n t h = rw (t, ← toZ-ofZ i, ← toZ-ofZ j) h
 
   module _ {b : Bool} where
-    pub equals : tag ≡ 24 → b ≡ sameInteger (held x) (held y) → r ≡ packed (Boolean b) → r ≡ operatorWord tag x y
+    pub equals : tag ≡ tagEqual → b ≡ sameInteger (held x) (held y) → r ≡ packed (Boolean b) → r ≡ operatorWord tag x y
     unfolding operatorWord if_then_else_
     equals t e k = k ∙ rw (t, e, toZ-ofZ i, toZ-ofZ j)
 
-    pub differs : tag ≡ 25 → b ≡ sameInteger (held x) (held y) → r ≡ packed (Boolean (not b)) → r ≡ operatorWord tag x y
+    pub differs : tag ≡ tagUnequal → b ≡ sameInteger (held x) (held y) → r ≡ packed (Boolean (not b)) → r ≡ operatorWord tag x y
     unfolding operatorWord if_then_else_
     differs t e k = k ∙ rw (t, e, toZ-ofZ i, toZ-ofZ j)
 
-    pub exceeds : tag ≡ 26 → b ≡ ltZ (held y) (held x) → r ≡ packed (Boolean b) → r ≡ operatorWord tag x y
+    pub exceeds : tag ≡ tagGreater → b ≡ ltZ (held y) (held x) → r ≡ packed (Boolean b) → r ≡ operatorWord tag x y
     unfolding operatorWord if_then_else_
     exceeds t e k = k ∙ rw (t, e, toZ-ofZ i, toZ-ofZ j)
 
-    pub is-less : tag ≡ 27 → b ≡ ltZ (held x) (held y) → r ≡ packed (Boolean b) → r ≡ operatorWord tag x y
+    pub is-less : tag ≡ tagLess → b ≡ ltZ (held x) (held y) → r ≡ packed (Boolean b) → r ≡ operatorWord tag x y
     unfolding operatorWord if_then_else_
     is-less t e k = k ∙ rw (t, e, toZ-ofZ i, toZ-ofZ j)
 
-pub no-operator : {tag : ℕ} (x y : ℤ) → (tag ≡ 17 → ⊥) → (tag ≡ 18 → ⊥) → (tag ≡ 19 → ⊥) → (tag ≡ 20 → ⊥) → (tag ≡ 21 → ⊥) → (tag ≡ 22 → ⊥)
-    → (tag ≡ 23 → ⊥) → (tag ≡ 24 → ⊥) → (tag ≡ 25 → ⊥) → (tag ≡ 26 → ⊥) → (tag ≡ 27 → ⊥) → 0 ≡ operatorWord tag x y
+pub no-operator : {tag : ℕ} (x y : ℤ) → (tag ≡ tagAdd → ⊥) → (tag ≡ tagSubtract → ⊥) → (tag ≡ tagMultiply → ⊥) → (tag ≡ tagDivide → ⊥) → (tag ≡ tagRemainder → ⊥) → (tag ≡ tagShiftRight → ⊥)
+    → (tag ≡ tagShiftLeft → ⊥) → (tag ≡ tagEqual → ⊥) → (tag ≡ tagUnequal → ⊥) → (tag ≡ tagGreater → ⊥) → (tag ≡ tagLess → ⊥) → 0 ≡ operatorWord tag x y
 unfolding operatorWord if_then_else_
 no-operator {tag} x y a b c d e f g h i j k =
     rw (ne-eqb _ _ a, ne-eqb _ _ b, ne-eqb _ _ c, ne-eqb _ _ d, ne-eqb _ _ e, ne-eqb _ _ f)
@@ -183,13 +183,13 @@ module _ (depth : ℕ) (code ws : List ℕ) (w x : ℕ) where
     deeper : depth ≡ suc (depth - 1)
     deeper = omega (arith, n)
 
-    pub is-leaf : tag < 16 → r ≡ leafWord ws w → r ≡ fastAt depth code ws x
+    pub is-leaf : tag < firstOperator → r ≡ leafWord ws w → r ≡ fastAt depth code ws x
     unfolding fastAt if_then_else_
-    is-leaf l h = rw deeper (rw (← e, ← t, lt-ltb tag 16 l) h)
+    is-leaf l h = rw deeper (rw (← e, ← t, lt-ltb tag firstOperator l) h)
 
-    pub is-operation : 16 ≤ tag → r ≡ operationWord (fastAt (depth - 1) code ws) code w x → r ≡ fastAt depth code ws x
+    pub is-operation : firstOperator ≤ tag → r ≡ operationWord (fastAt (depth - 1) code ws) code w x → r ≡ fastAt depth code ws x
     unfolding fastAt if_then_else_
-    is-operation l h = rw deeper (rw (← e, ← t, le-ltb tag 16 l) h)
+    is-operation l h = rw deeper (rw (← e, ← t, le-ltb tag firstOperator l) h)
 
 -- ---- their steps
 module _ (depth : ℕ) (code g ws : List ℕ) (x v w : ℕ) (c : w ≡ getD (whole code) x 0) (d : v ≡ fastAt depth (whole code) ws x) where
@@ -203,17 +203,17 @@ module _ (depth : ℕ) (code g ws : List ℕ) (x v w : ℕ) (c : w ≡ getD (who
   unfolding applies if_then_else_
   not-fast z = record { result = rw (← f, z); words = rw (← f, z) }
 
-  module _ (n : v ≡ 0 → ⊥) (size : ℕ) (s : size ≡ sizeIn w) (ok : Bool) (ws₁ : List ℕ) (p : Pays ws 0 (getD g 0 0) size ok ws₁) where
+  module _ (n : v ≡ 0 → ⊥) (size : ℕ) (s : size ≡ sizeIn w) (ok : Bool) (ws₁ : List ℕ) (p : Pays ws 0 (stepsGranted g) size ok ws₁) where
     pub too-many : not ok ≡ true → Values depth code g ws x 0 ws₁
     unfolding applies if_then_else_
     too-many t =
         let q = short (rw (not-true ok t) at p) in
-        let b : leb (getD ws 0 0 + sizeIn w) (getD g 0 0) ≡ false = rw (← s) (lt-leb _ _ (q .beyond)) in
+        let b : leb (getD ws stepsUsed 0 + sizeIn w) (stepsGranted g) ≡ false = rw (← s) (lt-leb _ _ (q .beyond)) in
         record { result = rw (← f, ne-eqb _ _ n, ← e, b); words = q .words ∙ rw (← f, ne-eqb _ _ n, ← e, b) }
 
     pub counted : not ok ≡ false → Values depth code g ws x v ws₁
     unfolding applies if_then_else_
     counted t =
         let q = paid (rw (not-false ok t) at p) in
-        let b : leb (getD ws 0 0 + sizeIn w) (getD g 0 0) ≡ true = rw (← s) (le-leb _ _ (q .within)) in
+        let b : leb (getD ws stepsUsed 0 + sizeIn w) (stepsGranted g) ≡ true = rw (← s) (le-leb _ _ (q .within)) in
         record { result = f ∙ rw (← f, ne-eqb _ _ n, ← e, b); words = q .words ∙ rw (← f, ne-eqb _ _ n, ← e, b, s) }

@@ -12,49 +12,49 @@ use mir.Syntax.{w32}
 use mir.Val.{toZ}
 use Rattle.meaning.specs.Basics.{if_then_else_}
 use Rattle.meaning.specs.Integer.{sum, difference, product, quotient, remainder, shiftedLeft, shiftedRight, isZero, sameInteger}
-use Rattle.code.specs.Code.{tagIn, sizeIn, numberIn}
-use Rattle.values.specs.declared.Value.the-variants.{Integer, Boolean}
-use Rattle.values.specs.Words.{kindIn, packed}
-use Rattle.values.specs.Words as Words
-use Rattle.stores.specs.Layout.{stepsUsed, stepsGranted, valuePlace}
+use Rattle.machine.specs.Opcodes.{tagIn, sizeIn, numberIn, firstOperator, headNumber, headName, tagAdd, tagSubtract, tagMultiply, tagDivide, tagRemainder, tagShiftRight, tagShiftLeft, tagEqual, tagUnequal, tagGreater, tagLess}
+use Rattle.machine.specs.declared.Value.the-variants.{Integer, Boolean}
+use Rattle.machine.specs.Words.{kindIn, kindInteger, kindTruth, packed}
+use Rattle.machine.specs.Words as Words
+use Rattle.machine.specs.Layout.{stepsUsed, stepsGranted, valuePlace}
 
 -- ---- constants and variables
 -- what a variable holds, if it is an integer or a truth
 unfoldable pub plainWord : ℕ → ℕ
 plainWord u =
-    if eqb (kindIn u) 1 then (λ _. u % 2 ^ 35)
-    else λ _. if eqb (kindIn u) 3 then (λ _. u % 16)
+    if eqb (kindIn u) kindInteger then (λ _. u % 2 ^ 35)
+    else λ _. if eqb (kindIn u) kindTruth then (λ _. u % 16)
     else λ _. 0
 
--- by the word of the code, whose lower half is 1 + 256 for a number and 5 + 256 for a name: the tag and a size of 1; the number above has 32 bits
+-- by the word of the code, whose lower half is that of a number or a name; the number above has 32 bits
 unfoldable pub leafWord : List ℕ → ℕ → ℕ
 leafWord ws w =
-    if eqb (w % 2 ^ 32) 257 then (λ _. if ltb (numberIn w) (2 ^ 32) then (λ _. 1 + 8 * numberIn w) else λ _. 0)
-    else λ _. if eqb (w % 2 ^ 32) 261 then (λ _. plainWord (getD ws (valuePlace (numberIn w)) 0))
+    if eqb (w % 2 ^ 32) headNumber then (λ _. if ltb (numberIn w) (2 ^ 32) then (λ _. 1 + 8 * numberIn w) else λ _. 0)
+    else λ _. if eqb (w % 2 ^ 32) headName then (λ _. plainWord (getD ws (valuePlace (numberIn w)) 0))
     else λ _. 0
 
 -- ---- operators
 -- on two integers, by the operator's tag
 unfoldable pub operatorWord : ℕ → ℤ → ℤ → ℕ
 operatorWord tag x y =
-    if eqb tag 17 then (λ _. packed (Integer (sum x y)))
-    else λ _. if eqb tag 18 then (λ _. packed (Integer (difference x y)))
-    else λ _. if eqb tag 19 then (λ _. packed (Integer (product x y)))
-    else λ _. if eqb tag 20 then (λ _. if isZero y then (λ _. 0) else λ _. packed (Integer (quotient x y)))
-    else λ _. if eqb tag 21 then (λ _. if isZero y then (λ _. 0) else λ _. packed (Integer (remainder x y)))
-    else λ _. if eqb tag 22 then (λ _. packed (Integer (shiftedRight x y)))
-    else λ _. if eqb tag 23 then (λ _. packed (Integer (shiftedLeft x y)))
-    else λ _. if eqb tag 24 then (λ _. packed (Boolean (sameInteger x y)))
-    else λ _. if eqb tag 25 then (λ _. packed (Boolean (not (sameInteger x y))))
-    else λ _. if eqb tag 26 then (λ _. packed (Boolean (ltZ y x)))
-    else λ _. if eqb tag 27 then (λ _. packed (Boolean (ltZ x y)))
+    if eqb tag tagAdd then (λ _. packed (Integer (sum x y)))
+    else λ _. if eqb tag tagSubtract then (λ _. packed (Integer (difference x y)))
+    else λ _. if eqb tag tagMultiply then (λ _. packed (Integer (product x y)))
+    else λ _. if eqb tag tagDivide then (λ _. if isZero y then (λ _. 0) else λ _. packed (Integer (quotient x y)))
+    else λ _. if eqb tag tagRemainder then (λ _. if isZero y then (λ _. 0) else λ _. packed (Integer (remainder x y)))
+    else λ _. if eqb tag tagShiftRight then (λ _. packed (Integer (shiftedRight x y)))
+    else λ _. if eqb tag tagShiftLeft then (λ _. packed (Integer (shiftedLeft x y)))
+    else λ _. if eqb tag tagEqual then (λ _. packed (Boolean (sameInteger x y)))
+    else λ _. if eqb tag tagUnequal then (λ _. packed (Boolean (not (sameInteger x y))))
+    else λ _. if eqb tag tagGreater then (λ _. packed (Boolean (ltZ y x)))
+    else λ _. if eqb tag tagLess then (λ _. packed (Boolean (ltZ x y)))
     else λ _. 0
 
 -- on two words, which must hold integers
 unfoldable pub wordOn : ℕ → ℕ → ℕ → ℕ
 wordOn tag a b =
-    if eqb (kindIn a) 1
-    then (λ _. if eqb (kindIn b) 1 then (λ _. operatorWord tag (toZ w32 (Words.numberIn a)) (toZ w32 (Words.numberIn b))) else λ _. 0)
+    if eqb (kindIn a) kindInteger
+    then (λ _. if eqb (kindIn b) kindInteger then (λ _. operatorWord tag (toZ w32 (Words.numberIn a)) (toZ w32 (Words.numberIn b))) else λ _. 0)
     else λ _. 0
 
 -- an expression has one word more than its two sides
@@ -72,7 +72,7 @@ operationWord inner code w x =
 unfoldable pub fastAt : ℕ → List ℕ → List ℕ → ℕ → ℕ
 fastAt zero code ws x = 0
 fastAt (suc depth) code ws x =
-    if ltb (tagIn (getD code x 0)) 16 then (λ _. leafWord ws (getD code x 0))
+    if ltb (tagIn (getD code x 0)) firstOperator then (λ _. leafWord ws (getD code x 0))
     else λ _. operationWord (fastAt depth code ws) code (getD code x 0) x
 
 -- each word of such an expression is a step: they are counted at once, if they stay within the grant

@@ -1,9 +1,15 @@
 // Expressions of integers worked out at once, as words: constants, variables and operators on integers. A word of 0 says that
 // this does not apply; nothing has changed then, and the expression is evaluated as any other.
-ghost use Prim.Native.Nat.{_-_, _≤_};
+use machine::counters;
+use machine::granted;
+use machine::heads;
+use machine::kinds;
+use machine::tags;
+ghost use Prim.Native.Nat.{_≤_};
 ghost use mathlib.Core.Path.{_≡_};
 ghost use lib.ListN.{length, getD};
-ghost use Rattle.code.specs.Code.{numberIn};
+ghost use Rattle.machine.specs.Opcodes.{tagDivide, tagRemainder};
+ghost use Rattle.machine.specs.Layout.{fixedWords};
 ghost use Rattle.fastpath.specs.Fast.{plainWord, leafWord, operatorWord, wordOn, sizesAgree, operationWord, fastAt, Values};
 
 // ---- constants and variables
@@ -11,10 +17,10 @@ ghost use Rattle.fastpath.specs.Fast.{plainWord, leafWord, operatorWord,
 fn plain_word(u: u64) -> u64
     ensures { λ r. ⌜ r ≡ plainWord u ⌝ }
 {
-    if u % 8 == 1 {
+    if u % 8 == kinds::INTEGER {
         return u % 34359738368;
     }
-    if u % 8 == 3 {
+    if u % 8 == kinds::TRUTH {
         return u % 16;
     }
     0
@@ -22,14 +28,14 @@ fn plain_word(u: u64) -> u64
 
 // A constant or a variable, by the word of the code: its lower half is the tag and a size of 1.
 fn leaf_word(words: &[u64], w: u64) -> u64
-    requires { ⌜ 24584 ≤ length (now words) ⌝ }
+    requires { ⌜ fixedWords ≤ length (now words) ⌝ }
     ensures { λ r. ⌜ r ≡ leafWord (now (words .entry)) w ⌝ }
 {
     let head = w % 4294967296;
-    if head == 257 {
+    if head == heads::NUMBER {
         return 1 + 8 * (w / 4294967296);
     }
-    if head == 261 {
+    if head == heads::NAME {
         return plain_word(stores::variables::word_of(words, (w / 4294967296) as usize));
     }
     0
@@ -37,7 +43,7 @@ fn leaf_word(words: &[u64], w: u64) -> u64
 
 // ---- operators
 fn quotient_word(x: i32, y: i32) -> u64
-    ensures { λ r. ⌜ r ≡ operatorWord 20 x y ⌝ }
+    ensures { λ r. ⌜ r ≡ operatorWord tagDivide x y ⌝ }
 {
     if arithmetic::is_zero(y) {
         return 0;
@@ -46,7 +52,7 @@ fn quotient_word(x: i32, y: i32) -> u64
 }
 
 fn remainder_word(x: i32, y: i32) -> u64
-    ensures { λ r. ⌜ r ≡ operatorWord 21 x y ⌝ }
+    ensures { λ r. ⌜ r ≡ operatorWord tagRemainder x y ⌝ }
 {
     if arithmetic::is_zero(y) {
         return 0;
@@ -59,17 +65,17 @@ fn operator_word(tag: u64, x: i32, y: i32) -> u64
     ensures { λ r. ⌜ r ≡ operatorWord tag x y ⌝ }
 {
     match tag {
-        17 => values::integer_word(arithmetic::sum(x, y)),
-        18 => values::integer_word(arithmetic::difference(x, y)),
-        19 => values::integer_word(arithmetic::product(x, y)),
-        20 => quotient_word(x, y),
-        21 => remainder_word(x, y),
-        22 => values::integer_word(arithmetic::shifted_right(x, y)),
-        23 => values::integer_word(arithmetic::shifted_left(x, y)),
-        24 => values::truth_word(arithmetic::same(x, y)),
-        25 => values::truth_word(!arithmetic::same(x, y)),
-        26 => values::truth_word(arithmetic::less(y, x)),
-        27 => values::truth_word(arithmetic::less(x, y)),
+        tags::ADD => values::integer_word(arithmetic::sum(x, y)),
+        tags::SUBTRACT => values::integer_word(arithmetic::difference(x, y)),
+        tags::MULTIPLY => values::integer_word(arithmetic::product(x, y)),
+        tags::DIVIDE => quotient_word(x, y),
+        tags::REMAINDER => remainder_word(x, y),
+        tags::SHIFT_RIGHT => values::integer_word(arithmetic::shifted_right(x, y)),
+        tags::SHIFT_LEFT => values::integer_word(arithmetic::shifted_left(x, y)),
+        tags::EQUAL => values::truth_word(arithmetic::same(x, y)),
+        tags::UNEQUAL => values::truth_word(!arithmetic::same(x, y)),
+        tags::GREATER => values::truth_word(arithmetic::less(y, x)),
+        tags::LESS => values::truth_word(arithmetic::less(x, y)),
         _ => 0,
     }
 }
@@ -78,10 +84,10 @@ fn operator_word(tag: u64, x: i32, y: i32) -> u64
 fn word_on(tag: u64, a: u64, b: u64) -> u64
     ensures { λ r. ⌜ r ≡ wordOn tag a b ⌝ }
 {
-    if a % 8 != 1 {
+    if a % 8 != kinds::INTEGER {
         return 0;
     }
-    if b % 8 != 1 {
+    if b % 8 != kinds::INTEGER {
         return 0;
     }
     operator_word(tag, values::integer_of(a), values::integer_of(b))
@@ -94,43 +100,23 @@ fn sizes_agree(w: u64, u: u64, v: u64) -> bool
     code::size_of(w) == code::size_of(u) + code::size_of(v) + 1
 }
 
-// The root of the left side, and of the right.
-fn left_of(w: u64, x: usize) -> usize
-    ensures { λ r. ⌜ r ≡ x - 1 - numberIn w ⌝ }
-{
-    let n = (w / 4294967296) as usize;
-    if x <= n {
-        return 0;
-    }
-    x - n - 1
-}
-
-fn right_of(x: usize) -> usize
-    ensures { λ r. ⌜ r ≡ x - 1 ⌝ }
-{
-    if x == 0 {
-        return 0;
-    }
-    x - 1
-}
-
 // ---- expressions
 // An operator on two expressions.
 fn operation(code: &[u64], words: &[u64], depth: usize, w: u64, x: usize) -> u64
-    requires { ⌜ 24584 ≤ length (now words) ⌝ }
+    requires { ⌜ fixedWords ≤ length (now words) ⌝ }
     ensures { λ r. ⌜ r ≡ operationWord (fastAt depth (now (code .entry)) (now (words .entry))) (now (code .entry)) w x ⌝ }
 {
     let code = &code[0..];
     let words = &words[0..];
-    let z = left_of(w, x);
-    let y = right_of(x);
+    let z = code::left_of(w, x);
+    let y = code::right_of(x);
     let u = stores::words::word_at(code, z);
     let v = stores::words::word_at(code, y);
     if !sizes_agree(w, u, v) {
         return 0;
     }
     let a = expression(code, words, depth, u, z);
-    if a % 8 != 1 {
+    if a % 8 != kinds::INTEGER {
         return 0;
     }
     let b = expression(code, words, depth, v, y);
@@ -139,14 +125,14 @@ fn operation(code: &[u64], words: &[u64], depth: usize, w: u64, x: usize) -> u64
 
 // The expression whose root, the word w, stands at x.
 fn expression(code: &[u64], words: &[u64], depth: usize, w: u64, x: usize) -> u64
-    requires { ⌜ 24584 ≤ length (now words) ⌝ }
+    requires { ⌜ fixedWords ≤ length (now words) ⌝ }
     requires { ⌜ w ≡ getD (now code) x 0 ⌝ }
     ensures { λ r. ⌜ r ≡ fastAt depth (now (code .entry)) (now (words .entry)) x ⌝ }
 {
     if depth == 0 {
         return 0;
     }
-    if code::tag_of(w) < 16 {
+    if code::tag_of(w) < tags::FIRST_OPERATOR {
         return leaf_word(words, w);
     }
     let r = operation(code, words, depth - 1, w, x);
@@ -155,14 +141,14 @@ fn expression(code: &[u64], words: &[u64], depth: usize, w: u64, x: usize) -> u6
 
 // The same of a root. It stands outside the cycle, so that the compiler puts the leaves of an operator into `operation`.
 fn root(code: &[u64], words: &[u64], depth: usize, w: u64, x: usize) -> u64
-    requires { ⌜ 24584 ≤ length (now words) ⌝ }
+    requires { ⌜ fixedWords ≤ length (now words) ⌝ }
     requires { ⌜ w ≡ getD (now code) x 0 ⌝ }
     ensures { λ r. ⌜ r ≡ fastAt depth (now (code .entry)) (now (words .entry)) x ⌝ }
 {
     if depth == 0 {
         return 0;
     }
-    if code::tag_of(w) < 16 {
+    if code::tag_of(w) < tags::FIRST_OPERATOR {
         return leaf_word(words, w);
     }
     let r = operation(code, words, depth - 1, w, x);
@@ -171,7 +157,7 @@ fn root(code: &[u64], words: &[u64], depth: usize, w: u64, x: usize) -> u64
 
 // The value of the expression whose root stands at x, its steps counted; 0, and nothing counted, where this does not apply.
 pub fn fast_value(words: &mut [u64], code: &[u64], grants: &[u64; 4], depth: usize, x: usize) -> u64
-    requires { ⌜ 24584 ≤ length (now words) ⌝ }
+    requires { ⌜ fixedWords ≤ length (now words) ⌝ }
     ensures { λ r. ⌜ Values depth (now (code .entry)) (now (grants .entry)) (now (words .entry)) x r (now (words .exit)) ⌝ }
 {
     let code = &code[0..];
@@ -180,8 +166,8 @@ pub fn fast_value(words: &mut [u64], code: &[u64], grants: &[u64; 4], depth: usi
     if v == 0 {
         return 0;
     }
-    let granted = grants[0];
-    if !stores::counters::spend(words, 0, granted, code::size_of(w) as u64) {
+    let limit = grants[granted::STEPS];
+    if !stores::counters::spend(words, counters::STEPS, limit, code::size_of(w) as u64) {
         return 0;
     }
     v

@@ -11,13 +11,12 @@ use mir.Facts.{toZ-ofZ}
 use Rattle.meaning.specs.Basics.{laidOver}
 use Rattle.meaning.specs.Program.{Operation}
 use Rattle.meaning.specs.Call.{outAfter}
-use Rattle.meaning.specs.Book.{Answer}
 use Rattle.answers.specs.declared.Answer as Declared
 use Rattle.answers.specs.declared.Answer.the-variants.{Picture, Number}
 use Rattle.answers.specs.Answers.{meant}
 use Rattle.checking.specs.Checking.{Checked}
 use Rattle.lending.specs.Lending.{called, Performed}
-use Rattle.img.specs.Numbers.{Checks, Performs, numbersOf}
+use Rattle.img.specs.Numbers.{Told, Checks, Performs, numbersOf}
 
 four : (a b c d : ℕ) (xs : List ℕ) → set (set (set (set xs 0 a) 1 b) 2 c) 3 d ≡ laidOver (a ∷ b ∷ c ∷ d ∷ []) xs
 unfolding laidOver
@@ -28,20 +27,18 @@ four a b c d (x ∷ y ∷ z ∷ []) = refl
 four a b c d (x ∷ y ∷ z ∷ u ∷ xs) = refl
 
 module _ (r : Declared.Answer) (words words′ : List ℕ) where
-  pub write-picture : (l n : ℕ) → r ≡ Picture l n → words′ ≡ set (set (set (set words 0 0) 1 0) 2 n) 3 l → words′ ≡ laidOver (numbersOf (meant r)) words
+  pub write-picture : (l n : ℕ) → r ≡ Picture l n → words′ ≡ set (set (set (set words 0 0) 1 0) 2 n) 3 l → Told (meant r) words words′ 0
   unfolding numbersOf meant
-  write-picture l n e h = rw (e, h) (four 0 0 n l words)
+  write-picture l n e h = record { written = rw (e, h) (four 0 0 n l words); returned = rw e }
 
-  pub write-number : (m p n l : ℕ) → r ≡ Number m p n l → words′ ≡ set (set (set (set words 0 m) 1 p) 2 n) 3 l →
-      words′ ≡ laidOver (numbersOf (meant r)) words
+  pub write-number : (m p n l : ℕ) → r ≡ Number m p n l → words′ ≡ set (set (set (set words 0 m) 1 p) 2 n) 3 l → Told (meant r) words words′ m
   unfolding numbersOf meant
-  write-number m p n l e h = rw (e, h) (four m p n l words)
+  write-number m p n l e h = record { written = rw (e, h) (four m p n l words); returned = rw e }
 
-pub checks : (program tokens code words : List ℕ) (r : Declared.Answer) (tokens′ code′ words′ : List ℕ) →
-    Checked program tokens code r tokens′ code′ → words′ ≡ laidOver (numbersOf (meant r)) words →
-    Checks program tokens code words tokens′ code′ words′
-checks program tokens code words r tokens′ code′ words′ k h = record {
-  answered = h ∙ ap (λ (x : Answer). laidOver (numbersOf x) words) (k .answered);
+pub checks : (program g tokens code front : List ℕ) (r : Declared.Answer) (tokens′ code′ front′ : List ℕ) (n : ℕ) →
+    Checked program g tokens code r tokens′ code′ → Told (meant r) front front′ n → Checks program g tokens code front tokens′ code′ front′ n
+checks program g tokens code front r tokens′ code′ front′ n k h = record {
+  told = rw (k .answered) at h;
   tokensAfter = k .tokensAfter;
   codeAfter = k .codeAfter;
 }
@@ -51,15 +48,15 @@ abbrev held : ℤ → ℤ
 held z = toZ w32 (ofZ w32 z)
 
 module _ (o : Operation) (program : List ℕ) (width height : ℤ) (f : SFits w32 width) (f₂ : SFits w32 height) (g tokens code words texts out : List ℕ) where
-  pub performs : (r : Declared.Answer) (front tokens′ code′ words′ texts′ front′ : List ℕ)
+  pub performs : (r : Declared.Answer) (front tokens′ code′ words′ texts′ front′ : List ℕ) (n : ℕ)
       → Performed (called o program (held width) (held height) g tokens code words texts out) (meant r) tokens code words texts tokens′ code′ words′ texts′
-      → front′ ≡ laidOver (numbersOf (meant r)) front
-      → Performs (called o program width height g tokens code words texts out) tokens code words texts front tokens′ code′ words′ texts′ front′
-  performs r front tokens′ code′ words′ texts′ front′ p h =
+      → Told (meant r) front front′ n
+      → Performs (called o program width height g tokens code words texts out) tokens code words texts front tokens′ code′ words′ texts′ front′ n
+  performs r front tokens′ code′ words′ texts′ front′ n p h =
       let q : Performed (called o program width height g tokens code words texts out) (meant r) tokens code words texts tokens′ code′ words′ texts′ =
       rw (toZ-ofZ f, toZ-ofZ f₂) at p in
       record {
-        answered = h ∙ ap (λ (x : Answer). laidOver (numbersOf x) front) (q .answered);
+        told = rw (q .answered) at h;
         tokensAfter = q .tokensAfter;
         codeAfter = q .codeAfter;
         wordsAfter = q .wordsAfter;

@@ -2,6 +2,7 @@
 use Prim.Native.Nat.{ℕ}
 use mathlib.Core.Path.{_≡_}
 use mathlib.Core.List.{List, [], _∷_}
+use lib.ListN.{getD}
 use Rattle.meaning.specs.Basics.{laidOver}
 use Rattle.meaning.specs.Book.{Answer, pictured, number, undecided}
 use Rattle.meaning.specs.Call.{Call, answer, workAfter}
@@ -13,15 +14,20 @@ numbersOf (pictured l n) = 0 ∷ 0 ∷ n ∷ l ∷ []
 numbersOf (number m p n l) = m ∷ p ∷ n ∷ l ∷ []
 numbersOf undecided = []
 
--- what img_check promises: the answer in the front of its slice as far as that reaches, and what both work slices hold when it returns
-pub record Checks (program tokens code words tokens′ code′ words′ : List ℕ) : Type 0 where
-  pub answered : words′ ≡ laidOver (numbersOf (answer (Checking.called program tokens code))) words
-  pub tokensAfter : tokens′ ≡ workAfter (Checking.called program tokens code) tokens
-  pub codeAfter : code′ ≡ workAfter (Checking.called program tokens code) code
+-- an answer told: in the front of a slice as far as that reaches, and its number returned
+pub record Told (a : Answer) (front front′ : List ℕ) (n : ℕ) : Type 0 where
+  pub written : front′ ≡ laidOver (numbersOf a) front
+  pub returned : n ≡ getD (numbersOf a) 0 0
 
--- what img_measure and img_draw promise beside the out slice: the answer in the front of its slice, and what the four work slices hold
-pub record Performs (c : Call) (tokens code words texts front tokens′ code′ words′ texts′ front′ : List ℕ) : Type 0 where
-  pub answered : front′ ≡ laidOver (numbersOf (answer c)) front
+-- what img_check promises: the answer told, and what both work slices hold when it returns
+pub record Checks (program g tokens code front tokens′ code′ front′ : List ℕ) (n : ℕ) : Type 0 where
+  pub told : Told (answer (Checking.called program g tokens code)) front front′ n
+  pub tokensAfter : tokens′ ≡ workAfter (Checking.called program g tokens code) tokens
+  pub codeAfter : code′ ≡ workAfter (Checking.called program g tokens code) code
+
+-- what img_measure and img_draw promise beside the out slice: the answer told, and what the four work slices hold
+pub record Performs (c : Call) (tokens code words texts front tokens′ code′ words′ texts′ front′ : List ℕ) (n : ℕ) : Type 0 where
+  pub told : Told (answer c) front front′ n
   pub tokensAfter : tokens′ ≡ workAfter c tokens
   pub codeAfter : code′ ≡ workAfter c code
   pub wordsAfter : words′ ≡ workAfter c words

@@ -3,26 +3,31 @@ use answers::Answer;
 ghost use mathlib.Core.Path.{_≡_};
 ghost use lib.ListN.{set};
 ghost use mathlib.Core.List.{[], _∷_};
-ghost use Rattle.meaning.specs.Basics.{laidOver};
 ghost use Rattle.meaning.specs.Program.{measuring, drawing};
 ghost use Rattle.meaning.specs.Call.{outAfter};
 ghost use Rattle.lending.specs.Lending.{called};
 ghost use Rattle.answers.specs.Answers.{meant};
-ghost use Rattle.img.specs.Numbers.{Checks, Performs, numbersOf};
+ghost use Rattle.img.specs.Numbers.{Told, Checks, Performs};
 
 // Reads the program and says whether it is well formed: checking::check, with its answer in four words at the front of `answer`, as far as that
-// reaches. The words are the number (0: well formed), its place, the steps and the length.
+// reaches. The words are the number (0: well formed), its place, the steps and the length. The number is returned as well.
 #[no_mangle]
 pub extern "C" fn img_check(
     program: &[u8],
+    steps: u64,
+    shapes: u64,
+    entries: u64,
+    bytes: u64,
     tokens: &mut [u64],
     code: &mut [u64],
     answer: &mut [u64],
-)
-    ensures { λ _. ⌜ Checks (now (program .entry)) (now (tokens .entry)) (now (code .entry)) (now (answer .entry)) (now (tokens .exit)) (now (code .exit)) (now (answer .exit)) ⌝ }
+) -> u64
+    ensures { λ r. ⌜ Checks (now (program .entry)) (steps ∷ shapes ∷ entries ∷ bytes ∷ []) (now (tokens .entry)) (now (code .entry)) (now (answer .entry))
+        (now (tokens .exit)) (now (code .exit)) (now (answer .exit)) r ⌝ }
 {
-    let r = checking::check(program, tokens, code);
-    write_answer(r, answer);
+    let grants = [steps, shapes, entries, bytes];
+    let r = checking::check(program, &grants, tokens, code);
+    write_answer(r, answer)
 }
 
 // Runs the program and says how long its picture is: measuring::measure, with its answer as above.
@@ -40,13 +45,15 @@ pub extern "C" fn img_measure(
     words: &mut [u64],
     texts: &mut [u8],
     answer: &mut [u64],
-)
-    ensures { λ _. ⌜ Performs (called measuring (now (program .entry)) width height (steps ∷ shapes ∷ entries ∷ bytes ∷ []) (now (tokens .entry)) (now (code .entry)) (now (words .entry)) (now (texts .entry)) [])
-        (now (tokens .entry)) (now (code .entry)) (now (words .entry)) (now (texts .entry)) (now (answer .entry)) (now (tokens .exit)) (now (code .exit)) (now (words .exit)) (now (texts .exit)) (now (answer .exit)) ⌝ }
+) -> u64
+    ensures { λ r. ⌜ Performs (called measuring (now (program .entry)) width height (steps ∷ shapes ∷ entries ∷ bytes ∷ [])
+        (now (tokens .entry)) (now (code .entry)) (now (words .entry)) (now (texts .entry)) [])
+        (now (tokens .entry)) (now (code .entry)) (now (words .entry)) (now (texts .entry)) (now (answer .entry))
+        (now (tokens .exit)) (now (code .exit)) (now (words .exit)) (now (texts .exit)) (now (answer .exit)) r ⌝ }
 {
     let grants = [steps, shapes, entries, bytes];
     let r = measuring::measure(program, width, height, &grants, tokens, code, words, texts);
-    write_answer(r, answer);
+    write_answer(r, answer)
 }
 
 // Runs the program and draws its picture into the front of `out`: drawing::draw, with its answer as above.
@@ -65,10 +72,13 @@ pub extern "C" fn img_draw(
     texts: &mut [u8],
     out: &mut [u8],
     answer: &mut [u64],
-)
-    ensures { λ _. ⌜ Performs (called drawing (now (program .entry)) width height (steps ∷ shapes ∷ entries ∷ bytes ∷ []) (now (tokens .entry)) (now (code .entry)) (now (words .entry)) (now (texts .entry)) (now (out .entry)))
-        (now (tokens .entry)) (now (code .entry)) (now (words .entry)) (now (texts .entry)) (now (answer .entry)) (now (tokens .exit)) (now (code .exit)) (now (words .exit)) (now (texts .exit)) (now (answer .exit)) ⌝ }
-    ensures { λ _. ⌜ now (out .exit) ≡ outAfter (called drawing (now (program .entry)) width height (steps ∷ shapes ∷ entries ∷ bytes ∷ []) (now (tokens .entry)) (now (code .entry)) (now (words .entry)) (now (texts .entry)) (now (out .entry))) ⌝ }
+) -> u64
+    ensures { λ r. ⌜ Performs (called drawing (now (program .entry)) width height (steps ∷ shapes ∷ entries ∷ bytes ∷ [])
+        (now (tokens .entry)) (now (code .entry)) (now (words .entry)) (now (texts .entry)) (now (out .entry)))
+        (now (tokens .entry)) (now (code .entry)) (now (words .entry)) (now (texts .entry)) (now (answer .entry))
+        (now (tokens .exit)) (now (code .exit)) (now (words .exit)) (now (texts .exit)) (now (answer .exit)) r ⌝ }
+    ensures { λ _. ⌜ now (out .exit) ≡ outAfter (called drawing (now (program .entry)) width height (steps ∷ shapes ∷ entries ∷ bytes ∷ [])
+        (now (tokens .entry)) (now (code .entry)) (now (words .entry)) (now (texts .entry)) (now (out .entry))) ⌝ }
 {
     let grants = [steps, shapes, entries, bytes];
     let r = drawing::draw(
@@ -82,16 +92,22 @@ pub extern "C" fn img_draw(
         texts,
         out,
     );
-    write_answer(r, answer);
+    write_answer(r, answer)
 }
 
-// Writes an answer's four words.
-fn write_answer(r: Answer, answer: &mut [u64])
-    ensures { λ _. ⌜ now (answer .exit) ≡ laidOver (numbersOf (meant r)) (now (answer .entry)) ⌝ }
+// Writes an answer's four words, and returns its number.
+fn write_answer(r: Answer, answer: &mut [u64]) -> u64
+    ensures { λ n. ⌜ Told (meant r) (now (answer .entry)) (now (answer .exit)) n ⌝ }
 {
     match r {
-        Answer::Picture(l, n) => write_four(answer, 0, 0, n, l),
-        Answer::Number(m, p, n, l) => write_four(answer, m, p, n, l),
+        Answer::Picture(l, n) => {
+            write_four(answer, 0, 0, n, l);
+            0
+        }
+        Answer::Number(m, p, n, l) => {
+            write_four(answer, m, p, n, l);
+            m
+        }
     }
 }
 

@@ -2,20 +2,28 @@
 -- Assumes nothing.
 use Prim.Native.Nat.{ℕ}
 use mathlib.Core.List.{List}
-use mathlib.Core.Path.{_≡_, _∙_}
+use mathlib.Core.Bool.{true}
+use mathlib.Core.Path.{_≡_, _∙_, refl}
 use native.Mathlib.Omega.{arith}
-use lib.ListN.{length}
+use lib.ListN.{length, replicate}
+use Rattle.meaning.specs.Call.{inRange}
 use Rattle.answers.specs.declared.Answer as Declared
 use Rattle.answers.specs.Answers.{meant}
+use Rattle.lending.specs.Lending.{grantsOf}
 use Rattle.checking.specs.Checking.{Checked, readAnswer}
 use Rattle.checking.proofs.Answered.{admitted-answer}
 use Rattle.report.specs.Reports.{Said}
 use Rattle.imgcheck.specs.Reports.{reportOf, Reported}
 
-pub checked-answer : (program tokens code : List ℕ) (r : Declared.Answer) (tokens′ code′ : List ℕ) → length tokens ≡ 8193 → length code ≡ 16384
-    → Checked program tokens code r tokens′ code′ → meant r ≡ readAnswer program
-checked-answer program tokens code r tokens′ code′ t d k =
-    k .answered ∙ admitted-answer program tokens code (record { tokensLong = omega arith; codeLong = omega arith })
+pub checked-answer : (program g tokens code : List ℕ) (r : Declared.Answer) (tokens′ code′ : List ℕ) → inRange (grantsOf g) ≡ true → length tokens ≡ 8193 → length code ≡ 16384
+    → Checked program g tokens code r tokens′ code′ → meant r ≡ readAnswer program
+checked-answer program g tokens code r tokens′ code′ e t d k =
+    k .answered ∙ admitted-answer program g tokens code e (record { tokensLong = omega arith; codeLong = omega arith })
+
+-- counts of 0 are in their ranges
+pub nothing-granted : inRange (grantsOf (replicate 4 0)) ≡ true
+unfolding inRange
+nothing-granted = refl
 
 pub reported : (program : List ℕ) (r : Declared.Answer) {before after : List ℕ} {size : ℕ} → meant r ≡ readAnswer program
     → Said program (meant r) before after size → Reported program before after size

@@ -1,3 +1,5 @@
 mod Fronts
 mod Whole
+mod Outs
 pub mod Enough
+pub mod Examples

@@ -11,7 +11,7 @@ use mir.Syntax.{w32}
 use mir.Val.{SFits, toZ, ofZ}
 use mir.ValLaws.{toZ-ofZ}
 use Rattle.meaning.specs.Program.{drawing}
-use Rattle.meaning.specs.Call.{Call, answer, outAfter}
+use Rattle.meaning.specs.Call.{Call, needed, answer, outAfter}
 use Rattle.answers.specs.declared.Answer as Declared
 use Rattle.answers.specs.Answers.{meant}
 use Rattle.lending.specs.Lending.{called}
@@ -25,6 +25,7 @@ use Rattle.imgdraw.proofs.Fronts.{error-line}
 -- drawing's call, with its slices' lengths and grants
 pub same-call : (program tokens code words texts out : List ℕ) (w h : ℤ) → length tokens ≡ 8193 → length code ≡ 16384 → length words ≡ 31752 → length texts ≡ 16384
     → called drawing program w h (1000000 ∷ 1024 ∷ 1024 ∷ 16384 ∷ []) tokens code words texts out ≡ callOf program w h out
+unfolding needed
 same-call program tokens code words texts out w h a b c d = rw (a, b, c, d)
 
 -- the answer and the out slice are those of the call

@@ -15,7 +15,7 @@ use Rattle.meaning.specs.Run.{Run}
 use Rattle.meaning.specs.Program.{Operation, Outcome, measuring, drawing, specified}
 use Rattle.meaning.specs.Book.{nothingYet, book, Answer, number, booked}
 use Rattle.meaning.specs.Call.{Call, inRange, needed, longEnough, admitted, granted, runOf, answer, workAfter, outAfterEnd, outAfter}
-use Rattle.stores.specs.Layout.{stepsGranted, shapesGranted, entriesGranted, textGranted, wordsNeeded}
+use Rattle.machine.specs.Layout.{stepsGranted, shapesGranted, entriesGranted, textGranted, wordsNeeded}
 use Rattle.lending.specs.Lending.{grantsOf, enough, Ready, called, Performed}
 
 -- ---- conjunctions

@@ -8,7 +8,7 @@ use lib.IntN.{ℤ}
 use Rattle.meaning.specs.Program.{Operation, measuring}
 use Rattle.meaning.specs.Book.{Answer}
 use Rattle.meaning.specs.Call.{Grants, Call, inRange, needed, longEnough, answer, workAfter}
-use Rattle.stores.specs.Layout.{stepsGranted, shapesGranted, entriesGranted, textGranted, Lent}
+use Rattle.machine.specs.Layout.{stepsGranted, shapesGranted, entriesGranted, textGranted, Lent}
 
 -- the four counts of a list
 abbrev pub grantsOf : List ℕ → Grants

@@ -3,11 +3,11 @@ ghost use mathlib.Core.Path.{_≡_};
 ghost use mathlib.Core.Bool.{true};
 ghost use lib.ListN.{length, replicate};
 ghost use Rattle.meaning.specs.Call.{inRange};
-ghost use Rattle.stores.specs.Layout.{wordsNeeded};
+ghost use Rattle.machine.specs.Layout.{wordsNeeded};
 ghost use Rattle.lending.specs.Lending.{grantsOf, enough};
 
 // Whether each count is in its range.
-fn in_range(grants: &[u64; 4]) -> bool
+pub fn in_range(grants: &[u64; 4]) -> bool
     ensures { λ r. ⌜ r ≡ inRange (grantsOf (now (grants .entry))) ⌝ }
 {
     if 4294967295 < grants[0] {

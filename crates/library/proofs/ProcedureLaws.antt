@@ -11,23 +11,23 @@ use lib.Signed.{mag}
 use mir.Syntax.{w32}
 use mir.Val.{toZ}
 use Rattle.meaning.specs.Basics.{if_then_else_}
-use Rattle.values.specs.declared.Value.{Value}
-use Rattle.values.specs.declared.Value.the-variants.{Integer, Nothing}
-use Rattle.values.specs.declared.Answer.{Answer}
-use Rattle.values.specs.declared.Answer.the-variants.{Good, Bad}
-use Rattle.values.specs.Words.{kindIn, numberIn, handleIn, unpacked}
-use Rattle.stores.specs.declared.Figure.{Figure}
-use Rattle.stores.specs.Act.{Raw, raw, done, stop, Act, goOn, _>>=_, give, fail, refuse, shown, Answers, Passes, Gives}
-use Rattle.stores.specs.Arguments.{argumentAt}
-use Rattle.stores.specs.Shapes.{figureAt, newShape, destroy}
-use Rattle.stores.specs.Variables.{clearScene}
+use Rattle.machine.specs.declared.Value.{Value}
+use Rattle.machine.specs.declared.Value.the-variants.{Integer, Nothing}
+use Rattle.machine.specs.declared.Answer.{Answer}
+use Rattle.machine.specs.declared.Answer.the-variants.{Good, Bad}
+use Rattle.machine.specs.Words.{kindIn, numberIn, handleIn, unpacked}
+use Rattle.machine.specs.declared.Figure.{Figure}
+use Rattle.machine.specs.Act.{Raw, raw, done, stop, Act, goOn, _>>=_, give, fail, refuse, shown, Answers, Passes, Gives}
+use Rattle.machine.specs.Stack.{argumentAt}
+use Rattle.machine.specs.Shapes.{figureAt, newShape, destroy}
+use Rattle.machine.specs.Variables.{clearScene}
 use Rattle.stores.proofs.Acts.{after-pass, after-refusal, after-gift}
-use Rattle.operators.specs.Operate.{withInteger, withText}
+use Rattle.machine.specs.Operate.{withInteger, withText}
 use Rattle.operators.proofs.Held.{held, back-to}
 use Rattle.operators.proofs.KindLaws.{integer-or, text-or, shape-or}
-use Rattle.library.specs.Library.{withFigure}
-use Rattle.arguments.specs.Arguments.{figure, connecting, textOn, allUsable}
-use Rattle.library.specs.Library.{drawn, drawnText, connected, labelled, coordinate, destroyed, clearing, perform, callLibrary}
+use Rattle.machine.specs.Library.{withFigure}
+use Rattle.machine.specs.Arguments.{figure, connecting, textOn, allUsable}
+use Rattle.machine.specs.Library.{drawn, drawnText, connected, labelled, coordinate, destroyed, clearing, perform, callLibrary}
 use Rattle.arguments.specs.Given.{isKind, areKinds, fourIntegers, pointAndText, integerAt, handleAt, shapeAt, givenFigure}
 use Rattle.arguments.specs.Given.{drawnFigure, textFigure, connectingFigure, labelFigure}
 

@@ -1,13 +1,13 @@
 // Library procedures, on the arguments of a call: n of them, held from the one numbered base on.
 use arguments::figures;
-use values::Answer;
-use values::Value;
+use machine::Answer;
+use machine::Value;
 ghost use Prim.Native.Nat.{_≤_};
 ghost use lib.ListN.{length};
-ghost use Rattle.stores.specs.Layout.{Room};
-ghost use Rattle.stores.specs.Act.{Answers};
-ghost use Rattle.library.specs.Library.{drawn, drawnText, connected, labelled, coordinate, destroyed, clearing, perform, callLibrary};
-ghost use Rattle.arguments.specs.Arguments.{centreX, centreY};
+ghost use Rattle.machine.specs.Layout.{Room};
+ghost use Rattle.machine.specs.Act.{Answers};
+ghost use Rattle.machine.specs.Library.{drawn, drawnText, connected, labelled, coordinate, destroyed, clearing, perform, callLibrary};
+ghost use Rattle.machine.specs.Arguments.{centreX, centreY};
 
 // Four integers make a figure of a kind.
 fn draw(words: &mut [u64], grants: &[u64; 4], kind: u64, p: u64, base: u64, n: u64) -> Answer

@@ -6,7 +6,7 @@ use native.Mathlib.Omega.{arith}
 use lib.Dec.{ltb, eqb}
 use borrow.Author.Tests.{eqb-true, eqb-false, lt-ltb}
 use Rattle.meaning.specs.Basics.{standsIn}
-use Rattle.meaning.specs.Byte.{isSpace, isLetter, isDigit, isQuote, isSign, classOf}
+use Rattle.meaning.specs.Byte.{isSpace, isLetter, isDigit, isNamePart, isQuote, isSign, classOf}
 
 -- ---- a test at all numbers below a bound
 allBelow : ℕ → (ℕ → Bool) → Bool
@@ -31,6 +31,7 @@ pub record Told (b : ℕ) : Type 0 where
   pub letter : isLetter b ≡ eqb (classOf b) 2
   pub digit : isDigit b ≡ eqb (classOf b) 3
   pub quote : isQuote b ≡ eqb (classOf b) 4
+  pub namePart : isNamePart b ≡ eqb (classOf b) 2 || eqb (classOf b) 3
   pub sign : isSign b ≡ eqb (classOf b) 5
   pub none : 127 < b → classOf b ≡ 0
 
@@ -65,11 +66,13 @@ unfolding allBelow agrees lowOrNone isSpace isLetter isDigit isQuote isSign stan
 computed = (refl, refl, refl, refl, refl, refl)
 
 pub class-tells : (b : ℕ) → b < 256 → Told b
+unfolding isNamePart
 class-tells b h = record {
   space = agreed isSpace 1 (computed .0) b h;
   letter = agreed isLetter 2 (computed .1) b h;
   digit = agreed isDigit 3 (computed .2) b h;
   quote = agreed isQuote 4 (computed .3) b h;
+  namePart = rw (← agreed isLetter 2 (computed .1) b h, ← agreed isDigit 3 (computed .2) b h);
   sign = agreed isSign 5 (computed .4) b h;
   none = none-above b (at 256 lowOrNone (computed .5) b h);
 }

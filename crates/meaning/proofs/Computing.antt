@@ -16,7 +16,6 @@ use Rattle.meaning.specs.Picture
 use Rattle.meaning.specs.Program
 use Rattle.meaning.specs.Book
 use Rattle.meaning.specs.Call
-use Rattle.meaning.specs.Claims
 
 unfoldable pub everything : Unit {0}
 unfolding Basics.if_then_else_ Basics.sameText Basics.standsIn Basics.span Basics.laidOver Byte.isSpace Byte.isLetter
@@ -29,22 +28,21 @@ unfolding Basics.if_then_else_ Basics.sameText Basics.standsIn Basics.span Basic
     Grammar.parsed Grammar.reading Integer.bits Integer.wrap Integer.sum Integer.difference Integer.product
     Integer.quotient Integer.remainder Integer.amount Integer.shiftedLeft Integer.shiftedRight Integer.half
     Integer.sameInteger Integer.sameIntegers Integer.isNegative Figure.moved Figure.plusY Figure.minusY
-    Figure.plusX Figure.minusX Figure.scaledUp Figure.scaledDown Figure.centreX Figure.centreY Figure.connecting
-    Figure.textOn Figure.figureKind Figure.numbersOf Figure.textOf Value.kindOf State.valueIn State.isSome
-    State.assigned State.withShape State.destroyed State.destroyedIn State.cleared State.seen State.sceneOf
-    State.keyOf State.sameKey State.entryIn State.overwritten Run.goOn Run._>>=_ Run.give Run.fail Run.take
+    Figure.plusX Figure.minusX Figure.scaled Figure.scaledUp Figure.scaledDown Figure.centreX Figure.centreY Figure.connecting
+    Figure.textOn Figure.figureKind Figure.numbersOf Figure.textOf Figure.sameFigure Value.kindOf State.valueIn State.isSome
+    State.assigned State.withShape State.destroy State.destroyedIn State.cleared State.seen State.sceneOf
+    State.keyOf State.sameKey State.entryIn State.overwritten Run.goOn Run._>>=_ Run.give Run.fail Run.spend
     Run.refuse Run.current Run.become Operator.isDead Operator.usable Operator.withInteger Operator.withString
     Operator.withBoolean Operator.withTable Operator.withShapeNumber Operator.withFigure Operator.newShape
     Operator.newString Operator.calculated Operator.compared Operator.remaindered Operator.joined
     Operator.equality Operator.answered Operator.equated Operator.operateOn Operator.operate Library.libraryOf
-    Library.withNone Library.withOne Library.withTwo Library.withThree Library.withFour Library.drawn
-    Library.perform Library.allUsable Library.callLibrary Evaluate.found Evaluate.variable Evaluate.newTable
+    Library.withNone Library.withOne Library.withTwo Library.withThree Library.withFour Library.drawFigure
+    Library.perform Library.allUsable Library.callLibrary Evaluate.lookedUp Evaluate.variable Evaluate.newTable
     Evaluate.entryOf Evaluate.evaluate Evaluate.evaluateAll Execute.continue Execute.declaring Execute.copied
     Execute.assigning Execute.storing Execute.updating Execute.looping Execute.execute Execute.executeAll
-    Picture.digitsWithin Picture.digitsOf Picture.decimal Picture.attribute Picture.lineOf Picture.linesOf
+    Picture.digitsWithin Picture.digitsOf Picture.decimal Picture.attribute Picture.plainLine Picture.sideStart Picture.absolute Picture.turned Picture.lineOf Picture.linesOf
     Picture.pictureOf Program.entering Program.sheet Program.sized Program.understood Program.painting
     Program.performing Program.specified Program.cut Program.beginning Book.resourceNumber Book.added Book.fits
     Book.book Book.shortageOf Book.lengthNeeded Book.answerTo Book.settled Book.booked Call.inRange Call.needed
-    Call.longEnough Call.admitted Call.granted Call.runOf Call.answer Call.workAfter Call.outAfterEnd
-    Call.outAfter Claims.namesShortage Claims.totalFrom Claims.shortageAt
+    Call.longEnough Call.admitted Call.granted Call.runOf Call.answer Call.workAfter Call.outAfterEnd Call.outAfter
 everything = tt

@@ -1,6 +1,6 @@
 -- Laws of the decimal digits that a picture shows: read again they are the number, and the first is no needless 0.
 use Prim.Native.Nat.{ℕ, zero, suc, _+_, _-_, _*_, _/_, _%_, _<_, _≤_}
-use mathlib.Core.Path.{_≡_, refl, _∙_}
+use mathlib.Core.Path.{_≡_, refl, ap, _∙_}
 use mathlib.Core.Logic.{_≢_}
 use mathlib.Core.Bool.{Bool, true, false}
 use mathlib.Core.List.{List, [], _∷_, _++_}
@@ -90,3 +90,21 @@ first-digitsOf n h = let k = within-first (suc n) n (omega arith) h in omega ari
 pub digitsOf-zero : digitsOf 0 ≡ bytes "0"
 unfolding digitsOf digitsWithin if_then_else_
 digitsOf-zero = refl
+
+-- ---- rounds
+-- more rounds than n change nothing, so what is left with none is never shown
+within-same : (r r′ n : ℕ) → n < r → n < r′ → digitsWithin r n ≡ digitsWithin r′ n
+unfolding digitsWithin if_then_else_
+within-same zero r′ n l l′ = absurd (omega arith)
+within-same (suc r) zero n l l′ = absurd (omega arith)
+within-same (suc r) (suc r′) n l l′ = by (ltb n 10) refl (λ k. within-same r r′ (n / 10) (omega arith) (omega arith))
+  where
+    by : (t : Bool) → ltb n 10 ≡ t → (10 ≤ n → digitsWithin r (n / 10) ≡ digitsWithin r′ (n / 10)) →
+        (if t then (λ _. (n + 48) ∷ []) else λ _. digitsWithin r (n / 10) ++ ((n % 10 + 48) ∷ []))
+        ≡ (if t then (λ _. (n + 48) ∷ []) else λ _. digitsWithin r′ (n / 10) ++ ((n % 10 + 48) ∷ []))
+    by true e h = refl
+    by false e h = ap (λ (ds : List ℕ). ds ++ ((n % 10 + 48) ∷ [])) (h (ltb-false n 10 e))
+
+pub rounds-enough : (rounds n : ℕ) → n < rounds → digitsWithin rounds n ≡ digitsOf n
+unfolding digitsOf
+rounds-enough rounds n l = within-same rounds (suc n) n l (omega arith)

@@ -1,12 +1,12 @@
 -- Laws of figures.
-use Prim.Native.Nat.{_^_, _<_}
+use Prim.Native.Nat.{ℕ, _^_, _<_}
 use mathlib.Core.Path.{_≡_, refl}
-use mathlib.Core.List.{List, [], _∷_}
-use lib.IntN.{ℤ}
+use mathlib.Core.List.{List, [], _∷_, map}
+use lib.IntN.{ℤ, pos, negsuc}
 use lib.Signed.{mag}
-use Rattle.meaning.specs.Integer.{sum, difference, half}
-use Rattle.meaning.specs.Figure.{Figure, line, ellipse, box, text, moved, kept, plusX, minusX, plusY, minusY, centreX, centreY, figureKind, numbersOf, textOf}
-use Rattle.meaning.proofs.IntegerLaws.{sum-range, sum-difference, difference-sum, half-sum-range}
+use Rattle.meaning.specs.Integer.{bits, wrap, sum, difference, product, quotient, half}
+use Rattle.meaning.specs.Figure.{Figure, line, ellipse, box, text, moved, kept, plusX, minusX, plusY, minusY, scaled, scaledUp, scaledDown, centreX, centreY, figureKind, numbersOf, textOf}
+use Rattle.meaning.proofs.IntegerLaws.{sum-range, sum-difference, difference-sum, product-one, quotient-one, half-sum-range}
 
 -- ---- what stays
 pub moved-kind : (f g : ℤ → ℤ) (a : Figure) → figureKind (moved f g a) ≡ figureKind a
@@ -22,6 +22,53 @@ moved-text f g (line x₁ y₁ x₂ y₂) = refl
 moved-text f g (ellipse x y a b) = refl
 moved-text f g (box x y w h) = refl
 moved-text f g (text x y s) = refl
+
+pub scaled-kind : (f : ℤ → ℤ) (a : Figure) → figureKind (scaled f a) ≡ figureKind a
+unfolding scaled figureKind
+scaled-kind f (line x₁ y₁ x₂ y₂) = refl
+scaled-kind f (ellipse x y a b) = refl
+scaled-kind f (box x y w h) = refl
+scaled-kind f (text x y s) = refl
+
+pub scaled-text : (f : ℤ → ℤ) (a : Figure) → textOf (scaled f a) ≡ textOf a
+unfolding scaled textOf
+scaled-text f (line x₁ y₁ x₂ y₂) = refl
+scaled-text f (ellipse x y a b) = refl
+scaled-text f (box x y w h) = refl
+scaled-text f (text x y s) = refl
+
+-- ---- scaling acts on every number of a figure
+pub scaled-numbers : (f : ℤ → ℤ) (a : Figure) → numbersOf (scaled f a) ≡ map f (numbersOf a)
+unfolding scaled numbersOf
+scaled-numbers f (line x₁ y₁ x₂ y₂) = refl
+scaled-numbers f (ellipse x y a b) = refl
+scaled-numbers f (box x y w h) = refl
+scaled-numbers f (text x y s) = refl
+
+-- doubling, by kinds
+abbrev twice : ℤ → ℤ
+twice z = product z (pos 2)
+
+pub doubled-line : (x₁ y₁ x₂ y₂ : ℤ) → scaledUp (line x₁ y₁ x₂ y₂) (pos 2) ≡ line (twice x₁) (twice y₁) (twice x₂) (twice y₂)
+unfolding scaledUp scaled
+doubled-line x₁ y₁ x₂ y₂ = refl
+
+pub doubled-ellipse : (x y a b : ℤ) → scaledUp (ellipse x y a b) (pos 2) ≡ ellipse (twice x) (twice y) (twice a) (twice b)
+unfolding scaledUp scaled
+doubled-ellipse x y a b = refl
+
+pub doubled-box : (x y w h : ℤ) → scaledUp (box x y w h) (pos 2) ≡ box (twice x) (twice y) (twice w) (twice h)
+unfolding scaledUp scaled
+doubled-box x y w h = refl
+
+pub doubled-text : (x y : ℤ) (s : List ℕ) → scaledUp (text x y s) (pos 2) ≡ text (twice x) (twice y) s
+unfolding scaledUp scaled
+doubled-text x y s = refl
+
+-- halving rounds toward zero, sizes too: of the box 1 2 −3 7
+pub halved-box : scaledDown (box (pos 1) (pos 2) (negsuc 2) (pos 7)) (pos 2) ≡ box (pos 0) (pos 1) (negsuc 0) (pos 3)
+unfolding scaledDown scaled quotient wrap bits
+halved-box = refl
 
 -- ---- there and back
 -- every number is in range
@@ -62,6 +109,23 @@ plusY-minusY a n h = moved-back kept kept (λ z. sum z n) (λ z. difference z n)
 pub minusY-plusY : (a : Figure) (n : ℤ) → InRange a → plusY (minusY a n) n ≡ a
 unfolding plusY minusY
 minusY-plusY a n h = moved-back kept kept (λ z. difference z n) (λ z. sum z n) kept-back (λ z. difference-sum z n) a h
+
+-- *1 and /1 give the same figure
+module _ (f : ℤ → ℤ) (same : (z : ℤ) → mag z < 2 ^ 31 → f z ≡ z) where
+  scaled-same : (a : Figure) → InRange a → scaled f a ≡ a
+  unfolding scaled numbersOf
+  scaled-same (line x₁ y₁ x₂ y₂) h = rw (same x₁ (h .0), same y₁ (h .1 .0), same x₂ (h .1 .1 .0), same y₂ (h .1 .1 .1 .0))
+  scaled-same (ellipse x y a b) h = rw (same x (h .0), same y (h .1 .0), same a (h .1 .1 .0), same b (h .1 .1 .1 .0))
+  scaled-same (box x y w h) r = rw (same x (r .0), same y (r .1 .0), same w (r .1 .1 .0), same h (r .1 .1 .1 .0))
+  scaled-same (text x y s) h = rw (same x (h .0), same y (h .1 .0))
+
+pub scaledUp-one : (a : Figure) → InRange a → scaledUp a (pos 1) ≡ a
+unfolding scaledUp
+scaledUp-one a h = scaled-same (λ z. product z (pos 1)) product-one a h
+
+pub scaledDown-one : (a : Figure) → InRange a → scaledDown a (pos 1) ≡ a
+unfolding scaledDown
+scaledDown-one a h = scaled-same (λ z. quotient z (pos 1)) quotient-one a h
 
 -- ---- centres are in range
 pub centreX-range : (a : Figure) → InRange a → mag (centreX a) < 2 ^ 31

@@ -3,7 +3,7 @@ use Prim.Native.Nat.{ℕ, zero, suc, _+_, _-_, _*_, _/_, _%_, _^_, _<_, _≤_}
 use mathlib.Core.Path.{_≡_, refl, ap, sym, _∙_}
 use mathlib.Core.Bool.{Bool, true, false, cond}
 use native.Mathlib.Omega.{arith}
-use native.Mathlib.Nat.{lt-of-le-of-lt, mod-add-div, div-add-mod', add-mul, mul-add, mul-assoc, mul-comm, zero-mul, add-mul-mod-self-left}
+use native.Mathlib.Nat.{lt-of-le-of-lt, mod-add-div, div-add-mod', add-mul, mul-add, mul-assoc, mul-comm, mul-one, zero-mul, zero-div, div-one, add-mul-mod-self-left}
 use lib.Dec.{ltb}
 use borrow.Author.Tests.{lt-ltb, le-ltb, ltb-true, ltb-false}
 use lib.IntN.{ℤ, pos, negsuc, subℕ, _+ℤ_, _-ℤ_, _*ℤ_, negℤ, +ℤ-comm, +ℤ-negℤ-cancel, -ℤ-+ℤ-cancel, negℤ-+ℤ}
@@ -185,6 +185,33 @@ sum-difference a b h = wrap-sum-left (a +ℤ b) (negℤ b) ∙ ap wrap (+ℤ-neg
 pub difference-sum : (a b : ℤ) → mag a < 2 ^ 31 → sum (difference a b) b ≡ a
 unfolding sum difference
 difference-sum a b h = wrap-sum-left (a -ℤ b) b ∙ ap wrap (-ℤ-+ℤ-cancel a b) ∙ wrap-id a h
+
+-- ---- products and quotients by 1, and of 0
+times-one : (a : ℤ) → a *ℤ pos 1 ≡ a
+times-one (pos a) = ap pos (mul-one a)
+times-one (negsuc a) = ap (λ (n : ℕ). negℤ (pos n)) (mul-one (suc a))
+
+over-one : (a : ℤ) → quotZ a (pos 1) ≡ a
+over-one (pos a) = ap pos (div-one a)
+over-one (negsuc a) = ap (λ (n : ℕ). negℤ (pos n)) (div-one (suc a))
+
+pub product-one : (a : ℤ) → mag a < 2 ^ 31 → product a (pos 1) ≡ a
+unfolding product
+product-one a h = ap wrap (times-one a) ∙ wrap-id a h
+
+pub quotient-one : (a : ℤ) → mag a < 2 ^ 31 → quotient a (pos 1) ≡ a
+unfolding quotient
+quotient-one a h = ap wrap (over-one a) ∙ wrap-id a h
+
+pub product-zero : (b : ℤ) → product (pos 0) b ≡ pos 0
+unfolding product wrap bits
+product-zero (pos b) = rw (zero-mul b)
+product-zero (negsuc b) = rw (zero-mul (suc b))
+
+pub quotient-zero : (b : ℤ) → quotient (pos 0) b ≡ pos 0
+unfolding quotient wrap bits
+quotient-zero (pos b) = rw (zero-div b)
+quotient-zero (negsuc b) = rw (zero-div (suc b))
 
 -- ---- quotients
 minus-times-pos : (q b : ℕ) → negℤ (pos q) *ℤ pos b ≡ negℤ (pos (q * b))

@@ -1,20 +1,31 @@
 -- Laws of the tests on texts, integers and keys: each says whether two things are equal.
-use Prim.Native.Nat.{ℕ, min}
+use Prim.Native.Nat.{ℕ, min, _+_, _<_}
 use mathlib.Core.Path.{_≡_, refl, ap, ap₂, sym, _∙_}
 use mathlib.Core.Logic.{_↔_}
-use mathlib.Core.Bool.{Bool, true, false, _&&_, and-eq-true-iff}
+use mathlib.Core.Bool.{Bool, true, false, _&&_, cond, and-eq-true-iff}
 use mathlib.Core.List.{List, [], _∷_}
 use native.Mathlib.Omega.{arith}
+use lib.ListN.{getD}
 use lib.Dec.{eqb}
-use borrow.Author.Tests.{eqb-true, eq-eqb}
+use borrow.Author.Tests.{eqb-true, eqb-false, eq-eqb, ne-eqb}
 use lib.IntN.{ℤ, pos, negsuc}
 use Rattle.meaning.specs.Basics.{sameText}
 use Rattle.meaning.specs.Integer.{sameInteger, sameIntegers}
+use Rattle.meaning.specs.Figure.{Figure, line, ellipse, box, text, figureKind, numbersOf, textOf, sameFigure}
 use Rattle.meaning.specs.Value.{Value, integer, string, boolean, none, table, shape, kindOf}
-use Rattle.meaning.specs.State.{State, Key, keyOf, sameKey}
+use Rattle.meaning.specs.State.{State, Key, figureKey, keyOf, sameKey}
 
 eqb-same : (n : ℕ) → eqb n n ≡ true
 eqb-same n = eq-eqb n n refl
+
+-- a test that says whether two things are equal takes them in either order
+pub test-symmetric : {A : Type 0} (t : A → A → Bool) → ((a b : A) → t a b ≡ true ↔ a ≡ b) → (a b : A) → t a b ≡ t b a
+test-symmetric t i a b = go (t a b) (t b a) (λ e. i b a .1 (sym (i a b .0 e))) (λ e. i a b .1 (sym (i b a .0 e)))
+  where
+    go : (x y : Bool) → (x ≡ true → y ≡ true) → (y ≡ true → x ≡ true) → x ≡ y
+    go true y f g = sym (f refl)
+    go false true f g = g refl
+    go false false f g = refl
 
 -- ---- texts
 pub sameText-same : (a : List ℕ) → sameText a a ≡ true
@@ -83,15 +94,7 @@ pub sameKey-iff : (a b : Key) → sameKey a b ≡ true ↔ a ≡ b
 sameKey-iff a b = (sameKey-equal a b, λ e. rw (← e) (sameKey-same a))
 
 pub sameKey-symmetric : (a b : Key) → sameKey a b ≡ sameKey b a
-sameKey-symmetric a b = same-test (sameKey a b) (sameKey b a) (λ e. turned a b e) (λ e. turned b a e)
-  where
-    same-test : (s t : Bool) → (s ≡ true → t ≡ true) → (t ≡ true → s ≡ true) → s ≡ t
-    same-test true t f g = sym (f refl)
-    same-test false true f g = g refl
-    same-test false false f g = refl
-
-    turned : (x y : Key) → sameKey x y ≡ true → sameKey y x ≡ true
-    turned x y e = sameKey-iff y x .1 (sym (sameKey-equal x y e))
+sameKey-symmetric = test-symmetric sameKey sameKey-iff
 
 -- a value matches itself as a key
 pub sameKey-keyOf : (s : State) (v : Value) → sameKey (keyOf s v) (keyOf s v) ≡ true
@@ -109,3 +112,76 @@ key-kind s (shape i) = omega arith
 
 pub sameKey-kind : (s : State) (v w : Value) → sameKey (keyOf s v) (keyOf s w) ≡ true → kindOf v ≡ kindOf w
 sameKey-kind s v w e = sym (key-kind s v) ∙ ap (λ (k : Key). min 5 (k .kind)) (sameKey-equal (keyOf s v) (keyOf s w) e) ∙ key-kind s w
+
+-- ---- a key forgets nothing
+-- the figure that a key is of, and the value that is no shape
+abbrev nth : List ℤ → ℕ → ℤ
+nth ns i = getD ns i (pos 0)
+
+figureBack : ℕ → List ℤ → List ℕ → Figure
+figureBack k ns t =
+    cond (eqb k 5) (line (nth ns 0) (nth ns 1) (nth ns 2) (nth ns 3))
+    (cond (eqb k 6) (ellipse (nth ns 0) (nth ns 1) (nth ns 2) (nth ns 3))
+    (cond (eqb k 7) (box (nth ns 0) (nth ns 1) (nth ns 2) (nth ns 3))
+    (text (nth ns 0) (nth ns 1) t)))
+
+figure-back : (a : Figure) → figureBack (figureKey a .kind) (figureKey a .numbers) (figureKey a .text) ≡ a
+unfolding figureBack figureKind numbersOf textOf
+figure-back (line x₁ y₁ x₂ y₂) = refl
+figure-back (ellipse x y a b) = refl
+figure-back (box x y w h) = refl
+figure-back (text x y s) = refl
+
+-- shapes have the same key exactly where they look alike
+pub figureKey-iff : (a b : Figure) → sameKey (figureKey a) (figureKey b) ≡ true ↔ a ≡ b
+figureKey-iff a b = (
+  λ e. sym (figure-back a) ∙ ap (λ (k : Key). figureBack (k .kind) (k .numbers) (k .text)) (sameKey-equal (figureKey a) (figureKey b) e) ∙ figure-back b,
+  λ e. sameKey-iff (figureKey a) (figureKey b) .1 (ap (λ (x : Figure). figureKey x) e),
+)
+
+magnitude : ℤ → ℕ
+magnitude (pos n) = n
+magnitude (negsuc n) = n
+
+valueBack : ℕ → List ℤ → List ℕ → Value
+valueBack k ns t =
+    cond (eqb k 0) (integer (nth ns 0))
+    (cond (eqb k 1) (string t)
+    (cond (eqb k 2) (boolean (eqb (magnitude (nth ns 0)) 1))
+    (cond (eqb k 3) none
+    (table (magnitude (nth ns 0))))))
+
+value-back : (s : State) (v : Value) → kindOf v < 5 → valueBack (keyOf s v .kind) (keyOf s v .numbers) (keyOf s v .text) ≡ v
+unfolding valueBack magnitude keyOf kindOf
+value-back s (integer z) h = refl
+value-back s (string t) h = refl
+value-back s (boolean true) h = refl
+value-back s (boolean false) h = refl
+value-back s none h = refl
+value-back s (table t) h = refl
+value-back s (shape i) h = absurd (omega arith)
+
+-- and other values exactly where they are the same
+pub keyOf-iff : (s : State) (v w : Value) → kindOf v < 5 → kindOf w < 5 → sameKey (keyOf s v) (keyOf s w) ≡ true ↔ v ≡ w
+keyOf-iff s v w h k = (
+  λ e. sym (value-back s v h) ∙ ap (λ (x : Key). valueBack (x .kind) (x .numbers) (x .text)) (sameKey-equal (keyOf s v) (keyOf s w) e) ∙ value-back s w k,
+  λ e. sameKey-iff (keyOf s v) (keyOf s w) .1 (ap (keyOf s) e),
+)
+
+-- ---- figures
+eqb-plus : (n a b : ℕ) → eqb (n + a) (n + b) ≡ eqb a b
+eqb-plus n a b = go (eqb a b) refl
+  where
+    go : (t : Bool) → eqb a b ≡ t → eqb (n + a) (n + b) ≡ t
+    go true e = eq-eqb (n + a) (n + b) (ap (λ (m : ℕ). n + m) (eqb-true a b e))
+    go false e = ne-eqb (n + a) (n + b) (λ q. eqb-false a b e (omega arith))
+
+pub figureKey-alike : (a b : Figure) → sameKey (figureKey a) (figureKey b) ≡ sameFigure a b
+unfolding sameKey sameFigure
+figureKey-alike a b = rw (eqb-plus 5 (figureKind a) (figureKind b))
+
+pub sameFigure-iff : (a b : Figure) → sameFigure a b ≡ true ↔ a ≡ b
+sameFigure-iff a b = rw (← figureKey-alike a b) (figureKey-iff a b)
+
+pub sameFigure-same : (a : Figure) → sameFigure a a ≡ true
+sameFigure-same a = sameFigure-iff a a .1 refl

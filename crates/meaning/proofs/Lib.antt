@@ -2,6 +2,14 @@
 pub mod Computing
 pub mod Examples
 pub mod Readings
+pub mod Rows
+pub mod TokenExamples
+pub mod GrammarExamples
+pub mod OperatorExamples
+pub mod StateExamples
+pub mod PictureExamples
+pub mod RunExamples
+pub mod CallExamples
 -- Laws of the definitions
 pub mod IntegerLaws
 pub mod FigureLaws
@@ -9,16 +17,9 @@ pub mod KeyLaws
 pub mod DecimalLaws
 pub mod ByteLaws
 pub mod TokenLaws
+pub mod GrammarLaws
 pub mod StateLaws
--- The claims
-pub mod Booking
-pub mod Turns
-pub mod Refusals
-pub mod Ends
-pub mod Beginnings
-pub mod Settling
-pub mod Answers
-pub mod Lent
-pub mod Pictures
-pub mod Shortages
-pub mod Claimed
+pub mod OperatorLaws
+pub mod PictureLaws
+pub mod BookLaws
+pub mod SliceLaws

@@ -1,19 +1,21 @@
 -- Laws of variables, shapes and entries.
 use Prim.Native.Nat.{ℕ, suc}
 use mathlib.Core.Path.{_≡_, refl, ap, _∙_}
-use mathlib.Core.Bool.{Bool, true, false}
+use mathlib.Core.Bool.{Bool, true, false, _&&_, and-eq-true-iff}
 use mathlib.Core.List.{List, [], _∷_, _++_}
 use mathlib.Core.Option.{Option, some}
 use mathlib.Core.Option as Option
 use lib.ListN.{length, getD, length-set}
 use lib.Seq.{getD-append-seam}
+use lib.Dec.{eqb}
+use borrow.Author.Tests.{eqb-true}
 use Rattle.meaning.specs.Basics.{if_then_else_, sameText}
 use Rattle.meaning.specs.Figure.{Figure}
 use Rattle.meaning.specs.Value.{Value, integer, string, boolean, none, table, shape}
-use Rattle.meaning.specs.State.{State, Variable, Shape, Entry, Key, valueIn, isSome, assigned, withVariables, noShape, withShape, destroyed, destroyedIn, cleared, matches, entryIn, overwritten}
+use Rattle.meaning.specs.State.{State, Variable, Shape, Entry, Key, valueIn, isSome, assigned, withVariables, noShape, withShape, destroy, destroyedIn, cleared, sameKey, matches, entryIn, overwritten}
 use Rattle.meaning.specs.Run.{run, result, goOn, _>>=_, give, refuse, current, become}
 use Rattle.meaning.specs.Execute.{onward, declaring, storing}
-use Rattle.meaning.proofs.KeyLaws.{sameText-same}
+use Rattle.meaning.proofs.KeyLaws.{sameText-same, sameText-iff, sameKey-iff}
 
 -- ---- variables
 abbrev variable : List ℕ → Value → Variable
@@ -55,6 +57,18 @@ unfolding declaring isSome _>>=_ goOn current refuse give become
 declaring-declares p x s e =
     (withVariables s (s .variables ++ (variable x none ∷ [])), rw e, valueIn-declared (s .variables) x none e)
 
+-- what other names hold stays
+pub valueIn-other : (vs : List Variable) (x y : List ℕ) (u : Value) → sameText x y ≡ false → valueIn (assigned vs x u) y ≡ valueIn vs y
+unfolding valueIn assigned if_then_else_
+valueIn-other [] x y u d = refl
+valueIn-other (v ∷ vs) x y u d = go (sameText (v .name) x) refl (valueIn-other vs x y u d)
+  where
+    go : (t : Bool) → sameText (v .name) x ≡ t → valueIn (assigned vs x u) y ≡ valueIn vs y → valueIn (assigned (v ∷ vs) x u) y ≡ valueIn (v ∷ vs) y
+    go true k h =
+        let n : sameText (v .name) y ≡ false = rw (sameText-iff (v .name) x .0 k) d in
+        rw (k, valueIn, n)
+    go false k h = rw (k, valueIn, h)
+
 -- ---- shapes
 -- a shape made is found by the number of shapes before it, undestroyed
 pub shape-made : (s : State) (a : Figure) → getD (withShape s a .shapes) (length (s .shapes)) noShape ≡ record { figure = a; destroyed = false }
@@ -63,7 +77,7 @@ shape-made s a = getD-append-seam (s .shapes) (record { figure = a; destroyed = 
 
 -- destroying keeps the number of shapes
 length-destroyedIn : (ss : List Shape) (v : Value) → length (destroyedIn ss v) ≡ length ss
-unfolding destroyedIn destroyed
+unfolding destroyedIn destroy
 length-destroyedIn ss (integer z) = refl
 length-destroyedIn ss (string t) = refl
 length-destroyedIn ss (boolean b) = refl
@@ -86,6 +100,21 @@ entryIn-overwritten (x ∷ xs) t k u e = go (matches x t k) refl (entryIn-overwr
     go : (b : Bool) → matches x t k ≡ b → (isSome (entryIn xs t k) ≡ true → entryIn (overwritten xs t k u) t k ≡ some u) → entryIn (overwritten (x ∷ xs) t k u) t k ≡ some u
     go true m h = rw (m, entryIn, m)
     go false m h = rw (m, entryIn, m) (h (rw m at e))
+
+-- what other keys and other tables hold stays
+pub entryIn-other : (es : List Entry) (t t′ : ℕ) (k k′ : Key) (u : Value) → eqb t t′ && sameKey k k′ ≡ false →
+    entryIn (overwritten es t k u) t′ k′ ≡ entryIn es t′ k′
+unfolding entryIn overwritten if_then_else_
+entryIn-other [] t t′ k k′ u d = refl
+entryIn-other (x ∷ xs) t t′ k k′ u d = go (matches x t k) refl (entryIn-other xs t t′ k k′ u d)
+  where
+    go : (b : Bool) → matches x t k ≡ b → entryIn (overwritten xs t k u) t′ k′ ≡ entryIn xs t′ k′ →
+        entryIn (overwritten (x ∷ xs) t k u) t′ k′ ≡ entryIn (x ∷ xs) t′ k′
+    go true m h =
+        let w = and-eq-true-iff (eqb (x .owner) t) (sameKey (x .key) k) .0 m in
+        let n : matches x t′ k′ ≡ false = rw (eqb-true (x .owner) t (w .0), sameKey-iff (x .key) k .0 (w .1)) d in
+        rw (m, entryIn, n)
+    go false m h = rw (m, entryIn, h)
 
 -- overwriting keeps the number of entries
 pub length-overwritten : (es : List Entry) (t : ℕ) (k : Key) (u : Value) → length (overwritten es t k u) ≡ length es

@@ -42,7 +42,8 @@ book granted total (t ∷ ts) =
 
 -- ---- answers
 -- A picture with its length and steps, which says "well formed" with both 0; or a number with its place, the steps counted,
--- and, after 80, the length that the picture needs, else 0. Only a beginning that is too short leaves an answer undecided.
+-- and, after 80, the length that the picture needs, else 0. Only a beginning that is too short leaves an
+-- answer undecided: no call does (claim `AlwaysAnswered`).
 pub data Answer : Type 0 where
   pictured : ℕ → ℕ → Answer
   number : ℕ → ℕ → ℕ → ℕ → Answer

@@ -75,7 +75,8 @@ answer c = if admitted c then (λ _. booked (grantedTo c) (runOf c)) else λ _. 
 unfoldable pub workAfter : Call → List ℕ → List ℕ
 workAfter c work = if admitted c then (λ _. replicate (length work) 0) else λ _. work
 
--- the out slice after a run that ended so: only a picture drawn is written, into its front
+-- The out slice after a run that ended so: only a picture drawn is written, into its front. A call's run that fits has ended (claim `AlwaysAnswered`), and
+-- drawing ends with a picture or a number (`PicturesFillTheFront`), so the clauses for `unfinished` and `accepted` are never met there.
 unfoldable pub outAfterEnd : Operation → Booked → End Outcome → List ℕ → List ℕ
 outAfterEnd checking b e out = out
 outAfterEnd measuring b e out = out

@@ -8,29 +8,29 @@ use Rattle.meaning.specs.Integer.{isNegative}
 use Rattle.meaning.specs.Tree.{Expression, number, string, nothing, truth, name, table, entry, operation, call, paren, Arguments, noArgument, argument}
 use Rattle.meaning.specs.Value.{Value}
 use Rattle.meaning.specs.Value as Value
-use Rattle.meaning.specs.State.{valueIn, keyOf, entryIn, withTable}
+use Rattle.meaning.specs.State.{valueIn, keyOf, entryIn, withNewTable}
 use Rattle.meaning.specs.Run.{Action, _>>=_, _>>_, give, fail, count, refuse, current, become}
 use Rattle.meaning.specs.Operator.{usable, withInteger, operate}
 use Rattle.meaning.specs.Operator as Operator
 use Rattle.meaning.specs.Library.{libraryOf, callLibrary}
 
 -- what was found, or a number; a shape found must not be destroyed
-unfoldable pub found : ℕ → ℕ → Option Value → Action Value
-found n p Option.none = fail n p
-found n p (some v) = usable p v >> give v
+unfoldable pub lookedUp : ℕ → ℕ → Option Value → Action Value
+lookedUp n p Option.none = fail n p
+lookedUp n p (some v) = usable p v >> give v
 
 unfoldable pub variable : ℕ → List ℕ → Action Value
-variable p x = current >>= λ s. found 50 p (valueIn (s .variables) x)
+variable p x = current >>= λ s. lookedUp 50 p (valueIn (s .variables) x)
 
 unfoldable pub newTable : ℕ → ℤ → Action Value
 newTable p size = do
   refuse (isNegative size) 40 p
   s ← current
-  become (withTable s)
+  become (withNewTable s)
   give (Value.table (s .tables))
 
 unfoldable pub entryOf : ℕ → ℕ → Value → Action Value
-entryOf p t v = current >>= λ s. found 20 p (entryIn (s .entries) t (keyOf s v))
+entryOf p t v = current >>= λ s. lookedUp 20 p (entryIn (s .entries) t (keyOf s v))
 
 unfoldable mutual
   pub evaluate : Expression → ℕ → Action Value

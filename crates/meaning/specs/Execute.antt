@@ -8,7 +8,7 @@ use Rattle.meaning.specs.Basics.{if_then_else_}
 use Rattle.meaning.specs.Tree.{Statement, declare, assign, update, when, while, return, block, act, Statements, only, first}
 use Rattle.meaning.specs.Value.{Value, integer, string, boolean, none, table, shape}
 use Rattle.meaning.specs.State.{Key, isDeclared, assigned, withVariables, figureOf, keyOf, entryIn, overwritten, withEntries}
-use Rattle.meaning.specs.Run.{Action, unfinished, run, entries, _>>=_, _>>_, give, count, take, refuse, current, become}
+use Rattle.meaning.specs.Run.{Action, unfinished, run, entries, _>>=_, _>>_, give, count, spend, refuse, current, become}
 use Rattle.meaning.specs.Operator.{withBoolean, withTable, newShape}
 use Rattle.meaning.specs.Evaluate.{evaluate}
 
@@ -51,7 +51,7 @@ assigning p x v = do
 -- a new key takes an entry; shapes are shared
 unfoldable pub storing : ℕ → ℕ → Key → Value → Option Value → Action Flow
 storing p t k v Option.none = do
-  take entries 1 p
+  spend entries 1 p
   s ← current
   become (withEntries s (s .entries ++ (record { owner = t; key = k; holds = v } ∷ [])))
   give onward
@@ -64,7 +64,8 @@ unfoldable pub updating : ℕ → ℕ → Value → Value → Action Flow
 updating p t w v = current >>= λ s. storing p t (keyOf s w) v (entryIn (s .entries) t (keyOf s w))
 
 -- ---- loops
--- A step is counted for each test; the body runs while the test is true.
+-- A step is counted for each test; the body runs while the test is true. Where no turn is left the run is unfinished, and it has counted a step for each
+-- turn: no call is answered from there (claims `AlwaysAnswered`, `BeginningsFill`).
 unfoldable pub looping : ℕ → ℕ → Action Value → Action Flow → Action Flow
 looping zero p test body = λ s. run [] unfinished
 looping (suc n) p test body = do

@@ -1,8 +1,11 @@
 -- Figures: what a shape looks like. A shape is a figure that can be destroyed (State).
 use Prim.Native.Nat.{ℕ}
+use mathlib.Core.Bool.{Bool, _&&_}
 use mathlib.Core.List.{List, [], _∷_}
 use lib.IntN.{ℤ, _+ℤ_}
-use Rattle.meaning.specs.Integer.{sum, difference, product, quotient, half}
+use lib.Dec.{eqb}
+use Rattle.meaning.specs.Basics.{sameText}
+use Rattle.meaning.specs.Integer.{sum, difference, product, quotient, half, sameIntegers}
 
 pub data Figure : Type 0 where
   -- from x₁ y₁ to x₂ y₂
@@ -36,11 +39,18 @@ plusX a n = moved (λ x. sum x n) kept a
 unfoldable pub minusX : Figure → ℤ → Figure
 minusX a n = moved (λ x. difference x n) kept a
 
+-- each number by f: coordinates, widths, heights and radii; a text has its point alone
+unfoldable pub scaled : (ℤ → ℤ) → Figure → Figure
+scaled f (line x₁ y₁ x₂ y₂) = line (f x₁) (f y₁) (f x₂) (f y₂)
+scaled f (ellipse x y a b) = ellipse (f x) (f y) (f a) (f b)
+scaled f (box x y w h) = box (f x) (f y) (f w) (f h)
+scaled f (text x y s) = text (f x) (f y) s
+
 unfoldable pub scaledUp : Figure → ℤ → Figure
-scaledUp a n = moved (λ x. product x n) (λ y. product y n) a
+scaledUp a n = scaled (λ z. product z n) a
 
 unfoldable pub scaledDown : Figure → ℤ → Figure
-scaledDown a n = moved (λ x. quotient x n) (λ y. quotient y n) a
+scaledDown a n = scaled (λ z. quotient z n) a
 
 -- the centre: of a line half the exact sum of its ends, of a box its corner and half its size, else the figure's own point
 unfoldable pub centreX : Figure → ℤ
@@ -80,3 +90,7 @@ textOf (line x₁ y₁ x₂ y₂) = []
 textOf (ellipse x y a b) = []
 textOf (box x y w h) = []
 textOf (text x y s) = s
+
+-- whether two figures are of one kind and have the same numbers and text
+unfoldable pub sameFigure : Figure → Figure → Bool
+sameFigure a b = eqb (figureKind a) (figureKind b) && sameIntegers (numbersOf a) (numbersOf b) && sameText (textOf a) (textOf b)

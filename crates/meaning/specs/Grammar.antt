@@ -97,7 +97,8 @@ opening (level f) p k = k f
 abbrev pub ReadExpression : Type 0
 ReadExpression = ℕ → Got Expression
 
--- one argument or more and the closing parenthesis. Each argument takes a token at least, so rounds need be no more than the tokens left.
+-- One argument or more and the closing parenthesis. Each argument takes a token at least, so rounds need be no more than the tokens left: more of them
+-- change nothing (`arguments-rounds` of GrammarLaws), and the clause for none left is never the answer.
 unfoldable pub argumentsFrom : ℕ → ReadExpression → List Token → ℕ → Got Arguments
 argumentsFrom zero inner ts i = wrong 10 i
 argumentsFrom (suc rounds) inner ts i =
@@ -223,7 +224,8 @@ unfoldable pub guarded : (Expression → Statement → Statement) → Inside Rea
 guarded make inside ts i =
     if is openParen ts i then (λ _. opening inside i λ inner. guardedIn make inner ts i) else λ _. wrong 10 i
 
--- one statement or more and the closing brace. Each statement takes a token at least, so rounds need be no more than the tokens left.
+-- One statement or more and the closing brace. Each statement takes a token at least, so rounds need be no more than the tokens left, as with
+-- arguments (`statements-rounds` of GrammarLaws).
 unfoldable pub statementsFrom : ℕ → ReadStatement → List Token → ℕ → Got Statements
 statementsFrom zero inner ts i = wrong 10 i
 statementsFrom (suc rounds) inner ts i =
@@ -254,7 +256,7 @@ statement (suc left) ts i =
     statementIn (expression (suc left) ts) (level (record { inExpression = expression left ts; inStatement = statement left ts })) ts i
 
 -- ---- the procedure
--- one name or more with commas between, and the closing parenthesis
+-- one name or more with commas between, and the closing parenthesis; rounds as with arguments (`parameters-rounds` of GrammarLaws)
 unfoldable pub parametersFrom : ℕ → List Token → ℕ → Got (List (List ℕ))
 parametersFrom zero ts i = wrong 10 i
 parametersFrom (suc rounds) ts i =

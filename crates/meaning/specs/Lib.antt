@@ -17,4 +17,3 @@ pub mod Picture
 pub mod Program
 pub mod Book
 pub mod Call
-pub mod Claims

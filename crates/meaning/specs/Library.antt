@@ -7,7 +7,7 @@ use lib.IntN.{ℤ}
 use Rattle.meaning.specs.Basics.{bytes, if_then_else_, sameText}
 use Rattle.meaning.specs.Figure.{Figure, line, ellipse, box, text, centreX, centreY, connecting, textOn}
 use Rattle.meaning.specs.Value.{Value, integer, none}
-use Rattle.meaning.specs.State.{withShapes, destroyed, cleared}
+use Rattle.meaning.specs.State.{withShapes, destroy, cleared}
 use Rattle.meaning.specs.Run.{Action, _>>=_, _>>_, give, fail, current, become}
 use Rattle.meaning.specs.Operator.{usable, withInteger, withString, withShapeNumber, withFigure, newShape}
 
@@ -51,16 +51,16 @@ withFour p (v ∷ vs) k = withThree p vs (k v)
 
 -- ---- procedures
 -- four integers make a figure
-unfoldable pub drawn : (ℤ → ℤ → ℤ → ℤ → Figure) → ℕ → List Value → Action Value
-drawn make p vs =
+unfoldable pub drawFigure : (ℤ → ℤ → ℤ → ℤ → Figure) → ℕ → List Value → Action Value
+drawFigure make p vs =
     withFour p vs λ v₁ v₂ v₃ v₄.
     withInteger p v₁ λ a. withInteger p v₂ λ b. withInteger p v₃ λ c. withInteger p v₄ λ d.
     newShape p (make a b c d)
 
 unfoldable pub perform : Library → ℕ → List Value → Action Value
-perform drawLine p vs = drawn line p vs
-perform drawEllipse p vs = drawn ellipse p vs
-perform drawBox p vs = drawn box p vs
+perform drawLine p vs = drawFigure line p vs
+perform drawEllipse p vs = drawFigure ellipse p vs
+perform drawBox p vs = drawFigure box p vs
 perform drawText p vs =
     withThree p vs λ v₁ v₂ v₃.
     withInteger p v₁ λ x. withInteger p v₂ λ y. withString p v₃ λ t. newShape p (text x y t)
@@ -72,7 +72,7 @@ perform xCoordinate p vs = withOne p vs λ v. withFigure p v λ a. give (integer
 perform yCoordinate p vs = withOne p vs λ v. withFigure p v λ a. give (integer (centreY a))
 perform destroyShape p vs = withOne p vs λ v. withShapeNumber p v λ i. do
   s ← current
-  become (withShapes s (destroyed (s .shapes) i))
+  become (withShapes s (destroy (s .shapes) i))
   give none
 perform clearScene p vs = withNone p vs do
   s ← current

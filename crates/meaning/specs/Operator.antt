@@ -1,21 +1,20 @@
 -- What values are asked, and what operators do (figure 3 of the IMG specification).
 use Prim.Native.Nat.{ℕ}
-use mathlib.Core.Bool.{Bool, true, false, not, _&&_, _||_}
+use mathlib.Core.Bool.{Bool, true, false, not, cond, _&&_}
 use mathlib.Core.List.{List, _++_}
 use mathlib.Core.Option.{Option, some}
 use mathlib.Core.Option as Option
 use lib.ListN.{length}
 use lib.IntN.{ℤ}
 use lib.Signed.{ltZ}
-use lib.Dec.{eqb}
-use Rattle.meaning.specs.Basics.{if_then_else_}
-use Rattle.meaning.specs.Integer.{sum, difference, product, quotient, shiftedLeft, shiftedRight, isZero}
+use Rattle.meaning.specs.Basics.{sameText}
+use Rattle.meaning.specs.Integer.{sum, difference, product, quotient, shiftedLeft, shiftedRight, isZero, sameInteger}
 use Rattle.meaning.specs.Integer as Integer
-use Rattle.meaning.specs.Figure.{Figure, plusX, plusY, minusX, minusY, scaledUp, scaledDown}
+use Rattle.meaning.specs.Figure.{Figure, plusX, plusY, minusX, minusY, scaledUp, scaledDown, sameFigure}
 use Rattle.meaning.specs.Tree.{Operator, concatenate, add, subtract, multiply, divide, remainder, shiftRight, shiftLeft, equal, unequal, greater, less}
-use Rattle.meaning.specs.Value.{Value, integer, string, boolean, none, table, shape, kindOf}
-use Rattle.meaning.specs.State.{State, isDestroyed, figureOf, withShape, keyOf, sameKey}
-use Rattle.meaning.specs.Run.{Action, textBytes, shapes, _>>=_, _>>_, give, fail, take, refuse, current, become}
+use Rattle.meaning.specs.Value.{Value, integer, string, boolean, none, table, shape}
+use Rattle.meaning.specs.State.{State, isDestroyed, figureOf, withShape}
+use Rattle.meaning.specs.Run.{Action, textBytes, shapes, _>>=_, _>>_, give, fail, spend, refuse, current, become}
 
 -- ---- questions about one value, at a place
 -- a destroyed shape is 30
@@ -80,7 +79,7 @@ withFigure p v k = withShapeNumber p v λ i. current >>= λ s. k (figureOf s i)
 -- a new shape takes one
 unfoldable pub newShape : ℕ → Figure → Action Value
 newShape p a = do
-  take shapes 1 p
+  spend shapes 1 p
   s ← current
   become (withShape s a)
   give (shape (length (s .shapes)))
@@ -88,7 +87,7 @@ newShape p a = do
 -- a joined string takes as many text bytes as it is long
 unfoldable pub newString : ℕ → List ℕ → Action Value
 newString p t = do
-  take textBytes (length t) p
+  spend textBytes (length t) p
   give (string t)
 
 -- ---- operators
@@ -113,12 +112,45 @@ remaindered p v w = withInteger p v λ a. withInteger p w λ b. refuse (isZero b
 unfoldable pub joined : ℕ → Value → Value → Action Value
 joined p v w = withString p v λ a. withString p w λ b. newString p (a ++ b)
 
--- Values of one kind are compared, tables excepted; none and a value of another kind are unequal; other pairs are 20.
+-- Figure 3's rows of == and !=, by the kinds of both sides. Integers, strings, booleans and shapes are compared with their own kind; nothing but none
+-- equals none; a pair that cannot be compared, two tables among them, gives nothing.
 unfoldable pub equality : State → Value → Value → Option Bool
-equality s v w =
-    if eqb (kindOf v) (kindOf w)
-    then (λ _. if eqb (kindOf v) (kindOf (table 0)) then (λ _. Option.none) else λ _. some (sameKey (keyOf s v) (keyOf s w)))
-    else λ _. if eqb (kindOf v) (kindOf none) || eqb (kindOf w) (kindOf none) then (λ _. some false) else λ _. Option.none
+equality s (integer a) (integer b) = some (sameInteger a b)
+equality s (integer a) (string b) = Option.none
+equality s (integer a) (boolean b) = Option.none
+equality s (integer a) none = some false
+equality s (integer a) (table b) = Option.none
+equality s (integer a) (shape j) = Option.none
+equality s (string a) (integer b) = Option.none
+equality s (string a) (string b) = some (sameText a b)
+equality s (string a) (boolean b) = Option.none
+equality s (string a) none = some false
+equality s (string a) (table b) = Option.none
+equality s (string a) (shape j) = Option.none
+equality s (boolean a) (integer b) = Option.none
+equality s (boolean a) (string b) = Option.none
+equality s (boolean a) (boolean b) = some (cond a b (not b))
+equality s (boolean a) none = some false
+equality s (boolean a) (table b) = Option.none
+equality s (boolean a) (shape j) = Option.none
+equality s none (integer b) = some false
+equality s none (string b) = some false
+equality s none (boolean b) = some false
+equality s none none = some true
+equality s none (table b) = some false
+equality s none (shape j) = some false
+equality s (table a) (integer b) = Option.none
+equality s (table a) (string b) = Option.none
+equality s (table a) (boolean b) = Option.none
+equality s (table a) none = some false
+equality s (table a) (table b) = Option.none
+equality s (table a) (shape j) = Option.none
+equality s (shape i) (integer b) = Option.none
+equality s (shape i) (string b) = Option.none
+equality s (shape i) (boolean b) = Option.none
+equality s (shape i) none = some false
+equality s (shape i) (table b) = Option.none
+equality s (shape i) (shape j) = some (sameFigure (figureOf s i) (figureOf s j))
 
 unfoldable pub answered : ℕ → (Bool → Bool) → Option Bool → Action Value
 answered p f Option.none = fail 20 p

@@ -1,13 +1,13 @@
 -- The bytes of a picture.
 use Prim.Native.Nat.{ℕ, zero, suc, _+_, _/_, _%_}
 use mathlib.Core.List.{List, [], _∷_, _++_}
-use lib.IntN.{ℤ, pos, negsuc}
+use lib.IntN.{ℤ, pos, negsuc, natAbs, _+ℤ_}
 use lib.Dec.{ltb}
 use Rattle.meaning.specs.Basics.{bytes, if_then_else_}
 use Rattle.meaning.specs.Figure.{Figure, line, ellipse, box, text}
 
 -- ---- numbers
--- the decimal digits of n, at most as many as rounds
+-- the decimal digits of n, at most as many as rounds; more rounds than n change nothing (`rounds-enough` of DecimalLaws), so nothing is left out
 unfoldable pub digitsWithin : ℕ → ℕ → List ℕ
 digitsWithin zero n = []
 digitsWithin (suc rounds) n =
@@ -28,18 +28,36 @@ decimal (negsuc n) = bytes "-" ++ digitsOf (suc n)
 unfoldable pub attribute : List ℕ → ℤ → List ℕ
 attribute name z = name ++ bytes "=\"" ++ decimal z ++ bytes "\""
 
-unfoldable pub lineOf : Figure → List ℕ
-lineOf (line x₁ y₁ x₂ y₂) =
+-- a figure's own numbers
+unfoldable pub plainLine : Figure → List ℕ
+plainLine (line x₁ y₁ x₂ y₂) =
     bytes "<line" ++ attribute (bytes " x1") x₁ ++ attribute (bytes " y1") y₁ ++ attribute (bytes " x2") x₂ ++ attribute (bytes " y2") y₂ ++
     bytes "/>\n"
-lineOf (ellipse x y a b) =
+plainLine (ellipse x y a b) =
     bytes "<ellipse" ++ attribute (bytes " cx") x ++ attribute (bytes " cy") y ++ attribute (bytes " rx") a ++ attribute (bytes " ry") b ++
     bytes "/>\n"
-lineOf (box x y w h) =
+plainLine (box x y w h) =
     bytes "<rect" ++ attribute (bytes " x") x ++ attribute (bytes " y") y ++ attribute (bytes " width") w ++ attribute (bytes " height") h ++
     bytes "/>\n"
-lineOf (text x y s) =
+plainLine (text x y s) =
     bytes "<text" ++ attribute (bytes " x") x ++ attribute (bytes " y") y ++ bytes ">" ++ s ++ bytes "</text>\n"
+
+-- SVG has no negative sizes: a negative width begins at x plus the width, in whole numbers without wrapping, and its sign is turned; so do heights, and radii lose their sign
+unfoldable pub sideStart : ℤ → ℤ → ℤ
+sideStart x (pos w) = x
+sideStart x (negsuc w) = x +ℤ negsuc w
+
+unfoldable pub absolute : ℤ → ℤ
+absolute z = pos (natAbs z)
+
+unfoldable pub turned : Figure → Figure
+turned (line x₁ y₁ x₂ y₂) = line x₁ y₁ x₂ y₂
+turned (ellipse x y a b) = ellipse x y (absolute a) (absolute b)
+turned (box x y w h) = box (sideStart x w) (sideStart y h) (absolute w) (absolute h)
+turned (text x y s) = text x y s
+
+unfoldable pub lineOf : Figure → List ℕ
+lineOf a = plainLine (turned a)
 
 unfoldable pub linesOf : List Figure → List ℕ
 linesOf [] = []

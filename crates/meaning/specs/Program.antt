@@ -10,9 +10,10 @@ use lib.Dec.{leb, ltb}
 use Rattle.meaning.specs.Basics.{if_then_else_, sameText}
 use Rattle.meaning.specs.Tree.{Procedure}
 use Rattle.meaning.specs.Grammar.{Reading, wellFormed, malformed, reading}
+use Rattle.meaning.specs.Figure.{Figure}
 use Rattle.meaning.specs.Value.{integer}
 use Rattle.meaning.specs.State.{State, scene}
-use Rattle.meaning.specs.Run.{Run, run, unfinished, Action, picture, _>>=_, _>>_, give, fail, take, refuse, current, become}
+use Rattle.meaning.specs.Run.{Run, run, unfinished, Action, picture, _>>=_, _>>_, give, fail, spend, refuse, current, become}
 use Rattle.meaning.specs.Execute.{executeAll}
 use Rattle.meaning.specs.Picture.{pictureOf}
 
@@ -55,8 +56,8 @@ unfoldable pub understood : Reading → Action Procedure
 understood (wellFormed m) = give m
 understood (malformed n p) = fail n p
 
--- the picture of a program whose loops turn at most n times each
-unfoldable pub painting : List ℕ → ℤ → ℤ → ℕ → Action (List ℕ)
+-- the figures that a program shows whose loops turn at most n times each
+unfoldable pub painting : List ℕ → ℤ → ℤ → ℕ → Action (List Figure)
 painting program width height n = do
   sheet width height
   sized program
@@ -64,7 +65,7 @@ painting program width height n = do
   entering (main .parameters) width height
   executeAll (main .body) n
   s ← current
-  give (pictureOf width height (scene s))
+  give (scene s)
 
 -- the three operations, each with its questions in document 01's order
 unfoldable pub performing : Operation → List ℕ → ℤ → ℤ → ℕ → Action Outcome
@@ -73,19 +74,19 @@ performing checking program width height n = do
   understood (reading program)
   give accepted
 performing measuring program width height n = do
-  b ← painting program width height n
-  give (drawn b)
+  figures ← painting program width height n
+  give (drawn (pictureOf width height figures))
 performing drawing program width height n = do
-  b ← painting program width height n
-  take picture (length b) 0
-  give (drawn b)
+  figures ← painting program width height n
+  spend picture (length (pictureOf width height figures)) 0
+  give (drawn (pictureOf width height figures))
 
 -- THE SPECIFIED RUN, as far as it goes when no loop turns more than n times
 unfoldable pub specified : Operation → List ℕ → ℤ → ℤ → ℕ → Run Outcome
 specified o program width height n = performing o program width height n empty
 
 -- ---- its beginnings, one for each number of takings
--- the first n takings of a run, and its end where there are no more
+-- the first n takings of a run, and its end where there are no more; what is cut off has n takings (claim `BeginningsFill`) and answers no call (`AlwaysAnswered`)
 unfoldable pub cut : {A : Type 0} → ℕ → Run A → Run A
 cut n r = if leb (length (r .takings)) n then (λ _. r) else λ _. run (ListN.take n (r .takings)) unfinished
 

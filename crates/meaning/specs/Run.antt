@@ -59,12 +59,12 @@ unfoldable pub fail : {A : Type 0} → ℕ → ℕ → Action A
 fail n p s = run [] (error n p)
 
 -- so much of a resource is taken
-unfoldable pub take : Resource → ℕ → ℕ → Action (Unit {0})
-take r n p s = run (taking r n p ∷ []) (result tt s)
+unfoldable pub spend : Resource → ℕ → ℕ → Action (Unit {0})
+spend r n p s = run (taking r n p ∷ []) (result tt s)
 
 -- a step is counted
 abbrev pub count : ℕ → Action (Unit {0})
-count p = take steps 1 p
+count p = spend steps 1 p
 
 -- the run ends with a number if so
 unfoldable pub refuse : Bool → ℕ → ℕ → Action (Unit {0})

@@ -76,8 +76,8 @@ withShapes s ss = record { variables = s .variables; shapes = ss; tables = s .ta
 unfoldable pub withShape : State → Figure → State
 withShape s a = withShapes s (s .shapes ++ (record { figure = a; destroyed = false } ∷ []))
 
-unfoldable pub destroyed : List Shape → ℕ → List Shape
-destroyed ss i = set ss i (record { figure = getD ss i noShape .figure; destroyed = true })
+unfoldable pub destroy : List Shape → ℕ → List Shape
+destroy ss i = set ss i (record { figure = getD ss i noShape .figure; destroyed = true })
 
 -- the shape that a value is, destroyed
 unfoldable pub destroyedIn : List Shape → Value → List Shape
@@ -86,7 +86,7 @@ destroyedIn ss (string t) = ss
 destroyedIn ss (boolean b) = ss
 destroyedIn ss none = ss
 destroyedIn ss (table t) = ss
-destroyedIn ss (shape i) = destroyed ss i
+destroyedIn ss (shape i) = destroy ss i
 
 -- the shapes that variables hold, destroyed
 unfoldable pub cleared : List Variable → List Shape → List Shape
@@ -110,18 +110,18 @@ abbrev pub scene : State → List Figure
 scene s = sceneOf s (s .variables)
 
 -- ---- tables
-abbrev pub key : ℕ → List ℤ → List ℕ → Key
-key k ns t = record { kind = k; numbers = ns; text = t }
+abbrev pub keyWith : ℕ → List ℤ → List ℕ → Key
+keyWith k ns t = record { kind = k; numbers = ns; text = t }
 
 abbrev pub figureKey : Figure → Key
-figureKey a = key (5 + figureKind a) (numbersOf a) (textOf a)
+figureKey a = keyWith (5 + figureKind a) (numbersOf a) (textOf a)
 
 unfoldable pub keyOf : State → Value → Key
-keyOf s (integer z) = key 0 (z ∷ []) []
-keyOf s (string t) = key 1 [] t
-keyOf s (boolean b) = key 2 (pos (cond b 1 0) ∷ []) []
-keyOf s none = key 3 [] []
-keyOf s (table t) = key 4 (pos t ∷ []) []
+keyOf s (integer z) = keyWith 0 (z ∷ []) []
+keyOf s (string t) = keyWith 1 [] t
+keyOf s (boolean b) = keyWith 2 (pos (cond b 1 0) ∷ []) []
+keyOf s none = keyWith 3 [] []
+keyOf s (table t) = keyWith 4 (pos t ∷ []) []
 keyOf s (shape i) = figureKey (figureOf s i)
 
 -- the same kind, numbers and text
@@ -144,5 +144,5 @@ overwritten (e ∷ es) t k u =
 abbrev pub withEntries : State → List Entry → State
 withEntries s es = record { variables = s .variables; shapes = s .shapes; tables = s .tables; entries = es }
 
-abbrev pub withTable : State → State
-withTable s = record { variables = s .variables; shapes = s .shapes; tables = suc (s .tables); entries = s .entries }
+abbrev pub withNewTable : State → State
+withNewTable s = record { variables = s .variables; shapes = s .shapes; tables = suc (s .tables); entries = s .entries }

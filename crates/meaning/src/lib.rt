@@ -1,2 +1,2 @@
-// What IMG programs mean, in specs/, and what follows from that, in proofs/. There is no code here: every other crate's
+// What IMG programs mean, in specs/, and examples and laws of it, in proofs/. There is no code here: every other crate's
 // contracts cite these definitions.

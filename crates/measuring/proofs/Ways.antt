@@ -13,8 +13,8 @@ use Rattle.meaning.specs.Program.{measuring}
 use Rattle.answers.specs.declared.Answer as Declared
 use Rattle.answers.specs.declared.Answer.the-variants.{Picture, Number}
 use Rattle.answers.specs.Answers.{meant}
-use Rattle.stores.specs.Layout.{stepsUsed}
-use Rattle.stores.specs.Act.{raw}
+use Rattle.machine.specs.Layout.{stepsUsed}
+use Rattle.machine.specs.Act.{raw}
 use Rattle.scene.specs.Scene.{sceneIn, Drawable}
 use Rattle.running.specs.declared.Ending.{Ending}
 use Rattle.running.specs.declared.Ending.the-variants.{Complete, Stopped}
@@ -30,8 +30,8 @@ held z = toZ w32 (ofZ w32 z)
 
 -- ---- `measure_lent`
 module _ (program : List ℕ) (width height : ℤ) (g ts ws : List ℕ) (f : SFits w32 width) (f₂ : SFits w32 height) (e : Ending)
-    (ran : Ran program (held width) (held height) g (paintingRun program (held width) (held height) g) e ts ws) where
-  as-given : Ran program width height g (paintingRun program width height g) e ts ws
+    (ran : Ran program g (paintingRun program (held width) (held height) g) e ts ws) where
+  as-given : Ran program g (paintingRun program width height g) e ts ws
   as-given = rw (toZ-ofZ f, toZ-ofZ f₂) at ran
 
   pub lent-number : (n p : ℕ) → e ≡ Stopped n p → (k : ℕ) → k ≡ getD ws stepsUsed 0 → meant (Number n p k 0) ≡ bookedMeasuring program width height g

@@ -5,7 +5,7 @@ use lib.IntN.{ℤ}
 use Rattle.meaning.specs.Program.{measuring, specified}
 use Rattle.meaning.specs.Book.{Answer, booked}
 use Rattle.meaning.specs.Call.{granted}
-use Rattle.stores.specs.Layout.{stepsGranted}
+use Rattle.machine.specs.Layout.{stepsGranted}
 use Rattle.lending.specs.Lending.{grantsOf}
 
 abbrev pub bookedMeasuring : List ℕ → ℤ → ℤ → List ℕ → Answer

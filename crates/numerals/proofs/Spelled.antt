@@ -4,15 +4,15 @@ use Prim.Native.Nat.{ℕ, zero, suc, _+_, _-_, _/_, _%_, _^_, _≤_, _<_}
 use mathlib.Core.List.{List, [], _∷_, _++_}
 use mathlib.Core.Path.{_≡_, _∙_, refl, sym, ap}
 use native.Mathlib.Decide.{decLt}
-use native.Mathlib.Nat.{pow-suc, pow-le-pow-right}
+use native.Mathlib.Nat.{pow-suc, one-le-pow, pow-le-pow-right}
 use native.Mathlib.Numerals.{unary-clauses}
 use native.Mathlib.Omega.{arith}
 use borrow.Author.Tests.{lt-ltb, le-ltb}
+use lib.Dec.{lit<}
 use lib.ListN.{length, length-append}
 use Rattle.meaning.specs.Basics.{if_then_else_}
 use Rattle.meaning.specs.Picture.{digitsWithin, digitsOf}
 use Rattle.io.specs.Digits.{digits, glyph, Fewest}
-use Rattle.writing.proofs.Decimals.{tens-positive}
 use Rattle.writing.proofs.Laying.{then as joined}
 use Rattle.writing.specs.Placed.{WroteAt}
 use Rattle.numerals.specs.Numbers.{NumberAt}
@@ -30,7 +30,7 @@ same zero (suc rounds) n h f r =
     rw (lt-ltb n 10 l, decimal-glyph (n % 10) (omega arith), q)
 same (suc k) (suc rounds) n h f r =
     let t = f (omega arith) in
-    let l : 10 ≤ n = omega (arith, pow-suc 10 k, tens-positive k) in
+    let l : 10 ≤ n = omega (arith, pow-suc 10 k, one-le-pow k 10 (lit< tt)) in
     rw (le-ltb n 10 l, decimal-glyph (n % 10) (omega arith))
     (ap (λ (b : List ℕ). b ++ (n % 10 + 48) ∷ [])
     (same k rounds (n / 10) (omega (arith, pow-suc 10 (suc k))) (λ p. omega (arith, pow-suc 10 k)) (omega arith)))

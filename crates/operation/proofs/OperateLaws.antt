@@ -10,16 +10,16 @@ use lib.Signed.{mag}
 use mir.Syntax.{w32}
 use mir.Val.{toZ}
 use Rattle.meaning.specs.Basics.{if_then_else_}
-use Rattle.values.specs.declared.Value.the-variants.{Integer, Shape}
-use Rattle.values.specs.declared.Answer.{Answer}
-use Rattle.values.specs.declared.Answer.the-variants.{Bad}
-use Rattle.values.specs.Words.{kindIn, numberIn, handleIn, unpacked}
+use Rattle.machine.specs.declared.Value.the-variants.{Integer, Shape}
+use Rattle.machine.specs.declared.Answer.{Answer}
+use Rattle.machine.specs.declared.Answer.the-variants.{Bad}
+use Rattle.machine.specs.Words.{kindIn, numberIn, handleIn, unpacked}
 use Rattle.values.proofs.Laws.{unpacked-integer, unpacked-text, unpacked-shape, by-kind}
-use Rattle.stores.specs.declared.Figure.{Figure}
-use Rattle.stores.specs.Act.{Raw, raw, stop, goOn, _>>=_, give, fail, refuse, shown}
-use Rattle.stores.specs.Texts.{joinTexts}
-use Rattle.stores.specs.Variables.{isDead, usable}
-use Rattle.operators.specs.Operate.{withInteger, withText, calculated, compared, remaindered, joined, operateOn, operate}
+use Rattle.machine.specs.declared.Figure.{Figure}
+use Rattle.machine.specs.Act.{Raw, raw, stop, goOn, _>>=_, give, fail, refuse, shown}
+use Rattle.machine.specs.Texts.{joinTexts}
+use Rattle.machine.specs.Variables.{isDead, usable}
+use Rattle.machine.specs.Operate.{withInteger, withText, calculated, compared, remaindered, joined, operateOn, operate}
 use Rattle.operators.specs.Parts.{Computes, Draws, Other, Calculates, Compares, bothIntegers, NotBoth, Mixes, Operates}
 use Rattle.operators.proofs.Held.{held, back, either, past}
 use Rattle.operators.proofs.KindLaws.{no-integer, no-text, left-is, right-is, not-both}

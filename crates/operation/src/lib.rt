@@ -1,13 +1,13 @@
 // An operator on any two values: destroyed shapes and kinds are asked here. A value is handed over as its word.
+use machine::Answer;
 use operators::equality;
 use operators::figures;
 use operators::integers;
-use values::Answer;
 ghost use mathlib.Core.Path.{_≡_};
-ghost use Rattle.values.specs.Words.{unpacked};
-ghost use Rattle.stores.specs.Layout.{Room, Lent};
-ghost use Rattle.stores.specs.Act.{raw, shown};
-ghost use Rattle.operators.specs.Operate.{joined, operate};
+ghost use Rattle.machine.specs.Words.{unpacked};
+ghost use Rattle.machine.specs.Layout.{Room, Lent};
+ghost use Rattle.machine.specs.Act.{raw, shown};
+ghost use Rattle.machine.specs.Operate.{joined, operate};
 ghost use Rattle.operators.specs.Parts.{Calculates, Mixes, Operates};
 
 // Two texts, one behind the other.

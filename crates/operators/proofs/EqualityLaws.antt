@@ -14,16 +14,16 @@ use mir.Val.{toZ, SFits}
 use mir.Facts.{toZ-ofZ}
 use Rattle.meaning.specs.Basics.{if_then_else_, sameText}
 use Rattle.meaning.specs.Integer.{sameInteger}
-use Rattle.values.specs.declared.Value.{Value}
-use Rattle.values.specs.declared.Value.the-variants.{Integer, Text, Boolean, Nothing, Table, Shape}
-use Rattle.values.specs.declared.Answer.the-variants.{Good, Bad}
-use Rattle.values.specs.Words.{numberIn, handleIn, truthIn, unpacked}
+use Rattle.machine.specs.declared.Value.{Value}
+use Rattle.machine.specs.declared.Value.the-variants.{Integer, Text, Boolean, Nothing, Table, Shape}
+use Rattle.machine.specs.declared.Answer.the-variants.{Good, Bad}
+use Rattle.machine.specs.Words.{numberIn, handleIn, truthIn, unpacked}
 use Rattle.values.proofs.Laws.{unpacked-integer, unpacked-text, unpacked-truth, unpacked-table, unpacked-shape, as-nothing, by-kind}
-use Rattle.stores.specs.declared.Figure.{Figure}
-use Rattle.stores.specs.Act.{Raw, raw, done, stop, give, fail, shown}
-use Rattle.stores.specs.Texts.{textOf}
-use Rattle.stores.specs.Shapes.{figureAt}
-use Rattle.operators.specs.Operate.{sameFigure, equality, answered, equated, operateOn}
+use Rattle.machine.specs.declared.Figure.{Figure}
+use Rattle.machine.specs.Act.{Raw, raw, done, stop, give, fail, shown}
+use Rattle.machine.specs.Texts.{textOf}
+use Rattle.machine.specs.Shapes.{figureAt}
+use Rattle.machine.specs.Operate.{sameFigure, equality, answered, equated, operateOn}
 use Rattle.operators.specs.Parts.{samePair, sameNumbers, kindNumber, verdict, unlike, Compares}
 use Rattle.operators.proofs.Held.{held, back}
 

@@ -13,19 +13,19 @@ use mir.Val.{SFits}
 use mir.Facts.{toZ-ofZ}
 use Rattle.meaning.specs.Basics.{if_then_else_}
 use Rattle.meaning.specs.Integer.{sum, difference, product, quotient, isZero}
-use Rattle.values.specs.declared.Value.{Value}
-use Rattle.values.specs.declared.Value.the-variants.{Integer, Shape}
-use Rattle.values.specs.declared.Answer.{Answer}
-use Rattle.values.specs.declared.Answer.the-variants.{Bad}
-use Rattle.stores.specs.declared.Figure.{Figure}
-use Rattle.stores.specs.Act.{Raw, Out, stop, goOn, _>>=_, give, fail, refuse, shown, Answers}
-use Rattle.stores.specs.Shapes.{figureAt, newShape}
-use Rattle.operators.specs.Operate.{withInteger, withText, calculated, compared, remaindered, joined, equality, answered, equated, operateOn}
-use Rattle.operators.specs.Operate.{moved, kept, plusX, plusY, minusX, minusY, scaledUp, scaledDown}
-use Rattle.operators.specs.Parts.{placed, refusal, changed, Draws}
+use Rattle.machine.specs.declared.Value.{Value}
+use Rattle.machine.specs.declared.Value.the-variants.{Integer, Shape}
+use Rattle.machine.specs.declared.Answer.{Answer}
+use Rattle.machine.specs.declared.Answer.the-variants.{Bad}
+use Rattle.machine.specs.declared.Figure.{Figure}
+use Rattle.machine.specs.Act.{Raw, Out, stop, goOn, _>>=_, give, fail, refuse, shown, Answers}
+use Rattle.machine.specs.Shapes.{figureAt, newShape}
+use Rattle.machine.specs.Operate.{withInteger, withText, calculated, compared, remaindered, joined, equality, answered, equated, operateOn}
+use Rattle.machine.specs.Operate.{moved, kept, plusX, plusY, minusX, minusY, scaled, scaledUp, scaledDown}
+use Rattle.operators.specs.Parts.{placed, renumbered, refusal, changed, Draws}
 use Rattle.operators.proofs.Held.{held, back, back-by, test-is, by-number}
 
--- ---- points in other places
+-- ---- points in other places, and other numbers
 module _ (f : Figure) {x y : ℤ} (z w : ℤ) (i : SFits w32 x) (j : SFits w32 y) where
   pub line-placed : SFits w32 z → SFits w32 w → f .kind ≡ 0
       → _≡_ {A = Figure} (record { kind = f .kind; a = held x; b = held y; c = held z; d = held w; text = f .text }) (placed f x y z w)
@@ -36,6 +36,11 @@ module _ (f : Figure) {x y : ℤ} (z w : ℤ) (i : SFits w32 x) (j : SFits w32 y
       → _≡_ {A = Figure} (record { kind = f .kind; a = held x; b = held y; c = held (f .c); d = held (f .d); text = f .text }) (placed f x y z w)
   unfolding placed
   other-placed k l e = rw (toZ-ofZ i, toZ-ofZ j, back {r = f .c} k, back {r = f .d} l, ne-eqb _ _ e)
+
+pub other-numbers : (f : Figure) {x y z w : ℤ} → SFits w32 x → SFits w32 y → SFits w32 z → SFits w32 w
+    → _≡_ {A = Figure} (record { kind = f .kind; a = held x; b = held y; c = held z; d = held w; text = f .text }) (renumbered f x y z w)
+unfolding renumbered
+other-numbers f i j k l = rw (toZ-ofZ i, toZ-ofZ j, toZ-ofZ k, toZ-ofZ l)
 
 module _ (op : ℤ → ℤ → ℤ) (f : Figure) {n : ℤ} (j : SFits w32 n) {r : Figure} (ka : mag (f .a) < 2 ^ 31) (kb : mag (f .b) < 2 ^ 31) (kc : mag (f .c) < 2 ^ 31)
     (kd : mag (f .d) < 2 ^ 31) where
@@ -49,10 +54,10 @@ module _ (op : ℤ → ℤ → ℤ) (f : Figure) {n : ℤ} (j : SFits w32 n) {r 
   unfolding moved placed
   moves-x t e h q k = t ∙ rw (back {r = f .b} kb, back {r = f .d} kd, back-by {x = f .a} op (record { sfits = ka }) j h e, back-by {x = f .c} op (record { sfits = kc }) j k q)
 
-  scales : {x y z w : ℤ} → r ≡ placed f (held x) (held y) (held z) (held w) → x ≡ op (held (f .a)) (held n) → mag x < 2 ^ 31 → y ≡ op (held (f .b)) (held n)
+  scales : {x y z w : ℤ} → r ≡ renumbered f (held x) (held y) (held z) (held w) → x ≡ op (held (f .a)) (held n) → mag x < 2 ^ 31 → y ≡ op (held (f .b)) (held n)
       → mag y < 2 ^ 31 → z ≡ op (held (f .c)) (held n) → mag z < 2 ^ 31 → w ≡ op (held (f .d)) (held n) → mag w < 2 ^ 31
-      → r ≡ moved (λ x. op x n) (λ y. op y n) f
-  unfolding moved placed
+      → r ≡ scaled (λ z. op z n) f
+  unfolding scaled renumbered
   scales t p h q i s k u l =
       t ∙ rw (back-by {x = f .a} op (record { sfits = ka }) j h p, back-by {x = f .b} op (record { sfits = kb }) j i q, back-by {x = f .c} op (record { sfits = kc }) j k s, back-by {x = f .d} op (record { sfits = kd }) j l u)
 
@@ -77,13 +82,13 @@ module _ (f : Figure) {n : ℤ} (j : SFits w32 n) {r : Figure} (ka : mag (f .a) 
   unfolding minusX
   minus-x-is t e h q k = moves-x difference f j ka kb kc kd t e h q k
 
-  pub scaled-up-is : {x y z w : ℤ} → r ≡ placed f (held x) (held y) (held z) (held w) → x ≡ product (held (f .a)) (held n) → mag x < 2 ^ 31
+  pub scaled-up-is : {x y z w : ℤ} → r ≡ renumbered f (held x) (held y) (held z) (held w) → x ≡ product (held (f .a)) (held n) → mag x < 2 ^ 31
       → y ≡ product (held (f .b)) (held n) → mag y < 2 ^ 31 → z ≡ product (held (f .c)) (held n) → mag z < 2 ^ 31 → w ≡ product (held (f .d)) (held n) → mag w < 2 ^ 31
       → r ≡ scaledUp f n
   unfolding scaledUp
   scaled-up-is t p h q i s k u l = scales product f j ka kb kc kd t p h q i s k u l
 
-  pub scaled-down-is : {x y z w : ℤ} → r ≡ placed f (held x) (held y) (held z) (held w) → x ≡ quotient (held (f .a)) (held n) → mag x < 2 ^ 31
+  pub scaled-down-is : {x y z w : ℤ} → r ≡ renumbered f (held x) (held y) (held z) (held w) → x ≡ quotient (held (f .a)) (held n) → mag x < 2 ^ 31
       → y ≡ quotient (held (f .b)) (held n) → mag y < 2 ^ 31 → z ≡ quotient (held (f .c)) (held n) → mag z < 2 ^ 31 → w ≡ quotient (held (f .d)) (held n) → mag w < 2 ^ 31
       → r ≡ scaledDown f n
   unfolding scaledDown

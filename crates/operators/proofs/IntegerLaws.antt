@@ -12,11 +12,11 @@ use mir.Facts.{toZ-ofZ}
 use Rattle.meaning.specs.Basics.{if_then_else_}
 use Rattle.meaning.specs.Integer.{sum, difference, product, quotient, shiftedLeft, shiftedRight, isZero, sameInteger}
 use Rattle.meaning.specs.Integer as Integer
-use Rattle.values.specs.declared.Value.the-variants.{Integer, Boolean}
-use Rattle.values.specs.declared.Answer.{Answer}
-use Rattle.values.specs.declared.Answer.the-variants.{Good, Bad}
-use Rattle.stores.specs.Act.{goOn, _>>=_, give, fail, refuse, shown}
-use Rattle.operators.specs.Operate.{withInteger, withText, calculated, compared, remaindered, joined, equality, answered, equated, operateOn}
+use Rattle.machine.specs.declared.Value.the-variants.{Integer, Boolean}
+use Rattle.machine.specs.declared.Answer.{Answer}
+use Rattle.machine.specs.declared.Answer.the-variants.{Good, Bad}
+use Rattle.machine.specs.Act.{goOn, _>>=_, give, fail, refuse, shown}
+use Rattle.machine.specs.Operate.{withInteger, withText, calculated, compared, remaindered, joined, equality, answered, equated, operateOn}
 use Rattle.operators.specs.Parts.{Computes}
 use Rattle.operators.proofs.Held.{held, back-by, test-is, either}
 

@@ -8,10 +8,10 @@ use lib.Dec.{eqb}
 use lib.IntN.{ℤ}
 use mir.Syntax.{w32}
 use mir.Val.{toZ}
-use Rattle.values.specs.Words.{kindIn, numberIn, handleIn, unpacked}
+use Rattle.machine.specs.Words.{kindIn, numberIn, handleIn, unpacked}
 use Rattle.values.proofs.Laws.{unpacked-integer, unpacked-text, unpacked-shape, by-kind}
-use Rattle.stores.specs.Act.{Raw, stop, Act, fail}
-use Rattle.operators.specs.Operate.{withInteger, withText, withShape}
+use Rattle.machine.specs.Act.{Raw, stop, Act, fail}
+use Rattle.machine.specs.Operate.{withInteger, withText, withShape}
 use Rattle.operators.specs.Parts.{bothIntegers, NotBoth}
 
 module _ {A : Type 0} (p a : ℕ) (s : Raw) where

@@ -8,13 +8,13 @@ use lib.IntN.{ℤ}
 use lib.Dec.{eqb}
 use Rattle.meaning.specs.Basics.{if_then_else_}
 use Rattle.meaning.specs.Integer.{isZero, sameInteger}
-use Rattle.values.specs.declared.Value.{Value}
-use Rattle.values.specs.declared.Value.the-variants.{Integer, Text, Boolean, Nothing, Table, Shape}
-use Rattle.values.specs.declared.Answer.{Answer}
-use Rattle.values.specs.Words.{kindIn, unpacked}
-use Rattle.stores.specs.declared.Figure.{Figure}
-use Rattle.stores.specs.Act.{raw, shown}
-use Rattle.operators.specs.Operate.{plusX, plusY, minusX, minusY, scaledUp, scaledDown, operateOn, operate}
+use Rattle.machine.specs.declared.Value.{Value}
+use Rattle.machine.specs.declared.Value.the-variants.{Integer, Text, Boolean, Nothing, Table, Shape}
+use Rattle.machine.specs.declared.Answer.{Answer}
+use Rattle.machine.specs.Words.{kindIn, unpacked}
+use Rattle.machine.specs.declared.Figure.{Figure}
+use Rattle.machine.specs.Act.{raw, shown}
+use Rattle.machine.specs.Operate.{plusX, plusY, minusX, minusY, scaledUp, scaledDown, operateOn, operate}
 
 -- ---- two integers: the slices are neither read nor changed
 pub record Computes (tag p : ℕ) (v w : Value) (answer : Answer) : Type 0 where
@@ -53,6 +53,17 @@ placed s x y z w = record {
   b = y;
   c = cond (eqb (s .kind) 0) z (s .c);
   d = cond (eqb (s .kind) 0) w (s .d);
+  text = s .text;
+}
+
+-- a figure with other numbers
+unfoldable pub renumbered : Figure → ℤ → ℤ → ℤ → ℤ → Figure
+renumbered s x y z w = record {
+  kind = s .kind;
+  a = x;
+  b = y;
+  c = z;
+  d = w;
   text = s .text;
 }
 

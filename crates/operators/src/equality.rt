@@ -1,13 +1,13 @@
 // Equality of values.
-use stores::Figure;
-use values::Answer;
-use values::Value;
+use machine::Answer;
+use machine::Figure;
+use machine::Value;
 ghost use mathlib.Core.Path.{_≡_};
 ghost use mathlib.Core.Bool.{cond};
-ghost use Rattle.values.specs.Words.{unpacked};
-ghost use Rattle.stores.specs.Act.{raw};
-ghost use Rattle.stores.specs.Shapes.{figureAt};
-ghost use Rattle.operators.specs.Operate.{sameFigure, equality};
+ghost use Rattle.machine.specs.Words.{unpacked};
+ghost use Rattle.machine.specs.Act.{raw};
+ghost use Rattle.machine.specs.Shapes.{figureAt};
+ghost use Rattle.machine.specs.Operate.{sameFigure, equality};
 ghost use Rattle.operators.specs.Parts.{samePair, sameNumbers, kindNumber, verdict, unlike, Compares};
 
 // A value's kind; a word of no other kind holds nothing.

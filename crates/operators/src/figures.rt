@@ -1,13 +1,13 @@
 // Figures moved and scaled, and new shapes of them.
-use stores::Figure;
-use values::Answer;
+use machine::Answer;
+use machine::Figure;
 ghost use mathlib.Core.Path.{_≡_};
 ghost use mathlib.Core.Bool.{false};
 ghost use Rattle.meaning.specs.Integer.{isZero};
-ghost use Rattle.values.specs.declared.Value.the-variants.{Integer, Shape};
-ghost use Rattle.stores.specs.Layout.{Room};
-ghost use Rattle.operators.specs.Operate.{plusX, plusY, minusX, minusY, scaledUp, scaledDown};
-ghost use Rattle.operators.specs.Parts.{placed, refusal, changed, Draws};
+ghost use Rattle.machine.specs.declared.Value.the-variants.{Integer, Shape};
+ghost use Rattle.machine.specs.Layout.{Room};
+ghost use Rattle.machine.specs.Operate.{plusX, plusY, minusX, minusY, scaledUp, scaledDown};
+ghost use Rattle.operators.specs.Parts.{placed, renumbered, refusal, changed, Draws};
 
 // A figure with its first point in another place, and its second if it is a line.
 fn placed(f: Figure, x: i32, y: i32, z: i32, w: i32) -> Figure
@@ -29,6 +29,20 @@ fn placed(f: Figure, x: i32, y: i32, z: i32, w: i32) -> Figure
         b: y,
         c: f.c,
         d: f.d,
+        text: f.text,
+    }
+}
+
+// A figure with other numbers.
+fn renumbered(f: Figure, x: i32, y: i32, z: i32, w: i32) -> Figure
+    ensures { λ r. ⌜ r ≡ renumbered f x y z w ⌝ }
+{
+    Figure {
+        kind: f.kind,
+        a: x,
+        b: y,
+        c: z,
+        d: w,
         text: f.text,
     }
 }
@@ -72,7 +86,7 @@ fn scaled_up(f: Figure, n: i32) -> Figure
     let y = arithmetic::product(f.b, n);
     let z = arithmetic::product(f.c, n);
     let w = arithmetic::product(f.d, n);
-    placed(f, x, y, z, w)
+    renumbered(f, x, y, z, w)
 }
 
 fn scaled_down(f: Figure, n: i32) -> Figure
@@ -83,7 +97,7 @@ fn scaled_down(f: Figure, n: i32) -> Figure
     let y = arithmetic::quotient(f.b, n);
     let z = arithmetic::quotient(f.c, n);
     let w = arithmetic::quotient(f.d, n);
-    placed(f, x, y, z, w)
+    renumbered(f, x, y, z, w)
 }
 
 // Why an operator makes no shape of a shape and n: 20, or 70 for a division by 0. 0 if it makes one.

@@ -1,7 +1,7 @@
 // Operators on two integers.
-use values::Answer;
-use values::Value;
-ghost use Rattle.values.specs.declared.Value.the-variants.{Integer};
+use machine::Answer;
+use machine::Value;
+ghost use Rattle.machine.specs.declared.Value.the-variants.{Integer};
 ghost use Rattle.operators.specs.Parts.{Computes};
 
 // The quotient; 70 if y is 0.

@@ -1,3 +1,4 @@
 pub mod Lines
 pub mod Frames
+mod Turning
 mod Writers

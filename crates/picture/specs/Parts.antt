@@ -4,7 +4,7 @@ use mathlib.Core.List.{List, _++_}
 use lib.IntN.{ℤ}
 use Rattle.meaning.specs.Basics.{bytes}
 use Rattle.meaning.specs.Figure.{Figure, line, ellipse, box, text}
-use Rattle.meaning.specs.Picture.{decimal, linesOf}
+use Rattle.meaning.specs.Picture.{decimal, sideStart, absolute, linesOf}
 use Rattle.writing.specs.Digits.{pair}
 
 -- the figure of a kind by its number: 0 a line, 1 an ellipse, 2 a box, else a text, which has two of the numbers
@@ -13,6 +13,17 @@ figureFrom zero a b c d s = line a b c d
 figureFrom (suc zero) a b c d s = ellipse a b c d
 figureFrom (suc (suc zero)) a b c d s = box a b c d
 figureFrom (suc (suc (suc k))) a b c d s = text a b s
+
+-- the numbers that a line of a kind shows: where it begins, given the size beside it, and its size
+unfoldable pub shownStart : ℕ → ℤ → ℤ → ℤ
+shownStart zero x size = x
+shownStart (suc zero) x size = x
+shownStart (suc (suc zero)) x size = sideStart x size
+shownStart (suc (suc (suc k))) x size = x
+
+unfoldable pub shownSize : ℕ → ℤ → ℤ
+shownSize zero size = size
+shownSize (suc k) size = absolute size
 
 -- the lines before the shapes
 unfoldable pub head : ℤ → ℤ → List ℕ

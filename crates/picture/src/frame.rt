@@ -11,7 +11,7 @@ use writing::write_pair_at;
 pub fn head_length(width: i32, height: i32) -> usize
     ensures { λ r. ⌜ r ≡ length (head width height) ⌝ }
 {
-    125 + pair_length(width, height)
+    125 + pair_length(width as i64, height as i64)
 }
 
 pub fn write_head_at(out: &mut [u8], at: usize, width: i32, height: i32) -> usize
@@ -21,9 +21,9 @@ pub fn write_head_at(out: &mut [u8], at: usize, width: i32, height: i32) -> usiz
         out,
         at,
         b"<?xml version=\"1.0\"?>\n<svg viewBox=\"0 0 ",
-        width,
+        width as i64,
     );
-    let quote = write_pair_at(out, space, b" ", height);
+    let quote = write_pair_at(out, space, b" ", height as i64);
     write_bytes_at(
         out,
         quote,

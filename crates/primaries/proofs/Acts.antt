@@ -2,10 +2,10 @@
 use Prim.Native.Nat.{ℕ}
 use mathlib.Core.Path.{_≡_}
 use mathlib.Core.List.{List}
-use Rattle.values.specs.declared.Value.{Value}
-use Rattle.values.specs.declared.Answer.{Answer}
-use Rattle.values.specs.declared.Answer.the-variants.{Good, Bad}
-use Rattle.stores.specs.Act.{raw, Out, stop, Act, goOn, shown}
+use Rattle.machine.specs.declared.Value.{Value}
+use Rattle.machine.specs.declared.Answer.{Answer}
+use Rattle.machine.specs.declared.Answer.the-variants.{Good, Bad}
+use Rattle.machine.specs.Act.{raw, Out, stop, Act, goOn, shown}
 
 module _ {B : Type 0} {o : Out Value} {a : Answer} {ts ws : List ℕ} (k : Value → Act B) (e : shown a ts ws ≡ o) where
   pub goes-on : {v : Value} → a ≡ Good v → goOn o k ≡ k v (raw ts ws)

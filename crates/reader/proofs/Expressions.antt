@@ -12,7 +12,8 @@ use Rattle.meaning.specs.Token.{Token}
 use Rattle.meaning.specs.Tree.{Operator, concatenate, add, subtract, multiply, divide, remainder, shiftRight, shiftLeft, equal, unequal, greater, less, Expression}
 use Rattle.meaning.specs.Grammar.{kindAt, expect, operatorOf, Inside, ReadExpression, argumentsFrom, arguments, primary, operand, operated, expressionIn, expression}
 use Rattle.names.specs.Prepared.{prepared}
-use Rattle.code.specs.Code.{word, tagNumber, tagString, tagName, tagOf, codeOf, codeOfAll}
+use Rattle.machine.specs.Opcodes.{word, tagNumber, tagString, tagName, tagOf}
+use Rattle.code.specs.Code.{codeOf, codeOfAll}
 use Rattle.expressions.specs.Words as Words
 use Rattle.reader.specs.Coded.{wordsOf, mapGot, targetNumber, pieceOf, insideOf}
 use Rattle.reader.specs.Sane.{Sane}

@@ -19,7 +19,8 @@ use Rattle.meaning.specs.Integer.{bits, wrap}
 use Rattle.meaning.specs.Library.{Library, drawLine, drawEllipse, drawBox, drawText, connectShapes, drawTextOnShape, xCoordinate, yCoordinate, destroyShape, clearScene, libraryOf}
 use Rattle.tokens.specs.Words.{sizeOf, tokenIn}
 use Rattle.names.specs.Prepared.{home, numberOf, libraryNumber, payload, prepared, preparedAll}
-use Rattle.code.specs.Code.{word, tagIn, sizeIn, numberIn, tagOf, partOf, joined, codeOf, codeOfAll, codeOfStatement}
+use Rattle.machine.specs.Opcodes.{word, tagIn, sizeIn, numberIn, tagOf}
+use Rattle.code.specs.Code.{partOf, joined, codeOf, codeOfAll, codeOfStatement}
 use Rattle.expressions.specs.Words as Words
 use Rattle.reader.specs.Coded.{wordsOf}
 use Rattle.reader.specs.Sane.{Sane}

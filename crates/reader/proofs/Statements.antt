@@ -12,7 +12,8 @@ use Rattle.meaning.specs.Token.{Token, ending, aName, wordDef, openParen, openB
 use Rattle.meaning.specs.Tree.{Expression, number, string, nothing, truth, name, table, entry, operation, call, paren, Statement, when, while}
 use Rattle.meaning.specs.Grammar.{Got, good, wrong, after, textAt, startAt, is, expect, skip, Inside, ReadExpression, ReadStatement, Readers, declaration, returning, targetOf, assignment, simple, guarded, statementsFrom, statements, statementIn, statement, parametersFrom, parameters, procedure}
 use Rattle.names.specs.Prepared.{prepared}
-use Rattle.code.specs.Code.{tagWhen, tagWhile, slotOf, codeOf, codeOfStatement, codeOfStatements, joined, headed}
+use Rattle.machine.specs.Opcodes.{tagWhen, tagWhile}
+use Rattle.code.specs.Code.{slotOf, codeOf, codeOfStatement, codeOfStatements, joined, headed}
 use Rattle.expressions.specs.Words as Words
 use Rattle.statements.specs.Words as Bodies
 use Rattle.reader.specs.Coded.{wordsOf, mapGot, targetNumber, pieceOf, headOf}

@@ -6,7 +6,8 @@ use mathlib.Core.Path.{_≡_, sym, ap, _∙_, subst}
 use mathlib.Core.List.{List, [], _∷_, _++_, append-nil, append-assoc}
 use lib.ListN.{length, getD, drop, length-append, length-drop}
 use lib.Seq.{drop-drop, drop-append-seam, getD-drop}
-use Rattle.code.specs.Code.{word, tagArgument, joined}
+use Rattle.machine.specs.Opcodes.{word, tagArgument}
+use Rattle.code.specs.Code.{joined}
 
 -- ---- from a word on
 -- c stands in the code from word `at` on

@@ -12,14 +12,15 @@ use Rattle.meaning.specs.Basics.{if_then_else_, laidOver}
 use Rattle.meaning.specs.State.{State}
 use Rattle.meaning.specs.Run.{Resource, steps, shapes, entries, textBytes, picture, Taking, taking, End, result, error, unfinished, Run, run, Action}
 use Rattle.meaning.specs.Run as Run
+use Rattle.meaning.specs.Figure.{Figure}
 use Rattle.meaning.specs.Picture.{pictureOf}
 use Rattle.meaning.specs.Program.{Outcome, drawn, measuring, drawing, empty, performing, specified}
 use Rattle.meaning.specs.Book.{Amounts, nothingYet, added, fits, Booked, allFit, lacking, book, pictured, number, shortageOf, lengthNeeded, resourceNumber, answerTo, settled, booked}
 use Rattle.meaning.specs.Call.{granted, outAfterEnd}
-use Rattle.meaning.proofs.Booking.{part, taken, onFit, book-append}
-use Rattle.meaning.proofs.Ends.{painting-lawful}
-use Rattle.stores.specs.Layout.{stepsUsed, stepsGranted}
-use Rattle.stores.specs.Act.{raw, done, stop}
+use Rattle.meaning.proofs.BookLaws.{part, taken, onFit, book-append}
+use Rattle.claims.proofs.Ends.{painting-lawful}
+use Rattle.machine.specs.Layout.{stepsUsed, stepsGranted}
+use Rattle.machine.specs.Act.{raw, done, stop}
 use Rattle.simulation.specs.Follows.{Grants, Together, gives, lacks, fails}
 use Rattle.scene.specs.Scene.{sceneIn}
 use Rattle.running.specs.declared.Ending.the-variants.{Complete, Stopped}
@@ -76,7 +77,7 @@ module _ (program : List ℕ) (width height : ℤ) (g : List ℕ) (out : List �
   abbrev amounts : Amounts
   amounts = granted (grantsOf g) out
 
-  abbrev painted : Run (List ℕ)
+  abbrev painted : Run (List Figure)
   painted = paintingRun program width height g
 
   -- no picture is taken before it is drawn
@@ -84,8 +85,8 @@ module _ (program : List ℕ) (width height : ℤ) (g : List ℕ) (out : List �
   plain = painting-lawful program width height .plain empty
 
   -- ---- a number
-  stopped-go : (n p : ℕ) (k : List ℕ → Action Outcome) (us : List Taking) (e : End (List ℕ)) → taken picture us ≡ 0
-      → Together amounts nothingYet (Painted program width height) (stop n p (raw ts ws)) us e
+  stopped-go : (n p : ℕ) (k : List Figure → Action Outcome) (us : List Taking) (e : End (List Figure)) → taken picture us ≡ 0
+      → Together amounts nothingYet (Painted program) (stop n p (raw ts ws)) us e
       → booked amounts (Run.goOn us e k) ≡ number n p (getD ws stepsUsed 0) 0
   unfolding booked settled answerTo onFit Run.goOn
   stopped-go n p k us (result b s) z (lacks t total′ f x y w) =
@@ -94,8 +95,8 @@ module _ (program : List ℕ) (width height : ℤ) (g : List ℕ) (out : List �
   stopped-go n p k us unfinished z (lacks t total′ f x y w) = rw (f, lack-picture amounts nothingYet total′ t us f z, x, y, w)
   stopped-go n p k us (error m q) z (fails total′ f w) = rw (f, w)
 
-  untouched-go : (n p : ℕ) (k : List ℕ → Action Outcome) (us : List Taking) (e : End (List ℕ))
-      → Together amounts nothingYet (Painted program width height) (stop n p (raw ts ws)) us e
+  untouched-go : (n p : ℕ) (k : List Figure → Action Outcome) (us : List Taking) (e : End (List Figure))
+      → Together amounts nothingYet (Painted program) (stop n p (raw ts ws)) us e
       → outAfterEnd drawing (book amounts nothingYet (Run.goOn us e k .takings)) (Run.goOn us e k .end) out ≡ out
   unfolding outAfterEnd onFit Run.goOn
   untouched-go n p k us (result b s) (lacks t total′ f x y w) = rw (book-append amounts nothingYet us (k b s .takings), f)
@@ -103,8 +104,8 @@ module _ (program : List ℕ) (width height : ℤ) (g : List ℕ) (out : List �
   untouched-go n p k us unfinished (lacks t total′ f x y w) = rw f
   untouched-go n p k us (error m q) (fails total′ f w) = rw f
 
-  module _ (n p : ℕ) (ran : Ran program width height g painted (Stopped n p) ts ws) where
-    together : Together amounts nothingYet (Painted program width height) (stop n p (raw ts ws)) (painted .takings) (painted .end)
+  module _ (n p : ℕ) (ran : Ran program g painted (Stopped n p) ts ws) where
+    together : Together amounts nothingYet (Painted program) (stop n p (raw ts ws)) (painted .takings) (painted .end)
     unfolding shownEnding
     together = ran .follows amounts (grants-are g out) .is
 
@@ -124,18 +125,18 @@ module _ (program : List ℕ) (width height : ℤ) (g : List ℕ) (out : List �
   -- ---- a picture
   -- how the painting ended
   pub record Ended : Type 0 where
-    pub bytes : List ℕ
+    pub figures : List Figure
     pub state : State
     pub total : Amounts
-    pub end : painted .end ≡ result bytes state
+    pub end : painted .end ≡ result figures state
     pub fit : book amounts nothingYet (painted .takings) ≡ allFit total
     pub none : total picture ≡ 0
-    pub holds : Painted program width height tt bytes (raw ts ws) state total
+    pub holds : Painted program tt figures (raw ts ws) state total
 
-  ended-go : (us : List Taking) (e : End (List ℕ)) → taken picture us ≡ 0 → painted .takings ≡ us → painted .end ≡ e
-      → Together amounts nothingYet (Painted program width height) (done tt (raw ts ws)) us e → Ended
-  ended-go us (result b s) z q h (gives total f w) = record {
-    bytes = b;
+  ended-go : (us : List Taking) (e : End (List Figure)) → taken picture us ≡ 0 → painted .takings ≡ us → painted .end ≡ e
+      → Together amounts nothingYet (Painted program) (done tt (raw ts ws)) us e → Ended
+  ended-go us (result a s) z q h (gives total f w) = record {
+    figures = a;
     state = s;
     total = total;
     end = h;
@@ -144,7 +145,7 @@ module _ (program : List ℕ) (width height : ℤ) (g : List ℕ) (out : List �
     holds = w;
   }
 
-  module _ (ran : Ran program width height g painted Complete ts ws) where
+  module _ (ran : Ran program g painted Complete ts ws) where
     pub painted-ended : Ended
     unfolding shownEnding
     painted-ended = ended-go (painted .takings) (painted .end) plain refl refl (ran .follows amounts (grants-are g out) .is)
@@ -166,7 +167,7 @@ module _ (program : List ℕ) (width height : ℤ) (g : List ℕ) (out : List �
     whole = specified drawing program width height (suc (stepsGranted g))
 
     drawn-run : whole ≡ run (painted .takings ++ (last ∷ [])) (result (drawn bytes) (painted-ended .state))
-    unfolding specified performing Run._>>=_ Run.goOn Run.give Run.take
+    unfolding specified performing Run._>>=_ Run.goOn Run.give Run.spend
     drawn-run = let d = painted-ended in rw (d .end, d .holds .scene)
 
     drawn-book : (c : Bool) → leb (length bytes) (length out) ≡ c

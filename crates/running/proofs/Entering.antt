@@ -23,13 +23,13 @@ use Rattle.meaning.specs.Book.{Amounts, nothingYet}
 use Rattle.meaning.specs.Program.{empty, entering}
 use Rattle.code.specs.Code.{slotOf}
 use Rattle.reader.proofs.Homes.{Occurs, text-same}
-use Rattle.values.specs.declared.Value.the-variants.{Integer}
-use Rattle.values.specs.Words.{packed, unpacked}
+use Rattle.machine.specs.declared.Value.the-variants.{Integer}
+use Rattle.machine.specs.Words.{packed, unpacked}
 use Rattle.values.proofs.Laws.{InRange, unpacked-packed}
-use Rattle.stores.specs.Layout.{valuePlace, orderPlace, Lent}
-use Rattle.stores.specs.Act.{Raw, raw, done, stop}
-use Rattle.stores.specs.Act as Act
-use Rattle.stores.specs.Variables.{declare, setVariable}
+use Rattle.machine.specs.Layout.{valuePlace, orderPlace, Lent}
+use Rattle.machine.specs.Act.{Raw, raw, done, stop}
+use Rattle.machine.specs.Act as Act
+use Rattle.machine.specs.Variables.{declare, setVariable}
 use Rattle.simulation.specs.Meant.{meantValue, meantWord}
 use Rattle.simulation.specs.Sound.{Valid}
 use Rattle.simulation.specs.Follows.{Related, Follows}

@@ -11,7 +11,6 @@ use borrow.Author.Tests.{lt-ltb, le-ltb}
 use Rattle.meaning.specs.Token.{Token, aName}
 use Rattle.meaning.specs.Tree.{Procedure}
 use Rattle.meaning.specs.Grammar.{Reading, wellFormed, malformed, reading}
-use Rattle.meaning.specs.Picture.{pictureOf}
 use Rattle.meaning.specs.State.{scene}
 use Rattle.meaning.specs.Run as Run
 use Rattle.meaning.specs.Book.{Amounts, nothingYet}
@@ -25,10 +24,10 @@ use Rattle.reader.proofs.Homes.{Occurs}
 use Rattle.reader.proofs.Known.{KnownNames}
 use Rattle.reader.proofs.Yields.{yielded}
 use Rattle.reader.proofs.Trees.{procedure-understood}
-use Rattle.stores.specs.Layout.{stepsUsed, argumentsHeld, stepsGranted, Lent}
-use Rattle.stores.specs.Act.{raw}
-use Rattle.stores.specs.Act as Act
-use Rattle.evaluator.specs.Evaluate.{setting}
+use Rattle.machine.specs.Layout.{stepsUsed, argumentsHeld, stepsGranted, Lent}
+use Rattle.machine.specs.Act.{raw}
+use Rattle.machine.specs.Act as Act
+use Rattle.machine.specs.Evaluate.{setting}
 use Rattle.simulation.specs.Follows.{Grants, Follows}
 use Rattle.simulation.proofs.Binding.{bind}
 use Rattle.simulation.proofs.Results.{given, failed, steps-told}
@@ -45,7 +44,7 @@ module _ (program code g : List ℕ) (short : length program ≤ 32768) (ts : Li
     (m : Procedure) (parameters : m .parameters ≡ x ∷ y ∷ []) (read : Read program ts m) (k : ℕ) (stands : take k code ≡ codeOfStatements (m .body) ts)
     (texts words : List ℕ) (lent : Lent g texts words) (zeros : (i : ℕ) → getD words i 0 ≡ 0)
     (width height : ℤ) (w-small : mag width < 2 ^ 31) (h-small : mag height < 2 ^ 31) {granted : Amounts} (gr : Grants g granted) where
-  body-paints : Follows granted nothingYet (Painted program width height)
+  body-paints : Follows granted nothingYet (Painted program)
       (bodyRun (setting program code g) (length (codeOfStatements (m .body) ts)) (slotOf ts x) (slotOf ts y) width height (raw texts words))
       (paintRead (wellFormed m) width height (suc (stepsGranted g)) empty)
   unfolding bodyRun paintRead understood Act._>>=_ Act.goOn Act.give Run._>>=_ Run.goOn Run.give Run.current
@@ -54,7 +53,7 @@ module _ (program code g : List ℕ) (short : length program ≤ 32768) (ts : Li
       bind (body-follows (setting program code g) ts m short read (stands-taken k code (codeOfStatements (m .body) ts) stands) gr (suc (stepsGranted g)) (a .related)
       (a .held ∙ zeros argumentsHeld) (omega (arith, a .related .stepsTaken))) (λ f f′ r′ s′ total′ b.
       given (record {
-        scene = ap (pictureOf width height) (scene-shown (b .after .related));
+        scene = scene-shown (b .after .related);
         drawable = is-drawable (b .after .related);
         told = steps-told (b .after .related);
       }))))
@@ -70,31 +69,31 @@ module _ (program code g texts words : List ℕ) (short : length program ≤ 327
     (left : seen r code ≡ coded (tokensIn program) (reading program)) where
   -- ---- a number
   module _ (steps : getD words stepsUsed 0 ≡ 0) where
-    pub read-malformed : (k i : ℕ) → r ≡ Malformed k i → Ran program width height g (readingRun program width height g) (Stopped k i) texts words
+    pub read-malformed : (k i : ℕ) → r ≡ Malformed k i → Ran program g (readingRun program width height g) (Stopped k i) texts words
     unfolding seen coded paintRead shownEnding understood Run._>>=_ Run.goOn Run.fail
     read-malformed k i e = go (reading program) (ap (λ (q : Program). seen q code) (sym e) ∙ left)
       where
         go : (m : Reading) → seen (Malformed k i) code ≡ coded (tokensIn program) m
-            → Ran program width height g (paintRead m width height (suc (stepsGranted g)) empty) (Stopped k i) texts words
+            → Ran program g (paintRead m width height (suc (stepsGranted g)) empty) (Stopped k i) texts words
         go (wellFormed m) h = formed-refused (sym h)
         go (malformed n p) h =
             let x : k ≡ n = cc in
             let y : i ≡ p = cc in
             record { follows = λ granted gr. rw (x, y) (failed n p (raw texts words) steps) }
 
-    pub read-parameters : (n a b m : ℕ) → r ≡ Formed n a b m → (n ≡ 2 → ⊥) → Ran program width height g (readingRun program width height g) (Stopped 20 0) texts words
+    pub read-parameters : (n a b m : ℕ) → r ≡ Formed n a b m → (n ≡ 2 → ⊥) → Ran program g (readingRun program width height g) (Stopped 20 0) texts words
     unfolding seen coded paintRead shownEnding understood entering Run._>>=_ Run.goOn Run.fail Run.give
     read-parameters n a b m e l = go (reading program) (ap (λ (q : Program). seen q code) (sym e) ∙ left)
       where
         by-names : (xs : List (List ℕ)) (body : Procedure) → body .parameters ≡ xs → (length xs ≡ 2 → ⊥)
-            → Ran program width height g (paintRead (wellFormed body) width height (suc (stepsGranted g)) empty) (Stopped 20 0) texts words
+            → Ran program g (paintRead (wellFormed body) width height (suc (stepsGranted g)) empty) (Stopped 20 0) texts words
         by-names [] body q l = record { follows = λ granted gr. rw q (failed 20 0 (raw texts words) steps) }
         by-names (x ∷ []) body q l = record { follows = λ granted gr. rw q (failed 20 0 (raw texts words) steps) }
         by-names (x ∷ y ∷ []) body q l = absurd (l refl)
         by-names (x ∷ y ∷ z ∷ xs) body q l = record { follows = λ granted gr. rw q (failed 20 0 (raw texts words) steps) }
 
         go : (p : Reading) → seen (Formed n a b m) code ≡ coded (tokensIn program) p
-            → Ran program width height g (paintRead p width height (suc (stepsGranted g)) empty) (Stopped 20 0) texts words
+            → Ran program g (paintRead p width height (suc (stepsGranted g)) empty) (Stopped 20 0) texts words
         go (wellFormed p) h = by-names (p .parameters) p refl (λ q. l (same-formed h .0 ∙ q))
         go (malformed k p) h = formed-refused h
 
@@ -116,13 +115,13 @@ module _ (program code g texts words : List ℕ) (short : length program ≤ 327
 
     pub read-body : (lent : Lent g texts words) (zeros : (i : ℕ) → getD words i 0 ≡ 0) → mag width < 2 ^ 31 → mag height < 2 ^ 31
         → (n : ℕ) → n ≡ length (take m code) → (e : Ending) (ts ws : List ℕ) → shownEnding e ts ws ≡ bodyRun (setting program code g) n a b width height (raw texts words)
-        → Ran program width height g (readingRun program width height g) e ts ws
+        → Ran program g (readingRun program width height g) e ts ws
     unfolding seen coded headOf KnownNames
     read-body lent zeros w-small h-small n is-n e ts ws h = go (reading program) refl went
       where
         by-names : (xs : List (List ℕ)) (p : Procedure) → reading program ≡ wellFormed p → p .parameters ≡ xs
             → formed 2 a b (take m code) ≡ coded (tokensIn program) (wellFormed p)
-            → Ran program width height g (paintRead (wellFormed p) width height (suc (stepsGranted g)) empty) e ts ws
+            → Ran program g (paintRead (wellFormed p) width height (suc (stepsGranted g)) empty) e ts ws
         by-names [] p q s f = absurd (omega (arith, same-formed f .0 ∙ ap (λ (l : List (List ℕ)). length l) s))
         by-names (x ∷ []) p q s f = absurd (omega (arith, same-formed f .0 ∙ ap (λ (l : List (List ℕ)). length l) s))
         by-names (x ∷ y ∷ []) p q s f =
@@ -138,23 +137,23 @@ module _ (program code g texts words : List ℕ) (short : length program ≤ 327
         by-names (x ∷ y ∷ z ∷ xs) p q s f = absurd (omega (arith, same-formed f .0 ∙ ap (λ (l : List (List ℕ)). length l) s))
 
         go : (p : Reading) → reading program ≡ p → seen (Formed 2 a b m) code ≡ coded (tokensIn program) p
-            → Ran program width height g (paintRead p width height (suc (stepsGranted g)) empty) e ts ws
+            → Ran program g (paintRead p width height (suc (stepsGranted g)) empty) e ts ws
         go (wellFormed p) q s = by-names (p .parameters) p q refl s
         go (malformed k p) q s = formed-refused s
 
 -- ---- the questions before
 module _ (program g ts ws : List ℕ) (width height : ℤ) where
   pub no-sheet : getD ws stepsUsed 0 ≡ 0 → ltZ (pos 0) width && ltZ (pos 0) height ≡ false
-      → Ran program width height g (paintingRun program width height g) (Stopped 72 0) ts ws
+      → Ran program g (paintingRun program width height g) (Stopped 72 0) ts ws
   unfolding painting sheet shownEnding Run._>>=_ Run.goOn Run.refuse Run.fail
   no-sheet z e = record { follows = λ granted gr. rw e (failed 72 0 (raw ts ws) z) }
 
   module _ (a-sheet : ltZ (pos 0) width && ltZ (pos 0) height ≡ true) where
-    pub too-long : getD ws stepsUsed 0 ≡ 0 → 32768 < length program → Ran program width height g (paintingRun program width height g) (Stopped 73 0) ts ws
+    pub too-long : getD ws stepsUsed 0 ≡ 0 → 32768 < length program → Ran program g (paintingRun program width height g) (Stopped 73 0) ts ws
     unfolding painting sheet sized shownEnding Run._>>=_ Run.goOn Run.refuse Run.fail Run.give
     too-long z l = record { follows = λ granted gr. rw (a-sheet, lt-ltb 32768 (length program) l) (failed 73 0 (raw ts ws) z) }
 
-    pub as-read : length program ≤ 32768 → (e : Ending) → Ran program width height g (readingRun program width height g) e ts ws
-        → Ran program width height g (paintingRun program width height g) e ts ws
+    pub as-read : length program ≤ 32768 → (e : Ending) → Ran program g (readingRun program width height g) e ts ws
+        → Ran program g (paintingRun program width height g) e ts ws
     unfolding painting paintRead sheet sized Run._>>=_ Run.goOn Run.refuse Run.give
     as-read l e h = record { follows = λ granted gr. rw (a-sheet, le-ltb 32768 (length program) l) (h .follows granted gr) }

@@ -14,14 +14,14 @@ use Rattle.meaning.specs.State.{State, Variable, seen, sceneOf, scene}
 use Rattle.meaning.specs.State as State
 use Rattle.meaning.specs.Book.{Amounts}
 use Rattle.meaning.specs.Value as Value
-use Rattle.values.specs.declared.Value.the-variants.{Shape}
-use Rattle.values.specs.Words.{kindIn, numberIn, unpacked}
+use Rattle.machine.specs.declared.Value.the-variants.{Shape}
+use Rattle.machine.specs.Words.{kindIn, numberIn, unpacked}
 use Rattle.values.proofs.Laws.{by-kind}
-use Rattle.stores.specs.Layout.{declared, shapesUsed}
-use Rattle.stores.specs.Act.{Raw}
-use Rattle.stores.specs.Texts.{textOf}
-use Rattle.stores.specs.Shapes.{destroyedAt, figureAt}
-use Rattle.stores.specs.declared.Figure.{Figure}
+use Rattle.machine.specs.Layout.{declared, shapesUsed}
+use Rattle.machine.specs.Act.{Raw}
+use Rattle.machine.specs.Texts.{textOf}
+use Rattle.machine.specs.Shapes.{destroyedAt, figureAt}
+use Rattle.machine.specs.declared.Figure.{Figure}
 use Rattle.picture.specs.Parts.{figureFrom}
 use Rattle.scene.specs.Scene.{figureFor, shownBy, wordOf, shownFirst, sceneIn, Drawable}
 use Rattle.simulation.specs.Meant.{meantValue, meantFigure, listed, slotAt, variableAt, variablesOf, shapeAt}

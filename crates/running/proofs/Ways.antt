@@ -16,25 +16,21 @@ use Rattle.meaning.specs.Grammar.{reading}
 use Rattle.reader.specs.declared.Program.{Program}
 use Rattle.reader.specs.declared.Program.the-variants.{Formed, Malformed}
 use Rattle.reader.specs.Reading.{seen, coded, tokensIn}
-use Rattle.values.specs.declared.Value.{Value}
-use Rattle.values.specs.declared.Value.the-variants.{Integer}
-use Rattle.values.specs.Words.{packed}
-use Rattle.stores.specs.Layout.{stepsUsed}
-use Rattle.stores.specs.Act.{raw, goOn, _>>=_, give, passed, Passes, Gives}
-use Rattle.stores.specs.Variables.{declare, setVariable}
+use Rattle.machine.specs.declared.Value.{Value}
+use Rattle.machine.specs.declared.Value.the-variants.{Integer}
+use Rattle.machine.specs.Words.{packed}
+use Rattle.machine.specs.Layout.{stepsUsed}
+use Rattle.machine.specs.Act.{raw, goOn, _>>=_, give, passed, Passes, Gives}
+use Rattle.machine.specs.Variables.{declare, setVariable}
 use Rattle.stores.proofs.Acts.{after-pass, after-refusal, after-gift}
-use Rattle.invariant.specs.Invariant.{SoundValue, SoundIn, Any, Valid, After}
-use Rattle.invariant.proofs.Soundness.{sound-packed}
-use Rattle.invariant.proofs.Keeping.{after-then, after-declare, after-set-variable, kept-pass}
-use Rattle.invariant.proofs.Changes.{lent-same}
-use Rattle.invariant.proofs.EntriesKept.{valid-start}
-use Rattle.evaluator.specs.Evaluate.{setting}
-use Rattle.plain.specs.declared.Flow.{Flow}
-use Rattle.plain.specs.declared.Flow.the-variants as flows
-use Rattle.executor.specs.Execute.{executeBody}
-use Rattle.plain.specs.Plain.{shownFlow}
+use Rattle.machine.specs.Evaluate.{setting}
+use Rattle.machine.specs.declared.Flow.{Flow}
+use Rattle.machine.specs.declared.Flow.the-variants as flows
+use Rattle.machine.specs.Execute.{bodyOf}
+use Rattle.machine.specs.Effects.{shownFlow}
 use Rattle.executor.specs.Asked.{Body}
-use Rattle.plain.proofs.Acts.{flow-on, flow-returns, flow-stops}
+use Rattle.evaluator.proofs.Laws.{still-lent}
+use Rattle.effects.proofs.Acts.{flow-on, flow-returns, flow-stops}
 use Rattle.running.specs.declared.Ending.{Ending}
 use Rattle.running.specs.declared.Ending.the-variants.{Complete, Stopped}
 use Rattle.lending.specs.Lending.{Ready}
@@ -82,20 +78,6 @@ module _ (a b : ℕ) (width height : ℤ) (ws ws₁ : List ℕ) (ok : Bool) (h :
         }
 
 -- ---- `run_body`
-number-sound : (z : ℤ) (ws : List ℕ) → mag z < 2 ^ 31 → SoundIn ws (packed (Integer z))
-unfolding SoundValue
-number-sound z ws l = sound-packed (Integer z) ws l
-
-module _ {program g : List ℕ} where
-  after-entered : (a b : ℕ) (width height : ℤ) → mag width < 2 ^ 31 → mag height < 2 ^ 31 → (p : ℕ) (ts ws : List ℕ) → Valid program g ts ws
-      → After program g ws Any (entered a b width height p (raw ts ws))
-  unfolding entered _>>=_
-  after-entered a b width height l m p ts ws v =
-      after-then _ (after-declare v a p) (λ _ ts₁ ws₁ v₁ _ _.
-      after-then _ (after-declare v₁ b p) (λ _ ts₂ ws₂ v₂ _ _.
-      after-then _ (after-set-variable v₂ a (packed (Integer width)) (number-sound width ws₂ l)) (λ _ ts₃ ws₃ v₃ _ _.
-      after-set-variable v₃ b (packed (Integer height)) (number-sound height ws₃ m))))
-
 module _ (program code g : List ℕ) (n a b : ℕ) (width height : ℤ) (f : SFits w32 width) (f₂ : SFits w32 height) (ts ws ws₁ : List ℕ) (ok : Bool)
     (passes : Passes ws 60 (entered a b (held width) (held height)) ok ws₁) where
   h : Passes ws 60 (entered a b width height) ok ws₁
@@ -105,14 +87,11 @@ module _ (program code g : List ℕ) (n a b : ℕ) (width height : ℤ) (f : SFi
   unfolding bodyRun shownEnding
   not-entered t = sym (after-refusal _ 0 ts (rw (not-true ok t) at h))
 
-  pub body-entered : not ok ≡ false → Body program g ts ws n → Body program g ts ws₁ n
-  body-entered t v = record {
-    valid = kept-pass {ts = ts} {P = Any} {p = 0} (rw (not-false ok t) at h) (after-entered a b width height (f .sfits) (f₂ .sfits) 0 ts ws (v .valid)) .valid;
-    small = v .small;
-  }
+  pub body-entered : length ws₁ ≡ length ws → Body g ts ws n → Body g ts ws₁ n
+  body-entered j v = record { lent = still-lent g ts ws ts ws₁ (v .lent) refl j; small = v .small }
 
-  module _ (t : not ok ≡ false) (flow : Flow) (ts₂ ws₂ : List ℕ) (e : shownFlow flow ts₂ ws₂ ≡ executeBody (setting program code g) n (raw ts ws₁)) where
-    entered-then : bodyRun (setting program code g) n a b width height (raw ts ws) ≡ goOn (executeBody (setting program code g) n (raw ts ws₁)) (λ _. give tt)
+  module _ (t : not ok ≡ false) (flow : Flow) (ts₂ ws₂ : List ℕ) (e : shownFlow flow ts₂ ws₂ ≡ bodyOf (setting program code g) n (raw ts ws₁)) where
+    entered-then : bodyRun (setting program code g) n a b width height (raw ts ws) ≡ goOn (bodyOf (setting program code g) n (raw ts ws₁)) (λ _. give tt)
     unfolding bodyRun _>>=_
     entered-then = after-pass _ 0 ts (rw (not-false ok t) at h)
 
@@ -131,26 +110,26 @@ module _ (program code g : List ℕ) (n a b : ℕ) (width height : ℤ) (f : SFi
 -- ---- `run_read`
 module _ (program code g tokens unread ts ws : List ℕ) (ready : ReadyToRead program g tokens unread ts ws) (width height : ℤ) (r : Program)
     (left : seen r code ≡ coded (tokensIn program) (reading program)) where
-  pub way-malformed : (k i : ℕ) → r ≡ Malformed k i → Ran program width height g (readingRun program width height g) (Stopped k i) ts ws
+  pub way-malformed : (k i : ℕ) → r ≡ Malformed k i → Ran program g (readingRun program width height g) (Stopped k i) ts ws
   way-malformed k i e = read-malformed program code g ts ws (ready .short) width height r left (ready .zeros stepsUsed) k i e
 
   module _ (n a b m : ℕ) (e : r ≡ Formed n a b m) where
-    pub way-parameters : (n ≡ 2 → ⊥) → Ran program width height g (readingRun program width height g) (Stopped 20 0) ts ws
+    pub way-parameters : (n ≡ 2 → ⊥) → Ran program g (readingRun program width height g) (Stopped 20 0) ts ws
     way-parameters t = read-parameters program code g ts ws (ready .short) width height r left (ready .zeros stepsUsed) n a b m e t
 
     module _ (t : n ≡ 2) (size : ℕ) (is-size : size ≡ length (take m code)) where
       two : r ≡ Formed 2 a b m
       two = e ∙ ap (λ (k : ℕ). Formed k a b m) t
 
-      pub way-starts : Body program g ts ws size
+      pub way-starts : Body g ts ws size
       way-starts = record {
-        valid = valid-start program g ts ws (ready .ready .lent) (ready .zeros);
+        lent = ready .ready .lent;
         small = rw is-size (body-small program code g ts ws (ready .short) width height r left a b m two);
       }
 
       pub way-body : SFits w32 width → SFits w32 height → (x : Ending) (ts₁ ws₁ : List ℕ)
           → shownEnding x ts₁ ws₁ ≡ bodyRun (setting program code g) size a b (held width) (held height) (raw ts ws)
-          → Ran program width height g (readingRun program width height g) x ts₁ ws₁
+          → Ran program g (readingRun program width height g) x ts₁ ws₁
       way-body f f₂ x ts₁ ws₁ h =
           read-body program code g ts ws (ready .short) width height r left a b m two (ready .ready .lent) (ready .zeros) (f .sfits) (f₂ .sfits) size is-size x ts₁ ws₁
           (rw (toZ-ofZ f, toZ-ofZ f₂) at h)
@@ -169,25 +148,25 @@ module _ (program g tokens code ts ws₀ ws : List ℕ) (ready : Ready g tokens 
   is : ok ≡ (ltZ (pos 0) width && ltZ (pos 0) height)
   is = sheet ∙ rw (toZ-ofZ f, toZ-ofZ f₂)
 
-  pub run-no-sheet : not ok ≡ true → Ran program width height g (paintingRun program width height g) (Stopped 72 0) ts ws
+  pub run-no-sheet : not ok ≡ true → Ran program g (paintingRun program width height g) (Stopped 72 0) ts ws
   run-no-sheet t = no-sheet program g ts ws width height (zeros stepsUsed) (sym is ∙ not-true ok t)
 
   module _ (t : not ok ≡ false) where
     a-sheet : ltZ (pos 0) width && ltZ (pos 0) height ≡ true
     a-sheet = sym is ∙ not-false ok t
 
-    pub run-too-long : 32768 < length program → Ran program width height g (paintingRun program width height g) (Stopped 73 0) ts ws
+    pub run-too-long : 32768 < length program → Ran program g (paintingRun program width height g) (Stopped 73 0) ts ws
     run-too-long l = too-long program g ts ws width height a-sheet (zeros stepsUsed) l
 
     module _ (short : length program ≤ 32768) where
       pub run-ready : ReadyToRead program g tokens code ts ws
       run-ready = record {
-        ready = record { tokensLong = ready .tokensLong; codeLong = ready .codeLong; lent = lent-same refl (rw cleared (length-replicate (length ws₀) 0)) (ready .lent) };
+        ready = record { tokensLong = ready .tokensLong; codeLong = ready .codeLong; lent = still-lent g ts ws₀ ts ws (ready .lent) refl (rw cleared (length-replicate (length ws₀) 0)) };
         short = short;
         zeros = zeros;
       }
 
       pub run-as-read : (x : Ending) (ts₁ ws₁ : List ℕ)
-          → Ran program (held width) (held height) g (readingRun program (held width) (held height) g) x ts₁ ws₁
-          → Ran program width height g (paintingRun program width height g) x ts₁ ws₁
+          → Ran program g (readingRun program (held width) (held height) g) x ts₁ ws₁
+          → Ran program g (paintingRun program width height g) x ts₁ ws₁
       run-as-read x ts₁ ws₁ h = as-read program g ts₁ ws₁ width height a-sheet short x (rw (toZ-ofZ f, toZ-ofZ f₂) at h)

@@ -5,18 +5,18 @@ use mathlib.Core.List.{List}
 use lib.ListN.{length, getD}
 use lib.IntN.{ℤ}
 use Rattle.meaning.specs.Grammar.{reading}
+use Rattle.meaning.specs.Figure.{Figure}
 use Rattle.meaning.specs.State.{State}
 use Rattle.meaning.specs.Run.{steps, Run}
 use Rattle.meaning.specs.Book.{Amounts, nothingYet}
 use Rattle.meaning.specs.Program.{empty, painting}
-use Rattle.meaning.specs.Picture.{pictureOf}
-use Rattle.values.specs.declared.Value.the-variants.{Integer}
-use Rattle.values.specs.Words.{packed}
-use Rattle.stores.specs.Layout.{stepsUsed, stepsGranted}
-use Rattle.stores.specs.Act.{Raw, raw, Out, done, stop, Act, give, _>>_, _>>=_}
-use Rattle.stores.specs.Variables.{declare, setVariable}
-use Rattle.evaluator.specs.Evaluate.{Setting}
-use Rattle.executor.specs.Execute.{executeBody}
+use Rattle.machine.specs.declared.Value.the-variants.{Integer}
+use Rattle.machine.specs.Words.{packed}
+use Rattle.machine.specs.Layout.{stepsUsed, stepsGranted}
+use Rattle.machine.specs.Act.{Raw, raw, Out, done, stop, Act, give, _>>_, _>>=_}
+use Rattle.machine.specs.Variables.{declare, setVariable}
+use Rattle.machine.specs.Evaluate.{Setting}
+use Rattle.machine.specs.Execute.{bodyOf}
 use Rattle.simulation.specs.Follows.{Grants, Follows}
 use Rattle.lending.specs.Lending.{Ready}
 use Rattle.scene.specs.Scene.{sceneIn, Drawable}
@@ -36,7 +36,7 @@ entered a b width height p = do
 unfoldable pub bodyRun : Setting → ℕ → ℕ → ℕ → ℤ → ℤ → Act (Unit {0})
 bodyRun e n a b width height = do
   entered a b width height 0
-  executeBody e n
+  bodyOf e n
   give tt
 
 -- ---- endings
@@ -45,20 +45,20 @@ shownEnding Complete ts ws = done tt (raw ts ws)
 shownEnding (Stopped n p) ts ws = stop n p (raw ts ws)
 
 -- ---- what is promised
--- the stores hold the scene of picture b, and the steps counted
-pub record Painted (program : List ℕ) (width height : ℤ) (a : Unit {0}) (b : List ℕ) (r : Raw) (s : State) (total : Amounts) : Type 0 where
-  pub scene : b ≡ pictureOf width height (sceneIn program r)
+-- the stores hold the shapes of these figures, and the steps counted
+pub record Painted (program : List ℕ) (a : Unit {0}) (figures : List Figure) (r : Raw) (s : State) (total : Amounts) : Type 0 where
+  pub scene : figures ≡ sceneIn program r
   pub drawable : Drawable (r .words)
   pub told : getD (r .words) stepsUsed 0 ≡ total steps
 
 -- the run ends as the book of a specified run does, whatever out slice there is
-pub record Ran (program : List ℕ) (width height : ℤ) (g : List ℕ) (m : Run (List ℕ)) (e : Ending) (ts ws : List ℕ) : Type 0 where
-  pub follows : (granted : Amounts) → Grants g granted → Follows granted nothingYet (Painted program width height) (shownEnding e ts ws) m
+pub record Ran (program : List ℕ) (g : List ℕ) (m : Run (List Figure)) (e : Ending) (ts ws : List ℕ) : Type 0 where
+  pub follows : (granted : Amounts) → Grants g granted → Follows granted nothingYet (Painted program) (shownEnding e ts ws) m
 
-abbrev pub paintingRun : List ℕ → ℤ → ℤ → List ℕ → Run (List ℕ)
+abbrev pub paintingRun : List ℕ → ℤ → ℤ → List ℕ → Run (List Figure)
 paintingRun program width height g = painting program width height (suc (stepsGranted g)) empty
 
-abbrev pub readingRun : List ℕ → ℤ → ℤ → List ℕ → Run (List ℕ)
+abbrev pub readingRun : List ℕ → ℤ → ℤ → List ℕ → Run (List Figure)
 readingRun program width height g = paintRead (reading program) width height (suc (stepsGranted g)) empty
 
 -- ---- what is asked

@@ -3,16 +3,16 @@ use Prim.Native.Nat.{ℕ}
 use mathlib.Core.List.{List}
 use lib.IntN.{ℤ}
 use Rattle.meaning.specs.Grammar.{Reading}
+use Rattle.meaning.specs.Figure.{Figure}
 use Rattle.meaning.specs.State.{scene}
 use Rattle.meaning.specs.Run.{Action, _>>=_, _>>_, give, current}
 use Rattle.meaning.specs.Execute.{executeAll}
-use Rattle.meaning.specs.Picture.{pictureOf}
 use Rattle.meaning.specs.Program.{understood, entering}
 
-unfoldable pub paintRead : Reading → ℤ → ℤ → ℕ → Action (List ℕ)
+unfoldable pub paintRead : Reading → ℤ → ℤ → ℕ → Action (List Figure)
 paintRead m width height n = do
   main ← understood m
   entering (main .parameters) width height
   executeAll (main .body) n
   s ← current
-  give (pictureOf width height (scene s))
+  give (scene s)

@@ -1,15 +1,16 @@
 // A run from the program to its picture.
-use plain::Flow;
+use machine::Flow;
+use machine::Value;
 use reader::Program;
-use values::Value;
 ghost use Prim.Native.Nat.{_≤_};
 ghost use mathlib.Core.Path.{_≡_};
 ghost use mathlib.Core.Bool.{_&&_};
 ghost use lib.IntN.{pos};
 ghost use lib.Signed.{ltZ};
 ghost use lib.ListN.{length, take};
-ghost use Rattle.stores.specs.Act.{raw, Passes};
-ghost use Rattle.evaluator.specs.Evaluate.{setting};
+ghost use Rattle.machine.specs.Act.{raw, Passes};
+ghost use Rattle.machine.specs.Layout.{fixedWords};
+ghost use Rattle.machine.specs.Evaluate.{setting};
 ghost use Rattle.executor.specs.Asked.{Body};
 ghost use Rattle.lending.specs.Lending.{Ready};
 ghost use Rattle.running.specs.Running.{entered, bodyRun, shownEnding, Ran, paintingRun, readingRun, ReadyToRead};
@@ -29,7 +30,7 @@ fn is_sheet(width: i32, height: i32) -> bool
 
 // Main's parameters, by slot, hold the width and the height; not if they have one name.
 fn enter(words: &mut [u64], a: usize, b: usize, width: i32, height: i32) -> bool
-    requires { ⌜ 24584 ≤ length (now words) ⌝ }
+    requires { ⌜ fixedWords ≤ length (now words) ⌝ }
     ensures { λ r. ⌜ Passes (now (words .entry)) 60 (entered a b width height) r (now (words .exit)) ⌝ }
 {
     if !stores::variables::declare(words, a) {
@@ -56,14 +57,14 @@ fn run_body(
     width: i32,
     height: i32,
 ) -> Ending
-    requires { ⌜ Body (now program) (now grants) (now texts) (now words) n ⌝ }
+    requires { ⌜ Body (now grants) (now texts) (now words) n ⌝ }
     ensures { λ r. ⌜ shownEnding r (now (texts .exit)) (now (words .exit))
         ≡ bodyRun (setting (now (program .entry)) (now (code .entry)) (now (grants .entry))) n a b width height (raw (now (texts .entry)) (now (words .entry))) ⌝ }
 {
     if !enter(words, a, b, width, height) {
         return Ending::Stopped(60, 0);
     }
-    match executor::execute_body(program, code, grants, texts, words, n) {
+    match executor::body(program, code, grants, texts, words, n) {
         Flow::Onward => Ending::Complete,
         Flow::Returned(_) => Ending::Complete,
         Flow::Stopped(k, p) => Ending::Stopped(k, p),
@@ -89,7 +90,7 @@ fn run_read(
     texts: &mut [u8],
 ) -> Ending
     requires { ⌜ ReadyToRead (now program) (now grants) (now tokens) (now code) (now texts) (now words) ⌝ }
-    ensures { λ r. ⌜ Ran (now (program .entry)) width height (now (grants .entry)) (readingRun (now (program .entry)) width height (now (grants .entry)))
+    ensures { λ r. ⌜ Ran (now (program .entry)) (now (grants .entry)) (readingRun (now (program .entry)) width height (now (grants .entry)))
         r (now (texts .exit)) (now (words .exit)) ⌝ }
 {
     match reader::read(program, tokens, code) {
@@ -128,7 +129,7 @@ pub fn run(
     texts: &mut [u8],
 ) -> Ending
     requires { ⌜ Ready (now grants) (now tokens) (now code) (now texts) (now words) ⌝ }
-    ensures { λ r. ⌜ Ran (now (program .entry)) width height (now (grants .entry)) (paintingRun (now (program .entry)) width height (now (grants .entry)))
+    ensures { λ r. ⌜ Ran (now (program .entry)) (now (grants .entry)) (paintingRun (now (program .entry)) width height (now (grants .entry)))
         r (now (texts .exit)) (now (words .exit)) ⌝ }
 {
     slices::clear_words(words);

@@ -14,11 +14,11 @@ use mir.ValLaws.{toZ-fits, toZ-ofZ}
 use Rattle.meaning.specs.Basics.{if_then_else_}
 use Rattle.meaning.specs.Figure as drawn
 use Rattle.meaning.specs.Picture.{lineOf}
-use Rattle.stores.specs.Act.{Raw, raw}
-use Rattle.stores.specs.declared.Figure.{Figure}
-use Rattle.stores.specs.Layout.{shapePlace}
-use Rattle.stores.specs.Shapes.{lowNumber, highNumber, figureAt}
-use Rattle.stores.specs.Texts.{originIn, startIn, sizeIn, part, textOf}
+use Rattle.machine.specs.Act.{Raw, raw}
+use Rattle.machine.specs.declared.Figure.{Figure}
+use Rattle.machine.specs.Layout.{shapePlace}
+use Rattle.machine.specs.Shapes.{lowNumber, highNumber, figureAt}
+use Rattle.machine.specs.Texts.{originIn, startIn, sizeIn, part, textOf}
 use Rattle.picture.specs.Parts.{figureFrom}
 use Rattle.writing.specs.Placed.{WroteAt}
 use Rattle.picture.proofs.Lines.{line-short}

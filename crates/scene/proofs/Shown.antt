@@ -10,10 +10,10 @@ use lib.Dec.{eqb}
 use lib.ListN.{length, getD, length-append, take-append-drop}
 use Rattle.meaning.specs.Basics.{if_then_else_, laidOver}
 use Rattle.meaning.specs.Picture.{lineOf, linesOf}
-use Rattle.values.specs.Words.{kindIn, numberIn}
-use Rattle.stores.specs.Act.{Raw, raw}
-use Rattle.stores.specs.Layout.{valuePlace, orderPlace}
-use Rattle.stores.specs.Shapes.{destroyedAt}
+use Rattle.machine.specs.Words.{kindIn, numberIn}
+use Rattle.machine.specs.Act.{Raw, raw}
+use Rattle.machine.specs.Layout.{valuePlace, orderPlace}
+use Rattle.machine.specs.Shapes.{destroyedAt}
 use Rattle.writing.specs.Placed.{laidAt, WroteAt}
 use Rattle.picture.proofs.Frames.{lines-append}
 use Rattle.writing.proofs.Laying.{saturated-small}

@@ -11,8 +11,8 @@ use mir.Syntax.{w32, w64}
 use mir.Val.{Fits, SFits}
 use mir.ValLaws.{toZ-ofZ}
 use Rattle.meaning.specs.Picture.{linesOf, pictureOf}
-use Rattle.stores.specs.Act.{raw}
-use Rattle.stores.specs.Layout.{declared}
+use Rattle.machine.specs.Act.{raw}
+use Rattle.machine.specs.Layout.{declared}
 use Rattle.picture.specs.Parts.{head, tail, front}
 use Rattle.writing.specs.Placed.{Wrote, WroteAt}
 use Rattle.writing.proofs.Decimals.{decimal-short}

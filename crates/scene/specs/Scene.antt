@@ -6,11 +6,11 @@ use lib.ListN.{length, getD}
 use lib.Dec.{eqb}
 use Rattle.meaning.specs.Basics.{if_then_else_}
 use Rattle.meaning.specs.Figure.{Figure}
-use Rattle.values.specs.Words.{kindIn, numberIn}
-use Rattle.stores.specs.Layout.{declared, valuePlace, orderPlace}
-use Rattle.stores.specs.Act.{Raw}
-use Rattle.stores.specs.Texts.{textOf}
-use Rattle.stores.specs.Shapes.{destroyedAt, figureAt}
+use Rattle.machine.specs.Words.{kindIn, numberIn}
+use Rattle.machine.specs.Layout.{declared, valuePlace, orderPlace}
+use Rattle.machine.specs.Act.{Raw}
+use Rattle.machine.specs.Texts.{textOf}
+use Rattle.machine.specs.Shapes.{destroyedAt, figureAt}
 use Rattle.picture.specs.Parts.{figureFrom}
 
 -- the figure of the shape numbered i

@@ -5,9 +5,9 @@ ghost use Prim.Native.Nat.{_≤_};
 ghost use lib.Dec.{eqb};
 ghost use lib.ListN.{length};
 ghost use Rattle.meaning.specs.Picture.{lineOf, linesOf, pictureOf};
-ghost use Rattle.values.specs.Words.{kindIn, numberIn};
-ghost use Rattle.stores.specs.Act.{raw};
-ghost use Rattle.stores.specs.Shapes.{destroyedAt};
+ghost use Rattle.machine.specs.Words.{kindIn, numberIn};
+ghost use Rattle.machine.specs.Act.{raw};
+ghost use Rattle.machine.specs.Shapes.{destroyedAt};
 ghost use Rattle.writing.specs.Placed.{Wrote, WroteAt};
 ghost use Rattle.scene.specs.Scene.{figureFor, shownBy, wordOf, sceneIn, Drawable};
 

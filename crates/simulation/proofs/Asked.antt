@@ -11,12 +11,12 @@ use Rattle.meaning.specs.Run.{Action}
 use Rattle.meaning.specs.Run as Run
 use Rattle.meaning.specs.Book.{Amounts}
 use Rattle.meaning.specs.Operator as Operator
-use Rattle.values.specs.declared.Value.{Value}
-use Rattle.values.specs.declared.Value.the-variants.{Integer, Text, Boolean, Nothing, Table, Shape}
-use Rattle.stores.specs.Act.{Raw, Act}
-use Rattle.stores.specs.Act as Act
-use Rattle.stores.specs.Texts.{textOf}
-use Rattle.operators.specs.Operate.{withInteger, withText, withBoolean, withTable, withShape}
+use Rattle.machine.specs.declared.Value.{Value}
+use Rattle.machine.specs.declared.Value.the-variants.{Integer, Text, Boolean, Nothing, Table, Shape}
+use Rattle.machine.specs.Act.{Raw, Act}
+use Rattle.machine.specs.Act as Act
+use Rattle.machine.specs.Texts.{textOf}
+use Rattle.machine.specs.Operate.{withInteger, withText, withBoolean, withTable, withShape}
 use Rattle.simulation.specs.Meant.{meantValue}
 use Rattle.simulation.specs.Sound.{Held, Valid}
 use Rattle.simulation.specs.Follows.{Related, Follows}

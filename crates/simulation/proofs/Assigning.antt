@@ -1,5 +1,5 @@
 -- Assignments: a shape is copied, anything else is put as it is.
-use Prim.Native.Nat.{ℕ, _≤_}
+use Prim.Native.Nat.{ℕ, _+_, _*_, _/_, _%_, _^_, _≤_}
 use native.Mathlib.Omega.{arith}
 use mathlib.Core.Path.{_≡_, refl, sym, _∙_, subst}
 use mathlib.Core.Logic.{_≢_}
@@ -9,7 +9,8 @@ use mathlib.Core.Option.{Option, some}
 use mathlib.Core.Option as Option
 use lib.ListN.{getD, length, set}
 use lib.Dec.{eqb}
-use borrow.Author.Tests.{eqb-true, eqb-false}
+use borrow.Author.Tests.{eqb-true, eqb-false, ne-eqb}
+use Rattle.meaning.specs.Basics.{if_then_else_}
 use Rattle.meaning.specs.Token.{Token, aName}
 use Rattle.meaning.specs.Value as Value
 use Rattle.meaning.specs.State.{State, figureOf, valueIn, isSome, assigned, withVariables}
@@ -18,16 +19,16 @@ use Rattle.meaning.specs.Book.{Amounts}
 use Rattle.meaning.specs.Execute as Execute
 use Rattle.code.specs.Code.{slotOf}
 use Rattle.reader.proofs.Homes.{Occurs}
-use Rattle.values.specs.declared.Value.{Value}
-use Rattle.values.specs.declared.Value.the-variants.{Integer, Text, Boolean, Nothing, Table, Shape}
-use Rattle.values.specs.Words.{packed}
-use Rattle.stores.specs.Layout.{valuePlace}
-use Rattle.stores.specs.Act.{Raw, raw}
-use Rattle.stores.specs.Act as Act
-use Rattle.stores.specs.Shapes.{figureAt}
-use Rattle.stores.specs.Variables.{setVariable}
-use Rattle.evaluator.specs.Evaluate.{Setting}
-use Rattle.plain.specs.Plain.{copied, assigning}
+use Rattle.machine.specs.declared.Value.{Value}
+use Rattle.machine.specs.declared.Value.the-variants.{Integer, Text, Boolean, Nothing, Table, Shape}
+use Rattle.machine.specs.Words.{kindIn, kindShape, numberIn, packed}
+use Rattle.machine.specs.Layout.{valuePlace}
+use Rattle.machine.specs.Act.{Raw, raw}
+use Rattle.machine.specs.Act as Act
+use Rattle.machine.specs.Shapes.{figureAt, newShape}
+use Rattle.machine.specs.Variables.{setVariable}
+use Rattle.machine.specs.Evaluate.{Setting}
+use Rattle.machine.specs.Effects.{copied, assigning}
 use Rattle.simulation.specs.Meant.{meantValue, meantWord}
 use Rattle.simulation.specs.Sound.{Valid}
 use Rattle.simulation.specs.Follows.{Grants, Related, Follows}
@@ -36,21 +37,56 @@ use Rattle.simulation.proofs.Results.{given, failed, After, AfterValue,
 use Rattle.simulation.proofs.Usable.{figure-found}
 use Rattle.simulation.proofs.Shapes.{AfterShape, makes-shape}
 use Rattle.simulation.proofs.Variables.{undeclared, is-declared}
-use Rattle.simulation.proofs.Keys.{kind-packed, back-again}
+use Rattle.simulation.proofs.Keys.{kind-packed, back-again, shape-small}
+use Rattle.simulation.proofs.Chaining.{regroup}
 use Rattle.simulation.proofs.Flows.{both-onward, Flows}
 use Rattle.simulation.proofs.Declaring.{put-after}
+
+-- a value, or a copy of it if it is a shape
+unfoldable copyOf : List ℕ → ℕ → Value → Act.Act Value
+copyOf g p (Integer z) = Act.give (Integer z)
+copyOf g p (Text t) = Act.give (Text t)
+copyOf g p (Boolean b) = Act.give (Boolean b)
+copyOf g p Nothing = Act.give Nothing
+copyOf g p (Table t) = Act.give (Table t)
+copyOf g p (Shape i) = λ r. newShape g p (figureAt (r .words) i) r
 
 module _ (e : Setting) {ts : List Token} {granted : Amounts} (gr : Grants (e .grants) granted) {r : Raw} {s : State} {total : Amounts}
     (h : Related (e .program) ts (e .grants) r s total) (p : ℕ) where
   copies : (v : Value) → Valid (e .program) (r .words) v
-      → Follows granted total (λ w u r′ s′ total′. AfterShape (e .program) ts (e .grants) r s w u r′ s′ total′) (copied (e .grants) p v r) (Execute.copied p (meantValue (e .program) (r .texts) v) s)
-  unfolding copied Execute.copied meantValue Valid Act.give Run.give Run._>>=_ Run.goOn Run.current
+      → Follows granted total (λ w u r′ s′ total′. AfterShape (e .program) ts (e .grants) r s w u r′ s′ total′) (copyOf (e .grants) p v r) (Execute.copied p (meantValue (e .program) (r .texts) v) s)
+  unfolding copyOf Execute.copied meantValue Valid Act.give Run.give Run._>>=_ Run.goOn Run.current
   copies (Integer z) l = given (record { value = record { after = unmoved h; valid = l; means = refl }; variables = refl })
   copies (Text t) l = given (record { value = record { after = unmoved h; valid = l; means = refl }; variables = refl })
   copies (Boolean b) l = given (record { value = record { after = unmoved h; valid = tt; means = refl }; variables = refl })
   copies Nothing l = given (record { value = record { after = unmoved h; valid = tt; means = refl }; variables = refl })
   copies (Table t) l = given (record { value = record { after = unmoved h; valid = l; means = refl }; variables = refl })
   copies (Shape i) l = makes-shape gr h (figureAt (r .words) i) (figureOf s i) (h .sound .shapes .proper i l) (figure-found h i l) p
+
+  -- the same by the value's word
+  module _ {B : Type 0} (k : ℕ → Act.Act B) where
+    not-copied : (w : ℕ) → (kindIn w ≡ kindShape → ⊥) → Act.goOn (copied (e .grants) p w r) k ≡ k w r
+    unfolding copied if_then_else_ Act.goOn Act.give
+    not-copied w n = rw (ne-eqb _ _ n)
+
+    shape-copied : (w i : ℕ) → kindIn w ≡ kindShape → numberIn w ≡ i
+        → Act.goOn (copied (e .grants) p w r) k ≡ Act.goOn (newShape (e .grants) p (figureAt (r .words) i) r) (λ v. k (packed v))
+    unfolding copied if_then_else_ Act._>>=_ Act.goOn Act.give
+    shape-copied w i a b = rw (a, b) (regroup (newShape (e .grants) p (figureAt (r .words) i) r) (λ v. Act.give (packed v)) k)
+
+    copied-then : (v : Value) → Valid (e .program) (r .words) v → Act.goOn (copied (e .grants) p (packed v) r) k ≡ Act.goOn (copyOf (e .grants) p v r) (λ u. k (packed u))
+    unfolding copyOf packed Valid Act.give Act.goOn
+    copied-then (Integer z) l = not-copied (packed (Integer z)) (λ q. absurd (omega arith))
+    copied-then (Text t) l = not-copied (packed (Text t)) (λ q. absurd (omega arith))
+    copied-then (Boolean true) l = not-copied 11 (λ q. absurd (omega arith))
+    copied-then (Boolean false) l = not-copied 3 (λ q. absurd (omega arith))
+    copied-then Nothing l = not-copied 4 (λ q. absurd (omega arith))
+    copied-then (Table t) l = not-copied (packed (Table t)) (λ q. absurd (omega arith))
+    copied-then (Shape i) l =
+        let a : (6 + 8 * i) / 8 ≡ i = omega arith in
+        let b : i % 2 ^ 32 ≡ i = omega (arith, shape-small (h .sound) i l) in
+        let k : (6 + 8 * i) % 8 ≡ kindShape = omega arith in
+        shape-copied (packed (Shape i)) i k (rw (a, b))
 
 -- no value is packed as 0
 packed-some : {program : List ℕ} {ts : List Token} {g : List ℕ} {r : Raw} {s : State} {total : Amounts} (h : Related program ts g r s total) (v : Value) → packed v ≢ 0
@@ -70,15 +106,15 @@ module _ (e : Setting) {ts : List Token} (few : length ts ≤ 8192) {granted : A
       (put-after few h x o (packed v) there (packed-some h v) (rw back (a .valid))))
 
   pub assigns : (p : ℕ) {r : Raw} {s : State} {total : Amounts} (h : Related (e .program) ts (e .grants) r s total) (v : Value) → Valid (e .program) (r .words) v
-      → Follows granted total (Flows (e .program) ts (e .grants) r) (assigning (e .grants) p (slotOf ts x) v r) (Execute.assigning p x (meantValue (e .program) (r .texts) v) s)
+      → Follows granted total (Flows (e .program) ts (e .grants) r) (assigning (e .grants) p (slotOf ts x) (packed v) r) (Execute.assigning p x (meantValue (e .program) (r .texts) v) s)
   unfolding assigning Execute.assigning setVariable isSome Act._>>=_ Act.goOn Act.load Act.store Act.refuse Act.fail Act.give Run._>>=_ Run.goOn Run.current Run.refuse Run.fail Run.become Run.give
   assigns p {r} {s} {total} h v l = go (eqb (getD (r .words) (valuePlace (slotOf ts x)) 0) 0) refl
     where
       go : (b : Bool) → eqb (getD (r .words) (valuePlace (slotOf ts x)) 0) 0 ≡ b
-          → Follows granted total (Flows (e .program) ts (e .grants) r) (assigning (e .grants) p (slotOf ts x) v r) (Execute.assigning p x (meantValue (e .program) (r .texts) v) s)
+          → Follows granted total (Flows (e .program) ts (e .grants) r) (assigning (e .grants) p (slotOf ts x) (packed v) r) (Execute.assigning p x (meantValue (e .program) (r .texts) v) s)
       go true q = rw (q, undeclared few h x o (eqb-true _ _ q)) (failed 50 p r (steps-told h))
       go false q =
           let d = is-declared few h x o (eqb-false _ _ q) in
-          rw (q, d)
+          rw (q, d, copied-then e gr h p _ v l)
           (bind (copies e gr h p v l) (λ w u r′ s′ total′ c.
           given (record { after = puts (meantWord (e .program) r (getD (r .words) (valuePlace (slotOf ts x)) 0)) (c .value) (rw (c .variables) d); flow = both-onward })))

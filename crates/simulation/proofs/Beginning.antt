@@ -8,10 +8,12 @@ use Rattle.meaning.specs.Basics.{if_then_else_}
 use Rattle.meaning.specs.Token.{Token}
 use Rattle.meaning.specs.Book.{nothingYet}
 use Rattle.meaning.specs.Program.{empty}
-use Rattle.values.specs.Words.{unpacked}
-use Rattle.stores.specs.Layout.{Lent}
-use Rattle.stores.specs.Act.{raw}
+use Rattle.machine.specs.Words.{unpacked}
+use Rattle.machine.specs.Layout.{Lent}
+use Rattle.machine.specs.Act.{raw}
 use Rattle.simulation.specs.Meant.{listed, variablesOf, shapesOf, entriesOf}
+use Rattle.machine.specs.Tables.{headPlace}
+use Rattle.simulation.specs.Index.{last}
 use Rattle.simulation.specs.Sound.{Valid}
 use Rattle.simulation.specs.Follows.{Related}
 
@@ -20,7 +22,7 @@ module _ (program : List ℕ) (ts : List Token) (g texts words : List ℕ) (lent
   none c k l = absurd (omega (arith, zeros c))
 
   pub begins : Related program ts g (raw texts words) empty nothingYet
-  unfolding variablesOf shapesOf entriesOf listed Valid unpacked if_then_else_
+  unfolding variablesOf shapesOf entriesOf listed Valid unpacked last if_then_else_
   begins = record {
     sound = record {
       lent = lent;
@@ -42,7 +44,13 @@ module _ (program : List ℕ) (ts : List Token) (g texts words : List ℕ) (lent
         holds = λ slot. rw (zeros (8 + slot % 8192)) tt;
       };
       shapes = record { proper = λ i l. none 1 i l; first = λ i l. none 1 i l; second = λ i l. none 1 i l };
-      entries = record { packs = λ k l. none 2 k l; keys = λ k l. none 2 k l; holds = λ k l. none 2 k l; apart = λ j k a b x y. none 2 j a };
+      entries = record {
+        packs = λ k l. none 2 k l;
+        keys = λ k l. none 2 k l;
+        holds = λ k l. none 2 k l;
+        apart = λ j k a b x y. none 2 j a;
+        index = record { few = rw (zeros 2) (omega arith); begins = λ b l. rw (zeros (headPlace g b), zeros 2); links = λ k l. none 2 k l };
+      };
     };
     variables = rw (zeros 5);
     shapes = rw (zeros 1);

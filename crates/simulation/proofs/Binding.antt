@@ -5,9 +5,9 @@ use Rattle.meaning.specs.State.{State}
 use Rattle.meaning.specs.Run.{Taking, End, result, error, unfinished, Run, Action}
 use Rattle.meaning.specs.Run as Run
 use Rattle.meaning.specs.Book.{Amounts, allFit, lacking, book}
-use Rattle.meaning.proofs.Booking.{onFit, book-append}
-use Rattle.stores.specs.Act.{Raw, Out, done, stop, Act}
-use Rattle.stores.specs.Act as Act
+use Rattle.meaning.proofs.BookLaws.{onFit, book-append}
+use Rattle.machine.specs.Act.{Raw, Out, done, stop, Act}
+use Rattle.machine.specs.Act as Act
 use Rattle.simulation.specs.Follows.{Together, gives, lacks, fails, Follows}
 
 -- a relation between results, with what the slices, the state and the totals are then

@@ -20,10 +20,10 @@ use Rattle.reader.proofs.Yields.{yielded}
 use Rattle.reader.proofs.Trees.{procedure-understood}
 use Rattle.reader.proofs.Lexing.{lexed-sane}
 use Rattle.reader.proofs.Walk.{Stands}
-use Rattle.stores.specs.Layout.{stepsUsed, argumentsHeld, stepsGranted}
-use Rattle.stores.specs.Act.{Raw}
-use Rattle.evaluator.specs.Evaluate.{Setting}
-use Rattle.executor.specs.Execute.{executeBody}
+use Rattle.machine.specs.Layout.{stepsUsed, argumentsHeld, stepsGranted}
+use Rattle.machine.specs.Act.{Raw}
+use Rattle.machine.specs.Evaluate.{Setting}
+use Rattle.machine.specs.Execute.{bodyOf}
 use Rattle.simulation.specs.Follows.{Grants, Related, Follows}
 use Rattle.simulation.proofs.Flows.{Flows}
 use Rattle.simulation.proofs.Statements.{executes-all}
@@ -63,8 +63,8 @@ module _ (e : Setting) (ts : List Token) (m : Procedure) (short : length (e .pro
     (code : Stands (e .code) 0 (codeOfStatements (m .body) ts)) {granted : Amounts} (gr : Grants (e .grants) granted) where
   pub body-follows : (limit : ℕ) {r : Raw} {s : State} {total : Amounts} → Related (e .program) ts (e .grants) r s total
       → getD (r .words) argumentsHeld 0 ≡ 0 → stepsGranted (e .grants) - getD (r .words) stepsUsed 0 < limit
-      → Follows granted total (Flows (e .program) ts (e .grants) r) (executeBody e (length (codeOfStatements (m .body) ts)) r) (Execute.executeAll (m .body) limit s)
-  unfolding executeBody
+      → Follows granted total (Flows (e .program) ts (e .grants) r) (bodyOf e (length (codeOfStatements (m .body) ts)) r) (Execute.executeAll (m .body) limit s)
+  unfolding bodyOf
   body-follows limit {r} {s} {total} h z lim =
       let sane = lexed-sane (e .program) ts short (read .tokens) (read .few) in
       let u = yielded (procedure-understood ts) (read .tree) in

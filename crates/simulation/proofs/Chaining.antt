@@ -1,17 +1,24 @@
 -- Actions one after the other, in either grouping.
-use Prim.Native.Nat.{ℕ}
+use Prim.Native.Nat.{ℕ, _+_, _*_, _%_, _^_}
+use native.Mathlib.Omega.{arith}
 use mathlib.Core.Path.{_≡_, refl, ap, _∙_}
-use mathlib.Core.Bool.{Bool}
-use Rattle.values.specs.declared.Value.{Value}
-use Rattle.values.specs.declared.Value.the-variants.{Integer, Text, Boolean, Nothing, Table, Shape}
-use Rattle.values.specs.Words.{packed}
-use Rattle.stores.specs.Act.{Out, done, stop, Act, goOn, _>>=_, _>>_, give, fail, count}
-use Rattle.stores.specs.Arguments.{push}
-use Rattle.operators.specs.Operate.{withBoolean}
-use Rattle.evaluator.specs.Evaluate.{Setting, Evaluator, pushed}
-use Rattle.plain.specs.Plain.{valueOf, tested, turning}
+use mathlib.Core.Bool.{Bool, true, false}
+use lib.Dec.{eqb}
+use borrow.Author.Tests.{ne-eqb}
+use Rattle.meaning.specs.Basics.{if_then_else_}
+use Rattle.meaning.specs.Integer.{bits}
+use Rattle.machine.specs.declared.Value.{Value}
+use Rattle.machine.specs.declared.Value.the-variants.{Integer, Text, Boolean, Nothing, Table, Shape}
+use Rattle.machine.specs.Words.{kindIn, kindTruth, packed}
+use Rattle.machine.specs.Act.{Raw, Out, done, stop, Act, goOn, _>>=_, _>>_, give, fail, count}
+use Rattle.machine.specs.Stack.{push}
+use Rattle.machine.specs.Operate.{withBoolean}
+use Rattle.machine.specs.Primaries.{pushWord}
+use Rattle.machine.specs.Evaluate.{Setting, Evaluator, argumentOf}
+use Rattle.machine.specs.Effects.{shownTest, outcomeIn, saying}
+use Rattle.machine.specs.Execute.{valueOf, testOf, turning}
 
-regroup : {A B C : Type 0} (o : Out A) (f : A → Act B) (g : B → Act C) → goOn (goOn o f) g ≡ goOn o (λ a r. goOn (f a r) g)
+pub regroup : {A B C : Type 0} (o : Out A) (f : A → Act B) (g : B → Act C) → goOn (goOn o f) g ≡ goOn o (λ a r. goOn (f a r) g)
 unfolding goOn
 regroup (done a r) f g = refl
 regroup (stop n p r) f g = refl
@@ -25,27 +32,40 @@ push-then : {A : Type 0} (p : ℕ) (v : Value) (k : Act A) → ((push (packed v)
 unfolding _>>=_ goOn give
 push-then p v k = λ i r. regroup (push (packed v) p r) (λ _. give Nothing) (λ _. k) i
 
-pub pushed-then : {A : Type 0} (inner : Evaluator) (y p : ℕ) (k : Act A) → (pushed inner y p >> k) ≡ (inner y p >>= λ v. push (packed v) p >> k)
-unfolding pushed
+pub pushed-then : {A : Type 0} (inner : Evaluator) (y p : ℕ) (k : Act A) → (argumentOf inner y p >> k) ≡ (inner y p >>= λ v. push (packed v) p >> k)
+unfolding argumentOf pushWord
 pushed-then inner y p k =
     regrouped (inner y p) (λ v. push (packed v) p >> give Nothing) (λ _. k) ∙ ap (λ f. inner y p >>= f) (λ i v. push-then p v k i)
 
--- a test, and then more
-asked : {A : Type 0} (p : ℕ) (v : Value) (k : Bool → Act A) → (withBoolean p v (λ b. give b) >>= k) ≡ withBoolean p v k
-unfolding withBoolean _>>=_ goOn give fail
-asked p (Integer z) k = refl
-asked p (Text h) k = refl
-asked p (Boolean b) k = refl
-asked p Nothing k = refl
-asked p (Table t) k = refl
-asked p (Shape i) k = refl
+-- a test by the word of a value, and then more
+no-truth : {A : Type 0} (w p : ℕ) (k : Bool → Act A) → (kindIn w ≡ kindTruth → ⊥) → (r : Raw) → (saying w p >>= k) r ≡ fail 20 p r
+unfolding saying outcomeIn if_then_else_ shownTest _>>=_ goOn fail
+no-truth w p k n r = rw (ne-eqb _ _ n)
 
-pub tested-then : {A : Type 0} (e : Setting) (y p : ℕ) (k : Bool → Act A) → (tested e y p >>= k) ≡ (valueOf e y p >>= λ v. withBoolean p v k)
-unfolding tested
+asked : {A : Type 0} (p : ℕ) (v : Value) (k : Bool → Act A) → (saying (packed v) p >>= k) ≡ withBoolean p v k
+unfolding withBoolean saying outcomeIn packed if_then_else_ shownTest _>>=_ goOn
+asked p (Integer z) k =
+    let n : (1 + 8 * bits z) % 8 ≡ kindTruth → ⊥ = λ e. absurd (omega arith) in
+    λ i r. no-truth (packed (Integer z)) p k n r i
+asked p (Text h) k =
+    let n : (2 + 8 * (h % 2 ^ 40)) % 8 ≡ kindTruth → ⊥ = λ e. absurd (omega arith) in
+    λ i r. no-truth (packed (Text h)) p k n r i
+asked p (Boolean true) k = λ i r. k true r
+asked p (Boolean false) k = λ i r. k false r
+asked p Nothing k = λ i r. no-truth 4 p k (λ e. absurd (omega arith)) r i
+asked p (Table t) k =
+    let n : (5 + 8 * t) % 8 ≡ kindTruth → ⊥ = λ e. absurd (omega arith) in
+    λ i r. no-truth (packed (Table t)) p k n r i
+asked p (Shape t) k =
+    let n : (6 + 8 * t) % 8 ≡ kindTruth → ⊥ = λ e. absurd (omega arith) in
+    λ i r. no-truth (packed (Shape t)) p k n r i
+
+pub tested-then : {A : Type 0} (e : Setting) (y p : ℕ) (k : Bool → Act A) → (testOf e y p >>= k) ≡ (valueOf e y p >>= λ v. withBoolean p v k)
+unfolding testOf
 tested-then e y p k =
-    regrouped (valueOf e y p) (λ v. withBoolean p v λ b. give b) k ∙ ap (λ f. valueOf e y p >>= f) (λ i v. asked p v k i)
+    regrouped (valueOf e y p) (λ v. saying (packed v) p) k ∙ ap (λ f. valueOf e y p >>= f) (λ i v. asked p v k i)
 
 pub turning-then : {A : Type 0} (e : Setting) (y p : ℕ) (k : Bool → Act A)
     → (turning e y p >>= k) ≡ (count (e .grants) p >> (valueOf e y p >>= λ v. withBoolean p v k))
 unfolding turning
-turning-then e y p k = regrouped (count (e .grants) p) (λ _. tested e y p) k ∙ ap (λ f. count (e .grants) p >> f) (tested-then e y p k)
+turning-then e y p k = regrouped (count (e .grants) p) (λ _. testOf e y p) k ∙ ap (λ f. count (e .grants) p >> f) (tested-then e y p k)

@@ -10,18 +10,17 @@ use lib.IntN.{ℤ}
 use Rattle.meaning.specs.Token.{Token}
 use Rattle.meaning.specs.Integer.{isNegative}
 use Rattle.meaning.specs.Value as Value
-use Rattle.meaning.specs.State.{State, withTable}
+use Rattle.meaning.specs.State.{State, withNewTable}
 use Rattle.meaning.specs.Run.{taking, run, result}
 use Rattle.meaning.specs.Run as Run
 use Rattle.meaning.specs.Book.{Amounts, added, resourceNumber, shortageOf}
 use Rattle.meaning.specs.Evaluate as Evaluate
-use Rattle.values.specs.declared.Value.{Value}
-use Rattle.values.specs.declared.Value.the-variants.{Table}
-use Rattle.stores.specs.Layout.{Lent}
-use Rattle.stores.specs.Act.{Raw, raw}
-use Rattle.stores.specs.Act as Act
-use Rattle.stores.specs.Shapes.{figureAt}
-use Rattle.primaries.specs.Primaries.{sized}
+use Rattle.machine.specs.declared.Value.{Value}
+use Rattle.machine.specs.declared.Value.the-variants.{Table}
+use Rattle.machine.specs.Layout.{Lent}
+use Rattle.machine.specs.Act.{Raw, raw}
+use Rattle.machine.specs.Act as Act
+use Rattle.machine.specs.Shapes.{figureAt}
 use Rattle.simulation.specs.Meant.{meantValue}
 use Rattle.simulation.specs.Sound.{Valid, Counted}
 use Rattle.simulation.specs.Follows.{Grants, Related, Later, Follows}
@@ -65,9 +64,10 @@ module _ {program : List ℕ} {ts : List Token} {g : List ℕ} {r : Raw} {s : St
     pub same-entries : i < 24584 → i ≢ 2 → SameEntries l (h .sound .shapes) g
     same-entries e n = record {
       count = other 2 (λ q. n (sym q));
-      owners = λ k a. ap (λ w. w % 2 ^ 40) (other _ (λ q. omega arith));
+      firsts = λ k a. other _ (λ q. omega arith);
       keys = λ k a. other _ (λ q. omega arith);
       values = λ k a. other _ (λ q. omega arith);
+      heads = λ b a. other _ (λ q. omega arith);
     }
 
     pub set-related : {s′ : State} {total′ : Amounts} → ((j : ℕ) → 8 ≤ j → j < 16392 → j ≢ i) → i < 24584 → i ≢ 5 → i ≢ 1 → i ≢ 2
@@ -207,7 +207,7 @@ module _ {program : List ℕ} {ts : List Token} {g : List ℕ} where
       arguments = rw t6 (c .arguments);
     }
 
-    table-after : AfterValue program ts g r₀ (Table (getD (r .words) 4 0)) (Value.table (s .tables)) tabled (withTable s) total
+    table-after : AfterValue program ts g r₀ (Table (getD (r .words) 4 0)) (Value.table (s .tables)) tabled (withNewTable s) total
     unfolding Valid meantValue
     table-after = record {
       after = record {
@@ -224,11 +224,11 @@ module _ {program : List ℕ} {ts : List Token} {g : List ℕ} where
     }
 
     makes : {granted : Amounts}
-        → Follows granted total (Values program ts g r₀) (Act.newTable r) (run [] (result (Value.table (s .tables)) (withTable s)))
+        → Follows granted total (Values program ts g r₀) (Act.newTable r) (run [] (result (Value.table (s .tables)) (withNewTable s)))
     unfolding Act.newTable Act._>>=_ Act.goOn Act.load Act.store Act.give
     makes = rw small (given table-after)
 
   pub makes-table : {granted : Amounts} {r₀ r : Raw} {s : State} {total : Amounts} → AfterStep program ts g r₀ r s total → (p : ℕ) (z : ℤ)
-      → Follows granted total (Values program ts g r₀) (sized p z r) (Evaluate.newTable p z s)
-  unfolding sized Evaluate.newTable Act._>>=_ Run._>>=_ Run.goOn Run.current Run.become Run.give
+      → Follows granted total (Values program ts g r₀) (Act._>>_ (Act.refuse (isNegative z) 40 p) Act.newTable r) (Evaluate.newTable p z s)
+  unfolding Evaluate.newTable Act._>>=_ Run._>>=_ Run.goOn Run.current Run.become Run.give
   makes-table a p z = bind (refused (a .after .related) (isNegative z) (isNegative z) refl 40 p) (λ _ _ r′ s′ total′ b. makes (stepped-on a b))

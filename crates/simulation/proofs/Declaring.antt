@@ -19,14 +19,14 @@ use Rattle.meaning.specs.Book.{Amounts}
 use Rattle.meaning.specs.Execute.{onward, declaring}
 use Rattle.code.specs.Code.{slotOf}
 use Rattle.reader.proofs.Homes.{Occurs, occurs-found, text-same}
-use Rattle.values.specs.declared.Value.{Value}
-use Rattle.values.specs.Words.{packed, unpacked}
-use Rattle.stores.specs.Layout.{declared, valuePlace, orderPlace}
-use Rattle.stores.specs.Act.{Raw, raw}
-use Rattle.stores.specs.Act as Act
-use Rattle.stores.specs.Variables.{declare}
-use Rattle.stores.specs.Variables as Stored
-use Rattle.plain.specs.declared.Flow.the-variants.{Onward}
+use Rattle.machine.specs.declared.Value.{Value}
+use Rattle.machine.specs.Words.{packed, unpacked}
+use Rattle.machine.specs.Layout.{declared, valuePlace, orderPlace}
+use Rattle.machine.specs.Act.{Raw, raw}
+use Rattle.machine.specs.Act as Act
+use Rattle.machine.specs.Variables.{declare}
+use Rattle.machine.specs.Variables as Stored
+use Rattle.machine.specs.declared.Flow.the-variants.{Onward}
 use Rattle.simulation.specs.Meant.{meantValue, meantWord, listed, slotAt, variableAt, variablesOf}
 use Rattle.simulation.specs.Sound.{Valid, declaredAmong, Variables}
 use Rattle.simulation.specs.Follows.{Related, Later, Follows}
@@ -102,9 +102,10 @@ module _ {program : List ℕ} {ts : List Token} {g : List ℕ} {r : Raw} {s : St
   changed-entries : SameEntries changed-later (h .sound .shapes) g
   changed-entries = record {
     count = low 2 (omega arith);
-    owners = λ k a. ap (λ w. w % 2 ^ 40) (high _ (omega arith));
+    firsts = λ k a. high _ (omega arith);
     keys = λ k a. high _ (omega arith);
     values = λ k a. high _ (omega arith);
+    heads = λ b a. high _ (omega arith);
   }
 
   pub changed : (vs : List Variable) → length ws′ ≡ length (r .words) → Variables program ts ws′ → vs ≡ variablesOf program ts (raw (r .texts) ws′)

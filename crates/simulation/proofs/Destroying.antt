@@ -11,17 +11,17 @@ use lib.Seq.{getD-set-same}
 use lib.Dec.{eqb}
 use borrow.Author.Tests.{eqb-true, eqb-false}
 use Rattle.meaning.specs.Token.{Token}
-use Rattle.meaning.specs.State.{State, noShape, withShapes, destroyed, destroyedIn, cleared}
+use Rattle.meaning.specs.State.{State, noShape, withShapes, destroyedIn, cleared}
 use Rattle.meaning.specs.State as State
 use Rattle.meaning.specs.Book.{Amounts}
-use Rattle.values.specs.declared.Value.{Value}
-use Rattle.values.specs.declared.Value.the-variants.{Integer, Text, Boolean, Nothing, Table, Shape}
-use Rattle.values.specs.Words.{unpacked}
-use Rattle.stores.specs.Layout.{declared, shapePlace, valuePlace}
-use Rattle.stores.specs.Act.{Raw, raw, done}
-use Rattle.stores.specs.Act as Act
-use Rattle.stores.specs.Shapes.{figureAt, destroyedWord, destroy}
-use Rattle.stores.specs.Variables.{destroyIn, clearFrom, clearScene}
+use Rattle.machine.specs.declared.Value.{Value}
+use Rattle.machine.specs.declared.Value.the-variants.{Integer, Text, Boolean, Nothing, Table, Shape}
+use Rattle.machine.specs.Words.{unpacked}
+use Rattle.machine.specs.Layout.{declared, shapePlace, valuePlace}
+use Rattle.machine.specs.Act.{Raw, raw, done}
+use Rattle.machine.specs.Act as Act
+use Rattle.machine.specs.Shapes.{figureAt, destroyedWord, destroy}
+use Rattle.machine.specs.Variables.{destroyIn, clearFrom, clearScene}
 use Rattle.simulation.specs.Meant.{meantValue, listed, slotAt, variableAt, variablesOf, shapeAt, shapesOf}
 use Rattle.simulation.specs.Sound.{Valid, Shapes}
 use Rattle.simulation.specs.Follows.{Related, Later}
@@ -84,9 +84,10 @@ module _ {program : List ℕ} {ts : List Token} {g : List ℕ} where
     gone-entries : SameEntries gone-later (h .sound .shapes) g
     gone-entries = record {
       count = low-was 2 (omega arith);
-      owners = λ k a. ap (λ w. w % 2 ^ 40) (as-was _ (λ e. omega (arith, h .sound .counted .shapes)));
+      firsts = λ k a. as-was _ (λ e. omega (arith, h .sound .counted .shapes));
       keys = λ k a. as-was _ (λ e. omega (arith, h .sound .counted .shapes));
       values = λ k a. as-was _ (λ e. omega (arith, h .sound .counted .shapes));
+      heads = λ b a. as-was _ (λ e. omega (arith, h .sound .counted .shapes));
     }
 
     gone-shapes : Shapes program (gone .words)
@@ -106,13 +107,13 @@ module _ {program : List ℕ} {ts : List Token} {g : List ℕ} where
     unfolding shapeAt
     shapes-are k n = rw (figures-are k, as-was (shapePlace k) (λ e. n (omega arith)))
 
-    gone-list : shapesOf program gone ≡ destroyed (shapesOf program r) i
-    unfolding destroyed shapesOf
+    gone-list : shapesOf program gone ≡ State.destroy (shapesOf program r) i
+    unfolding State.destroy shapesOf
     gone-list =
         ap (listed (shapeAt program gone) 0) (low-was 1 (omega arith))
         ∙ sym (set-listed (shapeAt program r) (shapeAt program gone) 0 (getD (r .words) 1 0) i _ l own-shape shapes-are)
 
-    pub destroys : After program ts g r gone (withShapes s (destroyed (s .shapes) i)) total
+    pub destroys : After program ts g r gone (withShapes s (State.destroy (s .shapes) i)) total
     destroys = let c = h .sound .counted in record {
       related = record {
         sound = record {
@@ -130,7 +131,7 @@ module _ {program : List ℕ} {ts : List Token} {g : List ℕ} where
           entries = entries-kept gone-later (h .sound .shapes) g gone-entries (h .sound .entries);
         };
         variables = h .variables ∙ sym (variables-same gone-later gone-variables ts (h .sound .variables));
-        shapes = ap (λ (l : List State.Shape). destroyed l i) (h .shapes) ∙ sym gone-list;
+        shapes = ap (λ (l : List State.Shape). State.destroy l i) (h .shapes) ∙ sym gone-list;
         tables = h .tables ∙ sym (low-was 4 (omega arith));
         entries = h .entries ∙ sym (entries-same gone-later (h .sound .shapes) g gone-entries (h .sound .entries));
         stepsTaken = h .stepsTaken ∙ sym (low-was 0 (omega arith));

@@ -1,31 +1,30 @@
 -- Values and figures are compared as the meaning compares them.
-use Prim.Native.Nat.{ℕ, _+_, _<_}
+use Prim.Native.Nat.{ℕ, _<_}
 use native.Mathlib.Omega.{arith}
 use mathlib.Core.Path.{_≡_, refl, ap, sym, _∙_}
 use mathlib.Core.Logic.{_≢_}
-use mathlib.Core.Bool.{Bool, true, false, not, cond, _&&_}
+use mathlib.Core.Bool.{Bool, true, false, _&&_}
 use mathlib.Core.List.{List}
 use mathlib.Core.Option.{some}
 use lib.Dec.{eqb}
 use lib.IntN.{ℤ, pos}
-use borrow.Author.Tests.{eqb-true, eqb-false, ne-eqb}
-use Rattle.meaning.specs.Basics.{if_then_else_, sameText}
+use borrow.Author.Tests.{eqb-true}
+use Rattle.meaning.specs.Basics.{sameText}
 use Rattle.meaning.specs.Token.{Token}
 use Rattle.meaning.specs.Integer.{sameInteger, sameIntegers}
 use Rattle.meaning.specs.Figure.{text, figureKind, numbersOf}
 use Rattle.meaning.specs.Figure as Meaning
-use Rattle.meaning.specs.Value.{kindOf}
-use Rattle.meaning.specs.State.{State, figureKey, keyOf, sameKey}
+use Rattle.meaning.specs.State.{State}
 use Rattle.meaning.specs.Book.{Amounts}
 use Rattle.meaning.specs.Operator as Operator
 use Rattle.meaning.proofs.KeyLaws.{sameText-same, sameInteger-same}
-use Rattle.values.specs.declared.Value.{Value}
-use Rattle.values.specs.declared.Value.the-variants.{Integer, Text, Boolean, Nothing, Table, Shape}
-use Rattle.stores.specs.Act.{Raw}
-use Rattle.stores.specs.Texts.{textOf}
-use Rattle.stores.specs.declared.Figure.{Figure}
-use Rattle.stores.specs.Shapes.{figureAt}
-use Rattle.operators.specs.Operate.{sameFigure, equality}
+use Rattle.machine.specs.declared.Value.{Value}
+use Rattle.machine.specs.declared.Value.the-variants.{Integer, Text, Boolean, Nothing, Table, Shape}
+use Rattle.machine.specs.Act.{Raw}
+use Rattle.machine.specs.Texts.{textOf}
+use Rattle.machine.specs.declared.Figure.{Figure}
+use Rattle.machine.specs.Shapes.{figureAt}
+use Rattle.machine.specs.Operate.{sameFigure, equality}
 use Rattle.simulation.specs.Meant.{meantValue, meantFigure}
 use Rattle.simulation.specs.Sound.{Valid, Proper}
 use Rattle.simulation.specs.Follows.{Related}
@@ -66,18 +65,16 @@ module _ (program texts : List ℕ) where
       (λ e. rw (as-box program texts f e, e)) (λ e. rw (as-text program texts f e, e))
 
   pub figures-compared : {used : ℕ} (f h : Figure) → Proper program used f → Proper program used h
-      → sameFigure program texts f h ≡ sameKey (figureKey (meantFigure program texts f)) (figureKey (meantFigure program texts h))
-  unfolding sameFigure sameKey figureKind numbersOf Meaning.textOf sameIntegers sameText
+      → sameFigure program texts f h ≡ Meaning.sameFigure (meantFigure program texts f) (meantFigure program texts h)
+  unfolding sameFigure Meaning.sameFigure figureKind numbersOf Meaning.textOf sameIntegers sameText
   figures-compared f h v w = go (eqb (f .kind) (h .kind)) refl
     where
       plainly : f .kind ≢ 3 → h .kind ≢ 3 → textOf program texts (f .text) ≡ textOf program texts (h .text)
       plainly m n = ap (textOf program texts) (v .plain m ∙ sym (w .plain n))
 
       go : (b : Bool) → eqb (f .kind) (h .kind) ≡ b
-          → sameFigure program texts f h ≡ sameKey (figureKey (meantFigure program texts f)) (figureKey (meantFigure program texts h))
-      go false e =
-          let n : 5 + f .kind ≢ 5 + h .kind = λ q. eqb-false (f .kind) (h .kind) e (omega arith) in
-          rw (e, kind-meant f (v .kind), kind-meant h (w .kind), ne-eqb (5 + f .kind) (5 + h .kind) n)
+          → sameFigure program texts f h ≡ Meaning.sameFigure (meantFigure program texts f) (meantFigure program texts h)
+      go false e = rw (e, kind-meant f (v .kind), kind-meant h (w .kind), e)
       go true q =
           let e = eqb-true _ _ q in
           kinds (f .kind) (v .kind)
@@ -92,21 +89,11 @@ module _ (program texts : List ℕ) where
           (two (sameInteger (f .a) (h .a)) (sameInteger (f .b) (h .b)) (pos 0) (pos 0) (sameText (textOf program texts (f .text)) (textOf program texts (h .text))) refl))
 
 -- ---- values
-whole : (a b : ℤ) → sameInteger a b ≡ ((sameInteger a b && true) && true)
-whole a b = sym (and-true (sameInteger a b && true) ∙ and-true (sameInteger a b))
-
-truths : (a b : Bool) → cond a b (not b) ≡ ((sameInteger (pos (cond a 1 0)) (pos (cond b 1 0)) && true) && true)
-unfolding sameInteger
-truths true true = refl
-truths true false = refl
-truths false true = refl
-truths false false = refl
-
 module _ {program : List ℕ} {ts : List Token} {g : List ℕ} {r : Raw} {s : State} {total : Amounts} (h : Related program ts g r s total) where
   pub equal-alike : (v w : Value) → Valid program (r .words) v → Valid program (r .words) w
       → equality program r v w ≡ Operator.equality s (meantValue program (r .texts) v) (meantValue program (r .texts) w)
-  unfolding equality Operator.equality meantValue Valid kindOf keyOf sameKey sameIntegers sameText if_then_else_
-  equal-alike (Integer a) (Integer b) p q = ap some (whole a b)
+  unfolding equality Operator.equality meantValue Valid
+  equal-alike (Integer a) (Integer b) p q = refl
   equal-alike (Integer a) (Text b) p q = refl
   equal-alike (Integer a) (Boolean b) p q = refl
   equal-alike (Integer a) Nothing p q = refl
@@ -120,7 +107,7 @@ module _ {program : List ℕ} {ts : List Token} {g : List ℕ} {r : Raw} {s : St
   equal-alike (Text a) (Shape b) p q = refl
   equal-alike (Boolean a) (Integer b) p q = refl
   equal-alike (Boolean a) (Text b) p q = refl
-  equal-alike (Boolean a) (Boolean b) p q = ap some (truths a b)
+  equal-alike (Boolean a) (Boolean b) p q = refl
   equal-alike (Boolean a) Nothing p q = refl
   equal-alike (Boolean a) (Table b) p q = refl
   equal-alike (Boolean a) (Shape b) p q = refl

@@ -3,7 +3,7 @@ use Prim.Native.Nat.{ℕ, suc, _+_, _-_, _*_, _^_, _≤_, _<_}
 use native.Mathlib.Omega.{arith}
 use native.Mathlib.Nat.{le-refl}
 use mathlib.Core.Path.{_≡_, refl, ap, sym, _∙_, subst}
-use mathlib.Core.Bool.{Bool, true, false}
+use mathlib.Core.Bool.{Bool, true, false, not}
 use mathlib.Core.List.{List, [], _∷_}
 use lib.ListN.{getD, length, length-append}
 use lib.IntN.{ℤ}
@@ -11,7 +11,7 @@ use lib.Signed.{mag}
 use lib.Dec.{eqb}
 use mir.Syntax.{w32}
 use mir.Val.{toZ}
-use borrow.Author.Tests.{ne-eqb, lt-ltb, le-ltb}
+use borrow.Author.Tests.{eqb-true, eqb-false, ne-eqb, lt-ltb, le-ltb}
 use Rattle.meaning.specs.Basics.{if_then_else_}
 use Rattle.meaning.specs.Token.{Token, aString}
 use Rattle.meaning.specs.Integer.{bits, wrap}
@@ -25,24 +25,28 @@ use Rattle.meaning.specs.Library.{libraryOf}
 use Rattle.meaning.specs.Library as Library
 use Rattle.meaning.specs.Evaluate.{evaluate, evaluateAll}
 use Rattle.names.specs.Prepared.{libraryNumber}
-use Rattle.code.specs.Code.{word, sizeIn, tagOf, tagNumber, tagString, tagNone, tagTruth, tagName, tagTable, tagEntry, tagCall, tagArgument, slotOf, partOf, truthNumber, codeOf, codeOfAll}
+use Rattle.machine.specs.Opcodes.{word, sizeIn, argumentRoot, firstOperator, tagOf, tagNumber, tagString, tagNone, tagTruth, tagName, tagTable, tagEntry, tagCall, tagArgument}
+use Rattle.code.specs.Code.{slotOf, partOf, truthNumber, codeOf, codeOfAll}
 use Rattle.reader.proofs.Homes.{Occurs}
 use Rattle.reader.proofs.Fields.{Told, word-told, tag-small, code-some}
 use Rattle.reader.proofs.Known.{Known, KnownAll}
 use Rattle.reader.proofs.Walk.{Stands, Ends, Joint, Argument, ends-word, ends-front, ends-start, ends-joined, stands-argument}
-use Rattle.values.specs.declared.Value.{Value}
-use Rattle.values.specs.declared.Value.the-variants.{Integer, Text, Boolean, Nothing}
-use Rattle.values.specs.Words.{packed}
-use Rattle.stores.specs.Act.{Raw, Act}
-use Rattle.stores.specs.Act as Act
-use Rattle.stores.specs.Texts.{textOf}
-use Rattle.stores.specs.Variables.{variable}
-use Rattle.stores.specs.Arguments.{argumentAt, push, dropTo}
-use Rattle.stores.specs.Tables.{readEntry}
-use Rattle.operators.specs.Operate.{withInteger, withTable, operate}
-use Rattle.library.specs.Library.{callLibrary}
-use Rattle.evaluator.specs.Evaluate.{Setting, through, Evaluator, pushAll, calling, tableOf, entryOf, entryAt, operationOf, operationAt, evaluateBy, evaluateAt}
-use Rattle.primaries.specs.Primaries.{sized, called}
+use Rattle.machine.specs.declared.Value.{Value}
+use Rattle.machine.specs.declared.Value.the-variants.{Integer, Text, Boolean, Nothing}
+use Rattle.machine.specs.Words.{kindIn, kindTable, packed, unpacked}
+use Rattle.machine.specs.Words as Words
+use Rattle.values.proofs.Laws.{by-kind, unpacked-table}
+use Rattle.machine.specs.Layout.{argumentsHeld, stepsUsed, tablesMade}
+use Rattle.machine.specs.Act.{Raw, Act}
+use Rattle.machine.specs.Act as Act
+use Rattle.machine.specs.Texts.{textOf}
+use Rattle.machine.specs.Variables.{variable}
+use Rattle.machine.specs.Stack.{argumentAt, push, dropTo}
+use Rattle.machine.specs.Tables.{readEntry}
+use Rattle.machine.specs.Operate.{withInteger, withTable, operate}
+use Rattle.machine.specs.Library.{callLibrary}
+use Rattle.machine.specs.Primaries.{leaf, sized, lacksTable, applied, called}
+use Rattle.machine.specs.Evaluate.{Setting, Evaluator, argumentAfter, argumentsFrom, callAt, secondOf, firstOf, operandsAt, expressionBy, expressionAt}
 use Rattle.simulation.specs.Meant.{meantValue}
 use Rattle.simulation.specs.Sound.{Held, Valid}
 use Rattle.simulation.specs.Follows.{Grants, Related, Follows}
@@ -64,48 +68,62 @@ use Rattle.simulation.proofs.Stacking.{AfterArguments, no-more, one-mor
 pub told : {w tag size n : ℕ} → w ≡ word tag size n → tag < 256 → size < 16777216 → Told w tag size n
 told {w} {tag} {size} {n} e a b = subst (λ v. Told v tag size n) (sym e) (word-told tag size n a b)
 
+-- the first part of a table read, by its word
+entered : {A : Type 0} (p a : ℕ) (k : ℕ → Act A) → Act._>>_ (Act.refuse (not (eqb (kindIn a) kindTable)) 20 p) (k (Words.numberIn a)) ≡ withTable p (unpacked a) k
+unfolding Act._>>=_ Act.goOn Act.refuse Act.fail Act.give withTable
+entered p a k = go (eqb (kindIn a) kindTable) refl
+  where
+    go : (b : Bool) → eqb (kindIn a) kindTable ≡ b → Act._>>_ (Act.refuse (not (eqb (kindIn a) kindTable)) 20 p) (k (Words.numberIn a)) ≡ withTable p (unpacked a) k
+    go true q = rw (q, unpacked-table a (eqb-true _ _ q))
+    go false q =
+        rw q (by-kind a (λ v. Act.fail 20 p ≡ withTable p v k) (λ _. refl) (λ _. refl) (λ _. refl) refl (λ h. absurd (eqb-false _ _ q h)) (λ _. refl))
+
 module _ (inner : Evaluator) (e : Setting) (w x p size n : ℕ) where
-  by-number : Told w tagNumber size n → evaluateBy inner e w x p ≡ Act.give (Integer (toZ w32 n))
-  unfolding evaluateBy if_then_else_
+  by-number : Told w tagNumber size n → expressionBy inner e w x p ≡ Act.give (Integer (toZ w32 n))
+  unfolding expressionBy leaf if_then_else_
   by-number t = rw (t .tag-is, t .number-is)
 
-  by-string : Told w tagString size n → evaluateBy inner e w x p ≡ Act.give (Text (2 * n))
-  unfolding evaluateBy if_then_else_
+  by-string : Told w tagString size n → expressionBy inner e w x p ≡ Act.give (Text (2 * n))
+  unfolding expressionBy leaf if_then_else_
   by-string t = rw (t .tag-is, t .number-is)
 
-  by-none : Told w tagNone size n → evaluateBy inner e w x p ≡ Act.give Nothing
-  unfolding evaluateBy if_then_else_
+  by-none : Told w tagNone size n → expressionBy inner e w x p ≡ Act.give Nothing
+  unfolding expressionBy leaf if_then_else_
   by-none t = rw (t .tag-is)
 
-  by-truth : Told w tagTruth size n → evaluateBy inner e w x p ≡ Act.give (Boolean (eqb n 1))
-  unfolding evaluateBy if_then_else_
+  by-truth : Told w tagTruth size n → expressionBy inner e w x p ≡ Act.give (Boolean (eqb n 1))
+  unfolding expressionBy leaf if_then_else_
   by-truth t = rw (t .tag-is, t .number-is)
 
-  by-name : Told w tagName size n → evaluateBy inner e w x p ≡ variable p n
-  unfolding evaluateBy if_then_else_
+  by-name : Told w tagName size n → expressionBy inner e w x p ≡ variable p n
+  unfolding expressionBy leaf if_then_else_
   by-name t = rw (t .tag-is, t .number-is)
 
-  by-table : Told w tagTable size n → evaluateBy inner e w x p ≡ Act._>>=_ (inner (x - 1) p) (λ v. withInteger p v (sized p))
-  unfolding evaluateBy if_then_else_ tableOf
-  by-table t = rw (t .tag-is)
+  by-table : Told w tagTable size 0 → expressionBy inner e w x p ≡ Act._>>=_ (inner (x - 1) p) (λ v. sized p (packed v))
+  unfolding expressionBy operandsAt firstOf if_then_else_
+  by-table t =
+      let z : x - 1 - 0 ≡ x - 1 = omega arith in
+      rw (t .tag-is, t .number-is, z)
 
-  by-entry : Told w tagEntry size n → evaluateBy inner e w x p
-      ≡ Act._>>=_ (inner (x - 1 - n) p) (λ v. withTable p v λ t. Act._>>=_ (inner (x - 1) p) (λ k. readEntry (e .program) (e .grants) p t (packed k)))
-  unfolding evaluateBy if_then_else_ entryAt entryOf
-  by-entry t = rw (t .tag-is, t .number-is)
+  by-entry : Told w tagEntry size n → expressionBy inner e w x p
+      ≡ Act._>>=_ (inner (x - 1 - n) p) (λ v. withTable p (unpacked (packed v)) λ t. Act._>>=_ (inner (x - 1) p) (λ k. readEntry (e .program) (e .grants) p t (packed k)))
+  unfolding expressionBy operandsAt firstOf secondOf applied if_then_else_
+  by-entry t =
+      rw (t .tag-is, t .number-is)
+      (ap (λ f. Act._>>=_ (inner (x - 1 - n) p) f) (λ i v. entered p (packed v) (λ u. Act._>>=_ (inner (x - 1) p) (λ k. readEntry (e .program) (e .grants) p u (packed k))) i))
 
-  by-call : Told w tagCall size n → evaluateBy inner e w x p ≡ calling inner e w x p
-  unfolding evaluateBy if_then_else_
+  by-call : Told w tagCall size n → expressionBy inner e w x p ≡ callAt inner e w x p
+  unfolding expressionBy if_then_else_
   by-call t = rw (t .tag-is)
 
-  by-operator : (tag : ℕ) → 16 ≤ tag → Told w tag size n → evaluateBy inner e w x p
-      ≡ Act._>>=_ (inner (x - 1 - n) p) (λ v. Act._>>=_ (inner (x - 1) p) (λ u. operate (e .program) (e .grants) tag p (through v) (through u)))
-  unfolding evaluateBy if_then_else_ operationAt operationOf
+  by-operator : (tag : ℕ) → firstOperator ≤ tag → Told w tag size n → expressionBy inner e w x p
+      ≡ Act._>>=_ (inner (x - 1 - n) p) (λ v. Act._>>=_ (inner (x - 1) p) (λ u. operate (e .program) (e .grants) tag p (unpacked (packed v)) (unpacked (packed u))))
+  unfolding expressionBy operandsAt firstOf secondOf applied if_then_else_ Act._>>=_ Act.goOn Act.refuse Act.give
   by-operator tag l t =
-      rw (t .tag-is, t .number-is, ne-eqb tag 1 (λ q. omega arith), ne-eqb tag 2 (λ q. omega arith), ne-eqb tag 3 (λ q. omega arith), ne-eqb tag 4 (λ q. omega arith))
-      (rw (ne-eqb tag 5 (λ q. omega arith), ne-eqb tag 6 (λ q. omega arith), ne-eqb tag 7 (λ q. omega arith), ne-eqb tag 8 (λ q. omega arith)))
+      rw (t .tag-is, t .number-is, le-ltb tag tagTable (omega arith), ne-eqb tag tagCall (λ q. omega arith))
+      (rw (ne-eqb tag tagTable (λ q. omega arith), le-ltb tag firstOperator l, ne-eqb tag tagEntry (λ q. omega arith)))
 
-operator-tag : (o : Operator) → 16 ≤ tagOf o
+operator-tag : (o : Operator) → firstOperator ≤ tagOf o
 unfolding tagOf
 operator-tag concatenate = omega arith
 operator-tag add = omega arith
@@ -131,14 +149,19 @@ pub record Strings (program : List ℕ) (ts : List Token) : Type 0 where
 
 -- ---- arguments in code
 module _ (inner : Evaluator) (e : Setting) (rounds a x p len : ℕ) where
-  by-argument : Told (getD (e .code) a 0) tagArgument len 0 → a + len < x
-      → pushAll (suc rounds) inner e a x p ≡ Act._>>=_ (inner (a + len) p) (λ v. Act._>>_ (push (packed v) p) (pushAll rounds inner e (a + len + 1) x p))
-  unfolding pushAll if_then_else_
-  by-argument t l = rw (t .size-is, lt-ltb (a + len) x l) (pushed-then inner (a + len) p (pushAll rounds inner e (a + len + 1) x p))
+  root-is : Told (getD (e .code) a 0) tagArgument len 0 → a + len < x → argumentAfter e a x ≡ a + len
+  unfolding argumentRoot if_then_else_
+  root-is t l = rw (t .size-is, lt-ltb (a + len) x l)
 
-  by-no-argument : x ≤ a → pushAll (suc rounds) inner e a x p ≡ Act.give Nothing
-  unfolding pushAll if_then_else_
-  by-no-argument l = rw (le-ltb (a + sizeIn (getD (e .code) a 0)) x (omega arith))
+  by-argument : Told (getD (e .code) a 0) tagArgument len 0 → a + len < x
+      → argumentsFrom (suc rounds) inner e (argumentAfter e a x) x p
+      ≡ Act._>>=_ (inner (a + len) p) (λ v. Act._>>_ (push (packed v) p) (argumentsFrom rounds inner e (argumentAfter e (a + len + 1) x) x p))
+  unfolding argumentsFrom if_then_else_
+  by-argument t l = rw (root-is t l, lt-ltb (a + len) x l) (pushed-then inner (a + len) p (argumentsFrom rounds inner e (argumentAfter e (a + len + 1) x) x p))
+
+  by-no-argument : x ≤ a → argumentsFrom (suc rounds) inner e (argumentAfter e a x) x p ≡ Act.give Nothing
+  unfolding argumentsFrom argumentRoot if_then_else_
+  by-no-argument l = rw (le-ltb (a + sizeIn (getD (e .code) a 0)) x (omega arith), le-ltb x x (le-refl x))
 
 module _ (e : Setting) {ts : List Token} (few : length ts ≤ 8192) (strings : Strings (e .program) ts) {granted : Amounts} (gr : Grants (e .grants) granted) where
   abbrev Here : Raw → State → Amounts → Type 0
@@ -146,23 +169,23 @@ module _ (e : Setting) {ts : List Token} (few : length ts ≤ 8192) (strings : S
 
   -- what evaluating the code whose root stands at a place comes to
   abbrev Evaluates : Expression → ℕ → ℕ → ℕ → Type 0
-  Evaluates x depth at p = (r : Raw) (s : State) (total : Amounts) → Here r s total → getD (r .words) 6 0 + length (codeOf x ts) ≤ 8192
-      → Follows granted total (Values (e .program) ts (e .grants) r) (evaluateAt depth e at p r) (evaluate x p s)
+  Evaluates x depth at p = (r : Raw) (s : State) (total : Amounts) → Here r s total → getD (r .words) argumentsHeld 0 + length (codeOf x ts) ≤ 8192
+      → Follows granted total (Values (e .program) ts (e .grants) r) (expressionAt depth e at p r) (evaluate x p s)
 
   -- ---- each kind of expression, its parts evaluated so
   module _ (depth at p : ℕ) {r : Raw} {s : State} {total : Amounts} (h : Here r s total) where
     -- a step, and then the root
     begun : {m : Run.Action Value.Value}
         → ((r₁ : Raw) (s₁ : State) (total₁ : Amounts) → AfterStep (e .program) ts (e .grants) r r₁ s₁ total₁
-        → Follows granted total₁ (Values (e .program) ts (e .grants) r) (evaluateBy (evaluateAt depth e) e (getD (e .code) at 0) at p r₁) (m s₁))
-        → Follows granted total (Values (e .program) ts (e .grants) r) (evaluateAt (suc depth) e at p r) (Run._>>_ (Run.count p) m s)
-    unfolding evaluateAt Act._>>=_ Run._>>=_
+        → Follows granted total₁ (Values (e .program) ts (e .grants) r) (expressionBy (expressionAt depth e) e (getD (e .code) at 0) at p r₁) (m s₁))
+        → Follows granted total (Values (e .program) ts (e .grants) r) (expressionAt (suc depth) e at p r) (Run._>>_ (Run.count p) m s)
+    unfolding expressionAt Act._>>=_ Run._>>=_
     begun f = bind (counts gr h p) (λ _ _ r₁ s₁ total₁ a. f r₁ s₁ total₁ a)
 
     at-once : (o : Act Value) (v : Value) (u : Value.Value) → o ≡ Act.give v
-        → evaluateBy (evaluateAt depth e) e (getD (e .code) at 0) at p ≡ o
+        → expressionBy (expressionAt depth e) e (getD (e .code) at 0) at p ≡ o
         → ((r₁ : Raw) → Valid (e .program) (r₁ .words) v) → ((r₁ : Raw) → u ≡ meantValue (e .program) (r₁ .texts) v)
-        → Follows granted total (Values (e .program) ts (e .grants) r) (evaluateAt (suc depth) e at p r) (Run._>>_ (Run.count p) (Run.give u) s)
+        → Follows granted total (Values (e .program) ts (e .grants) r) (expressionAt (suc depth) e at p r) (Run._>>_ (Run.count p) (Run.give u) s)
     unfolding Act.give Run.give
     at-once o v u g q x y = begun (λ r₁ s₁ total₁ a. rw (q, g) (given (record { after = a .after; valid = x r₁; means = y r₁ })))
 
@@ -195,18 +218,18 @@ module _ (e : Setting) {ts : List Token} (few : length ts ≤ 8192) (strings : S
   unfolding codeOf evaluate Known
   name-follows x k depth at p en r s total h l =
       begun depth at p h (λ r₁ s₁ total₁ a.
-      rw (by-name (evaluateAt depth e) e (getD (e .code) at 0) at p 1 (slotOf ts x) (told (ends-word [] _ en) (omega arith) (omega arith)))
+      rw (by-name (expressionAt depth e) e (getD (e .code) at 0) at p 1 (slotOf ts x) (told (ends-word [] _ en) (omega arith) (omega arith)))
       (from-here (a .after) (reads-variable few (a .after .related) x k p)))
 
   table-follows : (x : Expression) (depth at p : ℕ) → Ends (e .code) at (codeOf (table x) ts) → Evaluates x depth (at - 1) p → Evaluates (table x) (suc depth) at p
-  unfolding codeOf evaluate Act._>>=_ Run._>>=_
+  unfolding codeOf evaluate sized Act._>>=_ Run._>>=_
   table-follows x depth at p en inner r s total h l =
       let long = simp length-append at l in
       begun depth at p h (λ r₁ s₁ total₁ a.
-      rw (by-table (evaluateAt depth e) e (getD (e .code) at 0) at p (length (codeOf x ts) + 1) 0
+      rw (by-table (expressionAt depth e) e (getD (e .code) at 0) at p (length (codeOf x ts) + 1) 0
       (told (ends-word (codeOf x ts) _ en) (omega arith) (omega arith)))
       (bind (inner r₁ s₁ total₁ (a .after .related) (omega (arith, a .after .held))) (λ v u r₂ s₂ total₂ b.
-      rw (b .means) (with-integer (b .after .related) p v (b .valid) _ _ (λ z w. makes-table (stepped-on a (b .after)) p z)))))
+      rw (back-again (b .after .related .sound) v (b .valid), b .means) (with-integer (b .after .related) p v (b .valid) _ _ (λ z w. makes-table (stepped-on a (b .after)) p z)))))
 
   entry-follows : (x y : Expression) (depth at p : ℕ) → Joint (e .code) at tagEntry (codeOf x ts) (codeOf y ts)
       → Evaluates x depth (at - 1 - length (codeOf y ts)) p → Evaluates y depth (at - 1) p → Evaluates (entry x y) (suc depth) at p
@@ -214,9 +237,9 @@ module _ (e : Setting) {ts : List Token} (few : length ts ≤ 8192) (strings : S
   entry-follows x y depth at p joint left right r s total h l =
       let long = simp length-append at l in
       begun depth at p h (λ r₁ s₁ total₁ a.
-      rw (by-entry (evaluateAt depth e) e (getD (e .code) at 0) at p _ (length (codeOf y ts)) (told (joint .root) (omega arith) (omega arith)))
+      rw (by-entry (expressionAt depth e) e (getD (e .code) at 0) at p _ (length (codeOf y ts)) (told (joint .root) (omega arith) (omega arith)))
       (bind (left r₁ s₁ total₁ (a .after .related) (omega (arith, a .after .held))) (λ v u r₂ s₂ total₂ b.
-      rw (b .means) (with-table (b .after .related) p v (b .valid) _ _ (λ t w.
+      rw (back-again (b .after .related .sound) v (b .valid), b .means) (with-table (b .after .related) p v (b .valid) _ _ (λ t w.
       bind (right r₂ s₂ total₂ (b .after .related) (omega (arith, a .after .held, b .after .held))) (λ k q r₃ s₃ total₃ c.
       rw (c .means) (from-here (onward (a .after) (onward (b .after) (c .after))) (reads-entry (c .after .related) t k (c .valid) p))))))))
 
@@ -226,7 +249,7 @@ module _ (e : Setting) {ts : List Token} (few : length ts ≤ 8192) (strings : S
   operation-follows o x y depth at p joint left right r s total h l =
       let long = simp length-append at l in
       begun depth at p h (λ r₁ s₁ total₁ a.
-      rw (by-operator (evaluateAt depth e) e (getD (e .code) at 0) at p _ (length (codeOf y ts)) (tagOf o) (operator-tag o)
+      rw (by-operator (expressionAt depth e) e (getD (e .code) at 0) at p _ (length (codeOf y ts)) (tagOf o) (operator-tag o)
       (told (joint .root) (tag-small o) (omega arith)))
       (bind (left r₁ s₁ total₁ (a .after .related) (omega (arith, a .after .held))) (λ v u r₂ s₂ total₂ b.
       bind (right r₂ s₂ total₂ (b .after .related) (omega (arith, a .after .held, b .after .held))) (λ w q r₃ s₃ total₃ c.
@@ -237,14 +260,14 @@ module _ (e : Setting) {ts : List Token} (few : length ts ≤ 8192) (strings : S
 
   -- ---- arguments and calls
   abbrev Pushes : Arguments → ℕ → ℕ → ℕ → ℕ → ℕ → Type 0
-  Pushes es depth rounds a x p = (r : Raw) (s : State) (total : Amounts) → Here r s total → getD (r .words) 6 0 + length (codeOfAll es ts) ≤ 8192
+  Pushes es depth rounds a x p = (r : Raw) (s : State) (total : Amounts) → Here r s total → getD (r .words) argumentsHeld 0 + length (codeOfAll es ts) ≤ 8192
       → Follows granted total (λ _ us r′ s′ total′. AfterArguments (e .program) ts (e .grants) r us r′ s′ total′)
-      (pushAll rounds (evaluateAt depth e) e a x p r) (evaluateAll es p s)
+      (argumentsFrom rounds (expressionAt depth e) e (argumentAfter e a x) x p r) (evaluateAll es p s)
 
   no-argument-follows : (depth rounds a p : ℕ) → Pushes noArgument depth (suc rounds) a a p
   unfolding evaluateAll Act.give Run.give
   no-argument-follows depth rounds a p r s total h l =
-      rw (by-no-argument (evaluateAt depth e) e rounds a a p 0 (le-refl a)) (given (no-more h))
+      rw (by-no-argument (expressionAt depth e) e rounds a a p 0 (le-refl a)) (given (no-more h))
 
   argument-follows : (x : Expression) (es : Arguments) (depth rounds a at p : ℕ) → Argument (e .code) a (codeOf x ts) (codeOfAll es ts)
       → a + length (codeOf x ts) < at → Evaluates x depth (a + length (codeOf x ts)) p → Pushes es depth rounds (a + length (codeOf x ts) + 1) at p
@@ -252,9 +275,9 @@ module _ (e : Setting) {ts : List Token} (few : length ts ≤ 8192) (strings : S
   unfolding codeOfAll evaluateAll Act._>>=_ Act.goOn Run._>>=_
   argument-follows x es depth rounds a at p here below one more r s total h l =
       let long = simp length-append at l in
-      rw (by-argument (evaluateAt depth e) e rounds a at p (length (codeOf x ts)) (told (here .before) (omega arith) (omega arith)) below)
+      rw (by-argument (expressionAt depth e) e rounds a at p (length (codeOf x ts)) (told (here .before) (omega arith) (omega arith)) below)
       (bind (one r s total h (omega arith)) (λ v u r₁ s₁ total₁ b.
-      let room : getD (r₁ .words) 6 0 < 8192 = omega (arith, b .after .held) in
+      let room : getD (r₁ .words) argumentsHeld 0 < 8192 = omega (arith, b .after .held) in
       let q = pushed (b .after .related) room (packed v) in
       rw (pushes (b .after .related) room (packed v) p)
       (give-after (λ us. u ∷ us) (λ _ us r₃ s₃ total₃ c. one-more b q c)
@@ -263,16 +286,16 @@ module _ (e : Setting) {ts : List Token} (few : length ts ≤ 8192) (strings : S
   call-ends : (f : List ℕ) (p : ℕ) {r₁ r₂ : Raw} {us : List Value.Value} {s₂ : State} {total₁ total₂ : Amounts} {s₁ : State} → Here r₁ s₁ total₁
       → (c : AfterArguments (e .program) ts (e .grants) r₁ us r₂ s₂ total₂)
       → Follows granted total₂ (Values (e .program) ts (e .grants) r₁)
-      (Act._>>=_ (callLibrary (e .grants) (libraryNumber f) p (getD (r₁ .words) 6 0) (c .many)) (λ v. Act._>>_ (dropTo (getD (r₁ .words) 6 0)) (Act.give v)) r₂)
+      (Act._>>=_ (callLibrary (e .grants) (libraryNumber f) p (getD (r₁ .words) argumentsHeld 0) (c .many)) (λ v. Act._>>_ (dropTo (getD (r₁ .words) argumentsHeld 0)) (Act.give v)) r₂)
       (Library.callLibrary (libraryOf f) p us s₂)
   unfolding libraryNumber Act._>>=_ Act.goOn Act.give Act.store dropTo
   call-ends f p {r₁} {r₂} {us} h c =
-      act-after (λ v. Act._>>_ (dropTo (getD (r₁ .words) 6 0)) (Act.give v))
+      act-after (λ v. Act._>>_ (dropTo (getD (r₁ .words) argumentsHeld 0)) (Act.give v))
       (λ v u r₃ s₃ total₃ w.
       let l = later-trans (c .later) (w .after .later) in
-      let spare : getD (r₃ .words) 4 0 + getD (r₁ .words) 0 0 ≤ getD (r₁ .words) 4 0 + getD (r₃ .words) 0 0 = omega (arith, c .spare, w .after .spare) in
+      let spare : getD (r₃ .words) tablesMade 0 + getD (r₁ .words) stepsUsed 0 ≤ getD (r₁ .words) tablesMade 0 + getD (r₃ .words) stepsUsed 0 = omega (arith, c .spare, w .after .spare) in
       let low = h .sound .counted .arguments in
-      let below : (k : ℕ) → k < getD (r₁ .words) 6 0 → argumentAt (r₃ .words) k ≡ argumentAt (r₁ .words) k =
+      let below : (k : ℕ) → k < getD (r₁ .words) argumentsHeld 0 → argumentAt (r₃ .words) k ≡ argumentAt (r₁ .words) k =
       λ k q. w .after .arguments k (omega (arith, c .held)) ∙ c .arguments k q in
       record {
         result = v;
@@ -284,20 +307,20 @@ module _ (e : Setting) {ts : List Token} (few : length ts ≤ 8192) (strings : S
           means = w .means;
         };
       })
-      (calls e gr (libraryOf f) p (getD (r₁ .words) 6 0) (c .many) (c .related) us (c .stacked))
+      (calls e gr (libraryOf f) p (getD (r₁ .words) argumentsHeld 0) (c .many) (c .related) us (c .stacked))
 
   call-follows : (f : List ℕ) (es : Arguments) (depth at p : ℕ) → Ends (e .code) at (codeOf (call f es) ts)
       → Pushes es depth (suc at) (at + 1 - (length (codeOfAll es ts) + 1)) at p → Evaluates (call f es) (suc depth) at p
-  unfolding codeOf evaluate calling called Act._>>=_ Act.goOn Act.load Run._>>=_
+  unfolding codeOf evaluate callAt called Act._>>=_ Act.goOn Act.load Run._>>=_
   call-follows f es depth at p en all r s total h l =
       let long = simp length-append at l in
       let t = told (ends-word (codeOfAll es ts) _ en) (omega arith) (omega arith) in
       let begins : at - (length (codeOfAll es ts) + 1 - 1) ≡ at + 1 - (length (codeOfAll es ts) + 1) = omega arith in
       begun depth at p h (λ r₁ s₁ total₁ a.
       from-here (a .after)
-      (rw (by-call (evaluateAt depth e) e (getD (e .code) at 0) at p _ _ t, t .size-is, t .number-is, begins)
+      (rw (by-call (expressionAt depth e) e (getD (e .code) at 0) at p _ _ t, t .size-is, t .number-is, begins)
       (bind (all r₁ s₁ total₁ (a .after .related) (omega (arith, a .after .held))) (λ _ us r₂ s₂ total₂ c.
-      let n : getD (r₂ .words) 6 0 - getD (r₁ .words) 6 0 ≡ c .many = omega (arith, c .held) in
+      let n : getD (r₂ .words) argumentsHeld 0 - getD (r₁ .words) argumentsHeld 0 ≡ c .many = omega (arith, c .held) in
       rw n (call-ends f p (a .after .related) c)))))
 
   -- ---- all expressions

@@ -1,7 +1,7 @@
--- Figures: moved and compared as the meaning does it.
+-- Figures: moved, scaled and compared as the meaning does it.
 use Prim.Native.Nat.{ℕ, zero, suc, _^_, _<_}
 use native.Mathlib.Omega.{arith}
-use mathlib.Core.Path.{_≡_, refl, _∙_}
+use mathlib.Core.Path.{_≡_, refl, ap, _∙_}
 use mathlib.Core.Bool.{Bool, true, false, cond}
 use mathlib.Core.List.{List}
 use lib.Dec.{eqb}
@@ -12,10 +12,10 @@ use Rattle.meaning.specs.Integer.{half}
 use Rattle.meaning.specs.Figure.{line, ellipse, box, text}
 use Rattle.meaning.specs.Figure as Meaning
 use Rattle.meaning.proofs.IntegerLaws.{sum-range, half-sum-range}
-use Rattle.stores.specs.Texts.{textOf}
-use Rattle.stores.specs.declared.Figure.{Figure}
-use Rattle.operators.specs.Operate.{moved}
-use Rattle.arguments.specs.Arguments.{figure, centreX, centreY}
+use Rattle.machine.specs.Texts.{textOf}
+use Rattle.machine.specs.declared.Figure.{Figure}
+use Rattle.machine.specs.Operate.{moved, scaled}
+use Rattle.machine.specs.Arguments.{figure, centreX, centreY}
 use Rattle.simulation.specs.Meant.{meantFigure}
 use Rattle.simulation.specs.Sound.{Held, Proper}
 
@@ -71,6 +71,30 @@ module _ (F G : ℤ → ℤ) (f : Figure) where
       either : (b : Bool) (x y : ℤ) → mag x < 2 ^ 31 → mag y < 2 ^ 31 → mag (cond b x y) < 2 ^ 31
       either true x y p q = p
       either false x y p q = q
+
+-- ---- scaled
+module _ (F : ℤ → ℤ) (f : Figure) where
+  pub scaled-meant : (program texts : List ℕ) → f .kind < 4 → meantFigure program texts (scaled F f) ≡ Meaning.scaled F (meantFigure program texts f)
+  unfolding scaled Meaning.scaled
+  scaled-meant program texts l = kinds (f .kind) l
+      (λ e. as-line program texts (scaled F f) e ∙ rw (as-line program texts f e))
+      (λ e. as-ellipse program texts (scaled F f) e ∙ rw (as-ellipse program texts f e))
+      (λ e. as-box program texts (scaled F f) e ∙ rw (as-box program texts f e))
+      (λ e. as-text program texts (scaled F f) e ∙ rw (as-text program texts f e))
+
+  -- a text's last two numbers stay 0
+  pub scaled-proper : {program : List ℕ} {used : ℕ} → ((z : ℤ) → mag (F z) < 2 ^ 31) → F (pos 0) ≡ pos 0 → Proper program used f → Proper program used (scaled F f)
+  unfolding scaled
+  scaled-proper p o v = record {
+    kind = v .kind;
+    a = p _;
+    b = p _;
+    c = p _;
+    d = p _;
+    text = v .text;
+    plain = v .plain;
+    lettered = λ e. (ap F (v .lettered e .0) ∙ o, ap F (v .lettered e .1) ∙ o);
+  }
 
 -- ---- centres
 module _ (program texts : List ℕ) (f : Figure) where

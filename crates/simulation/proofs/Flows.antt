@@ -7,8 +7,8 @@ use Rattle.meaning.specs.Run.{Run}
 use Rattle.meaning.specs.Book.{Amounts}
 use Rattle.meaning.specs.Execute.{onward}
 use Rattle.meaning.specs.Execute as Execute
-use Rattle.stores.specs.Act.{Raw, Out}
-use Rattle.plain.specs.declared.Flow.{Flow}
+use Rattle.machine.specs.Act.{Raw, Out}
+use Rattle.machine.specs.declared.Flow.{Flow}
 use Rattle.simulation.specs.Follows.{Follows}
 pub use Rattle.simulation.specs.After.{SameFlow, both-onward, both-returned, AfterFlow}
 use Rattle.simulation.proofs.Binding.{Relation}

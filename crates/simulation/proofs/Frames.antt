@@ -1,5 +1,5 @@
 -- What stays when words change that do not matter.
-use Prim.Native.Nat.{ℕ, zero, suc, _+_, _≤_, _<_}
+use Prim.Native.Nat.{ℕ, zero, suc, _+_, _/_, _%_, _^_, _≤_, _<_}
 use native.Mathlib.Omega.{arith}
 use native.Mathlib.Nat.{le-refl, le-trans, add-zero}
 use mathlib.Core.Path.{_≡_, refl, ap, ap₂, sym, _∙_}
@@ -7,22 +7,27 @@ use mathlib.Core.Bool.{Bool, true, false, cond, not}
 use mathlib.Core.List.{List}
 use lib.ListN.{length, getD}
 use lib.Dec.{eqb}
+use mir.Syntax.{w32}
+use mir.Val.{toZ}
+use mir.Facts.{toZ-inj}
+use Rattle.meaning.specs.Basics.{if_then_else_}
 use Rattle.meaning.specs.Token.{Token}
 use Rattle.meaning.specs.Value.{string}
 use Rattle.meaning.specs.State.{keyOf, figureKey, noShape}
 use Rattle.meaning.specs.State as State
-use Rattle.values.specs.declared.Value.{Value}
-use Rattle.values.specs.declared.Value.the-variants.{Integer, Text, Boolean, Nothing, Table, Shape}
-use Rattle.values.specs.Words.{unpacked}
-use Rattle.stores.specs.Layout.{shapesUsed, entriesUsed, textUsed, declared, valuePlace, orderPlace, shapePlace}
-use Rattle.stores.specs.Act.{Raw}
-use Rattle.stores.specs.Texts.{originIn, startIn, sizeIn}
-use Rattle.stores.specs.declared.Figure.{Figure}
-use Rattle.stores.specs.Shapes.{figureAt}
-use Rattle.stores.specs.Tables.{ownerAt, keyAt, valueAt}
+use Rattle.machine.specs.declared.Value.{Value}
+use Rattle.machine.specs.declared.Value.the-variants.{Integer, Text, Boolean, Nothing, Table, Shape}
+use Rattle.machine.specs.Words.{kindIn, numberIn, handleIn, unpacked}
+use Rattle.machine.specs.Layout.{shapesUsed, entriesUsed, textUsed, declared, entriesGranted, valuePlace, orderPlace, shapePlace, entryPlace}
+use Rattle.machine.specs.Act.{Raw}
+use Rattle.machine.specs.Texts.{originIn, startIn, sizeIn}
+use Rattle.machine.specs.declared.Figure.{Figure}
+use Rattle.machine.specs.Shapes.{figureAt}
+use Rattle.machine.specs.Tables.{ownerAt, keyAt, valueAt, figureContent, contentOf, headPlace}
 use Rattle.simulation.specs.Meant.{meantValue, meantWord, meantFigure, listed, slotAt, variableAt, variablesOf, shapeAt, shapesOf, keyAmong, meantKey, entryAt, entriesOf}
 use Rattle.simulation.specs.Sound.{Held, Valid, Proper, declaredAmong, Variables, Shapes, Entries}
 use Rattle.simulation.specs.Follows.{Later}
+use Rattle.simulation.proofs.Indexing.{content-same, index-agrees}
 use Rattle.simulation.proofs.Listed.{listed-same, listed-first, getD-listed}
 
 -- ---- what is held stays held
@@ -165,6 +170,17 @@ figure-made program r i h =
     getD-listed (shapeAt program r) 0 (getD (r .words) shapesUsed 0) i noShape h ∙ ap (shapeAt program r) q
 
 -- ---- keys and entries
+number-back : (a b : ℕ) → toZ w32 (a % 2 ^ 32) ≡ toZ w32 (b % 2 ^ 32) → a % 2 ^ 32 ≡ b % 2 ^ 32
+number-back a b e = toZ-inj {w = w32} (omega arith) (omega arith) e
+
+unpacked-text : (key : ℕ) → kindIn key ≡ 2 → unpacked key ≡ Text (handleIn key)
+unfolding unpacked if_then_else_
+unpacked-text key e = rw e
+
+unpacked-shape : (key : ℕ) → kindIn key ≡ 6 → unpacked key ≡ Shape (numberIn key)
+unfolding unpacked if_then_else_
+unpacked-shape key e = rw e
+
 module _ {program : List ℕ} {r r′ : Raw} (l : Later program r r′) (shapes : Shapes program (r .words)) where
   pub key-later : (v : Value) → Valid program (r .words) v
       → keyAmong (shapesOf program r′) (meantValue program (r′ .texts) v) ≡ keyAmong (shapesOf program r) (meantValue program (r .texts) v)
@@ -178,13 +194,40 @@ module _ {program : List ℕ} {r r′ : Raw} (l : Later program r r′) (shapes 
       ap figureKey (ap (λ (s : State.Shape). s .figure) (figure-made program r′ i (le-trans h (l .shapes)))
       ∙ figure-later l shapes i h ∙ sym (ap (λ (s : State.Shape). s .figure) (figure-made program r i h)))
 
+  -- a key's content, by its word
+  figure-content : (i : ℕ) → i < getD (r .words) shapesUsed 0 → figureContent program (r′ .texts) (r′ .words) i ≡ figureContent program (r .texts) (r .words) i
+  unfolding figureContent figureAt
+  figure-content i h =
+      let e = l .figures i h in
+      let q = getD (r′ .words) (shapePlace i + 1) 0 in
+      let u = getD (r .words) (shapePlace i + 1) 0 in
+      let s = getD (r′ .words) (shapePlace i + 2) 0 in
+      let v = getD (r .words) (shapePlace i + 2) 0 in
+      let k = ap (λ (f : Figure). f .kind) e in
+      let a = number-back q u (ap (λ (f : Figure). f .a) e) in
+      let b = number-back (q / 2 ^ 32) (u / 2 ^ 32) (ap (λ (f : Figure). f .b) e) in
+      let c = number-back s v (ap (λ (f : Figure). f .c) e) in
+      let d = number-back (s / 2 ^ 32) (v / 2 ^ 32) (ap (λ (f : Figure). f .d) e) in
+      let t = ap (λ (f : Figure). f .text) e in
+      rw (k, a, b, c, d, t, l .texts (getD (r .words) (shapePlace i) 0 / 8) (shapes .proper i h .text))
+
+  pub content-later : (key : ℕ) → Valid program (r .words) (unpacked key) → contentOf program (r′ .texts) (r′ .words) key ≡ contentOf program (r .texts) (r .words) key
+  unfolding Valid
+  content-later key v =
+      content-same program (r .texts) (r′ .texts) (r .words) (r′ .words) key
+      (λ e. l .texts (handleIn key) (rw (unpacked-text key e) at v)) (λ e. figure-content (numberIn key) (rw (unpacked-shape key e) at v))
+
   pub record SameEntries (g : List ℕ) : Type 0 where
     pub count : getD (r′ .words) entriesUsed 0 ≡ getD (r .words) entriesUsed 0
-    pub owners : (k : ℕ) → k < getD (r .words) entriesUsed 0 → ownerAt g (r′ .words) k ≡ ownerAt g (r .words) k
+    pub firsts : (k : ℕ) → k < getD (r .words) entriesUsed 0 → getD (r′ .words) (entryPlace g k) 0 ≡ getD (r .words) (entryPlace g k) 0
     pub keys : (k : ℕ) → k < getD (r .words) entriesUsed 0 → keyAt g (r′ .words) k ≡ keyAt g (r .words) k
     pub values : (k : ℕ) → k < getD (r .words) entriesUsed 0 → valueAt g (r′ .words) k ≡ valueAt g (r .words) k
+    pub heads : (b : ℕ) → b < entriesGranted g → getD (r′ .words) (headPlace g b) 0 ≡ getD (r .words) (headPlace g b) 0
 
   module _ (g : List ℕ) (same : SameEntries g) (entries : Entries program g r) where
+    owner-kept : (k : ℕ) → k < getD (r .words) entriesUsed 0 → ownerAt g (r′ .words) k ≡ ownerAt g (r .words) k
+    owner-kept k h = ap (λ (w : ℕ). w % 2 ^ 40) (same .firsts k h)
+
     key-kept : (k : ℕ) → k < getD (r .words) entriesUsed 0 → meantKey program r′ (keyAt g (r′ .words) k) ≡ meantKey program r (keyAt g (r .words) k)
     key-kept k h = rw (same .keys k h) (key-later (unpacked (keyAt g (r .words) k)) (entries .keys k h))
 
@@ -196,13 +239,16 @@ module _ {program : List ℕ} {r r′ : Raw} (l : Later program r r′) (shapes 
       apart = λ j k a b o e.
           let p = rw (same .count) at a in
           let q = rw (same .count) at b in
-          entries .apart j k p q (sym (same .owners j p) ∙ o ∙ same .owners k q) (sym (key-kept j p) ∙ e ∙ key-kept k q);
+          entries .apart j k p q (sym (owner-kept j p) ∙ o ∙ owner-kept k q) (sym (key-kept j p) ∙ e ∙ key-kept k q);
+      index = index-agrees program g (r .texts) (r′ .texts) (r .words) (r′ .words)
+          (record { firsts = same .firsts; keys = same .keys; contents = λ k h. content-later (keyAt g (r .words) k) (entries .keys k h) })
+          (same .count) (same .heads) (entries .index);
     }
 
     entry-kept : (k : ℕ) → k < getD (r .words) entriesUsed 0 → entryAt program g r′ k ≡ entryAt program g r k
     unfolding entryAt
     entry-kept k h =
-        let o = same .owners k h in
+        let o = owner-kept k h in
         let e = key-kept k h in
         let v : meantWord program r′ (valueAt g (r′ .words) k) ≡ meantWord program r (valueAt g (r .words) k) =
         rw (same .values k h) (meant-later l _ (entries .holds k h)) in

@@ -16,21 +16,21 @@ use Rattle.meaning.specs.Basics.{if_then_else_, sameText}
 use Rattle.meaning.specs.Token.{Token}
 use Rattle.meaning.specs.Integer.{bits, wrap, sameInteger, sameIntegers}
 use Rattle.meaning.proofs.IntegerLaws.{bits-wrap, wrap-id}
-use Rattle.meaning.proofs.KeyLaws.{sameInteger-same, sameInteger-iff, sameKey-kind}
+use Rattle.meaning.proofs.KeyLaws.{sameInteger-same, sameInteger-iff, sameKey-kind, figureKey-alike}
 use Rattle.meaning.specs.Value.{kindOf}
 use Rattle.meaning.specs.State.{State, keyOf, sameKey, figureKey}
 use Rattle.meaning.specs.State as State
-use Rattle.values.specs.declared.Value.{Value}
-use Rattle.values.specs.declared.Value.the-variants.{Integer, Text, Boolean, Nothing, Table, Shape}
-use Rattle.values.specs.Words.{kindIn, packed, unpacked}
+use Rattle.machine.specs.declared.Value.{Value}
+use Rattle.machine.specs.declared.Value.the-variants.{Integer, Text, Boolean, Nothing, Table, Shape}
+use Rattle.machine.specs.Words.{kindIn, packed, unpacked}
 use Rattle.values.proofs.Laws.{unpacked-integer, unpacked-text, unpacked-truth, unpacked-table, unpacked-shape}
-use Rattle.stores.specs.Act.{Raw}
-use Rattle.stores.specs.Texts.{textOf}
-use Rattle.stores.specs.Shapes.{lowNumber, highNumber, figureAt}
-use Rattle.stores.specs.Tables as Tables
+use Rattle.machine.specs.Act.{Raw}
+use Rattle.machine.specs.Texts.{textOf}
+use Rattle.machine.specs.Shapes.{lowNumber, highNumber, figureAt}
+use Rattle.machine.specs.Tables as Tables
 use Rattle.tables.proofs.KeyLaws.{other-kinds, text-keys, shape-keys, other-keys}
-use Rattle.operators.specs.Operate.{sameFigure}
-use Rattle.simulation.specs.Meant.{meantValue, shapeAt, shapesOf, keyAmong}
+use Rattle.machine.specs.Operate.{sameFigure}
+use Rattle.simulation.specs.Meant.{meantValue, meantFigure, shapeAt, shapesOf, keyAmong}
 use Rattle.simulation.specs.Sound.{Valid, Sound}
 use Rattle.simulation.proofs.Frames.{figure-made}
 use Rattle.simulation.proofs.Equality.{and-true, figures-compared}
@@ -97,7 +97,7 @@ module _ {program : List ℕ} {ts : List Token} {g : List ℕ} {r : Raw} (sound 
   table-small : (t : ℕ) → t < getD (r .words) 4 0 → t < 2 ^ 32
   table-small t h = omega (arith, sound .counted .tables, sound .counted .steps, sound .lent .room .steps)
 
-  shape-small : (i : ℕ) → i < getD (r .words) 1 0 → i < 2 ^ 32
+  pub shape-small : (i : ℕ) → i < getD (r .words) 1 0 → i < 2 ^ 32
   shape-small i h = omega (arith, sound .counted .shapes, sound .lent .room .shapes)
 
   -- a value put into a word comes out again
@@ -197,6 +197,7 @@ module _ {program : List ℕ} {ts : List Token} {g : List ℕ} {r : Raw} (sound 
       (Tables.sameFigure program (r .texts) (r .words) i j) i j (omega arith) p q refl)
       ∙ figures-alike i j l m
       ∙ figures-compared program (r .texts) (figureAt (r .words) i) (figureAt (r .words) j) (sound .shapes .proper i l) (sound .shapes .proper j m)
+      ∙ sym (figureKey-alike (meantFigure program (r .texts) (figureAt (r .words) i)) (meantFigure program (r .texts) (figureAt (r .words) j)))
       ∙ ap₂ (λ (a b : State.Shape). sameKey (figureKey (a .figure)) (figureKey (b .figure))) (sym (figure-made program r i l)) (sym (figure-made program r j m))
 
   pub keys-alike : (v w : Value) → Valid program (r .words) v → Valid program (r .words) w → Alike v w

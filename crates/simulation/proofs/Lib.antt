@@ -1,5 +1,7 @@
 pub mod Binding
 pub mod Listed
+mod Index
+mod Indexing
 mod Frames
 pub mod Results
 mod Counting

@@ -23,18 +23,18 @@ use Rattle.meaning.specs.Operator as Operator
 use Rattle.meaning.specs.Library.{Library, drawLine, drawEllipse, drawBox, drawText, connectShapes, drawTextOnShape, xCoordinate, yCoordinate, destroyShape, clearScene}
 use Rattle.meaning.specs.Library as Library
 use Rattle.names.specs.Prepared.{numberOf}
-use Rattle.values.specs.declared.Value.{Value}
-use Rattle.values.specs.Words.{unpacked}
-use Rattle.stores.specs.Act.{Raw}
-use Rattle.stores.specs.Act as Act
-use Rattle.stores.specs.Arguments.{argumentAt}
-use Rattle.stores.specs.Texts.{textOf}
-use Rattle.stores.specs.declared.Figure.{Figure}
-use Rattle.stores.specs.Shapes.{figureAt}
-use Rattle.stores.specs.Shapes as Shapes
-use Rattle.evaluator.specs.Evaluate.{Setting}
-use Rattle.library.specs.Library.{withFigure, drawn, drawnText, connected, labelled, coordinate, destroyed, clearing, perform, callLibrary}
-use Rattle.arguments.specs.Arguments.{allUsable, figure, centreX, centreY, connecting, textOn}
+use Rattle.machine.specs.declared.Value.{Value}
+use Rattle.machine.specs.Words.{unpacked}
+use Rattle.machine.specs.Act.{Raw}
+use Rattle.machine.specs.Act as Act
+use Rattle.machine.specs.Stack.{argumentAt}
+use Rattle.machine.specs.Texts.{textOf}
+use Rattle.machine.specs.declared.Figure.{Figure}
+use Rattle.machine.specs.Shapes.{figureAt}
+use Rattle.machine.specs.Shapes as Shapes
+use Rattle.machine.specs.Evaluate.{Setting}
+use Rattle.machine.specs.Library.{withFigure, drawn, drawnText, connected, labelled, coordinate, destroyed, clearing, perform, callLibrary}
+use Rattle.machine.specs.Arguments.{allUsable, figure, centreX, centreY, connecting, textOn}
 use Rattle.simulation.specs.Meant.{meantValue, meantWord, meantFigure, listed}
 use Rattle.simulation.specs.Sound.{Valid, Proper}
 use Rattle.simulation.specs.Follows.{Grants, Related, Follows}
@@ -105,8 +105,8 @@ module _ (e : Setting) {ts : List Token} {granted : Amounts} (gr : Grants (e .gr
 
   draws : (kind : ℕ) (make : ℤ → ℤ → ℤ → ℤ → Meaning.Figure) → kind < 3
       → ((x y z w : ℤ) → make x y z w ≡ meantFigure (e .program) (r .texts) (figure kind x y z w 0)) → (n : ℕ) → Sane n
-      → Works (drawn (e .grants) kind p base n r) (Library.drawn make p (given-args n) s)
-  unfolding drawn Library.drawn Library.withFour Library.withThree Library.withTwo Library.withOne Library.withNone listed Act._>>=_ Act.goOn Act.refuse Act.give Act.fail Run.fail
+      → Works (drawn (e .grants) kind p base n r) (Library.drawFigure make p (given-args n) s)
+  unfolding drawn Library.drawFigure Library.withFour Library.withThree Library.withTwo Library.withOne Library.withNone listed Act._>>=_ Act.goOn Act.refuse Act.give Act.fail Run.fail
   draws kind make l m zero v = wrong
   draws kind make l m (suc zero) v = wrong
   draws kind make l m (suc (suc zero)) v = wrong

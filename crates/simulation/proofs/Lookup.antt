@@ -20,18 +20,19 @@ use Rattle.meaning.specs.State as State
 use Rattle.meaning.specs.Run as Run
 use Rattle.meaning.specs.Book.{Amounts}
 use Rattle.meaning.specs.Evaluate as Evaluate
-use Rattle.values.specs.declared.Value.{Value}
-use Rattle.values.specs.Words.{packed, unpacked}
-use Rattle.stores.specs.Layout.{entriesUsed}
-use Rattle.stores.specs.Act.{Raw}
-use Rattle.stores.specs.Act as Act
-use Rattle.stores.specs.Tables.{ownerAt, keyAt, valueAt, last, findEntry, readFrom, readEntry}
-use Rattle.stores.specs.Tables as Tables
-use Rattle.tables.proofs.IndexLaws.{last-le, last-meets}
+use Rattle.machine.specs.declared.Value.{Value}
+use Rattle.machine.specs.Words.{packed, unpacked}
+use Rattle.machine.specs.Layout.{entriesUsed}
+use Rattle.machine.specs.Act.{Raw}
+use Rattle.machine.specs.Act as Act
+use Rattle.machine.specs.Tables.{ownerAt, keyAt, valueAt, findEntry, readFrom, readEntry}
+use Rattle.machine.specs.Tables as Tables
 use Rattle.simulation.specs.Meant.{meantValue, meantWord, listed, shapesOf, keyAmong, meantKey, entryAt, entriesOf}
+use Rattle.simulation.specs.Index.{last}
 use Rattle.simulation.specs.Sound.{Valid}
 use Rattle.simulation.specs.Follows.{Related, Follows}
 use Rattle.simulation.proofs.Binding.{bind}
+use Rattle.simulation.proofs.Index.{last-le, last-meets, found-is-last}
 use Rattle.simulation.proofs.Listed.{listed-same}
 use Rattle.simulation.proofs.Results.{given, failed, Values, unmoved, still, steps-told}
 use Rattle.simulation.proofs.Usable.{uses}
@@ -140,21 +141,21 @@ module _ {program : List ℕ} {ts : List Token} {g : List ℕ} {r : Raw} {s : St
   abbrev pub found : ℕ
   found = findEntry program g (r .texts) (r .words) t (packed v)
 
+  found-last : found ≡ last meets used
+  found-last = found-is-last program g (r .texts) (r .words) t (packed v) (h .sound .entries .index)
+
   pub missing-all : found ≡ 0 → (j : ℕ) → j < used → matches (entryAt program g r j) t key ≡ false
-  unfolding findEntry
-  missing-all e j l = matches-alike j l ∙ last-zero meets used e j l
+  missing-all e j l = matches-alike j l ∙ last-zero meets used (sym found-last ∙ e) j l
 
   pub missing : found ≡ 0 → entryIn (s .entries) t (keyOf s (meantValue program (r .texts) v)) ≡ Option.none
   unfolding entriesOf
   missing e = rw (key-is, h .entries) (no-entry (entryAt program g r) t key 0 used (λ j a b. missing-all e j (omega arith)))
 
   pub found-less : found ≢ 0 → found - 1 < used
-  unfolding findEntry
-  found-less n = omega (arith, last-le meets used)
+  found-less n = omega (arith, found-last, last-le meets used)
 
   pub found-meets : found ≢ 0 → meets (found - 1) ≡ true
-  unfolding findEntry
-  found-meets n = last-meets meets used (omega arith)
+  found-meets n = rw found-last (last-meets meets used (omega (arith, found-last)))
 
   pub present : found ≢ 0 → entryIn (s .entries) t (keyOf s (meantValue program (r .texts) v)) ≡ some (meantWord program r (valueAt g (r .words) (found - 1)))
   unfolding entriesOf entryAt
@@ -164,7 +165,7 @@ module _ {program : List ℕ} {ts : List Token} {g : List ℕ} {r : Raw} {s : St
 
   pub reads-entry : {granted : Amounts} (p : ℕ) → Follows granted total (Values program ts g r) (readEntry program g p t (packed v) r)
       (Evaluate.entryOf p t (meantValue program (r .texts) v) s)
-  unfolding readEntry readFrom Evaluate.entryOf Evaluate.found Act._>>=_ Act.goOn Act.load Act.refuse Act.fail Act.give Run._>>=_ Run.goOn Run.current Run.fail Run.give
+  unfolding readEntry readFrom Evaluate.entryOf Evaluate.lookedUp Act._>>=_ Act.goOn Act.load Act.refuse Act.fail Act.give Run._>>=_ Run.goOn Run.current Run.fail Run.give
   reads-entry p = go (eqb found 0) refl
     where
       go : {granted : Amounts} (b : Bool) → eqb found 0 ≡ b → Follows granted total (Values program ts g r) (readEntry program g p t (packed v) r)

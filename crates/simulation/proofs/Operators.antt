@@ -12,7 +12,7 @@ use lib.Signed.{mag, ltZ}
 use Rattle.meaning.specs.Basics.{if_then_else_}
 use Rattle.meaning.specs.Token.{Token}
 use Rattle.meaning.specs.Integer.{sum, difference, product, quotient, shiftedLeft, shiftedRight, isZero}
-use Rattle.meaning.proofs.IntegerLaws.{sum-range, difference-range, product-range, quotient-range, remainder-range, shiftedLeft-range, shiftedRight-range}
+use Rattle.meaning.proofs.IntegerLaws.{sum-range, difference-range, product-range, quotient-range, remainder-range, shiftedLeft-range, shiftedRight-range, product-zero, quotient-zero}
 use Rattle.meaning.specs.Figure as Meaning
 use Rattle.meaning.specs.Tree.{Operator, concatenate, add, subtract, multiply, divide, remainder, shiftRight, shiftLeft, equal, unequal, greater, less}
 use Rattle.meaning.specs.Value as Value
@@ -20,15 +20,15 @@ use Rattle.meaning.specs.State.{State, figureOf}
 use Rattle.meaning.specs.Run as Run
 use Rattle.meaning.specs.Book.{Amounts}
 use Rattle.meaning.specs.Operator as Operator
-use Rattle.code.specs.Code.{tagOf}
-use Rattle.values.specs.declared.Value.{Value}
-use Rattle.values.specs.declared.Value.the-variants.{Integer, Text, Boolean, Nothing, Table, Shape}
-use Rattle.stores.specs.Act.{Raw}
-use Rattle.stores.specs.Act as Act
-use Rattle.stores.specs.declared.Figure.{Figure}
-use Rattle.stores.specs.Shapes.{figureAt}
-use Rattle.operators.specs.Operate.{withInteger, withText, plusX, plusY, minusX, minusY, scaledUp, scaledDown, calculated, compared, remaindered, joined, answered, equated, operateOn, operate}
-use Rattle.evaluator.specs.Evaluate.{Setting}
+use Rattle.machine.specs.Opcodes.{tagOf}
+use Rattle.machine.specs.declared.Value.{Value}
+use Rattle.machine.specs.declared.Value.the-variants.{Integer, Text, Boolean, Nothing, Table, Shape}
+use Rattle.machine.specs.Act.{Raw}
+use Rattle.machine.specs.Act as Act
+use Rattle.machine.specs.declared.Figure.{Figure}
+use Rattle.machine.specs.Shapes.{figureAt}
+use Rattle.machine.specs.Operate.{withInteger, withText, plusX, plusY, minusX, minusY, scaledUp, scaledDown, calculated, compared, remaindered, joined, answered, equated, operateOn, operate}
+use Rattle.machine.specs.Evaluate.{Setting}
 use Rattle.simulation.specs.Meant.{meantValue, meantFigure}
 use Rattle.simulation.specs.Sound.{Valid, Proper}
 use Rattle.simulation.specs.Follows.{Grants, Related, Follows}
@@ -38,7 +38,7 @@ use Rattle.simulation.proofs.Results.{mapped, given, failed, Values, un
 use Rattle.simulation.proofs.Usable.{figure-found, uses}
 use Rattle.simulation.proofs.Shapes.{makes-shape}
 use Rattle.simulation.proofs.Texts.{joins}
-use Rattle.simulation.proofs.Figures.{moved-meant, moved-proper}
+use Rattle.simulation.proofs.Figures.{moved-meant, moved-proper, scaled-meant, scaled-proper}
 use Rattle.simulation.proofs.Equality.{equal-alike}
 
 -- a figure made from a figure and an integer, as the meaning makes it
@@ -186,15 +186,15 @@ makes-minusX = record {
 makes-scaledUp : Makes scaledUp Meaning.scaledUp
 unfolding scaledUp Meaning.scaledUp
 makes-scaledUp = record {
-  proper = λ f n v. moved-proper (λ x. product x n) (λ y. product y n) f (λ z l. product-range z n) (λ z l. product-range z n) v;
-  meant = λ program texts f n l. moved-meant (λ x. product x n) (λ y. product y n) f program texts l;
+  proper = λ f n v. scaled-proper (λ z. product z n) f (λ z. product-range z n) (product-zero n) v;
+  meant = λ program texts f n l. scaled-meant (λ z. product z n) f program texts l;
 }
 
 makes-scaledDown : Makes scaledDown Meaning.scaledDown
 unfolding scaledDown Meaning.scaledDown
 makes-scaledDown = record {
-  proper = λ f n v. moved-proper (λ x. quotient x n) (λ y. quotient y n) f (λ z l. quotient-range z n) (λ z l. quotient-range z n) v;
-  meant = λ program texts f n l. moved-meant (λ x. quotient x n) (λ y. quotient y n) f program texts l;
+  proper = λ f n v. scaled-proper (λ z. quotient z n) f (λ z. quotient-range z n) (quotient-zero n) v;
+  meant = λ program texts f n l. scaled-meant (λ z. quotient z n) f program texts l;
 }
 
 -- ---- all operators

@@ -14,7 +14,7 @@ use Rattle.names.specs.Prepared.{home}
 use Rattle.code.specs.Code.{partOf}
 use Rattle.reader.specs.Sane.{Sane}
 use Rattle.reader.proofs.Homes.{Occurs, occurs-found}
-use Rattle.stores.specs.Texts.{originIn, startIn, sizeIn, part, textOf}
+use Rattle.machine.specs.Texts.{originIn, startIn, sizeIn, part, textOf}
 use Rattle.simulation.specs.Sound.{Held}
 use Rattle.simulation.proofs.Expressions.{Strings}
 

@@ -15,10 +15,10 @@ use Rattle.meaning.specs.State.{State}
 use Rattle.meaning.specs.Run.{Resource, Taking, taking, End, result, error, Run, run}
 use Rattle.meaning.specs.Run as Run
 use Rattle.meaning.specs.Book.{Amounts, added, fits, book, shortageOf}
-use Rattle.values.specs.declared.Value.{Value}
-use Rattle.stores.specs.Layout.{stepsUsed, tablesMade, Lent}
-use Rattle.stores.specs.Act.{Raw, raw, Out, done, stop}
-use Rattle.stores.specs.Act as Act
+use Rattle.machine.specs.declared.Value.{Value}
+use Rattle.machine.specs.Layout.{stepsUsed, tablesMade, Lent}
+use Rattle.machine.specs.Act.{Raw, raw, Out, done, stop}
+use Rattle.machine.specs.Act as Act
 use Rattle.simulation.specs.Sound.{Counted}
 use Rattle.simulation.specs.Follows.{Related, Later, Together, gives, lacks, fails, Follows}
 pub use Rattle.simulation.specs.After.{After, AfterValue}
@@ -127,8 +127,8 @@ module _ {granted total : Amounts} (resource : Resource) (counter limit amount n
     (told : getD (r .words) stepsUsed 0 ≡ total Run.steps) {R : Relation (Unit {0}) (Unit {0})} where
   pub spent : (getD (r .words) counter 0 + amount ≤ limit
       → R tt tt (raw (r .texts) (set (r .words) counter (getD (r .words) counter 0 + amount))) s (added total (taking resource amount p)))
-      → Follows granted total R (Act.spend counter limit amount number p r) (Run.take resource amount p s)
-  unfolding Act.spend Run.take if_then_else_ book fits
+      → Follows granted total R (Act.spend counter limit amount number p r) (Run.spend resource amount p s)
+  unfolding Act.spend Run.spend if_then_else_ book fits
   spent f = go (leb (getD (r .words) counter 0 + amount) limit) refl
     where
       same : leb (total resource + amount) (granted resource) ≡ leb (getD (r .words) counter 0 + amount) limit
@@ -137,7 +137,7 @@ module _ {granted total : Amounts} (resource : Resource) (counter limit amount n
       go : (b : Bool) → leb (getD (r .words) counter 0 + amount) limit ≡ b
           → Follows granted total R
           (if b then (λ _. done tt (raw (r .texts) (set (r .words) counter (getD (r .words) counter 0 + amount)))) else λ _. stop number p r)
-          (Run.take resource amount p s)
+          (Run.spend resource amount p s)
       go true e = record { is = gives {us = taking resource amount p ∷ []} (added total (taking resource amount p)) (rw (same, e)) (f (leb-true _ _ e)) }
       go false e = record { is = lacks {us = taking resource amount p ∷ []} (taking resource amount p) total (rw (same, e)) name refl told }
 
@@ -155,7 +155,7 @@ module _ {granted total : Amounts} (resource : Resource) (counter limit amount n
   -- what follows a payment
   pub spent-then : (getD (r .words) counter 0 + amount ≤ limit
       → Follows granted (added total (taking resource amount p)) P (k (raw (r .texts) (set (r .words) counter (getD (r .words) counter 0 + amount)))) (k′ s))
-      → Follows granted total P (Act._>>_ (Act.spend counter limit amount number p) k r) (Run._>>_ (Run.take resource amount p) k′ s)
+      → Follows granted total P (Act._>>_ (Act.spend counter limit amount number p) k r) (Run._>>_ (Run.spend resource amount p) k′ s)
   unfolding Act._>>=_ Run._>>=_
   spent-then f =
       bind (spent resource counter limit amount number p r s taken grant name told

@@ -24,13 +24,13 @@ use Rattle.meaning.specs.Run.{taking}
 use Rattle.meaning.specs.Run as Run
 use Rattle.meaning.specs.Book.{Amounts, added, resourceNumber, shortageOf}
 use Rattle.meaning.specs.Operator as Operator
-use Rattle.values.specs.declared.Value.{Value}
-use Rattle.values.specs.declared.Value.the-variants.{Shape}
-use Rattle.stores.specs.Layout.{shapePlace}
-use Rattle.stores.specs.Act.{Raw, raw}
-use Rattle.stores.specs.Act as Act
-use Rattle.stores.specs.declared.Figure.{Figure}
-use Rattle.stores.specs.Shapes.{firstWord, pairWord, lowNumber, highNumber, figureAt, figureLaid, putFigure, newShape}
+use Rattle.machine.specs.declared.Value.{Value}
+use Rattle.machine.specs.declared.Value.the-variants.{Shape}
+use Rattle.machine.specs.Layout.{shapePlace}
+use Rattle.machine.specs.Act.{Raw, raw}
+use Rattle.machine.specs.Act as Act
+use Rattle.machine.specs.declared.Figure.{Figure}
+use Rattle.machine.specs.Shapes.{firstWord, pairWord, lowNumber, highNumber, figureAt, figureLaid, putFigure, newShape}
 use Rattle.simulation.specs.Meant.{meantValue, meantFigure, listed, shapeAt, shapesOf}
 use Rattle.simulation.specs.Sound.{Valid, Proper, Counted, Shapes}
 use Rattle.simulation.specs.Follows.{Grants, Related, Later, Follows}
@@ -180,9 +180,10 @@ module _ {program : List ℕ} {ts : List Token} {g : List ℕ} where
     entries-as : SameEntries shape-later (h .sound .shapes) g
     entries-as = record {
       count = lowly 2 (λ e. omega arith) (omega arith);
-      owners = λ k a. ap (λ w. w % 2 ^ 40) (highly _ (omega (arith, fit)));
+      firsts = λ k a. highly _ (omega (arith, fit));
       keys = λ k a. highly _ (omega (arith, fit));
       values = λ k a. highly _ (omega (arith, fit));
+      heads = λ b a. highly _ (omega (arith, fit));
     }
 
     text-as : getD ws′ 3 0 ≡ getD (r .words) 3 0

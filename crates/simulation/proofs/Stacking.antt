@@ -14,10 +14,10 @@ use Rattle.meaning.specs.Token.{Token}
 use Rattle.meaning.specs.Value as Value
 use Rattle.meaning.specs.State.{State}
 use Rattle.meaning.specs.Book.{Amounts}
-use Rattle.values.specs.declared.Value.{Value}
-use Rattle.values.specs.Words.{packed, unpacked}
-use Rattle.stores.specs.Act.{Raw}
-use Rattle.stores.specs.Arguments.{argumentAt}
+use Rattle.machine.specs.declared.Value.{Value}
+use Rattle.machine.specs.Words.{packed, unpacked}
+use Rattle.machine.specs.Act.{Raw}
+use Rattle.machine.specs.Stack.{argumentAt}
 use Rattle.simulation.specs.Meant.{meantValue, meantWord, listed}
 use Rattle.simulation.specs.Sound.{Valid}
 use Rattle.simulation.specs.Follows.{Related, Later}

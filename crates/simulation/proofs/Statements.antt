@@ -17,24 +17,25 @@ use Rattle.meaning.specs.Operator as Operator
 use Rattle.meaning.specs.Evaluate.{evaluate}
 use Rattle.meaning.specs.Execute.{onward, execute}
 use Rattle.meaning.specs.Execute as Execute
-use Rattle.code.specs.Code.{word, tagIn, sizeIn, tagDeclare, tagAssign, tagUpdate, tagWhen, tagWhile, tagReturn, tagBlock, tagAct, slotOf, codeOf, codeOfStatement, codeOfStatements}
+use Rattle.machine.specs.Opcodes.{word, tagIn, sizeIn, placeIn, extraIn, sizeAt, tagDeclare, tagAssign, tagUpdate, tagWhen, tagWhile, tagReturn, tagBlock, tagAct}
+use Rattle.code.specs.Code.{slotOf, codeOf, codeOfStatement, codeOfStatements}
 use Rattle.reader.specs.Sane.{Sane}
 use Rattle.reader.proofs.Homes.{Occurs}
 use Rattle.reader.proofs.Fields.{first-half, second-half, code-rooted, statement-headed, statement-some}
 use Rattle.reader.proofs.Known.{Placed, Known, KnownStatement, KnownStatements}
 use Rattle.reader.proofs.Walk.{Stands, Ends, stands-front, stands-back, stands-first, stands-rest, ends-word}
-use Rattle.values.specs.Words.{packed}
-use Rattle.stores.specs.Layout.{stepsGranted}
-use Rattle.stores.specs.Act.{Raw, Act}
-use Rattle.stores.specs.Act as Act
-use Rattle.stores.specs.Variables as Stored
-use Rattle.stores.specs.Tables.{storeEntry}
-use Rattle.operators.specs.Operate.{withBoolean, withTable}
-use Rattle.evaluator.specs.Evaluate.{Setting}
-use Rattle.plain.specs.declared.Flow.{Flow}
-use Rattle.plain.specs.declared.Flow.the-variants.{Onward, Returned}
-use Rattle.executor.specs.Execute.{continue, Executor, looping, loopFrom, whenAt, executeAll, blockAt, executeSimple, executeBy, executeAt}
-use Rattle.plain.specs.Plain.{placeIn, extraIn, valueOf, sizeAt, declaring, assigning, assigningOf, updateValue, updateIn, updating, returning, acting}
+use Rattle.machine.specs.Words.{packed, unpacked}
+use Rattle.machine.specs.Layout.{stepsUsed, argumentsHeld, stepsGranted}
+use Rattle.machine.specs.Act.{Raw, Act}
+use Rattle.machine.specs.Act as Act
+use Rattle.machine.specs.Variables as Stored
+use Rattle.machine.specs.Tables.{storeEntry}
+use Rattle.machine.specs.Operate.{withBoolean, withTable}
+use Rattle.machine.specs.Evaluate.{Setting}
+use Rattle.machine.specs.declared.Flow.{Flow}
+use Rattle.machine.specs.declared.Flow.the-variants.{Onward, Returned}
+use Rattle.machine.specs.Effects.{declaring, assigning, finishing}
+use Rattle.machine.specs.Execute.{valueOf, simpleAt, updateValue, updateIn, updateAt, continue, Executor, whenAt, looping, repeatAt, statementsFrom, countedAt, statementBy, statementAt}
 use Rattle.simulation.specs.Follows.{Grants, Related, Follows}
 use Rattle.simulation.proofs.Binding.{bind, Succeeds, act-after}
 use Rattle.simulation.proofs.Results.{given, After, Values, unmoved, still}
@@ -47,6 +48,7 @@ use Rattle.simulation.proofs.Flows.{SameFlow, both-onward, both-returne
 use Rattle.simulation.proofs.Declaring.{declares}
 use Rattle.simulation.proofs.Assigning.{assigns}
 use Rattle.simulation.proofs.Storing.{stores}
+use Rattle.simulation.proofs.Keys.{back-again}
 
 -- ---- a statement's word
 record Heads (w tag size p n : ℕ) : Type 0 where
@@ -61,38 +63,38 @@ heads {w} {tag} {size} {p} {n} e a b c =
     record { tag-is = t .tag-is; size-is = t .size-is; place-is = rw (t .number-is) (first-half p n c); extra-is = rw (t .number-is) (second-half p n c) }
 
 module _ (inner : Executor) (e : Setting) (w x p size q n : ℕ) where
-  by-declare : Heads w tagDeclare size q n → executeBy inner e w x p ≡ Act._>>_ (Act.count (e .grants) p) (Act._>>_ (Stored.declare n p) (Act.give Onward))
-  unfolding executeBy if_then_else_ executeSimple declaring
+  by-declare : Heads w tagDeclare size q n → statementBy inner e w x p ≡ Act._>>_ (Act.count (e .grants) p) (Act._>>_ (Stored.declare n p) (Act.give Onward))
+  unfolding statementBy if_then_else_ countedAt declaring
   by-declare t = rw (t .tag-is, t .extra-is)
 
-  by-assign : Heads w tagAssign size q n → executeBy inner e w x p ≡ Act._>>_ (Act.count (e .grants) p) (Act._>>=_ (valueOf e (x + size - 1) p) (λ v. assigning (e .grants) p n v))
-  unfolding executeBy if_then_else_ executeSimple assigningOf
+  by-assign : Heads w tagAssign size q n → statementBy inner e w x p ≡ Act._>>_ (Act.count (e .grants) p) (Act._>>=_ (valueOf e (x + size - 1) p) (λ v. assigning (e .grants) p n (packed v)))
+  unfolding statementBy if_then_else_ countedAt simpleAt finishing
   by-assign t = rw (t .tag-is, t .extra-is, t .size-is)
 
-  by-update : Heads w tagUpdate size q n → executeBy inner e w x p ≡ Act._>>_ (Act.count (e .grants) p) (updating e (x + size - 1) p)
-  unfolding executeBy if_then_else_ executeSimple
+  by-update : Heads w tagUpdate size q n → statementBy inner e w x p ≡ Act._>>_ (Act.count (e .grants) p) (updateAt e (x + size - 1) p)
+  unfolding statementBy if_then_else_ countedAt
   by-update t = rw (t .tag-is, t .size-is)
 
-  by-when : Heads w tagWhen size q n → executeBy inner e w x p
+  by-when : Heads w tagWhen size q n → statementBy inner e w x p
       ≡ Act._>>_ (Act.count (e .grants) p) (Act._>>=_ (valueOf e (x + n) p) (λ v. withBoolean p v λ b. if b then (λ _. inner (x + n + 1)) else λ _. Act.give Onward))
-  unfolding executeBy if_then_else_ executeSimple whenAt
+  unfolding statementBy if_then_else_ countedAt whenAt
   by-when t = rw (t .tag-is, t .extra-is) (ap (λ f. Act._>>_ (Act.count (e .grants) p) f) (tested-then e (x + n) p (λ b. if b then (λ _. inner (x + n + 1)) else λ _. Act.give Onward)))
 
-  by-while : Heads w tagWhile size q n → executeBy inner e w x p ≡ looping (stepsGranted (e .grants) + 1) e (x + n) p (inner (x + n + 1))
-  unfolding executeBy if_then_else_ loopFrom
+  by-while : Heads w tagWhile size q n → statementBy inner e w x p ≡ looping (stepsGranted (e .grants) + 1) e (x + n) p (inner (x + n + 1))
+  unfolding statementBy if_then_else_ repeatAt
   by-while t = rw (t .tag-is, t .extra-is)
 
-  by-return : Heads w tagReturn size q n → executeBy inner e w x p
-      ≡ Act._>>_ (Act.count (e .grants) p) (Act._>>=_ (valueOf e (x + size - 1) p) (λ v. Act.give (Returned v)))
-  unfolding executeBy if_then_else_ executeSimple returning
+  by-return : Heads w tagReturn size q n → statementBy inner e w x p
+      ≡ Act._>>_ (Act.count (e .grants) p) (Act._>>=_ (valueOf e (x + size - 1) p) (λ v. Act.give (Returned (unpacked (packed v)))))
+  unfolding statementBy if_then_else_ countedAt simpleAt finishing
   by-return t = rw (t .tag-is, t .size-is)
 
-  by-block : Heads w tagBlock size q n → executeBy inner e w x p ≡ Act._>>_ (Act.count (e .grants) p) (executeAll (size + 1) inner e (x + 1) (x + size))
-  unfolding executeBy if_then_else_ executeSimple blockAt
+  by-block : Heads w tagBlock size q n → statementBy inner e w x p ≡ Act._>>_ (Act.count (e .grants) p) (statementsFrom (size + 1) inner e (x + 1) (x + size))
+  unfolding statementBy if_then_else_ countedAt
   by-block t = rw (t .tag-is, t .size-is)
 
-  by-act : Heads w tagAct size q n → executeBy inner e w x p ≡ Act._>>_ (Act.count (e .grants) p) (Act._>>_ (valueOf e (x + size - 1) p) (Act.give Onward))
-  unfolding executeBy if_then_else_ executeSimple acting
+  by-act : Heads w tagAct size q n → statementBy inner e w x p ≡ Act._>>_ (Act.count (e .grants) p) (Act._>>_ (valueOf e (x + size - 1) p) (Act.give Onward))
+  unfolding statementBy if_then_else_ countedAt simpleAt finishing
   by-act t = rw (t .tag-is, t .size-is)
 
 -- ---- how a statement ends
@@ -123,14 +125,15 @@ module _ (e : Setting) {ts : List Token} (sane : Sane ts) (strings : Strings (e 
 
   -- an expression by its root
   valued : (x : Expression) → Known x ts → (a at p : ℕ) → Stands (e .code) a (codeOf x ts) → a + length (codeOf x ts) ≡ at + 1
-      → {r : Raw} {s : State} {total : Amounts} → Here r s total → getD (r .words) 6 0 ≡ 0 → length (codeOf x ts) ≤ 8192
+      → {r : Raw} {s : State} {total : Amounts} → Here r s total → getD (r .words) argumentsHeld 0 ≡ 0 → length (codeOf x ts) ≤ 8192
       → Follows granted total (Values (e .program) ts (e .grants) r) (valueOf e at p r) (evaluate x p s)
+  unfolding valueOf
   valued x k a at p st q {r} {s} {total} h z l =
       evaluates e (sane .few) strings gr x k (at + 1) at p (record { start = a; stands = st; last = q }) (omega arith) r s total h (omega arith)
 
   -- how many words it has
   sized-at : (x : Expression) (a at : ℕ) → Stands (e .code) a (codeOf x ts) → a + length (codeOf x ts) ≡ at + 1 → length (codeOf x ts) ≤ 8192
-      → sizeAt e at ≡ length (codeOf x ts)
+      → sizeAt (e .code) at ≡ length (codeOf x ts)
   sized-at x a at st q l =
       let c = code-rooted x ts in
       let en : Ends (e .code) at (c .front ++ (word (c .tag) (length (codeOf x ts)) (c .number) ∷ [])) =
@@ -139,19 +142,19 @@ module _ (e : Setting) {ts : List Token} (sane : Sane ts) (strings : Strings (e 
 
   -- what executing the code from a place on comes to, loops turning at most `limit` times
   abbrev Executes : Act Flow → Run.Action Execute.Flow → ℕ → Type 0
-  Executes o m limit = (r : Raw) (s : State) (total : Amounts) → Here r s total → getD (r .words) 6 0 ≡ 0 → getD (e .grants) 0 0 - getD (r .words) 0 0 < limit
+  Executes o m limit = (r : Raw) (s : State) (total : Amounts) → Here r s total → getD (r .words) argumentsHeld 0 ≡ 0 → stepsGranted (e .grants) - getD (r .words) stepsUsed 0 < limit
       → Follows granted total (Flows (e .program) ts (e .grants) r) (o r) (m s)
 
   -- ---- loops
   module _ (x : Expression) (known : Known x ts) (a at p : ℕ) (st : Stands (e .code) a (codeOf x ts)) (q : a + length (codeOf x ts) ≡ at + 1)
       (short : length (codeOf x ts) ≤ 8192) (body : Act Flow) (body′ : Run.Action Execute.Flow) (limit : ℕ) (does : Executes body body′ limit) where
     abbrev left : Raw → ℕ
-    left r = getD (e .grants) 0 0 - getD (r .words) 0 0
+    left r = stepsGranted (e .grants) - getD (r .words) stepsUsed 0
 
     turn : (turns m : ℕ) (r₀ r : Raw) (s : State) (total : Amounts)
-        → ((r′ : Raw) (s′ : State) (total′ : Amounts) → Here r′ s′ total′ → getD (r′ .words) 6 0 ≡ 0 → left r′ < limit → left r′ < left r₀
+        → ((r′ : Raw) (s′ : State) (total′ : Amounts) → Here r′ s′ total′ → getD (r′ .words) argumentsHeld 0 ≡ 0 → left r′ < limit → left r′ < left r₀
         → Follows granted total′ (Flows (e .program) ts (e .grants) r′) (looping turns e at p body r′) (Execute.looping m p (evaluate x p) body′ s′))
-        → AfterStep (e .program) ts (e .grants) r₀ r s total → getD (r₀ .words) 6 0 ≡ 0 → left r₀ < limit
+        → AfterStep (e .program) ts (e .grants) r₀ r s total → getD (r₀ .words) argumentsHeld 0 ≡ 0 → left r₀ < limit
         → Follows granted total (Flows (e .program) ts (e .grants) r₀)
         (Act._>>=_ (valueOf e at p) (λ v. withBoolean p v λ b. if b then (λ _. Act._>>=_ body (λ f. continue f (looping turns e at p body))) else λ _. Act.give Onward) r)
         (Run._>>=_ (evaluate x p) (λ v. Operator.withBoolean p v λ b. if b then (λ _. Run._>>=_ body′ (λ f. Execute.continue f (Execute.looping m p (evaluate x p) body′))) else λ _. Run.give onward) s)
@@ -179,7 +182,7 @@ module _ (e : Setting) {ts : List Token} (sane : Sane ts) (strings : Strings (e 
     unfolding looping
     by-turn turns = turning-then e at p (λ b. if b then (λ _. Act._>>=_ body (λ f. continue f (looping turns e at p body))) else λ _. Act.give Onward)
 
-    loops : (m turns : ℕ) (r : Raw) (s : State) (total : Amounts) → Here r s total → getD (r .words) 6 0 ≡ 0 → left r < limit → left r < m → left r < turns
+    loops : (m turns : ℕ) (r : Raw) (s : State) (total : Amounts) → Here r s total → getD (r .words) argumentsHeld 0 ≡ 0 → left r < limit → left r < m → left r < turns
         → Follows granted total (Flows (e .program) ts (e .grants) r) (looping turns e at p body r) (Execute.looping m p (evaluate x p) body′ s)
     unfolding Act._>>=_ Run._>>=_ Execute.looping
     loops zero turns r s total h z lim i j = absurd (omega arith)
@@ -191,91 +194,91 @@ module _ (e : Setting) {ts : List Token} (sane : Sane ts) (strings : Strings (e 
 
   -- ---- each kind of statement
   abbrev Does : Statement → ℕ → ℕ → ℕ → Type 0
-  Does d depth at limit = Executes (executeAt depth e at) (execute d limit) limit
+  Does d depth at limit = Executes (statementAt depth e at) (execute d limit) limit
 
   module _ (depth at limit : ℕ) where
     declare-does : (p : ℕ) (x : List ℕ) → Placed ts p → Occurs ts aName x → Stands (e .code) at (codeOfStatement (declare p x) ts) → Does (declare p x) (suc depth) at limit
-    unfolding codeOfStatement execute executeAt Act._>>=_ Run._>>=_
+    unfolding codeOfStatement execute statementAt Act._>>=_ Run._>>=_
     declare-does p x pl o st r s total h z lim =
         let t = heads (stands-first st) (omega arith) (omega arith) (placed pl) in
-        rw (t .place-is, by-declare (executeAt depth e) e (getD (e .code) at 0) at p _ p (slotOf ts x) t)
+        rw (t .place-is, by-declare (statementAt depth e) e (getD (e .code) at 0) at p _ p (slotOf ts x) t)
         (bind (counts gr h p) (λ _ _ r₁ s₁ total₁ a. flow-from (a .after) (declares (sane .few) (a .after .related) x o p)))
 
     -- an expression behind the word
     module _ (x : Expression) (known : Known x ts) (short : length (codeOf x ts) ≤ 8192) (st : Stands (e .code) (at + 1) (codeOf x ts)) (p : ℕ) where
-      behind : {r : Raw} {s : State} {total : Amounts} → Here r s total → getD (r .words) 6 0 ≡ 0
+      behind : {r : Raw} {s : State} {total : Amounts} → Here r s total → getD (r .words) argumentsHeld 0 ≡ 0
           → Follows granted total (Values (e .program) ts (e .grants) r) (valueOf e (at + (length (codeOf x ts) + 1) - 1) p r) (evaluate x p s)
       behind h z = valued x known (at + 1) (at + (length (codeOf x ts) + 1) - 1) p st (omega arith) h z short
 
     assign-does : (p : ℕ) (x : List ℕ) (y : Expression) → Placed ts p → Occurs ts aName x → Known y ts → length (codeOf y ts) ≤ 8192
         → Stands (e .code) at (codeOfStatement (assign p x y) ts) → Does (assign p x y) (suc depth) at limit
-    unfolding codeOfStatement execute executeAt Act._>>=_ Run._>>=_
+    unfolding codeOfStatement execute statementAt Act._>>=_ Run._>>=_
     assign-does p x y pl o k short st r s total h z lim =
         let t = heads (stands-first st) (omega arith) (omega arith) (placed pl) in
-        rw (t .place-is, by-assign (executeAt depth e) e (getD (e .code) at 0) at p _ p (slotOf ts x) t)
+        rw (t .place-is, by-assign (statementAt depth e) e (getD (e .code) at 0) at p _ p (slotOf ts x) t)
         (bind (counts gr h p) (λ _ _ r₁ s₁ total₁ a.
         bind (behind y k short (stands-rest st) p (a .after .related) (a .after .held ∙ z)) (λ v u r₂ s₂ total₂ b.
         rw (b .means) (flow-from (Results.onward (a .after) (b .after)) (assigns e (sane .few) gr x o p (b .after .related) v (b .valid))))))
 
     return-does : (p : ℕ) (y : Expression) → Placed ts p → Known y ts → length (codeOf y ts) ≤ 8192
         → Stands (e .code) at (codeOfStatement (return p y) ts) → Does (return p y) (suc depth) at limit
-    unfolding codeOfStatement execute executeAt Act._>>=_ Run._>>=_ Act.give Run.give
+    unfolding codeOfStatement execute statementAt Act._>>=_ Run._>>=_ Act.give Run.give
     return-does p y pl k short st r s total h z lim =
         let t = heads (stands-first st) (omega arith) (omega arith) (placed pl) in
-        rw (t .place-is, by-return (executeAt depth e) e (getD (e .code) at 0) at p _ p 0 t)
+        rw (t .place-is, by-return (statementAt depth e) e (getD (e .code) at 0) at p _ p 0 t)
         (bind (counts gr h p) (λ _ _ r₁ s₁ total₁ a.
         bind (behind y k short (stands-rest st) p (a .after .related) (a .after .held ∙ z)) (λ v u r₂ s₂ total₂ b.
-        given (record { after = Results.onward (a .after) (b .after); flow = both-returned (b .valid) (b .means) }))))
+        rw (back-again (b .after .related .sound) v (b .valid)) (given (record { after = Results.onward (a .after) (b .after); flow = both-returned (b .valid) (b .means) })))))
 
     act-does : (p : ℕ) (y : Expression) → Placed ts p → Known y ts → length (codeOf y ts) ≤ 8192
         → Stands (e .code) at (codeOfStatement (act p y) ts) → Does (act p y) (suc depth) at limit
-    unfolding codeOfStatement execute executeAt Act._>>=_ Run._>>=_ Act.give Run.give
+    unfolding codeOfStatement execute statementAt Act._>>=_ Run._>>=_ Act.give Run.give
     act-does p y pl k short st r s total h z lim =
         let t = heads (stands-first st) (omega arith) (omega arith) (placed pl) in
-        rw (t .place-is, by-act (executeAt depth e) e (getD (e .code) at 0) at p _ p 0 t)
+        rw (t .place-is, by-act (statementAt depth e) e (getD (e .code) at 0) at p _ p 0 t)
         (bind (counts gr h p) (λ _ _ r₁ s₁ total₁ a.
         bind (behind y k short (stands-rest st) p (a .after .related) (a .after .held ∙ z)) (λ v u r₂ s₂ total₂ b.
         given (record { after = Results.onward (a .after) (b .after); flow = both-onward }))))
 
     when-does : (p : ℕ) (y : Expression) (d : Statement) → Placed ts p → Known y ts → length (codeOf y ts) + length (codeOfStatement d ts) ≤ 8192
         → Stands (e .code) at (codeOfStatement (when p y d) ts) → Does d depth (at + length (codeOf y ts) + 1) limit → Does (when p y d) (suc depth) at limit
-    unfolding codeOfStatement execute executeAt Act._>>=_ Run._>>=_ if_then_else_ Act.give Run.give
+    unfolding codeOfStatement execute statementAt Act._>>=_ Run._>>=_ if_then_else_ Act.give Run.give
     when-does p y d pl k short st inner r s total h z lim =
         let rest = stands-rest st in
         let size : length (codeOf y ts ++ codeOfStatement d ts) ≡ length (codeOf y ts) + length (codeOfStatement d ts) = length-append (codeOf y ts) (codeOfStatement d ts) in
         let t = heads (stands-first st) (omega arith) (omega (arith, size)) (placed pl) in
-        rw (t .place-is, by-when (executeAt depth e) e (getD (e .code) at 0) at p _ p (length (codeOf y ts)) t)
+        rw (t .place-is, by-when (statementAt depth e) e (getD (e .code) at 0) at p _ p (length (codeOf y ts)) t)
         (bind (counts gr h p) (λ _ _ r₁ s₁ total₁ a.
         bind (valued y k (at + 1) (at + length (codeOf y ts)) p (stands-front (codeOf y ts) (codeOfStatement d ts) rest) (omega arith) (a .after .related) (a .after .held ∙ z) (omega arith)) (λ v u r₂ s₂ total₂ b.
         rw (b .means) (flow-from (Results.onward (a .after) (b .after)) (with-boolean (b .after .related) p v (b .valid) _ _ (λ c.
         branch c r₂ s₂ total₂ (b .after .related) (b .after .held ∙ a .after .held ∙ z) (omega (arith, a .after .later .steps, b .after .later .steps))))))))
       where
-        branch : (c : Bool) → Executes (if c then (λ _. executeAt depth e (at + length (codeOf y ts) + 1)) else λ _. Act.give Onward) (if c then (λ _. execute d limit) else λ _. Run.give onward) limit
+        branch : (c : Bool) → Executes (if c then (λ _. statementAt depth e (at + length (codeOf y ts) + 1)) else λ _. Act.give Onward) (if c then (λ _. execute d limit) else λ _. Run.give onward) limit
         branch true = inner
         branch false = λ r s total h z lim. given (record { after = unmoved h; flow = both-onward })
 
     while-does : (p : ℕ) (y : Expression) (d : Statement) → Placed ts p → Known y ts → length (codeOf y ts) + length (codeOfStatement d ts) ≤ 8192
         → Stands (e .code) at (codeOfStatement (while p y d) ts) → Does d depth (at + length (codeOf y ts) + 1) limit → Does (while p y d) (suc depth) at limit
-    unfolding codeOfStatement execute executeAt
+    unfolding codeOfStatement execute statementAt
     while-does p y d pl k short st inner r s total h z lim =
         let rest = stands-rest st in
         let size : length (codeOf y ts ++ codeOfStatement d ts) ≡ length (codeOf y ts) + length (codeOfStatement d ts) = length-append (codeOf y ts) (codeOfStatement d ts) in
         let t = heads (stands-first st) (omega arith) (omega (arith, size)) (placed pl) in
-        rw (t .place-is, by-while (executeAt depth e) e (getD (e .code) at 0) at p _ p (length (codeOf y ts)) t)
+        rw (t .place-is, by-while (statementAt depth e) e (getD (e .code) at 0) at p _ p (length (codeOf y ts)) t)
         (loops y k (at + 1) (at + length (codeOf y ts)) p (stands-front (codeOf y ts) (codeOfStatement d ts) rest) (omega arith) (omega arith)
-        (executeAt depth e (at + length (codeOf y ts) + 1)) (execute d limit) limit inner limit (getD (e .grants) 0 0 + 1) r s total h z lim lim (omega arith))
+        (statementAt depth e (at + length (codeOf y ts) + 1)) (execute d limit) limit inner limit (stepsGranted (e .grants) + 1) r s total h z lim lim (omega arith))
 
     -- a.b = c
-    update-by : (c p n m : ℕ) → sizeAt e c ≡ n → sizeAt e (c - n) ≡ m → updating e c p
+    update-by : (c p n m : ℕ) → sizeAt (e .code) c ≡ n → sizeAt (e .code) (c - n) ≡ m → updateAt e c p
         ≡ Act._>>=_ (valueOf e (c - n - m) p) (λ v. withTable p v λ t. Act._>>=_ (valueOf e (c - n) p) (λ k. Act._>>=_ (valueOf e c p) (λ u.
         Act._>>_ (storeEntry (e .program) (e .grants) t (packed k) (packed u) p) (Act.give Onward))))
-    unfolding updating updateIn updateValue
+    unfolding updateAt updateIn updateValue
     update-by c p n m x y = rw (x, y)
 
     update-does : (p : ℕ) (x y w : Expression) → Placed ts p → Known x ts → Known y ts → Known w ts
         → length (codeOf x ts) + length (codeOf y ts) + length (codeOf w ts) ≤ 8192
         → Stands (e .code) at (codeOfStatement (update p x y w) ts) → Does (update p x y w) (suc depth) at limit
-    unfolding codeOfStatement execute executeAt Act._>>=_ Run._>>=_
+    unfolding codeOfStatement execute statementAt Act._>>=_ Run._>>=_
     update-does p x y w pl kx ky kw short st r s total h z lim =
         let a = codeOf x ts in
         let b = codeOf y ts in
@@ -291,8 +294,8 @@ module _ (e : Setting) {ts : List Token} (sane : Sane ts) (strings : Strings (e 
         let i : at + length a + length b + length c - length c ≡ at + length a + length b = omega arith in
         let j : at + length a + length b + length c - length c - length b ≡ at + length a = omega arith in
         let zc = sized-at w (at + 1 + length a + length b) (at + length a + length b + length c) sc (omega arith) (omega arith) in
-        let zb : sizeAt e (at + length a + length b + length c - length c) ≡ length b = rw i (sized-at y (at + 1 + length a) (at + length a + length b) sb (omega arith) (omega arith)) in
-        rw (t .place-is, by-update (executeAt depth e) e (getD (e .code) at 0) at p _ p 0 t, root, update-by (at + length a + length b + length c) p (length c) (length b) zc zb, j, i)
+        let zb : sizeAt (e .code) (at + length a + length b + length c - length c) ≡ length b = rw i (sized-at y (at + 1 + length a) (at + length a + length b) sb (omega arith) (omega arith)) in
+        rw (t .place-is, by-update (statementAt depth e) e (getD (e .code) at 0) at p _ p 0 t, root, update-by (at + length a + length b + length c) p (length c) (length b) zc zb, j, i)
         (bind (counts gr h p) (λ _ _ r₁ s₁ total₁ f.
         bind (valued x kx (at + 1) (at + length a) p sa (omega arith) (f .after .related) (f .after .held ∙ z) (omega arith)) (λ v u r₂ s₂ total₂ f₂.
         rw (f₂ .means) (with-table (f₂ .after .related) p v (f₂ .valid) _ _ (λ n made.
@@ -306,22 +309,22 @@ module _ (e : Setting) {ts : List Token} (sane : Sane ts) (strings : Strings (e 
 
   -- ---- statements one after the other
   abbrev DoesAll : Statements → ℕ → ℕ → ℕ → ℕ → ℕ → Type 0
-  DoesAll ds depth rounds a end limit = Executes (executeAll rounds (executeAt depth e) e a end) (Execute.executeAll ds limit) limit
+  DoesAll ds depth rounds a end limit = Executes (statementsFrom rounds (statementAt depth e) e a end) (Execute.executeAll ds limit) limit
 
   -- one of them: it counts its words
-  statement-size : (d : Statement) (a : ℕ) → Stands (e .code) a (codeOfStatement d ts) → length (codeOfStatement d ts) ≤ 8192 → sizeAt e a ≡ length (codeOfStatement d ts)
+  statement-size : (d : Statement) (a : ℕ) → Stands (e .code) a (codeOfStatement d ts) → length (codeOfStatement d ts) ≤ 8192 → sizeAt (e .code) a ≡ length (codeOfStatement d ts)
   statement-size d a st l =
       let c = statement-headed d ts in
       told (stands-first (subst (Stands (e .code) a) (c .whole) st)) (c .small) (omega arith) .size-is
 
-  none-left : (depth rounds end : ℕ) → executeAll rounds (executeAt depth e) e end end ≡ Act.give Onward
-  unfolding executeAll if_then_else_
+  none-left : (depth rounds end : ℕ) → statementsFrom rounds (statementAt depth e) e end end ≡ Act.give Onward
+  unfolding statementsFrom if_then_else_
   none-left depth zero end = refl
   none-left depth (suc rounds) end = rw (le-ltb end end (omega arith))
 
-  by-first : (depth rounds a end size : ℕ) → sizeAt e a ≡ size → a < end → executeAll (suc rounds) (executeAt depth e) e a end
-      ≡ Act._>>=_ (executeAt depth e a) (λ f. continue f (executeAll rounds (executeAt depth e) e (a + size) end))
-  unfolding executeAll if_then_else_
+  by-first : (depth rounds a end size : ℕ) → sizeAt (e .code) a ≡ size → a < end → statementsFrom (suc rounds) (statementAt depth e) e a end
+      ≡ Act._>>=_ (statementAt depth e a) (λ f. continue f (statementsFrom rounds (statementAt depth e) e (a + size) end))
+  unfolding statementsFrom if_then_else_
   by-first depth rounds a end size x l = rw (lt-ltb a end l, x)
 
   only-does : (d : Statement) (depth rounds a end limit : ℕ) → Stands (e .code) a (codeOfStatement d ts) → length (codeOfStatement d ts) ≤ 8192
@@ -346,10 +349,10 @@ module _ (e : Setting) {ts : List Token} (sane : Sane ts) (strings : Strings (e 
 
   block-does : (p : ℕ) (ds : Statements) (depth at limit : ℕ) → Placed ts p → length (codeOfStatements ds ts) ≤ 8192 → Stands (e .code) at (codeOfStatement (block p ds) ts)
       → DoesAll ds depth (length (codeOfStatements ds ts) + 1 + 1) (at + 1) (at + (length (codeOfStatements ds ts) + 1)) limit → Does (block p ds) (suc depth) at limit
-  unfolding codeOfStatement execute executeAt Act._>>=_ Run._>>=_
+  unfolding codeOfStatement execute statementAt Act._>>=_ Run._>>=_
   block-does p ds depth at limit pl short st inner r s total h z lim =
       let t : Heads (getD (e .code) at 0) tagBlock (length (codeOfStatements ds ts) + 1) p 0 = heads (stands-first st) (omega arith) (omega arith) (placed pl) in
-      rw (t .place-is, by-block (executeAt depth e) e (getD (e .code) at 0) at p _ p 0 t)
+      rw (t .place-is, by-block (statementAt depth e) e (getD (e .code) at 0) at p _ p 0 t)
       (bind (counts gr h p) (λ _ _ r₁ s₁ total₁ a.
       flow-from (a .after) (inner r₁ s₁ total₁ (a .after .related) (a .after .held ∙ z) (omega (arith, a .after .later .steps)))))
 

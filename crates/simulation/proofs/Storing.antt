@@ -20,22 +20,26 @@ use Rattle.meaning.specs.Run.{taking}
 use Rattle.meaning.specs.Run as Run
 use Rattle.meaning.specs.Book.{Amounts, added, resourceNumber, shortageOf}
 use Rattle.meaning.specs.Execute.{storing, updating}
-use Rattle.values.specs.declared.Value.{Value}
-use Rattle.values.specs.Words.{packed, unpacked}
-use Rattle.stores.specs.Layout.{entryPlace}
-use Rattle.stores.specs.Act.{Raw, raw}
-use Rattle.stores.specs.Act as Act
-use Rattle.stores.specs.Tables.{ownerAt, keyAt, valueAt, findEntry, bucketOf, headPlace, entryLaid, putEntry, addEntry, storeIn, storeEntry}
-use Rattle.plain.specs.declared.Flow.the-variants.{Onward}
+use Rattle.machine.specs.declared.Value.{Value}
+use Rattle.machine.specs.Words.{packed, unpacked}
+use Rattle.machine.specs.Layout.{entryPlace}
+use Rattle.machine.specs.Act.{Raw, raw}
+use Rattle.machine.specs.Act as Act
+use Rattle.machine.specs.Tables.{ownerAt, keyAt, valueAt, linkAt, findEntry, bucketOf, headPlace, entryLaid, putEntry, addEntry, storeIn, storeEntry}
+use Rattle.machine.specs.declared.Flow.the-variants.{Onward}
 use Rattle.simulation.specs.Meant.{meantValue, meantWord, listed, shapesOf, keyAmong, meantKey, entryAt, entriesOf}
 use Rattle.simulation.specs.Sound.{Valid, Entries}
 use Rattle.simulation.specs.Follows.{Grants, Related, Later, Follows}
 use Rattle.simulation.proofs.Binding.{act-after}
 use Rattle.simulation.proofs.Listed.{listed-first, listed-more}
-use Rattle.simulation.proofs.Frames.{valid-later, key-later, SameVariables, variables-kept, variables-same, SameShapes, shapes-kept, shapes-same}
+use Rattle.tables.proofs.IndexLaws.{bucket-less}
+use Rattle.simulation.specs.Index.{lies}
+use Rattle.simulation.proofs.Index.{last-le}
+use Rattle.simulation.proofs.Indexing.{index-agrees, index-added}
+use Rattle.simulation.proofs.Frames.{valid-later, key-later, content-later, SameVariables, variables-kept, variables-same, SameShapes, shapes-kept, shapes-same}
 use Rattle.simulation.proofs.Results.{given, After, steps-told, spent-then}
 use Rattle.simulation.proofs.Counting.{figure-same}
-use Rattle.simulation.proofs.Shapes.{up-to, read-four, read-first, read-second, read-third}
+use Rattle.simulation.proofs.Shapes.{up-to, read-four, read-first, read-second, read-third, read-fourth}
 use Rattle.simulation.proofs.Keys.{back-again}
 use Rattle.simulation.proofs.Lookup.{key-is, matches-alike, others, found-less, found-meets, missing-all, missing, present, one-overwritten}
 use Rattle.simulation.proofs.Flows.{both-onward, AfterFlow, Flows}
@@ -150,8 +154,11 @@ module _ {program : List ℕ} {ts : List Token} {g : List ℕ} {r : Raw} {s : St
     over-count : getD over 2 0 ≡ used
     over-count = over-other 2 (λ e. omega arith)
 
+    over-first : (k : ℕ) → getD over (entryPlace g k) 0 ≡ getD (r .words) (entryPlace g k) 0
+    over-first k = over-other _ (λ e. omega arith)
+
     over-owner : (k : ℕ) → ownerAt g over k ≡ ownerAt g (r .words) k
-    over-owner k = ap (λ w. w % 2 ^ 40) (over-other _ (λ e. omega arith))
+    over-owner k = ap (λ w. w % 2 ^ 40) (over-first k)
 
     over-key : (k : ℕ) → keyAt g over k ≡ keyAt g (r .words) k
     over-key k = over-other _ (λ e. omega arith)
@@ -181,6 +188,13 @@ module _ {program : List ℕ} {ts : List Token} {g : List ℕ} {r : Raw} {s : St
           let p = rw over-count at a in
           let q = rw over-count at b in
           old .apart j k p q (sym (over-owner j) ∙ x ∙ over-owner k) (sym (over-meant j p) ∙ y ∙ over-meant k q);
+      index = index-agrees program g (r .texts) (r .texts) (r .words) over
+          (record {
+            firsts = λ k l. over-first k;
+            keys = λ k l. over-key k;
+            contents = λ k l. content-later over-later (h .sound .shapes) (keyAt g (r .words) k) (old .keys k l);
+          })
+          over-count (λ b l. over-other _ (λ e. omega arith)) (old .index);
     }
 
     over-this : entryAt program g (raw (r .texts) over) at
@@ -213,7 +227,10 @@ module _ {program : List ℕ} {ts : List Token} {g : List ℕ} {r : Raw} {s : St
         (rw over-count (h .sound .counted .entries)) over-entries over-list refl refl (h .entriesTaken ∙ sym over-count) refl
 
   -- ---- added
-  module _ (none : findEntry program g (r .texts) (r .words) t (packed v) ≡ 0) (fit : getD (r .words) 2 0 + 1 ≤ getD g 2 0) (bucket : ℕ) where
+  module _ (none : findEntry program g (r .texts) (r .words) t (packed v) ≡ 0) (fit : getD (r .words) 2 0 + 1 ≤ getD g 2 0) where
+    abbrev bucket : ℕ
+    bucket = bucketOf program g (r .texts) (r .words) t (packed v)
+
     abbrev place : ℕ
     place = entryPlace g (getD (r .words) 2 0)
 
@@ -224,7 +241,7 @@ module _ {program : List ℕ} {ts : List Token} {g : List ℕ} {r : Raw} {s : St
     paid = set (r .words) 2 (getD (r .words) 2 0 + 1)
 
     abbrev more : List ℕ
-    more = entryLaid (set (r .words) 2 (getD (r .words) 2 0 + 1)) (entryPlace g (getD (r .words) 2 0)) (headPlace g bucket) t (packed v) (packed w) (getD (r .words) 2 0 + 1)
+    more = entryLaid (set (r .words) 2 (getD (r .words) 2 0 + 1)) (entryPlace g (getD (r .words) 2 0)) (headPlace g (bucketOf program g (r .texts) (r .words) t (packed v))) t (packed v) (packed w) (getD (r .words) 2 0 + 1)
 
     long : place + 3 ≤ length (r .words)
     long = omega (arith, fit, h .sound .lent .room .words)
@@ -234,38 +251,61 @@ module _ {program : List ℕ} {ts : List Token} {g : List ℕ} {r : Raw} {s : St
 
     more-other : (j : ℕ) → j ≢ 2 → j ≢ place → j ≢ place + 1 → j ≢ place + 2 → j ≢ head → getD more j 0 ≡ getD (r .words) j 0
     more-other j a b c d e =
-        read-four paid place (place + 1) (place + 2) head (t + 2 ^ 40 * getD paid head 0) (packed v) (packed w) (used + 1) j b c d e
+        read-four paid place (place + 1) (place + 2) head (t + 2 ^ 40 * (getD paid head 0 % 2 ^ 16)) (packed v) (packed w) (used + 1) j b c d e
         ∙ getD-set-other (r .words) 2 j (used + 1) 0 a
 
     more-count : getD more 2 0 ≡ used + 1
     more-count =
-        read-four paid place (place + 1) (place + 2) head (t + 2 ^ 40 * getD paid head 0) (packed v) (packed w) (used + 1) 2
+        read-four paid place (place + 1) (place + 2) head (t + 2 ^ 40 * (getD paid head 0 % 2 ^ 16)) (packed v) (packed w) (used + 1) 2
         (λ e. omega arith) (λ e. omega arith) (λ e. omega arith) (λ e. omega arith)
         ∙ getD-set-same (r .words) 2 (used + 1) 0 (omega (arith, long))
 
     small : t < 2 ^ 40
     small = omega (arith, h .sound .counted .tables, h .sound .counted .steps, h .sound .lent .room .steps)
 
+    new-first : getD more place 0 ≡ t + 2 ^ 40 * (getD paid head 0 % 2 ^ 16)
+    new-first = read-first paid place (place + 1) (place + 2) head (t + 2 ^ 40 * (getD paid head 0 % 2 ^ 16)) (packed v) (packed w) (used + 1) (omega (arith, long-paid))
+        (λ e. omega arith) (λ e. omega arith) (λ e. omega arith)
+
     new-owner : ownerAt g more used ≡ t
-    new-owner =
-        let q : getD more place 0 ≡ t + 2 ^ 40 * getD paid head 0 =
-        read-first paid place (place + 1) (place + 2) head (t + 2 ^ 40 * getD paid head 0) (packed v) (packed w) (used + 1) (omega (arith, long-paid))
-        (λ e. omega arith) (λ e. omega arith) (λ e. omega arith) in
-        rw q (omega (arith, small))
+    new-owner = rw new-first (omega (arith, small))
+
+    -- the bucket, and its head
+    bucket-below : bucket < getD g 2 0
+    bucket-below = bucket-less program g (r .texts) (r .words) t (packed v) (omega (arith, fit))
+
+    head-small : getD (r .words) head 0 < 2 ^ 16
+    head-small =
+        omega (arith, old .index .begins bucket bucket-below, last-le (lies program g (r .texts) (r .words) bucket) used, fit, h .sound .lent .room .entries)
+
+    head-paid : getD paid head 0 % 2 ^ 16 ≡ getD (r .words) head 0
+    head-paid =
+        let q : getD paid head 0 ≡ getD (r .words) head 0 = getD-set-other (r .words) 2 head (used + 1) 0 (λ e. omega arith) in
+        rw q (omega (arith, head-small))
+
+    new-link : linkAt g more used ≡ getD (r .words) head 0
+    new-link = rw (new-first, head-paid) (omega (arith, small))
+
+    new-head : getD more head 0 ≡ used + 1
+    new-head = read-fourth paid place (place + 1) (place + 2) head (t + 2 ^ 40 * (getD paid head 0 % 2 ^ 16)) (packed v) (packed w) (used + 1)
+        (rw (length-set (r .words) 2 (used + 1)) (omega (arith, bucket-below, h .sound .lent .room .words)))
 
     new-key : keyAt g more used ≡ packed v
-    new-key = read-second paid place (place + 1) (place + 2) head (t + 2 ^ 40 * getD paid head 0) (packed v) (packed w) (used + 1) (omega (arith, long-paid))
+    new-key = read-second paid place (place + 1) (place + 2) head (t + 2 ^ 40 * (getD paid head 0 % 2 ^ 16)) (packed v) (packed w) (used + 1) (omega (arith, long-paid))
         (λ e. omega arith) (λ e. omega arith)
 
     new-value : valueAt g more used ≡ packed w
-    new-value = read-third paid place (place + 1) (place + 2) head (t + 2 ^ 40 * getD paid head 0) (packed v) (packed w) (used + 1) (omega (arith, long-paid))
+    new-value = read-third paid place (place + 1) (place + 2) head (t + 2 ^ 40 * (getD paid head 0 % 2 ^ 16)) (packed v) (packed w) (used + 1) (omega (arith, long-paid))
         (λ e. omega arith)
 
     more-low : (j : ℕ) → j ≢ 2 → j < 24584 + 3 * getD g 1 0 → getD more j 0 ≡ getD (r .words) j 0
     more-low j d l = more-other j d (λ e. omega arith) (λ e. omega arith) (λ e. omega arith) (λ e. omega arith)
 
+    old-first : (k : ℕ) → k < used → getD more (entryPlace g k) 0 ≡ getD (r .words) (entryPlace g k) 0
+    old-first k l = more-other _ (λ e. omega arith) (λ e. omega arith) (λ e. omega arith) (λ e. omega arith) (λ e. omega arith)
+
     old-owner : (k : ℕ) → k < used → ownerAt g more k ≡ ownerAt g (r .words) k
-    old-owner k l = ap (λ w. w % 2 ^ 40) (more-other _ (λ e. omega arith) (λ e. omega arith) (λ e. omega arith) (λ e. omega arith) (λ e. omega arith))
+    old-owner k l = ap (λ w. w % 2 ^ 40) (old-first k l)
 
     old-key : (k : ℕ) → k < used → keyAt g more k ≡ keyAt g (r .words) k
     old-key k l = more-other _ (λ e. omega arith) (λ e. omega arith) (λ e. omega arith) (λ e. omega arith) (λ e. omega arith)
@@ -307,6 +347,21 @@ module _ {program : List ℕ} {ts : List Token} {g : List ℕ} {r : Raw} {s : St
           (λ k b x y. absurd (fresh k b (sym (old-owner k b) ∙ sym x ∙ new-owner) (sym (old-meant k b) ∙ sym y ∙ new-meant)))
           (λ x y. refl) k (rw more-count at b))
           j (rw more-count at a);
+      index = index-added program g (r .texts) (r .words) more t (packed v) (record {
+        agree = record {
+          firsts = old-first;
+          keys = old-key;
+          contents = λ k l. content-later more-later (h .sound .shapes) (keyAt g (r .words) k) (old .keys k l);
+        };
+        used = more-count;
+        left = omega (arith, fit);
+        owner = new-owner;
+        key-there = new-key;
+        content = content-later more-later (h .sound .shapes) (packed v) (rw back-key valid);
+        link = new-link;
+        head = new-head;
+        heads = λ b l n. more-other _ (λ e. omega arith) (λ e. omega arith) (λ e. omega arith) (λ e. omega arith) (λ e. n (omega arith));
+      }) (old .index);
     }
 
     last-entry : entryAt program g (raw (r .texts) more) (0 + used) ≡ record { owner = t; key = key; holds = meantValue program (r .texts) w }
@@ -338,10 +393,10 @@ module _ {program : List ℕ} {ts : List Token} {g : List ℕ} {r : Raw} {s : St
         (withEntries s (s .entries ++ (record { owner = t; key = key; holds = meantValue program (r .texts) w } ∷ []))) (added total (taking Run.entries 1 p))
     unfolding added resourceNumber
     adds p = stored h more more-low _ (added total (taking Run.entries 1 p))
-        (length-set (set (set (set paid place (t + 2 ^ 40 * getD paid head 0)) (place + 1) (packed v)) (place + 2) (packed w)) head (used + 1)
-        ∙ length-set (set (set paid place (t + 2 ^ 40 * getD paid head 0)) (place + 1) (packed v)) (place + 2) (packed w)
-        ∙ length-set (set paid place (t + 2 ^ 40 * getD paid head 0)) (place + 1) (packed v)
-        ∙ length-set paid place (t + 2 ^ 40 * getD paid head 0) ∙ length-set (r .words) 2 (used + 1))
+        (length-set (set (set (set paid place (t + 2 ^ 40 * (getD paid head 0 % 2 ^ 16))) (place + 1) (packed v)) (place + 2) (packed w)) head (used + 1)
+        ∙ length-set (set (set paid place (t + 2 ^ 40 * (getD paid head 0 % 2 ^ 16))) (place + 1) (packed v)) (place + 2) (packed w)
+        ∙ length-set (set paid place (t + 2 ^ 40 * (getD paid head 0 % 2 ^ 16))) (place + 1) (packed v)
+        ∙ length-set paid place (t + 2 ^ 40 * (getD paid head 0 % 2 ^ 16)) ∙ length-set (r .words) 2 (used + 1))
         (rw more-count fit) more-entries more-list (omega arith) (omega arith) (omega (arith, h .entriesTaken, more-count)) (omega arith)
 
   -- ---- stored
@@ -352,7 +407,7 @@ module _ {program : List ℕ} {ts : List Token} {g : List ℕ} {r : Raw} {s : St
     unfolding addEntry storing putEntry Act._>>=_ Act.goOn Act.load Run._>>=_ Run.goOn Run.current Run.become Run.give shortageOf
     stores-new none =
         spent-then Run.entries 2 (getD g 2 0) 1 77 p r s (h .entriesTaken) (gr .entries) refl (steps-told h) _ _
-        (λ fit. given (record { after = adds none fit (bucketOf program g (r .texts) (r .words) t (packed v)) p; flow = both-onward }))
+        (λ fit. given (record { after = adds none fit p; flow = both-onward }))
 
     stores-old : (n : findEntry program g (r .texts) (r .words) t (packed v) ≢ 0) (u : Value.Value)
         → Follows granted total (λ _ f r′ s′ total′. AfterFlow program ts g r Onward f r′ s′ total′)

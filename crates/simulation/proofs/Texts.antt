@@ -15,11 +15,11 @@ use Rattle.meaning.specs.Run.{taking}
 use Rattle.meaning.specs.Run as Run
 use Rattle.meaning.specs.Book.{Amounts, added, resourceNumber, shortageOf}
 use Rattle.meaning.specs.Operator as Operator
-use Rattle.values.specs.declared.Value.{Value}
-use Rattle.values.specs.declared.Value.the-variants.{Text}
-use Rattle.stores.specs.Act.{Raw, raw}
-use Rattle.stores.specs.Act as Act
-use Rattle.stores.specs.Texts.{handle, originIn, startIn, sizeIn, part, textOf, laidAt, joined, putJoined, joinTexts}
+use Rattle.machine.specs.declared.Value.{Value}
+use Rattle.machine.specs.declared.Value.the-variants.{Text}
+use Rattle.machine.specs.Act.{Raw, raw}
+use Rattle.machine.specs.Act as Act
+use Rattle.machine.specs.Texts.{handle, originIn, startIn, sizeIn, part, textOf, laidAt, joined, putJoined, joinTexts}
 use Rattle.texts.proofs.Layer.{length-laid, kept-laid, part-laid, part-take, length-part}
 use Rattle.simulation.specs.Meant.{meantValue}
 use Rattle.simulation.specs.Sound.{Held, Valid}
@@ -146,9 +146,10 @@ module _ {program : List ℕ} {ts : List Token} {g : List ℕ} where
         (record { count = as-was 1 (λ e. omega arith); words = λ i j x y. as-was _ (λ e. omega arith) })
         (record {
           count = as-was 2 (λ e. omega arith);
-          owners = λ k x. ap (λ w. w % 2 ^ 40) (as-was _ (λ e. omega arith));
+          firsts = λ k x. as-was _ (λ e. omega arith);
           keys = λ k x. as-was _ (λ e. omega arith);
           values = λ k x. as-was _ (λ e. omega arith);
+          heads = λ b x. as-was _ (λ e. omega arith);
         })
         refl refl (h .tables ∙ sym (as-was 4 (λ e. omega arith))) refl
         (omega (arith, h .stepsTaken, as-was 0 (λ e. omega arith))) (omega (arith, h .shapesTaken, as-was 1 (λ e. omega arith)))

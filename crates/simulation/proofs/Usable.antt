@@ -10,11 +10,11 @@ use Rattle.meaning.specs.State as State
 use Rattle.meaning.specs.Run as Run
 use Rattle.meaning.specs.Book.{Amounts}
 use Rattle.meaning.specs.Operator as Operator
-use Rattle.values.specs.declared.Value.{Value}
-use Rattle.values.specs.declared.Value.the-variants.{Integer, Text, Boolean, Nothing, Table, Shape}
-use Rattle.stores.specs.Act.{Raw}
-use Rattle.stores.specs.Shapes.{figureAt}
-use Rattle.stores.specs.Variables.{isDead, usable}
+use Rattle.machine.specs.declared.Value.{Value}
+use Rattle.machine.specs.declared.Value.the-variants.{Integer, Text, Boolean, Nothing, Table, Shape}
+use Rattle.machine.specs.Act.{Raw}
+use Rattle.machine.specs.Shapes.{figureAt}
+use Rattle.machine.specs.Variables.{isDead, usable}
 use Rattle.simulation.specs.Meant.{meantValue, meantFigure, shapeAt}
 use Rattle.simulation.specs.Sound.{Valid}
 use Rattle.simulation.specs.Follows.{Related, Follows}

@@ -20,11 +20,11 @@ use Rattle.meaning.specs.Book.{Amounts}
 use Rattle.meaning.specs.Evaluate as Evaluate
 use Rattle.code.specs.Code.{slotOf}
 use Rattle.reader.proofs.Homes.{Occurs, occurs-found, slot-small, same-text, text-same}
-use Rattle.values.specs.declared.Value.{Value}
-use Rattle.stores.specs.Layout.{declared, valuePlace}
-use Rattle.stores.specs.Act.{Raw}
-use Rattle.stores.specs.Act as Act
-use Rattle.stores.specs.Variables.{variable}
+use Rattle.machine.specs.declared.Value.{Value}
+use Rattle.machine.specs.Layout.{declared, valuePlace}
+use Rattle.machine.specs.Act.{Raw}
+use Rattle.machine.specs.Act as Act
+use Rattle.machine.specs.Variables.{variable}
 use Rattle.simulation.specs.Meant.{meantWord, listed, slotAt, variableAt, variablesOf}
 use Rattle.simulation.specs.Sound.{Variables}
 use Rattle.simulation.specs.Follows.{Related, Follows}
@@ -95,7 +95,7 @@ module _ {program : List ℕ} {ts : List Token} {g : List ℕ} (few : length ts 
 
   -- ---- a variable's value
   pub reads-variable : {granted : Amounts} (p : ℕ) → Follows granted total (Values program ts g r) (variable p (slotOf ts x) r) (Evaluate.variable p x s)
-  unfolding variable Evaluate.variable Evaluate.found Act._>>=_ Act.goOn Act.load Act.refuse Act.fail Act.give Run._>>=_ Run.goOn Run.current Run.fail Run.give
+  unfolding variable Evaluate.variable Evaluate.lookedUp Act._>>=_ Act.goOn Act.load Act.refuse Act.fail Act.give Run._>>=_ Run.goOn Run.current Run.fail Run.give
   reads-variable p = go (eqb (getD (r .words) (valuePlace (slotOf ts x)) 0) 0) refl
     where
       go : {granted : Amounts} (b : Bool) → eqb (getD (r .words) (valuePlace (slotOf ts x)) 0) 0 ≡ b

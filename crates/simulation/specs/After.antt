@@ -9,12 +9,12 @@ use Rattle.meaning.specs.State.{State}
 use Rattle.meaning.specs.Book.{Amounts}
 use Rattle.meaning.specs.Execute.{onward, returned}
 use Rattle.meaning.specs.Execute as Execute
-use Rattle.values.specs.declared.Value.{Value}
-use Rattle.stores.specs.Layout.{stepsUsed, tablesMade, argumentsHeld}
-use Rattle.stores.specs.Act.{Raw}
-use Rattle.stores.specs.Arguments.{argumentAt}
-use Rattle.plain.specs.declared.Flow.{Flow}
-use Rattle.plain.specs.declared.Flow.the-variants.{Onward, Returned}
+use Rattle.machine.specs.declared.Value.{Value}
+use Rattle.machine.specs.Layout.{stepsUsed, tablesMade, argumentsHeld}
+use Rattle.machine.specs.Act.{Raw}
+use Rattle.machine.specs.Stack.{argumentAt}
+use Rattle.machine.specs.declared.Flow.{Flow}
+use Rattle.machine.specs.declared.Flow.the-variants.{Onward, Returned}
 use Rattle.simulation.specs.Meant.{meantValue}
 use Rattle.simulation.specs.Sound.{Valid}
 use Rattle.simulation.specs.Follows.{Related, Later}

@@ -8,10 +8,10 @@ use Rattle.meaning.specs.State.{State}
 use Rattle.meaning.specs.Run as Run
 use Rattle.meaning.specs.Run.{steps, shapes, entries, textBytes, Taking, End, result, error, Run}
 use Rattle.meaning.specs.Book.{Amounts, allFit, lacking, book, shortageOf}
-use Rattle.stores.specs.Layout.{stepsUsed, shapesUsed, entriesUsed, textUsed, tablesMade, stepsGranted, shapesGranted, entriesGranted, textGranted}
-use Rattle.stores.specs.Act.{Raw, Out, done, stop}
-use Rattle.stores.specs.Texts.{textOf}
-use Rattle.stores.specs.Shapes.{figureAt}
+use Rattle.machine.specs.Layout.{stepsUsed, shapesUsed, entriesUsed, textUsed, tablesMade, stepsGranted, shapesGranted, entriesGranted, textGranted}
+use Rattle.machine.specs.Act.{Raw, Out, done, stop}
+use Rattle.machine.specs.Texts.{textOf}
+use Rattle.machine.specs.Shapes.{figureAt}
 use Rattle.simulation.specs.Meant.{variablesOf, shapesOf, entriesOf}
 use Rattle.simulation.specs.Sound.{Held, Sound}
 

@@ -1,4 +1,5 @@
 pub mod Meant
+pub mod Index
 pub mod Sound
 pub mod Follows
 pub mod After

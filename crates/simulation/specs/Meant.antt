@@ -12,15 +12,15 @@ use Rattle.meaning.specs.Value.{integer, string, boolean, none, table, shape}
 use Rattle.meaning.specs.Value as Value
 use Rattle.meaning.specs.State.{Variable, Key, Entry, keyOf}
 use Rattle.meaning.specs.State as State
-use Rattle.values.specs.declared.Value.{Value}
-use Rattle.values.specs.declared.Value.the-variants.{Integer, Text, Boolean, Nothing, Table, Shape}
-use Rattle.values.specs.Words.{unpacked}
-use Rattle.stores.specs.Layout.{shapesUsed, entriesUsed, declared, valuePlace, orderPlace}
-use Rattle.stores.specs.Act.{Raw}
-use Rattle.stores.specs.Texts.{textOf}
-use Rattle.stores.specs.declared.Figure.{Figure}
-use Rattle.stores.specs.Shapes.{figureAt, destroyedAt}
-use Rattle.stores.specs.Tables.{ownerAt, keyAt, valueAt}
+use Rattle.machine.specs.declared.Value.{Value}
+use Rattle.machine.specs.declared.Value.the-variants.{Integer, Text, Boolean, Nothing, Table, Shape}
+use Rattle.machine.specs.Words.{unpacked}
+use Rattle.machine.specs.Layout.{shapesUsed, entriesUsed, declared, valuePlace, orderPlace}
+use Rattle.machine.specs.Act.{Raw}
+use Rattle.machine.specs.Texts.{textOf}
+use Rattle.machine.specs.declared.Figure.{Figure}
+use Rattle.machine.specs.Shapes.{figureAt, destroyedAt}
+use Rattle.machine.specs.Tables.{ownerAt, keyAt, valueAt}
 
 -- ---- values and figures: a handle stands for its text, a number for itself
 unfoldable pub meantValue : List ℕ → List ℕ → Value → Value.Value

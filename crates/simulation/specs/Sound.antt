@@ -11,17 +11,18 @@ use lib.Dec.{eqb}
 use Rattle.meaning.specs.Token.{Token}
 use Rattle.meaning.specs.Grammar.{textAt}
 use Rattle.code.specs.Code.{slotOf}
-use Rattle.values.specs.declared.Value.{Value}
-use Rattle.values.specs.declared.Value.the-variants.{Integer, Text, Boolean, Nothing, Table, Shape}
-use Rattle.values.specs.Words.{packed, unpacked}
-use Rattle.stores.specs.Layout.{stepsUsed, shapesUsed, entriesUsed, textUsed, tablesMade, declared, argumentsHeld, stepsGranted, shapesGranted, entriesGranted, textGranted, valuePlace, shapePlace, Lent}
-use Rattle.stores.specs.Act.{Raw}
-use Rattle.stores.specs.Texts.{originIn, startIn, sizeIn}
-use Rattle.stores.specs.declared.Figure.{Figure}
-use Rattle.stores.specs.Shapes.{figureAt}
-use Rattle.stores.specs.Variables.{isDeclared}
-use Rattle.stores.specs.Tables.{ownerAt, keyAt, valueAt}
+use Rattle.machine.specs.declared.Value.{Value}
+use Rattle.machine.specs.declared.Value.the-variants.{Integer, Text, Boolean, Nothing, Table, Shape}
+use Rattle.machine.specs.Words.{packed, unpacked}
+use Rattle.machine.specs.Layout.{stepsUsed, shapesUsed, entriesUsed, textUsed, tablesMade, declared, argumentsHeld, stepsGranted, shapesGranted, entriesGranted, textGranted, valuePlace, shapePlace, Lent}
+use Rattle.machine.specs.Act.{Raw}
+use Rattle.machine.specs.Texts.{originIn, startIn, sizeIn}
+use Rattle.machine.specs.declared.Figure.{Figure}
+use Rattle.machine.specs.Shapes.{figureAt}
+use Rattle.machine.specs.Variables.{isDeclared}
+use Rattle.machine.specs.Tables.{ownerAt, keyAt, valueAt}
 use Rattle.simulation.specs.Meant.{slotAt, meantKey}
+use Rattle.simulation.specs.Index.{Indexed}
 
 -- a handle's text lies in the program, or within the used part of the text store
 pub record Held (program : List ℕ) (used h : ℕ) : Type 0 where
@@ -80,13 +81,14 @@ pub record Shapes (program ws : List ℕ) : Type 0 where
   pub second : (i : ℕ) → i < getD ws shapesUsed 0 → getD ws (shapePlace i + 2) 0 < 2 ^ 64
 
 -- ---- entries
--- Keys are words as values are packed, and no two entries of a table have one key.
+-- Keys are words as values are packed, no two entries of a table have one key, and the index is right.
 pub record Entries (program g : List ℕ) (r : Raw) : Type 0 where
   pub packs : (k : ℕ) → k < getD (r .words) entriesUsed 0 → packed (unpacked (keyAt g (r .words) k)) ≡ keyAt g (r .words) k
   pub keys : (k : ℕ) → k < getD (r .words) entriesUsed 0 → Valid program (r .words) (unpacked (keyAt g (r .words) k))
   pub holds : (k : ℕ) → k < getD (r .words) entriesUsed 0 → Valid program (r .words) (unpacked (valueAt g (r .words) k))
   pub apart : (j k : ℕ) → j < getD (r .words) entriesUsed 0 → k < getD (r .words) entriesUsed 0 → ownerAt g (r .words) j ≡ ownerAt g (r .words) k
       → meantKey program r (keyAt g (r .words) j) ≡ meantKey program r (keyAt g (r .words) k) → j ≡ k
+  pub index : Indexed program g (r .texts) (r .words)
 
 -- ---- all of it
 pub record Sound (program : List ℕ) (ts : List Token) (g : List ℕ) (r : Raw) : Type 0 where

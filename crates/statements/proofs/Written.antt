@@ -10,7 +10,8 @@ use lib.ListN.{length, take, set, length-append, length-take}
 use lib.Seq.{take-set-lt, set-append-left}
 use Rattle.meaning.specs.Basics.{if_then_else_}
 use Rattle.meaning.specs.Grammar.{Got, good, wrong, after}
-use Rattle.code.specs.Code.{word, headed}
+use Rattle.machine.specs.Opcodes.{word}
+use Rattle.code.specs.Code.{headed}
 use Rattle.expressions.specs.declared.Read.{Read}
 use Rattle.expressions.specs.declared.Read.the-variants.{At, Wrong}
 use Rattle.expressions.specs.Words.{kindAt, is, Piece, piece, expect, at, seen, written, writtenCode}

@@ -5,7 +5,7 @@ use lib.ListN.{length, getD, set}
 use Rattle.meaning.specs.Basics.{if_then_else_}
 use Rattle.meaning.specs.Token.{semicolon, openParen, closeParen}
 use Rattle.meaning.specs.Grammar.{Got, good, wrong, after, Inside, noLevel, level, opening}
-use Rattle.code.specs.Code.{word}
+use Rattle.machine.specs.Opcodes.{word}
 use Rattle.expressions.specs.Words.{is, ReadPiece, expect, expression, Seen, at, failed}
 use Rattle.statements.specs.declared.Parsed.{Parsed}
 use Rattle.statements.specs.declared.Parsed.the-variants.{Body, Misfit}

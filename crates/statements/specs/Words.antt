@@ -7,7 +7,8 @@ use lib.Dec.{eqb}
 use Rattle.meaning.specs.Basics.{if_then_else_}
 use Rattle.meaning.specs.Token.{ending, aName, wordDef, wordVar, wordIf, wordWhile, wordReturn, comma, semicolon, openParen, closeParen, openBrace, closeBrace, becomes}
 use Rattle.meaning.specs.Grammar.{Got, good, wrong, after, Inside, noLevel, level, opening}
-use Rattle.code.specs.Code.{tagDeclare, tagAssign, tagUpdate, tagWhen, tagWhile, tagReturn, tagBlock, tagAct, headed}
+use Rattle.machine.specs.Opcodes.{tagDeclare, tagAssign, tagUpdate, tagWhen, tagWhile, tagReturn, tagBlock, tagAct}
+use Rattle.code.specs.Code.{headed}
 use Rattle.expressions.specs.Words.{placeAt, homeAt, is, Piece, ReadPiece, expect, expression}
 use Rattle.statements.specs.declared.Parsed.{Parsed}
 use Rattle.statements.specs.declared.Parsed.the-variants.{Body, Misfit}

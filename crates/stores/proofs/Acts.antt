@@ -8,9 +8,9 @@ use lib.ListN.{getD, set}
 use lib.Dec.{leb}
 use borrow.Author.Tests.{leb-true, leb-false}
 use Rattle.meaning.specs.Basics.{if_then_else_}
-use Rattle.values.specs.declared.Value.{Value}
-use Rattle.values.specs.declared.Answer.the-variants.{Good, Bad}
-use Rattle.stores.specs.Act.{raw, Out, done, stop, Act, goOn, _>>=_, spend, shown, passed, Answers, Passes, Pays, Gives}
+use Rattle.machine.specs.declared.Value.{Value}
+use Rattle.machine.specs.declared.Answer.the-variants.{Good, Bad}
+use Rattle.machine.specs.Act.{raw, Out, done, stop, Act, goOn, _>>=_, spend, shown, passed, Answers, Passes, Pays, Gives}
 
 -- ---- one act and then another
 module _ {B : Type 0} (k : Value → Act B) where

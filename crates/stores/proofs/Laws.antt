@@ -13,17 +13,17 @@ use mir.Val.{toZ, ofZ, SFits}
 use mir.Facts.{toZ-ofZ}
 use borrow.Author.Tests.{not-true, not-false, le-leb, lt-leb, ne-eqb}
 use Rattle.meaning.specs.Integer.{bits}
-use Rattle.values.specs.declared.Value.{Value}
-use Rattle.values.specs.declared.Value.the-variants.{Table, Shape}
-use Rattle.values.specs.declared.Answer.the-variants.{Good, Bad}
-use Rattle.values.specs.Words.{kindIn, numberIn, packed, unpacked}
+use Rattle.machine.specs.declared.Value.{Value}
+use Rattle.machine.specs.declared.Value.the-variants.{Table, Shape}
+use Rattle.machine.specs.declared.Answer.the-variants.{Good, Bad}
+use Rattle.machine.specs.Words.{kindIn, numberIn, packed, unpacked}
 use Rattle.values.proofs.Laws.{unpacked-shape, by-kind}
-use Rattle.stores.specs.Layout.{shapePlace, Room}
-use Rattle.stores.specs.Act.{raw, Out, done, goOn, give, fail, refuse, load, store, spend, count, newTable, shown, passed, Answers, Passes, Pays, Gives, _>>=_}
-use Rattle.stores.specs.declared.Figure.{Figure}
-use Rattle.stores.specs.Shapes.{firstWord, pairWord, figureLaid, putFigure, lowNumber, highNumber, figureAt, destroyedAt, newShape, destroy}
-use Rattle.stores.specs.Variables.{isDead, usable, variable, declare, setVariable, destroyIn, clearFrom, clearScene}
-use Rattle.stores.specs.Arguments.{push, dropTo}
+use Rattle.machine.specs.Layout.{shapePlace, Room}
+use Rattle.machine.specs.Act.{raw, Out, done, goOn, give, fail, refuse, load, store, spend, count, newTable, shown, passed, Answers, Passes, Pays, Gives, _>>=_}
+use Rattle.machine.specs.declared.Figure.{Figure}
+use Rattle.machine.specs.Shapes.{firstWord, pairWord, figureLaid, putFigure, lowNumber, highNumber, figureAt, destroyedAt, newShape, destroy}
+use Rattle.machine.specs.Variables.{isDead, usable, variable, declare, setVariable, destroyIn, clearFrom, clearScene}
+use Rattle.machine.specs.Stack.{push, dropTo}
 use Rattle.stores.proofs.Acts.{paid, short}
 use Rattle.meaning.specs.Basics.{if_then_else_}
 

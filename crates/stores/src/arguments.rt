@@ -2,9 +2,9 @@
 ghost use Prim.Native.Nat.{_≤_};
 ghost use mathlib.Core.Path.{_≡_};
 ghost use lib.ListN.{length, getD};
-ghost use Rattle.stores.specs.Layout.{argumentsHeld};
-ghost use Rattle.stores.specs.Act.{Passes, Gives};
-ghost use Rattle.stores.specs.Arguments.{argumentAt, push, dropTo};
+ghost use Rattle.machine.specs.Layout.{argumentsHeld};
+ghost use Rattle.machine.specs.Act.{Passes, Gives};
+ghost use Rattle.machine.specs.Stack.{argumentAt, push, dropTo};
 
 // How many arguments are held.
 pub fn arguments_held(words: &[u64]) -> u64

@@ -1,8 +1,8 @@
 // Counters of what a run uses.
 ghost use Prim.Native.Nat.{_<_, _≤_};
 ghost use lib.ListN.{length};
-ghost use Rattle.values.specs.declared.Value.the-variants.{Table};
-ghost use Rattle.stores.specs.Act.{Pays, Passes, Gives, count, newTable};
+ghost use Rattle.machine.specs.declared.Value.the-variants.{Table};
+ghost use Rattle.machine.specs.Act.{Pays, Passes, Gives, count, newTable};
 
 // Adds an amount to a counter, if it then stays within the grant.
 pub fn spend(words: &mut [u64], counter: usize, granted: u64, amount: u64) -> bool

@@ -1,15 +1,15 @@
 // Shapes.
-use crate::Figure;
 use crate::counters;
 use crate::words;
-use values::Answer;
-use values::Value;
+use machine::Answer;
+use machine::Figure;
+use machine::Value;
 ghost use Prim.Native.Nat.{_+_, _≤_};
 ghost use mathlib.Core.Path.{_≡_};
 ghost use lib.ListN.{length};
-ghost use Rattle.stores.specs.Layout.{Room, shapePlace};
-ghost use Rattle.stores.specs.Act.{Answers, Gives};
-ghost use Rattle.stores.specs.Shapes.{firstWord, pairWord, figureLaid, lowNumber, highNumber, destroyedAt, figureAt, newShape, destroy};
+ghost use Rattle.machine.specs.Layout.{Room, shapePlace};
+ghost use Rattle.machine.specs.Act.{Answers, Gives};
+ghost use Rattle.machine.specs.Shapes.{firstWord, pairWord, figureLaid, lowNumber, highNumber, destroyedAt, figureAt, newShape, destroy};
 
 // Where a shape's words stand.
 pub fn place_of(i: u32) -> usize

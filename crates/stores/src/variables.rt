@@ -1,13 +1,13 @@
 // Variables by slot.
 use crate::shapes;
-use values::Answer;
+use machine::Answer;
 ghost use Prim.Native.Nat.{_≤_};
 ghost use mathlib.Core.Path.{_≡_};
 ghost use lib.ListN.{length, getD};
-ghost use Rattle.values.specs.Words.{unpacked};
-ghost use Rattle.stores.specs.Layout.{declared, valuePlace, orderPlace};
-ghost use Rattle.stores.specs.Act.{Answers, Passes, Gives};
-ghost use Rattle.stores.specs.Variables.{isDead, isDeclared, variable, declare, setVariable, destroyIn, clearScene};
+ghost use Rattle.machine.specs.Words.{unpacked};
+ghost use Rattle.machine.specs.Layout.{declared, valuePlace, orderPlace};
+ghost use Rattle.machine.specs.Act.{Answers, Passes, Gives};
+ghost use Rattle.machine.specs.Variables.{isDead, isDeclared, variable, declare, setVariable, destroyIn, clearScene};
 
 // Whether a word's value is a destroyed shape.
 pub fn is_dead(words: &[u64], w: u64) -> bool

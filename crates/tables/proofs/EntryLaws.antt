@@ -5,30 +5,28 @@ use mathlib.Core.List.{List}
 use mathlib.Core.Bool.{Bool, true, false}
 use native.Mathlib.Omega.{arith}
 use lib.ListN.{length, getD, set, length-set}
-use lib.Seq.{getD-set-other}
 use borrow.Author.Tests.{ne-eqb, le-leb, lt-leb}
-use Rattle.values.specs.declared.Value.{Value}
-use Rattle.values.specs.declared.Answer.the-variants.{Good, Bad}
-use Rattle.values.specs.Words.{unpacked}
-use Rattle.stores.specs.Layout.{entryPlace}
-use Rattle.stores.specs.Act.{raw, goOn, give, fail, refuse, load, store, spend, shown, passed, PassesIn, _>>=_}
-use Rattle.stores.specs.Variables.{isDead, usable}
-use Rattle.stores.specs.Tables.{matches, findEntry, readFrom, readEntry, bucketOf, lies, Looks, entryLaid, putEntry, addEntry, storeIn, storeEntry}
+use Rattle.machine.specs.declared.Value.{Value}
+use Rattle.machine.specs.declared.Answer.the-variants.{Good, Bad}
+use Rattle.machine.specs.Words.{unpacked}
+use Rattle.machine.specs.Layout.{entryPlace, Room}
+use Rattle.machine.specs.Act.{raw, goOn, give, fail, refuse, load, store, spend, shown, passed, PassesIn, _>>=_}
+use Rattle.machine.specs.Variables.{isDead, usable}
+use Rattle.machine.specs.Tables.{findEntry, readFrom, readEntry, bucketOf, entryLaid, putEntry, addEntry, storeIn, storeEntry}
 use Rattle.tables.specs.Asked.{Puts}
-use Rattle.tables.proofs.IndexLaws.{last-le, bucket-less}
+use Rattle.tables.proofs.IndexLaws.{bucket-less, found-le}
 use Rattle.meaning.specs.Basics.{if_then_else_}
 
 -- ---- where a found entry stands
-module _ (program g ts ws : List ℕ) (t key k : ℕ) (l : Looks program g ts ws) (e : k ≡ findEntry program g ts ws t key) where
+module _ (program g ts ws : List ℕ) (t key k : ℕ) (l : Room g ws) (e : k ≡ findEntry program g ts ws t key) where
   below : k ≤ getD g 2 0
-  unfolding findEntry
-  below = omega (arith, e, last-le (matches program g ts ws t key) (getD ws 2 0), l .index .few)
+  below = omega (arith, e, found-le program g ts ws t key)
 
   pub found-small : k - 1 < 2 ^ 16
-  found-small = omega (arith, below, l .room .entries)
+  found-small = omega (arith, below, l .entries)
 
   pub found-room : (at : ℕ) → (k ≡ 0 → ⊥) → at ≡ entryPlace g (k - 1) → at + 4 ≤ length ws
-  found-room at n f = omega (arith, below, l .room .words, n)
+  found-room at n f = omega (arith, below, l .words, n)
 
 -- ---- reading
 module _ (program g ts ws : List ℕ) (p t key k : ℕ) (e : k ≡ findEntry program g ts ws t key) where
@@ -46,8 +44,8 @@ module _ (program g ts ws : List ℕ) (p t key k : ℕ) (e : k ≡ findEntry pro
     entry-read v z q = rw (q, ← e, ne-eqb _ _ n, ← f, ← d, z)
 
 -- ---- a new entry
-pub bucket-small : (program g ts ws : List ℕ) (t key b : ℕ) → getD ws 2 0 < getD g 2 0 → b ≡ bucketOf program g ts ws t key → Looks program g ts ws → b < 2 ^ 16
-bucket-small program g ts ws t key b h e l = omega (arith, e, bucket-less program g ts ws t key (omega arith), l .room .entries)
+pub bucket-small : (program g ts ws : List ℕ) (t key b : ℕ) → getD ws 2 0 < getD g 2 0 → b ≡ bucketOf program g ts ws t key → Room g ws → b < 2 ^ 16
+bucket-small program g ts ws t key b h e l = omega (arith, e, bucket-less program g ts ws t key (omega arith), l .entries)
 
 module _ (program g ts ws : List ℕ) (t key value : ℕ) where
   pub no-entry-left : getD g 2 0 ≤ getD ws 2 0 → PassesIn ts ws 77 (addEntry program g t key value) false ws
@@ -60,17 +58,11 @@ module _ (program g ts ws : List ℕ) (t key value : ℕ) where
     unfolding addEntry putEntry _>>=_ goOn load spend passed if_then_else_
     entry-added ws′ q = record { equal = λ p. rw (q, d, f, e, le-leb (getD ws 2 0 + 1) (getD g 2 0) (omega arith)) }
 
-    pub puts-entry : Looks program g ts ws → Puts (set ws 2 (getD ws 2 0 + 1)) at (head + 3)
+    pub puts-entry : Room g ws → Puts (set ws 2 (getD ws 2 0 + 1)) at (head + 3)
     puts-entry l =
         let b-less : b < getD g 2 0 = rw e (bucket-less program g ts ws t key (omega arith)) in
         let long : length (set ws 2 (getD ws 2 0 + 1)) ≡ length ws = length-set ws 2 (getD ws 2 0 + 1) in
-        let begin : getD ws (head + 3) 0 ≤ getD ws 2 0 =
-        rw (d, l .index .begins b b-less) (last-le (lies program g ts ws b) (getD ws 2 0)) in
-        record {
-          entry = omega (arith, l .room .words);
-          index = omega (arith, l .room .words);
-          link = rw (getD-set-other ws 2 (head + 3) (getD ws 2 0 + 1) 0 (λ z. omega arith)) (omega (arith, l .room .entries));
-        }
+        record { entry = omega (arith, l .words); index = omega (arith, l .words) }
 
 -- ---- storing
 module _ (program g ts ws : List ℕ) (t key value k : ℕ) (e : k ≡ findEntry program g ts ws t key) where

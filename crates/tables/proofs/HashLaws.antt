@@ -6,10 +6,10 @@ use native.Mathlib.Numerals.{add-one}
 use lib.ListN.{length, getD, drop, drop-of-length-le}
 use lib.Seq.{drop-cons}
 use borrow.Author.Tests.{ne-eqb}
-use Rattle.values.specs.Words.{numberIn}
-use Rattle.stores.specs.Layout.{shapePlace}
-use Rattle.stores.specs.Texts.{textOf}
-use Rattle.stores.specs.Tables.{figureContent, contentOf, hashed, hashFrom}
+use Rattle.machine.specs.Words.{numberIn}
+use Rattle.machine.specs.Layout.{shapePlace}
+use Rattle.machine.specs.Texts.{textOf}
+use Rattle.machine.specs.Tables.{figureContent, contentOf, hashed, hashFrom}
 use Rattle.meaning.specs.Basics.{if_then_else_}
 
 -- ---- a loop that hashes byte by byte: i are taken in

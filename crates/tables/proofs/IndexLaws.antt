@@ -1,70 +1,17 @@
 -- Look-up by the index.
 use Prim.Native.Nat.{ℕ, zero, suc, _+_, _*_, _-_, _/_, _%_, _^_, _≤_, _<_}
-use mathlib.Core.Path.{_≡_, _∙_, refl, sym, ap}
+use mathlib.Core.Path.{_≡_, _∙_, refl, sym}
 use mathlib.Core.List.{List}
 use mathlib.Core.Bool.{Bool, true, false}
 use native.Mathlib.Omega.{arith}
-use native.Mathlib.Nat.{le-of-lt, mul-le-mul-right, mod-lt, div-lt-iff-lt-mul, mul-lt-mul-of-pos-right, mul-comm}
+use native.Mathlib.Nat.{le-of-lt, le-refl, le-trans, mul-le-mul-right, mod-lt, div-lt-iff-lt-mul, mul-lt-mul-of-pos-right, mul-comm}
 use lib.ListN.{length, getD}
-use borrow.Author.Tests.{eq-eqb, eqb-true}
+use lib.Dec.{eqb, ltb, leb}
+use borrow.Author.Tests.{ne-eqb, le-leb, lt-leb, lt-ltb, le-ltb, leb-true, ltb-true}
 use Rattle.meaning.specs.Basics.{if_then_else_}
-use Rattle.stores.specs.Layout.{entryPlace, entriesUsed, entriesGranted}
-use Rattle.stores.specs.Tables.{ownerAt, keyAt, matches, last, findEntry, contentOf, hashFrom, spread, bucketOf, headPlace, lies, Looks}
+use Rattle.machine.specs.Layout.{entryPlace, entriesGranted, Room}
+use Rattle.machine.specs.Tables.{matches, contentOf, hashFrom, spread, bucketOf, headPlace, linkAt, walk, findEntry}
 use Rattle.tables.specs.Asked.{matchesAt}
-use Rattle.tables.proofs.KeyLaws.{both, same-content}
-
--- ---- the last that meets a test
-pub last-here : (f : ℕ → Bool) (k : ℕ) → 0 < k → f (k - 1) ≡ true → last f k ≡ k
-unfolding last if_then_else_
-last-here f zero h e = absurd (omega arith)
-last-here f (suc k) h e = let q : suc k - 1 ≡ k = omega arith in rw (rw q at e)
-
-pub last-below : (f : ℕ → Bool) (k : ℕ) → 0 < k → f (k - 1) ≡ false → last f k ≡ last f (k - 1)
-unfolding last if_then_else_
-last-below f zero h e = absurd (omega arith)
-last-below f (suc k) h e = let q : suc k - 1 ≡ k = omega arith in rw (q, rw q at e)
-
-pub last-none : (f : ℕ → Bool) (k : ℕ) → k ≤ 0 → last f k ≡ 0
-unfolding last
-last-none f zero h = refl
-last-none f (suc k) h = absurd (omega arith)
-
-pick-le : (b : Bool) (n m : ℕ) → m ≤ n → (if b then (λ _. suc n) else λ _. m) ≤ suc n
-unfolding if_then_else_
-pick-le true n m h = omega arith
-pick-le false n m h = omega arith
-
-pub last-le : (f : ℕ → Bool) (n : ℕ) → last f n ≤ n
-unfolding last
-last-le f zero = omega arith
-last-le f (suc n) = pick-le (f n) n (last f n) (last-le f n)
-
--- what meets a test meets a weaker one, so the last of the weaker one may be gone to first
-pub last-skip : (f g : ℕ → Bool) (n : ℕ) → ((i : ℕ) → f i ≡ true → g i ≡ true) → last f n ≡ last f (last g n)
-unfolding last if_then_else_
-last-skip f g zero h = refl
-last-skip f g (suc n) h = go (g n) (f n) refl refl (last-skip f g n h)
-  where
-    go : (x y : Bool) → g n ≡ x → f n ≡ y → last f n ≡ last f (last g n)
-        → (if f n then (λ _. suc n) else λ _. last f n) ≡ last f (if g n then (λ _. suc n) else λ _. last g n)
-    go true y e u r = rw e
-    go false true e u r = let z : _≡_ {A = Bool} false true = sym e ∙ h n u in let w : _≡_ {A = ℕ} 0 1 = cc in absurd (omega arith)
-    go false false e u r = rw (e, u) r
-
-pub last-meets : (f : ℕ → Bool) (n : ℕ) → 0 < last f n → f (last f n - 1) ≡ true
-unfolding last if_then_else_
-last-meets f zero h = absurd (omega arith)
-last-meets f (suc n) h = go (f n) refl (last-meets f n) h
-  where
-    go : (b : Bool) → f n ≡ b → (0 < last f n → f (last f n - 1) ≡ true)
-        → 0 < (if b then (λ _. suc n) else λ _. last f n) → f ((if b then (λ _. suc n) else λ _. last f n) - 1) ≡ true
-    go true e r l = let q : suc n - 1 ≡ n = omega arith in rw q e
-    go false e r l = r l
-
-pub last-cong : (f g : ℕ → Bool) (n : ℕ) → ((i : ℕ) → i < n → f i ≡ g i) → last f n ≡ last g n
-unfolding last
-last-cong f g zero h = refl
-last-cong f g (suc n) h = rw (h n (omega arith), last-cong f g n (λ i l. h i (omega arith)))
 
 -- ---- buckets
 pub spread-less : (h size : ℕ) → 0 < size → spread h size < size
@@ -85,80 +32,122 @@ pub bucket-is : (program g ts ws : List ℕ) (t key h : ℕ) → h ≡ hashFrom 
 unfolding bucketOf
 bucket-is program g ts ws t key h e = rw e
 
--- an entry that matches lies in the bucket
-match-lies : (program g ts ws : List ℕ) (t key k : ℕ) → matches program g ts ws t key k ≡ true → lies program g ts ws (bucketOf program g ts ws t key) k ≡ true
-unfolding matches lies bucketOf
-match-lies program g ts ws t key k e =
-    let q = both _ _ e in
-    let u : ownerAt g ws k ≡ t = eqb-true _ _ (q .0) in
-    let w : contentOf program ts ws (keyAt g ws k) ≡ contentOf program ts ws key = same-content program ts ws (keyAt g ws k) key (q .1) in
-    eq-eqb (spread (hashFrom (ownerAt g ws k) (contentOf program ts ws (keyAt g ws k))) (entriesGranted g)) (spread (hashFrom t (contentOf program ts ws key)) (entriesGranted g)) (rw (u, w))
+-- ---- walks
+module _ (f : ℕ → Bool) (link : ℕ → ℕ) where
+  pub walk-done : (n k : ℕ) → k ≤ 0 → walk f link n k ≡ 0
+  unfolding walk if_then_else_
+  walk-done zero k h = refl
+  walk-done (suc n) zero h = refl
+  walk-done (suc n) (suc k) h = absurd (omega arith)
 
--- ---- a walk along a bucket: the entries from k on do not match, and the one before k lies in the bucket
+  pub walk-here : (n k : ℕ) → 0 < k → k ≤ n → f (k - 1) ≡ true → walk f link n k ≡ k
+  unfolding walk if_then_else_
+  walk-here zero k p h e = absurd (omega arith)
+  walk-here (suc n) k p h e = rw (ne-eqb k 0 (λ z. omega arith), e)
+
+  pub walk-next : (n k : ℕ) → 0 < k → k ≤ n → f (k - 1) ≡ false → link (k - 1) < k → walk f link n k ≡ walk f link (n - 1) (link (k - 1))
+  unfolding walk if_then_else_
+  walk-next zero k p h e l = absurd (omega arith)
+  walk-next (suc n) k p h e l = let q : suc n - 1 ≡ n = omega arith in rw (q, ne-eqb k 0 (λ z. omega arith), e, lt-ltb (link (k - 1)) k l)
+
+  pub walk-stray : (n k : ℕ) → 0 < k → k ≤ n → f (k - 1) ≡ false → k ≤ link (k - 1) → walk f link n k ≡ 0
+  unfolding walk if_then_else_
+  walk-stray zero k p h e l = absurd (omega arith)
+  walk-stray (suc n) k p h e l = rw (ne-eqb k 0 (λ z. omega arith), e, le-ltb (link (k - 1)) k l)
+
+  pub walk-le : (n k : ℕ) → walk f link n k ≤ k
+  unfolding walk if_then_else_
+  walk-le zero k = omega arith
+  walk-le (suc n) k = go (eqb k 0) (f (k - 1)) (ltb (link (k - 1)) k) refl (walk-le n (link (k - 1)))
+    where
+      go : (a b c : Bool) → ltb (link (k - 1)) k ≡ c → walk f link n (link (k - 1)) ≤ link (k - 1)
+          → (if a then (λ _. 0) else λ _. if b then (λ _. k) else λ _. if c then (λ _. walk f link n (link (k - 1))) else λ _. 0) ≤ k
+      go true b c e m = omega arith
+      go false true c e m = le-refl k
+      go false false true e m = omega (arith, ltb-true (link (k - 1)) k e)
+      go false false false e m = omega arith
+
+-- ---- a walk along a bucket, in the code: it has come to k, and finds from there on what is to be found
 pub record Walking (program g ts ws : List ℕ) (t key base k : ℕ) : Type 0 where
-  pub looks : Looks program g ts ws
+  pub room : Room g ws
   pub start : base ≡ entryPlace g 0
-  pub few : k ≤ getD ws entriesUsed 0
-  pub here : 0 < k → lies program g ts ws (bucketOf program g ts ws t key) (k - 1) ≡ true
-  pub rest : findEntry program g ts ws t key ≡ last (matches program g ts ws t key) k
+  pub few : k ≤ entriesGranted g
+  pub turns : ℕ
+  pub enough : k ≤ turns
+  pub rest : findEntry program g ts ws t key ≡ walk (matches program g ts ws t key) (linkAt g ws) turns k
 
 module _ (program g ts ws : List ℕ) (t key : ℕ) where
-  abbrev inside : ℕ → Bool
-  inside k = lies program g ts ws (bucketOf program g ts ws t key) k
+  -- no more is found than was granted
+  pub found-le : findEntry program g ts ws t key ≤ entriesGranted g
+  unfolding findEntry if_then_else_
+  found-le = go (getD ws (headPlace g (bucketOf program g ts ws t key)) 0) (leb (getD ws (headPlace g (bucketOf program g ts ws t key)) 0) (entriesGranted g)) refl
+    where
+      go : (h : ℕ) (b : Bool) → leb h (entriesGranted g) ≡ b → (if b then (λ _. walk (matches program g ts ws t key) (linkAt g ws) h h) else λ _. 0) ≤ entriesGranted g
+      go h true e = le-trans (walk-le (matches program g ts ws t key) (linkAt g ws) h h) (leb-true h (entriesGranted g) e)
+      go h false e = omega arith
 
-  to-bucket : (m : ℕ) → last (matches program g ts ws t key) m ≡ last (matches program g ts ws t key) (last inside m)
-  to-bucket m = last-skip (matches program g ts ws t key) inside m (match-lies program g ts ws t key)
-
-  pub no-entries : Looks program g ts ws → getD g 2 0 ≡ 0 → 0 ≡ findEntry program g ts ws t key
-  unfolding findEntry
-  no-entries l e = sym (last-none (matches program g ts ws t key) (getD ws 2 0) (omega (arith, l .index .few)))
+  pub no-entries : getD g 2 0 ≡ 0 → 0 ≡ findEntry program g ts ws t key
+  no-entries e = omega (arith, found-le)
 
   -- the head's place
-  pub head-less : (base b : ℕ) → Looks program g ts ws → (getD g 2 0 ≡ 0 → ⊥) → base ≡ entryPlace g 0 → b ≡ bucketOf program g ts ws t key → base + 4 * b + 3 < length ws
-  head-less base b l n e f = omega (arith, bucket-less program g ts ws t key (omega (arith, n)), l .room .words)
+  pub head-less : (base b : ℕ) → Room g ws → (getD g 2 0 ≡ 0 → ⊥) → base ≡ entryPlace g 0 → b ≡ bucketOf program g ts ws t key → base + 4 * b + 3 < length ws
+  head-less base b l n e f = omega (arith, bucket-less program g ts ws t key (omega (arith, n)), l .words)
 
-  pub walk-begin : (base b : ℕ) → Looks program g ts ws → (getD g 2 0 ≡ 0 → ⊥) → base ≡ entryPlace g 0 → b ≡ bucketOf program g ts ws t key
-      → Walking program g ts ws t key base (getD ws (base + 4 * b + 3) 0)
-  unfolding findEntry
-  walk-begin base b l n e f =
-      let p : base + 4 * b + 3 ≡ headPlace g b = omega arith in
-      let q : getD ws (base + 4 * b + 3) 0 ≡ last inside (getD ws 2 0) =
-      rw (p, f) (l .index .begins (bucketOf program g ts ws t key) (bucket-less program g ts ws t key (omega (arith, n)))) in
-      rw q (record { looks = l; start = e; few = last-le inside (getD ws 2 0); here = last-meets inside (getD ws 2 0); rest = to-bucket (getD ws 2 0) })
+  module _ (base b : ℕ) (e : base ≡ entryPlace g 0) (f : b ≡ bucketOf program g ts ws t key) where
+    head-there : base + 4 * b + 3 ≡ headPlace g (bucketOf program g ts ws t key)
+    head-there = omega arith
+
+    pub head-stray : getD g 2 0 < getD ws (base + 4 * b + 3) 0 → 0 ≡ findEntry program g ts ws t key
+    unfolding findEntry if_then_else_
+    head-stray l =
+        let m = rw head-there at l in
+        rw (lt-leb (getD ws (headPlace g (bucketOf program g ts ws t key)) 0) (entriesGranted g) m)
+
+    pub walk-begin : Room g ws → getD ws (base + 4 * b + 3) 0 ≤ getD g 2 0 → Walking program g ts ws t key base (getD ws (base + 4 * b + 3) 0)
+    unfolding findEntry if_then_else_
+    walk-begin l h =
+        let m = rw head-there at h in
+        record {
+          room = l;
+          start = e;
+          few = h;
+          turns = getD ws (base + 4 * b + 3) 0;
+          enough = le-refl _;
+          rest = rw (head-there, le-leb (getD ws (headPlace g (bucketOf program g ts ws t key)) 0) (entriesGranted g) m);
+        }
 
   module _ (base k : ℕ) (w : Walking program g ts ws t key base k) (p : 0 < k) where
     place : base + 4 * (k - 1) ≡ entryPlace g (k - 1)
     place = omega (arith, w .start)
 
     pub entry-room : base + 4 * (k - 1) + 4 ≤ length ws
-    entry-room = omega (arith, w .start, w .few, w .looks .index .few, w .looks .room .words)
+    entry-room = omega (arith, w .start, w .few, w .room .words)
 
     matches-there : (r : Bool) → r ≡ matchesAt program ts ws (base + 4 * (k - 1)) t key → matches program g ts ws t key (k - 1) ≡ r
     unfolding matches matchesAt
     matches-there r e = sym (rw place at e)
 
     pub walk-found : (r : Bool) → r ≡ matchesAt program ts ws (base + 4 * (k - 1)) t key → r ≡ true → k ≡ findEntry program g ts ws t key
-    walk-found r e q = sym (w .rest ∙ last-here (matches program g ts ws t key) k p (matches-there r e ∙ q))
+    walk-found r e q = sym (w .rest ∙ walk-here (matches program g ts ws t key) (linkAt g ws) (w .turns) k p (w .enough) (matches-there r e ∙ q))
 
-    next : getD ws (base + 4 * (k - 1)) 0 / 1099511627776 ≡ last inside (k - 1)
-    unfolding lies
-    next =
-        let q : bucketOf program g ts ws (ownerAt g ws (k - 1)) (keyAt g ws (k - 1)) ≡ bucketOf program g ts ws t key = eqb-true _ _ (w .here p) in
-        rw place (w .looks .index .links (k - 1) (omega (arith, w .few)) ∙ ap (λ (c : ℕ). last (lies program g ts ws c) (k - 1)) q)
+    link-there : (next : ℕ) → next ≡ getD ws (base + 4 * (k - 1)) 0 / 1099511627776 → linkAt g ws (k - 1) ≡ next
+    link-there next e = sym (rw place at e)
 
-    pub walk-less : getD ws (base + 4 * (k - 1)) 0 / 1099511627776 < k
-    walk-less = omega (arith, next, last-le inside (k - 1))
+    pub walk-ends : (r : Bool) (next : ℕ) → r ≡ matchesAt program ts ws (base + 4 * (k - 1)) t key → r ≡ false
+        → next ≡ getD ws (base + 4 * (k - 1)) 0 / 1099511627776 → k ≤ next → 0 ≡ findEntry program g ts ws t key
+    walk-ends r next e q z l =
+        sym (w .rest ∙ walk-stray (matches program g ts ws t key) (linkAt g ws) (w .turns) k p (w .enough) (matches-there r e ∙ q) (rw (link-there next z) l))
 
-    pub walk-on : (r : Bool) → r ≡ matchesAt program ts ws (base + 4 * (k - 1)) t key → r ≡ false → Walking program g ts ws t key base (getD ws (base + 4 * (k - 1)) 0 / 1099511627776)
-    walk-on r e q =
-        rw next
-        (record {
-          looks = w .looks;
-          start = w .start;
-          few = omega (arith, w .few, last-le inside (k - 1));
-          here = last-meets inside (k - 1);
-          rest = w .rest ∙ last-below (matches program g ts ws t key) k p (matches-there r e ∙ q) ∙ to-bucket (k - 1);
-        })
+    pub walk-on : (r : Bool) (next : ℕ) → r ≡ matchesAt program ts ws (base + 4 * (k - 1)) t key → r ≡ false
+        → next ≡ getD ws (base + 4 * (k - 1)) 0 / 1099511627776 → next < k → Walking program g ts ws t key base next
+    walk-on r next e q z l = record {
+      room = w .room;
+      start = w .start;
+      few = omega (arith, w .few);
+      turns = w .turns - 1;
+      enough = omega (arith, w .enough);
+      rest = w .rest ∙ rw (← link-there next z) (walk-next (matches program g ts ws t key) (linkAt g ws) (w .turns) k p (w .enough) (matches-there r e ∙ q) (rw (link-there next z) l));
+    }
 
   pub walk-over : (base k : ℕ) → Walking program g ts ws t key base k → k ≤ 0 → 0 ≡ findEntry program g ts ws t key
-  walk-over base k w h = sym (w .rest ∙ last-none (matches program g ts ws t key) k h)
+  walk-over base k w h = sym (w .rest ∙ walk-done (matches program g ts ws t key) (linkAt g ws) (w .turns) k h)

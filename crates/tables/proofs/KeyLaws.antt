@@ -8,10 +8,10 @@ use lib.ListN.{getD}
 use lib.Dec.{eqb}
 use borrow.Author.Tests.{eq-eqb, ne-eqb, eqb-true, not-true, not-false}
 use Rattle.meaning.specs.Basics.{if_then_else_, sameText}
-use Rattle.values.specs.Words.{kindIn, numberIn, handleIn}
-use Rattle.stores.specs.Layout.{shapePlace}
-use Rattle.stores.specs.Texts.{textOf}
-use Rattle.stores.specs.Tables.{sameFigure, sameKey, figureContent, contentOf}
+use Rattle.machine.specs.Words.{kindIn, numberIn, handleIn}
+use Rattle.machine.specs.Layout.{shapePlace}
+use Rattle.machine.specs.Texts.{textOf}
+use Rattle.machine.specs.Tables.{sameFigure, sameKey, figureContent, contentOf}
 use Rattle.tables.specs.Asked.{matchesAt}
 use Rattle.texts.proofs.Comparison.{same-eq}
 

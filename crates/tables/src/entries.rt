@@ -1,13 +1,13 @@
 // Look-up and update.
 use crate::hashes;
 use crate::keys;
-use values::Answer;
+use machine::Answer;
 ghost use Prim.Native.Nat.{_+_, _^_, _≤_, _<_};
 ghost use mathlib.Core.Path.{_≡_};
 ghost use lib.ListN.{length, getD};
-ghost use Rattle.stores.specs.Layout.{entryPlace};
-ghost use Rattle.stores.specs.Act.{raw, shown, PassesIn};
-ghost use Rattle.stores.specs.Tables.{findEntry, readEntry, bucketOf, Looks, entryLaid, addEntry, storeEntry};
+ghost use Rattle.machine.specs.Layout.{entryPlace, Room};
+ghost use Rattle.machine.specs.Act.{raw, shown, PassesIn};
+ghost use Rattle.machine.specs.Tables.{findEntry, readEntry, bucketOf, entryLaid, addEntry, storeEntry};
 ghost use Rattle.tables.specs.Asked.{matchesAt, Puts};
 
 fn entry_place(grants: &[u64; 4], k: usize) -> usize
@@ -61,7 +61,7 @@ pub fn find_entry<'a>(
     t: u32,
     key: u64,
 ) -> usize
-    requires { ⌜ Looks (now program) (now grants) (now texts) (now words) ⌝ }
+    requires { ⌜ Room (now grants) (now words) ⌝ }
     ensures { λ r. ⌜ r ≡ findEntry (now (program .entry)) (now (grants .entry)) (now (texts .entry)) (now (words .entry)) t key ⌝ }
 {
     if grants[2] == 0 {
@@ -69,13 +69,21 @@ pub fn find_entry<'a>(
     }
     let base = entry_place(grants, 0);
     let b = bucket(program, texts, words, grants, t, key);
-    let mut k = words[base + 4 * b + 3] as usize;
+    let head = words[base + 4 * b + 3];
+    if grants[2] < head {
+        return 0;
+    }
+    let mut k = head as usize;
     while 0 < k {
         let at = base + 4 * (k - 1);
         if entry_matches(program, texts, words, at, t, key) {
             return k;
         }
-        k = (words[at] / 1099511627776) as usize;
+        let next = (words[at] / 1099511627776) as usize;
+        if k <= next {
+            return 0;
+        }
+        k = next;
     }
     0
 }
@@ -90,7 +98,7 @@ pub fn read_entry<'a>(
     t: u32,
     key: u64,
 ) -> Answer
-    requires { ⌜ Looks (now program) (now grants) (now texts) (now words) ⌝ }
+    requires { ⌜ Room (now grants) (now words) ⌝ }
     ensures { λ r. ⌜ shown r (now (texts .entry)) (now (words .entry)) ≡ readEntry (now (program .entry)) (now (grants .entry)) p t key (raw (now (texts .entry)) (now (words .entry))) ⌝ }
 {
     let k = find_entry(program, texts, words, grants, t, key);
@@ -109,7 +117,7 @@ fn put_entry(words: &mut [u64], at: usize, head: usize, t: u32, key: u64, value:
     requires { ⌜ Puts (now words) at head ⌝ }
     ensures { λ _. ⌜ now (words .exit) ≡ entryLaid (now (words .entry)) at head t key value number ⌝ }
 {
-    let link = words[head];
+    let link = words[head] % 65536;
     words[at] = t as u64 + 1099511627776 * link;
     words[at + 1] = key;
     words[at + 2] = value;
@@ -126,7 +134,7 @@ fn add_entry<'a>(
     key: u64,
     value: u64,
 ) -> bool
-    requires { ⌜ Looks (now program) (now grants) (now texts) (now words) ⌝ }
+    requires { ⌜ Room (now grants) (now words) ⌝ }
     ensures { λ r. ⌜ PassesIn (now (texts .entry)) (now (words .entry)) 77 (addEntry (now (program .entry)) (now (grants .entry)) t key value) r (now (words .exit)) ⌝ }
 {
     let n = words[2];
@@ -152,7 +160,7 @@ pub fn store_entry<'a>(
     key: u64,
     value: u64,
 ) -> bool
-    requires { ⌜ Looks (now program) (now grants) (now texts) (now words) ⌝ }
+    requires { ⌜ Room (now grants) (now words) ⌝ }
     ensures { λ r. ⌜ PassesIn (now (texts .entry)) (now (words .entry)) 77 (storeEntry (now (program .entry)) (now (grants .entry)) t key value) r (now (words .exit)) ⌝ }
 {
     let found = find_entry(program, texts, words, grants, t, key);

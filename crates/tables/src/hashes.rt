@@ -1,7 +1,7 @@
 // Hashes of keys.
 ghost use Prim.Native.Nat.{_/_, _%_, _^_};
 ghost use mathlib.Core.Path.{_≡_};
-ghost use Rattle.stores.specs.Tables.{figureContent, contentOf, hashed, hashFrom};
+ghost use Rattle.machine.specs.Tables.{figureContent, contentOf, hashed, hashFrom};
 
 fn hash_number(h: u32, x: u32) -> u32
     ensures { λ r. ⌜ r ≡ hashed h x ⌝ }

@@ -2,7 +2,7 @@
 ghost use mathlib.Core.Path.{_≡_};
 ghost use lib.ListN.{getD};
 ghost use lib.Dec.{eqb};
-ghost use Rattle.stores.specs.Tables.{sameFigure, sameKey};
+ghost use Rattle.machine.specs.Tables.{sameFigure, sameKey};
 
 // Whether the words at two places are the same.
 fn same_word(words: &[u64], a: usize, b: usize) -> bool

@@ -9,11 +9,11 @@ use lib.Dec.{eqb}
 use lib.ListN.{length, getD, take, drop, length-take, length-drop, drop-of-length-le}
 use lib.Seq.{take-all, take-nil, length-take-le}
 use Rattle.meaning.specs.Basics.{if_then_else_, sameText}
-use Rattle.values.specs.declared.Value.the-variants.{Text}
-use Rattle.values.specs.declared.Answer.the-variants.{Good, Bad}
-use Rattle.stores.specs.Layout.{Lent}
-use Rattle.stores.specs.Act.{raw, goOn, load, give, spend, shown, Pays, _>>=_}
-use Rattle.stores.specs.Texts.{originIn, startIn, sizeIn, part, textOf, laidAt, joined, putJoined, joinTexts}
+use Rattle.machine.specs.declared.Value.the-variants.{Text}
+use Rattle.machine.specs.declared.Answer.the-variants.{Good, Bad}
+use Rattle.machine.specs.Layout.{Lent}
+use Rattle.machine.specs.Act.{raw, goOn, load, give, spend, shown, Pays, _>>=_}
+use Rattle.machine.specs.Texts.{originIn, startIn, sizeIn, part, textOf, laidAt, joined, putJoined, joinTexts}
 use Rattle.stores.proofs.Acts.{paid, short}
 use Rattle.texts.specs.Laying.{Clipped, Lays, Laid}
 use Rattle.texts.proofs.Layer.{laid-laid, kept-laid, part-take, part-clip, length-part}

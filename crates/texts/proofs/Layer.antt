@@ -8,7 +8,7 @@ use native.Mathlib.Numerals.{add-one}
 use lib.ListN.{length, set, getD, take, drop, length-append, length-drop, take-append-drop}
 use lib.Seq.{take-all, take-at, take-take, take-suc, getD-drop, getD-take, length-take-le}
 use Rattle.meaning.specs.Basics.{laidOver}
-use Rattle.stores.specs.Texts.{part, laidAt}
+use Rattle.machine.specs.Texts.{part, laidAt}
 
 -- ---- over the front
 over-more : (xs : List ℕ) (x : ℕ) (d : List ℕ) → laidOver (xs ++ x ∷ []) d ≡ set (laidOver xs d) (length xs) x

@@ -3,7 +3,7 @@ use Prim.Native.Nat.{ℕ, _+_, _-_, _≤_}
 use mathlib.Core.Path.{_≡_}
 use mathlib.Core.List.{List}
 use lib.ListN.{length, take}
-use Rattle.stores.specs.Texts.{sizeIn, textOf, laidAt}
+use Rattle.machine.specs.Texts.{sizeIn, textOf, laidAt}
 
 -- how much of a part lies within a length
 pub record Clipped (len start size n : ℕ) : Type 0 where

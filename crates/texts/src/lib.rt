@@ -1,12 +1,12 @@
 // Texts: parts of the program or of the text store, known by handles.
-use values::Answer;
-use values::Value;
+use machine::Answer;
+use machine::Value;
 ghost use mathlib.Core.Path.{_≡_};
 ghost use lib.ListN.{length};
 ghost use Rattle.meaning.specs.Basics.{sameText};
-ghost use Rattle.stores.specs.Layout.{Lent};
-ghost use Rattle.stores.specs.Act.{raw, shown};
-ghost use Rattle.stores.specs.Texts.{startIn, sizeIn, part, textOf, laidAt, joinTexts};
+ghost use Rattle.machine.specs.Layout.{Lent};
+ghost use Rattle.machine.specs.Act.{raw, shown};
+ghost use Rattle.machine.specs.Texts.{startIn, sizeIn, part, textOf, laidAt, joinTexts};
 ghost use Rattle.texts.specs.Laying.{Clipped, Copies, Lays, Laid};
 
 // Where a handle's text starts, and how long it is.

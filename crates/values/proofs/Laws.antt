@@ -13,9 +13,9 @@ use mir.Facts.{toZ-ofZ}
 use Rattle.meaning.specs.Basics.{if_then_else_}
 use Rattle.meaning.specs.Integer.{bits}
 use Rattle.arithmetic.proofs.Ranges.{bits-below, signed-bits}
-use Rattle.values.specs.declared.Value.{Value}
-use Rattle.values.specs.declared.Value.the-variants.{Integer, Text, Boolean, Nothing, Table, Shape}
-use Rattle.values.specs.Words.{kindIn, numberIn, handleIn, truthIn, packed, unpacked}
+use Rattle.machine.specs.declared.Value.{Value}
+use Rattle.machine.specs.declared.Value.the-variants.{Integer, Text, Boolean, Nothing, Table, Shape}
+use Rattle.machine.specs.Words.{kindIn, numberIn, handleIn, truthIn, packed, unpacked}
 
 -- an integer that a call gave, read back from its bits
 pub same-back : {r : ℤ} {n k : ℕ} → mag r < 2 ^ 31 → r ≡ toZ w32 n → n ≡ k → toZ w32 (ofZ w32 r) ≡ toZ w32 k

@@ -1,24 +1,9 @@
 // Values, and the words that they are stored as.
+use machine::Value;
 ghost use mathlib.Core.Path.{_≡_};
 ghost use mir.Syntax.{w32};
 ghost use mir.Val.{toZ};
-ghost use Rattle.values.specs.Words.{kindIn, numberIn, handleIn, truthIn, packed, unpacked};
-
-// A value. A text is a part of the program or of the text store; tables and shapes are known by their numbers.
-pub enum Value {
-    Integer(i32),
-    Text(u64),
-    Boolean(bool),
-    Nothing,
-    Table(u32),
-    Shape(u32),
-}
-
-// What an evaluation gives: a value, or a number and its place.
-pub enum Answer {
-    Good(Value),
-    Bad(u64, u64),
-}
+ghost use Rattle.machine.specs.Words.{kindIn, numberIn, handleIn, truthIn, packed, unpacked};
 
 // Which value a word holds: 1 an integer, 2 a text, 3 a truth, 4 nothing, 5 a table, 6 a shape.
 pub fn kind_of(w: u64) -> u64

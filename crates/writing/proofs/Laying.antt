@@ -82,6 +82,14 @@ unfolding laidAt
 at-clipped at n b d h =
     ap (λ (l : List ℕ). take at d ++ l) (over-clipped n b (drop at d) (h ∙ ap (λ (m : ℕ). min (length b) m) (sym (length-drop at d))))
 
+-- one byte before the others
+at-front : (at x : ℕ) (b d : List ℕ) → laidAt at (x ∷ b) d ≡ set (laidAt (suc at) b d) at x
+unfolding laidAt laidOver
+at-front zero x b [] = rw (over-empty b)
+at-front zero x b (y ∷ d) = refl
+at-front (suc at) x b [] = rw (over-empty b)
+at-front (suc at) x b (y ∷ d) = ap (λ (l : List ℕ). y ∷ l) (at-front at x b d)
+
 -- ---- places that a usize holds
 pub saturated-small : (n : ℕ) → n < 2 ^ 64 → saturated n ≡ n
 unfolding saturated
@@ -177,3 +185,52 @@ end {at} {n} {r} {b} {rest} {before} {now} g h e = record {
       ∙ ap (λ (l : List ℕ). laidAt at (take n l) before) (sym (g .parts)) ∙ at-clipped at n b before h;
   ends = e;
 }
+
+-- ---- a loop that writes b from its end to its front: what stands behind the first i bytes is laid, they are left
+pub record Backward (at : ℕ) (b rest before now : List ℕ) (i : ℕ) : Type 0 where
+  pub done : List ℕ
+  pub count : length rest ≡ i
+  pub parts : b ≡ rest ++ done
+  pub holds : now ≡ laidAt (at + i) done before
+
+pub begin-backward : (at i : ℕ) (b rest before : List ℕ) → b ≡ rest → length rest ≡ i → Backward at b rest before before i
+unfolding laidAt laidOver
+begin-backward at i b rest before e h = record {
+  done = [];
+  count = h;
+  parts = e ∙ sym (append-nil rest);
+  holds = sym (take-append-drop (at + i) before);
+}
+
+pub lay-backward : {at i : ℕ} {b rest rest′ before now : List ℕ} (x : ℕ) → Backward at b rest before now i → 0 < i → rest ≡ rest′ ++ x ∷ []
+    → Backward at b rest′ before (set now (at + (i - 1)) x) (i - 1)
+lay-backward {at} {i} {b} {rest} {rest′} {before} {now} x g h e =
+    let l = ap (λ (l : List ℕ). length l) e ∙ length-append rest′ (x ∷ []) in
+    let n = g .count in
+    let q : at + i ≡ suc (at + (i - 1)) = omega arith in
+    record {
+      done = x ∷ g .done;
+      count = omega arith;
+      parts = g .parts ∙ ap (λ (l : List ℕ). l ++ g .done) e ∙ append-assoc rest′ (x ∷ []) (g .done);
+      holds = rw (g .holds, q) (sym (at-front (at + (i - 1)) x (g .done) before));
+    }
+
+pub kept-backward : {at i : ℕ} {b rest before now : List ℕ} → Backward at b rest before now i → length now ≡ length before
+kept-backward {at} {i} {b} {rest} {before} g = rw (g .holds) (length-at (at + i) (g .done) before)
+
+no-rest : (rest done : List ℕ) → length rest ≡ 0 → rest ++ done ≡ done
+no-rest [] done h = refl
+no-rest (x ∷ rest) done h = absurd (omega arith)
+
+-- all that there is room for is laid
+pub end-backward : {at n i r : ℕ} {b rest before now : List ℕ} → Backward at (take n b) rest before now i → i ≤ 0
+    → n ≡ min (length b) (length before - at) → r ≡ saturated (at + length b) → WroteAt at b before now r
+end-backward {at} {n} {i} {r} {b} {rest} {before} {now} g z h e =
+    let c = g .count in
+    let q : at + i ≡ at = omega arith in
+    record {
+      laid =
+          g .holds ∙ ap (λ (m : ℕ). laidAt m (g .done) before) q
+          ∙ ap (λ (l : List ℕ). laidAt at l before) (sym (g .parts ∙ no-rest rest (g .done) (omega arith))) ∙ at-clipped at n b before h;
+      ends = e;
+    }

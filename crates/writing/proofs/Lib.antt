@@ -1,5 +1,4 @@
 pub mod Laying
 pub mod Decimals
 pub mod Signs
-mod Table
 mod Writers

@@ -1,4 +1,4 @@
--- What the calls of each writer of numbers come to together. A call hands a number on as its bits, which `seen` reads back.
+-- What the calls of each writer of numbers come to together. A call hands a number on as its bits, which `seenWide` reads back.
 -- Assumes nothing.
 use mathlib.Core.Bool.{Bool, true, false}
 use mathlib.Core.List.{List, [], _∷_, _++_}
@@ -7,50 +7,46 @@ use Prim.Native.Nat.{ℕ, _+_, _^_, _≤_, _<_}
 use native.Mathlib.Omega.{arith}
 use lib.IntN.{ℤ, natAbs}
 use lib.ListN.{length}
-use mir.Syntax.{w32}
+use mir.Syntax.{w64}
 use mir.Val.{SFits}
 use Rattle.meaning.specs.Picture.{digitsOf, decimal}
-use Rattle.writing.specs.Digits.{lastDigits, isNegative, pair}
+use Rattle.writing.specs.Digits.{isNegative, pair}
 use Rattle.writing.specs.Placed.{WroteAt}
-use Rattle.writing.proofs.Decimals.{length-last, digits-last, decimal-negative, decimal-positive, decimal-short}
+use Rattle.writing.proofs.Decimals.{decimal-negative, decimal-positive, decimal-limit}
 use Rattle.writing.proofs.Laying.{then}
-use Rattle.writing.proofs.Signs.{seen, handed}
+use Rattle.writing.proofs.Signs.{seenWide, handed-wide}
 
--- ---- a number
-module _ (z : ℤ) {n count : ℕ} {t : Bool} (f : SFits w32 z) (m : n ≡ natAbs (seen z)) (k : count ≡ length (digitsOf n))
-    (s : t ≡ isNegative (seen z)) where
-  spelled : lastDigits count n ≡ digitsOf (natAbs z)
-  spelled = rw (k, digits-last n, m, handed z f)
+-- ---- a number of 64 bits
+module _ (z : ℤ) {n : ℕ} {t : Bool} (f : SFits w64 z) (m : n ≡ natAbs (seenWide z)) (s : t ≡ isNegative (seenWide z)) where
+  split : t ≡ true → decimal z ≡ (45 ∷ []) ++ digitsOf n
+  split e = rw (decimal-negative z (sym (s ∙ ap isNegative (handed-wide z f)) ∙ e), m, handed-wide z f)
 
-  split : t ≡ true → decimal z ≡ (45 ∷ []) ++ lastDigits count n
-  split e = rw (decimal-negative z (sym (s ∙ ap isNegative (handed z f)) ∙ e), spelled)
+  whole : t ≡ false → decimal z ≡ digitsOf n
+  whole e = rw (decimal-positive z (sym (s ∙ ap isNegative (handed-wide z f)) ∙ e), m, handed-wide z f)
 
-  whole : t ≡ false → decimal z ≡ lastDigits count n
-  whole e = rw (decimal-positive z (sym (s ∙ ap isNegative (handed z f)) ∙ e), spelled)
+  pub length-negative : {count : ℕ} → count ≡ length (digitsOf n) → t ≡ true → count + 1 ≡ length (decimal z)
+  length-negative k e = rw (split e) (omega arith)
 
-  pub length-negative : t ≡ true → count + 1 ≡ length (decimal z)
-  length-negative e = rw (split e, length-last count n) (omega arith)
-
-  pub length-positive : t ≡ false → count ≡ length (decimal z)
-  length-positive e = rw (whole e, length-last count n)
+  pub length-positive : {count : ℕ} → count ≡ length (digitsOf n) → t ≡ false → count ≡ length (decimal z)
+  length-positive k e = rw (whole e) k
 
   pub wrote-negative : t ≡ true → {at next r : ℕ} {d after last : List ℕ} → length d < 2 ^ 64 → WroteAt at (45 ∷ []) d after next
-      → WroteAt next (lastDigits count n) after last r → WroteAt at (decimal z) d last r
+      → WroteAt next (digitsOf n) after last r → WroteAt at (decimal z) d last r
   wrote-negative e h p q = rw (split e) (then h p q)
 
-  pub wrote-positive : t ≡ false → {at r : ℕ} {d last : List ℕ} → WroteAt at (lastDigits count n) d last r → WroteAt at (decimal z) d last r
+  pub wrote-positive : t ≡ false → {at r : ℕ} {d last : List ℕ} → WroteAt at (digitsOf n) d last r → WroteAt at (decimal z) d last r
   wrote-positive e p = rw (whole e) p
 
 -- ---- a number behind a byte string
-pub wrote-pair : (z : ℤ) {lead d after last : List ℕ} {at next r : ℕ} → SFits w32 z → length d < 2 ^ 64
-    → WroteAt at lead d after next → WroteAt next (decimal (seen z)) after last r → WroteAt at (pair lead z) d last r
-wrote-pair z f h p q = then h p (rw (handed z f) at q)
+pub wrote-pair : (z : ℤ) {lead d after last : List ℕ} {at next r : ℕ} → SFits w64 z → length d < 2 ^ 64
+    → WroteAt at lead d after next → WroteAt next (decimal (seenWide z)) after last r → WroteAt at (pair lead z) d last r
+wrote-pair z f h p q = then h p (rw (handed-wide z f) at q)
 
 -- ---- two numbers
-pub length-pair : (a b : ℤ) {m n : ℕ} → SFits w32 a → SFits w32 b → m ≡ length (decimal (seen a)) → n ≡ length (decimal (seen b))
+pub length-pair : (a b : ℤ) {m n : ℕ} → SFits w64 a → SFits w64 b → m ≡ length (decimal (seenWide a)) → n ≡ length (decimal (seenWide b))
     → m + n ≡ length (decimal a) + length (decimal b)
-length-pair a b fa fb p q = rw (p, q, handed a fa, handed b fb)
+length-pair a b fa fb p q = rw (p, q, handed-wide a fa, handed-wide b fb)
 
-pub pair-short : (a b : ℤ) {m n : ℕ} → SFits w32 a → SFits w32 b → m ≡ length (decimal (seen a)) → n ≡ length (decimal (seen b))
-    → m + n ≤ 22
-pair-short a b fa fb p q = rw (length-pair a b fa fb p q) (omega (arith, decimal-short a fa, decimal-short b fb))
+pub pair-short : (a b : ℤ) {m n : ℕ} → SFits w64 a → SFits w64 b → m ≡ length (decimal (seenWide a)) → n ≡ length (decimal (seenWide b))
+    → m + n ≤ 40
+pair-short a b fa fb p q = rw (length-pair a b fa fb p q) (omega (arith, decimal-limit a fa, decimal-limit b fb))

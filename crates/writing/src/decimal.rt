@@ -1,116 +1,105 @@
 // Numbers in decimal.
 ghost use mathlib.Core.Path.{_≡_};
-ghost use Prim.Native.Nat.{_+_, _≤_, _^_};
+ghost use Prim.Native.Nat.{_+_, _/_, _%_, _≤_, _^_};
 ghost use lib.ListN.{length};
 ghost use lib.IntN.{natAbs};
 ghost use Rattle.meaning.specs.Picture.{digitsOf, decimal};
 ghost use Rattle.writing.specs.Placed.{WroteAt};
-ghost use Rattle.writing.specs.Digits.{tens, digitAt, lastDigits, isNegative, pair};
+ghost use Rattle.writing.specs.Digits.{isNegative, pair};
 use crate::place::room;
 use crate::place::saturating_add;
 use crate::place::write_bytes_at;
 
-// Ten powers of ten.
-const POWERS: [u32; 10] = [
-    1,
-    10,
-    100,
-    1000,
-    10000,
-    100000,
-    1000000,
-    10000000,
-    100000000,
-    1000000000,
-];
-
-fn power(powers: &[u32; 10], p: usize) -> u32
-    requires { ⌜ now powers ≡ tens ⌝ }
-    requires { ⌜ p ≤ 9 ⌝ }
-    ensures { λ r. ⌜ r ≡ 10 ^ p ⌝ }
-{
-    powers[p]
-}
-
-fn digit_count(powers: &[u32; 10], n: u32) -> usize
-    requires { ⌜ now powers ≡ tens ⌝ }
+// How many digits n has: counted by four, then by two, then by one.
+fn digit_count(n: u64) -> usize
     ensures { λ r. ⌜ r ≡ length (digitsOf n) ⌝ }
 {
-    let mut p = 0;
-    while p < 9 {
-        if n < power(powers, p + 1) {
-            return p + 1;
-        }
-        p += 1;
+    let mut rest = n;
+    let mut count = 0;
+    while 9999 < rest {
+        rest = rest / 10000;
+        count += 4;
     }
-    10
+    if 99 < rest {
+        rest = rest / 100;
+        count += 2;
+    }
+    if 9 < rest { count + 2 } else { count + 1 }
 }
 
-// The digit that counts the power p of ten.
-fn digit(powers: &[u32; 10], n: u32, p: usize) -> u8
-    requires { ⌜ now powers ≡ tens ⌝ }
-    requires { ⌜ p ≤ 9 ⌝ }
-    ensures { λ r. ⌜ r ≡ digitAt n p ⌝ }
+// n without its last digits, as many as asked.
+fn without_last(n: u64, count: usize) -> u64
+    ensures { λ r. ⌜ r ≡ n / 10 ^ count ⌝ }
 {
-    let q = n / power(powers, p) % 10;
-    (q as u8) + 48
-}
-
-// The last digits of n, count of them.
-fn write_digits_at(out: &mut [u8], at: usize, powers: &[u32; 10], n: u32, count: usize) -> usize
-    requires { ⌜ now powers ≡ tens ⌝ }
-    requires { ⌜ count ≤ 10 ⌝ }
-    ensures { λ r. ⌜ WroteAt at (lastDigits count n) (now (out .entry)) (now (out .exit)) r ⌝ }
-{
-    let fits = room(out.len(), at, count);
+    let mut rest = n;
     let mut i = 0;
-    while i < fits {
-        out[at + i] = digit(powers, n, count - 1 - i);
+    while i < count {
+        rest = rest / 10;
         i += 1;
+    }
+    rest
+}
+
+fn last_digit(n: u64) -> u8
+    ensures { λ r. ⌜ r ≡ n % 10 + 48 ⌝ }
+{
+    ((n % 10) as u8) + 48
+}
+
+// The digits of n, from the last that fits to the first: each is the remainder of a division by ten.
+fn write_digits_at(out: &mut [u8], at: usize, n: u64) -> usize
+    ensures { λ r. ⌜ WroteAt at (digitsOf n) (now (out .entry)) (now (out .exit)) r ⌝ }
+{
+    let count = digit_count(n);
+    let fits = room(out.len(), at, count);
+    let mut rest = without_last(n, count - fits);
+    let mut i = fits;
+    while 0 < i {
+        i -= 1;
+        out[at + i] = last_digit(rest);
+        rest = rest / 10;
     }
     saturating_add(at, count)
 }
 
-fn is_negative(z: i32) -> bool
+fn is_negative(z: i64) -> bool
     ensures { λ r. ⌜ r ≡ isNegative z ⌝ }
 {
     z < 0
 }
 
-fn magnitude(z: i32) -> u32
+// The opposite of the least number does not fit; what a negative number lacks to -1 does.
+fn magnitude(z: i64) -> u64
     ensures { λ r. ⌜ r ≡ natAbs z ⌝ }
 {
     if z < 0 {
-        (0 - (z as i64)) as u32
+        ((-1 - z) as u64) + 1
     } else {
-        z as u32
+        z as u64
     }
 }
 
 // How many bytes a number has in decimal.
-pub fn decimal_length(z: i32) -> usize
+pub fn decimal_length(z: i64) -> usize
     ensures { λ r. ⌜ r ≡ length (decimal z) ⌝ }
 {
-    let powers = POWERS;
-    let count = digit_count(&powers, magnitude(z));
+    let count = digit_count(magnitude(z));
     if is_negative(z) { count + 1 } else { count }
 }
 
-pub fn write_decimal_at(out: &mut [u8], at: usize, z: i32) -> usize
+pub fn write_decimal_at(out: &mut [u8], at: usize, z: i64) -> usize
     ensures { λ r. ⌜ WroteAt at (decimal z) (now (out .entry)) (now (out .exit)) r ⌝ }
 {
-    let powers = POWERS;
     let n = magnitude(z);
-    let count = digit_count(&powers, n);
     if is_negative(z) {
         let next = write_bytes_at(out, at, b"-");
-        return write_digits_at(out, next, &powers, n, count);
+        return write_digits_at(out, next, n);
     }
-    write_digits_at(out, at, &powers, n, count)
+    write_digits_at(out, at, n)
 }
 
 // A byte string and then a number.
-pub fn write_pair_at(out: &mut [u8], at: usize, lead: &[u8], z: i32) -> usize
+pub fn write_pair_at(out: &mut [u8], at: usize, lead: &[u8], z: i64) -> usize
     ensures { λ r. ⌜ WroteAt at (pair (now (lead .entry)) z) (now (out .entry)) (now (out .exit)) r ⌝ }
 {
     let next = write_bytes_at(out, at, lead);
@@ -118,9 +107,9 @@ pub fn write_pair_at(out: &mut [u8], at: usize, lead: &[u8], z: i32) -> usize
 }
 
 // How many bytes two numbers have.
-pub fn pair_length(a: i32, b: i32) -> usize
+pub fn pair_length(a: i64, b: i64) -> usize
     ensures { λ r. ⌜ r ≡ length (decimal a) + length (decimal b) ⌝ }
-    ensures { λ r. ⌜ r ≤ 22 ⌝ }
+    ensures { λ r. ⌜ r ≤ 40 ⌝ }
 {
     decimal_length(a) + decimal_length(b)
 }

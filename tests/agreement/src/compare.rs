@@ -42,10 +42,14 @@ pub fn numbers(answer: &Answer) -> Numbers {
     }
 }
 
-/// What is wrong with the library's checking of a program, if anything is.
+/// What is wrong with the library's checking of a program, if anything is. Checking takes nothing, so the most and nothing are granted by turns.
 pub fn misfit(program: &[u8], seed: u64) -> Option<String> {
     let mut lent = Lent::filled(seed);
-    let found = check(program, &mut lent.tokens, &mut lent.code);
+    let grants = match seed % 2 {
+        0 => Grants::NONE,
+        _ => Grants::LARGEST,
+    };
+    let found = check(program, grants, &mut lent.tokens, &mut lent.code);
     let wanted = numbers(&reference::check(program));
     if found != wanted {
         return Some(format!("{found:?} where {wanted:?} is due"));
@@ -100,9 +104,21 @@ impl Lengths {
         Some(short)
     }
 
+    /// What an operation is lent of them: checking the first two slices alone.
+    fn lent_to(self, operation: Operation) -> Lengths {
+        match operation {
+            Operation::Check => Lengths {
+                words: 0,
+                texts: 0,
+                ..self
+            },
+            _ => self,
+        }
+    }
+
     /// Whether each slice is long enough.
-    pub fn suffice(self, grants: Grants) -> bool {
-        let needed = Lengths::needed(grants);
+    pub fn suffice(self, operation: Operation, grants: Grants) -> bool {
+        let needed = Lengths::needed(grants).lent_to(operation);
         self.tokens >= needed.tokens
             && self.code >= needed.code
             && self.words >= needed.words
@@ -204,7 +220,8 @@ impl Lender {
         call: impl FnOnce(&Case, &mut Work, &mut [u8]) -> Numbers,
     ) -> Option<String> {
         self.calls += 1;
-        let (wanted, picture) = if lengths.suffice(case.grants) {
+        let lengths = lengths.lent_to(case.operation);
+        let (wanted, picture) = if lengths.suffice(case.operation, case.grants) {
             let answer = case.answer();
             let numbers = numbers(&answer);
             match answer {
@@ -298,7 +315,7 @@ pub fn library(case: &Case, work: &mut Work, out: &mut [u8]) -> Numbers {
         ..
     } = case;
     match operation {
-        Operation::Check => check(program, &mut work.tokens, &mut work.code),
+        Operation::Check => check(program, *grants, &mut work.tokens, &mut work.code),
         Operation::Measure => measure(program, *width, *height, *grants, work),
         Operation::Draw => draw(program, *width, *height, *grants, work, out),
     }

@@ -1,7 +1,6 @@
 //! Inputs of the harness in tests/fuzz, which tells their form: the call that one stands for, and one for a call.
 
-use crate::compare::{misfit, Lender, Lengths, REFUSED};
-use crate::{check, Lent};
+use crate::compare::{Lender, Lengths};
 use reference::case::Case;
 use reference::{Grants, Operation};
 
@@ -91,19 +90,6 @@ impl Input {
             lengths,
             fill,
         } = self;
-        if case.operation != Operation::Check {
-            return lender.misfit(case, *lengths, u64::from(*fill));
-        }
-        // Checking is granted nothing and lent two slices.
-        let needed = Lengths::needed(Grants::NONE);
-        if lengths.tokens >= needed.tokens && lengths.code >= needed.code {
-            return misfit(&case.program, u64::from(*fill));
-        }
-        let mut lent = Lent {
-            tokens: vec![u64::from(*fill); lengths.tokens],
-            code: vec![u64::from(*fill); lengths.code],
-        };
-        let found = check(&case.program, &mut lent.tokens, &mut lent.code);
-        (found != REFUSED).then(|| format!("{found:?} where 71 is due"))
+        lender.misfit(case, *lengths, u64::from(*fill))
     }
 }

@@ -8,64 +8,8 @@ pub const CODE_WORDS: usize = 16_384;
 /// How many words a run must be lent besides those for shapes and entries.
 pub const RUN_WORDS: usize = 24_584;
 
-mod raw {
-    extern "C" {
-        pub fn img_check(
-            program: *const u8,
-            program_length: usize,
-            tokens: *mut u64,
-            tokens_length: usize,
-            code: *mut u64,
-            code_length: usize,
-            answer: *mut u64,
-            answer_length: usize,
-        );
-
-        pub fn img_measure(
-            program: *const u8,
-            program_length: usize,
-            width: i32,
-            height: i32,
-            steps: u64,
-            shapes: u64,
-            entries: u64,
-            bytes: u64,
-            tokens: *mut u64,
-            tokens_length: usize,
-            code: *mut u64,
-            code_length: usize,
-            words: *mut u64,
-            words_length: usize,
-            texts: *mut u8,
-            texts_length: usize,
-            answer: *mut u64,
-            answer_length: usize,
-        );
-
-        pub fn img_draw(
-            program: *const u8,
-            program_length: usize,
-            width: i32,
-            height: i32,
-            steps: u64,
-            shapes: u64,
-            entries: u64,
-            bytes: u64,
-            tokens: *mut u64,
-            tokens_length: usize,
-            code: *mut u64,
-            code_length: usize,
-            words: *mut u64,
-            words_length: usize,
-            texts: *mut u8,
-            texts_length: usize,
-            out: *mut u8,
-            out_length: usize,
-            answer: *mut u64,
-            answer_length: usize,
-        );
-    }
-}
+#[path = "../../../rust/src/ffi.rs"]
+mod ffi;
 
 /// What an operation answers: a number (0 for none), its place, the steps and the length.
 #[derive(Clone, Copy, Debug, PartialEq, Eq)]
@@ -87,23 +31,44 @@ impl From<[u64; 4]> for Numbers {
     }
 }
 
+/// The four numbers, the first of which is also what the function returned.
+fn told(answer: [u64; 4], returned: u64) -> Numbers {
+    assert_eq!(returned, answer[0], "the number returned");
+    answer.into()
+}
+
 /// Checks a program with these work slices.
-pub fn check(program: &[u8], tokens: &mut [u64], code: &mut [u64]) -> Numbers {
+pub fn check(program: &[u8], grants: Grants, tokens: &mut [u64], code: &mut [u64]) -> Numbers {
     let mut answer = [u64::MAX; 4];
+    let returned = check_to(program, grants, tokens, code, &mut answer);
+    told(answer, returned)
+}
+
+/// The same, with the answer written to a slice of any length. The number is returned.
+pub fn check_to(
+    program: &[u8],
+    grants: Grants,
+    tokens: &mut [u64],
+    code: &mut [u64],
+    answer: &mut [u64],
+) -> u64 {
     // The library reads and writes within the lengths that it is handed; it is proved to.
     unsafe {
-        raw::img_check(
+        ffi::img_check(
             program.as_ptr(),
             program.len(),
+            grants.steps,
+            grants.shapes,
+            grants.entries,
+            grants.text_bytes,
             tokens.as_mut_ptr(),
             tokens.len(),
             code.as_mut_ptr(),
             code.len(),
             answer.as_mut_ptr(),
             answer.len(),
-        );
+        )
     }
-    answer.into()
 }
 
 /// The four work slices of measuring and drawing.
@@ -124,11 +89,11 @@ pub fn measure(
     work: &mut Work,
 ) -> Numbers {
     let mut answer = [u64::MAX; 4];
-    measure_to(program, width, height, grants, work, &mut answer);
-    answer.into()
+    let returned = measure_to(program, width, height, grants, work, &mut answer);
+    told(answer, returned)
 }
 
-/// The same, with the answer written to a slice of any length.
+/// The same, with the answer written to a slice of any length. The number is returned.
 pub fn measure_to(
     program: &[u8],
     width: i32,
@@ -136,10 +101,10 @@ pub fn measure_to(
     grants: Grants,
     work: &mut Work,
     answer: &mut [u64],
-) {
+) -> u64 {
     // As for checking.
     unsafe {
-        raw::img_measure(
+        ffi::img_measure(
             program.as_ptr(),
             program.len(),
             width,
@@ -158,7 +123,7 @@ pub fn measure_to(
             work.texts.len(),
             answer.as_mut_ptr(),
             answer.len(),
-        );
+        )
     }
 }
 
@@ -172,11 +137,11 @@ pub fn draw(
     out: &mut [u8],
 ) -> Numbers {
     let mut answer = [u64::MAX; 4];
-    draw_to(program, width, height, grants, work, out, &mut answer);
-    answer.into()
+    let returned = draw_to(program, width, height, grants, work, out, &mut answer);
+    told(answer, returned)
 }
 
-/// The same, with the answer written to a slice of any length.
+/// The same, with the answer written to a slice of any length. The number is returned.
 pub fn draw_to(
     program: &[u8],
     width: i32,
@@ -185,10 +150,10 @@ pub fn draw_to(
     work: &mut Work,
     out: &mut [u8],
     answer: &mut [u64],
-) {
+) -> u64 {
     // As for checking.
     unsafe {
-        raw::img_draw(
+        ffi::img_draw(
             program.as_ptr(),
             program.len(),
             width,
@@ -209,7 +174,7 @@ pub fn draw_to(
             out.len(),
             answer.as_mut_ptr(),
             answer.len(),
-        );
+        )
     }
 }
 
@@ -236,3 +201,4 @@ impl Lent {
 
 pub mod compare;
 pub mod inputs;
+pub mod programs;

@@ -65,7 +65,7 @@ fn it_leads_to_every_number() {
             continue;
         }
         numbers.insert(match case.answer() {
-            _ if !lengths.suffice(case.grants) => 71,
+            _ if !lengths.suffice(case.operation, case.grants) => 71,
             Answer::Number { number, .. } => number,
             _ => 0,
         });

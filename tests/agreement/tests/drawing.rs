@@ -149,7 +149,7 @@ fn out_slices_of_every_length() {
     }
 }
 
-// Would catch an answer written beyond its slice, or a picture that depends on it. Needs no reference.
+// Would catch an answer written beyond its slice, a number that is not returned, or a picture that depends on either. Needs no reference.
 #[test]
 fn an_answer_fills_what_there_is() {
     let need = DAY_PICTURE.len();
@@ -160,7 +160,7 @@ fn an_answer_fills_what_there_is() {
         for length in 0..8 {
             let mut answer = [u64::MAX; 10];
             let mut out = vec![b'#'; room];
-            draw_to(
+            let number = draw_to(
                 &main_of(DAY),
                 20,
                 20,
@@ -169,6 +169,7 @@ fn an_answer_fills_what_there_is() {
                 &mut out,
                 &mut answer[..length],
             );
+            assert_eq!(number, whole[0], "{length}");
             let written = length.min(4);
             assert_eq!(answer[..written], whole[..written], "{length}");
             assert!(answer[written..].iter().all(|word| *word == u64::MAX));

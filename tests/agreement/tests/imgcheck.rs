@@ -3,21 +3,10 @@
 use generator::case::any_program;
 use generator::random::Random;
 use reference::operation::{check, Answer};
-use std::io::Write;
-use std::path::Path;
-use std::process::{Command, Stdio};
 
 /// What the program prints on an input.
 fn printed(input: &[u8]) -> Vec<u8> {
-    let program = Path::new(env!("CARGO_MANIFEST_DIR")).join("../../target/bin/imgcheck");
-    let mut child = Command::new(&program)
-        .stdin(Stdio::piped())
-        .stdout(Stdio::piped())
-        .spawn()
-        .unwrap_or_else(|e| panic!("{}: {e}; `rt check imgcheck` builds it", program.display()));
-    // The program reads an input of this length to its end, so the pipe stays open.
-    child.stdin.take().unwrap().write_all(input).unwrap();
-    child.wait_with_output().unwrap().stdout
+    agreement::programs::printed("imgcheck", input)
 }
 
 /// What it should print.

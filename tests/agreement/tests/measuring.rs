@@ -6,6 +6,7 @@ mod common;
 use agreement::compare::{numbers, Lengths};
 use agreement::{check, measure, measure_to, Numbers, Work};
 use common::{main_of, plain};
+use reference::decisions::rows;
 use reference::sheet::GRANTS;
 use reference::{Grants, Operation};
 
@@ -94,14 +95,15 @@ fn programs_beyond_the_limit_are_73() {
     common::long_programs(MEASURE);
 }
 
-// Would catch an answer written beyond its slice, or in another order. Needs no reference.
+// Would catch an answer written beyond its slice, or in another order, and a number that is not returned. Needs no reference.
 #[test]
 fn an_answer_fills_what_there_is() {
     for (body, whole) in [(DAY, [0, 0, 15, 213]), ("w;var w;", [60, 16, 3, 0])] {
         for length in 0..8 {
             let mut answer = [u64::MAX; 10];
             let lent = &mut answer[..length];
-            measure_to(&main_of(body), 20, 20, GRANTS, &mut work(GRANTS), lent);
+            let number = measure_to(&main_of(body), 20, 20, GRANTS, &mut work(GRANTS), lent);
+            assert_eq!(number, whole[0], "{length}");
             let written = length.min(4);
             assert_eq!(answer[..written], whole[..written], "{length}");
             assert!(answer[written..].iter().all(|word| *word == u64::MAX));
@@ -112,43 +114,23 @@ fn an_answer_fills_what_there_is() {
 // Would catch any row of the decisions taken otherwise. The results are those of the document, not of the reference.
 #[test]
 fn decisions() {
-    let text = include_str!("../../../docs/DECISIONS.md");
-    let mut rows = 0;
-    for line in text.lines() {
-        let cells: Vec<&str> = line.split('|').map(str::trim).collect();
-        let number = cells.get(1).copied().unwrap_or("");
-        if number.parse::<u32>().is_err() {
-            continue;
-        }
-        let quoted = |cell: &str| cell.trim_matches('`').to_string();
-        let (body, granted, result) = (quoted(cells[3]), cells[4], quoted(cells[5]));
-        let program = match body.starts_with("def") {
-            true => body.into_bytes(),
-            false => main_of(&body),
-        };
-        let mut grants = GRANTS;
-        match granted.split_once(' ') {
-            Some(("steps", count)) => grants.steps = count.parse().expect("a count"),
-            Some(("shapes", count)) => grants.shapes = count.parse().expect("a count"),
-            Some(("entries", count)) => grants.entries = count.parse().expect("a count"),
-            Some(("text", count)) => grants.text_bytes = count.parse().expect("a count"),
-            _ => assert!(granted.is_empty() || granted == "checked", "{granted}"),
-        }
-        let mut work = work(grants);
-        let found = if granted == "checked" {
-            check(&program, &mut work.tokens, &mut work.code)
+    let rows = rows();
+    for row in &rows {
+        let mut work = work(row.grants);
+        let checks = row.operation == Operation::Check;
+        let found = if checks {
+            check(&row.program, row.grants, &mut work.tokens, &mut work.code)
         } else {
-            measure(&program, 20, 20, grants, &mut work)
+            measure(&row.program, 20, 20, row.grants, &mut work)
         };
-        let short = match (found.number, granted) {
-            (0, "checked") => "well formed".to_string(),
-            (0, _) => format!("picture s{}", found.steps),
-            (number, _) => format!("{number}@{} s{}", found.place, found.steps),
+        let short = match found.number {
+            0 if checks => "well formed".to_string(),
+            0 => format!("picture s{}", found.steps),
+            number => format!("{number}@{} s{}", found.place, found.steps),
         };
-        assert_eq!(short, result, "row {number}: {line}");
-        rows += 1;
+        assert_eq!(short, row.result, "row {}", row.number);
     }
-    assert!(60 <= rows, "only {rows} rows were read");
+    assert!(85 <= rows.len(), "only {} rows were read", rows.len());
 }
 
 // What document 01 checks by hand, with its numbers written out here.

@@ -3,6 +3,7 @@
 
 #![forbid(unsafe_code)]
 
+pub mod backwards;
 pub mod case;
 pub mod damage;
 pub mod heavy;
@@ -10,6 +11,7 @@ pub mod limit;
 pub mod program;
 pub mod quiz;
 pub mod random;
+pub mod readers;
 pub mod soup;
 pub mod spacing;
 pub mod systematic;

@@ -622,6 +622,13 @@ impl Maker<'_> {
                 (left, "++".to_string(), self.operand(Kind::Text, depth))
             }
             Kind::Boolean => self.comparison(depth),
+            Kind::Shape if self.random.chance(80) => {
+                // A size at the edges, scaled by an edge.
+                let name = *self.random.pick(&["drawBox", "drawEllipse"]);
+                let numbers = (0..4).map(|_| vec![edge(self.random)]).collect();
+                let operator = self.random.pick(&["*", "/"]).to_string();
+                (call(name, numbers), operator, vec![edge(self.random)])
+            }
             _ => {
                 let operators = &["+", "-", "*", "/", ">>", "<<"];
                 let operator = self.random.pick(operators).to_string();

@@ -7,7 +7,7 @@ use crate::words::{edge, KEYS, LIBRARY, LITERALS, OPERATORS, SHAPES, SPECIAL, UN
 
 /// Statements with holes, which are letters in angle brackets. The variables
 /// a and b hold shapes, t a table.
-const STATEMENTS: [&str; 48] = [
+const STATEMENTS: [&str; 50] = [
     "<L>/0;",
     "<L>%0;",
     "<S>%<E>;",
@@ -20,6 +20,8 @@ const STATEMENTS: [&str; 48] = [
     "w=drawLine(<E><A><E>,<E><A><E>,<E><A><E>,0);",
     "w=<S><A><E>;",
     "w=<P><A><E>;",
+    "w=<P><M><E>;h=w<M><E>;",
+    "w=<P>;if((w<M><E>)==w)h=drawTextOnShape(w<M><E>,\"same\");",
     "if(<S>==<S>)w=drawLine(1,2,3,4);",
     "if(<S>!=<S>)w=drawLine(1,2,3,4);",
     "if(<L>==<L>)h=drawText(5,6,\"yes\");",
@@ -109,6 +111,8 @@ fn hole(letter: &str, random: &mut Random) -> String {
         "A" => random
             .pick(&["+", "-", "*", "/", "%", ">>", "<<"])
             .to_string(),
+        // An operator that scales.
+        "M" => random.pick(&["*", "/"]).to_string(),
         "I" => random.pick(&SPECIAL).to_string(),
         "E" => edge(random),
         "K" => random.pick(&KEYS).to_string(),

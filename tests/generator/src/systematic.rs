@@ -1,7 +1,7 @@
 //! Small programs that go through all combinations: operators and kinds,
 //! integers at the edges, keys, library procedures and their arguments.
 
-use crate::words::{EDGES, LIBRARY, LITERALS, OPERATORS, SHAPES, UNKNOWN};
+use crate::words::{BACKWARDS, EDGES, LIBRARY, LITERALS, OPERATORS, SHAPES, UNKNOWN};
 
 /// All of them, always in the same order.
 pub fn programs() -> Vec<Vec<u8>> {
@@ -10,7 +10,9 @@ pub fn programs() -> Vec<Vec<u8>> {
     bodies.extend(equal_shapes());
     bodies.extend(integers());
     bodies.extend(moved_shapes());
+    bodies.extend(scaled_sizes());
     bodies.extend(centres());
+    bodies.extend(sizes());
     bodies.extend(keys());
     bodies.extend(calls());
     let whole = |body: &String| format!("def main(w,h){{{body}}}").into_bytes();
@@ -37,8 +39,8 @@ fn operators() -> Vec<String> {
 
 fn equal_shapes() -> Vec<String> {
     let mut bodies = Vec::new();
-    for left in SHAPES {
-        for right in SHAPES {
+    for left in SHAPES.iter().chain(&BACKWARDS) {
+        for right in SHAPES.iter().chain(&BACKWARDS) {
             bodies.push(format!(
                 "var a;var b;a={left};b={right};if(a==b)h=drawLine(1,2,3,4);if(a!=b)w=a;"
             ));
@@ -93,6 +95,27 @@ fn moved_shapes() -> Vec<String> {
     bodies
 }
 
+/// Every edge as a width, a height or a radius, multiplied and divided by
+/// every edge. Each body has all sizes for one number, so that 0 divides only
+/// in bodies of its own.
+fn scaled_sizes() -> Vec<String> {
+    let mut bodies = Vec::new();
+    for operator in ["*", "/"] {
+        for by in EDGES {
+            let mut body = String::new();
+            for (place, size) in EDGES.iter().enumerate() {
+                let other = EDGES[(place + 1) % EDGES.len()];
+                body.push_str(&format!(
+                    "var b{place};b{place}=drawBox(1,-2,{size},{other}){operator}{by};\
+                     var e{place};e{place}=drawEllipse(-1,2,{size},{other}){operator}{by};"
+                ));
+            }
+            bodies.push(body);
+        }
+    }
+    bodies
+}
+
 /// The centres of lines and boxes between all pairs of edges.
 fn centres() -> Vec<String> {
     let mut bodies = Vec::new();
@@ -121,6 +144,22 @@ fn centres() -> Vec<String> {
     bodies
 }
 
+/// Boxes and ellipses with every edge as place and every edge as size.
+fn sizes() -> Vec<String> {
+    let mut bodies = Vec::new();
+    for first in EDGES {
+        let mut body = String::new();
+        for (place, second) in EDGES.iter().enumerate() {
+            body.push_str(&format!(
+                "var a{place};a{place}=drawBox({first},{second},{second},{first});\
+                 var b{place};b{place}=drawEllipse({first},{second},{second},{first});"
+            ));
+        }
+        bodies.push(body);
+    }
+    bodies
+}
+
 /// Every pair of keys in one table.
 fn keys() -> Vec<String> {
     let mut all: Vec<&str> = vec![
@@ -128,6 +167,7 @@ fn keys() -> Vec<String> {
         "a",
     ];
     all.extend(SHAPES);
+    all.extend(BACKWARDS);
     let mut bodies = Vec::new();
     for first in &all {
         for second in &all {

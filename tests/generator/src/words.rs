@@ -161,6 +161,15 @@ pub const SHAPES: [&str; 10] = [
     "drawText(2,1,\"a\")",
 ];
 
+/// Shapes with negative sizes, and those that their lines look like.
+pub const BACKWARDS: [&str; 5] = [
+    "drawBox(1,2,-3,4)",
+    "drawBox(-2,2,3,4)",
+    "drawBox(1,2,3,-4)",
+    "drawEllipse(1,2,-3,4)",
+    "drawEllipse(1,2,3,-4)",
+];
+
 /// One expression of each kind, for pairs that may not go together.
 pub const LITERALS: [&str; 12] = [
     "0",

@@ -4,6 +4,7 @@
 #![forbid(unsafe_code)]
 
 pub mod case;
+pub mod decisions;
 pub mod grammar;
 pub mod operation;
 pub mod picture;

@@ -53,21 +53,38 @@ fn write_shape(shape: &Shape, out: &mut impl Write) -> io::Result<()> {
         ),
         Shape::Ellipse { x, y, across, up } => writeln!(
             out,
-            "<ellipse cx=\"{x}\" cy=\"{y}\" rx=\"{across}\" ry=\"{up}\"/>"
+            "<ellipse cx=\"{x}\" cy=\"{y}\" rx=\"{}\" ry=\"{}\"/>",
+            across.unsigned_abs(),
+            up.unsigned_abs()
         ),
         Shape::Box {
             x,
             y,
             width,
             height,
-        } => writeln!(
-            out,
-            "<rect x=\"{x}\" y=\"{y}\" width=\"{width}\" height=\"{height}\"/>"
-        ),
+        } => {
+            let (x, width) = forwards(*x, *width);
+            let (y, height) = forwards(*y, *height);
+            writeln!(
+                out,
+                "<rect x=\"{x}\" y=\"{y}\" width=\"{width}\" height=\"{height}\"/>"
+            )
+        }
         Shape::Text { x, y, text } => {
             write!(out, "<text x=\"{x}\" y=\"{y}\">")?;
             out.write_all(text)?;
             out.write_all(b"</text>\n")
         }
+    }
+}
+
+/// Where the line of a box begins along one side, and its size there. A
+/// negative size begins at its other end; nothing wraps.
+fn forwards(start: i32, size: i32) -> (i64, i64) {
+    let (start, size) = (i64::from(start), i64::from(size));
+    if size < 0 {
+        (start + size, -size)
+    } else {
+        (start, size)
     }
 }

@@ -51,6 +51,24 @@ impl Shape {
         new
     }
 
+    /// The same shape with every number changed: its coordinates, width and
+    /// height or both radii. A text has only its point.
+    pub fn scaled(&self, rule: impl Fn(i32) -> i32) -> Shape {
+        let mut new = self.changed(&rule, &rule);
+        match &mut new {
+            Shape::Ellipse { across, up, .. } => {
+                *across = rule(*across);
+                *up = rule(*up);
+            }
+            Shape::Box { width, height, .. } => {
+                *width = rule(*width);
+                *height = rule(*height);
+            }
+            Shape::Line { .. } | Shape::Text { .. } => {}
+        }
+        new
+    }
+
     /// The centre: of a line, half the exact sum of its ends, of a box, its
     /// corner plus half its size, all rounded toward zero; of an ellipse or
     /// a text, its own point.

@@ -55,9 +55,9 @@ pub fn transform(operator: Operator, shape: &Shape, by: i32) -> Result<Shape, u3
         Operator::Subtract => Ok(shape.changed(same, |y| y.wrapping_sub(by))),
         Operator::ShiftRight => Ok(shape.changed(|x| x.wrapping_add(by), same)),
         Operator::ShiftLeft => Ok(shape.changed(|x| x.wrapping_sub(by), same)),
-        Operator::Multiply => Ok(shape.changed(|x| x.wrapping_mul(by), |y| y.wrapping_mul(by))),
+        Operator::Multiply => Ok(shape.scaled(|number| number.wrapping_mul(by))),
         Operator::Divide if by == 0 => Err(70),
-        Operator::Divide => Ok(shape.changed(|x| x.wrapping_div(by), |y| y.wrapping_div(by))),
+        Operator::Divide => Ok(shape.scaled(|number| number.wrapping_div(by))),
         Operator::Join
         | Operator::Remainder
         | Operator::Equal

@@ -172,12 +172,12 @@ fn what_is_drawn() {
             "<line x1=\"1\" y1=\"-2\" x2=\"3\" y2=\"-4\"/>",
         ),
         (
-            "drawEllipse(1,-2,3,-4)",
-            "<ellipse cx=\"1\" cy=\"-2\" rx=\"3\" ry=\"-4\"/>",
+            "drawEllipse(1,-2,3,4)",
+            "<ellipse cx=\"1\" cy=\"-2\" rx=\"3\" ry=\"4\"/>",
         ),
         (
-            "drawBox(1,-2,3,-4)",
-            "<rect x=\"1\" y=\"-2\" width=\"3\" height=\"-4\"/>",
+            "drawBox(1,-2,3,4)",
+            "<rect x=\"1\" y=\"-2\" width=\"3\" height=\"4\"/>",
         ),
         (
             "drawText(1,-2,\"def\")",
@@ -194,6 +194,56 @@ fn what_is_drawn() {
         (
             "drawTextOnShape(drawBox(0,0,10,21),\"a\"++\"b1\")",
             "<text x=\"5\" y=\"10\">ab1</text>",
+        ),
+    ] {
+        assert_eq!(drawn(&format!("w={expression};")), format!("{line}\n"));
+    }
+}
+
+#[test]
+fn no_size_is_shown_negative() {
+    for (expression, line) in [
+        (
+            "drawEllipse(1,-2,-3,-4)",
+            "<ellipse cx=\"1\" cy=\"-2\" rx=\"3\" ry=\"4\"/>",
+        ),
+        (
+            "drawEllipse(1,2,3,-2147483648)",
+            "<ellipse cx=\"1\" cy=\"2\" rx=\"3\" ry=\"2147483648\"/>",
+        ),
+        (
+            "drawBox(1,2,-3,4)",
+            "<rect x=\"-2\" y=\"2\" width=\"3\" height=\"4\"/>",
+        ),
+        (
+            "drawBox(1,2,3,-4)",
+            "<rect x=\"1\" y=\"-2\" width=\"3\" height=\"4\"/>",
+        ),
+        (
+            "drawBox(10,2,-3,-2)",
+            "<rect x=\"7\" y=\"0\" width=\"3\" height=\"2\"/>",
+        ),
+        // Whole numbers without wrapping.
+        (
+            "drawBox(-2147483648,0,-2147483648,0)",
+            "<rect x=\"-4294967296\" y=\"0\" width=\"2147483648\" height=\"0\"/>",
+        ),
+        (
+            "drawBox(0,-2147483648,0,-1)",
+            "<rect x=\"0\" y=\"-2147483649\" width=\"0\" height=\"1\"/>",
+        ),
+        // The shape moved or scaled has a negative width still.
+        (
+            "drawBox(1,2,-3,4)>>10",
+            "<rect x=\"8\" y=\"2\" width=\"3\" height=\"4\"/>",
+        ),
+        (
+            "drawBox(1,2,-3,4)*2",
+            "<rect x=\"-4\" y=\"4\" width=\"6\" height=\"8\"/>",
+        ),
+        (
+            "drawTextOnShape(drawBox(0,0,-3,-5),\"a\")",
+            "<text x=\"-1\" y=\"-2\">a</text>",
         ),
     ] {
         assert_eq!(drawn(&format!("w={expression};")), format!("{line}\n"));

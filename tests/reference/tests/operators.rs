@@ -200,6 +200,16 @@ fn comparisons() {
     ] {
         assert_eq!(boolean(expression), truth, "{expression}");
     }
+    // Multiplied and divided by 1, a shape keeps all its numbers.
+    for shape in [
+        "drawLine(-1,2147483647,3,-2147483648)",
+        "drawEllipse(-1,2147483647,3,-2147483648)",
+        "drawBox(-1,2147483647,3,-2147483648)",
+        "drawText(-1,2147483647,\"a\")",
+    ] {
+        assert!(boolean(&format!("({shape}*1)=={shape}")), "{shape}*1");
+        assert!(boolean(&format!("({shape}/1)=={shape}")), "{shape}/1");
+    }
     // A copy is equal to what it was copied from.
     assert!(boolean_after("var a;a=drawBox(1,2,3,4);var b;b=a;", "a==b"));
 }
@@ -247,10 +257,18 @@ fn shapes() {
             "drawLine(0,0,0,0)<<-2147483648",
             "<line x1=\"-2147483648\" y1=\"0\" x2=\"-2147483648\" y2=\"0\"/>",
         ),
-        // Widths, heights and radii keep their numbers.
+        // Widths, heights and radii are scaled, and not moved. A line shows a negative one turned.
         (
             "drawEllipse(1,2,3,4)*10",
-            "<ellipse cx=\"10\" cy=\"20\" rx=\"3\" ry=\"4\"/>",
+            "<ellipse cx=\"10\" cy=\"20\" rx=\"30\" ry=\"40\"/>",
+        ),
+        (
+            "drawEllipse(9,-9,7,8)/2",
+            "<ellipse cx=\"4\" cy=\"-4\" rx=\"3\" ry=\"4\"/>",
+        ),
+        (
+            "drawEllipse(1,2,65537,65538)*65536",
+            "<ellipse cx=\"65536\" cy=\"131072\" rx=\"65536\" ry=\"131072\"/>",
         ),
         (
             "drawEllipse(1,2,3,4)+1",
@@ -258,7 +276,23 @@ fn shapes() {
         ),
         (
             "drawBox(10,21,30,40)/10",
-            "<rect x=\"1\" y=\"2\" width=\"30\" height=\"40\"/>",
+            "<rect x=\"1\" y=\"2\" width=\"3\" height=\"4\"/>",
+        ),
+        (
+            "drawBox(1,2,3,4)*2",
+            "<rect x=\"2\" y=\"4\" width=\"6\" height=\"8\"/>",
+        ),
+        (
+            "drawBox(1,2,-3,7)/2",
+            "<rect x=\"-1\" y=\"1\" width=\"1\" height=\"3\"/>",
+        ),
+        (
+            "drawBox(10,20,3,4)*-1",
+            "<rect x=\"-13\" y=\"-24\" width=\"3\" height=\"4\"/>",
+        ),
+        (
+            "drawBox(0,0,-2147483648,1)/-1",
+            "<rect x=\"-2147483648\" y=\"-1\" width=\"2147483648\" height=\"1\"/>",
         ),
         (
             "drawBox(1,2,3,4)<<1",
@@ -300,6 +334,8 @@ fn a_divisor_of_0() {
         ("0/0;", "70@14 s4"),
         ("drawLine(1,2,3,4)/0;", "70@14 s8"),
         ("drawText(1,2,\"a\")/0;", "70@14 s7"),
+        ("drawBox(1,2,0,4)/0;", "70@14 s8"),
+        ("drawEllipse(0,0,0,0)/0;", "70@14 s8"),
         // No remainder of shapes, so the kinds are asked first.
         ("drawLine(1,2,3,4)%0;", "20@14 s8"),
         ("\"a\"/0;", "20@14 s4"),

@@ -1,6 +1,6 @@
 -- `code::word_of` meets its contract: the three parts do not overlap.
 use borrow.Author.Needs.{needs}
-use Rattle.code.specs.Code.{word}
+use Rattle.machine.specs.Opcodes.{word}
 use Rattle.code.proofs.word_of.Statement.{statement}
 use Rattle.code.proofs.word_of.Tie as tie
 

@@ -12,8 +12,8 @@ use Rattle.fastpath.proofs.operation.Kinds as operation-kinds
 use Rattle.fastpath.proofs.+expression+operation.Lts-operation as operation-lts
 use Rattle.code.proofs.tag_of.Reads as tag-of-reads
 use Rattle.fastpath.proofs.leaf_word.Reads as leaf-word-reads
-use Rattle.fastpath.proofs.left_of.Reads as left-of-reads
-use Rattle.fastpath.proofs.right_of.Reads as right-of-reads
+use Rattle.code.proofs.left_of.Reads as left-of-reads
+use Rattle.code.proofs.right_of.Reads as right-of-reads
 use Rattle.fastpath.proofs.sizes_agree.Reads as sizes-agree-reads
 use Rattle.fastpath.proofs.word_on.Reads as word-on-reads
 use Rattle.stores.proofs.words.word_at.Reads as word-at-reads

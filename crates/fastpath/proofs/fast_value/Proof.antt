@@ -32,8 +32,8 @@ returns : tie.Need-returns
 returns c = not-fast _ _ _ _ _ _ _ (c .before .before .before .word-at .ensures) (c .before .root .ensures) (c .if1 .taken)
 
 -- src/lib.rt:183:19
-element-copy-out-granted : tie.Need-element-copy-out-granted
-element-copy-out-granted c = search needs
+element-copy-out-limit : tie.Need-element-copy-out-limit
+element-copy-out-limit c = search needs
 
 -- src/lib.rt:184:52
 size-of-requires : tie.Need-size-of-requires
@@ -70,7 +70,7 @@ fast-value-spec =
     root-requires
     same-length
     returns
-    element-copy-out-granted
+    element-copy-out-limit
     size-of-requires
     spend-requires
     same-length-2

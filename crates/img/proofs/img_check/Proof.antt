@@ -1,4 +1,4 @@
--- `img::img_check` meets its contract: what `check` promises, and its answer written into the front of the slice.
+-- `img::img_check` meets its contract: what `check` promises, and its answer told.
 use borrow.Author.Needs.{needs}
 use Rattle.img.proofs.Written.{checks}
 use Rattle.img.proofs.img_check.Statement.{statement}
@@ -20,7 +20,7 @@ same-length-3 : tie.Need-same-length-3
 same-length-3 c = search needs
 
 returns : tie.Need-returns
-returns c = checks _ _ _ _ _ _ _ _ (c .before .before .before .before .before .before .before .before .check .ensures) (c .before .before .write-answer .ensures)
+returns c = search checks
 
 pub img-check-spec : {M : Type 1} → statement M
 img-check-spec =

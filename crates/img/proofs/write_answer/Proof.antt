@@ -1,4 +1,4 @@
--- `img::write_answer` meets its contract: each case has its four words.
+-- `img::write_answer` meets its contract: each case has its four words and its number.
 use borrow.Author.Needs.{needs}
 use Rattle.img.proofs.Written.{write-picture, write-number}
 use Rattle.img.proofs.write_answer.Statement.{statement}
@@ -20,13 +20,13 @@ same-length : tie.Need-same-length
 same-length c = search needs
 
 returns : tie.Need-returns
-returns c = write-picture _ _ _ _ _ (c .before .before .before .before .before .r .given .1) (c .before .before .write-four .ensures)
+returns c = search write-picture
 
 same-length-2 : tie.Need-same-length-2
 same-length-2 c = search needs
 
 returns-2 : tie.Need-returns-2
-returns-2 c = write-number _ _ _ _ _ _ _ (c .before .before .before .before .before .r2 .given .1) (c .before .before .write-four2 .ensures)
+returns-2 c = search write-number
 
 pub write-answer-spec : {M : Type 1} → statement M
 write-answer-spec =

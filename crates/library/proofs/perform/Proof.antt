@@ -1,6 +1,6 @@
 use borrow.Author.Needs.{needs}
 use Rattle.meaning.specs.Basics.{if_then_else_}
-use Rattle.library.specs.Library.{perform}
+use Rattle.machine.specs.Library.{perform}
 use Rattle.library.proofs.ProcedureLaws.{performs-9}
 use Rattle.library.proofs.perform.Statement.{statement}
 use Rattle.library.proofs.perform.Tie as tie

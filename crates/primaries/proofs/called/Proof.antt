@@ -8,8 +8,8 @@ arguments-held-requires : tie.Need-arguments-held-requires
 arguments-held-requires c κs = search needs
 
 -- src/lib.rt:90:9
-less-word-requires : tie.Need-less-word-requires
-less-word-requires c κs = search needs
+lowered-word-requires : tie.Need-lowered-word-requires
+lowered-word-requires c κs = search needs
 
 -- src/lib.rt:91:11
 call-library-requires : tie.Need-call-library-requires
@@ -48,7 +48,7 @@ called-spec =
     tie.close
     (tie.spec
     arguments-held-requires
-    less-word-requires
+    lowered-word-requires
     call-library-requires
     enum-known-v
     drop-to-requires

@@ -16,8 +16,8 @@ returns : tie.Need-returns
 returns c = search not-entered
 
 -- src/lib.rt:65:11
-execute-body-requires : tie.Need-execute-body-requires
-execute-body-requires c κs = search body-entered
+body-requires : tie.Need-body-requires
+body-requires c κs = search body-entered
 
 -- src/lib.rt:66:25
 enum-told : tie.Need-enum-told
@@ -74,7 +74,7 @@ run-body-spec =
     enter-requires
     same-length
     returns
-    execute-body-requires
+    body-requires
     enum-told
     enum-told-2
     enum-known-k

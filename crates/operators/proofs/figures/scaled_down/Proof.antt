@@ -15,8 +15,8 @@ quotient-requires-3 c κs = search needs
 quotient-requires-4 : tie.Need-quotient-requires-4
 quotient-requires-4 c κs = search needs
 
-placed-requires : tie.Need-placed-requires
-placed-requires c κs = search needs
+renumbered-requires : tie.Need-renumbered-requires
+renumbered-requires c κs = search needs
 
 returns : tie.Need-returns
 returns c = search scaled-down-is
@@ -29,5 +29,5 @@ scaled-down-spec =
     quotient-requires-2
     quotient-requires-3
     quotient-requires-4
-    placed-requires
+    renumbered-requires
     returns)

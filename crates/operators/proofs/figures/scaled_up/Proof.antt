@@ -15,8 +15,8 @@ product-requires-3 c κs = search needs
 product-requires-4 : tie.Need-product-requires-4
 product-requires-4 c κs = search needs
 
-placed-requires : tie.Need-placed-requires
-placed-requires c κs = search needs
+renumbered-requires : tie.Need-renumbered-requires
+renumbered-requires c κs = search needs
 
 returns : tie.Need-returns
 returns c = search scaled-up-is
@@ -29,5 +29,5 @@ scaled-up-spec =
     product-requires-2
     product-requires-3
     product-requires-4
-    placed-requires
+    renumbered-requires
     returns)

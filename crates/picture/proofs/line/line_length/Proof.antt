@@ -1,87 +1,35 @@
--- `picture::line::line_length` meets its contract: by the kind.
+-- `picture::line::line_length` meets its contract: the numbers are those of the turned figure.
 -- Assumes nothing.
 use borrow.Author.Needs.{needs}
-use Rattle.picture.proofs.Writers.{counted-line, counted-ellipse, counted-box, counted-other}
+use Rattle.picture.proofs.Writers.{counted-turned}
 use Rattle.picture.proofs.line.line_length.Statement.{statement}
 use Rattle.picture.proofs.line.line_length.Tie as tie
 
-pair-length-requires : tie.Need-pair-length-requires
-pair-length-requires c κs = search needs
+shown-start-requires : tie.Need-shown-start-requires
+shown-start-requires c κs = search needs
 
-add-result : tie.Need-add-result
-add-result c = search needs
+shown-start-requires-2 : tie.Need-shown-start-requires-2
+shown-start-requires-2 c κs = search needs
 
-pair-length-requires-2 : tie.Need-pair-length-requires-2
-pair-length-requires-2 c κs = search needs
+shown-size-requires : tie.Need-shown-size-requires
+shown-size-requires c κs = search needs
 
-add-result-2 : tie.Need-add-result-2
-add-result-2 c = search needs
+shown-size-requires-2 : tie.Need-shown-size-requires-2
+shown-size-requires-2 c κs = search needs
 
-pair-length-requires-3 : tie.Need-pair-length-requires-3
-pair-length-requires-3 c κs = search needs
-
-add-result-3 : tie.Need-add-result-3
-add-result-3 c = search needs
-
-pair-length-requires-4 : tie.Need-pair-length-requires-4
-pair-length-requires-4 c κs = search needs
-
-add-result-4 : tie.Need-add-result-4
-add-result-4 c = search needs
-
-pair-length-requires-5 : tie.Need-pair-length-requires-5
-pair-length-requires-5 c κs = search needs
-
-add-result-5 : tie.Need-add-result-5
-add-result-5 c = search needs
-
-pair-length-requires-6 : tie.Need-pair-length-requires-6
-pair-length-requires-6 c κs = search needs
-
-add-result-6 : tie.Need-add-result-6
-add-result-6 c = search needs
-
-pair-length-requires-7 : tie.Need-pair-length-requires-7
-pair-length-requires-7 c κs = search needs
-
-add-result-7 : tie.Need-add-result-7
-add-result-7 c = search needs
-
-add-result-8 : tie.Need-add-result-8
-add-result-8 c = search needs
+plain-length-requires : tie.Need-plain-length-requires
+plain-length-requires c κs = search needs
 
 returns : tie.Need-returns
-returns c = search counted-line
-
-returns-2 : tie.Need-returns-2
-returns-2 c = search counted-ellipse
-
-returns-3 : tie.Need-returns-3
-returns-3 c = search counted-box
-
-returns-4 : tie.Need-returns-4
-returns-4 c = search counted-other
+returns c = search counted-turned
 
 pub line-length-spec : {M : Type 1} → statement M
 line-length-spec =
     tie.close
     (tie.spec
-    pair-length-requires
-    add-result
-    pair-length-requires-2
-    add-result-2
-    pair-length-requires-3
-    add-result-3
-    pair-length-requires-4
-    add-result-4
-    pair-length-requires-5
-    add-result-5
-    pair-length-requires-6
-    add-result-6
-    pair-length-requires-7
-    add-result-7
-    add-result-8
-    returns
-    returns-2
-    returns-3
-    returns-4)
+    shown-start-requires
+    shown-start-requires-2
+    shown-size-requires
+    shown-size-requires-2
+    plain-length-requires
+    returns)

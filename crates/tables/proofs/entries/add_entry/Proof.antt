@@ -22,10 +22,10 @@ entry-place-requires : tie.Need-entry-place-requires
 entry-place-requires c κs = search needs
 
 entry-place-requires-2 : tie.Need-entry-place-requires-2
-entry-place-requires-2 c κs = (c .before .before .before .before .before .before .before .before .before .pre .room .shapes, bucket-small _ _ _ _ _ _ _ (c .before .before .before .if1 .left) (c .before .bucket .ensures) (c .before .before .before .before .before .before .before .before .before .pre))
+entry-place-requires-2 c κs = (c .before .before .before .before .before .before .before .before .before .pre .shapes, bucket-small _ _ _ _ _ _ _ (c .before .before .before .if1 .left) (c .before .bucket .ensures) (c .before .before .before .before .before .before .before .before .before .pre))
 
 add-head : tie.Need-add-head
-add-head c = omega (arith, c .entry-place2 .ensures, bucket-small _ _ _ _ _ _ _ (c .before .before .before .before .if1 .left) (c .before .before .bucket .ensures) (c .before .before .before .before .before .before .before .before .before .before .pre), c .before .before .before .before .before .before .before .before .before .before .pre .room .shapes)
+add-head c = omega (arith, c .entry-place2 .ensures, bucket-small _ _ _ _ _ _ _ (c .before .before .before .before .if1 .left) (c .before .before .bucket .ensures) (c .before .before .before .before .before .before .before .before .before .before .pre), c .before .before .before .before .before .before .before .before .before .before .pre .shapes)
 
 add-words : tie.Need-add-words
 add-words c = search needs

@@ -20,7 +20,7 @@ sub-entry-place : tie.Need-sub-entry-place
 sub-entry-place c = search needs
 
 entry-place-requires : tie.Need-entry-place-requires
-entry-place-requires c κs = (c .before .before .before .before .before .before .pre .room .shapes, found-small _ _ _ _ _ _ _ (c .before .before .before .before .before .before .pre) (c .before .find-entry .ensures))
+entry-place-requires c κs = (c .before .before .before .before .before .before .pre .shapes, found-small _ _ _ _ _ _ _ (c .before .before .before .before .before .before .pre) (c .before .find-entry .ensures))
 
 add-words : tie.Need-add-words
 add-words c = omega (arith, found-room _ _ _ _ _ _ _ (c .before .before .before .before .before .before .before .pre) (c .before .before .find-entry .ensures) _ (c .before .if1 .left) (c .entry-place .ensures), c .before .before .before .before .before .before .before .good)

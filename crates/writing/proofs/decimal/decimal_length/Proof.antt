@@ -18,7 +18,7 @@ is-negative-requires : tie.Need-is-negative-requires
 is-negative-requires c κs = search needs
 
 add-result : tie.Need-add-result
-add-result c = let h : c .before .before .digit-count .result ≤ 10 = search digits-limit in omega arith
+add-result c = let h : c .before .before .digit-count .result ≤ 20 = search digits-limit in omega arith
 
 returns : tie.Need-returns
 returns c = search length-negative

@@ -1,4 +1,4 @@
--- `writing::decimal::pair_length` meets its contract: each has at most 11 bytes.
+-- `writing::decimal::pair_length` meets its contract: each has at most 20 bytes.
 -- Assumes nothing.
 use Prim.Native.Nat.{_+_, _≤_}
 use native.Mathlib.Omega.{arith}
@@ -14,7 +14,7 @@ decimal-length-requires-2 : tie.Need-decimal-length-requires-2
 decimal-length-requires-2 c κs = search needs
 
 add-result : tie.Need-add-result
-add-result c = let h : c .before .decimal-length .result + c .decimal-length2 .result ≤ 22 = search pair-short in omega arith
+add-result c = let h : c .before .decimal-length .result + c .decimal-length2 .result ≤ 40 = search pair-short in omega arith
 
 returns : tie.Need-returns
 returns c = (search length-pair, search pair-short)

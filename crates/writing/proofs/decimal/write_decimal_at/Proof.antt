@@ -1,17 +1,12 @@
 -- `writing::decimal::write_decimal_at` meets its contract: with or without a minus.
 -- Assumes nothing.
-use mathlib.Core.Path.{refl}
 use borrow.Author.Needs.{needs}
-use Rattle.writing.proofs.Decimals.{digits-limit}
 use Rattle.writing.proofs.Writers.{wrote-negative, wrote-positive}
 use Rattle.writing.proofs.decimal.write_decimal_at.Statement.{statement}
 use Rattle.writing.proofs.decimal.write_decimal_at.Tie as tie
 
 magnitude-requires : tie.Need-magnitude-requires
 magnitude-requires c κs = search needs
-
-digit-count-requires : tie.Need-digit-count-requires
-digit-count-requires c κs = search needs
 
 is-negative-requires : tie.Need-is-negative-requires
 is-negative-requires c κs = search needs
@@ -23,7 +18,7 @@ write-bytes-at-requires : tie.Need-write-bytes-at-requires
 write-bytes-at-requires c κs = search needs
 
 write-digits-at-requires : tie.Need-write-digits-at-requires
-write-digits-at-requires c κs = (refl, search digits-limit)
+write-digits-at-requires c κs = search needs
 
 same-length : tie.Need-same-length
 same-length c = search needs
@@ -32,7 +27,7 @@ returns : tie.Need-returns
 returns c = search wrote-negative
 
 write-digits-at-requires-2 : tie.Need-write-digits-at-requires-2
-write-digits-at-requires-2 c κs = (refl, search digits-limit)
+write-digits-at-requires-2 c κs = search needs
 
 same-length-2 : tie.Need-same-length-2
 same-length-2 c = search needs
@@ -45,7 +40,6 @@ write-decimal-at-spec =
     tie.close
     (tie.spec
     magnitude-requires
-    digit-count-requires
     is-negative-requires
     slice-aggregate-write-bytes-at
     write-bytes-at-requires

@@ -1,0 +1,183 @@
+//! `img`: checks and draws programs of the IMG language. Every answer is the proved library's; this reads files, writes pictures and says what a number means.
+
+mod arguments;
+mod input;
+mod likely;
+mod message;
+mod open;
+mod output;
+mod tokens;
+
+use arguments::{Draw, Wanted};
+use img::{Grants, Picture, Refusal, Workspace};
+use input::Drawing;
+use std::ffi::{OsStr, OsString};
+use std::io::{self, Write};
+use std::process::ExitCode;
+
+/// How a file, or the whole call, ended. The greatest of all files is the exit status.
+#[derive(Clone, Copy, PartialEq, Eq, PartialOrd, Ord)]
+enum Status {
+    Done = 0,
+    Number = 1,
+    Use = 2,
+    Failed = 3,
+}
+
+fn main() -> ExitCode {
+    let status = match arguments::parse(std::env::args_os().skip(1)) {
+        Ok(Wanted::Help) => print(arguments::HELP.as_bytes()),
+        Ok(Wanted::Version) => print(format!("img {}\n", img::VERSION).as_bytes()),
+        Ok(Wanted::Check(files)) => worst(&files, check()),
+        Ok(Wanted::Draw(wanted)) => worst(&wanted.files, draw(&wanted)),
+        Err(complaint) => {
+            say(&format!("img: {complaint}\nTry `img --help`.\n"));
+            Status::Use
+        }
+    };
+    ExitCode::from(status as u8)
+}
+
+/// The worst of what becomes of each file.
+fn worst(files: &[OsString], mut one: impl FnMut(&OsStr) -> Status) -> Status {
+    files.iter().fold(Status::Done, |all, file| all.max(one(file)))
+}
+
+/// Says whether each file is well formed.
+fn check() -> impl FnMut(&OsStr) -> Status {
+    let mut workspace = Workspace::new(Grants::IMGDRAW);
+    move |file| {
+        let drawing = match Drawing::read(file) {
+            Ok(drawing) => drawing.sheet(),
+            Err(error) => return failed(&input::shown(file), &error),
+        };
+        match workspace.check(drawing.program()) {
+            Ok(()) => print(format!("{}: well formed\n", input::shown(file)).as_bytes()),
+            Err(refusal) => refused(&drawing, &refusal),
+        }
+    }
+}
+
+/// Draws each file, or prints its counts.
+fn draw(wanted: &Draw) -> impl FnMut(&OsStr) -> Status + '_ {
+    let mut workspace = Workspace::new(wanted.grants);
+    move |file| {
+        let mut drawing = match Drawing::read(file) {
+            Ok(drawing) if wanted.size.is_some() => drawing,
+            Ok(drawing) => drawing.sheet(),
+            Err(error) => return failed(&input::shown(file), &error),
+        };
+        if let (true, Some(name)) = (file == "-", &wanted.name) {
+            drawing.name = input::shown(name);
+        }
+        // The library answers 72 for a sheet of 0 by 0, and so for a first line that is none.
+        let (width, height) = wanted.size.or(drawing.size()).unwrap_or((0, 0));
+        let mut out = Vec::new();
+        match picture(&mut workspace, drawing.program(), width, height, wanted.out_bytes, &mut out) {
+            Ok(picture) => put(wanted, &drawing, file, &out[..picture.length]),
+            Err(refusal) => refused(&drawing, &refusal),
+        }
+    }
+}
+
+/// Draws into as much as is needed, and no more than is lent.
+fn picture(workspace: &mut Workspace, program: &[u8], width: i32, height: i32, lent: usize, out: &mut Vec<u8>) -> Result<Picture, Refusal> {
+    out.resize(lent.min(65_536), 0);
+    match workspace.draw(program, width, height, out) {
+        Err(refusal) if refusal.number == 80 && refusal.length <= lent => {
+            out.resize(refusal.length, 0);
+            workspace.draw(program, width, height, out)
+        }
+        answer => answer,
+    }
+}
+
+/// Puts a whole picture where it belongs.
+fn put(wanted: &Draw, drawing: &Drawing, file: &OsStr, picture: &[u8]) -> Status {
+    let status = match (&wanted.output, wanted.count) {
+        (Some(to), _) if to != "-" => {
+            let path = output::path(to, file);
+            match output::write(&path, picture) {
+                Ok(()) => Status::Done,
+                Err(error) => return failed(&path.display().to_string(), &error),
+            }
+        }
+        (None, true) => Status::Done,
+        _ => print(picture),
+    };
+    match wanted.count {
+        true => status.max(print(counts(&drawing.name, picture).as_bytes())),
+        false => status,
+    }
+}
+
+/// How many shapes of each kind a picture has: each is a line of its own.
+fn counts(name: &str, picture: &[u8]) -> String {
+    let of = |begin: &str| {
+        let lines = picture.split(|byte| *byte == b'\n');
+        lines.filter(|line| line.starts_with(begin.as_bytes())).count()
+    };
+    format!("{name}: boxes {}, lines {}, ellipses {}, texts {}\n", of("<rect "), of("<line "), of("<ellipse "), of("<text "))
+}
+
+/// Prints on standard output, all of it and at once.
+fn print(bytes: &[u8]) -> Status {
+    match output::print(bytes) {
+        Ok(()) => Status::Done,
+        Err(error) => failed("standard output", &error),
+    }
+}
+
+fn refused(drawing: &Drawing, refusal: &Refusal) -> Status {
+    say(&message::of(drawing, refusal, message::colours()));
+    Status::Number
+}
+
+fn failed(what: &str, error: &io::Error) -> Status {
+    say(&format!("img: {what}: {error}\n"));
+    Status::Failed
+}
+
+/// Says it on standard error; if that fails, nobody is left to be told.
+fn say(text: &str) {
+    let _ = io::stderr().write_all(text.as_bytes());
+}
+
+#[cfg(test)]
+mod tests {
+    use super::*;
+
+    /// Messages about drawings that are damaged in any way: none makes the program stop, and each is about one place of the file.
+    #[test]
+    fn damaged_drawings_get_messages() {
+        let mut workspace = Workspace::new(Grants { steps: 5_000, ..Grants::IMGDRAW });
+        let whole = include_bytes!("../../examples/drawings/week.img");
+        let signs = b"(){}[];,.=+-*/%<>!&\"' \n\r#_5aZ\xc3\xa4\xff";
+        let mut seed = 1_u64;
+        let mut random = |below: usize| {
+            seed = seed.wrapping_mul(6_364_136_223_846_793_005).wrapping_add(1);
+            (seed >> 33) as usize % below
+        };
+        let mut out = [0; 65_536];
+        let mut messages = 0;
+        for _ in 0..5_000 {
+            let mut program = whole.to_vec();
+            for _ in 0..1 + random(3) {
+                let at = random(program.len());
+                match random(4) {
+                    0 => drop(program.remove(at)),
+                    1 => program.insert(at, signs[random(signs.len())]),
+                    2 => program[at] = signs[random(signs.len())],
+                    _ => drop(program.drain(at..(at + random(80)).min(program.len()))),
+                }
+            }
+            let drawing = Drawing::of("x", [b"20 20\n", &program[..]].concat()).sheet();
+            if let Err(refusal) = workspace.draw(drawing.program(), 20, 20, &mut out) {
+                let message = message::of(&drawing, &refusal, message::PLAIN);
+                assert!(message.contains("= help: "), "{message}");
+                messages += 1;
+            }
+        }
+        assert!(messages > 2_500, "{messages}");
+    }
+}

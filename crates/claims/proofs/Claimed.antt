@@ -1,0 +1,81 @@
+-- The claims of specs/Claims, each proved.
+use Rattle.claims.specs.Claims.{ReadingErrors, LanguageErrors, BeginningsExtend, BeginningsFill, EndedStays, NeededIsBounded, BeginningsDecide, AlwaysAnswered, NumbersWriteNothing, PicturesFillTheFront, CheckingTakesNothing, UnrunTakesNothing, UnrunIsRefused, OthersTakeAStep, MeasuredIsDrawn, LargerGrant, ShortageExact, EndAlike, FittingIsRun, AnswersAreBeginnings, PicturesAreBeginnings, SizesNotNegative, OthersStay}
+use Rattle.claims.proofs.Ends
+use Rattle.claims.proofs.Beginnings
+use Rattle.claims.proofs.Answers
+use Rattle.claims.proofs.Lent
+use Rattle.claims.proofs.Pictures
+use Rattle.claims.proofs.Refusals
+use Rattle.claims.proofs.Shortages
+use Rattle.claims.proofs.Unrun
+use Rattle.claims.proofs.Alike
+use Rattle.claims.proofs.Sizes
+
+pub beginnings-extend : BeginningsExtend
+beginnings-extend = Beginnings.beginnings-extend
+
+pub beginnings-fill : BeginningsFill
+beginnings-fill = Beginnings.unfinished-long
+
+pub ended-stays : EndedStays
+ended-stays = Beginnings.ended-stays
+
+pub beginnings-decide : BeginningsDecide
+beginnings-decide = Answers.beginnings-decide
+
+pub reading-errors : ReadingErrors
+reading-errors = Refusals.reading-errors
+
+pub language-errors : LanguageErrors
+language-errors = Ends.language-errors
+
+pub needed-is-bounded : NeededIsBounded
+needed-is-bounded = Lent.needed-is-bounded
+
+pub always-answered : AlwaysAnswered
+always-answered = Answers.always-answered
+
+pub numbers-write-nothing : NumbersWriteNothing
+numbers-write-nothing = Answers.numbers-write-nothing
+
+pub pictures-fill-the-front : PicturesFillTheFront
+pictures-fill-the-front = Pictures.pictures-fill-the-front
+
+pub checking-takes-nothing : CheckingTakesNothing
+checking-takes-nothing = Unrun.checking-takes-nothing
+
+pub unrun-takes-nothing : UnrunTakesNothing
+unrun-takes-nothing = Unrun.unrun-takes-nothing
+
+pub unrun-is-refused : UnrunIsRefused
+unrun-is-refused = Unrun.unrun-is-refused
+
+pub others-take-a-step : OthersTakeAStep
+others-take-a-step = Unrun.others-take-a-step
+
+pub measured-is-drawn : MeasuredIsDrawn
+measured-is-drawn = Pictures.measured-is-drawn
+
+pub larger-grant : LargerGrant
+larger-grant = Shortages.larger-grant
+
+pub shortage-exact : ShortageExact
+shortage-exact = Shortages.shortage-exact
+
+pub end-alike : EndAlike
+end-alike = Alike.end-alike
+
+pub fitting-is-run : FittingIsRun
+fitting-is-run = Alike.fitting-is-run
+
+pub answers-are-beginnings : AnswersAreBeginnings
+answers-are-beginnings = Alike.answers-are-beginnings
+
+pub pictures-are-beginnings : PicturesAreBeginnings
+pictures-are-beginnings = Alike.pictures-are-beginnings
+
+pub sizes-not-negative : SizesNotNegative
+sizes-not-negative = Sizes.sizes-not-negative
+
+pub others-stay : OthersStay
+others-stay = Sizes.others-stay

@@ -1,0 +1,45 @@
+-- No work slice need be long.
+use Prim.Native.Nat.{ℕ, _+_, _*_, _≤_}
+use mathlib.Core.Path.{_≡_, refl}
+use mathlib.Core.Bool.{Bool, true, _&&_, and-eq-true-iff}
+use mathlib.Core.List.{List, [], _∷_}
+use native.Mathlib.Omega.{arith}
+use lib.Dec.{leb}
+use borrow.Author.Tests.{leb-true, le-leb}
+use Rattle.meaning.specs.Program.{checking, measuring, drawing}
+use Rattle.meaning.specs.Call.{Grants, inRange, readingSlices, runningSlices, needed}
+use Rattle.claims.specs.Claims.{NeededIsBounded, allWithin}
+
+abbrev parts : (a b : Bool) → a && b ≡ true → (a ≡ true) × (b ≡ true)
+parts a b = and-eq-true-iff a b .0
+
+one-more : (n x : ℕ) (xs : List ℕ) → x ≤ n → allWithin n xs ≡ true → allWithin n (x ∷ xs) ≡ true
+unfolding allWithin
+one-more n x xs h k = and-eq-true-iff (leb x n) (allWithin n xs) .1 (le-leb x n h, k)
+
+-- each count of a grant in range is
+record Within (g : Grants) : Type 0 where
+  shapes : g .shapes ≤ 65535
+  entries : g .entries ≤ 65535
+  texts : g .textBytes ≤ 65535
+
+within : (g : Grants) → inRange g ≡ true → Within g
+unfolding inRange
+within g h =
+    let a = parts (leb (g .steps) 4294967295 && leb (g .shapes) 65535 && leb (g .entries) 65535) (leb (g .textBytes) 65535) h in
+    let b = parts (leb (g .steps) 4294967295 && leb (g .shapes) 65535) (leb (g .entries) 65535) (a .0) in
+    let c = parts (leb (g .steps) 4294967295) (leb (g .shapes) 65535) (b .0) in
+    record { shapes = leb-true _ _ (c .1); entries = leb-true _ _ (b .1); texts = leb-true _ _ (a .1) }
+
+running-bounded : (g : Grants) → Within g → allWithin 67108864 (readingSlices (runningSlices g)) ≡ true
+unfolding allWithin
+running-bounded g w =
+    one-more 67108864 8193 (16384 ∷ runningSlices g) (omega arith) (one-more 67108864 16384 (runningSlices g) (omega arith)
+    (one-more 67108864 (24584 + 3 * g .shapes + 4 * g .entries) (g .textBytes ∷ []) (omega arith)
+    (one-more 67108864 (g .textBytes) [] (omega arith) refl)))
+
+pub needed-is-bounded : NeededIsBounded
+unfolding needed allWithin
+needed-is-bounded checking g h = refl
+needed-is-bounded measuring g h = running-bounded g (within g h)
+needed-is-bounded drawing g h = running-bounded g (within g h)

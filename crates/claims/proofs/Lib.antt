@@ -1,0 +1,14 @@
+pub mod Booking
+pub mod Turns
+pub mod Refusals
+pub mod Unrun
+pub mod Ends
+pub mod Beginnings
+pub mod Settling
+pub mod Answers
+pub mod Lent
+pub mod Pictures
+pub mod Shortages
+pub mod Alike
+pub mod Sizes
+pub mod Claimed

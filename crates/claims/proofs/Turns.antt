@@ -1,0 +1,132 @@
+-- More turns of loops only lengthen a run: it stays as it is, or goes on where it was unfinished.
+use Prim.Native.Nat.{ℕ, zero, suc, _≤_}
+use mathlib.Core.Path.{_≡_, refl, ap, sym, _∙_}
+use mathlib.Core.Bool.{Bool, true, false}
+use mathlib.Core.List.{List, [], _++_, append-assoc, append-nil}
+use native.Mathlib.Nat.{not-suc-le-zero, le-of-suc-le-suc}
+use lib.IntN.{ℤ}
+use Rattle.meaning.specs.Basics.{if_then_else_}
+use Rattle.meaning.specs.Tree.{Statement, declare, assign, update, when, while, return, block, act, Statements, only, first}
+use Rattle.meaning.specs.Value.{Value, integer, string, boolean, none, table, shape}
+use Rattle.meaning.specs.State.{State}
+use Rattle.meaning.specs.Run.{Taking, End, result, error, unfinished, Run, Action, following, goOn, _>>=_}
+use Rattle.meaning.specs.Operator.{withBoolean}
+use Rattle.meaning.specs.Execute.{Flow, onward, returned, continue, looping, execute, executeAll}
+use Rattle.meaning.specs.Program.{Operation, checking, measuring, drawing, empty, painting, performing, specified}
+
+-- ---- the relation
+-- r′ is r; or r is unfinished and r′ takes what r takes, and more
+pub data Extends {A : Type 0} (r r′ : Run A) : Type 0 where
+  same : r ≡ r′ → Extends r r′
+  longer : r .end ≡ unfinished → (more : List Taking) → r′ .takings ≡ r .takings ++ more → Extends r r′
+
+-- so from every state
+record Lengthens {A : Type 0} (m m′ : Action A) : Type 0 where
+  from : (s : State) → Extends (m s) (m′ s)
+
+-- ---- it goes through `do`
+after-takings : {A : Type 0} (ts : List Taking) {r r′ : Run A} → Extends r r′ → Extends (following ts r) (following ts r′)
+after-takings ts (same e) = same (ap (following ts) e)
+after-takings ts {r} (longer u more e) = longer u more (ap (λ (l : List Taking). ts ++ l) e ∙ sym (append-assoc ts (r .takings) more))
+
+module _ {A B : Type 0} where
+  go-same : (ts : List Taking) (e : End A) (k k′ : A → Action B) → ((a : A) → Lengthens (k a) (k′ a)) →
+      Extends (goOn ts e k) (goOn ts e k′)
+  unfolding goOn
+  go-same ts (result a s) k k′ h = after-takings ts (h a .from s)
+  go-same ts (error n p) k k′ h = same refl
+  go-same ts unfinished k k′ h = same refl
+
+  -- what follows comes behind
+  go-behind : (ts : List Taking) (e : End A) (k : A → Action B) → (more : List Taking) × (goOn ts e k .takings ≡ ts ++ more)
+  unfolding goOn
+  go-behind ts (result a s) k = (k a s .takings, refl)
+  go-behind ts (error n p) k = ([], sym (append-nil ts))
+  go-behind ts unfinished k = ([], sym (append-nil ts))
+
+  go-on : (r r′ : Run A) (k k′ : A → Action B) → Extends r r′ → ((a : A) → Lengthens (k a) (k′ a)) →
+      Extends (goOn (r .takings) (r .end) k) (goOn (r′ .takings) (r′ .end) k′)
+  unfolding goOn
+  go-on r r′ k k′ (same e) h = rw e (go-same (r′ .takings) (r′ .end) k k′ h)
+  go-on r r′ k k′ (longer u more e) h =
+      let w = go-behind (r′ .takings) (r′ .end) k′ in
+      rw u (longer refl (more ++ w .0) (w .1 ∙ ap (λ (l : List Taking). l ++ w .0) e ∙ append-assoc (r .takings) more (w .0)))
+
+  bind-lengthens : {m m′ : Action A} {k k′ : A → Action B} → Lengthens m m′ → ((a : A) → Lengthens (k a) (k′ a)) →
+      Lengthens (m >>= k) (m′ >>= k′)
+  unfolding _>>=_
+  bind-lengthens {m} {m′} {k} {k′} h f = record { from = λ s. go-on (m s) (m′ s) k k′ (h .from s) f }
+
+-- ---- and through the rest
+unchanged : {A : Type 0} {m : Action A} → Lengthens m m
+unchanged = record { from = λ s. same refl }
+
+if-lengthens : {A : Type 0} (b : Bool) {x x′ y y′ : Action A} → Lengthens x x′ → Lengthens y y′ →
+    Lengthens (if b then (λ _. x) else λ _. y) (if b then (λ _. x′) else λ _. y′)
+unfolding if_then_else_
+if-lengthens true h f = h
+if-lengthens false h f = f
+
+boolean-lengthens : {A : Type 0} (p : ℕ) (v : Value) {k k′ : Bool → Action A} → ((b : Bool) → Lengthens (k b) (k′ b)) →
+    Lengthens (withBoolean p v k) (withBoolean p v k′)
+unfolding withBoolean
+boolean-lengthens p (integer z) h = unchanged
+boolean-lengthens p (string t) h = unchanged
+boolean-lengthens p (boolean b) h = h b
+boolean-lengthens p none h = unchanged
+boolean-lengthens p (table t) h = unchanged
+boolean-lengthens p (shape i) h = unchanged
+
+continue-lengthens : (f : Flow) {k k′ : Action Flow} → Lengthens k k′ → Lengthens (continue f k) (continue f k′)
+unfolding continue
+continue-lengthens onward h = h
+continue-lengthens (returned v) h = unchanged
+
+-- ---- statements
+loop-lengthens : (n n′ p : ℕ) (test : Action Value) {body body′ : Action Flow} → n ≤ n′ → Lengthens body body′ →
+    Lengthens (looping n p test body) (looping n′ p test body′)
+unfolding looping
+loop-lengthens zero n′ p test l h = record { from = λ s. longer refl _ refl }
+loop-lengthens (suc n) zero p test l h = absurd (not-suc-le-zero l)
+loop-lengthens (suc n) (suc n′) p test l h =
+    bind-lengthens unchanged λ _. bind-lengthens unchanged λ v. boolean-lengthens p v λ b.
+    if-lengthens b (bind-lengthens h λ f. continue-lengthens f (loop-lengthens n n′ p test (le-of-suc-le-suc l) h)) unchanged
+
+mutual
+  unfolding execute executeAll
+
+  execute-lengthens : (s : Statement) {n n′ : ℕ} → n ≤ n′ → Lengthens (execute s n) (execute s n′)
+  execute-lengthens (declare p x) l = unchanged
+  execute-lengthens (assign p x e) l = unchanged
+  execute-lengthens (update p a b e) l = unchanged
+  execute-lengthens (when p e s) l =
+      bind-lengthens unchanged λ _. bind-lengthens unchanged λ v. boolean-lengthens p v λ b. if-lengthens b (execute-lengthens s l) unchanged
+  execute-lengthens (while p e s) {n} {n′} l = loop-lengthens n n′ p _ l (execute-lengthens s l)
+  execute-lengthens (return p e) l = unchanged
+  execute-lengthens (block p ss) l = bind-lengthens unchanged λ _. all-lengthens ss l
+  execute-lengthens (act p e) l = unchanged
+
+  all-lengthens : (ss : Statements) {n n′ : ℕ} → n ≤ n′ → Lengthens (executeAll ss n) (executeAll ss n′)
+  all-lengthens (only s) l = execute-lengthens s l
+  all-lengthens (first s ss) l = bind-lengthens (execute-lengthens s l) λ f. continue-lengthens f (all-lengthens ss l)
+
+-- ---- operations
+painting-lengthens : (program : List ℕ) (width height : ℤ) {n n′ : ℕ} → n ≤ n′ →
+    Lengthens (painting program width height n) (painting program width height n′)
+unfolding painting
+painting-lengthens program width height l =
+    bind-lengthens unchanged λ _. bind-lengthens unchanged λ _. bind-lengthens unchanged λ m. bind-lengthens unchanged λ _.
+    bind-lengthens (all-lengthens (m .body) l) λ _. unchanged
+
+performing-lengthens : (o : Operation) (program : List ℕ) (width height : ℤ) {n n′ : ℕ} → n ≤ n′ →
+    Lengthens (performing o program width height n) (performing o program width height n′)
+unfolding performing
+performing-lengthens checking program width height l = unchanged
+performing-lengthens measuring program width height l = bind-lengthens (painting-lengthens program width height l) λ b. unchanged
+performing-lengthens drawing program width height l = bind-lengthens (painting-lengthens program width height l) λ b. unchanged
+
+-- THE LAW
+pub specified-extends : (o : Operation) (program : List ℕ) (width height : ℤ) (n n′ : ℕ) → n ≤ n′ →
+    Extends (specified o program width height n) (specified o program width height n′)
+unfolding specified
+specified-extends o program width height n n′ l = performing-lengthens o program width height l .from empty

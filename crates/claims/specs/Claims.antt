@@ -1,0 +1,242 @@
+-- What is claimed of the definitions. proofs/ proves each of these types.
+use Prim.Native.Nat.{ℕ, suc, _+_, _≤_, _<_}
+use mathlib.Core.Path.{_≡_}
+use mathlib.Core.Logic.{_≢_}
+use mathlib.Core.Bool.{Bool, true, false, not, _&&_}
+use mathlib.Core.List.{List, [], _∷_, _++_}
+use lib.ListN.{length, take}
+use lib.IntN.{ℤ, pos}
+use lib.Signed.{ltZ}
+use lib.Dec.{leb}
+use Rattle.meaning.specs.Basics.{sameText, laidOver, standsIn}
+use Rattle.meaning.specs.Integer.{isNegative}
+use Rattle.meaning.specs.Figure.{Figure, line, ellipse, box, text}
+use Rattle.meaning.specs.Picture.{plainLine, turned, lineOf}
+use Rattle.meaning.specs.Tree.{Procedure}
+use Rattle.meaning.specs.Grammar.{wellFormed, malformed, reading}
+use Rattle.meaning.specs.State.{State}
+use Rattle.meaning.specs.Run.{Resource, steps, Taking, taking, Run, run, result, error, unfinished}
+use Rattle.meaning.specs.Program.{Operation, checking, measuring, drawing, Outcome, drawn, specified, beginning}
+use Rattle.meaning.specs.Book.{Amounts, nothingYet, added, fits, allFit, book, Answer, pictured, number, undecided, shortageOf, lengthNeeded, booked}
+use Rattle.meaning.specs.Call.{Call, Grants, inRange, needed, admitted, grantedTo, runOf, answer, outAfter}
+
+-- ---- beginnings
+-- a longer beginning goes on where a shorter one ends
+abbrev pub BeginningsExtend : Type 0
+BeginningsExtend =
+    (o : Operation) (program : List ℕ) (width height : ℤ) (n k : ℕ) →
+    take n (beginning o program width height (n + k) .takings) ≡ beginning o program width height n .takings
+
+-- a beginning of n takings has n, where the run has not ended
+abbrev pub BeginningsFill : Type 0
+BeginningsFill =
+    (o : Operation) (program : List ℕ) (width height : ℤ) (n : ℕ) →
+    beginning o program width height n .end ≡ unfinished → length (beginning o program width height n .takings) ≡ n
+
+-- a run that has ended stays as it is
+abbrev pub EndedStays : Type 0
+EndedStays =
+    (o : Operation) (program : List ℕ) (width height : ℤ) (n k : ℕ) →
+    beginning o program width height n .end ≢ unfinished →
+    beginning o program width height (n + k) ≡ beginning o program width height n
+
+abbrev pub beginningOf : Call → ℕ → Run Outcome
+beginningOf c n = beginning (c .operation) (c .program) (c .width) (c .height) n
+
+-- a beginning that decides the book gives the answer, and there is one
+abbrev pub BeginningsDecide : Type 0
+BeginningsDecide =
+    (c : Call) → admitted c ≡ true →
+    ((n : ℕ) → booked (grantedTo c) (beginningOf c n) ≢ undecided → booked (grantedTo c) (beginningOf c n) ≡ answer c)
+    × ((n : ℕ) × (booked (grantedTo c) (beginningOf c n) ≡ answer c))
+
+-- ---- the numbers of document 01
+-- what reading can end in, what a program that runs can, and both with 72 and 73. 71 and the shortages, 76 to 80, stand apart.
+abbrev pub readingErrors : List ℕ
+readingErrors = 10 ∷ 74 ∷ 75 ∷ []
+
+abbrev pub languageErrors : List ℕ
+languageErrors = 20 ∷ 30 ∷ 40 ∷ 50 ∷ 60 ∷ 70 ∷ []
+
+abbrev pub errors : List ℕ
+errors = 10 ∷ 20 ∷ 30 ∷ 40 ∷ 50 ∷ 60 ∷ 70 ∷ 72 ∷ 73 ∷ 74 ∷ 75 ∷ []
+
+abbrev pub among : List ℕ → ℕ → Type 0
+among ns m = standsIn m ns ≡ true
+
+abbrev pub ReadingErrors : Type 0
+ReadingErrors = (program : List ℕ) (m p : ℕ) → reading program ≡ malformed m p → among readingErrors m
+
+abbrev pub LanguageErrors : Type 0
+LanguageErrors =
+    (o : Operation) (program : List ℕ) (width height : ℤ) (main : Procedure) (n m p : ℕ) →
+    reading program ≡ wellFormed main → length program ≤ 32768 → ltZ (pos 0) width && ltZ (pos 0) height ≡ true →
+    specified o program width height n .end ≡ error m p → among languageErrors m
+
+-- ---- work slices
+-- no work slice need be longer than 67,108,864 elements, whatever counts are granted
+unfoldable pub allWithin : ℕ → List ℕ → Bool
+allWithin n [] = true
+allWithin n (x ∷ xs) = leb x n && allWithin n xs
+
+abbrev pub NeededIsBounded : Type 0
+NeededIsBounded = (o : Operation) (g : Grants) → inRange g ≡ true → allWithin 67108864 (needed o g) ≡ true
+
+-- ---- answers
+-- every call is answered
+abbrev pub AlwaysAnswered : Type 0
+AlwaysAnswered = (c : Call) → answer c ≢ undecided
+
+-- after a number the out slice holds what it held
+abbrev pub NumbersWriteNothing : Type 0
+NumbersWriteNothing = (c : Call) (m p n l : ℕ) → answer c ≡ number m p n l → outAfter c ≡ c .out
+
+-- the picture that the specified run ends in fills the front of the out slice, and nothing else in it changes
+abbrev pub PicturesFillTheFront : Type 0
+PicturesFillTheFront =
+    (c : Call) (l n : ℕ) → c .operation ≡ drawing → answer c ≡ pictured l n →
+    (b : List ℕ) × (s : State) × (runOf c .end ≡ result (drawn b) s) × (length b ≡ l) × (l ≤ length (c .out)) × (outAfter c ≡ laidOver b (c .out))
+
+-- ---- what takes nothing
+-- checking, whatever the program
+abbrev pub CheckingTakesNothing : Type 0
+CheckingTakesNothing = (program : List ℕ) (width height : ℤ) (n : ℕ) → specified checking program width height n .takings ≡ []
+
+-- main can be entered: two parameters of different names
+unfoldable pub twoNames : List (List ℕ) → Bool
+twoNames [] = false
+twoNames (x ∷ []) = false
+twoNames (x ∷ y ∷ []) = not (sameText x y)
+twoNames (x ∷ y ∷ z ∷ more) = false
+
+-- a program that is refused unrun: 72, 73, the numbers of reading, and main's 20 and 60
+pub data Unrun (program : List ℕ) (width height : ℤ) : Type 0 where
+  noSheet : ltZ (pos 0) width && ltZ (pos 0) height ≡ false → Unrun program width height
+  tooLong : 32768 < length program → Unrun program width height
+  unread : (m p : ℕ) → reading program ≡ malformed m p → Unrun program width height
+  unentered : (main : Procedure) → reading program ≡ wellFormed main → twoNames (main .parameters) ≡ false → Unrun program width height
+
+abbrev pub UnrunTakesNothing : Type 0
+UnrunTakesNothing =
+    (o : Operation) (program : List ℕ) (width height : ℤ) (n : ℕ) →
+    Unrun program width height → specified o program width height n .takings ≡ []
+
+-- and is refused: measuring and drawing end with a number at once
+abbrev pub UnrunIsRefused : Type 0
+UnrunIsRefused =
+    (o : Operation) (program : List ℕ) (width height : ℤ) (n : ℕ) → o ≢ checking → Unrun program width height →
+    (m : ℕ) × (p : ℕ) × (specified o program width height n ≡ run [] (error m p))
+
+-- every other program is run, and its first taking is a step
+abbrev pub OthersTakeAStep : Type 0
+OthersTakeAStep =
+    (o : Operation) (program : List ℕ) (width height : ℤ) (n : ℕ) → o ≢ checking →
+    (Unrun program width height → ⊥) →
+    (p : ℕ) × (more : List Taking) × (specified o program width height (suc n) .takings ≡ taking steps 1 p ∷ more)
+
+-- ---- measuring
+-- the length measured is the length drawn, or the length that 80 names
+pub record SameButDrawn (c d : Call) : Type 0 where
+  pub measures : c .operation ≡ measuring
+  pub draws : d .operation ≡ drawing
+  pub program : d .program ≡ c .program
+  pub width : d .width ≡ c .width
+  pub height : d .height ≡ c .height
+  pub grants : d .grants ≡ c .grants
+
+abbrev pub MeasuredIsDrawn : Type 0
+MeasuredIsDrawn =
+    (c d : Call) → admitted c ≡ true → admitted d ≡ true → SameButDrawn c d → (l n : ℕ) → answer c ≡ pictured l n →
+    (l ≤ length (d .out) → answer d ≡ pictured l n) × (length (d .out) < l → answer d ≡ number 80 0 n l)
+
+-- ---- demand 3, the larger-grant rule
+-- d calls the same operation on the same program, width and height, with no granted count and no out slice smaller
+pub record Larger (c d : Call) : Type 0 where
+  pub operation : d .operation ≡ c .operation
+  pub program : d .program ≡ c .program
+  pub width : d .width ≡ c .width
+  pub height : d .height ≡ c .height
+  pub more : (r : Resource) → grantedTo c r ≤ grantedTo d r
+
+-- an answer that names something lacking: 76 to 80
+unfoldable pub namesShortage : Answer → Bool
+namesShortage (pictured l n) = false
+namesShortage (number m p n l) = leb 76 m && leb m 80
+namesShortage undecided = false
+
+-- a larger grant changes no result that named nothing lacking, nor a byte of the picture
+abbrev pub LargerGrant : Type 0
+LargerGrant =
+    (c d : Call) → admitted c ≡ true → admitted d ≡ true → Larger c d → namesShortage (answer c) ≡ false →
+    (answer d ≡ answer c)
+    × ((l n : ℕ) → c .operation ≡ drawing → answer c ≡ pictured l n → take l (outAfter d) ≡ take l (outAfter c))
+
+-- the totals of some takings, from totals on
+unfoldable pub totalFrom : Amounts → List Taking → Amounts
+totalFrom total [] = total
+totalFrom total (t ∷ ts) = totalFrom (added total t) ts
+
+abbrev pub totalOf : List Taking → Amounts
+totalOf ts = totalFrom nothingYet ts
+
+-- t is the first of some takings that does not fit what is left of the grant; `before` are those in front of it, which all fit
+pub record FirstShort (granted : Amounts) (ts before : List Taking) (t : Taking) : Type 0 where
+  pub behind : List Taking
+  pub stand : ts ≡ before ++ (t ∷ behind)
+  pub beforeFit : book granted nothingYet before ≡ allFit (totalOf before)
+  pub doesNotFit : fits granted (totalOf before) t ≡ false
+
+-- the answer that names it: its number, its place, the steps counted by then, and of a picture the length
+unfoldable pub shortageAt : List Taking → Taking → Answer
+shortageAt before t = number (shortageOf (t .of)) (t .place) (totalOf before steps) (lengthNeeded t)
+
+-- a shortage is answered exactly where a taking of the specified run is the first that does not fit
+abbrev pub ShortageExact : Type 0
+ShortageExact =
+    (c : Call) → admitted c ≡ true →
+    (namesShortage (answer c) ≡ true →
+    (n : ℕ) × (before : List Taking) × (t : Taking) × FirstShort (grantedTo c) (beginningOf c n .takings) before t × (answer c ≡ shortageAt before t))
+    × ((n : ℕ) (before : List Taking) (t : Taking) → FirstShort (grantedTo c) (beginningOf c n .takings) before t → answer c ≡ shortageAt before t)
+
+-- ---- the run of an answer and the beginnings
+-- A call's run that has ended is every beginning that has ended: the same takings, and the same result with the same bytes, or the same number.
+abbrev pub EndAlike : Type 0
+EndAlike = (c : Call) (n : ℕ) → runOf c .end ≢ unfinished → beginningOf c n .end ≢ unfinished → beginningOf c n ≡ runOf c
+
+-- a beginning that has ended and whose takings all fit the grants is the call's run
+abbrev pub FittingIsRun : Type 0
+FittingIsRun =
+    (c : Call) (n : ℕ) (total : Amounts) → beginningOf c n .end ≢ unfinished →
+    book (grantedTo c) nothingYet (beginningOf c n .takings) ≡ allFit total → beginningOf c n ≡ runOf c
+
+-- where nothing is lacking the call's run has ended, and from some length on every beginning is that run
+abbrev pub AnswersAreBeginnings : Type 0
+AnswersAreBeginnings =
+    (c : Call) → admitted c ≡ true → namesShortage (answer c) ≡ false →
+    (runOf c .end ≢ unfinished) × ((n : ℕ) × ((k : ℕ) → beginningOf c (n + k) ≡ runOf c))
+
+-- so the picture in the out slice is, byte for byte, the one that every long enough beginning ends with
+abbrev pub PicturesAreBeginnings : Type 0
+PicturesAreBeginnings =
+    (c : Call) (l n : ℕ) → c .operation ≡ drawing → answer c ≡ pictured l n →
+    (b : List ℕ) × (s : State) × (take l (outAfter c) ≡ b) × ((m : ℕ) × ((k : ℕ) → beginningOf c (m + k) .end ≡ result (drawn b) s))
+
+-- ---- lines
+-- widths, heights and radii
+unfoldable pub sizesOf : Figure → List ℤ
+sizesOf (line x₁ y₁ x₂ y₂) = []
+sizesOf (ellipse x y a b) = a ∷ b ∷ []
+sizesOf (box x y w h) = w ∷ h ∷ []
+sizesOf (text x y s) = []
+
+abbrev pub NoneNegative : List ℤ → Type 0
+NoneNegative [] = Unit {0}
+NoneNegative (z ∷ zs) = (isNegative z ≡ false) × NoneNegative zs
+
+-- no line of any picture has a negative width, height or radius: it shows the numbers of the turned figure, which has none
+abbrev pub SizesNotNegative : Type 0
+SizesNotNegative = (a : Figure) → (lineOf a ≡ plainLine (turned a)) × NoneNegative (sizesOf (turned a))
+
+-- and a figure that has none is shown with its own numbers
+abbrev pub OthersStay : Type 0
+OthersStay = (a : Figure) → NoneNegative (sizesOf a) → lineOf a ≡ plainLine a

@@ -1,0 +1,87 @@
+-- One law for each way through each function.
+use Prim.Native.Nat.{ℕ}
+use mathlib.Core.Path.{_≡_, sym, _∙_}
+use mathlib.Core.Bool.{Bool, true, false, not}
+use mathlib.Core.List.{List}
+use lib.ListN.{getD}
+use lib.Dec.{eqb}
+use borrow.Author.Tests.{ne-eqb, not-true, not-false}
+use Rattle.meaning.specs.Basics.{if_then_else_}
+use Rattle.machine.specs.Opcodes.{tagIn, extraIn, tagAssign, tagReturn}
+use Rattle.machine.specs.declared.Value.{Value}
+use Rattle.machine.specs.declared.Answer.{Answer}
+use Rattle.machine.specs.declared.Answer.the-variants.{Good, Bad}
+use Rattle.machine.specs.declared.Figure.{Figure}
+use Rattle.machine.specs.Words.{kindIn, numberIn, truthIn, packed, unpacked, kindTruth, kindShape}
+use Rattle.machine.specs.Layout.{valuePlace}
+use Rattle.machine.specs.Act.{goOn, _>>=_, give, fail, refuse, load, shown, Answers, Passes, Gives}
+use Rattle.machine.specs.Shapes.{figureAt, newShape}
+use Rattle.machine.specs.Variables.{isDeclared, declare, setVariable}
+use Rattle.machine.specs.declared.Flow.{Flow}
+use Rattle.machine.specs.declared.Flow.the-variants.{Onward, Returned, Stopped}
+use Rattle.machine.specs.declared.Outcome.{Outcome}
+use Rattle.machine.specs.declared.Outcome.the-variants as outcome
+use Rattle.machine.specs.Effects.{shownFlow, Flows, declaring, copied, assigning, finishing, outcomeIn}
+use Rattle.stores.proofs.Acts.{after-pass, after-refusal}
+
+-- ---- declarations
+module _ (ws : List ℕ) (slot p : ℕ) (ok : Bool) (ws₁ : List ℕ) (h : Passes ws 60 (declare slot) ok ws₁) where
+  pub declared-before : not ok ≡ true → Flows ws (declaring slot p) (Stopped 60 p) ws₁
+  unfolding declaring _>>=_ shownFlow
+  declared-before t = record { equal = λ ts. sym (after-refusal _ p ts (rw (not-true ok t) at h)) }
+
+  pub declared-now : not ok ≡ false → Flows ws (declaring slot p) Onward ws₁
+  unfolding declaring _>>=_ shownFlow give
+  declared-now t = record { equal = λ ts. sym (after-pass _ p ts (rw (not-false ok t) at h)) }
+
+-- ---- assignments
+module _ (ws g : List ℕ) (slot k p : ℕ) (ok : Bool) (d : ok ≡ isDeclared ws slot) where
+  known-is : not ok ≡ false → eqb (getD ws (valuePlace slot) 0) 0 ≡ false
+  known-is t = not-true _ (sym d ∙ not-false ok t)
+
+  pub unknown : not ok ≡ true → Flows ws (assigning g p slot k) (Stopped 50 p) ws
+  unfolding assigning _>>=_ goOn load refuse fail shownFlow
+  unknown t =
+      let u : eqb (getD ws (valuePlace slot) 0) 0 ≡ true = not-false _ (sym d ∙ not-true ok t) in
+      record { equal = λ ts. rw u }
+
+  pub word-put : (ws₁ : List ℕ) → not ok ≡ false → (kindIn k ≡ kindShape → ⊥) → Gives ws (setVariable slot k) tt ws₁ → Flows ws (assigning g p slot k) Onward ws₁
+  unfolding assigning copied if_then_else_ _>>=_ goOn load refuse give shownFlow
+  word-put ws₁ t n s = record { equal = λ ts. rw (known-is t, ne-eqb _ _ n, ← s .equal ts) }
+
+  module _ (t : not ok ≡ false) (i : kindIn k ≡ kindShape) (n : ℕ) (m : n ≡ numberIn k) (f : Figure) (e : f ≡ figureAt ws n) (a : Answer) (ws₁ : List ℕ) (o : Answers ws (newShape g p f) a ws₁) where
+    pub no-copy : (l q : ℕ) → a ≡ Bad l q → Flows ws (assigning g p slot k) (Stopped l q) ws₁
+    unfolding assigning copied if_then_else_ _>>=_ goOn load refuse give shownFlow shown
+    no-copy l q b = record { equal = λ ts. sym (rw (known-is t, i, ← m, ← e, ← o .equal ts, b)) }
+
+    pub copy-put : (v : Value) (c : ℕ) (ws₂ : List ℕ) → a ≡ Good v → c ≡ packed v → Gives ws₁ (setVariable slot c) tt ws₂ → Flows ws (assigning g p slot k) Onward ws₂
+    unfolding assigning copied if_then_else_ _>>=_ goOn load refuse give shownFlow shown
+    copy-put v c ws₂ b r s = record { equal = λ ts. sym (rw (known-is t, i, ← m, ← e, ← o .equal ts, b, ← r, ← s .equal ts)) }
+
+-- ---- statements of one expression
+module _ (ws g : List ℕ) (w k p tag : ℕ) (i : tag ≡ tagIn w) where
+  pub is-assignment : (slot : ℕ) (r : Flow) (ws₁ : List ℕ) → tag ≡ tagAssign → slot ≡ extraIn w → Flows ws (assigning g p slot k) r ws₁ → Flows ws (finishing g w k p) r ws₁
+  unfolding finishing if_then_else_
+  is-assignment slot r ws₁ t e h = record { equal = λ ts. h .equal ts ∙ rw (← i, t, e) }
+
+  pub is-return : (v : Value) → tag ≡ tagReturn → v ≡ unpacked k → Flows ws (finishing g w k p) (Returned v) ws
+  unfolding finishing if_then_else_ give shownFlow
+  is-return v t e = record { equal = λ ts. rw (← i, t, e) }
+
+  pub is-act : (tag ≡ tagAssign → ⊥) → (tag ≡ tagReturn → ⊥) → Flows ws (finishing g w k p) Onward ws
+  unfolding finishing if_then_else_ give shownFlow
+  is-act a b = record { equal = λ ts. rw (← i, ne-eqb _ _ a, ne-eqb _ _ b) }
+
+-- ---- tests
+module _ (k p n : ℕ) (i : n ≡ kindIn k) where
+  pub no-truth : (n ≡ kindTruth → ⊥) → outcome.Stopped 20 p ≡ outcomeIn k p
+  unfolding outcomeIn if_then_else_
+  no-truth o = rw (← i, ne-eqb _ _ o)
+
+  pub says-yes : (b : Bool) → n ≡ kindTruth → b ≡ truthIn k → b ≡ true → outcome.Yes ≡ outcomeIn k p
+  unfolding outcomeIn if_then_else_
+  says-yes b s e t = rw (← i, s, ← e, t)
+
+  pub says-no : (b : Bool) → n ≡ kindTruth → b ≡ truthIn k → b ≡ false → outcome.No ≡ outcomeIn k p
+  unfolding outcomeIn if_then_else_
+  says-no b s e t = rw (← i, s, ← e, t)

@@ -1,0 +1,79 @@
+use Rattle.effects.proofs.Laws.{unknown, copy-put, no-copy}
+use borrow.Author.Needs.{needs}
+use Rattle.effects.proofs.put_copy.Statement.{statement}
+use Rattle.effects.proofs.put_copy.Tie as tie
+
+-- src/lib.rt:46:9
+is-declared-requires : tie.Need-is-declared-requires
+is-declared-requires c κs = search needs
+
+-- src/lib.rt:47:9
+same-length : tie.Need-same-length
+same-length c = search needs
+
+-- src/lib.rt:47:9
+returns : tie.Need-returns
+returns c = search unknown
+
+-- src/lib.rt:49:51
+number-of-requires : tie.Need-number-of-requires
+number-of-requires c κs = search needs
+
+-- src/lib.rt:49:9
+figure-at-requires : tie.Need-figure-at-requires
+figure-at-requires c κs = search needs
+
+-- src/lib.rt:50:11
+new-shape-requires : tie.Need-new-shape-requires
+new-shape-requires c κs = search needs
+
+-- src/lib.rt:51:22
+enum-known-v : tie.Need-enum-known-v
+enum-known-v c = search needs
+
+-- src/lib.rt:52:58
+pack-requires : tie.Need-pack-requires
+pack-requires c κs = search needs
+
+-- src/lib.rt:52:13
+set-variable-requires : tie.Need-set-variable-requires
+set-variable-requires c κs = search needs
+
+-- src/lib.rt:55:21
+enum-known-n : tie.Need-enum-known-n
+enum-known-n c = search needs
+
+-- src/lib.rt:41:1
+same-length-2 : tie.Need-same-length-2
+same-length-2 c = search needs
+
+-- src/lib.rt:41:1
+returns-2 : tie.Need-returns-2
+returns-2 c = search copy-put
+
+-- src/lib.rt:41:1
+same-length-3 : tie.Need-same-length-3
+same-length-3 c = search needs
+
+-- src/lib.rt:41:1
+returns-3 : tie.Need-returns-3
+returns-3 c = search no-copy
+
+pub put-copy-spec : {M : Type 1} → statement M
+put-copy-spec =
+    tie.close
+    (tie.spec
+    is-declared-requires
+    same-length
+    returns
+    number-of-requires
+    figure-at-requires
+    new-shape-requires
+    enum-known-v
+    pack-requires
+    set-variable-requires
+    enum-known-n
+    same-length-2
+    returns-2
+    same-length-3
+    returns-3)

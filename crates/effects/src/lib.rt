@@ -1,0 +1,116 @@
+// What a statement does once its parts are evaluated.
+use machine::Answer;
+use machine::Flow;
+use machine::Outcome;
+use machine::kinds;
+use machine::tags;
+ghost use Prim.Native.Nat.{_≤_};
+ghost use mathlib.Core.Path.{_≡_};
+ghost use lib.ListN.{length};
+ghost use Rattle.machine.specs.Opcodes.{tagIn};
+ghost use Rattle.machine.specs.Words.{kindIn, kindShape};
+ghost use Rattle.machine.specs.Layout.{fixedWords, Room};
+ghost use Rattle.machine.specs.Effects.{Flows, declaring, assigning, finishing, outcomeIn};
+
+// ---- declarations
+pub fn declare(words: &mut [u64], slot: usize, p: u64) -> Flow
+    requires { ⌜ fixedWords ≤ length (now words) ⌝ }
+    ensures { λ r. ⌜ Flows (now (words .entry)) (declaring slot p) r (now (words .exit)) ⌝ }
+{
+    if !stores::variables::declare(words, slot) {
+        return Flow::Stopped(60, p);
+    }
+    Flow::Onward
+}
+
+// ---- assignments
+// A word that is no shape put into a variable; 50 if it is not declared. Only the contract speaks of the grants, here and in `finish_plain`.
+fn put_word(words: &mut [u64], grants: &[u64; 4], slot: usize, k: u64, p: u64) -> Flow
+    requires { ⌜ fixedWords ≤ length (now words) ⌝ }
+    requires { ⌜ (kindIn k ≡ kindShape → ⊥) ⌝ }
+    ensures { λ r. ⌜ Flows (now (words .entry)) (assigning (now (grants .entry)) p slot k) r (now (words .exit)) ⌝ }
+{
+    if !stores::variables::is_declared(words, slot) {
+        return Flow::Stopped(50, p);
+    }
+    stores::variables::set_variable(words, slot, k);
+    Flow::Onward
+}
+
+// A copy of a shape, by its word, put into a variable; 50 if it is not declared.
+fn put_copy(words: &mut [u64], grants: &[u64; 4], slot: usize, k: u64, p: u64) -> Flow
+    requires { ⌜ Room (now grants) (now words) ⌝ }
+    requires { ⌜ kindIn k ≡ kindShape ⌝ }
+    ensures { λ r. ⌜ Flows (now (words .entry)) (assigning (now (grants .entry)) p slot k) r (now (words .exit)) ⌝ }
+{
+    if !stores::variables::is_declared(words, slot) {
+        return Flow::Stopped(50, p);
+    }
+    let figure = stores::shapes::figure_at(words, values::number_of(k));
+    match stores::shapes::new_shape(words, grants, p, figure) {
+        Answer::Good(v) => {
+            stores::variables::set_variable(words, slot, values::pack(v));
+            Flow::Onward
+        }
+        Answer::Bad(n, q) => Flow::Stopped(n, q),
+    }
+}
+
+// A word put into a variable, a shape as a copy.
+fn assign(words: &mut [u64], grants: &[u64; 4], slot: usize, k: u64, p: u64) -> Flow
+    requires { ⌜ Room (now grants) (now words) ⌝ }
+    ensures { λ r. ⌜ Flows (now (words .entry)) (assigning (now (grants .entry)) p slot k) r (now (words .exit)) ⌝ }
+{
+    if values::kind_of(k) == kinds::SHAPE {
+        let r = put_copy(words, grants, slot, k, p);
+        return r;
+    }
+    let r = put_word(words, grants, slot, k, p);
+    r
+}
+
+// ---- statements of one expression
+// What the statement whose word is w does with a value, by its word.
+pub fn finish(words: &mut [u64], grants: &[u64; 4], w: u64, k: u64, p: u64) -> Flow
+    requires { ⌜ Room (now grants) (now words) ⌝ }
+    ensures { λ r. ⌜ Flows (now (words .entry)) (finishing (now (grants .entry)) w k p) r (now (words .exit)) ⌝ }
+{
+    match code::tag_of(w) {
+        tags::ASSIGN => {
+            let r = assign(words, grants, code::extra_of(w), k, p);
+            r
+        }
+        tags::RETURN => Flow::Returned(values::unpack(k)),
+        _ => Flow::Onward,
+    }
+}
+
+// The same where the value is no shape.
+pub fn finish_plain(words: &mut [u64], grants: &[u64; 4], w: u64, k: u64, p: u64) -> Flow
+    requires { ⌜ fixedWords ≤ length (now words) ⌝ }
+    requires { ⌜ (kindIn k ≡ kindShape → ⊥) ⌝ }
+    ensures { λ r. ⌜ Flows (now (words .entry)) (finishing (now (grants .entry)) w k p) r (now (words .exit)) ⌝ }
+{
+    match code::tag_of(w) {
+        tags::ASSIGN => {
+            let r = put_word(words, grants, code::extra_of(w), k, p);
+            r
+        }
+        tags::RETURN => Flow::Returned(values::unpack(k)),
+        _ => Flow::Onward,
+    }
+}
+
+// ---- tests
+// What a value says to a test, by its word.
+pub fn outcome_of(k: u64, p: u64) -> Outcome
+    ensures { λ r. ⌜ r ≡ outcomeIn k p ⌝ }
+{
+    if values::kind_of(k) != kinds::TRUTH {
+        return Outcome::Stopped(20, p);
+    }
+    if values::truth_of(k) {
+        return Outcome::Yes;
+    }
+    Outcome::No
+}

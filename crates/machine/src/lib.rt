@@ -1,0 +1,137 @@
+// The types that the interpreter is written with. What its functions do to the lent slices is said in specs/; there is no function here.
+
+// A value. A text is a part of the program or of the text store; tables and shapes are known by their numbers.
+pub enum Value {
+    Integer(i32),
+    Text(u64),
+    Boolean(bool),
+    Nothing,
+    Table(u32),
+    Shape(u32),
+}
+
+// What an evaluation gives: a value, or a number and its place.
+pub enum Answer {
+    Good(Value),
+    Bad(u64, u64),
+}
+
+// What a shape looks like: its kind (0 line, 1 ellipse, 2 box, 3 text), four numbers, and a text's handle, each 0 where it has
+// none.
+pub struct Figure {
+    pub kind: u64,
+    pub a: i32,
+    pub b: i32,
+    pub c: i32,
+    pub d: i32,
+    pub text: u64,
+}
+
+// How a statement ends: the next one follows, the procedure returns, or a number and its place.
+pub enum Flow {
+    Onward,
+    Returned(Value),
+    Stopped(u64, u64),
+}
+
+// Whether a test holds, or a number and its place.
+pub enum Outcome {
+    Yes,
+    No,
+    Stopped(u64, u64),
+}
+
+// ---- numbers by name, as specs/ has them
+// What a word of code stands for: its lowest eight bits. Below FIRST_OPERATOR are the other expressions; statements begin at DECLARE.
+pub mod tags {
+    pub const NUMBER: u64 = 1;
+
+    pub const STRING: u64 = 2;
+
+    pub const NONE: u64 = 3;
+
+    pub const TRUTH: u64 = 4;
+
+    pub const NAME: u64 = 5;
+
+    pub const TABLE: u64 = 6;
+
+    pub const ENTRY: u64 = 7;
+
+    pub const CALL: u64 = 8;
+
+    pub const ARGUMENT: u64 = 9;
+
+    pub const FIRST_OPERATOR: u64 = 16;
+
+    pub const CONCATENATE: u64 = 16;
+
+    pub const ADD: u64 = 17;
+
+    pub const SUBTRACT: u64 = 18;
+
+    pub const MULTIPLY: u64 = 19;
+
+    pub const DIVIDE: u64 = 20;
+
+    pub const REMAINDER: u64 = 21;
+
+    pub const SHIFT_RIGHT: u64 = 22;
+
+    pub const SHIFT_LEFT: u64 = 23;
+
+    pub const EQUAL: u64 = 24;
+
+    pub const UNEQUAL: u64 = 25;
+
+    pub const GREATER: u64 = 26;
+
+    pub const LESS: u64 = 27;
+
+    pub const DECLARE: u64 = 32;
+
+    pub const ASSIGN: u64 = 33;
+
+    pub const UPDATE: u64 = 34;
+
+    pub const WHEN: u64 = 35;
+
+    pub const WHILE: u64 = 36;
+
+    pub const RETURN: u64 = 37;
+
+    pub const BLOCK: u64 = 38;
+
+    pub const ACT: u64 = 39;
+}
+
+// The lower half of the word of a number, and of a name: the tag and a size of 1.
+pub mod heads {
+    pub const NUMBER: u64 = 257;
+
+    pub const NAME: u64 = 261;
+}
+
+// Which value a word holds: its lowest three bits.
+pub mod kinds {
+    pub const INTEGER: u64 = 1;
+
+    pub const TEXT: u64 = 2;
+
+    pub const TRUTH: u64 = 3;
+
+    pub const NOTHING: u64 = 4;
+
+    pub const TABLE: u64 = 5;
+
+    pub const SHAPE: u64 = 6;
+}
+
+// Where the counters stand in the words that are lent, and the grants among the four.
+pub mod counters {
+    pub const STEPS: usize = 0;
+}
+
+pub mod granted {
+    pub const STEPS: usize = 0;
+}
