@@ -1,5 +1,5 @@
 -- The claims of specs/Claims, each proved.
-use Rattle.claims.specs.Claims.{ReadingErrors, LanguageErrors, BeginningsExtend, BeginningsFill, EndedStays, NeededIsBounded, BeginningsDecide, AlwaysAnswered, NumbersWriteNothing, PicturesFillTheFront, CheckingTakesNothing, UnrunTakesNothing, UnrunIsRefused, OthersTakeAStep, MeasuredIsDrawn, LargerGrant, ShortageExact, EndAlike, FittingIsRun, AnswersAreBeginnings, PicturesAreBeginnings, SizesNotNegative, OthersStay}
+use Rattle.claims.specs.Claims.{ReadingErrors, LanguageErrors, BeginningsExtend, BeginningsFill, EndedStays, NeededIsBounded, BeginningsDecide, AlwaysAnswered, NumbersWriteNothing, PicturesFillTheFront, CheckingTakesNothing, UnrunTakesNothing, UnrunIsRefused, OthersTakeAStep, MeasuredIsDrawn, DrawnIsMeasured, LargerGrant, ShortageExact, EndAlike, FittingIsRun, AnswersAreBeginnings, PicturesAreBeginnings, SizesNotNegative, OthersStay}
 use Rattle.claims.proofs.Ends
 use Rattle.claims.proofs.Beginnings
 use Rattle.claims.proofs.Answers
@@ -55,6 +55,9 @@ others-take-a-step = Unrun.others-take-a-step
 
 pub measured-is-drawn : MeasuredIsDrawn
 measured-is-drawn = Pictures.measured-is-drawn
+
+pub drawn-is-measured : DrawnIsMeasured
+drawn-is-measured = Pictures.drawn-is-measured
 
 pub larger-grant : LargerGrant
 larger-grant = Shortages.larger-grant

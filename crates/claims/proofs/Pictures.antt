@@ -2,12 +2,13 @@
 use Prim.Native.Nat.{ℕ, suc, _+_, _≤_, _<_}
 use mathlib.Core.Path.{_≡_, refl, ap, sym, _∙_}
 use mathlib.Core.Logic.{_≢_}
-use mathlib.Core.Bool.{Bool, true, false}
-use mathlib.Core.List.{List, [], _∷_, _++_}
+use mathlib.Core.Bool.{Bool, true, false, cond}
+use mathlib.Core.List.{List, [], _∷_, _++_, append-nil}
 use native.Mathlib.Omega.{arith}
 use lib.ListN.{length, take}
 use lib.IntN.{ℤ}
-use borrow.Author.Tests.{lt-leb}
+use lib.Dec.{leb, eqb}
+use borrow.Author.Tests.{lt-leb, le-leb}
 use Rattle.meaning.specs.Basics.{if_then_else_, laidOver}
 use Rattle.meaning.specs.State.{State}
 use Rattle.meaning.specs.Run.{Resource, steps, shapes, entries, textBytes, picture, Taking, taking, End, result, error, unfinished, Run, run, Action, goOn, _>>=_, give}
@@ -15,10 +16,11 @@ use Rattle.meaning.specs.Run as Run
 use Rattle.meaning.specs.Figure.{Figure}
 use Rattle.meaning.specs.Picture.{pictureOf}
 use Rattle.meaning.specs.Program.{Operation, measuring, drawing, Outcome, drawn, empty, painting, performing, specified}
-use Rattle.meaning.specs.Book.{Amounts, nothingYet, resourceNumber, fits, pictured, number, undecided, shortageOf, lengthNeeded, answerTo, booked}
+use Rattle.meaning.specs.Book.{Amounts, nothingYet, resourceNumber, added, fits, Booked, allFit, lacking, book}
+use Rattle.meaning.specs.Book.{Answer, pictured, number, undecided, shortageOf, lengthNeeded, answerTo, settled, booked}
 use Rattle.meaning.specs.Call.{Call, Grants, admitted, granted, grantedTo, runOf, answer, outAfterEnd, outAfter}
-use Rattle.claims.specs.Claims.{totalOf, shortageAt, PicturesFillTheFront, SameButDrawn, MeasuredIsDrawn}
-use Rattle.meaning.proofs.BookLaws.{part, taken, taken-append}
+use Rattle.claims.specs.Claims.{totalOf, shortageAt, PicturesFillTheFront, SameButDrawn, MeasuredIsDrawn, DrawnIsMeasured}
+use Rattle.meaning.proofs.BookLaws.{part, taken, taken-append, onFit, book-append}
 use Rattle.meaning.proofs.SliceLaws.{laid-front}
 use Rattle.claims.proofs.Booking.{total-taken, all-fit}
 use Rattle.claims.proofs.Ends.{painting-lawful}
@@ -252,3 +254,75 @@ measured-is-drawn c d a a′ s l n h =
       (λ w. e ∙ drawing-fits (c .program) (c .width) (c .height) k l n (c .grants) (c .out) (d .out) m w),
       λ w. e ∙ drawing-short (c .program) (c .width) (c .height) k l n (c .grants) (c .out) (d .out) m w,
     )
+
+-- ---- without an out slice
+-- no picture is empty
+picture-some : (width height : ℤ) (a : List Figure) → 0 < length (pictureOf width height a)
+unfolding pictureOf
+picture-some width height a = omega arith
+
+-- takings of which none is a picture fit whatever the out slice
+module _ (g : Grants) (out out′ : List ℕ) where
+  fits-alike : (total : Amounts) (t : Taking) → total picture ≡ 0 → part picture t ≡ 0 → fits (granted g out) total t ≡ fits (granted g out′) total t
+  unfolding fits part granted resourceNumber
+  fits-alike total t z = by (t .of) (t .amount)
+    where
+      by : (r : Resource) (n : ℕ) → cond (eqb (resourceNumber picture) (resourceNumber r)) n 0 ≡ 0 →
+          leb (total r + n) (granted g out r) ≡ leb (total r + n) (granted g out′ r)
+      by steps n h = refl
+      by shapes n h = refl
+      by entries n h = refl
+      by textBytes n h = refl
+      by picture n h = le-leb (total picture + n) (length out) (omega arith) ∙ sym (le-leb (total picture + n) (length out′) (omega arith))
+
+  book-alike : (total : Amounts) (ts : List Taking) → total picture ≡ 0 → taken picture ts ≡ 0 → book (granted g out) total ts ≡ book (granted g out′) total ts
+  unfolding book taken added part
+  book-alike total [] z h = refl
+  book-alike total (t ∷ ts) z h = rw (fits-alike total t z (omega arith), book-alike (added total t) ts (omega arith) (omega arith))
+
+-- a painting that is no picture when measured comes to the same when drawn
+module _ (g : Grants) (out out′ : List ℕ) (width height : ℤ) (ts : List Taking) (none : taken picture ts ≡ 0) where
+  abbrev measure : End (List Figure) → Answer
+  measure e = booked (granted g out) (goOn ts e (telling width height))
+
+  abbrev draw : End (List Figure) → Answer
+  draw e = booked (granted g out′) (goOn ts e (showing width height))
+
+  alike : book (granted g out′) nothingYet ts ≡ book (granted g out) nothingYet ts
+  alike = book-alike g out′ out nothingYet ts refl none
+
+  unshown : (e : End (List Figure)) → ((l n : ℕ) → measure e ≢ pictured l n) → draw e ≡ measure e
+  unfolding goOn _>>=_ Run.spend give booked settled answerTo onFit
+  unshown (error m p) h = rw alike
+  unshown unfinished h = rw alike
+  unshown (result a s) h = by (book (granted g out) nothingYet ts) refl
+    where
+      by : (x : Booked) → book (granted g out) nothingYet ts ≡ x → draw (result a s) ≡ measure (result a s)
+      by (allFit total) q = absurd (h (length (pictureOf width height a)) (total steps) (rw (append-nil ts, q)))
+      by (lacking t total) q = rw (append-nil ts, book-append (granted g out′) nothingYet ts (taking picture (length (pictureOf width height a)) 0 ∷ []), alike, q)
+
+-- of calls
+not-pictured : (c d : Call) → admitted c ≡ true → admitted d ≡ true → SameButDrawn c d → ((l n : ℕ) → answer c ≢ pictured l n) → answer d ≡ answer c
+unfolding runOf specified performing _>>=_
+not-pictured c d a a′ s h =
+    let p = painting (c .program) (c .width) (c .height) (suc (c .grants .steps)) empty in
+    let m : booked (grantedTo c) (runOf c) ≡ booked (grantedTo c) (goOn (p .takings) (p .end) (telling (c .width) (c .height))) = rw (s .measures) in
+    answer-admitted d a′ ∙ same-painting c d s
+    ∙ unshown (c .grants) (c .out) (d .out) (c .width) (c .height) (p .takings) (painting-lawful (c .program) (c .width) (c .height) .plain empty) (p .end)
+    (λ l n e. h l n (answer-admitted c a ∙ m ∙ e))
+    ∙ sym (answer-admitted c a ∙ m)
+
+-- what is measured is some bytes long
+measured-some : (c : Call) (l n : ℕ) → c .operation ≡ measuring → answer c ≡ pictured l n → 0 < l
+unfolding runOf
+measured-some c l n o h =
+    let f = fitting c l n h in
+    let m = measured-run (c .program) (c .width) (c .height) (suc (c .grants .steps)) l n (c .operation) (grantedTo c) o (f .ending) (f .whole .within) in
+    rw (m .long) at (picture-some (c .width) (c .height) (m .figures))
+
+-- THE CLAIM
+pub drawn-is-measured : DrawnIsMeasured
+drawn-is-measured c d a a′ s e = (
+  λ l n h. measured-is-drawn c d a a′ s l n h .1 (rw e (measured-some c l n (s .measures) h)),
+  not-pictured c d a a′ s,
+)

@@ -149,6 +149,13 @@ MeasuredIsDrawn =
     (c d : Call) → admitted c ≡ true → admitted d ≡ true → SameButDrawn c d → (l n : ℕ) → answer c ≡ pictured l n →
     (l ≤ length (d .out) → answer d ≡ pictured l n) × (length (d .out) < l → answer d ≡ number 80 0 n l)
 
+-- with an out slice of length 0 drawing tells all that measuring tells: of a picture its length and steps, by 80 at place 0, and else the very answer
+abbrev pub DrawnIsMeasured : Type 0
+DrawnIsMeasured =
+    (c d : Call) → admitted c ≡ true → admitted d ≡ true → SameButDrawn c d → d .out ≡ [] →
+    ((l n : ℕ) → answer c ≡ pictured l n → answer d ≡ number 80 0 n l)
+    × (((l n : ℕ) → answer c ≢ pictured l n) → answer d ≡ answer c)
+
 -- ---- demand 3, the larger-grant rule
 -- d calls the same operation on the same program, width and height, with no granted count and no out slice smaller
 pub record Larger (c d : Call) : Type 0 where
