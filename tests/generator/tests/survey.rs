@@ -11,7 +11,6 @@ fn every_outcome_occurs() {
     }
     for (outcome, least) in [
         ("drawn", 400),
-        ("measured", 200),
         ("well formed", 100),
         ("10", 300),
         ("20", 300),
