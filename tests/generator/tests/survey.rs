@@ -27,7 +27,7 @@ fn every_outcome_occurs() {
         ("77", 50),
         ("78", 50),
         ("79", 200),
-        ("80", 30),
+        ("80", 150),
     ] {
         let count = tally.of(outcome);
         assert!(count >= least, "{outcome}: {count} of at least {least}");
