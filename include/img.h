@@ -1,4 +1,4 @@
-/* IMG drawings: check, measure or draw a program of the IMG language.
+/* IMG drawings: check or draw a program of the IMG language.
  *
  * The functions are in libimg.a, which `rt staticlib img` builds (x86-64).
  * They allocate nothing, keep nothing between calls, and may be called from
@@ -64,20 +64,13 @@ uint64_t img_check(const uint8_t *program, size_t program_length,
                    uint64_t *code, size_t code_length,
                    uint64_t *answer, size_t answer_length);
 
-/* Runs a program and tells how long its picture is. */
-uint64_t img_measure(const uint8_t *program, size_t program_length,
-                     int32_t width, int32_t height,
-                     uint64_t steps, uint64_t shapes,
-                     uint64_t entries, uint64_t text_bytes,
-                     uint64_t *tokens, size_t tokens_length,
-                     uint64_t *code, size_t code_length,
-                     uint64_t *words, size_t words_length,
-                     uint8_t *texts, size_t texts_length,
-                     uint64_t *answer, size_t answer_length);
-
 /* Runs a program and writes its picture to the front of `out`. Bytes of `out`
  * behind the picture stay as they were, and so does all of `out` after a
- * number. */
+ * number.
+ *
+ * A picture that is longer than `out` gives the number 80, with the length it
+ * needs and the steps of its run. So an `out` of length 0 tells a picture's
+ * length; its pointer must not be null either. */
 uint64_t img_draw(const uint8_t *program, size_t program_length,
                   int32_t width, int32_t height,
                   uint64_t steps, uint64_t shapes,

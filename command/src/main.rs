@@ -9,7 +9,7 @@ mod output;
 mod tokens;
 
 use arguments::{Draw, Wanted};
-use img::{Grants, Picture, Refusal, Workspace};
+use img::{Grants, Refusal, Workspace};
 use input::Drawing;
 use std::ffi::{OsStr, OsString};
 use std::io::{self, Write};
@@ -73,22 +73,10 @@ fn draw(wanted: &Draw) -> impl FnMut(&OsStr) -> Status + '_ {
         // The library answers 72 for a sheet of 0 by 0, and so for a first line that is none.
         let (width, height) = wanted.size.or(drawing.size()).unwrap_or((0, 0));
         let mut out = Vec::new();
-        match picture(&mut workspace, drawing.program(), width, height, wanted.out_bytes, &mut out) {
-            Ok(picture) => put(wanted, &drawing, file, &out[..picture.length]),
+        match workspace.draw_vec(drawing.program(), width, height, wanted.out_bytes, &mut out) {
+            Ok(_) => put(wanted, &drawing, file, &out),
             Err(refusal) => refused(&drawing, &refusal),
         }
-    }
-}
-
-/// Draws into as much as is needed, and no more than is lent.
-fn picture(workspace: &mut Workspace, program: &[u8], width: i32, height: i32, lent: usize, out: &mut Vec<u8>) -> Result<Picture, Refusal> {
-    out.resize(lent.min(65_536), 0);
-    match workspace.draw(program, width, height, out) {
-        Err(refusal) if refusal.number == 80 && refusal.length <= lent => {
-            out.resize(refusal.length, 0);
-            workspace.draw(program, width, height, out)
-        }
-        answer => answer,
     }
 }
 

@@ -22,27 +22,6 @@ extern "C" {
         answer_length: usize,
     ) -> u64;
 
-    pub fn img_measure(
-        program: *const u8,
-        program_length: usize,
-        width: i32,
-        height: i32,
-        steps: u64,
-        shapes: u64,
-        entries: u64,
-        text_bytes: u64,
-        tokens: *mut u64,
-        tokens_length: usize,
-        code: *mut u64,
-        code_length: usize,
-        words: *mut u64,
-        words_length: usize,
-        texts: *mut u8,
-        texts_length: usize,
-        answer: *mut u64,
-        answer_length: usize,
-    ) -> u64;
-
     pub fn img_draw(
         program: *const u8,
         program_length: usize,

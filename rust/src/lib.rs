@@ -96,10 +96,10 @@ impl Grants {
     }
 }
 
-/// A picture: in the front of the out slice after drawing, nowhere after measuring.
+/// What is told of a picture. The picture itself is where it was drawn, if it was.
 #[derive(Clone, Copy, Debug, PartialEq, Eq)]
 pub struct Picture {
-    /// Its bytes.
+    /// How many bytes it has.
     pub length: usize,
     /// The steps of its run.
     pub steps: u64,
@@ -164,45 +164,6 @@ impl Workspace {
         told(number, answer).map(|_| ())
     }
 
-    /// Runs a program and tells the length of its picture.
-    ///
-    /// ```
-    /// # use img::{Grants, Workspace};
-    /// let mut workspace = Workspace::new(Grants::IMGDRAW);
-    /// let program = b"def main(w,h){w=drawEllipse(9,9,w,h);}";
-    /// let measured = workspace.measure(program, 4, 3)?;
-    /// let mut out = vec![0; measured.length];
-    /// assert_eq!(workspace.draw(program, 4, 3, &mut out)?, measured);
-    /// # Ok::<(), img::Refusal>(())
-    /// ```
-    pub fn measure(&mut self, program: &[u8], width: i32, height: i32) -> Result<Picture, Refusal> {
-        let mut answer = [0; 4];
-        // SAFETY: as in `check`.
-        let number = unsafe {
-            ffi::img_measure(
-                program.as_ptr(),
-                program.len(),
-                width,
-                height,
-                self.grants.steps,
-                self.grants.shapes,
-                self.grants.entries,
-                self.grants.text_bytes,
-                self.tokens.as_mut_ptr(),
-                self.tokens.len(),
-                self.code.as_mut_ptr(),
-                self.code.len(),
-                self.words.as_mut_ptr(),
-                self.words.len(),
-                self.texts.as_mut_ptr(),
-                self.texts.len(),
-                answer.as_mut_ptr(),
-                answer.len(),
-            )
-        };
-        told(number, answer)
-    }
-
     /// Runs a program and draws its picture into the front of `out`. The bytes behind it stay as they were; after a refusal all of `out` does.
     pub fn draw(
         &mut self,
@@ -239,6 +200,74 @@ impl Workspace {
         };
         told(number, answer)
     }
+
+    /// Runs a program and draws its picture into a vector, which is then as long as the picture. It may have `most` bytes; a longer one is refused with 80.
+    ///
+    /// The program is run once if the picture fits into 65,536 bytes, or into as many as the vector held before, and otherwise again with the length that the
+    /// first run told. After a refusal the vector is empty.
+    ///
+    /// ```
+    /// # use img::{Grants, Workspace};
+    /// let mut workspace = Workspace::new(Grants::IMGDRAW);
+    /// let mut out = Vec::new();
+    /// workspace.draw_vec(b"def main(w,h){w=drawEllipse(9,9,w,h);}", 4, 3, 1 << 20, &mut out)?;
+    /// assert!(out.ends_with(b"<ellipse cx=\"9\" cy=\"9\" rx=\"4\" ry=\"3\"/>\n</g>\n</svg>\n"));
+    /// # Ok::<(), img::Refusal>(())
+    /// ```
+    pub fn draw_vec(
+        &mut self,
+        program: &[u8],
+        width: i32,
+        height: i32,
+        most: usize,
+        out: &mut Vec<u8>,
+    ) -> Result<Picture, Refusal> {
+        fitted(out, most, |out| self.draw(program, width, height, out))
+    }
+
+    /// Runs a program and tells how long its picture is, which is not drawn: an empty out slice is lent, and the 80 that says so is no refusal here.
+    ///
+    /// ```
+    /// # use img::{Grants, Workspace};
+    /// let mut workspace = Workspace::new(Grants::IMGDRAW);
+    /// let program = b"def main(w,h){w=drawEllipse(9,9,w,h);}";
+    /// let told = workspace.length(program, 4, 3)?;
+    /// let mut out = vec![0; told.length];
+    /// assert_eq!(workspace.draw(program, 4, 3, &mut out)?, told);
+    /// # Ok::<(), img::Refusal>(())
+    /// ```
+    pub fn length(&mut self, program: &[u8], width: i32, height: i32) -> Result<Picture, Refusal> {
+        match self.draw(program, width, height, &mut []) {
+            Err(Refusal {
+                number: 80,
+                steps,
+                length,
+                ..
+            }) => Ok(Picture { length, steps }),
+            answer => answer,
+        }
+    }
+}
+
+/// The room that a picture is drawn into first, unless the vector held more or less may be lent.
+const FIRST_ROOM: usize = 65_536;
+
+/// Draws into a vector, a second time only if the first room was too short and what is needed may be lent. What the vector holds is then the picture, or nothing.
+fn fitted(
+    out: &mut Vec<u8>,
+    most: usize,
+    mut draw: impl FnMut(&mut [u8]) -> Result<Picture, Refusal>,
+) -> Result<Picture, Refusal> {
+    out.resize(out.len().max(FIRST_ROOM).min(most), 0);
+    let mut answer = draw(out);
+    if let Err(refusal) = answer {
+        if refusal.number == 80 && refusal.length <= most {
+            out.resize(refusal.length, 0);
+            answer = draw(out);
+        }
+    }
+    out.truncate(answer.map_or(0, |picture| picture.length));
+    answer
 }
 
 /// The number returned and the answer's four words, the first of which is that number again, as a result. The library is for x86-64, where a `usize` has as
@@ -254,4 +283,57 @@ fn told(number: u64, [_, place, steps, length]: [u64; 4]) -> Result<Picture, Ref
         steps,
         length,
     })
+}
+
+#[cfg(test)]
+mod tests {
+    use super::*;
+
+    /// Draws a picture of so many bytes into a vector that held some, and tells the rooms that were lent, how long the vector is then, and the number.
+    fn rooms(length: usize, held: usize, most: usize) -> (Vec<usize>, usize, u64) {
+        let mut rooms = Vec::new();
+        let mut out = vec![b'#'; held];
+        let answer = fitted(&mut out, most, |lent| {
+            rooms.push(lent.len());
+            if lent.len() < length {
+                return told(80, [80, 0, 9, length as u64]);
+            }
+            lent[..length].fill(b'p');
+            told(0, [0, 0, 9, length as u64])
+        });
+        assert!(out.iter().all(|byte| *byte == b'p'));
+        (rooms, out.len(), answer.map_or_else(|r| r.number, |_| 0))
+    }
+
+    #[test]
+    fn a_second_run_only_where_the_first_room_was_too_short() {
+        let free = usize::MAX;
+        assert_eq!(rooms(1, 0, free), (vec![65_536], 1, 0));
+        assert_eq!(rooms(65_536, 0, free), (vec![65_536], 65_536, 0));
+        assert_eq!(rooms(65_537, 0, free), (vec![65_536, 65_537], 65_537, 0));
+        // As much as the vector held is lent again.
+        assert_eq!(rooms(65_537, 70_000, free), (vec![70_000], 65_537, 0));
+        assert_eq!(rooms(200, 100, free), (vec![65_536], 200, 0));
+    }
+
+    #[test]
+    fn no_more_than_may_be_lent() {
+        assert_eq!(rooms(200, 0, 200), (vec![200], 200, 0));
+        assert_eq!(rooms(200, 0, 199), (vec![199], 0, 80));
+        assert_eq!(rooms(200, 300, 199), (vec![199], 0, 80));
+        assert_eq!(rooms(70_000, 0, 70_000), (vec![65_536, 70_000], 70_000, 0));
+        assert_eq!(rooms(70_000, 0, 69_999), (vec![65_536], 0, 80));
+        assert_eq!(rooms(1, 0, 0), (vec![0], 0, 80));
+    }
+
+    #[test]
+    fn another_number_is_not_tried_again() {
+        let mut runs = 0;
+        let mut out = vec![b'#'; 5];
+        let answer = fitted(&mut out, usize::MAX, |_| {
+            runs += 1;
+            told(79, [79, 14, 0, 0])
+        });
+        assert_eq!((answer.unwrap_err().number, runs, out.len()), (79, 1, 0));
+    }
 }

@@ -56,12 +56,14 @@ fn examples_are_drawn() {
             .unwrap();
         assert!(out[..picture.length] == e.printed[..], "{}", e.name);
         assert!(out[picture.length..].iter().all(|b| *b == 7), "{}", e.name);
-        assert_eq!(
-            workspace.measure(&e.program, e.width, e.height),
-            Ok(picture),
-            "{}",
-            e.name
-        );
+        let told = workspace.length(&e.program, e.width, e.height);
+        assert_eq!(told, Ok(picture), "{}", e.name);
+        // What the vector held makes no difference.
+        for mut vector in [Vec::new(), vec![7; 100_000]] {
+            let drawn = workspace.draw_vec(&e.program, e.width, e.height, 65_536, &mut vector);
+            assert_eq!(drawn, Ok(picture), "{}", e.name);
+            assert!(vector == e.printed, "{}", e.name);
+        }
     }
 }
 
@@ -86,17 +88,29 @@ fn examples_of_numbers_get_them() {
             .to_string()
             .starts_with(&format!("{}: ", printed.trim_end())));
         assert!(out.iter().all(|b| *b == 7), "{}", e.name);
-        let measured = workspace.measure(&e.program, e.width, e.height);
+        let told = workspace.length(&e.program, e.width, e.height);
+        let drawn = workspace.draw_vec(&e.program, e.width, e.height, usize::MAX, &mut out);
         match refusal.number {
-            80 => assert_eq!(
-                measured,
-                Ok(Picture {
+            80 => {
+                let picture = Picture {
                     length: refusal.length,
-                    steps: refusal.steps
-                })
-            ),
-            _ => assert_eq!(measured, Err(refusal)),
+                    steps: refusal.steps,
+                };
+                assert_eq!(told, Ok(picture));
+                // As much as it needs is lent.
+                assert_eq!(drawn, Ok(picture));
+                assert_eq!(out.len(), refusal.length);
+                assert!(out.starts_with(b"<?xml") && out.ends_with(b"</svg>\n"));
+                let most = refusal.length - 1;
+                let drawn = workspace.draw_vec(&e.program, e.width, e.height, most, &mut out);
+                assert_eq!(drawn, Err(refusal));
+            }
+            _ => {
+                assert_eq!(told, Err(refusal));
+                assert_eq!(drawn, Err(refusal));
+            }
         }
+        assert!(out.is_empty(), "{}", e.name);
     }
 }
 
@@ -145,10 +159,8 @@ fn the_out_slice_is_just_long_enough_or_one_byte_short() {
         refusal.to_string(),
         "error 80 at 0: the picture is longer than the place lent for it; it needs 213 bytes"
     );
-    assert_eq!(
-        workspace.draw(DAY, 20, 20, &mut []).unwrap_err().length,
-        DAY_LENGTH
-    );
+    assert_eq!(workspace.draw(DAY, 20, 20, &mut []), Err(refusal));
+    assert_eq!(workspace.length(DAY, 20, 20), Ok(picture));
 }
 
 #[test]
@@ -181,7 +193,7 @@ fn counts_out_of_their_ranges_are_71() {
             length: 0,
         });
         assert_eq!(workspace.draw(DAY, 20, 20, &mut out), refused);
-        assert_eq!(workspace.measure(DAY, 20, 20), refused);
+        assert_eq!(workspace.length(DAY, 20, 20), refused);
         assert_eq!(workspace.check(DAY), refused.map(|_: Picture| ()));
         assert_eq!(out, [7; 10]);
     }
@@ -191,7 +203,7 @@ fn counts_out_of_their_ranges_are_71() {
 fn all_and_nothing_can_be_granted() {
     let mut all = Workspace::new(Grants::MOST);
     assert_eq!(all.grants(), Grants::MOST);
-    assert_eq!(all.measure(DAY, 20, 20).unwrap().length, DAY_LENGTH);
+    assert_eq!(all.length(DAY, 20, 20).unwrap().length, DAY_LENGTH);
 
     let nothing = Grants {
         steps: 0,
@@ -200,8 +212,8 @@ fn all_and_nothing_can_be_granted() {
         text_bytes: 0,
     };
     let mut none = Workspace::new(nothing);
-    assert_eq!(none.measure(DAY, 20, 20).unwrap_err().number, 79);
-    assert_eq!(none.measure(b"", 20, 20).unwrap_err().number, 10);
+    assert_eq!(none.length(DAY, 20, 20).unwrap_err().number, 79);
+    assert_eq!(none.length(b"", 20, 20).unwrap_err().number, 10);
     assert_eq!(none.check(b"").unwrap_err().place, 0);
 }
 
@@ -209,8 +221,8 @@ fn all_and_nothing_can_be_granted() {
 fn nothing_of_one_call_reaches_the_next() {
     let mut used = Workspace::new(Grants::IMGDRAW);
     for e in examples("numbers", "txt") {
-        let first = used.measure(&e.program, e.width, e.height);
-        let fresh = Workspace::new(Grants::IMGDRAW).measure(&e.program, e.width, e.height);
+        let first = used.length(&e.program, e.width, e.height);
+        let fresh = Workspace::new(Grants::IMGDRAW).length(&e.program, e.width, e.height);
         assert_eq!(first, fresh, "{}", e.name);
     }
 }
@@ -221,7 +233,7 @@ fn workspaces_draw_at_the_same_time() {
         .map(|_| {
             std::thread::spawn(|| {
                 let mut workspace = Workspace::new(Grants::IMGDRAW);
-                (0..50).all(|_| workspace.measure(DAY, 20, 20).unwrap().length == DAY_LENGTH)
+                (0..50).all(|_| workspace.length(DAY, 20, 20).unwrap().length == DAY_LENGTH)
             })
         })
         .collect();

@@ -2,7 +2,7 @@
  *
  * The first 26 bytes of an input choose the call, missing ones being 0, and the rest is the program. Numbers have their low byte first.
  *
- *    0      operation: 0 checking, 1 measuring, 2 drawing (modulo 3)
+ *    0      operation: 0 checking, 1 drawing (modulo 2)
  *    1      lengths of tokens, code, words and texts, two bits each from the low end: 1 is one element short, 2 is five longer, else as needed
  *    2      the byte that fills every slice before the call
  *    3      from the low end, whether steps, shapes, entries and text bytes lie beyond their range by what they are
@@ -35,7 +35,7 @@
 #include "../../include/img.h"
 
 enum { HEAD = 26, LONGER = 5, MOST_STEPS = 250000, MOST_OUT = 262144, MOST_PROGRAM = 65536, PROGRAM_BYTES = 32768 };
-enum { CHECKING, MEASURING, DRAWING };
+enum { CHECKING, DRAWING };
 
 /* A stretch of memory between two pages that nothing may touch. */
 struct Region {
@@ -203,7 +203,7 @@ static void check_picture(struct Slice out, uint64_t length, int32_t width, int3
 static void one(const uint8_t *input, size_t input_length) {
     current = input;
     current_length = input_length;
-    int operation = (int)(number_at(0, 1) % 3);
+    int operation = (int)(number_at(0, 1) % 2);
     uint64_t lengths = number_at(1, 1);
     uint8_t fill = (uint8_t)number_at(2, 1);
     uint64_t beyond = number_at(3, 1) & 15;
@@ -249,9 +249,6 @@ static void one(const uint8_t *input, size_t input_length) {
     if (operation == CHECKING) {
         returned =
             img_check(program.bytes, program_length, steps, shapes, entries, bytes, t, lent[0], c, lent[1], answer, 4);
-    } else if (operation == MEASURING) {
-        returned = img_measure(program.bytes, program_length, width, height, steps, shapes, entries, bytes, t, lent[0], c,
-                               lent[1], w, lent[2], texts.bytes, lent[3], answer, 4);
     } else {
         returned = img_draw(program.bytes, program_length, width, height, steps, shapes, entries, bytes, t, lent[0], c,
                             lent[1], w, lent[2], texts.bytes, lent[3], out.bytes, out_length, answer, 4);
@@ -262,7 +259,7 @@ static void one(const uint8_t *input, size_t input_length) {
     uint64_t number = answer[0];
     uint64_t place = answer[1];
     uint64_t length = answer[3];
-    int runs = operation != CHECKING;
+    int runs = operation == DRAWING;
     int refused = beyond || is_short[0] || is_short[1] || (runs && (is_short[2] || is_short[3]));
     int no_sheet = runs && (width < 1 || height < 1);
 
@@ -289,8 +286,7 @@ static void one(const uint8_t *input, size_t input_length) {
     static const uint64_t running[] = {20, 30, 40, 50, 60, 70, 76, 77, 78, 79};
     int read = in(number, reading, 3);
     int ran = in(number, running, 10);
-    ask(number == 0 || (number >= 71 && number <= 73) || read || (runs && ran) || (operation == DRAWING && number == 80),
-        "a number of the table");
+    ask(number == 0 || (number >= 71 && number <= 73) || read || (runs && (ran || number == 80)), "a number of the table");
     ask(answer[2] <= steps || !runs, "no more steps than were granted");
     ask(number != 79 || answer[2] == steps, "79 once all steps are used");
     if (!runs || read) {
@@ -312,7 +308,7 @@ static void one(const uint8_t *input, size_t input_length) {
 
     /* The out slice. */
     size_t drawn = 0;
-    if (operation == DRAWING && number == 0) {
+    if (runs && number == 0) {
         ask(length <= out_length, "a picture fits");
         ask(IS_KNOWN(out.bytes, length), "the picture depends on nothing that slices held");
         check_picture(out, length, width, height);

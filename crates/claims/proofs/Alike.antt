@@ -24,7 +24,7 @@ extended-same (same e) h = e
 extended-same (longer u more e) h = absurd (h u)
 
 module _ (c : Call) where
-  beginning-is : (n : ℕ) → beginningOf c n .end ≢ unfinished → beginningOf c n ≡ runs c (turns c n)
+  pub beginning-is : (n : ℕ) → beginningOf c n .end ≢ unfinished → beginningOf c n ≡ runs c (turns c n)
   beginning-is n h = extended-same (beginning-run c n) h
 
   call-is : (n : ℕ) → runOf c .end ≢ unfinished → runOf c ≡ runs c (turns c n)

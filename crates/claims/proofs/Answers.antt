@@ -8,7 +8,7 @@ use native.Mathlib.Omega.{arith}
 use lib.ListN.{length}
 use Rattle.meaning.specs.Basics.{if_then_else_}
 use Rattle.meaning.specs.Run.{steps, End, result, error, unfinished, Run}
-use Rattle.meaning.specs.Program.{Operation, checking, measuring, drawing, Outcome, accepted, drawn, specified, beginning}
+use Rattle.meaning.specs.Program.{Operation, checking, drawing, Outcome, accepted, drawn, specified, beginning}
 use Rattle.meaning.specs.Book.{nothingYet, Booked, allFit, lacking, book, number, undecided, answerTo, settled, booked}
 use Rattle.meaning.specs.Call.{Call, admitted, granted, grantedTo, runOf, answer, outAfterEnd, outAfter}
 use Rattle.claims.specs.Claims.{errors, beginningOf, BeginningsDecide, AlwaysAnswered, NumbersWriteNothing}
@@ -90,7 +90,6 @@ end-writes-nothing : (o : Operation) (x : Booked) (e : End Outcome) (out : List 
     outAfterEnd o x e out ≡ out
 unfolding settled answerTo outAfterEnd
 end-writes-nothing checking x e out h = refl
-end-writes-nothing measuring x e out h = refl
 end-writes-nothing drawing (lacking t total) e out h = refl
 end-writes-nothing drawing (allFit total) (result accepted s) out h = refl
 end-writes-nothing drawing (allFit total) (result (drawn b) s) out h = absurd (number-no-picture (sym h))

@@ -1,5 +1,7 @@
 -- The claims of specs/Claims, each proved.
-use Rattle.claims.specs.Claims.{ReadingErrors, LanguageErrors, BeginningsExtend, BeginningsFill, EndedStays, NeededIsBounded, BeginningsDecide, AlwaysAnswered, NumbersWriteNothing, PicturesFillTheFront, CheckingTakesNothing, UnrunTakesNothing, UnrunIsRefused, OthersTakeAStep, MeasuredIsDrawn, LargerGrant, ShortageExact, EndAlike, FittingIsRun, AnswersAreBeginnings, PicturesAreBeginnings, SizesNotNegative, OthersStay}
+use Rattle.claims.specs.Claims.{ReadingErrors, LanguageErrors, BeginningsExtend, BeginningsFill, EndedStays, NeededIsBounded, BeginningsDecide, AlwaysAnswered, NumbersWriteNothing}
+use Rattle.claims.specs.Claims.{PicturesFillTheFront, CheckingTakesNothing, UnrunTakesNothing, UnrunIsRefused, OthersTakeAStep, LargerGrant, ShortageExact, LengthIsTold, DrawnIsTold}
+use Rattle.claims.specs.Claims.{ToldIsDrawn, NumbersStay, EndAlike, FittingIsRun, AnswersAreBeginnings, PicturesAreBeginnings, SizesNotNegative, OthersStay}
 use Rattle.claims.proofs.Ends
 use Rattle.claims.proofs.Beginnings
 use Rattle.claims.proofs.Answers
@@ -7,6 +9,7 @@ use Rattle.claims.proofs.Lent
 use Rattle.claims.proofs.Pictures
 use Rattle.claims.proofs.Refusals
 use Rattle.claims.proofs.Shortages
+use Rattle.claims.proofs.Told
 use Rattle.claims.proofs.Unrun
 use Rattle.claims.proofs.Alike
 use Rattle.claims.proofs.Sizes
@@ -53,14 +56,23 @@ unrun-is-refused = Unrun.unrun-is-refused
 pub others-take-a-step : OthersTakeAStep
 others-take-a-step = Unrun.others-take-a-step
 
-pub measured-is-drawn : MeasuredIsDrawn
-measured-is-drawn = Pictures.measured-is-drawn
-
 pub larger-grant : LargerGrant
 larger-grant = Shortages.larger-grant
 
 pub shortage-exact : ShortageExact
 shortage-exact = Shortages.shortage-exact
+
+pub length-is-told : LengthIsTold
+length-is-told = Told.length-is-told
+
+pub drawn-is-told : DrawnIsTold
+drawn-is-told = Told.drawn-is-told
+
+pub told-is-drawn : ToldIsDrawn
+told-is-drawn = Told.told-is-drawn
+
+pub numbers-stay : NumbersStay
+numbers-stay = Told.numbers-stay
 
 pub end-alike : EndAlike
 end-alike = Alike.end-alike

@@ -25,7 +25,7 @@ use Rattle.meaning.specs.Operator.{usable, withInteger, withString, withBoolean
 use Rattle.meaning.specs.Library.{Library, drawLine, drawEllipse, drawBox, drawText, connectShapes, drawTextOnShape, xCoordinate, yCoordinate, destroyShape, clearScene, withNone, withOne, withTwo, withThree, withFour, drawFigure, perform, allUsable, callLibrary}
 use Rattle.meaning.specs.Evaluate.{lookedUp, variable, newTable, entryOf, evaluate, evaluateAll}
 use Rattle.meaning.specs.Execute.{Flow, onward, returned, continue, declaring, copied, assigning, storing, updating, looping, execute, executeAll}
-use Rattle.meaning.specs.Program.{Operation, checking, measuring, drawing, accepted, empty, entering, sheet, sized, understood, painting, performing, specified}
+use Rattle.meaning.specs.Program.{Operation, checking, drawing, accepted, empty, entering, sheet, sized, understood, painting, performing, specified}
 use Rattle.meaning.specs.Program as Program
 use Rattle.meaning.specs.Picture.{pictureOf}
 use Rattle.meaning.specs.Book.{resourceNumber}
@@ -540,8 +540,6 @@ performing-ended : (o : Operation) (program : List ℕ) (width height : ℤ) (n 
 unfolding performing
 performing-ended checking program width height n =
     bind-lawful (sized-lawful program) (λ _. bind-lawful (understood-lawful _ (reading-low program)) λ m. give-lawful accepted) .ended empty
-performing-ended measuring program width height n =
-    bind-lawful (painting-lawful program width height) (λ a. give-lawful (Program.drawn (pictureOf width height a))) .ended empty
 performing-ended drawing program width height n = drawing-ended width height (painting-lawful program width height)
 
 -- THE LAW
@@ -566,7 +564,6 @@ module _ (program : List ℕ) (width height : ℤ) (main : Procedure) (n : ℕ) 
   formed-ended : (o : Operation) → Ended languageErrors n (specified o program width height n)
   unfolding specified performing sized understood refuse give spend _>>=_ goOn
   formed-ended checking = rw (le-ltb 32768 (length program) short, formed) tt
-  formed-ended measuring = ended-go languageErrors n (painted .takings) (painted .end) (λ a. give (Program.drawn (pictureOf width height a))) painted-ended (λ a s. tt)
   formed-ended drawing =
       ended-go languageErrors n (painted .takings) (painted .end)
       (λ a. spend picture (length (pictureOf width height a)) 0 >>= λ _. give (Program.drawn (pictureOf width height a))) painted-ended (λ a s. tt)

@@ -6,7 +6,7 @@ use mathlib.Core.List.{List, [], _∷_}
 use native.Mathlib.Omega.{arith}
 use lib.Dec.{leb}
 use borrow.Author.Tests.{leb-true, le-leb}
-use Rattle.meaning.specs.Program.{checking, measuring, drawing}
+use Rattle.meaning.specs.Program.{checking, drawing}
 use Rattle.meaning.specs.Call.{Grants, inRange, readingSlices, runningSlices, needed}
 use Rattle.claims.specs.Claims.{NeededIsBounded, allWithin}
 
@@ -41,5 +41,4 @@ running-bounded g w =
 pub needed-is-bounded : NeededIsBounded
 unfolding needed allWithin
 needed-is-bounded checking g h = refl
-needed-is-bounded measuring g h = running-bounded g (within g h)
 needed-is-bounded drawing g h = running-bounded g (within g h)

@@ -10,5 +10,6 @@ pub mod Lent
 pub mod Pictures
 pub mod Shortages
 pub mod Alike
+pub mod Told
 pub mod Sizes
 pub mod Claimed

@@ -1,32 +1,30 @@
--- Pictures: what drawing writes, and what measuring foretells.
-use Prim.Native.Nat.{ℕ, suc, _+_, _≤_, _<_}
+-- Pictures: what drawing writes.
+use Prim.Native.Nat.{ℕ, suc, _≤_}
 use mathlib.Core.Path.{_≡_, refl, ap, sym, _∙_}
 use mathlib.Core.Logic.{_≢_}
 use mathlib.Core.Bool.{Bool, true, false}
-use mathlib.Core.List.{List, [], _∷_, _++_}
+use mathlib.Core.List.{List, [], _∷_}
 use native.Mathlib.Omega.{arith}
 use lib.ListN.{length, take}
 use lib.IntN.{ℤ}
-use borrow.Author.Tests.{lt-leb}
 use Rattle.meaning.specs.Basics.{if_then_else_, laidOver}
 use Rattle.meaning.specs.State.{State}
-use Rattle.meaning.specs.Run.{Resource, steps, shapes, entries, textBytes, picture, Taking, taking, End, result, error, unfinished, Run, run, Action, goOn, _>>=_, give}
+use Rattle.meaning.specs.Run.{steps, picture, Taking, taking, End, result, error, unfinished, Run, Action, goOn, _>>=_, give}
 use Rattle.meaning.specs.Run as Run
 use Rattle.meaning.specs.Figure.{Figure}
 use Rattle.meaning.specs.Picture.{pictureOf}
-use Rattle.meaning.specs.Program.{Operation, measuring, drawing, Outcome, drawn, empty, painting, performing, specified}
-use Rattle.meaning.specs.Book.{Amounts, nothingYet, resourceNumber, fits, pictured, number, undecided, shortageOf, lengthNeeded, answerTo, booked}
-use Rattle.meaning.specs.Call.{Call, Grants, admitted, granted, grantedTo, runOf, answer, outAfterEnd, outAfter}
-use Rattle.claims.specs.Claims.{totalOf, shortageAt, PicturesFillTheFront, SameButDrawn, MeasuredIsDrawn}
+use Rattle.meaning.specs.Program.{Operation, drawing, Outcome, drawn, empty, painting, performing, specified}
+use Rattle.meaning.specs.Book.{nothingYet, resourceNumber, pictured, number, undecided, answerTo, booked}
+use Rattle.meaning.specs.Call.{Call, admitted, granted, grantedTo, runOf, answer, outAfterEnd, outAfter}
+use Rattle.claims.specs.Claims.{totalOf, shortageAt, PicturesFillTheFront}
 use Rattle.meaning.proofs.BookLaws.{part, taken, taken-append}
 use Rattle.meaning.proofs.SliceLaws.{laid-front}
-use Rattle.claims.proofs.Booking.{total-taken, all-fit}
-use Rattle.claims.proofs.Ends.{painting-lawful}
-use Rattle.claims.proofs.Settling.{number-no-picture, result-finished, booked-short, Complete, within-complete, booked-complete, Settles, complete, stopped}
+use Rattle.claims.proofs.Booking.{total-taken}
+use Rattle.claims.proofs.Settling.{number-no-picture, booked-short, Complete, booked-complete, Settles, complete, stopped}
 use Rattle.claims.proofs.Answers.{answer-admitted, out-admitted, run-settles}
 
 -- ---- a call that is answered by a picture
-undecided-no-picture : {l n : ℕ} → undecided ≢ pictured l n
+pub undecided-no-picture : {l n : ℕ} → undecided ≢ pictured l n
 undecided-no-picture e = let z : _≡_ {A = ℕ} 0 1 = cc in omega arith
 
 pub picture-admitted : (c : Call) (l n : ℕ) → answer c ≡ pictured l n → admitted c ≡ true
@@ -59,7 +57,7 @@ fitting c l n h = by (run-settles c)
 
 -- ---- drawing
 -- the run of an operation that comes behind a painting
-abbrev showing : ℤ → ℤ → List Figure → Action Outcome
+abbrev pub showing : ℤ → ℤ → List Figure → Action Outcome
 showing width height a = Run.spend picture (length (pictureOf width height a)) 0 >>= λ _. give (drawn (pictureOf width height a))
 
 -- it ends with the picture, which it takes last
@@ -113,142 +111,3 @@ pictures-fill-the-front c l n o h =
     let f = fitting c l n h in
     let d = call-drawn c o f in
     (d .bytes, d .final, d .ends, d .long, drawn-within c l n f d, out-drawn c (f .allowed) o (f .whole) (d .ends))
-
--- ---- measuring
--- what a painting takes, where its measure is answered
-record Measured (width height : ℤ) (e : End (List Figure)) (ts : List Taking) (g : Amounts) (l n : ℕ) : Type 0 where
-  figures : List Figure
-  final : State
-  ends : e ≡ result figures final
-  long : length (pictureOf width height figures) ≡ l
-  steps-counted : taken steps ts ≡ n
-  within : (x : Resource) → taken x ts ≤ g x
-
-abbrev telling : ℤ → ℤ → List Figure → Action Outcome
-telling width height a = give (drawn (pictureOf width height a))
-
-measured-by : (width height : ℤ) (ts : List Taking) (e : End (List Figure)) {g : Amounts} {l n : ℕ} →
-    answerTo (goOn ts e (telling width height) .end) (totalOf (goOn ts e (telling width height) .takings) steps) ≡ pictured l n →
-    ((x : Resource) → totalOf (goOn ts e (telling width height) .takings) x ≤ g x) → Measured width height e ts g l n
-unfolding goOn give answerTo taken
-measured-by width height ts (result a s) {g} {l} {n} h w =
-    let e : length (pictureOf width height a) ≡ l = cc in
-    let k : totalOf (ts ++ []) steps ≡ n = cc in
-    record {
-      figures = a;
-      final = s;
-      ends = refl;
-      long = e;
-      steps-counted = omega (arith, total-taken nothingYet (ts ++ []) steps, taken-append steps ts []);
-      within = λ x. omega (arith, w x, total-taken nothingYet (ts ++ []) x, taken-append x ts []);
-    }
-measured-by width height ts (error m p) h w = absurd (number-no-picture h)
-measured-by width height ts unfinished h w = absurd (undecided-no-picture h)
-
--- a drawing of what was measured
-module _ (g : Grants) (out′ out b : List ℕ) (s : State) (ts : List Taking) (none : taken picture ts ≡ 0)
-    (within : (x : Resource) → taken x ts ≤ granted g out′ x) where
-  abbrev whole : Taking
-  whole = taking picture (length b) 0
-
-  abbrev shown : Run Outcome
-  shown = run (ts ++ (whole ∷ [])) (result (drawn b) s)
-
-  -- the out slice bounds only the picture
-  all-within : (x : Resource) → taken x ts ≤ granted g out x
-  unfolding granted
-  all-within steps = within steps
-  all-within shapes = within shapes
-  all-within entries = within entries
-  all-within textBytes = within textBytes
-  all-within picture = omega arith
-
-  whole-within : length b ≤ length out → (x : Resource) → taken x ts + part x whole ≤ granted g out x
-  unfolding granted part resourceNumber
-  whole-within l steps = omega (arith, within steps)
-  whole-within l shapes = omega (arith, within shapes)
-  whole-within l entries = omega (arith, within entries)
-  whole-within l textBytes = omega (arith, within textBytes)
-  whole-within l picture = omega arith
-
-  shown-total : (x : Resource) → totalOf (ts ++ (whole ∷ [])) x ≡ taken x ts + part x whole
-  unfolding taken
-  shown-total x = omega (arith, total-taken nothingYet (ts ++ (whole ∷ [])) x, taken-append x ts (whole ∷ []))
-
-  shown-fit : length b ≤ length out → booked (granted g out) shown ≡ pictured (length b) (taken steps ts)
-  unfolding answerTo part resourceNumber
-  shown-fit l =
-      booked-complete (granted g out) shown
-      (within-complete (granted g out) shown (λ x. omega (arith, shown-total x, whole-within l x)) result-finished)
-      ∙ ap (pictured (length b)) (shown-total steps ∙ omega arith)
-
-  shown-short : length out < length b → booked (granted g out) shown ≡ number 80 0 (taken steps ts) (length b)
-  unfolding shortageAt shortageOf lengthNeeded resourceNumber fits granted
-  shown-short l =
-      booked-short (granted g out) shown ts whole (record {
-        behind = [];
-        stand = refl;
-        beforeFit = all-fit (granted g out) nothingYet ts (λ x. omega (arith, total-taken nothingYet ts x, all-within x));
-        doesNotFit = lt-leb (totalOf ts picture + length b) (length out) (omega (arith, total-taken nothingYet ts picture));
-      })
-      ∙ ap (λ (k : ℕ). number 80 0 k (length b)) (omega (arith, total-taken nothingYet ts steps))
-
--- the drawing's run, from the painting's
-drawn-is : (width height : ℤ) (ts : List Taking) (e : End (List Figure)) (a : List Figure) (s : State) → e ≡ result a s →
-    goOn ts e (showing width height) ≡ run (ts ++ (taking picture (length (pictureOf width height a)) 0 ∷ [])) (result (drawn (pictureOf width height a)) s)
-unfolding goOn _>>=_ Run.spend give
-drawn-is width height ts e a s u = rw u
-
-module _ (program : List ℕ) (width height : ℤ) (k l n : ℕ) where
-  abbrev painted : Run (List Figure)
-  painted = painting program width height k empty
-
-  measured-run : (o : Operation) (g : Amounts) → o ≡ measuring →
-      answerTo (specified o program width height k .end) (totalOf (specified o program width height k .takings) steps) ≡ pictured l n →
-      ((x : Resource) → totalOf (specified o program width height k .takings) x ≤ g x) →
-      Measured width height (painted .end) (painted .takings) g l n
-  unfolding specified performing _>>=_
-  measured-run o g e = rw e (measured-by width height (painted .takings) (painted .end))
-
-  module _ (g : Grants) (out′ out : List ℕ) (h : Measured width height (painted .end) (painted .takings) (granted g out′) l n) where
-    abbrev bytes : List ℕ
-    bytes = pictureOf width height (h .figures)
-
-    drawing-is : specified drawing program width height k
-        ≡ run (painted .takings ++ (taking picture (length bytes) 0 ∷ [])) (result (drawn bytes) (h .final))
-    unfolding specified performing _>>=_
-    drawing-is = drawn-is width height (painted .takings) (painted .end) (h .figures) (h .final) (h .ends)
-
-    none-taken : taken picture (painted .takings) ≡ 0
-    none-taken = painting-lawful program width height .plain empty
-
-    drawing-fits : l ≤ length out → booked (granted g out) (specified drawing program width height k) ≡ pictured l n
-    drawing-fits w =
-        ap (booked (granted g out)) drawing-is
-        ∙ shown-fit g out′ out bytes (h .final) (painted .takings) none-taken (h .within) (omega (arith, h .long))
-        ∙ rw (h .long, h .steps-counted)
-
-    drawing-short : length out < l → booked (granted g out) (specified drawing program width height k) ≡ number 80 0 n l
-    drawing-short w =
-        ap (booked (granted g out)) drawing-is
-        ∙ shown-short g out′ out bytes (h .final) (painted .takings) none-taken (h .within) (omega (arith, h .long))
-        ∙ rw (h .long, h .steps-counted)
-
--- the run of a call that draws what another measures
-same-painting : (c d : Call) → SameButDrawn c d →
-    booked (grantedTo d) (runOf d)
-    ≡ booked (granted (c .grants) (d .out)) (specified drawing (c .program) (c .width) (c .height) (suc (c .grants .steps)))
-unfolding runOf
-same-painting c d s = cc
-
--- THE CLAIM
-pub measured-is-drawn : MeasuredIsDrawn
-unfolding runOf
-measured-is-drawn c d a a′ s l n h =
-    let f = fitting c l n h in
-    let k = suc (c .grants .steps) in
-    let m = measured-run (c .program) (c .width) (c .height) k l n (c .operation) (grantedTo c) (s .measures) (f .ending) (f .whole .within) in
-    let e = answer-admitted d a′ ∙ same-painting c d s in (
-      (λ w. e ∙ drawing-fits (c .program) (c .width) (c .height) k l n (c .grants) (c .out) (d .out) m w),
-      λ w. e ∙ drawing-short (c .program) (c .width) (c .height) k l n (c .grants) (c .out) (d .out) m w,
-    )

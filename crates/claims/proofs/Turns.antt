@@ -12,7 +12,7 @@ use Rattle.meaning.specs.State.{State}
 use Rattle.meaning.specs.Run.{Taking, End, result, error, unfinished, Run, Action, following, goOn, _>>=_}
 use Rattle.meaning.specs.Operator.{withBoolean}
 use Rattle.meaning.specs.Execute.{Flow, onward, returned, continue, looping, execute, executeAll}
-use Rattle.meaning.specs.Program.{Operation, checking, measuring, drawing, empty, painting, performing, specified}
+use Rattle.meaning.specs.Program.{Operation, checking, drawing, empty, painting, performing, specified}
 
 -- ---- the relation
 -- r′ is r; or r is unfinished and r′ takes what r takes, and more
@@ -122,7 +122,6 @@ performing-lengthens : (o : Operation) (program : List ℕ) (width height : ℤ)
     Lengthens (performing o program width height n) (performing o program width height n′)
 unfolding performing
 performing-lengthens checking program width height l = unchanged
-performing-lengthens measuring program width height l = bind-lengthens (painting-lengthens program width height l) λ b. unchanged
 performing-lengthens drawing program width height l = bind-lengthens (painting-lengthens program width height l) λ b. unchanged
 
 -- THE LAW

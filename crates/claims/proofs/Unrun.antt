@@ -17,7 +17,7 @@ use Rattle.meaning.specs.State.{State}
 use Rattle.meaning.specs.Run.{steps, Taking, taking, End, result, error, unfinished, Run, run, Action, goOn, _>>=_, give, fail, spend, refuse, become}
 use Rattle.meaning.specs.Execute.{looping, execute, executeAll}
 use Rattle.meaning.specs.Figure.{Figure}
-use Rattle.meaning.specs.Program.{Operation, checking, measuring, drawing, Outcome, empty, entering, sheet, sized, understood, painting, performing, specified}
+use Rattle.meaning.specs.Program.{Operation, checking, drawing, Outcome, empty, entering, sheet, sized, understood, painting, performing, specified}
 use Rattle.claims.specs.Claims.{CheckingTakesNothing, twoNames, Unrun, noSheet, tooLong, unread, unentered, UnrunTakesNothing, UnrunIsRefused, OthersTakeAStep}
 
 -- ---- actions that take nothing
@@ -116,7 +116,6 @@ module _ (program : List ℕ) (width height : ℤ) (n : ℕ) where
   painted-refused : (o : Operation) → o ≢ checking → Unrun program width height → Refused (performing o program width height n)
   unfolding performing
   painted-refused checking d h = absurd (d refl)
-  painted-refused measuring d h = bind-refused _ (painting-refused h)
   painted-refused drawing d h = bind-refused _ (painting-refused h)
 
 -- THE CLAIMS
@@ -126,16 +125,11 @@ unrun-is-refused o program width height n d h =
     let r = painted-refused program width height n o d h in
     (r .what empty, r .place empty, r .ends empty)
 
-measuring-runs : measuring ≢ checking
-measuring-runs e = let z : _≡_ {A = ℕ} 0 1 = cc in omega arith
-
 drawing-runs : drawing ≢ checking
 drawing-runs e = let z : _≡_ {A = ℕ} 0 1 = cc in omega arith
 
 pub unrun-takes-nothing : UnrunTakesNothing
 unrun-takes-nothing checking program width height n h = checking-takes-nothing program width height n
-unrun-takes-nothing measuring program width height n h =
-    ap (λ (r : Run Outcome). r .takings) (unrun-is-refused measuring program width height n measuring-runs h .2)
 unrun-takes-nothing drawing program width height n h =
     ap (λ (r : Run Outcome). r .takings) (unrun-is-refused drawing program width height n drawing-runs h .2)
 
@@ -147,7 +141,7 @@ record Steps {A : Type 0} (m : Action A) : Type 0 where
   begins : (s : State) → m s .takings ≡ taking steps 1 (where-to s) ∷ rest s
 
 module _ {A B : Type 0} where
-  behind : (ts : List Taking) (e : End A) (k : A → Action B) → (more : List Taking) × (goOn ts e k .takings ≡ ts ++ more)
+  pub behind : (ts : List Taking) (e : End A) (k : A → Action B) → (more : List Taking) × (goOn ts e k .takings ≡ ts ++ more)
   unfolding goOn
   behind ts (result a s) k = (k a s .takings, refl)
   behind ts (error n p) k = ([], sym (append-nil ts))
@@ -222,7 +216,6 @@ module _ (program : List ℕ) (width height : ℤ) (n : ℕ) (runs : Unrun progr
   operation-steps : (o : Operation) → o ≢ checking → Steps (performing o program width height (suc n))
   unfolding performing
   operation-steps checking d = absurd (d refl)
-  operation-steps measuring d = bind-steps _ painting-steps
   operation-steps drawing d = bind-steps _ painting-steps
 
 -- THE CLAIM

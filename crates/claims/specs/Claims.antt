@@ -15,8 +15,8 @@ use Rattle.meaning.specs.Picture.{plainLine, turned, lineOf}
 use Rattle.meaning.specs.Tree.{Procedure}
 use Rattle.meaning.specs.Grammar.{wellFormed, malformed, reading}
 use Rattle.meaning.specs.State.{State}
-use Rattle.meaning.specs.Run.{Resource, steps, Taking, taking, Run, run, result, error, unfinished}
-use Rattle.meaning.specs.Program.{Operation, checking, measuring, drawing, Outcome, drawn, specified, beginning}
+use Rattle.meaning.specs.Run.{Resource, steps, picture, Taking, taking, Run, run, result, error, unfinished}
+use Rattle.meaning.specs.Program.{Operation, checking, drawing, Outcome, drawn, specified, beginning}
 use Rattle.meaning.specs.Book.{Amounts, nothingYet, added, fits, allFit, book, Answer, pictured, number, undecided, shortageOf, lengthNeeded, booked}
 use Rattle.meaning.specs.Call.{Call, Grants, inRange, needed, admitted, grantedTo, runOf, answer, outAfter}
 
@@ -121,7 +121,7 @@ UnrunTakesNothing =
     (o : Operation) (program : List ℕ) (width height : ℤ) (n : ℕ) →
     Unrun program width height → specified o program width height n .takings ≡ []
 
--- and is refused: measuring and drawing end with a number at once
+-- and is refused: drawing ends with a number at once
 abbrev pub UnrunIsRefused : Type 0
 UnrunIsRefused =
     (o : Operation) (program : List ℕ) (width height : ℤ) (n : ℕ) → o ≢ checking → Unrun program width height →
@@ -133,21 +133,6 @@ OthersTakeAStep =
     (o : Operation) (program : List ℕ) (width height : ℤ) (n : ℕ) → o ≢ checking →
     (Unrun program width height → ⊥) →
     (p : ℕ) × (more : List Taking) × (specified o program width height (suc n) .takings ≡ taking steps 1 p ∷ more)
-
--- ---- measuring
--- the length measured is the length drawn, or the length that 80 names
-pub record SameButDrawn (c d : Call) : Type 0 where
-  pub measures : c .operation ≡ measuring
-  pub draws : d .operation ≡ drawing
-  pub program : d .program ≡ c .program
-  pub width : d .width ≡ c .width
-  pub height : d .height ≡ c .height
-  pub grants : d .grants ≡ c .grants
-
-abbrev pub MeasuredIsDrawn : Type 0
-MeasuredIsDrawn =
-    (c d : Call) → admitted c ≡ true → admitted d ≡ true → SameButDrawn c d → (l n : ℕ) → answer c ≡ pictured l n →
-    (l ≤ length (d .out) → answer d ≡ pictured l n) × (length (d .out) < l → answer d ≡ number 80 0 n l)
 
 -- ---- demand 3, the larger-grant rule
 -- d calls the same operation on the same program, width and height, with no granted count and no out slice smaller
@@ -197,6 +182,46 @@ ShortageExact =
     (namesShortage (answer c) ≡ true →
     (n : ℕ) × (before : List Taking) × (t : Taking) × FirstShort (grantedTo c) (beginningOf c n .takings) before t × (answer c ≡ shortageAt before t))
     × ((n : ℕ) (before : List Taking) (t : Taking) → FirstShort (grantedTo c) (beginningOf c n .takings) before t → answer c ≡ shortageAt before t)
+
+-- ---- the out slice's length
+-- the specified run, by a beginning of n takings, comes to the picture b, and all that it takes but the picture fits what was granted
+pub record ComesTo (c : Call) (n : ℕ) (b : List ℕ) : Type 0 where
+  pub final : State
+  pub ends : beginningOf c n .end ≡ result (drawn b) final
+  pub fit : (r : Resource) → r ≢ picture → totalOf (beginningOf c n .takings) r ≤ grantedTo c r
+
+-- with an out slice of length 0 every program that comes to a picture gets 80 at place 0 with that picture's length and steps
+abbrev pub LengthIsTold : Type 0
+LengthIsTold =
+    (c : Call) → c .operation ≡ drawing → admitted c ≡ true → c .out ≡ [] → (n : ℕ) (b : List ℕ) → ComesTo c n b →
+    answer c ≡ number 80 0 (totalOf (beginningOf c n .takings) steps) (length b)
+
+-- the same of two calls: d is c with another out slice, and both are past the first question
+pub record SameButOut (c d : Call) : Type 0 where
+  pub operation : d .operation ≡ c .operation
+  pub program : d .program ≡ c .program
+  pub width : d .width ≡ c .width
+  pub height : d .height ≡ c .height
+  pub grants : d .grants ≡ c .grants
+  pub first : admitted c ≡ true
+  pub second : admitted d ≡ true
+
+-- what one draws, the other tells where its out slice has length 0, or is shorter than the picture
+abbrev pub DrawnIsTold : Type 0
+DrawnIsTold =
+    (c d : Call) → c .operation ≡ drawing → SameButOut c d → (l n : ℕ) → answer c ≡ pictured l n →
+    (d .out ≡ [] → answer d ≡ number 80 0 n l) × (length (d .out) < l → answer d ≡ number 80 0 n l)
+
+-- what one tells by 80, the other draws where its out slice is so long
+abbrev pub ToldIsDrawn : Type 0
+ToldIsDrawn =
+    (c d : Call) → c .operation ≡ drawing → SameButOut c d → (p n l : ℕ) → answer c ≡ number 80 p n l →
+    (p ≡ 0) × (l ≤ length (d .out) → answer d ≡ pictured l n)
+
+-- and every other number is the same in both
+abbrev pub NumbersStay : Type 0
+NumbersStay =
+    (c d : Call) → c .operation ≡ drawing → SameButOut c d → (m p n l : ℕ) → m ≢ 80 → answer c ≡ number m p n l → answer d ≡ number m p n l
 
 -- ---- the run of an answer and the beginnings
 -- A call's run that has ended is every beginning that has ended: the same takings, and the same result with the same bytes, or the same number.

@@ -14,7 +14,7 @@ use mir.Facts.{toZ-ofZ}
 use borrow.Author.Tests.{eq-eqb, ne-eqb}
 use Rattle.meaning.specs.Basics.{if_then_else_, laidOver, standsIn}
 use Rattle.meaning.specs.Run.{steps, shapes, entries, textBytes, picture, Resource, Taking, End, result, error, unfinished}
-use Rattle.meaning.specs.Program.{accepted, measuring, drawing, Outcome}
+use Rattle.meaning.specs.Program.{accepted, drawing, Outcome}
 use Rattle.meaning.specs.Program as Program
 use Rattle.meaning.specs.Book.{Answer, pictured, number, undecided, answerTo, shortageOf, lengthNeeded}
 use Rattle.meaning.specs.Call.{Call, admitted, grantedTo, runOf, answer, outAfter}
@@ -30,7 +30,7 @@ use Rattle.checking.specs.Checking.{Checked}
 use Rattle.checking.specs.Checking as Checking
 use Rattle.lending.specs.Lending.{called, Performed}
 use Rattle.img.specs.Numbers.{numbersOf, Told, Checks, Performs}
-use Rattle.demands.specs.Demands.{Returned, checked, measured, drawn, toldBy, ZeroIsNoNumber}
+use Rattle.demands.specs.Demands.{Returned, checked, drawn, toldBy, ZeroIsNoNumber}
 
 -- ---- 0 is the number of no answer
 no : {A : Type 0} → _≡_ {A = ℕ} 0 1 → A
@@ -117,36 +117,20 @@ checked-by-c program g tokens code r tokens′ code′ ws n h e =
 abbrev held : ℤ → ℤ
 held z = toZ w32 (ofZ w32 z)
 
-module _ (program : List ℕ) (width height : ℤ) (f : SFits w32 width) (f₂ : SFits w32 height) (g tokens code words texts : List ℕ) (r : Declared.Answer) (tokens′ code′ words′ texts′ : List ℕ) where
-  pub measured-so : Performed (called measuring program (held width) (held height) g tokens code words texts []) (meant r) tokens code words texts tokens′ code′ words′ texts′
-      → Returned (called measuring program width height g tokens code words texts []) (meant r) (tokens ∷ code ∷ words ∷ texts ∷ []) (tokens′ ∷ code′ ∷ words′ ∷ texts′ ∷ []) []
-  measured-so h = measured g r (rw (toZ-ofZ f, toZ-ofZ f₂) at h)
+module _ (program : List ℕ) (width height : ℤ) (f : SFits w32 width) (f₂ : SFits w32 height) (g tokens code words texts : List ℕ) (r : Declared.Answer) (tokens′ code′ words′ texts′ : List ℕ)
+    (out out′ : List ℕ) (o : out′ ≡ outAfter (called drawing program (held width) (held height) g tokens code words texts out)) where
+  pub drawn-so : Performed (called drawing program (held width) (held height) g tokens code words texts out) (meant r) tokens code words texts tokens′ code′ words′ texts′
+      → Returned (called drawing program width height g tokens code words texts out) (meant r) (tokens ∷ code ∷ words ∷ texts ∷ []) (tokens′ ∷ code′ ∷ words′ ∷ texts′ ∷ []) out′
+  drawn-so h = drawn g r (rw (toZ-ofZ f, toZ-ofZ f₂) at h) (o ∙ rw (toZ-ofZ f, toZ-ofZ f₂))
 
-  pub measured-by-c : (ws : List ℕ) (n : ℕ)
-      → Performs (called measuring program (held width) (held height) g tokens code words texts []) tokens code words texts (replicate 4 0) tokens′ code′ words′ texts′ ws n
+  pub drawn-by-c : (ws : List ℕ) (n : ℕ)
+      → Performs (called drawing program (held width) (held height) g tokens code words texts out) tokens code words texts (replicate 4 0) tokens′ code′ words′ texts′ ws n
       → meant r ≡ toldBy n ws
-      → Returned (called measuring program width height g tokens code words texts []) (meant r) (tokens ∷ code ∷ words ∷ texts ∷ []) (tokens′ ∷ code′ ∷ words′ ∷ texts′ ∷ []) []
-  measured-by-c ws n h e = measured-so (record {
-    answered = told-answer (called measuring program (held width) (held height) g tokens code words texts []) r ws n (h .told) e;
+      → Returned (called drawing program width height g tokens code words texts out) (meant r) (tokens ∷ code ∷ words ∷ texts ∷ []) (tokens′ ∷ code′ ∷ words′ ∷ texts′ ∷ []) out′
+  drawn-by-c ws n h e = drawn-so (record {
+    answered = told-answer (called drawing program (held width) (held height) g tokens code words texts out) r ws n (h .told) e;
     tokensAfter = h .tokensAfter;
     codeAfter = h .codeAfter;
     wordsAfter = h .wordsAfter;
     textsAfter = h .textsAfter;
   })
-
-  module _ (out out′ : List ℕ) (o : out′ ≡ outAfter (called drawing program (held width) (held height) g tokens code words texts out)) where
-    pub drawn-so : Performed (called drawing program (held width) (held height) g tokens code words texts out) (meant r) tokens code words texts tokens′ code′ words′ texts′
-        → Returned (called drawing program width height g tokens code words texts out) (meant r) (tokens ∷ code ∷ words ∷ texts ∷ []) (tokens′ ∷ code′ ∷ words′ ∷ texts′ ∷ []) out′
-    drawn-so h = drawn g r (rw (toZ-ofZ f, toZ-ofZ f₂) at h) (o ∙ rw (toZ-ofZ f, toZ-ofZ f₂))
-
-    pub drawn-by-c : (ws : List ℕ) (n : ℕ)
-        → Performs (called drawing program (held width) (held height) g tokens code words texts out) tokens code words texts (replicate 4 0) tokens′ code′ words′ texts′ ws n
-        → meant r ≡ toldBy n ws
-        → Returned (called drawing program width height g tokens code words texts out) (meant r) (tokens ∷ code ∷ words ∷ texts ∷ []) (tokens′ ∷ code′ ∷ words′ ∷ texts′ ∷ []) out′
-    drawn-by-c ws n h e = drawn-so (record {
-      answered = told-answer (called drawing program (held width) (held height) g tokens code words texts out) r ws n (h .told) e;
-      tokensAfter = h .tokensAfter;
-      codeAfter = h .codeAfter;
-      wordsAfter = h .wordsAfter;
-      textsAfter = h .textsAfter;
-    })

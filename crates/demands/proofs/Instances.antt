@@ -51,6 +51,7 @@ table =
     ∷ plain (100 ∷ 4 ∷ 1 ∷ 1 ∷ []) "\"a\"++\"b\";" (number 78 14 4 0)
     ∷ plain (0 ∷ 4 ∷ 1 ∷ 2 ∷ []) "var a;" (number 79 14 0 0)
     ∷ record { width = 20; tokens = 8193; room = 140; grants = some; body = "var a;"; expected = number 80 0 1 141 }
+    ∷ record { width = 20; tokens = 8193; room = 0; grants = some; body = "var a;"; expected = number 80 0 1 141 }
     ∷ plain some "" (number 10 14 0 0)
     ∷ record { width = 20; tokens = 8192; room = 200; grants = some; body = "var a;"; expected = number 71 0 0 0 }
     ∷ record { width = 0; tokens = 8193; room = 200; grants = some; body = "var a;"; expected = number 72 0 0 0 }
@@ -70,7 +71,7 @@ AllAnswered (i ∷ is) = (answer (callOf i) ≡ i .expected) × AllAnswered is
 
 all-answered : AllAnswered table
 unfolding everything
-all-answered = (refl, (refl, (refl, (refl, (refl, (refl, (refl, (refl, (refl, (refl, (refl, (refl, (refl, (refl, (refl, tt)))))))))))))))
+all-answered = (refl, (refl, (refl, (refl, (refl, (refl, (refl, (refl, (refl, (refl, (refl, (refl, (refl, (refl, (refl, (refl, tt))))))))))))))))
 
 returns : (i : Instance) → answer (callOf i) ≡ i .expected → Returns i
 returns i e =

@@ -17,7 +17,7 @@ use Rattle.meaning.specs.Run.{steps, picture, Taking, End, result, error, unfin
 use Rattle.meaning.specs.Run as Run
 use Rattle.meaning.specs.Figure.{Figure}
 use Rattle.meaning.specs.Picture.{pictureOf}
-use Rattle.meaning.specs.Program.{Operation, checking, measuring, drawing, accepted, empty, sheet, sized, understood, painting, performing, specified}
+use Rattle.meaning.specs.Program.{Operation, checking, drawing, accepted, empty, sheet, sized, understood, painting, performing, specified}
 use Rattle.meaning.specs.Program as Program
 use Rattle.meaning.specs.Book.{Amounts, Booked, allFit, Answer, pictured, number, undecided, nothingYet, book, settled, answerTo, booked}
 use Rattle.meaning.specs.Call.{Call, admitted, grantedTo, runOf, answer, workAfter, outAfterEnd, outAfter}
@@ -30,8 +30,8 @@ use Rattle.answers.specs.declared.Answer.the-variants.{Picture, Number}
 use Rattle.answers.specs.Answers.{meant}
 use Rattle.checking.specs.Checking as Checking
 use Rattle.lending.specs.Lending.{called}
-use Rattle.demands.specs.Demands.{Returned, checked, measured, drawn, Proper, Ends, inPicture, inError, inShortage, Other, notLent, noSheet}
-use Rattle.demands.specs.Demands.{tooLong, unreadable, Either, proper, other, Numbered, Demand1, Demand2, Demand3, WorkSlices, NotEmpty}
+use Rattle.demands.specs.Demands.{Returned, checked, drawn, Proper, Ends, inPicture, inError, inShortage, Other, notLent, noSheet}
+use Rattle.demands.specs.Demands.{tooLong, unreadable, Either, proper, other, Numbered, Demand1, Demand2, LengthAlone, Demand3, WorkSlices, NotEmpty}
 
 -- ---- demand 2
 -- an operation without an out slice leaves none
@@ -42,25 +42,19 @@ no-out true c e n = by (c .operation) n ∙ e
   where
     by : (o : Operation) → o ≢ drawing → outAfterEnd o (book (grantedTo c) nothingYet (runOf c .takings)) (runOf c .end) (c .out) ≡ c .out
     by checking n = refl
-    by measuring n = refl
     by drawing n = absurd (n refl)
 no-out false c e n = e
 
 apart : {A : Type 0} → checking ≡ drawing → A
 apart e = let z : _≡_ {A = ℕ} 0 1 = cc in absurd (omega arith)
 
-apart₂ : {A : Type 0} → measuring ≡ drawing → A
-apart₂ e = let z : _≡_ {A = ℕ} 0 1 = cc in absurd (omega arith)
-
 pub demand-2 : Demand2
 unfolding outAfter
 demand-2 c a work work′ out′ (checked r h) = (h .answered, sym (no-out (admitted c) c refl apart))
-demand-2 c a work work′ out′ (measured g r h) = (h .answered, sym (no-out (admitted c) c refl apart₂))
 demand-2 c a work work′ out′ (drawn g r h e) = (h .answered, e)
 
 pub work-slices : WorkSlices
 work-slices c a work work′ out′ (checked r h) = cc
-work-slices c a work work′ out′ (measured g r h) = cc
 work-slices c a work work′ out′ (drawn g r h e) = cc
 
 -- ---- demand 1: what is proper and what is not
@@ -84,7 +78,7 @@ is-either c = by-first (admitted c) refl
     by-first false e = other 71 0 (notLent e)
 
 -- ---- a run ends
--- no run of these two is only accepted
+-- no run of drawing is only accepted
 accepts-not : {b : List ℕ} {s s′ : State} {A : Type 0} → result (Program.drawn b) s ≡ result accepted s′ → A
 accepts-not e = let z : _≡_ {A = ℕ} 0 1 = cc in absurd (omega arith)
 
@@ -95,12 +89,6 @@ unfinished-not : {s : State} {A : Type 0} → unfinished ≡ result accepted s �
 unfinished-not e = let z : _≡_ {A = ℕ} 0 1 = cc in absurd (omega arith)
 
 module _ (program : List ℕ) (width height : ℤ) (n : ℕ) (s : State) where
-  measures-none : (us : List Taking) (e : End (List Figure)) → goOn us e (λ a. give (Program.drawn (pictureOf width height a))) .end ≡ result accepted s → ⊥
-  unfolding goOn give
-  measures-none us (result b s′) q = accepts-not q
-  measures-none us (error m p) q = error-not q
-  measures-none us unfinished q = unfinished-not q
-
   draws-none : (us : List Taking) (e : End (List Figure))
       → goOn us e (λ a. Run.spend picture (length (pictureOf width height a)) 0 >>= λ _. give (Program.drawn (pictureOf width height a))) .end ≡ result accepted s → ⊥
   unfolding goOn give Run.spend _>>=_
@@ -111,7 +99,6 @@ module _ (program : List ℕ) (width height : ℤ) (n : ℕ) (s : State) where
   accepts-none : (o : Operation) → o ≢ checking → specified o program width height n .end ≡ result accepted s → ⊥
   unfolding specified performing _>>=_
   accepts-none checking h q = h refl
-  accepts-none measuring h q = measures-none (painting program width height n empty .takings) (painting program width height n empty .end) q
   accepts-none drawing h q = draws-none (painting program width height n empty .takings) (painting program width height n empty .end) q
 
 -- what drawing leaves of a picture
@@ -165,7 +152,6 @@ module _ (c : Call) (n : ℕ) where
   at-once : (m p : ℕ) → painted ≡ run [] (error m p) → (o : Operation) → o ≢ checking → specified o (c .program) (c .width) (c .height) n ≡ run [] (error m p)
   unfolding specified performing _>>=_ goOn
   at-once m p e checking h = absurd (h refl)
-  at-once m p e measuring h = rw e
   at-once m p e drawing h = rw e
 
   sheet-refused : ltZ (pos 0) (c .width) && ltZ (pos 0) (c .height) ≡ false → painted ≡ run [] (error 72 0)
@@ -213,6 +199,19 @@ demand-1 = record {
   refuses = λ c a work work′ out′ h n m p o. refuses c a out′ h n m p o;
 }
 
+-- ---- an out slice of length 0
+pub length-alone : LengthAlone
+length-alone = record {
+  told = λ c a work work′ out′ h o f e n b k. demand-2 c a _ _ out′ h .0 ∙ Claimed.length-is-told c o f e n b k;
+  same = λ c d a b v v′ w w′ out′ out″ h k o s e l n q.
+      demand-2 d b _ _ out″ k .0 ∙ Claimed.drawn-is-told c d o s l n (sym (demand-2 c a _ _ out′ h .0) ∙ q) .0 e;
+  enough = λ c d a b v v′ w w′ out′ out″ h k o s p n l q.
+      let z = Claimed.told-is-drawn c d o s p n l (sym (demand-2 c a _ _ out′ h .0) ∙ q) in
+      (z .0, λ i. demand-2 d b _ _ out″ k .0 ∙ z .1 i);
+  others = λ c d a b v v′ w w′ out′ out″ h k o s m p n l i q.
+      demand-2 d b _ _ out″ k .0 ∙ Claimed.numbers-stay c d o s m p n l i (sym (demand-2 c a _ _ out′ h .0) ∙ q);
+}
+
 -- ---- demand 3
 pub demand-3 : Demand3
 demand-3 = record {
@@ -255,19 +254,6 @@ not-empty = record {
         out = [];
         returned = checked {g = g} {tokens = tokens} {code = code} {tokens′ = workAfter c tokens} {code′ = workAfter c code} (m .answer-is)
             (record { answered = m .means; tokensAfter = refl; codeAfter = refl });
-        is = m .means;
-      };
-  measuring = λ program width height g tokens code words texts.
-      let c = called measuring program width height g tokens code words texts [] in
-      let m = can-mean (answer c) (Claimed.always-answered c) in
-      record {
-        handed = meant (m .answer-is);
-        work = tokens ∷ code ∷ words ∷ texts ∷ [];
-        work′ = workAfter c tokens ∷ workAfter c code ∷ workAfter c words ∷ workAfter c texts ∷ [];
-        out = [];
-        returned = measured {tokens = tokens} {code = code} {words = words} {texts = texts}
-            {tokens′ = workAfter c tokens} {code′ = workAfter c code} {words′ = workAfter c words} {texts′ = workAfter c texts} g (m .answer-is)
-            (record { answered = m .means; tokensAfter = refl; codeAfter = refl; wordsAfter = refl; textsAfter = refl });
         is = m .means;
       };
   drawing = λ program width height g tokens code words texts out.

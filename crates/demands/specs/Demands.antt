@@ -1,4 +1,4 @@
--- THE THREE DEMANDS of document 00, said of what checking, measuring and drawing promise. proofs/Proved proves each; src/ calls each operation and shows
+-- THE THREE DEMANDS of document 00, said of what checking and drawing promise. proofs/Proved proves each; src/ calls each operation and shows
 -- that its promise is the one spoken of here.
 use Prim.Native.Nat.{ℕ, _≤_, _<_}
 use mathlib.Core.Path.{_≡_}
@@ -14,11 +14,12 @@ use Rattle.meaning.specs.Tree.{Procedure}
 use Rattle.meaning.specs.Grammar.{wellFormed, malformed, reading}
 use Rattle.meaning.specs.State.{State}
 use Rattle.meaning.specs.Run.{steps, Taking, result, error}
-use Rattle.meaning.specs.Program.{checking, measuring, drawing}
+use Rattle.meaning.specs.Program.{checking, drawing}
 use Rattle.meaning.specs.Program as Program
 use Rattle.meaning.specs.Book.{Answer, pictured, number}
 use Rattle.meaning.specs.Call.{Call, admitted, grantedTo, runOf, answer, workAfter, outAfter}
 use Rattle.claims.specs.Claims.{among, readingErrors, languageErrors, beginningOf, Larger, namesShortage, totalOf, FirstShort, shortageAt}
+use Rattle.claims.specs.Claims.{ComesTo, SameButOut}
 use Rattle.answers.specs.declared.Answer as Declared
 use Rattle.answers.specs.Answers.{meant}
 use Rattle.checking.specs.Checking.{Checked}
@@ -27,13 +28,10 @@ use Rattle.lending.specs.Lending.{called, Performed}
 
 -- ---- a call that has returned
 -- All that its operation's promise says of it is used: `Returned c a work work′ out′` where call c was answered a, its work slices held `work` before and
--- `work′` then, and its out slice held out′ then. Checking and measuring have no out slice.
+-- `work′` then, and its out slice held out′ then. Checking has no out slice.
 pub data Returned : Call → Answer → List (List ℕ) → List (List ℕ) → List ℕ → Type 0 where
   checked : {program g tokens code tokens′ code′ : List ℕ} (r : Declared.Answer) → Checked program g tokens code r tokens′ code′
       → Returned (Checking.called program g tokens code) (meant r) (tokens ∷ code ∷ []) (tokens′ ∷ code′ ∷ []) []
-  measured : {program tokens code words texts tokens′ code′ words′ texts′ : List ℕ} {width height : ℤ} (g : List ℕ) (r : Declared.Answer)
-      → Performed (called measuring program width height g tokens code words texts []) (meant r) tokens code words texts tokens′ code′ words′ texts′
-      → Returned (called measuring program width height g tokens code words texts []) (meant r) (tokens ∷ code ∷ words ∷ texts ∷ []) (tokens′ ∷ code′ ∷ words′ ∷ texts′ ∷ []) []
   drawn : {program tokens code words texts out tokens′ code′ words′ texts′ out′ : List ℕ} {width height : ℤ} (g : List ℕ) (r : Declared.Answer)
       → Performed (called drawing program width height g tokens code words texts out) (meant r) tokens code words texts tokens′ code′ words′ texts′
       → out′ ≡ outAfter (called drawing program width height g tokens code words texts out)
@@ -52,7 +50,7 @@ abbrev pub ZeroIsNoNumber : Type 0
 ZeroIsNoNumber = (c : Call) (p n l : ℕ) → answer c ≢ number 0 p n l
 
 -- ---- DEMAND 1
--- Measured or drawn, every program that keeps the grammar and the fixed limits of document 01, with a width and a height of at least 1 and past that
+-- Drawn, every program that keeps the grammar and the fixed limits of document 01, with a width and a height of at least 1 and past that
 -- document's first question,
 pub record Proper (c : Call) : Type 0 where
   pub first : admitted c ≡ true
@@ -71,7 +69,7 @@ pub data Ends (c : Call) (a : Answer) (out′ : List ℕ) : Type 0 where
   inShortage : (before : List Taking) (t : Taking) → FirstShort (grantedTo c) (runOf c .takings) before t → a ≡ shortageAt before t → out′ ≡ c .out
       → Ends c a out′
 
--- All other input to measuring or drawing, an empty file among it,
+-- All other input to drawing, an empty file among it,
 pub data Other (c : Call) : ℕ → ℕ → Type 0 where
   notLent : admitted c ≡ false → Other c 71 0
   noSheet : admitted c ≡ true → ltZ (pos 0) (c .width) && ltZ (pos 0) (c .height) ≡ false → Other c 72 0
@@ -102,6 +100,23 @@ pub record Demand1 : Type 0 where
 abbrev pub Demand2 : Type 0
 Demand2 = (c : Call) (a : Answer) (work work′ : List (List ℕ)) (out′ : List ℕ) → Returned c a work work′ out′ → (a ≡ answer c) × (out′ ≡ outAfter c)
 
+-- ---- beside demand 2, request 8 of document 02: an out slice of length 0 serves those who want only the length
+pub record LengthAlone : Type 0 where
+  -- with an out slice of length 0 every program that comes to a picture gets 80 at place 0 with that picture's length and steps
+  pub told : (c : Call) (a : Answer) (work work′ : List (List ℕ)) (out′ : List ℕ) → Returned c a work work′ out′
+      → c .operation ≡ drawing → admitted c ≡ true → c .out ≡ []
+      → (n : ℕ) (b : List ℕ) → ComesTo c n b → a ≡ number 80 0 (totalOf (beginningOf c n .takings) steps) (length b)
+  -- Take any two calls of drawing past the first question that differ in nothing but their slices. What the first draws, the second tells if its out slice
+  -- has length 0;
+  pub same : (c d : Call) (a b : Answer) (v v′ w w′ : List (List ℕ)) (out′ out″ : List ℕ) → Returned c a v v′ out′ → Returned d b w w′ out″
+      → c .operation ≡ drawing → SameButOut c d → d .out ≡ [] → (l n : ℕ) → a ≡ pictured l n → b ≡ number 80 0 n l
+  -- what the first tells by 80, the second draws if its out slice is so long;
+  pub enough : (c d : Call) (a b : Answer) (v v′ w w′ : List (List ℕ)) (out′ out″ : List ℕ) → Returned c a v v′ out′ → Returned d b w w′ out″
+      → c .operation ≡ drawing → SameButOut c d → (p n l : ℕ) → a ≡ number 80 p n l → (p ≡ 0) × (l ≤ length (d .out) → b ≡ pictured l n)
+  -- and every other number of the first is the second's, at the same place after the same steps.
+  pub others : (c d : Call) (a b : Answer) (v v′ w w′ : List (List ℕ)) (out′ out″ : List ℕ) → Returned c a v v′ out′ → Returned d b w w′ out″
+      → c .operation ≡ drawing → SameButOut c d → (m p n l : ℕ) → m ≢ 80 → a ≡ number m p n l → b ≡ number m p n l
+
 -- ---- DEMAND 3
 pub record Demand3 : Type 0 where
   -- More memory or more steps never changes a result, unless it named something lacking: take any two calls of one operation that get past document 01's
@@ -131,5 +146,4 @@ pub record Possible (c : Call) : Type 0 where
 
 pub record NotEmpty : Type 0 where
   pub checking : (program g tokens code : List ℕ) → Possible (Checking.called program g tokens code)
-  pub measuring : (program : List ℕ) (width height : ℤ) (g tokens code words texts : List ℕ) → Possible (called Program.measuring program width height g tokens code words texts [])
   pub drawing : (program : List ℕ) (width height : ℤ) (g tokens code words texts out : List ℕ) → Possible (called Program.drawing program width height g tokens code words texts out)

@@ -3,7 +3,7 @@
 use answers::Answer;
 ghost use mathlib.Core.Path.{_≡_};
 ghost use mathlib.Core.List.{[], _∷_};
-ghost use Rattle.meaning.specs.Program.{measuring, drawing};
+ghost use Rattle.meaning.specs.Program.{drawing};
 ghost use Rattle.answers.specs.Answers.{meant};
 ghost use Rattle.lending.specs.Lending.{called};
 ghost use Rattle.demands.specs.Demands.{Returned, calledChecking, toldBy};
@@ -14,24 +14,6 @@ pub fn check(program: &[u8], grants: &[u64; 4], tokens: &mut [u64], code: &mut [
         (now (tokens .entry) ∷ now (code .entry) ∷ []) (now (tokens .exit) ∷ now (code .exit) ∷ []) [] ⌝ }
 {
     checking::check(program, grants, tokens, code)
-}
-
-pub fn measure(
-    program: &[u8],
-    width: i32,
-    height: i32,
-    grants: &[u64; 4],
-    tokens: &mut [u64],
-    code: &mut [u64],
-    words: &mut [u64],
-    texts: &mut [u8],
-) -> Answer
-    ensures { λ r. ⌜ Returned (called measuring (now (program .entry)) width height (now (grants .entry)) (now (tokens .entry)) (now (code .entry))
-        (now (words .entry)) (now (texts .entry)) []) (meant r)
-        (now (tokens .entry) ∷ now (code .entry) ∷ now (words .entry) ∷ now (texts .entry) ∷ [])
-        (now (tokens .exit) ∷ now (code .exit) ∷ now (words .exit) ∷ now (texts .exit) ∷ []) [] ⌝ }
-{
-    measuring::measure(program, width, height, grants, tokens, code, words, texts)
 }
 
 pub fn draw(
@@ -95,42 +77,6 @@ pub fn check_by_c(
         bytes,
         tokens,
         code,
-        &mut answer,
-    );
-    told(n, &answer)
-}
-
-pub fn measure_by_c(
-    program: &[u8],
-    width: i32,
-    height: i32,
-    steps: u64,
-    shapes: u64,
-    entries: u64,
-    bytes: u64,
-    tokens: &mut [u64],
-    code: &mut [u64],
-    words: &mut [u64],
-    texts: &mut [u8],
-) -> Answer
-    ensures { λ r. ⌜ Returned (called measuring (now (program .entry)) width height (steps ∷ shapes ∷ entries ∷ bytes ∷ []) (now (tokens .entry)) (now (code .entry))
-        (now (words .entry)) (now (texts .entry)) []) (meant r)
-        (now (tokens .entry) ∷ now (code .entry) ∷ now (words .entry) ∷ now (texts .entry) ∷ [])
-        (now (tokens .exit) ∷ now (code .exit) ∷ now (words .exit) ∷ now (texts .exit) ∷ []) [] ⌝ }
-{
-    let mut answer = [0u64; 4];
-    let n = img::img_measure(
-        program,
-        width,
-        height,
-        steps,
-        shapes,
-        entries,
-        bytes,
-        tokens,
-        code,
-        words,
-        texts,
         &mut answer,
     );
     told(n, &answer)

@@ -25,7 +25,7 @@ pub record Checks (program g tokens code front tokens′ code′ front′ : List
   pub tokensAfter : tokens′ ≡ workAfter (Checking.called program g tokens code) tokens
   pub codeAfter : code′ ≡ workAfter (Checking.called program g tokens code) code
 
--- what img_measure and img_draw promise beside the out slice: the answer told, and what the four work slices hold
+-- what img_draw promises beside the out slice: the answer told, and what the four work slices hold
 pub record Performs (c : Call) (tokens code words texts front tokens′ code′ words′ texts′ front′ : List ℕ) (n : ℕ) : Type 0 where
   pub told : Told (answer c) front front′ n
   pub tokensAfter : tokens′ ≡ workAfter c tokens

@@ -3,7 +3,7 @@ use answers::Answer;
 ghost use mathlib.Core.Path.{_≡_};
 ghost use lib.ListN.{set};
 ghost use mathlib.Core.List.{[], _∷_};
-ghost use Rattle.meaning.specs.Program.{measuring, drawing};
+ghost use Rattle.meaning.specs.Program.{drawing};
 ghost use Rattle.meaning.specs.Call.{outAfter};
 ghost use Rattle.lending.specs.Lending.{called};
 ghost use Rattle.answers.specs.Answers.{meant};
@@ -27,32 +27,6 @@ pub extern "C" fn img_check(
 {
     let grants = [steps, shapes, entries, bytes];
     let r = checking::check(program, &grants, tokens, code);
-    write_answer(r, answer)
-}
-
-// Runs the program and says how long its picture is: measuring::measure, with its answer as above.
-#[no_mangle]
-pub extern "C" fn img_measure(
-    program: &[u8],
-    width: i32,
-    height: i32,
-    steps: u64,
-    shapes: u64,
-    entries: u64,
-    bytes: u64,
-    tokens: &mut [u64],
-    code: &mut [u64],
-    words: &mut [u64],
-    texts: &mut [u8],
-    answer: &mut [u64],
-) -> u64
-    ensures { λ r. ⌜ Performs (called measuring (now (program .entry)) width height (steps ∷ shapes ∷ entries ∷ bytes ∷ [])
-        (now (tokens .entry)) (now (code .entry)) (now (words .entry)) (now (texts .entry)) [])
-        (now (tokens .entry)) (now (code .entry)) (now (words .entry)) (now (texts .entry)) (now (answer .entry))
-        (now (tokens .exit)) (now (code .exit)) (now (words .exit)) (now (texts .exit)) (now (answer .exit)) r ⌝ }
-{
-    let grants = [steps, shapes, entries, bytes];
-    let r = measuring::measure(program, width, height, &grants, tokens, code, words, texts);
     write_answer(r, answer)
 }
 

@@ -12,7 +12,7 @@ use mir.Val.{Fits}
 use borrow.Author.Tests.{le-leb, lt-leb, leb-true, not-true, not-false}
 use Rattle.meaning.specs.Basics.{if_then_else_}
 use Rattle.meaning.specs.Run.{Run}
-use Rattle.meaning.specs.Program.{Operation, Outcome, measuring, drawing, specified}
+use Rattle.meaning.specs.Program.{Operation, Outcome, drawing, specified}
 use Rattle.meaning.specs.Book.{nothingYet, book, Answer, number, booked}
 use Rattle.meaning.specs.Call.{Call, inRange, needed, longEnough, admitted, granted, runOf, answer, workAfter, outAfterEnd, outAfter}
 use Rattle.machine.specs.Layout.{stepsGranted, shapesGranted, entriesGranted, textGranted, wordsNeeded}
@@ -117,7 +117,6 @@ module _ (g : List ℕ) (tokens code words texts : ℕ) (ok : Bool) (ranges : ok
 
 -- ---- operations on all four work slices
 pub data Runs : Operation → Type 0 where
-  measures : Runs measuring
   draws : Runs drawing
 
 module _ (o : Operation) (runs : Runs o) (program : List ℕ) (width height : ℤ) (g tokens code words texts out : List ℕ) where
@@ -129,7 +128,6 @@ module _ (o : Operation) (runs : Runs o) (program : List ℕ) (width height : �
   asked = go o runs
     where
       go : (o : Operation) → Runs o → admitted (called o program width height g tokens code words texts out) ≡ enough g (length tokens) (length code) (length words) (length texts)
-      go measuring measures = refl
       go drawing draws = refl
 
   module _ (ok : Bool) (e : ok ≡ enough g (length tokens) (length code) (length words) (length texts)) where

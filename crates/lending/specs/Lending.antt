@@ -1,11 +1,11 @@
--- What is lent and granted for measuring and drawing, these as calls of the meaning's, and what they promise.
+-- What is lent and granted for drawing, its call as one of the meaning's, and what it promises.
 use Prim.Native.Nat.{ℕ, _≤_}
 use mathlib.Core.Path.{_≡_}
 use mathlib.Core.Bool.{Bool, _&&_}
 use mathlib.Core.List.{List, [], _∷_}
 use lib.ListN.{length}
 use lib.IntN.{ℤ}
-use Rattle.meaning.specs.Program.{Operation, measuring}
+use Rattle.meaning.specs.Program.{Operation, drawing}
 use Rattle.meaning.specs.Book.{Answer}
 use Rattle.meaning.specs.Call.{Grants, Call, inRange, needed, longEnough, answer, workAfter}
 use Rattle.machine.specs.Layout.{stepsGranted, shapesGranted, entriesGranted, textGranted, Lent}
@@ -16,7 +16,7 @@ grantsOf g = record { steps = stepsGranted g; shapes = shapesGranted g; entries 
 
 -- whether they are in their ranges, and work slices of these lengths long enough for them
 unfoldable pub enough : List ℕ → ℕ → ℕ → ℕ → ℕ → Bool
-enough g tokens code words texts = inRange (grantsOf g) && longEnough (needed measuring (grantsOf g)) (tokens ∷ code ∷ words ∷ texts ∷ [])
+enough g tokens code words texts = inRange (grantsOf g) && longEnough (needed drawing (grantsOf g)) (tokens ∷ code ∷ words ∷ texts ∷ [])
 
 -- what a run asks of them
 pub record Ready (g tokens code ts ws : List ℕ) : Type 0 where

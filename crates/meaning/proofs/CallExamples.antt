@@ -1,12 +1,12 @@
 -- Examples of programs and calls: what is asked in which order, each bound on both of its sides, shortages, and the slices.
 use Prim.Native.Nat.{ℕ}
 use Prim.Native.String.{String}
-use mathlib.Core.Path.{_≡_, refl}
-use mathlib.Core.List.{List, [], _∷_, _++_, map}
-use lib.ListN.{length, replicate}
+use mathlib.Core.Path.{refl}
+use mathlib.Core.List.{List, [], _∷_, _++_}
+use lib.ListN.{replicate}
 use lib.IntN.{ℤ, pos}
 use Rattle.meaning.specs.Basics.{bytes}
-use Rattle.meaning.specs.Program.{Operation, checking, measuring, drawing}
+use Rattle.meaning.specs.Program.{Operation, checking, drawing}
 use Rattle.meaning.specs.Book.{Answer, pictured, number}
 use Rattle.meaning.specs.Call.{Call, Grants, answer, workAfter, outAfter}
 use Rattle.meaning.proofs.Computing.{everything}
@@ -32,34 +32,34 @@ sheet o program width height = calling o program width height some long (replica
 abbrev lending : Operation → Grants → List ℕ → Call
 lending o g lent = calling o (main "1;") (pos 20) (pos 20) g lent (replicate 300 1)
 
--- the body measured with these grants
+-- the body drawn with these grants
 abbrev within : Grants → String → Call
-within g body = calling measuring (main body) (pos 20) (pos 20) g long []
+within g body = calling drawing (main body) (pos 20) (pos 20) g long (replicate 300 1)
 
 -- ---- what is asked first
 abbrev pub firstQuestions : List (Row Call Answer)
 firstQuestions =
-    sheet measuring (main "1;") (pos 1) (pos 1) gives pictured 139 2
-    ∷ sheet measuring (main "1;") (pos 0) (pos 1) gives number 72 0 0 0
-    ∷ sheet measuring (main "1;") (pos 1) (pos 0) gives number 72 0 0 0
+    sheet drawing (main "1;") (pos 1) (pos 1) gives pictured 139 2
+    ∷ sheet drawing (main "1;") (pos 0) (pos 1) gives number 72 0 0 0
+    ∷ sheet drawing (main "1;") (pos 1) (pos 0) gives number 72 0 0 0
     ∷ sheet drawing (main "1;") (minus 1) (pos 1) gives number 72 0 0 0
     ∷ sheet drawing (main "1;") (pos 1) (minus 1) gives number 72 0 0 0
     ∷ sheet checking (main "1;") (pos 0) (minus 1) gives pictured 0 0
-    ∷ sheet measuring (replicate 32769 32) (pos 0) (pos 1) gives number 72 0 0 0
-    ∷ sheet measuring (replicate 32769 32) (pos 1) (pos 1) gives number 73 0 0 0
+    ∷ sheet drawing (replicate 32769 32) (pos 0) (pos 1) gives number 72 0 0 0
+    ∷ sheet drawing (replicate 32769 32) (pos 1) (pos 1) gives number 73 0 0 0
     ∷ sheet checking (replicate 32769 32) (pos 1) (pos 1) gives number 73 0 0 0
     ∷ sheet checking (replicate 32768 32) (pos 1) (pos 1) gives number 10 32768 0 0
-    ∷ sheet measuring (bytes "(") (pos 1) (pos 1) gives number 10 0 0 0
-    ∷ sheet measuring (bytes "def main(){x;}") (pos 1) (pos 1) gives number 20 0 0 0
-    ∷ sheet measuring (bytes "def main(a){x;}") (pos 1) (pos 1) gives number 20 0 0 0
-    ∷ sheet measuring (bytes "def main(a,b,c){x;}") (pos 1) (pos 1) gives number 20 0 0 0
+    ∷ sheet drawing (bytes "(") (pos 1) (pos 1) gives number 10 0 0 0
+    ∷ sheet drawing (bytes "def main(){x;}") (pos 1) (pos 1) gives number 20 0 0 0
+    ∷ sheet drawing (bytes "def main(a){x;}") (pos 1) (pos 1) gives number 20 0 0 0
+    ∷ sheet drawing (bytes "def main(a,b,c){x;}") (pos 1) (pos 1) gives number 20 0 0 0
     ∷ sheet drawing (bytes " def main(a,a){x;}") (pos 1) (pos 1) gives number 60 0 0 0
     ∷ sheet checking (bytes "def main(a,a){x;}") (pos 1) (pos 1) gives pictured 0 0
     ∷ sheet checking (bytes "def main(){x;}") (pos 1) (pos 1) gives pictured 0 0
-    ∷ sheet measuring (main "w/0;") (pos 1) (pos 1) gives number 70 14 4 0
-    ∷ sheet measuring (main "1/(w-3);") (pos 3) (pos 1) gives number 70 14 6 0
-    ∷ sheet measuring (main "1/(h-3);") (pos 1) (pos 3) gives number 70 14 6 0
-    ∷ calling measuring (main "1;") (pos 0) (pos 1) some [] [] gives number 71 0 0 0
+    ∷ sheet drawing (main "w/0;") (pos 1) (pos 1) gives number 70 14 4 0
+    ∷ sheet drawing (main "1/(w-3);") (pos 3) (pos 1) gives number 70 14 6 0
+    ∷ sheet drawing (main "1/(h-3);") (pos 1) (pos 3) gives number 70 14 6 0
+    ∷ calling drawing (main "1;") (pos 0) (pos 1) some [] [] gives number 71 0 0 0
     ∷ calling checking (replicate 32769 32) (pos 1) (pos 1) some (8192 ∷ []) [] gives number 71 0 0 0
     ∷ []
 
@@ -70,26 +70,20 @@ first-questions-hold = refl
 -- ---- counts in their ranges, and slices as long as they must be
 abbrev pub admission : List (Row Call Answer)
 admission =
-    lending measuring (only 4294967295 65535 65535 65535) long gives pictured 141 2
-    ∷ lending measuring (only 4294967296 65535 65535 65535) long gives number 71 0 0 0
-    ∷ lending measuring (only 4294967295 65536 65535 65535) long gives number 71 0 0 0
-    ∷ lending measuring (only 4294967295 65535 65536 65535) long gives number 71 0 0 0
-    ∷ lending measuring (only 4294967295 65535 65535 65536) long gives number 71 0 0 0
-    ∷ lending drawing (only 4294967296 0 0 0) long gives number 71 0 0 0
+    lending drawing (only 4294967295 65535 65535 65535) long gives pictured 141 2
+    ∷ lending drawing (only 4294967296 65535 65535 65535) long gives number 71 0 0 0
+    ∷ lending drawing (only 4294967295 65536 65535 65535) long gives number 71 0 0 0
+    ∷ lending drawing (only 4294967295 65535 65536 65535) long gives number 71 0 0 0
+    ∷ lending drawing (only 4294967295 65535 65535 65536) long gives number 71 0 0 0
     ∷ lending checking (only 4294967296 0 0 0) long gives number 71 0 0 0
-    ∷ lending measuring some (8193 ∷ 16384 ∷ 24602 ∷ 5 ∷ []) gives pictured 141 2
     ∷ lending drawing some (8193 ∷ 16384 ∷ 24602 ∷ 5 ∷ []) gives pictured 141 2
-    ∷ lending measuring some (8192 ∷ 16384 ∷ 24602 ∷ 5 ∷ []) gives number 71 0 0 0
-    ∷ lending measuring some (8193 ∷ 16383 ∷ 24602 ∷ 5 ∷ []) gives number 71 0 0 0
-    ∷ lending measuring some (8193 ∷ 16384 ∷ 24601 ∷ 5 ∷ []) gives number 71 0 0 0
-    ∷ lending measuring some (8193 ∷ 16384 ∷ 24602 ∷ 4 ∷ []) gives number 71 0 0 0
-    ∷ lending measuring some (8193 ∷ 16384 ∷ 24602 ∷ []) gives number 71 0 0 0
     ∷ lending drawing some (8192 ∷ 16384 ∷ 24602 ∷ 5 ∷ []) gives number 71 0 0 0
     ∷ lending drawing some (8193 ∷ 16383 ∷ 24602 ∷ 5 ∷ []) gives number 71 0 0 0
     ∷ lending drawing some (8193 ∷ 16384 ∷ 24601 ∷ 5 ∷ []) gives number 71 0 0 0
     ∷ lending drawing some (8193 ∷ 16384 ∷ 24602 ∷ 4 ∷ []) gives number 71 0 0 0
-    ∷ lending measuring (only 99 0 0 0) (8193 ∷ 16384 ∷ 24584 ∷ 0 ∷ []) gives pictured 141 2
-    ∷ lending measuring (only 99 0 0 0) (8193 ∷ 16384 ∷ 24583 ∷ 0 ∷ []) gives number 71 0 0 0
+    ∷ lending drawing some (8193 ∷ 16384 ∷ 24602 ∷ []) gives number 71 0 0 0
+    ∷ lending drawing (only 99 0 0 0) (8193 ∷ 16384 ∷ 24584 ∷ 0 ∷ []) gives pictured 141 2
+    ∷ lending drawing (only 99 0 0 0) (8193 ∷ 16384 ∷ 24583 ∷ 0 ∷ []) gives number 71 0 0 0
     ∷ lending checking some (8193 ∷ 16384 ∷ []) gives pictured 0 0
     ∷ lending checking some (8192 ∷ 16384 ∷ []) gives number 71 0 0 0
     ∷ lending checking some (8193 ∷ 16383 ∷ []) gives number 71 0 0 0
@@ -147,6 +141,9 @@ shortages =
     ∷ within (only 99 0 0 6) "\"ab\"++\"c\";\"ab\"++\"c\";" gives pictured 141 8
     ∷ calling drawing (main "1;") (pos 20) (pos 20) some long (replicate 140 1) gives number 80 0 2 141
     ∷ calling drawing (main "1;") (pos 20) (pos 20) some long (replicate 141 1) gives pictured 141 2
+    ∷ calling drawing (main "1;") (pos 20) (pos 20) some long [] gives number 80 0 2 141
+    ∷ calling drawing (main "w=drawBox(1,2,3,4);") (pos 20) (pos 20) some long [] gives number 80 0 6 182
+    ∷ calling drawing (main "w=drawBox(1,2,3,4);") (pos 20) (pos 20) (only 99 1 3 5) long [] gives number 76 14 6 0
     ∷ calling drawing (main "w/0;") (pos 20) (pos 20) some long [] gives number 70 14 4 0
     ∷ []
 
@@ -176,7 +173,6 @@ outs =
     ∷ drawnInto drawing "x;" 4 gives replicate 4 7
     ∷ drawnInto drawing "while(true)1;" 4 gives replicate 4 7
     ∷ drawnInto drawing "(" 4 gives replicate 4 7
-    ∷ drawnInto measuring "1;" 144 gives replicate 144 7
     ∷ drawnInto checking "1;" 144 gives replicate 144 7
     ∷ calling drawing (main "1;") (pos 20) (pos 20) some [] (replicate 144 7) gives replicate 144 7
     ∷ []
@@ -190,7 +186,7 @@ abbrev pub works : List (Row Call (List ℕ))
 works =
     drawnInto drawing "1;" 141 gives (0 ∷ 0 ∷ 0 ∷ [])
     ∷ drawnInto drawing "x;" 141 gives (0 ∷ 0 ∷ 0 ∷ [])
-    ∷ drawnInto measuring "(" 0 gives (0 ∷ 0 ∷ 0 ∷ [])
+    ∷ drawnInto drawing "(" 0 gives (0 ∷ 0 ∷ 0 ∷ [])
     ∷ drawnInto checking "1;" 0 gives (0 ∷ 0 ∷ 0 ∷ [])
     ∷ calling drawing (main "1;") (pos 20) (pos 20) some [] [] gives (4 ∷ 5 ∷ 6 ∷ [])
     ∷ []

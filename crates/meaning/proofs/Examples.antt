@@ -13,15 +13,15 @@ use Rattle.meaning.specs.Grammar.{Got, good, wrong, expression}
 use Rattle.meaning.specs.Value.{Value, integer}
 use Rattle.meaning.specs.Run.{End, result, error, unfinished}
 use Rattle.meaning.specs.Evaluate.{evaluate}
-use Rattle.meaning.specs.Program.{Operation, measuring, drawing, empty}
+use Rattle.meaning.specs.Program.{Operation, drawing, empty}
 use Rattle.meaning.specs.Book.{Answer, pictured, number}
 use Rattle.meaning.specs.Call.{Call, Grants, answer, outAfter}
 use Rattle.meaning.proofs.Computing.{everything}
 
 -- ---- what an example says
 pub data Example : Type 0 where
-  -- the program, measured with so many steps on a sheet of 20 by 20, gets this answer
-  measured : String → ℕ → Answer → Example
+  -- the program, drawn with so many steps on a sheet of 20 by 20 into an out slice of 300 bytes, gets this answer
+  drawnWith : String → ℕ → Answer → Example
   -- the program, drawn on such a sheet, leaves this picture in an out slice of its length
   pictures : String → String → Example
   -- the expression has this value
@@ -60,7 +60,7 @@ unfolding valueAt valueRead valueLexed
 valueOf text = valueLexed (tokensOf (bytes text))
 
 abbrev pub Holds : Example → Type 0
-Holds (measured program n a) = answer (asked measuring program n 0) ≡ a
+Holds (drawnWith program n a) = answer (asked drawing program n 300) ≡ a
 Holds (pictures program svg) = outAfter (asked drawing program 1000000 (length (bytes svg))) ≡ bytes svg
 Holds (evaluates text v) = valueOf text ≡ some v
 
@@ -74,13 +74,13 @@ minus n = integer (negsuc n)
 
 abbrev pub starred : List Example
 starred =
-    measured "" 1000000 (number 10 0 0 0)
-    ∷ measured "def main(w,h){}" 1000000 (number 10 14 0 0)
-    ∷ measured "def main(w,h){var a;}" 1000000 (pictured 141 1)
+    drawnWith "" 1000000 (number 10 0 0 0)
+    ∷ drawnWith "def main(w,h){}" 1000000 (number 10 14 0 0)
+    ∷ drawnWith "def main(w,h){var a;}" 1000000 (pictured 141 1)
     ∷ pictures "def main(w,h){var a;}" "<?xml version=\"1.0\"?>\n<svg viewBox=\"0 0 20 20\" xmlns=\"http://www.w3.org/2000/svg\" version=\"1.1\">\n<g stroke=\"black\" fill=\"black\">\n</g>\n</svg>\n"
-    ∷ measured "def main(w,h){var a;}" 0 (number 79 14 0 0)
-    ∷ measured "def main(w,h){var w;}" 1000000 (number 60 14 1 0)
-    ∷ measured "def main(w,h){a=1;}" 1000000 (number 50 14 2 0)
+    ∷ drawnWith "def main(w,h){var a;}" 0 (number 79 14 0 0)
+    ∷ drawnWith "def main(w,h){var w;}" 1000000 (number 60 14 1 0)
+    ∷ drawnWith "def main(w,h){a=1;}" 1000000 (number 50 14 2 0)
     ∷ evaluates "-7/2" (integer (negsuc 2))
     ∷ evaluates "-7%2" (integer (negsuc 0))
     ∷ evaluates "-7>>1" (integer (negsuc 3))
@@ -89,7 +89,7 @@ starred =
     ∷ evaluates "getShapeXCoordinate(drawLine(-3,0,0,0))" (integer (negsuc 0))
     ∷ evaluates "getShapeXCoordinate(drawBox(1,1,-3,3))" (integer (pos 0))
     ∷ evaluates "getShapeYCoordinate(drawBox(1,1,-3,3))" (integer (pos 2))
-    ∷ measured "def main(w,h){var a;var b;a=drawBox(2,9,3,h-9);b=drawText(2,h,\"day\");}" 14 (number 79 47 14 0)
+    ∷ drawnWith "def main(w,h){var a;var b;a=drawBox(2,9,3,h-9);b=drawText(2,h,\"day\");}" 14 (number 79 47 14 0)
     ∷ []
 
 -- THE CLAIM

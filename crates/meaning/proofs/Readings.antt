@@ -7,7 +7,7 @@ use lib.ListN.{replicate}
 use lib.IntN.{pos, negsuc}
 use Rattle.meaning.specs.Basics.{bytes}
 use Rattle.meaning.specs.Value.{integer}
-use Rattle.meaning.specs.Program.{Operation, checking, measuring, drawing}
+use Rattle.meaning.specs.Program.{Operation, checking, drawing}
 use Rattle.meaning.specs.Book.{Answer, pictured, number}
 use Rattle.meaning.specs.Call.{Call, Grants, answer}
 use Rattle.meaning.proofs.Computing.{everything}
@@ -15,7 +15,7 @@ use Rattle.meaning.proofs.Examples.{Example, pictures, evaluates, Holds
 
 -- ---- what a row says
 pub data Row : Type 0 where
-  -- the operation, with these grants, on a sheet of 20 by 20, answers so to the program
+  -- the operation, with these grants, on a sheet of 20 by 20 and with an out slice of 300 bytes, answers so to the program
   answers : Operation → Grants → List ℕ → Answer → Row
   -- the program, drawn on such a sheet into an out slice of so many bytes, gets this answer
   drawnInto : ℕ → String → Answer → Row
@@ -30,7 +30,7 @@ called o g program = record {
   height = pos 20;
   grants = g;
   lent = 65536 ∷ 65536 ∷ 65536 ∷ 65536 ∷ [];
-  out = [];
+  out = replicate 300 0;
 }
 
 abbrev pub RowHolds : Row → Type 0
@@ -55,12 +55,12 @@ plenty = grants 1000000
 abbrev pub main : String → List ℕ
 main body = bytes "def main(w,h){" ++ bytes body ++ bytes "}"
 
--- the body measured, with plenty and with these grants
+-- the body drawn, with plenty and with these grants
 abbrev pub gets : String → Answer → Row
-gets body a = answers measuring plenty (main body) a
+gets body a = answers drawing plenty (main body) a
 
 abbrev pub getsWith : Grants → String → Answer → Row
-getsWith g body a = answers measuring g (main body) a
+getsWith g body a = answers drawing g (main body) a
 
 -- n parentheses around a 1
 abbrev pub nested : ℕ → List ℕ
@@ -83,7 +83,7 @@ readings =
     ∷ gets "foo(x);" (number 50 14 3 0)
     ∷ getsWith (only 100 1 0 0) "a=drawLine(1,2,3,4);" (number 50 14 6 0)
     ∷ getsWith (only 100 0 0 0) "[0].1=1/0;" (number 70 14 7 0)
-    ∷ answers measuring (only 0 0 0 0) (bytes "def main(a,a,a){1;}") (number 20 0 0 0)
+    ∷ answers drawing (only 0 0 0 0) (bytes "def main(a,a,a){1;}") (number 20 0 0 0)
     ∷ answers checking plenty (bytes "def main(a,a){1;}") (pictured 0 0)
     -- how a program is read
     ∷ gets ") 1;!" (number 10 18 0 0)
@@ -113,6 +113,8 @@ readings =
     ∷ getsWith (only 100 0 0 2) "\"a\"++\"b\";" (pictured 141 4)
     ∷ getsWith (only 100 0 0 1) "\"a\"++\"b\";" (number 78 14 4 0)
     ∷ drawnInto 140 "def main(w,h){var a;}" (number 80 0 1 141)
+    ∷ drawnInto 0 "def main(w,h){var a;}" (number 80 0 1 141)
+    ∷ drawnInto 0 "def main(w,h){a;}" (number 50 14 2 0)
     -- values, shapes and the picture
     ∷ gets "w=drawLine(1,2,3,4);clearScene();w;" (number 30 47 10 0)
     ∷ gets "var t;t=[0];t.1=drawLine(1,2,3,4);clearScene();t.1;" (pictured 141 18)
@@ -127,4 +129,4 @@ readings =
 -- THE CLAIM
 pub readings-hold : AllRowsHold readings
 unfolding everything valueOf
-readings-hold = (refl, (refl, (refl, (refl, (refl, (refl, (refl, (refl, (refl, (refl, (refl, (refl, (refl, (refl, (refl, (refl, (refl, (refl, (refl, (refl, (refl, (refl, (refl, (refl, (refl, (refl, (refl, (refl, (refl, (refl, (refl, (refl, (refl, (refl, (refl, (refl, (refl, (refl, (refl, (refl, (refl, (refl, (refl, (refl, (refl, (refl, (refl, (refl, (refl, tt)))))))))))))))))))))))))))))))))))))))))))))))))
+readings-hold = (refl, (refl, (refl, (refl, (refl, (refl, (refl, (refl, (refl, (refl, (refl, (refl, (refl, (refl, (refl, (refl, (refl, (refl, (refl, (refl, (refl, (refl, (refl, (refl, (refl, (refl, (refl, (refl, (refl, (refl, (refl, (refl, (refl, (refl, (refl, (refl, (refl, (refl, (refl, (refl, (refl, (refl, (refl, (refl, (refl, (refl, (refl, (refl, (refl, (refl, (refl, tt)))))))))))))))))))))))))))))))))))))))))))))))))))

@@ -5,7 +5,7 @@ use mathlib.Core.Path.{_≡_, refl}
 use mathlib.Core.Bool.{true}
 use mathlib.Core.List.{List, [], _∷_, _++_, map}
 use lib.ListN.{replicate}
-use lib.IntN.{ℤ, pos}
+use lib.IntN.{pos}
 use Rattle.meaning.specs.Basics.{bytes}
 use Rattle.meaning.specs.Figure.{Figure, line, box}
 use Rattle.meaning.specs.Value.{Value, integer, string, boolean, none, table}
@@ -13,14 +13,14 @@ use Rattle.meaning.specs.State.{State, Entry, keyWith, scene}
 use Rattle.meaning.specs.Run.{Resource, steps, shapes, entries, textBytes, picture, Taking, taking, End, result, error, unfinished, Run, run}
 use Rattle.meaning.specs.Tree.{nothing, truth, name, while, return, act}
 use Rattle.meaning.specs.Execute.{onward, returned, execute}
-use Rattle.meaning.specs.Program.{Operation, checking, measuring, drawing, Outcome, empty, specified, beginning}
+use Rattle.meaning.specs.Program.{checking, drawing, Outcome, empty, painting, specified, beginning}
 use Rattle.meaning.proofs.Computing.{everything}
 use Rattle.meaning.proofs.Rows.{Row, _gives_, Hold, standing, statementKinds}
 use Rattle.meaning.proofs.Readings.{main}
 
--- main with this body, measured on a sheet of 20 by 30; the body's first byte has place 14, and no loop turns more than 50 times
-abbrev measured : String → Run Outcome
-measured body = specified measuring (main body) (pos 20) (pos 30) 50
+-- main with this body, painted on a sheet of 20 by 30; the body's first byte has place 14, and no loop turns more than 50 times
+abbrev painted : String → Run (List Figure)
+painted body = painting (main body) (pos 20) (pos 30) 50 empty
 
 -- ---- takings
 abbrev st : ℕ → ℕ → List Taking
@@ -71,14 +71,13 @@ takings =
     ∷ "while(true)return 1;2;" gives (st 2 14 ++ st 2 25)
     ∷ []
 
-pub takings-hold : Hold (λ body. measured body .takings) takings
+pub takings-hold : Hold (λ body. painted body .takings) takings
 unfolding everything
 takings-hold = refl
 
 -- drawing takes the picture last, and checking takes nothing
 pub drawing-takes : Hold (λ o. specified o (main "1;") (pos 20) (pos 30) 50 .takings) (
     drawing gives (st 2 14 ++ (taking picture 141 0 ∷ []))
-    ∷ measuring gives st 2 14
     ∷ checking gives []
     ∷ []
     )
@@ -94,14 +93,15 @@ endNumber unfinished = 2
 
 unfoldable pub beginningOf : String → ℕ → List Taking × ℕ
 unfolding endNumber
-beginningOf body n = let r = beginning measuring (main body) (pos 20) (pos 30) n in (r .takings, endNumber (r .end))
+beginningOf body n = let r = beginning drawing (main body) (pos 20) (pos 30) n in (r .takings, endNumber (r .end))
 
 pub beginnings-hold : Hold (λ (q : String × ℕ). beginningOf (q .0) (q .1)) (
     ("1;2;", 0) gives ([], 2)
     ∷ ("1;2;", 2) gives (st 2 14, 2)
     ∷ ("1;2;", 3) gives (st 2 14 ++ st 1 16, 2)
-    ∷ ("1;2;", 4) gives (st 2 14 ++ st 2 16, 0)
-    ∷ ("1;2;", 9) gives (st 2 14 ++ st 2 16, 0)
+    ∷ ("1;2;", 4) gives (st 2 14 ++ st 2 16, 2)
+    ∷ ("1;2;", 5) gives (st 2 14 ++ st 2 16 ++ (taking picture 141 0 ∷ []), 0)
+    ∷ ("1;2;", 9) gives (st 2 14 ++ st 2 16 ++ (taking picture 141 0 ∷ []), 0)
     ∷ ("1;x;", 4) gives (st 2 14 ++ st 2 16, 1)
     ∷ ("while(true)1;", 5) gives (st 2 14 ++ st 2 25 ++ st 1 14, 2)
     ∷ []
@@ -110,14 +110,14 @@ unfolding everything beginningOf
 beginnings-hold = refl
 
 -- ---- what variables hold, w and h first
-stateAt : End Outcome → State
+stateAt : End (List Figure) → State
 stateAt (result a s) = s
 stateAt (error n p) = empty
 stateAt unfinished = empty
 
 unfoldable pub valuesAfter : String → List Value
 unfolding stateAt
-valuesAfter body = map (λ v. v .holds) (stateAt (measured body .end) .variables)
+valuesAfter body = map (λ v. v .holds) (stateAt (painted body .end) .variables)
 
 abbrev whole : ℕ → Value
 whole n = integer (pos n)
@@ -160,7 +160,7 @@ values-hold = refl
 -- entries stand in the order in which their keys were new
 unfoldable pub entriesAfter : String → List Entry
 unfolding stateAt
-entriesAfter body = stateAt (measured body .end) .entries
+entriesAfter body = stateAt (painted body .end) .entries
 
 abbrev stored : ℕ → ℕ → ℕ → Entry
 stored t n m = record { owner = t; key = keyWith 0 (pos n ∷ []) []; holds = whole m }
@@ -176,7 +176,7 @@ entries-hold = refl
 -- ---- what is shown
 unfoldable pub sceneAfter : String → List Figure
 unfolding stateAt
-sceneAfter body = scene (stateAt (measured body .end))
+sceneAfter body = scene (stateAt (painted body .end))
 
 abbrev aBox : Figure
 aBox = box (pos 1) (pos 2) (pos 3) (pos 4)

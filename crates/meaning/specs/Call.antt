@@ -7,7 +7,7 @@ use lib.IntN.{ℤ}
 use lib.Dec.{leb}
 use Rattle.meaning.specs.Basics.{if_then_else_, laidOver}
 use Rattle.meaning.specs.Run.{steps, shapes, entries, textBytes, picture, End, result, error, unfinished, Run}
-use Rattle.meaning.specs.Program.{Operation, checking, measuring, drawing, Outcome, accepted, drawn, specified}
+use Rattle.meaning.specs.Program.{Operation, checking, drawing, Outcome, accepted, drawn, specified}
 use Rattle.meaning.specs.Book.{Amounts, Booked, allFit, lacking, nothingYet, book, Answer, number, booked}
 
 pub record Grants : Type 0 where
@@ -40,7 +40,6 @@ runningSlices g = (24584 + 3 * g .shapes + 4 * g .entries) ∷ g .textBytes ∷ 
 
 unfoldable pub needed : Operation → Grants → List ℕ
 needed checking g = readingSlices []
-needed measuring g = readingSlices (runningSlices g)
 needed drawing g = readingSlices (runningSlices g)
 
 -- each of the first lengths is there, and at least as long
@@ -79,7 +78,6 @@ workAfter c work = if admitted c then (λ _. replicate (length work) 0) else λ 
 -- drawing ends with a picture or a number (`PicturesFillTheFront`), so the clauses for `unfinished` and `accepted` are never met there.
 unfoldable pub outAfterEnd : Operation → Booked → End Outcome → List ℕ → List ℕ
 outAfterEnd checking b e out = out
-outAfterEnd measuring b e out = out
 outAfterEnd drawing (lacking t total) e out = out
 outAfterEnd drawing (allFit total) (result accepted s) out = out
 outAfterEnd drawing (allFit total) (result (drawn b) s) out = laidOver b out

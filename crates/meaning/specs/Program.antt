@@ -18,7 +18,7 @@ use Rattle.meaning.specs.Execute.{executeAll}
 use Rattle.meaning.specs.Picture.{pictureOf}
 
 pub data Operation : Type 0 where
-  checking measuring drawing : Operation
+  checking drawing : Operation
 
 -- what an operation is to hand back: that the program is well formed, or the picture's bytes
 pub data Outcome : Type 0 where
@@ -67,15 +67,12 @@ painting program width height n = do
   s ← current
   give (scene s)
 
--- the three operations, each with its questions in document 01's order
+-- both operations, each with its questions in document 01's order
 unfoldable pub performing : Operation → List ℕ → ℤ → ℤ → ℕ → Action Outcome
 performing checking program width height n = do
   sized program
   understood (reading program)
   give accepted
-performing measuring program width height n = do
-  figures ← painting program width height n
-  give (drawn (pictureOf width height figures))
 performing drawing program width height n = do
   figures ← painting program width height n
   spend picture (length (pictureOf width height figures)) 0

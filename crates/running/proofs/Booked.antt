@@ -3,7 +3,7 @@ use Prim.Native.Nat.{ℕ, suc, _+_, _≤_, _<_}
 use native.Mathlib.Omega.{arith}
 use mathlib.Core.Path.{_≡_, refl, ap, sym, _∙_}
 use mathlib.Core.Bool.{Bool, true, false, cond}
-use mathlib.Core.List.{List, [], _∷_, _++_, append-nil}
+use mathlib.Core.List.{List, [], _∷_, _++_}
 use lib.ListN.{length, getD}
 use lib.IntN.{ℤ}
 use lib.Dec.{leb, eqb}
@@ -14,7 +14,7 @@ use Rattle.meaning.specs.Run.{Resource, steps, shapes, entries, textBytes, pict
 use Rattle.meaning.specs.Run as Run
 use Rattle.meaning.specs.Figure.{Figure}
 use Rattle.meaning.specs.Picture.{pictureOf}
-use Rattle.meaning.specs.Program.{Outcome, drawn, measuring, drawing, empty, performing, specified}
+use Rattle.meaning.specs.Program.{Outcome, drawn, drawing, empty, performing, specified}
 use Rattle.meaning.specs.Book.{Amounts, nothingYet, added, fits, Booked, allFit, lacking, book, pictured, number, shortageOf, lengthNeeded, resourceNumber, answerTo, settled, booked}
 use Rattle.meaning.specs.Call.{granted, outAfterEnd}
 use Rattle.meaning.proofs.BookLaws.{part, taken, onFit, book-append}
@@ -109,10 +109,6 @@ module _ (program : List ℕ) (width height : ℤ) (g : List ℕ) (out : List �
     unfolding shownEnding
     together = ran .follows amounts (grants-are g out) .is
 
-    pub measured-number : booked amounts (specified measuring program width height (suc (stepsGranted g))) ≡ number n p (getD ws stepsUsed 0) 0
-    unfolding specified performing Run._>>=_
-    measured-number = stopped-go n p _ (painted .takings) (painted .end) plain together
-
     pub drawn-number : booked amounts (specified drawing program width height (suc (stepsGranted g))) ≡ number n p (getD ws stepsUsed 0) 0
     unfolding specified performing Run._>>=_
     drawn-number = stopped-go n p _ (painted .takings) (painted .end) plain together
@@ -152,12 +148,6 @@ module _ (program : List ℕ) (width height : ℤ) (g : List ℕ) (out : List �
 
     abbrev bytes : List ℕ
     bytes = pictureOf width height (sceneIn program (raw ts ws))
-
-    pub measured-picture : booked amounts (specified measuring program width height (suc (stepsGranted g))) ≡ pictured (length bytes) (getD ws stepsUsed 0)
-    unfolding specified performing booked settled answerTo onFit book Run._>>=_ Run.goOn Run.give
-    measured-picture =
-        let d = painted-ended in
-        rw (d .end, append-nil (painted .takings), d .fit, d .holds .told, d .holds .scene)
 
     -- ---- drawn
     abbrev last : Taking

@@ -1,6 +1,6 @@
 //! One call, judged by the proved library and by the reference.
 
-use crate::{check, draw, measure, Lent, Numbers, Work, CODE_WORDS, RUN_WORDS, TOKEN_WORDS};
+use crate::{check, draw, Lent, Numbers, Work, CODE_WORDS, RUN_WORDS, TOKEN_WORDS};
 use generator::case::{totals, TAKINGS};
 use reference::case::Case;
 use reference::{run_specified, Answer, End, Grants, Operation};
@@ -267,8 +267,28 @@ impl Lender {
         self.misfit(case, Lengths::needed(case.grants).longer(longer), seed)
     }
 
-    /// What is wrong with any of the calls around a case: with its own grants, with exactly what its run takes, with one less of each kind, with out slices
-    /// of every length around the picture's, and with one work slice an element too short.
+    /// The same in several calls: with its own out slice, with an empty one and, if there is a picture, with one of exactly its length and one byte less.
+    pub fn misfit_by_room(&mut self, case: &Case, seed: u64) -> Option<String> {
+        let with = |out_length| Case {
+            out_length,
+            ..case.clone()
+        };
+        let mut rooms = vec![case.out_length, 0];
+        if let Answer::Number {
+            length_needed: Some(need),
+            ..
+        } = with(0).answer()
+        {
+            rooms.extend([need - 1, need]);
+        }
+        rooms.into_iter().find_map(|room| {
+            let what = self.misfit_of(&with(room), seed)?;
+            Some(format!("{what}, into {room}"))
+        })
+    }
+
+    /// What is wrong with any of the calls around a case: with its own grants, with exactly what its run takes, with one less of each kind, each with an empty
+    /// out slice and such as are as long as the picture or nearly so, and with one work slice an element too short.
     pub fn misfit_around(&mut self, case: &Case, seed: u64) -> Option<String> {
         for (case, lengths) in around(case, seed) {
             if let Some(what) = self.misfit(&case, lengths, seed) {
@@ -316,7 +336,6 @@ pub fn library(case: &Case, work: &mut Work, out: &mut [u8]) -> Numbers {
     } = case;
     match operation {
         Operation::Check => check(program, *grants, &mut work.tokens, &mut work.code),
-        Operation::Measure => measure(program, *width, *height, *grants, work),
         Operation::Draw => draw(program, *width, *height, *grants, work, out),
     }
 }
@@ -348,19 +367,25 @@ fn around(case: &Case, seed: u64) -> Vec<(Case, Lengths)> {
         };
         all.push((call, Lengths::needed(grants)));
     };
-    // Of drawing, the picture's length.
-    let need = match end {
-        Answer::Picture { length, .. } if case.operation == Operation::Draw => Some(*length),
-        _ => None,
-    };
-    let out_length = need.unwrap_or(case.out_length);
-    add(exact, out_length);
-    for few in one_less(exact) {
-        add(few, out_length);
-    }
-    if let Some(need) = need {
-        for out_length in [0, need - 1, need, need + 1, need + 2 + seed % 1_000] {
-            add(case.grants, out_length);
+    match *end {
+        Answer::Picture { length: need, .. } => {
+            for out_length in [0, need - 1, need] {
+                add(exact, out_length);
+            }
+            for out_length in [0, need - 1, need, need + 1, need + 2 + seed % 1_000] {
+                add(case.grants, out_length);
+            }
+            for few in one_less(exact) {
+                add(few, need);
+            }
+        }
+        // Without a picture the out slice makes no difference.
+        _ => {
+            add(exact, 0);
+            add(case.grants, 0);
+            for few in one_less(exact) {
+                add(few, case.out_length);
+            }
         }
     }
     all

@@ -34,9 +34,8 @@ impl Input {
         };
         let program = bytes.get(HEAD..).unwrap_or(&[]);
         let case = Case {
-            operation: match number(0, 1) % 3 {
+            operation: match number(0, 1) % 2 {
                 0 => Operation::Check,
-                1 => Operation::Measure,
                 _ => Operation::Draw,
             },
             width: number(4, 4) as u32 as i32,
@@ -67,8 +66,7 @@ impl Input {
     pub fn write(case: &Case, lengths: u8, fill: u8) -> Vec<u8> {
         let operation = match case.operation {
             Operation::Check => 0,
-            Operation::Measure => 1,
-            Operation::Draw => 2,
+            Operation::Draw => 1,
         };
         let mut bytes = vec![operation, lengths, fill, 0];
         bytes.extend(case.width.to_le_bytes());

@@ -71,60 +71,13 @@ pub fn check_to(
     }
 }
 
-/// The four work slices of measuring and drawing.
+/// The four work slices of drawing.
 #[derive(Clone, Debug, Default)]
 pub struct Work {
     pub tokens: Vec<u64>,
     pub code: Vec<u64>,
     pub words: Vec<u64>,
     pub texts: Vec<u8>,
-}
-
-/// Measures a program's picture with these work slices.
-pub fn measure(
-    program: &[u8],
-    width: i32,
-    height: i32,
-    grants: Grants,
-    work: &mut Work,
-) -> Numbers {
-    let mut answer = [u64::MAX; 4];
-    let returned = measure_to(program, width, height, grants, work, &mut answer);
-    told(answer, returned)
-}
-
-/// The same, with the answer written to a slice of any length. The number is returned.
-pub fn measure_to(
-    program: &[u8],
-    width: i32,
-    height: i32,
-    grants: Grants,
-    work: &mut Work,
-    answer: &mut [u64],
-) -> u64 {
-    // As for checking.
-    unsafe {
-        ffi::img_measure(
-            program.as_ptr(),
-            program.len(),
-            width,
-            height,
-            grants.steps,
-            grants.shapes,
-            grants.entries,
-            grants.text_bytes,
-            work.tokens.as_mut_ptr(),
-            work.tokens.len(),
-            work.code.as_mut_ptr(),
-            work.code.len(),
-            work.words.as_mut_ptr(),
-            work.words.len(),
-            work.texts.as_mut_ptr(),
-            work.texts.len(),
-            answer.as_mut_ptr(),
-            answer.len(),
-        )
-    }
 }
 
 /// Draws a program's picture into the front of `out` with these work slices.

@@ -70,23 +70,6 @@ const OUT: [(&str, Fault); 3] = [
 ];
 
 #[test]
-fn a_wrong_measuring_is_found_out() {
-    let case = plain(Operation::Measure, &all_kinds());
-    let needed = Lengths::needed(case.grants);
-    for lengths in [needed, needed.longer(7)] {
-        found_out(&case, lengths, &ANSWERS);
-        found_out(&case, lengths, &SLICES);
-    }
-    // After 71, and after another number.
-    let short = needed.shorter(2).expect("words");
-    found_out(&case, short, &ANSWERS);
-    found_out(&case, short, &SLICES);
-    let wrong = plain(Operation::Measure, &main_of("w=none+1;"));
-    found_out(&wrong, needed, &ANSWERS);
-    found_out(&wrong, needed, &SLICES);
-}
-
-#[test]
 fn a_wrong_drawing_is_found_out() {
     let mut case = plain(Operation::Draw, &all_kinds());
     let needed = Lengths::needed(case.grants);
@@ -99,13 +82,32 @@ fn a_wrong_drawing_is_found_out() {
         found_out(&case, needed, &OUT);
     }
     // After 71, and after another number.
-    let short = needed.shorter(0).expect("tokens");
-    found_out(&case, short, &SLICES);
-    found_out(&case, short, &OUT);
+    for which in 0..4 {
+        let short = needed.shorter(which).expect("an element");
+        found_out(&case, short, &ANSWERS);
+        found_out(&case, short, &SLICES);
+        found_out(&case, short, &OUT);
+    }
     let mut wrong = plain(Operation::Draw, &main_of("w=drawLine(1,2,3,4);w=w/0;"));
     wrong.out_length = 300;
+    found_out(&wrong, needed, &ANSWERS);
     found_out(&wrong, needed, &SLICES);
     found_out(&wrong, needed, &OUT);
+}
+
+// Of an empty out slice only the answer and the work slices tell.
+#[test]
+fn a_wrong_length_told_to_an_empty_slice_is_found_out() {
+    for program in [all_kinds(), main_of("w=none+1;")] {
+        let mut case = plain(Operation::Draw, &program);
+        case.out_length = 0;
+        let needed = Lengths::needed(case.grants);
+        let short = needed.shorter(2).expect("words");
+        for lengths in [needed, needed.longer(7), short] {
+            found_out(&case, lengths, &ANSWERS);
+            found_out(&case, lengths, &SLICES);
+        }
+    }
 }
 
 #[test]

@@ -55,20 +55,27 @@ fn the_reference_agrees_on_it() {
     }
 }
 
-// Would catch a corpus that has shrunk to a few outcomes.
+// Would catch a corpus that has shrunk to a few outcomes, and a file whose name tells another one.
 #[test]
 fn it_leads_to_every_number() {
     let mut numbers = BTreeSet::new();
     for path in corpus() {
         let Input { case, lengths, .. } = Input::read(&std::fs::read(&path).expect("an input"));
-        if case.operation != Operation::Draw {
-            continue;
-        }
-        numbers.insert(match case.answer() {
+        let number = match case.answer() {
             _ if !lengths.suffice(case.operation, case.grants) => 71,
             Answer::Number { number, .. } => number,
             _ => 0,
-        });
+        };
+        let operation = match case.operation {
+            Operation::Check => "check",
+            Operation::Draw => {
+                numbers.insert(number);
+                "draw"
+            }
+        };
+        let name = path.file_name().expect("a name").to_string_lossy();
+        let begin = format!("{operation}-{number:02}-");
+        assert!(name.starts_with(&begin), "{name} is {begin}");
     }
     let all = [
         0, 10, 20, 30, 40, 50, 60, 70, 71, 72, 75, 76, 77, 78, 79, 80,

@@ -17,18 +17,13 @@ pub fn case(seed: u64) -> Case {
     let program = any_program(&mut random);
     let width = side(&mut random);
     let height = side(&mut random);
-    let operation = match random.weighted(&[10, 30, 60]) {
+    let operation = match random.weighted(&[10, 90]) {
         0 => Operation::Check,
-        1 => Operation::Measure,
         _ => Operation::Draw,
     };
     // Checking takes nothing; its grants are those of a run all the same, so
-    // that no other operation on the case goes on for ever.
-    let run_as = match operation {
-        Operation::Check => Operation::Measure,
-        other => other,
-    };
-    let specified = run_specified(run_as, &program, width, height, TAKINGS);
+    // that drawing the case does not go on for ever.
+    let specified = run_specified(Operation::Draw, &program, width, height, TAKINGS);
     let grants = grants(&specified, &mut random);
     let out_length = out_length(&specified, &mut random);
     Case {
@@ -209,7 +204,7 @@ fn out_length(specified: &Specified, random: &mut Random) -> u64 {
         End::Answer(Answer::Picture { length, .. }) => *length,
         _ => return *random.pick(&[OUT_LENGTH, 0, 1, 1_000]),
     };
-    match random.weighted(&[55, 12, 8, 6, 2, 5]) {
+    match random.weighted(&[45, 12, 8, 6, 12, 5]) {
         0 => OUT_LENGTH,
         1 => needed,
         2 => needed - 1,

@@ -11,13 +11,13 @@ pub fn cases() -> Vec<Case> {
         ..Grants::LARGEST
     };
     for body in bodies() {
-        for (operation, grants, out_length) in [
-            (Operation::Measure, largest, 0),
-            (Operation::Draw, largest, 65_536),
-            (Operation::Draw, reference::sheet::GRANTS, 65_536),
+        for (grants, out_length) in [
+            (largest, 0),
+            (largest, 65_536),
+            (reference::sheet::GRANTS, 65_536),
         ] {
             all.push(Case {
-                operation,
+                operation: Operation::Draw,
                 width: 960,
                 height: 9_999,
                 grants,

@@ -13,7 +13,6 @@ impl Tally {
     /// Counts an answer.
     pub fn add(&mut self, answer: &Answer) {
         let name = match answer {
-            Answer::Picture { bytes, .. } if bytes.is_empty() => "measured".to_string(),
             Answer::Picture { .. } => "drawn".to_string(),
             Answer::WellFormed => "well formed".to_string(),
             Answer::Number { number, .. } => number.to_string(),

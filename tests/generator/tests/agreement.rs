@@ -1,11 +1,11 @@
 //! What must hold of every case: the interpreter that counts against its
 //! grants answers as the book over the takings does, a larger grant changes
-//! nothing but a shortage, and a drawing is as long as it was measured.
+//! nothing but a shortage, and an empty out slice tells a drawing's length.
 
 use generator::random::Random;
 use generator::{case, case_out_of_range, heavy, limit, systematic, Case};
 use reference::sheet::{GRANTS, OUT_LENGTH};
-use reference::{book, draw, measure, run_specified, Answer, Grants, Operation};
+use reference::{book, draw, run_specified, Answer, Grants, Operation};
 
 const CASES: u64 = 6_000;
 
@@ -37,13 +37,17 @@ fn counting_agrees_with_the_book() {
 #[test]
 fn counting_agrees_with_the_book_on_fixed_programs() {
     for program in [limit::programs(), systematic::programs()].concat() {
-        for operation in [Operation::Check, Operation::Measure, Operation::Draw] {
+        for (operation, out_length) in [
+            (Operation::Check, 0),
+            (Operation::Draw, 0),
+            (Operation::Draw, OUT_LENGTH),
+        ] {
             let case = Case {
                 operation,
                 width: 20,
                 height: 20,
                 grants: GRANTS,
-                out_length: OUT_LENGTH,
+                out_length,
                 program: program.clone(),
             };
             assert_eq!(
@@ -153,7 +157,7 @@ fn a_shortage_goes_away_with_enough() {
 }
 
 #[test]
-fn drawn_is_as_long_as_measured() {
+fn an_empty_out_slice_tells_the_length() {
     let mut pictures = 0;
     for seed in 0..CASES {
         let Case {
@@ -163,11 +167,17 @@ fn drawn_is_as_long_as_measured() {
             program,
             ..
         } = case(seed);
-        let measured = measure(&program, width, height, grants);
-        let Answer::Picture { length, steps, .. } = measured else {
-            // Any other answer is that of drawing.
+        let told = draw(&program, width, height, grants, 0);
+        let Answer::Number {
+            number: 80,
+            place: 0,
+            steps,
+            length_needed: Some(length),
+        } = told
+        else {
+            // Any other answer does not depend on the out slice.
             let drawn = draw(&program, width, height, grants, 1 << 30);
-            assert_eq!(measured, drawn, "seed {seed}");
+            assert_eq!(told, drawn, "seed {seed}");
             continue;
         };
         pictures += 1;
@@ -181,17 +191,9 @@ fn drawn_is_as_long_as_measured() {
         };
         assert_eq!((drawn_length, drawn_steps), (length, steps), "seed {seed}");
         assert_eq!(bytes.len() as u64, length, "seed {seed}");
-        // One byte short tells the length.
-        assert_eq!(
-            draw(&program, width, height, grants, length - 1),
-            Answer::Number {
-                number: 80,
-                place: 0,
-                steps,
-                length_needed: Some(length),
-            },
-            "seed {seed}"
-        );
+        // One byte short tells the same as an empty one.
+        let short = draw(&program, width, height, grants, length - 1);
+        assert_eq!(short, told, "seed {seed}");
     }
     assert!(pictures > 1_000, "only {pictures} pictures");
 }

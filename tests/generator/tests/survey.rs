@@ -11,7 +11,6 @@ fn every_outcome_occurs() {
     }
     for (outcome, least) in [
         ("drawn", 400),
-        ("measured", 200),
         ("well formed", 100),
         ("10", 300),
         ("20", 300),
@@ -28,7 +27,7 @@ fn every_outcome_occurs() {
         ("77", 50),
         ("78", 50),
         ("79", 200),
-        ("80", 30),
+        ("80", 150),
     ] {
         let count = tally.of(outcome);
         assert!(count >= least, "{outcome}: {count} of at least {least}");

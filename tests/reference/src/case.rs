@@ -6,12 +6,12 @@
 //! OPERATION WIDTH HEIGHT STEPS SHAPES ENTRIES TEXT OUT PROGRAM
 //! ```
 //!
-//! OPERATION is `check`, `measure` or `draw`. WIDTH and HEIGHT are signed
-//! 32-bit numbers. STEPS, SHAPES, ENTRIES and TEXT are the granted counts and
-//! OUT is the length of the out slice, all unsigned 64-bit numbers. PROGRAM
-//! is the program in hexadecimal, two digits a byte, or `-` if it is empty.
-//! Checking looks only at the counts' ranges and the program, and measuring
-//! does not look at OUT; the fields stand in the line all the same.
+//! OPERATION is `check` or `draw`. WIDTH and HEIGHT are signed 32-bit
+//! numbers. STEPS, SHAPES, ENTRIES and TEXT are the granted counts and OUT is
+//! the length of the out slice, all unsigned 64-bit numbers. PROGRAM is the
+//! program in hexadecimal, two digits a byte, or `-` if it is empty.
+//! Checking looks only at the counts' ranges and the program; the other fields
+//! stand in the line all the same.
 //!
 //! The answer is one of these lines:
 //!
@@ -23,11 +23,10 @@
 //! ```
 //!
 //! HASH is the 64-bit FNV-1a hash of the picture's bytes in 16 hexadecimal
-//! digits, or `-` from measuring. The LENGTH of a number is what 80 needs,
-//! and `-` for every other number. `malformed` means that the line was no
-//! case.
+//! digits. The LENGTH of a number is what 80 needs, and `-` for every other
+//! number. `malformed` means that the line was no case.
 
-use crate::operation::{check_granted, draw, measure, Answer, Grants, Operation};
+use crate::operation::{check_granted, draw, Answer, Grants, Operation};
 use std::fmt::Write;
 
 /// One call of one operation.
@@ -54,7 +53,6 @@ impl Case {
         } = self;
         match operation {
             Operation::Check => check_granted(program, *grants),
-            Operation::Measure => measure(program, *width, *height, *grants),
             Operation::Draw => draw(program, *width, *height, *grants, *out_length),
         }
     }
@@ -63,7 +61,6 @@ impl Case {
     pub fn to_line(&self) -> String {
         let operation = match self.operation {
             Operation::Check => "check",
-            Operation::Measure => "measure",
             Operation::Draw => "draw",
         };
         let Grants {
@@ -92,7 +89,6 @@ impl Case {
         let case = Case {
             operation: match fields.next()? {
                 "check" => Operation::Check,
-                "measure" => Operation::Measure,
                 "draw" => Operation::Draw,
                 _ => return None,
             },
@@ -133,11 +129,6 @@ fn from_hexadecimal(field: &str) -> Option<Vec<u8>> {
 pub fn answer_line(answer: &Answer) -> String {
     match answer {
         Answer::WellFormed => "wellformed".to_string(),
-        Answer::Picture {
-            length,
-            steps,
-            bytes,
-        } if bytes.is_empty() => format!("picture {length} {steps} -"),
         Answer::Picture {
             length,
             steps,

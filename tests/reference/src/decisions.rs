@@ -2,7 +2,7 @@
 //! result that stands beside it. Nothing is run here.
 
 use crate::operation::{Grants, Operation};
-use crate::sheet::GRANTS;
+use crate::sheet::{GRANTS, OUT_LENGTH};
 
 /// One row.
 #[derive(Clone, Debug)]
@@ -11,6 +11,7 @@ pub struct Row {
     pub operation: Operation,
     pub program: Vec<u8>,
     pub grants: Grants,
+    pub out_length: u64,
     /// Such as `30@39 s12`, `picture s13` or `well formed`.
     pub result: String,
 }
@@ -27,12 +28,13 @@ fn row(line: &str) -> Option<Row> {
     let cells: Vec<&str> = line.split('|').map(str::trim).collect();
     let number = cells.get(1)?.parse().ok()?;
     assert_eq!(cells.len(), 8, "{line}");
-    let (operation, grants) = granted(cells[4]);
+    let (operation, grants, out_length) = granted(cells[4]);
     Some(Row {
         number,
         operation,
         program: program(quoted(cells[3])),
         grants,
+        out_length,
         result: quoted(cells[5]).to_string(),
     })
 }
@@ -67,11 +69,12 @@ fn written_out(cell: &str) -> String {
     )
 }
 
-/// What a cell of grants says: `checked`, a grant such as `shapes 1`, both
-/// with a comma between, or nothing.
-fn granted(cell: &str) -> (Operation, Grants) {
-    let mut operation = Operation::Measure;
+/// What a cell of grants says: `checked`, a grant such as `shapes 1`, the out
+/// slice's length as `out 0`, some of these with commas between, or nothing.
+fn granted(cell: &str) -> (Operation, Grants, u64) {
+    let mut operation = Operation::Draw;
     let mut grants = GRANTS;
+    let mut out_length = OUT_LENGTH;
     for part in cell.split(", ").filter(|part| !part.is_empty()) {
         if part == "checked" {
             operation = Operation::Check;
@@ -84,8 +87,9 @@ fn granted(cell: &str) -> (Operation, Grants) {
             "shapes" => grants.shapes = count,
             "entries" => grants.entries = count,
             "text" => grants.text_bytes = count,
+            "out" => out_length = count,
             _ => panic!("no grant is called {name}"),
         }
     }
-    (operation, grants)
+    (operation, grants, out_length)
 }

@@ -16,5 +16,5 @@ pub mod token;
 pub mod tree;
 pub mod value;
 
-pub use operation::{check, draw, measure, Answer, Grants, Operation};
+pub use operation::{check, draw, Answer, Grants, Operation};
 pub use takings::{book, run_specified, End, Specified, Taking};

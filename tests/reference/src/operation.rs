@@ -1,4 +1,4 @@
-//! The three operations, with all their questions in order.
+//! The two operations, with all their questions in order.
 
 use crate::grammar::{self, Refusal};
 use crate::picture;
@@ -13,7 +13,6 @@ pub const PROGRAM_BYTES: usize = 32_768;
 #[derive(Clone, Copy, Debug, PartialEq, Eq)]
 pub enum Operation {
     Check,
-    Measure,
     Draw,
 }
 
@@ -60,7 +59,7 @@ impl Grants {
 /// What an operation hands back.
 #[derive(Clone, Debug, PartialEq, Eq)]
 pub enum Answer {
-    /// A picture; measuring leaves `bytes` empty.
+    /// A picture with its bytes.
     Picture {
         length: u64,
         steps: u64,
@@ -105,17 +104,10 @@ pub fn check_granted(program: &[u8], grants: Grants) -> Answer {
     }
 }
 
-/// Measuring.
-pub fn measure(program: &[u8], width: i32, height: i32, grants: Grants) -> Answer {
-    match scene(Operation::Measure, program, width, height, grants) {
-        Ok((shapes, steps)) => finished(Operation::Measure, width, height, &shapes, steps),
-        Err(answer) => answer,
-    }
-}
-
-/// Drawing into an out slice of `out_length` bytes.
+/// Drawing into an out slice of `out_length` bytes. With none, 80 tells the
+/// length and the steps.
 pub fn draw(program: &[u8], width: i32, height: i32, grants: Grants, out_length: u64) -> Answer {
-    let (shapes, steps) = match scene(Operation::Draw, program, width, height, grants) {
+    let (shapes, steps) = match scene(program, width, height, grants) {
         Ok(scene) => scene,
         Err(answer) => return answer,
     };
@@ -128,7 +120,7 @@ pub fn draw(program: &[u8], width: i32, height: i32, grants: Grants, out_length:
             length_needed: Some(length),
         };
     }
-    finished(Operation::Draw, width, height, &shapes, steps)
+    finished(width, height, &shapes, steps)
 }
 
 /// The questions before reading, but for the first, and those of reading.
@@ -138,7 +130,7 @@ pub(crate) fn prepare(
     width: i32,
     height: i32,
 ) -> Result<Program, Answer> {
-    if operation != Operation::Check && (width < 1 || height < 1) {
+    if operation == Operation::Draw && (width < 1 || height < 1) {
         return Err(Answer::number(72, 0, 0));
     }
     if program.len() > PROGRAM_BYTES {
@@ -148,27 +140,16 @@ pub(crate) fn prepare(
 }
 
 /// The picture that a run ended in.
-pub(crate) fn finished(
-    operation: Operation,
-    width: i32,
-    height: i32,
-    shapes: &[Shape],
-    steps: u64,
-) -> Answer {
-    let bytes = match operation {
-        Operation::Draw => picture::bytes(width, height, shapes),
-        _ => Vec::new(),
-    };
+pub(crate) fn finished(width: i32, height: i32, shapes: &[Shape], steps: u64) -> Answer {
     Answer::Picture {
         length: picture::length(width, height, shapes),
         steps,
-        bytes,
+        bytes: picture::bytes(width, height, shapes),
     }
 }
 
 /// The picture's shapes and the steps counted.
 fn scene(
-    operation: Operation,
     program: &[u8],
     width: i32,
     height: i32,
@@ -177,7 +158,7 @@ fn scene(
     if !grants.in_range() {
         return Err(Answer::number(71, 0, 0));
     }
-    let tree = prepare(operation, program, width, height)?;
+    let tree = prepare(Operation::Draw, program, width, height)?;
     let Finish { steps, end } = run::run(&tree, width, height, Left::new(grants));
     match end {
         Ok(shapes) => Ok((shapes, steps)),

@@ -154,8 +154,8 @@ pub fn run_specified(
         },
         Err(Stop::Number { number, place }) => ended(takings, Answer::number(number, place, steps)),
         Ok(shapes) => {
-            let answer = operation::finished(operation, width, height, &shapes, steps);
-            if let (Operation::Draw, Answer::Picture { length, .. }) = (operation, &answer) {
+            let answer = operation::finished(width, height, &shapes, steps);
+            if let Answer::Picture { length, .. } = &answer {
                 takings.push((Taking::Picture(*length), 0));
             }
             ended(takings, answer)

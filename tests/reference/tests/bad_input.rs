@@ -4,12 +4,13 @@ mod common;
 
 use common::{main_of, short};
 use reference::sheet::{self, GRANTS, OUT_LENGTH};
-use reference::{check, draw, measure};
+use reference::{check, draw};
 
 fn all_operations(program: &[u8], expected: &str) {
     assert_eq!(short(&check(program)), expected);
-    assert_eq!(short(&measure(program, 20, 20, GRANTS)), expected);
-    assert_eq!(short(&draw(program, 20, 20, GRANTS, OUT_LENGTH)), expected);
+    for out_length in [0, OUT_LENGTH] {
+        assert_eq!(short(&draw(program, 20, 20, GRANTS, out_length)), expected);
+    }
 }
 
 #[test]
@@ -83,14 +84,16 @@ fn width_and_height() {
     let program = main_of("1;");
     for bad in [0, -1, i32::MIN] {
         for (width, height) in [(bad, 20), (20, bad), (bad, bad)] {
-            assert_eq!(short(&measure(&program, width, height, GRANTS)), "72@0 s0");
+            let answer = draw(&program, width, height, GRANTS, OUT_LENGTH);
+            assert_eq!(short(&answer), "72@0 s0");
             // Asked before the program's length and the program.
             let too_long = vec![b'!'; 40_000];
             let answer = draw(&too_long, width, height, GRANTS, 0);
             assert_eq!(short(&answer), "72@0 s0");
         }
     }
-    assert_eq!(short(&measure(&program, 1, i32::MAX, GRANTS)), "picture s2");
+    let answer = draw(&program, 1, i32::MAX, GRANTS, OUT_LENGTH);
+    assert_eq!(short(&answer), "picture s2");
 }
 
 #[test]

@@ -58,10 +58,6 @@ fn judge_answers_line_by_line() {
             format!("picture {length} 2 {:016x}", hash(picture.as_bytes())),
         ),
         (
-            case(Operation::Measure, 0, good).to_line(),
-            format!("picture {length} 2 -"),
-        ),
-        (
             case(Operation::Draw, 0, good).to_line(),
             format!("number 80 0 2 {length}"),
         ),
@@ -79,6 +75,7 @@ fn judge_answers_line_by_line() {
         ),
         ("draw 20 20 1".to_string(), "malformed".to_string()),
         (String::new(), "malformed".to_string()),
+        ("run 20 20 1 1 1 1 1 -".to_string(), "malformed".to_string()),
         (
             "draw 20 20 65536 65536 1 1 1 -".to_string(),
             "number 71 0 0 -".to_string(),

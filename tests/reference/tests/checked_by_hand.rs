@@ -4,7 +4,7 @@ mod common;
 
 use common::{draw_body, draw_granted, drawn, integer, integer_after, main_of, short};
 use reference::sheet::{self, GRANTS, OUT_LENGTH};
-use reference::{check, draw, measure, run_specified, Answer, Grants, Operation, Taking};
+use reference::{check, draw, run_specified, Answer, Grants, Operation, Taking};
 
 const DAY: &str = "var a;var b;a=drawBox(2,9,3,h-9);b=drawText(2,h,\"day\");";
 
@@ -19,8 +19,9 @@ const DAY_PICTURE: &str = "<?xml version=\"1.0\"?>
 
 fn all_refuse(program: &[u8], expected: &str) {
     assert_eq!(short(&check(program)), expected);
-    assert_eq!(short(&measure(program, 20, 20, GRANTS)), expected);
-    assert_eq!(short(&draw(program, 20, 20, GRANTS, OUT_LENGTH)), expected);
+    for out_length in [0, OUT_LENGTH] {
+        assert_eq!(short(&draw(program, 20, 20, GRANTS, out_length)), expected);
+    }
 }
 
 #[test]
@@ -85,11 +86,14 @@ fn centre_of_a_box_drawn_backwards() {
 
 #[test]
 fn day_takes_15_steps_and_4_shapes() {
-    let specified = run_specified(Operation::Measure, &main_of(DAY), 20, 20, 100);
+    let specified = run_specified(Operation::Draw, &main_of(DAY), 20, 20, 100);
     let count = |kind| specified.takings.iter().filter(|t| t.0 == kind).count();
     assert_eq!(count(Taking::Step), 15);
     assert_eq!(count(Taking::Shape), 4);
-    assert_eq!(specified.takings.len(), 19);
+    // The picture is the last taking.
+    assert_eq!(specified.takings.len(), 20);
+    let length = DAY_PICTURE.len() as u64;
+    assert_eq!(specified.takings[19], (Taking::Picture(length), 0));
     let exact = Grants {
         steps: 15,
         shapes: 4,
@@ -165,15 +169,18 @@ fn deepest_level() {
 #[test]
 fn out_slice_one_byte_short() {
     let length = DAY_PICTURE.len() as u64;
-    assert_eq!(
-        draw(&main_of(DAY), 20, 20, GRANTS, length - 1),
-        Answer::Number {
-            number: 80,
-            place: 0,
-            steps: 15,
-            length_needed: Some(length),
-        }
-    );
+    // An empty one tells the length as well.
+    for out_length in [length - 1, 0] {
+        assert_eq!(
+            draw(&main_of(DAY), 20, 20, GRANTS, out_length),
+            Answer::Number {
+                number: 80,
+                place: 0,
+                steps: 15,
+                length_needed: Some(length),
+            }
+        );
+    }
     assert_eq!(
         short(&draw(&main_of(DAY), 20, 20, GRANTS, length)),
         "picture s15"

@@ -5,7 +5,6 @@ mod common;
 use common::short;
 use reference::case::Case;
 use reference::decisions::rows;
-use reference::sheet::OUT_LENGTH;
 
 #[test]
 fn each_row() {
@@ -16,7 +15,7 @@ fn each_row() {
             width: 20,
             height: 20,
             grants: row.grants,
-            out_length: OUT_LENGTH,
+            out_length: row.out_length,
             program: row.program.clone(),
         };
         assert_eq!(short(&case.answer()), row.result, "row {}", row.number);
@@ -24,5 +23,6 @@ fn each_row() {
     // None is left out, and none has the number of another.
     let mut numbers: Vec<u32> = rows.iter().map(|row| row.number).collect();
     numbers.sort_unstable();
-    assert_eq!(numbers, (1..=85).collect::<Vec<u32>>());
+    assert!(numbers.len() >= 85, "only {} rows", numbers.len());
+    assert_eq!(numbers, (1..=numbers.len() as u32).collect::<Vec<u32>>());
 }

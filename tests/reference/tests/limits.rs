@@ -4,10 +4,14 @@ mod common;
 
 use common::{main_of, short};
 use reference::sheet::{GRANTS, OUT_LENGTH};
-use reference::{check, draw, measure, Answer, Grants};
+use reference::{check, draw, Answer, Grants};
 
 fn checked(program: &[u8]) -> String {
     short(&check(program))
+}
+
+fn drawn(program: &[u8], grants: Grants) -> Answer {
+    draw(program, 20, 20, grants, OUT_LENGTH)
 }
 
 #[test]
@@ -109,7 +113,7 @@ fn levels_in_statements() {
 #[test]
 fn a_deep_program_runs() {
     let body = format!("{}1;{}", "if(true){".repeat(32), "}".repeat(32));
-    let answer = draw(&main_of(&body), 20, 20, GRANTS, OUT_LENGTH);
+    let answer = drawn(&main_of(&body), GRANTS);
     assert_eq!(short(&answer), "picture s98");
 }
 
@@ -142,14 +146,14 @@ fn counts_out_of_range() {
         },
     ];
     for grants in out_of_range {
-        assert_eq!(short(&measure(&program, 20, 20, grants)), "71@0 s0");
+        assert_eq!(short(&drawn(&program, grants)), "71@0 s0");
         // Asked before everything else.
         assert_eq!(short(&draw(b"", 0, 0, grants, 0)), "71@0 s0");
         let answer = reference::operation::check_granted(b"", grants);
         assert_eq!(short(&answer), "71@0 s0");
     }
-    assert_eq!(short(&measure(&program, 20, 20, largest)), "picture s2");
-    assert_eq!(short(&measure(&program, 20, 20, Grants::NONE)), "79@14 s0");
+    assert_eq!(short(&drawn(&program, largest)), "picture s2");
+    assert_eq!(short(&drawn(&program, Grants::NONE)), "79@14 s0");
 }
 
 #[test]
@@ -161,7 +165,7 @@ fn all_of_each_store() {
         // 3 bytes at once; 65,535 is a multiple of 3.
         ("while(true)\"a\"++\"bc\";", 78),
     ] {
-        let answer = measure(&main_of(body), 20, 20, Grants::LARGEST);
+        let answer = drawn(&main_of(body), Grants::LARGEST);
         let Answer::Number {
             number: found,
             steps,

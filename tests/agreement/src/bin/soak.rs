@@ -1,5 +1,5 @@
-//! Compares one operation on many generated cases: `soak [checking|measuring|drawing] FIRST COUNT`, checking if none is named. Prints how many cases were
-//! compared, in how many calls, and how many differ.
+//! Compares one operation on many generated cases: `soak [checking|drawing] FIRST COUNT`, checking if none is named. Prints how many cases were compared, in
+//! how many calls, and how many differ.
 
 use agreement::compare::{misfit, Lender};
 use generator::case::any_program;
@@ -22,13 +22,6 @@ fn main() {
         None | Some("checking") => {
             Box::new(|seed| misfit(&any_program(&mut Random::new(seed)), seed))
         }
-        Some("measuring") => Box::new(|seed| {
-            let case = Case {
-                operation: Operation::Measure,
-                ..generator::case(seed)
-            };
-            lender.misfit_around(&case, seed)
-        }),
         Some("drawing") => Box::new(|seed| {
             let case = Case {
                 operation: Operation::Draw,

@@ -1,15 +1,11 @@
-//! What measuring and drawing are both asked. The reference's answer is always one call away, so these only choose calls.
+//! What checking and drawing are both asked. The reference's answer is always one call away, so these only choose calls.
 
 #![allow(dead_code)]
 
 use agreement::compare::{one_less, Lender, Lengths};
-use generator::case::TAKINGS;
-use generator::random::Random;
-use generator::{case, case_out_of_range, heavy, limit, systematic, Case};
+use generator::{case_out_of_range, Case};
 use reference::sheet::{GRANTS, OUT_LENGTH};
-use reference::{run_specified, Answer, End, Grants, Operation};
-use std::collections::BTreeSet;
-use std::ops::Range;
+use reference::{Answer, Grants, Operation};
 
 /// `def main(w,h){...}` around a body.
 pub fn main_of(body: &str) -> Vec<u8> {
@@ -46,147 +42,6 @@ pub fn need(case: &Case) -> u64 {
     }
 }
 
-/// Generated and damaged programs, each with its own grants, at what it takes and one below for each kind, in slices with garbage, longer, and one
-/// element short.
-pub fn generated(operation: Operation, seeds: Range<u64>) {
-    let mut lender = Lender::default();
-    let count = seeds.end - seeds.start;
-    for seed in seeds {
-        let case = Case {
-            operation,
-            ..case(seed)
-        };
-        assert_eq!(lender.misfit_around(&case, seed), None, "seed {seed}");
-    }
-    assert!(lender.calls() > 4 * count, "only {} calls", lender.calls());
-}
-
-/// Programs at every fixed limit, below and beyond.
-pub fn limits(operation: Operation) {
-    let mut lender = Lender::default();
-    for (i, program) in limit::programs().iter().enumerate() {
-        let case = plain(operation, program);
-        assert_eq!(lender.misfit_around(&case, i as u64), None, "limit {i}");
-    }
-}
-
-/// All operators on all kinds, integers at the edges, keys, calls.
-pub fn systematically(operation: Operation) {
-    let mut lender = Lender::default();
-    for (i, program) in systematic::programs().iter().enumerate() {
-        let case = plain(operation, program);
-        assert_eq!(lender.misfit_of(&case, i as u64), None, "systematic {i}");
-    }
-}
-
-/// Runs that use much of what can be granted.
-pub fn much(operation: Operation) {
-    let mut lender = Lender::default();
-    for (i, case) in heavy::cases().into_iter().enumerate() {
-        let case = Case { operation, ..case };
-        assert_eq!(lender.misfit_of(&case, i as u64), None, "heavy {i}");
-    }
-}
-
-/// Runs that go on for longer than those of generated cases may: 100,000 steps and all the stores.
-pub fn long_runs(operation: Operation, seeds: Range<u64>) {
-    let mut lender = Lender::default();
-    let mut long = 0;
-    for seed in seeds {
-        let case = case(seed);
-        let specified = run_specified(operation, &case.program, 20, 20, TAKINGS);
-        if specified.end != End::Cut {
-            continue;
-        }
-        long += 1;
-        let case = Case {
-            grants: Grants {
-                steps: 100_000,
-                ..Grants::LARGEST
-            },
-            ..plain(operation, &case.program)
-        };
-        assert_eq!(lender.misfit_of(&case, seed), None, "seed {seed}");
-    }
-    assert!(long > 20, "only {long} runs");
-}
-
-/// Many variables whose names are alike, some of them declared twice or used undeclared.
-pub fn many_names(operation: Operation) {
-    let mut lender = Lender::default();
-    for seed in 0..80 {
-        let mut random = Random::new(seed);
-        let letters = random.pick(&["ab", "aA0", "xyzXYZ0189"]).as_bytes();
-        let longest = random.between(8, 20);
-        let mut name = || {
-            let mut name = String::from("v");
-            for _ in 0..random.between(3, longest) {
-                name.push(char::from(*random.pick(letters)));
-            }
-            name
-        };
-        let names: Vec<String> = (0..500).map(|_| name()).collect();
-        let mut body = String::new();
-        let mut declared = BTreeSet::new();
-        for (i, name) in names.iter().enumerate() {
-            // Now and then one is declared again, which ends the run.
-            if declared.insert(name) || i % 400 == 399 {
-                body.push_str(&format!("var {name};"));
-            }
-            body.push_str(&format!("{name}={i};"));
-        }
-        for group in names.chunks(4).take(60) {
-            if let [a, b, c, d] = group {
-                body.push_str(&format!("{a}=drawLine({a},{b},{c},{d});{a}=1;"));
-            }
-        }
-        body.push_str(&format!("h=drawText({},{},\"a\");", names[7], names[333]));
-        let case = plain(operation, &main_of(&body));
-        assert_eq!(lender.misfit_around(&case, seed), None, "seed {seed}");
-    }
-}
-
-/// Widths and heights that are 0, negative or extreme, each with each.
-pub fn sides(operation: Operation) {
-    const SIDES: [i32; 12] = [
-        i32::MIN,
-        i32::MIN + 1,
-        -65_536,
-        -1,
-        0,
-        1,
-        9,
-        10,
-        65_536,
-        999_999_999,
-        i32::MAX - 1,
-        i32::MAX,
-    ];
-    let mut lender = Lender::default();
-    let programs = [
-        all_kinds(),
-        main_of("h=drawBox(w+h,w*h,w/h,w-h);w=drawText(w,0,\"a\");"),
-        // Not well formed, and beyond the limit: 72 goes before both.
-        main_of(""),
-        vec![b' '; 32_769],
-    ];
-    let mut seed = 0;
-    for width in SIDES {
-        for height in SIDES {
-            for program in &programs {
-                let case = Case {
-                    width,
-                    height,
-                    ..plain(operation, program)
-                };
-                let misfit = lender.misfit_around(&case, seed);
-                assert_eq!(misfit, None, "{width} by {height}");
-                seed += 1;
-            }
-        }
-    }
-}
-
 /// Every slice too short by one element, or empty, alone and with the others, whatever else is wrong with the call.
 pub fn short_slices(operation: Operation) {
     let mut lender = Lender::default();
@@ -212,6 +67,7 @@ pub fn short_slices(operation: Operation) {
     }
     calls.push(Case {
         width: 0,
+        out_length: 0,
         ..plain(operation, &all_kinds())
     });
     let mut refused = 0;
@@ -309,19 +165,6 @@ pub fn counts_out_of_range(operation: Operation) {
                 ..plain(operation, &all_kinds())
             };
             assert_eq!(lender.misfit_of(&case, seed), None, "{grants:?}");
-        }
-    }
-}
-
-/// Programs beyond 32,768 bytes, and the questions that go before theirs.
-pub fn long_programs(operation: Operation) {
-    let mut lender = Lender::default();
-    for length in [32_768, 32_769, 65_536, 65_537, 1 << 20, (1 << 24) + 1] {
-        for byte in [b'(', b' ', b'!', b'a'] {
-            let mut program = all_kinds();
-            program.resize(length, byte);
-            let case = plain(operation, &program);
-            assert_eq!(lender.misfit_of(&case, 3), None, "{length} of {byte}");
         }
     }
 }

@@ -7,8 +7,8 @@
 //! OPERATION WIDTH HEIGHT STEPS SHAPES ENTRIES TEXT OUT PROGRAM
 //! ```
 //!
-//! with OPERATION `check`, `measure` or `draw`, decimal numbers, and the
-//! program in hexadecimal (`-` if it is empty). An answer is
+//! with OPERATION `check` or `draw`, decimal numbers, and the program in
+//! hexadecimal (`-` if it is empty). An answer is
 //!
 //! ```text
 //! picture LENGTH STEPS HASH
@@ -17,9 +17,9 @@
 //! malformed
 //! ```
 //!
-//! with the FNV-1a hash of the picture's bytes (`-` from measuring) and the
-//! length that 80 needs (`-` for other numbers). The module `case` of the
-//! library tells the details.
+//! with the FNV-1a hash of the picture's bytes and the length that 80 needs
+//! (`-` for other numbers). The module `case` of the library tells the
+//! details.
 
 #![forbid(unsafe_code)]
 
