@@ -30,26 +30,29 @@ extern "C" {
 #define IMG_TOKENS ((size_t)8193)
 #define IMG_CODE ((size_t)16384)
 #define IMG_WORDS(shapes, entries) \
-    ((size_t)24584 + (size_t)3 * (size_t)(shapes) + (size_t)4 * (size_t)(entries))
+    ((size_t)278608 + (size_t)3 * (size_t)(shapes) + (size_t)4 * (size_t)(entries))
 #define IMG_TEXTS(text_bytes) ((size_t)(text_bytes))
 
-/* The most that can be granted; more gives the number 71. */
+/* The most that can be granted; more gives the number 71. Of calls, the
+ * procedures under way at once, at least one is granted, since main is one. */
 #define IMG_MOST_STEPS UINT64_C(4294967295)
 #define IMG_MOST_SHAPES UINT64_C(65535)
 #define IMG_MOST_ENTRIES UINT64_C(65535)
 #define IMG_MOST_TEXT_BYTES UINT64_C(65535)
+#define IMG_MOST_CALLS UINT64_C(64)
 
 /* The most bytes that a program may have; more gives the number 73. */
 #define IMG_MOST_PROGRAM ((size_t)32768)
 
-/* A call needs less stack than this many bytes. */
-#define IMG_STACK ((size_t)98304)
+/* A function needs less stack than this many bytes, by the calls granted.
+ * With all 64 that is more than some threads have: see docs/INTERFACE.md. */
+#define IMG_STACK(calls) ((size_t)81920 * (size_t)(calls))
 
 /* An answer has four words. A function writes as many as `answer` has room
  * for, and returns the number whether or not there is room. */
 #define IMG_ANSWER ((size_t)4)
 enum {
-    IMG_NUMBER = 0, /* 0: a picture, or well formed; else 10 to 80 */
+    IMG_NUMBER = 0, /* 0: a picture, or well formed; else 10 to 81 */
     IMG_PLACE = 1,  /* the byte of the program that the number names */
     IMG_STEPS = 2,  /* the steps counted */
     IMG_LENGTH = 3  /* the picture's length; with 80 the length it needs */
@@ -59,7 +62,7 @@ enum {
  * are only asked about their ranges. */
 uint64_t img_check(const uint8_t *program, size_t program_length,
                    uint64_t steps, uint64_t shapes,
-                   uint64_t entries, uint64_t text_bytes,
+                   uint64_t entries, uint64_t text_bytes, uint64_t calls,
                    uint64_t *tokens, size_t tokens_length,
                    uint64_t *code, size_t code_length,
                    uint64_t *answer, size_t answer_length);
@@ -74,7 +77,7 @@ uint64_t img_check(const uint8_t *program, size_t program_length,
 uint64_t img_draw(const uint8_t *program, size_t program_length,
                   int32_t width, int32_t height,
                   uint64_t steps, uint64_t shapes,
-                  uint64_t entries, uint64_t text_bytes,
+                  uint64_t entries, uint64_t text_bytes, uint64_t calls,
                   uint64_t *tokens, size_t tokens_length,
                   uint64_t *code, size_t code_length,
                   uint64_t *words, size_t words_length,
@@ -97,7 +100,7 @@ static inline const char *img_sentence(uint64_t number)
     case 50:
         return "a variable is used that is not declared by then";
     case 60:
-        return "a variable is declared a second time";
+        return "a variable is declared, or a procedure's name is defined, a second time";
     case 70:
         return "a division, or a remainder, by 0";
     case 71:
@@ -120,6 +123,8 @@ static inline const char *img_sentence(uint64_t number)
         return "no step is left of those granted";
     case 80:
         return "the picture is longer than the place lent for it";
+    case 81:
+        return "no call is left of those granted";
     default:
         return "there is no such number";
     }

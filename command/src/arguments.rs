@@ -23,6 +23,7 @@ Options of draw:
   --shapes N            grant N shapes          (1024)
   --entries N           grant N table entries   (1024)
   --text-bytes N        grant N bytes for joined strings   (16384)
+  --calls N             grant N procedures under way at once, main among them; 64 at most   (64)
   --out-bytes N         the longest picture     (65536 bytes)
   --name NAME           what standard input is called in messages
   --                    what follows is a file, also if it begins with `-`
@@ -91,6 +92,7 @@ fn draw(rest: impl Iterator<Item = OsString>) -> Result<Wanted, String> {
             "--shapes" => grants.shapes = number(option, values)?,
             "--entries" => grants.entries = number(option, values)?,
             "--text-bytes" => grants.text_bytes = number(option, values)?,
+            "--calls" => grants.calls = number(option, values)?,
             "--out-bytes" => wanted.out_bytes = number(option, values)?,
             _ => return Err(unknown("draw", option)),
         }

@@ -23,6 +23,7 @@ pub fn reason(drawing: &Drawing, refusal: &Refusal) -> Reason {
         20 => running::unfit(drawing, refusal),
         50 => running::undeclared(drawing, refusal),
         60 => running::declared(drawing, refusal),
+        81 => running::endless(drawing, refusal),
         _ => None,
     };
     let table = Reason::table(refusal);

@@ -24,8 +24,18 @@ enum Status {
     Failed = 3,
 }
 
+/// The library needs stack for each call that it is granted, more than a system may give to a main thread.
 fn main() -> ExitCode {
-    let status = match arguments::parse(std::env::args_os().skip(1)) {
+    let stack = Grants::MOST.stack() + (1 << 20);
+    let status = match std::thread::Builder::new().stack_size(stack).spawn(run) {
+        Ok(thread) => thread.join().unwrap_or(Status::Failed),
+        Err(error) => failed("a thread", &error),
+    };
+    ExitCode::from(status as u8)
+}
+
+fn run() -> Status {
+    match arguments::parse(std::env::args_os().skip(1)) {
         Ok(Wanted::Help) => print(arguments::HELP.as_bytes()),
         Ok(Wanted::Version) => print(format!("img {}\n", img::VERSION).as_bytes()),
         Ok(Wanted::Check(files)) => worst(&files, check()),
@@ -34,8 +44,7 @@ fn main() -> ExitCode {
             say(&format!("img: {complaint}\nTry `img --help`.\n"));
             Status::Use
         }
-    };
-    ExitCode::from(status as u8)
+    }
 }
 
 /// The worst of what becomes of each file.

@@ -70,7 +70,7 @@ fn draws_sheets_and_drawings() {
     assert_eq!(fed(&folder, &["draw", "-"], DAY, 0).0, picture());
     let program = DAY.strip_prefix("20 20\n").unwrap();
     assert_eq!(fed(&folder, &["draw", "--size", "20", "20", "-"], program, 0).0, picture());
-    for name in ["day", "week", "stickman", "stickman-table"] {
+    for name in ["day", "day-procedures", "week", "stickman", "stickman-table", "stickman-procedures"] {
         let size = fs::read_to_string(examples(&format!("{name}.size"))).unwrap();
         let (width, height) = size.trim_end().split_once(' ').unwrap();
         let drawing = examples(&format!("{name}.img"));
@@ -148,12 +148,24 @@ fn grants_are_options() {
         (["--out-bytes", "212"], 1, "error[80]: the picture is longer than the place lent for it; it needs 213 bytes\n"),
         (["--out-bytes", "213"], 0, ""),
         (["--entries", "65536"], 1, "error[71]: "),
+        (["--calls", "1"], 0, ""),
+        (["--calls", "64"], 0, ""),
+        (["--calls", "0"], 1, "error[71]: "),
+        (["--calls", "65"], 1, "error[71]: "),
         (["--out-bytes", "18446744073709551615"], 0, ""),
     ] {
         let (printed, said) = run(&folder, &["draw", arguments[0], arguments[1], "day.sheet"], status);
         assert!(said.starts_with(begin), "{arguments:?}: {said}");
         assert_eq!(printed, if status == 0 { picture() } else { Vec::new() }, "{arguments:?}");
     }
+    // As many calls as are granted.
+    let procedures = examples("day-procedures.img");
+    let drawn = |calls: &str, status| {
+        let arguments = ["draw", "--size", "1080", "400", "--calls", calls, procedures.to_str().unwrap()];
+        run(&folder, &arguments, status)
+    };
+    assert!(drawn("2", 0).0 == fs::read(examples("day.svg")).unwrap());
+    assert!(drawn("1", 1).1.starts_with("error[81]: "));
     // A picture that is longer than what is lent at first.
     let long = Path::new(env!("CARGO_MANIFEST_DIR")).join("../examples/numbers/80.img");
     let (printed, _) = run(&folder, &["draw", "--size", "20", "20", "--out-bytes", "70000", long.to_str().unwrap()], 0);

@@ -18,6 +18,7 @@ enum {
     SHAPES = 1024,
     ENTRIES = 1024,
     TEXT_BYTES = 16384,
+    CALLS = 64,
     OUT_BYTES = 65536
 };
 
@@ -68,7 +69,7 @@ int main(int count, char **arguments)
 
     uint64_t answer[IMG_ANSWER];
     uint64_t number = img_draw(program, length, width, height,
-                               STEPS, SHAPES, ENTRIES, TEXT_BYTES,
+                               STEPS, SHAPES, ENTRIES, TEXT_BYTES, CALLS,
                                tokens, sizeof tokens / sizeof tokens[0],
                                code, sizeof code / sizeof code[0],
                                words, sizeof words / sizeof words[0],

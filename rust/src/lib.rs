@@ -43,8 +43,8 @@ struct Readme;
 
 /// The version of the library, its header, the programs and this crate.
 pub const VERSION: &str = env!("CARGO_PKG_VERSION");
-/// A call needs less stack than this many bytes.
-pub const STACK: usize = 98_304;
+/// An operation needs less stack than this many bytes for each call that is granted: [`Grants::stack`] tells how much that is.
+pub const STACK: usize = 81_920;
 /// The most bytes that a program may have.
 pub const MOST_PROGRAM: usize = 32_768;
 /// How many words the slice for tokens must have.
@@ -63,6 +63,8 @@ pub struct Grants {
     pub entries: u64,
     /// Bytes of joined strings, at most 65,535.
     pub text_bytes: u64,
+    /// Calls under way at once, from 1 to 64: main's is one, those of library procedures are none.
+    pub calls: u64,
 }
 
 impl Grants {
@@ -72,6 +74,7 @@ impl Grants {
         shapes: 1_024,
         entries: 1_024,
         text_bytes: 16_384,
+        calls: 64,
     };
 
     /// The most that can be granted.
@@ -80,6 +83,7 @@ impl Grants {
         shapes: 65_535,
         entries: 65_535,
         text_bytes: 65_535,
+        calls: 64,
     };
 
     /// How many words the slice for variables, arguments, shapes and entries must have. A count out of its range is taken as the largest in range, since
@@ -87,12 +91,21 @@ impl Grants {
     pub fn words(&self) -> usize {
         let shapes = self.shapes.min(Grants::MOST.shapes) as usize;
         let entries = self.entries.min(Grants::MOST.entries) as usize;
-        24_584 + 3 * shapes + 4 * entries
+        278_608 + 3 * shapes + 4 * entries
     }
 
     /// How many bytes the slice for joined strings must have, with a count out of its range as in [`Grants::words`].
     pub fn texts(&self) -> usize {
         self.text_bytes.min(Grants::MOST.text_bytes) as usize
+    }
+
+    /// How many bytes of stack an operation needs at most, with a count out of its range as in [`Grants::words`].
+    ///
+    /// A program that calls its own procedures in each other needs stack for each call under way. With all 64 that is more than the 2 MiB that
+    /// [`std::thread::spawn`] gives, though less than a main thread has on Linux. Who draws on other threads gives them this much and what they need
+    /// themselves, by [`std::thread::Builder::stack_size`], or grants fewer calls.
+    pub fn stack(&self) -> usize {
+        STACK * self.calls.clamp(1, Grants::MOST.calls) as usize
     }
 }
 
@@ -153,6 +166,7 @@ impl Workspace {
                 self.grants.shapes,
                 self.grants.entries,
                 self.grants.text_bytes,
+                self.grants.calls,
                 self.tokens.as_mut_ptr(),
                 self.tokens.len(),
                 self.code.as_mut_ptr(),
@@ -184,6 +198,7 @@ impl Workspace {
                 self.grants.shapes,
                 self.grants.entries,
                 self.grants.text_bytes,
+                self.grants.calls,
                 self.tokens.as_mut_ptr(),
                 self.tokens.len(),
                 self.code.as_mut_ptr(),

@@ -105,13 +105,27 @@ fn the_numbers_are_those_of_the_header() {
     for (name, number) in [
         ("IMG_TOKENS", TOKENS as u64),
         ("IMG_CODE", CODE as u64),
-        ("IMG_STACK", STACK as u64),
         ("IMG_MOST_PROGRAM", MOST_PROGRAM as u64),
         ("IMG_MOST_STEPS", most.steps),
         ("IMG_MOST_SHAPES", most.shapes),
         ("IMG_MOST_ENTRIES", most.entries),
         ("IMG_MOST_TEXT_BYTES", most.text_bytes),
+        ("IMG_MOST_CALLS", most.calls),
     ] {
         assert_eq!(defined(name), number.to_string(), "{name}");
     }
+    // Those that depend on what is granted, in the words of C.
+    let stack = format!("#define IMG_STACK(calls) ((size_t){STACK} * (size_t)(calls))\n");
+    assert!(header.contains(&stack), "{stack}");
+    assert_eq!(most.stack(), 64 * STACK);
+    let none = Grants {
+        shapes: 0,
+        entries: 0,
+        ..most
+    };
+    let words = format!(
+        "((size_t){} + (size_t)3 * (size_t)(shapes) + ",
+        none.words()
+    );
+    assert!(header.contains(&words), "{words}");
 }

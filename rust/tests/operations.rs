@@ -73,7 +73,7 @@ fn examples_of_numbers_get_them() {
     let names: Vec<&str> = found.iter().map(|e| e.name.as_str()).collect();
     assert_eq!(
         names.join(" "),
-        "10 20 30 40 50 60 70 72 73 74 75 76 77 78 79 80"
+        "10 20 30 40 50 60 70 72 73 74 75 76 77 78 79 80 81"
     );
     let mut workspace = Workspace::new(Grants::IMGDRAW);
     for e in found {
@@ -125,11 +125,11 @@ fn every_number_has_a_sentence() {
         };
         refusal.sentence()
     };
-    let mut sentences: Vec<&str> = (10..=70).step_by(10).chain(71..=80).map(sentence).collect();
+    let mut sentences: Vec<&str> = (10..=70).step_by(10).chain(71..=81).map(sentence).collect();
     assert!(sentences.iter().all(|s| *s != sentence(0)));
     sentences.sort_unstable();
     sentences.dedup();
-    assert_eq!(sentences.len(), 17);
+    assert_eq!(sentences.len(), 18);
 }
 
 #[test]
@@ -183,6 +183,8 @@ fn counts_out_of_their_ranges_are_71() {
             text_bytes: u64::MAX,
             ..most
         },
+        Grants { calls: 0, ..most },
+        Grants { calls: 65, ..most },
     ] {
         let mut workspace = Workspace::new(grants);
         let mut out = [7; 10];
@@ -210,11 +212,27 @@ fn all_and_nothing_can_be_granted() {
         shapes: 0,
         entries: 0,
         text_bytes: 0,
+        // Main is a call.
+        calls: 1,
     };
     let mut none = Workspace::new(nothing);
     assert_eq!(none.length(DAY, 20, 20).unwrap_err().number, 79);
     assert_eq!(none.length(b"", 20, 20).unwrap_err().number, 10);
     assert_eq!(none.check(b"").unwrap_err().place, 0);
+}
+
+#[test]
+fn calls_are_granted() {
+    let program = b"def f(n){if(n>0)return f(n-1);return n;}def main(w,h){f(5);}";
+    for (calls, number) in [(1, 81), (6, 81), (7, 0), (64, 0)] {
+        let mut workspace = Workspace::new(Grants {
+            calls,
+            ..Grants::IMGDRAW
+        });
+        let told = workspace.length(program, 20, 20);
+        assert_eq!(told.map_or_else(|r| r.number, |_| 0), number, "{calls}");
+        assert_eq!(workspace.check(program), Ok(()));
+    }
 }
 
 #[test]

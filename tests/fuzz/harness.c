@@ -1,6 +1,6 @@
 /* One call of the library, chosen by an input, and all that can be asked of it without another interpreter. A failure aborts.
  *
- * The first 26 bytes of an input choose the call, missing ones being 0, and the rest is the program. Numbers have their low byte first.
+ * The first 27 bytes of an input choose the call, missing ones being 0, and the rest is the program. Numbers have their low byte first.
  *
  *    0      operation: 0 checking, 1 drawing (modulo 2)
  *    1      lengths of tokens, code, words and texts, two bits each from the low end: 1 is one element short, 2 is five longer, else as needed
@@ -10,6 +10,7 @@
  *    12     steps, 4 bytes, at most 250,000
  *    16     shapes, entries and text bytes, 2 bytes each
  *    22     length of the out slice, 4 bytes, at most 262,144
+ *    26     calls, modulo 66, so that 0 and 65 lie out of their range
  *
  * Every slice ends where a page begins that nothing may touch, and has a page like it before the largest that it can be. Compiled with -DMEMCHECK and run under
  * valgrind, what slices hold before a call counts as undefined, so that valgrind tells if anything depends on it.
@@ -34,7 +35,7 @@
 
 #include "../../include/img.h"
 
-enum { HEAD = 26, LONGER = 5, MOST_STEPS = 250000, MOST_OUT = 262144, MOST_PROGRAM = 65536, PROGRAM_BYTES = 32768 };
+enum { HEAD = 27, LONGER = 5, MOST_STEPS = 250000, MOST_OUT = 262144, MOST_PROGRAM = 65536, PROGRAM_BYTES = 32768 };
 enum { CHECKING, DRAWING };
 
 /* A stretch of memory between two pages that nothing may touch. */
@@ -81,7 +82,7 @@ static void make_regions(void) {
     programs = region(MOST_PROGRAM);
     tokens_at = region((8193 + LONGER) * 8);
     code_at = region((16384 + LONGER) * 8);
-    words_at = region((24584 + 3 * 131071 + 4 * 131071 + LONGER) * 8);
+    words_at = region((278608 + 3 * 131071 + 4 * 131071 + LONGER) * 8);
     texts_at = region(131071 + LONGER);
     outs = region(MOST_OUT);
     answers = region(32);
@@ -214,6 +215,7 @@ static void one(const uint8_t *input, size_t input_length) {
     uint64_t entries = number_at(18, 2) + ((beyond >> 2 & 1) << 16);
     uint64_t bytes = number_at(20, 2) + ((beyond >> 3 & 1) << 16);
     size_t out_length = (size_t)least(number_at(22, 4), MOST_OUT);
+    uint64_t calls = number_at(26, 1) % 66;
 
     size_t program_length = input_length > HEAD ? (size_t)least(input_length - HEAD, MOST_PROGRAM) : 0;
     struct Slice program = slice(programs, program_length, 0);
@@ -221,7 +223,7 @@ static void one(const uint8_t *input, size_t input_length) {
         memcpy(program.bytes, input + HEAD, program_length);
     }
 
-    size_t need[4] = {8193, 16384, 24584 + 3 * shapes + 4 * entries, bytes};
+    size_t need[4] = {8193, 16384, 278608 + 3 * shapes + 4 * entries, bytes};
     size_t lent[4];
     int is_short[4];
     for (int i = 0; i < 4; i++) {
@@ -248,10 +250,10 @@ static void one(const uint8_t *input, size_t input_length) {
     uint64_t returned;
     if (operation == CHECKING) {
         returned =
-            img_check(program.bytes, program_length, steps, shapes, entries, bytes, t, lent[0], c, lent[1], answer, 4);
+            img_check(program.bytes, program_length, steps, shapes, entries, bytes, calls, t, lent[0], c, lent[1], answer, 4);
     } else {
-        returned = img_draw(program.bytes, program_length, width, height, steps, shapes, entries, bytes, t, lent[0], c,
-                            lent[1], w, lent[2], texts.bytes, lent[3], out.bytes, out_length, answer, 4);
+        returned = img_draw(program.bytes, program_length, width, height, steps, shapes, entries, bytes, calls, t, lent[0],
+                            c, lent[1], w, lent[2], texts.bytes, lent[3], out.bytes, out_length, answer, 4);
     }
 
     ask(IS_KNOWN(answer, 32), "the answer depends on nothing that slices held");
@@ -260,7 +262,7 @@ static void one(const uint8_t *input, size_t input_length) {
     uint64_t place = answer[1];
     uint64_t length = answer[3];
     int runs = operation == DRAWING;
-    int refused = beyond || is_short[0] || is_short[1] || (runs && (is_short[2] || is_short[3]));
+    int refused = beyond || calls < 1 || calls > 64 || is_short[0] || is_short[1] || (runs && (is_short[2] || is_short[3]));
     int no_sheet = runs && (width < 1 || height < 1);
 
     /* The program is only read. */
@@ -283,9 +285,11 @@ static void one(const uint8_t *input, size_t input_length) {
 
     /* The answer. */
     static const uint64_t reading[] = {10, 74, 75};
-    static const uint64_t running[] = {20, 30, 40, 50, 60, 70, 76, 77, 78, 79};
-    int read = in(number, reading, 3);
-    int ran = in(number, running, 10);
+    static const uint64_t running[] = {20, 30, 40, 50, 60, 70, 76, 77, 78, 79, 81};
+    /* A name that is defined twice. Main's own 60 is at 0, where a `def` stands too unless white space does. */
+    int twice = number == 60 && answer[2] == 0 && place + 3 < program_length && memcmp(program.bytes + place, "def", 3) == 0;
+    int read = in(number, reading, 3) || twice;
+    int ran = in(number, running, 11) && !twice;
     ask(number == 0 || (number >= 71 && number <= 73) || read || (runs && (ran || number == 80)), "a number of the table");
     ask(answer[2] <= steps || !runs, "no more steps than were granted");
     ask(number != 79 || answer[2] == steps, "79 once all steps are used");

@@ -59,13 +59,7 @@ fn answer(stores: &mut Stores, program: &[u8], width: i32, height: i32, out: &mu
         Ok(main) => main,
         Err(refusal) => return Answer::refused(refusal.number.into(), refusal.place),
     };
-    if main.parameters != 2 {
-        return Answer::refused(20, 0);
-    }
-    if main.first == main.second {
-        return Answer::refused(60, 0);
-    }
-    let end = run::run(stores, program, &main, width, height);
+    let end = run::run(stores, program, main, width, height);
     if end.number != 0 {
         return Answer {
             number: end.number,

@@ -33,7 +33,7 @@ const TEXT: [&[u8]; 4] = [b"<text x=\"", b"\" y=\"", b"\">", b"</text>\n"];
 /// The shapes that variables hold undestroyed, in the order of declaration.
 fn shown(stores: &Stores, declared: usize) -> impl Iterator<Item = &Shape> {
     let slots = stores.order[..declared].iter();
-    slots.filter_map(|slot| match stores.variables[usize::from(*slot)] {
+    slots.filter_map(|slot| match stores.stack[usize::from(*slot)] {
         Value::Shape(i) => Some(&stores.shapes[usize::from(i)]).filter(|shape| !shape.destroyed),
         _ => None,
     })

@@ -1,8 +1,9 @@
-//! The reader: tokens, then the tree. Variables become slots.
+//! The reader: tokens, then the tree. Names become numbers, and the variables of a procedure slots of its own.
 
 use crate::stores::{boxed, Stores, TOKENS};
 use crate::token::{self, Kind, Token};
-use crate::tree::{Action, Expression, Link, Main, Operator, Procedure, Statement, Tree, NO_LINK};
+use crate::tree::{Action, Definition, Expression, Link, Operator, Procedure};
+use crate::tree::{Statement, Tree, NO_LINK};
 use crate::value::{Text, Value};
 
 const LEVELS: u32 = 64;
@@ -14,30 +15,34 @@ pub struct Refusal {
     pub place: usize,
 }
 
-/// The names that have slots, by a hash.
+/// The names, by a hash.
 pub struct Index {
-    /// One more than the slot of a bucket's name.
-    slots: Box<[u16; BUCKETS]>,
-    /// The token of each slot's name.
+    /// One more than the number of a bucket's name.
+    numbers: Box<[u16; BUCKETS]>,
+    /// The token of each name.
     names: Box<[u16; TOKENS]>,
+    /// The procedure, counted from 1, that declared a name last, and its slot there.
+    slots: Box<[(u16, u16); TOKENS]>,
 }
 
 impl Index {
     pub fn new() -> Index {
         Index {
-            slots: boxed(0),
+            numbers: boxed(0),
             names: boxed(0),
+            slots: boxed((0, 0)),
         }
     }
 
     pub fn clear(&mut self) {
-        self.slots.fill(0);
+        self.numbers.fill(0);
         self.names.fill(0);
+        self.slots.fill((0, 0));
     }
 }
 
-/// Reads a program into the tree.
-pub fn read(stores: &mut Stores, program: &[u8]) -> Result<Main, Refusal> {
+/// Reads a program into the tree, and tells which procedure is main.
+pub fn read(stores: &mut Stores, program: &[u8]) -> Result<usize, Refusal> {
     let count = tokens(&mut stores.tokens, program)?;
     if count > TOKENS {
         return Err(Refusal {
@@ -46,14 +51,18 @@ pub fn read(stores: &mut Stores, program: &[u8]) -> Result<Main, Refusal> {
         });
     }
     stores.tokens[count] = Token::default();
-    stores.index.slots.fill(0);
+    stores.index.numbers.fill(0);
+    stores.index.slots.fill((0, 0));
+    stores.tree.defined.fill(0);
     let reader = Reader {
         program,
         tokens: &stores.tokens,
         next: 0,
         level: 0,
         index: &mut stores.index,
-        slots: 0,
+        names: 0,
+        definitions: 0,
+        variables: 0,
         tree: &mut stores.tree,
         expressions: 0,
         statements: 0,
@@ -95,7 +104,12 @@ struct Reader<'a> {
     next: usize,
     level: u32,
     index: &'a mut Index,
-    slots: u16,
+    /// How many names there are.
+    names: u16,
+    /// How many procedures, the one that is read among them.
+    definitions: u16,
+    /// How many variables that one declares.
+    variables: u16,
     tree: &'a mut Tree,
     expressions: usize,
     statements: usize,
@@ -163,34 +177,50 @@ impl Reader<'_> {
         Ok(())
     }
 
-    /// A name's slot.
+    /// A name's number.
     fn name(&mut self) -> Result<u16, Refusal> {
         if self.kind() != Kind::Name {
             return self.refusal(10);
         }
-        let slot = self.slot(self.next);
+        let name = self.number(self.next);
         self.next += 1;
-        Ok(slot)
+        Ok(name)
     }
 
-    /// The slot of the name that a token is.
-    fn slot(&mut self, token: usize) -> u16 {
+    /// The slot of a name in this procedure, if it declares it.
+    fn slot(&self, name: u16) -> Option<u16> {
+        let (definition, slot) = self.index.slots[usize::from(name)];
+        (definition == self.definitions).then_some(slot)
+    }
+
+    /// Gives a name a slot in this procedure; false if it has one.
+    fn declare(&mut self, name: u16) -> bool {
+        let fresh = self.slot(name).is_none();
+        if fresh {
+            self.index.slots[usize::from(name)] = (self.definitions, self.variables);
+            self.variables += 1;
+        }
+        fresh
+    }
+
+    /// The number of the name that a token is.
+    fn number(&mut self, token: usize) -> u16 {
         let bytes = self.tokens[token].bytes(self.program);
         let hash = bytes.iter().fold(0, |hash: u32, b| {
             hash.wrapping_mul(31).wrapping_add(u32::from(*b))
         });
         let mut bucket = (hash.wrapping_mul(0x9e37_79b9) >> 18) as usize;
         loop {
-            let slot = self.index.slots[bucket];
-            if slot == 0 {
-                self.index.names[usize::from(self.slots)] = token as u16;
-                self.slots += 1;
-                self.index.slots[bucket] = self.slots;
-                return self.slots - 1;
+            let number = self.index.numbers[bucket];
+            if number == 0 {
+                self.index.names[usize::from(self.names)] = token as u16;
+                self.names += 1;
+                self.index.numbers[bucket] = self.names;
+                return self.names - 1;
             }
-            let home = self.index.names[usize::from(slot) - 1];
+            let home = self.index.names[usize::from(number) - 1];
             if self.tokens[usize::from(home)].bytes(self.program) == bytes {
-                return slot - 1;
+                return number - 1;
             }
             bucket = (bucket + 1) % BUCKETS;
         }
@@ -204,28 +234,52 @@ impl Reader<'_> {
         at as Link
     }
 
-    fn program(mut self) -> Result<Main, Refusal> {
-        self.expect(Kind::Def)?;
-        if self.token().bytes(self.program) != b"main" {
-            return self.refusal(10);
+    /// Procedures up to the end. One of them is main; no name is another's or the library's.
+    fn program(mut self) -> Result<usize, Refusal> {
+        let mut main = None;
+        let mut doubled = None;
+        loop {
+            let place = self.token().place;
+            self.expect(Kind::Def)?;
+            let token = self.next;
+            let name = self.name()?;
+            let number = usize::from(self.definitions);
+            let procedure = Procedure::named(self.tokens[token].bytes(self.program), name);
+            let taken = match procedure {
+                Procedure::Main => main.replace(main.unwrap_or(number)).is_some(),
+                Procedure::Other(_) => self.tree.defined[usize::from(name)] != 0,
+                _ => true,
+            };
+            if taken {
+                doubled = doubled.or(Some(place));
+            }
+            self.tree.defined[usize::from(name)] = number as u16 + 1;
+            self.tree.definitions[number] = self.definition()?;
+            if self.kind() == Kind::End {
+                break;
+            }
         }
-        self.next += 1;
+        match (main, doubled) {
+            (None, _) => self.refusal(10),
+            (_, Some(place)) => Err(Refusal {
+                number: 60,
+                place: place.into(),
+            }),
+            (Some(main), None) => Ok(main),
+        }
+    }
+
+    /// A procedure behind its name.
+    fn definition(&mut self) -> Result<Definition, Refusal> {
+        self.definitions += 1;
+        self.variables = 0;
+        let mut read = Definition::default();
         self.expect(Kind::OpenParen)?;
-        let mut main = Main {
-            parameters: 0,
-            first: 0,
-            second: 0,
-            body: 0,
-        };
         if !self.accept(Kind::CloseParen) {
             loop {
-                let slot = self.name()?;
-                match main.parameters {
-                    0 => main.first = slot,
-                    1 => main.second = slot,
-                    _ => {}
-                }
-                main.parameters += 1;
+                let name = self.name()?;
+                read.alike |= !self.declare(name);
+                read.parameters += 1;
                 if !self.accept(Kind::Comma) {
                     break;
                 }
@@ -233,12 +287,30 @@ impl Reader<'_> {
             self.expect(Kind::CloseParen)?;
         }
         self.expect(Kind::OpenBrace)?;
-        main.body = self.body()?;
+        self.declare_ahead();
+        read.body = self.body()?;
         self.expect(Kind::CloseBrace)?;
-        if self.kind() != Kind::End {
-            return self.refusal(10);
+        read.variables = self.variables;
+        Ok(read)
+    }
+
+    /// Slots for the names that the body declares anywhere.
+    fn declare_ahead(&mut self) {
+        let mut at = self.next;
+        let mut depth = 1;
+        while depth > 0 {
+            match self.tokens[at].kind {
+                Kind::OpenBrace => depth += 1,
+                Kind::CloseBrace => depth -= 1,
+                Kind::Var if self.tokens[at + 1].kind == Kind::Name => {
+                    let name = self.number(at + 1);
+                    self.declare(name);
+                }
+                Kind::End => return,
+                _ => {}
+            }
+            at += 1;
         }
-        Ok(main)
     }
 
     /// One or more statements, up to a closing brace.
@@ -258,9 +330,10 @@ impl Reader<'_> {
         let action = match self.kind() {
             Kind::Var => {
                 self.next += 1;
-                let slot = self.name()?;
+                let name = self.name()?;
                 self.expect(Kind::Semicolon)?;
-                Action::Declare(slot)
+                // It was declared ahead.
+                Action::Declare(self.slot(name).unwrap_or(0))
             }
             Kind::If => {
                 let (test, body) = self.test_and_body()?;
@@ -315,6 +388,7 @@ impl Reader<'_> {
             let value = self.expression()?;
             match self.tree.expressions[usize::from(first)] {
                 Expression::Variable(slot) => Action::Assign(slot, value),
+                Expression::Undeclared => Action::AssignUndeclared(value),
                 Expression::Read(table, key) => Action::Update(table, key, value),
                 _ => return self.refusal(10),
             }
@@ -409,8 +483,12 @@ impl Reader<'_> {
         let token = self.next;
         self.next += 1;
         if self.kind() != Kind::OpenParen {
-            let slot = self.slot(token);
-            return Ok((self.add(Expression::Variable(slot)), Form::Name));
+            let name = self.number(token);
+            let variable = match self.slot(name) {
+                Some(slot) => Expression::Variable(slot),
+                None => Expression::Undeclared,
+            };
+            return Ok((self.add(variable), Form::Name));
         }
         self.open(Kind::OpenParen)?;
         let mut first = NO_LINK;
@@ -424,7 +502,8 @@ impl Reader<'_> {
             }
         }
         self.close(Kind::CloseParen)?;
-        let procedure = Procedure::named(self.tokens[token].bytes(self.program));
+        let name = self.number(token);
+        let procedure = Procedure::named(self.tokens[token].bytes(self.program), name);
         Ok((self.add(Expression::Call(procedure, first)), Form::Other))
     }
 }

@@ -1,9 +1,10 @@
 //! The run: a walk over the tree.
 
 use crate::shape::{Kind, Shape};
-use crate::stores::{Stores, TOKENS};
+use crate::stores::{Stores, STACK, TOKENS};
 use crate::table::{Entry, Keys};
-use crate::tree::{Action, Expression, Link, Main, Operator, Procedure, Tree, NODES, NO_LINK};
+use crate::tree::{Action, Expression, Link, Operator, Procedure, Tree};
+use crate::tree::{DEFINITIONS, NODES, NO_LINK};
 use crate::value::{calculate, Stop, Text, Value};
 
 /// How a run ended: the number is 0 if it came to its end.
@@ -14,7 +15,17 @@ pub struct End {
     pub declared: usize,
 }
 
-/// Whether the next statement follows, or the run is over.
+/// As many calls as can be under way.
+const CALLS: usize = 64;
+
+/// Where the variables of a call stand.
+#[derive(Clone, Copy, Default)]
+struct Frame {
+    base: u32,
+    variables: u32,
+}
+
+/// Whether the next statement follows, or the call is over.
 #[derive(Clone, Copy, PartialEq, Eq)]
 enum Flow {
     Next,
@@ -26,14 +37,21 @@ struct Run<'a> {
     steps: u64,
     granted: u64,
     tree: &'a Tree,
-    variables: &'a mut [Value; TOKENS],
+    /// Variables and waiting arguments of the calls under way.
+    stack: &'a mut [Value; STACK],
+    /// Where the variables of the innermost call begin.
+    base: usize,
+    top: usize,
+    frames: [Frame; CALLS],
+    calls: usize,
+    calls_granted: usize,
+    /// What the last return handed back.
+    returned: Value,
     /// The first byte of the innermost statement under way.
     place: u16,
     program: &'a [u8],
     order: &'a mut [u16; TOKENS],
     declared: usize,
-    arguments: &'a mut [Value; TOKENS],
-    held: usize,
     shapes: &'a mut [Shape],
     shapes_used: usize,
     tables: u32,
@@ -44,20 +62,24 @@ struct Run<'a> {
     texts_used: usize,
 }
 
-/// Runs a program that has been read and has two parameters.
-pub fn run(stores: &mut Stores, program: &[u8], main: &Main, width: i32, height: i32) -> End {
+/// Runs a program that has been read.
+pub fn run(stores: &mut Stores, program: &[u8], main: usize, width: i32, height: i32) -> End {
     stores.prepare();
     let mut run = Run {
         steps: 0,
         granted: stores.steps,
         tree: &stores.tree,
-        variables: &mut stores.variables,
+        stack: &mut stores.stack,
+        base: 0,
+        top: 2,
+        frames: [Frame::default(); CALLS],
+        calls: 0,
+        calls_granted: stores.calls,
+        returned: Value::Nothing,
         place: 0,
         program,
         order: &mut stores.order,
         declared: 0,
-        arguments: &mut stores.arguments,
-        held: 0,
         shapes: &mut stores.shapes,
         shapes_used: 0,
         tables: 0,
@@ -67,9 +89,11 @@ pub fn run(stores: &mut Stores, program: &[u8], main: &Main, width: i32, height:
         texts: &mut stores.texts,
         texts_used: 0,
     };
-    run.bind(main.first, Value::Integer(width));
-    run.bind(main.second, Value::Integer(height));
-    let (number, place) = match run.sequence(main.body) {
+    run.stack[0] = Value::Integer(width);
+    run.stack[1] = Value::Integer(height);
+    run.order[1] = 1;
+    run.declared = 2;
+    let (number, place) = match run.invoke(main, 0) {
         Ok(_) => (0, 0),
         Err(Stop(number)) => (number.into(), run.place.into()),
     };
@@ -91,10 +115,71 @@ impl Run<'_> {
         Ok(())
     }
 
-    fn bind(&mut self, slot: u16, value: Value) {
-        self.variables[usize::from(slot) % TOKENS] = value;
-        self.order[self.declared % TOKENS] = slot;
-        self.declared += 1;
+    /// Where a variable of the innermost call stands.
+    #[inline(always)]
+    fn at(&self, slot: u16) -> usize {
+        (self.base + usize::from(slot)) % STACK
+    }
+
+    fn declare(&mut self, slot: u16) -> Result<(), Stop> {
+        let at = self.at(slot);
+        if !matches!(self.stack[at], Value::Undeclared) {
+            return Err(Stop(60));
+        }
+        self.stack[at] = Value::Nothing;
+        if self.base == 0 {
+            self.order[self.declared % TOKENS] = slot;
+            self.declared += 1;
+        }
+        Ok(())
+    }
+
+    /// A call of a procedure of the program, main among them, whose arguments stand from a place of the stack on: they become its first variables.
+    #[inline(never)]
+    fn invoke(&mut self, definition: usize, from: usize) -> Result<Value, Stop> {
+        let callee = self.tree.definitions[definition % DEFINITIONS];
+        if self.top - from != usize::from(callee.parameters) {
+            return Err(Stop(20));
+        }
+        if callee.alike {
+            return Err(Stop(60));
+        }
+        if self.calls >= self.calls_granted {
+            return Err(Stop(81));
+        }
+        self.frames[self.calls % CALLS] = Frame {
+            base: from as u32,
+            variables: callee.variables.into(),
+        };
+        self.calls += 1;
+        for at in from..self.top {
+            if let Value::Shape(i) = self.stack[at % STACK] {
+                self.stack[at % STACK] = self.copy(i)?;
+            }
+        }
+        let end = from + usize::from(callee.variables);
+        self.stack[self.top..end].fill(Value::Undeclared);
+        let (base, place) = (self.base, self.place);
+        self.base = from;
+        self.top = end;
+        let flow = self.sequence(callee.body)?;
+        self.base = base;
+        self.place = place;
+        self.calls -= 1;
+        Ok(match flow {
+            Flow::Next => Value::Nothing,
+            Flow::Return => self.returned,
+        })
+    }
+
+    /// A copy of a shape, which must not be destroyed.
+    #[inline(always)]
+    fn copy(&mut self, i: u16) -> Result<Value, Stop> {
+        let shape = self.shapes[usize::from(i)];
+        if shape.destroyed {
+            return Err(Stop(30));
+        }
+        self.new_shape(shape)
     }
 
     fn sequence(&mut self, first: Link) -> Result<Flow, Stop> {
@@ -137,18 +222,14 @@ impl Run<'_> {
             Action::Evaluate(value) => {
                 self.evaluate(value)?;
             }
-            Action::Declare(slot) => {
-                if !matches!(
-                    self.variables[usize::from(slot) % TOKENS],
-                    Value::Undeclared
-                ) {
-                    return Err(Stop(60));
-                }
-                self.bind(slot, Value::Nothing);
-            }
+            Action::Declare(slot) => self.declare(slot)?,
             Action::Return(value) => {
-                self.evaluate(value)?;
+                self.returned = self.evaluate(value)?;
                 return Ok(Flow::Return);
+            }
+            Action::AssignUndeclared(value) => {
+                self.evaluate(value)?;
+                return Err(Stop(50));
             }
         }
         Ok(Flow::Next)
@@ -165,15 +246,12 @@ impl Run<'_> {
     /// Assigns to a variable; a shape is copied.
     #[inline(always)]
     fn assign(&mut self, slot: u16, value: Value) -> Result<(), Stop> {
-        let slot = usize::from(slot) % TOKENS;
-        if let Value::Undeclared = self.variables[slot] {
+        let at = self.at(slot);
+        if let Value::Undeclared = self.stack[at] {
             return Err(Stop(50));
         }
-        self.variables[slot] = match value {
-            Value::Shape(i) => {
-                let copy = self.shapes[usize::from(i)];
-                self.new_shape(copy)?
-            }
+        self.stack[at] = match value {
+            Value::Shape(i) => self.copy(i)?,
             other => other,
         };
         Ok(())
@@ -249,7 +327,7 @@ impl Run<'_> {
 
     #[inline(always)]
     fn variable(&self, slot: u16) -> Result<Value, Stop> {
-        match self.variables[usize::from(slot) % TOKENS] {
+        match self.stack[self.at(slot)] {
             Value::Undeclared => Err(Stop(50)),
             Value::Shape(i) => self.usable(Value::Shape(i)),
             value => Ok(value),
@@ -261,6 +339,7 @@ impl Run<'_> {
         match self.tree.expressions[usize::from(at) % NODES] {
             Expression::Constant(value) => Ok(value),
             Expression::Variable(slot) => self.variable(slot),
+            Expression::Undeclared => Err(Stop(50)),
             Expression::Operate(operator, left, right) => {
                 let left = self.operand(left)?;
                 let right = self.operand(right)?;
@@ -373,25 +452,29 @@ impl Run<'_> {
 
     #[inline(never)]
     fn call(&mut self, procedure: Procedure, first: Link) -> Result<Value, Stop> {
-        let base = self.held;
+        let base = self.top;
         let mut next = first;
         while next != NO_LINK {
             let value = self.operand(next)?;
-            self.arguments[self.held % TOKENS] = value;
-            self.held += 1;
+            self.stack[self.top % STACK] = value;
+            self.top += 1;
             next = self.tree.siblings[usize::from(next) % NODES];
         }
-        let result = self.perform(procedure, base)?;
-        self.held = base;
+        let result = match procedure {
+            Procedure::Other(name) => match self.tree.defined[usize::from(name) % NODES] {
+                0 => Err(Stop(20)),
+                definition => self.invoke(usize::from(definition) - 1, base),
+            },
+            Procedure::Main => Err(Stop(20)),
+            library => self.perform(library, base),
+        }?;
+        self.top = base;
         Ok(result)
     }
 
-    /// A procedure on the arguments from the one numbered base on.
+    /// A library procedure on the arguments from a place of the stack on.
     fn perform(&mut self, procedure: Procedure, base: usize) -> Result<Value, Stop> {
-        if procedure == Procedure::Unknown {
-            return Err(Stop(20));
-        }
-        let arguments = &self.arguments[base..self.held];
+        let arguments = &self.stack[base..self.top];
         for value in arguments {
             self.usable(*value)?;
         }
@@ -430,9 +513,12 @@ impl Run<'_> {
                 Ok(Value::Nothing)
             }
             (Procedure::ClearScene, []) => {
-                for slot in &self.order[..self.declared] {
-                    if let Value::Shape(i) = self.variables[usize::from(*slot) % TOKENS] {
-                        self.shapes[usize::from(i)].destroyed = true;
+                for frame in &self.frames[..self.calls] {
+                    let base = frame.base as usize;
+                    for value in &self.stack[base..base + frame.variables as usize] {
+                        if let Value::Shape(i) = value {
+                            self.shapes[usize::from(*i)].destroyed = true;
+                        }
                     }
                 }
                 Ok(Value::Nothing)

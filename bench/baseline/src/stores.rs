@@ -4,11 +4,15 @@ use crate::read::Index;
 use crate::shape::Shape;
 use crate::table::Entry;
 use crate::token::Token;
-use crate::tree::{Expression, Statement, Tree, NODES};
+use crate::tree::{Definition, Expression, Statement, Tree, NODES};
 use crate::value::Value;
 
 /// As many tokens as a program may have.
 pub const TOKENS: usize = 8_192;
+
+/// As many variables and waiting arguments as 64 calls can have. A variable has two tokens of its procedure or more, an argument two more, so each
+/// call has at most 4,096 of them.
+pub const STACK: usize = 262_144;
 
 /// What a drawing may take.
 #[derive(Clone, Copy, Debug)]
@@ -17,16 +21,19 @@ pub struct Grants {
     pub shapes: u64,
     pub entries: u64,
     pub text_bytes: u64,
+    pub calls: u64,
 }
 
 pub struct Stores {
     pub(crate) steps: u64,
+    pub(crate) calls: usize,
     pub(crate) tokens: Box<[Token; TOKENS + 1]>,
     pub(crate) index: Index,
     pub(crate) tree: Tree,
-    pub(crate) variables: Box<[Value; TOKENS]>,
+    /// Variables and waiting arguments of the calls under way, main's first.
+    pub(crate) stack: Box<[Value; STACK]>,
+    /// Main's variables in the order of their declarations.
     pub(crate) order: Box<[u16; TOKENS]>,
-    pub(crate) arguments: Box<[Value; TOKENS]>,
     pub(crate) shapes: Box<[Shape]>,
     pub(crate) entries: Box<[Entry]>,
     /// For each bucket, one more than the entry that was added last.
@@ -39,18 +46,21 @@ impl Stores {
     pub fn new(grants: Grants) -> Stores {
         let largest = grants.shapes.max(grants.entries).max(grants.text_bytes);
         assert!(grants.steps <= u64::from(u32::MAX) && largest <= u64::from(u16::MAX));
+        assert!((1..=64).contains(&grants.calls));
         Stores {
             steps: grants.steps,
+            calls: grants.calls as usize,
             tokens: boxed(Token::default()),
             index: Index::new(),
             tree: Tree {
                 expressions: boxed(Expression::EMPTY),
                 siblings: boxed(0),
                 statements: boxed(Statement::EMPTY),
+                definitions: boxed(Definition::default()),
+                defined: boxed(0),
             },
-            variables: boxed(Value::Undeclared),
+            stack: boxed(Value::Undeclared),
             order: boxed(0),
-            arguments: boxed(Value::Undeclared),
             shapes: vec![Shape::default(); grants.shapes as usize].into(),
             entries: vec![Entry::default(); grants.entries as usize].into(),
             heads: vec![0; grants.entries as usize].into(),
@@ -60,7 +70,6 @@ impl Stores {
 
     /// Clears what a run expects to be clear.
     pub(crate) fn prepare(&mut self) {
-        self.variables.fill(Value::Undeclared);
         self.heads.fill(0);
     }
 
@@ -71,9 +80,10 @@ impl Stores {
         self.tree.expressions.fill(Expression::EMPTY);
         self.tree.siblings.fill(0);
         self.tree.statements.fill(Statement::EMPTY);
-        self.variables.fill(Value::Undeclared);
+        self.tree.definitions.fill(Definition::default());
+        self.tree.defined.fill(0);
+        self.stack.fill(Value::Undeclared);
         self.order.fill(0);
-        self.arguments.fill(Value::Undeclared);
         self.shapes.fill(Shape::default());
         self.entries.fill(Entry::default());
         self.heads.fill(0);

@@ -15,6 +15,8 @@ pub const NO_LINK: Link = u16::MAX;
 pub enum Expression {
     Constant(Value),
     Variable(u16),
+    /// A name that its procedure declares nowhere.
+    Undeclared,
     Create(Link),
     Read(Link, Link),
     Operate(Operator, Link, Link),
@@ -34,6 +36,8 @@ pub struct Statement {
 pub enum Action {
     Declare(u16),
     Assign(u16, Link),
+    /// To a name that its procedure declares nowhere.
+    AssignUndeclared(Link),
     Update(Link, Link, Link),
     If(Link, Link),
     While(Link, Link),
@@ -70,12 +74,15 @@ pub enum Procedure {
     YCoordinate,
     Destroy,
     ClearScene,
-    Unknown,
+    Main,
+    /// Any other name, by its number: that of a procedure of the program, or of none.
+    Other(u16),
 }
 
 impl Procedure {
-    pub fn named(name: &[u8]) -> Procedure {
-        match name {
+    /// What a spelling names; `name` is its number.
+    pub fn named(spelling: &[u8], name: u16) -> Procedure {
+        match spelling {
             b"drawLine" => Procedure::DrawLine,
             b"drawEllipse" => Procedure::DrawEllipse,
             b"drawBox" => Procedure::DrawBox,
@@ -86,16 +93,23 @@ impl Procedure {
             b"getShapeYCoordinate" => Procedure::YCoordinate,
             b"destroyShape" => Procedure::Destroy,
             b"clearScene" => Procedure::ClearScene,
-            _ => Procedure::Unknown,
+            b"main" => Procedure::Main,
+            _ => Procedure::Other(name),
         }
     }
 }
 
-/// Where main's parts are.
-pub struct Main {
-    pub parameters: usize,
-    pub first: u16,
-    pub second: u16,
+/// As many procedures as a program can have: each has 8 tokens or more.
+pub const DEFINITIONS: usize = 1_024;
+
+/// A procedure of the program.
+#[derive(Clone, Copy, Default)]
+pub struct Definition {
+    pub parameters: u16,
+    /// Whether two parameters have one name.
+    pub alike: bool,
+    /// How many variables it declares, its parameters among them.
+    pub variables: u16,
     pub body: Link,
 }
 
@@ -104,6 +118,9 @@ pub struct Tree {
     /// The argument behind an argument.
     pub siblings: Box<[Link; NODES]>,
     pub statements: Box<[Statement; NODES]>,
+    pub definitions: Box<[Definition; DEFINITIONS]>,
+    /// For each name, one more than the procedure that it names.
+    pub defined: Box<[u16; NODES]>,
 }
 
 impl Expression {

@@ -4,6 +4,15 @@ use baseline::{draw, Grants, Stores};
 use generator::Case;
 use reference::Answer;
 
+/// Does something with stack enough for 64 calls of 64 levels each.
+fn on_a_large_stack<T: Send>(work: impl FnOnce() -> T + Send) -> T {
+    std::thread::scope(|scope| {
+        let thread = std::thread::Builder::new().stack_size(64 << 20);
+        let thread = thread.spawn_scoped(scope, work).expect("a thread");
+        thread.join().expect("an answer")
+    })
+}
+
 /// What is wrong with the baseline's drawing of a case, if anything is.
 fn misfit(case: &Case) -> Option<String> {
     let reference::Grants {
@@ -11,17 +20,19 @@ fn misfit(case: &Case) -> Option<String> {
         shapes,
         entries,
         text_bytes,
+        calls,
     } = case.grants;
     let mut stores = Stores::new(Grants {
         steps,
         shapes,
         entries,
         text_bytes,
+        calls,
     });
     let out_length = case.out_length.min(1 << 22);
     let mut out = vec![7; out_length as usize];
     let (program, width, height) = (&case.program, case.width, case.height);
-    let found = draw(&mut stores, program, width, height, &mut out);
+    let found = on_a_large_stack(|| draw(&mut stores, program, width, height, &mut out));
     let found = [found.number, found.place, found.steps, found.length];
     let (wanted, bytes) = match reference::draw(program, width, height, case.grants, out_length) {
         Answer::Picture {

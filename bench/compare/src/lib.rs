@@ -18,6 +18,7 @@ pub const SHEET: Grants = Grants {
     shapes: 1_024,
     entries: 1_024,
     text_bytes: 16_384,
+    calls: 64,
 };
 
 /// A loop of 900,000 steps.
@@ -41,6 +42,35 @@ pub const SHAPES: Drawing = Drawing {
     },
 };
 
+/// A tree of 4,095 lines, each drawn by a call, up to 13 of which are under way at once.
+pub const TREE: Drawing = Drawing {
+    name: "tree",
+    program: include_bytes!("../../drawings/tree.img"),
+    width: 640,
+    height: 480,
+    grants: Grants {
+        shapes: 8_192,
+        ..SHEET
+    },
+};
+
+/// A loop of so many turns, each with a call of a procedure with two parameters that hands back their sum, or with the sum itself.
+pub fn calls(called: bool, times: i32) -> Drawing {
+    Drawing {
+        name: if called { "call" } else { "inline" },
+        program: match called {
+            true => include_bytes!("../../drawings/call.img"),
+            false => include_bytes!("../../drawings/inline.img"),
+        },
+        width: 1,
+        height: times,
+        grants: Grants {
+            steps: u32::MAX.into(),
+            ..SHEET
+        },
+    }
+}
+
 /// A table of so many entries, and so many look-ups in it.
 pub fn look_ups(entries: i32, times: i32) -> Drawing {
     Drawing {
@@ -53,6 +83,7 @@ pub fn look_ups(entries: i32, times: i32) -> Drawing {
             shapes: 0,
             entries: 65_535,
             text_bytes: 0,
+            calls: 1,
         },
     }
 }
@@ -76,6 +107,9 @@ pub fn drawing(name: &str) -> Option<Drawing> {
     match name {
         "loop" => Some(LOOP),
         "shapes" => Some(SHAPES),
+        "tree" => Some(TREE),
+        "call" => Some(calls(true, 100_000)),
+        "inline" => Some(calls(false, 100_000)),
         "few" => Some(look_ups(16, 100_000)),
         "many" => Some(look_ups(60_000, 100_000)),
         "ten-digits" => Some(numbers(2_147_483_647)),
@@ -134,7 +168,7 @@ mod ours {
     impl Ours {
         /// Slices as long as docs/INTERFACE.md asks.
         pub fn new(grants: Grants) -> Ours {
-            let words = 24_584 + 3 * grants.shapes + 4 * grants.entries;
+            let words = 278_608 + 3 * grants.shapes + 4 * grants.entries;
             Ours {
                 tokens: vec![0; 8_193],
                 code: vec![0; 16_384],
@@ -159,6 +193,7 @@ mod ours {
                     grants.shapes,
                     grants.entries,
                     grants.text_bytes,
+                    grants.calls,
                     self.tokens.as_mut_ptr(),
                     self.tokens.len(),
                     self.code.as_mut_ptr(),

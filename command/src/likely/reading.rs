@@ -110,9 +110,19 @@ impl Spot<'_> {
                 let open = format!("the `{}` of line {}", bracket.shown(), self.line(bracket.start));
                 ("the drawing ends here".into(), format!("A `{closing}` is missing: {open} is never closed"))
             }
-            None => ("the drawing ends here".into(), "A drawing is `def main(w, h) { … }`; its end is missing".into()),
+            None if self.last_is(&["}"]) => ("there is no `main`".into(), self.like_main()),
+            None => ("the drawing ends here".into(), "A procedure is `def name(x, y) { … }`; its end is missing".into()),
         };
         Reason { label, help }
+    }
+
+    /// What is said where no procedure is called `main`.
+    fn like_main(&self) -> String {
+        let names = self.before.windows(2).filter(|two| two[0].is("def")).map(|two| two[1].shown());
+        match names.clone().find(|name| name.eq_ignore_ascii_case("main")) {
+            Some(name) => format!("Large and small letters differ: write `main` for `{name}`"),
+            None => "One procedure of a drawing is `def main(w, h) { … }`, and the sheet is drawn by it".into(),
+        }
     }
 
     /// `//`, `/*` or `#`, at the place or before it in the same line.
@@ -195,20 +205,29 @@ impl Spot<'_> {
         }
     }
 
-    /// `def main(`, where it begins.
+    /// `def name(`, where a procedure begins, and what is behind one.
     fn header(&self, here: Token) -> Option<Reason> {
-        let begin = "A drawing begins with `def main(w, h) {`";
+        let form = "A procedure is `def name(x, y) { … }`; that of the sheet is `def main(w, h) { … }`";
+        let open = self.open();
         match self.before {
-            [] if !here.is("def") => reason_of(format!("`{}` cannot begin a drawing", here.shown()), begin),
-            [def] if def.is("def") => reason_of("not `main`", format!("{begin}: its procedure is called `main`")),
-            [_, _] if !here.is("(") => reason_of("a `(` is missing before", begin),
-            [.., last] if self.open().is_empty() && last.is(")") => reason_of("a `{` is missing before", begin),
-            _ if here.is("def") => {
-                reason_of("a second procedure", "There is one procedure, `main`: write the other one's statements into it")
+            [] if !here.is("def") => {
+                reason_of(format!("`{}` cannot begin a drawing", here.shown()), "A drawing begins with `def`, as in `def main(w, h) {`")
             }
-            _ if self.open().is_empty() && self.last_is(&["}"]) => reason_of(
-                "behind the end of the drawing",
-                "The `}` before closes `main`, and nothing can follow it. Is there one `}` too many before?",
+            [.., def] if def.is("def") && here.is_reserved() => {
+                reason_of("a reserved word", "A procedure needs another name: def, var, if, while, return, none, true and false are taken")
+            }
+            [.., def] if def.is("def") && !here.is_number() => reason_of("a name is missing before", form),
+            [.., def, _] if def.is("def") && !here.is("(") => reason_of("a `(` is missing before", form),
+            [.., last] if open.is_empty() && last.is(")") => reason_of("a `{` is missing before", form),
+            _ if here.is("def") => open.last().and_then(|bracket| {
+                reason_of(
+                    "a procedure inside another",
+                    format!("The `{}` of line {} is not closed: is a `}}` missing before?", bracket.shown(), self.line(bracket.start)),
+                )
+            }),
+            _ if open.is_empty() && self.last_is(&["}"]) => reason_of(
+                "behind the end of a procedure",
+                "The `}` before closes it, and only another `def` can follow. Is there one `}` too many before?",
             ),
             _ => None,
         }

@@ -5,61 +5,174 @@ use crate::input::Drawing;
 use crate::tokens::{self, Token};
 use img::Refusal;
 
-/// The statement of a refusal, and all tokens.
-fn statement<'a>(drawing: &'a Drawing, refusal: &Refusal) -> (Vec<Token<'a>>, Vec<Token<'a>>) {
-    let all = tokens::tokens(drawing.program());
-    let from = all.partition_point(|token| token.start < refusal.place);
-    (tokens::statement(&all[from..]).to_vec(), all)
+/// What a refusal is about: its statement, the procedures of the drawing, and the one that the statement stands in.
+struct Spot<'a> {
+    drawing: &'a Drawing,
+    place: usize,
+    statement: Vec<Token<'a>>,
+    procedures: Vec<Own<'a>>,
+    within: usize,
 }
 
-/// A name of the statement that is declared nowhere in the drawing, or only further down.
+/// A procedure of the drawing: its tokens from `def` on.
+struct Own<'a> {
+    tokens: Vec<Token<'a>>,
+}
+
+impl<'a> Own<'a> {
+    fn name(&self) -> &'a [u8] {
+        self.tokens.get(1).map_or(b"", |name| name.text)
+    }
+
+    fn shown(&self) -> String {
+        self.tokens.get(1).map_or(String::new(), Token::shown)
+    }
+
+    fn parameters(&self) -> impl Iterator<Item = Token<'a>> + '_ {
+        let list = self.tokens.iter().skip(3).take_while(|token| !token.is(")"));
+        list.filter(|token| token.is_name()).copied()
+    }
+
+    fn has_equal_parameters(&self) -> bool {
+        let names: Vec<&[u8]> = self.parameters().map(|name| name.text).collect();
+        names.iter().enumerate().any(|(index, name)| names[..index].contains(name))
+    }
+
+    /// The names of its parameters and of its declarations, where they stand.
+    fn declared(&self) -> Vec<Token<'a>> {
+        let variables = self.tokens.windows(2).filter(|two| two[0].is("var")).map(|two| two[1]);
+        self.parameters().chain(variables).collect()
+    }
+}
+
+impl<'a> Spot<'a> {
+    fn of(drawing: &'a Drawing, refusal: &Refusal) -> Spot<'a> {
+        let all = tokens::tokens(drawing.program());
+        let from = all.partition_point(|token| token.start < refusal.place);
+        let statement = tokens::statement(&all[from..]).to_vec();
+        let mut procedures: Vec<Own> = Vec::new();
+        let mut within = 0;
+        for token in all {
+            match procedures.last_mut() {
+                Some(last) if !token.is("def") => last.tokens.push(token),
+                _ => {
+                    if token.start <= refusal.place {
+                        within = procedures.len();
+                    }
+                    procedures.push(Own { tokens: vec![token] });
+                }
+            }
+        }
+        Spot { drawing, place: refusal.place, statement, procedures, within }
+    }
+
+    /// The procedure that the statement stands in.
+    fn within(&self) -> &Own<'a> {
+        &self.procedures[self.within]
+    }
+
+    fn named(&self, name: Token) -> Option<&Own<'a>> {
+        self.procedures.iter().find(|own| own.name() == name.text)
+    }
+
+    /// The line of a token, from 1.
+    fn line(&self, token: Token) -> usize {
+        let place = self.drawing.start + token.start;
+        1 + self.drawing.bytes[..place].iter().filter(|byte| **byte == b'\n').count()
+    }
+
+    /// The calls of the statement: each name and the tokens behind its parenthesis.
+    fn calls(&self) -> impl Iterator<Item = (Token<'a>, &[Token<'a>])> {
+        let pairs = self.statement.windows(2).enumerate();
+        let calls = pairs.filter(|(_, two)| two[0].is_name() && two[1].is("("));
+        calls.map(|(index, two)| (two[0], &self.statement[index + 2..]))
+    }
+}
+
+/// A name of the statement that its procedure declares nowhere, or only further down.
 pub fn undeclared(drawing: &Drawing, refusal: &Refusal) -> Option<Reason> {
-    let (statement, all) = statement(drawing, refusal);
-    let parameters = all.iter().skip_while(|token| !token.is("(")).take_while(|token| !token.is(")"));
-    let declared = all.windows(2).filter(|two| two[0].is("var")).map(|two| two[1]);
-    let declared: Vec<Token> = parameters.copied().chain(declared).collect();
-    let mut names = statement.iter().enumerate().filter_map(|(index, token)| {
-        let called = statement.get(index + 1).is_some_and(|next| next.is("("));
+    let spot = Spot::of(drawing, refusal);
+    let declared = spot.within().declared();
+    let mut names = spot.statement.iter().enumerate().filter_map(|(index, token)| {
+        let called = spot.statement.get(index + 1).is_some_and(|next| next.is("("));
         (token.is_name() && !called).then_some(token)
     });
     let name = names.find(|name| !declared.iter().any(|first| first.text == name.text && first.start < refusal.place))?;
     let shown = name.shown();
-    match declared.iter().find(|first| first.text == name.text) {
+    if let Some(first) = declared.iter().find(|first| first.text == name.text) {
+        return reason_of(
+            format!("`{shown}` is declared further down, in line {}", spot.line(*first)),
+            format!("Move its `var {shown};` before this statement"),
+        );
+    }
+    let elsewhere = spot.procedures.iter().find(|own| own.declared().iter().any(|first| first.text == name.text));
+    match elsewhere {
         None => reason_of(format!("`{shown}` is declared nowhere"), ""),
-        Some(first) => {
-            let place = drawing.start + first.start;
-            let line = 1 + drawing.bytes[..place].iter().filter(|byte| **byte == b'\n').count();
+        Some(own) => {
+            let (own, here) = (own.shown(), spot.within().shown());
             reason_of(
-                format!("`{shown}` is declared further down, in line {line}"),
-                format!("Move its `var {shown};` before this statement"),
+                format!("`{shown}` is declared in `{own}`, not in `{here}`"),
+                format!("Each procedure has variables of its own: give `{here}` a parameter more and hand `{shown}` over"),
             )
         }
     }
 }
 
-/// Where the variable was declared first.
+/// Where the variable was declared first, or the procedure's name defined.
 pub fn declared(drawing: &Drawing, refusal: &Refusal) -> Option<Reason> {
-    let (statement, all) = statement(drawing, refusal);
-    let [var, name, ..] = &statement[..] else {
+    let spot = Spot::of(drawing, refusal);
+    let each = "Give each parameter a name of its own";
+    let [first, name, ..] = &spot.statement[..] else {
         return None;
     };
-    if !var.is("var") {
-        return reason_of("two parameters of one name", "Give each parameter of main a name of its own");
-    }
-    let before = &all[..all.partition_point(|token| token.start < refusal.place)];
     let shown = name.shown();
-    if let Some(first) = before.windows(2).find(|two| two[0].is("var") && two[1].text == name.text) {
-        let place = drawing.start + first[0].start;
-        let line = 1 + drawing.bytes[..place].iter().filter(|byte| **byte == b'\n').count();
-        return reason_of(format!("`{shown}` is declared in line {line} already"), "");
+    if first.is("def") {
+        if LIBRARY.iter().any(|(known, _)| name.is(known)) {
+            return reason_of(format!("`{shown}` is a procedure of the library"), "Give this one another name");
+        }
+        let earlier = spot.procedures.iter().find(|own| own.name() == name.text && own.tokens[0].start < spot.place);
+        return match earlier {
+            Some(own) => reason_of(
+                format!("`{shown}` is defined in line {} already", spot.line(own.tokens[0])),
+                "Give one of the two another name, or remove it",
+            ),
+            // Main's own number stands at the drawing's beginning.
+            None => reason_of("two parameters of `main` have one name", each),
+        };
     }
-    let mut parameters = before.iter().skip_while(|token| !token.is("(")).take_while(|token| !token.is(")"));
-    match parameters.any(|token| token.text == name.text) {
+    if !first.is("var") {
+        let (called, own) = spot.calls().find_map(|(name, _)| {
+            let own = spot.named(name)?;
+            own.has_equal_parameters().then_some((name, own))
+        })?;
+        let line = spot.line(own.tokens[0]);
+        return reason_of(format!("two parameters of `{}` have one name", called.shown()), format!("{each}, in line {line}"));
+    }
+    let within = spot.within();
+    let before = within.tokens.iter().position(|token| token.start >= refusal.place).unwrap_or(0);
+    let earlier = within.tokens[..before].windows(2).find(|two| two[0].is("var") && two[1].text == name.text);
+    if let Some(first) = earlier {
+        return reason_of(format!("`{shown}` is declared in line {} already", spot.line(first[0])), "");
+    }
+    let own = within.shown();
+    let is_parameter = within.parameters().any(|token| token.text == name.text);
+    match is_parameter {
         true => reason_of(
-            format!("`{shown}` is a parameter of main"),
-            "Main's parameters are declared already: remove this `var`, or take another name",
+            format!("`{shown}` is a parameter of `{own}`"),
+            "Parameters are declared already: remove this `var`, or take another name",
         ),
         false => reason_of(format!("`{shown}` was declared in an earlier round"), ""),
+    }
+}
+
+/// A call too many: of the procedure that the statement stands in.
+pub fn endless(drawing: &Drawing, refusal: &Refusal) -> Option<Reason> {
+    let spot = Spot::of(drawing, refusal);
+    let own = spot.within();
+    let itself = spot.calls().any(|(name, _)| name.text == own.name());
+    match itself {
+        true => reason_of(format!("`{}` calls itself here", own.shown()), ""),
+        false => None,
     }
 }
 
@@ -79,28 +192,31 @@ const LIBRARY: [(&str, usize); 10] = [
 
 /// A value that does not fit, a call of the statement that names no procedure, or one with another number of arguments.
 pub fn unfit(drawing: &Drawing, refusal: &Refusal) -> Option<Reason> {
-    let (statement, all) = statement(drawing, refusal);
-    if statement.first()?.is("def") && refusal.steps == 0 {
-        return reason_of("main has two parameters", "Write `def main(w, h)`: width and height of the sheet");
+    let spot = Spot::of(drawing, refusal);
+    if spot.statement.first()?.is("def") && refusal.steps == 0 {
+        return reason_of("`main` has two parameters", "Write `def main(w, h)`: width and height of the sheet");
     }
-    let own: Vec<&[u8]> = all.windows(2).filter(|two| two[0].is("def")).map(|two| two[1].text).collect();
-    for (index, two) in statement.windows(2).enumerate() {
-        let name = two[0];
-        if !name.is_name() || !two[1].is("(") || own.contains(&name.text) {
-            continue;
-        }
+    for (name, behind) in spot.calls() {
         let shown = name.shown();
-        let Some((_, takes)) = LIBRARY.iter().find(|(known, _)| name.is(known)) else {
-            let like = LIBRARY.iter().find(|(known, _)| known.eq_ignore_ascii_case(&shown));
-            let help = like.map_or(String::new(), |(known, _)| format!("Large and small letters differ: write `{known}`"));
+        if name.is("main") {
+            return reason_of("`main` cannot be called", "Put what both need into another procedure, and call that");
+        }
+        let library = LIBRARY.iter().find(|(known, _)| name.is(known)).map(|(_, takes)| *takes);
+        let own = spot.named(name).map(|own| own.parameters().count());
+        let Some(takes) = library.or(own) else {
+            let known = LIBRARY.iter().map(|(known, _)| known.to_string());
+            let mut names = known.chain(spot.procedures.iter().map(Own::shown));
+            let like = names.find(|known| known.eq_ignore_ascii_case(&shown));
+            let help = like.map_or(String::new(), |known| format!("Large and small letters differ: write `{known}`"));
             return reason_of(format!("there is no procedure `{shown}`"), help);
         };
-        let given = arguments(&statement[index + 2..]);
-        if given != *takes {
-            return reason_of(format!("`{shown}` takes {takes} arguments, here are {given}"), "");
+        let given = arguments(behind);
+        if given != takes {
+            let arguments = if takes == 1 { "argument" } else { "arguments" };
+            return reason_of(format!("`{shown}` takes {takes} {arguments}, here are {given}"), "");
         }
     }
-    values(&statement)
+    values(&spot.statement)
 }
 
 /// Values that cannot do what they seem to be meant for: a point in a number, `+` beside a string, a test that compares nothing.

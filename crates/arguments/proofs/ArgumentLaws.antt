@@ -13,6 +13,7 @@ use mir.Val.{toZ}
 use Rattle.machine.specs.Words.{numberIn, handleIn, unpacked}
 use Rattle.machine.specs.declared.Figure.{Figure}
 use Rattle.machine.specs.Act.{raw, goOn, _>>=_, give, fail, refuse, passed, Passes}
+use Rattle.machine.specs.Layout.{stackWords}
 use Rattle.machine.specs.Stack.{argumentAt}
 use Rattle.machine.specs.Shapes.{figureAt}
 use Rattle.machine.specs.Variables.{isDead, usable}
@@ -21,8 +22,8 @@ use Rattle.machine.specs.Arguments.{allUsable}
 use Rattle.arguments.specs.Given.{isKind, areKinds, fourIntegers, pointAndText, integerAt, handleAt, shapeAt, givenFigure}
 
 -- ---- arguments
-pub argument-is : (ws : List ℕ) (base i : ℕ) {r : ℕ} → r ≡ argumentAt ws (base % 8192 + i % 8192) → r ≡ argumentAt ws (base + i)
-argument-is ws base i e = let q : (base % 8192 + i % 8192) % 8192 ≡ (base + i) % 8192 = omega arith in e ∙ rw q
+pub argument-is : (ws : List ℕ) (base i : ℕ) {r : ℕ} → r ≡ argumentAt ws (base % stackWords + i % stackWords) → r ≡ argumentAt ws (base + i)
+argument-is ws base i e = let q : (base % stackWords + i % stackWords) % stackWords ≡ (base + i) % stackWords = omega arith in e ∙ rw q
 
 module _ (ws : List ℕ) (base i : ℕ) {w : ℕ} (e : w ≡ argumentAt ws (base + i)) where
   pub kind-is : (k : ℕ) → eqb (w % 8) k ≡ isKind ws base i k

@@ -3,6 +3,7 @@ use machine::Figure;
 ghost use Prim.Native.Nat.{_≤_};
 ghost use mathlib.Core.Path.{_≡_};
 ghost use lib.ListN.{length};
+ghost use Rattle.machine.specs.Layout.{fixedWords};
 ghost use Rattle.machine.specs.Arguments.{centreX, centreY, connecting, textOn};
 ghost use Rattle.arguments.specs.Given.{drawnFigure, textFigure, connectingFigure, labelFigure};
 
@@ -31,7 +32,7 @@ pub fn centre_y(f: Figure) -> i32
 }
 
 pub fn drawn_figure(words: &[u64], kind: u64, base: u64) -> Figure
-    requires { ⌜ 24584 ≤ length (now words) ⌝ }
+    requires { ⌜ fixedWords ≤ length (now words) ⌝ }
     ensures { λ r. ⌜ r ≡ drawnFigure (now (words .entry)) kind base ⌝ }
 {
     let x = crate::integer_at(words, base, 0);
@@ -49,7 +50,7 @@ pub fn drawn_figure(words: &[u64], kind: u64, base: u64) -> Figure
 }
 
 pub fn text_figure(words: &[u64], base: u64) -> Figure
-    requires { ⌜ 24584 ≤ length (now words) ⌝ }
+    requires { ⌜ fixedWords ≤ length (now words) ⌝ }
     ensures { λ r. ⌜ r ≡ textFigure (now (words .entry)) base ⌝ }
 {
     let left = crate::integer_at(words, base, 0);
@@ -80,7 +81,7 @@ pub fn connecting(f: Figure, g: Figure) -> Figure
 }
 
 pub fn connecting_figure(words: &[u64], base: u64) -> Figure
-    requires { ⌜ 24584 ≤ length (now words) ⌝ }
+    requires { ⌜ fixedWords ≤ length (now words) ⌝ }
     ensures { λ r. ⌜ r ≡ connectingFigure (now (words .entry)) base ⌝ }
 {
     connecting(
@@ -104,7 +105,7 @@ pub fn text_on(f: Figure, h: u64) -> Figure
 }
 
 pub fn label_figure(words: &[u64], base: u64) -> Figure
-    requires { ⌜ 24584 ≤ length (now words) ⌝ }
+    requires { ⌜ fixedWords ≤ length (now words) ⌝ }
     ensures { λ r. ⌜ r ≡ labelFigure (now (words .entry)) base ⌝ }
 {
     text_on(

@@ -2,9 +2,11 @@
 pub mod figures;
 
 use machine::Figure;
+use machine::layout;
 ghost use Prim.Native.Nat.{_+_, _≤_};
 ghost use mathlib.Core.Path.{_≡_};
 ghost use lib.ListN.{length};
+ghost use Rattle.machine.specs.Layout.{fixedWords};
 ghost use Rattle.machine.specs.Act.{Passes};
 ghost use Rattle.machine.specs.Stack.{argumentAt};
 ghost use Rattle.machine.specs.Arguments.{allUsable};
@@ -12,21 +14,24 @@ ghost use Rattle.arguments.specs.Given.{isKind, areKinds, fourIntegers, 
 
 // The word of argument i.
 pub fn argument(words: &[u64], base: u64, i: u64) -> u64
-    requires { ⌜ 24584 ≤ length (now words) ⌝ }
+    requires { ⌜ fixedWords ≤ length (now words) ⌝ }
     ensures { λ r. ⌜ r ≡ argumentAt (now (words .entry)) (base + i) ⌝ }
 {
-    stores::arguments::argument(words, (base % 8192 + i % 8192) as usize)
+    stores::arguments::argument(
+        words,
+        (base % layout::MOST_ARGUMENTS + i % layout::MOST_ARGUMENTS) as usize,
+    )
 }
 
 pub fn is_kind(words: &[u64], base: u64, i: u64, k: u64) -> bool
-    requires { ⌜ 24584 ≤ length (now words) ⌝ }
+    requires { ⌜ fixedWords ≤ length (now words) ⌝ }
     ensures { λ r. ⌜ r ≡ isKind (now (words .entry)) base i k ⌝ }
 {
     argument(words, base, i) % 8 == k
 }
 
 pub fn are_kinds(words: &[u64], base: u64, i: u64, k: u64, j: u64, l: u64) -> bool
-    requires { ⌜ 24584 ≤ length (now words) ⌝ }
+    requires { ⌜ fixedWords ≤ length (now words) ⌝ }
     ensures { λ r. ⌜ r ≡ areKinds (now (words .entry)) base i k j l ⌝ }
 {
     if !is_kind(words, base, i, k) {
@@ -36,7 +41,7 @@ pub fn are_kinds(words: &[u64], base: u64, i: u64, k: u64, j: u64, l: u64) -> bo
 }
 
 pub fn four_integers(words: &[u64], base: u64) -> bool
-    requires { ⌜ 24584 ≤ length (now words) ⌝ }
+    requires { ⌜ fixedWords ≤ length (now words) ⌝ }
     ensures { λ r. ⌜ r ≡ fourIntegers (now (words .entry)) base ⌝ }
 {
     if !are_kinds(words, base, 0, 1, 1, 1) {
@@ -46,7 +51,7 @@ pub fn four_integers(words: &[u64], base: u64) -> bool
 }
 
 pub fn point_and_text(words: &[u64], base: u64) -> bool
-    requires { ⌜ 24584 ≤ length (now words) ⌝ }
+    requires { ⌜ fixedWords ≤ length (now words) ⌝ }
     ensures { λ r. ⌜ r ≡ pointAndText (now (words .entry)) base ⌝ }
 {
     if !are_kinds(words, base, 0, 1, 1, 1) {
@@ -56,28 +61,28 @@ pub fn point_and_text(words: &[u64], base: u64) -> bool
 }
 
 pub fn integer_at(words: &[u64], base: u64, i: u64) -> i32
-    requires { ⌜ 24584 ≤ length (now words) ⌝ }
+    requires { ⌜ fixedWords ≤ length (now words) ⌝ }
     ensures { λ r. ⌜ r ≡ integerAt (now (words .entry)) base i ⌝ }
 {
     values::integer_of(argument(words, base, i))
 }
 
 pub fn handle_at(words: &[u64], base: u64, i: u64) -> u64
-    requires { ⌜ 24584 ≤ length (now words) ⌝ }
+    requires { ⌜ fixedWords ≤ length (now words) ⌝ }
     ensures { λ r. ⌜ r ≡ handleAt (now (words .entry)) base i ⌝ }
 {
     values::handle_of(argument(words, base, i))
 }
 
 pub fn shape_at(words: &[u64], base: u64, i: u64) -> u32
-    requires { ⌜ 24584 ≤ length (now words) ⌝ }
+    requires { ⌜ fixedWords ≤ length (now words) ⌝ }
     ensures { λ r. ⌜ r ≡ shapeAt (now (words .entry)) base i ⌝ }
 {
     values::number_of(argument(words, base, i))
 }
 
 pub fn given_figure(words: &[u64], base: u64, i: u64) -> Figure
-    requires { ⌜ 24584 ≤ length (now words) ⌝ }
+    requires { ⌜ fixedWords ≤ length (now words) ⌝ }
     ensures { λ r. ⌜ r ≡ givenFigure (now (words .entry)) base i ⌝ }
 {
     stores::shapes::figure_at(words, shape_at(words, base, i))
@@ -85,7 +90,7 @@ pub fn given_figure(words: &[u64], base: u64, i: u64) -> Figure
 
 // Whether no argument is a destroyed shape.
 pub fn all_usable(words: &[u64], base: u64, n: u64) -> bool
-    requires { ⌜ 24584 ≤ length (now words) ⌝ }
+    requires { ⌜ fixedWords ≤ length (now words) ⌝ }
     ensures { λ r. ⌜ Passes (now (words .entry)) 30 (λ p. allUsable p base n) r (now (words .entry)) ⌝ }
 {
     let mut k = 0;

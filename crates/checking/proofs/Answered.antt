@@ -2,25 +2,28 @@
 use Prim.Native.Nat.{ℕ, _≤_, _<_}
 use mathlib.Core.Path.{_≡_, refl, ap, sym, _∙_}
 use mathlib.Core.Bool.{Bool, true, false, not, _&&_}
-use mathlib.Core.List.{List}
+use mathlib.Core.List.{List, []}
+use mathlib.Core.Option.{Option, none, some}
 use lib.ListN.{length, replicate}
 use lib.Dec.{leb, ltb}
 use native.Mathlib.Omega.{arith}
 use borrow.Author.Tests.{le-leb, lt-leb, lt-ltb, le-ltb, not-true, not-false}
 use Rattle.meaning.specs.Basics.{if_then_else_}
+use Rattle.meaning.specs.Tree.{Procedure, Program}
 use Rattle.meaning.specs.Grammar.{Reading, wellFormed, malformed, reading}
 use Rattle.meaning.specs.Run.{goOn, _>>=_, give, fail, refuse}
-use Rattle.meaning.specs.Program.{accepted, understood, sized, performing, specified, empty}
+use Rattle.meaning.specs.Procedure.{doubled}
+use Rattle.meaning.specs.Program.{accepted, namedApart, understood, sized, performing, specified, empty}
 use Rattle.meaning.specs.Book.{Amounts, Answer, pictured, number, book, settled, answerTo, booked}
 use Rattle.meaning.specs.Call.{inRange, needed, longEnough, admitted, grantedTo, runOf, answer, workAfter}
 use Rattle.answers.specs.declared.Answer as Declared
 use Rattle.answers.specs.declared.Answer.the-variants.{Picture, Number}
 use Rattle.answers.specs.Answers.{meant}
 use Rattle.lending.specs.Lending.{grantsOf}
-use Rattle.reader.specs.declared.Program.{Program}
+use Rattle.reader.specs.declared.Program as Read
 use Rattle.reader.specs.declared.Program.the-variants.{Formed, Malformed}
-use Rattle.reader.specs.Reading.{tokensIn, seen, coded}
-use Rattle.checking.specs.Checking.{called, Checked, Lent, answerOf, readAnswer}
+use Rattle.reader.specs.Reading.{tokensIn, seen, codedApart, coded}
+use Rattle.checking.specs.Checking.{called, Checked, Lent, answerApart, answerOf, readAnswer}
 
 -- ---- the first question
 both-short : (a b : Bool) → b ≡ false → _&&_ a (_&&_ b true) ≡ false
@@ -46,10 +49,15 @@ module _ (program g tokens code : List ℕ) where
     short-code h = rw e (both-short (leb 8193 (length tokens)) _ (lt-leb 16384 (length code) h))
 
 -- ---- the answer
+answer-apart : (g : Amounts) (m : Program) (d : Option ℕ) → booked g ((namedApart d m >>= λ _. give accepted) empty) ≡ answerApart d
+unfolding namedApart booked book settled answerTo goOn _>>=_ give fail answerApart
+answer-apart g m none = refl
+answer-apart g m (some p) = refl
+
 -- whatever is granted, reading takes nothing
 answer-read : (g : Amounts) (r : Reading) → booked g ((understood r >>= λ _. give accepted) empty) ≡ answerOf r
 unfolding understood booked book settled answerTo goOn _>>=_ give fail answerOf
-answer-read g (wellFormed m) = refl
+answer-read g (wellFormed m) = answer-apart g m (doubled [] (m .procedures))
 answer-read g (malformed n p) = refl
 
 answer-sized : (g : Amounts) (b : Bool) (r : Reading) →
@@ -118,25 +126,38 @@ module _ (program : List ℕ) where
   unfolding readAnswer meant if_then_else_
   read-long h = rw (lt-ltb 32768 (length program) h)
 
-  module _ (short : length program ≤ 32768) (p : Program) (slice : List ℕ) (h : seen p slice ≡ coded (tokensIn program) (reading program)) where
+  module _ (short : length program ≤ 32768) (p : Read.Program) (slice : List ℕ) (h : seen p slice ≡ coded (tokensIn program) (reading program)) where
     is-read : readAnswer program ≡ answerOf (reading program)
     unfolding readAnswer if_then_else_
     is-read = rw (le-ltb 32768 (length program) short)
 
-    pub read-formed : (n a b m : ℕ) → p ≡ Formed n a b m → meant (Picture 0 0) ≡ readAnswer program
+    formed-apart : (d n : ℕ) (fs : List Procedure) (o : Option ℕ) → seen (Formed d n) slice ≡ codedApart (tokensIn program) fs o → pictured 0 0 ≡ answerApart o
+    unfolding seen codedApart answerApart
+    formed-apart d n fs none k = refl
+    formed-apart d n fs (some q) k = absurd (let z : _≡_ {A = ℕ} 0 1 = cc in omega arith)
+
+    pub read-formed : (d n : ℕ) → p ≡ Formed d n → meant (Picture 0 0) ≡ readAnswer program
     unfolding meant seen coded answerOf
-    read-formed n a b m e = go (reading program) (ap (λ (x : Program). seen x slice) (sym e) ∙ h) ∙ sym is-read
+    read-formed d n e = go (reading program) (ap (λ (x : Read.Program). seen x slice) (sym e) ∙ h) ∙ sym is-read
       where
-        go : (r : Reading) → seen (Formed n a b m) slice ≡ coded (tokensIn program) r → pictured 0 0 ≡ answerOf r
-        go (wellFormed q) k = refl
+        go : (r : Reading) → seen (Formed d n) slice ≡ coded (tokensIn program) r → pictured 0 0 ≡ answerOf r
+        go (wellFormed q) k = formed-apart d n (q .procedures) (doubled [] (q .procedures)) k
         go (malformed i q) k = absurd (let z : _≡_ {A = ℕ} 0 1 = cc in omega arith)
+
+    malformed-apart : (k i : ℕ) (fs : List Procedure) (o : Option ℕ) → seen (Malformed k i) slice ≡ codedApart (tokensIn program) fs o → number k i 0 0 ≡ answerApart o
+    unfolding seen codedApart answerApart
+    malformed-apart k i fs none g = absurd (let z : _≡_ {A = ℕ} 0 1 = cc in omega arith)
+    malformed-apart k i fs (some q) g =
+        let x : k ≡ 60 = cc in
+        let y : i ≡ q = cc in
+        rw (x, y)
 
     pub read-malformed : (k i : ℕ) → p ≡ Malformed k i → meant (Number k i 0 0) ≡ readAnswer program
     unfolding meant seen coded answerOf
-    read-malformed k i e = go (reading program) (ap (λ (x : Program). seen x slice) (sym e) ∙ h) ∙ sym is-read
+    read-malformed k i e = go (reading program) (ap (λ (x : Read.Program). seen x slice) (sym e) ∙ h) ∙ sym is-read
       where
         go : (r : Reading) → seen (Malformed k i) slice ≡ coded (tokensIn program) r → number k i 0 0 ≡ answerOf r
-        go (wellFormed q) g = absurd (let z : _≡_ {A = ℕ} 0 1 = cc in omega arith)
+        go (wellFormed q) g = malformed-apart k i (q .procedures) (doubled [] (q .procedures)) g
         go (malformed j q) g =
             let x : k ≡ j = cc in
             let y : i ≡ q = cc in

@@ -2,11 +2,13 @@
 use Prim.Native.Nat.{ℕ, _≤_}
 use mathlib.Core.Path.{_≡_}
 use mathlib.Core.List.{List, [], _∷_}
+use mathlib.Core.Option.{Option, none, some}
 use lib.ListN.{length}
 use lib.IntN.{pos}
 use lib.Dec.{ltb}
 use Rattle.meaning.specs.Basics.{if_then_else_}
 use Rattle.meaning.specs.Grammar.{Reading, wellFormed, malformed, reading}
+use Rattle.meaning.specs.Procedure.{doubled}
 use Rattle.meaning.specs.Program.{checking}
 use Rattle.meaning.specs.Book.{Answer, pictured, number}
 use Rattle.meaning.specs.Call.{Call, answer, workAfter}
@@ -37,8 +39,13 @@ pub record Lent (tokens code : List ℕ) : Type 0 where
   pub tokensLong : 8193 ≤ length tokens
   pub codeLong : 16384 ≤ length code
 
+-- 60 where a `def` has a name that is there already
+unfoldable pub answerApart : Option ℕ → Answer
+answerApart none = pictured 0 0
+answerApart (some p) = number 60 p 0 0
+
 unfoldable pub answerOf : Reading → Answer
-answerOf (wellFormed m) = pictured 0 0
+answerOf (wellFormed m) = answerApart (doubled [] (m .procedures))
 answerOf (malformed n p) = number n p 0 0
 
 -- the answer where the counts are in their ranges and enough is lent

@@ -1,17 +1,17 @@
 -- A call's run and the beginnings: where both have ended they are one, and so are their pictures.
 use Prim.Native.Nat.{ℕ, suc, _+_, _≤_}
-use mathlib.Core.Path.{_≡_, refl, ap, sym, _∙_}
+use mathlib.Core.Path.{_≡_, ap, sym, _∙_}
 use mathlib.Core.Logic.{_≢_}
 use mathlib.Core.Bool.{true, false, true≢false}
 use mathlib.Core.List.{List}
 use native.Mathlib.Omega.{arith}
-use Rattle.meaning.specs.Run.{steps, Taking, unfinished, Run}
+use Rattle.meaning.specs.Run.{steps, Event, unfinished, Run}
 use Rattle.meaning.specs.Program.{Outcome}
-use Rattle.meaning.specs.Book.{Amounts, nothingYet, Booked, allFit, lacking, book, booked}
-use Rattle.meaning.specs.Call.{Call, admitted, grantedTo, runOf, answer}
-use Rattle.meaning.proofs.BookLaws.{taken, taken-append}
+use Rattle.meaning.specs.Book.{Amounts, nothingYet, allFit, book, booked}
+use Rattle.meaning.specs.Call.{Call, grantedTo, runOf}
+use Rattle.meaning.proofs.BookLaws.{spent, spent-append}
 use Rattle.claims.specs.Claims.{beginningOf, namesShortage, EndAlike, FittingIsRun, AnswersAreBeginnings, PicturesAreBeginnings}
-use Rattle.claims.proofs.Booking.{total-taken, Books, fit, short, books, book-short}
+use Rattle.claims.proofs.Booking.{steps-spent, Books, fit, short, books, lacking-no-fit, book-short}
 use Rattle.claims.proofs.Turns.{Extends, same, longer}
 use Rattle.claims.proofs.Beginnings.{ended-many, ended-stays}
 use Rattle.claims.proofs.Settling.{Settles, complete, stopped, booked-short, shortage-named}
@@ -34,28 +34,25 @@ pub end-alike : EndAlike
 end-alike c n h k = beginning-is c n k ∙ sym (call-is c n h)
 
 -- ---- takings that all fit
-lacking-no-fit : {t : Taking} {total total′ : Amounts} → lacking t total ≢ allFit total′
-lacking-no-fit e = let z : _≡_ {A = ℕ} 0 1 = cc in omega arith
-
-fit-steps : (g total : Amounts) (ts : List Taking) → book g nothingYet ts ≡ allFit total → taken steps ts ≤ g steps
+fit-steps : (g total : Amounts) (ts : List Event) → book g nothingYet ts ≡ allFit total → spent steps ts ≤ g steps
 fit-steps g total ts e = by (books g nothingYet ts (λ x. omega arith))
   where
-    by : Books g nothingYet ts → taken steps ts ≤ g steps
-    by (fit b w) = omega (arith, w steps, total-taken nothingYet ts steps)
+    by : Books g nothingYet ts → spent steps ts ≤ g steps
+    by (fit b w) = omega (arith, w steps, steps-spent ts)
     by (short before t behind s b f) =
         absurd (lacking-no-fit (sym (book-short g ts before t (record { behind = behind; stand = s; beforeFit = b; doesNotFit = f })) ∙ e))
 
 pub fitting-is-run : FittingIsRun
 fitting-is-run c n total h e = beginning-is c n h ∙ by (call-run c n)
   where
-    fits : taken steps (runs c (turns c n) .takings) ≤ grantedTo c steps
+    fits : spent steps (runs c (turns c n) .takings) ≤ grantedTo c steps
     fits = fit-steps (grantedTo c) total (runs c (turns c n) .takings) (ap (λ (r : Run Outcome). book (grantedTo c) nothingYet (r .takings)) (sym (beginning-is c n h)) ∙ e)
 
     by : Extends (runOf c) (runs c (turns c n)) → runs c (turns c n) ≡ runOf c
     by (same q) = sym q
     by (longer u more q) =
         let counted = ended-many (suc (grantedTo c steps)) (runOf c) (run-ended c) u .counted in
-        let within : taken steps (runOf c .takings) ≤ grantedTo c steps = omega (arith, fits, ap (taken steps) q, taken-append steps (runOf c .takings) more) in
+        let within : spent steps (runOf c .takings) ≤ grantedTo c steps = omega (arith, fits, ap (spent steps) q, spent-append steps (runOf c .takings) more) in
         absurd (omega (arith, counted, within))
 
 -- ---- where nothing is lacking

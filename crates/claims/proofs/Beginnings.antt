@@ -11,7 +11,7 @@ use lib.IntN.{ℤ}
 use lib.Dec.{leb}
 use borrow.Author.Tests.{leb-true, leb-false, le-leb}
 use Rattle.meaning.specs.Basics.{if_then_else_}
-use Rattle.meaning.specs.Run.{Taking, unfinished, Run, run}
+use Rattle.meaning.specs.Run.{Event, unfinished, Run, run}
 use Rattle.meaning.specs.Program.{Operation, Outcome, specified, cut, beginning}
 use Rattle.claims.specs.Claims.{errors, BeginningsExtend, EndedStays}
 use Rattle.claims.proofs.Turns.{Extends, same, longer, specified-extends}
@@ -40,7 +40,7 @@ module _ {A : Type 0} where
 
   -- ---- cuts of longer runs
   -- a longer run takes what the shorter takes, and more
-  pub extends-behind : {r r′ : Run A} → Extends r r′ → (more : List Taking) × (r′ .takings ≡ r .takings ++ more)
+  pub extends-behind : {r r′ : Run A} → Extends r r′ → (more : List Event) × (r′ .takings ≡ r .takings ++ more)
   extends-behind {r} (same e) = ([], ap (λ (q : Run A). q .takings) (sym e) ∙ sym (append-nil (r .takings)))
   extends-behind (longer u more e) = (more, e)
 
@@ -49,7 +49,7 @@ module _ {A : Type 0} where
   cut-extends n {r} {r′} h =
       let w = extends-behind h in
       cut-cases n r (λ (q : Run A). Extends q r′) (λ l. h) (λ l. longer refl (drop n (r .takings) ++ w .0)
-      (w .1 ∙ ap (λ (ts : List Taking). ts ++ w .0) (sym (take-append-drop n (r .takings)))
+      (w .1 ∙ ap (λ (ts : List Event). ts ++ w .0) (sym (take-append-drop n (r .takings)))
       ∙ append-assoc (take n (r .takings)) (drop n (r .takings)) (w .0)))
 
   -- a cut behind the end of a run lengthens it
@@ -92,7 +92,7 @@ ended-stays o program width height n k =
     (ended-same n k (specified-extends o program width height (suc n) (suc (n + k)) (omega arith)))
     (λ l h. absurd (h refl))
 
--- a beginning that is unfinished has as many takings as were asked for
+-- a beginning that is unfinished has as many takings and returns as were asked for
 pub unfinished-long : (o : Operation) (program : List ℕ) (width height : ℤ) (n : ℕ) →
     beginning o program width height n .end ≡ unfinished → length (beginning o program width height n .takings) ≡ n
 unfolding beginning

@@ -1,6 +1,6 @@
 -- The claims of specs/Claims, each proved.
 use Rattle.claims.specs.Claims.{ReadingErrors, LanguageErrors, BeginningsExtend, BeginningsFill, EndedStays, NeededIsBounded, BeginningsDecide, AlwaysAnswered, NumbersWriteNothing}
-use Rattle.claims.specs.Claims.{PicturesFillTheFront, CheckingTakesNothing, UnrunTakesNothing, UnrunIsRefused, OthersTakeAStep, LargerGrant, ShortageExact, LengthIsTold, DrawnIsTold}
+use Rattle.claims.specs.Claims.{PicturesFillTheFront, CheckingTakesNothing, UnrunTakesNothing, UnrunIsRefused, OthersTakeAStep, LargerGrant, ShortageExact, CallsUnderWay, ReturnsGiveBack, NoneUnderWay, LengthIsTold, DrawnIsTold}
 use Rattle.claims.specs.Claims.{ToldIsDrawn, NumbersStay, EndAlike, FittingIsRun, AnswersAreBeginnings, PicturesAreBeginnings, SizesNotNegative, OthersStay}
 use Rattle.claims.proofs.Ends
 use Rattle.claims.proofs.Beginnings
@@ -10,6 +10,7 @@ use Rattle.claims.proofs.Pictures
 use Rattle.claims.proofs.Refusals
 use Rattle.claims.proofs.Shortages
 use Rattle.claims.proofs.Told
+use Rattle.claims.proofs.UnderWay
 use Rattle.claims.proofs.Unrun
 use Rattle.claims.proofs.Alike
 use Rattle.claims.proofs.Sizes
@@ -61,6 +62,15 @@ larger-grant = Shortages.larger-grant
 
 pub shortage-exact : ShortageExact
 shortage-exact = Shortages.shortage-exact
+
+pub calls-under-way : CallsUnderWay
+calls-under-way = UnderWay.calls-under-way
+
+pub returns-give-back : ReturnsGiveBack
+returns-give-back = UnderWay.returns-give-back
+
+pub none-under-way : NoneUnderWay
+none-under-way = UnderWay.none-under-way
 
 pub length-is-told : LengthIsTold
 length-is-told = Told.length-is-told

@@ -1,5 +1,5 @@
--- How a run ends, and what it has taken by then: which numbers it can have, that a picture is taken only by drawing, and a run that is
--- unfinished with n turns a loop has counted n steps.
+-- How a run ends, and what it has taken by then: which numbers it can have, that a picture is taken only by drawing, that a run that is
+-- unfinished with n turns a loop and n calls inside one another has counted n steps, and that each call is given back.
 use Prim.Native.Nat.{ℕ, zero, suc, _≤_}
 use mathlib.Core.Path.{_≡_, refl, subst}
 use mathlib.Core.Bool.{Bool, true, false, _&&_, _||_}
@@ -13,34 +13,36 @@ use lib.IntN.{ℤ, pos}
 use lib.Signed.{ltZ}
 use lib.Dec.{eqb}
 use borrow.Author.Tests.{le-ltb}
-use Rattle.meaning.specs.Basics.{if_then_else_, standsIn}
+use Rattle.meaning.specs.Basics.{bytes, if_then_else_, sameText, standsIn}
 use Rattle.meaning.specs.Figure.{Figure}
 use Rattle.meaning.specs.Tree.{Operator, concatenate, add, subtract, multiply, divide, remainder, shiftRight, shiftLeft, equal, unequal, greater, less, Expression, Arguments, noArgument, argument, Statement, declare, assign, update, when, while, return, block, act, Statements, only, first, Procedure}
 use Rattle.meaning.specs.Tree as Tree
-use Rattle.meaning.specs.Grammar.{Reading, wellFormed, malformed, reading}
+use Rattle.meaning.specs.Grammar.{procedureNamed, Reading, wellFormed, malformed, reading}
 use Rattle.meaning.specs.Value.{Value, integer, string, boolean, none, table, shape}
 use Rattle.meaning.specs.State.{State, Key, scene}
-use Rattle.meaning.specs.Run.{Resource, steps, shapes, entries, textBytes, picture, Taking, taking, End, result, error, unfinished, Run, Action, goOn, _>>=_, give, fail, spend, refuse, current, become}
+use Rattle.meaning.specs.Run.{Resource, steps, shapes, entries, textBytes, calls, picture, Taking, Event, taken, gaveBack, taking, End, result, error, unfinished, Run, Action, goOn, _>>=_, give, fail, spend, giveBack, refuse, current, become}
 use Rattle.meaning.specs.Operator.{usable, withInteger, withString, withBoolean, withTable, withShapeNumber, withFigure, newShape, newString, calculated, compared, remaindered, joined, answered, equated, operateOn, operate}
 use Rattle.meaning.specs.Library.{Library, drawLine, drawEllipse, drawBox, drawText, connectShapes, drawTextOnShape, xCoordinate, yCoordinate, destroyShape, clearScene, withNone, withOne, withTwo, withThree, withFour, drawFigure, perform, allUsable, callLibrary}
-use Rattle.meaning.specs.Evaluate.{lookedUp, variable, newTable, entryOf, evaluate, evaluateAll}
+use Rattle.meaning.specs.Evaluate.{lookedUp, variable, newTable, entryOf, Invoke, evaluate, evaluateAll}
 use Rattle.meaning.specs.Execute.{Flow, onward, returned, continue, declaring, copied, assigning, storing, updating, looping, execute, executeAll}
-use Rattle.meaning.specs.Program.{Operation, checking, drawing, accepted, empty, entering, sheet, sized, understood, painting, performing, specified}
+use Rattle.meaning.specs.Procedure.{doubled, assigningAll, found, calling}
+use Rattle.meaning.specs.Procedure as Procedures
+use Rattle.meaning.specs.Program.{Operation, checking, drawing, accepted, empty, entering, sheet, sized, namedApart, understood, painting, performing, specified}
 use Rattle.meaning.specs.Program as Program
 use Rattle.meaning.specs.Picture.{pictureOf}
 use Rattle.meaning.specs.Book.{resourceNumber}
 use Rattle.claims.specs.Claims.{among, readingErrors, languageErrors, errors, LanguageErrors}
-use Rattle.meaning.proofs.BookLaws.{part, taken, taken-append}
+use Rattle.meaning.proofs.BookLaws.{part, spent, spent-append}
 use Rattle.claims.proofs.Refusals.{LowReading, reading-low}
 
 -- ---- the relation
 -- n steps among some takings
-pub record Many (n : ℕ) (ts : List Taking) : Type 0 where
-  pub counted : n ≤ taken steps ts
+pub record Many (n : ℕ) (ts : List Event) : Type 0 where
+  pub counted : n ≤ spent steps ts
   pub long : n ≤ length ts
 
 -- an end after some takings, with one of some numbers if it has one
-abbrev pub Ending : {A : Type 0} → List ℕ → ℕ → List Taking → End A → Type 0
+abbrev pub Ending : {A : Type 0} → List ℕ → ℕ → List Event → End A → Type 0
 Ending ns n ts (result a s) = Unit {0}
 Ending ns n ts (error m p) = among ns m
 Ending ns n ts unfinished = Many n ts
@@ -48,60 +50,125 @@ Ending ns n ts unfinished = Many n ts
 abbrev pub Ended : {A : Type 0} → List ℕ → ℕ → Run A → Type 0
 Ended ns n r = Ending ns n (r .takings) (r .end)
 
--- from every state: no picture is taken, and a run ends so
-pub record Lawful {A : Type 0} (ns : List ℕ) (n : ℕ) (m : Action A) : Type 0 where
-  pub plain : (s : State) → taken picture (m s .takings) ≡ 0
+-- from d calls under way to d′, and none returns that has not begun
+pub data Leads : ℕ → List Event → ℕ → Type 0 where
+  still : {d : ℕ} → Leads d [] d
+  begins : {d d′ p : ℕ} {es : List Event} → Leads (suc d) es d′ → Leads d (taking calls 1 p ∷ es) d′
+  returns : {d d′ : ℕ} {es : List Event} → Leads d es d′ → Leads (suc d) (gaveBack ∷ es) d′
+  other : {d d′ : ℕ} {t : Taking} {es : List Event} → eqb (resourceNumber calls) (resourceNumber (t .of)) ≡ false → Leads d es d′ → Leads d (taken t ∷ es) d′
+
+-- a result leaves d′ under way
+abbrev pub Stands : {A : Type 0} → ℕ → ℕ → List Event → End A → Type 0
+Stands d d′ ts (result a s) = Leads d ts d′
+Stands d d′ ts (error m p) = (k : ℕ) × Leads d ts k
+Stands d d′ ts unfinished = (k : ℕ) × Leads d ts k
+
+-- how many calls are under way, outside a further call and inside it
+abbrev pub deep : Bool → ℕ → ℕ
+deep false d = d
+deep true d = suc d
+
+-- from every state: no picture is taken, a run ends so, and a result leads from outside or inside to outside or inside
+pub record Moving {A : Type 0} (ns : List ℕ) (n : ℕ) (a b : Bool) (m : Action A) : Type 0 where
+  pub plain : (s : State) → spent picture (m s .takings) ≡ 0
   pub ended : (s : State) → Ended ns n (m s)
+  pub level : (s : State) (d : ℕ) → Stands (deep a d) (deep b d) (m s .takings) (m s .end)
+
+-- as many as before
+abbrev pub Lawful : {A : Type 0} → List ℕ → ℕ → Action A → Type 0
+Lawful ns n m = Moving ns n false false m
 
 -- ---- it goes through `do`
-ending-weaken : {A : Type 0} (ns : List ℕ) {n n′ : ℕ} (ts : List Taking) (e : End A) → n′ ≤ n → Ending ns n ts e → Ending ns n′ ts e
+ending-weaken : {A : Type 0} (ns : List ℕ) {n n′ : ℕ} (ts : List Event) (e : End A) → n′ ≤ n → Ending ns n ts e → Ending ns n′ ts e
 ending-weaken ns ts (result a s) l h = tt
 ending-weaken ns ts (error m p) l h = h
 ending-weaken ns ts unfinished l h = omega arith
 
-weaken : {A : Type 0} {ns : List ℕ} {n n′ : ℕ} {m : Action A} → n′ ≤ n → Lawful ns n m → Lawful ns n′ m
-weaken {ns = ns} {m = m} l h = record { plain = h .plain; ended = λ s. ending-weaken ns (m s .takings) (m s .end) l (h .ended s) }
+weaken : {A : Type 0} {ns : List ℕ} {n n′ : ℕ} {a b : Bool} {m : Action A} → n′ ≤ n → Moving ns n a b m → Moving ns n′ a b m
+weaken {ns = ns} {m = m} l h = record { plain = h .plain; ended = λ s. ending-weaken ns (m s .takings) (m s .end) l (h .ended s); level = h .level }
 
-ending-later : {A : Type 0} (ns : List ℕ) (n : ℕ) (ts us : List Taking) (e : End A) → Ending ns n us e → Ending ns n (ts ++ us) e
+weaken-one : {A : Type 0} {ns : List ℕ} {n : ℕ} {a b : Bool} {m : Action A} → Moving ns (suc n) a b m → Moving ns n a b m
+weaken-one h = weaken (omega arith) h
+
+-- with a call more under way
+shifted : {A : Type 0} {ns : List ℕ} {n : ℕ} {m : Action A} → Lawful ns n m → Moving ns n true true m
+shifted h = record { plain = h .plain; ended = h .ended; level = λ s d. h .level s (suc d) }
+
+ending-later : {A : Type 0} (ns : List ℕ) (n : ℕ) (ts us : List Event) (e : End A) → Ending ns n us e → Ending ns n (ts ++ us) e
 ending-later ns n ts us (result a s) h = tt
 ending-later ns n ts us (error m p) h = h
-ending-later ns n ts us unfinished h = omega (arith, taken-append steps ts us, length-append ts us)
+ending-later ns n ts us unfinished h = omega (arith, spent-append steps ts us, length-append ts us)
+
+leads-later : {x y z : ℕ} {ts us : List Event} → Leads x ts y → Leads y us z → Leads x (ts ++ us) z
+leads-later still k = k
+leads-later (begins h) k = begins (leads-later h k)
+leads-later (returns h) k = returns (leads-later h k)
+leads-later (other e h) k = other e (leads-later h k)
+
+stands-later : {A : Type 0} (x y z : ℕ) (ts us : List Event) (e : End A) → Leads x ts y → Stands y z us e → Stands x z (ts ++ us) e
+stands-later x y z ts us (result a s) h k = leads-later h k
+stands-later x y z ts us (error m p) h k = (k .0, leads-later h (k .1))
+stands-later x y z ts us unfinished h k = (k .0, leads-later h (k .1))
 
 module _ {A B : Type 0} where
-  pub ended-go : (ns : List ℕ) (n : ℕ) (ts : List Taking) (e : End A) (k : A → Action B) → Ending ns n ts e →
+  pub stands-go : (x y z : ℕ) (ts : List Event) (e : End A) (k : A → Action B) → Stands x y ts e →
+      ((a : A) (s : State) → Stands y z (k a s .takings) (k a s .end)) → Stands x z (goOn ts e k .takings) (goOn ts e k .end)
+  unfolding goOn
+  stands-go x y z ts (result a s) k h f = stands-later x y z ts (k a s .takings) (k a s .end) h (f a s)
+  stands-go x y z ts (error m p) k h f = h
+  stands-go x y z ts unfinished k h f = h
+
+  pub ended-go : (ns : List ℕ) (n : ℕ) (ts : List Event) (e : End A) (k : A → Action B) → Ending ns n ts e →
       ((a : A) (s : State) → Ended ns n (k a s)) → Ended ns n (goOn ts e k)
   unfolding goOn
   ended-go ns n ts (result a s) k h f = ending-later ns n ts (k a s .takings) (k a s .end) (f a s)
   ended-go ns n ts (error m p) k h f = h
   ended-go ns n ts unfinished k h f = h
 
-  plain-go : (ts : List Taking) (e : End A) (k : A → Action B) → taken picture ts ≡ 0 →
-      ((a : A) (s : State) → taken picture (k a s .takings) ≡ 0) → taken picture (goOn ts e k .takings) ≡ 0
+  plain-go : (ts : List Event) (e : End A) (k : A → Action B) → spent picture ts ≡ 0 →
+      ((a : A) (s : State) → spent picture (k a s .takings) ≡ 0) → spent picture (goOn ts e k .takings) ≡ 0
   unfolding goOn
-  plain-go ts (result a s) k h f = omega (arith, taken-append picture ts (k a s .takings), f a s)
+  plain-go ts (result a s) k h f = omega (arith, spent-append picture ts (k a s .takings), f a s)
   plain-go ts (error m p) k h f = h
   plain-go ts unfinished k h f = h
 
-  bind-lawful : {ns : List ℕ} {n : ℕ} {m : Action A} {k : A → Action B} → Lawful ns n m → ((a : A) → Lawful ns n (k a)) → Lawful ns n (m >>= k)
+  bind-moving : {ns : List ℕ} {n : ℕ} {a b c : Bool} {m : Action A} {k : A → Action B} → Moving ns n a b m → ((x : A) → Moving ns n b c (k x)) → Moving ns n a c (m >>= k)
   unfolding _>>=_
-  bind-lawful {ns} {n} {m} {k} h f = record {
-    plain = λ s. plain-go (m s .takings) (m s .end) k (h .plain s) (λ a s′. f a .plain s′);
-    ended = λ s. ended-go ns n (m s .takings) (m s .end) k (h .ended s) (λ a s′. f a .ended s′);
+  bind-moving {ns} {n} {a} {b} {c} {m} {k} h f = record {
+    plain = λ s. plain-go (m s .takings) (m s .end) k (h .plain s) (λ x s′. f x .plain s′);
+    ended = λ s. ended-go ns n (m s .takings) (m s .end) k (h .ended s) (λ x s′. f x .ended s′);
+    level = λ s d. stands-go (deep a d) (deep b d) (deep c d) (m s .takings) (m s .end) k (h .level s d) (λ x s′. f x .level s′ d);
   }
+
+  bind-lawful : {ns : List ℕ} {n : ℕ} {m : Action A} {k : A → Action B} → Lawful ns n m → ((a : A) → Lawful ns n (k a)) → Lawful ns n (m >>= k)
+  bind-lawful h f = bind-moving h f
 
 -- ---- the smallest actions
 module _ {ns : List ℕ} {n : ℕ} where
   give-lawful : {A : Type 0} (a : A) → Lawful ns n (give a)
-  unfolding give taken
-  give-lawful a = record { plain = λ s. refl; ended = λ s. tt }
+  unfolding give spent
+  give-lawful a = record { plain = λ s. refl; ended = λ s. tt; level = λ s d. still }
+
+  fail-moving : {A : Type 0} {a b : Bool} (m p : ℕ) → among ns m → Moving {A = A} ns n a b (fail m p)
+  unfolding fail spent
+  fail-moving m p h = record { plain = λ s. refl; ended = λ s. h; level = λ s d. (_, still) }
 
   fail-lawful : {A : Type 0} (m p : ℕ) → among ns m → Lawful {A = A} ns n (fail m p)
-  unfolding fail taken
-  fail-lawful m p h = record { plain = λ s. refl; ended = λ s. h }
+  fail-lawful m p h = fail-moving m p h
 
-  spend-lawful : (r : Resource) (a p : ℕ) → eqb (resourceNumber picture) (resourceNumber r) ≡ false → Lawful ns n (spend r a p)
-  unfolding spend taken part
-  spend-lawful r a p e = record { plain = λ s. rw e; ended = λ s. tt }
+  spend-lawful : (r : Resource) (a p : ℕ) → eqb (resourceNumber picture) (resourceNumber r) ≡ false → eqb (resourceNumber calls) (resourceNumber r) ≡ false →
+      Lawful ns n (spend r a p)
+  unfolding spend spent part
+  spend-lawful r a p e c = record { plain = λ s. rw e; ended = λ s. tt; level = λ s d. other c still }
+
+  -- a call begins, and one returns
+  begin-moving : (p : ℕ) → Moving ns n false true (spend calls 1 p)
+  unfolding spend spent part resourceNumber
+  begin-moving p = record { plain = λ s. refl; ended = λ s. tt; level = λ s d. begins still }
+
+  return-moving : Moving ns n true false giveBack
+  unfolding giveBack spent
+  return-moving = record { plain = λ s. refl; ended = λ s. tt; level = λ s d. returns still }
 
   refuse-lawful : (b : Bool) (m p : ℕ) → among ns m → Lawful ns n (refuse b m p)
   unfolding refuse
@@ -109,12 +176,12 @@ module _ {ns : List ℕ} {n : ℕ} where
   refuse-lawful false m p h = give-lawful tt
 
   current-lawful : Lawful ns n current
-  unfolding current taken
-  current-lawful = record { plain = λ s. refl; ended = λ s. tt }
+  unfolding current spent
+  current-lawful = record { plain = λ s. refl; ended = λ s. tt; level = λ s d. still }
 
   become-lawful : (s : State) → Lawful ns n (become s)
-  unfolding become taken
-  become-lawful s′ = record { plain = λ s. refl; ended = λ s. tt }
+  unfolding become spent
+  become-lawful s′ = record { plain = λ s. refl; ended = λ s. tt; level = λ s d. still }
 
   if-lawful : {A : Type 0} (b : Bool) {x y : Action A} → Lawful ns n x → Lawful ns n y → Lawful ns n (if b then (λ _. x) else λ _. y)
   unfolding if_then_else_
@@ -211,11 +278,11 @@ module _ {n : ℕ} where
   new-shape-lawful : (p : ℕ) (a : Figure) → Lawful languageErrors n (newShape p a)
   unfolding newShape resourceNumber
   new-shape-lawful p a =
-      bind-lawful (spend-lawful shapes 1 p refl) λ _. bind-lawful current-lawful λ s. bind-lawful (become-lawful _) λ _. give-lawful _
+      bind-lawful (spend-lawful shapes 1 p refl refl) λ _. bind-lawful current-lawful λ s. bind-lawful (become-lawful _) λ _. give-lawful _
 
   new-string-lawful : (p : ℕ) (t : List ℕ) → Lawful languageErrors n (newString p t)
   unfolding newString resourceNumber
-  new-string-lawful p t = bind-lawful (spend-lawful textBytes _ p refl) λ _. give-lawful _
+  new-string-lawful p t = bind-lawful (spend-lawful textBytes _ p refl refl) λ _. give-lawful _
 
   nonzero-lawful : (b : Bool) (p : ℕ) → Lawful languageErrors n (refuse b 70 p)
   nonzero-lawful b p = refuse-lawful b 70 p is-70
@@ -343,31 +410,7 @@ module _ {n : ℕ} where
 
   count-lawful : (p : ℕ) → Lawful languageErrors n (spend steps 1 p)
   unfolding resourceNumber
-  count-lawful p = spend-lawful steps 1 p refl
-
-  mutual
-    unfolding evaluate evaluateAll
-
-    evaluate-lawful : (e : Expression) (p : ℕ) → Lawful languageErrors n (evaluate e p)
-    evaluate-lawful (Tree.number z) p = bind-lawful (count-lawful p) λ _. give-lawful _
-    evaluate-lawful (Tree.string t) p = bind-lawful (count-lawful p) λ _. give-lawful _
-    evaluate-lawful Tree.nothing p = bind-lawful (count-lawful p) λ _. give-lawful _
-    evaluate-lawful (Tree.truth b) p = bind-lawful (count-lawful p) λ _. give-lawful _
-    evaluate-lawful (Tree.name x) p = bind-lawful (count-lawful p) λ _. variable-lawful p x
-    evaluate-lawful (Tree.table e) p =
-        bind-lawful (count-lawful p) λ _. bind-lawful (evaluate-lawful e p) λ v. integer-lawful p v λ z. new-table-lawful p z
-    evaluate-lawful (Tree.entry a b) p =
-        bind-lawful (count-lawful p) λ _. bind-lawful (evaluate-lawful a p) λ v. table-lawful p v λ t.
-        bind-lawful (evaluate-lawful b p) λ k. entry-lawful p t k
-    evaluate-lawful (Tree.operation o a b) p =
-        bind-lawful (count-lawful p) λ _. bind-lawful (evaluate-lawful a p) λ v. bind-lawful (evaluate-lawful b p) λ w. operate-lawful o p v w
-    evaluate-lawful (Tree.call f es) p = bind-lawful (count-lawful p) λ _. bind-lawful (arguments-lawful es p) λ vs. call-lawful _ p vs
-    evaluate-lawful (Tree.paren e) p = evaluate-lawful e p
-
-    arguments-lawful : (es : Arguments) (p : ℕ) → Lawful languageErrors n (evaluateAll es p)
-    arguments-lawful noArgument p = give-lawful []
-    arguments-lawful (argument e es) p =
-        bind-lawful (evaluate-lawful e p) λ v. bind-lawful (arguments-lawful es p) λ vs. give-lawful _
+  count-lawful p = spend-lawful steps 1 p refl refl
 
   -- ---- statements
   continue-lawful : (f : Flow) {k : Action Flow} → Lawful languageErrors n k → Lawful languageErrors n (continue f k)
@@ -392,13 +435,13 @@ module _ {n : ℕ} where
   assigning-lawful : (p : ℕ) (x : List ℕ) (v : Value) → Lawful languageErrors n (assigning p x v)
   unfolding assigning
   assigning-lawful p x v =
-      bind-lawful current-lawful λ s. bind-lawful (refuse-lawful _ 50 p is-50) λ _. bind-lawful (copied-lawful p v) λ u.
+      bind-lawful current-lawful λ s. bind-lawful (refuse-lawful _ 50 p is-50) λ _. bind-lawful (usable-lawful p v) λ _. bind-lawful (copied-lawful p v) λ u.
       bind-lawful current-lawful λ s′. bind-lawful (become-lawful _) λ _. give-lawful _
 
   storing-lawful : (p t : ℕ) (k : Key) (v : Value) (o : Option Value) → Lawful languageErrors n (storing p t k v o)
   unfolding storing resourceNumber
   storing-lawful p t k v Option.none =
-      bind-lawful (spend-lawful entries 1 p refl) λ _. bind-lawful current-lawful λ s. bind-lawful (become-lawful _) λ _. give-lawful _
+      bind-lawful (spend-lawful entries 1 p refl refl) λ _. bind-lawful current-lawful λ s. bind-lawful (become-lawful _) λ _. give-lawful _
   storing-lawful p t k v (some u) = bind-lawful current-lawful λ s. bind-lawful (become-lawful _) λ _. give-lawful _
 
   updating-lawful : (p t : ℕ) (w v : Value) → Lawful languageErrors n (updating p t w v)
@@ -406,70 +449,152 @@ module _ {n : ℕ} where
   updating-lawful p t w v = bind-lawful current-lawful λ s. storing-lawful p t _ v _
 
 -- a step counted is one more
-ending-counted : {A : Type 0} (ns : List ℕ) (n p : ℕ) (ts : List Taking) (e : End A) → Ending ns n ts e → Ending ns (suc n) (taking steps 1 p ∷ ts) e
-unfolding taken part resourceNumber
+ending-counted : {A : Type 0} (ns : List ℕ) (n p : ℕ) (ts : List Event) (e : End A) → Ending ns n ts e → Ending ns (suc n) (taking steps 1 p ∷ ts) e
+unfolding spent part resourceNumber
 ending-counted ns n p ts (result a s) h = tt
 ending-counted ns n p ts (error m q) h = h
 ending-counted ns n p ts unfinished h = omega arith
 
 counted-lawful : {A : Type 0} {n : ℕ} (p : ℕ) {m : Action A} → Lawful languageErrors n m → Lawful languageErrors (suc n) (spend steps 1 p >>= λ _. m)
-unfolding _>>=_ goOn spend taken part resourceNumber
+unfolding _>>=_ goOn spend spent part resourceNumber
 counted-lawful {n = n} p {m} h = record {
   plain = λ s. omega (arith, h .plain s);
   ended = λ s. ending-counted languageErrors n p (m s .takings) (m s .end) (h .ended s);
+  level = bind-lawful (count-lawful p) (λ _. h) .level;
 }
 
-loop-lawful : (n N p : ℕ) (e : Expression) {body : Action Flow} → n ≤ N → Lawful languageErrors N body → Lawful languageErrors n (looping n p (evaluate e p) body)
-unfolding looping taken
-loop-lawful zero N p e l h = record { plain = λ s. refl; ended = λ s. record { counted = le-refl 0; long = le-refl 0 } }
-loop-lawful (suc n) N p e l h =
-    counted-lawful p (bind-lawful (evaluate-lawful e p) λ v. boolean-lawful p v λ b.
-    if-lawful b (bind-lawful (weaken (omega arith) h) λ f. continue-lawful f (loop-lawful n N p e (omega arith) h)) (give-lawful _))
+loop-lawful : (n N p : ℕ) {test : Action Value} {body : Action Flow} → n ≤ N → Lawful languageErrors N test → Lawful languageErrors N body →
+    Lawful languageErrors n (looping n p test body)
+unfolding looping spent
+loop-lawful zero N p l t h = record { plain = λ s. refl; ended = λ s. record { counted = le-refl 0; long = le-refl 0 }; level = λ s d. (_, still) }
+loop-lawful (suc n) N p l t h =
+    counted-lawful p (bind-lawful (weaken (omega arith) t) λ v. boolean-lawful p v λ b.
+    if-lawful b (bind-lawful (weaken (omega arith) h) λ f. continue-lawful f (loop-lawful n N p (omega arith) t h)) (give-lawful _))
 
--- the picture of a procedure
-abbrev paintingOf : ℕ → Procedure → ℤ → ℤ → Action (List Figure)
-paintingOf n main width height =
-    entering (main .parameters) width height >>= λ _. executeAll (main .body) n >>= λ _. current >>= λ s. give (scene s)
+-- ---- expressions, if calls do so: each counted a step before
+module _ {m : ℕ} (invoke : Invoke) (called : (x : List ℕ) (p : ℕ) (vs : List Value) → Lawful languageErrors m (invoke x p vs)) where
+  mutual
+    unfolding evaluate evaluateAll
 
-module _ {n : ℕ} where
+    evaluate-lawful : (e : Expression) (p : ℕ) → Lawful languageErrors (suc m) (evaluate invoke e p)
+    evaluate-lawful (Tree.number z) p = bind-lawful (count-lawful p) λ _. give-lawful _
+    evaluate-lawful (Tree.string t) p = bind-lawful (count-lawful p) λ _. give-lawful _
+    evaluate-lawful Tree.nothing p = bind-lawful (count-lawful p) λ _. give-lawful _
+    evaluate-lawful (Tree.truth b) p = bind-lawful (count-lawful p) λ _. give-lawful _
+    evaluate-lawful (Tree.name x) p = bind-lawful (count-lawful p) λ _. variable-lawful p x
+    evaluate-lawful (Tree.table e) p =
+        bind-lawful (count-lawful p) λ _. bind-lawful (evaluate-lawful e p) λ v. integer-lawful p v λ z. new-table-lawful p z
+    evaluate-lawful (Tree.entry a b) p =
+        bind-lawful (count-lawful p) λ _. bind-lawful (evaluate-lawful a p) λ v. table-lawful p v λ t.
+        bind-lawful (evaluate-lawful b p) λ k. entry-lawful p t k
+    evaluate-lawful (Tree.operation o a b) p =
+        bind-lawful (count-lawful p) λ _. bind-lawful (evaluate-lawful a p) λ v. bind-lawful (evaluate-lawful b p) λ w. operate-lawful o p v w
+    evaluate-lawful (Tree.call f es) p = counted-lawful p (bind-lawful (weaken-one (arguments-lawful es p)) λ vs. called f p vs)
+    evaluate-lawful (Tree.paren e) p = evaluate-lawful e p
+
+    arguments-lawful : (es : Arguments) (p : ℕ) → Lawful languageErrors (suc m) (evaluateAll invoke es p)
+    arguments-lawful noArgument p = give-lawful []
+    arguments-lawful (argument e es) p =
+        bind-lawful (evaluate-lawful e p) λ v. bind-lawful (arguments-lawful es p) λ vs. give-lawful _
+
+-- ---- statements
+module _ (n m : ℕ) (l : n ≤ suc m) (invoke : Invoke) (called : (x : List ℕ) (p : ℕ) (vs : List Value) → Lawful languageErrors m (invoke x p vs)) where
+  value-lawful : (e : Expression) (p : ℕ) → Lawful languageErrors n (evaluate invoke e p)
+  value-lawful e p = weaken l (evaluate-lawful invoke called e p)
+
   mutual
     unfolding execute executeAll
 
-    execute-lawful : (s : Statement) → Lawful languageErrors n (execute s n)
+    execute-lawful : (s : Statement) → Lawful languageErrors n (execute invoke s n)
     execute-lawful (declare p x) = bind-lawful (count-lawful p) λ _. declaring-lawful p x
-    execute-lawful (assign p x e) = bind-lawful (count-lawful p) λ _. bind-lawful (evaluate-lawful e p) λ v. assigning-lawful p x v
+    execute-lawful (assign p x e) = bind-lawful (count-lawful p) λ _. bind-lawful (value-lawful e p) λ v. assigning-lawful p x v
     execute-lawful (update p a b e) =
-        bind-lawful (count-lawful p) λ _. bind-lawful (evaluate-lawful a p) λ v. table-lawful p v λ t.
-        bind-lawful (evaluate-lawful b p) λ k. bind-lawful (evaluate-lawful e p) λ u. updating-lawful p t k u
+        bind-lawful (count-lawful p) λ _. bind-lawful (value-lawful a p) λ v. table-lawful p v λ t.
+        bind-lawful (value-lawful b p) λ k. bind-lawful (value-lawful e p) λ u. updating-lawful p t k u
     execute-lawful (when p e s) =
-        bind-lawful (count-lawful p) λ _. bind-lawful (evaluate-lawful e p) λ v. boolean-lawful p v λ b.
+        bind-lawful (count-lawful p) λ _. bind-lawful (value-lawful e p) λ v. boolean-lawful p v λ b.
         if-lawful b (execute-lawful s) (give-lawful _)
-    execute-lawful (while p e s) = loop-lawful n n p e (le-refl n) (execute-lawful s)
-    execute-lawful (return p e) = bind-lawful (count-lawful p) λ _. bind-lawful (evaluate-lawful e p) λ v. give-lawful _
+    execute-lawful (while p e s) = loop-lawful n n p (le-refl n) (value-lawful e p) (execute-lawful s)
+    execute-lawful (return p e) = bind-lawful (count-lawful p) λ _. bind-lawful (value-lawful e p) λ v. give-lawful _
     execute-lawful (block p ss) = bind-lawful (count-lawful p) λ _. all-lawful ss
-    execute-lawful (act p e) = bind-lawful (count-lawful p) λ _. bind-lawful (evaluate-lawful e p) λ v. give-lawful _
+    execute-lawful (act p e) = bind-lawful (count-lawful p) λ _. bind-lawful (value-lawful e p) λ v. give-lawful _
 
-    all-lawful : (ss : Statements) → Lawful languageErrors n (executeAll ss n)
+    all-lawful : (ss : Statements) → Lawful languageErrors n (executeAll invoke ss n)
     all-lawful (only s) = execute-lawful s
     all-lawful (first s ss) = bind-lawful (execute-lawful s) λ f. continue-lawful f (all-lawful ss)
 
-  entering-lawful : (xs : List (List ℕ)) (width height : ℤ) → Lawful languageErrors n (entering xs width height)
-  unfolding entering
-  entering-lawful [] width height = fail-20 0
-  entering-lawful (x ∷ []) width height = fail-20 0
-  entering-lawful (x ∷ y ∷ []) width height = bind-lawful (refuse-lawful _ 60 0 is-60) λ _. become-lawful _
-  entering-lawful (x ∷ y ∷ z ∷ xs) width height = fail-20 0
+-- ---- calls
+module _ {n : ℕ} where
+  assigning-all-lawful : (p : ℕ) (xs : List (List ℕ)) (vs : List Value) → Lawful languageErrors n (assigningAll p xs vs)
+  unfolding assigningAll
+  assigning-all-lawful p [] vs = give-lawful tt
+  assigning-all-lawful p (x ∷ xs) [] = give-lawful tt
+  assigning-all-lawful p (x ∷ xs) (v ∷ vs) = bind-lawful (assigning-lawful p x v) λ _. assigning-all-lawful p xs vs
 
-  painting-of-lawful : (main : Procedure) (width height : ℤ) → Lawful languageErrors n (paintingOf n main width height)
-  painting-of-lawful main width height =
-      bind-lawful (entering-lawful _ width height) λ _. bind-lawful (all-lawful _) λ _. bind-lawful current-lawful λ s. give-lawful _
+  module _ {body : Statements → Action Flow} (h : (ss : Statements) → Lawful languageErrors n (body ss)) where
+    called-lawful : (f : Procedure) (p : ℕ) (vs : List Value) → Lawful languageErrors n (Procedures.performing body f p vs)
+    unfolding Procedures.performing
+    called-lawful f p vs =
+        bind-lawful (refuse-lawful _ 20 p is-20) λ _. bind-lawful (refuse-lawful _ 60 p is-60) λ _. bind-moving (begin-moving p) λ _.
+        bind-moving (shifted current-lawful) λ s. bind-moving (shifted (become-lawful _)) λ _.
+        bind-moving (shifted (assigning-all-lawful p (f .parameters) vs)) λ _. bind-moving (shifted (h (f .body))) λ flow.
+        bind-moving (shifted current-lawful) λ s′. bind-moving (shifted (become-lawful _)) λ _. bind-moving return-moving λ _. give-lawful _
+
+    procedure-lawful : (o : Option Procedure) (x : List ℕ) (p : ℕ) (vs : List Value) → Lawful languageErrors n (found body o x p vs)
+    unfolding found
+    procedure-lawful Option.none x p vs = call-lawful _ p vs
+    procedure-lawful (some f) x p vs = called-lawful f p vs
+
+-- n calls inside one another: each but the first counted a step after the one before
+abbrev pub lessOne : ℕ → ℕ
+lessOne zero = 0
+lessOne (suc n) = n
+
+less-one : (n : ℕ) → n ≤ suc (lessOne n)
+less-one zero = omega arith
+less-one (suc n) = le-refl (suc n)
+
+pub calling-lawful : (n : ℕ) (fs : List Procedure) (x : List ℕ) (p : ℕ) (vs : List Value) → Lawful languageErrors (lessOne n) (calling n fs x p vs)
+unfolding calling spent
+calling-lawful zero fs x p vs = record { plain = λ s. refl; ended = λ s. record { counted = le-refl 0; long = le-refl 0 }; level = λ s d. (_, still) }
+calling-lawful (suc n) fs x p vs =
+    if-lawful (sameText x (bytes "main")) (fail-20 p)
+    (procedure-lawful (λ ss. all-lawful n (lessOne n) (less-one n) (calling n fs) (calling-lawful n fs) ss) (procedureNamed x fs) x p vs)
+
+-- ---- main
+-- what a program paints
+abbrev paintingOf : ℕ → Tree.Program → ℤ → ℤ → Action (List Figure)
+paintingOf n tree width height =
+    entering (tree .main .parameters) width height >>= λ _. executeAll (calling n (tree .procedures)) (tree .main .body) n >>= λ _.
+    current >>= λ s. giveBack >>= λ _. give (scene s)
+
+module _ {n : ℕ} where
+  entering-moving : (xs : List (List ℕ)) (width height : ℤ) → Moving languageErrors n false true (entering xs width height)
+  unfolding entering
+  entering-moving [] width height = fail-moving 20 0 is-20
+  entering-moving (x ∷ []) width height = fail-moving 20 0 is-20
+  entering-moving (x ∷ y ∷ []) width height =
+      bind-moving (refuse-lawful _ 60 0 is-60) λ _. bind-moving (begin-moving 0) λ _. shifted (become-lawful _)
+  entering-moving (x ∷ y ∷ z ∷ xs) width height = fail-moving 20 0 is-20
+
+  painting-of-lawful : (tree : Tree.Program) (width height : ℤ) → Lawful languageErrors n (paintingOf n tree width height)
+  painting-of-lawful tree width height =
+      let run = all-lawful n (lessOne n) (less-one n) (calling n (tree .procedures)) (calling-lawful n (tree .procedures)) (tree .main .body) in
+      bind-moving (entering-moving (tree .main .parameters) width height) λ _. bind-moving (shifted run) λ _.
+      bind-moving (shifted current-lawful) λ s. bind-moving return-moving λ _. give-lawful _
+
+  -- a `def` of another's name is 60
+  apart-lawful : (o : Option ℕ) (tree : Tree.Program) → Lawful languageErrors n (namedApart o tree)
+  unfolding namedApart
+  apart-lawful Option.none tree = give-lawful tree
+  apart-lawful (some p) tree = fail-lawful 60 p is-60
 
 -- ---- paintings
 -- among some numbers, among more
 more : {A : Type 0} {ns ns′ : List ℕ} {n : ℕ} → ((m : ℕ) → among ns m → among ns′ m) → {a : Action A} → Lawful ns n a → Lawful ns′ n a
-more {A} {ns} {ns′} {n} f {a} h = record { plain = h .plain; ended = λ s. go (a s .takings) (a s .end) (h .ended s) }
+more {A} {ns} {ns′} {n} f {a} h = record { plain = h .plain; ended = λ s. go (a s .takings) (a s .end) (h .ended s); level = h .level }
   where
-    go : (ts : List Taking) (e : End A) → Ending ns n ts e → Ending ns′ n ts e
+    go : (ts : List Event) (e : End A) → Ending ns n ts e → Ending ns′ n ts e
     go ts (result b s) h = tt
     go ts (error m p) h = f m h
     go ts unfinished h = h
@@ -515,7 +640,7 @@ is-73 = refl
 module _ {n : ℕ} where
   understood-lawful : (r : Reading) → LowReading r → Lawful errors n (understood r)
   unfolding understood
-  understood-lawful (wellFormed m) h = give-lawful m
+  understood-lawful (wellFormed m) h = more languages (apart-lawful (doubled [] (m .procedures)) m)
   understood-lawful (malformed m p) h = fail-lawful m p (readings m h)
 
   pub sized-lawful : (program : List ℕ) → Lawful errors n (sized program)
@@ -548,26 +673,32 @@ unfolding specified
 specified-ended o program width height n = performing-ended o program width height n
 
 -- ---- a program that keeps the grammar and the limits, on a sheet
-module _ (program : List ℕ) (width height : ℤ) (main : Procedure) (n : ℕ) (formed : reading program ≡ wellFormed main) (short : length program ≤ 32768)
+module _ (program : List ℕ) (width height : ℤ) (tree : Tree.Program) (n : ℕ) (formed : reading program ≡ wellFormed tree) (short : length program ≤ 32768)
     (a-sheet : ltZ (pos 0) width && ltZ (pos 0) height ≡ true) where
-  -- is painted by its procedure alone
-  painting-is : painting program width height n empty ≡ paintingOf n main width height empty
+  -- is painted by its procedures alone
+  abbrev apart : Action Tree.Program
+  apart = namedApart (doubled [] (tree .procedures)) tree
+
+  painting-is : painting program width height n empty ≡ (apart >>= λ m. paintingOf n m width height) empty
   unfolding painting sheet sized understood refuse give _>>=_ goOn
   painting-is = rw (a-sheet, le-ltb 32768 (length program) short, formed)
 
   painted-ended : Ended languageErrors n (painting program width height n empty)
-  painted-ended = rw painting-is (painting-of-lawful main width height .ended empty)
+  painted-ended = rw painting-is (bind-lawful (apart-lawful (doubled [] (tree .procedures)) tree) (λ m. painting-of-lawful m width height) .ended empty)
 
   abbrev painted : Run (List Figure)
   painted = painting program width height n empty
 
+  checked-ended : Ended languageErrors n ((apart >>= λ m. give accepted) empty)
+  checked-ended = bind-lawful (apart-lawful (doubled [] (tree .procedures)) tree) (λ m. give-lawful accepted) .ended empty
+
   formed-ended : (o : Operation) → Ended languageErrors n (specified o program width height n)
   unfolding specified performing sized understood refuse give spend _>>=_ goOn
-  formed-ended checking = rw (le-ltb 32768 (length program) short, formed) tt
+  formed-ended checking = rw (le-ltb 32768 (length program) short, formed) checked-ended
   formed-ended drawing =
       ended-go languageErrors n (painted .takings) (painted .end)
       (λ a. spend picture (length (pictureOf width height a)) 0 >>= λ _. give (Program.drawn (pictureOf width height a))) painted-ended (λ a s. tt)
 
 pub language-errors : LanguageErrors
-language-errors o program width height main n m p formed short a-sheet e =
-    subst (Ending languageErrors n (specified o program width height n .takings)) e (formed-ended program width height main n formed short a-sheet o)
+language-errors o program width height tree n m p formed short a-sheet e =
+    subst (Ending languageErrors n (specified o program width height n .takings)) e (formed-ended program width height tree n formed short a-sheet o)

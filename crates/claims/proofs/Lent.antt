@@ -26,7 +26,9 @@ record Within (g : Grants) : Type 0 where
 within : (g : Grants) → inRange g ≡ true → Within g
 unfolding inRange
 within g h =
-    let a = parts (leb (g .steps) 4294967295 && leb (g .shapes) 65535 && leb (g .entries) 65535) (leb (g .textBytes) 65535) h in
+    let d = parts (leb (g .steps) 4294967295 && leb (g .shapes) 65535 && leb (g .entries) 65535 && leb (g .textBytes) 65535 && leb 1 (g .calls)) (leb (g .calls) 64) h in
+    let e = parts (leb (g .steps) 4294967295 && leb (g .shapes) 65535 && leb (g .entries) 65535 && leb (g .textBytes) 65535) (leb 1 (g .calls)) (d .0) in
+    let a = parts (leb (g .steps) 4294967295 && leb (g .shapes) 65535 && leb (g .entries) 65535) (leb (g .textBytes) 65535) (e .0) in
     let b = parts (leb (g .steps) 4294967295 && leb (g .shapes) 65535) (leb (g .entries) 65535) (a .0) in
     let c = parts (leb (g .steps) 4294967295) (leb (g .shapes) 65535) (b .0) in
     record { shapes = leb-true _ _ (c .1); entries = leb-true _ _ (b .1); texts = leb-true _ _ (a .1) }
@@ -35,7 +37,7 @@ running-bounded : (g : Grants) → Within g → allWithin 67108864 (readingSlice
 unfolding allWithin
 running-bounded g w =
     one-more 67108864 8193 (16384 ∷ runningSlices g) (omega arith) (one-more 67108864 16384 (runningSlices g) (omega arith)
-    (one-more 67108864 (24584 + 3 * g .shapes + 4 * g .entries) (g .textBytes ∷ []) (omega arith)
+    (one-more 67108864 (278608 + 3 * g .shapes + 4 * g .entries) (g .textBytes ∷ []) (omega arith)
     (one-more 67108864 (g .textBytes) [] (omega arith) refl)))
 
 pub needed-is-bounded : NeededIsBounded

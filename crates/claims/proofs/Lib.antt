@@ -3,6 +3,7 @@ pub mod Turns
 pub mod Refusals
 pub mod Unrun
 pub mod Ends
+pub mod UnderWay
 pub mod Beginnings
 pub mod Settling
 pub mod Answers

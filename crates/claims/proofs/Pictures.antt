@@ -9,17 +9,17 @@ use lib.ListN.{length, take}
 use lib.IntN.{ℤ}
 use Rattle.meaning.specs.Basics.{if_then_else_, laidOver}
 use Rattle.meaning.specs.State.{State}
-use Rattle.meaning.specs.Run.{steps, picture, Taking, taking, End, result, error, unfinished, Run, Action, goOn, _>>=_, give}
+use Rattle.meaning.specs.Run.{steps, picture, Event, taking, End, result, error, unfinished, Run, Action, goOn, _>>=_, give}
 use Rattle.meaning.specs.Run as Run
 use Rattle.meaning.specs.Figure.{Figure}
 use Rattle.meaning.specs.Picture.{pictureOf}
 use Rattle.meaning.specs.Program.{Operation, drawing, Outcome, drawn, empty, painting, performing, specified}
-use Rattle.meaning.specs.Book.{nothingYet, resourceNumber, pictured, number, undecided, answerTo, booked}
+use Rattle.meaning.specs.Book.{resourceNumber, pictured, number, undecided, answerTo, booked}
 use Rattle.meaning.specs.Call.{Call, admitted, granted, grantedTo, runOf, answer, outAfterEnd, outAfter}
 use Rattle.claims.specs.Claims.{totalOf, shortageAt, PicturesFillTheFront}
-use Rattle.meaning.proofs.BookLaws.{part, taken, taken-append}
+use Rattle.meaning.proofs.BookLaws.{part, spent, spent-append}
 use Rattle.meaning.proofs.SliceLaws.{laid-front}
-use Rattle.claims.proofs.Booking.{total-taken}
+use Rattle.claims.proofs.Booking.{picture-spent}
 use Rattle.claims.proofs.Settling.{number-no-picture, booked-short, Complete, booked-complete, Settles, complete, stopped}
 use Rattle.claims.proofs.Answers.{answer-admitted, out-admitted, run-settles}
 
@@ -66,15 +66,15 @@ pub record Drawn (r : Run Outcome) (l : ℕ) : Type 0 where
   pub final : State
   pub ends : r .end ≡ result (drawn bytes) final
   pub long : length bytes ≡ l
-  pub takes : l ≤ taken picture (r .takings)
+  pub takes : l ≤ spent picture (r .takings)
 
-drawn-by : (width height : ℤ) (ts : List Taking) (e : End (List Figure)) {l n : ℕ} (m : ℕ) → answerTo (goOn ts e (showing width height) .end) m ≡ pictured l n →
+drawn-by : (width height : ℤ) (ts : List Event) (e : End (List Figure)) {l n : ℕ} (m : ℕ) → answerTo (goOn ts e (showing width height) .end) m ≡ pictured l n →
     Drawn (goOn ts e (showing width height)) l
-unfolding goOn _>>=_ Run.spend give answerTo taken part resourceNumber
+unfolding goOn _>>=_ Run.spend give answerTo spent part resourceNumber
 drawn-by width height ts (result a s) {l} m h =
     let b = pictureOf width height a in
     let e : length b ≡ l = cc in
-    record { bytes = b; final = s; ends = refl; long = e; takes = omega (arith, taken-append picture ts (taking picture (length b) 0 ∷ [])) }
+    record { bytes = b; final = s; ends = refl; long = e; takes = omega (arith, spent-append picture ts (taking picture (length b) 0 ∷ [])) }
 drawn-by width height ts (error m p) n h = absurd (number-no-picture h)
 drawn-by width height ts unfinished n h = absurd (undecided-no-picture h)
 
@@ -103,7 +103,7 @@ front-drawn c l {b} a o k u e h = ap (take l) (out-drawn c a o k u) ∙ rw (← 
 
 pub drawn-within : (c : Call) (l n : ℕ) → Fitting c l n → Drawn (runOf c) l → l ≤ length (c .out)
 unfolding granted
-drawn-within c l n f d = omega (arith, d .takes, f .whole .within picture, total-taken nothingYet (runOf c .takings) picture)
+drawn-within c l n f d = omega (arith, d .takes, f .whole .within picture, picture-spent (runOf c .takings))
 
 -- THE CLAIM
 pub pictures-fill-the-front : PicturesFillTheFront

@@ -4,10 +4,10 @@ use mathlib.Core.Path.{_≡_, refl, subst}
 use mathlib.Core.Bool.{Bool, true, false}
 use mathlib.Core.List.{List}
 use mathlib.Core.Option.{Option, none, some}
-use Rattle.meaning.specs.Basics.{if_then_else_, standsIn}
+use Rattle.meaning.specs.Basics.{bytes, if_then_else_, standsIn}
 use Rattle.meaning.specs.Token.{Token, Lexed, lexed, stray, tokensOf}
-use Rattle.meaning.specs.Tree.{Operator, Expression, Statement}
-use Rattle.meaning.specs.Grammar.{Got, good, wrong, after, expect, Inside, noLevel, level, opening, ReadExpression, argumentsFrom, arguments, primary, operand, operated, expressionIn, expression, ReadStatement, Readers, declaration, returning, Target, variable, element, noTarget, assignment, simple, guarded, statementsFrom, statementIn, statement, parametersFrom, parameters, procedure, Reading, wellFormed, malformed, readOf, parsed, reading}
+use Rattle.meaning.specs.Tree.{Operator, Expression, Statement, Procedure}
+use Rattle.meaning.specs.Grammar.{Got, good, wrong, after, expect, Inside, noLevel, level, opening, ReadExpression, argumentsFrom, arguments, primary, operand, operated, expressionIn, expression, ReadStatement, Readers, declaration, returning, Target, variable, element, noTarget, assignment, simple, guarded, statementsFrom, statementIn, statement, parametersFrom, parameters, procedure, proceduresFrom, procedureNamed, withMain, procedures, Reading, wellFormed, malformed, readOf, parsed, reading}
 use Rattle.claims.specs.Claims.{among, readingErrors, ReadingErrors}
 
 -- ---- the relation
@@ -148,7 +148,7 @@ module _ (ts : List Token) where
   statement-low zero i = statement-in-low noLevel tt _ (expression-low zero) i
   statement-low (suc left) i = statement-in-low (level _) (expression-low left, statement-low left) _ (expression-low (suc left)) i
 
-  -- ---- the procedure
+  -- ---- procedures
   parameters-from-low : (rounds : ℕ) → LowAt (parametersFrom rounds ts)
   unfolding parametersFrom
   parameters-from-low zero i = wrong-10
@@ -159,12 +159,27 @@ module _ (ts : List Token) where
   unfolding parameters
   parameters-low i = if-low _ fine (parameters-from-low _ i)
 
-  procedure-low : Low (procedure ts)
+  procedure-low : LowAt (procedure ts)
   unfolding procedure
-  procedure-low =
-      after-low (expect-low _ ts 0 _) λ _ i₁. after-low (if-low _ (expect-low _ ts i₁ _) wrong-10) λ _ i₂.
+  procedure-low i =
+      after-low (expect-low _ ts i _) λ _ i₁. after-low (expect-low _ ts i₁ _) λ _ i₂.
       after-low (expect-low _ ts i₂ _) λ _ i₃. after-low (parameters-low i₃) λ xs i₄. after-low (expect-low _ ts i₄ _) λ _ i₅.
-      after-low (statements-from-low _ (statement 64 ts) (statement-low 64) i₅) λ ss i₆. if-low _ fine wrong-10
+      after-low (statements-from-low _ (statement 64 ts) (statement-low 64) i₅) λ ss i₆. fine
+
+  procedures-from-low : (rounds : ℕ) → LowAt (proceduresFrom rounds ts)
+  unfolding proceduresFrom
+  procedures-from-low zero i = wrong-10
+  procedures-from-low (suc rounds) i =
+      after-low (procedure-low i) λ f j. if-low _ fine (after-low (procedures-from-low rounds j) λ fs m. fine)
+
+  main-low : (fs : List Procedure) (j : ℕ) (o : Option Procedure) → Low (withMain ts fs j o)
+  unfolding withMain
+  main-low fs j none = wrong-10
+  main-low fs j (some m) = fine
+
+  procedures-low : Low (procedures ts)
+  unfolding procedures
+  procedures-low = after-low (procedures-from-low _ 0) λ fs j. main-low fs j (procedureNamed (bytes "main") fs)
 
 -- ---- the program
 abbrev pub LowReading : Reading → Type 0
@@ -184,7 +199,7 @@ if-reading false x y h f = f
 parsed-low : (program : List ℕ) (l : Lexed) → LowReading (parsed program l)
 unfolding parsed standsIn
 parsed-low program (stray p) = refl
-parsed-low program (lexed ts) = if-reading _ (malformed 74 _) _ refl (read-low program ts (procedure ts) (procedure-low ts))
+parsed-low program (lexed ts) = if-reading _ (malformed 74 _) _ refl (read-low program ts (procedures ts) (procedures-low ts))
 
 -- THE LAW
 pub reading-low : (program : List ℕ) → LowReading (reading program)

@@ -5,16 +5,17 @@ use mathlib.Core.Logic.{_≢_}
 use mathlib.Core.Bool.{Bool, true, false, _&&_, _||_}
 use mathlib.Core.List.{List, [], _∷_}
 use native.Mathlib.Omega.{arith}
+use native.Mathlib.Nat.{le-trans}
 use lib.Dec.{leb, eqb}
 use borrow.Author.Tests.{lt-leb, leb-true, eqb-true}
 use Rattle.meaning.specs.Basics.{standsIn}
 use Rattle.meaning.specs.State.{State}
-use Rattle.meaning.specs.Run.{Resource, steps, shapes, entries, textBytes, picture, Taking, End, result, error, unfinished, Run}
+use Rattle.meaning.specs.Run.{Resource, steps, shapes, entries, textBytes, calls, picture, Taking, Event, End, result, error, unfinished, Run}
 use Rattle.meaning.specs.Program.{Outcome, accepted, drawn}
 use Rattle.meaning.specs.Book.{Amounts, nothingYet, Booked, allFit, lacking, book, pictured, number, undecided, shortageOf, answerTo, settled, booked}
 use Rattle.claims.specs.Claims.{among, errors, allWithin, namesShortage, totalOf, FirstShort, shortageAt}
 use Rattle.meaning.proofs.BookLaws.{onFit, book-append}
-use Rattle.claims.proofs.Booking.{total-taken, Books, fit, short, books, all-fit, book-short}
+use Rattle.claims.proofs.Booking.{steps-spent, Books, fit, short, books, fit-larger, book-short}
 use Rattle.claims.proofs.Turns.{Extends, same, longer}
 use Rattle.claims.proofs.Ends.{Ending, Ended}
 use Rattle.claims.proofs.Beginnings.{ended-many}
@@ -40,16 +41,17 @@ answer-decided (error m p) n h = number-decided
 answer-decided unfinished n h = absurd (h refl)
 
 -- ---- shortages
--- a resource that is lacking has a number from 76 to 80
-named : (r : Resource) → (leb 76 (shortageOf r) && leb (shortageOf r) 80) ≡ true
+-- a resource that is lacking has a number from 76 to 81
+named : (r : Resource) → (leb 76 (shortageOf r) && leb (shortageOf r) 81) ≡ true
 unfolding shortageOf
 named steps = refl
 named shapes = refl
 named entries = refl
 named textBytes = refl
+named calls = refl
 named picture = refl
 
-pub shortage-named : (before : List Taking) (t : Taking) → namesShortage (shortageAt before t) ≡ true
+pub shortage-named : (before : List Event) (t : Taking) → namesShortage (shortageAt before t) ≡ true
 unfolding namesShortage shortageAt
 shortage-named before t = named (t .of)
 
@@ -69,7 +71,7 @@ errors-within : allWithin 75 errors ≡ true
 unfolding allWithin
 errors-within = refl
 
-pub end-unnamed : (n c : ℕ) (ts : List Taking) (e : End Outcome) → Ending errors c ts e → namesShortage (answerTo e n) ≡ false
+pub end-unnamed : (n c : ℕ) (ts : List Event) (e : End Outcome) → Ending errors c ts e → namesShortage (answerTo e n) ≡ false
 unfolding namesShortage answerTo
 end-unnamed n c ts (result accepted s) h = refl
 end-unnamed n c ts (result (drawn b) s) h = refl
@@ -77,7 +79,7 @@ end-unnamed n c ts (error m p) h = rw (lt-leb 76 m (omega (arith, error-low m er
 end-unnamed n c ts unfinished h = refl
 
 -- the answer where a taking is the first that does not fit
-pub booked-short : (g : Amounts) (r : Run Outcome) (before : List Taking) (t : Taking) → FirstShort g (r .takings) before t →
+pub booked-short : (g : Amounts) (r : Run Outcome) (before : List Event) (t : Taking) → FirstShort g (r .takings) before t →
     booked g r ≡ shortageAt before t
 unfolding booked settled shortageAt
 booked-short g r before t h = rw (book-short g (r .takings) before t h)
@@ -91,7 +93,7 @@ pub record Complete (g : Amounts) (r : Run Outcome) : Type 0 where
 
 pub data Settles (g : Amounts) (r : Run Outcome) : Type 0 where
   complete : Complete g r → Settles g r
-  stopped : (before : List Taking) (t : Taking) → FirstShort g (r .takings) before t → Settles g r
+  stopped : (before : List Event) (t : Taking) → FirstShort g (r .takings) before t → Settles g r
 
 pub settles : (g : Amounts) (r : Run Outcome) → Ended errors (suc (g steps)) r → Settles g r
 settles g r h = by (books g nothingYet (r .takings) (λ x. omega arith))
@@ -100,14 +102,17 @@ settles g r h = by (books g nothingYet (r .takings) (λ x. omega arith))
     by (fit b w) = complete (record {
       booking = b;
       within = w;
-      finished = λ u. omega (arith, ended-many (suc (g steps)) r h u, w steps, total-taken nothingYet (r .takings) steps);
+      finished = λ u. omega (arith, ended-many (suc (g steps)) r h u, w steps, steps-spent (r .takings));
     })
     by (short before t behind s b f) = stopped before t (record { behind = behind; stand = s; beforeFit = b; doesNotFit = f })
 
--- a run that has ended is complete if its totals fit
-pub within-complete : (g : Amounts) (r : Run Outcome) → ((x : Resource) → totalOf (r .takings) x ≤ g x) → r .end ≢ unfinished →
-    Complete g r
-within-complete g r w u = record { booking = all-fit g nothingYet (r .takings) w; within = w; finished = u }
+-- and is complete with a larger grant
+pub complete-larger : (g g′ : Amounts) (r : Run Outcome) → ((x : Resource) → g x ≤ g′ x) → Complete g r → Complete g′ r
+complete-larger g g′ r l k = record {
+  booking = fit-larger g g′ nothingYet (r .takings) l (k .booking);
+  within = λ x. le-trans (k .within x) (l x);
+  finished = k .finished;
+}
 
 -- the answer of a complete run is its end's
 pub booked-complete : (g : Amounts) (r : Run Outcome) → Complete g r → booked g r ≡ answerTo (r .end) (totalOf (r .takings) steps)

@@ -4,9 +4,8 @@ use mathlib.Core.Path.{_≡_, ap, sym, _∙_}
 use mathlib.Core.Bool.{true, false, true≢false}
 use mathlib.Core.List.{List}
 use native.Mathlib.Omega.{arith}
-use native.Mathlib.Nat.{le-trans}
 use lib.ListN.{take}
-use Rattle.meaning.specs.Run.{steps, picture, Taking, Run}
+use Rattle.meaning.specs.Run.{steps, picture, Taking, Event, Run}
 use Rattle.meaning.specs.Program.{drawing, Outcome}
 use Rattle.meaning.specs.Book.{pictured, answerTo, booked}
 use Rattle.meaning.specs.Call.{Call, admitted, granted, grantedTo, runOf, answer, outAfter}
@@ -14,7 +13,7 @@ use Rattle.claims.specs.Claims.{beginningOf, namesShortage, totalOf, Fir
 use Rattle.claims.proofs.Booking.{short-append}
 use Rattle.claims.proofs.Turns.{Extends, same, longer, specified-extends}
 use Rattle.claims.proofs.Beginnings.{extends-behind}
-use Rattle.claims.proofs.Settling.{number-decided, shortage-named, end-unnamed, booked-short, Complete, within-complete, booked-complete, Settles, complete, stopped}
+use Rattle.claims.proofs.Settling.{number-decided, shortage-named, end-unnamed, booked-short, Complete, complete-larger, booked-complete, Settles, complete, stopped}
 use Rattle.claims.proofs.Answers.{answer-admitted, run-ended, run-settles, enough, run-beginning, beginnings-decide}
 use Rattle.claims.proofs.Pictures.{fitting, call-drawn, front-drawn, drawn-within}
 
@@ -37,12 +36,12 @@ complete-alike : (c d : Call) → Larger c d → Complete (grantedTo c) (runOf c
 complete-alike c d h k (same e) = record {
   runs = e;
   smaller = k;
-  larger = rw (← e) (within-complete (grantedTo d) (runOf c) (λ x. le-trans (k .within x) (h .more x)) (k .finished));
+  larger = rw (← e) (complete-larger (grantedTo c) (grantedTo d) (runOf c) (h .more) k);
 }
 complete-alike c d h k (longer u more q) = absurd (k .finished u)
 
 -- a run that stops at a shortage names it
-stopped-named : (c : Call) (before : List Taking) (t : Taking) → FirstShort (grantedTo c) (runOf c .takings) before t →
+stopped-named : (c : Call) (before : List Event) (t : Taking) → FirstShort (grantedTo c) (runOf c .takings) before t →
     namesShortage (booked (grantedTo c) (runOf c)) ≡ true
 stopped-named c before t s = ap namesShortage (booked-short (grantedTo c) (runOf c) before t s) ∙ shortage-named before t
 
@@ -79,22 +78,22 @@ larger-grant c d a a′ h z =
 -- ---- shortages
 -- a call that names one has a first taking that does not fit
 named-short : (c : Call) → namesShortage (booked (grantedTo c) (runOf c)) ≡ true →
-    (before : List Taking) × (t : Taking) × FirstShort (grantedTo c) (runOf c .takings) before t
+    (before : List Event) × (t : Taking) × FirstShort (grantedTo c) (runOf c .takings) before t
 named-short c z = by (run-settles c)
   where
     by : Settles (grantedTo c) (runOf c) →
-        (before : List Taking) × (t : Taking) × FirstShort (grantedTo c) (runOf c .takings) before t
+        (before : List Event) × (t : Taking) × FirstShort (grantedTo c) (runOf c .takings) before t
     by (complete k) =
         absurd (true≢false (sym z ∙ ap namesShortage (booked-complete (grantedTo c) (runOf c) k) ∙ end-unnamed _ _ _ (runOf c .end) (run-ended c)))
     by (stopped before t s) = (before, t, s)
 
 -- and there is a beginning in which it stands
-beginning-short : (c : Call) {before : List Taking} {t : Taking} → FirstShort (grantedTo c) (runOf c .takings) before t →
+beginning-short : (c : Call) {before : List Event} {t : Taking} → FirstShort (grantedTo c) (runOf c .takings) before t →
     FirstShort (grantedTo c) (beginningOf c (enough c) .takings) before t
 beginning-short c s = let w = extends-behind (run-beginning c) in rw (w .1) (short-append (w .0) s)
 
 -- the answer from a beginning
-short-answer : (c : Call) → admitted c ≡ true → (n : ℕ) (before : List Taking) (t : Taking) →
+short-answer : (c : Call) → admitted c ≡ true → (n : ℕ) (before : List Event) (t : Taking) →
     FirstShort (grantedTo c) (beginningOf c n .takings) before t → answer c ≡ shortageAt before t
 unfolding shortageAt
 short-answer c a n before t s =
@@ -106,7 +105,7 @@ pub shortage-exact : ShortageExact
 shortage-exact c a = (named, short-answer c a)
   where
     named : namesShortage (answer c) ≡ true →
-        (n : ℕ) × (before : List Taking) × (t : Taking) × FirstShort (grantedTo c) (beginningOf c n .takings) before t
+        (n : ℕ) × (before : List Event) × (t : Taking) × FirstShort (grantedTo c) (beginningOf c n .takings) before t
         × (answer c ≡ shortageAt before t)
     named z =
         let w = named-short c (ap namesShortage (sym (answer-admitted c a)) ∙ z) in

@@ -3,27 +3,27 @@ use Prim.Native.Nat.{ℕ, suc, _+_, _≤_, _<_}
 use mathlib.Core.Path.{_≡_, refl, ap, sym, _∙_}
 use mathlib.Core.Logic.{_≢_}
 use mathlib.Core.Bool.{Bool, true, false, cond, true≢false}
-use mathlib.Core.List.{List, [], _∷_, _++_}
+use mathlib.Core.List.{List, [], _∷_, _++_, append-nil}
 use native.Mathlib.Omega.{arith}
 use lib.ListN.{length}
 use lib.IntN.{ℤ}
 use lib.Dec.{leb, eqb}
 use borrow.Author.Tests.{lt-leb, le-leb, leb-true, leb-false}
 use Rattle.meaning.specs.State.{State}
-use Rattle.meaning.specs.Run.{Resource, steps, shapes, entries, textBytes, picture, Taking, taking, End, result, error, unfinished, Run, run, goOn, _>>=_, give}
+use Rattle.meaning.specs.Run.{Resource, steps, shapes, entries, textBytes, calls, picture, Taking, Event, taken, gaveBack, taking, End, result, error, unfinished, Run, run, goOn, _>>=_, give}
 use Rattle.meaning.specs.Run as Run
 use Rattle.meaning.specs.Figure.{Figure}
 use Rattle.meaning.specs.Picture.{pictureOf}
 use Rattle.meaning.specs.Program.{Operation, drawing, Outcome, drawn, empty, painting, performing, specified}
-use Rattle.meaning.specs.Book.{Amounts, nothingYet, resourceNumber, added, fits, allFit, book}
+use Rattle.meaning.specs.Book.{Amounts, nothingYet, resourceNumber, added, lowered, fits, allFit, book}
 use Rattle.meaning.specs.Book.{Answer, pictured, number, undecided, shortageOf, lengthNeeded, answerTo, settled, booked}
 use Rattle.meaning.specs.Call.{Call, Grants, admitted, granted, runOf, answer}
 use Rattle.claims.specs.Claims.{errors, beginningOf, namesShortage, totalOf, FirstShort, shortageAt}
 use Rattle.claims.specs.Claims.{ComesTo, LengthIsTold, SameButOut, DrawnIsTold, ToldIsDrawn, NumbersStay}
-use Rattle.meaning.proofs.BookLaws.{part, taken, taken-append}
-use Rattle.claims.proofs.Booking.{total-taken, all-fit, Books, fit, short, books, short-append}
+use Rattle.meaning.proofs.BookLaws.{part, spent, spent-append, onFit, book-append, book-cons}
+use Rattle.claims.proofs.Booking.{steps-spent, picture-spent, all-fit, Books, fit, short, books, short-append}
 use Rattle.claims.proofs.Ends.{Ending, painting-lawful}
-use Rattle.claims.proofs.Settling.{number-no-picture, result-finished, end-unnamed, booked-short, within-complete, booked-complete}
+use Rattle.claims.proofs.Settling.{number-no-picture, result-finished, end-unnamed, booked-short, Complete, booked-complete}
 use Rattle.claims.proofs.Answers.{answer-admitted, turns, beginnings-decide}
 use Rattle.claims.proofs.Unrun.{behind}
 use Rattle.claims.proofs.Pictures.{undecided-no-picture, showing}
@@ -47,15 +47,17 @@ module _ (g : Grants) (out out′ : List ℕ) where
       by shapes n h = refl
       by entries n h = refl
       by textBytes n h = refl
+      by calls n h = refl
       by picture n h = le-leb (total picture + n) (length out) (omega arith) ∙ sym (le-leb (total picture + n) (length out′) (omega arith))
 
-  book-alike : (total : Amounts) (ts : List Taking) → total picture ≡ 0 → taken picture ts ≡ 0 → book (granted g out) total ts ≡ book (granted g out′) total ts
-  unfolding book taken added part
+  book-alike : (total : Amounts) (ts : List Event) → total picture ≡ 0 → spent picture ts ≡ 0 → book (granted g out) total ts ≡ book (granted g out′) total ts
+  unfolding book spent added lowered part resourceNumber
   book-alike total [] z h = refl
-  book-alike total (t ∷ ts) z h = rw (fits-alike total t z (omega arith), book-alike (added total t) ts (omega arith) (omega arith))
+  book-alike total (taken t ∷ ts) z h = rw (fits-alike total t z (omega arith), book-alike (added total t) ts (omega arith) (omega arith))
+  book-alike total (gaveBack ∷ ts) z h = book-alike (lowered total) ts (omega arith) h
 
 -- and the one that lacks is not 80's
-lacks-other : (g : Amounts) (before : List Taking) (t : Taking) → taken picture before ≡ 0 → part picture t ≡ 0 → fits g (totalOf before) t ≡ false →
+lacks-other : (g : Amounts) (before : List Event) (t : Taking) → spent picture before ≡ 0 → part picture t ≡ 0 → fits g (totalOf before) t ≡ false →
     shortageOf (t .of) ≢ 80
 unfolding fits part resourceNumber shortageOf
 lacks-other g before t z = by (t .of) (t .amount)
@@ -65,54 +67,46 @@ lacks-other g before t z = by (t .of) (t .amount)
     by shapes n h f e = omega arith
     by entries n h f e = omega arith
     by textBytes n h f e = omega arith
-    by picture n h f e = omega (arith, leb-false (totalOf before picture + n) (g picture) f, total-taken nothingYet before picture)
+    by calls n h f e = omega arith
+    by picture n h f e = omega (arith, leb-false (totalOf before picture + n) (g picture) f, picture-spent before)
 
 -- ---- a picture taken last
-module _ (g : Grants) (b : List ℕ) (s : State) (ts : List Taking) (none : taken picture ts ≡ 0) (within : (x : Resource) → taken x ts ≤ granted g [] x) (out : List ℕ) where
+module _ (g : Grants) (b : List ℕ) (s : State) (ts : List Event) (none : spent picture ts ≡ 0) (fitting : book (granted g []) nothingYet ts ≡ allFit (totalOf ts))
+    (out : List ℕ) where
   abbrev whole : Taking
-  whole = taking picture (length b) 0
+  whole = record { of = picture; amount = length b; place = 0 }
 
   abbrev shown : Run Outcome
-  shown = run (ts ++ (whole ∷ [])) (result (drawn b) s)
+  shown = run (ts ++ (taken whole ∷ [])) (result (drawn b) s)
 
   -- the out slice bounds only the picture
-  all-within : (x : Resource) → taken x ts ≤ granted g out x
-  unfolding granted
-  all-within steps = within steps
-  all-within shapes = within shapes
-  all-within entries = within entries
-  all-within textBytes = within textBytes
-  all-within picture = omega arith
+  fit-there : book (granted g out) nothingYet ts ≡ allFit (totalOf ts)
+  fit-there = book-alike g out [] nothingYet ts refl none ∙ fitting
 
-  whole-within : length b ≤ length out → (x : Resource) → taken x ts + part x whole ≤ granted g out x
-  unfolding granted part resourceNumber
-  whole-within l steps = omega (arith, within steps)
-  whole-within l shapes = omega (arith, within shapes)
-  whole-within l entries = omega (arith, within entries)
-  whole-within l textBytes = omega (arith, within textBytes)
-  whole-within l picture = omega arith
+  whole-fits : length b ≤ length out → fits (granted g out) (totalOf ts) whole ≡ true
+  unfolding fits granted
+  whole-fits l = le-leb (totalOf ts picture + length b) (length out) (omega (arith, picture-spent ts))
 
-  shown-total : (x : Resource) → totalOf (ts ++ (whole ∷ [])) x ≡ taken x ts + part x whole
-  unfolding taken
-  shown-total x = omega (arith, total-taken nothingYet (ts ++ (whole ∷ [])) x, taken-append x ts (whole ∷ []))
+  shown-booked : length b ≤ length out → book (granted g out) nothingYet (ts ++ (taken whole ∷ [])) ≡ allFit (added (totalOf ts) whole)
+  unfolding onFit book
+  shown-booked l =
+      book-append (granted g out) nothingYet ts (taken whole ∷ [])
+      ∙ rw fit-there (book-cons (granted g out) (totalOf ts) whole [] (whole-fits l))
 
-  shown-fit : length b ≤ length out → booked (granted g out) shown ≡ pictured (length b) (taken steps ts)
-  unfolding answerTo part resourceNumber
-  shown-fit l =
-      booked-complete (granted g out) shown
-      (within-complete (granted g out) shown (λ x. omega (arith, shown-total x, whole-within l x)) result-finished)
-      ∙ ap (pictured (length b)) (shown-total steps ∙ omega arith)
+  shown-fit : length b ≤ length out → booked (granted g out) shown ≡ pictured (length b) (spent steps ts)
+  unfolding booked settled answerTo added resourceNumber
+  shown-fit l = rw (shown-booked l) (ap (pictured (length b)) (omega (arith, steps-spent ts)))
 
-  shown-short : length out < length b → booked (granted g out) shown ≡ number 80 0 (taken steps ts) (length b)
+  shown-short : length out < length b → booked (granted g out) shown ≡ number 80 0 (spent steps ts) (length b)
   unfolding shortageAt shortageOf lengthNeeded resourceNumber fits granted
   shown-short l =
       booked-short (granted g out) shown ts whole (record {
         behind = [];
         stand = refl;
-        beforeFit = all-fit (granted g out) nothingYet ts (λ x. omega (arith, total-taken nothingYet ts x, all-within x));
-        doesNotFit = lt-leb (totalOf ts picture + length b) (length out) (omega (arith, total-taken nothingYet ts picture));
+        beforeFit = fit-there;
+        doesNotFit = lt-leb (totalOf ts picture + length b) (length out) (omega (arith, picture-spent ts));
       })
-      ∙ ap (λ (k : ℕ). number 80 0 k (length b)) (omega (arith, total-taken nothingYet ts steps))
+      ∙ ap (λ (k : ℕ). number 80 0 k (length b)) (steps-spent ts)
 
 -- ---- the two ways of a drawing's run
 -- a picture of l bytes after n steps, where it fits and where not
@@ -131,15 +125,15 @@ undecided-no-number e = let z : _≡_ {A = ℕ} 0 1 = cc in omega arith
 number-is : {m m′ p p′ n n′ l l′ : ℕ} → number m p n l ≡ number m′ p′ n′ l′ → m ≡ m′
 number-is e = cc
 
-module _ (g : Grants) (width height : ℤ) (k : ℕ) (ts : List Taking) (none : taken picture ts ≡ 0) where
+module _ (g : Grants) (width height : ℤ) (k : ℕ) (ts : List Event) (none : spent picture ts ≡ 0) where
   alike : (out : List ℕ) → book (granted g out) nothingYet ts ≡ book (granted g []) nothingYet ts
   alike out = book-alike g out [] nothingYet ts refl none
 
   -- a shortage within the painting
-  module _ (before : List Taking) (t : Taking) (h : FirstShort (granted g []) ts before t) where
-    parts : taken picture before + part picture t ≡ 0
-    unfolding taken
-    parts = omega (arith, none, ap (taken picture) (h .stand), taken-append picture before (t ∷ h .behind))
+  module _ (before : List Event) (t : Taking) (h : FirstShort (granted g []) ts before t) where
+    parts : spent picture before + part picture t ≡ 0
+    unfolding spent
+    parts = omega (arith, none, ap (spent picture) (h .stand), spent-append picture before (taken t ∷ h .behind))
 
     short-in : (out : List ℕ) (e : End (List Figure)) → FirstShort (granted g out) (goOn ts e (showing width height) .takings) before t
     short-in out e =
@@ -148,7 +142,7 @@ module _ (g : Grants) (width height : ℤ) (k : ℕ) (ts : List Taking) (none : 
           behind = h .behind;
           stand = h .stand;
           beforeFit = book-alike g out [] nothingYet before refl (omega (arith, parts)) ∙ h .beforeFit;
-          doesNotFit = fits-alike g out [] (totalOf before) t (omega (arith, parts, total-taken nothingYet before picture)) (omega (arith, parts)) ∙ h .doesNotFit;
+          doesNotFit = fits-alike g out [] (totalOf before) t (omega (arith, parts, picture-spent before)) (omega (arith, parts)) ∙ h .doesNotFit;
         }))
 
     stops-short : (e : End (List Figure)) → ByOut g (goOn ts e (showing width height))
@@ -157,25 +151,25 @@ module _ (g : Grants) (width height : ℤ) (k : ℕ) (ts : List Taking) (none : 
         (λ p n l q. lacks-other (granted g []) before t (omega (arith, parts)) (omega (arith, parts)) (h .doesNotFit) (number-is q))
 
   -- the end of one that fits
-  shows-room : (a : List Figure) (s : State) → ((x : Resource) → taken x ts ≤ granted g [] x) → (out : List ℕ) → (c : Bool) → leb (length (pictureOf width height a)) (length out) ≡ c →
-      booked (granted g out) (goOn ts (result a s) (showing width height)) ≡ byRoom c (length (pictureOf width height a)) (taken steps ts)
+  shows-room : (a : List Figure) (s : State) → book (granted g []) nothingYet ts ≡ allFit (totalOf ts) → (out : List ℕ) → (c : Bool) →
+      leb (length (pictureOf width height a)) (length out) ≡ c →
+      booked (granted g out) (goOn ts (result a s) (showing width height)) ≡ byRoom c (length (pictureOf width height a)) (spent steps ts)
   unfolding goOn _>>=_ Run.spend give byRoom
   shows-room a s w out true e = shown-fit g (pictureOf width height a) s ts none w out (leb-true _ _ e)
   shows-room a s w out false e = shown-short g (pictureOf width height a) s ts none w out (leb-false _ _ e)
 
-  by-end : (e : End (List Figure)) → Ending errors k ts e → book (granted g []) nothingYet ts ≡ allFit (totalOf ts) → ((x : Resource) → totalOf ts x ≤ granted g [] x) →
+  by-end : (e : End (List Figure)) → Ending errors k ts e → book (granted g []) nothingYet ts ≡ allFit (totalOf ts) →
       ByOut g (goOn ts e (showing width height))
   unfolding goOn booked settled answerTo namesShortage
-  by-end (result a s) h b w =
-      shows (length (pictureOf width height a)) (taken steps ts) (picture-some width height a)
-      (λ out. shows-room a s (λ x. omega (arith, w x, total-taken nothingYet ts x)) out _ refl)
-  by-end (error m p) h b w =
+  by-end (result a s) h b =
+      shows (length (pictureOf width height a)) (spent steps ts) (picture-some width height a) (λ out. shows-room a s b out _ refl)
+  by-end (error m p) h b =
       stops (number m p (totalOf ts steps) 0) (λ out. rw (alike out, b)) (λ l n. number-no-picture)
       (λ q n l e. true≢false (sym (ap namesShortage e) ∙ end-unnamed (totalOf ts steps) k ts (error m p) h))
-  by-end unfinished h b w = stops undecided (λ out. rw (alike out, b)) (λ l n. undecided-no-picture) (λ p n l. undecided-no-number)
+  by-end unfinished h b = stops undecided (λ out. rw (alike out, b)) (λ l n. undecided-no-picture) (λ p n l. undecided-no-number)
 
   by-books : (e : End (List Figure)) → Ending errors k ts e → Books (granted g []) nothingYet ts → ByOut g (goOn ts e (showing width height))
-  by-books e h (fit b w) = by-end e h b w
+  by-books e h (fit b w) = by-end e h b
   by-books e h (short before t after s b f) = stops-short before t (record { behind = after; stand = s; beforeFit = b; doesNotFit = f }) e
 
 -- ---- calls
@@ -250,17 +244,17 @@ error-no-result e = let z : _≡_ {A = ℕ} 0 1 = cc in omega arith
 unfinished-no-result : {A : Type 0} {a : A} {s : State} → unfinished ≢ result a s
 unfinished-no-result e = let z : _≡_ {A = ℕ} 0 1 = cc in omega arith
 
-takes-by : (width height : ℤ) (ts : List Taking) (e : End (List Figure)) {b : List ℕ} {s : State} → taken picture ts ≡ 0 →
-    goOn ts e (showing width height) .end ≡ result (drawn b) s → taken picture (goOn ts e (showing width height) .takings) ≡ length b
-unfolding goOn _>>=_ Run.spend give taken part resourceNumber
+takes-by : (width height : ℤ) (ts : List Event) (e : End (List Figure)) {b : List ℕ} {s : State} → spent picture ts ≡ 0 →
+    goOn ts e (showing width height) .end ≡ result (drawn b) s → spent picture (goOn ts e (showing width height) .takings) ≡ length b
+unfolding goOn _>>=_ Run.spend give spent part resourceNumber
 takes-by width height ts (result a s′) {b} h q =
     let z : pictureOf width height a ≡ b = cc in
-    omega (arith, ap length z, taken-append picture ts (taking picture (length (pictureOf width height a)) 0 ∷ []))
+    omega (arith, ap length z, spent-append picture ts (taking picture (length (pictureOf width height a)) 0 ∷ []))
 takes-by width height ts (error m p) h q = absurd (error-no-result q)
 takes-by width height ts unfinished h q = absurd (unfinished-no-result q)
 
 takes-picture : (o : Operation) (program : List ℕ) (width height : ℤ) (k : ℕ) {b : List ℕ} {s : State} → o ≡ drawing →
-    specified o program width height k .end ≡ result (drawn b) s → taken picture (specified o program width height k .takings) ≡ length b
+    specified o program width height k .end ≡ result (drawn b) s → spent picture (specified o program width height k .takings) ≡ length b
 unfolding specified performing _>>=_
 takes-picture o program width height k e =
     let r = painting program width height k empty in
@@ -281,25 +275,33 @@ module _ (c : Call) (o : c .operation ≡ drawing) (a : admitted c ≡ true) (n 
   ended : beginningOf c n .end ≢ unfinished
   ended u = result-finished (sym (h .ends) ∙ u)
 
-  takes : taken picture (beginningOf c n .takings) ≡ length b
+  takes : spent picture (beginningOf c n .takings) ≡ length b
   takes =
       let e = beginning-is c n ended in
       rw e (takes-picture (c .operation) (c .program) (c .width) (c .height) (turns c n) o (ap (λ (r : Run Outcome). r .end) (sym e) ∙ h .ends))
 
-  within : (x : Resource) → totalOf (beginningOf c n .takings) x ≤ granted (c .grants) b x
+  within : (before behind : List Event) → beginningOf c n .takings ≡ before ++ behind → (x : Resource) → totalOf before x ≤ granted (c .grants) b x
   unfolding granted resourceNumber
-  within steps = h .fit steps (apart steps (λ z. omega arith))
-  within shapes = h .fit shapes (apart shapes (λ z. omega arith))
-  within entries = h .fit entries (apart entries (λ z. omega arith))
-  within textBytes = h .fit textBytes (apart textBytes (λ z. omega arith))
-  within picture = omega (arith, takes, total-taken nothingYet (beginningOf c n .takings) picture)
+  within before behind e steps = h .fit before behind e steps (apart steps (λ z. omega arith))
+  within before behind e shapes = h .fit before behind e shapes (apart shapes (λ z. omega arith))
+  within before behind e entries = h .fit before behind e entries (apart entries (λ z. omega arith))
+  within before behind e textBytes = h .fit before behind e textBytes (apart textBytes (λ z. omega arith))
+  within before behind e calls = h .fit before behind e calls (apart calls (λ z. omega arith))
+  within before behind e picture = omega (arith, takes, picture-spent before, ap (spent picture) e, spent-append picture before behind)
+
+  all-there : Complete (granted (c .grants) b) (beginningOf c n)
+  all-there = record {
+    booking = all-fit (granted (c .grants) b) nothingYet (beginningOf c n .takings) within;
+    within = within (beginningOf c n .takings) [] (sym (append-nil (beginningOf c n .takings)));
+    finished = ended;
+  }
 
   drawn-there : answer (roomy c b) ≡ pictured (length b) (totalOf (beginningOf c n .takings) steps)
   unfolding answerTo admitted
   drawn-there =
-      let k = within-complete (granted (c .grants) b) (beginningOf c n) within ended in
       let e : booked (granted (c .grants) b) (beginningOf c n) ≡ pictured (length b) (totalOf (beginningOf c n .takings) steps) =
-      booked-complete (granted (c .grants) b) (beginningOf c n) k ∙ ap (λ (x : End Outcome). answerTo x (totalOf (beginningOf c n .takings) steps)) (h .ends) in
+      booked-complete (granted (c .grants) b) (beginningOf c n) all-there
+      ∙ ap (λ (x : End Outcome). answerTo x (totalOf (beginningOf c n .takings) steps)) (h .ends) in
       sym (beginnings-decide (roomy c b) a .0 n (rw e pictured-decided)) ∙ e
 
 -- THE CLAIM

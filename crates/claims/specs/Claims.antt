@@ -2,22 +2,25 @@
 use Prim.Native.Nat.{ℕ, suc, _+_, _≤_, _<_}
 use mathlib.Core.Path.{_≡_}
 use mathlib.Core.Logic.{_≢_}
-use mathlib.Core.Bool.{Bool, true, false, not, _&&_}
+use mathlib.Core.Bool.{Bool, true, false, not, _&&_, cond}
 use mathlib.Core.List.{List, [], _∷_, _++_}
+use mathlib.Core.Option.{some}
 use lib.ListN.{length, take}
 use lib.IntN.{ℤ, pos}
 use lib.Signed.{ltZ}
-use lib.Dec.{leb}
+use lib.Dec.{leb, eqb}
 use Rattle.meaning.specs.Basics.{sameText, laidOver, standsIn}
 use Rattle.meaning.specs.Integer.{isNegative}
 use Rattle.meaning.specs.Figure.{Figure, line, ellipse, box, text}
 use Rattle.meaning.specs.Picture.{plainLine, turned, lineOf}
-use Rattle.meaning.specs.Tree.{Procedure}
+use Rattle.meaning.specs.Tree.{Procedure, Program}
 use Rattle.meaning.specs.Grammar.{wellFormed, malformed, reading}
+use Rattle.meaning.specs.Value.{Value}
 use Rattle.meaning.specs.State.{State}
-use Rattle.meaning.specs.Run.{Resource, steps, picture, Taking, taking, Run, run, result, error, unfinished}
+use Rattle.meaning.specs.Run.{Resource, steps, calls, picture, Taking, Event, taken, gaveBack, taking, Run, run, result, error, unfinished}
+use Rattle.meaning.specs.Procedure.{doubled, calling}
 use Rattle.meaning.specs.Program.{Operation, checking, drawing, Outcome, drawn, specified, beginning}
-use Rattle.meaning.specs.Book.{Amounts, nothingYet, added, fits, allFit, book, Answer, pictured, number, undecided, shortageOf, lengthNeeded, booked}
+use Rattle.meaning.specs.Book.{Amounts, nothingYet, resourceNumber, added, lowered, fits, allFit, book, Answer, pictured, number, undecided, shortageOf, lengthNeeded, booked}
 use Rattle.meaning.specs.Call.{Call, Grants, inRange, needed, admitted, grantedTo, runOf, answer, outAfter}
 
 -- ---- beginnings
@@ -27,7 +30,7 @@ BeginningsExtend =
     (o : Operation) (program : List ℕ) (width height : ℤ) (n k : ℕ) →
     take n (beginning o program width height (n + k) .takings) ≡ beginning o program width height n .takings
 
--- a beginning of n takings has n, where the run has not ended
+-- a beginning of n takings and returns has n, where the run has not ended
 abbrev pub BeginningsFill : Type 0
 BeginningsFill =
     (o : Operation) (program : List ℕ) (width height : ℤ) (n : ℕ) →
@@ -51,7 +54,7 @@ BeginningsDecide =
     × ((n : ℕ) × (booked (grantedTo c) (beginningOf c n) ≡ answer c))
 
 -- ---- the numbers of document 01
--- what reading can end in, what a program that runs can, and both with 72 and 73. 71 and the shortages, 76 to 80, stand apart.
+-- what reading can end in, what a program that runs can, and both with 72 and 73. 71 and the shortages, 76 to 81, stand apart.
 abbrev pub readingErrors : List ℕ
 readingErrors = 10 ∷ 74 ∷ 75 ∷ []
 
@@ -69,8 +72,8 @@ ReadingErrors = (program : List ℕ) (m p : ℕ) → reading program ≡ malform
 
 abbrev pub LanguageErrors : Type 0
 LanguageErrors =
-    (o : Operation) (program : List ℕ) (width height : ℤ) (main : Procedure) (n m p : ℕ) →
-    reading program ≡ wellFormed main → length program ≤ 32768 → ltZ (pos 0) width && ltZ (pos 0) height ≡ true →
+    (o : Operation) (program : List ℕ) (width height : ℤ) (tree : Program) (n m p : ℕ) →
+    reading program ≡ wellFormed tree → length program ≤ 32768 → ltZ (pos 0) width && ltZ (pos 0) height ≡ true →
     specified o program width height n .end ≡ error m p → among languageErrors m
 
 -- ---- work slices
@@ -109,12 +112,13 @@ twoNames (x ∷ []) = false
 twoNames (x ∷ y ∷ []) = not (sameText x y)
 twoNames (x ∷ y ∷ z ∷ more) = false
 
--- a program that is refused unrun: 72, 73, the numbers of reading, and main's 20 and 60
+-- a program that is refused unrun: 72, 73, the numbers of reading, 60 for a `def`, and main's 20 and 60
 pub data Unrun (program : List ℕ) (width height : ℤ) : Type 0 where
   noSheet : ltZ (pos 0) width && ltZ (pos 0) height ≡ false → Unrun program width height
   tooLong : 32768 < length program → Unrun program width height
   unread : (m p : ℕ) → reading program ≡ malformed m p → Unrun program width height
-  unentered : (main : Procedure) → reading program ≡ wellFormed main → twoNames (main .parameters) ≡ false → Unrun program width height
+  namedTwice : (tree : Program) (p : ℕ) → reading program ≡ wellFormed tree → doubled [] (tree .procedures) ≡ some p → Unrun program width height
+  unentered : (tree : Program) → reading program ≡ wellFormed tree → twoNames (tree .main .parameters) ≡ false → Unrun program width height
 
 abbrev pub UnrunTakesNothing : Type 0
 UnrunTakesNothing =
@@ -127,12 +131,12 @@ UnrunIsRefused =
     (o : Operation) (program : List ℕ) (width height : ℤ) (n : ℕ) → o ≢ checking → Unrun program width height →
     (m : ℕ) × (p : ℕ) × (specified o program width height n ≡ run [] (error m p))
 
--- every other program is run, and its first taking is a step
+-- every other program is run, and takes main's call and a step first
 abbrev pub OthersTakeAStep : Type 0
 OthersTakeAStep =
     (o : Operation) (program : List ℕ) (width height : ℤ) (n : ℕ) → o ≢ checking →
     (Unrun program width height → ⊥) →
-    (p : ℕ) × (more : List Taking) × (specified o program width height (suc n) .takings ≡ taking steps 1 p ∷ more)
+    (p : ℕ) × (more : List Event) × (specified o program width height (suc n) .takings ≡ taking calls 1 0 ∷ taking steps 1 p ∷ more)
 
 -- ---- demand 3, the larger-grant rule
 -- d calls the same operation on the same program, width and height, with no granted count and no out slice smaller
@@ -143,10 +147,10 @@ pub record Larger (c d : Call) : Type 0 where
   pub height : d .height ≡ c .height
   pub more : (r : Resource) → grantedTo c r ≤ grantedTo d r
 
--- an answer that names something lacking: 76 to 80
+-- an answer that names something lacking: 76 to 81
 unfoldable pub namesShortage : Answer → Bool
 namesShortage (pictured l n) = false
-namesShortage (number m p n l) = leb 76 m && leb m 80
+namesShortage (number m p n l) = leb 76 m && leb m 81
 namesShortage undecided = false
 
 -- a larger grant changes no result that named nothing lacking, nor a byte of the picture
@@ -156,23 +160,24 @@ LargerGrant =
     (answer d ≡ answer c)
     × ((l n : ℕ) → c .operation ≡ drawing → answer c ≡ pictured l n → take l (outAfter d) ≡ take l (outAfter c))
 
--- the totals of some takings, from totals on
-unfoldable pub totalFrom : Amounts → List Taking → Amounts
+-- the totals that some takings and returns come to, from totals on
+unfoldable pub totalFrom : Amounts → List Event → Amounts
 totalFrom total [] = total
-totalFrom total (t ∷ ts) = totalFrom (added total t) ts
+totalFrom total (taken t ∷ es) = totalFrom (added total t) es
+totalFrom total (gaveBack ∷ es) = totalFrom (lowered total) es
 
-abbrev pub totalOf : List Taking → Amounts
+abbrev pub totalOf : List Event → Amounts
 totalOf ts = totalFrom nothingYet ts
 
 -- t is the first of some takings that does not fit what is left of the grant; `before` are those in front of it, which all fit
-pub record FirstShort (granted : Amounts) (ts before : List Taking) (t : Taking) : Type 0 where
-  pub behind : List Taking
-  pub stand : ts ≡ before ++ (t ∷ behind)
+pub record FirstShort (granted : Amounts) (ts before : List Event) (t : Taking) : Type 0 where
+  pub behind : List Event
+  pub stand : ts ≡ before ++ (taken t ∷ behind)
   pub beforeFit : book granted nothingYet before ≡ allFit (totalOf before)
   pub doesNotFit : fits granted (totalOf before) t ≡ false
 
 -- the answer that names it: its number, its place, the steps counted by then, and of a picture the length
-unfoldable pub shortageAt : List Taking → Taking → Answer
+unfoldable pub shortageAt : List Event → Taking → Answer
 shortageAt before t = number (shortageOf (t .of)) (t .place) (totalOf before steps) (lengthNeeded t)
 
 -- a shortage is answered exactly where a taking of the specified run is the first that does not fit
@@ -180,15 +185,46 @@ abbrev pub ShortageExact : Type 0
 ShortageExact =
     (c : Call) → admitted c ≡ true →
     (namesShortage (answer c) ≡ true →
-    (n : ℕ) × (before : List Taking) × (t : Taking) × FirstShort (grantedTo c) (beginningOf c n .takings) before t × (answer c ≡ shortageAt before t))
-    × ((n : ℕ) (before : List Taking) (t : Taking) → FirstShort (grantedTo c) (beginningOf c n .takings) before t → answer c ≡ shortageAt before t)
+    (n : ℕ) × (before : List Event) × (t : Taking) × FirstShort (grantedTo c) (beginningOf c n .takings) before t × (answer c ≡ shortageAt before t))
+    × ((n : ℕ) (before : List Event) (t : Taking) → FirstShort (grantedTo c) (beginningOf c n .takings) before t → answer c ≡ shortageAt before t)
+
+-- ---- calls under way
+-- how many calls begin among some takings and returns, and how many return
+unfoldable pub begun : List Event → ℕ
+begun [] = 0
+begun (taken t ∷ es) = cond (eqb (resourceNumber calls) (resourceNumber (t .of))) 1 0 + begun es
+begun (gaveBack ∷ es) = begun es
+
+unfoldable pub over : List Event → ℕ
+over [] = 0
+over (taken t ∷ es) = over es
+over (gaveBack ∷ es) = suc (over es)
+
+-- At each point of the specified run the total of calls is how many have begun and not returned. So 81, which is answered where it would pass the grant
+-- (`ShortageExact`), says that one call more than was granted would be under way.
+abbrev pub CallsUnderWay : Type 0
+CallsUnderWay =
+    (o : Operation) (program : List ℕ) (width height : ℤ) (n : ℕ) (before behind : List Event) →
+    specified o program width height n .takings ≡ before ++ behind → totalOf before calls + over before ≡ begun before
+
+-- a call that has returned leaves the total as it was, whatever it called in turn
+abbrev pub ReturnsGiveBack : Type 0
+ReturnsGiveBack =
+    (n : ℕ) (procedures : List Procedure) (f : List ℕ) (p : ℕ) (vs : List Value) (s s′ : State) (v : Value) (total : Amounts) →
+    calling n procedures f p vs s .end ≡ result v s′ → totalFrom total (calling n procedures f p vs s .takings) calls ≡ total calls
+
+-- and so does a picture: none is under way then
+abbrev pub NoneUnderWay : Type 0
+NoneUnderWay =
+    (program : List ℕ) (width height : ℤ) (n : ℕ) (b : List ℕ) (s : State) →
+    specified drawing program width height n .end ≡ result (drawn b) s → totalOf (specified drawing program width height n .takings) calls ≡ 0
 
 -- ---- the out slice's length
--- the specified run, by a beginning of n takings, comes to the picture b, and all that it takes but the picture fits what was granted
+-- the specified run, by a beginning of n takings, comes to the picture b, and at each point all that it has taken but the picture fits what was granted
 pub record ComesTo (c : Call) (n : ℕ) (b : List ℕ) : Type 0 where
   pub final : State
   pub ends : beginningOf c n .end ≡ result (drawn b) final
-  pub fit : (r : Resource) → r ≢ picture → totalOf (beginningOf c n .takings) r ≤ grantedTo c r
+  pub fit : (before behind : List Event) → beginningOf c n .takings ≡ before ++ behind → (r : Resource) → r ≢ picture → totalOf before r ≤ grantedTo c r
 
 -- with an out slice of length 0 every program that comes to a picture gets 80 at place 0 with that picture's length and steps
 abbrev pub LengthIsTold : Type 0

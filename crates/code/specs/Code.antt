@@ -1,16 +1,18 @@
 -- The code of a program: its tree as a list of words, which the evaluator runs.
 -- An expression's word stands behind its parts, so the last word of its code is its root. A statement's word stands before its parts, so the code of
--- a body's statements is theirs one after the other. Each word holds how many words its code has. Parentheses leave no word.
+-- a body's statements is theirs one after the other. Each word holds how many words its code has. Parentheses leave no word. A procedure's code is the
+-- slots of its parameters and its body's.
 use Prim.Native.Nat.{ℕ, _+_, _*_}
 use mathlib.Core.Bool.{Bool, true, false}
-use mathlib.Core.List.{List, [], _∷_, _++_}
-use lib.ListN.{length}
+use mathlib.Core.List.{List, [], _∷_, _++_, map}
+use lib.ListN.{length, set}
+use Rattle.meaning.specs.Basics.{if_then_else_, sameText}
 use Rattle.meaning.specs.Token.{Token, aName, aString}
-use Rattle.meaning.specs.Tree.{Expression, number, string, nothing, truth, name, table, entry, operation, call, paren, Arguments, noArgument, argument, Statement, declare, assign, update, when, while, return, block, act, Statements, only, first}
+use Rattle.meaning.specs.Tree.{Expression, number, string, nothing, truth, name, table, entry, operation, call, paren, Arguments, noArgument, argument, Statement, declare, assign, update, when, while, return, block, act, Statements, only, first, Procedure}
 use Rattle.meaning.specs.Grammar.{startAt}
 use Rattle.meaning.specs.Integer.{bits}
-use Rattle.machine.specs.Opcodes.{word, tagNumber, tagString, tagNone, tagTruth, tagName, tagTable, tagEntry, tagCall, tagArgument, tagOf, tagDeclare, tagAssign, tagUpdate, tagWhen, tagWhile, tagReturn, tagBlock, tagAct}
-use Rattle.names.specs.Prepared.{home, libraryNumber}
+use Rattle.machine.specs.Opcodes.{word, procedureWord, tagNumber, tagString, tagNone, tagTruth, tagName, tagTable, tagEntry, tagCall, tagArgument, tagOf, tagDeclare, tagAssign, tagUpdate, tagWhen, tagWhile, tagReturn, tagBlock, tagAct}
+use Rattle.names.specs.Prepared.{home, procedureNumber}
 
 -- ---- expressions
 -- a variable is known by the first token with its name
@@ -40,7 +42,7 @@ unfoldable mutual
   codeOf (entry a b) ts = joined tagEntry (codeOf a ts) (codeOf b ts)
   codeOf (operation o a b) ts = joined (tagOf o) (codeOf a ts) (codeOf b ts)
   codeOf (call f es) ts =
-      codeOfAll es ts ++ (word tagCall (length (codeOfAll es ts) + 1) (libraryNumber f) ∷ [])
+      codeOfAll es ts ++ (word tagCall (length (codeOfAll es ts) + 1) (procedureNumber f + 16 * slotOf ts f) ∷ [])
   codeOf (paren e) ts = codeOf e ts
 
   pub codeOfAll : Arguments → List Token → List ℕ
@@ -66,3 +68,27 @@ unfoldable mutual
   pub codeOfStatements : Statements → List Token → List ℕ
   codeOfStatements (only s) ts = codeOfStatement s ts
   codeOfStatements (first s ss) ts = codeOfStatement s ts ++ codeOfStatements ss ts
+
+-- ---- procedures
+-- the slots of its parameters, and its body
+unfoldable pub codeOfProcedure : Procedure → List Token → List ℕ
+codeOfProcedure f ts = map (slotOf ts) (f .parameters) ++ codeOfStatements (f .body) ts
+
+-- one after the other
+unfoldable pub codeOfProcedures : List Procedure → List Token → List ℕ
+codeOfProcedures [] ts = []
+codeOfProcedures (f ∷ fs) ts = codeOfProcedure f ts ++ codeOfProcedures fs ts
+
+-- a procedure's word in the table, where its code begins at a
+abbrev pub headWord : ℕ → Procedure → List Token → ℕ
+headWord a f ts = procedureWord a (length (f .parameters)) (length (codeOfStatements (f .body) ts))
+
+-- a table with the words of some procedures, by the slots of their names; their code begins at a
+unfoldable pub tabled : ℕ → List Procedure → List Token → List ℕ → List ℕ
+tabled a [] ts words = words
+tabled a (f ∷ fs) ts words = tabled (a + length (codeOfProcedure f ts)) fs ts (set words (slotOf ts (f .name)) (headWord a f ts))
+
+-- the word of the first procedure of a name; 0 if there is none
+unfoldable pub headNamed : ℕ → List Procedure → List Token → List ℕ → ℕ
+headNamed a [] ts x = 0
+headNamed a (f ∷ fs) ts x = if sameText (f .name) x then (λ _. headWord a f ts) else λ _. headNamed (a + length (codeOfProcedure f ts)) fs ts x

@@ -1,8 +1,10 @@
 // Words of code.
+use machine::layout;
 ghost use mathlib.Core.Path.{_≡_};
 ghost use Prim.Native.Nat.{_+_, _-_, _^_, _<_, _≤_};
 ghost use lib.ListN.{set};
-ghost use Rattle.machine.specs.Opcodes.{word, tagIn, sizeIn, numberIn, placeIn, extraIn, argumentRoot};
+ghost use Rattle.machine.specs.Opcodes.{word, procedureWord, tagIn, sizeIn, numberIn, placeIn, extraIn, argumentRoot};
+ghost use Rattle.machine.specs.Opcodes.{libraryIn, calleeIn, tablePlace, startIn, parametersIn, bodyIn};
 
 // A word of a tag, a size and a number.
 pub fn word_of(tag: u64, size: u64, n: u64) -> u64
@@ -10,6 +12,14 @@ pub fn word_of(tag: u64, size: u64, n: u64) -> u64
     ensures { λ r. ⌜ r ≡ word tag size n ⌝ }
 {
     tag + 256 * size + 4294967296 * n
+}
+
+// The word of a procedure in the table: where its code begins, how many parameters it has, and how many words its body has.
+pub fn procedure_word(start: u64, parameters: u64, size: u64) -> u64
+    requires { ⌜ (start < 65536) × (parameters < 65536) × (size < 4294967296) ⌝ }
+    ensures { λ r. ⌜ r ≡ procedureWord start parameters size ⌝ }
+{
+    start + 65536 * parameters + 4294967296 * size
 }
 
 // A word's tag.
@@ -53,6 +63,47 @@ pub fn extra_of(w: u64) -> usize
     ensures { λ r. ⌜ (r ≡ extraIn w) × (r < 65536) ⌝ }
 {
     (w / 4294967296 / 65536) as usize
+}
+
+// ---- a call's word, and that of a procedure in the table
+// The number of the library's procedure that it names, or that of every other name or of main.
+pub fn library_of(w: u64) -> u64
+    ensures { λ r. ⌜ r ≡ libraryIn w ⌝ }
+{
+    w / 4294967296 % 16
+}
+
+// The slot of the name.
+pub fn callee_of(w: u64) -> usize
+    ensures { λ r. ⌜ (r ≡ calleeIn w) × (r < 2 ^ 32) ⌝ }
+{
+    (w / 4294967296 / 16) as usize
+}
+
+// Where the word of the procedure stands whose name has this slot.
+pub fn table_place(slot: usize) -> usize
+    ensures { λ r. ⌜ r ≡ tablePlace slot ⌝ }
+{
+    layout::FIRST_PROCEDURE + slot % layout::SLOTS
+}
+
+// Where the slots of its parameters stand, how many they are, and how many words its body has.
+pub fn start_of(d: u64) -> usize
+    ensures { λ r. ⌜ (r ≡ startIn d) × (r < 2 ^ 16) ⌝ }
+{
+    (d % 65536) as usize
+}
+
+pub fn parameters_of(d: u64) -> usize
+    ensures { λ r. ⌜ (r ≡ parametersIn d) × (r < 2 ^ 16) ⌝ }
+{
+    (d / 65536 % 65536) as usize
+}
+
+pub fn body_of(d: u64) -> usize
+    ensures { λ r. ⌜ (r ≡ bodyIn d) × (r < 2 ^ 32) ⌝ }
+{
+    (d / 4294967296) as usize
 }
 
 // ---- where code stands, by a word of it

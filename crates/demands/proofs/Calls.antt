@@ -13,7 +13,7 @@ use mir.Val.{toZ, ofZ, SFits}
 use mir.Facts.{toZ-ofZ}
 use borrow.Author.Tests.{eq-eqb, ne-eqb}
 use Rattle.meaning.specs.Basics.{if_then_else_, laidOver, standsIn}
-use Rattle.meaning.specs.Run.{steps, shapes, entries, textBytes, picture, Resource, Taking, End, result, error, unfinished}
+use Rattle.meaning.specs.Run.{steps, shapes, entries, textBytes, calls, picture, Resource, Taking, End, result, error, unfinished}
 use Rattle.meaning.specs.Program.{accepted, drawing, Outcome}
 use Rattle.meaning.specs.Program as Program
 use Rattle.meaning.specs.Book.{Answer, pictured, number, undecided, answerTo, shortageOf, lengthNeeded}
@@ -64,6 +64,7 @@ shortage-named steps z = omega arith
 shortage-named shapes z = omega arith
 shortage-named entries z = omega arith
 shortage-named textBytes z = omega arith
+shortage-named calls z = omega arith
 shortage-named picture z = omega arith
 
 pub named : (c : Call) (m p n l : ℕ) → answer c ≡ number m p n l → m ≢ 0

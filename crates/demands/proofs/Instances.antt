@@ -1,23 +1,23 @@
 -- The demands speak of something: a call that returned a picture, one for each of the language's errors and for each shortage, and refused ones.
 use Prim.Native.Nat.{ℕ}
 use Prim.Native.String.{String}
-use mathlib.Core.Path.{_≡_, refl, _∙_}
+use mathlib.Core.Path.{_≡_, refl, ap, _∙_}
 use mathlib.Core.List.{List, [], _∷_}
-use lib.ListN.{replicate}
+use lib.ListN.{replicate, length-replicate}
 use lib.IntN.{pos}
 use Rattle.meaning.specs.Program.{drawing}
 use Rattle.meaning.specs.Book.{Answer, pictured, number}
 use Rattle.meaning.specs.Call.{Call, answer}
 use Rattle.meaning.proofs.Computing.{everything}
 use Rattle.meaning.proofs.Readings.{main}
-use Rattle.lending.specs.Lending.{called}
+use Rattle.lending.specs.Lending.{grantsOf, called}
 use Rattle.demands.specs.Demands.{Returned}
 use Rattle.demands.proofs.Proved.{not-empty}
 
 -- a body drawn on a sheet so wide and 20 high, with these grants, token words and bytes of out slice
 abbrev pub drawnOn : ℕ → ℕ → ℕ → List ℕ → String → Call
 drawnOn width tokens room g body =
-    called drawing (main body) (pos width) (pos 20) g (replicate tokens 0) (replicate 16384 0) (replicate 25000 0) (replicate 2 0) (replicate room 0)
+    called drawing (main body) (pos width) (pos 20) g (replicate tokens 0) (replicate 16384 0) (replicate 278624 0) (replicate 2 0) (replicate room 0)
 
 pub record Instance : Type 0 where
   pub width : ℕ
@@ -35,7 +35,7 @@ callOf i = drawnOn (i .width) (i .tokens) (i .room) (i .grants) (i .body)
 
 -- some grants
 abbrev pub some : List ℕ
-some = 100 ∷ 4 ∷ 1 ∷ 2 ∷ []
+some = 100 ∷ 4 ∷ 1 ∷ 2 ∷ 1 ∷ []
 
 abbrev pub table : List Instance
 table =
@@ -46,12 +46,13 @@ table =
     ∷ plain some "foo(x);" (number 50 14 3 0)
     ∷ plain some "var w;" (number 60 14 1 0)
     ∷ plain some "true+(1/0);" (number 70 14 6 0)
-    ∷ plain (100 ∷ 0 ∷ 1 ∷ 2 ∷ []) "drawLine(1,2,3,4);" (number 76 14 6 0)
+    ∷ plain (100 ∷ 0 ∷ 1 ∷ 2 ∷ 1 ∷ []) "drawLine(1,2,3,4);" (number 76 14 6 0)
     ∷ plain some "var t;t=[0];t.1=1;t.2=2;" (number 77 32 12 0)
-    ∷ plain (100 ∷ 4 ∷ 1 ∷ 1 ∷ []) "\"a\"++\"b\";" (number 78 14 4 0)
-    ∷ plain (0 ∷ 4 ∷ 1 ∷ 2 ∷ []) "var a;" (number 79 14 0 0)
+    ∷ plain (100 ∷ 4 ∷ 1 ∷ 1 ∷ 1 ∷ []) "\"a\"++\"b\";" (number 78 14 4 0)
+    ∷ plain (0 ∷ 4 ∷ 1 ∷ 2 ∷ 1 ∷ []) "var a;" (number 79 14 0 0)
     ∷ record { width = 20; tokens = 8193; room = 140; grants = some; body = "var a;"; expected = number 80 0 1 141 }
     ∷ record { width = 20; tokens = 8193; room = 0; grants = some; body = "var a;"; expected = number 80 0 1 141 }
+    ∷ plain some "f();}def f(){1;" (number 81 14 2 0)
     ∷ plain some "" (number 10 14 0 0)
     ∷ record { width = 20; tokens = 8192; room = 200; grants = some; body = "var a;"; expected = number 71 0 0 0 }
     ∷ record { width = 0; tokens = 8193; room = 200; grants = some; body = "var a;"; expected = number 72 0 0 0 }
@@ -65,19 +66,34 @@ abbrev pub AllReturn : List Instance → Type 0
 AllReturn [] = Unit {0}
 AllReturn (i ∷ is) = Returns i × AllReturn is
 
+-- the same call by the lengths of its slices
+abbrev byLengths : Instance → Call
+byLengths i = record {
+  operation = drawing;
+  program = main (i .body);
+  width = pos (i .width);
+  height = pos 20;
+  grants = grantsOf (i .grants);
+  lent = i .tokens ∷ 16384 ∷ 278624 ∷ 2 ∷ [];
+  out = replicate (i .room) 0;
+}
+
+same-call : (i : Instance) → callOf i ≡ byLengths i
+same-call i = rw (length-replicate {A = ℕ} (i .tokens) 0, length-replicate {A = ℕ} 16384 0, length-replicate {A = ℕ} 278624 0)
+
 abbrev AllAnswered : List Instance → Type 0
 AllAnswered [] = Unit {0}
-AllAnswered (i ∷ is) = (answer (callOf i) ≡ i .expected) × AllAnswered is
+AllAnswered (i ∷ is) = (answer (byLengths i) ≡ i .expected) × AllAnswered is
 
 all-answered : AllAnswered table
 unfolding everything
-all-answered = (refl, (refl, (refl, (refl, (refl, (refl, (refl, (refl, (refl, (refl, (refl, (refl, (refl, (refl, (refl, (refl, tt))))))))))))))))
+all-answered = (refl, (refl, (refl, (refl, (refl, (refl, (refl, (refl, (refl, (refl, (refl, (refl, (refl, (refl, (refl, (refl, (refl, tt)))))))))))))))))
 
-returns : (i : Instance) → answer (callOf i) ≡ i .expected → Returns i
+returns : (i : Instance) → answer (byLengths i) ≡ i .expected → Returns i
 returns i e =
-    let p = not-empty .drawing (main (i .body)) (pos (i .width)) (pos 20) (i .grants) (replicate (i .tokens) 0) (replicate 16384 0) (replicate 25000 0) (replicate 2 0)
+    let p = not-empty .drawing (main (i .body)) (pos (i .width)) (pos 20) (i .grants) (replicate (i .tokens) 0) (replicate 16384 0) (replicate 278624 0) (replicate 2 0)
     (replicate (i .room) 0) in
-    (p .handed, p .work, p .work′, p .out, p .returned, p .is ∙ e)
+    (p .handed, p .work, p .work′, p .out, p .returned, p .is ∙ ap answer (same-call i) ∙ e)
 
 all-return : (is : List Instance) → AllAnswered is → AllReturn is
 all-return [] h = tt

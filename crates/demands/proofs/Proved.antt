@@ -13,7 +13,7 @@ use borrow.Author.Tests.{ltb-true, ltb-false, lt-ltb, le-ltb}
 use Rattle.meaning.specs.Basics.{if_then_else_, laidOver, standsIn}
 use Rattle.meaning.specs.Grammar.{Reading, wellFormed, malformed, reading}
 use Rattle.meaning.specs.State.{State}
-use Rattle.meaning.specs.Run.{steps, picture, Taking, End, result, error, unfinished, Run, run, goOn, _>>=_, give, fail, refuse}
+use Rattle.meaning.specs.Run.{steps, picture, Taking, Event, End, result, error, unfinished, Run, run, goOn, _>>=_, give, fail, refuse}
 use Rattle.meaning.specs.Run as Run
 use Rattle.meaning.specs.Figure.{Figure}
 use Rattle.meaning.specs.Picture.{pictureOf}
@@ -62,7 +62,7 @@ is-either : (c : Call) → Either c
 is-either c = by-first (admitted c) refl
   where
     by-reading : admitted c ≡ true → ltZ (pos 0) (c .width) && ltZ (pos 0) (c .height) ≡ true → length (c .program) ≤ 32768 → (r : Reading) → reading (c .program) ≡ r → Either c
-    by-reading a s l (wellFormed m) e = proper (record { first = a; sheet = s; limit = l; main = m; grammar = e })
+    by-reading a s l (wellFormed m) e = proper (record { first = a; sheet = s; limit = l; tree = m; grammar = e })
     by-reading a s l (malformed m p) e = other m p (unreadable a s l m p e)
 
     by-length : admitted c ≡ true → ltZ (pos 0) (c .width) && ltZ (pos 0) (c .height) ≡ true → (b : Bool) → ltb 32768 (length (c .program)) ≡ b → Either c
@@ -89,7 +89,7 @@ unfinished-not : {s : State} {A : Type 0} → unfinished ≡ result accepted s �
 unfinished-not e = let z : _≡_ {A = ℕ} 0 1 = cc in absurd (omega arith)
 
 module _ (program : List ℕ) (width height : ℤ) (n : ℕ) (s : State) where
-  draws-none : (us : List Taking) (e : End (List Figure))
+  draws-none : (us : List Event) (e : End (List Figure))
       → goOn us e (λ a. Run.spend picture (length (pictureOf width height a)) 0 >>= λ _. give (Program.drawn (pictureOf width height a))) .end ≡ result accepted s → ⊥
   unfolding goOn give Run.spend _>>=_
   draws-none us (result b s′) q = accepts-not q
@@ -130,7 +130,7 @@ module _ (c : Call) (a : Answer) {work work′ : List (List ℕ)} (out′ : List
     by-end k (error m p) e =
         let d : a ≡ number m p (totalOf (runOf c .takings) steps) 0 =
         is-booked ∙ booked-complete (grantedTo c) (runOf c) k ∙ ap (λ (x : End Program.Outcome). answerTo x (totalOf (runOf c .takings) steps)) e in
-        inError m p (Claimed.language-errors (c .operation) (c .program) (c .width) (c .height) (q .main) _ m p (q .grammar) (q .limit) (q .sheet) e) e d (out-kept d)
+        inError m p (Claimed.language-errors (c .operation) (c .program) (c .width) (c .height) (q .tree) _ m p (q .grammar) (q .limit) (q .sheet) e) e d (out-kept d)
     by-end k unfinished e = absurd (k .finished e)
 
     ends-by : Settles (grantedTo c) (runOf c) → Ends c a out′

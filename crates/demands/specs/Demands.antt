@@ -10,10 +10,10 @@ use lib.IntN.{ℤ, pos}
 use lib.Signed.{ltZ}
 use lib.Dec.{eqb}
 use Rattle.meaning.specs.Basics.{if_then_else_, laidOver}
-use Rattle.meaning.specs.Tree.{Procedure}
+use Rattle.meaning.specs.Tree as Tree
 use Rattle.meaning.specs.Grammar.{wellFormed, malformed, reading}
 use Rattle.meaning.specs.State.{State}
-use Rattle.meaning.specs.Run.{steps, Taking, result, error}
+use Rattle.meaning.specs.Run.{steps, Taking, Event, result, error}
 use Rattle.meaning.specs.Program.{checking, drawing}
 use Rattle.meaning.specs.Program as Program
 use Rattle.meaning.specs.Book.{Answer, pictured, number}
@@ -56,8 +56,8 @@ pub record Proper (c : Call) : Type 0 where
   pub first : admitted c ≡ true
   pub sheet : ltZ (pos 0) (c .width) && ltZ (pos 0) (c .height) ≡ true
   pub limit : length (c .program) ≤ 32768
-  pub main : Procedure
-  pub grammar : reading (c .program) ≡ wellFormed main
+  pub tree : Tree.Program
+  pub grammar : reading (c .program) ≡ wellFormed tree
 
 -- is run until it ends in a picture, in one of the language's errors or in a named shortage of what was granted. A picture drawn is whole: all of it lies in
 -- the out slice.
@@ -66,7 +66,7 @@ pub data Ends (c : Call) (a : Answer) (out′ : List ℕ) : Type 0 where
       → (c .operation ≡ drawing → (length b ≤ length (c .out)) × (out′ ≡ laidOver b (c .out))) → Ends c a out′
   inError : (m p : ℕ) → among languageErrors m → runOf c .end ≡ error m p → a ≡ number m p (totalOf (runOf c .takings) steps) 0 → out′ ≡ c .out
       → Ends c a out′
-  inShortage : (before : List Taking) (t : Taking) → FirstShort (grantedTo c) (runOf c .takings) before t → a ≡ shortageAt before t → out′ ≡ c .out
+  inShortage : (before : List Event) (t : Taking) → FirstShort (grantedTo c) (runOf c .takings) before t → a ≡ shortageAt before t → out′ ≡ c .out
       → Ends c a out′
 
 -- All other input to drawing, an empty file among it,
@@ -128,8 +128,8 @@ pub record Demand3 : Type 0 where
   -- first such moment: with the number for what is lacking, that moment's place and the steps counted by then.
   pub exactly : (c : Call) (a : Answer) (work work′ : List (List ℕ)) (out′ : List ℕ) → Returned c a work work′ out′ → admitted c ≡ true
       → (namesShortage a ≡ true
-      → (n : ℕ) × (before : List Taking) × (t : Taking) × FirstShort (grantedTo c) (beginningOf c n .takings) before t × (a ≡ shortageAt before t))
-      × ((n : ℕ) (before : List Taking) (t : Taking) → FirstShort (grantedTo c) (beginningOf c n .takings) before t → a ≡ shortageAt before t)
+      → (n : ℕ) × (before : List Event) × (t : Taking) × FirstShort (grantedTo c) (beginningOf c n .takings) before t × (a ≡ shortageAt before t))
+      × ((n : ℕ) (before : List Event) (t : Taking) → FirstShort (grantedTo c) (beginningOf c n .takings) before t → a ≡ shortageAt before t)
 
 -- ---- beside the demands, document 01: when any operation returns, all work slices hold zeros; only after 71 are they unchanged
 abbrev pub WorkSlices : Type 0

@@ -9,7 +9,7 @@ ghost use Rattle.lending.specs.Lending.{called};
 ghost use Rattle.demands.specs.Demands.{Returned, calledChecking, toldBy};
 
 // ---- the operations
-pub fn check(program: &[u8], grants: &[u64; 4], tokens: &mut [u64], code: &mut [u64]) -> Answer
+pub fn check(program: &[u8], grants: &[u64; 5], tokens: &mut [u64], code: &mut [u64]) -> Answer
     ensures { λ r. ⌜ Returned (calledChecking (now (program .entry)) (now (grants .entry)) (now (tokens .entry)) (now (code .entry))) (meant r)
         (now (tokens .entry) ∷ now (code .entry) ∷ []) (now (tokens .exit) ∷ now (code .exit) ∷ []) [] ⌝ }
 {
@@ -20,7 +20,7 @@ pub fn draw(
     program: &[u8],
     width: i32,
     height: i32,
-    grants: &[u64; 4],
+    grants: &[u64; 5],
     tokens: &mut [u64],
     code: &mut [u64],
     words: &mut [u64],
@@ -62,10 +62,11 @@ pub fn check_by_c(
     shapes: u64,
     entries: u64,
     bytes: u64,
+    calls: u64,
     tokens: &mut [u64],
     code: &mut [u64],
 ) -> Answer
-    ensures { λ r. ⌜ Returned (calledChecking (now (program .entry)) (steps ∷ shapes ∷ entries ∷ bytes ∷ []) (now (tokens .entry)) (now (code .entry))) (meant r)
+    ensures { λ r. ⌜ Returned (calledChecking (now (program .entry)) (steps ∷ shapes ∷ entries ∷ bytes ∷ calls ∷ []) (now (tokens .entry)) (now (code .entry))) (meant r)
         (now (tokens .entry) ∷ now (code .entry) ∷ []) (now (tokens .exit) ∷ now (code .exit) ∷ []) [] ⌝ }
 {
     let mut answer = [0u64; 4];
@@ -75,6 +76,7 @@ pub fn check_by_c(
         shapes,
         entries,
         bytes,
+        calls,
         tokens,
         code,
         &mut answer,
@@ -90,13 +92,14 @@ pub fn draw_by_c(
     shapes: u64,
     entries: u64,
     bytes: u64,
+    calls: u64,
     tokens: &mut [u64],
     code: &mut [u64],
     words: &mut [u64],
     texts: &mut [u8],
     out: &mut [u8],
 ) -> Answer
-    ensures { λ r. ⌜ Returned (called drawing (now (program .entry)) width height (steps ∷ shapes ∷ entries ∷ bytes ∷ []) (now (tokens .entry)) (now (code .entry))
+    ensures { λ r. ⌜ Returned (called drawing (now (program .entry)) width height (steps ∷ shapes ∷ entries ∷ bytes ∷ calls ∷ []) (now (tokens .entry)) (now (code .entry))
         (now (words .entry)) (now (texts .entry)) (now (out .entry))) (meant r)
         (now (tokens .entry) ∷ now (code .entry) ∷ now (words .entry) ∷ now (texts .entry) ∷ [])
         (now (tokens .exit) ∷ now (code .exit) ∷ now (words .exit) ∷ now (texts .exit) ∷ []) (now (out .exit)) ⌝ }
@@ -110,6 +113,7 @@ pub fn draw_by_c(
         shapes,
         entries,
         bytes,
+        calls,
         tokens,
         code,
         words,

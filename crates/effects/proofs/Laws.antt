@@ -16,13 +16,14 @@ use Rattle.machine.specs.Words.{kindIn, numberIn, truthIn, packed, unpacked, ki
 use Rattle.machine.specs.Layout.{valuePlace}
 use Rattle.machine.specs.Act.{goOn, _>>=_, give, fail, refuse, load, shown, Answers, Passes, Gives}
 use Rattle.machine.specs.Shapes.{figureAt, newShape}
-use Rattle.machine.specs.Variables.{isDeclared, declare, setVariable}
+use Rattle.machine.specs.Variables.{isDead, usable, isDeclared, declare, setVariable}
 use Rattle.machine.specs.declared.Flow.{Flow}
 use Rattle.machine.specs.declared.Flow.the-variants.{Onward, Returned, Stopped}
 use Rattle.machine.specs.declared.Outcome.{Outcome}
 use Rattle.machine.specs.declared.Outcome.the-variants as outcome
 use Rattle.machine.specs.Effects.{shownFlow, Flows, declaring, copied, assigning, finishing, outcomeIn}
 use Rattle.stores.proofs.Acts.{after-pass, after-refusal}
+use Rattle.stores.proofs.Laws.{not-dead}
 
 -- ---- declarations
 module _ (ws : List ℕ) (slot p : ℕ) (ok : Bool) (ws₁ : List ℕ) (h : Passes ws 60 (declare slot) ok ws₁) where
@@ -46,17 +47,21 @@ module _ (ws g : List ℕ) (slot k p : ℕ) (ok : Bool) (d : ok ≡ isDeclared w
       record { equal = λ ts. rw u }
 
   pub word-put : (ws₁ : List ℕ) → not ok ≡ false → (kindIn k ≡ kindShape → ⊥) → Gives ws (setVariable slot k) tt ws₁ → Flows ws (assigning g p slot k) Onward ws₁
-  unfolding assigning copied if_then_else_ _>>=_ goOn load refuse give shownFlow
-  word-put ws₁ t n s = record { equal = λ ts. rw (known-is t, ne-eqb _ _ n, ← s .equal ts) }
+  unfolding assigning copied usable if_then_else_ _>>=_ goOn load refuse give shownFlow
+  word-put ws₁ t n s = record { equal = λ ts. rw (known-is t, ← not-dead ws k n, ne-eqb _ _ n, ← s .equal ts) }
 
-  module _ (t : not ok ≡ false) (i : kindIn k ≡ kindShape) (n : ℕ) (m : n ≡ numberIn k) (f : Figure) (e : f ≡ figureAt ws n) (a : Answer) (ws₁ : List ℕ) (o : Answers ws (newShape g p f) a ws₁) where
+  pub shape-dead : (b : Bool) → not ok ≡ false → b ≡ isDead ws (unpacked k) → b ≡ true → Flows ws (assigning g p slot k) (Stopped 30 p) ws
+  unfolding assigning usable _>>=_ goOn load refuse fail give shownFlow
+  shape-dead b t e u = record { equal = λ ts. rw (known-is t, ← e, u) }
+
+  module _ (t : not ok ≡ false) (l : Bool) (d₁ : l ≡ isDead ws (unpacked k)) (u : l ≡ false) (i : kindIn k ≡ kindShape) (n : ℕ) (m : n ≡ numberIn k) (f : Figure) (e : f ≡ figureAt ws n) (a : Answer) (ws₁ : List ℕ) (o : Answers ws (newShape g p f) a ws₁) where
     pub no-copy : (l q : ℕ) → a ≡ Bad l q → Flows ws (assigning g p slot k) (Stopped l q) ws₁
-    unfolding assigning copied if_then_else_ _>>=_ goOn load refuse give shownFlow shown
-    no-copy l q b = record { equal = λ ts. sym (rw (known-is t, i, ← m, ← e, ← o .equal ts, b)) }
+    unfolding assigning copied usable if_then_else_ _>>=_ goOn load refuse give shownFlow shown
+    no-copy l q b = record { equal = λ ts. sym (rw (known-is t, ← d₁, u, i, ← m, ← e, ← o .equal ts, b)) }
 
     pub copy-put : (v : Value) (c : ℕ) (ws₂ : List ℕ) → a ≡ Good v → c ≡ packed v → Gives ws₁ (setVariable slot c) tt ws₂ → Flows ws (assigning g p slot k) Onward ws₂
-    unfolding assigning copied if_then_else_ _>>=_ goOn load refuse give shownFlow shown
-    copy-put v c ws₂ b r s = record { equal = λ ts. sym (rw (known-is t, i, ← m, ← e, ← o .equal ts, b, ← r, ← s .equal ts)) }
+    unfolding assigning copied usable if_then_else_ _>>=_ goOn load refuse give shownFlow shown
+    copy-put v c ws₂ b r s = record { equal = λ ts. sym (rw (known-is t, ← d₁, u, i, ← m, ← e, ← o .equal ts, b, ← r, ← s .equal ts)) }
 
 -- ---- statements of one expression
 module _ (ws g : List ℕ) (w k p tag : ℕ) (i : tag ≡ tagIn w) where

@@ -25,7 +25,7 @@ pub fn declare(words: &mut [u64], slot: usize, p: u64) -> Flow
 
 // ---- assignments
 // A word that is no shape put into a variable; 50 if it is not declared. Only the contract speaks of the grants, here and in `finish_plain`.
-fn put_word(words: &mut [u64], grants: &[u64; 4], slot: usize, k: u64, p: u64) -> Flow
+fn put_word(words: &mut [u64], grants: &[u64; 5], slot: usize, k: u64, p: u64) -> Flow
     requires { ⌜ fixedWords ≤ length (now words) ⌝ }
     requires { ⌜ (kindIn k ≡ kindShape → ⊥) ⌝ }
     ensures { λ r. ⌜ Flows (now (words .entry)) (assigning (now (grants .entry)) p slot k) r (now (words .exit)) ⌝ }
@@ -37,14 +37,17 @@ fn put_word(words: &mut [u64], grants: &[u64; 4], slot: usize, k: u64, p: u64) -
     Flow::Onward
 }
 
-// A copy of a shape, by its word, put into a variable; 50 if it is not declared.
-fn put_copy(words: &mut [u64], grants: &[u64; 4], slot: usize, k: u64, p: u64) -> Flow
+// A copy of a shape, by its word, put into a variable; 50 if it is not declared, 30 if the shape is destroyed.
+fn put_copy(words: &mut [u64], grants: &[u64; 5], slot: usize, k: u64, p: u64) -> Flow
     requires { ⌜ Room (now grants) (now words) ⌝ }
     requires { ⌜ kindIn k ≡ kindShape ⌝ }
     ensures { λ r. ⌜ Flows (now (words .entry)) (assigning (now (grants .entry)) p slot k) r (now (words .exit)) ⌝ }
 {
     if !stores::variables::is_declared(words, slot) {
         return Flow::Stopped(50, p);
+    }
+    if stores::variables::is_dead(words, k) {
+        return Flow::Stopped(30, p);
     }
     let figure = stores::shapes::figure_at(words, values::number_of(k));
     match stores::shapes::new_shape(words, grants, p, figure) {
@@ -57,7 +60,7 @@ fn put_copy(words: &mut [u64], grants: &[u64; 4], slot: usize, k: u64, p: u64) -
 }
 
 // A word put into a variable, a shape as a copy.
-fn assign(words: &mut [u64], grants: &[u64; 4], slot: usize, k: u64, p: u64) -> Flow
+pub fn assign(words: &mut [u64], grants: &[u64; 5], slot: usize, k: u64, p: u64) -> Flow
     requires { ⌜ Room (now grants) (now words) ⌝ }
     ensures { λ r. ⌜ Flows (now (words .entry)) (assigning (now (grants .entry)) p slot k) r (now (words .exit)) ⌝ }
 {
@@ -71,7 +74,7 @@ fn assign(words: &mut [u64], grants: &[u64; 4], slot: usize, k: u64, p: u64) -> 
 
 // ---- statements of one expression
 // What the statement whose word is w does with a value, by its word.
-pub fn finish(words: &mut [u64], grants: &[u64; 4], w: u64, k: u64, p: u64) -> Flow
+pub fn finish(words: &mut [u64], grants: &[u64; 5], w: u64, k: u64, p: u64) -> Flow
     requires { ⌜ Room (now grants) (now words) ⌝ }
     ensures { λ r. ⌜ Flows (now (words .entry)) (finishing (now (grants .entry)) w k p) r (now (words .exit)) ⌝ }
 {
@@ -86,7 +89,7 @@ pub fn finish(words: &mut [u64], grants: &[u64; 4], w: u64, k: u64, p: u64) -> F
 }
 
 // The same where the value is no shape.
-pub fn finish_plain(words: &mut [u64], grants: &[u64; 4], w: u64, k: u64, p: u64) -> Flow
+pub fn finish_plain(words: &mut [u64], grants: &[u64; 5], w: u64, k: u64, p: u64) -> Flow
     requires { ⌜ fixedWords ≤ length (now words) ⌝ }
     requires { ⌜ (kindIn k ≡ kindShape → ⊥) ⌝ }
     ensures { λ r. ⌜ Flows (now (words .entry)) (finishing (now (grants .entry)) w k p) r (now (words .exit)) ⌝ }

@@ -8,11 +8,13 @@ use Rattle.meaning.specs.Basics.{if_then_else_}
 use Rattle.meaning.specs.Grammar.{Got, wrong, after, noLevel, opening}
 use Rattle.expressions.specs.declared.Read.{Read}
 use Rattle.expressions.specs.declared.Read.the-variants.{At, Wrong}
-use Rattle.expressions.specs.Words.{kindAt, homeAt, libraryAt, partAt, operatorTag, Piece, piece, leaf, arguments, primary, operand, operated, expressionIn, expression, insideOf, at, seen, written, writtenCode}
+use Rattle.expressions.specs.Words.{kindAt, homeAt, calleeAt, partAt, operatorTag, Piece, piece, leaf, arguments, primary, operand, operated, expressionIn, expression, insideOf, at}
+use Rattle.expressions.specs.Words.{seen, written, writtenCode}
 use Rattle.expressions.specs.Steps.{closed, finished, combined}
 use Rattle.expressions.proofs.Paid.{expression-levels, inside-levels}
 use Rattle.expressions.proofs.Answers.{wrote, erred, wrong-seen, good-seen}
-use Rattle.expressions.proofs.Primaries.{primary-string, primary-none, primary-true, primary-false, primary-name, primary-call, primary-paren, primary-table, primary-other, primary-constant, primary-signed}
+use Rattle.expressions.proofs.Primaries.{primary-string, primary-none, primary-true, primary-false, primary-name, primary-call, primary-paren, primary-table, primary-other}
+use Rattle.expressions.proofs.Primaries.{primary-constant, primary-signed}
 use Rattle.expressions.proofs.Steps.{combined-joins, finished-code, closed-reads, tabled-reads}
 
 -- ---- expressions
@@ -87,11 +89,11 @@ module _ (left : ℕ) (ws : List ℕ) (i n : ℕ) (s₀ s : List ℕ) (r : Read)
   reads-name x next e f l p h = being _ (primary-name _ ws i (sym k ∙ e) (λ q. l (f ∙ q))) (rw p at h)
 
   pub reads-call : (es : Read) (s₁ : List ℕ) (x next : ℕ) → kind ≡ 1 → next ≡ kindAt ws (i + 1) → next ≡ 40 → (left ≡ 0 → ⊥) → seen es s₁ ≡ writtenCode (arguments (expression (left - 1) ws) ws (i + 2)) n s₀
-      → x ≡ libraryAt ws i → seen r s ≡ finished 8 n x (seen es s₁) → seen r s ≡ written (primary (insideOf left ws) ws i) n s₀
+      → x ≡ calleeAt ws i → seen r s ≡ finished 8 n x (seen es s₁) → seen r s ≡ written (primary (insideOf left ws) ws i) n s₀
   unfolding opening
   reads-call es s₁ x next e f g l h p q =
-      let y : seen r s ≡ finished 8 n (libraryAt ws i) (writtenCode (arguments (expression (left - 1) ws) ws (i + 2)) n s₀) = cc in
-      being _ (primary-call _ ws i (sym k ∙ e) (sym f ∙ g)) (rw (inside-levels left ws l) (y ∙ finished-code _ 8 n (libraryAt ws i) s₀))
+      let y : seen r s ≡ finished 8 n (calleeAt ws i) (writtenCode (arguments (expression (left - 1) ws) ws (i + 2)) n s₀) = cc in
+      being _ (primary-call _ ws i (sym k ∙ e) (sym f ∙ g)) (rw (inside-levels left ws l) (y ∙ finished-code _ 8 n (calleeAt ws i) s₀))
 
   pub reads-paren : (e : Read) → kind ≡ 40 → (left ≡ 0 → ⊥) → seen e s ≡ written (expression (left - 1) ws (i + 1)) n s₀ → r ≡ closed 41 ws e → seen r s ≡ written (primary (insideOf left ws) ws i) n s₀
   unfolding opening

@@ -10,7 +10,8 @@ use lib.ListN.{length, length-append}
 use Rattle.meaning.specs.Token.{dot, comma, closeParen}
 use Rattle.meaning.specs.Grammar.{Got, good, after, Inside, noLevel, level, opening}
 use Rattle.code.specs.Code.{joined}
-use Rattle.expressions.specs.Words.{kindAt, libraryAt, is, positiveAt, signedAt, negativeAt, operatorTag, Piece, piece, ReadPiece, expect, argumentCode, argumentsFrom, arguments, callCode, tableCode, primary, operand, operated, expressionIn, expression, insideOf}
+use Rattle.expressions.specs.Words.{kindAt, calleeAt, is, positiveAt, signedAt, negativeAt, operatorTag, Piece, piece, ReadPiece, expect, argumentCode, argumentsFrom, arguments}
+use Rattle.expressions.specs.Words.{callCode, tableCode, primary, operand, operated, expressionIn, expression, insideOf}
 use Rattle.expressions.proofs.Tokens.{chosen, both-left}
 use Rattle.expressions.proofs.Pays.{kind-inside, Pays, then-pays, expect-pays, Holds, opened}
 
@@ -84,7 +85,7 @@ module _ (inside : Inside ReadPiece) (ws : List ℕ) (ok : Holds (PaysAll ws) in
       (λ q. chosen (PaysPiece ws i) (is 40 ws (i + 1)) _ _
       (λ _. opened (PaysPiece ws i) (PaysAll ws) inside (i + 1) _ ok tt λ inner pays.
       then-pays length 0 codeSize 1 ws i (i + 2) (arguments inner ws (i + 2)) _ (arguments-pay inner ws pays (i + 2)) λ es j p.
-      omega (arith, call-size (libraryAt ws i) es))
+      omega (arith, call-size (calleeAt ws i) es))
       (λ _. leaf-pays i 0 q)) λ _.
       chosen (PaysPiece ws i) (is 40 ws i) _ _ (λ _. bracketed-pays i i 40 (λ c. c) (λ c. omega arith) (λ c. omega arith)) λ _.
       chosen (PaysPiece ws i) (is 91 ws i) _ _ (λ _. bracketed-pays i i 92 tableCode (λ c. omega (arith, table-size c)) (λ c. omega (arith, table-size c))) λ _. tt

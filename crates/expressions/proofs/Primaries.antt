@@ -7,7 +7,7 @@ use borrow.Author.Tests.{eq-eqb, ne-eqb, le-leb, lt-leb}
 use Rattle.meaning.specs.Basics.{if_then_else_}
 use Rattle.meaning.specs.Token.{closeParen, closeBracket}
 use Rattle.meaning.specs.Grammar.{good, wrong, after, Inside, noLevel, opening}
-use Rattle.expressions.specs.Words.{kindAt, payloadAt, placeAt, homeAt, libraryAt, partAt, piece, leaf, minusBits, ReadPiece, expect, arguments, callCode, tableCode, primary}
+use Rattle.expressions.specs.Words.{kindAt, payloadAt, placeAt, homeAt, calleeAt, partAt, piece, leaf, minusBits, ReadPiece, expect, arguments, callCode, tableCode, primary}
 
 module _ (inside : Inside ReadPiece) (ws : List ℕ) (i : ℕ) where
   pub primary-digits : kindAt ws i ≡ 2 → payloadAt ws i ≤ 2147483647 → primary inside ws i ≡ leaf 1 (payloadAt ws i) 0 (i + 1)
@@ -54,7 +54,7 @@ module _ (inside : Inside ReadPiece) (ws : List ℕ) (i : ℕ) where
   unfolding primary if_then_else_
   primary-name e h = rw (e, ne-eqb _ _ h)
 
-  pub primary-call : kindAt ws i ≡ 1 → kindAt ws (i + 1) ≡ 40 → primary inside ws i ≡ opening inside (i + 1) λ inner. after (arguments inner ws (i + 2)) λ es j. good (piece (callCode (libraryAt ws i) es) 0) j
+  pub primary-call : kindAt ws i ≡ 1 → kindAt ws (i + 1) ≡ 40 → primary inside ws i ≡ opening inside (i + 1) λ inner. after (arguments inner ws (i + 2)) λ es j. good (piece (callCode (calleeAt ws i) es) 0) j
   unfolding primary if_then_else_
   primary-call e h = rw (e, h)
 

@@ -1,6 +1,6 @@
 -- Tokens by their words: where one stands, the bounds of what its word holds, and the tag of an operator.
 -- Assumes nothing.
-use Prim.Native.Nat.{ℕ, _+_, _-_, _*_, _%_, _^_, _<_, _≤_}
+use Prim.Native.Nat.{ℕ, _+_, _-_, _*_, _/_, _%_, _^_, _<_, _≤_}
 use mathlib.Core.Path.{_≡_, _∙_, refl, ap}
 use mathlib.Core.Bool.{Bool, true, false, _&&_}
 use mathlib.Core.List.{List}
@@ -9,7 +9,7 @@ use borrow.Author.Tests.{ltb-true, ltb-false, ne-eqb}
 use lib.Dec.{eqb, ltb}
 use lib.ListN.{length, getD, List·getD-eq-default}
 use Rattle.meaning.specs.Basics.{if_then_else_}
-use Rattle.expressions.specs.Words.{kindAt, placeAt, payloadAt, homeAt, libraryAt, partAt, operatorTag}
+use Rattle.expressions.specs.Words.{kindAt, placeAt, payloadAt, homeAt, calleeAt, partAt, operatorTag}
 use Rattle.expressions.specs.Room.{Room}
 
 -- ---- choices
@@ -52,8 +52,11 @@ part-small ws i x e = omega arith
 pub home-small : (ws : List ℕ) (i x : ℕ) → x ≡ homeAt ws i → x < 4294967296
 home-small ws i x e = omega arith
 
-pub library-small : (ws : List ℕ) (i x : ℕ) → getD ws i 0 < 2 ^ 64 → x ≡ libraryAt ws i → x < 4294967296
-library-small ws i x h e = omega arith
+pub callee-is : (ws : List ℕ) (i x : ℕ) → x ≡ payloadAt ws i → x / 4294967296 + 16 * (x / 65536 % 65536) ≡ calleeAt ws i
+callee-is ws i x e = rw e
+
+pub callee-small : (ws : List ℕ) (i x : ℕ) → getD ws i 0 < 2 ^ 64 → x ≡ calleeAt ws i → x < 4294967296
+callee-small ws i x h e = omega arith
 
 -- ---- operators
 pub operator-small : (kind : ℕ) → operatorTag kind < 256

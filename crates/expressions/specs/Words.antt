@@ -30,8 +30,13 @@ sizeAt ws i = payloadAt ws i % 65536
 abbrev pub homeAt : List ℕ → ℕ → ℕ
 homeAt ws i = payloadAt ws i / 65536 % 65536
 
-abbrev pub libraryAt : List ℕ → ℕ → ℕ
-libraryAt ws i = payloadAt ws i / 4294967296
+-- the number of the procedure that a name names
+abbrev pub procedureAt : List ℕ → ℕ → ℕ
+procedureAt ws i = payloadAt ws i / 4294967296
+
+-- the same with the name's home, as a call has it
+abbrev pub calleeAt : List ℕ → ℕ → ℕ
+calleeAt ws i = procedureAt ws i + 16 * homeAt ws i
 
 -- where the text of a string stands and how long it is, of the first token with that string
 abbrev pub partAt : List ℕ → ℕ → ℕ
@@ -122,7 +127,7 @@ primary inside ws i =
     else λ _. if is wordFalse ws i then (λ _. leaf tagTruth 0 0 (i + 1))
     else λ _. if is aName ws i then (λ _.
     if is openParen ws (i + 1) then (λ _.
-    opening inside (i + 1) λ inner. after (arguments inner ws (i + 2)) λ es j. good (piece (callCode (libraryAt ws i) es) 0) j)
+    opening inside (i + 1) λ inner. after (arguments inner ws (i + 2)) λ es j. good (piece (callCode (calleeAt ws i) es) 0) j)
     else λ _. leaf tagName (homeAt ws i) 1 (i + 1))
     else λ _. if is openParen ws i then (λ _.
     opening inside i λ inner. after (inner (i + 1)) λ e j. expect closeParen ws j (piece (e .code) 0))

@@ -92,7 +92,7 @@ fn read_primary(tokens: &[u64], words: &mut [u64], i: usize, n: usize, left: usi
                 return Read::Wrong(75, i + 1);
             }
             let es = read_arguments(tokens, words, i + 2, n, left - 1);
-            finish(words, es, 8, n, token::library_at(tokens, i))
+            finish(words, es, 8, n, token::callee_at(tokens, i))
         }
         40 => {
             if left == 0 {

@@ -1,7 +1,7 @@
 // Token words, each read as 0 behind the last.
 ghost use mathlib.Core.Path.{_≡_};
 ghost use lib.ListN.{getD};
-ghost use Rattle.expressions.specs.Words.{kindAt, placeAt, payloadAt, homeAt, libraryAt, partAt, operatorTag};
+ghost use Rattle.expressions.specs.Words.{kindAt, placeAt, payloadAt, homeAt, procedureAt, calleeAt, partAt, operatorTag};
 
 pub fn word_at(tokens: &[u64], i: usize) -> u64
     ensures { λ r. ⌜ r ≡ getD (now (tokens .entry)) i 0 ⌝ }
@@ -35,11 +35,19 @@ pub fn home_at(tokens: &[u64], i: usize) -> u64
     payload_at(tokens, i) / 65536 % 65536
 }
 
-// The library procedure that token i names.
-pub fn library_at(tokens: &[u64], i: usize) -> u64
-    ensures { λ r. ⌜ r ≡ libraryAt (now (tokens .entry)) i ⌝ }
+// The number of the procedure that token i names.
+pub fn procedure_at(tokens: &[u64], i: usize) -> u64
+    ensures { λ r. ⌜ r ≡ procedureAt (now (tokens .entry)) i ⌝ }
 {
     payload_at(tokens, i) / 4294967296
+}
+
+// The same with the name's home, as a call has it.
+pub fn callee_at(tokens: &[u64], i: usize) -> u64
+    ensures { λ r. ⌜ r ≡ calleeAt (now (tokens .entry)) i ⌝ }
+{
+    let x = payload_at(tokens, i);
+    x / 4294967296 + 16 * (x / 65536 % 65536)
 }
 
 // Where the text of the string that token i is stands in the program, and how long it is, of the first token with that string.

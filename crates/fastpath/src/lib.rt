@@ -156,7 +156,7 @@ fn root(code: &[u64], words: &[u64], depth: usize, w: u64, x: usize) -> u64
 }
 
 // The value of the expression whose root stands at x, its steps counted; 0, and nothing counted, where this does not apply.
-pub fn fast_value(words: &mut [u64], code: &[u64], grants: &[u64; 4], depth: usize, x: usize) -> u64
+pub fn fast_value(words: &mut [u64], code: &[u64], grants: &[u64; 5], depth: usize, x: usize) -> u64
     requires { ⌜ fixedWords ≤ length (now words) ⌝ }
     ensures { λ r. ⌜ Values depth (now (code .entry)) (now (grants .entry)) (now (words .entry)) x r (now (words .exit)) ⌝ }
 {

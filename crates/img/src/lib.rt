@@ -18,14 +18,15 @@ pub extern "C" fn img_check(
     shapes: u64,
     entries: u64,
     bytes: u64,
+    calls: u64,
     tokens: &mut [u64],
     code: &mut [u64],
     answer: &mut [u64],
 ) -> u64
-    ensures { λ r. ⌜ Checks (now (program .entry)) (steps ∷ shapes ∷ entries ∷ bytes ∷ []) (now (tokens .entry)) (now (code .entry)) (now (answer .entry))
+    ensures { λ r. ⌜ Checks (now (program .entry)) (steps ∷ shapes ∷ entries ∷ bytes ∷ calls ∷ []) (now (tokens .entry)) (now (code .entry)) (now (answer .entry))
         (now (tokens .exit)) (now (code .exit)) (now (answer .exit)) r ⌝ }
 {
-    let grants = [steps, shapes, entries, bytes];
+    let grants = [steps, shapes, entries, bytes, calls];
     let r = checking::check(program, &grants, tokens, code);
     write_answer(r, answer)
 }
@@ -40,6 +41,7 @@ pub extern "C" fn img_draw(
     shapes: u64,
     entries: u64,
     bytes: u64,
+    calls: u64,
     tokens: &mut [u64],
     code: &mut [u64],
     words: &mut [u64],
@@ -47,14 +49,14 @@ pub extern "C" fn img_draw(
     out: &mut [u8],
     answer: &mut [u64],
 ) -> u64
-    ensures { λ r. ⌜ Performs (called drawing (now (program .entry)) width height (steps ∷ shapes ∷ entries ∷ bytes ∷ [])
+    ensures { λ r. ⌜ Performs (called drawing (now (program .entry)) width height (steps ∷ shapes ∷ entries ∷ bytes ∷ calls ∷ [])
         (now (tokens .entry)) (now (code .entry)) (now (words .entry)) (now (texts .entry)) (now (out .entry)))
         (now (tokens .entry)) (now (code .entry)) (now (words .entry)) (now (texts .entry)) (now (answer .entry))
         (now (tokens .exit)) (now (code .exit)) (now (words .exit)) (now (texts .exit)) (now (answer .exit)) r ⌝ }
-    ensures { λ _. ⌜ now (out .exit) ≡ outAfter (called drawing (now (program .entry)) width height (steps ∷ shapes ∷ entries ∷ bytes ∷ [])
+    ensures { λ _. ⌜ now (out .exit) ≡ outAfter (called drawing (now (program .entry)) width height (steps ∷ shapes ∷ entries ∷ bytes ∷ calls ∷ [])
         (now (tokens .entry)) (now (code .entry)) (now (words .entry)) (now (texts .entry)) (now (out .entry))) ⌝ }
 {
-    let grants = [steps, shapes, entries, bytes];
+    let grants = [steps, shapes, entries, bytes, calls];
     let r = drawing::draw(
         program,
         width,

@@ -1,11 +1,11 @@
 -- Checking with slices that are long enough, and the report of its answer.
 -- Assumes nothing.
 use Prim.Native.Nat.{ℕ}
-use mathlib.Core.List.{List}
+use mathlib.Core.List.{List, [], _∷_}
 use mathlib.Core.Bool.{true}
 use mathlib.Core.Path.{_≡_, _∙_, refl}
 use native.Mathlib.Omega.{arith}
-use lib.ListN.{length, replicate}
+use lib.ListN.{length}
 use Rattle.meaning.specs.Call.{inRange}
 use Rattle.answers.specs.declared.Answer as Declared
 use Rattle.answers.specs.Answers.{meant}
@@ -20,10 +20,10 @@ pub checked-answer : (program g tokens code : List ℕ) (r : Declared.Answer) (t
 checked-answer program g tokens code r tokens′ code′ e t d k =
     k .answered ∙ admitted-answer program g tokens code e (record { tokensLong = omega arith; codeLong = omega arith })
 
--- counts of 0 are in their ranges
-pub nothing-granted : inRange (grantsOf (replicate 4 0)) ≡ true
+-- one call, and counts of 0, are in their ranges
+pub one-call-granted : inRange (grantsOf (0 ∷ 0 ∷ 0 ∷ 0 ∷ 1 ∷ [])) ≡ true
 unfolding inRange
-nothing-granted = refl
+one-call-granted = refl
 
 pub reported : (program : List ℕ) (r : Declared.Answer) {before after : List ℕ} {size : ℕ} → meant r ≡ readAnswer program
     → Said program (meant r) before after size → Reported program before after size

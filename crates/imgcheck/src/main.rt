@@ -14,13 +14,13 @@ const INPUT: usize = 32768 + 1;
 
 const OUT: usize = 512;
 
-// Checking with work slices of its own. Nothing is granted, since checking takes nothing.
+// Checking with work slices of its own. Nothing is granted but one call, the fewest in range, since checking takes nothing.
 fn answer(program: &[u8]) -> Answer
     ensures { λ r. ⌜ meant r ≡ readAnswer (now (program .entry)) ⌝ }
 {
     let mut tokens = [0u64; 8193];
     let mut code = [0u64; 16384];
-    let grants = [0u64; 4];
+    let grants = [0u64, 0, 0, 0, 1];
     checking::check(program, &grants, &mut tokens, &mut code)
 }
 

@@ -8,7 +8,7 @@ use lib.IntN.{ℤ}
 use lib.ListN.{length, take}
 use lib.Seq.{take-nil}
 use Rattle.meaning.specs.Basics.{if_then_else_, laidOver}
-use Rattle.meaning.specs.Run.{Resource, steps, shapes, entries, textBytes, picture, End, result, error, unfinished, Run}
+use Rattle.meaning.specs.Run.{Resource, steps, shapes, entries, textBytes, calls, picture, End, result, error, unfinished, Run}
 use Rattle.meaning.specs.Program.{Outcome, accepted, drawn, drawing}
 use Rattle.meaning.specs.Book.{Amounts, Booked, allFit, lacking, nothingYet, book, number, answerTo, settled, booked}
 use Rattle.meaning.specs.Call.{Grants, granted, answer, outAfterEnd, outAfter, admitted, runOf}
@@ -42,6 +42,7 @@ module _ (out other : List ℕ) (e : length out ≡ length other) where
       by shapes = refl
       by entries = refl
       by textBytes = refl
+      by calls = refl
       by picture = e
 
   -- what drawing answers and writes

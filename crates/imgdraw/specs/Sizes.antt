@@ -2,9 +2,9 @@
 use Prim.Native.Nat.{ℕ, _+_}
 use Rattle.meaning.specs.Call.{Grants}
 
--- document 01's
+-- document 01's, and document 02's calls
 abbrev pub granted : Grants
-granted = record { steps = 1000000; shapes = 1024; entries = 1024; textBytes = 16384 }
+granted = record { steps = 1000000; shapes = 1024; entries = 1024; textBytes = 16384; calls = 64 }
 
 -- the out slice
 abbrev pub outBytes : ℕ

@@ -15,18 +15,20 @@ use Rattle.meaning.specs.Run.{Run}
 use Rattle.meaning.specs.Program.{Operation, Outcome, drawing, specified}
 use Rattle.meaning.specs.Book.{nothingYet, book, Answer, number, booked}
 use Rattle.meaning.specs.Call.{Call, inRange, needed, longEnough, admitted, granted, runOf, answer, workAfter, outAfterEnd, outAfter}
-use Rattle.machine.specs.Layout.{stepsGranted, shapesGranted, entriesGranted, textGranted, wordsNeeded}
+use Rattle.machine.specs.Layout.{stepsGranted, shapesGranted, entriesGranted, textGranted, callsGranted, wordsNeeded}
 use Rattle.lending.specs.Lending.{grantsOf, enough, Ready, called, Performed}
 
 -- ---- conjunctions
 no-truth : {A : Type 0} → false ≡ true → A
 no-truth e = let z : _≡_ {A = ℕ} 0 1 = cc in absurd (omega arith)
 
-all-four : (a b c d : Bool) → a && b && c && d ≡ true → (a ≡ true) × (b ≡ true) × (c ≡ true) × (d ≡ true)
-all-four true true true d e = (refl, refl, refl, e)
-all-four true true false d e = no-truth e
-all-four true false c d e = no-truth e
-all-four false b c d e = no-truth e
+all-six : (a b c d f g : Bool) → a && b && c && d && f && g ≡ true → (a ≡ true) × (b ≡ true) × (c ≡ true) × (d ≡ true) × (f ≡ true) × (g ≡ true)
+all-six true true true true true g e = (refl, refl, refl, refl, refl, e)
+all-six true true true true false g e = no-truth e
+all-six true true true false f g e = no-truth e
+all-six true true false d f g e = no-truth e
+all-six true false c d f g e = no-truth e
+all-six false b c d f g e = no-truth e
 
 all-five : (a b c d f : Bool) → a && (b && (c && (d && (f && true)))) ≡ true → (a ≡ true) × (b ≡ true) × (c ≡ true) × (d ≡ true) × (f ≡ true)
 all-five true true true true true e = (refl, refl, refl, refl, refl)
@@ -56,9 +58,19 @@ module _ (g : List ℕ) where
       unfolding inRange
       entries-out h = rw (le-leb _ _ a, le-leb _ _ b, lt-leb _ _ h)
 
-      pub text-asked : entriesGranted g ≤ 65535 → leb (textGranted g) 65535 ≡ inRange (grantsOf g)
-      unfolding inRange
-      text-asked c = rw (le-leb _ _ a, le-leb _ _ b, le-leb _ _ c)
+      module _ (c : entriesGranted g ≤ 65535) where
+        pub text-out : 65535 < textGranted g → false ≡ inRange (grantsOf g)
+        unfolding inRange
+        text-out h = rw (le-leb _ _ a, le-leb _ _ b, le-leb _ _ c, lt-leb _ _ h)
+
+        module _ (d : textGranted g ≤ 65535) where
+          pub no-call : callsGranted g < 1 → false ≡ inRange (grantsOf g)
+          unfolding inRange
+          no-call h = rw (le-leb _ _ a, le-leb _ _ b, le-leb _ _ c, le-leb _ _ d, lt-leb _ _ h)
+
+          pub calls-asked : 1 ≤ callsGranted g → leb (callsGranted g) 64 ≡ inRange (grantsOf g)
+          unfolding inRange
+          calls-asked h = rw (le-leb _ _ a, le-leb _ _ b, le-leb _ _ c, le-leb _ _ d, le-leb _ _ h)
 
 -- ---- what is known then
 pub record Ranges (g : List ℕ) : Type 0 where
@@ -66,19 +78,27 @@ pub record Ranges (g : List ℕ) : Type 0 where
   pub shapes : shapesGranted g ≤ 65535
   pub entries : entriesGranted g ≤ 65535
   pub text : textGranted g ≤ 65535
+  pub calls : callsGranted g ≤ 64
 
 pub in-ranges : (g : List ℕ) → inRange (grantsOf g) ≡ true → Ranges g
 unfolding inRange
 in-ranges g e =
-    let q = all-four (leb (stepsGranted g) 4294967295) (leb (shapesGranted g) 65535) (leb (entriesGranted g) 65535) (leb (textGranted g) 65535) e in
-    record { steps = leb-true _ _ (q .0); shapes = leb-true _ _ (q .1); entries = leb-true _ _ (q .2); text = leb-true _ _ (q .3) }
+    let q = all-six (leb (stepsGranted g) 4294967295) (leb (shapesGranted g) 65535) (leb (entriesGranted g) 65535) (leb (textGranted g) 65535)
+    (leb 1 (callsGranted g)) (leb (callsGranted g) 64) e in
+    record {
+      steps = leb-true _ _ (q .0);
+      shapes = leb-true _ _ (q .1);
+      entries = leb-true _ _ (q .2);
+      text = leb-true _ _ (q .3);
+      calls = leb-true _ _ (q .5);
+    }
 
 -- ---- `words_needed`
 module _ (g : List ℕ) (e : inRange (grantsOf g) ≡ true) where
   pub shapes-fit : Fits w64 (3 * shapesGranted g)
   shapes-fit = record { fits = omega (arith, in-ranges g e .shapes) }
 
-  pub shapes-end-fits : Fits w64 (24584 + 3 * shapesGranted g)
+  pub shapes-end-fits : Fits w64 (278608 + 3 * shapesGranted g)
   shapes-end-fits = record { fits = omega (arith, in-ranges g e .shapes) }
 
   pub entries-fit : Fits w64 (4 * entriesGranted g)
@@ -173,6 +193,7 @@ module _ (o : Operation) (runs : Runs o) (program : List ℕ) (width height : �
                 shapes = omega (arith, r .shapes);
                 entries = omega (arith, r .entries);
                 text = omega (arith, r .text);
+                calls = r .calls;
                 words = leb-true _ _ (q .3);
               };
               texts = leb-true _ _ (q .4);

@@ -8,11 +8,11 @@ use lib.IntN.{ℤ}
 use Rattle.meaning.specs.Program.{Operation, drawing}
 use Rattle.meaning.specs.Book.{Answer}
 use Rattle.meaning.specs.Call.{Grants, Call, inRange, needed, longEnough, answer, workAfter}
-use Rattle.machine.specs.Layout.{stepsGranted, shapesGranted, entriesGranted, textGranted, Lent}
+use Rattle.machine.specs.Layout.{stepsGranted, shapesGranted, entriesGranted, textGranted, callsGranted, Lent}
 
--- the four counts of a list
+-- the five counts of a list
 abbrev pub grantsOf : List ℕ → Grants
-grantsOf g = record { steps = stepsGranted g; shapes = shapesGranted g; entries = entriesGranted g; textBytes = textGranted g }
+grantsOf g = record { steps = stepsGranted g; shapes = shapesGranted g; entries = entriesGranted g; textBytes = textGranted g; calls = callsGranted g }
 
 -- whether they are in their ranges, and work slices of these lengths long enough for them
 unfoldable pub enough : List ℕ → ℕ → ℕ → ℕ → ℕ → Bool

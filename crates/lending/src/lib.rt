@@ -7,7 +7,7 @@ ghost use Rattle.machine.specs.Layout.{wordsNeeded};
 ghost use Rattle.lending.specs.Lending.{grantsOf, enough};
 
 // Whether each count is in its range.
-pub fn in_range(grants: &[u64; 4]) -> bool
+pub fn in_range(grants: &[u64; 5]) -> bool
     ensures { λ r. ⌜ r ≡ inRange (grantsOf (now (grants .entry))) ⌝ }
 {
     if 4294967295 < grants[0] {
@@ -19,19 +19,25 @@ pub fn in_range(grants: &[u64; 4]) -> bool
     if 65535 < grants[2] {
         return false;
     }
-    grants[3] <= 65535
+    if 65535 < grants[3] {
+        return false;
+    }
+    if grants[4] < 1 {
+        return false;
+    }
+    grants[4] <= 64
 }
 
 // How many words a run needs.
-fn words_needed(grants: &[u64; 4]) -> u64
+fn words_needed(grants: &[u64; 5]) -> u64
     requires { ⌜ inRange (grantsOf (now grants)) ≡ true ⌝ }
     ensures { λ r. ⌜ r ≡ wordsNeeded (now (grants .entry)) ⌝ }
 {
-    24584 + 3 * grants[1] + 4 * grants[2]
+    278608 + 3 * grants[1] + 4 * grants[2]
 }
 
 // Whether the counts are in their ranges, and work slices of these lengths as long as they need to be.
-pub fn is_enough(grants: &[u64; 4], tokens: usize, code: usize, words: usize, texts: usize) -> bool
+pub fn is_enough(grants: &[u64; 5], tokens: usize, code: usize, words: usize, texts: usize) -> bool
     ensures { λ r. ⌜ r ≡ enough (now (grants .entry)) tokens code words texts ⌝ }
 {
     if !in_range(grants) {

@@ -4,13 +4,13 @@ use machine::Answer;
 use machine::Value;
 ghost use Prim.Native.Nat.{_≤_};
 ghost use lib.ListN.{length};
-ghost use Rattle.machine.specs.Layout.{Room};
+ghost use Rattle.machine.specs.Layout.{fixedWords, Room};
 ghost use Rattle.machine.specs.Act.{Answers};
 ghost use Rattle.machine.specs.Library.{drawn, drawnText, connected, labelled, coordinate, destroyed, clearing, perform, callLibrary};
 ghost use Rattle.machine.specs.Arguments.{centreX, centreY};
 
 // Four integers make a figure of a kind.
-fn draw(words: &mut [u64], grants: &[u64; 4], kind: u64, p: u64, base: u64, n: u64) -> Answer
+fn draw(words: &mut [u64], grants: &[u64; 5], kind: u64, p: u64, base: u64, n: u64) -> Answer
     requires { ⌜ Room (now grants) (now words) ⌝ }
     ensures { λ r. ⌜ Answers (now (words .entry)) (drawn (now (grants .entry)) kind p base n) r (now (words .exit)) ⌝ }
 {
@@ -25,7 +25,7 @@ fn draw(words: &mut [u64], grants: &[u64; 4], kind: u64, p: u64, base: u64, n: u
     r
 }
 
-fn draw_text(words: &mut [u64], grants: &[u64; 4], p: u64, base: u64, n: u64) -> Answer
+fn draw_text(words: &mut [u64], grants: &[u64; 5], p: u64, base: u64, n: u64) -> Answer
     requires { ⌜ Room (now grants) (now words) ⌝ }
     ensures { λ r. ⌜ Answers (now (words .entry)) (drawnText (now (grants .entry)) p base n) r (now (words .exit)) ⌝ }
 {
@@ -40,7 +40,7 @@ fn draw_text(words: &mut [u64], grants: &[u64; 4], p: u64, base: u64, n: u64) ->
     r
 }
 
-fn connect(words: &mut [u64], grants: &[u64; 4], p: u64, base: u64, n: u64) -> Answer
+fn connect(words: &mut [u64], grants: &[u64; 5], p: u64, base: u64, n: u64) -> Answer
     requires { ⌜ Room (now grants) (now words) ⌝ }
     ensures { λ r. ⌜ Answers (now (words .entry)) (connected (now (grants .entry)) p base n) r (now (words .exit)) ⌝ }
 {
@@ -55,7 +55,7 @@ fn connect(words: &mut [u64], grants: &[u64; 4], p: u64, base: u64, n: u64) -> A
     r
 }
 
-fn label(words: &mut [u64], grants: &[u64; 4], p: u64, base: u64, n: u64) -> Answer
+fn label(words: &mut [u64], grants: &[u64; 5], p: u64, base: u64, n: u64) -> Answer
     requires { ⌜ Room (now grants) (now words) ⌝ }
     ensures { λ r. ⌜ Answers (now (words .entry)) (labelled (now (grants .entry)) p base n) r (now (words .exit)) ⌝ }
 {
@@ -71,7 +71,7 @@ fn label(words: &mut [u64], grants: &[u64; 4], p: u64, base: u64, n: u64) -> Ans
 }
 
 fn x_coordinate(words: &[u64], p: u64, base: u64, n: u64) -> Answer
-    requires { ⌜ 24584 ≤ length (now words) ⌝ }
+    requires { ⌜ fixedWords ≤ length (now words) ⌝ }
     ensures { λ r. ⌜ Answers (now (words .entry)) (coordinate centreX p base n) r (now (words .entry)) ⌝ }
 {
     if n != 1 {
@@ -84,7 +84,7 @@ fn x_coordinate(words: &[u64], p: u64, base: u64, n: u64) -> Answer
 }
 
 fn y_coordinate(words: &[u64], p: u64, base: u64, n: u64) -> Answer
-    requires { ⌜ 24584 ≤ length (now words) ⌝ }
+    requires { ⌜ fixedWords ≤ length (now words) ⌝ }
     ensures { λ r. ⌜ Answers (now (words .entry)) (coordinate centreY p base n) r (now (words .entry)) ⌝ }
 {
     if n != 1 {
@@ -97,7 +97,7 @@ fn y_coordinate(words: &[u64], p: u64, base: u64, n: u64) -> Answer
 }
 
 fn destroy(words: &mut [u64], p: u64, base: u64, n: u64) -> Answer
-    requires { ⌜ 24584 ≤ length (now words) ⌝ }
+    requires { ⌜ fixedWords ≤ length (now words) ⌝ }
     ensures { λ r. ⌜ Answers (now (words .entry)) (destroyed p base n) r (now (words .exit)) ⌝ }
 {
     if n != 1 {
@@ -112,7 +112,7 @@ fn destroy(words: &mut [u64], p: u64, base: u64, n: u64) -> Answer
 }
 
 fn clear(words: &mut [u64], p: u64, n: u64) -> Answer
-    requires { ⌜ 24584 ≤ length (now words) ⌝ }
+    requires { ⌜ fixedWords ≤ length (now words) ⌝ }
     ensures { λ r. ⌜ Answers (now (words .entry)) (clearing p n) r (now (words .exit)) ⌝ }
 {
     if n != 0 {
@@ -123,7 +123,7 @@ fn clear(words: &mut [u64], p: u64, n: u64) -> Answer
 }
 
 // A procedure by its number.
-fn perform(words: &mut [u64], grants: &[u64; 4], number: u64, p: u64, base: u64, n: u64) -> Answer
+fn perform(words: &mut [u64], grants: &[u64; 5], number: u64, p: u64, base: u64, n: u64) -> Answer
     requires { ⌜ Room (now grants) (now words) ⌝ }
     ensures { λ r. ⌜ Answers (now (words .entry)) (perform (now (grants .entry)) number p base n) r (now (words .exit)) ⌝ }
 {
@@ -168,7 +168,7 @@ fn perform(words: &mut [u64], grants: &[u64; 4], number: u64, p: u64, base: u64,
 // A call. A procedure that is not known is 20; else a destroyed shape among the arguments is 30.
 pub fn call_library(
     words: &mut [u64],
-    grants: &[u64; 4],
+    grants: &[u64; 5],
     number: u64,
     p: u64,
     base: u64,

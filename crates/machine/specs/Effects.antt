@@ -10,7 +10,7 @@ use Rattle.machine.specs.Words.{kindIn, numberIn, truthIn, packed, unpac
 use Rattle.machine.specs.Layout.{valuePlace}
 use Rattle.machine.specs.Act.{Raw, raw, Out, done, stop, Act, _>>=_, _>>_, give, refuse, load}
 use Rattle.machine.specs.Shapes.{figureAt, newShape}
-use Rattle.machine.specs.Variables.{declare, setVariable}
+use Rattle.machine.specs.Variables.{usable, declare, setVariable}
 use Rattle.machine.specs.declared.Flow.{Flow}
 use Rattle.machine.specs.declared.Flow.the-variants.{Onward, Returned, Stopped}
 use Rattle.machine.specs.declared.Outcome.{Outcome}
@@ -47,6 +47,7 @@ unfoldable pub assigning : List ℕ → ℕ → ℕ → ℕ → Act Flow
 assigning g p slot k = do
   w ← load (valuePlace slot)
   refuse (eqb w 0) 50 p
+  usable p (unpacked k)
   c ← copied g p k
   setVariable slot c
   give Onward

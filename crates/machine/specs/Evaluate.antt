@@ -1,16 +1,16 @@
--- Expressions over code. x is the root's place in the code, p the statement's place. depth bounds how deep expressions are nested: at a root x it is
--- more than x, the number of words before the root. Where it runs out the answer is 20; no program that was read ends so (simulation, Body.body-follows).
+-- Expressions over code. x is the root's place in the code, p the statement's place. How its parts are evaluated, and how a procedure of the program is
+-- called, is handed in.
 use Prim.Native.Nat.{ℕ, zero, suc, _+_, _-_}
 use mathlib.Core.List.{List}
 use lib.ListN.{getD}
 use lib.Dec.{eqb, ltb}
 use Rattle.meaning.specs.Basics.{if_then_else_}
-use Rattle.machine.specs.Opcodes.{tagIn, sizeIn, numberIn, argumentRoot, tagTable, tagCall}
+use Rattle.machine.specs.Opcodes.{tagIn, sizeIn, numberIn, libraryIn, calleeIn, argumentRoot, tagTable, tagCall}
 use Rattle.machine.specs.declared.Value.{Value}
 use Rattle.machine.specs.declared.Value.the-variants.{Nothing}
 use Rattle.machine.specs.Words.{packed}
 use Rattle.machine.specs.Layout.{argumentsHeld}
-use Rattle.machine.specs.Act.{Act, _>>=_, _>>_, give, fail, refuse, load, count}
+use Rattle.machine.specs.Act.{Act, _>>=_, _>>_, give, refuse, load}
 use Rattle.machine.specs.Primaries.{leaf, sized, lacksTable, applied, pushWord, called}
 
 -- what does not change in a run
@@ -25,6 +25,10 @@ setting program code grants = record { program = program; code = code; grants = 
 -- how one expression is evaluated, by its root and the place
 abbrev pub Evaluator : Type 0
 Evaluator = ℕ → ℕ → Act Value
+
+-- how a procedure of the program is called, by its name's slot, the place, and the number of its first argument on the stack
+abbrev pub Invoke : Type 0
+Invoke = ℕ → ℕ → ℕ → Act Value
 
 -- ---- calls
 -- an argument, pushed
@@ -41,11 +45,16 @@ argumentsFrom zero inner e y x p = give Nothing
 argumentsFrom (suc rounds) inner e y x p =
     if ltb y x then (λ _. argumentOf inner y p >> argumentsFrom rounds inner e (argumentAfter e (y + 1) x) x p) else λ _. give Nothing
 
-unfoldable pub callAt : Evaluator → Setting → ℕ → ℕ → ℕ → Act Value
-callAt inner e w x p = do
+-- by the call's word: a procedure of the library, of the program, or main, which is 20
+unfoldable pub invoked : Invoke → Setting → ℕ → ℕ → ℕ → Act Value
+invoked invoke e w p base =
+    if eqb (libraryIn w) 10 then (λ _. invoke (calleeIn w) p base) else λ _. called (e .grants) (libraryIn w) p base
+
+unfoldable pub callAt : Evaluator → Invoke → Setting → ℕ → ℕ → ℕ → Act Value
+callAt inner invoke e w x p = do
   base ← load argumentsHeld
   argumentsFrom (suc x) inner e (argumentAfter e (x - (sizeIn w - 1)) x) x p
-  called (e .grants) (numberIn w) p base
+  invoked invoke e w p base
 
 -- ---- operands
 -- a table read or an operator whose first part is held as a word; the root of the second stands before its own
@@ -62,12 +71,8 @@ operandsAt inner e w x p = inner (x - 1 - numberIn w) p >>= λ v. firstOf inner 
 
 -- ---- expressions
 -- by the root's word
-unfoldable pub expressionBy : Evaluator → Setting → ℕ → ℕ → ℕ → Act Value
-expressionBy inner e w x p =
+unfoldable pub expressionBy : Evaluator → Invoke → Setting → ℕ → ℕ → ℕ → Act Value
+expressionBy inner invoke e w x p =
     if ltb (tagIn w) tagTable then (λ _. leaf p w)
-    else λ _. if eqb (tagIn w) tagCall then (λ _. callAt inner e w x p)
+    else λ _. if eqb (tagIn w) tagCall then (λ _. callAt inner invoke e w x p)
     else λ _. operandsAt inner e w x p
-
-unfoldable pub expressionAt : ℕ → Setting → ℕ → ℕ → Act Value
-expressionAt zero e x p = fail 20 p
-expressionAt (suc depth) e x p = count (e .grants) p >> expressionBy (expressionAt depth e) e (getD (e .code) x 0) x p

@@ -1,5 +1,6 @@
 -- Where everything stands in the words that are lent for a run.
--- 8 counters; 8,192 variables by slot; the slots in the order of their declarations; the arguments of calls under way; shapes of three words each;
+-- 16 counters; a word for each call that waits for another; the 8,192 variables of the call under way, by slot; their slots in the order of their
+-- declarations; a stack of 262,144 words, which holds the arguments of calls and the variables of calls that wait; shapes of three words each;
 -- entries of four words each, behind as many shapes as are granted.
 use Prim.Native.Nat.{ℕ, _+_, _*_, _%_, _^_, _≤_, _<_}
 use mathlib.Core.List.{List}
@@ -27,7 +28,14 @@ declared = 5
 abbrev pub argumentsHeld : ℕ
 argumentsHeld = 6
 
--- ---- grants, a list of four
+abbrev pub callsUsed : ℕ
+callsUsed = 7
+
+-- the procedure under way: 0 is main, else it is one more than the slot of its name
+abbrev pub running : ℕ
+running = 8
+
+-- ---- grants, a list of five
 abbrev pub stepsGranted : List ℕ → ℕ
 stepsGranted g = getD g 0 0
 
@@ -40,19 +48,28 @@ entriesGranted g = getD g 2 0
 abbrev pub textGranted : List ℕ → ℕ
 textGranted g = getD g 3 0
 
+abbrev pub callsGranted : List ℕ → ℕ
+callsGranted g = getD g 4 0
+
 -- ---- regions
 -- what stands before the shapes
 abbrev pub fixedWords : ℕ
-fixedWords = 24584
+fixedWords = 278608
+
+abbrev pub framePlace : ℕ → ℕ
+framePlace d = 16 + d % 64
 
 abbrev pub valuePlace : ℕ → ℕ
-valuePlace slot = 8 + slot % 8192
+valuePlace slot = 80 + slot % 8192
 
 abbrev pub orderPlace : ℕ → ℕ
-orderPlace k = 8200 + k % 8192
+orderPlace k = 8272 + k % 8192
+
+abbrev pub stackWords : ℕ
+stackWords = 262144
 
 abbrev pub argumentPlace : ℕ → ℕ
-argumentPlace k = 16392 + k % 8192
+argumentPlace k = 16464 + k % stackWords
 
 abbrev pub shapePlace : ℕ → ℕ
 shapePlace i = fixedWords + 3 * i
@@ -71,6 +88,7 @@ pub record Room (g ws : List ℕ) : Type 0 where
   pub shapes : shapesGranted g < 2 ^ 16
   pub entries : entriesGranted g < 2 ^ 16
   pub text : textGranted g < 2 ^ 16
+  pub calls : callsGranted g ≤ 64
   pub words : wordsNeeded g ≤ length ws
 
 -- so is the text store

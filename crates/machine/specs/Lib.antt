@@ -15,3 +15,5 @@ pub mod Primaries
 pub mod Evaluate
 pub mod Effects
 pub mod Execute
+pub mod Procedures
+pub mod Interpret

@@ -34,6 +34,31 @@ sizeAt code x = sizeIn (getD code x 0)
 unfoldable pub argumentRoot : ℕ → ℕ → ℕ → ℕ
 argumentRoot w a x = if ltb (a + sizeIn w) x then (λ _. a + sizeIn w) else λ _. x
 
+-- ---- calls
+-- a call's number is that of the library's procedure, 0 to 9, or 10, or 11 for main, and the slot of the name
+abbrev pub libraryIn : ℕ → ℕ
+libraryIn w = numberIn w % 16
+
+abbrev pub calleeIn : ℕ → ℕ
+calleeIn w = numberIn w / 16
+
+-- A table behind the code has a word for each name, by its slot; 0 if it names no procedure. The word says where the slots of its parameters stand in the
+-- code, how many they are, and how many words its body has, which stands behind them.
+abbrev pub tablePlace : ℕ → ℕ
+tablePlace slot = 8192 + slot % 8192
+
+unfoldable pub procedureWord : ℕ → ℕ → ℕ → ℕ
+procedureWord start parameters size = start + 65536 * parameters + 4294967296 * size
+
+abbrev pub startIn : ℕ → ℕ
+startIn d = d % 65536
+
+abbrev pub parametersIn : ℕ → ℕ
+parametersIn d = d / 65536 % 65536
+
+abbrev pub bodyIn : ℕ → ℕ
+bodyIn d = d / 4294967296
+
 -- ---- tags of expressions
 abbrev pub tagNumber : ℕ
 tagNumber = 1

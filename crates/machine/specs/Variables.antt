@@ -1,5 +1,6 @@
--- Variables by slot: a word of 0 is a variable not declared. The order of declarations stands apart.
-use Prim.Native.Nat.{ℕ, zero, suc, _+_, _%_}
+-- Variables by slot: a word of 0 is a variable not declared. The order of declarations stands apart. The variables of a call that waits stand on the
+-- stack.
+use Prim.Native.Nat.{ℕ, zero, suc, _+_, _-_, _*_, _/_, _%_, _^_}
 use mathlib.Core.Bool.{Bool, false, not}
 use mathlib.Core.List.{List}
 use lib.ListN.{getD}
@@ -7,7 +8,7 @@ use lib.Dec.{eqb}
 use Rattle.machine.specs.declared.Value.{Value}
 use Rattle.machine.specs.declared.Value.the-variants.{Integer, Text, Boolean, Nothing, Table, Shape}
 use Rattle.machine.specs.Words.{packed, unpacked}
-use Rattle.machine.specs.Layout.{declared, valuePlace, orderPlace}
+use Rattle.machine.specs.Layout.{declared, callsUsed, framePlace, valuePlace, orderPlace, argumentPlace}
 use Rattle.machine.specs.Act.{Act, give, refuse, load, store, _>>=_, _>>_}
 use Rattle.machine.specs.Shapes.{destroyedAt, destroy}
 
@@ -49,6 +50,27 @@ declare slot p = do
 unfoldable pub setVariable : ℕ → ℕ → Act (Unit {0})
 setVariable slot w = store (valuePlace slot) w
 
+-- ---- calls that wait
+-- a variable that waits: its word in 48 bits, and its slot
+unfoldable pub waitingWord : ℕ → ℕ → ℕ
+waitingWord slot w = w % 2 ^ 48 + 2 ^ 48 * (slot % 8192)
+
+abbrev pub wordIn : ℕ → ℕ
+wordIn w = w % 2 ^ 48
+
+abbrev pub slotIn : ℕ → ℕ
+slotIn w = w / 2 ^ 48
+
+-- a call that waits: where its variables stand on the stack, and how many there are
+unfoldable pub frameWord : ℕ → ℕ → ℕ
+frameWord top n = top + 1048576 * n
+
+abbrev pub topIn : ℕ → ℕ
+topIn f = f % 1048576
+
+abbrev pub countIn : ℕ → ℕ
+countIn f = f / 1048576
+
 -- ---- the scene
 -- the shape that a value is, destroyed
 unfoldable pub destroyIn : Value → Act (Unit {0})
@@ -68,7 +90,26 @@ clearFrom k (suc n) = do
   destroyIn (unpacked w)
   clearFrom (k + 1) n
 
+-- the same of the variables on the stack from place k on, n of them
+unfoldable pub clearWaiting : ℕ → ℕ → Act (Unit {0})
+clearWaiting k zero = give tt
+clearWaiting k (suc n) = do
+  w ← load (argumentPlace k)
+  destroyIn (unpacked (wordIn w))
+  clearWaiting (k + 1) n
+
+-- of n calls that wait, from the d-th on
+unfoldable pub clearFrames : ℕ → ℕ → Act (Unit {0})
+clearFrames d zero = give tt
+clearFrames d (suc n) = do
+  f ← load (framePlace d)
+  clearWaiting (topIn f) (countIn f)
+  clearFrames (d + 1) n
+
+-- of all calls under way, from main on
 unfoldable pub clearScene : Act (Unit {0})
 clearScene = do
+  c ← load callsUsed
+  clearFrames 1 (c - 1)
   n ← load declared
   clearFrom 0 n

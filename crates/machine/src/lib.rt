@@ -127,11 +127,72 @@ pub mod kinds {
     pub const SHAPE: u64 = 6;
 }
 
-// Where the counters stand in the words that are lent, and the grants among the four.
+// A variable that waits on the stack: its slot counts so much. A call that waits: how many variables it has counts so much.
+pub mod frames {
+    pub const VARIABLE: u64 = 281474976710656;
+
+    pub const COUNT: u64 = 1048576;
+}
+
+// Where the counters stand in the words that are lent, and the grants among the five.
 pub mod counters {
     pub const STEPS: usize = 0;
+
+    pub const SHAPES: usize = 1;
+
+    pub const ENTRIES: usize = 2;
+
+    pub const TEXT: usize = 3;
+
+    pub const TABLES: usize = 4;
+
+    pub const DECLARED: usize = 5;
+
+    pub const ARGUMENTS: usize = 6;
+
+    pub const CALLS: usize = 7;
+
+    pub const RUNNING: usize = 8;
 }
 
 pub mod granted {
     pub const STEPS: usize = 0;
+
+    pub const SHAPES: usize = 1;
+
+    pub const ENTRIES: usize = 2;
+
+    pub const TEXT: usize = 3;
+
+    pub const CALLS: usize = 4;
+}
+
+// Where the words of calls that wait, variables by slot, their slots in the order of declarations and the stack begin, and how many of each there
+// are; how many words stand before the shapes; and how many a shape and an entry have.
+pub mod layout {
+    pub const FRAMES: usize = 64;
+
+    pub const SLOTS: usize = 8192;
+
+    pub const STACK_WORDS: usize = 262144;
+
+    pub const FIRST_FRAME: usize = 16;
+
+    pub const FIRST_VALUE: usize = FIRST_FRAME + FRAMES;
+
+    pub const FIRST_ORDER: usize = FIRST_VALUE + SLOTS;
+
+    pub const FIRST_ARGUMENT: usize = FIRST_ORDER + SLOTS;
+
+    pub const FIXED_WORDS: usize = FIRST_ARGUMENT + STACK_WORDS;
+
+    // as many words are on the stack at most
+    pub const MOST_ARGUMENTS: u64 = STACK_WORDS as u64;
+
+    pub const SHAPE_WORDS: usize = 3;
+
+    pub const ENTRY_WORDS: usize = 4;
+
+    // where the table of procedures stands in the code
+    pub const FIRST_PROCEDURE: usize = 8192;
 }

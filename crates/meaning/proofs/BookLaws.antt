@@ -7,22 +7,24 @@ use native.Mathlib.Omega.{arith}
 use lib.Dec.{eqb}
 use borrow.Author.Tests.{eq-eqb}
 use Rattle.meaning.specs.Basics.{if_then_else_}
-use Rattle.meaning.specs.Run.{Resource, steps, shapes, entries, textBytes, picture, Taking}
-use Rattle.meaning.specs.Book.{Amounts, resourceNumber, added, fits, Booked, allFit, lacking, book}
+use Rattle.meaning.specs.Run.{Resource, steps, shapes, entries, textBytes, calls, picture, Taking, Event, taken, gaveBack}
+use Rattle.meaning.specs.Book.{Amounts, resourceNumber, added, lowered, fits, Booked, allFit, lacking, book}
 
 -- ---- amounts
--- how much of a resource a taking takes, and how much some takings take
+-- how much of a resource a taking takes, and how much some events take, what is given back left out
 unfoldable pub part : Resource → Taking → ℕ
 part r t = cond (eqb (resourceNumber r) (resourceNumber (t .of))) (t .amount) 0
 
-unfoldable pub taken : Resource → List Taking → ℕ
-taken r [] = 0
-taken r (t ∷ ts) = part r t + taken r ts
+unfoldable pub spent : Resource → List Event → ℕ
+spent r [] = 0
+spent r (taken t ∷ es) = part r t + spent r es
+spent r (gaveBack ∷ es) = spent r es
 
-pub taken-append : (r : Resource) (ts us : List Taking) → taken r (ts ++ us) ≡ taken r ts + taken r us
-unfolding taken
-taken-append r [] us = omega arith
-taken-append r (t ∷ ts) us = rw (taken-append r ts us) (omega arith)
+pub spent-append : (r : Resource) (es fs : List Event) → spent r (es ++ fs) ≡ spent r es + spent r fs
+unfolding spent
+spent-append r [] fs = omega arith
+spent-append r (taken t ∷ es) fs = rw (spent-append r es fs) (omega arith)
+spent-append r (gaveBack ∷ es) fs = spent-append r es fs
 
 -- a taking takes its amount of its resource
 pub part-own : (t : Taking) → part (t .of) t ≡ t .amount
@@ -34,7 +36,8 @@ resourceAt zero = steps
 resourceAt (suc zero) = shapes
 resourceAt (suc (suc zero)) = entries
 resourceAt (suc (suc (suc zero))) = textBytes
-resourceAt (suc (suc (suc (suc n)))) = picture
+resourceAt (suc (suc (suc (suc zero)))) = picture
+resourceAt (suc (suc (suc (suc (suc n))))) = calls
 
 at-number : (r : Resource) → resourceAt (resourceNumber r) ≡ r
 unfolding resourceAt resourceNumber
@@ -43,6 +46,7 @@ at-number shapes = refl
 at-number entries = refl
 at-number textBytes = refl
 at-number picture = refl
+at-number calls = refl
 
 -- resources with one number are one
 pub same-resource : (r q : Resource) → resourceNumber r ≡ resourceNumber q → r ≡ q
@@ -59,18 +63,19 @@ unfolding if_then_else_
 if-fit true x y k = refl
 if-fit false x y k = refl
 
-pub book-append : (g total : Amounts) (ts us : List Taking) →
-    book g total (ts ++ us) ≡ onFit (book g total ts) (λ total′. book g total′ us)
+pub book-append : (g total : Amounts) (es fs : List Event) →
+    book g total (es ++ fs) ≡ onFit (book g total es) (λ total′. book g total′ fs)
 unfolding book onFit
-book-append g total [] us = refl
-book-append g total (t ∷ ts) us = rw (book-append g (added total t) ts us) (sym (if-fit (fits g total t) _ _ _))
+book-append g total [] fs = refl
+book-append g total (taken t ∷ es) fs = rw (book-append g (added total t) es fs) (sym (if-fit (fits g total t) _ _ _))
+book-append g total (gaveBack ∷ es) fs = book-append g (lowered total) es fs
 
 -- one taking: it fits and the book goes on, or it stops
-pub book-cons : (g total : Amounts) (t : Taking) (ts : List Taking) → fits g total t ≡ true →
-    book g total (t ∷ ts) ≡ book g (added total t) ts
+pub book-cons : (g total : Amounts) (t : Taking) (es : List Event) → fits g total t ≡ true →
+    book g total (taken t ∷ es) ≡ book g (added total t) es
 unfolding book if_then_else_
-book-cons g total t ts e = rw e
+book-cons g total t es e = rw e
 
-pub book-stop : (g total : Amounts) (t : Taking) (ts : List Taking) → fits g total t ≡ false → book g total (t ∷ ts) ≡ lacking t total
+pub book-stop : (g total : Amounts) (t : Taking) (es : List Event) → fits g total t ≡ false → book g total (taken t ∷ es) ≡ lacking t total
 unfolding book if_then_else_
-book-stop g total t ts e = rw e
+book-stop g total t es e = rw e

@@ -12,6 +12,7 @@ use Rattle.meaning.specs.Call.{Call, Grants, answer, workAfter, outAfter
 use Rattle.meaning.proofs.Computing.{everything}
 use Rattle.meaning.proofs.Rows.{Row, _gives_, Hold, minus}
 use Rattle.meaning.proofs.Readings.{only, main}
+use Rattle.meaning.proofs.ProcedureExamples.{granting}
 
 -- ---- calls
 abbrev long : List ℕ
@@ -56,6 +57,9 @@ firstQuestions =
     ∷ sheet drawing (bytes " def main(a,a){x;}") (pos 1) (pos 1) gives number 60 0 0 0
     ∷ sheet checking (bytes "def main(a,a){x;}") (pos 1) (pos 1) gives pictured 0 0
     ∷ sheet checking (bytes "def main(){x;}") (pos 1) (pos 1) gives pictured 0 0
+    ∷ sheet drawing (bytes "def f(){x;}def f(){x;}def main(){x;}") (pos 0) (pos 1) gives number 72 0 0 0
+    ∷ sheet drawing (bytes "def f(){x;}def f(){x;}def main(){x;}") (pos 1) (pos 1) gives number 60 11 0 0
+    ∷ sheet checking (bytes "def f(){x;}def f(){x;}def main(){x;}") (pos 0) (pos 1) gives number 60 11 0 0
     ∷ sheet drawing (main "w/0;") (pos 1) (pos 1) gives number 70 14 4 0
     ∷ sheet drawing (main "1/(w-3);") (pos 3) (pos 1) gives number 70 14 6 0
     ∷ sheet drawing (main "1/(h-3);") (pos 1) (pos 3) gives number 70 14 6 0
@@ -76,14 +80,20 @@ admission =
     ∷ lending drawing (only 4294967295 65535 65536 65535) long gives number 71 0 0 0
     ∷ lending drawing (only 4294967295 65535 65535 65536) long gives number 71 0 0 0
     ∷ lending checking (only 4294967296 0 0 0) long gives number 71 0 0 0
-    ∷ lending drawing some (8193 ∷ 16384 ∷ 24602 ∷ 5 ∷ []) gives pictured 141 2
-    ∷ lending drawing some (8192 ∷ 16384 ∷ 24602 ∷ 5 ∷ []) gives number 71 0 0 0
-    ∷ lending drawing some (8193 ∷ 16383 ∷ 24602 ∷ 5 ∷ []) gives number 71 0 0 0
-    ∷ lending drawing some (8193 ∷ 16384 ∷ 24601 ∷ 5 ∷ []) gives number 71 0 0 0
-    ∷ lending drawing some (8193 ∷ 16384 ∷ 24602 ∷ 4 ∷ []) gives number 71 0 0 0
-    ∷ lending drawing some (8193 ∷ 16384 ∷ 24602 ∷ []) gives number 71 0 0 0
-    ∷ lending drawing (only 99 0 0 0) (8193 ∷ 16384 ∷ 24584 ∷ 0 ∷ []) gives pictured 141 2
-    ∷ lending drawing (only 99 0 0 0) (8193 ∷ 16384 ∷ 24583 ∷ 0 ∷ []) gives number 71 0 0 0
+    ∷ lending drawing (granting 1 0) long gives pictured 141 2
+    ∷ lending drawing (granting 64 0) long gives pictured 141 2
+    ∷ lending drawing (granting 0 0) long gives number 71 0 0 0
+    ∷ lending drawing (granting 65 0) long gives number 71 0 0 0
+    ∷ lending checking (granting 0 0) long gives number 71 0 0 0
+    ∷ lending checking (granting 65 0) long gives number 71 0 0 0
+    ∷ lending drawing some (8193 ∷ 16384 ∷ 278626 ∷ 5 ∷ []) gives pictured 141 2
+    ∷ lending drawing some (8192 ∷ 16384 ∷ 278626 ∷ 5 ∷ []) gives number 71 0 0 0
+    ∷ lending drawing some (8193 ∷ 16383 ∷ 278626 ∷ 5 ∷ []) gives number 71 0 0 0
+    ∷ lending drawing some (8193 ∷ 16384 ∷ 278625 ∷ 5 ∷ []) gives number 71 0 0 0
+    ∷ lending drawing some (8193 ∷ 16384 ∷ 278626 ∷ 4 ∷ []) gives number 71 0 0 0
+    ∷ lending drawing some (8193 ∷ 16384 ∷ 278626 ∷ []) gives number 71 0 0 0
+    ∷ lending drawing (only 99 0 0 0) (8193 ∷ 16384 ∷ 278608 ∷ 0 ∷ []) gives pictured 141 2
+    ∷ lending drawing (only 99 0 0 0) (8193 ∷ 16384 ∷ 278607 ∷ 0 ∷ []) gives number 71 0 0 0
     ∷ lending checking some (8193 ∷ 16384 ∷ []) gives pictured 0 0
     ∷ lending checking some (8192 ∷ 16384 ∷ []) gives number 71 0 0 0
     ∷ lending checking some (8193 ∷ 16383 ∷ []) gives number 71 0 0 0
@@ -129,6 +139,8 @@ shortages =
     ∷ within (only 0 9 9 9) "while(false)1;" gives number 79 14 0 0
     ∷ within (only 2 9 9 9) "while(false)1;" gives pictured 141 2
     ∷ within (only 2 0 0 0) "1;" gives pictured 141 2
+    ∷ calling drawing (bytes "def f(){f();}def main(w,h){f();}") (pos 20) (pos 20) (only 5 0 0 0) long [] gives number 79 8 5 0
+    ∷ calling drawing (bytes "def f(){f();}def main(w,h){f();}") (pos 20) (pos 20) (granting 3 0) long [] gives number 81 8 6 0
     ∷ within (only 99 0 9 9) "drawBox(1,2,3,4);" gives number 76 14 6 0
     ∷ within (only 99 1 0 0) "drawBox(1,2,3,4);" gives pictured 141 6
     ∷ within (only 99 1 9 9) "w=drawBox(1,2,3,4);" gives number 76 14 6 0

@@ -12,6 +12,7 @@ use Rattle.meaning.specs.Operator
 use Rattle.meaning.specs.Library
 use Rattle.meaning.specs.Evaluate
 use Rattle.meaning.specs.Execute
+use Rattle.meaning.specs.Procedure
 use Rattle.meaning.specs.Picture
 use Rattle.meaning.specs.Program
 use Rattle.meaning.specs.Book
@@ -24,14 +25,15 @@ unfolding Basics.if_then_else_ Basics.sameText Basics.standsIn Basics.span Basic
     Grammar.operatorOf Grammar.opening Grammar.argumentsFrom Grammar.arguments Grammar.primary Grammar.operand
     Grammar.operated Grammar.expressionIn Grammar.expression Grammar.declaration Grammar.returning
     Grammar.targetOf Grammar.assignment Grammar.simple Grammar.guarded Grammar.statementsFrom Grammar.statementIn
-    Grammar.statement Grammar.parametersFrom Grammar.parameters Grammar.procedure Grammar.placeOf Grammar.readOf
+    Grammar.statement Grammar.parametersFrom Grammar.parameters Grammar.procedure
+    Grammar.proceduresFrom Grammar.procedureNamed Grammar.withMain Grammar.procedures Grammar.placeOf Grammar.readOf
     Grammar.parsed Grammar.reading Integer.bits Integer.wrap Integer.sum Integer.difference Integer.product
     Integer.quotient Integer.remainder Integer.amount Integer.shiftedLeft Integer.shiftedRight Integer.half
     Integer.sameInteger Integer.sameIntegers Integer.isNegative Figure.moved Figure.plusY Figure.minusY
     Figure.plusX Figure.minusX Figure.scaled Figure.scaledUp Figure.scaledDown Figure.centreX Figure.centreY Figure.connecting
     Figure.textOn Figure.figureKind Figure.numbersOf Figure.textOf Figure.sameFigure Value.kindOf State.valueIn State.isSome
-    State.assigned State.withShape State.destroy State.destroyedIn State.cleared State.seen State.sceneOf
-    State.keyOf State.sameKey State.entryIn State.overwritten Run.goOn Run._>>=_ Run.give Run.fail Run.spend
+    State.assigned State.withShape State.destroy State.destroyedIn State.cleared State.clearedAll State.fresh State.seen State.sceneOf
+    State.keyOf State.sameKey State.entryIn State.overwritten Run.goOn Run._>>=_ Run.give Run.fail Run.spend Run.giveBack
     Run.refuse Run.current Run.become Operator.isDead Operator.usable Operator.withInteger Operator.withString
     Operator.withBoolean Operator.withTable Operator.withShapeNumber Operator.withFigure Operator.newShape
     Operator.newString Operator.calculated Operator.compared Operator.remaindered Operator.joined
@@ -40,9 +42,11 @@ unfolding Basics.if_then_else_ Basics.sameText Basics.standsIn Basics.span Basic
     Library.perform Library.allUsable Library.callLibrary Evaluate.lookedUp Evaluate.variable Evaluate.newTable
     Evaluate.entryOf Evaluate.evaluate Evaluate.evaluateAll Execute.continue Execute.declaring Execute.copied
     Execute.assigning Execute.storing Execute.updating Execute.looping Execute.execute Execute.executeAll
+    Procedure.isAmong Procedure.anyTwice Procedure.inLibrary Procedure.doubled Procedure.assigningAll Procedure.returnedBy
+    Procedure.performing Procedure.found Procedure.calling
     Picture.digitsWithin Picture.digitsOf Picture.decimal Picture.attribute Picture.plainLine Picture.sideStart Picture.absolute Picture.turned Picture.lineOf Picture.linesOf
-    Picture.pictureOf Program.entering Program.sheet Program.sized Program.understood Program.painting
-    Program.performing Program.specified Program.cut Program.beginning Book.resourceNumber Book.added Book.fits
+    Picture.pictureOf Program.entering Program.sheet Program.sized Program.namedApart Program.understood Program.painting
+    Program.performing Program.specified Program.cut Program.beginning Book.resourceNumber Book.added Book.lowered Book.fits
     Book.book Book.shortageOf Book.lengthNeeded Book.answerTo Book.settled Book.booked Call.inRange Call.needed
     Call.longEnough Call.admitted Call.granted Call.runOf Call.answer Call.workAfter Call.outAfterEnd Call.outAfter
 everything = tt

@@ -13,6 +13,7 @@ use Rattle.meaning.specs.Grammar.{Got, good, wrong, expression}
 use Rattle.meaning.specs.Value.{Value, integer}
 use Rattle.meaning.specs.Run.{End, result, error, unfinished}
 use Rattle.meaning.specs.Evaluate.{evaluate}
+use Rattle.meaning.specs.Procedure.{calling}
 use Rattle.meaning.specs.Program.{Operation, drawing, empty}
 use Rattle.meaning.specs.Book.{Answer, pictured, number}
 use Rattle.meaning.specs.Call.{Call, Grants, answer, outAfter}
@@ -29,7 +30,7 @@ pub data Example : Type 0 where
 
 -- the grants of `imgdraw`, with so many steps
 abbrev pub grants : ℕ → Grants
-grants n = record { steps = n; shapes = 1024; entries = 1024; textBytes = 16384 }
+grants n = record { steps = n; shapes = 1024; entries = 1024; textBytes = 16384; calls = 64 }
 
 abbrev pub asked : Operation → String → ℕ → ℕ → Call
 asked o program n room = record {
@@ -38,7 +39,7 @@ asked o program n room = record {
   width = pos 20;
   height = pos 20;
   grants = grants n;
-  lent = 65536 ∷ 65536 ∷ 65536 ∷ 65536 ∷ [];
+  lent = 65536 ∷ 65536 ∷ 300000 ∷ 65536 ∷ [];
   out = replicate room 0;
 }
 
@@ -48,7 +49,7 @@ valueAt (error n p) = none
 valueAt unfinished = none
 
 valueRead : Got Expression → Option Value
-valueRead (good e j) = valueAt (evaluate e 0 empty .end)
+valueRead (good e j) = valueAt (evaluate (calling 1 []) e 0 empty .end)
 valueRead (wrong n j) = none
 
 valueLexed : Lexed → Option Value

@@ -8,8 +8,8 @@ use lib.ListN.{replicate}
 use lib.IntN.{pos}
 use Rattle.meaning.specs.Basics.{bytes}
 use Rattle.meaning.specs.Token.{Token, Lexed, lexed, stray, tokensOf}
-use Rattle.meaning.specs.Tree.{concatenate, add, subtract, multiply, divide, remainder, shiftRight, shiftLeft, equal, unequal, greater, less, Operator, Expression, number, string, nothing, truth, name, table, entry, operation, call, paren, noArgument, argument, Statement, declare, assign, update, when, while, return, block, act, only, first}
-use Rattle.meaning.specs.Grammar.{kindAt, textAt, startAt, Got, good, wrong, argumentsFrom, expression, statementsFrom, statement, parametersFrom, Reading, wellFormed, malformed, reading}
+use Rattle.meaning.specs.Tree.{concatenate, add, subtract, multiply, divide, remainder, shiftRight, shiftLeft, equal, unequal, greater, less, Operator, Expression, number, string, nothing, truth, name, table, entry, operation, call, paren, noArgument, argument, Statement, declare, assign, update, when, while, return, block, act, only, first, Procedure}
+use Rattle.meaning.specs.Grammar.{kindAt, textAt, startAt, Got, good, wrong, argumentsFrom, expression, statementsFrom, statement, parametersFrom, proceduresFrom, Reading, wellFormed, malformed, reading}
 use Rattle.meaning.proofs.Computing.{everything}
 use Rattle.meaning.proofs.Rows.{Row, _gives_, Hold, minus}
 
@@ -194,23 +194,29 @@ unfolding everything statementOf
 levels-hold = refl
 
 -- where no round is left, and behind the last token
-pub no-rounds : (i : ℕ) → (argumentsFrom 0 (expression 1 []) [] i ≡ wrong 10 i) × (statementsFrom 0 (statement 1 []) [] i ≡ wrong 10 i) × (parametersFrom 0 [] i ≡ wrong 10 i)
-unfolding argumentsFrom statementsFrom parametersFrom
-no-rounds i = (refl, refl, refl)
+pub no-rounds : (i : ℕ) →
+    (argumentsFrom 0 (expression 1 []) [] i ≡ wrong 10 i) × (statementsFrom 0 (statement 1 []) [] i ≡ wrong 10 i)
+    × (parametersFrom 0 [] i ≡ wrong 10 i) × (proceduresFrom 0 [] i ≡ wrong 10 i)
+unfolding argumentsFrom statementsFrom parametersFrom proceduresFrom
+no-rounds i = (refl, refl, refl, refl)
 
 pub behind-last : (kindAt [] 0 ≡ 0) × (startAt [] 0 ≡ 0) × (textAt [] 0 ≡ [])
 behind-last = (refl, refl, refl)
 
 -- ---- programs
+-- one procedure, main
+abbrev mainAlone : Procedure → Reading
+mainAlone f = wellFormed (record { procedures = f ∷ []; main = f })
+
 abbrev pub programs : List (Row (List ℕ) Reading)
 programs =
-    bytes "def main(w,h){w;}" gives wellFormed (record { parameters = bytes "w" ∷ bytes "h" ∷ []; body = only (act 14 (named "w")) })
-    ∷ bytes " def main(){w;h;} " gives wellFormed (record { parameters = []; body = first (act 12 (named "w")) (only (act 14 (named "h"))) })
-    ∷ bytes "def main(a){1;}" gives wellFormed (record { parameters = bytes "a" ∷ []; body = only (act 12 (number (pos 1))) })
+    bytes "def main(w,h){w;}" gives mainAlone (record { place = 0; name = bytes "main"; parameters = bytes "w" ∷ bytes "h" ∷ []; body = only (act 14 (named "w")) })
+    ∷ bytes " def main(){w;h;} " gives mainAlone (record { place = 1; name = bytes "main"; parameters = []; body = first (act 12 (named "w")) (only (act 14 (named "h"))) })
+    ∷ bytes "def main(a){1;}" gives mainAlone (record { place = 0; name = bytes "main"; parameters = bytes "a" ∷ []; body = only (act 12 (number (pos 1))) })
     ∷ [] gives malformed 10 0
     ∷ bytes "main(w,h){w;}" gives malformed 10 0
     ∷ bytes "def" gives malformed 10 3
-    ∷ bytes "def foo(w,h){w;}" gives malformed 10 4
+    ∷ bytes "def foo(w,h){w;}" gives malformed 10 16
     ∷ bytes "def \"main\"(w,h){w;}" gives malformed 10 4
     ∷ bytes "def main w" gives malformed 10 9
     ∷ bytes "def main(1){w;}" gives malformed 10 9
@@ -234,3 +240,36 @@ programs =
 pub programs-hold : Hold reading programs
 unfolding everything
 programs-hold = refl
+
+-- ---- several procedures
+-- with this place, name and parameters, and `1;` at a place
+abbrev aProcedure : ℕ → String → List (List ℕ) → ℕ → Procedure
+aProcedure p f xs q = record { place = p; name = bytes f; parameters = xs; body = only (act q (number (pos 1))) }
+
+abbrev tree : List Procedure → Procedure → Reading
+tree fs m = wellFormed (record { procedures = fs; main = m })
+
+abbrev pub several : List (Row String Reading)
+several =
+    "def f(){1;} def main(){1;}" gives tree (aProcedure 0 "f" [] 8 ∷ aProcedure 12 "main" [] 23 ∷ []) (aProcedure 12 "main" [] 23)
+    ∷ "def main(){1;}def f(a){1;}" gives tree (aProcedure 0 "main" [] 11 ∷ aProcedure 14 "f" (bytes "a" ∷ []) 23 ∷ []) (aProcedure 0 "main" [] 11)
+    ∷ "def f(){1;}def main(){1;}def f(){1;}" gives
+    tree (aProcedure 0 "f" [] 8 ∷ aProcedure 11 "main" [] 22 ∷ aProcedure 25 "f" [] 33 ∷ []) (aProcedure 11 "main" [] 22)
+    ∷ "def main(){1;}def main(a){1;}" gives tree (aProcedure 0 "main" [] 11 ∷ aProcedure 14 "main" (bytes "a" ∷ []) 26 ∷ []) (aProcedure 0 "main" [] 11)
+    ∷ "def f(a,a){1;}def main(){1;}" gives tree (aProcedure 0 "f" (bytes "a" ∷ bytes "a" ∷ []) 11 ∷ aProcedure 14 "main" [] 25 ∷ []) (aProcedure 14 "main" [] 25)
+    ∷ "def f(){1;}" gives malformed 10 11
+    ∷ "def f(){1;} " gives malformed 10 12
+    ∷ "def mains(){1;}" gives malformed 10 15
+    ∷ "def f(){1;}def g(){1;}" gives malformed 10 22
+    ∷ "def f(){1;}def g(){}" gives malformed 10 19
+    ∷ "def f(){1;}def 1(){1;}" gives malformed 10 15
+    ∷ "def f(){1;}def" gives malformed 10 14
+    ∷ "def f(){1;}main(){1;}" gives malformed 10 11
+    ∷ "def main(){1;}1;" gives malformed 10 14
+    ∷ "def main(){1;}}" gives malformed 10 14
+    ∷ "def main(){def f(){1;}}" gives malformed 10 11
+    ∷ []
+
+pub several-hold : Hold (λ program. reading (bytes program)) several
+unfolding everything
+several-hold = refl

@@ -1,4 +1,4 @@
--- Laws of the grammar: whatever is read takes a token at least, so the rounds that arguments, statements and parameters are given are enough:
+-- Laws of the grammar: whatever is read takes a token at least, so the rounds that arguments, statements, parameters and procedures are given are enough:
 -- more of them change nothing, and what is read with none left is never the answer.
 use Prim.Native.Nat.{ℕ, zero, suc, _+_, _-_, _<_, _≤_}
 use mathlib.Core.Path.{_≡_, refl, ap, _∙_}
@@ -10,9 +10,9 @@ use lib.ListN.{length, List·getD-eq-default}
 use lib.Dec.{eqb, ltb}
 use borrow.Author.Tests.{ltb-true, ltb-false, eqb-true, ne-eqb}
 use Rattle.meaning.specs.Basics.{if_then_else_}
-use Rattle.meaning.specs.Token.{Token, comma, closeBrace}
-use Rattle.meaning.specs.Tree.{Operator, Expression, Arguments, argument, Statement, Statements, first}
-use Rattle.meaning.specs.Grammar.{Got, good, wrong, after, expect, is, afterLast, kindAt, Inside, noLevel, level, opening, ReadExpression, argumentsFrom, arguments, primary, operand, operated, expressionIn, expression, ReadStatement, Readers, declaration, returning, Target, variable, element, noTarget, assignment, simple, guarded, statementsFrom, statements, statementIn, statement, parametersFrom}
+use Rattle.meaning.specs.Token.{Token, ending, comma, closeBrace}
+use Rattle.meaning.specs.Tree.{Operator, Expression, Arguments, argument, Statement, Statements, first, Procedure}
+use Rattle.meaning.specs.Grammar.{Got, good, wrong, after, expect, is, afterLast, kindAt, Inside, noLevel, level, opening, ReadExpression, argumentsFrom, arguments, primary, operand, operated, expressionIn, expression, ReadStatement, Readers, declaration, returning, Target, variable, element, noTarget, assignment, simple, guarded, statementsFrom, statements, statementIn, statement, parametersFrom, parameters, procedure, proceduresFrom}
 
 -- ---- the relation
 abbrev AheadGot : {A : Type 0} → ℕ → Got A → Type 0
@@ -151,6 +151,25 @@ module _ (ts : List Token) where
   statement-ahead zero i = statement-in-ahead noLevel tt _ (expression-ahead zero) i
   statement-ahead (suc left) i = statement-in-ahead (level _) (expression-ahead left, statement-ahead left) _ (expression-ahead (suc left)) i
 
+  parameters-from-ahead : (rounds : ℕ) → AheadAt (parametersFrom rounds ts)
+  unfolding parametersFrom
+  parameters-from-ahead zero i = bad
+  parameters-from-ahead (suc rounds) i =
+      after-ahead (expect-ahead _ ts i i _ (omega arith)) λ x j l.
+      if-ahead _ (after-ahead (parameters-from-ahead rounds (j + 1)) λ xs m k. fine (omega arith)) (expect-ahead _ ts i j _ (omega arith))
+
+  parameters-ahead : AheadAt (parameters ts)
+  unfolding parameters
+  parameters-ahead i = if-ahead _ (fine (omega arith)) (parameters-from-ahead _ i)
+
+  pub procedure-ahead : AheadAt (procedure ts)
+  unfolding procedure
+  procedure-ahead i =
+      after-ahead (expect-ahead _ ts i i _ (omega arith)) λ _ i₁ l₁. after-ahead (expect-ahead _ ts i₁ i₁ _ (omega arith)) λ f i₂ l₂.
+      after-ahead (expect-ahead _ ts i₂ i₂ _ (omega arith)) λ _ i₃ l₃. after-ahead (parameters-ahead i₃) λ xs i₄ l₄.
+      after-ahead (expect-ahead _ ts i₄ i₄ _ (omega arith)) λ _ i₅ l₅.
+      after-ahead (statements-from-ahead _ (statement 64 ts) (statement-ahead 64) i₅) λ ss i₆ l₆. fine (omega arith)
+
 -- ---- rounds
 module _ {A B : Type 0} where
   after-same : (i : ℕ) (g : Got A) (k k′ : A → ℕ → Got B) → Ahead i g → ((a : A) (j : ℕ) → i < j → k a j ≡ k′ a j) → after g k ≡ after g k′
@@ -248,6 +267,23 @@ module _ (ts : List Token) where
       after-same i (expect _ ts i _) _ _ (expect-ahead _ ts i i _ (omega arith)) λ x j q. if-same (is comma ts j) _ _ _ λ c.
       ap (λ (g : Got (List (List ℕ))). after g λ xs m. good (x ∷ xs) m) (let w = kind-inside 43 j c in parameters-same r r′ (j + 1) (omega arith) (omega arith))
 
+  procedure-past : (i : ℕ) → length ts ≤ i → procedure ts i ≡ wrong 10 i
+  unfolding procedure expect after if_then_else_
+  procedure-past i l = rw (is-past 3 i l)
+
+  procedures-same : (r r′ i : ℕ) → length ts - i < r → length ts - i < r′ → proceduresFrom r ts i ≡ proceduresFrom r′ ts i
+  unfolding proceduresFrom after
+  procedures-same zero r′ i l l′ = absurd (omega arith)
+  procedures-same (suc r) zero i l l′ = absurd (omega arith)
+  procedures-same (suc r) (suc r′) i l l′ = by (ltb i (length ts)) refl (λ j w q. procedures-same r r′ j (omega arith) (omega arith))
+    where
+      by : (t : Bool) → ltb i (length ts) ≡ t → ((j : ℕ) → i < length ts → i < j → proceduresFrom r ts j ≡ proceduresFrom r′ ts j) →
+          proceduresFrom (suc r) ts i ≡ proceduresFrom (suc r′) ts i
+      by true w f =
+          after-same i (procedure ts i) _ _ (procedure-ahead ts i) λ p j q. else-same (is ending ts j) _ _ _ λ c.
+          ap (λ (g : Got (List Procedure)). after g λ ps m. good (p ∷ ps) m) (f j (ltb-true i (length ts) w) q)
+      by false w f = rw (procedure-past i (ltb-false i (length ts) w))
+
   -- THE LAWS
   pub arguments-rounds : (left i r : ℕ) → length ts - i < r →
       argumentsFrom r (expression left ts) ts i ≡ argumentsFrom (suc (length ts - i)) (expression left ts) ts i
@@ -258,3 +294,6 @@ module _ (ts : List Token) where
 
   pub parameters-rounds : (i r : ℕ) → length ts - i < r → parametersFrom r ts i ≡ parametersFrom (suc (length ts - i)) ts i
   parameters-rounds i r l = parameters-same r (suc (length ts - i)) i l (omega arith)
+
+  pub procedures-rounds : (i r : ℕ) → length ts - i < r → proceduresFrom r ts i ≡ proceduresFrom (suc (length ts - i)) ts i
+  procedures-rounds i r l = procedures-same r (suc (length ts - i)) i l (omega arith)

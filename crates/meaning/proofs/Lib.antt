@@ -9,6 +9,7 @@ pub mod OperatorExamples
 pub mod StateExamples
 pub mod PictureExamples
 pub mod RunExamples
+pub mod ProcedureExamples
 pub mod CallExamples
 -- Laws of the definitions
 pub mod IntegerLaws

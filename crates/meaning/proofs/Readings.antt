@@ -29,7 +29,7 @@ called o g program = record {
   width = pos 20;
   height = pos 20;
   grants = g;
-  lent = 65536 ∷ 65536 ∷ 65536 ∷ 65536 ∷ [];
+  lent = 65536 ∷ 65536 ∷ 300000 ∷ 65536 ∷ [];
   out = replicate 300 0;
 }
 
@@ -43,9 +43,9 @@ AllRowsHold [] = Unit {0}
 AllRowsHold (r ∷ rs) = RowHolds r × AllRowsHold rs
 
 -- ---- short forms
--- so many steps, shapes, entries and text bytes
+-- so many steps, shapes, entries and text bytes, and 64 calls
 abbrev pub only : ℕ → ℕ → ℕ → ℕ → Grants
-only n s e t = record { steps = n; shapes = s; entries = e; textBytes = t }
+only n s e t = record { steps = n; shapes = s; entries = e; textBytes = t; calls = 64 }
 
 -- the grants of `imgdraw`
 abbrev pub plenty : Grants

@@ -16,6 +16,7 @@ use Rattle.meaning.specs.Value.{Value, integer, string, boolean, none, t
 use Rattle.meaning.specs.State.{State, Shape, Variable, Entry, keyWith, figureOf}
 use Rattle.meaning.specs.Run.{End, result, error, unfinished, Action}
 use Rattle.meaning.specs.Evaluate.{evaluate}
+use Rattle.meaning.specs.Procedure.{calling}
 use Rattle.meaning.specs.Execute.{execute}
 
 -- ---- tables
@@ -54,6 +55,7 @@ standing = record {
   variables = holding "i" (integer (pos 7)) ∷ holding "s" (string (bytes "ab")) ∷ holding "b" (boolean true) ∷ holding "o" none ∷ holding "t" (table 0) ∷
       holding "f" (shape 0) ∷ holding "l" (shape 1) ∷ holding "e" (shape 2) ∷ holding "x" (shape 3) ∷ holding "d" (shape 4) ∷ holding "u" (table 1) ∷
       holding "max" (integer (pos 2147483647)) ∷ holding "min" (integer (minus 2147483648)) ∷ [];
+  suspended = [];
   shapes = alive (box (pos 2) (pos 9) (pos 3) (pos 10)) ∷ alive (line (pos 1) (pos 2) (pos 30) (pos 40)) ∷ alive (ellipse (pos 5) (pos 6) (pos 7) (pos 8)) ∷
       alive (text (pos 11) (pos 12) (bytes "ab")) ∷ dead (line (pos 1) (pos 1) (pos 1) (pos 1)) ∷ [];
   tables = 2;
@@ -85,7 +87,7 @@ shown unfinished = nothing
 
 evaluatedRead : State → Got Expression → Shown
 unfolding shown
-evaluatedRead s (good e j) = shown (evaluate e 5 s .end)
+evaluatedRead s (good e j) = shown (evaluate (calling 9 []) e 5 s .end)
 evaluatedRead s (wrong n j) = nothing
 
 evaluatedLexed : State → Lexed → Shown
@@ -154,7 +156,7 @@ letterOfEnd unfinished = 63
 
 executedRead : Got Statement → ℕ
 unfolding letterOfEnd
-executedRead (good s j) = letterOfEnd (execute s 9 standing .end)
+executedRead (good s j) = letterOfEnd (execute (calling 9 []) s 9 standing .end)
 executedRead (wrong n j) = 63
 
 executedLexed : Lexed → ℕ

@@ -4,14 +4,15 @@ use Prim.Native.String.{String}
 use mathlib.Core.Path.{_≡_, refl}
 use mathlib.Core.Bool.{true}
 use mathlib.Core.List.{List, [], _∷_, _++_, map}
-use lib.ListN.{replicate}
+use lib.ListN.{drop, replicate}
 use lib.IntN.{pos}
 use Rattle.meaning.specs.Basics.{bytes}
 use Rattle.meaning.specs.Figure.{Figure, line, box}
 use Rattle.meaning.specs.Value.{Value, integer, string, boolean, none, table}
 use Rattle.meaning.specs.State.{State, Entry, keyWith, scene}
-use Rattle.meaning.specs.Run.{Resource, steps, shapes, entries, textBytes, picture, Taking, taking, End, result, error, unfinished, Run, run}
+use Rattle.meaning.specs.Run.{Resource, steps, shapes, entries, textBytes, calls, picture, Event, taking, taken, gaveBack, End, result, error, unfinished, Run, run}
 use Rattle.meaning.specs.Tree.{nothing, truth, name, while, return, act}
+use Rattle.meaning.specs.Procedure.{calling}
 use Rattle.meaning.specs.Execute.{onward, returned, execute}
 use Rattle.meaning.specs.Program.{checking, drawing, Outcome, empty, painting, specified, beginning}
 use Rattle.meaning.proofs.Computing.{everything}
@@ -23,13 +24,14 @@ abbrev painted : String → Run (List Figure)
 painted body = painting (main body) (pos 20) (pos 30) 50 empty
 
 -- ---- takings
-abbrev st : ℕ → ℕ → List Taking
+abbrev st : ℕ → ℕ → List Event
 st n p = replicate n (taking steps 1 p)
 
-abbrev a1 : Resource → ℕ → List Taking
+abbrev a1 : Resource → ℕ → List Event
 a1 r p = taking r 1 p ∷ []
 
-abbrev pub takings : List (Row String (List Taking))
+-- between main's call and its return
+abbrev pub takings : List (Row String (List Event))
 takings =
     "1;" gives st 2 14
     ∷ "\"ab\";" gives st 2 14
@@ -71,13 +73,23 @@ takings =
     ∷ "while(true)return 1;2;" gives (st 2 14 ++ st 2 25)
     ∷ []
 
-pub takings-hold : Hold (λ body. painted body .takings) takings
-unfolding everything
+-- main is called and returns
+abbrev inMain : List Event → List Event
+inMain es = taking calls 1 0 ∷ (es ++ (gaveBack ∷ []))
+
+-- without main's call, and without its return, if it came to that
+unfoldable pub withoutReturn : List Event → List Event
+withoutReturn [] = []
+withoutReturn (taken t ∷ es) = taken t ∷ withoutReturn es
+withoutReturn (gaveBack ∷ es) = withoutReturn es
+
+pub takings-hold : Hold (λ body. withoutReturn (drop 1 (painted body .takings))) takings
+unfolding everything withoutReturn
 takings-hold = refl
 
 -- drawing takes the picture last, and checking takes nothing
 pub drawing-takes : Hold (λ o. specified o (main "1;") (pos 20) (pos 30) 50 .takings) (
-    drawing gives (st 2 14 ++ (taking picture 141 0 ∷ []))
+    drawing gives (inMain (st 2 14) ++ (taking picture 141 0 ∷ []))
     ∷ checking gives []
     ∷ []
     )
@@ -91,19 +103,21 @@ endNumber (result a s) = 0
 endNumber (error n p) = 1
 endNumber unfinished = 2
 
-unfoldable pub beginningOf : String → ℕ → List Taking × ℕ
+unfoldable pub beginningOf : String → ℕ → List Event × ℕ
 unfolding endNumber
 beginningOf body n = let r = beginning drawing (main body) (pos 20) (pos 30) n in (r .takings, endNumber (r .end))
 
 pub beginnings-hold : Hold (λ (q : String × ℕ). beginningOf (q .0) (q .1)) (
     ("1;2;", 0) gives ([], 2)
-    ∷ ("1;2;", 2) gives (st 2 14, 2)
-    ∷ ("1;2;", 3) gives (st 2 14 ++ st 1 16, 2)
-    ∷ ("1;2;", 4) gives (st 2 14 ++ st 2 16, 2)
-    ∷ ("1;2;", 5) gives (st 2 14 ++ st 2 16 ++ (taking picture 141 0 ∷ []), 0)
-    ∷ ("1;2;", 9) gives (st 2 14 ++ st 2 16 ++ (taking picture 141 0 ∷ []), 0)
-    ∷ ("1;x;", 4) gives (st 2 14 ++ st 2 16, 1)
-    ∷ ("while(true)1;", 5) gives (st 2 14 ++ st 2 25 ++ st 1 14, 2)
+    ∷ ("1;2;", 1) gives (a1 calls 0, 2)
+    ∷ ("1;2;", 3) gives (a1 calls 0 ++ st 2 14, 2)
+    ∷ ("1;2;", 4) gives (a1 calls 0 ++ st 2 14 ++ st 1 16, 2)
+    ∷ ("1;2;", 5) gives (a1 calls 0 ++ st 2 14 ++ st 2 16, 2)
+    ∷ ("1;2;", 6) gives (inMain (st 2 14 ++ st 2 16), 2)
+    ∷ ("1;2;", 7) gives (inMain (st 2 14 ++ st 2 16) ++ (taking picture 141 0 ∷ []), 0)
+    ∷ ("1;2;", 9) gives (inMain (st 2 14 ++ st 2 16) ++ (taking picture 141 0 ∷ []), 0)
+    ∷ ("1;x;", 5) gives (a1 calls 0 ++ st 2 14 ++ st 2 16, 1)
+    ∷ ("while(true)1;", 6) gives (a1 calls 0 ++ st 2 14 ++ st 2 25 ++ st 1 14, 2)
     ∷ []
     )
 unfolding everything beginningOf
@@ -229,11 +243,11 @@ kind-rows-hold = refl
 
 -- ---- how a statement ends
 pub flows :
-    (execute (return 5 (name (bytes "i"))) 9 standing .end ≡ result (returned (whole 7)) standing)
-    × (execute (act 5 (name (bytes "i"))) 9 standing .end ≡ result onward standing)
-    × (execute (while 5 (truth true) (act 6 nothing)) 0 standing ≡ run [] unfinished)
+    (execute (calling 9 []) (return 5 (name (bytes "i"))) 9 standing .end ≡ result (returned (whole 7)) standing)
+    × (execute (calling 9 []) (act 5 (name (bytes "i"))) 9 standing .end ≡ result onward standing)
+    × (execute (calling 9 []) (while 5 (truth true) (act 6 nothing)) 0 standing ≡ run [] unfinished)
 unfolding everything
 flows = (refl, refl, refl)
 
-pub nothing-yet : (empty .variables ≡ []) × (empty .shapes ≡ []) × (empty .tables ≡ 0) × (empty .entries ≡ [])
-nothing-yet = (refl, refl, refl, refl)
+pub nothing-yet : (empty .variables ≡ []) × (empty .suspended ≡ []) × (empty .shapes ≡ []) × (empty .tables ≡ 0) × (empty .entries ≡ [])
+nothing-yet = (refl, refl, refl, refl, refl)

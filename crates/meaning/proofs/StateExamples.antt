@@ -21,6 +21,7 @@ small make = make (pos 1) (pos 2) (pos 3) (pos 4)
 abbrev pub many : State
 many = record {
   variables = [];
+  suspended = [];
   shapes = alive (small line) ∷ alive (small ellipse) ∷ alive (small box) ∷ alive (text (pos 1) (pos 2) (bytes "a")) ∷ alive (text (pos 1) (pos 2) (bytes "b")) ∷
       alive (text (pos 1) (pos 3) (bytes "a")) ∷ alive (line (pos 0) (pos 2) (pos 3) (pos 4)) ∷ alive (line (pos 1) (minus 2) (pos 3) (pos 4)) ∷
       alive (line (pos 1) (pos 2) (pos 5) (pos 4)) ∷ alive (line (pos 1) (pos 2) (pos 3) (pos 5)) ∷ dead (small line) ∷ alive (small box) ∷ [];

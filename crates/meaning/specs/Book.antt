@@ -1,11 +1,11 @@
 -- The book: it adds up what a run takes, up to what was granted.
-use Prim.Native.Nat.{ℕ, _+_}
+use Prim.Native.Nat.{ℕ, _+_, _-_}
 use mathlib.Core.Bool.{Bool, cond}
 use mathlib.Core.List.{List, [], _∷_}
 use lib.ListN.{length}
 use lib.Dec.{leb, eqb}
 use Rattle.meaning.specs.Basics.{if_then_else_}
-use Rattle.meaning.specs.Run.{Resource, steps, shapes, entries, textBytes, picture, Taking, End, result, error, unfinished, Run}
+use Rattle.meaning.specs.Run.{Resource, steps, shapes, entries, textBytes, calls, picture, Taking, Event, taken, gaveBack, End, result, error, unfinished, Run}
 use Rattle.meaning.specs.Program.{Outcome, accepted, drawn}
 
 -- an amount of each resource
@@ -21,10 +21,15 @@ resourceNumber shapes = 1
 resourceNumber entries = 2
 resourceNumber textBytes = 3
 resourceNumber picture = 4
+resourceNumber calls = 5
 
 -- a total with a taking added
 unfoldable pub added : Amounts → Taking → Amounts
 added total t r = total r + cond (eqb (resourceNumber r) (resourceNumber (t .of))) (t .amount) 0
+
+-- a total with a call given back
+unfoldable pub lowered : Amounts → Amounts
+lowered total r = total r - cond (eqb (resourceNumber r) (resourceNumber calls)) 1 0
 
 -- whether a taking's total stays within what was granted
 unfoldable pub fits : Amounts → Amounts → Taking → Bool
@@ -35,10 +40,11 @@ pub data Booked : Type 0 where
   allFit : Amounts → Booked
   lacking : Taking → Amounts → Booked
 
-unfoldable pub book : Amounts → Amounts → List Taking → Booked
+unfoldable pub book : Amounts → Amounts → List Event → Booked
 book granted total [] = allFit total
-book granted total (t ∷ ts) =
-    if fits granted total t then (λ _. book granted (added total t) ts) else λ _. lacking t total
+book granted total (taken t ∷ es) =
+    if fits granted total t then (λ _. book granted (added total t) es) else λ _. lacking t total
+book granted total (gaveBack ∷ es) = book granted (lowered total) es
 
 -- ---- answers
 -- A picture with its length and steps, which says "well formed" with both 0; or a number with its place, the steps counted,
@@ -55,6 +61,7 @@ shortageOf shapes = 76
 shortageOf entries = 77
 shortageOf textBytes = 78
 shortageOf picture = 80
+shortageOf calls = 81
 
 unfoldable pub lengthNeeded : Taking → ℕ
 lengthNeeded t = cond (eqb (resourceNumber (t .of)) (resourceNumber picture)) (t .amount) 0

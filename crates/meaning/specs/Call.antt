@@ -6,7 +6,7 @@ use lib.ListN.{length, replicate}
 use lib.IntN.{ℤ}
 use lib.Dec.{leb}
 use Rattle.meaning.specs.Basics.{if_then_else_, laidOver}
-use Rattle.meaning.specs.Run.{steps, shapes, entries, textBytes, picture, End, result, error, unfinished, Run}
+use Rattle.meaning.specs.Run.{steps, shapes, entries, textBytes, calls, picture, End, result, error, unfinished, Run}
 use Rattle.meaning.specs.Program.{Operation, checking, drawing, Outcome, accepted, drawn, specified}
 use Rattle.meaning.specs.Book.{Amounts, Booked, allFit, lacking, nothingYet, book, Answer, number, booked}
 
@@ -15,6 +15,7 @@ pub record Grants : Type 0 where
   pub shapes : ℕ
   pub entries : ℕ
   pub textBytes : ℕ
+  pub calls : ℕ
 
 -- the operation and its arguments: of the work slices only their lengths matter to the answer
 pub record Call : Type 0 where
@@ -29,14 +30,15 @@ pub record Call : Type 0 where
 -- ---- the first question
 unfoldable pub inRange : Grants → Bool
 inRange g = leb (g .steps) 4294967295 && leb (g .shapes) 65535 && leb (g .entries) 65535 && leb (g .textBytes) 65535
+    && leb 1 (g .calls) && leb (g .calls) 64
 
--- How long each work slice must be: token words, code, the words of a run (variables, arguments, shapes, entries), and text bytes. Checking
+-- How long each work slice must be: token words, code, the words of a run (variables, calls under way, shapes, entries), and text bytes. Checking
 -- is lent the first two alone.
 abbrev pub readingSlices : List ℕ → List ℕ
 readingSlices ls = 8193 ∷ 16384 ∷ ls
 
 abbrev pub runningSlices : Grants → List ℕ
-runningSlices g = (24584 + 3 * g .shapes + 4 * g .entries) ∷ g .textBytes ∷ []
+runningSlices g = (278608 + 3 * g .shapes + 4 * g .entries) ∷ g .textBytes ∷ []
 
 unfoldable pub needed : Operation → Grants → List ℕ
 needed checking g = readingSlices []
@@ -57,12 +59,13 @@ granted g out steps = g .steps
 granted g out shapes = g .shapes
 granted g out entries = g .entries
 granted g out textBytes = g .textBytes
+granted g out calls = g .calls
 granted g out picture = length out
 
 abbrev pub grantedTo : Call → Amounts
 grantedTo c = granted (c .grants) (c .out)
 
--- each turn of a loop counts a step, so one turn more than there are steps is enough
+-- each turn of a loop and each call counts a step, so one more than there are steps is enough
 unfoldable pub runOf : Call → Run Outcome
 runOf c = specified (c .operation) (c .program) (c .width) (c .height) (suc (c .grants .steps))
 

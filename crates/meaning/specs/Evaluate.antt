@@ -1,4 +1,5 @@
--- What an expression is evaluated to. p is the place of the statement under way; a step is counted before the parts.
+-- What an expression is evaluated to. p is the place of the statement under way; a step is counted before the parts. How a call is performed, its
+-- arguments evaluated, is handed in.
 use Prim.Native.Nat.{ℕ}
 use mathlib.Core.List.{List, [], _∷_}
 use mathlib.Core.Option.{Option, some}
@@ -12,7 +13,6 @@ use Rattle.meaning.specs.State.{valueIn, keyOf, entryIn, withNewTable}
 use Rattle.meaning.specs.Run.{Action, _>>=_, _>>_, give, fail, count, refuse, current, become}
 use Rattle.meaning.specs.Operator.{usable, withInteger, operate}
 use Rattle.meaning.specs.Operator as Operator
-use Rattle.meaning.specs.Library.{libraryOf, callLibrary}
 
 -- what was found, or a number; a shape found must not be destroyed
 unfoldable pub lookedUp : ℕ → ℕ → Option Value → Action Value
@@ -32,37 +32,41 @@ newTable p size = do
 unfoldable pub entryOf : ℕ → ℕ → Value → Action Value
 entryOf p t v = current >>= λ s. lookedUp 20 p (entryIn (s .entries) t (keyOf s v))
 
-unfoldable mutual
-  pub evaluate : Expression → ℕ → Action Value
-  evaluate (number z) p = count p >> give (Value.integer z)
-  evaluate (string t) p = count p >> give (Value.string t)
-  evaluate nothing p = count p >> give Value.none
-  evaluate (truth b) p = count p >> give (Value.boolean b)
-  evaluate (name x) p = count p >> variable p x
-  evaluate (table e) p = do
-    count p
-    v ← evaluate e p
-    withInteger p v (newTable p)
-  evaluate (entry a b) p = do
-    count p
-    v ← evaluate a p
-    Operator.withTable p v λ t. do
-      k ← evaluate b p
-      entryOf p t k
-  evaluate (operation o a b) p = do
-    count p
-    v ← evaluate a p
-    w ← evaluate b p
-    operate o p v w
-  evaluate (call f es) p = do
-    count p
-    vs ← evaluateAll es p
-    callLibrary (libraryOf f) p vs
-  evaluate (paren e) p = evaluate e p
+-- by the name, the place and the arguments
+abbrev pub Invoke : Type 0
+Invoke = List ℕ → ℕ → List Value → Action Value
 
-  pub evaluateAll : Arguments → ℕ → Action (List Value)
-  evaluateAll noArgument p = give []
-  evaluateAll (argument e es) p = do
-    v ← evaluate e p
-    vs ← evaluateAll es p
+unfoldable mutual
+  pub evaluate : Invoke → Expression → ℕ → Action Value
+  evaluate invoke (number z) p = count p >> give (Value.integer z)
+  evaluate invoke (string t) p = count p >> give (Value.string t)
+  evaluate invoke nothing p = count p >> give Value.none
+  evaluate invoke (truth b) p = count p >> give (Value.boolean b)
+  evaluate invoke (name x) p = count p >> variable p x
+  evaluate invoke (table e) p = do
+    count p
+    v ← evaluate invoke e p
+    withInteger p v (newTable p)
+  evaluate invoke (entry a b) p = do
+    count p
+    v ← evaluate invoke a p
+    Operator.withTable p v λ t. do
+      k ← evaluate invoke b p
+      entryOf p t k
+  evaluate invoke (operation o a b) p = do
+    count p
+    v ← evaluate invoke a p
+    w ← evaluate invoke b p
+    operate o p v w
+  evaluate invoke (call f es) p = do
+    count p
+    vs ← evaluateAll invoke es p
+    invoke f p vs
+  evaluate invoke (paren e) p = evaluate invoke e p
+
+  pub evaluateAll : Invoke → Arguments → ℕ → Action (List Value)
+  evaluateAll invoke noArgument p = give []
+  evaluateAll invoke (argument e es) p = do
+    v ← evaluate invoke e p
+    vs ← evaluateAll invoke es p
     give (v ∷ vs)

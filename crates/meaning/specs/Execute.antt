@@ -9,8 +9,8 @@ use Rattle.meaning.specs.Tree.{Statement, declare, assign, update, when,
 use Rattle.meaning.specs.Value.{Value, integer, string, boolean, none, table, shape}
 use Rattle.meaning.specs.State.{Key, isDeclared, assigned, withVariables, figureOf, keyOf, entryIn, overwritten, withEntries}
 use Rattle.meaning.specs.Run.{Action, unfinished, run, entries, _>>=_, _>>_, give, count, spend, refuse, current, become}
-use Rattle.meaning.specs.Operator.{withBoolean, withTable, newShape}
-use Rattle.meaning.specs.Evaluate.{evaluate}
+use Rattle.meaning.specs.Operator.{usable, withBoolean, withTable, newShape}
+use Rattle.meaning.specs.Evaluate.{Invoke, evaluate}
 
 -- how a statement ends: the next one follows, or the procedure returns
 pub data Flow : Type 0 where
@@ -42,6 +42,7 @@ unfoldable pub assigning : ℕ → List ℕ → Value → Action Flow
 assigning p x v = do
   s ← current
   refuse (not (isDeclared s x)) 50 p
+  usable p v
   u ← copied p v
   s′ ← current
   become (withVariables s′ (assigned (s′ .variables) x u))
@@ -76,38 +77,38 @@ looping (suc n) p test body = do
 
 -- ---- statements
 unfoldable mutual
-  pub execute : Statement → ℕ → Action Flow
-  execute (declare p x) n = do
+  pub execute : Invoke → Statement → ℕ → Action Flow
+  execute invoke (declare p x) n = do
     count p
     declaring p x
-  execute (assign p x e) n = do
+  execute invoke (assign p x e) n = do
     count p
-    v ← evaluate e p
+    v ← evaluate invoke e p
     assigning p x v
-  execute (update p a b e) n = do
+  execute invoke (update p a b e) n = do
     count p
-    v ← evaluate a p
+    v ← evaluate invoke a p
     withTable p v λ t. do
-      k ← evaluate b p
-      u ← evaluate e p
+      k ← evaluate invoke b p
+      u ← evaluate invoke e p
       updating p t k u
-  execute (when p e s) n = do
+  execute invoke (when p e s) n = do
     count p
-    v ← evaluate e p
-    withBoolean p v λ b. if b then (λ _. execute s n) else λ _. give onward
-  execute (while p e s) n = looping n p (evaluate e p) (execute s n)
-  execute (return p e) n = do
+    v ← evaluate invoke e p
+    withBoolean p v λ b. if b then (λ _. execute invoke s n) else λ _. give onward
+  execute invoke (while p e s) n = looping n p (evaluate invoke e p) (execute invoke s n)
+  execute invoke (return p e) n = do
     count p
-    v ← evaluate e p
+    v ← evaluate invoke e p
     give (returned v)
-  execute (block p ss) n = do
+  execute invoke (block p ss) n = do
     count p
-    executeAll ss n
-  execute (act p e) n = do
+    executeAll invoke ss n
+  execute invoke (act p e) n = do
     count p
-    evaluate e p
+    evaluate invoke e p
     give onward
 
-  pub executeAll : Statements → ℕ → Action Flow
-  executeAll (only s) n = execute s n
-  executeAll (first s ss) n = execute s n >>= λ f. continue f (executeAll ss n)
+  pub executeAll : Invoke → Statements → ℕ → Action Flow
+  executeAll invoke (only s) n = execute invoke s n
+  executeAll invoke (first s ss) n = execute invoke s n >>= λ f. continue f (executeAll invoke ss n)

@@ -8,7 +8,7 @@ use lib.Dec.{eqb, ltb, leb}
 use lib.IntN.{pos, negℤ}
 use Rattle.meaning.specs.Basics.{bytes, if_then_else_, sameText}
 use Rattle.meaning.specs.Token.{Token, Lexed, lexed, stray, tokensOf, ending, aName, digits, aString, wordDef, wordVar, wordIf, wordWhile, wordReturn, wordNone, wordTrue, wordFalse, dot, comma, semicolon, openParen, closeParen, openBracket, closeBracket, openBrace, closeBrace, becomes, minus, doubled}
-use Rattle.meaning.specs.Tree.{Operator, concatenate, add, subtract, multiply, divide, remainder, shiftRight, shiftLeft, equal, unequal, greater, less, Expression, number, string, nothing, truth, name, table, entry, operation, call, paren, Arguments, noArgument, argument, Statement, declare, assign, update, when, while, return, block, act, Statements, only, first, Procedure}
+use Rattle.meaning.specs.Tree.{Operator, concatenate, add, subtract, multiply, divide, remainder, shiftRight, shiftLeft, equal, unequal, greater, less, Expression, number, string, nothing, truth, name, table, entry, operation, call, paren, Arguments, noArgument, argument, Statement, declare, assign, update, when, while, return, block, act, Statements, only, first, Procedure, Program}
 
 -- ---- tokens by their index
 abbrev pub afterLast : Token
@@ -255,7 +255,7 @@ statement zero ts i = statementIn (expression zero ts) noLevel ts i
 statement (suc left) ts i =
     statementIn (expression (suc left) ts) (level (record { inExpression = expression left ts; inStatement = statement left ts })) ts i
 
--- ---- the procedure
+-- ---- procedures
 -- one name or more with commas between, and the closing parenthesis; rounds as with arguments (`parameters-rounds` of GrammarLaws)
 unfoldable pub parametersFrom : ℕ → List Token → ℕ → Got (List (List ℕ))
 parametersFrom zero ts i = wrong 10 i
@@ -269,36 +269,57 @@ parameters ts i =
     if is closeParen ts i then (λ _. good [] (i + 1))
     else λ _. parametersFrom (suc (length ts - i)) ts i
 
--- def main(x, y) { .. } and nothing behind
-unfoldable pub procedure : List Token → Got Procedure
-procedure ts =
-    after (skip wordDef ts 0) λ _ i₁.
-    after (if sameText (textAt ts i₁) (bytes "main") then (λ _. skip aName ts i₁) else λ _. wrong 10 i₁) λ _ i₂.
+-- def f(x, y) { .. } from token i on
+unfoldable pub procedure : List Token → ℕ → Got Procedure
+procedure ts i =
+    after (skip wordDef ts i) λ _ i₁.
+    after (expect aName ts i₁ (textAt ts i₁)) λ f i₂.
     after (skip openParen ts i₂) λ _ i₃.
     after (parameters ts i₃) λ xs i₄.
     after (skip openBrace ts i₄) λ _ i₅.
     after (statements (statement 64 ts) ts i₅) λ ss i₆.
-    if is ending ts i₆ then (λ _. good (record { parameters = xs; body = ss }) i₆) else λ _. wrong 10 i₆
+    good (record { place = startAt ts i; name = f; parameters = xs; body = ss }) i₆
+
+-- one procedure or more and nothing behind; rounds as with arguments (`procedures-rounds` of GrammarLaws)
+unfoldable pub proceduresFrom : ℕ → List Token → ℕ → Got (List Procedure)
+proceduresFrom zero ts i = wrong 10 i
+proceduresFrom (suc rounds) ts i =
+    after (procedure ts i) λ f j.
+    if is ending ts j then (λ _. good (f ∷ []) j)
+    else λ _. after (proceduresFrom rounds ts j) λ fs m. good (f ∷ fs) m
+
+-- the first procedure of a name
+unfoldable pub procedureNamed : List ℕ → List Procedure → Option Procedure
+procedureNamed x [] = none
+procedureNamed x (f ∷ fs) = if sameText (f .name) x then (λ _. some f) else λ _. procedureNamed x fs
+
+-- a program without main ends too early
+unfoldable pub withMain : List Token → List Procedure → ℕ → Option Procedure → Got Program
+withMain ts fs j (some m) = good (record { procedures = fs; main = m }) j
+withMain ts fs j none = wrong 10 (length ts)
+
+unfoldable pub procedures : List Token → Got Program
+procedures ts = after (proceduresFrom (suc (length ts)) ts 0) λ fs j. withMain ts fs j (procedureNamed (bytes "main") fs)
 
 -- ---- the program
 -- a program as it was read, or a number and the place of what fails
 pub data Reading : Type 0 where
-  wellFormed : Procedure → Reading
+  wellFormed : Program → Reading
   malformed : ℕ → ℕ → Reading
 
 -- the place of token i; behind the last token the program's length
 unfoldable pub placeOf : List ℕ → List Token → ℕ → ℕ
 placeOf program ts i = if ltb i (length ts) then (λ _. startAt ts i) else λ _. length program
 
-unfoldable pub readOf : List ℕ → List Token → Got Procedure → Reading
-readOf program ts (good p i) = wellFormed p
+unfoldable pub readOf : List ℕ → List Token → Got Program → Reading
+readOf program ts (good m i) = wellFormed m
 readOf program ts (wrong n i) = malformed n (placeOf program ts i)
 
 unfoldable pub parsed : List ℕ → Lexed → Reading
 parsed program (stray p) = malformed 10 p
 parsed program (lexed ts) =
     if ltb 8192 (length ts) then (λ _. malformed 74 (startAt ts 8192))
-    else λ _. readOf program ts (procedure ts)
+    else λ _. readOf program ts (procedures ts)
 
 unfoldable pub reading : List ℕ → Reading
 reading program = parsed program (tokensOf program)

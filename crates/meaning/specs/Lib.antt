@@ -13,6 +13,7 @@ pub mod Operator
 pub mod Library
 pub mod Evaluate
 pub mod Execute
+pub mod Procedure
 pub mod Picture
 pub mod Program
 pub mod Book

@@ -7,7 +7,7 @@ use lib.IntN.{ℤ}
 use Rattle.meaning.specs.Basics.{bytes, if_then_else_, sameText}
 use Rattle.meaning.specs.Figure.{Figure, line, ellipse, box, text, centreX, centreY, connecting, textOn}
 use Rattle.meaning.specs.Value.{Value, integer, none}
-use Rattle.meaning.specs.State.{withShapes, destroy, cleared}
+use Rattle.meaning.specs.State.{withShapes, destroy, cleared, clearedAll}
 use Rattle.meaning.specs.Run.{Action, _>>=_, _>>_, give, fail, current, become}
 use Rattle.meaning.specs.Operator.{usable, withInteger, withString, withShapeNumber, withFigure, newShape}
 
@@ -76,7 +76,7 @@ perform destroyShape p vs = withOne p vs λ v. withShapeNumber p v λ i. do
   give none
 perform clearScene p vs = withNone p vs do
   s ← current
-  become (withShapes s (cleared (s .variables) (s .shapes)))
+  become (withShapes s (cleared (s .variables) (clearedAll (s .suspended) (s .shapes))))
   give none
 
 -- no argument may be a destroyed shape

@@ -6,7 +6,7 @@ use Rattle.meaning.specs.State.{State}
 
 -- ---- takings
 pub data Resource : Type 0 where
-  steps shapes entries textBytes picture : Resource
+  steps shapes entries textBytes calls picture : Resource
 
 -- so much of a resource, at a place
 pub record Taking : Type 0 where
@@ -14,8 +14,13 @@ pub record Taking : Type 0 where
   pub amount : ℕ
   pub place : ℕ
 
-abbrev pub taking : Resource → ℕ → ℕ → Taking
-taking r n p = record { of = r; amount = n; place = p }
+-- what a run does with what is granted: it takes, or a return gives its call back
+pub data Event : Type 0 where
+  taken : Taking → Event
+  gaveBack : Event
+
+abbrev pub taking : Resource → ℕ → ℕ → Event
+taking r n p = taken (record { of = r; amount = n; place = p })
 
 -- ---- runs
 -- a result and the state then; a number and its place; or more to come than was run
@@ -25,20 +30,20 @@ pub data End (A : Type 0) : Type 0 where
   unfinished : End A
 
 pub record Run (A : Type 0) : Type 0 where
-  pub takings : List Taking
+  pub takings : List Event
   pub end : End A
 
-abbrev pub run : {A : Type 0} → List Taking → End A → Run A
+abbrev pub run : {A : Type 0} → List Event → End A → Run A
 run ts e = record { takings = ts; end = e }
 
 abbrev pub Action : Type 0 → Type 0
 Action A = State → Run A
 
 -- what comes after some takings
-abbrev pub following : {A : Type 0} → List Taking → Run A → Run A
+abbrev pub following : {A : Type 0} → List Event → Run A → Run A
 following ts r = run (ts ++ r .takings) (r .end)
 
-unfoldable pub goOn : {A B : Type 0} → List Taking → End A → (A → Action B) → Run B
+unfoldable pub goOn : {A B : Type 0} → List Event → End A → (A → Action B) → Run B
 goOn ts (result a s) k = following ts (k a s)
 goOn ts (error n p) k = run ts (error n p)
 goOn ts unfinished k = run ts unfinished
@@ -61,6 +66,10 @@ fail n p s = run [] (error n p)
 -- so much of a resource is taken
 unfoldable pub spend : Resource → ℕ → ℕ → Action (Unit {0})
 spend r n p s = run (taking r n p ∷ []) (result tt s)
+
+-- a call is given back
+unfoldable pub giveBack : Action (Unit {0})
+giveBack s = run (gaveBack ∷ []) (result tt s)
 
 -- a step is counted
 abbrev pub count : ℕ → Action (Unit {0})

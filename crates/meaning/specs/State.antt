@@ -32,9 +32,11 @@ pub record Entry : Type 0 where
   pub key : Key
   pub holds : Value
 
--- variables in the order of their declarations, shapes as they were made, how many tables were made, and the entries of all tables
+-- the variables of the call under way in the order of their declarations, those of each call that waits for another, main's first, shapes as they were
+-- made, how many tables were made, and the entries of all tables
 pub record State : Type 0 where
   pub variables : List Variable
+  pub suspended : List (List Variable)
   pub shapes : List Shape
   pub tables : ℕ
   pub entries : List Entry
@@ -57,7 +59,19 @@ assigned (v ∷ vs) x u =
     if sameText (v .name) x then (λ _. record { name = v .name; holds = u } ∷ vs) else λ _. v ∷ assigned vs x u
 
 abbrev pub withVariables : State → List Variable → State
-withVariables s vs = record { variables = vs; shapes = s .shapes; tables = s .tables; entries = s .entries }
+withVariables s vs = record { variables = vs; suspended = s .suspended; shapes = s .shapes; tables = s .tables; entries = s .entries }
+
+-- declared, and none yet
+unfoldable pub fresh : List (List ℕ) → List Variable
+fresh [] = []
+fresh (x ∷ xs) = record { name = x; holds = none } ∷ fresh xs
+
+-- a call begins with variables of its own, and that under way waits for it; it goes on with its variables when s′ is the state at the return
+abbrev pub entered : State → List Variable → State
+entered s vs = record { variables = vs; suspended = s .suspended ++ (s .variables ∷ []); shapes = s .shapes; tables = s .tables; entries = s .entries }
+
+abbrev pub resumed : State → State → State
+resumed s s′ = record { variables = s .variables; suspended = s .suspended; shapes = s′ .shapes; tables = s′ .tables; entries = s′ .entries }
 
 -- ---- shapes
 -- what the number of no shape stands for; no value holds such a number
@@ -71,7 +85,7 @@ abbrev pub isDestroyed : State → ℕ → Bool
 isDestroyed s i = getD (s .shapes) i noShape .destroyed
 
 abbrev pub withShapes : State → List Shape → State
-withShapes s ss = record { variables = s .variables; shapes = ss; tables = s .tables; entries = s .entries }
+withShapes s ss = record { variables = s .variables; suspended = s .suspended; shapes = ss; tables = s .tables; entries = s .entries }
 
 unfoldable pub withShape : State → Figure → State
 withShape s a = withShapes s (s .shapes ++ (record { figure = a; destroyed = false } ∷ []))
@@ -92,6 +106,11 @@ destroyedIn ss (shape i) = destroy ss i
 unfoldable pub cleared : List Variable → List Shape → List Shape
 cleared [] ss = ss
 cleared (v ∷ vs) ss = cleared vs (destroyedIn ss (v .holds))
+
+-- the same of each call that waits
+unfoldable pub clearedAll : List (List Variable) → List Shape → List Shape
+clearedAll [] ss = ss
+clearedAll (vs ∷ more) ss = clearedAll more (cleared vs ss)
 
 -- the figures of the undestroyed shapes that variables hold, in their order
 unfoldable pub seen : State → Value → List Figure
@@ -142,7 +161,7 @@ overwritten (e ∷ es) t k u =
     if matches e t k then (λ _. record { owner = e .owner; key = e .key; holds = u } ∷ es) else λ _. e ∷ overwritten es t k u
 
 abbrev pub withEntries : State → List Entry → State
-withEntries s es = record { variables = s .variables; shapes = s .shapes; tables = s .tables; entries = es }
+withEntries s es = record { variables = s .variables; suspended = s .suspended; shapes = s .shapes; tables = s .tables; entries = es }
 
 abbrev pub withNewTable : State → State
-withNewTable s = record { variables = s .variables; shapes = s .shapes; tables = suc (s .tables); entries = s .entries }
+withNewTable s = record { variables = s .variables; suspended = s .suspended; shapes = s .shapes; tables = suc (s .tables); entries = s .entries }

@@ -42,6 +42,14 @@ mutual
     only : Statement → Statements
     first : Statement → Statements → Statements
 
+-- its place is that of its `def`
 pub record Procedure : Type 0 where
+  pub place : ℕ
+  pub name : List ℕ
   pub parameters : List (List ℕ)
   pub body : Statements
+
+-- all procedures as they stand in the text, and main among them
+pub record Program : Type 0 where
+  pub procedures : List Procedure
+  pub main : Procedure

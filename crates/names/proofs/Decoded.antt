@@ -10,7 +10,7 @@ use lib.ListN.{length, getD, take, drop, length-take, length-map, List·getD-eq-
 use Rattle.meaning.specs.Token.{Token, aName, aString, digits}
 use Rattle.meaning.specs.Grammar.{afterLast, numeral}
 use Rattle.tokens.specs.Words.{sizeOf, textIn, tokenIn, kindIn, placeIn, sizeIn}
-use Rattle.names.specs.Prepared.{home, libraryNumber, payload, prepared, preparedAll}
+use Rattle.names.specs.Prepared.{home, procedureNumber, payload, prepared, preparedAll}
 use Rattle.names.proofs.Entries.{getD-map}
 
 -- a token whose parts fit the word
@@ -61,7 +61,7 @@ module _ (ts : List Token) (t : Token) (h : Held t) where
 
   -- a name or a string
   module _ (few : home ts (t .kind) (t .text) < 65536) where
-    name-is : t .kind ≡ aName → payload ts t ≡ sizeOf t + 65536 * home ts (t .kind) (t .text) + 4294967296 * libraryNumber (t .text)
+    name-is : t .kind ≡ aName → payload ts t ≡ sizeOf t + 65536 * home ts (t .kind) (t .text) + 4294967296 * procedureNumber (t .text)
     unfolding payload
     name-is e = rw e
 
@@ -76,12 +76,12 @@ module _ (ts : List Token) (t : Token) (h : Held t) where
     name-home e =
         let s : ℕ = sizeOf t in
         let m : ℕ = home ts (t .kind) (t .text) in
-        let n : ℕ = libraryNumber (t .text) in
+        let n : ℕ = procedureNumber (t .text) in
         let q : (s + 65536 * m + 4294967296 * n) / 65536 ≡ m + 65536 * n = omega (arith, h .size) in
         rw (name-is e, q) (omega arith)
 
-    pub name-library : t .kind ≡ aName → payload ts t / 4294967296 ≡ libraryNumber (t .text)
-    name-library e = rw (name-is e) (omega (arith, h .size))
+    pub name-procedure : t .kind ≡ aName → payload ts t / 4294967296 ≡ procedureNumber (t .text)
+    name-procedure e = rw (name-is e) (omega (arith, h .size))
 
     pub string-size : t .kind ≡ aString → payload ts t % 65536 ≡ sizeOf t
     string-size e = rw (string-is e) (omega (arith, h .size))

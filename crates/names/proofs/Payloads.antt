@@ -9,12 +9,13 @@ use native.Mathlib.Omega.{arith}
 use borrow.Author.Tests.{ne-eqb, eqb-true}
 use lib.Dec.{eqb}
 use lib.ListN.{length, take, drop, length-take}
+use Rattle.meaning.specs.Basics.{bytes, sameText}
 use Rattle.meaning.specs.Token.{Token, aString}
 use Rattle.meaning.specs.Grammar.{numeral}
 use Rattle.meaning.specs.Library.{Library, libraryOf, drawLine, drawEllipse, drawBox, drawText, connectShapes, drawTextOnShape}
 use Rattle.meaning.specs.Library.{xCoordinate, yCoordinate, destroyShape, clearScene}
 use Rattle.tokens.specs.Words.{sizeOf, textIn, tokenIn, kindIn, placeIn, sizeIn}
-use Rattle.names.specs.Prepared.{home, numberOf, libraryNumber, payload, prepared}
+use Rattle.names.specs.Prepared.{home, numberOf, libraryNumber, procedureNumber, payload, prepared}
 use Rattle.names.specs.Index.{payloadWith, wordWith, named}
 
 -- ---- sizes
@@ -32,9 +33,13 @@ number-few (some destroyShape) = omega arith
 number-few (some clearScene) = omega arith
 number-few none = omega arith
 
-pub library-few : (x : List ℕ) (n : ℕ) → n ≡ libraryNumber x → n ≤ 10
-unfolding libraryNumber
-library-few x n e = omega (arith, number-few (libraryOf x))
+main-few : (b : Bool) (n : ℕ) → n ≤ 10 → cond b 11 n ≤ 11
+main-few true n h = omega arith
+main-few false n h = omega arith
+
+pub procedure-few : (x : List ℕ) (n : ℕ) → n ≡ procedureNumber x → n ≤ 11
+unfolding procedureNumber libraryNumber
+procedure-few x n e = rw e (main-few (sameText x (bytes "main")) (numberOf (libraryOf x)) (number-few (libraryOf x)))
 
 pub text-few : (p : List ℕ) (w : ℕ) (x : List ℕ) → x ≡ tokenIn p w .text → length x < 65536
 unfolding tokenIn textIn
@@ -46,7 +51,7 @@ text-few p w x e = rw e (go (eqb (kindIn w) aString))
 
 -- ---- a payload, by the kind
 module _ (k : ℕ) (x : List ℕ) (h : ℕ) where
-  pub payload-name : (n : ℕ) → k ≡ 1 → n ≡ libraryNumber x → length x + 65536 * h + 4294967296 * n ≡ payloadWith k x h
+  pub payload-name : (n : ℕ) → k ≡ 1 → n ≡ procedureNumber x → length x + 65536 * h + 4294967296 * n ≡ payloadWith k x h
   unfolding payloadWith
   payload-name n e u = rw (e, u)
 
@@ -67,10 +72,10 @@ module _ (k : ℕ) (x : List ℕ) (h : ℕ) where
   payload-small v l s e = rw e (go (eqb k 2) (eqb k 1) (eqb k 3))
     where
       go : (a b c : Bool)
-          → cond a (min (numeral x) 4294967295) (cond b (length x + 65536 * h + 4294967296 * libraryNumber x) (cond c (length x + 2 + 65536 * h) (length x)))
+          → cond a (min (numeral x) 4294967295) (cond b (length x + 65536 * h + 4294967296 * procedureNumber x) (cond c (length x + 2 + 65536 * h) (length x)))
           < 1099511627776
       go true b c = omega arith
-      go false true c = omega (arith, library-few x (libraryNumber x) refl)
+      go false true c = omega (arith, procedure-few x (procedureNumber x) refl)
       go false false true = omega arith
       go false false false = omega arith
 

@@ -1,4 +1,4 @@
--- The library procedures by the lengths of their names.
+-- Procedures by their names: main, and those of the library by the lengths of their names.
 -- Assumes nothing.
 use Prim.Native.Nat.{ℕ, suc}
 use mathlib.Core.Path.{_≡_, _∙_, refl, sym, ap}
@@ -8,9 +8,9 @@ use mathlib.Core.Option.{Option}
 use borrow.Author.Tests.{ne-eqb, eqb-false}
 use lib.Dec.{eqb}
 use lib.ListN.{length}
-use Rattle.meaning.specs.Basics.{bytes, if_then_else_}
+use Rattle.meaning.specs.Basics.{bytes, if_then_else_, sameText}
 use Rattle.meaning.specs.Library.{Library, libraryOf}
-use Rattle.names.specs.Prepared.{numberOf, libraryNumber}
+use Rattle.names.specs.Prepared.{numberOf, libraryNumber, procedureNumber}
 use Rattle.names.specs.Index.{either}
 use Rattle.names.proofs.Homes.{other-lengths}
 
@@ -86,3 +86,7 @@ module _ (w : List ℕ) where
       → (length w ≡ 12 → ⊥) → (length w ≡ 15 → ⊥) → (length w ≡ 19 → ⊥) → (length w ≡ 24 → ⊥) → 10 ≡ libraryNumber w
   number-other h7 h8 h10 h11 h12 h15 h19 h24 =
       rw (off 7 h7, off 8 h8, off 10 h10, off 11 h11, off 12 h12, off 15 h15, off 19 h19, off 24 h24) at (number-is (length w) refl)
+
+pub number-main : (w : List ℕ) (r n : ℕ) → n ≡ libraryNumber w → r ≡ either w (bytes "main") 11 n → r ≡ procedureNumber w
+unfolding either procedureNumber
+number-main w r n u e = e ∙ ap (cond (sameText w (bytes "main")) 11) u

@@ -9,7 +9,7 @@ use Rattle.meaning.specs.Basics.{sameText}
 use Rattle.meaning.specs.Token.{Token, aName, aString, digits}
 use Rattle.meaning.specs.Grammar.{numeral}
 use Rattle.tokens.specs.Words.{tokenIn, kindIn}
-use Rattle.names.specs.Prepared.{home, libraryNumber}
+use Rattle.names.specs.Prepared.{home, procedureNumber}
 
 -- what `prepare` needs
 pub record Room (words index : List ℕ) : Type 0 where
@@ -24,7 +24,7 @@ either w name n other = cond (sameText w name) n other
 unfoldable pub payloadWith : ℕ → List ℕ → ℕ → ℕ
 payloadWith k x h =
     cond (eqb k digits) (min (numeral x) 4294967295)
-    (cond (eqb k aName) (length x + 65536 * h + 4294967296 * libraryNumber x)
+    (cond (eqb k aName) (length x + 65536 * h + 4294967296 * procedureNumber x)
     (cond (eqb k aString) (length x + 2 + 65536 * h)
     (length x)))
 

@@ -4,7 +4,7 @@ use mathlib.Core.Bool.{_&&_, cond}
 use mathlib.Core.List.{List, [], _∷_, map}
 use mathlib.Core.Option.{Option, none, some}
 use lib.Dec.{eqb}
-use Rattle.meaning.specs.Basics.{if_then_else_, sameText}
+use Rattle.meaning.specs.Basics.{bytes, if_then_else_, sameText}
 use Rattle.meaning.specs.Token.{Token, aName, aString, digits}
 use Rattle.meaning.specs.Grammar.{numeral}
 use Rattle.meaning.specs.Library.{Library, drawLine, drawEllipse, drawBox, drawText, connectShapes, drawTextOnShape, xCoordinate, yCoordinate, destroyShape, clearScene, libraryOf}
@@ -32,12 +32,16 @@ numberOf none = 10
 unfoldable pub libraryNumber : List ℕ → ℕ
 libraryNumber f = numberOf (libraryOf f)
 
+-- the same, but 11 for main
+unfoldable pub procedureNumber : List ℕ → ℕ
+procedureNumber f = cond (sameText f (bytes "main")) 11 (libraryNumber f)
+
 -- What stands in a token's word above its kind and place, 40 bits: of digits their value, if it fits 32 bits; else the token's size (16 bits),
--- and of a name or a string its home (16 bits), and of a name its number as a library procedure (8 bits).
+-- and of a name or a string its home (16 bits), and of a name its number as a procedure (8 bits).
 unfoldable pub payload : List Token → Token → ℕ
 payload ts t =
     cond (eqb (t .kind) digits) (min (numeral (t .text)) 4294967295)
-    (cond (eqb (t .kind) aName) (sizeOf t + 65536 * home ts aName (t .text) + 4294967296 * libraryNumber (t .text))
+    (cond (eqb (t .kind) aName) (sizeOf t + 65536 * home ts aName (t .text) + 4294967296 * procedureNumber (t .text))
     (cond (eqb (t .kind) aString) (sizeOf t + 65536 * home ts aString (t .text))
     (sizeOf t)))
 

@@ -8,8 +8,6 @@ mod index;
 mod library;
 mod payload;
 
-pub use library::library_number;
-
 // Rewrites each token's word in place. The index is cleared before use and after.
 pub fn prepare(program: &[u8], tokens: &mut [u64], index: &mut [u64])
     requires { ⌜ Room (now tokens) (now index) ⌝ }

@@ -1,11 +1,19 @@
-// The library procedures, by their names.
+// The library procedures and main, by their names.
 use tokens::same_text;
 ghost use mathlib.Core.Path.{_≡_};
-ghost use Rattle.names.specs.Prepared.{libraryNumber};
+ghost use Rattle.names.specs.Prepared.{libraryNumber, procedureNumber};
 ghost use Rattle.names.specs.Index.{either};
 
+// The number of a procedure: 11 for main, else that in the library.
+pub fn procedure_number(w: &[u8]) -> u64
+    ensures { λ r. ⌜ r ≡ procedureNumber (now (w .entry)) ⌝ }
+{
+    let other = library_number(w);
+    one_of(w, b"main", 11, other)
+}
+
 // The number of a library procedure, 10 for every other name. The name's length leaves two of them at most.
-pub fn library_number(w: &[u8]) -> u64
+fn library_number(w: &[u8]) -> u64
     ensures { λ r. ⌜ r ≡ libraryNumber (now (w .entry)) ⌝ }
 {
     let n = w.len();

@@ -13,7 +13,7 @@ ghost use Rattle.operators.specs.Parts.{Calculates, Mixes, Operates};
 // Two texts, one behind the other.
 fn join(
     program: &[u8],
-    grants: &[u64; 4],
+    grants: &[u64; 5],
     texts: &mut [u8],
     words: &mut [u64],
     p: u64,
@@ -42,7 +42,7 @@ fn join(
 }
 
 // A shape and an integer; 20 for any other values that are not both integers.
-fn calculate(words: &mut [u64], grants: &[u64; 4], tag: u64, p: u64, a: u64, b: u64) -> Answer
+fn calculate(words: &mut [u64], grants: &[u64; 5], tag: u64, p: u64, a: u64, b: u64) -> Answer
     requires { ⌜ Room (now grants) (now words) ⌝ }
     ensures { λ r. ⌜ Calculates (now (grants .entry)) (now (words .entry)) tag p a b r (now (words .exit)) ⌝ }
 {
@@ -66,7 +66,7 @@ fn calculate(words: &mut [u64], grants: &[u64; 4], tag: u64, p: u64, a: u64, b: 
 // Values that are not both integers, neither of them a destroyed shape.
 fn on_usable(
     program: &[u8],
-    grants: &[u64; 4],
+    grants: &[u64; 5],
     texts: &mut [u8],
     words: &mut [u64],
     tag: u64,
@@ -94,7 +94,7 @@ fn on_usable(
 // Values that are not both integers.
 fn on_mixed(
     program: &[u8],
-    grants: &[u64; 4],
+    grants: &[u64; 5],
     texts: &mut [u8],
     words: &mut [u64],
     tag: u64,
@@ -118,7 +118,7 @@ fn on_mixed(
 // An operator, by its tag, on two values at a place.
 pub fn operate(
     program: &[u8],
-    grants: &[u64; 4],
+    grants: &[u64; 5],
     texts: &mut [u8],
     words: &mut [u64],
     tag: u64,

@@ -136,7 +136,7 @@ fn changed(tag: u64, f: Figure, n: i32) -> Figure
 }
 
 // An operator, by its tag, on a shape and an integer.
-pub fn on_shape(words: &mut [u64], grants: &[u64; 4], tag: u64, p: u64, i: u32, n: i32) -> Answer
+pub fn on_shape(words: &mut [u64], grants: &[u64; 5], tag: u64, p: u64, i: u32, n: i32) -> Answer
     requires { ⌜ Room (now grants) (now words) ⌝ }
     ensures { λ r. ⌜ Draws (now (grants .entry)) (now (words .entry)) tag p (Shape i) (Integer n) r (now (words .exit)) ⌝ }
 {

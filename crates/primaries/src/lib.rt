@@ -80,7 +80,7 @@ pub fn lacks_table(tag: u64, a: u64) -> bool
 // A table read or an operator, by its tag, on the words of its two parts.
 pub fn apply(
     program: &[u8],
-    grants: &[u64; 4],
+    grants: &[u64; 5],
     texts: &mut [u8],
     words: &mut [u64],
     tag: u64,
@@ -121,7 +121,7 @@ pub fn push_word(words: &mut [u64], w: u64, p: u64) -> Answer
 }
 
 // A library procedure on the arguments held from the one numbered base on, which are then dropped.
-pub fn called(words: &mut [u64], grants: &[u64; 4], number: u64, p: u64, base: u64) -> Answer
+pub fn called(words: &mut [u64], grants: &[u64; 5], number: u64, p: u64, base: u64) -> Answer
     requires { ⌜ Room (now grants) (now words) ⌝ }
     ensures { λ r. ⌜ Answers (now (words .entry)) (called (now (grants .entry)) number p base) r (now (words .exit)) ⌝ }
 {

@@ -17,7 +17,7 @@ use Rattle.code.specs.Code.{codeOf, codeOfAll}
 use Rattle.expressions.specs.Words as Words
 use Rattle.reader.specs.Coded.{wordsOf, mapGot, targetNumber, pieceOf, insideOf}
 use Rattle.reader.specs.Sane.{Sane}
-use Rattle.reader.proofs.Fields.{kind-at, is-at, positive-at, negative-at, signed-at, positive-bits, negative-bits, part-at, name-home-at, library-at}
+use Rattle.reader.proofs.Fields.{kind-at, is-at, positive-at, negative-at, signed-at, positive-bits, negative-bits, part-at, name-home-at, callee-at}
 use Rattle.reader.proofs.Mapped.{Maps, Levels, neither, both, maps-good, maps-wrong, maps-if, maps-after, maps-opening}
 
 -- ---- operators
@@ -99,7 +99,7 @@ module _ (ts : List Token) (sane : Sane ts) where
       λ _. maps-if _ _ _ _ _ _ (is-at ts sane _ i)
       (λ e. maps-if _ _ _ _ _ _ (is-at ts sane _ (i + 1))
       (λ _. maps-opening _ _ _ l λ g f r. maps-after _ _ (arguments-maps r (i + 2)) λ es j _.
-      maps-good (ap (λ n. Words.piece (Words.callCode n (codeOfAll es ts)) 0) (library-at ts sane i (eqb-true _ _ e))))
+      maps-good (ap (λ n. Words.piece (Words.callCode n (codeOfAll es ts)) 0) (callee-at ts sane i (eqb-true _ _ e))))
       λ _. maps-good (ap (λ n. Words.piece (word tagName 1 n ∷ []) 1) (name-home-at ts sane i (eqb-true _ _ e))))
       λ _. maps-if _ _ _ _ _ _ (is-at ts sane _ i)
       (λ _. maps-opening _ _ _ l λ g f r. maps-after _ _ (r (i + 1)) λ e j _. expect-maps _ j _ _ refl)

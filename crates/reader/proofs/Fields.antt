@@ -4,7 +4,7 @@ use native.Mathlib.Nat.{add-zero}
 use native.Mathlib.Numerals.{add-one}
 use native.Mathlib.Omega.{arith}
 use mathlib.Core.Path.{_≡_, refl, sym, ap, _∙_}
-use mathlib.Core.Bool.{Bool, true, false, _&&_}
+use mathlib.Core.Bool.{Bool, true, false, _&&_, cond}
 use mathlib.Core.List.{List, [], _∷_, _++_, append-assoc, map}
 use mathlib.Core.Option.{Option, none, some}
 use lib.ListN.{length, getD, length-append, List·getD-map, List·getD-eq-default, length-map}
@@ -12,13 +12,14 @@ use lib.Seq.{getD-at}
 use lib.Dec.{eqb, leb}
 use lib.IntN.{pos, negsuc, negℤ}
 use borrow.Author.Tests.{eqb-true, leb-true, leb-false, le-leb, lt-leb, lt-ltb, le-ltb}
+use Rattle.meaning.specs.Basics.{bytes, sameText}
 use Rattle.meaning.specs.Token.{Token, aName, digits, aString}
 use Rattle.meaning.specs.Grammar.{afterLast, kindAt, textAt, startAt, is, numeral, positiveAt, negativeAt, signedAt}
 use Rattle.meaning.specs.Tree.{Operator, concatenate, add, subtract, multiply, divide, remainder, shiftRight, shiftLeft, equal, unequal, greater, less, Expression, number, string, nothing, truth, name, table, entry, operation, call, paren, Statement, declare, assign, update, when, while, return, block, act}
 use Rattle.meaning.specs.Integer.{bits, wrap}
 use Rattle.meaning.specs.Library.{Library, drawLine, drawEllipse, drawBox, drawText, connectShapes, drawTextOnShape, xCoordinate, yCoordinate, destroyShape, clearScene, libraryOf}
 use Rattle.tokens.specs.Words.{sizeOf, tokenIn}
-use Rattle.names.specs.Prepared.{home, numberOf, libraryNumber, payload, prepared, preparedAll}
+use Rattle.names.specs.Prepared.{home, numberOf, libraryNumber, procedureNumber, payload, prepared, preparedAll}
 use Rattle.machine.specs.Opcodes.{word, tagIn, sizeIn, numberIn, tagOf}
 use Rattle.code.specs.Code.{partOf, joined, codeOf, codeOfAll, codeOfStatement}
 use Rattle.expressions.specs.Words as Words
@@ -44,6 +45,21 @@ number-small none = omega arith
 pub library-small : (f : List ℕ) → libraryNumber f ≤ 10
 unfolding libraryNumber
 library-small f = number-small (libraryOf f)
+
+main-small : (b : Bool) (n : ℕ) → n ≤ 10 → cond b 11 n ≤ 11
+main-small true n h = omega arith
+main-small false n h = omega arith
+
+pub procedure-small : (f : List ℕ) → procedureNumber f ≤ 11
+unfolding procedureNumber
+procedure-small f = main-small (sameText f (bytes "main")) (libraryNumber f) (library-small f)
+
+-- a call's number
+pub call-number : (f : List ℕ) (n : ℕ) → (procedureNumber f + 16 * n) % 16 ≡ procedureNumber f
+call-number f n = omega (arith, procedure-small f)
+
+pub call-slot : (f : List ℕ) (n : ℕ) → (procedureNumber f + 16 * n) / 16 ≡ n
+call-slot f n = omega (arith, procedure-small f)
 
 -- ---- three fields in one number
 first-field : (k p q : ℕ) → k < 256 → (k + 256 * p + 16777216 * q) % 256 ≡ k
@@ -130,7 +146,7 @@ module _ (ts : List Token) (sane : Sane ts) where
 
   -- of names
   name-payload : (i : ℕ) → kindAt ts i ≡ aName
-      → Words.payloadAt (wordsOf ts) i ≡ length (textAt ts i) + 65536 * home ts aName (textAt ts i) + 4294967296 * libraryNumber (textAt ts i)
+      → Words.payloadAt (wordsOf ts) i ≡ length (textAt ts i) + 65536 * home ts aName (textAt ts i) + 4294967296 * procedureNumber (textAt ts i)
   unfolding payload sizeOf
   name-payload i e = payload-at i ∙ rw (e, add-zero)
 
@@ -143,8 +159,11 @@ module _ (ts : List Token) (sane : Sane ts) where
   pub name-home-at : (i : ℕ) → kindAt ts i ≡ aName → Words.homeAt (wordsOf ts) i ≡ home ts aName (textAt ts i)
   name-home-at i e = rw (name-payload i e) (mid-field _ _ _ (omega (arith, sane .texts i)) (home-small _ _))
 
-  pub library-at : (i : ℕ) → kindAt ts i ≡ aName → Words.libraryAt (wordsOf ts) i ≡ libraryNumber (textAt ts i)
-  library-at i e = rw (name-payload i e) (high-field _ _ _ (omega (arith, sane .texts i)) (home-small _ _))
+  pub procedure-at : (i : ℕ) → kindAt ts i ≡ aName → Words.procedureAt (wordsOf ts) i ≡ procedureNumber (textAt ts i)
+  procedure-at i e = rw (name-payload i e) (high-field _ _ _ (omega (arith, sane .texts i)) (home-small _ _))
+
+  pub callee-at : (i : ℕ) → kindAt ts i ≡ aName → Words.calleeAt (wordsOf ts) i ≡ procedureNumber (textAt ts i) + 16 * home ts aName (textAt ts i)
+  callee-at i e = rw (procedure-at i e, name-home-at i e)
 
   -- of strings
   string-payload : (i : ℕ) → kindAt ts i ≡ aString

@@ -23,7 +23,7 @@ unfoldable mutual
   Known (table e) ts = Known e ts
   Known (entry a b) ts = Known a ts × Known b ts
   Known (operation o a b) ts = Known a ts × Known b ts
-  Known (call f es) ts = KnownAll es ts
+  Known (call f es) ts = Occurs ts aName f × KnownAll es ts
   Known (paren e) ts = Known e ts
 
   pub KnownAll : Arguments → List Token → Type 0

@@ -8,4 +8,6 @@ pub mod Trees
 pub mod Statements
 pub mod Lexing
 pub mod Walk
+pub mod Tables
+pub mod Gathered
 pub mod Ways

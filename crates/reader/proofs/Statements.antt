@@ -1,25 +1,25 @@
--- The grammar of statements and of the procedure over words is the meaning's, with the code of each tree.
+-- The grammar of statements and of procedures over words is the meaning's, with the code of each tree.
 use Prim.Native.Nat.{ℕ, zero, suc, _+_, _-_}
 use native.Mathlib.Omega.{arith}
 use mathlib.Core.Path.{_≡_, refl}
-use mathlib.Core.Bool.{Bool, true, false, _&&_}
 use mathlib.Core.List.{List, [], _∷_, _++_, append-assoc, map}
 use lib.ListN.{length, length-append, length-map}
 use lib.Seq.{take-at}
 use borrow.Author.Tests.{eqb-true}
-use Rattle.meaning.specs.Basics.{bytes, if_then_else_, sameText}
-use Rattle.meaning.specs.Token.{Token, ending, aName, wordDef, openParen, openBrace}
+use Rattle.meaning.specs.Basics.{if_then_else_}
+use Rattle.meaning.specs.Token.{Token, aName, wordDef, openParen, openBrace}
 use Rattle.meaning.specs.Tree.{Expression, number, string, nothing, truth, name, table, entry, operation, call, paren, Statement, when, while}
-use Rattle.meaning.specs.Grammar.{Got, good, wrong, after, textAt, startAt, is, expect, skip, Inside, ReadExpression, ReadStatement, Readers, declaration, returning, targetOf, assignment, simple, guarded, statementsFrom, statements, statementIn, statement, parametersFrom, parameters, procedure}
+use Rattle.meaning.specs.Grammar.{textAt, startAt, expect, skip, Inside, ReadExpression, ReadStatement, Readers, declaration, returning, targetOf, assignment, simple, guarded}
+use Rattle.meaning.specs.Grammar.{statementsFrom, statements, statementIn, statement, parametersFrom, parameters, procedure, proceduresFrom}
 use Rattle.names.specs.Prepared.{prepared}
 use Rattle.machine.specs.Opcodes.{tagWhen, tagWhile}
 use Rattle.code.specs.Code.{slotOf, codeOf, codeOfStatement, codeOfStatements, joined, headed}
 use Rattle.expressions.specs.Words as Words
 use Rattle.statements.specs.Words as Bodies
-use Rattle.reader.specs.Coded.{wordsOf, mapGot, targetNumber, pieceOf, headOf}
+use Rattle.reader.specs.Coded.{wordsOf, mapGot, targetNumber, pieceOf, nameOf, headOf}
 use Rattle.reader.specs.Sane.{Sane}
-use Rattle.reader.proofs.Fields.{is-at, place-at, name-home-at}
-use Rattle.reader.proofs.Mapped.{Maps, Levels, neither, both, maps-good, maps-wrong, maps-if, maps-after, maps-opening, after-after, after-if}
+use Rattle.reader.proofs.Fields.{is-at, place-at, name-home-at, procedure-at}
+use Rattle.reader.proofs.Mapped.{Maps, Levels, neither, both, maps-good, maps-wrong, maps-if, maps-after, maps-opening, after-after}
 use Rattle.reader.proofs.Yields.{yielded}
 use Rattle.reader.proofs.Trees.{Names, Spelling, expression-spelled}
 use Rattle.reader.proofs.Expressions.{Reads, expect-maps, expression-maps}
@@ -131,27 +131,7 @@ module _ (ts : List Token) (sane : Sane ts) where
       statement-in-maps (expression-maps ts sane (suc left)) (expression-spelled ts (suc left))
       (both (record { expressions = expression-maps ts sane left; statements = statement-maps left })) i
 
-  -- ---- the procedure
-  -- a token of a kind has to follow
-  skip-maps : {A B : Type 0} {f : A → B} (k j : ℕ) (t : Unit {0} → Got B) (next : Unit {0} → ℕ → Got A)
-      → Maps f (t tt) (next tt (j + 1))
-      → Maps f (if Words.is k (wordsOf ts) j then t else λ _. wrong 10 j) (after (skip k ts j) next)
-  unfolding expect after if_then_else_
-  skip-maps {A} {B} {f} k j t next m = rw (is-at ts sane k j) (go (is k ts j))
-    where
-      go : (c : Bool) → Maps f (if c then t else λ _. wrong 10 j) (after (if c then (λ _. good tt (j + 1)) else λ _. wrong 10 j) next)
-      go true = m
-      go false = maps-wrong
-
-  -- the second token is a name, and `main`
-  main-maps : {A B : Type 0} {f : A → B} (main : Bool) (j : ℕ) (t : Unit {0} → Got B) (next : Unit {0} → ℕ → Got A)
-      → Maps f (t tt) (next tt (j + 1))
-      → Maps f (if main && Words.is aName (wordsOf ts) j then t else λ _. wrong 10 j)
-      (after (if main then (λ _. skip aName ts j) else λ _. wrong 10 j) next)
-  unfolding if_then_else_ after
-  main-maps true j t next m = skip-maps aName j t next m
-  main-maps false j t next m = maps-wrong
-
+  -- ---- procedures
   name-maps : (i : ℕ) → Maps (slotOf ts) (Words.expect aName (wordsOf ts) i (Words.homeAt (wordsOf ts) i)) (expect aName ts i (textAt ts i))
   unfolding expect Words.expect
   name-maps i =
@@ -172,37 +152,35 @@ module _ (ts : List Token) (sane : Sane ts) where
       maps-if _ _ _ _ _ _ (is-at ts sane _ i) (λ _. maps-good refl)
       λ _. rw (length-map ts (prepared ts)) (parameters-from-maps (suc (length ts - i)) i)
 
-  -- behind the body nothing stands
-  ending-maps : {A B C : Type 0} {f : A → B} (j : ℕ) (a : A) (c : C) (next : C → ℕ → Got B)
-      → Maps f (next c j) (good a j)
-      → Maps f (after (if Words.is ending (wordsOf ts) j then (λ _. good c j) else λ _. wrong 10 j) next)
-      (if is ending ts j then (λ _. good a j) else λ _. wrong 10 j)
-  unfolding if_then_else_ after
-  ending-maps {A} {B} {C} {f} j a c next m = rw (is-at ts sane ending j) (go (is ending ts j))
-    where
-      go : (b : Bool) → Maps f (after (if b then (λ _. good c j) else λ _. wrong 10 j) next) (if b then (λ _. good a j) else λ _. wrong 10 j)
-      go true = m
-      go false = maps-wrong
+  name-of-maps : (i : ℕ) → Maps (nameOf ts) (Words.expect aName (wordsOf ts) i (Bodies.nameAt (wordsOf ts) i)) (expect aName ts i (textAt ts i))
+  unfolding expect Words.expect nameOf
+  name-of-maps i =
+      maps-if _ _ _ _ _ _ (is-at ts sane _ i)
+      (λ e. maps-good (rw (procedure-at ts sane i (eqb-true _ _ e), name-home-at ts sane i (eqb-true _ _ e))))
+      (λ _. maps-wrong)
 
-  body-maps : (xs : List (List ℕ)) (i : ℕ)
-      → Maps (headOf ts)
-      (after (Bodies.body (wordsOf ts) i) λ ss j. good (record { slots = map (slotOf ts) xs; code = ss }) j)
-      (after (skip openBrace ts i) λ _ m. after (statements (statement 64 ts) ts m) λ ss j.
-      if is ending ts j then (λ _. good (record { parameters = xs; body = ss }) j) else λ _. wrong 10 j)
-  unfolding Bodies.body after
-  body-maps xs i =
-      rw after-if
-      (skip-maps openBrace i _ _
-      (rw after-after
-      (maps-after _ _ (statements-maps (statement-maps 64) (i + 1)) λ ss j _. ending-maps j _ _ _ (unfold headOf in maps-good refl))))
+  skip-maps : (k i : ℕ) → Maps (λ u. u) (Bodies.skip k (wordsOf ts) i) (skip k ts i)
+  skip-maps k i = expect-maps ts sane k i tt tt refl
 
-  pub procedure-maps : Maps (headOf ts) (Bodies.procedure (sameText (textAt ts 1) (bytes "main")) (wordsOf ts)) (procedure ts)
-  unfolding procedure Bodies.procedure
-  procedure-maps =
-      skip-maps wordDef 0 _ _
-      (main-maps _ 1 _ _
-      (skip-maps openParen 2 _ _
-      (maps-after _ _ (parameters-maps 3) λ xs i _. body-maps xs i)))
+  pub procedure-maps : (i : ℕ) → Maps (headOf ts) (Bodies.procedure (wordsOf ts) i) (procedure ts i)
+  unfolding procedure Bodies.procedure Bodies.body headOf
+  procedure-maps i =
+      maps-after _ _ (skip-maps wordDef i) λ _ i₁ _.
+      maps-after _ _ (name-of-maps i₁) λ f i₂ _.
+      maps-after _ _ (skip-maps openParen i₂) λ _ i₃ _.
+      maps-after _ _ (parameters-maps i₃) λ xs i₄ _.
+      rw after-after
+      (maps-after _ _ (skip-maps openBrace i₄) λ _ i₅ _.
+      maps-after _ _ (statements-maps (statement-maps 64) i₅) λ ss i₆ _.
+      maps-good (rw (place-at ts sane i)))
+
+  procedures-from-maps : (rounds i : ℕ) → Maps (map (headOf ts)) (Bodies.proceduresFrom rounds (wordsOf ts) i) (proceduresFrom rounds ts i)
+  unfolding proceduresFrom Bodies.proceduresFrom
+  procedures-from-maps zero i = maps-wrong
+  procedures-from-maps (suc rounds) i =
+      maps-after _ _ (procedure-maps i) λ f j _.
+      maps-if _ _ _ _ _ _ (is-at ts sane _ j) (λ _. maps-good refl)
+      λ _. maps-after _ _ (procedures-from-maps rounds j) λ fs m _. maps-good refl
 
   -- ---- the laws
   pub statement-law : (left i : ℕ) → Bodies.statement left (wordsOf ts) i ≡ mapGot (λ s. codeOfStatement s ts) (statement left ts i)
@@ -212,5 +190,6 @@ module _ (ts : List Token) (sane : Sane ts) where
       → Bodies.statements (Bodies.statement left (wordsOf ts)) (wordsOf ts) i ≡ mapGot (λ ss. codeOfStatements ss ts) (statements (statement left ts) ts i)
   statements-law left i = statements-maps (statement-maps left) i .same
 
-  pub procedure-law : Bodies.procedure (sameText (textAt ts 1) (bytes "main")) (wordsOf ts) ≡ mapGot (headOf ts) (procedure ts)
-  procedure-law = procedure-maps .same
+  pub procedures-law : Bodies.procedures (wordsOf ts) ≡ mapGot (map (headOf ts)) (proceduresFrom (suc (length ts)) ts 0)
+  unfolding Bodies.procedures
+  procedures-law = rw (length-map ts (prepared ts)) (procedures-from-maps (suc (length ts)) 0 .same)

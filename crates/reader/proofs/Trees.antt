@@ -1,24 +1,28 @@
 -- What holds of the trees that are read: their code has no more words than there were tokens, and they are known. And where a name was read as an
 -- expression, its token is the first.
-use Prim.Native.Nat.{ℕ, zero, suc, _+_, _-_, _≤_, _<_}
+use Prim.Native.Nat.{ℕ, zero, suc, _+_, _-_, _*_, _≤_, _<_}
 use native.Mathlib.Omega.{arith}
 use mathlib.Core.Path.{_≡_, refl}
 use mathlib.Core.Logic.{_≢_}
 use mathlib.Core.Bool.{true}
-use mathlib.Core.List.{List}
+use mathlib.Core.List.{List, [], _∷_}
 use mathlib.Core.Option.{Option, none, some}
-use lib.ListN.{length, length-append}
+use lib.ListN.{length, length-append, length-map}
 use lib.IntN.{pos, negℤ}
 use borrow.Author.Tests.{eqb-true, leb-true}
+use Rattle.meaning.specs.Basics.{bytes}
 use Rattle.meaning.specs.Token.{Token, ending, aName, digits, aString}
-use Rattle.meaning.specs.Tree.{Operator, Expression, number, string, nothing, truth, name, table, entry, operation, call, paren, Arguments, Statement, when, while, Statements, Procedure}
-use Rattle.meaning.specs.Grammar.{Got, good, wrong, kindAt, textAt, startAt, is, expect, numeral, positiveAt, negativeAt, operatorOf, Inside, ReadExpression, argumentsFrom, arguments, primary, operand, operated, expressionIn, expression, ReadStatement, Readers, declaration, returning, targetOf, assignment, simple, guarded, statementsFrom, statements, statementIn, statement, parametersFrom, parameters, procedure}
+use Rattle.meaning.specs.Tree.{Operator, Expression, number, string, nothing, truth, name, table, entry, operation, call, paren, Arguments, Statement, when, while, Statements, Procedure, Program}
+use Rattle.meaning.specs.Grammar.{good, kindAt, textAt, startAt, is, expect, numeral, positiveAt, negativeAt, operatorOf, Inside, ReadExpression, argumentsFrom, arguments, primary, operand}
+use Rattle.meaning.specs.Grammar.{operated, expressionIn, expression, ReadStatement, Readers, declaration, returning, targetOf, assignment, simple, guarded, statementsFrom, statements}
+use Rattle.meaning.specs.Grammar.{statementIn, statement, parametersFrom, parameters, procedure, proceduresFrom, procedureNamed, withMain, procedures}
 use Rattle.meaning.specs.Integer.{wrap}
-use Rattle.code.specs.Code.{codeOf, codeOfAll, codeOfStatement, codeOfStatements}
+use Rattle.code.specs.Code.{slotOf, codeOf, codeOfAll, codeOfStatement, codeOfStatements, codeOfProcedure, codeOfProcedures}
+use Rattle.reader.specs.Declarations.{declaredIn, declaredBy, declarations}
 use Rattle.reader.proofs.Homes.{both-true, Occurs, there}
 use Rattle.reader.proofs.Fields.{plain-wrap, minus-wrap}
 use Rattle.reader.proofs.Known.{Placed, Known, KnownAll, KnownStatement, KnownStatements, KnownNames}
-use Rattle.reader.proofs.Yields.{Yields, yields, fails, Inner, closed, opened, yields-if, yields-after, yields-opening}
+use Rattle.reader.proofs.Yields.{Yields, yields, fails, yielded, Inner, closed, opened, yields-if, yields-after, yields-opening}
 
 -- from token i up to token j at least n tokens were read
 pub record Spans (ts : List Token) (i n j : ℕ) : Type 0 where
@@ -53,14 +57,15 @@ module _ (ts : List Token) (i : ℕ) where
     pub known : KnownAll es ts
 
   pub record Stated (s : Statement) (j : ℕ) : Type 0 where
-    pub spans : Spans ts i (length (codeOfStatement s ts)) j
+    pub spans : Spans ts i (length (codeOfStatement s ts) + 2 * length (declaredIn s)) j
     pub known : KnownStatement s ts
 
   pub record StatedAll (ss : Statements) (j : ℕ) : Type 0 where
-    pub spans : Spans ts i (length (codeOfStatements ss ts)) j
+    pub spans : Spans ts i (length (codeOfStatements ss ts) + 2 * declarations ss) j
     pub known : KnownStatements ss ts
 
   pub record Named (xs : List (List ℕ)) (j : ℕ) : Type 0 where
+    pub spans : Spans ts i (2 * length xs) j
     pub known : KnownNames xs ts
 
 abbrev pub Spelling : List Token → ReadExpression → Type 0
@@ -132,7 +137,7 @@ module _ (ts : List Token) where
       (λ e. yields-if _ _ _
       (λ _. yields-opening _ _ l λ f s. yields-after _ (arguments-spelled s (i + 2)) λ es j p.
       let p' = p .spans in
-      yields (record { spans = simp length-append (omega arith); known = p .known; names = tt }))
+      yields (record { spans = simp length-append (omega arith); known = (occurs i aName e, p .known); names = tt }))
       λ _. yields (record { spans = alone i _ (omega arith) e; known = occurs i aName e; names = (eqb-true _ _ e, refl) }))
       λ _. yields-if _ _ _
       (λ _. yields-opening _ _ l λ f s. yields-after _ (s (i + 1)) λ e j p. yields-expect _ j _ (omega arith) λ _ h.
@@ -181,14 +186,14 @@ module _ (ts : List Token) where
   placed i = record { index = i; begins = refl }
 
   declaration-stated : (i : ℕ) → Yields (Stated ts i) (declaration ts i)
-  unfolding declaration codeOfStatement KnownStatement
+  unfolding declaration codeOfStatement KnownStatement declaredIn
   declaration-stated i =
       yields-if _ _ _
       (λ e. yields-expect _ (i + 2) _ (omega arith) λ _ h. record { spans = omega arith; known = (placed i, occurs (i + 1) aName e) })
       λ _. fails
 
   returning-stated : {f : ReadExpression} → Spelling ts f → (i : ℕ) → Yields (Stated ts i) (returning f ts i)
-  unfolding returning codeOfStatement KnownStatement
+  unfolding returning codeOfStatement KnownStatement declaredIn
   returning-stated s i =
       yields-after _ (s (i + 1)) λ e j p. yields-expect _ j _ (omega arith) λ _ h.
       let p' = p .spans in
@@ -196,7 +201,7 @@ module _ (ts : List Token) where
 
   assignment-stated : {f : ReadExpression} → Spelling ts f → (i j : ℕ) (a : Expression) → Spelled ts i a j
       → Yields (Stated ts i) (assignment f ts (startAt ts i) j (targetOf a))
-  unfolding assignment targetOf codeOf codeOfStatement Known KnownStatement
+  unfolding assignment targetOf codeOf codeOfStatement Known KnownStatement declaredIn
   assignment-stated s i j (name x) p =
       yields-after _ (s (j + 1)) λ e m q. yields-expect _ m _ (omega arith) λ _ h.
       let p' = p .spans in
@@ -217,7 +222,7 @@ module _ (ts : List Token) where
   assignment-stated s i j (paren e) p = fails
 
   simple-stated : {f : ReadExpression} → Spelling ts f → (i : ℕ) → Yields (Stated ts i) (simple f ts i)
-  unfolding simple codeOfStatement KnownStatement
+  unfolding simple codeOfStatement KnownStatement declaredIn
   simple-stated s i =
       yields-after _ (s i) λ a j p.
       yields-if _ _ _ (λ _. assignment-stated s i j a p)
@@ -228,10 +233,11 @@ module _ (ts : List Token) where
   -- `make` makes a statement of an expression and a statement
   guarded-stated : {x : Inside Readers} → Inner (Both ts) x → (make : Expression → Statement → Statement) (i : ℕ)
       → ((e : Expression) (s : Statement) → length (codeOfStatement (make e s) ts) ≡ length (codeOf e ts) + length (codeOfStatement s ts) + 1)
+      → ((e : Expression) (s : Statement) → declaredIn (make e s) ≡ declaredIn s)
       → ((e : Expression) (s : Statement) → Known e ts → KnownStatement s ts → KnownStatement (make e s) ts)
       → Yields (Stated ts i) (guarded make x ts (i + 1))
   unfolding guarded
-  guarded-stated l make i size makes =
+  guarded-stated l make i size same makes =
       yields-if _ _ _
       (λ _. yields-opening _ _ l λ f b.
       yields-after _ (b .expressions (i + 1 + 1)) λ e j p.
@@ -239,11 +245,11 @@ module _ (ts : List Token) where
       yields-after _ (b .statements m) λ s n q.
       let p' = p .spans in
       let q' = q .spans in
-      yields (record { spans = rw (size e s) (omega arith); known = makes e s (p .known) (q .known) }))
+      yields (record { spans = rw (size e s, same e s) (omega arith); known = makes e s (p .known) (q .known) }))
       λ _. fails
 
   statements-from-stated : {f : ReadStatement} → Stating ts f → (rounds i : ℕ) → Yields (StatedAll ts i) (statementsFrom rounds f ts i)
-  unfolding statementsFrom codeOfStatements KnownStatements
+  unfolding statementsFrom codeOfStatements KnownStatements declaredBy
   statements-from-stated s zero i = fails
   statements-from-stated s (suc rounds) i =
       yields-after _ (s i) λ a j p.
@@ -258,13 +264,13 @@ module _ (ts : List Token) where
 
   statement-in-stated : {f : ReadExpression} {x : Inside Readers} → Spelling ts f → Inner (Both ts) x
       → (i : ℕ) → Yields (Stated ts i) (statementIn f x ts i)
-  unfolding statementIn codeOfStatement KnownStatement
+  unfolding statementIn codeOfStatement KnownStatement declaredIn
   statement-in-stated s l i =
       yields-if _ _ _ (λ _. declaration-stated i)
       λ _. yields-if _ _ _
-      (λ _. guarded-stated l (when (startAt ts i)) i (λ e s. simp length-append (omega arith)) λ e s p q. (placed i, p, q))
+      (λ _. guarded-stated l (when (startAt ts i)) i (λ e s. simp length-append (omega arith)) (λ e s. refl) λ e s p q. (placed i, p, q))
       λ _. yields-if _ _ _
-      (λ _. guarded-stated l (while (startAt ts i)) i (λ e s. simp length-append (omega arith)) λ e s p q. (placed i, p, q))
+      (λ _. guarded-stated l (while (startAt ts i)) i (λ e s. simp length-append (omega arith)) (λ e s. refl) λ e s p q. (placed i, p, q))
       λ _. yields-if _ _ _ (λ _. returning-stated s i)
       λ _. yields-if _ _ _
       (λ _. yields-opening _ _ l λ f b. yields-after _ (statements-stated (b .statements) (i + 1)) λ ss j p.
@@ -279,39 +285,91 @@ module _ (ts : List Token) where
       statement-in-stated (expression-spelled (suc left))
       (opened (record { expressions = expression-spelled left; statements = statement-stated left })) i
 
-  -- ---- the procedure
+  -- ---- procedures
   parameters-from-named : (rounds i : ℕ) → Yields (Named ts i) (parametersFrom rounds ts i)
   unfolding parametersFrom KnownNames
   parameters-from-named zero i = fails
   parameters-from-named (suc rounds) i =
-      yields-after {Q = λ x _. Occurs ts aName x} _ (yields-expect aName i _ (omega arith) λ e _. record { index = i; kind = e; text = refl }) λ x j o.
+      yields-after {Q = λ x j. Occurs ts aName x × (j ≡ i + 1)} _
+      (yields-expect aName i _ (omega arith) λ e _. (record { index = i; kind = e; text = refl }, refl)) λ x j o.
       yields-if _ _ _
-      (λ _. yields-after _ (parameters-from-named rounds (j + 1)) λ xs m p. yields (record { known = (o, p .known) }))
-      λ _. yields-expect _ j _ (omega arith) λ _ _. record { known = (o, tt) }
+      (λ _. yields-after _ (parameters-from-named rounds (j + 1)) λ xs m p.
+      let p' = p .spans in
+      yields (record { spans = omega (arith, o .1); known = (o .0, p .known) }))
+      λ _. yields-expect _ j _ (omega arith) λ _ h. record { spans = omega (arith, o .1); known = (o .0, tt) }
 
   parameters-named : (i : ℕ) → Yields (Named ts i) (parameters ts i)
   unfolding parameters KnownNames
   parameters-named i =
-      yields-if _ _ _ (λ _. yields (record { known = tt })) (λ _. parameters-from-named (suc (length ts - i)) i)
+      yields-if _ _ _ (λ e. yields (record { spans = omega (arith, is-there ts i _ (omega arith) e); known = tt })) (λ _. parameters-from-named (suc (length ts - i)) i)
 
-  -- of a procedure that was read
-  pub record Understood (m : Procedure) (j : ℕ) : Type 0 where
-    pub short : length (codeOfStatements (m .body) ts) ≤ length ts
-    pub parameters : KnownNames (m .parameters) ts
-    pub body : KnownStatements (m .body) ts
+  -- of a procedure that was read: its names are known, and each `var` has two tokens more than words, each parameter two tokens
+  pub record Understood (f : Procedure) : Type 0 where
+    pub name : Occurs ts aName (f .name)
+    pub parameters : KnownNames (f .parameters) ts
+    pub body : KnownStatements (f .body) ts
+    pub short : length (codeOfStatements (f .body) ts) + 2 * declarations (f .body) + 2 * length (f .parameters) ≤ length ts
 
-  anything : {A : Type 0} (x : Got A) → Yields (λ _ _. Unit {0}) x
-  anything (good a j) = yields tt
-  anything (wrong n p) = fails
+  -- from token i up to token j
+  record Stretch (i : ℕ) (f : Procedure) (j : ℕ) : Type 0 where
+    understood : Understood f
+    spans : Spans ts i (length (codeOfProcedure f ts) + 1) j
 
-  pub procedure-understood : Yields Understood (procedure ts)
-  unfolding procedure
-  procedure-understood =
-      yields-after _ (anything _) λ _ i₁ _.
-      yields-after _ (anything _) λ _ i₂ _.
-      yields-after _ (anything _) λ _ i₃ _.
+  procedure-understood : (i : ℕ) → Yields (Stretch i) (procedure ts i)
+  unfolding procedure codeOfProcedure
+  procedure-understood i =
+      yields-after {Q = λ _ j. j ≡ i + 1} _ (yields-expect _ i _ (omega arith) λ _ _. refl) λ _ i₁ e₁.
+      yields-after {Q = λ x j. Occurs ts aName x × (j ≡ i₁ + 1)} _
+      (yields-expect aName i₁ _ (omega arith) λ e _. (record { index = i₁; kind = e; text = refl }, refl)) λ x i₂ e₂.
+      yields-after {Q = λ _ j. j ≡ i₂ + 1} _ (yields-expect _ i₂ _ (omega arith) λ _ _. refl) λ _ i₃ e₃.
       yields-after _ (parameters-named i₃) λ xs i₄ p.
-      yields-after _ (anything _) λ _ i₅ _.
+      yields-after {Q = λ _ j. j ≡ i₄ + 1} _ (yields-expect _ i₄ _ (omega arith) λ _ _. refl) λ _ i₅ e₅.
       yields-after _ (statements-stated (statement-stated 64) i₅) λ ss i₆ q.
+      let p' = p .spans in
       let q' = q .spans in
-      yields-if _ _ _ (λ _. yields (record { short = omega arith; parameters = p .known; body = q .known })) (λ _. fails)
+      let l = length-map xs (slotOf ts) in
+      yields (record {
+        understood = record { name = e₂ .0; parameters = p .known; body = q .known; short = omega (arith, e₂ .1) };
+        spans = simp length-append (omega (arith, e₂ .1));
+      })
+
+  -- of each of some procedures
+  unfoldable pub UnderstoodAll : List Procedure → Type 0
+  UnderstoodAll [] = Unit {0}
+  UnderstoodAll (f ∷ fs) = Understood f × UnderstoodAll fs
+
+  record StretchAll (i : ℕ) (fs : List Procedure) (j : ℕ) : Type 0 where
+    understood : UnderstoodAll fs
+    spans : Spans ts i (length (codeOfProcedures fs ts) + 1) j
+
+  procedures-from-understood : (rounds i : ℕ) → Yields (StretchAll i) (proceduresFrom rounds ts i)
+  unfolding proceduresFrom UnderstoodAll codeOfProcedures
+  procedures-from-understood zero i = fails
+  procedures-from-understood (suc rounds) i =
+      yields-after _ (procedure-understood i) λ f j p.
+      let p' = p .spans in
+      yields-if _ _ _ (λ _. yields (record { understood = (p .understood, tt); spans = simp length-append (omega arith) }))
+      λ _. yields-after _ (procedures-from-understood rounds j) λ fs m q.
+      let q' = q .spans in
+      yields (record { understood = (p .understood, q .understood); spans = simp length-append (omega arith) })
+
+  pub procedures-known : (rounds i : ℕ) (fs : List Procedure) (j : ℕ) → proceduresFrom rounds ts i ≡ good fs j → UnderstoodAll fs
+  procedures-known rounds i fs j e = yielded (procedures-from-understood rounds i) e .understood
+
+  -- of a program that was read
+  pub record UnderstoodWhole (m : Program) : Type 0 where
+    pub each : UnderstoodAll (m .procedures)
+    pub short : length (codeOfProcedures (m .procedures) ts) < length ts
+    pub main : procedureNamed (bytes "main") (m .procedures) ≡ some (m .main)
+
+  with-main : (fs : List Procedure) (j : ℕ) → StretchAll 0 fs j → (o : Option Procedure) → procedureNamed (bytes "main") fs ≡ o
+      → Yields (λ m _. UnderstoodWhole m) (withMain ts fs j o)
+  unfolding withMain
+  with-main fs j p none e = fails
+  with-main fs j p (some m) e = let q = p .spans in yields (record { each = p .understood; short = omega arith; main = e })
+
+  pub procedures-understood : (m : Program) (j : ℕ) → procedures ts ≡ good m j → UnderstoodWhole m
+  unfolding procedures
+  procedures-understood m j e =
+      yielded (yields-after {P = λ m _. UnderstoodWhole m} _ (procedures-from-understood (suc (length ts)) 0) λ fs i p.
+      with-main fs i p (procedureNamed (bytes "main") fs) refl) e

@@ -1,16 +1,15 @@
 -- The ways through reading: what the lexer, the names and the grammar leave is what the meaning reads.
-use Prim.Native.Nat.{ℕ, zero, suc, _-_, _≤_, _<_}
+use Prim.Native.Nat.{ℕ, zero, suc, _+_, _-_, _≤_, _<_}
 use mathlib.Core.Path.{_≡_, refl, ap, sym, _∙_}
-use mathlib.Core.Bool.{Bool}
 use mathlib.Core.List.{List, [], _∷_, map}
 use native.Mathlib.Omega.{arith}
 use native.Mathlib.Nat.{not-suc-le-zero, le-of-suc-le-suc, sub-zero}
-use lib.ListN.{length, getD, take, replicate, length-map, length-replicate}
+use lib.ListN.{length, getD, take, drop, replicate, length-map, length-drop, length-replicate}
+use lib.Seq.{length-take-le, getD-take, getD-drop, ext-getD}
 use borrow.Author.Tests.{lt-ltb, le-ltb}
-use Rattle.meaning.specs.Basics.{bytes, if_then_else_, sameText, laidOver}
+use Rattle.meaning.specs.Basics.{if_then_else_, laidOver}
 use Rattle.meaning.specs.Token.{Token, Lexed, lexed, stray, tokensOf}
-use Rattle.meaning.specs.Tree.{Procedure}
-use Rattle.meaning.specs.Grammar.{Got, good, wrong, textAt, startAt, procedure, placeOf, readOf, parsed, reading}
+use Rattle.meaning.specs.Grammar.{startAt, procedures, placeOf, readOf, parsed, reading}
 use Rattle.tokens.specs.Words.{wordOf, placeIn, tokenIn}
 use Rattle.lexer.specs.declared.Tokens.{Tokens}
 use Rattle.lexer.specs.declared.Tokens.the-variants.{Found, Stray}
@@ -19,18 +18,19 @@ use Rattle.lexer.specs.Lexing as Lexing
 use Rattle.lexer.proofs.Decode.{held, words-decode, word-decodes}
 use Rattle.names.specs.Prepared.{preparedAll}
 use Rattle.names.specs.Index.{Room}
-use Rattle.code.specs.Code.{slotOf, codeOfStatements}
 use Rattle.statements.specs.declared.Parsed.{Parsed}
-use Rattle.statements.specs.declared.Parsed.the-variants.{Body, Misfit}
-use Rattle.statements.specs.Words.{seenWhole, writtenWhole}
+use Rattle.statements.specs.declared.Parsed.the-variants.{Whole, Twice, Misfit}
+use Rattle.statements.specs.Words.{nothing, tableIn, seenWhole, writtenWhole}
 use Rattle.statements.specs.Words as Bodies
+use Rattle.statements.specs.Room.{Halves}
 use Rattle.reader.specs.declared.Program.{Program}
 use Rattle.reader.specs.declared.Program.the-variants.{Formed, Malformed}
-use Rattle.reader.specs.Coded.{wordsOf, mapGot, headOf}
-use Rattle.reader.specs.Reading.{Lent, Worded, tokensAmong, tokensIn, refused, seen, coded, placeAmong}
+use Rattle.reader.specs.Coded.{wordsOf}
+use Rattle.reader.specs.Reading.{Lent, Worded, tokensAmong, tokensIn, Seen, refused, seen, coded, placeAmong}
 use Rattle.reader.specs.Sane.{Sane}
 use Rattle.reader.proofs.Fields.{prepared-words, place-at}
-use Rattle.reader.proofs.Statements.{procedure-law}
+use Rattle.reader.proofs.Statements.{procedures-law}
+use Rattle.reader.proofs.Gathered.{zero-at, toSeen, whole-law}
 use Rattle.reader.proofs.Lexing.{lexed-sane}
 
 -- an answer is what the meaning reads
@@ -98,6 +98,15 @@ few-worded program before slice code n l m h =
     let k = held program before slice n h (omega (arith, l .tokensLong)) in
     record { short = l .short; tokens = k .tokens; are = k .are; worded = k .words; few = omega (arith, k .count); codeLong = l .codeLong }
 
+-- the upper half of a cleared slice
+cleared : (n : ℕ) → 16384 ≤ n → tableIn (replicate n 0) ≡ replicate 8192 0
+cleared n h =
+    let xs : List ℕ = replicate n 0 in
+    let d : length (drop 8192 xs) ≡ n - 8192 = length-drop 8192 xs ∙ ap (λ m. m - 8192) (length-replicate {A = ℕ} n 0) in
+    let l : length (tableIn xs) ≡ 8192 = length-take-le 8192 (drop 8192 xs) (omega arith) in
+    ext-getD 0 (tableIn xs) (replicate 8192 0) (l ∙ sym (length-replicate {A = ℕ} 8192 0)) λ i m.
+    getD-take 8192 (drop 8192 xs) i 0 (omega arith) ∙ getD-drop 8192 xs i 0 ∙ zero-at n (8192 + i) ∙ sym (zero-at 8192 i)
+
 -- ---- the grammar
 module _ (program words code : List ℕ) (w : Worded program words code) where
   abbrev ts : List Token
@@ -109,13 +118,7 @@ module _ (program words code : List ℕ) (w : Worded program words code) where
   prepared : preparedAll program words ≡ wordsOf ts
   prepared = prepared-words program words ts (ap (map (tokenIn program)) (w .worded) ∙ words-decode program ts (w .short) (w .are))
 
-  -- the second token's text
-  pub second-text : tokenIn program (getD words 1 0) .text ≡ textAt ts 1
-  second-text =
-      ap (λ (xs : List ℕ). tokenIn program (getD xs 1 0) .text) (w .worded) ∙
-      ap (λ (t : Token). t .text) (word-decodes program ts (w .short) (w .are) 1)
-
-  read-so : reading program ≡ readOf program ts (procedure ts)
+  read-so : reading program ≡ readOf program ts (procedures ts)
   unfolding reading parsed if_then_else_
   read-so = rw (w .are, le-ltb 8192 (length ts) (w .few))
 
@@ -123,56 +126,14 @@ module _ (program words code : List ℕ) (w : Worded program words code) where
   unfolding placeAmong placeOf
   places i = rw (length-map, place-at ts sane i)
 
-  by-got : (g : Got Procedure) (slice : List ℕ) (n a b m : ℕ) → seenWhole (Body n a b m) slice ≡ writtenWhole (mapGot (headOf ts) g) →
-      seen (Formed n a b m) slice ≡ coded ts (readOf program ts g)
-  unfolding seenWhole writtenWhole mapGot headOf seen coded readOf
-  by-got (good p j) slice n a b m h =
-      let e₁ : n ≡ length (map (slotOf ts) (p .parameters)) = cc in
-      let e₂ : a ≡ getD (map (slotOf ts) (p .parameters)) 0 0 = cc in
-      let e₃ : b ≡ getD (map (slotOf ts) (p .parameters)) 1 0 = cc in
-      let e₄ : take m slice ≡ codeOfStatements (p .body) ts = cc in
-      rw (e₁, e₂, e₃, e₄, length-map)
-  by-got (wrong k p) slice n a b m h = absurd (let z : _≡_ {A = ℕ} 0 1 = cc in omega arith)
-
-  by-misfit : (g : Got Procedure) (slice : List ℕ) (k i : ℕ) → seenWhole (Misfit k i) slice ≡ writtenWhole (mapGot (headOf ts) g) →
-      refused k (placeOf program ts i) ≡ coded ts (readOf program ts g)
-  unfolding seenWhole writtenWhole mapGot coded readOf
-  by-misfit (good p j) slice k i h = absurd (let z : _≡_ {A = ℕ} 0 1 = cc in omega arith)
-  by-misfit (wrong m q) slice k i h =
-      let e₁ : k ≡ m = cc in
-      let e₂ : i ≡ q = cc in
-      rw (e₁, e₂)
-
   among : tokensIn program ≡ ts
   unfolding tokensAmong
   among = rw (w .are)
 
-  -- what the grammar is asked, and what it answers
-  pub record Asked (main : Bool) (prepared-words : List ℕ) : Type 0 where
-    pub spelled : main ≡ sameText (textAt ts 1) (bytes "main")
-    pub given : prepared-words ≡ preparedAll program words
-
-  answer-so : (main : Bool) (ws : List ℕ) → Asked main ws → Bodies.procedure main ws ≡ mapGot (headOf ts) (procedure ts)
-  answer-so main ws a = rw (a .spelled, a .given, prepared) (procedure-law ts sane)
-
-  pub formed-read : (main : Bool) (ws slice : List ℕ) (n a b m : ℕ) → Asked main ws →
-      seenWhole (Body n a b m) slice ≡ writtenWhole (Bodies.procedure main ws) → Reads program (Formed n a b m) slice
-  formed-read main ws slice n a b m q h = record {
-    is =
-        by-got (procedure ts) slice n a b m (h ∙ ap writtenWhole (answer-so main ws q))
-        ∙ ap (coded ts) (sym read-so) ∙ ap (λ (xs : List Token). coded xs (reading program)) (sym among);
-  }
-
-  pub misfit-read : (main : Bool) (ws slice : List ℕ) (k i : ℕ) → Asked main ws →
-      seenWhole (Misfit k i) slice ≡ writtenWhole (Bodies.procedure main ws) →
-      Reads program (Malformed k (placeAmong ws i (length program))) slice
-  unfolding seen
-  misfit-read main ws slice k i q h = record {
-    is =
-        ap (refused k) (ap (λ (xs : List ℕ). placeAmong xs i (length program)) (q .given ∙ prepared) ∙ places i)
-        ∙ by-misfit (procedure ts) slice k i (h ∙ ap writtenWhole (answer-so main ws q))
-        ∙ ap (coded ts) (sym read-so) ∙ ap (λ (xs : List Token). coded xs (reading program)) (sym among);
-  }
+  ways : toSeen ts program (w .few) (writtenWhole (length ts) nothing (Bodies.procedures (wordsOf ts))) ≡ coded (tokensIn program) (reading program)
+  ways =
+      ap (λ g. toSeen ts program (w .few) (writtenWhole (length ts) nothing g)) (procedures-law ts sane)
+      ∙ whole-law ts program (w .few) ∙ ap (coded ts) (sym read-so) ∙ ap (λ (xs : List Token). coded xs (reading program)) (sym among)
 
 -- ---- the ways through `parse`
 module _ (program words code : List ℕ) (w : Worded program words code) where
@@ -182,34 +143,38 @@ module _ (program words code : List ℕ) (w : Worded program words code) where
   pub names-room : Room words code
   names-room = record { few = words-few; room = w .codeLong }
 
-  module _ (main : Bool) (is : main ≡ sameText (tokenIn program (getD words 1 0) .text) (bytes "main"))
-      (ws blank : List ℕ) (given : ws ≡ preparedAll program words) (zeros : blank ≡ replicate (length code) 0) where
+  module _ (ws blank : List ℕ) (given : ws ≡ preparedAll program words) (zeros : blank ≡ replicate (length code) 0) where
     prepared-length : length ws ≡ length words
     unfolding preparedAll
     prepared-length = rw (given, length-map, length-map)
 
-    blank-length : length blank ≡ length code
-    blank-length = rw zeros (length-replicate (length code) 0)
+    pub halves : Halves ws blank
+    halves = record { few = omega (arith, prepared-length, words-few); room = rw (zeros, length-replicate) (w .codeLong) }
 
-    pub words-fit : (length ws ≤ length blank) × (length ws ≤ 65536)
-    words-fit = (
-      omega (arith, prepared-length, blank-length, words-few, w .codeLong),
-      omega (arith, prepared-length, words-few),
-    )
+    -- the table is cleared
+    pub clear : tableIn blank ≡ replicate 8192 0
+    clear = rw zeros (cleared (length code) (w .codeLong))
 
-    asked : Asked program words code w main ws
-    asked = record { spelled = is ∙ ap (λ (x : List ℕ). sameText x (bytes "main")) (second-text program words code w); given = given }
+    given-words : ws ≡ wordsOf (w .tokens)
+    given-words = given ∙ prepared program words code w
 
-    module _ (r : Parsed) (slice : List ℕ) (h : seenWhole r slice ≡ writtenWhole (Bodies.procedure main ws)) where
-      pub parse-formed : (n a b m : ℕ) → r ≡ Body n a b m → seen (Formed n a b m) slice ≡ coded (tokensIn program) (reading program)
-      parse-formed n a b m e =
-          formed-read program words code w main ws slice n a b m asked (ap (λ (x : Parsed). seenWhole x slice) (sym e) ∙ h) .is
+    module _ (r : Parsed) (slice : List ℕ) (h : seenWhole r slice ≡ writtenWhole (length ws) nothing (Bodies.procedures ws)) where
+      answer : (a : Seen) → toSeen (w .tokens) program (w .few) (seenWhole r slice) ≡ a → a ≡ coded (tokensIn program) (reading program)
+      answer a e =
+          let l : length ws ≡ length (w .tokens) = rw (given-words, length-map) in
+          sym e ∙ ap (toSeen (w .tokens) program (w .few)) (h ∙ rw (l, given-words)) ∙ ways program words code w
 
-      pub parse-misfit : (k i q : ℕ) → r ≡ Misfit k i → q ≡ placeAmong ws i (length program) →
-          seen (Malformed k q) slice ≡ coded (tokensIn program) (reading program)
-      parse-misfit k i q e p =
-          ap (λ (x : ℕ). seen (Malformed k x) slice) p
-          ∙ misfit-read program words code w main ws slice k i asked (ap (λ (x : Parsed). seenWhole x slice) (sym e) ∙ h) .is
+      pub parse-formed : (d n : ℕ) → r ≡ Whole d n → seen (Formed d n) slice ≡ coded (tokensIn program) (reading program)
+      unfolding toSeen seenWhole seen
+      parse-formed d n e = answer _ (rw e)
+
+      pub parse-twice : (p : ℕ) → r ≡ Twice p → seen (Malformed 60 p) slice ≡ coded (tokensIn program) (reading program)
+      unfolding toSeen seenWhole seen
+      parse-twice p e = answer _ (rw e)
+
+      pub parse-misfit : (k i q : ℕ) → r ≡ Misfit k i → q ≡ placeAmong ws i (length program) → seen (Malformed k q) slice ≡ coded (tokensIn program) (reading program)
+      unfolding toSeen seenWhole seen
+      parse-misfit k i q e p = answer _ (rw e (ap (refused k) (sym (p ∙ ap (λ (xs : List ℕ). placeAmong xs i (length program)) given-words ∙ places program words code w i))))
 
 -- ---- the ways through `read`
 module _ (program before code : List ℕ) (l : Lent program before code) (r : Tokens) (slice : List ℕ)

@@ -4,10 +4,10 @@ use mathlib.Core.List.{List, map}
 use Rattle.meaning.specs.Token.{Token}
 use Rattle.meaning.specs.Tree.{Expression, number, string, nothing, truth, name, table, entry, operation, call, paren, Procedure}
 use Rattle.meaning.specs.Grammar.{Got, good, wrong, Inside, noLevel, level, ReadExpression, expression}
-use Rattle.names.specs.Prepared.{prepared}
+use Rattle.names.specs.Prepared.{procedureNumber, prepared}
 use Rattle.code.specs.Code.{slotOf, codeOf, codeOfStatements}
 use Rattle.expressions.specs.Words.{Piece, piece}
-use Rattle.statements.specs.Words.{Head}
+use Rattle.statements.specs.Words.{Name, Head}
 
 -- the words of some tokens
 abbrev pub wordsOf : List Token → List ℕ
@@ -33,8 +33,16 @@ targetNumber (paren e) = 0
 unfoldable pub pieceOf : List Token → Expression → Piece
 pieceOf ts e = piece (codeOf e ts) (targetNumber e)
 
+unfoldable pub nameOf : List Token → List ℕ → Name
+nameOf ts x = record { number = procedureNumber x; slot = slotOf ts x }
+
 unfoldable pub headOf : List Token → Procedure → Head
-headOf ts m = record { slots = map (slotOf ts) (m .parameters); code = codeOfStatements (m .body) ts }
+headOf ts f = record {
+  place = f .place;
+  name = nameOf ts (f .name);
+  slots = map (slotOf ts) (f .parameters);
+  body = codeOfStatements (f .body) ts;
+}
 
 -- how the inside of a level is read, where so many are left
 unfoldable pub insideOf : ℕ → List Token → Inside ReadExpression

@@ -1,3 +1,4 @@
 pub mod Coded
 pub mod Sane
+pub mod Declarations
 pub mod Reading

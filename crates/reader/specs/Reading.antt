@@ -2,15 +2,18 @@
 use Prim.Native.Nat.{ℕ, _≤_}
 use mathlib.Core.Path.{_≡_}
 use mathlib.Core.List.{List, [], map}
-use lib.ListN.{length, getD, take}
+use mathlib.Core.Option.{Option, none, some}
+use lib.ListN.{length, getD, take, drop, replicate}
 use lib.Dec.{ltb}
-use Rattle.meaning.specs.Basics.{if_then_else_}
+use Rattle.meaning.specs.Basics.{bytes, if_then_else_}
 use Rattle.meaning.specs.Token.{Token, Lexed, lexed, stray, tokensOf}
+use Rattle.meaning.specs.Tree.{Procedure}
 use Rattle.meaning.specs.Grammar.{Reading, wellFormed, malformed}
+use Rattle.meaning.specs.Procedure.{doubled}
 use Rattle.tokens.specs.Words.{wordOf, placeIn}
+use Rattle.code.specs.Code.{codeOfProcedures, tabled, headNamed}
 use Rattle.reader.specs.declared.Program.{Program}
 use Rattle.reader.specs.declared.Program.the-variants.{Formed, Malformed}
-use Rattle.reader.specs.Coded.{headOf}
 
 -- ---- what is lent
 pub record Lent (program tokens code : List ℕ) : Type 0 where
@@ -35,18 +38,22 @@ tokensAmong (stray p) = []
 abbrev pub tokensIn : List ℕ → List Token
 tokensIn program = tokensAmong (tokensOf program)
 
--- how many parameters main has, the slots of the first two, and its body's code
+-- main's word in the table, the code of all procedures, and the table behind it
 pub data Seen : Type 0 where
-  formed : ℕ → ℕ → ℕ → List ℕ → Seen
+  formed : ℕ → List ℕ → List ℕ → Seen
   refused : ℕ → ℕ → Seen
 
 unfoldable pub seen : Program → List ℕ → Seen
-seen (Formed n a b m) slice = formed n a b (take m slice)
+seen (Formed d n) slice = formed d (take n slice) (take 8192 (drop 8192 slice))
 seen (Malformed n p) slice = refused n p
 
+-- the procedures of a program, or 60 where two have one name
+unfoldable pub codedApart : List Token → List Procedure → Option ℕ → Seen
+codedApart ts fs none = formed (headNamed 0 fs ts (bytes "main")) (codeOfProcedures fs ts) (tabled 0 fs ts (replicate 8192 0))
+codedApart ts fs (some p) = refused 60 p
+
 unfoldable pub coded : List Token → Reading → Seen
-coded ts (wellFormed m) =
-    formed (length (m .parameters)) (getD (headOf ts m .slots) 0 0) (getD (headOf ts m .slots) 1 0) (headOf ts m .code)
+coded ts (wellFormed m) = codedApart ts (m .procedures) (doubled [] (m .procedures))
 coded ts (malformed n p) = refused n p
 
 unfoldable pub placeAmong : List ℕ → ℕ → ℕ → ℕ

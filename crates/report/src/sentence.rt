@@ -7,6 +7,11 @@ pub fn write_sentence_at(out: &mut [u8], at: usize, number: u64, ended: bool) ->
 {
     match number {
         10 => write_malformed_at(out, at, ended),
+        60 => writing::write_bytes_at(
+            out,
+            at,
+            b"This procedure has the name of an earlier one or of the library.\n",
+        ),
         73 => writing::write_bytes_at(out, at, b"The program has more than 32,768 bytes.\n"),
         74 => writing::write_bytes_at(
             out,

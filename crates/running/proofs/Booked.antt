@@ -10,14 +10,14 @@ use lib.Dec.{leb, eqb}
 use borrow.Author.Tests.{le-leb, lt-leb}
 use Rattle.meaning.specs.Basics.{if_then_else_, laidOver}
 use Rattle.meaning.specs.State.{State}
-use Rattle.meaning.specs.Run.{Resource, steps, shapes, entries, textBytes, picture, Taking, taking, End, result, error, unfinished, Run, run, Action}
+use Rattle.meaning.specs.Run.{Resource, steps, shapes, entries, textBytes, calls, picture, Taking, Event, taken, gaveBack, taking, End, result, error, unfinished, Run, run, Action}
 use Rattle.meaning.specs.Run as Run
 use Rattle.meaning.specs.Figure.{Figure}
 use Rattle.meaning.specs.Picture.{pictureOf}
 use Rattle.meaning.specs.Program.{Outcome, drawn, drawing, empty, performing, specified}
-use Rattle.meaning.specs.Book.{Amounts, nothingYet, added, fits, Booked, allFit, lacking, book, pictured, number, shortageOf, lengthNeeded, resourceNumber, answerTo, settled, booked}
+use Rattle.meaning.specs.Book.{Amounts, nothingYet, added, lowered, fits, Booked, allFit, lacking, book, pictured, number, shortageOf, lengthNeeded, resourceNumber, answerTo, settled, booked}
 use Rattle.meaning.specs.Call.{granted, outAfterEnd}
-use Rattle.meaning.proofs.BookLaws.{part, taken, onFit, book-append}
+use Rattle.meaning.proofs.BookLaws.{part, spent, onFit, book-append}
 use Rattle.claims.proofs.Ends.{painting-lawful}
 use Rattle.machine.specs.Layout.{stepsUsed, stepsGranted}
 use Rattle.machine.specs.Act.{raw, done, stop}
@@ -36,10 +36,11 @@ lacks-not : {t : Taking} {total total′ : Amounts} {A : Type 0} → lacking t t
 lacks-not e = let q : _≡_ {A = ℕ} 0 1 = cc in absurd (omega arith)
 
 -- their book's total has none
-fit-picture : (g total total′ : Amounts) (us : List Taking) → book g total us ≡ allFit total′ → taken picture us ≡ 0 → total′ picture ≡ total picture
-unfolding book taken if_then_else_ added part pictureIn
+fit-picture : (g total total′ : Amounts) (us : List Event) → book g total us ≡ allFit total′ → spent picture us ≡ 0 → total′ picture ≡ total picture
+unfolding book spent if_then_else_ added part pictureIn lowered resourceNumber
 fit-picture g total total′ [] b z = ap pictureIn (sym b)
-fit-picture g total total′ (t ∷ us) b z = go (fits g total t) b (λ b. fit-picture g (added total t) total′ us b (omega arith))
+fit-picture g total total′ (gaveBack ∷ us) b z = fit-picture g (lowered total) total′ us b z ∙ omega arith
+fit-picture g total total′ (taken t ∷ us) b z = go (fits g total t) b (λ b. fit-picture g (added total t) total′ us b (omega arith))
   where
     go : (c : Bool) → (if c then (λ _. book g (added total t) us) else λ _. lacking t total) ≡ allFit total′
         → (book g (added total t) us ≡ allFit total′ → total′ picture ≡ added total t picture) → total′ picture ≡ total picture
@@ -56,12 +57,14 @@ no-length t z = go (t .of) (t .amount) z
     go shapes n z = refl
     go entries n z = refl
     go textBytes n z = refl
+    go calls n z = refl
     go picture n z = z
 
-lack-picture : (g total total′ : Amounts) (t : Taking) (us : List Taking) → book g total us ≡ lacking t total′ → taken picture us ≡ 0 → lengthNeeded t ≡ 0
-unfolding book taken if_then_else_
+lack-picture : (g total total′ : Amounts) (t : Taking) (us : List Event) → book g total us ≡ lacking t total′ → spent picture us ≡ 0 → lengthNeeded t ≡ 0
+unfolding book spent if_then_else_
 lack-picture g total total′ t [] b z = lacks-not (sym b)
-lack-picture g total total′ t (u ∷ us) b z = go (fits g total u) b (λ b. lack-picture g (added total u) total′ t us b (omega arith))
+lack-picture g total total′ t (gaveBack ∷ us) b z = lack-picture g (lowered total) total′ t us b z
+lack-picture g total total′ t (taken u ∷ us) b z = go (fits g total u) b (λ b. lack-picture g (added total u) total′ t us b (omega arith))
   where
     go : (c : Bool) → (if c then (λ _. book g (added total u) us) else λ _. lacking u total) ≡ lacking t total′
         → (book g (added total u) us ≡ lacking t total′ → lengthNeeded t ≡ 0) → lengthNeeded t ≡ 0
@@ -71,7 +74,7 @@ lack-picture g total total′ t (u ∷ us) b z = go (fits g total u) b (λ b. la
 -- ---- what is granted
 pub grants-are : (g out : List ℕ) → Grants g (granted (grantsOf g) out)
 unfolding granted
-grants-are g out = record { steps = refl; shapes = refl; entries = refl; text = refl }
+grants-are g out = record { steps = refl; shapes = refl; entries = refl; text = refl; calls = refl }
 
 module _ (program : List ℕ) (width height : ℤ) (g : List ℕ) (out : List ℕ) (ts ws : List ℕ) where
   abbrev amounts : Amounts
@@ -81,11 +84,11 @@ module _ (program : List ℕ) (width height : ℤ) (g : List ℕ) (out : List �
   painted = paintingRun program width height g
 
   -- no picture is taken before it is drawn
-  plain : taken picture (painted .takings) ≡ 0
+  plain : spent picture (painted .takings) ≡ 0
   plain = painting-lawful program width height .plain empty
 
   -- ---- a number
-  stopped-go : (n p : ℕ) (k : List Figure → Action Outcome) (us : List Taking) (e : End (List Figure)) → taken picture us ≡ 0
+  stopped-go : (n p : ℕ) (k : List Figure → Action Outcome) (us : List Event) (e : End (List Figure)) → spent picture us ≡ 0
       → Together amounts nothingYet (Painted program) (stop n p (raw ts ws)) us e
       → booked amounts (Run.goOn us e k) ≡ number n p (getD ws stepsUsed 0) 0
   unfolding booked settled answerTo onFit Run.goOn
@@ -95,7 +98,7 @@ module _ (program : List ℕ) (width height : ℤ) (g : List ℕ) (out : List �
   stopped-go n p k us unfinished z (lacks t total′ f x y w) = rw (f, lack-picture amounts nothingYet total′ t us f z, x, y, w)
   stopped-go n p k us (error m q) z (fails total′ f w) = rw (f, w)
 
-  untouched-go : (n p : ℕ) (k : List Figure → Action Outcome) (us : List Taking) (e : End (List Figure))
+  untouched-go : (n p : ℕ) (k : List Figure → Action Outcome) (us : List Event) (e : End (List Figure))
       → Together amounts nothingYet (Painted program) (stop n p (raw ts ws)) us e
       → outAfterEnd drawing (book amounts nothingYet (Run.goOn us e k .takings)) (Run.goOn us e k .end) out ≡ out
   unfolding outAfterEnd onFit Run.goOn
@@ -129,7 +132,7 @@ module _ (program : List ℕ) (width height : ℤ) (g : List ℕ) (out : List �
     pub none : total picture ≡ 0
     pub holds : Painted program tt figures (raw ts ws) state total
 
-  ended-go : (us : List Taking) (e : End (List Figure)) → taken picture us ≡ 0 → painted .takings ≡ us → painted .end ≡ e
+  ended-go : (us : List Event) (e : End (List Figure)) → spent picture us ≡ 0 → painted .takings ≡ us → painted .end ≡ e
       → Together amounts nothingYet (Painted program) (done tt (raw ts ws)) us e → Ended
   ended-go us (result a s) z q h (gives total f w) = record {
     figures = a;
@@ -151,22 +154,22 @@ module _ (program : List ℕ) (width height : ℤ) (g : List ℕ) (out : List �
 
     -- ---- drawn
     abbrev last : Taking
-    last = taking picture (length bytes) 0
+    last = record { of = picture; amount = length bytes; place = 0 }
 
     abbrev whole : Run Outcome
     whole = specified drawing program width height (suc (stepsGranted g))
 
-    drawn-run : whole ≡ run (painted .takings ++ (last ∷ [])) (result (drawn bytes) (painted-ended .state))
+    drawn-run : whole ≡ run (painted .takings ++ (taken last ∷ [])) (result (drawn bytes) (painted-ended .state))
     unfolding specified performing Run._>>=_ Run.goOn Run.give Run.spend
     drawn-run = let d = painted-ended in rw (d .end, d .holds .scene)
 
     drawn-book : (c : Bool) → leb (length bytes) (length out) ≡ c
-        → book amounts nothingYet (painted .takings ++ (last ∷ [])) ≡ (if c then (λ _. allFit (added (painted-ended .total) last)) else λ _. lacking last (painted-ended .total))
+        → book amounts nothingYet (painted .takings ++ (taken last ∷ [])) ≡ (if c then (λ _. allFit (added (painted-ended .total) last)) else λ _. lacking last (painted-ended .total))
     unfolding onFit book fits granted
     drawn-book c e =
         let d = painted-ended in
         let z : d .total picture + length bytes ≡ length bytes = omega (arith, d .none) in
-        book-append amounts nothingYet (painted .takings) (last ∷ []) ∙ rw (d .fit, z, e)
+        book-append amounts nothingYet (painted .takings) (taken last ∷ []) ∙ rw (d .fit, z, e)
 
     steps-kept : added (painted-ended .total) last steps ≡ getD ws stepsUsed 0
     unfolding added resourceNumber

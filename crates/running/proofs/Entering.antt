@@ -1,4 +1,4 @@
--- Main's parameters: both are declared and hold the width and the height.
+-- Main begins: both parameters are declared, it is the first call, and they hold the width and the height.
 use Prim.Native.Nat.{ℕ, _+_, _%_, _^_, _≤_, _<_}
 use native.Mathlib.Omega.{arith}
 use mathlib.Core.Path.{_≡_, refl, ap, sym, _∙_, subst}
@@ -16,42 +16,35 @@ use Rattle.meaning.specs.Basics.{if_then_else_, sameText}
 use Rattle.meaning.specs.Token.{Token, aName}
 use Rattle.meaning.specs.Value.{integer}
 use Rattle.meaning.specs.Value as Value
-use Rattle.meaning.specs.State.{Variable, valueIn, assigned, withVariables}
-use Rattle.meaning.specs.Run.{run, error, result}
+use Rattle.meaning.specs.State.{State, Variable, valueIn, assigned, withVariables}
+use Rattle.meaning.specs.Run.{run, error}
 use Rattle.meaning.specs.Run as Run
 use Rattle.meaning.specs.Book.{Amounts, nothingYet}
 use Rattle.meaning.specs.Program.{empty, entering}
+use Rattle.arithmetic.proofs.Ranges.{bits-below}
 use Rattle.code.specs.Code.{slotOf}
 use Rattle.reader.proofs.Homes.{Occurs, text-same}
 use Rattle.machine.specs.declared.Value.the-variants.{Integer}
-use Rattle.machine.specs.Words.{packed, unpacked}
+use Rattle.machine.specs.Words.{kindNothing, packed, unpacked}
 use Rattle.values.proofs.Laws.{InRange, unpacked-packed}
-use Rattle.machine.specs.Layout.{valuePlace, orderPlace, Lent}
+use Rattle.machine.specs.Layout.{declared, argumentsHeld, callsUsed, running, callsGranted, valuePlace, orderPlace, Lent}
 use Rattle.machine.specs.Act.{Raw, raw, done, stop}
 use Rattle.machine.specs.Act as Act
 use Rattle.machine.specs.Variables.{declare, setVariable}
 use Rattle.simulation.specs.Meant.{meantValue, meantWord}
 use Rattle.simulation.specs.Sound.{Valid}
-use Rattle.simulation.specs.Follows.{Related, Follows}
-use Rattle.simulation.proofs.Results.{given, failed, After, Units, onward, steps-told}
+use Rattle.simulation.specs.Scope.{scopeOf, isIn}
+use Rattle.simulation.specs.Follows.{Grants, Related, Follows}
+use Rattle.simulation.proofs.Results.{given, failed, After, steps-told}
+use Rattle.simulation.proofs.Binding.{bind}
 use Rattle.simulation.proofs.Variables.{undeclared, is-declared}
-use Rattle.simulation.proofs.Declaring.{put-after, new-after, room}
-use Rattle.simulation.proofs.Beginning.{begins}
-use Rattle.running.specs.Running.{entered}
+use Rattle.simulation.proofs.Declaring.{declare-free, declare-again, put-after, new-after, room}
+use Rattle.simulation.proofs.Beginning.{Called, begins, calls-main}
+use Rattle.running.specs.Running.{mainBegins}
 
--- ---- the acts, by what the words hold
+-- ---- a declaration, by what the words hold
 abbrev declaredIn : List ℕ → ℕ → List ℕ
-declaredIn ws slot = set (set (set ws (valuePlace slot) 4) (orderPlace (getD ws 5 0)) slot) 5 (getD ws 5 0 + 1)
-
-declare-free : (slot p : ℕ) (r : Raw) → getD (r .words) (valuePlace slot) 0 ≡ 0 → getD (r .words) 5 0 < 8192 → declare slot p r ≡ done tt (raw (r .texts) (declaredIn (r .words) slot))
-unfolding declare packed Act._>>=_ Act.goOn Act.load Act.store Act.refuse Act.give
-declare-free slot p r z l =
-    let q : getD (r .words) 5 0 % 8192 ≡ getD (r .words) 5 0 = omega arith in
-    rw (z, q)
-
-declare-again : (slot p : ℕ) (r : Raw) → getD (r .words) (valuePlace slot) 0 ≢ 0 → declare slot p r ≡ stop 60 p r
-unfolding declare Act._>>=_ Act.goOn Act.load Act.refuse Act.fail
-declare-again slot p r n = rw (ne-eqb _ 0 n)
+declaredIn ws slot = set (set (set ws (valuePlace slot) kindNothing) (orderPlace (getD ws declared 0)) slot) declared (getD ws declared 0 + 1)
 
 some-none : {u : Value.Value} {A : Type 0} → some u ≡ Option.none → A
 some-none e = let z : _≡_ {A = ℕ} 0 1 = cc in absurd (omega arith)
@@ -74,6 +67,10 @@ module _ (program : List ℕ) (z : ℤ) (small : mag z < 2 ^ 31) where
   unfolding packed
   number-there e = omega arith
 
+  number-narrow : packed (Integer z) < 2 ^ 48
+  unfolding packed
+  number-narrow = omega (arith, bits-below z)
+
 -- ---- two names
 abbrev variable : List ℕ → Value.Value → Variable
 variable x u = record { name = x; holds = u }
@@ -87,8 +84,16 @@ module _ (x y : List ℕ) (u v : Value.Value) where
   unfolding assigned if_then_else_
   second-assigned e = rw (e, text-same y)
 
+-- main has begun
+pub record Entered (program : List ℕ) (ts : List Token) (g : List ℕ) (r : Raw) (s : State) (total : Amounts) : Type 0 where
+  pub related : Related program ts g r s total
+  pub calls : getD (r .words) callsUsed 0 ≡ 1
+  pub procedure : getD (r .words) running 0 ≡ 0
+  pub stack : getD (r .words) argumentsHeld 0 ≡ 0
+
 module _ (program : List ℕ) (ts : List Token) (g : List ℕ) (few : length ts ≤ 8192) (texts words : List ℕ) (lent : Lent g texts words)
     (zeros : (i : ℕ) → getD words i 0 ≡ 0) (x y : List ℕ) (o : Occurs ts aName x) (p : Occurs ts aName y)
+    (own-x : isIn (slotOf ts x) (scopeOf program ts 0) ≡ true) (own-y : isIn (slotOf ts y) (scopeOf program ts 0) ≡ true)
     (width height : ℤ) (w-small : mag width < 2 ^ 31) (h-small : mag height < 2 ^ 31) where
   start : Related program ts g (raw texts words) empty nothingYet
   start = begins program ts g texts words lent zeros
@@ -101,7 +106,7 @@ module _ (program : List ℕ) (ts : List Token) (g : List ℕ) (few : length ts 
   unset = variable x Value.none ∷ []
 
   first : After program ts g (raw texts words) one (withVariables empty unset) nothingYet
-  first = new-after few start x o (zeros _)
+  first = new-after few start x o (zeros _) (rw (zeros running) own-x)
 
   declared-first : declare (slotOf ts x) 0 (raw texts words) ≡ done tt one
   declared-first = declare-free (slotOf ts x) 0 (raw texts words) (zeros _) (room few start x o (zeros _))
@@ -114,8 +119,8 @@ module _ (program : List ℕ) (ts : List Token) (g : List ℕ) (few : length ts 
         let q : valueIn unset y ≡ Option.none = undeclared few (first .related) y p z in
         some-none (rw same at q)
 
-    stops : entered (slotOf ts x) (slotOf ts y) width height 0 (raw texts words) ≡ stop 60 0 one
-    unfolding entered Act._>>=_ Act.goOn
+    stops : mainBegins g (slotOf ts x) (slotOf ts y) width height (raw texts words) ≡ stop 60 0 one
+    unfolding mainBegins Act._>>=_ Act.goOn
     stops = rw (declared-first, declare-again (slotOf ts y) 0 one taken)
 
     refused : entering (x ∷ y ∷ []) width height empty ≡ run [] (error 60 0)
@@ -140,65 +145,90 @@ module _ (program : List ℕ) (ts : List Token) (g : List ℕ) (few : length ts 
     both = variable x Value.none ∷ variable y Value.none ∷ []
 
     second : After program ts g one two (withVariables empty both) nothingYet
-    second = new-after few (first .related) y p free
+    second = new-after few (first .related) y p free (rw (first .untouched .running, zeros running) own-y)
 
     declared-second : declare (slotOf ts y) 0 one ≡ done tt two
     declared-second = declare-free (slotOf ts y) 0 one free (room few (first .related) y p free)
 
-    -- ---- both set
-    abbrev three : Raw
-    three = raw texts (set (two .words) (valuePlace (slotOf ts x)) (packed (Integer width)))
+    -- ---- the first call
+    no-call : getD (two .words) callsUsed 0 ≡ 0
+    no-call = second .untouched .calls ∙ first .untouched .calls ∙ zeros callsUsed
 
+    -- ---- both set
     abbrev half : List Variable
     half = variable x (integer width) ∷ variable y Value.none ∷ []
-
-    there-first : getD (two .words) (valuePlace (slotOf ts x)) 0 ≢ 0
-    unfolding valueIn if_then_else_
-    there-first z =
-        let q : valueIn both x ≡ Option.none = undeclared few (second .related) x o z in
-        some-none (rw (text-same x) at q)
-
-    third : After program ts g two three (withVariables empty half) nothingYet
-    third =
-        subst (λ (vs : List Variable). After program ts g two three (withVariables empty vs) nothingYet)
-        (ap (assigned both x) (number-meant program width w-small two) ∙ first-assigned x y (integer width) (integer height))
-        (put-after few (second .related) x o (packed (Integer width)) there-first (number-there program width w-small) (number-valid program width w-small (two .words)))
-
-    abbrev four : Raw
-    four = raw texts (set (three .words) (valuePlace (slotOf ts y)) (packed (Integer height)))
 
     abbrev full : List Variable
     full = variable x (integer width) ∷ variable y (integer height) ∷ []
 
-    there-second : getD (three .words) (valuePlace (slotOf ts y)) 0 ≢ 0
-    unfolding valueIn if_then_else_
-    there-second z =
-        let q : valueIn half y ≡ Option.none = undeclared few (third .related) y p z in
-        some-none (rw (apart, text-same y) at q)
+    module _ {r : Raw} {total : Amounts} (c : Called program ts g two r (withVariables empty both) total) where
+      there-first : getD (r .words) (valuePlace (slotOf ts x)) 0 ≢ 0
+      unfolding valueIn if_then_else_
+      there-first z =
+          let q : valueIn both x ≡ Option.none = undeclared few (c .related) x o z in
+          some-none (rw (text-same x) at q)
 
-    fourth : After program ts g three four (withVariables empty full) nothingYet
-    fourth =
-        subst (λ (vs : List Variable). After program ts g three four (withVariables empty vs) nothingYet)
-        (ap (assigned half y) (number-meant program height h-small three) ∙ second-assigned x y (integer width) (integer height) apart)
-        (put-after few (third .related) y p (packed (Integer height)) there-second (number-there program height h-small) (number-valid program height h-small (three .words)))
+      abbrev three : Raw
+      three = raw (r .texts) (set (r .words) (valuePlace (slotOf ts x)) (packed (Integer width)))
 
-    goes : entered (slotOf ts x) (slotOf ts y) width height 0 (raw texts words) ≡ done tt four
-    unfolding entered setVariable Act._>>=_ Act.goOn Act.store
-    goes = rw (declared-first, declared-second)
+      third : After program ts g r three (withVariables empty half) total
+      third =
+          subst (λ (vs : List Variable). After program ts g r three (withVariables empty vs) total)
+          (ap (assigned both x) (number-meant program width w-small r) ∙ first-assigned x y (integer width) (integer height))
+          (put-after few (c .related) x o (packed (Integer width)) there-first (number-there program width w-small) (number-valid program width w-small (r .words))
+          (number-narrow program width w-small))
 
-    becomes : entering (x ∷ y ∷ []) width height empty ≡ run [] (result tt (withVariables empty full))
-    unfolding entering Run._>>=_ Run.goOn Run.refuse Run.give Run.become
-    becomes = rw apart
+      there-second : getD (three .words) (valuePlace (slotOf ts y)) 0 ≢ 0
+      unfolding valueIn if_then_else_
+      there-second z =
+          let q : valueIn half y ≡ Option.none = undeclared few (third .related) y p z in
+          some-none (rw (apart, text-same y) at q)
 
-    all : After program ts g (raw texts words) four (withVariables empty full) nothingYet
-    all = onward first (onward second (onward third fourth))
+      abbrev four : Raw
+      four = raw (r .texts) (set (three .words) (valuePlace (slotOf ts y)) (packed (Integer height)))
+
+      fourth : After program ts g three four (withVariables empty full) total
+      fourth =
+          subst (λ (vs : List Variable). After program ts g three four (withVariables empty vs) total)
+          (ap (assigned half y) (number-meant program height h-small three) ∙ second-assigned x y (integer width) (integer height) apart)
+          (put-after few (third .related) y p (packed (Integer height)) there-second (number-there program height h-small) (number-valid program height h-small (three .words))
+          (number-narrow program height h-small))
+
+      all : Entered program ts g four (withVariables empty full) total
+      all = record {
+        related = fourth .related;
+        calls = fourth .untouched .calls ∙ third .untouched .calls ∙ c .calls;
+        procedure = fourth .untouched .running ∙ third .untouched .running ∙ c .others running (λ e. omega arith)
+            ∙ second .untouched .running ∙ first .untouched .running ∙ zeros running;
+        stack = fourth .held ∙ third .held ∙ c .others argumentsHeld (λ e. omega arith) ∙ second .held ∙ first .held ∙ zeros argumentsHeld;
+      }
+
+    -- both sides behind the declarations
+    declared-then : mainBegins g (slotOf ts x) (slotOf ts y) width height (raw texts words)
+        ≡ Act._>>_ (Act.spend callsUsed (callsGranted g) 1 81 0)
+        (Act._>>_ (setVariable (slotOf ts x) (packed (Integer width))) (setVariable (slotOf ts y) (packed (Integer height)))) two
+    unfolding mainBegins Act._>>=_ Act.goOn
+    declared-then = rw (declared-first, declared-second)
+
+    meant-then : entering (x ∷ y ∷ []) width height empty
+        ≡ Run._>>_ (Run.spend Run.calls 1 0) (Run.become (withVariables empty full)) (withVariables empty both)
+    unfolding entering Run._>>=_ Run.goOn Run.refuse Run.give Run.spend Run.become
+    meant-then = rw apart
+
+    goes : {granted : Amounts} → Grants g granted → Follows granted nothingYet (λ _ _ r s total. Entered program ts g r s total)
+        (mainBegins g (slotOf ts x) (slotOf ts y) width height (raw texts words)) (entering (x ∷ y ∷ []) width height empty)
+    unfolding setVariable Act._>>=_ Act.goOn Act.store Run._>>=_ Run.become
+    goes gr =
+        rw (declared-then, meant-then)
+        (bind (calls-main (second .related) no-call 0 gr) (λ _ _ r s total c. given (all (rw (c .1) at (c .0)))))
 
   -- THE LAW
-  pub enters : {granted : Amounts}
-      → Follows granted nothingYet (Units program ts g (raw texts words)) (entered (slotOf ts x) (slotOf ts y) width height 0 (raw texts words)) (entering (x ∷ y ∷ []) width height empty)
-  enters {granted} = by-name (sameText x y) refl
+  pub enters : {granted : Amounts} → Grants g granted
+      → Follows granted nothingYet (λ _ _ r s total. Entered program ts g r s total)
+      (mainBegins g (slotOf ts x) (slotOf ts y) width height (raw texts words)) (entering (x ∷ y ∷ []) width height empty)
+  enters {granted} gr = by-name (sameText x y) refl
     where
-      by-name : (b : Bool) → sameText x y ≡ b
-          → Follows granted nothingYet (Units program ts g (raw texts words)) (entered (slotOf ts x) (slotOf ts y) width height 0 (raw texts words)) (entering (x ∷ y ∷ []) width height empty)
+      by-name : (b : Bool) → sameText x y ≡ b → Follows granted nothingYet (λ _ _ r s total. Entered program ts g r s total)
+          (mainBegins g (slotOf ts x) (slotOf ts y) width height (raw texts words)) (entering (x ∷ y ∷ []) width height empty)
       by-name true e = rw (stops e, refused e) (failed 60 0 one (steps-told (first .related)))
-      by-name false e = rw (goes e, becomes e) (given (all e))
+      by-name false e = goes e gr

@@ -1,68 +1,120 @@
 -- The run of a program's body paints the picture that is meant.
-use Prim.Native.Nat.{ℕ, suc, _-_, _^_, _≤_, _<_}
+use Prim.Native.Nat.{ℕ, suc, _+_, _-_, _^_, _≤_, _<_}
 use native.Mathlib.Omega.{arith}
 use mathlib.Core.Path.{_≡_, refl, ap, sym, _∙_, subst}
-use mathlib.Core.Bool.{true, false, _&&_}
-use mathlib.Core.List.{List, [], _∷_, map}
-use lib.ListN.{getD, length, take}
+use mathlib.Core.Bool.{Bool, true, false, _&&_, _||_}
+use mathlib.Core.List.{List, [], _∷_}
+use mathlib.Core.Option.{Option, none, some}
+use lib.ListN.{getD, length, take, drop, replicate}
 use lib.IntN.{ℤ, pos}
 use lib.Signed.{mag, ltZ}
-use borrow.Author.Tests.{lt-ltb, le-ltb}
-use Rattle.meaning.specs.Token.{Token, aName}
-use Rattle.meaning.specs.Tree.{Procedure}
+use lib.Dec.{eqb}
+use borrow.Author.Tests.{eq-eqb, lt-ltb, le-ltb}
+use Rattle.meaning.specs.Basics.{bytes}
+use Rattle.meaning.specs.Token.{Token}
+use Rattle.meaning.specs.Tree as Tree
 use Rattle.meaning.specs.Grammar.{Reading, wellFormed, malformed, reading}
-use Rattle.meaning.specs.State.{scene}
+use Rattle.meaning.specs.Figure.{Figure}
+use Rattle.meaning.specs.State.{State, scene}
 use Rattle.meaning.specs.Run as Run
-use Rattle.meaning.specs.Book.{Amounts, nothingYet}
-use Rattle.meaning.specs.Program.{empty, sheet, sized, understood, entering, painting}
-use Rattle.code.specs.Code.{slotOf, codeOfStatements}
+use Rattle.meaning.specs.Book.{Amounts, nothingYet, resourceNumber, lowered, book}
+use Rattle.meaning.specs.Program.{empty, sheet, sized, namedApart, understood, entering, painting}
+use Rattle.meaning.specs.Procedure.{doubled}
+use Rattle.code.specs.Code.{slotOf, codeOfStatements, codeOfProcedures, tabled, headNamed}
 use Rattle.reader.specs.declared.Program.{Program}
 use Rattle.reader.specs.declared.Program.the-variants.{Formed, Malformed}
-use Rattle.reader.specs.Coded.{headOf}
-use Rattle.reader.specs.Reading.{formed, refused, seen, coded, tokensIn}
-use Rattle.reader.proofs.Homes.{Occurs}
+use Rattle.reader.specs.Reading.{formed, refused, seen, codedApart, coded, tokensIn}
 use Rattle.reader.proofs.Known.{KnownNames}
-use Rattle.reader.proofs.Yields.{yielded}
-use Rattle.reader.proofs.Trees.{procedure-understood}
-use Rattle.machine.specs.Layout.{stepsUsed, argumentsHeld, stepsGranted, Lent}
-use Rattle.machine.specs.Act.{raw}
+use Rattle.reader.proofs.Walk.{Stands, stands-first, stands-rest}
+use Rattle.machine.specs.Opcodes.{startIn, parametersIn}
+use Rattle.machine.specs.Layout.{stepsUsed, stepsGranted, Lent}
+use Rattle.machine.specs.Act.{Raw, raw}
 use Rattle.machine.specs.Act as Act
-use Rattle.machine.specs.Evaluate.{setting}
-use Rattle.simulation.specs.Follows.{Grants, Follows}
+use Rattle.machine.specs.Evaluate.{Setting, setting}
+use Rattle.simulation.specs.Scope.{scopeOf, isIn}
+use Rattle.simulation.specs.Follows.{Grants, gives, Follows}
 use Rattle.simulation.proofs.Binding.{bind}
 use Rattle.simulation.proofs.Results.{given, failed, steps-told}
-use Rattle.simulation.proofs.Body.{Read, was-read, body-follows, stands-taken}
+use Rattle.simulation.proofs.Body.{Read, was-read, main-stored, main-takes, main-there, main-owns, body-follows, stands-taken, stands-behind}
 use Rattle.running.specs.declared.Ending.{Ending}
 use Rattle.running.specs.declared.Ending.the-variants.{Stopped}
 use Rattle.running.specs.Specified.{paintRead}
-use Rattle.running.specs.Running.{bodyRun, shownEnding, Painted, Ran, paintingRun, readingRun}
+use Rattle.running.specs.Running.{mainFuel, bodyRun, shownEnding, Painted, Ran, paintingRun, readingRun}
 use Rattle.running.proofs.Scenes.{scene-shown, is-drawable}
 use Rattle.running.proofs.Entering.{enters}
 
--- ---- a body
-module _ (program code g : List ℕ) (short : length program ≤ 32768) (ts : List Token) (x y : List ℕ) (o : Occurs ts aName x) (p : Occurs ts aName y)
-    (m : Procedure) (parameters : m .parameters ≡ x ∷ y ∷ []) (read : Read program ts m) (k : ℕ) (stands : take k code ≡ codeOfStatements (m .body) ts)
+-- ---- main's return gives its call back
+lowered-steps : (total : Amounts) → lowered total Run.steps ≡ total Run.steps
+unfolding lowered resourceNumber
+lowered-steps total = omega arith
+
+given-back : {granted total : Amounts} {program : List ℕ} {figures : List Figure} {r : Raw} {s : State} → Painted program tt figures r s (lowered total)
+    → Follows granted total (Painted program) (Act.done tt r) (Run.run (Run.gaveBack ∷ []) (Run.result figures s))
+unfolding book
+given-back {total = total} h = record { is = gives (lowered total) refl h }
+
+-- ---- names
+own-first : (x : ℕ) (xs : List ℕ) → isIn x (x ∷ xs) ≡ true
+unfolding isIn
+own-first x xs = rw (eq-eqb x x refl)
+
+own-second : (x y : ℕ) → isIn y (x ∷ y ∷ []) ≡ true
+unfolding isIn
+own-second x y = go (eqb x y)
+  where
+    go : (b : Bool) → b || (eqb y y || false) ≡ true
+    go true = refl
+    go false = rw (eq-eqb y y refl)
+
+-- ---- main's body
+module _ (program code g : List ℕ) (short : length program ≤ 32768) (ts : List Token) (m : Tree.Program) (read : Read program ts m) (different : doubled [] (m .procedures) ≡ none)
+    (stands : Stands code 0 (codeOfProcedures (m .procedures) ts)) (table : Stands code 8192 (tabled 0 (m .procedures) ts (replicate 8192 0)))
     (texts words : List ℕ) (lent : Lent g texts words) (zeros : (i : ℕ) → getD words i 0 ≡ 0)
     (width height : ℤ) (w-small : mag width < 2 ^ 31) (h-small : mag height < 2 ^ 31) {granted : Amounts} (gr : Grants g granted) where
-  body-paints : Follows granted nothingYet (Painted program)
-      (bodyRun (setting program code g) (length (codeOfStatements (m .body) ts)) (slotOf ts x) (slotOf ts y) width height (raw texts words))
-      (paintRead (wellFormed m) width height (suc (stepsGranted g)) empty)
-  unfolding bodyRun paintRead understood Act._>>=_ Act.goOn Act.give Run._>>=_ Run.goOn Run.give Run.current
-  body-paints = rw parameters
-      (bind (enters program ts g (read .few) texts words lent zeros x y o p width height w-small h-small) (λ _ _ r s total a.
-      bind (body-follows (setting program code g) ts m short read (stands-taken k code (codeOfStatements (m .body) ts) stands) gr (suc (stepsGranted g)) (a .related)
-      (a .held ∙ zeros argumentsHeld) (omega (arith, a .related .stepsTaken))) (λ f f′ r′ s′ total′ b.
-      given (record {
-        scene = scene-shown (b .after .related);
-        drawable = is-drawable (b .after .related);
-        told = steps-told (b .after .related);
-      }))))
+  abbrev e : Setting
+  e = setting program code g
+
+  abbrev main : ℕ
+  main = headNamed 0 (m .procedures) ts (bytes "main")
+
+  module _ (x y : List ℕ) (parameters : m .main .parameters ≡ x ∷ y ∷ []) where
+    there : Stands code (startIn main) (slotOf ts x ∷ slotOf ts y ∷ codeOfStatements (m .main .body) ts)
+    there = rw parameters at (main-there e ts m short read different stands table)
+
+    first-slot : getD code (startIn main) 0 ≡ slotOf ts x
+    first-slot = stands-first there
+
+    second-slot : getD code (startIn main + 1) 0 ≡ slotOf ts y
+    second-slot = stands-first (stands-rest there)
+
+    both : KnownNames (x ∷ y ∷ []) ts
+    both = rw parameters at (main-stored e ts m short read different stands table .parameters)
+
+    owns : (slot : ℕ) → isIn slot (slotOf ts x ∷ slotOf ts y ∷ []) ≡ true → isIn slot (scopeOf program ts 0) ≡ true
+    owns = rw parameters at (main-owns e ts m short read different stands table)
+
+    two : startIn main + parametersIn main ≡ startIn main + 2
+    two = rw (main-takes e ts m short read different stands table, parameters)
+
+    body-paints : Follows granted nothingYet (Painted program) (bodyRun e main width height (raw texts words))
+        (paintRead (wellFormed m) width height (suc (stepsGranted g)) empty)
+    unfolding bodyRun paintRead understood namedApart KnownNames isIn Act._>>=_ Act.goOn Act.give Run._>>=_ Run.goOn Run.give Run.current Run.giveBack
+    body-paints = rw (different, parameters, first-slot, second-slot)
+        (bind (enters program ts g (read .few) texts words lent zeros x y (both .0) (both .1 .0) (owns (slotOf ts x) (own-first (slotOf ts x) (slotOf ts y ∷ []))) (owns (slotOf ts y) (own-second (slotOf ts x) (slotOf ts y)))
+        width height w-small h-small gr) (λ _ _ r s total a.
+        bind (rw two at (body-follows e ts m short read different stands table gr mainFuel (suc (stepsGranted g)) (omega arith) (a .related) (a .procedure) (a .calls) (a .stack)
+        (omega (arith, a .related .stepsTaken)))) (λ f f′ r′ s′ total′ b.
+        given-back (record {
+          scene = scene-shown (b .after .related);
+          drawable = is-drawable (b .after .related);
+          told = steps-told (b .after .related) ∙ sym (lowered-steps total′);
+        }))))
 
 -- ---- what reading left
-same-formed : {n a b n′ a′ b′ : ℕ} {c c′ : List ℕ} → formed n a b c ≡ formed n′ a′ b′ c′ → (n ≡ n′) × (a ≡ a′) × (b ≡ b′) × (c ≡ c′)
-same-formed e = (cc, cc, cc, cc)
+same-formed : {d d′ : ℕ} {c c′ t t′ : List ℕ} → formed d c t ≡ formed d′ c′ t′ → (d ≡ d′) × (c ≡ c′) × (t ≡ t′)
+same-formed e = (cc, cc, cc)
 
-formed-refused : {n a b k p : ℕ} {c : List ℕ} {A : Type 0} → formed n a b c ≡ refused k p → A
+formed-refused : {d k p : ℕ} {c t : List ℕ} {A : Type 0} → formed d c t ≡ refused k p → A
 formed-refused e = let z : _≡_ {A = ℕ} 0 1 = cc in absurd (omega arith)
 
 module _ (program code g texts words : List ℕ) (short : length program ≤ 32768) (width height : ℤ) (r : Program)
@@ -70,76 +122,88 @@ module _ (program code g texts words : List ℕ) (short : length program ≤ 327
   -- ---- a number
   module _ (steps : getD words stepsUsed 0 ≡ 0) where
     pub read-malformed : (k i : ℕ) → r ≡ Malformed k i → Ran program g (readingRun program width height g) (Stopped k i) texts words
-    unfolding seen coded paintRead shownEnding understood Run._>>=_ Run.goOn Run.fail
-    read-malformed k i e = go (reading program) (ap (λ (q : Program). seen q code) (sym e) ∙ left)
+    unfolding seen coded codedApart paintRead shownEnding understood namedApart Run._>>=_ Run.goOn Run.fail
+    read-malformed k i q = go (reading program) (ap (λ (a : Program). seen a code) (sym q) ∙ left)
       where
+        by-name : (m : Tree.Program) (n : Option ℕ) → doubled [] (m .procedures) ≡ n → refused k i ≡ codedApart (tokensIn program) (m .procedures) n
+            → Ran program g (paintRead (wellFormed m) width height (suc (stepsGranted g)) empty) (Stopped k i) texts words
+        by-name m none d h = formed-refused (sym h)
+        by-name m (some p) d h =
+            let x : k ≡ 60 = cc in
+            let y : i ≡ p = cc in
+            record { follows = λ granted gr. rw (x, y, d) (failed 60 p (raw texts words) steps) }
+
         go : (m : Reading) → seen (Malformed k i) code ≡ coded (tokensIn program) m
             → Ran program g (paintRead m width height (suc (stepsGranted g)) empty) (Stopped k i) texts words
-        go (wellFormed m) h = formed-refused (sym h)
+        go (wellFormed m) h = by-name m (doubled [] (m .procedures)) refl h
         go (malformed n p) h =
             let x : k ≡ n = cc in
             let y : i ≡ p = cc in
             record { follows = λ granted gr. rw (x, y) (failed n p (raw texts words) steps) }
 
-    pub read-parameters : (n a b m : ℕ) → r ≡ Formed n a b m → (n ≡ 2 → ⊥) → Ran program g (readingRun program width height g) (Stopped 20 0) texts words
-    unfolding seen coded paintRead shownEnding understood entering Run._>>=_ Run.goOn Run.fail Run.give
-    read-parameters n a b m e l = go (reading program) (ap (λ (q : Program). seen q code) (sym e) ∙ left)
+  -- ---- a program
+  module _ (d n : ℕ) (is-formed : r ≡ Formed d n) where
+    -- what was read, and where it stands
+    record Formed-so (m : Tree.Program) : Type 0 where
+      pub read : Read program (tokensIn program) m
+      pub different : doubled [] (m .procedures) ≡ none
+      pub main : d ≡ headNamed 0 (m .procedures) (tokensIn program) (bytes "main")
+      pub stands : Stands code 0 (codeOfProcedures (m .procedures) (tokensIn program))
+      pub table : Stands code 8192 (tabled 0 (m .procedures) (tokensIn program) (replicate 8192 0))
+
+    abbrev Shows : Ending → List ℕ → List ℕ → Type 0
+    Shows e ts ws = (m : Tree.Program) → Formed-so m → Ran program g (paintRead (wellFormed m) width height (suc (stepsGranted g)) empty) e ts ws
+
+    by-program : (e : Ending) (ts ws : List ℕ) → Shows e ts ws → Ran program g (readingRun program width height g) e ts ws
+    unfolding seen coded codedApart
+    by-program e ts ws f = go (reading program) refl (ap (λ (a : Program). seen a code) (sym is-formed) ∙ left)
       where
-        by-names : (xs : List (List ℕ)) (body : Procedure) → body .parameters ≡ xs → (length xs ≡ 2 → ⊥)
-            → Ran program g (paintRead (wellFormed body) width height (suc (stepsGranted g)) empty) (Stopped 20 0) texts words
-        by-names [] body q l = record { follows = λ granted gr. rw q (failed 20 0 (raw texts words) steps) }
-        by-names (x ∷ []) body q l = record { follows = λ granted gr. rw q (failed 20 0 (raw texts words) steps) }
-        by-names (x ∷ y ∷ []) body q l = absurd (l refl)
-        by-names (x ∷ y ∷ z ∷ xs) body q l = record { follows = λ granted gr. rw q (failed 20 0 (raw texts words) steps) }
+        by-name : (m : Tree.Program) → reading program ≡ wellFormed m → (k : Option ℕ) → doubled [] (m .procedures) ≡ k
+            → formed d (take n code) (take 8192 (drop 8192 code)) ≡ codedApart (tokensIn program) (m .procedures) k
+            → Ran program g (paintRead (wellFormed m) width height (suc (stepsGranted g)) empty) e ts ws
+        by-name m q none a h =
+            let c = same-formed h in
+            f m (record {
+              read = was-read program m q;
+              different = a;
+              main = c .0;
+              stands = stands-taken n code _ (c .1);
+              table = stands-behind 8192 8192 code _ (c .2);
+            })
+        by-name m q (some p) a h = formed-refused h
 
-        go : (p : Reading) → seen (Formed n a b m) code ≡ coded (tokensIn program) p
-            → Ran program g (paintRead p width height (suc (stepsGranted g)) empty) (Stopped 20 0) texts words
-        go (wellFormed p) h = by-names (p .parameters) p refl (λ q. l (same-formed h .0 ∙ q))
-        go (malformed k p) h = formed-refused h
-
-  -- ---- a body
-  module _ (a b m : ℕ) (is-formed : r ≡ Formed 2 a b m) where
-    went : seen (Formed 2 a b m) code ≡ coded (tokensIn program) (reading program)
-    went = ap (λ (q : Program). seen q code) (sym is-formed) ∙ left
-
-    pub body-small : length (take m code) < 2 ^ 32
-    unfolding seen coded headOf
-    body-small = go (reading program) refl went
-      where
-        go : (p : Reading) → reading program ≡ p → seen (Formed 2 a b m) code ≡ coded (tokensIn program) p → length (take m code) < 2 ^ 32
-        go (wellFormed p) e h =
-            let read = was-read program p e in
-            let u = yielded (procedure-understood (tokensIn program)) (read .tree) in
-            rw (same-formed h .3) (omega (arith, u .short, read .few))
-        go (malformed k p) e h = formed-refused h
-
-    pub read-body : (lent : Lent g texts words) (zeros : (i : ℕ) → getD words i 0 ≡ 0) → mag width < 2 ^ 31 → mag height < 2 ^ 31
-        → (n : ℕ) → n ≡ length (take m code) → (e : Ending) (ts ws : List ℕ) → shownEnding e ts ws ≡ bodyRun (setting program code g) n a b width height (raw texts words)
-        → Ran program g (readingRun program width height g) e ts ws
-    unfolding seen coded headOf KnownNames
-    read-body lent zeros w-small h-small n is-n e ts ws h = go (reading program) refl went
-      where
-        by-names : (xs : List (List ℕ)) (p : Procedure) → reading program ≡ wellFormed p → p .parameters ≡ xs
-            → formed 2 a b (take m code) ≡ coded (tokensIn program) (wellFormed p)
-            → Ran program g (paintRead (wellFormed p) width height (suc (stepsGranted g)) empty) e ts ws
-        by-names [] p q s f = absurd (omega (arith, same-formed f .0 ∙ ap (λ (l : List (List ℕ)). length l) s))
-        by-names (x ∷ []) p q s f = absurd (omega (arith, same-formed f .0 ∙ ap (λ (l : List (List ℕ)). length l) s))
-        by-names (x ∷ y ∷ []) p q s f =
-            let read = was-read program p q in
-            let u = yielded (procedure-understood (tokensIn program)) (read .tree) in
-            let known : KnownNames (x ∷ y ∷ []) (tokensIn program) = subst (λ (xs : List (List ℕ)). KnownNames xs (tokensIn program)) s (u .parameters) in
-            let c = same-formed (f ∙ ap (λ (xs : List (List ℕ)). formed (length xs) (getD (map (slotOf (tokensIn program)) xs) 0 0) (getD (map (slotOf (tokensIn program)) xs) 1 0)
-            (codeOfStatements (p .body) (tokensIn program))) s) in
-            record {
-              follows = λ granted gr. rw (h, is-n, c .1, c .2, c .3)
-                  (body-paints program code g short (tokensIn program) x y (known .0) (known .1 .0) p s read m (c .3) texts words lent zeros width height w-small h-small gr);
-            }
-        by-names (x ∷ y ∷ z ∷ xs) p q s f = absurd (omega (arith, same-formed f .0 ∙ ap (λ (l : List (List ℕ)). length l) s))
-
-        go : (p : Reading) → reading program ≡ p → seen (Formed 2 a b m) code ≡ coded (tokensIn program) p
+        go : (p : Reading) → reading program ≡ p → seen (Formed d n) code ≡ coded (tokensIn program) p
             → Ran program g (paintRead p width height (suc (stepsGranted g)) empty) e ts ws
-        go (wellFormed p) q s = by-names (p .parameters) p q refl s
-        go (malformed k p) q s = formed-refused s
+        go (wellFormed m) q h = by-name m q (doubled [] (m .procedures)) refl h
+        go (malformed k p) q h = formed-refused h
+
+    pub read-parameters : getD words stepsUsed 0 ≡ 0 → (parametersIn d ≡ 2 → ⊥) → Ran program g (readingRun program width height g) (Stopped 20 0) texts words
+    unfolding paintRead shownEnding understood namedApart entering Run._>>=_ Run.goOn Run.fail Run.give
+    read-parameters steps l = by-program (Stopped 20 0) texts words (λ m s. by-names m s (m .main .parameters) refl
+        (λ q. l (rw (s .main) (main-takes (setting program code g) (tokensIn program) m short (s .read) (s .different) (s .stands) (s .table) ∙ q))))
+      where
+        by-names : (m : Tree.Program) → Formed-so m → (xs : List (List ℕ)) → m .main .parameters ≡ xs → (length (m .main .parameters) ≡ 2 → ⊥)
+            → Ran program g (paintRead (wellFormed m) width height (suc (stepsGranted g)) empty) (Stopped 20 0) texts words
+        by-names m s [] q l = record { follows = λ granted gr. rw (s .different, q) (failed 20 0 (raw texts words) steps) }
+        by-names m s (x ∷ []) q l = record { follows = λ granted gr. rw (s .different, q) (failed 20 0 (raw texts words) steps) }
+        by-names m s (x ∷ y ∷ []) q l = absurd (l (rw q))
+        by-names m s (x ∷ y ∷ z ∷ xs) q l = record { follows = λ granted gr. rw (s .different, q) (failed 20 0 (raw texts words) steps) }
+
+    pub read-body : parametersIn d ≡ 2 → (lent : Lent g texts words) (zeros : (i : ℕ) → getD words i 0 ≡ 0) → mag width < 2 ^ 31 → mag height < 2 ^ 31
+        → (e : Ending) (ts ws : List ℕ) → shownEnding e ts ws ≡ bodyRun (setting program code g) d width height (raw texts words)
+        → Ran program g (readingRun program width height g) e ts ws
+    read-body two lent zeros w-small h-small e ts ws h = by-program e ts ws (λ m s. by-names m s (m .main .parameters) refl
+        (sym (main-takes (setting program code g) (tokensIn program) m short (s .read) (s .different) (s .stands) (s .table)) ∙ rw (← s .main) two))
+      where
+        by-names : (m : Tree.Program) → Formed-so m → (xs : List (List ℕ)) → m .main .parameters ≡ xs → length (m .main .parameters) ≡ 2
+            → Ran program g (paintRead (wellFormed m) width height (suc (stepsGranted g)) empty) e ts ws
+        by-names m s [] q l = absurd (omega (arith, sym (ap (λ (k : List (List ℕ)). length k) q) ∙ l))
+        by-names m s (x ∷ []) q l = absurd (omega (arith, sym (ap (λ (k : List (List ℕ)). length k) q) ∙ l))
+        by-names m s (x ∷ y ∷ []) q l = record {
+          follows = λ granted gr. rw (h, s .main)
+              (body-paints program code g short (tokensIn program) m (s .read) (s .different) (s .stands) (s .table) texts words lent zeros width height w-small h-small gr x y q);
+        }
+        by-names m s (x ∷ y ∷ z ∷ xs) q l = absurd (omega (arith, sym (ap (λ (k : List (List ℕ)). length k) q) ∙ l))
 
 -- ---- the questions before
 module _ (program g ts ws : List ℕ) (width height : ℤ) where

@@ -1,13 +1,12 @@
 -- One law for each way through each function.
-use Prim.Native.Nat.{ℕ, zero, suc, _^_, _≤_, _<_}
+use Prim.Native.Nat.{ℕ, zero, suc, _+_, _^_, _≤_, _<_}
 use native.Mathlib.Omega.{arith}
 use mathlib.Core.Path.{_≡_, refl, ap, sym, _∙_}
 use mathlib.Core.Bool.{Bool, true, false, not, _&&_}
 use mathlib.Core.List.{List}
-use lib.ListN.{getD, length, take, replicate, length-replicate}
+use lib.ListN.{getD, length, replicate, length-replicate}
 use lib.IntN.{ℤ, pos}
 use lib.Signed.{mag, ltZ}
-use lib.Seq.{length-take-le, take-all}
 use mir.Syntax.{w32}
 use mir.Val.{toZ, ofZ, SFits}
 use mir.Facts.{toZ-ofZ}
@@ -19,23 +18,24 @@ use Rattle.reader.specs.Reading.{seen, coded, tokensIn}
 use Rattle.machine.specs.declared.Value.{Value}
 use Rattle.machine.specs.declared.Value.the-variants.{Integer}
 use Rattle.machine.specs.Words.{packed}
-use Rattle.machine.specs.Layout.{stepsUsed}
-use Rattle.machine.specs.Act.{raw, goOn, _>>=_, give, passed, Passes, Gives}
+use Rattle.machine.specs.Opcodes.{startIn, parametersIn, bodyIn}
+use Rattle.machine.specs.Layout.{stepsUsed, callsUsed, callsGranted, Lent}
+use Rattle.machine.specs.Act.{raw, goOn, _>>=_, give, passed, Passes, Pays, Gives}
 use Rattle.machine.specs.Variables.{declare, setVariable}
 use Rattle.stores.proofs.Acts.{after-pass, after-refusal, after-gift}
 use Rattle.machine.specs.Evaluate.{setting}
 use Rattle.machine.specs.declared.Flow.{Flow}
 use Rattle.machine.specs.declared.Flow.the-variants as flows
-use Rattle.machine.specs.Execute.{bodyOf}
+use Rattle.machine.specs.Interpret.{bodyAt}
 use Rattle.machine.specs.Effects.{shownFlow}
-use Rattle.executor.specs.Asked.{Body}
-use Rattle.evaluator.proofs.Laws.{still-lent}
+use Rattle.interpreter.specs.Asked.{Body}
+use Rattle.interpreter.proofs.ExpressionLaws.{still-lent}
 use Rattle.effects.proofs.Acts.{flow-on, flow-returns, flow-stops}
 use Rattle.running.specs.declared.Ending.{Ending}
 use Rattle.running.specs.declared.Ending.the-variants.{Complete, Stopped}
 use Rattle.lending.specs.Lending.{Ready}
-use Rattle.running.specs.Running.{entered, bodyRun, shownEnding, Ran, paintingRun, readingRun, ReadyToRead}
-use Rattle.running.proofs.Painting.{read-malformed, read-parameters, body-small, read-body, no-sheet, too-long, as-read}
+use Rattle.running.specs.Running.{mainBegins, mainFuel, Begins, bodyRun, shownEnding, Ran, paintingRun, readingRun, ReadyToRead}
+use Rattle.running.proofs.Painting.{read-malformed, read-parameters, read-body, no-sheet, too-long, as-read}
 
 -- a signed number handed over, as its bits
 abbrev held : ℤ → ℤ
@@ -49,63 +49,65 @@ module _ {width height : ℤ} (f : SFits w32 width) (h : SFits w32 height) where
   pub no-sheet-if : ltZ (pos 0) (held width) ≡ false → ltZ (pos 0) (held width) ≡ (ltZ (pos 0) width && ltZ (pos 0) height)
   no-sheet-if e = e ∙ rw (rw (toZ-ofZ f) at e)
 
--- ---- `within`
-pub less-within : (n : ℕ) (s : List ℕ) → n < length s → n ≡ length (take n s)
-less-within n s l = sym (length-take-le n s (omega arith))
-
-pub all-within : (n : ℕ) (s : List ℕ) → length s ≤ n → length s ≡ length (take n s)
-all-within n s l = sym (ap (λ (t : List ℕ). length t) (take-all n s l))
-
 -- ---- `enter`
-module _ (a b : ℕ) (width height : ℤ) (ws ws₁ : List ℕ) (ok : Bool) (h : Passes ws 60 (declare a) ok ws₁) where
-  pub first-refused : not ok ≡ true → Passes ws 60 (entered a b width height) false ws₁
-  unfolding entered passed
-  first-refused t = record { equal = λ p ts. sym (after-refusal _ p ts (rw (not-true ok t) at h)) }
+module _ (g : List ℕ) (a b : ℕ) (width height : ℤ) (ws ws₁ : List ℕ) (ok : Bool) (h : Passes ws 60 (declare a) ok ws₁) where
+  pub first-refused : not ok ≡ true → Begins ws (mainBegins g a b width height) (Stopped 60 0) ws₁
+  unfolding mainBegins shownEnding
+  first-refused t = record { equal = λ ts. sym (after-refusal _ 0 ts (rw (not-true ok t) at h)) }
 
   module _ (t : not ok ≡ false) (ok₂ : Bool) (ws₂ : List ℕ) (h₂ : Passes ws₁ 60 (declare b) ok₂ ws₂) where
-    pub second-refused : not ok₂ ≡ true → Passes ws 60 (entered a b width height) false ws₂
-    unfolding entered passed
-    second-refused t₂ = record { equal = λ p ts. sym (after-pass _ p ts (rw (not-false ok t) at h) ∙ after-refusal _ p ts (rw (not-true ok₂ t₂) at h₂)) }
+    pub second-refused : not ok₂ ≡ true → Begins ws (mainBegins g a b width height) (Stopped 60 0) ws₂
+    unfolding mainBegins shownEnding
+    second-refused t₂ = record { equal = λ ts. sym (after-pass _ 0 ts (rw (not-false ok t) at h) ∙ after-refusal _ 0 ts (rw (not-true ok₂ t₂) at h₂)) }
 
-    pub both-entered : not ok₂ ≡ false → SFits w32 width → SFits w32 height → (w k : ℕ) (ws₃ ws₄ : List ℕ) → w ≡ packed (Integer (held width)) → Gives ws₂ (setVariable a w) tt ws₃
-        → k ≡ packed (Integer (held height)) → Gives ws₃ (setVariable b k) tt ws₄ → Passes ws 60 (entered a b width height) true ws₄
-    unfolding entered passed
-    both-entered t₂ f f₂ w k ws₃ ws₄ e s e₂ s₂ =
-        let d : w ≡ packed (Integer width) = e ∙ rw (toZ-ofZ f) in
-        let d₂ : k ≡ packed (Integer height) = e₂ ∙ rw (toZ-ofZ f₂) in
-        record {
-          equal = λ p ts. sym (after-pass _ p ts (rw (not-false ok t) at h) ∙ after-pass _ p ts (rw (not-false ok₂ t₂) at h₂) ∙ rw (← d, ← d₂) (after-gift _ ts s ∙ sym (s₂ .equal ts)));
-        }
+    module _ (t₂ : not ok₂ ≡ false) (limit : ℕ) (l : limit ≡ callsGranted g) (ok₃ : Bool) (ws₃ : List ℕ) (h₃ : Pays ws₂ callsUsed limit 1 ok₃ ws₃) where
+      declared-then : (ts : List ℕ) → mainBegins g a b width height (raw ts ws)
+          ≡ goOn (passed ok₃ 81 0 ts ws₃) (λ _. setVariable a (packed (Integer width)) >>= λ _. setVariable b (packed (Integer height)))
+      unfolding mainBegins _>>=_
+      declared-then ts = after-pass _ 0 ts (rw (not-false ok t) at h) ∙ after-pass _ 0 ts (rw (not-false ok₂ t₂) at h₂) ∙ rw (← l, ← h₃ .equal 81 0 ts)
+
+      pub call-refused : not ok₃ ≡ true → Begins ws (mainBegins g a b width height) (Stopped 81 0) ws₃
+      unfolding passed goOn shownEnding
+      call-refused t₃ = record { equal = λ ts. sym (declared-then ts ∙ rw (not-true ok₃ t₃)) }
+
+      pub both-entered : not ok₃ ≡ false → SFits w32 width → SFits w32 height → (w k : ℕ) (ws₄ ws₅ : List ℕ) → w ≡ packed (Integer (held width)) → Gives ws₃ (setVariable a w) tt ws₄
+          → k ≡ packed (Integer (held height)) → Gives ws₄ (setVariable b k) tt ws₅ → Begins ws (mainBegins g a b width height) Complete ws₅
+      unfolding passed goOn shownEnding
+      both-entered t₃ f f₂ w k ws₄ ws₅ e s e₂ s₂ =
+          let d : w ≡ packed (Integer width) = e ∙ rw (toZ-ofZ f) in
+          let d₂ : k ≡ packed (Integer height) = e₂ ∙ rw (toZ-ofZ f₂) in
+          record { equal = λ ts. sym (declared-then ts ∙ rw (not-false ok₃ t₃, ← d, ← d₂) (after-gift _ ts s ∙ sym (s₂ .equal ts))) }
 
 -- ---- `run_body`
-module _ (program code g : List ℕ) (n a b : ℕ) (width height : ℤ) (f : SFits w32 width) (f₂ : SFits w32 height) (ts ws ws₁ : List ℕ) (ok : Bool)
-    (passes : Passes ws 60 (entered a b (held width) (held height)) ok ws₁) where
-  h : Passes ws 60 (entered a b width height) ok ws₁
-  h = rw (toZ-ofZ f, toZ-ofZ f₂) at passes
+module _ (program code g : List ℕ) (main : ℕ) (width height : ℤ) (f : SFits w32 width) (f₂ : SFits w32 height) (a x y : ℕ) (ea : a ≡ startIn main) (ex : x ≡ getD code a 0) (ey : y ≡ getD code (a + 1) 0)
+    (ts ws ws₁ : List ℕ) (begun : Ending) (begins : Begins ws (mainBegins g x y (held width) (held height)) begun ws₁) where
+  begun-so : shownEnding begun ts ws₁ ≡ mainBegins g (getD code (startIn main) 0) (getD code (startIn main + 1) 0) width height (raw ts ws)
+  begun-so = begins .equal ts ∙ rw (toZ-ofZ f, toZ-ofZ f₂, ex, ey, ea)
 
-  pub not-entered : not ok ≡ true → shownEnding (Stopped 60 0) ts ws₁ ≡ bodyRun (setting program code g) n a b width height (raw ts ws)
-  unfolding bodyRun shownEnding
-  not-entered t = sym (after-refusal _ 0 ts (rw (not-true ok t) at h))
+  pub not-entered : (k p : ℕ) → begun ≡ Stopped k p → shownEnding (Stopped k p) ts ws₁ ≡ bodyRun (setting program code g) main width height (raw ts ws)
+  unfolding bodyRun shownEnding _>>=_ goOn
+  not-entered k p t = sym (rw (← begun-so, t))
 
-  pub body-entered : length ws₁ ≡ length ws → Body g ts ws n → Body g ts ws₁ n
-  body-entered j v = record { lent = still-lent g ts ws ts ws₁ (v .lent) refl j; small = v .small }
+  module _ (t : begun ≡ Complete) (size : ℕ) (es : size ≡ bodyIn main) (flow : Flow) (ts₂ ws₂ : List ℕ) (e : shownFlow flow ts₂ ws₂ ≡ bodyAt mainFuel (setting program code g) (a + 2) size (raw ts ws₁)) where
+    entered-then : bodyRun (setting program code g) main width height (raw ts ws) ≡ goOn (bodyAt mainFuel (setting program code g) (a + 2) size (raw ts ws₁)) (λ _. give tt)
+    unfolding bodyRun shownEnding _>>=_ goOn
+    entered-then = rw (← begun-so, t, ea, es)
 
-  module _ (t : not ok ≡ false) (flow : Flow) (ts₂ ws₂ : List ℕ) (e : shownFlow flow ts₂ ws₂ ≡ bodyOf (setting program code g) n (raw ts ws₁)) where
-    entered-then : bodyRun (setting program code g) n a b width height (raw ts ws) ≡ goOn (bodyOf (setting program code g) n (raw ts ws₁)) (λ _. give tt)
-    unfolding bodyRun _>>=_
-    entered-then = after-pass _ 0 ts (rw (not-false ok t) at h)
-
-    pub body-onward : flow ≡ flows.Onward → shownEnding Complete ts₂ ws₂ ≡ bodyRun (setting program code g) n a b width height (raw ts ws)
+    pub body-onward : flow ≡ flows.Onward → shownEnding Complete ts₂ ws₂ ≡ bodyRun (setting program code g) main width height (raw ts ws)
     unfolding shownEnding give
     body-onward q = sym (entered-then ∙ flow-on (λ _. give tt) e q)
 
-    pub body-returned : (v : Value) → flow ≡ flows.Returned v → shownEnding Complete ts₂ ws₂ ≡ bodyRun (setting program code g) n a b width height (raw ts ws)
+    pub body-returned : (v : Value) → flow ≡ flows.Returned v → shownEnding Complete ts₂ ws₂ ≡ bodyRun (setting program code g) main width height (raw ts ws)
     unfolding shownEnding give
     body-returned v q = sym (entered-then ∙ flow-returns (λ _. give tt) e q)
 
-    pub body-stopped : (k p : ℕ) → flow ≡ flows.Stopped k p → shownEnding (Stopped k p) ts₂ ws₂ ≡ bodyRun (setting program code g) n a b width height (raw ts ws)
+    pub body-stopped : (k p : ℕ) → flow ≡ flows.Stopped k p → shownEnding (Stopped k p) ts₂ ws₂ ≡ bodyRun (setting program code g) main width height (raw ts ws)
     unfolding shownEnding
     body-stopped k p q = sym (entered-then ∙ flow-stops (λ _. give tt) e q)
+
+-- what the interpreter asks
+pub body-starts : (g ts ws ws₁ : List ℕ) (a n : ℕ) → Lent g ts ws → length ws₁ ≡ length ws → a < 2 ^ 16 → n < 2 ^ 32 → Body g ts ws₁ mainFuel (a + 2) n
+body-starts g ts ws ws₁ a n l j i k = record { lent = record { lent = still-lent g ts ws ts ws₁ l refl j; deep = omega arith }; place = omega arith; small = k }
 
 -- ---- `run_read`
 module _ (program code g tokens unread ts ws : List ℕ) (ready : ReadyToRead program g tokens unread ts ws) (width height : ℤ) (r : Program)
@@ -113,26 +115,16 @@ module _ (program code g tokens unread ts ws : List ℕ) (ready : ReadyToRead pr
   pub way-malformed : (k i : ℕ) → r ≡ Malformed k i → Ran program g (readingRun program width height g) (Stopped k i) ts ws
   way-malformed k i e = read-malformed program code g ts ws (ready .short) width height r left (ready .zeros stepsUsed) k i e
 
-  module _ (n a b m : ℕ) (e : r ≡ Formed n a b m) where
-    pub way-parameters : (n ≡ 2 → ⊥) → Ran program g (readingRun program width height g) (Stopped 20 0) ts ws
-    way-parameters t = read-parameters program code g ts ws (ready .short) width height r left (ready .zeros stepsUsed) n a b m e t
+  module _ (main n : ℕ) (e : r ≡ Formed main n) (k : ℕ) (q : k ≡ parametersIn main) where
+    pub way-parameters : (k ≡ 2 → ⊥) → Ran program g (readingRun program width height g) (Stopped 20 0) ts ws
+    way-parameters t = read-parameters program code g ts ws (ready .short) width height r left main n e (ready .zeros stepsUsed) (λ p. t (q ∙ p))
 
-    module _ (t : n ≡ 2) (size : ℕ) (is-size : size ≡ length (take m code)) where
-      two : r ≡ Formed 2 a b m
-      two = e ∙ ap (λ (k : ℕ). Formed k a b m) t
-
-      pub way-starts : Body g ts ws size
-      way-starts = record {
-        lent = ready .ready .lent;
-        small = rw is-size (body-small program code g ts ws (ready .short) width height r left a b m two);
-      }
-
-      pub way-body : SFits w32 width → SFits w32 height → (x : Ending) (ts₁ ws₁ : List ℕ)
-          → shownEnding x ts₁ ws₁ ≡ bodyRun (setting program code g) size a b (held width) (held height) (raw ts ws)
-          → Ran program g (readingRun program width height g) x ts₁ ws₁
-      way-body f f₂ x ts₁ ws₁ h =
-          read-body program code g ts ws (ready .short) width height r left a b m two (ready .ready .lent) (ready .zeros) (f .sfits) (f₂ .sfits) size is-size x ts₁ ws₁
-          (rw (toZ-ofZ f, toZ-ofZ f₂) at h)
+    pub way-body : k ≡ 2 → SFits w32 width → SFits w32 height → (x : Ending) (ts₁ ws₁ : List ℕ)
+        → shownEnding x ts₁ ws₁ ≡ bodyRun (setting program code g) main (held width) (held height) (raw ts ws)
+        → Ran program g (readingRun program width height g) x ts₁ ws₁
+    way-body t f f₂ x ts₁ ws₁ h =
+        read-body program code g ts ws (ready .short) width height r left main n e (sym q ∙ t) (ready .ready .lent) (ready .zeros) (f .sfits) (f₂ .sfits) x ts₁ ws₁
+        (rw (toZ-ofZ f, toZ-ofZ f₂) at h)
 
 -- ---- `run`
 zero-at : (n i : ℕ) → _≡_ {A = ℕ} (getD (replicate n 0) i 0) 0

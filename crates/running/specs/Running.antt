@@ -1,5 +1,5 @@
 -- A run from the program to its picture: how it ends, and what the stores hold then.
-use Prim.Native.Nat.{ℕ, suc, _≤_}
+use Prim.Native.Nat.{ℕ, suc, _+_, _≤_}
 use mathlib.Core.Path.{_≡_}
 use mathlib.Core.List.{List}
 use lib.ListN.{length, getD}
@@ -12,11 +12,12 @@ use Rattle.meaning.specs.Book.{Amounts, nothingYet}
 use Rattle.meaning.specs.Program.{empty, painting}
 use Rattle.machine.specs.declared.Value.the-variants.{Integer}
 use Rattle.machine.specs.Words.{packed}
-use Rattle.machine.specs.Layout.{stepsUsed, stepsGranted}
-use Rattle.machine.specs.Act.{Raw, raw, Out, done, stop, Act, give, _>>_, _>>=_}
+use Rattle.machine.specs.Opcodes.{startIn, bodyIn}
+use Rattle.machine.specs.Layout.{stepsUsed, callsUsed, stepsGranted, callsGranted}
+use Rattle.machine.specs.Act.{Raw, raw, Out, done, stop, Act, give, spend, _>>_, _>>=_}
 use Rattle.machine.specs.Variables.{declare, setVariable}
 use Rattle.machine.specs.Evaluate.{Setting}
-use Rattle.machine.specs.Execute.{bodyOf}
+use Rattle.machine.specs.Interpret.{bodyAt}
 use Rattle.simulation.specs.Follows.{Grants, Follows}
 use Rattle.lending.specs.Lending.{Ready}
 use Rattle.scene.specs.Scene.{sceneIn, Drawable}
@@ -24,25 +25,34 @@ use Rattle.running.specs.Specified.{paintRead}
 use Rattle.running.specs.declared.Ending.{Ending}
 use Rattle.running.specs.declared.Ending.the-variants.{Complete, Stopped}
 
--- ---- main's parameters, by slot: both are declared, 60 if they have one name, and hold the width and the height
-unfoldable pub entered : ℕ → ℕ → ℤ → ℤ → ℕ → Act (Unit {0})
-entered a b width height p = do
-  declare a p
-  declare b p
+-- ---- main begins, by its parameters' slots: both are declared, 60 if they have one name, main is the first call, and they hold the width and the height
+unfoldable pub mainBegins : List ℕ → ℕ → ℕ → ℤ → ℤ → Act (Unit {0})
+mainBegins g a b width height = do
+  declare a 0
+  declare b 0
+  spend callsUsed (callsGranted g) 1 81 0
   setVariable a (packed (Integer width))
   setVariable b (packed (Integer height))
 
--- a body with main's parameters
-unfoldable pub bodyRun : Setting → ℕ → ℕ → ℕ → ℤ → ℤ → Act (Unit {0})
-bodyRun e n a b width height = do
-  entered a b width height 0
-  bodyOf e n
+-- how deep expressions, statements and calls may be inside one another: 64 calls of a program's whole code need less than half of it
+abbrev pub mainFuel : ℕ
+mainFuel = 2097152
+
+-- main's body, by main's word in the table, with its parameters
+unfoldable pub bodyRun : Setting → ℕ → ℤ → ℤ → Act (Unit {0})
+bodyRun e main width height = do
+  mainBegins (e .grants) (getD (e .code) (startIn main) 0) (getD (e .code) (startIn main + 1) 0) width height
+  bodyAt mainFuel e (startIn main + 2) (bodyIn main)
   give tt
 
 -- ---- endings
 unfoldable pub shownEnding : Ending → List ℕ → List ℕ → Out (Unit {0})
 shownEnding Complete ts ws = done tt (raw ts ws)
 shownEnding (Stopped n p) ts ws = stop n p (raw ts ws)
+
+-- code that is handed the words alone ends as an act does, whatever the text store holds
+pub record Begins (before : List ℕ) (act : Act (Unit {0})) (e : Ending) (after : List ℕ) : Type 0 where
+  pub equal : (ts : List ℕ) → shownEnding e ts after ≡ act (raw ts before)
 
 -- ---- what is promised
 -- the stores hold the shapes of these figures, and the steps counted

@@ -5,14 +5,16 @@ use lib.IntN.{ℤ}
 use Rattle.meaning.specs.Grammar.{Reading}
 use Rattle.meaning.specs.Figure.{Figure}
 use Rattle.meaning.specs.State.{scene}
-use Rattle.meaning.specs.Run.{Action, _>>=_, _>>_, give, current}
+use Rattle.meaning.specs.Run.{Action, _>>=_, _>>_, give, giveBack, current}
 use Rattle.meaning.specs.Execute.{executeAll}
+use Rattle.meaning.specs.Procedure.{calling}
 use Rattle.meaning.specs.Program.{understood, entering}
 
 unfoldable pub paintRead : Reading → ℤ → ℤ → ℕ → Action (List Figure)
 paintRead m width height n = do
-  main ← understood m
-  entering (main .parameters) width height
-  executeAll (main .body) n
+  tree ← understood m
+  entering (tree .main .parameters) width height
+  executeAll (calling n (tree .procedures)) (tree .main .body) n
   s ← current
+  giveBack
   give (scene s)

@@ -1,19 +1,23 @@
 // A run from the program to its picture.
 use machine::Flow;
 use machine::Value;
+use machine::counters;
+use machine::granted;
 use reader::Program;
 ghost use Prim.Native.Nat.{_≤_};
 ghost use mathlib.Core.Path.{_≡_};
 ghost use mathlib.Core.Bool.{_&&_};
 ghost use lib.IntN.{pos};
 ghost use lib.Signed.{ltZ};
-ghost use lib.ListN.{length, take};
-ghost use Rattle.machine.specs.Act.{raw, Passes};
-ghost use Rattle.machine.specs.Layout.{fixedWords};
+ghost use lib.ListN.{length};
+ghost use Rattle.machine.specs.Act.{raw};
+ghost use Rattle.machine.specs.Layout.{fixedWords, Lent};
 ghost use Rattle.machine.specs.Evaluate.{setting};
-ghost use Rattle.executor.specs.Asked.{Body};
 ghost use Rattle.lending.specs.Lending.{Ready};
-ghost use Rattle.running.specs.Running.{entered, bodyRun, shownEnding, Ran, paintingRun, readingRun, ReadyToRead};
+ghost use Rattle.running.specs.Running.{mainBegins, Begins, bodyRun, shownEnding, Ran, paintingRun, readingRun, ReadyToRead};
+
+// How deep expressions, statements and calls may be inside one another: 64 calls of a program's whole code need less than half of it.
+const FUEL: usize = 2097152;
 
 // How a run ends: main is done, or a number and its place.
 pub enum Ending {
@@ -28,54 +32,69 @@ fn is_sheet(width: i32, height: i32) -> bool
     0 < width && 0 < height
 }
 
-// Main's parameters, by slot, hold the width and the height; not if they have one name.
-fn enter(words: &mut [u64], a: usize, b: usize, width: i32, height: i32) -> bool
-    requires { ⌜ fixedWords ≤ length (now words) ⌝ }
-    ensures { λ r. ⌜ Passes (now (words .entry)) 60 (entered a b width height) r (now (words .exit)) ⌝ }
-{
-    if !stores::variables::declare(words, a) {
-        return false;
-    }
-    if !stores::variables::declare(words, b) {
-        return false;
-    }
-    stores::variables::set_variable(words, a, values::pack(Value::Integer(width)));
-    stores::variables::set_variable(words, b, values::pack(Value::Integer(height)));
-    true
-}
-
-// Main's body of n words, with its parameters' slots.
-fn run_body(
-    program: &[u8],
-    code: &[u64],
-    grants: &[u64; 4],
-    texts: &mut [u8],
+// Main begins, by its parameters' slots: they hold the width and the height; 60 if they have one name. Main is the first call.
+fn enter(
     words: &mut [u64],
-    n: usize,
+    grants: &[u64; 5],
     a: usize,
     b: usize,
     width: i32,
     height: i32,
 ) -> Ending
-    requires { ⌜ Body (now grants) (now texts) (now words) n ⌝ }
-    ensures { λ r. ⌜ shownEnding r (now (texts .exit)) (now (words .exit))
-        ≡ bodyRun (setting (now (program .entry)) (now (code .entry)) (now (grants .entry))) n a b width height (raw (now (texts .entry)) (now (words .entry))) ⌝ }
+    requires { ⌜ fixedWords ≤ length (now words) ⌝ }
+    ensures { λ r. ⌜ Begins (now (words .entry)) (mainBegins (now (grants .entry)) a b width height) r (now (words .exit)) ⌝ }
 {
-    if !enter(words, a, b, width, height) {
+    if !stores::variables::declare(words, a) {
         return Ending::Stopped(60, 0);
     }
-    match executor::body(program, code, grants, texts, words, n) {
+    if !stores::variables::declare(words, b) {
+        return Ending::Stopped(60, 0);
+    }
+    let limit = grants[granted::CALLS];
+    if !stores::counters::spend(words, counters::CALLS, limit, 1) {
+        return Ending::Stopped(81, 0);
+    }
+    stores::variables::set_variable(words, a, values::pack(Value::Integer(width)));
+    stores::variables::set_variable(words, b, values::pack(Value::Integer(height)));
+    Ending::Complete
+}
+
+// Main's body, by main's word in the table of procedures.
+fn run_body(
+    program: &[u8],
+    code: &[u64],
+    grants: &[u64; 5],
+    texts: &mut [u8],
+    words: &mut [u64],
+    main: u64,
+    width: i32,
+    height: i32,
+) -> Ending
+    requires { ⌜ Lent (now grants) (now texts) (now words) ⌝ }
+    ensures { λ r. ⌜ shownEnding r (now (texts .exit)) (now (words .exit))
+        ≡ bodyRun (setting (now (program .entry)) (now (code .entry)) (now (grants .entry))) main width height (raw (now (texts .entry)) (now (words .entry))) ⌝ }
+{
+    let a = code::start_of(main);
+    let x = stores::words::word_at(code, a) as usize;
+    let y = stores::words::word_at(code, a + 1) as usize;
+    match enter(words, grants, x, y, width, height) {
+        Ending::Complete => {}
+        Ending::Stopped(k, p) => return Ending::Stopped(k, p),
+    }
+    match interpreter::body(
+        program,
+        code,
+        grants,
+        texts,
+        words,
+        FUEL,
+        a + 2,
+        code::body_of(main),
+    ) {
         Flow::Onward => Ending::Complete,
         Flow::Returned(_) => Ending::Complete,
         Flow::Stopped(k, p) => Ending::Stopped(k, p),
     }
-}
-
-// At most as long as the slice.
-fn within(n: usize, slice: &[u64]) -> usize
-    ensures { λ r. ⌜ r ≡ length (take n (now (slice .entry))) ⌝ }
-{
-    if n < slice.len() { n } else { slice.len() }
 }
 
 // A program of at most 32,768 bytes on a sheet, where the words hold zeros.
@@ -83,7 +102,7 @@ fn run_read(
     program: &[u8],
     width: i32,
     height: i32,
-    grants: &[u64; 4],
+    grants: &[u64; 5],
     tokens: &mut [u64],
     code: &mut [u64],
     words: &mut [u64],
@@ -95,23 +114,11 @@ fn run_read(
 {
     match reader::read(program, tokens, code) {
         Program::Malformed(k, at) => Ending::Stopped(k, at as u64),
-        Program::Formed(parameters, a, b, n) => {
-            if parameters != 2 {
+        Program::Formed(main, _) => {
+            if code::parameters_of(main) != 2 {
                 return Ending::Stopped(20, 0);
             }
-            let size = within(n, code);
-            let r = run_body(
-                program,
-                code,
-                grants,
-                texts,
-                words,
-                size,
-                a as usize,
-                b as usize,
-                width,
-                height,
-            );
+            let r = run_body(program, code, grants, texts, words, main, width, height);
             r
         }
     }
@@ -122,7 +129,7 @@ pub fn run(
     program: &[u8],
     width: i32,
     height: i32,
-    grants: &[u64; 4],
+    grants: &[u64; 5],
     tokens: &mut [u64],
     code: &mut [u64],
     words: &mut [u64],

@@ -7,7 +7,7 @@ use lib.Dec.{eqb}
 use Rattle.meaning.specs.Basics.{if_then_else_}
 use Rattle.meaning.specs.Figure.{Figure}
 use Rattle.machine.specs.Words.{kindIn, numberIn}
-use Rattle.machine.specs.Layout.{declared, valuePlace, orderPlace}
+use Rattle.machine.specs.Layout.{declared, valuePlace, orderPlace, fixedWords}
 use Rattle.machine.specs.Act.{Raw}
 use Rattle.machine.specs.Texts.{textOf}
 use Rattle.machine.specs.Shapes.{destroyedAt, figureAt}
@@ -38,5 +38,5 @@ sceneIn program r = shownFirst program r (getD (r .words) declared 0)
 
 -- what both functions ask
 pub record Drawable (ws : List ℕ) : Type 0 where
-  pub long : 24584 ≤ length ws
+  pub long : fixedWords ≤ length ws
   pub few : getD ws declared 0 ≤ 8192

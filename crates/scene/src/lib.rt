@@ -6,6 +6,7 @@ ghost use lib.Dec.{eqb};
 ghost use lib.ListN.{length};
 ghost use Rattle.meaning.specs.Picture.{lineOf, linesOf, pictureOf};
 ghost use Rattle.machine.specs.Words.{kindIn, numberIn};
+ghost use Rattle.machine.specs.Layout.{fixedWords};
 ghost use Rattle.machine.specs.Act.{raw};
 ghost use Rattle.machine.specs.Shapes.{destroyedAt};
 ghost use Rattle.writing.specs.Placed.{Wrote, WroteAt};
@@ -23,7 +24,7 @@ fn shows(words: &[u64], w: u64) -> bool
 
 // The word of the k-th declaration's variable.
 fn declared_word(words: &[u64], k: usize) -> u64
-    requires { ⌜ 24584 ≤ length (now words) ⌝ }
+    requires { ⌜ fixedWords ≤ length (now words) ⌝ }
     ensures { λ r. ⌜ r ≡ wordOf (now (words .entry)) k ⌝ }
 {
     stores::variables::word_of(words, stores::variables::slot_at(words, k))

@@ -1,6 +1,7 @@
 -- The stack of arguments: pushing and dropping change nothing else.
 use Prim.Native.Nat.{ℕ, _+_, _≤_, _<_}
 use native.Mathlib.Omega.{arith}
+use native.Mathlib.Nat.{le-refl}
 use mathlib.Core.Path.{_≡_, refl, sym, _∙_}
 use mathlib.Core.Logic.{_≢_}
 use mathlib.Core.List.{List}
@@ -9,52 +10,56 @@ use borrow.Author.Tests.{lt-leb}
 use Rattle.meaning.specs.Token.{Token}
 use Rattle.meaning.specs.State.{State}
 use Rattle.meaning.specs.Book.{Amounts}
-use Rattle.machine.specs.Layout.{argumentPlace, stepsUsed, tablesMade, argumentsHeld, fixedWords}
+use Rattle.machine.specs.Layout.{stepsUsed, shapesUsed, entriesUsed, textUsed, tablesMade, argumentsHeld, callsUsed, stackWords, fixedWords, argumentPlace}
 use Rattle.machine.specs.Act.{Raw, raw, done}
 use Rattle.machine.specs.Act as Act
 use Rattle.machine.specs.Stack.{argumentAt, push}
-use Rattle.simulation.specs.Sound.{Counted}
+use Rattle.simulation.specs.Sound.{Counted, Waiting}
 use Rattle.simulation.specs.Follows.{Related, Later}
-use Rattle.simulation.proofs.Frames.{later-trans}
-use Rattle.simulation.proofs.Results.{After}
-use Rattle.simulation.proofs.Counting.{figure-same, other, here, set-related}
+use Rattle.simulation.proofs.Frames.{later-trans, untouched-trans, SameWaiting, same-waiting}
+use Rattle.simulation.proofs.Results.{Untouched, After}
+use Rattle.simulation.proofs.Counting.{figure-same, other, here, set-untouched, set-related}
 
 module _ {program : List ℕ} {ts : List Token} {g : List ℕ} where
   -- ---- one word of the stack, or its height
-  module _ {r : Raw} {s : State} {total : Amounts} (h : Related program ts g r s total) (i x : ℕ) (high : 6 ≤ i) (low : i < fixedWords)
-      (apart : (j : ℕ) → 7 ≤ j → j < 16392 → j ≢ i) (few : getD (set (r .words) i x) 6 0 ≤ 8192) where
+  module _ {r : Raw} {s : State} {total : Amounts} (h : Related program ts g r s total) (i x : ℕ) (high : argumentsHeld ≤ i) (low : i < fixedWords)
+      (apart : (j : ℕ) → callsUsed ≤ j → j < 16464 → j ≢ i) (few : getD (set (r .words) i x) argumentsHeld 0 ≤ stackWords) where
     abbrev next : Raw
     next = raw (r .texts) (set (r .words) i x)
 
-    counter : (j : ℕ) → j < 6 → getD (next .words) j 0 ≡ getD (r .words) j 0
+    counter : (j : ℕ) → j < argumentsHeld → getD (next .words) j 0 ≡ getD (r .words) j 0
     counter j l = other h i x j (λ e. omega arith)
+
+    calls-same : getD (next .words) callsUsed 0 ≡ getD (r .words) callsUsed 0
+    calls-same = other h i x callsUsed (apart callsUsed (omega arith) (omega arith))
 
     stack-later : Later program r next
     stack-later = record {
-      steps = omega (arith, counter 0 (omega arith));
-      shapes = omega (arith, counter 1 (omega arith));
-      text = omega (arith, counter 3 (omega arith));
-      tables = omega (arith, counter 4 (omega arith));
+      steps = omega (arith, counter stepsUsed (omega arith));
+      shapes = omega (arith, counter shapesUsed (omega arith));
+      text = omega (arith, counter textUsed (omega arith));
+      tables = omega (arith, counter tablesMade (omega arith));
       texts = λ t v. refl;
       figures = λ k l. figure-same (r .words) (next .words) k (λ j m. other h i x _ (λ e. omega arith));
     }
 
     stack-counted : Counted g (next .words)
     stack-counted = let c = h .sound .counted in record {
-      steps = rw (counter 0 (omega arith)) (c .steps);
-      shapes = rw (counter 1 (omega arith)) (c .shapes);
-      entries = rw (counter 2 (omega arith)) (c .entries);
-      text = rw (counter 3 (omega arith)) (c .text);
-      tables = rw (counter 4 (omega arith), counter 0 (omega arith)) (c .tables);
+      steps = rw (counter stepsUsed (omega arith)) (c .steps);
+      shapes = rw (counter shapesUsed (omega arith)) (c .shapes);
+      entries = rw (counter entriesUsed (omega arith)) (c .entries);
+      text = rw (counter textUsed (omega arith)) (c .text);
+      tables = rw (counter tablesMade (omega arith), counter stepsUsed (omega arith)) (c .tables);
       arguments = few;
+      calls = rw calls-same (c .calls);
     }
 
-    stack-related : Related program ts g next s total
-    stack-related =
-        set-related h i x stack-later (λ j a b. apart j (omega arith) b) low (λ e. omega arith) (λ e. omega arith) (λ e. omega arith) stack-counted
-        refl refl (h .tables ∙ sym (counter 4 (omega arith))) refl
-        (h .stepsTaken ∙ sym (counter 0 (omega arith))) (h .shapesTaken ∙ sym (counter 1 (omega arith)))
-        (h .entriesTaken ∙ sym (counter 2 (omega arith))) (h .textTaken ∙ sym (counter 3 (omega arith)))
+    stack-related : SameWaiting program ts r next → Related program ts g next s total
+    stack-related sw =
+        set-related h i x stack-later apart low (λ e. omega arith) (λ e. omega arith) (λ e. omega arith) stack-counted sw
+        refl refl refl (h .tables ∙ sym (counter tablesMade (omega arith))) refl
+        (h .stepsTaken ∙ sym (counter stepsUsed (omega arith))) (h .shapesTaken ∙ sym (counter shapesUsed (omega arith)))
+        (h .entriesTaken ∙ sym (counter entriesUsed (omega arith))) (h .textTaken ∙ sym (counter textUsed (omega arith))) (h .callsTaken ∙ sym calls-same)
 
 -- one more argument, which is word w
 module _ (program : List ℕ) (ts : List Token) (g : List ℕ) where
@@ -65,63 +70,91 @@ module _ (program : List ℕ) (ts : List Token) (g : List ℕ) where
     pub tables : getD (r′ .words) tablesMade 0 ≡ getD (r .words) tablesMade 0
     pub held : getD (r′ .words) argumentsHeld 0 ≡ getD (r .words) argumentsHeld 0 + 1
     pub newest : argumentAt (r′ .words) (getD (r .words) argumentsHeld 0) ≡ w
-    pub arguments : (k : ℕ) → k < getD (r .words) argumentsHeld 0 → argumentAt (r′ .words) k ≡ argumentAt (r .words) k
+    pub untouched : Untouched r r′
 
 module _ {program : List ℕ} {ts : List Token} {g : List ℕ} where
-  module _ {r : Raw} {s : State} {total : Amounts} (h : Related program ts g r s total) (room : getD (r .words) argumentsHeld 0 < 8192) (w : ℕ) where
+  module _ {r : Raw} {s : State} {total : Amounts} (h : Related program ts g r s total) (room : getD (r .words) argumentsHeld 0 < stackWords) (w : ℕ) where
     abbrev first : Raw
     first = raw (r .texts) (set (r .words) (argumentPlace (getD (r .words) argumentsHeld 0)) w)
 
-    h₁ : Related program ts g first s total
-    h₁ = stack-related h (argumentPlace (getD (r .words) argumentsHeld 0)) w (omega arith) (omega arith) (λ j a b e. omega arith)
-        (rw (other h (argumentPlace (getD (r .words) argumentsHeld 0)) w 6 (λ e. omega arith)) (h .sound .counted .arguments))
-
-    first-other : (j : ℕ) → j < 16392 → getD (first .words) j 0 ≡ getD (r .words) j 0
+    first-other : (j : ℕ) → j < 16464 → getD (first .words) j 0 ≡ getD (r .words) j 0
     first-other j l = other h (argumentPlace (getD (r .words) argumentsHeld 0)) w j (λ e. omega arith)
+
+    first-few : getD (first .words) argumentsHeld 0 ≤ stackWords
+    first-few = rw (first-other argumentsHeld (omega arith)) (h .sound .counted .arguments)
+
+    first-later : Later program r first
+    first-later = stack-later h (argumentPlace (getD (r .words) argumentsHeld 0)) w (omega arith) (omega arith) (λ j a b e. omega arith) first-few
+
+    first-untouched : Untouched r first
+    first-untouched = set-untouched h (argumentPlace (getD (r .words) argumentsHeld 0)) w (λ j a b e. omega arith) (λ k l e. omega arith)
+
+    h₁ : Related program ts g first s total
+    h₁ = stack-related h (argumentPlace (getD (r .words) argumentsHeld 0)) w (omega arith) (omega arith) (λ j a b e. omega arith) first-few
+        (same-waiting first-later first-untouched (rw (first-other argumentsHeld (omega arith)) (le-refl _)) (h .sound .waiting) ts)
 
     abbrev pub pushedOn : Raw
     pushedOn = raw (r .texts) (set (set (r .words) (argumentPlace (getD (r .words) argumentsHeld 0)) w) argumentsHeld (getD (r .words) argumentsHeld 0 + 1))
 
-    six : getD (pushedOn .words) argumentsHeld 0 ≡ getD (r .words) argumentsHeld 0 + 1
-    six = here h₁ 6 _ (omega arith)
+    height : getD (pushedOn .words) argumentsHeld 0 ≡ getD (r .words) argumentsHeld 0 + 1
+    height = here h₁ argumentsHeld _ (omega arith)
+
+    push-later : Later program first pushedOn
+    push-later = stack-later h₁ argumentsHeld _ (omega arith) (omega arith) (λ j a b e. omega arith) (omega (arith, height))
+
+    push-untouched : Untouched first pushedOn
+    push-untouched = set-untouched h₁ argumentsHeld _ (λ j a b e. omega arith) (λ k l e. omega arith)
 
     pub pushed : Pushed program ts g r w pushedOn s total
     pushed = record {
-      related = stack-related h₁ 6 _ (omega arith) (omega arith) (λ j a b e. omega arith) (omega (arith, six));
-      later = later-trans
-          (stack-later h (argumentPlace (getD (r .words) argumentsHeld 0)) w (omega arith) (omega arith) (λ j a b e. omega arith)
-          (rw (first-other 6 (omega arith)) (h .sound .counted .arguments)))
-          (stack-later h₁ 6 _ (omega arith) (omega arith) (λ j a b e. omega arith) (omega (arith, six)));
-      steps = other h₁ 6 _ 0 (λ e. omega arith) ∙ first-other 0 (omega arith);
-      tables = other h₁ 6 _ 4 (λ e. omega arith) ∙ first-other 4 (omega arith);
-      held = six;
-      newest = other h₁ 6 _ _ (λ e. omega arith) ∙ here h (argumentPlace (getD (r .words) argumentsHeld 0)) w (omega arith);
-      arguments = λ k l. other h₁ 6 _ _ (λ e. omega arith) ∙ other h (argumentPlace (getD (r .words) argumentsHeld 0)) w _ (λ e. omega arith);
+      related = stack-related h₁ argumentsHeld _ (omega arith) (omega arith) (λ j a b e. omega arith) (omega (arith, height))
+          (same-waiting push-later push-untouched (omega (arith, height, first-other argumentsHeld (omega arith))) (h₁ .sound .waiting) ts);
+      later = later-trans first-later push-later;
+      steps = other h₁ argumentsHeld _ stepsUsed (λ e. omega arith) ∙ first-other stepsUsed (omega arith);
+      tables = other h₁ argumentsHeld _ tablesMade (λ e. omega arith) ∙ first-other tablesMade (omega arith);
+      held = height;
+      newest = other h₁ argumentsHeld _ _ (λ e. omega arith) ∙ here h (argumentPlace (getD (r .words) argumentsHeld 0)) w (omega arith);
+      untouched = untouched-trans (rw (first-other argumentsHeld (omega arith)) (le-refl _)) first-untouched push-untouched;
     }
 
     pub pushes : (p : ℕ) → push w p r ≡ done tt pushedOn
     unfolding push Act._>>=_ Act.goOn Act.load Act.store Act.refuse Act.give
-    pushes p = rw (lt-leb 8192 (getD (r .words) argumentsHeld 0) room)
+    pushes p = rw (lt-leb stackWords (getD (r .words) argumentsHeld 0) room)
 
   -- back to as many as there were at r₀
   module _ {r₀ r : Raw} {s : State} {total : Amounts} (h : Related program ts g r s total) (l : Later program r₀ r)
       (spare : getD (r .words) tablesMade 0 + getD (r₀ .words) stepsUsed 0 ≤ getD (r₀ .words) tablesMade 0 + getD (r .words) stepsUsed 0)
-      (low : getD (r₀ .words) argumentsHeld 0 ≤ 8192)
-      (below : (k : ℕ) → k < getD (r₀ .words) argumentsHeld 0 → argumentAt (r .words) k ≡ argumentAt (r₀ .words) k) where
+      (low : getD (r₀ .words) argumentsHeld 0 ≤ getD (r .words) argumentsHeld 0) (u : Untouched r₀ r) (waits : Waiting program (r₀ .words)) where
     abbrev pub dropped : Raw
     dropped = raw (r .texts) (set (r .words) argumentsHeld (getD (r₀ .words) argumentsHeld 0))
 
     back : getD (dropped .words) argumentsHeld 0 ≡ getD (r₀ .words) argumentsHeld 0
-    back = here h 6 _ (omega arith)
+    back = here h argumentsHeld _ (omega arith)
+
+    few : getD (dropped .words) argumentsHeld 0 ≤ stackWords
+    few = omega (arith, back, low, h .sound .counted .arguments)
 
     pub drop-later : Later program r dropped
-    drop-later = stack-later h 6 _ (omega arith) (omega arith) (λ j a b e. omega arith) (omega (arith, back, low))
+    drop-later = stack-later h argumentsHeld _ (omega arith) (omega arith) (λ j a b e. omega arith) few
+
+    all-later : Later program r₀ dropped
+    all-later = later-trans l drop-later
+
+    drop-untouched : Untouched r₀ dropped
+    drop-untouched = untouched-trans low u (set-untouched h argumentsHeld _ (λ j a b e. omega arith) (λ k l e. omega arith))
+
+    level : getD (r₀ .words) argumentsHeld 0 ≤ getD (dropped .words) argumentsHeld 0
+    level = omega (arith, back)
 
     pub drops : After program ts g r₀ dropped s total
     drops = record {
-      related = stack-related h 6 _ (omega arith) (omega arith) (λ j a b e. omega arith) (omega (arith, back, low));
-      later = later-trans l (stack-later h 6 _ (omega arith) (omega arith) (λ j a b e. omega arith) (omega (arith, back, low)));
-      spare = rw (other h 6 (getD (r₀ .words) argumentsHeld 0) 4 (λ e. omega arith), other h 6 (getD (r₀ .words) argumentsHeld 0) 0 (λ e. omega arith)) spare;
+      related = stack-related h argumentsHeld _ (omega arith) (omega arith) (λ j a b e. omega arith) few
+          (record {
+            waiting = same-waiting all-later drop-untouched level waits ts .waiting;
+            suspended = same-waiting all-later drop-untouched level waits ts .suspended ∙ sym (same-waiting l u low waits ts .suspended);
+          });
+      later = all-later;
+      spare = rw (other h argumentsHeld (getD (r₀ .words) argumentsHeld 0) tablesMade (λ e. omega arith), other h argumentsHeld (getD (r₀ .words) argumentsHeld 0) stepsUsed (λ e. omega arith)) spare;
       held = back;
-      arguments = λ k b. other h 6 _ _ (λ e. omega arith) ∙ below k b;
+      untouched = drop-untouched;
     }

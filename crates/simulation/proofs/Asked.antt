@@ -17,6 +17,7 @@ use Rattle.machine.specs.Act.{Raw, Act}
 use Rattle.machine.specs.Act as Act
 use Rattle.machine.specs.Texts.{textOf}
 use Rattle.machine.specs.Operate.{withInteger, withText, withBoolean, withTable, withShape}
+use Rattle.machine.specs.Layout.{shapesUsed, textUsed, tablesMade}
 use Rattle.simulation.specs.Meant.{meantValue}
 use Rattle.simulation.specs.Sound.{Held, Valid}
 use Rattle.simulation.specs.Follows.{Related, Follows}
@@ -35,7 +36,8 @@ module _ {granted : Amounts} {A B : Type 0} {R : Relation A B} {program : List �
   with-integer (Table t) x k k′ f = failed 20 p r (steps-told h)
   with-integer (Shape i) x k k′ f = failed 20 p r (steps-told h)
 
-  pub with-text : (v : Value) → Valid program (r .words) v → (k : ℕ → Act A) (k′ : List ℕ → Action B) → ((t : ℕ) → Held program (getD (r .words) 3 0) t → Follows granted total R (k t r) (k′ (textOf program (r .texts) t) s))
+  pub with-text : (v : Value) → Valid program (r .words) v → (k : ℕ → Act A) (k′ : List ℕ → Action B)
+      → ((t : ℕ) → Held program (getD (r .words) textUsed 0) t → Follows granted total R (k t r) (k′ (textOf program (r .texts) t) s))
       → Follows granted total R (withText p v k r) (Operator.withString p (meantValue program (r .texts) v) k′ s)
   unfolding withText Operator.withString meantValue Valid Act.fail Run.fail
   with-text (Integer z) x k k′ f = failed 20 p r (steps-told h)
@@ -55,7 +57,7 @@ module _ {granted : Amounts} {A B : Type 0} {R : Relation A B} {program : List �
   with-boolean (Table t) x k k′ f = failed 20 p r (steps-told h)
   with-boolean (Shape i) x k k′ f = failed 20 p r (steps-told h)
 
-  pub with-table : (v : Value) → Valid program (r .words) v → (k : ℕ → Act A) (k′ : ℕ → Action B) → ((t : ℕ) → t < getD (r .words) 4 0 → Follows granted total R (k t r) (k′ t s))
+  pub with-table : (v : Value) → Valid program (r .words) v → (k : ℕ → Act A) (k′ : ℕ → Action B) → ((t : ℕ) → t < getD (r .words) tablesMade 0 → Follows granted total R (k t r) (k′ t s))
       → Follows granted total R (withTable p v k r) (Operator.withTable p (meantValue program (r .texts) v) k′ s)
   unfolding withTable Operator.withTable meantValue Valid Act.fail Run.fail
   with-table (Integer z) x k k′ f = failed 20 p r (steps-told h)
@@ -65,7 +67,7 @@ module _ {granted : Amounts} {A B : Type 0} {R : Relation A B} {program : List �
   with-table (Table t) x k k′ f = f t x
   with-table (Shape i) x k k′ f = failed 20 p r (steps-told h)
 
-  pub with-shape : (v : Value) → Valid program (r .words) v → (k : ℕ → Act A) (k′ : ℕ → Action B) → ((i : ℕ) → i < getD (r .words) 1 0 → Follows granted total R (k i r) (k′ i s))
+  pub with-shape : (v : Value) → Valid program (r .words) v → (k : ℕ → Act A) (k′ : ℕ → Action B) → ((i : ℕ) → i < getD (r .words) shapesUsed 0 → Follows granted total R (k i r) (k′ i s))
       → Follows granted total R (withShape p v k r) (Operator.withShapeNumber p (meantValue program (r .texts) v) k′ s)
   unfolding withShape Operator.withShapeNumber meantValue Valid Act.fail Run.fail
   with-shape (Integer z) x k k′ f = failed 20 p r (steps-told h)

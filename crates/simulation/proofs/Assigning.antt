@@ -1,5 +1,5 @@
 -- Assignments: a shape is copied, anything else is put as it is.
-use Prim.Native.Nat.{ℕ, _+_, _*_, _/_, _%_, _^_, _≤_}
+use Prim.Native.Nat.{ℕ, _+_, _*_, _/_, _%_, _^_, _≤_, _<_}
 use native.Mathlib.Omega.{arith}
 use mathlib.Core.Path.{_≡_, refl, sym, _∙_, subst}
 use mathlib.Core.Logic.{_≢_}
@@ -9,9 +9,11 @@ use mathlib.Core.Option.{Option, some}
 use mathlib.Core.Option as Option
 use lib.ListN.{getD, length, set}
 use lib.Dec.{eqb}
+use lib.IntN.{pos, negsuc}
 use borrow.Author.Tests.{eqb-true, eqb-false, ne-eqb}
 use Rattle.meaning.specs.Basics.{if_then_else_}
 use Rattle.meaning.specs.Token.{Token, aName}
+use Rattle.meaning.specs.Integer.{bits}
 use Rattle.meaning.specs.Value as Value
 use Rattle.meaning.specs.State.{State, figureOf, valueIn, isSome, assigned, withVariables}
 use Rattle.meaning.specs.Run as Run
@@ -28,13 +30,14 @@ use Rattle.machine.specs.Act as Act
 use Rattle.machine.specs.Shapes.{figureAt, newShape}
 use Rattle.machine.specs.Variables.{setVariable}
 use Rattle.machine.specs.Evaluate.{Setting}
+use Rattle.machine.specs.declared.Flow.the-variants.{Onward}
 use Rattle.machine.specs.Effects.{copied, assigning}
 use Rattle.simulation.specs.Meant.{meantValue, meantWord}
-use Rattle.simulation.specs.Sound.{Valid}
+use Rattle.simulation.specs.Sound.{Valid, Sound}
 use Rattle.simulation.specs.Follows.{Grants, Related, Follows}
 use Rattle.simulation.proofs.Binding.{bind}
-use Rattle.simulation.proofs.Results.{given, failed, After, AfterValue, unmoved, onward, steps-told}
-use Rattle.simulation.proofs.Usable.{figure-found}
+use Rattle.simulation.proofs.Results.{given, failed, at-exactly, After, AfterValue, unmoved, onward, steps-told}
+use Rattle.simulation.proofs.Usable.{figure-found, uses-at}
 use Rattle.simulation.proofs.Shapes.{AfterShape, makes-shape}
 use Rattle.simulation.proofs.Variables.{undeclared, is-declared}
 use Rattle.simulation.proofs.Keys.{kind-packed, back-again, shape-small}
@@ -88,6 +91,18 @@ module _ (e : Setting) {ts : List Token} {granted : Amounts} (gr : Grants (e .gr
         let k : (6 + 8 * i) % 8 ≡ kindShape = omega arith in
         shape-copied (packed (Shape i)) i k (rw (a, b))
 
+-- a value's word fits 48 bits
+pub packed-narrow : {program : List ℕ} {ts : List Token} {g : List ℕ} {r : Raw} (sound : Sound program ts g r) (v : Value) → Valid program (r .words) v → packed v < 2 ^ 48
+unfolding packed Valid bits
+packed-narrow sound (Integer (pos n)) l = omega arith
+packed-narrow sound (Integer (negsuc n)) l = omega arith
+packed-narrow sound (Text t) l = omega arith
+packed-narrow sound (Boolean true) l = omega arith
+packed-narrow sound (Boolean false) l = omega arith
+packed-narrow sound Nothing l = omega arith
+packed-narrow sound (Table t) l = omega (arith, sound .counted .tables, sound .counted .steps, sound .lent .room .steps)
+packed-narrow sound (Shape i) l = omega (arith, shape-small sound i l)
+
 -- no value is packed as 0
 packed-some : {program : List ℕ} {ts : List Token} {g : List ℕ} {r : Raw} {s : State} {total : Amounts} (h : Related program ts g r s total) (v : Value) → packed v ≢ 0
 packed-some h v q = let k = kind-packed (h .sound) v in omega (arith, rw q at k)
@@ -103,11 +118,22 @@ module _ (e : Setting) {ts : List Token} (few : length ts ≤ 8192) {granted : A
       let there : getD (r .words) (valuePlace (slotOf ts x)) 0 ≢ 0 = λ z. let n : some w ≡ Option.none = sym d ∙ undeclared few h x o z in let y : _≡_ {A = ℕ} 0 1 = cc in omega arith in
       let m : meantWord (e .program) r (packed v) ≡ u = rw back (sym (a .means)) in
       onward (a .after) (subst (λ (y : Value.Value). After (e .program) ts (e .grants) r (raw (r .texts) (set (r .words) (valuePlace (slotOf ts x)) (packed v))) (withVariables s (assigned (s .variables) x y)) total) m
-      (put-after few h x o (packed v) there (packed-some h v) (rw back (a .valid))))
+      (put-after few h x o (packed v) there (packed-some h v) (rw back (a .valid)) (packed-narrow (h .sound) v (a .valid))))
+
+  -- a copy put there
+  sets : (p : ℕ) {r : Raw} {s : State} {total : Amounts} (h : Related (e .program) ts (e .grants) r s total) (v : Value) → Valid (e .program) (r .words) v
+      → (w : Value.Value) → valueIn (s .variables) x ≡ some w
+      → Follows granted total (Flows (e .program) ts (e .grants) r) (Act._>>=_ (copied (e .grants) p (packed v)) (λ c. Act._>>_ (setVariable (slotOf ts x) c) (Act.give Onward)) r)
+      (Run._>>=_ (Execute.copied p (meantValue (e .program) (r .texts) v)) (λ u. Run._>>=_ Run.current (λ s′.
+      Run._>>_ (Run.become (withVariables s′ (assigned (s′ .variables) x u))) (Run.give Execute.onward))) s)
+  unfolding setVariable Act._>>=_ Act.goOn Act.store Act.give Run._>>=_ Run.goOn Run.current Run.become Run.give
+  sets p h v l w d =
+      rw (copied-then e gr h p _ v l)
+      (bind (copies e gr h p v l) (λ c u r′ s′ total′ a. given (record { after = puts w (a .value) (rw (a .variables) d); flow = both-onward })))
 
   pub assigns : (p : ℕ) {r : Raw} {s : State} {total : Amounts} (h : Related (e .program) ts (e .grants) r s total) (v : Value) → Valid (e .program) (r .words) v
       → Follows granted total (Flows (e .program) ts (e .grants) r) (assigning (e .grants) p (slotOf ts x) (packed v) r) (Execute.assigning p x (meantValue (e .program) (r .texts) v) s)
-  unfolding assigning Execute.assigning setVariable isSome Act._>>=_ Act.goOn Act.load Act.store Act.refuse Act.fail Act.give Run._>>=_ Run.goOn Run.current Run.refuse Run.fail Run.become Run.give
+  unfolding assigning Execute.assigning isSome Act._>>=_ Act.goOn Act.load Act.refuse Act.fail Act.give Run._>>=_ Run.goOn Run.current Run.refuse Run.fail Run.give
   assigns p {r} {s} {total} h v l = go (eqb (getD (r .words) (valuePlace (slotOf ts x)) 0) 0) refl
     where
       go : (b : Bool) → eqb (getD (r .words) (valuePlace (slotOf ts x)) 0) 0 ≡ b
@@ -115,6 +141,9 @@ module _ (e : Setting) {ts : List Token} (few : length ts ≤ 8192) {granted : A
       go true q = rw (q, undeclared few h x o (eqb-true _ _ q)) (failed 50 p r (steps-told h))
       go false q =
           let d = is-declared few h x o (eqb-false _ _ q) in
-          rw (q, d, copied-then e gr h p _ v l)
-          (bind (copies e gr h p v l) (λ w u r′ s′ total′ c.
-          given (record { after = puts (meantWord (e .program) r (getD (r .words) (valuePlace (slotOf ts x)) 0)) (c .value) (rw (c .variables) d); flow = both-onward })))
+          rw (q, d, back-again (h .sound) v l)
+          (bind (uses-at h v _ l refl p) (λ _ _ r₁ s₁ total₁ b.
+          at-exactly (Act._>>=_ (copied (e .grants) p (packed v)) (λ c. Act._>>_ (setVariable (slotOf ts x) c) (Act.give Onward)))
+          (Run._>>=_ (Execute.copied p (meantValue (e .program) (r .texts) v)) (λ u. Run._>>=_ Run.current (λ s′.
+          Run._>>_ (Run.become (withVariables s′ (assigned (s′ .variables) x u))) (Run.give Execute.onward)))) b
+          (sets p h v l _ d)))

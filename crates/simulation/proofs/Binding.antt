@@ -2,7 +2,7 @@
 use mathlib.Core.Path.{_≡_, _∙_, ap}
 use mathlib.Core.List.{List, [], _++_, append-nil}
 use Rattle.meaning.specs.State.{State}
-use Rattle.meaning.specs.Run.{Taking, End, result, error, unfinished, Run, Action}
+use Rattle.meaning.specs.Run.{Taking, Event, End, result, error, unfinished, Run, Action}
 use Rattle.meaning.specs.Run as Run
 use Rattle.meaning.specs.Book.{Amounts, allFit, lacking, book}
 use Rattle.meaning.proofs.BookLaws.{onFit, book-append}
@@ -16,21 +16,21 @@ Relation A B = A → B → Raw → State → Amounts → Type 0
 
 module _ (granted total : Amounts) where
   -- after takings that fit
-  after-fit : {B D : Type 0} {P : Relation B D} {total′ : Amounts} (us : List Taking) → book granted total us ≡ allFit total′
-      → {o : Out B} {vs : List Taking} {e : End D} → Together granted total′ P o vs e → Together granted total P o (us ++ vs) e
+  after-fit : {B D : Type 0} {P : Relation B D} {total′ : Amounts} (us : List Event) → book granted total us ≡ allFit total′
+      → {o : Out B} {vs : List Event} {e : End D} → Together granted total′ P o vs e → Together granted total P o (us ++ vs) e
   unfolding onFit
   after-fit us f {vs = vs} (gives total″ b h) = gives total″ (book-append granted total us vs ∙ rw f b) h
   after-fit us f {vs = vs} (lacks t total″ b n p h) = lacks t total″ (book-append granted total us vs ∙ rw f b) n p h
   after-fit us f {vs = vs} (fails total″ b h) = fails total″ (book-append granted total us vs ∙ rw f b) h
 
   -- after one that does not
-  after-lack : (us vs : List Taking) (t : Taking) (total′ : Amounts) → book granted total us ≡ lacking t total′
+  after-lack : (us vs : List Event) (t : Taking) (total′ : Amounts) → book granted total us ≡ lacking t total′
       → book granted total (us ++ vs) ≡ lacking t total′
   unfolding onFit
   after-lack us vs t total′ f = book-append granted total us vs ∙ rw f
 
   go : {A B C D : Type 0} {R : Relation A C} {P : Relation B D}
-      (o : Out A) (us : List Taking) (e : End C) (k : A → Act B) (k′ : C → Action D) → Together granted total R o us e
+      (o : Out A) (us : List Event) (e : End C) (k : A → Act B) (k′ : C → Action D) → Together granted total R o us e
       → ((a : A) (c : C) (r : Raw) (s : State) (total′ : Amounts) → R a c r s total′ → Follows granted total′ P (k a r) (k′ c s))
       → Follows granted total P (Act.goOn o k) (Run.goOn us e k′)
   unfolding Act.goOn Run.goOn
@@ -57,7 +57,7 @@ pub record Succeeds {A B : Type 0} (P : Relation A B) (o : Out A) (b : B) (s : S
 
 module _ {granted total : Amounts} where
   -- the run changes its result
-  give-together : {A B C : Type 0} {R : Relation A B} {P : Relation A C} (f : B → C) (o : Out A) (us : List Taking) (e : End B)
+  give-together : {A B C : Type 0} {R : Relation A B} {P : Relation A C} (f : B → C) (o : Out A) (us : List Event) (e : End B)
       → ((a : A) (b : B) (r : Raw) (s : State) (total′ : Amounts) → R a b r s total′ → P a (f b) r s total′)
       → Together granted total R o us e → Follows granted total P o (Run.goOn us e (λ b. Run.give (f b)))
   unfolding Run.goOn Run.give
@@ -72,7 +72,7 @@ module _ {granted total : Amounts} where
       → Follows granted total R o m → Follows granted total P o (Run.goOn (m .takings) (m .end) (λ b. Run.give (f b)))
   give-after f {o} {m} k h = give-together f o (m .takings) (m .end) k (h .is)
 
-  act-together : {A B C : Type 0} {R : Relation A B} {P : Relation C B} (k : A → Act C) (o : Out A) (us : List Taking) (e : End B)
+  act-together : {A B C : Type 0} {R : Relation A B} {P : Relation C B} (k : A → Act C) (o : Out A) (us : List Event) (e : End B)
       → ((a : A) (b : B) (r : Raw) (s : State) (total′ : Amounts) → R a b r s total′ → Succeeds P (k a r) b s total′)
       → Together granted total R o us e → Together granted total P (Act.goOn o k) us e
   unfolding Act.goOn

@@ -3,7 +3,6 @@ use Prim.Native.Nat.{ℕ, _+_, _*_, _%_, _^_}
 use native.Mathlib.Omega.{arith}
 use mathlib.Core.Path.{_≡_, refl, ap, _∙_}
 use mathlib.Core.Bool.{Bool, true, false}
-use lib.Dec.{eqb}
 use borrow.Author.Tests.{ne-eqb}
 use Rattle.meaning.specs.Basics.{if_then_else_}
 use Rattle.meaning.specs.Integer.{bits}
@@ -16,7 +15,7 @@ use Rattle.machine.specs.Operate.{withBoolean}
 use Rattle.machine.specs.Primaries.{pushWord}
 use Rattle.machine.specs.Evaluate.{Setting, Evaluator, argumentOf}
 use Rattle.machine.specs.Effects.{shownTest, outcomeIn, saying}
-use Rattle.machine.specs.Execute.{valueOf, testOf, turning}
+use Rattle.machine.specs.Execute.{testOf, turning}
 
 pub regroup : {A B C : Type 0} (o : Out A) (f : A → Act B) (g : B → Act C) → goOn (goOn o f) g ≡ goOn o (λ a r. goOn (f a r) g)
 unfolding goOn
@@ -60,12 +59,12 @@ asked p (Shape t) k =
     let n : (6 + 8 * t) % 8 ≡ kindTruth → ⊥ = λ e. absurd (omega arith) in
     λ i r. no-truth (packed (Shape t)) p k n r i
 
-pub tested-then : {A : Type 0} (e : Setting) (y p : ℕ) (k : Bool → Act A) → (testOf e y p >>= k) ≡ (valueOf e y p >>= λ v. withBoolean p v k)
+pub tested-then : {A : Type 0} (eval : Evaluator) (e : Setting) (y p : ℕ) (k : Bool → Act A) → (testOf eval e y p >>= k) ≡ (eval y p >>= λ v. withBoolean p v k)
 unfolding testOf
-tested-then e y p k =
-    regrouped (valueOf e y p) (λ v. saying (packed v) p) k ∙ ap (λ f. valueOf e y p >>= f) (λ i v. asked p v k i)
+tested-then eval e y p k =
+    regrouped (eval y p) (λ v. saying (packed v) p) k ∙ ap (λ f. eval y p >>= f) (λ i v. asked p v k i)
 
-pub turning-then : {A : Type 0} (e : Setting) (y p : ℕ) (k : Bool → Act A)
-    → (turning e y p >>= k) ≡ (count (e .grants) p >> (valueOf e y p >>= λ v. withBoolean p v k))
+pub turning-then : {A : Type 0} (eval : Evaluator) (e : Setting) (y p : ℕ) (k : Bool → Act A)
+    → (turning eval e y p >>= k) ≡ (count (e .grants) p >> (eval y p >>= λ v. withBoolean p v k))
 unfolding turning
-turning-then e y p k = regrouped (count (e .grants) p) (λ _. testOf e y p) k ∙ ap (λ f. count (e .grants) p >> f) (tested-then e y p k)
+turning-then eval e y p k = regrouped (count (e .grants) p) (λ _. testOf eval e y p) k ∙ ap (λ f. count (e .grants) p >> f) (tested-then eval e y p k)

@@ -1,6 +1,7 @@
 -- Steps, tables and the arguments held: acts that change nothing else.
-use Prim.Native.Nat.{ℕ, suc, _+_, _*_, _%_, _^_, _≤_, _<_}
+use Prim.Native.Nat.{ℕ, suc, _+_, _%_, _^_, _≤_, _<_}
 use native.Mathlib.Omega.{arith}
+use native.Mathlib.Nat.{le-refl}
 use mathlib.Core.Path.{_≡_, refl, ap, sym, _∙_}
 use mathlib.Core.Logic.{_≢_}
 use mathlib.Core.List.{List, []}
@@ -11,13 +12,13 @@ use Rattle.meaning.specs.Token.{Token}
 use Rattle.meaning.specs.Integer.{isNegative}
 use Rattle.meaning.specs.Value as Value
 use Rattle.meaning.specs.State.{State, withNewTable}
-use Rattle.meaning.specs.Run.{taking, run, result}
+use Rattle.meaning.specs.Run.{run, result}
 use Rattle.meaning.specs.Run as Run
 use Rattle.meaning.specs.Book.{Amounts, added, resourceNumber, shortageOf}
 use Rattle.meaning.specs.Evaluate as Evaluate
 use Rattle.machine.specs.declared.Value.{Value}
 use Rattle.machine.specs.declared.Value.the-variants.{Table}
-use Rattle.machine.specs.Layout.{Lent}
+use Rattle.machine.specs.Layout.{stepsUsed, shapesUsed, entriesUsed, textUsed, tablesMade, declared, argumentsHeld, callsUsed, stepsGranted, fixedWords, argumentPlace, shapePlace, Lent}
 use Rattle.machine.specs.Act.{Raw, raw}
 use Rattle.machine.specs.Act as Act
 use Rattle.machine.specs.Shapes.{figureAt}
@@ -25,22 +26,22 @@ use Rattle.simulation.specs.Meant.{meantValue}
 use Rattle.simulation.specs.Sound.{Valid, Counted}
 use Rattle.simulation.specs.Follows.{Grants, Related, Later, Follows}
 use Rattle.simulation.proofs.Binding.{bind}
-use Rattle.simulation.proofs.Frames.{later-trans, SameVariables, SameShapes, SameEntries}
-use Rattle.simulation.proofs.Results.{given, After, AfterValue, Values, onward, steps-told, refused, kept-related, spent}
+use Rattle.simulation.proofs.Frames.{later-trans, untouched-trans, untouched-words, SameVariables, same-words, SameWaiting, same-waiting, SameShapes, SameEntries}
+use Rattle.simulation.proofs.Results.{due, given, Untouched, After, AfterValue, Values, onward, steps-told, refused, kept-related, spent}
 
 -- ---- lengths
 pub lent-set : {g ts ws : List ℕ} (i x : ℕ) → Lent g ts ws → Lent g ts (set ws i x)
 lent-set {g} {ts} {ws} i x l = record {
-  room = record { steps = l .room .steps; shapes = l .room .shapes; entries = l .room .entries; text = l .room .text; words = rw (length-set ws i x) (l .room .words) };
+  room = record { steps = l .room .steps; shapes = l .room .shapes; entries = l .room .entries; text = l .room .text; calls = l .room .calls; words = rw (length-set ws i x) (l .room .words) };
   texts = l .texts;
 }
 
 -- a figure is the same if its three words are
-pub figure-same : (ws ws′ : List ℕ) (i : ℕ) → ((j : ℕ) → j < 3 → getD ws′ (24584 + 3 * i + j) 0 ≡ getD ws (24584 + 3 * i + j) 0) → figureAt ws′ i ≡ figureAt ws i
+pub figure-same : (ws ws′ : List ℕ) (i : ℕ) → ((j : ℕ) → j < 3 → getD ws′ (shapePlace i + j) 0 ≡ getD ws (shapePlace i + j) 0) → figureAt ws′ i ≡ figureAt ws i
 unfolding figureAt
 figure-same ws ws′ i h =
-    let z : 24584 + 3 * i + 0 ≡ 24584 + 3 * i = omega arith in
-    let a : getD ws′ (24584 + 3 * i) 0 ≡ getD ws (24584 + 3 * i) 0 = rw (← z) (h 0 (omega arith)) in
+    let z : shapePlace i + 0 ≡ shapePlace i = omega arith in
+    let a : getD ws′ (shapePlace i) 0 ≡ getD ws (shapePlace i) 0 = rw (← z) (h 0 (omega arith)) in
     rw (a, h 1 (omega arith), h 2 (omega arith))
 
 -- ---- one word set, which is no variable, shape or entry
@@ -51,17 +52,21 @@ module _ {program : List ℕ} {ts : List Token} {g : List ℕ} {r : Raw} {s : St
   pub other : (j : ℕ) → j ≢ i → getD words′ j 0 ≡ getD (r .words) j 0
   other j n = getD-set-other (r .words) i j x 0 n
 
-  pub here : i < 24584 → getD words′ i 0 ≡ x
+  pub here : i < fixedWords → getD words′ i 0 ≡ x
   here l = getD-set-same (r .words) i x 0 (omega (arith, h .sound .lent .room .words))
 
-  module _ (l : Later program r (raw (r .texts) words′)) where
-    pub same-variables : ((j : ℕ) → 8 ≤ j → j < 16392 → j ≢ i) → i ≢ 5 → SameVariables l
-    same-variables e n = record { count = other 5 (λ q. n (sym q)); words = λ j a b. other j (e j a b) }
+  pub set-untouched : ((j : ℕ) → callsUsed ≤ j → j < 16464 → j ≢ i) → ((k : ℕ) → k < getD (r .words) argumentsHeld 0 → argumentPlace k ≢ i)
+      → Untouched r (raw (r .texts) words′)
+  set-untouched e f = untouched-words (λ j a b. other j (e j a (omega arith))) (λ k l. other (argumentPlace k) (f k l))
 
-    pub same-shapes : i < 24584 → i ≢ 1 → SameShapes l
+  module _ (l : Later program r (raw (r .texts) words′)) where
+    pub same-variables : ((j : ℕ) → callsUsed ≤ j → j < 16464 → j ≢ i) → i ≢ declared → SameVariables l
+    same-variables e n = same-words l (other 5 (λ q. n (sym q))) (λ j a b. other j (e j (omega arith) b))
+
+    pub same-shapes : i < fixedWords → i ≢ shapesUsed → SameShapes l
     same-shapes e n = record { count = other 1 (λ q. n (sym q)); words = λ k j a b. other _ (λ q. omega arith) }
 
-    pub same-entries : i < 24584 → i ≢ 2 → SameEntries l (h .sound .shapes) g
+    pub same-entries : i < fixedWords → i ≢ entriesUsed → SameEntries l (h .sound .shapes) g
     same-entries e n = record {
       count = other 2 (λ q. n (sym q));
       firsts = λ k a. other _ (λ q. omega arith);
@@ -70,85 +75,93 @@ module _ {program : List ℕ} {ts : List Token} {g : List ℕ} {r : Raw} {s : St
       heads = λ b a. other _ (λ q. omega arith);
     }
 
-    pub set-related : {s′ : State} {total′ : Amounts} → ((j : ℕ) → 8 ≤ j → j < 16392 → j ≢ i) → i < 24584 → i ≢ 5 → i ≢ 1 → i ≢ 2
-        → Counted g words′
-        → s′ .variables ≡ s .variables → s′ .shapes ≡ s .shapes → s′ .tables ≡ getD words′ 4 0 → s′ .entries ≡ s .entries
-        → total′ Run.steps ≡ getD words′ 0 0 → total′ Run.shapes ≡ getD words′ 1 0 → total′ Run.entries ≡ getD words′ 2 0 → total′ Run.textBytes ≡ getD words′ 3 0
-        → Related program ts g (raw (r .texts) words′) s′ total′
-    set-related e b c d f co =
-        kept-related h l (lent-set i x (h .sound .lent)) co (same-variables e c) (same-shapes b d) (same-entries b f)
+    pub set-related : {s′ : State} {total′ : Amounts} → ((j : ℕ) → callsUsed ≤ j → j < 16464 → j ≢ i) → i < fixedWords → i ≢ declared → i ≢ shapesUsed → i ≢ entriesUsed
+        → Counted g words′ → SameWaiting program ts r (raw (r .texts) words′)
+        → s′ .variables ≡ s .variables → s′ .suspended ≡ s .suspended → s′ .shapes ≡ s .shapes → s′ .tables ≡ getD words′ tablesMade 0 → s′ .entries ≡ s .entries
+        → total′ Run.steps ≡ getD words′ stepsUsed 0 → total′ Run.shapes ≡ getD words′ shapesUsed 0 → total′ Run.entries ≡ getD words′ entriesUsed 0 → total′ Run.textBytes ≡ getD words′ textUsed 0
+        → total′ Run.calls ≡ getD words′ callsUsed 0 → Related program ts g (raw (r .texts) words′) s′ total′
+    set-related e b c d f co sw =
+        kept-related h l (lent-set i x (h .sound .lent)) co (same-variables e c) sw (same-shapes b d) (same-entries b f)
 
 -- ---- a step
 -- what follows a step: fewer tables were made than steps counted
 module _ (program : List ℕ) (ts : List Token) (g : List ℕ) where
   pub record AfterStep (r r′ : Raw) (s : State) (total : Amounts) : Type 0 where
     pub after : After program ts g r r′ s total
-    pub few : getD (r′ .words) 4 0 < getD (r′ .words) 0 0
-    pub spare : getD (r′ .words) 4 0 + getD (r .words) 0 0 < getD (r .words) 4 0 + getD (r′ .words) 0 0
+    pub few : getD (r′ .words) tablesMade 0 < getD (r′ .words) stepsUsed 0
+    pub spare : getD (r′ .words) tablesMade 0 + getD (r .words) stepsUsed 0 < getD (r .words) tablesMade 0 + getD (r′ .words) stepsUsed 0
 
 module _ {program : List ℕ} {ts : List Token} {g : List ℕ} where
-  module _ {r : Raw} {s : State} {total : Amounts} (h : Related program ts g r s total) (p : ℕ) (fit : getD (r .words) 0 0 + 1 ≤ getD g 0 0) where
+  module _ {r : Raw} {s : State} {total : Amounts} (h : Related program ts g r s total) (p : ℕ) (fit : getD (r .words) stepsUsed 0 + 1 ≤ stepsGranted g) where
     abbrev next : Raw
-    next = raw (r .texts) (set (r .words) 0 (getD (r .words) 0 0 + 1))
+    next = raw (r .texts) (set (r .words) stepsUsed (getD (r .words) stepsUsed 0 + 1))
 
-    n0 : getD (next .words) 0 0 ≡ getD (r .words) 0 0 + 1
-    n0 = here h 0 _ (omega arith)
+    next-steps : getD (next .words) stepsUsed 0 ≡ getD (r .words) stepsUsed 0 + 1
+    next-steps = here h stepsUsed _ (omega arith)
 
-    n1 : getD (next .words) 1 0 ≡ getD (r .words) 1 0
-    n1 = other h 0 _ 1 (λ e. omega arith)
+    next-shapes : getD (next .words) shapesUsed 0 ≡ getD (r .words) shapesUsed 0
+    next-shapes = other h stepsUsed _ shapesUsed (λ e. omega arith)
 
-    n2 : getD (next .words) 2 0 ≡ getD (r .words) 2 0
-    n2 = other h 0 _ 2 (λ e. omega arith)
+    next-entries : getD (next .words) entriesUsed 0 ≡ getD (r .words) entriesUsed 0
+    next-entries = other h stepsUsed _ entriesUsed (λ e. omega arith)
 
-    n3 : getD (next .words) 3 0 ≡ getD (r .words) 3 0
-    n3 = other h 0 _ 3 (λ e. omega arith)
+    next-text : getD (next .words) textUsed 0 ≡ getD (r .words) textUsed 0
+    next-text = other h stepsUsed _ textUsed (λ e. omega arith)
 
-    n4 : getD (next .words) 4 0 ≡ getD (r .words) 4 0
-    n4 = other h 0 _ 4 (λ e. omega arith)
+    next-tables : getD (next .words) tablesMade 0 ≡ getD (r .words) tablesMade 0
+    next-tables = other h stepsUsed _ tablesMade (λ e. omega arith)
 
-    n6 : getD (next .words) 6 0 ≡ getD (r .words) 6 0
-    n6 = other h 0 _ 6 (λ e. omega arith)
+    next-arguments : getD (next .words) argumentsHeld 0 ≡ getD (r .words) argumentsHeld 0
+    next-arguments = other h stepsUsed _ argumentsHeld (λ e. omega arith)
+
+    next-calls : getD (next .words) callsUsed 0 ≡ getD (r .words) callsUsed 0
+    next-calls = other h stepsUsed _ callsUsed (λ e. omega arith)
+
+    next-untouched : Untouched r next
+    next-untouched = set-untouched h stepsUsed _ (λ j a b e. omega arith) (λ k l e. omega arith)
 
     step-later : Later program r next
     step-later = record {
-      steps = omega (arith, n0);
-      shapes = omega (arith, n1);
-      text = omega (arith, n3);
-      tables = omega (arith, n4);
+      steps = omega (arith, next-steps);
+      shapes = omega (arith, next-shapes);
+      text = omega (arith, next-text);
+      tables = omega (arith, next-tables);
       texts = λ t v. refl;
-      figures = λ i l. figure-same (r .words) (next .words) i (λ j k. other h 0 _ _ (λ e. omega arith));
+      figures = λ i l. figure-same (r .words) (next .words) i (λ j k. other h stepsUsed _ _ (λ e. omega arith));
     }
 
     step-counted : Counted g (next .words)
     step-counted = let c = h .sound .counted in record {
-      steps = omega (arith, n0, fit);
-      shapes = rw n1 (c .shapes);
-      entries = rw n2 (c .entries);
-      text = rw n3 (c .text);
-      tables = omega (arith, n0, n4, c .tables);
-      arguments = rw n6 (c .arguments);
+      steps = omega (arith, next-steps, fit);
+      shapes = rw next-shapes (c .shapes);
+      entries = rw next-entries (c .entries);
+      text = rw next-text (c .text);
+      tables = omega (arith, next-steps, next-tables, c .tables);
+      arguments = rw next-arguments (c .arguments);
+      calls = rw next-calls (c .calls);
     }
 
-    pub step-related : AfterStep program ts g r next s (added total (taking Run.steps 1 p))
+    pub step-related : AfterStep program ts g r next s (added total (due Run.steps 1 p))
     unfolding added resourceNumber
     step-related = record {
       after = record {
-        related = set-related h 0 _ step-later (λ j a b e. omega arith) (omega arith) (λ e. omega arith) (λ e. omega arith) (λ e. omega arith) step-counted
-            refl refl (h .tables ∙ sym n4) refl
-            (omega (arith, h .stepsTaken, n0)) (omega (arith, h .shapesTaken, n1)) (omega (arith, h .entriesTaken, n2)) (omega (arith, h .textTaken, n3));
+        related = set-related h stepsUsed _ step-later (λ j a b e. omega arith) (omega arith) (λ e. omega arith) (λ e. omega arith) (λ e. omega arith) step-counted
+            (same-waiting step-later next-untouched (rw next-arguments (le-refl _)) (h .sound .waiting) ts) refl refl refl (h .tables ∙ sym next-tables) refl
+            (omega (arith, h .stepsTaken, next-steps)) (omega (arith, h .shapesTaken, next-shapes)) (omega (arith, h .entriesTaken, next-entries)) (omega (arith, h .textTaken, next-text))
+            (omega (arith, h .callsTaken, next-calls));
         later = step-later;
-        spare = omega (arith, n0, n4);
-        held = n6;
-        arguments = λ k l. other h 0 _ _ (λ e. omega arith);
+        spare = omega (arith, next-steps, next-tables);
+        held = next-arguments;
+        untouched = next-untouched;
       };
-      few = omega (arith, n0, n4, h .sound .counted .tables);
-      spare = omega (arith, n0, n4);
+      few = omega (arith, next-steps, next-tables, h .sound .counted .tables);
+      spare = omega (arith, next-steps, next-tables);
     }
 
   module _ {granted : Amounts} (gr : Grants g granted) {r : Raw} {s : State} {total : Amounts} (h : Related program ts g r s total) (p : ℕ) where
     pub counts : Follows granted total (λ _ _ r′ s′ total′. AfterStep program ts g r r′ s′ total′) (Act.count g p r) (Run.count p s)
     unfolding shortageOf
-    counts = spent Run.steps 0 (getD g 0 0) 1 79 p r s (h .stepsTaken) (gr .steps) refl (steps-told h) (step-related h p)
+    counts = spent Run.steps stepsUsed (stepsGranted g) 1 79 p r s (h .stepsTaken) (gr .steps) refl (steps-told h) (step-related h p)
 
   pub stepped-on : {r₀ r r′ : Raw} {s s′ : State} {total total′ : Amounts} → AfterStep program ts g r₀ r s total → After program ts g r r′ s′ total′
       → AfterStep program ts g r₀ r′ s′ total′
@@ -163,63 +176,70 @@ module _ {program : List ℕ} {ts : List Token} {g : List ℕ} where
     h : Related program ts g r s total
     h = a .after .related
 
-    small : getD (r .words) 4 0 % 2 ^ 32 ≡ getD (r .words) 4 0
+    small : getD (r .words) tablesMade 0 % 2 ^ 32 ≡ getD (r .words) tablesMade 0
     small = omega (arith, h .sound .counted .tables, h .sound .counted .steps, h .sound .lent .room .steps)
 
     abbrev tabled : Raw
-    tabled = raw (r .texts) (set (r .words) 4 (getD (r .words) 4 0 + 1))
+    tabled = raw (r .texts) (set (r .words) tablesMade (getD (r .words) tablesMade 0 + 1))
 
-    t4 : getD (tabled .words) 4 0 ≡ getD (r .words) 4 0 + 1
-    t4 = here h 4 _ (omega arith)
+    tabled-tables : getD (tabled .words) tablesMade 0 ≡ getD (r .words) tablesMade 0 + 1
+    tabled-tables = here h tablesMade _ (omega arith)
 
-    t0 : getD (tabled .words) 0 0 ≡ getD (r .words) 0 0
-    t0 = other h 4 _ 0 (λ e. omega arith)
+    tabled-steps : getD (tabled .words) stepsUsed 0 ≡ getD (r .words) stepsUsed 0
+    tabled-steps = other h tablesMade _ stepsUsed (λ e. omega arith)
 
-    t1 : getD (tabled .words) 1 0 ≡ getD (r .words) 1 0
-    t1 = other h 4 _ 1 (λ e. omega arith)
+    tabled-shapes : getD (tabled .words) shapesUsed 0 ≡ getD (r .words) shapesUsed 0
+    tabled-shapes = other h tablesMade _ shapesUsed (λ e. omega arith)
 
-    t2 : getD (tabled .words) 2 0 ≡ getD (r .words) 2 0
-    t2 = other h 4 _ 2 (λ e. omega arith)
+    tabled-entries : getD (tabled .words) entriesUsed 0 ≡ getD (r .words) entriesUsed 0
+    tabled-entries = other h tablesMade _ entriesUsed (λ e. omega arith)
 
-    t3 : getD (tabled .words) 3 0 ≡ getD (r .words) 3 0
-    t3 = other h 4 _ 3 (λ e. omega arith)
+    tabled-text : getD (tabled .words) textUsed 0 ≡ getD (r .words) textUsed 0
+    tabled-text = other h tablesMade _ textUsed (λ e. omega arith)
 
-    t6 : getD (tabled .words) 6 0 ≡ getD (r .words) 6 0
-    t6 = other h 4 _ 6 (λ e. omega arith)
+    tabled-arguments : getD (tabled .words) argumentsHeld 0 ≡ getD (r .words) argumentsHeld 0
+    tabled-arguments = other h tablesMade _ argumentsHeld (λ e. omega arith)
+
+    tabled-calls : getD (tabled .words) callsUsed 0 ≡ getD (r .words) callsUsed 0
+    tabled-calls = other h tablesMade _ callsUsed (λ e. omega arith)
+
+    tabled-untouched : Untouched r tabled
+    tabled-untouched = set-untouched h tablesMade _ (λ j a b e. omega arith) (λ k l e. omega arith)
 
     table-later : Later program r tabled
     table-later = record {
-      steps = omega (arith, t0);
-      shapes = omega (arith, t1);
-      text = omega (arith, t3);
-      tables = omega (arith, t4);
+      steps = omega (arith, tabled-steps);
+      shapes = omega (arith, tabled-shapes);
+      text = omega (arith, tabled-text);
+      tables = omega (arith, tabled-tables);
       texts = λ t v. refl;
-      figures = λ i l. figure-same (r .words) (tabled .words) i (λ j k. other h 4 _ _ (λ e. omega arith));
+      figures = λ i l. figure-same (r .words) (tabled .words) i (λ j k. other h tablesMade _ _ (λ e. omega arith));
     }
 
     table-counted : Counted g (tabled .words)
     table-counted = let c = h .sound .counted in record {
-      steps = rw t0 (c .steps);
-      shapes = rw t1 (c .shapes);
-      entries = rw t2 (c .entries);
-      text = rw t3 (c .text);
-      tables = omega (arith, t4, t0, a .few);
-      arguments = rw t6 (c .arguments);
+      steps = rw tabled-steps (c .steps);
+      shapes = rw tabled-shapes (c .shapes);
+      entries = rw tabled-entries (c .entries);
+      text = rw tabled-text (c .text);
+      tables = omega (arith, tabled-tables, tabled-steps, a .few);
+      arguments = rw tabled-arguments (c .arguments);
+      calls = rw tabled-calls (c .calls);
     }
 
-    table-after : AfterValue program ts g r₀ (Table (getD (r .words) 4 0)) (Value.table (s .tables)) tabled (withNewTable s) total
+    table-after : AfterValue program ts g r₀ (Table (getD (r .words) tablesMade 0)) (Value.table (s .tables)) tabled (withNewTable s) total
     unfolding Valid meantValue
     table-after = record {
       after = record {
-        related = set-related h 4 _ table-later (λ j a b e. omega arith) (omega arith) (λ e. omega arith) (λ e. omega arith) (λ e. omega arith) table-counted
-            refl refl (ap suc (h .tables) ∙ omega (arith, t4)) refl
-            (h .stepsTaken ∙ sym t0) (h .shapesTaken ∙ sym t1) (h .entriesTaken ∙ sym t2) (h .textTaken ∙ sym t3);
+        related = set-related h tablesMade _ table-later (λ j a b e. omega arith) (omega arith) (λ e. omega arith) (λ e. omega arith) (λ e. omega arith) table-counted
+            (same-waiting table-later tabled-untouched (rw tabled-arguments (le-refl _)) (h .sound .waiting) ts) refl refl refl (ap suc (h .tables) ∙ omega (arith, tabled-tables)) refl
+            (h .stepsTaken ∙ sym tabled-steps) (h .shapesTaken ∙ sym tabled-shapes) (h .entriesTaken ∙ sym tabled-entries) (h .textTaken ∙ sym tabled-text) (h .callsTaken ∙ sym tabled-calls);
         later = later-trans (a .after .later) table-later;
-        spare = omega (arith, t4, t0, a .spare);
-        held = t6 ∙ a .after .held;
-        arguments = λ k l. other h 4 _ _ (λ e. omega arith) ∙ a .after .arguments k l;
+        spare = omega (arith, tabled-tables, tabled-steps, a .spare);
+        held = tabled-arguments ∙ a .after .held;
+        untouched = untouched-trans (rw (a .after .held) (le-refl _)) (a .after .untouched) tabled-untouched;
       };
-      valid = omega (arith, t4);
+      valid = omega (arith, tabled-tables);
       means = ap Value.table (h .tables);
     }
 

@@ -1,7 +1,7 @@
 -- Variables declared and assigned.
 use Prim.Native.Nat.{ℕ, zero, suc, _+_, _%_, _^_, _≤_, _<_}
 use native.Mathlib.Omega.{arith}
-use mathlib.Core.Path.{_≡_, refl, ap, ap₂, sym, _∙_, subst}
+use mathlib.Core.Path.{_≡_, refl, ap, ap₂, sym, _∙_}
 use mathlib.Core.Logic.{_≢_}
 use mathlib.Core.Bool.{Bool, true, false, not, cond}
 use mathlib.Core.List.{List, [], _∷_, _++_}
@@ -16,25 +16,26 @@ use Rattle.meaning.specs.Value as Value
 use Rattle.meaning.specs.State.{State, Variable, isSome, isDeclared, assigned, withVariables}
 use Rattle.meaning.specs.Run as Run
 use Rattle.meaning.specs.Book.{Amounts}
-use Rattle.meaning.specs.Execute.{onward, declaring}
+use Rattle.meaning.specs.Execute.{declaring}
 use Rattle.code.specs.Code.{slotOf}
 use Rattle.reader.proofs.Homes.{Occurs, occurs-found, text-same}
 use Rattle.machine.specs.declared.Value.{Value}
-use Rattle.machine.specs.Words.{packed, unpacked}
-use Rattle.machine.specs.Layout.{declared, valuePlace, orderPlace}
-use Rattle.machine.specs.Act.{Raw, raw}
+use Rattle.machine.specs.Words.{kindNothing, packed, unpacked}
+use Rattle.machine.specs.Layout.{stepsUsed, tablesMade, declared, argumentsHeld, callsUsed, running, valuePlace, orderPlace}
+use Rattle.machine.specs.Act.{Raw, raw, done, stop}
 use Rattle.machine.specs.Act as Act
 use Rattle.machine.specs.Variables.{declare}
 use Rattle.machine.specs.Variables as Stored
 use Rattle.machine.specs.declared.Flow.the-variants.{Onward}
 use Rattle.simulation.specs.Meant.{meantValue, meantWord, listed, slotAt, variableAt, variablesOf}
+use Rattle.simulation.specs.Scope.{scopeOf, isIn}
 use Rattle.simulation.specs.Sound.{Valid, declaredAmong, Variables}
 use Rattle.simulation.specs.Follows.{Related, Later, Follows}
 use Rattle.simulation.proofs.Listed.{listed-same, listed-first, listed-more}
-use Rattle.simulation.proofs.Frames.{valid-later, SameShapes, shapes-kept, shapes-same, SameEntries, entries-kept, entries-same}
-use Rattle.simulation.proofs.Results.{given, failed, After, steps-told}
-use Rattle.simulation.proofs.Counting.{figure-same}
+use Rattle.simulation.proofs.Frames.{untouched-words, valid-later, SameWaiting, same-waiting}
+use Rattle.simulation.proofs.Results.{given, failed, Untouched, After, steps-told}
 use Rattle.simulation.proofs.Shapes.{up-to}
+use Rattle.simulation.proofs.Moving.{moved-later, moved-related}
 use Rattle.simulation.proofs.Variables.{slot-less, slot-named, name-slotted, apart-text, undeclared, is-declared}
 use Rattle.simulation.proofs.Flows.{both-onward, Flows}
 
@@ -81,68 +82,46 @@ module _ (ws ws′ : List ℕ) (slot : ℕ) (others : (j : ℕ) → j < 8192 →
 
 -- ---- nothing but variables has changed
 module _ {program : List ℕ} {ts : List Token} {g : List ℕ} {r : Raw} {s : State} {total : Amounts} (h : Related program ts g r s total) (ws′ : List ℕ)
-    (low : (j : ℕ) → j < 5 → getD ws′ j 0 ≡ getD (r .words) j 0) (six : getD ws′ 6 0 ≡ getD (r .words) 6 0)
-    (high : (j : ℕ) → 16392 ≤ j → getD ws′ j 0 ≡ getD (r .words) j 0) where
-  abbrev other-words : Raw
-  other-words = raw (r .texts) ws′
-
+    (low : (j : ℕ) → j ≢ declared → j < 80 → getD ws′ j 0 ≡ getD (r .words) j 0)
+    (high : (j : ℕ) → 16464 ≤ j → getD ws′ j 0 ≡ getD (r .words) j 0) where
   pub changed-later : Later program r (raw (r .texts) ws′)
-  changed-later = record {
-    steps = omega (arith, low 0 (omega arith));
-    shapes = omega (arith, low 1 (omega arith));
-    text = omega (arith, low 3 (omega arith));
-    tables = omega (arith, low 4 (omega arith));
-    texts = λ t v. refl;
-    figures = λ i l. figure-same (r .words) ws′ i (λ j k. high _ (omega arith));
-  }
+  changed-later = moved-later h ws′ (λ j l. low j (λ e. omega arith) (omega arith)) (λ j l. high j (omega arith))
 
-  changed-shapes : SameShapes changed-later
-  changed-shapes = record { count = low 1 (omega arith); words = λ i j a b. high _ (omega arith) }
+  changed-untouched : Untouched r (raw (r .texts) ws′)
+  changed-untouched = untouched-words (λ j a b. low j (λ e. omega arith) b) (λ k l. high _ (omega arith))
 
-  changed-entries : SameEntries changed-later (h .sound .shapes) g
-  changed-entries = record {
-    count = low 2 (omega arith);
-    firsts = λ k a. high _ (omega arith);
-    keys = λ k a. high _ (omega arith);
-    values = λ k a. high _ (omega arith);
-    heads = λ b a. high _ (omega arith);
-  }
+  height : getD ws′ argumentsHeld 0 ≡ getD (r .words) argumentsHeld 0
+  height = low argumentsHeld (λ e. omega arith) (omega arith)
+
+  calls-same : getD ws′ callsUsed 0 ≡ getD (r .words) callsUsed 0
+  calls-same = low callsUsed (λ e. omega arith) (omega arith)
+
+  changed-waiting : SameWaiting program ts r (raw (r .texts) ws′)
+  changed-waiting = same-waiting changed-later changed-untouched (omega (arith, height)) (h .sound .waiting) ts
 
   pub changed : (vs : List Variable) → length ws′ ≡ length (r .words) → Variables program ts ws′ → vs ≡ variablesOf program ts (raw (r .texts) ws′)
       → After program ts g r (raw (r .texts) ws′) (withVariables s vs) total
-  changed vs long v e = let c = h .sound .counted in let l = h .sound .lent in record {
-    related = record {
-      sound = record {
-        lent = record {
-          room = record { steps = l .room .steps; shapes = l .room .shapes; entries = l .room .entries; text = l .room .text; words = rw long (l .room .words) };
-          texts = l .texts;
-        };
-        counted = record {
-          steps = rw (low 0 (omega arith)) (c .steps);
-          shapes = rw (low 1 (omega arith)) (c .shapes);
-          entries = rw (low 2 (omega arith)) (c .entries);
-          text = rw (low 3 (omega arith)) (c .text);
-          tables = rw (low 4 (omega arith), low 0 (omega arith)) (c .tables);
-          arguments = rw six (c .arguments);
-        };
-        variables = v;
-        shapes = shapes-kept changed-later changed-shapes (h .sound .shapes);
-        entries = entries-kept changed-later (h .sound .shapes) g changed-entries (h .sound .entries);
-      };
-      variables = e;
-      shapes = h .shapes ∙ sym (shapes-same changed-later changed-shapes (h .sound .shapes));
-      tables = h .tables ∙ sym (low 4 (omega arith));
-      entries = h .entries ∙ sym (entries-same changed-later (h .sound .shapes) g changed-entries (h .sound .entries));
-      stepsTaken = h .stepsTaken ∙ sym (low 0 (omega arith));
-      shapesTaken = h .shapesTaken ∙ sym (low 1 (omega arith));
-      entriesTaken = h .entriesTaken ∙ sym (low 2 (omega arith));
-      textTaken = h .textTaken ∙ sym (low 3 (omega arith));
-    };
+  changed vs long v e = record {
+    related = moved-related h ws′ (λ j l. low j (λ e. omega arith) (omega arith)) (λ j l. high j (omega arith)) long
+        (rw height (h .sound .counted .arguments)) (rw calls-same (h .sound .counted .calls)) v e (changed-waiting .waiting) (h .suspended ∙ sym (changed-waiting .suspended))
+        refl refl refl refl (h .callsTaken ∙ sym calls-same);
     later = changed-later;
-    spare = omega (arith, low 0 (omega arith), low 4 (omega arith));
-    held = six;
-    arguments = λ k b. high _ (omega arith);
+    spare = omega (arith, low stepsUsed (λ e. omega arith) (omega arith), low tablesMade (λ e. omega arith) (omega arith));
+    held = height;
+    untouched = changed-untouched;
   }
+
+-- ---- a declaration, by what the words hold
+pub declare-free : (slot p : ℕ) (r : Raw) → getD (r .words) (valuePlace slot) 0 ≡ 0 → getD (r .words) declared 0 < 8192
+    → declare slot p r ≡ done tt (raw (r .texts) (set (set (set (r .words) (valuePlace slot) kindNothing) (orderPlace (getD (r .words) declared 0)) slot) declared (getD (r .words) declared 0 + 1)))
+unfolding declare packed Act._>>=_ Act.goOn Act.load Act.store Act.refuse Act.give
+declare-free slot p r z l =
+    let q : getD (r .words) declared 0 % 8192 ≡ getD (r .words) declared 0 = omega arith in
+    rw (z, q)
+
+pub declare-again : (slot p : ℕ) (r : Raw) → getD (r .words) (valuePlace slot) 0 ≢ 0 → declare slot p r ≡ stop 60 p r
+unfolding declare Act._>>=_ Act.goOn Act.load Act.refuse Act.fail
+declare-again slot p r n = rw (ne-eqb _ 0 n)
 
 -- ---- assigned, by a function of the index
 assigned-once : (f f′ : ℕ → Variable) (x : List ℕ) (u : Value.Value) (k n i : ℕ) → k ≤ i → i < k + n → sameText (f i .name) x ≡ true
@@ -174,7 +153,8 @@ module _ {program : List ℕ} {ts : List Token} {g : List ℕ} (few : length ts 
   v = h .sound .variables
 
   -- ---- a variable set
-  module _ (w : ℕ) (declared-now : getD (r .words) (valuePlace (slotOf ts x)) 0 ≢ 0) (some-word : w ≢ 0) (valid : Valid program (r .words) (unpacked w)) where
+  module _ (w : ℕ) (declared-now : getD (r .words) (valuePlace (slotOf ts x)) 0 ≢ 0) (some-word : w ≢ 0) (valid : Valid program (r .words) (unpacked w))
+      (narrow : w < 2 ^ 48) where
     abbrev put : List ℕ
     put = set (r .words) (valuePlace (slotOf ts x)) w
 
@@ -188,13 +168,13 @@ module _ {program : List ℕ} {ts : List Token} {g : List ℕ} (few : length ts 
     put-slot k = put-other (orderPlace k) (λ e. omega arith)
 
     put-count : getD put declared 0 ≡ getD (r .words) declared 0
-    put-count = put-other 5 (λ e. omega arith)
+    put-count = put-other declared (λ e. omega arith)
 
     put-values : (j : ℕ) → j < 8192 → j ≢ slot → getD put (valuePlace j) 0 ≡ getD (r .words) (valuePlace j) 0
     put-values j l n = put-other (valuePlace j) (λ e. n (omega (arith, less)))
 
     put-later : Later program r (raw (r .texts) put)
-    put-later = changed-later h put (λ j l. put-other j (λ e. omega arith)) (put-other 6 (λ e. omega arith)) (λ j l. put-other j (λ e. omega arith))
+    put-later = changed-later h put (λ j n l. put-other j (λ e. omega arith)) (λ j l. put-other j (λ e. omega arith))
 
     put-there : (j : ℕ) → getD (r .words) (valuePlace j) 0 ≢ 0 → getD put (valuePlace j) 0 ≢ 0
     put-there j n = go (eqb (valuePlace j) (valuePlace slot)) refl
@@ -217,17 +197,26 @@ module _ {program : List ℕ} {ts : List Token} {g : List ℕ} (few : length ts 
         go true e = rw (eqb-true (valuePlace j) (valuePlace slot) e, put-own) (valid-later put-later (unpacked w) valid)
         go false e = rw (put-other (valuePlace j) (eqb-false (valuePlace j) (valuePlace slot) e)) (valid-later put-later _ (v .holds j))
 
+    put-narrow : (j : ℕ) → getD put (valuePlace j) 0 < 2 ^ 48
+    put-narrow j = go (eqb (valuePlace j) (valuePlace slot)) refl
+      where
+        go : (b : Bool) → eqb (valuePlace j) (valuePlace slot) ≡ b → getD put (valuePlace j) 0 < 2 ^ 48
+        go true e = rw (eqb-true (valuePlace j) (valuePlace slot) e, put-own) narrow
+        go false e = rw (put-other (valuePlace j) (eqb-false (valuePlace j) (valuePlace slot) e)) (v .narrow j)
+
     put-variables : Variables program ts put
     put-variables = record {
       few = rw (put-count, among-same (r .words) put slot put-values declared-now (rw put-own some-word) 8192 (omega arith)) (v .few);
-      slots = λ k l. rw (put-slot k) (v .slots k (rw put-count at l));
+      small = λ k l. rw (put-slot k) (v .small k (rw put-count at l));
       names = λ k l. rw (put-slot k) (v .names k (rw put-count at l));
+      own = λ k l. rw (put-slot k, put-other running (λ e. omega arith)) (v .own k (rw put-count at l));
       there = λ k l. rw (put-slot k) (put-there (slotAt (r .words) k) (v .there k (rw put-count at l)));
       apart = λ j k a b e. v .apart j k (rw put-count at a) (rw put-count at b) (sym (put-slot j) ∙ e ∙ put-slot k);
       found = λ j l n.
           let q = v .found j l (put-back j n) in
           (q .0, rw put-count (q .1), put-slot (q .0) ∙ q .2);
       holds = put-valid;
+      narrow = put-narrow;
     }
 
     put-list : assigned (s .variables) x (meantWord program r w) ≡ variablesOf program ts (raw (r .texts) put)
@@ -240,31 +229,31 @@ module _ {program : List ℕ} {ts : List Token} {g : List ℕ} (few : length ts 
         (omega arith) (omega (arith, q .1)) (rw (name-slotted few h x o (q .0) (q .2)) (text-same x))
         (λ j a b d. apart-text few h x o _ _ (λ e. d (v .apart j (q .0) (omega arith) (q .1) (slot-named few h x o j (omega arith) e ∙ sym (q .2)))))
         (rw (put-slot (q .0), q .2, put-own))
-        (λ j a b d. rw (put-slot j, put-values (slotAt (r .words) j) (v .slots j (omega arith)) (λ e. d (v .apart j (q .0) (omega arith) (q .1) (e ∙ sym (q .2)))))))
+        (λ j a b d. rw (put-slot j, put-values (slotAt (r .words) j) (v .small j (omega arith)) (λ e. d (v .apart j (q .0) (omega arith) (q .1) (e ∙ sym (q .2)))))))
 
     pub put-after : After program ts g r (raw (r .texts) put) (withVariables s (assigned (s .variables) x (meantWord program r w))) total
-    put-after = changed h put (λ j l. put-other j (λ e. omega arith)) (put-other 6 (λ e. omega arith)) (λ j l. put-other j (λ e. omega arith))
+    put-after = changed h put (λ j n l. put-other j (λ e. omega arith)) (λ j l. put-other j (λ e. omega arith))
         (assigned (s .variables) x (meantWord program r w)) (length-set (r .words) (valuePlace slot) w) put-variables put-list
 
   -- ---- a variable declared
   module _ (free : getD (r .words) (valuePlace (slotOf ts x)) 0 ≡ 0) where
     abbrev many : ℕ
-    many = getD (r .words) 5 0
+    many = getD (r .words) declared 0
 
     abbrev one : List ℕ
-    one = set (r .words) (valuePlace (slotOf ts x)) 4
+    one = set (r .words) (valuePlace (slotOf ts x)) kindNothing
 
     abbrev two : List ℕ
-    two = set (set (r .words) (valuePlace (slotOf ts x)) 4) (orderPlace (getD (r .words) 5 0)) (slotOf ts x)
+    two = set (set (r .words) (valuePlace (slotOf ts x)) kindNothing) (orderPlace (getD (r .words) declared 0)) (slotOf ts x)
 
     abbrev pub three : List ℕ
-    three = set (set (set (r .words) (valuePlace (slotOf ts x)) 4) (orderPlace (getD (r .words) 5 0)) (slotOf ts x)) 5 (getD (r .words) 5 0 + 1)
+    three = set (set (set (r .words) (valuePlace (slotOf ts x)) kindNothing) (orderPlace (getD (r .words) declared 0)) (slotOf ts x)) declared (getD (r .words) declared 0 + 1)
 
     one-own : getD one (valuePlace slot) 0 ≡ 4
-    one-own = getD-set-same (r .words) (valuePlace slot) 4 0 (omega (arith, h .sound .lent .room .words))
+    one-own = getD-set-same (r .words) (valuePlace slot) kindNothing 0 (omega (arith, h .sound .lent .room .words))
 
     one-values : (j : ℕ) → j < 8192 → j ≢ slot → getD one (valuePlace j) 0 ≡ getD (r .words) (valuePlace j) 0
-    one-values j l n = getD-set-other (r .words) (valuePlace slot) (valuePlace j) 4 0 (λ e. n (omega (arith, less)))
+    one-values j l n = getD-set-other (r .words) (valuePlace slot) (valuePlace j) kindNothing 0 (λ e. n (omega (arith, less)))
 
     one-among : declaredAmong one 8192 ≡ suc (declaredAmong (r .words) 8192)
     one-among = among-more (r .words) one slot one-values free (λ q. omega (arith, one-own)) 8192 less (omega arith)
@@ -272,25 +261,25 @@ module _ {program : List ℕ} {ts : List Token} {g : List ℕ} (few : length ts 
     pub room : many < 8192
     room = omega (arith, v .few, one-among, among-few one 8192)
 
-    new-other : (j : ℕ) → j ≢ valuePlace slot → j ≢ orderPlace many → j ≢ 5 → getD three j 0 ≡ getD (r .words) j 0
+    pub new-other : (j : ℕ) → j ≢ valuePlace slot → j ≢ orderPlace many → j ≢ declared → getD three j 0 ≡ getD (r .words) j 0
     new-other j a b c =
-        getD-set-other two 5 j (many + 1) 0 c ∙ getD-set-other one (orderPlace many) j slot 0 b ∙ getD-set-other (r .words) (valuePlace slot) j 4 0 a
+        getD-set-other two declared j (many + 1) 0 c ∙ getD-set-other one (orderPlace many) j slot 0 b ∙ getD-set-other (r .words) (valuePlace slot) j 4 0 a
 
     new-value : getD three (valuePlace slot) 0 ≡ 4
     new-value =
-        getD-set-other two 5 (valuePlace slot) (many + 1) 0 (λ e. omega arith)
+        getD-set-other two declared (valuePlace slot) (many + 1) 0 (λ e. omega arith)
         ∙ getD-set-other one (orderPlace many) (valuePlace slot) slot 0 (λ e. omega arith) ∙ one-own
 
-    new-slot : slotAt three many ≡ slot
+    pub new-slot : slotAt three many ≡ slot
     new-slot =
-        getD-set-other two 5 (orderPlace many) (many + 1) 0 (λ e. omega arith)
-        ∙ getD-set-same one (orderPlace many) slot 0 (rw (length-set (r .words) (valuePlace slot) 4) (omega (arith, h .sound .lent .room .words)))
+        getD-set-other two declared (orderPlace many) (many + 1) 0 (λ e. omega arith)
+        ∙ getD-set-same one (orderPlace many) slot 0 (rw (length-set (r .words) (valuePlace slot) kindNothing) (omega (arith, h .sound .lent .room .words)))
 
-    new-count : getD three 5 0 ≡ many + 1
+    pub new-count : getD three declared 0 ≡ many + 1
     new-count = getD-set-same two 5 (many + 1) 0
-        (rw (length-set one (orderPlace many) slot, length-set (r .words) (valuePlace slot) 4) (omega (arith, h .sound .lent .room .words)))
+        (rw (length-set one (orderPlace many) slot, length-set (r .words) (valuePlace slot) kindNothing) (omega (arith, h .sound .lent .room .words)))
 
-    old-slot : (k : ℕ) → k < many → slotAt three k ≡ slotAt (r .words) k
+    pub old-slot : (k : ℕ) → k < many → slotAt three k ≡ slotAt (r .words) k
     old-slot k l = new-other (orderPlace k) (λ e. omega arith) (λ e. omega (arith, room)) (λ e. omega arith)
 
     old-values : (j : ℕ) → j < 8192 → j ≢ slot → getD three (valuePlace j) 0 ≡ getD (r .words) (valuePlace j) 0
@@ -301,8 +290,7 @@ module _ {program : List ℕ} {ts : List Token} {g : List ℕ} (few : length ts 
     fresh k l e = v .there k l (rw e free)
 
     new-later : Later program r (raw (r .texts) three)
-    new-later = changed-later h three (λ j l. new-other j (λ e. omega arith) (λ e. omega arith) (λ e. omega arith))
-        (new-other 6 (λ e. omega arith) (λ e. omega arith) (λ e. omega arith)) (λ j l. new-other j (λ e. omega arith) (λ e. omega arith) (λ e. omega arith))
+    new-later = changed-later h three (λ j n l. new-other j (λ e. omega arith) (λ e. omega arith) n) (λ j l. new-other j (λ e. omega arith) (λ e. omega arith) (λ e. omega arith))
 
     new-valid : (j : ℕ) → Valid program three (unpacked (getD three (valuePlace j) 0))
     unfolding Valid unpacked if_then_else_
@@ -313,14 +301,23 @@ module _ {program : List ℕ} {ts : List Token} {g : List ℕ} (few : length ts 
         go false e = rw (new-other (valuePlace j) (eqb-false (valuePlace j) (valuePlace slot) e) (λ q. omega arith) (λ q. omega arith))
             (valid-later new-later (unpacked (getD (r .words) (valuePlace j) 0)) (v .holds j))
 
-    new-variables : Variables program ts three
-    new-variables = record {
+    new-narrow : (j : ℕ) → getD three (valuePlace j) 0 < 2 ^ 48
+    new-narrow j = go (eqb (valuePlace j) (valuePlace slot)) refl
+      where
+        go : (b : Bool) → eqb (valuePlace j) (valuePlace slot) ≡ b → getD three (valuePlace j) 0 < 2 ^ 48
+        go true e = rw (eqb-true (valuePlace j) (valuePlace slot) e, new-value) (omega arith)
+        go false e = rw (new-other (valuePlace j) (eqb-false (valuePlace j) (valuePlace slot) e) (λ q. omega arith) (λ q. omega arith)) (v .narrow j)
+
+    new-variables : isIn (slotOf ts x) (scopeOf program ts (getD (r .words) running 0)) ≡ true → Variables program ts three
+    new-variables own = record {
       few = rw (new-count, among-more (r .words) three slot old-values free (λ q. omega (arith, new-value)) 8192 less (omega arith)) (omega (arith, v .few));
-      slots = λ k l. up-to (λ k. slotAt three k < 8192) many (λ k l. rw (old-slot k l) (v .slots k l)) (rw new-slot less) k (rw new-count at l);
+      small = λ k l. up-to (λ k. slotAt three k < 8192) many (λ k l. rw (old-slot k l) (v .small k l)) (rw new-slot less) k (rw new-count at l);
       names = λ k l. up-to (λ k. slotOf ts (textAt ts (slotAt three k)) ≡ slotAt three k) many (λ k l. rw (old-slot k l) (v .names k l))
           (rw new-slot (ap (slotOf ts) (occurs-found ts aName x (omega arith) o .text))) k (rw new-count at l);
+      own = λ k l. rw (new-other running (λ e. omega arith) (λ e. omega arith) (λ e. omega arith))
+          (up-to (λ k. isIn (slotAt three k) (scopeOf program ts (getD (r .words) running 0)) ≡ true) many (λ k l. rw (old-slot k l) (v .own k l)) (rw new-slot own) k (rw new-count at l));
       there = λ k l. up-to (λ k. getD three (valuePlace (slotAt three k)) 0 ≢ 0) many
-          (λ k l. rw (old-slot k l, old-values (slotAt (r .words) k) (v .slots k l) (fresh k l)) (v .there k l))
+          (λ k l. rw (old-slot k l, old-values (slotAt (r .words) k) (v .small k l) (fresh k l)) (v .there k l))
           (rw (new-slot, new-value) (λ q. omega arith)) k (rw new-count at l);
       apart = λ j k a b.
           up-to (λ j. slotAt three j ≡ slotAt three k → j ≡ k) many
@@ -330,10 +327,11 @@ module _ {program : List ℕ} {ts : List Token} {g : List ℕ} (few : length ts 
           j (rw new-count at a);
       found = λ j l n. where-is j l n (eqb j slot) refl;
       holds = new-valid;
+      narrow = new-narrow;
     }
       where
         where-is : (j : ℕ) → j < 8192 → getD three (valuePlace j) 0 ≢ 0 → (b : Bool) → eqb j slot ≡ b
-            → (k : ℕ) × (k < getD three 5 0) × (slotAt three k ≡ j)
+            → (k : ℕ) × (k < getD three declared 0) × (slotAt three k ≡ j)
         where-is j l n true e = (many, omega (arith, new-count), new-slot ∙ sym (eqb-true j slot e))
         where-is j l n false e =
             let q = v .found j l (rw (old-values j l (eqb-false j slot e)) at n) in
@@ -350,24 +348,23 @@ module _ {program : List ℕ} {ts : List Token} {g : List ℕ} (few : length ts 
         (sym (ap (listed (variableAt program ts (raw (r .texts) three)) 0) (new-count ∙ z) ∙ listed-more (variableAt program ts (raw (r .texts) three)) 0 many
         ∙ ap₂ (λ (l : List Variable) (a : Variable). l ++ (a ∷ []))
         (listed-first (variableAt program ts (raw (r .texts) three)) (variableAt program ts r) many
-        (λ k l. rw (old-slot k l, old-values (slotAt (r .words) k) (v .slots k l) (fresh k l)))) last))
+        (λ k l. rw (old-slot k l, old-values (slotAt (r .words) k) (v .small k l) (fresh k l)))) last))
 
-    pub new-after : After program ts g r (raw (r .texts) three) (withVariables s (s .variables ++ (record { name = x; holds = Value.none } ∷ []))) total
-    new-after = changed h three (λ j l. new-other j (λ e. omega arith) (λ e. omega arith) (λ e. omega arith))
-        (new-other 6 (λ e. omega arith) (λ e. omega arith) (λ e. omega arith)) (λ j l. new-other j (λ e. omega arith) (λ e. omega arith) (λ e. omega arith))
-        _ (length-set two 5 (many + 1) ∙ length-set one (orderPlace many) slot ∙ length-set (r .words) (valuePlace slot) 4) new-variables new-list
+    pub new-after : isIn (slotOf ts x) (scopeOf program ts (getD (r .words) running 0)) ≡ true
+        → After program ts g r (raw (r .texts) three) (withVariables s (s .variables ++ (record { name = x; holds = Value.none } ∷ []))) total
+    new-after own = changed h three (λ j n l. new-other j (λ e. omega arith) (λ e. omega arith) n) (λ j l. new-other j (λ e. omega arith) (λ e. omega arith) (λ e. omega arith))
+        _ (length-set two declared (many + 1) ∙ length-set one (orderPlace many) slot ∙ length-set (r .words) (valuePlace slot) kindNothing) (new-variables own) new-list
 
-  pub declares : {granted : Amounts} (p : ℕ) → Follows granted total (Flows program ts g r) (Act._>>_ (declare (slotOf ts x) p) (Act.give Onward) r) (declaring p x s)
-  unfolding declare declaring packed isSome Act._>>=_ Act.goOn Act.load Act.store Act.refuse Act.fail Act.give Run._>>=_ Run.goOn Run.current Run.refuse Run.fail Run.become Run.give
-  declares p = go (eqb (getD (r .words) (valuePlace slot) 0) 0) refl
+  pub declares : {granted : Amounts} → isIn (slotOf ts x) (scopeOf program ts (getD (r .words) running 0)) ≡ true → (p : ℕ)
+      → Follows granted total (Flows program ts g r) (Act._>>_ (declare (slotOf ts x) p) (Act.give Onward) r) (declaring p x s)
+  unfolding declaring isSome Act._>>=_ Act.goOn Act.give Run._>>=_ Run.goOn Run.current Run.refuse Run.fail Run.become Run.give
+  declares own p = go (eqb (getD (r .words) (valuePlace slot) 0) 0) refl
     where
       go : {granted : Amounts} (b : Bool) → eqb (getD (r .words) (valuePlace slot) 0) 0 ≡ b
           → Follows granted total (Flows program ts g r) (Act._>>_ (declare slot p) (Act.give Onward) r) (declaring p x s)
-      go {granted} true e =
+      go true e =
           let z : getD (r .words) (valuePlace slot) 0 ≡ 0 = eqb-true _ _ e in
-          let q : getD (r .words) 5 0 % 8192 ≡ getD (r .words) 5 0 = omega (arith, room z) in
-          rw (e, undeclared few h x o z) (subst (λ n. Follows granted total (Flows program ts g r)
-          (Act.done Onward (raw (r .texts) (set (set (set (r .words) (valuePlace slot) 4) (orderPlace (getD (r .words) 5 0)) slot) 5 (n + 1))))
-          (Run.run [] (Run.result onward (withVariables s (s .variables ++ (record { name = x; holds = Value.none } ∷ [])))))) (sym q)
-          (given (record { after = new-after z; flow = both-onward })))
-      go false e = rw (e, is-declared few h x o (eqb-false _ _ e)) (failed 60 p r (steps-told h))
+          rw (declare-free slot p r z (room z), undeclared few h x o z) (given (record { after = new-after z own; flow = both-onward }))
+      go false e =
+          let n : getD (r .words) (valuePlace slot) 0 ≢ 0 = eqb-false _ _ e in
+          rw (declare-again slot p r n, is-declared few h x o n) (failed 60 p r (steps-told h))

@@ -1,5 +1,5 @@
 -- What stays when words change that do not matter.
-use Prim.Native.Nat.{ℕ, zero, suc, _+_, _/_, _%_, _^_, _≤_, _<_}
+use Prim.Native.Nat.{ℕ, zero, suc, _+_, _-_, _/_, _%_, _^_, _≤_, _<_}
 use native.Mathlib.Omega.{arith}
 use native.Mathlib.Nat.{le-refl, le-trans, add-zero}
 use mathlib.Core.Path.{_≡_, refl, ap, ap₂, sym, _∙_}
@@ -18,15 +18,36 @@ use Rattle.meaning.specs.State as State
 use Rattle.machine.specs.declared.Value.{Value}
 use Rattle.machine.specs.declared.Value.the-variants.{Integer, Text, Boolean, Nothing, Table, Shape}
 use Rattle.machine.specs.Words.{kindIn, numberIn, handleIn, unpacked}
-use Rattle.machine.specs.Layout.{shapesUsed, entriesUsed, textUsed, declared, entriesGranted, valuePlace, orderPlace, shapePlace, entryPlace}
+use Rattle.machine.specs.Layout.{shapesUsed, entriesUsed, textUsed, declared, argumentsHeld, callsUsed, running, entriesGranted, framePlace, valuePlace, orderPlace, shapePlace, entryPlace}
 use Rattle.machine.specs.Act.{Raw}
 use Rattle.machine.specs.Texts.{originIn, startIn, sizeIn}
 use Rattle.machine.specs.declared.Figure.{Figure}
 use Rattle.machine.specs.Shapes.{figureAt}
+use Rattle.machine.specs.Stack.{argumentAt}
+use Rattle.machine.specs.Variables.{wordIn, topIn, countIn}
 use Rattle.machine.specs.Tables.{ownerAt, keyAt, valueAt, figureContent, contentOf, headPlace}
-use Rattle.simulation.specs.Meant.{meantValue, meantWord, meantFigure, listed, slotAt, variableAt, variablesOf, shapeAt, shapesOf, keyAmong, meantKey, entryAt, entriesOf}
-use Rattle.simulation.specs.Sound.{Held, Valid, Proper, declaredAmong, Variables, Shapes, Entries}
+use Rattle.simulation.specs.Meant.{
+  meantValue,
+  meantWord,
+  meantFigure,
+  listed,
+  slotAt,
+  variableAt,
+  variablesOf,
+  waitingAt,
+  frameAt,
+  frameOf,
+  suspendedOf,
+  shapeAt,
+  shapesOf,
+  keyAmong,
+  meantKey,
+  entryAt,
+  entriesOf,
+}
+use Rattle.simulation.specs.Sound.{Held, Valid, Proper, declaredAmong, Variables, Waiting, Shapes, Entries}
 use Rattle.simulation.specs.Follows.{Later}
+use Rattle.simulation.specs.After.{Untouched}
 use Rattle.simulation.proofs.Indexing.{content-same, index-agrees}
 use Rattle.simulation.proofs.Listed.{listed-same, listed-first, getD-listed}
 
@@ -58,6 +79,40 @@ later-trans a b = record {
   figures = λ i l. b .figures i (le-trans l (a .shapes)) ∙ a .figures i l;
 }
 
+-- ---- the calls under way
+pub untouched-refl : (r : Raw) → Untouched r r
+untouched-refl r = record { calls = refl; running = refl; frames = λ d z h. refl; arguments = λ k h. refl }
+
+pub untouched-trans : {r r′ r″ : Raw} → getD (r .words) argumentsHeld 0 ≤ getD (r′ .words) argumentsHeld 0 → Untouched r r′ → Untouched r′ r″ → Untouched r r″
+untouched-trans h a b = record {
+  calls = b .calls ∙ a .calls;
+  running = b .running ∙ a .running;
+  frames = λ d z l. b .frames d z (rw (a .calls) l) ∙ a .frames d z l;
+  arguments = λ k l. b .arguments k (le-trans l h) ∙ a .arguments k l;
+}
+
+-- the words from the number of calls up to the variables, and those of the stack
+pub untouched-words : {r r′ : Raw} → ((i : ℕ) → callsUsed ≤ i → i < 80 → getD (r′ .words) i 0 ≡ getD (r .words) i 0)
+    → ((k : ℕ) → k < getD (r .words) argumentsHeld 0 → argumentAt (r′ .words) k ≡ argumentAt (r .words) k) → Untouched r r′
+untouched-words e s = record {
+  calls = e callsUsed (omega arith) (omega arith);
+  running = e running (omega arith) (omega arith);
+  frames = λ d z h. e (framePlace d) (omega arith) (omega arith);
+  arguments = s;
+}
+
+-- the words of calls that wait, and the stack as far as it was held
+pub record SameStack (r r′ : Raw) : Type 0 where
+  pub frames : (d : ℕ) → 0 < d → d < getD (r .words) callsUsed 0 → frameAt (r′ .words) d ≡ frameAt (r .words) d
+  pub arguments : (k : ℕ) → k < getD (r .words) argumentsHeld 0 → argumentAt (r′ .words) k ≡ argumentAt (r .words) k
+
+pub same-stack : {r r′ : Raw} → Untouched r r′ → SameStack r r′
+same-stack u = record { frames = u .frames; arguments = u .arguments }
+
+pub record SameWaiting (program : List ℕ) (ts : List Token) (r r′ : Raw) : Type 0 where
+  pub waiting : Waiting program (r′ .words)
+  pub suspended : suspendedOf program ts r′ ≡ suspendedOf program ts r
+
 module _ {program : List ℕ} {r r′ : Raw} (l : Later program r r′) where
   pub valid-later : (v : Value) → Valid program (r .words) v → Valid program (r′ .words) v
   unfolding Valid
@@ -80,43 +135,92 @@ module _ {program : List ℕ} {r r′ : Raw} (l : Later program r r′) where
   -- ---- variables
   pub record SameVariables : Type 0 where
     pub count : getD (r′ .words) declared 0 ≡ getD (r .words) declared 0
-    pub words : (i : ℕ) → 8 ≤ i → i < 16392 → getD (r′ .words) i 0 ≡ getD (r .words) i 0
+    pub procedure : getD (r′ .words) running 0 ≡ getD (r .words) running 0
+    pub slots : (k : ℕ) → k < getD (r .words) declared 0 → slotAt (r′ .words) k ≡ slotAt (r .words) k
+    pub values : (slot : ℕ) → getD (r′ .words) (valuePlace slot) 0 ≡ getD (r .words) (valuePlace slot) 0
+
+  -- the words from the procedure under way up to the stack
+  pub same-words : getD (r′ .words) declared 0 ≡ getD (r .words) declared 0
+      → ((i : ℕ) → running ≤ i → i < 16464 → getD (r′ .words) i 0 ≡ getD (r .words) i 0) → SameVariables
+  same-words n e = record {
+    count = n;
+    procedure = e running (omega arith) (omega arith);
+    slots = λ k h. e (orderPlace k) (omega arith) (omega arith);
+    values = λ slot. e (valuePlace slot) (omega arith) (omega arith);
+  }
 
   module _ (same : SameVariables) where
-    slot-same : (k : ℕ) → slotAt (r′ .words) k ≡ slotAt (r .words) k
-    slot-same k = same .words (orderPlace k) (omega arith) (omega arith)
-
-    value-same : (slot : ℕ) → getD (r′ .words) (valuePlace slot) 0 ≡ getD (r .words) (valuePlace slot) 0
-    value-same slot = same .words (valuePlace slot) (omega arith) (omega arith)
-
     among-same : (n : ℕ) → declaredAmong (r′ .words) n ≡ declaredAmong (r .words) n
     unfolding declaredAmong
     among-same zero = refl
-    among-same (suc n) = ap₂ _+_ (ap (λ w. cond (not (eqb w 0)) 1 0) (value-same n)) (among-same n)
+    among-same (suc n) = ap₂ _+_ (ap (λ w. cond (not (eqb w 0)) 1 0) (same .values n)) (among-same n)
 
     pub variables-kept : (ts : List Token) → Variables program ts (r .words) → Variables program ts (r′ .words)
     variables-kept ts v = record {
       few = rw (same .count, among-same 8192) (v .few);
-      slots = λ k h. rw (slot-same k) (v .slots k (rw (same .count) at h));
-      names = λ k h. rw (slot-same k) (v .names k (rw (same .count) at h));
-      there = λ k h. rw (slot-same k, value-same (slotAt (r .words) k)) (v .there k (rw (same .count) at h));
-      apart = λ j k a b e. v .apart j k (rw (same .count) at a) (rw (same .count) at b) (sym (slot-same j) ∙ e ∙ slot-same k);
+      small = λ k h. let q = rw (same .count) at h in rw (same .slots k q) (v .small k q);
+      names = λ k h. let q = rw (same .count) at h in rw (same .slots k q) (v .names k q);
+      own = λ k h. let q = rw (same .count) at h in rw (same .slots k q, same .procedure) (v .own k q);
+      there = λ k h. let q = rw (same .count) at h in rw (same .slots k q, same .values (slotAt (r .words) k)) (v .there k q);
+      apart = λ j k a b e.
+          let p = rw (same .count) at a in
+          let q = rw (same .count) at b in
+          v .apart j k p q (sym (same .slots j p) ∙ e ∙ same .slots k q);
       found = λ slot h n.
-          let q = v .found slot h (rw (value-same slot) at n) in
-          (q .0, rw (same .count) (q .1), slot-same (q .0) ∙ q .2);
-      holds = λ slot. rw (value-same slot) (valid-later _ (v .holds slot));
+          let q = v .found slot h (rw (same .values slot) at n) in
+          (q .0, rw (same .count) (q .1), same .slots (q .0) (q .1) ∙ q .2);
+      holds = λ slot. rw (same .values slot) (valid-later _ (v .holds slot));
+      narrow = λ slot. rw (same .values slot) (v .narrow slot);
     }
 
-    variable-same : (ts : List Token) → Variables program ts (r .words) → (j : ℕ) → variableAt program ts r′ j ≡ variableAt program ts r j
+    variable-same : (ts : List Token) → Variables program ts (r .words) → (j : ℕ) → j < getD (r .words) declared 0 → variableAt program ts r′ j ≡ variableAt program ts r j
     unfolding variableAt
-    variable-same ts v j = rw (slot-same j, value-same (slotAt (r .words) j), meant-later _ (v .holds (slotAt (r .words) j)))
-
-    pub variables-part : (ts : List Token) → Variables program ts (r .words) → (k n : ℕ) → listed (variableAt program ts r′) k n ≡ listed (variableAt program ts r) k n
-    variables-part ts v k n = listed-same (variableAt program ts r′) (variableAt program ts r) k n (λ j a b. variable-same ts v j)
+    variable-same ts v j h = rw (same .slots j h, same .values (slotAt (r .words) j), meant-later _ (v .holds (slotAt (r .words) j)))
 
     pub variables-same : (ts : List Token) → Variables program ts (r .words) → variablesOf program ts r′ ≡ variablesOf program ts r
     unfolding variablesOf
-    variables-same ts v = rw (same .count) (variables-part ts v 0 (getD (r .words) declared 0))
+    variables-same ts v = rw (same .count) (listed-first (variableAt program ts r′) (variableAt program ts r) (getD (r .words) declared 0) (variable-same ts v))
+
+  -- ---- calls that wait
+  module _ (u : SameStack r r′) (high : getD (r .words) argumentsHeld 0 ≤ getD (r′ .words) argumentsHeld 0) (w : Waiting program (r .words))
+      (d : ℕ) (z : 0 < d) (h : d < getD (r .words) callsUsed 0) where
+    pub within-kept : topIn (frameAt (r′ .words) d) + countIn (frameAt (r′ .words) d) ≤ getD (r′ .words) argumentsHeld 0
+    within-kept = rw (u .frames d z h) (le-trans (w .within d z h) high)
+
+    pub holds-kept : (k : ℕ) → topIn (frameAt (r′ .words) d) ≤ k → k < topIn (frameAt (r′ .words) d) + countIn (frameAt (r′ .words) d)
+        → Valid program (r′ .words) (unpacked (wordIn (argumentAt (r′ .words) k)))
+    holds-kept k a b =
+        let a′ = rw (u .frames d z h) at a in
+        let b′ = rw (u .frames d z h) at b in
+        rw (u .arguments k (le-trans b′ (w .within d z h))) (valid-later _ (w .holds d z h k a′ b′))
+
+    waiting-same : (ts : List Token) (k : ℕ) → topIn (frameAt (r .words) d) ≤ k → k < topIn (frameAt (r .words) d) + countIn (frameAt (r .words) d)
+        → waitingAt program ts r′ k ≡ waitingAt program ts r k
+    unfolding waitingAt
+    waiting-same ts k a b = rw (u .arguments k (le-trans b (w .within d z h)), meant-later _ (w .holds d z h k a b))
+
+    frame-same : (ts : List Token) → frameOf program ts r′ d ≡ frameOf program ts r d
+    unfolding frameOf
+    frame-same ts =
+        rw (u .frames d z h) (listed-same (waitingAt program ts r′) (waitingAt program ts r) (topIn (frameAt (r .words) d)) (countIn (frameAt (r .words) d)) (λ k a b. waiting-same ts k a b))
+
+  module _ (u : SameStack r r′) (high : getD (r .words) argumentsHeld 0 ≤ getD (r′ .words) argumentsHeld 0) (w : Waiting program (r .words)) (ts : List Token) where
+    pub frames-same : listed (frameOf program ts r′) 1 (getD (r .words) callsUsed 0 - 1) ≡ suspendedOf program ts r
+    unfolding suspendedOf
+    frames-same = listed-same (frameOf program ts r′) (frameOf program ts r) 1 (getD (r .words) callsUsed 0 - 1) (λ d a b. frame-same u high w d a (omega arith) ts)
+
+    pub waits-same : getD (r′ .words) callsUsed 0 ≡ getD (r .words) callsUsed 0 → SameWaiting program ts r r′
+    unfolding suspendedOf
+    waits-same c = record {
+      waiting = record {
+        within = λ d z h. within-kept u high w d z (rw c at h);
+        holds = λ d z h. holds-kept u high w d z (rw c at h);
+      };
+      suspended = rw c frames-same;
+    }
+
+  pub same-waiting : Untouched r r′ → getD (r .words) argumentsHeld 0 ≤ getD (r′ .words) argumentsHeld 0 → Waiting program (r .words) → (ts : List Token) → SameWaiting program ts r r′
+  same-waiting u high w ts = waits-same (same-stack u) high w ts (u .calls)
 
   -- ---- shapes
   pub proper-later : {f : Figure} → Proper program (getD (r .words) textUsed 0) f → Proper program (getD (r′ .words) textUsed 0) f

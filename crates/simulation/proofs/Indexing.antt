@@ -10,7 +10,7 @@ use lib.Dec.{eqb, ltb}
 use borrow.Author.Tests.{eqb-true, eqb-false, ltb-true, ltb-false}
 use Rattle.meaning.specs.Basics.{if_then_else_}
 use Rattle.machine.specs.Words.{kindIn, numberIn, handleIn}
-use Rattle.machine.specs.Layout.{entriesUsed, entriesGranted, shapePlace, entryPlace}
+use Rattle.machine.specs.Layout.{entriesUsed, entriesGranted, entryPlace}
 use Rattle.machine.specs.Texts.{textOf}
 use Rattle.machine.specs.Tables.{ownerAt, keyAt, figureContent, contentOf, bucketOf, headPlace, linkAt}
 use Rattle.tables.proofs.IndexLaws.{bucket-less}

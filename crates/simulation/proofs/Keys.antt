@@ -147,7 +147,9 @@ module _ {program : List ℕ} {ts : List Token} {g : List ℕ} {r : Raw} (sound 
         ∙ go (sameKey (keyAmong (shapesOf program r) (meantValue program (r .texts) v)) (keyAmong (shapesOf program r) (meantValue program (r .texts) w))) refl
       where
         go : (b : Bool) → sameKey (keyAmong (shapesOf program r) (meantValue program (r .texts) v)) (keyAmong (shapesOf program r) (meantValue program (r .texts) w)) ≡ b → false ≡ b
-        go true e = absurd (n (sameKey-kind (record { variables = []; shapes = shapesOf program r; tables = 0; entries = [] }) (meantValue program (r .texts) v) (meantValue program (r .texts) w) e))
+        go true e =
+            absurd (n (sameKey-kind (record { variables = []; suspended = []; shapes = shapesOf program r; tables = 0; entries = [] })
+            (meantValue program (r .texts) v) (meantValue program (r .texts) w) e))
         go false e = refl
 
   -- ---- keys of one kind

@@ -5,6 +5,7 @@ mod Indexing
 mod Frames
 pub mod Results
 mod Counting
+mod Moving
 mod Arguments
 pub mod Usable
 pub mod Variables
@@ -20,12 +21,19 @@ mod Asked
 mod Library
 mod Stacking
 mod Chaining
+mod Scopes
+mod Under
 mod Expressions
 pub mod Flows
 pub mod Declaring
 mod Assigning
 mod Storing
 mod Statements
+mod Suspending
+mod Parameters
+mod Calling
+mod Returning
+pub mod Performing
 mod Quoted
 pub mod Body
 pub mod Beginning

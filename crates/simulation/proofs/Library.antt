@@ -1,6 +1,7 @@
 -- The library procedures, their arguments on the stack.
 use Prim.Native.Nat.{ℕ, zero, suc, _+_, _≤_, _<_}
 use native.Mathlib.Omega.{arith}
+use native.Mathlib.Nat.{le-refl, le-trans}
 use native.Mathlib.Numerals.{add-one}
 use mathlib.Core.Path.{_≡_, refl, ap, sym, _∙_}
 use mathlib.Core.Bool.{true}
@@ -24,7 +25,8 @@ use Rattle.meaning.specs.Library.{Library, drawLine, drawEllipse, drawBox, draw
 use Rattle.meaning.specs.Library as Library
 use Rattle.names.specs.Prepared.{numberOf}
 use Rattle.machine.specs.declared.Value.{Value}
-use Rattle.machine.specs.Words.{unpacked}
+use Rattle.machine.specs.Words.{packed, unpacked}
+use Rattle.machine.specs.Layout.{argumentsHeld}
 use Rattle.machine.specs.Act.{Raw}
 use Rattle.machine.specs.Act as Act
 use Rattle.machine.specs.Stack.{argumentAt}
@@ -37,7 +39,7 @@ use Rattle.machine.specs.Library.{withFigure, drawn, drawnText, connected, labe
 use Rattle.machine.specs.Arguments.{allUsable, figure, centreX, centreY, connecting, textOn}
 use Rattle.simulation.specs.Meant.{meantValue, meantWord, meantFigure, listed}
 use Rattle.simulation.specs.Sound.{Valid, Proper}
-use Rattle.simulation.specs.Follows.{Grants, Related, Follows}
+use Rattle.simulation.specs.Follows.{Grants, Related, Later, Follows}
 use Rattle.simulation.proofs.Binding.{bind}
 use Rattle.simulation.proofs.Listed.{listed-same}
 use Rattle.simulation.proofs.Frames.{valid-later, meant-later}
@@ -51,19 +53,27 @@ use Rattle.simulation.proofs.Asked.{with-integer, with-text, with-shape
 -- ---- arguments on the stack: n of them, from the one numbered base on
 module _ (program : List ℕ) where
   pub record Stacked (r : Raw) (base n : ℕ) (us : List Value.Value) : Type 0 where
-    pub within : base + n ≤ getD (r .words) 6 0
+    pub within : base + n ≤ getD (r .words) argumentsHeld 0
     pub valid : (k : ℕ) → base ≤ k → k < base + n → Valid program (r .words) (unpacked (argumentAt (r .words) k))
+    pub packs : (k : ℕ) → base ≤ k → k < base + n → packed (unpacked (argumentAt (r .words) k)) ≡ argumentAt (r .words) k
     pub are : us ≡ listed (λ k. meantWord program r (argumentAt (r .words) k)) base n
 
-module _ {program : List ℕ} {ts : List Token} {g : List ℕ} where
+module _ {program : List ℕ} where
   -- they stay
+  pub stacked-kept : {r r′ : Raw} {base n : ℕ} {us : List Value.Value} → Later program r r′
+      → ((k : ℕ) → k < getD (r .words) argumentsHeld 0 → argumentAt (r′ .words) k ≡ argumentAt (r .words) k) → getD (r .words) argumentsHeld 0 ≤ getD (r′ .words) argumentsHeld 0
+      → Stacked program r base n us → Stacked program r′ base n us
+  stacked-kept {r} {r′} {base} {n} l e h st = record {
+    within = le-trans (st .within) h;
+    valid = λ k x y. rw (e k (omega (arith, st .within))) (valid-later l _ (st .valid k x y));
+    packs = λ k x y. rw (e k (omega (arith, st .within))) (st .packs k x y);
+    are = st .are ∙ listed-same _ _ base n (λ k x y. sym (rw (e k (omega (arith, st .within))) (meant-later l _ (st .valid k x y))));
+  }
+
+module _ {program : List ℕ} {ts : List Token} {g : List ℕ} where
   pub stacked-later : {r r′ : Raw} {s : State} {total : Amounts} {base n : ℕ} {us : List Value.Value} → After program ts g r r′ s total
       → Stacked program r base n us → Stacked program r′ base n us
-  stacked-later {r} {r′} {base = base} {n = n} a st = record {
-    within = rw (a .held) (st .within);
-    valid = λ k x y. rw (a .arguments k (omega (arith, st .within))) (valid-later (a .later) _ (st .valid k x y));
-    are = st .are ∙ listed-same _ _ base n (λ k x y. sym (rw (a .arguments k (omega (arith, st .within))) (meant-later (a .later) _ (st .valid k x y))));
-  }
+  stacked-later a st = stacked-kept (a .later) (a .untouched .arguments) (rw (a .held) (le-refl _)) st
 
   uses-all : {granted : Amounts} (p n base : ℕ) {r : Raw} {s : State} {total : Amounts} → Related program ts g r s total
       → (us : List Value.Value) → Stacked program r base n us
@@ -76,6 +86,7 @@ module _ {program : List ℕ} {ts : List Token} {g : List ℕ} where
       let rest : Stacked program r (base + 1) n (listed (λ k. meantWord program r (argumentAt (r .words) k)) (suc base) n) = record {
         within = omega (arith, st .within);
         valid = λ k x y. st .valid k (omega arith) (omega arith);
+        packs = λ k x y. st .packs k (omega arith) (omega arith);
         are = rw (add-one base);
       } in
       mapped (λ _ _ r₂ s₂ total₂ b. onward a b) (uses-all p n (base + 1) (a .related) _ (stacked-later a rest))))

@@ -24,6 +24,16 @@ module _ {A : Type 0} where
       let q : suc k + n ≡ k + suc n = omega arith in
       ap (λ (l : List A). f k ∷ l) (listed-more f (suc k) n ∙ ap (λ j. listed f (suc k) n ++ (f j ∷ [])) q)
 
+  pub listed-shift : (f h : ℕ → A) (a b n : ℕ) → ((j : ℕ) → j < n → f (a + j) ≡ h (b + j)) → listed f a n ≡ listed h b n
+  unfolding listed
+  listed-shift f h a b zero e = refl
+  listed-shift f h a b (suc n) e =
+      ap₂ _∷_ (ap f (sym (add-zero a)) ∙ e 0 (omega arith) ∙ ap h (add-zero b))
+      (listed-shift f h (suc a) (suc b) n (λ j l.
+      let p : suc a + j ≡ a + suc j = omega arith in
+      let q : suc b + j ≡ b + suc j = omega arith in
+      rw (p, q) (e (suc j) (omega arith))))
+
   pub length-listed : (f : ℕ → A) (k n : ℕ) → length (listed f k n) ≡ n
   unfolding listed
   length-listed f k zero = refl

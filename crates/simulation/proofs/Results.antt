@@ -12,22 +12,39 @@ use Rattle.meaning.specs.Basics.{if_then_else_}
 use Rattle.meaning.specs.Token.{Token}
 use Rattle.meaning.specs.Value as Value
 use Rattle.meaning.specs.State.{State}
-use Rattle.meaning.specs.Run.{Resource, Taking, taking, End, result, error, Run, run}
+use Rattle.meaning.specs.Run.{Resource, Taking, Event, taken, gaveBack, End, result, error, Run, run}
 use Rattle.meaning.specs.Run as Run
-use Rattle.meaning.specs.Book.{Amounts, added, fits, book, shortageOf}
+use Rattle.meaning.specs.Book.{Amounts, added, lowered, fits, book, shortageOf}
 use Rattle.machine.specs.declared.Value.{Value}
-use Rattle.machine.specs.Layout.{stepsUsed, tablesMade, Lent}
+use Rattle.machine.specs.Layout.{stepsUsed, shapesUsed, entriesUsed, textUsed, tablesMade, callsUsed, Lent}
 use Rattle.machine.specs.Act.{Raw, raw, Out, done, stop}
 use Rattle.machine.specs.Act as Act
 use Rattle.simulation.specs.Sound.{Counted}
 use Rattle.simulation.specs.Follows.{Related, Later, Together, gives, lacks, fails, Follows}
-pub use Rattle.simulation.specs.After.{After, AfterValue}
+pub use Rattle.simulation.specs.After.{Untouched, After, AfterValue}
 use Rattle.simulation.proofs.Binding.{Relation, bind}
-use Rattle.simulation.proofs.Frames.{later-refl, later-trans, valid-later, meant-later, SameVariables, variables-kept, variables-same, SameShapes, shapes-kept, shapes-same, SameEntries, entries-kept, entries-same}
+use Rattle.simulation.proofs.Frames.{
+  later-refl,
+  later-trans,
+  untouched-refl,
+  untouched-trans,
+  valid-later,
+  meant-later,
+  SameVariables,
+  variables-kept,
+  variables-same,
+  SameWaiting,
+  SameShapes,
+  shapes-kept,
+  shapes-same,
+  SameEntries,
+  entries-kept,
+  entries-same,
+}
 
 -- ---- outcomes
 -- a weaker relation
-weaker : {granted total : Amounts} {A B : Type 0} {R P : Relation A B} {o : Out A} {us : List Taking} {e : End B}
+weaker : {granted total : Amounts} {A B : Type 0} {R P : Relation A B} {o : Out A} {us : List Event} {e : End B}
     → ((a : A) (b : B) (r : Raw) (s : State) (total′ : Amounts) → R a b r s total′ → P a b r s total′)
     → Together granted total R o us e → Together granted total P o us e
 weaker f (gives total′ b h) = gives total′ b (f _ _ _ _ total′ h)
@@ -48,6 +65,27 @@ module _ {granted total : Amounts} {A B : Type 0} {R : Relation A B} where
   unfolding book
   failed n p r h = record { is = fails total refl h }
 
+  -- a call is given back
+  pub gave-back : {a : A} {b : B} {r : Raw} {s : State} → R a b r s (lowered total) → Follows granted total R (done a r) (run (gaveBack ∷ []) (result b s))
+  unfolding book
+  gave-back h = record { is = gives {us = gaveBack ∷ []} (lowered total) refl h }
+
+-- exactly these slices, state and totals
+pub data Exactly (r : Raw) (s : State) (total : Amounts) : Raw → State → Amounts → Type 0 where
+  exactly : Exactly r s total r s total
+
+pub at-exactly : {granted : Amounts} {A B : Type 0} {P : Relation A B} (k : Act.Act A) (k′ : Run.Action B) {r₁ r₂ : Raw} {s₁ s₂ : State} {total₁ total₂ : Amounts}
+    → Exactly r₁ s₁ total₁ r₂ s₂ total₂ → Follows granted total₁ P (k r₁) (k′ s₁) → Follows granted total₂ P (k r₂) (k′ s₂)
+at-exactly k k′ exactly h = h
+
+pub refused-at : {granted total : Amounts} {r : Raw} {s : State} → getD (r .words) stepsUsed 0 ≡ total Run.steps → (b b′ : Bool) → b ≡ b′ → (n p : ℕ)
+    → Follows granted total (λ _ _ r′ s′ total′. Exactly r s total r′ s′ total′) (Act.refuse b n p r) (Run.refuse b′ n p s)
+unfolding Act.refuse Run.refuse Act.fail Run.fail Act.give Run.give
+refused-at {r = r} h true true e n p = failed n p r h
+refused-at h true false e n p = let z : _≡_ {A = ℕ} 0 1 = cc in absurd (omega arith)
+refused-at h false true e n p = let z : _≡_ {A = ℕ} 0 1 = cc in absurd (omega arith)
+refused-at h false false e n p = given exactly
+
 -- ---- results from slices r on
 module _ (program : List ℕ) (ts : List Token) (g : List ℕ) where
   abbrev pub Units : Raw → Relation (Unit {0}) (Unit {0})
@@ -58,7 +96,7 @@ module _ (program : List ℕ) (ts : List Token) (g : List ℕ) where
 
 module _ {program : List ℕ} {ts : List Token} {g : List ℕ} where
   pub unmoved : {r : Raw} {s : State} {total : Amounts} → Related program ts g r s total → After program ts g r r s total
-  unmoved {r} h = record { related = h; later = later-refl program r; spare = le-refl _; held = refl; arguments = λ k l. refl }
+  unmoved {r} h = record { related = h; later = later-refl program r; spare = le-refl _; held = refl; untouched = untouched-refl r }
 
   pub onward : {r r′ r″ : Raw} {s s′ : State} {total total′ : Amounts} → After program ts g r r′ s total → After program ts g r′ r″ s′ total′
       → After program ts g r r″ s′ total′
@@ -67,7 +105,7 @@ module _ {program : List ℕ} {ts : List Token} {g : List ℕ} where
     later = later-trans (a .later) (b .later);
     spare = omega (arith, a .spare, b .spare);
     held = b .held ∙ a .held;
-    arguments = λ k l. b .arguments k (rw (a .held) l) ∙ a .arguments k l;
+    untouched = untouched-trans (rw (a .held) (le-refl _)) (a .untouched) (b .untouched);
   }
 
   -- a value that was held before
@@ -89,29 +127,30 @@ module _ {program : List ℕ} {ts : List Token} {g : List ℕ} where
   -- a refusal
   pub refused : {granted : Amounts} {r : Raw} {s : State} {total : Amounts} → Related program ts g r s total → (b b′ : Bool) → b ≡ b′ → (n p : ℕ)
       → Follows granted total (Units program ts g r) (Act.refuse b n p r) (Run.refuse b′ n p s)
-  unfolding Act.refuse Run.refuse Act.fail Run.fail Act.give Run.give
-  refused {r = r} h true true e n p = failed n p r (steps-told h)
-  refused h true false e n p = let z : _≡_ {A = ℕ} 0 1 = cc in absurd (omega arith)
-  refused h false true e n p = let z : _≡_ {A = ℕ} 0 1 = cc in absurd (omega arith)
-  refused h false false e n p = given (unmoved h)
+  refused h b b′ e n p = mapped (λ _ _ r′ s′ total′ x. stays h x) (refused-at (steps-told h) b b′ e n p)
+    where
+      stays : {r r′ : Raw} {s s′ : State} {total total′ : Amounts} → Related program ts g r s total → Exactly r s total r′ s′ total′ → After program ts g r r′ s′ total′
+      stays h exactly = unmoved h
 
   -- nothing but counters, arguments and texts has changed
   pub kept-related : {r r′ : Raw} {s s′ : State} {total total′ : Amounts} (h : Related program ts g r s total) (l : Later program r r′)
       → Lent g (r′ .texts) (r′ .words) → Counted g (r′ .words)
-      → SameVariables l → SameShapes l → SameEntries l (h .sound .shapes) g
-      → s′ .variables ≡ s .variables → s′ .shapes ≡ s .shapes → s′ .tables ≡ getD (r′ .words) tablesMade 0 → s′ .entries ≡ s .entries
-      → total′ Run.steps ≡ getD (r′ .words) 0 0 → total′ Run.shapes ≡ getD (r′ .words) 1 0
-      → total′ Run.entries ≡ getD (r′ .words) 2 0 → total′ Run.textBytes ≡ getD (r′ .words) 3 0
+      → SameVariables l → SameWaiting program ts r r′ → SameShapes l → SameEntries l (h .sound .shapes) g
+      → s′ .variables ≡ s .variables → s′ .suspended ≡ s .suspended → s′ .shapes ≡ s .shapes → s′ .tables ≡ getD (r′ .words) tablesMade 0 → s′ .entries ≡ s .entries
+      → total′ Run.steps ≡ getD (r′ .words) stepsUsed 0 → total′ Run.shapes ≡ getD (r′ .words) shapesUsed 0
+      → total′ Run.entries ≡ getD (r′ .words) entriesUsed 0 → total′ Run.textBytes ≡ getD (r′ .words) textUsed 0 → total′ Run.calls ≡ getD (r′ .words) callsUsed 0
       → Related program ts g r′ s′ total′
-  kept-related h l le co sv ss se a b c d w x y z = record {
+  kept-related h l le co sv sw ss se a k b c d w x y z v = record {
     sound = record {
       lent = le;
       counted = co;
       variables = variables-kept l sv ts (h .sound .variables);
+      waiting = sw .waiting;
       shapes = shapes-kept l ss (h .sound .shapes);
       entries = entries-kept l (h .sound .shapes) g se (h .sound .entries);
     };
     variables = a ∙ h .variables ∙ sym (variables-same l sv ts (h .sound .variables));
+    suspended = k ∙ h .suspended ∙ sym (sw .suspended);
     shapes = b ∙ h .shapes ∙ sym (shapes-same l ss (h .sound .shapes));
     tables = c;
     entries = d ∙ h .entries ∙ sym (entries-same l (h .sound .shapes) g se (h .sound .entries));
@@ -119,47 +158,43 @@ module _ {program : List ℕ} {ts : List Token} {g : List ℕ} where
     shapesTaken = x;
     entriesTaken = y;
     textTaken = z;
+    callsTaken = v;
   }
 
 -- ---- what is spent
+abbrev pub due : Resource → ℕ → ℕ → Taking
+due r n p = record { of = r; amount = n; place = p }
+
 module _ {granted total : Amounts} (resource : Resource) (counter limit amount number p : ℕ) (r : Raw) (s : State)
-    (taken : total resource ≡ getD (r .words) counter 0) (grant : granted resource ≡ limit) (name : shortageOf resource ≡ number)
+    (before : total resource ≡ getD (r .words) counter 0) (grant : granted resource ≡ limit) (name : shortageOf resource ≡ number)
     (told : getD (r .words) stepsUsed 0 ≡ total Run.steps) {R : Relation (Unit {0}) (Unit {0})} where
-  pub spent : (getD (r .words) counter 0 + amount ≤ limit
-      → R tt tt (raw (r .texts) (set (r .words) counter (getD (r .words) counter 0 + amount))) s (added total (taking resource amount p)))
+  pub spent : (getD (r .words) counter stepsUsed + amount ≤ limit
+      → R tt tt (raw (r .texts) (set (r .words) counter (getD (r .words) counter stepsUsed + amount))) s (added total (due resource amount p)))
       → Follows granted total R (Act.spend counter limit amount number p r) (Run.spend resource amount p s)
   unfolding Act.spend Run.spend if_then_else_ book fits
-  spent f = go (leb (getD (r .words) counter 0 + amount) limit) refl
+  spent f = go (leb (getD (r .words) counter stepsUsed + amount) limit) refl
     where
-      same : leb (total resource + amount) (granted resource) ≡ leb (getD (r .words) counter 0 + amount) limit
-      same = rw (taken, grant)
+      same : leb (total resource + amount) (granted resource) ≡ leb (getD (r .words) counter stepsUsed + amount) limit
+      same = rw (before, grant)
 
-      go : (b : Bool) → leb (getD (r .words) counter 0 + amount) limit ≡ b
+      go : (b : Bool) → leb (getD (r .words) counter stepsUsed + amount) limit ≡ b
           → Follows granted total R
-          (if b then (λ _. done tt (raw (r .texts) (set (r .words) counter (getD (r .words) counter 0 + amount)))) else λ _. stop number p r)
+          (if b then (λ _. done tt (raw (r .texts) (set (r .words) counter (getD (r .words) counter stepsUsed + amount)))) else λ _. stop number p r)
           (Run.spend resource amount p s)
-      go true e = record { is = gives {us = taking resource amount p ∷ []} (added total (taking resource amount p)) (rw (same, e)) (f (leb-true _ _ e)) }
-      go false e = record { is = lacks {us = taking resource amount p ∷ []} (taking resource amount p) total (rw (same, e)) name refl told }
-
--- exactly these slices, state and totals
-pub data Exactly (r : Raw) (s : State) (total : Amounts) : Raw → State → Amounts → Type 0 where
-  exactly : Exactly r s total r s total
-
-at-exactly : {granted : Amounts} {A B : Type 0} {P : Relation A B} (k : Act.Act A) (k′ : Run.Action B) {r₁ r₂ : Raw} {s₁ s₂ : State} {total₁ total₂ : Amounts}
-    → Exactly r₁ s₁ total₁ r₂ s₂ total₂ → Follows granted total₁ P (k r₁) (k′ s₁) → Follows granted total₂ P (k r₂) (k′ s₂)
-at-exactly k k′ exactly h = h
+      go true e = record { is = gives {us = taken (due resource amount p) ∷ []} (added total (due resource amount p)) (rw (same, e)) (f (leb-true _ _ e)) }
+      go false e = record { is = lacks {us = taken (due resource amount p) ∷ []} (due resource amount p) total (rw (same, e)) name refl told }
 
 module _ {granted total : Amounts} (resource : Resource) (counter limit amount number p : ℕ) (r : Raw) (s : State)
-    (taken : total resource ≡ getD (r .words) counter 0) (grant : granted resource ≡ limit) (name : shortageOf resource ≡ number)
+    (before : total resource ≡ getD (r .words) counter 0) (grant : granted resource ≡ limit) (name : shortageOf resource ≡ number)
     (told : getD (r .words) stepsUsed 0 ≡ total Run.steps) {A B : Type 0} {P : Relation A B} (k : Act.Act A) (k′ : Run.Action B) where
   -- what follows a payment
-  pub spent-then : (getD (r .words) counter 0 + amount ≤ limit
-      → Follows granted (added total (taking resource amount p)) P (k (raw (r .texts) (set (r .words) counter (getD (r .words) counter 0 + amount)))) (k′ s))
+  pub spent-then : (getD (r .words) counter stepsUsed + amount ≤ limit
+      → Follows granted (added total (due resource amount p)) P (k (raw (r .texts) (set (r .words) counter (getD (r .words) counter stepsUsed + amount)))) (k′ s))
       → Follows granted total P (Act._>>_ (Act.spend counter limit amount number p) k r) (Run._>>_ (Run.spend resource amount p) k′ s)
   unfolding Act._>>=_ Run._>>=_
   spent-then f =
-      bind (spent resource counter limit amount number p r s taken grant name told
-      {R = λ _ _ r′ s′ total′. (getD (r .words) counter 0 + amount ≤ limit)
-      × Exactly (raw (r .texts) (set (r .words) counter (getD (r .words) counter 0 + amount))) s (added total (taking resource amount p)) r′ s′ total′}
+      bind (spent resource counter limit amount number p r s before grant name told
+      {R = λ _ _ r′ s′ total′. (getD (r .words) counter stepsUsed + amount ≤ limit)
+      × Exactly (raw (r .texts) (set (r .words) counter (getD (r .words) counter stepsUsed + amount))) s (added total (due resource amount p)) r′ s′ total′}
       (λ fit. (fit, exactly)))
       (λ _ _ r′ s′ total′ w. at-exactly k k′ (w .1) (f (w .0)))

@@ -20,13 +20,12 @@ use Rattle.meaning.specs.Figure as Meaning
 use Rattle.meaning.specs.Value as Value
 use Rattle.meaning.specs.State.{State, withShape}
 use Rattle.meaning.specs.State as State
-use Rattle.meaning.specs.Run.{taking}
 use Rattle.meaning.specs.Run as Run
 use Rattle.meaning.specs.Book.{Amounts, added, resourceNumber, shortageOf}
 use Rattle.meaning.specs.Operator as Operator
 use Rattle.machine.specs.declared.Value.{Value}
 use Rattle.machine.specs.declared.Value.the-variants.{Shape}
-use Rattle.machine.specs.Layout.{shapePlace}
+use Rattle.machine.specs.Layout.{stepsUsed, shapesUsed, entriesUsed, textUsed, tablesMade, declared, argumentsHeld, callsUsed, shapesGranted, shapePlace}
 use Rattle.machine.specs.Act.{Raw, raw}
 use Rattle.machine.specs.Act as Act
 use Rattle.machine.specs.declared.Figure.{Figure}
@@ -35,8 +34,21 @@ use Rattle.simulation.specs.Meant.{meantValue, meantFigure, listed, shap
 use Rattle.simulation.specs.Sound.{Valid, Proper, Counted, Shapes}
 use Rattle.simulation.specs.Follows.{Grants, Related, Later, Follows}
 use Rattle.simulation.proofs.Listed.{listed-first, listed-more, length-listed}
-use Rattle.simulation.proofs.Frames.{proper-kept, figure-later, SameVariables, variables-kept, variables-same, SameEntries, entries-kept, entries-same}
-use Rattle.simulation.proofs.Results.{given, AfterValue, steps-told, spent-then}
+use Rattle.simulation.proofs.Frames.{
+  proper-kept,
+  figure-later,
+  untouched-words,
+  SameVariables,
+  same-words,
+  variables-kept,
+  variables-same,
+  SameWaiting,
+  same-waiting,
+  SameEntries,
+  entries-kept,
+  entries-same,
+}
+use Rattle.simulation.proofs.Results.{due, given, Untouched, AfterValue, steps-told, spent-then}
 use Rattle.simulation.proofs.Counting.{lent-set, figure-same}
 
 -- ---- a figure's words
@@ -112,33 +124,33 @@ module _ (ws : List ℕ) (a b c d x y z w : ℕ) where
   read-fourth l = getD-set-same w₃ d w 0 (rw (length-set w₂ c z, length-set w₁ b y, length-set ws a x) l)
 
 module _ {program : List ℕ} {ts : List Token} {g : List ℕ} where
-  module _ {r : Raw} {s : State} {total : Amounts} (h : Related program ts g r s total) (f : Figure) (proper : Proper program (getD (r .words) 3 0) f)
-      (fit : getD (r .words) 1 0 + 1 ≤ getD g 1 0) where
+  module _ {r : Raw} {s : State} {total : Amounts} (h : Related program ts g r s total) (f : Figure) (proper : Proper program (getD (r .words) textUsed 0) f)
+      (fit : getD (r .words) shapesUsed 0 + 1 ≤ shapesGranted g) where
     abbrev n : ℕ
-    n = getD (r .words) 1 0
+    n = getD (r .words) shapesUsed 0
 
     abbrev place : ℕ
-    place = shapePlace (getD (r .words) 1 0)
+    place = shapePlace (getD (r .words) shapesUsed 0)
 
     abbrev made : Raw
-    made = raw (r .texts) (figureLaid (set (r .words) 1 (getD (r .words) 1 0 + 1)) (shapePlace (getD (r .words) 1 0)) f)
+    made = raw (r .texts) (figureLaid (set (r .words) shapesUsed (getD (r .words) shapesUsed 0 + 1)) (shapePlace (getD (r .words) shapesUsed 0)) f)
 
     abbrev ws′ : List ℕ
-    ws′ = figureLaid (set (r .words) 1 (getD (r .words) 1 0 + 1)) (shapePlace (getD (r .words) 1 0)) f
+    ws′ = figureLaid (set (r .words) shapesUsed (getD (r .words) shapesUsed 0 + 1)) (shapePlace (getD (r .words) shapesUsed 0)) f
 
     long : place + 3 ≤ length (r .words)
     long = omega (arith, fit, h .sound .lent .room .words)
 
-    untouched : (j : ℕ) → j ≢ 1 → j ≢ place → j ≢ place + 1 → j ≢ place + 2 → getD ws′ j 0 ≡ getD (r .words) j 0
+    untouched : (j : ℕ) → j ≢ shapesUsed → j ≢ place → j ≢ place + 1 → j ≢ place + 2 → getD ws′ j 0 ≡ getD (r .words) j 0
     untouched j a b c d = read-four (r .words) 1 place (place + 1) (place + 2) (n + 1) (firstWord (f .kind) (f .text)) (pairWord (f .a) (f .b)) (pairWord (f .c) (f .d)) j a b c d
 
-    lowly : (j : ℕ) → j ≢ 1 → j < place → getD ws′ j 0 ≡ getD (r .words) j 0
+    lowly : (j : ℕ) → j ≢ shapesUsed → j < place → getD ws′ j 0 ≡ getD (r .words) j 0
     lowly j a b = untouched j a (λ e. omega arith) (λ e. omega arith) (λ e. omega arith)
 
     highly : (j : ℕ) → place + 3 ≤ j → getD ws′ j 0 ≡ getD (r .words) j 0
     highly j b = untouched j (λ e. omega arith) (λ e. omega arith) (λ e. omega arith) (λ e. omega arith)
 
-    one-more : getD ws′ 1 0 ≡ n + 1
+    one-more : getD ws′ shapesUsed 0 ≡ n + 1
     one-more = read-first (r .words) 1 place (place + 1) (place + 2) (n + 1) (firstWord (f .kind) (f .text)) (pairWord (f .a) (f .b)) (pairWord (f .c) (f .d)) (omega (arith, long)) (λ e. omega arith) (λ e. omega arith) (λ e. omega arith)
 
     word₀ : getD ws′ place 0 ≡ firstWord (f .kind) (f .text)
@@ -166,32 +178,41 @@ module _ {program : List ℕ} {ts : List Token} {g : List ℕ} where
 
     shape-later : Later program r made
     shape-later = record {
-      steps = omega (arith, lowly 0 (λ e. omega arith) (omega arith));
+      steps = omega (arith, lowly stepsUsed (λ e. omega arith) (omega arith));
       shapes = omega (arith, one-more);
-      text = omega (arith, lowly 3 (λ e. omega arith) (omega arith));
-      tables = omega (arith, lowly 4 (λ e. omega arith) (omega arith));
+      text = omega (arith, lowly textUsed (λ e. omega arith) (omega arith));
+      tables = omega (arith, lowly tablesMade (λ e. omega arith) (omega arith));
       texts = λ t v. refl;
       figures = λ i l. figure-same (r .words) ws′ i (λ j k. lowly _ (λ e. omega arith) (omega arith));
     }
 
     variables-as : SameVariables shape-later
-    variables-as = record { count = lowly 5 (λ e. omega arith) (omega arith); words = λ j a b. lowly j (λ e. omega arith) (omega arith) }
+    variables-as = same-words shape-later (lowly declared (λ e. omega arith) (omega arith)) (λ j a b. lowly j (λ e. omega arith) (omega arith))
+
+    calls-as : getD ws′ callsUsed 0 ≡ getD (r .words) callsUsed 0
+    calls-as = lowly callsUsed (λ e. omega arith) (omega arith)
+
+    untouched-as : Untouched r made
+    untouched-as = untouched-words (λ j a b. lowly j (λ e. omega arith) (omega arith)) (λ k l. lowly _ (λ e. omega arith) (omega arith))
+
+    waiting-as : SameWaiting program ts r made
+    waiting-as = same-waiting shape-later untouched-as (omega (arith, lowly argumentsHeld (λ e. omega arith) (omega arith))) (h .sound .waiting) ts
 
     entries-as : SameEntries shape-later (h .sound .shapes) g
     entries-as = record {
-      count = lowly 2 (λ e. omega arith) (omega arith);
+      count = lowly entriesUsed (λ e. omega arith) (omega arith);
       firsts = λ k a. highly _ (omega (arith, fit));
       keys = λ k a. highly _ (omega (arith, fit));
       values = λ k a. highly _ (omega (arith, fit));
       heads = λ b a. highly _ (omega (arith, fit));
     }
 
-    text-as : getD ws′ 3 0 ≡ getD (r .words) 3 0
-    text-as = lowly 3 (λ e. omega arith) (omega arith)
+    text-as : getD ws′ textUsed 0 ≡ getD (r .words) textUsed 0
+    text-as = lowly textUsed (λ e. omega arith) (omega arith)
 
     shapes-now : Shapes program ws′
     shapes-now = let old = h .sound .shapes in record {
-      proper = λ i l. up-to (λ i. Proper program (getD ws′ 3 0) (figureAt ws′ i)) n (λ i l. proper-kept shape-later old i l) (rw (newest, text-as) proper) i (rw one-more at l);
+      proper = λ i l. up-to (λ i. Proper program (getD ws′ textUsed 0) (figureAt ws′ i)) n (λ i l. proper-kept shape-later old i l) (rw (newest, text-as) proper) i (rw one-more at l);
       first = λ i l. up-to (λ i. getD ws′ (shapePlace i + 1) 0 < 2 ^ 64) n (λ i l. rw (lowly (shapePlace i + 1) (λ e. omega arith) (omega arith)) (old .first i l)) (rw word₁ (pair-small (f .a) (f .b))) i (rw one-more at l);
       second = λ i l. up-to (λ i. getD ws′ (shapePlace i + 2) 0 < 2 ^ 64) n (λ i l. rw (lowly (shapePlace i + 2) (λ e. omega arith) (omega arith)) (old .second i l)) (rw word₂ (pair-small (f .c) (f .d))) i (rw one-more at l);
     }
@@ -218,44 +239,48 @@ module _ {program : List ℕ} {ts : List Token} {g : List ℕ} where
 
     made-counted : Counted g ws′
     made-counted = let c = h .sound .counted in record {
-      steps = rw (lowly 0 (λ e. omega arith) (omega arith)) (c .steps);
+      steps = rw (lowly stepsUsed (λ e. omega arith) (omega arith)) (c .steps);
       shapes = rw one-more fit;
-      entries = rw (lowly 2 (λ e. omega arith) (omega arith)) (c .entries);
+      entries = rw (lowly entriesUsed (λ e. omega arith) (omega arith)) (c .entries);
       text = rw text-as (c .text);
-      tables = rw (lowly 4 (λ e. omega arith) (omega arith), lowly 0 (λ e. omega arith) (omega arith)) (c .tables);
-      arguments = rw (lowly 6 (λ e. omega arith) (omega arith)) (c .arguments);
+      tables = rw (lowly tablesMade (λ e. omega arith) (omega arith), lowly stepsUsed (λ e. omega arith) (omega arith)) (c .tables);
+      arguments = rw (lowly argumentsHeld (λ e. omega arith) (omega arith)) (c .arguments);
+      calls = rw calls-as (c .calls);
     }
 
-    made-related : (a : Meaning.Figure) (p : ℕ) → a ≡ meantFigure program (r .texts) f → Related program ts g made (withShape s a) (added total (taking Run.shapes 1 p))
+    made-related : (a : Meaning.Figure) (p : ℕ) → a ≡ meantFigure program (r .texts) f → Related program ts g made (withShape s a) (added total (due Run.shapes 1 p))
     unfolding added resourceNumber withShape
     made-related a p e = record {
       sound = record {
         lent = lent-set _ _ (lent-set _ _ (lent-set _ _ (lent-set _ _ (h .sound .lent))));
         counted = made-counted;
         variables = variables-kept shape-later variables-as ts (h .sound .variables);
+        waiting = waiting-as .waiting;
         shapes = shapes-now;
         entries = entries-kept shape-later (h .sound .shapes) g entries-as (h .sound .entries);
       };
       variables = h .variables ∙ sym (variables-same shape-later variables-as ts (h .sound .variables));
+      suspended = h .suspended ∙ sym (waiting-as .suspended);
       shapes = rw (h .shapes, e) (sym list-now);
-      tables = h .tables ∙ sym (lowly 4 (λ e. omega arith) (omega arith));
+      tables = h .tables ∙ sym (lowly tablesMade (λ e. omega arith) (omega arith));
       entries = h .entries ∙ sym (entries-same shape-later (h .sound .shapes) g entries-as (h .sound .entries));
-      stepsTaken = omega (arith, h .stepsTaken, lowly 0 (λ e. omega arith) (omega arith));
+      stepsTaken = omega (arith, h .stepsTaken, lowly stepsUsed (λ e. omega arith) (omega arith));
       shapesTaken = omega (arith, h .shapesTaken, one-more);
-      entriesTaken = omega (arith, h .entriesTaken, lowly 2 (λ e. omega arith) (omega arith));
+      entriesTaken = omega (arith, h .entriesTaken, lowly entriesUsed (λ e. omega arith) (omega arith));
       textTaken = omega (arith, h .textTaken, text-as);
+      callsTaken = omega (arith, h .callsTaken, calls-as);
     }
 
     made-after : (a : Meaning.Figure) (p : ℕ) → a ≡ meantFigure program (r .texts) f
-        → AfterValue program ts g r (Shape n) (Value.shape (length (s .shapes))) made (withShape s a) (added total (taking Run.shapes 1 p))
+        → AfterValue program ts g r (Shape n) (Value.shape (length (s .shapes))) made (withShape s a) (added total (due Run.shapes 1 p))
     unfolding Valid meantValue shapesOf
     made-after a p e = record {
       after = record {
         related = made-related a p e;
         later = shape-later;
-        spare = omega (arith, lowly 0 (λ e. omega arith) (omega arith), lowly 4 (λ e. omega arith) (omega arith));
-        held = lowly 6 (λ e. omega arith) (omega arith);
-        arguments = λ k l. lowly _ (λ e. omega arith) (omega arith);
+        spare = omega (arith, lowly stepsUsed (λ e. omega arith) (omega arith), lowly tablesMade (λ e. omega arith) (omega arith));
+        held = lowly argumentsHeld (λ e. omega arith) (omega arith);
+        untouched = untouched-as;
       };
       valid = omega (arith, one-more);
       means = ap Value.shape (rw (h .shapes) (length-listed (shapeAt program r) 0 n));
@@ -269,9 +294,9 @@ module _ (program : List ℕ) (ts : List Token) (g : List ℕ) where
 
 module _ {program : List ℕ} {ts : List Token} {g : List ℕ} where
   pub makes-shape : {granted : Amounts} (gr : Grants g granted) {r : Raw} {s : State} {total : Amounts} (h : Related program ts g r s total) (f : Figure) (a : Meaning.Figure)
-      → Proper program (getD (r .words) 3 0) f → a ≡ meantFigure program (r .texts) f → (p : ℕ)
+      → Proper program (getD (r .words) textUsed 0) f → a ≡ meantFigure program (r .texts) f → (p : ℕ)
       → Follows granted total (λ v u r′ s′ total′. AfterShape program ts g r s v u r′ s′ total′) (newShape g p f r) (Operator.newShape p a s)
   unfolding newShape Operator.newShape Act._>>=_ Act.goOn Act.load Act.give putFigure Run._>>=_ Run.goOn Run.current Run.become Run.give shortageOf withShape
   makes-shape gr {r} {s} h f a proper e p =
-      spent-then Run.shapes 1 (getD g 1 0) 1 76 p r s (h .shapesTaken) (gr .shapes) refl (steps-told h) _ _
+      spent-then Run.shapes shapesUsed (shapesGranted g) 1 76 p r s (h .shapesTaken) (gr .shapes) refl (steps-told h) _ _
       (λ fit. given (record { value = made-after h f proper fit a p e; variables = refl }))

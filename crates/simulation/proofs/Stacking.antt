@@ -18,11 +18,12 @@ use Rattle.machine.specs.declared.Value.{Value}
 use Rattle.machine.specs.Words.{packed, unpacked}
 use Rattle.machine.specs.Act.{Raw}
 use Rattle.machine.specs.Stack.{argumentAt}
+use Rattle.machine.specs.Layout.{stepsUsed, tablesMade, argumentsHeld}
 use Rattle.simulation.specs.Meant.{meantValue, meantWord, listed}
 use Rattle.simulation.specs.Sound.{Valid}
 use Rattle.simulation.specs.Follows.{Related, Later}
-use Rattle.simulation.proofs.Frames.{later-refl, later-trans, valid-later, meant-later}
-use Rattle.simulation.proofs.Results.{AfterValue}
+use Rattle.simulation.proofs.Frames.{later-refl, later-trans, untouched-refl, untouched-trans, valid-later, meant-later}
+use Rattle.simulation.proofs.Results.{Untouched, AfterValue}
 use Rattle.simulation.proofs.Arguments.{Pushed}
 use Rattle.simulation.proofs.Keys.{back-again}
 use Rattle.simulation.proofs.Library.{Stacked}
@@ -33,10 +34,10 @@ module _ (program : List ℕ) (ts : List Token) (g : List ℕ) where
     pub many : ℕ
     pub related : Related program ts g r′ s total
     pub later : Later program r r′
-    pub spare : getD (r′ .words) 4 0 + getD (r .words) 0 0 ≤ getD (r .words) 4 0 + getD (r′ .words) 0 0
-    pub held : getD (r′ .words) 6 0 ≡ getD (r .words) 6 0 + many
-    pub arguments : (k : ℕ) → k < getD (r .words) 6 0 → argumentAt (r′ .words) k ≡ argumentAt (r .words) k
-    pub stacked : Stacked program r′ (getD (r .words) 6 0) many us
+    pub spare : getD (r′ .words) tablesMade 0 + getD (r .words) stepsUsed 0 ≤ getD (r .words) tablesMade 0 + getD (r′ .words) stepsUsed 0
+    pub held : getD (r′ .words) argumentsHeld 0 ≡ getD (r .words) argumentsHeld 0 + many
+    pub untouched : Untouched r r′
+    pub stacked : Stacked program r′ (getD (r .words) argumentsHeld 0) many us
 
 module _ {program : List ℕ} {ts : List Token} {g : List ℕ} where
   pub no-more : {r : Raw} {s : State} {total : Amounts} → Related program ts g r s total → AfterArguments program ts g r [] r s total
@@ -47,23 +48,23 @@ module _ {program : List ℕ} {ts : List Token} {g : List ℕ} where
     later = later-refl program r;
     spare = le-refl _;
     held = omega arith;
-    arguments = λ k l. refl;
-    stacked = record { within = omega arith; valid = λ k x y. absurd (omega arith); are = refl };
+    untouched = untouched-refl r;
+    stacked = record { within = omega arith; valid = λ k x y. absurd (omega arith); packs = λ k x y. absurd (omega arith); are = refl };
   }
 
   module _ {r r₁ r₂ r₃ : Raw} {v : Value} {u : Value.Value} {us : List Value.Value} {s₁ s₃ : State} {total₁ total₃ : Amounts}
       (a : AfterValue program ts g r v u r₁ s₁ total₁) (b : Pushed program ts g r₁ (packed v) r₂ s₁ total₁) (c : AfterArguments program ts g r₂ us r₃ s₃ total₃) where
-    base : getD (r₂ .words) 6 0 ≡ suc (getD (r .words) 6 0)
-    base = b .held ∙ ap (λ n. n + 1) (a .after .held) ∙ add-one (getD (r .words) 6 0)
+    base : getD (r₂ .words) argumentsHeld 0 ≡ suc (getD (r .words) argumentsHeld 0)
+    base = b .held ∙ ap (λ n. n + 1) (a .after .held) ∙ add-one (getD (r .words) argumentsHeld 0)
 
     later₃ : Later program r₁ r₃
     later₃ = later-trans (b .later) (c .later)
 
-    own : argumentAt (r₃ .words) (getD (r .words) 6 0) ≡ packed v
+    own : argumentAt (r₃ .words) (getD (r .words) argumentsHeld 0) ≡ packed v
     own =
-        c .arguments (getD (r .words) 6 0) (omega (arith, base)) ∙ ap (argumentAt (r₂ .words)) (sym (a .after .held)) ∙ b .newest
+        c .untouched .arguments (getD (r .words) argumentsHeld 0) (omega (arith, base)) ∙ ap (argumentAt (r₂ .words)) (sym (a .after .held)) ∙ b .newest
 
-    own-value : unpacked (argumentAt (r₃ .words) (getD (r .words) 6 0)) ≡ v
+    own-value : unpacked (argumentAt (r₃ .words) (getD (r .words) argumentsHeld 0)) ≡ v
     own-value = rw own (back-again (a .after .related .sound) v (a .valid))
 
     now-valid : Valid program (r₃ .words) v
@@ -77,17 +78,22 @@ module _ {program : List ℕ} {ts : List Token} {g : List ℕ} where
       later = later-trans (a .after .later) later₃;
       spare = omega (arith, a .after .spare, b .steps, b .tables, c .spare);
       held = omega (arith, c .held, base);
-      arguments = λ k l.
-          c .arguments k (omega (arith, base)) ∙ b .arguments k (rw (a .after .held) l) ∙ a .after .arguments k l;
+      untouched = untouched-trans (rw (a .after .held) (le-refl _)) (a .after .untouched) (untouched-trans (omega (arith, b .held)) (b .untouched) (c .untouched));
       stacked = record {
         within = omega (arith, c .held, base);
-        valid = λ k x y. at k x y (eqb k (getD (r .words) 6 0)) refl;
+        valid = λ k x y. at k x y (eqb k (getD (r .words) argumentsHeld 0)) refl;
+        packs = λ k x y. packed-at k x y (eqb k (getD (r .words) argumentsHeld 0)) refl;
         are = ap₂ _∷_ (a .means ∙ sym (meant-later later₃ v (a .valid)) ∙ ap (meantValue program (r₃ .texts)) (sym own-value))
             (c .stacked .are ∙ ap (λ n. listed (λ k. meantWord program r₃ (argumentAt (r₃ .words) k)) n (c .many)) base);
       };
     }
       where
-        at : (k : ℕ) → getD (r .words) 6 0 ≤ k → k < getD (r .words) 6 0 + suc (c .many) → (t : Bool) → eqb k (getD (r .words) 6 0) ≡ t
+        at : (k : ℕ) → getD (r .words) argumentsHeld 0 ≤ k → k < getD (r .words) argumentsHeld 0 + suc (c .many) → (t : Bool) → eqb k (getD (r .words) argumentsHeld 0) ≡ t
             → Valid program (r₃ .words) (unpacked (argumentAt (r₃ .words) k))
-        at k x y true e = rw (eqb-true k (getD (r .words) 6 0) e, own-value) now-valid
-        at k x y false e = let d : k ≢ getD (r .words) 6 0 = eqb-false k (getD (r .words) 6 0) e in c .stacked .valid k (omega (arith, base)) (omega (arith, base))
+        at k x y true e = rw (eqb-true k (getD (r .words) argumentsHeld 0) e, own-value) now-valid
+        at k x y false e = let d : k ≢ getD (r .words) argumentsHeld 0 = eqb-false k (getD (r .words) argumentsHeld 0) e in c .stacked .valid k (omega (arith, base)) (omega (arith, base))
+
+        packed-at : (k : ℕ) → getD (r .words) argumentsHeld 0 ≤ k → k < getD (r .words) argumentsHeld 0 + suc (c .many) → (t : Bool) → eqb k (getD (r .words) argumentsHeld 0) ≡ t
+            → packed (unpacked (argumentAt (r₃ .words) k)) ≡ argumentAt (r₃ .words) k
+        packed-at k x y true e = rw (eqb-true k (getD (r .words) argumentsHeld 0) e, own-value, own)
+        packed-at k x y false e = let d : k ≢ getD (r .words) argumentsHeld 0 = eqb-false k (getD (r .words) argumentsHeld 0) e in c .stacked .packs k (omega (arith, base)) (omega (arith, base))

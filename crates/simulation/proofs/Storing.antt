@@ -16,13 +16,12 @@ use Rattle.meaning.specs.Token.{Token}
 use Rattle.meaning.proofs.KeyLaws.{sameKey-same}
 use Rattle.meaning.specs.Value as Value
 use Rattle.meaning.specs.State.{State, Key, Entry, matches, overwritten, withEntries}
-use Rattle.meaning.specs.Run.{taking}
 use Rattle.meaning.specs.Run as Run
 use Rattle.meaning.specs.Book.{Amounts, added, resourceNumber, shortageOf}
 use Rattle.meaning.specs.Execute.{storing, updating}
 use Rattle.machine.specs.declared.Value.{Value}
 use Rattle.machine.specs.Words.{packed, unpacked}
-use Rattle.machine.specs.Layout.{entryPlace}
+use Rattle.machine.specs.Layout.{stepsUsed, shapesUsed, entriesUsed, textUsed, tablesMade, declared, argumentsHeld, callsUsed, shapesGranted, entriesGranted, fixedWords, entryPlace}
 use Rattle.machine.specs.Act.{Raw, raw}
 use Rattle.machine.specs.Act as Act
 use Rattle.machine.specs.Tables.{ownerAt, keyAt, valueAt, linkAt, findEntry, bucketOf, headPlace, entryLaid, putEntry, addEntry, storeIn, storeEntry}
@@ -36,8 +35,22 @@ use Rattle.tables.proofs.IndexLaws.{bucket-less}
 use Rattle.simulation.specs.Index.{lies}
 use Rattle.simulation.proofs.Index.{last-le}
 use Rattle.simulation.proofs.Indexing.{index-agrees, index-added}
-use Rattle.simulation.proofs.Frames.{valid-later, key-later, content-later, SameVariables, variables-kept, variables-same, SameShapes, shapes-kept, shapes-same}
-use Rattle.simulation.proofs.Results.{given, After, steps-told, spent-then}
+use Rattle.simulation.proofs.Frames.{
+  valid-later,
+  key-later,
+  content-later,
+  untouched-words,
+  SameVariables,
+  same-words,
+  variables-kept,
+  variables-same,
+  SameWaiting,
+  same-waiting,
+  SameShapes,
+  shapes-kept,
+  shapes-same,
+}
+use Rattle.simulation.proofs.Results.{due, given, Untouched, After, steps-told, spent-then}
 use Rattle.simulation.proofs.Counting.{figure-same}
 use Rattle.simulation.proofs.Shapes.{up-to, read-four, read-first, read-second, read-third, read-fourth}
 use Rattle.simulation.proofs.Keys.{back-again}
@@ -46,65 +59,76 @@ use Rattle.simulation.proofs.Flows.{both-onward, AfterFlow, Flows}
 
 -- ---- nothing but entries has changed
 module _ {program : List ℕ} {ts : List Token} {g : List ℕ} {r : Raw} {s : State} {total : Amounts} (h : Related program ts g r s total) (ws′ : List ℕ)
-    (low : (j : ℕ) → j ≢ 2 → j < 24584 + 3 * getD g 1 0 → getD ws′ j 0 ≡ getD (r .words) j 0) where
-  counter : (j : ℕ) → j ≢ 2 → j < 7 → getD ws′ j 0 ≡ getD (r .words) j 0
+    (low : (j : ℕ) → j ≢ entriesUsed → j < fixedWords + 3 * shapesGranted g → getD ws′ j 0 ≡ getD (r .words) j 0) where
+  counter : (j : ℕ) → j ≢ entriesUsed → j < 80 → getD ws′ j 0 ≡ getD (r .words) j 0
   counter j n l = low j n (omega arith)
 
   pub stored-later : Later program r (raw (r .texts) ws′)
   stored-later = record {
-    steps = omega (arith, counter 0 (λ e. omega arith) (omega arith));
-    shapes = omega (arith, counter 1 (λ e. omega arith) (omega arith));
-    text = omega (arith, counter 3 (λ e. omega arith) (omega arith));
-    tables = omega (arith, counter 4 (λ e. omega arith) (omega arith));
+    steps = omega (arith, counter stepsUsed (λ e. omega arith) (omega arith));
+    shapes = omega (arith, counter shapesUsed (λ e. omega arith) (omega arith));
+    text = omega (arith, counter textUsed (λ e. omega arith) (omega arith));
+    tables = omega (arith, counter tablesMade (λ e. omega arith) (omega arith));
     texts = λ t v. refl;
     figures = λ i l. figure-same (r .words) ws′ i (λ j k. low _ (λ e. omega arith) (omega (arith, h .sound .counted .shapes)));
   }
 
   stored-variables : SameVariables stored-later
-  stored-variables = record { count = counter 5 (λ e. omega arith) (omega arith); words = λ i a b. low i (λ e. omega arith) (omega arith) }
+  stored-variables = same-words stored-later (counter declared (λ e. omega arith) (omega arith)) (λ i a b. low i (λ e. omega arith) (omega arith))
+
+  stored-untouched : Untouched r (raw (r .texts) ws′)
+  stored-untouched = untouched-words (λ i a b. low i (λ e. omega arith) (omega arith)) (λ k l. low _ (λ e. omega arith) (omega arith))
+
+  stored-waiting : SameWaiting program ts r (raw (r .texts) ws′)
+  stored-waiting = same-waiting stored-later stored-untouched (omega (arith, counter argumentsHeld (λ e. omega arith) (omega arith))) (h .sound .waiting) ts
 
   stored-shapes : SameShapes stored-later
   stored-shapes = record {
-    count = counter 1 (λ e. omega arith) (omega arith);
+    count = counter shapesUsed (λ e. omega arith) (omega arith);
     words = λ i j a b. low _ (λ e. omega arith) (omega (arith, h .sound .counted .shapes));
   }
 
-  pub stored : (es : List Entry) (total′ : Amounts) → length ws′ ≡ length (r .words) → getD ws′ 2 0 ≤ getD g 2 0 → Entries program g (raw (r .texts) ws′)
+  pub stored : (es : List Entry) (total′ : Amounts) → length ws′ ≡ length (r .words) → getD ws′ entriesUsed 0 ≤ entriesGranted g → Entries program g (raw (r .texts) ws′)
       → es ≡ entriesOf program g (raw (r .texts) ws′)
-      → total′ Run.steps ≡ total Run.steps → total′ Run.shapes ≡ total Run.shapes → total′ Run.entries ≡ getD ws′ 2 0 → total′ Run.textBytes ≡ total Run.textBytes
+      → total′ Run.steps ≡ total Run.steps → total′ Run.shapes ≡ total Run.shapes → total′ Run.entries ≡ getD ws′ entriesUsed 0 → total′ Run.textBytes ≡ total Run.textBytes
+      → total′ Run.calls ≡ total Run.calls
       → After program ts g r (raw (r .texts) ws′) (withEntries s es) total′
-  stored es total′ long fit en e a b c d = let n = h .sound .counted in let l = h .sound .lent in record {
+  stored es total′ long fit en e a b c d f = let n = h .sound .counted in let l = h .sound .lent in record {
     related = record {
       sound = record {
         lent = record {
-          room = record { steps = l .room .steps; shapes = l .room .shapes; entries = l .room .entries; text = l .room .text; words = rw long (l .room .words) };
+          room = record { steps = l .room .steps; shapes = l .room .shapes; entries = l .room .entries; text = l .room .text; calls = l .room .calls; words = rw long (l .room .words) };
           texts = l .texts;
         };
         counted = record {
-          steps = rw (counter 0 (λ e. omega arith) (omega arith)) (n .steps);
-          shapes = rw (counter 1 (λ e. omega arith) (omega arith)) (n .shapes);
+          steps = rw (counter stepsUsed (λ e. omega arith) (omega arith)) (n .steps);
+          shapes = rw (counter shapesUsed (λ e. omega arith) (omega arith)) (n .shapes);
           entries = fit;
-          text = rw (counter 3 (λ e. omega arith) (omega arith)) (n .text);
-          tables = rw (counter 4 (λ e. omega arith) (omega arith), counter 0 (λ e. omega arith) (omega arith)) (n .tables);
-          arguments = rw (counter 6 (λ e. omega arith) (omega arith)) (n .arguments);
+          text = rw (counter textUsed (λ e. omega arith) (omega arith)) (n .text);
+          tables = rw (counter tablesMade (λ e. omega arith) (omega arith), counter stepsUsed (λ e. omega arith) (omega arith)) (n .tables);
+          arguments = rw (counter argumentsHeld (λ e. omega arith) (omega arith)) (n .arguments);
+          calls = rw (counter callsUsed (λ e. omega arith) (omega arith)) (n .calls);
         };
         variables = variables-kept stored-later stored-variables ts (h .sound .variables);
+        waiting = stored-waiting .waiting;
         shapes = shapes-kept stored-later stored-shapes (h .sound .shapes);
         entries = en;
       };
       variables = h .variables ∙ sym (variables-same stored-later stored-variables ts (h .sound .variables));
+      suspended = h .suspended ∙ sym (stored-waiting .suspended);
       shapes = h .shapes ∙ sym (shapes-same stored-later stored-shapes (h .sound .shapes));
-      tables = h .tables ∙ sym (counter 4 (λ e. omega arith) (omega arith));
+      tables = h .tables ∙ sym (counter tablesMade (λ e. omega arith) (omega arith));
       entries = e;
-      stepsTaken = a ∙ h .stepsTaken ∙ sym (counter 0 (λ e. omega arith) (omega arith));
-      shapesTaken = b ∙ h .shapesTaken ∙ sym (counter 1 (λ e. omega arith) (omega arith));
+      stepsTaken = a ∙ h .stepsTaken ∙ sym (counter stepsUsed (λ e. omega arith) (omega arith));
+      shapesTaken = b ∙ h .shapesTaken ∙ sym (counter shapesUsed (λ e. omega arith) (omega arith));
       entriesTaken = c;
-      textTaken = d ∙ h .textTaken ∙ sym (counter 3 (λ e. omega arith) (omega arith));
+      textTaken = d ∙ h .textTaken ∙ sym (counter textUsed (λ e. omega arith) (omega arith));
+      callsTaken = f ∙ h .callsTaken ∙ sym (counter callsUsed (λ e. omega arith) (omega arith));
     };
     later = stored-later;
-    spare = omega (arith, counter 0 (λ e. omega arith) (omega arith), counter 4 (λ e. omega arith) (omega arith));
-    held = counter 6 (λ e. omega arith) (omega arith);
-    arguments = λ k b. low _ (λ e. omega arith) (omega arith);
+    spare = omega (arith, counter stepsUsed (λ e. omega arith) (omega arith), counter tablesMade (λ e. omega arith) (omega arith));
+    held = counter argumentsHeld (λ e. omega arith) (omega arith);
+    untouched = stored-untouched;
   }
 
   -- what an entry is called and holds, by its words
@@ -112,9 +136,9 @@ module _ {program : List ℕ} {ts : List Token} {g : List ℕ} {r : Raw} {s : St
   key-stays w l = key-later stored-later (h .sound .shapes) (unpacked w) l
 
 module _ {program : List ℕ} {ts : List Token} {g : List ℕ} {r : Raw} {s : State} {total : Amounts} (h : Related program ts g r s total)
-    (t : ℕ) (made : t < getD (r .words) 4 0) (v : Value) (valid : Valid program (r .words) v) (w : Value) (valid′ : Valid program (r .words) w) where
+    (t : ℕ) (made : t < getD (r .words) tablesMade 0) (v : Value) (valid : Valid program (r .words) v) (w : Value) (valid′ : Valid program (r .words) w) where
   abbrev used : ℕ
-  used = getD (r .words) 2 0
+  used = getD (r .words) entriesUsed 0
 
   abbrev found : ℕ
   found = findEntry program g (r .texts) (r .words) t (packed v)
@@ -148,11 +172,11 @@ module _ {program : List ℕ} {ts : List Token} {g : List ℕ} {r : Raw} {s : St
     over-own : valueAt g over at ≡ packed w
     over-own = getD-set-same (r .words) (entryPlace g at + 2) (packed w) 0 (omega (arith, less, h .sound .counted .entries, h .sound .lent .room .words))
 
-    over-low : (j : ℕ) → j ≢ 2 → j < 24584 + 3 * getD g 1 0 → getD over j 0 ≡ getD (r .words) j 0
+    over-low : (j : ℕ) → j ≢ entriesUsed → j < fixedWords + 3 * shapesGranted g → getD over j 0 ≡ getD (r .words) j 0
     over-low j d l = over-other j (λ e. omega arith)
 
-    over-count : getD over 2 0 ≡ used
-    over-count = over-other 2 (λ e. omega arith)
+    over-count : getD over entriesUsed 0 ≡ used
+    over-count = over-other entriesUsed (λ e. omega arith)
 
     over-first : (k : ℕ) → getD over (entryPlace g k) 0 ≡ getD (r .words) (entryPlace g k) 0
     over-first k = over-other _ (λ e. omega arith)
@@ -224,37 +248,38 @@ module _ {program : List ℕ} {ts : List Token} {g : List ℕ} {r : Raw} {s : St
 
     pub overwrites : After program ts g r (raw (r .texts) over) (withEntries s (overwritten (s .entries) t key (meantValue program (r .texts) w))) total
     overwrites = stored h over over-low (overwritten (s .entries) t key (meantValue program (r .texts) w)) total (length-set (r .words) (entryPlace g at + 2) (packed w))
-        (rw over-count (h .sound .counted .entries)) over-entries over-list refl refl (h .entriesTaken ∙ sym over-count) refl
+        (rw over-count (h .sound .counted .entries)) over-entries over-list refl refl (h .entriesTaken ∙ sym over-count) refl refl
 
   -- ---- added
-  module _ (none : findEntry program g (r .texts) (r .words) t (packed v) ≡ 0) (fit : getD (r .words) 2 0 + 1 ≤ getD g 2 0) where
+  module _ (none : findEntry program g (r .texts) (r .words) t (packed v) ≡ 0) (fit : getD (r .words) entriesUsed 0 + 1 ≤ entriesGranted g) where
     abbrev bucket : ℕ
     bucket = bucketOf program g (r .texts) (r .words) t (packed v)
 
     abbrev place : ℕ
-    place = entryPlace g (getD (r .words) 2 0)
+    place = entryPlace g (getD (r .words) entriesUsed 0)
 
     abbrev head : ℕ
     head = headPlace g bucket
 
     abbrev paid : List ℕ
-    paid = set (r .words) 2 (getD (r .words) 2 0 + 1)
+    paid = set (r .words) entriesUsed (getD (r .words) entriesUsed 0 + 1)
 
     abbrev more : List ℕ
-    more = entryLaid (set (r .words) 2 (getD (r .words) 2 0 + 1)) (entryPlace g (getD (r .words) 2 0)) (headPlace g (bucketOf program g (r .texts) (r .words) t (packed v))) t (packed v) (packed w) (getD (r .words) 2 0 + 1)
+    more = entryLaid (set (r .words) entriesUsed (getD (r .words) entriesUsed 0 + 1)) (entryPlace g (getD (r .words) entriesUsed 0))
+        (headPlace g (bucketOf program g (r .texts) (r .words) t (packed v))) t (packed v) (packed w) (getD (r .words) entriesUsed 0 + 1)
 
     long : place + 3 ≤ length (r .words)
     long = omega (arith, fit, h .sound .lent .room .words)
 
     long-paid : place + 3 ≤ length paid
-    long-paid = rw (length-set (r .words) 2 (used + 1)) long
+    long-paid = rw (length-set (r .words) entriesUsed (used + 1)) long
 
-    more-other : (j : ℕ) → j ≢ 2 → j ≢ place → j ≢ place + 1 → j ≢ place + 2 → j ≢ head → getD more j 0 ≡ getD (r .words) j 0
+    more-other : (j : ℕ) → j ≢ entriesUsed → j ≢ place → j ≢ place + 1 → j ≢ place + 2 → j ≢ head → getD more j 0 ≡ getD (r .words) j 0
     more-other j a b c d e =
         read-four paid place (place + 1) (place + 2) head (t + 2 ^ 40 * (getD paid head 0 % 2 ^ 16)) (packed v) (packed w) (used + 1) j b c d e
         ∙ getD-set-other (r .words) 2 j (used + 1) 0 a
 
-    more-count : getD more 2 0 ≡ used + 1
+    more-count : getD more entriesUsed 0 ≡ used + 1
     more-count =
         read-four paid place (place + 1) (place + 2) head (t + 2 ^ 40 * (getD paid head 0 % 2 ^ 16)) (packed v) (packed w) (used + 1) 2
         (λ e. omega arith) (λ e. omega arith) (λ e. omega arith) (λ e. omega arith)
@@ -271,7 +296,7 @@ module _ {program : List ℕ} {ts : List Token} {g : List ℕ} {r : Raw} {s : St
     new-owner = rw new-first (omega (arith, small))
 
     -- the bucket, and its head
-    bucket-below : bucket < getD g 2 0
+    bucket-below : bucket < entriesGranted g
     bucket-below = bucket-less program g (r .texts) (r .words) t (packed v) (omega (arith, fit))
 
     head-small : getD (r .words) head 0 < 2 ^ 16
@@ -280,7 +305,7 @@ module _ {program : List ℕ} {ts : List Token} {g : List ℕ} {r : Raw} {s : St
 
     head-paid : getD paid head 0 % 2 ^ 16 ≡ getD (r .words) head 0
     head-paid =
-        let q : getD paid head 0 ≡ getD (r .words) head 0 = getD-set-other (r .words) 2 head (used + 1) 0 (λ e. omega arith) in
+        let q : getD paid head 0 ≡ getD (r .words) head 0 = getD-set-other (r .words) entriesUsed head (used + 1) 0 (λ e. omega arith) in
         rw q (omega (arith, head-small))
 
     new-link : linkAt g more used ≡ getD (r .words) head 0
@@ -288,7 +313,7 @@ module _ {program : List ℕ} {ts : List Token} {g : List ℕ} {r : Raw} {s : St
 
     new-head : getD more head 0 ≡ used + 1
     new-head = read-fourth paid place (place + 1) (place + 2) head (t + 2 ^ 40 * (getD paid head 0 % 2 ^ 16)) (packed v) (packed w) (used + 1)
-        (rw (length-set (r .words) 2 (used + 1)) (omega (arith, bucket-below, h .sound .lent .room .words)))
+        (rw (length-set (r .words) entriesUsed (used + 1)) (omega (arith, bucket-below, h .sound .lent .room .words)))
 
     new-key : keyAt g more used ≡ packed v
     new-key = read-second paid place (place + 1) (place + 2) head (t + 2 ^ 40 * (getD paid head 0 % 2 ^ 16)) (packed v) (packed w) (used + 1) (omega (arith, long-paid))
@@ -298,7 +323,7 @@ module _ {program : List ℕ} {ts : List Token} {g : List ℕ} {r : Raw} {s : St
     new-value = read-third paid place (place + 1) (place + 2) head (t + 2 ^ 40 * (getD paid head 0 % 2 ^ 16)) (packed v) (packed w) (used + 1) (omega (arith, long-paid))
         (λ e. omega arith)
 
-    more-low : (j : ℕ) → j ≢ 2 → j < 24584 + 3 * getD g 1 0 → getD more j 0 ≡ getD (r .words) j 0
+    more-low : (j : ℕ) → j ≢ entriesUsed → j < fixedWords + 3 * shapesGranted g → getD more j 0 ≡ getD (r .words) j 0
     more-low j d l = more-other j d (λ e. omega arith) (λ e. omega arith) (λ e. omega arith) (λ e. omega arith)
 
     old-first : (k : ℕ) → k < used → getD more (entryPlace g k) 0 ≡ getD (r .words) (entryPlace g k) 0
@@ -390,14 +415,14 @@ module _ {program : List ℕ} {ts : List Token} {g : List ℕ} {r : Raw} {s : St
         ∙ ap₂ (λ (l : List Entry) (a : Entry). l ++ (a ∷ [])) (listed-first (entryAt program g (raw (r .texts) more)) (entryAt program g r) used entry-as) last-entry))
 
     pub adds : (p : ℕ) → After program ts g r (raw (r .texts) more)
-        (withEntries s (s .entries ++ (record { owner = t; key = key; holds = meantValue program (r .texts) w } ∷ []))) (added total (taking Run.entries 1 p))
+        (withEntries s (s .entries ++ (record { owner = t; key = key; holds = meantValue program (r .texts) w } ∷ []))) (added total (due Run.entries 1 p))
     unfolding added resourceNumber
-    adds p = stored h more more-low _ (added total (taking Run.entries 1 p))
+    adds p = stored h more more-low _ (added total (due Run.entries 1 p))
         (length-set (set (set (set paid place (t + 2 ^ 40 * (getD paid head 0 % 2 ^ 16))) (place + 1) (packed v)) (place + 2) (packed w)) head (used + 1)
         ∙ length-set (set (set paid place (t + 2 ^ 40 * (getD paid head 0 % 2 ^ 16))) (place + 1) (packed v)) (place + 2) (packed w)
         ∙ length-set (set paid place (t + 2 ^ 40 * (getD paid head 0 % 2 ^ 16))) (place + 1) (packed v)
-        ∙ length-set paid place (t + 2 ^ 40 * (getD paid head 0 % 2 ^ 16)) ∙ length-set (r .words) 2 (used + 1))
-        (rw more-count fit) more-entries more-list (omega arith) (omega arith) (omega (arith, h .entriesTaken, more-count)) (omega arith)
+        ∙ length-set paid place (t + 2 ^ 40 * (getD paid head 0 % 2 ^ 16)) ∙ length-set (r .words) entriesUsed (used + 1))
+        (rw more-count fit) more-entries more-list (omega arith) (omega arith) (omega (arith, h .entriesTaken, more-count)) (omega arith) (omega arith)
 
   -- ---- stored
   module _ {granted : Amounts} (gr : Grants g granted) (p : ℕ) where
@@ -406,7 +431,7 @@ module _ {program : List ℕ} {ts : List Token} {g : List ℕ} {r : Raw} {s : St
         (storing p t key (meantValue program (r .texts) w) Option.none s)
     unfolding addEntry storing putEntry Act._>>=_ Act.goOn Act.load Run._>>=_ Run.goOn Run.current Run.become Run.give shortageOf
     stores-new none =
-        spent-then Run.entries 2 (getD g 2 0) 1 77 p r s (h .entriesTaken) (gr .entries) refl (steps-told h) _ _
+        spent-then Run.entries entriesUsed (entriesGranted g) 1 77 p r s (h .entriesTaken) (gr .entries) refl (steps-told h) _ _
         (λ fit. given (record { after = adds none fit p; flow = both-onward }))
 
     stores-old : (n : findEntry program g (r .texts) (r .words) t (packed v) ≢ 0) (u : Value.Value)

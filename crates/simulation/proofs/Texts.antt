@@ -1,5 +1,5 @@
 -- Texts: what a handle stands for, and two texts joined.
-use Prim.Native.Nat.{ℕ, _+_, _*_, _/_, _%_, _^_, _≤_, _<_}
+use Prim.Native.Nat.{ℕ, _+_, _*_, _/_, _≤_, _<_}
 use native.Mathlib.Omega.{arith}
 use mathlib.Core.Path.{_≡_, refl, ap, ap₂, sym, _∙_}
 use mathlib.Core.Logic.{_≢_}
@@ -11,7 +11,6 @@ use Rattle.meaning.specs.Basics.{if_then_else_}
 use Rattle.meaning.specs.Token.{Token}
 use Rattle.meaning.specs.Value as Value
 use Rattle.meaning.specs.State.{State}
-use Rattle.meaning.specs.Run.{taking}
 use Rattle.meaning.specs.Run as Run
 use Rattle.meaning.specs.Book.{Amounts, added, resourceNumber, shortageOf}
 use Rattle.meaning.specs.Operator as Operator
@@ -20,11 +19,13 @@ use Rattle.machine.specs.declared.Value.the-variants.{Text}
 use Rattle.machine.specs.Act.{Raw, raw}
 use Rattle.machine.specs.Act as Act
 use Rattle.machine.specs.Texts.{handle, originIn, startIn, sizeIn, part, textOf, laidAt, joined, putJoined, joinTexts}
+use Rattle.machine.specs.Layout.{stepsUsed, shapesUsed, entriesUsed, textUsed, tablesMade, declared, argumentsHeld, callsUsed, textGranted}
 use Rattle.texts.proofs.Layer.{length-laid, kept-laid, part-laid, part-take, length-part}
 use Rattle.simulation.specs.Meant.{meantValue}
 use Rattle.simulation.specs.Sound.{Held, Valid}
 use Rattle.simulation.specs.Follows.{Grants, Related, Later, Follows}
-use Rattle.simulation.proofs.Results.{given, AfterValue, Values, steps-told, kept-related, spent-then}
+use Rattle.simulation.proofs.Frames.{untouched-words, same-words, same-waiting}
+use Rattle.simulation.proofs.Results.{due, given, Untouched, AfterValue, Values, steps-told, kept-related, spent-then}
 use Rattle.simulation.proofs.Counting.{lent-set, figure-same, other, here}
 
 -- ---- a handle that is held
@@ -75,10 +76,10 @@ module _ (used n : ℕ) (l : used + n < 65536) where
 -- ---- two texts joined
 module _ {program : List ℕ} {ts : List Token} {g : List ℕ} where
   module _ {r : Raw} {s : State} {total : Amounts} (h : Related program ts g r s total) (a b : ℕ)
-      (va : Held program (getD (r .words) 3 0) a) (vb : Held program (getD (r .words) 3 0) b)
-      (fit : getD (r .words) 3 0 + (sizeIn a + sizeIn b) ≤ getD g 3 0) where
+      (va : Held program (getD (r .words) textUsed 0) a) (vb : Held program (getD (r .words) textUsed 0) b)
+      (fit : getD (r .words) textUsed 0 + (sizeIn a + sizeIn b) ≤ textGranted g) where
     abbrev used : ℕ
-    used = getD (r .words) 3 0
+    used = getD (r .words) textUsed 0
 
     abbrev size : ℕ
     size = sizeIn a + sizeIn b
@@ -87,7 +88,8 @@ module _ {program : List ℕ} {ts : List Token} {g : List ℕ} where
     both = textOf program (r .texts) a ++ textOf program (r .texts) b
 
     abbrev grown : Raw
-    grown = raw (laidAt (r .texts) (getD (r .words) 3 0) (joined program (r .texts) (getD (r .words) 3 0) a b)) (set (r .words) 3 (getD (r .words) 3 0 + (sizeIn a + sizeIn b)))
+    grown = raw (laidAt (r .texts) (getD (r .words) textUsed 0) (joined program (r .texts) (getD (r .words) textUsed 0) a b))
+        (set (r .words) textUsed (getD (r .words) textUsed 0 + (sizeIn a + sizeIn b)))
 
     room : used + size ≤ length (r .texts)
     room = omega (arith, fit, h .sound .lent .texts)
@@ -105,28 +107,31 @@ module _ {program : List ℕ} {ts : List Token} {g : List ℕ} where
     texts-are : grown .texts ≡ laidAt (r .texts) used both
     texts-are = ap (laidAt (r .texts) used) joined-is
 
-    as-was : (j : ℕ) → j ≢ 3 → getD (grown .words) j 0 ≡ getD (r .words) j 0
-    as-was j n = other h 3 (used + size) j n
+    as-was : (j : ℕ) → j ≢ textUsed → getD (grown .words) j 0 ≡ getD (r .words) j 0
+    as-was j n = other h textUsed (used + size) j n
 
-    used-now : getD (grown .words) 3 0 ≡ used + size
-    used-now = here h 3 (used + size) (omega arith)
+    used-now : getD (grown .words) textUsed 0 ≡ used + size
+    used-now = here h textUsed (used + size) (omega arith)
 
     grown-later : Later program r grown
     grown-later = record {
-      steps = omega (arith, as-was 0 (λ e. omega arith));
-      shapes = omega (arith, as-was 1 (λ e. omega arith));
+      steps = omega (arith, as-was stepsUsed (λ e. omega arith));
+      shapes = omega (arith, as-was shapesUsed (λ e. omega arith));
       text = omega (arith, used-now);
-      tables = omega (arith, as-was 4 (λ e. omega arith));
+      tables = omega (arith, as-was tablesMade (λ e. omega arith));
       texts = λ t v. text-kept v (r .texts) (grown .texts) (kept-laid (r .texts) used (joined program (r .texts) used a b) (omega (arith, room)));
       figures = λ i l. figure-same (r .words) (grown .words) i (λ j k. as-was _ (λ e. omega arith));
     }
+
+    grown-untouched : Untouched r grown
+    grown-untouched = untouched-words (λ j x y. as-was j (λ e. omega arith)) (λ k l. as-was _ (λ e. omega arith))
 
     new-text : textOf program (grown .texts) (handle 1 used size) ≡ both
     new-text =
         text-new used size short program (grown .texts) ∙ ap (part used size) texts-are ∙ ap (λ n. part used n (laidAt (r .texts) used both)) (sym both-long)
         ∙ part-laid (r .texts) used both (rw both-long room)
 
-    grown-related : (p : ℕ) → Related program ts g grown s (added total (taking Run.textBytes size p))
+    grown-related : (p : ℕ) → Related program ts g grown s (added total (due Run.textBytes size p))
     unfolding added resourceNumber
     grown-related p = let c = h .sound .counted in
         kept-related h grown-later
@@ -135,50 +140,53 @@ module _ {program : List ℕ} {ts : List Token} {g : List ℕ} where
           texts = rw (length-laid (r .texts) used (joined program (r .texts) used a b)) (h .sound .lent .texts);
         })
         (record {
-          steps = rw (as-was 0 (λ e. omega arith)) (c .steps);
-          shapes = rw (as-was 1 (λ e. omega arith)) (c .shapes);
-          entries = rw (as-was 2 (λ e. omega arith)) (c .entries);
+          steps = rw (as-was stepsUsed (λ e. omega arith)) (c .steps);
+          shapes = rw (as-was shapesUsed (λ e. omega arith)) (c .shapes);
+          entries = rw (as-was entriesUsed (λ e. omega arith)) (c .entries);
           text = rw used-now fit;
-          tables = rw (as-was 4 (λ e. omega arith), as-was 0 (λ e. omega arith)) (c .tables);
-          arguments = rw (as-was 6 (λ e. omega arith)) (c .arguments);
+          tables = rw (as-was tablesMade (λ e. omega arith), as-was stepsUsed (λ e. omega arith)) (c .tables);
+          arguments = rw (as-was argumentsHeld (λ e. omega arith)) (c .arguments);
+          calls = rw (as-was callsUsed (λ e. omega arith)) (c .calls);
         })
-        (record { count = as-was 5 (λ e. omega arith); words = λ j x y. as-was j (λ e. omega arith) })
-        (record { count = as-was 1 (λ e. omega arith); words = λ i j x y. as-was _ (λ e. omega arith) })
+        (same-words grown-later (as-was declared (λ e. omega arith)) (λ j x y. as-was j (λ e. omega arith)))
+        (same-waiting grown-later grown-untouched (omega (arith, as-was argumentsHeld (λ e. omega arith))) (h .sound .waiting) ts)
+        (record { count = as-was shapesUsed (λ e. omega arith); words = λ i j x y. as-was _ (λ e. omega arith) })
         (record {
-          count = as-was 2 (λ e. omega arith);
+          count = as-was entriesUsed (λ e. omega arith);
           firsts = λ k x. as-was _ (λ e. omega arith);
           keys = λ k x. as-was _ (λ e. omega arith);
           values = λ k x. as-was _ (λ e. omega arith);
           heads = λ b x. as-was _ (λ e. omega arith);
         })
-        refl refl (h .tables ∙ sym (as-was 4 (λ e. omega arith))) refl
-        (omega (arith, h .stepsTaken, as-was 0 (λ e. omega arith))) (omega (arith, h .shapesTaken, as-was 1 (λ e. omega arith)))
-        (omega (arith, h .entriesTaken, as-was 2 (λ e. omega arith))) (omega (arith, h .textTaken, used-now))
+        refl refl refl (h .tables ∙ sym (as-was tablesMade (λ e. omega arith))) refl
+        (omega (arith, h .stepsTaken, as-was stepsUsed (λ e. omega arith))) (omega (arith, h .shapesTaken, as-was shapesUsed (λ e. omega arith)))
+        (omega (arith, h .entriesTaken, as-was entriesUsed (λ e. omega arith))) (omega (arith, h .textTaken, used-now))
+        (omega (arith, h .callsTaken, as-was callsUsed (λ e. omega arith)))
 
-    grown-after : (p : ℕ) → AfterValue program ts g r (Text (handle 1 used size)) (Value.string both) grown s (added total (taking Run.textBytes size p))
+    grown-after : (p : ℕ) → AfterValue program ts g r (Text (handle 1 used size)) (Value.string both) grown s (added total (due Run.textBytes size p))
     unfolding Valid meantValue
     grown-after p = record {
       after = record {
         related = grown-related p;
         later = grown-later;
-        spare = omega (arith, as-was 0 (λ e. omega arith), as-was 4 (λ e. omega arith));
-        held = as-was 6 (λ e. omega arith);
-        arguments = λ k l. as-was _ (λ e. omega arith);
+        spare = omega (arith, as-was stepsUsed (λ e. omega arith), as-was tablesMade (λ e. omega arith));
+        held = as-was argumentsHeld (λ e. omega arith);
+        untouched = grown-untouched;
       };
       valid = rw used-now (held-new used size short program);
       means = ap Value.string (sym new-text);
     }
 
   module _ {granted : Amounts} (gr : Grants g granted) {r : Raw} {s : State} {total : Amounts} (h : Related program ts g r s total) (a b : ℕ)
-      (va : Held program (getD (r .words) 3 0) a) (vb : Held program (getD (r .words) 3 0) b) where
+      (va : Held program (getD (r .words) textUsed 0) a) (vb : Held program (getD (r .words) textUsed 0) b) where
     long : length (textOf program (r .texts) a ++ textOf program (r .texts) b) ≡ sizeIn a + sizeIn b
     long =
-        let w : getD (r .words) 3 0 ≤ length (r .texts) = omega (arith, h .sound .counted .text, h .sound .lent .texts) in
+        let w : getD (r .words) textUsed 0 ≤ length (r .texts) = omega (arith, h .sound .counted .text, h .sound .lent .texts) in
         length-append (textOf program (r .texts) a) (textOf program (r .texts) b) ∙ ap₂ _+_ (text-long va (r .texts) w) (text-long vb (r .texts) w)
 
     pub joins : (p : ℕ) → Follows granted total (Values program ts g r) (joinTexts program g p a b r)
         (Operator.newString p (textOf program (r .texts) a ++ textOf program (r .texts) b) s)
     unfolding joinTexts Operator.newString Act._>>=_ Act.goOn Act.load Act.give putJoined Run._>>=_ Run.goOn Run.give shortageOf
     joins p = rw long
-        (spent-then Run.textBytes 3 (getD g 3 0) (sizeIn a + sizeIn b) 78 p r s (h .textTaken) (gr .text) refl (steps-told h) _ _
+        (spent-then Run.textBytes textUsed (textGranted g) (sizeIn a + sizeIn b) 78 p r s (h .textTaken) (gr .text) refl (steps-told h) _ _
         (λ fit. given (grown-after h a b va vb fit p)))

@@ -15,17 +15,18 @@ use Rattle.machine.specs.declared.Value.the-variants.{Integer, Text, Boolean, N
 use Rattle.machine.specs.Act.{Raw}
 use Rattle.machine.specs.Shapes.{figureAt}
 use Rattle.machine.specs.Variables.{isDead, usable}
+use Rattle.machine.specs.Layout.{shapesUsed}
 use Rattle.simulation.specs.Meant.{meantValue, meantFigure, shapeAt}
 use Rattle.simulation.specs.Sound.{Valid}
 use Rattle.simulation.specs.Follows.{Related, Follows}
 use Rattle.simulation.proofs.Frames.{figure-made}
-use Rattle.simulation.proofs.Results.{Units, refused}
+use Rattle.simulation.proofs.Results.{Exactly, refused-at, Units, steps-told, refused}
 
 module _ {program : List ℕ} {ts : List Token} {g : List ℕ} {r : Raw} {s : State} {total : Amounts} (h : Related program ts g r s total) where
-  pub shape-found : (i : ℕ) → i < getD (r .words) 1 0 → getD (s .shapes) i noShape ≡ shapeAt program r i
+  pub shape-found : (i : ℕ) → i < getD (r .words) shapesUsed 0 → getD (s .shapes) i noShape ≡ shapeAt program r i
   shape-found i l = rw (h .shapes) (figure-made program r i l)
 
-  pub figure-found : (i : ℕ) → i < getD (r .words) 1 0 → figureOf s i ≡ meantFigure program (r .texts) (figureAt (r .words) i)
+  pub figure-found : (i : ℕ) → i < getD (r .words) shapesUsed 0 → figureOf s i ≡ meantFigure program (r .texts) (figureAt (r .words) i)
   unfolding shapeAt
   figure-found i l = ap (λ (a : State.Shape). a .figure) (shape-found i l)
 
@@ -42,3 +43,9 @@ module _ {program : List ℕ} {ts : List Token} {g : List ℕ} {r : Raw} {s : St
       → Follows granted total (Units program ts g r) (usable p v r) (Operator.usable p u s)
   unfolding usable Operator.usable Run._>>=_ Run.goOn Run.current
   uses v u w e p = refused h (isDead (r .words) v) (Operator.isDead s u) (dead-same v w ∙ rw e) 30 p
+
+  -- nothing changes
+  pub uses-at : {granted : Amounts} (v : Value) (u : Value.Value) → Valid program (r .words) v → u ≡ meantValue program (r .texts) v → (p : ℕ)
+      → Follows granted total (λ _ _ r′ s′ total′. Exactly r s total r′ s′ total′) (usable p v r) (Operator.usable p u s)
+  unfolding usable Operator.usable Run._>>=_ Run.goOn Run.current
+  uses-at v u w e p = refused-at (steps-told h) (isDead (r .words) v) (Operator.isDead s u) (dead-same v w ∙ rw e) 30 p

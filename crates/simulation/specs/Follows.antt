@@ -6,26 +6,28 @@ use lib.ListN.{getD}
 use Rattle.meaning.specs.Token.{Token}
 use Rattle.meaning.specs.State.{State}
 use Rattle.meaning.specs.Run as Run
-use Rattle.meaning.specs.Run.{steps, shapes, entries, textBytes, Taking, End, result, error, Run}
+use Rattle.meaning.specs.Run.{steps, shapes, entries, textBytes, calls, Taking, Event, End, result, error, Run}
 use Rattle.meaning.specs.Book.{Amounts, allFit, lacking, book, shortageOf}
-use Rattle.machine.specs.Layout.{stepsUsed, shapesUsed, entriesUsed, textUsed, tablesMade, stepsGranted, shapesGranted, entriesGranted, textGranted}
+use Rattle.machine.specs.Layout.{stepsUsed, shapesUsed, entriesUsed, textUsed, tablesMade, callsUsed, stepsGranted, shapesGranted, entriesGranted, textGranted, callsGranted}
 use Rattle.machine.specs.Act.{Raw, Out, done, stop}
 use Rattle.machine.specs.Texts.{textOf}
 use Rattle.machine.specs.Shapes.{figureAt}
-use Rattle.simulation.specs.Meant.{variablesOf, shapesOf, entriesOf}
+use Rattle.simulation.specs.Meant.{variablesOf, suspendedOf, shapesOf, entriesOf}
 use Rattle.simulation.specs.Sound.{Held, Sound}
 
--- the amounts granted are those of the list of four
+-- the amounts granted are those of the list of five
 pub record Grants (g : List ℕ) (granted : Amounts) : Type 0 where
   pub steps : granted steps ≡ stepsGranted g
   pub shapes : granted shapes ≡ shapesGranted g
   pub entries : granted entries ≡ entriesGranted g
   pub text : granted textBytes ≡ textGranted g
+  pub calls : granted calls ≡ callsGranted g
 
 -- the slices stand for the state, and their counters for what was taken
 pub record Related (program : List ℕ) (ts : List Token) (g : List ℕ) (r : Raw) (s : State) (total : Amounts) : Type 0 where
   pub sound : Sound program ts g r
   pub variables : s .variables ≡ variablesOf program ts r
+  pub suspended : s .suspended ≡ suspendedOf program ts r
   pub shapes : s .shapes ≡ shapesOf program r
   pub tables : s .tables ≡ getD (r .words) tablesMade 0
   pub entries : s .entries ≡ entriesOf program g r
@@ -33,6 +35,7 @@ pub record Related (program : List ℕ) (ts : List Token) (g : List ℕ) (r : Ra
   pub shapesTaken : total Run.shapes ≡ getD (r .words) shapesUsed 0
   pub entriesTaken : total Run.entries ≡ getD (r .words) entriesUsed 0
   pub textTaken : total Run.textBytes ≡ getD (r .words) textUsed 0
+  pub callsTaken : total Run.calls ≡ getD (r .words) callsUsed 0
 
 -- what was held at r is held at r′ and stands for the same: counters only rise, and texts held and figures stay
 pub record Later (program : List ℕ) (r r′ : Raw) : Type 0 where
@@ -46,12 +49,12 @@ pub record Later (program : List ℕ) (r r′ : Raw) : Type 0 where
 -- ---- outcomes
 -- Both give results that belong together; or the first taking that does not fit has the number and the place at which the code stops; or both end
 -- with one number and place. The steps counted are the same.
-pub data Together {A B : Type 0} (granted total : Amounts) (R : A → B → Raw → State → Amounts → Type 0) : Out A → List Taking → End B → Type 0 where
-  gives : {a : A} {b : B} {r : Raw} {s : State} {us : List Taking} (total′ : Amounts) → book granted total us ≡ allFit total′ → R a b r s total′
+pub data Together {A B : Type 0} (granted total : Amounts) (R : A → B → Raw → State → Amounts → Type 0) : Out A → List Event → End B → Type 0 where
+  gives : {a : A} {b : B} {r : Raw} {s : State} {us : List Event} (total′ : Amounts) → book granted total us ≡ allFit total′ → R a b r s total′
       → Together granted total R (done a r) us (result b s)
-  lacks : {n p : ℕ} {r : Raw} {us : List Taking} {e : End B} (t : Taking) (total′ : Amounts) → book granted total us ≡ lacking t total′
+  lacks : {n p : ℕ} {r : Raw} {us : List Event} {e : End B} (t : Taking) (total′ : Amounts) → book granted total us ≡ lacking t total′
       → shortageOf (t .of) ≡ n → t .place ≡ p → getD (r .words) stepsUsed 0 ≡ total′ steps → Together granted total R (stop n p r) us e
-  fails : {n p : ℕ} {r : Raw} {us : List Taking} (total′ : Amounts) → book granted total us ≡ allFit total′
+  fails : {n p : ℕ} {r : Raw} {us : List Event} (total′ : Amounts) → book granted total us ≡ allFit total′
       → getD (r .words) stepsUsed 0 ≡ total′ steps → Together granted total R (stop n p r) us (error n p)
 
 pub record Follows {A B : Type 0} (granted total : Amounts) (R : A → B → Raw → State → Amounts → Type 0) (o : Out A) (m : Run B) : Type 0 where

@@ -1,5 +1,5 @@
 -- What the code's values, figures and lent slices stand for.
-use Prim.Native.Nat.{ℕ, zero, suc}
+use Prim.Native.Nat.{ℕ, zero, suc, _-_}
 use mathlib.Core.List.{List, [], _∷_}
 use lib.ListN.{getD}
 use lib.Dec.{eqb}
@@ -15,11 +15,13 @@ use Rattle.meaning.specs.State as State
 use Rattle.machine.specs.declared.Value.{Value}
 use Rattle.machine.specs.declared.Value.the-variants.{Integer, Text, Boolean, Nothing, Table, Shape}
 use Rattle.machine.specs.Words.{unpacked}
-use Rattle.machine.specs.Layout.{shapesUsed, entriesUsed, declared, valuePlace, orderPlace}
+use Rattle.machine.specs.Layout.{shapesUsed, entriesUsed, declared, callsUsed, framePlace, valuePlace, orderPlace}
 use Rattle.machine.specs.Act.{Raw}
 use Rattle.machine.specs.Texts.{textOf}
 use Rattle.machine.specs.declared.Figure.{Figure}
 use Rattle.machine.specs.Shapes.{figureAt, destroyedAt}
+use Rattle.machine.specs.Stack.{argumentAt}
+use Rattle.machine.specs.Variables.{wordIn, slotIn, topIn, countIn}
 use Rattle.machine.specs.Tables.{ownerAt, keyAt, valueAt}
 
 -- ---- values and figures: a handle stands for its text, a number for itself
@@ -61,6 +63,24 @@ variableAt program ts r k = record {
 unfoldable pub variablesOf : List ℕ → List Token → Raw → List Variable
 variablesOf program ts r = listed (variableAt program ts r) 0 (getD (r .words) declared 0)
 
+-- a variable that waits at a place of the stack
+unfoldable pub waitingAt : List ℕ → List Token → Raw → ℕ → Variable
+waitingAt program ts r k = record {
+  name = textAt ts (slotIn (argumentAt (r .words) k));
+  holds = meantWord program r (wordIn (argumentAt (r .words) k));
+}
+
+-- the word of the d-th call that waits, and its variables
+abbrev pub frameAt : List ℕ → ℕ → ℕ
+frameAt ws d = getD ws (framePlace d) 0
+
+unfoldable pub frameOf : List ℕ → List Token → Raw → ℕ → List Variable
+frameOf program ts r d = listed (waitingAt program ts r) (topIn (frameAt (r .words) d)) (countIn (frameAt (r .words) d))
+
+-- of all calls that wait for the one under way, main's first
+unfoldable pub suspendedOf : List ℕ → List Token → Raw → List (List Variable)
+suspendedOf program ts r = listed (frameOf program ts r) 1 (getD (r .words) callsUsed 0 - 1)
+
 unfoldable pub shapeAt : List ℕ → Raw → ℕ → State.Shape
 shapeAt program r i = record {
   figure = meantFigure program (r .texts) (figureAt (r .words) i);
@@ -72,7 +92,7 @@ shapesOf program r = listed (shapeAt program r) 0 (getD (r .words) shapesUsed 0)
 
 -- a key among some shapes
 unfoldable pub keyAmong : List State.Shape → Value.Value → Key
-keyAmong ss v = keyOf (record { variables = []; shapes = ss; tables = 0; entries = [] }) v
+keyAmong ss v = keyOf (record { variables = []; suspended = []; shapes = ss; tables = 0; entries = [] }) v
 
 abbrev pub meantKey : List ℕ → Raw → ℕ → Key
 meantKey program r w = keyAmong (shapesOf program r) (meantWord program r w)

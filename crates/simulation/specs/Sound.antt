@@ -2,7 +2,7 @@
 use Prim.Native.Nat.{ℕ, zero, suc, _+_, _^_, _≤_, _<_}
 use mathlib.Core.Path.{_≡_}
 use mathlib.Core.Logic.{_≢_}
-use mathlib.Core.Bool.{cond}
+use mathlib.Core.Bool.{true, cond}
 use mathlib.Core.List.{List}
 use lib.ListN.{length, getD}
 use lib.IntN.{pos}
@@ -14,14 +14,35 @@ use Rattle.code.specs.Code.{slotOf}
 use Rattle.machine.specs.declared.Value.{Value}
 use Rattle.machine.specs.declared.Value.the-variants.{Integer, Text, Boolean, Nothing, Table, Shape}
 use Rattle.machine.specs.Words.{packed, unpacked}
-use Rattle.machine.specs.Layout.{stepsUsed, shapesUsed, entriesUsed, textUsed, tablesMade, declared, argumentsHeld, stepsGranted, shapesGranted, entriesGranted, textGranted, valuePlace, shapePlace, Lent}
+use Rattle.machine.specs.Layout.{
+  stepsUsed,
+  shapesUsed,
+  entriesUsed,
+  textUsed,
+  tablesMade,
+  declared,
+  argumentsHeld,
+  callsUsed,
+  running,
+  stepsGranted,
+  shapesGranted,
+  entriesGranted,
+  textGranted,
+  callsGranted,
+  valuePlace,
+  stackWords,
+  shapePlace,
+  Lent,
+}
 use Rattle.machine.specs.Act.{Raw}
 use Rattle.machine.specs.Texts.{originIn, startIn, sizeIn}
 use Rattle.machine.specs.declared.Figure.{Figure}
 use Rattle.machine.specs.Shapes.{figureAt}
-use Rattle.machine.specs.Variables.{isDeclared}
+use Rattle.machine.specs.Stack.{argumentAt}
+use Rattle.machine.specs.Variables.{isDeclared, wordIn, topIn, countIn}
 use Rattle.machine.specs.Tables.{ownerAt, keyAt, valueAt}
-use Rattle.simulation.specs.Meant.{slotAt, meantKey}
+use Rattle.simulation.specs.Meant.{slotAt, frameAt, meantKey}
+use Rattle.simulation.specs.Scope.{scopeOf, isIn}
 use Rattle.simulation.specs.Index.{Indexed}
 
 -- a handle's text lies in the program, or within the used part of the text store
@@ -56,7 +77,8 @@ pub record Counted (g ws : List ℕ) : Type 0 where
   pub entries : getD ws entriesUsed 0 ≤ entriesGranted g
   pub text : getD ws textUsed 0 ≤ textGranted g
   pub tables : getD ws tablesMade 0 ≤ getD ws stepsUsed 0
-  pub arguments : getD ws argumentsHeld 0 ≤ 8192
+  pub arguments : getD ws argumentsHeld 0 ≤ stackWords
+  pub calls : getD ws callsUsed 0 ≤ callsGranted g
 
 -- ---- variables
 -- how many of the first n slots are declared
@@ -64,15 +86,24 @@ unfoldable pub declaredAmong : List ℕ → ℕ → ℕ
 declaredAmong ws zero = 0
 declaredAmong ws (suc n) = cond (isDeclared ws n) 1 0 + declaredAmong ws n
 
--- Each declaration has a slot of its own, the first token of its name, and those are the slots whose words are not 0.
+-- Each declaration has a slot of its own, the first token of its name, which the procedure under way may declare; and those are the slots whose
+-- words are not 0.
 pub record Variables (program : List ℕ) (ts : List Token) (ws : List ℕ) : Type 0 where
   pub few : getD ws declared 0 ≤ declaredAmong ws 8192
-  pub slots : (k : ℕ) → k < getD ws declared 0 → slotAt ws k < 8192
+  pub small : (k : ℕ) → k < getD ws declared 0 → slotAt ws k < 8192
   pub names : (k : ℕ) → k < getD ws declared 0 → slotOf ts (textAt ts (slotAt ws k)) ≡ slotAt ws k
+  pub own : (k : ℕ) → k < getD ws declared 0 → isIn (slotAt ws k) (scopeOf program ts (getD ws running 0)) ≡ true
   pub there : (k : ℕ) → k < getD ws declared 0 → getD ws (valuePlace (slotAt ws k)) 0 ≢ 0
   pub apart : (j k : ℕ) → j < getD ws declared 0 → k < getD ws declared 0 → slotAt ws j ≡ slotAt ws k → j ≡ k
   pub found : (slot : ℕ) → slot < 8192 → getD ws (valuePlace slot) 0 ≢ 0 → (k : ℕ) × (k < getD ws declared 0) × (slotAt ws k ≡ slot)
   pub holds : (slot : ℕ) → Valid program ws (unpacked (getD ws (valuePlace slot) 0))
+  pub narrow : (slot : ℕ) → getD ws (valuePlace slot) 0 < 2 ^ 48
+
+-- ---- calls that wait: their variables lie within what the stack holds
+pub record Waiting (program ws : List ℕ) : Type 0 where
+  pub within : (d : ℕ) → 0 < d → d < getD ws callsUsed 0 → topIn (frameAt ws d) + countIn (frameAt ws d) ≤ getD ws argumentsHeld 0
+  pub holds : (d : ℕ) → 0 < d → d < getD ws callsUsed 0 → (k : ℕ) → topIn (frameAt ws d) ≤ k → k < topIn (frameAt ws d) + countIn (frameAt ws d)
+      → Valid program ws (unpacked (wordIn (argumentAt ws k)))
 
 -- ---- shapes
 pub record Shapes (program ws : List ℕ) : Type 0 where
@@ -95,5 +126,6 @@ pub record Sound (program : List ℕ) (ts : List Token) (g : List ℕ) (r : Raw)
   pub lent : Lent g (r .texts) (r .words)
   pub counted : Counted g (r .words)
   pub variables : Variables program ts (r .words)
+  pub waiting : Waiting program (r .words)
   pub shapes : Shapes program (r .words)
   pub entries : Entries program g r

@@ -2,5 +2,7 @@ pub mod Paid
 mod Written
 mod Moves
 mod Going
-mod Counting
-mod Whole
+mod Listing
+mod Heads
+mod Table
+mod Gathering

@@ -16,13 +16,13 @@ use Rattle.meaning.specs.Integer.{bits}
 use Rattle.machine.specs.declared.Value.{Value}
 use Rattle.machine.specs.declared.Value.the-variants.{Table, Shape}
 use Rattle.machine.specs.declared.Answer.the-variants.{Good, Bad}
-use Rattle.machine.specs.Words.{kindIn, numberIn, packed, unpacked}
+use Rattle.machine.specs.Words.{kindIn, kindNothing, kindShape, numberIn, packed, unpacked}
 use Rattle.values.proofs.Laws.{unpacked-shape, by-kind}
-use Rattle.machine.specs.Layout.{shapePlace, Room}
+use Rattle.machine.specs.Layout.{stepsUsed, shapesUsed, tablesMade, declared, argumentsHeld, stepsGranted, shapesGranted, stackWords, valuePlace, orderPlace, argumentPlace, shapePlace, Room}
 use Rattle.machine.specs.Act.{raw, Out, done, goOn, give, fail, refuse, load, store, spend, count, newTable, shown, passed, Answers, Passes, Pays, Gives, _>>=_}
 use Rattle.machine.specs.declared.Figure.{Figure}
 use Rattle.machine.specs.Shapes.{firstWord, pairWord, figureLaid, putFigure, lowNumber, highNumber, figureAt, destroyedAt, newShape, destroy}
-use Rattle.machine.specs.Variables.{isDead, usable, variable, declare, setVariable, destroyIn, clearFrom, clearScene}
+use Rattle.machine.specs.Variables.{isDead, usable, variable, declare, setVariable, destroyIn}
 use Rattle.machine.specs.Stack.{push, dropTo}
 use Rattle.stores.proofs.Acts.{paid, short}
 use Rattle.meaning.specs.Basics.{if_then_else_}
@@ -47,10 +47,10 @@ module _ (ws : List ℕ) (counter granted amount : ℕ) where
   unfolding spend passed if_then_else_
   pays l h = record { equal = λ n p ts. rw (le-leb (getD ws counter 0 + amount) granted (omega arith)) }
 
-pub counts : (ws g ws′ : List ℕ) (ok : Bool) → Pays ws 0 (getD g 0 0) 1 ok ws′ → Passes ws 79 (count g) ok ws′
+pub counts : (ws g ws′ : List ℕ) (ok : Bool) → Pays ws stepsUsed (stepsGranted g) 1 ok ws′ → Passes ws 79 (count g) ok ws′
 counts ws g ws′ ok h = record { equal = λ p ts. h .equal 79 p ts }
 
-pub makes-table : (ws : List ℕ) → Gives ws newTable (Table (getD ws 4 0 % 4294967296)) (set ws 4 (getD ws 4 0 % 4294967296 + 1))
+pub makes-table : (ws : List ℕ) → Gives ws newTable (Table (getD ws tablesMade 0 % 4294967296)) (set ws tablesMade (getD ws tablesMade 0 % 4294967296 + 1))
 unfolding newTable _>>=_ goOn load store give
 makes-table ws = record { equal = λ ts. refl }
 
@@ -80,117 +80,83 @@ pub lays-figure : (ws : List ℕ) (at : ℕ) (f : Figure) (w x y : ℕ) → mag 
     → set (set (set ws at w) (at + 1) x) (at + 2) y ≡ figureLaid ws at f
 lays-figure ws at f w x y la lb lc ld h k l = rw (h, k, l, back {r = f .a} la refl, back {r = f .b} lb refl, back {r = f .c} lc refl, back {r = f .d} ld refl)
 
-module _ (ws g : List ℕ) (p : ℕ) (f : Figure) (ws′ : List ℕ) (ok : Bool) (h : Pays ws 1 (getD g 1 0) 1 ok ws′) where
+module _ (ws g : List ℕ) (p : ℕ) (f : Figure) (ws′ : List ℕ) (ok : Bool) (h : Pays ws shapesUsed (shapesGranted g) 1 ok ws′) where
   pub no-shape : not ok ≡ true → Answers ws (newShape g p f) (Bad 76 p) ws′
   unfolding newShape _>>=_ goOn load spend shown if_then_else_
   no-shape t =
       let q = short (rw (not-true ok t) at h) in
-      record { equal = λ ts. rw (q .words, lt-leb (getD ws 1 0 + 1) (getD g 1 0) (q .beyond)) }
+      record { equal = λ ts. rw (q .words, lt-leb (getD ws shapesUsed 0 + 1) (shapesGranted g) (q .beyond)) }
 
-  pub new-shape : (k at : ℕ) (ws″ : List ℕ) → not ok ≡ false → k ≡ getD ws 1 0 → at ≡ shapePlace k → ws″ ≡ figureLaid ws′ at f → Answers ws (newShape g p f) (Good (Shape k)) ws″
+  pub new-shape : (k at : ℕ) (ws″ : List ℕ) → not ok ≡ false → k ≡ getD ws shapesUsed 0 → at ≡ shapePlace k → ws″ ≡ figureLaid ws′ at f → Answers ws (newShape g p f) (Good (Shape k)) ws″
   unfolding newShape _>>=_ goOn load putFigure spend give shown if_then_else_
   new-shape k at ws″ t i j d =
       let q = paid (rw (not-false ok t) at h) in
-      record { equal = λ ts. rw (d, j, i, q .words, le-leb (getD ws 1 0 + 1) (getD g 1 0) (q .within)) }
+      record { equal = λ ts. rw (d, j, i, q .words, le-leb (getD ws shapesUsed 0 + 1) (shapesGranted g) (q .within)) }
 
 -- there is room for one more
-module _ (ws g ws′ : List ℕ) (ok : Bool) (h : Pays ws 1 (getD g 1 0) 1 ok ws′) (t : not ok ≡ false) (r : Room g ws) where
-  pub shape-number : getD ws 1 0 < 65536
+module _ (ws g ws′ : List ℕ) (ok : Bool) (h : Pays ws shapesUsed (shapesGranted g) 1 ok ws′) (t : not ok ≡ false) (r : Room g ws) where
+  pub shape-number : getD ws shapesUsed 0 < 65536
   shape-number = omega (arith, paid (rw (not-false ok t) at h) .within, r .shapes)
 
-  pub shape-room : (k at : ℕ) → k ≡ getD ws 1 0 → at ≡ shapePlace k → length ws′ ≡ length ws → at + 3 ≤ length ws′
+  pub shape-room : (k at : ℕ) → k ≡ getD ws shapesUsed 0 → at ≡ shapePlace k → length ws′ ≡ length ws → at + 3 ≤ length ws′
   shape-room k at i j l = omega (arith, paid (rw (not-false ok t) at h) .within, r .words)
 
 -- ---- variables
 module _ (ws : List ℕ) (w : ℕ) where
-  pub not-dead : (kindIn w ≡ 6 → ⊥) → false ≡ isDead ws (unpacked w)
+  pub not-dead : (kindIn w ≡ kindShape → ⊥) → false ≡ isDead ws (unpacked w)
   unfolding isDead
   not-dead h = by-kind w (λ v. false ≡ isDead ws v) (λ _. refl) (λ _. refl) (λ _. refl) refl (λ _. refl) (λ e. absurd (h e))
 
-  pub dead-shape : (b : Bool) (i : ℕ) → kindIn w ≡ 6 → i ≡ numberIn w → b ≡ destroyedAt ws i → b ≡ isDead ws (unpacked w)
+  pub dead-shape : (b : Bool) (i : ℕ) → kindIn w ≡ kindShape → i ≡ numberIn w → b ≡ destroyedAt ws i → b ≡ isDead ws (unpacked w)
   unfolding isDead
   dead-shape b i h e d = d ∙ rw (e, unpacked-shape w h)
 
-  pub destroys-nothing : (kindIn w ≡ 6 → ⊥) → Gives ws (destroyIn (unpacked w)) tt ws
+  pub destroys-nothing : (kindIn w ≡ kindShape → ⊥) → Gives ws (destroyIn (unpacked w)) tt ws
   unfolding destroyIn give
   destroys-nothing h = record { equal = λ ts. by-kind w (λ v. _≡_ {A = Out (Unit {0})} (done tt (raw ts ws)) (destroyIn v (raw ts ws))) (λ _. refl) (λ _. refl) (λ _. refl) refl (λ _. refl) (λ e. absurd (h e)) }
 
-  pub destroys-shape : (i : ℕ) (ws′ : List ℕ) → kindIn w ≡ 6 → i ≡ numberIn w → Gives ws (destroy i) tt ws′ → Gives ws (destroyIn (unpacked w)) tt ws′
+  pub destroys-shape : (i : ℕ) (ws′ : List ℕ) → kindIn w ≡ kindShape → i ≡ numberIn w → Gives ws (destroy i) tt ws′ → Gives ws (destroyIn (unpacked w)) tt ws′
   unfolding destroyIn
   destroys-shape i ws′ h e d = record { equal = λ ts. d .equal ts ∙ rw (e, unpacked-shape w h) }
 
 module _ (ws : List ℕ) (p slot : ℕ) where
-  pub unknown : getD ws (8 + slot % 8192) 0 ≡ 0 → Answers ws (variable p slot) (Bad 50 p) ws
+  pub unknown : getD ws (valuePlace slot) 0 ≡ 0 → Answers ws (variable p slot) (Bad 50 p) ws
   unfolding variable _>>=_ goOn load refuse fail shown
   unknown h = record { equal = λ ts. rw h }
 
-  pub dead : (b : Bool) → (getD ws (8 + slot % 8192) 0 ≡ 0 → ⊥) → b ≡ isDead ws (unpacked (getD ws (8 + slot % 8192) 0)) → b ≡ true → Answers ws (variable p slot) (Bad 30 p) ws
+  pub dead : (b : Bool) → (getD ws (valuePlace slot) 0 ≡ 0 → ⊥) → b ≡ isDead ws (unpacked (getD ws (valuePlace slot) 0)) → b ≡ true → Answers ws (variable p slot) (Bad 30 p) ws
   unfolding variable _>>=_ goOn load refuse fail give usable shown
   dead b h e t = record { equal = λ ts. rw (ne-eqb _ _ h, ← e, t) }
 
-  pub found : (b : Bool) (v : Value) → (getD ws (8 + slot % 8192) 0 ≡ 0 → ⊥) → b ≡ isDead ws (unpacked (getD ws (8 + slot % 8192) 0)) → b ≡ false
-      → v ≡ unpacked (getD ws (8 + slot % 8192) 0) → Answers ws (variable p slot) (Good v) ws
+  pub found : (b : Bool) (v : Value) → (getD ws (valuePlace slot) 0 ≡ 0 → ⊥) → b ≡ isDead ws (unpacked (getD ws (valuePlace slot) 0)) → b ≡ false
+      → v ≡ unpacked (getD ws (valuePlace slot) 0) → Answers ws (variable p slot) (Good v) ws
   unfolding variable _>>=_ goOn load refuse fail give usable shown
   found b v h e t q = record { equal = λ ts. rw (q, ne-eqb _ _ h, ← e, t) }
 
 module _ (ws : List ℕ) (slot : ℕ) where
-  pub declared-before : (getD ws (8 + slot % 8192) 0 ≡ 0 → ⊥) → Passes ws 60 (declare slot) false ws
+  pub declared-before : (getD ws (valuePlace slot) 0 ≡ 0 → ⊥) → Passes ws 60 (declare slot) false ws
   unfolding declare _>>=_ goOn load refuse fail passed
   declared-before h = record { equal = λ p ts. rw (ne-eqb _ _ h) }
 
-  pub declares : getD ws (8 + slot % 8192) 0 ≡ 0
-      → Passes ws 60 (declare slot) true (set (set (set ws (8 + slot % 8192) 4) (8200 + getD ws 5 0 % 8192) slot) 5 (getD ws 5 0 % 8192 + 1))
+  pub declares : getD ws (valuePlace slot) 0 ≡ 0
+      → Passes ws 60 (declare slot) true (set (set (set ws (valuePlace slot) kindNothing) (orderPlace (getD ws declared 0)) slot) declared (getD ws declared 0 % 8192 + 1))
   unfolding declare _>>=_ goOn load store refuse fail give passed packed
   declares h = record { equal = λ p ts. rw h }
 
-  pub sets-variable : (w : ℕ) → Gives ws (setVariable slot w) tt (set ws (8 + slot % 8192) w)
+  pub sets-variable : (w : ℕ) → Gives ws (setVariable slot w) tt (set ws (valuePlace slot) w)
   unfolding setVariable store
   sets-variable w = record { equal = λ ts. refl }
 
--- ---- the scene
--- k of n variables are cleared: what is left to do from here comes to what was to be done at first
-pub record Clearing (ws₀ ws : List ℕ) (n k : ℕ) : Type 0 where
-  pub few : k ≤ n
-  pub small : n < 2 ^ 64
-  pub rest : (ts : List ℕ) → clearFrom 0 n (raw ts ws₀) ≡ clearFrom k (n - k) (raw ts ws)
-  pub long : length ws ≡ length ws₀
-
-module _ (ws₀ : List ℕ) where
-  pub clear-first : getD ws₀ 5 0 < 2 ^ 64 → Clearing ws₀ ws₀ (getD ws₀ 5 0) 0
-  clear-first h = record { few = omega arith; small = h; rest = λ ts. rw (sub-zero (getD ws₀ 5 0)); long = refl }
-    where
-      sub-zero : (n : ℕ) → n - 0 ≡ n
-      sub-zero n = omega arith
-
-  module _ (ws : List ℕ) (n k : ℕ) (g : Clearing ws₀ ws n k) where
-    pub clear-more : (ws′ : List ℕ) → k < n → Gives ws (destroyIn (unpacked (getD ws (8 + getD ws (8200 + k % 8192) 0 % 8192) 0))) tt ws′
-        → length ws′ ≡ length ws → Clearing ws₀ ws′ n (k + 1)
-    unfolding clearFrom _>>=_ goOn load
-    clear-more ws′ h d l =
-        let q : n - k ≡ suc (n - (k + 1)) = omega arith in
-        record {
-          few = omega arith;
-          small = g .small;
-          rest = λ ts. g .rest ts ∙ rw (q, ← d .equal ts);
-          long = l ∙ g .long;
-        }
-
-    pub clear-all : n ≡ getD ws₀ 5 0 → n ≤ k → Gives ws₀ clearScene tt ws
-    unfolding clearFrom clearScene _>>=_ goOn load give
-    clear-all e h =
-        let q : n - k ≡ 0 = omega (arith, g .few) in
-        record { equal = λ ts. sym (rw (← e, g .rest ts, q)) }
-
 -- ---- arguments
 module _ (ws : List ℕ) (w : ℕ) where
-  pub push-full : 8192 ≤ getD ws 6 0 → Passes ws 20 (push w) false ws
+  pub push-full : stackWords ≤ getD ws argumentsHeld 0 → Passes ws 20 (push w) false ws
   unfolding push _>>=_ goOn load store refuse fail give passed
-  push-full h = record { equal = λ p ts. rw (le-leb 8192 (getD ws 6 0) h) }
+  push-full h = record { equal = λ p ts. rw (le-leb stackWords (getD ws argumentsHeld 0) h) }
 
-  pub pushes : getD ws 6 0 < 8192 → Passes ws 20 (push w) true (set (set ws (16392 + getD ws 6 0 % 8192) w) 6 (getD ws 6 0 + 1))
+  pub pushes : getD ws argumentsHeld 0 < stackWords → Passes ws 20 (push w) true (set (set ws (argumentPlace (getD ws argumentsHeld 0)) w) argumentsHeld (getD ws argumentsHeld 0 + 1))
   unfolding push _>>=_ goOn load store refuse fail give passed
-  pushes h = record { equal = λ p ts. rw (lt-leb 8192 (getD ws 6 0) h) }
+  pushes h = record { equal = λ p ts. rw (lt-leb stackWords (getD ws argumentsHeld 0) h) }
 
-pub drops : (ws : List ℕ) (base : ℕ) → Gives ws (dropTo base) tt (set ws 6 base)
+pub drops : (ws : List ℕ) (base : ℕ) → Gives ws (dropTo base) tt (set ws argumentsHeld base)
 unfolding dropTo store
 drops ws base = record { equal = λ ts. refl }

@@ -1,2 +1,4 @@
 pub mod Acts
 pub mod Laws
+pub mod Turns
+mod CallLaws

@@ -1,7 +1,10 @@
 // Counters of what a run uses.
+use machine::counters;
+use machine::granted;
 ghost use Prim.Native.Nat.{_<_, _≤_};
 ghost use lib.ListN.{length};
 ghost use Rattle.machine.specs.declared.Value.the-variants.{Table};
+ghost use Rattle.machine.specs.Layout.{fixedWords};
 ghost use Rattle.machine.specs.Act.{Pays, Passes, Gives, count, newTable};
 
 // Adds an amount to a counter, if it then stays within the grant.
@@ -21,21 +24,21 @@ pub fn spend(words: &mut [u64], counter: usize, granted: u64, amount: u64) -> bo
 }
 
 // Counts a step.
-pub fn count(words: &mut [u64], grants: &[u64; 4]) -> bool
-    requires { ⌜ 24584 ≤ length (now words) ⌝ }
+pub fn count(words: &mut [u64], grants: &[u64; 5]) -> bool
+    requires { ⌜ fixedWords ≤ length (now words) ⌝ }
     ensures { λ r. ⌜ Passes (now (words .entry)) 79 (count (now (grants .entry))) r (now (words .exit)) ⌝ }
 {
-    let granted = grants[0];
-    let ok = spend(words, 0, granted, 1);
+    let limit = grants[granted::STEPS];
+    let ok = spend(words, counters::STEPS, limit, 1);
     ok
 }
 
 // The number of a new table.
 pub fn new_table(words: &mut [u64]) -> u32
-    requires { ⌜ 24584 ≤ length (now words) ⌝ }
+    requires { ⌜ fixedWords ≤ length (now words) ⌝ }
     ensures { λ r. ⌜ Gives (now (words .entry)) newTable (Table r) (now (words .exit)) ⌝ }
 {
-    let t = words[4] % 4294967296;
-    words[4] = t + 1;
+    let t = words[counters::TABLES] % 4294967296;
+    words[counters::TABLES] = t + 1;
     t as u32
 }

@@ -4,6 +4,8 @@ use crate::words;
 use machine::Answer;
 use machine::Figure;
 use machine::Value;
+use machine::granted;
+use machine::layout;
 ghost use Prim.Native.Nat.{_+_, _≤_};
 ghost use mathlib.Core.Path.{_≡_};
 ghost use lib.ListN.{length};
@@ -15,7 +17,7 @@ ghost use Rattle.machine.specs.Shapes.{firstWord, pairWord, figureLaid, lowNumb
 pub fn place_of(i: u32) -> usize
     ensures { λ r. ⌜ r ≡ shapePlace i ⌝ }
 {
-    24584 + 3 * (i as usize)
+    layout::FIXED_WORDS + layout::SHAPE_WORDS * (i as usize)
 }
 
 // The two numbers of a word.
@@ -81,13 +83,13 @@ fn put_figure(words: &mut [u64], at: usize, f: Figure)
 }
 
 // A new shape; 76 if none is left.
-pub fn new_shape(words: &mut [u64], grants: &[u64; 4], p: u64, f: Figure) -> Answer
+pub fn new_shape(words: &mut [u64], grants: &[u64; 5], p: u64, f: Figure) -> Answer
     requires { ⌜ Room (now grants) (now words) ⌝ }
     ensures { λ r. ⌜ Answers (now (words .entry)) (newShape (now (grants .entry)) p f) r (now (words .exit)) ⌝ }
 {
-    let i = words[1];
-    let granted = grants[1];
-    if !counters::spend(words, 1, granted, 1) {
+    let i = words[machine::counters::SHAPES];
+    let limit = grants[granted::SHAPES];
+    if !counters::spend(words, machine::counters::SHAPES, limit, 1) {
         return Answer::Bad(76, p);
     }
     let k = i as u32;

@@ -2,6 +2,8 @@
 use crate::hashes;
 use crate::keys;
 use machine::Answer;
+use machine::granted;
+use machine::layout;
 ghost use Prim.Native.Nat.{_+_, _^_, _≤_, _<_};
 ghost use mathlib.Core.Path.{_≡_};
 ghost use lib.ListN.{length, getD};
@@ -10,11 +12,13 @@ ghost use Rattle.machine.specs.Act.{raw, shown, PassesIn};
 ghost use Rattle.machine.specs.Tables.{findEntry, readEntry, bucketOf, entryLaid, addEntry, storeEntry};
 ghost use Rattle.tables.specs.Asked.{matchesAt, Puts};
 
-fn entry_place(grants: &[u64; 4], k: usize) -> usize
+fn entry_place(grants: &[u64; 5], k: usize) -> usize
     requires { ⌜ (getD (now grants) 1 0 < 2 ^ 16) × (k < 2 ^ 16) ⌝ }
     ensures { λ r. ⌜ r ≡ entryPlace (now (grants .entry)) k ⌝ }
 {
-    24584 + 3 * (grants[1] as usize) + 4 * k
+    layout::FIXED_WORDS
+        + layout::SHAPE_WORDS * (grants[granted::SHAPES] as usize)
+        + layout::ENTRY_WORDS * k
 }
 
 // The bucket of a table and a key.
@@ -22,7 +26,7 @@ fn bucket<'a>(
     program: &'a [u8],
     texts: &'a [u8],
     words: &[u64],
-    grants: &[u64; 4],
+    grants: &[u64; 5],
     t: u32,
     key: u64,
 ) -> usize
@@ -57,7 +61,7 @@ pub fn find_entry<'a>(
     program: &'a [u8],
     texts: &'a [u8],
     words: &[u64],
-    grants: &[u64; 4],
+    grants: &[u64; 5],
     t: u32,
     key: u64,
 ) -> usize
@@ -93,7 +97,7 @@ pub fn read_entry<'a>(
     program: &'a [u8],
     texts: &'a [u8],
     words: &[u64],
-    grants: &[u64; 4],
+    grants: &[u64; 5],
     p: u64,
     t: u32,
     key: u64,
@@ -129,7 +133,7 @@ fn add_entry<'a>(
     program: &'a [u8],
     texts: &'a [u8],
     words: &mut [u64],
-    grants: &[u64; 4],
+    grants: &[u64; 5],
     t: u32,
     key: u64,
     value: u64,
@@ -155,7 +159,7 @@ pub fn store_entry<'a>(
     program: &'a [u8],
     texts: &'a [u8],
     words: &mut [u64],
-    grants: &[u64; 4],
+    grants: &[u64; 5],
     t: u32,
     key: u64,
     value: u64,

@@ -135,7 +135,7 @@ pub fn join_texts(
     program: &[u8],
     texts: &mut [u8],
     words: &mut [u64],
-    grants: &[u64; 4],
+    grants: &[u64; 5],
     p: u64,
     a: u64,
     b: u64,

@@ -1,7 +1,7 @@
 //! One call, judged by the proved library and by the reference.
 
 use crate::{check, draw, Lent, Numbers, Work, CODE_WORDS, RUN_WORDS, TOKEN_WORDS};
-use generator::case::{totals, TAKINGS};
+use generator::case::{needed, EVENTS};
 use reference::case::Case;
 use reference::{run_specified, Answer, End, Grants, Operation};
 
@@ -42,11 +42,11 @@ pub fn numbers(answer: &Answer) -> Numbers {
     }
 }
 
-/// What is wrong with the library's checking of a program, if anything is. Checking takes nothing, so the most and nothing are granted by turns.
+/// What is wrong with the library's checking of a program, if anything is. Checking takes nothing, so the most and the least are granted by turns.
 pub fn misfit(program: &[u8], seed: u64) -> Option<String> {
     let mut lent = Lent::filled(seed);
     let grants = match seed % 2 {
-        0 => Grants::NONE,
+        0 => Grants::LEAST,
         _ => Grants::LARGEST,
     };
     let found = check(program, grants, &mut lent.tokens, &mut lent.code);
@@ -353,12 +353,12 @@ fn around(case: &Case, seed: u64) -> Vec<(Case, Lengths)> {
         &case.program,
         case.width,
         case.height,
-        TAKINGS,
+        EVENTS,
     );
     let End::Answer(end) = &specified.end else {
         return all;
     };
-    let exact = totals(&specified.takings);
+    let exact = needed(&specified.events);
     let mut add = |grants: Grants, out_length: u64| {
         let call = Case {
             grants,
@@ -391,18 +391,19 @@ fn around(case: &Case, seed: u64) -> Vec<(Case, Lengths)> {
     all
 }
 
-/// The same grants with one less of one kind, for each kind that has one.
+/// The same grants with one less of one kind, for each kind that has one to spare.
 pub fn one_less(grants: Grants) -> Vec<Grants> {
     let mut all = Vec::new();
-    for kind in 0..4 {
+    for kind in 0..5 {
         let mut few = grants;
-        let count = match kind {
-            0 => &mut few.steps,
-            1 => &mut few.shapes,
-            2 => &mut few.entries,
-            _ => &mut few.text_bytes,
+        let (count, least) = match kind {
+            0 => (&mut few.steps, 0),
+            1 => (&mut few.shapes, 0),
+            2 => (&mut few.entries, 0),
+            3 => (&mut few.text_bytes, 0),
+            _ => (&mut few.calls, 1),
         };
-        if *count > 0 {
+        if *count > least {
             *count -= 1;
             all.push(few);
         }

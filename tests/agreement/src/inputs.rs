@@ -4,7 +4,7 @@ use crate::compare::{Lender, Lengths};
 use reference::case::Case;
 use reference::{Grants, Operation};
 
-const HEAD: usize = 26;
+const HEAD: usize = 27;
 const LONGER: usize = 5;
 const MOST_STEPS: u64 = 250_000;
 const MOST_OUT: u64 = 262_144;
@@ -31,6 +31,7 @@ impl Input {
             shapes: number(16, 2) + (beyond(1) << 16),
             entries: number(18, 2) + (beyond(2) << 16),
             text_bytes: number(20, 2) + (beyond(3) << 16),
+            calls: number(26, 1) % 66,
         };
         let program = bytes.get(HEAD..).unwrap_or(&[]);
         let case = Case {
@@ -77,6 +78,7 @@ impl Input {
             bytes.extend((count.min(65_535) as u16).to_le_bytes());
         }
         bytes.extend((case.out_length.min(MOST_OUT) as u32).to_le_bytes());
+        bytes.push(grants.calls.min(64) as u8);
         bytes.extend(&case.program);
         bytes
     }

@@ -6,7 +6,7 @@ use reference::Grants;
 pub const TOKEN_WORDS: usize = 8_193;
 pub const CODE_WORDS: usize = 16_384;
 /// How many words a run must be lent besides those for shapes and entries.
-pub const RUN_WORDS: usize = 24_584;
+pub const RUN_WORDS: usize = 278_608;
 
 #[path = "../../../rust/src/ffi.rs"]
 mod ffi;
@@ -61,6 +61,7 @@ pub fn check_to(
             grants.shapes,
             grants.entries,
             grants.text_bytes,
+            grants.calls,
             tokens.as_mut_ptr(),
             tokens.len(),
             code.as_mut_ptr(),
@@ -115,6 +116,7 @@ pub fn draw_to(
             grants.shapes,
             grants.entries,
             grants.text_bytes,
+            grants.calls,
             work.tokens.as_mut_ptr(),
             work.tokens.len(),
             work.code.as_mut_ptr(),

@@ -14,9 +14,19 @@ fn path(name: &str) -> PathBuf {
     }
 }
 
-fn started(name: &str) -> Child {
+/// Starts a program, with so many kilobytes of stack if that is said.
+fn started(name: &str, stack: Option<u32>) -> Child {
     let program = path(name);
-    Command::new(&program)
+    let mut command = match stack {
+        None => Command::new(&program),
+        Some(kilobytes) => {
+            let mut shell = Command::new("sh");
+            let line = format!("ulimit -s {kilobytes} && exec \"$0\"");
+            shell.arg("-c").arg(line).arg(&program);
+            shell
+        }
+    };
+    command
         .stdin(Stdio::piped())
         .stdout(Stdio::piped())
         .stderr(Stdio::piped())
@@ -26,7 +36,7 @@ fn started(name: &str) -> Child {
 
 /// What a program prints on an input that comes in pieces. It must end well, and with nothing on standard error.
 pub fn printed_piecewise<'a>(name: &str, pieces: impl Iterator<Item = &'a [u8]>) -> Vec<u8> {
-    let mut child = started(name);
+    let mut child = started(name, None);
     // Programs read what is left of their input, so that the pipe stays open.
     let mut input = child.stdin.take().unwrap();
     for (k, piece) in pieces.enumerate() {
@@ -45,6 +55,15 @@ pub fn printed_piecewise<'a>(name: &str, pieces: impl Iterator<Item = &'a [u8]>)
         String::from_utf8_lossy(&output.stderr)
     );
     output.stdout
+}
+
+/// What a program prints on an input with so many kilobytes of stack, if it ends well.
+pub fn printed_with_stack(name: &str, kilobytes: u32, input: &[u8]) -> Option<Vec<u8>> {
+    let mut child = started(name, Some(kilobytes));
+    // One that has too little may be gone before it has read anything.
+    let _ = child.stdin.take().unwrap().write_all(input);
+    let output = child.wait_with_output().unwrap();
+    output.status.success().then_some(output.stdout)
 }
 
 /// What a program prints on an input.

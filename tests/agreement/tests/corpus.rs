@@ -78,7 +78,7 @@ fn it_leads_to_every_number() {
         assert!(name.starts_with(&begin), "{name} is {begin}");
     }
     let all = [
-        0, 10, 20, 30, 40, 50, 60, 70, 71, 72, 75, 76, 77, 78, 79, 80,
+        0, 10, 20, 30, 40, 50, 60, 70, 71, 72, 75, 76, 77, 78, 79, 80, 81,
     ];
     for number in all {
         assert!(numbers.contains(&number), "{number} is missing");

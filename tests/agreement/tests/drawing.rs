@@ -6,7 +6,7 @@ mod common;
 use agreement::compare::{numbers, Lender, Lengths};
 use agreement::{check, draw, draw_to, Numbers, Work};
 use common::{all_kinds, main_of, need, plain};
-use generator::case::TAKINGS;
+use generator::case::{needed, EVENTS};
 use generator::random::Random;
 use generator::{case, heavy, limit, systematic, Case};
 use reference::decisions::rows;
@@ -106,8 +106,9 @@ fn long_runs() {
     let mut long = 0;
     for seed in 0..1_500 {
         let case = case(seed);
-        let specified = run_specified(DRAW, &case.program, 20, 20, TAKINGS);
-        if specified.end != End::Cut {
+        let specified = run_specified(DRAW, &case.program, 20, 20, EVENTS);
+        // One that only lacks a 65th call ends soon.
+        if specified.end != End::Cut || needed(&specified.events).calls == 64 {
             continue;
         }
         long += 1;
@@ -404,7 +405,7 @@ fn drawn_is_as_long_as_80_tells() {
         assert_eq!(draw(&mut less), told, "seed {seed}");
         assert!(less.iter().all(|byte| *byte == b'#'), "seed {seed}");
     }
-    assert!(pictures > 500, "only {pictures} pictures");
+    assert!(pictures > 400, "only {pictures} pictures");
 }
 
 // Would catch any row of the decisions taken otherwise. The results are those of the document, not of the reference.
@@ -427,7 +428,7 @@ fn decisions() {
         };
         assert_eq!(short, row.result, "row {}", row.number);
     }
-    assert!(85 <= rows.len(), "only {} rows were read", rows.len());
+    assert!(129 <= rows.len(), "only {} rows were read", rows.len());
 }
 
 /// The answer of drawing a body into an out slice of so many bytes.
@@ -460,7 +461,7 @@ fn checked_by_hand() {
         assert_eq!(drawn(DAY, few(14, 4), room), answer(79, 47, 14, 0));
         assert_eq!(drawn(DAY, few(15, 3), room), answer(76, 47, 15, 0));
         assert_eq!(drawn("", GRANTS, room), answer(10, 14, 0, 0));
-        assert_eq!(drawn("var a;", Grants::NONE, room), answer(79, 14, 0, 0));
+        assert_eq!(drawn("var a;", Grants::LEAST, room), answer(79, 14, 0, 0));
         assert_eq!(drawn("var w;", GRANTS, room), answer(60, 14, 1, 0));
         assert_eq!(drawn("a=1;", GRANTS, room), answer(50, 14, 2, 0));
         assert_eq!(drawn("1+2+3;", GRANTS, room), answer(10, 17, 0, 0));

@@ -50,6 +50,7 @@ fn expected(program: &[u8]) -> Vec<u8> {
         73 => b"The program has more than 32,768 bytes.\n",
         74 => b"The program has more than 8,192 tokens. This is the first one too many.\n",
         75 => b"This opens a 65th level, and a program has at most 64.\n",
+        60 => b"This procedure has the name of an earlier one or of the library.\n",
         _ => panic!("checking answered {number}"),
     });
     text

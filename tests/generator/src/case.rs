@@ -2,14 +2,14 @@
 //! the run takes.
 
 use crate::random::Random;
-use crate::{damage, limit, program, quiz, soup, Case};
+use crate::{damage, limit, procedures, program, quiz, soup, Case};
 use reference::sheet::{GRANTS, OUT_LENGTH};
-use reference::{run_specified, Answer, End, Grants, Operation, Specified, Taking};
+use reference::{run_specified, Answer, End, Event, Grants, Operation, Specified, Taking};
 use std::sync::OnceLock;
 
-/// How many takings of a run are looked at. Runs that take more get so few
+/// How many events of a run are looked at. Runs that have more get so few
 /// steps that they end within these.
-pub const TAKINGS: usize = 8_000;
+pub const EVENTS: usize = 8_000;
 
 /// A case with all counts within their ranges.
 pub fn case(seed: u64) -> Case {
@@ -23,7 +23,7 @@ pub fn case(seed: u64) -> Case {
     };
     // Checking takes nothing; its grants are those of a run all the same, so
     // that drawing the case does not go on for ever.
-    let specified = run_specified(Operation::Draw, &program, width, height, TAKINGS);
+    let specified = run_specified(Operation::Draw, &program, width, height, EVENTS);
     let grants = grants(&specified, &mut random);
     let out_length = out_length(&specified, &mut random);
     Case {
@@ -45,7 +45,7 @@ pub fn case_out_of_range(seed: u64) -> Case {
         1 => u64::MAX,
         _ => first + random.bits() % 1_000_000,
     };
-    let which = random.between(1, 15);
+    let which = random.between(1, 31);
     if which & 1 != 0 {
         case.grants.steps = far(&mut random, 4_294_967_296);
     }
@@ -58,21 +58,32 @@ pub fn case_out_of_range(seed: u64) -> Case {
     if which & 8 != 0 {
         case.grants.text_bytes = far(&mut random, 65_536);
     }
+    if which & 16 != 0 {
+        case.grants.calls = match random.below(2) {
+            0 => 0,
+            _ => far(&mut random, 65),
+        };
+    }
     case
 }
 
 /// A program of any sort.
 pub fn any_program(random: &mut Random) -> Vec<u8> {
-    match random.weighted(&[65, 10, 2, 2, 6, 15]) {
+    match random.weighted(&[65, 10, 2, 2, 7, 15, 14, 3]) {
         0 => program::program(random),
         1 => {
             let whole = program::program(random);
             damage::damaged(whole, random)
         }
+        6 => procedures::program(random),
+        7 => {
+            let whole = procedures::program(random);
+            damage::damaged(whole, random)
+        }
         2 => soup::tokens(random),
         3 => soup::bytes(random),
         4 => {
-            let group = &limits()[random.weighted(&[2, 2, 5, 3])];
+            let group = &limits()[random.weighted(&[2, 2, 6, 3, 3])];
             let one = random.pick(group).clone();
             if random.chance(100) {
                 damage::damaged(one, random)
@@ -103,19 +114,43 @@ fn side(random: &mut Random) -> i32 {
     }
 }
 
-/// How much the takings of a list add up to.
-pub fn totals(takings: &[(Taking, usize)]) -> Grants {
-    let mut totals = Grants::NONE;
-    for (taking, _) in takings {
-        match taking {
-            Taking::Step => totals.steps += 1,
-            Taking::Shape => totals.shapes += 1,
-            Taking::Entry => totals.entries += 1,
-            Taking::Text(bytes) => totals.text_bytes += bytes,
-            Taking::Picture(_) => {}
+/// How much of each kind the events of a list take. Calls are given back, so
+/// of these it is the most that are under way at once.
+pub fn totals(events: &[Event]) -> Grants {
+    let mut totals = Grants::NOTHING;
+    let mut under_way = 0;
+    for event in events {
+        match event {
+            Event::Taken(Taking::Step, _) => totals.steps += 1,
+            Event::Taken(Taking::Shape, _) => totals.shapes += 1,
+            Event::Taken(Taking::Entry, _) => totals.entries += 1,
+            Event::Taken(Taking::Text(bytes), _) => totals.text_bytes += bytes,
+            Event::Taken(Taking::Call, _) => under_way += 1,
+            Event::Taken(Taking::Picture(_), _) => {}
+            Event::GaveBack => under_way -= 1,
         }
+        totals.calls = totals.calls.max(under_way);
     }
     totals
+}
+
+/// How many calls are under way after the events of a list.
+fn under_way(events: &[Event]) -> u64 {
+    events.iter().fold(0, |calls, event| match event {
+        Event::Taken(Taking::Call, _) => calls + 1,
+        Event::GaveBack => calls - 1,
+        Event::Taken(..) => calls,
+    })
+}
+
+/// What the events of a list take, as grants within their ranges.
+pub fn needed(events: &[Event]) -> Grants {
+    let totals = totals(events);
+    let least = Grants {
+        calls: totals.calls.max(1),
+        ..totals
+    };
+    smaller(least, Grants::LARGEST)
 }
 
 fn smaller(one: Grants, other: Grants) -> Grants {
@@ -124,12 +159,13 @@ fn smaller(one: Grants, other: Grants) -> Grants {
         shapes: one.shapes.min(other.shapes),
         entries: one.entries.min(other.entries),
         text_bytes: one.text_bytes.min(other.text_bytes),
+        calls: one.calls.min(other.calls),
     }
 }
 
 /// Grants around what the run takes.
 fn grants(specified: &Specified, random: &mut Random) -> Grants {
-    let needed = smaller(totals(&specified.takings), Grants::LARGEST);
+    let needed = needed(&specified.events);
     let chosen = match random.weighted(&[44, 18, 18, 8, 2, 1, 9]) {
         0 => GRANTS,
         // Exactly what is needed.
@@ -142,36 +178,42 @@ fn grants(specified: &Specified, random: &mut Random) -> Grants {
                 3 * needed.shapes.min(1) as usize,
                 4 * needed.entries.min(1) as usize,
                 4 * needed.text_bytes.min(1) as usize,
+                4 * (needed.calls - 1).min(1) as usize,
             ];
             if uses.iter().sum::<usize>() > 0 {
                 match random.weighted(&uses) {
                     0 => few.steps = needed.steps - 1,
                     1 => few.shapes = needed.shapes - 1,
                     2 => few.entries = needed.entries - 1,
-                    _ => few.text_bytes = needed.text_bytes - 1,
+                    3 => few.text_bytes = needed.text_bytes - 1,
+                    _ => few.calls = needed.calls - 1,
                 }
             }
             few
         }
         // Just too little for one taking along the way.
         3 => {
-            let at = random.below(specified.takings.len());
-            let before = totals(&specified.takings[..at]);
-            match specified.takings.get(at) {
-                Some((Taking::Step, _)) => Grants {
+            let at = random.below(specified.events.len());
+            let before = self::needed(&specified.events[..at]);
+            match specified.events.get(at) {
+                Some(Event::Taken(Taking::Step, _)) => Grants {
                     steps: before.steps,
                     ..GRANTS
                 },
-                Some((Taking::Shape, _)) => Grants {
+                Some(Event::Taken(Taking::Shape, _)) => Grants {
                     shapes: before.shapes,
                     ..GRANTS
                 },
-                Some((Taking::Entry, _)) => Grants {
+                Some(Event::Taken(Taking::Entry, _)) => Grants {
                     entries: before.entries,
                     ..GRANTS
                 },
-                Some((Taking::Text(bytes), _)) => Grants {
+                Some(Event::Taken(Taking::Text(bytes), _)) => Grants {
                     text_bytes: before.text_bytes + random.below(*bytes as usize) as u64,
+                    ..GRANTS
+                },
+                Some(Event::Taken(Taking::Call, _)) => Grants {
+                    calls: under_way(&specified.events[..at]).clamp(1, 64),
                     ..GRANTS
                 },
                 _ => before,
@@ -183,8 +225,9 @@ fn grants(specified: &Specified, random: &mut Random) -> Grants {
             shapes: random.below(needed.shapes as usize + 2) as u64,
             entries: random.below(needed.entries as usize + 2) as u64,
             text_bytes: random.below(needed.text_bytes as usize + 2) as u64,
+            calls: random.between(1, needed.calls as usize + 1) as u64,
         },
-        5 => Grants::NONE,
+        5 => Grants::LEAST,
         // The largest; a run that should have ended long ago is stopped sooner.
         _ => Grants {
             steps: *random.pick(&[1_000_000, 1_000_000, 1_000_000, Grants::LARGEST.steps]),
@@ -192,7 +235,10 @@ fn grants(specified: &Specified, random: &mut Random) -> Grants {
         },
     };
     let mut grants = smaller(chosen, Grants::LARGEST);
-    if specified.end == End::Cut {
+    // A list that ends in a 65th call needs no fewer steps: that call ends
+    // every run.
+    let endless = specified.end == End::Cut && under_way(&specified.events) <= 64;
+    if endless {
         grants.steps = grants.steps.min(needed.steps.saturating_sub(1));
     }
     grants

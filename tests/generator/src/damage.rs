@@ -8,7 +8,7 @@ use reference::token::{tokens, Token};
 const BYTES: &[u8] = b" \t\n\r\0\"!=+-*/%<>.,;()[]{}_'&#\x7f\x80\xff\xc3azAZ09d";
 
 /// Statements and other parts that nearly fit, and some that do.
-const PARTS: [&str; 40] = [
+const PARTS: [&str; 50] = [
     "(w)=1;",
     "(w.h)=1;",
     "((w).h)=1;",
@@ -49,6 +49,16 @@ const PARTS: [&str; 40] = [
     "(f)(1);",
     "f(1)(2);",
     "def f(){1;}",
+    "def f(x,x){return x;}",
+    "def main(w,h){1;}",
+    "def drawBox(x){1;}",
+    "def sin(x){return x;}",
+    "def f(){}",
+    "1;}def f(){1;",
+    "return 1;}def g(x){return x;",
+    "f(1);",
+    "f();",
+    "main(w,h);",
 ];
 
 /// The program with a few changes, which may leave it well formed.

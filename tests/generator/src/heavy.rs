@@ -10,7 +10,9 @@ pub fn cases() -> Vec<Case> {
         steps: 1_500_000,
         ..Grants::LARGEST
     };
-    for body in bodies() {
+    let whole = |body: String| format!("def main(w,h){{{body}}}");
+    let programs = bodies().into_iter().map(whole).chain(recursions());
+    for program in programs {
         for (grants, out_length) in [
             (largest, 0),
             (largest, 65_536),
@@ -22,7 +24,7 @@ pub fn cases() -> Vec<Case> {
                 height: 9_999,
                 grants,
                 out_length,
-                program: format!("def main(w,h){{{body}}}").into_bytes(),
+                program: program.clone().into_bytes(),
             });
         }
     }
@@ -81,4 +83,35 @@ fn bodies() -> Vec<String> {
     }
     all.push(shapes);
     all
+}
+
+/// Programs that call much.
+fn recursions() -> Vec<String> {
+    [
+        // Calls: about 60,000, two of each under way at once.
+        "def fib(n){if(n<2)return n;return fib(n-1)+fib(n-2);}def main(w,h){w=drawLine(fib(20),fib(19),0,0);}",
+        "def f(x,y){return x+y;}def main(w,h){var i;i=0;while(i<60000){h=f(h,i);i=i+1;}w=drawLine(h,i,0,0);}",
+        // Up to the last call again and again.
+        "def f(n){if(n>0)return f(n-1)+1;return 0;}def main(w,h){var i;i=0;h=0;while(i<1500){h=h+f(62);i=i+1;}w=drawLine(h,i,0,0);}",
+        "def f(n){if(n>0)return g(n-1)+1;return 0;}def g(n){if(n>0)return f(n-1)+2;return 0;}\
+         def main(w,h){var i;i=0;h=0;while(i<1500){h=h+f(62);i=i+1;}f(63);}",
+        // A copy for each call, up to as many as can be, and one more.
+        "def f(x){return x;}def main(w,h){var i;i=0;w=drawBox(1,2,3,4);while(i<65533){f(w);i=i+1;}}",
+        "def f(x){return x;}def main(w,h){var i;i=0;w=drawBox(1,2,3,4);while(i<65534){f(w);i=i+1;}}",
+        // Shapes of all calls destroyed from the last.
+        "def f(n,s){if(n>0)return f(n-1,s>>n);clearScene();return none;}\
+         def main(w,h){var i;i=0;while(i<300){f(60,drawLine(i,2,3,4));i=i+1;}w=drawLine(i,0,0,0);}",
+        // A tree, kept in tables that are handed down.
+        "def tree(n){var t;t=[0];t.0=n;if(n>0){t.1=tree(n-1);t.2=tree(n-1);}return t;}\
+         def sum(t){if(t.0==0)return 1;return (sum(t.1)*3)+sum(t.2);}\
+         def main(w,h){var t;t=tree(13);w=drawLine(sum(t),0,0,0);}",
+        // Text made in calls.
+        "def f(n){if(n==0)return \"a\";return f(n-1)++f(n-1);}def main(w,h){w=drawText(1,2,f(12));}",
+        // Without an end: calls, and calls of calls.
+        "def f(){return 1;}def main(w,h){while(true)f();}",
+        "def f(){g();f();}def g(){1;}def main(w,h){f();}",
+    ]
+    .iter()
+    .map(|program| program.to_string())
+    .collect()
 }

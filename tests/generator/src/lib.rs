@@ -8,6 +8,7 @@ pub mod case;
 pub mod damage;
 pub mod heavy;
 pub mod limit;
+pub mod procedures;
 pub mod program;
 pub mod quiz;
 pub mod random;

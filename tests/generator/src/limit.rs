@@ -12,7 +12,7 @@ pub fn programs() -> Vec<Vec<u8>> {
 
 /// All of them, by what they are about.
 pub fn groups() -> Vec<Vec<Vec<u8>>> {
-    vec![lengths(), token_numbers(), levels(), constants()]
+    vec![lengths(), token_numbers(), levels(), constants(), calls()]
 }
 
 /// 32,767, 32,768 and 32,769 bytes.
@@ -186,4 +186,127 @@ fn constants() -> Vec<Vec<u8>> {
         all.push(main_of(&format!("return {constant};")));
     }
     all
+}
+
+/// What stands around an expression: each opens one level.
+const AROUND: [(&str, &str); 11] = [
+    ("(", ")"),
+    ("[", "]"),
+    ("g(", ")"),
+    ("drawText(1,2,", ")"),
+    ("1+(", ")"),
+    ("(", "+1)"),
+    ("t.(", ")"),
+    ("1+t.(", ")"),
+    ("1+t.[", "]"),
+    ("1+t.g(", ")"),
+    ("1+t.drawText(1,2,", ")"),
+];
+
+/// What stands around a statement, and how many levels it opens.
+const HEADS: [(&str, &str, usize); 5] = [
+    ("{", "}", 1),
+    ("if(true)", "", 1),
+    ("while(true)", "", 1),
+    ("if(true){", "}", 2),
+    ("while(true){", "}", 2),
+];
+
+fn times(part: (&str, &str), times: usize, inside: &str) -> String {
+    format!("{}{inside}{}", part.0.repeat(times), part.1.repeat(times))
+}
+
+/// A procedure that calls itself until so many calls are under way, each call inside what is put around it.
+fn under_way(calls: usize, around: impl Fn(&str) -> String) -> Vec<u8> {
+    let call = |number: &str| around(&format!("f({number},t)"));
+    format!(
+        "def f(n,t){{if(n==0)return 0;{}}}def g(x){{return x;}}\
+         def main(w,h){{var t;t=[0];t.0=0;{}}}",
+        call("n-1"),
+        call(&(calls - 2).to_string())
+    )
+    .into_bytes()
+}
+
+/// So many calls under way, each in 64 levels of one kind, or of two half and half. The call's own parenthesis is the last.
+pub fn deepest(calls: usize) -> Vec<Vec<u8>> {
+    let mut all = Vec::new();
+    for kind in AROUND {
+        all.push(under_way(calls, |call| {
+            format!("return {};", times(kind, 63, call))
+        }));
+    }
+    for (open, close, levels) in HEADS {
+        all.push(under_way(calls, |call| {
+            let inside = format!("return {call};");
+            times((open, close), 63 / levels, &inside)
+        }));
+        for kind in AROUND {
+            all.push(under_way(calls, |call| {
+                let inside = format!("return ({});", times(kind, 31, call));
+                times((open, close), 31 / levels, &inside)
+            }));
+        }
+    }
+    all
+}
+
+/// 62 to 65 calls under way, in no level and in as many as fit, with as many
+/// variables, parameters and waiting arguments as fit; as many procedures as
+/// fit.
+fn calls() -> Vec<Vec<u8>> {
+    let mut all = Vec::new();
+    let mut deep = Vec::new();
+    for calls in [63, 64, 65] {
+        deep.push(under_way(calls, |call| format!("return {call};")));
+        deep.extend(
+            deepest(calls)
+                .into_iter()
+                .step_by(if calls == 64 { 1 } else { 7 }),
+        );
+    }
+    let names = |name: &str, number: usize| -> Vec<String> {
+        (0..number).map(|at| format!("{name}{at}")).collect()
+    };
+    for calls in [62, 63] {
+        // As many parameters as fit, as many declared variables, as many
+        // waiting arguments, and some of each.
+        let parameters = names("p", 1_350).join(",");
+        let ones = ",1".repeat(1_349);
+        all.push(format!(
+            "def f({parameters}){{if(p0>0)f(p0-1{});}}def main(w,h){{f({calls}{ones});}}",
+            names(",p", 1_349).concat().replace(",p0", ",p1")
+        ));
+        let declared: String = names("var v", 2_700).join(";");
+        all.push(format!(
+            "def f(n){{{declared};if(n>0)f(n-1);}}def main(w,h){{f({calls});}}"
+        ));
+        let waiting = "1,".repeat(4_000);
+        all.push(format!(
+            "def f(n){{if(n>0)drawLine({waiting}f(n-1));}}def main(w,h){{f({calls});}}"
+        ));
+        let declared: String = names("var v", 1_300).join(";");
+        let waiting = "n,".repeat(1_950);
+        all.push(format!(
+            "def f(n){{{declared};if(n>0)clearScene({waiting}f(n-1));}}def main(w,h){{f({calls});}}"
+        ));
+        // Variables that hold shapes, reached by clearScene from the last.
+        let shapes: String = (0..12)
+            .map(|at| format!("var s{at};s{at}=drawBox({at},n,1,1);"))
+            .collect();
+        all.push(format!(
+            "def f(n){{{shapes}if(n==0)clearScene();if(n>0)f(n-1);s0;}}\
+             def main(w,h){{w=drawLine(1,2,3,4);f({calls});}}"
+        ));
+    }
+    // 8 tokens for a procedure, 12 for main.
+    for number in [1_021, 1_022, 1_023, 1_024] {
+        let each: String = (0..number).map(|k| format!("def f{k}(){{1;}}")).collect();
+        all.push(format!("{each}def main(w,h){{f{}();}}", number - 1));
+        all.push(format!("def main(w,h){{f{}();}}{each}", number - 1));
+        all.push(format!("{each}def f0(w,h){{1;}}"));
+        all.push(each);
+    }
+    deep.extend(all.into_iter().map(String::into_bytes));
+    deep
 }

@@ -2,6 +2,7 @@
 //! so that most programs run for a while, and now and then does something
 //! else than it knows to be right.
 
+use crate::procedures::{how_many, shuffled};
 use crate::random::Random;
 use crate::spacing::{write, Spacing};
 use crate::words::{
@@ -43,6 +44,38 @@ struct Variable {
 
 type Tokens = Vec<String>;
 
+/// A procedure of the program's own, main excepted.
+#[derive(Clone, Debug)]
+struct Own {
+    name: String,
+    parameters: Vec<(String, Kind)>,
+    /// The kind of what it hands back.
+    gives: Kind,
+    /// Whether its first parameter counts down to the end of its recursion.
+    counts: bool,
+}
+
+/// Names for procedures, some of which variables and the documents have too.
+const PROCEDURES: [&str; 14] = [
+    "f",
+    "g",
+    "bar",
+    "a",
+    "x",
+    "sin",
+    "eval",
+    "drawGroup",
+    "foo",
+    "scale",
+    "w",
+    "drawbox",
+    "in",
+    "stickman",
+];
+
+/// What counts down.
+const COUNT: &str = "n";
+
 /// A well-formed program.
 pub fn program(random: &mut Random) -> Vec<u8> {
     let spacing = Spacing::any(random);
@@ -65,6 +98,7 @@ fn tokens(random: &mut Random) -> Tokens {
     };
     let danger = *random.pick(&[0, 20, 60, 150]);
     let wild = random.chance(200);
+    let own = own_procedures(random);
     let mut maker = Maker {
         random,
         tokens: Vec::new(),
@@ -75,9 +109,55 @@ fn tokens(random: &mut Random) -> Tokens {
         left,
         loops: 0,
         nesting: 0,
+        within: own.len(),
+        own,
     };
     maker.main();
-    maker.tokens
+    let mut all = vec![std::mem::take(&mut maker.tokens)];
+    for place in 0..maker.own.len() {
+        maker.procedure(place);
+        all.push(std::mem::take(&mut maker.tokens));
+    }
+    if maker.random.chance(8) {
+        maker.doubled();
+        all.push(std::mem::take(&mut maker.tokens));
+    }
+    if maker.random.chance(300) {
+        return all.concat();
+    }
+    shuffled(all, maker.random).concat()
+}
+
+/// The procedures of a program, none as often as not.
+fn own_procedures(random: &mut Random) -> Vec<Own> {
+    let mut all: Vec<Own> = Vec::new();
+    for _ in 0..random.weighted(&[45, 20, 15, 12, 8]) {
+        let name = random.pick(&PROCEDURES).to_string();
+        if all.iter().any(|other| other.name == name) {
+            continue;
+        }
+        let counts = random.chance(350);
+        let mut parameters = Vec::new();
+        if counts {
+            parameters.push((COUNT.to_string(), Kind::Integer));
+        }
+        for _ in 0..random.weighted(&[25, 35, 25, 10, 5]) {
+            let name = *random.pick(&["x", "y", "z", "a", "b", "w", "bar", "sin", "t"]);
+            let twice = parameters.iter().any(|(other, _)| other == name);
+            if !twice || random.chance(40) {
+                let kind = WANTED[random.weighted(&[30, 10, 6, 4, 12, 38])];
+                parameters.push((name.to_string(), kind));
+            }
+        }
+        let gives = WANTED[random.weighted(&[28, 8, 10, 10, 8, 36])];
+        all.push(Own {
+            name,
+            parameters,
+            gives,
+            counts,
+        });
+    }
+    all
 }
 
 fn texts(items: &[&str]) -> Tokens {
@@ -100,6 +180,9 @@ struct Maker<'r> {
     loops: usize,
     /// How many primaries stand around the place.
     nesting: usize,
+    own: Vec<Own>,
+    /// Which of these is being made; main is behind the last.
+    within: usize,
 }
 
 impl Maker<'_> {
@@ -174,6 +257,135 @@ impl Maker<'_> {
             self.put(&[";"]);
         }
         self.put(&["}"]);
+    }
+
+    /// A procedure. Most end in a return.
+    fn procedure(&mut self, place: usize) {
+        let Own {
+            name,
+            parameters,
+            gives,
+            counts,
+        } = self.own[place].clone();
+        self.within = place;
+        self.variables.clear();
+        self.left = self.random.weighted(&[2, 5, 5, 3, 2, 1]);
+        self.put(&["def", &name, "("]);
+        for (at, (name, kind)) in parameters.iter().enumerate() {
+            if at > 0 {
+                self.put(&[","]);
+            }
+            self.put(&[name]);
+            self.know(name, *kind, false);
+        }
+        self.put(&[")", "{"]);
+        if counts {
+            // What counts down is not assigned.
+            self.variables[0].counts = true;
+            self.put(&["if", "(", COUNT, "<", "1", ")"]);
+            self.hand_back(gives);
+        }
+        if self.random.chance(300) {
+            for name in COUNTERS {
+                self.put(&["var", name, ";"]);
+                self.know(name, Kind::None, true);
+            }
+        }
+        while self.left > 0 {
+            self.statement(2);
+        }
+        if counts && self.random.chance(600) {
+            // It calls itself, or another that counts down.
+            let counting: Vec<usize> = (0..self.own.len())
+                .filter(|other| self.own[*other].counts)
+                .collect();
+            let other = match self.random.chance(700) {
+                true => place,
+                false => *self.random.pick(&counting),
+            };
+            let call = self.own_call(other, 1);
+            if self.own[other].gives == gives && self.random.chance(600) {
+                self.put(&["return"]);
+            }
+            self.append(call);
+            self.put(&[";"]);
+        }
+        match self.random.weighted(&[70, 10, 20]) {
+            0 => self.hand_back(gives),
+            1 => {
+                let other = self.any_kind();
+                self.hand_back(other);
+            }
+            _ => self.put(&["1", ";"]),
+        }
+        self.put(&["}"]);
+    }
+
+    fn hand_back(&mut self, kind: Kind) {
+        let value = self.expression(kind, 1);
+        self.put(&["return"]);
+        self.append(value);
+        self.put(&[";"]);
+    }
+
+    /// A procedure whose name another one or the library has.
+    fn doubled(&mut self) {
+        let name = match (self.random.below(3), self.own.first()) {
+            (0, _) => "main".to_string(),
+            (1, Some(first)) => first.name.clone(),
+            _ => self.random.pick(&LIBRARY).0.to_string(),
+        };
+        self.put(&["def", &name, "(", "w", ",", "h", ")", "{", "1", ";", "}"]);
+    }
+
+    /// A procedure that can be called here without end in sight, if there is
+    /// one that gives the kind: one further down, or one that counts down
+    /// from one that counts down.
+    fn callable(&mut self, kind: Kind) -> Option<usize> {
+        let main = self.within == self.own.len();
+        let counting = !main && self.own[self.within].counts;
+        let places: Vec<usize> = (0..self.own.len())
+            .filter(|place| {
+                let own = &self.own[*place];
+                let ends = main || *place > self.within || (counting && own.counts);
+                ends && own.gives == kind
+            })
+            .collect();
+        if places.is_empty() {
+            return None;
+        }
+        Some(*self.random.pick(&places))
+    }
+
+    fn own_call(&mut self, place: usize, depth: usize) -> Tokens {
+        let Own {
+            name,
+            parameters,
+            counts,
+            ..
+        } = self.own[place].clone();
+        let counting = self.within < self.own.len() && self.own[self.within].counts;
+        let mut arguments = Vec::new();
+        for (at, (_, kind)) in parameters.iter().enumerate() {
+            arguments.push(match at == 0 && counts {
+                true if counting => texts(&[COUNT, "-", "1"]),
+                true if self.random.chance(850) => vec![self.random.below(5).to_string()],
+                true => vec![how_many(self.random).to_string()],
+                false => self.expression(*kind, depth),
+            });
+        }
+        if self.noisy() {
+            if self.random.chance(500) {
+                arguments.pop();
+            } else {
+                arguments.push(self.any_expression(depth));
+            }
+        }
+        if self.noisy() {
+            let shape = self.shape_to_destroy(depth);
+            arguments.push(call("destroyShape", vec![shape]));
+        }
+        call(&name, arguments)
     }
 
     /// A name that is not declared yet.
@@ -735,6 +947,11 @@ impl Maker<'_> {
             }
         }
         let deeper = depth.saturating_sub(1);
+        if self.nesting < 5 && self.random.chance(300) {
+            if let Some(place) = self.callable(kind) {
+                return self.own_call(place, deeper);
+            }
+        }
         match kind {
             Kind::Integer if depth > 0 && self.random.chance(120) => {
                 let x_or_y = ["getShapeXCoordinate", "getShapeYCoordinate"];

@@ -90,7 +90,7 @@ pub fn program(random: &mut Random) -> Vec<u8> {
 }
 
 /// A statement with its holes filled.
-fn filled(statement: &str, random: &mut Random) -> String {
+pub fn filled(statement: &str, random: &mut Random) -> String {
     let mut text = String::new();
     let mut rest = statement;
     while let Some(start) = rest.find('<') {

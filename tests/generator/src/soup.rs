@@ -6,6 +6,9 @@ use crate::words::token;
 /// Tokens at random, most often behind the beginning of a program.
 pub fn tokens(random: &mut Random) -> Vec<u8> {
     let mut bytes = Vec::new();
+    if random.chance(150) {
+        bytes.extend_from_slice(b"def f(x){return x;}");
+    }
     if random.chance(800) {
         bytes.extend_from_slice(b"def main(w,h){");
     }

@@ -1,5 +1,6 @@
 //! Small programs that go through all combinations: operators and kinds,
-//! integers at the edges, keys, library procedures and their arguments.
+//! integers at the edges, keys, library procedures and their arguments,
+//! procedures of the program's own.
 
 use crate::words::{BACKWARDS, EDGES, LIBRARY, LITERALS, OPERATORS, SHAPES, UNKNOWN};
 
@@ -16,7 +17,10 @@ pub fn programs() -> Vec<Vec<u8>> {
     bodies.extend(keys());
     bodies.extend(calls());
     let whole = |body: &String| format!("def main(w,h){{{body}}}").into_bytes();
-    bodies.iter().map(whole).collect()
+    let mut programs: Vec<Vec<u8>> = bodies.iter().map(whole).collect();
+    programs.extend(own_calls());
+    programs.extend(names_twice());
+    programs
 }
 
 /// Every operator on every pair of literals, so that the result shows.
@@ -235,4 +239,71 @@ fn calls() -> Vec<String> {
         }
     }
     bodies
+}
+
+/// A procedure with 0 to 3 parameters, of different names or two alike, that
+/// uses one of them or none, called with 0 to 3 arguments, of which one may be
+/// destroyed on the way: from main, and where 63 or 64 calls are under way.
+fn own_calls() -> Vec<Vec<u8>> {
+    let parameters = ["", "x", "x,y", "x,x", "x,y,z", "x,y,x"];
+    let bodies = [
+        "1;",
+        "return x;",
+        "x=<S>;return x;",
+        "destroyShape(x);return y;",
+    ];
+    let arguments = [
+        "",
+        "a",
+        "1",
+        "u",
+        "a,b",
+        "a,destroyShape(a)",
+        "a,clearScene()",
+        "destroyShape(a),a",
+        "drawBox(1,2,3,4),a,destroyShape(a)",
+        "1,a,f(1,2,3)",
+        "a,b,t",
+    ];
+    let mut programs = Vec::new();
+    for parameters in parameters {
+        for body in bodies {
+            let body = body.replace("<S>", "drawBox(5,6,7,8)");
+            for arguments in arguments {
+                let own = format!("def f({parameters}){{{body}}}");
+                let statements = format!(
+                    "var a;var b;var t;a=drawBox(1,2,3,4);b=drawLine(1,2,3,4);t=[0];a=f({arguments});"
+                );
+                programs.push(format!("{own}def main(w,h){{{statements}}}"));
+                for calls in [61, 62, 63] {
+                    programs.push(format!(
+                        "def main(w,h){{r({calls});}}{own}def r(n){{if(n>0)return r(n-1);{statements}}}"
+                    ));
+                }
+            }
+        }
+    }
+    programs.into_iter().map(String::into_bytes).collect()
+}
+
+/// Every pair of names defined in one program, before main and behind it, and
+/// each called.
+fn names_twice() -> Vec<Vec<u8>> {
+    let mut names = vec!["f", "g", "main", "w", "x", "drawbox"];
+    names.extend(LIBRARY.map(|(name, _)| name));
+    names.extend(UNKNOWN);
+    let mut programs = Vec::new();
+    for first in &names {
+        for second in &names {
+            programs.push(format!(
+                "def {first}(x){{return x;}}def {second}(x){{1;}}def main(w,h){{w={second}(w);}}"
+            ));
+        }
+        programs.push(format!(
+            "def main(w,h){{w={first}(1);}} def {first}(x){{return x;}}"
+        ));
+        programs.push(format!("def {first}(w,h){{1;}} def {first}(w,h){{2;}}\n"));
+        programs.push(format!("def {first}(w,h){{1;}}\t"));
+    }
+    programs.into_iter().map(String::into_bytes).collect()
 }

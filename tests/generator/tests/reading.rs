@@ -3,7 +3,7 @@
 use generator::case::any_program;
 use generator::random::Random;
 use generator::{program, Case};
-use reference::token::tokens;
+use reference::token::{tokens, Kind};
 use reference::{check, Answer};
 
 fn text(program: &[u8]) -> String {
@@ -17,7 +17,8 @@ fn the_maker_keeps_the_grammar() {
         match check(&made) {
             Answer::WellFormed => {}
             Answer::Number {
-                number: 73..=75, ..
+                number: 60 | 73..=75,
+                ..
             } => {}
             other => panic!("seed {seed}: {other:?} {}", text(&made)),
         }
@@ -46,7 +47,8 @@ fn everything_before_a_misfit_fits() {
         }
         misfits += 1;
         let found = check(&program[..place]);
-        let fits = found == Answer::WellFormed || found == Answer::number(10, place, 0);
+        let twice = matches!(found, Answer::Number { number: 60, .. });
+        let fits = twice || found == Answer::WellFormed || found == Answer::number(10, place, 0);
         assert!(fits, "seed {seed}: {found:?} {}", text(&program));
     }
     assert!(misfits > 500, "only {misfits} misfits");
@@ -54,6 +56,7 @@ fn everything_before_a_misfit_fits() {
 
 #[test]
 fn a_well_formed_program_has_no_well_formed_beginning() {
+    // Unless it ends before a procedure, main being there already.
     for seed in 0..80 {
         let whole = program::program(&mut Random::new(seed));
         if check(&whole) != Answer::WellFormed {
@@ -61,11 +64,19 @@ fn a_well_formed_program_has_no_well_formed_beginning() {
         }
         let end = whole.iter().rposition(|byte| *byte == b'}').unwrap();
         let found = tokens(&whole).unwrap();
-        for token in found.iter().filter(|token| token.start <= end) {
-            let Answer::Number { number, .. } = check(&whole[..token.start]) else {
-                panic!("seed {seed}: {}", text(&whole));
-            };
-            assert_eq!(number, 10, "seed {seed}");
+        let mut names = Vec::new();
+        for (at, token) in found.iter().enumerate() {
+            if token.start > end {
+                continue;
+            }
+            if token.kind == Kind::Def {
+                names.push(found[at + 1].spelling(&whole));
+            }
+            let before =
+                token.kind == Kind::Def && names[..names.len() - 1].contains(&&b"main"[..]);
+            let found = check(&whole[..token.start]);
+            let refused = matches!(found, Answer::Number { number: 10, .. });
+            assert_eq!(refused, !before, "seed {seed}: {found:?}");
         }
     }
 }

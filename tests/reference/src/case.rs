@@ -1,14 +1,14 @@
 //! A case to judge, as a line of text, and its answer as another.
 //!
-//! A case is one line of nine fields with single spaces between them:
+//! A case is one line of ten fields with single spaces between them:
 //!
 //! ```text
-//! OPERATION WIDTH HEIGHT STEPS SHAPES ENTRIES TEXT OUT PROGRAM
+//! OPERATION WIDTH HEIGHT STEPS SHAPES ENTRIES TEXT CALLS OUT PROGRAM
 //! ```
 //!
 //! OPERATION is `check` or `draw`. WIDTH and HEIGHT are signed 32-bit
-//! numbers. STEPS, SHAPES, ENTRIES and TEXT are the granted counts and OUT is
-//! the length of the out slice, all unsigned 64-bit numbers. PROGRAM is the
+//! numbers. STEPS, SHAPES, ENTRIES, TEXT and CALLS are the granted counts and
+//! OUT is the length of the out slice, all unsigned 64-bit numbers. PROGRAM is the
 //! program in hexadecimal, two digits a byte, or `-` if it is empty.
 //! Checking looks only at the counts' ranges and the program; the other fields
 //! stand in the line all the same.
@@ -68,9 +68,10 @@ impl Case {
             shapes,
             entries,
             text_bytes,
+            calls,
         } = self.grants;
         let mut line = format!(
-            "{operation} {} {} {steps} {shapes} {entries} {text_bytes} {} ",
+            "{operation} {} {} {steps} {shapes} {entries} {text_bytes} {calls} {} ",
             self.width, self.height, self.out_length
         );
         if self.program.is_empty() {
@@ -99,6 +100,7 @@ impl Case {
                 shapes: fields.next()?.parse().ok()?,
                 entries: fields.next()?.parse().ok()?,
                 text_bytes: fields.next()?.parse().ok()?,
+                calls: fields.next()?.parse().ok()?,
             },
             out_length: fields.next()?.parse().ok()?,
             program: from_hexadecimal(fields.next()?)?,

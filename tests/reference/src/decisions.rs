@@ -87,6 +87,7 @@ fn granted(cell: &str) -> (Operation, Grants, u64) {
             "shapes" => grants.shapes = count,
             "entries" => grants.entries = count,
             "text" => grants.text_bytes = count,
+            "calls" => grants.calls = count,
             "out" => out_length = count,
             _ => panic!("no grant is called {name}"),
         }

@@ -6,7 +6,8 @@
 //! would open level 65 is refused there with 75.
 
 use crate::token::{tokens, Kind, Token};
-use crate::tree::{Action, Expression, Name, Operator, Procedure, Program, Statement};
+use crate::tree::{Action, Definition, Expression, Name, Operator};
+use crate::tree::{Procedure, Program, Statement};
 use std::collections::HashMap;
 
 /// The most tokens a program may have.
@@ -155,21 +156,36 @@ impl<'a> Parser<'a> {
         Ok(self.number_of(spelling))
     }
 
+    /// The procedure that a name names.
+    fn procedure(&mut self) -> Result<Procedure, Refusal> {
+        let spelling = self.spelling()?;
+        Ok(Procedure::named(spelling, self.number_of(spelling)))
+    }
+
     fn number_of(&mut self, spelling: &'a [u8]) -> Name {
         let fresh = self.names.len();
         *self.names.entry(spelling).or_insert(fresh)
     }
 
+    /// Procedures up to the end of the program, at least one. One of them is
+    /// main, or the program ends too early.
     fn program(mut self) -> Result<Program, Refusal> {
-        self.expect(Kind::Def)?;
-        let named_main = match self.tokens.get(self.next) {
-            Some(token) => token.spelling(self.program) == b"main",
-            None => false,
-        };
-        if !named_main {
-            return self.misfit();
+        let mut definitions = vec![self.definition()?];
+        while self.next < self.tokens.len() {
+            definitions.push(self.definition()?);
         }
-        self.next += 1;
+        let is_main = |one: &Definition| one.procedure == Procedure::Main;
+        match definitions.iter().position(is_main) {
+            Some(main) => Ok(Program { definitions, main }),
+            None => self.misfit(),
+        }
+    }
+
+    /// A procedure. Its own parentheses and braces open no level.
+    fn definition(&mut self) -> Result<Definition, Refusal> {
+        let place = self.place();
+        self.expect(Kind::Def)?;
+        let procedure = self.procedure()?;
         self.expect(Kind::OpenParen)?;
         let mut parameters = Vec::new();
         if !self.accept(Kind::CloseParen) {
@@ -182,13 +198,11 @@ impl<'a> Parser<'a> {
         self.expect(Kind::OpenBrace)?;
         let body = self.statements()?;
         self.expect(Kind::CloseBrace)?;
-        if self.next < self.tokens.len() {
-            return self.misfit();
-        }
-        Ok(Program {
+        Ok(Definition {
+            place,
+            procedure,
             parameters,
             body,
-            names: self.names.len(),
         })
     }
 
@@ -400,7 +414,7 @@ impl<'a> Parser<'a> {
             }
         }
         self.close(Kind::CloseParen)?;
-        let procedure = Procedure::named(spelling);
+        let procedure = Procedure::named(spelling, self.number_of(spelling));
         Ok(Operand::Other(Expression::Call(procedure, arguments)))
     }
 }

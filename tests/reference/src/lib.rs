@@ -17,4 +17,4 @@ pub mod tree;
 pub mod value;
 
 pub use operation::{check, draw, Answer, Grants, Operation};
-pub use takings::{book, run_specified, End, Specified, Taking};
+pub use takings::{book, run_specified, End, Event, Specified, Taking};

@@ -9,6 +9,8 @@ use crate::tree::Program;
 
 /// The most bytes a program may have.
 pub const PROGRAM_BYTES: usize = 32_768;
+/// The stack that a run may use, in bytes.
+const STACK: usize = 64 << 20;
 
 #[derive(Clone, Copy, Debug, PartialEq, Eq)]
 pub enum Operation {
@@ -16,7 +18,7 @@ pub enum Operation {
     Draw,
 }
 
-/// The four granted counts. They may be out of range; the first question
+/// The five granted counts. They may be out of range; the first question
 /// finds that.
 #[derive(Clone, Copy, Debug, PartialEq, Eq)]
 pub struct Grants {
@@ -24,14 +26,25 @@ pub struct Grants {
     pub shapes: u64,
     pub entries: u64,
     pub text_bytes: u64,
+    /// Calls under way at once, main's among them.
+    pub calls: u64,
 }
 
 impl Grants {
-    pub const NONE: Grants = Grants {
+    /// No total has anything in it yet. This is no grant: one call at least
+    /// is granted.
+    pub const NOTHING: Grants = Grants {
         steps: 0,
         shapes: 0,
         entries: 0,
         text_bytes: 0,
+        calls: 0,
+    };
+
+    /// The smallest counts within their ranges.
+    pub const LEAST: Grants = Grants {
+        calls: 1,
+        ..Grants::NOTHING
     };
 
     /// The largest counts within their ranges.
@@ -40,6 +53,7 @@ impl Grants {
         shapes: 65_535,
         entries: 65_535,
         text_bytes: 65_535,
+        calls: 64,
     };
 
     /// Whether no count is larger than that of `other`.
@@ -48,11 +62,12 @@ impl Grants {
             && self.shapes <= other.shapes
             && self.entries <= other.entries
             && self.text_bytes <= other.text_bytes
+            && self.calls <= other.calls
     }
 
     /// Whether each count is within its range.
     pub fn in_range(&self) -> bool {
-        self.within(&Grants::LARGEST)
+        Grants::LEAST.within(self) && self.within(&Grants::LARGEST)
     }
 }
 
@@ -107,6 +122,23 @@ pub fn check_granted(program: &[u8], grants: Grants) -> Answer {
 /// Drawing into an out slice of `out_length` bytes. With none, 80 tells the
 /// length and the steps.
 pub fn draw(program: &[u8], width: i32, height: i32, grants: Grants, out_length: u64) -> Answer {
+    with_room(|| drawn(program, width, height, grants, out_length))
+}
+
+/// Does something with stack enough for 64 calls under way, each in 64
+/// levels.
+pub(crate) fn with_room<T: Send>(work: impl FnOnce() -> T + Send) -> T {
+    std::thread::scope(|scope| {
+        let thread = std::thread::Builder::new().stack_size(STACK);
+        let thread = thread.spawn_scoped(scope, work).expect("a thread");
+        match thread.join() {
+            Ok(done) => done,
+            Err(panic) => std::panic::resume_unwind(panic),
+        }
+    })
+}
+
+fn drawn(program: &[u8], width: i32, height: i32, grants: Grants, out_length: u64) -> Answer {
     let (shapes, steps) = match scene(program, width, height, grants) {
         Ok(scene) => scene,
         Err(answer) => return answer,
@@ -123,7 +155,8 @@ pub fn draw(program: &[u8], width: i32, height: i32, grants: Grants, out_length:
     finished(width, height, &shapes, steps)
 }
 
-/// The questions before reading, but for the first, and those of reading.
+/// The questions before reading, but for the first, those of reading, and
+/// whether a name is defined twice.
 pub(crate) fn prepare(
     operation: Operation,
     program: &[u8],
@@ -136,7 +169,12 @@ pub(crate) fn prepare(
     if program.len() > PROGRAM_BYTES {
         return Err(Answer::number(73, 0, 0));
     }
-    grammar::read(program).map_err(|Refusal { number, place }| Answer::number(number, place, 0))
+    let tree = grammar::read(program)
+        .map_err(|Refusal { number, place }| Answer::number(number, place, 0))?;
+    match tree.doubled() {
+        Some(definition) => Err(Answer::number(60, definition.place, 0)),
+        None => Ok(tree),
+    }
 }
 
 /// The picture that a run ended in.

@@ -2,7 +2,8 @@
 
 use crate::shape::Shape;
 use crate::takings::{Account, Stop, Taking};
-use crate::tree::{Action, Expression, Name, Operator, Procedure, Program, Statement};
+use crate::tree::{Action, Definition, Expression, Name, Operator};
+use crate::tree::{Procedure, Program, Statement};
 use crate::value::{calculate, transform, Key, Value};
 use std::collections::HashMap;
 
@@ -14,39 +15,62 @@ pub struct Finish {
     pub end: Result<Vec<Shape>, Stop>,
 }
 
-/// Runs a program that has been read.
+/// Runs a program that has been read and defines no name twice. It may need
+/// much stack: see `operation::with_room`.
 pub fn run<A: Account>(program: &Program, width: i32, height: i32, account: A) -> Finish {
+    let definitions = program.definitions.iter();
     let mut run = Run {
+        definitions: definitions.map(|one| (one.procedure, one)).collect(),
         account,
         place: 0,
         steps: 0,
-        variables: vec![None; program.names],
-        declared: Vec::new(),
+        calls: Vec::new(),
         shapes: Vec::new(),
         tables: 0,
         entries: HashMap::new(),
     };
-    let end = run.main(program, width, height);
+    let end = run.main(&program.definitions[program.main], width, height);
     Finish {
         steps: run.steps,
-        end: end.map(|()| run.scene()),
+        end,
     }
 }
 
-struct Run<A> {
+struct Run<'p, A> {
+    /// What the program defines, main among it.
+    definitions: HashMap<Procedure, &'p Definition>,
     account: A,
     /// The first byte of the innermost statement under way.
     place: usize,
     steps: u64,
-    /// What each variable holds, nothing while it is undeclared.
-    variables: Vec<Option<Value>>,
-    /// The declared variables, in the order of their declarations.
-    declared: Vec<Name>,
+    /// The variables of the calls under way, main's first.
+    calls: Vec<Variables>,
     shapes: Vec<Kept>,
     /// How many tables have been created.
     tables: u64,
     /// The entries of all tables.
     entries: HashMap<(u64, Key), Value>,
+}
+
+/// The variables of one call.
+#[derive(Default)]
+struct Variables {
+    /// What each declared variable holds.
+    values: HashMap<Name, Value>,
+    /// Their names, in the order of their declarations.
+    declared: Vec<Name>,
+}
+
+impl Variables {
+    /// The shapes that they hold, in the order of declaration.
+    fn held_shapes(&self) -> Vec<usize> {
+        let held = self.declared.iter().map(|name| &self.values[name]);
+        held.filter_map(|value| match value {
+            Value::Shape(id) => Some(*id),
+            _ => None,
+        })
+        .collect()
+    }
 }
 
 /// A shape in the store.
@@ -55,40 +79,72 @@ struct Kept {
     destroyed: bool,
 }
 
-/// Whether the next statement follows or the run is over.
-#[derive(Clone, Copy, Debug, PartialEq, Eq)]
+/// Whether the next statement follows or the call is over, with what it
+/// hands back.
 enum Flow {
     Next,
-    Return,
+    Return(Value),
 }
 
-impl<A: Account> Run<A> {
-    fn main(&mut self, program: &Program, width: i32, height: i32) -> Result<(), Stop> {
-        let [first, second] = program.parameters[..] else {
-            return self.error(20);
-        };
-        self.declare(first, Value::Integer(width))?;
-        self.declare(second, Value::Integer(height))?;
-        self.sequence(&program.body)?;
-        Ok(())
+impl<'p, A: Account> Run<'p, A> {
+    /// Main's call, which stands at place 0.
+    fn main(&mut self, main: &'p Definition, width: i32, height: i32) -> Result<Vec<Shape>, Stop> {
+        self.begin(main, vec![Value::Integer(width), Value::Integer(height)])?;
+        self.sequence(&main.body)?;
+        let scene = self.scene();
+        self.account.give_back()?;
+        Ok(scene)
     }
 
-    /// The undestroyed shapes that variables hold.
+    /// The undestroyed shapes that the variables of the call under way hold.
     fn scene(&self) -> Vec<Shape> {
-        let held = self.held_shapes().into_iter();
+        let held = self.variables().held_shapes().into_iter();
         held.filter(|id| !self.shapes[*id].destroyed)
             .map(|id| self.shapes[id].shape.clone())
             .collect()
     }
 
-    /// The shapes that variables hold, in the order of declaration.
-    fn held_shapes(&self) -> Vec<usize> {
-        let held = self.declared.iter().map(|name| &self.variables[*name]);
-        held.filter_map(|value| match value {
-            Some(Value::Shape(id)) => Some(*id),
-            _ => None,
+    /// A call of a procedure that the program defines: what it hands back,
+    /// uncopied. Until its first statement and after its last, the statement
+    /// that calls is the one under way.
+    fn perform(&mut self, callee: &'p Definition, values: Vec<Value>) -> Result<Value, Stop> {
+        let caller = self.place;
+        self.begin(callee, values)?;
+        let flow = self.sequence(&callee.body)?;
+        self.calls.pop();
+        self.account.give_back()?;
+        self.place = caller;
+        Ok(match flow {
+            Flow::Next => Value::None,
+            Flow::Return(value) => value,
         })
-        .collect()
+    }
+
+    /// Asks what is asked of a call once its arguments are evaluated, and
+    /// assigns its parameters one by one.
+    fn begin(&mut self, callee: &'p Definition, values: Vec<Value>) -> Result<(), Stop> {
+        if values.len() != callee.parameters.len() {
+            return self.error(20);
+        }
+        if callee.has_equal_parameters() {
+            return self.error(60);
+        }
+        self.take(Taking::Call)?;
+        self.calls.push(Variables::default());
+        for (name, value) in callee.parameters.iter().zip(values) {
+            self.declare(*name)?;
+            self.assign(*name, value)?;
+        }
+        Ok(())
+    }
+
+    /// The variables of the call under way.
+    fn variables(&self) -> &Variables {
+        self.calls.last().expect("main is under way")
+    }
+
+    fn variables_mut(&mut self) -> &mut Variables {
+        self.calls.last_mut().expect("main is under way")
     }
 
     fn error<T>(&self, number: u32) -> Result<T, Stop> {
@@ -108,29 +164,31 @@ impl<A: Account> Run<A> {
         Ok(())
     }
 
-    fn declare(&mut self, name: Name, value: Value) -> Result<(), Stop> {
-        if self.variables[name].is_some() {
+    /// Declares a variable, which holds none.
+    fn declare(&mut self, name: Name) -> Result<(), Stop> {
+        if self.variables().values.contains_key(&name) {
             return self.error(60);
         }
-        self.variables[name] = Some(value);
-        self.declared.push(name);
+        let variables = self.variables_mut();
+        variables.values.insert(name, Value::None);
+        variables.declared.push(name);
         Ok(())
     }
 
-    fn sequence(&mut self, list: &[Statement]) -> Result<Flow, Stop> {
+    fn sequence(&mut self, list: &'p [Statement]) -> Result<Flow, Stop> {
         for statement in list {
-            if self.statement(statement)? == Flow::Return {
-                return Ok(Flow::Return);
+            if let Flow::Return(value) = self.statement(statement)? {
+                return Ok(Flow::Return(value));
             }
         }
         Ok(Flow::Next)
     }
 
-    fn statement(&mut self, statement: &Statement) -> Result<Flow, Stop> {
+    fn statement(&mut self, statement: &'p Statement) -> Result<Flow, Stop> {
         self.place = statement.place;
         self.step()?;
         match &statement.action {
-            Action::Declare(name) => self.declare(*name, Value::None)?,
+            Action::Declare(name) => self.declare(*name)?,
             Action::Assign(name, right) => {
                 let value = self.evaluate(right)?;
                 self.assign(*name, value)?;
@@ -143,17 +201,14 @@ impl<A: Account> Run<A> {
             }
             Action::While(test, body) => {
                 while self.test(test)? {
-                    if self.statement(body)? == Flow::Return {
-                        return Ok(Flow::Return);
+                    if let Flow::Return(value) = self.statement(body)? {
+                        return Ok(Flow::Return(value));
                     }
                     self.place = statement.place;
                     self.step()?;
                 }
             }
-            Action::Return(value) => {
-                self.evaluate(value)?;
-                return Ok(Flow::Return);
-            }
+            Action::Return(value) => return Ok(Flow::Return(self.evaluate(value)?)),
             Action::Block(list) => return self.sequence(list),
             Action::Evaluate(expression) => {
                 self.evaluate(expression)?;
@@ -162,32 +217,32 @@ impl<A: Account> Run<A> {
         Ok(Flow::Next)
     }
 
-    fn test(&mut self, expression: &Expression) -> Result<bool, Stop> {
+    fn test(&mut self, expression: &'p Expression) -> Result<bool, Stop> {
         match self.evaluate(expression)? {
             Value::Boolean(answer) => Ok(answer),
             _ => self.error(20),
         }
     }
 
-    /// Assigns to a variable; a shape is copied.
+    /// Assigns to a variable; a shape is copied, and must be undestroyed.
     fn assign(&mut self, name: Name, value: Value) -> Result<(), Stop> {
-        if self.variables[name].is_none() {
+        if !self.variables().values.contains_key(&name) {
             return self.error(50);
         }
-        let kept = match value {
+        let kept = match self.undestroyed(value)? {
             Value::Shape(id) => self.new_shape(self.shapes[id].shape.clone())?,
             other => other,
         };
-        self.variables[name] = Some(kept);
+        self.variables_mut().values.insert(name, kept);
         Ok(())
     }
 
     /// Sets a table's entry; a shape is shared.
     fn update(
         &mut self,
-        table: &Expression,
-        key: &Expression,
-        value: &Expression,
+        table: &'p Expression,
+        key: &'p Expression,
+        value: &'p Expression,
     ) -> Result<(), Stop> {
         let table = self.table(table)?;
         let key = self.key(key)?;
@@ -201,7 +256,7 @@ impl<A: Account> Run<A> {
     }
 
     /// Evaluates to a table.
-    fn table(&mut self, expression: &Expression) -> Result<u64, Stop> {
+    fn table(&mut self, expression: &'p Expression) -> Result<u64, Stop> {
         match self.evaluate(expression)? {
             Value::Table(id) => Ok(id),
             _ => self.error(20),
@@ -209,7 +264,7 @@ impl<A: Account> Run<A> {
     }
 
     /// Evaluates to a key. A shape is kept as it is now.
-    fn key(&mut self, expression: &Expression) -> Result<Key, Stop> {
+    fn key(&mut self, expression: &'p Expression) -> Result<Key, Stop> {
         Ok(match self.evaluate(expression)? {
             Value::Integer(number) => Key::Integer(number),
             Value::Text(text) => Key::Text(text),
@@ -220,14 +275,14 @@ impl<A: Account> Run<A> {
         })
     }
 
-    fn evaluate(&mut self, expression: &Expression) -> Result<Value, Stop> {
+    fn evaluate(&mut self, expression: &'p Expression) -> Result<Value, Stop> {
         self.step()?;
         match expression {
             Expression::Integer(number) => Ok(Value::Integer(*number)),
             Expression::Text(text) => Ok(Value::Text(text.clone())),
             Expression::None => Ok(Value::None),
             Expression::Boolean(truth) => Ok(Value::Boolean(*truth)),
-            Expression::Variable(name) => match self.variables[*name].clone() {
+            Expression::Variable(name) => match self.variables().values.get(name).cloned() {
                 None => self.error(50),
                 Some(value) => self.undestroyed(value),
             },
@@ -317,12 +372,21 @@ impl<A: Account> Run<A> {
         }
     }
 
-    /// A call whose arguments are evaluated. One of an unknown procedure uses
-    /// nothing; a library call asks first that no argument is destroyed.
+    /// A call whose arguments are evaluated. One of main, or of a procedure
+    /// that is not there, uses nothing.
     fn call(&mut self, procedure: Procedure, values: Vec<Value>) -> Result<Value, Stop> {
-        if procedure == Procedure::Unknown {
-            return self.error(20);
+        match procedure {
+            Procedure::Main => self.error(20),
+            Procedure::Other(_) => match self.definitions.get(&procedure).copied() {
+                Some(callee) => self.perform(callee, values),
+                None => self.error(20),
+            },
+            library => self.call_library(library, values),
         }
+    }
+
+    /// A library call asks first that no argument is destroyed.
+    fn call_library(&mut self, procedure: Procedure, values: Vec<Value>) -> Result<Value, Stop> {
         for value in &values {
             self.undestroyed(value.clone())?;
         }
@@ -372,8 +436,10 @@ impl<A: Account> Run<A> {
                 Ok(Value::None)
             }
             (Procedure::ClearScene, []) => {
-                for id in self.held_shapes() {
-                    self.shapes[id].destroyed = true;
+                for variables in &self.calls {
+                    for id in variables.held_shapes() {
+                        self.shapes[id].destroyed = true;
+                    }
                 }
                 Ok(Value::None)
             }

@@ -8,6 +8,7 @@ pub const GRANTS: Grants = Grants {
     shapes: 1_024,
     entries: 1_024,
     text_bytes: 16_384,
+    calls: 64,
 };
 
 /// The length of the out slice that `imgdraw` lends.

@@ -1,17 +1,52 @@
 //! What the parser makes of a program.
 
+use std::collections::HashSet;
 use std::rc::Rc;
 
-/// A variable's name, numbered in the order in which names first appear.
+/// The name of a variable or of a procedure, numbered in the order in which
+/// names first appear.
 pub type Name = usize;
 
-/// The one procedure main.
+/// The procedures of a program, as they stand in its text.
 #[derive(Debug)]
 pub struct Program {
+    pub definitions: Vec<Definition>,
+    /// Which of them is main, the first one so named.
+    pub main: usize,
+}
+
+/// A procedure that the program defines.
+#[derive(Debug)]
+pub struct Definition {
+    /// The first byte of its `def`.
+    pub place: usize,
+    /// What a call by its name names.
+    pub procedure: Procedure,
     pub parameters: Vec<Name>,
     pub body: Vec<Statement>,
-    /// How many different names the program has.
-    pub names: usize,
+}
+
+impl Program {
+    /// The first definition whose name the library or an earlier one has.
+    pub fn doubled(&self) -> Option<&Definition> {
+        let all = &self.definitions;
+        let doubled = all.iter().enumerate().find(|(at, definition)| {
+            let earlier = all[..*at].iter();
+            definition.procedure.is_library()
+                || earlier
+                    .map(|one| one.procedure)
+                    .any(|one| one == definition.procedure)
+        });
+        doubled.map(|(_, definition)| definition)
+    }
+}
+
+impl Definition {
+    /// Whether two of its parameters have one name.
+    pub fn has_equal_parameters(&self) -> bool {
+        let names: HashSet<&Name> = self.parameters.iter().collect();
+        names.len() < self.parameters.len()
+    }
 }
 
 #[derive(Debug)]
@@ -67,8 +102,8 @@ pub enum Operator {
     Less,
 }
 
-/// The procedure that a call names.
-#[derive(Clone, Copy, Debug, PartialEq, Eq)]
+/// The procedure that a name names, in a call or behind `def`.
+#[derive(Clone, Copy, Debug, PartialEq, Eq, Hash)]
 pub enum Procedure {
     DrawLine,
     DrawEllipse,
@@ -80,12 +115,14 @@ pub enum Procedure {
     GetShapeXCoordinate,
     GetShapeYCoordinate,
     ClearScene,
-    /// Any other name, main and the procedures left out among them.
-    Unknown,
+    Main,
+    /// Any other name: that of a procedure of the program, or of none.
+    Other(Name),
 }
 
 impl Procedure {
-    pub fn named(spelling: &[u8]) -> Procedure {
+    /// What a spelling names; `name` is its number.
+    pub fn named(spelling: &[u8], name: Name) -> Procedure {
         match spelling {
             b"drawLine" => Procedure::DrawLine,
             b"drawEllipse" => Procedure::DrawEllipse,
@@ -97,7 +134,12 @@ impl Procedure {
             b"getShapeXCoordinate" => Procedure::GetShapeXCoordinate,
             b"getShapeYCoordinate" => Procedure::GetShapeYCoordinate,
             b"clearScene" => Procedure::ClearScene,
-            _ => Procedure::Unknown,
+            b"main" => Procedure::Main,
+            _ => Procedure::Other(name),
         }
+    }
+
+    pub fn is_library(self) -> bool {
+        !matches!(self, Procedure::Main | Procedure::Other(_))
     }
 }

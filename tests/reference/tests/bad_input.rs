@@ -46,6 +46,58 @@ fn every_byte_by_itself() {
 }
 
 #[test]
+fn names_defined_twice() {
+    let library = [
+        "drawLine",
+        "drawEllipse",
+        "drawBox",
+        "drawText",
+        "destroyShape",
+        "drawLineConnectingShapes",
+        "drawTextOnShape",
+        "getShapeXCoordinate",
+        "getShapeYCoordinate",
+        "clearScene",
+    ];
+    for name in library.into_iter().chain(["main", "f"]) {
+        let front = "def f(){1;}def main(w,h){1;}def g(){1;}";
+        let program = format!("{front} def {name}(x){{1;}}");
+        let place = front.len() + 1;
+        all_operations(program.as_bytes(), &format!("60@{place} s0"));
+    }
+    // The first in the text decides, whichever name it has.
+    for (program, place) in [
+        (
+            "def f(){1;}def g(){1;}def g(){1;}def f(){1;}def main(w,h){1;}",
+            22,
+        ),
+        (
+            "def f(){1;}def drawBox(){1;}def f(){1;}def main(w,h){1;}",
+            11,
+        ),
+        ("def drawBox(){1;}def drawBox(){1;}def main(w,h){1;}", 0),
+        ("def main(w,h){1;}def main(){1;}def main(){1;}", 17),
+        // Asked before main's own parameters.
+        ("def main(a,a){1;}def main(w,h){1;}", 17),
+        ("def main(w){1;}\n\ndef f(){1;}def f(){1;}", 28),
+    ] {
+        all_operations(program.as_bytes(), &format!("60@{place} s0"));
+    }
+    // Asked after all of reading.
+    for (program, expected) in [
+        ("def f(){1;}def f(){1;}", "10@22 s0"),
+        ("def f(){1;}def f(){1;}def main(w,h){1;}!", "10@39 s0"),
+        ("def f(){1;}def f(){1;}def main(w,h){1;};", "10@39 s0"),
+    ] {
+        all_operations(program.as_bytes(), expected);
+    }
+    let deep = format!("def f(){{1;}}def f(){{{}1;", "{".repeat(65));
+    all_operations(deep.as_bytes(), "75@83 s0");
+    let long = format!("def f(){{1;}}def f(){{1;}}{}", "1;".repeat(5_000));
+    all_operations(long.as_bytes(), "74@8198 s0");
+}
+
+#[test]
 fn every_byte_behind_a_program() {
     for byte in 0..=255_u8 {
         let mut program = main_of("1;");
@@ -110,8 +162,24 @@ fn misfits() {
         ("def main(w,h)1;", 13),
         ("def main(w,h){1;};", 17),
         ("def main(w,h){1;}}", 17),
-        ("def main(w,h){1;}def main(w,h){1;}", 17),
-        ("def main(w,h){1;}def foo(w,h){1;}", 17),
+        ("def main(w,h){1;}1;", 17),
+        ("def main(w,h){1;}f(){1;}", 17),
+        ("def main(w,h){1;}def", 20),
+        ("def main(w,h){1;}def f", 22),
+        ("def main(w,h){1;}def 1(){1;}", 21),
+        ("def main(w,h){1;}def if(){1;}", 21),
+        ("def main(w,h){1;}def \"f\"(){1;}", 21),
+        ("def main(w,h){1;}def f{1;}", 22),
+        ("def main(w,h){1;}def f(){}", 25),
+        ("def main(w,h){1;}def f(1){1;}", 23),
+        ("def main(w,h){1;}def f(a,){1;}", 25),
+        ("def main(w,h){1;}def f(){1;", 27),
+        ("def main(w,h){1;}def f(){1;}}", 28),
+        ("def main(w,h){1;}def f(){1;};", 28),
+        ("def f(){def g(){1;}}def main(w,h){1;}", 8),
+        // Without main: its length.
+        ("def f(w,h){1;}", 14),
+        ("def f(){1;}def Main(w,h){1;} \n", 30),
         ("def main(w,h){;}", 14),
         ("def main(w,h){{}}", 15),
         ("def main(w,h){1}", 15),

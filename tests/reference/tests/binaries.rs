@@ -43,6 +43,7 @@ fn judge_answers_line_by_line() {
             shapes: 1,
             entries: 1,
             text_bytes: 1,
+            calls: 1,
         },
         out_length,
         program: program.as_bytes().to_vec(),
@@ -75,25 +76,32 @@ fn judge_answers_line_by_line() {
         ),
         ("draw 20 20 1".to_string(), "malformed".to_string()),
         (String::new(), "malformed".to_string()),
-        ("run 20 20 1 1 1 1 1 -".to_string(), "malformed".to_string()),
         (
-            "draw 20 20 65536 65536 1 1 1 -".to_string(),
+            "run 20 20 1 1 1 1 1 1 -".to_string(),
+            "malformed".to_string(),
+        ),
+        (
+            "draw 20 20 65536 65536 1 1 1 1 -".to_string(),
             "number 71 0 0 -".to_string(),
         ),
         (
-            "draw -2147483648 20 1 1 1 1 1 00fF".to_string(),
+            "draw 20 20 1 1 1 1 65 1 -".to_string(),
+            "number 71 0 0 -".to_string(),
+        ),
+        (
+            "draw -2147483648 20 1 1 1 1 1 1 00fF".to_string(),
             "number 72 0 0 -".to_string(),
         ),
         (
-            "draw 2147483648 20 1 1 1 1 1 00ff".to_string(),
+            "draw 2147483648 20 1 1 1 1 1 1 00ff".to_string(),
             "malformed".to_string(),
         ),
         (
-            "draw 20 20 1 1 1 1 1 0".to_string(),
+            "draw 20 20 1 1 1 1 1 1 0".to_string(),
             "malformed".to_string(),
         ),
         (
-            "draw 20 20 1 1 1 1 1 - ".to_string(),
+            "draw 20 20 1 1 1 1 1 1 - ".to_string(),
             "malformed".to_string(),
         ),
     ];

@@ -4,7 +4,7 @@ mod common;
 
 use common::{draw_body, draw_granted, drawn, integer, integer_after, main_of, short};
 use reference::sheet::{self, GRANTS, OUT_LENGTH};
-use reference::{check, draw, run_specified, Answer, Grants, Operation, Taking};
+use reference::{check, draw, run_specified, Answer, Event, Grants, Operation, Taking};
 
 const DAY: &str = "var a;var b;a=drawBox(2,9,3,h-9);b=drawText(2,h,\"day\");";
 
@@ -42,7 +42,7 @@ fn one_declaration() {
 
 #[test]
 fn one_declaration_without_steps() {
-    assert_eq!(short(&draw_granted("var a;", Grants::NONE)), "79@14 s0");
+    assert_eq!(short(&draw_granted("var a;", Grants::LEAST)), "79@14 s0");
 }
 
 #[test]
@@ -87,17 +87,24 @@ fn centre_of_a_box_drawn_backwards() {
 #[test]
 fn day_takes_15_steps_and_4_shapes() {
     let specified = run_specified(Operation::Draw, &main_of(DAY), 20, 20, 100);
-    let count = |kind| specified.takings.iter().filter(|t| t.0 == kind).count();
+    let count = |kind| {
+        let taken = |event: &&Event| matches!(event, Event::Taken(taking, _) if *taking == kind);
+        specified.events.iter().filter(taken).count()
+    };
     assert_eq!(count(Taking::Step), 15);
     assert_eq!(count(Taking::Shape), 4);
-    // The picture is the last taking.
-    assert_eq!(specified.takings.len(), 20);
+    // Main's call is the first taking. It is given back before the picture,
+    // which is the last.
     let length = DAY_PICTURE.len() as u64;
-    assert_eq!(specified.takings[19], (Taking::Picture(length), 0));
+    assert_eq!(specified.events.len(), 22);
+    assert_eq!(specified.events[0], Event::Taken(Taking::Call, 0));
+    assert_eq!(specified.events[20], Event::GaveBack);
+    let picture = Event::Taken(Taking::Picture(length), 0);
+    assert_eq!(specified.events[21], picture);
     let exact = Grants {
         steps: 15,
         shapes: 4,
-        ..Grants::NONE
+        ..Grants::LEAST
     };
     assert_eq!(short(&draw_granted(DAY, exact)), "picture s15");
 }

@@ -23,6 +23,6 @@ fn each_row() {
     // None is left out, and none has the number of another.
     let mut numbers: Vec<u32> = rows.iter().map(|row| row.number).collect();
     numbers.sort_unstable();
-    assert!(numbers.len() >= 85, "only {} rows", numbers.len());
+    assert!(numbers.len() >= 129, "only {} rows", numbers.len());
     assert_eq!(numbers, (1..=numbers.len() as u32).collect::<Vec<u32>>());
 }

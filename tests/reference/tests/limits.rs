@@ -118,6 +118,80 @@ fn a_deep_program_runs() {
 }
 
 #[test]
+fn each_procedure_has_its_own_levels() {
+    let deep = |depth: usize| format!("{}1;{}", "{".repeat(depth), "}".repeat(depth));
+    let program = |depth| format!("def f(){{{}}}def main(w,h){{{}}}", deep(64), deep(depth));
+    assert_eq!(checked(program(64).as_bytes()), "well formed");
+    let place = 8 + deep(64).len() + 1 + 14 + 64;
+    assert_eq!(checked(program(65).as_bytes()), format!("75@{place} s0"));
+}
+
+#[test]
+fn as_many_procedures_as_fit() {
+    // 8 tokens for each, 13 for main.
+    let procedures = |number: usize| {
+        let each: String = (0..number).map(|k| format!("def f{k}(){{1;}}")).collect();
+        format!("{each}def main(w,h){{f{}();}}", number - 1)
+    };
+    let program = procedures(1_022);
+    assert_eq!(short(&drawn(program.as_bytes(), GRANTS)), "picture s4");
+    assert!(checked(procedures(1_023).as_bytes()).starts_with("74@"));
+    // The last one is doubled.
+    let doubled = program.replace("def f1021(", "def f0(");
+    let place = program.find("def f1021(").unwrap();
+    assert_eq!(checked(doubled.as_bytes()), format!("60@{place} s0"));
+}
+
+#[test]
+fn the_most_calls_in_the_most_levels() {
+    // 64 calls under way, each inside 64 levels of its procedure; main is one
+    // of them. The 65th call is one too many.
+    for (front, back) in [
+        ("(", ")"),
+        ("[", "]"),
+        ("g(", ")"),
+        ("1+(", ")"),
+        ("w.(", ")"),
+        ("t.(", ")"),
+        ("{", "}"),
+        ("if(true)", ""),
+        ("while(true)", ""),
+        ("if(true){", "}"),
+    ] {
+        let statement = front.ends_with(['{']) || front.contains("true");
+        let depth = match front {
+            "if(true){" => 31,
+            _ => 63,
+        };
+        let call = |n: &str| {
+            let nested =
+                |inside: &str| format!("{}{inside}{}", front.repeat(depth), back.repeat(depth));
+            match statement {
+                true => nested(&format!("f({n},t,w);")),
+                false => format!("{};", nested(&format!("f({n},t,w)"))),
+            }
+        };
+        let program = format!(
+            "def g(x){{return x;}}\
+             def f(n,t,w){{if(n==0)return 1;{}return 1;}}\
+             def main(n,h){{var t;t=[0];t.1=1;var w;w=t;{}}}",
+            call("n-1"),
+            call("62")
+        );
+        let answer = drawn(program.as_bytes(), GRANTS);
+        let found = short(&answer);
+        let ends = ["picture", "20@", "79@"];
+        assert!(
+            ends.iter().any(|end| found.starts_with(end)),
+            "{front}: {found}"
+        );
+        let deeper = program.replace("f(62,", "f(63,");
+        let found = short(&drawn(deeper.as_bytes(), GRANTS));
+        assert!(found.starts_with("81@"), "{front}: {found}");
+    }
+}
+
+#[test]
 fn counts_out_of_range() {
     let program = main_of("1;");
     let largest = Grants::LARGEST;
@@ -139,11 +213,21 @@ fn counts_out_of_range() {
             ..largest
         },
         Grants {
+            calls: 0,
+            ..largest
+        },
+        Grants {
+            calls: 65,
+            ..largest
+        },
+        Grants {
             steps: u64::MAX,
             shapes: u64::MAX,
             entries: u64::MAX,
             text_bytes: u64::MAX,
+            calls: u64::MAX,
         },
+        Grants::NOTHING,
     ];
     for grants in out_of_range {
         assert_eq!(short(&drawn(&program, grants)), "71@0 s0");
@@ -153,7 +237,7 @@ fn counts_out_of_range() {
         assert_eq!(short(&answer), "71@0 s0");
     }
     assert_eq!(short(&drawn(&program, largest)), "picture s2");
-    assert_eq!(short(&drawn(&program, Grants::NONE)), "79@14 s0");
+    assert_eq!(short(&drawn(&program, Grants::LEAST)), "79@14 s0");
 }
 
 #[test]

@@ -271,9 +271,9 @@ fn minus() {
 
 #[test]
 fn main_is_named_main() {
-    // The other reading is a later place, or 20 while running.
-    assert_eq!(short(&check(b"def foo(w,h){var a;}")), "10@4 s0");
-    assert_eq!(short(&check(b"def Main(w,h){var a;}")), "10@4 s0");
+    // The other reading is the place of the name.
+    assert_eq!(short(&check(b"def foo(w,h){var a;}")), "10@20 s0");
+    assert_eq!(short(&check(b"def Main(w,h){var a;}")), "10@21 s0");
     assert_eq!(short(&check(b"def if(w,h){var a;}")), "10@4 s0");
 }
 
@@ -418,7 +418,7 @@ fn steps() {
 #[test]
 fn a_blocks_step_is_due_at_its_brace() {
     let rows: &[Row] = &[("", "  {1;}", "79@16 s0", "79@17 s0")];
-    run_rows(rows, Grants::NONE);
+    run_rows(rows, Grants::LEAST);
 }
 
 #[test]

@@ -1,7 +1,7 @@
 //! Draws with the baseline and with the proved library, one after the other, `race [ROUNDS]` times, and prints the median and the least times.
-//! Beside the medians stands the median of the rounds' ratios. Then how long a look-up takes in a small and in a large table.
+//! Beside the medians stands the median of the rounds' ratios. Then how long a look-up takes in a small and in a large table, and a call with its return.
 
-use compare::{look_ups, ours, Baseline, Drawer, Drawing, LOOP, SHAPES};
+use compare::{calls, look_ups, ours, Baseline, Drawer, Drawing, LOOP, SHAPES, TREE};
 use std::time::Instant;
 
 fn main() {
@@ -10,7 +10,7 @@ fn main() {
         None => 41,
     };
     println!("drawing      steps          baseline, µs      ours, µs  ratio");
-    for drawing in [LOOP, SHAPES] {
+    for drawing in [LOOP, SHAPES, TREE] {
         race(&drawing, rounds);
     }
     println!("look-ups in a table of 16 and of 60,000 entries, ns each");
@@ -18,6 +18,12 @@ fn main() {
     look_up_times("baseline", &mut Baseline::new(grants), rounds);
     if let Some(mut ours) = ours(grants) {
         look_up_times("ours", ours.as_mut(), rounds);
+    }
+    println!("a call and return of a procedure with two parameters: a turn with it and one without it, ns each");
+    let grants = calls(true, 0).grants;
+    call_times("baseline", &mut Baseline::new(grants), rounds);
+    if let Some(mut ours) = ours(grants) {
+        call_times("ours", ours.as_mut(), rounds);
     }
 }
 
@@ -70,6 +76,27 @@ fn look_up_times(who: &str, drawer: &mut dyn Drawer, rounds: usize) {
     }
     let [few, many] = each.map(|times| median(&times));
     println!("{who:<8}  {few:>6.1}  {many:>6.1}  ratio {:.2}", many / few);
+}
+
+/// The time of a turn with a call and of one without: what 100,000 more of them take. The difference is a call with its return: four steps more, the call, the
+/// return and the two parameters.
+fn call_times(who: &str, drawer: &mut dyn Drawer, rounds: usize) {
+    let mut each = [Vec::new(), Vec::new()];
+    for _ in 0..rounds {
+        for (called, each) in [true, false].into_iter().zip(&mut each) {
+            let [fewer, more] = [100_000, 200_000].map(|times| {
+                let (answer, time) = timed(drawer, &calls(called, times), &mut [0; 256]);
+                assert_eq!(answer.number, 0, "{answer:?}");
+                time
+            });
+            each.push((more - fewer) / 100.0);
+        }
+    }
+    let [with, without] = each.map(|times| median(&times));
+    println!(
+        "{who:<8}  {with:>6.1}  {without:>6.1}  difference {:.1}",
+        with - without
+    );
 }
 
 /// A drawing and its time in microseconds.

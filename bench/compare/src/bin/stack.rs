@@ -12,7 +12,7 @@ const PAGE: usize = 4_096;
 type Program = fn(usize) -> String;
 
 /// Kinds of nesting: a program of so many levels each.
-const KINDS: [(&str, Program); 9] = [
+const KINDS: [(&str, Program); 11] = [
     ("parentheses", |n| body(&around("w=", "(", "1", ")", n))),
     ("sums", |n| body(&around("w=", "1+(", "1", ")", n))),
     ("comparisons", |n| {
@@ -28,7 +28,18 @@ const KINDS: [(&str, Program); 9] = [
     ("whiles", |n| {
         body(&around("", "while(true)", "return 1", "", n - 1))
     }),
+    // So many calls under way, and so many in 64 levels each.
+    ("procedures", |n| procedures(n, "", "")),
+    ("in 64 levels", |n| {
+        procedures(n, &"none==(".repeat(63), &")".repeat(63))
+    }),
 ];
+
+/// A program with so many calls under way, each inside what stands before and behind it.
+fn procedures(calls: usize, before: &str, behind: &str) -> String {
+    let main = body(&format!("{before}f({}){behind}", calls - 2));
+    format!("def f(n){{if(n==0)return none;return {before}f(n-1){behind};}}{main}")
+}
 
 fn body(statements: &str) -> String {
     let end = if statements.ends_with('}') { "" } else { ";" };

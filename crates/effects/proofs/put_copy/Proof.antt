@@ -1,4 +1,4 @@
-use Rattle.effects.proofs.Laws.{unknown, copy-put, no-copy}
+use Rattle.effects.proofs.Laws.{unknown, shape-dead, copy-put, no-copy}
 use borrow.Author.Needs.{needs}
 use Rattle.effects.proofs.put_copy.Statement.{statement}
 use Rattle.effects.proofs.put_copy.Tie as tie
@@ -15,41 +15,45 @@ same-length c = search needs
 returns : tie.Need-returns
 returns c = search unknown
 
--- src/lib.rt:49:51
-number-of-requires : tie.Need-number-of-requires
-number-of-requires c κs = search needs
+-- src/lib.rt:49:8
+is-dead-requires : tie.Need-is-dead-requires
+is-dead-requires c κs = search needs
 
--- src/lib.rt:49:9
-figure-at-requires : tie.Need-figure-at-requires
-figure-at-requires c κs = search needs
-
--- src/lib.rt:50:11
-new-shape-requires : tie.Need-new-shape-requires
-new-shape-requires c κs = search needs
-
--- src/lib.rt:51:22
-enum-known-v : tie.Need-enum-known-v
-enum-known-v c = search needs
-
--- src/lib.rt:52:58
-pack-requires : tie.Need-pack-requires
-pack-requires c κs = search needs
-
--- src/lib.rt:52:13
-set-variable-requires : tie.Need-set-variable-requires
-set-variable-requires c κs = search needs
-
--- src/lib.rt:55:21
-enum-known-n : tie.Need-enum-known-n
-enum-known-n c = search needs
-
--- src/lib.rt:41:1
+-- src/lib.rt:50:9
 same-length-2 : tie.Need-same-length-2
 same-length-2 c = search needs
 
--- src/lib.rt:41:1
+-- src/lib.rt:50:9
 returns-2 : tie.Need-returns-2
-returns-2 c = search copy-put
+returns-2 c = search shape-dead
+
+-- src/lib.rt:52:51
+number-of-requires : tie.Need-number-of-requires
+number-of-requires c κs = search needs
+
+-- src/lib.rt:52:9
+figure-at-requires : tie.Need-figure-at-requires
+figure-at-requires c κs = search needs
+
+-- src/lib.rt:53:11
+new-shape-requires : tie.Need-new-shape-requires
+new-shape-requires c κs = search needs
+
+-- src/lib.rt:54:22
+enum-known-v : tie.Need-enum-known-v
+enum-known-v c = search needs
+
+-- src/lib.rt:55:58
+pack-requires : tie.Need-pack-requires
+pack-requires c κs = search needs
+
+-- src/lib.rt:55:13
+set-variable-requires : tie.Need-set-variable-requires
+set-variable-requires c κs = search needs
+
+-- src/lib.rt:58:21
+enum-known-n : tie.Need-enum-known-n
+enum-known-n c = search needs
 
 -- src/lib.rt:41:1
 same-length-3 : tie.Need-same-length-3
@@ -57,7 +61,15 @@ same-length-3 c = search needs
 
 -- src/lib.rt:41:1
 returns-3 : tie.Need-returns-3
-returns-3 c = search no-copy
+returns-3 c = search copy-put
+
+-- src/lib.rt:41:1
+same-length-4 : tie.Need-same-length-4
+same-length-4 c = search needs
+
+-- src/lib.rt:41:1
+returns-4 : tie.Need-returns-4
+returns-4 c = search no-copy
 
 pub put-copy-spec : {M : Type 1} → statement M
 put-copy-spec =
@@ -66,6 +78,9 @@ put-copy-spec =
     is-declared-requires
     same-length
     returns
+    is-dead-requires
+    same-length-2
+    returns-2
     number-of-requires
     figure-at-requires
     new-shape-requires
@@ -73,7 +88,7 @@ put-copy-spec =
     pack-requires
     set-variable-requires
     enum-known-n
-    same-length-2
-    returns-2
     same-length-3
-    returns-3)
+    returns-3
+    same-length-4
+    returns-4)

@@ -6,7 +6,7 @@ use denote.Ref.{now}
 use lib.ListN.{length}
 use native.Mathlib.Omega.{arith}
 use borrow.Author.Needs.{needs}
-use Rattle.expressions.proofs.Tokens.{room-inside, part-small, home-small, library-small}
+use Rattle.expressions.proofs.Tokens.{room-inside, part-small, home-small, callee-small}
 use Rattle.expressions.proofs.Rooms.{operand-next, primary-next, operand-spare, primary-spare, spot-at, call-spare, table-spare}
 use Rattle.expressions.proofs.Moves.{expression-wrong, expression-one, expression-two, operand-wrong, operand-one, operand-two, reads-digits, reads-negative, reads-string, reads-none, reads-true, reads-false, reads-name, reads-call, reads-paren, reads-table, reads-no-call, reads-no-paren, reads-no-table, reads-other}
 use Rattle.expressions.proofs.Going.{Going, arguments-none, going-starts, going-fails, turned, going-on, going-ends, going-stops}
@@ -34,7 +34,7 @@ use Rattle.expressions.proofs.read_digits.Reads as read-digits-reads
 use Rattle.expressions.proofs.read_negative.Reads as read-negative-reads
 use Rattle.expressions.proofs.token.home_at.Reads as home-at-reads
 use Rattle.expressions.proofs.token.kind_at.Reads as kind-at-reads
-use Rattle.expressions.proofs.token.library_at.Reads as library-at-reads
+use Rattle.expressions.proofs.token.callee_at.Reads as callee-at-reads
 use Rattle.expressions.proofs.token.operator_tag.Reads as operator-tag-reads
 use Rattle.expressions.proofs.token.part_at.Reads as part-at-reads
 use Rattle.expressions.proofs.+read_arguments+read_expression+read_operand+read_primary.{
@@ -162,8 +162,8 @@ read-primary-calls t = (
   home-at-reads.Learnt,
   read-arguments-below t,
   read-arguments.Post,
-  library-at-reads.Asked,
-  library-at-reads.Learnt,
+  callee-at-reads.Asked,
+  callee-at-reads.Learnt,
   finish-reads.Asked,
   finish-reads.Learnt,
   read-expression-below t,
@@ -423,11 +423,11 @@ read-primary-read-arguments-requires t c κs =
     let w = room-inside _ _ _ _ _ o (sym (c .before .before .before .before .before .kind-at .ensures)) (λ z. omega (arith, c .before .before .before .before .match .keys7)) in
     (omega (arith, c .before .before .before .before .before .before .before .before .pre .0), record { behind = omega (arith, o .behind); wide = o .wide; short = o .short })
 
-read-primary-library-at-requires : (t : ℕ) → read-primary-lts.Need-library-at-requires (read-primary-calls t) (read-primary-at t) read-primary.Post
-read-primary-library-at-requires t c κs = search needs
+read-primary-callee-at-requires : (t : ℕ) → read-primary-lts.Need-callee-at-requires (read-primary-calls t) (read-primary-at t) read-primary.Post
+read-primary-callee-at-requires t c κs = search needs
 
 read-primary-finish-requires : (t : ℕ) → read-primary-lts.Need-finish-requires (read-primary-calls t) (read-primary-at t) read-primary.Post
-read-primary-finish-requires t c κs = (call-spare _ _ _ _ _ _ _ (c .before .before .before .before .before .before .before .before .before .before .before .before .before .pre .1) (c .before .before .before .before .read-arguments .kept .1 .0) (c .before .before .before .before .read-arguments .ensures), library-small (now (c .before .before .before .before .before .before .before .before .before .before .before .before .before .args .tokens)) (c .before .before .before .before .before .before .before .before .before .before .before .before .before .args .i) _ (c .before .before .before .before .before .before .before .before .before .before .before .before .shared-slice-known .given (c .before .before .before .before .before .before .before .before .before .before .before .before .before .args .i) .fits) (c .library-at .ensures))
+read-primary-finish-requires t c κs = (call-spare _ _ _ _ _ _ _ (c .before .before .before .before .before .before .before .before .before .before .before .before .before .pre .1) (c .before .before .before .before .read-arguments .kept .1 .0) (c .before .before .before .before .read-arguments .ensures), callee-small (now (c .before .before .before .before .before .before .before .before .before .before .before .before .before .args .tokens)) (c .before .before .before .before .before .before .before .before .before .before .before .before .before .args .i) _ (c .before .before .before .before .before .before .before .before .before .before .before .before .shared-slice-known .given (c .before .before .before .before .before .before .before .before .before .before .before .before .before .args .i) .fits) (c .callee-at .ensures))
 
 read-primary-returns-3 : (t : ℕ) → read-primary-lts.Need-returns-3 (read-primary-calls t) (read-primary-at t) read-primary.Post
 read-primary-returns-3 t c = reads-no-paren _ _ _ _ _ _ (c .before .before .kind-at .ensures) (c .before .match .keys8) (c .if3 .taken)
@@ -514,7 +514,7 @@ read-primary-same-length-8 : (t : ℕ) → read-primary-lts.Need-same-length-8 (
 read-primary-same-length-8 t c = search needs
 
 read-primary-returns-11 : (t : ℕ) → read-primary-lts.Need-returns-11 (read-primary-calls t) (read-primary-at t) read-primary.Post
-read-primary-returns-11 t c = reads-call _ _ _ _ _ _ _ _ (c .before .before .before .before .before .before .before .before .before .before .before .before .before .kind-at .ensures) _ _ _ _ (c .before .before .before .before .before .before .before .before .before .before .before .before .match .keys7) (c .before .before .before .before .before .before .before .before .before .before .before .kind-at2 .ensures) (c .before .before .before .before .before .before .before .before .before .before .if1 .left) (c .before .before .before .before .before .before .before .before .before .if2 .left) (c .before .before .before .before .before .before .before .read-arguments .ensures) (c .before .before .before .library-at .ensures) (c .before .before .finish .ensures)
+read-primary-returns-11 t c = reads-call _ _ _ _ _ _ _ _ (c .before .before .before .before .before .before .before .before .before .before .before .before .before .kind-at .ensures) _ _ _ _ (c .before .before .before .before .before .before .before .before .before .before .before .before .match .keys7) (c .before .before .before .before .before .before .before .before .before .before .before .kind-at2 .ensures) (c .before .before .before .before .before .before .before .before .before .before .if1 .left) (c .before .before .before .before .before .before .before .before .before .if2 .left) (c .before .before .before .before .before .before .before .read-arguments .ensures) (c .before .before .before .callee-at .ensures) (c .before .before .finish .ensures)
 
 read-primary-same-length-9 : (t : ℕ) → read-primary-lts.Need-same-length-9 (read-primary-calls t) (read-primary-at t) read-primary.Post
 read-primary-same-length-9 t c = search needs
@@ -615,7 +615,7 @@ pub +read-arguments+read-expression+read-operand+read-primary-spec : {M : Type 1
     (read-primary-add-read-arguments t)
     (read-primary-sub-read-arguments t)
     (read-primary-read-arguments-requires t)
-    (read-primary-library-at-requires t)
+    (read-primary-callee-at-requires t)
     (read-primary-finish-requires t)
     (read-primary-returns-3 t)
     (read-primary-add-read-expression t)

@@ -2,7 +2,7 @@
 -- Assumes nothing.
 use mathlib.Core.Path.{refl}
 use borrow.Author.Needs.{needs}
-use Rattle.imgcheck.proofs.Reporting.{checked-answer, nothing-granted}
+use Rattle.imgcheck.proofs.Reporting.{checked-answer, one-call-granted}
 use Rattle.imgcheck.proofs.answer.Statement.{statement}
 use Rattle.imgcheck.proofs.answer.Tie as tie
 
@@ -16,7 +16,7 @@ check-requires : tie.Need-check-requires
 check-requires c κs = search needs
 
 returns : tie.Need-returns
-returns c = checked-answer _ _ _ _ _ _ _ nothing-granted refl refl (c .before .before .check .ensures)
+returns c = checked-answer _ _ _ _ _ _ _ one-call-granted refl refl (c .before .before .check .ensures)
 
 pub answer-spec : {M : Type 1} → statement M
 answer-spec =

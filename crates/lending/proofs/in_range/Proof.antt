@@ -1,4 +1,4 @@
-use Rattle.lending.proofs.Admitted.{steps-out, shapes-out, entries-out, text-asked}
+use Rattle.lending.proofs.Admitted.{steps-out, shapes-out, entries-out, text-out, no-call, calls-asked}
 use borrow.Author.Needs.{needs}
 use Rattle.lending.proofs.in_range.Statement.{statement}
 use Rattle.lending.proofs.in_range.Tie as tie
@@ -27,13 +27,29 @@ element-copy-out-if3 c = search needs
 returns-3 : tie.Need-returns-3
 returns-3 c = search entries-out
 
--- src/lib.rt:23:5
+-- src/lib.rt:23:16
+element-copy-out-if4 : tie.Need-element-copy-out-if4
+element-copy-out-if4 c = search needs
+
+-- src/lib.rt:24:9
+returns-4 : tie.Need-returns-4
+returns-4 c = search text-out
+
+-- src/lib.rt:26:8
+element-copy-out-if5 : tie.Need-element-copy-out-if5
+element-copy-out-if5 c = search needs
+
+-- src/lib.rt:27:9
+returns-5 : tie.Need-returns-5
+returns-5 c = search no-call
+
+-- src/lib.rt:29:5
 element-copy-out-result : tie.Need-element-copy-out-result
 element-copy-out-result c = search needs
 
 -- src/lib.rt:11:1
-returns-4 : tie.Need-returns-4
-returns-4 c = search text-asked
+returns-6 : tie.Need-returns-6
+returns-6 c = search calls-asked
 
 pub in-range-spec : {M : Type 1} → statement M
 in-range-spec =
@@ -45,5 +61,9 @@ in-range-spec =
     returns-2
     element-copy-out-if3
     returns-3
+    element-copy-out-if4
+    returns-4
+    element-copy-out-if5
+    returns-5
     element-copy-out-result
-    returns-4)
+    returns-6)

@@ -1,83 +1,130 @@
+use native.Mathlib.Omega.{arith}
+use Rattle.running.proofs.Ways.{not-entered, body-starts, body-onward, body-returned, body-stopped}
 use borrow.Author.Needs.{needs}
-use Rattle.running.proofs.Ways.{not-entered, body-entered, body-onward, body-returned, body-stopped}
 use Rattle.running.proofs.run_body.Statement.{statement}
 use Rattle.running.proofs.run_body.Tie as tie
+use Rattle.running.proofs.run_body.Reads as reads
+use Rattle.running.proofs.run_body.Lts as lts
+use Rattle.code.proofs.body_of.Reads as body-of-reads
+use Rattle.code.proofs.start_of.Reads as start-of-reads
+use Rattle.interpreter.proofs.body.Reads as body-reads
+use Rattle.running.proofs.enter.Reads as enter-reads
+use Rattle.stores.proofs.words.word_at.Reads as word-at-reads
 
--- src/lib.rt:62:9
+-- src/lib.rt:70:9
+start-of-requires : tie.Need-start-of-requires
+start-of-requires c κs = search needs
+
+-- src/lib.rt:71:13
+word-at-requires : tie.Need-word-at-requires
+word-at-requires c κs = search needs
+
+-- src/lib.rt:72:42
+add-word-at : tie.Need-add-word-at
+add-word-at c = search needs
+
+-- src/lib.rt:72:13
+word-at-requires-2 : tie.Need-word-at-requires-2
+word-at-requires-2 c κs = search needs
+
+-- src/lib.rt:73:11
 enter-requires : tie.Need-enter-requires
 enter-requires c κs = search needs
 
--- src/lib.rt:63:9
-same-length : tie.Need-same-length
-same-length c = search needs
-
--- src/lib.rt:63:9
-returns : tie.Need-returns
-returns c = search not-entered
-
--- src/lib.rt:65:11
-body-requires : tie.Need-body-requires
-body-requires c κs = search body-entered
-
--- src/lib.rt:66:25
 enum-told : tie.Need-enum-told
 enum-told c = search needs
 
--- src/lib.rt:67:30
-enum-told-2 : tie.Need-enum-told-2
-enum-told-2 c = search needs
-
--- src/lib.rt:68:23
+-- src/lib.rt:75:25
 enum-known-k : tie.Need-enum-known-k
 enum-known-k c = search needs
 
--- src/lib.rt:46:1
+-- src/lib.rt:75:34
+same-length : tie.Need-same-length
+same-length c = search needs
+
+-- src/lib.rt:75:34
+returns : tie.Need-returns
+returns c = not-entered _ _ _ _ _ _ (c .before .before .before .before .before .before .before .before .before .before .before .before .before .before .fits .width) (c .before .before .before .before .before .before .before .before .before .before .before .before .before .before .fits .height) _ _ _ (c .before .before .before .before .before .before .before .before .before .start-of .ensures .0) (c .before .before .before .before .before .before .before .before .word-at .ensures) (c .before .before .before .before .before .before .before .word-at2 .ensures) _ _ _ _ (c .before .before .before .before .before .enter .ensures) _ _ (c .before .k .given .1)
+
+-- src/lib.rt:77:72
+add-body : tie.Need-add-body
+add-body c = search needs
+
+-- src/lib.rt:77:79
+body-of-requires : tie.Need-body-of-requires
+body-of-requires c κs = search needs
+
+-- src/lib.rt:77:11
+body-requires : tie.Need-body-requires
+body-requires c κs = body-starts _ _ _ _ _ _ (c .before .before .before .before .before .before .before .before .before .before .before .before .before .before .before .before .pre) (let a = c .before .before .before .before .before .before .words in omega arith) (c .before .before .before .before .before .before .before .before .before .before .before .start-of .ensures .1) (c .body-of .ensures .1)
+
+-- src/lib.rt:78:25
+enum-told-2 : tie.Need-enum-told-2
+enum-told-2 c = search needs
+
+-- src/lib.rt:79:30
+enum-told-3 : tie.Need-enum-told-3
+enum-told-3 c = search needs
+
+-- src/lib.rt:80:23
+enum-known-k-2 : tie.Need-enum-known-k-2
+enum-known-k-2 c = search needs
+
+-- src/lib.rt:56:1
 same-length-2 : tie.Need-same-length-2
 same-length-2 c = search needs
 
--- src/lib.rt:46:1
+-- src/lib.rt:56:1
 same-length-3 : tie.Need-same-length-3
 same-length-3 c = search needs
 
--- src/lib.rt:46:1
+-- src/lib.rt:56:1
 returns-2 : tie.Need-returns-2
-returns-2 c = search body-onward
+returns-2 c = body-onward _ _ _ _ _ _ (c .before .before .before .before .before .before .before .before .before .before .before .before .before .before .before .before .before .before .before .before .before .before .before .fits .width) (c .before .before .before .before .before .before .before .before .before .before .before .before .before .before .before .before .before .before .before .before .before .before .before .fits .height) _ _ _ (c .before .before .before .before .before .before .before .before .before .before .before .before .before .before .before .before .before .before .start-of .ensures .0) (c .before .before .before .before .before .before .before .before .before .before .before .before .before .before .before .before .before .word-at .ensures) (c .before .before .before .before .before .before .before .before .before .before .before .before .before .before .before .before .word-at2 .ensures) _ _ _ _ (c .before .before .before .before .before .before .before .before .before .before .before .before .before .before .enter .ensures) (c .before .before .before .before .before .before .before .before .before .before .enum-told .given .1) _ (c .before .before .before .before .before .before .before .body-of .ensures .0) _ _ _ (c .before .before .before .before .before .before .body .ensures) (c .enum-told2 .given .1)
 
--- src/lib.rt:46:1
+-- src/lib.rt:56:1
 same-length-4 : tie.Need-same-length-4
 same-length-4 c = search needs
 
--- src/lib.rt:46:1
+-- src/lib.rt:56:1
 same-length-5 : tie.Need-same-length-5
 same-length-5 c = search needs
 
--- src/lib.rt:46:1
+-- src/lib.rt:56:1
 returns-3 : tie.Need-returns-3
-returns-3 c = search body-returned
+returns-3 c = body-returned _ _ _ _ _ _ (c .before .before .before .before .before .before .before .before .before .before .before .before .before .before .before .before .before .before .before .before .before .before .before .fits .width) (c .before .before .before .before .before .before .before .before .before .before .before .before .before .before .before .before .before .before .before .before .before .before .before .fits .height) _ _ _ (c .before .before .before .before .before .before .before .before .before .before .before .before .before .before .before .before .before .before .start-of .ensures .0) (c .before .before .before .before .before .before .before .before .before .before .before .before .before .before .before .before .before .word-at .ensures) (c .before .before .before .before .before .before .before .before .before .before .before .before .before .before .before .before .word-at2 .ensures) _ _ _ _ (c .before .before .before .before .before .before .before .before .before .before .before .before .before .before .enter .ensures) (c .before .before .before .before .before .before .before .before .before .before .enum-told .given .1) _ (c .before .before .before .before .before .before .before .body-of .ensures .0) _ _ _ (c .before .before .before .before .before .before .body .ensures) _ (c .enum-told3 .given .1)
 
--- src/lib.rt:46:1
+-- src/lib.rt:56:1
 same-length-6 : tie.Need-same-length-6
 same-length-6 c = search needs
 
--- src/lib.rt:46:1
+-- src/lib.rt:56:1
 same-length-7 : tie.Need-same-length-7
 same-length-7 c = search needs
 
--- src/lib.rt:46:1
+-- src/lib.rt:56:1
 returns-4 : tie.Need-returns-4
-returns-4 c = search body-stopped
+returns-4 c = body-stopped _ _ _ _ _ _ (c .before .before .before .before .before .before .before .before .before .before .before .before .before .before .before .before .before .before .before .before .before .before .before .before .fits .width) (c .before .before .before .before .before .before .before .before .before .before .before .before .before .before .before .before .before .before .before .before .before .before .before .before .fits .height) _ _ _ (c .before .before .before .before .before .before .before .before .before .before .before .before .before .before .before .before .before .before .before .start-of .ensures .0) (c .before .before .before .before .before .before .before .before .before .before .before .before .before .before .before .before .before .before .word-at .ensures) (c .before .before .before .before .before .before .before .before .before .before .before .before .before .before .before .before .before .word-at2 .ensures) _ _ _ _ (c .before .before .before .before .before .before .before .before .before .before .before .before .before .before .before .enter .ensures) (c .before .before .before .before .before .before .before .before .before .before .before .enum-told .given .1) _ (c .before .before .before .before .before .before .before .before .body-of .ensures .0) _ _ _ (c .before .before .before .before .before .before .before .body .ensures) _ _ (c .before .k2 .given .1)
 
 pub run-body-spec : {M : Type 1} → statement M
 run-body-spec =
     tie.close
     (tie.spec
+    start-of-requires
+    word-at-requires
+    add-word-at
+    word-at-requires-2
     enter-requires
+    enum-told
+    enum-known-k
     same-length
     returns
+    add-body
+    body-of-requires
     body-requires
-    enum-told
     enum-told-2
-    enum-known-k
+    enum-told-3
+    enum-known-k-2
     same-length-2
     same-length-3
     returns-2

@@ -1,10 +1,10 @@
--- `statements::read_body` meets its contract: statements in braces and nothing behind.
+-- `statements::read_body` meets its contract.
 -- Assumes nothing.
 use denote.Ref.{now}
 use mathlib.Core.Path.{_∙_, sym}
 use native.Mathlib.Omega.{arith}
 use Rattle.expressions.proofs.Tokens.{token-inside}
-use Rattle.statements.proofs.Whole.{body-other, body-wrong, body-more, body-reads}
+use Rattle.statements.proofs.Heads.{body-other, body-reads}
 use borrow.Author.Needs.{needs}
 use Rattle.statements.proofs.read_body.Statement.{statement}
 use Rattle.statements.proofs.read_body.Tie as tie
@@ -13,42 +13,21 @@ kind-at-requires : tie.Need-kind-at-requires
 kind-at-requires c κs = search needs
 
 returns : tie.Need-returns
-returns c = body-other _ _ _ _ (c .before .kind-at .ensures) (c .if1 .taken)
+returns c = body-other _ _ _ _ _ (c .before .kind-at .ensures) (c .if1 .taken)
 
 add-read-statements : tie.Need-add-read-statements
 add-read-statements c =
     let w = token-inside (now (c .before .before .before .before .before .args .tokens)) (c .before .before .before .before .before .args .i) _ (sym (c .before .before .kind-at .ensures) ∙ c .before .if1 .left) (λ z. omega arith) in
-    omega (arith, c .before .before .before .before .before .pre .1)
+    omega arith
 
 read-statements-requires : tie.Need-read-statements-requires
 read-statements-requires c κs = search needs
-
-enum-known-s : tie.Need-enum-known-s
-enum-known-s c = search needs
-
-enum-known-s-2 : tie.Need-enum-known-s-2
-enum-known-s-2 c = search needs
-
-kind-at-requires-2 : tie.Need-kind-at-requires-2
-kind-at-requires-2 c κs = search needs
 
 same-length : tie.Need-same-length
 same-length c = search needs
 
 returns-2 : tie.Need-returns-2
-returns-2 c = body-more _ _ _ _ (c .before .before .before .before .before .before .before .before .before .before .kind-at .ensures) (c .before .before .before .before .before .before .before .before .before .if1 .left) _ _ (c .before .before .before .before .before .before .before .read-statements .ensures) _ _ _ _ (c .before .before .before .s2 .given .1) (c .before .kind-at2 .ensures) (c .if2 .taken)
-
-same-length-2 : tie.Need-same-length-2
-same-length-2 c = search needs
-
-returns-3 : tie.Need-returns-3
-returns-3 c = body-wrong _ _ _ _ (c .before .before .before .before .before .before .before .before .kind-at .ensures) (c .before .before .before .before .before .before .before .if1 .left) _ _ (c .before .before .before .before .before .read-statements .ensures) _ _ (c .before .s .given .1)
-
-same-length-3 : tie.Need-same-length-3
-same-length-3 c = search needs
-
-returns-4 : tie.Need-returns-4
-returns-4 c = body-reads _ _ _ _ (c .before .before .before .before .before .before .before .before .before .before .kind-at .ensures) (c .before .before .before .before .before .before .before .before .before .if1 .left) _ _ (c .before .before .before .before .before .before .before .read-statements .ensures) _ _ _ _ (c .before .before .before .s2 .given .1) (c .before .kind-at2 .ensures) (c .if2 .left)
+returns-2 c = body-reads _ _ _ _ _ (c .before .before .before .before .before .kind-at .ensures) (c .before .before .before .before .if1 .left) _ _ (c .before .before .read-statements .ensures)
 
 pub read-body-spec : {M : Type 1} → statement M
 read-body-spec =
@@ -58,12 +37,5 @@ read-body-spec =
     returns
     add-read-statements
     read-statements-requires
-    enum-known-s
-    enum-known-s-2
-    kind-at-requires-2
     same-length
-    returns-2
-    same-length-2
-    returns-3
-    same-length-3
-    returns-4)
+    returns-2)

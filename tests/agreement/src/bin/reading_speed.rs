@@ -85,10 +85,10 @@ fn main() {
         for length in [1_024, 4_096, 16_384, 32_768] {
             let program = make(length);
             let mut lent = Lent::filled(0);
-            let answer = check(&program, Grants::NONE, &mut lent.tokens, &mut lent.code);
+            let answer = check(&program, Grants::LEAST, &mut lent.tokens, &mut lent.code);
             assert_eq!(answer.number, 0, "{name} at {length}: {answer:?}");
             let ours = best(200, || {
-                check(&program, Grants::NONE, &mut lent.tokens, &mut lent.code);
+                check(&program, Grants::LEAST, &mut lent.tokens, &mut lent.code);
             });
             let theirs = best(50, || {
                 std::hint::black_box(reference::check(&program));

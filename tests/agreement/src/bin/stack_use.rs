@@ -1,4 +1,4 @@
-//! How much stack a level of nesting takes, by what nests. Each call runs on a thread whose stack was filled with a pattern; the deepest byte that lost the
+//! How much stack a level of nesting and a call takes, by what nests. Each call runs on a thread whose stack was filled with a pattern; the deepest byte that lost the
 //! pattern tells what was used. Prints a table, in bytes.
 
 use agreement::compare::{library, Lengths};
@@ -9,7 +9,7 @@ use reference::Operation;
 use std::alloc::{alloc, dealloc, Layout};
 use std::ffi::c_void;
 
-const STACK: usize = 4 << 20;
+const STACK: usize = 32 << 20;
 const PATTERN: u8 = 0xa5;
 const CALLS: usize = 64;
 
@@ -139,13 +139,34 @@ const NESTS: [Nest; 14] = [
     statement("`while(true){…}`", "while(true){", "}"),
 ];
 
-/// A program whose main nests so many levels around an inside, which is an expression.
-fn program(nest: &Nest, levels: usize, inside: &str) -> String {
+/// A statement that nests so many levels around an inside, which is an expression.
+fn nested(nest: &Nest, levels: usize, inside: &str) -> String {
     let times = levels / nest.levels;
     let (open, close) = (nest.open.repeat(times), nest.close.repeat(times));
-    let whole = format!("{open}{}{inside}{}{close}", nest.before, nest.behind);
     let end = if nest.behind.is_empty() { ";" } else { "" };
-    format!("def main(w,h){{w=[0];{whole}{end}}}")
+    format!("{open}{}{inside}{}{close}{end}", nest.before, nest.behind)
+}
+
+/// A program whose main nests so many levels around an inside.
+fn program(nest: &Nest, levels: usize, inside: &str) -> String {
+    format!("def main(w,h){{w=[0];{}}}", nested(nest, levels, inside))
+}
+
+/// A program with so many calls under way, each inside so many levels of its procedure; the call's own parenthesis is the last of them.
+fn recursive(nest: &Nest, levels: usize, calls: usize) -> String {
+    let call = |number: &str| nested(nest, levels - 1, &format!("d({number},w)"));
+    format!(
+        "def d(n,w){{if(n==0)return 1;{}}}def main(w,h){{w=[0];{}}}",
+        call("n-1"),
+        call(&(calls - 2).to_string())
+    )
+}
+
+/// The stack that a drawing uses. It is lent no out slice, so a picture is 80.
+fn drawn(nest: &Nest, program: &str) -> usize {
+    let (number, bytes) = used(Operation::Draw, program);
+    assert!(matches!(number, 20 | 80), "{} is {number}", nest.name);
+    bytes
 }
 
 /// What a level adds, between so few and so many of them around the same inside.
@@ -154,24 +175,33 @@ fn share(operation: Operation, nest: &Nest, few: usize, many: usize, inside: &st
     let (number, deep) = used(operation, &program(nest, many, inside));
     // Drawing is lent no out slice, so a picture is 80.
     assert!(matches!(number, 0 | 20 | 80), "{} is {number}", nest.name);
-    (deep - shallow) as f64 / (many - few) as f64
+    (deep as f64 - shallow as f64) / (many - few) as f64
 }
 
 fn main() {
-    println!("| nested | reading, a level | running, a level | drawing, 64 levels | running, 64 × {CALLS} levels |");
-    println!("|---|---|---|---|---|");
+    println!(
+        "| nested | reading, a level | running, a level | drawing, 64 levels | a call in no level | a call in 64 | {CALLS} calls in 64 levels each |"
+    );
+    println!("|---|---|---|---|---|---|---|");
     // Deep enough that running it takes more than reading it, so that what is around it shows.
     let deep = format!("({}1{})", "1+w.f(".repeat(32), ")".repeat(32));
+    let mut most = 0;
     for nest in &NESTS {
         let reading = share(Operation::Check, nest, 4, 64, "1");
         let running = share(Operation::Draw, nest, 2, 18, &deep);
-        let (_, whole) = used(Operation::Draw, &program(nest, 64, "1"));
-        let all = running * (64 * CALLS) as f64 / 1e6;
+        let whole = drawn(nest, &program(nest, 64, "1"));
+        let calls = |levels, calls| drawn(nest, &recursive(nest, levels, calls));
+        let each =
+            |levels| calls(levels, CALLS).saturating_sub(calls(levels, CALLS / 2)) / (CALLS / 2);
+        let all = calls(64, CALLS);
+        most = most.max(all);
         println!(
-            "| {} | {reading:.0} | {running:.0} | {whole} | {all:.1} MB |",
-            nest.name
+            "| {} | {reading:.0} | {running:.0} | {whole} | {} | {} | {all} |",
+            nest.name,
+            each(1),
+            each(64)
         );
     }
     let (_, least) = used(Operation::Draw, "def main(w,h){1;}");
-    println!("\nA program without nesting uses {least}, the thread's own share among it.");
+    println!("\nA program without nesting uses {least}, the thread's own share among it; the worst of these {most}.");
 }

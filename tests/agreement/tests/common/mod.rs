@@ -24,12 +24,14 @@ pub fn plain(operation: Operation, program: &[u8]) -> Case {
     }
 }
 
-/// A program that takes of every kind, uses both parameters and ends in a picture.
+/// A program that takes of every kind, uses both parameters, calls a procedure of its own that calls itself, and ends in a picture.
 pub fn all_kinds() -> Vec<u8> {
-    main_of(
-        "var t;t=[3];var s;s=\"a\"++\"bc\";t.s=drawText(w,h,s++s);t.1=2;var a;a=t.s>>w;\
+    let main = main_of(
+        "var t;t=[3];var s;s=\"a\"++\"bc\";t.s=drawText(w,h,s++s);t.1=2;var a;a=down(2,t.s>>w);\
          h=drawLine(w,h,t.1,0-w);w=drawEllipse(1,2,3,4)/-1;",
-    )
+    );
+    let down = b"def down(n,shape){var d;d=shape+n;if(n>0)return down(n-1,d);return d;}";
+    [main, down.to_vec()].concat()
 }
 
 /// What the run of a call needs, if it ends in a picture.
@@ -51,7 +53,7 @@ pub fn short_slices(operation: Operation) {
         plain(operation, &[b'('; 40_000]),
     ];
     for grants in [
-        Grants::NONE,
+        Grants::LEAST,
         Grants::LARGEST,
         Grants {
             shapes: 1,
@@ -152,11 +154,15 @@ pub fn counts_out_of_range(operation: Operation) {
             extreme.push(grants);
         }
     }
+    for calls in [0, 65, 66, 128, 1 << 32, (1 << 32) + 1, 1 << 63, u64::MAX] {
+        extreme.push(Grants { calls, ..GRANTS });
+    }
     for steps in [1 << 32, (1 << 32) + 1_000_000, 1 << 63, u64::MAX] {
         extreme.push(Grants { steps, ..GRANTS });
     }
     // The last counts within their ranges are no reason for 71.
     extreme.push(Grants::LARGEST);
+    extreme.push(Grants::LEAST);
     extreme.extend(one_less(Grants::LARGEST));
     for grants in extreme {
         for seed in 0..4 {

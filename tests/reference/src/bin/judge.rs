@@ -4,7 +4,7 @@
 //! A case is
 //!
 //! ```text
-//! OPERATION WIDTH HEIGHT STEPS SHAPES ENTRIES TEXT OUT PROGRAM
+//! OPERATION WIDTH HEIGHT STEPS SHAPES ENTRIES TEXT CALLS OUT PROGRAM
 //! ```
 //!
 //! with OPERATION `check` or `draw`, decimal numbers, and the program in

@@ -1,5 +1,6 @@
 use lib.ListN.{replicate}
 use Rattle.imgdraw.proofs.Whole.{program-drawn}
+use native.Mathlib.Omega.{arith}
 use mathlib.Core.Path.{refl}
 use borrow.Author.Needs.{needs}
 use Rattle.imgdraw.proofs.draw.draw_program.Statement.{statement}
@@ -27,7 +28,7 @@ draw-requires c κs = search needs
 
 -- src/draw.rt:48:5
 put-answer-requires : tie.Need-put-answer-requires
-put-answer-requires c κs = search needs
+put-answer-requires c κs = let a = c .before .before .out in omega (arith, c .before .before .before .before .before .before .before .before .before .before .before .before .before .before .before .before .pre)
 
 -- src/draw.rt:28:1
 same-length : tie.Need-same-length
@@ -35,7 +36,7 @@ same-length c = search needs
 
 -- src/draw.rt:28:1
 returns : tie.Need-returns
-returns c = program-drawn _ (replicate 8193 0) (replicate 16384 0) (replicate 31752 0) (replicate 16384 0) _ _ _ (c .before .before .before .before .before .before .before .before .before .before .before .before .before .before .before .before .before .before .before .fits .width) (c .before .before .before .before .before .before .before .before .before .before .before .before .before .before .before .before .before .before .before .fits .height) refl refl refl refl _ _ _ _ (c .before .before .before .before .before .before .before .before .before .before .draw .ensures .0 .answered) (c .before .before .before .before .before .before .before .before .before .before .draw .ensures .1) (c .before .before .put-answer .ensures)
+returns c = program-drawn _ (replicate 8193 0) (replicate 16384 0) (replicate 285776 0) (replicate 16384 0) _ _ _ (c .before .before .before .before .before .before .before .before .before .before .before .before .before .before .before .before .before .before .before .fits .width) (c .before .before .before .before .before .before .before .before .before .before .before .before .before .before .before .before .before .before .before .fits .height) refl refl refl refl _ _ _ _ (c .before .before .before .before .before .before .before .before .before .before .draw .ensures .0 .answered) (c .before .before .before .before .before .before .before .before .before .before .draw .ensures .1) (c .before .before .put-answer .ensures)
 
 pub draw-program-spec : {M : Type 1} → statement M
 draw-program-spec =

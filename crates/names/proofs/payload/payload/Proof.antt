@@ -1,7 +1,7 @@
 -- `names::payload::payload` meets its contract, by the kinds.
 use native.Mathlib.Omega.{arith}
 use borrow.Author.Needs.{needs}
-use Rattle.names.proofs.Payloads.{library-few, payload-name, payload-digits, payload-string, payload-other}
+use Rattle.names.proofs.Payloads.{procedure-few, payload-name, payload-digits, payload-string, payload-other}
 use Rattle.names.proofs.payload.payload.Statement.{statement}
 use Rattle.names.proofs.payload.payload.Tie as tie
 
@@ -11,14 +11,14 @@ mul-result c = search needs
 add-result : tie.Need-add-result
 add-result c = search needs
 
-library-number-requires : tie.Need-library-number-requires
-library-number-requires c κs = search needs
+procedure-number-requires : tie.Need-procedure-number-requires
+procedure-number-requires c κs = search needs
 
 mul-result-2 : tie.Need-mul-result-2
-mul-result-2 c = let h = library-few _ _ (c .library-number .ensures) in omega arith
+mul-result-2 c = let h = procedure-few _ _ (c .procedure-number .ensures) in omega arith
 
 add-result-2 : tie.Need-add-result-2
-add-result-2 c = let h = library-few _ _ (c .library-number .ensures) in omega arith
+add-result-2 c = let h = procedure-few _ _ (c .procedure-number .ensures) in omega arith
 
 value-of-requires : tie.Need-value-of-requires
 value-of-requires c κs = search needs
@@ -50,7 +50,7 @@ payload-spec =
     (tie.spec
     mul-result
     add-result
-    library-number-requires
+    procedure-number-requires
     mul-result-2
     add-result-2
     value-of-requires

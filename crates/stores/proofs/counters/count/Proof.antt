@@ -3,8 +3,8 @@ use Rattle.stores.proofs.Laws.{counts}
 use Rattle.stores.proofs.counters.count.Statement.{statement}
 use Rattle.stores.proofs.counters.count.Tie as tie
 
-element-copy-out-granted : tie.Need-element-copy-out-granted
-element-copy-out-granted c = search needs
+element-copy-out-limit : tie.Need-element-copy-out-limit
+element-copy-out-limit c = search needs
 
 spend-requires : tie.Need-spend-requires
 spend-requires c κs = search needs
@@ -16,4 +16,4 @@ returns : tie.Need-returns
 returns c = search counts
 
 pub count-spec : {M : Type 1} → statement M
-count-spec = tie.close (tie.spec element-copy-out-granted spend-requires same-length returns)
+count-spec = tie.close (tie.spec element-copy-out-limit spend-requires same-length returns)

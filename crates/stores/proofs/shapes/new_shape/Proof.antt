@@ -7,8 +7,8 @@ use Rattle.stores.proofs.shapes.new_shape.Tie as tie
 slice-read-i : tie.Need-slice-read-i
 slice-read-i c = search needs
 
-element-copy-out-granted : tie.Need-element-copy-out-granted
-element-copy-out-granted c = search needs
+element-copy-out-limit : tie.Need-element-copy-out-limit
+element-copy-out-limit c = search needs
 
 spend-requires : tie.Need-spend-requires
 spend-requires c κs = search needs
@@ -39,7 +39,7 @@ new-shape-spec =
     tie.close
     (tie.spec
     slice-read-i
-    element-copy-out-granted
+    element-copy-out-limit
     spend-requires
     same-length
     returns

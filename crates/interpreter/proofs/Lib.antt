@@ -1,0 +1,4 @@
+pub mod ExpressionLaws
+pub mod Fast
+pub mod StatementLaws
+pub mod CallLaws

@@ -1,0 +1,551 @@
+// Evaluating expressions and executing statements over code, which call each other: a call runs a procedure's body. `fuel` falls at each expression,
+// statement and call that is inside another.
+use machine::Answer;
+use machine::Flow;
+use machine::Outcome;
+use machine::Value;
+use machine::granted;
+use machine::tags;
+ghost use Prim.Native.Nat.{_+_};
+ghost use mathlib.Core.Path.{_≡_};
+ghost use Rattle.machine.specs.Act.{raw, shown};
+ghost use Rattle.machine.specs.Effects.{shownFlow, shownTest};
+ghost use Rattle.machine.specs.Evaluate.{setting, argumentOf, callAt, operandsAt};
+ghost use Rattle.machine.specs.Execute.{simpleAt, updateAt, testOf, whenAt, repeatAt, statementsFrom};
+ghost use Rattle.machine.specs.Interpret.{expressionAt, statementAt, bodyAt, invokeAt};
+ghost use Rattle.interpreter.specs.Asked.{Lent, Calls, Runs, Body};
+
+// What a call's word says of a name that is neither the library's nor main.
+const OTHER: u64 = 10;
+
+// ---- expressions
+// An expression by its root x, in the statement at p.
+fn expression(
+    program: &[u8],
+    code: &[u64],
+    grants: &[u64; 5],
+    texts: &mut [u8],
+    words: &mut [u64],
+    fuel: usize,
+    x: usize,
+    p: u64,
+) -> Answer
+    requires { ⌜ Lent (now grants) (now texts) (now words) fuel ⌝ }
+    ensures { λ r. ⌜ shown r (now (texts .exit)) (now (words .exit))
+        ≡ expressionAt fuel (setting (now (program .entry)) (now (code .entry)) (now (grants .entry))) x p (raw (now (texts .entry)) (now (words .entry))) ⌝ }
+{
+    if fuel == 0 {
+        return Answer::Bad(20, p);
+    }
+    if !stores::counters::count(words, grants) {
+        return Answer::Bad(79, p);
+    }
+    let w = stores::words::word_at(code, x);
+    let tag = code::tag_of(w);
+    if tag < tags::TABLE {
+        return primaries::leaf(words, w, p);
+    }
+    if tag == tags::CALL {
+        let r = call(program, code, grants, texts, words, fuel - 1, w, x, p);
+        return r;
+    }
+    let r = operands(program, code, grants, texts, words, fuel - 1, w, x, p);
+    r
+}
+
+// A new table by its size, a table read, or an operator.
+fn operands(
+    program: &[u8],
+    code: &[u64],
+    grants: &[u64; 5],
+    texts: &mut [u8],
+    words: &mut [u64],
+    fuel: usize,
+    w: u64,
+    x: usize,
+    p: u64,
+) -> Answer
+    requires { ⌜ Lent (now grants) (now texts) (now words) fuel ⌝ }
+    ensures { λ r. ⌜ shown r (now (texts .exit)) (now (words .exit))
+        ≡ operandsAt (expressionAt fuel (setting (now (program .entry)) (now (code .entry)) (now (grants .entry)))) (setting (now (program .entry)) (now (code .entry)) (now (grants .entry))) w x p (raw (now (texts .entry)) (now (words .entry))) ⌝ }
+{
+    match expression(
+        program,
+        code,
+        grants,
+        texts,
+        words,
+        fuel,
+        code::left_of(w, x),
+        p,
+    ) {
+        Answer::Good(u) => {
+            let a = values::pack(u);
+            let tag = code::tag_of(w);
+            if tag == tags::TABLE {
+                let r = primaries::new_table(words, a, p);
+                return r;
+            }
+            if primaries::lacks_table(tag, a) {
+                return Answer::Bad(20, p);
+            }
+            match expression(
+                program,
+                code,
+                grants,
+                texts,
+                words,
+                fuel,
+                code::right_of(x),
+                p,
+            ) {
+                Answer::Good(v) => {
+                    let r = primaries::apply(
+                        program,
+                        grants,
+                        texts,
+                        words,
+                        tag,
+                        p,
+                        a,
+                        values::pack(v),
+                    );
+                    r
+                }
+                Answer::Bad(n, q) => Answer::Bad(n, q),
+            }
+        }
+        Answer::Bad(n, q) => Answer::Bad(n, q),
+    }
+}
+
+// A call, its arguments one after the other.
+fn call(
+    program: &[u8],
+    code: &[u64],
+    grants: &[u64; 5],
+    texts: &mut [u8],
+    words: &mut [u64],
+    fuel: usize,
+    w: u64,
+    x: usize,
+    p: u64,
+) -> Answer
+    requires { ⌜ Lent (now grants) (now texts) (now words) fuel ⌝ }
+    ensures { λ r. ⌜ shown r (now (texts .exit)) (now (words .exit))
+        ≡ callAt (expressionAt fuel (setting (now (program .entry)) (now (code .entry)) (now (grants .entry)))) (invokeAt fuel (setting (now (program .entry)) (now (code .entry)) (now (grants .entry)))) (setting (now (program .entry)) (now (code .entry)) (now (grants .entry))) w x p (raw (now (texts .entry)) (now (words .entry))) ⌝ }
+{
+    let base = stores::arguments::arguments_held(words);
+    let a = code::first_argument(w, x);
+    let mut y = code::argument_root(stores::words::word_at(code, a), a, x);
+    while y < x {
+        match argument(program, code, grants, texts, words, fuel, y, p) {
+            Answer::Good(_) => {}
+            Answer::Bad(n, q) => return Answer::Bad(n, q),
+        }
+        y = code::argument_root(stores::words::word_at(code, y + 1), y + 1, x);
+    }
+    let number = code::library_of(w);
+    if number == OTHER {
+        let r = invoke(
+            program,
+            code,
+            grants,
+            texts,
+            words,
+            fuel,
+            code::callee_of(w),
+            p,
+            base as usize,
+        );
+        return r;
+    }
+    let r = primaries::called(words, grants, number, p, base);
+    r
+}
+
+// An argument by its root, pushed: worked out at once where it can be.
+fn argument(
+    program: &[u8],
+    code: &[u64],
+    grants: &[u64; 5],
+    texts: &mut [u8],
+    words: &mut [u64],
+    fuel: usize,
+    y: usize,
+    p: u64,
+) -> Answer
+    requires { ⌜ Lent (now grants) (now texts) (now words) fuel ⌝ }
+    ensures { λ r. ⌜ shown r (now (texts .exit)) (now (words .exit))
+        ≡ argumentOf (expressionAt fuel (setting (now (program .entry)) (now (code .entry)) (now (grants .entry)))) y p (raw (now (texts .entry)) (now (words .entry))) ⌝ }
+{
+    let w = fastpath::fast_value(words, code, grants, fuel, y);
+    if w != 0 {
+        let r = primaries::push_word(words, w, p);
+        return r;
+    }
+    match expression(program, code, grants, texts, words, fuel, y, p) {
+        Answer::Good(v) => {
+            let r = primaries::push_word(words, values::pack(v), p);
+            r
+        }
+        Answer::Bad(n, q) => Answer::Bad(n, q),
+    }
+}
+
+// A procedure of the program by its name's slot, on the arguments from the one numbered base on.
+fn invoke(
+    program: &[u8],
+    code: &[u64],
+    grants: &[u64; 5],
+    texts: &mut [u8],
+    words: &mut [u64],
+    fuel: usize,
+    callee: usize,
+    p: u64,
+    base: usize,
+) -> Answer
+    requires { ⌜ Calls (now grants) (now texts) (now words) fuel callee ⌝ }
+    ensures { λ r. ⌜ shown r (now (texts .exit)) (now (words .exit))
+        ≡ invokeAt fuel (setting (now (program .entry)) (now (code .entry)) (now (grants .entry))) callee p base (raw (now (texts .entry)) (now (words .entry))) ⌝ }
+{
+    let top = stores::arguments::arguments_held(words) as usize;
+    let n = stores::variables::declared_count(words);
+    let caller = stores::calls::running(words);
+    match procedures::begin(words, code, grants, callee, top, n, p, base) {
+        Answer::Good(_) => {}
+        Answer::Bad(k, q) => return Answer::Bad(k, q),
+    }
+    let d = stores::words::word_at(code, code::table_place(callee));
+    let a = code::start_of(d) + code::parameters_of(d);
+    let size = code::body_of(d);
+    match statements(
+        program,
+        code,
+        grants,
+        texts,
+        words,
+        fuel,
+        a,
+        a + size,
+        size + 1,
+    ) {
+        Flow::Onward => {
+            stores::calls::resume(words, top, n, caller, base as u64);
+            Answer::Good(Value::Nothing)
+        }
+        Flow::Returned(v) => {
+            stores::calls::resume(words, top, n, caller, base as u64);
+            Answer::Good(v)
+        }
+        Flow::Stopped(k, q) => Answer::Bad(k, q),
+    }
+}
+
+// ---- statements that hold no others
+// A statement of one expression, by its word: worked out at once where it can be.
+fn simple(
+    program: &[u8],
+    code: &[u64],
+    grants: &[u64; 5],
+    texts: &mut [u8],
+    words: &mut [u64],
+    fuel: usize,
+    w: u64,
+    x: usize,
+    p: u64,
+) -> Flow
+    requires { ⌜ Runs (now grants) (now texts) (now words) fuel x ⌝ }
+    ensures { λ r. ⌜ shownFlow r (now (texts .exit)) (now (words .exit))
+        ≡ simpleAt (expressionAt fuel (setting (now (program .entry)) (now (code .entry)) (now (grants .entry)))) (setting (now (program .entry)) (now (code .entry)) (now (grants .entry))) w x p (raw (now (texts .entry)) (now (words .entry))) ⌝ }
+{
+    let y = code::last_of(w, x);
+    let k = fastpath::fast_value(words, code, grants, fuel, y);
+    if k != 0 {
+        let r = effects::finish_plain(words, grants, w, k, p);
+        return r;
+    }
+    match expression(program, code, grants, texts, words, fuel, y, p) {
+        Answer::Good(v) => {
+            let r = effects::finish(words, grants, w, values::pack(v), p);
+            r
+        }
+        Answer::Bad(n, q) => Flow::Stopped(n, q),
+    }
+}
+
+// An update: the table and the key stand before the value whose root is y.
+fn update(
+    program: &[u8],
+    code: &[u64],
+    grants: &[u64; 5],
+    texts: &mut [u8],
+    words: &mut [u64],
+    fuel: usize,
+    y: usize,
+    p: u64,
+) -> Flow
+    requires { ⌜ Lent (now grants) (now texts) (now words) fuel ⌝ }
+    ensures { λ r. ⌜ shownFlow r (now (texts .exit)) (now (words .exit))
+        ≡ updateAt (expressionAt fuel (setting (now (program .entry)) (now (code .entry)) (now (grants .entry)))) (setting (now (program .entry)) (now (code .entry)) (now (grants .entry))) y p (raw (now (texts .entry)) (now (words .entry))) ⌝ }
+{
+    let b = code::before(stores::words::word_at(code, y), y);
+    let a = code::before(stores::words::word_at(code, b), b);
+    match expression(program, code, grants, texts, words, fuel, a, p) {
+        Answer::Good(v) => match v {
+            Value::Table(t) => match expression(program, code, grants, texts, words, fuel, b, p) {
+                Answer::Good(u) => {
+                    let key = values::pack(u);
+                    match expression(program, code, grants, texts, words, fuel, y, p) {
+                        Answer::Good(z) => {
+                            if !tables::entries::store_entry(
+                                program,
+                                texts,
+                                words,
+                                grants,
+                                t,
+                                key,
+                                values::pack(z),
+                            ) {
+                                return Flow::Stopped(77, p);
+                            }
+                            Flow::Onward
+                        }
+                        Answer::Bad(n, q) => Flow::Stopped(n, q),
+                    }
+                }
+                Answer::Bad(n, q) => Flow::Stopped(n, q),
+            },
+            _ => Flow::Stopped(20, p),
+        },
+        Answer::Bad(n, q) => Flow::Stopped(n, q),
+    }
+}
+
+// A test by its root: worked out at once where it can be.
+fn test(
+    program: &[u8],
+    code: &[u64],
+    grants: &[u64; 5],
+    texts: &mut [u8],
+    words: &mut [u64],
+    fuel: usize,
+    y: usize,
+    p: u64,
+) -> Outcome
+    requires { ⌜ Lent (now grants) (now texts) (now words) fuel ⌝ }
+    ensures { λ r. ⌜ shownTest r (now (texts .exit)) (now (words .exit))
+        ≡ testOf (expressionAt fuel (setting (now (program .entry)) (now (code .entry)) (now (grants .entry)))) (setting (now (program .entry)) (now (code .entry)) (now (grants .entry))) y p (raw (now (texts .entry)) (now (words .entry))) ⌝ }
+{
+    let k = fastpath::fast_value(words, code, grants, fuel, y);
+    if k != 0 {
+        return effects::outcome_of(k, p);
+    }
+    match expression(program, code, grants, texts, words, fuel, y, p) {
+        Answer::Good(v) => effects::outcome_of(values::pack(v), p),
+        Answer::Bad(n, q) => Outcome::Stopped(n, q),
+    }
+}
+
+// ---- statements that hold others
+// A statement by the place of its word. A loop counts its steps itself.
+fn statement(
+    program: &[u8],
+    code: &[u64],
+    grants: &[u64; 5],
+    texts: &mut [u8],
+    words: &mut [u64],
+    fuel: usize,
+    x: usize,
+) -> Flow
+    requires { ⌜ Runs (now grants) (now texts) (now words) fuel x ⌝ }
+    ensures { λ r. ⌜ shownFlow r (now (texts .exit)) (now (words .exit))
+        ≡ statementAt fuel (setting (now (program .entry)) (now (code .entry)) (now (grants .entry))) x (raw (now (texts .entry)) (now (words .entry))) ⌝ }
+{
+    if fuel == 0 {
+        return Flow::Stopped(20, 0);
+    }
+    let w = stores::words::word_at(code, x);
+    let p = code::place_of(w);
+    let tag = code::tag_of(w);
+    if tag == tags::WHILE {
+        let r = repeat(
+            program,
+            code,
+            grants,
+            texts,
+            words,
+            fuel - 1,
+            x + code::extra_of(w),
+            p,
+        );
+        return r;
+    }
+    if !stores::counters::count(words, grants) {
+        return Flow::Stopped(79, p);
+    }
+    match tag {
+        tags::DECLARE => {
+            let r = effects::declare(words, code::extra_of(w), p);
+            r
+        }
+        tags::UPDATE => {
+            let r = update(
+                program,
+                code,
+                grants,
+                texts,
+                words,
+                fuel - 1,
+                code::last_of(w, x),
+                p,
+            );
+            r
+        }
+        tags::WHEN => {
+            let r = when(
+                program,
+                code,
+                grants,
+                texts,
+                words,
+                fuel - 1,
+                x + code::extra_of(w),
+                p,
+            );
+            r
+        }
+        tags::BLOCK => {
+            let n = code::size_of(w);
+            let r = statements(
+                program,
+                code,
+                grants,
+                texts,
+                words,
+                fuel - 1,
+                x + 1,
+                x + n,
+                n + 1,
+            );
+            r
+        }
+        _ => {
+            let r = simple(program, code, grants, texts, words, fuel - 1, w, x, p);
+            r
+        }
+    }
+}
+
+// The statement behind the test whose root is y, if it holds.
+fn when(
+    program: &[u8],
+    code: &[u64],
+    grants: &[u64; 5],
+    texts: &mut [u8],
+    words: &mut [u64],
+    fuel: usize,
+    y: usize,
+    p: u64,
+) -> Flow
+    requires { ⌜ Runs (now grants) (now texts) (now words) fuel (y + 1) ⌝ }
+    ensures { λ r. ⌜ shownFlow r (now (texts .exit)) (now (words .exit))
+        ≡ whenAt (expressionAt fuel (setting (now (program .entry)) (now (code .entry)) (now (grants .entry)))) (statementAt fuel (setting (now (program .entry)) (now (code .entry)) (now (grants .entry)))) (setting (now (program .entry)) (now (code .entry)) (now (grants .entry))) y p (raw (now (texts .entry)) (now (words .entry))) ⌝ }
+{
+    match test(program, code, grants, texts, words, fuel, y, p) {
+        Outcome::Yes => match statement(program, code, grants, texts, words, fuel, y + 1) {
+            Flow::Onward => Flow::Onward,
+            Flow::Returned(v) => Flow::Returned(v),
+            Flow::Stopped(n, q) => Flow::Stopped(n, q),
+        },
+        Outcome::No => Flow::Onward,
+        Outcome::Stopped(n, q) => Flow::Stopped(n, q),
+    }
+}
+
+// The statement behind the test whose root is y, as long as it holds.
+fn repeat(
+    program: &[u8],
+    code: &[u64],
+    grants: &[u64; 5],
+    texts: &mut [u8],
+    words: &mut [u64],
+    fuel: usize,
+    y: usize,
+    p: u64,
+) -> Flow
+    requires { ⌜ Runs (now grants) (now texts) (now words) fuel (y + 1) ⌝ }
+    ensures { λ r. ⌜ shownFlow r (now (texts .exit)) (now (words .exit))
+        ≡ repeatAt (expressionAt fuel (setting (now (program .entry)) (now (code .entry)) (now (grants .entry)))) (statementAt fuel (setting (now (program .entry)) (now (code .entry)) (now (grants .entry)))) (setting (now (program .entry)) (now (code .entry)) (now (grants .entry))) y p (raw (now (texts .entry)) (now (words .entry))) ⌝ }
+{
+    let mut turns = grants[granted::STEPS] + 1;
+    while 0 < turns {
+        turns -= 1;
+        if !stores::counters::count(words, grants) {
+            return Flow::Stopped(79, p);
+        }
+        match test(program, code, grants, texts, words, fuel, y, p) {
+            Outcome::Yes => {}
+            Outcome::No => return Flow::Onward,
+            Outcome::Stopped(n, q) => return Flow::Stopped(n, q),
+        }
+        match statement(program, code, grants, texts, words, fuel, y + 1) {
+            Flow::Onward => {}
+            Flow::Returned(v) => return Flow::Returned(v),
+            Flow::Stopped(n, q) => return Flow::Stopped(n, q),
+        }
+    }
+    Flow::Stopped(79, p)
+}
+
+// The statements from a up to end, one after the other, at most so many.
+fn statements(
+    program: &[u8],
+    code: &[u64],
+    grants: &[u64; 5],
+    texts: &mut [u8],
+    words: &mut [u64],
+    fuel: usize,
+    a: usize,
+    end: usize,
+    rounds: usize,
+) -> Flow
+    requires { ⌜ Runs (now grants) (now texts) (now words) fuel end ⌝ }
+    ensures { λ r. ⌜ shownFlow r (now (texts .exit)) (now (words .exit))
+        ≡ statementsFrom rounds (statementAt fuel (setting (now (program .entry)) (now (code .entry)) (now (grants .entry)))) (setting (now (program .entry)) (now (code .entry)) (now (grants .entry))) a end (raw (now (texts .entry)) (now (words .entry))) ⌝ }
+{
+    let mut at = a;
+    let mut left = rounds;
+    while 0 < left {
+        left -= 1;
+        if end <= at {
+            return Flow::Onward;
+        }
+        match statement(program, code, grants, texts, words, fuel, at) {
+            Flow::Onward => {}
+            Flow::Returned(v) => return Flow::Returned(v),
+            Flow::Stopped(n, q) => return Flow::Stopped(n, q),
+        }
+        at += code::size_of(stores::words::word_at(code, at));
+    }
+    Flow::Onward
+}
+
+// A body of n words from a on.
+pub fn body(
+    program: &[u8],
+    code: &[u64],
+    grants: &[u64; 5],
+    texts: &mut [u8],
+    words: &mut [u64],
+    fuel: usize,
+    a: usize,
+    n: usize,
+) -> Flow
+    requires { ⌜ Body (now grants) (now texts) (now words) fuel a n ⌝ }
+    ensures { λ r. ⌜ shownFlow r (now (texts .exit)) (now (words .exit))
+        ≡ bodyAt fuel (setting (now (program .entry)) (now (code .entry)) (now (grants .entry))) a n (raw (now (texts .entry)) (now (words .entry))) ⌝ }
+{
+    let r = statements(program, code, grants, texts, words, fuel, a, a + n, n + 1);
+    r
+}

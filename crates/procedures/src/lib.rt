@@ -1,0 +1,74 @@
+// A call of a procedure of the program begins.
+use machine::Answer;
+use machine::Flow;
+use machine::Value;
+use machine::counters;
+use machine::granted;
+ghost use Rattle.machine.specs.Act.{Answers};
+ghost use Rattle.machine.specs.Procedures.{assignFrom, begin};
+ghost use Rattle.procedures.specs.Begun.{answered, Parameters, Callable};
+
+// Assigns the n parameters whose slots stand in the code from place a on the arguments from the one numbered base on.
+fn assign_parameters(
+    words: &mut [u64],
+    code: &[u64],
+    grants: &[u64; 5],
+    a: usize,
+    base: usize,
+    n: usize,
+    p: u64,
+) -> Answer
+    requires { ⌜ Parameters (now grants) (now words) a base n ⌝ }
+    ensures { λ r. ⌜ Answers (now (words .entry)) (answered (assignFrom (now (grants .entry)) (now (code .entry)) a base n p)) r (now (words .exit)) ⌝ }
+{
+    let mut k = 0;
+    while k < n {
+        let slot = stores::words::word_at(code, a + k) as usize;
+        let w = stores::arguments::argument(words, base + k);
+        match effects::assign(words, grants, slot, w, p) {
+            Flow::Stopped(m, q) => return Answer::Bad(m, q),
+            _ => {}
+        }
+        k += 1;
+    }
+    Answer::Good(Value::Nothing)
+}
+
+// All that a call of the procedure asks whose name has the slot callee, in its order. Its arguments are on the stack from base up to top; n
+// variables of the caller are declared, and wait from now on.
+pub fn begin(
+    words: &mut [u64],
+    code: &[u64],
+    grants: &[u64; 5],
+    callee: usize,
+    top: usize,
+    n: usize,
+    p: u64,
+    base: usize,
+) -> Answer
+    requires { ⌜ Callable (now grants) (now words) callee ⌝ }
+    ensures { λ r. ⌜ Answers (now (words .entry)) (answered (begin (now (grants .entry)) (now (code .entry)) callee top n p base)) r (now (words .exit)) ⌝ }
+{
+    let d = stores::words::word_at(code, code::table_place(callee));
+    if d == 0 {
+        return Answer::Bad(20, p);
+    }
+    let m = code::parameters_of(d);
+    if arithmetic::lowered(top, base) != m {
+        return Answer::Bad(20, p);
+    }
+    if !stores::calls::suspend(words, top, n) {
+        return Answer::Bad(20, p);
+    }
+    words[counters::RUNNING] = callee as u64 + 1;
+    let a = code::start_of(d);
+    let limit = grants[granted::CALLS];
+    if !stores::calls::declare_parameters(words, code, a, m) {
+        return Answer::Bad(60, p);
+    }
+    if !stores::counters::spend(words, counters::CALLS, limit, 1) {
+        return Answer::Bad(81, p);
+    }
+    let r = assign_parameters(words, code, grants, a, base, m, p);
+    r
+}

@@ -1,0 +1,152 @@
+-- Calls and the scene: what each way through the code does.
+use Prim.Native.Nat.{ℕ, suc, _+_, _-_, _*_, _/_, _%_, _^_, _≤_, _<_}
+use mathlib.Core.Path.{_≡_, refl, sym, _∙_}
+use mathlib.Core.Bool.{Bool, true, false, not}
+use mathlib.Core.List.{List}
+use native.Mathlib.Omega.{arith}
+use lib.ListN.{getD, set, length, length-set}
+use borrow.Author.Tests.{not-true, not-false, lt-ltb, le-ltb}
+use Rattle.machine.specs.Words.{unpacked}
+use Rattle.machine.specs.Layout.{declared, argumentsHeld, callsUsed, running, stackWords, framePlace, valuePlace, orderPlace, argumentPlace}
+use Rattle.machine.specs.Act.{raw, done, Act, goOn, give, fail, refuse, load, store, passed, Passes, Gives, _>>=_}
+use Rattle.machine.specs.Variables.{declare, waitingWord, wordIn, slotIn, frameWord, topIn, countIn, destroyIn, clearFrom, clearWaiting, clearFrames, clearScene}
+use Rattle.machine.specs.Stack.{dropTo}
+use Rattle.machine.specs.Procedures.{suspendFrom, suspend, declareFrom, undeclareFrom, resumeFrom, resume}
+use Rattle.meaning.specs.Basics.{if_then_else_}
+use Rattle.stores.proofs.Acts.{after-pass, after-refusal}
+use Rattle.stores.proofs.Turns.{Turns, turns-first, turns-next, turns-last, from-none}
+
+-- ---- the scene
+-- the call under way
+module _ (ws₀ : List ℕ) (n : ℕ) (ws : List ℕ) (k : ℕ) (g : Turns clearFrom 0 n ws₀ ws k) where
+  pub clear-more : (ws′ : List ℕ) → k < n → Gives ws (destroyIn (unpacked (getD ws (valuePlace (getD ws (orderPlace k) 0)) 0))) tt ws′
+      → length ws′ ≡ length ws → Turns clearFrom 0 n ws₀ ws′ (k + 1)
+  unfolding clearFrom _>>=_ goOn load
+  clear-more ws′ h d l = turns-next clearFrom 0 n ws₀ ws k g ws′ h (λ m ts. rw (← d .equal ts)) l
+
+  pub clear-all : n ≡ getD ws₀ declared 0 → n ≤ k → Gives ws₀ (clearFrom 0 (getD ws₀ declared 0)) tt ws
+  unfolding clearFrom give
+  clear-all e h = rw (← e, ← from-none n) (turns-last clearFrom 0 n ws₀ ws k g h (λ ts. refl))
+
+-- a call that waits
+abbrev pub waitingFrom : ℕ → ℕ → ℕ → Act (Unit {0})
+waitingFrom top k m = clearWaiting (top + k) m
+
+module _ (ws₀ : List ℕ) (top n : ℕ) where
+  module _ (ws : List ℕ) (k : ℕ) (g : Turns (waitingFrom top) 0 n ws₀ ws k) where
+    pub clear-more-waiting : (at : ℕ) (ws′ : List ℕ) → k < n → at ≡ argumentPlace (top + k) → Gives ws (destroyIn (unpacked (wordIn (getD ws at 0)))) tt ws′
+        → length ws′ ≡ length ws → Turns (waitingFrom top) 0 n ws₀ ws′ (k + 1)
+    unfolding clearWaiting _>>=_ goOn load
+    clear-more-waiting at ws′ h i d l =
+        let e : top + k + 1 ≡ top + (k + 1) = omega arith in
+        turns-next (waitingFrom top) 0 n ws₀ ws k g ws′ h (λ m ts. rw (← i, ← d .equal ts, e)) l
+
+    pub clear-all-waiting : n ≤ k → Gives ws₀ (clearWaiting top n) tt ws
+    unfolding clearWaiting give
+    clear-all-waiting h =
+        let e : top + 0 ≡ top = omega arith in
+        rw (e, from-none n) at (turns-last (waitingFrom top) 0 n ws₀ ws k g h (λ ts. refl))
+
+-- all that wait
+module _ (ws₀ : List ℕ) (n : ℕ) (ws : List ℕ) (d : ℕ) (g : Turns clearFrames 1 n ws₀ ws d) where
+  pub clear-more-frames : (ws′ : List ℕ) → d < n → Gives ws (clearWaiting (topIn (getD ws (framePlace d) 0)) (countIn (getD ws (framePlace d) 0))) tt ws′
+      → length ws′ ≡ length ws → Turns clearFrames 1 n ws₀ ws′ (d + 1)
+  unfolding clearFrames _>>=_ goOn load
+  clear-more-frames ws′ h q l = turns-next clearFrames 1 n ws₀ ws d g ws′ h (λ m ts. rw (← q .equal ts)) l
+
+  pub clear-all-frames : n ≡ getD ws₀ callsUsed 0 → n ≤ d → Gives ws₀ (clearFrames 1 (getD ws₀ callsUsed 0 - 1)) tt ws
+  unfolding clearFrames give
+  clear-all-frames e h = rw (← e) (turns-last clearFrames 1 n ws₀ ws d g h (λ ts. refl))
+
+pub scene-cleared : (ws ws₁ ws₂ : List ℕ) → Gives ws (clearFrames 1 (getD ws callsUsed 0 - 1)) tt ws₁ → Gives ws₁ (clearFrom 0 (getD ws₁ declared 0)) tt ws₂ → Gives ws clearScene tt ws₂
+unfolding clearScene _>>=_ goOn load
+scene-cleared ws ws₁ ws₂ a b = record { equal = λ ts. sym (rw (← a .equal ts, ← b .equal ts)) }
+
+-- ---- the caller waits
+two-set : (ws : List ℕ) (i u j v : ℕ) → length (set (set ws i u) j v) ≡ length ws
+two-set ws i u j v = simp length-set
+
+module _ (ws₀ : List ℕ) (top n : ℕ) (ws : List ℕ) (k : ℕ) (g : Turns (suspendFrom top) 0 n ws₀ ws k) where
+  pub suspend-more : (w at : ℕ) → k < n → at ≡ argumentPlace (top + k) → w ≡ waitingWord (getD ws (orderPlace k) 0) (getD ws (valuePlace (getD ws (orderPlace k) 0)) 0)
+      → Turns (suspendFrom top) 0 n ws₀ (set (set ws at w) (valuePlace (getD ws (orderPlace k) 0)) 0) (k + 1)
+  unfolding suspendFrom _>>=_ goOn load store
+  suspend-more w at h i e = turns-next (suspendFrom top) 0 n ws₀ ws k g _ h (λ m ts. rw (← i, ← e)) (two-set ws at w (valuePlace (getD ws (orderPlace k) 0)) 0)
+
+  pub all-suspended : n ≤ k → Gives ws₀ (suspendFrom top 0 n) tt ws
+  unfolding suspendFrom give
+  all-suspended h = rw (from-none n) at (turns-last (suspendFrom top) 0 n ws₀ ws k g h (λ ts. refl))
+
+module _ (ws : List ℕ) (top n : ℕ) where
+  pub top-beyond : stackWords < top → Passes ws 20 (suspend top n) false ws
+  unfolding suspend _>>=_ goOn refuse fail passed
+  top-beyond h = record { equal = λ p ts. rw (lt-ltb stackWords (top + n) (omega arith)) }
+
+  pub stack-full : top ≤ stackWords → stackWords - top < n → Passes ws 20 (suspend top n) false ws
+  unfolding suspend _>>=_ goOn refuse fail passed
+  stack-full l h = record { equal = λ p ts. rw (lt-ltb stackWords (top + n) (omega arith)) }
+
+  pub suspended : (ws₁ : List ℕ) (f : ℕ) → top ≤ stackWords → n ≤ stackWords - top → Gives ws (suspendFrom top 0 n) tt ws₁ → f ≡ frameWord top n
+      → Passes ws 20 (suspend top n) true (set (set (set ws₁ (framePlace (getD ws₁ callsUsed 0)) f) argumentsHeld (top + n)) declared 0)
+  unfolding suspend _>>=_ goOn refuse give load store passed
+  suspended ws₁ f l h g e = record { equal = λ p ts. rw (le-ltb stackWords (top + n) (omega arith), ← g .equal ts, e) }
+
+-- ---- parameters
+abbrev pub parametersFrom : List ℕ → ℕ → ℕ → ℕ → ℕ → Act (Unit {0})
+parametersFrom code a p k m = declareFrom code (a + k) m p
+
+-- whatever the place
+pub record Declaring (code : List ℕ) (a n : ℕ) (ws₀ ws : List ℕ) (k : ℕ) : Type 0 where
+  pub long : length ws ≡ length ws₀
+  pub turns : (p : ℕ) → Turns (parametersFrom code a p) 0 n ws₀ ws k
+
+module _ (code : List ℕ) (a n : ℕ) (ws₀ : List ℕ) where
+  pub declare-first : n < 2 ^ 64 → Declaring code a n ws₀ ws₀ 0
+  declare-first s = record { long = refl; turns = λ p. turns-first (parametersFrom code a p) 0 n ws₀ s }
+
+  module _ (ws : List ℕ) (k : ℕ) (g : Declaring code a n ws₀ ws k) where
+    pub all-declared : n ≤ k → Passes ws₀ 60 (declareFrom code a n) true ws
+    unfolding declareFrom give passed
+    all-declared h =
+        let e : a + 0 ≡ a = omega arith in
+        record { equal = λ p ts. (rw (e, from-none n) at (turns-last (parametersFrom code a p) 0 n ws₀ ws k (g .turns p) h (λ ts. refl))) .equal ts }
+
+    module _ (h : k < n) (slot : ℕ) (s : slot ≡ getD code (a + k) 0) (ok : Bool) (ws₁ : List ℕ) (d : Passes ws 60 (declare slot) ok ws₁) where
+      pub declared-twice : not ok ≡ true → Passes ws₀ 60 (declareFrom code a n) false ws₁
+      unfolding declareFrom _>>=_ passed
+      declared-twice t =
+          let e : a + 0 ≡ a = omega arith in
+          let q : n - k ≡ suc (n - (k + 1)) = omega arith in
+          record { equal = λ p ts. sym ((rw (e, from-none n) at (g .turns p .rest ts)) ∙ rw (q, ← s) (after-refusal _ p ts (rw (not-true ok t) at d))) }
+
+      pub declare-next : not ok ≡ false → length ws₁ ≡ length ws → Declaring code a n ws₀ ws₁ (k + 1)
+      unfolding declareFrom _>>=_
+      declare-next t l =
+          let e : a + k + 1 ≡ a + (k + 1) = omega arith in
+          record { long = l ∙ g .long; turns = λ p. turns-next (parametersFrom code a p) 0 n ws₀ ws k (g .turns p) ws₁ h (λ m ts. rw (← s) (after-pass _ p ts (rw (not-false ok t) at d) ∙ rw e)) l }
+
+-- ---- the caller goes on
+module _ (ws₀ : List ℕ) (n : ℕ) (ws : List ℕ) (k : ℕ) (g : Turns undeclareFrom 0 n ws₀ ws k) where
+  pub undeclare-more : k < n → Turns undeclareFrom 0 n ws₀ (set ws (valuePlace (getD ws (orderPlace k) 0)) 0) (k + 1)
+  unfolding undeclareFrom _>>=_ goOn load store
+  undeclare-more h = turns-next undeclareFrom 0 n ws₀ ws k g _ h (λ m ts. refl) (length-set ws (valuePlace (getD ws (orderPlace k) 0)) 0)
+
+  pub all-undeclared : n ≤ k → Gives ws₀ (undeclareFrom 0 n) tt ws
+  unfolding undeclareFrom give
+  all-undeclared h = rw (from-none n) at (turns-last undeclareFrom 0 n ws₀ ws k g h (λ ts. refl))
+
+module _ (ws₀ : List ℕ) (top n : ℕ) (ws : List ℕ) (k : ℕ) (g : Turns (resumeFrom top) 0 n ws₀ ws k) where
+  pub resume-more : (at : ℕ) → k < n → at ≡ argumentPlace (top + k)
+      → Turns (resumeFrom top) 0 n ws₀ (set (set ws (orderPlace k) (slotIn (getD ws at 0))) (valuePlace (slotIn (getD ws at 0))) (wordIn (getD ws at 0))) (k + 1)
+  unfolding resumeFrom _>>=_ goOn load store
+  resume-more at h i = turns-next (resumeFrom top) 0 n ws₀ ws k g _ h (λ m ts. rw (← i))
+      (two-set ws (orderPlace k) _ (valuePlace (slotIn (getD ws at 0))) _)
+
+  pub all-resumed : n ≤ k → Gives ws₀ (resumeFrom top 0 n) tt ws
+  unfolding resumeFrom give
+  all-resumed h = rw (from-none n) at (turns-last (resumeFrom top) 0 n ws₀ ws k g h (λ ts. refl))
+
+pub resumed : (ws ws₁ ws₂ : List ℕ) (top n caller base c : ℕ) → Gives ws (undeclareFrom 0 (getD ws declared 0)) tt ws₁ → Gives ws₁ (resumeFrom top 0 n) tt ws₂
+    → c ≡ getD (set (set ws₂ declared n) running caller) callsUsed 0 - 1
+    → Gives ws (resume top n caller base) tt (set (set (set (set ws₂ declared n) running caller) callsUsed c) argumentsHeld base)
+unfolding resume dropTo _>>=_ goOn load store
+resumed ws ws₁ ws₂ top n caller base c a b e = record { equal = λ ts. sym (rw (← a .equal ts, ← b .equal ts, e)) }

@@ -1,0 +1,21 @@
+use mathlib.Core.Path.{refl}
+use Rattle.machine.specs.Variables.{waitingWord}
+use borrow.Author.Needs.{needs}
+use Rattle.stores.proofs.calls.waiting_word.Statement.{statement}
+use Rattle.stores.proofs.calls.waiting_word.Tie as tie
+
+-- src/calls.rt:29:28
+mul-result : tie.Need-mul-result
+mul-result c = search needs
+
+-- src/calls.rt:29:5
+add-result : tie.Need-add-result
+add-result c = search needs
+
+-- src/calls.rt:26:1
+returns : tie.Need-returns
+unfolding waitingWord
+returns c = refl
+
+pub waiting-word-spec : {M : Type 1} → statement M
+waiting-word-spec = tie.close (tie.spec mul-result add-result returns)
