@@ -1,0 +1,1 @@
+// Writing the text of a program from its code.
