@@ -1,0 +1,99 @@
+-- What the meaning says of a call that asks for a text, and the ways through the functions here.
+use Prim.Native.Nat.{ℕ, _+_, _≤_, _<_, _^_}
+use mathlib.Core.Path.{_≡_, refl, ap, sym, _∙_}
+use mathlib.Core.Bool.{Bool, true, false, not}
+use mathlib.Core.List.{List, [], _++_}
+use lib.ListN.{length, take, drop, replicate}
+use native.Mathlib.Omega.{arith}
+use borrow.Author.Tests.{le-leb, lt-leb, not-true, not-false}
+use Rattle.meaning.specs.Basics.{if_then_else_, laidOver}
+use Rattle.meaning.specs.Book.{Answer, pictured, number}
+use Rattle.meaning.specs.Call.{answer}
+use Rattle.canonical.specs.Call.{text, fits, answerWith, textAnswer, outWith, textOut}
+use Rattle.answers.specs.declared.Answer as Declared
+use Rattle.answers.specs.declared.Answer.the-variants.{Picture, Number}
+use Rattle.answers.specs.Answers.{meant}
+use Rattle.lending.specs.Lending.{enoughToRead}
+use Rattle.writing.specs.Placed.{laidAt, saturated, WroteAt}
+use Rattle.checking.specs.Checking.{calledWith, Lent, readAnswer}
+use Rattle.checking.proofs.Answered.{refused-answer, refused-work, admitted-answer, cleared-work, lent}
+use Rattle.formatting.specs.Formatting.{Formatted, Written, Fitted}
+
+-- ---- the ways through `format`
+module _ (program g tokens code out : List ℕ) (ok : Bool) (e : ok ≡ enoughToRead g (length tokens) (length code)) where
+  pub format-refused : not ok ≡ true → Formatted (calledWith program g tokens code out) (Number 71 0 0 0) tokens code tokens code out
+  unfolding meant textAnswer answerWith textOut outWith
+  format-refused t =
+      let short = sym e ∙ not-true ok t in
+      let a = refused-answer program g tokens code out short in
+      record {
+        answered = rw a;
+        tokensAfter = sym (refused-work program g tokens code out short tokens);
+        codeAfter = sym (refused-work program g tokens code out short code);
+        outAfter = rw a;
+      }
+
+  module _ (t : not ok ≡ false) where
+    pub format-lent : Lent tokens code
+    format-lent = lent g tokens code (sym e ∙ not-false ok t)
+
+    pub format-read : (r : Declared.Answer) (out′ : List ℕ) → Written program out r out′ → (tokens′ code′ : List ℕ) (n m : ℕ) →
+        n ≡ length tokens → tokens′ ≡ replicate n 0 → m ≡ length code → code′ ≡ replicate m 0 →
+        Formatted (calledWith program g tokens code out) r tokens code tokens′ code′ out′
+    unfolding textAnswer textOut
+    format-read r out′ w tokens′ code′ n m k c l d =
+        let enough = sym e ∙ not-false ok t in
+        let a = admitted-answer program g tokens code out enough in
+        record {
+          answered = rw a (w .answered);
+          tokensAfter = cleared-work program g tokens code out enough tokens tokens′ n k c;
+          codeAfter = cleared-work program g tokens code out enough code code′ m l d;
+          outAfter = rw a (w .outAfter);
+        }
+
+-- ---- the ways through `write_read`
+module _ (program out : List ℕ) where
+  -- a number writes nothing
+  pub number-written : (k p : ℕ) → meant (Number k p 0 0) ≡ readAnswer program → Written program out (Number k p 0 0) out
+  unfolding meant answerWith outWith
+  number-written k p e = record { answered = rw (sym e); outAfter = rw (sym e) }
+
+  -- a program that was read has its text
+  pub text-written : (t : List ℕ) (r : Declared.Answer) (out′ : List ℕ) → meant (Picture 0 0) ≡ readAnswer program → t ≡ text program → Fitted t out r out′ →
+      Written program out r out′
+  unfolding meant
+  text-written t r out′ e s f = record { answered = rw (sym e, sym s) (f .answered); outAfter = rw (sym e, sym s) (f .outAfter) }
+
+-- ---- the ways through `write_fitting`
+module _ (t out : List ℕ) (short : length t < 2 ^ 64) (n : ℕ) (counted : n ≡ saturated (0 + length t)) where
+  whole : n ≡ length t
+  unfolding saturated
+  whole = counted ∙ omega (arith, short)
+
+  pub text-too-long : 32768 < n → Fitted t out (Number 82 0 0 n) out
+  unfolding meant answerWith outWith fits if_then_else_
+  text-too-long h =
+      let k : 32768 < length t = omega (arith, whole) in
+      record { answered = rw (lt-leb (length t) 32768 k, whole); outAfter = rw (lt-leb (length t) 32768 k) }
+
+  module _ (h : n ≤ 32768) where
+    few : length t ≤ 32768
+    few = omega (arith, whole)
+
+    pub out-too-short : length out < n → Fitted t out (Number 82 0 0 n) out
+    unfolding meant answerWith outWith fits if_then_else_
+    out-too-short l =
+        let k : length out < length t = omega (arith, whole) in
+        record {
+          answered = rw (le-leb (length t) 32768 few, lt-leb (length t) (length out) k, whole);
+          outAfter = rw (le-leb (length t) 32768 few, lt-leb (length t) (length out) k);
+        }
+
+    pub text-fits : n ≤ length out → (out′ : List ℕ) (m : ℕ) → WroteAt 0 t out out′ m → Fitted t out (Picture n 0) out′
+    unfolding meant answerWith outWith fits laidAt if_then_else_
+    text-fits l out′ m w =
+        let k : length t ≤ length out = omega (arith, whole) in
+        record {
+          answered = rw (le-leb (length t) 32768 few, le-leb (length t) (length out) k, whole);
+          outAfter = rw (le-leb (length t) 32768 few, le-leb (length t) (length out) k) (w .laid);
+        }
