@@ -118,17 +118,17 @@ module _ (program : List ℕ) where
     unfolding readAnswer if_then_else_
     is-read = rw (le-ltb 32768 (length program) short)
 
-    formed-apart : (d n : ℕ) (fs : List Procedure) (o : Option ℕ) → seen (Formed d n) slice ≡ codedApart (tokensIn program) fs o → pictured 0 0 ≡ answerApart o
+    formed-apart : (d n m : ℕ) (fs : List Procedure) (o : Option ℕ) → seen (Formed d n m) slice ≡ codedApart (tokensIn program) fs o → pictured 0 0 ≡ answerApart o
     unfolding seen codedApart answerApart
-    formed-apart d n fs none k = refl
-    formed-apart d n fs (some q) k = absurd (let z : _≡_ {A = ℕ} 0 1 = cc in omega arith)
+    formed-apart d n m fs none k = refl
+    formed-apart d n m fs (some q) k = absurd (let z : _≡_ {A = ℕ} 0 1 = cc in omega arith)
 
-    pub read-formed : (d n : ℕ) → p ≡ Formed d n → meant (Picture 0 0) ≡ readAnswer program
+    pub read-formed : (d n m : ℕ) → p ≡ Formed d n m → meant (Picture 0 0) ≡ readAnswer program
     unfolding meant seen coded answerOf
-    read-formed d n e = go (reading program) (ap (λ (x : Read.Program). seen x slice) (sym e) ∙ h) ∙ sym is-read
+    read-formed d n m e = go (reading program) (ap (λ (x : Read.Program). seen x slice) (sym e) ∙ h) ∙ sym is-read
       where
-        go : (r : Reading) → seen (Formed d n) slice ≡ coded (tokensIn program) r → pictured 0 0 ≡ answerOf r
-        go (wellFormed q) k = formed-apart d n (q .procedures) (doubled [] (q .procedures)) k
+        go : (r : Reading) → seen (Formed d n m) slice ≡ coded (tokensIn program) r → pictured 0 0 ≡ answerOf r
+        go (wellFormed q) k = formed-apart d n m (q .procedures) (doubled [] (q .procedures)) k
         go (malformed i q) k = absurd (let z : _≡_ {A = ℕ} 0 1 = cc in omega arith)
 
     malformed-apart : (k i : ℕ) (fs : List Procedure) (o : Option ℕ) → seen (Malformed k i) slice ≡ codedApart (tokensIn program) fs o → number k i 0 0 ≡ answerApart o

@@ -29,7 +29,7 @@ fn read_answer(program: &[u8], tokens: &mut [u64], code: &mut [u64]) -> Answer
     }
     let p = reader::read(program, tokens, code);
     match p {
-        Program::Formed(_, _) => Answer::Picture(0, 0),
+        Program::Formed(_, _, _) => Answer::Picture(0, 0),
         Program::Malformed(k, at) => Answer::Number(k, at as u64, 0, 0),
     }
 }

@@ -142,7 +142,7 @@ module _ (program code g texts words : List ℕ) (short : length program ≤ 327
             record { follows = λ granted gr. rw (x, y) (failed n p (raw texts words) steps) }
 
   -- ---- a program
-  module _ (d n : ℕ) (is-formed : r ≡ Formed d n) where
+  module _ (d n t : ℕ) (is-formed : r ≡ Formed d n t) where
     -- what was read, and where it stands
     record Formed-so (m : Tree.Program) : Type 0 where
       pub read : Read program (tokensIn program) m
@@ -172,7 +172,7 @@ module _ (program code g texts words : List ℕ) (short : length program ≤ 327
             })
         by-name m q (some p) a h = formed-refused h
 
-        go : (p : Reading) → reading program ≡ p → seen (Formed d n) code ≡ coded (tokensIn program) p
+        go : (p : Reading) → reading program ≡ p → seen (Formed d n t) code ≡ coded (tokensIn program) p
             → Ran program g (paintRead p width height (suc (stepsGranted g)) empty) e ts ws
         go (wellFormed m) q h = by-name m q (doubled [] (m .procedures)) refl h
         go (malformed k p) q h = formed-refused h
