@@ -34,10 +34,12 @@ fn svg(mut name: OsString) -> OsString {
     name
 }
 
-/// Writes to a new file beside the place, and puts it there once all of it is on the disk. What is there and is no file, a device say, is written to as it is.
+/// Writes to a new file beside the place, and puts it there once all of it is on the disk. It has the permissions of the file that it replaces. What is there and
+/// is no file, a device say, is written to as it is.
 pub fn write(path: &Path, bytes: &[u8]) -> io::Result<()> {
     let path = &fs::canonicalize(path).unwrap_or_else(|_| path.to_path_buf());
-    if fs::metadata(path).is_ok_and(|there| !there.is_file()) {
+    let there = fs::metadata(path).ok();
+    if there.as_ref().is_some_and(|there| !there.is_file()) {
         return OpenOptions::new().write(true).open(path)?.write_all(bytes);
     }
     let mut name = OsString::from(".");
@@ -46,6 +48,7 @@ pub fn write(path: &Path, bytes: &[u8]) -> io::Result<()> {
     let beside = path.with_file_name(name);
     let mut file = File::create_new(&beside)?;
     file.write_all(bytes)
+        .and_then(|()| there.map_or(Ok(()), |there| file.set_permissions(there.permissions())))
         .and_then(|()| file.sync_all())
         .and_then(|()| fs::rename(&beside, path))
         .inspect_err(|_| drop(fs::remove_file(&beside)))

@@ -3,6 +3,7 @@
 
 use std::fs::{self, File, OpenOptions};
 use std::io::Write;
+use std::os::unix::fs::PermissionsExt;
 use std::path::{Path, PathBuf};
 use std::process::{Command, Output, Stdio};
 
@@ -126,9 +127,11 @@ fn writes_texts_to_files() {
     run(&folder, &["text", "-o", "new", "day.sheet"], 0);
     assert_eq!(read("new"), DAY_TEXT);
     assert_eq!(run(&folder, &["text", "-o", "-", "day.sheet"], 0).0, DAY_TEXT.as_bytes());
-    // The file itself.
+    // The file itself, which keeps its permissions.
+    fs::set_permissions(folder.join("day.sheet"), fs::Permissions::from_mode(0o640)).unwrap();
     run(&folder, &["text", "-o", "day.sheet", "day.sheet"], 0);
     assert_eq!(read("day.sheet"), DAY_TEXT);
+    assert_eq!(fs::metadata(folder.join("day.sheet")).unwrap().permissions().mode() & 0o777, 0o640);
     // A folder gets each under its name; what gets a number stays as it is.
     fs::write(folder.join("more/broken"), "def main").unwrap();
     run(&folder, &["text", "-o", "more", "--", "more/day.img", "-day", "wrong", "more/broken"], 1);
