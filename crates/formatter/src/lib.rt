@@ -1,1 +1,3 @@
-// Writing the text of a program from its code.
+// Writing the text of a program from its code. Each function writes from a place on and returns the place behind.
+mod expression;
+mod leaf;
