@@ -24,6 +24,14 @@ pub then-four : {at m n o r : ℕ} {a b c k d e f g i : List ℕ} → length d <
     → WroteAt at (a ++ b ++ c ++ k) d i r
 then-four h p q s t = then h (then-three h p q s) t
 
+pub then-five : {at m n o q r : ℕ} {a b c k l d e f g i j : List ℕ} → length d < 2 ^ 64 → WroteAt at a d e m → WroteAt m b e f n → WroteAt n c f g o
+    → WroteAt o k g i q → WroteAt q l i j r → WroteAt at (a ++ b ++ c ++ k ++ l) d j r
+then-five h p q s t u = then h (then-four h p q s t) u
+
+-- behind a text some bytes, another text and some bytes
+pub then-ending : {at m r : ℕ} {a d e f : List ℕ} (b c k : List ℕ) → length d < 2 ^ 64 → WroteAt at a d e m → WroteAt m (b ++ c ++ k) e f r → WroteAt at ((a ++ b) ++ c ++ k) d f r
+then-ending {a = a} b c k h p q = rw (append-assoc a b c, append-assoc a (b ++ c) k) (then h p q)
+
 -- another text that is the same
 pub same : {at r : ℕ} {b d e : List ℕ} (c : List ℕ) → b ≡ c → WroteAt at b d e r → WroteAt at c d e r
 same c e p = rw e at p

@@ -1,3 +1,5 @@
+-- The functions on expressions meet their contracts; in each the measure is the fuel, and then which calls which.
+-- Assumes nothing.
 use native.Mathlib.Omega.{arith}
 use borrow.Author.Needs.{needs}
 use Rattle.formatter.proofs.Chains.{then-two}
@@ -153,7 +155,6 @@ write-arguments-Inv-loop program tokens code fuel first x out₀ at next₀ y₀
 abbrev write-arguments-μ-loop : write-arguments-lts.MeasureT-loop
 write-arguments-μ-loop program tokens code fuel first x out₀ at next₀ y₀ t11 out next y = x - y
 
--- src/expression.rt:173:9
 write-arguments-returns : (t : ℕ) → write-arguments-lts.Need-returns (
   write-expression-below t,
   write-expression.Post,
@@ -164,7 +165,6 @@ write-arguments-returns : (t : ℕ) → write-arguments-lts.Need-returns (
 ) (write-arguments-at t) write-arguments.Post write-arguments-Inv-loop write-arguments-μ-loop
 write-arguments-returns t c = search no-argument
 
--- src/expression.rt:175:9
 write-arguments-write-expression-requires :
     (t : ℕ) → write-arguments-lts.Need-write-expression-requires (
       write-expression-below t,
@@ -176,7 +176,6 @@ write-arguments-write-expression-requires :
     ) (write-arguments-at t) write-arguments.Post write-arguments-Inv-loop write-arguments-μ-loop
 write-arguments-write-expression-requires t c κs = search needs
 
--- src/expression.rt:176:35
 write-arguments-add-argument-at : (t : ℕ) → write-arguments-lts.Need-add-argument-at (
   write-expression-below t,
   write-expression.Post,
@@ -187,7 +186,6 @@ write-arguments-add-argument-at : (t : ℕ) → write-arguments-lts.Need-add-arg
 ) (write-arguments-at t) write-arguments.Post write-arguments-Inv-loop write-arguments-μ-loop
 write-arguments-add-argument-at t c = search needs
 
--- src/expression.rt:176:9
 write-arguments-argument-at-requires : (t : ℕ) → write-arguments-lts.Need-argument-at-requires (
   write-expression-below t,
   write-expression.Post,
@@ -198,7 +196,6 @@ write-arguments-argument-at-requires : (t : ℕ) → write-arguments-lts.Need-ar
 ) (write-arguments-at t) write-arguments.Post write-arguments-Inv-loop write-arguments-μ-loop
 write-arguments-argument-at-requires t c κs = search needs
 
--- src/expression.rt:177:5
 write-arguments-loop-holds : (t : ℕ) → write-arguments-lts.Need-loop-holds (
   write-expression-below t,
   write-expression.Post,
@@ -209,7 +206,6 @@ write-arguments-loop-holds : (t : ℕ) → write-arguments-lts.Need-loop-holds (
 ) (write-arguments-at t) write-arguments.Post write-arguments-Inv-loop write-arguments-μ-loop
 write-arguments-loop-holds t c = list-first _ _ _ _ _ _ _ (omega arith) (omega arith) (omega (arith, c .before .before .before .before .before .if1 .left)) (c .argument-at .ensures)
 
--- src/expression.rt:178:58
 write-arguments-slice-aggregate-write-behind :
     (t : ℕ) → write-arguments-lts.Need-slice-aggregate-write-behind (
       write-expression-below t,
@@ -221,7 +217,6 @@ write-arguments-slice-aggregate-write-behind :
     ) (write-arguments-at t) write-arguments.Post write-arguments-Inv-loop write-arguments-μ-loop
 write-arguments-slice-aggregate-write-behind t c = search needs
 
--- src/expression.rt:178:9
 write-arguments-write-behind-requires : (t : ℕ) → write-arguments-lts.Need-write-behind-requires (
   write-expression-below t,
   write-expression.Post,
@@ -232,7 +227,6 @@ write-arguments-write-behind-requires : (t : ℕ) → write-arguments-lts.Need-w
 ) (write-arguments-at t) write-arguments.Post write-arguments-Inv-loop write-arguments-μ-loop
 write-arguments-write-behind-requires t c κs = search needs
 
--- src/expression.rt:179:31
 write-arguments-add-argument-at-2 : (t : ℕ) → write-arguments-lts.Need-add-argument-at-2 (
   write-expression-below t,
   write-expression.Post,
@@ -243,7 +237,6 @@ write-arguments-add-argument-at-2 : (t : ℕ) → write-arguments-lts.Need-add-a
 ) (write-arguments-at t) write-arguments.Post write-arguments-Inv-loop write-arguments-μ-loop
 write-arguments-add-argument-at-2 t c = search needs
 
--- src/expression.rt:179:9
 write-arguments-argument-at-requires-2 : (t : ℕ) → write-arguments-lts.Need-argument-at-requires-2 (
   write-expression-below t,
   write-expression.Post,
@@ -254,7 +247,6 @@ write-arguments-argument-at-requires-2 : (t : ℕ) → write-arguments-lts.Need-
 ) (write-arguments-at t) write-arguments.Post write-arguments-Inv-loop write-arguments-μ-loop
 write-arguments-argument-at-requires-2 t c κs = search needs
 
--- src/expression.rt:177:5
 write-arguments-loop-less : (t : ℕ) → write-arguments-lts.Need-loop-less (
   write-expression-below t,
   write-expression.Post,
@@ -265,7 +257,6 @@ write-arguments-loop-less : (t : ℕ) → write-arguments-lts.Need-loop-less (
 ) (write-arguments-at t) write-arguments.Post write-arguments-Inv-loop write-arguments-μ-loop
 write-arguments-loop-less t c = search root-falls
 
--- src/expression.rt:177:5
 write-arguments-loop-again : (t : ℕ) → write-arguments-lts.Need-loop-again (
   write-expression-below t,
   write-expression.Post,
@@ -276,7 +267,6 @@ write-arguments-loop-again : (t : ℕ) → write-arguments-lts.Need-loop-again (
 ) (write-arguments-at t) write-arguments.Post write-arguments-Inv-loop write-arguments-μ-loop
 write-arguments-loop-again t c = list-next _ _ _ _ _ _ _ (c .before .before .before .before .before .before .before .loop .inv) _ (c .before .before .before .before .before .before .loop-test .taken) (c .before .before .before .write-behind .ensures) (c .argument-at2 .ensures)
 
--- src/expression.rt:159:1
 write-arguments-same-length : (t : ℕ) → write-arguments-lts.Need-same-length (
   write-expression-below t,
   write-expression.Post,
@@ -287,7 +277,6 @@ write-arguments-same-length : (t : ℕ) → write-arguments-lts.Need-same-length
 ) (write-arguments-at t) write-arguments.Post write-arguments-Inv-loop write-arguments-μ-loop
 write-arguments-same-length t c = search needs
 
--- src/expression.rt:159:1
 write-arguments-returns-2 : (t : ℕ) → write-arguments-lts.Need-returns-2 (
   write-expression-below t,
   write-expression.Post,
@@ -298,7 +287,6 @@ write-arguments-returns-2 : (t : ℕ) → write-arguments-lts.Need-returns-2 (
 ) (write-arguments-at t) write-arguments.Post write-arguments-Inv-loop write-arguments-μ-loop
 write-arguments-returns-2 t c = first-listed _ _ _ _ _ _ _ (omega (arith, c .before .before .before .before .before .before .before .before .before .before .before .before .good .1 .1 .1 .1 .1 .1 .0)) (omega (arith, c .before .before .before .before .before .before .before .if1 .left)) (c .before .before .argument-at .ensures) (c .before .before .before .before .before .write-expression .ensures) (list-ends _ _ _ _ _ _ _ (c .before .loop .inv) (omega arith))
 
--- src/expression.rt:65:9
 write-behind-write-bytes-at-requires : (t : ℕ) → write-behind-lts.Need-write-bytes-at-requires (
   write-bytes-at-reads.Asked,
   write-bytes-at-reads.Learnt,
@@ -307,7 +295,6 @@ write-behind-write-bytes-at-requires : (t : ℕ) → write-behind-lts.Need-write
 ) (write-behind-at t) write-behind.Post
 write-behind-write-bytes-at-requires t c κs = search needs
 
--- src/expression.rt:66:5
 write-behind-write-expression-requires : (t : ℕ) → write-behind-lts.Need-write-expression-requires (
   write-bytes-at-reads.Asked,
   write-bytes-at-reads.Learnt,
@@ -316,7 +303,6 @@ write-behind-write-expression-requires : (t : ℕ) → write-behind-lts.Need-wri
 ) (write-behind-at t) write-behind.Post
 write-behind-write-expression-requires t c κs = search needs
 
--- src/expression.rt:52:1
 write-behind-same-length : (t : ℕ) → write-behind-lts.Need-same-length (
   write-bytes-at-reads.Asked,
   write-bytes-at-reads.Learnt,
@@ -325,7 +311,6 @@ write-behind-same-length : (t : ℕ) → write-behind-lts.Need-same-length (
 ) (write-behind-at t) write-behind.Post
 write-behind-same-length t c = search needs
 
--- src/expression.rt:52:1
 write-behind-returns : (t : ℕ) → write-behind-lts.Need-returns (
   write-bytes-at-reads.Asked,
   write-bytes-at-reads.Learnt,
@@ -334,7 +319,6 @@ write-behind-returns : (t : ℕ) → write-behind-lts.Need-returns (
 ) (write-behind-at t) write-behind.Post
 write-behind-returns t c = search then-two
 
--- src/expression.rt:84:9
 write-between-write-behind-requires : (t : ℕ) → write-between-lts.Need-write-behind-requires (
   write-behind-below t,
   write-behind.Post,
@@ -343,7 +327,6 @@ write-between-write-behind-requires : (t : ℕ) → write-between-lts.Need-write
 ) (write-between-at t) write-between.Post
 write-between-write-behind-requires t c κs = search needs
 
--- src/expression.rt:85:5
 write-between-write-bytes-at-requires : (t : ℕ) → write-between-lts.Need-write-bytes-at-requires (
   write-behind-below t,
   write-behind.Post,
@@ -352,7 +335,6 @@ write-between-write-bytes-at-requires : (t : ℕ) → write-between-lts.Need-wri
 ) (write-between-at t) write-between.Post
 write-between-write-bytes-at-requires t c κs = search needs
 
--- src/expression.rt:70:1
 write-between-same-length : (t : ℕ) → write-between-lts.Need-same-length (
   write-behind-below t,
   write-behind.Post,
@@ -361,7 +343,6 @@ write-between-same-length : (t : ℕ) → write-between-lts.Need-same-length (
 ) (write-between-at t) write-between.Post
 write-between-same-length t c = search needs
 
--- src/expression.rt:70:1
 write-between-returns : (t : ℕ) → write-between-lts.Need-returns (
   write-behind-below t,
   write-behind.Post,
@@ -370,7 +351,6 @@ write-between-returns : (t : ℕ) → write-between-lts.Need-returns (
 ) (write-between-at t) write-between.Post
 write-between-returns t c = search then-two
 
--- src/expression.rt:151:31
 write-call-first-argument-requires : (t : ℕ) → write-call-lts.Need-first-argument-requires (
   first-argument-reads.Asked,
   first-argument-reads.Learnt,
@@ -387,7 +367,6 @@ write-call-first-argument-requires : (t : ℕ) → write-call-lts.Need-first-arg
 ) (write-call-at t) write-call.Post
 write-call-first-argument-requires t c κs = search needs
 
--- src/expression.rt:151:9
 write-call-argument-at-requires : (t : ℕ) → write-call-lts.Need-argument-at-requires (
   first-argument-reads.Asked,
   first-argument-reads.Learnt,
@@ -404,7 +383,6 @@ write-call-argument-at-requires : (t : ℕ) → write-call-lts.Need-argument-at-
 ) (write-call-at t) write-call.Post
 write-call-argument-at-requires t c κs = search needs
 
--- src/expression.rt:152:44
 write-call-callee-of-requires : (t : ℕ) → write-call-lts.Need-callee-of-requires (
   first-argument-reads.Asked,
   first-argument-reads.Learnt,
@@ -421,7 +399,6 @@ write-call-callee-of-requires : (t : ℕ) → write-call-lts.Need-callee-of-requ
 ) (write-call-at t) write-call.Post
 write-call-callee-of-requires t c κs = search needs
 
--- src/expression.rt:152:9
 write-call-write-name-requires : (t : ℕ) → write-call-lts.Need-write-name-requires (
   first-argument-reads.Asked,
   first-argument-reads.Learnt,
@@ -438,7 +415,6 @@ write-call-write-name-requires : (t : ℕ) → write-call-lts.Need-write-name-re
 ) (write-call-at t) write-call.Post
 write-call-write-name-requires t c κs = search needs
 
--- src/expression.rt:153:44
 write-call-slice-aggregate-write-bytes-at :
     (t : ℕ) → write-call-lts.Need-slice-aggregate-write-bytes-at (
       first-argument-reads.Asked,
@@ -456,7 +432,6 @@ write-call-slice-aggregate-write-bytes-at :
     ) (write-call-at t) write-call.Post
 write-call-slice-aggregate-write-bytes-at t c = search needs
 
--- src/expression.rt:153:9
 write-call-write-bytes-at-requires : (t : ℕ) → write-call-lts.Need-write-bytes-at-requires (
   first-argument-reads.Asked,
   first-argument-reads.Learnt,
@@ -473,7 +448,6 @@ write-call-write-bytes-at-requires : (t : ℕ) → write-call-lts.Need-write-byt
 ) (write-call-at t) write-call.Post
 write-call-write-bytes-at-requires t c κs = search needs
 
--- src/expression.rt:154:9
 write-call-write-arguments-requires : (t : ℕ) → write-call-lts.Need-write-arguments-requires (
   first-argument-reads.Asked,
   first-argument-reads.Learnt,
@@ -490,7 +464,6 @@ write-call-write-arguments-requires : (t : ℕ) → write-call-lts.Need-write-ar
 ) (write-call-at t) write-call.Post
 write-call-write-arguments-requires t c κs = search needs
 
--- src/expression.rt:155:30
 write-call-slice-aggregate-write-bytes-at-2 :
     (t : ℕ) → write-call-lts.Need-slice-aggregate-write-bytes-at-2 (
       first-argument-reads.Asked,
@@ -508,7 +481,6 @@ write-call-slice-aggregate-write-bytes-at-2 :
     ) (write-call-at t) write-call.Post
 write-call-slice-aggregate-write-bytes-at-2 t c = search needs
 
--- src/expression.rt:155:5
 write-call-write-bytes-at-requires-2 : (t : ℕ) → write-call-lts.Need-write-bytes-at-requires-2 (
   first-argument-reads.Asked,
   first-argument-reads.Learnt,
@@ -525,7 +497,6 @@ write-call-write-bytes-at-requires-2 : (t : ℕ) → write-call-lts.Need-write-b
 ) (write-call-at t) write-call.Post
 write-call-write-bytes-at-requires-2 t c κs = search needs
 
--- src/expression.rt:138:1
 write-call-same-length : (t : ℕ) → write-call-lts.Need-same-length (
   first-argument-reads.Asked,
   first-argument-reads.Learnt,
@@ -542,7 +513,6 @@ write-call-same-length : (t : ℕ) → write-call-lts.Need-same-length (
 ) (write-call-at t) write-call.Post
 write-call-same-length t c = search needs
 
--- src/expression.rt:138:1
 write-call-returns : (t : ℕ) → write-call-lts.Need-returns (
   first-argument-reads.Asked,
   first-argument-reads.Learnt,
@@ -559,7 +529,6 @@ write-call-returns : (t : ℕ) → write-call-lts.Need-returns (
 ) (write-call-at t) write-call.Post
 write-call-returns t c = call-written _ _ _ _ _ _ _ _ _ (omega (arith, c .before .before .before .before .before .before .before .before .before .before .before .before .before .before .before .before .before .before .before .before .before .before .before .before .before .good .1 .1 .1 .1 .1 .1 .0)) (c .before .before .before .before .before .before .before .before .before .before .before .before .before .before .before .before .before .before .before .before .first-argument .ensures) (c .before .before .before .before .before .before .before .before .before .before .before .before .before .before .before .before .before .before .before .argument-at .ensures) (c .before .before .before .before .before .before .before .before .before .before .before .before .before .before .before .before .before .before .callee-of .ensures .0) (c .before .before .before .before .before .before .before .before .before .before .before .before .before .before .before .before .write-name .ensures) (c .before .before .before .before .before .before .before .before .before .before .before .write-bytes-at .ensures) (c .before .before .before .before .before .before .before .write-arguments .ensures) (c .before .before .write-bytes-at2 .ensures)
 
--- src/expression.rt:33:9
 write-expression-returns : (t : ℕ) → write-expression-lts.Need-returns (
   word-at-reads.Asked,
   word-at-reads.Learnt,
@@ -580,7 +549,6 @@ write-expression-returns : (t : ℕ) → write-expression-lts.Need-returns (
 ) (write-expression-at t) write-expression.Post
 write-expression-returns t c = search too-deep
 
--- src/expression.rt:35:9
 write-expression-word-at-requires : (t : ℕ) → write-expression-lts.Need-word-at-requires (
   word-at-reads.Asked,
   word-at-reads.Learnt,
@@ -601,7 +569,6 @@ write-expression-word-at-requires : (t : ℕ) → write-expression-lts.Need-word
 ) (write-expression-at t) write-expression.Post
 write-expression-word-at-requires t c κs = search needs
 
--- src/expression.rt:36:9
 write-expression-tag-of-requires : (t : ℕ) → write-expression-lts.Need-tag-of-requires (
   word-at-reads.Asked,
   word-at-reads.Learnt,
@@ -622,7 +589,6 @@ write-expression-tag-of-requires : (t : ℕ) → write-expression-lts.Need-tag-o
 ) (write-expression-at t) write-expression.Post
 write-expression-tag-of-requires t c κs = search needs
 
--- src/expression.rt:38:9
 write-expression-write-leaf-requires : (t : ℕ) → write-expression-lts.Need-write-leaf-requires (
   word-at-reads.Asked,
   word-at-reads.Learnt,
@@ -643,7 +609,6 @@ write-expression-write-leaf-requires : (t : ℕ) → write-expression-lts.Need-w
 ) (write-expression-at t) write-expression.Post
 write-expression-write-leaf-requires t c κs = search needs
 
--- src/expression.rt:38:9
 write-expression-same-length : (t : ℕ) → write-expression-lts.Need-same-length (
   word-at-reads.Asked,
   word-at-reads.Learnt,
@@ -664,7 +629,6 @@ write-expression-same-length : (t : ℕ) → write-expression-lts.Need-same-leng
 ) (write-expression-at t) write-expression.Post
 write-expression-same-length t c = search needs
 
--- src/expression.rt:38:9
 write-expression-returns-2 : (t : ℕ) → write-expression-lts.Need-returns-2 (
   word-at-reads.Asked,
   word-at-reads.Learnt,
@@ -685,7 +649,6 @@ write-expression-returns-2 : (t : ℕ) → write-expression-lts.Need-returns-2 (
 ) (write-expression-at t) write-expression.Post
 write-expression-returns-2 t c = search is-leaf
 
--- src/expression.rt:40:9
 write-expression-right-of-requires : (t : ℕ) → write-expression-lts.Need-right-of-requires (
   word-at-reads.Asked,
   word-at-reads.Learnt,
@@ -706,7 +669,6 @@ write-expression-right-of-requires : (t : ℕ) → write-expression-lts.Need-rig
 ) (write-expression-at t) write-expression.Post
 write-expression-right-of-requires t c κs = search needs
 
--- src/expression.rt:42:53
 write-expression-sub-write-between : (t : ℕ) → write-expression-lts.Need-sub-write-between (
   word-at-reads.Asked,
   word-at-reads.Learnt,
@@ -727,7 +689,6 @@ write-expression-sub-write-between : (t : ℕ) → write-expression-lts.Need-sub
 ) (write-expression-at t) write-expression.Post
 write-expression-sub-write-between t c = search needs
 
--- src/expression.rt:42:63
 write-expression-slice-aggregate-write-between :
     (t : ℕ) → write-expression-lts.Need-slice-aggregate-write-between (
       word-at-reads.Asked,
@@ -749,7 +710,6 @@ write-expression-slice-aggregate-write-between :
     ) (write-expression-at t) write-expression.Post
 write-expression-slice-aggregate-write-between t c = search needs
 
--- src/expression.rt:42:75
 write-expression-slice-aggregate-write-between-2 :
     (t : ℕ) → write-expression-lts.Need-slice-aggregate-write-between-2 (
       word-at-reads.Asked,
@@ -771,7 +731,6 @@ write-expression-slice-aggregate-write-between-2 :
     ) (write-expression-at t) write-expression.Post
 write-expression-slice-aggregate-write-between-2 t c = search needs
 
--- src/expression.rt:42:9
 write-expression-write-between-requires :
     (t : ℕ) → write-expression-lts.Need-write-between-requires (
       word-at-reads.Asked,
@@ -793,7 +752,6 @@ write-expression-write-between-requires :
     ) (write-expression-at t) write-expression.Post
 write-expression-write-between-requires t c κs = search needs
 
--- src/expression.rt:42:9
 write-expression-same-length-2 : (t : ℕ) → write-expression-lts.Need-same-length-2 (
   word-at-reads.Asked,
   word-at-reads.Learnt,
@@ -814,7 +772,6 @@ write-expression-same-length-2 : (t : ℕ) → write-expression-lts.Need-same-le
 ) (write-expression-at t) write-expression.Post
 write-expression-same-length-2 t c = search needs
 
--- src/expression.rt:42:9
 write-expression-returns-3 : (t : ℕ) → write-expression-lts.Need-returns-3 (
   word-at-reads.Asked,
   word-at-reads.Learnt,
@@ -835,7 +792,6 @@ write-expression-returns-3 : (t : ℕ) → write-expression-lts.Need-returns-3 (
 ) (write-expression-at t) write-expression.Post
 write-expression-returns-3 t c = search is-table
 
--- src/expression.rt:45:50
 write-expression-sub-write-call : (t : ℕ) → write-expression-lts.Need-sub-write-call (
   word-at-reads.Asked,
   word-at-reads.Learnt,
@@ -856,7 +812,6 @@ write-expression-sub-write-call : (t : ℕ) → write-expression-lts.Need-sub-wr
 ) (write-expression-at t) write-expression.Post
 write-expression-sub-write-call t c = search needs
 
--- src/expression.rt:45:9
 write-expression-write-call-requires : (t : ℕ) → write-expression-lts.Need-write-call-requires (
   word-at-reads.Asked,
   word-at-reads.Learnt,
@@ -877,7 +832,6 @@ write-expression-write-call-requires : (t : ℕ) → write-expression-lts.Need-w
 ) (write-expression-at t) write-expression.Post
 write-expression-write-call-requires t c κs = search needs
 
--- src/expression.rt:45:9
 write-expression-same-length-3 : (t : ℕ) → write-expression-lts.Need-same-length-3 (
   word-at-reads.Asked,
   word-at-reads.Learnt,
@@ -898,7 +852,6 @@ write-expression-same-length-3 : (t : ℕ) → write-expression-lts.Need-same-le
 ) (write-expression-at t) write-expression.Post
 write-expression-same-length-3 t c = search needs
 
--- src/expression.rt:45:9
 write-expression-returns-4 : (t : ℕ) → write-expression-lts.Need-returns-4 (
   word-at-reads.Asked,
   word-at-reads.Learnt,
@@ -919,7 +872,6 @@ write-expression-returns-4 : (t : ℕ) → write-expression-lts.Need-returns-4 (
 ) (write-expression-at t) write-expression.Post
 write-expression-returns-4 t c = search is-call
 
--- src/expression.rt:47:9
 write-expression-left-of-requires : (t : ℕ) → write-expression-lts.Need-left-of-requires (
   word-at-reads.Asked,
   word-at-reads.Learnt,
@@ -940,7 +892,6 @@ write-expression-left-of-requires : (t : ℕ) → write-expression-lts.Need-left
 ) (write-expression-at t) write-expression.Post
 write-expression-left-of-requires t c κs = search needs
 
--- src/expression.rt:48:39
 write-expression-sub-write-pair : (t : ℕ) → write-expression-lts.Need-sub-write-pair (
   word-at-reads.Asked,
   word-at-reads.Learnt,
@@ -961,7 +912,6 @@ write-expression-sub-write-pair : (t : ℕ) → write-expression-lts.Need-sub-wr
 ) (write-expression-at t) write-expression.Post
 write-expression-sub-write-pair t c = search needs
 
--- src/expression.rt:48:5
 write-expression-write-pair-requires : (t : ℕ) → write-expression-lts.Need-write-pair-requires (
   word-at-reads.Asked,
   word-at-reads.Learnt,
@@ -982,7 +932,6 @@ write-expression-write-pair-requires : (t : ℕ) → write-expression-lts.Need-w
 ) (write-expression-at t) write-expression.Post
 write-expression-write-pair-requires t c κs = search needs
 
--- src/expression.rt:20:1
 write-expression-same-length-4 : (t : ℕ) → write-expression-lts.Need-same-length-4 (
   word-at-reads.Asked,
   word-at-reads.Learnt,
@@ -1003,7 +952,6 @@ write-expression-same-length-4 : (t : ℕ) → write-expression-lts.Need-same-le
 ) (write-expression-at t) write-expression.Post
 write-expression-same-length-4 t c = search needs
 
--- src/expression.rt:20:1
 write-expression-returns-5 : (t : ℕ) → write-expression-lts.Need-returns-5 (
   word-at-reads.Asked,
   word-at-reads.Learnt,
@@ -1024,7 +972,6 @@ write-expression-returns-5 : (t : ℕ) → write-expression-lts.Need-returns-5 (
 ) (write-expression-at t) write-expression.Post
 write-expression-returns-5 t c = search is-pair
 
--- src/expression.rt:124:9
 write-pair-write-side-requires : (t : ℕ) → write-pair-lts.Need-write-side-requires (
   write-side-below t,
   write-side.Post,
@@ -1033,7 +980,6 @@ write-pair-write-side-requires : (t : ℕ) → write-pair-lts.Need-write-side-re
 ) (write-pair-at t) write-pair.Post
 write-pair-write-side-requires t c κs = search needs
 
--- src/expression.rt:125:9
 write-pair-write-sign-requires : (t : ℕ) → write-pair-lts.Need-write-sign-requires (
   write-side-below t,
   write-side.Post,
@@ -1042,7 +988,6 @@ write-pair-write-sign-requires : (t : ℕ) → write-pair-lts.Need-write-sign-re
 ) (write-pair-at t) write-pair.Post
 write-pair-write-sign-requires t c κs = search needs
 
--- src/expression.rt:126:5
 write-pair-write-side-requires-2 : (t : ℕ) → write-pair-lts.Need-write-side-requires-2 (
   write-side-below t,
   write-side.Post,
@@ -1051,7 +996,6 @@ write-pair-write-side-requires-2 : (t : ℕ) → write-pair-lts.Need-write-side-
 ) (write-pair-at t) write-pair.Post
 write-pair-write-side-requires-2 t c κs = search needs
 
--- src/expression.rt:110:1
 write-pair-same-length : (t : ℕ) → write-pair-lts.Need-same-length (
   write-side-below t,
   write-side.Post,
@@ -1060,7 +1004,6 @@ write-pair-same-length : (t : ℕ) → write-pair-lts.Need-same-length (
 ) (write-pair-at t) write-pair.Post
 write-pair-same-length t c = search needs
 
--- src/expression.rt:110:1
 write-pair-returns : (t : ℕ) → write-pair-lts.Need-returns (
   write-side-below t,
   write-side.Post,
@@ -1069,7 +1012,6 @@ write-pair-returns : (t : ℕ) → write-pair-lts.Need-returns (
 ) (write-pair-at t) write-pair.Post
 write-pair-returns t c = search pair-written
 
--- src/expression.rt:102:30
 write-side-word-at-requires : (t : ℕ) → write-side-lts.Need-word-at-requires (
   word-at-reads.Asked,
   word-at-reads.Learnt,
@@ -1084,7 +1026,6 @@ write-side-word-at-requires : (t : ℕ) → write-side-lts.Need-word-at-requires
 ) (write-side-at t) write-side.Post
 write-side-word-at-requires t c κs = search needs
 
--- src/expression.rt:102:9
 write-side-tag-of-requires : (t : ℕ) → write-side-lts.Need-tag-of-requires (
   word-at-reads.Asked,
   word-at-reads.Learnt,
@@ -1099,7 +1040,6 @@ write-side-tag-of-requires : (t : ℕ) → write-side-lts.Need-tag-of-requires (
 ) (write-side-at t) write-side.Post
 write-side-tag-of-requires t c κs = search needs
 
--- src/expression.rt:103:8
 write-side-encloses-requires : (t : ℕ) → write-side-lts.Need-encloses-requires (
   word-at-reads.Asked,
   word-at-reads.Learnt,
@@ -1114,7 +1054,6 @@ write-side-encloses-requires : (t : ℕ) → write-side-lts.Need-encloses-requir
 ) (write-side-at t) write-side.Post
 write-side-encloses-requires t c κs = search needs
 
--- src/expression.rt:104:59
 write-side-slice-aggregate-write-between :
     (t : ℕ) → write-side-lts.Need-slice-aggregate-write-between (
       word-at-reads.Asked,
@@ -1130,7 +1069,6 @@ write-side-slice-aggregate-write-between :
     ) (write-side-at t) write-side.Post
 write-side-slice-aggregate-write-between t c = search needs
 
--- src/expression.rt:104:68
 write-side-slice-aggregate-write-between-2 :
     (t : ℕ) → write-side-lts.Need-slice-aggregate-write-between-2 (
       word-at-reads.Asked,
@@ -1146,7 +1084,6 @@ write-side-slice-aggregate-write-between-2 :
     ) (write-side-at t) write-side.Post
 write-side-slice-aggregate-write-between-2 t c = search needs
 
--- src/expression.rt:104:9
 write-side-write-between-requires : (t : ℕ) → write-side-lts.Need-write-between-requires (
   word-at-reads.Asked,
   word-at-reads.Learnt,
@@ -1161,7 +1098,6 @@ write-side-write-between-requires : (t : ℕ) → write-side-lts.Need-write-betw
 ) (write-side-at t) write-side.Post
 write-side-write-between-requires t c κs = search needs
 
--- src/expression.rt:104:9
 write-side-same-length : (t : ℕ) → write-side-lts.Need-same-length (
   word-at-reads.Asked,
   word-at-reads.Learnt,
@@ -1176,7 +1112,6 @@ write-side-same-length : (t : ℕ) → write-side-lts.Need-same-length (
 ) (write-side-at t) write-side.Post
 write-side-same-length t c = search needs
 
--- src/expression.rt:104:9
 write-side-returns : (t : ℕ) → write-side-lts.Need-returns (
   word-at-reads.Asked,
   word-at-reads.Learnt,
@@ -1191,7 +1126,6 @@ write-side-returns : (t : ℕ) → write-side-lts.Need-returns (
 ) (write-side-at t) write-side.Post
 write-side-returns t c = search side-enclosed
 
--- src/expression.rt:106:5
 write-side-write-expression-requires : (t : ℕ) → write-side-lts.Need-write-expression-requires (
   word-at-reads.Asked,
   word-at-reads.Learnt,
@@ -1206,7 +1140,6 @@ write-side-write-expression-requires : (t : ℕ) → write-side-lts.Need-write-e
 ) (write-side-at t) write-side.Post
 write-side-write-expression-requires t c κs = search needs
 
--- src/expression.rt:89:1
 write-side-same-length-2 : (t : ℕ) → write-side-lts.Need-same-length-2 (
   word-at-reads.Asked,
   word-at-reads.Learnt,
@@ -1221,7 +1154,6 @@ write-side-same-length-2 : (t : ℕ) → write-side-lts.Need-same-length-2 (
 ) (write-side-at t) write-side.Post
 write-side-same-length-2 t c = search needs
 
--- src/expression.rt:89:1
 write-side-returns-2 : (t : ℕ) → write-side-lts.Need-returns-2 (
   word-at-reads.Asked,
   word-at-reads.Learnt,

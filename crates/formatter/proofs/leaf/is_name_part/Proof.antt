@@ -1,35 +1,28 @@
+-- `formatter::leaf::is_name_part` meets its contract: by the ranges between digits, upper and lower case.
+-- Assumes nothing.
 use native.Mathlib.Omega.{arith}
 use Rattle.formatter.proofs.Leaves.{digit-part, upper-part, lower-part, below-digits, below-upper, below-lower, above-lower}
 use Rattle.formatter.proofs.leaf.is_name_part.Statement.{statement}
 use Rattle.formatter.proofs.leaf.is_name_part.Tie as tie
-use Rattle.formatter.proofs.leaf.is_name_part.Reads as reads
-use Rattle.formatter.proofs.leaf.is_name_part.Lts as lts
 
--- src/leaf.rt:119:1
 returns : tie.Need-returns
 returns c = digit-part _ (omega arith) (omega arith)
 
--- src/leaf.rt:119:1
 returns-2 : tie.Need-returns-2
 returns-2 c = upper-part _ (omega arith) (omega arith)
 
--- src/leaf.rt:119:1
 returns-3 : tie.Need-returns-3
 returns-3 c = lower-part _ (omega arith) (omega arith)
 
--- src/leaf.rt:119:1
 returns-4 : tie.Need-returns-4
 returns-4 c = below-digits _ (omega arith)
 
--- src/leaf.rt:119:1
 returns-5 : tie.Need-returns-5
 returns-5 c = below-upper _ (omega arith) (omega arith)
 
--- src/leaf.rt:119:1
 returns-6 : tie.Need-returns-6
 returns-6 c = below-lower _ (omega arith) (omega arith)
 
--- src/leaf.rt:119:1
 returns-7 : tie.Need-returns-7
 returns-7 c = above-lower _ (omega arith)
 

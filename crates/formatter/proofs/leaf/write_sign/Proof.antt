@@ -1,216 +1,163 @@
+-- `formatter::leaf::write_sign` meets its contract: by the tag.
+-- Assumes nothing.
 use Rattle.formatter.proofs.Leaves.{sign-entry, sign-concatenate, sign-add, sign-subtract, sign-multiply, sign-divide, sign-remainder, sign-shift-right, sign-shift-left, sign-equal, sign-unequal, sign-greater, sign-less}
 use borrow.Author.Needs.{needs}
 use Rattle.formatter.proofs.leaf.write_sign.Statement.{statement}
 use Rattle.formatter.proofs.leaf.write_sign.Tie as tie
-use Rattle.formatter.proofs.leaf.write_sign.Reads as reads
-use Rattle.formatter.proofs.leaf.write_sign.Lts as lts
-use Rattle.writing.proofs.write_bytes_at.Reads as write-bytes-at-reads
 
--- src/leaf.rt:89:48
 slice-aggregate-write-bytes-at : tie.Need-slice-aggregate-write-bytes-at
 slice-aggregate-write-bytes-at c = search needs
 
--- src/leaf.rt:89:24
 write-bytes-at-requires : tie.Need-write-bytes-at-requires
 write-bytes-at-requires c κs = search needs
 
--- src/leaf.rt:90:54
 slice-aggregate-write-bytes-at-2 : tie.Need-slice-aggregate-write-bytes-at-2
 slice-aggregate-write-bytes-at-2 c = search needs
 
--- src/leaf.rt:90:30
 write-bytes-at-requires-2 : tie.Need-write-bytes-at-requires-2
 write-bytes-at-requires-2 c κs = search needs
 
--- src/leaf.rt:91:46
 slice-aggregate-write-bytes-at-3 : tie.Need-slice-aggregate-write-bytes-at-3
 slice-aggregate-write-bytes-at-3 c = search needs
 
--- src/leaf.rt:91:22
 write-bytes-at-requires-3 : tie.Need-write-bytes-at-requires-3
 write-bytes-at-requires-3 c κs = search needs
 
--- src/leaf.rt:92:51
 slice-aggregate-write-bytes-at-4 : tie.Need-slice-aggregate-write-bytes-at-4
 slice-aggregate-write-bytes-at-4 c = search needs
 
--- src/leaf.rt:92:27
 write-bytes-at-requires-4 : tie.Need-write-bytes-at-requires-4
 write-bytes-at-requires-4 c κs = search needs
 
--- src/leaf.rt:93:51
 slice-aggregate-write-bytes-at-5 : tie.Need-slice-aggregate-write-bytes-at-5
 slice-aggregate-write-bytes-at-5 c = search needs
 
--- src/leaf.rt:93:27
 write-bytes-at-requires-5 : tie.Need-write-bytes-at-requires-5
 write-bytes-at-requires-5 c κs = search needs
 
--- src/leaf.rt:94:49
 slice-aggregate-write-bytes-at-6 : tie.Need-slice-aggregate-write-bytes-at-6
 slice-aggregate-write-bytes-at-6 c = search needs
 
--- src/leaf.rt:94:25
 write-bytes-at-requires-6 : tie.Need-write-bytes-at-requires-6
 write-bytes-at-requires-6 c κs = search needs
 
--- src/leaf.rt:95:52
 slice-aggregate-write-bytes-at-7 : tie.Need-slice-aggregate-write-bytes-at-7
 slice-aggregate-write-bytes-at-7 c = search needs
 
--- src/leaf.rt:95:28
 write-bytes-at-requires-7 : tie.Need-write-bytes-at-requires-7
 write-bytes-at-requires-7 c κs = search needs
 
--- src/leaf.rt:96:54
 slice-aggregate-write-bytes-at-8 : tie.Need-slice-aggregate-write-bytes-at-8
 slice-aggregate-write-bytes-at-8 c = search needs
 
--- src/leaf.rt:96:30
 write-bytes-at-requires-8 : tie.Need-write-bytes-at-requires-8
 write-bytes-at-requires-8 c κs = search needs
 
--- src/leaf.rt:97:53
 slice-aggregate-write-bytes-at-9 : tie.Need-slice-aggregate-write-bytes-at-9
 slice-aggregate-write-bytes-at-9 c = search needs
 
--- src/leaf.rt:97:29
 write-bytes-at-requires-9 : tie.Need-write-bytes-at-requires-9
 write-bytes-at-requires-9 c κs = search needs
 
--- src/leaf.rt:98:48
 slice-aggregate-write-bytes-at-10 : tie.Need-slice-aggregate-write-bytes-at-10
 slice-aggregate-write-bytes-at-10 c = search needs
 
--- src/leaf.rt:98:24
 write-bytes-at-requires-10 : tie.Need-write-bytes-at-requires-10
 write-bytes-at-requires-10 c κs = search needs
 
--- src/leaf.rt:99:50
 slice-aggregate-write-bytes-at-11 : tie.Need-slice-aggregate-write-bytes-at-11
 slice-aggregate-write-bytes-at-11 c = search needs
 
--- src/leaf.rt:99:26
 write-bytes-at-requires-11 : tie.Need-write-bytes-at-requires-11
 write-bytes-at-requires-11 c κs = search needs
 
--- src/leaf.rt:100:50
 slice-aggregate-write-bytes-at-12 : tie.Need-slice-aggregate-write-bytes-at-12
 slice-aggregate-write-bytes-at-12 c = search needs
 
--- src/leaf.rt:100:26
 write-bytes-at-requires-12 : tie.Need-write-bytes-at-requires-12
 write-bytes-at-requires-12 c κs = search needs
 
--- src/leaf.rt:101:38
 slice-aggregate-write-bytes-at-13 : tie.Need-slice-aggregate-write-bytes-at-13
 slice-aggregate-write-bytes-at-13 c = search needs
 
--- src/leaf.rt:101:14
 write-bytes-at-requires-13 : tie.Need-write-bytes-at-requires-13
 write-bytes-at-requires-13 c κs = search needs
 
--- src/leaf.rt:85:1
 same-length : tie.Need-same-length
 same-length c = search needs
 
--- src/leaf.rt:85:1
 returns : tie.Need-returns
 returns c = search sign-entry
 
--- src/leaf.rt:85:1
 same-length-2 : tie.Need-same-length-2
 same-length-2 c = search needs
 
--- src/leaf.rt:85:1
 returns-2 : tie.Need-returns-2
 returns-2 c = search sign-concatenate
 
--- src/leaf.rt:85:1
 same-length-3 : tie.Need-same-length-3
 same-length-3 c = search needs
 
--- src/leaf.rt:85:1
 returns-3 : tie.Need-returns-3
 returns-3 c = search sign-add
 
--- src/leaf.rt:85:1
 same-length-4 : tie.Need-same-length-4
 same-length-4 c = search needs
 
--- src/leaf.rt:85:1
 returns-4 : tie.Need-returns-4
 returns-4 c = search sign-subtract
 
--- src/leaf.rt:85:1
 same-length-5 : tie.Need-same-length-5
 same-length-5 c = search needs
 
--- src/leaf.rt:85:1
 returns-5 : tie.Need-returns-5
 returns-5 c = search sign-multiply
 
--- src/leaf.rt:85:1
 same-length-6 : tie.Need-same-length-6
 same-length-6 c = search needs
 
--- src/leaf.rt:85:1
 returns-6 : tie.Need-returns-6
 returns-6 c = search sign-divide
 
--- src/leaf.rt:85:1
 same-length-7 : tie.Need-same-length-7
 same-length-7 c = search needs
 
--- src/leaf.rt:85:1
 returns-7 : tie.Need-returns-7
 returns-7 c = search sign-remainder
 
--- src/leaf.rt:85:1
 same-length-8 : tie.Need-same-length-8
 same-length-8 c = search needs
 
--- src/leaf.rt:85:1
 returns-8 : tie.Need-returns-8
 returns-8 c = search sign-shift-right
 
--- src/leaf.rt:85:1
 same-length-9 : tie.Need-same-length-9
 same-length-9 c = search needs
 
--- src/leaf.rt:85:1
 returns-9 : tie.Need-returns-9
 returns-9 c = search sign-shift-left
 
--- src/leaf.rt:85:1
 same-length-10 : tie.Need-same-length-10
 same-length-10 c = search needs
 
--- src/leaf.rt:85:1
 returns-10 : tie.Need-returns-10
 returns-10 c = search sign-equal
 
--- src/leaf.rt:85:1
 same-length-11 : tie.Need-same-length-11
 same-length-11 c = search needs
 
--- src/leaf.rt:85:1
 returns-11 : tie.Need-returns-11
 returns-11 c = search sign-unequal
 
--- src/leaf.rt:85:1
 same-length-12 : tie.Need-same-length-12
 same-length-12 c = search needs
 
--- src/leaf.rt:85:1
 returns-12 : tie.Need-returns-12
 returns-12 c = search sign-greater
 
--- src/leaf.rt:85:1
 same-length-13 : tie.Need-same-length-13
 same-length-13 c = search needs
 
--- src/leaf.rt:85:1
 returns-13 : tie.Need-returns-13
 returns-13 c = search sign-less
 
