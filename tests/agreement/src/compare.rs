@@ -219,7 +219,6 @@ impl Lender {
         seed: u64,
         call: impl FnOnce(&Case, &mut Work, &mut [u8]) -> Numbers,
     ) -> Option<String> {
-        self.calls += 1;
         let lengths = lengths.lent_to(case.operation);
         let (wanted, picture) = if lengths.suffice(case.operation, case.grants) {
             let answer = case.answer();
@@ -235,8 +234,24 @@ impl Lender {
             Operation::Draw => case.out_length as usize,
             _ => 0,
         };
+        self.judged(wanted, &picture, lengths, out_length, seed, |work, out| {
+            call(case, work, out)
+        })
+    }
+
+    /// What is wrong with a call that must give these numbers and write this to the front of the out slice, if anything is.
+    fn judged(
+        &mut self,
+        wanted: Numbers,
+        front: &[u8],
+        lengths: Lengths,
+        out_length: usize,
+        seed: u64,
+        call: impl FnOnce(&mut Work, &mut [u8]) -> Numbers,
+    ) -> Option<String> {
+        self.calls += 1;
         self.fill(lengths, out_length, seed);
-        let found = call(case, &mut self.work, &mut self.out[..out_length]);
+        let found = call(&mut self.work, &mut self.out[..out_length]);
         if found != wanted {
             return Some(format!("{found:?} where {wanted:?} is due"));
         }
@@ -247,13 +262,13 @@ impl Lender {
         } else if !self.is_zero() {
             return Some("a work slice is not zero".to_string());
         }
-        if self.out[..picture.len()] != picture {
-            return Some("another picture".to_string());
+        if self.out[..front.len()] != *front {
+            return Some("another picture or text".to_string());
         }
         let garbage = &self.garbage[(seed % 4) as usize];
-        if !is_kept(&self.out, picture.len(), &garbage.bytes) {
+        if !is_kept(&self.out, front.len(), &garbage.bytes) {
             return Some(if wanted.number == 0 {
-                "the out slice is changed behind the picture".to_string()
+                "the out slice is changed behind what is written".to_string()
             } else {
                 "the out slice is changed after a number".to_string()
             });
