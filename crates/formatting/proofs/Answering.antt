@@ -1,8 +1,8 @@
 -- What the meaning says of a call that asks for a text, and the ways through the functions here.
-use Prim.Native.Nat.{ℕ, _+_, _≤_, _<_, _^_}
+use Prim.Native.Nat.{ℕ, _≤_, _<_, _^_}
 use mathlib.Core.Path.{_≡_, refl, ap, sym, _∙_}
 use mathlib.Core.Bool.{Bool, true, false, not}
-use mathlib.Core.List.{List, [], _++_}
+use mathlib.Core.List.{List, [], _∷_, _++_}
 use lib.ListN.{length, take, drop, replicate}
 use native.Mathlib.Omega.{arith}
 use borrow.Author.Tests.{le-leb, lt-leb, not-true, not-false}
@@ -19,7 +19,16 @@ use Rattle.checking.specs.Checking.{calledWith, Lent, readAnswer}
 use Rattle.checking.proofs.Answered.{refused-answer, refused-work, admitted-answer, cleared-work, lent}
 use Rattle.formatting.specs.Formatting.{Formatted, Written, Fitted}
 
+-- what is laid into nothing leaves nothing
+laid-nowhere : (t : List ℕ) → laidAt 0 t [] ≡ []
+unfolding laidAt laidOver
+laid-nowhere [] = refl
+laid-nowhere (x ∷ t) = refl
+
 -- ---- the ways through `format`
+pub format-lent : (g tokens code : List ℕ) (ok : Bool) → ok ≡ enoughToRead g (length tokens) (length code) → not ok ≡ false → Lent tokens code
+format-lent g tokens code ok e t = lent g tokens code (sym e ∙ not-false ok t)
+
 module _ (program g tokens code out : List ℕ) (ok : Bool) (e : ok ≡ enoughToRead g (length tokens) (length code)) where
   pub format-refused : not ok ≡ true → Formatted (calledWith program g tokens code out) (Number 71 0 0 0) tokens code tokens code out
   unfolding meant textAnswer answerWith textOut outWith
@@ -34,9 +43,6 @@ module _ (program g tokens code out : List ℕ) (ok : Bool) (e : ok ≡ enoughTo
       }
 
   module _ (t : not ok ≡ false) where
-    pub format-lent : Lent tokens code
-    format-lent = lent g tokens code (sym e ∙ not-false ok t)
-
     pub format-read : (r : Declared.Answer) (out′ : List ℕ) → Written program out r out′ → (tokens′ code′ : List ℕ) (n m : ℕ) →
         n ≡ length tokens → tokens′ ≡ replicate n 0 → m ≡ length code → code′ ≡ replicate m 0 →
         Formatted (calledWith program g tokens code out) r tokens code tokens′ code′ out′
@@ -65,35 +71,39 @@ module _ (program out : List ℕ) where
   text-written t r out′ e s f = record { answered = rw (sym e, sym s) (f .answered); outAfter = rw (sym e, sym s) (f .outAfter) }
 
 -- ---- the ways through `write_fitting`
-module _ (t out : List ℕ) (short : length t < 2 ^ 64) (n : ℕ) (counted : n ≡ saturated (0 + length t)) where
+-- The text t was written into an out slice of length 0, which stays empty and tells how long it is; `last ++ out` is then the out slice itself.
+module _ (t out last : List ℕ) (short : length t < 2 ^ 64) (n : ℕ) (w : WroteAt 0 t [] last n) where
   whole : n ≡ length t
   unfolding saturated
-  whole = counted ∙ omega (arith, short)
+  whole = w .ends ∙ omega (arith, short)
 
-  pub text-too-long : 32768 < n → Fitted t out (Number 82 0 0 n) out
+  kept : last ++ out ≡ out
+  kept = ap (λ (xs : List ℕ). xs ++ out) (w .laid ∙ laid-nowhere t)
+
+  pub text-too-long : 32768 < n → Fitted t out (Number 82 0 0 n) (last ++ out)
   unfolding meant answerWith outWith fits if_then_else_
   text-too-long h =
       let k : 32768 < length t = omega (arith, whole) in
-      record { answered = rw (lt-leb (length t) 32768 k, whole); outAfter = rw (lt-leb (length t) 32768 k) }
+      record { answered = rw (lt-leb (length t) 32768 k, whole); outAfter = rw (lt-leb (length t) 32768 k) kept }
 
   module _ (h : n ≤ 32768) where
     few : length t ≤ 32768
     few = omega (arith, whole)
 
-    pub out-too-short : length out < n → Fitted t out (Number 82 0 0 n) out
+    pub out-too-short : length (last ++ out) < n → Fitted t out (Number 82 0 0 n) (last ++ out)
     unfolding meant answerWith outWith fits if_then_else_
     out-too-short l =
-        let k : length out < length t = omega (arith, whole) in
+        let k : length out < length t = omega (arith, whole, ap (λ (xs : List ℕ). length xs) kept) in
         record {
           answered = rw (le-leb (length t) 32768 few, lt-leb (length t) (length out) k, whole);
-          outAfter = rw (le-leb (length t) 32768 few, lt-leb (length t) (length out) k);
+          outAfter = rw (le-leb (length t) 32768 few, lt-leb (length t) (length out) k) kept;
         }
 
-    pub text-fits : n ≤ length out → (out′ : List ℕ) (m : ℕ) → WroteAt 0 t out out′ m → Fitted t out (Picture n 0) out′
+    pub text-fits : n ≤ length (last ++ out) → (out′ : List ℕ) (m : ℕ) → WroteAt 0 t (last ++ out) out′ m → Fitted t out (Picture n 0) out′
     unfolding meant answerWith outWith fits laidAt if_then_else_
-    text-fits l out′ m w =
-        let k : length t ≤ length out = omega (arith, whole) in
+    text-fits l out′ m v =
+        let k : length t ≤ length out = omega (arith, whole, ap (λ (xs : List ℕ). length xs) kept) in
         record {
           answered = rw (le-leb (length t) 32768 few, le-leb (length t) (length out) k, whole);
-          outAfter = rw (le-leb (length t) 32768 few, le-leb (length t) (length out) k) (w .laid);
+          outAfter = rw (le-leb (length t) 32768 few, le-leb (length t) (length out) k) (v .laid ∙ ap (laidAt 0 t) kept);
         }

@@ -1,0 +1,87 @@
+use borrow.Author.Needs.{needs}
+use Rattle.formatting.proofs.write_read.Statement.{statement}
+use Rattle.formatting.proofs.write_read.Tie as tie
+use Rattle.formatting.proofs.write_read.Reads as reads
+use Rattle.formatting.proofs.write_read.Lts as lts
+use Rattle.formatting.proofs.write_fitting.Reads as write-fitting-reads
+use Rattle.reader.proofs.read.Reads as read-reads
+
+-- src/lib.rt:35:9
+returns : tie.Need-returns
+returns c = ?
+
+-- src/lib.rt:37:9
+read-requires : tie.Need-read-requires
+read-requires c κs = search needs
+
+-- src/lib.rt:39:31
+enum-known-p : tie.Need-enum-known-p
+enum-known-p c = search needs
+
+-- src/lib.rt:39:60
+sub-write-fitting : tie.Need-sub-write-fitting
+sub-write-fitting c = search needs
+
+-- src/lib.rt:39:60
+part-write-fitting-start : tie.Need-part-write-fitting-start
+part-write-fitting-start c = search needs
+
+-- src/lib.rt:39:60
+part-write-fitting-end : tie.Need-part-write-fitting-end
+part-write-fitting-end c = ?
+
+-- src/lib.rt:39:37
+write-fitting-requires : tie.Need-write-fitting-requires
+write-fitting-requires c κs = ?
+
+-- src/lib.rt:40:28
+enum-known-p-2 : tie.Need-enum-known-p-2
+enum-known-p-2 c = search needs
+
+-- src/lib.rt:30:1
+same-length : tie.Need-same-length
+same-length c = search needs
+
+-- src/lib.rt:30:1
+same-length-2 : tie.Need-same-length-2
+same-length-2 c = search needs
+
+-- src/lib.rt:30:1
+same-length-3 : tie.Need-same-length-3
+same-length-3 c = search needs
+
+-- src/lib.rt:30:1
+returns-2 : tie.Need-returns-2
+returns-2 c = ?
+
+-- src/lib.rt:30:1
+same-length-4 : tie.Need-same-length-4
+same-length-4 c = search needs
+
+-- src/lib.rt:30:1
+same-length-5 : tie.Need-same-length-5
+same-length-5 c = search needs
+
+-- src/lib.rt:30:1
+returns-3 : tie.Need-returns-3
+returns-3 c = ?
+
+pub write-read-spec : {M : Type 1} → statement M
+write-read-spec =
+    tie.close
+    (tie.spec
+    returns
+    read-requires
+    enum-known-p
+    sub-write-fitting
+    part-write-fitting-start
+    part-write-fitting-end
+    write-fitting-requires
+    enum-known-p-2
+    same-length
+    same-length-2
+    same-length-3
+    returns-2
+    same-length-4
+    same-length-5
+    returns-3)
