@@ -1,0 +1,3 @@
+mod FaithfulNames
+mod FaithfulExpressions
+mod FaithfulStatements
