@@ -1,3 +1,5 @@
 mod FaithfulNames
 mod FaithfulExpressions
 mod FaithfulStatements
+mod FaithfulTokens
+mod FaithfulProcedures

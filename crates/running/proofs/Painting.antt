@@ -25,7 +25,8 @@ use Rattle.reader.specs.declared.Program.{Program}
 use Rattle.reader.specs.declared.Program.the-variants.{Formed, Malformed}
 use Rattle.reader.specs.Reading.{formed, refused, seen, codedApart, coded, tokensIn}
 use Rattle.reader.proofs.Known.{KnownNames}
-use Rattle.reader.proofs.Walk.{Stands, stands-first, stands-rest}
+use Rattle.reader.proofs.Walk.{Stands, stands-taken, stands-behind, stands-first, stands-rest}
+use Rattle.reader.proofs.Whole.{Read, was-read}
 use Rattle.machine.specs.Opcodes.{startIn, parametersIn}
 use Rattle.machine.specs.Layout.{stepsUsed, stepsGranted, Lent}
 use Rattle.machine.specs.Act.{Raw, raw}
@@ -35,7 +36,7 @@ use Rattle.simulation.specs.Scope.{scopeOf, isIn}
 use Rattle.simulation.specs.Follows.{Grants, gives, Follows}
 use Rattle.simulation.proofs.Binding.{bind}
 use Rattle.simulation.proofs.Results.{given, failed, steps-told}
-use Rattle.simulation.proofs.Body.{Read, was-read, main-stored, main-takes, main-there, main-owns, body-follows, stands-taken, stands-behind}
+use Rattle.simulation.proofs.Body.{main-stored, main-takes, main-there, main-owns, body-follows}
 use Rattle.running.specs.declared.Ending.{Ending}
 use Rattle.running.specs.declared.Ending.the-variants.{Stopped}
 use Rattle.running.specs.Specified.{paintRead}
