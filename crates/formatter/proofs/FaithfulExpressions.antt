@@ -3,14 +3,12 @@ use Prim.Native.Nat.{ℕ, zero, suc, _+_, _-_, _*_, _/_, _%_, _≤_, _<_}
 use native.Mathlib.Omega.{arith}
 use mathlib.Core.Path.{_≡_, refl, ap, sym, _∙_, subst}
 use mathlib.Core.Logic.{_≢_}
-use mathlib.Core.Bool.{Bool, true, false, _&&_, _||_, cond}
+use mathlib.Core.Bool.{Bool, true, false, _||_}
 use mathlib.Core.List.{List, [], _∷_, _++_, append-nil, append-assoc}
 use lib.ListN.{length, getD, length-append}
 use lib.IntN.{ℤ}
-use lib.Dec.{eqb, leb, ltb}
-use borrow.Author.Tests.{lt-ltb, le-ltb, ne-eqb, le-leb, lt-leb}
-use mir.Syntax.{w32}
-use mir.Val.{toZ}
+use lib.Dec.{eqb, leb}
+use borrow.Author.Tests.{lt-ltb, le-ltb, ne-eqb, le-leb}
 use Rattle.meaning.specs.Basics.{bytes, if_then_else_}
 use Rattle.meaning.specs.Token.{Token, aName, aString}
 use Rattle.meaning.specs.Tree.{Operator, concatenate, add, subtract, multiply, divide, remainder, shiftRight, shiftLeft, equal, unequal, greater, less, Expression, number, string, nothing, truth, name, table, entry, operation, call, paren, Arguments, noArgument, argument}
@@ -18,14 +16,14 @@ use Rattle.meaning.specs.Integer.{bits, wrap}
 use Rattle.meaning.specs.Picture.{decimal}
 use Rattle.canonical.specs.Text.{commaSeparated, operatorText, isOperation, isEntry, enclosedIf, expressionText, argumentTexts}
 use Rattle.canonical.specs.Text as Text
-use Rattle.machine.specs.Opcodes.{word, tagIn, sizeIn, numberIn, placeIn, extraIn, argumentRoot, calleeIn, tagNumber, tagString, tagNone, tagTruth, tagName, tagTable, tagEntry, tagCall, tagArgument, firstOperator, tagOf}
+use Rattle.machine.specs.Opcodes.{word, tagIn, sizeIn, numberIn, argumentRoot, calleeIn, tagNumber, tagString, tagNone, tagTruth, tagName, tagTable, tagEntry, tagCall, tagArgument, firstOperator, tagOf}
 use Rattle.names.specs.Prepared.{procedureNumber}
-use Rattle.code.specs.Code.{slotOf, partOf, truthNumber, joined, codeOf, codeOfAll}
+use Rattle.code.specs.Code.{slotOf, partOf, joined, codeOf, codeOfAll}
 use Rattle.reader.proofs.Homes.{Occurs}
 use Rattle.reader.proofs.Known.{Known, KnownAll}
 use Rattle.reader.proofs.Fields.{word-told, call-slot, tag-small, code-some}
-use Rattle.reader.proofs.Walk.{Stands, Ends, Joint, Argument, stands-first, ends-word, ends-front, ends-start, ends-joined, stands-argument}
-use Rattle.formatter.specs.Raw.{Source, Writer, part, spelling, wordAt, signText, encloses, partText, pairText, leafText, argumentAfter, argumentsText, callText, expressionBy, rawExpression}
+use Rattle.reader.proofs.Walk.{Stands, Ends, ends-word, ends-front, ends-start, ends-joined, stands-argument}
+use Rattle.formatter.specs.Raw.{Source, Writer, part, spelling, signText, encloses, partText, pairText, leafText, argumentAfter, argumentsText, callText, expressionBy, rawExpression}
 
 -- slots and words spell the names and strings of some tokens
 pub record Spells (s : Source) (ts : List Token) : Type 0 where

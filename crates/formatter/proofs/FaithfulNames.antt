@@ -1,16 +1,16 @@
 -- The names and strings of a program: their slots and words say where they stand in it.
-use Prim.Native.Nat.{ℕ, zero, suc, _+_, _-_, _*_, _/_, _%_, _≤_, _<_}
+use Prim.Native.Nat.{ℕ, zero, suc, _+_, _-_, _/_, _%_, _<_}
 use native.Mathlib.Nat.{add-zero}
 use native.Mathlib.Omega.{arith}
 use mathlib.Core.Path.{_≡_, refl, ap, sym, _∙_, subst}
-use mathlib.Core.Bool.{Bool, true, false, cond}
+use mathlib.Core.Bool.{Bool, true, false}
 use mathlib.Core.List.{List, [], _∷_, _++_, map}
 use lib.ListN.{length, getD, take, drop}
 use lib.Seq.{drop-drop}
 use Rattle.meaning.specs.Basics.{bytes, if_then_else_, standsIn, span}
 use Rattle.meaning.specs.Byte.{isLetter, isDigit, isNamePart, isQuote, isSign}
 use Rattle.meaning.specs.Token.{Token, aName, aString, Front, found, nothing, front, lexed, tokensOf}
-use Rattle.meaning.specs.Grammar.{afterLast, kindAt, textAt, startAt}
+use Rattle.meaning.specs.Grammar.{afterLast, kindAt, startAt}
 use Rattle.tokens.specs.Words.{textIn}
 use Rattle.lexer.proofs.Fits.{fits}
 use Rattle.lexer.proofs.Decode.{Each, each-token}
@@ -22,7 +22,7 @@ use Rattle.reader.specs.Sane.{Sane}
 use Rattle.reader.proofs.Homes.{Occurs, occurs-found, there}
 use Rattle.reader.proofs.Known.{KnownNames}
 use Rattle.reader.proofs.Fields.{place-at, name-size-at, part-start, part-length}
-use Rattle.formatter.specs.Raw.{Source, source, part, spelling}
+use Rattle.formatter.specs.Raw.{source, part, spelling}
 
 -- ---- a name begins with a letter
 abbrev Lead : Front → Type 0

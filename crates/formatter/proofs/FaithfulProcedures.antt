@@ -6,22 +6,23 @@ use mathlib.Core.Logic.{_≢_}
 use mathlib.Core.Bool.{Bool, true, false, _||_}
 use mathlib.Core.List.{List, [], _∷_, _++_, append-assoc, map}
 use mathlib.Core.Option.{none, some}
-use lib.ListN.{length, getD, take, drop, replicate, length-append, length-map, length-replicate}
+use lib.ListN.{length, take, drop, replicate, length-map, length-replicate}
 use lib.Seq.{take-at}
-use lib.Dec.{eqb}
-use borrow.Author.Tests.{eq-eqb, ne-eqb}
+use lib.Dec.{ltb}
+use borrow.Author.Tests.{eq-eqb, ne-eqb, ltb-true, ltb-false}
 use Rattle.meaning.specs.Basics.{bytes, if_then_else_, sameText}
-use Rattle.meaning.specs.Token.{Token, aName, wordDef, lexed, tokensOf}
-use Rattle.meaning.specs.Tree.{Procedure, Program}
-use Rattle.meaning.specs.Grammar.{kindAt, textAt, procedureNamed}
+use Rattle.meaning.specs.Token.{Token, ending, aName, wordDef, lexed, tokensOf}
+use Rattle.meaning.specs.Tree.{Procedure}
+use Rattle.meaning.specs.Grammar.{kindAt, procedureNamed}
 use Rattle.meaning.specs.Procedure.{isAmong, doubled}
 use Rattle.canonical.specs.Text.{commaSeparated, statementsText, proceduresText}
 use Rattle.canonical.specs.Text as Text
-use Rattle.machine.specs.Opcodes.{tablePlace, startIn, parametersIn, bodyIn}
+use Rattle.machine.specs.Opcodes.{tablePlace}
 use Rattle.code.specs.Code.{slotOf, codeOfStatements, codeOfProcedure, codeOfProcedures, headWord, tabled, headNamed}
+use Rattle.expressions.specs.Words as Words
 use Rattle.reader.specs.Coded.{wordsOf}
 use Rattle.reader.specs.Sane.{Sane}
-use Rattle.reader.proofs.Homes.{text-same, Occurs, slot-small}
+use Rattle.reader.proofs.Homes.{text-same, Occurs, there, slot-small}
 use Rattle.reader.proofs.Fields.{is-at, name-home-at}
 use Rattle.reader.proofs.Trees.{Understood, UnderstoodAll}
 use Rattle.reader.proofs.Tables.{start-told, parameters-told, body-told, head-some, named-understood, apart, table-at, table-length, table-word}
@@ -57,7 +58,7 @@ own-from all names (f ∷ fs) d h =
     second true b e = let z : _≡_ {A = ℕ} 0 1 = cc in absurd (omega arith)
     second false b e = e
 
-own : (fs : List Procedure) → doubled [] fs ≡ none → Own fs fs
+pub own : (fs : List Procedure) → doubled [] fs ≡ none → Own fs fs
 own fs d = own-from fs [] fs d (λ x e. refl)
 
 -- ---- one procedure
@@ -107,3 +108,70 @@ module _ (program c : List ℕ) (ts : List Token) (are : tokensOf program ≡ le
       rw (start-told start n b l k, parameters-told start n b l k, body-told start n b l k, names-say f start u h, body-says f start u h,
       spells .names (f .name) (u .name), spells .apart (f .name) (u .name))
       (closing (bytes "def " ++ f .name ++ bytes "(" ++ commaSeparated (f .parameters) ++ bytes "){\n") (statementsText (f .body)))
+
+  -- ---- all procedures
+  module _ (all : List Procedure) (understood : UnderstoodAll ts all) (different : doubled [] all ≡ none) (short : length (codeOfProcedures all ts) < length ts)
+      (code : Stands c 0 (codeOfProcedures all ts)) (table : Stands c 8192 (tabled 0 all ts (replicate 8192 0))) where
+    -- the word of a name in the table
+    word-of : (x : List ℕ) → Occurs ts aName x → wordAt s (tablePlace (slotOf ts x)) ≡ headNamed 0 all ts x
+    word-of x o =
+        table-word c (tabled 0 all ts (replicate 8192 0)) table (table-length 0 all ts (replicate 8192 0) ∙ length-replicate {A = ℕ} 8192 0) (slotOf ts x)
+        (omega (arith, slot-small ts x o, sane .few))
+        ∙ table-at ts (sane .few) all understood different x o
+
+    named-says : (f : Procedure) → procedureNamed (f .name) all ≡ some f
+        → procedureBy fuel s (slotOf ts (f .name)) (wordAt s (tablePlace (slotOf ts (f .name)))) ≡ Text.procedureText f ++ bytes "\n"
+    named-says f named =
+        let u = named-understood ts all understood (f .name) f named in
+        let l = head-some 0 all ts (f .name) f named in
+        rw (word-of (f .name) (u .name) ∙ l .word) (procedure-says f (l .start) u (l .stands c code) (omega (arith, l .within, sane .few)))
+
+    -- at a `def`, and at any other token
+    def-says : {i j : ℕ} {f : Procedure} → Begins ts i f j → procedureNamed (f .name) all ≡ some f → Raw.procedureText fuel s i ≡ Text.procedureText f ++ bytes "\n"
+    unfolding Raw.procedureText if_then_else_
+    def-says {i} {j} {f} b named =
+        let home : Words.homeAt (wordsOf ts) (i + 1) ≡ slotOf ts (f .name) = name-home-at ts sane (i + 1) (b .named) ∙ ap (slotOf ts) (b .name) in
+        rw (is-at ts sane wordDef i, eq-eqb (kindAt ts i) wordDef (b .def), home) (named-says f named)
+
+    other-says : (i : ℕ) → kindAt ts i ≢ wordDef → Raw.procedureText fuel s i ≡ []
+    unfolding Raw.procedureText if_then_else_
+    other-says i n = rw (is-at ts sane wordDef i, ne-eqb (kindAt ts i) wordDef n)
+
+    -- tokens that are no `def` are passed
+    passed : (d n k i j : ℕ) → d + n ≡ k → i + d ≡ j → Free ts i j → rawProcedures fuel k s i ≡ rawProcedures fuel n s j
+    unfolding rawProcedures
+    passed zero n k i j e q f =
+        let x : k ≡ n = omega arith in
+        let y : i ≡ j = omega arith in
+        rw (x, y)
+    passed (suc d) n zero i j e q f = absurd (omega arith)
+    passed (suc d) n (suc k) i j e q f =
+        rw (other-says i (f .free i (omega arith) (omega arith)))
+        (passed d n k (i + 1) j (omega arith) (omega arith) (record { forward = omega arith; free = λ m l. f .free m (omega arith) }))
+
+    part-there : {i : ℕ} {fs : List Procedure} → Parted ts i fs → i < length ts
+    part-there (last {i = i} b e) = there ts i wordDef (omega arith) (b .def)
+    part-there (more {i = i} b p) = there ts i wordDef (omega arith) (b .def)
+
+    -- behind the last procedure there is no token
+    ended : (j : ℕ) → kindAt ts j ≡ ending → length ts ≤ j
+    ended j e = by (ltb j (length ts)) refl
+      where
+        by : (b : Bool) → ltb j (length ts) ≡ b → length ts ≤ j
+        by true q = absurd (omega (arith, kind-some program ts are j (ltb-true j (length ts) q), e))
+        by false q = ltb-false j (length ts) q
+
+    pub procedures-say : {i : ℕ} {fs : List Procedure} → Parted ts i fs → Own all fs → (n : ℕ) → i + n ≡ length ts → rawProcedures fuel n s i ≡ proceduresText fs
+    unfolding rawProcedures proceduresText
+    procedures-say (last b e) o zero q = absurd (omega (arith, part-there (last b e)))
+    procedures-say (more b p) o zero q = absurd (omega (arith, part-there (more b p)))
+    procedures-say (last {i = i} {j = j} b e) o (suc n) q =
+        let l = ended j e in
+        let rest : rawProcedures fuel n s (i + 1) ≡ [] =
+            passed n 0 n (i + 1) (length ts) (omega arith) (omega arith) (record { forward = omega arith; free = λ m k h. b .inside .free m k (omega arith) }) in
+        rw (def-says b (o .0), rest)
+    procedures-say (more {i = i} {j = j} b p) o (suc n) q =
+        let l = part-there p in
+        let f = b .inside .forward in
+        rw (def-says b (o .0), passed (j - (i + 1)) (length ts - j) n (i + 1) j (omega arith) (omega arith) (b .inside),
+        procedures-say p (o .1) (length ts - j) (omega arith))

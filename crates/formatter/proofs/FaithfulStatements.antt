@@ -1,25 +1,24 @@
 -- What is written from the code of a statement is its text.
-use Prim.Native.Nat.{ℕ, zero, suc, _+_, _-_, _*_, _/_, _%_, _≤_, _<_}
+use Prim.Native.Nat.{ℕ, zero, suc, _+_, _-_, _*_, _/_, _≤_, _<_}
 use native.Mathlib.Omega.{arith}
 use mathlib.Core.Path.{_≡_, refl, ap, sym, _∙_, subst}
-use mathlib.Core.List.{List, [], _∷_, _++_, append-nil, append-assoc}
+use mathlib.Core.List.{List, [], _++_, append-nil, append-assoc}
 use lib.ListN.{length, getD, length-append}
-use lib.Dec.{ltb}
 use borrow.Author.Tests.{lt-ltb, le-ltb}
 use Rattle.meaning.specs.Basics.{bytes, if_then_else_}
 use Rattle.meaning.specs.Token.{Token, aName}
 use Rattle.meaning.specs.Tree.{Expression, Statement, declare, assign, update, when, while, return, block, act, Statements, only, first}
 use Rattle.canonical.specs.Text.{expressionText, statementText, statementsText}
 use Rattle.canonical.specs.Text as Text
-use Rattle.machine.specs.Opcodes.{word, tagIn, sizeIn, numberIn, extraIn, sizeAt, tagDeclare, tagAssign, tagUpdate, tagWhen, tagWhile, tagReturn, tagBlock, tagAct}
+use Rattle.machine.specs.Opcodes.{word, tagIn, sizeIn, extraIn, sizeAt, tagDeclare, tagAssign, tagUpdate, tagWhen, tagWhile, tagReturn, tagBlock, tagAct}
 use Rattle.code.specs.Code.{slotOf, headed, codeOf, codeOfStatement, codeOfStatements}
 use Rattle.reader.specs.Sane.{Sane}
 use Rattle.reader.proofs.Homes.{Occurs}
 use Rattle.reader.proofs.Known.{Placed, Known, KnownStatement, KnownStatements}
-use Rattle.reader.proofs.Fields.{word-told, second-half, code-rooted, code-some, statement-headed, statement-some}
+use Rattle.reader.proofs.Fields.{word-told, second-half, code-rooted, statement-headed, statement-some}
 use Rattle.reader.proofs.Walk.{Stands, Ends, stands-front, stands-back, stands-first, stands-rest, ends-word}
-use Rattle.formatter.specs.Raw.{Source, spelling, endingIn, updateText, guardedText, rawExpression, statementBy, rawStatement, rawStatements}
-use Rattle.formatter.proofs.FaithfulExpressions.{Spells, Says, expression-says, entry-says}
+use Rattle.formatter.specs.Raw.{Source, endingIn, updateText, guardedText, rawExpression, statementBy, rawStatement, rawStatements}
+use Rattle.formatter.proofs.FaithfulExpressions.{Spells, expression-says, entry-says}
 
 module _ (s : Source) (ts : List Token) (spells : Spells s ts) (sane : Sane ts) where
   abbrev code : List ℕ

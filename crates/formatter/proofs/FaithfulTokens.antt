@@ -3,7 +3,7 @@ use Prim.Native.Nat.{ℕ, zero, suc, _+_, _-_, _≤_, _<_}
 use native.Mathlib.Omega.{arith}
 use mathlib.Core.Path.{_≡_, refl, ap, sym, _∙_, subst}
 use mathlib.Core.Logic.{_≢_}
-use mathlib.Core.Bool.{Bool, true, false, _&&_}
+use mathlib.Core.Bool.{Bool, true, false}
 use mathlib.Core.List.{List, [], _∷_}
 use mathlib.Core.Option.{Option, none, some}
 use lib.ListN.{length}
@@ -12,7 +12,7 @@ use borrow.Author.Tests.{eqb-true, ltb-true, ltb-false}
 use Rattle.meaning.specs.Basics.{bytes, if_then_else_}
 use Rattle.meaning.specs.Token.{Token, ending, aName, digits, wordDef, minus}
 use Rattle.meaning.specs.Tree.{Operator, Expression, Statement, Procedure, Program}
-use Rattle.meaning.specs.Grammar.{good, kindAt, textAt, startAt, is, expect, operatorOf, Inside, ReadExpression, argumentsFrom, arguments, primary, operand, operated, expressionIn, expression}
+use Rattle.meaning.specs.Grammar.{good, kindAt, textAt, is, expect, operatorOf, Inside, ReadExpression, argumentsFrom, arguments, primary, operand, operated, expressionIn, expression}
 use Rattle.meaning.specs.Grammar.{ReadStatement, Readers, declaration, returning, Target, variable, element, noTarget, assignment, simple, guarded, statementsFrom, statements, statementIn, statement}
 use Rattle.meaning.specs.Grammar.{parametersFrom, parameters, procedure, proceduresFrom, procedureNamed, withMain, procedures}
 use Rattle.meaning.specs.Grammar

@@ -3,3 +3,4 @@ mod FaithfulExpressions
 mod FaithfulStatements
 mod FaithfulTokens
 mod FaithfulProcedures
+pub mod Faithful
