@@ -329,8 +329,14 @@ module _ (s : Source) (ts : List Token) (spells : Spells s ts) where
       let last : x + 1 - (length cs + 1) + length cs ≡ x = omega (arith, q .last, length-append cs (w ∷ [])) in
       by-root fuel x w root
       ∙ by-call (rawExpression fuel s) s x w (told .tag-is)
-      ∙ rw (callee, spells .names f o, told .size-is, start,
-      hs fuel (x + 1 - (length cs + 1)) x (suc x) [] (omega arith) there last (rw (root, told .size-is) (omega arith)) (omega arith) (omega arith), led-comma (argumentTexts es))
+      ∙ rw (
+        callee,
+        spells .names f o,
+        told .size-is,
+        start,
+        hs fuel (x + 1 - (length cs + 1)) x (suc x) [] (omega arith) there last (rw (root, told .size-is) (omega arith)) (omega arith) (omega arith),
+        led-comma (argumentTexts es),
+      )
 
   -- ---- every expression
   mutual

@@ -46,9 +46,11 @@ own-from : (all : List Procedure) (names : List (List ℕ)) (fs : List Procedure
 unfolding procedureNamed isAmong if_then_else_
 own-from all names [] d h = tt
 own-from all names (f ∷ fs) d h =
-    let p = apart names f fs d in
-    (h (f .name) (p .new) ∙ rw (text-same (f .name)), own-from all (f .name ∷ names) fs (p .rest) λ x e.
-    h x (second (sameText (f .name) x) (isAmong x names) e) ∙ rw (first (sameText (f .name) x) (isAmong x names) e))
+    let p = apart names f fs d in (
+      h (f .name) (p .new) ∙ rw (text-same (f .name)),
+      own-from all (f .name ∷ names) fs (p .rest) λ x e.
+          h x (second (sameText (f .name) x) (isAmong x names) e) ∙ rw (first (sameText (f .name) x) (isAmong x names) e),
+    )
   where
     first : (a b : Bool) → a || b ≡ false → a ≡ false
     first true b e = e
@@ -93,7 +95,7 @@ module _ (program c : List ℕ) (ts : List Token) (are : tokensOf program ≡ le
       let slots = map (slotOf ts) (f .parameters) in
       let b = codeOfStatements (f .body) ts in
       let back : Stands c (start + length (f .parameters)) b =
-          subst (λ n. Stands c (start + n) b) (length-map (f .parameters) (slotOf ts)) (stands-back slots b h) in
+      subst (λ n. Stands c (start + n) b) (length-map (f .parameters) (slotOf ts)) (stands-back slots b h) in
       statements-tell s ts spells sane (f .body) (u .body) fuel (start + length (f .parameters)) _ (suc (length b)) small back refl
       (omega (arith, u .short, sane .few)) (omega arith)
 
@@ -105,8 +107,15 @@ module _ (program c : List ℕ) (ts : List Token) (are : tokensOf program ≡ le
       let n = length (f .parameters) in
       let b = length (codeOfStatements (f .body) ts) in
       let k : n < 65536 = omega (arith, u .short, sane .few) in
-      rw (start-told start n b l k, parameters-told start n b l k, body-told start n b l k, names-say f start u h, body-says f start u h,
-      spells .names (f .name) (u .name), spells .apart (f .name) (u .name))
+      rw (
+        start-told start n b l k,
+        parameters-told start n b l k,
+        body-told start n b l k,
+        names-say f start u h,
+        body-says f start u h,
+        spells .names (f .name) (u .name),
+        spells .apart (f .name) (u .name),
+      )
       (closing (bytes "def " ++ f .name ++ bytes "(" ++ commaSeparated (f .parameters) ++ bytes "){\n") (statementsText (f .body)))
 
   -- ---- all procedures
@@ -168,10 +177,13 @@ module _ (program c : List ℕ) (ts : List Token) (are : tokensOf program ≡ le
     procedures-say (last {i = i} {j = j} b e) o (suc n) q =
         let l = ended j e in
         let rest : rawProcedures fuel n s (i + 1) ≡ [] =
-            passed n 0 n (i + 1) (length ts) (omega arith) (omega arith) (record { forward = omega arith; free = λ m k h. b .inside .free m k (omega arith) }) in
+        passed n 0 n (i + 1) (length ts) (omega arith) (omega arith) (record { forward = omega arith; free = λ m k h. b .inside .free m k (omega arith) }) in
         rw (def-says b (o .0), rest)
     procedures-say (more {i = i} {j = j} b p) o (suc n) q =
         let l = part-there p in
         let f = b .inside .forward in
-        rw (def-says b (o .0), passed (j - (i + 1)) (length ts - j) n (i + 1) j (omega arith) (omega arith) (b .inside),
-        procedures-say p (o .1) (length ts - j) (omega arith))
+        rw (
+          def-says b (o .0),
+          passed (j - (i + 1)) (length ts - j) n (i + 1) j (omega arith) (omega arith) (b .inside),
+          procedures-say p (o .1) (length ts - j) (omega arith),
+        )

@@ -91,8 +91,14 @@ module _ (s : Source) (ts : List Token) (spells : Spells s ts) (sane : Sane ts) 
       let h = head at tagAssign p (slotOf ts x) c o (omega arith) (omega arith) q in
       let y : at + (length c + 1) - 1 ≡ at + length c = omega arith in
       by-head fuel at _ (h .root)
-      ∙ rw (h .tag-is, h .extra-is, h .size-is, y, spells .names x n,
-      expression-says s ts spells e d fuel (at + length c) (omega arith) (ends-behind at c (h .behind)) (omega arith))
+      ∙ rw (
+        h .tag-is,
+        h .extra-is,
+        h .size-is,
+        y,
+        spells .names x n,
+        expression-says s ts spells e d fuel (at + length c) (omega arith) (ends-behind at c (h .behind)) (omega arith),
+      )
 
   return-tells : (p : ℕ) (e : Expression) → Placed ts p → Known e ts → Tells (return p e)
   unfolding codeOfStatement statementText statementBy if_then_else_
@@ -134,7 +140,7 @@ module _ (s : Source) (ts : List Token) (spells : Spells s ts) (sane : Sane ts) 
       let back : y - length ce ≡ z = omega arith in
       let back₂ : z - length cb ≡ at + length ca = omega arith in
       let pair = entry-says s ts spells a b (expression-says s ts spells a i) (expression-says s ts spells b j) fuel (at + length ca) z (omega arith)
-          (ends-behind at ca sa) ends₂ (omega arith) (omega arith) in
+      (ends-behind at ca sa) ends₂ (omega arith) (omega arith) in
       by-head fuel at _ (h .root)
       ∙ rw (h .tag-is, h .size-is, n, last, size-before e y (omega arith) ends, back, size-before b z (omega arith) ends₂, back₂)
       (rw (pair, expression-says s ts spells e d fuel y (omega arith) ends (omega arith)))
