@@ -3,3 +3,9 @@ pub mod Leaves
 pub mod Expressions
 pub mod Statements
 pub mod Procedures
+mod FaithfulNames
+mod FaithfulExpressions
+mod FaithfulStatements
+mod FaithfulTokens
+mod FaithfulProcedures
+pub mod Faithful

@@ -7,17 +7,25 @@ use lib.ListN.{length, take, drop, replicate}
 use native.Mathlib.Omega.{arith}
 use borrow.Author.Tests.{le-leb, lt-leb, not-true, not-false}
 use Rattle.meaning.specs.Basics.{if_then_else_, laidOver}
+use Rattle.meaning.specs.Grammar.{reading}
 use Rattle.meaning.specs.Book.{Answer, pictured, number}
 use Rattle.meaning.specs.Call.{answer}
 use Rattle.canonical.specs.Call.{text, fits, answerWith, textAnswer, outWith, textOut}
-use Rattle.answers.specs.declared.Answer as Declared
+use Rattle.answers.specs.declared.Answer as Answered
 use Rattle.answers.specs.declared.Answer.the-variants.{Picture, Number}
 use Rattle.answers.specs.Answers.{meant}
 use Rattle.lending.specs.Lending.{enoughToRead}
 use Rattle.writing.specs.Placed.{laidAt, saturated, WroteAt}
 use Rattle.checking.specs.Checking.{calledWith, Lent, readAnswer}
-use Rattle.checking.proofs.Answered.{refused-answer, refused-work, admitted-answer, cleared-work, lent}
+use Rattle.checking.proofs.Answered.{refused-answer, refused-work, admitted-answer, cleared-work, lent, read-long, read-formed, read-malformed}
+use Rattle.reader.specs.declared.Program as Declared
+use Rattle.reader.specs.declared.Program.the-variants.{Formed, Malformed}
+use Rattle.reader.specs.Reading.{tokensIn, seen, coded, Kept}
+use Rattle.reader.proofs.Whole.{whole}
+use Rattle.formatter.specs.Raw.{source, rawText}
+use Rattle.formatter.proofs.Faithful.{tokens-counted, faithful}
 use Rattle.formatting.specs.Formatting.{Formatted, Written, Fitted}
+use Rattle.formatting.proofs.Bounded.{text-bounded}
 
 -- what is laid into nothing leaves nothing
 laid-nowhere : (t : List ℕ) → laidAt 0 t [] ≡ []
@@ -43,7 +51,7 @@ module _ (program g tokens code out : List ℕ) (ok : Bool) (e : ok ≡ enoughTo
       }
 
   module _ (t : not ok ≡ false) where
-    pub format-read : (r : Declared.Answer) (out′ : List ℕ) → Written program out r out′ → (tokens′ code′ : List ℕ) (n m : ℕ) →
+    pub format-read : (r : Answered.Answer) (out′ : List ℕ) → Written program out r out′ → (tokens′ code′ : List ℕ) (n m : ℕ) →
         n ≡ length tokens → tokens′ ≡ replicate n 0 → m ≡ length code → code′ ≡ replicate m 0 →
         Formatted (calledWith program g tokens code out) r tokens code tokens′ code′ out′
     unfolding textAnswer textOut
@@ -65,10 +73,31 @@ module _ (program out : List ℕ) where
   number-written k p e = record { answered = rw (sym e); outAfter = rw (sym e) }
 
   -- a program that was read has its text
-  pub text-written : (t : List ℕ) (r : Declared.Answer) (out′ : List ℕ) → meant (Picture 0 0) ≡ readAnswer program → t ≡ text program → Fitted t out r out′ →
+  pub text-written : (t : List ℕ) (r : Answered.Answer) (out′ : List ℕ) → meant (Picture 0 0) ≡ readAnswer program → t ≡ text program → Fitted t out r out′ →
       Written program out r out′
   unfolding meant
   text-written t r out′ e s f = record { answered = rw (sym e, sym s) (f .answered); outAfter = rw (sym e, sym s) (f .outAfter) }
+
+-- behind `reader::read`
+module _ (program words code : List ℕ) (short : length program ≤ 32768) (p : Declared.Program) (left : seen p code ≡ coded (tokensIn program) (reading program))
+    (kept : Kept p (tokensIn program) words) (d n k : ℕ) (is : p ≡ Formed d n k) where
+  pub tokens-within : 8193 ≤ length words → k ≤ length words
+  tokens-within h = omega (arith, tokens-counted program words code short p left kept d n k is)
+
+  pub raw-bounded : length (rawText (source program (take k words) code)) < 2 ^ 64
+  raw-bounded =
+      let w = whole program code d n k (ap (λ (x : Declared.Program). seen x code) (sym is) ∙ left) in
+      rw (faithful program words code short p left kept d n k is) (text-bounded program (w .0) short (w .1 .read))
+
+  pub formed-written : (out : List ℕ) (r : Answered.Answer) (out′ : List ℕ) → Fitted (rawText (source program (take k words) code)) out r out′ → Written program out r out′
+  formed-written out r out′ f = text-written program out _ r out′ (read-formed program short p code left d n k is) (faithful program words code short p left kept d n k is) f
+
+pub malformed-written : (program out code : List ℕ) → length program ≤ 32768 → (p : Declared.Program) → seen p code ≡ coded (tokensIn program) (reading program)
+    → (k i : ℕ) → p ≡ Malformed k i → Written program out (Number k i 0 0) out
+malformed-written program out code short p left k i is = number-written program out k i (read-malformed program short p code left k i is)
+
+pub long-written : (program out : List ℕ) → 32768 < length program → Written program out (Number 73 0 0 0) out
+long-written program out h = number-written program out 73 0 (read-long program h)
 
 -- ---- the ways through `write_fitting`
 -- The text t was written into an out slice of length 0, which stays empty and tells how long it is; `last ++ out` is then the out slice itself.

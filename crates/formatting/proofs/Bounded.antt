@@ -21,7 +21,11 @@ use Rattle.canonical.specs.Text.{commaSeparated, operatorText, isOperation, isE
 use Rattle.code.specs.Code.{codeOf, codeOfAll, codeOfStatement, codeOfStatements, slotOf, codeOfProcedure, codeOfProcedures}
 use Rattle.reader.proofs.Homes.{Occurs}
 use Rattle.reader.proofs.Known.{Known, KnownAll, KnownStatement, KnownStatements, KnownNames}
-use Rattle.reader.proofs.Trees.{Understood, UnderstoodAll, UnderstoodWhole}
+use Rattle.reader.proofs.Trees.{Understood, UnderstoodAll, UnderstoodWhole, procedures-understood}
+use Rattle.reader.specs.Reading.{tokensIn}
+use Rattle.reader.proofs.Lexing.{lexed-sane}
+use Rattle.reader.proofs.Whole.{Read}
+use Rattle.canonical.specs.Call.{text, textRead}
 
 -- ---- small parts
 operator-short : (o : Operator) → length (operatorText o) ≤ 2
@@ -130,7 +134,13 @@ module _ (ts : List Token) (texts : (i : ℕ) → length (textAt ts i) ≤ 32768
   procedures-short [] u = omega arith
   procedures-short (f ∷ fs) u = simp length-append (omega (arith, procedure-short f (u .0), procedures-short fs (u .1)))
 
-  -- THE LAW
-  pub text-short : (m : Program) → length ts ≤ 8192 → UnderstoodWhole ts m → length (programText m) < 2 ^ 64
+  text-short : (m : Program) → length ts ≤ 8192 → UnderstoodWhole ts m → length (programText m) < 2 ^ 64
   unfolding programText
   text-short m few u = omega (arith, procedures-short (m .procedures) (u .each), u .short)
+
+-- THE LAW
+pub text-bounded : (program : List ℕ) (m : Program) → length program ≤ 32768 → Read program (tokensIn program) m → length (text program) < 2 ^ 64
+unfolding textRead
+text-bounded program m short r =
+    let sane = lexed-sane program (tokensIn program) short (r .tokens) (r .few) in
+    rw (r .is) (text-short (tokensIn program) (sane .texts) m (r .few) (procedures-understood (tokensIn program) m (r .behind) (r .tree)))

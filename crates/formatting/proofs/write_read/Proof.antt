@@ -1,14 +1,13 @@
+-- `formatting::write_read` meets its contract: a program that is too long, one that was read, or a number and its place.
+use native.Mathlib.Omega.{arith}
 use borrow.Author.Needs.{needs}
+use Rattle.formatting.proofs.Answering.{tokens-within, raw-bounded, formed-written, malformed-written, long-written}
 use Rattle.formatting.proofs.write_read.Statement.{statement}
 use Rattle.formatting.proofs.write_read.Tie as tie
-use Rattle.formatting.proofs.write_read.Reads as reads
-use Rattle.formatting.proofs.write_read.Lts as lts
-use Rattle.formatting.proofs.write_fitting.Reads as write-fitting-reads
-use Rattle.reader.proofs.read.Reads as read-reads
 
 -- src/lib.rt:35:9
 returns : tie.Need-returns
-returns c = ?
+returns c = long-written _ _ (c .if1 .taken)
 
 -- src/lib.rt:37:9
 read-requires : tie.Need-read-requires
@@ -28,11 +27,11 @@ part-write-fitting-start c = search needs
 
 -- src/lib.rt:39:60
 part-write-fitting-end : tie.Need-part-write-fitting-end
-part-write-fitting-end c = ?
+part-write-fitting-end c = tokens-within _ _ _ (c .before .before .before .before .before .before .before .before .before .before .before .if1 .left) _ (c .before .before .before .before .before .before .before .before .read .ensures .0) (c .before .before .before .before .before .before .before .before .read .ensures .1) _ _ _ (c .before .before .p .given .1) (omega (arith, c .before .before .before .before .before .before .before .before .before .before .before .before .before .before .before .before .pre .tokensLong))
 
 -- src/lib.rt:39:37
 write-fitting-requires : tie.Need-write-fitting-requires
-write-fitting-requires c κs = ?
+write-fitting-requires c κs = raw-bounded _ _ _ (c .before .before .before .before .before .before .before .before .before .before .before .before .before .before .if1 .left) _ (c .before .before .before .before .before .before .before .before .before .before .before .read .ensures .0) (c .before .before .before .before .before .before .before .before .before .before .before .read .ensures .1) _ _ _ (c .before .before .before .before .before .p .given .1)
 
 -- src/lib.rt:40:28
 enum-known-p-2 : tie.Need-enum-known-p-2
@@ -52,7 +51,7 @@ same-length-3 c = search needs
 
 -- src/lib.rt:30:1
 returns-2 : tie.Need-returns-2
-returns-2 c = ?
+returns-2 c = formed-written _ _ _ (c .before .before .before .before .before .before .before .before .before .before .before .before .before .before .before .before .before .if1 .left) _ (c .before .before .before .before .before .before .before .before .before .before .before .before .before .before .read .ensures .0) (c .before .before .before .before .before .before .before .before .before .before .before .before .before .before .read .ensures .1) _ _ _ (c .before .before .before .before .before .before .before .before .p .given .1) _ _ _ (c .before .before .write-fitting .ensures)
 
 -- src/lib.rt:30:1
 same-length-4 : tie.Need-same-length-4
@@ -64,7 +63,7 @@ same-length-5 c = search needs
 
 -- src/lib.rt:30:1
 returns-3 : tie.Need-returns-3
-returns-3 c = ?
+returns-3 c = malformed-written _ _ _ (c .before .before .before .before .before .before .before .before .before .before .if1 .left) _ (c .before .before .before .before .before .before .before .read .ensures .0) _ _ (c .before .p2 .given .1)
 
 pub write-read-spec : {M : Type 1} → statement M
 write-read-spec =
