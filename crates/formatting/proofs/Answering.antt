@@ -102,9 +102,9 @@ long-written program out h = number-written program out 73 0 (read-long program 
 -- ---- the ways through `write_fitting`
 -- The text t was written into an out slice of length 0, which stays empty and tells how long it is; `last ++ out` is then the out slice itself.
 module _ (t out last : List ℕ) (short : length t < 2 ^ 64) (n : ℕ) (w : WroteAt 0 t [] last n) where
-  whole : n ≡ length t
+  counted : n ≡ length t
   unfolding saturated
-  whole = w .ends ∙ omega (arith, short)
+  counted = w .ends ∙ omega (arith, short)
 
   kept : last ++ out ≡ out
   kept = ap (λ (xs : List ℕ). xs ++ out) (w .laid ∙ laid-nowhere t)
@@ -112,27 +112,27 @@ module _ (t out last : List ℕ) (short : length t < 2 ^ 64) (n : ℕ) (w : Wrot
   pub text-too-long : 32768 < n → Fitted t out (Number 82 0 0 n) (last ++ out)
   unfolding meant answerWith outWith fits if_then_else_
   text-too-long h =
-      let k : 32768 < length t = omega (arith, whole) in
-      record { answered = rw (lt-leb (length t) 32768 k, whole); outAfter = rw (lt-leb (length t) 32768 k) kept }
+      let k : 32768 < length t = omega (arith, counted) in
+      record { answered = rw (lt-leb (length t) 32768 k, counted); outAfter = rw (lt-leb (length t) 32768 k) kept }
 
   module _ (h : n ≤ 32768) where
     few : length t ≤ 32768
-    few = omega (arith, whole)
+    few = omega (arith, counted)
 
     pub out-too-short : length (last ++ out) < n → Fitted t out (Number 82 0 0 n) (last ++ out)
     unfolding meant answerWith outWith fits if_then_else_
     out-too-short l =
-        let k : length out < length t = omega (arith, whole, ap (λ (xs : List ℕ). length xs) kept) in
+        let k : length out < length t = omega (arith, counted, ap (λ (xs : List ℕ). length xs) kept) in
         record {
-          answered = rw (le-leb (length t) 32768 few, lt-leb (length t) (length out) k, whole);
+          answered = rw (le-leb (length t) 32768 few, lt-leb (length t) (length out) k, counted);
           outAfter = rw (le-leb (length t) 32768 few, lt-leb (length t) (length out) k) kept;
         }
 
     pub text-fits : n ≤ length (last ++ out) → (out′ : List ℕ) (m : ℕ) → WroteAt 0 t (last ++ out) out′ m → Fitted t out (Picture n 0) out′
     unfolding meant answerWith outWith fits laidAt if_then_else_
     text-fits l out′ m v =
-        let k : length t ≤ length out = omega (arith, whole, ap (λ (xs : List ℕ). length xs) kept) in
+        let k : length t ≤ length out = omega (arith, counted, ap (λ (xs : List ℕ). length xs) kept) in
         record {
-          answered = rw (le-leb (length t) 32768 few, le-leb (length t) (length out) k, whole);
+          answered = rw (le-leb (length t) 32768 few, le-leb (length t) (length out) k, counted);
           outAfter = rw (le-leb (length t) 32768 few, le-leb (length t) (length out) k) (v .laid ∙ ap (laidAt 0 t) kept);
         }

@@ -1,6 +1,7 @@
 -- `formatting::write_read` meets its contract: a program that is too long, one that was read, or a number and its place.
 use native.Mathlib.Omega.{arith}
 use borrow.Author.Needs.{needs}
+use lib.ListN.{length-take}
 use Rattle.formatting.proofs.Answering.{tokens-within, raw-bounded, formed-written, malformed-written, long-written}
 use Rattle.formatting.proofs.write_read.Statement.{statement}
 use Rattle.formatting.proofs.write_read.Tie as tie
@@ -18,20 +19,16 @@ enum-known-p : tie.Need-enum-known-p
 enum-known-p c = search needs
 
 -- src/lib.rt:39:60
-sub-write-fitting : tie.Need-sub-write-fitting
-sub-write-fitting c = search needs
+slice-reshare-prefix-write-fitting : tie.Need-slice-reshare-prefix-write-fitting
+slice-reshare-prefix-write-fitting c = tokens-within _ _ _ (c .before .before .before .before .before .before .before .before .before .before .if1 .left) _ (c .before .before .before .before .before .before .before .read .ensures .0) (c .before .before .before .before .before .before .before .read .ensures .1) _ _ _ (c .before .p .given .1) (let a = c .before .before .before .before .before .before .tokens in omega (arith, c .before .before .before .before .before .before .before .before .before .before .before .before .before .before .before .pre .tokensLong))
 
 -- src/lib.rt:39:60
-part-write-fitting-start : tie.Need-part-write-fitting-start
-part-write-fitting-start c = search needs
-
--- src/lib.rt:39:60
-part-write-fitting-end : tie.Need-part-write-fitting-end
-part-write-fitting-end c = tokens-within _ _ _ (c .before .before .before .before .before .before .before .before .before .before .before .if1 .left) _ (c .before .before .before .before .before .before .before .before .read .ensures .0) (c .before .before .before .before .before .before .before .before .read .ensures .1) _ _ _ (c .before .before .p .given .1) (omega (arith, c .before .before .before .before .before .before .before .before .before .before .before .before .before .before .before .before .pre .tokensLong))
+slice-aggregate-write-fitting : tie.Need-slice-aggregate-write-fitting
+slice-aggregate-write-fitting c = let h = tokens-within _ _ _ (c .before .before .before .before .before .before .before .before .before .before .before .if1 .left) _ (c .before .before .before .before .before .before .before .before .read .ensures .0) (c .before .before .before .before .before .before .before .before .read .ensures .1) _ _ _ (c .before .before .p .given .1) (let a = c .before .before .before .before .before .before .before .tokens in omega (arith, c .before .before .before .before .before .before .before .before .before .before .before .before .before .before .before .before .pre .tokensLong)) in simp length-take (omega arith)
 
 -- src/lib.rt:39:37
 write-fitting-requires : tie.Need-write-fitting-requires
-write-fitting-requires c κs = raw-bounded _ _ _ (c .before .before .before .before .before .before .before .before .before .before .before .before .before .before .if1 .left) _ (c .before .before .before .before .before .before .before .before .before .before .before .read .ensures .0) (c .before .before .before .before .before .before .before .before .before .before .before .read .ensures .1) _ _ _ (c .before .before .before .before .before .p .given .1)
+write-fitting-requires c κs = raw-bounded _ _ _ (c .before .before .before .before .before .before .before .before .before .before .before .before .before .if1 .left) _ (c .before .before .before .before .before .before .before .before .before .before .read .ensures .0) (c .before .before .before .before .before .before .before .before .before .before .read .ensures .1) _ _ _ (c .before .before .before .before .p .given .1)
 
 -- src/lib.rt:40:28
 enum-known-p-2 : tie.Need-enum-known-p-2
@@ -51,7 +48,7 @@ same-length-3 c = search needs
 
 -- src/lib.rt:30:1
 returns-2 : tie.Need-returns-2
-returns-2 c = formed-written _ _ _ (c .before .before .before .before .before .before .before .before .before .before .before .before .before .before .before .before .before .if1 .left) _ (c .before .before .before .before .before .before .before .before .before .before .before .before .before .before .read .ensures .0) (c .before .before .before .before .before .before .before .before .before .before .before .before .before .before .read .ensures .1) _ _ _ (c .before .before .before .before .before .before .before .before .p .given .1) _ _ _ (c .before .before .write-fitting .ensures)
+returns-2 c = formed-written _ _ _ (c .before .before .before .before .before .before .before .before .before .before .before .before .before .before .before .before .if1 .left) _ (c .before .before .before .before .before .before .before .before .before .before .before .before .before .read .ensures .0) (c .before .before .before .before .before .before .before .before .before .before .before .before .before .read .ensures .1) _ _ _ (c .before .before .before .before .before .before .before .p .given .1) _ _ _ (c .before .before .write-fitting .ensures)
 
 -- src/lib.rt:30:1
 same-length-4 : tie.Need-same-length-4
@@ -72,9 +69,8 @@ write-read-spec =
     returns
     read-requires
     enum-known-p
-    sub-write-fitting
-    part-write-fitting-start
-    part-write-fitting-end
+    slice-reshare-prefix-write-fitting
+    slice-aggregate-write-fitting
     write-fitting-requires
     enum-known-p-2
     same-length
