@@ -151,8 +151,8 @@ nameWords (x ∷ xs) = aWord aName x ∷ nameWords xs
 
 unfoldable pub procedureWords : Procedure → List Word
 procedureWords f =
-    aWord wordDef (bytes "def") ++ aWord aName (f .name) ++ sign openParen ++ joined (nameWords (f .parameters)) ++ sign closeParen
-    ++ sign openBrace ++ statementsWords (f .body) ++ sign closeBrace
+    aWord wordDef (bytes "def") ++ aWord aName (f .name) ++ sign openParen ++ joined (nameWords (f .parameters)) ++ (sign closeParen ++ sign openBrace)
+    ++ statementsWords (f .body) ++ sign closeBrace
 
 unfoldable pub proceduresWords : List Procedure → List Word
 proceduresWords [] = []
