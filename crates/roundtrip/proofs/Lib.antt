@@ -4,3 +4,6 @@ pub mod Scanning
 pub mod Sound
 pub mod Lexes
 pub mod LexesTree
+pub mod Stands
+pub mod Kept
+pub mod Rereading
