@@ -6,7 +6,7 @@ use Rattle.canonical.specs.Bare.{bare, bareArguments}
 use Rattle.canonical.specs.Text.{isOperation, isEntry}
 use Rattle.roundtrip.proofs.Words.{parenIf, kept, keptAll}
 
-bare-paren : (b : Bool) (e : Expression) → bare (parenIf b e) ≡ bare e
+pub bare-paren : (b : Bool) (e : Expression) → bare (parenIf b e) ≡ bare e
 unfolding bare parenIf
 bare-paren true e = refl
 bare-paren false e = refl

@@ -7,3 +7,4 @@ pub mod LexesTree
 pub mod Stands
 pub mod Kept
 pub mod Rereading
+pub mod RereadingTree
