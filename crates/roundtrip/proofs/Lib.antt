@@ -8,3 +8,4 @@ pub mod Stands
 pub mod Kept
 pub mod Rereading
 pub mod RereadingTree
+pub mod RereadingProgram
