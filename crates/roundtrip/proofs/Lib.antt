@@ -9,3 +9,4 @@ pub mod Kept
 pub mod Rereading
 pub mod RereadingTree
 pub mod RereadingProgram
+pub mod Spelling
