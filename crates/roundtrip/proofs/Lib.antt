@@ -10,3 +10,5 @@ pub mod Rereading
 pub mod RereadingTree
 pub mod RereadingProgram
 pub mod Spelling
+pub mod Yields
+pub mod SoundReading
