@@ -12,3 +12,4 @@ pub mod RereadingProgram
 pub mod Spelling
 pub mod Yields
 pub mod SoundReading
+pub mod SoundTree
