@@ -175,3 +175,88 @@ module _ (ts : List Token) (spelt : (i : ℕ) → Spelt (kindAt ts i) (textAt ts
   statement-fine zero i = statement-in-fine zero noLevel closed i
   statement-fine (suc left) i =
       statement-in-fine (suc left) (level _) (opened (record { expressions = read-fine left; statements = statement-fine left })) i
+
+  -- ---- procedures
+  -- parameters, and the closing parenthesis
+  record FineNames (i : ℕ) (xs : List (List ℕ)) (j : ℕ) : Type 0 where
+    sound : NamedAll xs
+    few : i + tokens (joined (nameWords xs)) + 1 ≤ j
+
+  parameters-from-fine : (r i : ℕ) → Yields (λ xs j. FineNames i xs j) (parametersFrom r ts i)
+  unfolding parametersFrom NamedAll nameWords joined
+  parameters-from-fine zero i = fails
+  parameters-from-fine (suc r) i =
+      yields-after {Q = λ x j. Named x × (j ≡ i + 1)} _ (yields-expect _ ts i _ λ k. (spelt i .asName k, refl)) λ x j f. yields-if _ _ _
+      (λ _. yields-after _ (parameters-from-fine r (j + 1)) λ xs m g. yields (record {
+        sound = (f .0, g .sound);
+        few = let a = f .1 in let b = g .few in omega (arith, joined-tokens (aWord aName x) (nameWords xs));
+      }))
+      λ _. yields-expect _ ts j _ λ _. record { sound = (f .0, tt); few = let a = f .1 in omega arith }
+
+  parameters-fine : (i : ℕ) → Yields (λ xs j. FineNames i xs j) (parameters ts i)
+  unfolding parameters NamedAll nameWords joined
+  parameters-fine i = yields-if _ _ _ (λ _. yields (record { sound = tt; few = omega arith })) (λ _. parameters-from-fine _ i)
+
+  record FineProcedure (i : ℕ) (f : Procedure) (j : ℕ) : Type 0 where
+    sound : SoundProcedure f
+    low : statementsLevels (f .body) ≤ 64
+    few : i + tokens (procedureWords f) ≤ j
+    inside : j ≤ length ts
+
+  procedure-fine : (i : ℕ) → Yields (λ f j. FineProcedure i f j) (procedure ts i)
+  unfolding procedure procedureWords
+  procedure-fine i =
+      yields-after {Q = λ _ j. j ≡ i + 1} _ (yields-expect _ ts i _ λ _. refl) λ _ i₁ l₁.
+      yields-after {Q = λ x j. Named x × (j ≡ i₁ + 1)} _ (yields-expect _ ts i₁ _ λ k. (spelt i₁ .asName k, refl)) λ x i₂ l₂.
+      yields-after {Q = λ _ j. j ≡ i₂ + 1} _ (yields-expect _ ts i₂ _ λ _. refl) λ _ i₃ l₃.
+      yields-after _ (parameters-fine i₃) λ xs i₄ f.
+      yields-after {Q = λ _ j. j ≡ i₄ + 1} _ (yields-expect _ ts i₄ _ λ _. refl) λ _ i₅ l₅.
+      yields-after _ (statements-fine _ 64 (statement 64 ts) (statement-fine 64) i₅) λ ss i₆ g. yields (record {
+        sound = record { name = l₂ .0; parameters = f .sound; body = g .sound };
+        low = g .low;
+        few =
+            let a = f .few in
+            let b = g .few in
+            let l = l₂ .1 in
+            let w = joined (nameWords xs) in
+            omega (arith, tokens-append (w ++ (sign 41 ++ sign 123) ++ statementsWords ss) (sign 125),
+            tokens-append (w ++ (sign 41 ++ sign 123)) (statementsWords ss), tokens-append w (sign 41 ++ sign 123));
+        inside = g .inside;
+      })
+
+  pub record FineProcedures (i : ℕ) (fs : List Procedure) : Type 0 where
+    pub sound : SoundProcedures fs
+    pub low : Shallow fs
+    pub few : i + tokens (proceduresWords fs) ≤ length ts
+    pub some : (f : Procedure) × (gs : List Procedure) × (fs ≡ f ∷ gs)
+
+  procedures-fine : (r i : ℕ) → Yields (λ fs j. FineProcedures i fs) (proceduresFrom r ts i)
+  unfolding proceduresFrom SoundProcedures Shallow proceduresWords
+  procedures-fine zero i = fails
+  procedures-fine (suc r) i =
+      yields-after _ (procedure-fine i) λ f j a. yields-if _ _ _
+      (λ _. yields (record {
+        sound = (a .sound, tt);
+        low = (a .low, tt);
+        few = let p = a .few in let q = a .inside in omega (arith, tokens-append (procedureWords f) []);
+        some = (f, [], refl);
+      }))
+      λ _. yields-after _ (procedures-fine r j) λ fs m b. yields (record {
+        sound = (a .sound, b .sound);
+        low = (a .low, b .low);
+        few = let p = a .few in let q = b .few in omega (arith, tokens-append (procedureWords f) (proceduresWords fs));
+        some = (f, fs, refl);
+      })
+
+  -- THE PROGRAM
+  pub record FineProgram (m : Program) : Type 0 where
+    pub procedures : FineProcedures 0 (m .procedures)
+    pub main : procedureNamed (bytes "main") (m .procedures) ≡ some (m .main)
+
+  pub program-fine : Yields (λ m j. FineProgram m) (procedures ts)
+  unfolding procedures withMain
+  program-fine = yields-after _ (procedures-fine (suc (length ts)) 0) λ fs j a. by fs j a (procedureNamed (bytes "main") fs) refl
+    where
+      by : (fs : List Procedure) (j : ℕ) → FineProcedures 0 fs → (o : Option Procedure) → procedureNamed (bytes "main") fs ≡ o → Yields (λ m j. FineProgram m) (withMain ts fs j o)
+      by fs j a none e = fails
+      by fs j a (some m) e = yields (record { procedures = a; main = e })
