@@ -13,3 +13,6 @@ pub mod Spelling
 pub mod Yields
 pub mod SoundReading
 pub mod SoundTree
+pub mod Again
+pub mod Checks
+pub mod Proved

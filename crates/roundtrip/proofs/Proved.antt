@@ -1,0 +1,52 @@
+-- What is claimed of the text of a program, proved.
+use Prim.Native.Nat.{ℕ, _≤_}
+use native.Mathlib.Omega.{arith}
+use mathlib.Core.Path.{_≡_, refl, ap, sym, _∙_}
+use mathlib.Core.List.{List}
+use lib.ListN.{length}
+use Rattle.meaning.specs.Token.{Lexed, tokensOf}
+use Rattle.meaning.specs.Tree.{Program}
+use Rattle.meaning.specs.Grammar.{Reading, wellFormed, reading}
+use Rattle.canonical.specs.Bare.{bareProgram}
+use Rattle.canonical.specs.Text.{programText}
+use Rattle.canonical.specs.Call.{textRead, text}
+use Rattle.roundtrip.specs.Claims.{Reads, ReadsAgain, SameExactly, ItsOwnText, PassesChecking, tokenCount, FewestTokens, NoneNeedless}
+use Rattle.roundtrip.proofs.Bares.{same-text}
+use Rattle.roundtrip.proofs.Again.{known, text-of, text-few, again-read}
+use Rattle.roundtrip.proofs.Checks.{passes}
+
+pub reads-again : ReadsAgain
+reads-again p m r = again-read p m (known p m r)
+
+-- trees that one text is read as are the same
+same-tree : (a b : Program) → wellFormed a ≡ wellFormed b → a ≡ b
+same-tree a b e = cc
+
+same-bare : (p q : List ℕ) (m n : Program) → Reads p m → Reads q n → programText m ≡ programText n → bareProgram m ≡ bareProgram n
+same-bare p q m n r s e =
+    let a = reads-again p m r in
+    let b = reads-again q n s in
+    let k = same-tree (a .0) (b .0) (sym (a .1) ∙ ap reading e ∙ b .1) in
+    sym (a .2) ∙ ap bareProgram k ∙ b .2
+
+pub same-exactly : SameExactly
+same-exactly p q m n r s = (same-bare p q m n r s, same-text m n)
+
+pub its-own-text : ItsOwnText
+unfolding textRead
+its-own-text p m r =
+    let a = reads-again p m r in
+    ap textRead (a .1) ∙ same-text (a .0) m (a .2)
+
+pub passes-checking : PassesChecking
+passes-checking = passes
+
+-- the tokens of a program that is read, and of its text
+count-of : (p : List ℕ) (m : Program) → Reads p m → tokenCount (tokensOf (programText m)) ≤ tokenCount (tokensOf p)
+unfolding tokenCount
+count-of p m r =
+    let k = known p m r in
+    rw (text-of p m k .lexes, k .lexes) (text-few p m k)
+
+pub fewest-tokens : FewestTokens
+fewest-tokens p q m n r s e = rw (← same-text n m e) (count-of q n s)
