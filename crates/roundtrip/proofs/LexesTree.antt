@@ -23,7 +23,7 @@ use Rattle.roundtrip.proofs.Sound.{Spelled, Named, Written, Sound, Soun
 use Rattle.roundtrip.proofs.Lexes.{Lexes, lexes-append, lexes-nothing, lexes-space, lexes-then, lexes-one, lexes-word, lexes-name, lexes-digits, lexes-string, lexes-sign, lexes-mark, lexes-negative}
 
 -- all classes of bytes at once
-unfoldable classes : Unit {0}
+unfoldable pub classes : Unit {0}
 unfolding isSpace isLetter isDigit isNamePart isQuote isSign standsIn
 classes = tt
 
@@ -73,10 +73,10 @@ first-digit n = by (digitsOf n) refl (digits-digitsOf n)
 
 -- ---- signs
 -- a sign of one byte, which begins no other
-loneSign : ℕ → Bool
+unfoldable pub loneSign : ℕ → Bool
 loneSign b = not (isSpace b) && not (isLetter b) && not (isDigit b) && not (isQuote b) && isSign b && not (eqb b 33)
 
-lone : (b : ℕ) → loneSign b ≡ true → Lone b
+pub lone : (b : ℕ) → loneSign b ≡ true → Lone b
 unfolding loneSign
 lone b e =
     let f = and-eq-true-iff (not (isSpace b) && not (isLetter b) && not (isDigit b) && not (isQuote b) && isSign b) (not (eqb b 33)) .0 e in
@@ -94,7 +94,7 @@ lone b e =
     }
 
 -- all at once
-unfoldable signs : Unit {0}
+unfoldable pub signs : Unit {0}
 unfolding classes loneSign
 signs = tt
 

@@ -16,3 +16,4 @@ pub mod SoundTree
 pub mod Again
 pub mod Checks
 pub mod Proved
+pub mod Weights

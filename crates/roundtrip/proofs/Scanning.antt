@@ -24,11 +24,11 @@ abbrev pub AllPass : (ℕ → Bool) → List ℕ → Type 0
 AllPass f [] = Unit {0}
 AllPass f (b ∷ bs) = (f b ≡ true) × AllPass f bs
 
-letter-no-space : (b : ℕ) → isLetter b ≡ true → isSpace b ≡ false
+pub letter-no-space : (b : ℕ) → isLetter b ≡ true → isSpace b ≡ false
 unfolding isSpace isLetter
 letter-no-space b e = rw (differs isLetter b 32 e refl, differs isLetter b 9 e refl, differs isLetter b 10 e refl)
 
-digit-no-space : (b : ℕ) → isDigit b ≡ true → isSpace b ≡ false
+pub digit-no-space : (b : ℕ) → isDigit b ≡ true → isSpace b ≡ false
 unfolding isSpace isDigit
 digit-no-space b e = rw (differs isDigit b 32 e refl, differs isDigit b 9 e refl, differs isDigit b 10 e refl)
 
@@ -65,7 +65,7 @@ unfolding front if_then_else_
 name-front b x r l h k = rw (l, span-all isNamePart (b ∷ x) r h k, take-front x r)
 
 -- digits
-digit-no-letter : (b : ℕ) → isDigit b ≡ true → isLetter b ≡ false
+pub digit-no-letter : (b : ℕ) → isDigit b ≡ true → isLetter b ≡ false
 unfolding isDigit isLetter
 digit-no-letter b e =
     let small = leb-true b 57 (and-eq-true-iff (leb 48 b) (leb b 57) .0 e .1) in
