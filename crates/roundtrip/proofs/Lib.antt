@@ -17,3 +17,4 @@ pub mod Again
 pub mod Checks
 pub mod Proved
 pub mod Weights
+pub mod Separating

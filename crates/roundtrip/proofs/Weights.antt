@@ -21,7 +21,7 @@ sized nothing = none
 
 -- ---- weights
 -- a space; a byte that begins no token; a token of n bytes
-unfoldable weighAt : Bool → Option ℕ → ℕ → (ℕ → ℕ) → ℕ
+unfoldable pub weighAt : Bool → Option ℕ → ℕ → (ℕ → ℕ) → ℕ
 weighAt true o s t = s
 weighAt false none s t = suc s
 weighAt false (some n) s t = suc (t (n - 1))
@@ -34,7 +34,7 @@ weigh (suc k) (b ∷ bs) = weigh k bs
 weigh zero (b ∷ bs) = weighAt (isSpace b) (sized (front (b ∷ bs))) (weigh 0 bs) (λ k. weigh k bs)
 
 -- a token begins at each byte that is no white space and no part of a token
-abbrev CleanAt : Bool → Option ℕ → Type 0 → (ℕ → Type 0) → Type 0
+abbrev pub CleanAt : Bool → Option ℕ → Type 0 → (ℕ → Type 0) → Type 0
 CleanAt true o s t = s
 CleanAt false none s t = ⊥
 CleanAt false (some n) s t = t (n - 1)
@@ -80,7 +80,7 @@ pub data Class (b : ℕ) : Type 0 where
   sign : isLetter b ≡ false → isDigit b ≡ false → isQuote b ≡ false → isSign b ≡ true → Class b
   other : isLetter b ≡ false → isDigit b ≡ false → isQuote b ≡ false → isSign b ≡ false → Class b
 
-classify : (b : ℕ) → Class b
+pub classify : (b : ℕ) → Class b
 classify b = by (isLetter b) refl (isDigit b) refl (isQuote b) refl (isSign b) refl
   where
     by : (l : Bool) → isLetter b ≡ l → (d : Bool) → isDigit b ≡ d → (q : Bool) → isQuote b ≡ q → (s : Bool) → isSign b ≡ s → Class b
@@ -91,10 +91,10 @@ classify b = by (isLetter b) refl (isDigit b) refl (isQuote b) refl (isSign b) r
     by false l false e false f false g = other l e f g
 
 -- a string's size, and a sign's
-abbrev stringSize : List ℕ → Option ℕ
+abbrev pub stringSize : List ℕ → Option ℕ
 stringSize w = cond (isLetter (getD w 0 0) && isQuote (getD w (span isNamePart w) 0)) (some (span isNamePart w + 2)) none
 
-abbrev signSize : ℕ → ℕ → Option ℕ
+abbrev pub signSize : ℕ → ℕ → Option ℕ
 signSize b c = cond (isDouble b c) (some 2) (cond (eqb b 33) none (some 1))
 
 string-sized : (w : List ℕ) → sized (foundString w) ≡ stringSize w
@@ -122,22 +122,22 @@ part-digit : (b : ℕ) → isDigit b ≡ true → isNamePart b ≡ true
 unfolding isNamePart
 part-digit b e = rw (digit-no-letter b e, e)
 
-sized-letter : (b : ℕ) (bs : List ℕ) → isLetter b ≡ true → sized (front (b ∷ bs)) ≡ some (suc (span isNamePart bs))
+pub sized-letter : (b : ℕ) (bs : List ℕ) → isLetter b ≡ true → sized (front (b ∷ bs)) ≡ some (suc (span isNamePart bs))
 unfolding front sized if_then_else_ span
 sized-letter b bs l = rw (l, part-letter b l)
 
-sized-digit : (b : ℕ) (bs : List ℕ) → isDigit b ≡ true → sized (front (b ∷ bs)) ≡ some (suc (span isDigit bs))
+pub sized-digit : (b : ℕ) (bs : List ℕ) → isDigit b ≡ true → sized (front (b ∷ bs)) ≡ some (suc (span isDigit bs))
 unfolding front sized if_then_else_ span
 sized-digit b bs d = rw (digit-no-letter b d, d)
 
-sized-quote : (b : ℕ) (bs : List ℕ) → isLetter b ≡ false → isDigit b ≡ false → isQuote b ≡ true → sized (front (b ∷ bs)) ≡ stringSize bs
+pub sized-quote : (b : ℕ) (bs : List ℕ) → isLetter b ≡ false → isDigit b ≡ false → isQuote b ≡ true → sized (front (b ∷ bs)) ≡ stringSize bs
 unfolding front if_then_else_
 sized-quote b bs l d q = rw (l, d, q) (string-sized bs)
 
-sized-sign : (b : ℕ) (bs : List ℕ) → isLetter b ≡ false → isDigit b ≡ false → isQuote b ≡ false → isSign b ≡ true → sized (front (b ∷ bs)) ≡ signSize b (getD bs 0 0)
+pub sized-sign : (b : ℕ) (bs : List ℕ) → isLetter b ≡ false → isDigit b ≡ false → isQuote b ≡ false → isSign b ≡ true → sized (front (b ∷ bs)) ≡ signSize b (getD bs 0 0)
 unfolding front if_then_else_
 sized-sign b bs l d q s = rw (l, d, q, s) (sign-sized b (getD bs 0 0))
 
-sized-other : (b : ℕ) (bs : List ℕ) → isLetter b ≡ false → isDigit b ≡ false → isQuote b ≡ false → isSign b ≡ false → sized (front (b ∷ bs)) ≡ none
+pub sized-other : (b : ℕ) (bs : List ℕ) → isLetter b ≡ false → isDigit b ≡ false → isQuote b ≡ false → isSign b ≡ false → sized (front (b ∷ bs)) ≡ none
 unfolding front sized if_then_else_
 sized-other b bs l d q s = rw (l, d, q, s)
