@@ -18,3 +18,4 @@ pub mod Checks
 pub mod Proved
 pub mod Weights
 pub mod Separating
+pub mod Joining

@@ -114,11 +114,11 @@ sign-sized b c = by (isDouble b c) (eqb b 33)
     by false true = refl
     by false false = refl
 
-part-letter : (b : ℕ) → isLetter b ≡ true → isNamePart b ≡ true
+pub part-letter : (b : ℕ) → isLetter b ≡ true → isNamePart b ≡ true
 unfolding isNamePart
 part-letter b e = rw e
 
-part-digit : (b : ℕ) → isDigit b ≡ true → isNamePart b ≡ true
+pub part-digit : (b : ℕ) → isDigit b ≡ true → isNamePart b ≡ true
 unfolding isNamePart
 part-digit b e = rw (digit-no-letter b e, e)
 
