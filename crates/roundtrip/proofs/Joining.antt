@@ -180,3 +180,70 @@ extended-run f x u v n h k e = by (ltb (span f u) (length u)) refl
     by false l =
         let s = span-over f u v (ltb-false (span f u) (length u) l) in
         longer (suc (span f (u ++ v))) (h (u ++ v)) (rw (weigh-past u v (suc (span f (u ++ v)) - 1) (span f v) (omega arith)) k)
+
+getD-first : (u v : List ℕ) → 0 < length u → getD (u ++ v) 0 0 ≡ getD u 0 0
+getD-first [] v l = absurd (omega arith)
+getD-first (b ∷ u) v l = refl
+
+-- a string ends where it did
+string-same : (u v : List ℕ) (n : ℕ) → stringSize u ≡ some n → stringSize (u ++ v) ≡ some n
+string-same u v n e = by (isLetter (getD u 0 0) && isQuote (getD u (span isNamePart u) 0)) refl e
+  where
+    by : (t : Bool) → isLetter (getD u 0 0) && isQuote (getD u (span isNamePart u) 0) ≡ t → cond t (some (span isNamePart u + 2)) none ≡ some n → stringSize (u ++ v) ≡ some n
+    by true k e =
+        let l = quote-inside u (span isNamePart u) (and-eq-true-iff (isLetter (getD u 0 0)) (isQuote (getD u (span isNamePart u) 0)) .0 k .1) in
+        rw (span-inside isNamePart u v l, getD-first u v (omega arith), List·getD-append u v 0 (span isNamePart u) l, k) e
+    by false k e = let z : _≡_ {A = ℕ} 0 1 = cc in absurd (omega arith)
+
+-- a sign at the end may become one of two bytes
+sign-extended : (x : ℕ) (u v : List ℕ) (n : ℕ) → ((w : List ℕ) → sized (front (x ∷ w)) ≡ signSize x (getD w 0 0)) → signSize x (getD u 0 0) ≡ some n → Extended x u v n
+sign-extended x (b ∷ u) v n h e = same (h (b ∷ u ++ v) ∙ e)
+sign-extended x [] v n h e = by (isDouble x (getD v 0 0)) refl (eqb x 33) refl
+  where
+    alone : (s : Bool) → eqb x 33 ≡ s → cond (isDouble x 0) (some 2) (cond s none (some 1)) ≡ some n → (s ≡ false) × (n ≡ 1)
+    alone true k e =
+        let d = stop-end .noSecond x in
+        let w : none ≡ some n = rw d at e in
+        let z : _≡_ {A = ℕ} 0 1 = cc in
+        absurd (omega arith)
+    alone false k e =
+        let d = stop-end .noSecond x in
+        let w : some 1 ≡ some n = rw d at e in
+        (refl, cc)
+
+    by : (t : Bool) → isDouble x (getD v 0 0) ≡ t → (s : Bool) → eqb x 33 ≡ s → Extended x [] v n
+    by true d s k =
+        let a = alone (eqb x 33) refl e in
+        longer 2 (h v ∙ rw d) (double-fewer x v (a .0) d)
+    by false d s k =
+        let a = alone (eqb x 33) refl e in
+        same (h v ∙ rw (d, a .0, a .1))
+
+extended : (x : ℕ) (u v : List ℕ) (n : ℕ) → sized (front (x ∷ u)) ≡ some n → Extended x u v n
+extended x u v n e = by (classify x)
+  where
+    by : Class x → Extended x u v n
+    by (letter l) = extended-run isNamePart x u v n (λ w. sized-letter x w l) (parts-fewer v) e
+    by (digit l d) = extended-run isDigit x u v n (λ w. sized-digit x w d) (digits-fewer v) e
+    by (quote l d q) = same (sized-quote x (u ++ v) l d q ∙ string-same u v n (sym (sized-quote x u l d q) ∙ e))
+    by (sign l d q g) = sign-extended x u v n (λ w. sized-sign x w l d q g) (sym (sized-sign x u l d q g) ∙ e)
+    by (other l d q g) = let k = sized-other x u l d q g in let z : _≡_ {A = ℕ} 0 1 = cc in absurd (omega arith)
+
+-- ---- bytes behind bytes
+pub together : (v u : List ℕ) (k : ℕ) → k ≤ length u → Clean k u → weigh k (u ++ v) ≤ weigh k u + weigh 0 v
+unfolding weigh weighAt
+together v [] (suc k) l c = absurd (omega arith)
+together v [] zero l c = omega arith
+together v (x ∷ u) (suc k) l c = together v u k (omega arith) c
+together v (x ∷ u) zero l c = by (isSpace x) (sized (front (x ∷ u))) refl c (together v u)
+  where
+    by : (t : Bool) (o : Option ℕ) → sized (front (x ∷ u)) ≡ o → CleanAt t o (Clean 0 u) (λ k. Clean k u) →
+        ((k : ℕ) → k ≤ length u → Clean k u → weigh k (u ++ v) ≤ weigh k u + weigh 0 v) →
+        weighAt t (sized (front (x ∷ (u ++ v)))) (weigh 0 (u ++ v)) (λ k. weigh k (u ++ v)) ≤ weighAt t o (weigh 0 u) (λ k. weigh k u) + weigh 0 v
+    by true o e d f = f 0 (omega arith) d
+    by false none e d f = absurd d
+    by false (some n) e d f = also (extended x u v n e)
+      where
+        also : Extended x u v n → weighAt false (sized (front (x ∷ (u ++ v)))) (weigh 0 (u ++ v)) (λ k. weigh k (u ++ v)) ≤ suc (weigh (n - 1) u) + weigh 0 v
+        also (same k) = rw k (omega (arith, f (n - 1) (size-bound x u n e) d))
+        also (longer m k w) = rw k (omega arith)
