@@ -15,7 +15,8 @@ pub mod SoundReading
 pub mod SoundTree
 pub mod Again
 pub mod Checks
-pub mod Proved
 pub mod Weights
 pub mod Separating
 pub mod Joining
+pub mod Needless
+pub mod Proved

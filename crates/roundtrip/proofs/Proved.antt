@@ -2,9 +2,9 @@
 use Prim.Native.Nat.{ℕ, _≤_}
 use native.Mathlib.Omega.{arith}
 use mathlib.Core.Path.{_≡_, refl, ap, sym, _∙_}
-use mathlib.Core.List.{List}
+use mathlib.Core.List.{List, _++_}
 use lib.ListN.{length}
-use Rattle.meaning.specs.Token.{Lexed, tokensOf}
+use Rattle.meaning.specs.Token.{Lexed, lexed, tokensOf}
 use Rattle.meaning.specs.Tree.{Program}
 use Rattle.meaning.specs.Grammar.{Reading, wellFormed, reading}
 use Rattle.canonical.specs.Bare.{bareProgram}
@@ -14,6 +14,7 @@ use Rattle.roundtrip.specs.Claims.{Reads, ReadsAgain, SameExactly, ItsOw
 use Rattle.roundtrip.proofs.Bares.{same-text}
 use Rattle.roundtrip.proofs.Again.{known, text-of, text-few, again-read}
 use Rattle.roundtrip.proofs.Checks.{passes}
+use Rattle.roundtrip.proofs.Needless.{fewer}
 
 pub reads-again : ReadsAgain
 reads-again p m r = again-read p m (known p m r)
@@ -50,3 +51,12 @@ count-of p m r =
 
 pub fewest-tokens : FewestTokens
 fewest-tokens p q m n r s e = rw (← same-text n m e) (count-of q n s)
+
+pub none-needless : NoneNeedless
+unfolding tokenCount
+none-needless p m n a b c r e s same =
+    let t = text-of p m (known p m r) in
+    let k = known (a ++ b ++ c) n s in
+    let l = fewer a b c (t .tokens) (k .tokens) (ap tokensOf (sym e) ∙ t .lexes) (k .lexes) in
+    let f : length (t .tokens) ≤ length (k .tokens) = rw (t .lexes, k .lexes) at (fewest-tokens p (a ++ b ++ c) m n r s same) in
+    omega arith
