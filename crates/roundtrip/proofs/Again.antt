@@ -1,22 +1,22 @@
 -- The text of a program is read as the program's tree, in no more tokens than the program has.
-use Prim.Native.Nat.{ℕ, _+_, _≤_}
+use Prim.Native.Nat.{ℕ, _≤_}
 use native.Mathlib.Omega.{arith}
 use mathlib.Core.Path.{_≡_, refl, ap, sym, _∙_, subst}
 use mathlib.Core.Bool.{Bool, true, false}
-use mathlib.Core.List.{List, [], _∷_, _++_, append-nil}
+use mathlib.Core.List.{List, [], _∷_, append-nil}
 use lib.ListN.{length}
 use lib.Dec.{ltb}
 use borrow.Author.Tests.{ltb-false, le-ltb}
-use Rattle.meaning.specs.Basics.{bytes, if_then_else_}
+use Rattle.meaning.specs.Basics.{if_then_else_}
 use Rattle.meaning.specs.Token.{Token, Lexed, lexed, stray, prepend, scan, tokensOf}
-use Rattle.meaning.specs.Grammar.{Got, good, wrong, startAt, procedures, Reading, wellFormed, malformed, readOf, parsed, reading}
-use Rattle.meaning.specs.Tree.{Program, Procedure}
+use Rattle.meaning.specs.Grammar.{Got, good, wrong, startAt, procedures, wellFormed, malformed, readOf, parsed, reading}
+use Rattle.meaning.specs.Tree.{Program}
 use Rattle.canonical.specs.Bare.{bareProgram}
 use Rattle.canonical.specs.Text.{proceduresText, programText}
 use Rattle.roundtrip.specs.Claims.{Reads}
 use Rattle.roundtrip.proofs.Words.{tokens, proceduresWords}
 use Rattle.roundtrip.proofs.Sound.{SoundProcedures}
-use Rattle.roundtrip.proofs.Lexes.{Spell, prependAll, Lexing}
+use Rattle.roundtrip.proofs.Lexes.{Spell, prependAll}
 use Rattle.roundtrip.proofs.LexesTree.{lexes-procedures}
 use Rattle.roundtrip.proofs.Stands.{Stands, spell-stands, spell-length}
 use Rattle.roundtrip.proofs.RereadingProgram.{Shallow, AgainProgram, again-program}
@@ -97,6 +97,6 @@ again-read p m k =
     let e = some .2 in
     let s : Stands (t .tokens) 0 (proceduresWords (m .procedures)) (length (t .tokens)) = spell-stands (t .tokens) (t .tokens) 0 (length (t .tokens)) (t .spells) refl (omega arith) in
     let a = again-program (t .tokens) m (some .0) (some .1) e (f .main) (subst SoundProcedures e (f .procedures .sound)) (subst Shallow e (f .procedures .low))
-            (subst (λ fs. Stands (t .tokens) 0 (proceduresWords fs) (length (t .tokens))) e s) in
+    (subst (λ fs. Stands (t .tokens) 0 (proceduresWords fs) (length (t .tokens))) e s) in
     let l = k .few in
     (a .tree, again-known m t (omega (arith, text-few p m k)) a, a .same)

@@ -1,7 +1,5 @@
 -- The text of a tree is that of the tree without parentheses and places.
-use Prim.Native.Nat.{ℕ}
 use mathlib.Core.Path.{_≡_, refl, ap, sym, _∙_}
-use mathlib.Core.Bool.{Bool, true, false, _||_}
 use mathlib.Core.List.{List, [], _∷_, map}
 use Rattle.meaning.specs.Tree.{Expression, number, string, nothing, truth, name, table, entry, operation, call, paren, Arguments, noArgument, argument, Statement, declare, assign, update, when, while, return, block, act, Statements, only, first, Procedure, Program}
 use Rattle.canonical.specs.Bare.{bare, bareArguments, bareStatement, bareStatements, bareProcedure, bareProgram}
@@ -35,6 +33,7 @@ bare-entry (paren e) = bare-entry e
 
 mutual
   unfolding bare expressionText
+
   expression-text : (e : Expression) → expressionText (bare e) ≡ expressionText e
   expression-text (number z) = refl
   expression-text (string t) = refl
@@ -53,6 +52,7 @@ mutual
 
 mutual
   unfolding bareStatement statementText expressionText
+
   statement-text : (s : Statement) → statementText (bareStatement s) ≡ statementText s
   statement-text (declare p x) = refl
   statement-text (assign p x e) = rw (expression-text e)

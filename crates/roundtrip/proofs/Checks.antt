@@ -1,5 +1,5 @@
 -- A call of checking answers by whether its program is too long, by its reading, and by the names of its procedures.
-use Prim.Native.Nat.{ℕ, suc, _≤_}
+use Prim.Native.Nat.{ℕ, _≤_}
 use native.Mathlib.Omega.{arith}
 use mathlib.Core.Path.{_≡_, refl, ap, ap₂, sym, _∙_}
 use mathlib.Core.Bool.{Bool, true, false, _||_}
@@ -13,10 +13,10 @@ use Rattle.meaning.specs.Tree.{Procedure, Program}
 use Rattle.meaning.specs.Grammar.{Reading, wellFormed, malformed, reading}
 use Rattle.meaning.specs.Library.{libraryOf}
 use Rattle.meaning.specs.Procedure.{isAmong, inLibrary, doubled}
-use Rattle.meaning.specs.Run.{Action, Run, goOn, _>>=_, _>>_, give, fail, refuse}
+use Rattle.meaning.specs.Run.{Run, goOn, _>>=_, _>>_, give, fail, refuse}
 use Rattle.meaning.specs.Program.{Outcome, accepted, checking, empty, sized, namedApart, understood, performing, specified}
 use Rattle.meaning.specs.Book.{Amounts, Answer, pictured, number, book, settled, answerTo, booked}
-use Rattle.meaning.specs.Call.{Call, admitted, needed, grantedTo, runOf, answer}
+use Rattle.meaning.specs.Call.{Call, admitted, grantedTo, runOf, answer}
 use Rattle.canonical.specs.Bare.{bareProcedure, bareProgram}
 use Rattle.canonical.specs.Text.{programText}
 use Rattle.canonical.specs.Call.{textRead, text}
@@ -104,6 +104,6 @@ passes c e l s a short =
     let r = again-read (c .program) (p .tree) (known (c .program) (p .tree) (p .reads)) in
     let t : text (c .program) ≡ programText (p .tree) = ap textRead (p .reads) in
     let one : answer (asking (text (c .program)) c) ≡ answered (admitted c) (grantedTo c) false (wellFormed (r .0)) =
-            asked c (text (c .program)) (r .0) e short (ap reading t ∙ r .1) in
+    asked c (text (c .program)) (r .0) e short (ap reading t ∙ r .1) in
     let two : answer c ≡ answered (admitted c) (grantedTo c) false (wellFormed (p .tree)) = answer-is c e ∙ ap₂ (answered (admitted c) (grantedTo c)) (p .short) (p .reads) in
     one ∙ same-answer (admitted c) (grantedTo c) (r .0) (p .tree) (same-apart (p .tree) (r .0) (r .2) (p .apart)) (p .apart) ∙ sym two

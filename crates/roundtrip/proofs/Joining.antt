@@ -9,12 +9,12 @@ use lib.ListN.{length, getD, List·getD-append}
 use lib.Dec.{eqb, ltb}
 use borrow.Author.Tests.{eqb-true, ltb-true, ltb-false}
 use Rattle.meaning.specs.Basics.{bytes, if_then_else_, standsIn, span}
-use Rattle.meaning.specs.Byte.{isSpace, isLetter, isDigit, isNamePart, isQuote, isSign}
+use Rattle.meaning.specs.Byte.{isSpace, isLetter, isDigit, isNamePart, isQuote}
 use Rattle.meaning.specs.Token.{isDouble, front}
-use Rattle.roundtrip.proofs.Scanning.{Lone, letter-no-space, digit-no-space, digit-no-letter}
+use Rattle.roundtrip.proofs.Scanning.{Lone, letter-no-space, digit-no-space}
 use Rattle.roundtrip.proofs.LexesTree.{lone, signs}
-use Rattle.roundtrip.proofs.Weights.{sized, weighAt, weigh, CleanAt, Clean, Class, letter, digit, quote, sign, other, classify, stringSize, signSize, sized-letter, sized-digit, sized-quote, sized-sign, sized-other, part-letter, part-digit}
-use Rattle.roundtrip.proofs.Separating.{span-le, stop-end, quote-inside, size-bound}
+use Rattle.roundtrip.proofs.Weights.{sized, weighAt, weigh, CleanAt, Clean, Class, letter, digit, quote, sign, other, classify, stringSize, signSize, sized-letter, sized-digit, sized-quote, sized-sign, sized-other}
+use Rattle.roundtrip.proofs.Separating.{stop-end, quote-inside, size-bound}
 
 -- ---- without the rest of a name, or of digits
 weigh-token : (b : ℕ) (v : List ℕ) (n : ℕ) → isSpace b ≡ false → sized (front (b ∷ v)) ≡ some (suc n) → weigh 0 (b ∷ v) ≡ suc (weigh n v)

@@ -13,6 +13,7 @@ bare-paren false e = refl
 
 mutual
   unfolding bare kept
+
   pub bare-kept : (e : Expression) → bare (kept e) ≡ bare e
   bare-kept (number z) = refl
   bare-kept (string t) = refl

@@ -2,18 +2,14 @@
 use Prim.Native.Nat.{ℕ, suc, _+_}
 use native.Mathlib.Omega.{arith}
 use mathlib.Core.Path.{_≡_, refl, ap, sym, _∙_, subst}
-use mathlib.Core.Bool.{Bool, true, false, _&&_, _||_, cond}
+use mathlib.Core.Bool.{Bool, true, false, _||_}
 use mathlib.Core.List.{List, [], _∷_, _++_, append-assoc, append-nil}
 use lib.ListN.{length, getD, length-append}
-use lib.Dec.{eqb}
-use borrow.Author.Tests.{eqb-true}
-use Rattle.meaning.specs.Basics.{bytes, if_then_else_, standsIn, span}
+use Rattle.meaning.specs.Basics.{bytes, if_then_else_, standsIn}
 use Rattle.meaning.specs.Byte.{isSpace, isLetter, isDigit, isNamePart, isQuote, isSign}
-use Rattle.meaning.specs.Token.{Token, Front, found, nothing, Lexed, lexed, stray, aString, digits, minus, wordKind, doubled, isDouble, front, prepend, starting, scan}
-use Rattle.meaning.specs.Tree.{Operator, concatenate, add, subtract, multiply, divide, remainder, shiftRight, shiftLeft, equal, unequal, greater, less}
-use Rattle.canonical.specs.Text.{operatorText}
-use Rattle.roundtrip.proofs.Words.{Word, plain, negative, sign, aWord, operatorKind}
-use Rattle.roundtrip.proofs.Scanning.{AllPass, differs, Lone, never-double, not-double, scan-found, scan-name, scan-digits, scan-sign, scan-string}
+use Rattle.meaning.specs.Token.{Token, Lexed, aString, digits, minus, wordKind, isDouble, prepend, scan}
+use Rattle.roundtrip.proofs.Words.{Word, plain, negative, sign, aWord}
+use Rattle.roundtrip.proofs.Scanning.{AllPass, Lone, never-double, scan-name, scan-digits, scan-sign, scan-string}
 use Rattle.roundtrip.proofs.Sound.{Spelled, Named}
 
 -- tokens that have these kinds and texts
@@ -48,18 +44,19 @@ pub record Lexes (ws : List Word) (t r : List ℕ) : Type 0 where
 
 -- one text behind another
 pub lexes-append : {ws vs : List Word} {t u r : List ℕ} → Lexes ws t (u ++ r) → Lexes vs u r → Lexes (ws ++ vs) (t ++ u) r
-lexes-append {ws} {vs} {t} {u} {r} h k = record { at = λ p.
-    let a = h .at p in
-    let b = k .at (p + length t) in
-    record {
-      tokens = a .tokens ++ b .tokens;
-      spells = spell-append (a .spells) (b .spells);
-      scanned =
-          ap (scan 0 p) (append-assoc t u r) ∙ a .scanned ∙ ap (prependAll (a .tokens)) (b .scanned)
-          ∙ sym (prependAll-append (a .tokens) (b .tokens) (scan 0 (p + length t + length u) r))
-          ∙ ap (λ (n : ℕ). prependAll (a .tokens ++ b .tokens) (scan 0 n r)) (omega (arith, length-append t u))
-    }
-  }
+lexes-append {ws} {vs} {t} {u} {r} h k = record {
+  at = λ p.
+      let a = h .at p in
+      let b = k .at (p + length t) in
+      record {
+        tokens = a .tokens ++ b .tokens;
+        spells = spell-append (a .spells) (b .spells);
+        scanned =
+            ap (scan 0 p) (append-assoc t u r) ∙ a .scanned ∙ ap (prependAll (a .tokens)) (b .scanned)
+            ∙ sym (prependAll-append (a .tokens) (b .tokens) (scan 0 (p + length t + length u) r))
+            ∙ ap (λ (n : ℕ). prependAll (a .tokens ++ b .tokens) (scan 0 n r)) (omega (arith, length-append t u));
+      };
+}
 
 -- nothing, and white space
 pub lexes-nothing : {r : List ℕ} → Lexes [] [] r
@@ -124,11 +121,13 @@ minus-lone c = never-double 45 c refl refl
 pub lexes-negative : (ds r : List ℕ) → isDigit (getD ds 0 0) ≡ true → AllPass isDigit ds → isNamePart (getD r 0 0) ≡ false → Lexes (negative ds ∷ []) (45 ∷ ds) r
 unfolding prependAll isDigit
 lexes-negative [] r f h k = let z : _≡_ {A = Bool} false true = f in let w : _≡_ {A = ℕ} 0 1 = cc in absurd (omega arith)
-lexes-negative (b ∷ x) r f h k = record { at = λ p. record {
+lexes-negative (b ∷ x) r f h k = record {
+  at = λ p. record {
     tokens = _;
     spells = signed p none;
     scanned =
         let e : p + 1 + suc (length x) ≡ p + suc (suc (length x)) = omega arith in
         scan-sign 45 (b ∷ x ++ r) p lone-minus (minus-lone b) ∙
-        ap (prepend _) (scan-digits b x r (p + 1) h (part-digit (getD r 0 0) k) ∙ ap (λ (n : ℕ). prepend (record { kind = digits; place = p + 1; text = b ∷ x }) (scan 0 n r)) e)
-  } }
+        ap (prepend _) (scan-digits b x r (p + 1) h (part-digit (getD r 0 0) k) ∙ ap (λ (n : ℕ). prepend (record { kind = digits; place = p + 1; text = b ∷ x }) (scan 0 n r)) e);
+  };
+}

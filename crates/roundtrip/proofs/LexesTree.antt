@@ -1,25 +1,24 @@
 -- The text of a tree lexes to its words.
-use Prim.Native.Nat.{ℕ, suc, _+_}
+use Prim.Native.Nat.{ℕ, suc}
 use native.Mathlib.Omega.{arith}
 use mathlib.Core.Path.{_≡_, refl, ap, sym, _∙_, subst}
 use mathlib.Core.Bool.{Bool, true, false, not, _&&_, _||_, cond, and-eq-true-iff}
-use mathlib.Core.List.{List, [], _∷_, _++_, append-assoc, append-nil}
+use mathlib.Core.List.{List, [], _∷_, _++_}
 use lib.ListN.{length, getD}
 use lib.IntN.{ℤ, pos, negsuc}
-use lib.Dec.{eqb, leb}
+use lib.Dec.{eqb}
 use borrow.Author.Tests.{eqb-true, not-true}
 use Rattle.meaning.specs.Basics.{bytes, if_then_else_, standsIn, sameText}
 use Rattle.meaning.specs.Byte.{isSpace, isLetter, isDigit, isNamePart, isQuote, isSign}
-use Rattle.meaning.specs.Token.{Token, Front, found, nothing, digits, wordKind, isDouble, front, prepend, scan}
+use Rattle.meaning.specs.Token.{found, nothing, wordKind, isDouble, front}
 use Rattle.meaning.specs.Grammar.{numeral, numeralFrom}
 use Rattle.meaning.specs.Picture.{digitsOf, decimal}
-use Rattle.meaning.specs.Tree.{Operator, concatenate, add, subtract, multiply, divide, remainder, shiftRight, shiftLeft, equal, unequal, greater, less, Expression, number, string, nothing, truth, name, table, entry, operation, call, paren, Arguments, noArgument, argument, Statement, declare, assign, update, when, while, return, block, act, Statements, only, first, Procedure, Program}
-use Rattle.meaning.specs.Tree as Tree
+use Rattle.meaning.specs.Tree.{Operator, concatenate, add, subtract, multiply, divide, remainder, shiftRight, shiftLeft, equal, unequal, greater, less, Expression, number, string, nothing, truth, name, table, entry, operation, call, paren, Arguments, noArgument, argument, Statement, declare, assign, update, when, while, return, block, act, Statements, only, first, Procedure}
 use Rattle.meaning.proofs.DecimalLaws.{AllDigits, digits-digitsOf, numeral-digitsOf, digitsOf-zero}
 use Rattle.canonical.specs.Text.{operatorText, isOperation, isEntry, enclosedIf, commaSeparated, expressionText, argumentTexts, apart, statementText, statementsText, procedureText, proceduresText}
-use Rattle.roundtrip.proofs.Words.{Word, plain, negative, sign, aWord, joined, operatorKind, numberWords, enclosedWords, words, argumentWords, statementWords, statementsWords, nameWords, procedureWords, proceduresWords}
-use Rattle.roundtrip.proofs.Scanning.{AllPass, differs, Lone, not-double, scan-found}
-use Rattle.roundtrip.proofs.Sound.{Spelled, Named, Written, Sound, SoundAll, SoundStatement, SoundStatements, NamedAll, SoundProcedure, SoundProcedures}
+use Rattle.roundtrip.proofs.Words.{Word, sign, aWord, joined, operatorKind, numberWords, enclosedWords, words, argumentWords, statementWords, statementsWords, nameWords, procedureWords, proceduresWords}
+use Rattle.roundtrip.proofs.Scanning.{AllPass, Lone, not-double, scan-found}
+use Rattle.roundtrip.proofs.Sound.{Spelled, Sound, SoundAll, SoundStatement, SoundStatements, NamedAll, SoundProcedure, SoundProcedures}
 use Rattle.roundtrip.proofs.Lexes.{Lexes, lexes-append, lexes-nothing, lexes-space, lexes-then, lexes-one, lexes-word, lexes-name, lexes-digits, lexes-string, lexes-sign, lexes-mark, lexes-negative}
 
 -- all classes of bytes at once
@@ -207,6 +206,7 @@ lexes-commas (w ∷ v ∷ ws) (t ∷ u ∷ ts) r s h =
 
 mutual
   unfolding words expressionText Sound signs wordKind sameText
+
   pub lexes-expression : (e : Expression) → Sound e → (r : List ℕ) → Stops r → Lexes (words e) (expressionText e) r
   lexes-expression (number z) h r s = lexes-decimal z r s
   lexes-expression (string t) h r s = lexes-string t r h
@@ -267,6 +267,7 @@ lexes-guard k w {t} {r} {vs} h e =
 
 mutual
   unfolding statementWords statementText SoundStatement words expressionText Sound signs wordKind sameText
+
   pub lexes-statement : (s : Statement) → SoundStatement s → (r : List ℕ) → Lexes (statementWords s) (statementText s) r
   lexes-statement (declare p x) h r =
       lexes-append (lexes-append (reserved 5 (bytes "var") (apart x ++ 59 ∷ r) refl refl (refl, (refl, (refl, tt))) (apart-stops x (59 ∷ r) (begins-spelled x (h .spelled))))

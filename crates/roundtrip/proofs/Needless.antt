@@ -1,17 +1,16 @@
 -- Bytes without two of their parentheses have fewer tokens.
-use Prim.Native.Nat.{ℕ, suc, _+_, _<_, _≤_}
+use Prim.Native.Nat.{ℕ, _<_}
 use native.Mathlib.Omega.{arith}
-use mathlib.Core.Path.{_≡_, refl, ap, sym, _∙_, subst}
-use mathlib.Core.Bool.{Bool, true, false, cond}
-use mathlib.Core.List.{List, [], _∷_, _++_, append-assoc}
-use mathlib.Core.Option.{Option, none, some}
+use mathlib.Core.Path.{_≡_, refl, ap, sym, _∙_}
+use mathlib.Core.List.{List, _∷_, _++_, append-assoc}
+use mathlib.Core.Option.{some}
 use lib.ListN.{length, getD}
 use Rattle.meaning.specs.Basics.{bytes}
 use Rattle.meaning.specs.Byte.{isSpace}
 use Rattle.meaning.specs.Token.{Token, lexed, front, scan, tokensOf}
 use Rattle.roundtrip.proofs.Scanning.{never-double}
 use Rattle.roundtrip.proofs.LexesTree.{signs}
-use Rattle.roundtrip.proofs.Weights.{sized, weigh, Clean, weighed, sized-sign}
+use Rattle.roundtrip.proofs.Weights.{sized, weighed, sized-sign}
 use Rattle.roundtrip.proofs.Separating.{stop-open, stop-close, separated}
 use Rattle.roundtrip.proofs.Joining.{together}
 

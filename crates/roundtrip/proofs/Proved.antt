@@ -1,15 +1,15 @@
 -- What is claimed of the text of a program, proved.
 use Prim.Native.Nat.{ℕ, _≤_}
 use native.Mathlib.Omega.{arith}
-use mathlib.Core.Path.{_≡_, refl, ap, sym, _∙_}
+use mathlib.Core.Path.{_≡_, ap, sym, _∙_}
 use mathlib.Core.List.{List, _++_}
 use lib.ListN.{length}
-use Rattle.meaning.specs.Token.{Lexed, lexed, tokensOf}
+use Rattle.meaning.specs.Token.{tokensOf}
 use Rattle.meaning.specs.Tree.{Program}
-use Rattle.meaning.specs.Grammar.{Reading, wellFormed, reading}
+use Rattle.meaning.specs.Grammar.{wellFormed, reading}
 use Rattle.canonical.specs.Bare.{bareProgram}
 use Rattle.canonical.specs.Text.{programText}
-use Rattle.canonical.specs.Call.{textRead, text}
+use Rattle.canonical.specs.Call.{textRead}
 use Rattle.roundtrip.specs.Claims.{Reads, ReadsAgain, SameExactly, ItsOwnText, PassesChecking, tokenCount, FewestTokens, NoneNeedless}
 use Rattle.roundtrip.proofs.Bares.{same-text}
 use Rattle.roundtrip.proofs.Again.{known, text-of, text-few, again-read}

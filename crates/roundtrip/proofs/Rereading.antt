@@ -1,25 +1,24 @@
 -- An expression's words are read as its tree, with the parentheses that its text has.
-use Prim.Native.Nat.{ℕ, zero, suc, _+_, _-_, _≤_, _<_, max}
+use Prim.Native.Nat.{ℕ, zero, suc, _+_, _≤_}
 use native.Mathlib.Omega.{arith}
 use mathlib.Core.Path.{_≡_, refl, ap, sym, _∙_, subst}
-use mathlib.Core.Bool.{Bool, true, false, _&&_, _||_, cond, true≢false}
-use mathlib.Core.List.{List, [], _∷_, _++_}
-use mathlib.Core.Option.{Option, none, some}
-use lib.ListN.{length, getD}
-use lib.IntN.{ℤ, pos, negsuc, negℤ}
-use lib.Dec.{eqb, leb}
+use mathlib.Core.Bool.{Bool, true, false, _||_, true≢false}
+use mathlib.Core.List.{List, _∷_, _++_}
+use mathlib.Core.Option.{none, some}
+use lib.ListN.{length}
+use lib.IntN.{ℤ, pos, negsuc}
+use lib.Dec.{eqb}
 use borrow.Author.Tests.{eq-eqb, le-leb}
 use Rattle.meaning.specs.Basics.{if_then_else_}
-use Rattle.meaning.specs.Token.{Token, digits, minus, aName, openParen, closeParen, dot}
-use Rattle.meaning.specs.Grammar.{Got, good, wrong, after, expect, is, kindAt, textAt, startAt, numeral, numeralFrom, operatorOf, Inside, noLevel, level, opening, ReadExpression, argumentsFrom, arguments, primary, operand, operated, expressionIn, expression}
-use Rattle.meaning.specs.Picture.{digitsOf}
+use Rattle.meaning.specs.Token.{Token, aName, openParen, dot}
+use Rattle.meaning.specs.Grammar.{good, after, expect, is, kindAt, startAt, operatorOf, Inside, noLevel, level, opening, ReadExpression, argumentsFrom, arguments, primary, operand, operated, expressionIn, expression}
 use Rattle.meaning.specs.Tree.{Operator, concatenate, add, subtract, multiply, divide, remainder, shiftRight, shiftLeft, equal, unequal, greater, less, Expression, number, string, nothing, truth, name, table, entry, operation, call, paren, Arguments, noArgument, argument}
 use Rattle.meaning.proofs.DecimalLaws.{numeral-digitsOf}
 use Rattle.meaning.proofs.GrammarLaws.{arguments-rounds}
 use Rattle.canonical.specs.Text.{operatorText, isOperation, isEntry}
-use Rattle.roundtrip.proofs.Words.{Word, plain, negative, sign, aWord, joined, operatorKind, numberWords, enclosedWords, words, argumentWords, levelsIn, levels, levelsAll, parenIf, kept, keptAll}
+use Rattle.roundtrip.proofs.Words.{Word, sign, aWord, joined, operatorKind, numberWords, enclosedWords, words, argumentWords, levelsIn, levels, levelsAll, parenIf, kept, keptAll}
 use Rattle.roundtrip.proofs.Scanning.{differs}
-use Rattle.roundtrip.proofs.Sound.{Named, Written, Sound, SoundAll}
+use Rattle.roundtrip.proofs.Sound.{Written, Sound, SoundAll}
 use Rattle.roundtrip.proofs.Stands.{Stands, split}
 
 -- ---- operators
@@ -263,6 +262,7 @@ module _ (ts : List Token) where
   -- ---- all expressions
   mutual
     unfolding words levels kept Sound isOperation isEntry primary if_then_else_
+
     pub read : (e : Expression) → Sound e → Read e
     read (number z) h = by-primary (number z) λ left i j l s k. read-number z h left i j s
     read (string t) h = by-primary (string t) λ left i j l s k. rw (s .0, s .1, s .2)

@@ -1,20 +1,19 @@
 -- The words of a program are read as its procedures, but for parentheses and places.
-use Prim.Native.Nat.{ℕ, zero, suc, _+_, _-_, _≤_, _<_, max}
+use Prim.Native.Nat.{ℕ, suc, _+_, _≤_}
 use native.Mathlib.Omega.{arith}
 use mathlib.Core.Path.{_≡_, refl, ap, sym, _∙_, subst}
 use mathlib.Core.Bool.{Bool, true, false}
 use mathlib.Core.List.{List, [], _∷_, _++_, map}
 use mathlib.Core.Option.{Option, none, some}
-use lib.ListN.{length, getD, List·getD-eq-default}
-use lib.Dec.{eqb}
+use lib.ListN.{length, List·getD-eq-default}
 use Rattle.meaning.specs.Basics.{bytes, if_then_else_, sameText}
 use Rattle.meaning.specs.Token.{Token}
-use Rattle.meaning.specs.Grammar.{Got, good, wrong, after, expect, is, kindAt, textAt, startAt, afterLast, statements, statement, parametersFrom, parameters, procedure, proceduresFrom, procedureNamed, withMain, procedures}
-use Rattle.meaning.specs.Tree.{Statements, Procedure, Program}
+use Rattle.meaning.specs.Grammar.{good, after, expect, kindAt, startAt, afterLast, parametersFrom, parameters, procedure, proceduresFrom, procedureNamed, withMain, procedures}
+use Rattle.meaning.specs.Tree.{Procedure, Program}
 use Rattle.meaning.proofs.GrammarLaws.{parameters-rounds, procedures-rounds}
-use Rattle.canonical.specs.Bare.{bareStatements, bareProcedure, bareProgram}
-use Rattle.roundtrip.proofs.Words.{Word, sign, aWord, joined, statementsWords, statementsLevels, nameWords, procedureWords, proceduresWords}
-use Rattle.roundtrip.proofs.Sound.{SoundStatements, SoundProcedure, SoundProcedures}
+use Rattle.canonical.specs.Bare.{bareProcedure, bareProgram}
+use Rattle.roundtrip.proofs.Words.{sign, joined, statementsWords, statementsLevels, nameWords, procedureWords, proceduresWords}
+use Rattle.roundtrip.proofs.Sound.{SoundProcedure, SoundProcedures}
 use Rattle.roundtrip.proofs.Stands.{Stands, split}
 use Rattle.roundtrip.proofs.RereadingTree.{again-all, again-statements}
 

@@ -1,21 +1,21 @@
 -- The words of statements and procedures are read as their trees, but for places.
-use Prim.Native.Nat.{ℕ, zero, suc, _+_, _-_, _≤_, _<_, max}
+use Prim.Native.Nat.{ℕ, zero, suc, _+_, _≤_, _<_}
 use native.Mathlib.Omega.{arith}
-use mathlib.Core.Path.{_≡_, refl, ap, sym, _∙_, subst}
-use mathlib.Core.Bool.{Bool, true, false, _&&_, _||_, cond}
-use mathlib.Core.List.{List, [], _∷_, _++_}
-use lib.ListN.{length, getD}
+use mathlib.Core.Path.{_≡_, refl, sym, _∙_, subst}
+use mathlib.Core.Bool.{true, false, _||_}
+use mathlib.Core.List.{List, _++_}
+use lib.ListN.{length}
 use lib.Dec.{eqb}
-use Rattle.meaning.specs.Basics.{bytes, if_then_else_}
+use Rattle.meaning.specs.Basics.{if_then_else_}
 use Rattle.meaning.specs.Token.{Token}
-use Rattle.meaning.specs.Grammar.{Got, good, wrong, after, expect, is, kindAt, textAt, startAt, operatorOf, Inside, noLevel, level, opening, expression, Readers, declaration, returning, targetOf, assignment, simple, guarded, statementsFrom, statements, statementIn, statement, parametersFrom, parameters, procedure, proceduresFrom}
-use Rattle.meaning.specs.Tree.{Expression, name, entry, Statement, declare, assign, update, when, while, return, block, act, Statements, only, first, Procedure}
-use Rattle.meaning.proofs.GrammarLaws.{statements-rounds, parameters-rounds}
-use Rattle.canonical.specs.Bare.{bare, bareStatement, bareStatements, bareProcedure}
+use Rattle.meaning.specs.Grammar.{good, after, expect, kindAt, startAt, operatorOf, Inside, noLevel, level, opening, expression, Readers, declaration, returning, targetOf, assignment, simple, guarded, statementsFrom, statements, statementIn, statement}
+use Rattle.meaning.specs.Tree.{Expression, name, entry, Statement, declare, assign, update, when, while, return, block, act, Statements, only, first}
+use Rattle.meaning.proofs.GrammarLaws.{statements-rounds}
+use Rattle.canonical.specs.Bare.{bareStatement, bareStatements}
 use Rattle.canonical.specs.Text.{isOperation, isEntry}
-use Rattle.roundtrip.proofs.Words.{Word, sign, aWord, joined, words, levels, kept, parenIf, statementWords, statementsWords, statementLevels, statementsLevels, nameWords, procedureWords}
+use Rattle.roundtrip.proofs.Words.{sign, words, levels, kept, parenIf, statementWords, statementsWords, statementLevels, statementsLevels}
 use Rattle.roundtrip.proofs.Scanning.{differs}
-use Rattle.roundtrip.proofs.Sound.{Named, Sound, SoundStatement, SoundStatements, NamedAll, SoundProcedure}
+use Rattle.roundtrip.proofs.Sound.{Named, Sound, SoundStatement, SoundStatements}
 use Rattle.roundtrip.proofs.Stands.{Stands, split}
 use Rattle.roundtrip.proofs.Kept.{bare-kept, bare-paren}
 use Rattle.roundtrip.proofs.Rereading.{opens, Ends, ends, starts, read}
@@ -89,8 +89,13 @@ module _ (ts : List Token) where
       record {
         tree = assign (startAt ts i) x (kept e);
         reads =
-            simple-is left i o ∙ rw (tree (name x) g left i (i + 1) 61 (omega arith) (h .0, h .1, refl) (h .2 .0) (ends 61 refl refl refl), h .2 .0,
-            tree e f left (i + 1 + 1) (q .0) 59 l (q .1) (q .2 .0) (ends 59 refl refl refl), q .2 .0, q .2 .2);
+            simple-is left i o ∙ rw (
+              tree (name x) g left i (i + 1) 61 (omega arith) (h .0, h .1, refl) (h .2 .0) (ends 61 refl refl refl),
+              h .2 .0,
+              tree e f left (i + 1 + 1) (q .0) 59 l (q .1) (q .2 .0) (ends 59 refl refl refl),
+              q .2 .0,
+              q .2 .2,
+            );
         same = rw (bare-kept e);
       }
 
@@ -107,8 +112,14 @@ module _ (ts : List Token) where
         tree = update (startAt ts i) x y (kept e);
         reads =
             simple-is left i (starts ts (entry a b) i (u .0) (u .1)) ∙
-            rw (tree (entry a b) (f, g) left i (u .0) 61 (omega arith) (u .1) (u .2 .0) (ends 61 refl refl refl), u .2 .0, u .2 .2,
-            tree e h left (r .0) (q .0) 59 (omega arith) (r .2) (q .2 .0) (ends 59 refl refl refl), q .2 .0, q .2 .2);
+            rw (
+              tree (entry a b) (f, g) left i (u .0) 61 (omega arith) (u .1) (u .2 .0) (ends 61 refl refl refl),
+              u .2 .0,
+              u .2 .2,
+              tree e h left (r .0) (q .0) 59 (omega arith) (r .2) (q .2 .0) (ends 59 refl refl refl),
+              q .2 .0,
+              q .2 .2,
+            );
         same =
             rw (bare-paren (isOperation a || isEntry a) (kept a), bare-paren (isOperation b || isEntry b) (kept b), bare-kept a, bare-kept b, bare-kept e);
       }
@@ -209,6 +220,7 @@ module _ (ts : List Token) where
   -- ---- all statements
   mutual
     unfolding statementWords statementLevels SoundStatement
+
     pub again : (s : Statement) → SoundStatement s → (left i j : ℕ) → statementLevels s ≤ left → Stands ts i (statementWords s) j → Again s left i j
     again (declare p x) f left i j l h = again-declare p x left i j h
     again (assign p x e) f left i j l h = again-assign p x e (f .0) (f .1) left i j l h

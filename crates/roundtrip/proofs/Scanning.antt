@@ -1,15 +1,15 @@
 -- How one token is scanned that stands in front of other bytes.
-use Prim.Native.Nat.{ℕ, zero, suc, _+_, _-_}
+use Prim.Native.Nat.{ℕ, suc, _+_, _-_}
 use native.Mathlib.Omega.{arith}
-use mathlib.Core.Path.{_≡_, refl, ap, sym, _∙_}
-use mathlib.Core.Bool.{Bool, true, false, _&&_, _||_, cond, and-false, and-eq-true-iff}
+use mathlib.Core.Path.{_≡_, refl, ap, _∙_}
+use mathlib.Core.Bool.{Bool, true, false, and-false, and-eq-true-iff}
 use mathlib.Core.List.{List, [], _∷_, _++_, append-assoc}
 use lib.ListN.{length, getD, take, length-append}
 use lib.Dec.{eqb, leb}
 use borrow.Author.Tests.{eqb-true, leb-true, lt-leb}
 use Rattle.meaning.specs.Basics.{bytes, if_then_else_, standsIn, span}
 use Rattle.meaning.specs.Byte.{isSpace, isLetter, isDigit, isNamePart, isQuote, isSign}
-use Rattle.meaning.specs.Token.{Token, Front, found, nothing, Lexed, lexed, stray, aString, digits, wordKind, doubled, isDouble, front, prepend, starting, scan}
+use Rattle.meaning.specs.Token.{found, aString, digits, wordKind, isDouble, front, prepend, starting, scan}
 
 -- ---- bytes
 -- a byte that passes a test is none that fails it

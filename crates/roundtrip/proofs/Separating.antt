@@ -1,15 +1,15 @@
 -- A parenthesis separates tokens: bytes with one between them have the tokens of both and one more.
 use Prim.Native.Nat.{ℕ, zero, suc, _+_, _-_, _≤_, _<_}
 use native.Mathlib.Omega.{arith}
-use mathlib.Core.Path.{_≡_, refl, ap, sym, _∙_, subst}
+use mathlib.Core.Path.{_≡_, refl, ap, sym, _∙_}
 use mathlib.Core.Bool.{Bool, true, false, _&&_, _||_, cond, and-eq-true-iff}
 use mathlib.Core.List.{List, [], _∷_, _++_}
 use mathlib.Core.Option.{Option, none, some}
 use lib.ListN.{length, getD}
-use lib.Dec.{eqb, ltb}
-use borrow.Author.Tests.{eqb-true, ltb-true, ltb-false}
+use lib.Dec.{eqb}
+use borrow.Author.Tests.{eqb-true}
 use Rattle.meaning.specs.Basics.{bytes, if_then_else_, standsIn, span}
-use Rattle.meaning.specs.Byte.{isSpace, isLetter, isDigit, isNamePart, isQuote, isSign}
+use Rattle.meaning.specs.Byte.{isSpace, isLetter, isDigit, isNamePart, isQuote}
 use Rattle.meaning.specs.Token.{isDouble, front}
 use Rattle.roundtrip.proofs.LexesTree.{signs}
 use Rattle.roundtrip.proofs.Weights.{sized, weighAt, weigh, CleanAt, Clean, Class, letter, digit, quote, sign, other, classify, stringSize, signSize, sized-letter, sized-digit, sized-quote, sized-sign, sized-other}

@@ -1,21 +1,19 @@
 -- What is read of a program's tokens: trees that can be written, in so many levels and in no more tokens.
-use Prim.Native.Nat.{ℕ, zero, suc, _+_, _-_, _≤_, _<_, max}
+use Prim.Native.Nat.{ℕ, zero, suc, _+_, _≤_}
 use native.Mathlib.Omega.{arith}
-use mathlib.Core.Path.{_≡_, refl, ap, sym, _∙_, subst}
-use mathlib.Core.Bool.{Bool, true, false, _&&_, _||_, cond, and-eq-true-iff}
+use mathlib.Core.Path.{_≡_, refl}
+use mathlib.Core.Bool.{Bool, true, false, _||_, and-eq-true-iff}
 use mathlib.Core.List.{List, [], _∷_, _++_}
 use mathlib.Core.Option.{Option, none, some}
-use lib.ListN.{length, getD}
-use lib.IntN.{ℤ, pos, negsuc, negℤ}
-use lib.Dec.{eqb, leb}
+use lib.IntN.{pos, negℤ}
+use lib.Dec.{leb}
 use borrow.Author.Tests.{eqb-true, leb-true}
-use Rattle.meaning.specs.Basics.{bytes, if_then_else_}
-use Rattle.meaning.specs.Token.{Token, digits, minus, aName, aString, openParen, closeParen, dot, comma, closeBracket}
-use Rattle.meaning.specs.Grammar.{Got, good, wrong, after, expect, is, afterLast, kindAt, textAt, startAt, numeral, operatorOf, Inside, noLevel, level, opening, ReadExpression, argumentsFrom, arguments, primary, operand, operated, expressionIn, expression}
-use Rattle.meaning.specs.Tree.{Operator, Expression, number, string, nothing, truth, name, table, entry, operation, call, paren, Arguments, noArgument, argument}
-use Rattle.canonical.specs.Text.{operatorText, isOperation, isEntry}
-use Rattle.roundtrip.proofs.Words.{Word, plain, negative, tokens, sign, aWord, joined, operatorKind, numberWords, enclosedWords, words, argumentWords, levelsIn, levels, levelsAll}
-use Rattle.roundtrip.proofs.Sound.{Spelled, Named, Written, Sound, SoundAll}
+use Rattle.meaning.specs.Token.{Token, digits, aName, aString}
+use Rattle.meaning.specs.Grammar.{is, kindAt, textAt, numeral, Inside, noLevel, level, ReadExpression, argumentsFrom, arguments, primary, operand, operated, expressionIn, expression}
+use Rattle.meaning.specs.Tree.{Operator, Expression, paren, Arguments}
+use Rattle.canonical.specs.Text.{isOperation, isEntry}
+use Rattle.roundtrip.proofs.Words.{Word, plain, negative, tokens, sign, joined, numberWords, enclosedWords, words, argumentWords, levelsIn, levels, levelsAll}
+use Rattle.roundtrip.proofs.Sound.{Written, Sound, SoundAll}
 use Rattle.roundtrip.proofs.Spelling.{Spelt}
 use Rattle.roundtrip.proofs.Yields.{Yields, yields, fails, Inner, closed, opened, yields-if, yields-after, yields-opening, yields-expect}
 
@@ -103,25 +101,25 @@ module _ (ts : List Token) (spelt : (i : ℕ) → Spelt (kindAt ts i) (textAt ts
           few = omega arith;
         }))
         λ _. yields-if _ _ _ (λ _. yields-if _ _ _ (λ e.
-          let n = numeral (textAt ts (i + 1)) in
-          yields (record {
-            sound = written-negative n (leb-true n 2147483648 (and-eq-true-iff (is digits ts (i + 1)) (leb n 2147483648) .0 e .1));
-            low = omega arith;
-            few = omega (arith, few-negative n);
-          })) (λ _. fails))
+        let n = numeral (textAt ts (i + 1)) in
+        yields (record {
+          sound = written-negative n (leb-true n 2147483648 (and-eq-true-iff (is digits ts (i + 1)) (leb n 2147483648) .0 e .1));
+          low = omega arith;
+          few = omega (arith, few-negative n);
+        })) (λ _. fails))
         λ _. yields-if _ _ _ (λ e. yields (leaf refl (spelt i .asString (eqb-true (kindAt ts i) aString e)) refl refl))
         λ _. yields-if _ _ _ (λ _. yields (leaf refl tt refl refl))
         λ _. yields-if _ _ _ (λ _. yields (leaf refl tt refl refl))
         λ _. yields-if _ _ _ (λ _. yields (leaf refl tt refl refl))
         λ _. yields-if _ _ _ (λ e.
-          let n = spelt i .asName (eqb-true (kindAt ts i) aName e) in
-          yields-if _ _ _
-          (λ _. yields-opening _ _ h λ l inner q w. yields-after _ (arguments-fine l inner w (i + 2)) λ es j f. yields (record {
-            sound = (n, f .sound);
-            low = let a = f .low in omega arith;
-            few = let a = f .few in omega (arith, tokens-append (joined (argumentWords es)) (sign 41));
-          }))
-          λ _. yields (leaf refl n refl refl))
+        let n = spelt i .asName (eqb-true (kindAt ts i) aName e) in
+        yields-if _ _ _
+        (λ _. yields-opening _ _ h λ l inner q w. yields-after _ (arguments-fine l inner w (i + 2)) λ es j f. yields (record {
+          sound = (n, f .sound);
+          low = let a = f .low in omega arith;
+          few = let a = f .few in omega (arith, tokens-append (joined (argumentWords es)) (sign 41));
+        }))
+        λ _. yields (leaf refl n refl refl))
         λ _. yields-if _ _ _ (λ _. yields-opening _ _ h λ l inner q w. yields-after _ (w (i + 1)) λ e j f. yields-expect _ ts j _ λ _. in-parens e j l q f)
         λ _. yields-if _ _ _ (λ _. yields-opening _ _ h λ l inner q w. yields-after _ (w (i + 1)) λ e j f. yields-expect _ ts j _ λ _. record {
           sound = f .sound;

@@ -1,18 +1,18 @@
 -- What is read of a program's tokens: statements and procedures that can be written, in so many levels and in no more tokens.
-use Prim.Native.Nat.{ℕ, zero, suc, _+_, _-_, _≤_, _<_, max}
+use Prim.Native.Nat.{ℕ, zero, suc, _+_, _≤_, _<_}
 use native.Mathlib.Omega.{arith}
-use mathlib.Core.Path.{_≡_, refl, ap, sym, _∙_, subst}
-use mathlib.Core.Bool.{Bool, true, false, _&&_, _||_}
+use mathlib.Core.Path.{_≡_, refl, ap, subst}
+use mathlib.Core.Bool.{Bool, true, false}
 use mathlib.Core.List.{List, [], _∷_, _++_}
 use mathlib.Core.Option.{Option, none, some}
-use lib.ListN.{length, getD, List·getD-eq-default}
-use lib.Dec.{eqb, ltb}
+use lib.ListN.{length, List·getD-eq-default}
+use lib.Dec.{ltb}
 use borrow.Author.Tests.{eqb-true, ltb-true, ltb-false}
-use Rattle.meaning.specs.Basics.{bytes, if_then_else_}
+use Rattle.meaning.specs.Basics.{bytes}
 use Rattle.meaning.specs.Token.{Token, aName, closeBrace}
-use Rattle.meaning.specs.Grammar.{Got, good, wrong, after, expect, is, afterLast, kindAt, textAt, startAt, Inside, noLevel, level, opening, ReadExpression, expression, ReadStatement, Readers, declaration, returning, Target, variable, element, noTarget, targetOf, assignment, simple, guarded, statementsFrom, statements, statementIn, statement, parametersFrom, parameters, procedure, proceduresFrom, procedureNamed, withMain, procedures}
-use Rattle.meaning.specs.Tree.{Expression, number, string, nothing, truth, name, table, entry, operation, call, paren, Statement, declare, assign, update, when, while, return, block, act, Statements, only, first, Procedure, Program}
-use Rattle.roundtrip.proofs.Words.{Word, tokens, sign, aWord, joined, enclosedWords, words, levelsIn, levels, statementWords, statementsWords, statementLevels, statementsLevels, nameWords, procedureWords, proceduresWords}
+use Rattle.meaning.specs.Grammar.{Got, is, afterLast, kindAt, textAt, startAt, Inside, noLevel, level, expression, ReadStatement, Readers, declaration, returning, targetOf, assignment, simple, guarded, statementsFrom, statements, statementIn, statement, parametersFrom, parameters, procedure, proceduresFrom, procedureNamed, withMain, procedures}
+use Rattle.meaning.specs.Tree.{Expression, number, string, nothing, truth, name, table, entry, operation, call, paren, Statement, when, while, Statements, Procedure, Program}
+use Rattle.roundtrip.proofs.Words.{tokens, sign, aWord, joined, enclosedWords, words, levelsIn, levels, statementWords, statementsWords, statementLevels, statementsLevels, nameWords, procedureWords, proceduresWords}
 use Rattle.roundtrip.proofs.Sound.{Named, Sound, SoundStatement, SoundStatements, NamedAll, SoundProcedure, SoundProcedures}
 use Rattle.roundtrip.proofs.Spelling.{Spelt}
 use Rattle.roundtrip.proofs.RereadingProgram.{Shallow}
@@ -219,8 +219,12 @@ module _ (ts : List Token) (spelt : (i : ℕ) → Spelt (kindAt ts i) (textAt ts
             let b = g .few in
             let l = l₂ .1 in
             let w = joined (nameWords xs) in
-            omega (arith, tokens-append (w ++ (sign 41 ++ sign 123) ++ statementsWords ss) (sign 125),
-            tokens-append (w ++ (sign 41 ++ sign 123)) (statementsWords ss), tokens-append w (sign 41 ++ sign 123));
+            omega (
+              arith,
+              tokens-append (w ++ (sign 41 ++ sign 123) ++ statementsWords ss) (sign 125),
+              tokens-append (w ++ (sign 41 ++ sign 123)) (statementsWords ss),
+              tokens-append w (sign 41 ++ sign 123),
+            );
         inside = g .inside;
       })
 

@@ -1,14 +1,13 @@
 -- Each name token of a program is a name, and each string token a letter with letters and digits.
-use Prim.Native.Nat.{ℕ, zero, suc, _+_, _-_}
+use Prim.Native.Nat.{ℕ, zero, suc, _-_}
 use native.Mathlib.Omega.{arith}
-use mathlib.Core.Path.{_≡_, refl, ap, sym, _∙_, subst}
-use mathlib.Core.Bool.{Bool, true, false, _&&_, _||_, and-eq-true-iff}
+use mathlib.Core.Path.{_≡_, refl, ap, subst}
+use mathlib.Core.Bool.{Bool, true, false, and-eq-true-iff}
 use mathlib.Core.List.{List, [], _∷_}
 use lib.ListN.{getD, take}
-use lib.Dec.{eqb}
-use Rattle.meaning.specs.Basics.{bytes, if_then_else_, standsIn, span}
-use Rattle.meaning.specs.Byte.{isSpace, isLetter, isDigit, isNamePart, isQuote, isSign}
-use Rattle.meaning.specs.Token.{Token, aName, aString, digits, doubled, Front, found, nothing, foundName, foundDigits, foundString, foundSign, wordKind, isDouble, front, Lexed, lexed, stray, prepend, starting, scan, tokensOf}
+use Rattle.meaning.specs.Basics.{if_then_else_, standsIn, span}
+use Rattle.meaning.specs.Byte.{isSpace, isLetter, isNamePart, isQuote, isSign}
+use Rattle.meaning.specs.Token.{Token, aName, aString, Front, found, nothing, front, Lexed, lexed, stray, prepend, starting, scan, tokensOf}
 use Rattle.meaning.specs.Grammar.{afterLast}
 use Rattle.roundtrip.proofs.Scanning.{AllPass}
 use Rattle.roundtrip.proofs.Sound.{Spelled, Named}

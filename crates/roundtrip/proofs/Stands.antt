@@ -25,12 +25,6 @@ split ts i (negative x ∷ ws) vs j h =
     let r = split ts (i + 2) ws vs j (h .4) in
     (r .0, (h .0, h .1, h .2, h .3, r .1), r .2)
 
--- as many tokens as the words are
-pub stands-count : (ts : List Token) (i : ℕ) (ws : List Word) (j : ℕ) → Stands ts i ws j → j ≡ i + tokens ws
-stands-count ts i [] j h = omega arith
-stands-count ts i (plain k x ∷ ws) j h = omega (arith, stands-count ts (i + 1) ws j (h .2))
-stands-count ts i (negative x ∷ ws) j h = omega (arith, stands-count ts (i + 2) ws j (h .4))
-
 -- ---- tokens that spell words
 drop-first : (i : ℕ) (ts : List Token) (t : Token) (us : List Token) → drop i ts ≡ t ∷ us → (getD ts i afterLast ≡ t) × (drop (suc i) ts ≡ us)
 drop-first zero [] t us e = let z : _≡_ {A = ℕ} 0 1 = cc in absurd (omega arith)
@@ -53,10 +47,13 @@ spell-stands ts us i j (one {ts = vs} p h) e l =
 spell-stands ts us i j (signed {ts = vs} p h) e l =
     let a = here i ts _ (_ ∷ vs) e in
     let b = here (i + 1) ts _ vs (a .1) in
-    let m : i + 1 + 1 ≡ i + 2 = omega arith in
-    (ap (λ (t : Token). t .kind) (a .0), ap (λ (t : Token). t .kind) (b .0), ap (λ (t : Token). t .text) (b .0),
-    ap (λ (t : Token). t .place) (b .0) ∙ ap (λ (n : ℕ). n + 1) (sym (ap (λ (t : Token). t .place) (a .0))),
-    spell-stands ts vs (i + 2) j h (subst (λ (k : ℕ). drop k ts ≡ vs) m (b .1)) (omega arith))
+    let m : i + 1 + 1 ≡ i + 2 = omega arith in (
+      ap (λ (t : Token). t .kind) (a .0),
+      ap (λ (t : Token). t .kind) (b .0),
+      ap (λ (t : Token). t .text) (b .0),
+      ap (λ (t : Token). t .place) (b .0) ∙ ap (λ (n : ℕ). n + 1) (sym (ap (λ (t : Token). t .place) (a .0))),
+      spell-stands ts vs (i + 2) j h (subst (λ (k : ℕ). drop k ts ≡ vs) m (b .1)) (omega arith),
+    )
 
 -- what a spelling has for tokens
 pub spell-length : {ws : List Word} {ts : List Token} → Spell ws ts → length ts ≡ tokens ws

@@ -1,18 +1,16 @@
 -- How many tokens some bytes are, counted without the tokens; and what they are if bytes are taken away.
-use Prim.Native.Nat.{ℕ, zero, suc, _+_, _-_, _≤_, _<_}
+use Prim.Native.Nat.{ℕ, zero, suc, _+_, _-_}
 use native.Mathlib.Omega.{arith}
-use mathlib.Core.Path.{_≡_, refl, ap, sym, _∙_, subst}
-use mathlib.Core.Bool.{Bool, true, false, _&&_, _||_, cond, and-eq-true-iff}
-use mathlib.Core.List.{List, [], _∷_, _++_}
+use mathlib.Core.Path.{_≡_, refl, ap, sym}
+use mathlib.Core.Bool.{Bool, true, false, _&&_, cond}
+use mathlib.Core.List.{List, [], _∷_}
 use mathlib.Core.Option.{Option, none, some}
 use lib.ListN.{length, getD, take}
 use lib.Dec.{eqb}
-use borrow.Author.Tests.{eqb-true}
-use Rattle.meaning.specs.Basics.{bytes, if_then_else_, standsIn, span}
+use Rattle.meaning.specs.Basics.{if_then_else_, span}
 use Rattle.meaning.specs.Byte.{isSpace, isLetter, isDigit, isNamePart, isQuote, isSign}
-use Rattle.meaning.specs.Token.{Token, Front, found, nothing, foundName, foundDigits, foundString, foundSign, isDouble, front, Lexed, lexed, stray, prepend, starting, scan, tokensOf}
-use Rattle.roundtrip.proofs.Scanning.{Lone, letter-no-space, digit-no-space, digit-no-letter, not-double}
-use Rattle.roundtrip.proofs.LexesTree.{loneSign, lone, signs}
+use Rattle.meaning.specs.Token.{Token, Front, found, nothing, foundString, foundSign, isDouble, front, Lexed, lexed, stray, prepend, starting, scan}
+use Rattle.roundtrip.proofs.Scanning.{digit-no-letter}
 
 -- how many bytes the token at the front has
 unfoldable pub sized : Front → Option ℕ

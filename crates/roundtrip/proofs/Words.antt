@@ -1,12 +1,12 @@
 -- The words of a text: what its tokens are, without their places; and how many levels it opens.
-use Prim.Native.Nat.{ℕ, suc, _+_, max}
+use Prim.Native.Nat.{ℕ, suc, max}
 use mathlib.Core.Bool.{Bool, true, false, _||_, cond}
 use mathlib.Core.List.{List, [], _∷_, _++_}
 use lib.IntN.{ℤ, pos, negsuc}
 use Rattle.meaning.specs.Basics.{bytes}
 use Rattle.meaning.specs.Token.{digits, aString, aName, wordDef, wordVar, wordIf, wordWhile, wordReturn, wordNone, wordTrue, wordFalse, dot, comma, semicolon, openParen, closeParen, openBracket, closeBracket, openBrace, closeBrace, becomes, doubled}
 use Rattle.meaning.specs.Picture.{digitsOf}
-use Rattle.meaning.specs.Tree.{Operator, concatenate, add, subtract, multiply, divide, remainder, shiftRight, shiftLeft, equal, unequal, greater, less, Expression, number, string, nothing, truth, name, table, entry, operation, call, paren, Arguments, noArgument, argument, Statement, declare, assign, update, when, while, return, block, act, Statements, only, first, Procedure, Program}
+use Rattle.meaning.specs.Tree.{Operator, concatenate, add, subtract, multiply, divide, remainder, shiftRight, shiftLeft, equal, unequal, greater, less, Expression, number, string, nothing, truth, name, table, entry, operation, call, paren, Arguments, noArgument, argument, Statement, declare, assign, update, when, while, return, block, act, Statements, only, first, Procedure}
 use Rattle.canonical.specs.Text.{operatorText, isOperation, isEntry}
 
 -- a token by its kind and text; or a minus and, directly behind it, digits
