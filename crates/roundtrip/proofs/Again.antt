@@ -32,6 +32,7 @@ pub record Known (p : List ℕ) (m : Program) : Type 0 where
   pub end : ℕ
   pub reads : procedures tokens ≡ good m end
 
+-- a program that is read has tokens, and these are read
 pub known : (p : List ℕ) (m : Program) → Reads p m → Known p m
 unfolding reading parsed readOf if_then_else_
 known p m r = by (tokensOf p) refl r
@@ -51,6 +52,7 @@ known p m r = by (tokensOf p) refl r
     by (stray n) e w = let z : _≡_ {A = ℕ} 0 1 = cc in absurd (omega arith)
     by (lexed ts) e w = bounded ts e (ltb 8192 (length ts)) refl w
 
+-- what is read can be written
 pub fine : (p : List ℕ) (m : Program) (k : Known p m) → FineProgram (k .tokens) (tokens-spelt p (k .tokens) (k .lexes)) m
 fine p m k = yielded (program-fine (k .tokens) (tokens-spelt p (k .tokens) (k .lexes))) (k .reads)
 
@@ -60,11 +62,13 @@ pub record TextTokens (m : Program) : Type 0 where
   pub spells : Spell (proceduresWords (m .procedures)) tokens
   pub lexes : tokensOf (programText m) ≡ lexed tokens
 
+-- tokens before no more tokens
 all-lexed : (ts : List Token) → prependAll ts (lexed []) ≡ lexed ts
 unfolding prependAll prepend
 all-lexed [] = refl
 all-lexed (t ∷ ts) = ap (prepend t) (all-lexed ts)
 
+-- the text of a tree that can be written has tokens
 text-tokens : (m : Program) → SoundProcedures (m .procedures) → TextTokens m
 unfolding tokensOf programText scan
 text-tokens m s =
@@ -75,6 +79,7 @@ text-tokens m s =
       lexes = ap (scan 0 0) (sym (append-nil (proceduresText (m .procedures)))) ∙ l .scanned ∙ all-lexed (l .tokens);
     }
 
+-- the tokens of the text of a program that is read
 pub text-of : (p : List ℕ) (m : Program) → Known p m → TextTokens m
 text-of p m k = text-tokens m (fine p m k .procedures .sound)
 
@@ -85,10 +90,12 @@ text-few p m k =
     omega (arith, spell-length (text-of p m k .spells))
 
 -- ---- the text read
+-- the text is read where its tokens are
 again-known : (m : Program) (t : TextTokens m) → length (t .tokens) ≤ 8192 → (a : AgainProgram (t .tokens) m) → Reads (programText m) (a .tree)
 unfolding reading parsed readOf if_then_else_
 again-known m t l a = rw (t .lexes, le-ltb 8192 (length (t .tokens)) l, a .reads)
 
+-- the text of a program that is read is read as the same tree
 pub again-read : (p : List ℕ) (m : Program) → Known p m → (n : Program) × Reads (programText m) n × (bareProgram n ≡ bareProgram m)
 again-read p m k =
     let f = fine p m k in

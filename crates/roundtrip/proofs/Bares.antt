@@ -5,6 +5,7 @@ use Rattle.meaning.specs.Tree.{Expression, number, string, nothing, truth, name
 use Rattle.canonical.specs.Bare.{bare, bareArguments, bareStatement, bareStatements, bareProcedure, bareProgram}
 use Rattle.canonical.specs.Text.{isOperation, isEntry, expressionText, argumentTexts, statementText, statementsText, procedureText, proceduresText, programText}
 
+-- parentheses hide no operator
 pub bare-operation : (e : Expression) → isOperation (bare e) ≡ isOperation e
 unfolding bare isOperation
 bare-operation (number z) = refl
@@ -18,6 +19,7 @@ bare-operation (operation o a b) = refl
 bare-operation (call f es) = refl
 bare-operation (paren e) = bare-operation e
 
+-- and no entry
 pub bare-entry : (e : Expression) → isEntry (bare e) ≡ isEntry e
 unfolding bare isEntry
 bare-entry (number z) = refl
@@ -67,15 +69,18 @@ mutual
   statements-text (only s) = statement-text s
   statements-text (first s ss) = rw (statement-text s, statements-text ss)
 
+-- of a procedure
 procedure-text : (f : Procedure) → procedureText (bareProcedure f) ≡ procedureText f
 unfolding procedureText bareProcedure
 procedure-text f = rw (statements-text (f .body))
 
+-- of all procedures
 procedures-text : (fs : List Procedure) → proceduresText (map bareProcedure fs) ≡ proceduresText fs
 unfolding proceduresText
 procedures-text [] = refl
 procedures-text (f ∷ fs) = rw (procedure-text f, procedures-text fs)
 
+-- of a program
 program-text : (m : Program) → programText (bareProgram m) ≡ programText m
 unfolding programText bareProgram
 program-text m = procedures-text (m .procedures)

@@ -27,14 +27,17 @@ use Rattle.roundtrip.proofs.Again.{known, again-read}
 unfoldable checked : Bool → Reading → Run Outcome
 checked long r = (refuse long 73 0 >> (understood r >> give accepted)) empty
 
+-- the answer, from whether the call is admitted, its grants, and the same
 unfoldable answered : Bool → Amounts → Bool → Reading → Answer
 answered allowed g long r = if allowed then (λ _. booked g (checked long r)) else λ _. number 71 0 0 0
 
+-- that is the answer of a call of checking
 answer-is : (c : Call) → c .operation ≡ checking → answer c ≡ answered (admitted c) (grantedTo c) (ltb 32768 (length (c .program))) (reading (c .program))
 unfolding answer runOf specified performing sized answered checked _>>=_ goOn
 answer-is c e = rw e
 
 -- ---- an answer that is no number
+-- a program with a name twice has a number for its answer
 passed-named : (g : Amounts) (m : Program) (o : Option ℕ) (l s : ℕ) → booked g ((namedApart o m >> give accepted) empty) ≡ pictured l s → o ≡ none
 unfolding namedApart fail give _>>=_ goOn booked book settled answerTo
 passed-named g m none l s e = refl
@@ -46,6 +49,7 @@ pub record Passed (long : Bool) (r : Reading) : Type 0 where
   pub reads : r ≡ wellFormed tree
   pub apart : doubled [] (tree .procedures) ≡ none
 
+-- and so has one that is too long or is not read
 passed : (allowed : Bool) (g : Amounts) (long : Bool) (r : Reading) (l s : ℕ) → answered allowed g long r ≡ pictured l s → Passed long r
 unfolding answered checked refuse understood fail give _>>=_ goOn if_then_else_ booked book settled answerTo
 passed false g long r l s e = let z : _≡_ {A = ℕ} 0 1 = cc in absurd (omega arith)
@@ -72,6 +76,7 @@ to-bare names (f ∷ fs) e = by (isAmong (f .name) names || inLibrary (libraryOf
     by true h e = let z : _≡_ {A = ℕ} 0 1 = cc in absurd (omega arith)
     by false h e = h e
 
+-- and the other way round
 from-bare : (names : List (List ℕ)) (fs : List Procedure) → doubled names (map bareProcedure fs) ≡ none → doubled names fs ≡ none
 unfolding doubled bareProcedure if_then_else_
 from-bare names [] e = refl
@@ -96,6 +101,7 @@ asked : (c : Call) (t : List ℕ) (n : Program) → c .operation ≡ checking �
 unfolding admitted
 asked c t n e l r = answer-is (asking t c) e ∙ rw (le-ltb 32768 (length t) l, r)
 
+-- A TEXT PASSES CHECKING
 pub passes : (c : Call) → c .operation ≡ checking → (l s : ℕ) → answer c ≡ pictured l s → length (text (c .program)) ≤ 32768 →
     answer (asking (text (c .program)) c) ≡ answer c
 unfolding textRead

@@ -21,9 +21,11 @@ weigh-token : (b : ℕ) (v : List ℕ) (n : ℕ) → isSpace b ≡ false → siz
 unfolding weigh weighAt
 weigh-token b v n s e = rw (s, e) (ap (λ (k : ℕ). suc (weigh k v)) (omega arith))
 
+-- a name is a token
 weigh-letter : (b : ℕ) (v : List ℕ) → isLetter b ≡ true → weigh 0 (b ∷ v) ≡ suc (weigh (span isNamePart v) v)
 weigh-letter b v l = weigh-token b v (span isNamePart v) (letter-no-space b l) (sized-letter b v l)
 
+-- digits are a token
 weigh-digit : (b : ℕ) (v : List ℕ) → isDigit b ≡ true → weigh 0 (b ∷ v) ≡ suc (weigh (span isDigit v) v)
 weigh-digit b v d = weigh-token b v (span isDigit v) (digit-no-space b d) (sized-digit b v d)
 
@@ -40,6 +42,7 @@ parts-after-digits (b ∷ v) = by (isLetter b) refl (isDigit b) refl (parts-afte
     by false l true d h = h
     by false l false d h = omega arith
 
+-- the rest of a name takes no token with it
 parts-fewer : (v : List ℕ) → weigh (span isNamePart v) v ≤ weigh 0 v
 unfolding span if_then_else_ isNamePart weigh
 parts-fewer [] = omega arith
@@ -50,6 +53,7 @@ parts-fewer (b ∷ v) = by (isLetter b) refl (isDigit b) refl
     by false l true e = omega (arith, weigh-digit b v e, parts-after-digits v)
     by false l false e = omega arith
 
+-- nor does the rest of digits
 digits-fewer : (v : List ℕ) → weigh (span isDigit v) v ≤ weigh 0 v
 unfolding span if_then_else_ weigh
 digits-fewer [] = omega arith
@@ -75,6 +79,7 @@ lone-of c e = by (eqb c 43) refl (eqb c 62) refl (eqb c 60) refl (eqb c 61) refl
     by false k false l false m true n e = at 61 n (lone 61 refl)
     by false k false l false m false n e = let z : _≡_ {A = ℕ} 0 1 = cc in absurd (omega arith)
 
+-- a sign of one byte or of two
 weigh-sign : (c : ℕ) (v : List ℕ) (t : Bool) → standsIn c (bytes "+><=") ≡ true → eqb c (getD v 0 0) ≡ t → weigh 0 (c ∷ v) ≡ suc (weigh (cond t 1 0) v)
 unfolding isDouble
 weigh-sign c v true s e =
@@ -84,10 +89,12 @@ weigh-sign c v false s e =
     let h = lone-of c s in
     weigh-token c v 0 (h .space) (sized-sign c v (h .letter) (h .digit) (h .quote) (h .sign) ∙ rw (e, h .bang))
 
+-- no bytes are no token
 weigh-none : (k : ℕ) → weigh k [] ≡ 0
 unfolding weigh
 weigh-none k = refl
 
+-- a byte of a token that began before
 weigh-next : (k b : ℕ) (v : List ℕ) → weigh (suc k) (b ∷ v) ≡ weigh k v
 unfolding weigh
 weigh-next k b v = refl
@@ -115,6 +122,7 @@ runs c s (d ∷ v) = by (eqb c d) refl (runs c s v)
         (omega arith, omega arith)
     by false e h = let k = weigh-sign c (d ∷ v) false s e in (omega arith, omega arith)
 
+-- a sign of two bytes has twice the same byte
 double-parts : (x c : ℕ) → eqb x 33 ≡ false → isDouble x c ≡ true → (eqb x c ≡ true) × (standsIn x (bytes "+><=") ≡ true)
 unfolding isDouble
 double-parts x c b e = by (eqb x c) (standsIn x (bytes "+><=")) (eqb x 33) b e
@@ -126,6 +134,7 @@ double-parts x c b e = by (eqb x c) (standsIn x (bytes "+><=")) (eqb x 33) b e
     by false t true k e = let z : _≡_ {A = ℕ} 0 1 = cc in absurd (omega arith)
     by false t false k e = let z : _≡_ {A = ℕ} 0 1 = cc in absurd (omega arith)
 
+-- the second byte of a sign takes no token with it
 double-fewer : (x : ℕ) (v : List ℕ) → eqb x 33 ≡ false → isDouble x (getD v 0 0) ≡ true → weigh 1 v ≤ weigh 0 v
 double-fewer x [] b e = omega (arith, weigh-none 0, weigh-none 1)
 double-fewer x (c ∷ v) b e =
@@ -134,6 +143,7 @@ double-fewer x (c ∷ v) b e =
     omega (arith, runs c s v .0, weigh-next 0 c v)
 
 -- ---- the token at the front of bytes that more bytes stand behind
+-- a run that ends before the end ends there
 span-inside : (f : ℕ → Bool) (u v : List ℕ) → span f u < length u → span f (u ++ v) ≡ span f u
 unfolding span if_then_else_
 span-inside f [] v l = absurd (omega arith)
@@ -144,6 +154,7 @@ span-inside f (b ∷ u) v l = by (f b) (span-inside f u v) l
     by true h l = ap suc (h (omega arith))
     by false h l = refl
 
+-- a run up to the end goes on
 span-over : (f : ℕ → Bool) (u v : List ℕ) → length u ≤ span f u → span f (u ++ v) ≡ length u + span f v
 unfolding span if_then_else_
 span-over f [] v l = omega arith
@@ -154,6 +165,7 @@ span-over f (b ∷ u) v l = by (f b) (span-over f u v) l
     by true h l = omega (arith, h (omega arith))
     by false h l = absurd (omega arith)
 
+-- behind the first bytes
 weigh-past : (u v : List ℕ) (n k : ℕ) → n ≡ length u + k → weigh n (u ++ v) ≡ weigh k v
 unfolding weigh
 weigh-past [] v n k e = ap (λ (m : ℕ). weigh m v) (omega arith)
@@ -181,6 +193,7 @@ extended-run f x u v n h k e = by (ltb (span f u) (length u)) refl
         let s = span-over f u v (ltb-false (span f u) (length u) l) in
         longer (suc (span f (u ++ v))) (h (u ++ v)) (rw (weigh-past u v (suc (span f (u ++ v)) - 1) (span f v) (omega arith)) k)
 
+-- the first byte
 getD-first : (u v : List ℕ) → 0 < length u → getD (u ++ v) 0 0 ≡ getD u 0 0
 getD-first [] v l = absurd (omega arith)
 getD-first (b ∷ u) v l = refl
@@ -219,6 +232,7 @@ sign-extended x [] v n h e = by (isDouble x (getD v 0 0)) refl (eqb x 33) refl
         let a = alone (eqb x 33) refl e in
         same (h v ∙ rw (d, a .0, a .1))
 
+-- the token at the front, whatever stands behind
 extended : (x : ℕ) (u v : List ℕ) (n : ℕ) → sized (front (x ∷ u)) ≡ some n → Extended x u v n
 extended x u v n e = by (classify x)
   where

@@ -19,15 +19,18 @@ pub data Spell : List Word → List Token → Type 0 where
   signed : {x : List ℕ} {ws : List Word} {ts : List Token} (p : ℕ) → Spell ws ts →
       Spell (negative x ∷ ws) (record { kind = minus; place = p; text = 45 ∷ [] } ∷ record { kind = digits; place = p + 1; text = x } ∷ ts)
 
+-- words behind words
 pub spell-append : {ws vs : List Word} {ts us : List Token} → Spell ws ts → Spell vs us → Spell (ws ++ vs) (ts ++ us)
 spell-append none k = k
 spell-append (one p h) k = one p (spell-append h k)
 spell-append (signed p h) k = signed p (spell-append h k)
 
+-- tokens before other tokens
 unfoldable pub prependAll : List Token → Lexed → Lexed
 prependAll [] l = l
 prependAll (t ∷ ts) l = prepend t (prependAll ts l)
 
+-- tokens before tokens before others
 prependAll-append : (ts us : List Token) (l : Lexed) → prependAll (ts ++ us) l ≡ prependAll ts (prependAll us l)
 unfolding prependAll
 prependAll-append [] us l = refl
@@ -67,23 +70,28 @@ pub lexes-space : (b : ℕ) (r : List ℕ) → isSpace b ≡ true → Lexes [] (
 unfolding prependAll scan if_then_else_
 lexes-space b r e = record { at = λ p. record { tokens = []; spells = none; scanned = rw e (ap (λ (n : ℕ). scan 0 n r) (omega arith)) } }
 
+-- white space behind a text
 pub lexes-then : {ws : List Word} {t u r : List ℕ} → Lexes ws t (u ++ r) → Lexes [] u r → Lexes ws (t ++ u) r
 lexes-then {ws} {t} {u} {r} h k = subst (λ (vs : List Word). Lexes vs (t ++ u) r) (append-nil ws) (lexes-append h k)
 
 -- ---- one token
+-- a text that is scanned as one token
 pub lexes-one : {k : ℕ} {x t r : List ℕ} → ((p : ℕ) → scan 0 p (t ++ r) ≡ prepend (record { kind = k; place = p; text = x }) (scan 0 (p + length t) r)) →
     Lexes (aWord k x) t r
 unfolding prependAll
 lexes-one h = record { at = λ p. record { tokens = _ ∷ []; spells = one p none; scanned = h p } }
 
+-- a word
 pub lexes-word : (x r : List ℕ) → Spelled x → isNamePart (getD r 0 0) ≡ false → Lexes (aWord (wordKind x) x) x r
 unfolding isLetter
 lexes-word [] r h k = let z : _≡_ {A = Bool} false true = h .letter in let w : _≡_ {A = ℕ} 0 1 = cc in absurd (omega arith)
 lexes-word (b ∷ x) r h k = lexes-one λ p. scan-name b x r p (h .letter) (h .parts) k
 
+-- a name
 pub lexes-name : (x r : List ℕ) → Named x → isNamePart (getD r 0 0) ≡ false → Lexes (aWord 1 x) x r
 lexes-name x r h k = subst (λ (n : ℕ). Lexes (aWord n x) x r) (h .kind) (lexes-word x r (h .spelled) k)
 
+-- what is no name part is no digit
 part-digit : (b : ℕ) → isNamePart b ≡ false → isDigit b ≡ false
 unfolding isNamePart
 part-digit b e = by (isLetter b) (isDigit b) e
@@ -92,16 +100,19 @@ part-digit b e = by (isLetter b) (isDigit b) e
     by true t e = cc
     by false t e = e
 
+-- digits
 pub lexes-digits : (ds r : List ℕ) → isDigit (getD ds 0 0) ≡ true → AllPass isDigit ds → isNamePart (getD r 0 0) ≡ false → Lexes (aWord digits ds) ds r
 unfolding isDigit
 lexes-digits [] r f h k = let z : _≡_ {A = Bool} false true = f in let w : _≡_ {A = ℕ} 0 1 = cc in absurd (omega arith)
 lexes-digits (b ∷ x) r f h k = lexes-one λ p. scan-digits b x r p h (part-digit (getD r 0 0) k)
 
+-- a string
 pub lexes-string : (x r : List ℕ) → Spelled x → Lexes (aWord aString x) (34 ∷ (x ++ 34 ∷ [])) r
 unfolding isLetter
 lexes-string [] r h = let z : _≡_ {A = Bool} false true = h .letter in let w : _≡_ {A = ℕ} 0 1 = cc in absurd (omega arith)
 lexes-string (b ∷ x) r h = lexes-one λ p. scan-string b x r p (h .letter) (h .parts)
 
+-- a sign of one byte
 pub lexes-sign : (b : ℕ) (r : List ℕ) → Lone b → isDouble b (getD r 0 0) ≡ false → Lexes (sign b) (b ∷ []) r
 lexes-sign b r h d = lexes-one λ p. scan-sign b r p h d
 
@@ -114,10 +125,12 @@ lone-minus : Lone 45
 unfolding isSpace isLetter isDigit isQuote isSign standsIn
 lone-minus = record { space = refl; letter = refl; digit = refl; quote = refl; sign = refl; bang = refl }
 
+-- no sign of two bytes begins with a minus
 minus-lone : (c : ℕ) → isDouble 45 c ≡ false
 unfolding standsIn
 minus-lone c = never-double 45 c refl refl
 
+-- a minus before digits
 pub lexes-negative : (ds r : List ℕ) → isDigit (getD ds 0 0) ≡ true → AllPass isDigit ds → isNamePart (getD r 0 0) ≡ false → Lexes (negative ds ∷ []) (45 ∷ ds) r
 unfolding prependAll isDigit
 lexes-negative [] r f h k = let z : _≡_ {A = Bool} false true = f in let w : _≡_ {A = ℕ} 0 1 = cc in absurd (omega arith)

@@ -38,10 +38,12 @@ BeginsSo (c ∷ t) = (eqb 43 c ≡ false) × (eqb 62 c ≡ false) × (eqb 60 c �
 pub record Begins (t : List ℕ) : Type 0 where
   pub so : BeginsSo t
 
+-- with more behind
 pub begins-append : (t r : List ℕ) → Begins t → Begins (t ++ r)
 begins-append [] r h = absurd (h .so)
 begins-append (c ∷ t) r h = record { so = h .so }
 
+-- a first byte that passes a test which the four signs fail
 begins-by : (f : ℕ → Bool) (t : List ℕ) → f (getD t 0 0) ≡ true → f 0 ≡ false → f 43 ≡ false → f 62 ≡ false → f 60 ≡ false → f 61 ≡ false → Begins t
 begins-by f [] e z p q s u = let w : _≡_ {A = Bool} true false = cc in let v : _≡_ {A = ℕ} 0 1 = cc in absurd (omega arith)
 begins-by f (c ∷ t) e z p q s u = record { so = (other 43 p, other 62 q, other 60 s, other 61 u) }
@@ -54,10 +56,12 @@ begins-by f (c ∷ t) e z p q s u = record { so = (other 43 p, other 62 q, other
         by false w = refl
 
 -- ---- digits
+-- each byte a digit
 all-digits : (ds : List ℕ) → AllDigits ds → AllPass isDigit ds
 all-digits [] h = tt
 all-digits (d ∷ ds) h = (h .0, all-digits ds (h .1))
 
+-- no number has no digits
 pub first-digit : (n : ℕ) → isDigit (getD (digitsOf n) 0 0) ≡ true
 unfolding numeralFrom
 first-digit n = by (digitsOf n) refl (digits-digitsOf n)
@@ -75,6 +79,7 @@ first-digit n = by (digitsOf n) refl (digits-digitsOf n)
 unfoldable pub loneSign : ℕ → Bool
 loneSign b = not (isSpace b) && not (isLetter b) && not (isDigit b) && not (isQuote b) && isSign b && not (eqb b 33)
 
+-- such a byte by the test
 pub lone : (b : ℕ) → loneSign b ≡ true → Lone b
 unfolding loneSign
 lone b e =
@@ -97,17 +102,21 @@ unfoldable pub signs : Unit {0}
 unfolding classes loneSign
 signs = tt
 
+-- a sign that begins no other
 mark : (b : ℕ) (r : List ℕ) → loneSign b ≡ true → standsIn b (bytes "+><=") ≡ false → Lexes (sign b) (b ∷ []) r
 mark b r e k = lexes-mark b r (lone b e) k
 
+-- the sign of an assignment
 lexes-becomes : (r : List ℕ) → Begins r → Lexes (sign 61) (61 ∷ []) r
 unfolding signs
 lexes-becomes [] h = absurd (h .so)
 lexes-becomes (c ∷ r) h = lexes-sign 61 (c ∷ r) (lone 61 refl) (not-double 61 c (h .so .3) refl)
 
+-- a sign of two bytes
 pair : (b c : ℕ) (r : List ℕ) (k : ℕ) → isSpace b ≡ false → front (b ∷ c ∷ r) ≡ found k 2 (b ∷ c ∷ []) → Lexes (aWord k (b ∷ c ∷ [])) (b ∷ c ∷ []) r
 pair b c r k s e = lexes-one λ p. scan-found b (c ∷ []) r p k 2 (b ∷ c ∷ []) s e refl
 
+-- an operator
 lexes-operator : (o : Operator) (r : List ℕ) → Begins r → Lexes (aWord (operatorKind o) (operatorText o)) (operatorText o) r
 unfolding signs front if_then_else_ isDouble operatorKind operatorText
 lexes-operator o [] h = absurd (h .so)
@@ -124,6 +133,7 @@ lexes-operator unequal (c ∷ r) h = pair 33 61 (c ∷ r) _ refl refl
 lexes-operator greater (c ∷ r) h = lexes-sign 62 (c ∷ r) (lone 62 refl) (not-double 62 c (h .so .1) refl)
 lexes-operator less (c ∷ r) h = lexes-sign 60 (c ∷ r) (lone 60 refl) (not-double 60 c (h .so .2) refl)
 
+-- an operator ends a name
 operator-stops : (o : Operator) (r : List ℕ) → Stops (operatorText o ++ r)
 unfolding signs operatorText
 operator-stops concatenate r = refl
@@ -145,15 +155,18 @@ unfolding enclosedIf
 begins-enclosed true t h = record { so = (refl, refl, refl, refl) }
 begins-enclosed false t h = h
 
+-- a constant
 begins-decimal : (z : ℤ) → Begins (decimal z)
 unfolding decimal signs
 begins-decimal (pos n) = begins-by isDigit (digitsOf n) (first-digit n) refl refl refl refl refl
 begins-decimal (negsuc n) = record { so = (refl, refl, refl, refl) }
 
+-- a word
 begins-spelled : (x : List ℕ) → Spelled x → Begins x
 unfolding signs
 begins-spelled x h = begins-by isLetter x (h .letter) refl refl refl refl refl
 
+-- an expression
 pub begins-expression : (e : Expression) → Sound e → Begins (expressionText e)
 unfolding expressionText Sound
 begins-expression (number z) h = begins-decimal z
@@ -171,11 +184,13 @@ begins-expression (call f es) h = begins-append _ _ (begins-append _ _ (begins-a
 begins-expression (paren e) h = begins-expression e h
 
 -- ---- expressions
+-- in parentheses or not
 lexes-enclosed : (b : Bool) {ws : List Word} {t r : List ℕ} → Stops r → ((r : List ℕ) → Stops r → Lexes ws t r) → Lexes (enclosedWords b ws) (enclosedIf b t) r
 unfolding enclosedWords enclosedIf signs
 lexes-enclosed true {ws} {t} {r} s h = lexes-append (lexes-append (mark 40 (t ++ 41 ∷ r) refl refl) (h (41 ∷ r) refl)) (mark 41 r refl refl)
 lexes-enclosed false {ws} {t} {r} s h = h r s
 
+-- a constant
 lexes-decimal : (z : ℤ) (r : List ℕ) → Stops r → Lexes (numberWords z) (decimal z) r
 unfolding numberWords decimal
 lexes-decimal (pos n) r s = lexes-digits (digitsOf n) r (first-digit n) (all-digits (digitsOf n) (digits-digitsOf n)) s
@@ -192,6 +207,7 @@ LexesAll [] (t ∷ ts) = ⊥
 LexesAll (w ∷ ws) [] = ⊥
 LexesAll (w ∷ ws) (t ∷ ts) = ((r : List ℕ) → Stops r → Lexes w t r) × LexesAll ws ts
 
+-- with commas between
 lexes-commas : (ws : List (List Word)) (ts : List (List ℕ)) (r : List ℕ) → Stops r → LexesAll ws ts → Lexes (joined ws) (commaSeparated ts) r
 unfolding joined commaSeparated signs
 lexes-commas [] [] r s h = lexes-nothing
@@ -245,6 +261,7 @@ apart-stops (c ∷ t) r h = by (isNamePart c) refl
     by true e = refl
     by false e = e
 
+-- a space before a word or not
 lexes-apart : {ws : List Word} {t r : List ℕ} → Lexes ws t r → Lexes ws (apart t) r
 unfolding apart signs
 lexes-apart {ws} {t} {r} h = by (isNamePart (getD t 0 0))
@@ -300,11 +317,13 @@ mutual
       lexes-append (lexes-then (lexes-statement s (h .0) (10 ∷ (statementsText ss ++ r))) (lexes-space 10 (statementsText ss ++ r) refl)) (lexes-statements ss (h .1) r)
 
 -- ---- the program
+-- parameters
 lexes-names : (xs : List (List ℕ)) → NamedAll xs → LexesAll (nameWords xs) xs
 unfolding nameWords NamedAll
 lexes-names [] h = tt
 lexes-names (x ∷ xs) h = (λ r s. lexes-name x r (h .0) s, lexes-names xs (h .1))
 
+-- a procedure
 lexes-procedure : (f : Procedure) → SoundProcedure f → (r : List ℕ) → Lexes (procedureWords f) (procedureText f) r
 unfolding procedureWords procedureText signs wordKind sameText
 lexes-procedure f h r =
@@ -320,6 +339,7 @@ lexes-procedure f h r =
     (lexes-statements (f .body) (h .body) (10 ∷ 125 ∷ r)))
     (lexes-append (lexes-space 10 (125 ∷ r) refl) (mark 125 r refl refl))
 
+-- THE TEXT OF PROCEDURES LEXES TO THEIR WORDS
 pub lexes-procedures : (fs : List Procedure) → SoundProcedures fs → (r : List ℕ) → Lexes (proceduresWords fs) (proceduresText fs) r
 unfolding proceduresWords proceduresText SoundProcedures isSpace
 lexes-procedures [] h r = lexes-nothing

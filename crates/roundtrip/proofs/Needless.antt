@@ -14,6 +14,7 @@ use Rattle.roundtrip.proofs.Weights.{sized, weighed, sized-sign}
 use Rattle.roundtrip.proofs.Separating.{stop-open, stop-close, separated}
 use Rattle.roundtrip.proofs.Joining.{together}
 
+-- parentheses are tokens of one byte
 open-one : (r : List ℕ) → sized (front (40 ∷ r)) ≡ some 1
 unfolding signs
 open-one r = sized-sign 40 r refl refl refl refl ∙ rw (never-double 40 (getD r 0 0) refl refl)
@@ -22,9 +23,11 @@ close-one : (r : List ℕ) → sized (front (41 ∷ r)) ≡ some 1
 unfolding signs
 close-one r = sized-sign 41 r refl refl refl refl ∙ rw (never-double 41 (getD r 0 0) refl refl)
 
+-- the same bytes
 regrouped : (a b c : List ℕ) → a ++ bytes "(" ++ b ++ bytes ")" ++ c ≡ a ++ 40 ∷ (b ++ 41 ∷ c)
 regrouped a b c = append-assoc (a ++ bytes "(" ++ b) (bytes ")") c ∙ append-assoc (a ++ bytes "(") b (bytes ")" ++ c) ∙ append-assoc a (bytes "(") (b ++ 41 ∷ c)
 
+-- BYTES WITHOUT TWO OF THEIR PARENTHESES HAVE FEWER TOKENS
 pub fewer : (a b c : List ℕ) (ts us : List Token) → tokensOf (a ++ bytes "(" ++ b ++ bytes ")" ++ c) ≡ lexed ts → tokensOf (a ++ b ++ c) ≡ lexed us → length us < length ts
 unfolding tokensOf isSpace
 fewer a b c ts us e k =

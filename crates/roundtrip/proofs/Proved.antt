@@ -16,6 +16,7 @@ use Rattle.roundtrip.proofs.Again.{known, text-of, text-few, again-read
 use Rattle.roundtrip.proofs.Checks.{passes}
 use Rattle.roundtrip.proofs.Needless.{fewer}
 
+-- reading the text gives the tree again
 pub reads-again : ReadsAgain
 reads-again p m r = again-read p m (known p m r)
 
@@ -23,6 +24,7 @@ reads-again p m r = again-read p m (known p m r)
 same-tree : (a b : Program) → wellFormed a ≡ wellFormed b → a ≡ b
 same-tree a b e = cc
 
+-- programs with one text have one tree
 same-bare : (p q : List ℕ) (m n : Program) → Reads p m → Reads q n → programText m ≡ programText n → bareProgram m ≡ bareProgram n
 same-bare p q m n r s e =
     let a = reads-again p m r in
@@ -30,15 +32,18 @@ same-bare p q m n r s e =
     let k = same-tree (a .0) (b .0) (sym (a .1) ∙ ap reading e ∙ b .1) in
     sym (a .2) ∙ ap bareProgram k ∙ b .2
 
+-- and programs with one tree have one text
 pub same-exactly : SameExactly
 same-exactly p q m n r s = (same-bare p q m n r s, same-text m n)
 
+-- the text of the text
 pub its-own-text : ItsOwnText
 unfolding textRead
 its-own-text p m r =
     let a = reads-again p m r in
     ap textRead (a .1) ∙ same-text (a .0) m (a .2)
 
+-- the text passes checking
 pub passes-checking : PassesChecking
 passes-checking = passes
 
@@ -49,9 +54,11 @@ count-of p m r =
     let k = known p m r in
     rw (text-of p m k .lexes, k .lexes) (text-few p m k)
 
+-- no program with the same tree has fewer tokens
 pub fewest-tokens : FewestTokens
 fewest-tokens p q m n r s e = rw (← same-text n m e) (count-of q n s)
 
+-- no parenthesis is needless
 pub none-needless : NoneNeedless
 unfolding tokenCount
 none-needless p m n a b c r e s same =

@@ -64,25 +64,30 @@ pub record Ends (k : ℕ) : Type 0 where
   pub noDot : eqb k 46 ≡ false
   pub noOperator : operatorOf k ≡ none
 
+-- such a kind
 pub ends : (k : ℕ) → eqb k 40 ≡ false → eqb k 46 ≡ false → operatorOf k ≡ none → Ends k
 ends k a b c = record { noCall = a; noDot = b; noOperator = c }
 
 module _ (ts : List Token) where
+  -- what may be read inside a level
   abbrev pub insideOf : ℕ → Inside ReadExpression
   insideOf zero = noLevel
   insideOf (suc left) = level (expression left ts)
 
+  -- an expression is read alike with levels left and without
   expression-is : (left i : ℕ) → expression left ts i ≡ expressionIn (insideOf left) ts i
   unfolding expression
   expression-is zero i = refl
   expression-is (suc left) i = refl
 
   -- ---- how an expression's words begin
+  -- in parentheses or not
   starts-enclosed : (b : Bool) (ws : List Word) (i j : ℕ) → Stands ts i (enclosedWords b ws) j → (Stands ts i ws j → opens (kindAt ts i) ≡ true) → opens (kindAt ts i) ≡ true
   unfolding enclosedWords opens
   starts-enclosed true ws i j h f = rw (h .0)
   starts-enclosed false ws i j h f = f h
 
+  -- every expression begins with one of these
   pub starts : (e : Expression) (i j : ℕ) → Stands ts i (words e) j → opens (kindAt ts i) ≡ true
   unfolding words numberWords opens
   starts (number (pos n)) i j h = rw (h .0)
@@ -114,10 +119,12 @@ module _ (ts : List Token) where
         operand (insideOf left) ts i ≡ good (kept e) j
     pub asExpression : (left i j : ℕ) → levels e ≤ left → Stands ts i (words e) j → Ends (kindAt ts j) → expression left ts i ≡ good (kept e) j
 
+  -- a primary with no dot behind it is an operand
   operand-of : (left i j : ℕ) (e : Expression) → primary (insideOf left) ts i ≡ good e j → is dot ts j ≡ false → operand (insideOf left) ts i ≡ good e j
   unfolding operand after if_then_else_
   operand-of left i j e p d = rw (p, d)
 
+  -- an operand with no operator behind it is an expression
   expression-of : (left i j : ℕ) (e : Expression) → operand (insideOf left) ts i ≡ good e j → operatorOf (kindAt ts j) ≡ none → expression left ts i ≡ good e j
   unfolding expressionIn after operated
   expression-of left i j e p d = expression-is left i ∙ rw (p, d)
@@ -131,6 +138,7 @@ module _ (ts : List Token) where
   }
 
   -- ---- constants
+  -- a constant is read as its number
   read-number : (z : ℤ) → Written z → (left i j : ℕ) → Stands ts i (numberWords z) j → primary (insideOf left) ts i ≡ good (number z) j
   unfolding numberWords Written primary if_then_else_
   read-number (pos n) w left i j h = rw (h .0, h .1, numeral-digitsOf n, le-leb n 2147483647 w, h .2)
@@ -138,6 +146,7 @@ module _ (ts : List Token) where
       rw (h .0, h .1, eq-eqb (startAt ts (i + 1)) (startAt ts i + 1) (h .3), h .2, numeral-digitsOf (suc n), le-leb (suc n) 2147483648 (omega arith), h .4)
 
   -- ---- a side of a dot, and an operand
+  -- an expression in parentheses
   enclosed-is : (e : Expression) → Read e → (left i j : ℕ) → suc (levels e) ≤ left → Stands ts i (sign 40 ++ words e ++ sign 41) j →
       primary (insideOf left) ts i ≡ good (paren (kept e)) j
   unfolding primary opening after expect if_then_else_ operatorOf
@@ -148,18 +157,21 @@ module _ (ts : List Token) where
       let r = f .asExpression left (i + 1) (p .0) (omega arith) (p .1) (rw k (ends 41 refl refl refl)) in
       rw (h .0, r, k, p .2 .2)
 
+  -- a side of a dot
   side : (b : Bool) (e : Expression) → Read e → isOperation e || isEntry e ≡ b → (left i j : ℕ) → levelsIn b (levels e) ≤ left → Stands ts i (enclosedWords b (words e)) j →
       is openParen ts j ≡ false → primary (insideOf left) ts i ≡ good (parenIf b (kept e)) j
   unfolding enclosedWords parenIf levelsIn
   side true e f n left i j l h k = enclosed-is e f left i j l h
   side false e f n left i j l h k = f .asPrimary n left i j l h k
 
+  -- an operand of an operator
   part : (b : Bool) (e : Expression) → Read e → isOperation e ≡ b → (left i j : ℕ) → levelsIn b (levels e) ≤ left → Stands ts i (enclosedWords b (words e)) j →
       is openParen ts j ≡ false → is dot ts j ≡ false → operand (insideOf left) ts i ≡ good (parenIf b (kept e)) j
   unfolding enclosedWords parenIf levelsIn
   part true e f n left i j l h k d = operand-of left i j (paren (kept e)) (enclosed-is e f left i j l h) d
   part false e f n left i j l h k d = f .asOperand n left i j l h k d
 
+  -- an entry
   read-entry : (a b : Expression) → Read a → Read b → (left i j : ℕ) → levels (entry a b) ≤ left → Stands ts i (words (entry a b)) j → is openParen ts j ≡ false →
       operand (insideOf left) ts i ≡ good (kept (entry a b)) j
   unfolding words levels kept operand after if_then_else_
@@ -172,6 +184,7 @@ module _ (ts : List Token) where
       let y = side (isOperation b || isEntry b) b g refl left (p .0) j (omega arith) (p .2) k in
       rw (x, d, q .2 .2, y)
 
+  -- an operation
   read-operation : (o : Operator) (a b : Expression) → Read a → Read b → (left i j : ℕ) → levels (operation o a b) ≤ left → Stands ts i (words (operation o a b)) j →
       is openParen ts j ≡ false → is dot ts j ≡ false → expression left ts i ≡ good (kept (operation o a b)) j
   unfolding words levels kept expressionIn after operated
@@ -194,11 +207,13 @@ module _ (ts : List Token) where
   rounds noArgument r = r
   rounds (argument e es) r = suc (rounds es r)
 
+  -- they are no fewer
   rounds-more : (es : Arguments) (r : ℕ) → r ≤ rounds es r
   unfolding rounds
   rounds-more noArgument r = omega arith
   rounds-more (argument e es) r = omega (arith, rounds-more es r)
 
+  -- one argument or more
   read-arguments-from : (e : Expression) (es : Arguments) (r : ℕ) → Read e → ReadAll es → (left i j : ℕ) → levels e ≤ left → levelsAll es ≤ left →
       Stands ts i (joined (words e ∷ argumentWords es)) j → kindAt ts j ≡ 41 →
       argumentsFrom (suc (rounds es r)) (expression left ts) ts i ≡ good (argument (kept e) (keptAll es)) (j + 1)
@@ -214,6 +229,7 @@ module _ (ts : List Token) where
       let y = read-arguments-from e′ es r (fs .0) (fs .1) left (p .0) j (omega arith) (omega arith) (p .2) k in
       rw (x, d, q .2 .2, y)
 
+  -- all arguments
   read-arguments : (es : Arguments) → ReadAll es → (left i j : ℕ) → levelsAll es ≤ left → Stands ts i (joined (argumentWords es)) j → kindAt ts j ≡ 41 →
       arguments (expression left ts) ts i ≡ good (keptAll es) (j + 1)
   unfolding arguments joined argumentWords levelsAll kept if_then_else_ opens
@@ -234,6 +250,7 @@ module _ (ts : List Token) where
           let q = split ts i (words e) (sign 44) (p .0) (p .1) in
           starts e i (q .0) (q .1)
 
+  -- a call
   read-call : (x : List ℕ) (es : Arguments) → ReadAll es → (left i j : ℕ) → levels (call x es) ≤ left → Stands ts i (words (call x es)) j →
       primary (insideOf left) ts i ≡ good (kept (call x es)) j
   unfolding words levels kept primary opening after if_then_else_
@@ -245,6 +262,7 @@ module _ (ts : List Token) where
       let r = read-arguments es fs left (i + 2) (p .0) (omega arith) (p .1) (p .2 .0) in
       rw (h .0, h .2 .0, r, h .1, p .2 .2)
 
+  -- a table
   read-table : (e : Expression) → Read e → (left i j : ℕ) → levels (table e) ≤ left → Stands ts i (words (table e)) j →
       primary (insideOf left) ts i ≡ good (table (kept e)) j
   unfolding words levels primary opening after expect if_then_else_ operatorOf
@@ -255,6 +273,7 @@ module _ (ts : List Token) where
       let r = f .asExpression left (i + 1) (p .0) (omega arith) (p .1) (rw k (ends 93 refl refl refl)) in
       rw (h .0, r, k, p .2 .2)
 
+  -- a name that no parenthesis follows
   read-name : (x : List ℕ) (left i j : ℕ) → Stands ts i (aWord aName x) j → is openParen ts j ≡ false → primary (insideOf left) ts i ≡ good (name x) j
   unfolding primary if_then_else_
   read-name x left i j h k = rw (h .0, h .2, k, h .1)

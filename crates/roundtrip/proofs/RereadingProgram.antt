@@ -24,6 +24,7 @@ Shallow (f ∷ fs) = (statementsLevels (f .body) ≤ 64) × Shallow fs
 
 module _ (ts : List Token) where
   -- ---- parameters
+  -- as many rounds as parameters, and more
   rounds : List (List ℕ) → ℕ → ℕ
   rounds [] r = r
   rounds (x ∷ xs) r = suc (rounds xs r)
@@ -33,12 +34,14 @@ module _ (ts : List Token) where
   rounds-more [] r = omega arith
   rounds-more (x ∷ xs) r = omega (arith, rounds-more xs r)
 
+  -- one parameter or more
   names-from : (x : List ℕ) (xs : List (List ℕ)) (r i j : ℕ) → Stands ts i (joined (nameWords (x ∷ xs))) j → kindAt ts j ≡ 41 →
       parametersFrom (suc (rounds xs r)) ts i ≡ good (x ∷ xs) (j + 1)
   unfolding parametersFrom rounds joined nameWords after expect if_then_else_
   names-from x [] r i j h k = rw (h .0, h .2, k, h .1)
   names-from x (y ∷ xs) r i j h k = rw (h .0, h .2 .0, names-from y xs r (i + 1 + 1) j (h .2 .2) k, h .1)
 
+  -- all parameters
   read-names : (xs : List (List ℕ)) (i j : ℕ) → Stands ts i (joined (nameWords xs)) j → kindAt ts j ≡ 41 → parameters ts i ≡ good xs (j + 1)
   unfolding parameters joined nameWords if_then_else_
   read-names [] i j h k =
@@ -59,6 +62,7 @@ module _ (ts : List Token) where
     pub reads : procedure ts i ≡ good tree j
     pub same : bareProcedure tree ≡ bareProcedure f
 
+  -- a procedure
   again-procedure : (f : Procedure) → SoundProcedure f → statementsLevels (f .body) ≤ 64 → (i j : ℕ) → Stands ts i (procedureWords f) j → AgainProcedure f i j
   unfolding procedureWords procedure after expect if_then_else_ bareProcedure
   again-procedure f g l i j h =
@@ -77,6 +81,7 @@ module _ (ts : List Token) where
       }
 
   -- ---- all procedures
+  -- as many rounds as procedures, and more
   proceduresRounds : List Procedure → ℕ → ℕ
   proceduresRounds [] r = r
   proceduresRounds (f ∷ fs) r = suc (proceduresRounds fs r)
@@ -91,17 +96,21 @@ module _ (ts : List Token) where
     reads : proceduresFrom (suc (proceduresRounds fs r)) ts i ≡ good tree (length ts)
     same : map bareProcedure tree ≡ map bareProcedure (f ∷ fs)
 
+  -- behind the last token
   last-kind : kindAt ts (length ts) ≡ 0
   last-kind = ap (λ (t : Token). t .kind) (List·getD-eq-default ts afterLast (omega arith))
 
+  -- a procedure begins with def
   def-first : (f : Procedure) (i j : ℕ) → Stands ts i (procedureWords f) j → kindAt ts i ≡ 4
   unfolding procedureWords
   def-first f i j h = h .0
 
+  -- and so do procedures
   begins-def : (f : Procedure) (fs : List Procedure) (i : ℕ) → Stands ts i (proceduresWords (f ∷ fs)) (length ts) → kindAt ts i ≡ 4
   unfolding proceduresWords
   begins-def f fs i h = let q = split ts i (procedureWords f) (proceduresWords fs) (length ts) h in def-first f i (q .0) (q .1)
 
+  -- one procedure or more
   again-procedures : (f : Procedure) (fs : List Procedure) (r i : ℕ) → SoundProcedures (f ∷ fs) → Shallow (f ∷ fs) →
       Stands ts i (proceduresWords (f ∷ fs)) (length ts) → AgainProcedures f fs r i
   unfolding proceduresWords SoundProcedures Shallow proceduresFrom proceduresRounds after if_then_else_
@@ -122,6 +131,7 @@ abbrev Bared : Option Procedure → Option Procedure
 Bared none = none
 Bared (some f) = some (bareProcedure f)
 
+-- a procedure is found by its name alone
 named-bare : (x : List ℕ) (fs : List Procedure) → procedureNamed x (map bareProcedure fs) ≡ Bared (procedureNamed x fs)
 unfolding procedureNamed bareProcedure if_then_else_
 named-bare x [] = refl

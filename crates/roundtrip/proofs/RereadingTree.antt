@@ -21,10 +21,12 @@ use Rattle.roundtrip.proofs.Kept.{bare-kept, bare-paren}
 use Rattle.roundtrip.proofs.Rereading.{opens, Ends, ends, starts, read}
 
 module _ (ts : List Token) where
+  -- what may be read inside a level
   abbrev readersOf : ℕ → Inside Readers
   readersOf zero = noLevel
   readersOf (suc left) = level (record { inExpression = expression left ts; inStatement = statement left ts })
 
+  -- a statement is read alike with levels left and without
   statement-is : (left i : ℕ) → statement left ts i ≡ statementIn (expression left ts) (readersOf left) ts i
   unfolding statement
   statement-is zero i = refl
@@ -48,6 +50,7 @@ module _ (ts : List Token) where
     pub reads : statement left ts i ≡ good tree j
     pub same : bareStatement tree ≡ bareStatement s
 
+  -- a declaration
   again-declare : (p : ℕ) (x : List ℕ) (left i j : ℕ) → Stands ts i (statementWords (declare p x)) j → Again (declare p x) left i j
   unfolding statementWords statementIn declaration expect if_then_else_ bareStatement
   again-declare p x left i j h =
@@ -60,6 +63,7 @@ module _ (ts : List Token) where
         same = refl;
       }
 
+  -- a return
   again-return : (p : ℕ) (e : Expression) → Sound e → (left i j : ℕ) → levels e ≤ left → Stands ts i (statementWords (return p e)) j → Again (return p e) left i j
   unfolding statementWords statementIn returning after expect if_then_else_ bareStatement operatorOf
   again-return p e f left i j l h =
@@ -70,6 +74,7 @@ module _ (ts : List Token) where
         same = rw (bare-kept e);
       }
 
+  -- an expression
   again-act : (p : ℕ) (e : Expression) → Sound e → (left i j : ℕ) → levels e ≤ left → Stands ts i (statementWords (act p e)) j → Again (act p e) left i j
   unfolding statementWords simple after expect if_then_else_ bareStatement operatorOf
   again-act p e f left i j l h =
@@ -80,6 +85,7 @@ module _ (ts : List Token) where
         same = rw (bare-kept e);
       }
 
+  -- an assignment
   again-assign : (p : ℕ) (x : List ℕ) (e : Expression) → Named x → Sound e → (left i j : ℕ) → levels e ≤ left → Stands ts i (statementWords (assign p x e)) j →
       Again (assign p x e) left i j
   unfolding statementWords simple assignment targetOf after expect if_then_else_ bareStatement operatorOf words levels kept Sound opens
@@ -99,6 +105,7 @@ module _ (ts : List Token) where
         same = rw (bare-kept e);
       }
 
+  -- an update
   again-update : (p : ℕ) (a b e : Expression) → Sound a → Sound b → Sound e → (left i j : ℕ) → statementLevels (update p a b e) ≤ left →
       Stands ts i (statementWords (update p a b e)) j → Again (update p a b e) left i j
   unfolding statementWords simple assignment targetOf after expect if_then_else_ bareStatement operatorOf kept Sound statementLevels
@@ -136,6 +143,7 @@ module _ (ts : List Token) where
       let t = g (q .0) (q .2) in
       (t .tree, rw (k, tree e f left (i + 1) (r .0) 41 l (r .1) (r .2 .0) (ends 41 refl refl refl), r .2 .0, r .2 .2, t .reads), t .same)
 
+  -- an if
   again-when : (p : ℕ) (e : Expression) (s : Statement) → Sound e → (left i j : ℕ) → statementLevels (when p e s) ≤ left →
       ((left m : ℕ) → statementLevels s ≤ left → Stands ts m (statementWords s) j → Again s left m j) →
       Stands ts i (statementWords (when p e s)) j → Again (when p e s) left i j
@@ -145,6 +153,7 @@ module _ (ts : List Token) where
       let r = again-guarded when left (i + 1) j e s f (omega arith) (λ m k. g left m (omega arith) k) (h .2 .0) (h .2 .2) (startAt ts i) in
       record { tree = when (startAt ts i) (kept e) (r .0); reads = statement-is (suc left) i ∙ rw (h .0) (r .1); same = rw (bare-kept e, r .2) }
 
+  -- a while
   again-while : (p : ℕ) (e : Expression) (s : Statement) → Sound e → (left i j : ℕ) → statementLevels (while p e s) ≤ left →
       ((left m : ℕ) → statementLevels s ≤ left → Stands ts m (statementWords s) j → Again s left m j) →
       Stands ts i (statementWords (while p e s)) j → Again (while p e s) left i j
@@ -173,6 +182,7 @@ module _ (ts : List Token) where
       let q = split ts i (words e) (sign 59) j h in
       differs opens (kindAt ts i) 125 (starts ts e i (q .0) (q .1)) refl
 
+  -- nor do statements
   no-braces : (ss : Statements) (i j : ℕ) → Stands ts i (statementsWords ss) j → eqb (kindAt ts i) 125 ≡ false
   unfolding statementWords
   no-braces (only s) i j h = no-brace s i j h
@@ -193,20 +203,25 @@ module _ (ts : List Token) where
     pub reads : statementsFrom (rounds ss r) (statement left ts) ts i ≡ good tree (j + 1)
     pub same : bareStatements tree ≡ bareStatements ss
 
+  -- the last statement
   again-only : (s : Statement) (r left i j : ℕ) → Again s left i j → kindAt ts j ≡ 125 → AgainAll (only s) r left i j
   unfolding rounds statementsFrom after if_then_else_ bareStatement
   again-only s r left i j a k = record { tree = only (a .tree); reads = rw (a .reads, k); same = rw (a .same) }
 
+  -- a statement before others
   again-first : (s : Statement) (ss : Statements) (r left i m j : ℕ) → Again s left i m → Stands ts m (statementsWords ss) j → AgainAll ss r left m j →
       AgainAll (first s ss) r left i j
   unfolding rounds statementsFrom after if_then_else_ bareStatement
   again-first s ss r left i m j a h b =
       record { tree = first (a .tree) (b .tree); reads = rw (a .reads, no-braces ss m j h, b .reads); same = rw (a .same, b .same) }
 
-  pub again-statements : (ss : Statements) (left i j : ℕ) → AgainAll ss (length ts) left i j → (t : Statements) × (statements (statement left ts) ts i ≡ good t (j + 1)) × (bareStatements t ≡ bareStatements ss)
+  -- the rounds that the grammar gives are enough
+  pub again-statements : (ss : Statements) (left i j : ℕ) → AgainAll ss (length ts) left i j →
+      (t : Statements) × (statements (statement left ts) ts i ≡ good t (j + 1)) × (bareStatements t ≡ bareStatements ss)
   again-statements ss left i j a =
       (a .tree, sym (statements-rounds ts left i (rounds ss (length ts)) (omega (arith, rounds-more ss (length ts)))) ∙ a .reads, a .same)
 
+  -- a block
   again-block : (p : ℕ) (ss : Statements) (left i j : ℕ) → statementLevels (block p ss) ≤ left →
       ((left i j : ℕ) → statementsLevels ss ≤ left → Stands ts i (statementsWords ss) j → kindAt ts j ≡ 125 → AgainAll ss (length ts) left i j) →
       Stands ts i (statementWords (block p ss)) j → Again (block p ss) left i j

@@ -15,12 +15,14 @@ use Rattle.roundtrip.proofs.LexesTree.{signs}
 use Rattle.roundtrip.proofs.Weights.{sized, weighAt, weigh, CleanAt, Clean, Class, letter, digit, quote, sign, other, classify, stringSize, signSize, sized-letter, sized-digit, sized-quote, sized-sign, sized-other}
 
 -- ---- spans
+-- a run ends where a byte stops it
 pub span-stop : (f : ℕ → Bool) (u v : List ℕ) → f (getD v 0 0) ≡ false → span f (u ++ v) ≡ span f u
 unfolding span if_then_else_
 span-stop f [] [] e = refl
 span-stop f [] (c ∷ v) e = rw e
 span-stop f (b ∷ u) v e = rw (span-stop f u v e)
 
+-- a run is no longer than its bytes
 pub span-le : (f : ℕ → Bool) (u : List ℕ) → span f u ≤ length u
 unfolding span if_then_else_
 span-le f [] = omega arith
@@ -54,15 +56,18 @@ pub stop-end : Stop 0
 unfolding signs
 stop-end = record { noPart = refl; noLetter = refl; noDigit = refl; noQuote = refl; noSecond = never-second 0 refl refl }
 
+-- an opening parenthesis
 pub stop-open : Stop 40
 unfolding signs
 stop-open = record { noPart = refl; noLetter = refl; noDigit = refl; noQuote = refl; noSecond = never-second 40 refl refl }
 
+-- a closing parenthesis
 pub stop-close : Stop 41
 unfolding signs
 stop-close = record { noPart = refl; noLetter = refl; noDigit = refl; noQuote = refl; noSecond = never-second 41 refl refl }
 
 -- ---- the token at the front is the same
+-- no quote comes of what stands behind
 quote-stop : (u v : List ℕ) (n : ℕ) → n ≤ length u → isQuote (getD v 0 0) ≡ false → isQuote (getD (u ++ v) n 0) ≡ isQuote (getD u n 0)
 unfolding isQuote
 quote-stop [] v zero l e = e
@@ -70,22 +75,27 @@ quote-stop [] v (suc n) l e = absurd (omega arith)
 quote-stop (b ∷ u) v zero l e = refl
 quote-stop (b ∷ u) v (suc n) l e = quote-stop u v n (omega arith) e
 
+-- no letter
 letter-stop : (u v : List ℕ) → isLetter (getD v 0 0) ≡ false → isLetter (getD (u ++ v) 0 0) ≡ isLetter (getD u 0 0)
 unfolding isLetter
 letter-stop [] v e = e
 letter-stop (b ∷ u) v e = refl
 
+-- no second byte of a sign
 double-stop : (x : ℕ) (u v : List ℕ) → isDouble x (getD v 0 0) ≡ false → isDouble x (getD (u ++ v) 0 0) ≡ isDouble x (getD u 0 0)
 double-stop x [] v e = e ∙ sym (stop-end .noSecond x)
 double-stop x (b ∷ u) v e = refl
 
+-- no string
 string-stop : (u v : List ℕ) → Stop (getD v 0 0) → stringSize (u ++ v) ≡ stringSize u
 string-stop u v s =
     rw (span-stop isNamePart u v (s .noPart), letter-stop u v (s .noLetter), quote-stop u v (span isNamePart u) (span-le isNamePart u) (s .noQuote))
 
+-- no longer sign
 sign-stop : (x : ℕ) (u v : List ℕ) → Stop (getD v 0 0) → signSize x (getD (u ++ v) 0 0) ≡ signSize x (getD u 0 0)
 sign-stop x u v s = rw (double-stop x u v (s .noSecond x))
 
+-- nothing else
 sized-stop : (x : ℕ) (u v : List ℕ) → Stop (getD v 0 0) → sized (front (x ∷ (u ++ v))) ≡ sized (front (x ∷ u))
 sized-stop x u v s = by (classify x)
   where
@@ -97,12 +107,14 @@ sized-stop x u v s = by (classify x)
     by (other l d q g) = sized-other x (u ++ v) l d q g ∙ sym (sized-other x u l d q g)
 
 -- ---- and it ends within its bytes
+-- a quote is one of the bytes
 pub quote-inside : (u : List ℕ) (n : ℕ) → isQuote (getD u n 0) ≡ true → n < length u
 unfolding isQuote
 quote-inside [] n e = let z : _≡_ {A = Bool} false true = e in let w : _≡_ {A = ℕ} 0 1 = cc in absurd (omega arith)
 quote-inside (b ∷ u) zero e = omega arith
 quote-inside (b ∷ u) (suc n) e = omega (arith, quote-inside u n e)
 
+-- every token
 pub size-bound : (x : ℕ) (u : List ℕ) (n : ℕ) → sized (front (x ∷ u)) ≡ some n → n - 1 ≤ length u
 size-bound x u n e = by (classify x)
   where

@@ -17,6 +17,7 @@ use Rattle.roundtrip.proofs.Sound.{Written, Sound, SoundAll}
 use Rattle.roundtrip.proofs.Spelling.{Spelt}
 use Rattle.roundtrip.proofs.Yields.{Yields, yields, fails, Inner, closed, opened, yields-if, yields-after, yields-opening, yields-expect}
 
+-- words behind words
 pub tokens-append : (ws vs : List Word) → tokens (ws ++ vs) ≡ tokens ws + tokens vs
 tokens-append [] vs = omega arith
 tokens-append (plain k x ∷ ws) vs = omega (arith, tokens-append ws vs)
@@ -49,6 +50,7 @@ unfolding Written
 written-negative zero h = omega arith
 written-negative (suc n) h = omega arith
 
+-- a constant with a minus is two tokens at most
 few-negative : (n : ℕ) → tokens (numberWords (negℤ (pos n))) ≤ 2
 unfolding numberWords
 few-negative zero = omega arith
@@ -69,6 +71,7 @@ module _ (ts : List Token) (spelt : (i : ℕ) → Spelt (kindAt ts i) (textAt ts
     low : levelsAll es ≤ left
     few : i + tokens (joined (argumentWords es)) + 1 ≤ j
 
+  -- one argument or more
   arguments-from-fine : (r left : ℕ) (inner : ReadExpression) → FineAt left inner → (i : ℕ) → Yields (λ es j. FineAll left i es j) (argumentsFrom r inner ts i)
   unfolding argumentsFrom argumentWords joined levelsAll SoundAll levelsIn enclosedWords
   arguments-from-fine zero left inner h i = fails
@@ -85,6 +88,7 @@ module _ (ts : List Token) (spelt : (i : ℕ) → Spelt (kindAt ts i) (textAt ts
         few = let a : i + tokens (words e) ≤ j = f .few in omega arith;
       }
 
+  -- all arguments
   arguments-fine : (left : ℕ) (inner : ReadExpression) → FineAt left inner → (i : ℕ) → Yields (λ es j. FineAll left i es j) (arguments inner ts i)
   unfolding arguments argumentWords joined levelsAll SoundAll
   arguments-fine left inner h i =
@@ -92,6 +96,7 @@ module _ (ts : List Token) (spelt : (i : ℕ) → Spelt (kindAt ts i) (textAt ts
 
   -- ---- primaries
   module _ (left : ℕ) (inside : Inside ReadExpression) (h : Inner FineAt left inside) where
+    -- a primary
     primary-fine : (i : ℕ) → Yields (λ e j. Fine (isOperation e || isEntry e) left i e j) (primary inside ts i)
     unfolding primary isOperation isEntry Sound Written words numberWords levels levelsIn enclosedWords
     primary-fine i =
@@ -136,6 +141,7 @@ module _ (ts : List Token) (spelt : (i : ℕ) → Spelt (kindAt ts i) (textAt ts
             by false = record { sound = f .sound; low = let a = f .low in omega arith; few = let a : i + 1 + tokens (words e) ≤ j = f .few in omega arith }
 
     -- ---- operands and expressions
+    -- an operand
     operand-fine : (i : ℕ) → Yields (λ e j. Fine (isOperation e) left i e j) (operand inside ts i)
     unfolding operand isOperation Sound words levels levelsIn enclosedWords
     operand-fine i =
@@ -147,6 +153,7 @@ module _ (ts : List Token) (spelt : (i : ℕ) → Spelt (kindAt ts i) (textAt ts
         }))
         λ _. yields (loosen (isOperation a) (isEntry a) f)
 
+    -- an operator behind an operand
     operated-fine : (o : Option Operator) (a : Expression) (i j : ℕ) → Fine (isOperation a) left i a j → Yields (λ e m. Fine false left i e m) (operated o inside ts a j)
     unfolding operated Sound words levels levelsIn enclosedWords
     operated-fine none a i j f = yields (loosen false (isOperation a) f)
@@ -156,10 +163,12 @@ module _ (ts : List Token) (spelt : (i : ℕ) → Spelt (kindAt ts i) (textAt ts
       few = let p = f .few in let q = g .few in simp tokens-append (omega arith);
     })
 
+    -- an expression in a level
     expression-in-fine : (i : ℕ) → Yields (λ e j. Fine false left i e j) (expressionIn inside ts i)
     unfolding expressionIn
     expression-in-fine i = yields-after _ (operand-fine i) λ a j f. operated-fine _ a i j f
 
+  -- every expression
   pub expression-fine : (left : ℕ) (i : ℕ) → Yields (λ e j. Fine false left i e j) (expression left ts i)
   unfolding expression
   expression-fine zero i = expression-in-fine zero noLevel closed i

@@ -25,6 +25,7 @@ pub record Plain (left i : ℕ) (e : Expression) (j : ℕ) : Type 0 where
   pub low : levels e ≤ left
   pub few : i + tokens (words e) ≤ j
 
+-- every expression is
 plain-of : {left i : ℕ} {e : Expression} {j : ℕ} → Fine false left i e j → Plain left i e j
 unfolding levelsIn enclosedWords
 plain-of f = record { sound = f .sound; low = f .low; few = f .few }
@@ -52,9 +53,11 @@ module _ (ts : List Token) (spelt : (i : ℕ) → Spelt (kindAt ts i) (textAt ts
           let q : kindAt ts j ≡ 0 = ap (λ (t : Token). t .kind) (List·getD-eq-default ts afterLast (ltb-false j (length ts) l)) in
           absurd (omega (arith, q, e))
 
+  -- a name token is a name
   named : (i : ℕ) → is aName ts i ≡ true → Named (textAt ts i)
   named i e = spelt i .asName (eqb-true (kindAt ts i) aName e)
 
+  -- every expression that is read
   read-fine : (left i : ℕ) → Yields (λ e j. Plain left i e j) (expression left ts i)
   read-fine left i = by (expression left ts i) (expression-fine ts spelt left i)
     where
@@ -63,12 +66,14 @@ module _ (ts : List Token) (spelt : (i : ℕ) → Spelt (kindAt ts i) (textAt ts
       by g fails = fails
 
   -- ---- simple statements
+  -- a declaration
   declaration-fine : (left i : ℕ) → Yields (λ s j. FineStatement left i s j) (declaration ts i)
   unfolding declaration SoundStatement statementLevels statementWords
   declaration-fine left i = yields-if _ _ _
       (λ e. yields-expect _ ts (i + 2) _ λ _. record { sound = named (i + 1) e; low = omega arith; few = omega arith })
       (λ _. fails)
 
+  -- a return
   returning-fine : (left i : ℕ) → Yields (λ s j. FineStatement left i s j) (returning (expression left ts) ts i)
   unfolding returning SoundStatement statementLevels statementWords
   returning-fine left i = yields-after _ (read-fine left (i + 1)) λ e j f. yields-expect _ ts j _ λ _.
@@ -99,6 +104,7 @@ module _ (ts : List Token) (spelt : (i : ℕ) → Spelt (kindAt ts i) (textAt ts
   target-fine left p i j (call x es) f = fails
   target-fine left p i j (paren e) f = fails
 
+  -- an expression, an assignment or an update
   simple-fine : (left i : ℕ) → Yields (λ s j. FineStatement left i s j) (simple (expression left ts) ts i)
   unfolding simple SoundStatement statementLevels statementWords
   simple-fine left i = yields-after _ (read-fine left i) λ a j f. yields-if _ _ _ (λ _. target-fine left _ i j a f)
@@ -108,6 +114,7 @@ module _ (ts : List Token) (spelt : (i : ℕ) → Spelt (kindAt ts i) (textAt ts
   abbrev FineReader : ℕ → ReadStatement → Type 0
   FineReader left read = (i : ℕ) → Yields (λ s j. FineStatement left i s j) (read i)
 
+  -- statements up to the closing brace
   statements-fine : (r left : ℕ) (inner : ReadStatement) → FineReader left inner → (i : ℕ) → Yields (λ ss j. FineStatements ts left i ss j) (statementsFrom r inner ts i)
   unfolding statementsFrom SoundStatement statementLevels statementWords
   statements-fine zero left inner h i = fails
@@ -130,6 +137,7 @@ module _ (ts : List Token) (spelt : (i : ℕ) → Spelt (kindAt ts i) (textAt ts
     statements : FineReader left (r .inStatement)
 
   module _ (left : ℕ) (inside : Inside Readers) (h : Inner FineReaders left inside) where
+    -- if and while
     guarded-fine : (make : Expression → Statement → Statement) (i : ℕ) →
         ((l m : ℕ) (e : Expression) (s : Statement) (j n : ℕ) → left ≡ suc l → Plain l (i + 1 + 1) e j → FineStatement l (j + 1) s n → FineStatement left i (make e s) n) →
         Yields (λ s j. FineStatement left i s j) (guarded make inside ts (i + 1))
@@ -140,6 +148,7 @@ module _ (ts : List Token) (spelt : (i : ℕ) → Spelt (kindAt ts i) (textAt ts
         yields-after _ (w .statements m) λ s n u. yields (g l m e s j n q f (subst (λ (x : ℕ). FineStatement l x s n) k u)))
         (λ _. fails)
 
+    -- an if
     when-fine : (p i l m : ℕ) (e : Expression) (s : Statement) (j n : ℕ) → left ≡ suc l → Plain l (i + 1 + 1) e j → FineStatement l (j + 1) s n → FineStatement left i (when p e s) n
     unfolding SoundStatement statementLevels statementWords
     when-fine p i l m e s j n q f u = record {
@@ -148,6 +157,7 @@ module _ (ts : List Token) (spelt : (i : ℕ) → Spelt (kindAt ts i) (textAt ts
       few = let a = f .few in let b = u .few in omega (arith, tokens-append (words e ++ sign 41) (statementWords s), tokens-append (words e) (sign 41));
     }
 
+    -- a while
     while-fine : (p i l m : ℕ) (e : Expression) (s : Statement) (j n : ℕ) → left ≡ suc l → Plain l (i + 1 + 1) e j → FineStatement l (j + 1) s n → FineStatement left i (while p e s) n
     unfolding SoundStatement statementLevels statementWords
     while-fine p i l m e s j n q f u = record {
@@ -156,6 +166,7 @@ module _ (ts : List Token) (spelt : (i : ℕ) → Spelt (kindAt ts i) (textAt ts
       few = let a = f .few in let b = u .few in omega (arith, tokens-append (words e ++ sign 41) (statementWords s), tokens-append (words e) (sign 41));
     }
 
+    -- a statement in a level
     statement-in-fine : (i : ℕ) → Yields (λ s j. FineStatement left i s j) (statementIn (expression left ts) inside ts i)
     unfolding statementIn SoundStatement statementLevels statementWords
     statement-in-fine i =
@@ -170,6 +181,7 @@ module _ (ts : List Token) (spelt : (i : ℕ) → Spelt (kindAt ts i) (textAt ts
         }))
         λ _. simple-fine left i
 
+  -- every statement
   statement-fine : (left : ℕ) → FineReader left (statement left ts)
   unfolding statement
   statement-fine zero i = statement-in-fine zero noLevel closed i
@@ -182,6 +194,7 @@ module _ (ts : List Token) (spelt : (i : ℕ) → Spelt (kindAt ts i) (textAt ts
     sound : NamedAll xs
     few : i + tokens (joined (nameWords xs)) + 1 ≤ j
 
+  -- one parameter or more
   parameters-from-fine : (r i : ℕ) → Yields (λ xs j. FineNames i xs j) (parametersFrom r ts i)
   unfolding parametersFrom NamedAll nameWords joined
   parameters-from-fine zero i = fails
@@ -193,6 +206,7 @@ module _ (ts : List Token) (spelt : (i : ℕ) → Spelt (kindAt ts i) (textAt ts
       }))
       λ _. yields-expect _ ts j _ λ _. record { sound = (f .0, tt); few = let a = f .1 in omega arith }
 
+  -- all parameters
   parameters-fine : (i : ℕ) → Yields (λ xs j. FineNames i xs j) (parameters ts i)
   unfolding parameters NamedAll nameWords joined
   parameters-fine i = yields-if _ _ _ (λ _. yields (record { sound = tt; few = omega arith })) (λ _. parameters-from-fine _ i)
@@ -203,6 +217,7 @@ module _ (ts : List Token) (spelt : (i : ℕ) → Spelt (kindAt ts i) (textAt ts
     few : i + tokens (procedureWords f) ≤ j
     inside : j ≤ length ts
 
+  -- a procedure
   procedure-fine : (i : ℕ) → Yields (λ f j. FineProcedure i f j) (procedure ts i)
   unfolding procedure procedureWords
   procedure-fine i =
@@ -234,6 +249,7 @@ module _ (ts : List Token) (spelt : (i : ℕ) → Spelt (kindAt ts i) (textAt ts
     pub few : i + tokens (proceduresWords fs) ≤ length ts
     pub some : (f : Procedure) × (gs : List Procedure) × (fs ≡ f ∷ gs)
 
+  -- one procedure or more
   procedures-fine : (r i : ℕ) → Yields (λ fs j. FineProcedures i fs) (proceduresFrom r ts i)
   unfolding proceduresFrom SoundProcedures Shallow proceduresWords
   procedures-fine zero i = fails
@@ -257,6 +273,7 @@ module _ (ts : List Token) (spelt : (i : ℕ) → Spelt (kindAt ts i) (textAt ts
     pub procedures : FineProcedures 0 (m .procedures)
     pub main : procedureNamed (bytes "main") (m .procedures) ≡ some (m .main)
 
+  -- every program that is read
   pub program-fine : Yields (λ m j. FineProgram m) (procedures ts)
   unfolding procedures withMain
   program-fine = yields-after _ (procedures-fine (suc (length ts)) 0) λ fs j a. by fs j a (procedureNamed (bytes "main") fs) refl

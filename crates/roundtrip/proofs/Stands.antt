@@ -26,6 +26,7 @@ split ts i (negative x ∷ ws) vs j h =
     (r .0, (h .0, h .1, h .2, h .3, r .1), r .2)
 
 -- ---- tokens that spell words
+-- the first of what is left
 drop-first : (i : ℕ) (ts : List Token) (t : Token) (us : List Token) → drop i ts ≡ t ∷ us → (getD ts i afterLast ≡ t) × (drop (suc i) ts ≡ us)
 drop-first zero [] t us e = let z : _≡_ {A = ℕ} 0 1 = cc in absurd (omega arith)
 drop-first zero (u ∷ ts) t us e = (cc, cc)
@@ -39,6 +40,7 @@ here i ts t us e =
     let n : suc i ≡ i + 1 = omega arith in
     (a .0, subst (λ (k : ℕ). drop k ts ≡ us) n (a .1))
 
+-- they stand where they are the next
 pub spell-stands : (ts us : List Token) {ws : List Word} (i j : ℕ) → Spell ws us → drop i ts ≡ us → j ≡ i + length us → Stands ts i ws j
 spell-stands ts us i j none e l = omega arith
 spell-stands ts us i j (one {ts = vs} p h) e l =

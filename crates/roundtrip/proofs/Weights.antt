@@ -43,6 +43,7 @@ Clean (suc k) (b ∷ bs) = Clean k bs
 Clean zero (b ∷ bs) = CleanAt (isSpace b) (sized (front (b ∷ bs))) (Clean 0 bs) (λ k. Clean k bs)
 
 -- ---- of bytes that were scanned
+-- one token more
 prepended : (t : Token) (l : Lexed) (ts : List Token) → prepend t l ≡ lexed ts → (us : List Token) × (l ≡ lexed us) × (length ts ≡ suc (length us))
 unfolding prepend
 prepended t (lexed us) ts e = (us, refl, ap length (inside e))
@@ -51,6 +52,7 @@ prepended t (lexed us) ts e = (us, refl, ap length (inside e))
     inside e = cc
 prepended t (stray p) ts e = let z : _≡_ {A = ℕ} 0 1 = cc in absurd (omega arith)
 
+-- scanned bytes are clean, and weigh their tokens
 pub weighed : (bs : List ℕ) (k at : ℕ) (ts : List Token) → scan k at bs ≡ lexed ts → Clean k bs × (weigh k bs ≡ length ts)
 unfolding scan starting weigh weighAt if_then_else_ sized
 weighed [] k at ts e = (tt, empty e)
@@ -78,6 +80,7 @@ pub data Class (b : ℕ) : Type 0 where
   sign : isLetter b ≡ false → isDigit b ≡ false → isQuote b ≡ false → isSign b ≡ true → Class b
   other : isLetter b ≡ false → isDigit b ≡ false → isQuote b ≡ false → isSign b ≡ false → Class b
 
+-- each byte is in one class
 pub classify : (b : ℕ) → Class b
 classify b = by (isLetter b) refl (isDigit b) refl (isQuote b) refl (isSign b) refl
   where
@@ -92,9 +95,11 @@ classify b = by (isLetter b) refl (isDigit b) refl (isQuote b) refl (isSign b) r
 abbrev pub stringSize : List ℕ → Option ℕ
 stringSize w = cond (isLetter (getD w 0 0) && isQuote (getD w (span isNamePart w) 0)) (some (span isNamePart w + 2)) none
 
+-- a sign is of one byte or of two
 abbrev pub signSize : ℕ → ℕ → Option ℕ
 signSize b c = cond (isDouble b c) (some 2) (cond (eqb b 33) none (some 1))
 
+-- that is the size of a string
 string-sized : (w : List ℕ) → sized (foundString w) ≡ stringSize w
 unfolding sized if_then_else_
 string-sized w = by (isLetter (getD w 0 0) && isQuote (getD w (span isNamePart w) 0))
@@ -103,6 +108,7 @@ string-sized w = by (isLetter (getD w 0 0) && isQuote (getD w (span isNamePart w
     by true = refl
     by false = refl
 
+-- and of a sign
 sign-sized : (b c : ℕ) → sized (foundSign b c) ≡ signSize b c
 unfolding sized if_then_else_
 sign-sized b c = by (isDouble b c) (eqb b 33)
@@ -112,30 +118,37 @@ sign-sized b c = by (isDouble b c) (eqb b 33)
     by false true = refl
     by false false = refl
 
+-- a letter is a name part
 pub part-letter : (b : ℕ) → isLetter b ≡ true → isNamePart b ≡ true
 unfolding isNamePart
 part-letter b e = rw e
 
+-- a digit is a name part
 pub part-digit : (b : ℕ) → isDigit b ≡ true → isNamePart b ≡ true
 unfolding isNamePart
 part-digit b e = rw (digit-no-letter b e, e)
 
+-- a name or a reserved word
 pub sized-letter : (b : ℕ) (bs : List ℕ) → isLetter b ≡ true → sized (front (b ∷ bs)) ≡ some (suc (span isNamePart bs))
 unfolding front sized if_then_else_ span
 sized-letter b bs l = rw (l, part-letter b l)
 
+-- digits
 pub sized-digit : (b : ℕ) (bs : List ℕ) → isDigit b ≡ true → sized (front (b ∷ bs)) ≡ some (suc (span isDigit bs))
 unfolding front sized if_then_else_ span
 sized-digit b bs d = rw (digit-no-letter b d, d)
 
+-- a string
 pub sized-quote : (b : ℕ) (bs : List ℕ) → isLetter b ≡ false → isDigit b ≡ false → isQuote b ≡ true → sized (front (b ∷ bs)) ≡ stringSize bs
 unfolding front if_then_else_
 sized-quote b bs l d q = rw (l, d, q) (string-sized bs)
 
+-- a sign
 pub sized-sign : (b : ℕ) (bs : List ℕ) → isLetter b ≡ false → isDigit b ≡ false → isQuote b ≡ false → isSign b ≡ true → sized (front (b ∷ bs)) ≡ signSize b (getD bs 0 0)
 unfolding front if_then_else_
 sized-sign b bs l d q s = rw (l, d, q, s) (sign-sized b (getD bs 0 0))
 
+-- no token
 pub sized-other : (b : ℕ) (bs : List ℕ) → isLetter b ≡ false → isDigit b ≡ false → isQuote b ≡ false → isSign b ≡ false → sized (front (b ∷ bs)) ≡ none
 unfolding front sized if_then_else_
 sized-other b bs l d q s = rw (l, d, q, s)

@@ -20,6 +20,7 @@ tokens [] = 0
 tokens (plain k x ∷ ws) = suc (tokens ws)
 tokens (negative x ∷ ws) = suc (suc (tokens ws))
 
+-- a sign, and another word
 abbrev pub sign : ℕ → List Word
 sign k = plain k (k ∷ []) ∷ []
 
@@ -47,10 +48,12 @@ operatorKind unequal = doubled 33
 operatorKind greater = 62
 operatorKind less = 60
 
+-- the words of a constant
 unfoldable pub numberWords : ℤ → List Word
 numberWords (pos n) = aWord digits (digitsOf n)
 numberWords (negsuc n) = negative (digitsOf (suc n)) ∷ []
 
+-- in parentheses if they are needed
 unfoldable pub enclosedWords : Bool → List Word → List Word
 enclosedWords needed ws = cond needed (sign openParen ++ ws ++ sign closeParen) ws
 
@@ -149,11 +152,13 @@ unfoldable pub nameWords : List (List ℕ) → List (List Word)
 nameWords [] = []
 nameWords (x ∷ xs) = aWord aName x ∷ nameWords xs
 
+-- the words of a procedure
 unfoldable pub procedureWords : Procedure → List Word
 procedureWords f =
     aWord wordDef (bytes "def") ++ aWord aName (f .name) ++ sign openParen ++ joined (nameWords (f .parameters)) ++ (sign closeParen ++ sign openBrace)
     ++ statementsWords (f .body) ++ sign closeBrace
 
+-- and of all
 unfoldable pub proceduresWords : List Procedure → List Word
 proceduresWords [] = []
 proceduresWords (f ∷ fs) = procedureWords f ++ proceduresWords fs
