@@ -265,7 +265,13 @@ write-arguments-loop-again : (t : ℕ) → write-arguments-lts.Need-loop-again (
   write-behind-below t,
   write-behind.Post,
 ) (write-arguments-at t) write-arguments.Post write-arguments-Inv-loop write-arguments-μ-loop
-write-arguments-loop-again t c = list-next _ _ _ _ _ _ _ (c .before .before .before .before .before .before .before .loop .inv) _ (c .before .before .before .before .before .before .loop-test .taken) (c .before .before .before .write-behind .ensures) (c .argument-at2 .ensures)
+write-arguments-loop-again t c =
+    list-next _ _ _ _ _ _ _
+    (c .before .before .before .before .before .before .before .loop .inv)
+    _
+    (c .before .before .before .before .before .before .loop-test .taken)
+    (c .before .before .before .write-behind .ensures)
+    (c .argument-at2 .ensures)
 
 write-arguments-same-length : (t : ℕ) → write-arguments-lts.Need-same-length (
   write-expression-below t,
@@ -285,7 +291,13 @@ write-arguments-returns-2 : (t : ℕ) → write-arguments-lts.Need-returns-2 (
   write-behind-below t,
   write-behind.Post,
 ) (write-arguments-at t) write-arguments.Post write-arguments-Inv-loop write-arguments-μ-loop
-write-arguments-returns-2 t c = first-listed _ _ _ _ _ _ _ (omega (arith, c .before .before .before .before .before .before .before .before .before .before .before .before .good .1 .1 .1 .1 .1 .1 .0)) (omega (arith, c .before .before .before .before .before .before .before .if1 .left)) (c .before .before .argument-at .ensures) (c .before .before .before .before .before .write-expression .ensures) (list-ends _ _ _ _ _ _ _ (c .before .loop .inv) (omega arith))
+write-arguments-returns-2 t c =
+    first-listed _ _ _ _ _ _ _
+    (omega (arith, c .before .before .before .before .before .before .before .before .before .before .before .before .good .1 .1 .1 .1 .1 .1 .0))
+    (omega (arith, c .before .before .before .before .before .before .before .if1 .left))
+    (c .before .before .argument-at .ensures)
+    (c .before .before .before .before .before .write-expression .ensures)
+    (list-ends _ _ _ _ _ _ _ (c .before .loop .inv) (omega arith))
 
 write-behind-write-bytes-at-requires : (t : ℕ) → write-behind-lts.Need-write-bytes-at-requires (
   write-bytes-at-reads.Asked,
@@ -527,7 +539,16 @@ write-call-returns : (t : ℕ) → write-call-lts.Need-returns (
   write-arguments-below t,
   write-arguments.Post,
 ) (write-call-at t) write-call.Post
-write-call-returns t c = call-written _ _ _ _ _ _ _ _ _ (omega (arith, c .before .before .before .before .before .before .before .before .before .before .before .before .before .before .before .before .before .before .before .before .before .before .before .before .before .good .1 .1 .1 .1 .1 .1 .0)) (c .before .before .before .before .before .before .before .before .before .before .before .before .before .before .before .before .before .before .before .before .first-argument .ensures) (c .before .before .before .before .before .before .before .before .before .before .before .before .before .before .before .before .before .before .before .argument-at .ensures) (c .before .before .before .before .before .before .before .before .before .before .before .before .before .before .before .before .before .before .callee-of .ensures .0) (c .before .before .before .before .before .before .before .before .before .before .before .before .before .before .before .before .write-name .ensures) (c .before .before .before .before .before .before .before .before .before .before .before .write-bytes-at .ensures) (c .before .before .before .before .before .before .before .write-arguments .ensures) (c .before .before .write-bytes-at2 .ensures)
+write-call-returns t c =
+    call-written _ _ _ _ _ _ _ _ _
+    (omega (arith, c .before .before .before .before .before .before .before .before .before .before .before .before .before .before .before .before .before .before .before .before .before .before .before .before .before .good .1 .1 .1 .1 .1 .1 .0))
+    (c .before .before .before .before .before .before .before .before .before .before .before .before .before .before .before .before .before .before .before .before .first-argument .ensures)
+    (c .before .before .before .before .before .before .before .before .before .before .before .before .before .before .before .before .before .before .before .argument-at .ensures)
+    (c .before .before .before .before .before .before .before .before .before .before .before .before .before .before .before .before .before .before .callee-of .ensures .0)
+    (c .before .before .before .before .before .before .before .before .before .before .before .before .before .before .before .before .write-name .ensures)
+    (c .before .before .before .before .before .before .before .before .before .before .before .write-bytes-at .ensures)
+    (c .before .before .before .before .before .before .before .write-arguments .ensures)
+    (c .before .before .write-bytes-at2 .ensures)
 
 write-expression-returns : (t : ℕ) → write-expression-lts.Need-returns (
   word-at-reads.Asked,

@@ -1,6 +1,7 @@
 -- `formatter::leaf::write_sign` meets its contract: by the tag.
 -- Assumes nothing.
-use Rattle.formatter.proofs.Leaves.{sign-entry, sign-concatenate, sign-add, sign-subtract, sign-multiply, sign-divide, sign-remainder, sign-shift-right, sign-shift-left, sign-equal, sign-unequal, sign-greater, sign-less}
+use Rattle.formatter.proofs.Leaves.{sign-entry, sign-concatenate, sign-add, sign-subtract, sign-multiply, sign-divide}
+use Rattle.formatter.proofs.Leaves.{sign-remainder, sign-shift-right, sign-shift-left, sign-equal, sign-unequal, sign-greater, sign-less}
 use borrow.Author.Needs.{needs}
 use Rattle.formatter.proofs.leaf.write_sign.Statement.{statement}
 use Rattle.formatter.proofs.leaf.write_sign.Tie as tie

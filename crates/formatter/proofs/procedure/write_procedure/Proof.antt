@@ -46,7 +46,17 @@ same-length : tie.Need-same-length
 same-length c = search needs
 
 returns : tie.Need-returns
-returns c = procedure-written _ _ _ _ _ _ _ _ _ (omega (arith, c .before .before .before .before .before .before .before .before .before .before .before .before .before .before .before .before .before .before .before .before .before .before .good .1 .1 .1 .1 .0)) (c .before .before .before .before .before .before .before .before .before .before .before .before .before .before .before .before .before .table-place .ensures) (c .before .before .before .before .before .before .before .before .before .before .before .before .before .before .before .before .word-at .ensures) (c .before .before .before .before .before .before .before .before .before .before .before .before .before .before .before .start-of .ensures .0) (c .before .before .before .before .before .before .before .before .before .before .before .before .before .before .parameters-of .ensures .0) (c .before .before .before .before .before .before .before .before .before .before .before .before .before .body-of .ensures .0) (c .before .before .before .before .before .before .before .before .before .before .before .write-head .ensures) (c .before .before .before .before .before .before .before .write-statements .ensures) (c .before .before .write-bytes-at .ensures)
+returns c =
+    procedure-written _ _ _ _ _ _ _ _ _
+    (omega (arith, c .before .before .before .before .before .before .before .before .before .before .before .before .before .before .before .before .before .before .before .before .before .before .good .1 .1 .1 .1 .0))
+    (c .before .before .before .before .before .before .before .before .before .before .before .before .before .before .before .before .before .table-place .ensures)
+    (c .before .before .before .before .before .before .before .before .before .before .before .before .before .before .before .before .word-at .ensures)
+    (c .before .before .before .before .before .before .before .before .before .before .before .before .before .before .before .start-of .ensures .0)
+    (c .before .before .before .before .before .before .before .before .before .before .before .before .before .before .parameters-of .ensures .0)
+    (c .before .before .before .before .before .before .before .before .before .before .before .before .before .body-of .ensures .0)
+    (c .before .before .before .before .before .before .before .before .before .before .before .write-head .ensures)
+    (c .before .before .before .before .before .before .before .write-statements .ensures)
+    (c .before .before .write-bytes-at .ensures)
 
 pub write-procedure-spec : {M : Type 1} → statement M
 write-procedure-spec =

@@ -196,7 +196,12 @@ write-block-returns : (t : ℕ) → write-block-lts.Need-returns (
   write-statements-below t,
   write-statements.Post,
 ) (write-block-at t) write-block.Post
-write-block-returns t c = block-written _ _ _ _ _ _ (omega (arith, c .before .before .before .before .before .before .before .before .before .before .before .before .before .before .before .before .before .before .good .1 .1 .1 .1 .1 .1 .0)) (c .before .before .before .before .before .before .before .before .before .before .before .write-bytes-at .ensures) (c .before .before .before .before .before .before .before .write-statements .ensures) (c .before .before .write-bytes-at2 .ensures)
+write-block-returns t c =
+    block-written _ _ _ _ _ _
+    (omega (arith, c .before .before .before .before .before .before .before .before .before .before .before .before .before .before .before .before .before .before .good .1 .1 .1 .1 .1 .1 .0))
+    (c .before .before .before .before .before .before .before .before .before .before .before .write-bytes-at .ensures)
+    (c .before .before .before .before .before .before .before .write-statements .ensures)
+    (c .before .before .write-bytes-at2 .ensures)
 
 write-guarded-slice-aggregate-write-between :
     (t : ℕ) → write-guarded-lts.Need-slice-aggregate-write-between (
@@ -245,7 +250,11 @@ write-guarded-returns : (t : ℕ) → write-guarded-lts.Need-returns (
   write-statement-below t,
   write-statement.Post,
 ) (write-guarded-at t) write-guarded.Post
-write-guarded-returns t c = guarded-written _ _ _ _ _ _ (omega (arith, c .before .before .before .before .before .before .before .before .before .before .before .before .before .before .good .1 .1 .1 .1 .1 .1 .0)) (c .before .before .before .before .before .before .write-between .ensures) (c .before .before .write-statement .ensures)
+write-guarded-returns t c =
+    guarded-written _ _ _ _ _ _
+    (omega (arith, c .before .before .before .before .before .before .before .before .before .before .before .before .before .before .good .1 .1 .1 .1 .1 .1 .0))
+    (c .before .before .before .before .before .before .write-between .ensures)
+    (c .before .before .write-statement .ensures)
 
 write-line-write-statement-requires : (t : ℕ) → write-line-lts.Need-write-statement-requires (
   write-statement-below t,
@@ -286,7 +295,11 @@ write-line-returns : (t : ℕ) → write-line-lts.Need-returns (
   write-bytes-at-reads.Asked,
   write-bytes-at-reads.Learnt,
 ) (write-line-at t) write-line.Post
-write-line-returns t c = then-two (omega (arith, c .before .before .before .before .before .before .before .before .before .before .before .before .before .good .1 .1 .1 .1 .1 .0)) (c .before .before .before .before .before .before .before .write-statement .ensures) (c .before .before .write-bytes-at .ensures)
+write-line-returns t c =
+    then-two
+    (omega (arith, c .before .before .before .before .before .before .before .before .before .before .before .before .before .good .1 .1 .1 .1 .1 .0))
+    (c .before .before .before .before .before .before .before .write-statement .ensures)
+    (c .before .before .write-bytes-at .ensures)
 
 write-statement-returns : (t : ℕ) → write-statement-lts.Need-returns (
   word-at-reads.Asked,
@@ -653,7 +666,12 @@ write-statement-add-write-guarded : (t : ℕ) → write-statement-lts.Need-add-w
   write-between-reads.Asked,
   write-between-reads.Learnt,
 ) (write-statement-at t) write-statement.Post
-write-statement-add-write-guarded t c = omega (arith, c .before .before .before .before .before .before .before .before .before .before .before .pre .1 .room, c .before .before .before .extra-of .ensures .1)
+write-statement-add-write-guarded t c =
+    omega (
+      arith,
+      c .before .before .before .before .before .before .before .before .before .before .before .pre .1 .room,
+      c .before .before .before .extra-of .ensures .1,
+    )
 
 write-statement-write-guarded-requires : (t : ℕ) → write-statement-lts.Need-write-guarded-requires (
   word-at-reads.Asked,
@@ -681,7 +699,10 @@ write-statement-write-guarded-requires : (t : ℕ) → write-statement-lts.Need-
   write-between-reads.Asked,
   write-between-reads.Learnt,
 ) (write-statement-at t) write-statement.Post
-write-statement-write-guarded-requires t c κs = (omega (arith, c .before .before .before .before .before .before .before .if1 .left), record { room = omega (arith, c .before .before .before .before .before .before .before .before .before .before .before .before .pre .1 .room, c .before .before .before .before .extra-of .ensures .1, c .before .before .before .before .before .before .before .if1 .left) })
+write-statement-write-guarded-requires t c κs = (
+  omega (arith, c .before .before .before .before .before .before .before .if1 .left),
+  record { room = omega (arith, c .before .before .before .before .before .before .before .before .before .before .before .before .pre .1 .room, c .before .before .before .before .extra-of .ensures .1, c .before .before .before .before .before .before .before .if1 .left) },
+)
 
 write-statement-sub-write-guarded-2 : (t : ℕ) → write-statement-lts.Need-sub-write-guarded-2 (
   word-at-reads.Asked,
@@ -766,7 +787,12 @@ write-statement-add-write-guarded-2 : (t : ℕ) → write-statement-lts.Need-add
   write-between-reads.Asked,
   write-between-reads.Learnt,
 ) (write-statement-at t) write-statement.Post
-write-statement-add-write-guarded-2 t c = omega (arith, c .before .before .before .before .before .before .before .before .before .before .before .pre .1 .room, c .before .before .before .extra-of .ensures .1)
+write-statement-add-write-guarded-2 t c =
+    omega (
+      arith,
+      c .before .before .before .before .before .before .before .before .before .before .before .pre .1 .room,
+      c .before .before .before .extra-of .ensures .1,
+    )
 
 write-statement-write-guarded-requires-2 :
     (t : ℕ) → write-statement-lts.Need-write-guarded-requires-2 (
@@ -795,7 +821,10 @@ write-statement-write-guarded-requires-2 :
       write-between-reads.Asked,
       write-between-reads.Learnt,
     ) (write-statement-at t) write-statement.Post
-write-statement-write-guarded-requires-2 t c κs = (omega (arith, c .before .before .before .before .before .before .before .if1 .left), record { room = omega (arith, c .before .before .before .before .before .before .before .before .before .before .before .before .pre .1 .room, c .before .before .before .before .extra-of .ensures .1, c .before .before .before .before .before .before .before .if1 .left) })
+write-statement-write-guarded-requires-2 t c κs = (
+  omega (arith, c .before .before .before .before .before .before .before .if1 .left),
+  record { room = omega (arith, c .before .before .before .before .before .before .before .before .before .before .before .before .pre .1 .room, c .before .before .before .before .extra-of .ensures .1, c .before .before .before .before .before .before .before .if1 .left) },
+)
 
 write-statement-sub-write-return : (t : ℕ) → write-statement-lts.Need-sub-write-return (
   word-at-reads.Asked,
@@ -935,7 +964,10 @@ write-statement-write-block-requires : (t : ℕ) → write-statement-lts.Need-wr
   write-between-reads.Asked,
   write-between-reads.Learnt,
 ) (write-statement-at t) write-statement.Post
-write-statement-write-block-requires t c κs = (omega (arith, c .before .before .before .before .before .before .before .if1 .left), record { room = omega (arith, c .before .before .before .before .before .before .before .before .before .before .before .before .pre .1 .room, c .before .size-of .ensures, c .before .before .before .before .before .before .before .if1 .left) })
+write-statement-write-block-requires t c κs = (
+  omega (arith, c .before .before .before .before .before .before .before .if1 .left),
+  record { room = omega (arith, c .before .before .before .before .before .before .before .before .before .before .before .before .pre .1 .room, c .before .size-of .ensures, c .before .before .before .before .before .before .before .if1 .left) },
+)
 
 write-statement-sub-write-between : (t : ℕ) → write-statement-lts.Need-sub-write-between (
   word-at-reads.Asked,
@@ -1585,7 +1617,13 @@ write-statements-add-x : (t : ℕ) → write-statements-lts.Need-add-x (
   size-of-reads.Asked,
   size-of-reads.Learnt,
 ) (write-statements-at t) write-statements.Post write-statements-Inv-loop write-statements-μ-loop
-write-statements-add-x t c = omega (arith, c .before .before .before .before .before .before .before .before .loop .inv .room .room, c .size-of .ensures, c .before .before .before .before .before .before .if1 .left)
+write-statements-add-x t c =
+    omega (
+      arith,
+      c .before .before .before .before .before .before .before .before .loop .inv .room .room,
+      c .size-of .ensures,
+      c .before .before .before .before .before .before .if1 .left,
+    )
 
 write-statements-loop-less : (t : ℕ) → write-statements-lts.Need-loop-less (
   write-line-below t,
@@ -1605,7 +1643,16 @@ write-statements-loop-again : (t : ℕ) → write-statements-lts.Need-loop-again
   size-of-reads.Asked,
   size-of-reads.Learnt,
 ) (write-statements-at t) write-statements.Post write-statements-Inv-loop write-statements-μ-loop
-write-statements-loop-again t c = all-again _ _ _ _ _ _ _ _ _ (c .before .before .before .before .before .before .before .before .loop .inv) (omega arith) (omega (arith, c .before .before .before .before .before .before .if1 .left)) _ _ (c .before .word-at .ensures) (c .size-of .ensures) (c .before .before .before .before .write-line .ensures)
+write-statements-loop-again t c =
+    all-again _ _ _ _ _ _ _ _ _
+    (c .before .before .before .before .before .before .before .before .loop .inv)
+    (omega arith)
+    (omega (arith, c .before .before .before .before .before .before .if1 .left))
+    _
+    _
+    (c .before .word-at .ensures)
+    (c .size-of .ensures)
+    (c .before .before .before .before .write-line .ensures)
 
 write-statements-same-length-2 : (t : ℕ) → write-statements-lts.Need-same-length-2 (
   write-line-below t,

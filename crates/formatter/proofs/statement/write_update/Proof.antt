@@ -34,7 +34,15 @@ same-length : tie.Need-same-length
 same-length c = search needs
 
 returns : tie.Need-returns
-returns c = update-written _ _ _ _ _ _ _ _ _ (omega (arith, c .before .before .before .before .before .before .before .before .before .before .before .before .before .before .before .before .before .before .good .1 .1 .1 .1 .1 .0)) (c .before .before .before .before .before .before .before .before .before .before .before .before .before .word-at .ensures) (c .before .before .before .before .before .before .before .before .before .before .before .before .before2 .ensures .0) (c .before .before .before .before .before .before .before .before .before .before .before .word-at2 .ensures) (c .before .before .before .before .before .before .before .before .before .before .before3 .ensures .0) (c .before .before .before .before .before .before .before .before .write-pair .ensures) (c .before .before .write-between .ensures)
+returns c =
+    update-written _ _ _ _ _ _ _ _ _
+    (omega (arith, c .before .before .before .before .before .before .before .before .before .before .before .before .before .before .before .before .before .before .good .1 .1 .1 .1 .1 .0))
+    (c .before .before .before .before .before .before .before .before .before .before .before .before .before .word-at .ensures)
+    (c .before .before .before .before .before .before .before .before .before .before .before .before .before2 .ensures .0)
+    (c .before .before .before .before .before .before .before .before .before .before .before .word-at2 .ensures)
+    (c .before .before .before .before .before .before .before .before .before .before .before3 .ensures .0)
+    (c .before .before .before .before .before .before .before .before .write-pair .ensures)
+    (c .before .before .write-between .ensures)
 
 pub write-update-spec : {M : Type 1} → statement M
 write-update-spec =
