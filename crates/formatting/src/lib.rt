@@ -36,7 +36,7 @@ fn write_read(program: &[u8], tokens: &mut [u64], code: &mut [u64], out: &mut [u
     }
     let p = reader::read(program, tokens, code);
     match p {
-        Program::Formed(_, _, n) => write_fitting(program, &tokens[0..n], code, out),
+        Program::Formed(_, _, n) => write_fitting(program, &tokens[..n], code, out),
         Program::Malformed(k, at) => Answer::Number(k, at as u64, 0, 0),
     }
 }
