@@ -33,7 +33,7 @@ pub then-ending : {at m r : ℕ} {a d e f : List ℕ} (b c k : List ℕ) → len
 then-ending {a = a} b c k h p q = rw (append-assoc a b c, append-assoc a (b ++ c) k) (then h p q)
 
 -- another text that is the same
-pub same : {at r : ℕ} {b d e : List ℕ} (c : List ℕ) → b ≡ c → WroteAt at b d e r → WroteAt at c d e r
+same : {at r : ℕ} {b d e : List ℕ} (c : List ℕ) → b ≡ c → WroteAt at b d e r → WroteAt at c d e r
 same c e p = rw e at p
 
 -- ---- a loop that writes a whole text from at on: what is written and what is left make it up

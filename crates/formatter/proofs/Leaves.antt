@@ -1,15 +1,15 @@
 -- What the writers of one word come to.
 -- Assumes nothing.
 use Prim.Native.Nat.{ℕ, _+_, _-_, _^_, _≤_, _<_}
-use mathlib.Core.Path.{_≡_, refl}
-use mathlib.Core.Bool.{Bool, true, false, _&&_, _||_, cond}
+use mathlib.Core.Path.{_≡_}
+use mathlib.Core.Bool.{true, false, cond}
 use mathlib.Core.List.{List, [], _++_}
 use native.Mathlib.Omega.{arith}
-use borrow.Author.Tests.{le-leb, lt-leb, eq-eqb, ne-eqb}
-use lib.Dec.{eqb, leb}
+use borrow.Author.Tests.{le-leb, lt-leb, ne-eqb}
+use lib.Dec.{eqb}
 use lib.IntN.{ℤ}
 use lib.ListN.{length, getD, take, drop}
-use mir.Syntax.{w32, w64}
+use mir.Syntax.{w32}
 use mir.Val.{SFits, toZ}
 use Rattle.meaning.specs.Basics.{bytes, if_then_else_}
 use Rattle.meaning.specs.Byte.{isLetter, isDigit, isNamePart}
@@ -20,7 +20,7 @@ use Rattle.tokens.specs.Words as Tokens
 use Rattle.writing.specs.Placed.{WroteAt}
 use Rattle.writing.proofs.Signs.{seenWide, seen, handed-both}
 use Rattle.formatter.specs.Raw.{source, part, spelling, leafText, signText, encloses}
-use Rattle.formatter.proofs.Chains.{same, then-three}
+use Rattle.formatter.proofs.Chains.{then-three}
 
 -- ---- parts of the program
 pub part-written : (program t : List ℕ) (start size : ℕ) {at r : ℕ} {d e : List ℕ} → t ≡ take (start + size - start) (drop start program) → WroteAt at t d e r

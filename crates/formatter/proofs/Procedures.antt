@@ -1,7 +1,7 @@
 -- One law for each way through each function on procedures.
 -- Assumes nothing.
 use Prim.Native.Nat.{ℕ, zero, suc, _+_, _-_, _^_, _≤_, _<_, min}
-use mathlib.Core.Path.{_≡_, _∙_, refl, sym, ap}
+use mathlib.Core.Path.{_≡_, _∙_, refl, sym}
 use mathlib.Core.Bool.{Bool, true, false, cond}
 use mathlib.Core.List.{List, [], _∷_, _++_, map, append-nil, append-assoc}
 use native.Mathlib.Decide.{decLt}
@@ -19,9 +19,7 @@ use Rattle.expressions.specs.Words.{homeAt}
 use Rattle.tokens.specs.Words as Tokens
 use Rattle.writing.specs.Placed.{WroteAt}
 use Rattle.formatter.specs.Raw.{source, wordAt, spelling, rawStatement, rawStatements, parameterNames, procedureBy, procedureText, rawProcedures, enoughFuel, rawText}
-use Rattle.formatter.specs.Asked.{Room}
 use Rattle.formatter.proofs.Chains.{nothing, then-two, then-three, then-five, Writing, begin, goes-on, ends}
-use Rattle.formatter.proofs.Expressions.{name-here}
 
 -- ---- a part whose ends are clipped is what `take` and `drop` leave
 take-least : (n : ℕ) (l : List ℕ) → take (min n (length l)) l ≡ take n l
