@@ -2,15 +2,20 @@
 use Prim.Native.Nat.{ℕ}
 use Prim.Native.String.{String}
 use mathlib.Core.Path.{_≡_, refl}
+use mathlib.Core.Bool.{true, false}
 use mathlib.Core.List.{List, [], _∷_, _++_}
 use lib.ListN.{length, replicate}
 use lib.IntN.{pos}
 use Rattle.meaning.specs.Basics.{bytes}
+use Rattle.meaning.specs.Tree.{subtract, number, string, nothing, truth, name, table, operation, call, noArgument, argument, declare, assign, update, when, while, return, block, act, only, first, Procedure}
+use Rattle.meaning.specs.Grammar.{Reading, wellFormed, malformed, reading}
 use Rattle.meaning.specs.Program.{checking}
 use Rattle.meaning.specs.Book.{Answer, pictured, number}
 use Rattle.meaning.specs.Call.{Call}
 use Rattle.meaning.proofs.Computing.{everything}
 use Rattle.meaning.proofs.Rows.{Row, _gives_, Hold}
+use Rattle.canonical.specs.Bare
+use Rattle.canonical.specs.Bare.{bareProgram}
 use Rattle.canonical.specs.Text
 use Rattle.canonical.specs.Call.{text, textRead, fits, answerWith, textAnswer, outWith, textOut}
 
@@ -19,6 +24,11 @@ unfoldable pub everyText : Unit {0}
 unfolding Text.commaSeparated Text.operatorText Text.isOperation Text.isEntry Text.enclosedIf Text.expressionText Text.argumentTexts Text.apart
     Text.statementText Text.statementsText Text.procedureText Text.proceduresText Text.programText textRead fits answerWith textAnswer outWith textOut
 everyText = tt
+
+-- and of what is left of a tree
+unfoldable pub everyBare : Unit {0}
+unfolding Bare.bare Bare.bareArguments Bare.bareStatement Bare.bareStatements Bare.bareProcedure bareProgram
+everyBare = tt
 
 -- ---- statements
 -- the text of a program whose main has this body
@@ -156,3 +166,45 @@ unwritten = refl
 pub refused : textAnswer (calling (bytes "def f(){1;}def f(){1;}def main(w,h){1;}") 0) ≡ number 60 11 0 0
 unfolding everything everyText
 refused = refl
+
+-- a text may have 32,768 bytes
+pub longest : fits (replicate 32768 7) (replicate 40000 7) ≡ true
+unfolding everything everyText
+longest = refl
+
+pub too-long-for-any : fits (replicate 32769 7) (replicate 40000 7) ≡ false
+unfolding everything everyText
+too-long-for-any = refl
+
+-- ---- trees
+-- what is left of a program's tree
+unfoldable pub bareRead : Reading → List Procedure
+unfolding bareProgram
+bareRead (wellFormed m) = bareProgram m .procedures
+bareRead (malformed n p) = []
+
+unfoldable pub bareOf : String → List Procedure
+unfolding bareRead
+bareOf p = bareRead (reading (bytes p))
+
+-- parentheses, places and spelling are no part of it
+pub same-trees : bareOf "def f(x){x;}def main(w,h){var a;a=((w))+007;(w).(h)=[-0];if((w)){f((w));}while(h)return(w.h);}"
+    ≡ bareOf "def f(x) { x ; }  def main(w,h) { var a; a = w+7; w.h = [0]; if(w) { f(w); } while(h) return w.h; }"
+unfolding everything everyBare bareOf
+same-trees = refl
+
+-- all else is
+pub tree : bareOf "def main(w,h){var a;a=(w-1);w.\"k\"=none;if(true)while(h){w;}return[f(w,2)];}"
+    ≡ record {
+      place = 0;
+      name = bytes "main";
+      parameters = bytes "w" ∷ bytes "h" ∷ [];
+      body =
+          first (declare 0 (bytes "a"))
+          (first (assign 0 (bytes "a") (operation subtract (name (bytes "w")) (number (pos 1))))
+          (first (update 0 (name (bytes "w")) (string (bytes "k")) nothing)
+          (first (when 0 (truth true) (while 0 (name (bytes "h")) (block 0 (only (act 0 (name (bytes "w")))))))
+          (only (return 0 (table (call (bytes "f") (argument (name (bytes "w")) (argument (number (pos 2)) noArgument)))))))));
+    } ∷ []
+unfolding everything everyBare bareOf
+tree = refl

@@ -24,15 +24,15 @@ use Rattle.roundtrip.specs.Claims.{asking}
 use Rattle.roundtrip.proofs.Again.{known, again-read}
 
 -- the run of checking, from whether the program is too long and what was read
-unfoldable checked : Bool → Reading → Run Outcome
+unfoldable pub checked : Bool → Reading → Run Outcome
 checked long r = (refuse long 73 0 >> (understood r >> give accepted)) empty
 
 -- the answer, from whether the call is admitted, its grants, and the same
-unfoldable answered : Bool → Amounts → Bool → Reading → Answer
+unfoldable pub answered : Bool → Amounts → Bool → Reading → Answer
 answered allowed g long r = if allowed then (λ _. booked g (checked long r)) else λ _. number 71 0 0 0
 
 -- that is the answer of a call of checking
-answer-is : (c : Call) → c .operation ≡ checking → answer c ≡ answered (admitted c) (grantedTo c) (ltb 32768 (length (c .program))) (reading (c .program))
+pub answer-is : (c : Call) → c .operation ≡ checking → answer c ≡ answered (admitted c) (grantedTo c) (ltb 32768 (length (c .program))) (reading (c .program))
 unfolding answer runOf specified performing sized answered checked _>>=_ goOn
 answer-is c e = rw e
 

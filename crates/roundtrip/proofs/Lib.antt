@@ -26,5 +26,7 @@ pub mod Weights
 pub mod Separating
 pub mod Joining
 pub mod Needless
+-- Calls
+pub mod Larger
 -- What is claimed
 pub mod Proved

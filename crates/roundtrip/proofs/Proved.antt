@@ -10,11 +10,12 @@ use Rattle.meaning.specs.Grammar.{wellFormed, reading}
 use Rattle.canonical.specs.Bare.{bareProgram}
 use Rattle.canonical.specs.Text.{programText}
 use Rattle.canonical.specs.Call.{textRead}
-use Rattle.roundtrip.specs.Claims.{Reads, ReadsAgain, SameExactly, ItsOwnText, PassesChecking, tokenCount, FewestTokens, NoneNeedless}
+use Rattle.roundtrip.specs.Claims.{Reads, ReadsAgain, SameExactly, ItsOwnText, PassesChecking, tokenCount, FewestTokens, NoneNeedless, LargerText}
 use Rattle.roundtrip.proofs.Bares.{same-text}
 use Rattle.roundtrip.proofs.Again.{known, text-of, text-few, again-read}
 use Rattle.roundtrip.proofs.Checks.{passes}
 use Rattle.roundtrip.proofs.Needless.{fewer}
+use Rattle.roundtrip.proofs.Larger.{larger}
 
 -- reading the text gives the tree again
 pub reads-again : ReadsAgain
@@ -67,3 +68,7 @@ none-needless p m n a b c r e s same =
     let l = fewer a b c (t .tokens) (k .tokens) (ap tokensOf (sym e) ∙ t .lexes) (k .lexes) in
     let f : length (t .tokens) ≤ length (k .tokens) = rw (t .lexes, k .lexes) at (fewest-tokens p (a ++ b ++ c) m n r s same) in
     omega arith
+
+-- more memory changes no text
+pub larger-text : LargerText
+larger-text = larger

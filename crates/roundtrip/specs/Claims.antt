@@ -1,18 +1,20 @@
 -- What is claimed of the text of a program. m and n are the trees of the programs p and q.
 use Prim.Native.Nat.{ℕ, _≤_}
 use mathlib.Core.Path.{_≡_}
+use mathlib.Core.Logic.{_≢_}
+use mathlib.Core.Bool.{true}
 use mathlib.Core.List.{List, _++_}
-use lib.ListN.{length}
+use lib.ListN.{length, take}
 use Rattle.meaning.specs.Basics.{bytes}
 use Rattle.meaning.specs.Token.{Token, Lexed, lexed, stray, tokensOf}
 use Rattle.meaning.specs.Tree.{Program}
 use Rattle.meaning.specs.Grammar.{wellFormed, reading}
 use Rattle.meaning.specs.Program.{checking}
-use Rattle.meaning.specs.Book.{pictured}
-use Rattle.meaning.specs.Call.{Call, answer}
+use Rattle.meaning.specs.Book.{pictured, number}
+use Rattle.meaning.specs.Call.{Call, admitted, answer}
 use Rattle.canonical.specs.Bare.{bareProgram}
 use Rattle.canonical.specs.Text.{programText}
-use Rattle.canonical.specs.Call.{text}
+use Rattle.canonical.specs.Call.{text, textAnswer, textOut}
 
 abbrev pub Reads : List ℕ → Program → Type 0
 Reads p m = reading p ≡ wellFormed m
@@ -61,3 +63,11 @@ FewestTokens = (p q : List ℕ) (m n : Program) → Reads p m → Reads q n → 
 abbrev pub NoneNeedless : Type 0
 NoneNeedless = (p : List ℕ) (m n : Program) (a b c : List ℕ) → Reads p m → programText m ≡ a ++ bytes "(" ++ b ++ bytes ")" ++ c → Reads (a ++ b ++ c) n →
     bareProgram n ≡ bareProgram m → ⊥
+
+-- ---- calls
+-- More memory changes no text: of two calls that ask for the text of one program, get past the first question and have an out slice that is no shorter in the
+-- second, the second is answered as the first, with the same text, unless that was 82.
+abbrev pub LargerText : Type 0
+LargerText = (c d : Call) → c .operation ≡ checking → d .operation ≡ checking → c .program ≡ d .program → admitted c ≡ true → admitted d ≡ true →
+    length (c .out) ≤ length (d .out) → ((n l : ℕ) → textAnswer c ≢ number 82 0 n l) →
+    (textAnswer d ≡ textAnswer c) × ((l n : ℕ) → textAnswer c ≡ pictured l n → take l (textOut d) ≡ take l (textOut c))
