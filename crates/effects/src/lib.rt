@@ -4,10 +4,11 @@ use machine::Flow;
 use machine::Outcome;
 use machine::kinds;
 use machine::tags;
-ghost use Prim.Native.Nat.{_≤_};
+ghost use Prim.Native.Nat.{ℕ, _≤_};
 ghost use mathlib.Core.Path.{_≡_};
+ghost use mathlib.Core.List.{List};
 ghost use lib.ListN.{length};
-ghost use Rattle.machine.specs.Opcodes.{tagIn};
+ghost use Rattle.machine.specs.Opcodes.{tagIn, tagAssign};
 ghost use Rattle.machine.specs.Words.{kindIn, kindShape};
 ghost use Rattle.machine.specs.Layout.{fixedWords, Room};
 ghost use Rattle.machine.specs.Effects.{Flows, declaring, assigning, finishing, outcomeIn};
@@ -24,8 +25,8 @@ pub fn declare(words: &mut [u64], slot: usize, p: u64) -> Flow
 }
 
 // ---- assignments
-// A word that is no shape put into a variable; 50 if it is not declared. Only the contract speaks of the grants, here and in `finish_plain`.
-fn put_word(words: &mut [u64], grants: &[u64; 5], slot: usize, k: u64, p: u64) -> Flow
+// A word that is no shape put into a variable; 50 if it is not declared. Only the contract speaks of the grants.
+pub fn put_word(words: &mut [u64], grants: &[u64; 5], slot: usize, k: u64, p: u64) -> Flow
     requires { ⌜ fixedWords ≤ length (now words) ⌝ }
     requires { ⌜ (kindIn k ≡ kindShape → ⊥) ⌝ }
     ensures { λ r. ⌜ Flows (now (words .entry)) (assigning (now (grants .entry)) p slot k) r (now (words .exit)) ⌝ }
@@ -73,35 +74,27 @@ pub fn assign(words: &mut [u64], grants: &[u64; 5], slot: usize, k: u64, p: u64)
 }
 
 // ---- statements of one expression
-// What the statement whose word is w does with a value, by its word.
+// What the statement whose word is w does with a value, by its word, if it assigns nothing.
+pub fn pass_on(w: u64, k: u64) -> Flow
+    requires { ⌜ (tagIn w ≡ tagAssign → ⊥) ⌝ }
+    ensures { λ r. ⌜ ((ws g : List ℕ) (p : ℕ) → Flows ws (finishing g w k p) r ws) ⌝ }
+{
+    if code::tag_of(w) == tags::RETURN {
+        return Flow::Returned(values::unpack(k));
+    }
+    Flow::Onward
+}
+
+// What any such statement does.
 pub fn finish(words: &mut [u64], grants: &[u64; 5], w: u64, k: u64, p: u64) -> Flow
     requires { ⌜ Room (now grants) (now words) ⌝ }
     ensures { λ r. ⌜ Flows (now (words .entry)) (finishing (now (grants .entry)) w k p) r (now (words .exit)) ⌝ }
 {
-    match code::tag_of(w) {
-        tags::ASSIGN => {
-            let r = assign(words, grants, code::extra_of(w), k, p);
-            r
-        }
-        tags::RETURN => Flow::Returned(values::unpack(k)),
-        _ => Flow::Onward,
+    if code::tag_of(w) == tags::ASSIGN {
+        let r = assign(words, grants, code::extra_of(w), k, p);
+        return r;
     }
-}
-
-// The same where the value is no shape.
-pub fn finish_plain(words: &mut [u64], grants: &[u64; 5], w: u64, k: u64, p: u64) -> Flow
-    requires { ⌜ fixedWords ≤ length (now words) ⌝ }
-    requires { ⌜ (kindIn k ≡ kindShape → ⊥) ⌝ }
-    ensures { λ r. ⌜ Flows (now (words .entry)) (finishing (now (grants .entry)) w k p) r (now (words .exit)) ⌝ }
-{
-    match code::tag_of(w) {
-        tags::ASSIGN => {
-            let r = put_word(words, grants, code::extra_of(w), k, p);
-            r
-        }
-        tags::RETURN => Flow::Returned(values::unpack(k)),
-        _ => Flow::Onward,
-    }
+    pass_on(w, k)
 }
 
 // ---- tests

@@ -100,17 +100,18 @@ module _ (program code g : List ℕ) (x p : ℕ) (ts ws : List ℕ) (fuel : ℕ)
       unfolding expressionBy if_then_else_
       is-leaf r l h = h .equal ts ∙ sym (begun ∙ rw (← i, lt-ltb tag tagTable l))
 
-      pub is-call : (o : Out Value) → tagTable ≤ tag → tag ≡ tagCall
-          → o ≡ callAt (expressionAt (fuel - 1) (setting program code g)) (invokeAt (fuel - 1) (setting program code g)) (setting program code g) w x p (raw ts ws₁)
-          → o ≡ expressionAt fuel (setting program code g) x p (raw ts ws)
-      unfolding expressionBy if_then_else_
-      is-call o l k h = h ∙ sym (begun ∙ rw (← i, k))
+      module _ (a b : Answer) (ts₂ ws₂ : List ℕ) (l : tagTable ≤ tag) where
+        pub is-call : tag ≡ tagCall
+            → shown a ts₂ ws₂ ≡ callAt (expressionAt (fuel - 1) (setting program code g)) (invokeAt (fuel - 1) (setting program code g)) (setting program code g) w x p (raw ts ws₁)
+            → a ≡ b → shown b ts₂ ws₂ ≡ expressionAt fuel (setting program code g) x p (raw ts ws)
+        unfolding expressionBy if_then_else_
+        is-call k h e = (rw e at h) ∙ sym (begun ∙ rw (← i, k))
 
-      pub has-operands : (o : Out Value) → tagTable ≤ tag → (tag ≡ tagCall → ⊥)
-          → o ≡ operandsAt (expressionAt (fuel - 1) (setting program code g)) (setting program code g) w x p (raw ts ws₁)
-          → o ≡ expressionAt fuel (setting program code g) x p (raw ts ws)
-      unfolding expressionBy if_then_else_
-      has-operands o l k h = h ∙ sym (begun ∙ rw (← i, le-ltb tag tagTable l, ne-eqb _ _ k))
+        pub has-operands : (tag ≡ tagCall → ⊥)
+            → shown a ts₂ ws₂ ≡ operandsAt (expressionAt (fuel - 1) (setting program code g)) (setting program code g) w x p (raw ts ws₁)
+            → a ≡ b → shown b ts₂ ws₂ ≡ expressionAt fuel (setting program code g) x p (raw ts ws)
+        unfolding expressionBy if_then_else_
+        has-operands k h e = (rw e at h) ∙ sym (begun ∙ rw (← i, le-ltb tag tagTable l, ne-eqb _ _ k))
 
 -- ---- calls
 -- what is left to push from a root on comes to what was to be pushed at first

@@ -5,7 +5,8 @@ use mathlib.Core.Bool.{Bool, true, false, not}
 use mathlib.Core.List.{List, [], _∷_}
 use mathlib.Core.Logic.{⊎-elim}
 use native.Mathlib.Omega.{arith}
-use lib.ListN.{getD, length}
+use lib.ListN.{getD, length, take, drop}
+use borrow.Rule.Slice.PartAt.{part-to-end}
 use denote.Enum.Declared.{tagOf}
 use types.Run.{OneOf}
 use borrow.Author.Tests.{lt-ltb, le-ltb, ne-eqb, not-true, not-false}
@@ -56,6 +57,17 @@ slow-lent code g ts ws fuel y k ws₁ h z l = rw (unchanged fuel code g ws y k w
 pub deeper-lent : (g ts ws : List ℕ) (fuel : ℕ) → Lent g ts ws fuel → Lent g ts ws (fuel - 1)
 deeper-lent g ts ws fuel l = record { lent = l .lent; deep = omega (arith, l .deep) }
 
+-- ---- the code lent anew, as the part of it from 0 on
+abbrev lentAnew : List ℕ → List ℕ
+lentAnew s = take (length s - 0) (drop 0 s)
+
+pub worked-anew : (fuel : ℕ) (code g ws : List ℕ) (y k : ℕ) (ws₁ : List ℕ) → Values fuel (lentAnew code) g ws y k ws₁ → Values fuel code g ws y k ws₁
+worked-anew fuel code g ws y k ws₁ h = rw (part-to-end code 0) at h
+
+pub evaluated-anew : (program code g : List ℕ) (fuel y p : ℕ) (r : Raw) (o : Out Value)
+    → o ≡ expressionAt fuel (setting program (lentAnew code) g) y p r → o ≡ expressionAt fuel (setting program code g) y p r
+evaluated-anew program code g fuel y p r o h = rw (part-to-end code 0) at h
+
 -- ---- worked out at once
 pub no-shape : (code g ts ws : List ℕ) (fuel y k : ℕ) (ws₁ : List ℕ) → Values fuel code g ws y k ws₁ → Lent g ts ws fuel → (k ≡ 0 → ⊥) → kindIn k ≡ kindShape → ⊥
 no-shape code g ts ws fuel y k ws₁ h l n = plain fuel code g ws y k ws₁ h (omega (arith, l .lent .room .words)) n .no-shape
@@ -83,10 +95,10 @@ module _ (program code g : List ℕ) (p : ℕ) (ts ws : List ℕ) (fuel y i : �
   there : shown a ts₁ ws₁ ≡ expressionAt fuel (setting program code g) y p (raw ts ws)
   there = rw (unchanged fuel code g ws y i ws₀ c z) at h
 
-  pub simple-done : (w x k : ℕ) (v : Value) (r : Flow) (ws₂ : List ℕ) → y ≡ x + sizeIn w - 1 → a ≡ Good v → k ≡ packed v → Flows ws₁ (finishing g w k p) r ws₂
-      → shownFlow r ts₁ ws₂ ≡ simpleAt (expressionAt fuel (setting program code g)) (setting program code g) w x p (raw ts ws)
+  pub simple-done : (w x k : ℕ) (v : Value) (r s : Flow) (ws₂ : List ℕ) → y ≡ x + sizeIn w - 1 → a ≡ Good v → k ≡ packed v → Flows ws₁ (finishing g w k p) r ws₂ → r ≡ s
+      → shownFlow s ts₁ ws₂ ≡ simpleAt (expressionAt fuel (setting program code g)) (setting program code g) w x p (raw ts ws)
   unfolding simpleAt _>>=_
-  simple-done w x k v r ws₂ e f m q = q .equal ts₁ ∙ sym (rw (← e) (goes-on _ there f ∙ rw m))
+  simple-done w x k v r s ws₂ e f m q b = (rw b at q .equal ts₁) ∙ sym (rw (← e) (goes-on _ there f ∙ rw m))
 
   pub simple-stops : (w x n q : ℕ) → y ≡ x + sizeIn w - 1 → a ≡ Bad n q → shownFlow (Stopped n q) ts₁ ws₁ ≡ simpleAt (expressionAt fuel (setting program code g)) (setting program code g) w x p (raw ts ws)
   unfolding simpleAt _>>=_ shownFlow

@@ -19,7 +19,8 @@ ghost use Rattle.interpreter.specs.Asked.{Lent, Calls, Runs, Body};
 const OTHER: u64 = 10;
 
 // ---- expressions
-// An expression by its root x, in the statement at p.
+// An expression by its root x, in the statement at p. An answer that is handed on is made anew, here and in `simple`: a copy would be read in other
+// pieces than it was written in, and the processor would wait.
 fn expression(
     program: &[u8],
     code: &[u64],
@@ -46,11 +47,15 @@ fn expression(
         return primaries::leaf(words, w, p);
     }
     if tag == tags::CALL {
-        let r = call(program, code, grants, texts, words, fuel - 1, w, x, p);
-        return r;
+        match call(program, code, grants, texts, words, fuel - 1, w, x, p) {
+            Answer::Good(v) => return Answer::Good(v),
+            Answer::Bad(n, q) => return Answer::Bad(n, q),
+        }
     }
-    let r = operands(program, code, grants, texts, words, fuel - 1, w, x, p);
-    r
+    match operands(program, code, grants, texts, words, fuel - 1, w, x, p) {
+        Answer::Good(v) => Answer::Good(v),
+        Answer::Bad(n, q) => Answer::Bad(n, q),
+    }
 }
 
 // A new table by its size, a table read, or an operator.
@@ -243,7 +248,7 @@ fn invoke(
 }
 
 // ---- statements that hold no others
-// A statement of one expression, by its word: worked out at once where it can be.
+// A statement of one expression, by its word: worked out at once where it can be. What an assignment then does is so little that the compiler puts it here.
 fn simple(
     program: &[u8],
     code: &[u64],
@@ -262,14 +267,18 @@ fn simple(
     let y = code::last_of(w, x);
     let k = fastpath::fast_value(words, code, grants, fuel, y);
     if k != 0 {
-        let r = effects::finish_plain(words, grants, w, k, p);
-        return r;
+        if code::tag_of(w) == tags::ASSIGN {
+            let r = effects::put_word(words, grants, code::extra_of(w), k, p);
+            return r;
+        }
+        return effects::pass_on(w, k);
     }
     match expression(program, code, grants, texts, words, fuel, y, p) {
-        Answer::Good(v) => {
-            let r = effects::finish(words, grants, w, values::pack(v), p);
-            r
-        }
+        Answer::Good(v) => match effects::finish(words, grants, w, values::pack(v), p) {
+            Flow::Onward => Flow::Onward,
+            Flow::Returned(u) => Flow::Returned(u),
+            Flow::Stopped(n, q) => Flow::Stopped(n, q),
+        },
         Answer::Bad(n, q) => Flow::Stopped(n, q),
     }
 }
@@ -322,7 +331,7 @@ fn update(
     }
 }
 
-// A test by its root: worked out at once where it can be.
+// A test by its root: worked out at once where it can be. The code is lent anew for the same reason.
 fn test(
     program: &[u8],
     code: &[u64],
@@ -337,6 +346,7 @@ fn test(
     ensures { λ r. ⌜ shownTest r (now (texts .exit)) (now (words .exit))
         ≡ testOf (expressionAt fuel (setting (now (program .entry)) (now (code .entry)) (now (grants .entry)))) (setting (now (program .entry)) (now (code .entry)) (now (grants .entry))) y p (raw (now (texts .entry)) (now (words .entry))) ⌝ }
 {
+    let code = &code[0..];
     let k = fastpath::fast_value(words, code, grants, fuel, y);
     if k != 0 {
         return effects::outcome_of(k, p);

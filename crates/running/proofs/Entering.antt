@@ -40,7 +40,7 @@ use Rattle.simulation.proofs.Binding.{bind}
 use Rattle.simulation.proofs.Variables.{undeclared, is-declared}
 use Rattle.simulation.proofs.Declaring.{declare-free, declare-again, put-after, new-after, room}
 use Rattle.simulation.proofs.Beginning.{Called, begins, calls-main}
-use Rattle.running.specs.Running.{mainBegins}
+use Rattle.running.specs.Running.{mainBegins, Blank}
 
 -- ---- a declaration, by what the words hold
 abbrev declaredIn : List ℕ → ℕ → List ℕ
@@ -92,11 +92,11 @@ pub record Entered (program : List ℕ) (ts : List Token) (g : List ℕ) (r : Ra
   pub stack : getD (r .words) argumentsHeld 0 ≡ 0
 
 module _ (program : List ℕ) (ts : List Token) (g : List ℕ) (few : length ts ≤ 8192) (texts words : List ℕ) (lent : Lent g texts words)
-    (zeros : (i : ℕ) → getD words i 0 ≡ 0) (x y : List ℕ) (o : Occurs ts aName x) (p : Occurs ts aName y)
+    (blank : Blank words) (x y : List ℕ) (o : Occurs ts aName x) (p : Occurs ts aName y)
     (own-x : isIn (slotOf ts x) (scopeOf program ts 0) ≡ true) (own-y : isIn (slotOf ts y) (scopeOf program ts 0) ≡ true)
     (width height : ℤ) (w-small : mag width < 2 ^ 31) (h-small : mag height < 2 ^ 31) where
   start : Related program ts g (raw texts words) empty nothingYet
-  start = begins program ts g texts words lent zeros
+  start = begins program ts g texts words lent (blank .front) (blank .behind)
 
   -- ---- both declared
   abbrev one : Raw
@@ -105,11 +105,14 @@ module _ (program : List ℕ) (ts : List Token) (g : List ℕ) (few : length ts 
   abbrev unset : List Variable
   unset = variable x Value.none ∷ []
 
+  unset-first : getD words (valuePlace (slotOf ts x)) 0 ≡ 0
+  unset-first = blank .front (valuePlace (slotOf ts x)) (omega arith)
+
   first : After program ts g (raw texts words) one (withVariables empty unset) nothingYet
-  first = new-after few start x o (zeros _) (rw (zeros running) own-x)
+  first = new-after few start x o unset-first (rw (blank .front running (omega arith)) own-x)
 
   declared-first : declare (slotOf ts x) 0 (raw texts words) ≡ done tt one
-  declared-first = declare-free (slotOf ts x) 0 (raw texts words) (zeros _) (room few start x o (zeros _))
+  declared-first = declare-free (slotOf ts x) 0 (raw texts words) unset-first (room few start x o unset-first)
 
   -- whether y is declared already
   module _ (same : sameText x y ≡ true) where
@@ -145,14 +148,14 @@ module _ (program : List ℕ) (ts : List Token) (g : List ℕ) (few : length ts 
     both = variable x Value.none ∷ variable y Value.none ∷ []
 
     second : After program ts g one two (withVariables empty both) nothingYet
-    second = new-after few (first .related) y p free (rw (first .untouched .running, zeros running) own-y)
+    second = new-after few (first .related) y p free (rw (first .untouched .running, blank .front running (omega arith)) own-y)
 
     declared-second : declare (slotOf ts y) 0 one ≡ done tt two
     declared-second = declare-free (slotOf ts y) 0 one free (room few (first .related) y p free)
 
     -- ---- the first call
     no-call : getD (two .words) callsUsed 0 ≡ 0
-    no-call = second .untouched .calls ∙ first .untouched .calls ∙ zeros callsUsed
+    no-call = second .untouched .calls ∙ first .untouched .calls ∙ blank .front callsUsed (omega arith)
 
     -- ---- both set
     abbrev half : List Variable
@@ -199,8 +202,8 @@ module _ (program : List ℕ) (ts : List Token) (g : List ℕ) (few : length ts 
         related = fourth .related;
         calls = fourth .untouched .calls ∙ third .untouched .calls ∙ c .calls;
         procedure = fourth .untouched .running ∙ third .untouched .running ∙ c .others running (λ e. omega arith)
-            ∙ second .untouched .running ∙ first .untouched .running ∙ zeros running;
-        stack = fourth .held ∙ third .held ∙ c .others argumentsHeld (λ e. omega arith) ∙ second .held ∙ first .held ∙ zeros argumentsHeld;
+            ∙ second .untouched .running ∙ first .untouched .running ∙ blank .front running (omega arith);
+        stack = fourth .held ∙ third .held ∙ c .others argumentsHeld (λ e. omega arith) ∙ second .held ∙ first .held ∙ blank .front argumentsHeld (omega arith);
       }
 
     -- both sides behind the declarations

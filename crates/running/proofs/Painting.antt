@@ -40,7 +40,7 @@ use Rattle.simulation.proofs.Body.{main-stored, main-takes, main-there, main-ow
 use Rattle.running.specs.declared.Ending.{Ending}
 use Rattle.running.specs.declared.Ending.the-variants.{Stopped}
 use Rattle.running.specs.Specified.{paintRead}
-use Rattle.running.specs.Running.{mainFuel, bodyRun, shownEnding, Painted, Ran, paintingRun, readingRun}
+use Rattle.running.specs.Running.{mainFuel, bodyRun, shownEnding, Painted, Ran, paintingRun, readingRun, Blank}
 use Rattle.running.proofs.Scenes.{scene-shown, is-drawable}
 use Rattle.running.proofs.Entering.{enters}
 
@@ -70,7 +70,7 @@ own-second x y = go (eqb x y)
 -- ---- main's body
 module _ (program code g : List ℕ) (short : length program ≤ 32768) (ts : List Token) (m : Tree.Program) (read : Read program ts m) (different : doubled [] (m .procedures) ≡ none)
     (stands : Stands code 0 (codeOfProcedures (m .procedures) ts)) (table : Stands code 8192 (tabled 0 (m .procedures) ts (replicate 8192 0)))
-    (texts words : List ℕ) (lent : Lent g texts words) (zeros : (i : ℕ) → getD words i 0 ≡ 0)
+    (texts words : List ℕ) (lent : Lent g texts words) (blank : Blank words)
     (width height : ℤ) (w-small : mag width < 2 ^ 31) (h-small : mag height < 2 ^ 31) {granted : Amounts} (gr : Grants g granted) where
   abbrev e : Setting
   e = setting program code g
@@ -101,7 +101,7 @@ module _ (program code g : List ℕ) (short : length program ≤ 32768) (ts : Li
         (paintRead (wellFormed m) width height (suc (stepsGranted g)) empty)
     unfolding bodyRun paintRead understood namedApart KnownNames isIn Act._>>=_ Act.goOn Act.give Run._>>=_ Run.goOn Run.give Run.current Run.giveBack
     body-paints = rw (different, parameters, first-slot, second-slot)
-        (bind (enters program ts g (read .few) texts words lent zeros x y (both .0) (both .1 .0) (owns (slotOf ts x) (own-first (slotOf ts x) (slotOf ts y ∷ []))) (owns (slotOf ts y) (own-second (slotOf ts x) (slotOf ts y)))
+        (bind (enters program ts g (read .few) texts words lent blank x y (both .0) (both .1 .0) (owns (slotOf ts x) (own-first (slotOf ts x) (slotOf ts y ∷ []))) (owns (slotOf ts y) (own-second (slotOf ts x) (slotOf ts y)))
         width height w-small h-small gr) (λ _ _ r s total a.
         bind (rw two at (body-follows e ts m short read different stands table gr mainFuel (suc (stepsGranted g)) (omega arith) (a .related) (a .procedure) (a .calls) (a .stack)
         (omega (arith, a .related .stepsTaken)))) (λ f f′ r′ s′ total′ b.
@@ -158,10 +158,10 @@ module _ (program code g texts words : List ℕ) (short : length program ≤ 327
         by-names m s (x ∷ y ∷ []) q l = absurd (l (rw q))
         by-names m s (x ∷ y ∷ z ∷ xs) q l = record { follows = λ granted gr. rw (s .different, q) (failed 20 0 (raw texts words) steps) }
 
-    pub read-body : parametersIn d ≡ 2 → (lent : Lent g texts words) (zeros : (i : ℕ) → getD words i 0 ≡ 0) → mag width < 2 ^ 31 → mag height < 2 ^ 31
+    pub read-body : parametersIn d ≡ 2 → (lent : Lent g texts words) (blank : Blank words) → mag width < 2 ^ 31 → mag height < 2 ^ 31
         → (e : Ending) (ts ws : List ℕ) → shownEnding e ts ws ≡ bodyRun (setting program code g) d width height (raw texts words)
         → Ran program g (readingRun program width height g) e ts ws
-    read-body two lent zeros w-small h-small e ts ws h = by-program e ts ws (λ m s. by-names m s (m .main .parameters) refl
+    read-body two lent blank w-small h-small e ts ws h = by-program e ts ws (λ m s. by-names m s (m .main .parameters) refl
         (sym (main-takes (setting program code g) (tokensIn program) m short (s .read) (s .different) (s .stands) (s .table)) ∙ rw (← s .main) two))
       where
         by-names : (m : Tree.Program) → Whole program code d m → (xs : List (List ℕ)) → m .main .parameters ≡ xs → length (m .main .parameters) ≡ 2
@@ -170,7 +170,7 @@ module _ (program code g texts words : List ℕ) (short : length program ≤ 327
         by-names m s (x ∷ []) q l = absurd (omega (arith, sym (ap (λ (k : List (List ℕ)). length k) q) ∙ l))
         by-names m s (x ∷ y ∷ []) q l = record {
           follows = λ granted gr. rw (h, s .main)
-              (body-paints program code g short (tokensIn program) m (s .read) (s .different) (s .stands) (s .table) texts words lent zeros width height w-small h-small gr x y q);
+              (body-paints program code g short (tokensIn program) m (s .read) (s .different) (s .stands) (s .table) texts words lent blank width height w-small h-small gr x y q);
         }
         by-names m s (x ∷ y ∷ z ∷ xs) q l = absurd (omega (arith, sym (ap (λ (k : List (List ℕ)). length k) q) ∙ l))
 

@@ -1,16 +1,18 @@
 -- One law for each way through each function.
-use Prim.Native.Nat.{ℕ, zero, suc, _+_, _^_, _≤_, _<_}
+use Prim.Native.Nat.{ℕ, zero, suc, _+_, _-_, _^_, _≤_, _<_}
 use native.Mathlib.Omega.{arith}
 use mathlib.Core.Path.{_≡_, refl, ap, sym, _∙_}
 use mathlib.Core.Bool.{Bool, true, false, not, _&&_}
-use mathlib.Core.List.{List}
-use lib.ListN.{getD, length, replicate, length-replicate}
+use mathlib.Core.List.{List, _++_, append-nil}
+use lib.ListN.{getD, length, take, drop, replicate, length-append, length-drop, length-replicate, drop-of-length-le, List·getD-append}
+use lib.Seq.{length-take-le, getD-take, getD-append-add}
 use lib.IntN.{ℤ, pos}
 use lib.Signed.{mag, ltZ}
 use mir.Syntax.{w32}
 use mir.Val.{toZ, ofZ, SFits}
 use mir.Facts.{toZ-ofZ}
 use borrow.Author.Tests.{not-true, not-false}
+use borrow.Rule.Slice.PartMut.{midOf, putMid}
 use Rattle.meaning.specs.Grammar.{reading}
 use Rattle.reader.specs.declared.Program.{Program}
 use Rattle.reader.specs.declared.Program.the-variants.{Formed, Malformed}
@@ -19,7 +21,7 @@ use Rattle.machine.specs.declared.Value.{Value}
 use Rattle.machine.specs.declared.Value.the-variants.{Integer}
 use Rattle.machine.specs.Words.{packed}
 use Rattle.machine.specs.Opcodes.{startIn, parametersIn, bodyIn}
-use Rattle.machine.specs.Layout.{stepsUsed, callsUsed, callsGranted, Lent}
+use Rattle.machine.specs.Layout.{stepsUsed, callsUsed, callsGranted, fixedWords, argumentPlace, Lent}
 use Rattle.machine.specs.Act.{raw, goOn, _>>=_, give, passed, Passes, Pays, Gives}
 use Rattle.machine.specs.Variables.{declare, setVariable}
 use Rattle.stores.proofs.Acts.{after-pass, after-refusal, after-gift}
@@ -34,7 +36,7 @@ use Rattle.effects.proofs.Acts.{flow-on, flow-returns, flow-stops}
 use Rattle.running.specs.declared.Ending.{Ending}
 use Rattle.running.specs.declared.Ending.the-variants.{Complete, Stopped}
 use Rattle.lending.specs.Lending.{Ready}
-use Rattle.running.specs.Running.{mainBegins, mainFuel, Begins, bodyRun, shownEnding, Ran, paintingRun, readingRun, ReadyToRead}
+use Rattle.running.specs.Running.{mainBegins, mainFuel, Begins, bodyRun, shownEnding, Ran, paintingRun, readingRun, Blank, ReadyToRead}
 use Rattle.running.proofs.Painting.{read-malformed, read-parameters, read-body, no-sheet, too-long, as-read}
 
 -- a signed number handed over, as its bits
@@ -113,49 +115,85 @@ body-starts g ts ws ws₁ a n l j i k = record { lent = record { lent = still-le
 module _ (program code g tokens unread ts ws : List ℕ) (ready : ReadyToRead program g tokens unread ts ws) (width height : ℤ) (r : Program)
     (left : seen r code ≡ coded (tokensIn program) (reading program)) where
   pub way-malformed : (k i : ℕ) → r ≡ Malformed k i → Ran program g (readingRun program width height g) (Stopped k i) ts ws
-  way-malformed k i e = read-malformed program code g ts ws (ready .short) width height r left (ready .zeros stepsUsed) k i e
+  way-malformed k i e = read-malformed program code g ts ws (ready .short) width height r left (ready .blank .front stepsUsed (omega arith)) k i e
 
   module _ (main n t : ℕ) (e : r ≡ Formed main n t) (k : ℕ) (q : k ≡ parametersIn main) where
     pub way-parameters : (k ≡ 2 → ⊥) → Ran program g (readingRun program width height g) (Stopped 20 0) ts ws
-    way-parameters h = read-parameters program code g ts ws (ready .short) width height r left main n t e (ready .zeros stepsUsed) (λ p. h (q ∙ p))
+    way-parameters h =
+        read-parameters program code g ts ws (ready .short) width height r left main n t e (ready .blank .front stepsUsed (omega arith)) (λ p. h (q ∙ p))
 
     pub way-body : k ≡ 2 → SFits w32 width → SFits w32 height → (x : Ending) (ts₁ ws₁ : List ℕ)
         → shownEnding x ts₁ ws₁ ≡ bodyRun (setting program code g) main (held width) (held height) (raw ts ws)
         → Ran program g (readingRun program width height g) x ts₁ ws₁
     way-body two f f₂ x ts₁ ws₁ h =
-        read-body program code g ts ws (ready .short) width height r left main n t e (sym q ∙ two) (ready .ready .lent) (ready .zeros) (f .sfits) (f₂ .sfits) x ts₁ ws₁
+        read-body program code g ts ws (ready .short) width height r left main n t e (sym q ∙ two) (ready .ready .lent) (ready .blank) (f .sfits) (f₂ .sfits) x ts₁ ws₁
         (rw (toZ-ofZ f, toZ-ofZ f₂) at h)
 
--- ---- `run`
+-- ---- `clear_but_stack`
 zero-at : (n i : ℕ) → _≡_ {A = ℕ} (getD (replicate n 0) i 0) 0
 zero-at zero i = refl
 zero-at (suc n) zero = refl
 zero-at (suc n) (suc i) = zero-at n i
 
-module _ (program g tokens code ts ws₀ ws : List ℕ) (ready : Ready g tokens code ts ws₀) (cleared : ws ≡ replicate (length ws₀) 0) (width height : ℤ)
-    (f : SFits w32 width) (f₂ : SFits w32 height) (ok : Bool) (sheet : ok ≡ (ltZ (pos 0) (held width) && ltZ (pos 0) (held height))) where
-  zeros : (i : ℕ) → getD ws i 0 ≡ 0
-  zeros i = rw cleared (zero-at (length ws₀) i)
+-- the words with zeros e in front, and then with zeros f behind the stack
+module _ (ws e f : List ℕ) (long : fixedWords ≤ length ws) (c : e ≡ replicate (length (take (argumentPlace 0) ws)) 0)
+    (d : f ≡ replicate (length (midOf fixedWords (length (e ++ drop (argumentPlace 0) ws) - fixedWords) (e ++ drop (argumentPlace 0) ws))) 0) where
+  abbrev half : List ℕ
+  half = e ++ drop (argumentPlace 0) ws
 
+  as-many : length e ≡ argumentPlace 0
+  as-many = ap length c ∙ length-replicate (length (take (argumentPlace 0) ws)) 0 ∙ length-take-le (argumentPlace 0) ws (omega arith)
+
+  half-long : length half ≡ length ws
+  half-long = length-append e (drop (argumentPlace 0) ws) ∙ rw (as-many, length-drop (argumentPlace 0) ws) (omega arith)
+
+  abbrev done : List ℕ
+  done = putMid fixedWords (length half - fixedWords) half f
+
+  done-is : done ≡ take fixedWords half ++ f
+  done-is =
+      ap (λ (l : List ℕ). take fixedWords half ++ (f ++ l)) (drop-of-length-le (drop fixedWords half) {i = length half - fixedWords} (rw (length-drop fixedWords half) (omega arith)))
+      ∙ ap (λ (l : List ℕ). take fixedWords half ++ l) (append-nil f)
+
+  front-long : length (take fixedWords half) ≡ fixedWords
+  front-long = length-take-le fixedWords half (omega (arith, half-long))
+
+  in-front : (i : ℕ) → i < argumentPlace 0 → getD done i 0 ≡ 0
+  in-front i l =
+      ap (λ (s : List ℕ). getD s i 0) done-is ∙ List·getD-append (take fixedWords half) f 0 i (omega (arith, front-long))
+      ∙ getD-take fixedWords half i 0 (omega arith) ∙ List·getD-append e (drop (argumentPlace 0) ws) 0 i (omega (arith, as-many)) ∙ rw c (zero-at (length (take (argumentPlace 0) ws)) i)
+
+  at-end : (i : ℕ) → fixedWords ≤ i → getD done i 0 ≡ 0
+  at-end i l =
+      let k : i ≡ length (take fixedWords half) + (i - fixedWords) = omega (arith, front-long) in
+      ap (λ (s : List ℕ). getD s i 0) done-is ∙ ap (λ (j : ℕ). getD (take fixedWords half ++ f) j 0) k
+      ∙ getD-append-add (take fixedWords half) f (i - fixedWords) 0 ∙ rw d (zero-at (length (midOf fixedWords (length half - fixedWords) half)) (i - fixedWords))
+
+  pub both-cleared : Blank done
+  both-cleared = record { front = in-front; behind = at-end }
+
+-- ---- `run`
+module _ (program g tokens code ts ws₀ ws : List ℕ) (ready : Ready g tokens code ts ws₀) (long : length ws ≡ length ws₀) (blank : Blank ws) (width height : ℤ)
+    (f : SFits w32 width) (f₂ : SFits w32 height) (ok : Bool) (sheet : ok ≡ (ltZ (pos 0) (held width) && ltZ (pos 0) (held height))) where
   is : ok ≡ (ltZ (pos 0) width && ltZ (pos 0) height)
   is = sheet ∙ rw (toZ-ofZ f, toZ-ofZ f₂)
 
   pub run-no-sheet : not ok ≡ true → Ran program g (paintingRun program width height g) (Stopped 72 0) ts ws
-  run-no-sheet t = no-sheet program g ts ws width height (zeros stepsUsed) (sym is ∙ not-true ok t)
+  run-no-sheet t = no-sheet program g ts ws width height (blank .front stepsUsed (omega arith)) (sym is ∙ not-true ok t)
 
   module _ (t : not ok ≡ false) where
     a-sheet : ltZ (pos 0) width && ltZ (pos 0) height ≡ true
     a-sheet = sym is ∙ not-false ok t
 
     pub run-too-long : 32768 < length program → Ran program g (paintingRun program width height g) (Stopped 73 0) ts ws
-    run-too-long l = too-long program g ts ws width height a-sheet (zeros stepsUsed) l
+    run-too-long l = too-long program g ts ws width height a-sheet (blank .front stepsUsed (omega arith)) l
 
     module _ (short : length program ≤ 32768) where
       pub run-ready : ReadyToRead program g tokens code ts ws
       run-ready = record {
-        ready = record { tokensLong = ready .tokensLong; codeLong = ready .codeLong; lent = still-lent g ts ws₀ ts ws (ready .lent) refl (rw cleared (length-replicate (length ws₀) 0)) };
+        ready = record { tokensLong = ready .tokensLong; codeLong = ready .codeLong; lent = still-lent g ts ws₀ ts ws (ready .lent) refl long };
         short = short;
-        zeros = zeros;
+        blank = blank;
       }
 
       pub run-as-read : (x : Ending) (ts₁ ws₁ : List ℕ)

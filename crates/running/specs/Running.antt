@@ -1,5 +1,5 @@
 -- A run from the program to its picture: how it ends, and what the stores hold then.
-use Prim.Native.Nat.{ℕ, suc, _+_, _≤_}
+use Prim.Native.Nat.{ℕ, suc, _+_, _≤_, _<_}
 use mathlib.Core.Path.{_≡_}
 use mathlib.Core.List.{List}
 use lib.ListN.{length, getD}
@@ -13,7 +13,7 @@ use Rattle.meaning.specs.Program.{empty, painting}
 use Rattle.machine.specs.declared.Value.the-variants.{Integer}
 use Rattle.machine.specs.Words.{packed}
 use Rattle.machine.specs.Opcodes.{startIn, bodyIn}
-use Rattle.machine.specs.Layout.{stepsUsed, callsUsed, stepsGranted, callsGranted}
+use Rattle.machine.specs.Layout.{stepsUsed, callsUsed, stepsGranted, callsGranted, fixedWords, argumentPlace}
 use Rattle.machine.specs.Act.{Raw, raw, Out, done, stop, Act, give, spend, _>>_, _>>=_}
 use Rattle.machine.specs.Variables.{declare, setVariable}
 use Rattle.machine.specs.Evaluate.{Setting}
@@ -72,7 +72,12 @@ abbrev pub readingRun : List ℕ → ℤ → ℤ → List ℕ → Run (List Figu
 readingRun program width height g = paintRead (reading program) width height (suc (stepsGranted g)) empty
 
 -- ---- what is asked
+-- the words hold zeros before the stack and behind it
+pub record Blank (ws : List ℕ) : Type 0 where
+  pub front : (i : ℕ) → i < argumentPlace 0 → getD ws i 0 ≡ 0
+  pub behind : (i : ℕ) → fixedWords ≤ i → getD ws i 0 ≡ 0
+
 pub record ReadyToRead (program g tokens code ts ws : List ℕ) : Type 0 where
   pub ready : Ready g tokens code ts ws
   pub short : length program ≤ 32768
-  pub zeros : (i : ℕ) → getD ws i 0 ≡ 0
+  pub blank : Blank ws

@@ -3,6 +3,7 @@ use machine::Flow;
 use machine::Value;
 use machine::counters;
 use machine::granted;
+use machine::layout;
 use reader::Program;
 ghost use Prim.Native.Nat.{_≤_};
 ghost use mathlib.Core.Path.{_≡_};
@@ -14,7 +15,7 @@ ghost use Rattle.machine.specs.Act.{raw};
 ghost use Rattle.machine.specs.Layout.{fixedWords, Lent};
 ghost use Rattle.machine.specs.Evaluate.{setting};
 ghost use Rattle.lending.specs.Lending.{Ready};
-ghost use Rattle.running.specs.Running.{mainBegins, Begins, bodyRun, shownEnding, Ran, paintingRun, readingRun, ReadyToRead};
+ghost use Rattle.running.specs.Running.{mainBegins, Begins, bodyRun, shownEnding, Ran, paintingRun, readingRun, Blank, ReadyToRead};
 
 // How deep expressions, statements and calls may be inside one another: 64 calls of a program's whole code need less than half of it.
 const FUEL: usize = 2097152;
@@ -124,6 +125,15 @@ fn run_read(
     }
 }
 
+// Zeros in the words before the stack and behind it. What the stack holds before a run does not count.
+fn clear_but_stack(words: &mut [u64])
+    requires { ⌜ fixedWords ≤ length (now words) ⌝ }
+    ensures { λ _. ⌜ Blank (now (words .exit)) ⌝ }
+{
+    slices::clear_words(&mut words[..layout::FIRST_ARGUMENT]);
+    slices::clear_words(&mut words[layout::FIXED_WORDS..]);
+}
+
 // Runs a program. The words and the text store then hold what it left, and the words how many steps were counted.
 pub fn run(
     program: &[u8],
@@ -139,7 +149,7 @@ pub fn run(
     ensures { λ r. ⌜ Ran (now (program .entry)) (now (grants .entry)) (paintingRun (now (program .entry)) width height (now (grants .entry)))
         r (now (texts .exit)) (now (words .exit)) ⌝ }
 {
-    slices::clear_words(words);
+    clear_but_stack(words);
     if !is_sheet(width, height) {
         return Ending::Stopped(72, 0);
     }

@@ -1,4 +1,4 @@
--- Where nothing was done yet: words of 0 stand for the empty state. And main's call.
+-- Where nothing was done yet: words of 0, but on the stack, stand for the empty state. And main's call.
 use Prim.Native.Nat.{ℕ, _+_, _≤_, _<_}
 use native.Mathlib.Omega.{arith}
 use mathlib.Core.Path.{_≡_, refl, sym, _∙_}
@@ -13,7 +13,7 @@ use Rattle.meaning.specs.Run as Run
 use Rattle.meaning.specs.Book.{Amounts, nothingYet, added, resourceNumber, shortageOf}
 use Rattle.meaning.specs.Program.{empty}
 use Rattle.machine.specs.Words.{unpacked}
-use Rattle.machine.specs.Layout.{stepsUsed, shapesUsed, entriesUsed, textUsed, tablesMade, declared, argumentsHeld, callsUsed, callsGranted, valuePlace, Lent}
+use Rattle.machine.specs.Layout.{stepsUsed, shapesUsed, entriesUsed, textUsed, tablesMade, declared, argumentsHeld, callsUsed, callsGranted, fixedWords, valuePlace, argumentPlace, Lent}
 use Rattle.machine.specs.Act.{Raw, raw}
 use Rattle.machine.specs.Act as Act
 use Rattle.simulation.specs.Meant.{listed, variablesOf, suspendedOf, shapesOf, entriesOf}
@@ -25,9 +25,16 @@ use Rattle.simulation.proofs.Frames.{SameVariables, same-words, variabl
 use Rattle.simulation.proofs.Results.{due, steps-told, spent}
 use Rattle.simulation.proofs.Moving.{moved-later, moved-related}
 
-module _ (program : List ℕ) (ts : List Token) (g texts words : List ℕ) (lent : Lent g texts words) (zeros : (i : ℕ) → getD words i 0 ≡ 0) where
-  none : {A : Type 0} (c k : ℕ) → k < getD words c 0 → A
-  none c k l = absurd (omega (arith, zeros c))
+module _ (program : List ℕ) (ts : List Token) (g texts words : List ℕ) (lent : Lent g texts words)
+    (front : (i : ℕ) → i < argumentPlace 0 → getD words i 0 ≡ 0) (behind : (i : ℕ) → fixedWords ≤ i → getD words i 0 ≡ 0) where
+  counter : (c : ℕ) → c < 16 → getD words c 0 ≡ 0
+  counter c s = front c (omega arith)
+
+  value : (slot : ℕ) → getD words (valuePlace slot) 0 ≡ 0
+  value slot = front (valuePlace slot) (omega arith)
+
+  none : {A : Type 0} (c k : ℕ) → c < 16 → k < getD words c 0 → A
+  none c k s l = absurd (omega (arith, counter c s))
 
   pub begins : Related program ts g (raw texts words) empty nothingYet
   unfolding variablesOf suspendedOf shapesOf entriesOf listed Valid unpacked last if_then_else_
@@ -35,45 +42,45 @@ module _ (program : List ℕ) (ts : List Token) (g texts words : List ℕ) (lent
     sound = record {
       lent = lent;
       counted = record {
-        steps = rw (zeros stepsUsed) (omega arith);
-        shapes = rw (zeros shapesUsed) (omega arith);
-        entries = rw (zeros entriesUsed) (omega arith);
-        text = rw (zeros textUsed) (omega arith);
-        tables = rw (zeros tablesMade) (omega arith);
-        arguments = rw (zeros argumentsHeld) (omega arith);
-        calls = rw (zeros callsUsed) (omega arith);
+        steps = rw (counter stepsUsed (omega arith)) (omega arith);
+        shapes = rw (counter shapesUsed (omega arith)) (omega arith);
+        entries = rw (counter entriesUsed (omega arith)) (omega arith);
+        text = rw (counter textUsed (omega arith)) (omega arith);
+        tables = rw (counter tablesMade (omega arith)) (omega arith);
+        arguments = rw (counter argumentsHeld (omega arith)) (omega arith);
+        calls = rw (counter callsUsed (omega arith)) (omega arith);
       };
       variables = record {
-        few = rw (zeros declared) (omega arith);
-        small = λ k l. none declared k l;
-        names = λ k l. none declared k l;
-        own = λ k l. none declared k l;
-        there = λ k l. none declared k l;
-        apart = λ j k a b e. none declared j a;
-        found = λ slot l n. absurd (n (zeros _));
-        holds = λ slot. rw (zeros (valuePlace slot)) tt;
-        narrow = λ slot. rw (zeros (valuePlace slot)) (omega arith);
+        few = rw (counter declared (omega arith)) (omega arith);
+        small = λ k l. none declared k (omega arith) l;
+        names = λ k l. none declared k (omega arith) l;
+        own = λ k l. none declared k (omega arith) l;
+        there = λ k l. none declared k (omega arith) l;
+        apart = λ j k a b e. none declared j (omega arith) a;
+        found = λ slot l n. absurd (n (value slot));
+        holds = λ slot. rw (value slot) tt;
+        narrow = λ slot. rw (value slot) (omega arith);
       };
-      waiting = record { within = λ d z l. none callsUsed d l; holds = λ d z l k a b. none callsUsed d l };
-      shapes = record { proper = λ i l. none shapesUsed i l; first = λ i l. none shapesUsed i l; second = λ i l. none shapesUsed i l };
+      waiting = record { within = λ d z l. none callsUsed d (omega arith) l; holds = λ d z l k a b. none callsUsed d (omega arith) l };
+      shapes = record { proper = λ i l. none shapesUsed i (omega arith) l; first = λ i l. none shapesUsed i (omega arith) l; second = λ i l. none shapesUsed i (omega arith) l };
       entries = record {
-        packs = λ k l. none entriesUsed k l;
-        keys = λ k l. none entriesUsed k l;
-        holds = λ k l. none entriesUsed k l;
-        apart = λ j k a b x y. none entriesUsed j a;
-        index = record { few = rw (zeros entriesUsed) (omega arith); begins = λ b l. rw (zeros (headPlace g b), zeros entriesUsed); links = λ k l. none entriesUsed k l };
+        packs = λ k l. none entriesUsed k (omega arith) l;
+        keys = λ k l. none entriesUsed k (omega arith) l;
+        holds = λ k l. none entriesUsed k (omega arith) l;
+        apart = λ j k a b x y. none entriesUsed j (omega arith) a;
+        index = record { few = rw (counter entriesUsed (omega arith)) (omega arith); begins = λ b l. rw (behind (headPlace g b) (omega arith), counter entriesUsed (omega arith)); links = λ k l. none entriesUsed k (omega arith) l };
       };
     };
-    variables = rw (zeros declared);
-    suspended = rw (zeros callsUsed);
-    shapes = rw (zeros shapesUsed);
-    tables = sym (zeros tablesMade);
-    entries = rw (zeros entriesUsed);
-    stepsTaken = sym (zeros stepsUsed);
-    shapesTaken = sym (zeros shapesUsed);
-    entriesTaken = sym (zeros entriesUsed);
-    textTaken = sym (zeros textUsed);
-    callsTaken = sym (zeros callsUsed);
+    variables = rw (counter declared (omega arith));
+    suspended = rw (counter callsUsed (omega arith));
+    shapes = rw (counter shapesUsed (omega arith));
+    tables = sym (counter tablesMade (omega arith));
+    entries = rw (counter entriesUsed (omega arith));
+    stepsTaken = sym (counter stepsUsed (omega arith));
+    shapesTaken = sym (counter shapesUsed (omega arith));
+    entriesTaken = sym (counter entriesUsed (omega arith));
+    textTaken = sym (counter textUsed (omega arith));
+    callsTaken = sym (counter callsUsed (omega arith));
   }
 
 -- ---- main is the first call

@@ -1,39 +1,35 @@
-use Rattle.effects.proofs.Laws.{is-assignment, is-return, is-act}
+use Rattle.effects.proofs.Laws.{is-assignment}
 use borrow.Author.Needs.{needs}
 use Rattle.effects.proofs.finish.Statement.{statement}
 use Rattle.effects.proofs.finish.Tie as tie
 
--- src/lib.rt:78:11
+-- src/lib.rt:93:8
 tag-of-requires : tie.Need-tag-of-requires
 tag-of-requires c κs = search needs
 
--- src/lib.rt:80:43
+-- src/lib.rt:94:39
 extra-of-requires : tie.Need-extra-of-requires
 extra-of-requires c κs = search needs
 
--- src/lib.rt:80:17
+-- src/lib.rt:94:13
 assign-requires : tie.Need-assign-requires
 assign-requires c κs = search needs
 
--- src/lib.rt:83:40
-unpack-requires : tie.Need-unpack-requires
-unpack-requires c κs = search needs
-
--- src/lib.rt:74:1
+-- src/lib.rt:95:9
 same-length : tie.Need-same-length
 same-length c = search needs
 
--- src/lib.rt:74:1
+-- src/lib.rt:95:9
 returns : tie.Need-returns
 returns c = search is-assignment
 
--- src/lib.rt:74:1
-returns-2 : tie.Need-returns-2
-returns-2 c = search is-return
+-- src/lib.rt:97:5
+pass-on-requires : tie.Need-pass-on-requires
+pass-on-requires c κs = search needs
 
--- src/lib.rt:74:1
-returns-3 : tie.Need-returns-3
-returns-3 c = search is-act
+-- src/lib.rt:89:1
+returns-2 : tie.Need-returns-2
+returns-2 c = c .pass-on .ensures _ _ _
 
 pub finish-spec : {M : Type 1} → statement M
 finish-spec =
@@ -42,8 +38,7 @@ finish-spec =
     tag-of-requires
     extra-of-requires
     assign-requires
-    unpack-requires
     same-length
     returns
-    returns-2
-    returns-3)
+    pass-on-requires
+    returns-2)

@@ -9,6 +9,8 @@ use Rattle.interpreter.proofs.StatementLaws.{still-lent, still-runs, st
 use Rattle.interpreter.proofs.StatementLaws.{statement-too-deep, statement-no-step, is-loop, is-declaration, is-update, is-when, is-block, is-simple, when-holds, when-not, when-stops, Looping, loop-first, loop-short, loop-refused, loop-stops, loop-ends, loop-fails, loop-returns, loop-again}
 use Rattle.interpreter.proofs.StatementLaws.{Following, all-first, runs-before, all-short, all-done, all-fails, all-returns, all-again}
 use Rattle.interpreter.proofs.CallLaws.{begin-stops, body-stops, without-return, with-return}
+use Rattle.effects.proofs.Laws.{is-assignment}
+use Rattle.interpreter.proofs.StatementLaws.{worked-anew, evaluated-anew}
 use Prim.Native.Nat.{ℕ, _+_, _-_, _*_, _<_}
 use borrow.Fn.Kinds.{In}
 use borrow.Fn.PlainCycle.{Measures, is, falls, and}
@@ -66,8 +68,9 @@ use Rattle.code.proofs.table_place.Reads as table-place-reads
 use Rattle.code.proofs.tag_of.Reads as tag-of-reads
 use Rattle.effects.proofs.declare.Reads as declare-reads
 use Rattle.effects.proofs.finish.Reads as finish-reads
-use Rattle.effects.proofs.finish_plain.Reads as finish-plain-reads
 use Rattle.effects.proofs.outcome_of.Reads as outcome-of-reads
+use Rattle.effects.proofs.pass_on.Reads as pass-on-reads
+use Rattle.effects.proofs.put_word.Reads as put-word-reads
 use Rattle.fastpath.proofs.fast_value.Reads as fast-value-reads
 use Rattle.primaries.proofs.apply.Reads as apply-reads
 use Rattle.primaries.proofs.called.Reads as called-reads
@@ -206,7 +209,7 @@ when-at t = and 5 when-kinds.ps (is 5 when-kinds.ps μ-when t) when.Pre
 abbrev when-below : ℕ → In 5 when-kinds.ps
 when-below t = and 5 when-kinds.ps (falls 5 when-kinds.ps _<_ μ-when t) when.Pre
 
--- src/lib.rt:182:9
+-- src/lib.rt:187:9
 argument-fast-value-requires : (t : ℕ) → argument-lts.Need-fast-value-requires (
   fast-value-reads.Asked,
   fast-value-reads.Learnt,
@@ -219,7 +222,7 @@ argument-fast-value-requires : (t : ℕ) → argument-lts.Need-fast-value-requir
 ) (argument-at t) argument.Post
 argument-fast-value-requires t c κs = omega (arith, c .before .before .before .before .before .pre .1 .lent .room .words)
 
--- src/lib.rt:184:13
+-- src/lib.rt:189:13
 argument-push-word-requires : (t : ℕ) → argument-lts.Need-push-word-requires (
   fast-value-reads.Asked,
   fast-value-reads.Learnt,
@@ -232,7 +235,7 @@ argument-push-word-requires : (t : ℕ) → argument-lts.Need-push-word-requires
 ) (argument-at t) argument.Post
 argument-push-word-requires t c κs = search needs
 
--- src/lib.rt:185:9
+-- src/lib.rt:190:9
 argument-same-length : (t : ℕ) → argument-lts.Need-same-length (
   fast-value-reads.Asked,
   fast-value-reads.Learnt,
@@ -245,7 +248,7 @@ argument-same-length : (t : ℕ) → argument-lts.Need-same-length (
 ) (argument-at t) argument.Post
 argument-same-length t c = search needs
 
--- src/lib.rt:185:9
+-- src/lib.rt:190:9
 argument-returns : (t : ℕ) → argument-lts.Need-returns (
   fast-value-reads.Asked,
   fast-value-reads.Learnt,
@@ -258,7 +261,7 @@ argument-returns : (t : ℕ) → argument-lts.Need-returns (
 ) (argument-at t) argument.Post
 argument-returns t c = push-fast _ _ _ _ _ _ _ _ _ _ (c .before .before .before .before .before .before .before .fast-value .ensures) _ _ (c .before .before .before .before .before .before .before .before .before .before .before .before .before .pre .1 .lent) (c .before .before .before .before .if1 .taken) (c .before .before .push-word .ensures)
 
--- src/lib.rt:187:11
+-- src/lib.rt:192:11
 argument-expression-requires : (t : ℕ) → argument-lts.Need-expression-requires (
   fast-value-reads.Asked,
   fast-value-reads.Learnt,
@@ -271,7 +274,7 @@ argument-expression-requires : (t : ℕ) → argument-lts.Need-expression-requir
 ) (argument-at t) argument.Post
 argument-expression-requires t c κs = (omega arith, slow-lent _ _ _ _ _ _ _ _ (c .before .before .before .before .before .fast-value .ensures) (c .before .before .if1 .left) (c .before .before .before .before .before .before .before .before .before .before .before .pre .1))
 
--- src/lib.rt:188:22
+-- src/lib.rt:193:22
 argument-enum-known-v : (t : ℕ) → argument-lts.Need-enum-known-v (
   fast-value-reads.Asked,
   fast-value-reads.Learnt,
@@ -284,7 +287,7 @@ argument-enum-known-v : (t : ℕ) → argument-lts.Need-enum-known-v (
 ) (argument-at t) argument.Post
 argument-enum-known-v t c = search needs
 
--- src/lib.rt:189:49
+-- src/lib.rt:194:49
 argument-pack-requires : (t : ℕ) → argument-lts.Need-pack-requires (
   fast-value-reads.Asked,
   fast-value-reads.Learnt,
@@ -297,7 +300,7 @@ argument-pack-requires : (t : ℕ) → argument-lts.Need-pack-requires (
 ) (argument-at t) argument.Post
 argument-pack-requires t c κs = search needs
 
--- src/lib.rt:189:17
+-- src/lib.rt:194:17
 argument-push-word-requires-2 : (t : ℕ) → argument-lts.Need-push-word-requires-2 (
   fast-value-reads.Asked,
   fast-value-reads.Learnt,
@@ -310,7 +313,7 @@ argument-push-word-requires-2 : (t : ℕ) → argument-lts.Need-push-word-requir
 ) (argument-at t) argument.Post
 argument-push-word-requires-2 t c κs = search needs
 
--- src/lib.rt:192:21
+-- src/lib.rt:197:21
 argument-enum-known-n : (t : ℕ) → argument-lts.Need-enum-known-n (
   fast-value-reads.Asked,
   fast-value-reads.Learnt,
@@ -323,7 +326,7 @@ argument-enum-known-n : (t : ℕ) → argument-lts.Need-enum-known-n (
 ) (argument-at t) argument.Post
 argument-enum-known-n t c = search needs
 
--- src/lib.rt:168:1
+-- src/lib.rt:173:1
 argument-same-length-2 : (t : ℕ) → argument-lts.Need-same-length-2 (
   fast-value-reads.Asked,
   fast-value-reads.Learnt,
@@ -336,7 +339,7 @@ argument-same-length-2 : (t : ℕ) → argument-lts.Need-same-length-2 (
 ) (argument-at t) argument.Post
 argument-same-length-2 t c = search needs
 
--- src/lib.rt:168:1
+-- src/lib.rt:173:1
 argument-same-length-3 : (t : ℕ) → argument-lts.Need-same-length-3 (
   fast-value-reads.Asked,
   fast-value-reads.Learnt,
@@ -349,7 +352,7 @@ argument-same-length-3 : (t : ℕ) → argument-lts.Need-same-length-3 (
 ) (argument-at t) argument.Post
 argument-same-length-3 t c = search needs
 
--- src/lib.rt:168:1
+-- src/lib.rt:173:1
 argument-returns-2 : (t : ℕ) → argument-lts.Need-returns-2 (
   fast-value-reads.Asked,
   fast-value-reads.Learnt,
@@ -362,7 +365,7 @@ argument-returns-2 : (t : ℕ) → argument-lts.Need-returns-2 (
 ) (argument-at t) argument.Post
 argument-returns-2 t c = search slow-goes
 
--- src/lib.rt:168:1
+-- src/lib.rt:173:1
 argument-same-length-4 : (t : ℕ) → argument-lts.Need-same-length-4 (
   fast-value-reads.Asked,
   fast-value-reads.Learnt,
@@ -375,7 +378,7 @@ argument-same-length-4 : (t : ℕ) → argument-lts.Need-same-length-4 (
 ) (argument-at t) argument.Post
 argument-same-length-4 t c = search needs
 
--- src/lib.rt:168:1
+-- src/lib.rt:173:1
 argument-same-length-5 : (t : ℕ) → argument-lts.Need-same-length-5 (
   fast-value-reads.Asked,
   fast-value-reads.Learnt,
@@ -388,7 +391,7 @@ argument-same-length-5 : (t : ℕ) → argument-lts.Need-same-length-5 (
 ) (argument-at t) argument.Post
 argument-same-length-5 t c = search needs
 
--- src/lib.rt:168:1
+-- src/lib.rt:173:1
 argument-returns-3 : (t : ℕ) → argument-lts.Need-returns-3 (
   fast-value-reads.Asked,
   fast-value-reads.Learnt,
@@ -407,7 +410,7 @@ call-Inv-loop program code grants texts₀ words₀ fuel w x p base a y₀ texts
 abbrev call-μ-loop : call-lts.MeasureT-loop
 call-μ-loop program code grants texts₀ words₀ fuel w x p base a y₀ texts words y = x - y
 
--- src/lib.rt:138:9
+-- src/lib.rt:143:9
 call-arguments-held-requires : (t : ℕ) → call-lts.Need-arguments-held-requires (
   arguments-held-reads.Asked,
   arguments-held-reads.Learnt,
@@ -430,7 +433,7 @@ call-arguments-held-requires : (t : ℕ) → call-lts.Need-arguments-held-requir
 ) (call-at t) call.Post call-Inv-loop call-μ-loop
 call-arguments-held-requires t c κs = omega (arith, c .before .before .before .before .before .pre .1 .lent .room .words)
 
--- src/lib.rt:139:9
+-- src/lib.rt:144:9
 call-first-argument-requires : (t : ℕ) → call-lts.Need-first-argument-requires (
   arguments-held-reads.Asked,
   arguments-held-reads.Learnt,
@@ -453,7 +456,7 @@ call-first-argument-requires : (t : ℕ) → call-lts.Need-first-argument-requir
 ) (call-at t) call.Post call-Inv-loop call-μ-loop
 call-first-argument-requires t c κs = search needs
 
--- src/lib.rt:140:37
+-- src/lib.rt:145:37
 call-word-at-requires : (t : ℕ) → call-lts.Need-word-at-requires (
   arguments-held-reads.Asked,
   arguments-held-reads.Learnt,
@@ -476,7 +479,7 @@ call-word-at-requires : (t : ℕ) → call-lts.Need-word-at-requires (
 ) (call-at t) call.Post call-Inv-loop call-μ-loop
 call-word-at-requires t c κs = search needs
 
--- src/lib.rt:140:9
+-- src/lib.rt:145:9
 call-argument-root-requires : (t : ℕ) → call-lts.Need-argument-root-requires (
   arguments-held-reads.Asked,
   arguments-held-reads.Learnt,
@@ -499,7 +502,7 @@ call-argument-root-requires : (t : ℕ) → call-lts.Need-argument-root-requires
 ) (call-at t) call.Post call-Inv-loop call-μ-loop
 call-argument-root-requires t c κs = search needs
 
--- src/lib.rt:141:5
+-- src/lib.rt:146:5
 call-loop-holds : (t : ℕ) → call-lts.Need-loop-holds (
   arguments-held-reads.Asked,
   arguments-held-reads.Learnt,
@@ -522,7 +525,7 @@ call-loop-holds : (t : ℕ) → call-lts.Need-loop-holds (
 ) (call-at t) call.Post call-Inv-loop call-μ-loop
 call-loop-holds t c = push-first _ _ _ _ _ _ _ _ _ _ _ _ 0 _ (c .before .before .before .before .before .before .before .before .before .pre .1 .lent) (c .before .before .before .arguments-held .ensures) (c .before .before .first-argument .ensures) (c .before .word-at .ensures) (c .argument-root .ensures)
 
--- src/lib.rt:142:15
+-- src/lib.rt:147:15
 call-argument-requires : (t : ℕ) → call-lts.Need-argument-requires (
   arguments-held-reads.Asked,
   arguments-held-reads.Learnt,
@@ -567,7 +570,7 @@ call-enum-told : (t : ℕ) → call-lts.Need-enum-told (
 ) (call-at t) call.Post call-Inv-loop call-μ-loop
 call-enum-told t c = search needs
 
--- src/lib.rt:144:25
+-- src/lib.rt:149:25
 call-enum-known-n : (t : ℕ) → call-lts.Need-enum-known-n (
   arguments-held-reads.Asked,
   arguments-held-reads.Learnt,
@@ -590,7 +593,7 @@ call-enum-known-n : (t : ℕ) → call-lts.Need-enum-known-n (
 ) (call-at t) call.Post call-Inv-loop call-μ-loop
 call-enum-known-n t c = search needs
 
--- src/lib.rt:144:34
+-- src/lib.rt:149:34
 call-same-length : (t : ℕ) → call-lts.Need-same-length (
   arguments-held-reads.Asked,
   arguments-held-reads.Learnt,
@@ -613,7 +616,7 @@ call-same-length : (t : ℕ) → call-lts.Need-same-length (
 ) (call-at t) call.Post call-Inv-loop call-μ-loop
 call-same-length t c = search needs
 
--- src/lib.rt:144:34
+-- src/lib.rt:149:34
 call-same-length-2 : (t : ℕ) → call-lts.Need-same-length-2 (
   arguments-held-reads.Asked,
   arguments-held-reads.Learnt,
@@ -636,7 +639,7 @@ call-same-length-2 : (t : ℕ) → call-lts.Need-same-length-2 (
 ) (call-at t) call.Post call-Inv-loop call-μ-loop
 call-same-length-2 t c = search needs
 
--- src/lib.rt:144:34
+-- src/lib.rt:149:34
 call-returns : (t : ℕ) → call-lts.Need-returns (
   arguments-held-reads.Asked,
   arguments-held-reads.Learnt,
@@ -659,7 +662,7 @@ call-returns : (t : ℕ) → call-lts.Need-returns (
 ) (call-at t) call.Post call-Inv-loop call-μ-loop
 call-returns t c = search push-fails
 
--- src/lib.rt:146:62
+-- src/lib.rt:151:62
 call-add-word-at : (t : ℕ) → call-lts.Need-add-word-at (
   arguments-held-reads.Asked,
   arguments-held-reads.Learnt,
@@ -682,7 +685,7 @@ call-add-word-at : (t : ℕ) → call-lts.Need-add-word-at (
 ) (call-at t) call.Post call-Inv-loop call-μ-loop
 call-add-word-at t c = search needs
 
--- src/lib.rt:146:33
+-- src/lib.rt:151:33
 call-word-at-requires-2 : (t : ℕ) → call-lts.Need-word-at-requires-2 (
   arguments-held-reads.Asked,
   arguments-held-reads.Learnt,
@@ -705,7 +708,7 @@ call-word-at-requires-2 : (t : ℕ) → call-lts.Need-word-at-requires-2 (
 ) (call-at t) call.Post call-Inv-loop call-μ-loop
 call-word-at-requires-2 t c κs = search needs
 
--- src/lib.rt:146:70
+-- src/lib.rt:151:70
 call-add-argument-root : (t : ℕ) → call-lts.Need-add-argument-root (
   arguments-held-reads.Asked,
   arguments-held-reads.Learnt,
@@ -728,7 +731,7 @@ call-add-argument-root : (t : ℕ) → call-lts.Need-add-argument-root (
 ) (call-at t) call.Post call-Inv-loop call-μ-loop
 call-add-argument-root t c = search needs
 
--- src/lib.rt:146:9
+-- src/lib.rt:151:9
 call-argument-root-requires-2 : (t : ℕ) → call-lts.Need-argument-root-requires-2 (
   arguments-held-reads.Asked,
   arguments-held-reads.Learnt,
@@ -751,7 +754,7 @@ call-argument-root-requires-2 : (t : ℕ) → call-lts.Need-argument-root-requir
 ) (call-at t) call.Post call-Inv-loop call-μ-loop
 call-argument-root-requires-2 t c κs = search needs
 
--- src/lib.rt:141:5
+-- src/lib.rt:146:5
 call-loop-less : (t : ℕ) → call-lts.Need-loop-less (
   arguments-held-reads.Asked,
   arguments-held-reads.Learnt,
@@ -774,7 +777,7 @@ call-loop-less : (t : ℕ) → call-lts.Need-loop-less (
 ) (call-at t) call.Post call-Inv-loop call-μ-loop
 call-loop-less t c = search root-falls
 
--- src/lib.rt:141:5
+-- src/lib.rt:146:5
 call-loop-again : (t : ℕ) → call-lts.Need-loop-again (
   arguments-held-reads.Asked,
   arguments-held-reads.Learnt,
@@ -797,7 +800,7 @@ call-loop-again : (t : ℕ) → call-lts.Need-loop-again (
 ) (call-at t) call.Post call-Inv-loop call-μ-loop
 call-loop-again t c = push-next _ _ _ _ _ _ _ _ _ _ _ _ _ (c .before .before .before .before .before .before .before .before .before .before .before .before .loop .inv) (c .before .before .before .before .before .before .before .before .before .before .before .loop-test .taken) _ _ _ (c .before .before .before .before .before .before .before .before .argument .ensures) _ _ _ (let a0 = c .before .before .before .before .before .before .before .texts in omega arith) (let a0 = c .before .before .before .before .before .words in omega arith) (c .before .before .enum-told .given .1) (c .before .word-at2 .ensures) (c .argument-root2 .ensures)
 
--- src/lib.rt:148:9
+-- src/lib.rt:153:9
 call-library-of-requires : (t : ℕ) → call-lts.Need-library-of-requires (
   arguments-held-reads.Asked,
   arguments-held-reads.Learnt,
@@ -820,7 +823,7 @@ call-library-of-requires : (t : ℕ) → call-lts.Need-library-of-requires (
 ) (call-at t) call.Post call-Inv-loop call-μ-loop
 call-library-of-requires t c κs = search needs
 
--- src/lib.rt:157:13
+-- src/lib.rt:162:13
 call-callee-of-requires : (t : ℕ) → call-lts.Need-callee-of-requires (
   arguments-held-reads.Asked,
   arguments-held-reads.Learnt,
@@ -843,7 +846,7 @@ call-callee-of-requires : (t : ℕ) → call-lts.Need-callee-of-requires (
 ) (call-at t) call.Post call-Inv-loop call-μ-loop
 call-callee-of-requires t c κs = search needs
 
--- src/lib.rt:150:13
+-- src/lib.rt:155:13
 call-invoke-requires : (t : ℕ) → call-lts.Need-invoke-requires (
   arguments-held-reads.Asked,
   arguments-held-reads.Learnt,
@@ -866,7 +869,7 @@ call-invoke-requires : (t : ℕ) → call-lts.Need-invoke-requires (
 ) (call-at t) call.Post call-Inv-loop call-μ-loop
 call-invoke-requires t c κs = (omega arith, record { lent = record { lent = c .before .before .before .before .before .before .loop .inv .lent; deep = c .before .before .before .before .before .before .before .before .before .before .before .before .before .before .before .before .pre .1 .deep }; small = c .callee-of .ensures .1 })
 
--- src/lib.rt:161:9
+-- src/lib.rt:166:9
 call-same-length-3 : (t : ℕ) → call-lts.Need-same-length-3 (
   arguments-held-reads.Asked,
   arguments-held-reads.Learnt,
@@ -889,7 +892,7 @@ call-same-length-3 : (t : ℕ) → call-lts.Need-same-length-3 (
 ) (call-at t) call.Post call-Inv-loop call-μ-loop
 call-same-length-3 t c = search needs
 
--- src/lib.rt:161:9
+-- src/lib.rt:166:9
 call-same-length-4 : (t : ℕ) → call-lts.Need-same-length-4 (
   arguments-held-reads.Asked,
   arguments-held-reads.Learnt,
@@ -912,7 +915,7 @@ call-same-length-4 : (t : ℕ) → call-lts.Need-same-length-4 (
 ) (call-at t) call.Post call-Inv-loop call-μ-loop
 call-same-length-4 t c = search needs
 
--- src/lib.rt:161:9
+-- src/lib.rt:166:9
 call-returns-2 : (t : ℕ) → call-lts.Need-returns-2 (
   arguments-held-reads.Asked,
   arguments-held-reads.Learnt,
@@ -935,7 +938,7 @@ call-returns-2 : (t : ℕ) → call-lts.Need-returns-2 (
 ) (call-at t) call.Post call-Inv-loop call-μ-loop
 call-returns-2 t c = search procedure-called
 
--- src/lib.rt:163:9
+-- src/lib.rt:168:9
 call-called-requires : (t : ℕ) → call-lts.Need-called-requires (
   arguments-held-reads.Asked,
   arguments-held-reads.Learnt,
@@ -958,7 +961,7 @@ call-called-requires : (t : ℕ) → call-lts.Need-called-requires (
 ) (call-at t) call.Post call-Inv-loop call-μ-loop
 call-called-requires t c κs = c .before .before .before .before .loop .inv .lent .room
 
--- src/lib.rt:123:1
+-- src/lib.rt:128:1
 call-same-length-5 : (t : ℕ) → call-lts.Need-same-length-5 (
   arguments-held-reads.Asked,
   arguments-held-reads.Learnt,
@@ -981,7 +984,7 @@ call-same-length-5 : (t : ℕ) → call-lts.Need-same-length-5 (
 ) (call-at t) call.Post call-Inv-loop call-μ-loop
 call-same-length-5 t c = search needs
 
--- src/lib.rt:123:1
+-- src/lib.rt:128:1
 call-same-length-6 : (t : ℕ) → call-lts.Need-same-length-6 (
   arguments-held-reads.Asked,
   arguments-held-reads.Learnt,
@@ -1004,7 +1007,7 @@ call-same-length-6 : (t : ℕ) → call-lts.Need-same-length-6 (
 ) (call-at t) call.Post call-Inv-loop call-μ-loop
 call-same-length-6 t c = search needs
 
--- src/lib.rt:123:1
+-- src/lib.rt:128:1
 call-returns-3 : (t : ℕ) → call-lts.Need-returns-3 (
   arguments-held-reads.Asked,
   arguments-held-reads.Learnt,
@@ -1027,7 +1030,7 @@ call-returns-3 : (t : ℕ) → call-lts.Need-returns-3 (
 ) (call-at t) call.Post call-Inv-loop call-μ-loop
 call-returns-3 t c = search library-called
 
--- src/lib.rt:38:9
+-- src/lib.rt:39:9
 expression-returns : (t : ℕ) → expression-lts.Need-returns (
   count-reads.Asked,
   count-reads.Learnt,
@@ -1044,7 +1047,7 @@ expression-returns : (t : ℕ) → expression-lts.Need-returns (
 ) (expression-at t) expression.Post
 expression-returns t c = search too-deep
 
--- src/lib.rt:40:9
+-- src/lib.rt:41:9
 expression-count-requires : (t : ℕ) → expression-lts.Need-count-requires (
   count-reads.Asked,
   count-reads.Learnt,
@@ -1061,7 +1064,7 @@ expression-count-requires : (t : ℕ) → expression-lts.Need-count-requires (
 ) (expression-at t) expression.Post
 expression-count-requires t c κs = omega (arith, c .before .before .before .before .before .before .pre .1 .lent .room .words)
 
--- src/lib.rt:41:9
+-- src/lib.rt:42:9
 expression-same-length : (t : ℕ) → expression-lts.Need-same-length (
   count-reads.Asked,
   count-reads.Learnt,
@@ -1078,7 +1081,7 @@ expression-same-length : (t : ℕ) → expression-lts.Need-same-length (
 ) (expression-at t) expression.Post
 expression-same-length t c = search needs
 
--- src/lib.rt:41:9
+-- src/lib.rt:42:9
 expression-returns-2 : (t : ℕ) → expression-lts.Need-returns-2 (
   count-reads.Asked,
   count-reads.Learnt,
@@ -1095,7 +1098,7 @@ expression-returns-2 : (t : ℕ) → expression-lts.Need-returns-2 (
 ) (expression-at t) expression.Post
 expression-returns-2 t c = search no-step
 
--- src/lib.rt:43:9
+-- src/lib.rt:44:9
 expression-word-at-requires : (t : ℕ) → expression-lts.Need-word-at-requires (
   count-reads.Asked,
   count-reads.Learnt,
@@ -1112,7 +1115,7 @@ expression-word-at-requires : (t : ℕ) → expression-lts.Need-word-at-requires
 ) (expression-at t) expression.Post
 expression-word-at-requires t c κs = search needs
 
--- src/lib.rt:44:9
+-- src/lib.rt:45:9
 expression-tag-of-requires : (t : ℕ) → expression-lts.Need-tag-of-requires (
   count-reads.Asked,
   count-reads.Learnt,
@@ -1129,7 +1132,7 @@ expression-tag-of-requires : (t : ℕ) → expression-lts.Need-tag-of-requires (
 ) (expression-at t) expression.Post
 expression-tag-of-requires t c κs = search needs
 
--- src/lib.rt:46:9
+-- src/lib.rt:47:9
 expression-leaf-requires : (t : ℕ) → expression-lts.Need-leaf-requires (
   count-reads.Asked,
   count-reads.Learnt,
@@ -1146,7 +1149,7 @@ expression-leaf-requires : (t : ℕ) → expression-lts.Need-leaf-requires (
 ) (expression-at t) expression.Post
 expression-leaf-requires t c κs = search needs
 
--- src/lib.rt:46:9
+-- src/lib.rt:47:9
 expression-same-length-2 : (t : ℕ) → expression-lts.Need-same-length-2 (
   count-reads.Asked,
   count-reads.Learnt,
@@ -1163,7 +1166,7 @@ expression-same-length-2 : (t : ℕ) → expression-lts.Need-same-length-2 (
 ) (expression-at t) expression.Post
 expression-same-length-2 t c = search needs
 
--- src/lib.rt:46:9
+-- src/lib.rt:47:9
 expression-returns-3 : (t : ℕ) → expression-lts.Need-returns-3 (
   count-reads.Asked,
   count-reads.Learnt,
@@ -1180,7 +1183,7 @@ expression-returns-3 : (t : ℕ) → expression-lts.Need-returns-3 (
 ) (expression-at t) expression.Post
 expression-returns-3 t c = search is-leaf
 
--- src/lib.rt:49:59
+-- src/lib.rt:50:57
 expression-sub-call : (t : ℕ) → expression-lts.Need-sub-call (
   count-reads.Asked,
   count-reads.Learnt,
@@ -1197,7 +1200,7 @@ expression-sub-call : (t : ℕ) → expression-lts.Need-sub-call (
 ) (expression-at t) expression.Post
 expression-sub-call t c = search needs
 
--- src/lib.rt:49:13
+-- src/lib.rt:50:15
 expression-call-requires : (t : ℕ) → expression-lts.Need-call-requires (
   count-reads.Asked,
   count-reads.Learnt,
@@ -1214,7 +1217,24 @@ expression-call-requires : (t : ℕ) → expression-lts.Need-call-requires (
 ) (expression-at t) expression.Post
 expression-call-requires t c κs = (omega arith, record { lent = still-lent-words _ _ _ _ (c .before .before .before .before .before .before .before .before .before .before .before .before .before .before .before .before .pre .1 .lent) (let a0 = c .before .before .before .before .before .before .before .before .words in omega arith); deep = omega (arith, c .before .before .before .before .before .before .before .before .before .before .before .before .before .before .before .before .pre .1 .deep) })
 
--- src/lib.rt:50:9
+-- src/lib.rt:51:26
+expression-enum-known-v : (t : ℕ) → expression-lts.Need-enum-known-v (
+  count-reads.Asked,
+  count-reads.Learnt,
+  word-at-reads.Asked,
+  word-at-reads.Learnt,
+  tag-of-reads.Asked,
+  tag-of-reads.Learnt,
+  leaf-reads.Asked,
+  leaf-reads.Learnt,
+  call-below t,
+  call.Post,
+  operands-below t,
+  operands.Post,
+) (expression-at t) expression.Post
+expression-enum-known-v t c = search needs
+
+-- src/lib.rt:51:32
 expression-same-length-3 : (t : ℕ) → expression-lts.Need-same-length-3 (
   count-reads.Asked,
   count-reads.Learnt,
@@ -1231,7 +1251,7 @@ expression-same-length-3 : (t : ℕ) → expression-lts.Need-same-length-3 (
 ) (expression-at t) expression.Post
 expression-same-length-3 t c = search needs
 
--- src/lib.rt:50:9
+-- src/lib.rt:51:32
 expression-same-length-4 : (t : ℕ) → expression-lts.Need-same-length-4 (
   count-reads.Asked,
   count-reads.Learnt,
@@ -1248,7 +1268,7 @@ expression-same-length-4 : (t : ℕ) → expression-lts.Need-same-length-4 (
 ) (expression-at t) expression.Post
 expression-same-length-4 t c = search needs
 
--- src/lib.rt:50:9
+-- src/lib.rt:51:32
 expression-returns-4 : (t : ℕ) → expression-lts.Need-returns-4 (
   count-reads.Asked,
   count-reads.Learnt,
@@ -1263,10 +1283,10 @@ expression-returns-4 : (t : ℕ) → expression-lts.Need-returns-4 (
   operands-below t,
   operands.Post,
 ) (expression-at t) expression.Post
-expression-returns-4 t c = search is-call
+expression-returns-4 t c = is-call _ _ _ _ _ _ _ _ _ _ (c .before .before .before .before .before .before .before .before .before .before .before .before .before .before .before .before .before .before .before .if1 .left) (c .before .before .before .before .before .before .before .before .before .before .before .before .before .before .before .before .before .count .ensures) (c .before .before .before .before .before .before .before .before .before .before .before .before .before .before .if2 .left) _ (c .before .before .before .before .before .before .before .before .before .before .before .before .before .word-at .ensures) _ (c .before .before .before .before .before .before .before .before .before .before .before .before .tag-of .ensures) _ _ _ _ (c .before .before .before .before .before .before .before .before .before .before .before .if3 .left) (c .before .before .before .before .before .before .before .before .before .before .if4 .taken) (c .before .before .before .before .before .before .before .call .ensures) (c .before .v .given .1)
 
--- src/lib.rt:52:59
-expression-sub-operands : (t : ℕ) → expression-lts.Need-sub-operands (
+-- src/lib.rt:52:25
+expression-enum-known-n : (t : ℕ) → expression-lts.Need-enum-known-n (
   count-reads.Asked,
   count-reads.Learnt,
   word-at-reads.Asked,
@@ -1280,26 +1300,9 @@ expression-sub-operands : (t : ℕ) → expression-lts.Need-sub-operands (
   operands-below t,
   operands.Post,
 ) (expression-at t) expression.Post
-expression-sub-operands t c = search needs
+expression-enum-known-n t c = search needs
 
--- src/lib.rt:52:9
-expression-operands-requires : (t : ℕ) → expression-lts.Need-operands-requires (
-  count-reads.Asked,
-  count-reads.Learnt,
-  word-at-reads.Asked,
-  word-at-reads.Learnt,
-  tag-of-reads.Asked,
-  tag-of-reads.Learnt,
-  leaf-reads.Asked,
-  leaf-reads.Learnt,
-  call-below t,
-  call.Post,
-  operands-below t,
-  operands.Post,
-) (expression-at t) expression.Post
-expression-operands-requires t c κs = (omega arith, record { lent = still-lent-words _ _ _ _ (c .before .before .before .before .before .before .before .before .before .before .before .before .before .before .before .before .pre .1 .lent) (let a0 = c .before .before .before .before .before .before .before .before .words in omega arith); deep = omega (arith, c .before .before .before .before .before .before .before .before .before .before .before .before .before .before .before .before .pre .1 .deep) })
-
--- src/lib.rt:23:1
+-- src/lib.rt:52:34
 expression-same-length-5 : (t : ℕ) → expression-lts.Need-same-length-5 (
   count-reads.Asked,
   count-reads.Learnt,
@@ -1316,7 +1319,7 @@ expression-same-length-5 : (t : ℕ) → expression-lts.Need-same-length-5 (
 ) (expression-at t) expression.Post
 expression-same-length-5 t c = search needs
 
--- src/lib.rt:23:1
+-- src/lib.rt:52:34
 expression-same-length-6 : (t : ℕ) → expression-lts.Need-same-length-6 (
   count-reads.Asked,
   count-reads.Learnt,
@@ -1333,7 +1336,7 @@ expression-same-length-6 : (t : ℕ) → expression-lts.Need-same-length-6 (
 ) (expression-at t) expression.Post
 expression-same-length-6 t c = search needs
 
--- src/lib.rt:23:1
+-- src/lib.rt:52:34
 expression-returns-5 : (t : ℕ) → expression-lts.Need-returns-5 (
   count-reads.Asked,
   count-reads.Learnt,
@@ -1348,9 +1351,179 @@ expression-returns-5 : (t : ℕ) → expression-lts.Need-returns-5 (
   operands-below t,
   operands.Post,
 ) (expression-at t) expression.Post
-expression-returns-5 t c = search has-operands
+expression-returns-5 t c = is-call _ _ _ _ _ _ _ _ _ _ (c .before .before .before .before .before .before .before .before .before .before .before .before .before .before .before .before .before .before .before .if1 .left) (c .before .before .before .before .before .before .before .before .before .before .before .before .before .before .before .before .before .count .ensures) (c .before .before .before .before .before .before .before .before .before .before .before .before .before .before .if2 .left) _ (c .before .before .before .before .before .before .before .before .before .before .before .before .before .word-at .ensures) _ (c .before .before .before .before .before .before .before .before .before .before .before .before .tag-of .ensures) _ _ _ _ (c .before .before .before .before .before .before .before .before .before .before .before .if3 .left) (c .before .before .before .before .before .before .before .before .before .before .if4 .taken) (c .before .before .before .before .before .before .before .call .ensures) (c .before .n .given .1)
 
--- src/lib.rt:212:15
+-- src/lib.rt:55:57
+expression-sub-operands : (t : ℕ) → expression-lts.Need-sub-operands (
+  count-reads.Asked,
+  count-reads.Learnt,
+  word-at-reads.Asked,
+  word-at-reads.Learnt,
+  tag-of-reads.Asked,
+  tag-of-reads.Learnt,
+  leaf-reads.Asked,
+  leaf-reads.Learnt,
+  call-below t,
+  call.Post,
+  operands-below t,
+  operands.Post,
+) (expression-at t) expression.Post
+expression-sub-operands t c = search needs
+
+-- src/lib.rt:55:11
+expression-operands-requires : (t : ℕ) → expression-lts.Need-operands-requires (
+  count-reads.Asked,
+  count-reads.Learnt,
+  word-at-reads.Asked,
+  word-at-reads.Learnt,
+  tag-of-reads.Asked,
+  tag-of-reads.Learnt,
+  leaf-reads.Asked,
+  leaf-reads.Learnt,
+  call-below t,
+  call.Post,
+  operands-below t,
+  operands.Post,
+) (expression-at t) expression.Post
+expression-operands-requires t c κs = (omega arith, record { lent = still-lent-words _ _ _ _ (c .before .before .before .before .before .before .before .before .before .before .before .before .before .before .before .before .pre .1 .lent) (let a0 = c .before .before .before .before .before .before .before .before .words in omega arith); deep = omega (arith, c .before .before .before .before .before .before .before .before .before .before .before .before .before .before .before .before .pre .1 .deep) })
+
+-- src/lib.rt:56:22
+expression-enum-known-v-2 : (t : ℕ) → expression-lts.Need-enum-known-v-2 (
+  count-reads.Asked,
+  count-reads.Learnt,
+  word-at-reads.Asked,
+  word-at-reads.Learnt,
+  tag-of-reads.Asked,
+  tag-of-reads.Learnt,
+  leaf-reads.Asked,
+  leaf-reads.Learnt,
+  call-below t,
+  call.Post,
+  operands-below t,
+  operands.Post,
+) (expression-at t) expression.Post
+expression-enum-known-v-2 t c = search needs
+
+-- src/lib.rt:57:21
+expression-enum-known-n-2 : (t : ℕ) → expression-lts.Need-enum-known-n-2 (
+  count-reads.Asked,
+  count-reads.Learnt,
+  word-at-reads.Asked,
+  word-at-reads.Learnt,
+  tag-of-reads.Asked,
+  tag-of-reads.Learnt,
+  leaf-reads.Asked,
+  leaf-reads.Learnt,
+  call-below t,
+  call.Post,
+  operands-below t,
+  operands.Post,
+) (expression-at t) expression.Post
+expression-enum-known-n-2 t c = search needs
+
+-- src/lib.rt:24:1
+expression-same-length-7 : (t : ℕ) → expression-lts.Need-same-length-7 (
+  count-reads.Asked,
+  count-reads.Learnt,
+  word-at-reads.Asked,
+  word-at-reads.Learnt,
+  tag-of-reads.Asked,
+  tag-of-reads.Learnt,
+  leaf-reads.Asked,
+  leaf-reads.Learnt,
+  call-below t,
+  call.Post,
+  operands-below t,
+  operands.Post,
+) (expression-at t) expression.Post
+expression-same-length-7 t c = search needs
+
+-- src/lib.rt:24:1
+expression-same-length-8 : (t : ℕ) → expression-lts.Need-same-length-8 (
+  count-reads.Asked,
+  count-reads.Learnt,
+  word-at-reads.Asked,
+  word-at-reads.Learnt,
+  tag-of-reads.Asked,
+  tag-of-reads.Learnt,
+  leaf-reads.Asked,
+  leaf-reads.Learnt,
+  call-below t,
+  call.Post,
+  operands-below t,
+  operands.Post,
+) (expression-at t) expression.Post
+expression-same-length-8 t c = search needs
+
+-- src/lib.rt:24:1
+expression-returns-6 : (t : ℕ) → expression-lts.Need-returns-6 (
+  count-reads.Asked,
+  count-reads.Learnt,
+  word-at-reads.Asked,
+  word-at-reads.Learnt,
+  tag-of-reads.Asked,
+  tag-of-reads.Learnt,
+  leaf-reads.Asked,
+  leaf-reads.Learnt,
+  call-below t,
+  call.Post,
+  operands-below t,
+  operands.Post,
+) (expression-at t) expression.Post
+expression-returns-6 t c = has-operands _ _ _ _ _ _ _ _ _ _ (c .before .before .before .before .before .before .before .before .before .before .before .before .before .before .before .before .before .before .before .if1 .left) (c .before .before .before .before .before .before .before .before .before .before .before .before .before .before .before .before .before .count .ensures) (c .before .before .before .before .before .before .before .before .before .before .before .before .before .before .if2 .left) _ (c .before .before .before .before .before .before .before .before .before .before .before .before .before .word-at .ensures) _ (c .before .before .before .before .before .before .before .before .before .before .before .before .tag-of .ensures) _ _ _ _ (c .before .before .before .before .before .before .before .before .before .before .before .if3 .left) (c .before .before .before .before .before .before .before .before .before .before .if4 .left) (c .before .before .before .before .before .before .before .operands .ensures) (c .before .v2 .given .1)
+
+-- src/lib.rt:24:1
+expression-same-length-9 : (t : ℕ) → expression-lts.Need-same-length-9 (
+  count-reads.Asked,
+  count-reads.Learnt,
+  word-at-reads.Asked,
+  word-at-reads.Learnt,
+  tag-of-reads.Asked,
+  tag-of-reads.Learnt,
+  leaf-reads.Asked,
+  leaf-reads.Learnt,
+  call-below t,
+  call.Post,
+  operands-below t,
+  operands.Post,
+) (expression-at t) expression.Post
+expression-same-length-9 t c = search needs
+
+-- src/lib.rt:24:1
+expression-same-length-10 : (t : ℕ) → expression-lts.Need-same-length-10 (
+  count-reads.Asked,
+  count-reads.Learnt,
+  word-at-reads.Asked,
+  word-at-reads.Learnt,
+  tag-of-reads.Asked,
+  tag-of-reads.Learnt,
+  leaf-reads.Asked,
+  leaf-reads.Learnt,
+  call-below t,
+  call.Post,
+  operands-below t,
+  operands.Post,
+) (expression-at t) expression.Post
+expression-same-length-10 t c = search needs
+
+-- src/lib.rt:24:1
+expression-returns-7 : (t : ℕ) → expression-lts.Need-returns-7 (
+  count-reads.Asked,
+  count-reads.Learnt,
+  word-at-reads.Asked,
+  word-at-reads.Learnt,
+  tag-of-reads.Asked,
+  tag-of-reads.Learnt,
+  leaf-reads.Asked,
+  leaf-reads.Learnt,
+  call-below t,
+  call.Post,
+  operands-below t,
+  operands.Post,
+) (expression-at t) expression.Post
+expression-returns-7 t c = has-operands _ _ _ _ _ _ _ _ _ _ (c .before .before .before .before .before .before .before .before .before .before .before .before .before .before .before .before .before .before .before .if1 .left) (c .before .before .before .before .before .before .before .before .before .before .before .before .before .before .before .before .before .count .ensures) (c .before .before .before .before .before .before .before .before .before .before .before .before .before .before .if2 .left) _ (c .before .before .before .before .before .before .before .before .before .before .before .before .before .word-at .ensures) _ (c .before .before .before .before .before .before .before .before .before .before .before .before .tag-of .ensures) _ _ _ _ (c .before .before .before .before .before .before .before .before .before .before .before .if3 .left) (c .before .before .before .before .before .before .before .before .before .before .if4 .left) (c .before .before .before .before .before .before .before .operands .ensures) (c .before .n2 .given .1)
+
+-- src/lib.rt:217:15
 invoke-arguments-held-requires : (t : ℕ) → invoke-lts.Need-arguments-held-requires (
   arguments-held-reads.Asked,
   arguments-held-reads.Learnt,
@@ -1377,7 +1550,7 @@ invoke-arguments-held-requires : (t : ℕ) → invoke-lts.Need-arguments-held-re
 ) (invoke-at t) invoke.Post
 invoke-arguments-held-requires t c κs = omega (arith, c .before .before .before .before .before .pre .1 .lent .lent .room .words)
 
--- src/lib.rt:213:9
+-- src/lib.rt:218:9
 invoke-declared-count-requires : (t : ℕ) → invoke-lts.Need-declared-count-requires (
   arguments-held-reads.Asked,
   arguments-held-reads.Learnt,
@@ -1404,7 +1577,7 @@ invoke-declared-count-requires : (t : ℕ) → invoke-lts.Need-declared-count-re
 ) (invoke-at t) invoke.Post
 invoke-declared-count-requires t c κs = omega (arith, c .before .before .before .before .before .before .before .pre .1 .lent .lent .room .words)
 
--- src/lib.rt:214:9
+-- src/lib.rt:219:9
 invoke-running-requires : (t : ℕ) → invoke-lts.Need-running-requires (
   arguments-held-reads.Asked,
   arguments-held-reads.Learnt,
@@ -1431,7 +1604,7 @@ invoke-running-requires : (t : ℕ) → invoke-lts.Need-running-requires (
 ) (invoke-at t) invoke.Post
 invoke-running-requires t c κs = omega (arith, c .before .before .before .before .before .before .before .before .before .pre .1 .lent .lent .room .words)
 
--- src/lib.rt:215:11
+-- src/lib.rt:220:11
 invoke-begin-requires : (t : ℕ) → invoke-lts.Need-begin-requires (
   arguments-held-reads.Asked,
   arguments-held-reads.Learnt,
@@ -1484,7 +1657,7 @@ invoke-enum-told : (t : ℕ) → invoke-lts.Need-enum-told (
 ) (invoke-at t) invoke.Post
 invoke-enum-told t c = search needs
 
--- src/lib.rt:217:21
+-- src/lib.rt:222:21
 invoke-enum-known-k : (t : ℕ) → invoke-lts.Need-enum-known-k (
   arguments-held-reads.Asked,
   arguments-held-reads.Learnt,
@@ -1511,7 +1684,7 @@ invoke-enum-known-k : (t : ℕ) → invoke-lts.Need-enum-known-k (
 ) (invoke-at t) invoke.Post
 invoke-enum-known-k t c = search needs
 
--- src/lib.rt:217:30
+-- src/lib.rt:222:30
 invoke-same-length : (t : ℕ) → invoke-lts.Need-same-length (
   arguments-held-reads.Asked,
   arguments-held-reads.Learnt,
@@ -1538,7 +1711,7 @@ invoke-same-length : (t : ℕ) → invoke-lts.Need-same-length (
 ) (invoke-at t) invoke.Post
 invoke-same-length t c = search needs
 
--- src/lib.rt:217:30
+-- src/lib.rt:222:30
 invoke-returns : (t : ℕ) → invoke-lts.Need-returns (
   arguments-held-reads.Asked,
   arguments-held-reads.Learnt,
@@ -1565,7 +1738,7 @@ invoke-returns : (t : ℕ) → invoke-lts.Need-returns (
 ) (invoke-at t) invoke.Post
 invoke-returns t c = begin-stops _ _ _ _ _ _ _ _ _ _ _ _ (c .before .before .before .before .before .before .before .before .before .before .before .arguments-held .ensures) (c .before .before .before .before .before .before .before .before .before .declared-count .ensures) (c .before .before .before .before .before .before .before .running .ensures) _ _ (c .before .before .before .before .before .begin .ensures) _ _ (c .before .k .given .1)
 
--- src/lib.rt:219:42
+-- src/lib.rt:224:42
 invoke-table-place-requires : (t : ℕ) → invoke-lts.Need-table-place-requires (
   arguments-held-reads.Asked,
   arguments-held-reads.Learnt,
@@ -1592,7 +1765,7 @@ invoke-table-place-requires : (t : ℕ) → invoke-lts.Need-table-place-requires
 ) (invoke-at t) invoke.Post
 invoke-table-place-requires t c κs = search needs
 
--- src/lib.rt:219:9
+-- src/lib.rt:224:9
 invoke-word-at-requires : (t : ℕ) → invoke-lts.Need-word-at-requires (
   arguments-held-reads.Asked,
   arguments-held-reads.Learnt,
@@ -1619,7 +1792,7 @@ invoke-word-at-requires : (t : ℕ) → invoke-lts.Need-word-at-requires (
 ) (invoke-at t) invoke.Post
 invoke-word-at-requires t c κs = search needs
 
--- src/lib.rt:220:13
+-- src/lib.rt:225:13
 invoke-start-of-requires : (t : ℕ) → invoke-lts.Need-start-of-requires (
   arguments-held-reads.Asked,
   arguments-held-reads.Learnt,
@@ -1646,7 +1819,7 @@ invoke-start-of-requires : (t : ℕ) → invoke-lts.Need-start-of-requires (
 ) (invoke-at t) invoke.Post
 invoke-start-of-requires t c κs = search needs
 
--- src/lib.rt:220:33
+-- src/lib.rt:225:33
 invoke-parameters-of-requires : (t : ℕ) → invoke-lts.Need-parameters-of-requires (
   arguments-held-reads.Asked,
   arguments-held-reads.Learnt,
@@ -1673,7 +1846,7 @@ invoke-parameters-of-requires : (t : ℕ) → invoke-lts.Need-parameters-of-requ
 ) (invoke-at t) invoke.Post
 invoke-parameters-of-requires t c κs = search needs
 
--- src/lib.rt:220:13
+-- src/lib.rt:225:13
 invoke-add-a : (t : ℕ) → invoke-lts.Need-add-a (
   arguments-held-reads.Asked,
   arguments-held-reads.Learnt,
@@ -1700,7 +1873,7 @@ invoke-add-a : (t : ℕ) → invoke-lts.Need-add-a (
 ) (invoke-at t) invoke.Post
 invoke-add-a t c = omega (arith, c .before .start-of .ensures .1, c .parameters-of .ensures .1)
 
--- src/lib.rt:221:9
+-- src/lib.rt:226:9
 invoke-body-of-requires : (t : ℕ) → invoke-lts.Need-body-of-requires (
   arguments-held-reads.Asked,
   arguments-held-reads.Learnt,
@@ -1727,7 +1900,7 @@ invoke-body-of-requires : (t : ℕ) → invoke-lts.Need-body-of-requires (
 ) (invoke-at t) invoke.Post
 invoke-body-of-requires t c κs = search needs
 
--- src/lib.rt:230:9
+-- src/lib.rt:235:9
 invoke-add-statements : (t : ℕ) → invoke-lts.Need-add-statements (
   arguments-held-reads.Asked,
   arguments-held-reads.Learnt,
@@ -1754,7 +1927,7 @@ invoke-add-statements : (t : ℕ) → invoke-lts.Need-add-statements (
 ) (invoke-at t) invoke.Post
 invoke-add-statements t c = omega (arith, c .before .before .before .before .start-of .ensures .1, c .before .before .before .parameters-of .ensures .1, c .before .before .body-of .ensures .1)
 
--- src/lib.rt:231:9
+-- src/lib.rt:236:9
 invoke-add-statements-2 : (t : ℕ) → invoke-lts.Need-add-statements-2 (
   arguments-held-reads.Asked,
   arguments-held-reads.Learnt,
@@ -1781,7 +1954,7 @@ invoke-add-statements-2 : (t : ℕ) → invoke-lts.Need-add-statements-2 (
 ) (invoke-at t) invoke.Post
 invoke-add-statements-2 t c = omega (arith, c .before .before .before .before .start-of .ensures .1, c .before .before .before .parameters-of .ensures .1, c .before .before .body-of .ensures .1)
 
--- src/lib.rt:222:11
+-- src/lib.rt:227:11
 invoke-statements-requires : (t : ℕ) → invoke-lts.Need-statements-requires (
   arguments-held-reads.Asked,
   arguments-held-reads.Learnt,
@@ -1808,7 +1981,7 @@ invoke-statements-requires : (t : ℕ) → invoke-lts.Need-statements-requires (
 ) (invoke-at t) invoke.Post
 invoke-statements-requires t c κs = (omega arith, record { lent = record { lent = still-lent-words _ _ _ _ (c .before .before .before .before .before .before .before .before .before .before .before .before .before .before .before .before .before .before .before .before .before .before .before .pre .1 .lent .lent) (let a0 = c .before .before .before .before .before .before .before .before .before .before .words in omega arith); deep = c .before .before .before .before .before .before .before .before .before .before .before .before .before .before .before .before .before .before .before .before .before .before .before .pre .1 .lent .deep }; room = omega (arith, c .before .before .before .before .before .before .before .before .before .before .before .before .before .before .before .before .before .before .before .before .before .before .before .pre .1 .lent .deep, c .before .before .before .before .start-of .ensures .1, c .before .before .before .parameters-of .ensures .1, c .before .before .body-of .ensures .1) })
 
--- src/lib.rt:234:35
+-- src/lib.rt:239:35
 invoke-enum-told-2 : (t : ℕ) → invoke-lts.Need-enum-told-2 (
   arguments-held-reads.Asked,
   arguments-held-reads.Learnt,
@@ -1835,7 +2008,7 @@ invoke-enum-told-2 : (t : ℕ) → invoke-lts.Need-enum-told-2 (
 ) (invoke-at t) invoke.Post
 invoke-enum-told-2 t c = search needs
 
--- src/lib.rt:234:13
+-- src/lib.rt:239:13
 invoke-resume-requires : (t : ℕ) → invoke-lts.Need-resume-requires (
   arguments-held-reads.Asked,
   arguments-held-reads.Learnt,
@@ -1862,7 +2035,7 @@ invoke-resume-requires : (t : ℕ) → invoke-lts.Need-resume-requires (
 ) (invoke-at t) invoke.Post
 invoke-resume-requires t c κs = let a0 = c .before .before .before .before .before .before .before .before .before .before .before .before .before .before .before .before .before .before .words in let a1 = c .before .before .before .before .words2 in omega (arith, c .before .before .before .before .before .before .before .before .before .before .before .before .before .before .before .before .before .before .before .before .before .before .before .before .before .before .before .before .before .before .before .pre .1 .lent .lent .room .words)
 
--- src/lib.rt:237:24
+-- src/lib.rt:242:24
 invoke-enum-known-v : (t : ℕ) → invoke-lts.Need-enum-known-v (
   arguments-held-reads.Asked,
   arguments-held-reads.Learnt,
@@ -1889,7 +2062,7 @@ invoke-enum-known-v : (t : ℕ) → invoke-lts.Need-enum-known-v (
 ) (invoke-at t) invoke.Post
 invoke-enum-known-v t c = search needs
 
--- src/lib.rt:238:13
+-- src/lib.rt:243:13
 invoke-resume-requires-2 : (t : ℕ) → invoke-lts.Need-resume-requires-2 (
   arguments-held-reads.Asked,
   arguments-held-reads.Learnt,
@@ -1916,7 +2089,7 @@ invoke-resume-requires-2 : (t : ℕ) → invoke-lts.Need-resume-requires-2 (
 ) (invoke-at t) invoke.Post
 invoke-resume-requires-2 t c κs = let a0 = c .before .before .before .before .before .before .before .before .before .before .before .before .before .before .before .before .before .before .before .words in let a1 = c .before .before .before .before .before .words2 in omega (arith, c .before .before .before .before .before .before .before .before .before .before .before .before .before .before .before .before .before .before .before .before .before .before .before .before .before .before .before .before .before .before .before .before .pre .1 .lent .lent .room .words)
 
--- src/lib.rt:241:23
+-- src/lib.rt:246:23
 invoke-enum-known-k-2 : (t : ℕ) → invoke-lts.Need-enum-known-k-2 (
   arguments-held-reads.Asked,
   arguments-held-reads.Learnt,
@@ -1943,7 +2116,7 @@ invoke-enum-known-k-2 : (t : ℕ) → invoke-lts.Need-enum-known-k-2 (
 ) (invoke-at t) invoke.Post
 invoke-enum-known-k-2 t c = search needs
 
--- src/lib.rt:197:1
+-- src/lib.rt:202:1
 invoke-same-length-2 : (t : ℕ) → invoke-lts.Need-same-length-2 (
   arguments-held-reads.Asked,
   arguments-held-reads.Learnt,
@@ -1970,7 +2143,7 @@ invoke-same-length-2 : (t : ℕ) → invoke-lts.Need-same-length-2 (
 ) (invoke-at t) invoke.Post
 invoke-same-length-2 t c = search needs
 
--- src/lib.rt:197:1
+-- src/lib.rt:202:1
 invoke-same-length-3 : (t : ℕ) → invoke-lts.Need-same-length-3 (
   arguments-held-reads.Asked,
   arguments-held-reads.Learnt,
@@ -1997,7 +2170,7 @@ invoke-same-length-3 : (t : ℕ) → invoke-lts.Need-same-length-3 (
 ) (invoke-at t) invoke.Post
 invoke-same-length-3 t c = search needs
 
--- src/lib.rt:197:1
+-- src/lib.rt:202:1
 invoke-returns-2 : (t : ℕ) → invoke-lts.Need-returns-2 (
   arguments-held-reads.Asked,
   arguments-held-reads.Learnt,
@@ -2024,7 +2197,7 @@ invoke-returns-2 : (t : ℕ) → invoke-lts.Need-returns-2 (
 ) (invoke-at t) invoke.Post
 invoke-returns-2 t c = without-return _ _ _ _ _ _ _ _ _ _ _ _ (c .before .before .before .before .before .before .before .before .before .before .before .before .before .before .before .before .before .before .before .before .before .before .before .before .before .before .before .before .arguments-held .ensures) (c .before .before .before .before .before .before .before .before .before .before .before .before .before .before .before .before .before .before .before .before .before .before .before .before .before .before .declared-count .ensures) (c .before .before .before .before .before .before .before .before .before .before .before .before .before .before .before .before .before .before .before .before .before .before .before .before .running .ensures) _ _ (c .before .before .before .before .before .before .before .before .before .before .before .before .before .before .before .before .before .before .before .before .before .before .begin .ensures) _ (c .before .before .before .before .before .before .before .before .before .before .before .before .before .before .before .before .before .before .enum-told .given .1) _ _ _ _ _ _ (c .before .before .before .before .before .before .before .before .before .before .before .before .before .before .before .before .before .table-place .ensures) (c .before .before .before .before .before .before .before .before .before .before .before .before .before .before .before .before .word-at .ensures) (c .before .before .before .before .before .before .before .before .before .before .before .before .before .before .before .start-of .ensures .0) (c .before .before .before .before .before .before .before .before .before .before .before .before .before .before .parameters-of .ensures .0) refl (c .before .before .before .before .before .before .before .before .before .before .before .before .before .body-of .ensures .0) _ _ _ (c .before .before .before .before .before .before .before .before .before .before .statements .ensures) _ (c .before .before .resume .ensures) (c .before .before .before .before .enum-told2 .given .1)
 
--- src/lib.rt:197:1
+-- src/lib.rt:202:1
 invoke-same-length-4 : (t : ℕ) → invoke-lts.Need-same-length-4 (
   arguments-held-reads.Asked,
   arguments-held-reads.Learnt,
@@ -2051,7 +2224,7 @@ invoke-same-length-4 : (t : ℕ) → invoke-lts.Need-same-length-4 (
 ) (invoke-at t) invoke.Post
 invoke-same-length-4 t c = search needs
 
--- src/lib.rt:197:1
+-- src/lib.rt:202:1
 invoke-same-length-5 : (t : ℕ) → invoke-lts.Need-same-length-5 (
   arguments-held-reads.Asked,
   arguments-held-reads.Learnt,
@@ -2078,7 +2251,7 @@ invoke-same-length-5 : (t : ℕ) → invoke-lts.Need-same-length-5 (
 ) (invoke-at t) invoke.Post
 invoke-same-length-5 t c = search needs
 
--- src/lib.rt:197:1
+-- src/lib.rt:202:1
 invoke-returns-3 : (t : ℕ) → invoke-lts.Need-returns-3 (
   arguments-held-reads.Asked,
   arguments-held-reads.Learnt,
@@ -2105,7 +2278,7 @@ invoke-returns-3 : (t : ℕ) → invoke-lts.Need-returns-3 (
 ) (invoke-at t) invoke.Post
 invoke-returns-3 t c = with-return _ _ _ _ _ _ _ _ _ _ _ _ (c .before .before .before .before .before .before .before .before .before .before .before .before .before .before .before .before .before .before .before .before .before .before .before .before .before .before .before .before .before .arguments-held .ensures) (c .before .before .before .before .before .before .before .before .before .before .before .before .before .before .before .before .before .before .before .before .before .before .before .before .before .before .before .declared-count .ensures) (c .before .before .before .before .before .before .before .before .before .before .before .before .before .before .before .before .before .before .before .before .before .before .before .before .before .running .ensures) _ _ (c .before .before .before .before .before .before .before .before .before .before .before .before .before .before .before .before .before .before .before .before .before .before .before .begin .ensures) _ (c .before .before .before .before .before .before .before .before .before .before .before .before .before .before .before .before .before .before .before .enum-told .given .1) _ _ _ _ _ _ (c .before .before .before .before .before .before .before .before .before .before .before .before .before .before .before .before .before .before .table-place .ensures) (c .before .before .before .before .before .before .before .before .before .before .before .before .before .before .before .before .before .word-at .ensures) (c .before .before .before .before .before .before .before .before .before .before .before .before .before .before .before .before .start-of .ensures .0) (c .before .before .before .before .before .before .before .before .before .before .before .before .before .before .before .parameters-of .ensures .0) refl (c .before .before .before .before .before .before .before .before .before .before .before .before .before .before .body-of .ensures .0) _ _ _ (c .before .before .before .before .before .before .before .before .before .before .before .statements .ensures) _ (c .before .before .resume2 .ensures) _ (c .before .before .before .before .before .v .given .1)
 
--- src/lib.rt:197:1
+-- src/lib.rt:202:1
 invoke-same-length-6 : (t : ℕ) → invoke-lts.Need-same-length-6 (
   arguments-held-reads.Asked,
   arguments-held-reads.Learnt,
@@ -2132,7 +2305,7 @@ invoke-same-length-6 : (t : ℕ) → invoke-lts.Need-same-length-6 (
 ) (invoke-at t) invoke.Post
 invoke-same-length-6 t c = search needs
 
--- src/lib.rt:197:1
+-- src/lib.rt:202:1
 invoke-same-length-7 : (t : ℕ) → invoke-lts.Need-same-length-7 (
   arguments-held-reads.Asked,
   arguments-held-reads.Learnt,
@@ -2159,7 +2332,7 @@ invoke-same-length-7 : (t : ℕ) → invoke-lts.Need-same-length-7 (
 ) (invoke-at t) invoke.Post
 invoke-same-length-7 t c = search needs
 
--- src/lib.rt:197:1
+-- src/lib.rt:202:1
 invoke-returns-4 : (t : ℕ) → invoke-lts.Need-returns-4 (
   arguments-held-reads.Asked,
   arguments-held-reads.Learnt,
@@ -2186,7 +2359,7 @@ invoke-returns-4 : (t : ℕ) → invoke-lts.Need-returns-4 (
 ) (invoke-at t) invoke.Post
 invoke-returns-4 t c = body-stops _ _ _ _ _ _ _ _ _ _ _ _ (c .before .before .before .before .before .before .before .before .before .before .before .before .before .before .before .before .before .before .before .before .before .before .before .before .before .arguments-held .ensures) (c .before .before .before .before .before .before .before .before .before .before .before .before .before .before .before .before .before .before .before .before .before .before .before .declared-count .ensures) (c .before .before .before .before .before .before .before .before .before .before .before .before .before .before .before .before .before .before .before .before .before .running .ensures) _ _ (c .before .before .before .before .before .before .before .before .before .before .before .before .before .before .before .before .before .before .before .begin .ensures) _ (c .before .before .before .before .before .before .before .before .before .before .before .before .before .before .before .enum-told .given .1) _ _ _ _ _ _ (c .before .before .before .before .before .before .before .before .before .before .before .before .before .before .table-place .ensures) (c .before .before .before .before .before .before .before .before .before .before .before .before .before .word-at .ensures) (c .before .before .before .before .before .before .before .before .before .before .before .before .start-of .ensures .0) (c .before .before .before .before .before .before .before .before .before .before .before .parameters-of .ensures .0) refl (c .before .before .before .before .before .before .before .before .before .before .body-of .ensures .0) _ _ _ (c .before .before .before .before .before .before .before .statements .ensures) _ _ (c .before .k2 .given .1)
 
--- src/lib.rt:79:9
+-- src/lib.rt:84:9
 operands-left-of-requires : (t : ℕ) → operands-lts.Need-left-of-requires (
   left-of-reads.Asked,
   left-of-reads.Learnt,
@@ -2207,7 +2380,7 @@ operands-left-of-requires : (t : ℕ) → operands-lts.Need-left-of-requires (
 ) (operands-at t) operands.Post
 operands-left-of-requires t c κs = search needs
 
--- src/lib.rt:72:11
+-- src/lib.rt:77:11
 operands-expression-requires : (t : ℕ) → operands-lts.Need-expression-requires (
   left-of-reads.Asked,
   left-of-reads.Learnt,
@@ -2228,7 +2401,7 @@ operands-expression-requires : (t : ℕ) → operands-lts.Need-expression-requir
 ) (operands-at t) operands.Post
 operands-expression-requires t c κs = (omega arith, c .before .before .before .before .before .before .before .pre .1)
 
--- src/lib.rt:82:22
+-- src/lib.rt:87:22
 operands-enum-known-u : (t : ℕ) → operands-lts.Need-enum-known-u (
   left-of-reads.Asked,
   left-of-reads.Learnt,
@@ -2249,7 +2422,7 @@ operands-enum-known-u : (t : ℕ) → operands-lts.Need-enum-known-u (
 ) (operands-at t) operands.Post
 operands-enum-known-u t c = search needs
 
--- src/lib.rt:83:17
+-- src/lib.rt:88:17
 operands-pack-requires : (t : ℕ) → operands-lts.Need-pack-requires (
   left-of-reads.Asked,
   left-of-reads.Learnt,
@@ -2270,7 +2443,7 @@ operands-pack-requires : (t : ℕ) → operands-lts.Need-pack-requires (
 ) (operands-at t) operands.Post
 operands-pack-requires t c κs = search needs
 
--- src/lib.rt:84:17
+-- src/lib.rt:89:17
 operands-tag-of-requires : (t : ℕ) → operands-lts.Need-tag-of-requires (
   left-of-reads.Asked,
   left-of-reads.Learnt,
@@ -2291,7 +2464,7 @@ operands-tag-of-requires : (t : ℕ) → operands-lts.Need-tag-of-requires (
 ) (operands-at t) operands.Post
 operands-tag-of-requires t c κs = search needs
 
--- src/lib.rt:86:21
+-- src/lib.rt:91:21
 operands-new-table-requires : (t : ℕ) → operands-lts.Need-new-table-requires (
   left-of-reads.Asked,
   left-of-reads.Learnt,
@@ -2312,7 +2485,7 @@ operands-new-table-requires : (t : ℕ) → operands-lts.Need-new-table-requires
 ) (operands-at t) operands.Post
 operands-new-table-requires t c κs = search needs
 
--- src/lib.rt:87:17
+-- src/lib.rt:92:17
 operands-same-length : (t : ℕ) → operands-lts.Need-same-length (
   left-of-reads.Asked,
   left-of-reads.Learnt,
@@ -2333,7 +2506,7 @@ operands-same-length : (t : ℕ) → operands-lts.Need-same-length (
 ) (operands-at t) operands.Post
 operands-same-length t c = search needs
 
--- src/lib.rt:87:17
+-- src/lib.rt:92:17
 operands-same-length-2 : (t : ℕ) → operands-lts.Need-same-length-2 (
   left-of-reads.Asked,
   left-of-reads.Learnt,
@@ -2354,7 +2527,7 @@ operands-same-length-2 : (t : ℕ) → operands-lts.Need-same-length-2 (
 ) (operands-at t) operands.Post
 operands-same-length-2 t c = search needs
 
--- src/lib.rt:87:17
+-- src/lib.rt:92:17
 operands-returns : (t : ℕ) → operands-lts.Need-returns (
   left-of-reads.Asked,
   left-of-reads.Learnt,
@@ -2375,7 +2548,7 @@ operands-returns : (t : ℕ) → operands-lts.Need-returns (
 ) (operands-at t) operands.Post
 operands-returns t c = search table-made
 
--- src/lib.rt:89:16
+-- src/lib.rt:94:16
 operands-lacks-table-requires : (t : ℕ) → operands-lts.Need-lacks-table-requires (
   left-of-reads.Asked,
   left-of-reads.Learnt,
@@ -2396,7 +2569,7 @@ operands-lacks-table-requires : (t : ℕ) → operands-lts.Need-lacks-table-requ
 ) (operands-at t) operands.Post
 operands-lacks-table-requires t c κs = search needs
 
--- src/lib.rt:90:17
+-- src/lib.rt:95:17
 operands-same-length-3 : (t : ℕ) → operands-lts.Need-same-length-3 (
   left-of-reads.Asked,
   left-of-reads.Learnt,
@@ -2417,7 +2590,7 @@ operands-same-length-3 : (t : ℕ) → operands-lts.Need-same-length-3 (
 ) (operands-at t) operands.Post
 operands-same-length-3 t c = search needs
 
--- src/lib.rt:90:17
+-- src/lib.rt:95:17
 operands-same-length-4 : (t : ℕ) → operands-lts.Need-same-length-4 (
   left-of-reads.Asked,
   left-of-reads.Learnt,
@@ -2438,7 +2611,7 @@ operands-same-length-4 : (t : ℕ) → operands-lts.Need-same-length-4 (
 ) (operands-at t) operands.Post
 operands-same-length-4 t c = search needs
 
--- src/lib.rt:90:17
+-- src/lib.rt:95:17
 operands-returns-2 : (t : ℕ) → operands-lts.Need-returns-2 (
   left-of-reads.Asked,
   left-of-reads.Learnt,
@@ -2459,7 +2632,7 @@ operands-returns-2 : (t : ℕ) → operands-lts.Need-returns-2 (
 ) (operands-at t) operands.Post
 operands-returns-2 t c = no-table _ _ _ _ _ _ _ _ (c .before .before .before .before .before .before .before .before .before .before .before .before .before .left-of .ensures) _ _ _ (c .before .before .before .before .before .before .before .before .before .before .before .before .expression .ensures) _ (c .before .before .before .before .before .before .u .given .1) _ (c .before .before .before .before .pack .ensures) _ (c .before .before .before .tag-of .ensures) (c .before .before .if1 .left) _ (c .before .lacks-table .ensures) (c .if2 .taken)
 
--- src/lib.rt:99:17
+-- src/lib.rt:104:17
 operands-right-of-requires : (t : ℕ) → operands-lts.Need-right-of-requires (
   left-of-reads.Asked,
   left-of-reads.Learnt,
@@ -2480,7 +2653,7 @@ operands-right-of-requires : (t : ℕ) → operands-lts.Need-right-of-requires (
 ) (operands-at t) operands.Post
 operands-right-of-requires t c κs = search needs
 
--- src/lib.rt:92:19
+-- src/lib.rt:97:19
 operands-expression-requires-2 : (t : ℕ) → operands-lts.Need-expression-requires-2 (
   left-of-reads.Asked,
   left-of-reads.Learnt,
@@ -2501,7 +2674,7 @@ operands-expression-requires-2 : (t : ℕ) → operands-lts.Need-expression-requ
 ) (operands-at t) operands.Post
 operands-expression-requires-2 t c κs = (omega arith, still-lent _ _ _ _ _ (let a0 = c .before .before .before .before .before .before .before .before .before .before .before .before .before .before .texts in omega arith) (let a0 = c .before .before .before .before .before .before .before .before .before .before .before .before .words in omega arith) _ (c .before .before .before .before .before .before .before .before .before .before .before .before .before .before .before .before .before .before .before .before .before .before .before .pre .1))
 
--- src/lib.rt:102:30
+-- src/lib.rt:107:30
 operands-enum-known-v : (t : ℕ) → operands-lts.Need-enum-known-v (
   left-of-reads.Asked,
   left-of-reads.Learnt,
@@ -2522,7 +2695,7 @@ operands-enum-known-v : (t : ℕ) → operands-lts.Need-enum-known-v (
 ) (operands-at t) operands.Post
 operands-enum-known-v t c = search needs
 
--- src/lib.rt:111:25
+-- src/lib.rt:116:25
 operands-pack-requires-2 : (t : ℕ) → operands-lts.Need-pack-requires-2 (
   left-of-reads.Asked,
   left-of-reads.Learnt,
@@ -2543,7 +2716,7 @@ operands-pack-requires-2 : (t : ℕ) → operands-lts.Need-pack-requires-2 (
 ) (operands-at t) operands.Post
 operands-pack-requires-2 t c κs = search needs
 
--- src/lib.rt:103:25
+-- src/lib.rt:108:25
 operands-apply-requires : (t : ℕ) → operands-lts.Need-apply-requires (
   left-of-reads.Asked,
   left-of-reads.Learnt,
@@ -2564,7 +2737,7 @@ operands-apply-requires : (t : ℕ) → operands-lts.Need-apply-requires (
 ) (operands-at t) operands.Post
 operands-apply-requires t c κs = laws.still-lent _ _ _ _ _ (c .before .before .before .before .before .before .before .before .before .before .before .before .before .before .before .before .before .before .before .before .before .before .before .before .before .before .before .before .before .before .before .before .before .before .pre .1 .lent) (let a0 = c .before .before .before .before .before .before .before .before .before .before .before .before .before .before .before .before .before .before .before .before .before .before .before .before .before .texts in let a1 = c .before .before .before .before .before .before .before .before .before .texts2 in omega arith) (let a0 = c .before .before .before .before .before .before .before .before .before .before .before .before .before .before .before .before .before .before .before .before .before .before .before .words in let a1 = c .before .before .before .before .before .before .before .words3 in omega arith)
 
--- src/lib.rt:115:29
+-- src/lib.rt:120:29
 operands-enum-known-n : (t : ℕ) → operands-lts.Need-enum-known-n (
   left-of-reads.Asked,
   left-of-reads.Learnt,
@@ -2585,7 +2758,7 @@ operands-enum-known-n : (t : ℕ) → operands-lts.Need-enum-known-n (
 ) (operands-at t) operands.Post
 operands-enum-known-n t c = search needs
 
--- src/lib.rt:118:21
+-- src/lib.rt:123:21
 operands-enum-known-n-2 : (t : ℕ) → operands-lts.Need-enum-known-n-2 (
   left-of-reads.Asked,
   left-of-reads.Learnt,
@@ -2606,7 +2779,7 @@ operands-enum-known-n-2 : (t : ℕ) → operands-lts.Need-enum-known-n-2 (
 ) (operands-at t) operands.Post
 operands-enum-known-n-2 t c = search needs
 
--- src/lib.rt:57:1
+-- src/lib.rt:62:1
 operands-same-length-5 : (t : ℕ) → operands-lts.Need-same-length-5 (
   left-of-reads.Asked,
   left-of-reads.Learnt,
@@ -2627,7 +2800,7 @@ operands-same-length-5 : (t : ℕ) → operands-lts.Need-same-length-5 (
 ) (operands-at t) operands.Post
 operands-same-length-5 t c = let a = c .before .before .before .before .before .before .before .before .before .before .before .before .before .before .before .before .before .before .before .before .before .before .before .before .before .before .before .before .before .before .before .before .before .before .before .before .slice-known in let b = c .before .before .before .before .before .before .before .before .before .before .before .before .before .before .before .before .before .before .before .before .before .before .before .before .before .before .before .before .before .before .texts in let d = c .before .before .before .before .before .before .before .before .before .before .before .before .before .before .texts2 in let e = c .before .before .before .texts3 in search needs
 
--- src/lib.rt:57:1
+-- src/lib.rt:62:1
 operands-same-length-6 : (t : ℕ) → operands-lts.Need-same-length-6 (
   left-of-reads.Asked,
   left-of-reads.Learnt,
@@ -2648,7 +2821,7 @@ operands-same-length-6 : (t : ℕ) → operands-lts.Need-same-length-6 (
 ) (operands-at t) operands.Post
 operands-same-length-6 t c = search needs
 
--- src/lib.rt:57:1
+-- src/lib.rt:62:1
 operands-returns-3 : (t : ℕ) → operands-lts.Need-returns-3 (
   left-of-reads.Asked,
   left-of-reads.Learnt,
@@ -2669,7 +2842,7 @@ operands-returns-3 : (t : ℕ) → operands-lts.Need-returns-3 (
 ) (operands-at t) operands.Post
 operands-returns-3 t c = operands-applied _ _ _ _ _ _ _ _ (c .before .before .before .before .before .before .before .before .before .before .before .before .before .before .before .before .before .before .before .before .before .before .before .before .before .before .before .before .before .before .before .before .left-of .ensures) _ _ _ (c .before .before .before .before .before .before .before .before .before .before .before .before .before .before .before .before .before .before .before .before .before .before .before .before .before .before .before .before .before .before .before .expression .ensures) _ (c .before .before .before .before .before .before .before .before .before .before .before .before .before .before .before .before .before .before .before .before .before .before .before .before .before .u .given .1) _ (c .before .before .before .before .before .before .before .before .before .before .before .before .before .before .before .before .before .before .before .before .before .before .before .pack .ensures) _ (c .before .before .before .before .before .before .before .before .before .before .before .before .before .before .before .before .before .before .before .before .before .before .tag-of .ensures) (c .before .before .before .before .before .before .before .before .before .before .before .before .before .before .before .before .before .before .before .before .before .if1 .left) _ (c .before .before .before .before .before .before .before .before .before .before .before .before .before .before .before .before .before .before .before .before .lacks-table .ensures) (c .before .before .before .before .before .before .before .before .before .before .before .before .before .before .before .before .before .before .before .if2 .left) _ (c .before .before .before .before .before .before .before .before .before .before .before .before .before .before .before .before .right-of .ensures) _ _ _ (c .before .before .before .before .before .before .before .before .before .before .before .before .before .before .before .expression2 .ensures) _ _ _ (c .before .before .before .before .before .before .before .before .before .v .given .1) (c .before .before .before .before .before .pack2 .ensures) (c .before .before .before .before .apply .ensures)
 
--- src/lib.rt:57:1
+-- src/lib.rt:62:1
 operands-same-length-7 : (t : ℕ) → operands-lts.Need-same-length-7 (
   left-of-reads.Asked,
   left-of-reads.Learnt,
@@ -2690,7 +2863,7 @@ operands-same-length-7 : (t : ℕ) → operands-lts.Need-same-length-7 (
 ) (operands-at t) operands.Post
 operands-same-length-7 t c = search needs
 
--- src/lib.rt:57:1
+-- src/lib.rt:62:1
 operands-same-length-8 : (t : ℕ) → operands-lts.Need-same-length-8 (
   left-of-reads.Asked,
   left-of-reads.Learnt,
@@ -2711,7 +2884,7 @@ operands-same-length-8 : (t : ℕ) → operands-lts.Need-same-length-8 (
 ) (operands-at t) operands.Post
 operands-same-length-8 t c = search needs
 
--- src/lib.rt:57:1
+-- src/lib.rt:62:1
 operands-returns-4 : (t : ℕ) → operands-lts.Need-returns-4 (
   left-of-reads.Asked,
   left-of-reads.Learnt,
@@ -2732,7 +2905,7 @@ operands-returns-4 : (t : ℕ) → operands-lts.Need-returns-4 (
 ) (operands-at t) operands.Post
 operands-returns-4 t c = second-stops _ _ _ _ _ _ _ _ (c .before .before .before .before .before .before .before .before .before .before .before .before .before .before .before .before .before .before .before .before .before .before .before .before .left-of .ensures) _ _ _ (c .before .before .before .before .before .before .before .before .before .before .before .before .before .before .before .before .before .before .before .before .before .before .before .expression .ensures) _ (c .before .before .before .before .before .before .before .before .before .before .before .before .before .before .before .before .before .u .given .1) _ (c .before .before .before .before .before .before .before .before .before .before .before .before .before .before .before .pack .ensures) _ (c .before .before .before .before .before .before .before .before .before .before .before .before .before .before .tag-of .ensures) (c .before .before .before .before .before .before .before .before .before .before .before .before .before .if1 .left) _ (c .before .before .before .before .before .before .before .before .before .before .before .before .lacks-table .ensures) (c .before .before .before .before .before .before .before .before .before .before .before .if2 .left) _ (c .before .before .before .before .before .before .before .before .right-of .ensures) _ _ _ (c .before .before .before .before .before .before .before .expression2 .ensures) _ _ (c .before .n .given .1)
 
--- src/lib.rt:57:1
+-- src/lib.rt:62:1
 operands-same-length-9 : (t : ℕ) → operands-lts.Need-same-length-9 (
   left-of-reads.Asked,
   left-of-reads.Learnt,
@@ -2753,7 +2926,7 @@ operands-same-length-9 : (t : ℕ) → operands-lts.Need-same-length-9 (
 ) (operands-at t) operands.Post
 operands-same-length-9 t c = search needs
 
--- src/lib.rt:57:1
+-- src/lib.rt:62:1
 operands-same-length-10 : (t : ℕ) → operands-lts.Need-same-length-10 (
   left-of-reads.Asked,
   left-of-reads.Learnt,
@@ -2774,7 +2947,7 @@ operands-same-length-10 : (t : ℕ) → operands-lts.Need-same-length-10 (
 ) (operands-at t) operands.Post
 operands-same-length-10 t c = search needs
 
--- src/lib.rt:57:1
+-- src/lib.rt:62:1
 operands-returns-5 : (t : ℕ) → operands-lts.Need-returns-5 (
   left-of-reads.Asked,
   left-of-reads.Learnt,
@@ -2801,7 +2974,7 @@ repeat-Inv-loop program code grants texts₀ words₀ fuel y p turns₀ texts wo
 abbrev repeat-μ-loop : repeat-lts.MeasureT-loop
 repeat-μ-loop program code grants texts₀ words₀ fuel y p turns₀ texts words turns = turns
 
--- src/lib.rt:481:21
+-- src/lib.rt:491:21
 repeat-element-copy-out-turns : (t : ℕ) → repeat-lts.Need-element-copy-out-turns (
   count-reads.Asked,
   count-reads.Learnt,
@@ -2812,7 +2985,7 @@ repeat-element-copy-out-turns : (t : ℕ) → repeat-lts.Need-element-copy-out-t
 ) (repeat-at t) repeat.Post repeat-Inv-loop repeat-μ-loop
 repeat-element-copy-out-turns t c = search needs
 
--- src/lib.rt:481:21
+-- src/lib.rt:491:21
 repeat-add-turns : (t : ℕ) → repeat-lts.Need-add-turns (
   count-reads.Asked,
   count-reads.Learnt,
@@ -2823,7 +2996,7 @@ repeat-add-turns : (t : ℕ) → repeat-lts.Need-add-turns (
 ) (repeat-at t) repeat.Post repeat-Inv-loop repeat-μ-loop
 repeat-add-turns t c = omega (arith, c .before .before .before .before .before .pre .1 .lent .lent .room .steps)
 
--- src/lib.rt:482:5
+-- src/lib.rt:492:5
 repeat-loop-holds : (t : ℕ) → repeat-lts.Need-loop-holds (
   count-reads.Asked,
   count-reads.Learnt,
@@ -2834,7 +3007,7 @@ repeat-loop-holds : (t : ℕ) → repeat-lts.Need-loop-holds (
 ) (repeat-at t) repeat.Post repeat-Inv-loop repeat-μ-loop
 repeat-loop-holds t c = loop-first _ _ _ _ _ _ _ _ (c .before .before .before .before .before .pre .1)
 
--- src/lib.rt:483:9
+-- src/lib.rt:493:9
 repeat-sub-turns : (t : ℕ) → repeat-lts.Need-sub-turns (
   count-reads.Asked,
   count-reads.Learnt,
@@ -2845,7 +3018,7 @@ repeat-sub-turns : (t : ℕ) → repeat-lts.Need-sub-turns (
 ) (repeat-at t) repeat.Post repeat-Inv-loop repeat-μ-loop
 repeat-sub-turns t c = search needs
 
--- src/lib.rt:484:13
+-- src/lib.rt:494:13
 repeat-count-requires : (t : ℕ) → repeat-lts.Need-count-requires (
   count-reads.Asked,
   count-reads.Learnt,
@@ -2856,7 +3029,7 @@ repeat-count-requires : (t : ℕ) → repeat-lts.Need-count-requires (
 ) (repeat-at t) repeat.Post repeat-Inv-loop repeat-μ-loop
 repeat-count-requires t c κs = omega (arith, c .before .before .loop .inv .runs .lent .lent .room .words)
 
--- src/lib.rt:485:13
+-- src/lib.rt:495:13
 repeat-same-length : (t : ℕ) → repeat-lts.Need-same-length (
   count-reads.Asked,
   count-reads.Learnt,
@@ -2867,7 +3040,7 @@ repeat-same-length : (t : ℕ) → repeat-lts.Need-same-length (
 ) (repeat-at t) repeat.Post repeat-Inv-loop repeat-μ-loop
 repeat-same-length t c = search needs
 
--- src/lib.rt:485:13
+-- src/lib.rt:495:13
 repeat-same-length-2 : (t : ℕ) → repeat-lts.Need-same-length-2 (
   count-reads.Asked,
   count-reads.Learnt,
@@ -2878,7 +3051,7 @@ repeat-same-length-2 : (t : ℕ) → repeat-lts.Need-same-length-2 (
 ) (repeat-at t) repeat.Post repeat-Inv-loop repeat-μ-loop
 repeat-same-length-2 t c = search needs
 
--- src/lib.rt:485:13
+-- src/lib.rt:495:13
 repeat-returns : (t : ℕ) → repeat-lts.Need-returns (
   count-reads.Asked,
   count-reads.Learnt,
@@ -2889,7 +3062,7 @@ repeat-returns : (t : ℕ) → repeat-lts.Need-returns (
 ) (repeat-at t) repeat.Post repeat-Inv-loop repeat-μ-loop
 repeat-returns t c = loop-refused _ _ _ _ _ _ _ _ _ _ _ (c .before .before .before .before .before .before .loop .inv) (c .before .before .before .before .before .loop-test .taken) _ _ (c .before .before .before .count .ensures) (c .if1 .taken)
 
--- src/lib.rt:487:15
+-- src/lib.rt:497:15
 repeat-test-requires : (t : ℕ) → repeat-lts.Need-test-requires (
   count-reads.Asked,
   count-reads.Learnt,
@@ -2910,7 +3083,7 @@ repeat-enum-told : (t : ℕ) → repeat-lts.Need-enum-told (
 ) (repeat-at t) repeat.Post repeat-Inv-loop repeat-μ-loop
 repeat-enum-told t c = search needs
 
--- src/lib.rt:489:28
+-- src/lib.rt:499:28
 repeat-enum-told-2 : (t : ℕ) → repeat-lts.Need-enum-told-2 (
   count-reads.Asked,
   count-reads.Learnt,
@@ -2921,7 +3094,7 @@ repeat-enum-told-2 : (t : ℕ) → repeat-lts.Need-enum-told-2 (
 ) (repeat-at t) repeat.Post repeat-Inv-loop repeat-μ-loop
 repeat-enum-told-2 t c = search needs
 
--- src/lib.rt:489:28
+-- src/lib.rt:499:28
 repeat-same-length-3 : (t : ℕ) → repeat-lts.Need-same-length-3 (
   count-reads.Asked,
   count-reads.Learnt,
@@ -2932,7 +3105,7 @@ repeat-same-length-3 : (t : ℕ) → repeat-lts.Need-same-length-3 (
 ) (repeat-at t) repeat.Post repeat-Inv-loop repeat-μ-loop
 repeat-same-length-3 t c = search needs
 
--- src/lib.rt:489:28
+-- src/lib.rt:499:28
 repeat-same-length-4 : (t : ℕ) → repeat-lts.Need-same-length-4 (
   count-reads.Asked,
   count-reads.Learnt,
@@ -2943,7 +3116,7 @@ repeat-same-length-4 : (t : ℕ) → repeat-lts.Need-same-length-4 (
 ) (repeat-at t) repeat.Post repeat-Inv-loop repeat-μ-loop
 repeat-same-length-4 t c = search needs
 
--- src/lib.rt:489:28
+-- src/lib.rt:499:28
 repeat-returns-2 : (t : ℕ) → repeat-lts.Need-returns-2 (
   count-reads.Asked,
   count-reads.Learnt,
@@ -2954,7 +3127,7 @@ repeat-returns-2 : (t : ℕ) → repeat-lts.Need-returns-2 (
 ) (repeat-at t) repeat.Post repeat-Inv-loop repeat-μ-loop
 repeat-returns-2 t c = loop-ends _ _ _ _ _ _ _ _ _ _ _ (c .before .before .before .before .before .before .before .before .before .before .before .before .before .before .before .loop .inv) (c .before .before .before .before .before .before .before .before .before .before .before .before .before .before .loop-test .taken) _ _ (c .before .before .before .before .before .before .before .before .before .before .before .before .count .ensures) (c .before .before .before .before .before .before .before .before .before .if1 .left) _ _ _ (c .before .before .before .before .before .before .test .ensures) (c .enum-told2 .given .1)
 
--- src/lib.rt:490:30
+-- src/lib.rt:500:30
 repeat-enum-known-n : (t : ℕ) → repeat-lts.Need-enum-known-n (
   count-reads.Asked,
   count-reads.Learnt,
@@ -2965,7 +3138,7 @@ repeat-enum-known-n : (t : ℕ) → repeat-lts.Need-enum-known-n (
 ) (repeat-at t) repeat.Post repeat-Inv-loop repeat-μ-loop
 repeat-enum-known-n t c = search needs
 
--- src/lib.rt:490:39
+-- src/lib.rt:500:39
 repeat-same-length-5 : (t : ℕ) → repeat-lts.Need-same-length-5 (
   count-reads.Asked,
   count-reads.Learnt,
@@ -2976,7 +3149,7 @@ repeat-same-length-5 : (t : ℕ) → repeat-lts.Need-same-length-5 (
 ) (repeat-at t) repeat.Post repeat-Inv-loop repeat-μ-loop
 repeat-same-length-5 t c = search needs
 
--- src/lib.rt:490:39
+-- src/lib.rt:500:39
 repeat-same-length-6 : (t : ℕ) → repeat-lts.Need-same-length-6 (
   count-reads.Asked,
   count-reads.Learnt,
@@ -2987,7 +3160,7 @@ repeat-same-length-6 : (t : ℕ) → repeat-lts.Need-same-length-6 (
 ) (repeat-at t) repeat.Post repeat-Inv-loop repeat-μ-loop
 repeat-same-length-6 t c = search needs
 
--- src/lib.rt:490:39
+-- src/lib.rt:500:39
 repeat-returns-3 : (t : ℕ) → repeat-lts.Need-returns-3 (
   count-reads.Asked,
   count-reads.Learnt,
@@ -2998,7 +3171,7 @@ repeat-returns-3 : (t : ℕ) → repeat-lts.Need-returns-3 (
 ) (repeat-at t) repeat.Post repeat-Inv-loop repeat-μ-loop
 repeat-returns-3 t c = loop-stops _ _ _ _ _ _ _ _ _ _ _ (c .before .before .before .before .before .before .before .before .before .before .before .before .before .before .before .before .loop .inv) (c .before .before .before .before .before .before .before .before .before .before .before .before .before .before .before .loop-test .taken) _ _ (c .before .before .before .before .before .before .before .before .before .before .before .before .before .count .ensures) (c .before .before .before .before .before .before .before .before .before .before .if1 .left) _ _ _ (c .before .before .before .before .before .before .before .test .ensures) _ _ (c .before .n .given .1)
 
--- src/lib.rt:492:68
+-- src/lib.rt:502:68
 repeat-add-statement : (t : ℕ) → repeat-lts.Need-add-statement (
   count-reads.Asked,
   count-reads.Learnt,
@@ -3009,7 +3182,7 @@ repeat-add-statement : (t : ℕ) → repeat-lts.Need-add-statement (
 ) (repeat-at t) repeat.Post repeat-Inv-loop repeat-μ-loop
 repeat-add-statement t c = omega (arith, c .before .before .before .before .before .before .before .before .before .before .before .before .before .before .before .before .before .before .before .before .before .before .before .pre .1 .room)
 
--- src/lib.rt:492:15
+-- src/lib.rt:502:15
 repeat-statement-requires : (t : ℕ) → repeat-lts.Need-statement-requires (
   count-reads.Asked,
   count-reads.Learnt,
@@ -3030,7 +3203,7 @@ repeat-enum-told-3 : (t : ℕ) → repeat-lts.Need-enum-told-3 (
 ) (repeat-at t) repeat.Post repeat-Inv-loop repeat-μ-loop
 repeat-enum-told-3 t c = search needs
 
--- src/lib.rt:482:5
+-- src/lib.rt:492:5
 repeat-loop-less : (t : ℕ) → repeat-lts.Need-loop-less (
   count-reads.Asked,
   count-reads.Learnt,
@@ -3041,7 +3214,7 @@ repeat-loop-less : (t : ℕ) → repeat-lts.Need-loop-less (
 ) (repeat-at t) repeat.Post repeat-Inv-loop repeat-μ-loop
 repeat-loop-less t c = omega arith
 
--- src/lib.rt:482:5
+-- src/lib.rt:492:5
 repeat-loop-again : (t : ℕ) → repeat-lts.Need-loop-again (
   count-reads.Asked,
   count-reads.Learnt,
@@ -3052,7 +3225,7 @@ repeat-loop-again : (t : ℕ) → repeat-lts.Need-loop-again (
 ) (repeat-at t) repeat.Post repeat-Inv-loop repeat-μ-loop
 repeat-loop-again t c = loop-again _ _ _ _ _ _ _ _ _ _ _ (c .before .before .before .before .before .before .before .before .before .before .before .before .before .before .before .before .before .before .before .before .before .before .before .before .loop .inv) (c .before .before .before .before .before .before .before .before .before .before .before .before .before .before .before .before .before .before .before .before .before .before .before .loop-test .taken) _ _ (c .before .before .before .before .before .before .before .before .before .before .before .before .before .before .before .before .before .before .before .before .before .count .ensures) (c .before .before .before .before .before .before .before .before .before .before .before .before .before .before .before .before .before .before .if1 .left) _ _ _ (c .before .before .before .before .before .before .before .before .before .before .before .before .before .before .before .test .ensures) (c .before .before .before .before .before .before .before .before .before .enum-told .given .1) _ _ _ (c .before .before .before .before .before .before .statement .ensures) (let a0 = c .before .before .before .before .before .before .before .before .before .before .before .before .before .before .texts in let a1 = c .before .before .before .before .before .texts2 in omega arith) (let a0 = c .before .before .before .before .before .before .before .before .before .before .before .before .before .before .before .before .before .before .before .before .words in let a1 = c .before .before .before .before .before .before .before .before .before .before .before .before .words2 in let a2 = c .before .before .before .words3 in omega arith) (c .enum-told3 .given .1)
 
--- src/lib.rt:494:28
+-- src/lib.rt:504:28
 repeat-enum-known-v : (t : ℕ) → repeat-lts.Need-enum-known-v (
   count-reads.Asked,
   count-reads.Learnt,
@@ -3063,7 +3236,7 @@ repeat-enum-known-v : (t : ℕ) → repeat-lts.Need-enum-known-v (
 ) (repeat-at t) repeat.Post repeat-Inv-loop repeat-μ-loop
 repeat-enum-known-v t c = search needs
 
--- src/lib.rt:494:34
+-- src/lib.rt:504:34
 repeat-same-length-7 : (t : ℕ) → repeat-lts.Need-same-length-7 (
   count-reads.Asked,
   count-reads.Learnt,
@@ -3074,7 +3247,7 @@ repeat-same-length-7 : (t : ℕ) → repeat-lts.Need-same-length-7 (
 ) (repeat-at t) repeat.Post repeat-Inv-loop repeat-μ-loop
 repeat-same-length-7 t c = search needs
 
--- src/lib.rt:494:34
+-- src/lib.rt:504:34
 repeat-same-length-8 : (t : ℕ) → repeat-lts.Need-same-length-8 (
   count-reads.Asked,
   count-reads.Learnt,
@@ -3085,7 +3258,7 @@ repeat-same-length-8 : (t : ℕ) → repeat-lts.Need-same-length-8 (
 ) (repeat-at t) repeat.Post repeat-Inv-loop repeat-μ-loop
 repeat-same-length-8 t c = search needs
 
--- src/lib.rt:494:34
+-- src/lib.rt:504:34
 repeat-returns-4 : (t : ℕ) → repeat-lts.Need-returns-4 (
   count-reads.Asked,
   count-reads.Learnt,
@@ -3096,7 +3269,7 @@ repeat-returns-4 : (t : ℕ) → repeat-lts.Need-returns-4 (
 ) (repeat-at t) repeat.Post repeat-Inv-loop repeat-μ-loop
 repeat-returns-4 t c = loop-returns _ _ _ _ _ _ _ _ _ _ _ (c .before .before .before .before .before .before .before .before .before .before .before .before .before .before .before .before .before .before .before .before .before .before .before .before .before .loop .inv) (c .before .before .before .before .before .before .before .before .before .before .before .before .before .before .before .before .before .before .before .before .before .before .before .before .loop-test .taken) _ _ (c .before .before .before .before .before .before .before .before .before .before .before .before .before .before .before .before .before .before .before .before .before .before .count .ensures) (c .before .before .before .before .before .before .before .before .before .before .before .before .before .before .before .before .before .before .before .if1 .left) _ _ _ (c .before .before .before .before .before .before .before .before .before .before .before .before .before .before .before .before .test .ensures) (c .before .before .before .before .before .before .before .before .before .before .enum-told .given .1) _ _ _ (c .before .before .before .before .before .before .before .statement .ensures) _ (c .before .v .given .1)
 
--- src/lib.rt:495:27
+-- src/lib.rt:505:27
 repeat-enum-known-n-2 : (t : ℕ) → repeat-lts.Need-enum-known-n-2 (
   count-reads.Asked,
   count-reads.Learnt,
@@ -3107,7 +3280,7 @@ repeat-enum-known-n-2 : (t : ℕ) → repeat-lts.Need-enum-known-n-2 (
 ) (repeat-at t) repeat.Post repeat-Inv-loop repeat-μ-loop
 repeat-enum-known-n-2 t c = search needs
 
--- src/lib.rt:495:36
+-- src/lib.rt:505:36
 repeat-same-length-9 : (t : ℕ) → repeat-lts.Need-same-length-9 (
   count-reads.Asked,
   count-reads.Learnt,
@@ -3118,7 +3291,7 @@ repeat-same-length-9 : (t : ℕ) → repeat-lts.Need-same-length-9 (
 ) (repeat-at t) repeat.Post repeat-Inv-loop repeat-μ-loop
 repeat-same-length-9 t c = search needs
 
--- src/lib.rt:495:36
+-- src/lib.rt:505:36
 repeat-same-length-10 : (t : ℕ) → repeat-lts.Need-same-length-10 (
   count-reads.Asked,
   count-reads.Learnt,
@@ -3129,7 +3302,7 @@ repeat-same-length-10 : (t : ℕ) → repeat-lts.Need-same-length-10 (
 ) (repeat-at t) repeat.Post repeat-Inv-loop repeat-μ-loop
 repeat-same-length-10 t c = search needs
 
--- src/lib.rt:495:36
+-- src/lib.rt:505:36
 repeat-returns-5 : (t : ℕ) → repeat-lts.Need-returns-5 (
   count-reads.Asked,
   count-reads.Learnt,
@@ -3140,7 +3313,7 @@ repeat-returns-5 : (t : ℕ) → repeat-lts.Need-returns-5 (
 ) (repeat-at t) repeat.Post repeat-Inv-loop repeat-μ-loop
 repeat-returns-5 t c = loop-fails _ _ _ _ _ _ _ _ _ _ _ (c .before .before .before .before .before .before .before .before .before .before .before .before .before .before .before .before .before .before .before .before .before .before .before .before .before .loop .inv) (c .before .before .before .before .before .before .before .before .before .before .before .before .before .before .before .before .before .before .before .before .before .before .before .before .loop-test .taken) _ _ (c .before .before .before .before .before .before .before .before .before .before .before .before .before .before .before .before .before .before .before .before .before .before .count .ensures) (c .before .before .before .before .before .before .before .before .before .before .before .before .before .before .before .before .before .before .before .if1 .left) _ _ _ (c .before .before .before .before .before .before .before .before .before .before .before .before .before .before .before .before .test .ensures) (c .before .before .before .before .before .before .before .before .before .before .enum-told .given .1) _ _ _ (c .before .before .before .before .before .before .before .statement .ensures) _ _ (c .before .n2 .given .1)
 
--- src/lib.rt:467:1
+-- src/lib.rt:477:1
 repeat-same-length-11 : (t : ℕ) → repeat-lts.Need-same-length-11 (
   count-reads.Asked,
   count-reads.Learnt,
@@ -3151,7 +3324,7 @@ repeat-same-length-11 : (t : ℕ) → repeat-lts.Need-same-length-11 (
 ) (repeat-at t) repeat.Post repeat-Inv-loop repeat-μ-loop
 repeat-same-length-11 t c = search needs
 
--- src/lib.rt:467:1
+-- src/lib.rt:477:1
 repeat-same-length-12 : (t : ℕ) → repeat-lts.Need-same-length-12 (
   count-reads.Asked,
   count-reads.Learnt,
@@ -3162,7 +3335,7 @@ repeat-same-length-12 : (t : ℕ) → repeat-lts.Need-same-length-12 (
 ) (repeat-at t) repeat.Post repeat-Inv-loop repeat-μ-loop
 repeat-same-length-12 t c = search needs
 
--- src/lib.rt:467:1
+-- src/lib.rt:477:1
 repeat-returns-6 : (t : ℕ) → repeat-lts.Need-returns-6 (
   count-reads.Asked,
   count-reads.Learnt,
@@ -3173,14 +3346,20 @@ repeat-returns-6 : (t : ℕ) → repeat-lts.Need-returns-6 (
 ) (repeat-at t) repeat.Post repeat-Inv-loop repeat-μ-loop
 repeat-returns-6 t c = loop-short _ _ _ _ _ _ _ _ _ _ _ (c .before .loop .inv) (omega arith)
 
--- src/lib.rt:262:9
+-- src/lib.rt:267:9
 simple-last-of-requires : (t : ℕ) → simple-lts.Need-last-of-requires (
   last-of-reads.Asked,
   last-of-reads.Learnt,
   fast-value-reads.Asked,
   fast-value-reads.Learnt,
-  finish-plain-reads.Asked,
-  finish-plain-reads.Learnt,
+  tag-of-reads.Asked,
+  tag-of-reads.Learnt,
+  extra-of-reads.Asked,
+  extra-of-reads.Learnt,
+  put-word-reads.Asked,
+  put-word-reads.Learnt,
+  pass-on-reads.Asked,
+  pass-on-reads.Learnt,
   expression-below t,
   expression.Post,
   pack-reads.Asked,
@@ -3190,14 +3369,20 @@ simple-last-of-requires : (t : ℕ) → simple-lts.Need-last-of-requires (
 ) (simple-at t) simple.Post
 simple-last-of-requires t c κs = omega (arith, c .before .before .before .before .pre .1 .room)
 
--- src/lib.rt:263:9
+-- src/lib.rt:268:9
 simple-fast-value-requires : (t : ℕ) → simple-lts.Need-fast-value-requires (
   last-of-reads.Asked,
   last-of-reads.Learnt,
   fast-value-reads.Asked,
   fast-value-reads.Learnt,
-  finish-plain-reads.Asked,
-  finish-plain-reads.Learnt,
+  tag-of-reads.Asked,
+  tag-of-reads.Learnt,
+  extra-of-reads.Asked,
+  extra-of-reads.Learnt,
+  put-word-reads.Asked,
+  put-word-reads.Learnt,
+  pass-on-reads.Asked,
+  pass-on-reads.Learnt,
   expression-below t,
   expression.Post,
   pack-reads.Asked,
@@ -3207,14 +3392,20 @@ simple-fast-value-requires : (t : ℕ) → simple-lts.Need-fast-value-requires (
 ) (simple-at t) simple.Post
 simple-fast-value-requires t c κs = omega (arith, c .before .before .before .before .before .before .pre .1 .lent .lent .room .words)
 
--- src/lib.rt:265:13
-simple-finish-plain-requires : (t : ℕ) → simple-lts.Need-finish-plain-requires (
+-- src/lib.rt:270:12
+simple-tag-of-requires : (t : ℕ) → simple-lts.Need-tag-of-requires (
   last-of-reads.Asked,
   last-of-reads.Learnt,
   fast-value-reads.Asked,
   fast-value-reads.Learnt,
-  finish-plain-reads.Asked,
-  finish-plain-reads.Learnt,
+  tag-of-reads.Asked,
+  tag-of-reads.Learnt,
+  extra-of-reads.Asked,
+  extra-of-reads.Learnt,
+  put-word-reads.Asked,
+  put-word-reads.Learnt,
+  pass-on-reads.Asked,
+  pass-on-reads.Learnt,
   expression-below t,
   expression.Post,
   pack-reads.Asked,
@@ -3222,16 +3413,68 @@ simple-finish-plain-requires : (t : ℕ) → simple-lts.Need-finish-plain-requir
   finish-reads.Asked,
   finish-reads.Learnt,
 ) (simple-at t) simple.Post
-simple-finish-plain-requires t c κs = (let b = c .before .before .before .words in omega (arith, c .before .before .before .before .before .before .before .before .before .before .before .pre .1 .lent .lent .room .words), no-shape _ _ _ _ _ _ _ _ (c .before .before .before .before .fast-value .ensures) (c .before .before .before .before .before .before .before .before .before .before .before .pre .1 .lent) (c .before .if1 .taken))
+simple-tag-of-requires t c κs = search needs
 
--- src/lib.rt:266:9
+-- src/lib.rt:271:54
+simple-extra-of-requires : (t : ℕ) → simple-lts.Need-extra-of-requires (
+  last-of-reads.Asked,
+  last-of-reads.Learnt,
+  fast-value-reads.Asked,
+  fast-value-reads.Learnt,
+  tag-of-reads.Asked,
+  tag-of-reads.Learnt,
+  extra-of-reads.Asked,
+  extra-of-reads.Learnt,
+  put-word-reads.Asked,
+  put-word-reads.Learnt,
+  pass-on-reads.Asked,
+  pass-on-reads.Learnt,
+  expression-below t,
+  expression.Post,
+  pack-reads.Asked,
+  pack-reads.Learnt,
+  finish-reads.Asked,
+  finish-reads.Learnt,
+) (simple-at t) simple.Post
+simple-extra-of-requires t c κs = search needs
+
+-- src/lib.rt:271:17
+simple-put-word-requires : (t : ℕ) → simple-lts.Need-put-word-requires (
+  last-of-reads.Asked,
+  last-of-reads.Learnt,
+  fast-value-reads.Asked,
+  fast-value-reads.Learnt,
+  tag-of-reads.Asked,
+  tag-of-reads.Learnt,
+  extra-of-reads.Asked,
+  extra-of-reads.Learnt,
+  put-word-reads.Asked,
+  put-word-reads.Learnt,
+  pass-on-reads.Asked,
+  pass-on-reads.Learnt,
+  expression-below t,
+  expression.Post,
+  pack-reads.Asked,
+  pack-reads.Learnt,
+  finish-reads.Asked,
+  finish-reads.Learnt,
+) (simple-at t) simple.Post
+simple-put-word-requires t c κs = (let b = c .before .before .before .before .before .before .words in omega (arith, c .before .before .before .before .before .before .before .before .before .before .before .before .before .before .pre .1 .lent .lent .room .words), no-shape _ _ _ _ _ _ _ _ (c .before .before .before .before .before .before .before .fast-value .ensures) (c .before .before .before .before .before .before .before .before .before .before .before .before .before .before .pre .1 .lent) (c .before .before .before .before .if1 .taken))
+
+-- src/lib.rt:272:13
 simple-same-length : (t : ℕ) → simple-lts.Need-same-length (
   last-of-reads.Asked,
   last-of-reads.Learnt,
   fast-value-reads.Asked,
   fast-value-reads.Learnt,
-  finish-plain-reads.Asked,
-  finish-plain-reads.Learnt,
+  tag-of-reads.Asked,
+  tag-of-reads.Learnt,
+  extra-of-reads.Asked,
+  extra-of-reads.Learnt,
+  put-word-reads.Asked,
+  put-word-reads.Learnt,
+  pass-on-reads.Asked,
+  pass-on-reads.Learnt,
   expression-below t,
   expression.Post,
   pack-reads.Asked,
@@ -3241,14 +3484,20 @@ simple-same-length : (t : ℕ) → simple-lts.Need-same-length (
 ) (simple-at t) simple.Post
 simple-same-length t c = search needs
 
--- src/lib.rt:266:9
+-- src/lib.rt:272:13
 simple-returns : (t : ℕ) → simple-lts.Need-returns (
   last-of-reads.Asked,
   last-of-reads.Learnt,
   fast-value-reads.Asked,
   fast-value-reads.Learnt,
-  finish-plain-reads.Asked,
-  finish-plain-reads.Learnt,
+  tag-of-reads.Asked,
+  tag-of-reads.Learnt,
+  extra-of-reads.Asked,
+  extra-of-reads.Learnt,
+  put-word-reads.Asked,
+  put-word-reads.Learnt,
+  pass-on-reads.Asked,
+  pass-on-reads.Learnt,
   expression-below t,
   expression.Post,
   pack-reads.Asked,
@@ -3256,16 +3505,22 @@ simple-returns : (t : ℕ) → simple-lts.Need-returns (
   finish-reads.Asked,
   finish-reads.Learnt,
 ) (simple-at t) simple.Post
-simple-returns t c = simple-fast _ _ _ _ _ _ _ _ _ _ (c .before .before .before .before .before .before .before .fast-value .ensures) (c .before .before .before .before .before .before .before .before .before .before .before .before .before .before .pre .1 .lent) (c .before .before .before .before .if1 .taken) _ _ _ _ (c .before .before .before .before .before .before .before .before .before .last-of .ensures .0) (c .before .before .finish-plain .ensures)
+simple-returns t c = simple-fast _ _ _ _ _ _ _ _ _ _ (c .before .before .before .before .before .before .before .before .before .before .fast-value .ensures) (c .before .before .before .before .before .before .before .before .before .before .before .before .before .before .before .before .before .pre .1 .lent) (c .before .before .before .before .before .before .before .if1 .taken) _ _ _ _ (c .before .before .before .before .before .before .before .before .before .before .before .before .last-of .ensures .0) (is-assignment _ _ _ _ _ _ (c .before .before .before .before .before .before .tag-of .ensures) _ _ _ (c .before .before .before .before .before .if2 .taken) (c .before .before .before .extra-of .ensures .0) (c .before .before .put-word .ensures))
 
--- src/lib.rt:268:11
-simple-expression-requires : (t : ℕ) → simple-lts.Need-expression-requires (
+-- src/lib.rt:274:9
+simple-pass-on-requires : (t : ℕ) → simple-lts.Need-pass-on-requires (
   last-of-reads.Asked,
   last-of-reads.Learnt,
   fast-value-reads.Asked,
   fast-value-reads.Learnt,
-  finish-plain-reads.Asked,
-  finish-plain-reads.Learnt,
+  tag-of-reads.Asked,
+  tag-of-reads.Learnt,
+  extra-of-reads.Asked,
+  extra-of-reads.Learnt,
+  put-word-reads.Asked,
+  put-word-reads.Learnt,
+  pass-on-reads.Asked,
+  pass-on-reads.Learnt,
   expression-below t,
   expression.Post,
   pack-reads.Asked,
@@ -3273,84 +3528,22 @@ simple-expression-requires : (t : ℕ) → simple-lts.Need-expression-requires (
   finish-reads.Asked,
   finish-reads.Learnt,
 ) (simple-at t) simple.Post
-simple-expression-requires t c κs = (omega arith, slow-lent _ _ _ _ _ _ _ _ (c .before .before .before .before .before .fast-value .ensures) (c .before .before .if1 .left) (c .before .before .before .before .before .before .before .before .before .before .before .before .pre .1 .lent))
+simple-pass-on-requires t c κs = λ q. c .if2 .left (c .before .tag-of .ensures ∙ q)
 
--- src/lib.rt:269:22
-simple-enum-known-v : (t : ℕ) → simple-lts.Need-enum-known-v (
-  last-of-reads.Asked,
-  last-of-reads.Learnt,
-  fast-value-reads.Asked,
-  fast-value-reads.Learnt,
-  finish-plain-reads.Asked,
-  finish-plain-reads.Learnt,
-  expression-below t,
-  expression.Post,
-  pack-reads.Asked,
-  pack-reads.Learnt,
-  finish-reads.Asked,
-  finish-reads.Learnt,
-) (simple-at t) simple.Post
-simple-enum-known-v t c = search needs
-
--- src/lib.rt:270:55
-simple-pack-requires : (t : ℕ) → simple-lts.Need-pack-requires (
-  last-of-reads.Asked,
-  last-of-reads.Learnt,
-  fast-value-reads.Asked,
-  fast-value-reads.Learnt,
-  finish-plain-reads.Asked,
-  finish-plain-reads.Learnt,
-  expression-below t,
-  expression.Post,
-  pack-reads.Asked,
-  pack-reads.Learnt,
-  finish-reads.Asked,
-  finish-reads.Learnt,
-) (simple-at t) simple.Post
-simple-pack-requires t c κs = search needs
-
--- src/lib.rt:270:17
-simple-finish-requires : (t : ℕ) → simple-lts.Need-finish-requires (
-  last-of-reads.Asked,
-  last-of-reads.Learnt,
-  fast-value-reads.Asked,
-  fast-value-reads.Learnt,
-  finish-plain-reads.Asked,
-  finish-plain-reads.Learnt,
-  expression-below t,
-  expression.Post,
-  pack-reads.Asked,
-  pack-reads.Learnt,
-  finish-reads.Asked,
-  finish-reads.Learnt,
-) (simple-at t) simple.Post
-simple-finish-requires t c κs = still-room _ _ _ _ _ (c .before .before .before .before .before .before .before .before .before .before .before .before .before .before .before .before .before .before .before .before .before .before .pre .1 .lent) (let a0 = c .before .before .before .before .before .before .before .before .before .before .before .before .before .before .words in let a1 = c .before .before .before .before .before .before .words3 in omega arith)
-
--- src/lib.rt:273:21
-simple-enum-known-n : (t : ℕ) → simple-lts.Need-enum-known-n (
-  last-of-reads.Asked,
-  last-of-reads.Learnt,
-  fast-value-reads.Asked,
-  fast-value-reads.Learnt,
-  finish-plain-reads.Asked,
-  finish-plain-reads.Learnt,
-  expression-below t,
-  expression.Post,
-  pack-reads.Asked,
-  pack-reads.Learnt,
-  finish-reads.Asked,
-  finish-reads.Learnt,
-) (simple-at t) simple.Post
-simple-enum-known-n t c = search needs
-
--- src/lib.rt:247:1
+-- src/lib.rt:274:9
 simple-same-length-2 : (t : ℕ) → simple-lts.Need-same-length-2 (
   last-of-reads.Asked,
   last-of-reads.Learnt,
   fast-value-reads.Asked,
   fast-value-reads.Learnt,
-  finish-plain-reads.Asked,
-  finish-plain-reads.Learnt,
+  tag-of-reads.Asked,
+  tag-of-reads.Learnt,
+  extra-of-reads.Asked,
+  extra-of-reads.Learnt,
+  put-word-reads.Asked,
+  put-word-reads.Learnt,
+  pass-on-reads.Asked,
+  pass-on-reads.Learnt,
   expression-below t,
   expression.Post,
   pack-reads.Asked,
@@ -3360,14 +3553,227 @@ simple-same-length-2 : (t : ℕ) → simple-lts.Need-same-length-2 (
 ) (simple-at t) simple.Post
 simple-same-length-2 t c = search needs
 
--- src/lib.rt:247:1
+-- src/lib.rt:274:9
+simple-returns-2 : (t : ℕ) → simple-lts.Need-returns-2 (
+  last-of-reads.Asked,
+  last-of-reads.Learnt,
+  fast-value-reads.Asked,
+  fast-value-reads.Learnt,
+  tag-of-reads.Asked,
+  tag-of-reads.Learnt,
+  extra-of-reads.Asked,
+  extra-of-reads.Learnt,
+  put-word-reads.Asked,
+  put-word-reads.Learnt,
+  pass-on-reads.Asked,
+  pass-on-reads.Learnt,
+  expression-below t,
+  expression.Post,
+  pack-reads.Asked,
+  pack-reads.Learnt,
+  finish-reads.Asked,
+  finish-reads.Learnt,
+) (simple-at t) simple.Post
+simple-returns-2 t c = simple-fast _ _ _ _ _ _ _ _ _ _ (c .before .before .before .before .before .before .fast-value .ensures) (c .before .before .before .before .before .before .before .before .before .before .before .before .before .pre .1 .lent) (c .before .before .before .if1 .taken) _ _ _ _ (c .before .before .before .before .before .before .before .before .last-of .ensures .0) (c .pass-on .ensures _ _ _)
+
+-- src/lib.rt:276:11
+simple-expression-requires : (t : ℕ) → simple-lts.Need-expression-requires (
+  last-of-reads.Asked,
+  last-of-reads.Learnt,
+  fast-value-reads.Asked,
+  fast-value-reads.Learnt,
+  tag-of-reads.Asked,
+  tag-of-reads.Learnt,
+  extra-of-reads.Asked,
+  extra-of-reads.Learnt,
+  put-word-reads.Asked,
+  put-word-reads.Learnt,
+  pass-on-reads.Asked,
+  pass-on-reads.Learnt,
+  expression-below t,
+  expression.Post,
+  pack-reads.Asked,
+  pack-reads.Learnt,
+  finish-reads.Asked,
+  finish-reads.Learnt,
+) (simple-at t) simple.Post
+simple-expression-requires t c κs = (omega arith, slow-lent _ _ _ _ _ _ _ _ (c .before .before .before .before .before .fast-value .ensures) (c .before .before .if1 .left) (c .before .before .before .before .before .before .before .before .before .before .before .before .pre .1 .lent))
+
+-- src/lib.rt:277:22
+simple-enum-known-v : (t : ℕ) → simple-lts.Need-enum-known-v (
+  last-of-reads.Asked,
+  last-of-reads.Learnt,
+  fast-value-reads.Asked,
+  fast-value-reads.Learnt,
+  tag-of-reads.Asked,
+  tag-of-reads.Learnt,
+  extra-of-reads.Asked,
+  extra-of-reads.Learnt,
+  put-word-reads.Asked,
+  put-word-reads.Learnt,
+  pass-on-reads.Asked,
+  pass-on-reads.Learnt,
+  expression-below t,
+  expression.Post,
+  pack-reads.Asked,
+  pack-reads.Learnt,
+  finish-reads.Asked,
+  finish-reads.Learnt,
+) (simple-at t) simple.Post
+simple-enum-known-v t c = search needs
+
+-- src/lib.rt:277:68
+simple-pack-requires : (t : ℕ) → simple-lts.Need-pack-requires (
+  last-of-reads.Asked,
+  last-of-reads.Learnt,
+  fast-value-reads.Asked,
+  fast-value-reads.Learnt,
+  tag-of-reads.Asked,
+  tag-of-reads.Learnt,
+  extra-of-reads.Asked,
+  extra-of-reads.Learnt,
+  put-word-reads.Asked,
+  put-word-reads.Learnt,
+  pass-on-reads.Asked,
+  pass-on-reads.Learnt,
+  expression-below t,
+  expression.Post,
+  pack-reads.Asked,
+  pack-reads.Learnt,
+  finish-reads.Asked,
+  finish-reads.Learnt,
+) (simple-at t) simple.Post
+simple-pack-requires t c κs = search needs
+
+-- src/lib.rt:277:34
+simple-finish-requires : (t : ℕ) → simple-lts.Need-finish-requires (
+  last-of-reads.Asked,
+  last-of-reads.Learnt,
+  fast-value-reads.Asked,
+  fast-value-reads.Learnt,
+  tag-of-reads.Asked,
+  tag-of-reads.Learnt,
+  extra-of-reads.Asked,
+  extra-of-reads.Learnt,
+  put-word-reads.Asked,
+  put-word-reads.Learnt,
+  pass-on-reads.Asked,
+  pass-on-reads.Learnt,
+  expression-below t,
+  expression.Post,
+  pack-reads.Asked,
+  pack-reads.Learnt,
+  finish-reads.Asked,
+  finish-reads.Learnt,
+) (simple-at t) simple.Post
+simple-finish-requires t c κs = still-room _ _ _ _ _ (c .before .before .before .before .before .before .before .before .before .before .before .before .before .before .before .before .before .before .before .before .before .before .pre .1 .lent) (let a0 = c .before .before .before .before .before .before .before .before .before .before .before .before .before .before .words in let a1 = c .before .before .before .before .before .before .words3 in omega arith)
+
+-- src/lib.rt:278:29
+simple-enum-told : (t : ℕ) → simple-lts.Need-enum-told (
+  last-of-reads.Asked,
+  last-of-reads.Learnt,
+  fast-value-reads.Asked,
+  fast-value-reads.Learnt,
+  tag-of-reads.Asked,
+  tag-of-reads.Learnt,
+  extra-of-reads.Asked,
+  extra-of-reads.Learnt,
+  put-word-reads.Asked,
+  put-word-reads.Learnt,
+  pass-on-reads.Asked,
+  pass-on-reads.Learnt,
+  expression-below t,
+  expression.Post,
+  pack-reads.Asked,
+  pack-reads.Learnt,
+  finish-reads.Asked,
+  finish-reads.Learnt,
+) (simple-at t) simple.Post
+simple-enum-told t c = search needs
+
+-- src/lib.rt:279:28
+simple-enum-known-u : (t : ℕ) → simple-lts.Need-enum-known-u (
+  last-of-reads.Asked,
+  last-of-reads.Learnt,
+  fast-value-reads.Asked,
+  fast-value-reads.Learnt,
+  tag-of-reads.Asked,
+  tag-of-reads.Learnt,
+  extra-of-reads.Asked,
+  extra-of-reads.Learnt,
+  put-word-reads.Asked,
+  put-word-reads.Learnt,
+  pass-on-reads.Asked,
+  pass-on-reads.Learnt,
+  expression-below t,
+  expression.Post,
+  pack-reads.Asked,
+  pack-reads.Learnt,
+  finish-reads.Asked,
+  finish-reads.Learnt,
+) (simple-at t) simple.Post
+simple-enum-known-u t c = search needs
+
+-- src/lib.rt:280:27
+simple-enum-known-n : (t : ℕ) → simple-lts.Need-enum-known-n (
+  last-of-reads.Asked,
+  last-of-reads.Learnt,
+  fast-value-reads.Asked,
+  fast-value-reads.Learnt,
+  tag-of-reads.Asked,
+  tag-of-reads.Learnt,
+  extra-of-reads.Asked,
+  extra-of-reads.Learnt,
+  put-word-reads.Asked,
+  put-word-reads.Learnt,
+  pass-on-reads.Asked,
+  pass-on-reads.Learnt,
+  expression-below t,
+  expression.Post,
+  pack-reads.Asked,
+  pack-reads.Learnt,
+  finish-reads.Asked,
+  finish-reads.Learnt,
+) (simple-at t) simple.Post
+simple-enum-known-n t c = search needs
+
+-- src/lib.rt:282:21
+simple-enum-known-n-2 : (t : ℕ) → simple-lts.Need-enum-known-n-2 (
+  last-of-reads.Asked,
+  last-of-reads.Learnt,
+  fast-value-reads.Asked,
+  fast-value-reads.Learnt,
+  tag-of-reads.Asked,
+  tag-of-reads.Learnt,
+  extra-of-reads.Asked,
+  extra-of-reads.Learnt,
+  put-word-reads.Asked,
+  put-word-reads.Learnt,
+  pass-on-reads.Asked,
+  pass-on-reads.Learnt,
+  expression-below t,
+  expression.Post,
+  pack-reads.Asked,
+  pack-reads.Learnt,
+  finish-reads.Asked,
+  finish-reads.Learnt,
+) (simple-at t) simple.Post
+simple-enum-known-n-2 t c = search needs
+
+-- src/lib.rt:252:1
 simple-same-length-3 : (t : ℕ) → simple-lts.Need-same-length-3 (
   last-of-reads.Asked,
   last-of-reads.Learnt,
   fast-value-reads.Asked,
   fast-value-reads.Learnt,
-  finish-plain-reads.Asked,
-  finish-plain-reads.Learnt,
+  tag-of-reads.Asked,
+  tag-of-reads.Learnt,
+  extra-of-reads.Asked,
+  extra-of-reads.Learnt,
+  put-word-reads.Asked,
+  put-word-reads.Learnt,
+  pass-on-reads.Asked,
+  pass-on-reads.Learnt,
   expression-below t,
   expression.Post,
   pack-reads.Asked,
@@ -3377,31 +3783,20 @@ simple-same-length-3 : (t : ℕ) → simple-lts.Need-same-length-3 (
 ) (simple-at t) simple.Post
 simple-same-length-3 t c = search needs
 
--- src/lib.rt:247:1
-simple-returns-2 : (t : ℕ) → simple-lts.Need-returns-2 (
-  last-of-reads.Asked,
-  last-of-reads.Learnt,
-  fast-value-reads.Asked,
-  fast-value-reads.Learnt,
-  finish-plain-reads.Asked,
-  finish-plain-reads.Learnt,
-  expression-below t,
-  expression.Post,
-  pack-reads.Asked,
-  pack-reads.Learnt,
-  finish-reads.Asked,
-  finish-reads.Learnt,
-) (simple-at t) simple.Post
-simple-returns-2 t c = simple-done _ _ _ _ _ _ _ _ _ _ (c .before .before .before .before .before .before .before .before .before .before .before .before .before .before .before .before .before .before .fast-value .ensures) (c .before .before .before .before .before .before .before .before .before .before .before .before .before .before .before .if1 .left) _ _ _ (c .before .before .before .before .before .before .before .before .before .before .before .before .expression .ensures) _ _ _ _ _ _ (c .before .before .before .before .before .before .before .before .before .before .before .before .before .before .before .before .before .before .before .before .last-of .ensures .0) (c .before .before .before .before .before .before .v .given .1) (c .before .before .before .pack .ensures) (c .before .before .finish .ensures)
-
--- src/lib.rt:247:1
+-- src/lib.rt:252:1
 simple-same-length-4 : (t : ℕ) → simple-lts.Need-same-length-4 (
   last-of-reads.Asked,
   last-of-reads.Learnt,
   fast-value-reads.Asked,
   fast-value-reads.Learnt,
-  finish-plain-reads.Asked,
-  finish-plain-reads.Learnt,
+  tag-of-reads.Asked,
+  tag-of-reads.Learnt,
+  extra-of-reads.Asked,
+  extra-of-reads.Learnt,
+  put-word-reads.Asked,
+  put-word-reads.Learnt,
+  pass-on-reads.Asked,
+  pass-on-reads.Learnt,
   expression-below t,
   expression.Post,
   pack-reads.Asked,
@@ -3411,14 +3806,43 @@ simple-same-length-4 : (t : ℕ) → simple-lts.Need-same-length-4 (
 ) (simple-at t) simple.Post
 simple-same-length-4 t c = search needs
 
--- src/lib.rt:247:1
+-- src/lib.rt:252:1
+simple-returns-3 : (t : ℕ) → simple-lts.Need-returns-3 (
+  last-of-reads.Asked,
+  last-of-reads.Learnt,
+  fast-value-reads.Asked,
+  fast-value-reads.Learnt,
+  tag-of-reads.Asked,
+  tag-of-reads.Learnt,
+  extra-of-reads.Asked,
+  extra-of-reads.Learnt,
+  put-word-reads.Asked,
+  put-word-reads.Learnt,
+  pass-on-reads.Asked,
+  pass-on-reads.Learnt,
+  expression-below t,
+  expression.Post,
+  pack-reads.Asked,
+  pack-reads.Learnt,
+  finish-reads.Asked,
+  finish-reads.Learnt,
+) (simple-at t) simple.Post
+simple-returns-3 t c = simple-done _ _ _ _ _ _ _ _ _ _ (c .before .before .before .before .before .before .before .before .before .before .before .before .before .before .before .before .before .before .before .before .fast-value .ensures) (c .before .before .before .before .before .before .before .before .before .before .before .before .before .before .before .before .before .if1 .left) _ _ _ (c .before .before .before .before .before .before .before .before .before .before .before .before .before .before .expression .ensures) _ _ _ _ _ _ _ (c .before .before .before .before .before .before .before .before .before .before .before .before .before .before .before .before .before .before .before .before .before .before .last-of .ensures .0) (c .before .before .before .before .before .before .before .before .v .given .1) (c .before .before .before .before .before .pack .ensures) (c .before .before .before .before .finish .ensures) (c .enum-told .given .1)
+
+-- src/lib.rt:252:1
 simple-same-length-5 : (t : ℕ) → simple-lts.Need-same-length-5 (
   last-of-reads.Asked,
   last-of-reads.Learnt,
   fast-value-reads.Asked,
   fast-value-reads.Learnt,
-  finish-plain-reads.Asked,
-  finish-plain-reads.Learnt,
+  tag-of-reads.Asked,
+  tag-of-reads.Learnt,
+  extra-of-reads.Asked,
+  extra-of-reads.Learnt,
+  put-word-reads.Asked,
+  put-word-reads.Learnt,
+  pass-on-reads.Asked,
+  pass-on-reads.Learnt,
   expression-below t,
   expression.Post,
   pack-reads.Asked,
@@ -3428,14 +3852,20 @@ simple-same-length-5 : (t : ℕ) → simple-lts.Need-same-length-5 (
 ) (simple-at t) simple.Post
 simple-same-length-5 t c = search needs
 
--- src/lib.rt:247:1
-simple-returns-3 : (t : ℕ) → simple-lts.Need-returns-3 (
+-- src/lib.rt:252:1
+simple-same-length-6 : (t : ℕ) → simple-lts.Need-same-length-6 (
   last-of-reads.Asked,
   last-of-reads.Learnt,
   fast-value-reads.Asked,
   fast-value-reads.Learnt,
-  finish-plain-reads.Asked,
-  finish-plain-reads.Learnt,
+  tag-of-reads.Asked,
+  tag-of-reads.Learnt,
+  extra-of-reads.Asked,
+  extra-of-reads.Learnt,
+  put-word-reads.Asked,
+  put-word-reads.Learnt,
+  pass-on-reads.Asked,
+  pass-on-reads.Learnt,
   expression-below t,
   expression.Post,
   pack-reads.Asked,
@@ -3443,9 +3873,170 @@ simple-returns-3 : (t : ℕ) → simple-lts.Need-returns-3 (
   finish-reads.Asked,
   finish-reads.Learnt,
 ) (simple-at t) simple.Post
-simple-returns-3 t c = simple-stops _ _ _ _ _ _ _ _ _ _ (c .before .before .before .before .before .before .before .before .before .before .before .before .before .fast-value .ensures) (c .before .before .before .before .before .before .before .before .before .before .if1 .left) _ _ _ (c .before .before .before .before .before .before .before .expression .ensures) _ _ _ _ (c .before .before .before .before .before .before .before .before .before .before .before .before .before .before .before .last-of .ensures .0) (c .before .n .given .1)
+simple-same-length-6 t c = search needs
 
--- src/lib.rt:366:9
+-- src/lib.rt:252:1
+simple-returns-4 : (t : ℕ) → simple-lts.Need-returns-4 (
+  last-of-reads.Asked,
+  last-of-reads.Learnt,
+  fast-value-reads.Asked,
+  fast-value-reads.Learnt,
+  tag-of-reads.Asked,
+  tag-of-reads.Learnt,
+  extra-of-reads.Asked,
+  extra-of-reads.Learnt,
+  put-word-reads.Asked,
+  put-word-reads.Learnt,
+  pass-on-reads.Asked,
+  pass-on-reads.Learnt,
+  expression-below t,
+  expression.Post,
+  pack-reads.Asked,
+  pack-reads.Learnt,
+  finish-reads.Asked,
+  finish-reads.Learnt,
+) (simple-at t) simple.Post
+simple-returns-4 t c = simple-done _ _ _ _ _ _ _ _ _ _ (c .before .before .before .before .before .before .before .before .before .before .before .before .before .before .before .before .before .before .before .before .before .fast-value .ensures) (c .before .before .before .before .before .before .before .before .before .before .before .before .before .before .before .before .before .before .if1 .left) _ _ _ (c .before .before .before .before .before .before .before .before .before .before .before .before .before .before .before .expression .ensures) _ _ _ _ _ _ _ (c .before .before .before .before .before .before .before .before .before .before .before .before .before .before .before .before .before .before .before .before .before .before .before .last-of .ensures .0) (c .before .before .before .before .before .before .before .before .before .v .given .1) (c .before .before .before .before .before .before .pack .ensures) (c .before .before .before .before .before .finish .ensures) (c .before .u .given .1)
+
+-- src/lib.rt:252:1
+simple-same-length-7 : (t : ℕ) → simple-lts.Need-same-length-7 (
+  last-of-reads.Asked,
+  last-of-reads.Learnt,
+  fast-value-reads.Asked,
+  fast-value-reads.Learnt,
+  tag-of-reads.Asked,
+  tag-of-reads.Learnt,
+  extra-of-reads.Asked,
+  extra-of-reads.Learnt,
+  put-word-reads.Asked,
+  put-word-reads.Learnt,
+  pass-on-reads.Asked,
+  pass-on-reads.Learnt,
+  expression-below t,
+  expression.Post,
+  pack-reads.Asked,
+  pack-reads.Learnt,
+  finish-reads.Asked,
+  finish-reads.Learnt,
+) (simple-at t) simple.Post
+simple-same-length-7 t c = search needs
+
+-- src/lib.rt:252:1
+simple-same-length-8 : (t : ℕ) → simple-lts.Need-same-length-8 (
+  last-of-reads.Asked,
+  last-of-reads.Learnt,
+  fast-value-reads.Asked,
+  fast-value-reads.Learnt,
+  tag-of-reads.Asked,
+  tag-of-reads.Learnt,
+  extra-of-reads.Asked,
+  extra-of-reads.Learnt,
+  put-word-reads.Asked,
+  put-word-reads.Learnt,
+  pass-on-reads.Asked,
+  pass-on-reads.Learnt,
+  expression-below t,
+  expression.Post,
+  pack-reads.Asked,
+  pack-reads.Learnt,
+  finish-reads.Asked,
+  finish-reads.Learnt,
+) (simple-at t) simple.Post
+simple-same-length-8 t c = search needs
+
+-- src/lib.rt:252:1
+simple-returns-5 : (t : ℕ) → simple-lts.Need-returns-5 (
+  last-of-reads.Asked,
+  last-of-reads.Learnt,
+  fast-value-reads.Asked,
+  fast-value-reads.Learnt,
+  tag-of-reads.Asked,
+  tag-of-reads.Learnt,
+  extra-of-reads.Asked,
+  extra-of-reads.Learnt,
+  put-word-reads.Asked,
+  put-word-reads.Learnt,
+  pass-on-reads.Asked,
+  pass-on-reads.Learnt,
+  expression-below t,
+  expression.Post,
+  pack-reads.Asked,
+  pack-reads.Learnt,
+  finish-reads.Asked,
+  finish-reads.Learnt,
+) (simple-at t) simple.Post
+simple-returns-5 t c = simple-done _ _ _ _ _ _ _ _ _ _ (c .before .before .before .before .before .before .before .before .before .before .before .before .before .before .before .before .before .before .before .before .before .fast-value .ensures) (c .before .before .before .before .before .before .before .before .before .before .before .before .before .before .before .before .before .before .if1 .left) _ _ _ (c .before .before .before .before .before .before .before .before .before .before .before .before .before .before .before .expression .ensures) _ _ _ _ _ _ _ (c .before .before .before .before .before .before .before .before .before .before .before .before .before .before .before .before .before .before .before .before .before .before .before .last-of .ensures .0) (c .before .before .before .before .before .before .before .before .before .v .given .1) (c .before .before .before .before .before .before .pack .ensures) (c .before .before .before .before .before .finish .ensures) (c .before .n .given .1)
+
+-- src/lib.rt:252:1
+simple-same-length-9 : (t : ℕ) → simple-lts.Need-same-length-9 (
+  last-of-reads.Asked,
+  last-of-reads.Learnt,
+  fast-value-reads.Asked,
+  fast-value-reads.Learnt,
+  tag-of-reads.Asked,
+  tag-of-reads.Learnt,
+  extra-of-reads.Asked,
+  extra-of-reads.Learnt,
+  put-word-reads.Asked,
+  put-word-reads.Learnt,
+  pass-on-reads.Asked,
+  pass-on-reads.Learnt,
+  expression-below t,
+  expression.Post,
+  pack-reads.Asked,
+  pack-reads.Learnt,
+  finish-reads.Asked,
+  finish-reads.Learnt,
+) (simple-at t) simple.Post
+simple-same-length-9 t c = search needs
+
+-- src/lib.rt:252:1
+simple-same-length-10 : (t : ℕ) → simple-lts.Need-same-length-10 (
+  last-of-reads.Asked,
+  last-of-reads.Learnt,
+  fast-value-reads.Asked,
+  fast-value-reads.Learnt,
+  tag-of-reads.Asked,
+  tag-of-reads.Learnt,
+  extra-of-reads.Asked,
+  extra-of-reads.Learnt,
+  put-word-reads.Asked,
+  put-word-reads.Learnt,
+  pass-on-reads.Asked,
+  pass-on-reads.Learnt,
+  expression-below t,
+  expression.Post,
+  pack-reads.Asked,
+  pack-reads.Learnt,
+  finish-reads.Asked,
+  finish-reads.Learnt,
+) (simple-at t) simple.Post
+simple-same-length-10 t c = search needs
+
+-- src/lib.rt:252:1
+simple-returns-6 : (t : ℕ) → simple-lts.Need-returns-6 (
+  last-of-reads.Asked,
+  last-of-reads.Learnt,
+  fast-value-reads.Asked,
+  fast-value-reads.Learnt,
+  tag-of-reads.Asked,
+  tag-of-reads.Learnt,
+  extra-of-reads.Asked,
+  extra-of-reads.Learnt,
+  put-word-reads.Asked,
+  put-word-reads.Learnt,
+  pass-on-reads.Asked,
+  pass-on-reads.Learnt,
+  expression-below t,
+  expression.Post,
+  pack-reads.Asked,
+  pack-reads.Learnt,
+  finish-reads.Asked,
+  finish-reads.Learnt,
+) (simple-at t) simple.Post
+simple-returns-6 t c = simple-stops _ _ _ _ _ _ _ _ _ _ (c .before .before .before .before .before .before .before .before .before .before .before .before .before .fast-value .ensures) (c .before .before .before .before .before .before .before .before .before .before .if1 .left) _ _ _ (c .before .before .before .before .before .before .before .expression .ensures) _ _ _ _ (c .before .before .before .before .before .before .before .before .before .before .before .before .before .before .before .last-of .ensures .0) (c .before .n2 .given .1)
+
+-- src/lib.rt:376:9
 statement-returns : (t : ℕ) → statement-lts.Need-returns (
   word-at-reads.Asked,
   word-at-reads.Learnt,
@@ -3476,7 +4067,7 @@ statement-returns : (t : ℕ) → statement-lts.Need-returns (
 ) (statement-at t) statement′.Post
 statement-returns t c = search statement-too-deep
 
--- src/lib.rt:368:9
+-- src/lib.rt:378:9
 statement-word-at-requires : (t : ℕ) → statement-lts.Need-word-at-requires (
   word-at-reads.Asked,
   word-at-reads.Learnt,
@@ -3507,7 +4098,7 @@ statement-word-at-requires : (t : ℕ) → statement-lts.Need-word-at-requires (
 ) (statement-at t) statement′.Post
 statement-word-at-requires t c κs = search needs
 
--- src/lib.rt:369:9
+-- src/lib.rt:379:9
 statement-place-of-requires : (t : ℕ) → statement-lts.Need-place-of-requires (
   word-at-reads.Asked,
   word-at-reads.Learnt,
@@ -3538,7 +4129,7 @@ statement-place-of-requires : (t : ℕ) → statement-lts.Need-place-of-requires
 ) (statement-at t) statement′.Post
 statement-place-of-requires t c κs = search needs
 
--- src/lib.rt:370:9
+-- src/lib.rt:380:9
 statement-tag-of-requires : (t : ℕ) → statement-lts.Need-tag-of-requires (
   word-at-reads.Asked,
   word-at-reads.Learnt,
@@ -3569,7 +4160,7 @@ statement-tag-of-requires : (t : ℕ) → statement-lts.Need-tag-of-requires (
 ) (statement-at t) statement′.Post
 statement-tag-of-requires t c κs = search needs
 
--- src/lib.rt:378:13
+-- src/lib.rt:388:13
 statement-sub-repeat : (t : ℕ) → statement-lts.Need-sub-repeat (
   word-at-reads.Asked,
   word-at-reads.Learnt,
@@ -3600,7 +4191,7 @@ statement-sub-repeat : (t : ℕ) → statement-lts.Need-sub-repeat (
 ) (statement-at t) statement′.Post
 statement-sub-repeat t c = search needs
 
--- src/lib.rt:379:17
+-- src/lib.rt:389:17
 statement-extra-of-requires : (t : ℕ) → statement-lts.Need-extra-of-requires (
   word-at-reads.Asked,
   word-at-reads.Learnt,
@@ -3631,7 +4222,7 @@ statement-extra-of-requires : (t : ℕ) → statement-lts.Need-extra-of-requires
 ) (statement-at t) statement′.Post
 statement-extra-of-requires t c κs = search needs
 
--- src/lib.rt:379:13
+-- src/lib.rt:389:13
 statement-add-repeat : (t : ℕ) → statement-lts.Need-add-repeat (
   word-at-reads.Asked,
   word-at-reads.Learnt,
@@ -3662,7 +4253,7 @@ statement-add-repeat : (t : ℕ) → statement-lts.Need-add-repeat (
 ) (statement-at t) statement′.Post
 statement-add-repeat t c = omega (arith, c .before .before .before .before .before .before .before .before .before .before .before .before .pre .1 .room, c .extra-of .ensures .1)
 
--- src/lib.rt:372:13
+-- src/lib.rt:382:13
 statement-repeat-requires : (t : ℕ) → statement-lts.Need-repeat-requires (
   word-at-reads.Asked,
   word-at-reads.Learnt,
@@ -3693,7 +4284,7 @@ statement-repeat-requires : (t : ℕ) → statement-lts.Need-repeat-requires (
 ) (statement-at t) statement′.Post
 statement-repeat-requires t c κs = (omega arith, record { lent = record { lent = c .before .before .before .before .before .before .before .before .before .before .before .before .pre .1 .lent .lent; deep = omega (arith, c .before .before .before .before .before .before .before .before .before .before .before .before .pre .1 .lent .deep) }; room = omega (arith, c .before .before .before .before .before .before .before .before .before .before .before .before .pre .1 .room, c .extra-of .ensures .1, c .before .before .before .before .before .before .before .if1 .left) })
 
--- src/lib.rt:382:9
+-- src/lib.rt:392:9
 statement-same-length : (t : ℕ) → statement-lts.Need-same-length (
   word-at-reads.Asked,
   word-at-reads.Learnt,
@@ -3724,7 +4315,7 @@ statement-same-length : (t : ℕ) → statement-lts.Need-same-length (
 ) (statement-at t) statement′.Post
 statement-same-length t c = search needs
 
--- src/lib.rt:382:9
+-- src/lib.rt:392:9
 statement-same-length-2 : (t : ℕ) → statement-lts.Need-same-length-2 (
   word-at-reads.Asked,
   word-at-reads.Learnt,
@@ -3755,7 +4346,7 @@ statement-same-length-2 : (t : ℕ) → statement-lts.Need-same-length-2 (
 ) (statement-at t) statement′.Post
 statement-same-length-2 t c = search needs
 
--- src/lib.rt:382:9
+-- src/lib.rt:392:9
 statement-returns-2 : (t : ℕ) → statement-lts.Need-returns-2 (
   word-at-reads.Asked,
   word-at-reads.Learnt,
@@ -3786,7 +4377,7 @@ statement-returns-2 : (t : ℕ) → statement-lts.Need-returns-2 (
 ) (statement-at t) statement′.Post
 statement-returns-2 t c = is-loop _ _ _ _ _ _ _ (c .before .before .before .before .before .before .before .before .before .before .before .before .if1 .left) _ (c .before .before .before .before .before .before .before .before .before .before .before .word-at .ensures) _ (c .before .before .before .before .before .before .before .before .before .before .place-of .ensures) _ (c .before .before .before .before .before .before .before .before .before .tag-of .ensures) _ _ (c .before .before .before .before .before .before .before .before .if2 .taken) (c .before .before .before .before .before .extra-of .ensures .0) (c .before .before .before .before .repeat .ensures)
 
--- src/lib.rt:384:9
+-- src/lib.rt:394:9
 statement-count-requires : (t : ℕ) → statement-lts.Need-count-requires (
   word-at-reads.Asked,
   word-at-reads.Learnt,
@@ -3817,7 +4408,7 @@ statement-count-requires : (t : ℕ) → statement-lts.Need-count-requires (
 ) (statement-at t) statement′.Post
 statement-count-requires t c κs = omega (arith, c .before .before .before .before .before .before .before .before .before .before .pre .1 .lent .lent .room .words)
 
--- src/lib.rt:385:9
+-- src/lib.rt:395:9
 statement-same-length-3 : (t : ℕ) → statement-lts.Need-same-length-3 (
   word-at-reads.Asked,
   word-at-reads.Learnt,
@@ -3848,7 +4439,7 @@ statement-same-length-3 : (t : ℕ) → statement-lts.Need-same-length-3 (
 ) (statement-at t) statement′.Post
 statement-same-length-3 t c = search needs
 
--- src/lib.rt:385:9
+-- src/lib.rt:395:9
 statement-returns-3 : (t : ℕ) → statement-lts.Need-returns-3 (
   word-at-reads.Asked,
   word-at-reads.Learnt,
@@ -3879,7 +4470,7 @@ statement-returns-3 : (t : ℕ) → statement-lts.Need-returns-3 (
 ) (statement-at t) statement′.Post
 statement-returns-3 t c = statement-no-step _ _ _ _ _ _ _ (c .before .before .before .before .before .before .before .before .before .if1 .left) _ (c .before .before .before .before .before .before .before .before .word-at .ensures) _ (c .before .before .before .before .before .before .before .place-of .ensures) _ (c .before .before .before .before .before .before .tag-of .ensures) (c .before .before .before .before .before .if2 .left) _ _ (c .before .before .before .count .ensures) (c .if3 .taken)
 
--- src/lib.rt:389:45
+-- src/lib.rt:399:45
 statement-extra-of-requires-2 : (t : ℕ) → statement-lts.Need-extra-of-requires-2 (
   word-at-reads.Asked,
   word-at-reads.Learnt,
@@ -3910,7 +4501,7 @@ statement-extra-of-requires-2 : (t : ℕ) → statement-lts.Need-extra-of-requir
 ) (statement-at t) statement′.Post
 statement-extra-of-requires-2 t c κs = search needs
 
--- src/lib.rt:389:17
+-- src/lib.rt:399:17
 statement-declare-requires : (t : ℕ) → statement-lts.Need-declare-requires (
   word-at-reads.Asked,
   word-at-reads.Learnt,
@@ -3941,7 +4532,7 @@ statement-declare-requires : (t : ℕ) → statement-lts.Need-declare-requires (
 ) (statement-at t) statement′.Post
 statement-declare-requires t c κs = let b = c .before .before .before .before .before .words2 in omega (arith, c .before .before .before .before .before .before .before .before .before .before .before .before .before .before .before .before .before .pre .1 .lent .lent .room .words)
 
--- src/lib.rt:399:17
+-- src/lib.rt:409:17
 statement-sub-update : (t : ℕ) → statement-lts.Need-sub-update (
   word-at-reads.Asked,
   word-at-reads.Learnt,
@@ -3972,7 +4563,7 @@ statement-sub-update : (t : ℕ) → statement-lts.Need-sub-update (
 ) (statement-at t) statement′.Post
 statement-sub-update t c = search needs
 
--- src/lib.rt:400:17
+-- src/lib.rt:410:17
 statement-last-of-requires : (t : ℕ) → statement-lts.Need-last-of-requires (
   word-at-reads.Asked,
   word-at-reads.Learnt,
@@ -4003,7 +4594,7 @@ statement-last-of-requires : (t : ℕ) → statement-lts.Need-last-of-requires (
 ) (statement-at t) statement′.Post
 statement-last-of-requires t c κs = omega (arith, c .before .before .before .before .before .before .before .before .before .before .before .before .before .before .before .before .before .pre .1 .room)
 
--- src/lib.rt:393:17
+-- src/lib.rt:403:17
 statement-update-requires : (t : ℕ) → statement-lts.Need-update-requires (
   word-at-reads.Asked,
   word-at-reads.Learnt,
@@ -4034,7 +4625,7 @@ statement-update-requires : (t : ℕ) → statement-lts.Need-update-requires (
 ) (statement-at t) statement′.Post
 statement-update-requires t c κs = (omega arith, record { lent = still-lent-words _ _ _ _ (c .before .before .before .before .before .before .before .before .before .before .before .before .before .before .before .before .before .before .pre .1 .lent .lent) (let a0 = c .before .before .before .before .before .before .words2 in omega arith); deep = omega (arith, c .before .before .before .before .before .before .before .before .before .before .before .before .before .before .before .before .before .before .pre .1 .lent .deep) })
 
--- src/lib.rt:412:17
+-- src/lib.rt:422:17
 statement-sub-when : (t : ℕ) → statement-lts.Need-sub-when (
   word-at-reads.Asked,
   word-at-reads.Learnt,
@@ -4065,7 +4656,7 @@ statement-sub-when : (t : ℕ) → statement-lts.Need-sub-when (
 ) (statement-at t) statement′.Post
 statement-sub-when t c = search needs
 
--- src/lib.rt:413:21
+-- src/lib.rt:423:21
 statement-extra-of-requires-3 : (t : ℕ) → statement-lts.Need-extra-of-requires-3 (
   word-at-reads.Asked,
   word-at-reads.Learnt,
@@ -4096,7 +4687,7 @@ statement-extra-of-requires-3 : (t : ℕ) → statement-lts.Need-extra-of-requir
 ) (statement-at t) statement′.Post
 statement-extra-of-requires-3 t c κs = search needs
 
--- src/lib.rt:413:17
+-- src/lib.rt:423:17
 statement-add-when : (t : ℕ) → statement-lts.Need-add-when (
   word-at-reads.Asked,
   word-at-reads.Learnt,
@@ -4127,7 +4718,7 @@ statement-add-when : (t : ℕ) → statement-lts.Need-add-when (
 ) (statement-at t) statement′.Post
 statement-add-when t c = omega (arith, c .before .before .before .before .before .before .before .before .before .before .before .before .before .before .before .before .before .before .pre .1 .room, c .extra-of3 .ensures .1)
 
--- src/lib.rt:406:17
+-- src/lib.rt:416:17
 statement-when-requires : (t : ℕ) → statement-lts.Need-when-requires (
   word-at-reads.Asked,
   word-at-reads.Learnt,
@@ -4158,7 +4749,7 @@ statement-when-requires : (t : ℕ) → statement-lts.Need-when-requires (
 ) (statement-at t) statement′.Post
 statement-when-requires t c κs = (omega arith, record { lent = record { lent = still-lent-words _ _ _ _ (c .before .before .before .before .before .before .before .before .before .before .before .before .before .before .before .before .before .before .pre .1 .lent .lent) (let a0 = c .before .before .before .before .before .before .words2 in omega arith); deep = omega (arith, c .before .before .before .before .before .before .before .before .before .before .before .before .before .before .before .before .before .before .pre .1 .lent .deep) }; room = omega (arith, c .before .before .before .before .before .before .before .before .before .before .before .before .before .before .before .before .before .before .pre .1 .room, c .extra-of3 .ensures .1, c .before .before .before .before .before .before .before .before .before .before .before .before .before .if1 .left) })
 
--- src/lib.rt:419:17
+-- src/lib.rt:429:17
 statement-size-of-requires : (t : ℕ) → statement-lts.Need-size-of-requires (
   word-at-reads.Asked,
   word-at-reads.Learnt,
@@ -4189,7 +4780,7 @@ statement-size-of-requires : (t : ℕ) → statement-lts.Need-size-of-requires (
 ) (statement-at t) statement′.Post
 statement-size-of-requires t c κs = search needs
 
--- src/lib.rt:426:17
+-- src/lib.rt:436:17
 statement-sub-statements : (t : ℕ) → statement-lts.Need-sub-statements (
   word-at-reads.Asked,
   word-at-reads.Learnt,
@@ -4220,7 +4811,7 @@ statement-sub-statements : (t : ℕ) → statement-lts.Need-sub-statements (
 ) (statement-at t) statement′.Post
 statement-sub-statements t c = search needs
 
--- src/lib.rt:427:17
+-- src/lib.rt:437:17
 statement-add-statements : (t : ℕ) → statement-lts.Need-add-statements (
   word-at-reads.Asked,
   word-at-reads.Learnt,
@@ -4251,7 +4842,7 @@ statement-add-statements : (t : ℕ) → statement-lts.Need-add-statements (
 ) (statement-at t) statement′.Post
 statement-add-statements t c = omega (arith, c .before .before .before .before .before .before .before .before .before .before .before .before .before .before .before .before .before .before .pre .1 .room, c .before .before .size-of .ensures, c .before .before .before .before .before .before .before .before .before .before .before .before .before .if1 .left)
 
--- src/lib.rt:428:17
+-- src/lib.rt:438:17
 statement-add-statements-2 : (t : ℕ) → statement-lts.Need-add-statements-2 (
   word-at-reads.Asked,
   word-at-reads.Learnt,
@@ -4282,7 +4873,7 @@ statement-add-statements-2 : (t : ℕ) → statement-lts.Need-add-statements-2 (
 ) (statement-at t) statement′.Post
 statement-add-statements-2 t c = omega (arith, c .before .before .before .before .before .before .before .before .before .before .before .before .before .before .before .before .before .before .pre .1 .room, c .before .before .size-of .ensures, c .before .before .before .before .before .before .before .before .before .before .before .before .before .if1 .left)
 
--- src/lib.rt:429:17
+-- src/lib.rt:439:17
 statement-add-statements-3 : (t : ℕ) → statement-lts.Need-add-statements-3 (
   word-at-reads.Asked,
   word-at-reads.Learnt,
@@ -4313,7 +4904,7 @@ statement-add-statements-3 : (t : ℕ) → statement-lts.Need-add-statements-3 (
 ) (statement-at t) statement′.Post
 statement-add-statements-3 t c = omega (arith, c .before .before .before .before .before .before .before .before .before .before .before .before .before .before .before .before .before .before .pre .1 .room, c .before .before .size-of .ensures, c .before .before .before .before .before .before .before .before .before .before .before .before .before .if1 .left)
 
--- src/lib.rt:420:17
+-- src/lib.rt:430:17
 statement-statements-requires : (t : ℕ) → statement-lts.Need-statements-requires (
   word-at-reads.Asked,
   word-at-reads.Learnt,
@@ -4344,7 +4935,7 @@ statement-statements-requires : (t : ℕ) → statement-lts.Need-statements-requ
 ) (statement-at t) statement′.Post
 statement-statements-requires t c κs = (omega arith, record { lent = record { lent = still-lent-words _ _ _ _ (c .before .before .before .before .before .before .before .before .before .before .before .before .before .before .before .before .before .before .pre .1 .lent .lent) (let a0 = c .before .before .before .before .before .before .words2 in omega arith); deep = omega (arith, c .before .before .before .before .before .before .before .before .before .before .before .before .before .before .before .before .before .before .pre .1 .lent .deep) }; room = omega (arith, c .before .before .before .before .before .before .before .before .before .before .before .before .before .before .before .before .before .before .pre .1 .room, c .before .before .size-of .ensures, c .before .before .before .before .before .before .before .before .before .before .before .before .before .if1 .left) })
 
--- src/lib.rt:434:65
+-- src/lib.rt:444:65
 statement-sub-simple : (t : ℕ) → statement-lts.Need-sub-simple (
   word-at-reads.Asked,
   word-at-reads.Learnt,
@@ -4375,7 +4966,7 @@ statement-sub-simple : (t : ℕ) → statement-lts.Need-sub-simple (
 ) (statement-at t) statement′.Post
 statement-sub-simple t c = search needs
 
--- src/lib.rt:434:17
+-- src/lib.rt:444:17
 statement-simple-requires : (t : ℕ) → statement-lts.Need-simple-requires (
   word-at-reads.Asked,
   word-at-reads.Learnt,
@@ -4406,7 +4997,7 @@ statement-simple-requires : (t : ℕ) → statement-lts.Need-simple-requires (
 ) (statement-at t) statement′.Post
 statement-simple-requires t c κs = (omega arith, record { lent = record { lent = still-lent-words _ _ _ _ (c .before .before .before .before .before .before .before .before .before .before .before .before .before .before .before .before .before .pre .1 .lent .lent) (let a0 = c .before .before .before .before .before .words2 in omega arith); deep = omega (arith, c .before .before .before .before .before .before .before .before .before .before .before .before .before .before .before .before .before .pre .1 .lent .deep) }; room = omega (arith, c .before .before .before .before .before .before .before .before .before .before .before .before .before .before .before .before .before .pre .1 .room) })
 
--- src/lib.rt:352:1
+-- src/lib.rt:362:1
 statement-same-length-4 : (t : ℕ) → statement-lts.Need-same-length-4 (
   word-at-reads.Asked,
   word-at-reads.Learnt,
@@ -4437,7 +5028,7 @@ statement-same-length-4 : (t : ℕ) → statement-lts.Need-same-length-4 (
 ) (statement-at t) statement′.Post
 statement-same-length-4 t c = search needs
 
--- src/lib.rt:352:1
+-- src/lib.rt:362:1
 statement-returns-4 : (t : ℕ) → statement-lts.Need-returns-4 (
   word-at-reads.Asked,
   word-at-reads.Learnt,
@@ -4468,7 +5059,7 @@ statement-returns-4 : (t : ℕ) → statement-lts.Need-returns-4 (
 ) (statement-at t) statement′.Post
 statement-returns-4 t c = is-declaration _ _ _ _ _ _ _ (c .before .before .before .before .before .before .before .before .before .before .before .before .before .before .before .if1 .left) _ (c .before .before .before .before .before .before .before .before .before .before .before .before .before .before .word-at .ensures) _ (c .before .before .before .before .before .before .before .before .before .before .before .before .before .place-of .ensures) _ (c .before .before .before .before .before .before .before .before .before .before .before .before .tag-of .ensures) (c .before .before .before .before .before .before .before .before .before .before .before .if2 .left) _ _ (c .before .before .before .before .before .before .before .before .before .count .ensures) (c .before .before .before .before .before .before .if3 .left) _ _ _ (c .before .before .before .before .before .match .keys1) (c .before .before .before .extra-of2 .ensures .0) (c .before .before .declare .ensures)
 
--- src/lib.rt:352:1
+-- src/lib.rt:362:1
 statement-same-length-5 : (t : ℕ) → statement-lts.Need-same-length-5 (
   word-at-reads.Asked,
   word-at-reads.Learnt,
@@ -4499,7 +5090,7 @@ statement-same-length-5 : (t : ℕ) → statement-lts.Need-same-length-5 (
 ) (statement-at t) statement′.Post
 statement-same-length-5 t c = search needs
 
--- src/lib.rt:352:1
+-- src/lib.rt:362:1
 statement-same-length-6 : (t : ℕ) → statement-lts.Need-same-length-6 (
   word-at-reads.Asked,
   word-at-reads.Learnt,
@@ -4530,7 +5121,7 @@ statement-same-length-6 : (t : ℕ) → statement-lts.Need-same-length-6 (
 ) (statement-at t) statement′.Post
 statement-same-length-6 t c = search needs
 
--- src/lib.rt:352:1
+-- src/lib.rt:362:1
 statement-returns-5 : (t : ℕ) → statement-lts.Need-returns-5 (
   word-at-reads.Asked,
   word-at-reads.Learnt,
@@ -4561,7 +5152,7 @@ statement-returns-5 : (t : ℕ) → statement-lts.Need-returns-5 (
 ) (statement-at t) statement′.Post
 statement-returns-5 t c = is-update _ _ _ _ _ _ _ (c .before .before .before .before .before .before .before .before .before .before .before .before .before .before .before .before .before .before .if1 .left) _ (c .before .before .before .before .before .before .before .before .before .before .before .before .before .before .before .before .before .word-at .ensures) _ (c .before .before .before .before .before .before .before .before .before .before .before .before .before .before .before .before .place-of .ensures) _ (c .before .before .before .before .before .before .before .before .before .before .before .before .before .before .before .tag-of .ensures) (c .before .before .before .before .before .before .before .before .before .before .before .before .before .before .if2 .left) _ _ (c .before .before .before .before .before .before .before .before .before .before .before .before .count .ensures) (c .before .before .before .before .before .before .before .before .before .if3 .left) _ _ (c .before .before .before .before .before .before .before .before .match .keys2) (c .before .before .before .before .before .last-of .ensures .0) (c .before .before .before .before .update .ensures)
 
--- src/lib.rt:352:1
+-- src/lib.rt:362:1
 statement-same-length-7 : (t : ℕ) → statement-lts.Need-same-length-7 (
   word-at-reads.Asked,
   word-at-reads.Learnt,
@@ -4592,7 +5183,7 @@ statement-same-length-7 : (t : ℕ) → statement-lts.Need-same-length-7 (
 ) (statement-at t) statement′.Post
 statement-same-length-7 t c = search needs
 
--- src/lib.rt:352:1
+-- src/lib.rt:362:1
 statement-same-length-8 : (t : ℕ) → statement-lts.Need-same-length-8 (
   word-at-reads.Asked,
   word-at-reads.Learnt,
@@ -4623,7 +5214,7 @@ statement-same-length-8 : (t : ℕ) → statement-lts.Need-same-length-8 (
 ) (statement-at t) statement′.Post
 statement-same-length-8 t c = search needs
 
--- src/lib.rt:352:1
+-- src/lib.rt:362:1
 statement-returns-6 : (t : ℕ) → statement-lts.Need-returns-6 (
   word-at-reads.Asked,
   word-at-reads.Learnt,
@@ -4654,7 +5245,7 @@ statement-returns-6 : (t : ℕ) → statement-lts.Need-returns-6 (
 ) (statement-at t) statement′.Post
 statement-returns-6 t c = is-when _ _ _ _ _ _ _ (c .before .before .before .before .before .before .before .before .before .before .before .before .before .before .before .before .before .before .if1 .left) _ (c .before .before .before .before .before .before .before .before .before .before .before .before .before .before .before .before .before .word-at .ensures) _ (c .before .before .before .before .before .before .before .before .before .before .before .before .before .before .before .before .place-of .ensures) _ (c .before .before .before .before .before .before .before .before .before .before .before .before .before .before .before .tag-of .ensures) (c .before .before .before .before .before .before .before .before .before .before .before .before .before .before .if2 .left) _ _ (c .before .before .before .before .before .before .before .before .before .before .before .before .count .ensures) (c .before .before .before .before .before .before .before .before .before .if3 .left) _ _ (c .before .before .before .before .before .before .before .before .match .keys3) (c .before .before .before .before .before .extra-of3 .ensures .0) (c .before .before .before .before .when .ensures)
 
--- src/lib.rt:352:1
+-- src/lib.rt:362:1
 statement-same-length-9 : (t : ℕ) → statement-lts.Need-same-length-9 (
   word-at-reads.Asked,
   word-at-reads.Learnt,
@@ -4685,7 +5276,7 @@ statement-same-length-9 : (t : ℕ) → statement-lts.Need-same-length-9 (
 ) (statement-at t) statement′.Post
 statement-same-length-9 t c = search needs
 
--- src/lib.rt:352:1
+-- src/lib.rt:362:1
 statement-same-length-10 : (t : ℕ) → statement-lts.Need-same-length-10 (
   word-at-reads.Asked,
   word-at-reads.Learnt,
@@ -4716,7 +5307,7 @@ statement-same-length-10 : (t : ℕ) → statement-lts.Need-same-length-10 (
 ) (statement-at t) statement′.Post
 statement-same-length-10 t c = search needs
 
--- src/lib.rt:352:1
+-- src/lib.rt:362:1
 statement-returns-7 : (t : ℕ) → statement-lts.Need-returns-7 (
   word-at-reads.Asked,
   word-at-reads.Learnt,
@@ -4747,7 +5338,7 @@ statement-returns-7 : (t : ℕ) → statement-lts.Need-returns-7 (
 ) (statement-at t) statement′.Post
 statement-returns-7 t c = is-block _ _ _ _ _ _ _ (c .before .before .before .before .before .before .before .before .before .before .before .before .before .before .before .before .before .before .if1 .left) _ (c .before .before .before .before .before .before .before .before .before .before .before .before .before .before .before .before .before .word-at .ensures) _ (c .before .before .before .before .before .before .before .before .before .before .before .before .before .before .before .before .place-of .ensures) _ (c .before .before .before .before .before .before .before .before .before .before .before .before .before .before .before .tag-of .ensures) (c .before .before .before .before .before .before .before .before .before .before .before .before .before .before .if2 .left) _ _ (c .before .before .before .before .before .before .before .before .before .before .before .before .count .ensures) (c .before .before .before .before .before .before .before .before .before .if3 .left) _ _ (c .before .before .before .before .before .before .before .before .match .keys4) (c .before .before .before .before .before .before .before .size-of .ensures) (c .before .before .before .before .statements .ensures)
 
--- src/lib.rt:352:1
+-- src/lib.rt:362:1
 statement-same-length-11 : (t : ℕ) → statement-lts.Need-same-length-11 (
   word-at-reads.Asked,
   word-at-reads.Learnt,
@@ -4778,7 +5369,7 @@ statement-same-length-11 : (t : ℕ) → statement-lts.Need-same-length-11 (
 ) (statement-at t) statement′.Post
 statement-same-length-11 t c = search needs
 
--- src/lib.rt:352:1
+-- src/lib.rt:362:1
 statement-same-length-12 : (t : ℕ) → statement-lts.Need-same-length-12 (
   word-at-reads.Asked,
   word-at-reads.Learnt,
@@ -4809,7 +5400,7 @@ statement-same-length-12 : (t : ℕ) → statement-lts.Need-same-length-12 (
 ) (statement-at t) statement′.Post
 statement-same-length-12 t c = search needs
 
--- src/lib.rt:352:1
+-- src/lib.rt:362:1
 statement-returns-8 : (t : ℕ) → statement-lts.Need-returns-8 (
   word-at-reads.Asked,
   word-at-reads.Learnt,
@@ -4848,7 +5439,7 @@ abbrev statements-μ-loop : statements-lts.MeasureT-loop
 statements-μ-loop program code grants texts₀ words₀ fuel a end rounds at₀ left₀ texts words at left =
     left
 
--- src/lib.rt:519:5
+-- src/lib.rt:529:5
 statements-loop-holds : (t : ℕ) → statements-lts.Need-loop-holds (
   statement-below t,
   statement′.Post,
@@ -4859,7 +5450,7 @@ statements-loop-holds : (t : ℕ) → statements-lts.Need-loop-holds (
 ) (statements-at t) statements.Post statements-Inv-loop statements-μ-loop
 statements-loop-holds t c = all-first _ _ _ _ _ _ _ _ _ (c .before .before .before .before .pre .1)
 
--- src/lib.rt:520:9
+-- src/lib.rt:530:9
 statements-sub-left : (t : ℕ) → statements-lts.Need-sub-left (
   statement-below t,
   statement′.Post,
@@ -4870,7 +5461,7 @@ statements-sub-left : (t : ℕ) → statements-lts.Need-sub-left (
 ) (statements-at t) statements.Post statements-Inv-loop statements-μ-loop
 statements-sub-left t c = search needs
 
--- src/lib.rt:522:13
+-- src/lib.rt:532:13
 statements-same-length : (t : ℕ) → statements-lts.Need-same-length (
   statement-below t,
   statement′.Post,
@@ -4881,7 +5472,7 @@ statements-same-length : (t : ℕ) → statements-lts.Need-same-length (
 ) (statements-at t) statements.Post statements-Inv-loop statements-μ-loop
 statements-same-length t c = search needs
 
--- src/lib.rt:522:13
+-- src/lib.rt:532:13
 statements-same-length-2 : (t : ℕ) → statements-lts.Need-same-length-2 (
   statement-below t,
   statement′.Post,
@@ -4892,7 +5483,7 @@ statements-same-length-2 : (t : ℕ) → statements-lts.Need-same-length-2 (
 ) (statements-at t) statements.Post statements-Inv-loop statements-μ-loop
 statements-same-length-2 t c = search needs
 
--- src/lib.rt:522:13
+-- src/lib.rt:532:13
 statements-returns : (t : ℕ) → statements-lts.Need-returns (
   statement-below t,
   statement′.Post,
@@ -4903,7 +5494,7 @@ statements-returns : (t : ℕ) → statements-lts.Need-returns (
 ) (statements-at t) statements.Post statements-Inv-loop statements-μ-loop
 statements-returns t c = all-done _ _ _ _ _ _ _ _ _ _ _ _ _ (c .before .before .loop .inv) (c .before .loop-test .taken) (c .if1 .taken)
 
--- src/lib.rt:524:15
+-- src/lib.rt:534:15
 statements-statement-requires : (t : ℕ) → statements-lts.Need-statement-requires (
   statement-below t,
   statement′.Post,
@@ -4924,7 +5515,7 @@ statements-enum-told : (t : ℕ) → statements-lts.Need-enum-told (
 ) (statements-at t) statements.Post statements-Inv-loop statements-μ-loop
 statements-enum-told t c = search needs
 
--- src/lib.rt:526:28
+-- src/lib.rt:536:28
 statements-enum-known-v : (t : ℕ) → statements-lts.Need-enum-known-v (
   statement-below t,
   statement′.Post,
@@ -4935,7 +5526,7 @@ statements-enum-known-v : (t : ℕ) → statements-lts.Need-enum-known-v (
 ) (statements-at t) statements.Post statements-Inv-loop statements-μ-loop
 statements-enum-known-v t c = search needs
 
--- src/lib.rt:526:34
+-- src/lib.rt:536:34
 statements-same-length-3 : (t : ℕ) → statements-lts.Need-same-length-3 (
   statement-below t,
   statement′.Post,
@@ -4946,7 +5537,7 @@ statements-same-length-3 : (t : ℕ) → statements-lts.Need-same-length-3 (
 ) (statements-at t) statements.Post statements-Inv-loop statements-μ-loop
 statements-same-length-3 t c = search needs
 
--- src/lib.rt:526:34
+-- src/lib.rt:536:34
 statements-same-length-4 : (t : ℕ) → statements-lts.Need-same-length-4 (
   statement-below t,
   statement′.Post,
@@ -4957,7 +5548,7 @@ statements-same-length-4 : (t : ℕ) → statements-lts.Need-same-length-4 (
 ) (statements-at t) statements.Post statements-Inv-loop statements-μ-loop
 statements-same-length-4 t c = search needs
 
--- src/lib.rt:526:34
+-- src/lib.rt:536:34
 statements-returns-2 : (t : ℕ) → statements-lts.Need-returns-2 (
   statement-below t,
   statement′.Post,
@@ -4968,7 +5559,7 @@ statements-returns-2 : (t : ℕ) → statements-lts.Need-returns-2 (
 ) (statements-at t) statements.Post statements-Inv-loop statements-μ-loop
 statements-returns-2 t c = all-returns _ _ _ _ _ _ _ _ _ _ _ _ _ (c .before .before .before .before .before .before .before .before .before .before .before .before .loop .inv) (c .before .before .before .before .before .before .before .before .before .before .before .loop-test .taken) (c .before .before .before .before .before .before .before .before .before .before .if1 .left) _ _ _ (c .before .before .before .before .before .before .before .statement .ensures) _ (c .before .v .given .1)
 
--- src/lib.rt:527:27
+-- src/lib.rt:537:27
 statements-enum-known-n : (t : ℕ) → statements-lts.Need-enum-known-n (
   statement-below t,
   statement′.Post,
@@ -4979,7 +5570,7 @@ statements-enum-known-n : (t : ℕ) → statements-lts.Need-enum-known-n (
 ) (statements-at t) statements.Post statements-Inv-loop statements-μ-loop
 statements-enum-known-n t c = search needs
 
--- src/lib.rt:527:36
+-- src/lib.rt:537:36
 statements-same-length-5 : (t : ℕ) → statements-lts.Need-same-length-5 (
   statement-below t,
   statement′.Post,
@@ -4990,7 +5581,7 @@ statements-same-length-5 : (t : ℕ) → statements-lts.Need-same-length-5 (
 ) (statements-at t) statements.Post statements-Inv-loop statements-μ-loop
 statements-same-length-5 t c = search needs
 
--- src/lib.rt:527:36
+-- src/lib.rt:537:36
 statements-same-length-6 : (t : ℕ) → statements-lts.Need-same-length-6 (
   statement-below t,
   statement′.Post,
@@ -5001,7 +5592,7 @@ statements-same-length-6 : (t : ℕ) → statements-lts.Need-same-length-6 (
 ) (statements-at t) statements.Post statements-Inv-loop statements-μ-loop
 statements-same-length-6 t c = search needs
 
--- src/lib.rt:527:36
+-- src/lib.rt:537:36
 statements-returns-3 : (t : ℕ) → statements-lts.Need-returns-3 (
   statement-below t,
   statement′.Post,
@@ -5012,7 +5603,7 @@ statements-returns-3 : (t : ℕ) → statements-lts.Need-returns-3 (
 ) (statements-at t) statements.Post statements-Inv-loop statements-μ-loop
 statements-returns-3 t c = all-fails _ _ _ _ _ _ _ _ _ _ _ _ _ (c .before .before .before .before .before .before .before .before .before .before .before .before .loop .inv) (c .before .before .before .before .before .before .before .before .before .before .before .loop-test .taken) (c .before .before .before .before .before .before .before .before .before .before .if1 .left) _ _ _ (c .before .before .before .before .before .before .before .statement .ensures) _ _ (c .before .n .given .1)
 
--- src/lib.rt:529:29
+-- src/lib.rt:539:29
 statements-word-at-requires : (t : ℕ) → statements-lts.Need-word-at-requires (
   statement-below t,
   statement′.Post,
@@ -5023,7 +5614,7 @@ statements-word-at-requires : (t : ℕ) → statements-lts.Need-word-at-requires
 ) (statements-at t) statements.Post statements-Inv-loop statements-μ-loop
 statements-word-at-requires t c κs = search needs
 
--- src/lib.rt:529:15
+-- src/lib.rt:539:15
 statements-size-of-requires : (t : ℕ) → statements-lts.Need-size-of-requires (
   statement-below t,
   statement′.Post,
@@ -5034,7 +5625,7 @@ statements-size-of-requires : (t : ℕ) → statements-lts.Need-size-of-requires
 ) (statements-at t) statements.Post statements-Inv-loop statements-μ-loop
 statements-size-of-requires t c κs = search needs
 
--- src/lib.rt:529:9
+-- src/lib.rt:539:9
 statements-add-at : (t : ℕ) → statements-lts.Need-add-at (
   statement-below t,
   statement′.Post,
@@ -5045,7 +5636,7 @@ statements-add-at : (t : ℕ) → statements-lts.Need-add-at (
 ) (statements-at t) statements.Post statements-Inv-loop statements-μ-loop
 statements-add-at t c = omega (arith, c .before .before .before .before .before .before .before .before .before .before .before .before .before .before .before .before .before .before .pre .1 .room, c .before .before .before .before .before .before .before .before .before .before .before .if1 .left, c .size-of .ensures)
 
--- src/lib.rt:519:5
+-- src/lib.rt:529:5
 statements-loop-less : (t : ℕ) → statements-lts.Need-loop-less (
   statement-below t,
   statement′.Post,
@@ -5056,7 +5647,7 @@ statements-loop-less : (t : ℕ) → statements-lts.Need-loop-less (
 ) (statements-at t) statements.Post statements-Inv-loop statements-μ-loop
 statements-loop-less t c = omega arith
 
--- src/lib.rt:519:5
+-- src/lib.rt:529:5
 statements-loop-again : (t : ℕ) → statements-lts.Need-loop-again (
   statement-below t,
   statement′.Post,
@@ -5067,7 +5658,7 @@ statements-loop-again : (t : ℕ) → statements-lts.Need-loop-again (
 ) (statements-at t) statements.Post statements-Inv-loop statements-μ-loop
 statements-loop-again t c = all-again _ _ _ _ _ _ _ _ _ _ _ _ _ (c .before .before .before .before .before .before .before .before .before .before .before .before .before .loop .inv) (c .before .before .before .before .before .before .before .before .before .before .before .before .loop-test .taken) (c .before .before .before .before .before .before .before .before .before .before .before .if1 .left) _ _ _ (c .before .before .before .before .before .before .before .before .statement .ensures) _ _ (let a0 = c .before .before .before .before .before .before .before .texts in omega arith) (let a0 = c .before .before .before .before .before .words in omega arith) (c .before .before .enum-told .given .1) (c .before .word-at .ensures) (c .size-of .ensures)
 
--- src/lib.rt:502:1
+-- src/lib.rt:512:1
 statements-same-length-7 : (t : ℕ) → statements-lts.Need-same-length-7 (
   statement-below t,
   statement′.Post,
@@ -5078,7 +5669,7 @@ statements-same-length-7 : (t : ℕ) → statements-lts.Need-same-length-7 (
 ) (statements-at t) statements.Post statements-Inv-loop statements-μ-loop
 statements-same-length-7 t c = search needs
 
--- src/lib.rt:502:1
+-- src/lib.rt:512:1
 statements-same-length-8 : (t : ℕ) → statements-lts.Need-same-length-8 (
   statement-below t,
   statement′.Post,
@@ -5089,7 +5680,7 @@ statements-same-length-8 : (t : ℕ) → statements-lts.Need-same-length-8 (
 ) (statements-at t) statements.Post statements-Inv-loop statements-μ-loop
 statements-same-length-8 t c = search needs
 
--- src/lib.rt:502:1
+-- src/lib.rt:512:1
 statements-returns-4 : (t : ℕ) → statements-lts.Need-returns-4 (
   statement-below t,
   statement′.Post,
@@ -5100,7 +5691,46 @@ statements-returns-4 : (t : ℕ) → statements-lts.Need-returns-4 (
 ) (statements-at t) statements.Post statements-Inv-loop statements-μ-loop
 statements-returns-4 t c = all-short _ _ _ _ _ _ _ _ _ _ _ _ _ (c .before .loop .inv) (omega arith)
 
--- src/lib.rt:340:9
+-- src/lib.rt:349:16
+test-sub-code : (t : ℕ) → test-lts.Need-sub-code (
+  fast-value-reads.Asked,
+  fast-value-reads.Learnt,
+  outcome-of-reads.Asked,
+  outcome-of-reads.Learnt,
+  expression-below t,
+  expression.Post,
+  pack-reads.Asked,
+  pack-reads.Learnt,
+) (test-at t) test.Post
+test-sub-code t c = search needs
+
+-- src/lib.rt:349:16
+test-part-code-start : (t : ℕ) → test-lts.Need-part-code-start (
+  fast-value-reads.Asked,
+  fast-value-reads.Learnt,
+  outcome-of-reads.Asked,
+  outcome-of-reads.Learnt,
+  expression-below t,
+  expression.Post,
+  pack-reads.Asked,
+  pack-reads.Learnt,
+) (test-at t) test.Post
+test-part-code-start t c = search needs
+
+-- src/lib.rt:349:16
+test-part-code-end : (t : ℕ) → test-lts.Need-part-code-end (
+  fast-value-reads.Asked,
+  fast-value-reads.Learnt,
+  outcome-of-reads.Asked,
+  outcome-of-reads.Learnt,
+  expression-below t,
+  expression.Post,
+  pack-reads.Asked,
+  pack-reads.Learnt,
+) (test-at t) test.Post
+test-part-code-end t c = search needs
+
+-- src/lib.rt:350:9
 test-fast-value-requires : (t : ℕ) → test-lts.Need-fast-value-requires (
   fast-value-reads.Asked,
   fast-value-reads.Learnt,
@@ -5111,9 +5741,9 @@ test-fast-value-requires : (t : ℕ) → test-lts.Need-fast-value-requires (
   pack-reads.Asked,
   pack-reads.Learnt,
 ) (test-at t) test.Post
-test-fast-value-requires t c κs = omega (arith, c .before .before .before .before .before .pre .1 .lent .room .words)
+test-fast-value-requires t c κs = omega (arith, c .before .before .before .before .before .before .pre .1 .lent .room .words)
 
--- src/lib.rt:342:9
+-- src/lib.rt:352:9
 test-outcome-of-requires : (t : ℕ) → test-lts.Need-outcome-of-requires (
   fast-value-reads.Asked,
   fast-value-reads.Learnt,
@@ -5126,7 +5756,7 @@ test-outcome-of-requires : (t : ℕ) → test-lts.Need-outcome-of-requires (
 ) (test-at t) test.Post
 test-outcome-of-requires t c κs = search needs
 
--- src/lib.rt:342:9
+-- src/lib.rt:352:9
 test-same-length : (t : ℕ) → test-lts.Need-same-length (
   fast-value-reads.Asked,
   fast-value-reads.Learnt,
@@ -5139,7 +5769,7 @@ test-same-length : (t : ℕ) → test-lts.Need-same-length (
 ) (test-at t) test.Post
 test-same-length t c = search needs
 
--- src/lib.rt:342:9
+-- src/lib.rt:352:9
 test-returns : (t : ℕ) → test-lts.Need-returns (
   fast-value-reads.Asked,
   fast-value-reads.Learnt,
@@ -5150,9 +5780,9 @@ test-returns : (t : ℕ) → test-lts.Need-returns (
   pack-reads.Asked,
   pack-reads.Learnt,
 ) (test-at t) test.Post
-test-returns t c = test-fast _ _ _ _ _ _ _ _ _ _ (c .before .before .before .before .fast-value .ensures) (c .before .before .before .before .before .before .before .before .before .before .pre .1) (c .before .if1 .taken) _ (c .outcome-of .ensures)
+test-returns t c = test-fast _ _ _ _ _ _ _ _ _ _ (worked-anew _ _ _ _ _ _ _ (c .before .before .before .before .fast-value .ensures)) (c .before .before .before .before .before .before .before .before .before .before .before .pre .1) (c .before .if1 .taken) _ (c .outcome-of .ensures)
 
--- src/lib.rt:344:11
+-- src/lib.rt:354:11
 test-expression-requires : (t : ℕ) → test-lts.Need-expression-requires (
   fast-value-reads.Asked,
   fast-value-reads.Learnt,
@@ -5163,9 +5793,9 @@ test-expression-requires : (t : ℕ) → test-lts.Need-expression-requires (
   pack-reads.Asked,
   pack-reads.Learnt,
 ) (test-at t) test.Post
-test-expression-requires t c κs = (omega arith, slow-lent _ _ _ _ _ _ _ _ (c .before .before .before .before .before .fast-value .ensures) (c .before .before .if1 .left) (c .before .before .before .before .before .before .before .before .before .before .before .pre .1))
+test-expression-requires t c κs = (omega arith, slow-lent _ _ _ _ _ _ _ _ (c .before .before .before .before .before .fast-value .ensures) (c .before .before .if1 .left) (c .before .before .before .before .before .before .before .before .before .before .before .before .pre .1))
 
--- src/lib.rt:345:22
+-- src/lib.rt:355:22
 test-enum-known-v : (t : ℕ) → test-lts.Need-enum-known-v (
   fast-value-reads.Asked,
   fast-value-reads.Learnt,
@@ -5178,7 +5808,7 @@ test-enum-known-v : (t : ℕ) → test-lts.Need-enum-known-v (
 ) (test-at t) test.Post
 test-enum-known-v t c = search needs
 
--- src/lib.rt:345:48
+-- src/lib.rt:355:48
 test-pack-requires : (t : ℕ) → test-lts.Need-pack-requires (
   fast-value-reads.Asked,
   fast-value-reads.Learnt,
@@ -5191,7 +5821,7 @@ test-pack-requires : (t : ℕ) → test-lts.Need-pack-requires (
 ) (test-at t) test.Post
 test-pack-requires t c κs = search needs
 
--- src/lib.rt:345:28
+-- src/lib.rt:355:28
 test-outcome-of-requires-2 : (t : ℕ) → test-lts.Need-outcome-of-requires-2 (
   fast-value-reads.Asked,
   fast-value-reads.Learnt,
@@ -5204,7 +5834,7 @@ test-outcome-of-requires-2 : (t : ℕ) → test-lts.Need-outcome-of-requires-2 (
 ) (test-at t) test.Post
 test-outcome-of-requires-2 t c κs = search needs
 
--- src/lib.rt:346:21
+-- src/lib.rt:356:21
 test-enum-known-n : (t : ℕ) → test-lts.Need-enum-known-n (
   fast-value-reads.Asked,
   fast-value-reads.Learnt,
@@ -5217,7 +5847,7 @@ test-enum-known-n : (t : ℕ) → test-lts.Need-enum-known-n (
 ) (test-at t) test.Post
 test-enum-known-n t c = search needs
 
--- src/lib.rt:326:1
+-- src/lib.rt:335:1
 test-same-length-2 : (t : ℕ) → test-lts.Need-same-length-2 (
   fast-value-reads.Asked,
   fast-value-reads.Learnt,
@@ -5230,7 +5860,7 @@ test-same-length-2 : (t : ℕ) → test-lts.Need-same-length-2 (
 ) (test-at t) test.Post
 test-same-length-2 t c = search needs
 
--- src/lib.rt:326:1
+-- src/lib.rt:335:1
 test-same-length-3 : (t : ℕ) → test-lts.Need-same-length-3 (
   fast-value-reads.Asked,
   fast-value-reads.Learnt,
@@ -5243,7 +5873,7 @@ test-same-length-3 : (t : ℕ) → test-lts.Need-same-length-3 (
 ) (test-at t) test.Post
 test-same-length-3 t c = search needs
 
--- src/lib.rt:326:1
+-- src/lib.rt:335:1
 test-returns-2 : (t : ℕ) → test-lts.Need-returns-2 (
   fast-value-reads.Asked,
   fast-value-reads.Learnt,
@@ -5254,9 +5884,9 @@ test-returns-2 : (t : ℕ) → test-lts.Need-returns-2 (
   pack-reads.Asked,
   pack-reads.Learnt,
 ) (test-at t) test.Post
-test-returns-2 t c = test-says _ _ _ _ _ _ _ _ _ _ (c .before .before .before .before .before .before .before .before .before .before .before .before .before .before .before .fast-value .ensures) (c .before .before .before .before .before .before .before .before .before .before .before .before .if1 .left) _ _ _ (c .before .before .before .before .before .before .before .before .before .expression .ensures) _ _ _ (c .before .before .before .v .given .1) (c .before .pack .ensures) (c .outcome-of2 .ensures)
+test-returns-2 t c = test-says _ _ _ _ _ _ _ _ _ _ (worked-anew _ _ _ _ _ _ _ (c .before .before .before .before .before .before .before .before .before .before .before .before .before .before .before .fast-value .ensures)) (c .before .before .before .before .before .before .before .before .before .before .before .before .if1 .left) _ _ _ (evaluated-anew _ _ _ _ _ _ _ _ (c .before .before .before .before .before .before .before .before .before .expression .ensures)) _ _ _ (c .before .before .before .v .given .1) (c .before .pack .ensures) (c .outcome-of2 .ensures)
 
--- src/lib.rt:326:1
+-- src/lib.rt:335:1
 test-same-length-4 : (t : ℕ) → test-lts.Need-same-length-4 (
   fast-value-reads.Asked,
   fast-value-reads.Learnt,
@@ -5269,7 +5899,7 @@ test-same-length-4 : (t : ℕ) → test-lts.Need-same-length-4 (
 ) (test-at t) test.Post
 test-same-length-4 t c = search needs
 
--- src/lib.rt:326:1
+-- src/lib.rt:335:1
 test-same-length-5 : (t : ℕ) → test-lts.Need-same-length-5 (
   fast-value-reads.Asked,
   fast-value-reads.Learnt,
@@ -5282,7 +5912,7 @@ test-same-length-5 : (t : ℕ) → test-lts.Need-same-length-5 (
 ) (test-at t) test.Post
 test-same-length-5 t c = search needs
 
--- src/lib.rt:326:1
+-- src/lib.rt:335:1
 test-returns-3 : (t : ℕ) → test-lts.Need-returns-3 (
   fast-value-reads.Asked,
   fast-value-reads.Learnt,
@@ -5293,9 +5923,9 @@ test-returns-3 : (t : ℕ) → test-lts.Need-returns-3 (
   pack-reads.Asked,
   pack-reads.Learnt,
 ) (test-at t) test.Post
-test-returns-3 t c = test-refused _ _ _ _ _ _ _ _ _ _ (c .before .before .before .before .before .before .before .before .before .before .before .before .before .fast-value .ensures) (c .before .before .before .before .before .before .before .before .before .before .if1 .left) _ _ _ (c .before .before .before .before .before .before .before .expression .ensures) _ _ (c .before .n .given .1)
+test-returns-3 t c = test-refused _ _ _ _ _ _ _ _ _ _ (worked-anew _ _ _ _ _ _ _ (c .before .before .before .before .before .before .before .before .before .before .before .before .before .fast-value .ensures)) (c .before .before .before .before .before .before .before .before .before .before .if1 .left) _ _ _ (evaluated-anew _ _ _ _ _ _ _ _ (c .before .before .before .before .before .before .before .expression .ensures)) _ _ (c .before .n .given .1)
 
--- src/lib.rt:292:26
+-- src/lib.rt:301:26
 update-word-at-requires : (t : ℕ) → update-lts.Need-word-at-requires (
   word-at-reads.Asked,
   word-at-reads.Learnt,
@@ -5310,7 +5940,7 @@ update-word-at-requires : (t : ℕ) → update-lts.Need-word-at-requires (
 ) (update-at t) update.Post
 update-word-at-requires t c κs = search needs
 
--- src/lib.rt:292:9
+-- src/lib.rt:301:9
 update-before-requires : (t : ℕ) → update-lts.Need-before-requires (
   word-at-reads.Asked,
   word-at-reads.Learnt,
@@ -5325,7 +5955,7 @@ update-before-requires : (t : ℕ) → update-lts.Need-before-requires (
 ) (update-at t) update.Post
 update-before-requires t c κs = search needs
 
--- src/lib.rt:293:26
+-- src/lib.rt:302:26
 update-word-at-requires-2 : (t : ℕ) → update-lts.Need-word-at-requires-2 (
   word-at-reads.Asked,
   word-at-reads.Learnt,
@@ -5340,7 +5970,7 @@ update-word-at-requires-2 : (t : ℕ) → update-lts.Need-word-at-requires-2 (
 ) (update-at t) update.Post
 update-word-at-requires-2 t c κs = search needs
 
--- src/lib.rt:293:9
+-- src/lib.rt:302:9
 update-before-requires-2 : (t : ℕ) → update-lts.Need-before-requires-2 (
   word-at-reads.Asked,
   word-at-reads.Learnt,
@@ -5355,7 +5985,7 @@ update-before-requires-2 : (t : ℕ) → update-lts.Need-before-requires-2 (
 ) (update-at t) update.Post
 update-before-requires-2 t c κs = search needs
 
--- src/lib.rt:294:11
+-- src/lib.rt:303:11
 update-expression-requires : (t : ℕ) → update-lts.Need-expression-requires (
   word-at-reads.Asked,
   word-at-reads.Learnt,
@@ -5370,7 +6000,7 @@ update-expression-requires : (t : ℕ) → update-lts.Need-expression-requires (
 ) (update-at t) update.Post
 update-expression-requires t c κs = (omega arith, c .before .before .before .before .before .before .before .before .before .before .pre .1)
 
--- src/lib.rt:295:22
+-- src/lib.rt:304:22
 update-enum-known-v : (t : ℕ) → update-lts.Need-enum-known-v (
   word-at-reads.Asked,
   word-at-reads.Learnt,
@@ -5385,7 +6015,7 @@ update-enum-known-v : (t : ℕ) → update-lts.Need-enum-known-v (
 ) (update-at t) update.Post
 update-enum-known-v t c = search needs
 
--- src/lib.rt:296:26
+-- src/lib.rt:305:26
 update-enum-known-v-2 : (t : ℕ) → update-lts.Need-enum-known-v-2 (
   word-at-reads.Asked,
   word-at-reads.Learnt,
@@ -5400,7 +6030,7 @@ update-enum-known-v-2 : (t : ℕ) → update-lts.Need-enum-known-v-2 (
 ) (update-at t) update.Post
 update-enum-known-v-2 t c = search needs
 
--- src/lib.rt:296:38
+-- src/lib.rt:305:38
 update-expression-requires-2 : (t : ℕ) → update-lts.Need-expression-requires-2 (
   word-at-reads.Asked,
   word-at-reads.Learnt,
@@ -5415,7 +6045,7 @@ update-expression-requires-2 : (t : ℕ) → update-lts.Need-expression-requires
 ) (update-at t) update.Post
 update-expression-requires-2 t c κs = (omega arith, still-lent _ _ _ _ _ (let a0 = c .before .before .before .before .before .before .before .before .before .before .before .texts in omega arith) (let a0 = c .before .before .before .before .before .before .before .before .before .words in omega arith) _ (c .before .before .before .before .before .before .before .before .before .before .before .before .before .before .before .before .before .before .before .before .before .before .before .pre .1))
 
--- src/lib.rt:297:30
+-- src/lib.rt:306:30
 update-enum-known-u : (t : ℕ) → update-lts.Need-enum-known-u (
   word-at-reads.Asked,
   word-at-reads.Learnt,
@@ -5430,7 +6060,7 @@ update-enum-known-u : (t : ℕ) → update-lts.Need-enum-known-u (
 ) (update-at t) update.Post
 update-enum-known-u t c = search needs
 
--- src/lib.rt:298:25
+-- src/lib.rt:307:25
 update-pack-requires : (t : ℕ) → update-lts.Need-pack-requires (
   word-at-reads.Asked,
   word-at-reads.Learnt,
@@ -5445,7 +6075,7 @@ update-pack-requires : (t : ℕ) → update-lts.Need-pack-requires (
 ) (update-at t) update.Post
 update-pack-requires t c κs = search needs
 
--- src/lib.rt:299:27
+-- src/lib.rt:308:27
 update-expression-requires-3 : (t : ℕ) → update-lts.Need-expression-requires-3 (
   word-at-reads.Asked,
   word-at-reads.Learnt,
@@ -5460,7 +6090,7 @@ update-expression-requires-3 : (t : ℕ) → update-lts.Need-expression-requires
 ) (update-at t) update.Post
 update-expression-requires-3 t c κs = (omega (arith, c .before .before .before .before .before .before .before .before .before .before .before .before .before .before .before .before .before .before .before .before .before .before .before .before .before .before .before .before .before .before .before .before .before .before .pre .0), still-lent _ _ _ _ _ (let a0 = c .before .before .before .before .before .before .before .before .before .before .before .before .before .before .before .before .before .before .before .before .before .before .texts in let a1 = c .before .before .before .before .before .before .before .before .before .texts2 in omega arith) (let a0 = c .before .before .before .before .before .before .before .before .before .before .before .before .before .before .before .before .before .before .before .before .words in let a1 = c .before .before .before .before .before .before .before .words2 in omega arith) _ (c .before .before .before .before .before .before .before .before .before .before .before .before .before .before .before .before .before .before .before .before .before .before .before .before .before .before .before .before .before .before .before .before .before .before .pre .1))
 
--- src/lib.rt:300:38
+-- src/lib.rt:309:38
 update-enum-known-z : (t : ℕ) → update-lts.Need-enum-known-z (
   word-at-reads.Asked,
   word-at-reads.Learnt,
@@ -5475,7 +6105,7 @@ update-enum-known-z : (t : ℕ) → update-lts.Need-enum-known-z (
 ) (update-at t) update.Post
 update-enum-known-z t c = search needs
 
--- src/lib.rt:308:33
+-- src/lib.rt:317:33
 update-pack-requires-2 : (t : ℕ) → update-lts.Need-pack-requires-2 (
   word-at-reads.Asked,
   word-at-reads.Learnt,
@@ -5490,7 +6120,7 @@ update-pack-requires-2 : (t : ℕ) → update-lts.Need-pack-requires-2 (
 ) (update-at t) update.Post
 update-pack-requires-2 t c κs = search needs
 
--- src/lib.rt:301:33
+-- src/lib.rt:310:33
 update-store-entry-requires : (t : ℕ) → update-lts.Need-store-entry-requires (
   word-at-reads.Asked,
   word-at-reads.Learnt,
@@ -5505,7 +6135,7 @@ update-store-entry-requires : (t : ℕ) → update-lts.Need-store-entry-requires
 ) (update-at t) update.Post
 update-store-entry-requires t c κs = still-room _ _ _ _ _ (c .before .before .before .before .before .before .before .before .before .before .before .before .before .before .before .before .before .before .before .before .before .before .before .before .before .before .before .before .before .before .before .before .before .before .before .before .before .before .before .before .before .before .before .before .before .pre .1) (let a0 = c .before .before .before .before .before .before .before .before .before .before .before .before .before .before .before .before .before .before .before .before .before .before .before .before .before .before .before .before .before .before .before .words in let a1 = c .before .before .before .before .before .before .before .before .before .before .before .before .before .before .before .before .before .before .words2 in let a2 = c .before .before .before .before .before .before .before .words3 in omega arith)
 
--- src/lib.rt:310:33
+-- src/lib.rt:319:33
 update-same-length : (t : ℕ) → update-lts.Need-same-length (
   word-at-reads.Asked,
   word-at-reads.Learnt,
@@ -5520,7 +6150,7 @@ update-same-length : (t : ℕ) → update-lts.Need-same-length (
 ) (update-at t) update.Post
 update-same-length t c = let a = c .before .before .before .before .before .before .before .before .before .before .before .before .before .before .before .before .before .before .before .before .before .before .before .before .before .before .before .before .before .before .before .before .before .before .before .before .before .before .before .before .before .before .before .before .before .before .slice-known in let b = c .before .before .before .before .before .before .before .before .before .before .before .before .before .before .before .before .before .before .before .before .before .before .before .before .before .before .before .before .before .before .before .before .before .before .before .before .before .texts in let d = c .before .before .before .before .before .before .before .before .before .before .before .before .before .before .before .before .before .before .before .before .before .before .before .before .texts2 in let e = c .before .before .before .before .before .before .before .before .before .before .before .before .before .texts3 in search needs
 
--- src/lib.rt:310:33
+-- src/lib.rt:319:33
 update-same-length-2 : (t : ℕ) → update-lts.Need-same-length-2 (
   word-at-reads.Asked,
   word-at-reads.Learnt,
@@ -5535,7 +6165,7 @@ update-same-length-2 : (t : ℕ) → update-lts.Need-same-length-2 (
 ) (update-at t) update.Post
 update-same-length-2 t c = let a = c .before .before .before .before .before .before .before .before .before .before .before .before .before .before .before .before .before .before .before .before .before .before .before .before .before .before .before .before .before .before .before .before .before .before .before .before .before .before .before .before .before .before .before .before .before .slice-known2 in let b = c .before .before .before .before .before .before .before .before .before .before .before .before .before .before .before .before .before .before .before .before .before .before .before .before .before .before .before .before .before .before .before .before .before .before .before .words in let d = c .before .before .before .before .before .before .before .before .before .before .before .before .before .before .before .before .before .before .before .before .before .before .words2 in let e = c .before .before .before .before .before .before .before .before .before .before .before .words3 in let f = c .before .before .words4 in search needs
 
--- src/lib.rt:310:33
+-- src/lib.rt:319:33
 update-returns : (t : ℕ) → update-lts.Need-returns (
   word-at-reads.Asked,
   word-at-reads.Learnt,
@@ -5550,7 +6180,7 @@ update-returns : (t : ℕ) → update-lts.Need-returns (
 ) (update-at t) update.Post
 update-returns t c = update-refused _ _ _ _ _ _ _ _ _ _ _ _ (c .before .before .before .before .before .before .before .before .before .before .before .before .before .before .before .before .before .before .before .before .before .before .before .before .before .before .before .before .before .before .before .before .before .before .before .before .before .before .before .before .before .before .before .before .word-at .ensures) (c .before .before .before .before .before .before .before .before .before .before .before .before .before .before .before .before .before .before .before .before .before .before .before .before .before .before .before .before .before .before .before .before .before .before .before .before .before .before .before .before .before .before .before .before2 .ensures .0) (c .before .before .before .before .before .before .before .before .before .before .before .before .before .before .before .before .before .before .before .before .before .before .before .before .before .before .before .before .before .before .before .before .before .before .before .before .before .before .before .before .before .before .word-at2 .ensures) (c .before .before .before .before .before .before .before .before .before .before .before .before .before .before .before .before .before .before .before .before .before .before .before .before .before .before .before .before .before .before .before .before .before .before .before .before .before .before .before .before .before .before3 .ensures .0) _ _ _ (c .before .before .before .before .before .before .before .before .before .before .before .before .before .before .before .before .before .before .before .before .before .before .before .before .before .before .before .before .before .before .before .before .before .before .before .before .before .before .expression .ensures) _ _ (c .before .before .before .before .before .before .before .before .before .before .before .before .before .before .before .before .before .before .before .before .before .before .before .before .before .before .before .before .before .before .before .before .v .given .1) (c .before .before .before .before .before .before .before .before .before .before .before .before .before .before .before .before .before .before .before .before .before .before .before .before .before .before .before .before .before .v2 .given .1) _ _ _ (c .before .before .before .before .before .before .before .before .before .before .before .before .before .before .before .before .before .before .before .before .before .before .before .before .before .expression2 .ensures) _ _ (c .before .before .before .before .before .before .before .before .before .before .before .before .before .before .before .before .before .before .before .u .given .1) (c .before .before .before .before .before .before .before .before .before .before .before .before .before .before .before .before .before .pack .ensures) _ _ _ (c .before .before .before .before .before .before .before .before .before .before .before .before .before .before .expression3 .ensures) _ _ (c .before .before .before .before .before .before .before .before .z .given .1) (c .before .before .before .before .pack2 .ensures) _ _ (c .before .before .before .store-entry .ensures) (c .if1 .taken)
 
--- src/lib.rt:314:37
+-- src/lib.rt:323:37
 update-enum-known-n : (t : ℕ) → update-lts.Need-enum-known-n (
   word-at-reads.Asked,
   word-at-reads.Learnt,
@@ -5565,7 +6195,7 @@ update-enum-known-n : (t : ℕ) → update-lts.Need-enum-known-n (
 ) (update-at t) update.Post
 update-enum-known-n t c = search needs
 
--- src/lib.rt:317:29
+-- src/lib.rt:326:29
 update-enum-known-n-2 : (t : ℕ) → update-lts.Need-enum-known-n-2 (
   word-at-reads.Asked,
   word-at-reads.Learnt,
@@ -5580,7 +6210,7 @@ update-enum-known-n-2 : (t : ℕ) → update-lts.Need-enum-known-n-2 (
 ) (update-at t) update.Post
 update-enum-known-n-2 t c = search needs
 
--- src/lib.rt:321:21
+-- src/lib.rt:330:21
 update-enum-known-n-3 : (t : ℕ) → update-lts.Need-enum-known-n-3 (
   word-at-reads.Asked,
   word-at-reads.Learnt,
@@ -5595,7 +6225,7 @@ update-enum-known-n-3 : (t : ℕ) → update-lts.Need-enum-known-n-3 (
 ) (update-at t) update.Post
 update-enum-known-n-3 t c = search needs
 
--- src/lib.rt:278:1
+-- src/lib.rt:287:1
 update-same-length-3 : (t : ℕ) → update-lts.Need-same-length-3 (
   word-at-reads.Asked,
   word-at-reads.Learnt,
@@ -5610,7 +6240,7 @@ update-same-length-3 : (t : ℕ) → update-lts.Need-same-length-3 (
 ) (update-at t) update.Post
 update-same-length-3 t c = let a = c .before .before .before .before .before .before .before .before .before .before .before .before .before .before .before .before .before .before .before .before .before .before .before .before .before .before .before .before .before .before .before .before .before .before .before .before .before .before .before .before .before .before .before .before .before .before .slice-known in let b = c .before .before .before .before .before .before .before .before .before .before .before .before .before .before .before .before .before .before .before .before .before .before .before .before .before .before .before .before .before .before .before .before .before .before .before .before .before .texts in let d = c .before .before .before .before .before .before .before .before .before .before .before .before .before .before .before .before .before .before .before .before .before .before .before .before .texts2 in let e = c .before .before .before .before .before .before .before .before .before .before .before .before .before .texts3 in search needs
 
--- src/lib.rt:278:1
+-- src/lib.rt:287:1
 update-same-length-4 : (t : ℕ) → update-lts.Need-same-length-4 (
   word-at-reads.Asked,
   word-at-reads.Learnt,
@@ -5625,7 +6255,7 @@ update-same-length-4 : (t : ℕ) → update-lts.Need-same-length-4 (
 ) (update-at t) update.Post
 update-same-length-4 t c = let a = c .before .before .before .before .before .before .before .before .before .before .before .before .before .before .before .before .before .before .before .before .before .before .before .before .before .before .before .before .before .before .before .before .before .before .before .before .before .before .before .before .before .before .before .before .before .slice-known2 in let b = c .before .before .before .before .before .before .before .before .before .before .before .before .before .before .before .before .before .before .before .before .before .before .before .before .before .before .before .before .before .before .before .before .before .before .before .words in let d = c .before .before .before .before .before .before .before .before .before .before .before .before .before .before .before .before .before .before .before .before .before .before .words2 in let e = c .before .before .before .before .before .before .before .before .before .before .before .words3 in let f = c .before .before .words4 in search needs
 
--- src/lib.rt:278:1
+-- src/lib.rt:287:1
 update-returns-2 : (t : ℕ) → update-lts.Need-returns-2 (
   word-at-reads.Asked,
   word-at-reads.Learnt,
@@ -5640,7 +6270,7 @@ update-returns-2 : (t : ℕ) → update-lts.Need-returns-2 (
 ) (update-at t) update.Post
 update-returns-2 t c = update-done _ _ _ _ _ _ _ _ _ _ _ _ (c .before .before .before .before .before .before .before .before .before .before .before .before .before .before .before .before .before .before .before .before .before .before .before .before .before .before .before .before .before .before .before .before .before .before .before .before .before .before .before .before .before .before .before .before .word-at .ensures) (c .before .before .before .before .before .before .before .before .before .before .before .before .before .before .before .before .before .before .before .before .before .before .before .before .before .before .before .before .before .before .before .before .before .before .before .before .before .before .before .before .before .before .before .before2 .ensures .0) (c .before .before .before .before .before .before .before .before .before .before .before .before .before .before .before .before .before .before .before .before .before .before .before .before .before .before .before .before .before .before .before .before .before .before .before .before .before .before .before .before .before .before .word-at2 .ensures) (c .before .before .before .before .before .before .before .before .before .before .before .before .before .before .before .before .before .before .before .before .before .before .before .before .before .before .before .before .before .before .before .before .before .before .before .before .before .before .before .before .before .before3 .ensures .0) _ _ _ (c .before .before .before .before .before .before .before .before .before .before .before .before .before .before .before .before .before .before .before .before .before .before .before .before .before .before .before .before .before .before .before .before .before .before .before .before .before .before .expression .ensures) _ _ (c .before .before .before .before .before .before .before .before .before .before .before .before .before .before .before .before .before .before .before .before .before .before .before .before .before .before .before .before .before .before .before .before .v .given .1) (c .before .before .before .before .before .before .before .before .before .before .before .before .before .before .before .before .before .before .before .before .before .before .before .before .before .before .before .before .before .v2 .given .1) _ _ _ (c .before .before .before .before .before .before .before .before .before .before .before .before .before .before .before .before .before .before .before .before .before .before .before .before .before .expression2 .ensures) _ _ (c .before .before .before .before .before .before .before .before .before .before .before .before .before .before .before .before .before .before .before .u .given .1) (c .before .before .before .before .before .before .before .before .before .before .before .before .before .before .before .before .before .pack .ensures) _ _ _ (c .before .before .before .before .before .before .before .before .before .before .before .before .before .before .expression3 .ensures) _ _ (c .before .before .before .before .before .before .before .before .z .given .1) (c .before .before .before .before .pack2 .ensures) _ _ (c .before .before .before .store-entry .ensures) (c .if1 .left)
 
--- src/lib.rt:278:1
+-- src/lib.rt:287:1
 update-same-length-5 : (t : ℕ) → update-lts.Need-same-length-5 (
   word-at-reads.Asked,
   word-at-reads.Learnt,
@@ -5655,7 +6285,7 @@ update-same-length-5 : (t : ℕ) → update-lts.Need-same-length-5 (
 ) (update-at t) update.Post
 update-same-length-5 t c = let a = c .before .before .before .before .before .before .before .before .before .before .before .before .before .before .before .before .before .before .before .before .before .before .before .before .before .before .before .before .before .before .before .before .before .before .before .before .before .before .before .slice-known in let b = c .before .before .before .before .before .before .before .before .before .before .before .before .before .before .before .before .before .before .before .before .before .before .before .before .before .before .before .before .before .before .texts in let d = c .before .before .before .before .before .before .before .before .before .before .before .before .before .before .before .before .before .texts2 in let e = c .before .before .before .before .before .before .texts3 in search needs
 
--- src/lib.rt:278:1
+-- src/lib.rt:287:1
 update-same-length-6 : (t : ℕ) → update-lts.Need-same-length-6 (
   word-at-reads.Asked,
   word-at-reads.Learnt,
@@ -5670,7 +6300,7 @@ update-same-length-6 : (t : ℕ) → update-lts.Need-same-length-6 (
 ) (update-at t) update.Post
 update-same-length-6 t c = let a = c .before .before .before .before .before .before .before .before .before .before .before .before .before .before .before .before .before .before .before .before .before .before .before .before .before .before .before .before .before .before .before .before .before .before .before .before .before .before .slice-known2 in let b = c .before .before .before .before .before .before .before .before .before .before .before .before .before .before .before .before .before .before .before .before .before .before .before .before .before .before .before .before .words in let d = c .before .before .before .before .before .before .before .before .before .before .before .before .before .before .before .words2 in let e = c .before .before .before .before .words3 in search needs
 
--- src/lib.rt:278:1
+-- src/lib.rt:287:1
 update-returns-3 : (t : ℕ) → update-lts.Need-returns-3 (
   word-at-reads.Asked,
   word-at-reads.Learnt,
@@ -5685,7 +6315,7 @@ update-returns-3 : (t : ℕ) → update-lts.Need-returns-3 (
 ) (update-at t) update.Post
 update-returns-3 t c = value-stops _ _ _ _ _ _ _ _ _ _ _ _ (c .before .before .before .before .before .before .before .before .before .before .before .before .before .before .before .before .before .before .before .before .before .before .before .before .before .before .before .before .before .before .before .before .before .before .before .before .before .word-at .ensures) (c .before .before .before .before .before .before .before .before .before .before .before .before .before .before .before .before .before .before .before .before .before .before .before .before .before .before .before .before .before .before .before .before .before .before .before .before .before2 .ensures .0) (c .before .before .before .before .before .before .before .before .before .before .before .before .before .before .before .before .before .before .before .before .before .before .before .before .before .before .before .before .before .before .before .before .before .before .before .word-at2 .ensures) (c .before .before .before .before .before .before .before .before .before .before .before .before .before .before .before .before .before .before .before .before .before .before .before .before .before .before .before .before .before .before .before .before .before .before .before3 .ensures .0) _ _ _ (c .before .before .before .before .before .before .before .before .before .before .before .before .before .before .before .before .before .before .before .before .before .before .before .before .before .before .before .before .before .before .before .expression .ensures) _ _ (c .before .before .before .before .before .before .before .before .before .before .before .before .before .before .before .before .before .before .before .before .before .before .before .before .before .v .given .1) (c .before .before .before .before .before .before .before .before .before .before .before .before .before .before .before .before .before .before .before .before .before .before .v2 .given .1) _ _ _ (c .before .before .before .before .before .before .before .before .before .before .before .before .before .before .before .before .before .before .expression2 .ensures) _ _ (c .before .before .before .before .before .before .before .before .before .before .before .before .u .given .1) (c .before .before .before .before .before .before .before .before .before .before .pack .ensures) _ _ _ (c .before .before .before .before .before .before .before .expression3 .ensures) _ _ (c .before .n .given .1)
 
--- src/lib.rt:278:1
+-- src/lib.rt:287:1
 update-same-length-7 : (t : ℕ) → update-lts.Need-same-length-7 (
   word-at-reads.Asked,
   word-at-reads.Learnt,
@@ -5700,7 +6330,7 @@ update-same-length-7 : (t : ℕ) → update-lts.Need-same-length-7 (
 ) (update-at t) update.Post
 update-same-length-7 t c = search needs
 
--- src/lib.rt:278:1
+-- src/lib.rt:287:1
 update-same-length-8 : (t : ℕ) → update-lts.Need-same-length-8 (
   word-at-reads.Asked,
   word-at-reads.Learnt,
@@ -5715,7 +6345,7 @@ update-same-length-8 : (t : ℕ) → update-lts.Need-same-length-8 (
 ) (update-at t) update.Post
 update-same-length-8 t c = search needs
 
--- src/lib.rt:278:1
+-- src/lib.rt:287:1
 update-returns-4 : (t : ℕ) → update-lts.Need-returns-4 (
   word-at-reads.Asked,
   word-at-reads.Learnt,
@@ -5730,7 +6360,7 @@ update-returns-4 : (t : ℕ) → update-lts.Need-returns-4 (
 ) (update-at t) update.Post
 update-returns-4 t c = key-stops _ _ _ _ _ _ _ _ _ _ _ _ (c .before .before .before .before .before .before .before .before .before .before .before .before .before .before .before .before .before .before .before .before .before .before .before .before .before .before .word-at .ensures) (c .before .before .before .before .before .before .before .before .before .before .before .before .before .before .before .before .before .before .before .before .before .before .before .before .before .before2 .ensures .0) (c .before .before .before .before .before .before .before .before .before .before .before .before .before .before .before .before .before .before .before .before .before .before .before .before .word-at2 .ensures) (c .before .before .before .before .before .before .before .before .before .before .before .before .before .before .before .before .before .before .before .before .before .before .before .before3 .ensures .0) _ _ _ (c .before .before .before .before .before .before .before .before .before .before .before .before .before .before .before .before .before .before .before .before .expression .ensures) _ _ (c .before .before .before .before .before .before .before .before .before .before .before .before .before .before .v .given .1) (c .before .before .before .before .before .before .before .before .before .before .before .v2 .given .1) _ _ _ (c .before .before .before .before .before .before .before .expression2 .ensures) _ _ (c .before .n2 .given .1)
 
--- src/lib.rt:278:1
+-- src/lib.rt:287:1
 update-same-length-9 : (t : ℕ) → update-lts.Need-same-length-9 (
   word-at-reads.Asked,
   word-at-reads.Learnt,
@@ -5745,7 +6375,7 @@ update-same-length-9 : (t : ℕ) → update-lts.Need-same-length-9 (
 ) (update-at t) update.Post
 update-same-length-9 t c = search needs
 
--- src/lib.rt:278:1
+-- src/lib.rt:287:1
 update-same-length-10 : (t : ℕ) → update-lts.Need-same-length-10 (
   word-at-reads.Asked,
   word-at-reads.Learnt,
@@ -5760,7 +6390,7 @@ update-same-length-10 : (t : ℕ) → update-lts.Need-same-length-10 (
 ) (update-at t) update.Post
 update-same-length-10 t c = search needs
 
--- src/lib.rt:278:1
+-- src/lib.rt:287:1
 update-returns-5 : (t : ℕ) → update-lts.Need-returns-5 (
   word-at-reads.Asked,
   word-at-reads.Learnt,
@@ -5775,7 +6405,7 @@ update-returns-5 : (t : ℕ) → update-lts.Need-returns-5 (
 ) (update-at t) update.Post
 update-returns-5 t c = table-other _ _ _ _ _ _ _ _ _ _ _ _ (c .before .before .before .before .before .before .before .before .before .before .before .before .before .before .word-at .ensures) (c .before .before .before .before .before .before .before .before .before .before .before .before .before .before2 .ensures .0) (c .before .before .before .before .before .before .before .before .before .before .before .before .word-at2 .ensures) (c .before .before .before .before .before .before .before .before .before .before .before .before3 .ensures .0) _ _ _ (c .before .before .before .before .before .before .before .before .expression .ensures) _ (c .before .before .v .given .1) (c .match2 .keys2)
 
--- src/lib.rt:278:1
+-- src/lib.rt:287:1
 update-same-length-11 : (t : ℕ) → update-lts.Need-same-length-11 (
   word-at-reads.Asked,
   word-at-reads.Learnt,
@@ -5790,7 +6420,7 @@ update-same-length-11 : (t : ℕ) → update-lts.Need-same-length-11 (
 ) (update-at t) update.Post
 update-same-length-11 t c = search needs
 
--- src/lib.rt:278:1
+-- src/lib.rt:287:1
 update-same-length-12 : (t : ℕ) → update-lts.Need-same-length-12 (
   word-at-reads.Asked,
   word-at-reads.Learnt,
@@ -5805,7 +6435,7 @@ update-same-length-12 : (t : ℕ) → update-lts.Need-same-length-12 (
 ) (update-at t) update.Post
 update-same-length-12 t c = search needs
 
--- src/lib.rt:278:1
+-- src/lib.rt:287:1
 update-returns-6 : (t : ℕ) → update-lts.Need-returns-6 (
   word-at-reads.Asked,
   word-at-reads.Learnt,
@@ -5820,7 +6450,7 @@ update-returns-6 : (t : ℕ) → update-lts.Need-returns-6 (
 ) (update-at t) update.Post
 update-returns-6 t c = table-stops _ _ _ _ _ _ _ _ _ _ _ _ (c .before .before .before .before .before .before .before .before .before .before .before .before .before .word-at .ensures) (c .before .before .before .before .before .before .before .before .before .before .before .before .before2 .ensures .0) (c .before .before .before .before .before .before .before .before .before .before .before .word-at2 .ensures) (c .before .before .before .before .before .before .before .before .before .before .before3 .ensures .0) _ _ _ (c .before .before .before .before .before .before .before .expression .ensures) _ _ (c .before .n3 .given .1)
 
--- src/lib.rt:455:11
+-- src/lib.rt:465:11
 when-test-requires : (t : ℕ) → when-lts.Need-test-requires (
   test-below t,
   test.Post,
@@ -5829,7 +6459,7 @@ when-test-requires : (t : ℕ) → when-lts.Need-test-requires (
 ) (when-at t) when.Post
 when-test-requires t c κs = (omega arith, c .before .before .before .before .before .before .pre .1 .lent)
 
--- src/lib.rt:456:64
+-- src/lib.rt:466:64
 when-enum-told : (t : ℕ) → when-lts.Need-enum-told (
   test-below t,
   test.Post,
@@ -5838,7 +6468,7 @@ when-enum-told : (t : ℕ) → when-lts.Need-enum-told (
 ) (when-at t) when.Post
 when-enum-told t c = search needs
 
--- src/lib.rt:456:84
+-- src/lib.rt:466:84
 when-add-statement : (t : ℕ) → when-lts.Need-add-statement (
   test-below t,
   test.Post,
@@ -5847,7 +6477,7 @@ when-add-statement : (t : ℕ) → when-lts.Need-add-statement (
 ) (when-at t) when.Post
 when-add-statement t c = omega (arith, c .before .before .before .before .before .before .before .before .before .before .before .before .before .before .before .pre .1 .room)
 
--- src/lib.rt:456:31
+-- src/lib.rt:466:31
 when-statement-requires : (t : ℕ) → when-lts.Need-statement-requires (
   test-below t,
   test.Post,
@@ -5856,7 +6486,7 @@ when-statement-requires : (t : ℕ) → when-lts.Need-statement-requires (
 ) (when-at t) when.Post
 when-statement-requires t c κs = (omega arith, still-runs _ _ _ _ _ (let a0 = c .before .before .before .before .before .before .before .texts in omega arith) (let a0 = c .before .before .before .before .before .words in omega arith) _ _ (c .before .before .before .before .before .before .before .before .before .before .before .before .before .before .before .pre .1))
 
--- src/lib.rt:457:29
+-- src/lib.rt:467:29
 when-enum-told-2 : (t : ℕ) → when-lts.Need-enum-told-2 (
   test-below t,
   test.Post,
@@ -5865,7 +6495,7 @@ when-enum-told-2 : (t : ℕ) → when-lts.Need-enum-told-2 (
 ) (when-at t) when.Post
 when-enum-told-2 t c = search needs
 
--- src/lib.rt:458:28
+-- src/lib.rt:468:28
 when-enum-known-v : (t : ℕ) → when-lts.Need-enum-known-v (
   test-below t,
   test.Post,
@@ -5874,7 +6504,7 @@ when-enum-known-v : (t : ℕ) → when-lts.Need-enum-known-v (
 ) (when-at t) when.Post
 when-enum-known-v t c = search needs
 
--- src/lib.rt:459:27
+-- src/lib.rt:469:27
 when-enum-known-n : (t : ℕ) → when-lts.Need-enum-known-n (
   test-below t,
   test.Post,
@@ -5883,7 +6513,7 @@ when-enum-known-n : (t : ℕ) → when-lts.Need-enum-known-n (
 ) (when-at t) when.Post
 when-enum-known-n t c = search needs
 
--- src/lib.rt:461:24
+-- src/lib.rt:471:24
 when-enum-told-3 : (t : ℕ) → when-lts.Need-enum-told-3 (
   test-below t,
   test.Post,
@@ -5892,7 +6522,7 @@ when-enum-told-3 : (t : ℕ) → when-lts.Need-enum-told-3 (
 ) (when-at t) when.Post
 when-enum-told-3 t c = search needs
 
--- src/lib.rt:462:26
+-- src/lib.rt:472:26
 when-enum-known-n-2 : (t : ℕ) → when-lts.Need-enum-known-n-2 (
   test-below t,
   test.Post,
@@ -5901,7 +6531,7 @@ when-enum-known-n-2 : (t : ℕ) → when-lts.Need-enum-known-n-2 (
 ) (when-at t) when.Post
 when-enum-known-n-2 t c = search needs
 
--- src/lib.rt:441:1
+-- src/lib.rt:451:1
 when-same-length : (t : ℕ) → when-lts.Need-same-length (
   test-below t,
   test.Post,
@@ -5910,7 +6540,7 @@ when-same-length : (t : ℕ) → when-lts.Need-same-length (
 ) (when-at t) when.Post
 when-same-length t c = search needs
 
--- src/lib.rt:441:1
+-- src/lib.rt:451:1
 when-same-length-2 : (t : ℕ) → when-lts.Need-same-length-2 (
   test-below t,
   test.Post,
@@ -5919,7 +6549,7 @@ when-same-length-2 : (t : ℕ) → when-lts.Need-same-length-2 (
 ) (when-at t) when.Post
 when-same-length-2 t c = search needs
 
--- src/lib.rt:441:1
+-- src/lib.rt:451:1
 when-returns : (t : ℕ) → when-lts.Need-returns (
   test-below t,
   test.Post,
@@ -5928,7 +6558,7 @@ when-returns : (t : ℕ) → when-lts.Need-returns (
 ) (when-at t) when.Post
 when-returns t c = when-holds _ _ _ _ _ _ _ _ _ _ (c .before .before .before .before .before .before .before .before .before .before .before .before .before .before .before .test .ensures) _ _ _ _ (c .before .before .before .before .before .before .before .before .before .enum-told .given .1) (c .before .before .before .before .before .before .statement .ensures) (c .enum-told2 .given .1)
 
--- src/lib.rt:441:1
+-- src/lib.rt:451:1
 when-same-length-3 : (t : ℕ) → when-lts.Need-same-length-3 (
   test-below t,
   test.Post,
@@ -5937,7 +6567,7 @@ when-same-length-3 : (t : ℕ) → when-lts.Need-same-length-3 (
 ) (when-at t) when.Post
 when-same-length-3 t c = search needs
 
--- src/lib.rt:441:1
+-- src/lib.rt:451:1
 when-same-length-4 : (t : ℕ) → when-lts.Need-same-length-4 (
   test-below t,
   test.Post,
@@ -5946,7 +6576,7 @@ when-same-length-4 : (t : ℕ) → when-lts.Need-same-length-4 (
 ) (when-at t) when.Post
 when-same-length-4 t c = search needs
 
--- src/lib.rt:441:1
+-- src/lib.rt:451:1
 when-returns-2 : (t : ℕ) → when-lts.Need-returns-2 (
   test-below t,
   test.Post,
@@ -5955,7 +6585,7 @@ when-returns-2 : (t : ℕ) → when-lts.Need-returns-2 (
 ) (when-at t) when.Post
 when-returns-2 t c = when-holds _ _ _ _ _ _ _ _ _ _ (c .before .before .before .before .before .before .before .before .before .before .before .before .before .before .before .before .test .ensures) _ _ _ _ (c .before .before .before .before .before .before .before .before .before .before .enum-told .given .1) (c .before .before .before .before .before .before .before .statement .ensures) (c .before .v .given .1)
 
--- src/lib.rt:441:1
+-- src/lib.rt:451:1
 when-same-length-5 : (t : ℕ) → when-lts.Need-same-length-5 (
   test-below t,
   test.Post,
@@ -5964,7 +6594,7 @@ when-same-length-5 : (t : ℕ) → when-lts.Need-same-length-5 (
 ) (when-at t) when.Post
 when-same-length-5 t c = search needs
 
--- src/lib.rt:441:1
+-- src/lib.rt:451:1
 when-same-length-6 : (t : ℕ) → when-lts.Need-same-length-6 (
   test-below t,
   test.Post,
@@ -5973,7 +6603,7 @@ when-same-length-6 : (t : ℕ) → when-lts.Need-same-length-6 (
 ) (when-at t) when.Post
 when-same-length-6 t c = search needs
 
--- src/lib.rt:441:1
+-- src/lib.rt:451:1
 when-returns-3 : (t : ℕ) → when-lts.Need-returns-3 (
   test-below t,
   test.Post,
@@ -5982,7 +6612,7 @@ when-returns-3 : (t : ℕ) → when-lts.Need-returns-3 (
 ) (when-at t) when.Post
 when-returns-3 t c = when-holds _ _ _ _ _ _ _ _ _ _ (c .before .before .before .before .before .before .before .before .before .before .before .before .before .before .before .before .test .ensures) _ _ _ _ (c .before .before .before .before .before .before .before .before .before .before .enum-told .given .1) (c .before .before .before .before .before .before .before .statement .ensures) (c .before .n .given .1)
 
--- src/lib.rt:441:1
+-- src/lib.rt:451:1
 when-same-length-7 : (t : ℕ) → when-lts.Need-same-length-7 (
   test-below t,
   test.Post,
@@ -5991,7 +6621,7 @@ when-same-length-7 : (t : ℕ) → when-lts.Need-same-length-7 (
 ) (when-at t) when.Post
 when-same-length-7 t c = search needs
 
--- src/lib.rt:441:1
+-- src/lib.rt:451:1
 when-same-length-8 : (t : ℕ) → when-lts.Need-same-length-8 (
   test-below t,
   test.Post,
@@ -6000,7 +6630,7 @@ when-same-length-8 : (t : ℕ) → when-lts.Need-same-length-8 (
 ) (when-at t) when.Post
 when-same-length-8 t c = search needs
 
--- src/lib.rt:441:1
+-- src/lib.rt:451:1
 when-returns-4 : (t : ℕ) → when-lts.Need-returns-4 (
   test-below t,
   test.Post,
@@ -6009,7 +6639,7 @@ when-returns-4 : (t : ℕ) → when-lts.Need-returns-4 (
 ) (when-at t) when.Post
 when-returns-4 t c = search when-not
 
--- src/lib.rt:441:1
+-- src/lib.rt:451:1
 when-same-length-9 : (t : ℕ) → when-lts.Need-same-length-9 (
   test-below t,
   test.Post,
@@ -6018,7 +6648,7 @@ when-same-length-9 : (t : ℕ) → when-lts.Need-same-length-9 (
 ) (when-at t) when.Post
 when-same-length-9 t c = search needs
 
--- src/lib.rt:441:1
+-- src/lib.rt:451:1
 when-same-length-10 : (t : ℕ) → when-lts.Need-same-length-10 (
   test-below t,
   test.Post,
@@ -6027,7 +6657,7 @@ when-same-length-10 : (t : ℕ) → when-lts.Need-same-length-10 (
 ) (when-at t) when.Post
 when-same-length-10 t c = search needs
 
--- src/lib.rt:441:1
+-- src/lib.rt:451:1
 when-returns-5 : (t : ℕ) → when-lts.Need-returns-5 (
   test-below t,
   test.Post,
@@ -6157,14 +6787,24 @@ pub +argument+call+expression+invoke+operands+repeat+simple+statement+statements
     (expression-returns-3 t)
     (expression-sub-call t)
     (expression-call-requires t)
+    (expression-enum-known-v t)
     (expression-same-length-3 t)
     (expression-same-length-4 t)
     (expression-returns-4 t)
-    (expression-sub-operands t)
-    (expression-operands-requires t)
+    (expression-enum-known-n t)
     (expression-same-length-5 t)
     (expression-same-length-6 t)
-    (expression-returns-5 t))
+    (expression-returns-5 t)
+    (expression-sub-operands t)
+    (expression-operands-requires t)
+    (expression-enum-known-v-2 t)
+    (expression-enum-known-n-2 t)
+    (expression-same-length-7 t)
+    (expression-same-length-8 t)
+    (expression-returns-6 t)
+    (expression-same-length-9 t)
+    (expression-same-length-10 t)
+    (expression-returns-7 t))
     (λ t. invoke-lts.spec (
       arguments-held-reads.Asked,
       arguments-held-reads.Learnt,
@@ -6322,8 +6962,14 @@ pub +argument+call+expression+invoke+operands+repeat+simple+statement+statements
       last-of-reads.Learnt,
       fast-value-reads.Asked,
       fast-value-reads.Learnt,
-      finish-plain-reads.Asked,
-      finish-plain-reads.Learnt,
+      tag-of-reads.Asked,
+      tag-of-reads.Learnt,
+      extra-of-reads.Asked,
+      extra-of-reads.Learnt,
+      put-word-reads.Asked,
+      put-word-reads.Learnt,
+      pass-on-reads.Asked,
+      pass-on-reads.Learnt,
       expression-below t,
       expression.Post,
       pack-reads.Asked,
@@ -6335,20 +6981,34 @@ pub +argument+call+expression+invoke+operands+repeat+simple+statement+statements
     simple.Post
     (simple-last-of-requires t)
     (simple-fast-value-requires t)
-    (simple-finish-plain-requires t)
+    (simple-tag-of-requires t)
+    (simple-extra-of-requires t)
+    (simple-put-word-requires t)
     (simple-same-length t)
     (simple-returns t)
+    (simple-pass-on-requires t)
+    (simple-same-length-2 t)
+    (simple-returns-2 t)
     (simple-expression-requires t)
     (simple-enum-known-v t)
     (simple-pack-requires t)
     (simple-finish-requires t)
+    (simple-enum-told t)
+    (simple-enum-known-u t)
     (simple-enum-known-n t)
-    (simple-same-length-2 t)
+    (simple-enum-known-n-2 t)
     (simple-same-length-3 t)
-    (simple-returns-2 t)
     (simple-same-length-4 t)
+    (simple-returns-3 t)
     (simple-same-length-5 t)
-    (simple-returns-3 t))
+    (simple-same-length-6 t)
+    (simple-returns-4 t)
+    (simple-same-length-7 t)
+    (simple-same-length-8 t)
+    (simple-returns-5 t)
+    (simple-same-length-9 t)
+    (simple-same-length-10 t)
+    (simple-returns-6 t))
     (λ t. statement-lts.spec (
       word-at-reads.Asked,
       word-at-reads.Learnt,
@@ -6471,6 +7131,9 @@ pub +argument+call+expression+invoke+operands+repeat+simple+statement+statements
     )
     (test-at t)
     test.Post
+    (test-sub-code t)
+    (test-part-code-start t)
+    (test-part-code-end t)
     (test-fast-value-requires t)
     (test-outcome-of-requires t)
     (test-same-length t)

@@ -1,11 +1,12 @@
 use Rattle.running.proofs.Ways.{run-no-sheet, run-too-long, run-ready, run-as-read}
+use native.Mathlib.Omega.{arith}
 use borrow.Author.Needs.{needs}
 use Rattle.running.proofs.run.Statement.{statement}
 use Rattle.running.proofs.run.Tie as tie
 
 -- src/lib.rt:133:5
-clear-words-requires : tie.Need-clear-words-requires
-clear-words-requires c κs = search needs
+clear-but-stack-requires : tie.Need-clear-but-stack-requires
+clear-but-stack-requires c κs = omega (arith, c .before .before .before .before .before .before .pre .lent .room .words)
 
 -- src/lib.rt:134:9
 is-sheet-requires : tie.Need-is-sheet-requires
@@ -55,7 +56,7 @@ pub run-spec : {M : Type 1} → statement M
 run-spec =
     tie.close
     (tie.spec
-    clear-words-requires
+    clear-but-stack-requires
     is-sheet-requires
     same-length
     returns
