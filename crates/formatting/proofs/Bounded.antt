@@ -75,6 +75,7 @@ module _ (ts : List Token) (texts : (i : ℕ) → length (textAt ts i) ≤ 32768
   -- ---- expressions
   mutual
     unfolding expressionText argumentTexts codeOf codeOfAll Known KnownAll commaSeparated
+
     expression-short : (e : Expression) → Known e ts → length (expressionText e) ≤ 40000 * length (codeOf e ts)
     expression-short (number z) k = omega (arith, number-short z k)
     expression-short (string t) k = simp length-append (omega (arith, name-short aString t k))
@@ -83,11 +84,22 @@ module _ (ts : List Token) (texts : (i : ℕ) → length (textAt ts i) ≤ 32768
     expression-short (name x) k = omega (arith, name-short aName x k)
     expression-short (table e) k = simp length-append (omega (arith, expression-short e k))
     expression-short (entry a b) k =
-        simp length-append (omega (arith, expression-short a (k .0), expression-short b (k .1),
-        enclosed-short (isOperation a || isEntry a) (expressionText a), enclosed-short (isOperation b || isEntry b) (expressionText b)))
+        simp length-append (omega (
+          arith,
+          expression-short a (k .0),
+          expression-short b (k .1),
+          enclosed-short (isOperation a || isEntry a) (expressionText a),
+          enclosed-short (isOperation b || isEntry b) (expressionText b),
+        ))
     expression-short (operation o a b) k =
-        simp length-append (omega (arith, expression-short a (k .0), expression-short b (k .1), operator-short o,
-        enclosed-short (isOperation a) (expressionText a), enclosed-short (isOperation b) (expressionText b)))
+        simp length-append (omega (
+          arith,
+          expression-short a (k .0),
+          expression-short b (k .1),
+          operator-short o,
+          enclosed-short (isOperation a) (expressionText a),
+          enclosed-short (isOperation b) (expressionText b),
+        ))
     expression-short (call f es) k = simp length-append (omega (arith, name-short aName f (k .0), arguments-short es (k .1)))
     expression-short (paren e) k = expression-short e k
 
@@ -100,12 +112,19 @@ module _ (ts : List Token) (texts : (i : ℕ) → length (textAt ts i) ≤ 32768
   -- one byte to spare
   mutual
     unfolding expressionText statementText statementsText codeOfStatement codeOfStatements KnownStatement KnownStatements
+
     statement-short : (s : Statement) → KnownStatement s ts → length (statementText s) + 1 ≤ 40000 * length (codeOfStatement s ts)
     statement-short (declare p x) k = simp length-append (omega (arith, name-short aName x (k .1), apart-short x))
     statement-short (assign p x e) k = simp length-append (omega (arith, name-short aName x (k .1), expression-short e (k .2)))
     statement-short (update p a b e) k =
-        simp length-append (omega (arith, expression-short a (k .1), expression-short b (k .2), expression-short e (k .3),
-        enclosed-short (isOperation a || isEntry a) (expressionText a), enclosed-short (isOperation b || isEntry b) (expressionText b)))
+        simp length-append (omega (
+          arith,
+          expression-short a (k .1),
+          expression-short b (k .2),
+          expression-short e (k .3),
+          enclosed-short (isOperation a || isEntry a) (expressionText a),
+          enclosed-short (isOperation b || isEntry b) (expressionText b),
+        ))
     statement-short (when p e s) k = simp length-append (omega (arith, expression-short e (k .1), statement-short s (k .2)))
     statement-short (while p e s) k = simp length-append (omega (arith, expression-short e (k .1), statement-short s (k .2)))
     statement-short (return p e) k = simp length-append (omega (arith, expression-short e (k .1), apart-short (expressionText e)))
@@ -126,8 +145,14 @@ module _ (ts : List Token) (texts : (i : ℕ) → length (textAt ts i) ≤ 32768
   procedure-short : (f : Procedure) → Understood ts f → length (procedureText f) + 1 ≤ 80000 * length (codeOfProcedure f ts)
   unfolding procedureText codeOfProcedure
   procedure-short f u =
-      simp length-append (omega (arith, name-short aName (f .name) (u .name), apart-short (f .name), names-short (f .parameters) (u .parameters),
-      statements-short (f .body) (u .body), length-map (f .parameters) (slotOf ts)))
+      simp length-append (omega (
+        arith,
+        name-short aName (f .name) (u .name),
+        apart-short (f .name),
+        names-short (f .parameters) (u .parameters),
+        statements-short (f .body) (u .body),
+        length-map (f .parameters) (slotOf ts),
+      ))
 
   procedures-short : (fs : List Procedure) → UnderstoodAll ts fs → length (proceduresText fs) ≤ 80000 * length (codeOfProcedures fs ts)
   unfolding proceduresText codeOfProcedures UnderstoodAll

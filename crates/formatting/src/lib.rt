@@ -13,7 +13,13 @@ const LONGEST: usize = 32768;
 
 // Reads the program and writes its text into the front of `out`. It asks all that checking asks, and is granted and lent the same; a text that is longer
 // than `out`, or than 32,768 bytes, is 82. After a number `out` keeps what it had.
-pub fn format(program: &[u8], grants: &[u64; 5], tokens: &mut [u64], code: &mut [u64], out: &mut [u8]) -> Answer
+pub fn format(
+    program: &[u8],
+    grants: &[u64; 5],
+    tokens: &mut [u64],
+    code: &mut [u64],
+    out: &mut [u8],
+) -> Answer
     ensures { λ r. ⌜ Formatted (calledWith (now (program .entry)) (now (grants .entry)) (now (tokens .entry)) (now (code .entry)) (now (out .entry))) r
         (now (tokens .entry)) (now (code .entry)) (now (tokens .exit)) (now (code .exit)) (now (out .exit)) ⌝ }
 {

@@ -57,5 +57,5 @@ unfolding printed textAnswer textOut
 formatted-front program g tokens code out e o r tokens′ code′ out′ after n w f =
     let a = admitted-answer program g tokens code out e in
     let q : shownText (meant r) out′ ≡ printedFor (readAnswer program) (text program) =
-        rw (w .answered, w .outAfter, a) (shown-for (text program) out o (readAnswer program)) in
+    rw (w .answered, w .outAfter, a) (shown-for (text program) out o (readAnswer program)) in
     rw q at f

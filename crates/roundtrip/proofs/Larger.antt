@@ -63,10 +63,12 @@ module _ (t out more : List ℕ) (longer : length out ≤ length more) where
   fitted : fits t out ≡ true → Alike (pictured 0 0)
   unfolding answerWith outWith if_then_else_
   fitted e =
-      let k = fits-more e in
-      (rw (e, k .1), λ l n q.
-      let z : length t ≡ l = told (length t) 0 l n (rw e at q) in
-      rw (e, k .1, sym z) (laid-front t more (omega (arith, k .0, longer)) ∙ sym (laid-front t out (k .0))))
+      let k = fits-more e in (
+        rw (e, k .1),
+        λ l n q.
+            let z : length t ≡ l = told (length t) 0 l n (rw e at q) in
+            rw (e, k .1, sym z) (laid-front t more (omega (arith, k .0, longer)) ∙ sym (laid-front t out (k .0))),
+      )
     where
       told : (a b c d : ℕ) → pictured a b ≡ pictured c d → a ≡ c
       told a b c d h = cc

@@ -4,39 +4,30 @@ use Rattle.formatting.proofs.Answering.{format-refused, format-lent, fo
 use Rattle.formatting.proofs.format.Statement.{statement}
 use Rattle.formatting.proofs.format.Tie as tie
 
--- src/lib.rt:20:9
 can-read-requires : tie.Need-can-read-requires
 can-read-requires c κs = search needs
 
--- src/lib.rt:21:9
 returns : tie.Need-returns
 returns c = search format-refused
 
--- src/lib.rt:23:9
 write-read-requires : tie.Need-write-read-requires
 write-read-requires c κs = format-lent _ _ _ _ (c .before .before .before .before .can-read .ensures) (c .before .before .before .if1 .left)
 
--- src/lib.rt:24:5
 clear-words-requires : tie.Need-clear-words-requires
 clear-words-requires c κs = search needs
 
--- src/lib.rt:25:5
 clear-words-requires-2 : tie.Need-clear-words-requires-2
 clear-words-requires-2 c κs = search needs
 
--- src/lib.rt:16:1
 same-length : tie.Need-same-length
 same-length c = search needs
 
--- src/lib.rt:16:1
 same-length-2 : tie.Need-same-length-2
 same-length-2 c = search needs
 
--- src/lib.rt:16:1
 same-length-3 : tie.Need-same-length-3
 same-length-3 c = search needs
 
--- src/lib.rt:16:1
 returns-2 : tie.Need-returns-2
 returns-2 c = search format-read
 

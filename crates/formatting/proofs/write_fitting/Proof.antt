@@ -4,47 +4,36 @@ use Rattle.formatting.proofs.Answering.{text-too-long, out-too-short, t
 use Rattle.formatting.proofs.write_fitting.Statement.{statement}
 use Rattle.formatting.proofs.write_fitting.Tie as tie
 
--- src/lib.rt:49:63
 sub-write-text : tie.Need-sub-write-text
 sub-write-text c = search needs
 
--- src/lib.rt:49:63
 part-write-text-start : tie.Need-part-write-text-start
 part-write-text-start c = search needs
 
--- src/lib.rt:49:63
 part-write-text-end : tie.Need-part-write-text-end
 part-write-text-end c = search needs
 
--- src/lib.rt:49:9
 write-text-requires : tie.Need-write-text-requires
 write-text-requires c κs = search needs
 
--- src/lib.rt:51:9
 same-length : tie.Need-same-length
 same-length c = search needs
 
--- src/lib.rt:51:9
 returns : tie.Need-returns
 returns c = text-too-long _ _ _ (c .before .before .before .before .before .before .before .before .before .pre) _ (c .before .before .before .write-text .ensures) (c .if1 .taken)
 
--- src/lib.rt:54:9
 same-length-2 : tie.Need-same-length-2
 same-length-2 c = search needs
 
--- src/lib.rt:54:9
 returns-2 : tie.Need-returns-2
 returns-2 c = out-too-short _ _ _ (c .before .before .before .before .before .before .before .before .before .before .pre) _ (c .before .before .before .before .write-text .ensures) (c .before .if1 .left) (c .if2 .taken)
 
--- src/lib.rt:56:5
 write-text-requires-2 : tie.Need-write-text-requires-2
 write-text-requires-2 c κs = search needs
 
--- src/lib.rt:45:1
 same-length-3 : tie.Need-same-length-3
 same-length-3 c = search needs
 
--- src/lib.rt:45:1
 returns-3 : tie.Need-returns-3
 returns-3 c = text-fits _ _ _ (c .before .before .before .before .before .before .before .before .before .before .before .before .before .before .pre) _ (c .before .before .before .before .before .before .before .before .write-text .ensures) (c .before .before .before .before .before .if1 .left) (c .before .before .before .before .if2 .left) _ _ (c .before .before .write-text2 .ensures)
 

@@ -6,59 +6,45 @@ use Rattle.formatting.proofs.Answering.{tokens-within, raw-bounded, for
 use Rattle.formatting.proofs.write_read.Statement.{statement}
 use Rattle.formatting.proofs.write_read.Tie as tie
 
--- src/lib.rt:35:9
 returns : tie.Need-returns
 returns c = long-written _ _ (c .if1 .taken)
 
--- src/lib.rt:37:9
 read-requires : tie.Need-read-requires
 read-requires c κs = search needs
 
--- src/lib.rt:39:31
 enum-known-p : tie.Need-enum-known-p
 enum-known-p c = search needs
 
--- src/lib.rt:39:60
 slice-reshare-prefix-write-fitting : tie.Need-slice-reshare-prefix-write-fitting
 slice-reshare-prefix-write-fitting c = tokens-within _ _ _ (c .before .before .before .before .before .before .before .before .before .before .if1 .left) _ (c .before .before .before .before .before .before .before .read .ensures .0) (c .before .before .before .before .before .before .before .read .ensures .1) _ _ _ (c .before .p .given .1) (let a = c .before .before .before .before .before .before .tokens in omega (arith, c .before .before .before .before .before .before .before .before .before .before .before .before .before .before .before .pre .tokensLong))
 
--- src/lib.rt:39:60
 slice-aggregate-write-fitting : tie.Need-slice-aggregate-write-fitting
 slice-aggregate-write-fitting c = let h = tokens-within _ _ _ (c .before .before .before .before .before .before .before .before .before .before .before .if1 .left) _ (c .before .before .before .before .before .before .before .before .read .ensures .0) (c .before .before .before .before .before .before .before .before .read .ensures .1) _ _ _ (c .before .before .p .given .1) (let a = c .before .before .before .before .before .before .before .tokens in omega (arith, c .before .before .before .before .before .before .before .before .before .before .before .before .before .before .before .before .pre .tokensLong)) in simp length-take (omega arith)
 
--- src/lib.rt:39:37
 write-fitting-requires : tie.Need-write-fitting-requires
 write-fitting-requires c κs = raw-bounded _ _ _ (c .before .before .before .before .before .before .before .before .before .before .before .before .before .if1 .left) _ (c .before .before .before .before .before .before .before .before .before .before .read .ensures .0) (c .before .before .before .before .before .before .before .before .before .before .read .ensures .1) _ _ _ (c .before .before .before .before .p .given .1)
 
--- src/lib.rt:40:28
 enum-known-p-2 : tie.Need-enum-known-p-2
 enum-known-p-2 c = search needs
 
--- src/lib.rt:30:1
 same-length : tie.Need-same-length
 same-length c = search needs
 
--- src/lib.rt:30:1
 same-length-2 : tie.Need-same-length-2
 same-length-2 c = search needs
 
--- src/lib.rt:30:1
 same-length-3 : tie.Need-same-length-3
 same-length-3 c = search needs
 
--- src/lib.rt:30:1
 returns-2 : tie.Need-returns-2
 returns-2 c = formed-written _ _ _ (c .before .before .before .before .before .before .before .before .before .before .before .before .before .before .before .before .if1 .left) _ (c .before .before .before .before .before .before .before .before .before .before .before .before .before .read .ensures .0) (c .before .before .before .before .before .before .before .before .before .before .before .before .before .read .ensures .1) _ _ _ (c .before .before .before .before .before .before .before .p .given .1) _ _ _ (c .before .before .write-fitting .ensures)
 
--- src/lib.rt:30:1
 same-length-4 : tie.Need-same-length-4
 same-length-4 c = search needs
 
--- src/lib.rt:30:1
 same-length-5 : tie.Need-same-length-5
 same-length-5 c = search needs
 
--- src/lib.rt:30:1
 returns-3 : tie.Need-returns-3
 returns-3 c = malformed-written _ _ _ (c .before .before .before .before .before .before .before .before .before .before .if1 .left) _ (c .before .before .before .before .before .before .before .read .ensures .0) _ _ (c .before .p2 .given .1)
 
