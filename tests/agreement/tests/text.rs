@@ -373,7 +373,9 @@ fn a_text_draws_what_its_program_draws() {
 // Would catch any row of the decisions taken otherwise. The results are those of the document, not of the reference.
 #[test]
 fn decisions() {
-    for row in text_rows() {
+    let rows = text_rows();
+    assert!(rows.len() >= 16, "{} rows", rows.len());
+    for row in rows {
         let mut lent = Lent::filled(1);
         let mut out = vec![b'#'; row.out_length as usize];
         let (tokens, code) = (&mut lent.tokens, &mut lent.code);
