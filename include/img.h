@@ -1,4 +1,5 @@
-/* IMG drawings: check or draw a program of the IMG language.
+/* IMG drawings: check or draw a program of the IMG language, or write its one
+ * text.
  *
  * The functions are in libimg.a, which `rt staticlib img` builds (x86-64).
  * They allocate nothing, keep nothing between calls, and may be called from
@@ -41,7 +42,8 @@ extern "C" {
 #define IMG_MOST_TEXT_BYTES UINT64_C(65535)
 #define IMG_MOST_CALLS UINT64_C(64)
 
-/* The most bytes that a program may have; more gives the number 73. */
+/* The most bytes that a program may have; more gives the number 73. A text has
+ * no more either: more gives 82. */
 #define IMG_MOST_PROGRAM ((size_t)32768)
 
 /* A function needs less stack than this many bytes, by the calls granted.
@@ -52,10 +54,11 @@ extern "C" {
  * for, and returns the number whether or not there is room. */
 #define IMG_ANSWER ((size_t)4)
 enum {
-    IMG_NUMBER = 0, /* 0: a picture, or well formed; else 10 to 81 */
+    IMG_NUMBER = 0, /* 0: a picture, a text, or well formed; else 10 to 82 */
     IMG_PLACE = 1,  /* the byte of the program that the number names */
     IMG_STEPS = 2,  /* the steps counted */
-    IMG_LENGTH = 3  /* the picture's length; with 80 the length it needs */
+    IMG_LENGTH = 3  /* the length of the picture or text; with 80 or 82 the
+                     * length it needs */
 };
 
 /* Says whether a program is well formed. Nothing is taken of the counts; they
@@ -66,6 +69,22 @@ uint64_t img_check(const uint8_t *program, size_t program_length,
                    uint64_t *tokens, size_t tokens_length,
                    uint64_t *code, size_t code_length,
                    uint64_t *answer, size_t answer_length);
+
+/* Writes the one text of a program to the front of `out`: programs that differ
+ * only in white space, needless parentheses and the spelling of constants have
+ * the same. Bytes of `out` behind the text stay as they were, and so does all
+ * of `out` after a number. Nothing is run or taken, as with img_check.
+ *
+ * A text that is longer than `out`, or than IMG_MOST_PROGRAM, gives the number
+ * 82, with its length. So an `out` of IMG_MOST_PROGRAM bytes is always enough
+ * for a text that can be given. */
+uint64_t img_text(const uint8_t *program, size_t program_length,
+                  uint64_t steps, uint64_t shapes,
+                  uint64_t entries, uint64_t text_bytes, uint64_t calls,
+                  uint64_t *tokens, size_t tokens_length,
+                  uint64_t *code, size_t code_length,
+                  uint8_t *out, size_t out_length,
+                  uint64_t *answer, size_t answer_length);
 
 /* Runs a program and writes its picture to the front of `out`. Bytes of `out`
  * behind the picture stay as they were, and so does all of `out` after a
@@ -125,6 +144,8 @@ static inline const char *img_sentence(uint64_t number)
         return "the picture is longer than the place lent for it";
     case 81:
         return "no call is left of those granted";
+    case 82:
+        return "the drawing's one text is longer than 32,768 bytes, or than the place lent for it";
     default:
         return "there is no such number";
     }

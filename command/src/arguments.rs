@@ -1,5 +1,6 @@
 //! What the call asks for.
 
+use crate::output::{self, Kind};
 use img::Grants;
 use std::ffi::{OsStr, OsString};
 use std::path::Path;
@@ -9,9 +10,11 @@ img draws small programs of the IMG language as SVG.
 
   img draw [OPTION]... FILE...    print the picture, or say what is wrong
   img check FILE...               say whether each file is well formed; nothing is run
+  img text [OPTION]... FILE...    print the drawing in its one text; nothing is run
   img --help, img --version
 
 FILE is a sheet: a line `WIDTH HEIGHT`, then the program. `-` is standard input.
+check and text take a program alone too.
 
 Options of draw:
   --size WIDTH HEIGHT   FILE is a program alone, to be drawn at this size
@@ -26,10 +29,17 @@ Options of draw:
   --calls N             grant N procedures under way at once, main among them; 64 at most   (64)
   --out-bytes N         the longest picture     (65536 bytes)
   --name NAME           what standard input is called in messages
+
+Options of text:
+  -o FILE               write the text to FILE, whole or not at all; that may be the file itself.
+                        Into a folder, under the file's name.
+                        Several files need -o FOLDER or --check
+  --check               write nothing; print the name of each file that is not its own text
+
   --                    what follows is a file, also if it begins with `-`
 
-Exit status: 0 every file gave its result; 1 one got a number, which is explained on standard error;
-2 wrong use; 3 something cannot be read or written.
+Exit status: 0 every file gave its result; 1 one got a number, which is explained on standard error,
+or is not its own text (text --check); 2 wrong use; 3 something cannot be read or written.
 ";
 
 /// What is wanted.
@@ -37,7 +47,15 @@ pub enum Wanted {
     Help,
     Version,
     Check(Vec<OsString>),
+    Text(Text),
     Draw(Draw),
+}
+
+/// What to do with texts.
+pub struct Text {
+    pub files: Vec<OsString>,
+    pub output: Option<OsString>,
+    pub check: bool,
 }
 
 /// How to draw.
@@ -67,6 +85,7 @@ pub fn parse(arguments: impl Iterator<Item = OsString>) -> Result<Wanted, String
         None => Err("what shall be done?".into()),
         Some(word) if word == "draw" => draw(rest),
         Some(word) if word == "check" => check(rest),
+        Some(word) if word == "text" => text(rest),
         Some(word) => Err(format!("`{}` is no command", shown(&word))),
     }
 }
@@ -77,6 +96,23 @@ fn check(rest: impl Iterator<Item = OsString>) -> Result<Wanted, String> {
     Ok(Wanted::Check(files))
 }
 
+fn text(rest: impl Iterator<Item = OsString>) -> Result<Wanted, String> {
+    let (mut files, mut output, mut check) = (Vec::new(), None, false);
+    options(rest, &mut files, |option, values| {
+        match option {
+            "-o" => output = Some(place(values)?),
+            "--check" => check = true,
+            _ => return Err(unknown("text", option)),
+        }
+        Ok(())
+    })?;
+    if check && output.is_some() {
+        return Err("`--check` writes nothing, so it takes no `-o`".into());
+    }
+    places_differ(&files, output.as_deref(), Kind::Text, check)?;
+    Ok(Wanted::Text(Text { files, output, check }))
+}
+
 fn draw(rest: impl Iterator<Item = OsString>) -> Result<Wanted, String> {
     let mut wanted =
         Draw { files: Vec::new(), output: None, size: None, count: false, name: None, grants: Grants::IMGDRAW, out_bytes: 65_536 };
@@ -84,7 +120,7 @@ fn draw(rest: impl Iterator<Item = OsString>) -> Result<Wanted, String> {
     options(rest, &mut files, |option, values| {
         let grants = &mut wanted.grants;
         match option {
-            "-o" => wanted.output = Some(values.next().ok_or("-o needs a file or a folder")?),
+            "-o" => wanted.output = Some(place(values)?),
             "--count" => wanted.count = true,
             "--name" => wanted.name = Some(values.next().ok_or("--name needs a name")?),
             "--size" => wanted.size = Some((number(option, values)?, number(option, values)?)),
@@ -99,7 +135,7 @@ fn draw(rest: impl Iterator<Item = OsString>) -> Result<Wanted, String> {
         Ok(())
     })?;
     wanted.files = files;
-    places_differ(&wanted)?;
+    places_differ(&wanted.files, wanted.output.as_deref(), Kind::Picture, wanted.count)?;
     Ok(Wanted::Draw(wanted))
 }
 
@@ -124,31 +160,42 @@ fn options<I: Iterator<Item = OsString>>(
     }
 }
 
-/// No picture may take the place of another one of the same call.
-fn places_differ(wanted: &Draw) -> Result<(), String> {
-    let [first, others @ ..] = &wanted.files[..] else {
+/// Nothing that is written may take the place of another of the same call. Several files are told apart by their names, in a folder or in the lines about them.
+fn places_differ(files: &[OsString], output: Option<&OsStr>, kind: Kind, told: bool) -> Result<(), String> {
+    let [first, others @ ..] = files else {
         return Ok(());
     };
     let stdin = |file: &&OsString| *file == "-";
-    if wanted.files.iter().filter(stdin).count() > 1 {
+    if files.iter().filter(stdin).count() > 1 {
         return Err("`-` is named twice, and standard input can be read once".into());
     }
     if others.is_empty() {
         return Ok(());
     }
-    match &wanted.output {
-        None if wanted.count => Ok(()),
+    match output {
+        None if told => Ok(()),
         Some(folder) if Path::new(folder).is_dir() => {
-            let mut names: Vec<_> = wanted.files.iter().map(|f| crate::output::path(folder, f)).collect();
+            let mut names: Vec<_> = files.iter().map(|f| output::path(folder, f, kind)).collect();
             names.sort();
             match names.windows(2).find(|pair| pair[0] == pair[1]) {
-                Some(pair) => Err(format!("two files would be drawn to {}", pair[0].display())),
+                Some(pair) => Err(format!("two files would be written to {}", pair[0].display())),
                 None => Ok(()),
             }
         }
         Some(other) => Err(format!("several files are named, and {} is no folder", shown(other))),
-        None => Err(format!("several files are named: `-o FOLDER` says where the pictures of {} and the others go", shown(first))),
+        None => {
+            let what = match kind {
+                Kind::Picture => "pictures",
+                Kind::Text => "texts",
+            };
+            Err(format!("several files are named: `-o FOLDER` says where the {what} of {} and the others go", shown(first)))
+        }
     }
+}
+
+/// The next argument as a place to write to.
+fn place(values: &mut impl Iterator<Item = OsString>) -> Result<OsString, String> {
+    values.next().ok_or("-o needs a file or a folder".into())
 }
 
 /// The next argument as a number.

@@ -53,6 +53,11 @@ impl Drawing {
         self.size
     }
 
+    /// The first line as it is written, without leading zeros; nothing of a program alone.
+    pub fn line(&self) -> String {
+        self.size.map_or(String::new(), |(width, height)| format!("{width} {height}\n"))
+    }
+
     pub fn program(&self) -> &[u8] {
         &self.bytes[self.start..]
     }

@@ -1,4 +1,5 @@
-//! `img`: checks and draws programs of the IMG language. Every answer is the proved library's; this reads files, writes pictures and says what a number means.
+//! `img`: checks and draws programs of the IMG language, and writes their one text. Every answer is the proved library's; this reads files, writes pictures and
+//! texts, and says what a number means.
 
 mod arguments;
 mod input;
@@ -8,9 +9,10 @@ mod open;
 mod output;
 mod tokens;
 
-use arguments::{Draw, Wanted};
+use arguments::{Draw, Text, Wanted};
 use img::{Grants, Refusal, Workspace};
 use input::Drawing;
+use output::Kind;
 use std::ffi::{OsStr, OsString};
 use std::io::{self, Write};
 use std::process::ExitCode;
@@ -39,6 +41,7 @@ fn run() -> Status {
         Ok(Wanted::Help) => print(arguments::HELP.as_bytes()),
         Ok(Wanted::Version) => print(format!("img {}\n", img::VERSION).as_bytes()),
         Ok(Wanted::Check(files)) => worst(&files, check()),
+        Ok(Wanted::Text(wanted)) => worst(&wanted.files, text(&wanted)),
         Ok(Wanted::Draw(wanted)) => worst(&wanted.files, draw(&wanted)),
         Err(complaint) => {
             say(&format!("img: {complaint}\nTry `img --help`.\n"));
@@ -67,6 +70,26 @@ fn check() -> impl FnMut(&OsStr) -> Status {
     }
 }
 
+/// Writes each file in its one text, or names it if it is written otherwise. The text of a sheet is a sheet again.
+fn text(wanted: &Text) -> impl FnMut(&OsStr) -> Status + '_ {
+    let mut workspace = Workspace::new(Grants::IMGDRAW);
+    move |file| {
+        let drawing = match Drawing::read(file) {
+            Ok(drawing) => drawing.sheet(),
+            Err(error) => return failed(&input::shown(file), &error),
+        };
+        let text = match workspace.text_string(drawing.program()) {
+            Ok(text) => drawing.line() + &text,
+            Err(refusal) => return refused(&drawing, &refusal),
+        };
+        match wanted.check {
+            false => put(wanted.output.as_deref(), file, Kind::Text, text.as_bytes()),
+            true if text.as_bytes() == drawing.bytes => Status::Done,
+            true => print(format!("{}\n", drawing.name).as_bytes()).max(Status::Number),
+        }
+    }
+}
+
 /// Draws each file, or prints its counts.
 fn draw(wanted: &Draw) -> impl FnMut(&OsStr) -> Status + '_ {
     let mut workspace = Workspace::new(wanted.grants);
@@ -83,28 +106,35 @@ fn draw(wanted: &Draw) -> impl FnMut(&OsStr) -> Status + '_ {
         let (width, height) = wanted.size.or(drawing.size()).unwrap_or((0, 0));
         let mut out = Vec::new();
         match workspace.draw_vec(drawing.program(), width, height, wanted.out_bytes, &mut out) {
-            Ok(_) => put(wanted, &drawing, file, &out),
+            Ok(_) => drawn(wanted, &drawing, file, &out),
             Err(refusal) => refused(&drawing, &refusal),
         }
     }
 }
 
-/// Puts a whole picture where it belongs.
-fn put(wanted: &Draw, drawing: &Drawing, file: &OsStr, picture: &[u8]) -> Status {
+/// Puts a picture where it belongs, and prints its counts if they are wanted: then the picture itself only where `-o` says.
+fn drawn(wanted: &Draw, drawing: &Drawing, file: &OsStr, picture: &[u8]) -> Status {
     let status = match (&wanted.output, wanted.count) {
-        (Some(to), _) if to != "-" => {
-            let path = output::path(to, file);
-            match output::write(&path, picture) {
+        (None, true) => Status::Done,
+        (to, _) => put(to.as_deref(), file, Kind::Picture, picture),
+    };
+    match wanted.count && status == Status::Done {
+        true => print(counts(&drawing.name, picture).as_bytes()),
+        false => status,
+    }
+}
+
+/// Puts a whole picture or text where it belongs: to the place that is named, or on standard output.
+fn put(to: Option<&OsStr>, file: &OsStr, kind: Kind, bytes: &[u8]) -> Status {
+    match to.filter(|to| *to != "-") {
+        None => print(bytes),
+        Some(to) => {
+            let path = output::path(to, file, kind);
+            match output::write(&path, bytes) {
                 Ok(()) => Status::Done,
-                Err(error) => return failed(&path.display().to_string(), &error),
+                Err(error) => failed(&path.display().to_string(), &error),
             }
         }
-        (None, true) => Status::Done,
-        _ => print(picture),
-    };
-    match wanted.count {
-        true => status.max(print(counts(&drawing.name, picture).as_bytes())),
-        false => status,
     }
 }
 

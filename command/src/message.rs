@@ -37,7 +37,7 @@ pub fn of(drawing: &Drawing, refusal: &Refusal, colours: Colours) -> String {
     let Colours { error, frame, strong, end } = colours;
     let reason = likely::reason(drawing, refusal);
     let needs = match refusal.number {
-        80 => format!("; it needs {} bytes", refusal.length),
+        80 | 82 => format!("; it needs {} bytes", refusal.length),
         _ => String::new(),
     };
     let number = refusal.number;
@@ -73,7 +73,7 @@ fn marked(drawing: &Drawing, refusal: &Refusal) -> Option<(usize, usize)> {
     let from = all.partition_point(|token| token.start < refusal.place);
     let rest = &all[from..];
     let last = match refusal.number {
-        71 | 73 | 80 => return None,
+        71 | 73 | 80 | 82 => return None,
         72 if !drawing.is_sheet => return None,
         // The sheet's first line.
         72 => {

@@ -1,11 +1,14 @@
-//! What `img` prints, writes and ends with. Status 0: every file gave its result; 1: a number; 2: wrong use; 3: input or output failed.
+//! What `img` prints, writes and ends with. Status 0: every file gave its result; 1: a number, or a file that is not its own text; 2: wrong use; 3: input or output
+//! failed.
 
 use std::fs::{self, File, OpenOptions};
 use std::io::Write;
+use std::os::unix::fs::PermissionsExt;
 use std::path::{Path, PathBuf};
 use std::process::{Command, Output, Stdio};
 
 const DAY: &str = "20 20\ndef main(w,h){var a;var b;a=drawBox(2,9,3,h-9);b=drawText(2,h,\"day\");}";
+const DAY_TEXT: &str = "20 20\ndef main(w,h){\nvar a;\nvar b;\na=drawBox(2,9,3,h-9);\nb=drawText(2,h,\"day\");\n}\n";
 const WRONG: &str = "20 20\ndef main(w,h){a=1;}";
 
 fn examples(name: &str) -> PathBuf {
@@ -88,6 +91,89 @@ fn checks_sheets_and_drawings() {
     let (printed, said) = fed(&folder, &["check", "-", "wrong"], "def main(w,h){}", 1);
     assert_eq!(printed, b"wrong: well formed\n");
     assert!(said.starts_with("error[10]: "), "{said}");
+}
+
+#[test]
+fn writes_texts_of_sheets_and_drawings() {
+    let folder = folder("texts");
+    // A sheet's text is a sheet, and draws the same picture.
+    assert_eq!(run(&folder, &["text", "day.sheet"], 0).0, DAY_TEXT.as_bytes());
+    assert_eq!(run(&folder, &["text", "--", "-day"], 0).0, DAY_TEXT.as_bytes());
+    assert_eq!(fed(&folder, &["text", "-"], DAY_TEXT, 0).0, DAY_TEXT.as_bytes());
+    assert_eq!(fed(&folder, &["draw", "-"], DAY_TEXT, 0).0, picture());
+    // Its first line has no leading zeros; width and height are not asked about.
+    let zeros = DAY.replace("20 20\n", "0020 000\n\t\n");
+    assert_eq!(fed(&folder, &["text", "-"], &zeros, 0).0, DAY_TEXT.replace("20 20\n", "20 0\n").as_bytes());
+    // A program alone, which is not run.
+    let program = |sheet: &str| sheet.strip_prefix("20 20\n").unwrap().to_string();
+    assert_eq!(fed(&folder, &["text", "-"], &program(DAY), 0).0, program(DAY_TEXT).as_bytes());
+    assert_eq!(fed(&folder, &["text", "-"], &program(WRONG), 0).0, b"def main(w,h){\na=1;\n}\n");
+    for name in ["document01", "hall", "stickman-procedures"] {
+        let drawing = examples(&format!("{name}.img"));
+        let text = fs::read(examples(&format!("../texts/{name}.img"))).unwrap();
+        assert!(run(&folder, &["text", drawing.to_str().unwrap()], 0).0 == text, "{name}");
+    }
+    // A number.
+    let (printed, said) = fed(&folder, &["text", "-"], "20 20\ndef main(w,h){1+2+3;}", 1);
+    assert!(printed.is_empty());
+    assert!(said.starts_with("error[10]: "), "{said}");
+    assert!(said.contains(" --> standard input:2:18 (byte 17)\n"), "{said}");
+}
+
+#[test]
+fn writes_texts_to_files() {
+    let folder = folder("text-files");
+    let read = |name: &str| fs::read_to_string(folder.join(name)).unwrap();
+    run(&folder, &["text", "-o", "new", "day.sheet"], 0);
+    assert_eq!(read("new"), DAY_TEXT);
+    assert_eq!(run(&folder, &["text", "-o", "-", "day.sheet"], 0).0, DAY_TEXT.as_bytes());
+    // The file itself, which keeps its permissions.
+    fs::set_permissions(folder.join("day.sheet"), fs::Permissions::from_mode(0o640)).unwrap();
+    run(&folder, &["text", "-o", "day.sheet", "day.sheet"], 0);
+    assert_eq!(read("day.sheet"), DAY_TEXT);
+    assert_eq!(fs::metadata(folder.join("day.sheet")).unwrap().permissions().mode() & 0o777, 0o640);
+    // A folder gets each under its name; what gets a number stays as it is.
+    fs::write(folder.join("more/broken"), "def main").unwrap();
+    run(&folder, &["text", "-o", "more", "--", "more/day.img", "-day", "wrong", "more/broken"], 1);
+    assert_eq!(read("more/day.img"), DAY_TEXT);
+    assert_eq!(read("more/-day"), DAY_TEXT);
+    assert_eq!(read("more/wrong"), "20 20\ndef main(w,h){\na=1;\n}\n");
+    assert_eq!(read("more/broken"), "def main");
+    fed(&folder, &["text", "-o", "more", "-"], DAY, 0);
+    assert_eq!(read("more/text"), DAY_TEXT);
+    assert_eq!(files(&folder), ["-day", "day.sheet", "more", "new", "wrong"]);
+}
+
+#[test]
+fn tells_which_files_are_not_their_own_text() {
+    let folder = folder("text-check");
+    let checked = |arguments: &[&str], status: i32| {
+        let run = img(&folder, &[&["text", "--check"], arguments].concat()).output().unwrap();
+        let text = |bytes| String::from_utf8(bytes).unwrap();
+        assert_eq!(run.status.code(), Some(status), "{arguments:?}: {run:?}");
+        (text(run.stdout), text(run.stderr))
+    };
+    let nothing = String::new;
+    fs::write(folder.join("text"), DAY_TEXT).unwrap();
+    fs::write(folder.join("alone"), "def main(w,h){\na=1;\n}\n").unwrap();
+    assert_eq!(checked(&["text", "alone"], 0), (nothing(), nothing()));
+    assert_eq!(checked(&["text", "wrong", "alone", "day.sheet"], 1), ("wrong\nday.sheet\n".into(), nothing()));
+    for other in [
+        DAY_TEXT.replace("20 20", "020 20"),
+        DAY_TEXT.replace(";\n}", ";\n }"),
+        format!("{DAY_TEXT}\n"),
+        DAY_TEXT.trim_end().into(),
+        DAY_TEXT.replace("h-9", "(h-9)"),
+        DAY_TEXT.replace("h-9", "h-09"),
+    ] {
+        fs::write(folder.join("other"), other).unwrap();
+        assert_eq!(checked(&["other"], 1), ("other\n".into(), nothing()));
+    }
+    fs::write(folder.join("other"), "def main").unwrap();
+    let (printed, said) = checked(&["other", "wrong"], 1);
+    assert_eq!(printed, "wrong\n");
+    assert!(said.starts_with("error[10]: "), "{said}");
+    checked(&["wrong", "none"], 3);
 }
 
 #[test]
@@ -181,6 +267,15 @@ fn wrong_use_is_2() {
         (&["paint", "day.sheet"], "`paint` is no command"),
         (&["draw"], "no file is named"),
         (&["check"], "no file is named"),
+        (&["text"], "no file is named"),
+        (&["text", "--check"], "no file is named"),
+        (&["text", "--size", "20", "20", "day.sheet"], "`img text` has no option `--size`"),
+        (&["text", "day.sheet", "-o"], "-o needs"),
+        (&["text", "--check", "-o", "new", "day.sheet"], "takes no `-o`"),
+        (&["text", "day.sheet", "wrong"], "where the texts of day.sheet"),
+        (&["text", "-o", "new", "day.sheet", "wrong"], "new is no folder"),
+        (&["text", "-o", "more", "more/day.img", "./more/day.img"], "two files would be written to more/day.img"),
+        (&["text", "--check", "-", "-"], "`-` is named twice"),
         (&["check", "--steps", "3", "day.sheet"], "no option `--steps`"),
         (&["draw", "--colour", "day.sheet"], "no option `--colour`"),
         (&["draw", "day.sheet", "-o"], "-o needs"),
@@ -189,7 +284,7 @@ fn wrong_use_is_2() {
         (&["draw", "day.sheet", "--steps", "-1"], "`-1` is no number"),
         (&["draw", "day.sheet", "more/day.img"], "`-o FOLDER`"),
         (&["draw", "-o", "day.svg", "day.sheet", "more/day.img"], "day.svg is no folder"),
-        (&["draw", "-o", "more", "day.sheet", "more/day.img"], "two files would be drawn to more/day.svg"),
+        (&["draw", "-o", "more", "day.sheet", "more/day.img"], "two files would be written to more/day.svg"),
         (&["draw", "--count", "-", "-"], "`-` is named twice"),
     ] {
         let (printed, said) = run(&folder, arguments, 2);
@@ -207,10 +302,19 @@ fn what_cannot_be_read_or_written_is_3() {
     assert!(run(&folder, &["check", "more"], 3).1.starts_with("img: more: "));
     assert!(run(&folder, &["draw", "-o", "no/day.svg", "day.sheet"], 3).1.starts_with("img: no/day.svg: "));
     run(&folder, &["draw", "-o", "/dev/full", "day.sheet"], 3);
+    assert!(run(&folder, &["text", "more"], 3).1.starts_with("img: more: "));
+    run(&folder, &["text", "-o", "/dev/full", "day.sheet"], 3);
     run(&folder, &["draw", "--count", "wrong", "no.sheet", "day.sheet"], 3);
 
     let full = || OpenOptions::new().write(true).open("/dev/full").unwrap();
-    for arguments in [&["draw", "day.sheet"][..], &["check", "day.sheet"], &["--help"], &["--version"]] {
+    for arguments in [
+        &["draw", "day.sheet"][..],
+        &["check", "day.sheet"],
+        &["text", "day.sheet"],
+        &["text", "--check", "day.sheet"],
+        &["--help"],
+        &["--version"],
+    ] {
         let (_, said) = ended(img(&folder, arguments).stdout(full()).output().unwrap(), 3);
         assert!(said.starts_with("img: standard output: "), "{said}");
     }
@@ -238,7 +342,7 @@ fn what_cannot_be_read_or_written_is_3() {
 #[test]
 fn help_and_version() {
     let folder = folder("help");
-    for arguments in [&["--help"][..], &["-h"], &["help"], &["draw", "--help"]] {
+    for arguments in [&["--help"][..], &["-h"], &["help"], &["draw", "--help"], &["text", "--help"]] {
         let help = String::from_utf8(run(&folder, arguments, 0).0).unwrap();
         assert!(help.contains("img draw [OPTION]... FILE..."), "{help}");
         assert!(help.lines().all(|line| line.len() <= 100), "{help}");

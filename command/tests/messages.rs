@@ -56,6 +56,14 @@ fn every_drawing_gets_its_message() {
     assert_eq!(texts.iter().filter(|name| !numbers(name)).count(), drawings.len());
 }
 
+/// Writes a drawing whose text has one byte too many, though the drawing itself has fewer, and gives its folder.
+fn long_text(name: &str) -> PathBuf {
+    let folder = PathBuf::from(env!("CARGO_TARGET_TMPDIR"));
+    let statements = "wwwwwww;".repeat(3_638);
+    fs::write(folder.join(name), format!("def main(w,h){{{statements}wwwwwwww;}}")).unwrap();
+    folder
+}
+
 #[test]
 fn every_number_has_its_message() {
     let within = folder("../examples/numbers");
@@ -65,6 +73,7 @@ fn every_number_has_its_message() {
         let (width, height) = size.trim_end().split_once(' ').unwrap();
         let message = match number {
             71 => said(&within, &["draw", "--shapes", "65536", "--size", width, height, "72.img"]),
+            82 => said(&long_text(&drawing), &["text", &drawing]),
             _ => said(&within, &["draw", "--size", width, height, &drawing]),
         };
         assert!(message.starts_with(&format!("error[{number}]: ")), "{message}");

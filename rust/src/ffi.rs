@@ -23,6 +23,24 @@ extern "C" {
         answer_length: usize,
     ) -> u64;
 
+    pub fn img_text(
+        program: *const u8,
+        program_length: usize,
+        steps: u64,
+        shapes: u64,
+        entries: u64,
+        text_bytes: u64,
+        calls: u64,
+        tokens: *mut u64,
+        tokens_length: usize,
+        code: *mut u64,
+        code_length: usize,
+        out: *mut u8,
+        out_length: usize,
+        answer: *mut u64,
+        answer_length: usize,
+    ) -> u64;
+
     pub fn img_draw(
         program: *const u8,
         program_length: usize,

@@ -29,6 +29,8 @@
 //! assert_eq!(refusal.to_string(), "error 79 at 47: no step is left of those granted");
 //! assert_eq!(out, [7; 1_000]);
 //! ```
+//!
+//! [`Workspace::check`] says whether a program is well formed, and [`Workspace::text`] gives its one text.
 
 pub mod ffi;
 pub mod numbers;
@@ -45,7 +47,7 @@ struct Readme;
 pub const VERSION: &str = env!("CARGO_PKG_VERSION");
 /// An operation needs less stack than this many bytes for each call that is granted: [`Grants::stack`] tells how much that is.
 pub const STACK: usize = 81_920;
-/// The most bytes that a program may have.
+/// The most bytes that a program may have, and a text too.
 pub const MOST_PROGRAM: usize = 32_768;
 /// How many words the slice for tokens must have.
 pub const TOKENS: usize = 8_193;
@@ -176,6 +178,64 @@ impl Workspace {
             )
         };
         told(number, answer).map(|_| ())
+    }
+
+    /// Writes the one text of a program into the front of `out`, and tells how long it is. Programs that differ only in white space, needless parentheses and
+    /// the spelling of constants have the same text. The program is not run, as with [`Workspace::check`], and what is granted does not matter either.
+    ///
+    /// The bytes behind the text stay as they were; after a refusal all of `out` does. A text that is longer than `out`, or than [`MOST_PROGRAM`], is refused
+    /// with 82, which tells its length.
+    ///
+    /// ```
+    /// # use img::{Grants, Workspace};
+    /// let mut workspace = Workspace::new(Grants::IMGDRAW);
+    /// let mut out = [b'#'; 40];
+    /// let length = workspace.text(b"def main(w, h) { w = (h - 007); }", &mut out)?;
+    /// assert_eq!(&out[..length], b"def main(w,h){\nw=h-7;\n}\n");
+    /// assert_eq!(out[length..], [b'#'; 40][length..]);
+    /// # Ok::<(), img::Refusal>(())
+    /// ```
+    pub fn text(&mut self, program: &[u8], out: &mut [u8]) -> Result<usize, Refusal> {
+        let mut answer = [0; 4];
+        // SAFETY: as in `check`.
+        let number = unsafe {
+            ffi::img_text(
+                program.as_ptr(),
+                program.len(),
+                self.grants.steps,
+                self.grants.shapes,
+                self.grants.entries,
+                self.grants.text_bytes,
+                self.grants.calls,
+                self.tokens.as_mut_ptr(),
+                self.tokens.len(),
+                self.code.as_mut_ptr(),
+                self.code.len(),
+                out.as_mut_ptr(),
+                out.len(),
+                answer.as_mut_ptr(),
+                answer.len(),
+            )
+        };
+        told(number, answer).map(|text| text.length)
+    }
+
+    /// The one text of a program as a string, which holds ASCII alone. A text that is longer than [`MOST_PROGRAM`] is refused with 82.
+    ///
+    /// ```
+    /// # use img::{Grants, Workspace};
+    /// let mut workspace = Workspace::new(Grants::IMGDRAW);
+    /// let one = workspace.text_string(b"def main(w,h){var a;a=h-7;}")?;
+    /// let other = workspace.text_string(b"def main(w, h) {\n  var a;\n  a = (h - 007);\n}\n")?;
+    /// assert_eq!(one, "def main(w,h){\nvar a;\na=h-7;\n}\n");
+    /// assert_eq!(one, other);
+    /// # Ok::<(), img::Refusal>(())
+    /// ```
+    pub fn text_string(&mut self, program: &[u8]) -> Result<String, Refusal> {
+        let mut out = vec![0; MOST_PROGRAM];
+        let length = self.text(program, &mut out)?;
+        out.truncate(length);
+        Ok(String::from_utf8(out).expect("a text is ASCII"))
     }
 
     /// Runs a program and draws its picture into the front of `out`. The bytes behind it stay as they were; after a refusal all of `out` does.

@@ -1,19 +1,19 @@
-//! Why there is no picture.
+//! Why there is no picture, or no text.
 
 use crate::numbers;
 use std::error::Error;
 use std::fmt;
 
-/// A number of document 01 in place of a picture, or of `well formed`.
+/// A number of document 01 in place of a picture, of a text, or of `well formed`.
 #[derive(Clone, Copy, Debug, PartialEq, Eq)]
 pub struct Refusal {
-    /// What was wrong or lacking: 10 to 80.
+    /// What was wrong or lacking: 10 to 82.
     pub number: u64,
     /// The byte of the program that the number is about.
     pub place: usize,
     /// The steps counted by then.
     pub steps: u64,
-    /// With 80 the length that the picture needs, otherwise 0.
+    /// With 80 the length that the picture needs, with 82 the text, otherwise 0.
     pub length: usize,
 }
 
@@ -39,7 +39,7 @@ impl fmt::Display for Refusal {
             self.place,
             self.sentence()
         )?;
-        if self.number == 80 {
+        if matches!(self.number, 80 | 82) {
             write!(f, "; it needs {} bytes", self.length)?;
         }
         Ok(())

@@ -84,7 +84,7 @@ fn of_this_crate() -> Functions {
 #[test]
 fn the_declarations_are_those_of_the_header() {
     let functions = of_the_header();
-    assert!(functions.len() >= 2, "{functions:?}");
+    assert!(functions.len() >= 3, "{functions:?}");
     assert_eq!(functions, of_this_crate());
 }
 

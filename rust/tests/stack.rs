@@ -58,8 +58,8 @@ fn program(calls: usize, around: impl Fn(&str) -> String) -> String {
     )
 }
 
-/// The numbers of checking and drawing, on a thread whose stack is as large as the calls granted ask for.
-fn on_a_small_stack(calls: usize, program: String) -> [u64; 2] {
+/// The numbers of checking, writing the text and drawing, on a thread whose stack is as large as the calls granted ask for.
+fn on_a_small_stack(calls: usize, program: String) -> [u64; 3] {
     let grants = Grants {
         calls: calls as u64,
         ..Grants::IMGDRAW
@@ -69,9 +69,11 @@ fn on_a_small_stack(calls: usize, program: String) -> [u64; 2] {
         let mut workspace = Workspace::new(grants);
         let mut out = vec![0; 65_536];
         let checked = workspace.check(program.as_bytes());
+        let text = workspace.text(program.as_bytes(), &mut out);
         let drawn = workspace.draw(program.as_bytes(), 20, 20, &mut out);
         [
             checked.map_or_else(|r| r.number, |()| 0),
+            text.map_or_else(|r| r.number, |_| 0),
             drawn.map_or_else(|r| r.number, |_| 0),
         ]
     };
@@ -86,20 +88,23 @@ fn the_deepest_programs_need_less_stack_than_stated() {
             let one = program(calls, |call| nested(outer, 63, call));
             let one = on_a_small_stack(calls, one);
             let ends = |drawn| matches!(drawn, 0 | 20 | 81);
-            assert!(one[0] == 0 && ends(one[1]), "{calls} {outer:?}: {one:?}");
+            assert!(
+                one[..2] == [0, 0] && ends(one[2]),
+                "{calls} {outer:?}: {one:?}"
+            );
             // Another kind inside, half and half.
             for kind in NESTS.iter().filter(|kind| kind.1.is_empty()) {
                 let both = program(calls, |call| nested(outer, 31, &inner(*kind, 32, call)));
                 let both = on_a_small_stack(calls, both);
                 assert!(
-                    both[0] == 0 && ends(both[1]),
+                    both[..2] == [0, 0] && ends(both[2]),
                     "{calls} {outer:?} {kind:?}: {both:?}"
                 );
             }
         }
     }
     let deeper = program(1, |inside| nested(NESTS[0], 64, inside));
-    assert_eq!(on_a_small_stack(1, deeper), [75, 75]);
+    assert_eq!(on_a_small_stack(1, deeper), [75, 75, 75]);
 }
 
 #[test]
@@ -109,6 +114,6 @@ fn one_call_more_than_granted_is_81() {
         let first = format!("f({},w)", calls - 2);
         let deeper = deep.replace(&first, &format!("f({},w)", calls - 1));
         assert_eq!(on_a_small_stack(calls, deep)[0], 0);
-        assert_eq!(on_a_small_stack(calls, deeper), [0, 81]);
+        assert_eq!(on_a_small_stack(calls, deeper), [0, 0, 81]);
     }
 }

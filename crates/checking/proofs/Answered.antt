@@ -5,9 +5,9 @@ use mathlib.Core.Bool.{Bool, true, false, not, _&&_}
 use mathlib.Core.List.{List, []}
 use mathlib.Core.Option.{Option, none, some}
 use lib.ListN.{length, replicate}
-use lib.Dec.{leb, ltb}
+use lib.Dec.{ltb}
 use native.Mathlib.Omega.{arith}
-use borrow.Author.Tests.{le-leb, lt-leb, lt-ltb, le-ltb, not-true, not-false}
+use borrow.Author.Tests.{lt-ltb, le-ltb, not-true, not-false}
 use Rattle.meaning.specs.Basics.{if_then_else_}
 use Rattle.meaning.specs.Tree.{Procedure, Program}
 use Rattle.meaning.specs.Grammar.{Reading, wellFormed, malformed, reading}
@@ -15,38 +15,22 @@ use Rattle.meaning.specs.Run.{goOn, _>>=_, give, fail, refuse}
 use Rattle.meaning.specs.Procedure.{doubled}
 use Rattle.meaning.specs.Program.{accepted, namedApart, understood, sized, performing, specified, empty}
 use Rattle.meaning.specs.Book.{Amounts, Answer, pictured, number, book, settled, answerTo, booked}
-use Rattle.meaning.specs.Call.{inRange, needed, longEnough, admitted, grantedTo, runOf, answer, workAfter}
+use Rattle.meaning.specs.Call.{admitted, grantedTo, runOf, answer, workAfter}
 use Rattle.answers.specs.declared.Answer as Declared
 use Rattle.answers.specs.declared.Answer.the-variants.{Picture, Number}
 use Rattle.answers.specs.Answers.{meant}
-use Rattle.lending.specs.Lending.{grantsOf}
+use Rattle.lending.specs.Lending.{enoughToRead}
+use Rattle.lending.proofs.Admitted.{can-read}
 use Rattle.reader.specs.declared.Program as Read
 use Rattle.reader.specs.declared.Program.the-variants.{Formed, Malformed}
 use Rattle.reader.specs.Reading.{tokensIn, seen, codedApart, coded}
-use Rattle.checking.specs.Checking.{called, Checked, Lent, answerApart, answerOf, readAnswer}
+use Rattle.checking.specs.Checking.{calledWith, Checked, Lent, answerApart, answerOf, readAnswer}
 
 -- ---- the first question
-both-short : (a b : Bool) → b ≡ false → _&&_ a (_&&_ b true) ≡ false
-both-short true b e = rw e
-both-short false b e = refl
-
-module _ (program g tokens code : List ℕ) where
-  out-of-range : inRange (grantsOf g) ≡ false → admitted (called program g tokens code) ≡ false
-  unfolding admitted
-  out-of-range e = rw e
-
-  module _ (e : inRange (grantsOf g) ≡ true) where
-    enough : Lent tokens code → admitted (called program g tokens code) ≡ true
-    unfolding admitted needed longEnough
-    enough h = rw (e, le-leb 8193 (length tokens) (h .tokensLong), le-leb 16384 (length code) (h .codeLong))
-
-    short-tokens : length tokens < 8193 → admitted (called program g tokens code) ≡ false
-    unfolding admitted needed longEnough
-    short-tokens h = rw (e, lt-leb 8193 (length tokens) h)
-
-    short-code : length code < 16384 → admitted (called program g tokens code) ≡ false
-    unfolding admitted needed longEnough
-    short-code h = rw e (both-short (leb 8193 (length tokens)) _ (lt-leb 16384 (length code) h))
+module _ (program g tokens code out : List ℕ) where
+  asked : admitted (calledWith program g tokens code out) ≡ enoughToRead g (length tokens) (length code)
+  unfolding admitted enoughToRead
+  asked = refl
 
 -- ---- the answer
 answer-apart : (g : Amounts) (m : Program) (d : Option ℕ) → booked g ((namedApart d m >>= λ _. give accepted) empty) ≡ answerApart d
@@ -67,57 +51,60 @@ unfolding booked book settled answerTo goOn _>>=_ give fail refuse if_then_else_
 answer-sized g true r = refl
 answer-sized g false r = answer-read g r
 
-module _ (program g tokens code : List ℕ) where
-  run-answer : booked (grantedTo (called program g tokens code)) (runOf (called program g tokens code)) ≡ readAnswer program
+module _ (program g tokens code out : List ℕ) where
+  run-answer : booked (grantedTo (calledWith program g tokens code out)) (runOf (calledWith program g tokens code out)) ≡ readAnswer program
   unfolding runOf specified performing sized readAnswer
   run-answer = answer-sized _ (ltb 32768 (length program)) (reading program)
 
-  by-admitted : (b : Bool) (x : Answer) → b ≡ true → (if b then (λ _. x) else λ _. number 71 0 0 0) ≡ x
-  unfolding if_then_else_
-  by-admitted b x e = rw e
+  -- after 71 nothing has changed
+  module _ (short : enoughToRead g (length tokens) (length code) ≡ false) where
+    pub refused-answer : answer (calledWith program g tokens code out) ≡ number 71 0 0 0
+    unfolding answer if_then_else_
+    refused-answer = rw (asked program g tokens code out ∙ short)
 
-  pub admitted-answer : inRange (grantsOf g) ≡ true → Lent tokens code → answer (called program g tokens code) ≡ readAnswer program
-  unfolding answer
-  admitted-answer e h = by-admitted _ _ (enough program g tokens code e h) ∙ run-answer
+    pub refused-work : (work : List ℕ) → workAfter (calledWith program g tokens code out) work ≡ work
+    unfolding workAfter if_then_else_
+    refused-work work = rw (asked program g tokens code out ∙ short)
 
-  admitted-work : inRange (grantsOf g) ≡ true → Lent tokens code → (work : List ℕ) → workAfter (called program g tokens code) work ≡ replicate (length work) 0
-  unfolding workAfter if_then_else_
-  admitted-work e h work = rw (enough program g tokens code e h)
+  -- else the program is read, and the slices are cleared at the length they had
+  module _ (enough : enoughToRead g (length tokens) (length code) ≡ true) where
+    pub admitted-answer : answer (calledWith program g tokens code out) ≡ readAnswer program
+    unfolding answer if_then_else_
+    admitted-answer = rw (asked program g tokens code out ∙ enough) run-answer
 
-  -- ---- the ways through `check`
-  -- after 71
-  refused : admitted (called program g tokens code) ≡ false → Checked program g tokens code (Number 71 0 0 0) tokens code
-  unfolding meant answer workAfter if_then_else_
-  refused e = record { answered = rw e; tokensAfter = rw e; codeAfter = rw e }
+    pub cleared-work : (work after : List ℕ) (n : ℕ) → n ≡ length work → after ≡ replicate n 0 → after ≡ workAfter (calledWith program g tokens code out) work
+    unfolding workAfter if_then_else_
+    cleared-work work after n e h = h ∙ rw (e, asked program g tokens code out ∙ enough)
 
-  module _ (ok : Bool) (ranges : ok ≡ inRange (grantsOf g)) where
-    pub check-out-of-range : not ok ≡ true → Checked program g tokens code (Number 71 0 0 0) tokens code
-    check-out-of-range t = refused (out-of-range program g tokens code (sym ranges ∙ not-true ok t))
+pub lent : (g tokens code : List ℕ) → enoughToRead g (length tokens) (length code) ≡ true → Lent tokens code
+lent g tokens code e =
+    let r = can-read g (length tokens) (length code) e in
+    record { tokensLong = r .tokensLong; codeLong = r .codeLong }
 
-    module _ (t : not ok ≡ false) where
-      granted : inRange (grantsOf g) ≡ true
-      granted = sym ranges ∙ not-false ok t
+-- ---- the ways through `check`
+module _ (program g tokens code : List ℕ) (ok : Bool) (e : ok ≡ enoughToRead g (length tokens) (length code)) where
+  pub check-refused : not ok ≡ true → Checked program g tokens code (Number 71 0 0 0) tokens code
+  unfolding meant
+  check-refused t =
+      let short = sym e ∙ not-true ok t in
+      record {
+        answered = sym (refused-answer program g tokens code [] short);
+        tokensAfter = sym (refused-work program g tokens code [] short tokens);
+        codeAfter = sym (refused-work program g tokens code [] short code);
+      }
 
-      pub check-few-tokens : length tokens < 8193 → Checked program g tokens code (Number 71 0 0 0) tokens code
-      check-few-tokens h = refused (short-tokens program g tokens code granted h)
+  module _ (t : not ok ≡ false) where
+    pub check-lent : Lent tokens code
+    check-lent = lent g tokens code (sym e ∙ not-false ok t)
 
-      pub check-little-code : length code < 16384 → Checked program g tokens code (Number 71 0 0 0) tokens code
-      check-little-code h = refused (short-code program g tokens code granted h)
-
-      -- the slices were written and then cleared
-      module _ (long : 8193 ≤ length tokens) (enough-code : 16384 ≤ length code) where
-        lent : Lent tokens code
-        lent = record { tokensLong = long; codeLong = enough-code }
-
-        cleared : (work after : List ℕ) (n : ℕ) → n ≡ length work → after ≡ replicate n 0 → after ≡ workAfter (called program g tokens code) work
-        cleared work after n e h = h ∙ ap (λ (m : ℕ). replicate m 0) e ∙ sym (admitted-work granted lent work)
-
-        pub check-read : (r : Declared.Answer) → meant r ≡ readAnswer program → (tokens′ code′ : List ℕ) (n m : ℕ) →
-            n ≡ length tokens → tokens′ ≡ replicate n 0 → m ≡ length code → code′ ≡ replicate m 0 → Checked program g tokens code r tokens′ code′
-        check-read r a tokens′ code′ n m k t l d = record {
-          answered = a ∙ sym (admitted-answer granted lent);
-          tokensAfter = cleared tokens tokens′ n k t;
-          codeAfter = cleared code code′ m l d;
+    pub check-read : (r : Declared.Answer) → meant r ≡ readAnswer program → (tokens′ code′ : List ℕ) (n m : ℕ) →
+        n ≡ length tokens → tokens′ ≡ replicate n 0 → m ≡ length code → code′ ≡ replicate m 0 → Checked program g tokens code r tokens′ code′
+    check-read r a tokens′ code′ n m k c l d =
+        let enough = sym e ∙ not-false ok t in
+        record {
+          answered = a ∙ sym (admitted-answer program g tokens code [] enough);
+          tokensAfter = cleared-work program g tokens code [] enough tokens tokens′ n k c;
+          codeAfter = cleared-work program g tokens code [] enough code code′ m l d;
         }
 
 -- ---- the ways through `read_answer`
@@ -131,17 +118,17 @@ module _ (program : List ℕ) where
     unfolding readAnswer if_then_else_
     is-read = rw (le-ltb 32768 (length program) short)
 
-    formed-apart : (d n : ℕ) (fs : List Procedure) (o : Option ℕ) → seen (Formed d n) slice ≡ codedApart (tokensIn program) fs o → pictured 0 0 ≡ answerApart o
+    formed-apart : (d n m : ℕ) (fs : List Procedure) (o : Option ℕ) → seen (Formed d n m) slice ≡ codedApart (tokensIn program) fs o → pictured 0 0 ≡ answerApart o
     unfolding seen codedApart answerApart
-    formed-apart d n fs none k = refl
-    formed-apart d n fs (some q) k = absurd (let z : _≡_ {A = ℕ} 0 1 = cc in omega arith)
+    formed-apart d n m fs none k = refl
+    formed-apart d n m fs (some q) k = absurd (let z : _≡_ {A = ℕ} 0 1 = cc in omega arith)
 
-    pub read-formed : (d n : ℕ) → p ≡ Formed d n → meant (Picture 0 0) ≡ readAnswer program
+    pub read-formed : (d n m : ℕ) → p ≡ Formed d n m → meant (Picture 0 0) ≡ readAnswer program
     unfolding meant seen coded answerOf
-    read-formed d n e = go (reading program) (ap (λ (x : Read.Program). seen x slice) (sym e) ∙ h) ∙ sym is-read
+    read-formed d n m e = go (reading program) (ap (λ (x : Read.Program). seen x slice) (sym e) ∙ h) ∙ sym is-read
       where
-        go : (r : Reading) → seen (Formed d n) slice ≡ coded (tokensIn program) r → pictured 0 0 ≡ answerOf r
-        go (wellFormed q) k = formed-apart d n (q .procedures) (doubled [] (q .procedures)) k
+        go : (r : Reading) → seen (Formed d n m) slice ≡ coded (tokensIn program) r → pictured 0 0 ≡ answerOf r
+        go (wellFormed q) k = formed-apart d n m (q .procedures) (doubled [] (q .procedures)) k
         go (malformed i q) k = absurd (let z : _≡_ {A = ℕ} 0 1 = cc in omega arith)
 
     malformed-apart : (k i : ℕ) (fs : List Procedure) (o : Option ℕ) → seen (Malformed k i) slice ≡ codedApart (tokensIn program) fs o → number k i 0 0 ≡ answerApart o

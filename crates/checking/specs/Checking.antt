@@ -16,17 +16,21 @@ use Rattle.answers.specs.declared.Answer as Declared
 use Rattle.answers.specs.Answers.{meant}
 use Rattle.lending.specs.Lending.{grantsOf}
 
--- Checking takes nothing of what it is granted and writes no picture; its two work slices are for token words and code.
-abbrev pub called : List ℕ → List ℕ → List ℕ → List ℕ → Call
-called program g tokens code = record {
+-- Its two work slices are for token words and code. It takes nothing of what it is granted, and an out slice does not matter to it.
+abbrev pub calledWith : List ℕ → List ℕ → List ℕ → List ℕ → List ℕ → Call
+calledWith program g tokens code out = record {
   operation = checking;
   program = program;
   width = pos 0;
   height = pos 0;
   grants = grantsOf g;
   lent = length tokens ∷ length code ∷ [];
-  out = [];
+  out = out;
 }
+
+-- it writes no picture
+abbrev pub called : List ℕ → List ℕ → List ℕ → List ℕ → Call
+called program g tokens code = calledWith program g tokens code []
 
 -- what it promises: the answer, and what both slices hold when it returns
 pub record Checked (program g tokens code : List ℕ) (r : Declared.Answer) (tokens′ code′ : List ℕ) : Type 0 where

@@ -10,13 +10,7 @@ ghost use Rattle.answers.specs.Answers.{meant};
 pub fn check(program: &[u8], grants: &[u64; 5], tokens: &mut [u64], code: &mut [u64]) -> Answer
     ensures { λ r. ⌜ Checked (now (program .entry)) (now (grants .entry)) (now (tokens .entry)) (now (code .entry)) r (now (tokens .exit)) (now (code .exit)) ⌝ }
 {
-    if !lending::in_range(grants) {
-        return Answer::Number(71, 0, 0, 0);
-    }
-    if tokens.len() < 8193 {
-        return Answer::Number(71, 0, 0, 0);
-    }
-    if code.len() < 16384 {
+    if !lending::can_read(grants, tokens.len(), code.len()) {
         return Answer::Number(71, 0, 0, 0);
     }
     let r = read_answer(program, tokens, code);
@@ -35,7 +29,7 @@ fn read_answer(program: &[u8], tokens: &mut [u64], code: &mut [u64]) -> Answer
     }
     let p = reader::read(program, tokens, code);
     match p {
-        Program::Formed(_, _) => Answer::Picture(0, 0),
+        Program::Formed(_, _, _) => Answer::Picture(0, 0),
         Program::Malformed(k, at) => Answer::Number(k, at as u64, 0, 0),
     }
 }

@@ -10,13 +10,14 @@ use mir.Val.{toZ, ofZ, SFits}
 use mir.Facts.{toZ-ofZ}
 use Rattle.meaning.specs.Basics.{laidOver}
 use Rattle.meaning.specs.Program.{Operation}
-use Rattle.meaning.specs.Call.{outAfter}
+use Rattle.meaning.specs.Call.{Call, outAfter}
 use Rattle.answers.specs.declared.Answer as Declared
 use Rattle.answers.specs.declared.Answer.the-variants.{Picture, Number}
 use Rattle.answers.specs.Answers.{meant}
 use Rattle.checking.specs.Checking.{Checked}
+use Rattle.formatting.specs.Formatting.{Formatted}
 use Rattle.lending.specs.Lending.{called, Performed}
-use Rattle.img.specs.Numbers.{Told, Checks, Performs, numbersOf}
+use Rattle.img.specs.Numbers.{Told, Checks, Formats, Performs, numbersOf}
 
 four : (a b c d : ℕ) (xs : List ℕ) → set (set (set (set xs 0 a) 1 b) 2 c) 3 d ≡ laidOver (a ∷ b ∷ c ∷ d ∷ []) xs
 unfolding laidOver
@@ -38,6 +39,14 @@ module _ (r : Declared.Answer) (words words′ : List ℕ) where
 pub checks : (program g tokens code front : List ℕ) (r : Declared.Answer) (tokens′ code′ front′ : List ℕ) (n : ℕ) →
     Checked program g tokens code r tokens′ code′ → Told (meant r) front front′ n → Checks program g tokens code front tokens′ code′ front′ n
 checks program g tokens code front r tokens′ code′ front′ n k h = record {
+  told = rw (k .answered) at h;
+  tokensAfter = k .tokensAfter;
+  codeAfter = k .codeAfter;
+}
+
+pub formats : (c : Call) (tokens code front : List ℕ) (r : Declared.Answer) (tokens′ code′ out′ front′ : List ℕ) (n : ℕ) →
+    Formatted c r tokens code tokens′ code′ out′ → Told (meant r) front front′ n → Formats c tokens code front tokens′ code′ front′ n
+formats c tokens code front r tokens′ code′ out′ front′ n k h = record {
   told = rw (k .answered) at h;
   tokensAfter = k .tokensAfter;
   codeAfter = k .codeAfter;

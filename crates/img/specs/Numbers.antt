@@ -6,6 +6,7 @@ use lib.ListN.{getD}
 use Rattle.meaning.specs.Basics.{laidOver}
 use Rattle.meaning.specs.Book.{Answer, pictured, number, undecided}
 use Rattle.meaning.specs.Call.{Call, answer, workAfter}
+use Rattle.canonical.specs.Call.{textAnswer}
 use Rattle.checking.specs.Checking as Checking
 
 -- the number (0: none), its place, the steps and the length; no call of an operation is undecided
@@ -24,6 +25,12 @@ pub record Checks (program g tokens code front tokens′ code′ front′ : List
   pub told : Told (answer (Checking.called program g tokens code)) front front′ n
   pub tokensAfter : tokens′ ≡ workAfter (Checking.called program g tokens code) tokens
   pub codeAfter : code′ ≡ workAfter (Checking.called program g tokens code) code
+
+-- what img_text promises beside the out slice
+pub record Formats (c : Call) (tokens code front tokens′ code′ front′ : List ℕ) (n : ℕ) : Type 0 where
+  pub told : Told (textAnswer c) front front′ n
+  pub tokensAfter : tokens′ ≡ workAfter c tokens
+  pub codeAfter : code′ ≡ workAfter c code
 
 -- what img_draw promises beside the out slice: the answer told, and what the four work slices hold
 pub record Performs (c : Call) (tokens code words texts front tokens′ code′ words′ texts′ front′ : List ℕ) (n : ℕ) : Type 0 where

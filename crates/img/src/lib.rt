@@ -5,9 +5,11 @@ ghost use lib.ListN.{set};
 ghost use mathlib.Core.List.{[], _∷_};
 ghost use Rattle.meaning.specs.Program.{drawing};
 ghost use Rattle.meaning.specs.Call.{outAfter};
+ghost use Rattle.canonical.specs.Call.{textOut};
 ghost use Rattle.lending.specs.Lending.{called};
+ghost use Rattle.checking.specs.Checking.{calledWith};
 ghost use Rattle.answers.specs.Answers.{meant};
-ghost use Rattle.img.specs.Numbers.{Told, Checks, Performs};
+ghost use Rattle.img.specs.Numbers.{Told, Checks, Formats, Performs};
 
 // Reads the program and says whether it is well formed: checking::check, with its answer in four words at the front of `answer`, as far as that
 // reaches. The words are the number (0: well formed), its place, the steps and the length. The number is returned as well.
@@ -28,6 +30,30 @@ pub extern "C" fn img_check(
 {
     let grants = [steps, shapes, entries, bytes, calls];
     let r = checking::check(program, &grants, tokens, code);
+    write_answer(r, answer)
+}
+
+// Reads the program and writes its text into the front of `out`: formatting::format, with its answer as above.
+#[no_mangle]
+pub extern "C" fn img_text(
+    program: &[u8],
+    steps: u64,
+    shapes: u64,
+    entries: u64,
+    bytes: u64,
+    calls: u64,
+    tokens: &mut [u64],
+    code: &mut [u64],
+    out: &mut [u8],
+    answer: &mut [u64],
+) -> u64
+    ensures { λ r. ⌜ Formats (calledWith (now (program .entry)) (steps ∷ shapes ∷ entries ∷ bytes ∷ calls ∷ []) (now (tokens .entry)) (now (code .entry)) (now (out .entry)))
+        (now (tokens .entry)) (now (code .entry)) (now (answer .entry)) (now (tokens .exit)) (now (code .exit)) (now (answer .exit)) r ⌝ }
+    ensures { λ _. ⌜ now (out .exit) ≡ textOut (calledWith (now (program .entry)) (steps ∷ shapes ∷ entries ∷ bytes ∷ calls ∷ []) (now (tokens .entry)) (now (code .entry))
+        (now (out .entry))) ⌝ }
+{
+    let grants = [steps, shapes, entries, bytes, calls];
+    let r = formatting::format(program, &grants, tokens, code, out);
     write_answer(r, answer)
 }
 

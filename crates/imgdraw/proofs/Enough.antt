@@ -20,7 +20,8 @@ use Rattle.sheet.proofs.Fields.{sheet-ends}
 use Rattle.sheet.proofs.Cuts.{drop-cut, sheet-cut}
 use Rattle.console.specs.Prints.{Prints}
 use Rattle.imgdraw.specs.Sizes.{inputBytes, outBytes}
-use Rattle.imgdraw.specs.Printed.{callOf, drawnText, printedOn, printedOf, printed, Front}
+use Rattle.sheet.specs.Shown.{Front}
+use Rattle.imgdraw.specs.Printed.{callOf, drawnText, printedOn, printedOf, printed}
 use Rattle.imgdraw.proofs.Outs.{same-printed}
 
 -- a program that is too long is not looked into

@@ -1,4 +1,3 @@
-mod Fronts
 mod Whole
 mod Outs
 pub mod Enough

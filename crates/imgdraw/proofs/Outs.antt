@@ -15,7 +15,8 @@ use Rattle.meaning.specs.Call.{Grants, granted, answer, outAfterEnd, outAfter, 
 use Rattle.sheet.specs.declared.line.Sheet.{Sheet}
 use Rattle.sheet.specs.declared.line.Sheet.the-variants.{Sized, Unread}
 use Rattle.sheet.specs.Lines.{sheetOf}
-use Rattle.imgdraw.specs.Printed.{callOf, textOf, drawnText, printedOn, printedOf}
+use Rattle.sheet.specs.Shown.{shownText}
+use Rattle.imgdraw.specs.Printed.{callOf, drawnText, printedOn, printedOf}
 
 -- what is laid over a text is cut at its length
 laid-cut : (b out : List ℕ) → take (length b) (laidOver b out) ≡ take (length out) b
@@ -25,8 +26,8 @@ laid-cut (x ∷ b) [] = refl
 laid-cut (x ∷ b) (y ∷ out) = ap (λ (l : List ℕ). x ∷ l) (laid-cut b out)
 
 module _ (out other : List ℕ) (e : length out ≡ length other) where
-  same-end : (b : Booked) (end : End Outcome) → textOf (settled b end) (outAfterEnd drawing b end out) ≡ textOf (settled b end) (outAfterEnd drawing b end other)
-  unfolding textOf settled answerTo outAfterEnd
+  same-end : (b : Booked) (end : End Outcome) → shownText (settled b end) (outAfterEnd drawing b end out) ≡ shownText (settled b end) (outAfterEnd drawing b end other)
+  unfolding shownText settled answerTo outAfterEnd
   same-end (allFit total) (result accepted s) = refl
   same-end (allFit total) (result (drawn b) s) = laid-cut b out ∙ ap (λ (n : ℕ). take n b) e ∙ sym (laid-cut b other)
   same-end (allFit total) (error n p) = refl
@@ -47,9 +48,9 @@ module _ (out other : List ℕ) (e : length out ≡ length other) where
 
   -- what drawing answers and writes
   same-drawn : (t : Bool) (a b : Amounts) (r : Run Outcome) → a ≡ b
-      → textOf (if t then (λ _. booked a r) else λ _. number 71 0 0 0) (if t then (λ _. outAfterEnd drawing (book a nothingYet (r .takings)) (r .end) out) else λ _. out)
-      ≡ textOf (if t then (λ _. booked b r) else λ _. number 71 0 0 0) (if t then (λ _. outAfterEnd drawing (book b nothingYet (r .takings)) (r .end) other) else λ _. other)
-  unfolding if_then_else_ booked textOf
+      → shownText (if t then (λ _. booked a r) else λ _. number 71 0 0 0) (if t then (λ _. outAfterEnd drawing (book a nothingYet (r .takings)) (r .end) out) else λ _. out)
+      ≡ shownText (if t then (λ _. booked b r) else λ _. number 71 0 0 0) (if t then (λ _. outAfterEnd drawing (book b nothingYet (r .takings)) (r .end) other) else λ _. other)
+  unfolding if_then_else_ booked shownText
   same-drawn true a b r k = rw k (same-end (book b nothingYet (r .takings)) (r .end))
   same-drawn false a b r k = refl
 

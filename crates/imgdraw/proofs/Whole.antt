@@ -19,8 +19,9 @@ use Rattle.sheet.specs.declared.line.Sheet.{Sheet}
 use Rattle.sheet.specs.declared.line.Sheet.the-variants.{Sized, Unread}
 use Rattle.sheet.specs.Errors.{ErrorWritten}
 use Rattle.sheet.specs.Lines.{sheetOf}
-use Rattle.imgdraw.specs.Printed.{callOf, textOf, drawnText, printedOn, printedOf, Front}
-use Rattle.imgdraw.proofs.Fronts.{error-line}
+use Rattle.sheet.specs.Shown.{shownText, Front}
+use Rattle.imgdraw.specs.Printed.{callOf, drawnText, printedOn, printedOf}
+use Rattle.sheet.proofs.Fronts.{error-line}
 
 -- drawing's call, with its slices' lengths and grants
 pub same-call : (program tokens code words texts out : List ℕ) (w h : ℤ) → length tokens ≡ 8193 → length code ≡ 16384 → length words ≡ 285776 → length texts ≡ 16384
@@ -30,7 +31,7 @@ same-call program tokens code words texts out w h a b c d = rw (a, b, c, d)
 
 -- the answer and the out slice are those of the call
 pub drawn-front : (c : Call) (a : Declared.Answer) {out after : List ℕ} {r : ℕ} → meant a ≡ answer c → out ≡ outAfter c
-    → Front (textOf (meant a) out) after r → Front (drawnText c) after r
+    → Front (shownText (meant a) out) after r → Front (drawnText c) after r
 unfolding drawnText
 drawn-front c a e o f = rw (e, o) at f
 
@@ -42,7 +43,7 @@ pub program-drawn : (program tokens code words texts out : List ℕ) (w h : ℤ)
     → length tokens ≡ 8193 → length code ≡ 16384 → length words ≡ 285776 → length texts ≡ 16384 → (a : Declared.Answer) (out₁ after : List ℕ) (r : ℕ)
     → meant a ≡ answer (called drawing program (held w) (held h) (1000000 ∷ 1024 ∷ 1024 ∷ 16384 ∷ 64 ∷ []) tokens code words texts out)
     → out₁ ≡ outAfter (called drawing program (held w) (held h) (1000000 ∷ 1024 ∷ 1024 ∷ 16384 ∷ 64 ∷ []) tokens code words texts out)
-    → Front (textOf (meant a) out₁) after r → Front (drawnText (callOf program w h out)) after r
+    → Front (shownText (meant a) out₁) after r → Front (drawnText (callOf program w h out)) after r
 program-drawn program tokens code words texts out w h f g i j k l a out₁ after r e o t =
     let q : called drawing program (held w) (held h) (1000000 ∷ 1024 ∷ 1024 ∷ 16384 ∷ 64 ∷ []) tokens code words texts out ≡ callOf program w h out =
     same-call program tokens code words texts out (held w) (held h) i j k l ∙ rw (toZ-ofZ w32 w f, toZ-ofZ w32 h g) in

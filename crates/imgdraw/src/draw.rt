@@ -4,32 +4,14 @@ use crate::size::GRANTS;
 use crate::size::TEXTS;
 use crate::size::TOKENS;
 use crate::size::WORDS;
-use answers::Answer;
 use sheet::Sheet;
-ghost use Prim.Native.Nat.{_≤_, min};
+ghost use Prim.Native.Nat.{_≤_};
 ghost use mathlib.Core.Path.{_≡_};
 ghost use lib.ListN.{length};
-ghost use Rattle.answers.specs.Answers.{meant};
+ghost use Rattle.sheet.specs.Shown.{Front};
 ghost use Rattle.console.specs.Prints.{Prints};
 ghost use Rattle.imgdraw.specs.Sizes.{inputBytes, outBytes};
-ghost use Rattle.imgdraw.specs.Printed.{Front, callOf, textOf, drawnText, printedOf, printed};
-
-fn least(m: usize, n: usize) -> usize
-    ensures { λ r. ⌜ r ≡ min m n ⌝ }
-{
-    if m < n { m } else { n }
-}
-
-// The text of an answer, in the front of `out`: a picture stands there already, and the line of an error is put there. Says how many bytes it has.
-fn put_answer(answer: Answer, out: &mut [u8]) -> usize
-    requires { ⌜ 64 ≤ length (now out) ⌝ }
-    ensures { λ r. ⌜ Front (textOf (meant answer) (now (out .entry))) (now (out .exit)) r ⌝ }
-{
-    match answer {
-        Answer::Picture(n, _) => least(n as usize, out.len()),
-        Answer::Number(number, place, _, _) => sheet::write_error(out, number, place),
-    }
-}
+ghost use Rattle.imgdraw.specs.Printed.{callOf, drawnText, printedOf, printed};
 
 // Draws with the counts that every drawing is granted, and work slices that are long enough for them.
 fn draw_program(program: &[u8], width: i32, height: i32, out: &mut [u8]) -> usize
@@ -52,7 +34,7 @@ fn draw_program(program: &[u8], width: i32, height: i32, out: &mut [u8]) -> usiz
         &mut texts,
         out,
     );
-    put_answer(answer, out)
+    sheet::put_answer(answer, out)
 }
 
 // Puts the picture or the line of an error into the front of `out`, and says how many bytes that is.

@@ -16,7 +16,7 @@ use Rattle.meaning.specs.Program.{Operation, Outcome, drawing, specified}
 use Rattle.meaning.specs.Book.{nothingYet, book, Answer, number, booked}
 use Rattle.meaning.specs.Call.{Call, inRange, needed, longEnough, admitted, granted, runOf, answer, workAfter, outAfterEnd, outAfter}
 use Rattle.machine.specs.Layout.{stepsGranted, shapesGranted, entriesGranted, textGranted, callsGranted, wordsNeeded}
-use Rattle.lending.specs.Lending.{grantsOf, enough, Ready, called, Performed}
+use Rattle.lending.specs.Lending.{grantsOf, enoughToRead, enough, Ready, called, Performed}
 
 -- ---- conjunctions
 no-truth : {A : Type 0} → false ≡ true → A
@@ -29,6 +29,18 @@ all-six true true true false f g e = no-truth e
 all-six true true false d f g e = no-truth e
 all-six true false c d f g e = no-truth e
 all-six false b c d f g e = no-truth e
+
+all-three : (a b c : Bool) → a && (b && (c && true)) ≡ true → (a ≡ true) × (b ≡ true) × (c ≡ true)
+all-three true true true e = (refl, refl, refl)
+all-three true true false e = no-truth e
+all-three true false c e = no-truth e
+all-three false b c e = no-truth e
+
+front-false : (a b c d : Bool) → a && (b && (c && true)) ≡ false → false ≡ a && (b && (c && d))
+front-false true true true d e = no-truth (sym e)
+front-false true true false d e = refl
+front-false true false c d e = refl
+front-false false b c d e = refl
 
 all-five : (a b c d f : Bool) → a && (b && (c && (d && (f && true)))) ≡ true → (a ≡ true) × (b ≡ true) × (c ≡ true) × (d ≡ true) × (f ≡ true)
 all-five true true true true true e = (refl, refl, refl, refl, refl)
@@ -107,33 +119,58 @@ module _ (g : List ℕ) (e : inRange (grantsOf g) ≡ true) where
   pub words-fit : Fits w64 (wordsNeeded g)
   words-fit = record { fits = omega (arith, in-ranges g e .shapes, in-ranges g e .entries) }
 
--- ---- `is_enough`
-module _ (g : List ℕ) (tokens code words texts : ℕ) (ok : Bool) (ranges : ok ≡ inRange (grantsOf g)) where
-  pub out-of-range : not ok ≡ true → false ≡ enough g tokens code words texts
-  unfolding enough
+-- ---- `can_read`
+module _ (g : List ℕ) (tokens code : ℕ) (ok : Bool) (ranges : ok ≡ inRange (grantsOf g)) where
+  pub out-of-range : not ok ≡ true → false ≡ enoughToRead g tokens code
+  unfolding enoughToRead
   out-of-range t = rw (sym ranges ∙ not-true ok t)
 
   module _ (t : not ok ≡ false) where
+    granted-so : inRange (grantsOf g) ≡ true
+    granted-so = sym ranges ∙ not-false ok t
+
+    pub few-tokens : tokens < 8193 → false ≡ enoughToRead g tokens code
+    unfolding enoughToRead needed longEnough
+    few-tokens h = rw (granted-so, lt-leb _ _ h)
+
+    pub code-asked : 8193 ≤ tokens → leb 16384 code ≡ enoughToRead g tokens code
+    unfolding enoughToRead needed longEnough
+    code-asked a = rw (granted-so, le-leb _ _ a, and-true (leb 16384 code))
+
+-- what is known then
+pub record Readable (g : List ℕ) (tokens code : ℕ) : Type 0 where
+  pub ranges : inRange (grantsOf g) ≡ true
+  pub tokensLong : 8193 ≤ tokens
+  pub codeLong : 16384 ≤ code
+
+pub can-read : (g : List ℕ) (tokens code : ℕ) → enoughToRead g tokens code ≡ true → Readable g tokens code
+unfolding enoughToRead needed longEnough
+can-read g tokens code e =
+    let q = all-three (inRange (grantsOf g)) (leb 8193 tokens) (leb 16384 code) e in
+    record { ranges = q .0; tokensLong = leb-true _ _ (q .1); codeLong = leb-true _ _ (q .2) }
+
+-- ---- `is_enough`
+module _ (g : List ℕ) (tokens code words texts : ℕ) (ok : Bool) (asked : ok ≡ enoughToRead g tokens code) where
+  pub unread : not ok ≡ true → false ≡ enough g tokens code words texts
+  unfolding enoughToRead enough needed longEnough
+  unread t = front-false (inRange (grantsOf g)) (leb 8193 tokens) (leb 16384 code) _ (sym asked ∙ not-true ok t)
+
+  module _ (t : not ok ≡ false) where
+    readable : Readable g tokens code
+    readable = can-read g tokens code (sym asked ∙ not-false ok t)
+
     pub is-in-range : inRange (grantsOf g) ≡ true
-    is-in-range = sym ranges ∙ not-false ok t
+    is-in-range = readable .ranges
 
-    pub few-tokens : tokens < 8193 → false ≡ enough g tokens code words texts
-    unfolding enough needed longEnough
-    few-tokens h = rw (is-in-range, lt-leb _ _ h)
-
-    module _ (a : 8193 ≤ tokens) where
-      pub little-code : code < 16384 → false ≡ enough g tokens code words texts
+    module _ (n : ℕ) (is-needed : n ≡ wordsNeeded g) where
+      pub few-words : words < n → false ≡ enough g tokens code words texts
       unfolding enough needed longEnough
-      little-code h = rw (is-in-range, le-leb _ _ a, lt-leb _ _ h)
+      few-words h = rw (is-in-range, le-leb _ _ (readable .tokensLong), le-leb _ _ (readable .codeLong), lt-leb (wordsNeeded g) words (rw is-needed at h))
 
-      module _ (b : 16384 ≤ code) (n : ℕ) (is-needed : n ≡ wordsNeeded g) where
-        pub few-words : words < n → false ≡ enough g tokens code words texts
-        unfolding enough needed longEnough
-        few-words h = rw (is-in-range, le-leb _ _ a, le-leb _ _ b, lt-leb (wordsNeeded g) words (rw is-needed at h))
-
-        pub texts-asked : n ≤ words → leb (textGranted g) texts ≡ enough g tokens code words texts
-        unfolding enough needed longEnough
-        texts-asked h = rw (is-in-range, le-leb _ _ a, le-leb _ _ b, le-leb (wordsNeeded g) words (rw is-needed at h), and-true (leb (textGranted g) texts))
+      pub texts-asked : n ≤ words → leb (textGranted g) texts ≡ enough g tokens code words texts
+      unfolding enough needed longEnough
+      texts-asked h =
+          rw (is-in-range, le-leb _ _ (readable .tokensLong), le-leb _ _ (readable .codeLong), le-leb (wordsNeeded g) words (rw is-needed at h), and-true (leb (textGranted g) texts))
 
 -- ---- operations on all four work slices
 pub data Runs : Operation → Type 0 where

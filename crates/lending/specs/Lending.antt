@@ -5,7 +5,7 @@ use mathlib.Core.Bool.{Bool, _&&_}
 use mathlib.Core.List.{List, [], _∷_}
 use lib.ListN.{length}
 use lib.IntN.{ℤ}
-use Rattle.meaning.specs.Program.{Operation, drawing}
+use Rattle.meaning.specs.Program.{Operation, checking, drawing}
 use Rattle.meaning.specs.Book.{Answer}
 use Rattle.meaning.specs.Call.{Grants, Call, inRange, needed, longEnough, answer, workAfter}
 use Rattle.machine.specs.Layout.{stepsGranted, shapesGranted, entriesGranted, textGranted, callsGranted, Lent}
@@ -14,7 +14,11 @@ use Rattle.machine.specs.Layout.{stepsGranted, shapesGranted, entriesGranted, t
 abbrev pub grantsOf : List ℕ → Grants
 grantsOf g = record { steps = stepsGranted g; shapes = shapesGranted g; entries = entriesGranted g; textBytes = textGranted g; calls = callsGranted g }
 
--- whether they are in their ranges, and work slices of these lengths long enough for them
+-- whether they are in their ranges, and slices of these lengths long enough for a program to be read
+unfoldable pub enoughToRead : List ℕ → ℕ → ℕ → Bool
+enoughToRead g tokens code = inRange (grantsOf g) && longEnough (needed checking (grantsOf g)) (tokens ∷ code ∷ [])
+
+-- the same of a run: whether they are in their ranges, and work slices of these lengths long enough for them
 unfoldable pub enough : List ℕ → ℕ → ℕ → ℕ → ℕ → Bool
 enough g tokens code words texts = inRange (grantsOf g) && longEnough (needed drawing (grantsOf g)) (tokens ∷ code ∷ words ∷ texts ∷ [])
 

@@ -4,7 +4,7 @@ ghost use mathlib.Core.Bool.{true};
 ghost use lib.ListN.{length, replicate};
 ghost use Rattle.meaning.specs.Call.{inRange};
 ghost use Rattle.machine.specs.Layout.{wordsNeeded};
-ghost use Rattle.lending.specs.Lending.{grantsOf, enough};
+ghost use Rattle.lending.specs.Lending.{grantsOf, enoughToRead, enough};
 
 // Whether each count is in its range.
 pub fn in_range(grants: &[u64; 5]) -> bool
@@ -28,6 +28,19 @@ pub fn in_range(grants: &[u64; 5]) -> bool
     grants[4] <= 64
 }
 
+// Whether the counts are in their ranges, and slices of these lengths long enough for a program to be read.
+pub fn can_read(grants: &[u64; 5], tokens: usize, code: usize) -> bool
+    ensures { λ r. ⌜ r ≡ enoughToRead (now (grants .entry)) tokens code ⌝ }
+{
+    if !in_range(grants) {
+        return false;
+    }
+    if tokens < 8193 {
+        return false;
+    }
+    16384 <= code
+}
+
 // How many words a run needs.
 fn words_needed(grants: &[u64; 5]) -> u64
     requires { ⌜ inRange (grantsOf (now grants)) ≡ true ⌝ }
@@ -40,13 +53,7 @@ fn words_needed(grants: &[u64; 5]) -> u64
 pub fn is_enough(grants: &[u64; 5], tokens: usize, code: usize, words: usize, texts: usize) -> bool
     ensures { λ r. ⌜ r ≡ enough (now (grants .entry)) tokens code words texts ⌝ }
 {
-    if !in_range(grants) {
-        return false;
-    }
-    if tokens < 8193 {
-        return false;
-    }
-    if code < 16384 {
+    if !can_read(grants, tokens, code) {
         return false;
     }
     if (words as u64) < words_needed(grants) {

@@ -10,4 +10,5 @@ pub mod Lexing
 pub mod Walk
 pub mod Tables
 pub mod Gathered
+pub mod Whole
 pub mod Ways

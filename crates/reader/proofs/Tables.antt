@@ -1,12 +1,12 @@
 -- The table of procedures: by the slot of a name stands the word of the procedure of that name, and 0 if there is none.
-use Prim.Native.Nat.{ℕ, zero, suc, _+_, _≤_, _<_}
+use Prim.Native.Nat.{ℕ, zero, suc, _+_, _%_, _≤_, _<_}
 use native.Mathlib.Omega.{arith}
 use mathlib.Core.Path.{_≡_, refl, sym, ap, _∙_, subst}
 use mathlib.Core.Bool.{Bool, true, false, not, _||_, cond}
 use mathlib.Core.List.{List, [], _∷_}
 use mathlib.Core.Option.{Option, none, some}
-use lib.ListN.{length, getD, set, replicate, length-append, length-set, length-replicate, getD-replicate}
-use lib.Seq.{getD-set-same, getD-set-other}
+use lib.ListN.{length, getD, set, replicate, length-append, length-set, length-replicate, getD-replicate, List·getD-append}
+use lib.Seq.{getD-drop, getD-set-same, getD-set-other}
 use lib.Dec.{eqb}
 use borrow.Author.Tests.{ne-eqb}
 use Rattle.meaning.specs.Basics.{if_then_else_, sameText}
@@ -15,7 +15,7 @@ use Rattle.meaning.specs.Tree.{Statements, only, first, Procedure}
 use Rattle.meaning.specs.Grammar.{procedureNamed}
 use Rattle.meaning.specs.Procedure.{isAmong, inLibrary, doubled}
 use Rattle.meaning.specs.Library.{libraryOf}
-use Rattle.machine.specs.Opcodes.{procedureWord}
+use Rattle.machine.specs.Opcodes.{tablePlace, procedureWord, startIn, parametersIn, bodyIn}
 use Rattle.code.specs.Code.{slotOf, codeOfStatements, codeOfProcedure, codeOfProcedures, headWord, tabled, headNamed}
 use Rattle.reader.proofs.Homes.{same-text, text-same, Occurs, slot-small, slots-apart}
 use Rattle.reader.proofs.Fields.{statement-some}
@@ -31,6 +31,20 @@ statements-some (first s ss) ts = rw length-append (omega (arith, statement-some
 pub head-positive : (a : ℕ) (f : Procedure) (ts : List Token) → 0 < headWord a f ts
 unfolding procedureWord
 head-positive a f ts = omega (arith, statements-some (f .body) ts)
+
+-- its parts
+module _ (start parameters size : ℕ) (a : start < 65536) (b : parameters < 65536) where
+  pub start-told : startIn (procedureWord start parameters size) ≡ start
+  unfolding procedureWord
+  start-told = omega arith
+
+  pub parameters-told : parametersIn (procedureWord start parameters size) ≡ parameters
+  unfolding procedureWord
+  parameters-told = omega arith
+
+  pub body-told : bodyIn (procedureWord start parameters size) ≡ size
+  unfolding procedureWord
+  body-told = omega arith
 
 -- ---- the procedure of a name
 pub head-none : (a : ℕ) (fs : List Procedure) (ts : List Token) (x : List ℕ) → procedureNamed x fs ≡ none → headNamed a fs ts x ≡ 0
@@ -188,3 +202,9 @@ pub table-length : (a : ℕ) (fs : List Procedure) (ts : List Token) (table : Li
 unfolding tabled
 table-length a [] ts table = refl
 table-length a (f ∷ fs) ts table = table-length (a + length (codeOfProcedure f ts)) fs ts (set table (slotOf ts (f .name)) (headWord a f ts)) ∙ length-set table (slotOf ts (f .name)) (headWord a f ts)
+
+-- a word of the table, behind the code
+pub table-word : (code table : List ℕ) → Stands code 8192 table → length table ≡ 8192 → (slot : ℕ) → slot < 8192 → getD code (tablePlace slot) 0 ≡ getD table slot 0
+table-word code table s long slot l =
+    let i : slot % 8192 ≡ slot = omega arith in
+    rw i (sym (getD-drop 8192 code slot 0) ∙ ap (λ (c : List ℕ). getD c slot 0) (s .here) ∙ List·getD-append table (s .behind) 0 slot (omega (arith, long)))

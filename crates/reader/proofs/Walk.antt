@@ -4,7 +4,7 @@ use native.Mathlib.Nat.{add-zero}
 use native.Mathlib.Omega.{arith}
 use mathlib.Core.Path.{_≡_, sym, ap, _∙_, subst}
 use mathlib.Core.List.{List, [], _∷_, _++_, append-nil, append-assoc}
-use lib.ListN.{length, getD, drop, length-append, length-drop}
+use lib.ListN.{length, getD, take, drop, take-append-drop, length-append, length-drop}
 use lib.Seq.{drop-drop, drop-append-seam, getD-drop}
 use Rattle.machine.specs.Opcodes.{word, tagArgument}
 use Rattle.code.specs.Code.{joined}
@@ -17,6 +17,13 @@ pub record Stands (code : List ℕ) (at : ℕ) (c : List ℕ) : Type 0 where
 
 pub stands-whole : (c : List ℕ) → Stands c 0 c
 stands-whole c = record { behind = []; here = sym (append-nil c) }
+
+-- what was left in the front of a slice, and behind so many words
+pub stands-taken : (n : ℕ) (code c : List ℕ) → take n code ≡ c → Stands code 0 c
+stands-taken n code c e = record { behind = drop n code; here = sym (take-append-drop n code) ∙ ap (λ (l : List ℕ). l ++ drop n code) e }
+
+pub stands-behind : (at n : ℕ) (code c : List ℕ) → take n (drop at code) ≡ c → Stands code at c
+stands-behind at n code c e = record { behind = drop n (drop at code); here = sym (take-append-drop n (drop at code)) ∙ ap (λ (l : List ℕ). l ++ drop n (drop at code)) e }
 
 module _ {code : List ℕ} {at : ℕ} where
   pub stands-front : (a b : List ℕ) → Stands code at (a ++ b) → Stands code at a

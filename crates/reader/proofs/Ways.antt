@@ -1,11 +1,11 @@
 -- The ways through reading: what the lexer, the names and the grammar leave is what the meaning reads.
 use Prim.Native.Nat.{ℕ, zero, suc, _+_, _-_, _≤_, _<_}
 use mathlib.Core.Path.{_≡_, refl, ap, sym, _∙_}
-use mathlib.Core.List.{List, [], _∷_, map}
+use mathlib.Core.List.{List, [], _∷_, _++_, map}
 use native.Mathlib.Omega.{arith}
 use native.Mathlib.Nat.{not-suc-le-zero, le-of-suc-le-suc, sub-zero}
-use lib.ListN.{length, getD, take, drop, replicate, length-map, length-drop, length-replicate}
-use lib.Seq.{length-take-le, getD-take, getD-drop, ext-getD}
+use lib.ListN.{length, getD, take, drop, replicate, length-map, length-take, length-drop, length-replicate}
+use lib.Seq.{length-take-le, take-length, take-append-le, getD-take, getD-drop, ext-getD}
 use borrow.Author.Tests.{lt-ltb, le-ltb}
 use Rattle.meaning.specs.Basics.{if_then_else_, laidOver}
 use Rattle.meaning.specs.Token.{Token, Lexed, lexed, stray, tokensOf}
@@ -26,7 +26,7 @@ use Rattle.statements.specs.Room.{Halves}
 use Rattle.reader.specs.declared.Program.{Program}
 use Rattle.reader.specs.declared.Program.the-variants.{Formed, Malformed}
 use Rattle.reader.specs.Coded.{wordsOf}
-use Rattle.reader.specs.Reading.{Lent, Worded, tokensAmong, tokensIn, Seen, refused, seen, coded, placeAmong}
+use Rattle.reader.specs.Reading.{Lent, Worded, tokensAmong, tokensIn, Seen, refused, seen, coded, Kept, placeAmong}
 use Rattle.reader.specs.Sane.{Sane}
 use Rattle.reader.proofs.Fields.{prepared-words, place-at}
 use Rattle.reader.proofs.Statements.{procedures-law}
@@ -36,6 +36,10 @@ use Rattle.reader.proofs.Lexing.{lexed-sane}
 -- an answer is what the meaning reads
 pub record Reads (program : List ℕ) (r : Program) (code : List ℕ) : Type 0 where
   pub is : seen r code ≡ coded (tokensIn program) (reading program)
+
+-- what `read` and `parse` leave
+abbrev pub Left : List ℕ → Program → List ℕ → List ℕ → Type 0
+Left program r words code = (seen r code ≡ coded (tokensIn program) (reading program)) × Kept r (tokensIn program) words
 
 -- ---- tokens
 stray-lexed : (program before slice : List ℕ) (p : ℕ) → Lexing.seen (Stray p) slice ≡ laidTokens (tokensOf program) before → tokensOf program ≡ stray p
@@ -158,35 +162,54 @@ module _ (program words code : List ℕ) (w : Worded program words code) where
     given-words : ws ≡ wordsOf (w .tokens)
     given-words = given ∙ prepared program words code w
 
+    -- they are the words of the program's tokens
+    given-kept : (length ws ≡ length (tokensIn program)) × (take (length ws) ws ≡ wordsOf (tokensIn program))
+    given-kept =
+        let so : ws ≡ wordsOf (tokensIn program) = given-words ∙ ap wordsOf (sym (among program words code w)) in
+        (ap (λ (xs : List ℕ). length xs) so ∙ length-map (tokensIn program) _, take-length ws ∙ so)
+
     module _ (r : Parsed) (slice : List ℕ) (h : seenWhole r slice ≡ writtenWhole (length ws) nothing (Bodies.procedures ws)) where
       answer : (a : Seen) → toSeen (w .tokens) program (w .few) (seenWhole r slice) ≡ a → a ≡ coded (tokensIn program) (reading program)
       answer a e =
           let l : length ws ≡ length (w .tokens) = rw (given-words, length-map) in
           sym e ∙ ap (toSeen (w .tokens) program (w .few)) (h ∙ rw (l, given-words)) ∙ ways program words code w
 
-      pub parse-formed : (d n : ℕ) → r ≡ Whole d n → seen (Formed d n) slice ≡ coded (tokensIn program) (reading program)
-      unfolding toSeen seenWhole seen
-      parse-formed d n e = answer _ (rw e)
+      pub parse-formed : (d n : ℕ) → r ≡ Whole d n → Left program (Formed d n (length ws)) ws slice
+      unfolding toSeen seenWhole seen Kept
+      parse-formed d n e = (answer _ (rw e), given-kept)
 
-      pub parse-twice : (p : ℕ) → r ≡ Twice p → seen (Malformed 60 p) slice ≡ coded (tokensIn program) (reading program)
-      unfolding toSeen seenWhole seen
-      parse-twice p e = answer _ (rw e)
+      pub parse-twice : (p : ℕ) → r ≡ Twice p → Left program (Malformed 60 p) ws slice
+      unfolding toSeen seenWhole seen Kept
+      parse-twice p e = (answer _ (rw e), tt)
 
-      pub parse-misfit : (k i q : ℕ) → r ≡ Misfit k i → q ≡ placeAmong ws i (length program) → seen (Malformed k q) slice ≡ coded (tokensIn program) (reading program)
-      unfolding toSeen seenWhole seen
-      parse-misfit k i q e p = answer _ (rw e (ap (refused k) (sym (p ∙ ap (λ (xs : List ℕ). placeAmong xs i (length program)) given-words ∙ places program words code w i))))
+      pub parse-misfit : (k i q : ℕ) → r ≡ Misfit k i → q ≡ placeAmong ws i (length program) → Left program (Malformed k q) ws slice
+      unfolding toSeen seenWhole seen Kept
+      parse-misfit k i q e p =
+          (answer _ (rw e (ap (refused k) (sym (p ∙ ap (λ (xs : List ℕ). placeAmong xs i (length program)) given-words ∙ places program words code w i)))), tt)
 
 -- ---- the ways through `read`
 module _ (program before code : List ℕ) (l : Lent program before code) (r : Tokens) (slice : List ℕ)
     (h : Lexing.seen r slice ≡ laidTokens (tokensOf program) before) where
-  pub read-stray : (p : ℕ) → r ≡ Stray p → (last : List ℕ) → seen (Malformed 10 p) last ≡ coded (tokensIn program) (reading program)
-  read-stray p e last = stray-read program before slice last p (ap (λ (x : Tokens). Lexing.seen x slice) (sym e) ∙ h) .is
+  pub read-stray : (p : ℕ) → r ≡ Stray p → (words last : List ℕ) → Left program (Malformed 10 p) words last
+  unfolding Kept
+  read-stray p e words last = (stray-read program before slice last p (ap (λ (x : Tokens). Lexing.seen x slice) (sym e) ∙ h) .is, tt)
 
-  pub read-many : (n : ℕ) → r ≡ Found n → 8192 < n → (q : ℕ) → q ≡ placeIn (getD slice 8192 0) → (last : List ℕ) →
-      seen (Malformed 74 q) last ≡ coded (tokensIn program) (reading program)
-  unfolding seen
-  read-many n e m q p last =
-      ap (refused 74) p ∙ many-read program before slice code n l m (ap (λ (x : Tokens). Lexing.seen x slice) (sym e) ∙ h) .is
+  pub read-many : (n : ℕ) → r ≡ Found n → 8192 < n → (q : ℕ) → q ≡ placeIn (getD slice 8192 0) → (words last : List ℕ) →
+      Left program (Malformed 74 q) words last
+  unfolding seen Kept
+  read-many n e m q p words last =
+      (ap (refused 74) p ∙ many-read program before slice code n l m (ap (λ (x : Tokens). Lexing.seen x slice) (sym e) ∙ h) .is, tt)
 
   pub read-few : (n : ℕ) → r ≡ Found n → n ≤ 8192 → Worded program (take (n - 0) slice) code
   read-few n e m = simp sub-zero (few-worded program before slice code n l m (ap (λ (x : Tokens). Lexing.seen x slice) (sym e) ∙ h))
+
+-- what stands behind the tokens' words does not matter
+kept-before : (r : Program) (us : List Token) (front back : List ℕ) → Kept r us front → Kept r us (front ++ back)
+unfolding Kept
+kept-before (Formed d n k) us front back h =
+    let l : length (take k front) ≡ length us = ap (λ (xs : List ℕ). length xs) (h .1) ∙ length-map us _ in
+    (h .0, take-append-le k front back (omega (arith, h .0, sym (length-take k front) ∙ l)) ∙ h .1)
+kept-before (Malformed n p) us front back h = tt
+
+pub read-parsed : (program : List ℕ) (r : Program) (front back code : List ℕ) → Left program r front code → Left program r (front ++ back) code
+read-parsed program r front back code h = (h .0, kept-before r (tokensIn program) front back (h .1))

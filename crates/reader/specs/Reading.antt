@@ -14,6 +14,7 @@ use Rattle.tokens.specs.Words.{wordOf, placeIn}
 use Rattle.code.specs.Code.{codeOfProcedures, tabled, headNamed}
 use Rattle.reader.specs.declared.Program.{Program}
 use Rattle.reader.specs.declared.Program.the-variants.{Formed, Malformed}
+use Rattle.reader.specs.Coded.{wordsOf}
 
 -- ---- what is lent
 pub record Lent (program tokens code : List ℕ) : Type 0 where
@@ -44,7 +45,7 @@ pub data Seen : Type 0 where
   refused : ℕ → ℕ → Seen
 
 unfoldable pub seen : Program → List ℕ → Seen
-seen (Formed d n) slice = formed d (take n slice) (take 8192 (drop 8192 slice))
+seen (Formed d n k) slice = formed d (take n slice) (take 8192 (drop 8192 slice))
 seen (Malformed n p) slice = refused n p
 
 -- the procedures of a program, or 60 where two have one name
@@ -55,6 +56,11 @@ codedApart ts fs (some p) = refused 60 p
 unfoldable pub coded : List Token → Reading → Seen
 coded ts (wellFormed m) = codedApart ts (m .procedures) (doubled [] (m .procedures))
 coded ts (malformed n p) = refused n p
+
+-- Where a program was read, the words of its tokens are the first of a slice, and the answer says how many they are.
+unfoldable pub Kept : Program → List Token → List ℕ → Type 0
+Kept (Formed d n k) ts slice = (k ≡ length ts) × (take k slice ≡ wordsOf ts)
+Kept (Malformed n p) ts slice = Unit {0}
 
 unfoldable pub placeAmong : List ℕ → ℕ → ℕ → ℕ
 placeAmong words i n = if ltb i (length words) then (λ _. placeIn (getD words i 0)) else λ _. n

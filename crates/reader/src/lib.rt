@@ -4,18 +4,19 @@ use statements::Parsed;
 use tokens::place_of;
 ghost use mathlib.Core.Path.{_≡_};
 ghost use Rattle.meaning.specs.Grammar.{reading};
-ghost use Rattle.reader.specs.Reading.{Lent, Worded, tokensIn, seen, coded, placeAmong};
+ghost use Rattle.reader.specs.Reading.{Lent, Worded, tokensIn, seen, coded, Kept, placeAmong};
 
-// A program that was read: main's word in the table, and how many words its code has. Or a number and its place.
+// A program that was read: main's word in the table, how many words its code has, and how many tokens it has. Or a number and its place.
 pub enum Program {
-    Formed(u64, usize),
+    Formed(u64, usize, usize),
     Malformed(u64, usize),
 }
 
-// The code of a program is left in the front of `code`, and the table in its words 8192 to 16383.
+// The code of a program is left in the front of `code`, the table in its words 8192 to 16383, and the tokens' words in the front of `tokens`.
 pub fn read(program: &[u8], tokens: &mut [u64], code: &mut [u64]) -> Program
     requires { ⌜ Lent (now program) (now tokens) (now code) ⌝ }
-    ensures { λ r. ⌜ seen r (now (code .exit)) ≡ coded (tokensIn (now (program .entry))) (reading (now (program .entry))) ⌝ }
+    ensures { λ r. ⌜ (seen r (now (code .exit)) ≡ coded (tokensIn (now (program .entry))) (reading (now (program .entry))))
+        × Kept r (tokensIn (now (program .entry))) (now (tokens .exit)) ⌝ }
 {
     let found = lexer::lex(program, tokens);
     match found {
@@ -32,12 +33,13 @@ pub fn read(program: &[u8], tokens: &mut [u64], code: &mut [u64]) -> Program
 // The same of a program whose tokens' words these are.
 fn parse(program: &[u8], tokens: &mut [u64], code: &mut [u64]) -> Program
     requires { ⌜ Worded (now program) (now tokens) (now code) ⌝ }
-    ensures { λ r. ⌜ seen r (now (code .exit)) ≡ coded (tokensIn (now (program .entry))) (reading (now (program .entry))) ⌝ }
+    ensures { λ r. ⌜ (seen r (now (code .exit)) ≡ coded (tokensIn (now (program .entry))) (reading (now (program .entry))))
+        × Kept r (tokensIn (now (program .entry))) (now (tokens .exit)) ⌝ }
 {
     names::prepare(program, tokens, code);
     let p = statements::parse(tokens, code);
     match p {
-        Parsed::Whole(w, n) => Program::Formed(w, n),
+        Parsed::Whole(w, n) => Program::Formed(w, n, tokens.len()),
         Parsed::Twice(place) => Program::Malformed(60, place),
         Parsed::Misfit(k, i) => Program::Malformed(k, place_among(tokens, i, program.len())),
     }

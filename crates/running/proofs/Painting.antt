@@ -5,7 +5,7 @@ use mathlib.Core.Path.{_≡_, refl, ap, sym, _∙_, subst}
 use mathlib.Core.Bool.{Bool, true, false, _&&_, _||_}
 use mathlib.Core.List.{List, [], _∷_}
 use mathlib.Core.Option.{Option, none, some}
-use lib.ListN.{getD, length, take, drop, replicate}
+use lib.ListN.{getD, length, replicate}
 use lib.IntN.{ℤ, pos}
 use lib.Signed.{mag, ltZ}
 use lib.Dec.{eqb}
@@ -23,9 +23,10 @@ use Rattle.meaning.specs.Procedure.{doubled}
 use Rattle.code.specs.Code.{slotOf, codeOfStatements, codeOfProcedures, tabled, headNamed}
 use Rattle.reader.specs.declared.Program.{Program}
 use Rattle.reader.specs.declared.Program.the-variants.{Formed, Malformed}
-use Rattle.reader.specs.Reading.{formed, refused, seen, codedApart, coded, tokensIn}
+use Rattle.reader.specs.Reading.{refused, seen, codedApart, coded, tokensIn}
 use Rattle.reader.proofs.Known.{KnownNames}
 use Rattle.reader.proofs.Walk.{Stands, stands-first, stands-rest}
+use Rattle.reader.proofs.Whole.{Read, formed-refused, Whole, whole}
 use Rattle.machine.specs.Opcodes.{startIn, parametersIn}
 use Rattle.machine.specs.Layout.{stepsUsed, stepsGranted, Lent}
 use Rattle.machine.specs.Act.{Raw, raw}
@@ -35,7 +36,7 @@ use Rattle.simulation.specs.Scope.{scopeOf, isIn}
 use Rattle.simulation.specs.Follows.{Grants, gives, Follows}
 use Rattle.simulation.proofs.Binding.{bind}
 use Rattle.simulation.proofs.Results.{given, failed, steps-told}
-use Rattle.simulation.proofs.Body.{Read, was-read, main-stored, main-takes, main-there, main-owns, body-follows, stands-taken, stands-behind}
+use Rattle.simulation.proofs.Body.{main-stored, main-takes, main-there, main-owns, body-follows}
 use Rattle.running.specs.declared.Ending.{Ending}
 use Rattle.running.specs.declared.Ending.the-variants.{Stopped}
 use Rattle.running.specs.Specified.{paintRead}
@@ -111,12 +112,6 @@ module _ (program code g : List ℕ) (short : length program ≤ 32768) (ts : Li
         }))))
 
 -- ---- what reading left
-same-formed : {d d′ : ℕ} {c c′ t t′ : List ℕ} → formed d c t ≡ formed d′ c′ t′ → (d ≡ d′) × (c ≡ c′) × (t ≡ t′)
-same-formed e = (cc, cc, cc)
-
-formed-refused : {d k p : ℕ} {c t : List ℕ} {A : Type 0} → formed d c t ≡ refused k p → A
-formed-refused e = let z : _≡_ {A = ℕ} 0 1 = cc in absurd (omega arith)
-
 module _ (program code g texts words : List ℕ) (short : length program ≤ 32768) (width height : ℤ) (r : Program)
     (left : seen r code ≡ coded (tokensIn program) (reading program)) where
   -- ---- a number
@@ -142,47 +137,21 @@ module _ (program code g texts words : List ℕ) (short : length program ≤ 327
             record { follows = λ granted gr. rw (x, y) (failed n p (raw texts words) steps) }
 
   -- ---- a program
-  module _ (d n : ℕ) (is-formed : r ≡ Formed d n) where
-    -- what was read, and where it stands
-    record Formed-so (m : Tree.Program) : Type 0 where
-      pub read : Read program (tokensIn program) m
-      pub different : doubled [] (m .procedures) ≡ none
-      pub main : d ≡ headNamed 0 (m .procedures) (tokensIn program) (bytes "main")
-      pub stands : Stands code 0 (codeOfProcedures (m .procedures) (tokensIn program))
-      pub table : Stands code 8192 (tabled 0 (m .procedures) (tokensIn program) (replicate 8192 0))
-
+  module _ (d n t : ℕ) (is-formed : r ≡ Formed d n t) where
     abbrev Shows : Ending → List ℕ → List ℕ → Type 0
-    Shows e ts ws = (m : Tree.Program) → Formed-so m → Ran program g (paintRead (wellFormed m) width height (suc (stepsGranted g)) empty) e ts ws
+    Shows e ts ws = (m : Tree.Program) → Whole program code d m → Ran program g (paintRead (wellFormed m) width height (suc (stepsGranted g)) empty) e ts ws
 
     by-program : (e : Ending) (ts ws : List ℕ) → Shows e ts ws → Ran program g (readingRun program width height g) e ts ws
-    unfolding seen coded codedApart
-    by-program e ts ws f = go (reading program) refl (ap (λ (a : Program). seen a code) (sym is-formed) ∙ left)
-      where
-        by-name : (m : Tree.Program) → reading program ≡ wellFormed m → (k : Option ℕ) → doubled [] (m .procedures) ≡ k
-            → formed d (take n code) (take 8192 (drop 8192 code)) ≡ codedApart (tokensIn program) (m .procedures) k
-            → Ran program g (paintRead (wellFormed m) width height (suc (stepsGranted g)) empty) e ts ws
-        by-name m q none a h =
-            let c = same-formed h in
-            f m (record {
-              read = was-read program m q;
-              different = a;
-              main = c .0;
-              stands = stands-taken n code _ (c .1);
-              table = stands-behind 8192 8192 code _ (c .2);
-            })
-        by-name m q (some p) a h = formed-refused h
-
-        go : (p : Reading) → reading program ≡ p → seen (Formed d n) code ≡ coded (tokensIn program) p
-            → Ran program g (paintRead p width height (suc (stepsGranted g)) empty) e ts ws
-        go (wellFormed m) q h = by-name m q (doubled [] (m .procedures)) refl h
-        go (malformed k p) q h = formed-refused h
+    by-program e ts ws f =
+        let w = whole program code d n t (ap (λ (a : Program). seen a code) (sym is-formed) ∙ left) in
+        rw (w .1 .read .is) (f (w .0) (w .1))
 
     pub read-parameters : getD words stepsUsed 0 ≡ 0 → (parametersIn d ≡ 2 → ⊥) → Ran program g (readingRun program width height g) (Stopped 20 0) texts words
     unfolding paintRead shownEnding understood namedApart entering Run._>>=_ Run.goOn Run.fail Run.give
     read-parameters steps l = by-program (Stopped 20 0) texts words (λ m s. by-names m s (m .main .parameters) refl
         (λ q. l (rw (s .main) (main-takes (setting program code g) (tokensIn program) m short (s .read) (s .different) (s .stands) (s .table) ∙ q))))
       where
-        by-names : (m : Tree.Program) → Formed-so m → (xs : List (List ℕ)) → m .main .parameters ≡ xs → (length (m .main .parameters) ≡ 2 → ⊥)
+        by-names : (m : Tree.Program) → Whole program code d m → (xs : List (List ℕ)) → m .main .parameters ≡ xs → (length (m .main .parameters) ≡ 2 → ⊥)
             → Ran program g (paintRead (wellFormed m) width height (suc (stepsGranted g)) empty) (Stopped 20 0) texts words
         by-names m s [] q l = record { follows = λ granted gr. rw (s .different, q) (failed 20 0 (raw texts words) steps) }
         by-names m s (x ∷ []) q l = record { follows = λ granted gr. rw (s .different, q) (failed 20 0 (raw texts words) steps) }
@@ -195,7 +164,7 @@ module _ (program code g texts words : List ℕ) (short : length program ≤ 327
     read-body two lent blank w-small h-small e ts ws h = by-program e ts ws (λ m s. by-names m s (m .main .parameters) refl
         (sym (main-takes (setting program code g) (tokensIn program) m short (s .read) (s .different) (s .stands) (s .table)) ∙ rw (← s .main) two))
       where
-        by-names : (m : Tree.Program) → Formed-so m → (xs : List (List ℕ)) → m .main .parameters ≡ xs → length (m .main .parameters) ≡ 2
+        by-names : (m : Tree.Program) → Whole program code d m → (xs : List (List ℕ)) → m .main .parameters ≡ xs → length (m .main .parameters) ≡ 2
             → Ran program g (paintRead (wellFormed m) width height (suc (stepsGranted g)) empty) e ts ws
         by-names m s [] q l = absurd (omega (arith, sym (ap (λ (k : List (List ℕ)). length k) q) ∙ l))
         by-names m s (x ∷ []) q l = absurd (omega (arith, sym (ap (λ (k : List (List ℕ)). length k) q) ∙ l))

@@ -117,15 +117,16 @@ module _ (program code g tokens unread ts ws : List ℕ) (ready : ReadyToRead pr
   pub way-malformed : (k i : ℕ) → r ≡ Malformed k i → Ran program g (readingRun program width height g) (Stopped k i) ts ws
   way-malformed k i e = read-malformed program code g ts ws (ready .short) width height r left (ready .blank .front stepsUsed (omega arith)) k i e
 
-  module _ (main n : ℕ) (e : r ≡ Formed main n) (k : ℕ) (q : k ≡ parametersIn main) where
+  module _ (main n t : ℕ) (e : r ≡ Formed main n t) (k : ℕ) (q : k ≡ parametersIn main) where
     pub way-parameters : (k ≡ 2 → ⊥) → Ran program g (readingRun program width height g) (Stopped 20 0) ts ws
-    way-parameters t = read-parameters program code g ts ws (ready .short) width height r left main n e (ready .blank .front stepsUsed (omega arith)) (λ p. t (q ∙ p))
+    way-parameters h =
+        read-parameters program code g ts ws (ready .short) width height r left main n t e (ready .blank .front stepsUsed (omega arith)) (λ p. h (q ∙ p))
 
     pub way-body : k ≡ 2 → SFits w32 width → SFits w32 height → (x : Ending) (ts₁ ws₁ : List ℕ)
         → shownEnding x ts₁ ws₁ ≡ bodyRun (setting program code g) main (held width) (held height) (raw ts ws)
         → Ran program g (readingRun program width height g) x ts₁ ws₁
-    way-body t f f₂ x ts₁ ws₁ h =
-        read-body program code g ts ws (ready .short) width height r left main n e (sym q ∙ t) (ready .ready .lent) (ready .blank) (f .sfits) (f₂ .sfits) x ts₁ ws₁
+    way-body two f f₂ x ts₁ ws₁ h =
+        read-body program code g ts ws (ready .short) width height r left main n t e (sym q ∙ two) (ready .ready .lent) (ready .blank) (f .sfits) (f₂ .sfits) x ts₁ ws₁
         (rw (toZ-ofZ f, toZ-ofZ f₂) at h)
 
 -- ---- `clear_but_stack`

@@ -115,7 +115,7 @@ fn run_read(
 {
     match reader::read(program, tokens, code) {
         Program::Malformed(k, at) => Ending::Stopped(k, at as u64),
-        Program::Formed(main, _) => {
+        Program::Formed(main, _, _) => {
             if code::parameters_of(main) != 2 {
                 return Ending::Stopped(20, 0);
             }

@@ -3,3 +3,4 @@ pub mod Fields
 pub mod Cuts
 mod Errors
 mod Examples
+pub mod Fronts

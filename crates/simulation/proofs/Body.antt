@@ -1,18 +1,15 @@
 -- Main's body, of a program that was read: executing its code follows what it means.
-use Prim.Native.Nat.{ℕ, _+_, _*_, _-_, _%_, _≤_, _<_}
+use Prim.Native.Nat.{ℕ, _+_, _*_, _-_, _≤_, _<_}
 use native.Mathlib.Omega.{arith}
 use mathlib.Core.Path.{_≡_, refl, ap, sym, _∙_, subst}
 use mathlib.Core.Bool.{Bool, true, false}
 use mathlib.Core.List.{List, [], _∷_, _++_, map}
 use mathlib.Core.Option.{none, some}
-use lib.ListN.{getD, length, take, drop, replicate, take-append-drop, length-append, length-map, length-replicate, List·getD-append}
-use lib.Seq.{getD-drop}
-use lib.Dec.{ltb}
-use borrow.Author.Tests.{ltb-false}
+use lib.ListN.{getD, length, replicate, length-append, length-map, length-replicate}
 use Rattle.meaning.specs.Basics.{bytes, if_then_else_, sameText}
-use Rattle.meaning.specs.Token.{Token, Lexed, lexed, stray, tokensOf, aName}
+use Rattle.meaning.specs.Token.{Token, aName}
 use Rattle.meaning.specs.Tree.{Procedure, Program}
-use Rattle.meaning.specs.Grammar.{Got, good, wrong, wellFormed, malformed, readOf, parsed, reading, procedures, procedureNamed}
+use Rattle.meaning.specs.Grammar.{procedureNamed}
 use Rattle.meaning.specs.State.{State}
 use Rattle.meaning.specs.Book.{Amounts}
 use Rattle.meaning.specs.Library.{Library, libraryOf}
@@ -20,11 +17,11 @@ use Rattle.meaning.specs.Execute.{executeAll}
 use Rattle.meaning.specs.Procedure.{inLibrary, doubled, calling}
 use Rattle.code.specs.Code.{slotOf, codeOfStatements, codeOfProcedure, codeOfProcedures, tabled, headNamed, headWord}
 use Rattle.reader.specs.Declarations.{declaredBy, declarations}
-use Rattle.reader.specs.Reading.{tokensAmong, tokensIn}
 use Rattle.reader.specs.Sane.{Sane}
 use Rattle.reader.proofs.Homes.{Occurs, same-text, slot-small}
 use Rattle.reader.proofs.Trees.{UnderstoodWhole, procedures-understood}
-use Rattle.reader.proofs.Tables.{head-none, head-some, named-understood, apart, table-at, table-length}
+use Rattle.reader.proofs.Tables.{start-told, parameters-told, body-told, head-none, head-some, named-understood, apart, table-at, table-length, table-word}
+use Rattle.reader.proofs.Whole.{Read}
 use Rattle.reader.proofs.Lexing.{lexed-sane}
 use Rattle.reader.proofs.Walk.{Stands, stands-back}
 use Rattle.machine.specs.Opcodes.{tablePlace, startIn, parametersIn, bodyIn}
@@ -37,38 +34,8 @@ use Rattle.simulation.specs.Follows.{Grants, Related, Follows}
 use Rattle.simulation.proofs.Flows.{Flows}
 use Rattle.simulation.proofs.Scopes.{mapped-left, mapped-right}
 use Rattle.simulation.proofs.Statements.{executes-all}
-use Rattle.simulation.proofs.Performing.{Stored, Procedures, start-told, parameters-told, body-told, main-scope, calls-follow}
+use Rattle.simulation.proofs.Performing.{Stored, Procedures, main-scope, calls-follow}
 use Rattle.simulation.proofs.Quoted.{strings-stand}
-
--- ---- what was read
--- its tokens, at most 8,192, are those of some procedures
-pub record Read (program : List ℕ) (ts : List Token) (m : Program) : Type 0 where
-  pub is : reading program ≡ wellFormed m
-  pub tokens : tokensOf program ≡ lexed ts
-  pub few : length ts ≤ 8192
-  pub behind : ℕ
-  pub tree : procedures ts ≡ good m behind
-
-formed-not : {n p : ℕ} {m : Program} {A : Type 0} → malformed n p ≡ wellFormed m → A
-formed-not e = let z : _≡_ {A = ℕ} 0 1 = cc in absurd (omega arith)
-
-pub was-read : (program : List ℕ) (m : Program) → reading program ≡ wellFormed m → Read program (tokensIn program) m
-unfolding reading parsed tokensAmong if_then_else_ readOf
-was-read program m is = go (tokensOf program) refl is
-  where
-    tree : (ts : List Token) (x : Got Program) → procedures ts ≡ x → readOf program ts x ≡ wellFormed m → (j : ℕ) × (x ≡ good m j)
-    tree ts (good a j) q e = (j, let w : a ≡ m = cc in rw w)
-    tree ts (wrong n i) q e = formed-not e
-
-    go : (l : Lexed) → tokensOf program ≡ l → parsed program l ≡ wellFormed m → Read program (tokensAmong l) m
-    go (stray p) q e = formed-not e
-    go (lexed ts) q e = by (ltb 8192 (length ts)) refl
-      where
-        by : (b : Bool) → ltb 8192 (length ts) ≡ b → Read program ts m
-        by true w = formed-not (rw w at e)
-        by false w =
-            let t = tree ts (procedures ts) refl (rw w at e) in
-            record { is = is; tokens = q; few = ltb-false _ _ w; behind = t .0; tree = t .1 }
 
 -- no procedure has a name of the library
 library-apart : (x : List ℕ) (l : Library) → libraryOf x ≡ some l → (names : List (List ℕ)) (fs : List Procedure) → doubled names fs ≡ none → procedureNamed x fs ≡ none
@@ -83,12 +50,6 @@ library-apart x l e names (f ∷ fs) d = go (sameText (f .name) x) refl (library
         let z : _≡_ {A = Bool} true false = rw (n, e) at own in
         let y : _≡_ {A = ℕ} 0 1 = cc in absurd (omega arith)
     go false q r = r
-
--- a word of the table
-pub table-word : (code table : List ℕ) → Stands code 8192 table → length table ≡ 8192 → (slot : ℕ) → slot < 8192 → getD code (tablePlace slot) 0 ≡ getD table slot 0
-table-word code table s long slot l =
-    let i : slot % 8192 ≡ slot = omega arith in
-    rw i (sym (getD-drop 8192 code slot 0) ∙ ap (λ (c : List ℕ). getD c slot 0) (s .here) ∙ List·getD-append table (s .behind) 0 slot (omega (arith, long)))
 
 module _ (e : Setting) (ts : List Token) (m : Program) (short : length (e .program) ≤ 32768) (read : Read (e .program) ts m) (different : doubled [] (m .procedures) ≡ none)
     (code : Stands (e .code) 0 (codeOfProcedures (m .procedures) ts)) (table : Stands (e .code) 8192 (tabled 0 (m .procedures) ts (replicate 8192 0))) where
@@ -195,10 +156,3 @@ module _ (e : Setting) (ts : List Token) (m : Program) (short : length (e .progr
         (λ slot i. rw (main-scope e ts m (read .is)) (mapped-right (slotOf ts) slot (m .main .parameters) (declaredBy (m .main .body)) i))
         fuel (size + 1) (main-stored .start + length (m .main .parameters)) (main-stored .start + length (m .main .parameters) + size) body-there
         (omega (arith, deep, main-stored .short)) (omega arith) (omega arith) refl r s total h (record { procedure = main; calls = one; turns = turns }) bottom)
-
--- what reading left in the front of a slice, and behind so many words
-pub stands-taken : (n : ℕ) (code c : List ℕ) → take n code ≡ c → Stands code 0 c
-stands-taken n code c e = record { behind = drop n code; here = sym (take-append-drop n code) ∙ ap (λ (l : List ℕ). l ++ drop n code) e }
-
-pub stands-behind : (at n : ℕ) (code c : List ℕ) → take n (drop at code) ≡ c → Stands code at c
-stands-behind at n code c e = record { behind = drop n (drop at code); here = sym (take-append-drop n (drop at code)) ∙ ap (λ (l : List ℕ). l ++ drop n (drop at code)) e }

@@ -22,14 +22,14 @@ use Rattle.meaning.specs.Library.{Library, libraryOf, callLibrary}
 use Rattle.meaning.specs.Execute.{executeAll}
 use Rattle.meaning.specs.Procedure.{anyTwice, assigningAll, returnedBy, performing, found, calling}
 use Rattle.names.specs.Prepared.{numberOf, libraryNumber, procedureNumber}
-use Rattle.machine.specs.Opcodes.{tablePlace, procedureWord, startIn, parametersIn, bodyIn}
+use Rattle.machine.specs.Opcodes.{tablePlace, startIn, parametersIn, bodyIn}
 use Rattle.code.specs.Code.{slotOf, codeOfStatements, codeOfProcedure, headWord}
 use Rattle.reader.specs.Sane.{Sane}
 use Rattle.reader.specs.Declarations.{declaredBy, declarations}
 use Rattle.reader.proofs.Homes.{Occurs, occurs-found}
 use Rattle.reader.proofs.Known.{KnownNames, KnownStatements}
 use Rattle.reader.proofs.Walk.{Stands, stands-back}
-use Rattle.reader.proofs.Tables.{head-positive}
+use Rattle.reader.proofs.Tables.{head-positive, start-told, parameters-told, body-told}
 use Rattle.machine.specs.declared.Value.{Value}
 use Rattle.machine.specs.Layout.{stepsUsed, declared, argumentsHeld, callsUsed, running, callsGranted, stackWords}
 use Rattle.machine.specs.Act.{Raw, raw, Out, stop, Act}
@@ -72,20 +72,6 @@ pub record Procedures (e : Setting) (ts : List Token) (m : Program) : Type 0 whe
   pub known : (x : List ℕ) (f : Procedure) → Occurs ts aName x → procedureNamed x (m .procedures) ≡ some f → Stored e ts x f
   pub unknown : (x : List ℕ) → Occurs ts aName x → procedureNamed x (m .procedures) ≡ none → getD (e .code) (tablePlace (slotOf ts x)) 0 ≡ 0
   pub apart : (x : List ℕ) (l : Library) → libraryOf x ≡ some l → procedureNamed x (m .procedures) ≡ none
-
--- the parts of a procedure's word
-module _ (start parameters size : ℕ) (a : start < 65536) (b : parameters < 65536) where
-  pub start-told : startIn (procedureWord start parameters size) ≡ start
-  unfolding procedureWord
-  start-told = omega arith
-
-  pub parameters-told : parametersIn (procedureWord start parameters size) ≡ parameters
-  unfolding procedureWord
-  parameters-told = omega arith
-
-  pub body-told : bodyIn (procedureWord start parameters size) ≡ size
-  unfolding procedureWord
-  body-told = omega arith
 
 -- a name that is neither main's nor in the library
 own-number : (l : Option Library) → numberOf l ≡ 10 → l ≡ none

@@ -1,7 +1,8 @@
 //! One call, judged by the proved library and by the reference.
 
-use crate::{check, draw, Lent, Numbers, Work, CODE_WORDS, RUN_WORDS, TOKEN_WORDS};
+use crate::{check, draw, text, Lent, Numbers, Work, CODE_WORDS, RUN_WORDS, TOKEN_WORDS};
 use generator::case::{needed, EVENTS};
+use generator::text::{length, Call};
 use reference::case::Case;
 use reference::{run_specified, Answer, End, Grants, Operation};
 
@@ -39,6 +40,19 @@ pub fn numbers(answer: &Answer) -> Numbers {
             steps,
             length: length_needed.unwrap_or(0),
         },
+    }
+}
+
+/// The four numbers of what the reference hands back for a call of `text`.
+pub fn text_numbers(answer: &Result<Vec<u8>, Answer>) -> Numbers {
+    match answer {
+        Ok(text) => Numbers {
+            number: 0,
+            place: 0,
+            steps: 0,
+            length: text.len() as u64,
+        },
+        Err(number) => numbers(number),
     }
 }
 
@@ -219,7 +233,6 @@ impl Lender {
         seed: u64,
         call: impl FnOnce(&Case, &mut Work, &mut [u8]) -> Numbers,
     ) -> Option<String> {
-        self.calls += 1;
         let lengths = lengths.lent_to(case.operation);
         let (wanted, picture) = if lengths.suffice(case.operation, case.grants) {
             let answer = case.answer();
@@ -235,8 +248,24 @@ impl Lender {
             Operation::Draw => case.out_length as usize,
             _ => 0,
         };
+        self.judged(wanted, &picture, lengths, out_length, seed, |work, out| {
+            call(case, work, out)
+        })
+    }
+
+    /// What is wrong with a call that must give these numbers and write this to the front of the out slice, if anything is.
+    fn judged(
+        &mut self,
+        wanted: Numbers,
+        front: &[u8],
+        lengths: Lengths,
+        out_length: usize,
+        seed: u64,
+        call: impl FnOnce(&mut Work, &mut [u8]) -> Numbers,
+    ) -> Option<String> {
+        self.calls += 1;
         self.fill(lengths, out_length, seed);
-        let found = call(case, &mut self.work, &mut self.out[..out_length]);
+        let found = call(&mut self.work, &mut self.out[..out_length]);
         if found != wanted {
             return Some(format!("{found:?} where {wanted:?} is due"));
         }
@@ -247,13 +276,13 @@ impl Lender {
         } else if !self.is_zero() {
             return Some("a work slice is not zero".to_string());
         }
-        if self.out[..picture.len()] != picture {
-            return Some("another picture".to_string());
+        if self.out[..front.len()] != *front {
+            return Some("another picture or text".to_string());
         }
         let garbage = &self.garbage[(seed % 4) as usize];
-        if !is_kept(&self.out, picture.len(), &garbage.bytes) {
+        if !is_kept(&self.out, front.len(), &garbage.bytes) {
             return Some(if wanted.number == 0 {
-                "the out slice is changed behind the picture".to_string()
+                "the out slice is changed behind what is written".to_string()
             } else {
                 "the out slice is changed after a number".to_string()
             });
@@ -298,6 +327,69 @@ impl Lender {
         None
     }
 
+    /// What is wrong with one call of `text`, if anything is. It is lent what checking is lent, and an out slice.
+    pub fn text_misfit(&mut self, call: &Call, lengths: Lengths, seed: u64) -> Option<String> {
+        self.text_misfit_with(call, lengths, seed, library_text)
+    }
+
+    /// The same for anything that can be called as the library is.
+    pub fn text_misfit_with(
+        &mut self,
+        call: &Call,
+        lengths: Lengths,
+        seed: u64,
+        text: impl FnOnce(&Call, &mut Work, &mut [u8]) -> Numbers,
+    ) -> Option<String> {
+        let lengths = lengths.lent_to(Operation::Check);
+        let (wanted, front) = if lengths.suffice(Operation::Check, call.grants) {
+            let answer = call.answer();
+            (text_numbers(&answer), answer.unwrap_or_default())
+        } else {
+            (REFUSED, Vec::new())
+        };
+        let out_length = call.out_length as usize;
+        self.judged(wanted, &front, lengths, out_length, seed, |work, out| {
+            text(call, work, out)
+        })
+    }
+
+    /// The same, in slices somewhat longer than they must be.
+    pub fn text_misfit_of(&mut self, call: &Call, seed: u64) -> Option<String> {
+        let longer = (seed % 5) as usize * 7;
+        self.text_misfit(call, Lengths::needed(call.grants).longer(longer), seed)
+    }
+
+    /// What is wrong with any of the calls around one of `text`: as it is, with an empty out slice, with such as are as long as the text or nearly so, and with
+    /// a work slice that is a word too short.
+    pub fn text_misfit_around(&mut self, call: &Call, seed: u64) -> Option<String> {
+        let mut rooms = vec![call.out_length, 0];
+        // How long a text is makes a difference only where there is one.
+        if let Some(need) = length(&call.program) {
+            let need = need as u64;
+            rooms.extend([need - 1, need]);
+            rooms.push(match seed % 3 {
+                0 => need + 1,
+                1 => need + 2 + seed % 1_000,
+                _ => 32_768,
+            });
+        }
+        for out_length in rooms {
+            let call = Call {
+                out_length,
+                ..call.clone()
+            };
+            if let Some(what) = self.text_misfit_of(&call, seed) {
+                return Some(format!("{what}, into {out_length}"));
+            }
+        }
+        if seed.is_multiple_of(4) {
+            let short = Lengths::needed(call.grants).shorter(seed / 4 % 2)?;
+            let what = self.text_misfit(call, short, seed / 8)?;
+            return Some(format!("{what}, {short:?}"));
+        }
+        None
+    }
+
     fn fill(&mut self, lengths: Lengths, out_length: usize, seed: u64) {
         let Garbage { words, bytes } = &self.garbage[(seed % 4) as usize];
         fill(&mut self.work.tokens, lengths.tokens, words);
@@ -338,6 +430,12 @@ pub fn library(case: &Case, work: &mut Work, out: &mut [u8]) -> Numbers {
         Operation::Check => check(program, *grants, &mut work.tokens, &mut work.code),
         Operation::Draw => draw(program, *width, *height, *grants, work, out),
     }
+}
+
+/// Calls the library for a text.
+pub fn library_text(call: &Call, work: &mut Work, out: &mut [u8]) -> Numbers {
+    let Work { tokens, code, .. } = work;
+    text(&call.program, call.grants, tokens, code, out)
 }
 
 /// The calls around a case, each with the lengths of its work slices.

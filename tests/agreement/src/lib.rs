@@ -2,7 +2,7 @@
 
 use reference::Grants;
 
-/// How many words checking must be lent.
+/// How many words checking and `text` must be lent.
 pub const TOKEN_WORDS: usize = 8_193;
 pub const CODE_WORDS: usize = 16_384;
 /// How many words a run must be lent besides those for shapes and entries.
@@ -72,6 +72,50 @@ pub fn check_to(
     }
 }
 
+/// Writes the one text of a program to the front of `out` with these work slices.
+pub fn text(
+    program: &[u8],
+    grants: Grants,
+    tokens: &mut [u64],
+    code: &mut [u64],
+    out: &mut [u8],
+) -> Numbers {
+    let mut answer = [u64::MAX; 4];
+    let returned = text_to(program, grants, tokens, code, out, &mut answer);
+    told(answer, returned)
+}
+
+/// The same, with the answer written to a slice of any length. The number is returned.
+pub fn text_to(
+    program: &[u8],
+    grants: Grants,
+    tokens: &mut [u64],
+    code: &mut [u64],
+    out: &mut [u8],
+    answer: &mut [u64],
+) -> u64 {
+    // As for checking.
+    unsafe {
+        ffi::img_text(
+            program.as_ptr(),
+            program.len(),
+            grants.steps,
+            grants.shapes,
+            grants.entries,
+            grants.text_bytes,
+            grants.calls,
+            tokens.as_mut_ptr(),
+            tokens.len(),
+            code.as_mut_ptr(),
+            code.len(),
+            out.as_mut_ptr(),
+            out.len(),
+            answer.as_mut_ptr(),
+            answer.len(),
+        )
+    }
+}
+
 /// The four work slices of drawing.
 #[derive(Clone, Debug, Default)]
 pub struct Work {
@@ -133,7 +177,7 @@ pub fn draw_to(
     }
 }
 
-/// Slices for checking, filled with something and somewhat longer than they must be.
+/// Slices for checking and for `text`, filled with something and somewhat longer than they must be.
 pub struct Lent {
     pub tokens: Vec<u64>,
     pub code: Vec<u64>,

@@ -15,8 +15,10 @@ pub mod random;
 pub mod readers;
 pub mod soup;
 pub mod spacing;
+pub mod spelling;
 pub mod systematic;
 pub mod tally;
+pub mod text;
 pub mod words;
 
 pub use case::{case, case_out_of_range};

@@ -12,16 +12,34 @@ pub struct Row {
     pub program: Vec<u8>,
     pub grants: Grants,
     pub out_length: u64,
-    /// Such as `30@39 s12`, `picture s13` or `well formed`.
+    /// Such as `30@39 s12`, `picture s13` or `well formed`. Of a row that asks
+    /// for the one text it is that text with `⏎` for each linefeed, or a number
+    /// such as `82@0 s0 l22`, where l tells the length.
     pub result: String,
 }
 
-/// The rows of the document, in its order.
+/// The rows that draw or check, in the document's order.
 pub fn rows() -> Vec<Row> {
+    all(|line| !asks_for_text(line))
+}
+
+/// The rows that ask for the one text: `written` stands among their grants.
+/// Their operation means nothing.
+pub fn text_rows() -> Vec<Row> {
+    all(asks_for_text)
+}
+
+fn all(wanted: fn(&str) -> bool) -> Vec<Row> {
     include_str!("../../../docs/DECISIONS.md")
         .lines()
+        .filter(|line| wanted(line))
         .filter_map(row)
         .collect()
+}
+
+fn asks_for_text(line: &str) -> bool {
+    let grants = line.split('|').nth(4).unwrap_or("").trim();
+    grants.split(", ").any(|part| part == "written")
 }
 
 fn row(line: &str) -> Option<Row> {
@@ -69,13 +87,17 @@ fn written_out(cell: &str) -> String {
     )
 }
 
-/// What a cell of grants says: `checked`, a grant such as `shapes 1`, the out
-/// slice's length as `out 0`, some of these with commas between, or nothing.
+/// What a cell of grants says: `checked`, `written`, a grant such as
+/// `shapes 1`, the out slice's length as `out 0`, some of these with commas
+/// between, or nothing.
 fn granted(cell: &str) -> (Operation, Grants, u64) {
     let mut operation = Operation::Draw;
     let mut grants = GRANTS;
     let mut out_length = OUT_LENGTH;
     for part in cell.split(", ").filter(|part| !part.is_empty()) {
+        if part == "written" {
+            continue;
+        }
         if part == "checked" {
             operation = Operation::Check;
             continue;

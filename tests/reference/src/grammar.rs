@@ -167,6 +167,15 @@ impl<'a> Parser<'a> {
         *self.names.entry(spelling).or_insert(fresh)
     }
 
+    /// How each name is spelled, by its number.
+    fn spellings(&self) -> Vec<Vec<u8>> {
+        let mut all = vec![Vec::new(); self.names.len()];
+        for (spelling, number) in &self.names {
+            all[*number] = spelling.to_vec();
+        }
+        all
+    }
+
     /// Procedures up to the end of the program, at least one. One of them is
     /// main, or the program ends too early.
     fn program(mut self) -> Result<Program, Refusal> {
@@ -176,7 +185,11 @@ impl<'a> Parser<'a> {
         }
         let is_main = |one: &Definition| one.procedure == Procedure::Main;
         match definitions.iter().position(is_main) {
-            Some(main) => Ok(Program { definitions, main }),
+            Some(main) => Ok(Program {
+                definitions,
+                main,
+                names: self.spellings(),
+            }),
             None => self.misfit(),
         }
     }

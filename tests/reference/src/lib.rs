@@ -15,6 +15,7 @@ pub mod takings;
 pub mod token;
 pub mod tree;
 pub mod value;
+pub mod writer;
 
-pub use operation::{check, draw, Answer, Grants, Operation};
+pub use operation::{check, draw, text, Answer, Grants, Operation};
 pub use takings::{book, run_specified, End, Event, Specified, Taking};

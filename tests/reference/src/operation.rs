@@ -1,4 +1,5 @@
-//! The two operations, with all their questions in order.
+//! Checking, drawing and the one text of a program, with all their questions
+//! in order.
 
 use crate::grammar::{self, Refusal};
 use crate::picture;
@@ -6,9 +7,12 @@ use crate::run::{self, Finish};
 use crate::shape::Shape;
 use crate::takings::{Left, Stop};
 use crate::tree::Program;
+use crate::writer;
 
 /// The most bytes a program may have.
 pub const PROGRAM_BYTES: usize = 32_768;
+/// The most bytes a program's one text may have.
+pub const TEXT_BYTES: u64 = 32_768;
 /// The stack that a run may use, in bytes.
 const STACK: usize = 64 << 20;
 
@@ -81,7 +85,7 @@ pub enum Answer {
         bytes: Vec<u8>,
     },
     WellFormed,
-    /// A number of document 01's table. Only 80 tells a length.
+    /// A number of document 01's table. Only 80 and 82 tell a length.
     Number {
         number: u32,
         place: u64,
@@ -117,6 +121,26 @@ pub fn check_granted(program: &[u8], grants: Grants) -> Answer {
     } else {
         Answer::number(71, 0, 0)
     }
+}
+
+/// The one text of a program, for an out slice of `out_length` bytes, or a
+/// number. All that checking asks is asked first; 82 tells the text's length.
+pub fn text(program: &[u8], grants: Grants, out_length: u64) -> Result<Vec<u8>, Answer> {
+    if !grants.in_range() {
+        return Err(Answer::number(71, 0, 0));
+    }
+    let tree = prepare(Operation::Check, program, 0, 0)?;
+    let text = writer::text_of(&tree);
+    let length = text.len() as u64;
+    if length > TEXT_BYTES || length > out_length {
+        return Err(Answer::Number {
+            number: 82,
+            place: 0,
+            steps: 0,
+            length_needed: Some(length),
+        });
+    }
+    Ok(text)
 }
 
 /// Drawing into an out slice of `out_length` bytes. With none, 80 tells the

@@ -1,6 +1,6 @@
-//! What `imgdraw` reads and prints.
+//! What `imgdraw` and `imgtext` read and print.
 
-use crate::operation::{draw, Answer, Grants};
+use crate::operation::{draw, text, Answer, Grants, TEXT_BYTES};
 
 /// What `imgdraw` grants.
 pub const GRANTS: Grants = Grants {
@@ -44,10 +44,19 @@ pub fn answer(input: &[u8]) -> Answer {
 
 /// What `imgdraw` prints for its input.
 pub fn print(input: &[u8]) -> Vec<u8> {
-    match answer(input) {
+    printed(answer(input))
+}
+
+fn printed(answer: Answer) -> Vec<u8> {
+    match answer {
         Answer::Picture { bytes, .. } => bytes,
         Answer::Number { number, place, .. } => format!("error {number} at {place}\n").into_bytes(),
-        // Drawing never only checks.
+        // Neither program only checks.
         Answer::WellFormed => Vec::new(),
     }
+}
+
+/// What `imgtext` prints for its input, all of which is the program.
+pub fn print_text(input: &[u8]) -> Vec<u8> {
+    text(input, GRANTS, TEXT_BYTES).unwrap_or_else(printed)
 }

@@ -7,15 +7,20 @@ use std::rc::Rc;
 /// names first appear.
 pub type Name = usize;
 
-/// The procedures of a program, as they stand in its text.
-#[derive(Debug)]
+/// The procedures of a program, as they stand in its text. Two programs are
+/// equal if they differ only in white space, in parentheses and in how their
+/// constants are spelled.
+#[derive(Debug, PartialEq, Eq)]
 pub struct Program {
     pub definitions: Vec<Definition>,
     /// Which of them is main, the first one so named.
     pub main: usize,
+    /// How each name is spelled.
+    pub names: Vec<Vec<u8>>,
 }
 
-/// A procedure that the program defines.
+/// A procedure that the program defines. Its place is nothing that makes two
+/// of them differ.
 #[derive(Debug)]
 pub struct Definition {
     /// The first byte of its `def`.
@@ -49,6 +54,17 @@ impl Definition {
     }
 }
 
+impl PartialEq for Definition {
+    fn eq(&self, other: &Definition) -> bool {
+        self.procedure == other.procedure
+            && self.parameters == other.parameters
+            && self.body == other.body
+    }
+}
+
+impl Eq for Definition {}
+
+/// A statement. Its place is nothing that makes two of them differ.
 #[derive(Debug)]
 pub struct Statement {
     /// The first byte of the statement.
@@ -56,7 +72,15 @@ pub struct Statement {
     pub action: Action,
 }
 
-#[derive(Debug)]
+impl PartialEq for Statement {
+    fn eq(&self, other: &Statement) -> bool {
+        self.action == other.action
+    }
+}
+
+impl Eq for Statement {}
+
+#[derive(Debug, PartialEq, Eq)]
 pub enum Action {
     Declare(Name),
     Assign(Name, Expression),
@@ -73,7 +97,7 @@ pub enum Action {
 }
 
 /// An expression; parentheses leave no trace.
-#[derive(Debug)]
+#[derive(Debug, PartialEq, Eq)]
 pub enum Expression {
     Integer(i32),
     Text(Rc<[u8]>),
@@ -120,26 +144,62 @@ pub enum Procedure {
     Other(Name),
 }
 
+/// The procedures that are known by their names.
+const KNOWN: [(&str, Procedure); 11] = [
+    ("drawLine", Procedure::DrawLine),
+    ("drawEllipse", Procedure::DrawEllipse),
+    ("drawBox", Procedure::DrawBox),
+    ("drawText", Procedure::DrawText),
+    ("destroyShape", Procedure::DestroyShape),
+    (
+        "drawLineConnectingShapes",
+        Procedure::DrawLineConnectingShapes,
+    ),
+    ("drawTextOnShape", Procedure::DrawTextOnShape),
+    ("getShapeXCoordinate", Procedure::GetShapeXCoordinate),
+    ("getShapeYCoordinate", Procedure::GetShapeYCoordinate),
+    ("clearScene", Procedure::ClearScene),
+    ("main", Procedure::Main),
+];
+
 impl Procedure {
     /// What a spelling names; `name` is its number.
     pub fn named(spelling: &[u8], name: Name) -> Procedure {
-        match spelling {
-            b"drawLine" => Procedure::DrawLine,
-            b"drawEllipse" => Procedure::DrawEllipse,
-            b"drawBox" => Procedure::DrawBox,
-            b"drawText" => Procedure::DrawText,
-            b"destroyShape" => Procedure::DestroyShape,
-            b"drawLineConnectingShapes" => Procedure::DrawLineConnectingShapes,
-            b"drawTextOnShape" => Procedure::DrawTextOnShape,
-            b"getShapeXCoordinate" => Procedure::GetShapeXCoordinate,
-            b"getShapeYCoordinate" => Procedure::GetShapeYCoordinate,
-            b"clearScene" => Procedure::ClearScene,
-            b"main" => Procedure::Main,
-            _ => Procedure::Other(name),
+        let known = KNOWN.iter().find(|(known, _)| known.as_bytes() == spelling);
+        known.map_or(Procedure::Other(name), |(_, procedure)| *procedure)
+    }
+
+    /// Its name, with the spellings of the names of the program.
+    pub fn spelling(self, names: &[Vec<u8>]) -> &[u8] {
+        match self {
+            Procedure::Other(name) => &names[name],
+            _ => KNOWN
+                .iter()
+                .find(|(_, procedure)| *procedure == self)
+                .map_or(&[], |(known, _)| known.as_bytes()),
         }
     }
 
     pub fn is_library(self) -> bool {
         !matches!(self, Procedure::Main | Procedure::Other(_))
+    }
+}
+
+impl Operator {
+    pub fn spelling(self) -> &'static str {
+        match self {
+            Operator::Join => "++",
+            Operator::Add => "+",
+            Operator::Subtract => "-",
+            Operator::Multiply => "*",
+            Operator::Divide => "/",
+            Operator::Remainder => "%",
+            Operator::ShiftRight => ">>",
+            Operator::ShiftLeft => "<<",
+            Operator::Equal => "==",
+            Operator::Unequal => "!=",
+            Operator::Greater => ">",
+            Operator::Less => "<",
+        }
     }
 }

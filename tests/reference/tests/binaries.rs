@@ -1,4 +1,4 @@
-//! The two programs, run as programs.
+//! The three programs, run as programs.
 
 use reference::case::{hash, Case};
 use reference::{Grants, Operation};
@@ -30,6 +30,20 @@ fn reference_prints_what_imgdraw_should() {
     assert_eq!(run(reference, day.as_bytes()), expected);
     assert_eq!(run(reference, b""), "error 72 at 0\n");
     assert_eq!(run(reference, b"20 20\n\xff"), "error 10 at 0\n");
+}
+
+#[test]
+fn written_prints_what_imgtext_should() {
+    let written = env!("CARGO_BIN_EXE_written");
+    // The whole input is the program; there is no first line.
+    let program = b"def main(w,h){var\ta;a=((w))+-00;}\n\n";
+    let text = "def main(w,h){\nvar a;\na=w+0;\n}\n";
+    assert_eq!(run(written, program), text);
+    assert_eq!(run(written, b""), "error 10 at 0\n");
+    assert_eq!(run(written, b"20 20\ndef main(w,h){1;}"), "error 10 at 0\n");
+    assert_eq!(run(written, &[b' '; 32_769]), "error 73 at 0\n");
+    let long = format!("def main(w,h){{{};}}", "n".repeat(32_750));
+    assert_eq!(run(written, long.as_bytes()), "error 82 at 0\n");
 }
 
 #[test]

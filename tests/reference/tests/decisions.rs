@@ -2,9 +2,9 @@
 
 mod common;
 
-use common::short;
+use common::{short, short_text};
 use reference::case::Case;
-use reference::decisions::rows;
+use reference::decisions::{rows, text_rows};
 
 #[test]
 fn each_row() {
@@ -20,8 +20,14 @@ fn each_row() {
         };
         assert_eq!(short(&case.answer()), row.result, "row {}", row.number);
     }
+    let text_rows = text_rows();
+    for row in &text_rows {
+        let answer = reference::text(&row.program, row.grants, row.out_length);
+        assert_eq!(short_text(&answer), row.result, "row {}", row.number);
+    }
     // None is left out, and none has the number of another.
-    let mut numbers: Vec<u32> = rows.iter().map(|row| row.number).collect();
+    let all = rows.iter().chain(&text_rows);
+    let mut numbers: Vec<u32> = all.map(|row| row.number).collect();
     numbers.sort_unstable();
     assert!(numbers.len() >= 129, "only {} rows", numbers.len());
     assert_eq!(numbers, (1..=numbers.len() as u32).collect::<Vec<u32>>());

@@ -1,6 +1,5 @@
 -- `imgcheck::answer` meets its contract: its slices are long enough, so 71 is not its answer.
 -- Assumes nothing.
-use mathlib.Core.Path.{refl}
 use borrow.Author.Needs.{needs}
 use Rattle.imgcheck.proofs.Reporting.{checked-answer, one-call-granted}
 use Rattle.imgcheck.proofs.answer.Statement.{statement}
@@ -16,7 +15,7 @@ check-requires : tie.Need-check-requires
 check-requires c κs = search needs
 
 returns : tie.Need-returns
-returns c = checked-answer _ _ _ _ _ _ _ one-call-granted refl refl (c .before .before .check .ensures)
+returns c = checked-answer _ _ _ _ _ _ _ one-call-granted (c .before .before .check .ensures)
 
 pub answer-spec : {M : Type 1} → statement M
 answer-spec =

@@ -1,6 +1,6 @@
 -- `reader::read` meets its contract: a stray byte, too many tokens, or the words of the tokens in front of the slice, which `parse` reads.
 use borrow.Author.Needs.{needs}
-use Rattle.reader.proofs.Ways.{read-stray, read-many, read-few}
+use Rattle.reader.proofs.Ways.{read-stray, read-many, read-few, read-parsed}
 use Rattle.reader.proofs.read.Statement.{statement}
 use Rattle.reader.proofs.read.Tie as tie
 
@@ -23,7 +23,7 @@ same-length : tie.Need-same-length
 same-length c = search needs
 
 returns : tie.Need-returns
-returns c = read-many _ _ _ (c .before .before .before .before .before .before .before .before .before .before .before .before .before .pre) _ _ (c .before .before .before .before .before .before .before .before .lex .ensures) _ (c .before .before .before .before .found2 .given .1) (c .before .before .if1 .taken) _ (c .place-of .ensures) _
+returns c = read-many _ _ _ (c .before .before .before .before .before .before .before .before .before .before .before .before .before .pre) _ _ (c .before .before .before .before .before .before .before .before .lex .ensures) _ (c .before .before .before .before .found2 .given .1) (c .before .before .if1 .taken) _ (c .place-of .ensures) _ _
 
 sub-parse : tie.Need-sub-parse
 sub-parse c = search needs
@@ -41,7 +41,7 @@ same-length-2 : tie.Need-same-length-2
 same-length-2 c = search needs
 
 returns-2 : tie.Need-returns-2
-returns-2 c = read-stray _ _ _ (c .before .before .before .before .before .before .before .before .before .before .pre) _ _ (c .before .before .before .before .before .lex .ensures) _ (c .before .found .given .1) _
+returns-2 c = read-stray _ _ _ (c .before .before .before .before .before .before .before .before .before .before .pre) _ _ (c .before .before .before .before .before .lex .ensures) _ (c .before .found .given .1) _ _
 
 same-length-3 : tie.Need-same-length-3
 same-length-3 c = search needs
@@ -50,7 +50,7 @@ same-length-4 : tie.Need-same-length-4
 same-length-4 c = search needs
 
 returns-3 : tie.Need-returns-3
-returns-3 c = search needs
+returns-3 c = read-parsed _ _ _ _ _ (c .before .before .before .before .parse .ensures)
 
 pub read-spec : {M : Type 1} → statement M
 read-spec =

@@ -1,4 +1,4 @@
-//! Compares one operation on many generated cases: `soak [checking|drawing] FIRST COUNT`, checking if none is named. Prints how many cases were compared, in
+//! Compares one operation on many generated cases: `soak [checking|drawing|text] FIRST COUNT`, checking if none is named. Prints how many cases were compared, in
 //! how many calls, and how many differ.
 
 use agreement::compare::{misfit, Lender};
@@ -29,6 +29,9 @@ fn main() {
             };
             lender.misfit_around(&case, seed)
         }),
+        Some("text") => {
+            Box::new(|seed| lender.text_misfit_around(&generator::text::call(seed), seed))
+        }
         Some(other) => panic!("no operation {other}"),
     };
     let mut different = 0;

@@ -3,7 +3,7 @@
 #![allow(dead_code)]
 
 use reference::sheet::{GRANTS, OUT_LENGTH};
-use reference::{draw, Answer, Grants};
+use reference::{draw, text, Answer, Grants};
 
 /// `def main(w,h){...}` around a body, so byte k of the body has place 14 + k.
 pub fn main_of(body: &str) -> Vec<u8> {
@@ -33,6 +33,27 @@ pub fn short(answer: &Answer) -> String {
             ..
         } => format!("{number}@{place} s{steps}"),
     }
+}
+
+/// What `text` hands back, in short: the text with `⏎` for each linefeed, or a
+/// number such as `82@0 s0 l22`, where l tells the length.
+pub fn short_text(answer: &Result<Vec<u8>, Answer>) -> String {
+    match answer {
+        Ok(text) => String::from_utf8(text.clone()).unwrap().replace('\n', "⏎"),
+        Err(number) => match number {
+            Answer::Number {
+                length_needed: Some(length),
+                ..
+            } => format!("{} l{length}", short(number)),
+            _ => short(number),
+        },
+    }
+}
+
+/// The one text of a program with the grants of `imgdraw` and an out slice of
+/// 65,536 bytes, in short.
+pub fn written(program: &[u8]) -> String {
+    short_text(&text(program, GRANTS, OUT_LENGTH))
 }
 
 /// The lines of a picture's shapes, each followed by a linefeed.

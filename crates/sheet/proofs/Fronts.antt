@@ -12,8 +12,8 @@ use Rattle.answers.specs.declared.Answer as Declared
 use Rattle.answers.specs.declared.Answer.the-variants.{Picture, Number}
 use Rattle.answers.specs.Answers.{meant}
 use Rattle.writing.proofs.Laying.{length-over}
 use Rattle.sheet.specs.Errors.{errorLine, ErrorWritten}
-use Rattle.imgdraw.specs.Printed.{Front, textOf}
+use Rattle.sheet.specs.Shown.{shownText, Front}
 
 -- no more is taken than there is
 take-least : (n : ℕ) (xs : List ℕ) → take (min n (length xs)) xs ≡ take n xs
@@ -34,11 +34,11 @@ error-line n place r out after h w =
     }
 
 module _ (a : Declared.Answer) (out : List ℕ) where
-  pub picture-front : (l n r : ℕ) → a ≡ Picture l n → r ≡ min l (length out) → Front (textOf (meant a) out) out r
-  unfolding textOf meant
+  pub picture-front : (l n r : ℕ) → a ≡ Picture l n → r ≡ min l (length out) → Front (shownText (meant a) out) out r
+  unfolding shownText meant
   picture-front l n r e h = record { holds = rw (e, h) (take-least l out); within = omega arith }
 
   pub error-front : (n place s l r : ℕ) (after : List ℕ) → a ≡ Number n place s l → 64 ≤ length out → ErrorWritten n place out after r
-      → Front (textOf (meant a) out) after r
-  unfolding textOf meant
+      → Front (shownText (meant a) out) after r
+  unfolding shownText meant
   error-front n place s l r after e h w = rw e (error-line n place r out after h w)

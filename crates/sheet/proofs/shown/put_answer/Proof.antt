@@ -1,9 +1,9 @@
--- `imgdraw::draw::put_answer` meets its contract: by the cases of the answer.
+-- `sheet::shown::put_answer` meets its contract: by the cases of the answer.
 -- Assumes nothing.
 use borrow.Author.Needs.{needs}
-use Rattle.imgdraw.proofs.Fronts.{picture-front, error-front}
-use Rattle.imgdraw.proofs.draw.put_answer.Statement.{statement}
-use Rattle.imgdraw.proofs.draw.put_answer.Tie as tie
+use Rattle.sheet.proofs.Fronts.{picture-front, error-front}
+use Rattle.sheet.proofs.shown.put_answer.Statement.{statement}
+use Rattle.sheet.proofs.shown.put_answer.Tie as tie
 
 enum-known-answer : tie.Need-enum-known-answer
 enum-known-answer c = search needs

@@ -1,0 +1,174 @@
+-- One law for each way through each function on expressions.
+-- Assumes nothing.
+use Prim.Native.Nat.{ℕ, zero, suc, _+_, _-_, _^_, _≤_, _<_}
+use mathlib.Core.Path.{_≡_, refl}
+use mathlib.Core.Bool.{Bool, true, false}
+use mathlib.Core.List.{List, [], _∷_, _++_}
+use native.Mathlib.Omega.{arith}
+use borrow.Author.Tests.{lt-ltb, le-ltb, ne-eqb}
+use lib.Dec.{ltb}
+use lib.ListN.{length, getD}
+use Rattle.meaning.specs.Basics.{bytes, if_then_else_, laidOver}
+use Rattle.meaning.specs.Byte.{isNamePart}
+use Rattle.canonical.specs.Text.{enclosedIf}
+use Rattle.machine.specs.Opcodes.{tagIn, sizeIn, numberIn, calleeIn, argumentRoot, tagTable, tagCall}
+use Rattle.writing.specs.Placed.{laidAt, WroteAt}
+use Rattle.formatter.specs.Raw.{source, spelling, leafText, signText, encloses, partText, pairText, argumentsText, callText, expressionBy, rawExpression}
+use Rattle.formatter.proofs.Chains.{nothing, then-two, then-three, then-four, Writing, begin, goes-on, ends}
+
+module _ (program tokens code : List ℕ) where
+  -- ---- the names and leaves do not read the code
+  any-name : (slot : ℕ) → spelling (source program tokens []) slot ≡ spelling (source program tokens code) slot
+  unfolding spelling
+  any-name slot = refl
+
+  pub name-here : (slot : ℕ) {at r : ℕ} {d e : List ℕ} → WroteAt at (spelling (source program tokens []) slot) d e r
+      → WroteAt at (spelling (source program tokens code) slot) d e r
+  name-here slot p = rw (any-name slot) at p
+
+  any-leaf : (w : ℕ) → leafText (source program tokens []) w ≡ leafText (source program tokens code) w
+  unfolding leafText spelling
+  any-leaf w = refl
+
+  -- ---- by the word
+  module _ (fuel x : ℕ) (n : fuel ≡ 0 → ⊥) (w : ℕ) (i : w ≡ getD code x 0) where
+    begun : rawExpression fuel (source program tokens code) x ≡ expressionBy (rawExpression (fuel - 1) (source program tokens code)) (source program tokens code) w x
+    unfolding rawExpression
+    begun =
+        let deeper : fuel ≡ suc (fuel - 1) = omega (arith, n) in
+        rw deeper (rw (i, ← deeper))
+
+  module _ (fuel x : ℕ) {at : ℕ} {d : List ℕ} where
+    pub too-deep : fuel ≡ 0 → at < 2 ^ 64 → WroteAt at (rawExpression fuel (source program tokens code) x) d d at
+    unfolding rawExpression
+    too-deep z h = rw z (nothing h)
+
+    module _ (n : fuel ≡ 0 → ⊥) (w tag : ℕ) (i : w ≡ getD code x 0) (j : tag ≡ tagIn w) {r : ℕ} {e : List ℕ} where
+      pub is-leaf : tag < tagTable → WroteAt at (leafText (source program tokens []) w) d e r → WroteAt at (rawExpression fuel (source program tokens code) x) d e r
+      unfolding expressionBy if_then_else_
+      is-leaf l p = rw (begun fuel x n w i, ← j, lt-ltb tag tagTable l) (rw (any-leaf w) at p)
+
+      pub is-table : (last : ℕ) → tagTable ≤ tag → tag ≡ tagTable → last ≡ x - 1
+          → WroteAt at (bytes "[" ++ rawExpression (fuel - 1) (source program tokens code) last ++ bytes "]") d e r
+          → WroteAt at (rawExpression fuel (source program tokens code) x) d e r
+      unfolding expressionBy if_then_else_
+      is-table last l k m p = rw (begun fuel x n w i, ← j, k, ← m) p
+
+      pub is-call : tagTable ≤ tag → tag ≡ tagCall → WroteAt at (callText (rawExpression (fuel - 1) (source program tokens code)) (source program tokens code) w x) d e r
+          → WroteAt at (rawExpression fuel (source program tokens code) x) d e r
+      unfolding expressionBy if_then_else_
+      is-call l k p = rw (begun fuel x n w i, ← j, k) p
+
+      pub is-pair : (first last : ℕ) → tagTable ≤ tag → (tag ≡ tagTable → ⊥) → (tag ≡ tagCall → ⊥) → last ≡ x - 1 → first ≡ x - 1 - numberIn w
+          → WroteAt at (pairText (rawExpression (fuel - 1) (source program tokens code)) (source program tokens code) tag first last) d e r
+          → WroteAt at (rawExpression fuel (source program tokens code) x) d e r
+      unfolding expressionBy if_then_else_
+      is-pair first last l k m a b p = rw (begun fuel x n w i, ← j, le-ltb tag tagTable l, ne-eqb _ _ k, ne-eqb _ _ m, ← b, ← a) p
+
+  -- ---- parts
+  module _ (fuel : ℕ) {at r : ℕ} {d : List ℕ} where
+    module _ (outer y w inner : ℕ) (b : Bool) (i : w ≡ getD code y 0) (j : inner ≡ tagIn w) (k : b ≡ encloses outer inner) {e : List ℕ} where
+      pub side-enclosed : b ≡ true → WroteAt at (bytes "(" ++ rawExpression fuel (source program tokens code) y ++ bytes ")") d e r
+          → WroteAt at (partText (rawExpression fuel (source program tokens code)) (source program tokens code) outer y) d e r
+      unfolding partText enclosedIf
+      side-enclosed t p = rw (← i, ← j, ← k, t) p
+
+      pub side-bare : b ≡ false → WroteAt at (rawExpression fuel (source program tokens code) y) d e r
+          → WroteAt at (partText (rawExpression fuel (source program tokens code)) (source program tokens code) outer y) d e r
+      unfolding partText enclosedIf
+      side-bare t p = rw (← i, ← j, ← k, t) p
+
+    pub pair-written : (tag y z : ℕ) {m n : ℕ} {e f g : List ℕ} → length d < 2 ^ 64
+        → WroteAt at (partText (rawExpression fuel (source program tokens code)) (source program tokens code) tag y) d e m
+        → WroteAt m (signText tag) e f n
+        → WroteAt n (partText (rawExpression fuel (source program tokens code)) (source program tokens code) tag z) f g r
+        → WroteAt at (pairText (rawExpression fuel (source program tokens code)) (source program tokens code) tag y z) d g r
+    unfolding pairText
+    pair-written tag y z h p q s = then-three h p q s
+
+    -- ---- calls
+    pub call-written : (w x a y slot : ℕ) {l m n : ℕ} {e f g o : List ℕ} → length d < 2 ^ 64 → a ≡ x - (sizeIn w - 1) → y ≡ argumentRoot (getD code a 0) a x
+        → slot ≡ calleeIn w → WroteAt at (spelling (source program tokens []) slot) d e l → WroteAt l (bytes "(") e f m
+        → WroteAt m (argumentsText (suc x) [] (rawExpression fuel (source program tokens code)) (source program tokens code) y x) f g n
+        → WroteAt n (bytes ")") g o r → WroteAt at (callText (rawExpression fuel (source program tokens code)) (source program tokens code) w x) d o r
+    unfolding callText
+    call-written w x a y slot h i j b p q s t = rw (← i, ← j, ← b) (then-four h (name-here slot p) q s t)
+
+-- ---- arguments
+root-behind : (w a x : ℕ) → a ≤ x → a ≤ argumentRoot w a x
+unfolding argumentRoot if_then_else_
+root-behind w a x m = go (ltb (a + sizeIn w) x) refl
+  where
+    go : (b : Bool) → ltb (a + sizeIn w) x ≡ b → a ≤ (if b then (λ _. a + sizeIn w) else λ _. x)
+    go true q = omega arith
+    go false q = m
+
+pub root-falls : (k x y z : ℕ) → y < x → z ≡ argumentRoot k (y + 1) x → x - z < x - y
+root-falls k x y z l e = let b : y + 1 ≤ z = rw e (root-behind k (y + 1) x (omega arith)) in omega arith
+
+-- of the arguments from `second` on, those from y on are left
+pub record Listing (program tokens code : List ℕ) (fuel second x at : ℕ) (before now : List ℕ) (next y : ℕ) : Type 0 where
+  pub short : length before < 2 ^ 64
+  pub rounds : ℕ
+  pub enough : x < y + rounds
+  pub writing : Writing at (argumentsText x (bytes ",") (rawExpression fuel (source program tokens code)) (source program tokens code) second x)
+      (argumentsText rounds (bytes ",") (rawExpression fuel (source program tokens code)) (source program tokens code) y x) before now next
+
+module _ (program tokens code : List ℕ) (fuel first x : ℕ) {at : ℕ} {d : List ℕ} where
+  pub no-argument : x ≤ first → at < 2 ^ 64
+      → WroteAt at (argumentsText (suc x) [] (rawExpression fuel (source program tokens code)) (source program tokens code) first x) d d at
+  unfolding argumentsText if_then_else_
+  no-argument l h = rw (le-ltb first x l) (nothing h)
+
+  pub first-listed : (second : ℕ) {next r : ℕ} {e f : List ℕ} → length d < 2 ^ 64 → first < x → second ≡ argumentRoot (getD code (first + 1) 0) (first + 1) x
+      → WroteAt at (rawExpression fuel (source program tokens code) first) d e next
+      → WroteAt next (argumentsText x (bytes ",") (rawExpression fuel (source program tokens code)) (source program tokens code) second x) e f r
+      → WroteAt at (argumentsText (suc x) [] (rawExpression fuel (source program tokens code)) (source program tokens code) first x) d f r
+  unfolding argumentsText if_then_else_
+  first-listed second h l j p q = rw (lt-ltb first x l, ← j) (then-two h p q)
+
+  pub list-first : (second : ℕ) → length d < 2 ^ 64 → at < 2 ^ 64 → first < x → second ≡ argumentRoot (getD code (first + 1) 0) (first + 1) x
+      → Listing program tokens code fuel second x at d d at second
+  list-first second h k l j = record {
+    short = h;
+    rounds = x;
+    enough = let b : first + 1 ≤ second = rw j (root-behind (getD code (first + 1) 0) (first + 1) x (omega arith)) in omega arith;
+    writing = begin _ k;
+  }
+
+module _ (program tokens code : List ℕ) (fuel second x y : ℕ) {at next : ℕ} {before now : List ℕ} (g : Listing program tokens code fuel second x at before now next y) where
+  none-left : (rounds : ℕ) → x ≤ y → argumentsText rounds (bytes ",") (rawExpression fuel (source program tokens code)) (source program tokens code) y x ≡ []
+  unfolding argumentsText if_then_else_
+  none-left zero l = refl
+  none-left (suc rounds) l = rw (le-ltb y x l)
+
+  pub list-ends : x ≤ y → WroteAt at (argumentsText x (bytes ",") (rawExpression fuel (source program tokens code)) (source program tokens code) second x) before now next
+  list-ends l = ends (g .writing) (none-left (g .rounds) l)
+
+  one-more : (rounds z : ℕ) → y < x → x < y + rounds → z ≡ argumentRoot (getD code (y + 1) 0) (y + 1) x
+      → argumentsText rounds (bytes ",") (rawExpression fuel (source program tokens code)) (source program tokens code) y x
+      ≡ (bytes "," ++ rawExpression fuel (source program tokens code) y)
+      ++ argumentsText (rounds - 1) (bytes ",") (rawExpression fuel (source program tokens code)) (source program tokens code) z x
+  unfolding argumentsText if_then_else_
+  one-more zero z l b j = absurd (omega arith)
+  one-more (suc rounds) z l b j =
+      let q : suc rounds - 1 ≡ rounds = omega arith in
+      rw (lt-ltb y x l, q, ← j)
+
+  pub list-next : (z : ℕ) {after : List ℕ} {last : ℕ} → y < x → WroteAt next (bytes "," ++ rawExpression fuel (source program tokens code) y) now after last
+      → z ≡ argumentRoot (getD code (y + 1) 0) (y + 1) x → Listing program tokens code fuel second x at before after last z
+  list-next z l p j = record {
+    short = g .short;
+    rounds = g .rounds - 1;
+    enough = let b : y + 1 ≤ z = rw j (root-behind (getD code (y + 1) 0) (y + 1) x (omega arith)) in omega (arith, g .enough);
+    writing = goes-on _ _ (g .short) (g .writing) (one-more (g .rounds) z l (g .enough) j) p;
+  }
+
+-- ---- the first byte
+first-byte : (t now : List ℕ) {r : ℕ} → WroteAt 0 t (0 ∷ []) now r → getD now 0 0 ≡ getD t 0 0
+unfolding laidAt laidOver
+first-byte [] now p = rw (p .laid)
+first-byte (b ∷ t) now p = rw (p .laid)
+
+pub word-begins : (t now : List ℕ) (b : Bool) {r : ℕ} → b ≡ isNamePart (getD now 0 0) → WroteAt 0 t (0 ∷ []) now r → b ≡ isNamePart (getD t 0 0)
+word-begins t now b e p = rw (← first-byte t now p) e

@@ -1,0 +1,11 @@
+pub mod Chains
+pub mod Leaves
+pub mod Expressions
+pub mod Statements
+pub mod Procedures
+mod FaithfulNames
+mod FaithfulExpressions
+mod FaithfulStatements
+mod FaithfulTokens
+mod FaithfulProcedures
+pub mod Faithful

@@ -1,0 +1,2 @@
+mod Shown
+pub mod Enough
