@@ -2,7 +2,7 @@
  *
  * The first 27 bytes of an input choose the call, missing ones being 0, and the rest is the program. Numbers have their low byte first.
  *
- *    0      operation: 0 checking, 1 drawing (modulo 2)
+ *    0      operation: 0 checking and the text, 1 drawing (modulo 2)
  *    1      lengths of tokens, code, words and texts, two bits each from the low end: 1 is one element short, 2 is five longer, else as needed
  *    2      the byte that fills every slice before the call
  *    3      from the low end, whether steps, shapes, entries and text bytes lie beyond their range by what they are
@@ -76,7 +76,7 @@ static int holds(struct Slice s, size_t from, uint8_t byte) {
     return s.bytes[from] == byte && memcmp(s.bytes + from, s.bytes + from + 1, s.size - from - 1) == 0;
 }
 
-static struct Region programs, tokens_at, code_at, words_at, texts_at, outs, answers;
+static struct Region programs, tokens_at, code_at, words_at, texts_at, outs, seconds, answers;
 
 static void make_regions(void) {
     programs = region(MOST_PROGRAM);
@@ -85,6 +85,7 @@ static void make_regions(void) {
     words_at = region((278608 + 3 * 131071 + 4 * 131071 + LONGER) * 8);
     texts_at = region(131071 + LONGER);
     outs = region(MOST_OUT);
+    seconds = region(PROGRAM_BYTES);
     answers = region(32);
 }
 
@@ -199,6 +200,49 @@ static void check_picture(struct Slice out, uint64_t length, int32_t width, int3
     for (uint64_t i = 0; i < length; i++) {
         ask(out.bytes[i] == '\n' || (out.bytes[i] >= ' ' && out.bytes[i] < 127), "a picture's bytes can be printed");
     }
+}
+
+/* The text of a program that checking answered with `checked`, asked for with the same counts and work slices, and an out slice of `out_length` bytes. */
+static void check_text(struct Slice program, const uint64_t counts[5], struct Slice tokens, struct Slice code, uint8_t fill, size_t out_length,
+                       const uint64_t checked[4]) {
+    uint8_t left = checked[0] == 71 ? fill : 0;
+    struct Slice out = slice(outs, out_length, fill);
+    tokens = slice(tokens_at, tokens.size, fill);
+    code = slice(code_at, code.size, fill);
+    uint64_t *t = (uint64_t *)tokens.bytes;
+    uint64_t *c = (uint64_t *)code.bytes;
+    uint64_t answer[4] = {255, 255, 255, 255};
+    uint64_t number = img_text(program.bytes, program.size, counts[0], counts[1], counts[2], counts[3], counts[4], t, tokens.size / 8, c, code.size / 8,
+                               out.bytes, out_length, answer, 4);
+    ask(IS_KNOWN(answer, 32) && IS_KNOWN(&number, sizeof number), "a text's answer depends on nothing that slices held");
+    ask(number == answer[0] && answer[2] == 0, "the number is returned as well, and nothing is run");
+    ask(holds(tokens, 0, left), "tokens are zero behind a text, or kept after 71");
+    ask(holds(code, 0, left), "code is zero behind a text, or kept after 71");
+    uint64_t length = answer[3];
+    mark(7, number, coarse(length));
+    if (checked[0] != 0) {
+        ask(memcmp(answer, checked, sizeof answer) == 0, "a number of checking is that of the text");
+        ask(holds(out, 0, fill), "the out slice is kept after a number");
+        return;
+    }
+    ask(answer[1] == 0 && length > 0, "a text has a length and no place");
+    ask((number == 82) == (length > out_length || length > PROGRAM_BYTES), "82 exactly for a text that does not fit");
+    if (number == 82) {
+        ask(holds(out, 0, fill), "the out slice is kept after 82");
+        return;
+    }
+    ask(number == 0, "a text or 82");
+    ask(IS_KNOWN(out.bytes, length), "a text depends on nothing that slices held");
+    ask(holds(out, (size_t)length, fill), "the out slice is kept behind a text");
+    for (uint64_t i = 0; i < length; i++) {
+        ask(out.bytes[i] == '\n' || (out.bytes[i] >= ' ' && out.bytes[i] < 127), "a text's bytes can be printed");
+    }
+
+    /* The text is well formed, and is its own text. */
+    struct Slice again = slice(seconds, (size_t)length, fill);
+    ask(img_check(out.bytes, (size_t)length, 0, 0, 0, 0, 1, t, tokens.size / 8, c, code.size / 8, answer, 4) == 0, "a text is well formed");
+    ask(img_text(out.bytes, (size_t)length, 0, 0, 0, 0, 1, t, tokens.size / 8, c, code.size / 8, again.bytes, again.size, answer, 4) == 0, "a text has a text");
+    ask(answer[3] == length && memcmp(out.bytes, again.bytes, (size_t)length) == 0, "the text of a text is itself");
 }
 
 static void one(const uint8_t *input, size_t input_length) {
@@ -320,6 +364,13 @@ static void one(const uint8_t *input, size_t input_length) {
     }
     ask(holds(out, drawn, fill), "the out slice is kept behind a picture and after a number");
     lead(operation, answer, program.bytes, out);
+
+    if (operation == CHECKING) {
+        const uint64_t counts[5] = {steps, shapes, entries, bytes, calls};
+        uint64_t checked[4];
+        memcpy(checked, answer, sizeof checked);
+        check_text(program, counts, tokens, code, fill, out_length, checked);
+    }
 }
 
 #ifdef __AFL_COMPILER

@@ -1,7 +1,7 @@
-//! How long checking takes against a program's length, for four shapes of program, beside the reference's reader. Times are the best of several
-//! rounds, in microseconds; clearing the work slices is part of ours.
+//! How long checking and writing the text take against a program's length, for some shapes of program, beside the reference's reader. Times are the best of
+//! several rounds, in microseconds; clearing the work slices is part of ours.
 
-use agreement::{check, Lent};
+use agreement::{check, text, Lent};
 use reference::Grants;
 use std::time::Instant;
 
@@ -19,6 +19,13 @@ fn different_names(length: usize) -> Vec<u8> {
 fn nested(length: usize) -> Vec<u8> {
     repeated(length, |_| {
         format!("{}1{};", "(".repeat(64), ")".repeat(64))
+    })
+}
+
+/// Returns of operators nested to 64 levels: a return's expression is looked at twice for its text.
+fn returns(length: usize) -> Vec<u8> {
+    repeated(length, |_| {
+        format!("return {}1{};", "(".repeat(64), "+1)".repeat(64))
     })
 }
 
@@ -47,7 +54,11 @@ fn repeated(length: usize, part: impl Fn(usize) -> String) -> Vec<u8> {
     let mut k = 0;
     loop {
         let next = part(k);
-        let more = if next.starts_with('(') { 130 } else { 2 };
+        let more = match next.as_bytes()[0] {
+            b'(' => 130,
+            b'r' => 259,
+            _ => 2,
+        };
         if text.len() + next.len() + 1 > length || tokens + more > 8_192 {
             break;
         }
@@ -73,12 +84,14 @@ fn best(rounds: usize, mut run: impl FnMut()) -> f64 {
 type Shape = fn(usize) -> Vec<u8>;
 
 fn main() {
-    println!("| program | bytes | ours, µs | reference, µs |");
-    println!("|---|---|---|---|");
-    let shapes: [(&str, Shape); 4] = [
+    println!("| program | bytes | checking, µs | its text, µs | reference, µs |");
+    println!("|---|---|---|---|---|");
+    let mut out = vec![0; 32_768];
+    let shapes: [(&str, Shape); 5] = [
         ("one name", one_name),
         ("different names", different_names),
         ("64 levels", nested),
+        ("returns, 64 levels", returns),
         ("one long name", long_name),
     ];
     for (name, make) in shapes {
@@ -90,10 +103,19 @@ fn main() {
             let ours = best(200, || {
                 check(&program, Grants::LEAST, &mut lent.tokens, &mut lent.code);
             });
+            // Where it is too long, its length is worked out and nothing is written.
+            let written = best(200, || {
+                let (tokens, code) = (&mut lent.tokens, &mut lent.code);
+                let answer = text(&program, Grants::LEAST, tokens, code, &mut out);
+                assert!(matches!(answer.number, 0 | 82), "{name}: {answer:?}");
+            });
             let theirs = best(50, || {
                 std::hint::black_box(reference::check(&program));
             });
-            println!("| {name} | {} | {ours:.1} | {theirs:.1} |", program.len());
+            println!(
+                "| {name} | {} | {ours:.1} | {written:.1} | {theirs:.1} |",
+                program.len()
+            );
         }
     }
 }

@@ -2,7 +2,7 @@
 //! pattern tells what was used. Prints a table, in bytes.
 
 use agreement::compare::{library, Lengths};
-use agreement::Work;
+use agreement::{text, Work};
 use generator::Case;
 use reference::sheet::GRANTS;
 use reference::Operation;
@@ -30,8 +30,9 @@ extern "C" {
     fn pthread_join(thread: usize, result: *mut *mut c_void) -> i32;
 }
 
-/// A call, its slices and what it answered.
+/// A call, its slices and what it answered. For a text the operation means nothing.
 struct Run {
+    writes: bool,
     case: Case,
     work: Work,
     number: u64,
@@ -40,14 +41,39 @@ struct Run {
 extern "C" fn start(run: *mut c_void) -> *mut c_void {
     // The thread that made it waits until this one is done.
     let run = unsafe { &mut *(run as *mut Run) };
-    run.number = library(&run.case, &mut run.work, &mut []).number;
+    let (case, work) = (&run.case, &mut run.work);
+    run.number = match run.writes {
+        true => {
+            text(
+                &case.program,
+                case.grants,
+                &mut work.tokens,
+                &mut work.code,
+                &mut [],
+            )
+            .number
+        }
+        false => library(case, work, &mut []).number,
+    };
     std::ptr::null_mut()
 }
 
 /// The number that a call answers and the stack that it uses.
 fn used(operation: Operation, program: &str) -> (u64, usize) {
+    used_by(false, operation, program)
+}
+
+/// The same of a call that asks for the text. It is lent no out slice, so it is 82.
+fn used_for_text(program: &str) -> usize {
+    let (number, bytes) = used_by(true, Operation::Check, program);
+    assert_eq!(number, 82);
+    bytes
+}
+
+fn used_by(writes: bool, operation: Operation, program: &str) -> (u64, usize) {
     let lengths = Lengths::needed(GRANTS);
     let mut run = Run {
+        writes,
         case: Case {
             operation,
             width: 20,
@@ -180,15 +206,16 @@ fn share(operation: Operation, nest: &Nest, few: usize, many: usize, inside: &st
 
 fn main() {
     println!(
-        "| nested | reading, a level | running, a level | drawing, 64 levels | a call in no level | a call in 64 | {CALLS} calls in 64 levels each |"
+        "| nested | reading, a level | its text, 64 levels | running, a level | drawing, 64 levels | a call in no level | a call in 64 | {CALLS} calls in 64 levels each |"
     );
-    println!("|---|---|---|---|---|---|---|");
+    println!("|---|---|---|---|---|---|---|---|");
     // Deep enough that running it takes more than reading it, so that what is around it shows.
     let deep = format!("({}1{})", "1+w.f(".repeat(32), ")".repeat(32));
     let mut most = 0;
     for nest in &NESTS {
         let reading = share(Operation::Check, nest, 4, 64, "1");
         let running = share(Operation::Draw, nest, 2, 18, &deep);
+        let written = used_for_text(&program(nest, 64, "1"));
         let whole = drawn(nest, &program(nest, 64, "1"));
         let calls = |levels, calls| drawn(nest, &recursive(nest, levels, calls));
         let each =
@@ -196,7 +223,7 @@ fn main() {
         let all = calls(64, CALLS);
         most = most.max(all);
         println!(
-            "| {} | {reading:.0} | {running:.0} | {whole} | {} | {} | {all} |",
+            "| {} | {reading:.0} | {written} | {running:.0} | {whole} | {} | {} | {all} |",
             nest.name,
             each(1),
             each(64)
