@@ -92,13 +92,13 @@ unfoldable pub callText : Writer → Source → ℕ → ℕ → List ℕ
 callText inner s w x =
     spelling s (calleeIn w) ++ bytes "(" ++ argumentsText (suc x) [] inner s (argumentAfter s (x - (sizeIn w - 1)) x) x ++ bytes ")"
 
--- by the word w at the root x
+-- by the word w at the root x; entries and operators are what needs parentheses inside an entry
 unfoldable pub expressionBy : Writer → Source → ℕ → ℕ → List ℕ
 expressionBy inner s w x =
     if ltb (tagIn w) tagTable then (λ _. leafText s w)
     else λ _. if eqb (tagIn w) tagTable then (λ _. bytes "[" ++ inner (x - 1) ++ bytes "]")
-    else λ _. if eqb (tagIn w) tagCall then (λ _. callText inner s w x)
-    else λ _. pairText inner s (tagIn w) (x - 1 - numberIn w) (x - 1)
+    else λ _. if encloses tagEntry (tagIn w) then (λ _. pairText inner s (tagIn w) (x - 1 - numberIn w) (x - 1))
+    else λ _. callText inner s w x
 
 -- fuel falls at each expression inside another; there are fewer than there are words of code
 unfoldable pub rawExpression : ℕ → Source → ℕ → List ℕ

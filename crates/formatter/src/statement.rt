@@ -1,7 +1,7 @@
 // Statements by their first words: `fuel` falls at each that is inside another.
 use crate::expression::begins_word;
 use crate::expression::write_between;
-use crate::expression::write_pair;
+use crate::expression::write_entry;
 use crate::leaf::write_name;
 use machine::tags;
 use stores::words::word_at;
@@ -63,7 +63,7 @@ fn write_update(
 {
     let b = code::before(word_at(code, y), y);
     let a = code::before(word_at(code, b), b);
-    let next = write_pair(program, tokens, code, fuel, tags::ENTRY, a, b, out, at);
+    let next = write_entry(program, tokens, code, fuel, a, b, out, at);
     write_between(program, tokens, code, fuel, b"=", y, b";", out, next)
 }
 
