@@ -13,8 +13,9 @@ use Rattle.meaning.specs.Byte.{isNamePart}
 use Rattle.canonical.specs.Text.{enclosedIf}
 use Rattle.machine.specs.Opcodes.{tagIn, sizeIn, numberIn, calleeIn, argumentRoot, tagTable, tagEntry, firstOperator}
 use Rattle.writing.specs.Placed.{laidAt, WroteAt}
-use Rattle.formatter.specs.Raw.{source, spelling, leafText, signText, encloses, partText, pairText, argumentsText, callText, expressionBy, rawExpression}
-use Rattle.formatter.proofs.Chains.{nothing, then-two, then-three, then-four, Writing, begin, goes-on, ends}
+use Rattle.spellings.specs.Spelling.{nameText, leafText, signText, encloses}
+use Rattle.formatter.specs.Raw.{source, partText, pairText, argumentsText, callText, expressionBy, rawExpression}
+use Rattle.spellings.proofs.Chains.{nothing, then-two, then-three, then-four, Writing, begin, goes-on, ends}
 
 -- ---- what needs parentheses
 below-operators : (tag : ℕ) → tag < firstOperator → encloses firstOperator tag ≡ false
@@ -100,19 +101,6 @@ pub table-falls : (code : List ℕ) (fuel x t : ℕ) → (fuel ≡ 0 → ⊥) �
 table-falls code fuel x t n m = omega (arith, call-falls code fuel x t n m)
 
 module _ (program tokens code : List ℕ) where
-  -- ---- the names and leaves do not read the code
-  any-name : (slot : ℕ) → spelling (source program tokens []) slot ≡ spelling (source program tokens code) slot
-  unfolding spelling
-  any-name slot = refl
-
-  pub name-here : (slot : ℕ) {at r : ℕ} {d e : List ℕ} → WroteAt at (spelling (source program tokens []) slot) d e r
-      → WroteAt at (spelling (source program tokens code) slot) d e r
-  name-here slot p = rw (any-name slot) at p
-
-  any-leaf : (w : ℕ) → leafText (source program tokens []) w ≡ leafText (source program tokens code) w
-  unfolding leafText spelling
-  any-leaf w = refl
-
   -- ---- by the word
   module _ (fuel x : ℕ) (n : fuel ≡ 0 → ⊥) (w : ℕ) (i : w ≡ getD code x 0) where
     begun : rawExpression fuel (source program tokens code) x ≡ expressionBy (rawExpression (fuel - 1) (source program tokens code)) (source program tokens code) w x
@@ -179,10 +167,10 @@ module _ (program tokens code : List ℕ) where
         primary-too-deep t z h = bare tagEntry (rw (← k) t) (too-deep z h)
 
         module _ (t : b ≡ false) (n : fuel ≡ 0 → ⊥) {r : ℕ} {e : List ℕ} where
-          pub is-leaf : tag < tagTable → WroteAt at (leafText (source program tokens []) w) d e r
+          pub is-leaf : tag < tagTable → WroteAt at (leafText program tokens w) d e r
               → WroteAt at (partText (rawExpression fuel (source program tokens code)) (source program tokens code) tagEntry x) d e r
           unfolding expressionBy if_then_else_
-          is-leaf l p = bare tagEntry (rw (← k) t) (rw (begun fuel x n w i, ← j, lt-ltb tag tagTable l) (rw (any-leaf w) at p))
+          is-leaf l p = bare tagEntry (rw (← k) t) (rw (begun fuel x n w i, ← j, lt-ltb tag tagTable l) p)
 
           pub is-table : (last : ℕ) → tagTable ≤ tag → tag ≡ tagTable → last ≡ x - 1
               → WroteAt at (bytes "[" ++ rawExpression (fuel - 1) (source program tokens code) last ++ bytes "]") d e r
@@ -206,11 +194,11 @@ module _ (program tokens code : List ℕ) where
 
     -- ---- calls
     pub call-written : (w x a y slot : ℕ) {l m n : ℕ} {e f g o : List ℕ} → length d < 2 ^ 64 → a ≡ x - (sizeIn w - 1) → y ≡ argumentRoot (getD code a 0) a x
-        → slot ≡ calleeIn w → WroteAt at (spelling (source program tokens []) slot) d e l → WroteAt l (bytes "(") e f m
+        → slot ≡ calleeIn w → WroteAt at (nameText program tokens slot) d e l → WroteAt l (bytes "(") e f m
         → WroteAt m (argumentsText (suc x) [] (rawExpression fuel (source program tokens code)) (source program tokens code) y x) f g n
         → WroteAt n (bytes ")") g o r → WroteAt at (callText (rawExpression fuel (source program tokens code)) (source program tokens code) w x) d o r
     unfolding callText
-    call-written w x a y slot h i j b p q s t = rw (← i, ← j, ← b) (then-four h (name-here slot p) q s t)
+    call-written w x a y slot h i j b p q s t = rw (← i, ← j, ← b) (then-four h p q s t)
 
 -- ---- arguments
 root-behind : (w a x : ℕ) → a ≤ x → a ≤ argumentRoot w a x

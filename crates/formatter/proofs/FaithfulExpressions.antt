@@ -22,7 +22,8 @@ use Rattle.reader.proofs.Homes.{Occurs}
 use Rattle.reader.proofs.Known.{Known, KnownAll}
 use Rattle.reader.proofs.Fields.{word-told, call-slot, tag-small, code-some}
 use Rattle.reader.proofs.Walk.{Stands, Ends, ends-word, ends-front, ends-start, ends-joined, stands-argument}
-use Rattle.formatter.specs.Raw.{Source, Writer, part, spelling, signText, encloses, partText, pairText, leafText, argumentAfter, argumentsText, callText, expressionBy, rawExpression}
+use Rattle.spellings.specs.Spelling.{part, leafText, signText, encloses}
+use Rattle.formatter.specs.Raw.{Source, Writer, spelling, partText, pairText, argumentAfter, argumentsText, callText, expressionBy, rawExpression}
 use Rattle.formatter.proofs.Expressions.{operator-in-entry, entry-in-entry}
 
 -- slots and words spell the names and strings of some tokens
@@ -142,7 +143,7 @@ joined-small tag a b l = rw joined-length at l
 
 -- ---- by the word of the root
 module _ (inner : Writer) (s : Source) (x w : ℕ) where
-  by-leaf : (tag : ℕ) → tagIn w ≡ tag → tag < 6 → expressionBy inner s w x ≡ leafText s w
+  by-leaf : (tag : ℕ) → tagIn w ≡ tag → tag < 6 → expressionBy inner s w x ≡ leafText (s .program) (s .tokens) w
   unfolding expressionBy if_then_else_
   by-leaf tag e l = rw (e, lt-ltb tag 6 l)
 
@@ -171,7 +172,7 @@ module _ (s : Source) (ts : List Token) (spells : Spells s ts) where
   by-root fuel x w e = rw e
 
   -- ---- one word
-  leaf-says : (e : Expression) (tag n : ℕ) → codeOf e ts ≡ word tag 1 n ∷ [] → tag < 6 → leafText s (word tag 1 n) ≡ expressionText e → Says e
+  leaf-says : (e : Expression) (tag n : ℕ) → codeOf e ts ≡ word tag 1 n ∷ [] → tag < 6 → leafText (s .program) (s .tokens) (word tag 1 n) ≡ expressionText e → Says e
   leaf-says e tag n c l t zero x f h k = absurd (omega (arith, code-some e ts))
   leaf-says e tag n c l t (suc fuel) x f h k =
       let w = word tag 1 n in

@@ -1,11 +1,11 @@
 // Expressions by their roots, cut as the grammar is: an expression is one operand, or two with an operator's sign between; an operand is one primary, or two with a dot
 // between; a primary is a leaf, or holds expressions. `fuel` falls at each expression inside another. A level of nesting takes one frame of each of the three.
-use crate::leaf::encloses;
-use crate::leaf::is_name_part;
-use crate::leaf::write_leaf;
-use crate::leaf::write_name;
-use crate::leaf::write_sign;
 use machine::tags;
+use spellings::encloses;
+use spellings::is_name_part;
+use spellings::write_leaf;
+use spellings::write_name;
+use spellings::write_sign;
 use stores::words::word_at;
 use writing::write_bytes_at;
 ghost use mathlib.Core.Path.{_≡_};

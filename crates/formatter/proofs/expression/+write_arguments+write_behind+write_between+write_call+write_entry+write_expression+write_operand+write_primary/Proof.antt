@@ -2,7 +2,7 @@
 -- Assumes nothing.
 use native.Mathlib.Omega.{arith}
 use borrow.Author.Needs.{needs}
-use Rattle.formatter.proofs.Chains.{then-two}
+use Rattle.spellings.proofs.Chains.{then-two}
 use Rattle.formatter.proofs.Expressions.{operandWork, primaryWork, side-falls, inner-falls, operand-falls, primary-falls, entry-falls, enclosed-falls, table-falls, call-falls}
 use Rattle.formatter.proofs.Expressions.{too-deep, one-operand, two-operands, one-primary, entry-too-deep, is-entry, entry-written}
 use Rattle.formatter.proofs.Expressions.{enclosed, primary-too-deep, is-leaf, is-table, is-call, call-written}
@@ -40,10 +40,10 @@ use Rattle.code.proofs.left_of.Reads as left-of-reads
 use Rattle.code.proofs.right_of.Reads as right-of-reads
 use Rattle.code.proofs.tag_of.Reads as tag-of-reads
 use Rattle.formatter.proofs.expression.argument_at.Reads as argument-at-reads
-use Rattle.formatter.proofs.leaf.encloses.Reads as encloses-reads
-use Rattle.formatter.proofs.leaf.write_leaf.Reads as write-leaf-reads
-use Rattle.formatter.proofs.leaf.write_name.Reads as write-name-reads
-use Rattle.formatter.proofs.leaf.write_sign.Reads as write-sign-reads
+use Rattle.spellings.proofs.encloses.Reads as encloses-reads
+use Rattle.spellings.proofs.write_leaf.Reads as write-leaf-reads
+use Rattle.spellings.proofs.write_name.Reads as write-name-reads
+use Rattle.spellings.proofs.write_sign.Reads as write-sign-reads
 use Rattle.stores.proofs.words.word_at.Reads as word-at-reads
 use Rattle.writing.proofs.write_bytes_at.Reads as write-bytes-at-reads
 use Rattle.formatter.proofs.expression.+write_arguments+write_behind+write_between+write_call+write_entry+write_expression+write_operand+write_primary.{

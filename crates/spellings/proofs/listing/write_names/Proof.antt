@@ -1,12 +1,12 @@
--- `formatter::procedure::write_names` meets its contract: by the invariant the names so far are written.
+-- `spellings::listing::write_names` meets its contract: by the invariant the names so far are written.
 -- Assumes nothing.
 use borrow.Author.Needs.{needs}
 use native.Mathlib.Omega.{arith}
-use Rattle.formatter.proofs.Procedures.{Naming, names-first, names-next, names-end}
+use Rattle.spellings.proofs.Names.{Naming, names-first, names-next, names-end}
 use Prim.Native.Nat.{_-_}
 use lib.ListN.{length}
-use Rattle.formatter.proofs.procedure.write_names.Statement.{statement}
-use Rattle.formatter.proofs.procedure.write_names.Tie as tie
+use Rattle.spellings.proofs.listing.write_names.Statement.{statement}
+use Rattle.spellings.proofs.listing.write_names.Tie as tie
 
 abbrev Inv-loop : tie.InvT-loop
 Inv-loop program tokens slots out₀ at next₀ i₀ out next i = Naming program tokens slots at out₀ out next i

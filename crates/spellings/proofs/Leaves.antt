@@ -19,8 +19,8 @@ use Rattle.machine.specs.Opcodes.{tagConcatenate, tagAdd, tagSubtract, tagMulti
 use Rattle.tokens.specs.Words as Tokens
 use Rattle.writing.specs.Placed.{WroteAt}
 use Rattle.writing.proofs.Signs.{seenWide, seen, handed-both}
-use Rattle.formatter.specs.Raw.{source, part, spelling, leafText, signText, encloses}
-use Rattle.formatter.proofs.Chains.{then-three}
+use Rattle.spellings.specs.Spelling.{part, nameText, leafText, signText, encloses}
+use Rattle.spellings.proofs.Chains.{then-three}
 
 -- ---- parts of the program
 pub part-written : (program t : List ℕ) (start size : ℕ) {at r : ℕ} {d e : List ℕ} → t ≡ take (start + size - start) (drop start program) → WroteAt at t d e r
@@ -29,8 +29,8 @@ unfolding part
 part-written program t start size i p = let q : start + size - start ≡ size = omega arith in rw (i, q) at p
 
 pub name-written : (program tokens : List ℕ) (slot w place size : ℕ) {at r : ℕ} {d e : List ℕ} → w ≡ getD tokens slot 0 → place ≡ Tokens.placeIn w → size ≡ Tokens.sizeIn w
-    → WroteAt at (part program place size) d e r → WroteAt at (spelling (source program tokens []) slot) d e r
-unfolding spelling
+    → WroteAt at (part program place size) d e r → WroteAt at (nameText program tokens slot) d e r
+unfolding nameText
 name-written program tokens slot w place size i j k p = rw (j, k, i) at p
 
 -- ---- constants and names
@@ -52,26 +52,26 @@ pub string-written : (program : List ℕ) (w start size : ℕ) {at m n r : ℕ} 
 string-written program w start size h i j p q s = rw (← i, ← j) (then-three h p q s)
 
 module _ (program tokens : List ℕ) (w tag : ℕ) (i : tag ≡ tagIn w) {at r : ℕ} {d e : List ℕ} where
-  pub number-leaf : tag ≡ tagNumber → WroteAt at (decimal (toZ w32 (numberIn w))) d e r → WroteAt at (leafText (source program tokens []) w) d e r
+  pub number-leaf : tag ≡ tagNumber → WroteAt at (decimal (toZ w32 (numberIn w))) d e r → WroteAt at (leafText program tokens w) d e r
   unfolding leafText if_then_else_
   number-leaf j p = rw (← i, j) p
 
   pub string-leaf : tag ≡ tagString → WroteAt at (bytes "\"" ++ part program (placeIn w) (extraIn w) ++ bytes "\"") d e r
-      → WroteAt at (leafText (source program tokens []) w) d e r
+      → WroteAt at (leafText program tokens w) d e r
   unfolding leafText if_then_else_
   string-leaf j p = rw (← i, j) p
 
-  pub none-leaf : tag ≡ tagNone → WroteAt at (bytes "none") d e r → WroteAt at (leafText (source program tokens []) w) d e r
+  pub none-leaf : tag ≡ tagNone → WroteAt at (bytes "none") d e r → WroteAt at (leafText program tokens w) d e r
   unfolding leafText if_then_else_
   none-leaf j p = rw (← i, j) p
 
   pub truth-leaf : tag ≡ tagTruth → WroteAt at (cond (eqb (numberIn w) 0) (bytes "false") (bytes "true")) d e r
-      → WroteAt at (leafText (source program tokens []) w) d e r
+      → WroteAt at (leafText program tokens w) d e r
   unfolding leafText if_then_else_
   truth-leaf j p = rw (← i, j) p
 
   pub name-leaf : (slot : ℕ) → (tag ≡ tagNumber → ⊥) → (tag ≡ tagString → ⊥) → (tag ≡ tagNone → ⊥) → (tag ≡ tagTruth → ⊥) → slot ≡ numberIn w
-      → WroteAt at (spelling (source program tokens []) slot) d e r → WroteAt at (leafText (source program tokens []) w) d e r
+      → WroteAt at (nameText program tokens slot) d e r → WroteAt at (leafText program tokens w) d e r
   unfolding leafText if_then_else_
   name-leaf slot j k l m n p = rw (← i, ne-eqb _ _ j, ne-eqb _ _ k, ne-eqb _ _ l, ne-eqb _ _ m, ← n) p
 

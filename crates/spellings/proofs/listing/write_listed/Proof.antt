@@ -1,9 +1,9 @@
--- `formatter::procedure::write_listed` meets its contract: with a comma, or without.
+-- `spellings::listing::write_listed` meets its contract: with a comma, or without.
 -- Assumes nothing.
-use Rattle.formatter.proofs.Procedures.{listed-behind, listed-first}
+use Rattle.spellings.proofs.Names.{listed-behind, listed-first}
 use borrow.Author.Needs.{needs}
-use Rattle.formatter.proofs.procedure.write_listed.Statement.{statement}
-use Rattle.formatter.proofs.procedure.write_listed.Tie as tie
+use Rattle.spellings.proofs.listing.write_listed.Statement.{statement}
+use Rattle.spellings.proofs.listing.write_listed.Tie as tie
 
 slice-aggregate-write-bytes-at : tie.Need-slice-aggregate-write-bytes-at
 slice-aggregate-write-bytes-at c = search needs

@@ -1,8 +1,8 @@
--- `formatter::leaf::encloses` meets its contract: by the two tags.
+-- `spellings::leaf::encloses` meets its contract: by the two tags.
 -- Assumes nothing.
-use Rattle.formatter.proofs.Leaves.{operator-encloses, operator-keeps, entry-encloses}
-use Rattle.formatter.proofs.leaf.encloses.Statement.{statement}
-use Rattle.formatter.proofs.leaf.encloses.Tie as tie
+use Rattle.spellings.proofs.Leaves.{operator-encloses, operator-keeps, entry-encloses}
+use Rattle.spellings.proofs.leaf.encloses.Statement.{statement}
+use Rattle.spellings.proofs.leaf.encloses.Tie as tie
 
 returns : tie.Need-returns
 returns c = search operator-encloses

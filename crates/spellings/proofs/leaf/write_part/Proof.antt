@@ -1,9 +1,9 @@
--- `formatter::leaf::write_part` meets its contract: a part from a place on is what `take` and `drop` leave.
+-- `spellings::leaf::write_part` meets its contract: a part from a place on is what `take` and `drop` leave.
 -- Assumes nothing.
-use Rattle.formatter.proofs.Leaves.{part-written}
+use Rattle.spellings.proofs.Leaves.{part-written}
 use borrow.Author.Needs.{needs}
-use Rattle.formatter.proofs.leaf.write_part.Statement.{statement}
-use Rattle.formatter.proofs.leaf.write_part.Tie as tie
+use Rattle.spellings.proofs.leaf.write_part.Statement.{statement}
+use Rattle.spellings.proofs.leaf.write_part.Tie as tie
 
 add-spelling : tie.Need-add-spelling
 add-spelling c = search needs

@@ -1,9 +1,9 @@
--- `formatter::leaf::write_string` meets its contract: the string's text between two quotes.
+-- `spellings::leaf::write_string` meets its contract: the string's text between two quotes.
 -- Assumes nothing.
-use Rattle.formatter.proofs.Leaves.{string-written}
+use Rattle.spellings.proofs.Leaves.{string-written}
 use borrow.Author.Needs.{needs}
-use Rattle.formatter.proofs.leaf.write_string.Statement.{statement}
-use Rattle.formatter.proofs.leaf.write_string.Tie as tie
+use Rattle.spellings.proofs.leaf.write_string.Statement.{statement}
+use Rattle.spellings.proofs.leaf.write_string.Tie as tie
 
 place-of-requires : tie.Need-place-of-requires
 place-of-requires c κs = search needs

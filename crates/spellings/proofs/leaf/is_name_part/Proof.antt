@@ -1,9 +1,9 @@
--- `formatter::leaf::is_name_part` meets its contract: by the ranges between digits, upper and lower case.
+-- `spellings::leaf::is_name_part` meets its contract: by the ranges between digits, upper and lower case.
 -- Assumes nothing.
 use native.Mathlib.Omega.{arith}
-use Rattle.formatter.proofs.Leaves.{digit-part, upper-part, lower-part, below-digits, below-upper, below-lower, above-lower}
-use Rattle.formatter.proofs.leaf.is_name_part.Statement.{statement}
-use Rattle.formatter.proofs.leaf.is_name_part.Tie as tie
+use Rattle.spellings.proofs.Leaves.{digit-part, upper-part, lower-part, below-digits, below-upper, below-lower, above-lower}
+use Rattle.spellings.proofs.leaf.is_name_part.Statement.{statement}
+use Rattle.spellings.proofs.leaf.is_name_part.Tie as tie
 
 returns : tie.Need-returns
 returns c = digit-part _ (omega arith) (omega arith)

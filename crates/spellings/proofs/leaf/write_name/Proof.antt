@@ -1,9 +1,9 @@
--- `formatter::leaf::write_name` meets its contract: the token's word says where its spelling stands.
+-- `spellings::leaf::write_name` meets its contract: the token's word says where its spelling stands.
 -- Assumes nothing.
-use Rattle.formatter.proofs.Leaves.{name-written}
+use Rattle.spellings.proofs.Leaves.{name-written}
 use borrow.Author.Needs.{needs}
-use Rattle.formatter.proofs.leaf.write_name.Statement.{statement}
-use Rattle.formatter.proofs.leaf.write_name.Tie as tie
+use Rattle.spellings.proofs.leaf.write_name.Statement.{statement}
+use Rattle.spellings.proofs.leaf.write_name.Tie as tie
 
 word-at-requires : tie.Need-word-at-requires
 word-at-requires c κs = search needs

@@ -1,9 +1,9 @@
--- `formatter::leaf::write_leaf` meets its contract: by the tag.
+-- `spellings::leaf::write_leaf` meets its contract: by the tag.
 -- Assumes nothing.
-use Rattle.formatter.proofs.Leaves.{number-leaf, string-leaf, none-leaf, truth-leaf, name-leaf}
+use Rattle.spellings.proofs.Leaves.{number-leaf, string-leaf, none-leaf, truth-leaf, name-leaf}
 use borrow.Author.Needs.{needs}
-use Rattle.formatter.proofs.leaf.write_leaf.Statement.{statement}
-use Rattle.formatter.proofs.leaf.write_leaf.Tie as tie
+use Rattle.spellings.proofs.leaf.write_leaf.Statement.{statement}
+use Rattle.spellings.proofs.leaf.write_leaf.Tie as tie
 
 tag-of-requires : tie.Need-tag-of-requires
 tag-of-requires c κs = search needs

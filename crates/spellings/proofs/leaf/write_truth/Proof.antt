@@ -1,9 +1,9 @@
--- `formatter::leaf::write_truth` meets its contract: by the number.
+-- `spellings::leaf::write_truth` meets its contract: by the number.
 -- Assumes nothing.
-use Rattle.formatter.proofs.Leaves.{truth-false, truth-true}
+use Rattle.spellings.proofs.Leaves.{truth-false, truth-true}
 use borrow.Author.Needs.{needs}
-use Rattle.formatter.proofs.leaf.write_truth.Statement.{statement}
-use Rattle.formatter.proofs.leaf.write_truth.Tie as tie
+use Rattle.spellings.proofs.leaf.write_truth.Statement.{statement}
+use Rattle.spellings.proofs.leaf.write_truth.Tie as tie
 
 number-of-requires : tie.Need-number-of-requires
 number-of-requires c κs = search needs

@@ -1,10 +1,10 @@
-// Names, constants and signs: what is written of one word. `[]` stands for the code in contracts of functions that do not read it.
+// Names, constants and signs: what is written of one word.
 use machine::tags;
 use writing::write_bytes_at;
 use writing::write_decimal_at;
 ghost use mathlib.Core.Path.{_≡_};
 ghost use mathlib.Core.Bool.{cond};
-ghost use mathlib.Core.List.{[], _++_};
+ghost use mathlib.Core.List.{_++_};
 ghost use Prim.Native.Nat.{_<_};
 ghost use lib.Dec.{eqb};
 ghost use mir.Syntax.{w32};
@@ -14,7 +14,7 @@ ghost use Rattle.meaning.specs.Byte.{isNamePart};
 ghost use Rattle.meaning.specs.Picture.{decimal};
 ghost use Rattle.machine.specs.Opcodes.{numberIn, placeIn, extraIn};
 ghost use Rattle.writing.specs.Placed.{WroteAt};
-ghost use Rattle.formatter.specs.Raw.{source, part, spelling, leafText, signText, encloses};
+ghost use Rattle.spellings.specs.Spelling.{part, nameText, leafText, signText, encloses};
 
 // Some bytes of the program from a place on.
 fn write_part(program: &[u8], start: usize, size: usize, out: &mut [u8], at: usize) -> usize
@@ -27,7 +27,7 @@ fn write_part(program: &[u8], start: usize, size: usize, out: &mut [u8], at: usi
 
 // A name, by its slot.
 pub fn write_name(program: &[u8], tokens: &[u64], slot: usize, out: &mut [u8], at: usize) -> usize
-    ensures { λ r. ⌜ WroteAt at (spelling (source (now (program .entry)) (now (tokens .entry)) []) slot) (now (out .entry)) (now (out .exit)) r ⌝ }
+    ensures { λ r. ⌜ WroteAt at (nameText (now (program .entry)) (now (tokens .entry)) slot) (now (out .entry)) (now (out .exit)) r ⌝ }
 {
     let w = stores::words::word_at(tokens, slot);
     write_part(program, tokens::place_of(w), tokens::token_size(w), out, at)
@@ -63,7 +63,7 @@ fn write_truth(w: u64, out: &mut [u8], at: usize) -> usize
 
 // A constant or a name.
 pub fn write_leaf(program: &[u8], tokens: &[u64], w: u64, out: &mut [u8], at: usize) -> usize
-    ensures { λ r. ⌜ WroteAt at (leafText (source (now (program .entry)) (now (tokens .entry)) []) w) (now (out .entry)) (now (out .exit)) r ⌝ }
+    ensures { λ r. ⌜ WroteAt at (leafText (now (program .entry)) (now (tokens .entry)) w) (now (out .entry)) (now (out .exit)) r ⌝ }
 {
     match code::tag_of(w) {
         tags::NUMBER => write_number(w, out, at),

@@ -1,10 +1,10 @@
--- `formatter::leaf::write_number` meets its contract: the number is handed on as its bits.
+-- `spellings::leaf::write_number` meets its contract: the number is handed on as its bits.
 -- Assumes nothing.
-use Rattle.formatter.proofs.Leaves.{number-written}
+use Rattle.spellings.proofs.Leaves.{number-written}
 use Rattle.writing.proofs.Signs.{wide-seen}
 use borrow.Author.Needs.{needs}
-use Rattle.formatter.proofs.leaf.write_number.Statement.{statement}
-use Rattle.formatter.proofs.leaf.write_number.Tie as tie
+use Rattle.spellings.proofs.leaf.write_number.Statement.{statement}
+use Rattle.spellings.proofs.leaf.write_number.Tie as tie
 
 number-of-requires : tie.Need-number-of-requires
 number-of-requires c κs = search needs
