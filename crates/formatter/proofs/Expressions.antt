@@ -128,7 +128,8 @@ module _ (program tokens code : List ℕ) where
       unfolding partText enclosedIf
       one-operand l p = rw (← i, ← j, below-operators tag l) at p
 
-      pub two-operands : (first last : ℕ) {m n r : ℕ} {e f g : List ℕ} → length d < 2 ^ 64 → (fuel ≡ 0 → ⊥) → firstOperator ≤ tag → first ≡ x - 1 - numberIn w → last ≡ x - 1
+      pub two-operands : (first last : ℕ) {m n r : ℕ} {e f g : List ℕ} → length d < 2 ^ 64 → (fuel ≡ 0 → ⊥) → firstOperator ≤ tag
+          → first ≡ x - 1 - numberIn w → last ≡ x - 1
           → WroteAt at (partText (rawExpression (fuel - 1) (source program tokens code)) (source program tokens code) firstOperator first) d e m
           → WroteAt m (signText tag) e f n
           → WroteAt n (partText (rawExpression (fuel - 1) (source program tokens code)) (source program tokens code) firstOperator last) f g r

@@ -1,5 +1,6 @@
 // Expressions by their roots, cut as the grammar is: an expression is one operand, or two with an operator's sign between; an operand is one primary, or two with a dot
-// between; a primary is a leaf, or holds expressions. `fuel` falls at each expression inside another. A level of nesting takes one frame of each of the three.
+// between; a primary is a leaf, or holds expressions. A level of nesting goes once through each of the three, whatever it holds, so that writing takes no more stack than reading.
+// `fuel` falls at each expression inside another.
 use machine::tags;
 use spellings::encloses;
 use spellings::is_name_part;

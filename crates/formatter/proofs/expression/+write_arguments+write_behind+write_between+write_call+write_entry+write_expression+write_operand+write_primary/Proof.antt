@@ -1,4 +1,4 @@
--- The functions on expressions meet their contracts; in each the measure is the fuel, and then which calls which.
+-- The functions on expressions meet their contracts; in each the measure is the fuel, and then which calls which, by the tag of the root.
 -- Assumes nothing.
 use native.Mathlib.Omega.{arith}
 use borrow.Author.Needs.{needs}
@@ -908,16 +908,18 @@ write-expression-returns-3 : (t : ℕ) → write-expression-lts.Need-returns-3 (
   right-of-reads.Learnt,
 ) (write-expression-at t) write-expression.Post
 write-expression-returns-3 t c =
+    let parted = c .before .before .before .before .before .before .before .before .before .before .before in
+    let told = parted .before .before .before .before .before in
     two-operands _ _ _ _ _ _ _
-    (c .before .before .before .before .before .before .before .before .before .before .before .before .before .before .before .before .word-at .ensures)
-    (c .before .before .before .before .before .before .before .before .before .before .before .before .before .before .before .tag-of .ensures)
+    (told .word-at .ensures)
+    (parted .before .before .before .before .tag-of .ensures)
     _ _
-    (omega (arith, c .before .before .before .before .before .before .before .before .before .before .before .before .before .before .before .before .before .before .before .before .before .before .good .1 .1 .1 .1 .1 .0))
-    (c .before .before .before .before .before .before .before .before .before .before .before .before .before .before .before .before .before .if1 .left)
-    (omega (arith, c .before .before .before .before .before .before .before .before .before .before .before .before .before .before .if2 .left))
-    (c .before .before .before .before .before .before .before .before .before .before .before .before .before .left-of .ensures)
+    (omega (arith, told .before .before .before .before .before .before .good .1 .1 .1 .1 .1 .0))
+    (told .before .if1 .left)
+    (omega (arith, parted .before .before .before .if2 .left))
+    (parted .before .before .left-of .ensures)
     (c .before .before .before .before .right-of .ensures)
-    (c .before .before .before .before .before .before .before .before .before .before .before .write-operand2 .ensures)
+    (parted .write-operand2 .ensures)
     (c .before .before .before .before .before .before .before .write-sign .ensures)
     (c .before .before .write-operand3 .ensures)
 
