@@ -11,7 +11,7 @@ use lib.Dec.{eqb}
 use borrow.Author.Tests.{eq-eqb, le-leb}
 use Rattle.meaning.specs.Basics.{if_then_else_}
 use Rattle.meaning.specs.Token.{Token, aName, openParen, dot}
-use Rattle.meaning.specs.Grammar.{good, after, expect, is, kindAt, startAt, operatorOf, Inside, noLevel, level, opening, ReadExpression, argumentsFrom, arguments, primary, operand, operated, expressionIn, expression}
+use Rattle.meaning.specs.Grammar.{good, after, expect, is, kindAt, startAt, operatorOf, Inside, noLevel, level, opening, ReadExpression, argumentsFrom, arguments, primary, operand, operated, expressionIn, expression, beginsStatement}
 use Rattle.meaning.specs.Tree.{Operator, concatenate, add, subtract, multiply, divide, remainder, shiftRight, shiftLeft, equal, unequal, greater, less, Expression, number, string, nothing, truth, name, table, entry, operation, call, paren, Arguments, noArgument, argument}
 use Rattle.meaning.proofs.DecimalLaws.{numeral-digitsOf}
 use Rattle.meaning.proofs.GrammarLaws.{arguments-rounds}
@@ -110,6 +110,35 @@ module _ (ts : List Token) where
       starts-enclosed (isOperation a) (words a) i (q .0) (q .1) (λ k. starts a i (q .0) k)
   starts (call f es) i j h = rw (h .0)
   starts (paren e) i j h = starts e i j h
+
+  -- and a statement can begin with it
+  begins-enclosed : (b : Bool) (ws : List Word) (i j : ℕ) → Stands ts i (enclosedWords b ws) j → (Stands ts i ws j → beginsStatement ts i ≡ true) → beginsStatement ts i ≡ true
+  unfolding enclosedWords beginsStatement
+  begins-enclosed true ws i j h f = rw (h .0)
+  begins-enclosed false ws i j h f = f h
+
+  pub begins : (e : Expression) → Sound e → (i j : ℕ) → Stands ts i (words e) j → beginsStatement ts i ≡ true
+  unfolding words numberWords Sound Written beginsStatement
+  begins (number (pos n)) w i j h = rw (h .0, h .1, numeral-digitsOf n, le-leb n 2147483647 w)
+  begins (number (negsuc n)) w i j h = rw (h .0, h .1, eq-eqb (startAt ts (i + 1)) (startAt ts i + 1) (h .3))
+  begins (string t) w i j h = rw (h .0)
+  begins nothing w i j h = rw (h .0)
+  begins (truth true) w i j h = rw (h .0)
+  begins (truth false) w i j h = rw (h .0)
+  begins (name x) w i j h = rw (h .0)
+  begins (table e) w i j h = rw (h .0)
+  begins (entry a b) w i j h =
+      let v = enclosedWords (isOperation a || isEntry a) (words a) in
+      let p = split ts i (v ++ sign 46) (enclosedWords (isOperation b || isEntry b) (words b)) j h in
+      let q = split ts i v (sign 46) (p .0) (p .1) in
+      begins-enclosed (isOperation a || isEntry a) (words a) i (q .0) (q .1) (λ k. begins a (w .0) i (q .0) k)
+  begins (operation o a b) w i j h =
+      let v = enclosedWords (isOperation a) (words a) in
+      let p = split ts i (v ++ aWord (operatorKind o) (operatorText o)) (enclosedWords (isOperation b) (words b)) j h in
+      let q = split ts i v (aWord (operatorKind o) (operatorText o)) (p .0) (p .1) in
+      begins-enclosed (isOperation a) (words a) i (q .0) (q .1) (λ k. begins a (w .0) i (q .0) k)
+  begins (call f es) w i j h = rw (h .0)
+  begins (paren e) w i j h = begins e w i j h
 
   -- ---- what is read of an expression's words
   pub record Read (e : Expression) : Type 0 where

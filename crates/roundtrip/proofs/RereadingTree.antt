@@ -6,19 +6,19 @@ use mathlib.Core.Bool.{true, false, _||_}
 use mathlib.Core.List.{List, _++_}
 use lib.ListN.{length}
 use lib.Dec.{eqb}
-use Rattle.meaning.specs.Basics.{if_then_else_}
+use Rattle.meaning.specs.Basics.{bytes, if_then_else_}
 use Rattle.meaning.specs.Token.{Token}
-use Rattle.meaning.specs.Grammar.{good, after, expect, kindAt, startAt, operatorOf, Inside, noLevel, level, opening, expression, Readers, declaration, returning, targetOf, assignment, simple, guarded, statementsFrom, statements, statementIn, statement}
-use Rattle.meaning.specs.Tree.{Expression, name, entry, Statement, declare, assign, update, when, while, return, block, act, Statements, only, first}
+use Rattle.meaning.specs.Grammar.{good, after, expect, kindAt, startAt, operatorOf, Inside, noLevel, level, opening, expression, Readers, declaration, returning, targetOf, assignment, simple, guarded, beginsStatement, iteration, statementsFrom, statements, statementIn, statement}
+use Rattle.meaning.specs.Tree.{Expression, name, entry, Statement, declare, assign, update, when, while, foreach, return, block, act, Statements, only, first}
 use Rattle.meaning.proofs.GrammarLaws.{statements-rounds}
 use Rattle.canonical.specs.Bare.{bareStatement, bareStatements}
 use Rattle.canonical.specs.Text.{isOperation, isEntry}
-use Rattle.roundtrip.proofs.Words.{sign, words, levels, kept, parenIf, statementWords, statementsWords, statementLevels, statementsLevels}
+use Rattle.roundtrip.proofs.Words.{sign, aWord, words, levels, kept, parenIf, statementWords, statementsWords, statementLevels, statementsLevels}
 use Rattle.roundtrip.proofs.Scanning.{differs}
 use Rattle.roundtrip.proofs.Sound.{Named, Sound, SoundStatement, SoundStatements}
 use Rattle.roundtrip.proofs.Stands.{Stands, split}
 use Rattle.roundtrip.proofs.Kept.{bare-kept, bare-paren}
-use Rattle.roundtrip.proofs.Rereading.{opens, Ends, ends, starts, read}
+use Rattle.roundtrip.proofs.Rereading.{opens, Ends, ends, starts, begins, read}
 
 module _ (ts : List Token) where
   -- what may be read inside a level
@@ -42,7 +42,14 @@ module _ (ts : List Token) where
   simple-is left i o =
       let k = kindAt ts i in
       statement-is left i
-      ∙ rw (differs opens k 5 o refl, differs opens k 6 o refl, differs opens k 7 o refl, differs opens k 8 o refl, differs opens k 123 o refl)
+      ∙ rw (
+        differs opens k 5 o refl,
+        differs opens k 6 o refl,
+        differs opens k 7 o refl,
+        differs opens k 12 o refl,
+        differs opens k 8 o refl,
+        differs opens k 123 o refl,
+      )
 
   -- ---- statements
   pub record Again (s : Statement) (left i j : ℕ) : Type 0 where
@@ -163,6 +170,49 @@ module _ (ts : List Token) where
       let r = again-guarded while left (i + 1) j e s f (omega arith) (λ m k. g left m (omega arith) k) (h .2 .0) (h .2 .2) (startAt ts i) in
       record { tree = while (startAt ts i) (kept e) (r .0); reads = statement-is (suc left) i ∙ rw (h .0) (r .1); same = rw (bare-kept e, r .2) }
 
+  -- ---- foreach
+  -- a statement can begin with the first token of every statement
+  begins-statement : (s : Statement) → SoundStatement s → (i j : ℕ) → Stands ts i (statementWords s) j → beginsStatement ts i ≡ true
+  unfolding statementWords SoundStatement Sound beginsStatement
+  begins-statement (declare p x) f i j h = rw (h .0)
+  begins-statement (assign p x e) f i j h = rw (h .0)
+  begins-statement (update p a b e) f i j s =
+      let q = split ts i (words (entry a b) ++ sign 61 ++ words e) (sign 59) j s in
+      let r = split ts i (words (entry a b) ++ sign 61) (words e) (q .0) (q .1) in
+      let u = split ts i (words (entry a b)) (sign 61) (r .0) (r .1) in
+      begins ts (entry a b) (f .0, f .1) i (u .0) (u .1)
+  begins-statement (when p e s) f i j h = rw (h .0)
+  begins-statement (while p e s) f i j h = rw (h .0)
+  begins-statement (foreach p x e s) f i j h = rw (h .0)
+  begins-statement (return p e) f i j h = rw (h .0)
+  begins-statement (block p ss) f i j h = rw (h .0)
+  begins-statement (act p e) f i j h =
+      let q = split ts i (words e) (sign 59) j h in
+      begins ts e f i (q .0) (q .1)
+
+  -- a foreach
+  again-foreach : (p : ℕ) (x : List ℕ) (e : Expression) (s : Statement) → Sound e → SoundStatement s → (left i j : ℕ) → statementLevels (foreach p x e s) ≤ left →
+      ((left m : ℕ) → statementLevels s ≤ left → Stands ts m (statementWords s) j → Again s left m j) →
+      Stands ts i (statementWords (foreach p x e s)) j → Again (foreach p x e s) left i j
+  unfolding statementWords statementLevels statementIn iteration opening after expect if_then_else_ bareStatement operatorOf
+  again-foreach p x e s f u zero i j l g h = absurd (omega arith)
+  again-foreach p x e s f u (suc left) i j l g h =
+      let d = aWord 14 (bytes "do") in
+      let q = split ts (i + 1 + 1 + 1) (words e ++ d) (statementWords s) j (h .2 .2 .2) in
+      let r = split ts (i + 1 + 1 + 1) (words e) d (q .0) (q .1) in
+      let t = g left (q .0) (omega arith) (q .2) in
+      record {
+        tree = foreach (startAt ts i) x (kept e) (t .tree);
+        reads =
+            statement-is (suc left) i ∙ rw (
+              h .0,
+              h .2 .0,
+              h .2 .2 .0,
+              tree e f (suc left) (i + 1 + 1 + 1) (r .0) 14 (omega arith) (r .1) (r .2 .0) (ends 14 refl refl refl),
+            ) (rw (r .2 .0, r .2 .2, begins-statement s u (q .0) j (q .2), t .reads, h .2 .1));
+        same = rw (bare-kept e, t .same);
+      }
+
   -- ---- blocks
   -- no statement begins with a closing brace
   no-brace : (s : Statement) (i j : ℕ) → Stands ts i (statementWords s) j → eqb (kindAt ts i) 125 ≡ false
@@ -176,6 +226,7 @@ module _ (ts : List Token) where
       differs opens (kindAt ts i) 125 (starts ts (entry a b) i (u .0) (u .1)) refl
   no-brace (when p e s) i j h = rw (h .0)
   no-brace (while p e s) i j h = rw (h .0)
+  no-brace (foreach p x e s) i j h = rw (h .0)
   no-brace (return p e) i j h = rw (h .0)
   no-brace (block p ss) i j h = rw (h .0)
   no-brace (act p e) i j h =
@@ -242,6 +293,7 @@ module _ (ts : List Token) where
     again (update p a b e) f left i j l h = again-update p a b e (f .0) (f .1) (f .2) left i j l h
     again (when p e s) f left i j l h = again-when p e s (f .0) left i j l (λ n m k w. again s (f .1) n m j k w) h
     again (while p e s) f left i j l h = again-while p e s (f .0) left i j l (λ n m k w. again s (f .1) n m j k w) h
+    again (foreach p x e s) f left i j l h = again-foreach p x e s (f .1) (f .2) left i j l (λ n m k w. again s (f .2) n m j k w) h
     again (return p e) f left i j l h = again-return p e f left i j l h
     again (block p ss) f left i j l h = again-block p ss left i j l (λ n m k u w z. again-all ss f (length ts) n m k u w z) h
     again (act p e) f left i j l h = again-act p e f left i j l h
