@@ -203,7 +203,7 @@ read-foreach-add-read-members : (t : ℕ) → read-foreach-lts.Need-add-read-mem
   head-reads.Asked,
   head-reads.Learnt,
 ) (read-foreach-at t) read-foreach.Post
-read-foreach-add-read-members t c = 
+read-foreach-add-read-members t c =
     let o = c .before .before .before .pre .1 .0 in
     omega (arith, o .behind, o .few, c .before .before .before .pre .1 .1)
 
@@ -217,7 +217,7 @@ read-foreach-add-read-members-2 : (t : ℕ) → read-foreach-lts.Need-add-read-m
   head-reads.Asked,
   head-reads.Learnt,
 ) (read-foreach-at t) read-foreach.Post
-read-foreach-add-read-members-2 t c = 
+read-foreach-add-read-members-2 t c =
     let o = c .before .before .before .pre .1 .0 in
     omega (arith, o .behind, o .few, c .before .before .before .pre .1 .1)
 
@@ -231,7 +231,7 @@ read-foreach-read-members-requires : (t : ℕ) → read-foreach-lts.Need-read-me
   head-reads.Asked,
   head-reads.Learnt,
 ) (read-foreach-at t) read-foreach.Post
-read-foreach-read-members-requires t c κs = 
+read-foreach-read-members-requires t c κs =
     let o = c .before .before .before .pre .1 .0 in
     record { behind = omega (arith, o .behind); wide = o .wide; short = omega (arith, o .few) }
 
@@ -341,7 +341,7 @@ read-foreach-read-statement-requires : (t : ℕ) → read-foreach-lts.Need-read-
   head-reads.Asked,
   head-reads.Learnt,
 ) (read-foreach-at t) read-foreach.Post
-read-foreach-read-statement-requires t c κs = 
+read-foreach-read-statement-requires t c κs =
     let o = c .before .before .before .before .before .before .before .before .before .before .before .before .before .pre .1 .0 in
     let p = parted _ _ _ _ _ _ o _ (c .before .before .before .before .before .before .before .before .before .read-members .ensures) (members-paid _ _ _) _ _ _ (c .before .before .before .before .before .e2 .given .1) (c .before .before .before .before .before .before .before .before .before .read-members .kept .1 .0) in
     (omega (arith, p .ahead, p .within, c .before .before .before .before .before .before .before .before .before .before .before .before .before .pre .0), p .space)
@@ -356,7 +356,7 @@ read-foreach-sub-head : (t : ℕ) → read-foreach-lts.Need-sub-head (
   head-reads.Asked,
   head-reads.Learnt,
 ) (read-foreach-at t) read-foreach.Post
-read-foreach-sub-head t c = 
+read-foreach-sub-head t c =
     let o = c .before .before .before .before .before .before .before .before .before .before .before .before .before .before .before .before .before .pre .1 .0 in
     let p = parted _ _ _ _ _ _ o _ (c .before .before .before .before .before .before .before .before .before .before .before .before .before .read-members .ensures) (members-paid _ _ _) _ _ _ (c .before .before .before .before .before .before .before .before .before .e2 .given .1) (c .before .before .before .before .before .before .before .before .before .before .before .before .before .read-members .kept .1 .0) in
     omega (arith, p .some)
@@ -371,7 +371,7 @@ read-foreach-sub-head-2 : (t : ℕ) → read-foreach-lts.Need-sub-head-2 (
   head-reads.Asked,
   head-reads.Learnt,
 ) (read-foreach-at t) read-foreach.Post
-read-foreach-sub-head-2 t c = 
+read-foreach-sub-head-2 t c =
     let o = c .before .before .before .before .before .before .before .before .before .before .before .before .before .before .before .before .before .pre .1 .0 in
     let p = parted _ _ _ _ _ _ o _ (c .before .before .before .before .before .before .before .before .before .before .before .before .before .read-members .ensures) (members-paid _ _ _) _ _ _ (c .before .before .before .before .before .before .before .before .before .e2 .given .1) (c .before .before .before .before .before .before .before .before .before .before .before .before .before .read-members .kept .1 .0) in
     omega (arith, p .some)
@@ -386,7 +386,7 @@ read-foreach-head-requires : (t : ℕ) → read-foreach-lts.Need-head-requires (
   head-reads.Asked,
   head-reads.Learnt,
 ) (read-foreach-at t) read-foreach.Post
-read-foreach-head-requires t c κs = 
+read-foreach-head-requires t c κs =
     let o = c .before .before .before .before .before .before .before .before .before .before .before .before .before .before .before .before .before .pre .1 .0 in
     let p = parted _ _ _ _ _ _ o _ (c .before .before .before .before .before .before .before .before .before .before .before .before .before .read-members .ensures) (members-paid _ _ _) _ _ _ (c .before .before .before .before .before .before .before .before .before .e2 .given .1) (c .before .before .before .before .before .before .before .before .before .before .before .before .before .read-members .kept .1 .0) in
     parts-code _ _ _ _ _ _ _ _ _ _ (c .before .before .before .read-statement .ensures) (statement-paid _ _ _) (omega (arith, p .some)) (omega (arith, p .space .behind)) (o .few) (omega arith) (p .small)
@@ -437,7 +437,7 @@ read-foreach-returns-4 : (t : ℕ) → read-foreach-lts.Need-returns-4 (
   head-reads.Asked,
   head-reads.Learnt,
 ) (read-foreach-at t) read-foreach.Post
-read-foreach-returns-4 t c = 
+read-foreach-returns-4 t c =
     let o = c .before .before .before .before .before .before .before .before .before .before .before .before .before .before .before .before .before .before .before .before .pre .1 .0 in
     let p = parted _ _ _ _ _ _ o _ (c .before .before .before .before .before .before .before .before .before .before .before .before .before .before .before .before .read-members .ensures) (members-paid _ _ _) _ _ _ (c .before .before .before .before .before .before .before .before .before .before .before .before .e2 .given .1) (c .before .before .before .before .before .before .before .before .before .before .before .before .before .before .before .before .read-members .kept .1 .0) in
     iteration-reads _ _ _ _ _ _ o _ (c .before .before .before .before .before .before .before .before .before .before .before .before .before .before .before .before .read-members .ensures) _ _ _ (c .before .before .before .before .before .before .before .before .before .before .before .before .e2 .given .1) _ (c .before .before .before .before .before .before .before .before .before .before .begins-statement .ensures) (c .before .before .before .before .before .before .before .before .before .if1 .left) (c .before .before .before .before .before .before .before .before .if2 .left) p _ _ _ _ (c .before .before .before .before .before .before .read-statement .ensures) (c .before .before .head .ensures)
@@ -637,7 +637,7 @@ read-statement-read-declaration-requires :
       read-simple-reads.Asked,
       read-simple-reads.Learnt,
     ) (read-statement-at t) read-statement.Post
-read-statement-read-declaration-requires t c κs = 
+read-statement-read-declaration-requires t c κs =
     let o = c .before .before .before .before .before .pre .1 in
     let w = space-inside _ _ _ _ _ o (sym (c .before .before .kind-at .ensures)) (λ z. omega (arith, c .before .match .keys1)) in
     (o, w)
@@ -658,7 +658,7 @@ read-statement-read-guarded-requires : (t : ℕ) → read-statement-lts.Need-rea
   read-simple-reads.Asked,
   read-simple-reads.Learnt,
 ) (read-statement-at t) read-statement.Post
-read-statement-read-guarded-requires t c κs = 
+read-statement-read-guarded-requires t c κs =
     let o = c .before .before .before .before .before .pre .1 in
     let w = space-inside _ _ _ _ _ o (sym (c .before .before .kind-at .ensures)) (λ z. omega (arith, c .before .match .keys2)) in
     (omega (arith, c .before .before .before .before .before .pre .0), (o, (w, omega arith)))
@@ -679,7 +679,7 @@ read-statement-read-guarded-requires-2 : (t : ℕ) → read-statement-lts.Need-r
   read-simple-reads.Asked,
   read-simple-reads.Learnt,
 ) (read-statement-at t) read-statement.Post
-read-statement-read-guarded-requires-2 t c κs = 
+read-statement-read-guarded-requires-2 t c κs =
     let o = c .before .before .before .before .before .pre .1 in
     let w = space-inside _ _ _ _ _ o (sym (c .before .before .kind-at .ensures)) (λ z. omega (arith, c .before .match .keys3)) in
     (omega (arith, c .before .before .before .before .before .pre .0), (o, (w, omega arith)))
@@ -700,7 +700,7 @@ read-statement-read-return-requires : (t : ℕ) → read-statement-lts.Need-read
   read-simple-reads.Asked,
   read-simple-reads.Learnt,
 ) (read-statement-at t) read-statement.Post
-read-statement-read-return-requires t c κs = 
+read-statement-read-return-requires t c κs =
     let o = c .before .before .before .before .before .pre .1 in
     let w = space-inside _ _ _ _ _ o (sym (c .before .before .kind-at .ensures)) (λ z. omega (arith, c .before .match .keys4)) in
     (o, w)
@@ -721,7 +721,7 @@ read-statement-read-foreach-requires : (t : ℕ) → read-statement-lts.Need-rea
   read-simple-reads.Asked,
   read-simple-reads.Learnt,
 ) (read-statement-at t) read-statement.Post
-read-statement-read-foreach-requires t c κs = 
+read-statement-read-foreach-requires t c κs =
     let o = c .before .before .before .before .before .pre .1 in
     let w = space-inside _ _ _ _ _ o (sym (c .before .before .kind-at .ensures)) (λ z. omega (arith, c .before .match .keys5)) in
     (omega (arith, c .before .before .before .before .before .pre .0), (o, w))
@@ -1012,7 +1012,7 @@ read-statement-returns-7 : (t : ℕ) → read-statement-lts.Need-returns-7 (
   read-simple-reads.Asked,
   read-simple-reads.Learnt,
 ) (read-statement-at t) read-statement.Post
-read-statement-returns-7 t c = 
+read-statement-returns-7 t c =
     let x = c .before .before .before .before .match .rest in
     states-simple _ _ _ _ _ _ _ _ (c .before .before .before .before .before .kind-at .ensures) (x .0 .0 .0 .0 .0 .1) (x .0 .0 .0 .0 .1) (x .0 .0 .0 .1) (x .0 .0 .1) (x .0 .1) (x .1) (c .before .before .read-simple .ensures)
 

@@ -9,7 +9,7 @@ use Rattle.statements.proofs.is_signed.Statement.{statement}
 use Rattle.statements.proofs.is_signed.Tie as tie
 
 add-kind-at : tie.Need-add-kind-at
-add-kind-at c = 
+add-kind-at c =
     let w = token-inside (now (c .before .args .tokens)) (c .before .args .i) _ (c .before .pre) (λ z. omega arith) in
     omega arith
 
@@ -20,7 +20,7 @@ returns : tie.Need-returns
 returns c = signed-not (now (c .before .before .before .args .tokens)) (c .before .before .before .args .i) (c .before .before .before .pre) _ (c .before .kind-at .ensures) (c .if1 .taken)
 
 add-place-at : tie.Need-add-place-at
-add-place-at c = 
+add-place-at c =
     let w = token-inside (now (c .before .before .before .args .tokens)) (c .before .before .before .args .i) _ (c .before .before .before .pre) (λ z. omega arith) in
     omega arith
 

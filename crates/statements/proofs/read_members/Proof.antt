@@ -15,7 +15,7 @@ returns : tie.Need-returns
 returns c = members-nameless _ _ _ _ _ _ (c .before .kind-at .ensures) (c .if1 .taken)
 
 add-kind-at : tie.Need-add-kind-at
-add-kind-at c = 
+add-kind-at c =
     let o = c .before .before .before .before .pre in
     let w = room-inside _ _ _ _ _ o (sym (c .before .kind-at .ensures)) (λ z. omega (arith, c .if1 .left)) in
     omega (arith, o .short)
@@ -24,7 +24,7 @@ kind-at-requires-2 : tie.Need-kind-at-requires-2
 kind-at-requires-2 c κs = search needs
 
 add-t10 : tie.Need-add-t10
-add-t10 c = 
+add-t10 c =
     let o = c .before .before .before .before .before .before .pre in
     let w = room-inside _ _ _ _ _ o (sym (c .before .before .before .kind-at .ensures)) (λ z. omega (arith, c .before .before .if1 .left)) in
     omega (arith, o .short)
@@ -39,13 +39,13 @@ put-requires : tie.Need-put-requires
 put-requires c κs = search needs
 
 add-read-expression : tie.Need-add-read-expression
-add-read-expression c = 
+add-read-expression c =
     let o = c .before .before .before .before .before .before .before .before .before .before .before .before .pre in
     let w = room-inside _ _ _ _ _ o (sym (c .before .before .before .before .before .before .before .before .before .kind-at .ensures)) (λ z. omega (arith, c .before .before .before .before .before .before .before .before .if1 .left)) in
     omega (arith, o .short)
 
 add-read-expression-2 : tie.Need-add-read-expression-2
-add-read-expression-2 c = 
+add-read-expression-2 c =
     let o = c .before .before .before .before .before .before .before .before .before .before .before .before .pre in
     let w = room-inside _ _ _ _ _ o (sym (c .before .before .before .before .before .before .before .before .before .kind-at .ensures)) (λ z. omega (arith, c .before .before .before .before .before .before .before .before .if1 .left)) in
     omega (arith, o .short, o .behind)
@@ -60,7 +60,7 @@ same-length : tie.Need-same-length
 same-length c = search needs
 
 returns-3 : tie.Need-returns-3
-returns-3 c = 
+returns-3 c =
     let o = c .before .before .before .before .before .before .before .before .before .before .before .before .before .before .before .before .pre in
     let w = room-inside _ _ _ _ _ o (sym (c .before .before .before .before .before .before .before .before .before .before .before .before .before .kind-at .ensures)) (λ z. omega (arith, c .before .before .before .before .before .before .before .before .before .before .before .before .if1 .left)) in
     members-read _ _ _ _ _ _ (c .before .before .before .before .before .before .before .before .before .before .before .before .before .kind-at .ensures) (c .before .before .before .before .before .before .before .before .before .before .before .before .if1 .left) _ (c .before .before .before .before .before .before .before .before .before .before .before .kind-at2 .ensures) _ _ _ _ _ (c .before .before .before .before .before .before .before .before .before .before .if2 .left) (omega (arith, o .behind, o .wide)) (c .before .before .before .before .before .before .before .before .home-at .ensures) (c .before .before .before .before .before .before .before .put .ensures) (c .before .before .before .read-expression .ensures) (c .close .ensures)
