@@ -1,6 +1,6 @@
 -- foreach: what each way through its functions answers is what reading yields.
 -- Assumes nothing.
-use Prim.Native.Nat.{ℕ, suc, _+_, _-_, _<_, _≤_}
+use Prim.Native.Nat.{ℕ, zero, suc, _+_, _-_, _<_, _≤_}
 use mathlib.Core.Path.{_≡_, _∙_, refl, sym, ap}
 use mathlib.Core.Bool.{Bool, true, false, not, _||_}
 use mathlib.Core.List.{List, [], _∷_, _++_}
@@ -17,12 +17,14 @@ use Rattle.expressions.specs.declared.Read.{Read}
 use Rattle.expressions.specs.declared.Read.the-variants.{At, Wrong}
 use Rattle.expressions.specs.Words.{kindAt, placeAt, homeAt, payloadAt, is, signedAt, ReadPiece, expect, expression, seen, written, writtenCode}
 use Rattle.expressions.specs.Steps.{closed}
+use Rattle.expressions.proofs.Tokens.{chosen}
 use Rattle.expressions.proofs.Answers.{take-put, shifted, wrote-code, erred-code}
 use Rattle.statements.specs.Words.{skip, beginsStatement, iteration, statement}
 use Rattle.statements.specs.Room.{Space}
-use Rattle.statements.specs.Steps.{insideOf, members, topped}
-use Rattle.statements.proofs.Moves.{inside-level, Parted}
-use Rattle.statements.proofs.Written.{same-after, after-after, expects-after, wrong-seen, closed-reads, topped-writes}
+use Rattle.statements.specs.Steps.{insideOf, members, each, topped}
+use Rattle.statements.proofs.Paid.{each-paid}
+use Rattle.statements.proofs.Moves.{inside-level, Parted, parted}
+use Rattle.statements.proofs.Written.{same-after, after-after, chosen-after, expects-after, wrong-seen, code-seen, closed-reads, topped-writes}
 
 -- ---- x in e do
 members-are : (read : ReadPiece) (ws : List ℕ) (i : ℕ) → kindAt ws i ≡ 1 → kindAt ws (i + 1) ≡ 13
@@ -76,7 +78,7 @@ module _ (ws : List ℕ) (i kind : ℕ) (k : kind ≡ kindAt ws i) where
       rw (← k, ne-eqb _ _ h2, ne-eqb _ _ h45, ne-eqb _ _ h3, ne-eqb _ _ h9, ne-eqb _ _ h10, ne-eqb _ _ h11, ne-eqb _ _ h1)
       (rw (ne-eqb _ _ h40, ne-eqb _ _ h91, ne-eqb _ _ h5, ne-eqb _ _ h6, ne-eqb _ _ h7, ne-eqb _ _ h12, ne-eqb _ _ h8, ne-eqb _ _ h123))
 
--- ---- foreach
+-- ---- foreach from its parts
 expect-passes : {A B : Type 0} (k : ℕ) (ws : List ℕ) (j : ℕ) (a : A) (f : A → ℕ → Got B) → after (expect k ws j a) f ≡ after (skip k ws j) λ _ m. f a m
 unfolding expect after if_then_else_
 expect-passes k ws j a f = go (is k ws j) tt
@@ -116,33 +118,72 @@ turned-false : (b : Bool) → not b ≡ false → b ≡ true
 turned-false true e = refl
 turned-false false e = sym e
 
-module _ (left : ℕ) (ws : List ℕ) (i n : ℕ) (s₀ s : List ℕ) (o : Space ws s₀ i n) (e : Read)
-    (h : seen e s ≡ writtenCode (members (expression left ws) ws (i + 1)) (n + 1) s₀) where
-  pub iteration-wrong : (k p : ℕ) → e ≡ Wrong k p → seen (Wrong k p) s ≡ writtenCode (iteration (expression left ws) (insideOf left ws) ws i) n s₀
-  unfolding after
-  iteration-wrong k p q = rw (iteration-bodied left ws i, erred-code e _ (n + 1) s₀ s k p h q) (wrong-seen k p n s₀ s)
+-- ---- up to the body
+module _ (left : ℕ) (ws : List ℕ) (i n : ℕ) (s₀ s : List ℕ) (e : Read) (h : seen e s ≡ writtenCode (members (expression left ws) ws i) n s₀) where
+  pub each-wrong : (k p : ℕ) → e ≡ Wrong k p → seen (Wrong k p) s ≡ writtenCode (each (expression left ws) (insideOf left ws) ws i) n s₀
+  unfolding each after
+  each-wrong k p q = rw (erred-code e _ n s₀ s k p h q) (wrong-seen k p n s₀ s)
 
   module _ (j m t : ℕ) (q : e ≡ At j m t) (begins : Bool) (b : begins ≡ beginsStatement ws j) where
-    pub iteration-stops : not begins ≡ true → seen (Wrong 10 j) s ≡ writtenCode (iteration (expression left ws) (insideOf left ws) ws i) n s₀
-    unfolding after if_then_else_
-    iteration-stops z =
-        let w = wrote-code e _ (n + 1) s₀ s j m t h q in
-        rw (iteration-bodied left ws i, w .read, ← b, turned-true begins z) (wrong-seen 10 j n s₀ s)
+    pub each-stops : not begins ≡ true → seen (Wrong 10 j) s ≡ writtenCode (each (expression left ws) (insideOf left ws) ws i) n s₀
+    unfolding each after if_then_else_
+    each-stops z = let w = wrote-code e _ n s₀ s j m t h q in rw (w .read, ← b, turned-true begins z) (wrong-seen 10 j n s₀ s)
 
     module _ (z : not begins ≡ false) where
-      pub iteration-none : left ≡ 0 → seen (Wrong 75 j) s ≡ writtenCode (iteration (expression left ws) (insideOf left ws) ws i) n s₀
-      unfolding after if_then_else_ opening
-      iteration-none l =
-          let w = wrote-code e _ (n + 1) s₀ s j m t h q in
-          rw (iteration-bodied left ws i, w .read, ← b, turned-false begins z, inside-none left ws l) (wrong-seen 75 j n s₀ s)
+      pub each-none : left ≡ 0 → seen (Wrong 75 j) s ≡ writtenCode (each (expression left ws) (insideOf left ws) ws i) n s₀
+      unfolding each after if_then_else_ opening
+      each-none l = let w = wrote-code e _ n s₀ s j m t h q in rw (w .read, ← b, turned-false begins z, inside-none left ws l) (wrong-seen 75 j n s₀ s)
 
-      pub iteration-reads : (left ≡ 0 → ⊥) → Parted ws s i n j m → (d r : Read) (s₁ s₂ : List ℕ) → seen d s₁ ≡ writtenCode (statement (left - 1) ws j) m s
-          → seen r s₂ ≡ topped 40 (placeAt ws i) n (m - n - 1) (seen d s₁)
-          → seen r s₂ ≡ writtenCode (iteration (expression left ws) (insideOf left ws) ws i) n s₀
-      unfolding after if_then_else_ opening
-      iteration-reads l p d r s₁ s₂ y u =
-          let w = wrote-code e _ (n + 1) s₀ s j m t h q in
-          let f : m - n - 1 ≡ length (w .code) = omega (arith, w .upTo) in
-          let k : n < length s₀ = omega (arith, o .behind, o .wide, p .ahead, p .within) in
-          rw (iteration-bodied left ws i, w .read, ← b, turned-false begins z, inside-level left ws l, ← f)
-          (u ∙ ap (topped 40 (placeAt ws i) n (m - n - 1)) y ∙ topped-writes _ (w .code) s₀ s 40 (placeAt ws i) n (m - n - 1) m k (w .upTo) (w .front))
+      pub each-reads : (left ≡ 0 → ⊥) → seen (At j m 0) s ≡ writtenCode (each (expression left ws) (insideOf left ws) ws i) n s₀
+      unfolding each after if_then_else_ opening
+      each-reads l =
+          let w = wrote-code e _ n s₀ s j m t h q in
+          rw (w .read, ← b, turned-false begins z, inside-level left ws l) (code-seen _ n s₀ j m s w)
+
+each-opens : (left : ℕ) (ws : List ℕ) (i : ℕ) (c : List ℕ) (j : ℕ) → each (expression left ws) (insideOf left ws) ws i ≡ good c j → left ≡ 0 → ⊥
+unfolding each opening after
+each-opens left ws i c j q l = go (members (expression left ws) ws i) (rw (inside-none left ws l) at q)
+  where
+    go : (g : Got (List ℕ)) → (after g λ a m. if beginsStatement ws m then (λ _. wrong 75 m) else λ _. wrong 10 m) ≡ good c j → ⊥
+    go (good a m) e =
+        chosen (λ g. g ≡ good c j → ⊥) (beginsStatement ws m) _ _ (λ _ f. let y : _≡_ {A = ℕ} 0 1 = cc in omega arith) (λ _ f. let y : _≡_ {A = ℕ} 0 1 = cc in omega arith) e
+    go (wrong k p) e = let y : _≡_ {A = ℕ} 0 1 = cc in omega arith
+
+-- ---- foreach
+-- what stands between, and a body a level further in
+iteration-each : (left : ℕ) (ws : List ℕ) (i : ℕ)
+    → iteration (expression left ws) (insideOf left ws) ws i
+    ≡ after (each (expression left ws) (insideOf left ws) ws (i + 1)) λ c m. after (statement (left - 1) ws m) λ s q. good (headed 40 (placeAt ws i) (length c) (c ++ s)) q
+unfolding each insideOf opening after
+iteration-each zero ws i =
+    iteration-bodied zero ws i ∙ sym (after-after (members (expression zero ws) ws (i + 1)) _ _
+    ∙ same-after (members (expression zero ws) ws (i + 1)) _ _ λ c m _. chosen-after (beginsStatement ws m) _ _ _)
+iteration-each (suc left) ws i =
+    let q : suc left - 1 ≡ left = omega arith in
+    iteration-bodied (suc left) ws i ∙ sym (after-after (members (expression (suc left) ws) ws (i + 1)) _ _
+    ∙ same-after (members (expression (suc left) ws) ws (i + 1)) _ _ λ c m _. rw q (chosen-after (beginsStatement ws m) _ _ _))
+
+module _ (left : ℕ) (ws : List ℕ) (i n : ℕ) (s₀ s : List ℕ) (o : Space ws s₀ i n) (e : Read)
+    (h : seen e s ≡ writtenCode (each (expression left ws) (insideOf left ws) ws (i + 1)) (n + 1) s₀) where
+  pub iteration-wrong : (k p : ℕ) → e ≡ Wrong k p → seen (Wrong k p) s ≡ writtenCode (iteration (expression left ws) (insideOf left ws) ws i) n s₀
+  unfolding after
+  iteration-wrong k p q = rw (iteration-each left ws i, erred-code e _ (n + 1) s₀ s k p h q) (wrong-seen k p n s₀ s)
+
+  module _ (j m t : ℕ) (q : e ≡ At j m t) (l : length s ≡ length s₀) where
+    pub iteration-opens : left ≡ 0 → ⊥
+    iteration-opens = let w = wrote-code e _ (n + 1) s₀ s j m t h q in each-opens left ws (i + 1) (w .code) j (w .read)
+
+    pub iterated : Parted ws s i n j m
+    iterated = parted _ ws i n s₀ s o e h (each-paid left ws (i + 1)) j m t q l
+
+    pub iteration-reads : (d r : Read) (s₁ s₂ : List ℕ) → seen d s₁ ≡ writtenCode (statement (left - 1) ws j) m s
+        → seen r s₂ ≡ topped 40 (placeAt ws i) n (m - n - 1) (seen d s₁)
+        → seen r s₂ ≡ writtenCode (iteration (expression left ws) (insideOf left ws) ws i) n s₀
+    unfolding after
+    iteration-reads d r s₁ s₂ y u =
+        let w = wrote-code e _ (n + 1) s₀ s j m t h q in
+        let p = iterated in
+        let f : m - n - 1 ≡ length (w .code) = omega (arith, w .upTo) in
+        let k : n < length s₀ = omega (arith, o .behind, o .wide, p .ahead, p .within) in
+        rw (iteration-each left ws i, w .read, ← f)
+        (u ∙ ap (topped 40 (placeAt ws i) n (m - n - 1)) y ∙ topped-writes _ (w .code) s₀ s 40 (placeAt ws i) n (m - n - 1) m k (w .upTo) (w .front))

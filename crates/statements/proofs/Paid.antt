@@ -18,7 +18,7 @@ use Rattle.expressions.proofs.Tokens.{chosen, token-inside}
 use Rattle.expressions.proofs.Paid.{Paid, expression-paid}
 use Rattle.statements.specs.Words.{ReadCode, Readers, declaration, returning, withoutLast, assignment, simple, guarded, beginsStatement, iteration, statementsFrom, statements, statementIn, statement, nameAt}
 use Rattle.statements.specs.Words.{Head, skip, parametersFrom, parameters, body, procedure}
-use Rattle.statements.specs.Steps.{insideOf, ended, test, members}
+use Rattle.statements.specs.Steps.{insideOf, ended, test, members, each}
 
 -- what has a kind is a token
 pub kind-inside : (ws : List ℕ) (i k : ℕ) → is (suc k) ws i ≡ true → i < length ws
@@ -155,6 +155,12 @@ module _ (ws : List ℕ) (read : ReadPiece) (ok : PaysPiece ws read) where
       let e₃ = skip-good wordIn ws i₂ u i₃ q₃ in
       expect-pays ws i j 13 _ (omega arith) (omega (arith, e₂ .1, w .ahead)) (omega (arith, e₂ .1, w .paid))
 
+  each-pays : (inside : Inside Readers) → PaysInside ws inside → (i : ℕ) → Pays ws i (each read inside ws i)
+  unfolding each
+  each-pays inside deep i =
+      on ws i (members read ws i) _ λ c j q.
+      chosen (Pays ws i) (beginsStatement ws j) _ _ (λ _. opened ws i j inside _ deep λ _ _ _. pays ws i _ (members-pay i) c j q) (λ _. tt)
+
   -- foreach at token i
   iteration-pays : (inside : Inside Readers) → PaysInside ws inside → (i : ℕ) → Pays ws i (iteration read inside ws i)
   unfolding iteration
@@ -215,8 +221,8 @@ module _ (left : ℕ) (ws : List ℕ) (i : ℕ) (c : List ℕ) (j : ℕ) where
   unfolding ended
   ended-paid q = pays ws i _ (bare-pays ws (expression left ws) (expression-paid left ws) i i 58 (omega arith)) c j q
 
-  pub members-paid : members (expression left ws) ws i ≡ good c j → Paid c ws i j
-  members-paid q = pays ws i _ (members-pay ws (expression left ws) (expression-paid left ws) i) c j q
+  pub each-paid : each (expression left ws) (insideOf left ws) ws i ≡ good c j → Paid c ws i j
+  each-paid q = pays ws i _ (each-pays ws (expression left ws) (expression-paid left ws) (insideOf left ws) (inside-pays left ws) i) c j q
 
 pub test-paid : (left : ℕ) (ws : List ℕ) (i : ℕ) (c : List ℕ) (j : ℕ) → test (Expressions.insideOf left ws) ws i ≡ good c j → Paid c ws i j
 unfolding test opening Expressions.insideOf

@@ -12,7 +12,7 @@ use Rattle.expressions.specs.declared.Read.{Read}
 use Rattle.expressions.specs.Words.{homeAt, is, ReadPiece, expect, expression, Seen, at, failed, seen}
 use Rattle.statements.specs.declared.Parsed.{Parsed}
 use Rattle.statements.specs.declared.Parsed.the-variants.{Whole, Twice, Misfit}
-use Rattle.statements.specs.Words.{Readers, skip, statement, procedure, writtenProcedure, tableIn}
+use Rattle.statements.specs.Words.{Readers, skip, beginsStatement, statement, procedure, writtenProcedure, tableIn}
 
 -- how the inside of a level is read, where so many are left
 unfoldable pub insideOf : ℕ → List ℕ → Inside Readers
@@ -36,6 +36,12 @@ members read ws i =
     after (skip wordIn ws i₂) λ _ i₃.
     after (read i₃) λ e j.
     expect wordDo ws j (x ∷ e .code)
+
+-- the same, and the first token of a body, which opens a level if a statement can begin there
+unfoldable pub each : ReadPiece → Inside Readers → List ℕ → ℕ → Got (List ℕ)
+each read inside ws i =
+    after (members read ws i) λ c j.
+    if beginsStatement ws j then (λ _. opening inside j λ _. good c j) else λ _. wrong 10 j
 
 -- a statement's word at n, before its parts, with a place p and a number x
 unfoldable pub topped : ℕ → ℕ → ℕ → ℕ → Seen → Seen

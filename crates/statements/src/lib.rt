@@ -13,7 +13,7 @@ ghost use Rattle.expressions.specs.Steps.{closed};
 ghost use Rattle.statements.specs.Words.{declaration, returning, simple, guarded, beginsStatement, iteration, statement, statements, parameters, body, procedure, procedures};
 ghost use Rattle.statements.specs.Words.{writtenProcedure, tableIn, nothing, mainWord, firstTwice, seenWhole, writtenWhole};
 ghost use Rattle.statements.specs.Room.{Space, Parts, Ground, Halves};
-ghost use Rattle.statements.specs.Steps.{insideOf, ended, test, members, topped, Below, Entered, answered};
+ghost use Rattle.statements.specs.Steps.{insideOf, ended, test, members, each, topped, Below, Entered, answered};
 
 // By the first token.
 pub fn read_statement(tokens: &[u64], words: &mut [u64], i: usize, n: usize, left: usize) -> Read
@@ -105,6 +105,26 @@ fn read_members(tokens: &[u64], words: &mut [u64], i: usize, n: usize, left: usi
     code::put(words, n, token::home_at(tokens, i));
     let e = expressions::read_expression(tokens, words, i + 2, n + 1, left);
     close(tokens, e, 14)
+}
+
+// The same, and the first token of a body, which opens a level if a statement can begin there.
+fn read_each(tokens: &[u64], words: &mut [u64], i: usize, n: usize, left: usize) -> Read
+    requires { ⌜ Room (now tokens) (now words) i n ⌝ }
+    ensures { λ r. ⌜ seen r (now (words .exit)) ≡ writtenCode (each (expression left (now (tokens .entry))) (insideOf left (now (tokens .entry))) (now (tokens .entry)) i) n (now (words .entry)) ⌝ }
+{
+    let e = read_members(tokens, words, i, n, left);
+    match e {
+        Read::Wrong(k, p) => Read::Wrong(k, p),
+        Read::At(j, m, _) => {
+            if !begins_statement(tokens, j) {
+                return Read::Wrong(10, j);
+            }
+            if left == 0 {
+                return Read::Wrong(75, j);
+            }
+            Read::At(j, m, 0)
+        }
+    }
 }
 
 // Whether a statement can begin with token i.
@@ -217,22 +237,17 @@ fn read_guarded(
     }
 }
 
-// foreach, at token i. The slot of its variable stands behind its word, then its group's code; the body is a level further in.
+// foreach, at token i. The slot of its variable stands behind its word, then its group's code; the body is a level further in. What is asked of the
+// body's first token is asked before, in a function that calls no statement: so a level takes no more of the stack.
 fn read_foreach(tokens: &[u64], words: &mut [u64], i: usize, n: usize, left: usize) -> Read
     requires { ⌜ Space (now tokens) (now words) i n ⌝ }
     requires { ⌜ i < length (now tokens) ⌝ }
     ensures { λ r. ⌜ seen r (now (words .exit)) ≡ writtenCode (iteration (expression left (now (tokens .entry))) (insideOf left (now (tokens .entry))) (now (tokens .entry)) i) n (now (words .entry)) ⌝ }
 {
-    let e = read_members(tokens, words, i + 1, n + 1, left);
+    let e = read_each(tokens, words, i + 1, n + 1, left);
     match e {
         Read::Wrong(k, p) => Read::Wrong(k, p),
         Read::At(j, m, _) => {
-            if !begins_statement(tokens, j) {
-                return Read::Wrong(10, j);
-            }
-            if left == 0 {
-                return Read::Wrong(75, j);
-            }
             let b = read_statement(tokens, words, j, m, left - 1);
             head(tokens, words, b, 40, i, n, (m - n - 1) as u64)
         }

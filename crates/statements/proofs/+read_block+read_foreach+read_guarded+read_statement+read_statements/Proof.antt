@@ -5,9 +5,9 @@ use mathlib.Core.Path.{_∙_, sym}
 use lib.ListN.{length}
 use native.Mathlib.Omega.{arith}
 use borrow.Author.Needs.{needs}
-use Rattle.statements.proofs.Paid.{statement-paid, members-paid}
-use Rattle.statements.proofs.Moves.{space-inside, parts-code, parted, tested-opens, tested, guarded-wrong, guarded-reads, block-none, block-parts, block-reads, states-declaration, states-when, states-while, states-return, states-foreach, states-simple}
-use Rattle.statements.proofs.Iterating.{iteration-wrong, iteration-stops, iteration-none, iteration-reads}
+use Rattle.statements.proofs.Paid.{statement-paid}
+use Rattle.statements.proofs.Moves.{space-inside, parts-code, tested-opens, tested, guarded-wrong, guarded-reads, block-none, block-parts, block-reads, states-declaration, states-when, states-while, states-return, states-foreach, states-simple}
+use Rattle.statements.proofs.Iterating.{iteration-wrong, iteration-opens, iterated, iteration-reads}
 use Rattle.statements.proofs.Going.{Going, going-starts, going-fails, turned, going-on, going-ends}
 use borrow.Fn.Kinds.{In}
 use borrow.Fn.PlainCycle.{Measures, is, falls, and}
@@ -27,10 +27,9 @@ use Rattle.statements.proofs.read_statements.Reads as read-statements
 use Rattle.statements.proofs.read_statements.Kinds as read-statements-kinds
 use Rattle.statements.proofs.+read_block+read_foreach+read_guarded+read_statement+read_statements.Lts-read_statements as read-statements-lts
 use Rattle.expressions.proofs.token.kind_at.Reads as kind-at-reads
-use Rattle.statements.proofs.begins_statement.Reads as begins-statement-reads
 use Rattle.statements.proofs.head.Reads as head-reads
 use Rattle.statements.proofs.read_declaration.Reads as read-declaration-reads
-use Rattle.statements.proofs.read_members.Reads as read-members-reads
+use Rattle.statements.proofs.read_each.Reads as read-each-reads
 use Rattle.statements.proofs.read_return.Reads as read-return-reads
 use Rattle.statements.proofs.read_simple.Reads as read-simple-reads
 use Rattle.statements.proofs.read_test.Reads as read-test-reads
@@ -193,53 +192,45 @@ read-block-returns-2 : (t : ℕ) → read-block-lts.Need-returns-2 (
 ) (read-block-at t) read-block.Post
 read-block-returns-2 t c = block-reads _ _ _ _ _ (c .before .before .before .before .before .before .before .before .before .before .before .pre .1 .1) _ _ _ _ (c .before .before .before .before .before .before .before .before .before .before .before .pre .1 .0) (c .before .before .before .before .before .before .before .before .if1 .left) (c .before .before .before .before .before .before .read-statements .ensures) (c .before .before .head .ensures)
 
-read-foreach-add-read-members : (t : ℕ) → read-foreach-lts.Need-add-read-members (
-  read-members-reads.Asked,
-  read-members-reads.Learnt,
-  begins-statement-reads.Asked,
-  begins-statement-reads.Learnt,
+read-foreach-add-read-each : (t : ℕ) → read-foreach-lts.Need-add-read-each (
+  read-each-reads.Asked,
+  read-each-reads.Learnt,
   read-statement-below t,
   read-statement.Post,
   head-reads.Asked,
   head-reads.Learnt,
 ) (read-foreach-at t) read-foreach.Post
-read-foreach-add-read-members t c =
+read-foreach-add-read-each t c =
     let o = c .before .before .before .pre .1 .0 in
     omega (arith, o .behind, o .few, c .before .before .before .pre .1 .1)
 
-read-foreach-add-read-members-2 : (t : ℕ) → read-foreach-lts.Need-add-read-members-2 (
-  read-members-reads.Asked,
-  read-members-reads.Learnt,
-  begins-statement-reads.Asked,
-  begins-statement-reads.Learnt,
+read-foreach-add-read-each-2 : (t : ℕ) → read-foreach-lts.Need-add-read-each-2 (
+  read-each-reads.Asked,
+  read-each-reads.Learnt,
   read-statement-below t,
   read-statement.Post,
   head-reads.Asked,
   head-reads.Learnt,
 ) (read-foreach-at t) read-foreach.Post
-read-foreach-add-read-members-2 t c =
+read-foreach-add-read-each-2 t c =
     let o = c .before .before .before .pre .1 .0 in
     omega (arith, o .behind, o .few, c .before .before .before .pre .1 .1)
 
-read-foreach-read-members-requires : (t : ℕ) → read-foreach-lts.Need-read-members-requires (
-  read-members-reads.Asked,
-  read-members-reads.Learnt,
-  begins-statement-reads.Asked,
-  begins-statement-reads.Learnt,
+read-foreach-read-each-requires : (t : ℕ) → read-foreach-lts.Need-read-each-requires (
+  read-each-reads.Asked,
+  read-each-reads.Learnt,
   read-statement-below t,
   read-statement.Post,
   head-reads.Asked,
   head-reads.Learnt,
 ) (read-foreach-at t) read-foreach.Post
-read-foreach-read-members-requires t c κs =
+read-foreach-read-each-requires t c κs =
     let o = c .before .before .before .pre .1 .0 in
     record { behind = omega (arith, o .behind); wide = o .wide; short = omega (arith, o .few) }
 
 read-foreach-enum-known-e : (t : ℕ) → read-foreach-lts.Need-enum-known-e (
-  read-members-reads.Asked,
-  read-members-reads.Learnt,
-  begins-statement-reads.Asked,
-  begins-statement-reads.Learnt,
+  read-each-reads.Asked,
+  read-each-reads.Learnt,
   read-statement-below t,
   read-statement.Post,
   head-reads.Asked,
@@ -248,10 +239,8 @@ read-foreach-enum-known-e : (t : ℕ) → read-foreach-lts.Need-enum-known-e (
 read-foreach-enum-known-e t c = search needs
 
 read-foreach-enum-known-e-2 : (t : ℕ) → read-foreach-lts.Need-enum-known-e-2 (
-  read-members-reads.Asked,
-  read-members-reads.Learnt,
-  begins-statement-reads.Asked,
-  begins-statement-reads.Learnt,
+  read-each-reads.Asked,
+  read-each-reads.Learnt,
   read-statement-below t,
   read-statement.Post,
   head-reads.Asked,
@@ -259,23 +248,73 @@ read-foreach-enum-known-e-2 : (t : ℕ) → read-foreach-lts.Need-enum-known-e-2
 ) (read-foreach-at t) read-foreach.Post
 read-foreach-enum-known-e-2 t c = search needs
 
-read-foreach-begins-statement-requires : (t : ℕ) → read-foreach-lts.Need-begins-statement-requires (
-  read-members-reads.Asked,
-  read-members-reads.Learnt,
-  begins-statement-reads.Asked,
-  begins-statement-reads.Learnt,
+read-foreach-sub-read-statement : (t : ℕ) → read-foreach-lts.Need-sub-read-statement (
+  read-each-reads.Asked,
+  read-each-reads.Learnt,
   read-statement-below t,
   read-statement.Post,
   head-reads.Asked,
   head-reads.Learnt,
 ) (read-foreach-at t) read-foreach.Post
-read-foreach-begins-statement-requires t c κs = search needs
+read-foreach-sub-read-statement t c =
+    let o = c .before .before .before .before .before .before .before .before .before .before .pre .1 .0 in
+    omega (arith, iteration-opens _ _ _ _ _ _ o _ (c .before .before .before .before .before .before .read-each .ensures) _ _ _ (c .before .before .e2 .given .1) (c .before .before .before .before .before .before .read-each .kept .1 .0))
+
+read-foreach-read-statement-requires : (t : ℕ) → read-foreach-lts.Need-read-statement-requires (
+  read-each-reads.Asked,
+  read-each-reads.Learnt,
+  read-statement-below t,
+  read-statement.Post,
+  head-reads.Asked,
+  head-reads.Learnt,
+) (read-foreach-at t) read-foreach.Post
+read-foreach-read-statement-requires t c κs =
+    let o = c .before .before .before .before .before .before .before .before .before .before .pre .1 .0 in
+    let p = iterated _ _ _ _ _ _ o _ (c .before .before .before .before .before .before .read-each .ensures) _ _ _ (c .before .before .e2 .given .1) (c .before .before .before .before .before .before .read-each .kept .1 .0) in
+    (omega (arith, p .ahead, p .within, c .before .before .before .before .before .before .before .before .before .before .pre .0), p .space)
+
+read-foreach-sub-head : (t : ℕ) → read-foreach-lts.Need-sub-head (
+  read-each-reads.Asked,
+  read-each-reads.Learnt,
+  read-statement-below t,
+  read-statement.Post,
+  head-reads.Asked,
+  head-reads.Learnt,
+) (read-foreach-at t) read-foreach.Post
+read-foreach-sub-head t c =
+    let o = c .before .before .before .before .before .before .before .before .before .before .before .before .before .before .pre .1 .0 in
+    let p = iterated _ _ _ _ _ _ o _ (c .before .before .before .before .before .before .before .before .before .before .read-each .ensures) _ _ _ (c .before .before .before .before .before .before .e2 .given .1) (c .before .before .before .before .before .before .before .before .before .before .read-each .kept .1 .0) in
+    omega (arith, p .some)
+
+read-foreach-sub-head-2 : (t : ℕ) → read-foreach-lts.Need-sub-head-2 (
+  read-each-reads.Asked,
+  read-each-reads.Learnt,
+  read-statement-below t,
+  read-statement.Post,
+  head-reads.Asked,
+  head-reads.Learnt,
+) (read-foreach-at t) read-foreach.Post
+read-foreach-sub-head-2 t c =
+    let o = c .before .before .before .before .before .before .before .before .before .before .before .before .before .before .pre .1 .0 in
+    let p = iterated _ _ _ _ _ _ o _ (c .before .before .before .before .before .before .before .before .before .before .read-each .ensures) _ _ _ (c .before .before .before .before .before .before .e2 .given .1) (c .before .before .before .before .before .before .before .before .before .before .read-each .kept .1 .0) in
+    omega (arith, p .some)
+
+read-foreach-head-requires : (t : ℕ) → read-foreach-lts.Need-head-requires (
+  read-each-reads.Asked,
+  read-each-reads.Learnt,
+  read-statement-below t,
+  read-statement.Post,
+  head-reads.Asked,
+  head-reads.Learnt,
+) (read-foreach-at t) read-foreach.Post
+read-foreach-head-requires t c κs =
+    let o = c .before .before .before .before .before .before .before .before .before .before .before .before .before .before .pre .1 .0 in
+    let p = iterated _ _ _ _ _ _ o _ (c .before .before .before .before .before .before .before .before .before .before .read-each .ensures) _ _ _ (c .before .before .before .before .before .before .e2 .given .1) (c .before .before .before .before .before .before .before .before .before .before .read-each .kept .1 .0) in
+    parts-code _ _ _ _ _ _ _ _ _ _ (c .before .before .before .read-statement .ensures) (statement-paid _ _ _) (omega (arith, p .some)) (omega (arith, p .space .behind)) (o .few) (omega arith) (p .small)
 
 read-foreach-same-length : (t : ℕ) → read-foreach-lts.Need-same-length (
-  read-members-reads.Asked,
-  read-members-reads.Learnt,
-  begins-statement-reads.Asked,
-  begins-statement-reads.Learnt,
+  read-each-reads.Asked,
+  read-each-reads.Learnt,
   read-statement-below t,
   read-statement.Post,
   head-reads.Asked,
@@ -284,22 +323,18 @@ read-foreach-same-length : (t : ℕ) → read-foreach-lts.Need-same-length (
 read-foreach-same-length t c = search needs
 
 read-foreach-returns : (t : ℕ) → read-foreach-lts.Need-returns (
-  read-members-reads.Asked,
-  read-members-reads.Learnt,
-  begins-statement-reads.Asked,
-  begins-statement-reads.Learnt,
+  read-each-reads.Asked,
+  read-each-reads.Learnt,
   read-statement-below t,
   read-statement.Post,
   head-reads.Asked,
   head-reads.Learnt,
 ) (read-foreach-at t) read-foreach.Post
-read-foreach-returns t c = iteration-stops _ _ _ _ _ _ (c .before .before .before .before .before .before .before .before .before .before .before .pre .1 .0) _ (c .before .before .before .before .before .before .before .read-members .ensures) _ _ _ (c .before .before .before .e2 .given .1) _ (c .before .begins-statement .ensures) (c .if1 .taken)
+read-foreach-returns t c = iteration-wrong _ _ _ _ _ _ (c .before .before .before .before .before .before .before .before .before .pre .1 .0) _ (c .before .before .before .before .before .read-each .ensures) _ _ (c .before .e .given .1)
 
 read-foreach-same-length-2 : (t : ℕ) → read-foreach-lts.Need-same-length-2 (
-  read-members-reads.Asked,
-  read-members-reads.Learnt,
-  begins-statement-reads.Asked,
-  begins-statement-reads.Learnt,
+  read-each-reads.Asked,
+  read-each-reads.Learnt,
   read-statement-below t,
   read-statement.Post,
   head-reads.Asked,
@@ -308,139 +343,14 @@ read-foreach-same-length-2 : (t : ℕ) → read-foreach-lts.Need-same-length-2 (
 read-foreach-same-length-2 t c = search needs
 
 read-foreach-returns-2 : (t : ℕ) → read-foreach-lts.Need-returns-2 (
-  read-members-reads.Asked,
-  read-members-reads.Learnt,
-  begins-statement-reads.Asked,
-  begins-statement-reads.Learnt,
+  read-each-reads.Asked,
+  read-each-reads.Learnt,
   read-statement-below t,
   read-statement.Post,
   head-reads.Asked,
   head-reads.Learnt,
 ) (read-foreach-at t) read-foreach.Post
-read-foreach-returns-2 t c = iteration-none _ _ _ _ _ _ (c .before .before .before .before .before .before .before .before .before .before .before .before .pre .1 .0) _ (c .before .before .before .before .before .before .before .before .read-members .ensures) _ _ _ (c .before .before .before .before .e2 .given .1) _ (c .before .before .begins-statement .ensures) (c .before .if1 .left) (c .if2 .taken)
-
-read-foreach-sub-read-statement : (t : ℕ) → read-foreach-lts.Need-sub-read-statement (
-  read-members-reads.Asked,
-  read-members-reads.Learnt,
-  begins-statement-reads.Asked,
-  begins-statement-reads.Learnt,
-  read-statement-below t,
-  read-statement.Post,
-  head-reads.Asked,
-  head-reads.Learnt,
-) (read-foreach-at t) read-foreach.Post
-read-foreach-sub-read-statement t c = search needs
-
-read-foreach-read-statement-requires : (t : ℕ) → read-foreach-lts.Need-read-statement-requires (
-  read-members-reads.Asked,
-  read-members-reads.Learnt,
-  begins-statement-reads.Asked,
-  begins-statement-reads.Learnt,
-  read-statement-below t,
-  read-statement.Post,
-  head-reads.Asked,
-  head-reads.Learnt,
-) (read-foreach-at t) read-foreach.Post
-read-foreach-read-statement-requires t c κs =
-    let o = c .before .before .before .before .before .before .before .before .before .before .before .before .before .pre .1 .0 in
-    let p = parted _ _ _ _ _ _ o _ (c .before .before .before .before .before .before .before .before .before .read-members .ensures) (members-paid _ _ _) _ _ _ (c .before .before .before .before .before .e2 .given .1) (c .before .before .before .before .before .before .before .before .before .read-members .kept .1 .0) in
-    (omega (arith, p .ahead, p .within, c .before .before .before .before .before .before .before .before .before .before .before .before .before .pre .0), p .space)
-
-read-foreach-sub-head : (t : ℕ) → read-foreach-lts.Need-sub-head (
-  read-members-reads.Asked,
-  read-members-reads.Learnt,
-  begins-statement-reads.Asked,
-  begins-statement-reads.Learnt,
-  read-statement-below t,
-  read-statement.Post,
-  head-reads.Asked,
-  head-reads.Learnt,
-) (read-foreach-at t) read-foreach.Post
-read-foreach-sub-head t c =
-    let o = c .before .before .before .before .before .before .before .before .before .before .before .before .before .before .before .before .before .pre .1 .0 in
-    let p = parted _ _ _ _ _ _ o _ (c .before .before .before .before .before .before .before .before .before .before .before .before .before .read-members .ensures) (members-paid _ _ _) _ _ _ (c .before .before .before .before .before .before .before .before .before .e2 .given .1) (c .before .before .before .before .before .before .before .before .before .before .before .before .before .read-members .kept .1 .0) in
-    omega (arith, p .some)
-
-read-foreach-sub-head-2 : (t : ℕ) → read-foreach-lts.Need-sub-head-2 (
-  read-members-reads.Asked,
-  read-members-reads.Learnt,
-  begins-statement-reads.Asked,
-  begins-statement-reads.Learnt,
-  read-statement-below t,
-  read-statement.Post,
-  head-reads.Asked,
-  head-reads.Learnt,
-) (read-foreach-at t) read-foreach.Post
-read-foreach-sub-head-2 t c =
-    let o = c .before .before .before .before .before .before .before .before .before .before .before .before .before .before .before .before .before .pre .1 .0 in
-    let p = parted _ _ _ _ _ _ o _ (c .before .before .before .before .before .before .before .before .before .before .before .before .before .read-members .ensures) (members-paid _ _ _) _ _ _ (c .before .before .before .before .before .before .before .before .before .e2 .given .1) (c .before .before .before .before .before .before .before .before .before .before .before .before .before .read-members .kept .1 .0) in
-    omega (arith, p .some)
-
-read-foreach-head-requires : (t : ℕ) → read-foreach-lts.Need-head-requires (
-  read-members-reads.Asked,
-  read-members-reads.Learnt,
-  begins-statement-reads.Asked,
-  begins-statement-reads.Learnt,
-  read-statement-below t,
-  read-statement.Post,
-  head-reads.Asked,
-  head-reads.Learnt,
-) (read-foreach-at t) read-foreach.Post
-read-foreach-head-requires t c κs =
-    let o = c .before .before .before .before .before .before .before .before .before .before .before .before .before .before .before .before .before .pre .1 .0 in
-    let p = parted _ _ _ _ _ _ o _ (c .before .before .before .before .before .before .before .before .before .before .before .before .before .read-members .ensures) (members-paid _ _ _) _ _ _ (c .before .before .before .before .before .before .before .before .before .e2 .given .1) (c .before .before .before .before .before .before .before .before .before .before .before .before .before .read-members .kept .1 .0) in
-    parts-code _ _ _ _ _ _ _ _ _ _ (c .before .before .before .read-statement .ensures) (statement-paid _ _ _) (omega (arith, p .some)) (omega (arith, p .space .behind)) (o .few) (omega arith) (p .small)
-
-read-foreach-same-length-3 : (t : ℕ) → read-foreach-lts.Need-same-length-3 (
-  read-members-reads.Asked,
-  read-members-reads.Learnt,
-  begins-statement-reads.Asked,
-  begins-statement-reads.Learnt,
-  read-statement-below t,
-  read-statement.Post,
-  head-reads.Asked,
-  head-reads.Learnt,
-) (read-foreach-at t) read-foreach.Post
-read-foreach-same-length-3 t c = search needs
-
-read-foreach-returns-3 : (t : ℕ) → read-foreach-lts.Need-returns-3 (
-  read-members-reads.Asked,
-  read-members-reads.Learnt,
-  begins-statement-reads.Asked,
-  begins-statement-reads.Learnt,
-  read-statement-below t,
-  read-statement.Post,
-  head-reads.Asked,
-  head-reads.Learnt,
-) (read-foreach-at t) read-foreach.Post
-read-foreach-returns-3 t c = iteration-wrong _ _ _ _ _ _ (c .before .before .before .before .before .before .before .before .before .pre .1 .0) _ (c .before .before .before .before .before .read-members .ensures) _ _ (c .before .e .given .1)
-
-read-foreach-same-length-4 : (t : ℕ) → read-foreach-lts.Need-same-length-4 (
-  read-members-reads.Asked,
-  read-members-reads.Learnt,
-  begins-statement-reads.Asked,
-  begins-statement-reads.Learnt,
-  read-statement-below t,
-  read-statement.Post,
-  head-reads.Asked,
-  head-reads.Learnt,
-) (read-foreach-at t) read-foreach.Post
-read-foreach-same-length-4 t c = search needs
-
-read-foreach-returns-4 : (t : ℕ) → read-foreach-lts.Need-returns-4 (
-  read-members-reads.Asked,
-  read-members-reads.Learnt,
-  begins-statement-reads.Asked,
-  begins-statement-reads.Learnt,
-  read-statement-below t,
-  read-statement.Post,
-  head-reads.Asked,
-  head-reads.Learnt,
-) (read-foreach-at t) read-foreach.Post
-read-foreach-returns-4 t c =
-    let o = c .before .before .before .before .before .before .before .before .before .before .before .before .before .before .before .before .before .before .before .before .pre .1 .0 in
-    let p = parted _ _ _ _ _ _ o _ (c .before .before .before .before .before .before .before .before .before .before .before .before .before .before .before .before .read-members .ensures) (members-paid _ _ _) _ _ _ (c .before .before .before .before .before .before .before .before .before .before .before .before .e2 .given .1) (c .before .before .before .before .before .before .before .before .before .before .before .before .before .before .before .before .read-members .kept .1 .0) in
-    iteration-reads _ _ _ _ _ _ o _ (c .before .before .before .before .before .before .before .before .before .before .before .before .before .before .before .before .read-members .ensures) _ _ _ (c .before .before .before .before .before .before .before .before .before .before .before .before .e2 .given .1) _ (c .before .before .before .before .before .before .before .before .before .before .begins-statement .ensures) (c .before .before .before .before .before .before .before .before .before .if1 .left) (c .before .before .before .before .before .before .before .before .if2 .left) p _ _ _ _ (c .before .before .before .before .before .before .read-statement .ensures) (c .before .before .head .ensures)
+read-foreach-returns-2 t c = iteration-reads _ _ _ _ _ _ (c .before .before .before .before .before .before .before .before .before .before .before .before .before .before .before .before .before .pre .1 .0) _ (c .before .before .before .before .before .before .before .before .before .before .before .before .before .read-each .ensures) _ _ _ (c .before .before .before .before .before .before .before .before .before .e2 .given .1) (c .before .before .before .before .before .before .before .before .before .before .before .before .before .read-each .kept .1 .0) _ _ _ _ (c .before .before .before .before .before .before .read-statement .ensures) (c .before .before .head .ensures)
 
 read-guarded-add-read-test : (t : ℕ) → read-guarded-lts.Need-add-read-test (
   read-test-reads.Asked,
@@ -1149,10 +1059,8 @@ pub +read-block+read-foreach+read-guarded+read-statement+read-statements-spec :
     (read-block-same-length t)
     (read-block-returns-2 t))
     (λ t. read-foreach-lts.spec (
-      read-members-reads.Asked,
-      read-members-reads.Learnt,
-      begins-statement-reads.Asked,
-      begins-statement-reads.Learnt,
+      read-each-reads.Asked,
+      read-each-reads.Learnt,
       read-statement-below t,
       read-statement.Post,
       head-reads.Asked,
@@ -1160,25 +1068,20 @@ pub +read-block+read-foreach+read-guarded+read-statement+read-statements-spec :
     )
     (read-foreach-at t)
     read-foreach.Post
-    (read-foreach-add-read-members t)
-    (read-foreach-add-read-members-2 t)
-    (read-foreach-read-members-requires t)
+    (read-foreach-add-read-each t)
+    (read-foreach-add-read-each-2 t)
+    (read-foreach-read-each-requires t)
     (read-foreach-enum-known-e t)
     (read-foreach-enum-known-e-2 t)
-    (read-foreach-begins-statement-requires t)
-    (read-foreach-same-length t)
-    (read-foreach-returns t)
-    (read-foreach-same-length-2 t)
-    (read-foreach-returns-2 t)
     (read-foreach-sub-read-statement t)
     (read-foreach-read-statement-requires t)
     (read-foreach-sub-head t)
     (read-foreach-sub-head-2 t)
     (read-foreach-head-requires t)
-    (read-foreach-same-length-3 t)
-    (read-foreach-returns-3 t)
-    (read-foreach-same-length-4 t)
-    (read-foreach-returns-4 t))
+    (read-foreach-same-length t)
+    (read-foreach-returns t)
+    (read-foreach-same-length-2 t)
+    (read-foreach-returns-2 t))
     (λ t. read-guarded-lts.spec (
       read-test-reads.Asked,
       read-test-reads.Learnt,
