@@ -9,8 +9,8 @@ use borrow.Author.Tests.{eqb-true}
 use Rattle.meaning.specs.Basics.{if_then_else_}
 use Rattle.meaning.specs.Token.{Token, aName, wordDef, wordIn, wordDo, openParen, openBrace}
 use Rattle.meaning.specs.Tree.{Expression, number, string, nothing, truth, name, table, entry, operation, call, paren, Statement, when, while}
-use Rattle.meaning.specs.Grammar.{textAt, startAt, expect, skip, Inside, ReadExpression, ReadStatement, Readers, declaration, returning, targetOf, assignment, simple, guarded, beginsStatement, iteration}
-use Rattle.meaning.specs.Grammar.{statementsFrom, statements, statementIn, statement, parametersFrom, parameters, procedure, proceduresFrom}
+use Rattle.meaning.specs.Grammar.{textAt, startAt, expect, skip, Inside, ReadExpression, ReadStatement, Readers, declaration, returning, targetOf, assignment, simple, guarded}
+use Rattle.meaning.specs.Grammar.{beginsStatement, iteration, statementsFrom, statements, statementIn, statement, parametersFrom, parameters, procedure, proceduresFrom}
 use Rattle.names.specs.Prepared.{prepared}
 use Rattle.machine.specs.Opcodes.{tagWhen, tagWhile}
 use Rattle.code.specs.Code.{slotOf, codeOf, codeOfStatement, codeOfStatements, joined, headed}

@@ -16,7 +16,8 @@ use Rattle.expressions.specs.Words.{placeAt, homeAt, is, Piece, ReadPiece, expe
 use Rattle.expressions.specs.Words as Expressions
 use Rattle.expressions.proofs.Tokens.{chosen, token-inside}
 use Rattle.expressions.proofs.Paid.{Paid, expression-paid}
-use Rattle.statements.specs.Words.{ReadCode, Readers, declaration, returning, withoutLast, assignment, simple, guarded, beginsStatement, iteration, statementsFrom, statements, statementIn, statement, nameAt}
+use Rattle.statements.specs.Words.{ReadCode, Readers, declaration, returning, withoutLast, assignment, simple, guarded, beginsStatement, iteration}
+use Rattle.statements.specs.Words.{statementsFrom, statements, statementIn, statement, nameAt}
 use Rattle.statements.specs.Words.{Head, skip, parametersFrom, parameters, body, procedure}
 use Rattle.statements.specs.Steps.{insideOf, ended, test, members, each}
 

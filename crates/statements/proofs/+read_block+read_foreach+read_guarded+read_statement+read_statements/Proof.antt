@@ -6,7 +6,8 @@ use lib.ListN.{length}
 use native.Mathlib.Omega.{arith}
 use borrow.Author.Needs.{needs}
 use Rattle.statements.proofs.Paid.{statement-paid}
-use Rattle.statements.proofs.Moves.{space-inside, parts-code, tested-opens, tested, guarded-wrong, guarded-reads, block-none, block-parts, block-reads, states-declaration, states-when, states-while, states-return, states-foreach, states-simple}
+use Rattle.statements.proofs.Moves.{space-inside, parts-code, tested-opens, tested, guarded-wrong, guarded-reads, block-none, block-parts, block-reads}
+use Rattle.statements.proofs.Moves.{states-declaration, states-when, states-while, states-return, states-foreach, states-simple}
 use Rattle.statements.proofs.Iterating.{iteration-wrong, iteration-opens, iterated, iteration-reads}
 use Rattle.statements.proofs.Going.{Going, going-starts, going-fails, turned, going-on, going-ends}
 use borrow.Fn.Kinds.{In}
@@ -190,7 +191,11 @@ read-block-returns-2 : (t : ℕ) → read-block-lts.Need-returns-2 (
   head-reads.Asked,
   head-reads.Learnt,
 ) (read-block-at t) read-block.Post
-read-block-returns-2 t c = block-reads _ _ _ _ _ (c .before .before .before .before .before .before .before .before .before .before .before .pre .1 .1) _ _ _ _ (c .before .before .before .before .before .before .before .before .before .before .before .pre .1 .0) (c .before .before .before .before .before .before .before .before .if1 .left) (c .before .before .before .before .before .before .read-statements .ensures) (c .before .before .head .ensures)
+read-block-returns-2 t c =
+    block-reads _ _ _ _ _ (c .before .before .before .before .before .before .before .before .before .before .before .pre .1 .1) _ _ _ _
+    (c .before .before .before .before .before .before .before .before .before .before .before .pre .1 .0)
+    (c .before .before .before .before .before .before .before .before .if1 .left) (c .before .before .before .before .before .before .read-statements .ensures)
+    (c .before .before .head .ensures)
 
 read-foreach-add-read-each : (t : ℕ) → read-foreach-lts.Need-add-read-each (
   read-each-reads.Asked,
@@ -258,7 +263,8 @@ read-foreach-sub-read-statement : (t : ℕ) → read-foreach-lts.Need-sub-read-s
 ) (read-foreach-at t) read-foreach.Post
 read-foreach-sub-read-statement t c =
     let o = c .before .before .before .before .before .before .before .before .before .before .pre .1 .0 in
-    omega (arith, iteration-opens _ _ _ _ _ _ o _ (c .before .before .before .before .before .before .read-each .ensures) _ _ _ (c .before .before .e2 .given .1) (c .before .before .before .before .before .before .read-each .kept .1 .0))
+    omega
+    (arith, iteration-opens _ _ _ _ _ _ o _ (c .before .before .before .before .before .before .read-each .ensures) _ _ _ (c .before .before .e2 .given .1) (c .before .before .before .before .before .before .read-each .kept .1 .0))
 
 read-foreach-read-statement-requires : (t : ℕ) → read-foreach-lts.Need-read-statement-requires (
   read-each-reads.Asked,
@@ -270,7 +276,8 @@ read-foreach-read-statement-requires : (t : ℕ) → read-foreach-lts.Need-read-
 ) (read-foreach-at t) read-foreach.Post
 read-foreach-read-statement-requires t c κs =
     let o = c .before .before .before .before .before .before .before .before .before .before .pre .1 .0 in
-    let p = iterated _ _ _ _ _ _ o _ (c .before .before .before .before .before .before .read-each .ensures) _ _ _ (c .before .before .e2 .given .1) (c .before .before .before .before .before .before .read-each .kept .1 .0) in
+    let p = iterated _ _ _ _ _ _ o _ (c .before .before .before .before .before .before .read-each .ensures) _ _ _ (c .before .before .e2 .given .1)
+    (c .before .before .before .before .before .before .read-each .kept .1 .0) in
     (omega (arith, p .ahead, p .within, c .before .before .before .before .before .before .before .before .before .before .pre .0), p .space)
 
 read-foreach-sub-head : (t : ℕ) → read-foreach-lts.Need-sub-head (
@@ -283,7 +290,8 @@ read-foreach-sub-head : (t : ℕ) → read-foreach-lts.Need-sub-head (
 ) (read-foreach-at t) read-foreach.Post
 read-foreach-sub-head t c =
     let o = c .before .before .before .before .before .before .before .before .before .before .before .before .before .before .pre .1 .0 in
-    let p = iterated _ _ _ _ _ _ o _ (c .before .before .before .before .before .before .before .before .before .before .read-each .ensures) _ _ _ (c .before .before .before .before .before .before .e2 .given .1) (c .before .before .before .before .before .before .before .before .before .before .read-each .kept .1 .0) in
+    let p = iterated _ _ _ _ _ _ o _ (c .before .before .before .before .before .before .before .before .before .before .read-each .ensures) _ _ _
+    (c .before .before .before .before .before .before .e2 .given .1) (c .before .before .before .before .before .before .before .before .before .before .read-each .kept .1 .0) in
     omega (arith, p .some)
 
 read-foreach-sub-head-2 : (t : ℕ) → read-foreach-lts.Need-sub-head-2 (
@@ -296,7 +304,8 @@ read-foreach-sub-head-2 : (t : ℕ) → read-foreach-lts.Need-sub-head-2 (
 ) (read-foreach-at t) read-foreach.Post
 read-foreach-sub-head-2 t c =
     let o = c .before .before .before .before .before .before .before .before .before .before .before .before .before .before .pre .1 .0 in
-    let p = iterated _ _ _ _ _ _ o _ (c .before .before .before .before .before .before .before .before .before .before .read-each .ensures) _ _ _ (c .before .before .before .before .before .before .e2 .given .1) (c .before .before .before .before .before .before .before .before .before .before .read-each .kept .1 .0) in
+    let p = iterated _ _ _ _ _ _ o _ (c .before .before .before .before .before .before .before .before .before .before .read-each .ensures) _ _ _
+    (c .before .before .before .before .before .before .e2 .given .1) (c .before .before .before .before .before .before .before .before .before .before .read-each .kept .1 .0) in
     omega (arith, p .some)
 
 read-foreach-head-requires : (t : ℕ) → read-foreach-lts.Need-head-requires (
@@ -309,8 +318,10 @@ read-foreach-head-requires : (t : ℕ) → read-foreach-lts.Need-head-requires (
 ) (read-foreach-at t) read-foreach.Post
 read-foreach-head-requires t c κs =
     let o = c .before .before .before .before .before .before .before .before .before .before .before .before .before .before .pre .1 .0 in
-    let p = iterated _ _ _ _ _ _ o _ (c .before .before .before .before .before .before .before .before .before .before .read-each .ensures) _ _ _ (c .before .before .before .before .before .before .e2 .given .1) (c .before .before .before .before .before .before .before .before .before .before .read-each .kept .1 .0) in
-    parts-code _ _ _ _ _ _ _ _ _ _ (c .before .before .before .read-statement .ensures) (statement-paid _ _ _) (omega (arith, p .some)) (omega (arith, p .space .behind)) (o .few) (omega arith) (p .small)
+    let p = iterated _ _ _ _ _ _ o _ (c .before .before .before .before .before .before .before .before .before .before .read-each .ensures) _ _ _
+    (c .before .before .before .before .before .before .e2 .given .1) (c .before .before .before .before .before .before .before .before .before .before .read-each .kept .1 .0) in
+    parts-code _ _ _ _ _ _ _ _ _ _ (c .before .before .before .read-statement .ensures) (statement-paid _ _ _) (omega (arith, p .some)) (omega (arith, p .space .behind)) (o .few)
+    (omega arith) (p .small)
 
 read-foreach-same-length : (t : ℕ) → read-foreach-lts.Need-same-length (
   read-each-reads.Asked,
@@ -330,7 +341,9 @@ read-foreach-returns : (t : ℕ) → read-foreach-lts.Need-returns (
   head-reads.Asked,
   head-reads.Learnt,
 ) (read-foreach-at t) read-foreach.Post
-read-foreach-returns t c = iteration-wrong _ _ _ _ _ _ (c .before .before .before .before .before .before .before .before .before .pre .1 .0) _ (c .before .before .before .before .before .read-each .ensures) _ _ (c .before .e .given .1)
+read-foreach-returns t c =
+    iteration-wrong _ _ _ _ _ _ (c .before .before .before .before .before .before .before .before .before .pre .1 .0) _
+    (c .before .before .before .before .before .read-each .ensures) _ _ (c .before .e .given .1)
 
 read-foreach-same-length-2 : (t : ℕ) → read-foreach-lts.Need-same-length-2 (
   read-each-reads.Asked,
@@ -350,7 +363,13 @@ read-foreach-returns-2 : (t : ℕ) → read-foreach-lts.Need-returns-2 (
   head-reads.Asked,
   head-reads.Learnt,
 ) (read-foreach-at t) read-foreach.Post
-read-foreach-returns-2 t c = iteration-reads _ _ _ _ _ _ (c .before .before .before .before .before .before .before .before .before .before .before .before .before .before .before .before .before .pre .1 .0) _ (c .before .before .before .before .before .before .before .before .before .before .before .before .before .read-each .ensures) _ _ _ (c .before .before .before .before .before .before .before .before .before .e2 .given .1) (c .before .before .before .before .before .before .before .before .before .before .before .before .before .read-each .kept .1 .0) _ _ _ _ (c .before .before .before .before .before .before .read-statement .ensures) (c .before .before .head .ensures)
+read-foreach-returns-2 t c =
+    iteration-reads _ _ _ _ _ _
+    (c .before .before .before .before .before .before .before .before .before .before .before .before .before .before .before .before .before .pre .1 .0) _
+    (c .before .before .before .before .before .before .before .before .before .before .before .before .before .read-each .ensures) _ _ _
+    (c .before .before .before .before .before .before .before .before .before .e2 .given .1)
+    (c .before .before .before .before .before .before .before .before .before .before .before .before .before .read-each .kept .1 .0) _ _ _ _
+    (c .before .before .before .before .before .before .read-statement .ensures) (c .before .before .head .ensures)
 
 read-guarded-add-read-test : (t : ℕ) → read-guarded-lts.Need-add-read-test (
   read-test-reads.Asked,
@@ -418,7 +437,8 @@ read-guarded-sub-read-statement : (t : ℕ) → read-guarded-lts.Need-sub-read-s
 ) (read-guarded-at t) read-guarded.Post
 read-guarded-sub-read-statement t c =
     let o = c .before .before .before .before .before .before .before .before .before .before .pre .1 .0 in
-    omega (arith, tested-opens _ _ _ _ _ _ o _ (c .before .before .before .before .before .before .read-test .ensures) _ _ _ (c .before .before .e2 .given .1) (c .before .before .before .before .before .before .read-test .kept .1 .0))
+    omega
+    (arith, tested-opens _ _ _ _ _ _ o _ (c .before .before .before .before .before .before .read-test .ensures) _ _ _ (c .before .before .e2 .given .1) (c .before .before .before .before .before .before .read-test .kept .1 .0))
 
 read-guarded-read-statement-requires : (t : ℕ) → read-guarded-lts.Need-read-statement-requires (
   read-test-reads.Asked,
@@ -430,7 +450,8 @@ read-guarded-read-statement-requires : (t : ℕ) → read-guarded-lts.Need-read-
 ) (read-guarded-at t) read-guarded.Post
 read-guarded-read-statement-requires t c κs =
     let o = c .before .before .before .before .before .before .before .before .before .before .pre .1 .0 in
-    let p = tested _ _ _ _ _ _ o _ (c .before .before .before .before .before .before .read-test .ensures) _ _ _ (c .before .before .e2 .given .1) (c .before .before .before .before .before .before .read-test .kept .1 .0) in
+    let p = tested _ _ _ _ _ _ o _ (c .before .before .before .before .before .before .read-test .ensures) _ _ _ (c .before .before .e2 .given .1)
+    (c .before .before .before .before .before .before .read-test .kept .1 .0) in
     (omega (arith, p .ahead, p .within, c .before .before .before .before .before .before .before .before .before .before .pre .0), p .space)
 
 read-guarded-sub-head : (t : ℕ) → read-guarded-lts.Need-sub-head (
@@ -443,7 +464,8 @@ read-guarded-sub-head : (t : ℕ) → read-guarded-lts.Need-sub-head (
 ) (read-guarded-at t) read-guarded.Post
 read-guarded-sub-head t c =
     let o = c .before .before .before .before .before .before .before .before .before .before .before .before .before .before .pre .1 .0 in
-    let p = tested _ _ _ _ _ _ o _ (c .before .before .before .before .before .before .before .before .before .before .read-test .ensures) _ _ _ (c .before .before .before .before .before .before .e2 .given .1) (c .before .before .before .before .before .before .before .before .before .before .read-test .kept .1 .0) in
+    let p = tested _ _ _ _ _ _ o _ (c .before .before .before .before .before .before .before .before .before .before .read-test .ensures) _ _ _
+    (c .before .before .before .before .before .before .e2 .given .1) (c .before .before .before .before .before .before .before .before .before .before .read-test .kept .1 .0) in
     omega (arith, p .some)
 
 read-guarded-sub-head-2 : (t : ℕ) → read-guarded-lts.Need-sub-head-2 (
@@ -456,7 +478,8 @@ read-guarded-sub-head-2 : (t : ℕ) → read-guarded-lts.Need-sub-head-2 (
 ) (read-guarded-at t) read-guarded.Post
 read-guarded-sub-head-2 t c =
     let o = c .before .before .before .before .before .before .before .before .before .before .before .before .before .before .pre .1 .0 in
-    let p = tested _ _ _ _ _ _ o _ (c .before .before .before .before .before .before .before .before .before .before .read-test .ensures) _ _ _ (c .before .before .before .before .before .before .e2 .given .1) (c .before .before .before .before .before .before .before .before .before .before .read-test .kept .1 .0) in
+    let p = tested _ _ _ _ _ _ o _ (c .before .before .before .before .before .before .before .before .before .before .read-test .ensures) _ _ _
+    (c .before .before .before .before .before .before .e2 .given .1) (c .before .before .before .before .before .before .before .before .before .before .read-test .kept .1 .0) in
     omega (arith, p .some)
 
 read-guarded-head-requires : (t : ℕ) → read-guarded-lts.Need-head-requires (
@@ -469,8 +492,10 @@ read-guarded-head-requires : (t : ℕ) → read-guarded-lts.Need-head-requires (
 ) (read-guarded-at t) read-guarded.Post
 read-guarded-head-requires t c κs =
     let o = c .before .before .before .before .before .before .before .before .before .before .before .before .before .before .pre .1 .0 in
-    let p = tested _ _ _ _ _ _ o _ (c .before .before .before .before .before .before .before .before .before .before .read-test .ensures) _ _ _ (c .before .before .before .before .before .before .e2 .given .1) (c .before .before .before .before .before .before .before .before .before .before .read-test .kept .1 .0) in
-    parts-code _ _ _ _ _ _ _ _ _ _ (c .before .before .before .read-statement .ensures) (statement-paid _ _ _) (omega (arith, p .some)) (omega (arith, p .space .behind)) (o .few) (c .before .before .before .before .before .before .before .before .before .before .before .before .before .before .pre .1 .1 .1) (p .small)
+    let p = tested _ _ _ _ _ _ o _ (c .before .before .before .before .before .before .before .before .before .before .read-test .ensures) _ _ _
+    (c .before .before .before .before .before .before .e2 .given .1) (c .before .before .before .before .before .before .before .before .before .before .read-test .kept .1 .0) in
+    parts-code _ _ _ _ _ _ _ _ _ _ (c .before .before .before .read-statement .ensures) (statement-paid _ _ _) (omega (arith, p .some)) (omega (arith, p .space .behind)) (o .few)
+    (c .before .before .before .before .before .before .before .before .before .before .before .before .before .before .pre .1 .1 .1) (p .small)
 
 read-guarded-same-length : (t : ℕ) → read-guarded-lts.Need-same-length (
   read-test-reads.Asked,
@@ -490,7 +515,9 @@ read-guarded-returns : (t : ℕ) → read-guarded-lts.Need-returns (
   head-reads.Asked,
   head-reads.Learnt,
 ) (read-guarded-at t) read-guarded.Post
-read-guarded-returns t c = guarded-wrong _ _ _ _ _ _ (c .before .before .before .before .before .before .before .before .before .pre .1 .0) _ (c .before .before .before .before .before .read-test .ensures) _ _ _ (c .before .e .given .1)
+read-guarded-returns t c =
+    guarded-wrong _ _ _ _ _ _ (c .before .before .before .before .before .before .before .before .before .pre .1 .0) _
+    (c .before .before .before .before .before .read-test .ensures) _ _ _ (c .before .e .given .1)
 
 read-guarded-same-length-2 : (t : ℕ) → read-guarded-lts.Need-same-length-2 (
   read-test-reads.Asked,
@@ -510,7 +537,12 @@ read-guarded-returns-2 : (t : ℕ) → read-guarded-lts.Need-returns-2 (
   head-reads.Asked,
   head-reads.Learnt,
 ) (read-guarded-at t) read-guarded.Post
-read-guarded-returns-2 t c = guarded-reads _ _ _ _ _ _ (c .before .before .before .before .before .before .before .before .before .before .before .before .before .before .before .before .before .pre .1 .0) _ (c .before .before .before .before .before .before .before .before .before .before .before .before .before .read-test .ensures) _ _ _ (c .before .before .before .before .before .before .before .before .before .e2 .given .1) (c .before .before .before .before .before .before .before .before .before .before .before .before .before .read-test .kept .1 .0) _ _ _ _ _ (c .before .before .before .before .before .before .read-statement .ensures) (c .before .before .head .ensures)
+read-guarded-returns-2 t c =
+    guarded-reads _ _ _ _ _ _ (c .before .before .before .before .before .before .before .before .before .before .before .before .before .before .before .before .before .pre .1 .0)
+    _ (c .before .before .before .before .before .before .before .before .before .before .before .before .before .read-test .ensures) _ _ _
+    (c .before .before .before .before .before .before .before .before .before .e2 .given .1)
+    (c .before .before .before .before .before .before .before .before .before .before .before .before .before .read-test .kept .1 .0) _ _ _ _ _
+    (c .before .before .before .before .before .before .read-statement .ensures) (c .before .before .head .ensures)
 
 read-statement-kind-at-requires : (t : ℕ) → read-statement-lts.Need-kind-at-requires (
   kind-at-reads.Asked,
@@ -652,7 +684,8 @@ read-statement-read-block-requires : (t : ℕ) → read-statement-lts.Need-read-
   read-simple-reads.Asked,
   read-simple-reads.Learnt,
 ) (read-statement-at t) read-statement.Post
-read-statement-read-block-requires t c κs = (omega (arith, c .before .before .before .before .before .pre .0), (c .before .before .before .before .before .pre .1, sym (c .before .before .kind-at .ensures) ∙ c .before .match .keys6))
+read-statement-read-block-requires t c κs =
+    (omega (arith, c .before .before .before .before .before .pre .0), (c .before .before .before .before .before .pre .1, sym (c .before .before .kind-at .ensures) ∙ c .before .match .keys6))
 
 read-statement-read-simple-requires : (t : ℕ) → read-statement-lts.Need-read-simple-requires (
   kind-at-reads.Asked,
@@ -706,7 +739,9 @@ read-statement-returns : (t : ℕ) → read-statement-lts.Need-returns (
   read-simple-reads.Asked,
   read-simple-reads.Learnt,
 ) (read-statement-at t) read-statement.Post
-read-statement-returns t c = states-declaration _ _ _ _ _ _ _ _ (c .before .before .before .before .before .kind-at .ensures) (c .before .before .before .before .match .keys1) (c .before .before .read-declaration .ensures)
+read-statement-returns t c =
+    states-declaration _ _ _ _ _ _ _ _ (c .before .before .before .before .before .kind-at .ensures) (c .before .before .before .before .match .keys1)
+    (c .before .before .read-declaration .ensures)
 
 read-statement-same-length-2 : (t : ℕ) → read-statement-lts.Need-same-length-2 (
   kind-at-reads.Asked,
@@ -742,7 +777,9 @@ read-statement-returns-2 : (t : ℕ) → read-statement-lts.Need-returns-2 (
   read-simple-reads.Asked,
   read-simple-reads.Learnt,
 ) (read-statement-at t) read-statement.Post
-read-statement-returns-2 t c = states-when _ _ _ _ _ _ _ _ (c .before .before .before .before .before .kind-at .ensures) (c .before .before .before .before .match .keys2) (c .before .before .read-guarded .ensures)
+read-statement-returns-2 t c =
+    states-when _ _ _ _ _ _ _ _ (c .before .before .before .before .before .kind-at .ensures) (c .before .before .before .before .match .keys2)
+    (c .before .before .read-guarded .ensures)
 
 read-statement-same-length-3 : (t : ℕ) → read-statement-lts.Need-same-length-3 (
   kind-at-reads.Asked,
@@ -778,7 +815,9 @@ read-statement-returns-3 : (t : ℕ) → read-statement-lts.Need-returns-3 (
   read-simple-reads.Asked,
   read-simple-reads.Learnt,
 ) (read-statement-at t) read-statement.Post
-read-statement-returns-3 t c = states-while _ _ _ _ _ _ _ _ (c .before .before .before .before .before .kind-at .ensures) (c .before .before .before .before .match .keys3) (c .before .before .read-guarded2 .ensures)
+read-statement-returns-3 t c =
+    states-while _ _ _ _ _ _ _ _ (c .before .before .before .before .before .kind-at .ensures) (c .before .before .before .before .match .keys3)
+    (c .before .before .read-guarded2 .ensures)
 
 read-statement-same-length-4 : (t : ℕ) → read-statement-lts.Need-same-length-4 (
   kind-at-reads.Asked,
@@ -814,7 +853,9 @@ read-statement-returns-4 : (t : ℕ) → read-statement-lts.Need-returns-4 (
   read-simple-reads.Asked,
   read-simple-reads.Learnt,
 ) (read-statement-at t) read-statement.Post
-read-statement-returns-4 t c = states-return _ _ _ _ _ _ _ _ (c .before .before .before .before .before .kind-at .ensures) (c .before .before .before .before .match .keys4) (c .before .before .read-return .ensures)
+read-statement-returns-4 t c =
+    states-return _ _ _ _ _ _ _ _ (c .before .before .before .before .before .kind-at .ensures) (c .before .before .before .before .match .keys4)
+    (c .before .before .read-return .ensures)
 
 read-statement-same-length-5 : (t : ℕ) → read-statement-lts.Need-same-length-5 (
   kind-at-reads.Asked,
@@ -850,7 +891,9 @@ read-statement-returns-5 : (t : ℕ) → read-statement-lts.Need-returns-5 (
   read-simple-reads.Asked,
   read-simple-reads.Learnt,
 ) (read-statement-at t) read-statement.Post
-read-statement-returns-5 t c = states-foreach _ _ _ _ _ _ _ _ (c .before .before .before .before .before .kind-at .ensures) (c .before .before .before .before .match .keys5) (c .before .before .read-foreach .ensures)
+read-statement-returns-5 t c =
+    states-foreach _ _ _ _ _ _ _ _ (c .before .before .before .before .before .kind-at .ensures) (c .before .before .before .before .match .keys5)
+    (c .before .before .read-foreach .ensures)
 
 read-statement-same-length-6 : (t : ℕ) → read-statement-lts.Need-same-length-6 (
   kind-at-reads.Asked,
@@ -924,7 +967,8 @@ read-statement-returns-7 : (t : ℕ) → read-statement-lts.Need-returns-7 (
 ) (read-statement-at t) read-statement.Post
 read-statement-returns-7 t c =
     let x = c .before .before .before .before .match .rest in
-    states-simple _ _ _ _ _ _ _ _ (c .before .before .before .before .before .kind-at .ensures) (x .0 .0 .0 .0 .0 .1) (x .0 .0 .0 .0 .1) (x .0 .0 .0 .1) (x .0 .0 .1) (x .0 .1) (x .1) (c .before .before .read-simple .ensures)
+    states-simple _ _ _ _ _ _ _ _ (c .before .before .before .before .before .kind-at .ensures) (x .0 .0 .0 .0 .0 .1) (x .0 .0 .0 .0 .1) (x .0 .0 .0 .1) (x .0 .0 .1) (x .0 .1)
+    (x .1) (c .before .before .read-simple .ensures)
 
 abbrev read-statements-Inv-loop : read-statements-lts.InvT-loop
 read-statements-Inv-loop tokens words₀ i n left at₀ m₀ words at m = Going left tokens i n words₀ at m words
@@ -971,7 +1015,9 @@ read-statements-returns : (t : ℕ) → read-statements-lts.Need-returns (
   kind-at-reads.Asked,
   kind-at-reads.Learnt,
 ) (read-statements-at t) read-statements.Post read-statements-Inv-loop read-statements-μ-loop
-read-statements-returns t c = going-fails _ _ _ _ _ _ _ _ (c .before .before .before .before .before .before .before .loop .inv) _ _ (c .before .before .before .before .before .read-statement .ensures) _ _ (c .before .s .given .1)
+read-statements-returns t c =
+    going-fails _ _ _ _ _ _ _ _ (c .before .before .before .before .before .before .before .loop .inv) _ _ (c .before .before .before .before .before .read-statement .ensures) _ _
+    (c .before .s .given .1)
 
 read-statements-enum-known-s-2 : (t : ℕ) → read-statements-lts.Need-enum-known-s-2 (
   read-statement-below t,
@@ -996,7 +1042,9 @@ read-statements-add-t17 : (t : ℕ) → read-statements-lts.Need-add-t17 (
   kind-at-reads.Learnt,
 ) (read-statements-at t) read-statements.Post read-statements-Inv-loop read-statements-μ-loop
 read-statements-add-t17 t c =
-    let x = turned _ _ _ _ _ _ _ _ (c .before .before .before .before .before .before .before .before .before .loop .inv) _ _ (c .before .before .before .before .before .before .before .read-statement .ensures) _ _ _ (c .before .before .before .s2 .given .1) (c .before .before .before .before .before .before .before .read-statement .kept .1 .0) in
+    let x = turned _ _ _ _ _ _ _ _ (c .before .before .before .before .before .before .before .before .before .loop .inv) _ _
+    (c .before .before .before .before .before .before .before .read-statement .ensures) _ _ _ (c .before .before .before .s2 .given .1)
+    (c .before .before .before .before .before .before .before .read-statement .kept .1 .0) in
     omega (arith, x .within, x .space .few)
 
 read-statements-same-length-2 : (t : ℕ) → read-statements-lts.Need-same-length-2 (
@@ -1005,7 +1053,9 @@ read-statements-same-length-2 : (t : ℕ) → read-statements-lts.Need-same-leng
   kind-at-reads.Asked,
   kind-at-reads.Learnt,
 ) (read-statements-at t) read-statements.Post read-statements-Inv-loop read-statements-μ-loop
-read-statements-same-length-2 t c = omega (arith, c .before .before .before .before .before .before .before .before .before .loop .inv .kept, c .before .before .before .before .before .before .before .read-statement .kept .1 .0)
+read-statements-same-length-2 t c =
+    omega
+    (arith, c .before .before .before .before .before .before .before .before .before .loop .inv .kept, c .before .before .before .before .before .before .before .read-statement .kept .1 .0)
 
 read-statements-returns-2 : (t : ℕ) → read-statements-lts.Need-returns-2 (
   read-statement-below t,
@@ -1013,7 +1063,10 @@ read-statements-returns-2 : (t : ℕ) → read-statements-lts.Need-returns-2 (
   kind-at-reads.Asked,
   kind-at-reads.Learnt,
 ) (read-statements-at t) read-statements.Post read-statements-Inv-loop read-statements-μ-loop
-read-statements-returns-2 t c = going-ends _ _ _ _ _ _ _ _ (c .before .before .before .before .before .before .before .before .before .loop .inv) _ _ (c .before .before .before .before .before .before .before .read-statement .ensures) _ _ _ (c .before .before .before .s2 .given .1) (c .before .before .before .before .before .before .before .read-statement .kept .1 .0) _ (c .before .kind-at .ensures) (c .if1 .taken)
+read-statements-returns-2 t c =
+    going-ends _ _ _ _ _ _ _ _ (c .before .before .before .before .before .before .before .before .before .loop .inv) _ _
+    (c .before .before .before .before .before .before .before .read-statement .ensures) _ _ _ (c .before .before .before .s2 .given .1)
+    (c .before .before .before .before .before .before .before .read-statement .kept .1 .0) _ (c .before .kind-at .ensures) (c .if1 .taken)
 
 read-statements-loop-less : (t : ℕ) → read-statements-lts.Need-loop-less (
   read-statement-below t,
@@ -1022,7 +1075,9 @@ read-statements-loop-less : (t : ℕ) → read-statements-lts.Need-loop-less (
   kind-at-reads.Learnt,
 ) (read-statements-at t) read-statements.Post read-statements-Inv-loop read-statements-μ-loop
 read-statements-loop-less t c =
-    let x = turned _ _ _ _ _ _ _ _ (c .before .before .before .before .before .before .before .before .before .loop .inv) _ _ (c .before .before .before .before .before .before .before .read-statement .ensures) _ _ _ (c .before .before .before .s2 .given .1) (c .before .before .before .before .before .before .before .read-statement .kept .1 .0) in
+    let x = turned _ _ _ _ _ _ _ _ (c .before .before .before .before .before .before .before .before .before .loop .inv) _ _
+    (c .before .before .before .before .before .before .before .read-statement .ensures) _ _ _ (c .before .before .before .s2 .given .1)
+    (c .before .before .before .before .before .before .before .read-statement .kept .1 .0) in
     omega (arith, x .ahead, x .within)
 
 read-statements-loop-again : (t : ℕ) → read-statements-lts.Need-loop-again (
@@ -1031,7 +1086,10 @@ read-statements-loop-again : (t : ℕ) → read-statements-lts.Need-loop-again (
   kind-at-reads.Asked,
   kind-at-reads.Learnt,
 ) (read-statements-at t) read-statements.Post read-statements-Inv-loop read-statements-μ-loop
-read-statements-loop-again t c = going-on _ _ _ _ _ _ _ _ (c .before .before .before .before .before .before .before .before .before .loop .inv) _ _ (c .before .before .before .before .before .before .before .read-statement .ensures) _ _ _ (c .before .before .before .s2 .given .1) (c .before .before .before .before .before .before .before .read-statement .kept .1 .0) _ (c .before .kind-at .ensures) (c .if1 .left)
+read-statements-loop-again t c =
+    going-on _ _ _ _ _ _ _ _ (c .before .before .before .before .before .before .before .before .before .loop .inv) _ _
+    (c .before .before .before .before .before .before .before .read-statement .ensures) _ _ _ (c .before .before .before .s2 .given .1)
+    (c .before .before .before .before .before .before .before .read-statement .kept .1 .0) _ (c .before .kind-at .ensures) (c .if1 .left)
 
 pub +read-block+read-foreach+read-guarded+read-statement+read-statements-spec :
     {M : Type 1} → statement M

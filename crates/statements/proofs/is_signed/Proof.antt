@@ -34,7 +34,9 @@ add-result : tie.Need-add-result
 add-result c = search needs
 
 returns-2 : tie.Need-returns-2
-returns-2 c = signed-by (now (c .before .before .before .before .before .args .tokens)) (c .before .before .before .before .before .args .i) (c .before .before .before .before .before .pre) _ (c .before .before .before .kind-at .ensures) _ _ (c .before .before .if1 .left) (c .before .place-at .ensures) (c .place-at2 .ensures)
+returns-2 c =
+    signed-by (now (c .before .before .before .before .before .args .tokens)) (c .before .before .before .before .before .args .i) (c .before .before .before .before .before .pre)
+    _ (c .before .before .before .kind-at .ensures) _ _ (c .before .before .if1 .left) (c .before .place-at .ensures) (c .place-at2 .ensures)
 
 pub is-signed-spec : {M : Type 1} → statement M
 is-signed-spec =

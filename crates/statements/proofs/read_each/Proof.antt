@@ -21,13 +21,17 @@ same-length : tie.Need-same-length
 same-length c = search needs
 
 returns : tie.Need-returns
-returns c = each-stops _ _ _ _ _ _ _ (c .before .before .before .before .before .before .before .read-members .ensures) _ _ _ (c .before .before .before .e2 .given .1) _ (c .before .begins-statement .ensures) (c .if1 .taken)
+returns c =
+    each-stops _ _ _ _ _ _ _ (c .before .before .before .before .before .before .before .read-members .ensures) _ _ _ (c .before .before .before .e2 .given .1) _
+    (c .before .begins-statement .ensures) (c .if1 .taken)
 
 same-length-2 : tie.Need-same-length-2
 same-length-2 c = search needs
 
 returns-2 : tie.Need-returns-2
-returns-2 c = each-none _ _ _ _ _ _ _ (c .before .before .before .before .before .before .before .before .read-members .ensures) _ _ _ (c .before .before .before .before .e2 .given .1) _ (c .before .before .begins-statement .ensures) (c .before .if1 .left) (c .if2 .taken)
+returns-2 c =
+    each-none _ _ _ _ _ _ _ (c .before .before .before .before .before .before .before .before .read-members .ensures) _ _ _ (c .before .before .before .before .e2 .given .1) _
+    (c .before .before .begins-statement .ensures) (c .before .if1 .left) (c .if2 .taken)
 
 same-length-3 : tie.Need-same-length-3
 same-length-3 c = search needs
@@ -39,7 +43,9 @@ same-length-4 : tie.Need-same-length-4
 same-length-4 c = search needs
 
 returns-4 : tie.Need-returns-4
-returns-4 c = each-reads _ _ _ _ _ _ _ (c .before .before .before .before .before .before .before .before .read-members .ensures) _ _ _ (c .before .before .before .before .e2 .given .1) _ (c .before .before .begins-statement .ensures) (c .before .if1 .left) (c .if2 .left)
+returns-4 c =
+    each-reads _ _ _ _ _ _ _ (c .before .before .before .before .before .before .before .before .read-members .ensures) _ _ _ (c .before .before .before .before .e2 .given .1) _
+    (c .before .before .begins-statement .ensures) (c .before .if1 .left) (c .if2 .left)
 
 pub read-each-spec : {M : Type 1} → statement M
 read-each-spec =

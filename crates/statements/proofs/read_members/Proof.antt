@@ -41,13 +41,15 @@ put-requires c κs = search needs
 add-read-expression : tie.Need-add-read-expression
 add-read-expression c =
     let o = c .before .before .before .before .before .before .before .before .before .before .before .before .pre in
-    let w = room-inside _ _ _ _ _ o (sym (c .before .before .before .before .before .before .before .before .before .kind-at .ensures)) (λ z. omega (arith, c .before .before .before .before .before .before .before .before .if1 .left)) in
+    let w = room-inside _ _ _ _ _ o (sym (c .before .before .before .before .before .before .before .before .before .kind-at .ensures))
+    (λ z. omega (arith, c .before .before .before .before .before .before .before .before .if1 .left)) in
     omega (arith, o .short)
 
 add-read-expression-2 : tie.Need-add-read-expression-2
 add-read-expression-2 c =
     let o = c .before .before .before .before .before .before .before .before .before .before .before .before .pre in
-    let w = room-inside _ _ _ _ _ o (sym (c .before .before .before .before .before .before .before .before .before .kind-at .ensures)) (λ z. omega (arith, c .before .before .before .before .before .before .before .before .if1 .left)) in
+    let w = room-inside _ _ _ _ _ o (sym (c .before .before .before .before .before .before .before .before .before .kind-at .ensures))
+    (λ z. omega (arith, c .before .before .before .before .before .before .before .before .if1 .left)) in
     omega (arith, o .short, o .behind)
 
 read-expression-requires : tie.Need-read-expression-requires
@@ -62,8 +64,14 @@ same-length c = search needs
 returns-3 : tie.Need-returns-3
 returns-3 c =
     let o = c .before .before .before .before .before .before .before .before .before .before .before .before .before .before .before .before .pre in
-    let w = room-inside _ _ _ _ _ o (sym (c .before .before .before .before .before .before .before .before .before .before .before .before .before .kind-at .ensures)) (λ z. omega (arith, c .before .before .before .before .before .before .before .before .before .before .before .before .if1 .left)) in
-    members-read _ _ _ _ _ _ (c .before .before .before .before .before .before .before .before .before .before .before .before .before .kind-at .ensures) (c .before .before .before .before .before .before .before .before .before .before .before .before .if1 .left) _ (c .before .before .before .before .before .before .before .before .before .before .before .kind-at2 .ensures) _ _ _ _ _ (c .before .before .before .before .before .before .before .before .before .before .if2 .left) (omega (arith, o .behind, o .wide)) (c .before .before .before .before .before .before .before .before .home-at .ensures) (c .before .before .before .before .before .before .before .put .ensures) (c .before .before .before .read-expression .ensures) (c .close .ensures)
+    let w = room-inside _ _ _ _ _ o (sym (c .before .before .before .before .before .before .before .before .before .before .before .before .before .kind-at .ensures))
+    (λ z. omega (arith, c .before .before .before .before .before .before .before .before .before .before .before .before .if1 .left)) in
+    members-read _ _ _ _ _ _ (c .before .before .before .before .before .before .before .before .before .before .before .before .before .kind-at .ensures)
+    (c .before .before .before .before .before .before .before .before .before .before .before .before .if1 .left) _
+    (c .before .before .before .before .before .before .before .before .before .before .before .kind-at2 .ensures) _ _ _ _ _
+    (c .before .before .before .before .before .before .before .before .before .before .if2 .left) (omega (arith, o .behind, o .wide))
+    (c .before .before .before .before .before .before .before .before .home-at .ensures) (c .before .before .before .before .before .before .before .put .ensures)
+    (c .before .before .before .read-expression .ensures) (c .close .ensures)
 
 pub read-members-spec : {M : Type 1} → statement M
 read-members-spec =
