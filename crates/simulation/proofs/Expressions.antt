@@ -416,7 +416,7 @@ module _ (e : Setting) {ts : List Token} (few : length ts ≤ 8192) (strings : S
               → Follows granted total₂ (Values (e .program) ts (e .grants) r₁) (invoked (invokeAt fuel e) e (getD (e .code) at 0) p (getD (r₁ .words) argumentsHeld 0) r₂) (calling limit fs f p us s₂)
           go true z =
               let own : procedureNumber f ≡ 11 = q ∙ eqb-true n 11 z in
-              rw (by-own (invokeAt fuel e) e (getD (e .code) at 0) p (getD (r₁ .words) argumentsHeld 0) (slotOf ts f) (rw ten at k))
+              rw (by-own (invokeAt fuel e) e (getD (e .code) at 0) p (getD (r₁ .words) argumentsHeld 0) (slotOf ts f) (rw own at k))
               (invokes fuel spare .follows f o own p h₁ c′ u′ fewer fits)
           go false z =
               let other : procedureNumber f ≢ 11 = λ y. eqb-false n 11 z (sym q ∙ y) in
