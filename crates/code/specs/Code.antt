@@ -1,7 +1,7 @@
 -- The code of a program: its tree as a list of words, which the evaluator runs.
 -- An expression's word stands behind its parts, so the last word of its code is its root. A statement's word stands before its parts, so the code of
--- a body's statements is theirs one after the other. Each word holds how many words its code has, but that foreach has a second one, its variable's slot.
--- Parentheses leave no word. A procedure's code is the slots of its parameters and its body's.
+-- a body's statements is theirs one after the other. Each word holds how many words its code has. Parentheses leave no word. Behind a foreach's
+-- word stands its variable's slot, as a word of its own. A procedure's code is the slots of its parameters and its body's.
 use Prim.Native.Nat.{ℕ, _+_, _*_}
 use mathlib.Core.Bool.{Bool, true, false}
 use mathlib.Core.List.{List, [], _∷_, _++_, map}

@@ -74,7 +74,7 @@ pub record Procedures (e : Setting) (ts : List Token) (m : Program) : Type 0 whe
   pub apart : (x : List ℕ) (l : Library) → libraryOf x ≡ some l → procedureNamed x (m .procedures) ≡ none
 
 -- a name that is neither main's nor in the library
-own-number : (l : Option Library) → numberOf l ≡ 10 → l ≡ none
+own-number : (l : Option Library) → numberOf l ≡ 11 → l ≡ none
 unfolding numberOf
 own-number none e = refl
 own-number (some Library.drawLine) e = absurd (omega arith)
@@ -87,12 +87,13 @@ own-number (some Library.xCoordinate) e = absurd (omega arith)
 own-number (some Library.yCoordinate) e = absurd (omega arith)
 own-number (some Library.destroyShape) e = absurd (omega arith)
 own-number (some Library.clearScene) e = absurd (omega arith)
+own-number (some Library.drawGroup) e = absurd (omega arith)
 
-own-name : (x : List ℕ) → procedureNumber x ≡ 10 → (sameText x (bytes "main") ≡ false) × (libraryOf x ≡ none)
+own-name : (x : List ℕ) → procedureNumber x ≡ 11 → (sameText x (bytes "main") ≡ false) × (libraryOf x ≡ none)
 unfolding procedureNumber libraryNumber
 own-name x e = go (sameText x (bytes "main")) e
   where
-    go : (b : Bool) → cond b 11 (libraryNumber x) ≡ 10 → (b ≡ false) × (libraryOf x ≡ none)
+    go : (b : Bool) → cond b 12 (libraryNumber x) ≡ 11 → (b ≡ false) × (libraryOf x ≡ none)
     go true q = absurd (omega arith)
     go false q = (refl, own-number (libraryOf x) q)
 
@@ -292,10 +293,10 @@ module _ (e : Setting) {ts : List Token} (sane : Sane ts) (strings : Strings (e 
   -- ---- all calls
   pub calls-follow : (n : ℕ) → Calls n
   unfolding calling found callLibrary if_then_else_ Run.fail
-  calls-follow zero w c room some-call balance fuel deep = record { follows = λ x o ten p h₁ args un fewer held. absurd (omega arith) }
+  calls-follow zero w c room some-call balance fuel deep = record { follows = λ x o own p h₁ args un fewer held. absurd (omega arith) }
   calls-follow (suc n) w c room some-call balance fuel deep = record {
-    follows = λ x o ten p h₁ args un fewer held.
-        by-name (calls-follow n) x o (own-name x ten) p h₁ args (un .procedure) (un .calls) (omega arith) held (procedureNamed x (m .procedures)) refl;
+    follows = λ x o own p h₁ args un fewer held.
+        by-name (calls-follow n) x o (own-name x own) p h₁ args (un .procedure) (un .calls) (omega arith) held (procedureNamed x (m .procedures)) refl;
   }
     where
       by-name : Calls n → (x : List ℕ) → Occurs ts aName x → (sameText x (bytes "main") ≡ false) × (libraryOf x ≡ none) → (p : ℕ)

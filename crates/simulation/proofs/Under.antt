@@ -41,7 +41,7 @@ stays a x = under-later (a .untouched) (a .later) x
 -- A call of a name that is neither main nor in the library, its arguments on the stack, follows what it means, where twice what the stack holds is at
 -- most `room`, and a turn more is left than steps.
 pub record Invokes (e : Setting) (ts : List Token) (granted : Amounts) (fs : List Procedure) (limit w c room fuel : ℕ) : Type 0 where
-  pub follows : (f : List ℕ) → Occurs ts aName f → procedureNumber f ≡ 10 → (p : ℕ) {r r′ : Raw} {s s′ : State} {total total′ : Amounts} {us : List Value.Value}
+  pub follows : (f : List ℕ) → Occurs ts aName f → procedureNumber f ≡ 11 → (p : ℕ) {r r′ : Raw} {s s′ : State} {total total′ : Amounts} {us : List Value.Value}
       → Related (e .program) ts (e .grants) r s total → AfterArguments (e .program) ts (e .grants) r us r′ s′ total′
       → Under (e .grants) w c limit r′ → suc (stepsLeft (e .grants) r′) < limit → 2 * getD (r′ .words) argumentsHeld 0 ≤ room
       → Follows granted total′ (Values (e .program) ts (e .grants) r) (invokeAt fuel e (slotOf ts f) p (getD (r .words) argumentsHeld 0) r′) (calling limit fs f p us s′)
