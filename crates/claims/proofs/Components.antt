@@ -1,6 +1,6 @@
 -- Components are always older than their group: what each action leaves of that.
 use Prim.Native.Nat.{ℕ, zero, suc, _+_, _≤_, _<_}
-use mathlib.Core.Path.{_≡_, refl, ap, sym, _∙_, subst}
+use mathlib.Core.Path.{_≡_, refl, ap, sym, subst}
 use mathlib.Core.Bool.{Bool, true, false}
 use mathlib.Core.List.{List, [], _∷_, _++_}
 use mathlib.Core.Option.{Option, some}
@@ -19,9 +19,10 @@ use Rattle.meaning.specs.Tree.{Expression, Arguments, noArgument, argument, Sta
 use Rattle.meaning.specs.Tree as Tree
 use Rattle.meaning.specs.Grammar.{procedureNamed, Reading, wellFormed, malformed, reading}
 use Rattle.meaning.specs.Value.{Value, integer, string, boolean, none, table, shape}
-use Rattle.meaning.specs.State.{State, Variable, Content, atom, group, Shape, Key, Entry, valueIn, isDeclared, assigned, withVariables, fresh, entered, resumed, noShape, contentOf, byContent, componentsIn}
+use Rattle.meaning.specs.State.{State, Variable, Content, atom, group, Shape, Key, Entry}
+use Rattle.meaning.specs.State.{valueIn, isDeclared, assigned, withVariables, fresh, entered, resumed, noShape, contentOf, byContent, componentsIn}
 use Rattle.meaning.specs.State.{withShapes, withShape, destroy, shapeIn, shapesHeld, shapesHeldBy, matches, entryIn, overwritten, withEntries, withNewTable}
-use Rattle.meaning.specs.Run.{Resource, steps, shapes, entries, textBytes, calls, Event, End, result, error, unfinished, Run, Action, goOn, _>>=_, give, fail, spend, giveBack, refuse, current, become}
+use Rattle.meaning.specs.Run.{Resource, steps, shapes, entries, textBytes, calls, Event, End, result, error, unfinished, Action, goOn, _>>=_, give, fail, spend, giveBack, refuse, current, become}
 use Rattle.meaning.specs.Group.{spendEach, newShape, each, destroying, remade, figuresOf, pairwise, alike}
 use Rattle.meaning.specs.Operator.{usable, withInteger, withString, withBoolean, withTable, withShapeNumber, withFigure, withGroup, newString, calculated, compared, remaindered, joined}
 use Rattle.meaning.specs.Operator.{Comparison, refused, settled, ofShapes, answered, equated, operateOn, operate}
@@ -32,7 +33,7 @@ use Rattle.meaning.specs.Execute.{Flow, onward, returned, continue, declaring, 
 use Rattle.meaning.specs.Procedure.{doubled, assigningAll, returnedBy, found, calling}
 use Rattle.meaning.specs.Procedure as Procedures
 use Rattle.meaning.specs.Program.{empty, entering, sheet, sized, namedApart, understood, painting}
-use Rattle.claims.specs.Claims.{Below, done, next, shapesStored, Older, ComponentsAreOlder, KeepsOlder}
+use Rattle.claims.specs.Claims.{Below, done, next, shapesStored, Older, ComponentsAreOlder}
 use Rattle.meaning.proofs.StateLaws.{length-destroy}
 
 -- ---- numbers below
@@ -801,11 +802,8 @@ unfolding entering shapesHeld shapesHeldBy shapesStored shapeIn componentsIn _>>
 entering-keeps [] width height = fail-keeps 20 0
 entering-keeps (x ∷ []) width height = fail-keeps 20 0
 entering-keeps (x ∷ y ∷ []) width height = refuse-then _ 60 0 (record {
-  kept = λ s o l. (record { components = λ i. done; held = done; waiting = done; stored = done }, l-zero, tt)
+  kept = λ s o l. (record { components = λ i. done; held = done; waiting = done; stored = done }, le-refl 0, tt);
 })
-  where
-    l-zero : 0 ≤ 0
-    l-zero = le-refl 0
 entering-keeps (x ∷ y ∷ z ∷ xs) width height = fail-keeps 20 0
 
 apart-then : {A : Type 0} {b : ℕ} {P : ℕ → A → Type 0} (o : Option ℕ) (tree : Tree.Program) (k : Tree.Program → Action A) → Keeps b P (k tree) →
@@ -838,9 +836,9 @@ pub components-are-older : ComponentsAreOlder
 components-are-older = (
   empty-older,
   (λ t fs m n s s′ f o e.
-  left-older 0 FlowFits (execute (calling m fs) t n s .end) f s′ (execute-keeps (calling m fs) (calling-keeps m fs) 0 t n .kept s o (no-fewer (made s))) e .0),
+      left-older 0 FlowFits (execute (calling m fs) t n s .end) f s′ (execute-keeps (calling m fs) (calling-keeps m fs) 0 t n .kept s o (no-fewer (made s))) e .0),
   (λ t fs m p s s′ v o e.
-  left-older 0 Fits (evaluate (calling m fs) t p s .end) v s′ (evaluate-keeps (calling m fs) (calling-keeps m fs) 0 t p .kept s o (no-fewer (made s))) e),
+      left-older 0 Fits (evaluate (calling m fs) t p s .end) v s′ (evaluate-keeps (calling m fs) (calling-keeps m fs) 0 t p .kept s o (no-fewer (made s))) e),
   (λ program width height n figures s e.
-  left-older 0 Anything (painting program width height n empty .end) figures s (painting-keeps program width height n .kept empty empty-older (no-fewer 0)) e .0)
+      left-older 0 Anything (painting program width height n empty .end) figures s (painting-keeps program width height n .kept empty empty-older (no-fewer 0)) e .0),
 )

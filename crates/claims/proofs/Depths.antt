@@ -1,20 +1,19 @@
 -- The depth that a walk through a group is given never runs out, since components are older.
 use Prim.Native.Nat.{ℕ, zero, suc, _≤_, _<_}
-use mathlib.Core.Path.{_≡_, refl, ap, sym, _∙_, subst}
+use mathlib.Core.Path.{_≡_, refl, ap, _∙_, subst}
 use mathlib.Core.Bool.{Bool, true, false}
-use mathlib.Core.List.{List, [], _∷_, _++_}
+use mathlib.Core.List.{List, [], _∷_}
 use native.Mathlib.Omega.{arith}
-use native.Mathlib.Nat.{le-refl, le-trans, le-of-suc-le-suc, not-suc-le-zero}
-use lib.ListN.{length}
+use native.Mathlib.Nat.{le-refl, le-trans, not-suc-le-zero}
 use Rattle.meaning.specs.Basics.{if_then_else_}
 use Rattle.meaning.specs.Figure.{Figure}
 use Rattle.meaning.specs.State.{State, Content, atom, group, contentOf, byContent, componentsIn, living, isDestroyed, withShapes, destroy}
-use Rattle.meaning.specs.Run.{steps, Event, End, result, error, unfinished, Run, Action, following, goOn, _>>=_, give, spend, current, become}
-use Rattle.meaning.specs.Group.{newShape, each, destroying, remade, figuresOf, pairwise, alike}
+use Rattle.meaning.specs.Run.{steps, Event, End, result, error, unfinished, Run, Action, following, goOn, _>>=_, give, spend, current}
+use Rattle.meaning.specs.Group.{each, destroying, remade, figuresOf, pairwise, alike}
 use Rattle.meaning.specs.Execute.{Flow, onward, returned, continue, turns, iterating}
 use Rattle.meaning.proofs.StateLaws.{length-destroy}
 use Rattle.claims.specs.Claims.{Below, done, next, Older, KeepsOlder, DepthsSuffice}
-use Rattle.claims.proofs.Components.{below-later, made, Left, Keeps, Anything, Number, Gathers, give-keeps, count-keeps, bind-keeps, current-keeps, become-keeps, if-keeps}
+use Rattle.claims.proofs.Components.{below-later, made, Left, Keeps, Anything, Number, Gathers, give-keeps, count-keeps, bind-keeps, become-keeps, if-keeps}
 use Rattle.claims.proofs.Components.{destroyed-older, numbers-gather, figures-gather, each-keeps, destroying-keeps, remade-keeps, figures-keep, alike-keeps, components-there, no-fewer}
 
 -- ---- the relation
@@ -235,11 +234,10 @@ module _ {body : ℕ → Action Flow} (safely : (i : ℕ) → Safe (body i)) whe
 -- THE CLAIM
 pub depths-suffice : DepthsSuffice
 depths-suffice s o b p i l =
-    let q = le-refl (suc i) in
-    (
+    let q = le-refl (suc i) in (
       destroying-agree 0 b (suc i) p i l q .same s o (no-fewer (made s)),
       (λ f. remade-agree 0 b (suc i) p f i l q .same s o (no-fewer (made s))),
       figures-agree 0 b (suc i) p i l q .same s o (no-fewer (made s)),
       (λ j. alike-agree 0 b (suc i) p i j l q .same s o (no-fewer (made s))),
-      (λ body h. iterating-agree (λ j. record { safe = h j }) b (suc i) i l q .same s o (no-fewer (made s)))
+      (λ body h. iterating-agree (λ j. record { safe = h j }) b (suc i) i l q .same s o (no-fewer (made s))),
     )
