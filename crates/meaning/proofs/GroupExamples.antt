@@ -2,10 +2,10 @@
 use Prim.Native.Nat.{ℕ}
 use Prim.Native.String.{String}
 use mathlib.Core.Path.{_≡_, refl}
-use mathlib.Core.Bool.{Bool, true, false}
+use mathlib.Core.Bool.{false}
 use mathlib.Core.List.{List, [], _∷_, _++_}
 use lib.ListN.{drop, replicate}
-use lib.IntN.{ℤ, pos}
+use lib.IntN.{pos}
 use Rattle.meaning.specs.Basics.{bytes}
 use Rattle.meaning.specs.Figure.{Figure, line, box}
 use Rattle.meaning.specs.State.{State}
@@ -34,6 +34,7 @@ answers =
     -- a group takes its shape and then its entries; a copy as much
     (granting 99 2 4, "w=drawGroup(drawLine(1,2,3,4));") gives Book.number 76 14 7 0
     ∷ (granting 99 1 4, "drawGroup(drawLine(1,2,3,4));") gives Book.number 76 14 7 0
+    ∷ (granting 99 1 0, "drawGroup(drawLine(1,2,3,4));") gives Book.number 76 14 7 0
     ∷ (granting 99 3 2, "w=drawGroup(drawLine(1,2,3,4));") gives pictured 177 8
     ∷ (granting 99 3 1, "w=drawGroup(drawLine(1,2,3,4));") gives Book.number 77 14 7 0
     ∷ (granting 99 3 0, "w=drawGroup(drawLine(1,2,3,4));") gives Book.number 77 14 7 0
