@@ -8,16 +8,18 @@ use lib.ListN.{drop, replicate}
 use lib.IntN.{pos}
 use Rattle.meaning.specs.Basics.{bytes}
 use Rattle.meaning.specs.Figure.{Figure, line, box}
-use Rattle.meaning.specs.State.{State}
+use Rattle.meaning.specs.Tree.{nothing, call, noArgument, foreach, act}
+use Rattle.meaning.specs.Value.{none, shape}
+use Rattle.meaning.specs.State.{State, withVariables}
 use Rattle.meaning.specs.Run.{steps, shapes, entries, Event, taking, gaveBack, End, result, error, unfinished, Run, run, give}
 use Rattle.meaning.specs.Group.{destroying, remade, figuresOf, alike}
-use Rattle.meaning.specs.Execute.{onward, iterating}
+use Rattle.meaning.specs.Execute.{onward, declaringOnce, iterating, execute}
 use Rattle.meaning.specs.Program.{drawing, empty, painting}
 use Rattle.meaning.specs.Book.{Answer, pictured}
 use Rattle.meaning.specs.Book as Book
 use Rattle.meaning.specs.Call.{Grants, answer}
 use Rattle.meaning.proofs.Computing.{everything}
-use Rattle.meaning.proofs.Rows.{Row, _gives_, Hold}
+use Rattle.meaning.proofs.Rows.{Row, _gives_, Hold, holding, standing}
 use Rattle.meaning.proofs.Readings.{main, called}
 
 -- ---- answers
@@ -230,6 +232,16 @@ reached =
 pub reached-hold : Hold (λ body. answer (called drawing ample (bytes "def main(w,h){" ++ bytes given ++ bytes body ++ bytes "}"))) reached
 unfolding everything
 reached-hold = refl
+
+-- ---- what no program shows
+-- a declared name is not declared again, and foreach asks whether the shape that its expression gave is destroyed before it asks for a group
+pub foreach-asks :
+    (declaringOnce (bytes "i") standing ≡ run [] (result tt standing))
+    × (declaringOnce (bytes "z") standing ≡ run [] (result tt (withVariables standing (standing .variables ++ (holding "z" none ∷ [])))))
+    × (execute (λ f p vs. give (shape 4)) (foreach 5 (bytes "z") (call (bytes "f") noArgument) (act 6 nothing)) 9 standing .end ≡ error 30 5)
+    × (execute (λ f p vs. give (shape 1)) (foreach 5 (bytes "z") (call (bytes "f") noArgument) (act 6 nothing)) 9 standing .end ≡ error 20 5)
+unfolding everything
+foreach-asks = (refl, refl, refl, refl)
 
 -- ---- where no depth is left, which never happens (claim `DepthsSuffice`)
 pub no-depth : (p i j : ℕ) (s : State) →
