@@ -14,4 +14,5 @@ pub mod Alike
 pub mod Told
 pub mod Sizes
 pub mod Components
+pub mod Depths
 pub mod Claimed

@@ -1,5 +1,5 @@
 -- Shapes made and destroyed, and what is done with all that a group holds (section 3.3 of the IMG specification). Components are older than their group, so
--- b, which falls at each group inside another, never runs out if it is above the shape's number.
+-- b, which falls at each group inside another, never runs out if it is above the shape's number (claims `ComponentsAreOlder`, `DepthsSuffice`).
 use Prim.Native.Nat.{ℕ, zero, suc}
 use mathlib.Core.Bool.{Bool, true, false}
 use mathlib.Core.List.{List, [], _∷_, _++_}
