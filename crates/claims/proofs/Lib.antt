@@ -13,4 +13,5 @@ pub mod Shortages
 pub mod Alike
 pub mod Told
 pub mod Sizes
+pub mod Components
 pub mod Claimed

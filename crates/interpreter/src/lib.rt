@@ -16,7 +16,7 @@ ghost use Rattle.machine.specs.Interpret.{expressionAt, statementAt, bodyAt, in
 ghost use Rattle.interpreter.specs.Asked.{Lent, Calls, Runs, Body};
 
 // What a call's word says of a name that is neither the library's nor main.
-const OTHER: u64 = 10;
+const OTHER: u64 = 11;
 
 // ---- expressions
 // An expression by its root x, in the statement at p. An answer that is handed on is made anew, here and in `simple`: a copy would be read in other

@@ -103,6 +103,8 @@ pub mod tags {
     pub const BLOCK: u64 = 38;
 
     pub const ACT: u64 = 39;
+
+    pub const FOREACH: u64 = 40;
 }
 
 // The lower half of the word of a number, and of a name: the tag and a size of 1.
