@@ -17,6 +17,9 @@ use Rattle.lexer.proofs.Decode.{Each, each-token}
 use Rattle.names.specs.Prepared.{home}
 use Rattle.code.specs.Code.{slotOf, partOf}
 use Rattle.canonical.specs.Text.{apart}
+use Rattle.roundtrip.proofs.Sound.{Named}
+use Rattle.roundtrip.proofs.Spelling.{tokens-spelt}
+use Rattle.roundtrip.proofs.LexesTree.{lastOf, last-spelled}
 use Rattle.reader.specs.Coded.{wordsOf}
 use Rattle.reader.specs.Sane.{Sane}
 use Rattle.reader.proofs.Homes.{Occurs, occurs-found, there}
@@ -99,6 +102,10 @@ module _ (program : List ℕ) (ts : List Token) (are : tokensOf program ≡ lexe
       let s = token-sound (o .index) (there ts (o .index) aName (omega arith) (o .kind)) .lead (o .kind) in
       let l : isNamePart (getD x 0 0) ≡ true = subst (λ (y : List ℕ). isNamePart (getD y 0 0) ≡ true) (o .text) s in
       rw l
+
+  -- and one behind it
+  pub name-last : (x : List ℕ) → Occurs ts aName x → isNamePart (lastOf x) ≡ true
+  name-last x o = last-spelled x (subst Named (o .text) (tokens-spelt program ts are (o .index) .asName (o .kind)) .spelled)
 
   module _ (sane : Sane ts) (c : List ℕ) where
     -- a name is spelled by its slot

@@ -1,6 +1,6 @@
 -- The text of a program's code: what the functions here write. `proofs/Faithful` shows that it is the program's text.
 use Prim.Native.Nat.{ℕ, zero, suc, _+_, _-_}
-use mathlib.Core.Bool.{Bool, _&&_, _||_, cond}
+use mathlib.Core.Bool.{Bool, not, _&&_, _||_, cond}
 use mathlib.Core.List.{List, [], _∷_, _++_, map}
 use lib.ListN.{length, getD, take, drop}
 use lib.Dec.{eqb, leb, ltb}
@@ -10,7 +10,7 @@ use Rattle.meaning.specs.Basics.{bytes, if_then_else_}
 use Rattle.meaning.specs.Token.{wordDef}
 use Rattle.meaning.specs.Picture.{decimal}
 use Rattle.canonical.specs.Text.{commaSeparated, enclosedIf, apart}
-use Rattle.machine.specs.Opcodes.{tagIn, sizeIn, numberIn, placeIn, extraIn, sizeAt, argumentRoot, calleeIn, tablePlace, startIn, parametersIn, bodyIn, tagNumber, tagString, tagNone, tagTruth, tagTable, tagEntry, tagCall, firstOperator, tagConcatenate, tagAdd, tagSubtract, tagMultiply, tagDivide, tagRemainder, tagShiftRight, tagShiftLeft, tagEqual, tagUnequal, tagGreater, tagDeclare, tagAssign, tagUpdate, tagWhen, tagWhile, tagReturn, tagBlock}
+use Rattle.machine.specs.Opcodes.{tagIn, sizeIn, numberIn, placeIn, extraIn, sizeAt, argumentRoot, calleeIn, tablePlace, startIn, parametersIn, bodyIn, tagNumber, tagString, tagNone, tagTruth, tagTable, tagEntry, tagCall, firstOperator, tagConcatenate, tagAdd, tagSubtract, tagMultiply, tagDivide, tagRemainder, tagShiftRight, tagShiftLeft, tagEqual, tagUnequal, tagGreater, tagDeclare, tagAssign, tagUpdate, tagWhen, tagWhile, tagForeach, tagReturn, tagBlock}
 use Rattle.expressions.specs.Words.{is, homeAt, placeAt}
 use Rattle.expressions.specs.Words as Words
 
@@ -121,6 +121,22 @@ updateText inner s y =
 unfoldable pub guardedText : Writer → Writer → List ℕ → ℕ → List ℕ
 guardedText inner body lead y = lead ++ inner y ++ bytes ")\n" ++ body (y + 1)
 
+-- Whether the text of an expression with root y ends with a letter or a digit: a leaf's does unless it is a string, a table's, a call's and one in
+-- parentheses do not. By the tag of a primary; of an operand, whose last primary is the second part of an entry; and of an expression likewise.
+unfoldable pub tagEnds : ℕ → Bool
+tagEnds tag = ltb tag tagTable && not (eqb tag tagString)
+
+unfoldable pub operandEnds : List ℕ → ℕ → Bool
+operandEnds code y = if eqb (tagIn (getD code y 0)) tagEntry then (λ _. tagEnds (tagIn (getD code (y - 1) 0))) else λ _. tagEnds (tagIn (getD code y 0))
+
+unfoldable pub endsWord : List ℕ → ℕ → Bool
+endsWord code y = if leb firstOperator (tagIn (getD code y 0)) then (λ _. operandEnds code (y - 1)) else λ _. operandEnds code y
+
+-- a foreach by its variable's slot, the root of its expression, and the statement behind it
+unfoldable pub foreachText : Writer → Writer → Source → ℕ → ℕ → List ℕ
+foreachText inner body s slot y =
+    bytes "foreach " ++ spelling s slot ++ bytes " in" ++ apart (inner y) ++ cond (endsWord (s .code) y) (bytes " do\n") (bytes "do\n") ++ body (y + 1)
+
 -- the statements from a up to end, each with its linefeed; there are fewer than there are words
 unfoldable pub rawStatements : ℕ → Writer → Source → ℕ → ℕ → List ℕ
 rawStatements zero body s a end = []
@@ -136,6 +152,7 @@ statementBy inner body s w x =
     else λ _. if eqb (tagIn w) tagUpdate then (λ _. updateText inner s y)
     else λ _. if eqb (tagIn w) tagWhen then (λ _. guardedText inner body (bytes "if(") (x + extraIn w))
     else λ _. if eqb (tagIn w) tagWhile then (λ _. guardedText inner body (bytes "while(") (x + extraIn w))
+    else λ _. if eqb (tagIn w) tagForeach then (λ _. foreachText inner body s (wordAt s (x + 1)) (x + extraIn w))
     else λ _. if eqb (tagIn w) tagReturn then (λ _. bytes "return" ++ apart (inner y) ++ bytes ";")
     else λ _. if eqb (tagIn w) tagBlock then (λ _. bytes "{\n" ++ rawStatements (suc (sizeIn w)) body s (x + 1) (x + sizeIn w) ++ bytes "}")
     else λ _. endingIn inner [] y
