@@ -25,7 +25,8 @@ use Rattle.reader.specs.Sane.{Sane}
 use Rattle.reader.proofs.Homes.{Occurs, occurs-found, there}
 use Rattle.reader.proofs.Known.{KnownNames}
 use Rattle.reader.proofs.Fields.{place-at, name-size-at, part-start, part-length}
-use Rattle.formatter.specs.Raw.{source, part, spelling}
+use Rattle.spellings.specs.Spelling.{part, nameText}
+use Rattle.formatter.specs.Raw.{source, spelling}
 
 -- ---- a name begins with a letter
 abbrev Lead : Front → Type 0
@@ -110,7 +111,7 @@ module _ (program : List ℕ) (ts : List Token) (are : tokensOf program ≡ lexe
   module _ (sane : Sane ts) (c : List ℕ) where
     -- a name is spelled by its slot
     pub spelled : (x : List ℕ) → Occurs ts aName x → spelling (source program (wordsOf ts) c) (slotOf ts x) ≡ x
-    unfolding spelling part
+    unfolding nameText part
     spelled x o =
         let f = occurs-found ts aName x (omega arith) o in
         let h = slotOf ts x in

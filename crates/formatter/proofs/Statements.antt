@@ -13,18 +13,18 @@ use Rattle.meaning.specs.Byte.{isNamePart}
 use Rattle.canonical.specs.Text.{apart}
 use Rattle.machine.specs.Opcodes.{tagIn, sizeIn, extraIn, tagEntry, tagDeclare, tagAssign, tagUpdate, tagWhen, tagWhile, tagReturn, tagBlock}
 use Rattle.writing.specs.Placed.{WroteAt}
+use Rattle.spellings.specs.Spelling.{nameText}
 use Rattle.formatter.specs.Raw.{source, spelling, pairText, rawExpression, endingIn, updateText, guardedText, rawStatements, statementBy, rawStatement}
 use Rattle.formatter.specs.Asked.{Room}
-use Rattle.formatter.proofs.Chains.{nothing, then-two, then-three, then-ending, Writing, begin, goes-on, ends}
-use Rattle.formatter.proofs.Expressions.{name-here}
+use Rattle.spellings.proofs.Chains.{nothing, then-two, then-three, then-ending, Writing, begin, goes-on, ends}
 
 -- ---- statements that hold no others
 module _ (program tokens code : List ℕ) (fuel : ℕ) {at r : ℕ} {d : List ℕ} where
-  pub assignment-written : (slot y : ℕ) {m : ℕ} {e f : List ℕ} → length d < 2 ^ 64 → WroteAt at (spelling (source program tokens []) slot) d e m
+  pub assignment-written : (slot y : ℕ) {m : ℕ} {e f : List ℕ} → length d < 2 ^ 64 → WroteAt at (nameText program tokens slot) d e m
       → WroteAt m (bytes "=" ++ rawExpression fuel (source program tokens code) y ++ bytes ";") e f r
       → WroteAt at (endingIn (rawExpression fuel (source program tokens code)) (spelling (source program tokens code) slot ++ bytes "=") y) d f r
   unfolding endingIn
-  assignment-written slot y h p q = then-ending _ _ _ h (name-here program tokens code slot p) q
+  assignment-written slot y h p q = then-ending _ _ _ h p q
 
   pub update-written : (y j b k a : ℕ) {m : ℕ} {e f : List ℕ} → length d < 2 ^ 64 → j ≡ getD code y 0 → b ≡ y - sizeIn j → k ≡ getD code b 0 → a ≡ b - sizeIn k
       → WroteAt at (pairText (rawExpression fuel (source program tokens code)) (source program tokens code) tagEntry a b) d e m
@@ -62,9 +62,9 @@ module _ (program tokens code : List ℕ) (fuel x : ℕ) where
   too-deep z h = rw z (nothing h)
 
   module _ (n : fuel ≡ 0 → ⊥) (w tag : ℕ) (i : w ≡ getD code x 0) (j : tag ≡ tagIn w) {at r : ℕ} {d e : List ℕ} where
-    pub is-declaration : (slot : ℕ) → slot ≡ extraIn w → tag ≡ tagDeclare → WroteAt at (bytes "var " ++ spelling (source program tokens []) slot ++ bytes ";") d e r
+    pub is-declaration : (slot : ℕ) → slot ≡ extraIn w → tag ≡ tagDeclare → WroteAt at (bytes "var " ++ nameText program tokens slot ++ bytes ";") d e r
         → WroteAt at (rawStatement fuel (source program tokens code) x) d e r
-    unfolding statementBy if_then_else_ spelling
+    unfolding statementBy if_then_else_
     is-declaration slot k t p = rw (begun n w i, ← j, t, ← k) p
 
     pub is-assignment : (slot y : ℕ) → y ≡ x + sizeIn w - 1 → slot ≡ extraIn w → tag ≡ tagAssign

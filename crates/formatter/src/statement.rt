@@ -1,16 +1,17 @@
 // Statements by their first words: `fuel` falls at each that is inside another.
 use crate::expression::begins_word;
 use crate::expression::write_between;
-use crate::expression::write_pair;
-use crate::leaf::write_name;
+use crate::expression::write_entry;
 use machine::tags;
+use spellings::write_name;
 use stores::words::word_at;
 use writing::write_bytes_at;
-ghost use mathlib.Core.List.{[], _++_};
+ghost use mathlib.Core.List.{_++_};
 ghost use Prim.Native.Nat.{suc, _+_};
 ghost use Rattle.meaning.specs.Basics.{bytes};
 ghost use Rattle.canonical.specs.Text.{apart};
 ghost use Rattle.writing.specs.Placed.{WroteAt};
+ghost use Rattle.spellings.specs.Spelling.{nameText};
 ghost use Rattle.formatter.specs.Raw.{source, spelling, endingIn, updateText, guardedText, rawExpression, rawStatement, rawStatements};
 ghost use Rattle.formatter.specs.Asked.{Room};
 
@@ -22,7 +23,7 @@ fn write_declaration(
     out: &mut [u8],
     at: usize,
 ) -> usize
-    ensures { λ r. ⌜ WroteAt at (bytes "var " ++ spelling (source (now (program .entry)) (now (tokens .entry)) []) slot ++ bytes ";")
+    ensures { λ r. ⌜ WroteAt at (bytes "var " ++ nameText (now (program .entry)) (now (tokens .entry)) slot ++ bytes ";")
         (now (out .entry)) (now (out .exit)) r ⌝ }
 {
     let name = write_bytes_at(out, at, b"var ");
@@ -63,7 +64,7 @@ fn write_update(
 {
     let b = code::before(word_at(code, y), y);
     let a = code::before(word_at(code, b), b);
-    let next = write_pair(program, tokens, code, fuel, tags::ENTRY, a, b, out, at);
+    let next = write_entry(program, tokens, code, fuel, a, b, out, at);
     write_between(program, tokens, code, fuel, b"=", y, b";", out, next)
 }
 

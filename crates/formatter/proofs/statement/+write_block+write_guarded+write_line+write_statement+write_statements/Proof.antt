@@ -2,7 +2,7 @@
 -- Assumes nothing.
 use native.Mathlib.Omega.{arith}
 use borrow.Author.Needs.{needs}
-use Rattle.formatter.proofs.Chains.{then-two}
+use Rattle.spellings.proofs.Chains.{then-two}
 use Rattle.formatter.proofs.Statements.{too-deep, some-fuel, is-declaration, is-assignment, is-update, is-when, is-while, is-return, is-block, is-act, guarded-written, block-written}
 use Rattle.formatter.proofs.Statements.{Following, all-first, room-before, all-short, all-done, all-again}
 use Prim.Native.Nat.{ℕ, _+_, _*_, _<_}
