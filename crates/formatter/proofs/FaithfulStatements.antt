@@ -17,7 +17,7 @@ use Rattle.reader.proofs.Homes.{Occurs}
 use Rattle.reader.proofs.Known.{Placed, Known, KnownStatement, KnownStatements}
 use Rattle.reader.proofs.Fields.{word-told, second-half, code-rooted, statement-headed, statement-some}
 use Rattle.reader.proofs.Walk.{Stands, Ends, stands-front, stands-back, stands-first, stands-rest, ends-word}
-use Rattle.formatter.specs.Raw.{Source, endingIn, updateText, guardedText, foreachText, rawExpression, statementBy, rawStatement, rawStatements}
+use Rattle.formatter.specs.Raw.{Source, endingIn, updateText, guardedText, iteratorText, foreachText, rawExpression, statementBy, rawStatement, rawStatements}
 use Rattle.formatter.proofs.FaithfulExpressions.{Spells, expression-says, entry-says}
 use Rattle.formatter.proofs.FaithfulEnds.{word-behind, word-ends}
 
@@ -175,7 +175,7 @@ module _ (s : Source) (ts : List Token) (spells : Spells s ts) (sane : Sane ts) 
       by-head fuel at _ (h .root) ∙ rw (h .tag-is, h .extra-is) (guarded-tells (bytes "while(") e b d t fuel at (omega arith) (h .behind) (omega arith))
 
   foreach-tells : (p : ℕ) (x : List ℕ) (e : Expression) (b : Statement) → Placed ts p → Occurs ts aName x → Known e ts → Tells b → Tells (foreach p x e b)
-  unfolding codeOfStatement statementText statementBy if_then_else_ foreachText
+  unfolding codeOfStatement statementText statementBy if_then_else_ iteratorText foreachText
   foreach-tells p x e b o n d t zero at f q k = absurd (omega arith)
   foreach-tells p x e b o n d t (suc fuel) at f q k =
       let c = codeOf e ts in

@@ -96,10 +96,12 @@ operandEnds code y = if eqb (tagIn (getD code y 0)) tagEntry then (λ _. tagEnds
 unfoldable pub endsWord : List ℕ → ℕ → Bool
 endsWord code y = if leb firstOperator (tagIn (getD code y 0)) then (λ _. operandEnds code (y - 1)) else λ _. operandEnds code y
 
--- a foreach by its variable's slot, the root of its expression, and the statement behind it
+-- a foreach by its variable's slot and the root of its expression, up to its body, and with it
+unfoldable pub iteratorText : Writer → Source → ℕ → ℕ → List ℕ
+iteratorText inner s slot y = bytes "foreach " ++ spelling s slot ++ bytes " in" ++ apart (inner y) ++ cond (endsWord (s .code) y) (bytes " do\n") (bytes "do\n")
+
 unfoldable pub foreachText : Writer → Writer → Source → ℕ → ℕ → List ℕ
-foreachText inner body s slot y =
-    bytes "foreach " ++ spelling s slot ++ bytes " in" ++ apart (inner y) ++ cond (endsWord (s .code) y) (bytes " do\n") (bytes "do\n") ++ body (y + 1)
+foreachText inner body s slot y = iteratorText inner s slot y ++ body (y + 1)
 
 -- the statements from a up to end, each with its linefeed; there are fewer than there are words
 unfoldable pub rawStatements : ℕ → Writer → Source → ℕ → ℕ → List ℕ

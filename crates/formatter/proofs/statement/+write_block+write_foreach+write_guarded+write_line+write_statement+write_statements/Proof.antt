@@ -1,48 +1,56 @@
 -- The functions on statements that hold others meet their contracts; in each the measure is the fuel, and then which calls which.
 -- Assumes nothing.
 use native.Mathlib.Omega.{arith}
+use mathlib.Core.Path.{refl}
 use borrow.Author.Needs.{needs}
 use Rattle.spellings.proofs.Chains.{then-two}
-use Rattle.formatter.proofs.Statements.{too-deep, some-fuel, is-declaration, is-assignment, is-update, is-when, is-while, is-return, is-block, is-act, guarded-written, block-written}
+use Rattle.formatter.proofs.Statements.{too-deep, some-fuel, is-declaration, is-assignment, is-update, is-when, is-while, is-foreach, is-return, is-block, is-act, guarded-written, foreach-written, block-written}
 use Rattle.formatter.proofs.Statements.{Following, all-first, room-before, all-short, all-done, all-again}
 use Prim.Native.Nat.{ℕ, _+_, _*_, _<_}
 use borrow.Fn.Kinds.{In}
 use borrow.Fn.PlainCycle.{Measures, is, falls, and}
 use Rattle.formatter.proofs.statement.write_block.Reads as write-block
 use Rattle.formatter.proofs.statement.write_block.Kinds as write-block-kinds
-use Rattle.formatter.proofs.statement.+write_block+write_guarded+write_line+write_statement+write_statements.Lts-write_block as write-block-lts
+use Rattle.formatter.proofs.statement.+write_block+write_foreach+write_guarded+write_line+write_statement+write_statements.Lts-write_block as write-block-lts
+use Rattle.formatter.proofs.statement.write_foreach.Reads as write-foreach
+use Rattle.formatter.proofs.statement.write_foreach.Kinds as write-foreach-kinds
+use Rattle.formatter.proofs.statement.+write_block+write_foreach+write_guarded+write_line+write_statement+write_statements.Lts-write_foreach as write-foreach-lts
 use Rattle.formatter.proofs.statement.write_guarded.Reads as write-guarded
 use Rattle.formatter.proofs.statement.write_guarded.Kinds as write-guarded-kinds
-use Rattle.formatter.proofs.statement.+write_block+write_guarded+write_line+write_statement+write_statements.Lts-write_guarded as write-guarded-lts
+use Rattle.formatter.proofs.statement.+write_block+write_foreach+write_guarded+write_line+write_statement+write_statements.Lts-write_guarded as write-guarded-lts
 use Rattle.formatter.proofs.statement.write_line.Reads as write-line
 use Rattle.formatter.proofs.statement.write_line.Kinds as write-line-kinds
-use Rattle.formatter.proofs.statement.+write_block+write_guarded+write_line+write_statement+write_statements.Lts-write_line as write-line-lts
+use Rattle.formatter.proofs.statement.+write_block+write_foreach+write_guarded+write_line+write_statement+write_statements.Lts-write_line as write-line-lts
 use Rattle.formatter.proofs.statement.write_statement.Reads as write-statement
 use Rattle.formatter.proofs.statement.write_statement.Kinds as write-statement-kinds
-use Rattle.formatter.proofs.statement.+write_block+write_guarded+write_line+write_statement+write_statements.Lts-write_statement as write-statement-lts
+use Rattle.formatter.proofs.statement.+write_block+write_foreach+write_guarded+write_line+write_statement+write_statements.Lts-write_statement as write-statement-lts
 use Rattle.formatter.proofs.statement.write_statements.Reads as write-statements
 use Rattle.formatter.proofs.statement.write_statements.Kinds as write-statements-kinds
-use Rattle.formatter.proofs.statement.+write_block+write_guarded+write_line+write_statement+write_statements.Lts-write_statements as write-statements-lts
+use Rattle.formatter.proofs.statement.+write_block+write_foreach+write_guarded+write_line+write_statement+write_statements.Lts-write_statements as write-statements-lts
 use Rattle.code.proofs.extra_of.Reads as extra-of-reads
 use Rattle.code.proofs.last_of.Reads as last-of-reads
 use Rattle.code.proofs.size_of.Reads as size-of-reads
 use Rattle.code.proofs.tag_of.Reads as tag-of-reads
 use Rattle.formatter.proofs.expression.write_between.Reads as write-between-reads
+use Rattle.formatter.proofs.statement.write_apart.Reads as write-apart-reads
 use Rattle.formatter.proofs.statement.write_assignment.Reads as write-assignment-reads
 use Rattle.formatter.proofs.statement.write_declaration.Reads as write-declaration-reads
-use Rattle.formatter.proofs.statement.write_return.Reads as write-return-reads
+use Rattle.formatter.proofs.statement.write_iterator.Reads as write-iterator-reads
 use Rattle.formatter.proofs.statement.write_update.Reads as write-update-reads
 use Rattle.stores.proofs.words.word_at.Reads as word-at-reads
 use Rattle.writing.proofs.write_bytes_at.Reads as write-bytes-at-reads
-use Rattle.formatter.proofs.statement.+write_block+write_guarded+write_line+write_statement+write_statements.{
+use Rattle.formatter.proofs.statement.+write_block+write_foreach+write_guarded+write_line+write_statement+write_statements.{
   statement,
 }
-use Rattle.formatter.proofs.statement.+write_block+write_guarded+write_line+write_statement+write_statements.Tie.{
+use Rattle.formatter.proofs.statement.+write_block+write_foreach+write_guarded+write_line+write_statement+write_statements.Tie.{
   close,
 }
 
 abbrev μ-write-block : Measures 4 write-block-kinds.ps ℕ
 μ-write-block κs a = 4 * (a .1 .1 .1 .0) + 3
+
+abbrev μ-write-foreach : Measures 4 write-foreach-kinds.ps ℕ
+μ-write-foreach κs a = 4 * (a .1 .1 .1 .0) + 1
 
 abbrev μ-write-guarded : Measures 5 write-guarded-kinds.ps ℕ
 μ-write-guarded κs a = 4 * (a .1 .1 .1 .0) + 1
@@ -63,6 +71,18 @@ write-block-at t =
 abbrev write-block-below : ℕ → In 4 write-block-kinds.ps
 write-block-below t =
     and 4 write-block-kinds.ps (falls 4 write-block-kinds.ps _<_ μ-write-block t) write-block.Pre
+
+abbrev write-foreach-at : ℕ → In 4 write-foreach-kinds.ps
+write-foreach-at t =
+    and 4 write-foreach-kinds.ps (is 4 write-foreach-kinds.ps μ-write-foreach t) write-foreach.Pre
+
+abbrev write-foreach-below : ℕ → In 4 write-foreach-kinds.ps
+write-foreach-below t =
+    and
+    4
+    write-foreach-kinds.ps
+    (falls 4 write-foreach-kinds.ps _<_ μ-write-foreach t)
+    write-foreach.Pre
 
 abbrev write-guarded-at : ℕ → In 5 write-guarded-kinds.ps
 write-guarded-at t =
@@ -203,6 +223,92 @@ write-block-returns t c =
     (c .before .before .before .before .before .before .before .write-statements .ensures)
     (c .before .before .write-bytes-at2 .ensures)
 
+write-foreach-add-y : (t : ℕ) → write-foreach-lts.Need-add-y (
+  word-at-reads.Asked,
+  word-at-reads.Learnt,
+  write-iterator-reads.Asked,
+  write-iterator-reads.Learnt,
+  write-statement-below t,
+  write-statement.Post,
+) (write-foreach-at t) write-foreach.Post
+write-foreach-add-y t c = search needs
+
+write-foreach-add-word-at : (t : ℕ) → write-foreach-lts.Need-add-word-at (
+  word-at-reads.Asked,
+  word-at-reads.Learnt,
+  write-iterator-reads.Asked,
+  write-iterator-reads.Learnt,
+  write-statement-below t,
+  write-statement.Post,
+) (write-foreach-at t) write-foreach.Post
+write-foreach-add-word-at t c = search needs
+
+write-foreach-word-at-requires : (t : ℕ) → write-foreach-lts.Need-word-at-requires (
+  word-at-reads.Asked,
+  word-at-reads.Learnt,
+  write-iterator-reads.Asked,
+  write-iterator-reads.Learnt,
+  write-statement-below t,
+  write-statement.Post,
+) (write-foreach-at t) write-foreach.Post
+write-foreach-word-at-requires t c κs = search needs
+
+write-foreach-write-iterator-requires : (t : ℕ) → write-foreach-lts.Need-write-iterator-requires (
+  word-at-reads.Asked,
+  word-at-reads.Learnt,
+  write-iterator-reads.Asked,
+  write-iterator-reads.Learnt,
+  write-statement-below t,
+  write-statement.Post,
+) (write-foreach-at t) write-foreach.Post
+write-foreach-write-iterator-requires t c κs = search needs
+
+write-foreach-add-write-statement : (t : ℕ) → write-foreach-lts.Need-add-write-statement (
+  word-at-reads.Asked,
+  word-at-reads.Learnt,
+  write-iterator-reads.Asked,
+  write-iterator-reads.Learnt,
+  write-statement-below t,
+  write-statement.Post,
+) (write-foreach-at t) write-foreach.Post
+write-foreach-add-write-statement t c = search needs
+
+write-foreach-write-statement-requires : (t : ℕ) → write-foreach-lts.Need-write-statement-requires (
+  word-at-reads.Asked,
+  word-at-reads.Learnt,
+  write-iterator-reads.Asked,
+  write-iterator-reads.Learnt,
+  write-statement-below t,
+  write-statement.Post,
+) (write-foreach-at t) write-foreach.Post
+write-foreach-write-statement-requires t c κs = search needs
+
+write-foreach-same-length : (t : ℕ) → write-foreach-lts.Need-same-length (
+  word-at-reads.Asked,
+  word-at-reads.Learnt,
+  write-iterator-reads.Asked,
+  write-iterator-reads.Learnt,
+  write-statement-below t,
+  write-statement.Post,
+) (write-foreach-at t) write-foreach.Post
+write-foreach-same-length t c = search needs
+
+write-foreach-returns : (t : ℕ) → write-foreach-lts.Need-returns (
+  word-at-reads.Asked,
+  word-at-reads.Learnt,
+  write-iterator-reads.Asked,
+  write-iterator-reads.Learnt,
+  write-statement-below t,
+  write-statement.Post,
+) (write-foreach-at t) write-foreach.Post
+write-foreach-returns t c =
+    foreach-written _ _ _ _ _ _ _ _
+    (omega (arith, c .before .before .before .before .before .before .before .before .before .before .before .before .before .good .1 .1 .1 .1 .1 .1 .0))
+    refl
+    (c .before .before .before .before .before .before .before .before .word-at .ensures)
+    (c .before .before .before .before .before .before .write-iterator .ensures)
+    (c .before .before .write-statement .ensures)
+
 write-guarded-slice-aggregate-write-between :
     (t : ℕ) → write-guarded-lts.Need-slice-aggregate-write-between (
       write-between-reads.Asked,
@@ -318,8 +424,10 @@ write-statement-returns : (t : ℕ) → write-statement-lts.Need-returns (
   write-update-reads.Learnt,
   write-guarded-below t,
   write-guarded.Post,
-  write-return-reads.Asked,
-  write-return-reads.Learnt,
+  write-foreach-below t,
+  write-foreach.Post,
+  write-apart-reads.Asked,
+  write-apart-reads.Learnt,
   size-of-reads.Asked,
   size-of-reads.Learnt,
   write-block-below t,
@@ -346,8 +454,10 @@ write-statement-word-at-requires : (t : ℕ) → write-statement-lts.Need-word-a
   write-update-reads.Learnt,
   write-guarded-below t,
   write-guarded.Post,
-  write-return-reads.Asked,
-  write-return-reads.Learnt,
+  write-foreach-below t,
+  write-foreach.Post,
+  write-apart-reads.Asked,
+  write-apart-reads.Learnt,
   size-of-reads.Asked,
   size-of-reads.Learnt,
   write-block-below t,
@@ -374,8 +484,10 @@ write-statement-last-of-requires : (t : ℕ) → write-statement-lts.Need-last-o
   write-update-reads.Learnt,
   write-guarded-below t,
   write-guarded.Post,
-  write-return-reads.Asked,
-  write-return-reads.Learnt,
+  write-foreach-below t,
+  write-foreach.Post,
+  write-apart-reads.Asked,
+  write-apart-reads.Learnt,
   size-of-reads.Asked,
   size-of-reads.Learnt,
   write-block-below t,
@@ -402,8 +514,10 @@ write-statement-extra-of-requires : (t : ℕ) → write-statement-lts.Need-extra
   write-update-reads.Learnt,
   write-guarded-below t,
   write-guarded.Post,
-  write-return-reads.Asked,
-  write-return-reads.Learnt,
+  write-foreach-below t,
+  write-foreach.Post,
+  write-apart-reads.Asked,
+  write-apart-reads.Learnt,
   size-of-reads.Asked,
   size-of-reads.Learnt,
   write-block-below t,
@@ -430,8 +544,10 @@ write-statement-tag-of-requires : (t : ℕ) → write-statement-lts.Need-tag-of-
   write-update-reads.Learnt,
   write-guarded-below t,
   write-guarded.Post,
-  write-return-reads.Asked,
-  write-return-reads.Learnt,
+  write-foreach-below t,
+  write-foreach.Post,
+  write-apart-reads.Asked,
+  write-apart-reads.Learnt,
   size-of-reads.Asked,
   size-of-reads.Learnt,
   write-block-below t,
@@ -459,8 +575,10 @@ write-statement-write-declaration-requires :
       write-update-reads.Learnt,
       write-guarded-below t,
       write-guarded.Post,
-      write-return-reads.Asked,
-      write-return-reads.Learnt,
+      write-foreach-below t,
+      write-foreach.Post,
+      write-apart-reads.Asked,
+      write-apart-reads.Learnt,
       size-of-reads.Asked,
       size-of-reads.Learnt,
       write-block-below t,
@@ -487,8 +605,10 @@ write-statement-sub-write-assignment : (t : ℕ) → write-statement-lts.Need-su
   write-update-reads.Learnt,
   write-guarded-below t,
   write-guarded.Post,
-  write-return-reads.Asked,
-  write-return-reads.Learnt,
+  write-foreach-below t,
+  write-foreach.Post,
+  write-apart-reads.Asked,
+  write-apart-reads.Learnt,
   size-of-reads.Asked,
   size-of-reads.Learnt,
   write-block-below t,
@@ -516,8 +636,10 @@ write-statement-write-assignment-requires :
       write-update-reads.Learnt,
       write-guarded-below t,
       write-guarded.Post,
-      write-return-reads.Asked,
-      write-return-reads.Learnt,
+      write-foreach-below t,
+      write-foreach.Post,
+      write-apart-reads.Asked,
+      write-apart-reads.Learnt,
       size-of-reads.Asked,
       size-of-reads.Learnt,
       write-block-below t,
@@ -544,8 +666,10 @@ write-statement-sub-write-update : (t : ℕ) → write-statement-lts.Need-sub-wr
   write-update-reads.Learnt,
   write-guarded-below t,
   write-guarded.Post,
-  write-return-reads.Asked,
-  write-return-reads.Learnt,
+  write-foreach-below t,
+  write-foreach.Post,
+  write-apart-reads.Asked,
+  write-apart-reads.Learnt,
   size-of-reads.Asked,
   size-of-reads.Learnt,
   write-block-below t,
@@ -572,8 +696,10 @@ write-statement-write-update-requires : (t : ℕ) → write-statement-lts.Need-w
   write-update-reads.Learnt,
   write-guarded-below t,
   write-guarded.Post,
-  write-return-reads.Asked,
-  write-return-reads.Learnt,
+  write-foreach-below t,
+  write-foreach.Post,
+  write-apart-reads.Asked,
+  write-apart-reads.Learnt,
   size-of-reads.Asked,
   size-of-reads.Learnt,
   write-block-below t,
@@ -600,8 +726,10 @@ write-statement-sub-write-guarded : (t : ℕ) → write-statement-lts.Need-sub-w
   write-update-reads.Learnt,
   write-guarded-below t,
   write-guarded.Post,
-  write-return-reads.Asked,
-  write-return-reads.Learnt,
+  write-foreach-below t,
+  write-foreach.Post,
+  write-apart-reads.Asked,
+  write-apart-reads.Learnt,
   size-of-reads.Asked,
   size-of-reads.Learnt,
   write-block-below t,
@@ -629,8 +757,10 @@ write-statement-slice-aggregate-write-guarded :
       write-update-reads.Learnt,
       write-guarded-below t,
       write-guarded.Post,
-      write-return-reads.Asked,
-      write-return-reads.Learnt,
+      write-foreach-below t,
+      write-foreach.Post,
+      write-apart-reads.Asked,
+      write-apart-reads.Learnt,
       size-of-reads.Asked,
       size-of-reads.Learnt,
       write-block-below t,
@@ -657,8 +787,10 @@ write-statement-add-write-guarded : (t : ℕ) → write-statement-lts.Need-add-w
   write-update-reads.Learnt,
   write-guarded-below t,
   write-guarded.Post,
-  write-return-reads.Asked,
-  write-return-reads.Learnt,
+  write-foreach-below t,
+  write-foreach.Post,
+  write-apart-reads.Asked,
+  write-apart-reads.Learnt,
   size-of-reads.Asked,
   size-of-reads.Learnt,
   write-block-below t,
@@ -690,8 +822,10 @@ write-statement-write-guarded-requires : (t : ℕ) → write-statement-lts.Need-
   write-update-reads.Learnt,
   write-guarded-below t,
   write-guarded.Post,
-  write-return-reads.Asked,
-  write-return-reads.Learnt,
+  write-foreach-below t,
+  write-foreach.Post,
+  write-apart-reads.Asked,
+  write-apart-reads.Learnt,
   size-of-reads.Asked,
   size-of-reads.Learnt,
   write-block-below t,
@@ -721,8 +855,10 @@ write-statement-sub-write-guarded-2 : (t : ℕ) → write-statement-lts.Need-sub
   write-update-reads.Learnt,
   write-guarded-below t,
   write-guarded.Post,
-  write-return-reads.Asked,
-  write-return-reads.Learnt,
+  write-foreach-below t,
+  write-foreach.Post,
+  write-apart-reads.Asked,
+  write-apart-reads.Learnt,
   size-of-reads.Asked,
   size-of-reads.Learnt,
   write-block-below t,
@@ -750,8 +886,10 @@ write-statement-slice-aggregate-write-guarded-2 :
       write-update-reads.Learnt,
       write-guarded-below t,
       write-guarded.Post,
-      write-return-reads.Asked,
-      write-return-reads.Learnt,
+      write-foreach-below t,
+      write-foreach.Post,
+      write-apart-reads.Asked,
+      write-apart-reads.Learnt,
       size-of-reads.Asked,
       size-of-reads.Learnt,
       write-block-below t,
@@ -778,8 +916,10 @@ write-statement-add-write-guarded-2 : (t : ℕ) → write-statement-lts.Need-add
   write-update-reads.Learnt,
   write-guarded-below t,
   write-guarded.Post,
-  write-return-reads.Asked,
-  write-return-reads.Learnt,
+  write-foreach-below t,
+  write-foreach.Post,
+  write-apart-reads.Asked,
+  write-apart-reads.Learnt,
   size-of-reads.Asked,
   size-of-reads.Learnt,
   write-block-below t,
@@ -812,8 +952,10 @@ write-statement-write-guarded-requires-2 :
       write-update-reads.Learnt,
       write-guarded-below t,
       write-guarded.Post,
-      write-return-reads.Asked,
-      write-return-reads.Learnt,
+      write-foreach-below t,
+      write-foreach.Post,
+      write-apart-reads.Asked,
+      write-apart-reads.Learnt,
       size-of-reads.Asked,
       size-of-reads.Learnt,
       write-block-below t,
@@ -826,7 +968,7 @@ write-statement-write-guarded-requires-2 t c κs = (
   record { room = omega (arith, c .before .before .before .before .before .before .before .before .before .before .before .before .pre .1 .room, c .before .before .before .before .extra-of .ensures .1, c .before .before .before .before .before .before .before .if1 .left) },
 )
 
-write-statement-sub-write-return : (t : ℕ) → write-statement-lts.Need-sub-write-return (
+write-statement-sub-write-foreach : (t : ℕ) → write-statement-lts.Need-sub-write-foreach (
   word-at-reads.Asked,
   word-at-reads.Learnt,
   last-of-reads.Asked,
@@ -843,8 +985,10 @@ write-statement-sub-write-return : (t : ℕ) → write-statement-lts.Need-sub-wr
   write-update-reads.Learnt,
   write-guarded-below t,
   write-guarded.Post,
-  write-return-reads.Asked,
-  write-return-reads.Learnt,
+  write-foreach-below t,
+  write-foreach.Post,
+  write-apart-reads.Asked,
+  write-apart-reads.Learnt,
   size-of-reads.Asked,
   size-of-reads.Learnt,
   write-block-below t,
@@ -852,9 +996,9 @@ write-statement-sub-write-return : (t : ℕ) → write-statement-lts.Need-sub-wr
   write-between-reads.Asked,
   write-between-reads.Learnt,
 ) (write-statement-at t) write-statement.Post
-write-statement-sub-write-return t c = search needs
+write-statement-sub-write-foreach t c = search needs
 
-write-statement-write-return-requires : (t : ℕ) → write-statement-lts.Need-write-return-requires (
+write-statement-write-foreach-requires : (t : ℕ) → write-statement-lts.Need-write-foreach-requires (
   word-at-reads.Asked,
   word-at-reads.Learnt,
   last-of-reads.Asked,
@@ -871,8 +1015,10 @@ write-statement-write-return-requires : (t : ℕ) → write-statement-lts.Need-w
   write-update-reads.Learnt,
   write-guarded-below t,
   write-guarded.Post,
-  write-return-reads.Asked,
-  write-return-reads.Learnt,
+  write-foreach-below t,
+  write-foreach.Post,
+  write-apart-reads.Asked,
+  write-apart-reads.Learnt,
   size-of-reads.Asked,
   size-of-reads.Learnt,
   write-block-below t,
@@ -880,7 +1026,129 @@ write-statement-write-return-requires : (t : ℕ) → write-statement-lts.Need-w
   write-between-reads.Asked,
   write-between-reads.Learnt,
 ) (write-statement-at t) write-statement.Post
-write-statement-write-return-requires t c κs = search needs
+write-statement-write-foreach-requires t c κs = search needs
+
+write-statement-sub-write-apart : (t : ℕ) → write-statement-lts.Need-sub-write-apart (
+  word-at-reads.Asked,
+  word-at-reads.Learnt,
+  last-of-reads.Asked,
+  last-of-reads.Learnt,
+  extra-of-reads.Asked,
+  extra-of-reads.Learnt,
+  tag-of-reads.Asked,
+  tag-of-reads.Learnt,
+  write-declaration-reads.Asked,
+  write-declaration-reads.Learnt,
+  write-assignment-reads.Asked,
+  write-assignment-reads.Learnt,
+  write-update-reads.Asked,
+  write-update-reads.Learnt,
+  write-guarded-below t,
+  write-guarded.Post,
+  write-foreach-below t,
+  write-foreach.Post,
+  write-apart-reads.Asked,
+  write-apart-reads.Learnt,
+  size-of-reads.Asked,
+  size-of-reads.Learnt,
+  write-block-below t,
+  write-block.Post,
+  write-between-reads.Asked,
+  write-between-reads.Learnt,
+) (write-statement-at t) write-statement.Post
+write-statement-sub-write-apart t c = search needs
+
+write-statement-slice-aggregate-write-apart :
+    (t : ℕ) → write-statement-lts.Need-slice-aggregate-write-apart (
+      word-at-reads.Asked,
+      word-at-reads.Learnt,
+      last-of-reads.Asked,
+      last-of-reads.Learnt,
+      extra-of-reads.Asked,
+      extra-of-reads.Learnt,
+      tag-of-reads.Asked,
+      tag-of-reads.Learnt,
+      write-declaration-reads.Asked,
+      write-declaration-reads.Learnt,
+      write-assignment-reads.Asked,
+      write-assignment-reads.Learnt,
+      write-update-reads.Asked,
+      write-update-reads.Learnt,
+      write-guarded-below t,
+      write-guarded.Post,
+      write-foreach-below t,
+      write-foreach.Post,
+      write-apart-reads.Asked,
+      write-apart-reads.Learnt,
+      size-of-reads.Asked,
+      size-of-reads.Learnt,
+      write-block-below t,
+      write-block.Post,
+      write-between-reads.Asked,
+      write-between-reads.Learnt,
+    ) (write-statement-at t) write-statement.Post
+write-statement-slice-aggregate-write-apart t c = search needs
+
+write-statement-slice-aggregate-write-apart-2 :
+    (t : ℕ) → write-statement-lts.Need-slice-aggregate-write-apart-2 (
+      word-at-reads.Asked,
+      word-at-reads.Learnt,
+      last-of-reads.Asked,
+      last-of-reads.Learnt,
+      extra-of-reads.Asked,
+      extra-of-reads.Learnt,
+      tag-of-reads.Asked,
+      tag-of-reads.Learnt,
+      write-declaration-reads.Asked,
+      write-declaration-reads.Learnt,
+      write-assignment-reads.Asked,
+      write-assignment-reads.Learnt,
+      write-update-reads.Asked,
+      write-update-reads.Learnt,
+      write-guarded-below t,
+      write-guarded.Post,
+      write-foreach-below t,
+      write-foreach.Post,
+      write-apart-reads.Asked,
+      write-apart-reads.Learnt,
+      size-of-reads.Asked,
+      size-of-reads.Learnt,
+      write-block-below t,
+      write-block.Post,
+      write-between-reads.Asked,
+      write-between-reads.Learnt,
+    ) (write-statement-at t) write-statement.Post
+write-statement-slice-aggregate-write-apart-2 t c = search needs
+
+write-statement-write-apart-requires : (t : ℕ) → write-statement-lts.Need-write-apart-requires (
+  word-at-reads.Asked,
+  word-at-reads.Learnt,
+  last-of-reads.Asked,
+  last-of-reads.Learnt,
+  extra-of-reads.Asked,
+  extra-of-reads.Learnt,
+  tag-of-reads.Asked,
+  tag-of-reads.Learnt,
+  write-declaration-reads.Asked,
+  write-declaration-reads.Learnt,
+  write-assignment-reads.Asked,
+  write-assignment-reads.Learnt,
+  write-update-reads.Asked,
+  write-update-reads.Learnt,
+  write-guarded-below t,
+  write-guarded.Post,
+  write-foreach-below t,
+  write-foreach.Post,
+  write-apart-reads.Asked,
+  write-apart-reads.Learnt,
+  size-of-reads.Asked,
+  size-of-reads.Learnt,
+  write-block-below t,
+  write-block.Post,
+  write-between-reads.Asked,
+  write-between-reads.Learnt,
+) (write-statement-at t) write-statement.Post
+write-statement-write-apart-requires t c κs = search needs
 
 write-statement-sub-write-block : (t : ℕ) → write-statement-lts.Need-sub-write-block (
   word-at-reads.Asked,
@@ -899,8 +1167,10 @@ write-statement-sub-write-block : (t : ℕ) → write-statement-lts.Need-sub-wri
   write-update-reads.Learnt,
   write-guarded-below t,
   write-guarded.Post,
-  write-return-reads.Asked,
-  write-return-reads.Learnt,
+  write-foreach-below t,
+  write-foreach.Post,
+  write-apart-reads.Asked,
+  write-apart-reads.Learnt,
   size-of-reads.Asked,
   size-of-reads.Learnt,
   write-block-below t,
@@ -927,8 +1197,10 @@ write-statement-size-of-requires : (t : ℕ) → write-statement-lts.Need-size-o
   write-update-reads.Learnt,
   write-guarded-below t,
   write-guarded.Post,
-  write-return-reads.Asked,
-  write-return-reads.Learnt,
+  write-foreach-below t,
+  write-foreach.Post,
+  write-apart-reads.Asked,
+  write-apart-reads.Learnt,
   size-of-reads.Asked,
   size-of-reads.Learnt,
   write-block-below t,
@@ -955,8 +1227,10 @@ write-statement-write-block-requires : (t : ℕ) → write-statement-lts.Need-wr
   write-update-reads.Learnt,
   write-guarded-below t,
   write-guarded.Post,
-  write-return-reads.Asked,
-  write-return-reads.Learnt,
+  write-foreach-below t,
+  write-foreach.Post,
+  write-apart-reads.Asked,
+  write-apart-reads.Learnt,
   size-of-reads.Asked,
   size-of-reads.Learnt,
   write-block-below t,
@@ -986,8 +1260,10 @@ write-statement-sub-write-between : (t : ℕ) → write-statement-lts.Need-sub-w
   write-update-reads.Learnt,
   write-guarded-below t,
   write-guarded.Post,
-  write-return-reads.Asked,
-  write-return-reads.Learnt,
+  write-foreach-below t,
+  write-foreach.Post,
+  write-apart-reads.Asked,
+  write-apart-reads.Learnt,
   size-of-reads.Asked,
   size-of-reads.Learnt,
   write-block-below t,
@@ -1015,8 +1291,10 @@ write-statement-slice-aggregate-write-between :
       write-update-reads.Learnt,
       write-guarded-below t,
       write-guarded.Post,
-      write-return-reads.Asked,
-      write-return-reads.Learnt,
+      write-foreach-below t,
+      write-foreach.Post,
+      write-apart-reads.Asked,
+      write-apart-reads.Learnt,
       size-of-reads.Asked,
       size-of-reads.Learnt,
       write-block-below t,
@@ -1044,8 +1322,10 @@ write-statement-slice-aggregate-write-between-2 :
       write-update-reads.Learnt,
       write-guarded-below t,
       write-guarded.Post,
-      write-return-reads.Asked,
-      write-return-reads.Learnt,
+      write-foreach-below t,
+      write-foreach.Post,
+      write-apart-reads.Asked,
+      write-apart-reads.Learnt,
       size-of-reads.Asked,
       size-of-reads.Learnt,
       write-block-below t,
@@ -1072,8 +1352,10 @@ write-statement-write-between-requires : (t : ℕ) → write-statement-lts.Need-
   write-update-reads.Learnt,
   write-guarded-below t,
   write-guarded.Post,
-  write-return-reads.Asked,
-  write-return-reads.Learnt,
+  write-foreach-below t,
+  write-foreach.Post,
+  write-apart-reads.Asked,
+  write-apart-reads.Learnt,
   size-of-reads.Asked,
   size-of-reads.Learnt,
   write-block-below t,
@@ -1100,8 +1382,10 @@ write-statement-same-length : (t : ℕ) → write-statement-lts.Need-same-length
   write-update-reads.Learnt,
   write-guarded-below t,
   write-guarded.Post,
-  write-return-reads.Asked,
-  write-return-reads.Learnt,
+  write-foreach-below t,
+  write-foreach.Post,
+  write-apart-reads.Asked,
+  write-apart-reads.Learnt,
   size-of-reads.Asked,
   size-of-reads.Learnt,
   write-block-below t,
@@ -1128,8 +1412,10 @@ write-statement-returns-2 : (t : ℕ) → write-statement-lts.Need-returns-2 (
   write-update-reads.Learnt,
   write-guarded-below t,
   write-guarded.Post,
-  write-return-reads.Asked,
-  write-return-reads.Learnt,
+  write-foreach-below t,
+  write-foreach.Post,
+  write-apart-reads.Asked,
+  write-apart-reads.Learnt,
   size-of-reads.Asked,
   size-of-reads.Learnt,
   write-block-below t,
@@ -1156,8 +1442,10 @@ write-statement-same-length-2 : (t : ℕ) → write-statement-lts.Need-same-leng
   write-update-reads.Learnt,
   write-guarded-below t,
   write-guarded.Post,
-  write-return-reads.Asked,
-  write-return-reads.Learnt,
+  write-foreach-below t,
+  write-foreach.Post,
+  write-apart-reads.Asked,
+  write-apart-reads.Learnt,
   size-of-reads.Asked,
   size-of-reads.Learnt,
   write-block-below t,
@@ -1184,8 +1472,10 @@ write-statement-returns-3 : (t : ℕ) → write-statement-lts.Need-returns-3 (
   write-update-reads.Learnt,
   write-guarded-below t,
   write-guarded.Post,
-  write-return-reads.Asked,
-  write-return-reads.Learnt,
+  write-foreach-below t,
+  write-foreach.Post,
+  write-apart-reads.Asked,
+  write-apart-reads.Learnt,
   size-of-reads.Asked,
   size-of-reads.Learnt,
   write-block-below t,
@@ -1212,8 +1502,10 @@ write-statement-same-length-3 : (t : ℕ) → write-statement-lts.Need-same-leng
   write-update-reads.Learnt,
   write-guarded-below t,
   write-guarded.Post,
-  write-return-reads.Asked,
-  write-return-reads.Learnt,
+  write-foreach-below t,
+  write-foreach.Post,
+  write-apart-reads.Asked,
+  write-apart-reads.Learnt,
   size-of-reads.Asked,
   size-of-reads.Learnt,
   write-block-below t,
@@ -1240,8 +1532,10 @@ write-statement-returns-4 : (t : ℕ) → write-statement-lts.Need-returns-4 (
   write-update-reads.Learnt,
   write-guarded-below t,
   write-guarded.Post,
-  write-return-reads.Asked,
-  write-return-reads.Learnt,
+  write-foreach-below t,
+  write-foreach.Post,
+  write-apart-reads.Asked,
+  write-apart-reads.Learnt,
   size-of-reads.Asked,
   size-of-reads.Learnt,
   write-block-below t,
@@ -1268,8 +1562,10 @@ write-statement-same-length-4 : (t : ℕ) → write-statement-lts.Need-same-leng
   write-update-reads.Learnt,
   write-guarded-below t,
   write-guarded.Post,
-  write-return-reads.Asked,
-  write-return-reads.Learnt,
+  write-foreach-below t,
+  write-foreach.Post,
+  write-apart-reads.Asked,
+  write-apart-reads.Learnt,
   size-of-reads.Asked,
   size-of-reads.Learnt,
   write-block-below t,
@@ -1296,8 +1592,10 @@ write-statement-returns-5 : (t : ℕ) → write-statement-lts.Need-returns-5 (
   write-update-reads.Learnt,
   write-guarded-below t,
   write-guarded.Post,
-  write-return-reads.Asked,
-  write-return-reads.Learnt,
+  write-foreach-below t,
+  write-foreach.Post,
+  write-apart-reads.Asked,
+  write-apart-reads.Learnt,
   size-of-reads.Asked,
   size-of-reads.Learnt,
   write-block-below t,
@@ -1324,8 +1622,10 @@ write-statement-same-length-5 : (t : ℕ) → write-statement-lts.Need-same-leng
   write-update-reads.Learnt,
   write-guarded-below t,
   write-guarded.Post,
-  write-return-reads.Asked,
-  write-return-reads.Learnt,
+  write-foreach-below t,
+  write-foreach.Post,
+  write-apart-reads.Asked,
+  write-apart-reads.Learnt,
   size-of-reads.Asked,
   size-of-reads.Learnt,
   write-block-below t,
@@ -1352,8 +1652,10 @@ write-statement-returns-6 : (t : ℕ) → write-statement-lts.Need-returns-6 (
   write-update-reads.Learnt,
   write-guarded-below t,
   write-guarded.Post,
-  write-return-reads.Asked,
-  write-return-reads.Learnt,
+  write-foreach-below t,
+  write-foreach.Post,
+  write-apart-reads.Asked,
+  write-apart-reads.Learnt,
   size-of-reads.Asked,
   size-of-reads.Learnt,
   write-block-below t,
@@ -1380,8 +1682,10 @@ write-statement-same-length-6 : (t : ℕ) → write-statement-lts.Need-same-leng
   write-update-reads.Learnt,
   write-guarded-below t,
   write-guarded.Post,
-  write-return-reads.Asked,
-  write-return-reads.Learnt,
+  write-foreach-below t,
+  write-foreach.Post,
+  write-apart-reads.Asked,
+  write-apart-reads.Learnt,
   size-of-reads.Asked,
   size-of-reads.Learnt,
   write-block-below t,
@@ -1408,8 +1712,10 @@ write-statement-returns-7 : (t : ℕ) → write-statement-lts.Need-returns-7 (
   write-update-reads.Learnt,
   write-guarded-below t,
   write-guarded.Post,
-  write-return-reads.Asked,
-  write-return-reads.Learnt,
+  write-foreach-below t,
+  write-foreach.Post,
+  write-apart-reads.Asked,
+  write-apart-reads.Learnt,
   size-of-reads.Asked,
   size-of-reads.Learnt,
   write-block-below t,
@@ -1417,7 +1723,7 @@ write-statement-returns-7 : (t : ℕ) → write-statement-lts.Need-returns-7 (
   write-between-reads.Asked,
   write-between-reads.Learnt,
 ) (write-statement-at t) write-statement.Post
-write-statement-returns-7 t c = search is-return
+write-statement-returns-7 t c = search is-foreach
 
 write-statement-same-length-7 : (t : ℕ) → write-statement-lts.Need-same-length-7 (
   word-at-reads.Asked,
@@ -1436,8 +1742,10 @@ write-statement-same-length-7 : (t : ℕ) → write-statement-lts.Need-same-leng
   write-update-reads.Learnt,
   write-guarded-below t,
   write-guarded.Post,
-  write-return-reads.Asked,
-  write-return-reads.Learnt,
+  write-foreach-below t,
+  write-foreach.Post,
+  write-apart-reads.Asked,
+  write-apart-reads.Learnt,
   size-of-reads.Asked,
   size-of-reads.Learnt,
   write-block-below t,
@@ -1464,8 +1772,10 @@ write-statement-returns-8 : (t : ℕ) → write-statement-lts.Need-returns-8 (
   write-update-reads.Learnt,
   write-guarded-below t,
   write-guarded.Post,
-  write-return-reads.Asked,
-  write-return-reads.Learnt,
+  write-foreach-below t,
+  write-foreach.Post,
+  write-apart-reads.Asked,
+  write-apart-reads.Learnt,
   size-of-reads.Asked,
   size-of-reads.Learnt,
   write-block-below t,
@@ -1473,7 +1783,7 @@ write-statement-returns-8 : (t : ℕ) → write-statement-lts.Need-returns-8 (
   write-between-reads.Asked,
   write-between-reads.Learnt,
 ) (write-statement-at t) write-statement.Post
-write-statement-returns-8 t c = search is-block
+write-statement-returns-8 t c = search is-return
 
 write-statement-same-length-8 : (t : ℕ) → write-statement-lts.Need-same-length-8 (
   word-at-reads.Asked,
@@ -1492,8 +1802,10 @@ write-statement-same-length-8 : (t : ℕ) → write-statement-lts.Need-same-leng
   write-update-reads.Learnt,
   write-guarded-below t,
   write-guarded.Post,
-  write-return-reads.Asked,
-  write-return-reads.Learnt,
+  write-foreach-below t,
+  write-foreach.Post,
+  write-apart-reads.Asked,
+  write-apart-reads.Learnt,
   size-of-reads.Asked,
   size-of-reads.Learnt,
   write-block-below t,
@@ -1520,8 +1832,10 @@ write-statement-returns-9 : (t : ℕ) → write-statement-lts.Need-returns-9 (
   write-update-reads.Learnt,
   write-guarded-below t,
   write-guarded.Post,
-  write-return-reads.Asked,
-  write-return-reads.Learnt,
+  write-foreach-below t,
+  write-foreach.Post,
+  write-apart-reads.Asked,
+  write-apart-reads.Learnt,
   size-of-reads.Asked,
   size-of-reads.Learnt,
   write-block-below t,
@@ -1529,7 +1843,67 @@ write-statement-returns-9 : (t : ℕ) → write-statement-lts.Need-returns-9 (
   write-between-reads.Asked,
   write-between-reads.Learnt,
 ) (write-statement-at t) write-statement.Post
-write-statement-returns-9 t c = search is-act
+write-statement-returns-9 t c = search is-block
+
+write-statement-same-length-9 : (t : ℕ) → write-statement-lts.Need-same-length-9 (
+  word-at-reads.Asked,
+  word-at-reads.Learnt,
+  last-of-reads.Asked,
+  last-of-reads.Learnt,
+  extra-of-reads.Asked,
+  extra-of-reads.Learnt,
+  tag-of-reads.Asked,
+  tag-of-reads.Learnt,
+  write-declaration-reads.Asked,
+  write-declaration-reads.Learnt,
+  write-assignment-reads.Asked,
+  write-assignment-reads.Learnt,
+  write-update-reads.Asked,
+  write-update-reads.Learnt,
+  write-guarded-below t,
+  write-guarded.Post,
+  write-foreach-below t,
+  write-foreach.Post,
+  write-apart-reads.Asked,
+  write-apart-reads.Learnt,
+  size-of-reads.Asked,
+  size-of-reads.Learnt,
+  write-block-below t,
+  write-block.Post,
+  write-between-reads.Asked,
+  write-between-reads.Learnt,
+) (write-statement-at t) write-statement.Post
+write-statement-same-length-9 t c = search needs
+
+write-statement-returns-10 : (t : ℕ) → write-statement-lts.Need-returns-10 (
+  word-at-reads.Asked,
+  word-at-reads.Learnt,
+  last-of-reads.Asked,
+  last-of-reads.Learnt,
+  extra-of-reads.Asked,
+  extra-of-reads.Learnt,
+  tag-of-reads.Asked,
+  tag-of-reads.Learnt,
+  write-declaration-reads.Asked,
+  write-declaration-reads.Learnt,
+  write-assignment-reads.Asked,
+  write-assignment-reads.Learnt,
+  write-update-reads.Asked,
+  write-update-reads.Learnt,
+  write-guarded-below t,
+  write-guarded.Post,
+  write-foreach-below t,
+  write-foreach.Post,
+  write-apart-reads.Asked,
+  write-apart-reads.Learnt,
+  size-of-reads.Asked,
+  size-of-reads.Learnt,
+  write-block-below t,
+  write-block.Post,
+  write-between-reads.Asked,
+  write-between-reads.Learnt,
+) (write-statement-at t) write-statement.Post
+write-statement-returns-10 t c = search is-act
 
 abbrev write-statements-Inv-loop : write-statements-lts.InvT-loop
 write-statements-Inv-loop program tokens code fuel first end rounds out₀ at next₀ x₀ left₀ out next x left =
@@ -1674,11 +2048,12 @@ write-statements-returns-2 : (t : ℕ) → write-statements-lts.Need-returns-2 (
 ) (write-statements-at t) write-statements.Post write-statements-Inv-loop write-statements-μ-loop
 write-statements-returns-2 t c = all-short _ _ _ _ _ _ _ _ _ (c .before .loop .inv) (omega arith)
 
-pub +write-block+write-guarded+write-line+write-statement+write-statements-spec :
+pub +write-block+write-foreach+write-guarded+write-line+write-statement+write-statements-spec :
     {M : Type 1} → statement M
-+write-block+write-guarded+write-line+write-statement+write-statements-spec =
++write-block+write-foreach+write-guarded+write-line+write-statement+write-statements-spec =
     close
     μ-write-block
+    μ-write-foreach
     μ-write-guarded
     μ-write-line
     μ-write-statement
@@ -1701,6 +2076,24 @@ pub +write-block+write-guarded+write-line+write-statement+write-statements-spec 
     (write-block-write-bytes-at-requires-2 t)
     (write-block-same-length t)
     (write-block-returns t))
+    (λ t. write-foreach-lts.spec (
+      word-at-reads.Asked,
+      word-at-reads.Learnt,
+      write-iterator-reads.Asked,
+      write-iterator-reads.Learnt,
+      write-statement-below t,
+      write-statement.Post,
+    )
+    (write-foreach-at t)
+    write-foreach.Post
+    (write-foreach-add-y t)
+    (write-foreach-add-word-at t)
+    (write-foreach-word-at-requires t)
+    (write-foreach-write-iterator-requires t)
+    (write-foreach-add-write-statement t)
+    (write-foreach-write-statement-requires t)
+    (write-foreach-same-length t)
+    (write-foreach-returns t))
     (λ t. write-guarded-lts.spec (
       write-between-reads.Asked,
       write-between-reads.Learnt,
@@ -1745,8 +2138,10 @@ pub +write-block+write-guarded+write-line+write-statement+write-statements-spec 
       write-update-reads.Learnt,
       write-guarded-below t,
       write-guarded.Post,
-      write-return-reads.Asked,
-      write-return-reads.Learnt,
+      write-foreach-below t,
+      write-foreach.Post,
+      write-apart-reads.Asked,
+      write-apart-reads.Learnt,
       size-of-reads.Asked,
       size-of-reads.Learnt,
       write-block-below t,
@@ -1774,8 +2169,12 @@ pub +write-block+write-guarded+write-line+write-statement+write-statements-spec 
     (write-statement-slice-aggregate-write-guarded-2 t)
     (write-statement-add-write-guarded-2 t)
     (write-statement-write-guarded-requires-2 t)
-    (write-statement-sub-write-return t)
-    (write-statement-write-return-requires t)
+    (write-statement-sub-write-foreach t)
+    (write-statement-write-foreach-requires t)
+    (write-statement-sub-write-apart t)
+    (write-statement-slice-aggregate-write-apart t)
+    (write-statement-slice-aggregate-write-apart-2 t)
+    (write-statement-write-apart-requires t)
     (write-statement-sub-write-block t)
     (write-statement-size-of-requires t)
     (write-statement-write-block-requires t)
@@ -1798,7 +2197,9 @@ pub +write-block+write-guarded+write-line+write-statement+write-statements-spec 
     (write-statement-same-length-7 t)
     (write-statement-returns-8 t)
     (write-statement-same-length-8 t)
-    (write-statement-returns-9 t))
+    (write-statement-returns-9 t)
+    (write-statement-same-length-9 t)
+    (write-statement-returns-10 t))
     λ t. write-statements-lts.spec (
       write-line-below t,
       write-line.Post,
