@@ -2,7 +2,6 @@
 use Prim.Native.Nat.{ℕ, zero, suc, _+_, _-_, _*_, _/_, _%_, _≤_, _<_}
 use native.Mathlib.Omega.{arith}
 use mathlib.Core.Path.{_≡_, refl, ap, sym, _∙_, subst}
-use mathlib.Core.Logic.{_≢_}
 use mathlib.Core.Bool.{Bool, true, false, _||_}
 use mathlib.Core.List.{List, [], _∷_, _++_, append-nil, append-assoc}
 use lib.ListN.{length, getD, length-append}
@@ -10,12 +9,14 @@ use lib.IntN.{ℤ}
 use lib.Dec.{eqb, leb}
 use borrow.Author.Tests.{lt-ltb, le-ltb, ne-eqb, le-leb}
 use Rattle.meaning.specs.Basics.{bytes, if_then_else_}
+use Rattle.meaning.specs.Byte.{isNamePart}
 use Rattle.meaning.specs.Token.{Token, aName, aString}
 use Rattle.meaning.specs.Tree.{Operator, concatenate, add, subtract, multiply, divide, remainder, shiftRight, shiftLeft, equal, unequal, greater, less, Expression, number, string, nothing, truth, name, table, entry, operation, call, paren, Arguments, noArgument, argument}
 use Rattle.meaning.specs.Integer.{bits, wrap}
 use Rattle.meaning.specs.Picture.{decimal}
 use Rattle.canonical.specs.Text.{commaSeparated, operatorText, isOperation, isEntry, enclosedIf, expressionText, argumentTexts}
 use Rattle.canonical.specs.Text as Text
+use Rattle.roundtrip.proofs.LexesTree.{lastOf}
 use Rattle.machine.specs.Opcodes.{word, tagIn, sizeIn, numberIn, argumentRoot, calleeIn, tagNumber, tagString, tagNone, tagTruth, tagName, tagTable, tagEntry, tagCall, tagArgument, firstOperator, tagOf}
 use Rattle.names.specs.Prepared.{procedureNumber}
 use Rattle.code.specs.Code.{slotOf, partOf, joined, codeOf, codeOfAll}
@@ -23,17 +24,20 @@ use Rattle.reader.proofs.Homes.{Occurs}
 use Rattle.reader.proofs.Known.{Known, KnownAll}
 use Rattle.reader.proofs.Fields.{word-told, call-slot, tag-small, code-some}
 use Rattle.reader.proofs.Walk.{Stands, Ends, ends-word, ends-front, ends-start, ends-joined, stands-argument}
-use Rattle.formatter.specs.Raw.{Source, Writer, part, spelling, signText, encloses, partText, pairText, leafText, argumentAfter, argumentsText, callText, expressionBy, rawExpression}
+use Rattle.spellings.specs.Spelling.{part, leafText, signText, encloses}
+use Rattle.formatter.specs.Raw.{Source, Writer, spelling, partText, pairText, argumentAfter, argumentsText, callText, expressionBy, rawExpression}
+use Rattle.formatter.proofs.Expressions.{operator-in-entry, entry-in-entry}
 
 -- slots and words spell the names and strings of some tokens
 pub record Spells (s : Source) (ts : List Token) : Type 0 where
   pub names : (x : List ℕ) → Occurs ts aName x → spelling s (slotOf ts x) ≡ x
   pub strings : (t : List ℕ) → Occurs ts aString t → part (s .program) (partOf ts t % 65536) (partOf ts t / 65536) ≡ t
   pub apart : (x : List ℕ) → Occurs ts aName x → Text.apart x ≡ bytes " " ++ x
+  pub last : (x : List ℕ) → Occurs ts aName x → isNamePart (lastOf x) ≡ true
 
 -- ---- tags
 -- the tag of an expression's last word
-unfoldable rootTag : Expression → ℕ
+unfoldable pub rootTag : Expression → ℕ
 rootTag (number z) = tagNumber
 rootTag (string t) = tagString
 rootTag nothing = tagNone
@@ -45,7 +49,7 @@ rootTag (operation o a b) = tagOf o
 rootTag (call f es) = tagCall
 rootTag (paren e) = rootTag e
 
-tag-large : (o : Operator) → 16 ≤ tagOf o
+pub tag-large : (o : Operator) → 16 ≤ tagOf o
 unfolding tagOf
 tag-large concatenate = omega arith
 tag-large add = omega arith
@@ -80,7 +84,7 @@ unfolding signText if_then_else_
 sign-entry = refl
 
 -- the tag says whether an expression is an operator's or an entry
-operation-tag : (e : Expression) → leb firstOperator (rootTag e) ≡ isOperation e
+pub operation-tag : (e : Expression) → leb firstOperator (rootTag e) ≡ isOperation e
 unfolding rootTag isOperation
 operation-tag (number z) = refl
 operation-tag (string t) = refl
@@ -93,7 +97,7 @@ operation-tag (operation o a b) = le-leb 16 (tagOf o) (tag-large o)
 operation-tag (call f es) = refl
 operation-tag (paren e) = operation-tag e
 
-entry-tag : (e : Expression) → eqb (rootTag e) tagEntry ≡ isEntry e
+pub entry-tag : (e : Expression) → eqb (rootTag e) tagEntry ≡ isEntry e
 unfolding rootTag isEntry
 entry-tag (number z) = refl
 entry-tag (string t) = refl
@@ -132,7 +136,7 @@ led-comma (t ∷ u ∷ more) =
     ap (λ (l : List ℕ). t ++ (bytes "," ++ l)) (led-comma (u ∷ more)) ∙ sym (append-assoc t (bytes ",") (commaSeparated (u ∷ more)))
 
 -- ---- lengths
-joined-length : (tag : ℕ) (a b : List ℕ) → length (joined tag a b) ≡ length a + length b + 1
+pub joined-length : (tag : ℕ) (a b : List ℕ) → length (joined tag a b) ≡ length a + length b + 1
 joined-length tag a b =
     let w : List ℕ = word tag (length a + length b + 1) (length b) ∷ [] in
     length-append a (b ++ w) ∙ omega (arith, length-append b w)
@@ -142,7 +146,7 @@ joined-small tag a b l = rw joined-length at l
 
 -- ---- by the word of the root
 module _ (inner : Writer) (s : Source) (x w : ℕ) where
-  by-leaf : (tag : ℕ) → tagIn w ≡ tag → tag < 6 → expressionBy inner s w x ≡ leafText s w
+  by-leaf : (tag : ℕ) → tagIn w ≡ tag → tag < 6 → expressionBy inner s w x ≡ leafText (s .program) (s .tokens) w
   unfolding expressionBy if_then_else_
   by-leaf tag e l = rw (e, lt-ltb tag 6 l)
 
@@ -151,12 +155,12 @@ module _ (inner : Writer) (s : Source) (x w : ℕ) where
   by-table e = rw e
 
   by-call : tagIn w ≡ tagCall → expressionBy inner s w x ≡ callText inner s w x
-  unfolding expressionBy if_then_else_
+  unfolding expressionBy encloses if_then_else_
   by-call e = rw e
 
-  by-pair : (tag n : ℕ) → tagIn w ≡ tag → numberIn w ≡ n → 6 < tag → tag ≢ 8 → expressionBy inner s w x ≡ pairText inner s tag (x - 1 - n) (x - 1)
+  by-pair : (tag n : ℕ) → tagIn w ≡ tag → numberIn w ≡ n → 6 < tag → encloses tagEntry tag ≡ true → expressionBy inner s w x ≡ pairText inner s tag (x - 1 - n) (x - 1)
   unfolding expressionBy if_then_else_
-  by-pair tag n e k l d = rw (e, k, le-ltb tag 6 (omega arith), ne-eqb tag 6 (λ q. omega arith), ne-eqb tag 8 d)
+  by-pair tag n e k l d = rw (e, k, le-ltb tag 6 (omega arith), ne-eqb tag 6 (λ q. omega arith), d)
 
 module _ (s : Source) (ts : List Token) (spells : Spells s ts) where
   abbrev code : List ℕ
@@ -171,7 +175,7 @@ module _ (s : Source) (ts : List Token) (spells : Spells s ts) where
   by-root fuel x w e = rw e
 
   -- ---- one word
-  leaf-says : (e : Expression) (tag n : ℕ) → codeOf e ts ≡ word tag 1 n ∷ [] → tag < 6 → leafText s (word tag 1 n) ≡ expressionText e → Says e
+  leaf-says : (e : Expression) (tag n : ℕ) → codeOf e ts ≡ word tag 1 n ∷ [] → tag < 6 → leafText (s .program) (s .tokens) (word tag 1 n) ≡ expressionText e → Says e
   leaf-says e tag n c l t zero x f h k = absurd (omega (arith, code-some e ts))
   leaf-says e tag n c l t (suc fuel) x f h k =
       let w = word tag 1 n in
@@ -226,7 +230,7 @@ module _ (s : Source) (ts : List Token) (spells : Spells s ts) where
       ∙ ap (λ (t : List ℕ). bytes "[" ++ t ++ bytes "]") (h fuel (x - 1) (omega arith) (ends-front c w q (code-some e ts)) (omega arith))
 
   -- ---- two parts
-  root-tag : (e : Expression) (x : ℕ) → length (codeOf e ts) < 16777216 → Ends code x (codeOf e ts) → tagIn (getD code x 0) ≡ rootTag e
+  pub root-tag : (e : Expression) (x : ℕ) → length (codeOf e ts) < 16777216 → Ends code x (codeOf e ts) → tagIn (getD code x 0) ≡ rootTag e
   unfolding codeOf rootTag
   root-tag (number z) x l q = ap tagIn (ends-word [] _ q) ∙ tag-leaf tagNumber _ (omega arith)
   root-tag (string t) x l q = ap tagIn (ends-word [] _ q) ∙ tag-leaf tagString _ (omega arith)
@@ -273,7 +277,7 @@ module _ (s : Source) (ts : List Token) (spells : Spells s ts) where
       → length (codeOf a ts) ≤ fuel → length (codeOf b ts) ≤ fuel → pairText (rawExpression fuel s) s tagEntry x y ≡ expressionText (entry a b)
   entry-says a b h h₂ fuel x y f p q k k₂ = pair-says a b h h₂ tagEntry fuel x y f p q k k₂ ∙ entry-parts a b
 
-  joined-says : (a b : Expression) → Says a → Says b → (tag : ℕ) → tag < 256 → 6 < tag → tag ≢ 8 → (fuel x : ℕ) → fuel < 16777216
+  joined-says : (a b : Expression) → Says a → Says b → (tag : ℕ) → tag < 256 → 6 < tag → encloses tagEntry tag ≡ true → (fuel x : ℕ) → fuel < 16777216
       → Ends code x (joined tag (codeOf a ts) (codeOf b ts)) → length (joined tag (codeOf a ts) (codeOf b ts)) ≤ fuel → rawExpression fuel s x ≡ twoParts tag a b
   joined-says a b h h₂ tag t l d zero x f q k = absurd (omega (arith, joined-length tag (codeOf a ts) (codeOf b ts)))
   joined-says a b h h₂ tag t l d (suc fuel) x f q k =
@@ -351,10 +355,11 @@ module _ (s : Source) (ts : List Token) (spells : Spells s ts) where
     expression-says (name x) k = name-says x k
     expression-says (table e) k = table-says e (expression-says e k)
     expression-says (entry a b) k = λ fuel x f q l.
-        joined-says a b (expression-says a (k .0)) (expression-says b (k .1)) tagEntry (omega arith) (omega arith) (omega arith) fuel x f q l ∙ entry-parts a b
+        joined-says a b (expression-says a (k .0)) (expression-says b (k .1)) tagEntry (omega arith) (omega arith) entry-in-entry fuel x f q l ∙ entry-parts a b
     expression-says (operation o a b) k = λ fuel x f q l.
         let n = tag-large o in
-        joined-says a b (expression-says a (k .0)) (expression-says b (k .1)) (tagOf o) (tag-small o) (omega arith) (omega arith) fuel x f q l ∙ operator-parts o a b
+        joined-says a b (expression-says a (k .0)) (expression-says b (k .1)) (tagOf o) (tag-small o) (omega arith) (operator-in-entry (tagOf o) n) fuel x f q l
+        ∙ operator-parts o a b
     expression-says (call f es) k = call-says f es (k .0) (arguments-say es (k .1))
     expression-says (paren e) k = expression-says e k
 

@@ -1,10 +1,9 @@
-pub mod Chains
-pub mod Leaves
 pub mod Expressions
 pub mod Statements
 pub mod Procedures
 mod FaithfulNames
 mod FaithfulExpressions
+mod FaithfulEnds
 mod FaithfulStatements
 mod FaithfulTokens
 mod FaithfulProcedures

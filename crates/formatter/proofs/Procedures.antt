@@ -1,16 +1,14 @@
 -- One law for each way through each function on procedures.
 -- Assumes nothing.
 use Prim.Native.Nat.{ℕ, zero, suc, _+_, _-_, _^_, _≤_, _<_, min}
-use mathlib.Core.Path.{_≡_, _∙_, refl, sym}
-use mathlib.Core.Bool.{Bool, true, false, cond}
-use mathlib.Core.List.{List, [], _∷_, _++_, map, append-nil, append-assoc}
+use mathlib.Core.Path.{_≡_, _∙_, sym}
+use mathlib.Core.List.{List, [], _++_, map}
 use native.Mathlib.Decide.{decLt}
 use native.Mathlib.Numerals.{add-one}
 use native.Mathlib.Omega.{arith}
-use borrow.Author.Tests.{lt-ltb, ne-eqb}
-use lib.Dec.{ltb}
+use borrow.Author.Tests.{ne-eqb}
 use lib.ListN.{length, getD, take, drop, length-drop, drop-of-length-le}
-use lib.Seq.{drop-cons, take-all, take-nil}
+use lib.Seq.{take-all, take-nil}
 use Rattle.meaning.specs.Basics.{bytes, if_then_else_}
 use Rattle.meaning.specs.Token.{wordDef}
 use Rattle.canonical.specs.Text.{commaSeparated}
@@ -18,8 +16,9 @@ use Rattle.machine.specs.Opcodes.{tablePlace, startIn, parametersIn, bodyIn}
 use Rattle.expressions.specs.Words.{homeAt}
 use Rattle.tokens.specs.Words as Tokens
 use Rattle.writing.specs.Placed.{WroteAt}
+use Rattle.spellings.specs.Spelling.{nameText}
 use Rattle.formatter.specs.Raw.{source, wordAt, spelling, rawStatement, rawStatements, parameterNames, procedureBy, procedureText, rawProcedures, enoughFuel, rawText}
-use Rattle.formatter.proofs.Chains.{nothing, then-two, then-three, then-five, Writing, begin, goes-on, ends}
+use Rattle.spellings.proofs.Chains.{nothing, then-three, then-five, Writing, begin, goes-on, ends}
 
 -- ---- a part whose ends are clipped is what `take` and `drop` leave
 take-least : (n : ℕ) (l : List ℕ) → take (min n (length l)) l ≡ take n l
@@ -49,74 +48,15 @@ module _ (s : List ℕ) (start count : ℕ) where
           let m : e - b ≡ 0 = omega arith in
           rw m (sym (empty (omega arith)))
 
--- ---- the names of parameters
--- texts, each behind a comma
-unfoldable pub eachBehind : List (List ℕ) → List ℕ
-eachBehind [] = []
-eachBehind (t ∷ ts) = (bytes "," ++ t) ++ eachBehind ts
-
-first-and-behind : (t : List ℕ) (ts : List (List ℕ)) → commaSeparated (t ∷ ts) ≡ t ++ eachBehind ts
-unfolding commaSeparated eachBehind
-first-and-behind t [] = sym (append-nil t)
-first-and-behind t (u ∷ ts) = rw (first-and-behind u ts, append-assoc t (bytes ",") (u ++ eachBehind ts))
-
--- the text of what is left behind the first i of some slots
-unfoldable pub namesLeft : (ℕ → List ℕ) → List ℕ → ℕ → List ℕ
-namesLeft name slots zero = commaSeparated (map name slots)
-namesLeft name slots (suc i) = eachBehind (map name (drop (suc i) slots))
-
-none-left : (name : ℕ → List ℕ) (slots : List ℕ) (i : ℕ) → length slots ≤ i → namesLeft name slots i ≡ []
-unfolding namesLeft commaSeparated eachBehind
-none-left name [] zero h = refl
-none-left name (x ∷ slots) zero h = absurd (omega arith)
-none-left name slots (suc i) h = rw (drop-of-length-le slots {i = suc i} h)
-
-one-name : (name : ℕ → List ℕ) (slots : List ℕ) (i : ℕ) → i < length slots
-    → namesLeft name slots i ≡ (cond (ltb 0 i) (bytes ",") [] ++ name (getD slots i 0)) ++ namesLeft name slots (suc i)
-unfolding namesLeft eachBehind
-one-name name [] zero h = absurd (omega arith)
-one-name name (x ∷ slots) zero h = first-and-behind (name x) (map name slots)
-one-name name slots (suc i) h = rw (drop-cons slots (suc i) 0 h, lt-ltb 0 (suc i) (omega arith))
-
--- of the names of slots those from i on are left
-pub record Naming (program tokens slots : List ℕ) (at : ℕ) (before now : List ℕ) (next i : ℕ) : Type 0 where
-  pub short : length before < 2 ^ 64
-  pub writing : Writing at (commaSeparated (map (spelling (source program tokens [])) slots)) (namesLeft (spelling (source program tokens [])) slots i) before now next
-
-module _ (program tokens : List ℕ) where
-  module _ (slot : ℕ) (follows : Bool) {at r : ℕ} {d : List ℕ} where
-    pub listed-behind : {m : ℕ} {e f : List ℕ} → length d < 2 ^ 64 → follows ≡ true → WroteAt at (bytes ",") d e m
-        → WroteAt m (spelling (source program tokens []) slot) e f r
-        → WroteAt at (cond follows (bytes ",") [] ++ spelling (source program tokens []) slot) d f r
-    listed-behind h t p q = rw t (then-two h p q)
-
-    pub listed-first : {e : List ℕ} → follows ≡ false → WroteAt at (spelling (source program tokens []) slot) d e r
-        → WroteAt at (cond follows (bytes ",") [] ++ spelling (source program tokens []) slot) d e r
-    listed-first t p = rw t p
-
-  module _ (slots : List ℕ) {at : ℕ} {before : List ℕ} where
-    pub names-first : length before < 2 ^ 64 → at < 2 ^ 64 → Naming program tokens slots at before before at 0
-    unfolding namesLeft
-    names-first h k = record { short = h; writing = begin _ k }
-
-    module _ (i : ℕ) {next : ℕ} {now : List ℕ} (g : Naming program tokens slots at before now next i) where
-      pub names-next : {last : ℕ} {after : List ℕ} → i < length slots
-          → WroteAt next (cond (ltb 0 i) (bytes ",") [] ++ spelling (source program tokens []) (getD slots i 0)) now after last
-          → Naming program tokens slots at before after last (i + 1)
-      names-next l p = record { short = g .short; writing = rw (add-one i) (goes-on _ _ (g .short) (g .writing) (one-name (spelling (source program tokens [])) slots i l) p) }
-
-      pub names-end : length slots ≤ i → WroteAt at (commaSeparated (map (spelling (source program tokens [])) slots)) before now next
-      names-end l = ends (g .writing) (none-left (spelling (source program tokens [])) slots i l)
-
 -- ---- a procedure
 module _ (program tokens code : List ℕ) {at r : ℕ} {d : List ℕ} where
   pub head-written : (slot w start count : ℕ) (slots : List ℕ) {m n o q : ℕ} {e f g i k : List ℕ} → length d < 2 ^ 64
       → start ≡ startIn w → count ≡ parametersIn w → slots ≡ take count (drop start code)
-      → WroteAt at (bytes "def ") d e m → WroteAt m (spelling (source program tokens []) slot) e f n → WroteAt n (bytes "(") f g o
-      → WroteAt o (commaSeparated (map (spelling (source program tokens [])) slots)) g i q → WroteAt q (bytes "){\n") i k r
+      → WroteAt at (bytes "def ") d e m → WroteAt m (nameText program tokens slot) e f n → WroteAt n (bytes "(") f g o
+      → WroteAt o (commaSeparated (map (nameText program tokens) slots)) g i q → WroteAt q (bytes "){\n") i k r
       → WroteAt at (bytes "def " ++ spelling (source program tokens code) slot ++ bytes "("
       ++ commaSeparated (parameterNames (source program tokens code) (startIn w) (parametersIn w)) ++ bytes "){\n") d k r
-  unfolding parameterNames spelling
+  unfolding parameterNames
   head-written slot w start count slots h a b c p q s t u = rw (← a, ← b, ← c) (then-five h p q s t u)
 
   pub procedure-written : (slot place w start count size : ℕ) {m n : ℕ} {e f g : List ℕ} → length d < 2 ^ 64

@@ -1,18 +1,16 @@
 -- The text of a program's code: what the functions here write. `proofs/Faithful` shows that it is the program's text.
 use Prim.Native.Nat.{ℕ, zero, suc, _+_, _-_}
-use mathlib.Core.Bool.{Bool, _&&_, _||_, cond}
+use mathlib.Core.Bool.{Bool, not, _&&_, cond}
 use mathlib.Core.List.{List, [], _∷_, _++_, map}
 use lib.ListN.{length, getD, take, drop}
 use lib.Dec.{eqb, leb, ltb}
-use mir.Syntax.{w32}
-use mir.Val.{toZ}
 use Rattle.meaning.specs.Basics.{bytes, if_then_else_}
 use Rattle.meaning.specs.Token.{wordDef}
-use Rattle.meaning.specs.Picture.{decimal}
 use Rattle.canonical.specs.Text.{commaSeparated, enclosedIf, apart}
-use Rattle.machine.specs.Opcodes.{tagIn, sizeIn, numberIn, placeIn, extraIn, sizeAt, argumentRoot, calleeIn, tablePlace, startIn, parametersIn, bodyIn, tagNumber, tagString, tagNone, tagTruth, tagTable, tagEntry, tagCall, firstOperator, tagConcatenate, tagAdd, tagSubtract, tagMultiply, tagDivide, tagRemainder, tagShiftRight, tagShiftLeft, tagEqual, tagUnequal, tagGreater, tagDeclare, tagAssign, tagUpdate, tagWhen, tagWhile, tagReturn, tagBlock}
-use Rattle.expressions.specs.Words.{is, homeAt, placeAt}
-use Rattle.expressions.specs.Words as Words
+use Rattle.machine.specs.Opcodes.{tagIn, sizeIn, numberIn, extraIn, sizeAt, argumentRoot, calleeIn, tablePlace, startIn, parametersIn, bodyIn}
+use Rattle.machine.specs.Opcodes.{tagString, tagTable, tagEntry, firstOperator, tagDeclare, tagAssign, tagUpdate, tagWhen, tagWhile, tagForeach, tagReturn, tagBlock}
+use Rattle.expressions.specs.Words.{is, homeAt}
+use Rattle.spellings.specs.Spelling.{nameText, leafText, signText, encloses}
 
 -- what is read: the program, its prepared token words, and its code with the table behind it
 pub record Source : Type 0 where
@@ -26,39 +24,14 @@ source program tokens code = record { program = program; tokens = tokens; code =
 abbrev pub wordAt : Source → ℕ → ℕ
 wordAt s x = getD (s .code) x 0
 
--- some bytes of the program from a place on
-unfoldable pub part : List ℕ → ℕ → ℕ → List ℕ
-part program at size = take size (drop at program)
-
--- how the name of a slot is spelled: its first token is
-unfoldable pub spelling : Source → ℕ → List ℕ
-spelling s slot = part (s .program) (placeAt (s .tokens) slot) (Words.sizeAt (s .tokens) slot)
+-- how the name of a slot is spelled
+abbrev pub spelling : Source → ℕ → List ℕ
+spelling s slot = nameText (s .program) (s .tokens) slot
 
 -- ---- expressions
 -- how one expression is written, by its root
 abbrev pub Writer : Type 0
 Writer = ℕ → List ℕ
-
--- the sign between the two parts of an entry or of an operator
-unfoldable pub signText : ℕ → List ℕ
-signText tag =
-    if eqb tag tagEntry then (λ _. bytes ".")
-    else λ _. if eqb tag tagConcatenate then (λ _. bytes "++")
-    else λ _. if eqb tag tagAdd then (λ _. bytes "+")
-    else λ _. if eqb tag tagSubtract then (λ _. bytes "-")
-    else λ _. if eqb tag tagMultiply then (λ _. bytes "*")
-    else λ _. if eqb tag tagDivide then (λ _. bytes "/")
-    else λ _. if eqb tag tagRemainder then (λ _. bytes "%")
-    else λ _. if eqb tag tagShiftRight then (λ _. bytes ">>")
-    else λ _. if eqb tag tagShiftLeft then (λ _. bytes "<<")
-    else λ _. if eqb tag tagEqual then (λ _. bytes "==")
-    else λ _. if eqb tag tagUnequal then (λ _. bytes "!=")
-    else λ _. if eqb tag tagGreater then (λ _. bytes ">")
-    else λ _. bytes "<"
-
--- whether a part with a tag needs parentheses inside an entry or an operator with another: an operator does, and an entry inside an entry
-unfoldable pub encloses : ℕ → ℕ → Bool
-encloses outer inner = leb firstOperator inner || (eqb outer tagEntry && eqb inner tagEntry)
 
 -- a part whose root is y, inside an entry or an operator with a tag
 unfoldable pub partText : Writer → Source → ℕ → ℕ → List ℕ
@@ -67,15 +40,6 @@ partText inner s outer y = enclosedIf (encloses outer (tagIn (wordAt s y))) (inn
 -- two parts by their roots, with the sign between
 unfoldable pub pairText : Writer → Source → ℕ → ℕ → ℕ → List ℕ
 pairText inner s tag y z = partText inner s tag y ++ signText tag ++ partText inner s tag z
-
--- a constant or a name, by its word
-unfoldable pub leafText : Source → ℕ → List ℕ
-leafText s w =
-    if eqb (tagIn w) tagNumber then (λ _. decimal (toZ w32 (numberIn w)))
-    else λ _. if eqb (tagIn w) tagString then (λ _. bytes "\"" ++ part (s .program) (placeIn w) (extraIn w) ++ bytes "\"")
-    else λ _. if eqb (tagIn w) tagNone then (λ _. bytes "none")
-    else λ _. if eqb (tagIn w) tagTruth then (λ _. cond (eqb (numberIn w) 0) (bytes "false") (bytes "true"))
-    else λ _. spelling s (numberIn w)
 
 -- the root of the argument whose first word is at a; x if there is none
 abbrev pub argumentAfter : Source → ℕ → ℕ → ℕ
@@ -92,13 +56,13 @@ unfoldable pub callText : Writer → Source → ℕ → ℕ → List ℕ
 callText inner s w x =
     spelling s (calleeIn w) ++ bytes "(" ++ argumentsText (suc x) [] inner s (argumentAfter s (x - (sizeIn w - 1)) x) x ++ bytes ")"
 
--- by the word w at the root x
+-- by the word w at the root x; entries and operators are what needs parentheses inside an entry
 unfoldable pub expressionBy : Writer → Source → ℕ → ℕ → List ℕ
 expressionBy inner s w x =
-    if ltb (tagIn w) tagTable then (λ _. leafText s w)
+    if ltb (tagIn w) tagTable then (λ _. leafText (s .program) (s .tokens) w)
     else λ _. if eqb (tagIn w) tagTable then (λ _. bytes "[" ++ inner (x - 1) ++ bytes "]")
-    else λ _. if eqb (tagIn w) tagCall then (λ _. callText inner s w x)
-    else λ _. pairText inner s (tagIn w) (x - 1 - numberIn w) (x - 1)
+    else λ _. if encloses tagEntry (tagIn w) then (λ _. pairText inner s (tagIn w) (x - 1 - numberIn w) (x - 1))
+    else λ _. callText inner s w x
 
 -- fuel falls at each expression inside another; there are fewer than there are words of code
 unfoldable pub rawExpression : ℕ → Source → ℕ → List ℕ
@@ -121,6 +85,24 @@ updateText inner s y =
 unfoldable pub guardedText : Writer → Writer → List ℕ → ℕ → List ℕ
 guardedText inner body lead y = lead ++ inner y ++ bytes ")\n" ++ body (y + 1)
 
+-- Whether the text of an expression with root y ends with a letter or a digit: a leaf's does unless it is a string, a table's, a call's and one in
+-- parentheses do not. By the tag of a primary; of an operand, whose last primary is the second part of an entry; and of an expression likewise.
+unfoldable pub tagEnds : ℕ → Bool
+tagEnds tag = ltb tag tagTable && not (eqb tag tagString)
+
+unfoldable pub operandEnds : List ℕ → ℕ → Bool
+operandEnds code y = if eqb (tagIn (getD code y 0)) tagEntry then (λ _. tagEnds (tagIn (getD code (y - 1) 0))) else λ _. tagEnds (tagIn (getD code y 0))
+
+unfoldable pub endsWord : List ℕ → ℕ → Bool
+endsWord code y = if leb firstOperator (tagIn (getD code y 0)) then (λ _. operandEnds code (y - 1)) else λ _. operandEnds code y
+
+-- a foreach by its variable's slot and the root of its expression, up to its body, and with it
+unfoldable pub iteratorText : Writer → Source → ℕ → ℕ → List ℕ
+iteratorText inner s slot y = bytes "foreach " ++ spelling s slot ++ bytes " in" ++ apart (inner y) ++ cond (endsWord (s .code) y) (bytes " do\n") (bytes "do\n")
+
+unfoldable pub foreachText : Writer → Writer → Source → ℕ → ℕ → List ℕ
+foreachText inner body s slot y = iteratorText inner s slot y ++ body (y + 1)
+
 -- the statements from a up to end, each with its linefeed; there are fewer than there are words
 unfoldable pub rawStatements : ℕ → Writer → Source → ℕ → ℕ → List ℕ
 rawStatements zero body s a end = []
@@ -136,6 +118,7 @@ statementBy inner body s w x =
     else λ _. if eqb (tagIn w) tagUpdate then (λ _. updateText inner s y)
     else λ _. if eqb (tagIn w) tagWhen then (λ _. guardedText inner body (bytes "if(") (x + extraIn w))
     else λ _. if eqb (tagIn w) tagWhile then (λ _. guardedText inner body (bytes "while(") (x + extraIn w))
+    else λ _. if eqb (tagIn w) tagForeach then (λ _. foreachText inner body s (wordAt s (x + 1)) (x + extraIn w))
     else λ _. if eqb (tagIn w) tagReturn then (λ _. bytes "return" ++ apart (inner y) ++ bytes ";")
     else λ _. if eqb (tagIn w) tagBlock then (λ _. bytes "{\n" ++ rawStatements (suc (sizeIn w)) body s (x + 1) (x + sizeIn w) ++ bytes "}")
     else λ _. endingIn inner [] y

@@ -1,10 +1,12 @@
-// Expressions by their roots, which hold each other: `fuel` falls at each that is inside another.
-use crate::leaf::encloses;
-use crate::leaf::is_name_part;
-use crate::leaf::write_leaf;
-use crate::leaf::write_name;
-use crate::leaf::write_sign;
+// Expressions by their roots, cut as the grammar is: an expression is one operand, or two with an operator's sign between; an operand is one primary, or two with a dot
+// between; a primary is a leaf, or holds expressions. A level of nesting goes once through each of the three, whatever it holds, so that writing takes no more stack than reading.
+// `fuel` falls at each expression inside another.
 use machine::tags;
+use spellings::encloses;
+use spellings::is_name_part;
+use spellings::write_leaf;
+use spellings::write_name;
+use spellings::write_sign;
 use stores::words::word_at;
 use writing::write_bytes_at;
 ghost use mathlib.Core.Path.{_≡_};
@@ -12,7 +14,7 @@ ghost use mathlib.Core.List.{[], _++_};
 ghost use Prim.Native.Nat.{suc, _≤_};
 ghost use lib.ListN.{getD};
 ghost use Rattle.meaning.specs.Byte.{isNamePart};
-ghost use Rattle.machine.specs.Opcodes.{argumentRoot};
+ghost use Rattle.machine.specs.Opcodes.{argumentRoot, tagEntry, firstOperator};
 ghost use Rattle.writing.specs.Placed.{WroteAt};
 ghost use Rattle.formatter.specs.Raw.{source, partText, pairText, argumentsText, callText, rawExpression};
 
@@ -34,18 +36,110 @@ pub fn write_expression(
     }
     let w = word_at(code, x);
     let tag = code::tag_of(w);
+    if tag < tags::FIRST_OPERATOR {
+        return write_operand(program, tokens, code, fuel, x, out, at);
+    }
+    let sign = write_operand(
+        program,
+        tokens,
+        code,
+        fuel - 1,
+        code::left_of(w, x),
+        out,
+        at,
+    );
+    let next = write_sign(tag, out, sign);
+    write_operand(
+        program,
+        tokens,
+        code,
+        fuel - 1,
+        code::right_of(x),
+        out,
+        next,
+    )
+}
+
+// The same as a part of an operator: in parentheses if it is an operator itself.
+fn write_operand(
+    program: &[u8],
+    tokens: &[u64],
+    code: &[u64],
+    fuel: usize,
+    x: usize,
+    out: &mut [u8],
+    at: usize,
+) -> usize
+    ensures { λ r. ⌜ WroteAt at (partText (rawExpression fuel (source (now (program .entry)) (now (tokens .entry)) (now (code .entry))))
+        (source (now (program .entry)) (now (tokens .entry)) (now (code .entry))) firstOperator x) (now (out .entry)) (now (out .exit)) r ⌝ }
+{
+    let w = word_at(code, x);
+    if code::tag_of(w) != tags::ENTRY {
+        return write_primary(program, tokens, code, fuel, x, out, at);
+    }
+    if fuel == 0 {
+        return at;
+    }
+    write_entry(
+        program,
+        tokens,
+        code,
+        fuel - 1,
+        code::left_of(w, x),
+        code::right_of(x),
+        out,
+        at,
+    )
+}
+
+// A table and a key by their roots with a dot between.
+pub fn write_entry(
+    program: &[u8],
+    tokens: &[u64],
+    code: &[u64],
+    fuel: usize,
+    y: usize,
+    z: usize,
+    out: &mut [u8],
+    at: usize,
+) -> usize
+    ensures { λ r. ⌜ WroteAt at (pairText (rawExpression fuel (source (now (program .entry)) (now (tokens .entry)) (now (code .entry))))
+        (source (now (program .entry)) (now (tokens .entry)) (now (code .entry))) tagEntry y z) (now (out .entry)) (now (out .exit)) r ⌝ }
+{
+    let dot = write_primary(program, tokens, code, fuel, y, out, at);
+    let next = write_sign(tags::ENTRY, out, dot);
+    write_primary(program, tokens, code, fuel, z, out, next)
+}
+
+// The expression whose root is x as a part of an entry: in parentheses if it is an operator or an entry itself.
+fn write_primary(
+    program: &[u8],
+    tokens: &[u64],
+    code: &[u64],
+    fuel: usize,
+    x: usize,
+    out: &mut [u8],
+    at: usize,
+) -> usize
+    ensures { λ r. ⌜ WroteAt at (partText (rawExpression fuel (source (now (program .entry)) (now (tokens .entry)) (now (code .entry))))
+        (source (now (program .entry)) (now (tokens .entry)) (now (code .entry))) tagEntry x) (now (out .entry)) (now (out .exit)) r ⌝ }
+{
+    let w = word_at(code, x);
+    let tag = code::tag_of(w);
+    if encloses(tags::ENTRY, tag) {
+        return write_between(program, tokens, code, fuel, b"(", x, b")", out, at);
+    }
+    if fuel == 0 {
+        return at;
+    }
     if tag < tags::TABLE {
         return write_leaf(program, tokens, w, out, at);
     }
-    let last = code::right_of(x);
     if tag == tags::TABLE {
+        let last = code::right_of(x);
         return write_between(program, tokens, code, fuel - 1, b"[", last, b"]", out, at);
     }
-    if tag == tags::CALL {
-        return write_call(program, tokens, code, fuel - 1, w, x, out, at);
-    }
-    let first = code::left_of(w, x);
-    write_pair(program, tokens, code, fuel - 1, tag, first, last, out, at)
+    write_call(program, tokens, code, fuel - 1, w, x, out, at)
 }
 
 // An expression behind some bytes.
@@ -83,47 +177,6 @@ pub fn write_between(
 {
     let next = write_behind(program, tokens, code, fuel, lead, y, out, at);
     write_bytes_at(out, next, close)
-}
-
-// A part whose root is y of an entry or an operator, in parentheses where they are needed.
-fn write_side(
-    program: &[u8],
-    tokens: &[u64],
-    code: &[u64],
-    fuel: usize,
-    outer: u64,
-    y: usize,
-    out: &mut [u8],
-    at: usize,
-) -> usize
-    ensures { λ r. ⌜ WroteAt at (partText (rawExpression fuel (source (now (program .entry)) (now (tokens .entry)) (now (code .entry))))
-        (source (now (program .entry)) (now (tokens .entry)) (now (code .entry))) outer y) (now (out .entry)) (now (out .exit)) r ⌝ }
-{
-    let inner = code::tag_of(word_at(code, y));
-    if encloses(outer, inner) {
-        return write_between(program, tokens, code, fuel, b"(", y, b")", out, at);
-    }
-    write_expression(program, tokens, code, fuel, y, out, at)
-}
-
-// Two parts by their roots with the sign of their tag between.
-pub fn write_pair(
-    program: &[u8],
-    tokens: &[u64],
-    code: &[u64],
-    fuel: usize,
-    tag: u64,
-    y: usize,
-    z: usize,
-    out: &mut [u8],
-    at: usize,
-) -> usize
-    ensures { λ r. ⌜ WroteAt at (pairText (rawExpression fuel (source (now (program .entry)) (now (tokens .entry)) (now (code .entry))))
-        (source (now (program .entry)) (now (tokens .entry)) (now (code .entry))) tag y z) (now (out .entry)) (now (out .exit)) r ⌝ }
-{
-    let sign = write_side(program, tokens, code, fuel, tag, y, out, at);
-    let next = write_sign(tag, out, sign);
-    write_side(program, tokens, code, fuel, tag, z, out, next)
 }
 
 // The root of the argument whose first word is at a; x if there is none.

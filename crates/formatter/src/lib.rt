@@ -1,6 +1,5 @@
 // Writing the text of a program from its code. Each function writes from a place on and returns the place behind.
 mod expression;
-mod leaf;
 mod procedure;
 mod statement;
 

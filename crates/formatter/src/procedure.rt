@@ -1,12 +1,12 @@
 // Procedures, each at its def among the tokens.
-use crate::leaf::write_name;
 use crate::statement::write_statements;
+use spellings::write_name;
+use spellings::write_names;
 use stores::words::word_at;
 use tokens::kind;
 use writing::write_bytes_at;
 ghost use mathlib.Core.Path.{_≡_};
-ghost use mathlib.Core.Bool.{cond};
-ghost use mathlib.Core.List.{[], _++_, map};
+ghost use mathlib.Core.List.{_++_};
 ghost use Prim.Native.Nat.{_<_, min};
 ghost use lib.ListN.{length, take, drop};
 ghost use Rattle.meaning.specs.Basics.{bytes};
@@ -33,39 +33,6 @@ fn slots_at(code: &[u64], start: usize, count: usize) -> &[u64]
     let end = least(start + count, code.len());
     let first = least(start, end);
     &code[first..end]
-}
-
-// A name by its slot, behind a comma unless it is the first.
-fn write_listed(
-    program: &[u8],
-    tokens: &[u64],
-    slot: usize,
-    follows: bool,
-    out: &mut [u8],
-    at: usize,
-) -> usize
-    ensures { λ r. ⌜ WroteAt at (cond follows (bytes ",") [] ++ spelling (source (now (program .entry)) (now (tokens .entry)) []) slot)
-        (now (out .entry)) (now (out .exit)) r ⌝ }
-{
-    if follows {
-        let next = write_bytes_at(out, at, b",");
-        return write_name(program, tokens, slot, out, next);
-    }
-    write_name(program, tokens, slot, out, at)
-}
-
-// The names of slots, with a comma between each two.
-fn write_names(program: &[u8], tokens: &[u64], slots: &[u64], out: &mut [u8], at: usize) -> usize
-    ensures { λ r. ⌜ WroteAt at (commaSeparated (map (spelling (source (now (program .entry)) (now (tokens .entry)) [])) (now (slots .entry))))
-        (now (out .entry)) (now (out .exit)) r ⌝ }
-{
-    let mut next = at;
-    let mut i = 0;
-    while i < slots.len() {
-        next = write_listed(program, tokens, slots[i] as usize, 0 < i, out, next);
-        i += 1;
-    }
-    next
 }
 
 // ---- procedures

@@ -1,5 +1,5 @@
 -- The text of a tree lexes to its words.
-use Prim.Native.Nat.{ℕ, suc, _+_, _-_, _<_}
+use Prim.Native.Nat.{ℕ, suc, _+_, _-_}
 use native.Mathlib.Omega.{arith}
 use mathlib.Core.Path.{_≡_, refl, ap, sym, _∙_, subst}
 use mathlib.Core.Bool.{Bool, true, false, not, _&&_, _||_, cond, and-eq-true-iff}
@@ -202,7 +202,7 @@ begins-expression (paren e) h = begins-expression e h
 
 -- ---- how texts end
 -- behind another text
-last-behind : (t : List ℕ) (c : ℕ) (u : List ℕ) → lastOf (t ++ c ∷ u) ≡ lastOf (c ∷ u)
+pub last-behind : (t : List ℕ) (c : ℕ) (u : List ℕ) → lastOf (t ++ c ∷ u) ≡ lastOf (c ∷ u)
 last-behind t c u =
     let n : length (t ++ c ∷ u) - 1 ≡ length t + (length (c ∷ u) - 1) = omega (arith, length-append t (c ∷ u)) in
     ap (λ (m : ℕ). getD (t ++ c ∷ u) m 0) n ∙ getD-append-add t (c ∷ u) (length (c ∷ u) - 1) 0
@@ -224,14 +224,14 @@ last-passes f (c ∷ t) b h = by c t h
     by c (d ∷ t) h = ap f (last-behind (c ∷ []) d t) ∙ by d t (h .1)
 
 -- a word
-last-spelled : (x : List ℕ) → Spelled x → isNamePart (lastOf x) ≡ true
+pub last-spelled : (x : List ℕ) → Spelled x → isNamePart (lastOf x) ≡ true
 last-spelled x h = last-passes isNamePart x (begins-spelled x h) (h .parts)
 
 -- a constant
 last-digits : (n : ℕ) → isNamePart (lastOf (digitsOf n)) ≡ true
 last-digits n = part-digit (lastOf (digitsOf n)) (last-passes isDigit (digitsOf n) (begins-digits n) (all-digits (digitsOf n) (digits-digitsOf n)))
 
-last-decimal : (z : ℤ) → isNamePart (lastOf (decimal z)) ≡ true
+pub last-decimal : (z : ℤ) → isNamePart (lastOf (decimal z)) ≡ true
 unfolding decimal
 last-decimal (pos n) = last-digits n
 last-decimal (negsuc n) = ap isNamePart (last-append (45 ∷ []) (digitsOf (suc n)) (begins-digits (suc n))) ∙ last-digits (suc n)

@@ -145,7 +145,7 @@ const fn statement(name: &'static str, open: &'static str, close: &'static str) 
     }
 }
 
-const NESTS: [Nest; 14] = [
+const NESTS: [Nest; 20] = [
     expression("`(…)`", "(", ")"),
     expression("`[…]`", "[", "]"),
     expression("`f(…)`", "f(", ")"),
@@ -155,6 +155,12 @@ const NESTS: [Nest; 14] = [
     expression("`1+t.(…)`", "1+w.(", ")"),
     expression("`1+t.[…]`", "1+w.[", "]"),
     expression("`1+t.f(…)`", "1+w.f(", ")"),
+    expression("`t.(…)+1`", "w.(", ")+1"),
+    expression("`(…).1+1`", "(", ").1+1"),
+    expression("`[…].1+1`", "[", "].1+1"),
+    expression("`f(…).1+1`", "f(", ").1+1"),
+    expression("`f(1,…)`", "f(1,", ")"),
+    expression("`1+t.f(1,…)`", "1+w.f(1,", ")"),
     Nest {
         levels: 1,
         ..statement("`{…}`", "{", "}")

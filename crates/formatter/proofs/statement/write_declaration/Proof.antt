@@ -1,6 +1,6 @@
 -- `formatter::statement::write_declaration` meets its contract: one part after the other.
 -- Assumes nothing.
-use Rattle.formatter.proofs.Chains.{then-three}
+use Rattle.spellings.proofs.Chains.{then-three}
 use borrow.Author.Needs.{needs}
 use Rattle.formatter.proofs.statement.write_declaration.Statement.{statement}
 use Rattle.formatter.proofs.statement.write_declaration.Tie as tie

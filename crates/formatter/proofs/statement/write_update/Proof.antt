@@ -18,8 +18,8 @@ word-at-requires-2 c κs = search needs
 before-requires-2 : tie.Need-before-requires-2
 before-requires-2 c κs = search needs
 
-write-pair-requires : tie.Need-write-pair-requires
-write-pair-requires c κs = search needs
+write-entry-requires : tie.Need-write-entry-requires
+write-entry-requires c κs = search needs
 
 slice-aggregate-write-between : tie.Need-slice-aggregate-write-between
 slice-aggregate-write-between c = search needs
@@ -41,7 +41,7 @@ returns c =
     (c .before .before .before .before .before .before .before .before .before .before .before .before .before2 .ensures .0)
     (c .before .before .before .before .before .before .before .before .before .before .before .word-at2 .ensures)
     (c .before .before .before .before .before .before .before .before .before .before .before3 .ensures .0)
-    (c .before .before .before .before .before .before .before .before .write-pair .ensures)
+    (c .before .before .before .before .before .before .before .before .write-entry .ensures)
     (c .before .before .write-between .ensures)
 
 pub write-update-spec : {M : Type 1} → statement M
@@ -52,7 +52,7 @@ write-update-spec =
     before-requires
     word-at-requires-2
     before-requires-2
-    write-pair-requires
+    write-entry-requires
     slice-aggregate-write-between
     slice-aggregate-write-between-2
     write-between-requires
