@@ -2,7 +2,7 @@
 //! the run takes.
 
 use crate::random::Random;
-use crate::{damage, limit, procedures, program, quiz, soup, Case};
+use crate::{damage, groups, limit, procedures, program, quiz, soup, Case};
 use reference::sheet::{GRANTS, OUT_LENGTH};
 use reference::{run_specified, Answer, End, Event, Grants, Operation, Specified, Taking};
 use std::sync::OnceLock;
@@ -69,7 +69,7 @@ pub fn case_out_of_range(seed: u64) -> Case {
 
 /// A program of any sort.
 pub fn any_program(random: &mut Random) -> Vec<u8> {
-    match random.weighted(&[65, 10, 2, 2, 7, 15, 14, 3]) {
+    match random.weighted(&[60, 10, 2, 2, 7, 13, 12, 3, 22, 3]) {
         0 => program::program(random),
         1 => {
             let whole = program::program(random);
@@ -78,6 +78,11 @@ pub fn any_program(random: &mut Random) -> Vec<u8> {
         6 => procedures::program(random),
         7 => {
             let whole = procedures::program(random);
+            damage::damaged(whole, random)
+        }
+        8 => groups::program(random),
+        9 => {
+            let whole = groups::program(random);
             damage::damaged(whole, random)
         }
         2 => soup::tokens(random),

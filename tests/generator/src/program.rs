@@ -64,12 +64,12 @@ const PROCEDURES: [&str; 14] = [
     "x",
     "sin",
     "eval",
-    "drawGroup",
+    "drawgroup",
     "foo",
     "scale",
     "w",
     "drawbox",
-    "in",
+    "In",
     "stickman",
 ];
 

@@ -3,7 +3,9 @@
 //! waits for them, calls with any arguments.
 
 use crate::random::Random;
-use crate::words::{edge, KEYS, LIBRARY, LITERALS, OPERATORS, SHAPES, SPECIAL, UNKNOWN};
+use crate::words::{
+    edge, GROUPS, KEYS, LIBRARY, LITERALS, OPERATORS, SHAPES, SPECIAL, UNKNOWN,
+};
 
 /// Statements with holes, which are letters in angle brackets. The variables
 /// a and b hold shapes, t a table.
@@ -117,6 +119,9 @@ fn hole(letter: &str, random: &mut Random) -> String {
         "E" => edge(random),
         "K" => random.pick(&KEYS).to_string(),
         "S" => random.pick(&SHAPES).to_string(),
+        // A group; those of what a and b hold come last.
+        "G" => random.pick(&GROUPS).to_string(),
+        "H" => random.pick(&GROUPS[..9]).to_string(),
         // A shape at the edges.
         "P" => {
             let name = *random.pick(&["drawLine", "drawEllipse", "drawBox"]);

@@ -84,9 +84,9 @@ fn has_minus_zero(program: &[u8], found: &[Token]) -> bool {
 }
 
 /// The white space that tokens get by the request's sentences, worked out from
-/// the tokens alone: a line ends behind `{`, `}` and `;` and behind the test
-/// of an if or while, since a statement, a closing brace, a `def` or the end
-/// follows.
+/// the tokens alone: a line ends behind `{`, `}`, `;` and `do` and behind the
+/// test of an if or while, since a statement, a closing brace, a `def` or the
+/// end follows.
 fn laid_out(program: &[u8], found: &[Token]) -> Vec<u8> {
     let word = |token: &Token| program[token.start].is_ascii_alphanumeric();
     let mut bytes = Vec::new();
@@ -98,7 +98,7 @@ fn laid_out(program: &[u8], found: &[Token]) -> Vec<u8> {
         bytes.extend_from_slice(token.spelling(program));
         let ends = matches!(
             token.kind,
-            Kind::OpenBrace | Kind::CloseBrace | Kind::Semicolon
+            Kind::OpenBrace | Kind::CloseBrace | Kind::Semicolon | Kind::Do
         );
         if ends || test {
             bytes.push(b'\n');
