@@ -6,7 +6,7 @@ use crate::procedures::{how_many, shuffled};
 use crate::quiz::filled;
 use crate::random::Random;
 use crate::spacing::{write, Spacing};
-use reference::token::tokens;
+use reference::token::{tokens, Kind};
 
 /// Statements of main. Its variables a and b hold atoms, g and k groups, t a
 /// table and i counts. The holes are those of `quiz`, and besides `<B>` a
@@ -45,30 +45,30 @@ const STATEMENTS: [&str; 74] = [
     "foreach <V> in <L> do <B>",
     "foreach x in x do 1;",
     "foreach <V> in <Q> do 1;var x;",
-    "foreach <V> in t.<K> do <B>",
+    "t.1=<Q>;foreach <V> in t.1 do <B>",
     "foreach <V> in p(<Q>) do <B>",
-    "foreach <V> in <Q><A><E> do <B>",
+    "foreach <V> in <Q><T><E> do <B>",
     "if(true)foreach <V> in <Q> do if(<V>==a)<B>",
     "while(true){foreach <V> in <Q> do <B>return 1;}",
     // Destroying.
     "destroyShape(<Q>);",
     "destroyShape(<Q>);<Q>;",
     "<Z>;",
-    "<Z>;w=g;",
+    "<Z>;w=k;",
     "<Z>;h=drawGroup(g,k);",
     "k=g;destroyShape(k);w=g;",
     "drawGroup(<Q>,<Z>);",
     "drawGroup(a,<L>,<Z>);",
     "g<O><Z>;",
-    "(g<A>1)<O><Z>;",
+    "(g<T>1)<O><Z>;",
     "g=g;<Z>;g=g;",
     // Operators and equality.
-    "w=<Q><A><E>;",
-    "w=<Q><A><E>;h=w<A><E>;",
+    "w=<Q><T><E>;",
+    "w=<Q><T><E>;h=w<T><E>;",
     "<Q><O><L>;",
     "<L><O><Q>;",
     "<Q>/0;",
-    "<Z>;w=g<A><E>;",
+    "<Z>;w=k<T><E>;",
     "<Z>;if(g==k)w=<S>;",
     "if(<Q>==<Q>)w=<S>;",
     "if(<Q>==<Q>)w=<S>;",
@@ -83,7 +83,7 @@ const STATEMENTS: [&str; 74] = [
     "t.g=1/0;",
     "t.<K>=<Q>;<Z>;w=t.<K>;",
     "t.<K>=g;t.1=t.<K>;destroyShape(t.1);g;",
-    "t.<K>=<Q>;h=t.<K><A><E>;",
+    "t.1=<Q>;h=t.1<T><E>;",
     "drawLineConnectingShapes(<Q>,<S>);",
     "drawLineConnectingShapes(a,<Q>);",
     "drawTextOnShape(<Q>,\"a\");",
@@ -194,7 +194,12 @@ const DOWN: [&str; 10] = [
 
 /// A short program with groups.
 pub fn program(random: &mut Random) -> Vec<u8> {
-    let declared = *random.pick(&["", "", "var x;", "var x;var y;", "var y;x;"]);
+    let declared = match random.weighted(&[30, 20, 48, 2]) {
+        0 => "",
+        1 => "var y;",
+        2 => "var x;var y;",
+        _ => "x;",
+    };
     let front = "var a;var b;var g;var k;var t;var i;a=<S>;b=<S>;g=<G>;k=<G>;t=[0];";
     let mut main = filled(&format!("{declared}{front}"), random);
     for _ in 0..random.between(1, 4) {
@@ -228,7 +233,9 @@ fn spaced(program: &[u8], random: &mut Random) -> Vec<u8> {
     for token in found {
         let text = String::from_utf8_lossy(token.spelling(program)).into_owned();
         match texts.last_mut() {
-            Some(last) if last == "-" && end == token.start => last.push_str(&text),
+            Some(last) if last == "-" && end == token.start && token.kind == Kind::Digits => {
+                last.push_str(&text);
+            }
             _ => texts.push(text),
         }
         end = token.end;
@@ -263,12 +270,12 @@ const HOLES: [(&str, Choose); 5] = [
         _ => how_many(random).to_string(),
     }),
     ("<V>", |random| {
-        let names = ["x", "x", "x", "x", "y", "z", "a", "b", "g", "w", "t"];
-        random.pick(&names).to_string()
+        let names = ["x", "y", "z", "a", "g", "w", "t"];
+        names[random.weighted(&[75, 12, 3, 3, 3, 2, 2])].to_string()
     }),
     ("<Q>", |random| {
-        let groups = ["g", "g", "g", "k", "k", "<G>", "<H>", "drawGroup(g,k)", "a"];
-        random.pick(&groups).to_string()
+        let groups = ["g", "k", "<G>", "<H>", "drawGroup(g,k)", "a"];
+        groups[random.weighted(&[40, 25, 15, 10, 8, 2])].to_string()
     }),
     ("<Z>", |random| {
         let destroying = [

@@ -3,9 +3,7 @@
 //! waits for them, calls with any arguments.
 
 use crate::random::Random;
-use crate::words::{
-    edge, GROUPS, KEYS, LIBRARY, LITERALS, OPERATORS, SHAPES, SPECIAL, UNKNOWN,
-};
+use crate::words::{edge, GROUPS, KEYS, LIBRARY, LITERALS, OPERATORS, SHAPES, SPECIAL, UNKNOWN};
 
 /// Statements with holes, which are letters in angle brackets. The variables
 /// a and b hold shapes, t a table.
@@ -113,6 +111,8 @@ fn hole(letter: &str, random: &mut Random) -> String {
         "A" => random
             .pick(&["+", "-", "*", "/", "%", ">>", "<<"])
             .to_string(),
+        // An operator of a shape and an integer.
+        "T" => random.pick(&["+", "-", "*", "/", ">>", "<<"]).to_string(),
         // An operator that scales.
         "M" => random.pick(&["*", "/"]).to_string(),
         "I" => random.pick(&SPECIAL).to_string(),

@@ -370,7 +370,7 @@ pub fn lengths() -> Vec<Vec<u8>> {
 /// tokens, and such with one or two tokens more; always the same.
 pub fn brims() -> Vec<Vec<u8>> {
     let mut all = Vec::new();
-    for seed in 0..12 {
+    for seed in 0..16 {
         let mut random = Random::new(seed);
         let program = spelling(&mut random);
         all.extend(spelled(&program, Amount::Brim, &mut random));

@@ -92,7 +92,8 @@ fn laid_out(program: &[u8], found: &[Token]) -> Vec<u8> {
     let mut bytes = Vec::new();
     let mut before: Option<&Token> = None;
     for (token, test) in found.iter().zip(closing_tests(found)) {
-        if before.is_some_and(word) && word(token) {
+        let meets = |before: &Token| word(before) && before.kind != Kind::Do;
+        if before.is_some_and(meets) && word(token) {
             bytes.push(b' ');
         }
         bytes.extend_from_slice(token.spelling(program));
