@@ -1,8 +1,8 @@
 //! One call, judged by the proved library and by the reference.
 
 use crate::{check, draw, text, Lent, Numbers, Work, CODE_WORDS, RUN_WORDS, TOKEN_WORDS};
-use generator::case::{needed, EVENTS};
 pub use generator::case::one_less;
+use generator::case::{needed, EVENTS};
 use generator::text::{length, Call};
 use reference::case::Case;
 use reference::{run_specified, Answer, End, Grants, Operation};
