@@ -1,8 +1,8 @@
 use native.Mathlib.Omega.{arith}
 use borrow.Author.Needs.{needs}
 use Rattle.tables.proofs.EntryLaws.{found-small, found-room, stores-new, stores-old}
-use Rattle.tables.proofs.entries.store_entry.Statement.{statement}
-use Rattle.tables.proofs.entries.store_entry.Tie as tie
+use Rattle.tables.proofs.entries.put_value.Statement.{statement}
+use Rattle.tables.proofs.entries.put_value.Tie as tie
 
 find-entry-requires : tie.Need-find-entry-requires
 find-entry-requires c κs = search needs
@@ -37,8 +37,8 @@ same-length-2 c = search needs
 returns-2 : tie.Need-returns-2
 returns-2 c = search stores-old
 
-pub store-entry-spec : {M : Type 1} → statement M
-store-entry-spec =
+pub put-value-spec : {M : Type 1} → statement M
+put-value-spec =
     tie.close
     (tie.spec
     find-entry-requires
