@@ -1,6 +1,6 @@
 -- Groups: their components, and walks over all that they hold. A component's slot holds its shape's number and how many components follow it in its group.
--- A walk goes depth first. At depth d it keeps the slot at which it went down, and how many new components waited then, so that it needs no other memory;
--- b falls at each group inside another.
+-- A walk goes depth first. At depth d it keeps the slot at which it went down, how many components follow there, and how many new ones waited then, so that
+-- it needs no other memory; b falls at each group inside another, and b + d remains the number of shapes granted.
 use Prim.Native.Nat.{ℕ, zero, suc, _+_, _-_, _*_, _/_, _%_, _^_}
 use mathlib.Core.Bool.{Bool, true, false, _&&_, _||_}
 use mathlib.Core.List.{List}
@@ -16,20 +16,20 @@ use Rattle.machine.specs.Shapes.{kindGroup, isGroupAt, destroyedAt, figu
 
 -- ---- components
 abbrev pub slotWord : ℕ → ℕ → ℕ
-slotWord c n = c + 2 ^ 32 * n
+slotWord c n = c % 2 ^ 32 + 2 ^ 32 * (n % 2 ^ 32)
 
 abbrev pub componentAt : List ℕ → List ℕ → ℕ → ℕ
 componentAt g ws k = getD ws (componentPlace g k) 0 % 2 ^ 32
 
 abbrev pub followersAt : List ℕ → List ℕ → ℕ → ℕ
-followersAt g ws k = getD ws (componentPlace g k) 0 / 2 ^ 32
+followersAt g ws k = getD ws (componentPlace g k) 0 / 2 ^ 32 % 2 ^ 16
 
 -- the slot of a group's first component, and how many there are
 abbrev pub firstAt : List ℕ → ℕ → ℕ
-firstAt ws i = getD ws (shapePlace i + 1) 0 % 2 ^ 32
+firstAt ws i = getD ws (shapePlace i + 1) 0 % 2 ^ 16
 
 abbrev pub countAt : List ℕ → ℕ → ℕ
-countAt ws i = getD ws (shapePlace i + 1) 0 / 2 ^ 32
+countAt ws i = getD ws (shapePlace i + 1) 0 / 2 ^ 32 % 2 ^ 16
 
 -- ---- a group made
 -- n components, one entry for each: their numbers stand above so many bits, unit, of the words at a place and every stride further on
@@ -39,8 +39,8 @@ fillFrom g p stride unit place (suc n) = do
   k ← load componentsMade
   spend entriesUsed (entriesGranted g) 1 77 p
   w ← load place
-  store (componentPlace g k) (slotWord (w / unit % 2 ^ 32) n)
-  store componentsMade (k + 1)
+  store (componentPlace g (k % entriesGranted g)) (slotWord (w / unit) n)
+  store componentsMade (k % entriesGranted g + 1)
   fillFrom g p stride unit (place + stride) n
 
 abbrev pub groupLaid : List ℕ → ℕ → ℕ → ℕ → List ℕ
@@ -66,6 +66,10 @@ copyShape g p i =
     else λ _. newShape g p (figureAt ws i)
 
 -- ---- walks
+-- the way at a depth: a slot, how many components follow there, and how many new ones waited
+abbrev pub wayWord : ℕ → ℕ → ℕ → ℕ
+wayWord k n m = k % 2 ^ 32 + 2 ^ 32 * (n % 2 ^ 16) + 2 ^ 48 * (m % 2 ^ 16)
+
 -- where the way stands at depth d, and the k-th new component that waits
 abbrev pub wayPlace : ℕ → ℕ
 wayPlace d = shapePlace d + 3
@@ -73,12 +77,12 @@ wayPlace d = shapePlace d + 3
 abbrev pub waitingPlace : ℕ → ℕ
 waitingPlace k = shapePlace k + 4
 
--- the components from slot k on, n of them, those passed over that are destroyed by then
-unfoldable pub eachFrom : (ℕ → ℕ → Act (Unit {0})) → List ℕ → ℕ → ℕ → Act (Unit {0})
+-- the components from slot k on, n of them, those passed over that are destroyed by then; a visit is told how many follow
+unfoldable pub eachFrom : (ℕ → ℕ → ℕ → Act (Unit {0})) → List ℕ → ℕ → ℕ → Act (Unit {0})
 eachFrom visit g k zero = give tt
 eachFrom visit g k (suc n) = do
   ws ← held
-  if destroyedAt ws (componentAt g ws k) then (λ _. give tt) else λ _. visit k (componentAt g ws k)
+  if destroyedAt ws (componentAt g ws k) then (λ _. give tt) else λ _. visit k n (componentAt g ws k)
   eachFrom visit g (k + 1) n
 
 -- all in group i: reach is done with each component, and leave, at its depth, with each group when all in it was reached
@@ -86,9 +90,9 @@ unfoldable pub walkIn : (ℕ → Act (Unit {0})) → (ℕ → Act (Unit {0})) �
 walkIn reach leave zero g d i = give tt
 walkIn reach leave (suc b) g d i =
     held >>= λ ws.
-    eachFrom (λ k c. reach c >> (held >>= λ ws′. if isGroupAt ws′ c then (λ _. do
+    eachFrom (λ k n c. reach c >> (held >>= λ ws′. if isGroupAt ws′ c then (λ _. do
       m ← load waitingHeld
-      store (wayPlace d) (slotWord k m)
+      store (wayPlace d) (wayWord k n m)
       walkIn reach leave b g (d + 1) c
       leave d)
     else λ _. give tt)) g (firstAt ws i) (countAt ws i)
@@ -108,8 +112,8 @@ destroyLiving g p i = held >>= λ ws. if destroyedAt ws i then (λ _. give tt) e
 unfoldable pub await : ℕ → Act (Unit {0})
 await j = do
   k ← load waitingHeld
-  store (waitingPlace k) j
-  store waitingHeld (k + 1)
+  store (waitingPlace (k % 2 ^ 16)) j
+  store waitingHeld (k % 2 ^ 16 + 1)
 
 -- a group of those that wait from the m-th on, which wait no longer
 unfoldable pub groupWaiting : List ℕ → ℕ → ℕ → Act ℕ
@@ -129,7 +133,7 @@ remakeReached g p f c = do
 unfoldable pub remakeLeft : List ℕ → ℕ → ℕ → Act (Unit {0})
 remakeLeft g p d = do
   w ← load (wayPlace d)
-  j ← groupWaiting g p (w / 2 ^ 32)
+  j ← groupWaiting g p (w / 2 ^ 48)
   await j
 
 unfoldable pub remakeGroup : List ℕ → ℕ → (Figure → Figure) → ℕ → Act Value
@@ -148,28 +152,29 @@ unfoldable pub passedFrom : List ℕ → List ℕ → ℕ → ℕ → ℕ
 passedFrom g ws k zero = 0
 passedFrom g ws k (suc n) = if destroyedAt ws (componentAt g ws k) then (λ _. suc (passedFrom g ws (k + 1) n)) else λ _. 0
 
--- The pairs of n components from slot k on and m from slot l on, each by `pair`; the first that is not alike, or the end of the shorter, settles it. Each
--- round uses up a component, so the rounds do not run out.
-unfoldable pub pairsFrom : ℕ → (ℕ → ℕ → Act Bool) → List ℕ → ℕ → ℕ → ℕ → ℕ → Act Bool
-pairsFrom zero pair g k n l m = give false
-pairsFrom (suc rounds) pair g k n l m =
+-- The pairs of n components from slot k on and m from slot l on, each by `pair`, which is told how many follow on each side; the first that is not alike, or
+-- the end of the shorter, settles it.
+unfoldable pub pairsFrom : (ℕ → ℕ → ℕ → ℕ → Act Bool) → List ℕ → ℕ → ℕ → ℕ → ℕ → Act Bool
+pairsFrom pair g k zero l m = held >>= λ ws. give (eqb m (passedFrom g ws l m))
+pairsFrom pair g k (suc n) l m =
     held >>= λ ws.
-    let x = passedFrom g ws k n in
     let y = passedFrom g ws l m in
-    if eqb n x && eqb m y then (λ _. give true)
-    else λ _. if eqb n x || eqb m y then (λ _. give false)
-    else λ _. pair (k + x) (l + y) >>= λ b.
-    if b then (λ _. pairsFrom rounds pair g (k + x + 1) (n - x - 1) (l + y + 1) (m - y - 1)) else λ _. give false
+    if destroyedAt ws (componentAt g ws k) then (λ _. pairsFrom pair g (k + 1) n l m)
+    else λ _. if eqb m y then (λ _. give false)
+    else λ _. pair k n (l + y) (m - y - 1) >>= λ b.
+    if b then (λ _. pairsFrom pair g (k + 1) n (l + y + 1) (m - y - 1)) else λ _. give false
 
--- two shapes: two figures by `same`, two groups pair by pair with a step for each
+-- two shapes: two figures by `same`, two groups pair by pair with a step for each; the way is kept on both sides
 unfoldable pub alikeAt : (ℕ → ℕ → Act Bool) → ℕ → List ℕ → ℕ → ℕ → ℕ → ℕ → Act Bool
 alikeAt same zero g p d i j = give false
 alikeAt same (suc b) g p d i j =
     held >>= λ ws.
     if isGroupAt ws i && isGroupAt ws j
-    then (λ _. pairsFrom (suc (countAt ws i)) (λ k l. do
+    then (λ _. pairsFrom (λ k n l m. do
       count g p
-      store (wayPlace d) (slotWord k l)
-      alikeAt same b g p (d + 1) (componentAt g ws k) (componentAt g ws l)) g (firstAt ws i) (countAt ws i) (firstAt ws j) (countAt ws j))
+      store (wayPlace d) (wayWord k n 0)
+      store (waitingPlace d) (wayWord l m 0)
+      ws′ ← held
+      alikeAt same b g p (d + 1) (componentAt g ws′ k) (componentAt g ws′ l)) g (firstAt ws i) (countAt ws i) (firstAt ws j) (countAt ws j))
     else λ _. if isGroupAt ws i || isGroupAt ws j then (λ _. give false)
     else λ _. same i j

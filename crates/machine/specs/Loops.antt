@@ -14,7 +14,7 @@ use Rattle.machine.specs.Words.{packed}
 use Rattle.machine.specs.Layout.{callsUsed, loopUnit, shapesGranted, stepsGranted, shapePlace, pathPlace}
 use Rattle.machine.specs.Act.{Act, give, fail, store, held, count, _>>=_, _>>_}
 use Rattle.machine.specs.Shapes.{isGroupAt, destroyedAt}
-use Rattle.machine.specs.Groups.{componentAt, followersAt, firstAt, countAt}
+use Rattle.machine.specs.Groups.{componentAt, followersAt, firstAt, countAt, wayWord, wayPlace}
 use Rattle.machine.specs.Variables.{setVariable}
 
 -- ---- groups in which no figure is left; none ever comes back
@@ -26,7 +26,7 @@ hollow i = store (shapePlace i + 2) 1
 
 -- ---- marks, of the call under way
 abbrev pub markPlace : List ℕ → List ℕ → ℕ → ℕ
-markPlace g ws k = pathPlace g (getD ws callsUsed 0 - 1) k
+markPlace g ws k = pathPlace g ((getD ws callsUsed 0 - 1) % 64) k
 
 abbrev pub markedAt : List ℕ → List ℕ → ℕ → Bool
 markedAt g ws k = leb (getD ws loopUnit 0) (getD ws (markPlace g ws k) 0)
@@ -39,22 +39,28 @@ unmark g k = held >>= λ ws. store (markPlace g ws k) (getD ws (markPlace g ws k
 
 -- ---- the next figure
 -- The slot behind that of the first undestroyed figure among n components from slot k on and in groups among them; 0 if there is none. The slots on the way
--- down are marked, and a group that has none is hollow from then on. `inside` looks into a group.
-unfoldable pub lookFrom : (ℕ → Act ℕ) → List ℕ → ℕ → ℕ → Act ℕ
-lookFrom inside g k zero = give 0
-lookFrom inside g k (suc n) =
+-- down are marked, and a group that has none is hollow from then on. `inside` looks into a group; the way is kept as in other walks.
+unfoldable pub lookFrom : (ℕ → Act ℕ) → List ℕ → ℕ → ℕ → ℕ → Act ℕ
+lookFrom inside g d k zero = give 0
+lookFrom inside g d k (suc n) =
     held >>= λ ws.
     let c = componentAt g ws k in
-    if destroyedAt ws c || (isGroupAt ws c && hollowAt ws c) then (λ _. lookFrom inside g (k + 1) n)
+    if destroyedAt ws c || (isGroupAt ws c && hollowAt ws c) then (λ _. lookFrom inside g d (k + 1) n)
     else λ _. if isGroupAt ws c then (λ _. do
       mark g k
+      store (wayPlace d) (wayWord k n 0)
       found ← inside c
-      if eqb found 0 then (λ _. unmark g k >> hollow c >> lookFrom inside g (k + 1) n) else λ _. give found)
+      ws′ ← held
+      if eqb found 0 then (λ _. unmark g k >> hollow (componentAt g ws′ k) >> lookFrom inside g d (k + 1) n) else λ _. give found)
     else λ _. give (k + 1)
 
-unfoldable pub lookIn : ℕ → List ℕ → ℕ → Act ℕ
-lookIn zero g i = give 0
-lookIn (suc b) g i = held >>= λ ws. lookFrom (lookIn b g) g (firstAt ws i) (countAt ws i)
+unfoldable pub lookUnder : ℕ → List ℕ → ℕ → ℕ → ℕ → Act ℕ
+lookUnder zero g d k n = give 0
+lookUnder (suc b) g d k n = lookFrom (λ c. held >>= λ ws. lookUnder b g (d + 1) (firstAt ws c) (countAt ws c)) g d k n
+
+-- the same in group i
+unfoldable pub lookIn : List ℕ → ℕ → Act ℕ
+lookIn g i = held >>= λ ws. lookUnder (shapesGranted g) g 0 (firstAt ws i) (countAt ws i)
 
 -- the first marked slot of n from k on: the one behind it; 0 if there is none
 unfoldable pub markedFrom : List ℕ → List ℕ → ℕ → ℕ → ℕ
@@ -66,7 +72,7 @@ unfoldable pub lookBehind : ℕ → List ℕ → ℕ → ℕ → Act ℕ
 lookBehind zero g end k = give 0
 lookBehind (suc turns) g end k = do
   ws ← held
-  found ← lookFrom (lookIn (shapesGranted g) g) g (k + 1) (followersAt g ws k)
+  found ← lookUnder (shapesGranted g) g 0 ((k + 1) % 2 ^ 16) (followersAt g ws k)
   ws′ ← held
   let up = markedFrom g ws′ (k + 1) (end - k - 1) in
       if not (eqb found 0) || eqb up 0 then (λ _. give found) else λ _. unmark g (up - 1) >> lookBehind turns g end (up - 1)
@@ -104,7 +110,7 @@ turnsFrom (suc turns) body g p slot end found =
 unfoldable pub ownTurn : Act Flow → List ℕ → ℕ → ℕ → ℕ → ℕ → Act Flow
 ownTurn body g p slot k c =
     held >>= λ ws.
-    if isGroupAt ws c then (λ _. lookIn (shapesGranted g) g c >>= turnsFrom (stepsGranted g + 1) body g p slot k) else λ _. turn body slot c
+    if isGroupAt ws c then (λ _. lookIn g c >>= turnsFrom (stepsGranted g + 1) body g p slot k) else λ _. turn body slot c
 
 -- the group's own components from slot k on, n of them, with a step for each that is not destroyed when it is reached
 unfoldable pub ownFrom : Act Flow → List ℕ → ℕ → ℕ → ℕ → ℕ → Act Flow

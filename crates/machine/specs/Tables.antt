@@ -120,8 +120,8 @@ unfoldable pub addEntry : List ℕ → List ℕ → ℕ → ℕ → ℕ → ℕ 
 addEntry program g t key value p r = (do
   n ← load entriesMade
   spend entriesUsed (entriesGranted g) 1 77 p
-  store entriesMade (n + 1)
-  putEntry (entryPlace g n) (headPlace g (bucketOf program g (r .texts) (r .words) t key)) t key value (n + 1)) r
+  store entriesMade (n % entriesGranted g + 1)
+  putEntry (entryPlace g (n % entriesGranted g)) (headPlace g (bucketOf program g (r .texts) (r .words) t key)) t key value (n % entriesGranted g + 1)) r
 
 -- the entry is overwritten, or a new one added
 unfoldable pub storeIn : List ℕ → List ℕ → ℕ → ℕ → ℕ → ℕ → ℕ → Act (Unit {0})
