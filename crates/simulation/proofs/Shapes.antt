@@ -1,5 +1,6 @@
 -- Shapes made.
-use Prim.Native.Nat.{ℕ, suc, _+_, _*_, _/_, _%_, _^_, _≤_, _<_}
+use Prim.Native.Nat.{ℕ, suc, _+_, _-_, _*_, _/_, _%_, _^_, _≤_, _<_}
+use native.Mathlib.Nat.{le-trans, add-zero}
 use native.Mathlib.Omega.{arith}
 use mathlib.Core.Path.{_≡_, refl, ap, ap₂, sym, _∙_}
 use mathlib.Core.Logic.{_≢_}
@@ -12,44 +13,76 @@ use lib.IntN.{ℤ, pos, negsuc}
 use lib.Signed.{mag}
 use mir.Syntax.{w32}
 use mir.Val.{toZ}
-use borrow.Author.Tests.{eqb-true, eqb-false}
+use borrow.Author.Tests.{eqb-true, eqb-false, ne-eqb}
+use Rattle.meaning.specs.Basics.{if_then_else_}
 use Rattle.meaning.specs.Token.{Token}
 use Rattle.meaning.specs.Integer.{bits, wrap}
 use Rattle.meaning.proofs.IntegerLaws.{wrap-id}
 use Rattle.meaning.specs.Figure as Meaning
 use Rattle.meaning.specs.Value as Value
-use Rattle.meaning.specs.State.{State, withShape}
+use Rattle.meaning.specs.State.{State, atom, componentsIn, withShape}
 use Rattle.meaning.specs.State as State
 use Rattle.meaning.specs.Run as Run
 use Rattle.meaning.specs.Book.{Amounts, added, resourceNumber, shortageOf}
-use Rattle.meaning.specs.Operator as Operator
+use Rattle.meaning.specs.Group as Group
 use Rattle.machine.specs.declared.Value.{Value}
 use Rattle.machine.specs.declared.Value.the-variants.{Shape}
-use Rattle.machine.specs.Layout.{stepsUsed, shapesUsed, entriesUsed, textUsed, tablesMade, declared, argumentsHeld, callsUsed, shapesGranted, shapePlace}
+use Rattle.machine.specs.Layout.{
+  stepsUsed,
+  shapesUsed,
+  entriesUsed,
+  textUsed,
+  tablesMade,
+  declared,
+  argumentsHeld,
+  callsUsed,
+  running,
+  entriesMade,
+  componentsMade,
+  waitingHeld,
+  loopUnit,
+  shapesGranted,
+  entriesGranted,
+  fixedWords,
+  framePlace,
+  argumentPlace,
+  shapePlace,
+  entryPlace,
+  componentPlace,
+  pathPlace,
+}
 use Rattle.machine.specs.Act.{Raw, raw}
 use Rattle.machine.specs.Act as Act
 use Rattle.machine.specs.declared.Figure.{Figure}
-use Rattle.machine.specs.Shapes.{firstWord, pairWord, lowNumber, highNumber, figureAt, figureLaid, putFigure, newShape}
-use Rattle.simulation.specs.Meant.{meantValue, meantFigure, listed, shapeAt, shapesOf}
-use Rattle.simulation.specs.Sound.{Valid, Proper, Counted, Shapes}
+use Rattle.machine.specs.Shapes.{firstWord, pairWord, lowNumber, highNumber, kindAt, kindGroup, isGroupAt, figureAt, figureLaid, putFigure, newShape}
+use Rattle.machine.specs.Groups.{firstAt, countAt}
+use Rattle.machine.specs.Show.{figuresIn}
+use Rattle.machine.specs.Loops.{hollowAt}
+use Rattle.simulation.specs.Meant.{meantValue, meantFigure, listed, contentAt, shapeAt, shapesOf}
+use Rattle.simulation.specs.Sound.{Valid, Proper, Counted, Grouped, Shapes, Marks}
 use Rattle.simulation.specs.Follows.{Grants, Related, Later, Follows}
 use Rattle.simulation.proofs.Listed.{listed-first, listed-more, length-listed}
 use Rattle.simulation.proofs.Frames.{
-  proper-kept,
-  figure-later,
-  untouched-words,
+  group-stays,
+  stays-words,
+  SameComponents,
   SameVariables,
   same-words,
   variables-kept,
   variables-same,
   SameWaiting,
   same-waiting,
+  proper-kept,
+  first-later,
+  count-later,
+  grouped-later,
+  content-stays,
+  figures-none,
   SameEntries,
   entries-kept,
   entries-same,
 }
-use Rattle.simulation.proofs.Results.{due, given, Untouched, AfterValue, steps-told, spent-then}
-use Rattle.simulation.proofs.Counting.{lent-set, figure-same}
+use Rattle.simulation.proofs.Results.{due, given, Untouched, After, AfterValue, steps-told, spent-then}
 
 -- ---- a figure's words
 bits-below : (z : ℤ) → bits z < 2 ^ 32
@@ -75,15 +108,18 @@ high-of x y h =
 pair-small : (x y : ℤ) → pairWord x y < 2 ^ 64
 pair-small x y = omega (arith, bits-below x, bits-below y)
 
-kind-of : (k t : ℕ) → k < 4 → firstWord k t / 2 % 4 ≡ k
+pub kind-of : (k t : ℕ) → k < 8 → firstWord k t / 2 % 8 ≡ k
 kind-of k t h =
-    let q : firstWord k t / 2 ≡ k + 4 * (t % 2 ^ 40) = omega arith in
+    let q : firstWord k t / 2 ≡ k + 8 * (t % 2 ^ 40) = omega arith in
     rw q (omega arith)
 
-text-of : (k t : ℕ) → t < 2 ^ 40 → firstWord k t / 8 ≡ t
-text-of k t h = let q : t % 2 ^ 40 ≡ t = omega arith in rw q (omega arith)
+text-of : (k t : ℕ) → t < 2 ^ 40 → firstWord k t / 16 ≡ t
+text-of k t h =
+    let q : t % 2 ^ 40 ≡ t = omega arith in
+    let k′ : k % 8 < 8 = omega arith in
+    rw q (omega arith)
 
-alive : (k t : ℕ) → firstWord k t % 2 ≡ 0
+pub alive : (k t : ℕ) → firstWord k t % 2 ≡ 0
 alive k t = omega arith
 
 -- what holds of the numbers below n and of n holds of those below n + 1
@@ -105,6 +141,9 @@ module _ (ws : List ℕ) (a b c d x y z w : ℕ) where
   abbrev w₃ : List ℕ
   w₃ = set (set (set ws a x) b y) c z
 
+  pub length-four : length (set w₃ d w) ≡ length ws
+  length-four = length-set w₃ d w ∙ length-set w₂ c z ∙ length-set w₁ b y ∙ length-set ws a x
+
   pub read-four : (j : ℕ) → j ≢ a → j ≢ b → j ≢ c → j ≢ d → getD (set w₃ d w) j 0 ≡ getD ws j 0
   read-four j p q r s =
       getD-set-other w₃ d j w 0 s ∙ getD-set-other w₂ c j z 0 r ∙ getD-set-other w₁ b j y 0 q ∙ getD-set-other ws a j x 0 p
@@ -123,180 +162,334 @@ module _ (ws : List ℕ) (a b c d x y z w : ℕ) where
   pub read-fourth : d < length ws → getD (set w₃ d w) d 0 ≡ w
   read-fourth l = getD-set-same w₃ d w 0 (rw (length-set w₂ c z, length-set w₁ b y, length-set ws a x) l)
 
-module _ {program : List ℕ} {ts : List Token} {g : List ℕ} where
-  module _ {r : Raw} {s : State} {total : Amounts} (h : Related program ts g r s total) (f : Figure) (proper : Proper program (getD (r .words) textUsed 0) f)
-      (fit : getD (r .words) shapesUsed 0 + 1 ≤ shapesGranted g) where
-    abbrev n : ℕ
-    n = getD (r .words) shapesUsed 0
+-- ---- one shape more, and perhaps some components
+module _ (program g : List ℕ) where
+  pub record Grown (r : Raw) (ws′ : List ℕ) : Type 0 where
+    pub long : length ws′ ≡ length (r .words)
+    pub low : (j : ℕ) → j ≢ shapesUsed → j ≢ entriesUsed → j ≢ componentsMade → j < fixedWords → getD ws′ j 0 ≡ getD (r .words) j 0
+    pub used : getD ws′ shapesUsed 0 ≡ getD (r .words) shapesUsed 0 + 1
+    pub fit : getD (r .words) shapesUsed 0 + 1 ≤ shapesGranted g
+    pub shapes : (i j : ℕ) → i < getD (r .words) shapesUsed 0 → j < 3 → getD ws′ (shapePlace i + j) 0 ≡ getD (r .words) (shapePlace i + j) 0
+    pub ways : (i j : ℕ) → 3 ≤ j → j < 5 → i < shapesGranted g → getD ws′ (shapePlace i + j) 0 ≡ getD (r .words) (shapePlace i + j) 0
+    pub entries : (j : ℕ) → entryPlace g 0 ≤ j → j < componentPlace g 0 → getD ws′ j 0 ≡ getD (r .words) j 0
+    pub parts : SameComponents g r (raw (r .texts) ws′)
+    pub paths : (j : ℕ) → componentPlace g (entriesGranted g) ≤ j → getD ws′ j 0 ≡ getD (r .words) j 0
+    pub taken : getD ws′ entriesUsed 0 ≤ entriesGranted g
+    pub made : getD ws′ entriesMade 0 + getD ws′ componentsMade 0 ≡ getD ws′ entriesUsed 0
+    -- the new shape
+    pub first : getD ws′ (shapePlace (getD (r .words) shapesUsed 0) + 1) 0 < 2 ^ 64
+    pub second : getD ws′ (shapePlace (getD (r .words) shapesUsed 0) + 2) 0 < 2 ^ 64
+    pub proper : isGroupAt ws′ (getD (r .words) shapesUsed 0) ≡ false → Proper program (getD (r .words) textUsed 0) (figureAt ws′ (getD (r .words) shapesUsed 0))
+    pub grouped : isGroupAt ws′ (getD (r .words) shapesUsed 0) ≡ true → Grouped g ws′ (getD (r .words) shapesUsed 0)
+    pub behind : isGroupAt ws′ (getD (r .words) shapesUsed 0) ≡ true → getD (r .words) componentsMade 0 ≤ firstAt ws′ (getD (r .words) shapesUsed 0)
+    pub full : isGroupAt ws′ (getD (r .words) shapesUsed 0) ≡ true → hollowAt ws′ (getD (r .words) shapesUsed 0) ≡ false
+    pub living : getD ws′ (shapePlace (getD (r .words) shapesUsed 0)) 0 % 2 ≡ 0
 
-    abbrev place : ℕ
-    place = shapePlace (getD (r .words) shapesUsed 0)
+module _ {program : List ℕ} {ts : List Token} {g : List ℕ} {r : Raw} {s : State} {total : Amounts} (h : Related program ts g r s total) (ws′ : List ℕ) (a : Grown program g r ws′) where
+  abbrev n : ℕ
+  n = getD (r .words) shapesUsed 0
 
-    abbrev made : Raw
-    made = raw (r .texts) (figureLaid (set (r .words) shapesUsed (getD (r .words) shapesUsed 0 + 1)) (shapePlace (getD (r .words) shapesUsed 0)) f)
+  counter : (j : ℕ) → j ≢ shapesUsed → j ≢ entriesUsed → j ≢ componentsMade → j < 16 → getD ws′ j 0 ≡ getD (r .words) j 0
+  counter j x y z l = a .low j x y z (omega arith)
 
-    abbrev ws′ : List ℕ
-    ws′ = figureLaid (set (r .words) shapesUsed (getD (r .words) shapesUsed 0 + 1)) (shapePlace (getD (r .words) shapesUsed 0)) f
+  plain : (j : ℕ) → 16 ≤ j → j < fixedWords → getD ws′ j 0 ≡ getD (r .words) j 0
+  plain j l m = a .low j (λ e. omega arith) (λ e. omega arith) (λ e. omega arith) m
 
-    long : place + 3 ≤ length (r .words)
-    long = omega (arith, fit, h .sound .lent .room .words)
+  steps-as : getD ws′ stepsUsed 0 ≡ getD (r .words) stepsUsed 0
+  steps-as = counter stepsUsed (λ e. omega arith) (λ e. omega arith) (λ e. omega arith) (omega arith)
 
-    untouched : (j : ℕ) → j ≢ shapesUsed → j ≢ place → j ≢ place + 1 → j ≢ place + 2 → getD ws′ j 0 ≡ getD (r .words) j 0
-    untouched j a b c d = read-four (r .words) 1 place (place + 1) (place + 2) (n + 1) (firstWord (f .kind) (f .text)) (pairWord (f .a) (f .b)) (pairWord (f .c) (f .d)) j a b c d
+  text-as : getD ws′ textUsed 0 ≡ getD (r .words) textUsed 0
+  text-as = counter textUsed (λ e. omega arith) (λ e. omega arith) (λ e. omega arith) (omega arith)
 
-    lowly : (j : ℕ) → j ≢ shapesUsed → j < place → getD ws′ j 0 ≡ getD (r .words) j 0
-    lowly j a b = untouched j a (λ e. omega arith) (λ e. omega arith) (λ e. omega arith)
+  tables-as : getD ws′ tablesMade 0 ≡ getD (r .words) tablesMade 0
+  tables-as = counter tablesMade (λ e. omega arith) (λ e. omega arith) (λ e. omega arith) (omega arith)
 
-    highly : (j : ℕ) → place + 3 ≤ j → getD ws′ j 0 ≡ getD (r .words) j 0
-    highly j b = untouched j (λ e. omega arith) (λ e. omega arith) (λ e. omega arith) (λ e. omega arith)
+  calls-as : getD ws′ callsUsed 0 ≡ getD (r .words) callsUsed 0
+  calls-as = counter callsUsed (λ e. omega arith) (λ e. omega arith) (λ e. omega arith) (omega arith)
 
-    one-more : getD ws′ shapesUsed 0 ≡ n + 1
-    one-more = read-first (r .words) 1 place (place + 1) (place + 2) (n + 1) (firstWord (f .kind) (f .text)) (pairWord (f .a) (f .b)) (pairWord (f .c) (f .d)) (omega (arith, long)) (λ e. omega arith) (λ e. omega arith) (λ e. omega arith)
+  unit-as : getD ws′ loopUnit 0 ≡ getD (r .words) loopUnit 0
+  unit-as = counter loopUnit (λ e. omega arith) (λ e. omega arith) (λ e. omega arith) (omega arith)
 
-    word₀ : getD ws′ place 0 ≡ firstWord (f .kind) (f .text)
-    word₀ = read-second (r .words) 1 place (place + 1) (place + 2) (n + 1) (firstWord (f .kind) (f .text)) (pairWord (f .a) (f .b)) (pairWord (f .c) (f .d)) (omega (arith, long)) (λ e. omega arith) (λ e. omega arith)
+  running-as : getD ws′ running 0 ≡ getD (r .words) running 0
+  running-as = counter running (λ e. omega arith) (λ e. omega arith) (λ e. omega arith) (omega arith)
 
-    word₁ : getD ws′ (place + 1) 0 ≡ pairWord (f .a) (f .b)
-    word₁ = read-third (r .words) 1 place (place + 1) (place + 2) (n + 1) (firstWord (f .kind) (f .text)) (pairWord (f .a) (f .b)) (pairWord (f .c) (f .d)) (omega (arith, long)) (λ e. omega arith)
+  pub height-as : getD ws′ argumentsHeld 0 ≡ getD (r .words) argumentsHeld 0
+  height-as = counter argumentsHeld (λ e. omega arith) (λ e. omega arith) (λ e. omega arith) (omega arith)
 
-    word₂ : getD ws′ (place + 2) 0 ≡ pairWord (f .c) (f .d)
-    word₂ = read-fourth (r .words) 1 place (place + 1) (place + 2) (n + 1) (firstWord (f .kind) (f .text)) (pairWord (f .a) (f .b)) (pairWord (f .c) (f .d)) (omega (arith, long))
+  pub grown-later : Later program r (raw (r .texts) ws′)
+  grown-later = record {
+    steps = omega (arith, steps-as);
+    shapes = omega (arith, a .used);
+    text = omega (arith, text-as);
+    tables = omega (arith, tables-as);
+    texts = λ t v. refl;
+    figures = λ i l. stays-words (r .words) ws′ i (λ j k. a .shapes i j l k);
+  }
 
-    newest : figureAt ws′ n ≡ f
-    unfolding figureAt
-    newest = rw (
-      word₀,
-      word₁,
-      word₂,
-      kind-of (f .kind) (f .text) (proper .kind),
-      text-of (f .kind) (f .text) (proper .text .small),
-      low-of (f .a) (f .b) (proper .a),
-      high-of (f .a) (f .b) (proper .b),
-      low-of (f .c) (f .d) (proper .c),
-      high-of (f .c) (f .d) (proper .d),
-    )
+  variables-as : SameVariables grown-later
+  variables-as = same-words grown-later (counter declared (λ e. omega arith) (λ e. omega arith) (λ e. omega arith) (omega arith)) running-as (λ j x y. plain j x (omega arith))
 
-    shape-later : Later program r made
-    shape-later = record {
-      steps = omega (arith, lowly stepsUsed (λ e. omega arith) (omega arith));
-      shapes = omega (arith, one-more);
-      text = omega (arith, lowly textUsed (λ e. omega arith) (omega arith));
-      tables = omega (arith, lowly tablesMade (λ e. omega arith) (omega arith));
-      texts = λ t v. refl;
-      figures = λ i l. figure-same (r .words) ws′ i (λ j k. lowly _ (λ e. omega arith) (omega arith));
-    }
+  pub grown-untouched : Untouched g r (raw (r .texts) ws′)
+  grown-untouched = record {
+    calls = calls-as;
+    running = running-as;
+    frames = λ d z l. plain (framePlace d) (omega arith) (omega arith);
+    arguments = λ k l. plain (argumentPlace k) (omega arith) (omega arith);
+    made = a .parts .made;
+    components = a .parts .words;
+    unit = unit-as;
+    marks = λ d k x y. a .paths _ (omega arith);
+  }
 
-    variables-as : SameVariables shape-later
-    variables-as = same-words shape-later (lowly declared (λ e. omega arith) (omega arith)) (λ j a b. lowly j (λ e. omega arith) (omega arith))
+  waiting-as : SameWaiting program ts r (raw (r .texts) ws′)
+  waiting-as = same-waiting grown-later grown-untouched (omega (arith, height-as)) (h .sound .waiting) ts
 
-    calls-as : getD ws′ callsUsed 0 ≡ getD (r .words) callsUsed 0
-    calls-as = lowly callsUsed (λ e. omega arith) (omega arith)
+  entries-as : SameEntries grown-later (h .sound .shapes)
+  entries-as = record {
+    count = counter entriesMade (λ e. omega arith) (λ e. omega arith) (λ e. omega arith) (omega arith);
+    firsts = λ k x. a .entries _ (omega arith) (omega (arith, h .sound .counted .made, h .sound .counted .entries));
+    keys = λ k x. a .entries _ (omega arith) (omega (arith, h .sound .counted .made, h .sound .counted .entries));
+    values = λ k x. a .entries _ (omega arith) (omega (arith, h .sound .counted .made, h .sound .counted .entries));
+    heads = λ b x. a .entries _ (omega arith) (omega arith);
+  }
 
-    untouched-as : Untouched r made
-    untouched-as = untouched-words (λ j a b. lowly j (λ e. omega arith) (omega arith)) (λ k l. lowly _ (λ e. omega arith) (omega arith))
+  was : (i : ℕ) (l : i < n) → isGroupAt ws′ i ≡ isGroupAt (r .words) i
+  was i l = group-stays (grown-later .figures i l)
 
-    waiting-as : SameWaiting program ts r made
-    waiting-as = same-waiting shape-later untouched-as (omega (arith, lowly argumentsHeld (λ e. omega arith) (omega arith))) (h .sound .waiting) ts
+  shapes-now : Shapes program g ws′
+  shapes-now = let old = h .sound .shapes in record {
+    proper = λ i l. up-to (λ i. isGroupAt ws′ i ≡ false → Proper program (getD ws′ textUsed 0) (figureAt ws′ i)) n
+        (λ i l m. proper-kept grown-later old i l (sym (was i l) ∙ m)) (λ m. rw text-as (a .proper m)) i (rw (a .used) at l);
+    first = λ i l. up-to (λ i. getD ws′ (shapePlace i + 1) 0 < 2 ^ 64) n (λ i l. rw (a .shapes i 1 l (omega arith)) (old .first i l)) (a .first) i (rw (a .used) at l);
+    second = λ i l. up-to (λ i. getD ws′ (shapePlace i + 2) 0 < 2 ^ 64) n (λ i l. rw (a .shapes i 2 l (omega arith)) (old .second i l)) (a .second) i (rw (a .used) at l);
+    groups = λ i l. up-to (λ i. isGroupAt ws′ i ≡ true → Grouped g ws′ i) n
+        (λ i l m. grouped-later grown-later old (a .parts) i l (old .groups i l (sym (was i l) ∙ m))) (a .grouped) i (rw (a .used) at l);
+    order = λ i j u l.
+        up-to (λ j. i < j → isGroupAt ws′ i ≡ true → isGroupAt ws′ j ≡ true → firstAt ws′ i + countAt ws′ i ≤ firstAt ws′ j) n
+        (λ j l u x y.
+        let k : i < n = omega arith in
+        rw (first-later grown-later old (a .parts) i k, count-later grown-later old (a .parts) i k, first-later grown-later old (a .parts) j l)
+        (old .order i j u l (sym (was i k) ∙ x) (sym (was j l) ∙ y)))
+        (λ k x y.
+        rw (first-later grown-later old (a .parts) i k, count-later grown-later old (a .parts) i k)
+        (le-trans (old .groups i k (sym (was i k) ∙ x) .within) (a .behind y)))
+        j (rw (a .used) at l) u;
+    hollow = λ i l. up-to (λ i. isGroupAt ws′ i ≡ true → hollowAt ws′ i ≡ true → figuresIn (suc i) g ws′ i ≡ []) n
+        (λ i l m e. figures-none grown-later old (a .parts) (suc i) i l (old .hollow i l (sym (was i l) ∙ m) (rw (a .shapes i 2 l (omega arith)) at e)))
+        (λ m e. let z : _≡_ {A = Bool} true false = sym e ∙ a .full m in let y : _≡_ {A = ℕ} 0 1 = cc in absurd (omega arith)) i (rw (a .used) at l);
+  }
 
-    entries-as : SameEntries shape-later (h .sound .shapes) g
-    entries-as = record {
-      count = lowly entriesUsed (λ e. omega arith) (omega arith);
-      firsts = λ k a. highly _ (omega (arith, fit));
-      keys = λ k a. highly _ (omega (arith, fit));
-      values = λ k a. highly _ (omega (arith, fit));
-      heads = λ b a. highly _ (omega (arith, fit));
-    }
+  grown-counted : Counted g ws′
+  grown-counted = let c = h .sound .counted in record {
+    steps = rw steps-as (c .steps);
+    shapes = rw (a .used) (a .fit);
+    entries = a .taken;
+    made = a .made;
+    text = rw text-as (c .text);
+    tables = rw (tables-as, steps-as) (c .tables);
+    arguments = rw height-as (c .arguments);
+    calls = rw calls-as (c .calls);
+  }
 
-    text-as : getD ws′ textUsed 0 ≡ getD (r .words) textUsed 0
-    text-as = lowly textUsed (λ e. omega arith) (omega arith)
+  grown-marks : Marks g ws′
+  grown-marks = let m = h .sound .marks in record {
+    idle = λ d k x y z. a .paths _ (omega arith) ∙ m .idle d k (rw calls-as at x) y z;
+    own = λ k x y. rw (calls-as, unit-as, a .paths (pathPlace g (getD (r .words) callsUsed 0 - 1) k) (omega arith)) (m .own k (rw calls-as at x) y);
+  }
 
-    shapes-now : Shapes program ws′
-    shapes-now = let old = h .sound .shapes in record {
-      proper = λ i l. up-to (λ i. Proper program (getD ws′ textUsed 0) (figureAt ws′ i)) n (λ i l. proper-kept shape-later old i l) (rw (newest, text-as) proper) i (rw one-more at l);
-      first = λ i l. up-to (λ i. getD ws′ (shapePlace i + 1) 0 < 2 ^ 64) n (λ i l. rw (lowly (shapePlace i + 1) (λ e. omega arith) (omega arith)) (old .first i l)) (rw word₁ (pair-small (f .a) (f .b))) i (rw one-more at l);
-      second = λ i l. up-to (λ i. getD ws′ (shapePlace i + 2) 0 < 2 ^ 64) n (λ i l. rw (lowly (shapePlace i + 2) (λ e. omega arith) (omega arith)) (old .second i l)) (rw word₂ (pair-small (f .c) (f .d))) i (rw one-more at l);
-    }
+  abbrev added-shape : State.Content → State.Shape
+  added-shape c = record { content = c; destroyed = false }
 
-    abbrev added-shape : State.Shape
-    added-shape = record { figure = meantFigure program (r .texts) f; destroyed = false }
+  last-shape : shapeAt program g (raw (r .texts) ws′) (0 + n) ≡ added-shape (contentAt program g (raw (r .texts) ws′) n)
+  unfolding shapeAt
+  last-shape =
+      let z : 0 + n ≡ n = omega arith in
+      rw (z, a .living)
 
-    last-shape : shapeAt program made (0 + n) ≡ added-shape
-    unfolding shapeAt
-    last-shape =
-        let z : 0 + n ≡ n = omega arith in
-        rw (z, newest, word₀, alive (f .kind) (f .text))
+  shape-as : (i : ℕ) → i < n → shapeAt program g (raw (r .texts) ws′) i ≡ shapeAt program g r i
+  unfolding shapeAt
+  shape-as i l =
+      let w : getD ws′ (shapePlace i) 0 ≡ getD (r .words) (shapePlace i) 0 = rw (← add-zero (shapePlace i)) (a .shapes i 0 l (omega arith)) in
+      rw (content-stays grown-later (h .sound .shapes) (a .parts) i l, w)
 
-    shape-as : (i : ℕ) → i < n → shapeAt program made i ≡ shapeAt program r i
-    unfolding shapeAt
-    shape-as i l = rw (figure-later shape-later (h .sound .shapes) i l, lowly (shapePlace i) (λ e. omega arith) (omega arith))
+  list-now : shapesOf program g (raw (r .texts) ws′) ≡ shapesOf program g r ++ (added-shape (contentAt program g (raw (r .texts) ws′) n) ∷ [])
+  unfolding shapesOf
+  list-now =
+      let z : n + 1 ≡ suc n = omega arith in
+      ap (listed (shapeAt program g (raw (r .texts) ws′)) 0) (a .used ∙ z) ∙ (listed-more (shapeAt program g (raw (r .texts) ws′)) 0 n
+      ∙ ap₂ (λ (l : List State.Shape) (a : State.Shape). l ++ (a ∷ [])) (listed-first (shapeAt program g (raw (r .texts) ws′)) (shapeAt program g r) n shape-as) last-shape)
 
-    list-now : shapesOf program made ≡ shapesOf program r ++ (added-shape ∷ [])
-    unfolding shapesOf
-    list-now =
-        let z : n + 1 ≡ suc n = omega arith in
-        ap (listed (shapeAt program made) 0) (one-more ∙ z) ∙ (listed-more (shapeAt program made) 0 n
-        ∙ ap₂ (λ (l : List State.Shape) (a : State.Shape). l ++ (a ∷ [])) (listed-first (shapeAt program made) (shapeAt program r) n shape-as) last-shape)
-
-    made-counted : Counted g ws′
-    made-counted = let c = h .sound .counted in record {
-      steps = rw (lowly stepsUsed (λ e. omega arith) (omega arith)) (c .steps);
-      shapes = rw one-more fit;
-      entries = rw (lowly entriesUsed (λ e. omega arith) (omega arith)) (c .entries);
-      text = rw text-as (c .text);
-      tables = rw (lowly tablesMade (λ e. omega arith) (omega arith), lowly stepsUsed (λ e. omega arith) (omega arith)) (c .tables);
-      arguments = rw (lowly argumentsHeld (λ e. omega arith) (omega arith)) (c .arguments);
-      calls = rw calls-as (c .calls);
-    }
-
-    made-related : (a : Meaning.Figure) (p : ℕ) → a ≡ meantFigure program (r .texts) f → Related program ts g made (withShape s a) (added total (due Run.shapes 1 p))
-    unfolding added resourceNumber withShape
-    made-related a p e = record {
-      sound = record {
-        lent = lent-set _ _ (lent-set _ _ (lent-set _ _ (lent-set _ _ (h .sound .lent))));
-        counted = made-counted;
-        variables = variables-kept shape-later variables-as ts (h .sound .variables);
-        waiting = waiting-as .waiting;
-        shapes = shapes-now;
-        entries = entries-kept shape-later (h .sound .shapes) g entries-as (h .sound .entries);
+  grown-related : (c : State.Content) (total′ : Amounts) → c ≡ contentAt program g (raw (r .texts) ws′) n
+      → total′ Run.steps ≡ total Run.steps → total′ Run.shapes ≡ total Run.shapes + 1 → total′ Run.entries ≡ getD ws′ entriesUsed 0
+      → total′ Run.textBytes ≡ total Run.textBytes → total′ Run.calls ≡ total Run.calls → Related program ts g (raw (r .texts) ws′) (withShape s c) total′
+  unfolding withShape
+  grown-related c total′ e t₁ t₂ t₃ t₄ t₅ = let l = h .sound .lent in record {
+    sound = record {
+      lent = record {
+        room = record { steps = l .room .steps; shapes = l .room .shapes; entries = l .room .entries; text = l .room .text; calls = l .room .calls; words = rw (a .long) (l .room .words) };
+        texts = l .texts;
       };
-      variables = h .variables ∙ sym (variables-same shape-later variables-as ts (h .sound .variables));
-      suspended = h .suspended ∙ sym (waiting-as .suspended);
-      shapes = rw (h .shapes, e) (sym list-now);
-      tables = h .tables ∙ sym (lowly tablesMade (λ e. omega arith) (omega arith));
-      entries = h .entries ∙ sym (entries-same shape-later (h .sound .shapes) g entries-as (h .sound .entries));
-      stepsTaken = omega (arith, h .stepsTaken, lowly stepsUsed (λ e. omega arith) (omega arith));
-      shapesTaken = omega (arith, h .shapesTaken, one-more);
-      entriesTaken = omega (arith, h .entriesTaken, lowly entriesUsed (λ e. omega arith) (omega arith));
-      textTaken = omega (arith, h .textTaken, text-as);
-      callsTaken = omega (arith, h .callsTaken, calls-as);
-    }
+      counted = grown-counted;
+      variables = variables-kept grown-later variables-as ts (h .sound .variables);
+      waiting = waiting-as .waiting;
+      shapes = shapes-now;
+      marks = grown-marks;
+      entries = entries-kept grown-later (h .sound .shapes) (a .parts) entries-as (h .sound .entries);
+    };
+    variables = h .variables ∙ sym (variables-same grown-later variables-as ts (h .sound .variables));
+    suspended = h .suspended ∙ sym (waiting-as .suspended);
+    shapes = rw (h .shapes, e) (sym list-now);
+    tables = h .tables ∙ sym tables-as;
+    entries = h .entries ∙ sym (entries-same grown-later (h .sound .shapes) (a .parts) entries-as (h .sound .entries));
+    stepsTaken = t₁ ∙ h .stepsTaken ∙ sym steps-as;
+    shapesTaken = omega (arith, t₂, h .shapesTaken, a .used);
+    entriesTaken = t₃;
+    textTaken = t₄ ∙ h .textTaken ∙ sym text-as;
+    callsTaken = t₅ ∙ h .callsTaken ∙ sym calls-as;
+  }
 
-    made-after : (a : Meaning.Figure) (p : ℕ) → a ≡ meantFigure program (r .texts) f
-        → AfterValue program ts g r (Shape n) (Value.shape (length (s .shapes))) made (withShape s a) (added total (due Run.shapes 1 p))
-    unfolding Valid meantValue shapesOf
-    made-after a p e = record {
-      after = record {
-        related = made-related a p e;
-        later = shape-later;
-        spare = omega (arith, lowly stepsUsed (λ e. omega arith) (omega arith), lowly tablesMade (λ e. omega arith) (omega arith));
-        held = lowly argumentsHeld (λ e. omega arith) (omega arith);
-        untouched = untouched-as;
-      };
-      valid = omega (arith, one-more);
-      means = ap Value.shape (rw (h .shapes) (length-listed (shapeAt program r) 0 n));
-    }
-
--- a new shape; the variables stay
+-- a new shape has the next number; variables stay, and so do the words that walks keep
 module _ (program : List ℕ) (ts : List Token) (g : List ℕ) where
-  pub record AfterShape (r : Raw) (s : State) (v : Value) (u : Value.Value) (r′ : Raw) (s′ : State) (total : Amounts) : Type 0 where
-    pub value : AfterValue program ts g r v u r′ s′ total
+  pub record AfterShape (r : Raw) (s : State) (i : ℕ) (j : ℕ) (r′ : Raw) (s′ : State) (total : Amounts) : Type 0 where
+    pub after : After program ts g r r′ s′ total
+    pub here : i ≡ getD (r .words) shapesUsed 0
+    pub same : j ≡ i
+    pub used : getD (r′ .words) shapesUsed 0 ≡ getD (r .words) shapesUsed 0 + 1
     pub variables : s′ .variables ≡ s .variables
+    pub waits : getD (r′ .words) waitingHeld 0 ≡ getD (r .words) waitingHeld 0
+    pub ways : (i j : ℕ) → 3 ≤ j → j < 5 → i < shapesGranted g → getD (r′ .words) (shapePlace i + j) 0 ≡ getD (r .words) (shapePlace i + j) 0
+
+module _ {program : List ℕ} {ts : List Token} {g : List ℕ} {r : Raw} {s : State} {total : Amounts} (h : Related program ts g r s total) (ws′ : List ℕ) (a : Grown program g r ws′) where
+  pub grown-after : (c : State.Content) (total′ : Amounts) → c ≡ contentAt program g (raw (r .texts) ws′) (getD (r .words) shapesUsed 0)
+      → total′ Run.steps ≡ total Run.steps → total′ Run.shapes ≡ total Run.shapes + 1 → total′ Run.entries ≡ getD ws′ entriesUsed 0
+      → total′ Run.textBytes ≡ total Run.textBytes → total′ Run.calls ≡ total Run.calls
+      → AfterShape program ts g r s (getD (r .words) shapesUsed 0) (length (s .shapes)) (raw (r .texts) ws′) (withShape s c) total′
+  unfolding shapesOf withShape
+  grown-after c total′ e t₁ t₂ t₃ t₄ t₅ = record {
+    after = record {
+      related = grown-related h ws′ a c total′ e t₁ t₂ t₃ t₄ t₅;
+      later = grown-later h ws′ a;
+      spare = omega (arith, steps-as h ws′ a, tables-as h ws′ a);
+      held = height-as h ws′ a;
+      untouched = grown-untouched h ws′ a;
+    };
+    here = refl;
+    same = rw (h .shapes) (length-listed (shapeAt program g r) 0 (getD (r .words) shapesUsed 0));
+    used = a .used;
+    variables = refl;
+    waits = a .low waitingHeld (λ e. omega arith) (λ e. omega arith) (λ e. omega arith) (omega arith);
+    ways = a .ways;
+  }
+
+-- ---- a figure
+module _ {program : List ℕ} {ts : List Token} {g : List ℕ} {r : Raw} {s : State} {total : Amounts} (h : Related program ts g r s total) (f : Figure)
+    (proper : Proper program (getD (r .words) textUsed 0) f) (fit : getD (r .words) shapesUsed 0 + 1 ≤ shapesGranted g) where
+  abbrev m : ℕ
+  m = getD (r .words) shapesUsed 0
+
+  abbrev place : ℕ
+  place = shapePlace (getD (r .words) shapesUsed 0)
+
+  abbrev ws′ : List ℕ
+  ws′ = figureLaid (set (r .words) shapesUsed (getD (r .words) shapesUsed 0 + 1)) (shapePlace (getD (r .words) shapesUsed 0)) f
+
+  long : place + 3 ≤ length (r .words)
+  long = omega (arith, fit, h .sound .lent .room .words)
+
+  untouched : (j : ℕ) → j ≢ shapesUsed → j ≢ place → j ≢ place + 1 → j ≢ place + 2 → getD ws′ j 0 ≡ getD (r .words) j 0
+  untouched j a b c d = read-four (r .words) 1 place (place + 1) (place + 2) (m + 1) (firstWord (f .kind) (f .text)) (pairWord (f .a) (f .b)) (pairWord (f .c) (f .d)) j a b c d
+
+  lowly : (j : ℕ) → j ≢ shapesUsed → j < place → getD ws′ j 0 ≡ getD (r .words) j 0
+  lowly j a b = untouched j a (λ e. omega arith) (λ e. omega arith) (λ e. omega arith)
+
+  highly : (j : ℕ) → place + 3 ≤ j → getD ws′ j 0 ≡ getD (r .words) j 0
+  highly j b = untouched j (λ e. omega arith) (λ e. omega arith) (λ e. omega arith) (λ e. omega arith)
+
+  word₀ : getD ws′ place 0 ≡ firstWord (f .kind) (f .text)
+  word₀ = read-second (r .words) 1 place (place + 1) (place + 2) (m + 1) (firstWord (f .kind) (f .text)) (pairWord (f .a) (f .b)) (pairWord (f .c) (f .d)) (omega (arith, long)) (λ e. omega arith) (λ e. omega arith)
+
+  word₁ : getD ws′ (place + 1) 0 ≡ pairWord (f .a) (f .b)
+  word₁ = read-third (r .words) 1 place (place + 1) (place + 2) (m + 1) (firstWord (f .kind) (f .text)) (pairWord (f .a) (f .b)) (pairWord (f .c) (f .d)) (omega (arith, long)) (λ e. omega arith)
+
+  word₂ : getD ws′ (place + 2) 0 ≡ pairWord (f .c) (f .d)
+  word₂ = read-fourth (r .words) 1 place (place + 1) (place + 2) (m + 1) (firstWord (f .kind) (f .text)) (pairWord (f .a) (f .b)) (pairWord (f .c) (f .d)) (omega (arith, long))
+
+  kind-read : kindAt ws′ m ≡ f .kind
+  kind-read = rw word₀ (kind-of (f .kind) (f .text) (omega (arith, proper .kind)))
+
+  no-group : isGroupAt ws′ m ≡ false
+  no-group = rw kind-read (ne-eqb (f .kind) kindGroup (λ e. omega (arith, proper .kind)))
+
+  newest : figureAt ws′ m ≡ f
+  unfolding figureAt
+  newest = rw (
+    word₀,
+    word₁,
+    word₂,
+    kind-of (f .kind) (f .text) (omega (arith, proper .kind)),
+    text-of (f .kind) (f .text) (proper .text .small),
+    low-of (f .a) (f .b) (proper .a),
+    high-of (f .a) (f .b) (proper .b),
+    low-of (f .c) (f .d) (proper .c),
+    high-of (f .c) (f .d) (proper .d),
+  )
+
+  no : {A : Type 0} → isGroupAt ws′ m ≡ true → A
+  no e = let z : _≡_ {A = Bool} true false = sym e ∙ no-group in let y : _≡_ {A = ℕ} 0 1 = cc in absurd (omega arith)
+
+  figure-grown : Grown program g r ws′
+  figure-grown = let c = h .sound .counted in record {
+    long = length-four (r .words) 1 place (place + 1) (place + 2) (m + 1) (firstWord (f .kind) (f .text)) (pairWord (f .a) (f .b)) (pairWord (f .c) (f .d));
+    low = λ j x y z l. lowly j x (omega arith);
+    used = read-first (r .words) 1 place (place + 1) (place + 2) (m + 1) (firstWord (f .kind) (f .text)) (pairWord (f .a) (f .b)) (pairWord (f .c) (f .d)) (omega (arith, long)) (λ e. omega arith) (λ e. omega arith) (λ e. omega arith);
+    fit = fit;
+    shapes = λ i j l k. lowly _ (λ e. omega arith) (omega arith);
+    ways = λ i j x y l. untouched _ (λ e. omega arith) (λ e. omega arith) (λ e. omega arith) (λ e. omega arith);
+    entries = λ j x y. highly j (omega arith);
+    parts = record { made = omega (arith, lowly componentsMade (λ e. omega arith) (omega arith)); words = λ k l. highly _ (omega arith) };
+    paths = λ j l. highly j (omega arith);
+    taken = rw (lowly entriesUsed (λ e. omega arith) (omega arith)) (c .entries);
+    made = rw (lowly entriesMade (λ e. omega arith) (omega arith), lowly componentsMade (λ e. omega arith) (omega arith), lowly entriesUsed (λ e. omega arith) (omega arith)) (c .made);
+    first = rw word₁ (pair-small (f .a) (f .b));
+    second = rw word₂ (pair-small (f .c) (f .d));
+    proper = λ e. rw newest proper;
+    grouped = no;
+    behind = no;
+    full = no;
+    living = rw word₀ (alive (f .kind) (f .text));
+  }
+
+  figure-content : contentAt program g (raw (r .texts) ws′) m ≡ atom (meantFigure program (r .texts) f)
+  unfolding contentAt if_then_else_
+  figure-content = rw (no-group, newest)
+
+  made-after : (a : Meaning.Figure) (p : ℕ) → a ≡ meantFigure program (r .texts) f
+      → AfterShape program ts g r s m (length (s .shapes)) (raw (r .texts) ws′) (withShape s (atom a)) (added total (due Run.shapes 1 p))
+  unfolding added resourceNumber
+  made-after a p e =
+      grown-after h ws′ figure-grown (atom a) (added total (due Run.shapes 1 p)) (ap atom e ∙ sym figure-content) (omega arith) (omega arith)
+      (omega (arith, h .entriesTaken, lowly entriesUsed (λ e. omega arith) (omega arith))) (omega arith) (omega arith)
+
+-- as a value
+module _ (program : List ℕ) (ts : List Token) (g : List ℕ) where
+  pub record AfterShapeValue (r : Raw) (s : State) (v : Value) (j : ℕ) (r′ : Raw) (s′ : State) (total : Amounts) : Type 0 where
+    pub shape : AfterShape program ts g r s (getD (r .words) shapesUsed 0) j r′ s′ total
+    pub is : v ≡ Shape (getD (r .words) shapesUsed 0)
 
 module _ {program : List ℕ} {ts : List Token} {g : List ℕ} where
+  pub shape-value : {r : Raw} {s : State} {v : Value} {j : ℕ} {r′ : Raw} {s′ : State} {total : Amounts} → AfterShapeValue program ts g r s v j r′ s′ total
+      → AfterValue program ts g r v (Value.shape j) r′ s′ total
+  unfolding Valid meantValue
+  shape-value a = record {
+    after = a .shape .after;
+    valid = rw (a .is) (omega (arith, a .shape .used));
+    means = rw (a .is) (ap Value.shape (a .shape .same));
+  }
+
   pub makes-shape : {granted : Amounts} (gr : Grants g granted) {r : Raw} {s : State} {total : Amounts} (h : Related program ts g r s total) (f : Figure) (a : Meaning.Figure)
       → Proper program (getD (r .words) textUsed 0) f → a ≡ meantFigure program (r .texts) f → (p : ℕ)
-      → Follows granted total (λ v u r′ s′ total′. AfterShape program ts g r s v u r′ s′ total′) (newShape g p f r) (Operator.newShape p a s)
-  unfolding newShape Operator.newShape Act._>>=_ Act.goOn Act.load Act.give putFigure Run._>>=_ Run.goOn Run.current Run.become Run.give shortageOf withShape
+      → Follows granted total (λ v j r′ s′ total′. AfterShapeValue program ts g r s v j r′ s′ total′) (newShape g p f r) (Group.newShape p (atom a) s)
+  unfolding newShape Group.newShape Group.spendEach componentsIn Act._>>=_ Act.goOn Act.load Act.give putFigure Run._>>=_ Run.goOn Run.current Run.become Run.give shortageOf withShape
   makes-shape gr {r} {s} h f a proper e p =
       spent-then Run.shapes shapesUsed (shapesGranted g) 1 76 p r s (h .shapesTaken) (gr .shapes) refl (steps-told h) _ _
-      (λ fit. given (record { value = made-after h f proper fit a p e; variables = refl }))
+      (λ fit. given (record { shape = made-after h f proper fit a p e; is = refl }))
