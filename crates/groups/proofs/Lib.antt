@@ -1,0 +1,6 @@
+pub mod WalkLaws
+pub mod TurnLaws
+pub mod DestroyLaws
+mod MakingLaws
+mod SceneLaws
+mod LookLaws

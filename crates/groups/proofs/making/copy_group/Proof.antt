@@ -1,0 +1,50 @@
+use Rattle.groups.proofs.MakingLaws.{copied-group, copy-sources}
+use borrow.Author.Needs.{needs}
+use Rattle.groups.proofs.making.copy_group.Statement.{statement}
+use Rattle.groups.proofs.making.copy_group.Tie as tie
+use Rattle.groups.proofs.making.copy_group.Reads as reads
+use Rattle.groups.proofs.making.copy_group.Lts as lts
+use Rattle.groups.proofs.making.new_group.Reads as new-group-reads
+use Rattle.stores.proofs.components.count_at.Reads as count-at-reads
+use Rattle.stores.proofs.components.first_at.Reads as first-at-reads
+use Rattle.stores.proofs.components.place_of.Reads as place-of-reads
+
+-- src/making.rt:108:43
+first-at-requires : tie.Need-first-at-requires
+first-at-requires c κs = search needs
+
+-- src/making.rt:108:9
+place-of-requires : tie.Need-place-of-requires
+place-of-requires c κs = search needs
+
+-- src/making.rt:109:13
+count-at-requires : tie.Need-count-at-requires
+count-at-requires c κs = search needs
+
+-- src/making.rt:109:13
+cast-n : tie.Need-cast-n
+cast-n c = search needs
+
+-- src/making.rt:110:9
+new-group-requires : tie.Need-new-group-requires
+new-group-requires c κs = search copy-sources
+
+-- src/making.rt:104:1
+same-length : tie.Need-same-length
+same-length c = search needs
+
+-- src/making.rt:104:1
+returns : tie.Need-returns
+returns c = search copied-group
+
+pub copy-group-spec : {M : Type 1} → statement M
+copy-group-spec =
+    tie.close
+    (tie.spec
+    first-at-requires
+    place-of-requires
+    count-at-requires
+    cast-n
+    new-group-requires
+    same-length
+    returns)

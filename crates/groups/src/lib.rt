@@ -1,0 +1,11 @@
+// Groups: made, copied, destroyed, and the walks over all that they hold.
+pub mod destroying;
+pub mod making;
+pub mod scene;
+pub mod walks;
+
+// Where a walk is: its depth, the slot of the next component and how many are left there; or the number that it stops with.
+pub enum Turn {
+    At(u32, u32, u32),
+    Stopped(u64),
+}
