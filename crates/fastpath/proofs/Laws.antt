@@ -191,6 +191,9 @@ module _ (depth : ℕ) (code ws : List ℕ) (w x : ℕ) where
     unfolding fastAt if_then_else_
     is-operation l h = rw deeper (rw (← e, ← t, le-ltb tag firstOperator l) h)
 
+    pub is-operation-anew : firstOperator ≤ tag → r ≡ operationWord (fastAt (depth - 1) (whole code) (whole ws)) (whole code) w x → r ≡ fastAt depth code ws x
+    is-operation-anew l h = is-operation l (rw (whole-is code, whole-is ws) at h)
+
 -- ---- their steps
 module _ (depth : ℕ) (code g ws : List ℕ) (x v w : ℕ) (c : w ≡ getD (whole code) x 0) (d : v ≡ fastAt depth (whole code) ws x) where
   e : w ≡ getD code x 0

@@ -151,6 +151,8 @@ fn root(code: &[u64], words: &[u64], depth: usize, w: u64, x: usize) -> u64
     if code::tag_of(w) < tags::FIRST_OPERATOR {
         return leaf_word(words, w);
     }
+    let code = &code[0..];
+    let words = &words[0..];
     let r = operation(code, words, depth - 1, w, x);
     r
 }

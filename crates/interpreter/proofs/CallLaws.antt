@@ -18,6 +18,7 @@ use Rattle.machine.specs.Execute.{statementsFrom}
 use Rattle.machine.specs.Procedures.{begin, resume, resultOf, procedureAt}
 use Rattle.machine.specs.Interpret.{statementAt, bodyAt, invokeAt}
 use Rattle.procedures.specs.Begun.{answered}
+use Rattle.interpreter.specs.Ended.{answerOf, Ended}
 
 -- what an act without a result, answered by none, comes to
 split : {B : Type 0} (act : Act (Unit {0})) (k : Act B) (r : Raw) → goOn (answered act r) (λ _. k) ≡ goOn (act r) (λ _. k)
@@ -45,20 +46,21 @@ module _ (program code g : List ℕ) (fuel callee p base : ℕ) (ts ws : List �
   begin-stops m q f = sym (asked ∙ rw f)
 
   module _ (v : Value) (f : b ≡ Good v) (i e k m a size : ℕ) (ei : i ≡ tablePlace callee) (ed : e ≡ getD code i 0) (ek : k ≡ startIn e) (em : m ≡ parametersIn e) (ea : a ≡ k + m) (es : size ≡ bodyIn e)
-      (o : Flow) (ts₂ ws₂ : List ℕ) (c : shownFlow o ts₂ ws₂ ≡ statementsFrom (size + 1) (statementAt fuel (setting program code g)) (setting program code g) a (a + size) (raw ts ws₁)) where
-    ran : invokeAt fuel (setting program code g) callee p base (raw ts ws) ≡ goOn (shownFlow o ts₂ ws₂) (λ flow. resume top n caller base >>= λ _. resultOf flow)
-    unfolding goOn shown bodyAt _>>=_
-    ran = asked ∙ rw f (rw (← ei, ← ed, ← ek, ← em, ← ea, ← es, c))
+      (o : Answer) (ts₂ ws₂ : List ℕ) (c : Ended o ts₂ ws₂ (statementsFrom (size + 1) (statementAt fuel (setting program code g)) (setting program code g) a (a + size) (raw ts ws₁))) where
+    after : (flow : Flow) → goOn (shownFlow flow ts₂ ws₂) (λ f. resume top n caller base >>= λ _. resultOf f) ≡ goOn (shown (answerOf flow) ts₂ ws₂) (λ u. resume top n caller base >>= λ _. give u)
+    unfolding goOn shown shownFlow answerOf _>>=_ resultOf
+    after Onward = refl
+    after (Returned u) = refl
+    after (Stopped z q) = refl
 
-    pub body-stops : (z q : ℕ) → o ≡ Stopped z q → shown (Bad z q) ts₂ ws₂ ≡ invokeAt fuel (setting program code g) callee p base (raw ts ws)
-    unfolding goOn shown shownFlow
+    ran : invokeAt fuel (setting program code g) callee p base (raw ts ws) ≡ goOn (shown o ts₂ ws₂) (λ u. resume top n caller base >>= λ _. give u)
+    unfolding goOn shown bodyAt _>>=_
+    ran = asked ∙ rw f (rw (← ei, ← ed, ← ek, ← em, ← ea, ← es, ← c .shows, c .answers) (after (c .flow)))
+
+    pub body-stops : (z q : ℕ) → o ≡ Bad z q → shown (Bad z q) ts₂ ws₂ ≡ invokeAt fuel (setting program code g) callee p base (raw ts ws)
+    unfolding goOn shown
     body-stops z q j = sym (ran ∙ rw j)
 
-    module _ (ws₃ : List ℕ) (r : Gives ws₂ (resume top n caller base) tt ws₃) where
-      pub without-return : o ≡ Onward → shown (Good Nothing) ts₂ ws₃ ≡ invokeAt fuel (setting program code g) callee p base (raw ts ws)
-      unfolding goOn shown shownFlow _>>=_ resultOf give
-      without-return j = sym (ran ∙ rw (j, ← r .equal ts₂))
-
-      pub with-return : (u : Value) → o ≡ Returned u → shown (Good u) ts₂ ws₃ ≡ invokeAt fuel (setting program code g) callee p base (raw ts ws)
-      unfolding goOn shown shownFlow _>>=_ resultOf give
-      with-return u j = sym (ran ∙ rw (j, ← r .equal ts₂))
+    pub gives-value : (ws₃ : List ℕ) (u : Value) → Gives ws₂ (resume top n caller base) tt ws₃ → o ≡ Good u → shown (Good u) ts₂ ws₃ ≡ invokeAt fuel (setting program code g) callee p base (raw ts ws)
+    unfolding goOn shown _>>=_ give
+    gives-value ws₃ u r j = sym (ran ∙ rw (j, ← r .equal ts₂))

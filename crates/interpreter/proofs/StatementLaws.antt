@@ -12,7 +12,7 @@ use types.Run.{OneOf}
 use borrow.Author.Tests.{lt-ltb, le-ltb, ne-eqb, not-true, not-false}
 use Rattle.meaning.specs.Basics.{if_then_else_}
 use Rattle.machine.proofs.Value as value
-use Rattle.machine.specs.Opcodes.{tagIn, sizeIn, placeIn, extraIn, tagDeclare, tagUpdate, tagWhen, tagWhile, tagBlock}
+use Rattle.machine.specs.Opcodes.{tagIn, sizeIn, placeIn, extraIn, tagDeclare, tagUpdate, tagWhen, tagWhile, tagReturn, tagBlock}
 use Rattle.machine.specs.declared.Value.{Value}
 use Rattle.machine.specs.declared.Value.the-variants.{Integer, Text, Boolean, Nothing, Table, Shape}
 use Rattle.machine.specs.declared.Answer.{Answer}
@@ -37,7 +37,9 @@ use Rattle.primaries.proofs.Acts.{goes-on, stops}
 use Rattle.effects.proofs.Acts.{flow-on, flow-returns, flow-stops, test-holds, test-fails, test-stops}
 use Rattle.interpreter.proofs.ExpressionLaws as laws
 use Rattle.interpreter.proofs.Fast.{plain, evaluates, unchanged}
-use Rattle.interpreter.specs.Asked.{Lent, Runs, Body}
+use Rattle.effects.proofs.Laws.{is-return}
+use Rattle.interpreter.specs.Asked.{Lent, Runs, Leaves, Body}
+use Rattle.interpreter.specs.Ended.{given, answerOf, Ended}
 
 -- ---- what is lent stays as long
 module _ (g ts ws ts₁ ws₁ : List ℕ) (i : length ts₁ ≡ length ts) (j : length ws₁ ≡ length ws) where
@@ -222,6 +224,41 @@ module _ (program code g : List ℕ) (x : ℕ) (ts ws : List ℕ) (fuel : ℕ) w
         unfolding countedAt if_then_else_
         is-simple o a b d e h = h ∙ sym (stepped ∙ rw (← i, ne-eqb _ _ a, ne-eqb _ _ b, ne-eqb _ _ d, ne-eqb _ _ e))
 
+-- ---- a return
+module _ (program code g : List ℕ) (x : ℕ) (ts ws : List ℕ) (fuel w : ℕ) (s : Leaves code g ts ws fuel w x) where
+  pub leave-too-deep : fuel ≡ 0 → shownFlow (given (Bad 20 0)) ts ws ≡ statementAt fuel (setting program code g) x (raw ts ws)
+  unfolding given
+  leave-too-deep z = statement-too-deep program code g x ts ws fuel z
+
+  no-other : (t : ℕ) → (t ≡ tagReturn → ⊥) → tagIn w ≡ t → ⊥
+  no-other t o e = o (sym e ∙ s .tagged)
+
+  module _ (n : fuel ≡ 0 → ⊥) (p : ℕ) (j : p ≡ placeIn w) (ok : Bool) (ws₁ : List ℕ) (c : Passes ws 79 (count g) ok ws₁) where
+    pub leave-no-step : not ok ≡ true → shownFlow (given (Bad 79 p)) ts ws₁ ≡ statementAt fuel (setting program code g) x (raw ts ws)
+    unfolding given
+    leave-no-step t = statement-no-step program code g x ts ws fuel n w (s .word) p j (tagIn w) refl (no-other tagWhile (λ e. omega (arith, e))) ok ws₁ c t
+
+    module _ (t : not ok ≡ false) (y k : ℕ) (e : y ≡ x + sizeIn w - 1) (ws₂ : List ℕ) (h : Values (fuel - 1) code g ws₁ y k ws₂) where
+      simply : (o : Out Flow) → o ≡ simpleAt (expressionAt (fuel - 1) (setting program code g)) (setting program code g) w x p (raw ts ws₁) → o ≡ statementAt fuel (setting program code g) x (raw ts ws)
+      simply o q = is-simple program code g x ts ws fuel n w (s .word) p j (tagIn w) refl (no-other tagWhile (λ e. omega (arith, e))) ok ws₁ c t o (no-other tagDeclare (λ e. omega (arith, e)))
+          (no-other tagUpdate (λ e. omega (arith, e))) (no-other tagWhen (λ e. omega (arith, e))) (no-other tagBlock (λ e. omega (arith, e))) q
+
+      pub leave-fast : (v : Value) → length ws₁ ≡ length ws → (k ≡ 0 → ⊥) → v ≡ unpacked k → shownFlow (given (Good v)) ts ws₂ ≡ statementAt fuel (setting program code g) x (raw ts ws)
+      unfolding given
+      leave-fast v i m f =
+          simply _ (simple-fast program code g p ts ws₁ (fuel - 1) y k ws₂ h (still-lent g ts ws ts ws₁ refl i (fuel - 1) (deeper-lent g ts ws fuel (s .runs .lent))) m w x (Returned v) ws₂ e
+          (is-return ws₂ g w k p (tagIn w) refl v (s .tagged) f))
+
+      module _ (z : k ≡ 0) (a : Answer) (ts₃ ws₃ : List ℕ) (d : shown a ts₃ ws₃ ≡ expressionAt (fuel - 1) (setting program code g) y p (raw ts ws₂)) where
+        pub leave-done : (u v : Value) (m : ℕ) → a ≡ Good u → m ≡ packed u → v ≡ unpacked m → shownFlow (given (Good v)) ts₃ ws₃ ≡ statementAt fuel (setting program code g) x (raw ts ws)
+        unfolding given
+        leave-done u v m f r q =
+            simply _ (simple-done program code g p ts ws₁ (fuel - 1) y k ws₂ h z a ts₃ ws₃ d w x m u (Returned v) (Returned v) ws₃ e f r (is-return ws₃ g w m p (tagIn w) refl v (s .tagged) q) refl)
+
+        pub leave-stops : (m q : ℕ) → a ≡ Bad m q → shownFlow (given (Bad m q)) ts₃ ws₃ ≡ statementAt fuel (setting program code g) x (raw ts ws)
+        unfolding given
+        leave-stops m q f = simply _ (simple-stops program code g p ts ws₁ (fuel - 1) y k ws₂ h z a ts₃ ws₃ d w x m q e f)
+
 -- ---- a statement if a test holds
 module _ (eval : Evaluator) (inner : Executor) (e : Setting) (y p : ℕ) (ts ws : List ℕ) (t : Outcome) (ts₁ ws₁ : List ℕ) (h : shownTest t ts₁ ws₁ ≡ testOf eval e y p (raw ts ws)) where
   pub when-holds : (r s : Flow) (ts₂ ws₂ : List ℕ) → t ≡ outcome.Yes → shownFlow r ts₂ ws₂ ≡ inner (y + 1) (raw ts₁ ws₁) → r ≡ s → shownFlow s ts₂ ws₂ ≡ whenAt eval inner e y p (raw ts ws)
@@ -351,6 +388,36 @@ module _ (program code g : List ℕ) (fuel : ℕ) (ts₀ ws₀ : List ℕ) (a en
       unfolding continue
       all-again w n j k f c d =
           record { runs = still-runs g ts ws ts₁ ws₁ j k fuel end (l .runs); texts = j ∙ l .texts; words = k ∙ l .words; rest = one-more ∙ flow-on _ q f ∙ rw (d, c) }
+
+-- ---- the statements of a procedure
+module _ (program code g : List ℕ) (fuel : ℕ) (ts₀ ws₀ : List ℕ) (a end rounds : ℕ) (ts ws : List ℕ) (at left : ℕ) (l : Following program code g fuel ts₀ ws₀ a end rounds ts ws at left) where
+  pub ends-short : left ≡ 0 → Ended (Good Nothing) ts ws (all program code g fuel ts₀ ws₀ a end rounds)
+  unfolding answerOf
+  ends-short z = record { flow = Onward; shows = all-short program code g fuel ts₀ ws₀ a end rounds ts ws at left l z; answers = refl }
+
+  pub ends-done : 0 < left → end ≤ at → Ended (Good Nothing) ts ws (all program code g fuel ts₀ ws₀ a end rounds)
+  unfolding answerOf
+  ends-done m b = record { flow = Onward; shows = all-done program code g fuel ts₀ ws₀ a end rounds ts ws at left l m b; answers = refl }
+
+  pub leaves-here : (w tag : ℕ) → at < end → w ≡ getD code at 0 → tag ≡ tagIn w → tag ≡ tagReturn → Leaves code g ts ws fuel w at
+  leaves-here w tag b f i t = record { runs = runs-before program code g fuel ts₀ ws₀ a end rounds ts ws at left l b; word = f; tagged = sym i ∙ t }
+
+  module _ (m : 0 < left) (b : at < end) where
+    pub ends-left : (r : Answer) (ts₁ ws₁ : List ℕ) → shownFlow (given r) ts₁ ws₁ ≡ statementAt fuel (setting program code g) at (raw ts ws) → Ended r ts₁ ws₁ (all program code g fuel ts₀ ws₀ a end rounds)
+    unfolding given answerOf
+    ends-left (Good v) ts₁ ws₁ q =
+        record { flow = Returned v; shows = all-returns program code g fuel ts₀ ws₀ a end rounds ts ws at left l m b (Returned v) ts₁ ws₁ q v refl; answers = refl }
+    ends-left (Bad n z) ts₁ ws₁ q =
+        record { flow = Stopped n z; shows = all-fails program code g fuel ts₀ ws₀ a end rounds ts ws at left l m b (Stopped n z) ts₁ ws₁ q n z refl; answers = refl }
+
+    module _ (r : Flow) (ts₁ ws₁ : List ℕ) (q : shownFlow r ts₁ ws₁ ≡ statementAt fuel (setting program code g) at (raw ts ws)) where
+      pub ends-fails : (n z : ℕ) → r ≡ Stopped n z → Ended (Bad n z) ts₁ ws₁ (all program code g fuel ts₀ ws₀ a end rounds)
+      unfolding answerOf
+      ends-fails n z f = record { flow = Stopped n z; shows = all-fails program code g fuel ts₀ ws₀ a end rounds ts ws at left l m b r ts₁ ws₁ q n z f; answers = refl }
+
+      pub ends-returns : (v : Value) → r ≡ Returned v → Ended (Good v) ts₁ ws₁ (all program code g fuel ts₀ ws₀ a end rounds)
+      unfolding answerOf
+      ends-returns v f = record { flow = Returned v; shows = all-returns program code g fuel ts₀ ws₀ a end rounds ts ws at left l m b r ts₁ ws₁ q v f; answers = refl }
 
 -- ---- a body
 pub in-body : (program code g : List ℕ) (fuel a n : ℕ) (ts ws : List ℕ) (o : Out Flow)

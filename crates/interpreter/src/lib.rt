@@ -13,7 +13,8 @@ ghost use Rattle.machine.specs.Effects.{shownFlow, shownTest};
 ghost use Rattle.machine.specs.Evaluate.{setting, argumentOf, callAt, operandsAt};
 ghost use Rattle.machine.specs.Execute.{simpleAt, updateAt, testOf, whenAt, repeatAt, statementsFrom};
 ghost use Rattle.machine.specs.Interpret.{expressionAt, statementAt, bodyAt, invokeAt};
-ghost use Rattle.interpreter.specs.Asked.{Lent, Calls, Runs, Body};
+ghost use Rattle.interpreter.specs.Asked.{Lent, Calls, Runs, Leaves, Body};
+ghost use Rattle.interpreter.specs.Ended.{given, Ended};
 
 // What a call's word says of a name that is neither the library's nor main.
 const OTHER: u64 = 11;
@@ -224,7 +225,7 @@ fn invoke(
     let d = stores::words::word_at(code, code::table_place(callee));
     let a = code::start_of(d) + code::parameters_of(d);
     let size = code::body_of(d);
-    match statements(
+    match procedure(
         program,
         code,
         grants,
@@ -235,15 +236,81 @@ fn invoke(
         a + size,
         size + 1,
     ) {
-        Flow::Onward => {
-            stores::calls::resume(words, top, n, caller, base as u64);
-            Answer::Good(Value::Nothing)
-        }
-        Flow::Returned(v) => {
+        Answer::Good(v) => {
             stores::calls::resume(words, top, n, caller, base as u64);
             Answer::Good(v)
         }
-        Flow::Stopped(k, q) => Answer::Bad(k, q),
+        Answer::Bad(k, q) => Answer::Bad(k, q),
+    }
+}
+
+// A procedure's statements from a up to end, one after the other, at most so many, and what they give. A return among them is executed here.
+fn procedure(
+    program: &[u8],
+    code: &[u64],
+    grants: &[u64; 5],
+    texts: &mut [u8],
+    words: &mut [u64],
+    fuel: usize,
+    a: usize,
+    end: usize,
+    rounds: usize,
+) -> Answer
+    requires { ⌜ Runs (now grants) (now texts) (now words) fuel end ⌝ }
+    ensures { λ r. ⌜ Ended r (now (texts .exit)) (now (words .exit))
+        (statementsFrom rounds (statementAt fuel (setting (now (program .entry)) (now (code .entry)) (now (grants .entry)))) (setting (now (program .entry)) (now (code .entry)) (now (grants .entry))) a end (raw (now (texts .entry)) (now (words .entry)))) ⌝ }
+{
+    let mut at = a;
+    let mut left = rounds;
+    while 0 < left {
+        left -= 1;
+        if end <= at {
+            return Answer::Good(Value::Nothing);
+        }
+        let w = stores::words::word_at(code, at);
+        if code::tag_of(w) == tags::RETURN {
+            let r = leave(program, code, grants, texts, words, fuel, w, at);
+            return r;
+        }
+        match statement(program, code, grants, texts, words, fuel, at) {
+            Flow::Onward => {}
+            Flow::Returned(v) => return Answer::Good(v),
+            Flow::Stopped(n, q) => return Answer::Bad(n, q),
+        }
+        at += code::size_of(w);
+    }
+    Answer::Good(Value::Nothing)
+}
+
+// A return by its word, and the value that it gives: worked out at once where it can be.
+fn leave(
+    program: &[u8],
+    code: &[u64],
+    grants: &[u64; 5],
+    texts: &mut [u8],
+    words: &mut [u64],
+    fuel: usize,
+    w: u64,
+    x: usize,
+) -> Answer
+    requires { ⌜ Leaves (now code) (now grants) (now texts) (now words) fuel w x ⌝ }
+    ensures { λ r. ⌜ shownFlow (given r) (now (texts .exit)) (now (words .exit)) ≡ statementAt fuel (setting (now (program .entry)) (now (code .entry)) (now (grants .entry))) x (raw (now (texts .entry)) (now (words .entry))) ⌝ }
+{
+    if fuel == 0 {
+        return Answer::Bad(20, 0);
+    }
+    let p = code::place_of(w);
+    if !stores::counters::count(words, grants) {
+        return Answer::Bad(79, p);
+    }
+    let y = code::last_of(w, x);
+    let k = fastpath::fast_value(words, code, grants, fuel - 1, y);
+    if k != 0 {
+        return Answer::Good(values::unpack(k));
+    }
+    match expression(program, code, grants, texts, words, fuel - 1, y, p) {
+        Answer::Good(v) => Answer::Good(values::unpack(values::pack(v))),
+        Answer::Bad(n, q) => Answer::Bad(n, q),
     }
 }
 

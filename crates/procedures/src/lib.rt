@@ -66,7 +66,7 @@ pub fn begin(
     if !stores::calls::declare_parameters(words, code, a, m) {
         return Answer::Bad(60, p);
     }
-    if !stores::counters::spend(words, counters::CALLS, limit, 1) {
+    if !stores::counters::spend_one(words, counters::CALLS, limit) {
         return Answer::Bad(81, p);
     }
     let r = assign_parameters(words, code, grants, a, base, m, p);

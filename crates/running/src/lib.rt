@@ -52,7 +52,7 @@ fn enter(
         return Ending::Stopped(60, 0);
     }
     let limit = grants[granted::CALLS];
-    if !stores::counters::spend(words, counters::CALLS, limit, 1) {
+    if !stores::counters::spend_one(words, counters::CALLS, limit) {
         return Ending::Stopped(81, 0);
     }
     stores::variables::set_variable(words, a, values::pack(Value::Integer(width)));

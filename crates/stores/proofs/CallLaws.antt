@@ -20,10 +20,12 @@ two-set : (ws : List ℕ) (i u j v : ℕ) → length (set (set ws i u) j v) ≡ 
 two-set ws i u j v = simp length-set
 
 module _ (ws₀ : List ℕ) (top n : ℕ) (ws : List ℕ) (k : ℕ) (g : Turns (suspendFrom top) 0 n ws₀ ws k) where
-  pub suspend-more : (w at : ℕ) → k < n → at ≡ argumentPlace (top + k) → w ≡ waitingWord (getD ws (orderPlace k) 0) (getD ws (valuePlace (getD ws (orderPlace k) 0)) 0)
-      → Turns (suspendFrom top) 0 n ws₀ (set (set ws at w) (valuePlace (getD ws (orderPlace k) 0)) 0) (k + 1)
+  pub suspend-more : (w : ℕ) → k < n → top + n ≤ stackWords → w ≡ waitingWord (getD ws (orderPlace k) 0) (getD ws (valuePlace (getD ws (orderPlace k) 0)) 0)
+      → Turns (suspendFrom top) 0 n ws₀ (set (set ws (16464 + top + k) w) (valuePlace (getD ws (orderPlace k) 0)) 0) (k + 1)
   unfolding suspendFrom _>>=_ goOn load store
-  suspend-more w at h i e = turns-next (suspendFrom top) 0 n ws₀ ws k g _ h (λ m ts. rw (← i, ← e)) (two-set ws at w (valuePlace (getD ws (orderPlace k) 0)) 0)
+  suspend-more w h l e =
+      let i : 16464 + top + k ≡ argumentPlace (top + k) = omega arith in
+      turns-next (suspendFrom top) 0 n ws₀ ws k g _ h (λ m ts. rw (← i, ← e)) (two-set ws (16464 + top + k) w (valuePlace (getD ws (orderPlace k) 0)) 0)
 
   pub all-suspended : n ≤ k → Gives ws₀ (suspendFrom top 0 n) tt ws
   unfolding suspendFrom give

@@ -50,6 +50,15 @@ module _ (ws : List ℕ) (counter granted amount : ℕ) where
   unfolding spend passed if_then_else_
   pays l h = record { equal = λ n p ts. rw (le-leb (getD ws counter 0 + amount) granted (omega arith)) }
 
+module _ (ws : List ℕ) (counter granted : ℕ) where
+  pub none-left : granted ≤ getD ws counter 0 → Pays ws counter granted 1 false ws
+  unfolding spend passed if_then_else_
+  none-left h = record { equal = λ n p ts. rw (lt-leb (getD ws counter 0 + 1) granted (omega arith)) }
+
+  pub pays-one : getD ws counter 0 < granted → Pays ws counter granted 1 true (set ws counter (getD ws counter 0 + 1))
+  unfolding spend passed if_then_else_
+  pays-one h = record { equal = λ n p ts. rw (le-leb (getD ws counter 0 + 1) granted (omega arith)) }
+
 pub counts : (ws g ws′ : List ℕ) (ok : Bool) → Pays ws stepsUsed (stepsGranted g) 1 ok ws′ → Passes ws 79 (count g) ok ws′
 counts ws g ws′ ok h = record { equal = λ p ts. h .equal 79 p ts }
 

@@ -47,14 +47,14 @@ fn frame_word(top: usize, n: usize) -> u64
 // Puts the variables of the call under way on the stack, from place top on.
 fn suspend_variables(words: &mut [u64], top: usize, n: usize)
     requires { ⌜ fixedWords ≤ length (now words) ⌝ }
+    requires { ⌜ top + n ≤ stackWords ⌝ }
     ensures { λ _. ⌜ Gives (now (words .entry)) (suspendFrom top 0 n) tt (now (words .exit)) ⌝ }
 {
     let mut k = 0;
     while k < n {
         let slot = words[layout::FIRST_ORDER + k % layout::SLOTS] as usize;
         let w = waiting_word(slot, words[layout::FIRST_VALUE + slot % layout::SLOTS]);
-        let at = arguments::place_above(top, k);
-        words[at] = w;
+        words[layout::FIRST_ARGUMENT + top + k] = w;
         words[layout::FIRST_VALUE + slot % layout::SLOTS] = 0;
         k += 1;
     }

@@ -23,13 +23,26 @@ pub fn spend(words: &mut [u64], counter: usize, granted: u64, amount: u64) -> bo
     true
 }
 
+// Adds one to a counter, if it then stays within the grant.
+pub fn spend_one(words: &mut [u64], counter: usize, granted: u64) -> bool
+    requires { ⌜ counter < length (now words) ⌝ }
+    ensures { λ r. ⌜ Pays (now (words .entry)) counter granted 1 r (now (words .exit)) ⌝ }
+{
+    let used = words[counter];
+    if granted <= used {
+        return false;
+    }
+    words[counter] = used + 1;
+    true
+}
+
 // Counts a step.
 pub fn count(words: &mut [u64], grants: &[u64; 5]) -> bool
     requires { ⌜ fixedWords ≤ length (now words) ⌝ }
     ensures { λ r. ⌜ Passes (now (words .entry)) 79 (count (now (grants .entry))) r (now (words .exit)) ⌝ }
 {
     let limit = grants[granted::STEPS];
-    let ok = spend(words, counters::STEPS, limit, 1);
+    let ok = spend_one(words, counters::STEPS, limit);
     ok
 }
 

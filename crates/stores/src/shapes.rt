@@ -95,7 +95,7 @@ pub fn new_shape(words: &mut [u64], grants: &[u64; 5], p: u64, f: Figure) -> Ans
 {
     let i = words[machine::counters::SHAPES];
     let limit = grants[granted::SHAPES];
-    if !counters::spend(words, machine::counters::SHAPES, limit, 1) {
+    if !counters::spend_one(words, machine::counters::SHAPES, limit) {
         return Answer::Bad(76, p);
     }
     let k = i as u32;

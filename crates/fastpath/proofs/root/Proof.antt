@@ -1,4 +1,4 @@
-use Rattle.fastpath.proofs.Laws.{too-deep, is-leaf, is-operation}
+use Rattle.fastpath.proofs.Laws.{too-deep, is-leaf, is-operation-anew}
 use borrow.Author.Needs.{needs}
 use Rattle.fastpath.proofs.root.Statement.{statement}
 use Rattle.fastpath.proofs.root.Tie as tie
@@ -19,6 +19,24 @@ leaf-word-requires c κs = search needs
 returns-2 : tie.Need-returns-2
 returns-2 c = search is-leaf
 
+sub-code : tie.Need-sub-code
+sub-code c = search needs
+
+part-code-start : tie.Need-part-code-start
+part-code-start c = search needs
+
+part-code-end : tie.Need-part-code-end
+part-code-end c = search needs
+
+sub-words : tie.Need-sub-words
+sub-words c = search needs
+
+part-words-start : tie.Need-part-words-start
+part-words-start c = search needs
+
+part-words-end : tie.Need-part-words-end
+part-words-end c = search needs
+
 -- src/lib.rt:168:36
 sub-operation : tie.Need-sub-operation
 sub-operation c = search needs
@@ -29,7 +47,7 @@ operation-requires c κs = search needs
 
 -- src/lib.rt:157:1
 returns-3 : tie.Need-returns-3
-returns-3 c = search is-operation
+returns-3 c = search is-operation-anew
 
 pub root-spec : {M : Type 1} → statement M
 root-spec =
@@ -39,6 +57,12 @@ root-spec =
     tag-of-requires
     leaf-word-requires
     returns-2
+    sub-code
+    part-code-start
+    part-code-end
+    sub-words
+    part-words-start
+    part-words-end
     sub-operation
     operation-requires
     returns-3)

@@ -71,8 +71,8 @@ returns-4 : tie.Need-returns-4
 returns-4 c = search name-twice
 
 -- src/lib.rt:69:9
-spend-requires : tie.Need-spend-requires
-spend-requires c κs = omega (arith, length-set (c .before .before .before .before .before .before .before .before .before .before .before .suspend .last .0) 8 (c .before .before .before .before .before .before .before .before .before .before .before .before .before .before .before .before .before .before .before .before .before .args .callee + 1))
+spend-one-requires : tie.Need-spend-one-requires
+spend-one-requires c κs = omega (arith, length-set (c .before .before .before .before .before .before .before .before .before .before .before .suspend .last .0) 8 (c .before .before .before .before .before .before .before .before .before .before .before .before .before .before .before .before .before .before .before .before .before .args .callee + 1))
 
 -- src/lib.rt:70:9
 same-length-3 : tie.Need-same-length-3
@@ -120,7 +120,7 @@ begin-spec =
     declare-parameters-requires
     same-length-2
     returns-4
-    spend-requires
+    spend-one-requires
     same-length-3
     returns-5
     assign-parameters-requires

@@ -6,7 +6,7 @@ use Rattle.running.proofs.enter.Statement.{statement}
 use Rattle.running.proofs.enter.Tie as tie
 use Rattle.running.proofs.enter.Reads as reads
 use Rattle.running.proofs.enter.Lts as lts
-use Rattle.stores.proofs.counters.spend.Reads as spend-reads
+use Rattle.stores.proofs.counters.spend_one.Reads as spend-one-reads
 use Rattle.stores.proofs.variables.declare.Reads as declare-reads
 use Rattle.stores.proofs.variables.set_variable.Reads as set-variable-reads
 use Rattle.values.proofs.pack.Reads as pack-reads
@@ -40,8 +40,8 @@ element-copy-out-limit : tie.Need-element-copy-out-limit
 element-copy-out-limit c = search needs
 
 -- src/lib.rt:47:9
-spend-requires : tie.Need-spend-requires
-spend-requires c κs = search needs
+spend-one-requires : tie.Need-spend-one-requires
+spend-one-requires c κs = search needs
 
 -- src/lib.rt:48:9
 same-length-3 : tie.Need-same-length-3
@@ -73,7 +73,7 @@ same-length-4 c = search needs
 
 -- src/lib.rt:36:1
 returns-4 : tie.Need-returns-4
-returns-4 c = both-entered _ _ _ _ _ _ _ _ (c .before .before .before .before .before .before .before .before .before .before .before .before .before .before .before .before .before .before .before .before .before .before .before .before .declare .ensures) (c .before .before .before .before .before .before .before .before .before .before .before .before .before .before .before .before .before .before .before .before .before .if1 .left) _ _ (c .before .before .before .before .before .before .before .before .before .before .before .before .before .before .before .before .before .before .before .declare2 .ensures) (c .before .before .before .before .before .before .before .before .before .before .before .before .before .before .before .before .if2 .left) _ refl _ _ (c .before .before .before .before .before .before .before .before .before .before .before .before .before .spend .ensures) (c .before .before .before .before .before .before .before .before .before .before .if3 .left) (c .before .before .before .before .before .before .before .before .before .before .before .before .before .before .before .before .before .before .before .before .before .before .before .before .before .before .before .fits .width) (c .before .before .before .before .before .before .before .before .before .before .before .before .before .before .before .before .before .before .before .before .before .before .before .before .before .before .before .fits .height) _ _ _ _ (c .before .before .before .before .before .before .before .before .pack .ensures) (c .before .before .before .before .before .before .before .set-variable .ensures) (c .before .before .before .pack2 .ensures) (c .before .before .set-variable2 .ensures)
+returns-4 c = both-entered _ _ _ _ _ _ _ _ (c .before .before .before .before .before .before .before .before .before .before .before .before .before .before .before .before .before .before .before .before .before .before .before .before .declare .ensures) (c .before .before .before .before .before .before .before .before .before .before .before .before .before .before .before .before .before .before .before .before .before .if1 .left) _ _ (c .before .before .before .before .before .before .before .before .before .before .before .before .before .before .before .before .before .before .before .declare2 .ensures) (c .before .before .before .before .before .before .before .before .before .before .before .before .before .before .before .before .if2 .left) _ refl _ _ (c .before .before .before .before .before .before .before .before .before .before .before .before .before .spend-one .ensures) (c .before .before .before .before .before .before .before .before .before .before .if3 .left) (c .before .before .before .before .before .before .before .before .before .before .before .before .before .before .before .before .before .before .before .before .before .before .before .before .before .before .before .fits .width) (c .before .before .before .before .before .before .before .before .before .before .before .before .before .before .before .before .before .before .before .before .before .before .before .before .before .before .before .fits .height) _ _ _ _ (c .before .before .before .before .before .before .before .before .pack .ensures) (c .before .before .before .before .before .before .before .set-variable .ensures) (c .before .before .before .pack2 .ensures) (c .before .before .set-variable2 .ensures)
 
 pub enter-spec : {M : Type 1} → statement M
 enter-spec =
@@ -86,7 +86,7 @@ enter-spec =
     same-length-2
     returns-2
     element-copy-out-limit
-    spend-requires
+    spend-one-requires
     same-length-3
     returns-3
     pack-requires

@@ -216,7 +216,7 @@ fn main() {
     );
     println!("|---|---|---|---|---|---|---|---|");
     // Deep enough that running it takes more than reading it, so that what is around it shows.
-    let deep = format!("({}1{})", "1+w.f(".repeat(32), ")".repeat(32));
+    let deep = format!("({}1{})", "1+w.f(".repeat(40), ")".repeat(40));
     let mut most = 0;
     for nest in &NESTS {
         let reading = share(Operation::Check, nest, 4, 64, "1");

@@ -47,8 +47,12 @@ waiting-word-requires : tie.Need-waiting-word-requires Inv-loop μ-loop
 waiting-word-requires c κs = search needs
 
 -- src/calls.rt:48:13
-place-above-requires : tie.Need-place-above-requires Inv-loop μ-loop
-place-above-requires c κs = search needs
+add-words : tie.Need-add-words Inv-loop μ-loop
+add-words c = omega arith
+
+-- src/calls.rt:48:9
+add-words-2 : tie.Need-add-words-2 Inv-loop μ-loop
+add-words-2 c = omega arith
 
 -- src/calls.rt:49:9
 mul-words : tie.Need-mul-words Inv-loop μ-loop
@@ -59,8 +63,8 @@ slice-write-words : tie.Need-slice-write-words Inv-loop μ-loop
 slice-write-words c = omega arith
 
 -- src/calls.rt:50:15
-add-words : tie.Need-add-words Inv-loop μ-loop
-add-words c = omega arith
+add-words-3 : tie.Need-add-words-3 Inv-loop μ-loop
+add-words-3 c = omega arith
 
 -- src/calls.rt:50:9
 mul-words-2 : tie.Need-mul-words-2 Inv-loop μ-loop
@@ -104,10 +108,11 @@ suspend-variables-spec =
     mul-waiting-word
     slice-read-waiting-word
     waiting-word-requires
-    place-above-requires
+    add-words
+    add-words-2
     mul-words
     slice-write-words
-    add-words
+    add-words-3
     mul-words-2
     slice-write-words-2
     add-k

@@ -10,8 +10,8 @@ slice-read-i c = search needs
 element-copy-out-limit : tie.Need-element-copy-out-limit
 element-copy-out-limit c = search needs
 
-spend-requires : tie.Need-spend-requires
-spend-requires c κs = search needs
+spend-one-requires : tie.Need-spend-one-requires
+spend-one-requires c κs = search needs
 
 same-length : tie.Need-same-length
 same-length c = search needs
@@ -20,7 +20,7 @@ returns : tie.Need-returns
 returns c = search no-shape
 
 cast-k : tie.Need-cast-k
-cast-k c = omega (arith, shape-number _ _ _ _ (c .before .before .before .spend .ensures) (c .if1 .left) (c .before .before .before .before .before .before .before .before .pre))
+cast-k c = omega (arith, shape-number _ _ _ _ (c .before .before .before .spend-one .ensures) (c .if1 .left) (c .before .before .before .before .before .before .before .before .pre))
 
 place-of-requires : tie.Need-place-of-requires
 place-of-requires c κs = search needs
@@ -40,7 +40,7 @@ new-shape-spec =
     (tie.spec
     slice-read-i
     element-copy-out-limit
-    spend-requires
+    spend-one-requires
     same-length
     returns
     cast-k

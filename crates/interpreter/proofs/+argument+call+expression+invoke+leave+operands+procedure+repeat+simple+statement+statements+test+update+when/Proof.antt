@@ -8,7 +8,8 @@ use Rattle.interpreter.proofs.Fast.{push-fast, slow-goes, slow-stops}
 use Rattle.interpreter.proofs.StatementLaws.{still-lent, still-runs, still-room, slow-lent, no-shape, simple-fast, test-fast, simple-done, simple-stops, test-says, test-refused, table-stops, table-other, key-stops, value-stops, update-refused, update-done}
 use Rattle.interpreter.proofs.StatementLaws.{statement-too-deep, statement-no-step, is-loop, is-declaration, is-update, is-when, is-block, is-simple, when-holds, when-not, when-stops, Looping, loop-first, loop-short, loop-refused, loop-stops, loop-ends, loop-fails, loop-returns, loop-again}
 use Rattle.interpreter.proofs.StatementLaws.{Following, all-first, runs-before, all-short, all-done, all-fails, all-returns, all-again}
-use Rattle.interpreter.proofs.CallLaws.{begin-stops, body-stops, without-return, with-return}
+use Rattle.interpreter.proofs.StatementLaws.{deeper-lent, leave-too-deep, leave-no-step, leave-fast, leave-done, leave-stops, ends-short, ends-done, leaves-here, ends-left, ends-fails, ends-returns}
+use Rattle.interpreter.proofs.CallLaws.{begin-stops, body-stops, gives-value}
 use Rattle.effects.proofs.Laws.{is-assignment}
 use Rattle.interpreter.proofs.StatementLaws.{worked-anew, evaluated-anew}
 use Prim.Native.Nat.{ℕ, _+_, _-_, _*_, _<_}
@@ -16,40 +17,46 @@ use borrow.Fn.Kinds.{In}
 use borrow.Fn.PlainCycle.{Measures, is, falls, and}
 use Rattle.interpreter.proofs.argument.Reads as argument
 use Rattle.interpreter.proofs.argument.Kinds as argument-kinds
-use Rattle.interpreter.proofs.+argument+call+expression+invoke+operands+repeat+simple+statement+statements+test+update+when.Lts-argument as argument-lts
+use Rattle.interpreter.proofs.+argument+call+expression+invoke+leave+operands+procedure+repeat+simple+statement+statements+test+update+when.Lts-argument as argument-lts
 use Rattle.interpreter.proofs.call.Reads as call
 use Rattle.interpreter.proofs.call.Kinds as call-kinds
-use Rattle.interpreter.proofs.+argument+call+expression+invoke+operands+repeat+simple+statement+statements+test+update+when.Lts-call as call-lts
+use Rattle.interpreter.proofs.+argument+call+expression+invoke+leave+operands+procedure+repeat+simple+statement+statements+test+update+when.Lts-call as call-lts
 use Rattle.interpreter.proofs.expression.Reads as expression
 use Rattle.interpreter.proofs.expression.Kinds as expression-kinds
-use Rattle.interpreter.proofs.+argument+call+expression+invoke+operands+repeat+simple+statement+statements+test+update+when.Lts-expression as expression-lts
+use Rattle.interpreter.proofs.+argument+call+expression+invoke+leave+operands+procedure+repeat+simple+statement+statements+test+update+when.Lts-expression as expression-lts
 use Rattle.interpreter.proofs.invoke.Reads as invoke
 use Rattle.interpreter.proofs.invoke.Kinds as invoke-kinds
-use Rattle.interpreter.proofs.+argument+call+expression+invoke+operands+repeat+simple+statement+statements+test+update+when.Lts-invoke as invoke-lts
+use Rattle.interpreter.proofs.+argument+call+expression+invoke+leave+operands+procedure+repeat+simple+statement+statements+test+update+when.Lts-invoke as invoke-lts
+use Rattle.interpreter.proofs.leave.Reads as leave
+use Rattle.interpreter.proofs.leave.Kinds as leave-kinds
+use Rattle.interpreter.proofs.+argument+call+expression+invoke+leave+operands+procedure+repeat+simple+statement+statements+test+update+when.Lts-leave as leave-lts
 use Rattle.interpreter.proofs.operands.Reads as operands
 use Rattle.interpreter.proofs.operands.Kinds as operands-kinds
-use Rattle.interpreter.proofs.+argument+call+expression+invoke+operands+repeat+simple+statement+statements+test+update+when.Lts-operands as operands-lts
+use Rattle.interpreter.proofs.+argument+call+expression+invoke+leave+operands+procedure+repeat+simple+statement+statements+test+update+when.Lts-operands as operands-lts
+use Rattle.interpreter.proofs.procedure.Reads as procedure
+use Rattle.interpreter.proofs.procedure.Kinds as procedure-kinds
+use Rattle.interpreter.proofs.+argument+call+expression+invoke+leave+operands+procedure+repeat+simple+statement+statements+test+update+when.Lts-procedure as procedure-lts
 use Rattle.interpreter.proofs.repeat.Reads as repeat
 use Rattle.interpreter.proofs.repeat.Kinds as repeat-kinds
-use Rattle.interpreter.proofs.+argument+call+expression+invoke+operands+repeat+simple+statement+statements+test+update+when.Lts-repeat as repeat-lts
+use Rattle.interpreter.proofs.+argument+call+expression+invoke+leave+operands+procedure+repeat+simple+statement+statements+test+update+when.Lts-repeat as repeat-lts
 use Rattle.interpreter.proofs.simple.Reads as simple
 use Rattle.interpreter.proofs.simple.Kinds as simple-kinds
-use Rattle.interpreter.proofs.+argument+call+expression+invoke+operands+repeat+simple+statement+statements+test+update+when.Lts-simple as simple-lts
+use Rattle.interpreter.proofs.+argument+call+expression+invoke+leave+operands+procedure+repeat+simple+statement+statements+test+update+when.Lts-simple as simple-lts
 use Rattle.interpreter.proofs.statement.Reads as statement′
 use Rattle.interpreter.proofs.statement.Kinds as statement-kinds
-use Rattle.interpreter.proofs.+argument+call+expression+invoke+operands+repeat+simple+statement+statements+test+update+when.Lts-statement as statement-lts
+use Rattle.interpreter.proofs.+argument+call+expression+invoke+leave+operands+procedure+repeat+simple+statement+statements+test+update+when.Lts-statement as statement-lts
 use Rattle.interpreter.proofs.statements.Reads as statements
 use Rattle.interpreter.proofs.statements.Kinds as statements-kinds
-use Rattle.interpreter.proofs.+argument+call+expression+invoke+operands+repeat+simple+statement+statements+test+update+when.Lts-statements as statements-lts
+use Rattle.interpreter.proofs.+argument+call+expression+invoke+leave+operands+procedure+repeat+simple+statement+statements+test+update+when.Lts-statements as statements-lts
 use Rattle.interpreter.proofs.test.Reads as test
 use Rattle.interpreter.proofs.test.Kinds as test-kinds
-use Rattle.interpreter.proofs.+argument+call+expression+invoke+operands+repeat+simple+statement+statements+test+update+when.Lts-test as test-lts
+use Rattle.interpreter.proofs.+argument+call+expression+invoke+leave+operands+procedure+repeat+simple+statement+statements+test+update+when.Lts-test as test-lts
 use Rattle.interpreter.proofs.update.Reads as update
 use Rattle.interpreter.proofs.update.Kinds as update-kinds
-use Rattle.interpreter.proofs.+argument+call+expression+invoke+operands+repeat+simple+statement+statements+test+update+when.Lts-update as update-lts
+use Rattle.interpreter.proofs.+argument+call+expression+invoke+leave+operands+procedure+repeat+simple+statement+statements+test+update+when.Lts-update as update-lts
 use Rattle.interpreter.proofs.when.Reads as when
 use Rattle.interpreter.proofs.when.Kinds as when-kinds
-use Rattle.interpreter.proofs.+argument+call+expression+invoke+operands+repeat+simple+statement+statements+test+update+when.Lts-when as when-lts
+use Rattle.interpreter.proofs.+argument+call+expression+invoke+leave+operands+procedure+repeat+simple+statement+statements+test+update+when.Lts-when as when-lts
 use Rattle.code.proofs.argument_root.Reads as argument-root-reads
 use Rattle.code.proofs.before.Reads as before-reads
 use Rattle.code.proofs.body_of.Reads as body-of-reads
@@ -87,10 +94,11 @@ use Rattle.stores.proofs.variables.declared_count.Reads as declared-count-reads
 use Rattle.stores.proofs.words.word_at.Reads as word-at-reads
 use Rattle.tables.proofs.entries.store_entry.Reads as store-entry-reads
 use Rattle.values.proofs.pack.Reads as pack-reads
-use Rattle.interpreter.proofs.+argument+call+expression+invoke+operands+repeat+simple+statement+statements+test+update+when.{
+use Rattle.values.proofs.unpack.Reads as unpack-reads
+use Rattle.interpreter.proofs.+argument+call+expression+invoke+leave+operands+procedure+repeat+simple+statement+statements+test+update+when.{
   statement,
 }
-use Rattle.interpreter.proofs.+argument+call+expression+invoke+operands+repeat+simple+statement+statements+test+update+when.Tie.{
+use Rattle.interpreter.proofs.+argument+call+expression+invoke+leave+operands+procedure+repeat+simple+statement+statements+test+update+when.Tie.{
   close,
 }
 
@@ -106,8 +114,14 @@ abbrev μ-expression : Measures 5 expression-kinds.ps ℕ
 abbrev μ-invoke : Measures 5 invoke-kinds.ps ℕ
 μ-invoke κs a = 4 * (a .1 .1 .1 .1 .1 .0) + 2
 
+abbrev μ-leave : Measures 5 leave-kinds.ps ℕ
+μ-leave κs a = 4 * (a .1 .1 .1 .1 .1 .0)
+
 abbrev μ-operands : Measures 5 operands-kinds.ps ℕ
 μ-operands κs a = 4 * (a .1 .1 .1 .1 .1 .0) + 1
+
+abbrev μ-procedure : Measures 5 procedure-kinds.ps ℕ
+μ-procedure κs a = 4 * (a .1 .1 .1 .1 .1 .0) + 1
 
 abbrev μ-repeat : Measures 5 repeat-kinds.ps ℕ
 μ-repeat κs a = 4 * (a .1 .1 .1 .1 .1 .0) + 2
@@ -157,12 +171,25 @@ invoke-at t = and 5 invoke-kinds.ps (is 5 invoke-kinds.ps μ-invoke t) invoke.Pr
 abbrev invoke-below : ℕ → In 5 invoke-kinds.ps
 invoke-below t = and 5 invoke-kinds.ps (falls 5 invoke-kinds.ps _<_ μ-invoke t) invoke.Pre
 
+abbrev leave-at : ℕ → In 5 leave-kinds.ps
+leave-at t = and 5 leave-kinds.ps (is 5 leave-kinds.ps μ-leave t) leave.Pre
+
+abbrev leave-below : ℕ → In 5 leave-kinds.ps
+leave-below t = and 5 leave-kinds.ps (falls 5 leave-kinds.ps _<_ μ-leave t) leave.Pre
+
 abbrev operands-at : ℕ → In 5 operands-kinds.ps
 operands-at t = and 5 operands-kinds.ps (is 5 operands-kinds.ps μ-operands t) operands.Pre
 
 abbrev operands-below : ℕ → In 5 operands-kinds.ps
 operands-below t =
     and 5 operands-kinds.ps (falls 5 operands-kinds.ps _<_ μ-operands t) operands.Pre
+
+abbrev procedure-at : ℕ → In 5 procedure-kinds.ps
+procedure-at t = and 5 procedure-kinds.ps (is 5 procedure-kinds.ps μ-procedure t) procedure.Pre
+
+abbrev procedure-below : ℕ → In 5 procedure-kinds.ps
+procedure-below t =
+    and 5 procedure-kinds.ps (falls 5 procedure-kinds.ps _<_ μ-procedure t) procedure.Pre
 
 abbrev repeat-at : ℕ → In 5 repeat-kinds.ps
 repeat-at t = and 5 repeat-kinds.ps (is 5 repeat-kinds.ps μ-repeat t) repeat.Pre
@@ -209,7 +236,7 @@ when-at t = and 5 when-kinds.ps (is 5 when-kinds.ps μ-when t) when.Pre
 abbrev when-below : ℕ → In 5 when-kinds.ps
 when-below t = and 5 when-kinds.ps (falls 5 when-kinds.ps _<_ μ-when t) when.Pre
 
--- src/lib.rt:187:9
+-- src/lib.rt:188:9
 argument-fast-value-requires : (t : ℕ) → argument-lts.Need-fast-value-requires (
   fast-value-reads.Asked,
   fast-value-reads.Learnt,
@@ -222,7 +249,7 @@ argument-fast-value-requires : (t : ℕ) → argument-lts.Need-fast-value-requir
 ) (argument-at t) argument.Post
 argument-fast-value-requires t c κs = omega (arith, c .before .before .before .before .before .pre .1 .lent .room .words)
 
--- src/lib.rt:189:13
+-- src/lib.rt:190:13
 argument-push-word-requires : (t : ℕ) → argument-lts.Need-push-word-requires (
   fast-value-reads.Asked,
   fast-value-reads.Learnt,
@@ -235,7 +262,7 @@ argument-push-word-requires : (t : ℕ) → argument-lts.Need-push-word-requires
 ) (argument-at t) argument.Post
 argument-push-word-requires t c κs = search needs
 
--- src/lib.rt:190:9
+-- src/lib.rt:191:9
 argument-same-length : (t : ℕ) → argument-lts.Need-same-length (
   fast-value-reads.Asked,
   fast-value-reads.Learnt,
@@ -248,7 +275,7 @@ argument-same-length : (t : ℕ) → argument-lts.Need-same-length (
 ) (argument-at t) argument.Post
 argument-same-length t c = search needs
 
--- src/lib.rt:190:9
+-- src/lib.rt:191:9
 argument-returns : (t : ℕ) → argument-lts.Need-returns (
   fast-value-reads.Asked,
   fast-value-reads.Learnt,
@@ -261,7 +288,7 @@ argument-returns : (t : ℕ) → argument-lts.Need-returns (
 ) (argument-at t) argument.Post
 argument-returns t c = push-fast _ _ _ _ _ _ _ _ _ _ (c .before .before .before .before .before .before .before .fast-value .ensures) _ _ (c .before .before .before .before .before .before .before .before .before .before .before .before .before .pre .1 .lent) (c .before .before .before .before .if1 .taken) (c .before .before .push-word .ensures)
 
--- src/lib.rt:192:11
+-- src/lib.rt:193:11
 argument-expression-requires : (t : ℕ) → argument-lts.Need-expression-requires (
   fast-value-reads.Asked,
   fast-value-reads.Learnt,
@@ -274,7 +301,7 @@ argument-expression-requires : (t : ℕ) → argument-lts.Need-expression-requir
 ) (argument-at t) argument.Post
 argument-expression-requires t c κs = (omega arith, slow-lent _ _ _ _ _ _ _ _ (c .before .before .before .before .before .fast-value .ensures) (c .before .before .if1 .left) (c .before .before .before .before .before .before .before .before .before .before .before .pre .1))
 
--- src/lib.rt:193:22
+-- src/lib.rt:194:22
 argument-enum-known-v : (t : ℕ) → argument-lts.Need-enum-known-v (
   fast-value-reads.Asked,
   fast-value-reads.Learnt,
@@ -287,7 +314,7 @@ argument-enum-known-v : (t : ℕ) → argument-lts.Need-enum-known-v (
 ) (argument-at t) argument.Post
 argument-enum-known-v t c = search needs
 
--- src/lib.rt:194:49
+-- src/lib.rt:195:49
 argument-pack-requires : (t : ℕ) → argument-lts.Need-pack-requires (
   fast-value-reads.Asked,
   fast-value-reads.Learnt,
@@ -300,7 +327,7 @@ argument-pack-requires : (t : ℕ) → argument-lts.Need-pack-requires (
 ) (argument-at t) argument.Post
 argument-pack-requires t c κs = search needs
 
--- src/lib.rt:194:17
+-- src/lib.rt:195:17
 argument-push-word-requires-2 : (t : ℕ) → argument-lts.Need-push-word-requires-2 (
   fast-value-reads.Asked,
   fast-value-reads.Learnt,
@@ -313,7 +340,7 @@ argument-push-word-requires-2 : (t : ℕ) → argument-lts.Need-push-word-requir
 ) (argument-at t) argument.Post
 argument-push-word-requires-2 t c κs = search needs
 
--- src/lib.rt:197:21
+-- src/lib.rt:198:21
 argument-enum-known-n : (t : ℕ) → argument-lts.Need-enum-known-n (
   fast-value-reads.Asked,
   fast-value-reads.Learnt,
@@ -326,7 +353,7 @@ argument-enum-known-n : (t : ℕ) → argument-lts.Need-enum-known-n (
 ) (argument-at t) argument.Post
 argument-enum-known-n t c = search needs
 
--- src/lib.rt:173:1
+-- src/lib.rt:174:1
 argument-same-length-2 : (t : ℕ) → argument-lts.Need-same-length-2 (
   fast-value-reads.Asked,
   fast-value-reads.Learnt,
@@ -339,7 +366,7 @@ argument-same-length-2 : (t : ℕ) → argument-lts.Need-same-length-2 (
 ) (argument-at t) argument.Post
 argument-same-length-2 t c = search needs
 
--- src/lib.rt:173:1
+-- src/lib.rt:174:1
 argument-same-length-3 : (t : ℕ) → argument-lts.Need-same-length-3 (
   fast-value-reads.Asked,
   fast-value-reads.Learnt,
@@ -352,7 +379,7 @@ argument-same-length-3 : (t : ℕ) → argument-lts.Need-same-length-3 (
 ) (argument-at t) argument.Post
 argument-same-length-3 t c = search needs
 
--- src/lib.rt:173:1
+-- src/lib.rt:174:1
 argument-returns-2 : (t : ℕ) → argument-lts.Need-returns-2 (
   fast-value-reads.Asked,
   fast-value-reads.Learnt,
@@ -365,7 +392,7 @@ argument-returns-2 : (t : ℕ) → argument-lts.Need-returns-2 (
 ) (argument-at t) argument.Post
 argument-returns-2 t c = search slow-goes
 
--- src/lib.rt:173:1
+-- src/lib.rt:174:1
 argument-same-length-4 : (t : ℕ) → argument-lts.Need-same-length-4 (
   fast-value-reads.Asked,
   fast-value-reads.Learnt,
@@ -378,7 +405,7 @@ argument-same-length-4 : (t : ℕ) → argument-lts.Need-same-length-4 (
 ) (argument-at t) argument.Post
 argument-same-length-4 t c = search needs
 
--- src/lib.rt:173:1
+-- src/lib.rt:174:1
 argument-same-length-5 : (t : ℕ) → argument-lts.Need-same-length-5 (
   fast-value-reads.Asked,
   fast-value-reads.Learnt,
@@ -391,7 +418,7 @@ argument-same-length-5 : (t : ℕ) → argument-lts.Need-same-length-5 (
 ) (argument-at t) argument.Post
 argument-same-length-5 t c = search needs
 
--- src/lib.rt:173:1
+-- src/lib.rt:174:1
 argument-returns-3 : (t : ℕ) → argument-lts.Need-returns-3 (
   fast-value-reads.Asked,
   fast-value-reads.Learnt,
@@ -410,7 +437,7 @@ call-Inv-loop program code grants texts₀ words₀ fuel w x p base a y₀ texts
 abbrev call-μ-loop : call-lts.MeasureT-loop
 call-μ-loop program code grants texts₀ words₀ fuel w x p base a y₀ texts words y = x - y
 
--- src/lib.rt:143:9
+-- src/lib.rt:144:9
 call-arguments-held-requires : (t : ℕ) → call-lts.Need-arguments-held-requires (
   arguments-held-reads.Asked,
   arguments-held-reads.Learnt,
@@ -433,7 +460,7 @@ call-arguments-held-requires : (t : ℕ) → call-lts.Need-arguments-held-requir
 ) (call-at t) call.Post call-Inv-loop call-μ-loop
 call-arguments-held-requires t c κs = omega (arith, c .before .before .before .before .before .pre .1 .lent .room .words)
 
--- src/lib.rt:144:9
+-- src/lib.rt:145:9
 call-first-argument-requires : (t : ℕ) → call-lts.Need-first-argument-requires (
   arguments-held-reads.Asked,
   arguments-held-reads.Learnt,
@@ -456,7 +483,7 @@ call-first-argument-requires : (t : ℕ) → call-lts.Need-first-argument-requir
 ) (call-at t) call.Post call-Inv-loop call-μ-loop
 call-first-argument-requires t c κs = search needs
 
--- src/lib.rt:145:37
+-- src/lib.rt:146:37
 call-word-at-requires : (t : ℕ) → call-lts.Need-word-at-requires (
   arguments-held-reads.Asked,
   arguments-held-reads.Learnt,
@@ -479,7 +506,7 @@ call-word-at-requires : (t : ℕ) → call-lts.Need-word-at-requires (
 ) (call-at t) call.Post call-Inv-loop call-μ-loop
 call-word-at-requires t c κs = search needs
 
--- src/lib.rt:145:9
+-- src/lib.rt:146:9
 call-argument-root-requires : (t : ℕ) → call-lts.Need-argument-root-requires (
   arguments-held-reads.Asked,
   arguments-held-reads.Learnt,
@@ -502,7 +529,7 @@ call-argument-root-requires : (t : ℕ) → call-lts.Need-argument-root-requires
 ) (call-at t) call.Post call-Inv-loop call-μ-loop
 call-argument-root-requires t c κs = search needs
 
--- src/lib.rt:146:5
+-- src/lib.rt:147:5
 call-loop-holds : (t : ℕ) → call-lts.Need-loop-holds (
   arguments-held-reads.Asked,
   arguments-held-reads.Learnt,
@@ -525,7 +552,7 @@ call-loop-holds : (t : ℕ) → call-lts.Need-loop-holds (
 ) (call-at t) call.Post call-Inv-loop call-μ-loop
 call-loop-holds t c = push-first _ _ _ _ _ _ _ _ _ _ _ _ 0 _ (c .before .before .before .before .before .before .before .before .before .pre .1 .lent) (c .before .before .before .arguments-held .ensures) (c .before .before .first-argument .ensures) (c .before .word-at .ensures) (c .argument-root .ensures)
 
--- src/lib.rt:147:15
+-- src/lib.rt:148:15
 call-argument-requires : (t : ℕ) → call-lts.Need-argument-requires (
   arguments-held-reads.Asked,
   arguments-held-reads.Learnt,
@@ -570,7 +597,7 @@ call-enum-told : (t : ℕ) → call-lts.Need-enum-told (
 ) (call-at t) call.Post call-Inv-loop call-μ-loop
 call-enum-told t c = search needs
 
--- src/lib.rt:149:25
+-- src/lib.rt:150:25
 call-enum-known-n : (t : ℕ) → call-lts.Need-enum-known-n (
   arguments-held-reads.Asked,
   arguments-held-reads.Learnt,
@@ -593,7 +620,7 @@ call-enum-known-n : (t : ℕ) → call-lts.Need-enum-known-n (
 ) (call-at t) call.Post call-Inv-loop call-μ-loop
 call-enum-known-n t c = search needs
 
--- src/lib.rt:149:34
+-- src/lib.rt:150:34
 call-same-length : (t : ℕ) → call-lts.Need-same-length (
   arguments-held-reads.Asked,
   arguments-held-reads.Learnt,
@@ -616,7 +643,7 @@ call-same-length : (t : ℕ) → call-lts.Need-same-length (
 ) (call-at t) call.Post call-Inv-loop call-μ-loop
 call-same-length t c = search needs
 
--- src/lib.rt:149:34
+-- src/lib.rt:150:34
 call-same-length-2 : (t : ℕ) → call-lts.Need-same-length-2 (
   arguments-held-reads.Asked,
   arguments-held-reads.Learnt,
@@ -639,7 +666,7 @@ call-same-length-2 : (t : ℕ) → call-lts.Need-same-length-2 (
 ) (call-at t) call.Post call-Inv-loop call-μ-loop
 call-same-length-2 t c = search needs
 
--- src/lib.rt:149:34
+-- src/lib.rt:150:34
 call-returns : (t : ℕ) → call-lts.Need-returns (
   arguments-held-reads.Asked,
   arguments-held-reads.Learnt,
@@ -662,7 +689,7 @@ call-returns : (t : ℕ) → call-lts.Need-returns (
 ) (call-at t) call.Post call-Inv-loop call-μ-loop
 call-returns t c = search push-fails
 
--- src/lib.rt:151:62
+-- src/lib.rt:152:62
 call-add-word-at : (t : ℕ) → call-lts.Need-add-word-at (
   arguments-held-reads.Asked,
   arguments-held-reads.Learnt,
@@ -685,7 +712,7 @@ call-add-word-at : (t : ℕ) → call-lts.Need-add-word-at (
 ) (call-at t) call.Post call-Inv-loop call-μ-loop
 call-add-word-at t c = search needs
 
--- src/lib.rt:151:33
+-- src/lib.rt:152:33
 call-word-at-requires-2 : (t : ℕ) → call-lts.Need-word-at-requires-2 (
   arguments-held-reads.Asked,
   arguments-held-reads.Learnt,
@@ -708,7 +735,7 @@ call-word-at-requires-2 : (t : ℕ) → call-lts.Need-word-at-requires-2 (
 ) (call-at t) call.Post call-Inv-loop call-μ-loop
 call-word-at-requires-2 t c κs = search needs
 
--- src/lib.rt:151:70
+-- src/lib.rt:152:70
 call-add-argument-root : (t : ℕ) → call-lts.Need-add-argument-root (
   arguments-held-reads.Asked,
   arguments-held-reads.Learnt,
@@ -731,7 +758,7 @@ call-add-argument-root : (t : ℕ) → call-lts.Need-add-argument-root (
 ) (call-at t) call.Post call-Inv-loop call-μ-loop
 call-add-argument-root t c = search needs
 
--- src/lib.rt:151:9
+-- src/lib.rt:152:9
 call-argument-root-requires-2 : (t : ℕ) → call-lts.Need-argument-root-requires-2 (
   arguments-held-reads.Asked,
   arguments-held-reads.Learnt,
@@ -754,7 +781,7 @@ call-argument-root-requires-2 : (t : ℕ) → call-lts.Need-argument-root-requir
 ) (call-at t) call.Post call-Inv-loop call-μ-loop
 call-argument-root-requires-2 t c κs = search needs
 
--- src/lib.rt:146:5
+-- src/lib.rt:147:5
 call-loop-less : (t : ℕ) → call-lts.Need-loop-less (
   arguments-held-reads.Asked,
   arguments-held-reads.Learnt,
@@ -777,7 +804,7 @@ call-loop-less : (t : ℕ) → call-lts.Need-loop-less (
 ) (call-at t) call.Post call-Inv-loop call-μ-loop
 call-loop-less t c = search root-falls
 
--- src/lib.rt:146:5
+-- src/lib.rt:147:5
 call-loop-again : (t : ℕ) → call-lts.Need-loop-again (
   arguments-held-reads.Asked,
   arguments-held-reads.Learnt,
@@ -800,7 +827,7 @@ call-loop-again : (t : ℕ) → call-lts.Need-loop-again (
 ) (call-at t) call.Post call-Inv-loop call-μ-loop
 call-loop-again t c = push-next _ _ _ _ _ _ _ _ _ _ _ _ _ (c .before .before .before .before .before .before .before .before .before .before .before .before .loop .inv) (c .before .before .before .before .before .before .before .before .before .before .before .loop-test .taken) _ _ _ (c .before .before .before .before .before .before .before .before .argument .ensures) _ _ _ (let a0 = c .before .before .before .before .before .before .before .texts in omega arith) (let a0 = c .before .before .before .before .before .words in omega arith) (c .before .before .enum-told .given .1) (c .before .word-at2 .ensures) (c .argument-root2 .ensures)
 
--- src/lib.rt:153:9
+-- src/lib.rt:154:9
 call-library-of-requires : (t : ℕ) → call-lts.Need-library-of-requires (
   arguments-held-reads.Asked,
   arguments-held-reads.Learnt,
@@ -823,7 +850,7 @@ call-library-of-requires : (t : ℕ) → call-lts.Need-library-of-requires (
 ) (call-at t) call.Post call-Inv-loop call-μ-loop
 call-library-of-requires t c κs = search needs
 
--- src/lib.rt:162:13
+-- src/lib.rt:163:13
 call-callee-of-requires : (t : ℕ) → call-lts.Need-callee-of-requires (
   arguments-held-reads.Asked,
   arguments-held-reads.Learnt,
@@ -846,7 +873,7 @@ call-callee-of-requires : (t : ℕ) → call-lts.Need-callee-of-requires (
 ) (call-at t) call.Post call-Inv-loop call-μ-loop
 call-callee-of-requires t c κs = search needs
 
--- src/lib.rt:155:13
+-- src/lib.rt:156:13
 call-invoke-requires : (t : ℕ) → call-lts.Need-invoke-requires (
   arguments-held-reads.Asked,
   arguments-held-reads.Learnt,
@@ -869,7 +896,7 @@ call-invoke-requires : (t : ℕ) → call-lts.Need-invoke-requires (
 ) (call-at t) call.Post call-Inv-loop call-μ-loop
 call-invoke-requires t c κs = (omega arith, record { lent = record { lent = c .before .before .before .before .before .before .loop .inv .lent; deep = c .before .before .before .before .before .before .before .before .before .before .before .before .before .before .before .before .pre .1 .deep }; small = c .callee-of .ensures .1 })
 
--- src/lib.rt:166:9
+-- src/lib.rt:167:9
 call-same-length-3 : (t : ℕ) → call-lts.Need-same-length-3 (
   arguments-held-reads.Asked,
   arguments-held-reads.Learnt,
@@ -892,7 +919,7 @@ call-same-length-3 : (t : ℕ) → call-lts.Need-same-length-3 (
 ) (call-at t) call.Post call-Inv-loop call-μ-loop
 call-same-length-3 t c = search needs
 
--- src/lib.rt:166:9
+-- src/lib.rt:167:9
 call-same-length-4 : (t : ℕ) → call-lts.Need-same-length-4 (
   arguments-held-reads.Asked,
   arguments-held-reads.Learnt,
@@ -915,7 +942,7 @@ call-same-length-4 : (t : ℕ) → call-lts.Need-same-length-4 (
 ) (call-at t) call.Post call-Inv-loop call-μ-loop
 call-same-length-4 t c = search needs
 
--- src/lib.rt:166:9
+-- src/lib.rt:167:9
 call-returns-2 : (t : ℕ) → call-lts.Need-returns-2 (
   arguments-held-reads.Asked,
   arguments-held-reads.Learnt,
@@ -938,7 +965,7 @@ call-returns-2 : (t : ℕ) → call-lts.Need-returns-2 (
 ) (call-at t) call.Post call-Inv-loop call-μ-loop
 call-returns-2 t c = search procedure-called
 
--- src/lib.rt:168:9
+-- src/lib.rt:169:9
 call-called-requires : (t : ℕ) → call-lts.Need-called-requires (
   arguments-held-reads.Asked,
   arguments-held-reads.Learnt,
@@ -961,7 +988,7 @@ call-called-requires : (t : ℕ) → call-lts.Need-called-requires (
 ) (call-at t) call.Post call-Inv-loop call-μ-loop
 call-called-requires t c κs = c .before .before .before .before .loop .inv .lent .room
 
--- src/lib.rt:128:1
+-- src/lib.rt:129:1
 call-same-length-5 : (t : ℕ) → call-lts.Need-same-length-5 (
   arguments-held-reads.Asked,
   arguments-held-reads.Learnt,
@@ -984,7 +1011,7 @@ call-same-length-5 : (t : ℕ) → call-lts.Need-same-length-5 (
 ) (call-at t) call.Post call-Inv-loop call-μ-loop
 call-same-length-5 t c = search needs
 
--- src/lib.rt:128:1
+-- src/lib.rt:129:1
 call-same-length-6 : (t : ℕ) → call-lts.Need-same-length-6 (
   arguments-held-reads.Asked,
   arguments-held-reads.Learnt,
@@ -1007,7 +1034,7 @@ call-same-length-6 : (t : ℕ) → call-lts.Need-same-length-6 (
 ) (call-at t) call.Post call-Inv-loop call-μ-loop
 call-same-length-6 t c = search needs
 
--- src/lib.rt:128:1
+-- src/lib.rt:129:1
 call-returns-3 : (t : ℕ) → call-lts.Need-returns-3 (
   arguments-held-reads.Asked,
   arguments-held-reads.Learnt,
@@ -1030,7 +1057,7 @@ call-returns-3 : (t : ℕ) → call-lts.Need-returns-3 (
 ) (call-at t) call.Post call-Inv-loop call-μ-loop
 call-returns-3 t c = search library-called
 
--- src/lib.rt:39:9
+-- src/lib.rt:40:9
 expression-returns : (t : ℕ) → expression-lts.Need-returns (
   count-reads.Asked,
   count-reads.Learnt,
@@ -1047,7 +1074,7 @@ expression-returns : (t : ℕ) → expression-lts.Need-returns (
 ) (expression-at t) expression.Post
 expression-returns t c = search too-deep
 
--- src/lib.rt:41:9
+-- src/lib.rt:42:9
 expression-count-requires : (t : ℕ) → expression-lts.Need-count-requires (
   count-reads.Asked,
   count-reads.Learnt,
@@ -1064,7 +1091,7 @@ expression-count-requires : (t : ℕ) → expression-lts.Need-count-requires (
 ) (expression-at t) expression.Post
 expression-count-requires t c κs = omega (arith, c .before .before .before .before .before .before .pre .1 .lent .room .words)
 
--- src/lib.rt:42:9
+-- src/lib.rt:43:9
 expression-same-length : (t : ℕ) → expression-lts.Need-same-length (
   count-reads.Asked,
   count-reads.Learnt,
@@ -1081,7 +1108,7 @@ expression-same-length : (t : ℕ) → expression-lts.Need-same-length (
 ) (expression-at t) expression.Post
 expression-same-length t c = search needs
 
--- src/lib.rt:42:9
+-- src/lib.rt:43:9
 expression-returns-2 : (t : ℕ) → expression-lts.Need-returns-2 (
   count-reads.Asked,
   count-reads.Learnt,
@@ -1098,7 +1125,7 @@ expression-returns-2 : (t : ℕ) → expression-lts.Need-returns-2 (
 ) (expression-at t) expression.Post
 expression-returns-2 t c = search no-step
 
--- src/lib.rt:44:9
+-- src/lib.rt:45:9
 expression-word-at-requires : (t : ℕ) → expression-lts.Need-word-at-requires (
   count-reads.Asked,
   count-reads.Learnt,
@@ -1115,7 +1142,7 @@ expression-word-at-requires : (t : ℕ) → expression-lts.Need-word-at-requires
 ) (expression-at t) expression.Post
 expression-word-at-requires t c κs = search needs
 
--- src/lib.rt:45:9
+-- src/lib.rt:46:9
 expression-tag-of-requires : (t : ℕ) → expression-lts.Need-tag-of-requires (
   count-reads.Asked,
   count-reads.Learnt,
@@ -1132,7 +1159,7 @@ expression-tag-of-requires : (t : ℕ) → expression-lts.Need-tag-of-requires (
 ) (expression-at t) expression.Post
 expression-tag-of-requires t c κs = search needs
 
--- src/lib.rt:47:9
+-- src/lib.rt:48:9
 expression-leaf-requires : (t : ℕ) → expression-lts.Need-leaf-requires (
   count-reads.Asked,
   count-reads.Learnt,
@@ -1149,7 +1176,7 @@ expression-leaf-requires : (t : ℕ) → expression-lts.Need-leaf-requires (
 ) (expression-at t) expression.Post
 expression-leaf-requires t c κs = search needs
 
--- src/lib.rt:47:9
+-- src/lib.rt:48:9
 expression-same-length-2 : (t : ℕ) → expression-lts.Need-same-length-2 (
   count-reads.Asked,
   count-reads.Learnt,
@@ -1166,7 +1193,7 @@ expression-same-length-2 : (t : ℕ) → expression-lts.Need-same-length-2 (
 ) (expression-at t) expression.Post
 expression-same-length-2 t c = search needs
 
--- src/lib.rt:47:9
+-- src/lib.rt:48:9
 expression-returns-3 : (t : ℕ) → expression-lts.Need-returns-3 (
   count-reads.Asked,
   count-reads.Learnt,
@@ -1183,7 +1210,7 @@ expression-returns-3 : (t : ℕ) → expression-lts.Need-returns-3 (
 ) (expression-at t) expression.Post
 expression-returns-3 t c = search is-leaf
 
--- src/lib.rt:50:57
+-- src/lib.rt:51:57
 expression-sub-call : (t : ℕ) → expression-lts.Need-sub-call (
   count-reads.Asked,
   count-reads.Learnt,
@@ -1200,7 +1227,7 @@ expression-sub-call : (t : ℕ) → expression-lts.Need-sub-call (
 ) (expression-at t) expression.Post
 expression-sub-call t c = search needs
 
--- src/lib.rt:50:15
+-- src/lib.rt:51:15
 expression-call-requires : (t : ℕ) → expression-lts.Need-call-requires (
   count-reads.Asked,
   count-reads.Learnt,
@@ -1217,7 +1244,7 @@ expression-call-requires : (t : ℕ) → expression-lts.Need-call-requires (
 ) (expression-at t) expression.Post
 expression-call-requires t c κs = (omega arith, record { lent = still-lent-words _ _ _ _ (c .before .before .before .before .before .before .before .before .before .before .before .before .before .before .before .before .pre .1 .lent) (let a0 = c .before .before .before .before .before .before .before .before .words in omega arith); deep = omega (arith, c .before .before .before .before .before .before .before .before .before .before .before .before .before .before .before .before .pre .1 .deep) })
 
--- src/lib.rt:51:26
+-- src/lib.rt:52:26
 expression-enum-known-v : (t : ℕ) → expression-lts.Need-enum-known-v (
   count-reads.Asked,
   count-reads.Learnt,
@@ -1234,7 +1261,7 @@ expression-enum-known-v : (t : ℕ) → expression-lts.Need-enum-known-v (
 ) (expression-at t) expression.Post
 expression-enum-known-v t c = search needs
 
--- src/lib.rt:51:32
+-- src/lib.rt:52:32
 expression-same-length-3 : (t : ℕ) → expression-lts.Need-same-length-3 (
   count-reads.Asked,
   count-reads.Learnt,
@@ -1251,7 +1278,7 @@ expression-same-length-3 : (t : ℕ) → expression-lts.Need-same-length-3 (
 ) (expression-at t) expression.Post
 expression-same-length-3 t c = search needs
 
--- src/lib.rt:51:32
+-- src/lib.rt:52:32
 expression-same-length-4 : (t : ℕ) → expression-lts.Need-same-length-4 (
   count-reads.Asked,
   count-reads.Learnt,
@@ -1268,7 +1295,7 @@ expression-same-length-4 : (t : ℕ) → expression-lts.Need-same-length-4 (
 ) (expression-at t) expression.Post
 expression-same-length-4 t c = search needs
 
--- src/lib.rt:51:32
+-- src/lib.rt:52:32
 expression-returns-4 : (t : ℕ) → expression-lts.Need-returns-4 (
   count-reads.Asked,
   count-reads.Learnt,
@@ -1285,7 +1312,7 @@ expression-returns-4 : (t : ℕ) → expression-lts.Need-returns-4 (
 ) (expression-at t) expression.Post
 expression-returns-4 t c = is-call _ _ _ _ _ _ _ _ _ _ (c .before .before .before .before .before .before .before .before .before .before .before .before .before .before .before .before .before .before .before .if1 .left) (c .before .before .before .before .before .before .before .before .before .before .before .before .before .before .before .before .before .count .ensures) (c .before .before .before .before .before .before .before .before .before .before .before .before .before .before .if2 .left) _ (c .before .before .before .before .before .before .before .before .before .before .before .before .before .word-at .ensures) _ (c .before .before .before .before .before .before .before .before .before .before .before .before .tag-of .ensures) _ _ _ _ (c .before .before .before .before .before .before .before .before .before .before .before .if3 .left) (c .before .before .before .before .before .before .before .before .before .before .if4 .taken) (c .before .before .before .before .before .before .before .call .ensures) (c .before .v .given .1)
 
--- src/lib.rt:52:25
+-- src/lib.rt:53:25
 expression-enum-known-n : (t : ℕ) → expression-lts.Need-enum-known-n (
   count-reads.Asked,
   count-reads.Learnt,
@@ -1302,7 +1329,7 @@ expression-enum-known-n : (t : ℕ) → expression-lts.Need-enum-known-n (
 ) (expression-at t) expression.Post
 expression-enum-known-n t c = search needs
 
--- src/lib.rt:52:34
+-- src/lib.rt:53:34
 expression-same-length-5 : (t : ℕ) → expression-lts.Need-same-length-5 (
   count-reads.Asked,
   count-reads.Learnt,
@@ -1319,7 +1346,7 @@ expression-same-length-5 : (t : ℕ) → expression-lts.Need-same-length-5 (
 ) (expression-at t) expression.Post
 expression-same-length-5 t c = search needs
 
--- src/lib.rt:52:34
+-- src/lib.rt:53:34
 expression-same-length-6 : (t : ℕ) → expression-lts.Need-same-length-6 (
   count-reads.Asked,
   count-reads.Learnt,
@@ -1336,7 +1363,7 @@ expression-same-length-6 : (t : ℕ) → expression-lts.Need-same-length-6 (
 ) (expression-at t) expression.Post
 expression-same-length-6 t c = search needs
 
--- src/lib.rt:52:34
+-- src/lib.rt:53:34
 expression-returns-5 : (t : ℕ) → expression-lts.Need-returns-5 (
   count-reads.Asked,
   count-reads.Learnt,
@@ -1353,7 +1380,7 @@ expression-returns-5 : (t : ℕ) → expression-lts.Need-returns-5 (
 ) (expression-at t) expression.Post
 expression-returns-5 t c = is-call _ _ _ _ _ _ _ _ _ _ (c .before .before .before .before .before .before .before .before .before .before .before .before .before .before .before .before .before .before .before .if1 .left) (c .before .before .before .before .before .before .before .before .before .before .before .before .before .before .before .before .before .count .ensures) (c .before .before .before .before .before .before .before .before .before .before .before .before .before .before .if2 .left) _ (c .before .before .before .before .before .before .before .before .before .before .before .before .before .word-at .ensures) _ (c .before .before .before .before .before .before .before .before .before .before .before .before .tag-of .ensures) _ _ _ _ (c .before .before .before .before .before .before .before .before .before .before .before .if3 .left) (c .before .before .before .before .before .before .before .before .before .before .if4 .taken) (c .before .before .before .before .before .before .before .call .ensures) (c .before .n .given .1)
 
--- src/lib.rt:55:57
+-- src/lib.rt:56:57
 expression-sub-operands : (t : ℕ) → expression-lts.Need-sub-operands (
   count-reads.Asked,
   count-reads.Learnt,
@@ -1370,7 +1397,7 @@ expression-sub-operands : (t : ℕ) → expression-lts.Need-sub-operands (
 ) (expression-at t) expression.Post
 expression-sub-operands t c = search needs
 
--- src/lib.rt:55:11
+-- src/lib.rt:56:11
 expression-operands-requires : (t : ℕ) → expression-lts.Need-operands-requires (
   count-reads.Asked,
   count-reads.Learnt,
@@ -1387,7 +1414,7 @@ expression-operands-requires : (t : ℕ) → expression-lts.Need-operands-requir
 ) (expression-at t) expression.Post
 expression-operands-requires t c κs = (omega arith, record { lent = still-lent-words _ _ _ _ (c .before .before .before .before .before .before .before .before .before .before .before .before .before .before .before .before .pre .1 .lent) (let a0 = c .before .before .before .before .before .before .before .before .words in omega arith); deep = omega (arith, c .before .before .before .before .before .before .before .before .before .before .before .before .before .before .before .before .pre .1 .deep) })
 
--- src/lib.rt:56:22
+-- src/lib.rt:57:22
 expression-enum-known-v-2 : (t : ℕ) → expression-lts.Need-enum-known-v-2 (
   count-reads.Asked,
   count-reads.Learnt,
@@ -1404,7 +1431,7 @@ expression-enum-known-v-2 : (t : ℕ) → expression-lts.Need-enum-known-v-2 (
 ) (expression-at t) expression.Post
 expression-enum-known-v-2 t c = search needs
 
--- src/lib.rt:57:21
+-- src/lib.rt:58:21
 expression-enum-known-n-2 : (t : ℕ) → expression-lts.Need-enum-known-n-2 (
   count-reads.Asked,
   count-reads.Learnt,
@@ -1421,7 +1448,7 @@ expression-enum-known-n-2 : (t : ℕ) → expression-lts.Need-enum-known-n-2 (
 ) (expression-at t) expression.Post
 expression-enum-known-n-2 t c = search needs
 
--- src/lib.rt:24:1
+-- src/lib.rt:25:1
 expression-same-length-7 : (t : ℕ) → expression-lts.Need-same-length-7 (
   count-reads.Asked,
   count-reads.Learnt,
@@ -1438,7 +1465,7 @@ expression-same-length-7 : (t : ℕ) → expression-lts.Need-same-length-7 (
 ) (expression-at t) expression.Post
 expression-same-length-7 t c = search needs
 
--- src/lib.rt:24:1
+-- src/lib.rt:25:1
 expression-same-length-8 : (t : ℕ) → expression-lts.Need-same-length-8 (
   count-reads.Asked,
   count-reads.Learnt,
@@ -1455,7 +1482,7 @@ expression-same-length-8 : (t : ℕ) → expression-lts.Need-same-length-8 (
 ) (expression-at t) expression.Post
 expression-same-length-8 t c = search needs
 
--- src/lib.rt:24:1
+-- src/lib.rt:25:1
 expression-returns-6 : (t : ℕ) → expression-lts.Need-returns-6 (
   count-reads.Asked,
   count-reads.Learnt,
@@ -1472,7 +1499,7 @@ expression-returns-6 : (t : ℕ) → expression-lts.Need-returns-6 (
 ) (expression-at t) expression.Post
 expression-returns-6 t c = has-operands _ _ _ _ _ _ _ _ _ _ (c .before .before .before .before .before .before .before .before .before .before .before .before .before .before .before .before .before .before .before .if1 .left) (c .before .before .before .before .before .before .before .before .before .before .before .before .before .before .before .before .before .count .ensures) (c .before .before .before .before .before .before .before .before .before .before .before .before .before .before .if2 .left) _ (c .before .before .before .before .before .before .before .before .before .before .before .before .before .word-at .ensures) _ (c .before .before .before .before .before .before .before .before .before .before .before .before .tag-of .ensures) _ _ _ _ (c .before .before .before .before .before .before .before .before .before .before .before .if3 .left) (c .before .before .before .before .before .before .before .before .before .before .if4 .left) (c .before .before .before .before .before .before .before .operands .ensures) (c .before .v2 .given .1)
 
--- src/lib.rt:24:1
+-- src/lib.rt:25:1
 expression-same-length-9 : (t : ℕ) → expression-lts.Need-same-length-9 (
   count-reads.Asked,
   count-reads.Learnt,
@@ -1489,7 +1516,7 @@ expression-same-length-9 : (t : ℕ) → expression-lts.Need-same-length-9 (
 ) (expression-at t) expression.Post
 expression-same-length-9 t c = search needs
 
--- src/lib.rt:24:1
+-- src/lib.rt:25:1
 expression-same-length-10 : (t : ℕ) → expression-lts.Need-same-length-10 (
   count-reads.Asked,
   count-reads.Learnt,
@@ -1506,7 +1533,7 @@ expression-same-length-10 : (t : ℕ) → expression-lts.Need-same-length-10 (
 ) (expression-at t) expression.Post
 expression-same-length-10 t c = search needs
 
--- src/lib.rt:24:1
+-- src/lib.rt:25:1
 expression-returns-7 : (t : ℕ) → expression-lts.Need-returns-7 (
   count-reads.Asked,
   count-reads.Learnt,
@@ -1523,7 +1550,7 @@ expression-returns-7 : (t : ℕ) → expression-lts.Need-returns-7 (
 ) (expression-at t) expression.Post
 expression-returns-7 t c = has-operands _ _ _ _ _ _ _ _ _ _ (c .before .before .before .before .before .before .before .before .before .before .before .before .before .before .before .before .before .before .before .if1 .left) (c .before .before .before .before .before .before .before .before .before .before .before .before .before .before .before .before .before .count .ensures) (c .before .before .before .before .before .before .before .before .before .before .before .before .before .before .if2 .left) _ (c .before .before .before .before .before .before .before .before .before .before .before .before .before .word-at .ensures) _ (c .before .before .before .before .before .before .before .before .before .before .before .before .tag-of .ensures) _ _ _ _ (c .before .before .before .before .before .before .before .before .before .before .before .if3 .left) (c .before .before .before .before .before .before .before .before .before .before .if4 .left) (c .before .before .before .before .before .before .before .operands .ensures) (c .before .n2 .given .1)
 
--- src/lib.rt:217:15
+-- src/lib.rt:218:15
 invoke-arguments-held-requires : (t : ℕ) → invoke-lts.Need-arguments-held-requires (
   arguments-held-reads.Asked,
   arguments-held-reads.Learnt,
@@ -1543,14 +1570,14 @@ invoke-arguments-held-requires : (t : ℕ) → invoke-lts.Need-arguments-held-re
   parameters-of-reads.Learnt,
   body-of-reads.Asked,
   body-of-reads.Learnt,
-  statements-below t,
-  statements.Post,
+  procedure-below t,
+  procedure.Post,
   resume-reads.Asked,
   resume-reads.Learnt,
 ) (invoke-at t) invoke.Post
 invoke-arguments-held-requires t c κs = omega (arith, c .before .before .before .before .before .pre .1 .lent .lent .room .words)
 
--- src/lib.rt:218:9
+-- src/lib.rt:219:9
 invoke-declared-count-requires : (t : ℕ) → invoke-lts.Need-declared-count-requires (
   arguments-held-reads.Asked,
   arguments-held-reads.Learnt,
@@ -1570,14 +1597,14 @@ invoke-declared-count-requires : (t : ℕ) → invoke-lts.Need-declared-count-re
   parameters-of-reads.Learnt,
   body-of-reads.Asked,
   body-of-reads.Learnt,
-  statements-below t,
-  statements.Post,
+  procedure-below t,
+  procedure.Post,
   resume-reads.Asked,
   resume-reads.Learnt,
 ) (invoke-at t) invoke.Post
 invoke-declared-count-requires t c κs = omega (arith, c .before .before .before .before .before .before .before .pre .1 .lent .lent .room .words)
 
--- src/lib.rt:219:9
+-- src/lib.rt:220:9
 invoke-running-requires : (t : ℕ) → invoke-lts.Need-running-requires (
   arguments-held-reads.Asked,
   arguments-held-reads.Learnt,
@@ -1597,14 +1624,14 @@ invoke-running-requires : (t : ℕ) → invoke-lts.Need-running-requires (
   parameters-of-reads.Learnt,
   body-of-reads.Asked,
   body-of-reads.Learnt,
-  statements-below t,
-  statements.Post,
+  procedure-below t,
+  procedure.Post,
   resume-reads.Asked,
   resume-reads.Learnt,
 ) (invoke-at t) invoke.Post
 invoke-running-requires t c κs = omega (arith, c .before .before .before .before .before .before .before .before .before .pre .1 .lent .lent .room .words)
 
--- src/lib.rt:220:11
+-- src/lib.rt:221:11
 invoke-begin-requires : (t : ℕ) → invoke-lts.Need-begin-requires (
   arguments-held-reads.Asked,
   arguments-held-reads.Learnt,
@@ -1624,8 +1651,8 @@ invoke-begin-requires : (t : ℕ) → invoke-lts.Need-begin-requires (
   parameters-of-reads.Learnt,
   body-of-reads.Asked,
   body-of-reads.Learnt,
-  statements-below t,
-  statements.Post,
+  procedure-below t,
+  procedure.Post,
   resume-reads.Asked,
   resume-reads.Learnt,
 ) (invoke-at t) invoke.Post
@@ -1650,14 +1677,14 @@ invoke-enum-told : (t : ℕ) → invoke-lts.Need-enum-told (
   parameters-of-reads.Learnt,
   body-of-reads.Asked,
   body-of-reads.Learnt,
-  statements-below t,
-  statements.Post,
+  procedure-below t,
+  procedure.Post,
   resume-reads.Asked,
   resume-reads.Learnt,
 ) (invoke-at t) invoke.Post
 invoke-enum-told t c = search needs
 
--- src/lib.rt:222:21
+-- src/lib.rt:223:21
 invoke-enum-known-k : (t : ℕ) → invoke-lts.Need-enum-known-k (
   arguments-held-reads.Asked,
   arguments-held-reads.Learnt,
@@ -1677,14 +1704,14 @@ invoke-enum-known-k : (t : ℕ) → invoke-lts.Need-enum-known-k (
   parameters-of-reads.Learnt,
   body-of-reads.Asked,
   body-of-reads.Learnt,
-  statements-below t,
-  statements.Post,
+  procedure-below t,
+  procedure.Post,
   resume-reads.Asked,
   resume-reads.Learnt,
 ) (invoke-at t) invoke.Post
 invoke-enum-known-k t c = search needs
 
--- src/lib.rt:222:30
+-- src/lib.rt:223:30
 invoke-same-length : (t : ℕ) → invoke-lts.Need-same-length (
   arguments-held-reads.Asked,
   arguments-held-reads.Learnt,
@@ -1704,14 +1731,14 @@ invoke-same-length : (t : ℕ) → invoke-lts.Need-same-length (
   parameters-of-reads.Learnt,
   body-of-reads.Asked,
   body-of-reads.Learnt,
-  statements-below t,
-  statements.Post,
+  procedure-below t,
+  procedure.Post,
   resume-reads.Asked,
   resume-reads.Learnt,
 ) (invoke-at t) invoke.Post
 invoke-same-length t c = search needs
 
--- src/lib.rt:222:30
+-- src/lib.rt:223:30
 invoke-returns : (t : ℕ) → invoke-lts.Need-returns (
   arguments-held-reads.Asked,
   arguments-held-reads.Learnt,
@@ -1731,14 +1758,14 @@ invoke-returns : (t : ℕ) → invoke-lts.Need-returns (
   parameters-of-reads.Learnt,
   body-of-reads.Asked,
   body-of-reads.Learnt,
-  statements-below t,
-  statements.Post,
+  procedure-below t,
+  procedure.Post,
   resume-reads.Asked,
   resume-reads.Learnt,
 ) (invoke-at t) invoke.Post
 invoke-returns t c = begin-stops _ _ _ _ _ _ _ _ _ _ _ _ (c .before .before .before .before .before .before .before .before .before .before .before .arguments-held .ensures) (c .before .before .before .before .before .before .before .before .before .declared-count .ensures) (c .before .before .before .before .before .before .before .running .ensures) _ _ (c .before .before .before .before .before .begin .ensures) _ _ (c .before .k .given .1)
 
--- src/lib.rt:224:42
+-- src/lib.rt:225:42
 invoke-table-place-requires : (t : ℕ) → invoke-lts.Need-table-place-requires (
   arguments-held-reads.Asked,
   arguments-held-reads.Learnt,
@@ -1758,14 +1785,14 @@ invoke-table-place-requires : (t : ℕ) → invoke-lts.Need-table-place-requires
   parameters-of-reads.Learnt,
   body-of-reads.Asked,
   body-of-reads.Learnt,
-  statements-below t,
-  statements.Post,
+  procedure-below t,
+  procedure.Post,
   resume-reads.Asked,
   resume-reads.Learnt,
 ) (invoke-at t) invoke.Post
 invoke-table-place-requires t c κs = search needs
 
--- src/lib.rt:224:9
+-- src/lib.rt:225:9
 invoke-word-at-requires : (t : ℕ) → invoke-lts.Need-word-at-requires (
   arguments-held-reads.Asked,
   arguments-held-reads.Learnt,
@@ -1785,14 +1812,14 @@ invoke-word-at-requires : (t : ℕ) → invoke-lts.Need-word-at-requires (
   parameters-of-reads.Learnt,
   body-of-reads.Asked,
   body-of-reads.Learnt,
-  statements-below t,
-  statements.Post,
+  procedure-below t,
+  procedure.Post,
   resume-reads.Asked,
   resume-reads.Learnt,
 ) (invoke-at t) invoke.Post
 invoke-word-at-requires t c κs = search needs
 
--- src/lib.rt:225:13
+-- src/lib.rt:226:13
 invoke-start-of-requires : (t : ℕ) → invoke-lts.Need-start-of-requires (
   arguments-held-reads.Asked,
   arguments-held-reads.Learnt,
@@ -1812,14 +1839,14 @@ invoke-start-of-requires : (t : ℕ) → invoke-lts.Need-start-of-requires (
   parameters-of-reads.Learnt,
   body-of-reads.Asked,
   body-of-reads.Learnt,
-  statements-below t,
-  statements.Post,
+  procedure-below t,
+  procedure.Post,
   resume-reads.Asked,
   resume-reads.Learnt,
 ) (invoke-at t) invoke.Post
 invoke-start-of-requires t c κs = search needs
 
--- src/lib.rt:225:33
+-- src/lib.rt:226:33
 invoke-parameters-of-requires : (t : ℕ) → invoke-lts.Need-parameters-of-requires (
   arguments-held-reads.Asked,
   arguments-held-reads.Learnt,
@@ -1839,14 +1866,14 @@ invoke-parameters-of-requires : (t : ℕ) → invoke-lts.Need-parameters-of-requ
   parameters-of-reads.Learnt,
   body-of-reads.Asked,
   body-of-reads.Learnt,
-  statements-below t,
-  statements.Post,
+  procedure-below t,
+  procedure.Post,
   resume-reads.Asked,
   resume-reads.Learnt,
 ) (invoke-at t) invoke.Post
 invoke-parameters-of-requires t c κs = search needs
 
--- src/lib.rt:225:13
+-- src/lib.rt:226:13
 invoke-add-a : (t : ℕ) → invoke-lts.Need-add-a (
   arguments-held-reads.Asked,
   arguments-held-reads.Learnt,
@@ -1866,14 +1893,14 @@ invoke-add-a : (t : ℕ) → invoke-lts.Need-add-a (
   parameters-of-reads.Learnt,
   body-of-reads.Asked,
   body-of-reads.Learnt,
-  statements-below t,
-  statements.Post,
+  procedure-below t,
+  procedure.Post,
   resume-reads.Asked,
   resume-reads.Learnt,
 ) (invoke-at t) invoke.Post
 invoke-add-a t c = omega (arith, c .before .start-of .ensures .1, c .parameters-of .ensures .1)
 
--- src/lib.rt:226:9
+-- src/lib.rt:227:9
 invoke-body-of-requires : (t : ℕ) → invoke-lts.Need-body-of-requires (
   arguments-held-reads.Asked,
   arguments-held-reads.Learnt,
@@ -1893,42 +1920,15 @@ invoke-body-of-requires : (t : ℕ) → invoke-lts.Need-body-of-requires (
   parameters-of-reads.Learnt,
   body-of-reads.Asked,
   body-of-reads.Learnt,
-  statements-below t,
-  statements.Post,
+  procedure-below t,
+  procedure.Post,
   resume-reads.Asked,
   resume-reads.Learnt,
 ) (invoke-at t) invoke.Post
 invoke-body-of-requires t c κs = search needs
 
--- src/lib.rt:235:9
-invoke-add-statements : (t : ℕ) → invoke-lts.Need-add-statements (
-  arguments-held-reads.Asked,
-  arguments-held-reads.Learnt,
-  declared-count-reads.Asked,
-  declared-count-reads.Learnt,
-  running-reads.Asked,
-  running-reads.Learnt,
-  begin-reads.Asked,
-  begin-reads.Learnt,
-  table-place-reads.Asked,
-  table-place-reads.Learnt,
-  word-at-reads.Asked,
-  word-at-reads.Learnt,
-  start-of-reads.Asked,
-  start-of-reads.Learnt,
-  parameters-of-reads.Asked,
-  parameters-of-reads.Learnt,
-  body-of-reads.Asked,
-  body-of-reads.Learnt,
-  statements-below t,
-  statements.Post,
-  resume-reads.Asked,
-  resume-reads.Learnt,
-) (invoke-at t) invoke.Post
-invoke-add-statements t c = omega (arith, c .before .before .before .before .start-of .ensures .1, c .before .before .before .parameters-of .ensures .1, c .before .before .body-of .ensures .1)
-
 -- src/lib.rt:236:9
-invoke-add-statements-2 : (t : ℕ) → invoke-lts.Need-add-statements-2 (
+invoke-add-procedure : (t : ℕ) → invoke-lts.Need-add-procedure (
   arguments-held-reads.Asked,
   arguments-held-reads.Learnt,
   declared-count-reads.Asked,
@@ -1947,15 +1947,15 @@ invoke-add-statements-2 : (t : ℕ) → invoke-lts.Need-add-statements-2 (
   parameters-of-reads.Learnt,
   body-of-reads.Asked,
   body-of-reads.Learnt,
-  statements-below t,
-  statements.Post,
+  procedure-below t,
+  procedure.Post,
   resume-reads.Asked,
   resume-reads.Learnt,
 ) (invoke-at t) invoke.Post
-invoke-add-statements-2 t c = omega (arith, c .before .before .before .before .start-of .ensures .1, c .before .before .before .parameters-of .ensures .1, c .before .before .body-of .ensures .1)
+invoke-add-procedure t c = omega (arith, c .before .before .before .before .start-of .ensures .1, c .before .before .before .parameters-of .ensures .1, c .before .before .body-of .ensures .1)
 
--- src/lib.rt:227:11
-invoke-statements-requires : (t : ℕ) → invoke-lts.Need-statements-requires (
+-- src/lib.rt:237:9
+invoke-add-procedure-2 : (t : ℕ) → invoke-lts.Need-add-procedure-2 (
   arguments-held-reads.Asked,
   arguments-held-reads.Learnt,
   declared-count-reads.Asked,
@@ -1974,15 +1974,15 @@ invoke-statements-requires : (t : ℕ) → invoke-lts.Need-statements-requires (
   parameters-of-reads.Learnt,
   body-of-reads.Asked,
   body-of-reads.Learnt,
-  statements-below t,
-  statements.Post,
+  procedure-below t,
+  procedure.Post,
   resume-reads.Asked,
   resume-reads.Learnt,
 ) (invoke-at t) invoke.Post
-invoke-statements-requires t c κs = (omega arith, record { lent = record { lent = still-lent-words _ _ _ _ (c .before .before .before .before .before .before .before .before .before .before .before .before .before .before .before .before .before .before .before .before .before .before .before .pre .1 .lent .lent) (let a0 = c .before .before .before .before .before .before .before .before .before .before .words in omega arith); deep = c .before .before .before .before .before .before .before .before .before .before .before .before .before .before .before .before .before .before .before .before .before .before .before .pre .1 .lent .deep }; room = omega (arith, c .before .before .before .before .before .before .before .before .before .before .before .before .before .before .before .before .before .before .before .before .before .before .before .pre .1 .lent .deep, c .before .before .before .before .start-of .ensures .1, c .before .before .before .parameters-of .ensures .1, c .before .before .body-of .ensures .1) })
+invoke-add-procedure-2 t c = omega (arith, c .before .before .before .before .start-of .ensures .1, c .before .before .before .parameters-of .ensures .1, c .before .before .body-of .ensures .1)
 
--- src/lib.rt:239:35
-invoke-enum-told-2 : (t : ℕ) → invoke-lts.Need-enum-told-2 (
+-- src/lib.rt:228:11
+invoke-procedure-requires : (t : ℕ) → invoke-lts.Need-procedure-requires (
   arguments-held-reads.Asked,
   arguments-held-reads.Learnt,
   declared-count-reads.Asked,
@@ -2001,41 +2001,14 @@ invoke-enum-told-2 : (t : ℕ) → invoke-lts.Need-enum-told-2 (
   parameters-of-reads.Learnt,
   body-of-reads.Asked,
   body-of-reads.Learnt,
-  statements-below t,
-  statements.Post,
+  procedure-below t,
+  procedure.Post,
   resume-reads.Asked,
   resume-reads.Learnt,
 ) (invoke-at t) invoke.Post
-invoke-enum-told-2 t c = search needs
+invoke-procedure-requires t c κs = (omega arith, record { lent = record { lent = still-lent-words _ _ _ _ (c .before .before .before .before .before .before .before .before .before .before .before .before .before .before .before .before .before .before .before .before .before .before .before .pre .1 .lent .lent) (let a0 = c .before .before .before .before .before .before .before .before .before .before .words in omega arith); deep = c .before .before .before .before .before .before .before .before .before .before .before .before .before .before .before .before .before .before .before .before .before .before .before .pre .1 .lent .deep }; room = omega (arith, c .before .before .before .before .before .before .before .before .before .before .before .before .before .before .before .before .before .before .before .before .before .before .before .pre .1 .lent .deep, c .before .before .before .before .start-of .ensures .1, c .before .before .before .parameters-of .ensures .1, c .before .before .body-of .ensures .1) })
 
--- src/lib.rt:239:13
-invoke-resume-requires : (t : ℕ) → invoke-lts.Need-resume-requires (
-  arguments-held-reads.Asked,
-  arguments-held-reads.Learnt,
-  declared-count-reads.Asked,
-  declared-count-reads.Learnt,
-  running-reads.Asked,
-  running-reads.Learnt,
-  begin-reads.Asked,
-  begin-reads.Learnt,
-  table-place-reads.Asked,
-  table-place-reads.Learnt,
-  word-at-reads.Asked,
-  word-at-reads.Learnt,
-  start-of-reads.Asked,
-  start-of-reads.Learnt,
-  parameters-of-reads.Asked,
-  parameters-of-reads.Learnt,
-  body-of-reads.Asked,
-  body-of-reads.Learnt,
-  statements-below t,
-  statements.Post,
-  resume-reads.Asked,
-  resume-reads.Learnt,
-) (invoke-at t) invoke.Post
-invoke-resume-requires t c κs = let a0 = c .before .before .before .before .before .before .before .before .before .before .before .before .before .before .before .before .before .before .words in let a1 = c .before .before .before .before .words2 in omega (arith, c .before .before .before .before .before .before .before .before .before .before .before .before .before .before .before .before .before .before .before .before .before .before .before .before .before .before .before .before .before .before .before .pre .1 .lent .lent .room .words)
-
--- src/lib.rt:242:24
+-- src/lib.rt:239:22
 invoke-enum-known-v : (t : ℕ) → invoke-lts.Need-enum-known-v (
   arguments-held-reads.Asked,
   arguments-held-reads.Learnt,
@@ -2055,15 +2028,15 @@ invoke-enum-known-v : (t : ℕ) → invoke-lts.Need-enum-known-v (
   parameters-of-reads.Learnt,
   body-of-reads.Asked,
   body-of-reads.Learnt,
-  statements-below t,
-  statements.Post,
+  procedure-below t,
+  procedure.Post,
   resume-reads.Asked,
   resume-reads.Learnt,
 ) (invoke-at t) invoke.Post
 invoke-enum-known-v t c = search needs
 
--- src/lib.rt:243:13
-invoke-resume-requires-2 : (t : ℕ) → invoke-lts.Need-resume-requires-2 (
+-- src/lib.rt:240:13
+invoke-resume-requires : (t : ℕ) → invoke-lts.Need-resume-requires (
   arguments-held-reads.Asked,
   arguments-held-reads.Learnt,
   declared-count-reads.Asked,
@@ -2082,14 +2055,14 @@ invoke-resume-requires-2 : (t : ℕ) → invoke-lts.Need-resume-requires-2 (
   parameters-of-reads.Learnt,
   body-of-reads.Asked,
   body-of-reads.Learnt,
-  statements-below t,
-  statements.Post,
+  procedure-below t,
+  procedure.Post,
   resume-reads.Asked,
   resume-reads.Learnt,
 ) (invoke-at t) invoke.Post
-invoke-resume-requires-2 t c κs = let a0 = c .before .before .before .before .before .before .before .before .before .before .before .before .before .before .before .before .before .before .before .words in let a1 = c .before .before .before .before .before .words2 in omega (arith, c .before .before .before .before .before .before .before .before .before .before .before .before .before .before .before .before .before .before .before .before .before .before .before .before .before .before .before .before .before .before .before .before .pre .1 .lent .lent .room .words)
+invoke-resume-requires t c κs = let a0 = c .before .before .before .before .before .before .before .before .before .before .before .before .before .before .before .before .before .before .before .words in let a1 = c .before .before .before .before .before .words2 in omega (arith, c .before .before .before .before .before .before .before .before .before .before .before .before .before .before .before .before .before .before .before .before .before .before .before .before .before .before .before .before .before .before .before .before .pre .1 .lent .lent .room .words)
 
--- src/lib.rt:246:23
+-- src/lib.rt:243:21
 invoke-enum-known-k-2 : (t : ℕ) → invoke-lts.Need-enum-known-k-2 (
   arguments-held-reads.Asked,
   arguments-held-reads.Learnt,
@@ -2109,14 +2082,14 @@ invoke-enum-known-k-2 : (t : ℕ) → invoke-lts.Need-enum-known-k-2 (
   parameters-of-reads.Learnt,
   body-of-reads.Asked,
   body-of-reads.Learnt,
-  statements-below t,
-  statements.Post,
+  procedure-below t,
+  procedure.Post,
   resume-reads.Asked,
   resume-reads.Learnt,
 ) (invoke-at t) invoke.Post
 invoke-enum-known-k-2 t c = search needs
 
--- src/lib.rt:202:1
+-- src/lib.rt:203:1
 invoke-same-length-2 : (t : ℕ) → invoke-lts.Need-same-length-2 (
   arguments-held-reads.Asked,
   arguments-held-reads.Learnt,
@@ -2136,14 +2109,14 @@ invoke-same-length-2 : (t : ℕ) → invoke-lts.Need-same-length-2 (
   parameters-of-reads.Learnt,
   body-of-reads.Asked,
   body-of-reads.Learnt,
-  statements-below t,
-  statements.Post,
+  procedure-below t,
+  procedure.Post,
   resume-reads.Asked,
   resume-reads.Learnt,
 ) (invoke-at t) invoke.Post
 invoke-same-length-2 t c = search needs
 
--- src/lib.rt:202:1
+-- src/lib.rt:203:1
 invoke-same-length-3 : (t : ℕ) → invoke-lts.Need-same-length-3 (
   arguments-held-reads.Asked,
   arguments-held-reads.Learnt,
@@ -2163,14 +2136,14 @@ invoke-same-length-3 : (t : ℕ) → invoke-lts.Need-same-length-3 (
   parameters-of-reads.Learnt,
   body-of-reads.Asked,
   body-of-reads.Learnt,
-  statements-below t,
-  statements.Post,
+  procedure-below t,
+  procedure.Post,
   resume-reads.Asked,
   resume-reads.Learnt,
 ) (invoke-at t) invoke.Post
 invoke-same-length-3 t c = search needs
 
--- src/lib.rt:202:1
+-- src/lib.rt:203:1
 invoke-returns-2 : (t : ℕ) → invoke-lts.Need-returns-2 (
   arguments-held-reads.Asked,
   arguments-held-reads.Learnt,
@@ -2190,14 +2163,14 @@ invoke-returns-2 : (t : ℕ) → invoke-lts.Need-returns-2 (
   parameters-of-reads.Learnt,
   body-of-reads.Asked,
   body-of-reads.Learnt,
-  statements-below t,
-  statements.Post,
+  procedure-below t,
+  procedure.Post,
   resume-reads.Asked,
   resume-reads.Learnt,
 ) (invoke-at t) invoke.Post
-invoke-returns-2 t c = without-return _ _ _ _ _ _ _ _ _ _ _ _ (c .before .before .before .before .before .before .before .before .before .before .before .before .before .before .before .before .before .before .before .before .before .before .before .before .before .before .before .before .arguments-held .ensures) (c .before .before .before .before .before .before .before .before .before .before .before .before .before .before .before .before .before .before .before .before .before .before .before .before .before .before .declared-count .ensures) (c .before .before .before .before .before .before .before .before .before .before .before .before .before .before .before .before .before .before .before .before .before .before .before .before .running .ensures) _ _ (c .before .before .before .before .before .before .before .before .before .before .before .before .before .before .before .before .before .before .before .before .before .before .begin .ensures) _ (c .before .before .before .before .before .before .before .before .before .before .before .before .before .before .before .before .before .before .enum-told .given .1) _ _ _ _ _ _ (c .before .before .before .before .before .before .before .before .before .before .before .before .before .before .before .before .before .table-place .ensures) (c .before .before .before .before .before .before .before .before .before .before .before .before .before .before .before .before .word-at .ensures) (c .before .before .before .before .before .before .before .before .before .before .before .before .before .before .before .start-of .ensures .0) (c .before .before .before .before .before .before .before .before .before .before .before .before .before .before .parameters-of .ensures .0) refl (c .before .before .before .before .before .before .before .before .before .before .before .before .before .body-of .ensures .0) _ _ _ (c .before .before .before .before .before .before .before .before .before .before .statements .ensures) _ (c .before .before .resume .ensures) (c .before .before .before .before .enum-told2 .given .1)
+invoke-returns-2 t c = gives-value _ _ _ _ _ _ _ _ _ _ _ _ (c .before .before .before .before .before .before .before .before .before .before .before .before .before .before .before .before .before .before .before .before .before .before .before .before .before .before .before .before .before .arguments-held .ensures) (c .before .before .before .before .before .before .before .before .before .before .before .before .before .before .before .before .before .before .before .before .before .before .before .before .before .before .before .declared-count .ensures) (c .before .before .before .before .before .before .before .before .before .before .before .before .before .before .before .before .before .before .before .before .before .before .before .before .before .running .ensures) _ _ (c .before .before .before .before .before .before .before .before .before .before .before .before .before .before .before .before .before .before .before .before .before .before .before .begin .ensures) _ (c .before .before .before .before .before .before .before .before .before .before .before .before .before .before .before .before .before .before .before .enum-told .given .1) _ _ _ _ _ _ (c .before .before .before .before .before .before .before .before .before .before .before .before .before .before .before .before .before .before .table-place .ensures) (c .before .before .before .before .before .before .before .before .before .before .before .before .before .before .before .before .before .word-at .ensures) (c .before .before .before .before .before .before .before .before .before .before .before .before .before .before .before .before .start-of .ensures .0) (c .before .before .before .before .before .before .before .before .before .before .before .before .before .before .before .parameters-of .ensures .0) refl (c .before .before .before .before .before .before .before .before .before .before .before .before .before .before .body-of .ensures .0) _ _ _ (c .before .before .before .before .before .before .before .before .before .before .before .procedure .ensures) _ _ (c .before .before .resume .ensures) (c .before .before .before .before .before .v .given .1)
 
--- src/lib.rt:202:1
+-- src/lib.rt:203:1
 invoke-same-length-4 : (t : ℕ) → invoke-lts.Need-same-length-4 (
   arguments-held-reads.Asked,
   arguments-held-reads.Learnt,
@@ -2217,14 +2190,14 @@ invoke-same-length-4 : (t : ℕ) → invoke-lts.Need-same-length-4 (
   parameters-of-reads.Learnt,
   body-of-reads.Asked,
   body-of-reads.Learnt,
-  statements-below t,
-  statements.Post,
+  procedure-below t,
+  procedure.Post,
   resume-reads.Asked,
   resume-reads.Learnt,
 ) (invoke-at t) invoke.Post
 invoke-same-length-4 t c = search needs
 
--- src/lib.rt:202:1
+-- src/lib.rt:203:1
 invoke-same-length-5 : (t : ℕ) → invoke-lts.Need-same-length-5 (
   arguments-held-reads.Asked,
   arguments-held-reads.Learnt,
@@ -2244,14 +2217,14 @@ invoke-same-length-5 : (t : ℕ) → invoke-lts.Need-same-length-5 (
   parameters-of-reads.Learnt,
   body-of-reads.Asked,
   body-of-reads.Learnt,
-  statements-below t,
-  statements.Post,
+  procedure-below t,
+  procedure.Post,
   resume-reads.Asked,
   resume-reads.Learnt,
 ) (invoke-at t) invoke.Post
 invoke-same-length-5 t c = search needs
 
--- src/lib.rt:202:1
+-- src/lib.rt:203:1
 invoke-returns-3 : (t : ℕ) → invoke-lts.Need-returns-3 (
   arguments-held-reads.Asked,
   arguments-held-reads.Learnt,
@@ -2271,95 +2244,451 @@ invoke-returns-3 : (t : ℕ) → invoke-lts.Need-returns-3 (
   parameters-of-reads.Learnt,
   body-of-reads.Asked,
   body-of-reads.Learnt,
-  statements-below t,
-  statements.Post,
+  procedure-below t,
+  procedure.Post,
   resume-reads.Asked,
   resume-reads.Learnt,
 ) (invoke-at t) invoke.Post
-invoke-returns-3 t c = with-return _ _ _ _ _ _ _ _ _ _ _ _ (c .before .before .before .before .before .before .before .before .before .before .before .before .before .before .before .before .before .before .before .before .before .before .before .before .before .before .before .before .before .arguments-held .ensures) (c .before .before .before .before .before .before .before .before .before .before .before .before .before .before .before .before .before .before .before .before .before .before .before .before .before .before .before .declared-count .ensures) (c .before .before .before .before .before .before .before .before .before .before .before .before .before .before .before .before .before .before .before .before .before .before .before .before .before .running .ensures) _ _ (c .before .before .before .before .before .before .before .before .before .before .before .before .before .before .before .before .before .before .before .before .before .before .before .begin .ensures) _ (c .before .before .before .before .before .before .before .before .before .before .before .before .before .before .before .before .before .before .before .enum-told .given .1) _ _ _ _ _ _ (c .before .before .before .before .before .before .before .before .before .before .before .before .before .before .before .before .before .before .table-place .ensures) (c .before .before .before .before .before .before .before .before .before .before .before .before .before .before .before .before .before .word-at .ensures) (c .before .before .before .before .before .before .before .before .before .before .before .before .before .before .before .before .start-of .ensures .0) (c .before .before .before .before .before .before .before .before .before .before .before .before .before .before .before .parameters-of .ensures .0) refl (c .before .before .before .before .before .before .before .before .before .before .before .before .before .before .body-of .ensures .0) _ _ _ (c .before .before .before .before .before .before .before .before .before .before .before .statements .ensures) _ (c .before .before .resume2 .ensures) _ (c .before .before .before .before .before .v .given .1)
+invoke-returns-3 t c = body-stops _ _ _ _ _ _ _ _ _ _ _ _ (c .before .before .before .before .before .before .before .before .before .before .before .before .before .before .before .before .before .before .before .before .before .before .before .before .before .arguments-held .ensures) (c .before .before .before .before .before .before .before .before .before .before .before .before .before .before .before .before .before .before .before .before .before .before .before .declared-count .ensures) (c .before .before .before .before .before .before .before .before .before .before .before .before .before .before .before .before .before .before .before .before .before .running .ensures) _ _ (c .before .before .before .before .before .before .before .before .before .before .before .before .before .before .before .before .before .before .before .begin .ensures) _ (c .before .before .before .before .before .before .before .before .before .before .before .before .before .before .before .enum-told .given .1) _ _ _ _ _ _ (c .before .before .before .before .before .before .before .before .before .before .before .before .before .before .table-place .ensures) (c .before .before .before .before .before .before .before .before .before .before .before .before .before .word-at .ensures) (c .before .before .before .before .before .before .before .before .before .before .before .before .start-of .ensures .0) (c .before .before .before .before .before .before .before .before .before .before .before .parameters-of .ensures .0) refl (c .before .before .before .before .before .before .before .before .before .before .body-of .ensures .0) _ _ _ (c .before .before .before .before .before .before .before .procedure .ensures) _ _ (c .before .k2 .given .1)
 
--- src/lib.rt:202:1
-invoke-same-length-6 : (t : ℕ) → invoke-lts.Need-same-length-6 (
-  arguments-held-reads.Asked,
-  arguments-held-reads.Learnt,
-  declared-count-reads.Asked,
-  declared-count-reads.Learnt,
-  running-reads.Asked,
-  running-reads.Learnt,
-  begin-reads.Asked,
-  begin-reads.Learnt,
-  table-place-reads.Asked,
-  table-place-reads.Learnt,
-  word-at-reads.Asked,
-  word-at-reads.Learnt,
-  start-of-reads.Asked,
-  start-of-reads.Learnt,
-  parameters-of-reads.Asked,
-  parameters-of-reads.Learnt,
-  body-of-reads.Asked,
-  body-of-reads.Learnt,
-  statements-below t,
-  statements.Post,
-  resume-reads.Asked,
-  resume-reads.Learnt,
-) (invoke-at t) invoke.Post
-invoke-same-length-6 t c = search needs
+-- src/lib.rt:300:9
+leave-returns : (t : ℕ) → leave-lts.Need-returns (
+  place-of-reads.Asked,
+  place-of-reads.Learnt,
+  count-reads.Asked,
+  count-reads.Learnt,
+  last-of-reads.Asked,
+  last-of-reads.Learnt,
+  fast-value-reads.Asked,
+  fast-value-reads.Learnt,
+  unpack-reads.Asked,
+  unpack-reads.Learnt,
+  expression-below t,
+  expression.Post,
+  pack-reads.Asked,
+  pack-reads.Learnt,
+) (leave-at t) leave.Post
+leave-returns t c = leave-too-deep _ _ _ _ _ _ _ _ (c .before .before .before .before .before .pre .1) (c .if1 .taken)
 
--- src/lib.rt:202:1
-invoke-same-length-7 : (t : ℕ) → invoke-lts.Need-same-length-7 (
-  arguments-held-reads.Asked,
-  arguments-held-reads.Learnt,
-  declared-count-reads.Asked,
-  declared-count-reads.Learnt,
-  running-reads.Asked,
-  running-reads.Learnt,
-  begin-reads.Asked,
-  begin-reads.Learnt,
-  table-place-reads.Asked,
-  table-place-reads.Learnt,
-  word-at-reads.Asked,
-  word-at-reads.Learnt,
-  start-of-reads.Asked,
-  start-of-reads.Learnt,
-  parameters-of-reads.Asked,
-  parameters-of-reads.Learnt,
-  body-of-reads.Asked,
-  body-of-reads.Learnt,
-  statements-below t,
-  statements.Post,
-  resume-reads.Asked,
-  resume-reads.Learnt,
-) (invoke-at t) invoke.Post
-invoke-same-length-7 t c = search needs
+-- src/lib.rt:302:9
+leave-place-of-requires : (t : ℕ) → leave-lts.Need-place-of-requires (
+  place-of-reads.Asked,
+  place-of-reads.Learnt,
+  count-reads.Asked,
+  count-reads.Learnt,
+  last-of-reads.Asked,
+  last-of-reads.Learnt,
+  fast-value-reads.Asked,
+  fast-value-reads.Learnt,
+  unpack-reads.Asked,
+  unpack-reads.Learnt,
+  expression-below t,
+  expression.Post,
+  pack-reads.Asked,
+  pack-reads.Learnt,
+) (leave-at t) leave.Post
+leave-place-of-requires t c κs = search needs
 
--- src/lib.rt:202:1
-invoke-returns-4 : (t : ℕ) → invoke-lts.Need-returns-4 (
-  arguments-held-reads.Asked,
-  arguments-held-reads.Learnt,
-  declared-count-reads.Asked,
-  declared-count-reads.Learnt,
-  running-reads.Asked,
-  running-reads.Learnt,
-  begin-reads.Asked,
-  begin-reads.Learnt,
-  table-place-reads.Asked,
-  table-place-reads.Learnt,
-  word-at-reads.Asked,
-  word-at-reads.Learnt,
-  start-of-reads.Asked,
-  start-of-reads.Learnt,
-  parameters-of-reads.Asked,
-  parameters-of-reads.Learnt,
-  body-of-reads.Asked,
-  body-of-reads.Learnt,
-  statements-below t,
-  statements.Post,
-  resume-reads.Asked,
-  resume-reads.Learnt,
-) (invoke-at t) invoke.Post
-invoke-returns-4 t c = body-stops _ _ _ _ _ _ _ _ _ _ _ _ (c .before .before .before .before .before .before .before .before .before .before .before .before .before .before .before .before .before .before .before .before .before .before .before .before .before .arguments-held .ensures) (c .before .before .before .before .before .before .before .before .before .before .before .before .before .before .before .before .before .before .before .before .before .before .before .declared-count .ensures) (c .before .before .before .before .before .before .before .before .before .before .before .before .before .before .before .before .before .before .before .before .before .running .ensures) _ _ (c .before .before .before .before .before .before .before .before .before .before .before .before .before .before .before .before .before .before .before .begin .ensures) _ (c .before .before .before .before .before .before .before .before .before .before .before .before .before .before .before .enum-told .given .1) _ _ _ _ _ _ (c .before .before .before .before .before .before .before .before .before .before .before .before .before .before .table-place .ensures) (c .before .before .before .before .before .before .before .before .before .before .before .before .before .word-at .ensures) (c .before .before .before .before .before .before .before .before .before .before .before .before .start-of .ensures .0) (c .before .before .before .before .before .before .before .before .before .before .before .parameters-of .ensures .0) refl (c .before .before .before .before .before .before .before .before .before .before .body-of .ensures .0) _ _ _ (c .before .before .before .before .before .before .before .statements .ensures) _ _ (c .before .k2 .given .1)
+-- src/lib.rt:303:9
+leave-count-requires : (t : ℕ) → leave-lts.Need-count-requires (
+  place-of-reads.Asked,
+  place-of-reads.Learnt,
+  count-reads.Asked,
+  count-reads.Learnt,
+  last-of-reads.Asked,
+  last-of-reads.Learnt,
+  fast-value-reads.Asked,
+  fast-value-reads.Learnt,
+  unpack-reads.Asked,
+  unpack-reads.Learnt,
+  expression-below t,
+  expression.Post,
+  pack-reads.Asked,
+  pack-reads.Learnt,
+) (leave-at t) leave.Post
+leave-count-requires t c κs = omega (arith, c .before .before .before .before .before .before .before .pre .1 .runs .lent .lent .room .words)
 
--- src/lib.rt:84:9
+-- src/lib.rt:304:9
+leave-same-length : (t : ℕ) → leave-lts.Need-same-length (
+  place-of-reads.Asked,
+  place-of-reads.Learnt,
+  count-reads.Asked,
+  count-reads.Learnt,
+  last-of-reads.Asked,
+  last-of-reads.Learnt,
+  fast-value-reads.Asked,
+  fast-value-reads.Learnt,
+  unpack-reads.Asked,
+  unpack-reads.Learnt,
+  expression-below t,
+  expression.Post,
+  pack-reads.Asked,
+  pack-reads.Learnt,
+) (leave-at t) leave.Post
+leave-same-length t c = search needs
+
+-- src/lib.rt:304:9
+leave-returns-2 : (t : ℕ) → leave-lts.Need-returns-2 (
+  place-of-reads.Asked,
+  place-of-reads.Learnt,
+  count-reads.Asked,
+  count-reads.Learnt,
+  last-of-reads.Asked,
+  last-of-reads.Learnt,
+  fast-value-reads.Asked,
+  fast-value-reads.Learnt,
+  unpack-reads.Asked,
+  unpack-reads.Learnt,
+  expression-below t,
+  expression.Post,
+  pack-reads.Asked,
+  pack-reads.Learnt,
+) (leave-at t) leave.Post
+leave-returns-2 t c = leave-no-step _ _ _ _ _ _ _ _ (c .before .before .before .before .before .before .before .before .before .before .before .pre .1) (c .before .before .before .before .before .before .if1 .left) _ (c .before .before .before .before .before .place-of .ensures) _ _ (c .before .before .before .count .ensures) (c .if2 .taken)
+
+-- src/lib.rt:306:9
+leave-last-of-requires : (t : ℕ) → leave-lts.Need-last-of-requires (
+  place-of-reads.Asked,
+  place-of-reads.Learnt,
+  count-reads.Asked,
+  count-reads.Learnt,
+  last-of-reads.Asked,
+  last-of-reads.Learnt,
+  fast-value-reads.Asked,
+  fast-value-reads.Learnt,
+  unpack-reads.Asked,
+  unpack-reads.Learnt,
+  expression-below t,
+  expression.Post,
+  pack-reads.Asked,
+  pack-reads.Learnt,
+) (leave-at t) leave.Post
+leave-last-of-requires t c κs = omega (arith, c .before .before .before .before .before .before .before .before .before .before .before .pre .1 .runs .room)
+
+-- src/lib.rt:307:55
+leave-sub-fast-value : (t : ℕ) → leave-lts.Need-sub-fast-value (
+  place-of-reads.Asked,
+  place-of-reads.Learnt,
+  count-reads.Asked,
+  count-reads.Learnt,
+  last-of-reads.Asked,
+  last-of-reads.Learnt,
+  fast-value-reads.Asked,
+  fast-value-reads.Learnt,
+  unpack-reads.Asked,
+  unpack-reads.Learnt,
+  expression-below t,
+  expression.Post,
+  pack-reads.Asked,
+  pack-reads.Learnt,
+) (leave-at t) leave.Post
+leave-sub-fast-value t c = search needs
+
+-- src/lib.rt:307:9
+leave-fast-value-requires : (t : ℕ) → leave-lts.Need-fast-value-requires (
+  place-of-reads.Asked,
+  place-of-reads.Learnt,
+  count-reads.Asked,
+  count-reads.Learnt,
+  last-of-reads.Asked,
+  last-of-reads.Learnt,
+  fast-value-reads.Asked,
+  fast-value-reads.Learnt,
+  unpack-reads.Asked,
+  unpack-reads.Learnt,
+  expression-below t,
+  expression.Post,
+  pack-reads.Asked,
+  pack-reads.Learnt,
+) (leave-at t) leave.Post
+leave-fast-value-requires t c κs = let a0 = c .before .before .before .before .words in omega (arith, c .before .before .before .before .before .before .before .before .before .before .before .before .before .pre .1 .runs .lent .lent .room .words)
+
+-- src/lib.rt:309:29
+leave-unpack-requires : (t : ℕ) → leave-lts.Need-unpack-requires (
+  place-of-reads.Asked,
+  place-of-reads.Learnt,
+  count-reads.Asked,
+  count-reads.Learnt,
+  last-of-reads.Asked,
+  last-of-reads.Learnt,
+  fast-value-reads.Asked,
+  fast-value-reads.Learnt,
+  unpack-reads.Asked,
+  unpack-reads.Learnt,
+  expression-below t,
+  expression.Post,
+  pack-reads.Asked,
+  pack-reads.Learnt,
+) (leave-at t) leave.Post
+leave-unpack-requires t c κs = search needs
+
+-- src/lib.rt:309:9
+leave-same-length-2 : (t : ℕ) → leave-lts.Need-same-length-2 (
+  place-of-reads.Asked,
+  place-of-reads.Learnt,
+  count-reads.Asked,
+  count-reads.Learnt,
+  last-of-reads.Asked,
+  last-of-reads.Learnt,
+  fast-value-reads.Asked,
+  fast-value-reads.Learnt,
+  unpack-reads.Asked,
+  unpack-reads.Learnt,
+  expression-below t,
+  expression.Post,
+  pack-reads.Asked,
+  pack-reads.Learnt,
+) (leave-at t) leave.Post
+leave-same-length-2 t c = search needs
+
+-- src/lib.rt:309:9
+leave-returns-3 : (t : ℕ) → leave-lts.Need-returns-3 (
+  place-of-reads.Asked,
+  place-of-reads.Learnt,
+  count-reads.Asked,
+  count-reads.Learnt,
+  last-of-reads.Asked,
+  last-of-reads.Learnt,
+  fast-value-reads.Asked,
+  fast-value-reads.Learnt,
+  unpack-reads.Asked,
+  unpack-reads.Learnt,
+  expression-below t,
+  expression.Post,
+  pack-reads.Asked,
+  pack-reads.Learnt,
+) (leave-at t) leave.Post
+leave-returns-3 t c = leave-fast _ _ _ _ _ _ _ _ (c .before .before .before .before .before .before .before .before .before .before .before .before .before .before .before .before .before .before .pre .1) (c .before .before .before .before .before .before .before .before .before .before .before .before .before .if1 .left) _ (c .before .before .before .before .before .before .before .before .before .before .before .before .place-of .ensures) _ _ (c .before .before .before .before .before .before .before .before .before .before .count .ensures) (c .before .before .before .before .before .before .before .if2 .left) _ _ (c .before .before .before .before .before .before .last-of .ensures .0) _ (c .before .before .before .before .fast-value .ensures) _ (let a0 = c .before .before .before .before .before .before .before .before .before .words in omega arith) (c .before .if3 .taken) (c .unpack .ensures)
+
+-- src/lib.rt:311:59
+leave-sub-expression : (t : ℕ) → leave-lts.Need-sub-expression (
+  place-of-reads.Asked,
+  place-of-reads.Learnt,
+  count-reads.Asked,
+  count-reads.Learnt,
+  last-of-reads.Asked,
+  last-of-reads.Learnt,
+  fast-value-reads.Asked,
+  fast-value-reads.Learnt,
+  unpack-reads.Asked,
+  unpack-reads.Learnt,
+  expression-below t,
+  expression.Post,
+  pack-reads.Asked,
+  pack-reads.Learnt,
+) (leave-at t) leave.Post
+leave-sub-expression t c = search needs
+
+-- src/lib.rt:311:11
+leave-expression-requires : (t : ℕ) → leave-lts.Need-expression-requires (
+  place-of-reads.Asked,
+  place-of-reads.Learnt,
+  count-reads.Asked,
+  count-reads.Learnt,
+  last-of-reads.Asked,
+  last-of-reads.Learnt,
+  fast-value-reads.Asked,
+  fast-value-reads.Learnt,
+  unpack-reads.Asked,
+  unpack-reads.Learnt,
+  expression-below t,
+  expression.Post,
+  pack-reads.Asked,
+  pack-reads.Learnt,
+) (leave-at t) leave.Post
+leave-expression-requires t c κs = (omega arith, slow-lent _ _ _ _ _ _ _ _ (c .before .before .before .before .before .fast-value .ensures) (c .before .before .if3 .left) (still-lent _ _ _ _ _ refl (let a0 = c .before .before .before .before .before .before .before .before .before .before .words in omega arith) _ (deeper-lent _ _ _ _ (c .before .before .before .before .before .before .before .before .before .before .before .before .before .before .before .before .before .before .before .pre .1 .runs .lent))))
+
+-- src/lib.rt:312:22
+leave-enum-known-v : (t : ℕ) → leave-lts.Need-enum-known-v (
+  place-of-reads.Asked,
+  place-of-reads.Learnt,
+  count-reads.Asked,
+  count-reads.Learnt,
+  last-of-reads.Asked,
+  last-of-reads.Learnt,
+  fast-value-reads.Asked,
+  fast-value-reads.Learnt,
+  unpack-reads.Asked,
+  unpack-reads.Learnt,
+  expression-below t,
+  expression.Post,
+  pack-reads.Asked,
+  pack-reads.Learnt,
+) (leave-at t) leave.Post
+leave-enum-known-v t c = search needs
+
+-- src/lib.rt:312:56
+leave-pack-requires : (t : ℕ) → leave-lts.Need-pack-requires (
+  place-of-reads.Asked,
+  place-of-reads.Learnt,
+  count-reads.Asked,
+  count-reads.Learnt,
+  last-of-reads.Asked,
+  last-of-reads.Learnt,
+  fast-value-reads.Asked,
+  fast-value-reads.Learnt,
+  unpack-reads.Asked,
+  unpack-reads.Learnt,
+  expression-below t,
+  expression.Post,
+  pack-reads.Asked,
+  pack-reads.Learnt,
+) (leave-at t) leave.Post
+leave-pack-requires t c κs = search needs
+
+-- src/lib.rt:312:41
+leave-unpack-requires-2 : (t : ℕ) → leave-lts.Need-unpack-requires-2 (
+  place-of-reads.Asked,
+  place-of-reads.Learnt,
+  count-reads.Asked,
+  count-reads.Learnt,
+  last-of-reads.Asked,
+  last-of-reads.Learnt,
+  fast-value-reads.Asked,
+  fast-value-reads.Learnt,
+  unpack-reads.Asked,
+  unpack-reads.Learnt,
+  expression-below t,
+  expression.Post,
+  pack-reads.Asked,
+  pack-reads.Learnt,
+) (leave-at t) leave.Post
+leave-unpack-requires-2 t c κs = search needs
+
+-- src/lib.rt:313:21
+leave-enum-known-n : (t : ℕ) → leave-lts.Need-enum-known-n (
+  place-of-reads.Asked,
+  place-of-reads.Learnt,
+  count-reads.Asked,
+  count-reads.Learnt,
+  last-of-reads.Asked,
+  last-of-reads.Learnt,
+  fast-value-reads.Asked,
+  fast-value-reads.Learnt,
+  unpack-reads.Asked,
+  unpack-reads.Learnt,
+  expression-below t,
+  expression.Post,
+  pack-reads.Asked,
+  pack-reads.Learnt,
+) (leave-at t) leave.Post
+leave-enum-known-n t c = search needs
+
+-- src/lib.rt:286:1
+leave-same-length-3 : (t : ℕ) → leave-lts.Need-same-length-3 (
+  place-of-reads.Asked,
+  place-of-reads.Learnt,
+  count-reads.Asked,
+  count-reads.Learnt,
+  last-of-reads.Asked,
+  last-of-reads.Learnt,
+  fast-value-reads.Asked,
+  fast-value-reads.Learnt,
+  unpack-reads.Asked,
+  unpack-reads.Learnt,
+  expression-below t,
+  expression.Post,
+  pack-reads.Asked,
+  pack-reads.Learnt,
+) (leave-at t) leave.Post
+leave-same-length-3 t c = search needs
+
+-- src/lib.rt:286:1
+leave-same-length-4 : (t : ℕ) → leave-lts.Need-same-length-4 (
+  place-of-reads.Asked,
+  place-of-reads.Learnt,
+  count-reads.Asked,
+  count-reads.Learnt,
+  last-of-reads.Asked,
+  last-of-reads.Learnt,
+  fast-value-reads.Asked,
+  fast-value-reads.Learnt,
+  unpack-reads.Asked,
+  unpack-reads.Learnt,
+  expression-below t,
+  expression.Post,
+  pack-reads.Asked,
+  pack-reads.Learnt,
+) (leave-at t) leave.Post
+leave-same-length-4 t c = search needs
+
+-- src/lib.rt:286:1
+leave-returns-4 : (t : ℕ) → leave-lts.Need-returns-4 (
+  place-of-reads.Asked,
+  place-of-reads.Learnt,
+  count-reads.Asked,
+  count-reads.Learnt,
+  last-of-reads.Asked,
+  last-of-reads.Learnt,
+  fast-value-reads.Asked,
+  fast-value-reads.Learnt,
+  unpack-reads.Asked,
+  unpack-reads.Learnt,
+  expression-below t,
+  expression.Post,
+  pack-reads.Asked,
+  pack-reads.Learnt,
+) (leave-at t) leave.Post
+leave-returns-4 t c = leave-done _ _ _ _ _ _ _ _ (c .before .before .before .before .before .before .before .before .before .before .before .before .before .before .before .before .before .before .before .before .before .before .before .before .before .before .before .before .before .pre .1) (c .before .before .before .before .before .before .before .before .before .before .before .before .before .before .before .before .before .before .before .before .before .before .before .before .if1 .left) _ (c .before .before .before .before .before .before .before .before .before .before .before .before .before .before .before .before .before .before .before .before .before .before .before .place-of .ensures) _ _ (c .before .before .before .before .before .before .before .before .before .before .before .before .before .before .before .before .before .before .before .before .before .count .ensures) (c .before .before .before .before .before .before .before .before .before .before .before .before .before .before .before .before .before .before .if2 .left) _ _ (c .before .before .before .before .before .before .before .before .before .before .before .before .before .before .before .before .before .last-of .ensures .0) _ (c .before .before .before .before .before .before .before .before .before .before .before .before .before .before .before .fast-value .ensures) (c .before .before .before .before .before .before .before .before .before .before .before .before .if3 .left) _ _ _ (c .before .before .before .before .before .before .before .before .before .expression .ensures) _ _ _ (c .before .before .before .v .given .1) (c .before .pack .ensures) (c .unpack2 .ensures)
+
+-- src/lib.rt:286:1
+leave-same-length-5 : (t : ℕ) → leave-lts.Need-same-length-5 (
+  place-of-reads.Asked,
+  place-of-reads.Learnt,
+  count-reads.Asked,
+  count-reads.Learnt,
+  last-of-reads.Asked,
+  last-of-reads.Learnt,
+  fast-value-reads.Asked,
+  fast-value-reads.Learnt,
+  unpack-reads.Asked,
+  unpack-reads.Learnt,
+  expression-below t,
+  expression.Post,
+  pack-reads.Asked,
+  pack-reads.Learnt,
+) (leave-at t) leave.Post
+leave-same-length-5 t c = search needs
+
+-- src/lib.rt:286:1
+leave-same-length-6 : (t : ℕ) → leave-lts.Need-same-length-6 (
+  place-of-reads.Asked,
+  place-of-reads.Learnt,
+  count-reads.Asked,
+  count-reads.Learnt,
+  last-of-reads.Asked,
+  last-of-reads.Learnt,
+  fast-value-reads.Asked,
+  fast-value-reads.Learnt,
+  unpack-reads.Asked,
+  unpack-reads.Learnt,
+  expression-below t,
+  expression.Post,
+  pack-reads.Asked,
+  pack-reads.Learnt,
+) (leave-at t) leave.Post
+leave-same-length-6 t c = search needs
+
+-- src/lib.rt:286:1
+leave-returns-5 : (t : ℕ) → leave-lts.Need-returns-5 (
+  place-of-reads.Asked,
+  place-of-reads.Learnt,
+  count-reads.Asked,
+  count-reads.Learnt,
+  last-of-reads.Asked,
+  last-of-reads.Learnt,
+  fast-value-reads.Asked,
+  fast-value-reads.Learnt,
+  unpack-reads.Asked,
+  unpack-reads.Learnt,
+  expression-below t,
+  expression.Post,
+  pack-reads.Asked,
+  pack-reads.Learnt,
+) (leave-at t) leave.Post
+leave-returns-5 t c = leave-stops _ _ _ _ _ _ _ _ (c .before .before .before .before .before .before .before .before .before .before .before .before .before .before .before .before .before .before .before .before .before .before .before .before .before .before .before .pre .1) (c .before .before .before .before .before .before .before .before .before .before .before .before .before .before .before .before .before .before .before .before .before .before .if1 .left) _ (c .before .before .before .before .before .before .before .before .before .before .before .before .before .before .before .before .before .before .before .before .before .place-of .ensures) _ _ (c .before .before .before .before .before .before .before .before .before .before .before .before .before .before .before .before .before .before .before .count .ensures) (c .before .before .before .before .before .before .before .before .before .before .before .before .before .before .before .before .if2 .left) _ _ (c .before .before .before .before .before .before .before .before .before .before .before .before .before .before .before .last-of .ensures .0) _ (c .before .before .before .before .before .before .before .before .before .before .before .before .before .fast-value .ensures) (c .before .before .before .before .before .before .before .before .before .before .if3 .left) _ _ _ (c .before .before .before .before .before .before .before .expression .ensures) _ _ (c .before .n .given .1)
+
+-- src/lib.rt:85:9
 operands-left-of-requires : (t : ℕ) → operands-lts.Need-left-of-requires (
   left-of-reads.Asked,
   left-of-reads.Learnt,
@@ -2380,7 +2709,7 @@ operands-left-of-requires : (t : ℕ) → operands-lts.Need-left-of-requires (
 ) (operands-at t) operands.Post
 operands-left-of-requires t c κs = search needs
 
--- src/lib.rt:77:11
+-- src/lib.rt:78:11
 operands-expression-requires : (t : ℕ) → operands-lts.Need-expression-requires (
   left-of-reads.Asked,
   left-of-reads.Learnt,
@@ -2401,7 +2730,7 @@ operands-expression-requires : (t : ℕ) → operands-lts.Need-expression-requir
 ) (operands-at t) operands.Post
 operands-expression-requires t c κs = (omega arith, c .before .before .before .before .before .before .before .pre .1)
 
--- src/lib.rt:87:22
+-- src/lib.rt:88:22
 operands-enum-known-u : (t : ℕ) → operands-lts.Need-enum-known-u (
   left-of-reads.Asked,
   left-of-reads.Learnt,
@@ -2422,7 +2751,7 @@ operands-enum-known-u : (t : ℕ) → operands-lts.Need-enum-known-u (
 ) (operands-at t) operands.Post
 operands-enum-known-u t c = search needs
 
--- src/lib.rt:88:17
+-- src/lib.rt:89:17
 operands-pack-requires : (t : ℕ) → operands-lts.Need-pack-requires (
   left-of-reads.Asked,
   left-of-reads.Learnt,
@@ -2443,7 +2772,7 @@ operands-pack-requires : (t : ℕ) → operands-lts.Need-pack-requires (
 ) (operands-at t) operands.Post
 operands-pack-requires t c κs = search needs
 
--- src/lib.rt:89:17
+-- src/lib.rt:90:17
 operands-tag-of-requires : (t : ℕ) → operands-lts.Need-tag-of-requires (
   left-of-reads.Asked,
   left-of-reads.Learnt,
@@ -2464,7 +2793,7 @@ operands-tag-of-requires : (t : ℕ) → operands-lts.Need-tag-of-requires (
 ) (operands-at t) operands.Post
 operands-tag-of-requires t c κs = search needs
 
--- src/lib.rt:91:21
+-- src/lib.rt:92:21
 operands-new-table-requires : (t : ℕ) → operands-lts.Need-new-table-requires (
   left-of-reads.Asked,
   left-of-reads.Learnt,
@@ -2485,7 +2814,7 @@ operands-new-table-requires : (t : ℕ) → operands-lts.Need-new-table-requires
 ) (operands-at t) operands.Post
 operands-new-table-requires t c κs = search needs
 
--- src/lib.rt:92:17
+-- src/lib.rt:93:17
 operands-same-length : (t : ℕ) → operands-lts.Need-same-length (
   left-of-reads.Asked,
   left-of-reads.Learnt,
@@ -2506,7 +2835,7 @@ operands-same-length : (t : ℕ) → operands-lts.Need-same-length (
 ) (operands-at t) operands.Post
 operands-same-length t c = search needs
 
--- src/lib.rt:92:17
+-- src/lib.rt:93:17
 operands-same-length-2 : (t : ℕ) → operands-lts.Need-same-length-2 (
   left-of-reads.Asked,
   left-of-reads.Learnt,
@@ -2527,7 +2856,7 @@ operands-same-length-2 : (t : ℕ) → operands-lts.Need-same-length-2 (
 ) (operands-at t) operands.Post
 operands-same-length-2 t c = search needs
 
--- src/lib.rt:92:17
+-- src/lib.rt:93:17
 operands-returns : (t : ℕ) → operands-lts.Need-returns (
   left-of-reads.Asked,
   left-of-reads.Learnt,
@@ -2548,7 +2877,7 @@ operands-returns : (t : ℕ) → operands-lts.Need-returns (
 ) (operands-at t) operands.Post
 operands-returns t c = search table-made
 
--- src/lib.rt:94:16
+-- src/lib.rt:95:16
 operands-lacks-table-requires : (t : ℕ) → operands-lts.Need-lacks-table-requires (
   left-of-reads.Asked,
   left-of-reads.Learnt,
@@ -2569,7 +2898,7 @@ operands-lacks-table-requires : (t : ℕ) → operands-lts.Need-lacks-table-requ
 ) (operands-at t) operands.Post
 operands-lacks-table-requires t c κs = search needs
 
--- src/lib.rt:95:17
+-- src/lib.rt:96:17
 operands-same-length-3 : (t : ℕ) → operands-lts.Need-same-length-3 (
   left-of-reads.Asked,
   left-of-reads.Learnt,
@@ -2590,7 +2919,7 @@ operands-same-length-3 : (t : ℕ) → operands-lts.Need-same-length-3 (
 ) (operands-at t) operands.Post
 operands-same-length-3 t c = search needs
 
--- src/lib.rt:95:17
+-- src/lib.rt:96:17
 operands-same-length-4 : (t : ℕ) → operands-lts.Need-same-length-4 (
   left-of-reads.Asked,
   left-of-reads.Learnt,
@@ -2611,7 +2940,7 @@ operands-same-length-4 : (t : ℕ) → operands-lts.Need-same-length-4 (
 ) (operands-at t) operands.Post
 operands-same-length-4 t c = search needs
 
--- src/lib.rt:95:17
+-- src/lib.rt:96:17
 operands-returns-2 : (t : ℕ) → operands-lts.Need-returns-2 (
   left-of-reads.Asked,
   left-of-reads.Learnt,
@@ -2632,7 +2961,7 @@ operands-returns-2 : (t : ℕ) → operands-lts.Need-returns-2 (
 ) (operands-at t) operands.Post
 operands-returns-2 t c = no-table _ _ _ _ _ _ _ _ (c .before .before .before .before .before .before .before .before .before .before .before .before .before .left-of .ensures) _ _ _ (c .before .before .before .before .before .before .before .before .before .before .before .before .expression .ensures) _ (c .before .before .before .before .before .before .u .given .1) _ (c .before .before .before .before .pack .ensures) _ (c .before .before .before .tag-of .ensures) (c .before .before .if1 .left) _ (c .before .lacks-table .ensures) (c .if2 .taken)
 
--- src/lib.rt:104:17
+-- src/lib.rt:105:17
 operands-right-of-requires : (t : ℕ) → operands-lts.Need-right-of-requires (
   left-of-reads.Asked,
   left-of-reads.Learnt,
@@ -2653,7 +2982,7 @@ operands-right-of-requires : (t : ℕ) → operands-lts.Need-right-of-requires (
 ) (operands-at t) operands.Post
 operands-right-of-requires t c κs = search needs
 
--- src/lib.rt:97:19
+-- src/lib.rt:98:19
 operands-expression-requires-2 : (t : ℕ) → operands-lts.Need-expression-requires-2 (
   left-of-reads.Asked,
   left-of-reads.Learnt,
@@ -2674,7 +3003,7 @@ operands-expression-requires-2 : (t : ℕ) → operands-lts.Need-expression-requ
 ) (operands-at t) operands.Post
 operands-expression-requires-2 t c κs = (omega arith, still-lent _ _ _ _ _ (let a0 = c .before .before .before .before .before .before .before .before .before .before .before .before .before .before .texts in omega arith) (let a0 = c .before .before .before .before .before .before .before .before .before .before .before .before .words in omega arith) _ (c .before .before .before .before .before .before .before .before .before .before .before .before .before .before .before .before .before .before .before .before .before .before .before .pre .1))
 
--- src/lib.rt:107:30
+-- src/lib.rt:108:30
 operands-enum-known-v : (t : ℕ) → operands-lts.Need-enum-known-v (
   left-of-reads.Asked,
   left-of-reads.Learnt,
@@ -2695,7 +3024,7 @@ operands-enum-known-v : (t : ℕ) → operands-lts.Need-enum-known-v (
 ) (operands-at t) operands.Post
 operands-enum-known-v t c = search needs
 
--- src/lib.rt:116:25
+-- src/lib.rt:117:25
 operands-pack-requires-2 : (t : ℕ) → operands-lts.Need-pack-requires-2 (
   left-of-reads.Asked,
   left-of-reads.Learnt,
@@ -2716,7 +3045,7 @@ operands-pack-requires-2 : (t : ℕ) → operands-lts.Need-pack-requires-2 (
 ) (operands-at t) operands.Post
 operands-pack-requires-2 t c κs = search needs
 
--- src/lib.rt:108:25
+-- src/lib.rt:109:25
 operands-apply-requires : (t : ℕ) → operands-lts.Need-apply-requires (
   left-of-reads.Asked,
   left-of-reads.Learnt,
@@ -2737,7 +3066,7 @@ operands-apply-requires : (t : ℕ) → operands-lts.Need-apply-requires (
 ) (operands-at t) operands.Post
 operands-apply-requires t c κs = laws.still-lent _ _ _ _ _ (c .before .before .before .before .before .before .before .before .before .before .before .before .before .before .before .before .before .before .before .before .before .before .before .before .before .before .before .before .before .before .before .before .before .before .pre .1 .lent) (let a0 = c .before .before .before .before .before .before .before .before .before .before .before .before .before .before .before .before .before .before .before .before .before .before .before .before .before .texts in let a1 = c .before .before .before .before .before .before .before .before .before .texts2 in omega arith) (let a0 = c .before .before .before .before .before .before .before .before .before .before .before .before .before .before .before .before .before .before .before .before .before .before .before .words in let a1 = c .before .before .before .before .before .before .before .words3 in omega arith)
 
--- src/lib.rt:120:29
+-- src/lib.rt:121:29
 operands-enum-known-n : (t : ℕ) → operands-lts.Need-enum-known-n (
   left-of-reads.Asked,
   left-of-reads.Learnt,
@@ -2758,7 +3087,7 @@ operands-enum-known-n : (t : ℕ) → operands-lts.Need-enum-known-n (
 ) (operands-at t) operands.Post
 operands-enum-known-n t c = search needs
 
--- src/lib.rt:123:21
+-- src/lib.rt:124:21
 operands-enum-known-n-2 : (t : ℕ) → operands-lts.Need-enum-known-n-2 (
   left-of-reads.Asked,
   left-of-reads.Learnt,
@@ -2779,7 +3108,7 @@ operands-enum-known-n-2 : (t : ℕ) → operands-lts.Need-enum-known-n-2 (
 ) (operands-at t) operands.Post
 operands-enum-known-n-2 t c = search needs
 
--- src/lib.rt:62:1
+-- src/lib.rt:63:1
 operands-same-length-5 : (t : ℕ) → operands-lts.Need-same-length-5 (
   left-of-reads.Asked,
   left-of-reads.Learnt,
@@ -2800,7 +3129,7 @@ operands-same-length-5 : (t : ℕ) → operands-lts.Need-same-length-5 (
 ) (operands-at t) operands.Post
 operands-same-length-5 t c = let a = c .before .before .before .before .before .before .before .before .before .before .before .before .before .before .before .before .before .before .before .before .before .before .before .before .before .before .before .before .before .before .before .before .before .before .before .before .slice-known in let b = c .before .before .before .before .before .before .before .before .before .before .before .before .before .before .before .before .before .before .before .before .before .before .before .before .before .before .before .before .before .before .texts in let d = c .before .before .before .before .before .before .before .before .before .before .before .before .before .before .texts2 in let e = c .before .before .before .texts3 in search needs
 
--- src/lib.rt:62:1
+-- src/lib.rt:63:1
 operands-same-length-6 : (t : ℕ) → operands-lts.Need-same-length-6 (
   left-of-reads.Asked,
   left-of-reads.Learnt,
@@ -2821,7 +3150,7 @@ operands-same-length-6 : (t : ℕ) → operands-lts.Need-same-length-6 (
 ) (operands-at t) operands.Post
 operands-same-length-6 t c = search needs
 
--- src/lib.rt:62:1
+-- src/lib.rt:63:1
 operands-returns-3 : (t : ℕ) → operands-lts.Need-returns-3 (
   left-of-reads.Asked,
   left-of-reads.Learnt,
@@ -2842,7 +3171,7 @@ operands-returns-3 : (t : ℕ) → operands-lts.Need-returns-3 (
 ) (operands-at t) operands.Post
 operands-returns-3 t c = operands-applied _ _ _ _ _ _ _ _ (c .before .before .before .before .before .before .before .before .before .before .before .before .before .before .before .before .before .before .before .before .before .before .before .before .before .before .before .before .before .before .before .before .left-of .ensures) _ _ _ (c .before .before .before .before .before .before .before .before .before .before .before .before .before .before .before .before .before .before .before .before .before .before .before .before .before .before .before .before .before .before .before .expression .ensures) _ (c .before .before .before .before .before .before .before .before .before .before .before .before .before .before .before .before .before .before .before .before .before .before .before .before .before .u .given .1) _ (c .before .before .before .before .before .before .before .before .before .before .before .before .before .before .before .before .before .before .before .before .before .before .before .pack .ensures) _ (c .before .before .before .before .before .before .before .before .before .before .before .before .before .before .before .before .before .before .before .before .before .before .tag-of .ensures) (c .before .before .before .before .before .before .before .before .before .before .before .before .before .before .before .before .before .before .before .before .before .if1 .left) _ (c .before .before .before .before .before .before .before .before .before .before .before .before .before .before .before .before .before .before .before .before .lacks-table .ensures) (c .before .before .before .before .before .before .before .before .before .before .before .before .before .before .before .before .before .before .before .if2 .left) _ (c .before .before .before .before .before .before .before .before .before .before .before .before .before .before .before .before .right-of .ensures) _ _ _ (c .before .before .before .before .before .before .before .before .before .before .before .before .before .before .before .expression2 .ensures) _ _ _ (c .before .before .before .before .before .before .before .before .before .v .given .1) (c .before .before .before .before .before .pack2 .ensures) (c .before .before .before .before .apply .ensures)
 
--- src/lib.rt:62:1
+-- src/lib.rt:63:1
 operands-same-length-7 : (t : ℕ) → operands-lts.Need-same-length-7 (
   left-of-reads.Asked,
   left-of-reads.Learnt,
@@ -2863,7 +3192,7 @@ operands-same-length-7 : (t : ℕ) → operands-lts.Need-same-length-7 (
 ) (operands-at t) operands.Post
 operands-same-length-7 t c = search needs
 
--- src/lib.rt:62:1
+-- src/lib.rt:63:1
 operands-same-length-8 : (t : ℕ) → operands-lts.Need-same-length-8 (
   left-of-reads.Asked,
   left-of-reads.Learnt,
@@ -2884,7 +3213,7 @@ operands-same-length-8 : (t : ℕ) → operands-lts.Need-same-length-8 (
 ) (operands-at t) operands.Post
 operands-same-length-8 t c = search needs
 
--- src/lib.rt:62:1
+-- src/lib.rt:63:1
 operands-returns-4 : (t : ℕ) → operands-lts.Need-returns-4 (
   left-of-reads.Asked,
   left-of-reads.Learnt,
@@ -2905,7 +3234,7 @@ operands-returns-4 : (t : ℕ) → operands-lts.Need-returns-4 (
 ) (operands-at t) operands.Post
 operands-returns-4 t c = second-stops _ _ _ _ _ _ _ _ (c .before .before .before .before .before .before .before .before .before .before .before .before .before .before .before .before .before .before .before .before .before .before .before .before .left-of .ensures) _ _ _ (c .before .before .before .before .before .before .before .before .before .before .before .before .before .before .before .before .before .before .before .before .before .before .before .expression .ensures) _ (c .before .before .before .before .before .before .before .before .before .before .before .before .before .before .before .before .before .u .given .1) _ (c .before .before .before .before .before .before .before .before .before .before .before .before .before .before .before .pack .ensures) _ (c .before .before .before .before .before .before .before .before .before .before .before .before .before .before .tag-of .ensures) (c .before .before .before .before .before .before .before .before .before .before .before .before .before .if1 .left) _ (c .before .before .before .before .before .before .before .before .before .before .before .before .lacks-table .ensures) (c .before .before .before .before .before .before .before .before .before .before .before .if2 .left) _ (c .before .before .before .before .before .before .before .before .right-of .ensures) _ _ _ (c .before .before .before .before .before .before .before .expression2 .ensures) _ _ (c .before .n .given .1)
 
--- src/lib.rt:62:1
+-- src/lib.rt:63:1
 operands-same-length-9 : (t : ℕ) → operands-lts.Need-same-length-9 (
   left-of-reads.Asked,
   left-of-reads.Learnt,
@@ -2926,7 +3255,7 @@ operands-same-length-9 : (t : ℕ) → operands-lts.Need-same-length-9 (
 ) (operands-at t) operands.Post
 operands-same-length-9 t c = search needs
 
--- src/lib.rt:62:1
+-- src/lib.rt:63:1
 operands-same-length-10 : (t : ℕ) → operands-lts.Need-same-length-10 (
   left-of-reads.Asked,
   left-of-reads.Learnt,
@@ -2947,7 +3276,7 @@ operands-same-length-10 : (t : ℕ) → operands-lts.Need-same-length-10 (
 ) (operands-at t) operands.Post
 operands-same-length-10 t c = search needs
 
--- src/lib.rt:62:1
+-- src/lib.rt:63:1
 operands-returns-5 : (t : ℕ) → operands-lts.Need-returns-5 (
   left-of-reads.Asked,
   left-of-reads.Learnt,
@@ -2968,13 +3297,440 @@ operands-returns-5 : (t : ℕ) → operands-lts.Need-returns-5 (
 ) (operands-at t) operands.Post
 operands-returns-5 t c = search first-stops
 
+abbrev procedure-Inv-loop : procedure-lts.InvT-loop
+procedure-Inv-loop program code grants texts₀ words₀ fuel a end rounds at₀ left₀ texts words at left =
+    Following program code grants fuel texts₀ words₀ a end rounds texts words at left
+
+abbrev procedure-μ-loop : procedure-lts.MeasureT-loop
+procedure-μ-loop program code grants texts₀ words₀ fuel a end rounds at₀ left₀ texts words at left =
+    left
+
+-- src/lib.rt:265:5
+procedure-loop-holds : (t : ℕ) → procedure-lts.Need-loop-holds (
+  word-at-reads.Asked,
+  word-at-reads.Learnt,
+  tag-of-reads.Asked,
+  tag-of-reads.Learnt,
+  leave-below t,
+  leave.Post,
+  statement-below t,
+  statement′.Post,
+  size-of-reads.Asked,
+  size-of-reads.Learnt,
+) (procedure-at t) procedure.Post procedure-Inv-loop procedure-μ-loop
+procedure-loop-holds t c = all-first _ _ _ _ _ _ _ _ _ (c .before .before .before .before .pre .1)
+
+-- src/lib.rt:266:9
+procedure-sub-left : (t : ℕ) → procedure-lts.Need-sub-left (
+  word-at-reads.Asked,
+  word-at-reads.Learnt,
+  tag-of-reads.Asked,
+  tag-of-reads.Learnt,
+  leave-below t,
+  leave.Post,
+  statement-below t,
+  statement′.Post,
+  size-of-reads.Asked,
+  size-of-reads.Learnt,
+) (procedure-at t) procedure.Post procedure-Inv-loop procedure-μ-loop
+procedure-sub-left t c = search needs
+
+-- src/lib.rt:268:13
+procedure-same-length : (t : ℕ) → procedure-lts.Need-same-length (
+  word-at-reads.Asked,
+  word-at-reads.Learnt,
+  tag-of-reads.Asked,
+  tag-of-reads.Learnt,
+  leave-below t,
+  leave.Post,
+  statement-below t,
+  statement′.Post,
+  size-of-reads.Asked,
+  size-of-reads.Learnt,
+) (procedure-at t) procedure.Post procedure-Inv-loop procedure-μ-loop
+procedure-same-length t c = search needs
+
+-- src/lib.rt:268:13
+procedure-same-length-2 : (t : ℕ) → procedure-lts.Need-same-length-2 (
+  word-at-reads.Asked,
+  word-at-reads.Learnt,
+  tag-of-reads.Asked,
+  tag-of-reads.Learnt,
+  leave-below t,
+  leave.Post,
+  statement-below t,
+  statement′.Post,
+  size-of-reads.Asked,
+  size-of-reads.Learnt,
+) (procedure-at t) procedure.Post procedure-Inv-loop procedure-μ-loop
+procedure-same-length-2 t c = search needs
+
+-- src/lib.rt:268:13
+procedure-returns : (t : ℕ) → procedure-lts.Need-returns (
+  word-at-reads.Asked,
+  word-at-reads.Learnt,
+  tag-of-reads.Asked,
+  tag-of-reads.Learnt,
+  leave-below t,
+  leave.Post,
+  statement-below t,
+  statement′.Post,
+  size-of-reads.Asked,
+  size-of-reads.Learnt,
+) (procedure-at t) procedure.Post procedure-Inv-loop procedure-μ-loop
+procedure-returns t c = ends-done _ _ _ _ _ _ _ _ _ _ _ _ _ (c .before .before .loop .inv) (c .before .loop-test .taken) (c .if1 .taken)
+
+-- src/lib.rt:270:13
+procedure-word-at-requires : (t : ℕ) → procedure-lts.Need-word-at-requires (
+  word-at-reads.Asked,
+  word-at-reads.Learnt,
+  tag-of-reads.Asked,
+  tag-of-reads.Learnt,
+  leave-below t,
+  leave.Post,
+  statement-below t,
+  statement′.Post,
+  size-of-reads.Asked,
+  size-of-reads.Learnt,
+) (procedure-at t) procedure.Post procedure-Inv-loop procedure-μ-loop
+procedure-word-at-requires t c κs = search needs
+
+-- src/lib.rt:271:12
+procedure-tag-of-requires : (t : ℕ) → procedure-lts.Need-tag-of-requires (
+  word-at-reads.Asked,
+  word-at-reads.Learnt,
+  tag-of-reads.Asked,
+  tag-of-reads.Learnt,
+  leave-below t,
+  leave.Post,
+  statement-below t,
+  statement′.Post,
+  size-of-reads.Asked,
+  size-of-reads.Learnt,
+) (procedure-at t) procedure.Post procedure-Inv-loop procedure-μ-loop
+procedure-tag-of-requires t c κs = search needs
+
+-- src/lib.rt:272:17
+procedure-leave-requires : (t : ℕ) → procedure-lts.Need-leave-requires (
+  word-at-reads.Asked,
+  word-at-reads.Learnt,
+  tag-of-reads.Asked,
+  tag-of-reads.Learnt,
+  leave-below t,
+  leave.Post,
+  statement-below t,
+  statement′.Post,
+  size-of-reads.Asked,
+  size-of-reads.Learnt,
+) (procedure-at t) procedure.Post procedure-Inv-loop procedure-μ-loop
+procedure-leave-requires t c κs = (omega arith, leaves-here _ _ _ _ _ _ _ _ _ _ _ _ _ (c .before .before .before .before .before .before .before .loop .inv) _ _ (c .before .before .before .before .before .if1 .left) (c .before .before .before .before .word-at .ensures) (c .before .before .before .tag-of .ensures) (c .before .before .if2 .taken))
+
+-- src/lib.rt:273:13
+procedure-same-length-3 : (t : ℕ) → procedure-lts.Need-same-length-3 (
+  word-at-reads.Asked,
+  word-at-reads.Learnt,
+  tag-of-reads.Asked,
+  tag-of-reads.Learnt,
+  leave-below t,
+  leave.Post,
+  statement-below t,
+  statement′.Post,
+  size-of-reads.Asked,
+  size-of-reads.Learnt,
+) (procedure-at t) procedure.Post procedure-Inv-loop procedure-μ-loop
+procedure-same-length-3 t c = search needs
+
+-- src/lib.rt:273:13
+procedure-same-length-4 : (t : ℕ) → procedure-lts.Need-same-length-4 (
+  word-at-reads.Asked,
+  word-at-reads.Learnt,
+  tag-of-reads.Asked,
+  tag-of-reads.Learnt,
+  leave-below t,
+  leave.Post,
+  statement-below t,
+  statement′.Post,
+  size-of-reads.Asked,
+  size-of-reads.Learnt,
+) (procedure-at t) procedure.Post procedure-Inv-loop procedure-μ-loop
+procedure-same-length-4 t c = search needs
+
+-- src/lib.rt:273:13
+procedure-returns-2 : (t : ℕ) → procedure-lts.Need-returns-2 (
+  word-at-reads.Asked,
+  word-at-reads.Learnt,
+  tag-of-reads.Asked,
+  tag-of-reads.Learnt,
+  leave-below t,
+  leave.Post,
+  statement-below t,
+  statement′.Post,
+  size-of-reads.Asked,
+  size-of-reads.Learnt,
+) (procedure-at t) procedure.Post procedure-Inv-loop procedure-μ-loop
+procedure-returns-2 t c = ends-left _ _ _ _ _ _ _ _ _ _ _ _ _ (c .before .before .before .before .before .before .before .before .before .before .before .before .loop .inv) (c .before .before .before .before .before .before .before .before .before .before .before .loop-test .taken) (c .before .before .before .before .before .before .before .before .before .before .if1 .left) _ _ _ (c .before .before .before .before .leave .ensures)
+
+-- src/lib.rt:275:15
+procedure-statement-requires : (t : ℕ) → procedure-lts.Need-statement-requires (
+  word-at-reads.Asked,
+  word-at-reads.Learnt,
+  tag-of-reads.Asked,
+  tag-of-reads.Learnt,
+  leave-below t,
+  leave.Post,
+  statement-below t,
+  statement′.Post,
+  size-of-reads.Asked,
+  size-of-reads.Learnt,
+) (procedure-at t) procedure.Post procedure-Inv-loop procedure-μ-loop
+procedure-statement-requires t c κs = (omega arith, runs-before _ _ _ _ _ _ _ _ _ _ _ _ _ (c .before .before .before .before .before .before .before .loop .inv) (c .before .before .before .before .before .if1 .left))
+
+procedure-enum-told : (t : ℕ) → procedure-lts.Need-enum-told (
+  word-at-reads.Asked,
+  word-at-reads.Learnt,
+  tag-of-reads.Asked,
+  tag-of-reads.Learnt,
+  leave-below t,
+  leave.Post,
+  statement-below t,
+  statement′.Post,
+  size-of-reads.Asked,
+  size-of-reads.Learnt,
+) (procedure-at t) procedure.Post procedure-Inv-loop procedure-μ-loop
+procedure-enum-told t c = search needs
+
+-- src/lib.rt:277:28
+procedure-enum-known-v : (t : ℕ) → procedure-lts.Need-enum-known-v (
+  word-at-reads.Asked,
+  word-at-reads.Learnt,
+  tag-of-reads.Asked,
+  tag-of-reads.Learnt,
+  leave-below t,
+  leave.Post,
+  statement-below t,
+  statement′.Post,
+  size-of-reads.Asked,
+  size-of-reads.Learnt,
+) (procedure-at t) procedure.Post procedure-Inv-loop procedure-μ-loop
+procedure-enum-known-v t c = search needs
+
+-- src/lib.rt:277:34
+procedure-same-length-5 : (t : ℕ) → procedure-lts.Need-same-length-5 (
+  word-at-reads.Asked,
+  word-at-reads.Learnt,
+  tag-of-reads.Asked,
+  tag-of-reads.Learnt,
+  leave-below t,
+  leave.Post,
+  statement-below t,
+  statement′.Post,
+  size-of-reads.Asked,
+  size-of-reads.Learnt,
+) (procedure-at t) procedure.Post procedure-Inv-loop procedure-μ-loop
+procedure-same-length-5 t c = search needs
+
+-- src/lib.rt:277:34
+procedure-same-length-6 : (t : ℕ) → procedure-lts.Need-same-length-6 (
+  word-at-reads.Asked,
+  word-at-reads.Learnt,
+  tag-of-reads.Asked,
+  tag-of-reads.Learnt,
+  leave-below t,
+  leave.Post,
+  statement-below t,
+  statement′.Post,
+  size-of-reads.Asked,
+  size-of-reads.Learnt,
+) (procedure-at t) procedure.Post procedure-Inv-loop procedure-μ-loop
+procedure-same-length-6 t c = search needs
+
+-- src/lib.rt:277:34
+procedure-returns-3 : (t : ℕ) → procedure-lts.Need-returns-3 (
+  word-at-reads.Asked,
+  word-at-reads.Learnt,
+  tag-of-reads.Asked,
+  tag-of-reads.Learnt,
+  leave-below t,
+  leave.Post,
+  statement-below t,
+  statement′.Post,
+  size-of-reads.Asked,
+  size-of-reads.Learnt,
+) (procedure-at t) procedure.Post procedure-Inv-loop procedure-μ-loop
+procedure-returns-3 t c = ends-returns _ _ _ _ _ _ _ _ _ _ _ _ _ (c .before .before .before .before .before .before .before .before .before .before .before .before .before .before .before .loop .inv) (c .before .before .before .before .before .before .before .before .before .before .before .before .before .before .loop-test .taken) (c .before .before .before .before .before .before .before .before .before .before .before .before .before .if1 .left) _ _ _ (c .before .before .before .before .before .before .before .statement .ensures) _ (c .before .v .given .1)
+
+-- src/lib.rt:278:27
+procedure-enum-known-n : (t : ℕ) → procedure-lts.Need-enum-known-n (
+  word-at-reads.Asked,
+  word-at-reads.Learnt,
+  tag-of-reads.Asked,
+  tag-of-reads.Learnt,
+  leave-below t,
+  leave.Post,
+  statement-below t,
+  statement′.Post,
+  size-of-reads.Asked,
+  size-of-reads.Learnt,
+) (procedure-at t) procedure.Post procedure-Inv-loop procedure-μ-loop
+procedure-enum-known-n t c = search needs
+
+-- src/lib.rt:278:36
+procedure-same-length-7 : (t : ℕ) → procedure-lts.Need-same-length-7 (
+  word-at-reads.Asked,
+  word-at-reads.Learnt,
+  tag-of-reads.Asked,
+  tag-of-reads.Learnt,
+  leave-below t,
+  leave.Post,
+  statement-below t,
+  statement′.Post,
+  size-of-reads.Asked,
+  size-of-reads.Learnt,
+) (procedure-at t) procedure.Post procedure-Inv-loop procedure-μ-loop
+procedure-same-length-7 t c = search needs
+
+-- src/lib.rt:278:36
+procedure-same-length-8 : (t : ℕ) → procedure-lts.Need-same-length-8 (
+  word-at-reads.Asked,
+  word-at-reads.Learnt,
+  tag-of-reads.Asked,
+  tag-of-reads.Learnt,
+  leave-below t,
+  leave.Post,
+  statement-below t,
+  statement′.Post,
+  size-of-reads.Asked,
+  size-of-reads.Learnt,
+) (procedure-at t) procedure.Post procedure-Inv-loop procedure-μ-loop
+procedure-same-length-8 t c = search needs
+
+-- src/lib.rt:278:36
+procedure-returns-4 : (t : ℕ) → procedure-lts.Need-returns-4 (
+  word-at-reads.Asked,
+  word-at-reads.Learnt,
+  tag-of-reads.Asked,
+  tag-of-reads.Learnt,
+  leave-below t,
+  leave.Post,
+  statement-below t,
+  statement′.Post,
+  size-of-reads.Asked,
+  size-of-reads.Learnt,
+) (procedure-at t) procedure.Post procedure-Inv-loop procedure-μ-loop
+procedure-returns-4 t c = ends-fails _ _ _ _ _ _ _ _ _ _ _ _ _ (c .before .before .before .before .before .before .before .before .before .before .before .before .before .before .before .loop .inv) (c .before .before .before .before .before .before .before .before .before .before .before .before .before .before .loop-test .taken) (c .before .before .before .before .before .before .before .before .before .before .before .before .before .if1 .left) _ _ _ (c .before .before .before .before .before .before .before .statement .ensures) _ _ (c .before .n .given .1)
+
+-- src/lib.rt:280:15
+procedure-size-of-requires : (t : ℕ) → procedure-lts.Need-size-of-requires (
+  word-at-reads.Asked,
+  word-at-reads.Learnt,
+  tag-of-reads.Asked,
+  tag-of-reads.Learnt,
+  leave-below t,
+  leave.Post,
+  statement-below t,
+  statement′.Post,
+  size-of-reads.Asked,
+  size-of-reads.Learnt,
+) (procedure-at t) procedure.Post procedure-Inv-loop procedure-μ-loop
+procedure-size-of-requires t c κs = search needs
+
+-- src/lib.rt:280:9
+procedure-add-at : (t : ℕ) → procedure-lts.Need-add-at (
+  word-at-reads.Asked,
+  word-at-reads.Learnt,
+  tag-of-reads.Asked,
+  tag-of-reads.Learnt,
+  leave-below t,
+  leave.Post,
+  statement-below t,
+  statement′.Post,
+  size-of-reads.Asked,
+  size-of-reads.Learnt,
+) (procedure-at t) procedure.Post procedure-Inv-loop procedure-μ-loop
+procedure-add-at t c = omega (arith, c .before .before .before .before .before .before .before .before .before .before .before .before .before .before .before .before .before .before .before .before .pre .1 .room, c .before .before .before .before .before .before .before .before .before .before .before .before .before .if1 .left, c .size-of .ensures)
+
+-- src/lib.rt:265:5
+procedure-loop-less : (t : ℕ) → procedure-lts.Need-loop-less (
+  word-at-reads.Asked,
+  word-at-reads.Learnt,
+  tag-of-reads.Asked,
+  tag-of-reads.Learnt,
+  leave-below t,
+  leave.Post,
+  statement-below t,
+  statement′.Post,
+  size-of-reads.Asked,
+  size-of-reads.Learnt,
+) (procedure-at t) procedure.Post procedure-Inv-loop procedure-μ-loop
+procedure-loop-less t c = omega arith
+
+-- src/lib.rt:265:5
+procedure-loop-again : (t : ℕ) → procedure-lts.Need-loop-again (
+  word-at-reads.Asked,
+  word-at-reads.Learnt,
+  tag-of-reads.Asked,
+  tag-of-reads.Learnt,
+  leave-below t,
+  leave.Post,
+  statement-below t,
+  statement′.Post,
+  size-of-reads.Asked,
+  size-of-reads.Learnt,
+) (procedure-at t) procedure.Post procedure-Inv-loop procedure-μ-loop
+procedure-loop-again t c = all-again _ _ _ _ _ _ _ _ _ _ _ _ _ (c .before .before .before .before .before .before .before .before .before .before .before .before .before .before .before .loop .inv) (c .before .before .before .before .before .before .before .before .before .before .before .before .before .before .loop-test .taken) (c .before .before .before .before .before .before .before .before .before .before .before .before .before .if1 .left) _ _ _ (c .before .before .before .before .before .before .before .statement .ensures) _ _ (let a0 = c .before .before .before .before .before .before .texts2 in omega arith) (let a0 = c .before .before .before .before .words2 in omega arith) (c .before .enum-told .given .1) (c .before .before .before .before .before .before .before .before .before .before .before .before .word-at .ensures) (c .size-of .ensures)
+
+-- src/lib.rt:248:1
+procedure-same-length-9 : (t : ℕ) → procedure-lts.Need-same-length-9 (
+  word-at-reads.Asked,
+  word-at-reads.Learnt,
+  tag-of-reads.Asked,
+  tag-of-reads.Learnt,
+  leave-below t,
+  leave.Post,
+  statement-below t,
+  statement′.Post,
+  size-of-reads.Asked,
+  size-of-reads.Learnt,
+) (procedure-at t) procedure.Post procedure-Inv-loop procedure-μ-loop
+procedure-same-length-9 t c = search needs
+
+-- src/lib.rt:248:1
+procedure-same-length-10 : (t : ℕ) → procedure-lts.Need-same-length-10 (
+  word-at-reads.Asked,
+  word-at-reads.Learnt,
+  tag-of-reads.Asked,
+  tag-of-reads.Learnt,
+  leave-below t,
+  leave.Post,
+  statement-below t,
+  statement′.Post,
+  size-of-reads.Asked,
+  size-of-reads.Learnt,
+) (procedure-at t) procedure.Post procedure-Inv-loop procedure-μ-loop
+procedure-same-length-10 t c = search needs
+
+-- src/lib.rt:248:1
+procedure-returns-5 : (t : ℕ) → procedure-lts.Need-returns-5 (
+  word-at-reads.Asked,
+  word-at-reads.Learnt,
+  tag-of-reads.Asked,
+  tag-of-reads.Learnt,
+  leave-below t,
+  leave.Post,
+  statement-below t,
+  statement′.Post,
+  size-of-reads.Asked,
+  size-of-reads.Learnt,
+) (procedure-at t) procedure.Post procedure-Inv-loop procedure-μ-loop
+procedure-returns-5 t c = ends-short _ _ _ _ _ _ _ _ _ _ _ _ _ (c .before .loop .inv) (omega arith)
+
 abbrev repeat-Inv-loop : repeat-lts.InvT-loop
 repeat-Inv-loop program code grants texts₀ words₀ fuel y p turns₀ texts words turns = Looping program code grants fuel texts₀ words₀ y p texts words turns
 
 abbrev repeat-μ-loop : repeat-lts.MeasureT-loop
 repeat-μ-loop program code grants texts₀ words₀ fuel y p turns₀ texts words turns = turns
 
--- src/lib.rt:491:21
+-- src/lib.rt:558:21
 repeat-element-copy-out-turns : (t : ℕ) → repeat-lts.Need-element-copy-out-turns (
   count-reads.Asked,
   count-reads.Learnt,
@@ -2985,7 +3741,7 @@ repeat-element-copy-out-turns : (t : ℕ) → repeat-lts.Need-element-copy-out-t
 ) (repeat-at t) repeat.Post repeat-Inv-loop repeat-μ-loop
 repeat-element-copy-out-turns t c = search needs
 
--- src/lib.rt:491:21
+-- src/lib.rt:558:21
 repeat-add-turns : (t : ℕ) → repeat-lts.Need-add-turns (
   count-reads.Asked,
   count-reads.Learnt,
@@ -2996,7 +3752,7 @@ repeat-add-turns : (t : ℕ) → repeat-lts.Need-add-turns (
 ) (repeat-at t) repeat.Post repeat-Inv-loop repeat-μ-loop
 repeat-add-turns t c = omega (arith, c .before .before .before .before .before .pre .1 .lent .lent .room .steps)
 
--- src/lib.rt:492:5
+-- src/lib.rt:559:5
 repeat-loop-holds : (t : ℕ) → repeat-lts.Need-loop-holds (
   count-reads.Asked,
   count-reads.Learnt,
@@ -3007,7 +3763,7 @@ repeat-loop-holds : (t : ℕ) → repeat-lts.Need-loop-holds (
 ) (repeat-at t) repeat.Post repeat-Inv-loop repeat-μ-loop
 repeat-loop-holds t c = loop-first _ _ _ _ _ _ _ _ (c .before .before .before .before .before .pre .1)
 
--- src/lib.rt:493:9
+-- src/lib.rt:560:9
 repeat-sub-turns : (t : ℕ) → repeat-lts.Need-sub-turns (
   count-reads.Asked,
   count-reads.Learnt,
@@ -3018,7 +3774,7 @@ repeat-sub-turns : (t : ℕ) → repeat-lts.Need-sub-turns (
 ) (repeat-at t) repeat.Post repeat-Inv-loop repeat-μ-loop
 repeat-sub-turns t c = search needs
 
--- src/lib.rt:494:13
+-- src/lib.rt:561:13
 repeat-count-requires : (t : ℕ) → repeat-lts.Need-count-requires (
   count-reads.Asked,
   count-reads.Learnt,
@@ -3029,7 +3785,7 @@ repeat-count-requires : (t : ℕ) → repeat-lts.Need-count-requires (
 ) (repeat-at t) repeat.Post repeat-Inv-loop repeat-μ-loop
 repeat-count-requires t c κs = omega (arith, c .before .before .loop .inv .runs .lent .lent .room .words)
 
--- src/lib.rt:495:13
+-- src/lib.rt:562:13
 repeat-same-length : (t : ℕ) → repeat-lts.Need-same-length (
   count-reads.Asked,
   count-reads.Learnt,
@@ -3040,7 +3796,7 @@ repeat-same-length : (t : ℕ) → repeat-lts.Need-same-length (
 ) (repeat-at t) repeat.Post repeat-Inv-loop repeat-μ-loop
 repeat-same-length t c = search needs
 
--- src/lib.rt:495:13
+-- src/lib.rt:562:13
 repeat-same-length-2 : (t : ℕ) → repeat-lts.Need-same-length-2 (
   count-reads.Asked,
   count-reads.Learnt,
@@ -3051,7 +3807,7 @@ repeat-same-length-2 : (t : ℕ) → repeat-lts.Need-same-length-2 (
 ) (repeat-at t) repeat.Post repeat-Inv-loop repeat-μ-loop
 repeat-same-length-2 t c = search needs
 
--- src/lib.rt:495:13
+-- src/lib.rt:562:13
 repeat-returns : (t : ℕ) → repeat-lts.Need-returns (
   count-reads.Asked,
   count-reads.Learnt,
@@ -3062,7 +3818,7 @@ repeat-returns : (t : ℕ) → repeat-lts.Need-returns (
 ) (repeat-at t) repeat.Post repeat-Inv-loop repeat-μ-loop
 repeat-returns t c = loop-refused _ _ _ _ _ _ _ _ _ _ _ (c .before .before .before .before .before .before .loop .inv) (c .before .before .before .before .before .loop-test .taken) _ _ (c .before .before .before .count .ensures) (c .if1 .taken)
 
--- src/lib.rt:497:15
+-- src/lib.rt:564:15
 repeat-test-requires : (t : ℕ) → repeat-lts.Need-test-requires (
   count-reads.Asked,
   count-reads.Learnt,
@@ -3083,7 +3839,7 @@ repeat-enum-told : (t : ℕ) → repeat-lts.Need-enum-told (
 ) (repeat-at t) repeat.Post repeat-Inv-loop repeat-μ-loop
 repeat-enum-told t c = search needs
 
--- src/lib.rt:499:28
+-- src/lib.rt:566:28
 repeat-enum-told-2 : (t : ℕ) → repeat-lts.Need-enum-told-2 (
   count-reads.Asked,
   count-reads.Learnt,
@@ -3094,7 +3850,7 @@ repeat-enum-told-2 : (t : ℕ) → repeat-lts.Need-enum-told-2 (
 ) (repeat-at t) repeat.Post repeat-Inv-loop repeat-μ-loop
 repeat-enum-told-2 t c = search needs
 
--- src/lib.rt:499:28
+-- src/lib.rt:566:28
 repeat-same-length-3 : (t : ℕ) → repeat-lts.Need-same-length-3 (
   count-reads.Asked,
   count-reads.Learnt,
@@ -3105,7 +3861,7 @@ repeat-same-length-3 : (t : ℕ) → repeat-lts.Need-same-length-3 (
 ) (repeat-at t) repeat.Post repeat-Inv-loop repeat-μ-loop
 repeat-same-length-3 t c = search needs
 
--- src/lib.rt:499:28
+-- src/lib.rt:566:28
 repeat-same-length-4 : (t : ℕ) → repeat-lts.Need-same-length-4 (
   count-reads.Asked,
   count-reads.Learnt,
@@ -3116,7 +3872,7 @@ repeat-same-length-4 : (t : ℕ) → repeat-lts.Need-same-length-4 (
 ) (repeat-at t) repeat.Post repeat-Inv-loop repeat-μ-loop
 repeat-same-length-4 t c = search needs
 
--- src/lib.rt:499:28
+-- src/lib.rt:566:28
 repeat-returns-2 : (t : ℕ) → repeat-lts.Need-returns-2 (
   count-reads.Asked,
   count-reads.Learnt,
@@ -3127,7 +3883,7 @@ repeat-returns-2 : (t : ℕ) → repeat-lts.Need-returns-2 (
 ) (repeat-at t) repeat.Post repeat-Inv-loop repeat-μ-loop
 repeat-returns-2 t c = loop-ends _ _ _ _ _ _ _ _ _ _ _ (c .before .before .before .before .before .before .before .before .before .before .before .before .before .before .before .loop .inv) (c .before .before .before .before .before .before .before .before .before .before .before .before .before .before .loop-test .taken) _ _ (c .before .before .before .before .before .before .before .before .before .before .before .before .count .ensures) (c .before .before .before .before .before .before .before .before .before .if1 .left) _ _ _ (c .before .before .before .before .before .before .test .ensures) (c .enum-told2 .given .1)
 
--- src/lib.rt:500:30
+-- src/lib.rt:567:30
 repeat-enum-known-n : (t : ℕ) → repeat-lts.Need-enum-known-n (
   count-reads.Asked,
   count-reads.Learnt,
@@ -3138,7 +3894,7 @@ repeat-enum-known-n : (t : ℕ) → repeat-lts.Need-enum-known-n (
 ) (repeat-at t) repeat.Post repeat-Inv-loop repeat-μ-loop
 repeat-enum-known-n t c = search needs
 
--- src/lib.rt:500:39
+-- src/lib.rt:567:39
 repeat-same-length-5 : (t : ℕ) → repeat-lts.Need-same-length-5 (
   count-reads.Asked,
   count-reads.Learnt,
@@ -3149,7 +3905,7 @@ repeat-same-length-5 : (t : ℕ) → repeat-lts.Need-same-length-5 (
 ) (repeat-at t) repeat.Post repeat-Inv-loop repeat-μ-loop
 repeat-same-length-5 t c = search needs
 
--- src/lib.rt:500:39
+-- src/lib.rt:567:39
 repeat-same-length-6 : (t : ℕ) → repeat-lts.Need-same-length-6 (
   count-reads.Asked,
   count-reads.Learnt,
@@ -3160,7 +3916,7 @@ repeat-same-length-6 : (t : ℕ) → repeat-lts.Need-same-length-6 (
 ) (repeat-at t) repeat.Post repeat-Inv-loop repeat-μ-loop
 repeat-same-length-6 t c = search needs
 
--- src/lib.rt:500:39
+-- src/lib.rt:567:39
 repeat-returns-3 : (t : ℕ) → repeat-lts.Need-returns-3 (
   count-reads.Asked,
   count-reads.Learnt,
@@ -3171,7 +3927,7 @@ repeat-returns-3 : (t : ℕ) → repeat-lts.Need-returns-3 (
 ) (repeat-at t) repeat.Post repeat-Inv-loop repeat-μ-loop
 repeat-returns-3 t c = loop-stops _ _ _ _ _ _ _ _ _ _ _ (c .before .before .before .before .before .before .before .before .before .before .before .before .before .before .before .before .loop .inv) (c .before .before .before .before .before .before .before .before .before .before .before .before .before .before .before .loop-test .taken) _ _ (c .before .before .before .before .before .before .before .before .before .before .before .before .before .count .ensures) (c .before .before .before .before .before .before .before .before .before .before .if1 .left) _ _ _ (c .before .before .before .before .before .before .before .test .ensures) _ _ (c .before .n .given .1)
 
--- src/lib.rt:502:68
+-- src/lib.rt:569:68
 repeat-add-statement : (t : ℕ) → repeat-lts.Need-add-statement (
   count-reads.Asked,
   count-reads.Learnt,
@@ -3182,7 +3938,7 @@ repeat-add-statement : (t : ℕ) → repeat-lts.Need-add-statement (
 ) (repeat-at t) repeat.Post repeat-Inv-loop repeat-μ-loop
 repeat-add-statement t c = omega (arith, c .before .before .before .before .before .before .before .before .before .before .before .before .before .before .before .before .before .before .before .before .before .before .before .pre .1 .room)
 
--- src/lib.rt:502:15
+-- src/lib.rt:569:15
 repeat-statement-requires : (t : ℕ) → repeat-lts.Need-statement-requires (
   count-reads.Asked,
   count-reads.Learnt,
@@ -3203,7 +3959,7 @@ repeat-enum-told-3 : (t : ℕ) → repeat-lts.Need-enum-told-3 (
 ) (repeat-at t) repeat.Post repeat-Inv-loop repeat-μ-loop
 repeat-enum-told-3 t c = search needs
 
--- src/lib.rt:492:5
+-- src/lib.rt:559:5
 repeat-loop-less : (t : ℕ) → repeat-lts.Need-loop-less (
   count-reads.Asked,
   count-reads.Learnt,
@@ -3214,7 +3970,7 @@ repeat-loop-less : (t : ℕ) → repeat-lts.Need-loop-less (
 ) (repeat-at t) repeat.Post repeat-Inv-loop repeat-μ-loop
 repeat-loop-less t c = omega arith
 
--- src/lib.rt:492:5
+-- src/lib.rt:559:5
 repeat-loop-again : (t : ℕ) → repeat-lts.Need-loop-again (
   count-reads.Asked,
   count-reads.Learnt,
@@ -3225,7 +3981,7 @@ repeat-loop-again : (t : ℕ) → repeat-lts.Need-loop-again (
 ) (repeat-at t) repeat.Post repeat-Inv-loop repeat-μ-loop
 repeat-loop-again t c = loop-again _ _ _ _ _ _ _ _ _ _ _ (c .before .before .before .before .before .before .before .before .before .before .before .before .before .before .before .before .before .before .before .before .before .before .before .before .loop .inv) (c .before .before .before .before .before .before .before .before .before .before .before .before .before .before .before .before .before .before .before .before .before .before .before .loop-test .taken) _ _ (c .before .before .before .before .before .before .before .before .before .before .before .before .before .before .before .before .before .before .before .before .before .count .ensures) (c .before .before .before .before .before .before .before .before .before .before .before .before .before .before .before .before .before .before .if1 .left) _ _ _ (c .before .before .before .before .before .before .before .before .before .before .before .before .before .before .before .test .ensures) (c .before .before .before .before .before .before .before .before .before .enum-told .given .1) _ _ _ (c .before .before .before .before .before .before .statement .ensures) (let a0 = c .before .before .before .before .before .before .before .before .before .before .before .before .before .before .texts in let a1 = c .before .before .before .before .before .texts2 in omega arith) (let a0 = c .before .before .before .before .before .before .before .before .before .before .before .before .before .before .before .before .before .before .before .before .words in let a1 = c .before .before .before .before .before .before .before .before .before .before .before .before .words2 in let a2 = c .before .before .before .words3 in omega arith) (c .enum-told3 .given .1)
 
--- src/lib.rt:504:28
+-- src/lib.rt:571:28
 repeat-enum-known-v : (t : ℕ) → repeat-lts.Need-enum-known-v (
   count-reads.Asked,
   count-reads.Learnt,
@@ -3236,7 +3992,7 @@ repeat-enum-known-v : (t : ℕ) → repeat-lts.Need-enum-known-v (
 ) (repeat-at t) repeat.Post repeat-Inv-loop repeat-μ-loop
 repeat-enum-known-v t c = search needs
 
--- src/lib.rt:504:34
+-- src/lib.rt:571:34
 repeat-same-length-7 : (t : ℕ) → repeat-lts.Need-same-length-7 (
   count-reads.Asked,
   count-reads.Learnt,
@@ -3247,7 +4003,7 @@ repeat-same-length-7 : (t : ℕ) → repeat-lts.Need-same-length-7 (
 ) (repeat-at t) repeat.Post repeat-Inv-loop repeat-μ-loop
 repeat-same-length-7 t c = search needs
 
--- src/lib.rt:504:34
+-- src/lib.rt:571:34
 repeat-same-length-8 : (t : ℕ) → repeat-lts.Need-same-length-8 (
   count-reads.Asked,
   count-reads.Learnt,
@@ -3258,7 +4014,7 @@ repeat-same-length-8 : (t : ℕ) → repeat-lts.Need-same-length-8 (
 ) (repeat-at t) repeat.Post repeat-Inv-loop repeat-μ-loop
 repeat-same-length-8 t c = search needs
 
--- src/lib.rt:504:34
+-- src/lib.rt:571:34
 repeat-returns-4 : (t : ℕ) → repeat-lts.Need-returns-4 (
   count-reads.Asked,
   count-reads.Learnt,
@@ -3269,7 +4025,7 @@ repeat-returns-4 : (t : ℕ) → repeat-lts.Need-returns-4 (
 ) (repeat-at t) repeat.Post repeat-Inv-loop repeat-μ-loop
 repeat-returns-4 t c = loop-returns _ _ _ _ _ _ _ _ _ _ _ (c .before .before .before .before .before .before .before .before .before .before .before .before .before .before .before .before .before .before .before .before .before .before .before .before .before .loop .inv) (c .before .before .before .before .before .before .before .before .before .before .before .before .before .before .before .before .before .before .before .before .before .before .before .before .loop-test .taken) _ _ (c .before .before .before .before .before .before .before .before .before .before .before .before .before .before .before .before .before .before .before .before .before .before .count .ensures) (c .before .before .before .before .before .before .before .before .before .before .before .before .before .before .before .before .before .before .before .if1 .left) _ _ _ (c .before .before .before .before .before .before .before .before .before .before .before .before .before .before .before .before .test .ensures) (c .before .before .before .before .before .before .before .before .before .before .enum-told .given .1) _ _ _ (c .before .before .before .before .before .before .before .statement .ensures) _ (c .before .v .given .1)
 
--- src/lib.rt:505:27
+-- src/lib.rt:572:27
 repeat-enum-known-n-2 : (t : ℕ) → repeat-lts.Need-enum-known-n-2 (
   count-reads.Asked,
   count-reads.Learnt,
@@ -3280,7 +4036,7 @@ repeat-enum-known-n-2 : (t : ℕ) → repeat-lts.Need-enum-known-n-2 (
 ) (repeat-at t) repeat.Post repeat-Inv-loop repeat-μ-loop
 repeat-enum-known-n-2 t c = search needs
 
--- src/lib.rt:505:36
+-- src/lib.rt:572:36
 repeat-same-length-9 : (t : ℕ) → repeat-lts.Need-same-length-9 (
   count-reads.Asked,
   count-reads.Learnt,
@@ -3291,7 +4047,7 @@ repeat-same-length-9 : (t : ℕ) → repeat-lts.Need-same-length-9 (
 ) (repeat-at t) repeat.Post repeat-Inv-loop repeat-μ-loop
 repeat-same-length-9 t c = search needs
 
--- src/lib.rt:505:36
+-- src/lib.rt:572:36
 repeat-same-length-10 : (t : ℕ) → repeat-lts.Need-same-length-10 (
   count-reads.Asked,
   count-reads.Learnt,
@@ -3302,7 +4058,7 @@ repeat-same-length-10 : (t : ℕ) → repeat-lts.Need-same-length-10 (
 ) (repeat-at t) repeat.Post repeat-Inv-loop repeat-μ-loop
 repeat-same-length-10 t c = search needs
 
--- src/lib.rt:505:36
+-- src/lib.rt:572:36
 repeat-returns-5 : (t : ℕ) → repeat-lts.Need-returns-5 (
   count-reads.Asked,
   count-reads.Learnt,
@@ -3313,7 +4069,7 @@ repeat-returns-5 : (t : ℕ) → repeat-lts.Need-returns-5 (
 ) (repeat-at t) repeat.Post repeat-Inv-loop repeat-μ-loop
 repeat-returns-5 t c = loop-fails _ _ _ _ _ _ _ _ _ _ _ (c .before .before .before .before .before .before .before .before .before .before .before .before .before .before .before .before .before .before .before .before .before .before .before .before .before .loop .inv) (c .before .before .before .before .before .before .before .before .before .before .before .before .before .before .before .before .before .before .before .before .before .before .before .before .loop-test .taken) _ _ (c .before .before .before .before .before .before .before .before .before .before .before .before .before .before .before .before .before .before .before .before .before .before .count .ensures) (c .before .before .before .before .before .before .before .before .before .before .before .before .before .before .before .before .before .before .before .if1 .left) _ _ _ (c .before .before .before .before .before .before .before .before .before .before .before .before .before .before .before .before .test .ensures) (c .before .before .before .before .before .before .before .before .before .before .enum-told .given .1) _ _ _ (c .before .before .before .before .before .before .before .statement .ensures) _ _ (c .before .n2 .given .1)
 
--- src/lib.rt:477:1
+-- src/lib.rt:544:1
 repeat-same-length-11 : (t : ℕ) → repeat-lts.Need-same-length-11 (
   count-reads.Asked,
   count-reads.Learnt,
@@ -3324,7 +4080,7 @@ repeat-same-length-11 : (t : ℕ) → repeat-lts.Need-same-length-11 (
 ) (repeat-at t) repeat.Post repeat-Inv-loop repeat-μ-loop
 repeat-same-length-11 t c = search needs
 
--- src/lib.rt:477:1
+-- src/lib.rt:544:1
 repeat-same-length-12 : (t : ℕ) → repeat-lts.Need-same-length-12 (
   count-reads.Asked,
   count-reads.Learnt,
@@ -3335,7 +4091,7 @@ repeat-same-length-12 : (t : ℕ) → repeat-lts.Need-same-length-12 (
 ) (repeat-at t) repeat.Post repeat-Inv-loop repeat-μ-loop
 repeat-same-length-12 t c = search needs
 
--- src/lib.rt:477:1
+-- src/lib.rt:544:1
 repeat-returns-6 : (t : ℕ) → repeat-lts.Need-returns-6 (
   count-reads.Asked,
   count-reads.Learnt,
@@ -3346,7 +4102,7 @@ repeat-returns-6 : (t : ℕ) → repeat-lts.Need-returns-6 (
 ) (repeat-at t) repeat.Post repeat-Inv-loop repeat-μ-loop
 repeat-returns-6 t c = loop-short _ _ _ _ _ _ _ _ _ _ _ (c .before .loop .inv) (omega arith)
 
--- src/lib.rt:267:9
+-- src/lib.rt:334:9
 simple-last-of-requires : (t : ℕ) → simple-lts.Need-last-of-requires (
   last-of-reads.Asked,
   last-of-reads.Learnt,
@@ -3369,7 +4125,7 @@ simple-last-of-requires : (t : ℕ) → simple-lts.Need-last-of-requires (
 ) (simple-at t) simple.Post
 simple-last-of-requires t c κs = omega (arith, c .before .before .before .before .pre .1 .room)
 
--- src/lib.rt:268:9
+-- src/lib.rt:335:9
 simple-fast-value-requires : (t : ℕ) → simple-lts.Need-fast-value-requires (
   last-of-reads.Asked,
   last-of-reads.Learnt,
@@ -3392,7 +4148,7 @@ simple-fast-value-requires : (t : ℕ) → simple-lts.Need-fast-value-requires (
 ) (simple-at t) simple.Post
 simple-fast-value-requires t c κs = omega (arith, c .before .before .before .before .before .before .pre .1 .lent .lent .room .words)
 
--- src/lib.rt:270:12
+-- src/lib.rt:337:12
 simple-tag-of-requires : (t : ℕ) → simple-lts.Need-tag-of-requires (
   last-of-reads.Asked,
   last-of-reads.Learnt,
@@ -3415,7 +4171,7 @@ simple-tag-of-requires : (t : ℕ) → simple-lts.Need-tag-of-requires (
 ) (simple-at t) simple.Post
 simple-tag-of-requires t c κs = search needs
 
--- src/lib.rt:271:54
+-- src/lib.rt:338:54
 simple-extra-of-requires : (t : ℕ) → simple-lts.Need-extra-of-requires (
   last-of-reads.Asked,
   last-of-reads.Learnt,
@@ -3438,7 +4194,7 @@ simple-extra-of-requires : (t : ℕ) → simple-lts.Need-extra-of-requires (
 ) (simple-at t) simple.Post
 simple-extra-of-requires t c κs = search needs
 
--- src/lib.rt:271:17
+-- src/lib.rt:338:17
 simple-put-word-requires : (t : ℕ) → simple-lts.Need-put-word-requires (
   last-of-reads.Asked,
   last-of-reads.Learnt,
@@ -3461,7 +4217,7 @@ simple-put-word-requires : (t : ℕ) → simple-lts.Need-put-word-requires (
 ) (simple-at t) simple.Post
 simple-put-word-requires t c κs = (let b = c .before .before .before .before .before .before .words in omega (arith, c .before .before .before .before .before .before .before .before .before .before .before .before .before .before .pre .1 .lent .lent .room .words), no-shape _ _ _ _ _ _ _ _ (c .before .before .before .before .before .before .before .fast-value .ensures) (c .before .before .before .before .before .before .before .before .before .before .before .before .before .before .pre .1 .lent) (c .before .before .before .before .if1 .taken))
 
--- src/lib.rt:272:13
+-- src/lib.rt:339:13
 simple-same-length : (t : ℕ) → simple-lts.Need-same-length (
   last-of-reads.Asked,
   last-of-reads.Learnt,
@@ -3484,7 +4240,7 @@ simple-same-length : (t : ℕ) → simple-lts.Need-same-length (
 ) (simple-at t) simple.Post
 simple-same-length t c = search needs
 
--- src/lib.rt:272:13
+-- src/lib.rt:339:13
 simple-returns : (t : ℕ) → simple-lts.Need-returns (
   last-of-reads.Asked,
   last-of-reads.Learnt,
@@ -3507,7 +4263,7 @@ simple-returns : (t : ℕ) → simple-lts.Need-returns (
 ) (simple-at t) simple.Post
 simple-returns t c = simple-fast _ _ _ _ _ _ _ _ _ _ (c .before .before .before .before .before .before .before .before .before .before .fast-value .ensures) (c .before .before .before .before .before .before .before .before .before .before .before .before .before .before .before .before .before .pre .1 .lent) (c .before .before .before .before .before .before .before .if1 .taken) _ _ _ _ (c .before .before .before .before .before .before .before .before .before .before .before .before .last-of .ensures .0) (is-assignment _ _ _ _ _ _ (c .before .before .before .before .before .before .tag-of .ensures) _ _ _ (c .before .before .before .before .before .if2 .taken) (c .before .before .before .extra-of .ensures .0) (c .before .before .put-word .ensures))
 
--- src/lib.rt:274:9
+-- src/lib.rt:341:9
 simple-pass-on-requires : (t : ℕ) → simple-lts.Need-pass-on-requires (
   last-of-reads.Asked,
   last-of-reads.Learnt,
@@ -3530,7 +4286,7 @@ simple-pass-on-requires : (t : ℕ) → simple-lts.Need-pass-on-requires (
 ) (simple-at t) simple.Post
 simple-pass-on-requires t c κs = λ q. c .if2 .left (c .before .tag-of .ensures ∙ q)
 
--- src/lib.rt:274:9
+-- src/lib.rt:341:9
 simple-same-length-2 : (t : ℕ) → simple-lts.Need-same-length-2 (
   last-of-reads.Asked,
   last-of-reads.Learnt,
@@ -3553,7 +4309,7 @@ simple-same-length-2 : (t : ℕ) → simple-lts.Need-same-length-2 (
 ) (simple-at t) simple.Post
 simple-same-length-2 t c = search needs
 
--- src/lib.rt:274:9
+-- src/lib.rt:341:9
 simple-returns-2 : (t : ℕ) → simple-lts.Need-returns-2 (
   last-of-reads.Asked,
   last-of-reads.Learnt,
@@ -3576,7 +4332,7 @@ simple-returns-2 : (t : ℕ) → simple-lts.Need-returns-2 (
 ) (simple-at t) simple.Post
 simple-returns-2 t c = simple-fast _ _ _ _ _ _ _ _ _ _ (c .before .before .before .before .before .before .fast-value .ensures) (c .before .before .before .before .before .before .before .before .before .before .before .before .before .pre .1 .lent) (c .before .before .before .if1 .taken) _ _ _ _ (c .before .before .before .before .before .before .before .before .last-of .ensures .0) (c .pass-on .ensures _ _ _)
 
--- src/lib.rt:276:11
+-- src/lib.rt:343:11
 simple-expression-requires : (t : ℕ) → simple-lts.Need-expression-requires (
   last-of-reads.Asked,
   last-of-reads.Learnt,
@@ -3599,7 +4355,7 @@ simple-expression-requires : (t : ℕ) → simple-lts.Need-expression-requires (
 ) (simple-at t) simple.Post
 simple-expression-requires t c κs = (omega arith, slow-lent _ _ _ _ _ _ _ _ (c .before .before .before .before .before .fast-value .ensures) (c .before .before .if1 .left) (c .before .before .before .before .before .before .before .before .before .before .before .before .pre .1 .lent))
 
--- src/lib.rt:277:22
+-- src/lib.rt:344:22
 simple-enum-known-v : (t : ℕ) → simple-lts.Need-enum-known-v (
   last-of-reads.Asked,
   last-of-reads.Learnt,
@@ -3622,7 +4378,7 @@ simple-enum-known-v : (t : ℕ) → simple-lts.Need-enum-known-v (
 ) (simple-at t) simple.Post
 simple-enum-known-v t c = search needs
 
--- src/lib.rt:277:68
+-- src/lib.rt:344:68
 simple-pack-requires : (t : ℕ) → simple-lts.Need-pack-requires (
   last-of-reads.Asked,
   last-of-reads.Learnt,
@@ -3645,7 +4401,7 @@ simple-pack-requires : (t : ℕ) → simple-lts.Need-pack-requires (
 ) (simple-at t) simple.Post
 simple-pack-requires t c κs = search needs
 
--- src/lib.rt:277:34
+-- src/lib.rt:344:34
 simple-finish-requires : (t : ℕ) → simple-lts.Need-finish-requires (
   last-of-reads.Asked,
   last-of-reads.Learnt,
@@ -3668,7 +4424,7 @@ simple-finish-requires : (t : ℕ) → simple-lts.Need-finish-requires (
 ) (simple-at t) simple.Post
 simple-finish-requires t c κs = still-room _ _ _ _ _ (c .before .before .before .before .before .before .before .before .before .before .before .before .before .before .before .before .before .before .before .before .before .before .pre .1 .lent) (let a0 = c .before .before .before .before .before .before .before .before .before .before .before .before .before .before .words in let a1 = c .before .before .before .before .before .before .words3 in omega arith)
 
--- src/lib.rt:278:29
+-- src/lib.rt:345:29
 simple-enum-told : (t : ℕ) → simple-lts.Need-enum-told (
   last-of-reads.Asked,
   last-of-reads.Learnt,
@@ -3691,7 +4447,7 @@ simple-enum-told : (t : ℕ) → simple-lts.Need-enum-told (
 ) (simple-at t) simple.Post
 simple-enum-told t c = search needs
 
--- src/lib.rt:279:28
+-- src/lib.rt:346:28
 simple-enum-known-u : (t : ℕ) → simple-lts.Need-enum-known-u (
   last-of-reads.Asked,
   last-of-reads.Learnt,
@@ -3714,7 +4470,7 @@ simple-enum-known-u : (t : ℕ) → simple-lts.Need-enum-known-u (
 ) (simple-at t) simple.Post
 simple-enum-known-u t c = search needs
 
--- src/lib.rt:280:27
+-- src/lib.rt:347:27
 simple-enum-known-n : (t : ℕ) → simple-lts.Need-enum-known-n (
   last-of-reads.Asked,
   last-of-reads.Learnt,
@@ -3737,7 +4493,7 @@ simple-enum-known-n : (t : ℕ) → simple-lts.Need-enum-known-n (
 ) (simple-at t) simple.Post
 simple-enum-known-n t c = search needs
 
--- src/lib.rt:282:21
+-- src/lib.rt:349:21
 simple-enum-known-n-2 : (t : ℕ) → simple-lts.Need-enum-known-n-2 (
   last-of-reads.Asked,
   last-of-reads.Learnt,
@@ -3760,7 +4516,7 @@ simple-enum-known-n-2 : (t : ℕ) → simple-lts.Need-enum-known-n-2 (
 ) (simple-at t) simple.Post
 simple-enum-known-n-2 t c = search needs
 
--- src/lib.rt:252:1
+-- src/lib.rt:319:1
 simple-same-length-3 : (t : ℕ) → simple-lts.Need-same-length-3 (
   last-of-reads.Asked,
   last-of-reads.Learnt,
@@ -3783,7 +4539,7 @@ simple-same-length-3 : (t : ℕ) → simple-lts.Need-same-length-3 (
 ) (simple-at t) simple.Post
 simple-same-length-3 t c = search needs
 
--- src/lib.rt:252:1
+-- src/lib.rt:319:1
 simple-same-length-4 : (t : ℕ) → simple-lts.Need-same-length-4 (
   last-of-reads.Asked,
   last-of-reads.Learnt,
@@ -3806,7 +4562,7 @@ simple-same-length-4 : (t : ℕ) → simple-lts.Need-same-length-4 (
 ) (simple-at t) simple.Post
 simple-same-length-4 t c = search needs
 
--- src/lib.rt:252:1
+-- src/lib.rt:319:1
 simple-returns-3 : (t : ℕ) → simple-lts.Need-returns-3 (
   last-of-reads.Asked,
   last-of-reads.Learnt,
@@ -3829,7 +4585,7 @@ simple-returns-3 : (t : ℕ) → simple-lts.Need-returns-3 (
 ) (simple-at t) simple.Post
 simple-returns-3 t c = simple-done _ _ _ _ _ _ _ _ _ _ (c .before .before .before .before .before .before .before .before .before .before .before .before .before .before .before .before .before .before .before .before .fast-value .ensures) (c .before .before .before .before .before .before .before .before .before .before .before .before .before .before .before .before .before .if1 .left) _ _ _ (c .before .before .before .before .before .before .before .before .before .before .before .before .before .before .expression .ensures) _ _ _ _ _ _ _ (c .before .before .before .before .before .before .before .before .before .before .before .before .before .before .before .before .before .before .before .before .before .before .last-of .ensures .0) (c .before .before .before .before .before .before .before .before .v .given .1) (c .before .before .before .before .before .pack .ensures) (c .before .before .before .before .finish .ensures) (c .enum-told .given .1)
 
--- src/lib.rt:252:1
+-- src/lib.rt:319:1
 simple-same-length-5 : (t : ℕ) → simple-lts.Need-same-length-5 (
   last-of-reads.Asked,
   last-of-reads.Learnt,
@@ -3852,7 +4608,7 @@ simple-same-length-5 : (t : ℕ) → simple-lts.Need-same-length-5 (
 ) (simple-at t) simple.Post
 simple-same-length-5 t c = search needs
 
--- src/lib.rt:252:1
+-- src/lib.rt:319:1
 simple-same-length-6 : (t : ℕ) → simple-lts.Need-same-length-6 (
   last-of-reads.Asked,
   last-of-reads.Learnt,
@@ -3875,7 +4631,7 @@ simple-same-length-6 : (t : ℕ) → simple-lts.Need-same-length-6 (
 ) (simple-at t) simple.Post
 simple-same-length-6 t c = search needs
 
--- src/lib.rt:252:1
+-- src/lib.rt:319:1
 simple-returns-4 : (t : ℕ) → simple-lts.Need-returns-4 (
   last-of-reads.Asked,
   last-of-reads.Learnt,
@@ -3898,7 +4654,7 @@ simple-returns-4 : (t : ℕ) → simple-lts.Need-returns-4 (
 ) (simple-at t) simple.Post
 simple-returns-4 t c = simple-done _ _ _ _ _ _ _ _ _ _ (c .before .before .before .before .before .before .before .before .before .before .before .before .before .before .before .before .before .before .before .before .before .fast-value .ensures) (c .before .before .before .before .before .before .before .before .before .before .before .before .before .before .before .before .before .before .if1 .left) _ _ _ (c .before .before .before .before .before .before .before .before .before .before .before .before .before .before .before .expression .ensures) _ _ _ _ _ _ _ (c .before .before .before .before .before .before .before .before .before .before .before .before .before .before .before .before .before .before .before .before .before .before .before .last-of .ensures .0) (c .before .before .before .before .before .before .before .before .before .v .given .1) (c .before .before .before .before .before .before .pack .ensures) (c .before .before .before .before .before .finish .ensures) (c .before .u .given .1)
 
--- src/lib.rt:252:1
+-- src/lib.rt:319:1
 simple-same-length-7 : (t : ℕ) → simple-lts.Need-same-length-7 (
   last-of-reads.Asked,
   last-of-reads.Learnt,
@@ -3921,7 +4677,7 @@ simple-same-length-7 : (t : ℕ) → simple-lts.Need-same-length-7 (
 ) (simple-at t) simple.Post
 simple-same-length-7 t c = search needs
 
--- src/lib.rt:252:1
+-- src/lib.rt:319:1
 simple-same-length-8 : (t : ℕ) → simple-lts.Need-same-length-8 (
   last-of-reads.Asked,
   last-of-reads.Learnt,
@@ -3944,7 +4700,7 @@ simple-same-length-8 : (t : ℕ) → simple-lts.Need-same-length-8 (
 ) (simple-at t) simple.Post
 simple-same-length-8 t c = search needs
 
--- src/lib.rt:252:1
+-- src/lib.rt:319:1
 simple-returns-5 : (t : ℕ) → simple-lts.Need-returns-5 (
   last-of-reads.Asked,
   last-of-reads.Learnt,
@@ -3967,7 +4723,7 @@ simple-returns-5 : (t : ℕ) → simple-lts.Need-returns-5 (
 ) (simple-at t) simple.Post
 simple-returns-5 t c = simple-done _ _ _ _ _ _ _ _ _ _ (c .before .before .before .before .before .before .before .before .before .before .before .before .before .before .before .before .before .before .before .before .before .fast-value .ensures) (c .before .before .before .before .before .before .before .before .before .before .before .before .before .before .before .before .before .before .if1 .left) _ _ _ (c .before .before .before .before .before .before .before .before .before .before .before .before .before .before .before .expression .ensures) _ _ _ _ _ _ _ (c .before .before .before .before .before .before .before .before .before .before .before .before .before .before .before .before .before .before .before .before .before .before .before .last-of .ensures .0) (c .before .before .before .before .before .before .before .before .before .v .given .1) (c .before .before .before .before .before .before .pack .ensures) (c .before .before .before .before .before .finish .ensures) (c .before .n .given .1)
 
--- src/lib.rt:252:1
+-- src/lib.rt:319:1
 simple-same-length-9 : (t : ℕ) → simple-lts.Need-same-length-9 (
   last-of-reads.Asked,
   last-of-reads.Learnt,
@@ -3990,7 +4746,7 @@ simple-same-length-9 : (t : ℕ) → simple-lts.Need-same-length-9 (
 ) (simple-at t) simple.Post
 simple-same-length-9 t c = search needs
 
--- src/lib.rt:252:1
+-- src/lib.rt:319:1
 simple-same-length-10 : (t : ℕ) → simple-lts.Need-same-length-10 (
   last-of-reads.Asked,
   last-of-reads.Learnt,
@@ -4013,7 +4769,7 @@ simple-same-length-10 : (t : ℕ) → simple-lts.Need-same-length-10 (
 ) (simple-at t) simple.Post
 simple-same-length-10 t c = search needs
 
--- src/lib.rt:252:1
+-- src/lib.rt:319:1
 simple-returns-6 : (t : ℕ) → simple-lts.Need-returns-6 (
   last-of-reads.Asked,
   last-of-reads.Learnt,
@@ -4036,7 +4792,7 @@ simple-returns-6 : (t : ℕ) → simple-lts.Need-returns-6 (
 ) (simple-at t) simple.Post
 simple-returns-6 t c = simple-stops _ _ _ _ _ _ _ _ _ _ (c .before .before .before .before .before .before .before .before .before .before .before .before .before .fast-value .ensures) (c .before .before .before .before .before .before .before .before .before .before .if1 .left) _ _ _ (c .before .before .before .before .before .before .before .expression .ensures) _ _ _ _ (c .before .before .before .before .before .before .before .before .before .before .before .before .before .before .before .last-of .ensures .0) (c .before .n2 .given .1)
 
--- src/lib.rt:376:9
+-- src/lib.rt:443:9
 statement-returns : (t : ℕ) → statement-lts.Need-returns (
   word-at-reads.Asked,
   word-at-reads.Learnt,
@@ -4067,7 +4823,7 @@ statement-returns : (t : ℕ) → statement-lts.Need-returns (
 ) (statement-at t) statement′.Post
 statement-returns t c = search statement-too-deep
 
--- src/lib.rt:378:9
+-- src/lib.rt:445:9
 statement-word-at-requires : (t : ℕ) → statement-lts.Need-word-at-requires (
   word-at-reads.Asked,
   word-at-reads.Learnt,
@@ -4098,7 +4854,7 @@ statement-word-at-requires : (t : ℕ) → statement-lts.Need-word-at-requires (
 ) (statement-at t) statement′.Post
 statement-word-at-requires t c κs = search needs
 
--- src/lib.rt:379:9
+-- src/lib.rt:446:9
 statement-place-of-requires : (t : ℕ) → statement-lts.Need-place-of-requires (
   word-at-reads.Asked,
   word-at-reads.Learnt,
@@ -4129,7 +4885,7 @@ statement-place-of-requires : (t : ℕ) → statement-lts.Need-place-of-requires
 ) (statement-at t) statement′.Post
 statement-place-of-requires t c κs = search needs
 
--- src/lib.rt:380:9
+-- src/lib.rt:447:9
 statement-tag-of-requires : (t : ℕ) → statement-lts.Need-tag-of-requires (
   word-at-reads.Asked,
   word-at-reads.Learnt,
@@ -4160,7 +4916,7 @@ statement-tag-of-requires : (t : ℕ) → statement-lts.Need-tag-of-requires (
 ) (statement-at t) statement′.Post
 statement-tag-of-requires t c κs = search needs
 
--- src/lib.rt:388:13
+-- src/lib.rt:455:13
 statement-sub-repeat : (t : ℕ) → statement-lts.Need-sub-repeat (
   word-at-reads.Asked,
   word-at-reads.Learnt,
@@ -4191,7 +4947,7 @@ statement-sub-repeat : (t : ℕ) → statement-lts.Need-sub-repeat (
 ) (statement-at t) statement′.Post
 statement-sub-repeat t c = search needs
 
--- src/lib.rt:389:17
+-- src/lib.rt:456:17
 statement-extra-of-requires : (t : ℕ) → statement-lts.Need-extra-of-requires (
   word-at-reads.Asked,
   word-at-reads.Learnt,
@@ -4222,7 +4978,7 @@ statement-extra-of-requires : (t : ℕ) → statement-lts.Need-extra-of-requires
 ) (statement-at t) statement′.Post
 statement-extra-of-requires t c κs = search needs
 
--- src/lib.rt:389:13
+-- src/lib.rt:456:13
 statement-add-repeat : (t : ℕ) → statement-lts.Need-add-repeat (
   word-at-reads.Asked,
   word-at-reads.Learnt,
@@ -4253,7 +5009,7 @@ statement-add-repeat : (t : ℕ) → statement-lts.Need-add-repeat (
 ) (statement-at t) statement′.Post
 statement-add-repeat t c = omega (arith, c .before .before .before .before .before .before .before .before .before .before .before .before .pre .1 .room, c .extra-of .ensures .1)
 
--- src/lib.rt:382:13
+-- src/lib.rt:449:13
 statement-repeat-requires : (t : ℕ) → statement-lts.Need-repeat-requires (
   word-at-reads.Asked,
   word-at-reads.Learnt,
@@ -4284,7 +5040,7 @@ statement-repeat-requires : (t : ℕ) → statement-lts.Need-repeat-requires (
 ) (statement-at t) statement′.Post
 statement-repeat-requires t c κs = (omega arith, record { lent = record { lent = c .before .before .before .before .before .before .before .before .before .before .before .before .pre .1 .lent .lent; deep = omega (arith, c .before .before .before .before .before .before .before .before .before .before .before .before .pre .1 .lent .deep) }; room = omega (arith, c .before .before .before .before .before .before .before .before .before .before .before .before .pre .1 .room, c .extra-of .ensures .1, c .before .before .before .before .before .before .before .if1 .left) })
 
--- src/lib.rt:392:9
+-- src/lib.rt:459:9
 statement-same-length : (t : ℕ) → statement-lts.Need-same-length (
   word-at-reads.Asked,
   word-at-reads.Learnt,
@@ -4315,7 +5071,7 @@ statement-same-length : (t : ℕ) → statement-lts.Need-same-length (
 ) (statement-at t) statement′.Post
 statement-same-length t c = search needs
 
--- src/lib.rt:392:9
+-- src/lib.rt:459:9
 statement-same-length-2 : (t : ℕ) → statement-lts.Need-same-length-2 (
   word-at-reads.Asked,
   word-at-reads.Learnt,
@@ -4346,7 +5102,7 @@ statement-same-length-2 : (t : ℕ) → statement-lts.Need-same-length-2 (
 ) (statement-at t) statement′.Post
 statement-same-length-2 t c = search needs
 
--- src/lib.rt:392:9
+-- src/lib.rt:459:9
 statement-returns-2 : (t : ℕ) → statement-lts.Need-returns-2 (
   word-at-reads.Asked,
   word-at-reads.Learnt,
@@ -4377,7 +5133,7 @@ statement-returns-2 : (t : ℕ) → statement-lts.Need-returns-2 (
 ) (statement-at t) statement′.Post
 statement-returns-2 t c = is-loop _ _ _ _ _ _ _ (c .before .before .before .before .before .before .before .before .before .before .before .before .if1 .left) _ (c .before .before .before .before .before .before .before .before .before .before .before .word-at .ensures) _ (c .before .before .before .before .before .before .before .before .before .before .place-of .ensures) _ (c .before .before .before .before .before .before .before .before .before .tag-of .ensures) _ _ (c .before .before .before .before .before .before .before .before .if2 .taken) (c .before .before .before .before .before .extra-of .ensures .0) (c .before .before .before .before .repeat .ensures)
 
--- src/lib.rt:394:9
+-- src/lib.rt:461:9
 statement-count-requires : (t : ℕ) → statement-lts.Need-count-requires (
   word-at-reads.Asked,
   word-at-reads.Learnt,
@@ -4408,7 +5164,7 @@ statement-count-requires : (t : ℕ) → statement-lts.Need-count-requires (
 ) (statement-at t) statement′.Post
 statement-count-requires t c κs = omega (arith, c .before .before .before .before .before .before .before .before .before .before .pre .1 .lent .lent .room .words)
 
--- src/lib.rt:395:9
+-- src/lib.rt:462:9
 statement-same-length-3 : (t : ℕ) → statement-lts.Need-same-length-3 (
   word-at-reads.Asked,
   word-at-reads.Learnt,
@@ -4439,7 +5195,7 @@ statement-same-length-3 : (t : ℕ) → statement-lts.Need-same-length-3 (
 ) (statement-at t) statement′.Post
 statement-same-length-3 t c = search needs
 
--- src/lib.rt:395:9
+-- src/lib.rt:462:9
 statement-returns-3 : (t : ℕ) → statement-lts.Need-returns-3 (
   word-at-reads.Asked,
   word-at-reads.Learnt,
@@ -4470,7 +5226,7 @@ statement-returns-3 : (t : ℕ) → statement-lts.Need-returns-3 (
 ) (statement-at t) statement′.Post
 statement-returns-3 t c = statement-no-step _ _ _ _ _ _ _ (c .before .before .before .before .before .before .before .before .before .if1 .left) _ (c .before .before .before .before .before .before .before .before .word-at .ensures) _ (c .before .before .before .before .before .before .before .place-of .ensures) _ (c .before .before .before .before .before .before .tag-of .ensures) (c .before .before .before .before .before .if2 .left) _ _ (c .before .before .before .count .ensures) (c .if3 .taken)
 
--- src/lib.rt:399:45
+-- src/lib.rt:466:45
 statement-extra-of-requires-2 : (t : ℕ) → statement-lts.Need-extra-of-requires-2 (
   word-at-reads.Asked,
   word-at-reads.Learnt,
@@ -4501,7 +5257,7 @@ statement-extra-of-requires-2 : (t : ℕ) → statement-lts.Need-extra-of-requir
 ) (statement-at t) statement′.Post
 statement-extra-of-requires-2 t c κs = search needs
 
--- src/lib.rt:399:17
+-- src/lib.rt:466:17
 statement-declare-requires : (t : ℕ) → statement-lts.Need-declare-requires (
   word-at-reads.Asked,
   word-at-reads.Learnt,
@@ -4532,7 +5288,7 @@ statement-declare-requires : (t : ℕ) → statement-lts.Need-declare-requires (
 ) (statement-at t) statement′.Post
 statement-declare-requires t c κs = let b = c .before .before .before .before .before .words2 in omega (arith, c .before .before .before .before .before .before .before .before .before .before .before .before .before .before .before .before .before .pre .1 .lent .lent .room .words)
 
--- src/lib.rt:409:17
+-- src/lib.rt:476:17
 statement-sub-update : (t : ℕ) → statement-lts.Need-sub-update (
   word-at-reads.Asked,
   word-at-reads.Learnt,
@@ -4563,7 +5319,7 @@ statement-sub-update : (t : ℕ) → statement-lts.Need-sub-update (
 ) (statement-at t) statement′.Post
 statement-sub-update t c = search needs
 
--- src/lib.rt:410:17
+-- src/lib.rt:477:17
 statement-last-of-requires : (t : ℕ) → statement-lts.Need-last-of-requires (
   word-at-reads.Asked,
   word-at-reads.Learnt,
@@ -4594,7 +5350,7 @@ statement-last-of-requires : (t : ℕ) → statement-lts.Need-last-of-requires (
 ) (statement-at t) statement′.Post
 statement-last-of-requires t c κs = omega (arith, c .before .before .before .before .before .before .before .before .before .before .before .before .before .before .before .before .before .pre .1 .room)
 
--- src/lib.rt:403:17
+-- src/lib.rt:470:17
 statement-update-requires : (t : ℕ) → statement-lts.Need-update-requires (
   word-at-reads.Asked,
   word-at-reads.Learnt,
@@ -4625,7 +5381,7 @@ statement-update-requires : (t : ℕ) → statement-lts.Need-update-requires (
 ) (statement-at t) statement′.Post
 statement-update-requires t c κs = (omega arith, record { lent = still-lent-words _ _ _ _ (c .before .before .before .before .before .before .before .before .before .before .before .before .before .before .before .before .before .before .pre .1 .lent .lent) (let a0 = c .before .before .before .before .before .before .words2 in omega arith); deep = omega (arith, c .before .before .before .before .before .before .before .before .before .before .before .before .before .before .before .before .before .before .pre .1 .lent .deep) })
 
--- src/lib.rt:422:17
+-- src/lib.rt:489:17
 statement-sub-when : (t : ℕ) → statement-lts.Need-sub-when (
   word-at-reads.Asked,
   word-at-reads.Learnt,
@@ -4656,7 +5412,7 @@ statement-sub-when : (t : ℕ) → statement-lts.Need-sub-when (
 ) (statement-at t) statement′.Post
 statement-sub-when t c = search needs
 
--- src/lib.rt:423:21
+-- src/lib.rt:490:21
 statement-extra-of-requires-3 : (t : ℕ) → statement-lts.Need-extra-of-requires-3 (
   word-at-reads.Asked,
   word-at-reads.Learnt,
@@ -4687,7 +5443,7 @@ statement-extra-of-requires-3 : (t : ℕ) → statement-lts.Need-extra-of-requir
 ) (statement-at t) statement′.Post
 statement-extra-of-requires-3 t c κs = search needs
 
--- src/lib.rt:423:17
+-- src/lib.rt:490:17
 statement-add-when : (t : ℕ) → statement-lts.Need-add-when (
   word-at-reads.Asked,
   word-at-reads.Learnt,
@@ -4718,7 +5474,7 @@ statement-add-when : (t : ℕ) → statement-lts.Need-add-when (
 ) (statement-at t) statement′.Post
 statement-add-when t c = omega (arith, c .before .before .before .before .before .before .before .before .before .before .before .before .before .before .before .before .before .before .pre .1 .room, c .extra-of3 .ensures .1)
 
--- src/lib.rt:416:17
+-- src/lib.rt:483:17
 statement-when-requires : (t : ℕ) → statement-lts.Need-when-requires (
   word-at-reads.Asked,
   word-at-reads.Learnt,
@@ -4749,7 +5505,7 @@ statement-when-requires : (t : ℕ) → statement-lts.Need-when-requires (
 ) (statement-at t) statement′.Post
 statement-when-requires t c κs = (omega arith, record { lent = record { lent = still-lent-words _ _ _ _ (c .before .before .before .before .before .before .before .before .before .before .before .before .before .before .before .before .before .before .pre .1 .lent .lent) (let a0 = c .before .before .before .before .before .before .words2 in omega arith); deep = omega (arith, c .before .before .before .before .before .before .before .before .before .before .before .before .before .before .before .before .before .before .pre .1 .lent .deep) }; room = omega (arith, c .before .before .before .before .before .before .before .before .before .before .before .before .before .before .before .before .before .before .pre .1 .room, c .extra-of3 .ensures .1, c .before .before .before .before .before .before .before .before .before .before .before .before .before .if1 .left) })
 
--- src/lib.rt:429:17
+-- src/lib.rt:496:17
 statement-size-of-requires : (t : ℕ) → statement-lts.Need-size-of-requires (
   word-at-reads.Asked,
   word-at-reads.Learnt,
@@ -4780,7 +5536,7 @@ statement-size-of-requires : (t : ℕ) → statement-lts.Need-size-of-requires (
 ) (statement-at t) statement′.Post
 statement-size-of-requires t c κs = search needs
 
--- src/lib.rt:436:17
+-- src/lib.rt:503:17
 statement-sub-statements : (t : ℕ) → statement-lts.Need-sub-statements (
   word-at-reads.Asked,
   word-at-reads.Learnt,
@@ -4811,7 +5567,7 @@ statement-sub-statements : (t : ℕ) → statement-lts.Need-sub-statements (
 ) (statement-at t) statement′.Post
 statement-sub-statements t c = search needs
 
--- src/lib.rt:437:17
+-- src/lib.rt:504:17
 statement-add-statements : (t : ℕ) → statement-lts.Need-add-statements (
   word-at-reads.Asked,
   word-at-reads.Learnt,
@@ -4842,7 +5598,7 @@ statement-add-statements : (t : ℕ) → statement-lts.Need-add-statements (
 ) (statement-at t) statement′.Post
 statement-add-statements t c = omega (arith, c .before .before .before .before .before .before .before .before .before .before .before .before .before .before .before .before .before .before .pre .1 .room, c .before .before .size-of .ensures, c .before .before .before .before .before .before .before .before .before .before .before .before .before .if1 .left)
 
--- src/lib.rt:438:17
+-- src/lib.rt:505:17
 statement-add-statements-2 : (t : ℕ) → statement-lts.Need-add-statements-2 (
   word-at-reads.Asked,
   word-at-reads.Learnt,
@@ -4873,7 +5629,7 @@ statement-add-statements-2 : (t : ℕ) → statement-lts.Need-add-statements-2 (
 ) (statement-at t) statement′.Post
 statement-add-statements-2 t c = omega (arith, c .before .before .before .before .before .before .before .before .before .before .before .before .before .before .before .before .before .before .pre .1 .room, c .before .before .size-of .ensures, c .before .before .before .before .before .before .before .before .before .before .before .before .before .if1 .left)
 
--- src/lib.rt:439:17
+-- src/lib.rt:506:17
 statement-add-statements-3 : (t : ℕ) → statement-lts.Need-add-statements-3 (
   word-at-reads.Asked,
   word-at-reads.Learnt,
@@ -4904,7 +5660,7 @@ statement-add-statements-3 : (t : ℕ) → statement-lts.Need-add-statements-3 (
 ) (statement-at t) statement′.Post
 statement-add-statements-3 t c = omega (arith, c .before .before .before .before .before .before .before .before .before .before .before .before .before .before .before .before .before .before .pre .1 .room, c .before .before .size-of .ensures, c .before .before .before .before .before .before .before .before .before .before .before .before .before .if1 .left)
 
--- src/lib.rt:430:17
+-- src/lib.rt:497:17
 statement-statements-requires : (t : ℕ) → statement-lts.Need-statements-requires (
   word-at-reads.Asked,
   word-at-reads.Learnt,
@@ -4935,7 +5691,7 @@ statement-statements-requires : (t : ℕ) → statement-lts.Need-statements-requ
 ) (statement-at t) statement′.Post
 statement-statements-requires t c κs = (omega arith, record { lent = record { lent = still-lent-words _ _ _ _ (c .before .before .before .before .before .before .before .before .before .before .before .before .before .before .before .before .before .before .pre .1 .lent .lent) (let a0 = c .before .before .before .before .before .before .words2 in omega arith); deep = omega (arith, c .before .before .before .before .before .before .before .before .before .before .before .before .before .before .before .before .before .before .pre .1 .lent .deep) }; room = omega (arith, c .before .before .before .before .before .before .before .before .before .before .before .before .before .before .before .before .before .before .pre .1 .room, c .before .before .size-of .ensures, c .before .before .before .before .before .before .before .before .before .before .before .before .before .if1 .left) })
 
--- src/lib.rt:444:65
+-- src/lib.rt:511:65
 statement-sub-simple : (t : ℕ) → statement-lts.Need-sub-simple (
   word-at-reads.Asked,
   word-at-reads.Learnt,
@@ -4966,7 +5722,7 @@ statement-sub-simple : (t : ℕ) → statement-lts.Need-sub-simple (
 ) (statement-at t) statement′.Post
 statement-sub-simple t c = search needs
 
--- src/lib.rt:444:17
+-- src/lib.rt:511:17
 statement-simple-requires : (t : ℕ) → statement-lts.Need-simple-requires (
   word-at-reads.Asked,
   word-at-reads.Learnt,
@@ -4997,7 +5753,7 @@ statement-simple-requires : (t : ℕ) → statement-lts.Need-simple-requires (
 ) (statement-at t) statement′.Post
 statement-simple-requires t c κs = (omega arith, record { lent = record { lent = still-lent-words _ _ _ _ (c .before .before .before .before .before .before .before .before .before .before .before .before .before .before .before .before .before .pre .1 .lent .lent) (let a0 = c .before .before .before .before .before .words2 in omega arith); deep = omega (arith, c .before .before .before .before .before .before .before .before .before .before .before .before .before .before .before .before .before .pre .1 .lent .deep) }; room = omega (arith, c .before .before .before .before .before .before .before .before .before .before .before .before .before .before .before .before .before .pre .1 .room) })
 
--- src/lib.rt:362:1
+-- src/lib.rt:429:1
 statement-same-length-4 : (t : ℕ) → statement-lts.Need-same-length-4 (
   word-at-reads.Asked,
   word-at-reads.Learnt,
@@ -5028,7 +5784,7 @@ statement-same-length-4 : (t : ℕ) → statement-lts.Need-same-length-4 (
 ) (statement-at t) statement′.Post
 statement-same-length-4 t c = search needs
 
--- src/lib.rt:362:1
+-- src/lib.rt:429:1
 statement-returns-4 : (t : ℕ) → statement-lts.Need-returns-4 (
   word-at-reads.Asked,
   word-at-reads.Learnt,
@@ -5059,7 +5815,7 @@ statement-returns-4 : (t : ℕ) → statement-lts.Need-returns-4 (
 ) (statement-at t) statement′.Post
 statement-returns-4 t c = is-declaration _ _ _ _ _ _ _ (c .before .before .before .before .before .before .before .before .before .before .before .before .before .before .before .if1 .left) _ (c .before .before .before .before .before .before .before .before .before .before .before .before .before .before .word-at .ensures) _ (c .before .before .before .before .before .before .before .before .before .before .before .before .before .place-of .ensures) _ (c .before .before .before .before .before .before .before .before .before .before .before .before .tag-of .ensures) (c .before .before .before .before .before .before .before .before .before .before .before .if2 .left) _ _ (c .before .before .before .before .before .before .before .before .before .count .ensures) (c .before .before .before .before .before .before .if3 .left) _ _ _ (c .before .before .before .before .before .match .keys1) (c .before .before .before .extra-of2 .ensures .0) (c .before .before .declare .ensures)
 
--- src/lib.rt:362:1
+-- src/lib.rt:429:1
 statement-same-length-5 : (t : ℕ) → statement-lts.Need-same-length-5 (
   word-at-reads.Asked,
   word-at-reads.Learnt,
@@ -5090,7 +5846,7 @@ statement-same-length-5 : (t : ℕ) → statement-lts.Need-same-length-5 (
 ) (statement-at t) statement′.Post
 statement-same-length-5 t c = search needs
 
--- src/lib.rt:362:1
+-- src/lib.rt:429:1
 statement-same-length-6 : (t : ℕ) → statement-lts.Need-same-length-6 (
   word-at-reads.Asked,
   word-at-reads.Learnt,
@@ -5121,7 +5877,7 @@ statement-same-length-6 : (t : ℕ) → statement-lts.Need-same-length-6 (
 ) (statement-at t) statement′.Post
 statement-same-length-6 t c = search needs
 
--- src/lib.rt:362:1
+-- src/lib.rt:429:1
 statement-returns-5 : (t : ℕ) → statement-lts.Need-returns-5 (
   word-at-reads.Asked,
   word-at-reads.Learnt,
@@ -5152,7 +5908,7 @@ statement-returns-5 : (t : ℕ) → statement-lts.Need-returns-5 (
 ) (statement-at t) statement′.Post
 statement-returns-5 t c = is-update _ _ _ _ _ _ _ (c .before .before .before .before .before .before .before .before .before .before .before .before .before .before .before .before .before .before .if1 .left) _ (c .before .before .before .before .before .before .before .before .before .before .before .before .before .before .before .before .before .word-at .ensures) _ (c .before .before .before .before .before .before .before .before .before .before .before .before .before .before .before .before .place-of .ensures) _ (c .before .before .before .before .before .before .before .before .before .before .before .before .before .before .before .tag-of .ensures) (c .before .before .before .before .before .before .before .before .before .before .before .before .before .before .if2 .left) _ _ (c .before .before .before .before .before .before .before .before .before .before .before .before .count .ensures) (c .before .before .before .before .before .before .before .before .before .if3 .left) _ _ (c .before .before .before .before .before .before .before .before .match .keys2) (c .before .before .before .before .before .last-of .ensures .0) (c .before .before .before .before .update .ensures)
 
--- src/lib.rt:362:1
+-- src/lib.rt:429:1
 statement-same-length-7 : (t : ℕ) → statement-lts.Need-same-length-7 (
   word-at-reads.Asked,
   word-at-reads.Learnt,
@@ -5183,7 +5939,7 @@ statement-same-length-7 : (t : ℕ) → statement-lts.Need-same-length-7 (
 ) (statement-at t) statement′.Post
 statement-same-length-7 t c = search needs
 
--- src/lib.rt:362:1
+-- src/lib.rt:429:1
 statement-same-length-8 : (t : ℕ) → statement-lts.Need-same-length-8 (
   word-at-reads.Asked,
   word-at-reads.Learnt,
@@ -5214,7 +5970,7 @@ statement-same-length-8 : (t : ℕ) → statement-lts.Need-same-length-8 (
 ) (statement-at t) statement′.Post
 statement-same-length-8 t c = search needs
 
--- src/lib.rt:362:1
+-- src/lib.rt:429:1
 statement-returns-6 : (t : ℕ) → statement-lts.Need-returns-6 (
   word-at-reads.Asked,
   word-at-reads.Learnt,
@@ -5245,7 +6001,7 @@ statement-returns-6 : (t : ℕ) → statement-lts.Need-returns-6 (
 ) (statement-at t) statement′.Post
 statement-returns-6 t c = is-when _ _ _ _ _ _ _ (c .before .before .before .before .before .before .before .before .before .before .before .before .before .before .before .before .before .before .if1 .left) _ (c .before .before .before .before .before .before .before .before .before .before .before .before .before .before .before .before .before .word-at .ensures) _ (c .before .before .before .before .before .before .before .before .before .before .before .before .before .before .before .before .place-of .ensures) _ (c .before .before .before .before .before .before .before .before .before .before .before .before .before .before .before .tag-of .ensures) (c .before .before .before .before .before .before .before .before .before .before .before .before .before .before .if2 .left) _ _ (c .before .before .before .before .before .before .before .before .before .before .before .before .count .ensures) (c .before .before .before .before .before .before .before .before .before .if3 .left) _ _ (c .before .before .before .before .before .before .before .before .match .keys3) (c .before .before .before .before .before .extra-of3 .ensures .0) (c .before .before .before .before .when .ensures)
 
--- src/lib.rt:362:1
+-- src/lib.rt:429:1
 statement-same-length-9 : (t : ℕ) → statement-lts.Need-same-length-9 (
   word-at-reads.Asked,
   word-at-reads.Learnt,
@@ -5276,7 +6032,7 @@ statement-same-length-9 : (t : ℕ) → statement-lts.Need-same-length-9 (
 ) (statement-at t) statement′.Post
 statement-same-length-9 t c = search needs
 
--- src/lib.rt:362:1
+-- src/lib.rt:429:1
 statement-same-length-10 : (t : ℕ) → statement-lts.Need-same-length-10 (
   word-at-reads.Asked,
   word-at-reads.Learnt,
@@ -5307,7 +6063,7 @@ statement-same-length-10 : (t : ℕ) → statement-lts.Need-same-length-10 (
 ) (statement-at t) statement′.Post
 statement-same-length-10 t c = search needs
 
--- src/lib.rt:362:1
+-- src/lib.rt:429:1
 statement-returns-7 : (t : ℕ) → statement-lts.Need-returns-7 (
   word-at-reads.Asked,
   word-at-reads.Learnt,
@@ -5338,7 +6094,7 @@ statement-returns-7 : (t : ℕ) → statement-lts.Need-returns-7 (
 ) (statement-at t) statement′.Post
 statement-returns-7 t c = is-block _ _ _ _ _ _ _ (c .before .before .before .before .before .before .before .before .before .before .before .before .before .before .before .before .before .before .if1 .left) _ (c .before .before .before .before .before .before .before .before .before .before .before .before .before .before .before .before .before .word-at .ensures) _ (c .before .before .before .before .before .before .before .before .before .before .before .before .before .before .before .before .place-of .ensures) _ (c .before .before .before .before .before .before .before .before .before .before .before .before .before .before .before .tag-of .ensures) (c .before .before .before .before .before .before .before .before .before .before .before .before .before .before .if2 .left) _ _ (c .before .before .before .before .before .before .before .before .before .before .before .before .count .ensures) (c .before .before .before .before .before .before .before .before .before .if3 .left) _ _ (c .before .before .before .before .before .before .before .before .match .keys4) (c .before .before .before .before .before .before .before .size-of .ensures) (c .before .before .before .before .statements .ensures)
 
--- src/lib.rt:362:1
+-- src/lib.rt:429:1
 statement-same-length-11 : (t : ℕ) → statement-lts.Need-same-length-11 (
   word-at-reads.Asked,
   word-at-reads.Learnt,
@@ -5369,7 +6125,7 @@ statement-same-length-11 : (t : ℕ) → statement-lts.Need-same-length-11 (
 ) (statement-at t) statement′.Post
 statement-same-length-11 t c = search needs
 
--- src/lib.rt:362:1
+-- src/lib.rt:429:1
 statement-same-length-12 : (t : ℕ) → statement-lts.Need-same-length-12 (
   word-at-reads.Asked,
   word-at-reads.Learnt,
@@ -5400,7 +6156,7 @@ statement-same-length-12 : (t : ℕ) → statement-lts.Need-same-length-12 (
 ) (statement-at t) statement′.Post
 statement-same-length-12 t c = search needs
 
--- src/lib.rt:362:1
+-- src/lib.rt:429:1
 statement-returns-8 : (t : ℕ) → statement-lts.Need-returns-8 (
   word-at-reads.Asked,
   word-at-reads.Learnt,
@@ -5439,7 +6195,7 @@ abbrev statements-μ-loop : statements-lts.MeasureT-loop
 statements-μ-loop program code grants texts₀ words₀ fuel a end rounds at₀ left₀ texts words at left =
     left
 
--- src/lib.rt:529:5
+-- src/lib.rt:596:5
 statements-loop-holds : (t : ℕ) → statements-lts.Need-loop-holds (
   statement-below t,
   statement′.Post,
@@ -5450,7 +6206,7 @@ statements-loop-holds : (t : ℕ) → statements-lts.Need-loop-holds (
 ) (statements-at t) statements.Post statements-Inv-loop statements-μ-loop
 statements-loop-holds t c = all-first _ _ _ _ _ _ _ _ _ (c .before .before .before .before .pre .1)
 
--- src/lib.rt:530:9
+-- src/lib.rt:597:9
 statements-sub-left : (t : ℕ) → statements-lts.Need-sub-left (
   statement-below t,
   statement′.Post,
@@ -5461,7 +6217,7 @@ statements-sub-left : (t : ℕ) → statements-lts.Need-sub-left (
 ) (statements-at t) statements.Post statements-Inv-loop statements-μ-loop
 statements-sub-left t c = search needs
 
--- src/lib.rt:532:13
+-- src/lib.rt:599:13
 statements-same-length : (t : ℕ) → statements-lts.Need-same-length (
   statement-below t,
   statement′.Post,
@@ -5472,7 +6228,7 @@ statements-same-length : (t : ℕ) → statements-lts.Need-same-length (
 ) (statements-at t) statements.Post statements-Inv-loop statements-μ-loop
 statements-same-length t c = search needs
 
--- src/lib.rt:532:13
+-- src/lib.rt:599:13
 statements-same-length-2 : (t : ℕ) → statements-lts.Need-same-length-2 (
   statement-below t,
   statement′.Post,
@@ -5483,7 +6239,7 @@ statements-same-length-2 : (t : ℕ) → statements-lts.Need-same-length-2 (
 ) (statements-at t) statements.Post statements-Inv-loop statements-μ-loop
 statements-same-length-2 t c = search needs
 
--- src/lib.rt:532:13
+-- src/lib.rt:599:13
 statements-returns : (t : ℕ) → statements-lts.Need-returns (
   statement-below t,
   statement′.Post,
@@ -5494,7 +6250,7 @@ statements-returns : (t : ℕ) → statements-lts.Need-returns (
 ) (statements-at t) statements.Post statements-Inv-loop statements-μ-loop
 statements-returns t c = all-done _ _ _ _ _ _ _ _ _ _ _ _ _ (c .before .before .loop .inv) (c .before .loop-test .taken) (c .if1 .taken)
 
--- src/lib.rt:534:15
+-- src/lib.rt:601:15
 statements-statement-requires : (t : ℕ) → statements-lts.Need-statement-requires (
   statement-below t,
   statement′.Post,
@@ -5515,7 +6271,7 @@ statements-enum-told : (t : ℕ) → statements-lts.Need-enum-told (
 ) (statements-at t) statements.Post statements-Inv-loop statements-μ-loop
 statements-enum-told t c = search needs
 
--- src/lib.rt:536:28
+-- src/lib.rt:603:28
 statements-enum-known-v : (t : ℕ) → statements-lts.Need-enum-known-v (
   statement-below t,
   statement′.Post,
@@ -5526,7 +6282,7 @@ statements-enum-known-v : (t : ℕ) → statements-lts.Need-enum-known-v (
 ) (statements-at t) statements.Post statements-Inv-loop statements-μ-loop
 statements-enum-known-v t c = search needs
 
--- src/lib.rt:536:34
+-- src/lib.rt:603:34
 statements-same-length-3 : (t : ℕ) → statements-lts.Need-same-length-3 (
   statement-below t,
   statement′.Post,
@@ -5537,7 +6293,7 @@ statements-same-length-3 : (t : ℕ) → statements-lts.Need-same-length-3 (
 ) (statements-at t) statements.Post statements-Inv-loop statements-μ-loop
 statements-same-length-3 t c = search needs
 
--- src/lib.rt:536:34
+-- src/lib.rt:603:34
 statements-same-length-4 : (t : ℕ) → statements-lts.Need-same-length-4 (
   statement-below t,
   statement′.Post,
@@ -5548,7 +6304,7 @@ statements-same-length-4 : (t : ℕ) → statements-lts.Need-same-length-4 (
 ) (statements-at t) statements.Post statements-Inv-loop statements-μ-loop
 statements-same-length-4 t c = search needs
 
--- src/lib.rt:536:34
+-- src/lib.rt:603:34
 statements-returns-2 : (t : ℕ) → statements-lts.Need-returns-2 (
   statement-below t,
   statement′.Post,
@@ -5559,7 +6315,7 @@ statements-returns-2 : (t : ℕ) → statements-lts.Need-returns-2 (
 ) (statements-at t) statements.Post statements-Inv-loop statements-μ-loop
 statements-returns-2 t c = all-returns _ _ _ _ _ _ _ _ _ _ _ _ _ (c .before .before .before .before .before .before .before .before .before .before .before .before .loop .inv) (c .before .before .before .before .before .before .before .before .before .before .before .loop-test .taken) (c .before .before .before .before .before .before .before .before .before .before .if1 .left) _ _ _ (c .before .before .before .before .before .before .before .statement .ensures) _ (c .before .v .given .1)
 
--- src/lib.rt:537:27
+-- src/lib.rt:604:27
 statements-enum-known-n : (t : ℕ) → statements-lts.Need-enum-known-n (
   statement-below t,
   statement′.Post,
@@ -5570,7 +6326,7 @@ statements-enum-known-n : (t : ℕ) → statements-lts.Need-enum-known-n (
 ) (statements-at t) statements.Post statements-Inv-loop statements-μ-loop
 statements-enum-known-n t c = search needs
 
--- src/lib.rt:537:36
+-- src/lib.rt:604:36
 statements-same-length-5 : (t : ℕ) → statements-lts.Need-same-length-5 (
   statement-below t,
   statement′.Post,
@@ -5581,7 +6337,7 @@ statements-same-length-5 : (t : ℕ) → statements-lts.Need-same-length-5 (
 ) (statements-at t) statements.Post statements-Inv-loop statements-μ-loop
 statements-same-length-5 t c = search needs
 
--- src/lib.rt:537:36
+-- src/lib.rt:604:36
 statements-same-length-6 : (t : ℕ) → statements-lts.Need-same-length-6 (
   statement-below t,
   statement′.Post,
@@ -5592,7 +6348,7 @@ statements-same-length-6 : (t : ℕ) → statements-lts.Need-same-length-6 (
 ) (statements-at t) statements.Post statements-Inv-loop statements-μ-loop
 statements-same-length-6 t c = search needs
 
--- src/lib.rt:537:36
+-- src/lib.rt:604:36
 statements-returns-3 : (t : ℕ) → statements-lts.Need-returns-3 (
   statement-below t,
   statement′.Post,
@@ -5603,7 +6359,7 @@ statements-returns-3 : (t : ℕ) → statements-lts.Need-returns-3 (
 ) (statements-at t) statements.Post statements-Inv-loop statements-μ-loop
 statements-returns-3 t c = all-fails _ _ _ _ _ _ _ _ _ _ _ _ _ (c .before .before .before .before .before .before .before .before .before .before .before .before .loop .inv) (c .before .before .before .before .before .before .before .before .before .before .before .loop-test .taken) (c .before .before .before .before .before .before .before .before .before .before .if1 .left) _ _ _ (c .before .before .before .before .before .before .before .statement .ensures) _ _ (c .before .n .given .1)
 
--- src/lib.rt:539:29
+-- src/lib.rt:606:29
 statements-word-at-requires : (t : ℕ) → statements-lts.Need-word-at-requires (
   statement-below t,
   statement′.Post,
@@ -5614,7 +6370,7 @@ statements-word-at-requires : (t : ℕ) → statements-lts.Need-word-at-requires
 ) (statements-at t) statements.Post statements-Inv-loop statements-μ-loop
 statements-word-at-requires t c κs = search needs
 
--- src/lib.rt:539:15
+-- src/lib.rt:606:15
 statements-size-of-requires : (t : ℕ) → statements-lts.Need-size-of-requires (
   statement-below t,
   statement′.Post,
@@ -5625,7 +6381,7 @@ statements-size-of-requires : (t : ℕ) → statements-lts.Need-size-of-requires
 ) (statements-at t) statements.Post statements-Inv-loop statements-μ-loop
 statements-size-of-requires t c κs = search needs
 
--- src/lib.rt:539:9
+-- src/lib.rt:606:9
 statements-add-at : (t : ℕ) → statements-lts.Need-add-at (
   statement-below t,
   statement′.Post,
@@ -5636,7 +6392,7 @@ statements-add-at : (t : ℕ) → statements-lts.Need-add-at (
 ) (statements-at t) statements.Post statements-Inv-loop statements-μ-loop
 statements-add-at t c = omega (arith, c .before .before .before .before .before .before .before .before .before .before .before .before .before .before .before .before .before .before .pre .1 .room, c .before .before .before .before .before .before .before .before .before .before .before .if1 .left, c .size-of .ensures)
 
--- src/lib.rt:529:5
+-- src/lib.rt:596:5
 statements-loop-less : (t : ℕ) → statements-lts.Need-loop-less (
   statement-below t,
   statement′.Post,
@@ -5647,7 +6403,7 @@ statements-loop-less : (t : ℕ) → statements-lts.Need-loop-less (
 ) (statements-at t) statements.Post statements-Inv-loop statements-μ-loop
 statements-loop-less t c = omega arith
 
--- src/lib.rt:529:5
+-- src/lib.rt:596:5
 statements-loop-again : (t : ℕ) → statements-lts.Need-loop-again (
   statement-below t,
   statement′.Post,
@@ -5658,7 +6414,7 @@ statements-loop-again : (t : ℕ) → statements-lts.Need-loop-again (
 ) (statements-at t) statements.Post statements-Inv-loop statements-μ-loop
 statements-loop-again t c = all-again _ _ _ _ _ _ _ _ _ _ _ _ _ (c .before .before .before .before .before .before .before .before .before .before .before .before .before .loop .inv) (c .before .before .before .before .before .before .before .before .before .before .before .before .loop-test .taken) (c .before .before .before .before .before .before .before .before .before .before .before .if1 .left) _ _ _ (c .before .before .before .before .before .before .before .before .statement .ensures) _ _ (let a0 = c .before .before .before .before .before .before .before .texts in omega arith) (let a0 = c .before .before .before .before .before .words in omega arith) (c .before .before .enum-told .given .1) (c .before .word-at .ensures) (c .size-of .ensures)
 
--- src/lib.rt:512:1
+-- src/lib.rt:579:1
 statements-same-length-7 : (t : ℕ) → statements-lts.Need-same-length-7 (
   statement-below t,
   statement′.Post,
@@ -5669,7 +6425,7 @@ statements-same-length-7 : (t : ℕ) → statements-lts.Need-same-length-7 (
 ) (statements-at t) statements.Post statements-Inv-loop statements-μ-loop
 statements-same-length-7 t c = search needs
 
--- src/lib.rt:512:1
+-- src/lib.rt:579:1
 statements-same-length-8 : (t : ℕ) → statements-lts.Need-same-length-8 (
   statement-below t,
   statement′.Post,
@@ -5680,7 +6436,7 @@ statements-same-length-8 : (t : ℕ) → statements-lts.Need-same-length-8 (
 ) (statements-at t) statements.Post statements-Inv-loop statements-μ-loop
 statements-same-length-8 t c = search needs
 
--- src/lib.rt:512:1
+-- src/lib.rt:579:1
 statements-returns-4 : (t : ℕ) → statements-lts.Need-returns-4 (
   statement-below t,
   statement′.Post,
@@ -5691,7 +6447,7 @@ statements-returns-4 : (t : ℕ) → statements-lts.Need-returns-4 (
 ) (statements-at t) statements.Post statements-Inv-loop statements-μ-loop
 statements-returns-4 t c = all-short _ _ _ _ _ _ _ _ _ _ _ _ _ (c .before .loop .inv) (omega arith)
 
--- src/lib.rt:349:16
+-- src/lib.rt:416:16
 test-sub-code : (t : ℕ) → test-lts.Need-sub-code (
   fast-value-reads.Asked,
   fast-value-reads.Learnt,
@@ -5704,7 +6460,7 @@ test-sub-code : (t : ℕ) → test-lts.Need-sub-code (
 ) (test-at t) test.Post
 test-sub-code t c = search needs
 
--- src/lib.rt:349:16
+-- src/lib.rt:416:16
 test-part-code-start : (t : ℕ) → test-lts.Need-part-code-start (
   fast-value-reads.Asked,
   fast-value-reads.Learnt,
@@ -5717,7 +6473,7 @@ test-part-code-start : (t : ℕ) → test-lts.Need-part-code-start (
 ) (test-at t) test.Post
 test-part-code-start t c = search needs
 
--- src/lib.rt:349:16
+-- src/lib.rt:416:16
 test-part-code-end : (t : ℕ) → test-lts.Need-part-code-end (
   fast-value-reads.Asked,
   fast-value-reads.Learnt,
@@ -5730,7 +6486,7 @@ test-part-code-end : (t : ℕ) → test-lts.Need-part-code-end (
 ) (test-at t) test.Post
 test-part-code-end t c = search needs
 
--- src/lib.rt:350:9
+-- src/lib.rt:417:9
 test-fast-value-requires : (t : ℕ) → test-lts.Need-fast-value-requires (
   fast-value-reads.Asked,
   fast-value-reads.Learnt,
@@ -5743,7 +6499,7 @@ test-fast-value-requires : (t : ℕ) → test-lts.Need-fast-value-requires (
 ) (test-at t) test.Post
 test-fast-value-requires t c κs = omega (arith, c .before .before .before .before .before .before .pre .1 .lent .room .words)
 
--- src/lib.rt:352:9
+-- src/lib.rt:419:9
 test-outcome-of-requires : (t : ℕ) → test-lts.Need-outcome-of-requires (
   fast-value-reads.Asked,
   fast-value-reads.Learnt,
@@ -5756,7 +6512,7 @@ test-outcome-of-requires : (t : ℕ) → test-lts.Need-outcome-of-requires (
 ) (test-at t) test.Post
 test-outcome-of-requires t c κs = search needs
 
--- src/lib.rt:352:9
+-- src/lib.rt:419:9
 test-same-length : (t : ℕ) → test-lts.Need-same-length (
   fast-value-reads.Asked,
   fast-value-reads.Learnt,
@@ -5769,7 +6525,7 @@ test-same-length : (t : ℕ) → test-lts.Need-same-length (
 ) (test-at t) test.Post
 test-same-length t c = search needs
 
--- src/lib.rt:352:9
+-- src/lib.rt:419:9
 test-returns : (t : ℕ) → test-lts.Need-returns (
   fast-value-reads.Asked,
   fast-value-reads.Learnt,
@@ -5782,7 +6538,7 @@ test-returns : (t : ℕ) → test-lts.Need-returns (
 ) (test-at t) test.Post
 test-returns t c = test-fast _ _ _ _ _ _ _ _ _ _ (worked-anew _ _ _ _ _ _ _ (c .before .before .before .before .fast-value .ensures)) (c .before .before .before .before .before .before .before .before .before .before .before .pre .1) (c .before .if1 .taken) _ (c .outcome-of .ensures)
 
--- src/lib.rt:354:11
+-- src/lib.rt:421:11
 test-expression-requires : (t : ℕ) → test-lts.Need-expression-requires (
   fast-value-reads.Asked,
   fast-value-reads.Learnt,
@@ -5795,7 +6551,7 @@ test-expression-requires : (t : ℕ) → test-lts.Need-expression-requires (
 ) (test-at t) test.Post
 test-expression-requires t c κs = (omega arith, slow-lent _ _ _ _ _ _ _ _ (c .before .before .before .before .before .fast-value .ensures) (c .before .before .if1 .left) (c .before .before .before .before .before .before .before .before .before .before .before .before .pre .1))
 
--- src/lib.rt:355:22
+-- src/lib.rt:422:22
 test-enum-known-v : (t : ℕ) → test-lts.Need-enum-known-v (
   fast-value-reads.Asked,
   fast-value-reads.Learnt,
@@ -5808,7 +6564,7 @@ test-enum-known-v : (t : ℕ) → test-lts.Need-enum-known-v (
 ) (test-at t) test.Post
 test-enum-known-v t c = search needs
 
--- src/lib.rt:355:48
+-- src/lib.rt:422:48
 test-pack-requires : (t : ℕ) → test-lts.Need-pack-requires (
   fast-value-reads.Asked,
   fast-value-reads.Learnt,
@@ -5821,7 +6577,7 @@ test-pack-requires : (t : ℕ) → test-lts.Need-pack-requires (
 ) (test-at t) test.Post
 test-pack-requires t c κs = search needs
 
--- src/lib.rt:355:28
+-- src/lib.rt:422:28
 test-outcome-of-requires-2 : (t : ℕ) → test-lts.Need-outcome-of-requires-2 (
   fast-value-reads.Asked,
   fast-value-reads.Learnt,
@@ -5834,7 +6590,7 @@ test-outcome-of-requires-2 : (t : ℕ) → test-lts.Need-outcome-of-requires-2 (
 ) (test-at t) test.Post
 test-outcome-of-requires-2 t c κs = search needs
 
--- src/lib.rt:356:21
+-- src/lib.rt:423:21
 test-enum-known-n : (t : ℕ) → test-lts.Need-enum-known-n (
   fast-value-reads.Asked,
   fast-value-reads.Learnt,
@@ -5847,7 +6603,7 @@ test-enum-known-n : (t : ℕ) → test-lts.Need-enum-known-n (
 ) (test-at t) test.Post
 test-enum-known-n t c = search needs
 
--- src/lib.rt:335:1
+-- src/lib.rt:402:1
 test-same-length-2 : (t : ℕ) → test-lts.Need-same-length-2 (
   fast-value-reads.Asked,
   fast-value-reads.Learnt,
@@ -5860,7 +6616,7 @@ test-same-length-2 : (t : ℕ) → test-lts.Need-same-length-2 (
 ) (test-at t) test.Post
 test-same-length-2 t c = search needs
 
--- src/lib.rt:335:1
+-- src/lib.rt:402:1
 test-same-length-3 : (t : ℕ) → test-lts.Need-same-length-3 (
   fast-value-reads.Asked,
   fast-value-reads.Learnt,
@@ -5873,7 +6629,7 @@ test-same-length-3 : (t : ℕ) → test-lts.Need-same-length-3 (
 ) (test-at t) test.Post
 test-same-length-3 t c = search needs
 
--- src/lib.rt:335:1
+-- src/lib.rt:402:1
 test-returns-2 : (t : ℕ) → test-lts.Need-returns-2 (
   fast-value-reads.Asked,
   fast-value-reads.Learnt,
@@ -5886,7 +6642,7 @@ test-returns-2 : (t : ℕ) → test-lts.Need-returns-2 (
 ) (test-at t) test.Post
 test-returns-2 t c = test-says _ _ _ _ _ _ _ _ _ _ (worked-anew _ _ _ _ _ _ _ (c .before .before .before .before .before .before .before .before .before .before .before .before .before .before .before .fast-value .ensures)) (c .before .before .before .before .before .before .before .before .before .before .before .before .if1 .left) _ _ _ (evaluated-anew _ _ _ _ _ _ _ _ (c .before .before .before .before .before .before .before .before .before .expression .ensures)) _ _ _ (c .before .before .before .v .given .1) (c .before .pack .ensures) (c .outcome-of2 .ensures)
 
--- src/lib.rt:335:1
+-- src/lib.rt:402:1
 test-same-length-4 : (t : ℕ) → test-lts.Need-same-length-4 (
   fast-value-reads.Asked,
   fast-value-reads.Learnt,
@@ -5899,7 +6655,7 @@ test-same-length-4 : (t : ℕ) → test-lts.Need-same-length-4 (
 ) (test-at t) test.Post
 test-same-length-4 t c = search needs
 
--- src/lib.rt:335:1
+-- src/lib.rt:402:1
 test-same-length-5 : (t : ℕ) → test-lts.Need-same-length-5 (
   fast-value-reads.Asked,
   fast-value-reads.Learnt,
@@ -5912,7 +6668,7 @@ test-same-length-5 : (t : ℕ) → test-lts.Need-same-length-5 (
 ) (test-at t) test.Post
 test-same-length-5 t c = search needs
 
--- src/lib.rt:335:1
+-- src/lib.rt:402:1
 test-returns-3 : (t : ℕ) → test-lts.Need-returns-3 (
   fast-value-reads.Asked,
   fast-value-reads.Learnt,
@@ -5925,7 +6681,7 @@ test-returns-3 : (t : ℕ) → test-lts.Need-returns-3 (
 ) (test-at t) test.Post
 test-returns-3 t c = test-refused _ _ _ _ _ _ _ _ _ _ (worked-anew _ _ _ _ _ _ _ (c .before .before .before .before .before .before .before .before .before .before .before .before .before .fast-value .ensures)) (c .before .before .before .before .before .before .before .before .before .before .if1 .left) _ _ _ (evaluated-anew _ _ _ _ _ _ _ _ (c .before .before .before .before .before .before .before .expression .ensures)) _ _ (c .before .n .given .1)
 
--- src/lib.rt:301:26
+-- src/lib.rt:368:26
 update-word-at-requires : (t : ℕ) → update-lts.Need-word-at-requires (
   word-at-reads.Asked,
   word-at-reads.Learnt,
@@ -5940,7 +6696,7 @@ update-word-at-requires : (t : ℕ) → update-lts.Need-word-at-requires (
 ) (update-at t) update.Post
 update-word-at-requires t c κs = search needs
 
--- src/lib.rt:301:9
+-- src/lib.rt:368:9
 update-before-requires : (t : ℕ) → update-lts.Need-before-requires (
   word-at-reads.Asked,
   word-at-reads.Learnt,
@@ -5955,7 +6711,7 @@ update-before-requires : (t : ℕ) → update-lts.Need-before-requires (
 ) (update-at t) update.Post
 update-before-requires t c κs = search needs
 
--- src/lib.rt:302:26
+-- src/lib.rt:369:26
 update-word-at-requires-2 : (t : ℕ) → update-lts.Need-word-at-requires-2 (
   word-at-reads.Asked,
   word-at-reads.Learnt,
@@ -5970,7 +6726,7 @@ update-word-at-requires-2 : (t : ℕ) → update-lts.Need-word-at-requires-2 (
 ) (update-at t) update.Post
 update-word-at-requires-2 t c κs = search needs
 
--- src/lib.rt:302:9
+-- src/lib.rt:369:9
 update-before-requires-2 : (t : ℕ) → update-lts.Need-before-requires-2 (
   word-at-reads.Asked,
   word-at-reads.Learnt,
@@ -5985,7 +6741,7 @@ update-before-requires-2 : (t : ℕ) → update-lts.Need-before-requires-2 (
 ) (update-at t) update.Post
 update-before-requires-2 t c κs = search needs
 
--- src/lib.rt:303:11
+-- src/lib.rt:370:11
 update-expression-requires : (t : ℕ) → update-lts.Need-expression-requires (
   word-at-reads.Asked,
   word-at-reads.Learnt,
@@ -6000,7 +6756,7 @@ update-expression-requires : (t : ℕ) → update-lts.Need-expression-requires (
 ) (update-at t) update.Post
 update-expression-requires t c κs = (omega arith, c .before .before .before .before .before .before .before .before .before .before .pre .1)
 
--- src/lib.rt:304:22
+-- src/lib.rt:371:22
 update-enum-known-v : (t : ℕ) → update-lts.Need-enum-known-v (
   word-at-reads.Asked,
   word-at-reads.Learnt,
@@ -6015,7 +6771,7 @@ update-enum-known-v : (t : ℕ) → update-lts.Need-enum-known-v (
 ) (update-at t) update.Post
 update-enum-known-v t c = search needs
 
--- src/lib.rt:305:26
+-- src/lib.rt:372:26
 update-enum-known-v-2 : (t : ℕ) → update-lts.Need-enum-known-v-2 (
   word-at-reads.Asked,
   word-at-reads.Learnt,
@@ -6030,7 +6786,7 @@ update-enum-known-v-2 : (t : ℕ) → update-lts.Need-enum-known-v-2 (
 ) (update-at t) update.Post
 update-enum-known-v-2 t c = search needs
 
--- src/lib.rt:305:38
+-- src/lib.rt:372:38
 update-expression-requires-2 : (t : ℕ) → update-lts.Need-expression-requires-2 (
   word-at-reads.Asked,
   word-at-reads.Learnt,
@@ -6045,7 +6801,7 @@ update-expression-requires-2 : (t : ℕ) → update-lts.Need-expression-requires
 ) (update-at t) update.Post
 update-expression-requires-2 t c κs = (omega arith, still-lent _ _ _ _ _ (let a0 = c .before .before .before .before .before .before .before .before .before .before .before .texts in omega arith) (let a0 = c .before .before .before .before .before .before .before .before .before .words in omega arith) _ (c .before .before .before .before .before .before .before .before .before .before .before .before .before .before .before .before .before .before .before .before .before .before .before .pre .1))
 
--- src/lib.rt:306:30
+-- src/lib.rt:373:30
 update-enum-known-u : (t : ℕ) → update-lts.Need-enum-known-u (
   word-at-reads.Asked,
   word-at-reads.Learnt,
@@ -6060,7 +6816,7 @@ update-enum-known-u : (t : ℕ) → update-lts.Need-enum-known-u (
 ) (update-at t) update.Post
 update-enum-known-u t c = search needs
 
--- src/lib.rt:307:25
+-- src/lib.rt:374:25
 update-pack-requires : (t : ℕ) → update-lts.Need-pack-requires (
   word-at-reads.Asked,
   word-at-reads.Learnt,
@@ -6075,7 +6831,7 @@ update-pack-requires : (t : ℕ) → update-lts.Need-pack-requires (
 ) (update-at t) update.Post
 update-pack-requires t c κs = search needs
 
--- src/lib.rt:308:27
+-- src/lib.rt:375:27
 update-expression-requires-3 : (t : ℕ) → update-lts.Need-expression-requires-3 (
   word-at-reads.Asked,
   word-at-reads.Learnt,
@@ -6090,7 +6846,7 @@ update-expression-requires-3 : (t : ℕ) → update-lts.Need-expression-requires
 ) (update-at t) update.Post
 update-expression-requires-3 t c κs = (omega (arith, c .before .before .before .before .before .before .before .before .before .before .before .before .before .before .before .before .before .before .before .before .before .before .before .before .before .before .before .before .before .before .before .before .before .before .pre .0), still-lent _ _ _ _ _ (let a0 = c .before .before .before .before .before .before .before .before .before .before .before .before .before .before .before .before .before .before .before .before .before .before .texts in let a1 = c .before .before .before .before .before .before .before .before .before .texts2 in omega arith) (let a0 = c .before .before .before .before .before .before .before .before .before .before .before .before .before .before .before .before .before .before .before .before .words in let a1 = c .before .before .before .before .before .before .before .words2 in omega arith) _ (c .before .before .before .before .before .before .before .before .before .before .before .before .before .before .before .before .before .before .before .before .before .before .before .before .before .before .before .before .before .before .before .before .before .before .pre .1))
 
--- src/lib.rt:309:38
+-- src/lib.rt:376:38
 update-enum-known-z : (t : ℕ) → update-lts.Need-enum-known-z (
   word-at-reads.Asked,
   word-at-reads.Learnt,
@@ -6105,7 +6861,7 @@ update-enum-known-z : (t : ℕ) → update-lts.Need-enum-known-z (
 ) (update-at t) update.Post
 update-enum-known-z t c = search needs
 
--- src/lib.rt:317:33
+-- src/lib.rt:384:33
 update-pack-requires-2 : (t : ℕ) → update-lts.Need-pack-requires-2 (
   word-at-reads.Asked,
   word-at-reads.Learnt,
@@ -6120,7 +6876,7 @@ update-pack-requires-2 : (t : ℕ) → update-lts.Need-pack-requires-2 (
 ) (update-at t) update.Post
 update-pack-requires-2 t c κs = search needs
 
--- src/lib.rt:310:33
+-- src/lib.rt:377:33
 update-store-entry-requires : (t : ℕ) → update-lts.Need-store-entry-requires (
   word-at-reads.Asked,
   word-at-reads.Learnt,
@@ -6135,7 +6891,7 @@ update-store-entry-requires : (t : ℕ) → update-lts.Need-store-entry-requires
 ) (update-at t) update.Post
 update-store-entry-requires t c κs = still-room _ _ _ _ _ (c .before .before .before .before .before .before .before .before .before .before .before .before .before .before .before .before .before .before .before .before .before .before .before .before .before .before .before .before .before .before .before .before .before .before .before .before .before .before .before .before .before .before .before .before .before .pre .1) (let a0 = c .before .before .before .before .before .before .before .before .before .before .before .before .before .before .before .before .before .before .before .before .before .before .before .before .before .before .before .before .before .before .before .words in let a1 = c .before .before .before .before .before .before .before .before .before .before .before .before .before .before .before .before .before .before .words2 in let a2 = c .before .before .before .before .before .before .before .words3 in omega arith)
 
--- src/lib.rt:319:33
+-- src/lib.rt:386:33
 update-same-length : (t : ℕ) → update-lts.Need-same-length (
   word-at-reads.Asked,
   word-at-reads.Learnt,
@@ -6150,7 +6906,7 @@ update-same-length : (t : ℕ) → update-lts.Need-same-length (
 ) (update-at t) update.Post
 update-same-length t c = let a = c .before .before .before .before .before .before .before .before .before .before .before .before .before .before .before .before .before .before .before .before .before .before .before .before .before .before .before .before .before .before .before .before .before .before .before .before .before .before .before .before .before .before .before .before .before .before .slice-known in let b = c .before .before .before .before .before .before .before .before .before .before .before .before .before .before .before .before .before .before .before .before .before .before .before .before .before .before .before .before .before .before .before .before .before .before .before .before .before .texts in let d = c .before .before .before .before .before .before .before .before .before .before .before .before .before .before .before .before .before .before .before .before .before .before .before .before .texts2 in let e = c .before .before .before .before .before .before .before .before .before .before .before .before .before .texts3 in search needs
 
--- src/lib.rt:319:33
+-- src/lib.rt:386:33
 update-same-length-2 : (t : ℕ) → update-lts.Need-same-length-2 (
   word-at-reads.Asked,
   word-at-reads.Learnt,
@@ -6165,7 +6921,7 @@ update-same-length-2 : (t : ℕ) → update-lts.Need-same-length-2 (
 ) (update-at t) update.Post
 update-same-length-2 t c = let a = c .before .before .before .before .before .before .before .before .before .before .before .before .before .before .before .before .before .before .before .before .before .before .before .before .before .before .before .before .before .before .before .before .before .before .before .before .before .before .before .before .before .before .before .before .before .slice-known2 in let b = c .before .before .before .before .before .before .before .before .before .before .before .before .before .before .before .before .before .before .before .before .before .before .before .before .before .before .before .before .before .before .before .before .before .before .before .words in let d = c .before .before .before .before .before .before .before .before .before .before .before .before .before .before .before .before .before .before .before .before .before .before .words2 in let e = c .before .before .before .before .before .before .before .before .before .before .before .words3 in let f = c .before .before .words4 in search needs
 
--- src/lib.rt:319:33
+-- src/lib.rt:386:33
 update-returns : (t : ℕ) → update-lts.Need-returns (
   word-at-reads.Asked,
   word-at-reads.Learnt,
@@ -6180,7 +6936,7 @@ update-returns : (t : ℕ) → update-lts.Need-returns (
 ) (update-at t) update.Post
 update-returns t c = update-refused _ _ _ _ _ _ _ _ _ _ _ _ (c .before .before .before .before .before .before .before .before .before .before .before .before .before .before .before .before .before .before .before .before .before .before .before .before .before .before .before .before .before .before .before .before .before .before .before .before .before .before .before .before .before .before .before .before .word-at .ensures) (c .before .before .before .before .before .before .before .before .before .before .before .before .before .before .before .before .before .before .before .before .before .before .before .before .before .before .before .before .before .before .before .before .before .before .before .before .before .before .before .before .before .before .before .before2 .ensures .0) (c .before .before .before .before .before .before .before .before .before .before .before .before .before .before .before .before .before .before .before .before .before .before .before .before .before .before .before .before .before .before .before .before .before .before .before .before .before .before .before .before .before .before .word-at2 .ensures) (c .before .before .before .before .before .before .before .before .before .before .before .before .before .before .before .before .before .before .before .before .before .before .before .before .before .before .before .before .before .before .before .before .before .before .before .before .before .before .before .before .before .before3 .ensures .0) _ _ _ (c .before .before .before .before .before .before .before .before .before .before .before .before .before .before .before .before .before .before .before .before .before .before .before .before .before .before .before .before .before .before .before .before .before .before .before .before .before .before .expression .ensures) _ _ (c .before .before .before .before .before .before .before .before .before .before .before .before .before .before .before .before .before .before .before .before .before .before .before .before .before .before .before .before .before .before .before .before .v .given .1) (c .before .before .before .before .before .before .before .before .before .before .before .before .before .before .before .before .before .before .before .before .before .before .before .before .before .before .before .before .before .v2 .given .1) _ _ _ (c .before .before .before .before .before .before .before .before .before .before .before .before .before .before .before .before .before .before .before .before .before .before .before .before .before .expression2 .ensures) _ _ (c .before .before .before .before .before .before .before .before .before .before .before .before .before .before .before .before .before .before .before .u .given .1) (c .before .before .before .before .before .before .before .before .before .before .before .before .before .before .before .before .before .pack .ensures) _ _ _ (c .before .before .before .before .before .before .before .before .before .before .before .before .before .before .expression3 .ensures) _ _ (c .before .before .before .before .before .before .before .before .z .given .1) (c .before .before .before .before .pack2 .ensures) _ _ (c .before .before .before .store-entry .ensures) (c .if1 .taken)
 
--- src/lib.rt:323:37
+-- src/lib.rt:390:37
 update-enum-known-n : (t : ℕ) → update-lts.Need-enum-known-n (
   word-at-reads.Asked,
   word-at-reads.Learnt,
@@ -6195,7 +6951,7 @@ update-enum-known-n : (t : ℕ) → update-lts.Need-enum-known-n (
 ) (update-at t) update.Post
 update-enum-known-n t c = search needs
 
--- src/lib.rt:326:29
+-- src/lib.rt:393:29
 update-enum-known-n-2 : (t : ℕ) → update-lts.Need-enum-known-n-2 (
   word-at-reads.Asked,
   word-at-reads.Learnt,
@@ -6210,7 +6966,7 @@ update-enum-known-n-2 : (t : ℕ) → update-lts.Need-enum-known-n-2 (
 ) (update-at t) update.Post
 update-enum-known-n-2 t c = search needs
 
--- src/lib.rt:330:21
+-- src/lib.rt:397:21
 update-enum-known-n-3 : (t : ℕ) → update-lts.Need-enum-known-n-3 (
   word-at-reads.Asked,
   word-at-reads.Learnt,
@@ -6225,7 +6981,7 @@ update-enum-known-n-3 : (t : ℕ) → update-lts.Need-enum-known-n-3 (
 ) (update-at t) update.Post
 update-enum-known-n-3 t c = search needs
 
--- src/lib.rt:287:1
+-- src/lib.rt:354:1
 update-same-length-3 : (t : ℕ) → update-lts.Need-same-length-3 (
   word-at-reads.Asked,
   word-at-reads.Learnt,
@@ -6240,7 +6996,7 @@ update-same-length-3 : (t : ℕ) → update-lts.Need-same-length-3 (
 ) (update-at t) update.Post
 update-same-length-3 t c = let a = c .before .before .before .before .before .before .before .before .before .before .before .before .before .before .before .before .before .before .before .before .before .before .before .before .before .before .before .before .before .before .before .before .before .before .before .before .before .before .before .before .before .before .before .before .before .before .slice-known in let b = c .before .before .before .before .before .before .before .before .before .before .before .before .before .before .before .before .before .before .before .before .before .before .before .before .before .before .before .before .before .before .before .before .before .before .before .before .before .texts in let d = c .before .before .before .before .before .before .before .before .before .before .before .before .before .before .before .before .before .before .before .before .before .before .before .before .texts2 in let e = c .before .before .before .before .before .before .before .before .before .before .before .before .before .texts3 in search needs
 
--- src/lib.rt:287:1
+-- src/lib.rt:354:1
 update-same-length-4 : (t : ℕ) → update-lts.Need-same-length-4 (
   word-at-reads.Asked,
   word-at-reads.Learnt,
@@ -6255,7 +7011,7 @@ update-same-length-4 : (t : ℕ) → update-lts.Need-same-length-4 (
 ) (update-at t) update.Post
 update-same-length-4 t c = let a = c .before .before .before .before .before .before .before .before .before .before .before .before .before .before .before .before .before .before .before .before .before .before .before .before .before .before .before .before .before .before .before .before .before .before .before .before .before .before .before .before .before .before .before .before .before .slice-known2 in let b = c .before .before .before .before .before .before .before .before .before .before .before .before .before .before .before .before .before .before .before .before .before .before .before .before .before .before .before .before .before .before .before .before .before .before .before .words in let d = c .before .before .before .before .before .before .before .before .before .before .before .before .before .before .before .before .before .before .before .before .before .before .words2 in let e = c .before .before .before .before .before .before .before .before .before .before .before .words3 in let f = c .before .before .words4 in search needs
 
--- src/lib.rt:287:1
+-- src/lib.rt:354:1
 update-returns-2 : (t : ℕ) → update-lts.Need-returns-2 (
   word-at-reads.Asked,
   word-at-reads.Learnt,
@@ -6270,7 +7026,7 @@ update-returns-2 : (t : ℕ) → update-lts.Need-returns-2 (
 ) (update-at t) update.Post
 update-returns-2 t c = update-done _ _ _ _ _ _ _ _ _ _ _ _ (c .before .before .before .before .before .before .before .before .before .before .before .before .before .before .before .before .before .before .before .before .before .before .before .before .before .before .before .before .before .before .before .before .before .before .before .before .before .before .before .before .before .before .before .before .word-at .ensures) (c .before .before .before .before .before .before .before .before .before .before .before .before .before .before .before .before .before .before .before .before .before .before .before .before .before .before .before .before .before .before .before .before .before .before .before .before .before .before .before .before .before .before .before .before2 .ensures .0) (c .before .before .before .before .before .before .before .before .before .before .before .before .before .before .before .before .before .before .before .before .before .before .before .before .before .before .before .before .before .before .before .before .before .before .before .before .before .before .before .before .before .before .word-at2 .ensures) (c .before .before .before .before .before .before .before .before .before .before .before .before .before .before .before .before .before .before .before .before .before .before .before .before .before .before .before .before .before .before .before .before .before .before .before .before .before .before .before .before .before .before3 .ensures .0) _ _ _ (c .before .before .before .before .before .before .before .before .before .before .before .before .before .before .before .before .before .before .before .before .before .before .before .before .before .before .before .before .before .before .before .before .before .before .before .before .before .before .expression .ensures) _ _ (c .before .before .before .before .before .before .before .before .before .before .before .before .before .before .before .before .before .before .before .before .before .before .before .before .before .before .before .before .before .before .before .before .v .given .1) (c .before .before .before .before .before .before .before .before .before .before .before .before .before .before .before .before .before .before .before .before .before .before .before .before .before .before .before .before .before .v2 .given .1) _ _ _ (c .before .before .before .before .before .before .before .before .before .before .before .before .before .before .before .before .before .before .before .before .before .before .before .before .before .expression2 .ensures) _ _ (c .before .before .before .before .before .before .before .before .before .before .before .before .before .before .before .before .before .before .before .u .given .1) (c .before .before .before .before .before .before .before .before .before .before .before .before .before .before .before .before .before .pack .ensures) _ _ _ (c .before .before .before .before .before .before .before .before .before .before .before .before .before .before .expression3 .ensures) _ _ (c .before .before .before .before .before .before .before .before .z .given .1) (c .before .before .before .before .pack2 .ensures) _ _ (c .before .before .before .store-entry .ensures) (c .if1 .left)
 
--- src/lib.rt:287:1
+-- src/lib.rt:354:1
 update-same-length-5 : (t : ℕ) → update-lts.Need-same-length-5 (
   word-at-reads.Asked,
   word-at-reads.Learnt,
@@ -6285,7 +7041,7 @@ update-same-length-5 : (t : ℕ) → update-lts.Need-same-length-5 (
 ) (update-at t) update.Post
 update-same-length-5 t c = let a = c .before .before .before .before .before .before .before .before .before .before .before .before .before .before .before .before .before .before .before .before .before .before .before .before .before .before .before .before .before .before .before .before .before .before .before .before .before .before .before .slice-known in let b = c .before .before .before .before .before .before .before .before .before .before .before .before .before .before .before .before .before .before .before .before .before .before .before .before .before .before .before .before .before .before .texts in let d = c .before .before .before .before .before .before .before .before .before .before .before .before .before .before .before .before .before .texts2 in let e = c .before .before .before .before .before .before .texts3 in search needs
 
--- src/lib.rt:287:1
+-- src/lib.rt:354:1
 update-same-length-6 : (t : ℕ) → update-lts.Need-same-length-6 (
   word-at-reads.Asked,
   word-at-reads.Learnt,
@@ -6300,7 +7056,7 @@ update-same-length-6 : (t : ℕ) → update-lts.Need-same-length-6 (
 ) (update-at t) update.Post
 update-same-length-6 t c = let a = c .before .before .before .before .before .before .before .before .before .before .before .before .before .before .before .before .before .before .before .before .before .before .before .before .before .before .before .before .before .before .before .before .before .before .before .before .before .before .slice-known2 in let b = c .before .before .before .before .before .before .before .before .before .before .before .before .before .before .before .before .before .before .before .before .before .before .before .before .before .before .before .before .words in let d = c .before .before .before .before .before .before .before .before .before .before .before .before .before .before .before .words2 in let e = c .before .before .before .before .words3 in search needs
 
--- src/lib.rt:287:1
+-- src/lib.rt:354:1
 update-returns-3 : (t : ℕ) → update-lts.Need-returns-3 (
   word-at-reads.Asked,
   word-at-reads.Learnt,
@@ -6315,7 +7071,7 @@ update-returns-3 : (t : ℕ) → update-lts.Need-returns-3 (
 ) (update-at t) update.Post
 update-returns-3 t c = value-stops _ _ _ _ _ _ _ _ _ _ _ _ (c .before .before .before .before .before .before .before .before .before .before .before .before .before .before .before .before .before .before .before .before .before .before .before .before .before .before .before .before .before .before .before .before .before .before .before .before .before .word-at .ensures) (c .before .before .before .before .before .before .before .before .before .before .before .before .before .before .before .before .before .before .before .before .before .before .before .before .before .before .before .before .before .before .before .before .before .before .before .before .before2 .ensures .0) (c .before .before .before .before .before .before .before .before .before .before .before .before .before .before .before .before .before .before .before .before .before .before .before .before .before .before .before .before .before .before .before .before .before .before .before .word-at2 .ensures) (c .before .before .before .before .before .before .before .before .before .before .before .before .before .before .before .before .before .before .before .before .before .before .before .before .before .before .before .before .before .before .before .before .before .before .before3 .ensures .0) _ _ _ (c .before .before .before .before .before .before .before .before .before .before .before .before .before .before .before .before .before .before .before .before .before .before .before .before .before .before .before .before .before .before .before .expression .ensures) _ _ (c .before .before .before .before .before .before .before .before .before .before .before .before .before .before .before .before .before .before .before .before .before .before .before .before .before .v .given .1) (c .before .before .before .before .before .before .before .before .before .before .before .before .before .before .before .before .before .before .before .before .before .before .v2 .given .1) _ _ _ (c .before .before .before .before .before .before .before .before .before .before .before .before .before .before .before .before .before .before .expression2 .ensures) _ _ (c .before .before .before .before .before .before .before .before .before .before .before .before .u .given .1) (c .before .before .before .before .before .before .before .before .before .before .pack .ensures) _ _ _ (c .before .before .before .before .before .before .before .expression3 .ensures) _ _ (c .before .n .given .1)
 
--- src/lib.rt:287:1
+-- src/lib.rt:354:1
 update-same-length-7 : (t : ℕ) → update-lts.Need-same-length-7 (
   word-at-reads.Asked,
   word-at-reads.Learnt,
@@ -6330,7 +7086,7 @@ update-same-length-7 : (t : ℕ) → update-lts.Need-same-length-7 (
 ) (update-at t) update.Post
 update-same-length-7 t c = search needs
 
--- src/lib.rt:287:1
+-- src/lib.rt:354:1
 update-same-length-8 : (t : ℕ) → update-lts.Need-same-length-8 (
   word-at-reads.Asked,
   word-at-reads.Learnt,
@@ -6345,7 +7101,7 @@ update-same-length-8 : (t : ℕ) → update-lts.Need-same-length-8 (
 ) (update-at t) update.Post
 update-same-length-8 t c = search needs
 
--- src/lib.rt:287:1
+-- src/lib.rt:354:1
 update-returns-4 : (t : ℕ) → update-lts.Need-returns-4 (
   word-at-reads.Asked,
   word-at-reads.Learnt,
@@ -6360,7 +7116,7 @@ update-returns-4 : (t : ℕ) → update-lts.Need-returns-4 (
 ) (update-at t) update.Post
 update-returns-4 t c = key-stops _ _ _ _ _ _ _ _ _ _ _ _ (c .before .before .before .before .before .before .before .before .before .before .before .before .before .before .before .before .before .before .before .before .before .before .before .before .before .before .word-at .ensures) (c .before .before .before .before .before .before .before .before .before .before .before .before .before .before .before .before .before .before .before .before .before .before .before .before .before .before2 .ensures .0) (c .before .before .before .before .before .before .before .before .before .before .before .before .before .before .before .before .before .before .before .before .before .before .before .before .word-at2 .ensures) (c .before .before .before .before .before .before .before .before .before .before .before .before .before .before .before .before .before .before .before .before .before .before .before .before3 .ensures .0) _ _ _ (c .before .before .before .before .before .before .before .before .before .before .before .before .before .before .before .before .before .before .before .before .expression .ensures) _ _ (c .before .before .before .before .before .before .before .before .before .before .before .before .before .before .v .given .1) (c .before .before .before .before .before .before .before .before .before .before .before .v2 .given .1) _ _ _ (c .before .before .before .before .before .before .before .expression2 .ensures) _ _ (c .before .n2 .given .1)
 
--- src/lib.rt:287:1
+-- src/lib.rt:354:1
 update-same-length-9 : (t : ℕ) → update-lts.Need-same-length-9 (
   word-at-reads.Asked,
   word-at-reads.Learnt,
@@ -6375,7 +7131,7 @@ update-same-length-9 : (t : ℕ) → update-lts.Need-same-length-9 (
 ) (update-at t) update.Post
 update-same-length-9 t c = search needs
 
--- src/lib.rt:287:1
+-- src/lib.rt:354:1
 update-same-length-10 : (t : ℕ) → update-lts.Need-same-length-10 (
   word-at-reads.Asked,
   word-at-reads.Learnt,
@@ -6390,7 +7146,7 @@ update-same-length-10 : (t : ℕ) → update-lts.Need-same-length-10 (
 ) (update-at t) update.Post
 update-same-length-10 t c = search needs
 
--- src/lib.rt:287:1
+-- src/lib.rt:354:1
 update-returns-5 : (t : ℕ) → update-lts.Need-returns-5 (
   word-at-reads.Asked,
   word-at-reads.Learnt,
@@ -6405,7 +7161,7 @@ update-returns-5 : (t : ℕ) → update-lts.Need-returns-5 (
 ) (update-at t) update.Post
 update-returns-5 t c = table-other _ _ _ _ _ _ _ _ _ _ _ _ (c .before .before .before .before .before .before .before .before .before .before .before .before .before .before .word-at .ensures) (c .before .before .before .before .before .before .before .before .before .before .before .before .before .before2 .ensures .0) (c .before .before .before .before .before .before .before .before .before .before .before .before .word-at2 .ensures) (c .before .before .before .before .before .before .before .before .before .before .before .before3 .ensures .0) _ _ _ (c .before .before .before .before .before .before .before .before .expression .ensures) _ (c .before .before .v .given .1) (c .match2 .keys2)
 
--- src/lib.rt:287:1
+-- src/lib.rt:354:1
 update-same-length-11 : (t : ℕ) → update-lts.Need-same-length-11 (
   word-at-reads.Asked,
   word-at-reads.Learnt,
@@ -6420,7 +7176,7 @@ update-same-length-11 : (t : ℕ) → update-lts.Need-same-length-11 (
 ) (update-at t) update.Post
 update-same-length-11 t c = search needs
 
--- src/lib.rt:287:1
+-- src/lib.rt:354:1
 update-same-length-12 : (t : ℕ) → update-lts.Need-same-length-12 (
   word-at-reads.Asked,
   word-at-reads.Learnt,
@@ -6435,7 +7191,7 @@ update-same-length-12 : (t : ℕ) → update-lts.Need-same-length-12 (
 ) (update-at t) update.Post
 update-same-length-12 t c = search needs
 
--- src/lib.rt:287:1
+-- src/lib.rt:354:1
 update-returns-6 : (t : ℕ) → update-lts.Need-returns-6 (
   word-at-reads.Asked,
   word-at-reads.Learnt,
@@ -6450,7 +7206,7 @@ update-returns-6 : (t : ℕ) → update-lts.Need-returns-6 (
 ) (update-at t) update.Post
 update-returns-6 t c = table-stops _ _ _ _ _ _ _ _ _ _ _ _ (c .before .before .before .before .before .before .before .before .before .before .before .before .before .word-at .ensures) (c .before .before .before .before .before .before .before .before .before .before .before .before .before2 .ensures .0) (c .before .before .before .before .before .before .before .before .before .before .before .word-at2 .ensures) (c .before .before .before .before .before .before .before .before .before .before .before3 .ensures .0) _ _ _ (c .before .before .before .before .before .before .before .expression .ensures) _ _ (c .before .n3 .given .1)
 
--- src/lib.rt:465:11
+-- src/lib.rt:532:11
 when-test-requires : (t : ℕ) → when-lts.Need-test-requires (
   test-below t,
   test.Post,
@@ -6459,7 +7215,7 @@ when-test-requires : (t : ℕ) → when-lts.Need-test-requires (
 ) (when-at t) when.Post
 when-test-requires t c κs = (omega arith, c .before .before .before .before .before .before .pre .1 .lent)
 
--- src/lib.rt:466:64
+-- src/lib.rt:533:64
 when-enum-told : (t : ℕ) → when-lts.Need-enum-told (
   test-below t,
   test.Post,
@@ -6468,7 +7224,7 @@ when-enum-told : (t : ℕ) → when-lts.Need-enum-told (
 ) (when-at t) when.Post
 when-enum-told t c = search needs
 
--- src/lib.rt:466:84
+-- src/lib.rt:533:84
 when-add-statement : (t : ℕ) → when-lts.Need-add-statement (
   test-below t,
   test.Post,
@@ -6477,7 +7233,7 @@ when-add-statement : (t : ℕ) → when-lts.Need-add-statement (
 ) (when-at t) when.Post
 when-add-statement t c = omega (arith, c .before .before .before .before .before .before .before .before .before .before .before .before .before .before .before .pre .1 .room)
 
--- src/lib.rt:466:31
+-- src/lib.rt:533:31
 when-statement-requires : (t : ℕ) → when-lts.Need-statement-requires (
   test-below t,
   test.Post,
@@ -6486,7 +7242,7 @@ when-statement-requires : (t : ℕ) → when-lts.Need-statement-requires (
 ) (when-at t) when.Post
 when-statement-requires t c κs = (omega arith, still-runs _ _ _ _ _ (let a0 = c .before .before .before .before .before .before .before .texts in omega arith) (let a0 = c .before .before .before .before .before .words in omega arith) _ _ (c .before .before .before .before .before .before .before .before .before .before .before .before .before .before .before .pre .1))
 
--- src/lib.rt:467:29
+-- src/lib.rt:534:29
 when-enum-told-2 : (t : ℕ) → when-lts.Need-enum-told-2 (
   test-below t,
   test.Post,
@@ -6495,7 +7251,7 @@ when-enum-told-2 : (t : ℕ) → when-lts.Need-enum-told-2 (
 ) (when-at t) when.Post
 when-enum-told-2 t c = search needs
 
--- src/lib.rt:468:28
+-- src/lib.rt:535:28
 when-enum-known-v : (t : ℕ) → when-lts.Need-enum-known-v (
   test-below t,
   test.Post,
@@ -6504,7 +7260,7 @@ when-enum-known-v : (t : ℕ) → when-lts.Need-enum-known-v (
 ) (when-at t) when.Post
 when-enum-known-v t c = search needs
 
--- src/lib.rt:469:27
+-- src/lib.rt:536:27
 when-enum-known-n : (t : ℕ) → when-lts.Need-enum-known-n (
   test-below t,
   test.Post,
@@ -6513,7 +7269,7 @@ when-enum-known-n : (t : ℕ) → when-lts.Need-enum-known-n (
 ) (when-at t) when.Post
 when-enum-known-n t c = search needs
 
--- src/lib.rt:471:24
+-- src/lib.rt:538:24
 when-enum-told-3 : (t : ℕ) → when-lts.Need-enum-told-3 (
   test-below t,
   test.Post,
@@ -6522,7 +7278,7 @@ when-enum-told-3 : (t : ℕ) → when-lts.Need-enum-told-3 (
 ) (when-at t) when.Post
 when-enum-told-3 t c = search needs
 
--- src/lib.rt:472:26
+-- src/lib.rt:539:26
 when-enum-known-n-2 : (t : ℕ) → when-lts.Need-enum-known-n-2 (
   test-below t,
   test.Post,
@@ -6531,7 +7287,7 @@ when-enum-known-n-2 : (t : ℕ) → when-lts.Need-enum-known-n-2 (
 ) (when-at t) when.Post
 when-enum-known-n-2 t c = search needs
 
--- src/lib.rt:451:1
+-- src/lib.rt:518:1
 when-same-length : (t : ℕ) → when-lts.Need-same-length (
   test-below t,
   test.Post,
@@ -6540,7 +7296,7 @@ when-same-length : (t : ℕ) → when-lts.Need-same-length (
 ) (when-at t) when.Post
 when-same-length t c = search needs
 
--- src/lib.rt:451:1
+-- src/lib.rt:518:1
 when-same-length-2 : (t : ℕ) → when-lts.Need-same-length-2 (
   test-below t,
   test.Post,
@@ -6549,7 +7305,7 @@ when-same-length-2 : (t : ℕ) → when-lts.Need-same-length-2 (
 ) (when-at t) when.Post
 when-same-length-2 t c = search needs
 
--- src/lib.rt:451:1
+-- src/lib.rt:518:1
 when-returns : (t : ℕ) → when-lts.Need-returns (
   test-below t,
   test.Post,
@@ -6558,7 +7314,7 @@ when-returns : (t : ℕ) → when-lts.Need-returns (
 ) (when-at t) when.Post
 when-returns t c = when-holds _ _ _ _ _ _ _ _ _ _ (c .before .before .before .before .before .before .before .before .before .before .before .before .before .before .before .test .ensures) _ _ _ _ (c .before .before .before .before .before .before .before .before .before .enum-told .given .1) (c .before .before .before .before .before .before .statement .ensures) (c .enum-told2 .given .1)
 
--- src/lib.rt:451:1
+-- src/lib.rt:518:1
 when-same-length-3 : (t : ℕ) → when-lts.Need-same-length-3 (
   test-below t,
   test.Post,
@@ -6567,7 +7323,7 @@ when-same-length-3 : (t : ℕ) → when-lts.Need-same-length-3 (
 ) (when-at t) when.Post
 when-same-length-3 t c = search needs
 
--- src/lib.rt:451:1
+-- src/lib.rt:518:1
 when-same-length-4 : (t : ℕ) → when-lts.Need-same-length-4 (
   test-below t,
   test.Post,
@@ -6576,7 +7332,7 @@ when-same-length-4 : (t : ℕ) → when-lts.Need-same-length-4 (
 ) (when-at t) when.Post
 when-same-length-4 t c = search needs
 
--- src/lib.rt:451:1
+-- src/lib.rt:518:1
 when-returns-2 : (t : ℕ) → when-lts.Need-returns-2 (
   test-below t,
   test.Post,
@@ -6585,7 +7341,7 @@ when-returns-2 : (t : ℕ) → when-lts.Need-returns-2 (
 ) (when-at t) when.Post
 when-returns-2 t c = when-holds _ _ _ _ _ _ _ _ _ _ (c .before .before .before .before .before .before .before .before .before .before .before .before .before .before .before .before .test .ensures) _ _ _ _ (c .before .before .before .before .before .before .before .before .before .before .enum-told .given .1) (c .before .before .before .before .before .before .before .statement .ensures) (c .before .v .given .1)
 
--- src/lib.rt:451:1
+-- src/lib.rt:518:1
 when-same-length-5 : (t : ℕ) → when-lts.Need-same-length-5 (
   test-below t,
   test.Post,
@@ -6594,7 +7350,7 @@ when-same-length-5 : (t : ℕ) → when-lts.Need-same-length-5 (
 ) (when-at t) when.Post
 when-same-length-5 t c = search needs
 
--- src/lib.rt:451:1
+-- src/lib.rt:518:1
 when-same-length-6 : (t : ℕ) → when-lts.Need-same-length-6 (
   test-below t,
   test.Post,
@@ -6603,7 +7359,7 @@ when-same-length-6 : (t : ℕ) → when-lts.Need-same-length-6 (
 ) (when-at t) when.Post
 when-same-length-6 t c = search needs
 
--- src/lib.rt:451:1
+-- src/lib.rt:518:1
 when-returns-3 : (t : ℕ) → when-lts.Need-returns-3 (
   test-below t,
   test.Post,
@@ -6612,7 +7368,7 @@ when-returns-3 : (t : ℕ) → when-lts.Need-returns-3 (
 ) (when-at t) when.Post
 when-returns-3 t c = when-holds _ _ _ _ _ _ _ _ _ _ (c .before .before .before .before .before .before .before .before .before .before .before .before .before .before .before .before .test .ensures) _ _ _ _ (c .before .before .before .before .before .before .before .before .before .before .enum-told .given .1) (c .before .before .before .before .before .before .before .statement .ensures) (c .before .n .given .1)
 
--- src/lib.rt:451:1
+-- src/lib.rt:518:1
 when-same-length-7 : (t : ℕ) → when-lts.Need-same-length-7 (
   test-below t,
   test.Post,
@@ -6621,7 +7377,7 @@ when-same-length-7 : (t : ℕ) → when-lts.Need-same-length-7 (
 ) (when-at t) when.Post
 when-same-length-7 t c = search needs
 
--- src/lib.rt:451:1
+-- src/lib.rt:518:1
 when-same-length-8 : (t : ℕ) → when-lts.Need-same-length-8 (
   test-below t,
   test.Post,
@@ -6630,7 +7386,7 @@ when-same-length-8 : (t : ℕ) → when-lts.Need-same-length-8 (
 ) (when-at t) when.Post
 when-same-length-8 t c = search needs
 
--- src/lib.rt:451:1
+-- src/lib.rt:518:1
 when-returns-4 : (t : ℕ) → when-lts.Need-returns-4 (
   test-below t,
   test.Post,
@@ -6639,7 +7395,7 @@ when-returns-4 : (t : ℕ) → when-lts.Need-returns-4 (
 ) (when-at t) when.Post
 when-returns-4 t c = search when-not
 
--- src/lib.rt:451:1
+-- src/lib.rt:518:1
 when-same-length-9 : (t : ℕ) → when-lts.Need-same-length-9 (
   test-below t,
   test.Post,
@@ -6648,7 +7404,7 @@ when-same-length-9 : (t : ℕ) → when-lts.Need-same-length-9 (
 ) (when-at t) when.Post
 when-same-length-9 t c = search needs
 
--- src/lib.rt:451:1
+-- src/lib.rt:518:1
 when-same-length-10 : (t : ℕ) → when-lts.Need-same-length-10 (
   test-below t,
   test.Post,
@@ -6657,7 +7413,7 @@ when-same-length-10 : (t : ℕ) → when-lts.Need-same-length-10 (
 ) (when-at t) when.Post
 when-same-length-10 t c = search needs
 
--- src/lib.rt:451:1
+-- src/lib.rt:518:1
 when-returns-5 : (t : ℕ) → when-lts.Need-returns-5 (
   test-below t,
   test.Post,
@@ -6666,15 +7422,17 @@ when-returns-5 : (t : ℕ) → when-lts.Need-returns-5 (
 ) (when-at t) when.Post
 when-returns-5 t c = search when-stops
 
-pub +argument+call+expression+invoke+operands+repeat+simple+statement+statements+test+update+when-spec :
+pub +argument+call+expression+invoke+leave+operands+procedure+repeat+simple+statement+statements+test+update+when-spec :
     {M : Type 1} → statement M
-+argument+call+expression+invoke+operands+repeat+simple+statement+statements+test+update+when-spec =
++argument+call+expression+invoke+leave+operands+procedure+repeat+simple+statement+statements+test+update+when-spec =
     close
     μ-argument
     μ-call
     μ-expression
     μ-invoke
+    μ-leave
     μ-operands
+    μ-procedure
     μ-repeat
     μ-simple
     μ-statement
@@ -6824,8 +7582,8 @@ pub +argument+call+expression+invoke+operands+repeat+simple+statement+statements
       parameters-of-reads.Learnt,
       body-of-reads.Asked,
       body-of-reads.Learnt,
-      statements-below t,
-      statements.Post,
+      procedure-below t,
+      procedure.Post,
       resume-reads.Asked,
       resume-reads.Learnt,
     )
@@ -6845,23 +7603,59 @@ pub +argument+call+expression+invoke+operands+repeat+simple+statement+statements
     (invoke-parameters-of-requires t)
     (invoke-add-a t)
     (invoke-body-of-requires t)
-    (invoke-add-statements t)
-    (invoke-add-statements-2 t)
-    (invoke-statements-requires t)
-    (invoke-enum-told-2 t)
-    (invoke-resume-requires t)
+    (invoke-add-procedure t)
+    (invoke-add-procedure-2 t)
+    (invoke-procedure-requires t)
     (invoke-enum-known-v t)
-    (invoke-resume-requires-2 t)
+    (invoke-resume-requires t)
     (invoke-enum-known-k-2 t)
     (invoke-same-length-2 t)
     (invoke-same-length-3 t)
     (invoke-returns-2 t)
     (invoke-same-length-4 t)
     (invoke-same-length-5 t)
-    (invoke-returns-3 t)
-    (invoke-same-length-6 t)
-    (invoke-same-length-7 t)
-    (invoke-returns-4 t))
+    (invoke-returns-3 t))
+    (λ t. leave-lts.spec (
+      place-of-reads.Asked,
+      place-of-reads.Learnt,
+      count-reads.Asked,
+      count-reads.Learnt,
+      last-of-reads.Asked,
+      last-of-reads.Learnt,
+      fast-value-reads.Asked,
+      fast-value-reads.Learnt,
+      unpack-reads.Asked,
+      unpack-reads.Learnt,
+      expression-below t,
+      expression.Post,
+      pack-reads.Asked,
+      pack-reads.Learnt,
+    )
+    (leave-at t)
+    leave.Post
+    (leave-returns t)
+    (leave-place-of-requires t)
+    (leave-count-requires t)
+    (leave-same-length t)
+    (leave-returns-2 t)
+    (leave-last-of-requires t)
+    (leave-sub-fast-value t)
+    (leave-fast-value-requires t)
+    (leave-unpack-requires t)
+    (leave-same-length-2 t)
+    (leave-returns-3 t)
+    (leave-sub-expression t)
+    (leave-expression-requires t)
+    (leave-enum-known-v t)
+    (leave-pack-requires t)
+    (leave-unpack-requires-2 t)
+    (leave-enum-known-n t)
+    (leave-same-length-3 t)
+    (leave-same-length-4 t)
+    (leave-returns-4 t)
+    (leave-same-length-5 t)
+    (leave-same-length-6 t)
+    (leave-returns-5 t))
     (λ t. operands-lts.spec (
       left-of-reads.Asked,
       left-of-reads.Learnt,
@@ -6911,6 +7705,50 @@ pub +argument+call+expression+invoke+operands+repeat+simple+statement+statements
     (operands-same-length-9 t)
     (operands-same-length-10 t)
     (operands-returns-5 t))
+    (λ t. procedure-lts.spec (
+      word-at-reads.Asked,
+      word-at-reads.Learnt,
+      tag-of-reads.Asked,
+      tag-of-reads.Learnt,
+      leave-below t,
+      leave.Post,
+      statement-below t,
+      statement′.Post,
+      size-of-reads.Asked,
+      size-of-reads.Learnt,
+    )
+    (procedure-at t)
+    procedure.Post
+    procedure-Inv-loop
+    procedure-μ-loop
+    (procedure-loop-holds t)
+    (procedure-sub-left t)
+    (procedure-same-length t)
+    (procedure-same-length-2 t)
+    (procedure-returns t)
+    (procedure-word-at-requires t)
+    (procedure-tag-of-requires t)
+    (procedure-leave-requires t)
+    (procedure-same-length-3 t)
+    (procedure-same-length-4 t)
+    (procedure-returns-2 t)
+    (procedure-statement-requires t)
+    (procedure-enum-told t)
+    (procedure-enum-known-v t)
+    (procedure-same-length-5 t)
+    (procedure-same-length-6 t)
+    (procedure-returns-3 t)
+    (procedure-enum-known-n t)
+    (procedure-same-length-7 t)
+    (procedure-same-length-8 t)
+    (procedure-returns-4 t)
+    (procedure-size-of-requires t)
+    (procedure-add-at t)
+    (procedure-loop-less t)
+    (procedure-loop-again t)
+    (procedure-same-length-9 t)
+    (procedure-same-length-10 t)
+    (procedure-returns-5 t))
     (λ t. repeat-lts.spec (
       count-reads.Asked,
       count-reads.Learnt,
