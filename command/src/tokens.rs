@@ -34,7 +34,7 @@ impl Token<'_> {
     }
 
     pub fn is_reserved(&self) -> bool {
-        self.is_one_of(&["def", "var", "if", "while", "return", "none", "true", "false"])
+        self.is_one_of(&["def", "var", "if", "while", "foreach", "in", "do", "return", "none", "true", "false"])
     }
 
     pub fn is_name(&self) -> bool {

@@ -176,18 +176,19 @@ pub fn endless(drawing: &Drawing, refusal: &Refusal) -> Option<Reason> {
     }
 }
 
-/// The procedures of the library, with how many arguments each takes.
-const LIBRARY: [(&str, usize); 10] = [
-    ("drawLine", 4),
-    ("drawEllipse", 4),
-    ("drawBox", 4),
-    ("drawText", 3),
-    ("drawLineConnectingShapes", 2),
-    ("drawTextOnShape", 2),
-    ("getShapeXCoordinate", 1),
-    ("getShapeYCoordinate", 1),
-    ("destroyShape", 1),
-    ("clearScene", 0),
+/// The procedures of the library, with how many arguments each takes; drawGroup takes any number.
+const LIBRARY: [(&str, Option<usize>); 11] = [
+    ("drawLine", Some(4)),
+    ("drawEllipse", Some(4)),
+    ("drawBox", Some(4)),
+    ("drawText", Some(3)),
+    ("drawLineConnectingShapes", Some(2)),
+    ("drawTextOnShape", Some(2)),
+    ("getShapeXCoordinate", Some(1)),
+    ("getShapeYCoordinate", Some(1)),
+    ("destroyShape", Some(1)),
+    ("clearScene", Some(0)),
+    ("drawGroup", None),
 ];
 
 /// A value that does not fit, a call of the statement that names no procedure, or one with another number of arguments.
@@ -202,7 +203,7 @@ pub fn unfit(drawing: &Drawing, refusal: &Refusal) -> Option<Reason> {
             return reason_of("`main` cannot be called", "Put what both need into another procedure, and call that");
         }
         let library = LIBRARY.iter().find(|(known, _)| name.is(known)).map(|(_, takes)| *takes);
-        let own = spot.named(name).map(|own| own.parameters().count());
+        let own = spot.named(name).map(|own| Some(own.parameters().count()));
         let Some(takes) = library.or(own) else {
             let known = LIBRARY.iter().map(|(known, _)| known.to_string());
             let mut names = known.chain(spot.procedures.iter().map(Own::shown));
@@ -211,7 +212,7 @@ pub fn unfit(drawing: &Drawing, refusal: &Refusal) -> Option<Reason> {
             return reason_of(format!("there is no procedure `{shown}`"), help);
         };
         let given = arguments(behind);
-        if given != takes {
+        if let Some(takes) = takes.filter(|takes| *takes != given) {
             let arguments = if takes == 1 { "argument" } else { "arguments" };
             return reason_of(format!("`{shown}` takes {takes} {arguments}, here are {given}"), "");
         }

@@ -440,7 +440,7 @@ fn decisions() {
         };
         assert_eq!(short, row.result, "row {}", row.number);
     }
-    assert!(129 <= rows.len(), "only {} rows were read", rows.len());
+    assert!(202 <= rows.len(), "only {} rows were read", rows.len());
 }
 
 /// The answer of drawing a body into an out slice of so many bytes.

@@ -6,13 +6,6 @@ use common::{short, short_text};
 use reference::case::Case;
 use reference::decisions::{rows, text_rows};
 
-/// A row from before request 6, which gives that name to the library: 60.
-fn defines_draw_group(program: &[u8]) -> bool {
-    let definition = b"def drawGroup";
-    let mut parts = program.windows(definition.len());
-    parts.any(|part| part == definition)
-}
-
 #[test]
 fn each_row() {
     let rows = rows();
@@ -25,9 +18,6 @@ fn each_row() {
             out_length: row.out_length,
             program: row.program.clone(),
         };
-        if defines_draw_group(&row.program) {
-            continue;
-        }
         assert_eq!(short(&case.answer()), row.result, "row {}", row.number);
     }
     let text_rows = text_rows();
@@ -39,6 +29,6 @@ fn each_row() {
     let all = rows.iter().chain(&text_rows);
     let mut numbers: Vec<u32> = all.map(|row| row.number).collect();
     numbers.sort_unstable();
-    assert!(numbers.len() >= 129, "only {} rows", numbers.len());
+    assert!(numbers.len() >= 222, "only {} rows", numbers.len());
     assert_eq!(numbers, (1..=numbers.len() as u32).collect::<Vec<u32>>());
 }
