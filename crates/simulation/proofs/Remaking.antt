@@ -19,6 +19,7 @@ use Rattle.meaning.specs.Run as Run
 use Rattle.meaning.specs.Book.{Amounts, shortageOf}
 use Rattle.meaning.specs.Group.{each, remade}
 use Rattle.meaning.specs.Group as Group
+use Rattle.meaning.specs.Value as Value
 use Rattle.machine.specs.declared.Value.{Value}
 use Rattle.machine.specs.declared.Value.the-variants.{Shape}
 use Rattle.machine.specs.Layout.{stepsUsed, shapesUsed, textUsed, componentsMade, waitingHeld, stepsGranted, shapesGranted, shapePlace, componentPlace}
@@ -27,8 +28,8 @@ use Rattle.machine.specs.Act as Act
 use Rattle.machine.specs.declared.Figure.{Figure}
 use Rattle.machine.specs.Shapes.{isGroupAt, figureAt, newShape}
 use Rattle.machine.specs.Groups.{wayWord, wayPlace, waitingPlace, newGroup, walkIn, await, groupWaiting, remakeReached, remakeLeft, remakeGroup, remake}
-use Rattle.simulation.specs.Meant.{meantFigure, listed, componentsOf}
-use Rattle.simulation.specs.Sound.{Proper}
+use Rattle.simulation.specs.Meant.{meantValue, meantFigure, listed, componentsOf}
+use Rattle.simulation.specs.Sound.{Valid, Proper}
 use Rattle.simulation.specs.Follows.{Grants, Related, Follows}
 use Rattle.simulation.proofs.Binding.{bind, act-after}
 use Rattle.simulation.proofs.Listed.{listed-same, listed-shift}
@@ -367,3 +368,50 @@ module _ (program : List ℕ) (ts : List Token) (g : List ℕ) {granted : Amount
             → getD (set (r .words) (wayPlace d) v) waitingHeld 0 < getD (set (r .words) (wayPlace d) v) shapesUsed 0
         aside d v r w =
             rw (getD-set-other (r .words) (wayPlace d) waitingHeld v 0 (λ e. omega arith), getD-set-other (r .words) (wayPlace d) shapesUsed v 0 (λ e. omega arith)) w
+
+    -- ---- THE LAW
+    module _ {r : Raw} {s : State} {total : Amounts} (h : Here r s total) (i : ℕ) (l : i < getD (r .words) shapesUsed 0) where
+      abbrev Makes : Act.Out Value → Run ℕ → Type 0
+      Makes o m = Follows granted total (λ v j r′ s′ total′. AfterValue program ts g r v (Value.shape j) r′ s′ total′) o m
+
+      begins : After program ts g r (raw (r .texts) (set (r .words) waitingHeld 0)) s total
+      begins = spare-after h waitingHeld 0 spare-waiting
+
+      none-wait : getD (set (r .words) waitingHeld 0) waitingHeld 0 ≡ 0
+      none-wait = here h waitingHeld 0 (omega arith)
+
+      of-group : isGroupAt (r .words) i ≡ true → Makes (remakeGroup g p f i r) (Run._>>=_ (each (visit′ i) (componentsOf g (r .words) i)) (λ js. Group.newShape p (group js)) s)
+      unfolding remakeGroup Valid meantValue Room Act._>>=_ Act.goOn Act.store Act.give Run._>>=_
+      of-group e =
+          let q : suc (shapesGranted g - 1) ≡ shapesGranted g = omega (arith, h .sound .counted .shapes) in
+          let less = le-trans l (begins .later .shapes) in
+          let list : componentsOf g (set (r .words) waitingHeld 0) i ≡ componentsOf g (r .words) i =
+          components-later (begins .later) (h .sound .shapes) (untouched-components (begins .untouched)) i l e in
+          let room : getD (set (r .words) waitingHeld 0) waitingHeld 0 < getD (set (r .words) waitingHeld 0) shapesUsed 0 = omega (arith, none-wait, less) in
+          let w = walk-follows program ts g granted Awaits Room gathered (remakeReached g p f) (remakeLeft g p) visit′ (λ c. Run.count p) leave′ walks
+          (shapesGranted g - 1) i 0 i (omega (arith, q)) (omega (arith, h .sound .counted .shapes)) (le-refl i) (raw (r .texts) (set (r .words) waitingHeld 0)) s total
+          (begins .related) room less (group-stays (begins .later .figures i l) ∙ e) in
+          bind (subst (λ b. Follows granted total (λ _ js r′ s′ total′. Leads 0 (raw (r .texts) (set (r .words) waitingHeld 0)) js r′ s′ total′)
+          (walkIn (remakeReached g p f) (remakeLeft g p) b g 0 i (raw (r .texts) (set (r .words) waitingHeld 0))) (each (visit′ i) (componentsOf g (r .words) i) s)) q (rw list at w))
+          (λ _ js r₂ s₂ total₂ x.
+          let less₂ : getD (r₂ .words) waitingHeld 0 < getD (r₂ .words) shapesUsed 0 = omega (arith, x .acc .room, room) in
+          act-after {R = λ i j r′ s′ total′. AfterGroup (raw (r .texts) (set (r .words) waitingHeld 0)) r₂ s₂ i j r′ s′ total′} (λ j. Act.give (Shape j)) (λ k j r′ s′ total′ y. record {
+            result = Shape k;
+            slices = r′;
+            is = refl;
+            holds = record {
+              after = onward begins (onward (x .after) (y .after));
+              valid = omega (arith, y .here-is, y .used);
+              means = ap Value.shape (y .same);
+            };
+          })
+          (subst (λ n. Follows granted total₂ (λ i j r′ s′ total′. AfterGroup (raw (r .texts) (set (r .words) waitingHeld 0)) r₂ s₂ i j r′ s′ total′) (groupWaiting g p n r₂) (Group.newShape p (group js) s₂))
+          none-wait (groups (x .after .related) (x .acc) less₂)))
+
+      pub remakes : Makes (remake g p f i r) (remade (suc i) p f′ i s)
+      unfolding remake remade byContent if_then_else_ Act._>>=_ Act.goOn Act.held Run._>>=_ Run.goOn Run.current
+      remakes = go (isGroupAt (r .words) i) refl
+        where
+          go : (t : Bool) → isGroupAt (r .words) i ≡ t → Makes (remake g p f i r) (remade (suc i) p f′ i s)
+          go true e = rw (e, group-found h i l e) (of-group e)
+          go false e = rw (e, figure-found h i l e) (mapped (λ v j r′ s′ total′ x. shape-value x) (figure-anew h i l e))
