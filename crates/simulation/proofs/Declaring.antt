@@ -21,7 +21,7 @@ use Rattle.code.specs.Code.{slotOf}
 use Rattle.reader.proofs.Homes.{Occurs, occurs-found, text-same}
 use Rattle.machine.specs.declared.Value.{Value}
 use Rattle.machine.specs.Words.{kindNothing, packed, unpacked}
-use Rattle.machine.specs.Layout.{stepsUsed, tablesMade, declared, argumentsHeld, callsUsed, running, valuePlace, orderPlace}
+use Rattle.machine.specs.Layout.{stepsUsed, tablesMade, declared, argumentsHeld, callsUsed, running, componentsMade, loopUnit, valuePlace, orderPlace}
 use Rattle.machine.specs.Act.{Raw, raw, done, stop}
 use Rattle.machine.specs.Act as Act
 use Rattle.machine.specs.Variables.{declare}
@@ -32,7 +32,7 @@ use Rattle.simulation.specs.Scope.{scopeOf, isIn}
 use Rattle.simulation.specs.Sound.{Valid, declaredAmong, Variables}
 use Rattle.simulation.specs.Follows.{Related, Later, Follows}
 use Rattle.simulation.proofs.Listed.{listed-same, listed-first, listed-more}
-use Rattle.simulation.proofs.Frames.{untouched-words, valid-later, SameWaiting, same-waiting}
+use Rattle.simulation.proofs.Frames.{SameRest, rest-marks, untouched-words, valid-later, SameWaiting, same-waiting}
 use Rattle.simulation.proofs.Results.{given, failed, Untouched, After, steps-told}
 use Rattle.simulation.proofs.Shapes.{up-to}
 use Rattle.simulation.proofs.Moving.{moved-later, moved-related}

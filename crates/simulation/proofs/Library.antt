@@ -17,14 +17,15 @@ use Rattle.meaning.specs.Token.{Token}
 use Rattle.meaning.specs.Figure.{line, ellipse, box, text}
 use Rattle.meaning.specs.Figure as Meaning
 use Rattle.meaning.specs.Value as Value
-use Rattle.meaning.specs.State.{State}
+use Rattle.meaning.specs.State.{State, atom, group}
 use Rattle.meaning.specs.Run as Run
 use Rattle.meaning.specs.Book.{Amounts}
 use Rattle.meaning.specs.Operator as Operator
-use Rattle.meaning.specs.Library.{Library, drawLine, drawEllipse, drawBox, drawText, connectShapes, drawTextOnShape, xCoordinate, yCoordinate, destroyShape, clearScene}
+use Rattle.meaning.specs.Library.{Library, drawLine, drawEllipse, drawBox, drawText, connectShapes, drawTextOnShape, xCoordinate, yCoordinate, destroyShape, clearScene, drawGroup}
 use Rattle.meaning.specs.Library as Library
 use Rattle.names.specs.Prepared.{numberOf}
 use Rattle.machine.specs.declared.Value.{Value}
+use Rattle.machine.specs.declared.Value.the-variants.{Integer, Text, Boolean, Nothing, Table, Shape}
 use Rattle.machine.specs.Words.{packed, unpacked}
 use Rattle.machine.specs.Layout.{argumentsHeld}
 use Rattle.machine.specs.Act.{Raw}
@@ -35,20 +36,23 @@ use Rattle.machine.specs.declared.Figure.{Figure}
 use Rattle.machine.specs.Shapes.{figureAt}
 use Rattle.machine.specs.Shapes as Shapes
 use Rattle.machine.specs.Evaluate.{Setting}
-use Rattle.machine.specs.Library.{withFigure, drawn, drawnText, connected, labelled, coordinate, destroyed, clearing, perform, callLibrary}
+use Rattle.machine.specs.Library.{drawn, drawnText, connected, labelled, coordinate, destroyed, clearing, allShapes, grouped, perform, callLibrary}
 use Rattle.machine.specs.Arguments.{allUsable, figure, centreX, centreY, connecting, textOn}
 use Rattle.simulation.specs.Meant.{meantValue, meantWord, meantFigure, listed}
 use Rattle.simulation.specs.Sound.{Valid, Proper}
 use Rattle.simulation.specs.Follows.{Grants, Related, Later, Follows}
-use Rattle.simulation.proofs.Binding.{bind}
+use Rattle.simulation.proofs.Binding.{bind, give-after}
 use Rattle.simulation.proofs.Listed.{listed-same}
 use Rattle.simulation.proofs.Frames.{valid-later, meant-later}
 use Rattle.simulation.proofs.Results.{mapped, given, failed, After, Units, Values, unmoved, onward, from-here, steps-told}
-use Rattle.simulation.proofs.Usable.{figure-found, uses}
-use Rattle.simulation.proofs.Shapes.{makes-shape}
-use Rattle.simulation.proofs.Destroying.{destroys, destroy-is, clears}
+use Rattle.simulation.proofs.Usable.{uses}
+use Rattle.simulation.proofs.Shapes.{shape-value, makes-shape}
+use Rattle.simulation.proofs.Grouping.{Source, makes-group}
+use Rattle.simulation.proofs.Walking.{Reached}
+use Rattle.simulation.proofs.Destroying.{Quiet, destroys-all}
+use Rattle.simulation.proofs.Clearing.{clears}
 use Rattle.simulation.proofs.Figures.{as-line, as-ellipse, as-box, as-text, centre-x, centre-y, centre-x-range, centre-y-range, proper-plain, proper-text}
-use Rattle.simulation.proofs.Asked.{with-integer, with-text, with-shape}
+use Rattle.simulation.proofs.Asked.{with-integer, with-text, with-shape, with-figure}
 
 -- ---- arguments on the stack: n of them, from the one numbered base on
 module _ (program : List ℕ) where
@@ -111,8 +115,9 @@ module _ (e : Setting) {ts : List Token} {granted : Amounts} (gr : Grants (e .gr
   given-args n = listed (λ k. meantWord (e .program) r (argumentAt (r .words) k)) base n
 
   shape-made : (f : Figure) (a : Meaning.Figure) → Proper (e .program) (getD (r .words) 3 0) f → a ≡ meantFigure (e .program) (r .texts) f
-      → Works (Shapes.newShape (e .grants) p f r) (Operator.newShape p a s)
-  shape-made f a v m = mapped (λ v u r₁ s₁ total₁ w. w .value) (makes-shape gr h f a v m p)
+      → Works (Shapes.newShape (e .grants) p f r) (Library.draw p (atom a) s)
+  unfolding Library.draw Run._>>=_
+  shape-made f a v m = give-after Value.shape (λ v j r₁ s₁ total₁ w. shape-value w) (makes-shape gr h f a v m p)
 
   draws : (kind : ℕ) (make : ℤ → ℤ → ℤ → ℤ → Meaning.Figure) → kind < 3
       → ((x y z w : ℤ) → make x y z w ≡ meantFigure (e .program) (r .texts) (figure kind x y z w 0)) → (n : ℕ) → Sane n
@@ -151,23 +156,21 @@ module _ (e : Setting) {ts : List Token} {granted : Amounts} (gr : Grants (e .gr
   draws-text (suc (suc (suc (suc n)))) v = rw (ne-eqb (suc (suc (suc (suc n)))) 3 (λ q. omega arith)) wrong
 
   connects : (n : ℕ) → Sane n → Works (connected (e .grants) p base n r) (Library.perform connectShapes p (given-args n) s)
-  unfolding connected Library.perform Library.withTwo Library.withOne Library.withNone withFigure Operator.withFigure connecting Meaning.connecting listed Act._>>=_ Act.goOn Act.refuse Act.give Act.fail Run.fail Run._>>=_ Run.goOn Run.current
+  unfolding connected Library.perform Library.withTwo Library.withOne Library.withNone connecting Meaning.connecting listed Act._>>=_ Act.goOn Act.refuse Act.give Act.fail Run.fail
   connects zero v = wrong
   connects (suc zero) v = wrong
   connects (suc (suc zero)) v =
       let one : base + 1 ≡ suc base = omega arith in
       rw one
-      (with-shape h p (word base) (v base (omega arith) (omega arith)) _ _ (λ i a.
-      with-shape h p (word (suc base)) (v (suc base) (omega arith) (omega arith)) _ _ (λ j b.
-      let x = h .sound .shapes .proper i a in
-      let y = h .sound .shapes .proper j b in
+      (with-figure h p (word base) (v base (omega arith) (omega arith)) _ _ (λ i a m.
+      with-figure h p (word (suc base)) (v (suc base) (omega arith) (omega arith)) _ _ (λ j b n.
+      let x = h .sound .shapes .proper i a m in
+      let y = h .sound .shapes .proper j b n in
       let f = figureAt (r .words) i in
       let f′ = figureAt (r .words) j in
       shape-made (figure 0 (centreX f) (centreY f) (centreX f′) (centreY f′) 0) _
       (proper-plain (e .program) _ 0 (centreX f) (centreY f) (centreX f′) (centreY f′) (omega arith) (centre-x-range x) (centre-y-range x) (centre-x-range y) (centre-y-range y))
       (rw (
-        figure-found h i a,
-        figure-found h j b,
         ← centre-x (e .program) (r .texts) f (x .kind),
         ← centre-y (e .program) (r .texts) f (x .kind),
         ← centre-x (e .program) (r .texts) f′ (y .kind),
@@ -177,51 +180,60 @@ module _ (e : Setting) {ts : List Token} {granted : Amounts} (gr : Grants (e .gr
   connects (suc (suc (suc n))) v = rw (ne-eqb (suc (suc (suc n))) 2 (λ q. omega arith)) wrong
 
   labels : (n : ℕ) → Sane n → Works (labelled (e .grants) p base n r) (Library.perform drawTextOnShape p (given-args n) s)
-  unfolding labelled Library.perform Library.withTwo Library.withOne Library.withNone withFigure Operator.withFigure textOn Meaning.textOn listed Act._>>=_ Act.goOn Act.refuse Act.give Act.fail Run.fail Run._>>=_ Run.goOn Run.current
+  unfolding labelled Library.perform Library.withTwo Library.withOne Library.withNone textOn Meaning.textOn listed Act._>>=_ Act.goOn Act.refuse Act.give Act.fail Run.fail
   labels zero v = wrong
   labels (suc zero) v = wrong
   labels (suc (suc zero)) v =
       let one : base + 1 ≡ suc base = omega arith in
       rw one
-      (with-shape h p (word base) (v base (omega arith) (omega arith)) _ _ (λ i a.
+      (with-figure h p (word base) (v base (omega arith) (omega arith)) _ _ (λ i a m.
       with-text h p (word (suc base)) (v (suc base) (omega arith) (omega arith)) _ _ (λ t b.
-      let x = h .sound .shapes .proper i a in
+      let x = h .sound .shapes .proper i a m in
       let f = figureAt (r .words) i in
       shape-made (figure 3 (centreX f) (centreY f) (pos 0) (pos 0) t) _ (proper-text (centreX f) (centreY f) (centre-x-range x) (centre-y-range x) b)
-      (rw (figure-found h i a, ← centre-x (e .program) (r .texts) f (x .kind), ← centre-y (e .program) (r .texts) f (x .kind))
+      (rw (← centre-x (e .program) (r .texts) f (x .kind), ← centre-y (e .program) (r .texts) f (x .kind))
       (sym (as-text (e .program) (r .texts) (figure 3 (centreX f) (centreY f) (pos 0) (pos 0) t) refl))))))
   labels (suc (suc (suc n))) v = rw (ne-eqb (suc (suc (suc n))) 2 (λ q. omega arith)) wrong
 
   x-read : (n : ℕ) → Sane n → Works (coordinate centreX p base n r) (Library.perform xCoordinate p (given-args n) s)
-  unfolding coordinate Library.perform Library.withOne Library.withNone withFigure Operator.withFigure listed Act._>>=_ Act.goOn Act.refuse Act.give Act.fail Run.fail Run._>>=_ Run.goOn Run.current Run.give Valid meantValue
+  unfolding coordinate Library.perform Library.withOne Library.withNone listed Act._>>=_ Act.goOn Act.refuse Act.give Act.fail Run.fail Run.give Valid meantValue
   x-read zero v = wrong
   x-read (suc zero) v =
-      with-shape h p (word base) (v base (omega arith) (omega arith)) _ _ (λ i a.
-      let x = h .sound .shapes .proper i a in
-      given (record { after = unmoved h; valid = centre-x-range x; means = ap Value.integer (rw (figure-found h i a) (sym (centre-x (e .program) (r .texts) (figureAt (r .words) i) (x .kind)))) }))
+      with-figure h p (word base) (v base (omega arith) (omega arith)) _ _ (λ i a m.
+      let x = h .sound .shapes .proper i a m in
+      given (record { after = unmoved h; valid = centre-x-range x; means = ap Value.integer (sym (centre-x (e .program) (r .texts) (figureAt (r .words) i) (x .kind))) }))
   x-read (suc (suc n)) v = rw (ne-eqb (suc (suc n)) 1 (λ q. omega arith)) wrong
 
   y-read : (n : ℕ) → Sane n → Works (coordinate centreY p base n r) (Library.perform yCoordinate p (given-args n) s)
-  unfolding coordinate Library.perform Library.withOne Library.withNone withFigure Operator.withFigure listed Act._>>=_ Act.goOn Act.refuse Act.give Act.fail Run.fail Run._>>=_ Run.goOn Run.current Run.give Valid meantValue
+  unfolding coordinate Library.perform Library.withOne Library.withNone listed Act._>>=_ Act.goOn Act.refuse Act.give Act.fail Run.fail Run.give Valid meantValue
   y-read zero v = wrong
   y-read (suc zero) v =
-      with-shape h p (word base) (v base (omega arith) (omega arith)) _ _ (λ i a.
-      let x = h .sound .shapes .proper i a in
-      given (record { after = unmoved h; valid = centre-y-range x; means = ap Value.integer (rw (figure-found h i a) (sym (centre-y (e .program) (r .texts) (figureAt (r .words) i) (x .kind)))) }))
+      with-figure h p (word base) (v base (omega arith) (omega arith)) _ _ (λ i a m.
+      let x = h .sound .shapes .proper i a m in
+      given (record { after = unmoved h; valid = centre-y-range x; means = ap Value.integer (sym (centre-y (e .program) (r .texts) (figureAt (r .words) i) (x .kind))) }))
   y-read (suc (suc n)) v = rw (ne-eqb (suc (suc n)) 1 (λ q. omega arith)) wrong
 
-  one-destroyed : (n : ℕ) → Sane n → Works (destroyed p base n r) (Library.perform destroyShape p (given-args n) s)
-  unfolding destroyed Library.perform Library.withOne Library.withNone listed Act._>>=_ Act.goOn Act.refuse Act.give Act.fail Run.fail Run._>>=_ Run.goOn Run.current Run.become Run.give Valid meantValue
+  -- none is given once all was destroyed
+  no-value : {o : Act.Out (Unit {0})} {m : Run.Run (List Meaning.Figure)}
+      → Follows granted total (λ _ xs r′ s′ total′. Reached (e .program) ts (e .grants) Quiet 0 r xs r′ s′ total′) o m
+      → Works (Act.goOn o (λ _. Act.give Nothing)) (Run.goOn (m .takings) (m .end) (λ _. Run.give Value.none))
+  unfolding Act.give Run.give Valid meantValue
+  no-value f = bind f (λ _ xs r′ s′ total′ a. given (record { after = a .after; valid = tt; means = refl }))
+
+  one-destroyed : (n : ℕ) → Sane n → Works (destroyed (e .grants) p base n r) (Library.perform destroyShape p (given-args n) s)
+  unfolding destroyed Library.perform Library.withOne Library.withNone listed Act._>>=_ Act.goOn Act.refuse Act.give Act.fail Run.fail Run._>>=_
   one-destroyed zero v = wrong
   one-destroyed (suc zero) v =
-      with-shape h p (word base) (v base (omega arith) (omega arith)) _ _ (λ i a.
-      rw (destroy-is h i a) (given (record { after = destroys h i a; valid = tt; means = refl })))
+      with-shape h p (word base) (v base (omega arith) (omega arith)) _ _ (λ i a. no-value (destroys-all (e .program) ts (e .grants) gr p h i a))
   one-destroyed (suc (suc n)) v = rw (ne-eqb (suc (suc n)) 1 (λ q. omega arith)) wrong
 
-  all-cleared : (n : ℕ) → Works (clearing p n r) (Library.perform clearScene p (given-args n) s)
-  unfolding clearing Library.perform Library.withNone listed Act._>>=_ Act.goOn Act.refuse Act.give Act.fail Run.fail Run._>>=_ Run.goOn Run.current Run.become Run.give Valid meantValue
-  all-cleared zero = let c = clears h in rw (c .is) (given (record { after = c .after; valid = tt; means = refl }))
+  all-cleared : (n : ℕ) → Works (clearing (e .grants) p n r) (Library.perform clearScene p (given-args n) s)
+  unfolding clearing Library.perform Library.withNone listed Act._>>=_ Act.goOn Act.refuse Act.give Act.fail Run.fail Run._>>=_ Run.goOn Run.current
+  all-cleared zero = no-value (clears (e .program) ts (e .grants) gr p h)
   all-cleared (suc n) = rw (ne-eqb (suc n) 0 (λ q. omega arith)) wrong
+
+  groups : (n : ℕ) → {us : List Value.Value} → Stacked (e .program) r base n us → Works (grouped (e .grants) p base n r) (Library.perform drawGroup p (given-args n) s)
+  groups n st = ?
 
   performs : (f : Library) (n : ℕ) (us : List Value.Value) → Stacked (e .program) r base n us → Works (perform (e .grants) (numberOf (some f)) p base n r) (Library.perform f p us s)
   unfolding perform Library.perform numberOf if_then_else_
@@ -235,8 +247,9 @@ module _ (e : Setting) {ts : List Token} {granted : Amounts} (gr : Grants (e .gr
   performs yCoordinate n us st = rw (st .are) (y-read n (st .valid))
   performs destroyShape n us st = rw (st .are) (one-destroyed n (st .valid))
   performs clearScene n us st = rw (st .are) (all-cleared n)
+  performs drawGroup n us st = rw (st .are) (groups n st)
 
-number-less : (f : Library) → ltb (numberOf (some f)) 10 ≡ true
+number-less : (f : Library) → ltb (numberOf (some f)) 11 ≡ true
 unfolding numberOf
 number-less drawLine = refl
 number-less drawEllipse = refl
@@ -248,6 +261,7 @@ number-less xCoordinate = refl
 number-less yCoordinate = refl
 number-less destroyShape = refl
 number-less clearScene = refl
+number-less drawGroup = refl
 
 -- a call, its arguments on the stack
 module _ (e : Setting) {ts : List Token} {granted : Amounts} (gr : Grants (e .grants) granted) where
