@@ -1,17 +1,18 @@
 -- The library procedures, their arguments on the stack.
-use Prim.Native.Nat.{ℕ, zero, suc, _+_, _≤_, _<_}
+use Prim.Native.Nat.{ℕ, zero, suc, _+_, _*_, _/_, _%_, _^_, _≤_, _<_}
 use native.Mathlib.Omega.{arith}
 use native.Mathlib.Nat.{le-refl, le-trans}
 use native.Mathlib.Numerals.{add-one}
-use mathlib.Core.Path.{_≡_, refl, ap, sym, _∙_}
-use mathlib.Core.Bool.{true}
-use mathlib.Core.List.{List, []}
+use mathlib.Core.Path.{_≡_, refl, ap, ap₂, sym, _∙_, subst}
+use mathlib.Core.Logic.{_≢_}
+use mathlib.Core.Bool.{Bool, true, false}
+use mathlib.Core.List.{List, [], _∷_}
 use mathlib.Core.Option.{Option, some}
 use mathlib.Core.Option as Option
 use lib.ListN.{getD}
 use lib.IntN.{ℤ, pos}
-use lib.Dec.{ltb}
-use borrow.Author.Tests.{ne-eqb}
+use lib.Dec.{eqb, ltb}
+use borrow.Author.Tests.{eqb-true, eqb-false, ne-eqb}
 use Rattle.meaning.specs.Basics.{if_then_else_}
 use Rattle.meaning.specs.Token.{Token}
 use Rattle.meaning.specs.Figure.{line, ellipse, box, text}
@@ -20,6 +21,7 @@ use Rattle.meaning.specs.Value as Value
 use Rattle.meaning.specs.State.{State, atom, group}
 use Rattle.meaning.specs.Run as Run
 use Rattle.meaning.specs.Book.{Amounts}
+use Rattle.meaning.specs.Group as Group
 use Rattle.meaning.specs.Operator as Operator
 use Rattle.meaning.specs.Library.{Library, drawLine, drawEllipse, drawBox, drawText, connectShapes, drawTextOnShape, xCoordinate, yCoordinate, destroyShape, clearScene, drawGroup}
 use Rattle.meaning.specs.Library as Library
@@ -27,7 +29,7 @@ use Rattle.names.specs.Prepared.{numberOf}
 use Rattle.machine.specs.declared.Value.{Value}
 use Rattle.machine.specs.declared.Value.the-variants.{Integer, Text, Boolean, Nothing, Table, Shape}
 use Rattle.machine.specs.Words.{packed, unpacked}
-use Rattle.machine.specs.Layout.{argumentsHeld}
+use Rattle.machine.specs.Layout.{shapesUsed, argumentsHeld, argumentPlace}
 use Rattle.machine.specs.Act.{Raw}
 use Rattle.machine.specs.Act as Act
 use Rattle.machine.specs.Stack.{argumentAt}
@@ -35,19 +37,21 @@ use Rattle.machine.specs.Texts.{textOf}
 use Rattle.machine.specs.declared.Figure.{Figure}
 use Rattle.machine.specs.Shapes.{figureAt}
 use Rattle.machine.specs.Shapes as Shapes
+use Rattle.machine.specs.Groups.{newGroup}
+use Rattle.machine.specs.Operate.{withShape}
 use Rattle.machine.specs.Evaluate.{Setting}
 use Rattle.machine.specs.Library.{drawn, drawnText, connected, labelled, coordinate, destroyed, clearing, allShapes, grouped, perform, callLibrary}
 use Rattle.machine.specs.Arguments.{allUsable, figure, centreX, centreY, connecting, textOn}
 use Rattle.simulation.specs.Meant.{meantValue, meantWord, meantFigure, listed}
 use Rattle.simulation.specs.Sound.{Valid, Proper}
 use Rattle.simulation.specs.Follows.{Grants, Related, Later, Follows}
-use Rattle.simulation.proofs.Binding.{bind, give-after}
-use Rattle.simulation.proofs.Listed.{listed-same}
+use Rattle.simulation.proofs.Binding.{Relation, bind, give-after, act-after}
+use Rattle.simulation.proofs.Listed.{listed-same, listed-shift}
 use Rattle.simulation.proofs.Frames.{valid-later, meant-later}
-use Rattle.simulation.proofs.Results.{mapped, given, failed, After, Units, Values, unmoved, onward, from-here, steps-told}
+use Rattle.simulation.proofs.Results.{mapped, given, failed, Exactly, exactly, at-exactly, After, AfterValue, Units, Values, unmoved, onward, from-here, steps-told}
 use Rattle.simulation.proofs.Usable.{uses}
-use Rattle.simulation.proofs.Shapes.{shape-value, makes-shape}
-use Rattle.simulation.proofs.Grouping.{Source, makes-group}
+use Rattle.simulation.proofs.Shapes.{AfterShape, shape-value, makes-shape}
+use Rattle.simulation.proofs.Grouping.{makes-group}
 use Rattle.simulation.proofs.Walking.{Reached}
 use Rattle.simulation.proofs.Destroying.{Quiet, destroys-all}
 use Rattle.simulation.proofs.Clearing.{clears}
@@ -232,8 +236,74 @@ module _ (e : Setting) {ts : List Token} {granted : Amounts} (gr : Grants (e .gr
   all-cleared zero = no-value (clears (e .program) ts (e .grants) gr p h)
   all-cleared (suc n) = rw (ne-eqb (suc n) 0 (λ q. omega arith)) wrong
 
+  -- ---- groups: the arguments' numbers, by their words
+  abbrev number : ℕ → ℕ
+  number k = argumentAt (r .words) k / 8 % 2 ^ 32
+
+  -- n of them from k on are shapes
+  record AllShapes (k n : ℕ) (is : List ℕ) (r′ : Raw) (s′ : State) (total′ : Amounts) : Type 0 where
+    exact : Exactly r s total r′ s′ total′
+    are : is ≡ listed number k n
+    made : (j : ℕ) → k ≤ j → j < k + n → number j < getD (r .words) shapesUsed 0
+
+  shape-asked : {A B : Type 0} {R : Relation A B} (v : Value) → Valid (e .program) (r .words) v → (w : ℕ) → packed v ≡ w → (f : ℕ → Act.Act A) (f′ : ℕ → Run.Action B)
+      → ((i : ℕ) → i < getD (r .words) shapesUsed 0 → w / 8 % 2 ^ 32 ≡ i → Follows granted total R (f i r) (f′ i s))
+      → Follows granted total R (withShape p v f r) (Operator.withShapeNumber p (meantValue (e .program) (r .texts) v) f′ s)
+  unfolding withShape Operator.withShapeNumber meantValue Valid packed Act.fail Run.fail
+  shape-asked (Integer z) l w q f f′ g = failed 20 p r (steps-told h)
+  shape-asked (Text t) l w q f f′ g = failed 20 p r (steps-told h)
+  shape-asked (Boolean b) l w q f f′ g = failed 20 p r (steps-told h)
+  shape-asked Nothing l w q f f′ g = failed 20 p r (steps-told h)
+  shape-asked (Table t) l w q f f′ g = failed 20 p r (steps-told h)
+  shape-asked (Shape i) l w q f f′ g =
+      let a : (6 + 8 * i) / 8 ≡ i = omega arith in
+      let b : i % 2 ^ 32 ≡ i = omega (arith, l, h .sound .counted .shapes, h .sound .lent .room .shapes) in
+      g i l (rw (← q, a) b)
+
+  numbered : (n k : ℕ) → ((j : ℕ) → k ≤ j → j < k + n → Valid (e .program) (r .words) (unpacked (argumentAt (r .words) j)))
+      → ((j : ℕ) → k ≤ j → j < k + n → packed (unpacked (argumentAt (r .words) j)) ≡ argumentAt (r .words) j)
+      → Follows granted total (λ _ is r′ s′ total′. AllShapes k n is r′ s′ total′) (allShapes p k n r) (Library.shapeNumbers p (listed (λ k. meantWord (e .program) r (argumentAt (r .words) k)) k n) s)
+  unfolding allShapes Library.shapeNumbers listed Act.give Run.give Run._>>=_
+  numbered zero k v q = given (record { exact = exactly; are = refl; made = λ j x y. absurd (omega arith) })
+  numbered (suc n) k v q =
+      shape-asked (word k) (v k (omega arith) (omega arith)) (argumentAt (r .words) k) (q k (omega arith) (omega arith)) _ _ (λ i l t.
+      give-after (λ is. i ∷ is) (λ _ is r′ s′ total′ x. record {
+        exact = x .exact;
+        are = ap₂ _∷_ (sym t) (x .are ∙ ap (λ j. listed number j n) (add-one k));
+        made = λ j y z. first-or j i l t y z (x .made) (eqb j k) refl;
+      })
+      (subst (λ j. Follows granted total (λ _ is r′ s′ total′. AllShapes (k + 1) n is r′ s′ total′) (allShapes p (k + 1) n r)
+      (Library.shapeNumbers p (listed (λ k. meantWord (e .program) r (argumentAt (r .words) k)) j n) s)) (add-one k)
+      (numbered n (k + 1) (λ j x y. v j (omega arith) (omega arith)) (λ j x y. q j (omega arith) (omega arith)))))
+    where
+      first-or : (j i : ℕ) → i < getD (r .words) shapesUsed 0 → number k ≡ i → k ≤ j → j < k + suc n
+          → ((j : ℕ) → k + 1 ≤ j → j < k + 1 + n → number j < getD (r .words) shapesUsed 0) → (b : Bool) → eqb j k ≡ b → number j < getD (r .words) shapesUsed 0
+      first-or j i l t y z f true o = rw (eqb-true j k o, t) l
+      first-or j i l t y z f false o = let d : j ≢ k = eqb-false j k o in f j (omega arith) (omega arith)
+
   groups : (n : ℕ) → {us : List Value.Value} → Stacked (e .program) r base n us → Works (grouped (e .grants) p base n r) (Library.perform drawGroup p (given-args n) s)
-  groups n st = ?
+  unfolding grouped Library.perform Library.draw Valid meantValue Act._>>=_ Act.give Run._>>=_
+  groups n st =
+      bind (numbered n base (st .valid) (st .packs)) (λ _ is r′ s′ total′ x.
+      at-exactly (Act._>>=_ (newGroup (e .grants) p 1 8 (argumentPlace base) n) (λ j. Act.give (Shape j))) (Run._>>=_ (Group.newShape p (group is)) (λ j. Run.give (Value.shape j))) (x .exact)
+      (give-after Value.shape (λ v j r₁ s₁ total₁ a. a)
+      (act-after {R = λ k j r₁ s₁ total₁. AfterShape (e .program) ts (e .grants) r s k j r₁ s₁ total₁}
+      {P = λ v j r₁ s₁ total₁. AfterValue (e .program) ts (e .grants) r v (Value.shape j) r₁ s₁ total₁} (λ j. Act.give (Shape j)) (λ k j r₁ s₁ total₁ a. record {
+        result = Shape k;
+        slices = r₁;
+        is = refl;
+        holds = record { after = a .after; valid = omega (arith, a .here, a .used); means = ap Value.shape (a .same) };
+      })
+      (subst (λ (l : List ℕ). Follows granted total (λ k j r₁ s₁ total₁. AfterShape (e .program) ts (e .grants) r s k j r₁ s₁ total₁)
+      (newGroup (e .grants) p 1 8 (argumentPlace base) n r) (Group.newShape p (group l) s))
+      (listed-shift (λ k. number (base + k)) number 0 base n (λ j y. let z : 0 + j ≡ j = omega arith in rw z) ∙ sym (x .are))
+      (makes-group h (argumentPlace base) 1 8 (λ k. number (base + k)) n (record {
+        gives = λ k y. let z : argumentPlace base + 1 * k ≡ argumentPlace (base + k) = omega (arith, st .within, h .sound .counted .arguments) in rw z;
+        older = λ k y. x .made (base + k) (omega arith) (omega arith);
+        high = λ k y. omega arith;
+        new = λ k j y z q. omega (arith, st .within, h .sound .counted .arguments);
+        slots = λ k j y z q. omega (arith, st .within, h .sound .counted .arguments);
+      }) p gr)))))
 
   performs : (f : Library) (n : ℕ) (us : List Value.Value) → Stacked (e .program) r base n us → Works (perform (e .grants) (numberOf (some f)) p base n r) (Library.perform f p us s)
   unfolding perform Library.perform numberOf if_then_else_
