@@ -94,10 +94,10 @@ module _ (program : List ℕ) (ts : List Token) (g : List ℕ) (granted : Amount
   module _ (d : Does) where
     chained : {r r₁ r₂ : Raw} {xs ys : List Meaning.Figure} {s₁ s₂ : State} {total₁ total₂ : Amounts} → Reached program ts g Acc 0 r xs r₁ s₁ total₁
         → Reached program ts g Acc 0 r₁ ys r₂ s₂ total₂ → Reached program ts g Acc 0 r (xs ++ ys) r₂ s₂ total₂
-    chained a b = record { after = onward (a .after) (b .after); ways = λ e x. absurd (omega arith); acc = tells .more (a .acc) (b .acc) }
+    chained a b = record { after = onward (a .after) (b .after); ways = λ e x y. absurd (omega arith); acc = tells .more (a .acc) (b .acc) }
 
     still : {r : Raw} {s : State} {total : Amounts} → Here r s total → Reached program ts g Acc 0 r [] r s total
-    still {r} h = record { after = unmoved h; ways = λ e x. absurd (omega arith); acc = tells .nil r }
+    still {r} h = record { after = unmoved h; ways = λ e x y. absurd (omega arith); acc = tells .nil r }
 
     value-follows : {r : Raw} {s : State} {total : Amounts} → Here r s total → (v : Value) → Valid program (r .words) v → (K : Act (Unit {0})) (rest : List ℕ) → Then r K rest
         → Follows granted total (Leads r) (Act.goOn (into X v r) (λ _. K)) (each D (shapeIn (meantValue program (r .texts) v) ++ rest) s)

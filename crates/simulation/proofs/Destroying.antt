@@ -274,7 +274,7 @@ pub left : {program : List ℕ} {ts : List Token} {g : List ℕ} {A : Type 0} {A
     → Reached program ts g Acc′ d r xs r₂ s₂ total₂
 left {d = d} v h l x a = record {
   after = onward (spare-after h (wayPlace d) v (spare-way d 3 l (omega arith) (omega arith))) (x .after);
-  ways = λ e m. x .ways e (omega arith) ∙ other h (wayPlace d) v (wayPlace e) (λ q. omega arith);
+  ways = λ e m n. x .ways e (omega arith) n ∙ other h (wayPlace d) v (wayPlace e) (λ q. omega arith);
   acc = a;
 }
 
@@ -298,7 +298,7 @@ module _ (program : List ℕ) (ts : List Token) (g : List ℕ) {granted : Amount
         λ j x y. as-was (a .related) c m j y ∙ other h stepsUsed _ j x in
         record {
           after = onward a (destroys (a .related) c m);
-          ways = λ e x. same (wayPlace e) (λ q. omega arith) (λ q. omega arith);
+          ways = λ e x y. same (wayPlace e) (λ q. omega arith) (λ q. omega arith);
           acc = record { texts = refl; low = λ j x y. same j (λ q. omega arith) (λ q. omega arith); declared = same declared (λ q. omega arith) (λ q. omega arith) };
         }
 
@@ -348,7 +348,7 @@ module _ (program : List ℕ) (ts : List Token) (g : List ℕ) {granted : Amount
       a = destroys h i l
 
       quiet : Reached program ts g {A = Meaning.Figure} Quiet 0 r [] (gone h i l) (withShapes s (State.destroy (s .shapes) i)) total
-      quiet = record { after = a; ways = λ e x. absurd (omega arith); acc = record { texts = refl; low = λ j x y. low-was h i l j y; declared = low-was h i l declared (omega arith) } }
+      quiet = record { after = a; ways = λ e x y. absurd (omega arith); acc = record { texts = refl; low = λ j x y. low-was h i l j y; declared = low-was h i l declared (omega arith) } }
 
       go : (t : Bool) → isGroupAt (r .words) i ≡ t
           → Follows granted total (λ _ xs r′ s′ total′. Reached program ts g {A = Meaning.Figure} Quiet 0 r xs r′ s′ total′)
@@ -365,7 +365,7 @@ module _ (program : List ℕ) (ts : List Token) (g : List ℕ) {granted : Amount
           rw (group-stays k, e, group-found h i l e)
           (mapped (λ _ ys r′ s′ total′ y. record {
             after = onward a (y .after);
-            ways = λ e x. absurd (omega arith);
+            ways = λ e x y. absurd (omega arith);
             acc = quiet-on ys (quiet .acc) (y .acc);
           })
           (subst (λ b. Follows granted total (λ _ xs r′ s′ total′. Reached program ts g {A = Meaning.Figure} Quiet 0 (gone h i l) xs r′ s′ total′)

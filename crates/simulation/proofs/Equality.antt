@@ -5,6 +5,7 @@ use mathlib.Core.Path.{_≡_, refl, ap, sym, _∙_}
 use mathlib.Core.Logic.{_≢_}
 use mathlib.Core.Bool.{Bool, true, false, _&&_}
 use mathlib.Core.List.{List}
+use lib.ListN.{getD}
 use lib.Dec.{eqb}
 use lib.IntN.{ℤ, pos}
 use borrow.Author.Tests.{eqb-true}
@@ -16,12 +17,13 @@ use Rattle.meaning.specs.Operator as Operator
 use Rattle.meaning.proofs.KeyLaws.{sameText-same, sameInteger-same}
 use Rattle.machine.specs.declared.Value.{Value}
 use Rattle.machine.specs.declared.Value.the-variants.{Integer, Text, Boolean, Nothing, Table, Shape}
+use Rattle.machine.specs.Layout.{shapesUsed}
 use Rattle.machine.specs.Act.{Raw}
 use Rattle.machine.specs.Texts.{textOf}
 use Rattle.machine.specs.declared.Figure.{Figure}
 use Rattle.machine.specs.Operate.{sameFigure, Comparison, refused, settled, ofShapes, equality}
 use Rattle.simulation.specs.Meant.{meantValue, meantFigure}
-use Rattle.simulation.specs.Sound.{Proper}
+use Rattle.simulation.specs.Sound.{Valid, Proper}
 use Rattle.simulation.proofs.Figures.{kinds, as-line, as-ellipse, as-box, as-text}
 
 -- ---- truths
@@ -126,3 +128,48 @@ equal-alike program r (Shape a) (Boolean b) = refl
 equal-alike program r (Shape a) Nothing = refl
 equal-alike program r (Shape a) (Table b) = refl
 equal-alike program r (Shape a) (Shape b) = refl
+
+-- two shapes that are to be compared were made
+unfoldable pub Fine : List ℕ → Comparison → Type 0
+Fine ws refused = Unit {0}
+Fine ws (settled b) = Unit {0}
+Fine ws (ofShapes i j) = (i < getD ws shapesUsed 0) × (j < getD ws shapesUsed 0)
+
+pub fine : (program : List ℕ) (r : Raw) (v w : Value) → Valid program (r .words) v → Valid program (r .words) w → Fine (r .words) (equality program r v w)
+unfolding Fine equality Valid
+fine program r (Integer a) (Integer b) p q = tt
+fine program r (Integer a) (Text b) p q = tt
+fine program r (Integer a) (Boolean b) p q = tt
+fine program r (Integer a) Nothing p q = tt
+fine program r (Integer a) (Table b) p q = tt
+fine program r (Integer a) (Shape b) p q = tt
+fine program r (Text a) (Integer b) p q = tt
+fine program r (Text a) (Text b) p q = tt
+fine program r (Text a) (Boolean b) p q = tt
+fine program r (Text a) Nothing p q = tt
+fine program r (Text a) (Table b) p q = tt
+fine program r (Text a) (Shape b) p q = tt
+fine program r (Boolean a) (Integer b) p q = tt
+fine program r (Boolean a) (Text b) p q = tt
+fine program r (Boolean a) (Boolean b) p q = tt
+fine program r (Boolean a) Nothing p q = tt
+fine program r (Boolean a) (Table b) p q = tt
+fine program r (Boolean a) (Shape b) p q = tt
+fine program r Nothing (Integer b) p q = tt
+fine program r Nothing (Text b) p q = tt
+fine program r Nothing (Boolean b) p q = tt
+fine program r Nothing Nothing p q = tt
+fine program r Nothing (Table b) p q = tt
+fine program r Nothing (Shape b) p q = tt
+fine program r (Table a) (Integer b) p q = tt
+fine program r (Table a) (Text b) p q = tt
+fine program r (Table a) (Boolean b) p q = tt
+fine program r (Table a) Nothing p q = tt
+fine program r (Table a) (Table b) p q = tt
+fine program r (Table a) (Shape b) p q = tt
+fine program r (Shape a) (Integer b) p q = tt
+fine program r (Shape a) (Text b) p q = tt
+fine program r (Shape a) (Boolean b) p q = tt
+fine program r (Shape a) Nothing p q = tt
+fine program r (Shape a) (Table b) p q = tt
+fine program r (Shape a) (Shape b) p q = (p, q)

@@ -1,7 +1,7 @@
 -- Groups made: a shape, and an entry for each component.
 use Prim.Native.Nat.{ℕ, zero, suc, _+_, _-_, _*_, _/_, _%_, _^_, _≤_, _<_}
 use native.Mathlib.Omega.{arith}
-use native.Mathlib.Nat.{le-refl, mod-eq-of-lt, mul-add, mul-one}
+use native.Mathlib.Nat.{le-refl, mod-eq-of-lt, mul-add, mul-one, div-one}
 use mathlib.Core.Path.{_≡_, refl, ap, sym, _∙_, subst}
 use mathlib.Core.Logic.{_≢_}
 use mathlib.Core.Bool.{Bool, true, false}
@@ -328,3 +328,29 @@ module _ {program : List ℕ} {ts : List Token} {g : List ℕ} {r : Raw} {s : St
             → Follows granted total′ (λ i j r′ s′ total′. AfterShape program ts g r s i j r′ s′ total′) (Act.give n r′)
             (Run._>>=_ Run.current (λ s. Run._>>_ (Run.become (withShape s (group (listed parts 0 many)))) (Run.give (length (s .shapes)))) s′)
         last (filled-all ws total′ a t) = given (group-after ws a total′ t)
+
+-- ---- a copy of a group, which has the same components
+module _ {program : List ℕ} {ts : List Token} {g : List ℕ} {r : Raw} {s : State} {total : Amounts} (h : Related program ts g r s total) (i : ℕ)
+    (l : i < getD (r .words) shapesUsed 0) (e : isGroupAt (r .words) i ≡ true) (p : ℕ) where
+  own : Grouped g (r .words) i
+  own = h .sound .shapes .groups i l e
+
+  copied-from : Source g (r .words) (componentPlace g (firstAt (r .words) i)) 1 1 (λ k. componentAt g (r .words) (firstAt (r .words) i + k)) (countAt (r .words) i)
+  copied-from = record {
+    gives = λ k m.
+        let q : componentPlace g (firstAt (r .words) i) + 1 * k ≡ componentPlace g (firstAt (r .words) i + k) = omega arith in
+        rw (q, div-one (getD (r .words) (componentPlace g (firstAt (r .words) i + k)) 0));
+    older = λ k m. omega (arith, own .older (firstAt (r .words) i + k) (omega arith) (omega arith));
+    high = λ k m. omega arith;
+    new = λ k j m x q. omega (arith, h .sound .counted .shapes, own .within);
+    slots = λ k j m x q. omega (arith, own .within);
+  }
+
+  pub copies-group : {granted : Amounts} (gr : Grants g granted)
+      → Follows granted total (λ i j r′ s′ total′. AfterShape program ts g r s i j r′ s′ total′) (newGroup g p 1 1 (componentPlace g (firstAt (r .words) i)) (countAt (r .words) i) r)
+      (Group.newShape p (group (componentsOf g (r .words) i)) s)
+  unfolding componentsOf
+  copies-group gr =
+      rw (listed-shift (componentAt g (r .words)) (λ k. componentAt g (r .words) (firstAt (r .words) i + k)) (firstAt (r .words) i) 0 (countAt (r .words) i)
+      (λ j x. let z : 0 + j ≡ j = omega arith in rw z))
+      (makes-group h (componentPlace g (firstAt (r .words) i)) 1 1 (λ k. componentAt g (r .words) (firstAt (r .words) i + k)) (countAt (r .words) i) copied-from p gr)

@@ -135,7 +135,7 @@ module _ {program : List ℕ} {ts : List Token} {g : List ℕ} {r : Raw} {s : St
 -- ---- what walking leaves from r on: xs came of it, as the slices tell (Acc); the way above depth d is as it was
 pub record Reached (program : List ℕ) (ts : List Token) (g : List ℕ) {A : Type 0} (Acc : Raw → List A → Raw → Type 0) (d : ℕ) (r : Raw) (xs : List A) (r′ : Raw) (s : State) (total : Amounts) : Type 0 where
   pub after : After program ts g r r′ s total
-  pub ways : (e : ℕ) → e < d → getD (r′ .words) (wayPlace e) 0 ≡ getD (r .words) (wayPlace e) 0
+  pub ways : (e : ℕ) → e < d → e < shapesGranted g → getD (r′ .words) (wayPlace e) 0 ≡ getD (r .words) (wayPlace e) 0
   pub acc : Acc r xs r′
 
 -- what the slices tell is told step by step, and something is kept
@@ -154,7 +154,7 @@ module _ (program : List ℕ) (ts : List Token) (g : List ℕ) (granted : Amount
 
   reached-on : {d : ℕ} {r r₁ r₂ : Raw} {xs ys : List A} {s₁ s₂ : State} {total₁ total₂ : Amounts} → Reached program ts g Acc d r xs r₁ s₁ total₁
       → Reached program ts g Acc d r₁ ys r₂ s₂ total₂ → Reached program ts g Acc d r (xs ++ ys) r₂ s₂ total₂
-  reached-on a b = record { after = onward (a .after) (b .after); ways = λ e l. b .ways e l ∙ a .ways e l; acc = gathers .more (a .acc) (b .acc) }
+  reached-on a b = record { after = onward (a .after) (b .after); ways = λ e l m. b .ways e l m ∙ a .ways e l m; acc = gathers .more (a .acc) (b .acc) }
 
   -- ---- components one after the other
   -- what is done with one that is older than i
@@ -167,7 +167,7 @@ module _ (program : List ℕ) (ts : List Token) (g : List ℕ) (granted : Amount
         → k + n ≤ getD (r .words) componentsMade 0 → ((j : ℕ) → k ≤ j → j < k + n → componentAt g (r .words) j < i)
         → Follows granted total (Leads d r) (eachFrom visit g k n r) (each visit′ (listed (componentAt g (r .words)) k n) s)
     unfolding if_then_else_ eachFrom each listed Act._>>=_ Act.goOn Act.held Act.give Run._>>=_ Run.goOn Run.current Run.give
-    each-follows zero k {r} h w l f o = given (record { after = unmoved h; ways = λ e x. refl; acc = gathers .nil r })
+    each-follows zero k {r} h w l f o = given (record { after = unmoved h; ways = λ e x y. refl; acc = gathers .nil r })
     each-follows (suc n) k {r} {s} {total} h w l f o =
         let c = componentAt g (r .words) k in
         bind (one (destroyedAt (r .words) c) (isDestroyed s c) (sym (destroyed-found h c (le-trans (o k (omega arith) (omega arith)) l))))
@@ -182,7 +182,7 @@ module _ (program : List ℕ) (ts : List Token) (g : List ℕ) (granted : Amount
         one : (b b′ : Bool) → b ≡ b′
             → Follows granted total (Leads d r) ((if b then (λ _. Act.give tt) else λ _. visit k n (componentAt g (r .words) k)) r)
             ((if b′ then (λ _. Run.give []) else λ _. visit′ (componentAt g (r .words) k)) s)
-        one true true e = given (record { after = unmoved h; ways = λ e x. refl; acc = gathers .nil r })
+        one true true e = given (record { after = unmoved h; ways = λ e x y. refl; acc = gathers .nil r })
         one true false e = let z : _≡_ {A = ℕ} 0 1 = cc in absurd (omega arith)
         one false true e = let z : _≡_ {A = ℕ} 0 1 = cc in absurd (omega arith)
         one false false e = visits .does k n (componentAt g (r .words) k) r s total h w (o k (omega arith) (omega arith)) l
