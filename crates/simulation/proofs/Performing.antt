@@ -74,7 +74,7 @@ pub record Procedures (e : Setting) (ts : List Token) (m : Program) : Type 0 whe
   pub apart : (x : List ℕ) (l : Library) → libraryOf x ≡ some l → procedureNamed x (m .procedures) ≡ none
 
 -- a name that is neither main's nor in the library
-own-number : (l : Option Library) → numberOf l ≡ 10 → l ≡ none
+own-number : (l : Option Library) → numberOf l ≡ 11 → l ≡ none
 unfolding numberOf
 own-number none e = refl
 own-number (some Library.drawLine) e = absurd (omega arith)
@@ -87,12 +87,13 @@ own-number (some Library.xCoordinate) e = absurd (omega arith)
 own-number (some Library.yCoordinate) e = absurd (omega arith)
 own-number (some Library.destroyShape) e = absurd (omega arith)
 own-number (some Library.clearScene) e = absurd (omega arith)
+own-number (some Library.drawGroup) e = absurd (omega arith)
 
-own-name : (x : List ℕ) → procedureNumber x ≡ 10 → (sameText x (bytes "main") ≡ false) × (libraryOf x ≡ none)
+own-name : (x : List ℕ) → procedureNumber x ≡ 11 → (sameText x (bytes "main") ≡ false) × (libraryOf x ≡ none)
 unfolding procedureNumber libraryNumber
 own-name x e = go (sameText x (bytes "main")) e
   where
-    go : (b : Bool) → cond b 11 (libraryNumber x) ≡ 10 → (b ≡ false) × (libraryOf x ≡ none)
+    go : (b : Bool) → cond b 12 (libraryNumber x) ≡ 11 → (b ≡ false) × (libraryOf x ≡ none)
     go true q = absurd (omega arith)
     go false q = (refl, own-number (libraryOf x) q)
 
