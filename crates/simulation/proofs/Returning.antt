@@ -1,6 +1,7 @@
 -- A call returns: the caller's variables are as they were, and what was made and stored stays.
 use Prim.Native.Nat.{ℕ, _+_, _-_, _%_, _≤_, _<_}
 use native.Mathlib.Omega.{arith}
+use native.Mathlib.Nat.{le-trans}
 use mathlib.Core.Path.{_≡_, refl, sym, _∙_}
 use mathlib.Core.Logic.{_≢_}
 use mathlib.Core.Bool.{Bool, true, false}
@@ -18,14 +19,14 @@ use Rattle.meaning.specs.Execute as Execute
 use Rattle.meaning.specs.Procedure.{returnedBy}
 use Rattle.machine.specs.declared.Value.{Value}
 use Rattle.machine.specs.declared.Flow.{Flow}
-use Rattle.machine.specs.Layout.{stepsUsed, tablesMade, declared, argumentsHeld, callsUsed, running, framePlace, valuePlace, orderPlace, argumentPlace, stackWords, fixedWords}
+use Rattle.machine.specs.Layout.{stepsUsed, tablesMade, declared, argumentsHeld, callsUsed, running, entriesMade, componentsMade, loopUnit, entriesGranted, callsGranted, pathPlace, framePlace, valuePlace, orderPlace, argumentPlace, stackWords, fixedWords}
 use Rattle.machine.specs.Act.{Raw, raw, done}
 use Rattle.machine.specs.Act as Act
 use Rattle.machine.specs.Stack.{argumentAt, dropTo}
 use Rattle.machine.specs.Variables.{waitingWord}
 use Rattle.machine.specs.Procedures.{undeclareFrom, resumeFrom, resume, resultOf}
 use Rattle.simulation.specs.Meant.{slotAt, meantValue}
-use Rattle.simulation.specs.Sound.{Valid, Variables}
+use Rattle.simulation.specs.Sound.{Valid, Variables, Marks}
 use Rattle.simulation.specs.Follows.{Related, Later, Follows}
 use Rattle.simulation.proofs.Frames.{later-trans, valid-later, SameVariables, variables-kept, variables-same, same-waiting}
 use Rattle.simulation.proofs.Results.{gave-back, Untouched, After, Values}
