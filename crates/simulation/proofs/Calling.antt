@@ -16,7 +16,7 @@ use Rattle.meaning.specs.State.{State, Variable, fresh, entered, withVariables}
 use Rattle.meaning.specs.Run as Run
 use Rattle.meaning.specs.Book.{Amounts, added, resourceNumber}
 use Rattle.machine.specs.Words.{unpacked}
-use Rattle.machine.specs.Layout.{declared, argumentsHeld, callsUsed, running, entriesMade, componentsMade, loopUnit, entriesGranted, callsGranted, componentPlace, pathPlace, framePlace, valuePlace, argumentPlace, stackWords, fixedWords}
+use Rattle.machine.specs.Layout.{declared, argumentsHeld, callsUsed, running, entriesMade, componentsMade, loopUnit, entriesGranted, callsGranted, pathPlace, framePlace, valuePlace, argumentPlace, stackWords, fixedWords}
 use Rattle.machine.specs.Act.{Raw, raw, done}
 use Rattle.machine.specs.Act as Act
 use Rattle.machine.specs.Stack.{argumentAt}
@@ -26,23 +26,7 @@ use Rattle.simulation.specs.Meant.{listed, slotAt, variableAt, variables
 use Rattle.simulation.specs.Sound.{Valid, Variables, Waiting, Marks}
 use Rattle.simulation.specs.Follows.{Related, Later}
 use Rattle.simulation.proofs.Listed.{listed-more, listed-shift}
-use Rattle.simulation.proofs.Frames.{
-  SameComponents,
-  SameRest,
-  rest-marks,
-  later-trans,
-  valid-later,
-  same-words,
-  SameVariables,
-  variables-kept,
-  variables-same,
-  SameStack,
-  within-kept,
-  holds-kept,
-  frames-same,
-  waits-same,
-  SameWaiting,
-}
+use Rattle.simulation.proofs.Frames.{SameComponents, SameRest, rest-marks, later-trans, valid-later, same-words, SameVariables, variables-kept, variables-same, SameStack, within-kept, holds-kept, frames-same, waits-same, SameWaiting}
 use Rattle.simulation.proofs.Results.{due, After}
 use Rattle.simulation.proofs.Moving.{moved-later, moved-related}
 use Rattle.simulation.proofs.Suspending.{waiting-word, waiting-slot, frame-top, frame-count, Slots, Parks, parks}

@@ -18,31 +18,15 @@ use Rattle.meaning.specs.Book.{Amounts, added, resourceNumber, shortageOf}
 use Rattle.meaning.specs.Evaluate as Evaluate
 use Rattle.machine.specs.declared.Value.{Value}
 use Rattle.machine.specs.declared.Value.the-variants.{Table}
-use Rattle.machine.specs.Layout.{
-  stepsUsed,
-  shapesUsed,
-  entriesUsed,
-  textUsed,
-  tablesMade,
-  declared,
-  argumentsHeld,
-  callsUsed,
-  running,
-  entriesMade,
-  componentsMade,
-  loopUnit,
-  stepsGranted,
-  fixedWords,
-  argumentPlace,
-  Lent,
-}
+use Rattle.machine.specs.Layout.{stepsUsed, shapesUsed, entriesUsed, textUsed, tablesMade, declared, argumentsHeld, callsUsed, running, entriesMade, componentsMade, loopUnit, stepsGranted, fixedWords, argumentPlace, Lent}
 use Rattle.machine.specs.Act.{Raw, raw}
 use Rattle.machine.specs.Act as Act
 use Rattle.simulation.specs.Meant.{meantValue}
 use Rattle.simulation.specs.Sound.{Valid, Counted}
 use Rattle.simulation.specs.Follows.{Grants, Related, Later, Follows}
 use Rattle.simulation.proofs.Binding.{bind}
-use Rattle.simulation.proofs.Frames.{stays-words, later-trans, SameRest, untouched-trans, untouched-words, SameVariables, same-words, SameWaiting, same-waiting, SameShapes, SameEntries}
+use Rattle.simulation.proofs.Frames.{stays-words, later-trans, SameRest, untouched-trans, untouched-words, SameVariables, same-words, SameWaiting, same-waiting, SameShapes}
+use Rattle.simulation.proofs.Holding.{SameEntries}
 use Rattle.simulation.proofs.Results.{due, given, Untouched, After, AfterValue, Values, onward, steps-told, refused, kept-related, spent}
 
 -- ---- lengths

@@ -34,7 +34,7 @@ use Rattle.simulation.specs.Follows.{Related, Later, Follows}
 use Rattle.simulation.proofs.Listed.{listed-same, listed-first, listed-more}
 use Rattle.simulation.proofs.Frames.{SameRest, rest-marks, untouched-words, valid-later, SameWaiting, same-waiting}
 use Rattle.simulation.proofs.Results.{given, failed, Untouched, After, steps-told}
-use Rattle.simulation.proofs.Shapes.{up-to}
+use Rattle.simulation.proofs.Growing.{up-to}
 use Rattle.simulation.proofs.Moving.{moved-later, moved-related}
 use Rattle.simulation.proofs.Variables.{slot-less, slot-named, name-slotted, apart-text, undeclared, is-declared}
 use Rattle.simulation.proofs.Flows.{both-onward, Flows}

@@ -249,8 +249,13 @@ module _ {program : List ℕ} {ts : List Token} {g : List ℕ} {r₁ r r₂ r′
     own = λ k x y.
         let o = rw ended-calls at x in
         let d : getD (r .words) callsUsed 0 - 1 < getD (r .words) callsUsed 0 = omega arith in
-        rw (ended-calls, ended-unit, ended-high (pathPlace g (getD (r .words) callsUsed 0 - 1) k) (omega arith),
-        a .untouched .marks (getD (r .words) callsUsed 0 - 1) k (omega (arith, b .calls)) y, b .marks (getD (r .words) callsUsed 0 - 1) k d y) (h .sound .marks .own k o y);
+        rw (
+          ended-calls,
+          ended-unit,
+          ended-high (pathPlace g (getD (r .words) callsUsed 0 - 1) k) (omega arith),
+          a .untouched .marks (getD (r .words) callsUsed 0 - 1) k (omega (arith, b .calls)) y,
+          b .marks (getD (r .words) callsUsed 0 - 1) k d y,
+        ) (h .sound .marks .own k o y);
   }
     where
       gone : (d k : ℕ) → getD (r .words) callsUsed 0 ≤ d → d < callsGranted g → k < entriesGranted g → (t : Bool) → eqb d (getD (r .words) callsUsed 0) ≡ t → getD (r′ .words) (pathPlace g d k) 0 ≡ 0

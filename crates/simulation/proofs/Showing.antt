@@ -3,11 +3,9 @@ use Prim.Native.Nat.{ℕ, zero, suc, _+_, _-_, _≤_, _<_}
 use native.Mathlib.Omega.{arith}
 use native.Mathlib.Nat.{le-refl, le-trans}
 use mathlib.Core.Path.{_≡_, refl, ap, sym, _∙_, subst}
-use mathlib.Core.Logic.{_≢_}
 use mathlib.Core.Bool.{Bool, true, false}
 use mathlib.Core.List.{List, [], _∷_, _++_}
 use lib.ListN.{getD, set}
-use lib.Seq.{getD-set-same}
 use Rattle.meaning.specs.Basics.{if_then_else_}
 use Rattle.meaning.specs.Token.{Token}
 use Rattle.meaning.specs.Figure as Meaning
@@ -27,14 +25,14 @@ use Rattle.machine.specs.Groups.{wayPlace, walkIn}
 use Rattle.machine.specs.Show.{measure, showReached, show, showIn, showFrom, showScene}
 use Rattle.simulation.specs.Meant.{meantFigure, componentsOf}
 use Rattle.simulation.specs.Follows.{Grants, Related, Follows}
-use Rattle.simulation.proofs.Binding.{bind, act-after}
+use Rattle.simulation.proofs.Binding.{act-after}
 use Rattle.simulation.proofs.Frames.{group-stays}
-use Rattle.simulation.proofs.Results.{due, given, After, unmoved, onward, steps-told, spent, spent-then}
-use Rattle.simulation.proofs.Counting.{AfterStep, other, here, step-related}
+use Rattle.simulation.proofs.Results.{due, given, onward, steps-told, spent, spent-then}
+use Rattle.simulation.proofs.Counting.{other, here, step-related}
 use Rattle.simulation.proofs.Usable.{figure-found, group-found}
 use Rattle.simulation.proofs.Walking.{Reached, Gathers, Walks, spare-lines, spare-after, walk-follows}
 use Rattle.simulation.proofs.Destroying.{Quiet, quiet-nil, quiet-on, run-unit, left}
-use Rattle.simulation.proofs.Clearing.{living, into, overFrom, Tells, Does, variables-follow}
+use Rattle.simulation.proofs.Clearing.{living, into, overFrom, Tells, variables-follow}
 
 -- ---- how long the lines of some figures are
 unfoldable pub sizes : (Meaning.Figure → ℕ) → List Meaning.Figure → ℕ

@@ -6,7 +6,7 @@ use native.Mathlib.Numerals.{add-one}
 use mathlib.Core.Path.{_≡_, refl, ap, sym, _∙_}
 use mathlib.Core.Logic.{_≢_}
 use mathlib.Core.Bool.{Bool, true, false}
-use mathlib.Core.List.{List, [], _∷_, _++_}
+use mathlib.Core.List.{List, [], _++_}
 use lib.ListN.{getD, set}
 use Rattle.meaning.specs.Basics.{if_then_else_}
 use Rattle.meaning.specs.Token.{Token}
@@ -14,26 +14,7 @@ use Rattle.meaning.specs.State.{State, isDestroyed}
 use Rattle.meaning.specs.Run as Run
 use Rattle.meaning.specs.Book.{Amounts}
 use Rattle.meaning.specs.Group.{each}
-use Rattle.machine.specs.Layout.{
-  stepsUsed,
-  shapesUsed,
-  entriesUsed,
-  textUsed,
-  tablesMade,
-  declared,
-  argumentsHeld,
-  callsUsed,
-  running,
-  entriesMade,
-  componentsMade,
-  waitingHeld,
-  loopUnit,
-  linesLength,
-  shapesGranted,
-  fixedWords,
-  shapePlace,
-  entryPlace,
-}
+use Rattle.machine.specs.Layout.{stepsUsed, shapesUsed, entriesUsed, textUsed, tablesMade, declared, argumentsHeld, callsUsed, running, entriesMade, componentsMade, waitingHeld, loopUnit, linesLength, shapesGranted, fixedWords, shapePlace, entryPlace}
 use Rattle.machine.specs.Act.{Raw, raw, Act}
 use Rattle.machine.specs.Act as Act
 use Rattle.machine.specs.Shapes.{isGroupAt, destroyedAt}
