@@ -273,7 +273,7 @@ module _ {program : List ℕ} {ts : List Token} {g : List ℕ} (few : length ts 
     new-other j a b c =
         getD-set-other two declared j (many + 1) 0 c ∙ getD-set-other one (orderPlace many) j slot 0 b ∙ getD-set-other (r .words) (valuePlace slot) j 4 0 a
 
-    new-value : getD three (valuePlace slot) 0 ≡ 4
+    pub new-value : getD three (valuePlace slot) 0 ≡ 4
     new-value =
         getD-set-other two declared (valuePlace slot) (many + 1) 0 (λ e. omega arith)
         ∙ getD-set-other one (orderPlace many) (valuePlace slot) slot 0 (λ e. omega arith) ∙ one-own
