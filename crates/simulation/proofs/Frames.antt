@@ -77,7 +77,7 @@ later-trans a b = record {
   figures = λ i l. stays-trans (a .figures i l) (b .figures i (le-trans l (a .shapes)));
 }
 
-append-none : {A : Type 0} (xs ys : List A) → xs ++ ys ≡ [] → (xs ≡ []) × (ys ≡ [])
+pub append-none : {A : Type 0} (xs ys : List A) → xs ++ ys ≡ [] → (xs ≡ []) × (ys ≡ [])
 append-none [] ys e = (refl, e)
 append-none (x ∷ xs) ys e = let y : _≡_ {A = ℕ} (suc (length (xs ++ ys))) 0 = ap length e in absurd (omega arith)
 
