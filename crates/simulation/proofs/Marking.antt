@@ -267,3 +267,28 @@ module _ {program : List ℕ} {ts : List Token} {g : List ℕ} {r : Raw} {s : St
     unit = low loopUnit (omega arith);
     waits = λ d j a b. as-was (pathPlace g d j) (λ e. omega (arith, path-less (entriesGranted g) d own j k (omega arith) b));
   }
+
+-- ---- the acts
+module _ {program : List ℕ} {ts : List Token} {g : List ℕ} {r : Raw} {s : State} {total : Amounts} (h : Related program ts g r s total) (some : 0 < getD (r .words) callsUsed 0)
+    (k : ℕ) (inside : k < entriesGranted g) where
+  own-call : (getD (r .words) callsUsed 0 - 1) % 64 ≡ getD (r .words) callsUsed 0 - 1
+  own-call = omega (arith, h .sound .counted .calls, h .sound .lent .room .calls)
+
+  -- a slot that is not marked
+  module _ (free : markAt g r k < getD (r .words) loopUnit 0) (fits : 2 * getD (r .words) loopUnit 0 ≤ 2 ^ 64) where
+    pub few-more : markAt g r k + getD (r .words) loopUnit 0 ≤ 2 * getD (r .words) loopUnit 0 - 1
+    few-more = omega arith
+
+    pub mark-is : mark g k r ≡ done tt (remarked h some k inside (markAt g r k + getD (r .words) loopUnit 0) few-more)
+    unfolding mark Act._>>=_ Act.goOn Act.held Act.store
+    mark-is =
+        let q : (markAt g r k + getD (r .words) loopUnit 0) % 2 ^ 64 ≡ markAt g r k + getD (r .words) loopUnit 0 = omega arith in
+        rw (own-call, q)
+
+  -- one that is
+  pub few-less : markAt g r k - getD (r .words) loopUnit 0 ≤ 2 * getD (r .words) loopUnit 0 - 1
+  few-less = omega (arith, h .sound .marks .own k some inside)
+
+  pub unmark-is : unmark g k r ≡ done tt (remarked h some k inside (markAt g r k - getD (r .words) loopUnit 0) few-less)
+  unfolding unmark Act._>>=_ Act.goOn Act.held Act.store
+  unmark-is = rw own-call
