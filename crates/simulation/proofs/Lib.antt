@@ -37,6 +37,9 @@ pub mod Declaring
 mod Assigning
 mod Kept
 mod Storing
+mod Hollowing
+mod Marking
+mod Looping
 mod Statements
 mod Suspending
 mod Parameters

@@ -3,13 +3,11 @@ use Prim.Native.Nat.{ℕ, zero, suc, _+_, _≤_, _<_}
 use native.Mathlib.Nat.{le-trans, le-of-lt}
 use native.Mathlib.Numerals.{add-one}
 use native.Mathlib.Omega.{arith}
-use mathlib.Core.Path.{_≡_, refl, ap, sym, _∙_, subst}
+use mathlib.Core.Path.{_≡_, refl, ap, subst}
 use mathlib.Core.Logic.{_≢_}
 use mathlib.Core.Bool.{Bool, true, false}
 use mathlib.Core.List.{List, [], _∷_}
-use mathlib.Core.Option.{some}
 use lib.ListN.{getD, set, length}
-use lib.Seq.{getD-set-same, getD-set-other}
 use lib.Dec.{eqb}
 use borrow.Author.Tests.{eqb-true, eqb-false}
 use Rattle.meaning.specs.Basics.{if_then_else_}
@@ -23,7 +21,7 @@ use Rattle.code.specs.Code.{slotOf}
 use Rattle.reader.proofs.Homes.{Occurs}
 use Rattle.machine.specs.declared.Value.the-variants.{Shape}
 use Rattle.machine.specs.Words.{packed}
-use Rattle.machine.specs.Layout.{shapesUsed, declared, running, valuePlace, orderPlace}
+use Rattle.machine.specs.Layout.{shapesUsed, running, valuePlace}
 use Rattle.machine.specs.Act.{Raw, raw}
 use Rattle.machine.specs.Act as Act
 use Rattle.machine.specs.Shapes.{isGroupAt, destroyedAt}

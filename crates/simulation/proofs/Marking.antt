@@ -1,7 +1,7 @@
 -- Marks of the loops of the call under way: what stays when one of them changes.
 use Prim.Native.Nat.{ℕ, _+_, _-_, _*_, _%_, _^_, _≤_, _<_}
 use native.Mathlib.Omega.{arith}
-use native.Mathlib.Nat.{le-refl, le-trans, mul-add, add-mul, mul-comm, mul-one, mul-le-mul-left}
+use native.Mathlib.Nat.{le-trans, mul-add, add-mul, mul-comm, mul-one, mul-le-mul-left}
 use mathlib.Core.Path.{_≡_, refl, ap, sym, _∙_}
 use mathlib.Core.Logic.{_≢_}
 use mathlib.Core.Bool.{Bool, true, false}
@@ -13,29 +13,7 @@ use borrow.Author.Tests.{eqb-true, eqb-false}
 use Rattle.meaning.specs.Token.{Token}
 use Rattle.meaning.specs.State.{State}
 use Rattle.meaning.specs.Book.{Amounts}
-use Rattle.machine.specs.Layout.{
-  stepsUsed,
-  shapesUsed,
-  entriesUsed,
-  textUsed,
-  tablesMade,
-  declared,
-  argumentsHeld,
-  callsUsed,
-  running,
-  entriesMade,
-  componentsMade,
-  loopUnit,
-  entriesGranted,
-  callsGranted,
-  framePlace,
-  valuePlace,
-  orderPlace,
-  argumentPlace,
-  shapePlace,
-  componentPlace,
-  pathPlace,
-}
+use Rattle.machine.specs.Layout.{stepsUsed, shapesUsed, entriesUsed, textUsed, tablesMade, declared, argumentsHeld, callsUsed, running, entriesMade, componentsMade, loopUnit, entriesGranted, callsGranted, componentPlace, pathPlace}
 use Rattle.machine.specs.Act.{Raw, raw, done}
 use Rattle.machine.specs.Act as Act
 use Rattle.machine.specs.Stack.{argumentAt}
@@ -43,24 +21,9 @@ use Rattle.machine.specs.Loops.{mark, unmark}
 use Rattle.simulation.specs.Meant.{frameAt}
 use Rattle.simulation.specs.Sound.{Marks}
 use Rattle.simulation.specs.Follows.{Related, Later}
-use Rattle.simulation.proofs.Frames.{
-  stays-words,
-  later-refl,
-  later-trans,
-  SameComponents,
-  SameStack,
-  SameVariables,
-  same-words,
-  variables-kept,
-  variables-same,
-  SameWaiting,
-  waits-same,
-  SameShapes,
-  shapes-kept,
-  shapes-same,
-}
+use Rattle.simulation.proofs.Frames.{stays-words, later-trans, SameComponents, SameStack, SameVariables, same-words, variables-kept, variables-same, SameWaiting, waits-same, SameShapes, shapes-kept, shapes-same}
 use Rattle.simulation.proofs.Holding.{SameEntries, entries-kept, entries-same}
-use Rattle.simulation.proofs.Results.{Untouched, After}
+use Rattle.simulation.proofs.Results.{After}
 use Rattle.simulation.proofs.Counting.{lent-set, other}
 
 -- the word of a slot, of the call under way
@@ -169,8 +132,13 @@ module _ {program : List ℕ} {ts : List Token} {g : List ℕ} {r : Raw} {s : St
   own-now =
       rw calls-as
       (getD-set-same (r .words) (pathPlace g own k) x 0
-      (omega (arith, path-less (entriesGranted g) own (callsGranted g) k 0 (omega (arith, h .sound .counted .calls)) inside, h .sound .lent .room .words,
-      mul-comm (entriesGranted g) (callsGranted g), add-mul 5 (callsGranted g) (entriesGranted g))))
+      (omega (
+        arith,
+        path-less (entriesGranted g) own (callsGranted g) k 0 (omega (arith, h .sound .counted .calls)) inside,
+        h .sound .lent .room .words,
+        mul-comm (entriesGranted g) (callsGranted g),
+        add-mul 5 (callsGranted g) (entriesGranted g),
+      )))
 
   pub own-others : (j : ℕ) → j ≢ k → markAt g remarked j ≡ markAt g r j
   own-others j n = rw calls-as (as-was (pathPlace g own j) (λ e. n (omega arith)))

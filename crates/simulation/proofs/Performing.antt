@@ -43,7 +43,7 @@ use Rattle.simulation.specs.Follows.{Grants, Related, Follows}
 use Rattle.simulation.proofs.Binding.{bind}
 use Rattle.simulation.proofs.Listed.{length-listed}
 use Rattle.simulation.proofs.Results.{due, failed, Values, onward, steps-told, spent-then}
-use Rattle.simulation.proofs.Flows.{Flows}
+use Rattle.simulation.proofs.Flows.{Flows, ended}
 use Rattle.simulation.proofs.Chaining.{regroup}
 use Rattle.simulation.proofs.Scopes.{mapped-left, mapped-right, distinct-few}
 use Rattle.simulation.proofs.Library.{stacked-kept}
@@ -178,12 +178,12 @@ module _ (e : Setting) {ts : List Token} (sane : Sane ts) (strings : Strings (e 
     body-does {r₂} {s₂} {total₂} h₂ less un z =
         let more : c + 1 ≤ 64 = omega (arith, less, h .sound .lent .room .calls) in
         let mine : 8192 * c + length (codeOfStatements (f .body) ts) + 2 * length (scopeOf (e .program) ts (slotOf ts x + 1)) ≤ 8192 * (c + 1) = omega (arith, scope-size, st .short) in
-        executes-all e sane strings gr (m .procedures) (ps .apart) n (slotOf ts x + 1) (c + 1) (8192 * c + length (codeOfStatements (f .body) ts)) (8192 * (64 - (c + 1)))
+        ended (executes-all e sane strings gr (m .procedures) (ps .apart) n (slotOf ts x + 1) (c + 1) (8192 * c + length (codeOfStatements (f .body) ts)) (8192 * (64 - (c + 1)))
         (omega (arith, mine, more)) (λ k l. again (slotOf ts x + 1) (c + 1) (8192 * c + length (codeOfStatements (f .body) ts)) (omega arith) mine k l)
         (getD (r .words) argumentsHeld 0 + getD (r .words) declared 0) (f .body) (st .body)
         (λ slot i. rw scope-is (mapped-right (slotOf ts) slot (f .parameters) (declaredBy (f .body)) i))
         fuel (length (codeOfStatements (f .body) ts) + 1) (st .start + length (f .parameters)) (st .start + length (f .parameters) + length (codeOfStatements (f .body) ts)) body-there
-        (omega (arith, deep, more, st .short)) (omega (arith, base-low)) (omega arith) refl r₂ s₂ total₂ h₂ un z
+        (omega (arith, deep, more, st .short)) (omega (arith, base-low)) (omega arith) refl r₂ s₂ total₂ h₂ un z)
 
     -- ---- parameters assigned, the body, and the return
     abbrev inside : Act Value
