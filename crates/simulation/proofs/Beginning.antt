@@ -13,7 +13,25 @@ use Rattle.meaning.specs.Run as Run
 use Rattle.meaning.specs.Book.{Amounts, nothingYet, added, resourceNumber, shortageOf}
 use Rattle.meaning.specs.Program.{empty}
 use Rattle.machine.specs.Words.{unpacked}
-use Rattle.machine.specs.Layout.{stepsUsed, shapesUsed, entriesUsed, textUsed, tablesMade, declared, argumentsHeld, callsUsed, running, entriesMade, componentsMade, callsGranted, pathPlace, fixedWords, valuePlace, argumentPlace, Lent}
+use Rattle.machine.specs.Layout.{
+  stepsUsed,
+  shapesUsed,
+  entriesUsed,
+  textUsed,
+  tablesMade,
+  declared,
+  argumentsHeld,
+  callsUsed,
+  running,
+  entriesMade,
+  componentsMade,
+  callsGranted,
+  pathPlace,
+  fixedWords,
+  valuePlace,
+  argumentPlace,
+  Lent,
+}
 use Rattle.machine.specs.Act.{Raw, raw}
 use Rattle.machine.specs.Act as Act
 use Rattle.simulation.specs.Meant.{listed, variablesOf, suspendedOf, shapesOf, entriesOf}
@@ -81,7 +99,15 @@ module _ (program : List ℕ) (ts : List Token) (g texts words : List ℕ) (lent
         atoms = λ k l. none entriesMade k (omega arith) l;
         holds = λ k l. none entriesMade k (omega arith) l;
         apart = λ j k a b x y. none entriesMade j (omega arith) a;
-        index = record { few = rw (counter entriesMade (omega arith)) (omega arith); begins = λ b l. rw (behind (headPlace g b) (omega arith), counter entriesMade (omega arith)); links = λ k l. none entriesMade k (omega arith) l };
+        index = record {
+          few = rw (counter entriesMade (omega arith)) (omega arith);
+          begins = λ b l. rw (
+            behind (headPlace g b) (omega arith),
+            counter entriesMade
+                (omega arith),
+          );
+          links = λ k l. none entriesMade k (omega arith) l;
+        };
       };
     };
     variables = rw (counter declared (omega arith));
@@ -141,7 +167,8 @@ module _ {program : List ℕ} {ts : List Token} {g : List ℕ} {r : Raw} {s : St
   called : getD (r .words) callsUsed 0 + 1 ≤ callsGranted g → Called program ts g r (raw (r .texts) now) s (added total (due Run.calls 1 p))
   unfolding added resourceNumber
   called fit = record {
-    related = moved-related h now (λ j l. other j (λ e. omega arith)) (λ j x y. other j (λ e. omega arith)) (λ j l. other j (λ e. omega arith)) (length-set (r .words) callsUsed (getD (r .words) callsUsed 0 + 1))
+    related = moved-related h now (λ j l. other j (λ e. omega arith)) (λ j x y. other j (λ e. omega arith)) (λ j l. other j (λ e. omega arith)) (length-set (r .words) callsUsed (getD
+        (r .words) callsUsed 0 + 1))
         (rw (other argumentsHeld (λ e. omega arith)) (h .sound .counted .arguments)) (omega (arith, one, fit))
         (variables-kept later kept ts (h .sound .variables)) (h .variables ∙ sym (variables-same later kept ts (h .sound .variables)))
         (record { within = λ d z l. absurd (omega (arith, one)); holds = λ d z l. absurd (omega (arith, one)) }) (marked fit) (h .suspended ∙ none-before ∙ sym none-now)

@@ -16,7 +16,23 @@ use Rattle.meaning.specs.State.{State, Variable, fresh, entered, withVariables}
 use Rattle.meaning.specs.Run as Run
 use Rattle.meaning.specs.Book.{Amounts, added, resourceNumber}
 use Rattle.machine.specs.Words.{unpacked}
-use Rattle.machine.specs.Layout.{declared, argumentsHeld, callsUsed, running, entriesMade, componentsMade, loopUnit, entriesGranted, callsGranted, pathPlace, framePlace, valuePlace, argumentPlace, stackWords, fixedWords}
+use Rattle.machine.specs.Layout.{
+  declared,
+  argumentsHeld,
+  callsUsed,
+  running,
+  entriesMade,
+  componentsMade,
+  loopUnit,
+  entriesGranted,
+  callsGranted,
+  pathPlace,
+  framePlace,
+  valuePlace,
+  argumentPlace,
+  stackWords,
+  fixedWords,
+}
 use Rattle.machine.specs.Act.{Raw, raw, done}
 use Rattle.machine.specs.Act as Act
 use Rattle.machine.specs.Stack.{argumentAt}
@@ -26,7 +42,23 @@ use Rattle.simulation.specs.Meant.{listed, slotAt, variableAt, variables
 use Rattle.simulation.specs.Sound.{Valid, Variables, Waiting, Marks}
 use Rattle.simulation.specs.Follows.{Related, Later}
 use Rattle.simulation.proofs.Listed.{listed-more, listed-shift}
-use Rattle.simulation.proofs.Frames.{SameComponents, SameRest, rest-marks, later-trans, valid-later, same-words, SameVariables, variables-kept, variables-same, SameStack, within-kept, holds-kept, frames-same, waits-same, SameWaiting}
+use Rattle.simulation.proofs.Frames.{
+  SameComponents,
+  SameRest,
+  rest-marks,
+  later-trans,
+  valid-later,
+  same-words,
+  SameVariables,
+  variables-kept,
+  variables-same,
+  SameStack,
+  within-kept,
+  holds-kept,
+  frames-same,
+  waits-same,
+  SameWaiting,
+}
 use Rattle.simulation.proofs.Results.{due, After}
 use Rattle.simulation.proofs.Moving.{moved-later, moved-related}
 use Rattle.simulation.proofs.Suspending.{waiting-word, waiting-slot, frame-top, frame-count, Slots, Parks, parks}
@@ -190,7 +222,8 @@ module _ {program : List ℕ} {ts : List Token} {g : List ℕ} {r : Raw} {s : St
 
     pub waits-related : Related program ts g (raw (r .texts) waits) (without s) total
     unfolding variablesOf listed
-    waits-related = moved-related h waits waits-low (λ j a b. waits-parts j a (omega arith)) waits-high waits-long (rw waits-held fit) (rw waits-calls (h .sound .counted .calls)) no-variables (rw waits-declared refl)
+    waits-related = moved-related h waits waits-low (λ j a b. waits-parts j a (omega arith)) waits-high waits-long (rw waits-held fit) (rw waits-calls
+        (h .sound .counted .calls)) no-variables (rw waits-declared refl)
         (still-waiting .waiting) (rest-marks waits-rest (h .sound .marks)) (h .suspended ∙ sym (still-waiting .suspended)) refl refl refl refl (h .callsTaken ∙ sym waits-calls)
 
   -- the act
@@ -273,7 +306,8 @@ module _ {program : List ℕ} {ts : List Token} {g : List ℕ} {r : Raw} {s : St
   }
 
   own-frame : frameAt now (getD (r .words) callsUsed 0) ≡ frameWord (getD (r .words) argumentsHeld 0) (getD (r .words) declared 0)
-  own-frame = now-other (framePlace (getD (r .words) callsUsed 0)) (λ e. omega arith) (λ e. omega arith) ∙ same (framePlace (getD (r .words) callsUsed 0)) (λ e. omega arith) (omega arith) ∙ waits-frame h fit number
+  own-frame = now-other (framePlace (getD (r .words) callsUsed 0)) (λ e. omega arith) (λ e. omega arith) ∙ same (framePlace (getD (r .words) callsUsed 0)) (λ e. omega arith)
+      (omega arith) ∙ waits-frame h fit number
 
   own-word : (j : ℕ) → j < getD (r .words) declared 0
       → argumentAt now (getD (r .words) argumentsHeld 0 + j) ≡ waitingWord (slotAt (r .words) j) (getD (r .words) (valuePlace (slotAt (r .words) j)) 0)
@@ -374,4 +408,5 @@ module _ {program : List ℕ} {ts : List Token} {g : List ℕ} {r : Raw} {s : St
   }
     where
       kept : SameVariables now-later
-      kept = same-words now-later (now-other declared (λ e. omega arith) (λ e. omega arith)) (now-other running (λ e. omega arith) (λ e. omega arith)) (λ i x y. now-other i (λ e. omega arith) (λ e. omega arith))
+      kept = same-words now-later (now-other declared (λ e. omega arith) (λ e. omega arith)) (now-other running (λ e. omega arith) (λ e. omega arith)) (λ i x y. now-other i
+          (λ e. omega arith) (λ e. omega arith))

@@ -75,7 +75,8 @@ pub record Tells (Acc : Raw → List Meaning.Figure → Raw → Type 0) : Type 0
 pub quiet-tells : Tells Quiet
 quiet-tells = record { nil = quiet-nil; more = λ a b. quiet-on _ a b; quiet = λ a. a }
 
-module _ (program : List ℕ) (ts : List Token) (g : List ℕ) (granted : Amounts) (Acc : Raw → List Meaning.Figure → Raw → Type 0) (tells : Tells Acc) (X : ℕ → Act (Unit {0})) (D : ℕ → Run.Action (List Meaning.Figure)) where
+module _ (program : List ℕ) (ts : List Token) (g : List ℕ) (granted : Amounts) (Acc : Raw → List Meaning.Figure → Raw → Type 0) (tells : Tells Acc) (X : ℕ → Act (Unit {0})) (D : ℕ
+    → Run.Action (List Meaning.Figure)) where
   abbrev Here : Raw → State → Amounts → Type 0
   Here r s total = Related program ts g r s total
 

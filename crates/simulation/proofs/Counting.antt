@@ -18,7 +18,24 @@ use Rattle.meaning.specs.Book.{Amounts, added, resourceNumber, shortageOf}
 use Rattle.meaning.specs.Evaluate as Evaluate
 use Rattle.machine.specs.declared.Value.{Value}
 use Rattle.machine.specs.declared.Value.the-variants.{Table}
-use Rattle.machine.specs.Layout.{stepsUsed, shapesUsed, entriesUsed, textUsed, tablesMade, declared, argumentsHeld, callsUsed, running, entriesMade, componentsMade, loopUnit, stepsGranted, fixedWords, argumentPlace, Lent}
+use Rattle.machine.specs.Layout.{
+  stepsUsed,
+  shapesUsed,
+  entriesUsed,
+  textUsed,
+  tablesMade,
+  declared,
+  argumentsHeld,
+  callsUsed,
+  running,
+  entriesMade,
+  componentsMade,
+  loopUnit,
+  stepsGranted,
+  fixedWords,
+  argumentPlace,
+  Lent,
+}
 use Rattle.machine.specs.Act.{Raw, raw}
 use Rattle.machine.specs.Act as Act
 use Rattle.simulation.specs.Meant.{meantValue}

@@ -111,7 +111,8 @@ module _ {program : List ℕ} {ts : List Token} {g : List ℕ} {r : Raw} {s : St
       → After program ts g r (raw (r .texts) ws′) (withVariables s vs) total
   changed vs long v e = record {
     related = moved-related h ws′ (λ j l. low j (λ e. omega arith) (omega arith)) (λ j a b. low j (λ e. omega arith) (omega arith)) (λ j l. high j (omega arith)) long
-        (rw height (h .sound .counted .arguments)) (rw calls-same (h .sound .counted .calls)) v e (changed-waiting .waiting) (rest-marks changed-rest (h .sound .marks)) (h .suspended ∙ sym (changed-waiting .suspended))
+        (rw height (h .sound .counted .arguments)) (rw calls-same (h .sound .counted .calls)) v e (changed-waiting .waiting) (rest-marks changed-rest (h .sound .marks)) (h .suspended ∙ sym
+        (changed-waiting .suspended))
         refl refl refl refl (h .callsTaken ∙ sym calls-same);
     later = changed-later;
     spare = omega (arith, low stepsUsed (λ e. omega arith) (omega arith), low tablesMade (λ e. omega arith) (omega arith));

@@ -19,7 +19,24 @@ use Rattle.meaning.specs.Run.{Event, End, result, error, unfinished, Run, run}
 use Rattle.meaning.specs.Run as Run
 use Rattle.meaning.specs.Book.{Amounts, added, shortageOf}
 use Rattle.meaning.specs.Group.{each, destroying}
-use Rattle.machine.specs.Layout.{stepsUsed, shapesUsed, entriesUsed, textUsed, tablesMade, declared, argumentsHeld, callsUsed, running, entriesMade, componentsMade, loopUnit, stepsGranted, shapesGranted, fixedWords, shapePlace}
+use Rattle.machine.specs.Layout.{
+  stepsUsed,
+  shapesUsed,
+  entriesUsed,
+  textUsed,
+  tablesMade,
+  declared,
+  argumentsHeld,
+  callsUsed,
+  running,
+  entriesMade,
+  componentsMade,
+  loopUnit,
+  stepsGranted,
+  shapesGranted,
+  fixedWords,
+  shapePlace,
+}
 use Rattle.machine.specs.Act.{Raw, raw, done, Act}
 use Rattle.machine.specs.Act as Act
 use Rattle.machine.specs.Shapes.{isGroupAt, figureAt, destroyedWord, destroy}
@@ -28,7 +45,29 @@ use Rattle.simulation.specs.Meant.{listed, componentsOf, contentAt, shap
 use Rattle.simulation.specs.Sound.{Shapes}
 use Rattle.simulation.specs.Follows.{Grants, Stays, Related, Later, Follows}
 use Rattle.simulation.proofs.Listed.{set-listed}
-use Rattle.simulation.proofs.Frames.{group-stays, stays-words, SameRest, rest-components, rest-marks, untouched-components, untouched-words, proper-kept, first-later, count-later, grouped-later, components-later, content-stays, content-made, figures-none, SameVariables, same-words, variables-kept, variables-same, SameWaiting, same-waiting}
+use Rattle.simulation.proofs.Frames.{
+  group-stays,
+  stays-words,
+  SameRest,
+  rest-components,
+  rest-marks,
+  untouched-components,
+  untouched-words,
+  proper-kept,
+  first-later,
+  count-later,
+  grouped-later,
+  components-later,
+  content-stays,
+  content-made,
+  figures-none,
+  SameVariables,
+  same-words,
+  variables-kept,
+  variables-same,
+  SameWaiting,
+  same-waiting,
+}
 use Rattle.simulation.proofs.Holding.{SameEntries, entries-kept, entries-same}
 use Rattle.simulation.proofs.Results.{due, mapped, given, Untouched, After, onward, steps-told, spent-then}
 use Rattle.simulation.proofs.Counting.{lent-set, other, step-related}

@@ -19,7 +19,36 @@ use Rattle.meaning.specs.Basics.{bytes, if_then_else_, sameText}
 use Rattle.meaning.specs.Token.{Token, aName, aString}
 use Rattle.meaning.specs.Integer.{bits, wrap}
 use Rattle.meaning.proofs.IntegerLaws.{wrap-range}
-use Rattle.meaning.specs.Tree.{Operator, concatenate, add, subtract, multiply, divide, remainder, shiftRight, shiftLeft, equal, unequal, greater, less, Expression, number, string, nothing, truth, name, table, entry, operation, call, paren, Arguments, noArgument, argument, Procedure}
+use Rattle.meaning.specs.Tree.{
+  Operator,
+  concatenate,
+  add,
+  subtract,
+  multiply,
+  divide,
+  remainder,
+  shiftRight,
+  shiftLeft,
+  equal,
+  unequal,
+  greater,
+  less,
+  Expression,
+  number,
+  string,
+  nothing,
+  truth,
+  name,
+  table,
+  entry,
+  operation,
+  call,
+  paren,
+  Arguments,
+  noArgument,
+  argument,
+  Procedure,
+}
 use Rattle.meaning.specs.Grammar.{procedureNamed}
 use Rattle.meaning.specs.Value as Value
 use Rattle.meaning.specs.State.{State}

@@ -22,7 +22,30 @@ use Rattle.meaning.specs.State as State
 use Rattle.meaning.specs.Run as Run
 use Rattle.meaning.specs.Book.{Amounts}
 use Rattle.machine.specs.declared.Value.the-variants.{Shape}
-use Rattle.machine.specs.Layout.{stepsUsed, shapesUsed, entriesUsed, textUsed, tablesMade, declared, argumentsHeld, callsUsed, running, entriesMade, componentsMade, waitingHeld, loopUnit, shapesGranted, entriesGranted, fixedWords, framePlace, argumentPlace, shapePlace, entryPlace, componentPlace, pathPlace}
+use Rattle.machine.specs.Layout.{
+  stepsUsed,
+  shapesUsed,
+  entriesUsed,
+  textUsed,
+  tablesMade,
+  declared,
+  argumentsHeld,
+  callsUsed,
+  running,
+  entriesMade,
+  componentsMade,
+  waitingHeld,
+  loopUnit,
+  shapesGranted,
+  entriesGranted,
+  fixedWords,
+  framePlace,
+  argumentPlace,
+  shapePlace,
+  entryPlace,
+  componentPlace,
+  pathPlace,
+}
 use Rattle.machine.specs.Act.{Raw, raw}
 use Rattle.machine.specs.Shapes.{firstWord, pairWord, lowNumber, highNumber, isGroupAt, figureAt}
 use Rattle.machine.specs.Groups.{firstAt, countAt}
@@ -32,7 +55,23 @@ use Rattle.simulation.specs.Meant.{listed, contentAt, shapeAt, shapesOf}
 use Rattle.simulation.specs.Sound.{Proper, Counted, Grouped, Shapes, Marks}
 use Rattle.simulation.specs.Follows.{Related, Later}
 use Rattle.simulation.proofs.Listed.{listed-first, listed-more, length-listed}
-use Rattle.simulation.proofs.Frames.{group-stays, stays-words, SameComponents, SameVariables, same-words, variables-kept, variables-same, SameWaiting, same-waiting, proper-kept, first-later, count-later, grouped-later, content-stays, figures-none}
+use Rattle.simulation.proofs.Frames.{
+  group-stays,
+  stays-words,
+  SameComponents,
+  SameVariables,
+  same-words,
+  variables-kept,
+  variables-same,
+  SameWaiting,
+  same-waiting,
+  proper-kept,
+  first-later,
+  count-later,
+  grouped-later,
+  content-stays,
+  figures-none,
+}
 use Rattle.simulation.proofs.Holding.{SameEntries, entries-kept, entries-same}
 use Rattle.simulation.proofs.Results.{Untouched, After}
 

@@ -72,7 +72,8 @@ module _ {program g : List ℕ} {r r′ : Raw} (l : Later program r r′) (shape
       let t = ap (λ (f : Figure). f .text) e in
       rw (k, a, b, c, d, t, l .texts (getD (r .words) (shapePlace i) 0 / 16) (shapes .proper i h n .text))
 
-  pub content-later : (key : ℕ) → Valid program (r .words) (unpacked key) → isGroupKey (r .words) key ≡ false → contentOf program (r′ .texts) (r′ .words) key ≡ contentOf program (r .texts) (r .words) key
+  pub content-later : (key : ℕ) → Valid program (r .words) (unpacked key) → isGroupKey (r .words) key ≡ false
+      → contentOf program (r′ .texts) (r′ .words) key ≡ contentOf program (r .texts) (r .words) key
   unfolding Valid
   content-later key v n =
       content-same program (r .texts) (r′ .texts) (r .words) (r′ .words) key

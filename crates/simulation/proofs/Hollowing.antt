@@ -21,7 +21,26 @@ use Rattle.simulation.specs.Follows.{Stays, Related, Later}
 use Rattle.simulation.proofs.Listed.{listed-first}
 use Rattle.machine.specs.Show.{figuresIn}
 use Rattle.machine.specs.Loops.{hollowAt}
-use Rattle.simulation.proofs.Frames.{group-stays, stays-words, SameRest, rest-components, rest-marks, untouched-words, proper-kept, first-later, count-later, grouped-later, content-stays, figures-none, SameVariables, same-words, variables-kept, variables-same, SameWaiting, same-waiting}
+use Rattle.simulation.proofs.Frames.{
+  group-stays,
+  stays-words,
+  SameRest,
+  rest-components,
+  rest-marks,
+  untouched-words,
+  proper-kept,
+  first-later,
+  count-later,
+  grouped-later,
+  content-stays,
+  figures-none,
+  SameVariables,
+  same-words,
+  variables-kept,
+  variables-same,
+  SameWaiting,
+  same-waiting,
+}
 use Rattle.simulation.proofs.Holding.{SameEntries, entries-kept, entries-same}
 use Rattle.simulation.proofs.Results.{Untouched, After}
 use Rattle.simulation.proofs.Counting.{lent-set, other}

@@ -10,12 +10,45 @@ use Rattle.meaning.specs.State.{State, Entry, withEntries}
 use Rattle.meaning.specs.Run as Run
 use Rattle.meaning.specs.Book.{Amounts}
 use Rattle.machine.specs.Words.{unpacked}
-use Rattle.machine.specs.Layout.{stepsUsed, shapesUsed, entriesUsed, textUsed, tablesMade, declared, argumentsHeld, callsUsed, running, entriesMade, componentsMade, loopUnit, shapesGranted, entriesGranted, fixedWords, componentPlace}
+use Rattle.machine.specs.Layout.{
+  stepsUsed,
+  shapesUsed,
+  entriesUsed,
+  textUsed,
+  tablesMade,
+  declared,
+  argumentsHeld,
+  callsUsed,
+  running,
+  entriesMade,
+  componentsMade,
+  loopUnit,
+  shapesGranted,
+  entriesGranted,
+  fixedWords,
+  componentPlace,
+}
 use Rattle.machine.specs.Act.{Raw, raw}
 use Rattle.simulation.specs.Meant.{meantKey, entriesOf}
 use Rattle.simulation.specs.Sound.{Valid, Entries}
 use Rattle.simulation.specs.Follows.{Related, Later}
-use Rattle.simulation.proofs.Frames.{stays-words, SameComponents, SameRest, rest-components, rest-marks, untouched-words, SameVariables, same-words, variables-kept, variables-same, SameWaiting, same-waiting, SameShapes, shapes-kept, shapes-same}
+use Rattle.simulation.proofs.Frames.{
+  stays-words,
+  SameComponents,
+  SameRest,
+  rest-components,
+  rest-marks,
+  untouched-words,
+  SameVariables,
+  same-words,
+  variables-kept,
+  variables-same,
+  SameWaiting,
+  same-waiting,
+  SameShapes,
+  shapes-kept,
+  shapes-same,
+}
 use Rattle.simulation.proofs.Holding.{key-later}
 use Rattle.simulation.proofs.Results.{Untouched, After}
 

@@ -13,7 +13,24 @@ use borrow.Author.Tests.{eqb-true, eqb-false}
 use Rattle.meaning.specs.Token.{Token}
 use Rattle.meaning.specs.State.{State}
 use Rattle.meaning.specs.Book.{Amounts}
-use Rattle.machine.specs.Layout.{stepsUsed, shapesUsed, entriesUsed, textUsed, tablesMade, declared, argumentsHeld, callsUsed, running, entriesMade, componentsMade, loopUnit, entriesGranted, callsGranted, componentPlace, pathPlace}
+use Rattle.machine.specs.Layout.{
+  stepsUsed,
+  shapesUsed,
+  entriesUsed,
+  textUsed,
+  tablesMade,
+  declared,
+  argumentsHeld,
+  callsUsed,
+  running,
+  entriesMade,
+  componentsMade,
+  loopUnit,
+  entriesGranted,
+  callsGranted,
+  componentPlace,
+  pathPlace,
+}
 use Rattle.machine.specs.Act.{Raw, raw, done}
 use Rattle.machine.specs.Act as Act
 use Rattle.machine.specs.Stack.{argumentAt}
@@ -21,7 +38,21 @@ use Rattle.machine.specs.Loops.{mark, unmark}
 use Rattle.simulation.specs.Meant.{frameAt}
 use Rattle.simulation.specs.Sound.{Marks}
 use Rattle.simulation.specs.Follows.{Related, Later}
-use Rattle.simulation.proofs.Frames.{stays-words, later-trans, SameComponents, SameStack, SameVariables, same-words, variables-kept, variables-same, SameWaiting, waits-same, SameShapes, shapes-kept, shapes-same}
+use Rattle.simulation.proofs.Frames.{
+  stays-words,
+  later-trans,
+  SameComponents,
+  SameStack,
+  SameVariables,
+  same-words,
+  variables-kept,
+  variables-same,
+  SameWaiting,
+  waits-same,
+  SameShapes,
+  shapes-kept,
+  shapes-same,
+}
 use Rattle.simulation.proofs.Holding.{SameEntries, entries-kept, entries-same}
 use Rattle.simulation.proofs.Results.{After}
 use Rattle.simulation.proofs.Counting.{lent-set, other}

@@ -8,7 +8,22 @@ use Rattle.meaning.specs.Token.{Token}
 use Rattle.meaning.specs.State.{State, Variable}
 use Rattle.meaning.specs.Run as Run
 use Rattle.meaning.specs.Book.{Amounts}
-use Rattle.machine.specs.Layout.{stepsUsed, shapesUsed, entriesUsed, textUsed, tablesMade, declared, argumentsHeld, callsUsed, entriesMade, componentsMade, loopUnit, callsGranted, stackWords, fixedWords}
+use Rattle.machine.specs.Layout.{
+  stepsUsed,
+  shapesUsed,
+  entriesUsed,
+  textUsed,
+  tablesMade,
+  declared,
+  argumentsHeld,
+  callsUsed,
+  entriesMade,
+  componentsMade,
+  loopUnit,
+  callsGranted,
+  stackWords,
+  fixedWords,
+}
 use Rattle.machine.specs.Act.{Raw, raw}
 use Rattle.simulation.specs.Meant.{variablesOf, suspendedOf}
 use Rattle.simulation.specs.Sound.{Variables, Waiting, Marks}

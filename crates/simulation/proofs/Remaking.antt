@@ -406,7 +406,8 @@ module _ (program : List ℕ) (ts : List Token) (g : List ℕ) {granted : Amount
               means = ap Value.shape (y .same);
             };
           })
-          (subst (λ n. Follows granted total₂ (λ i j r′ s′ total′. AfterGroup (raw (r .texts) (set (r .words) waitingHeld 0)) r₂ s₂ i j r′ s′ total′) (groupWaiting g p n r₂) (Group.newShape p (group js) s₂))
+          (subst (λ n. Follows granted total₂ (λ i j r′ s′ total′. AfterGroup (raw (r .texts) (set (r .words) waitingHeld 0)) r₂ s₂ i j r′ s′ total′) (groupWaiting g p n r₂)
+          (Group.newShape p (group js) s₂))
           none-wait (groups (x .after .related) (x .acc) less₂)))
 
       pub remakes : Makes (remake g p f i r) (remade (suc i) p f′ i s)

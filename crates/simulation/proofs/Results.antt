@@ -23,7 +23,24 @@ use Rattle.simulation.specs.Sound.{Counted}
 use Rattle.simulation.specs.Follows.{Related, Later, Together, gives, lacks, fails, Follows}
 pub use Rattle.simulation.specs.After.{Untouched, After, AfterValue}
 use Rattle.simulation.proofs.Binding.{Relation, bind}
-use Rattle.simulation.proofs.Frames.{later-refl, later-trans, untouched-refl, untouched-trans, valid-later, meant-later, SameVariables, variables-kept, variables-same, SameWaiting, SameRest, rest-components, rest-marks, SameShapes, shapes-kept, shapes-same}
+use Rattle.simulation.proofs.Frames.{
+  later-refl,
+  later-trans,
+  untouched-refl,
+  untouched-trans,
+  valid-later,
+  meant-later,
+  SameVariables,
+  variables-kept,
+  variables-same,
+  SameWaiting,
+  SameRest,
+  rest-components,
+  rest-marks,
+  SameShapes,
+  shapes-kept,
+  shapes-same,
+}
 use Rattle.simulation.proofs.Holding.{SameEntries, entries-kept, entries-same}
 
 -- ---- outcomes

@@ -19,7 +19,26 @@ use Rattle.meaning.specs.Execute as Execute
 use Rattle.meaning.specs.Procedure.{returnedBy}
 use Rattle.machine.specs.declared.Value.{Value}
 use Rattle.machine.specs.declared.Flow.{Flow}
-use Rattle.machine.specs.Layout.{stepsUsed, tablesMade, declared, argumentsHeld, callsUsed, running, entriesMade, componentsMade, loopUnit, entriesGranted, callsGranted, pathPlace, framePlace, valuePlace, orderPlace, argumentPlace, stackWords, fixedWords}
+use Rattle.machine.specs.Layout.{
+  stepsUsed,
+  tablesMade,
+  declared,
+  argumentsHeld,
+  callsUsed,
+  running,
+  entriesMade,
+  componentsMade,
+  loopUnit,
+  entriesGranted,
+  callsGranted,
+  pathPlace,
+  framePlace,
+  valuePlace,
+  orderPlace,
+  argumentPlace,
+  stackWords,
+  fixedWords,
+}
 use Rattle.machine.specs.Act.{Raw, raw, done}
 use Rattle.machine.specs.Act as Act
 use Rattle.machine.specs.Stack.{argumentAt, dropTo}
@@ -163,7 +182,8 @@ module _ {program : List ℕ} {ts : List Token} {g : List ℕ} {r₁ r r₂ r′
 
   calls-were : getD w₂ callsUsed 0 ≡ getD (r .words) callsUsed 0 + 1
   calls-were =
-      getD-set-other w₀ loopUnit callsUsed unit 0 (λ e. omega arith) ∙ getD-set-other w₁ running callsUsed caller 0 (λ e. omega arith) ∙ getD-set-other (back .words) declared callsUsed many 0 (λ e. omega arith)
+      getD-set-other w₀ loopUnit callsUsed unit 0 (λ e. omega arith) ∙ getD-set-other w₁ running callsUsed caller 0 (λ e. omega arith) ∙ getD-set-other
+      (back .words) declared callsUsed many 0 (λ e. omega arith)
       ∙ back .restored .low callsUsed (omega arith) ∙ taken .undeclared .low callsUsed (omega arith) ∙ a .untouched .calls ∙ b .calls
 
   ended-calls : getD ended callsUsed 0 ≡ getD (r .words) callsUsed 0
@@ -184,7 +204,8 @@ module _ {program : List ℕ} {ts : List Token} {g : List ℕ} {r₁ r r₂ r′
   ended-declared : getD ended declared 0 ≡ many
   ended-declared =
       getD-set-other w₃ argumentsHeld declared base 0 (λ e. omega arith) ∙ getD-set-other w₂ callsUsed declared (getD w₂ callsUsed 0 - 1) 0 (λ e. omega arith)
-      ∙ getD-set-other w₀ loopUnit declared unit 0 (λ e. omega arith) ∙ getD-set-other w₁ running declared caller 0 (λ e. omega arith) ∙ getD-set-same (back .words) declared many 0 (rw back-long (omega (arith, room)))
+      ∙ getD-set-other w₀ loopUnit declared unit 0 (λ e. omega arith) ∙ getD-set-other w₁ running declared caller 0 (λ e. omega arith) ∙ getD-set-same (back .words) declared many 0
+      (rw back-long (omega (arith, room)))
 
   -- ---- variables as they were
   ended-slot : (k : ℕ) → k < many → slotAt ended k ≡ slotAt (r .words) k

@@ -26,7 +26,23 @@ use Rattle.simulation.specs.Meant.{meantValue, meantFigure, contentAt}
 use Rattle.simulation.specs.Sound.{Valid, Proper}
 use Rattle.simulation.specs.Follows.{Grants, Related, Follows}
 use Rattle.simulation.proofs.Results.{due, given, AfterValue, steps-told, spent-then}
-use Rattle.simulation.proofs.Growing.{low-of, high-of, pair-small, text-of, kind-of, alive, length-four, read-four, read-first, read-second, read-third, read-fourth, Grown, AfterShape, grown-after}
+use Rattle.simulation.proofs.Growing.{
+  low-of,
+  high-of,
+  pair-small,
+  text-of,
+  kind-of,
+  alive,
+  length-four,
+  read-four,
+  read-first,
+  read-second,
+  read-third,
+  read-fourth,
+  Grown,
+  AfterShape,
+  grown-after,
+}
 
 -- ---- a figure
 module _ {program : List ℕ} {ts : List Token} {g : List ℕ} {r : Raw} {s : State} {total : Amounts} (h : Related program ts g r s total) (f : Figure)
@@ -53,7 +69,8 @@ module _ {program : List ℕ} {ts : List Token} {g : List ℕ} {r : Raw} {s : St
   highly j b = untouched j (λ e. omega arith) (λ e. omega arith) (λ e. omega arith) (λ e. omega arith)
 
   word₀ : getD ws′ place 0 ≡ firstWord (f .kind) (f .text)
-  word₀ = read-second (r .words) 1 place (place + 1) (place + 2) (m + 1) (firstWord (f .kind) (f .text)) (pairWord (f .a) (f .b)) (pairWord (f .c) (f .d)) (omega (arith, long)) (λ e. omega arith) (λ e. omega arith)
+  word₀ = read-second (r .words) 1 place (place + 1) (place + 2) (m + 1) (firstWord (f .kind) (f .text)) (pairWord (f .a) (f .b)) (pairWord (f .c) (f .d)) (omega (arith, long))
+      (λ e. omega arith) (λ e. omega arith)
 
   word₁ : getD ws′ (place + 1) 0 ≡ pairWord (f .a) (f .b)
   word₁ = read-third (r .words) 1 place (place + 1) (place + 2) (m + 1) (firstWord (f .kind) (f .text)) (pairWord (f .a) (f .b)) (pairWord (f .c) (f .d)) (omega (arith, long)) (λ e. omega arith)
@@ -88,7 +105,8 @@ module _ {program : List ℕ} {ts : List Token} {g : List ℕ} {r : Raw} {s : St
   figure-grown = let c = h .sound .counted in record {
     long = length-four (r .words) 1 place (place + 1) (place + 2) (m + 1) (firstWord (f .kind) (f .text)) (pairWord (f .a) (f .b)) (pairWord (f .c) (f .d));
     low = λ j x y z l. lowly j x (omega arith);
-    used = read-first (r .words) 1 place (place + 1) (place + 2) (m + 1) (firstWord (f .kind) (f .text)) (pairWord (f .a) (f .b)) (pairWord (f .c) (f .d)) (omega (arith, long)) (λ e. omega arith) (λ e. omega arith) (λ e. omega arith);
+    used = read-first (r .words) 1 place (place + 1) (place + 2) (m + 1) (firstWord (f .kind) (f .text)) (pairWord (f .a) (f .b)) (pairWord (f .c) (f .d)) (omega (arith, long))
+        (λ e. omega arith) (λ e. omega arith) (λ e. omega arith);
     fit = fit;
     shapes = λ i j l k. lowly _ (λ e. omega arith) (omega arith);
     ways = λ i j x y l. untouched _ (λ e. omega arith) (λ e. omega arith) (λ e. omega arith) (λ e. omega arith);

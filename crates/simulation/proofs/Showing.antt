@@ -113,7 +113,8 @@ module _ (program : List ℕ) (ts : List Token) (g : List ℕ) {granted : Amount
       };
     }
 
-    chained : {d : ℕ} {r r₁ r₂ : Raw} {xs ys : List Meaning.Figure} {s₁ s₂ : State} {total₁ total₂ : Amounts} → Leads d r xs r₁ s₁ total₁ → Leads d r₁ ys r₂ s₂ total₂ → Leads d r (xs ++ ys) r₂ s₂ total₂
+    chained : {d : ℕ} {r r₁ r₂ : Raw} {xs ys : List Meaning.Figure} {s₁ s₂ : State} {total₁ total₂ : Amounts} → Leads d r xs r₁ s₁ total₁ → Leads d r₁ ys r₂ s₂ total₂
+        → Leads d r (xs ++ ys) r₂ s₂ total₂
     chained a b = record { after = onward (a .after) (b .after); ways = λ e l m. b .ways e l m ∙ a .ways e l m; acc = lines-more size′ (a .acc) (b .acc) }
 
     at-figure : (b c d : ℕ) {r : Raw} {s : State} {total : Amounts} (h : Here r s total) → c < getD (r .words) shapesUsed 0 → isGroupAt (r .words) c ≡ false
@@ -177,7 +178,8 @@ module _ (program : List ℕ) (ts : List Token) (g : List ℕ) {granted : Amount
         go true e =
             let q : suc (shapesGranted g - 1) ≡ shapesGranted g = omega (arith, h .sound .counted .shapes) in
             rw (e, group-found h i l e)
-            (subst (λ b. Follows granted total (λ _ xs r′ s′ total′. Leads 0 r xs r′ s′ total′) (walkIn (showReached size g) (λ d. Act.give tt) b g 0 i r) (each (visit′ i) (componentsOf g (r .words) i) s)) q
+            (subst (λ b. Follows granted total (λ _ xs r′ s′ total′. Leads 0 r xs r′ s′ total′) (walkIn (showReached size g) (λ d. Act.give tt) b g 0 i r) (each (visit′ i) (componentsOf g
+            (r .words) i) s)) q
             (walk-follows program ts g granted (Lines size′) Any (gathered size′) (showReached size g) (λ d. Act.give tt) visit′ (λ c. Run.count 0) Run.give walks
             (shapesGranted g - 1) i 0 i (omega (arith, q)) (omega (arith, h .sound .counted .shapes)) (le-refl i) r s total h tt l e))
         go false e = rw (e, figure-found h i l e) (given (measured h 0 i l e))
@@ -187,7 +189,8 @@ module _ (program : List ℕ) (ts : List Token) (g : List ℕ) {granted : Amount
     unfolding show living if_then_else_ Act._>>=_ Act.goOn Act.held
     at-once i r = go (destroyedAt (r .words) i)
       where
-        go : (b : Bool) → (if b then (λ _. Act.give tt) else λ _. if isGroupAt (r .words) i then (λ _. walkIn (showReached size g) (λ d. Act.give tt) (shapesGranted g) g 0 i) else λ _. measure size i) r
+        go : (b : Bool) → (if b then (λ _. Act.give tt) else λ _. if isGroupAt (r .words) i then (λ _. walkIn (showReached size g) (λ d. Act.give tt)
+            (shapesGranted g) g 0 i) else λ _. measure size i) r
             ≡ (if b then (λ _. Act.give tt) else λ _. shown i) r
         go true = refl
         go false = refl

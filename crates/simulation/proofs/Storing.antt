@@ -316,7 +316,8 @@ module _ {program : List ℕ} {ts : List Token} {g : List ℕ} {r : Raw} {s : St
           (λ j a. up-to (λ k. ownerAt g more j ≡ ownerAt g more k → meantKey program g (raw (r .texts) more) (keyAt g more j) ≡ meantKey program g (raw (r .texts) more) (keyAt g more k) → j ≡ k) used
           (λ k b x y. old .apart j k a b (sym (old-owner j a) ∙ x ∙ old-owner k b) (sym (old-meant j a) ∙ y ∙ old-meant k b))
           (λ x y. absurd (fresh j a (sym (old-owner j a) ∙ x ∙ new-owner) (sym (old-meant j a) ∙ y ∙ new-meant))) k (rw more-count at b))
-          (up-to (λ k. ownerAt g more used ≡ ownerAt g more k → meantKey program g (raw (r .texts) more) (keyAt g more used) ≡ meantKey program g (raw (r .texts) more) (keyAt g more k) → used ≡ k) used
+          (up-to (λ k. ownerAt g more used ≡ ownerAt g more k → meantKey program g (raw (r .texts) more) (keyAt g more used) ≡ meantKey program g (raw (r .texts) more)
+          (keyAt g more k) → used ≡ k) used
           (λ k b x y. absurd (fresh k b (sym (old-owner k b) ∙ sym x ∙ new-owner) (sym (old-meant k b) ∙ sym y ∙ new-meant)))
           (λ x y. refl) k (rw more-count at b))
           j (rw more-count at a);

@@ -14,7 +14,26 @@ use Rattle.meaning.specs.State.{State, isDestroyed}
 use Rattle.meaning.specs.Run as Run
 use Rattle.meaning.specs.Book.{Amounts}
 use Rattle.meaning.specs.Group.{each}
-use Rattle.machine.specs.Layout.{stepsUsed, shapesUsed, entriesUsed, textUsed, tablesMade, declared, argumentsHeld, callsUsed, running, entriesMade, componentsMade, waitingHeld, loopUnit, linesLength, shapesGranted, fixedWords, shapePlace, entryPlace}
+use Rattle.machine.specs.Layout.{
+  stepsUsed,
+  shapesUsed,
+  entriesUsed,
+  textUsed,
+  tablesMade,
+  declared,
+  argumentsHeld,
+  callsUsed,
+  running,
+  entriesMade,
+  componentsMade,
+  waitingHeld,
+  loopUnit,
+  linesLength,
+  shapesGranted,
+  fixedWords,
+  shapePlace,
+  entryPlace,
+}
 use Rattle.machine.specs.Act.{Raw, raw, Act}
 use Rattle.machine.specs.Act as Act
 use Rattle.machine.specs.Shapes.{isGroupAt, destroyedAt}
@@ -114,7 +133,8 @@ module _ {program : List ℕ} {ts : List Token} {g : List ℕ} {r : Raw} {s : St
   }
 
 -- ---- what walking leaves from r on: xs came of it, as the slices tell (Acc); the way above depth d is as it was
-pub record Reached (program : List ℕ) (ts : List Token) (g : List ℕ) {A : Type 0} (Acc : Raw → List A → Raw → Type 0) (d : ℕ) (r : Raw) (xs : List A) (r′ : Raw) (s : State) (total : Amounts) : Type 0 where
+pub record Reached (program : List ℕ) (ts : List Token) (g : List ℕ) {A : Type 0} (Acc : Raw → List A → Raw
+    → Type 0) (d : ℕ) (r : Raw) (xs : List A) (r′ : Raw) (s : State) (total : Amounts) : Type 0 where
   pub after : After program ts g r r′ s total
   pub ways : (e : ℕ) → e < d → e < shapesGranted g → getD (r′ .words) (wayPlace e) 0 ≡ getD (r .words) (wayPlace e) 0
   pub acc : Acc r xs r′

@@ -14,7 +14,30 @@ use Rattle.code.specs.Code.{slotOf}
 use Rattle.machine.specs.declared.Value.{Value}
 use Rattle.machine.specs.declared.Value.the-variants.{Integer, Text, Boolean, Nothing, Table, Shape}
 use Rattle.machine.specs.Words.{packed, unpacked}
-use Rattle.machine.specs.Layout.{stepsUsed, shapesUsed, entriesUsed, textUsed, tablesMade, declared, argumentsHeld, callsUsed, running, entriesMade, componentsMade, loopUnit, stepsGranted, shapesGranted, entriesGranted, textGranted, callsGranted, valuePlace, stackWords, shapePlace, pathPlace, Lent}
+use Rattle.machine.specs.Layout.{
+  stepsUsed,
+  shapesUsed,
+  entriesUsed,
+  textUsed,
+  tablesMade,
+  declared,
+  argumentsHeld,
+  callsUsed,
+  running,
+  entriesMade,
+  componentsMade,
+  loopUnit,
+  stepsGranted,
+  shapesGranted,
+  entriesGranted,
+  textGranted,
+  callsGranted,
+  valuePlace,
+  stackWords,
+  shapePlace,
+  pathPlace,
+  Lent,
+}
 use Rattle.machine.specs.Act.{Raw}
 use Rattle.machine.specs.Texts.{originIn, startIn, sizeIn}
 use Rattle.machine.specs.declared.Figure.{Figure}
