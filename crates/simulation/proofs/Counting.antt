@@ -83,7 +83,7 @@ module _ {program : List ℕ} {ts : List Token} {g : List ℕ} {r : Raw} {s : St
     }
 
     pub set-untouched : ((k : ℕ) → k < getD (r .words) argumentsHeld 0 → argumentPlace k ≢ i) → Untouched g r (raw (r .texts) words′)
-    set-untouched f = untouched-words set-rest (other running (λ q. a .running (sym q))) (λ j x y. other j (a .variables j x (omega arith))) (λ k l. other (argumentPlace k) (f k l))
+    set-untouched f = untouched-words set-rest (other running (λ q. a .running (sym q))) (λ j x y. other j (a .variables j x y)) (λ k l. other (argumentPlace k) (f k l))
 
     module _ (l : Later program r (raw (r .texts) words′)) where
       pub same-variables : i ≢ declared → SameVariables l

@@ -3,6 +3,7 @@ use Prim.Native.Nat.{ℕ, zero, suc, _+_, _-_, _/_, _%_, _^_, _≤_, _<_}
 use native.Mathlib.Omega.{arith}
 use native.Mathlib.Nat.{le-refl, le-trans, le-of-lt, add-zero}
 use mathlib.Core.Path.{_≡_, refl, ap, ap₂, sym, _∙_}
+use mathlib.Core.Logic.{_≢_}
 use mathlib.Core.Bool.{Bool, true, false, cond, not}
 use mathlib.Core.List.{List, [], _∷_, _++_}
 use lib.ListN.{length, getD}
@@ -117,6 +118,7 @@ untouched-refl g r = record {
   components = λ k h. refl;
   unit = refl;
   marks = λ d k x y. refl;
+  bound = λ slot n. n;
 }
 
 pub untouched-trans : {g : List ℕ} {r r′ r″ : Raw} → getD (r .words) argumentsHeld 0 ≤ getD (r′ .words) argumentsHeld 0
@@ -130,16 +132,18 @@ untouched-trans h a b = record {
   components = λ k l. b .components k (le-trans l (a .made)) ∙ a .components k l;
   unit = b .unit ∙ a .unit;
   marks = λ d k x y. b .marks d k (rw (a .calls) x) y ∙ a .marks d k x y;
+  bound = λ slot n. b .bound slot (a .bound slot n);
 }
 
 pub untouched-components : {g : List ℕ} {r r′ : Raw} → Untouched g r r′ → SameComponents g r r′
 untouched-components u = record { made = u .made; words = u .components }
 
 -- the words of the procedure under way and of calls that wait, and those of the stack
-pub untouched-words : {g : List ℕ} {r r′ : Raw} → SameRest g r r′ → getD (r′ .words) running 0 ≡ getD (r .words) running 0
+pub untouched-but : {g : List ℕ} {r r′ : Raw} → SameRest g r r′ → getD (r′ .words) running 0 ≡ getD (r .words) running 0
     → ((i : ℕ) → 16 ≤ i → i < 80 → getD (r′ .words) i 0 ≡ getD (r .words) i 0)
-    → ((k : ℕ) → k < getD (r .words) argumentsHeld 0 → argumentAt (r′ .words) k ≡ argumentAt (r .words) k) → Untouched g r r′
-untouched-words a n e s = record {
+    → ((k : ℕ) → k < getD (r .words) argumentsHeld 0 → argumentAt (r′ .words) k ≡ argumentAt (r .words) k)
+    → ((slot : ℕ) → getD (r .words) (valuePlace slot) 0 ≢ 0 → getD (r′ .words) (valuePlace slot) 0 ≢ 0) → Untouched g r r′
+untouched-but a n e s b = record {
   calls = a .calls;
   running = n;
   frames = λ d z h. e (framePlace d) (omega arith) (omega arith);
@@ -148,7 +152,14 @@ untouched-words a n e s = record {
   components = λ k l. a .high _ (omega arith);
   unit = a .unit;
   marks = λ d k x y. a .high _ (omega arith);
+  bound = b;
 }
+
+-- and those of the variables
+pub untouched-words : {g : List ℕ} {r r′ : Raw} → SameRest g r r′ → getD (r′ .words) running 0 ≡ getD (r .words) running 0
+    → ((i : ℕ) → 16 ≤ i → i < 16464 → getD (r′ .words) i 0 ≡ getD (r .words) i 0)
+    → ((k : ℕ) → k < getD (r .words) argumentsHeld 0 → argumentAt (r′ .words) k ≡ argumentAt (r .words) k) → Untouched g r r′
+untouched-words a n e s = untouched-but a n (λ i l m. e i l (omega arith)) s (λ slot z. rw (e (valuePlace slot) (omega arith) (omega arith)) z)
 
 -- the words of calls that wait, and the stack as far as it was held
 pub record SameStack (r r′ : Raw) : Type 0 where

@@ -40,6 +40,7 @@ use Rattle.machine.specs.Layout.{
   entriesGranted,
   fixedWords,
   framePlace,
+  valuePlace,
   argumentPlace,
   shapePlace,
   entryPlace,
@@ -230,6 +231,7 @@ module _ {program : List ℕ} {ts : List Token} {g : List ℕ} {r : Raw} {s : St
     components = a .parts .words;
     unit = unit-as;
     marks = λ d k x y. a .paths _ (omega arith);
+    bound = λ slot n. rw (plain (valuePlace slot) (omega arith) (omega arith)) n;
   }
 
   waiting-as : SameWaiting program ts r (raw (r .texts) ws′)

@@ -28,6 +28,7 @@ use Rattle.machine.specs.Layout.{
   loopUnit,
   entriesGranted,
   callsGranted,
+  valuePlace,
   componentPlace,
   pathPlace,
 }
@@ -74,6 +75,7 @@ pub record AfterBut (program : List ℕ) (ts : List Token) (g : List ℕ) (r r�
   pub parts : SameComponents g r r′
   pub unit : getD (r′ .words) loopUnit 0 ≡ getD (r .words) loopUnit 0
   pub waits : (d k : ℕ) → d + 1 < getD (r .words) callsUsed 0 → k < entriesGranted g → getD (r′ .words) (pathPlace g d k) 0 ≡ getD (r .words) (pathPlace g d k) 0
+  pub bound : (slot : ℕ) → getD (r .words) (valuePlace slot) 0 ≢ 0 → getD (r′ .words) (valuePlace slot) 0 ≢ 0
 
 module _ {program : List ℕ} {ts : List Token} {g : List ℕ} where
   pub but-after : {r r′ : Raw} {s : State} {total : Amounts} → After program ts g r r′ s total → AfterBut program ts g r r′ s total
@@ -89,6 +91,7 @@ module _ {program : List ℕ} {ts : List Token} {g : List ℕ} where
     parts = record { made = u .made; words = u .components };
     unit = u .unit;
     waits = λ d k x y. u .marks d k (omega arith) y;
+    bound = u .bound;
   }
 
   pub but-trans : {r r′ r″ : Raw} {s s′ : State} {total total′ : Amounts} → AfterBut program ts g r r′ s total → AfterBut program ts g r′ r″ s′ total′ → AfterBut program ts g r r″ s′ total′
@@ -104,6 +107,7 @@ module _ {program : List ℕ} {ts : List Token} {g : List ℕ} where
     parts = record { made = le-trans (a .parts .made) (b .parts .made); words = λ k l. b .parts .words k (le-trans l (a .parts .made)) ∙ a .parts .words k l };
     unit = b .unit ∙ a .unit;
     waits = λ d k x y. b .waits d k (rw (a .calls) x) y ∙ a .waits d k x y;
+    bound = λ slot n. b .bound slot (a .bound slot n);
   }
 
   -- where all marks are as they were, all is untouched
@@ -123,6 +127,7 @@ module _ {program : List ℕ} {ts : List Token} {g : List ℕ} where
       components = a .parts .words;
       unit = a .unit;
       marks = λ d k x y. go d k x y (eqb (d + 1) (getD (r .words) callsUsed 0)) refl;
+      bound = a .bound;
     };
   }
     where
@@ -265,6 +270,7 @@ module _ {program : List ℕ} {ts : List Token} {g : List ℕ} {r : Raw} {s : St
     parts = mark-parts;
     unit = low loopUnit (omega arith);
     waits = λ d j a b. as-was (pathPlace g d j) (λ e. omega (arith, path-less (entriesGranted g) d own j k (omega arith) b));
+    bound = λ slot n. rw (low (valuePlace slot) (omega arith)) n;
   }
 
 -- ---- the acts

@@ -261,6 +261,7 @@ module _ {program : List ℕ} {ts : List Token} {g : List ℕ} {r₁ r r₂ r′
     marks = λ d k x y.
         let c = args .untouched .calls in
         ended-high _ (omega arith) ∙ a .untouched .marks d k (omega (arith, b .calls, c)) y ∙ b .marks d k (omega (arith, c)) y ∙ args .untouched .marks d k x y;
+    bound = λ slot n. rw (ended-value slot) (args .untouched .bound slot n);
   }
 
   -- the callee's marks are gone, and the caller's as they were
