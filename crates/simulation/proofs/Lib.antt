@@ -39,6 +39,7 @@ mod Kept
 mod Storing
 mod Hollowing
 mod Marking
+mod Paths
 mod Nesting
 mod Looping
 mod Statements

@@ -276,7 +276,7 @@ module _ {program : List ℕ} {ts : List Token} {g : List ℕ} {r : Raw} {s : St
 -- ---- the acts
 module _ {program : List ℕ} {ts : List Token} {g : List ℕ} {r : Raw} {s : State} {total : Amounts} (h : Related program ts g r s total) (some : 0 < getD (r .words) callsUsed 0)
     (k : ℕ) (inside : k < entriesGranted g) where
-  own-call : (getD (r .words) callsUsed 0 - 1) % 64 ≡ getD (r .words) callsUsed 0 - 1
+  pub own-call : (getD (r .words) callsUsed 0 - 1) % 64 ≡ getD (r .words) callsUsed 0 - 1
   own-call = omega (arith, h .sound .counted .calls, h .sound .lent .room .calls)
 
   -- a slot that is not marked
