@@ -40,6 +40,7 @@ mod Storing
 mod Hollowing
 mod Marking
 mod Paths
+mod Unmarking
 mod Nesting
 mod Looping
 mod Statements
