@@ -7,9 +7,9 @@ use mathlib.Core.Path.{_≡_, refl, ap, ap₂, sym, _∙_}
 use mathlib.Core.Logic.{_≢_}
 use mathlib.Core.Bool.{Bool, true, false, _&&_, _||_}
 use mathlib.Core.List.{List, [], _∷_}
-use lib.ListN.{getD, set}
+use lib.ListN.{getD}
 use lib.Dec.{eqb}
-use borrow.Author.Tests.{eqb-true, eqb-false, eq-eqb, ne-eqb}
+use borrow.Author.Tests.{eqb-true, eqb-false}
 use Rattle.meaning.specs.Basics.{if_then_else_}
 use Rattle.meaning.specs.Token.{Token}
 use Rattle.meaning.specs.State.{State, byContent, isDestroyed, living}
@@ -17,7 +17,7 @@ use Rattle.meaning.specs.Run as Run
 use Rattle.meaning.specs.Book.{Amounts, shortageOf}
 use Rattle.meaning.specs.Group.{pairwise, alike}
 use Rattle.machine.specs.Layout.{stepsUsed, shapesUsed, componentsMade, stepsGranted, shapesGranted}
-use Rattle.machine.specs.Act.{Raw, raw, Act}
+use Rattle.machine.specs.Act.{Raw, Act}
 use Rattle.machine.specs.Act as Act
 use Rattle.machine.specs.Shapes.{isGroupAt, destroyedAt, figureAt}
 use Rattle.machine.specs.Groups.{componentAt, firstAt, countAt, wayWord, wayPlace, waitingPlace, passedFrom, pairsFrom, alikeAt}
@@ -26,8 +26,8 @@ use Rattle.simulation.specs.Meant.{listed, componentsOf}
 use Rattle.simulation.specs.Follows.{Grants, Related, Follows}
 use Rattle.simulation.proofs.Binding.{bind}
 use Rattle.simulation.proofs.Listed.{listed-same}
-use Rattle.simulation.proofs.Frames.{group-stays, untouched-components, component-later}
-use Rattle.simulation.proofs.Results.{due, mapped, given, After, unmoved, onward, steps-told, spent-then}
+use Rattle.simulation.proofs.Frames.{untouched-components, component-later}
+use Rattle.simulation.proofs.Results.{mapped, given, After, unmoved, onward, steps-told, spent-then}
 use Rattle.simulation.proofs.Counting.{step-related}
 use Rattle.simulation.proofs.Usable.{figure-found, group-found, destroyed-found}
 use Rattle.simulation.proofs.Equality.{figures-compared}

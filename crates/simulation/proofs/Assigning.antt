@@ -40,7 +40,8 @@ use Rattle.simulation.specs.Follows.{Grants, Related, Follows}
 use Rattle.simulation.proofs.Binding.{bind, give-after, act-after}
 use Rattle.simulation.proofs.Results.{mapped, given, failed, at-exactly, After, AfterValue, unmoved, onward, steps-told}
 use Rattle.simulation.proofs.Usable.{figure-found, group-found, uses-at}
-use Rattle.simulation.proofs.Shapes.{AfterShape, shape-value, makes-shape}
+use Rattle.simulation.proofs.Shapes.{shape-value, makes-shape}
+use Rattle.simulation.proofs.Growing.{AfterShape}
 use Rattle.simulation.proofs.Grouping.{copies-group}
 use Rattle.simulation.proofs.Variables.{undeclared, is-declared}
 use Rattle.simulation.proofs.Keys.{kind-packed, back-again, shape-small}

@@ -4,7 +4,7 @@ use native.Mathlib.Omega.{arith}
 use native.Mathlib.Numerals.{add-one}
 use mathlib.Core.Path.{_≡_, refl, ap, sym, _∙_, subst}
 use mathlib.Core.Bool.{Bool, true, false}
-use mathlib.Core.List.{List, [], _∷_, _++_, append-nil, append-assoc}
+use mathlib.Core.List.{List, [], _++_, append-nil, append-assoc}
 use lib.ListN.{getD}
 use Rattle.meaning.specs.Basics.{if_then_else_}
 use Rattle.meaning.specs.Token.{Token}
@@ -29,7 +29,7 @@ use Rattle.simulation.specs.Follows.{Grants, Related, Follows}
 use Rattle.simulation.proofs.Binding.{bind, give-after}
 use Rattle.simulation.proofs.Listed.{listed-same}
 use Rattle.simulation.proofs.Frames.{valid-later}
-use Rattle.simulation.proofs.Results.{mapped, given, unmoved, onward}
+use Rattle.simulation.proofs.Results.{given, unmoved, onward}
 use Rattle.simulation.proofs.Usable.{destroyed-found}
 use Rattle.simulation.proofs.Chaining.{regroup}
 use Rattle.simulation.proofs.Walking.{Reached}
@@ -75,7 +75,8 @@ pub record Tells (Acc : Raw → List Meaning.Figure → Raw → Type 0) : Type 0
 pub quiet-tells : Tells Quiet
 quiet-tells = record { nil = quiet-nil; more = λ a b. quiet-on _ a b; quiet = λ a. a }
 
-module _ (program : List ℕ) (ts : List Token) (g : List ℕ) (granted : Amounts) (Acc : Raw → List Meaning.Figure → Raw → Type 0) (tells : Tells Acc) (X : ℕ → Act (Unit {0})) (D : ℕ → Run.Action (List Meaning.Figure)) where
+module _ (program : List ℕ) (ts : List Token) (g : List ℕ) (granted : Amounts) (Acc : Raw → List Meaning.Figure → Raw → Type 0) (tells : Tells Acc) (X : ℕ → Act (Unit {0})) (D : ℕ
+    → Run.Action (List Meaning.Figure)) where
   abbrev Here : Raw → State → Amounts → Type 0
   Here r s total = Related program ts g r s total
 
@@ -179,8 +180,10 @@ module _ (program : List ℕ) (ts : List Token) (g : List ℕ) (granted : Amount
     frames-follow zero f h z o K rest t = t [] _ _ _ (still h)
     frames-follow (suc n) f {r} {s} {total} h z o K rest t =
         let w = frameAt (r .words) f in
-        rw (regroup (overWaiting X (topIn w) (countIn w) r) (λ _. overFrames X (f + 1) n) (λ _. K),
-        append-assoc (shapesHeld (listed (waitingAt program ts r) (topIn w) (countIn w))) (shapesHeldBy (listed (frameOf program ts r) (suc f) n)) rest)
+        rw (
+          regroup (overWaiting X (topIn w) (countIn w) r) (λ _. overFrames X (f + 1) n) (λ _. K),
+          append-assoc (shapesHeld (listed (waitingAt program ts r) (topIn w) (countIn w))) (shapesHeldBy (listed (frameOf program ts r) (suc f) n)) rest,
+        )
         (waits-follow (countIn w) (topIn w) h (h .sound .waiting .holds f z (o f (omega arith) (omega arith)))
         (λ r₁. Act.goOn (overFrames X (f + 1) n r₁) (λ _. K)) (shapesHeldBy (listed (frameOf program ts r) (suc f) n) ++ rest)
         (λ xs r₁ s₁ total₁ a.

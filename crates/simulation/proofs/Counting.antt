@@ -42,7 +42,8 @@ use Rattle.simulation.specs.Meant.{meantValue}
 use Rattle.simulation.specs.Sound.{Valid, Counted}
 use Rattle.simulation.specs.Follows.{Grants, Related, Later, Follows}
 use Rattle.simulation.proofs.Binding.{bind}
-use Rattle.simulation.proofs.Frames.{stays-words, later-trans, SameRest, untouched-trans, untouched-words, SameVariables, same-words, SameWaiting, same-waiting, SameShapes, SameEntries}
+use Rattle.simulation.proofs.Frames.{stays-words, later-trans, SameRest, untouched-trans, untouched-words, SameVariables, same-words, SameWaiting, same-waiting, SameShapes}
+use Rattle.simulation.proofs.Holding.{SameEntries}
 use Rattle.simulation.proofs.Results.{due, given, Untouched, After, AfterValue, Values, onward, steps-told, refused, kept-related, spent}
 
 -- ---- lengths
@@ -82,7 +83,7 @@ module _ {program : List ℕ} {ts : List Token} {g : List ℕ} {r : Raw} {s : St
     }
 
     pub set-untouched : ((k : ℕ) → k < getD (r .words) argumentsHeld 0 → argumentPlace k ≢ i) → Untouched g r (raw (r .texts) words′)
-    set-untouched f = untouched-words set-rest (other running (λ q. a .running (sym q))) (λ j x y. other j (a .variables j x (omega arith))) (λ k l. other (argumentPlace k) (f k l))
+    set-untouched f = untouched-words set-rest (other running (λ q. a .running (sym q))) (λ j x y. other j (a .variables j x y)) (λ k l. other (argumentPlace k) (f k l))
 
     module _ (l : Later program r (raw (r .texts) words′)) where
       pub same-variables : i ≢ declared → SameVariables l

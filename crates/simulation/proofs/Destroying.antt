@@ -1,5 +1,5 @@
 -- Shapes destroyed: one of them, and all that a group holds.
-use Prim.Native.Nat.{ℕ, zero, suc, _+_, _-_, _/_, _%_, _≤_, _<_}
+use Prim.Native.Nat.{ℕ, suc, _+_, _-_, _/_, _%_, _≤_, _<_}
 use native.Mathlib.Omega.{arith}
 use native.Mathlib.Nat.{le-refl, le-trans}
 use mathlib.Core.Path.{_≡_, refl, ap, sym, _∙_, subst}
@@ -39,12 +39,11 @@ use Rattle.machine.specs.Layout.{
 }
 use Rattle.machine.specs.Act.{Raw, raw, done, Act}
 use Rattle.machine.specs.Act as Act
-use Rattle.machine.specs.Shapes.{kindAt, isGroupAt, figureAt, destroyedWord, destroy}
-use Rattle.machine.specs.Groups.{wayWord, wayPlace, walkIn, destroyAll, destroyLiving}
+use Rattle.machine.specs.Shapes.{isGroupAt, figureAt, destroyedWord, destroy}
+use Rattle.machine.specs.Groups.{wayPlace, walkIn, destroyAll}
 use Rattle.simulation.specs.Meant.{listed, componentsOf, contentAt, shapeAt, shapesOf}
 use Rattle.simulation.specs.Sound.{Shapes}
 use Rattle.simulation.specs.Follows.{Grants, Stays, Related, Later, Follows}
-use Rattle.simulation.proofs.Binding.{bind}
 use Rattle.simulation.proofs.Listed.{set-listed}
 use Rattle.simulation.proofs.Frames.{
   group-stays,
@@ -68,10 +67,8 @@ use Rattle.simulation.proofs.Frames.{
   variables-same,
   SameWaiting,
   same-waiting,
-  SameEntries,
-  entries-kept,
-  entries-same,
 }
+use Rattle.simulation.proofs.Holding.{SameEntries, entries-kept, entries-same}
 use Rattle.simulation.proofs.Results.{due, mapped, given, Untouched, After, onward, steps-told, spent-then}
 use Rattle.simulation.proofs.Counting.{lent-set, other, step-related}
 use Rattle.simulation.proofs.Usable.{figure-found, group-found}

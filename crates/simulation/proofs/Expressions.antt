@@ -296,7 +296,7 @@ module _ (e : Setting) {ts : List Token} (few : length ts ≤ 8192) (strings : S
       (bind (left r₁ s₁ total₁ (a .after .related) (stays (a .after) un) (omega (arith, a .after .held))) (λ v u r₂ s₂ total₂ b.
       rw (back-again (b .after .related .sound) v (b .valid), b .means) (with-table (b .after .related) p v (b .valid) _ _ (λ t w.
       bind (right r₂ s₂ total₂ (b .after .related) (stays (b .after) (stays (a .after) un)) (omega (arith, a .after .held, b .after .held))) (λ k q r₃ s₃ total₃ c.
-      rw (c .means) (from-here (onward (a .after) (onward (b .after) (c .after))) (reads-entry (c .after .related) t k (c .valid) p))))))))
+      rw (c .means) (from-here (onward (a .after) (onward (b .after) (c .after))) (reads-entry (c .after .related) k (c .valid) t p))))))))
 
   operation-follows : (o : Operator) (x y : Expression) (fuel at p : ℕ) → Joint (e .code) at (tagOf o) (codeOf x ts) (codeOf y ts)
       → Evaluates x fuel (at - 1 - length (codeOf y ts)) p → Evaluates y fuel (at - 1) p → Evaluates (operation o x y) (suc fuel) at p

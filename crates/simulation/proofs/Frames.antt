@@ -3,43 +3,20 @@ use Prim.Native.Nat.{ℕ, zero, suc, _+_, _-_, _/_, _%_, _^_, _≤_, _<_}
 use native.Mathlib.Omega.{arith}
 use native.Mathlib.Nat.{le-refl, le-trans, le-of-lt, add-zero}
 use mathlib.Core.Path.{_≡_, refl, ap, ap₂, sym, _∙_}
-use mathlib.Core.Bool.{Bool, true, false, cond, not, _&&_}
+use mathlib.Core.Logic.{_≢_}
+use mathlib.Core.Bool.{Bool, true, false, cond, not}
 use mathlib.Core.List.{List, [], _∷_, _++_}
-use mathlib.Core.Option.{Option, some}
-use mathlib.Core.Option as Option
 use lib.ListN.{length, getD}
 use lib.Dec.{eqb}
-use borrow.Author.Tests.{eqb-true}
-use mir.Syntax.{w32}
-use mir.Val.{toZ}
-use mir.Facts.{toZ-inj}
 use Rattle.meaning.specs.Basics.{if_then_else_}
 use Rattle.meaning.specs.Token.{Token}
 use Rattle.meaning.specs.Value.{string}
-use Rattle.meaning.specs.State.{Content, atom, group, byContent, keyOf, figureKey, noShape}
+use Rattle.meaning.specs.State.{atom, group, noShape}
 use Rattle.meaning.specs.State as State
 use Rattle.machine.specs.declared.Value.{Value}
 use Rattle.machine.specs.declared.Value.the-variants.{Integer, Text, Boolean, Nothing, Table, Shape}
-use Rattle.machine.specs.Words.{kindIn, numberIn, handleIn, unpacked}
-use Rattle.machine.specs.Layout.{
-  shapesUsed,
-  textUsed,
-  declared,
-  argumentsHeld,
-  callsUsed,
-  running,
-  entriesMade,
-  componentsMade,
-  loopUnit,
-  entriesGranted,
-  framePlace,
-  valuePlace,
-  orderPlace,
-  shapePlace,
-  entryPlace,
-  componentPlace,
-  pathPlace,
-}
+use Rattle.machine.specs.Words.{unpacked}
+use Rattle.machine.specs.Layout.{shapesUsed, textUsed, declared, argumentsHeld, callsUsed, running, componentsMade, loopUnit, framePlace, valuePlace, orderPlace, shapePlace, componentPlace, pathPlace}
 use Rattle.machine.specs.Act.{Raw}
 use Rattle.machine.specs.Texts.{originIn, startIn, sizeIn}
 use Rattle.machine.specs.declared.Figure.{Figure}
@@ -48,33 +25,10 @@ use Rattle.machine.specs.Groups.{componentAt, firstAt, countAt}
 use Rattle.machine.specs.Show.{shownFrom, figuresIn}
 use Rattle.machine.specs.Stack.{argumentAt}
 use Rattle.machine.specs.Variables.{wordIn, topIn, countIn}
-use Rattle.machine.specs.Tables.{ownerAt, keyAt, valueAt, figureContent, contentOf, headPlace, isGroupKey}
-use Rattle.simulation.specs.Meant.{
-  meantValue,
-  meantWord,
-  meantFigure,
-  listed,
-  slotAt,
-  variableAt,
-  variablesOf,
-  waitingAt,
-  frameAt,
-  frameOf,
-  suspendedOf,
-  componentsOf,
-  contentAt,
-  shapeAt,
-  shapesOf,
-  someKey,
-  keyAmong,
-  meantKey,
-  entryAt,
-  entriesOf,
-}
-use Rattle.simulation.specs.Sound.{Held, Valid, Proper, declaredAmong, Variables, Waiting, Grouped, Shapes, Marks, Entries}
+use Rattle.simulation.specs.Meant.{meantValue, meantFigure, listed, slotAt, variableAt, variablesOf, waitingAt, frameAt, frameOf, suspendedOf, componentsOf, contentAt, shapeAt, shapesOf}
+use Rattle.simulation.specs.Sound.{Held, Valid, Proper, declaredAmong, Variables, Waiting, Grouped, Shapes, Marks}
 use Rattle.simulation.specs.Follows.{Stays, Later}
 use Rattle.simulation.specs.After.{Untouched}
-use Rattle.simulation.proofs.Indexing.{content-same, index-agrees}
 use Rattle.simulation.proofs.Listed.{listed-same, listed-first, getD-listed}
 
 -- ---- what is held stays held
@@ -124,7 +78,7 @@ later-trans a b = record {
   figures = λ i l. stays-trans (a .figures i l) (b .figures i (le-trans l (a .shapes)));
 }
 
-append-none : {A : Type 0} (xs ys : List A) → xs ++ ys ≡ [] → (xs ≡ []) × (ys ≡ [])
+pub append-none : {A : Type 0} (xs ys : List A) → xs ++ ys ≡ [] → (xs ≡ []) × (ys ≡ [])
 append-none [] ys e = (refl, e)
 append-none (x ∷ xs) ys e = let y : _≡_ {A = ℕ} (suc (length (xs ++ ys))) 0 = ap length e in absurd (omega arith)
 
@@ -164,6 +118,7 @@ untouched-refl g r = record {
   components = λ k h. refl;
   unit = refl;
   marks = λ d k x y. refl;
+  bound = λ slot n. n;
 }
 
 pub untouched-trans : {g : List ℕ} {r r′ r″ : Raw} → getD (r .words) argumentsHeld 0 ≤ getD (r′ .words) argumentsHeld 0
@@ -177,16 +132,18 @@ untouched-trans h a b = record {
   components = λ k l. b .components k (le-trans l (a .made)) ∙ a .components k l;
   unit = b .unit ∙ a .unit;
   marks = λ d k x y. b .marks d k (rw (a .calls) x) y ∙ a .marks d k x y;
+  bound = λ slot n. b .bound slot (a .bound slot n);
 }
 
 pub untouched-components : {g : List ℕ} {r r′ : Raw} → Untouched g r r′ → SameComponents g r r′
 untouched-components u = record { made = u .made; words = u .components }
 
 -- the words of the procedure under way and of calls that wait, and those of the stack
-pub untouched-words : {g : List ℕ} {r r′ : Raw} → SameRest g r r′ → getD (r′ .words) running 0 ≡ getD (r .words) running 0
+pub untouched-but : {g : List ℕ} {r r′ : Raw} → SameRest g r r′ → getD (r′ .words) running 0 ≡ getD (r .words) running 0
     → ((i : ℕ) → 16 ≤ i → i < 80 → getD (r′ .words) i 0 ≡ getD (r .words) i 0)
-    → ((k : ℕ) → k < getD (r .words) argumentsHeld 0 → argumentAt (r′ .words) k ≡ argumentAt (r .words) k) → Untouched g r r′
-untouched-words a n e s = record {
+    → ((k : ℕ) → k < getD (r .words) argumentsHeld 0 → argumentAt (r′ .words) k ≡ argumentAt (r .words) k)
+    → ((slot : ℕ) → getD (r .words) (valuePlace slot) 0 ≢ 0 → getD (r′ .words) (valuePlace slot) 0 ≢ 0) → Untouched g r r′
+untouched-but a n e s b = record {
   calls = a .calls;
   running = n;
   frames = λ d z h. e (framePlace d) (omega arith) (omega arith);
@@ -195,7 +152,14 @@ untouched-words a n e s = record {
   components = λ k l. a .high _ (omega arith);
   unit = a .unit;
   marks = λ d k x y. a .high _ (omega arith);
+  bound = b;
 }
+
+-- and those of the variables
+pub untouched-words : {g : List ℕ} {r r′ : Raw} → SameRest g r r′ → getD (r′ .words) running 0 ≡ getD (r .words) running 0
+    → ((i : ℕ) → 16 ≤ i → i < 16464 → getD (r′ .words) i 0 ≡ getD (r .words) i 0)
+    → ((k : ℕ) → k < getD (r .words) argumentsHeld 0 → argumentAt (r′ .words) k ≡ argumentAt (r .words) k) → Untouched g r r′
+untouched-words a n e s = untouched-but a n (λ i l m. e i l (omega arith)) s (λ slot z. rw (e (valuePlace slot) (omega arith) (omega arith)) z)
 
 -- the words of calls that wait, and the stack as far as it was held
 pub record SameStack (r r′ : Raw) : Type 0 where
@@ -454,105 +418,3 @@ pub content-made : (program g : List ℕ) (r : Raw) (i : ℕ) → i < getD (r .w
     → getD (shapesOf program g r) i noShape .content ≡ contentAt program g r i
 unfolding shapeAt
 content-made program g r i h = ap (λ (s : State.Shape). s .content) (shape-made program g r i h)
-
--- ---- keys and entries
-number-back : (a b : ℕ) → toZ w32 (a % 2 ^ 32) ≡ toZ w32 (b % 2 ^ 32) → a % 2 ^ 32 ≡ b % 2 ^ 32
-number-back a b e = toZ-inj {w = w32} (omega arith) (omega arith) e
-
-unpacked-text : (key : ℕ) → kindIn key ≡ 2 → unpacked key ≡ Text (handleIn key)
-unfolding unpacked if_then_else_
-unpacked-text key e = rw e
-
-unpacked-shape : (key : ℕ) → kindIn key ≡ 6 → unpacked key ≡ Shape (numberIn key)
-unfolding unpacked if_then_else_
-unpacked-shape key e = rw e
-
-module _ {program g : List ℕ} {r r′ : Raw} (l : Later program r r′) (shapes : Shapes program g (r .words)) where
-  pub key-later : SameComponents g r r′ → (v : Value) → Valid program (r .words) v
-      → keyAmong (shapesOf program g r′) (meantValue program (r′ .texts) v) ≡ keyAmong (shapesOf program g r) (meantValue program (r .texts) v)
-  unfolding Valid meantValue keyAmong keyOf
-  key-later parts (Integer z) h = refl
-  key-later parts (Text t) h = rw (l .texts t h)
-  key-later parts (Boolean b) h = refl
-  key-later parts Nothing h = refl
-  key-later parts (Table t) h = refl
-  key-later parts (Shape i) h =
-      ap (λ (c : Content). someKey (byContent c (λ a. some (figureKey a)) (λ cs. Option.none)))
-      (content-made program g r′ i (le-trans h (l .shapes)) ∙ content-stays l shapes parts i h ∙ sym (content-made program g r i h))
-
-  -- a key's content, by its word
-  figure-content : (i : ℕ) → i < getD (r .words) shapesUsed 0 → isGroupAt (r .words) i ≡ false → figureContent program (r′ .texts) (r′ .words) i ≡ figureContent program (r .texts) (r .words) i
-  unfolding figureContent figureAt
-  figure-content i h n =
-      let e = l .figures i h .figure n in
-      let q = getD (r′ .words) (shapePlace i + 1) 0 in
-      let u = getD (r .words) (shapePlace i + 1) 0 in
-      let s = getD (r′ .words) (shapePlace i + 2) 0 in
-      let v = getD (r .words) (shapePlace i + 2) 0 in
-      let k = ap (λ (f : Figure). f .kind) e in
-      let a = number-back q u (ap (λ (f : Figure). f .a) e) in
-      let b = number-back (q / 2 ^ 32) (u / 2 ^ 32) (ap (λ (f : Figure). f .b) e) in
-      let c = number-back s v (ap (λ (f : Figure). f .c) e) in
-      let d = number-back (s / 2 ^ 32) (v / 2 ^ 32) (ap (λ (f : Figure). f .d) e) in
-      let t = ap (λ (f : Figure). f .text) e in
-      rw (k, a, b, c, d, t, l .texts (getD (r .words) (shapePlace i) 0 / 16) (shapes .proper i h n .text))
-
-  pub content-later : (key : ℕ) → Valid program (r .words) (unpacked key) → isGroupKey (r .words) key ≡ false → contentOf program (r′ .texts) (r′ .words) key ≡ contentOf program (r .texts) (r .words) key
-  unfolding Valid
-  content-later key v n =
-      content-same program (r .texts) (r′ .texts) (r .words) (r′ .words) key
-      (λ e. l .texts (handleIn key) (rw (unpacked-text key e) at v)) (λ e. figure-content (numberIn key) (rw (unpacked-shape key e) at v) (rw e at n))
-
-  pub atom-kept : (key : ℕ) → Valid program (r .words) (unpacked key) → isGroupKey (r .words) key ≡ false → isGroupKey (r′ .words) key ≡ false
-  unfolding Valid
-  atom-kept key v n = go (eqb (kindIn key) 6) refl (λ e. group-stays (l .figures (numberIn key) (rw (unpacked-shape key (eqb-true _ _ e)) at v))) n
-    where
-      go : (b : Bool) → eqb (kindIn key) 6 ≡ b → (eqb (kindIn key) 6 ≡ true → isGroupAt (r′ .words) (numberIn key) ≡ isGroupAt (r .words) (numberIn key))
-          → (b && isGroupAt (r .words) (numberIn key)) ≡ false → (b && isGroupAt (r′ .words) (numberIn key)) ≡ false
-      go true e f n = f e ∙ n
-      go false e f n = refl
-
-  pub record SameEntries : Type 0 where
-    pub count : getD (r′ .words) entriesMade 0 ≡ getD (r .words) entriesMade 0
-    pub firsts : (k : ℕ) → k < getD (r .words) entriesMade 0 → getD (r′ .words) (entryPlace g k) 0 ≡ getD (r .words) (entryPlace g k) 0
-    pub keys : (k : ℕ) → k < getD (r .words) entriesMade 0 → keyAt g (r′ .words) k ≡ keyAt g (r .words) k
-    pub values : (k : ℕ) → k < getD (r .words) entriesMade 0 → valueAt g (r′ .words) k ≡ valueAt g (r .words) k
-    pub heads : (b : ℕ) → b < entriesGranted g → getD (r′ .words) (headPlace g b) 0 ≡ getD (r .words) (headPlace g b) 0
-
-  module _ (parts : SameComponents g r r′) (same : SameEntries) (entries : Entries program g r) where
-    owner-kept : (k : ℕ) → k < getD (r .words) entriesMade 0 → ownerAt g (r′ .words) k ≡ ownerAt g (r .words) k
-    owner-kept k h = ap (λ (w : ℕ). w % 2 ^ 40) (same .firsts k h)
-
-    key-kept : (k : ℕ) → k < getD (r .words) entriesMade 0 → meantKey program g r′ (keyAt g (r′ .words) k) ≡ meantKey program g r (keyAt g (r .words) k)
-    key-kept k h = rw (same .keys k h) (key-later parts (unpacked (keyAt g (r .words) k)) (entries .keys k h))
-
-    pub entries-kept : Entries program g r′
-    entries-kept = record {
-      packs = λ k h. let q = rw (same .count) at h in rw (same .keys k q) (entries .packs k q);
-      keys = λ k h. let q = rw (same .count) at h in rw (same .keys k q) (valid-later l _ (entries .keys k q));
-      atoms = λ k h.
-          let q = rw (same .count) at h in
-          rw (same .keys k q) (atom-kept (keyAt g (r .words) k) (entries .keys k q) (entries .atoms k q));
-      holds = λ k h. let q = rw (same .count) at h in rw (same .values k q) (valid-later l _ (entries .holds k q));
-      apart = λ j k a b o e.
-          let p = rw (same .count) at a in
-          let q = rw (same .count) at b in
-          entries .apart j k p q (sym (owner-kept j p) ∙ o ∙ owner-kept k q) (sym (key-kept j p) ∙ e ∙ key-kept k q);
-      index = index-agrees program g (r .texts) (r′ .texts) (r .words) (r′ .words)
-          (record { firsts = same .firsts; keys = same .keys; contents = λ k h. content-later (keyAt g (r .words) k) (entries .keys k h) (entries .atoms k h) })
-          (same .count) (same .heads) (entries .index);
-    }
-
-    entry-kept : (k : ℕ) → k < getD (r .words) entriesMade 0 → entryAt program g r′ k ≡ entryAt program g r k
-    unfolding entryAt
-    entry-kept k h =
-        let o = owner-kept k h in
-        let e = key-kept k h in
-        let v : meantWord program r′ (valueAt g (r′ .words) k) ≡ meantWord program r (valueAt g (r .words) k) =
-        rw (same .values k h) (meant-later l _ (entries .holds k h)) in
-        λ i. record { owner = o i; key = e i; holds = v i }
-
-    pub entries-same : entriesOf program g r′ ≡ entriesOf program g r
-    unfolding entriesOf
-    entries-same =
-        rw (same .count) (listed-first (entryAt program g r′) (entryAt program g r) (getD (r .words) entriesMade 0) (λ j b. entry-kept j b))

@@ -8,40 +8,26 @@ use mathlib.Core.Bool.{Bool, true, false}
 use mathlib.Core.List.{List}
 use lib.ListN.{getD, set, length, length-set}
 use lib.Seq.{getD-set-same, getD-set-other}
-use lib.Dec.{eqb, ltb}
-use borrow.Author.Tests.{eqb-true, eqb-false, ltb-true, ltb-false}
+use lib.Dec.{eqb}
+use borrow.Author.Tests.{eqb-true, eqb-false}
 use Rattle.meaning.specs.Basics.{if_then_else_}
 use Rattle.meaning.specs.Token.{Token}
 use Rattle.meaning.specs.State.{State, group, componentsIn, withShape}
 use Rattle.meaning.specs.Run as Run
 use Rattle.meaning.specs.Book.{Amounts, added, resourceNumber, shortageOf}
 use Rattle.meaning.specs.Group as Group
-use Rattle.machine.specs.Layout.{
-  stepsUsed,
-  shapesUsed,
-  entriesUsed,
-  textUsed,
-  callsUsed,
-  entriesMade,
-  componentsMade,
-  shapesGranted,
-  entriesGranted,
-  fixedWords,
-  shapePlace,
-  componentPlace,
-}
+use Rattle.machine.specs.Layout.{stepsUsed, shapesUsed, entriesUsed, entriesMade, componentsMade, shapesGranted, entriesGranted, fixedWords, shapePlace, componentPlace}
 use Rattle.machine.specs.Act.{Raw, raw}
 use Rattle.machine.specs.Act as Act
-use Rattle.machine.specs.Shapes.{firstWord, kindGroup, kindAt, isGroupAt}
+use Rattle.machine.specs.Shapes.{firstWord, kindGroup, isGroupAt}
 use Rattle.machine.specs.Groups.{slotWord, componentAt, followersAt, firstAt, countAt, fillFrom, groupLaid, putGroup, newGroup}
-use Rattle.machine.specs.Loops.{hollowAt}
 use Rattle.simulation.specs.Meant.{listed, componentsOf, contentAt}
 use Rattle.simulation.specs.Sound.{Grouped}
 use Rattle.simulation.specs.Follows.{Grants, Related, Follows}
 use Rattle.simulation.proofs.Binding.{bind}
 use Rattle.simulation.proofs.Listed.{listed-shift, length-listed}
 use Rattle.simulation.proofs.Results.{due, given, steps-told, spent-then}
-use Rattle.simulation.proofs.Shapes.{kind-of, alive, length-four, read-four, read-first, read-second, read-third, read-fourth, Grown, AfterShape, grown-after}
+use Rattle.simulation.proofs.Growing.{alive, length-four, read-four, read-first, read-second, read-third, read-fourth, Grown, AfterShape, grown-after}
 
 -- ---- a slot's word
 slot-component : (c n : ℕ) → c < 2 ^ 32 → slotWord c n % 2 ^ 32 ≡ c

@@ -50,7 +50,8 @@ use Rattle.simulation.proofs.Listed.{listed-same, listed-shift}
 use Rattle.simulation.proofs.Frames.{valid-later, meant-later}
 use Rattle.simulation.proofs.Results.{mapped, given, failed, Exactly, exactly, at-exactly, After, AfterValue, Units, Values, unmoved, onward, from-here, steps-told}
 use Rattle.simulation.proofs.Usable.{uses}
-use Rattle.simulation.proofs.Shapes.{AfterShape, shape-value, makes-shape}
+use Rattle.simulation.proofs.Shapes.{shape-value, makes-shape}
+use Rattle.simulation.proofs.Growing.{AfterShape}
 use Rattle.simulation.proofs.Grouping.{makes-group}
 use Rattle.simulation.proofs.Walking.{Reached}
 use Rattle.simulation.proofs.Destroying.{Quiet, destroys-all}

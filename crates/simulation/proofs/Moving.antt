@@ -8,12 +8,28 @@ use Rattle.meaning.specs.Token.{Token}
 use Rattle.meaning.specs.State.{State, Variable}
 use Rattle.meaning.specs.Run as Run
 use Rattle.meaning.specs.Book.{Amounts}
-use Rattle.machine.specs.Layout.{stepsUsed, shapesUsed, entriesUsed, textUsed, tablesMade, declared, argumentsHeld, callsUsed, entriesMade, componentsMade, loopUnit, callsGranted, stackWords, fixedWords}
+use Rattle.machine.specs.Layout.{
+  stepsUsed,
+  shapesUsed,
+  entriesUsed,
+  textUsed,
+  tablesMade,
+  declared,
+  argumentsHeld,
+  callsUsed,
+  entriesMade,
+  componentsMade,
+  loopUnit,
+  callsGranted,
+  stackWords,
+  fixedWords,
+}
 use Rattle.machine.specs.Act.{Raw, raw}
 use Rattle.simulation.specs.Meant.{variablesOf, suspendedOf}
 use Rattle.simulation.specs.Sound.{Variables, Waiting, Marks}
 use Rattle.simulation.specs.Follows.{Related, Later}
-use Rattle.simulation.proofs.Frames.{stays-words, SameComponents, SameShapes, shapes-kept, shapes-same, SameEntries, entries-kept, entries-same}
+use Rattle.simulation.proofs.Frames.{stays-words, SameComponents, SameShapes, shapes-kept, shapes-same}
+use Rattle.simulation.proofs.Holding.{SameEntries, entries-kept, entries-same}
 
 module _ {program : List ℕ} {ts : List Token} {g : List ℕ} {r : Raw} {s : State} {total : Amounts} (h : Related program ts g r s total) (ws′ : List ℕ)
     (low : (j : ℕ) → j < declared → getD ws′ j 0 ≡ getD (r .words) j 0)

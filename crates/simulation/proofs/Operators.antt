@@ -28,7 +28,30 @@ use Rattle.machine.specs.Act as Act
 use Rattle.machine.specs.declared.Figure.{Figure}
 use Rattle.machine.specs.Layout.{shapesGranted}
 use Rattle.machine.specs.Groups.{alikeAt}
-use Rattle.machine.specs.Operate.{withInteger, withText, plusX, plusY, minusX, minusY, scaledUp, scaledDown, calculated, compared, remaindered, joined, Comparison, refused, settled, ofShapes, equality, figuresSame, answered, equated, operateOn, operate}
+use Rattle.machine.specs.Operate.{
+  withInteger,
+  withText,
+  plusX,
+  plusY,
+  minusX,
+  minusY,
+  scaledUp,
+  scaledDown,
+  calculated,
+  compared,
+  remaindered,
+  joined,
+  Comparison,
+  refused,
+  settled,
+  ofShapes,
+  equality,
+  figuresSame,
+  answered,
+  equated,
+  operateOn,
+  operate,
+}
 use Rattle.machine.specs.Evaluate.{Setting}
 use Rattle.simulation.specs.Meant.{meantValue, meantFigure}
 use Rattle.simulation.specs.Sound.{Valid, Proper}

@@ -22,24 +22,25 @@ use Rattle.meaning.specs.Group as Group
 use Rattle.meaning.specs.Value as Value
 use Rattle.machine.specs.declared.Value.{Value}
 use Rattle.machine.specs.declared.Value.the-variants.{Shape}
-use Rattle.machine.specs.Layout.{stepsUsed, shapesUsed, textUsed, componentsMade, waitingHeld, stepsGranted, shapesGranted, shapePlace, componentPlace}
+use Rattle.machine.specs.Layout.{stepsUsed, shapesUsed, waitingHeld, stepsGranted, shapesGranted, shapePlace}
 use Rattle.machine.specs.Act.{Raw, raw, done, Act}
 use Rattle.machine.specs.Act as Act
 use Rattle.machine.specs.declared.Figure.{Figure}
 use Rattle.machine.specs.Shapes.{isGroupAt, figureAt, newShape}
-use Rattle.machine.specs.Groups.{wayWord, wayPlace, waitingPlace, newGroup, walkIn, await, groupWaiting, remakeReached, remakeLeft, remakeGroup, remake}
+use Rattle.machine.specs.Groups.{wayWord, wayPlace, waitingPlace, walkIn, await, groupWaiting, remakeReached, remakeLeft, remakeGroup, remake}
 use Rattle.simulation.specs.Meant.{meantValue, meantFigure, listed, componentsOf}
 use Rattle.simulation.specs.Sound.{Valid, Proper}
 use Rattle.simulation.specs.Follows.{Grants, Related, Follows}
 use Rattle.simulation.proofs.Binding.{bind, act-after}
 use Rattle.simulation.proofs.Listed.{listed-same, listed-shift}
 use Rattle.simulation.proofs.Frames.{group-stays, untouched-components, components-later}
-use Rattle.simulation.proofs.Results.{due, mapped, given, After, AfterValue, Values, unmoved, onward, steps-told, spent, spent-then}
-use Rattle.simulation.proofs.Counting.{other, here, counts, AfterStep, step-related}
+use Rattle.simulation.proofs.Results.{mapped, given, After, AfterValue, onward, steps-told, spent, spent-then}
+use Rattle.simulation.proofs.Counting.{other, here, AfterStep, step-related}
 use Rattle.simulation.proofs.Usable.{figure-found, group-found}
-use Rattle.simulation.proofs.Shapes.{AfterShape, AfterShapeValue, shape-value, makes-shape}
+use Rattle.simulation.proofs.Shapes.{AfterShapeValue, shape-value, makes-shape}
+use Rattle.simulation.proofs.Growing.{AfterShape}
 use Rattle.simulation.proofs.Grouping.{Source, makes-group}
-use Rattle.simulation.proofs.Walking.{Spare, spare-way, spare-waiting, spare-after, Reached, Gathers, Walks, walk-follows}
+use Rattle.simulation.proofs.Walking.{spare-way, spare-waiting, spare-after, Reached, Gathers, Walks, walk-follows}
 
 -- ---- what waits, one behind the other
 abbrev waitingAt : List ℕ → ℕ → ℕ
@@ -405,7 +406,8 @@ module _ (program : List ℕ) (ts : List Token) (g : List ℕ) {granted : Amount
               means = ap Value.shape (y .same);
             };
           })
-          (subst (λ n. Follows granted total₂ (λ i j r′ s′ total′. AfterGroup (raw (r .texts) (set (r .words) waitingHeld 0)) r₂ s₂ i j r′ s′ total′) (groupWaiting g p n r₂) (Group.newShape p (group js) s₂))
+          (subst (λ n. Follows granted total₂ (λ i j r′ s′ total′. AfterGroup (raw (r .texts) (set (r .words) waitingHeld 0)) r₂ s₂ i j r′ s′ total′) (groupWaiting g p n r₂)
+          (Group.newShape p (group js) s₂))
           none-wait (groups (x .after .related) (x .acc) less₂)))
 
       pub remakes : Makes (remake g p f i r) (remade (suc i) p f′ i s)

@@ -40,10 +40,8 @@ use Rattle.simulation.proofs.Frames.{
   SameShapes,
   shapes-kept,
   shapes-same,
-  SameEntries,
-  entries-kept,
-  entries-same,
 }
+use Rattle.simulation.proofs.Holding.{SameEntries, entries-kept, entries-same}
 
 -- ---- outcomes
 -- a weaker relation

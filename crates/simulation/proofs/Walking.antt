@@ -6,7 +6,7 @@ use native.Mathlib.Numerals.{add-one}
 use mathlib.Core.Path.{_≡_, refl, ap, sym, _∙_}
 use mathlib.Core.Logic.{_≢_}
 use mathlib.Core.Bool.{Bool, true, false}
-use mathlib.Core.List.{List, [], _∷_, _++_}
+use mathlib.Core.List.{List, [], _++_}
 use lib.ListN.{getD, set}
 use Rattle.meaning.specs.Basics.{if_then_else_}
 use Rattle.meaning.specs.Token.{Token}
@@ -133,7 +133,8 @@ module _ {program : List ℕ} {ts : List Token} {g : List ℕ} {r : Raw} {s : St
   }
 
 -- ---- what walking leaves from r on: xs came of it, as the slices tell (Acc); the way above depth d is as it was
-pub record Reached (program : List ℕ) (ts : List Token) (g : List ℕ) {A : Type 0} (Acc : Raw → List A → Raw → Type 0) (d : ℕ) (r : Raw) (xs : List A) (r′ : Raw) (s : State) (total : Amounts) : Type 0 where
+pub record Reached (program : List ℕ) (ts : List Token) (g : List ℕ) {A : Type 0} (Acc : Raw → List A → Raw
+    → Type 0) (d : ℕ) (r : Raw) (xs : List A) (r′ : Raw) (s : State) (total : Amounts) : Type 0 where
   pub after : After program ts g r r′ s total
   pub ways : (e : ℕ) → e < d → e < shapesGranted g → getD (r′ .words) (wayPlace e) 0 ≡ getD (r .words) (wayPlace e) 0
   pub acc : Acc r xs r′

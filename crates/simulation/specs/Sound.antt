@@ -2,7 +2,7 @@
 use Prim.Native.Nat.{ℕ, zero, suc, _+_, _-_, _*_, _^_, _≤_, _<_}
 use mathlib.Core.Path.{_≡_}
 use mathlib.Core.Logic.{_≢_}
-use mathlib.Core.Bool.{Bool, true, false, cond}
+use mathlib.Core.Bool.{true, false, cond}
 use mathlib.Core.List.{List, []}
 use lib.ListN.{length, getD}
 use lib.IntN.{pos}
@@ -41,7 +41,7 @@ use Rattle.machine.specs.Layout.{
 use Rattle.machine.specs.Act.{Raw}
 use Rattle.machine.specs.Texts.{originIn, startIn, sizeIn}
 use Rattle.machine.specs.declared.Figure.{Figure}
-use Rattle.machine.specs.Shapes.{kindAt, isGroupAt, figureAt}
+use Rattle.machine.specs.Shapes.{isGroupAt, figureAt}
 use Rattle.machine.specs.Groups.{componentAt, followersAt, firstAt, countAt}
 use Rattle.machine.specs.Show.{figuresIn}
 use Rattle.machine.specs.Loops.{hollowAt}
