@@ -1,3 +1,3 @@
 mod Figures
-mod Shown
-mod Turns
+mod MeasureLaws
+mod Words
