@@ -1,3 +1,5 @@
 mod Figures
 mod MeasureLaws
+mod ShowLaws
+mod WriteLaws
 mod Words

@@ -1,0 +1,70 @@
+use Rattle.scene.proofs.showing.write_variables.Statement.{statement}
+use Rattle.scene.proofs.showing.write_variables.Tie as tie
+use Rattle.scene.proofs.showing.write_variables.Reads as reads
+use Rattle.scene.proofs.showing.write_variables.Lts as lts
+use Rattle.scene.proofs.showing.declared_word.Reads as declared-word-reads
+use Rattle.scene.proofs.showing.write_in.Reads as write-in-reads
+use Rattle.stores.proofs.variables.declared_count.Reads as declared-count-reads
+
+abbrev Inv-loop : tie.InvT-loop
+Inv-loop program texts words₀ grants out₀ start n at₀ drawn₀ words out at drawn = ?
+
+abbrev μ-loop : tie.MeasureT-loop
+μ-loop program texts words₀ grants out₀ start n at₀ drawn₀ words out at drawn = ?
+
+-- src/showing.rt:193:9
+declared-count-requires : tie.Need-declared-count-requires Inv-loop μ-loop
+declared-count-requires c κs = ?
+
+-- src/showing.rt:196:5
+loop-holds : tie.Need-loop-holds Inv-loop μ-loop
+loop-holds c = ?
+
+-- src/showing.rt:197:13
+declared-word-requires : tie.Need-declared-word-requires Inv-loop μ-loop
+declared-word-requires c κs = ?
+
+-- src/showing.rt:198:9
+write-in-requires : tie.Need-write-in-requires Inv-loop μ-loop
+write-in-requires c κs = ?
+
+-- src/showing.rt:199:9
+add-drawn : tie.Need-add-drawn Inv-loop μ-loop
+add-drawn c = ?
+
+-- src/showing.rt:196:5
+loop-less : tie.Need-loop-less Inv-loop μ-loop
+loop-less c = ?
+
+-- src/showing.rt:196:5
+loop-again : tie.Need-loop-again Inv-loop μ-loop
+loop-again c = ?
+
+-- src/showing.rt:180:1
+same-length : tie.Need-same-length Inv-loop μ-loop
+same-length c = ?
+
+-- src/showing.rt:180:1
+same-length-2 : tie.Need-same-length-2 Inv-loop μ-loop
+same-length-2 c = ?
+
+-- src/showing.rt:180:1
+returns : tie.Need-returns Inv-loop μ-loop
+returns c = ?
+
+pub write-variables-spec : {M : Type 1} → statement M
+write-variables-spec =
+    tie.close
+    (tie.spec
+    Inv-loop
+    μ-loop
+    declared-count-requires
+    loop-holds
+    declared-word-requires
+    write-in-requires
+    add-drawn
+    loop-less
+    loop-again
+    same-length
+    same-length-2
+    returns)
