@@ -88,17 +88,19 @@ pub record Showing (program ts g ws₀ : List ℕ) (i start : ℕ) (before ws no
   pub wrote : WroteAt start (linesFor program ts ws₀ shown) before now at
   pub unmoved : Unmoved g ws₀ ws
   pub walks : Walks g ws d k n
+  pub small : length before < 2 ^ 64
   pub kept : length now ≡ length before
 
 module _ (program ts g ws₀ : List ℕ) (i start : ℕ) (before : List ℕ) where
-  pub show-first : (k n : ℕ) → start < 2 ^ 64 → Room g ws₀ → k ≡ firstAt ws₀ i → n ≡ countWithin g ws₀ 0 i → Showing program ts g ws₀ i start before ws₀ before 0 k n start
+  pub show-first : (k n : ℕ) → start < 2 ^ 64 → length before < 2 ^ 64 → Room g ws₀ → k ≡ firstAt ws₀ i → n ≡ countWithin g ws₀ 0 i → Showing program ts g ws₀ i start before ws₀ before 0 k n start
   unfolding leftShown aboveShown figuresFor linesOf
-  show-first k n l r e f = record {
+  show-first k n l s r e f = record {
     shown = [];
     whole = rw (e, f) (append-nil (levelShown g ws₀ 0 (firstAt ws₀ i) (countWithin g ws₀ 0 i)));
     wrote = writes-nothing l;
     unmoved = unmoved-none g ws₀;
     walks = walks-first g ws₀ i k n r e f;
+    small = s;
     kept = refl;
   }
 
@@ -117,18 +119,19 @@ module _ (program ts g ws₀ : List ℕ) (i start : ℕ) (before : List ℕ) whe
         nothing-left shapes = ap (λ (x : List ℕ). shapes ++ x) (none-left g ws k) ∙ append-nil shapes
 
     module _ (t : Turn) (ws′ : List ℕ) (r : Moved g ws d k n t ws′) where
-      pub show-next : (d′ k′ n′ at′ : ℕ) (after : List ℕ) → length before < 2 ^ 64 → t ≡ At d′ k′ n′ → WroteAt at (linesFor program ts ws (shownHere g ws d k n)) now after at′
+      pub show-next : (d′ k′ n′ at′ : ℕ) (after : List ℕ) → t ≡ At d′ k′ n′ → WroteAt at (linesFor program ts ws (shownHere g ws d k n)) now after at′
           → Showing program ts g ws₀ i start before ws′ after d′ k′ n′ at′
       unfolding WalksBy ShownBy
-      show-next d′ k′ n′ at′ after l e w =
+      show-next d′ k′ n′ at′ after e w =
           let q = rw e at r in
           record {
             shown = a .shown ++ shownHere g ws d k n;
             whole = append-assoc (a .shown) (shownHere g ws d k n) (leftShown g ws′ d′ k′ n′) ∙ ap (λ (x : List ℕ). a .shown ++ x) (q .shown) ∙ a .whole;
             wrote = rw (lines-more program ts ws₀ (a .shown) (shownHere g ws d k n))
-                ((then) l (a .wrote) (rw (lines-same g ws₀ ws (a .unmoved) program ts (shownHere g ws d k n)) at w));
+                ((then) (a .small) (a .wrote) (rw (lines-same g ws₀ ws (a .unmoved) program ts (shownHere g ws d k n)) at w));
             unmoved = unmoved-then (a .unmoved) (q .unmoved);
             walks = q .walks;
+            small = a .small;
             kept = ap length (w .laid) ∙ length-at at _ now ∙ a .kept;
           }
 

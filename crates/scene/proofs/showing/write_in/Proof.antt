@@ -1,3 +1,4 @@
+use Rattle.scene.proofs.WriteLaws.{no-shape, shape-gone, shape-written}
 use borrow.Author.Needs.{needs}
 use Rattle.scene.proofs.showing.write_in.Statement.{statement}
 use Rattle.scene.proofs.showing.write_in.Tie as tie
@@ -9,7 +10,7 @@ use Rattle.values.proofs.number_of.Reads as number-of-reads
 
 -- src/showing.rt:169:9
 returns : tie.Need-returns
-returns c = ?
+returns c = search no-shape
 
 -- src/showing.rt:171:9
 number-of-requires : tie.Need-number-of-requires
@@ -25,7 +26,7 @@ same-length c = search needs
 
 -- src/showing.rt:173:9
 returns-2 : tie.Need-returns-2
-returns-2 c = ?
+returns-2 c = search shape-gone
 
 -- src/showing.rt:175:9
 write-shape-requires : tie.Need-write-shape-requires
@@ -41,7 +42,7 @@ same-length-3 c = search needs
 
 -- src/showing.rt:155:1
 returns-3 : tie.Need-returns-3
-returns-3 c = ?
+returns-3 c = search shape-written
 
 pub write-in-spec : {M : Type 1} → statement M
 write-in-spec =

@@ -1,3 +1,4 @@
+use Rattle.scene.proofs.WriteLaws.{group-written, figure-written}
 use borrow.Author.Needs.{needs}
 use Rattle.scene.proofs.showing.write_shape.Statement.{statement}
 use Rattle.scene.proofs.showing.write_shape.Tie as tie
@@ -25,7 +26,7 @@ same-length-2 c = search needs
 
 -- src/showing.rt:148:9
 returns : tie.Need-returns
-returns c = ?
+returns c = search group-written
 
 -- src/showing.rt:150:9
 write-figure-requires : tie.Need-write-figure-requires
@@ -41,7 +42,7 @@ same-length-4 c = search needs
 
 -- src/showing.rt:133:1
 returns-2 : tie.Need-returns-2
-returns-2 c = ?
+returns-2 c = search figure-written
 
 pub write-shape-spec : {M : Type 1} → statement M
 write-shape-spec =
