@@ -179,10 +179,8 @@ module _ (program : List ℕ) (ts : List Token) (g : List ℕ) (granted : Amount
     frames-follow zero f h z o K rest t = t [] _ _ _ (still h)
     frames-follow (suc n) f {r} {s} {total} h z o K rest t =
         let w = frameAt (r .words) f in
-        rw (
-          regroup (overWaiting X (topIn w) (countIn w) r) (λ _. overFrames X (f + 1) n) (λ _. K),
-          append-assoc (shapesHeld (listed (waitingAt program ts r) (topIn w) (countIn w))) (shapesHeldBy (listed (frameOf program ts r) (suc f) n)) rest,
-        )
+        rw (regroup (overWaiting X (topIn w) (countIn w) r) (λ _. overFrames X (f + 1) n) (λ _. K),
+        append-assoc (shapesHeld (listed (waitingAt program ts r) (topIn w) (countIn w))) (shapesHeldBy (listed (frameOf program ts r) (suc f) n)) rest)
         (waits-follow (countIn w) (topIn w) h (h .sound .waiting .holds f z (o f (omega arith) (omega arith)))
         (λ r₁. Act.goOn (overFrames X (f + 1) n r₁) (λ _. K)) (shapesHeldBy (listed (frameOf program ts r) (suc f) n) ++ rest)
         (λ xs r₁ s₁ total₁ a.
