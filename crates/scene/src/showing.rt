@@ -109,7 +109,8 @@ fn write_within<'a>(
 ) -> usize
     requires { ⌜ Room (now grants) (now words) ⌝ }
     ensures { λ r. ⌜ Shown (now (program .entry)) (now (texts .entry)) (now (grants .entry)) (now (words .entry))
-        (levelShown (now (grants .entry)) (now (words .entry)) 0 (firstAt (now (words .entry)) i) (countWithin (now (grants .entry)) (now (words .entry)) 0 i)) start (now (out .entry)) (now (words .exit)) (now (out .exit)) r ⌝ }
+        (levelShown (now (grants .entry)) (now (words .entry)) 0 (firstAt (now (words .entry)) i)
+        (countWithin (now (grants .entry)) (now (words .entry)) 0 i)) start (now (out .entry)) (now (words .exit)) (now (out .exit)) r ⌝ }
 {
     let mut d = 0;
     let mut k = components::first_at(words, i);

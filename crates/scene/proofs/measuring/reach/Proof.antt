@@ -42,7 +42,9 @@ same-length-3 c = search needs
 
 -- src/measuring.rt:30:1
 returns-3 : tie.Need-returns-3
-returns-3 c = figure-met _ _ _ _ _ _ _ (c .before .before .before .before .before .before .before .before .before .before .count .ensures) (c .before .before .before .before .before .before .before .if1 .left) _ (c .before .before .before .before .before .is-group .ensures) _ (c .before .before .before .before .if2 .left) (c .before .before .measure .ensures)
+returns-3 c =
+    figure-met _ _ _ _ _ _ _ (c .before .before .before .before .before .before .before .before .before .before .count .ensures) (c .before .before .before .before .before .before
+    .before .if1 .left) _ (c .before .before .before .before .before .is-group .ensures) _ (c .before .before .before .before .if2 .left) (c .before .before .measure .ensures)
 
 pub reach-spec : {M : Type 1} → statement M
 reach-spec =

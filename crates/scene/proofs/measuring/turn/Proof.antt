@@ -62,7 +62,11 @@ same-length-3 c = search needs
 
 -- src/measuring.rt:72:9
 returns-3 : tie.Need-returns-3
-returns-3 c = steps-short _ _ _ _ _ _ _ (c .before .before .before .before .before .before .before .before .before .before .before .before .before .before .pre) (c .before .before .before .before .before .before .before .before .before .before .if1 .left) _ (c .before .before .before .before .before .before .before .before .component-at .ensures) _ (c .before .before .before .before .before .before .is-destroyed .ensures) (c .before .before .before .before .before .if2 .left) _ _ (c .before .before .before .reach .ensures) (c .if3 .taken)
+returns-3 c =
+    steps-short _ _ _ _ _ _ _ (c .before .before .before .before .before .before .before .before .before .before .before .before .before .before .pre) (c .before .before .before
+    .before .before .before .before .before .before .before .if1 .left) _ (c .before .before .before .before .before .before .before .before .component-at .ensures) _ (c .before
+    .before .before .before .before .before .is-destroyed .ensures) (c .before .before .before .before .before .if2 .left) _ _ (c .before .before .before .reach .ensures) (c .if3
+    .taken)
 
 -- src/measuring.rt:74:9
 is-group-requires : tie.Need-is-group-requires
@@ -82,7 +86,12 @@ same-length-4 c = search needs
 
 -- src/measuring.rt:75:9
 returns-4 : tie.Need-returns-4
-returns-4 c = figure-measured _ _ _ _ _ _ _ (c .before .before .before .before .before .before .before .before .before .before .before .before .before .before .before .before .before .pre) (c .before .before .before .before .before .before .before .before .before .before .before .before .before .if1 .left) _ (c .before .before .before .before .before .before .before .before .before .before .before .component-at .ensures) _ (c .before .before .before .before .before .before .before .before .before .is-destroyed .ensures) (c .before .before .before .before .before .before .before .before .if2 .left) _ _ (c .before .before .before .before .before .before .reach .ensures) (c .before .before .before .if3 .left) (c .before .before .before .before .before .before .reach .kept .1 .1 .0) _ (c .before .is-group .ensures) (c .if4 .taken)
+returns-4 c =
+    figure-measured _ _ _ _ _ _ _ (c .before .before .before .before .before .before .before .before .before .before .before .before .before .before .before .before .before .pre)
+    (c .before .before .before .before .before .before .before .before .before .before .before .before .before .if1 .left) _ (c .before .before .before .before .before .before
+    .before .before .before .before .before .component-at .ensures) _ (c .before .before .before .before .before .before .before .before .before .is-destroyed .ensures) (c .before
+    .before .before .before .before .before .before .before .if2 .left) _ _ (c .before .before .before .before .before .before .reach .ensures) (c .before .before .before .if3
+    .left) (c .before .before .before .before .before .before .reach .kept .1 .1 .0) _ (c .before .is-group .ensures) (c .if4 .taken)
 
 -- src/measuring.rt:77:49
 sub-descend : tie.Need-sub-descend
@@ -90,7 +99,10 @@ sub-descend c = search needs
 
 -- src/measuring.rt:77:9
 descend-requires : tie.Need-descend-requires
-descend-requires c κs = descends _ _ _ _ _ _ (c .before .before .before .before .before .before .before .before .before .before .before .before .before .before .before .before .before .before .pre) (c .before .before .before .before .before .before .before .before .before .before .before .before .before .before .if1 .left) (c .before .before .before .before .before .before .before .reach .kept .1 .1 .0)
+descend-requires c κs =
+    descends _ _ _ _ _ _ (c .before .before .before .before .before .before .before .before .before .before .before .before .before .before .before .before .before .before .pre) (c
+    .before .before .before .before .before .before .before .before .before .before .before .before .before .before .if1 .left) (c .before .before .before .before .before .before
+    .before .reach .kept .1 .1 .0)
 
 -- src/measuring.rt:51:1
 same-length-5 : tie.Need-same-length-5
@@ -98,7 +110,14 @@ same-length-5 c = search needs
 
 -- src/measuring.rt:51:1
 returns-5 : tie.Need-returns-5
-returns-5 c = group-measured _ _ _ _ _ _ _ (c .before .before .before .before .before .before .before .before .before .before .before .before .before .before .before .before .before .before .before .before .before .pre) (c .before .before .before .before .before .before .before .before .before .before .before .before .before .before .before .before .before .if1 .left) _ (c .before .before .before .before .before .before .before .before .before .before .before .before .before .before .before .component-at .ensures) _ (c .before .before .before .before .before .before .before .before .before .before .before .before .before .is-destroyed .ensures) (c .before .before .before .before .before .before .before .before .before .before .before .before .if2 .left) _ _ (c .before .before .before .before .before .before .before .before .before .before .reach .ensures) (c .before .before .before .before .before .before .before .if3 .left) (c .before .before .before .before .before .before .before .before .before .before .reach .kept .1 .1 .0) _ (c .before .before .before .before .before .is-group .ensures) (c .before .before .before .before .if4 .left) _ _ (c .before .before .descend .ensures)
+returns-5 c =
+    group-measured _ _ _ _ _ _ _ (c .before .before .before .before .before .before .before .before .before .before .before .before .before .before .before .before .before .before
+    .before .before .before .pre) (c .before .before .before .before .before .before .before .before .before .before .before .before .before .before .before .before .before .if1
+    .left) _ (c .before .before .before .before .before .before .before .before .before .before .before .before .before .before .before .component-at .ensures) _ (c .before .before
+    .before .before .before .before .before .before .before .before .before .before .before .is-destroyed .ensures) (c .before .before .before .before .before .before .before
+    .before .before .before .before .before .if2 .left) _ _ (c .before .before .before .before .before .before .before .before .before .before .reach .ensures) (c .before .before
+    .before .before .before .before .before .if3 .left) (c .before .before .before .before .before .before .before .before .before .before .reach .kept .1 .1 .0) _ (c .before
+    .before .before .before .before .is-group .ensures) (c .before .before .before .before .if4 .left) _ _ (c .before .before .descend .ensures)
 
 pub turn-spec : {M : Type 1} → statement M
 turn-spec =

@@ -42,7 +42,10 @@ loop-less c = omega arith
 
 -- src/showing.rt:196:5
 loop-again : tie.Need-loop-again Inv-loop μ-loop
-loop-again c = write-more _ _ _ _ _ _ _ _ _ _ _ (c .before .before .before .before .before .before .before .before .before .before .loop .inv) _ _ _ _ (omega arith) (c .before .before .before .before .before .before .before .before .before .loop-test .taken) (c .before .before .before .before .before .before .before .declared-word .ensures) (c .before .before .before .before .write-in .ensures)
+loop-again c =
+    write-more _ _ _ _ _ _ _ _ _ _ _ (c .before .before .before .before .before .before .before .before .before .before .loop .inv) _ _ _ _ (omega arith) (c .before .before .before
+    .before .before .before .before .before .before .loop-test .taken) (c .before .before .before .before .before .before .before .declared-word .ensures) (c .before .before
+    .before .before .write-in .ensures)
 
 -- src/showing.rt:180:1
 same-length : tie.Need-same-length Inv-loop μ-loop

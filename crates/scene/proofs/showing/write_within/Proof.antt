@@ -28,7 +28,9 @@ count-within-requires c κs = search needs
 
 -- src/showing.rt:118:5
 loop-holds : tie.Need-loop-holds Inv-loop μ-loop
-loop-holds c = show-first _ _ _ _ _ _ _ _ _ (omega arith) (omega arith) (c .before .before .before .before .before .before .before .before .pre) (c .before .before .first-at .ensures) (c .count-within .ensures)
+loop-holds c =
+    show-first _ _ _ _ _ _ _ _ _ (omega arith) (omega arith) (c .before .before .before .before .before .before .before .before .pre) (c .before .before .first-at .ensures) (c
+    .count-within .ensures)
 
 -- src/showing.rt:118:15
 add-loop : tie.Need-add-loop Inv-loop μ-loop
@@ -52,7 +54,9 @@ loop-less c = search show-less
 
 -- src/showing.rt:118:5
 loop-again : tie.Need-loop-again Inv-loop μ-loop
-loop-again c = show-next _ _ _ _ _ _ _ _ _ _ _ _ _ (c .before .before .before .before .before .before .before .before .before .before .before .before .before .loop .inv) _ _ (c .before .before .before .before .before .turn .ensures) _ _ _ _ _ (search needs) (c .before .before .before .before .before .before .before .before .before .write-reached .ensures)
+loop-again c =
+    show-next _ _ _ _ _ _ _ _ _ _ _ _ _ (c .before .before .before .before .before .before .before .before .before .before .before .before .before .loop .inv) _ _ (c .before
+    .before .before .before .before .turn .ensures) _ _ _ _ _ (search needs) (c .before .before .before .before .before .before .before .before .before .write-reached .ensures)
 
 -- src/showing.rt:126:27
 enum-known-number : tie.Need-enum-known-number Inv-loop μ-loop
