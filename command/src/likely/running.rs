@@ -38,10 +38,15 @@ impl<'a> Own<'a> {
         names.iter().enumerate().any(|(index, name)| names[..index].contains(name))
     }
 
-    /// The names of its parameters and of its declarations, where they stand.
+    /// The names of its parameters and of its declarations, where they stand; a foreach declares its name.
     fn declared(&self) -> Vec<Token<'a>> {
-        let variables = self.tokens.windows(2).filter(|two| two[0].is("var")).map(|two| two[1]);
+        let variables = self.tokens.windows(2).filter(|two| two[0].is("var") || two[0].is("foreach")).map(|two| two[1]);
         self.parameters().chain(variables).collect()
+    }
+
+    /// Whether the name that stands there is declared by a foreach.
+    fn by_foreach(&self, name: Token) -> bool {
+        self.tokens.windows(2).any(|two| two[0].is("foreach") && two[1].start == name.start)
     }
 }
 
@@ -95,11 +100,18 @@ pub fn undeclared(drawing: &Drawing, refusal: &Refusal) -> Option<Reason> {
     let declared = spot.within().declared();
     let mut names = spot.statement.iter().enumerate().filter_map(|(index, token)| {
         let called = spot.statement.get(index + 1).is_some_and(|next| next.is("("));
-        (token.is_name() && !called).then_some(token)
+        let bound = index > 0 && spot.statement[index - 1].is("foreach");
+        (token.is_name() && !called && !bound).then_some(token)
     });
     let name = names.find(|name| !declared.iter().any(|first| first.text == name.text && first.start < refusal.place))?;
     let shown = name.shown();
     if let Some(first) = declared.iter().find(|first| first.text == name.text) {
+        if spot.within().by_foreach(*first) {
+            return reason_of(
+                format!("`{shown}` is declared only by the foreach in line {}", spot.line(*first)),
+                format!("Declare it by `var {shown};` before this statement"),
+            );
+        }
         return reason_of(
             format!("`{shown}` is declared further down, in line {}", spot.line(*first)),
             format!("Move its `var {shown};` before this statement"),

@@ -1,5 +1,5 @@
 -- What shapes show: the figures that they are or hold, and the walk that counts these and the bytes of their lines.
-use Prim.Native.Nat.{ℕ, zero, suc, _+_}
+use Prim.Native.Nat.{ℕ, zero, suc, _+_, _%_, _^_}
 use mathlib.Core.List.{List, [], _∷_, _++_}
 use lib.ListN.{getD}
 use Rattle.meaning.specs.Basics.{if_then_else_}
@@ -23,9 +23,9 @@ unfoldable pub figuresIn : ℕ → List ℕ → List ℕ → ℕ → List ℕ
 figuresIn zero g ws i = []
 figuresIn (suc b) g ws i = if isGroupAt ws i then (λ _. shownFrom (figuresIn b g ws) g ws (firstAt ws i) (countAt ws i)) else λ _. i ∷ []
 
--- ---- the walk: `size` gives how long the line of a figure is
+-- ---- the walk: `size` gives how long the line of a figure is; the sum is that of words
 unfoldable pub measure : (Raw → ℕ → ℕ) → ℕ → Act (Unit {0})
-measure size i r = store linesLength (getD (r .words) linesLength 0 + size r i) r
+measure size i r = store linesLength ((getD (r .words) linesLength 0 + size r i) % 2 ^ 64) r
 
 -- a component reached counts a step; a group has no line of its own
 unfoldable pub showReached : (Raw → ℕ → ℕ) → List ℕ → ℕ → Act (Unit {0})

@@ -91,7 +91,7 @@ impl Lengths {
         Lengths {
             tokens: TOKEN_WORDS,
             code: CODE_WORDS,
-            words: RUN_WORDS + 3 * count(grants.shapes) + 4 * count(grants.entries),
+            words: RUN_WORDS + 5 * count(grants.shapes) + (5 + grants.calls.min(65) as usize) * count(grants.entries),
             texts: count(grants.text_bytes),
         }
     }

@@ -1,9 +1,9 @@
--- `scene::write_line_of` meets its contract: the figure that is handed on is the shape's.
+-- `lines::write_line_of` meets its contract: the figure that is handed on is the shape's.
 -- Assumes nothing.
 use borrow.Author.Needs.{needs}
 use Rattle.scene.proofs.Figures.{kind-fits, line-written}
-use Rattle.scene.proofs.write_line_of.Statement.{statement}
-use Rattle.scene.proofs.write_line_of.Tie as tie
+use Rattle.scene.proofs.lines.write_line_of.Statement.{statement}
+use Rattle.scene.proofs.lines.write_line_of.Tie as tie
 
 figure-at-requires : tie.Need-figure-at-requires
 figure-at-requires c κs = search needs

@@ -1,9 +1,9 @@
--- `scene::line_length_of` meets its contract: the figure that is handed on is the shape's.
+-- `lines::line_length_of` meets its contract: the figure that is handed on is the shape's.
 -- Assumes nothing.
 use borrow.Author.Needs.{needs}
 use Rattle.scene.proofs.Figures.{kind-fits, line-counted}
-use Rattle.scene.proofs.line_length_of.Statement.{statement}
-use Rattle.scene.proofs.line_length_of.Tie as tie
+use Rattle.scene.proofs.lines.line_length_of.Statement.{statement}
+use Rattle.scene.proofs.lines.line_length_of.Tie as tie
 
 figure-at-requires : tie.Need-figure-at-requires
 figure-at-requires c κs = search needs

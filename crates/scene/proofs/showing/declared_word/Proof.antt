@@ -1,9 +1,9 @@
--- `scene::declared_word` meets its contract: the slot, and then its word.
+-- `showing::declared_word` meets its contract: the slot, and then its word.
 -- Assumes nothing.
 use borrow.Author.Needs.{needs}
-use Rattle.scene.proofs.Shown.{word-is}
-use Rattle.scene.proofs.declared_word.Statement.{statement}
-use Rattle.scene.proofs.declared_word.Tie as tie
+use Rattle.scene.proofs.Words.{word-is}
+use Rattle.scene.proofs.showing.declared_word.Statement.{statement}
+use Rattle.scene.proofs.showing.declared_word.Tie as tie
 
 slot-at-requires : tie.Need-slot-at-requires
 slot-at-requires c κs = search needs
