@@ -11,11 +11,10 @@ use Rattle.machine.specs.Opcodes.{tagIn, extraIn, tagAssign, tagReturn}
 use Rattle.machine.specs.declared.Value.{Value}
 use Rattle.machine.specs.declared.Answer.{Answer}
 use Rattle.machine.specs.declared.Answer.the-variants.{Good, Bad}
-use Rattle.machine.specs.declared.Figure.{Figure}
 use Rattle.machine.specs.Words.{kindIn, numberIn, truthIn, packed, unpacked, kindTruth, kindShape}
 use Rattle.machine.specs.Layout.{valuePlace}
 use Rattle.machine.specs.Act.{goOn, _>>=_, give, fail, refuse, load, shown, Answers, Passes, Gives}
-use Rattle.machine.specs.Shapes.{figureAt, newShape}
+use Rattle.machine.specs.Groups.{copyShape}
 use Rattle.machine.specs.Variables.{isDead, usable, isDeclared, declare, setVariable}
 use Rattle.machine.specs.declared.Flow.{Flow}
 use Rattle.machine.specs.declared.Flow.the-variants.{Onward, Returned, Stopped}
@@ -54,14 +53,14 @@ module _ (ws g : List ℕ) (slot k p : ℕ) (ok : Bool) (d : ok ≡ isDeclared w
   unfolding assigning usable _>>=_ goOn load refuse fail give shownFlow
   shape-dead b t e u = record { equal = λ ts. rw (known-is t, ← e, u) }
 
-  module _ (t : not ok ≡ false) (l : Bool) (d₁ : l ≡ isDead ws (unpacked k)) (u : l ≡ false) (i : kindIn k ≡ kindShape) (n : ℕ) (m : n ≡ numberIn k) (f : Figure) (e : f ≡ figureAt ws n) (a : Answer) (ws₁ : List ℕ) (o : Answers ws (newShape g p f) a ws₁) where
+  module _ (t : not ok ≡ false) (l : Bool) (d₁ : l ≡ isDead ws (unpacked k)) (u : l ≡ false) (i : kindIn k ≡ kindShape) (n : ℕ) (m : n ≡ numberIn k) (a : Answer) (ws₁ : List ℕ) (o : Answers ws (copyShape g p n) a ws₁) where
     pub no-copy : (l q : ℕ) → a ≡ Bad l q → Flows ws (assigning g p slot k) (Stopped l q) ws₁
     unfolding assigning copied usable if_then_else_ _>>=_ goOn load refuse give shownFlow shown
-    no-copy l q b = record { equal = λ ts. sym (rw (known-is t, ← d₁, u, i, ← m, ← e, ← o .equal ts, b)) }
+    no-copy l q b = record { equal = λ ts. sym (rw (known-is t, ← d₁, u, i, ← m, ← o .equal ts, b)) }
 
     pub copy-put : (v : Value) (c : ℕ) (ws₂ : List ℕ) → a ≡ Good v → c ≡ packed v → Gives ws₁ (setVariable slot c) tt ws₂ → Flows ws (assigning g p slot k) Onward ws₂
     unfolding assigning copied usable if_then_else_ _>>=_ goOn load refuse give shownFlow shown
-    copy-put v c ws₂ b r s = record { equal = λ ts. sym (rw (known-is t, ← d₁, u, i, ← m, ← e, ← o .equal ts, b, ← r, ← s .equal ts)) }
+    copy-put v c ws₂ b r s = record { equal = λ ts. sym (rw (known-is t, ← d₁, u, i, ← m, ← o .equal ts, b, ← r, ← s .equal ts)) }
 
 -- ---- statements of one expression
 module _ (ws g : List ℕ) (w k p tag : ℕ) (i : tag ≡ tagIn w) where

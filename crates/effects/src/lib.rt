@@ -50,8 +50,7 @@ fn put_copy(words: &mut [u64], grants: &[u64; 5], slot: usize, k: u64, p: u64) -
     if stores::variables::is_dead(words, k) {
         return Flow::Stopped(30, p);
     }
-    let figure = stores::shapes::figure_at(words, values::number_of(k));
-    match stores::shapes::new_shape(words, grants, p, figure) {
+    match groups::making::copy_shape(words, grants, p, values::number_of(k)) {
         Answer::Good(v) => {
             stores::variables::set_variable(words, slot, values::pack(v));
             Flow::Onward

@@ -61,6 +61,7 @@ pub fn begin(
         return Answer::Bad(20, p);
     }
     words[counters::RUNNING] = callee as u64 + 1;
+    words[counters::LOOP_UNIT] = 0;
     let a = code::start_of(d);
     let limit = grants[granted::CALLS];
     if !stores::calls::declare_parameters(words, code, a, m) {
