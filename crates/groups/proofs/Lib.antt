@@ -4,3 +4,4 @@ pub mod DestroyLaws
 mod MakingLaws
 mod SceneLaws
 mod LookLaws
+mod MarkLaws

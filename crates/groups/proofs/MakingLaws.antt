@@ -50,8 +50,8 @@ module _ (g ws : List ℕ) (unit place n : ℕ) (ok : Bool) (ws₁ : List ℕ) (
         let within = q .within in
         let entries = r .entries in
         let a : getD (set (set ws₁ at x) componentsMade (getD ws componentsMade 0 % entriesGranted g + 1)) entriesUsed 0 ≡ getD ws entriesUsed 0 + 1 =
-            getD-set-other (set ws₁ at x) componentsMade entriesUsed _ 0 (λ z. omega arith) ∙ getD-set-other ws₁ at entriesUsed x 0 (λ z. omega (arith, f))
-            ∙ rw (q .words) (getD-set-same ws entriesUsed (getD ws entriesUsed 0 + 1) 0 l) in
+        getD-set-other (set ws₁ at x) componentsMade entriesUsed _ 0 (λ z. omega arith) ∙ getD-set-other ws₁ at entriesUsed x 0 (λ z. omega (arith, f))
+        ∙ rw (q .words) (getD-set-same ws entriesUsed (getD ws entriesUsed 0 + 1) 0 l) in
         record {
           passes = record { equal = λ p ts. rw (i, f, e, q .words, le-leb (getD ws entriesUsed 0 + 1) (entriesGranted g) within) };
           used = λ z. (a, omega arith);

@@ -43,7 +43,7 @@ walks-first g ws i k n r e f =
     let a = count-small g ws 0 i in
     record { room = r; deep = omega arith; within = λ h. count-deep g ws 0 i (rw (← f) h); small = omega (arith, e, f, a); few = omega (arith, f, a); ways = λ e h. absurd (omega arith) }
 
-less-one : (n : ℕ) → suc n - 1 ≡ n
+pub less-one : (n : ℕ) → suc n - 1 ≡ n
 less-one n = omega arith
 
 -- ---- ways kept
@@ -55,7 +55,7 @@ module _ (g : List ℕ) (reach leave : Doing) (s : Steady g reach leave) (ws ws�
   leave-kept d h e l = kept-way e (raw [] ws) (leave 0 d (raw [] ws)) (raw [] ws′) (s .left 0 d e (raw [] ws) l) (h 0 [])
 
 -- what remains in its range where the ways above are kept
-walks-same : (g ws ws′ : List ℕ) (d d′ k k′ n n′ : ℕ) → Walks g ws d k n → length ws′ ≡ length ws → ((e : ℕ) → e < shapesGranted g → getD ws′ (wayPlace e) 0 ≡ getD ws (wayPlace e) 0)
+pub walks-same : (g ws ws′ : List ℕ) (d d′ k k′ n n′ : ℕ) → Walks g ws d k n → length ws′ ≡ length ws → ((e : ℕ) → e < shapesGranted g → getD ws′ (wayPlace e) 0 ≡ getD ws (wayPlace e) 0)
     → d′ ≤ d → (0 < n′ → d′ < shapesGranted g) → k′ + n′ < 2 ^ 17 → n′ < 2 ^ 16 → Walks g ws′ d′ k′ n′
 walks-same g ws ws′ d d′ k k′ n n′ w l kept below within small few = record {
   room = room-same (w .room) l;
@@ -67,7 +67,7 @@ walks-same g ws ws′ d d′ k k′ n n′ w l kept below within small few = rec
 }
 
 -- a depth, or one above it
-way-at : {A : Type 0} (d e : ℕ) → e < suc d → (e ≡ d → A) → (e < d → A) → A
+pub way-at : {A : Type 0} (d e : ℕ) → e < suc d → (e ≡ d → A) → (e < d → A) → A
 way-at {A} d e h here above = go (eqb e d) refl
   where
     go : (b : Bool) → eqb e d ≡ b → A
@@ -193,7 +193,7 @@ module _ (reach leave : Doing) (g : List ℕ) (i : ℕ) (ws₀ : List ℕ) where
   go-first k n r e f =
       let z : shapesGranted g - 0 ≡ shapesGranted g = omega arith in
       let whole : (p : ℕ) (ts : List ℕ) → levelFrom reach leave g p 0 k n (raw ts ws₀) ≡ walkIn (reach p) (leave p) (shapesGranted g) g 0 i (raw ts ws₀) =
-          λ p ts. rw (e, f) (rw z at (level-walk reach leave g p 0 i (raw ts ws₀))) in
+      λ p ts. rw (e, f) (rw z at (level-walk reach leave g p 0 i (raw ts ws₀))) in
       record {
         rest = λ p ts. then-nothing (levelFrom reach leave g p 0 k n (raw ts ws₀)) ∙ whole p ts;
         walks = walks-first g ws₀ i k n r e f;

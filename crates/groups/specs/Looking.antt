@@ -1,19 +1,19 @@
 -- Looking for the next figure, as a loop does it: the way is kept as in a walk.
-use Prim.Native.Nat.{ℕ, zero, suc, _+_, _-_, _^_, _≤_, _<_}
+use Prim.Native.Nat.{ℕ, zero, suc, _+_, _-_, _%_, _^_, _≤_, _<_}
 use mathlib.Core.Path.{_≡_}
 use mathlib.Core.Bool.{Bool, _&&_, _||_}
 use mathlib.Core.List.{List}
-use lib.ListN.{getD}
+use lib.ListN.{getD, set}
 use lib.Dec.{eqb, ltb}
 use Rattle.meaning.specs.Basics.{if_then_else_}
-use Rattle.machine.specs.Layout.{shapesGranted}
+use Rattle.machine.specs.Layout.{shapesGranted, Room}
 use Rattle.machine.specs.Act.{raw, Out, done, Act, _>>=_, _>>_, give, load, held}
 use Rattle.machine.specs.Shapes.{isGroupAt, destroyedAt}
-use Rattle.machine.specs.Groups.{componentAt, firstAt, countAt, wayPlace}
-use Rattle.machine.specs.Loops.{hollowAt, hollow, mark, unmark, lookFrom, lookUnder}
+use Rattle.machine.specs.Groups.{componentAt, followersAt, firstAt, countAt, wayWord, wayPlace}
+use Rattle.machine.specs.Loops.{hollowAt, hollow, markedAt, mark, unmark, lookFrom, lookUnder}
 use Rattle.groups.specs.declared.Turn.{Turn}
 use Rattle.groups.specs.declared.Turn.the-variants.{At, Stopped}
-use Rattle.groups.specs.Walks.{slotIn, leftIn, Walks, owed}
+use Rattle.groups.specs.Walks.{slotIn, leftIn, countWithin, WalksBy, owed, owedBy}
 
 -- whether a component is passed over
 abbrev pub passedOver : List ℕ → ℕ → Bool
@@ -47,3 +47,33 @@ module _ (g : List ℕ) where
 -- how many components are counted at a depth
 unfoldable pub within : List ℕ → ℕ → ℕ → ℕ
 within g d n = if ltb d (shapesGranted g) then (λ _. n) else λ _. 0
+
+-- ---- a turn
+unfoldable pub SmallBy : Turn → Type 0
+SmallBy (At d k n) = Unit {0}
+SmallBy (Stopped found) = found < 2 ^ 18
+
+pub record Looked (g ws : List ℕ) (d k n : ℕ) (turn : Turn) (ws′ : List ℕ) : Type 0 where
+  pub equal : (ts : List ℕ) → lookBy g turn ts ws′ ≡ lookRest g d k n (raw ts ws)
+  pub walks : WalksBy g ws′ turn
+  pub small : SmallBy turn
+  pub less : owedBy (shapesGranted g) ws′ turn < owed (shapesGranted g) ws d n
+
+-- down into group c
+pub record Entered (g ws : List ℕ) (d k n c : ℕ) (turn : Turn) (ws′ : List ℕ) : Type 0 where
+  pub words : ws′ ≡ set ws (wayPlace d) (wayWord k n 0)
+  pub place : turn ≡ At (d + 1) (firstAt ws′ c) (countWithin g ws′ (d + 1) c)
+
+-- what a search asks
+pub record Starts (g ws : List ℕ) (k n : ℕ) : Type 0 where
+  pub room : Room g ws
+  pub small : k + n < 2 ^ 17
+  pub few : n < 2 ^ 16
+
+-- among the components that follow slot k in its group
+unfoldable pub lookAfter : List ℕ → ℕ → Act ℕ
+lookAfter g k = held >>= λ ws. lookUnder (shapesGranted g) g 0 ((k + 1) % 2 ^ 16) (followersAt g ws k)
+
+-- a slot marked no longer, if it is
+unfoldable pub clearMark : List ℕ → ℕ → Act (Unit {0})
+clearMark g k = held >>= λ ws. if markedAt g ws k then (λ _. unmark g k) else λ _. give tt

@@ -39,11 +39,11 @@ module _ (reach leave : Doing) (g : List ℕ) (p : ℕ) where
   -- a component visited at depth d
   unfoldable pub visitAt : ℕ → ℕ → ℕ → ℕ → ℕ → Act (Unit {0})
   visitAt b d k n c = reach p c >> (held >>= λ ws′. if isGroupAt ws′ c then (λ _. do
-      m ← load waitingHeld
-      store (wayPlace d) (wayWord k n m)
-      walkIn (reach p) (leave p) b g (d + 1) c
-      leave p d)
-    else λ _. give tt)
+    m ← load waitingHeld
+    store (wayPlace d) (wayWord k n m)
+    walkIn (reach p) (leave p) b g (d + 1) c
+    leave p d)
+      else λ _. give tt)
 
   unfoldable pub levelFrom : ℕ → ℕ → ℕ → Act (Unit {0})
   levelFrom d k n = eachFrom (visitAt (shapesGranted g - suc d) d) g k n

@@ -10,6 +10,7 @@ ghost use lib.ListN.{getD};
 ghost use Rattle.machine.specs.Layout.{Room};
 ghost use Rattle.machine.specs.Groups.{wayWord, wayPlace};
 ghost use Rattle.groups.specs.Walks.{slotIn, leftIn, countWithin, backAt, Descends, Descended};
+ghost use Rattle.groups.specs.Looking.{Entered};
 
 // Where the way stands at a depth.
 fn way_place(d: u32) -> usize
@@ -59,4 +60,23 @@ pub fn back_at(words: &[u64], d: u32) -> Turn
         (w % 4294967296) as u32 + 1,
         (w / 4294967296 % 65536) as u32,
     )
+}
+
+// The slot where a depth was left.
+pub fn slot_at(words: &[u64], d: u32) -> u32
+    ensures { λ r. ⌜ r ≡ slotIn (getD (now (words .entry)) (wayPlace d) 0) ⌝ }
+{
+    (stores::words::word_at(words, way_place(d)) % 4294967296) as u32
+}
+
+// Down into group c as by `descend`, where nothing waits.
+pub fn enter(words: &mut [u64], grants: &[u64; 5], d: u32, k: u32, n: u32, c: u32) -> Turn
+    requires { ⌜ Descends (now grants) (now words) d ⌝ }
+    ensures { λ r. ⌜ Entered (now (grants .entry)) (now (words .entry)) d k n c r (now (words .exit)) ⌝ }
+{
+    let at = way_place(d);
+    words[at] = way_word(k, n, 0);
+    let first = components::first_at(words, c);
+    let count = count_within(words, grants, d + 1, c);
+    Turn::At(d + 1, first, count)
 }

@@ -2,11 +2,6 @@ use Rattle.groups.proofs.DestroyLaws.{figure-gone, group-gone}
 use borrow.Author.Needs.{needs}
 use Rattle.groups.proofs.destroying.destroy_all.Statement.{statement}
 use Rattle.groups.proofs.destroying.destroy_all.Tie as tie
-use Rattle.groups.proofs.destroying.destroy_all.Reads as reads
-use Rattle.groups.proofs.destroying.destroy_all.Lts as lts
-use Rattle.groups.proofs.destroying.destroy_within.Reads as destroy-within-reads
-use Rattle.stores.proofs.shapes.destroy.Reads as destroy-reads
-use Rattle.stores.proofs.shapes.is_group.Reads as is-group-reads
 
 -- src/destroying.rt:61:5
 destroy-requires : tie.Need-destroy-requires

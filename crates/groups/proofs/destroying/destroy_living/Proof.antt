@@ -2,10 +2,6 @@ use Rattle.groups.proofs.DestroyLaws.{gone-before, living-gone}
 use borrow.Author.Needs.{needs}
 use Rattle.groups.proofs.destroying.destroy_living.Statement.{statement}
 use Rattle.groups.proofs.destroying.destroy_living.Tie as tie
-use Rattle.groups.proofs.destroying.destroy_living.Reads as reads
-use Rattle.groups.proofs.destroying.destroy_living.Lts as lts
-use Rattle.groups.proofs.destroying.destroy_all.Reads as destroy-all-reads
-use Rattle.stores.proofs.shapes.is_destroyed.Reads as is-destroyed-reads
 
 -- src/destroying.rt:74:8
 is-destroyed-requires : tie.Need-is-destroyed-requires

@@ -6,11 +6,6 @@ use Rattle.groups.specs.Destroying.{destroyReached, destroyLeft}
 use Rattle.groups.proofs.TurnLaws.{Going, go-first, under, go-over, go-next, go-less, go-stops}
 use Rattle.groups.proofs.destroying.destroy_within.Statement.{statement}
 use Rattle.groups.proofs.destroying.destroy_within.Tie as tie
-use Rattle.groups.proofs.destroying.destroy_within.Reads as reads
-use Rattle.groups.proofs.destroying.destroy_within.Lts as lts
-use Rattle.groups.proofs.destroying.turn.Reads as turn-reads
-use Rattle.groups.proofs.walks.count_within.Reads as count-within-reads
-use Rattle.stores.proofs.components.first_at.Reads as first-at-reads
 
 abbrev Inv-loop : tie.InvT-loop
 Inv-loop words₀ grants i d₀ k₀ n₀ words d k n = Going (destroyReached grants) destroyLeft grants i words₀ words d k n

@@ -4,15 +4,6 @@ use mathlib.Core.Path.{_∙_}
 use borrow.Author.Needs.{needs}
 use Rattle.groups.proofs.destroying.turn.Statement.{statement}
 use Rattle.groups.proofs.destroying.turn.Tie as tie
-use Rattle.groups.proofs.destroying.turn.Reads as reads
-use Rattle.groups.proofs.destroying.turn.Lts as lts
-use Rattle.groups.proofs.walks.back_at.Reads as back-at-reads
-use Rattle.groups.proofs.walks.descend.Reads as descend-reads
-use Rattle.stores.proofs.components.component_at.Reads as component-at-reads
-use Rattle.stores.proofs.counters.count.Reads as count-reads
-use Rattle.stores.proofs.shapes.destroy.Reads as destroy-reads
-use Rattle.stores.proofs.shapes.is_destroyed.Reads as is-destroyed-reads
-use Rattle.stores.proofs.shapes.is_group.Reads as is-group-reads
 
 -- src/destroying.rt:18:38
 sub-back-at : tie.Need-sub-back-at

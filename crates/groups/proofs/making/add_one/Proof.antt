@@ -4,12 +4,6 @@ use Rattle.groups.proofs.MakingLaws.{no-entry, entries-some, made-less,
 use borrow.Author.Needs.{needs}
 use Rattle.groups.proofs.making.add_one.Statement.{statement}
 use Rattle.groups.proofs.making.add_one.Tie as tie
-use Rattle.groups.proofs.making.add_one.Reads as reads
-use Rattle.groups.proofs.making.add_one.Lts as lts
-use Rattle.groups.proofs.making.slot_word.Reads as slot-word-reads
-use Rattle.stores.proofs.components.place_of.Reads as place-of-reads
-use Rattle.stores.proofs.counters.spend.Reads as spend-reads
-use Rattle.stores.proofs.words.word_at.Reads as word-at-reads
 
 -- src/making.rt:29:16
 slice-read-made : tie.Need-slice-read-made

@@ -2,12 +2,6 @@ use Rattle.groups.proofs.MakingLaws.{copied-group, copy-sources}
 use borrow.Author.Needs.{needs}
 use Rattle.groups.proofs.making.copy_group.Statement.{statement}
 use Rattle.groups.proofs.making.copy_group.Tie as tie
-use Rattle.groups.proofs.making.copy_group.Reads as reads
-use Rattle.groups.proofs.making.copy_group.Lts as lts
-use Rattle.groups.proofs.making.new_group.Reads as new-group-reads
-use Rattle.stores.proofs.components.count_at.Reads as count-at-reads
-use Rattle.stores.proofs.components.first_at.Reads as first-at-reads
-use Rattle.stores.proofs.components.place_of.Reads as place-of-reads
 
 -- src/making.rt:108:43
 first-at-requires : tie.Need-first-at-requires

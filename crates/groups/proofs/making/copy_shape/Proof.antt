@@ -2,12 +2,6 @@ use Rattle.groups.proofs.MakingLaws.{copies-group, copies-figure}
 use borrow.Author.Needs.{needs}
 use Rattle.groups.proofs.making.copy_shape.Statement.{statement}
 use Rattle.groups.proofs.making.copy_shape.Tie as tie
-use Rattle.groups.proofs.making.copy_shape.Reads as reads
-use Rattle.groups.proofs.making.copy_shape.Lts as lts
-use Rattle.groups.proofs.making.copy_group.Reads as copy-group-reads
-use Rattle.stores.proofs.shapes.figure_at.Reads as figure-at-reads
-use Rattle.stores.proofs.shapes.is_group.Reads as is-group-reads
-use Rattle.stores.proofs.shapes.new_shape.Reads as new-shape-reads
 
 -- src/making.rt:119:8
 is-group-requires : tie.Need-is-group-requires

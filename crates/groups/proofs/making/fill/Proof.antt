@@ -3,9 +3,6 @@ use borrow.Author.Needs.{needs}
 use Rattle.groups.proofs.MakingLaws.{Filling, fill-first, filled, fill-short, place-fits, fill-next}
 use Rattle.groups.proofs.making.fill.Statement.{statement}
 use Rattle.groups.proofs.making.fill.Tie as tie
-use Rattle.groups.proofs.making.fill.Reads as reads
-use Rattle.groups.proofs.making.fill.Lts as lts
-use Rattle.groups.proofs.making.add_one.Reads as add-one-reads
 
 abbrev Inv-loop : tie.InvT-loop
 Inv-loop words₀ grants stride unit place n at₀ left₀ words at left = Filling grants stride unit place n words₀ words at left

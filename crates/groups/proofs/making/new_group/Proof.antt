@@ -5,12 +5,6 @@ use Rattle.groups.proofs.MakingLaws.{no-group, group-short, group-made,
 use borrow.Author.Needs.{needs}
 use Rattle.groups.proofs.making.new_group.Statement.{statement}
 use Rattle.groups.proofs.making.new_group.Tie as tie
-use Rattle.groups.proofs.making.new_group.Reads as reads
-use Rattle.groups.proofs.making.new_group.Lts as lts
-use Rattle.groups.proofs.making.fill.Reads as fill-reads
-use Rattle.groups.proofs.making.put_group.Reads as put-group-reads
-use Rattle.stores.proofs.counters.spend.Reads as spend-reads
-use Rattle.stores.proofs.shapes.place_of.Reads as place-of-reads
 
 -- src/making.rt:89:13
 slice-read-i : tie.Need-slice-read-i

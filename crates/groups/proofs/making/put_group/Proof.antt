@@ -4,9 +4,6 @@ use Rattle.groups.proofs.MakingLaws.{lays-group}
 use borrow.Author.Needs.{needs}
 use Rattle.groups.proofs.making.put_group.Statement.{statement}
 use Rattle.groups.proofs.making.put_group.Tie as tie
-use Rattle.groups.proofs.making.put_group.Reads as reads
-use Rattle.groups.proofs.making.put_group.Lts as lts
-use Rattle.groups.proofs.making.slot_word.Reads as slot-word-reads
 
 -- src/making.rt:71:17
 mul-words : tie.Need-mul-words

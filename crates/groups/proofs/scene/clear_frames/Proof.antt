@@ -6,9 +6,6 @@ use Rattle.machine.specs.Variables.{clearFrom, clearFrames}
 use Rattle.groups.proofs.SceneLaws.{Runs, runs-first, runs-room, waitingFrom, clear-more-frames, clear-stops-frames, clear-all-frames}
 use Rattle.groups.proofs.scene.clear_frames.Statement.{statement}
 use Rattle.groups.proofs.scene.clear_frames.Tie as tie
-use Rattle.groups.proofs.scene.clear_frames.Reads as reads
-use Rattle.groups.proofs.scene.clear_frames.Lts as lts
-use Rattle.groups.proofs.scene.clear_waiting.Reads as clear-waiting-reads
 
 abbrev Inv-loop : tie.InvT-loop
 Inv-loop words₀ grants calls d₀ words d = Runs (clearFrames grants) 1 calls words₀ words d

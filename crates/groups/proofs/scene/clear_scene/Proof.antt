@@ -3,10 +3,6 @@ use Rattle.groups.proofs.TurnLaws.{room-same}
 use borrow.Author.Needs.{needs}
 use Rattle.groups.proofs.scene.clear_scene.Statement.{statement}
 use Rattle.groups.proofs.scene.clear_scene.Tie as tie
-use Rattle.groups.proofs.scene.clear_scene.Reads as reads
-use Rattle.groups.proofs.scene.clear_scene.Lts as lts
-use Rattle.groups.proofs.scene.clear_frames.Reads as clear-frames-reads
-use Rattle.groups.proofs.scene.clear_variables.Reads as clear-variables-reads
 
 -- src/scene.rt:88:9
 clear-frames-requires : tie.Need-clear-frames-requires

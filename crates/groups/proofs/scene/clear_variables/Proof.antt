@@ -6,9 +6,6 @@ use Rattle.machine.specs.Variables.{clearFrom, clearFrames}
 use Rattle.groups.proofs.SceneLaws.{Runs, runs-first, runs-room, waitingFrom, clear-more, clear-stops, clear-all}
 use Rattle.groups.proofs.scene.clear_variables.Statement.{statement}
 use Rattle.groups.proofs.scene.clear_variables.Tie as tie
-use Rattle.groups.proofs.scene.clear_variables.Reads as reads
-use Rattle.groups.proofs.scene.clear_variables.Lts as lts
-use Rattle.groups.proofs.scene.destroy_in.Reads as destroy-in-reads
 
 abbrev Inv-loop : tie.InvT-loop
 Inv-loop words₀ grants n k₀ words k = Runs (clearFrom grants) 0 n words₀ words k

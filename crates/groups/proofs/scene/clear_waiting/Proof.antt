@@ -6,10 +6,6 @@ use Rattle.machine.specs.Variables.{clearFrom, clearFrames}
 use Rattle.groups.proofs.SceneLaws.{Runs, runs-first, runs-room, waitingFrom, clear-more-waiting, clear-stops-waiting, clear-all-waiting}
 use Rattle.groups.proofs.scene.clear_waiting.Statement.{statement}
 use Rattle.groups.proofs.scene.clear_waiting.Tie as tie
-use Rattle.groups.proofs.scene.clear_waiting.Reads as reads
-use Rattle.groups.proofs.scene.clear_waiting.Lts as lts
-use Rattle.groups.proofs.scene.destroy_in.Reads as destroy-in-reads
-use Rattle.stores.proofs.arguments.place_above.Reads as place-above-reads
 
 abbrev Inv-loop : tie.InvT-loop
 Inv-loop words₀ grants f top n k₀ words k = Runs (waitingFrom grants top) 0 n words₀ words k

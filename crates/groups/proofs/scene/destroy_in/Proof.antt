@@ -2,10 +2,6 @@ use Rattle.groups.proofs.SceneLaws.{destroys-nothing, destroys-shape}
 use borrow.Author.Needs.{needs}
 use Rattle.groups.proofs.scene.destroy_in.Statement.{statement}
 use Rattle.groups.proofs.scene.destroy_in.Tie as tie
-use Rattle.groups.proofs.scene.destroy_in.Reads as reads
-use Rattle.groups.proofs.scene.destroy_in.Lts as lts
-use Rattle.groups.proofs.destroying.destroy_living.Reads as destroy-living-reads
-use Rattle.values.proofs.number_of.Reads as number-of-reads
 
 -- src/scene.rt:21:9
 returns : tie.Need-returns

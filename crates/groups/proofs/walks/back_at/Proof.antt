@@ -3,10 +3,6 @@ use Rattle.groups.proofs.TurnLaws.{back-is, slot-fits}
 use borrow.Author.Needs.{needs}
 use Rattle.groups.proofs.walks.back_at.Statement.{statement}
 use Rattle.groups.proofs.walks.back_at.Tie as tie
-use Rattle.groups.proofs.walks.back_at.Reads as reads
-use Rattle.groups.proofs.walks.back_at.Lts as lts
-use Rattle.groups.proofs.walks.way_place.Reads as way-place-reads
-use Rattle.stores.proofs.words.word_at.Reads as word-at-reads
 
 -- src/walks.rt:56:43
 way-place-requires : tie.Need-way-place-requires

@@ -2,9 +2,6 @@ use Rattle.groups.proofs.TurnLaws.{count-is, count-none}
 use borrow.Author.Needs.{needs}
 use Rattle.groups.proofs.walks.count_within.Statement.{statement}
 use Rattle.groups.proofs.walks.count_within.Tie as tie
-use Rattle.groups.proofs.walks.count_within.Reads as reads
-use Rattle.groups.proofs.walks.count_within.Lts as lts
-use Rattle.stores.proofs.components.count_at.Reads as count-at-reads
 
 -- src/walks.rt:32:21
 element-copy-out-if1 : tie.Need-element-copy-out-if1

@@ -2,12 +2,6 @@ use Rattle.groups.proofs.TurnLaws.{is-down}
 use borrow.Author.Needs.{needs}
 use Rattle.groups.proofs.walks.descend.Statement.{statement}
 use Rattle.groups.proofs.walks.descend.Tie as tie
-use Rattle.groups.proofs.walks.descend.Reads as reads
-use Rattle.groups.proofs.walks.descend.Lts as lts
-use Rattle.groups.proofs.walks.count_within.Reads as count-within-reads
-use Rattle.groups.proofs.walks.way_place.Reads as way-place-reads
-use Rattle.groups.proofs.walks.way_word.Reads as way-word-reads
-use Rattle.stores.proofs.components.first_at.Reads as first-at-reads
 
 -- src/walks.rt:43:13
 slice-read-m : tie.Need-slice-read-m

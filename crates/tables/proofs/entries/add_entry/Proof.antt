@@ -6,11 +6,6 @@ use Rattle.tables.proofs.EntryLaws.{no-entry-left, entry-added, puts-en
 use borrow.Author.Needs.{needs}
 use Rattle.tables.proofs.entries.add_entry.Statement.{statement}
 use Rattle.tables.proofs.entries.add_entry.Tie as tie
-use Rattle.tables.proofs.entries.add_entry.Reads as reads
-use Rattle.tables.proofs.entries.add_entry.Lts as lts
-use Rattle.tables.proofs.entries.bucket.Reads as bucket-reads
-use Rattle.tables.proofs.entries.entry_place.Reads as entry-place-reads
-use Rattle.tables.proofs.entries.put_entry.Reads as put-entry-reads
 
 -- src/entries.rt:148:16
 slice-read-used : tie.Need-slice-read-used

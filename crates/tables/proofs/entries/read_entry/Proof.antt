@@ -3,13 +3,6 @@ use Rattle.tables.proofs.EntryLaws.{found-small, found-room, group-read
 use borrow.Author.Needs.{needs}
 use Rattle.tables.proofs.entries.read_entry.Statement.{statement}
 use Rattle.tables.proofs.entries.read_entry.Tie as tie
-use Rattle.tables.proofs.entries.read_entry.Reads as reads
-use Rattle.tables.proofs.entries.read_entry.Lts as lts
-use Rattle.stores.proofs.variables.is_dead.Reads as is-dead-reads
-use Rattle.tables.proofs.entries.entry_place.Reads as entry-place-reads
-use Rattle.tables.proofs.entries.find_entry.Reads as find-entry-reads
-use Rattle.tables.proofs.keys.is_group_key.Reads as is-group-key-reads
-use Rattle.values.proofs.unpack.Reads as unpack-reads
 
 -- src/entries.rt:109:8
 is-group-key-requires : tie.Need-is-group-key-requires

@@ -2,10 +2,6 @@ use Rattle.tables.proofs.EntryLaws.{group-stored, none-left, value-stor
 use borrow.Author.Needs.{needs}
 use Rattle.tables.proofs.entries.store_entry.Statement.{statement}
 use Rattle.tables.proofs.entries.store_entry.Tie as tie
-use Rattle.tables.proofs.entries.store_entry.Reads as reads
-use Rattle.tables.proofs.entries.store_entry.Lts as lts
-use Rattle.tables.proofs.entries.put_value.Reads as put-value-reads
-use Rattle.tables.proofs.keys.is_group_key.Reads as is-group-key-reads
 
 -- src/entries.rt:199:8
 is-group-key-requires : tie.Need-is-group-key-requires

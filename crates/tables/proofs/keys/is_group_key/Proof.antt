@@ -2,10 +2,6 @@ use Rattle.tables.proofs.KeyLaws.{no-group-key, group-key}
 use borrow.Author.Needs.{needs}
 use Rattle.tables.proofs.keys.is_group_key.Statement.{statement}
 use Rattle.tables.proofs.keys.is_group_key.Tie as tie
-use Rattle.tables.proofs.keys.is_group_key.Reads as reads
-use Rattle.tables.proofs.keys.is_group_key.Lts as lts
-use Rattle.stores.proofs.shapes.is_group.Reads as is-group-reads
-use Rattle.values.proofs.number_of.Reads as number-of-reads
 
 -- src/keys.rt:39:9
 returns : tie.Need-returns
