@@ -10,17 +10,15 @@ use borrow.Author.Tests.{ne-eqb, not-true, not-false}
 use Rattle.meaning.specs.Basics.{if_then_else_}
 use Rattle.machine.specs.Opcodes.{tagIn, extraIn, tagAssign, tagReturn}
 use Rattle.machine.specs.declared.Value.{Value}
-use Rattle.machine.specs.declared.Value.the-variants.{Shape}
 use Rattle.machine.specs.declared.Answer.{Answer}
 use Rattle.machine.specs.declared.Answer.the-variants.{Good, Bad}
 use Rattle.machine.specs.Words.{kindIn, numberIn, truthIn, packed, unpacked, kindTruth, kindShape}
 use Rattle.machine.specs.Layout.{loopUnit, valuePlace}
-use Rattle.machine.specs.Act.{raw, stop, held, goOn, _>>=_, give, fail, refuse, load, shown, Answers, Passes, Gives}
+use Rattle.machine.specs.Act.{held, goOn, _>>=_, give, fail, refuse, load, shown, Answers, Passes, Gives}
 use Rattle.machine.specs.Shapes.{isGroupAt, destroyedAt}
 use Rattle.machine.specs.Groups.{copyShape}
 use Rattle.machine.specs.Operate.{withShape, withGroup}
 use Rattle.machine.specs.Loops.{innerUnit}
-use Rattle.values.proofs.Laws.{unpacked-shape, by-kind}
 use Rattle.effects.specs.Looped.{orStop, asking, Opens, Enters}
 use Rattle.machine.specs.Variables.{isDead, usable, isDeclared, declare, declareOnce, setVariable}
 use Rattle.machine.specs.declared.Flow.{Flow}
@@ -98,30 +96,19 @@ module _ (k p n : ℕ) (i : n ≡ kindIn k) where
   says-no b s e t = rw (← i, s, ← e, t)
 
 -- ---- loops over groups
-module _ (ws : List ℕ) (slot k n : ℕ) (i : n ≡ kindIn k) where
-  pub loop-none : (n ≡ kindShape → ⊥) → Opens ws slot k 20 ws
-  unfolding asking orStop usable withGroup withShape fail if_then_else_ _>>=_ goOn refuse give
-  loop-none h =
-      let o : kindIn k ≡ kindShape → ⊥ = λ e. h (i ∙ e) in
-      record { equal = λ next p ts. sym (rw (← not-dead ws k o)
-          (by-kind k (λ v. withGroup p v (λ j. declareOnce slot >>= λ _. next j) (raw ts ws) ≡ stop 20 p (raw ts ws)) (λ _. refl) (λ _. refl) (λ _. refl) refl (λ _. refl) (λ e. absurd (o e)))) }
+module _ (ws : List ℕ) (slot i : ℕ) (b : Bool) (d : b ≡ destroyedAt ws i) where
+  pub loop-dead : b ≡ true → Opens ws slot i 30 ws
+  unfolding asking orStop usable isDead fail if_then_else_ _>>=_ goOn refuse
+  loop-dead t = record { equal = λ next p ts. rw (← d, t) }
 
-  module _ (s : n ≡ kindShape) (j : ℕ) (m : j ≡ numberIn k) (b : Bool) (d : b ≡ destroyedAt ws j) where
-    is-shape : unpacked k ≡ Shape (numberIn k)
-    is-shape = unpacked-shape k (sym i ∙ s)
+  module _ (t : b ≡ false) (c : Bool) (e : c ≡ isGroupAt ws i) where
+    pub loop-figure : not c ≡ true → Opens ws slot i 20 ws
+    unfolding asking orStop usable isDead withGroup withShape fail if_then_else_ _>>=_ goOn refuse give held
+    loop-figure o = record { equal = λ next p ts. rw (← d, t, ← e, not-true c o) }
 
-    pub loop-dead : b ≡ true → Opens ws slot k 30 ws
-    unfolding asking orStop usable isDead fail if_then_else_ _>>=_ goOn refuse
-    loop-dead t = record { equal = λ next p ts. rw (is-shape, ← m, ← d, t) }
-
-    module _ (t : b ≡ false) (c : Bool) (e : c ≡ isGroupAt ws j) where
-      pub loop-figure : not c ≡ true → Opens ws slot k 20 ws
-      unfolding asking orStop usable isDead withGroup withShape fail if_then_else_ _>>=_ goOn refuse give held
-      loop-figure o = record { equal = λ next p ts. rw (is-shape, ← m, ← d, t, ← e, not-true c o) }
-
-      pub loop-opens : (ws₁ : List ℕ) → not c ≡ false → Gives ws (declareOnce slot) tt ws₁ → Opens ws slot k 0 ws₁
-      unfolding asking orStop usable isDead withGroup withShape if_then_else_ _>>=_ goOn refuse give held
-      loop-opens ws₁ o g = record { equal = λ next p ts. rw (is-shape, ← m, ← d, t, ← e, not-false c o, ← g .equal ts) }
+    pub loop-opens : (ws₁ : List ℕ) → not c ≡ false → Gives ws (declareOnce slot) tt ws₁ → Opens ws slot i 0 ws₁
+    unfolding asking orStop usable isDead withGroup withShape if_then_else_ _>>=_ goOn refuse give held
+    loop-opens ws₁ o g = record { equal = λ next p ts. rw (← d, t, ← e, not-false c o, ← g .equal ts) }
 
 pub outermost : (u : ℕ) → u ≡ 0 → 1 ≡ innerUnit u
 unfolding innerUnit if_then_else_

@@ -114,15 +114,11 @@ pub fn outcome_of(k: u64, p: u64) -> Outcome
 }
 
 // ---- loops over groups
-// What a loop asks of the value whose word is k: 30 if it is a destroyed shape, 20 if it is no group; else 0, and the loop's variable is declared.
-pub fn open_loop(words: &mut [u64], slot: usize, k: u64) -> u64
+// What a loop asks of shape i: 30 if it is destroyed, 20 if it is no group; else 0, and the loop's variable is declared.
+pub fn open_loop(words: &mut [u64], slot: usize, i: u32) -> u64
     requires { ⌜ fixedWords ≤ length (now words) ⌝ }
-    ensures { λ r. ⌜ Opens (now (words .entry)) slot k r (now (words .exit)) ⌝ }
+    ensures { λ r. ⌜ Opens (now (words .entry)) slot i r (now (words .exit)) ⌝ }
 {
-    if values::kind_of(k) != kinds::SHAPE {
-        return 20;
-    }
-    let i = values::number_of(k);
     if stores::shapes::is_destroyed(words, i) {
         return 30;
     }
