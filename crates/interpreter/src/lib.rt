@@ -673,7 +673,8 @@ fn own(
     i: u32,
 ) -> Flow
     requires { ⌜ Runs (now grants) (now texts) (now words) fuel b ⌝ }
-    ensures { λ r. ⌜ shownFlow r (now (texts .exit)) (now (words .exit)) ≡ loopOver (statementAt fuel (setting (now (program .entry)) (now (code .entry)) (now (grants .entry))) b) (now (grants .entry)) p slot i (raw (now (texts .entry)) (now (words .entry))) ⌝ }
+    ensures { λ r. ⌜ shownFlow r (now (texts .exit)) (now (words .exit))
+        ≡ loopOver (statementAt fuel (setting (now (program .entry)) (now (code .entry)) (now (grants .entry))) b) (now (grants .entry)) p slot i (raw (now (texts .entry)) (now (words .entry))) ⌝ }
 {
     let mut k = stores::components::first_at(words, i);
     let mut n = stores::components::count_at(words, i);
@@ -708,7 +709,8 @@ fn member(
     k: u32,
 ) -> Flow
     requires { ⌜ Runs (now grants) (now texts) (now words) fuel b ⌝ }
-    ensures { λ r. ⌜ shownFlow r (now (texts .exit)) (now (words .exit)) ≡ memberAt (statementAt fuel (setting (now (program .entry)) (now (code .entry)) (now (grants .entry))) b) (now (grants .entry)) p slot k (raw (now (texts .entry)) (now (words .entry))) ⌝ }
+    ensures { λ r. ⌜ shownFlow r (now (texts .exit)) (now (words .exit))
+        ≡ memberAt (statementAt fuel (setting (now (program .entry)) (now (code .entry)) (now (grants .entry))) b) (now (grants .entry)) p slot k (raw (now (texts .entry)) (now (words .entry))) ⌝ }
 {
     let c = stores::components::component_at(words, grants, k);
     if stores::shapes::is_destroyed(words, c) {
@@ -740,7 +742,8 @@ fn inside(
     c: u32,
 ) -> Flow
     requires { ⌜ Runs (now grants) (now texts) (now words) fuel b ⌝ }
-    ensures { λ r. ⌜ shownFlow r (now (texts .exit)) (now (words .exit)) ≡ insideAt (statementAt fuel (setting (now (program .entry)) (now (code .entry)) (now (grants .entry))) b) (now (grants .entry)) p slot end c (raw (now (texts .entry)) (now (words .entry))) ⌝ }
+    ensures { λ r. ⌜ shownFlow r (now (texts .exit)) (now (words .exit))
+        ≡ insideAt (statementAt fuel (setting (now (program .entry)) (now (code .entry)) (now (grants .entry))) b) (now (grants .entry)) p slot end c (raw (now (texts .entry)) (now (words .entry))) ⌝ }
 {
     let mut found = groups::looking::look_in(words, grants, c);
     let mut turns = grants[granted::STEPS] + 1;
@@ -776,7 +779,8 @@ fn bound(
     i: u32,
 ) -> Flow
     requires { ⌜ Runs (now grants) (now texts) (now words) fuel b ⌝ }
-    ensures { λ r. ⌜ shownFlow r (now (texts .exit)) (now (words .exit)) ≡ turn (statementAt fuel (setting (now (program .entry)) (now (code .entry)) (now (grants .entry))) b) slot i (raw (now (texts .entry)) (now (words .entry))) ⌝ }
+    ensures { λ r. ⌜ shownFlow r (now (texts .exit)) (now (words .exit))
+        ≡ turn (statementAt fuel (setting (now (program .entry)) (now (code .entry)) (now (grants .entry))) b) slot i (raw (now (texts .entry)) (now (words .entry))) ⌝ }
 {
     stores::variables::set_variable(words, slot, values::pack(Value::Shape(i)));
     let r = statement(program, code, grants, texts, words, fuel, b);
