@@ -1,9 +1,10 @@
 -- One law for each way through each function.
-use Prim.Native.Nat.{ℕ}
-use mathlib.Core.Path.{_≡_, sym, _∙_}
+use Prim.Native.Nat.{ℕ, _*_, _%_, _^_}
+use mathlib.Core.Path.{_≡_, refl, sym, _∙_}
 use mathlib.Core.Bool.{Bool, true, false, not}
 use mathlib.Core.List.{List}
-use lib.ListN.{getD}
+use native.Mathlib.Omega.{arith}
+use lib.ListN.{getD, set}
 use lib.Dec.{eqb}
 use borrow.Author.Tests.{ne-eqb, not-true, not-false}
 use Rattle.meaning.specs.Basics.{if_then_else_}
@@ -12,10 +13,14 @@ use Rattle.machine.specs.declared.Value.{Value}
 use Rattle.machine.specs.declared.Answer.{Answer}
 use Rattle.machine.specs.declared.Answer.the-variants.{Good, Bad}
 use Rattle.machine.specs.Words.{kindIn, numberIn, truthIn, packed, unpacked, kindTruth, kindShape}
-use Rattle.machine.specs.Layout.{valuePlace}
-use Rattle.machine.specs.Act.{goOn, _>>=_, give, fail, refuse, load, shown, Answers, Passes, Gives}
+use Rattle.machine.specs.Layout.{loopUnit, valuePlace}
+use Rattle.machine.specs.Act.{held, goOn, _>>=_, give, fail, refuse, load, shown, Answers, Passes, Gives}
+use Rattle.machine.specs.Shapes.{isGroupAt, destroyedAt}
 use Rattle.machine.specs.Groups.{copyShape}
-use Rattle.machine.specs.Variables.{isDead, usable, isDeclared, declare, setVariable}
+use Rattle.machine.specs.Operate.{withShape, withGroup}
+use Rattle.machine.specs.Loops.{innerUnit}
+use Rattle.effects.specs.Looped.{orStop, asking, Opens, Enters}
+use Rattle.machine.specs.Variables.{isDead, usable, isDeclared, declare, declareOnce, setVariable}
 use Rattle.machine.specs.declared.Flow.{Flow}
 use Rattle.machine.specs.declared.Flow.the-variants.{Onward, Returned, Stopped}
 use Rattle.machine.specs.declared.Outcome.{Outcome}
@@ -89,3 +94,29 @@ module _ (k p n : ℕ) (i : n ≡ kindIn k) where
   pub says-no : (b : Bool) → n ≡ kindTruth → b ≡ truthIn k → b ≡ false → outcome.No ≡ outcomeIn k p
   unfolding outcomeIn if_then_else_
   says-no b s e t = rw (← i, s, ← e, t)
+
+-- ---- loops over groups
+module _ (ws : List ℕ) (slot i : ℕ) (b : Bool) (d : b ≡ destroyedAt ws i) where
+  pub loop-dead : b ≡ true → Opens ws slot i 30 ws
+  unfolding asking orStop usable isDead fail if_then_else_ _>>=_ goOn refuse
+  loop-dead t = record { equal = λ next p ts. rw (← d, t) }
+
+  module _ (t : b ≡ false) (c : Bool) (e : c ≡ isGroupAt ws i) where
+    pub loop-figure : not c ≡ true → Opens ws slot i 20 ws
+    unfolding asking orStop usable isDead withGroup withShape fail if_then_else_ _>>=_ goOn refuse give held
+    loop-figure o = record { equal = λ next p ts. rw (← d, t, ← e, not-true c o) }
+
+    pub loop-opens : (ws₁ : List ℕ) → not c ≡ false → Gives ws (declareOnce slot) tt ws₁ → Opens ws slot i 0 ws₁
+    unfolding asking orStop usable isDead withGroup withShape if_then_else_ _>>=_ goOn refuse give held
+    loop-opens ws₁ o g = record { equal = λ next p ts. rw (← d, t, ← e, not-false c o, ← g .equal ts) }
+
+pub outermost : (u : ℕ) → u ≡ 0 → 1 ≡ innerUnit u
+unfolding innerUnit if_then_else_
+outermost u z = rw z
+
+pub inside-another : (u : ℕ) → (u ≡ 0 → ⊥) → u % 9223372036854775808 * 2 ≡ innerUnit u
+unfolding innerUnit if_then_else_
+inside-another u z = rw (ne-eqb _ _ z) (omega arith)
+
+pub enters : (ws : List ℕ) (v : ℕ) → v ≡ innerUnit (getD ws loopUnit 0) → Enters ws (getD ws loopUnit 0) (set ws loopUnit v)
+enters ws v e = record { outer = refl; words = rw e }

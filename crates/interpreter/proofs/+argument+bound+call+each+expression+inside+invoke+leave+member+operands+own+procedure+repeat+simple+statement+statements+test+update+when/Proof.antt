@@ -6,57 +6,76 @@ use Rattle.interpreter.proofs.ExpressionLaws as laws
 use Rattle.interpreter.proofs.ExpressionLaws.{still-lent-words, first-stops, table-made, no-table, second-stops, operands-applied, too-deep, no-step, is-leaf, is-call, has-operands, Pushing, push-first, root-falls, library-called, procedure-called, push-fails, push-next}
 use Rattle.interpreter.proofs.Fast.{push-fast, slow-goes, slow-stops}
 use Rattle.interpreter.proofs.StatementLaws.{still-lent, still-runs, still-room, slow-lent, no-shape, simple-fast, test-fast, simple-done, simple-stops, test-says, test-refused, table-stops, table-other, key-stops, value-stops, update-refused, update-done}
-use Rattle.interpreter.proofs.StatementLaws.{statement-too-deep, statement-no-step, is-loop, is-declaration, is-update, is-when, is-block, is-simple, when-holds, when-not, when-stops, Looping, loop-first, loop-short, loop-refused, loop-stops, loop-ends, loop-fails, loop-returns, loop-again}
+use Rattle.interpreter.proofs.StatementLaws.{statement-too-deep, statement-no-step, is-loop, is-declaration, is-update, is-when, is-foreach, is-block, is-simple, when-holds, when-not, when-stops, Looping, loop-first, loop-short, loop-refused, loop-stops, loop-ends, loop-fails, loop-returns, loop-again}
 use Rattle.interpreter.proofs.StatementLaws.{Following, all-first, runs-before, all-short, all-done, all-fails, all-returns, all-again}
 use Rattle.interpreter.proofs.StatementLaws.{deeper-lent, leave-too-deep, leave-no-step, leave-fast, leave-done, leave-stops, ends-short, ends-done, leaves-here, ends-left, ends-fails, ends-returns}
 use Rattle.interpreter.proofs.CallLaws.{begin-stops, body-stops, gives-value}
 use Rattle.effects.proofs.Laws.{is-assignment}
 use Rattle.interpreter.proofs.StatementLaws.{worked-anew, evaluated-anew}
+use Rattle.interpreter.proofs.LoopLaws.{bound-to, member-passed, member-no-step, member-figure, member-group, Turning, turns-first, turns-short, turns-done, turn-fails, turn-returns, turn-again, looked-in}
+use Rattle.interpreter.proofs.LoopLaws.{Owning, owning-first, owning-ends, owning-fails, owning-returns, owning-again, entered-loop, each-stops, each-other, each-refused, each-runs}
+use Rattle.machine.specs.Evaluate.{setting}
+use Rattle.machine.specs.Interpret.{statementAt}
 use Prim.Native.Nat.{ℕ, _+_, _-_, _*_, _<_}
 use borrow.Fn.Kinds.{In}
 use borrow.Fn.PlainCycle.{Measures, is, falls, and}
 use Rattle.interpreter.proofs.argument.Reads as argument
 use Rattle.interpreter.proofs.argument.Kinds as argument-kinds
-use Rattle.interpreter.proofs.+argument+call+expression+invoke+leave+operands+procedure+repeat+simple+statement+statements+test+update+when.Lts-argument as argument-lts
+use Rattle.interpreter.proofs.+argument+bound+call+each+expression+inside+invoke+leave+member+operands+own+procedure+repeat+simple+statement+statements+test+update+when.Lts-argument as argument-lts
+use Rattle.interpreter.proofs.bound.Reads as bound
+use Rattle.interpreter.proofs.bound.Kinds as bound-kinds
+use Rattle.interpreter.proofs.+argument+bound+call+each+expression+inside+invoke+leave+member+operands+own+procedure+repeat+simple+statement+statements+test+update+when.Lts-bound as bound-lts
 use Rattle.interpreter.proofs.call.Reads as call
 use Rattle.interpreter.proofs.call.Kinds as call-kinds
-use Rattle.interpreter.proofs.+argument+call+expression+invoke+leave+operands+procedure+repeat+simple+statement+statements+test+update+when.Lts-call as call-lts
+use Rattle.interpreter.proofs.+argument+bound+call+each+expression+inside+invoke+leave+member+operands+own+procedure+repeat+simple+statement+statements+test+update+when.Lts-call as call-lts
+use Rattle.interpreter.proofs.each.Reads as each
+use Rattle.interpreter.proofs.each.Kinds as each-kinds
+use Rattle.interpreter.proofs.+argument+bound+call+each+expression+inside+invoke+leave+member+operands+own+procedure+repeat+simple+statement+statements+test+update+when.Lts-each as each-lts
 use Rattle.interpreter.proofs.expression.Reads as expression
 use Rattle.interpreter.proofs.expression.Kinds as expression-kinds
-use Rattle.interpreter.proofs.+argument+call+expression+invoke+leave+operands+procedure+repeat+simple+statement+statements+test+update+when.Lts-expression as expression-lts
+use Rattle.interpreter.proofs.+argument+bound+call+each+expression+inside+invoke+leave+member+operands+own+procedure+repeat+simple+statement+statements+test+update+when.Lts-expression as expression-lts
+use Rattle.interpreter.proofs.inside.Reads as inside
+use Rattle.interpreter.proofs.inside.Kinds as inside-kinds
+use Rattle.interpreter.proofs.+argument+bound+call+each+expression+inside+invoke+leave+member+operands+own+procedure+repeat+simple+statement+statements+test+update+when.Lts-inside as inside-lts
 use Rattle.interpreter.proofs.invoke.Reads as invoke
 use Rattle.interpreter.proofs.invoke.Kinds as invoke-kinds
-use Rattle.interpreter.proofs.+argument+call+expression+invoke+leave+operands+procedure+repeat+simple+statement+statements+test+update+when.Lts-invoke as invoke-lts
+use Rattle.interpreter.proofs.+argument+bound+call+each+expression+inside+invoke+leave+member+operands+own+procedure+repeat+simple+statement+statements+test+update+when.Lts-invoke as invoke-lts
 use Rattle.interpreter.proofs.leave.Reads as leave
 use Rattle.interpreter.proofs.leave.Kinds as leave-kinds
-use Rattle.interpreter.proofs.+argument+call+expression+invoke+leave+operands+procedure+repeat+simple+statement+statements+test+update+when.Lts-leave as leave-lts
+use Rattle.interpreter.proofs.+argument+bound+call+each+expression+inside+invoke+leave+member+operands+own+procedure+repeat+simple+statement+statements+test+update+when.Lts-leave as leave-lts
+use Rattle.interpreter.proofs.member.Reads as member
+use Rattle.interpreter.proofs.member.Kinds as member-kinds
+use Rattle.interpreter.proofs.+argument+bound+call+each+expression+inside+invoke+leave+member+operands+own+procedure+repeat+simple+statement+statements+test+update+when.Lts-member as member-lts
 use Rattle.interpreter.proofs.operands.Reads as operands
 use Rattle.interpreter.proofs.operands.Kinds as operands-kinds
-use Rattle.interpreter.proofs.+argument+call+expression+invoke+leave+operands+procedure+repeat+simple+statement+statements+test+update+when.Lts-operands as operands-lts
+use Rattle.interpreter.proofs.+argument+bound+call+each+expression+inside+invoke+leave+member+operands+own+procedure+repeat+simple+statement+statements+test+update+when.Lts-operands as operands-lts
+use Rattle.interpreter.proofs.own.Reads as own
+use Rattle.interpreter.proofs.own.Kinds as own-kinds
+use Rattle.interpreter.proofs.+argument+bound+call+each+expression+inside+invoke+leave+member+operands+own+procedure+repeat+simple+statement+statements+test+update+when.Lts-own as own-lts
 use Rattle.interpreter.proofs.procedure.Reads as procedure
 use Rattle.interpreter.proofs.procedure.Kinds as procedure-kinds
-use Rattle.interpreter.proofs.+argument+call+expression+invoke+leave+operands+procedure+repeat+simple+statement+statements+test+update+when.Lts-procedure as procedure-lts
+use Rattle.interpreter.proofs.+argument+bound+call+each+expression+inside+invoke+leave+member+operands+own+procedure+repeat+simple+statement+statements+test+update+when.Lts-procedure as procedure-lts
 use Rattle.interpreter.proofs.repeat.Reads as repeat
 use Rattle.interpreter.proofs.repeat.Kinds as repeat-kinds
-use Rattle.interpreter.proofs.+argument+call+expression+invoke+leave+operands+procedure+repeat+simple+statement+statements+test+update+when.Lts-repeat as repeat-lts
+use Rattle.interpreter.proofs.+argument+bound+call+each+expression+inside+invoke+leave+member+operands+own+procedure+repeat+simple+statement+statements+test+update+when.Lts-repeat as repeat-lts
 use Rattle.interpreter.proofs.simple.Reads as simple
 use Rattle.interpreter.proofs.simple.Kinds as simple-kinds
-use Rattle.interpreter.proofs.+argument+call+expression+invoke+leave+operands+procedure+repeat+simple+statement+statements+test+update+when.Lts-simple as simple-lts
+use Rattle.interpreter.proofs.+argument+bound+call+each+expression+inside+invoke+leave+member+operands+own+procedure+repeat+simple+statement+statements+test+update+when.Lts-simple as simple-lts
 use Rattle.interpreter.proofs.statement.Reads as statement′
 use Rattle.interpreter.proofs.statement.Kinds as statement-kinds
-use Rattle.interpreter.proofs.+argument+call+expression+invoke+leave+operands+procedure+repeat+simple+statement+statements+test+update+when.Lts-statement as statement-lts
+use Rattle.interpreter.proofs.+argument+bound+call+each+expression+inside+invoke+leave+member+operands+own+procedure+repeat+simple+statement+statements+test+update+when.Lts-statement as statement-lts
 use Rattle.interpreter.proofs.statements.Reads as statements
 use Rattle.interpreter.proofs.statements.Kinds as statements-kinds
-use Rattle.interpreter.proofs.+argument+call+expression+invoke+leave+operands+procedure+repeat+simple+statement+statements+test+update+when.Lts-statements as statements-lts
+use Rattle.interpreter.proofs.+argument+bound+call+each+expression+inside+invoke+leave+member+operands+own+procedure+repeat+simple+statement+statements+test+update+when.Lts-statements as statements-lts
 use Rattle.interpreter.proofs.test.Reads as test
 use Rattle.interpreter.proofs.test.Kinds as test-kinds
-use Rattle.interpreter.proofs.+argument+call+expression+invoke+leave+operands+procedure+repeat+simple+statement+statements+test+update+when.Lts-test as test-lts
+use Rattle.interpreter.proofs.+argument+bound+call+each+expression+inside+invoke+leave+member+operands+own+procedure+repeat+simple+statement+statements+test+update+when.Lts-test as test-lts
 use Rattle.interpreter.proofs.update.Reads as update
 use Rattle.interpreter.proofs.update.Kinds as update-kinds
-use Rattle.interpreter.proofs.+argument+call+expression+invoke+leave+operands+procedure+repeat+simple+statement+statements+test+update+when.Lts-update as update-lts
+use Rattle.interpreter.proofs.+argument+bound+call+each+expression+inside+invoke+leave+member+operands+own+procedure+repeat+simple+statement+statements+test+update+when.Lts-update as update-lts
 use Rattle.interpreter.proofs.when.Reads as when
 use Rattle.interpreter.proofs.when.Kinds as when-kinds
-use Rattle.interpreter.proofs.+argument+call+expression+invoke+leave+operands+procedure+repeat+simple+statement+statements+test+update+when.Lts-when as when-lts
+use Rattle.interpreter.proofs.+argument+bound+call+each+expression+inside+invoke+leave+member+operands+own+procedure+repeat+simple+statement+statements+test+update+when.Lts-when as when-lts
 use Rattle.code.proofs.argument_root.Reads as argument-root-reads
 use Rattle.code.proofs.before.Reads as before-reads
 use Rattle.code.proofs.body_of.Reads as body-of-reads
@@ -74,11 +93,17 @@ use Rattle.code.proofs.start_of.Reads as start-of-reads
 use Rattle.code.proofs.table_place.Reads as table-place-reads
 use Rattle.code.proofs.tag_of.Reads as tag-of-reads
 use Rattle.effects.proofs.declare.Reads as declare-reads
+use Rattle.effects.proofs.enter_loop.Reads as enter-loop-reads
 use Rattle.effects.proofs.finish.Reads as finish-reads
+use Rattle.effects.proofs.leave_loop.Reads as leave-loop-reads
+use Rattle.effects.proofs.open_loop.Reads as open-loop-reads
 use Rattle.effects.proofs.outcome_of.Reads as outcome-of-reads
 use Rattle.effects.proofs.pass_on.Reads as pass-on-reads
 use Rattle.effects.proofs.put_word.Reads as put-word-reads
 use Rattle.fastpath.proofs.fast_value.Reads as fast-value-reads
+use Rattle.groups.proofs.looking.look_behind.Reads as look-behind-reads
+use Rattle.groups.proofs.looking.look_in.Reads as look-in-reads
+use Rattle.groups.proofs.marks.unmark_below.Reads as unmark-below-reads
 use Rattle.primaries.proofs.apply.Reads as apply-reads
 use Rattle.primaries.proofs.called.Reads as called-reads
 use Rattle.primaries.proofs.lacks_table.Reads as lacks-table-reads
@@ -87,62 +112,84 @@ use Rattle.primaries.proofs.new_table.Reads as new-table-reads
 use Rattle.primaries.proofs.push_word.Reads as push-word-reads
 use Rattle.procedures.proofs.begin.Reads as begin-reads
 use Rattle.stores.proofs.arguments.arguments_held.Reads as arguments-held-reads
+use Rattle.stores.proofs.calls.loop_unit.Reads as loop-unit-reads
 use Rattle.stores.proofs.calls.resume.Reads as resume-reads
 use Rattle.stores.proofs.calls.running.Reads as running-reads
+use Rattle.stores.proofs.components.component_at.Reads as component-at-reads
+use Rattle.stores.proofs.components.count_at.Reads as count-at-reads
+use Rattle.stores.proofs.components.first_at.Reads as first-at-reads
 use Rattle.stores.proofs.counters.count.Reads as count-reads
+use Rattle.stores.proofs.shapes.is_destroyed.Reads as is-destroyed-reads
+use Rattle.stores.proofs.shapes.is_group.Reads as is-group-reads
 use Rattle.stores.proofs.variables.declared_count.Reads as declared-count-reads
+use Rattle.stores.proofs.variables.set_variable.Reads as set-variable-reads
 use Rattle.stores.proofs.words.word_at.Reads as word-at-reads
 use Rattle.tables.proofs.entries.store_entry.Reads as store-entry-reads
 use Rattle.values.proofs.pack.Reads as pack-reads
 use Rattle.values.proofs.unpack.Reads as unpack-reads
-use Rattle.interpreter.proofs.+argument+call+expression+invoke+leave+operands+procedure+repeat+simple+statement+statements+test+update+when.{
+use Rattle.interpreter.proofs.+argument+bound+call+each+expression+inside+invoke+leave+member+operands+own+procedure+repeat+simple+statement+statements+test+update+when.{
   statement,
 }
-use Rattle.interpreter.proofs.+argument+call+expression+invoke+leave+operands+procedure+repeat+simple+statement+statements+test+update+when.Tie.{
+use Rattle.interpreter.proofs.+argument+bound+call+each+expression+inside+invoke+leave+member+operands+own+procedure+repeat+simple+statement+statements+test+update+when.Tie.{
   close,
 }
 
 abbrev μ-argument : Measures 5 argument-kinds.ps ℕ
-μ-argument κs a = 4 * (a .1 .1 .1 .1 .1 .0) + 1
+μ-argument κs a = 8 * (a .1 .1 .1 .1 .1 .0) + 1
+
+abbrev μ-bound : Measures 5 bound-kinds.ps ℕ
+μ-bound κs a = 8 * (a .1 .1 .1 .1 .1 .0) + 1
 
 abbrev μ-call : Measures 5 call-kinds.ps ℕ
-μ-call κs a = 4 * (a .1 .1 .1 .1 .1 .0) + 3
+μ-call κs a = 8 * (a .1 .1 .1 .1 .1 .0) + 3
+
+abbrev μ-each : Measures 5 each-kinds.ps ℕ
+μ-each κs a = 8 * (a .1 .1 .1 .1 .1 .0) + 5
 
 abbrev μ-expression : Measures 5 expression-kinds.ps ℕ
-μ-expression κs a = 4 * (a .1 .1 .1 .1 .1 .0)
+μ-expression κs a = 8 * (a .1 .1 .1 .1 .1 .0)
+
+abbrev μ-inside : Measures 5 inside-kinds.ps ℕ
+μ-inside κs a = 8 * (a .1 .1 .1 .1 .1 .0) + 2
 
 abbrev μ-invoke : Measures 5 invoke-kinds.ps ℕ
-μ-invoke κs a = 4 * (a .1 .1 .1 .1 .1 .0) + 2
+μ-invoke κs a = 8 * (a .1 .1 .1 .1 .1 .0) + 2
 
 abbrev μ-leave : Measures 5 leave-kinds.ps ℕ
-μ-leave κs a = 4 * (a .1 .1 .1 .1 .1 .0)
+μ-leave κs a = 8 * (a .1 .1 .1 .1 .1 .0)
+
+abbrev μ-member : Measures 5 member-kinds.ps ℕ
+μ-member κs a = 8 * (a .1 .1 .1 .1 .1 .0) + 3
 
 abbrev μ-operands : Measures 5 operands-kinds.ps ℕ
-μ-operands κs a = 4 * (a .1 .1 .1 .1 .1 .0) + 1
+μ-operands κs a = 8 * (a .1 .1 .1 .1 .1 .0) + 1
+
+abbrev μ-own : Measures 5 own-kinds.ps ℕ
+μ-own κs a = 8 * (a .1 .1 .1 .1 .1 .0) + 4
 
 abbrev μ-procedure : Measures 5 procedure-kinds.ps ℕ
-μ-procedure κs a = 4 * (a .1 .1 .1 .1 .1 .0) + 1
+μ-procedure κs a = 8 * (a .1 .1 .1 .1 .1 .0) + 1
 
 abbrev μ-repeat : Measures 5 repeat-kinds.ps ℕ
-μ-repeat κs a = 4 * (a .1 .1 .1 .1 .1 .0) + 2
+μ-repeat κs a = 8 * (a .1 .1 .1 .1 .1 .0) + 2
 
 abbrev μ-simple : Measures 5 simple-kinds.ps ℕ
-μ-simple κs a = 4 * (a .1 .1 .1 .1 .1 .0) + 1
+μ-simple κs a = 8 * (a .1 .1 .1 .1 .1 .0) + 1
 
 abbrev μ-statement : Measures 5 statement-kinds.ps ℕ
-μ-statement κs a = 4 * (a .1 .1 .1 .1 .1 .0)
+μ-statement κs a = 8 * (a .1 .1 .1 .1 .1 .0)
 
 abbrev μ-statements : Measures 5 statements-kinds.ps ℕ
-μ-statements κs a = 4 * (a .1 .1 .1 .1 .1 .0) + 1
+μ-statements κs a = 8 * (a .1 .1 .1 .1 .1 .0) + 1
 
 abbrev μ-test : Measures 5 test-kinds.ps ℕ
-μ-test κs a = 4 * (a .1 .1 .1 .1 .1 .0) + 1
+μ-test κs a = 8 * (a .1 .1 .1 .1 .1 .0) + 1
 
 abbrev μ-update : Measures 5 update-kinds.ps ℕ
-μ-update κs a = 4 * (a .1 .1 .1 .1 .1 .0) + 1
+μ-update κs a = 8 * (a .1 .1 .1 .1 .1 .0) + 1
 
 abbrev μ-when : Measures 5 when-kinds.ps ℕ
-μ-when κs a = 4 * (a .1 .1 .1 .1 .1 .0) + 2
+μ-when κs a = 8 * (a .1 .1 .1 .1 .1 .0) + 2
 
 abbrev argument-at : ℕ → In 5 argument-kinds.ps
 argument-at t = and 5 argument-kinds.ps (is 5 argument-kinds.ps μ-argument t) argument.Pre
@@ -151,11 +198,23 @@ abbrev argument-below : ℕ → In 5 argument-kinds.ps
 argument-below t =
     and 5 argument-kinds.ps (falls 5 argument-kinds.ps _<_ μ-argument t) argument.Pre
 
+abbrev bound-at : ℕ → In 5 bound-kinds.ps
+bound-at t = and 5 bound-kinds.ps (is 5 bound-kinds.ps μ-bound t) bound.Pre
+
+abbrev bound-below : ℕ → In 5 bound-kinds.ps
+bound-below t = and 5 bound-kinds.ps (falls 5 bound-kinds.ps _<_ μ-bound t) bound.Pre
+
 abbrev call-at : ℕ → In 5 call-kinds.ps
 call-at t = and 5 call-kinds.ps (is 5 call-kinds.ps μ-call t) call.Pre
 
 abbrev call-below : ℕ → In 5 call-kinds.ps
 call-below t = and 5 call-kinds.ps (falls 5 call-kinds.ps _<_ μ-call t) call.Pre
+
+abbrev each-at : ℕ → In 5 each-kinds.ps
+each-at t = and 5 each-kinds.ps (is 5 each-kinds.ps μ-each t) each.Pre
+
+abbrev each-below : ℕ → In 5 each-kinds.ps
+each-below t = and 5 each-kinds.ps (falls 5 each-kinds.ps _<_ μ-each t) each.Pre
 
 abbrev expression-at : ℕ → In 5 expression-kinds.ps
 expression-at t =
@@ -164,6 +223,12 @@ expression-at t =
 abbrev expression-below : ℕ → In 5 expression-kinds.ps
 expression-below t =
     and 5 expression-kinds.ps (falls 5 expression-kinds.ps _<_ μ-expression t) expression.Pre
+
+abbrev inside-at : ℕ → In 5 inside-kinds.ps
+inside-at t = and 5 inside-kinds.ps (is 5 inside-kinds.ps μ-inside t) inside.Pre
+
+abbrev inside-below : ℕ → In 5 inside-kinds.ps
+inside-below t = and 5 inside-kinds.ps (falls 5 inside-kinds.ps _<_ μ-inside t) inside.Pre
 
 abbrev invoke-at : ℕ → In 5 invoke-kinds.ps
 invoke-at t = and 5 invoke-kinds.ps (is 5 invoke-kinds.ps μ-invoke t) invoke.Pre
@@ -177,12 +242,24 @@ leave-at t = and 5 leave-kinds.ps (is 5 leave-kinds.ps μ-leave t) leave.Pre
 abbrev leave-below : ℕ → In 5 leave-kinds.ps
 leave-below t = and 5 leave-kinds.ps (falls 5 leave-kinds.ps _<_ μ-leave t) leave.Pre
 
+abbrev member-at : ℕ → In 5 member-kinds.ps
+member-at t = and 5 member-kinds.ps (is 5 member-kinds.ps μ-member t) member.Pre
+
+abbrev member-below : ℕ → In 5 member-kinds.ps
+member-below t = and 5 member-kinds.ps (falls 5 member-kinds.ps _<_ μ-member t) member.Pre
+
 abbrev operands-at : ℕ → In 5 operands-kinds.ps
 operands-at t = and 5 operands-kinds.ps (is 5 operands-kinds.ps μ-operands t) operands.Pre
 
 abbrev operands-below : ℕ → In 5 operands-kinds.ps
 operands-below t =
     and 5 operands-kinds.ps (falls 5 operands-kinds.ps _<_ μ-operands t) operands.Pre
+
+abbrev own-at : ℕ → In 5 own-kinds.ps
+own-at t = and 5 own-kinds.ps (is 5 own-kinds.ps μ-own t) own.Pre
+
+abbrev own-below : ℕ → In 5 own-kinds.ps
+own-below t = and 5 own-kinds.ps (falls 5 own-kinds.ps _<_ μ-own t) own.Pre
 
 abbrev procedure-at : ℕ → In 5 procedure-kinds.ps
 procedure-at t = and 5 procedure-kinds.ps (is 5 procedure-kinds.ps μ-procedure t) procedure.Pre
@@ -236,7 +313,7 @@ when-at t = and 5 when-kinds.ps (is 5 when-kinds.ps μ-when t) when.Pre
 abbrev when-below : ℕ → In 5 when-kinds.ps
 when-below t = and 5 when-kinds.ps (falls 5 when-kinds.ps _<_ μ-when t) when.Pre
 
--- src/lib.rt:188:9
+-- src/lib.rt:190:9
 argument-fast-value-requires : (t : ℕ) → argument-lts.Need-fast-value-requires (
   fast-value-reads.Asked,
   fast-value-reads.Learnt,
@@ -249,7 +326,7 @@ argument-fast-value-requires : (t : ℕ) → argument-lts.Need-fast-value-requir
 ) (argument-at t) argument.Post
 argument-fast-value-requires t c κs = omega (arith, c .before .before .before .before .before .pre .1 .lent .room .words)
 
--- src/lib.rt:190:13
+-- src/lib.rt:192:13
 argument-push-word-requires : (t : ℕ) → argument-lts.Need-push-word-requires (
   fast-value-reads.Asked,
   fast-value-reads.Learnt,
@@ -262,7 +339,7 @@ argument-push-word-requires : (t : ℕ) → argument-lts.Need-push-word-requires
 ) (argument-at t) argument.Post
 argument-push-word-requires t c κs = search needs
 
--- src/lib.rt:191:9
+-- src/lib.rt:193:9
 argument-same-length : (t : ℕ) → argument-lts.Need-same-length (
   fast-value-reads.Asked,
   fast-value-reads.Learnt,
@@ -275,7 +352,7 @@ argument-same-length : (t : ℕ) → argument-lts.Need-same-length (
 ) (argument-at t) argument.Post
 argument-same-length t c = search needs
 
--- src/lib.rt:191:9
+-- src/lib.rt:193:9
 argument-returns : (t : ℕ) → argument-lts.Need-returns (
   fast-value-reads.Asked,
   fast-value-reads.Learnt,
@@ -288,7 +365,7 @@ argument-returns : (t : ℕ) → argument-lts.Need-returns (
 ) (argument-at t) argument.Post
 argument-returns t c = push-fast _ _ _ _ _ _ _ _ _ _ (c .before .before .before .before .before .before .before .fast-value .ensures) _ _ (c .before .before .before .before .before .before .before .before .before .before .before .before .before .pre .1 .lent) (c .before .before .before .before .if1 .taken) (c .before .before .push-word .ensures)
 
--- src/lib.rt:193:11
+-- src/lib.rt:195:11
 argument-expression-requires : (t : ℕ) → argument-lts.Need-expression-requires (
   fast-value-reads.Asked,
   fast-value-reads.Learnt,
@@ -301,7 +378,7 @@ argument-expression-requires : (t : ℕ) → argument-lts.Need-expression-requir
 ) (argument-at t) argument.Post
 argument-expression-requires t c κs = (omega arith, slow-lent _ _ _ _ _ _ _ _ (c .before .before .before .before .before .fast-value .ensures) (c .before .before .if1 .left) (c .before .before .before .before .before .before .before .before .before .before .before .pre .1))
 
--- src/lib.rt:194:22
+-- src/lib.rt:196:22
 argument-enum-known-v : (t : ℕ) → argument-lts.Need-enum-known-v (
   fast-value-reads.Asked,
   fast-value-reads.Learnt,
@@ -314,7 +391,7 @@ argument-enum-known-v : (t : ℕ) → argument-lts.Need-enum-known-v (
 ) (argument-at t) argument.Post
 argument-enum-known-v t c = search needs
 
--- src/lib.rt:195:49
+-- src/lib.rt:197:49
 argument-pack-requires : (t : ℕ) → argument-lts.Need-pack-requires (
   fast-value-reads.Asked,
   fast-value-reads.Learnt,
@@ -327,7 +404,7 @@ argument-pack-requires : (t : ℕ) → argument-lts.Need-pack-requires (
 ) (argument-at t) argument.Post
 argument-pack-requires t c κs = search needs
 
--- src/lib.rt:195:17
+-- src/lib.rt:197:17
 argument-push-word-requires-2 : (t : ℕ) → argument-lts.Need-push-word-requires-2 (
   fast-value-reads.Asked,
   fast-value-reads.Learnt,
@@ -340,7 +417,7 @@ argument-push-word-requires-2 : (t : ℕ) → argument-lts.Need-push-word-requir
 ) (argument-at t) argument.Post
 argument-push-word-requires-2 t c κs = search needs
 
--- src/lib.rt:198:21
+-- src/lib.rt:200:21
 argument-enum-known-n : (t : ℕ) → argument-lts.Need-enum-known-n (
   fast-value-reads.Asked,
   fast-value-reads.Learnt,
@@ -353,7 +430,7 @@ argument-enum-known-n : (t : ℕ) → argument-lts.Need-enum-known-n (
 ) (argument-at t) argument.Post
 argument-enum-known-n t c = search needs
 
--- src/lib.rt:174:1
+-- src/lib.rt:176:1
 argument-same-length-2 : (t : ℕ) → argument-lts.Need-same-length-2 (
   fast-value-reads.Asked,
   fast-value-reads.Learnt,
@@ -366,7 +443,7 @@ argument-same-length-2 : (t : ℕ) → argument-lts.Need-same-length-2 (
 ) (argument-at t) argument.Post
 argument-same-length-2 t c = search needs
 
--- src/lib.rt:174:1
+-- src/lib.rt:176:1
 argument-same-length-3 : (t : ℕ) → argument-lts.Need-same-length-3 (
   fast-value-reads.Asked,
   fast-value-reads.Learnt,
@@ -379,7 +456,7 @@ argument-same-length-3 : (t : ℕ) → argument-lts.Need-same-length-3 (
 ) (argument-at t) argument.Post
 argument-same-length-3 t c = search needs
 
--- src/lib.rt:174:1
+-- src/lib.rt:176:1
 argument-returns-2 : (t : ℕ) → argument-lts.Need-returns-2 (
   fast-value-reads.Asked,
   fast-value-reads.Learnt,
@@ -392,7 +469,7 @@ argument-returns-2 : (t : ℕ) → argument-lts.Need-returns-2 (
 ) (argument-at t) argument.Post
 argument-returns-2 t c = search slow-goes
 
--- src/lib.rt:174:1
+-- src/lib.rt:176:1
 argument-same-length-4 : (t : ℕ) → argument-lts.Need-same-length-4 (
   fast-value-reads.Asked,
   fast-value-reads.Learnt,
@@ -405,7 +482,7 @@ argument-same-length-4 : (t : ℕ) → argument-lts.Need-same-length-4 (
 ) (argument-at t) argument.Post
 argument-same-length-4 t c = search needs
 
--- src/lib.rt:174:1
+-- src/lib.rt:176:1
 argument-same-length-5 : (t : ℕ) → argument-lts.Need-same-length-5 (
   fast-value-reads.Asked,
   fast-value-reads.Learnt,
@@ -418,7 +495,7 @@ argument-same-length-5 : (t : ℕ) → argument-lts.Need-same-length-5 (
 ) (argument-at t) argument.Post
 argument-same-length-5 t c = search needs
 
--- src/lib.rt:174:1
+-- src/lib.rt:176:1
 argument-returns-3 : (t : ℕ) → argument-lts.Need-returns-3 (
   fast-value-reads.Asked,
   fast-value-reads.Learnt,
@@ -431,13 +508,79 @@ argument-returns-3 : (t : ℕ) → argument-lts.Need-returns-3 (
 ) (argument-at t) argument.Post
 argument-returns-3 t c = search slow-stops
 
+-- src/lib.rt:781:50
+bound-pack-requires : (t : ℕ) → bound-lts.Need-pack-requires (
+  pack-reads.Asked,
+  pack-reads.Learnt,
+  set-variable-reads.Asked,
+  set-variable-reads.Learnt,
+  statement-below t,
+  statement′.Post,
+) (bound-at t) bound.Post
+bound-pack-requires t c κs = search needs
+
+-- src/lib.rt:781:5
+bound-set-variable-requires : (t : ℕ) → bound-lts.Need-set-variable-requires (
+  pack-reads.Asked,
+  pack-reads.Learnt,
+  set-variable-reads.Asked,
+  set-variable-reads.Learnt,
+  statement-below t,
+  statement′.Post,
+) (bound-at t) bound.Post
+bound-set-variable-requires t c κs = omega (arith, c .before .before .before .before .before .before .pre .1 .lent .lent .room .words)
+
+-- src/lib.rt:782:9
+bound-statement-requires : (t : ℕ) → bound-lts.Need-statement-requires (
+  pack-reads.Asked,
+  pack-reads.Learnt,
+  set-variable-reads.Asked,
+  set-variable-reads.Learnt,
+  statement-below t,
+  statement′.Post,
+) (bound-at t) bound.Post
+bound-statement-requires t c κs = (omega arith, still-runs _ _ _ _ _ refl (let a0 = c .before .before .before .words in omega arith) _ _ (c .before .before .before .before .before .before .before .before .before .before .before .pre .1))
+
+-- src/lib.rt:767:1
+bound-same-length : (t : ℕ) → bound-lts.Need-same-length (
+  pack-reads.Asked,
+  pack-reads.Learnt,
+  set-variable-reads.Asked,
+  set-variable-reads.Learnt,
+  statement-below t,
+  statement′.Post,
+) (bound-at t) bound.Post
+bound-same-length t c = search needs
+
+-- src/lib.rt:767:1
+bound-same-length-2 : (t : ℕ) → bound-lts.Need-same-length-2 (
+  pack-reads.Asked,
+  pack-reads.Learnt,
+  set-variable-reads.Asked,
+  set-variable-reads.Learnt,
+  statement-below t,
+  statement′.Post,
+) (bound-at t) bound.Post
+bound-same-length-2 t c = search needs
+
+-- src/lib.rt:767:1
+bound-returns : (t : ℕ) → bound-lts.Need-returns (
+  pack-reads.Asked,
+  pack-reads.Learnt,
+  set-variable-reads.Asked,
+  set-variable-reads.Learnt,
+  statement-below t,
+  statement′.Post,
+) (bound-at t) bound.Post
+bound-returns t c = bound-to _ _ _ _ _ _ _ _ (c .before .before .before .before .before .before .before .before .before .before .pack .ensures) (c .before .before .before .before .before .before .before .before .before .set-variable .ensures) (c .before .before .before .before .statement .ensures)
+
 abbrev call-Inv-loop : call-lts.InvT-loop
 call-Inv-loop program code grants texts₀ words₀ fuel w x p base a y₀ texts words y = Pushing program code grants fuel texts₀ words₀ w x p base texts words y
 
 abbrev call-μ-loop : call-lts.MeasureT-loop
 call-μ-loop program code grants texts₀ words₀ fuel w x p base a y₀ texts words y = x - y
 
--- src/lib.rt:144:9
+-- src/lib.rt:146:9
 call-arguments-held-requires : (t : ℕ) → call-lts.Need-arguments-held-requires (
   arguments-held-reads.Asked,
   arguments-held-reads.Learnt,
@@ -460,7 +603,7 @@ call-arguments-held-requires : (t : ℕ) → call-lts.Need-arguments-held-requir
 ) (call-at t) call.Post call-Inv-loop call-μ-loop
 call-arguments-held-requires t c κs = omega (arith, c .before .before .before .before .before .pre .1 .lent .room .words)
 
--- src/lib.rt:145:9
+-- src/lib.rt:147:9
 call-first-argument-requires : (t : ℕ) → call-lts.Need-first-argument-requires (
   arguments-held-reads.Asked,
   arguments-held-reads.Learnt,
@@ -483,7 +626,7 @@ call-first-argument-requires : (t : ℕ) → call-lts.Need-first-argument-requir
 ) (call-at t) call.Post call-Inv-loop call-μ-loop
 call-first-argument-requires t c κs = search needs
 
--- src/lib.rt:146:37
+-- src/lib.rt:148:37
 call-word-at-requires : (t : ℕ) → call-lts.Need-word-at-requires (
   arguments-held-reads.Asked,
   arguments-held-reads.Learnt,
@@ -506,7 +649,7 @@ call-word-at-requires : (t : ℕ) → call-lts.Need-word-at-requires (
 ) (call-at t) call.Post call-Inv-loop call-μ-loop
 call-word-at-requires t c κs = search needs
 
--- src/lib.rt:146:9
+-- src/lib.rt:148:9
 call-argument-root-requires : (t : ℕ) → call-lts.Need-argument-root-requires (
   arguments-held-reads.Asked,
   arguments-held-reads.Learnt,
@@ -529,7 +672,7 @@ call-argument-root-requires : (t : ℕ) → call-lts.Need-argument-root-requires
 ) (call-at t) call.Post call-Inv-loop call-μ-loop
 call-argument-root-requires t c κs = search needs
 
--- src/lib.rt:147:5
+-- src/lib.rt:149:5
 call-loop-holds : (t : ℕ) → call-lts.Need-loop-holds (
   arguments-held-reads.Asked,
   arguments-held-reads.Learnt,
@@ -552,7 +695,7 @@ call-loop-holds : (t : ℕ) → call-lts.Need-loop-holds (
 ) (call-at t) call.Post call-Inv-loop call-μ-loop
 call-loop-holds t c = push-first _ _ _ _ _ _ _ _ _ _ _ _ 0 _ (c .before .before .before .before .before .before .before .before .before .pre .1 .lent) (c .before .before .before .arguments-held .ensures) (c .before .before .first-argument .ensures) (c .before .word-at .ensures) (c .argument-root .ensures)
 
--- src/lib.rt:148:15
+-- src/lib.rt:150:15
 call-argument-requires : (t : ℕ) → call-lts.Need-argument-requires (
   arguments-held-reads.Asked,
   arguments-held-reads.Learnt,
@@ -597,7 +740,7 @@ call-enum-told : (t : ℕ) → call-lts.Need-enum-told (
 ) (call-at t) call.Post call-Inv-loop call-μ-loop
 call-enum-told t c = search needs
 
--- src/lib.rt:150:25
+-- src/lib.rt:152:25
 call-enum-known-n : (t : ℕ) → call-lts.Need-enum-known-n (
   arguments-held-reads.Asked,
   arguments-held-reads.Learnt,
@@ -620,7 +763,7 @@ call-enum-known-n : (t : ℕ) → call-lts.Need-enum-known-n (
 ) (call-at t) call.Post call-Inv-loop call-μ-loop
 call-enum-known-n t c = search needs
 
--- src/lib.rt:150:34
+-- src/lib.rt:152:34
 call-same-length : (t : ℕ) → call-lts.Need-same-length (
   arguments-held-reads.Asked,
   arguments-held-reads.Learnt,
@@ -643,7 +786,7 @@ call-same-length : (t : ℕ) → call-lts.Need-same-length (
 ) (call-at t) call.Post call-Inv-loop call-μ-loop
 call-same-length t c = search needs
 
--- src/lib.rt:150:34
+-- src/lib.rt:152:34
 call-same-length-2 : (t : ℕ) → call-lts.Need-same-length-2 (
   arguments-held-reads.Asked,
   arguments-held-reads.Learnt,
@@ -666,7 +809,7 @@ call-same-length-2 : (t : ℕ) → call-lts.Need-same-length-2 (
 ) (call-at t) call.Post call-Inv-loop call-μ-loop
 call-same-length-2 t c = search needs
 
--- src/lib.rt:150:34
+-- src/lib.rt:152:34
 call-returns : (t : ℕ) → call-lts.Need-returns (
   arguments-held-reads.Asked,
   arguments-held-reads.Learnt,
@@ -689,7 +832,7 @@ call-returns : (t : ℕ) → call-lts.Need-returns (
 ) (call-at t) call.Post call-Inv-loop call-μ-loop
 call-returns t c = search push-fails
 
--- src/lib.rt:152:62
+-- src/lib.rt:154:62
 call-add-word-at : (t : ℕ) → call-lts.Need-add-word-at (
   arguments-held-reads.Asked,
   arguments-held-reads.Learnt,
@@ -712,7 +855,7 @@ call-add-word-at : (t : ℕ) → call-lts.Need-add-word-at (
 ) (call-at t) call.Post call-Inv-loop call-μ-loop
 call-add-word-at t c = search needs
 
--- src/lib.rt:152:33
+-- src/lib.rt:154:33
 call-word-at-requires-2 : (t : ℕ) → call-lts.Need-word-at-requires-2 (
   arguments-held-reads.Asked,
   arguments-held-reads.Learnt,
@@ -735,7 +878,7 @@ call-word-at-requires-2 : (t : ℕ) → call-lts.Need-word-at-requires-2 (
 ) (call-at t) call.Post call-Inv-loop call-μ-loop
 call-word-at-requires-2 t c κs = search needs
 
--- src/lib.rt:152:70
+-- src/lib.rt:154:70
 call-add-argument-root : (t : ℕ) → call-lts.Need-add-argument-root (
   arguments-held-reads.Asked,
   arguments-held-reads.Learnt,
@@ -758,7 +901,7 @@ call-add-argument-root : (t : ℕ) → call-lts.Need-add-argument-root (
 ) (call-at t) call.Post call-Inv-loop call-μ-loop
 call-add-argument-root t c = search needs
 
--- src/lib.rt:152:9
+-- src/lib.rt:154:9
 call-argument-root-requires-2 : (t : ℕ) → call-lts.Need-argument-root-requires-2 (
   arguments-held-reads.Asked,
   arguments-held-reads.Learnt,
@@ -781,7 +924,7 @@ call-argument-root-requires-2 : (t : ℕ) → call-lts.Need-argument-root-requir
 ) (call-at t) call.Post call-Inv-loop call-μ-loop
 call-argument-root-requires-2 t c κs = search needs
 
--- src/lib.rt:147:5
+-- src/lib.rt:149:5
 call-loop-less : (t : ℕ) → call-lts.Need-loop-less (
   arguments-held-reads.Asked,
   arguments-held-reads.Learnt,
@@ -804,7 +947,7 @@ call-loop-less : (t : ℕ) → call-lts.Need-loop-less (
 ) (call-at t) call.Post call-Inv-loop call-μ-loop
 call-loop-less t c = search root-falls
 
--- src/lib.rt:147:5
+-- src/lib.rt:149:5
 call-loop-again : (t : ℕ) → call-lts.Need-loop-again (
   arguments-held-reads.Asked,
   arguments-held-reads.Learnt,
@@ -827,7 +970,7 @@ call-loop-again : (t : ℕ) → call-lts.Need-loop-again (
 ) (call-at t) call.Post call-Inv-loop call-μ-loop
 call-loop-again t c = push-next _ _ _ _ _ _ _ _ _ _ _ _ _ (c .before .before .before .before .before .before .before .before .before .before .before .before .loop .inv) (c .before .before .before .before .before .before .before .before .before .before .before .loop-test .taken) _ _ _ (c .before .before .before .before .before .before .before .before .argument .ensures) _ _ _ (let a0 = c .before .before .before .before .before .before .before .texts in omega arith) (let a0 = c .before .before .before .before .before .words in omega arith) (c .before .before .enum-told .given .1) (c .before .word-at2 .ensures) (c .argument-root2 .ensures)
 
--- src/lib.rt:154:9
+-- src/lib.rt:156:9
 call-library-of-requires : (t : ℕ) → call-lts.Need-library-of-requires (
   arguments-held-reads.Asked,
   arguments-held-reads.Learnt,
@@ -850,7 +993,7 @@ call-library-of-requires : (t : ℕ) → call-lts.Need-library-of-requires (
 ) (call-at t) call.Post call-Inv-loop call-μ-loop
 call-library-of-requires t c κs = search needs
 
--- src/lib.rt:163:13
+-- src/lib.rt:165:13
 call-callee-of-requires : (t : ℕ) → call-lts.Need-callee-of-requires (
   arguments-held-reads.Asked,
   arguments-held-reads.Learnt,
@@ -873,7 +1016,7 @@ call-callee-of-requires : (t : ℕ) → call-lts.Need-callee-of-requires (
 ) (call-at t) call.Post call-Inv-loop call-μ-loop
 call-callee-of-requires t c κs = search needs
 
--- src/lib.rt:156:13
+-- src/lib.rt:158:13
 call-invoke-requires : (t : ℕ) → call-lts.Need-invoke-requires (
   arguments-held-reads.Asked,
   arguments-held-reads.Learnt,
@@ -896,7 +1039,7 @@ call-invoke-requires : (t : ℕ) → call-lts.Need-invoke-requires (
 ) (call-at t) call.Post call-Inv-loop call-μ-loop
 call-invoke-requires t c κs = (omega arith, record { lent = record { lent = c .before .before .before .before .before .before .loop .inv .lent; deep = c .before .before .before .before .before .before .before .before .before .before .before .before .before .before .before .before .pre .1 .deep }; small = c .callee-of .ensures .1 })
 
--- src/lib.rt:167:9
+-- src/lib.rt:169:9
 call-same-length-3 : (t : ℕ) → call-lts.Need-same-length-3 (
   arguments-held-reads.Asked,
   arguments-held-reads.Learnt,
@@ -919,7 +1062,7 @@ call-same-length-3 : (t : ℕ) → call-lts.Need-same-length-3 (
 ) (call-at t) call.Post call-Inv-loop call-μ-loop
 call-same-length-3 t c = search needs
 
--- src/lib.rt:167:9
+-- src/lib.rt:169:9
 call-same-length-4 : (t : ℕ) → call-lts.Need-same-length-4 (
   arguments-held-reads.Asked,
   arguments-held-reads.Learnt,
@@ -942,7 +1085,7 @@ call-same-length-4 : (t : ℕ) → call-lts.Need-same-length-4 (
 ) (call-at t) call.Post call-Inv-loop call-μ-loop
 call-same-length-4 t c = search needs
 
--- src/lib.rt:167:9
+-- src/lib.rt:169:9
 call-returns-2 : (t : ℕ) → call-lts.Need-returns-2 (
   arguments-held-reads.Asked,
   arguments-held-reads.Learnt,
@@ -965,7 +1108,7 @@ call-returns-2 : (t : ℕ) → call-lts.Need-returns-2 (
 ) (call-at t) call.Post call-Inv-loop call-μ-loop
 call-returns-2 t c = search procedure-called
 
--- src/lib.rt:169:9
+-- src/lib.rt:171:9
 call-called-requires : (t : ℕ) → call-lts.Need-called-requires (
   arguments-held-reads.Asked,
   arguments-held-reads.Learnt,
@@ -988,7 +1131,7 @@ call-called-requires : (t : ℕ) → call-lts.Need-called-requires (
 ) (call-at t) call.Post call-Inv-loop call-μ-loop
 call-called-requires t c κs = c .before .before .before .before .loop .inv .lent .room
 
--- src/lib.rt:129:1
+-- src/lib.rt:131:1
 call-same-length-5 : (t : ℕ) → call-lts.Need-same-length-5 (
   arguments-held-reads.Asked,
   arguments-held-reads.Learnt,
@@ -1011,7 +1154,7 @@ call-same-length-5 : (t : ℕ) → call-lts.Need-same-length-5 (
 ) (call-at t) call.Post call-Inv-loop call-μ-loop
 call-same-length-5 t c = search needs
 
--- src/lib.rt:129:1
+-- src/lib.rt:131:1
 call-same-length-6 : (t : ℕ) → call-lts.Need-same-length-6 (
   arguments-held-reads.Asked,
   arguments-held-reads.Learnt,
@@ -1034,7 +1177,7 @@ call-same-length-6 : (t : ℕ) → call-lts.Need-same-length-6 (
 ) (call-at t) call.Post call-Inv-loop call-μ-loop
 call-same-length-6 t c = search needs
 
--- src/lib.rt:129:1
+-- src/lib.rt:131:1
 call-returns-3 : (t : ℕ) → call-lts.Need-returns-3 (
   arguments-held-reads.Asked,
   arguments-held-reads.Learnt,
@@ -1057,7 +1200,216 @@ call-returns-3 : (t : ℕ) → call-lts.Need-returns-3 (
 ) (call-at t) call.Post call-Inv-loop call-μ-loop
 call-returns-3 t c = search library-called
 
--- src/lib.rt:40:9
+-- src/lib.rt:646:11
+each-expression-requires : (t : ℕ) → each-lts.Need-expression-requires (
+  expression-below t,
+  expression.Post,
+  open-loop-reads.Asked,
+  open-loop-reads.Learnt,
+  own-below t,
+  own.Post,
+) (each-at t) each.Post
+each-expression-requires t c κs = (omega arith, c .before .before .before .before .before .before .pre .1 .lent)
+
+-- src/lib.rt:647:22
+each-enum-known-v : (t : ℕ) → each-lts.Need-enum-known-v (
+  expression-below t,
+  expression.Post,
+  open-loop-reads.Asked,
+  open-loop-reads.Learnt,
+  own-below t,
+  own.Post,
+) (each-at t) each.Post
+each-enum-known-v t c = search needs
+
+-- src/lib.rt:648:26
+each-enum-known-v-2 : (t : ℕ) → each-lts.Need-enum-known-v-2 (
+  expression-below t,
+  expression.Post,
+  open-loop-reads.Asked,
+  open-loop-reads.Learnt,
+  own-below t,
+  own.Post,
+) (each-at t) each.Post
+each-enum-known-v-2 t c = search needs
+
+-- src/lib.rt:649:21
+each-open-loop-requires : (t : ℕ) → each-lts.Need-open-loop-requires (
+  expression-below t,
+  expression.Post,
+  open-loop-reads.Asked,
+  open-loop-reads.Learnt,
+  own-below t,
+  own.Post,
+) (each-at t) each.Post
+each-open-loop-requires t c κs = let a0 = c .before .before .before .before .before .before .before .before .words in omega (arith, c .before .before .before .before .before .before .before .before .before .before .before .before .before .before .before .before .before .before .pre .1 .lent .lent .room .words)
+
+-- src/lib.rt:651:21
+each-same-length : (t : ℕ) → each-lts.Need-same-length (
+  expression-below t,
+  expression.Post,
+  open-loop-reads.Asked,
+  open-loop-reads.Learnt,
+  own-below t,
+  own.Post,
+) (each-at t) each.Post
+each-same-length t c = search needs
+
+-- src/lib.rt:651:21
+each-same-length-2 : (t : ℕ) → each-lts.Need-same-length-2 (
+  expression-below t,
+  expression.Post,
+  open-loop-reads.Asked,
+  open-loop-reads.Learnt,
+  own-below t,
+  own.Post,
+) (each-at t) each.Post
+each-same-length-2 t c = search needs
+
+-- src/lib.rt:651:21
+each-returns : (t : ℕ) → each-lts.Need-returns (
+  expression-below t,
+  expression.Post,
+  open-loop-reads.Asked,
+  open-loop-reads.Learnt,
+  own-below t,
+  own.Post,
+) (each-at t) each.Post
+each-returns t c = each-refused _ _ _ _ _ _ _ _ _ _ _ (c .before .before .before .before .before .before .before .before .before .before .before .before .before .before .before .expression .ensures) _ (c .before .before .before .before .before .before .before .before .before .v .given .1) _ (c .before .before .before .before .before .before .v2 .given .1) _ _ (c .before .before .before .open-loop .ensures) (c .if1 .taken)
+
+-- src/lib.rt:653:78
+each-add-own : (t : ℕ) → each-lts.Need-add-own (
+  expression-below t,
+  expression.Post,
+  open-loop-reads.Asked,
+  open-loop-reads.Learnt,
+  own-below t,
+  own.Post,
+) (each-at t) each.Post
+each-add-own t c = omega (arith, c .before .before .before .before .before .before .before .before .before .before .before .before .before .before .before .before .before .before .before .before .before .before .before .before .pre .1 .room)
+
+-- src/lib.rt:653:21
+each-own-requires : (t : ℕ) → each-lts.Need-own-requires (
+  expression-below t,
+  expression.Post,
+  open-loop-reads.Asked,
+  open-loop-reads.Learnt,
+  own-below t,
+  own.Post,
+) (each-at t) each.Post
+each-own-requires t c κs = (omega arith, still-runs _ _ _ _ _ (let a0 = c .before .before .before .before .before .before .before .before .before .before .before .before .before .before .before .before .texts in omega arith) (let a0 = c .before .before .before .before .before .before .before .before .before .before .before .before .before .before .words in let a1 = c .before .before .before .before .words2 in omega arith) _ _ (c .before .before .before .before .before .before .before .before .before .before .before .before .before .before .before .before .before .before .before .before .before .before .before .before .pre .1))
+
+-- src/lib.rt:658:21
+each-enum-known-n : (t : ℕ) → each-lts.Need-enum-known-n (
+  expression-below t,
+  expression.Post,
+  open-loop-reads.Asked,
+  open-loop-reads.Learnt,
+  own-below t,
+  own.Post,
+) (each-at t) each.Post
+each-enum-known-n t c = search needs
+
+-- src/lib.rt:631:1
+each-same-length-3 : (t : ℕ) → each-lts.Need-same-length-3 (
+  expression-below t,
+  expression.Post,
+  open-loop-reads.Asked,
+  open-loop-reads.Learnt,
+  own-below t,
+  own.Post,
+) (each-at t) each.Post
+each-same-length-3 t c = search needs
+
+-- src/lib.rt:631:1
+each-same-length-4 : (t : ℕ) → each-lts.Need-same-length-4 (
+  expression-below t,
+  expression.Post,
+  open-loop-reads.Asked,
+  open-loop-reads.Learnt,
+  own-below t,
+  own.Post,
+) (each-at t) each.Post
+each-same-length-4 t c = search needs
+
+-- src/lib.rt:631:1
+each-returns-2 : (t : ℕ) → each-lts.Need-returns-2 (
+  expression-below t,
+  expression.Post,
+  open-loop-reads.Asked,
+  open-loop-reads.Learnt,
+  own-below t,
+  own.Post,
+) (each-at t) each.Post
+each-returns-2 t c = each-runs _ _ _ _ _ _ _ _ _ _ _ (c .before .before .before .before .before .before .before .before .before .before .before .before .before .before .before .before .before .before .before .before .before .before .expression .ensures) _ (c .before .before .before .before .before .before .before .before .before .before .before .before .before .before .before .before .v .given .1) _ (c .before .before .before .before .before .before .before .before .before .before .before .before .before .v2 .given .1) _ _ (c .before .before .before .before .before .before .before .before .before .before .open-loop .ensures) _ (c .before .before .before .before .before .before .before .if1 .left) (c .before .before .before .before .own .ensures)
+
+-- src/lib.rt:631:1
+each-same-length-5 : (t : ℕ) → each-lts.Need-same-length-5 (
+  expression-below t,
+  expression.Post,
+  open-loop-reads.Asked,
+  open-loop-reads.Learnt,
+  own-below t,
+  own.Post,
+) (each-at t) each.Post
+each-same-length-5 t c = search needs
+
+-- src/lib.rt:631:1
+each-same-length-6 : (t : ℕ) → each-lts.Need-same-length-6 (
+  expression-below t,
+  expression.Post,
+  open-loop-reads.Asked,
+  open-loop-reads.Learnt,
+  own-below t,
+  own.Post,
+) (each-at t) each.Post
+each-same-length-6 t c = search needs
+
+-- src/lib.rt:631:1
+each-returns-3 : (t : ℕ) → each-lts.Need-returns-3 (
+  expression-below t,
+  expression.Post,
+  open-loop-reads.Asked,
+  open-loop-reads.Learnt,
+  own-below t,
+  own.Post,
+) (each-at t) each.Post
+each-returns-3 t c = each-other _ _ _ _ _ _ _ _ _ _ _ (c .before .before .before .before .before .before .before .before .expression .ensures) _ (c .before .before .v .given .1) (c .match2 .keys2)
+
+-- src/lib.rt:631:1
+each-same-length-7 : (t : ℕ) → each-lts.Need-same-length-7 (
+  expression-below t,
+  expression.Post,
+  open-loop-reads.Asked,
+  open-loop-reads.Learnt,
+  own-below t,
+  own.Post,
+) (each-at t) each.Post
+each-same-length-7 t c = search needs
+
+-- src/lib.rt:631:1
+each-same-length-8 : (t : ℕ) → each-lts.Need-same-length-8 (
+  expression-below t,
+  expression.Post,
+  open-loop-reads.Asked,
+  open-loop-reads.Learnt,
+  own-below t,
+  own.Post,
+) (each-at t) each.Post
+each-same-length-8 t c = search needs
+
+-- src/lib.rt:631:1
+each-returns-4 : (t : ℕ) → each-lts.Need-returns-4 (
+  expression-below t,
+  expression.Post,
+  open-loop-reads.Asked,
+  open-loop-reads.Learnt,
+  own-below t,
+  own.Post,
+) (each-at t) each.Post
+each-returns-4 t c = each-stops _ _ _ _ _ _ _ _ _ _ _ (c .before .before .before .before .before .before .before .expression .ensures) _ _ (c .before .n .given .1)
+
+-- src/lib.rt:42:9
 expression-returns : (t : ℕ) → expression-lts.Need-returns (
   count-reads.Asked,
   count-reads.Learnt,
@@ -1074,7 +1426,7 @@ expression-returns : (t : ℕ) → expression-lts.Need-returns (
 ) (expression-at t) expression.Post
 expression-returns t c = search too-deep
 
--- src/lib.rt:42:9
+-- src/lib.rt:44:9
 expression-count-requires : (t : ℕ) → expression-lts.Need-count-requires (
   count-reads.Asked,
   count-reads.Learnt,
@@ -1091,7 +1443,7 @@ expression-count-requires : (t : ℕ) → expression-lts.Need-count-requires (
 ) (expression-at t) expression.Post
 expression-count-requires t c κs = omega (arith, c .before .before .before .before .before .before .pre .1 .lent .room .words)
 
--- src/lib.rt:43:9
+-- src/lib.rt:45:9
 expression-same-length : (t : ℕ) → expression-lts.Need-same-length (
   count-reads.Asked,
   count-reads.Learnt,
@@ -1108,7 +1460,7 @@ expression-same-length : (t : ℕ) → expression-lts.Need-same-length (
 ) (expression-at t) expression.Post
 expression-same-length t c = search needs
 
--- src/lib.rt:43:9
+-- src/lib.rt:45:9
 expression-returns-2 : (t : ℕ) → expression-lts.Need-returns-2 (
   count-reads.Asked,
   count-reads.Learnt,
@@ -1125,7 +1477,7 @@ expression-returns-2 : (t : ℕ) → expression-lts.Need-returns-2 (
 ) (expression-at t) expression.Post
 expression-returns-2 t c = search no-step
 
--- src/lib.rt:45:9
+-- src/lib.rt:47:9
 expression-word-at-requires : (t : ℕ) → expression-lts.Need-word-at-requires (
   count-reads.Asked,
   count-reads.Learnt,
@@ -1142,7 +1494,7 @@ expression-word-at-requires : (t : ℕ) → expression-lts.Need-word-at-requires
 ) (expression-at t) expression.Post
 expression-word-at-requires t c κs = search needs
 
--- src/lib.rt:46:9
+-- src/lib.rt:48:9
 expression-tag-of-requires : (t : ℕ) → expression-lts.Need-tag-of-requires (
   count-reads.Asked,
   count-reads.Learnt,
@@ -1159,7 +1511,7 @@ expression-tag-of-requires : (t : ℕ) → expression-lts.Need-tag-of-requires (
 ) (expression-at t) expression.Post
 expression-tag-of-requires t c κs = search needs
 
--- src/lib.rt:48:9
+-- src/lib.rt:50:9
 expression-leaf-requires : (t : ℕ) → expression-lts.Need-leaf-requires (
   count-reads.Asked,
   count-reads.Learnt,
@@ -1176,7 +1528,7 @@ expression-leaf-requires : (t : ℕ) → expression-lts.Need-leaf-requires (
 ) (expression-at t) expression.Post
 expression-leaf-requires t c κs = search needs
 
--- src/lib.rt:48:9
+-- src/lib.rt:50:9
 expression-same-length-2 : (t : ℕ) → expression-lts.Need-same-length-2 (
   count-reads.Asked,
   count-reads.Learnt,
@@ -1193,7 +1545,7 @@ expression-same-length-2 : (t : ℕ) → expression-lts.Need-same-length-2 (
 ) (expression-at t) expression.Post
 expression-same-length-2 t c = search needs
 
--- src/lib.rt:48:9
+-- src/lib.rt:50:9
 expression-returns-3 : (t : ℕ) → expression-lts.Need-returns-3 (
   count-reads.Asked,
   count-reads.Learnt,
@@ -1210,7 +1562,7 @@ expression-returns-3 : (t : ℕ) → expression-lts.Need-returns-3 (
 ) (expression-at t) expression.Post
 expression-returns-3 t c = search is-leaf
 
--- src/lib.rt:51:57
+-- src/lib.rt:53:57
 expression-sub-call : (t : ℕ) → expression-lts.Need-sub-call (
   count-reads.Asked,
   count-reads.Learnt,
@@ -1227,7 +1579,7 @@ expression-sub-call : (t : ℕ) → expression-lts.Need-sub-call (
 ) (expression-at t) expression.Post
 expression-sub-call t c = search needs
 
--- src/lib.rt:51:15
+-- src/lib.rt:53:15
 expression-call-requires : (t : ℕ) → expression-lts.Need-call-requires (
   count-reads.Asked,
   count-reads.Learnt,
@@ -1244,7 +1596,7 @@ expression-call-requires : (t : ℕ) → expression-lts.Need-call-requires (
 ) (expression-at t) expression.Post
 expression-call-requires t c κs = (omega arith, record { lent = still-lent-words _ _ _ _ (c .before .before .before .before .before .before .before .before .before .before .before .before .before .before .before .before .pre .1 .lent) (let a0 = c .before .before .before .before .before .before .before .before .words in omega arith); deep = omega (arith, c .before .before .before .before .before .before .before .before .before .before .before .before .before .before .before .before .pre .1 .deep) })
 
--- src/lib.rt:52:26
+-- src/lib.rt:54:26
 expression-enum-known-v : (t : ℕ) → expression-lts.Need-enum-known-v (
   count-reads.Asked,
   count-reads.Learnt,
@@ -1261,7 +1613,7 @@ expression-enum-known-v : (t : ℕ) → expression-lts.Need-enum-known-v (
 ) (expression-at t) expression.Post
 expression-enum-known-v t c = search needs
 
--- src/lib.rt:52:32
+-- src/lib.rt:54:32
 expression-same-length-3 : (t : ℕ) → expression-lts.Need-same-length-3 (
   count-reads.Asked,
   count-reads.Learnt,
@@ -1278,7 +1630,7 @@ expression-same-length-3 : (t : ℕ) → expression-lts.Need-same-length-3 (
 ) (expression-at t) expression.Post
 expression-same-length-3 t c = search needs
 
--- src/lib.rt:52:32
+-- src/lib.rt:54:32
 expression-same-length-4 : (t : ℕ) → expression-lts.Need-same-length-4 (
   count-reads.Asked,
   count-reads.Learnt,
@@ -1295,7 +1647,7 @@ expression-same-length-4 : (t : ℕ) → expression-lts.Need-same-length-4 (
 ) (expression-at t) expression.Post
 expression-same-length-4 t c = search needs
 
--- src/lib.rt:52:32
+-- src/lib.rt:54:32
 expression-returns-4 : (t : ℕ) → expression-lts.Need-returns-4 (
   count-reads.Asked,
   count-reads.Learnt,
@@ -1312,7 +1664,7 @@ expression-returns-4 : (t : ℕ) → expression-lts.Need-returns-4 (
 ) (expression-at t) expression.Post
 expression-returns-4 t c = is-call _ _ _ _ _ _ _ _ _ _ (c .before .before .before .before .before .before .before .before .before .before .before .before .before .before .before .before .before .before .before .if1 .left) (c .before .before .before .before .before .before .before .before .before .before .before .before .before .before .before .before .before .count .ensures) (c .before .before .before .before .before .before .before .before .before .before .before .before .before .before .if2 .left) _ (c .before .before .before .before .before .before .before .before .before .before .before .before .before .word-at .ensures) _ (c .before .before .before .before .before .before .before .before .before .before .before .before .tag-of .ensures) _ _ _ _ (c .before .before .before .before .before .before .before .before .before .before .before .if3 .left) (c .before .before .before .before .before .before .before .before .before .before .if4 .taken) (c .before .before .before .before .before .before .before .call .ensures) (c .before .v .given .1)
 
--- src/lib.rt:53:25
+-- src/lib.rt:55:25
 expression-enum-known-n : (t : ℕ) → expression-lts.Need-enum-known-n (
   count-reads.Asked,
   count-reads.Learnt,
@@ -1329,7 +1681,7 @@ expression-enum-known-n : (t : ℕ) → expression-lts.Need-enum-known-n (
 ) (expression-at t) expression.Post
 expression-enum-known-n t c = search needs
 
--- src/lib.rt:53:34
+-- src/lib.rt:55:34
 expression-same-length-5 : (t : ℕ) → expression-lts.Need-same-length-5 (
   count-reads.Asked,
   count-reads.Learnt,
@@ -1346,7 +1698,7 @@ expression-same-length-5 : (t : ℕ) → expression-lts.Need-same-length-5 (
 ) (expression-at t) expression.Post
 expression-same-length-5 t c = search needs
 
--- src/lib.rt:53:34
+-- src/lib.rt:55:34
 expression-same-length-6 : (t : ℕ) → expression-lts.Need-same-length-6 (
   count-reads.Asked,
   count-reads.Learnt,
@@ -1363,7 +1715,7 @@ expression-same-length-6 : (t : ℕ) → expression-lts.Need-same-length-6 (
 ) (expression-at t) expression.Post
 expression-same-length-6 t c = search needs
 
--- src/lib.rt:53:34
+-- src/lib.rt:55:34
 expression-returns-5 : (t : ℕ) → expression-lts.Need-returns-5 (
   count-reads.Asked,
   count-reads.Learnt,
@@ -1380,7 +1732,7 @@ expression-returns-5 : (t : ℕ) → expression-lts.Need-returns-5 (
 ) (expression-at t) expression.Post
 expression-returns-5 t c = is-call _ _ _ _ _ _ _ _ _ _ (c .before .before .before .before .before .before .before .before .before .before .before .before .before .before .before .before .before .before .before .if1 .left) (c .before .before .before .before .before .before .before .before .before .before .before .before .before .before .before .before .before .count .ensures) (c .before .before .before .before .before .before .before .before .before .before .before .before .before .before .if2 .left) _ (c .before .before .before .before .before .before .before .before .before .before .before .before .before .word-at .ensures) _ (c .before .before .before .before .before .before .before .before .before .before .before .before .tag-of .ensures) _ _ _ _ (c .before .before .before .before .before .before .before .before .before .before .before .if3 .left) (c .before .before .before .before .before .before .before .before .before .before .if4 .taken) (c .before .before .before .before .before .before .before .call .ensures) (c .before .n .given .1)
 
--- src/lib.rt:56:57
+-- src/lib.rt:58:57
 expression-sub-operands : (t : ℕ) → expression-lts.Need-sub-operands (
   count-reads.Asked,
   count-reads.Learnt,
@@ -1397,7 +1749,7 @@ expression-sub-operands : (t : ℕ) → expression-lts.Need-sub-operands (
 ) (expression-at t) expression.Post
 expression-sub-operands t c = search needs
 
--- src/lib.rt:56:11
+-- src/lib.rt:58:11
 expression-operands-requires : (t : ℕ) → expression-lts.Need-operands-requires (
   count-reads.Asked,
   count-reads.Learnt,
@@ -1414,7 +1766,7 @@ expression-operands-requires : (t : ℕ) → expression-lts.Need-operands-requir
 ) (expression-at t) expression.Post
 expression-operands-requires t c κs = (omega arith, record { lent = still-lent-words _ _ _ _ (c .before .before .before .before .before .before .before .before .before .before .before .before .before .before .before .before .pre .1 .lent) (let a0 = c .before .before .before .before .before .before .before .before .words in omega arith); deep = omega (arith, c .before .before .before .before .before .before .before .before .before .before .before .before .before .before .before .before .pre .1 .deep) })
 
--- src/lib.rt:57:22
+-- src/lib.rt:59:22
 expression-enum-known-v-2 : (t : ℕ) → expression-lts.Need-enum-known-v-2 (
   count-reads.Asked,
   count-reads.Learnt,
@@ -1431,7 +1783,7 @@ expression-enum-known-v-2 : (t : ℕ) → expression-lts.Need-enum-known-v-2 (
 ) (expression-at t) expression.Post
 expression-enum-known-v-2 t c = search needs
 
--- src/lib.rt:58:21
+-- src/lib.rt:60:21
 expression-enum-known-n-2 : (t : ℕ) → expression-lts.Need-enum-known-n-2 (
   count-reads.Asked,
   count-reads.Learnt,
@@ -1448,7 +1800,7 @@ expression-enum-known-n-2 : (t : ℕ) → expression-lts.Need-enum-known-n-2 (
 ) (expression-at t) expression.Post
 expression-enum-known-n-2 t c = search needs
 
--- src/lib.rt:25:1
+-- src/lib.rt:27:1
 expression-same-length-7 : (t : ℕ) → expression-lts.Need-same-length-7 (
   count-reads.Asked,
   count-reads.Learnt,
@@ -1465,7 +1817,7 @@ expression-same-length-7 : (t : ℕ) → expression-lts.Need-same-length-7 (
 ) (expression-at t) expression.Post
 expression-same-length-7 t c = search needs
 
--- src/lib.rt:25:1
+-- src/lib.rt:27:1
 expression-same-length-8 : (t : ℕ) → expression-lts.Need-same-length-8 (
   count-reads.Asked,
   count-reads.Learnt,
@@ -1482,7 +1834,7 @@ expression-same-length-8 : (t : ℕ) → expression-lts.Need-same-length-8 (
 ) (expression-at t) expression.Post
 expression-same-length-8 t c = search needs
 
--- src/lib.rt:25:1
+-- src/lib.rt:27:1
 expression-returns-6 : (t : ℕ) → expression-lts.Need-returns-6 (
   count-reads.Asked,
   count-reads.Learnt,
@@ -1499,7 +1851,7 @@ expression-returns-6 : (t : ℕ) → expression-lts.Need-returns-6 (
 ) (expression-at t) expression.Post
 expression-returns-6 t c = has-operands _ _ _ _ _ _ _ _ _ _ (c .before .before .before .before .before .before .before .before .before .before .before .before .before .before .before .before .before .before .before .if1 .left) (c .before .before .before .before .before .before .before .before .before .before .before .before .before .before .before .before .before .count .ensures) (c .before .before .before .before .before .before .before .before .before .before .before .before .before .before .if2 .left) _ (c .before .before .before .before .before .before .before .before .before .before .before .before .before .word-at .ensures) _ (c .before .before .before .before .before .before .before .before .before .before .before .before .tag-of .ensures) _ _ _ _ (c .before .before .before .before .before .before .before .before .before .before .before .if3 .left) (c .before .before .before .before .before .before .before .before .before .before .if4 .left) (c .before .before .before .before .before .before .before .operands .ensures) (c .before .v2 .given .1)
 
--- src/lib.rt:25:1
+-- src/lib.rt:27:1
 expression-same-length-9 : (t : ℕ) → expression-lts.Need-same-length-9 (
   count-reads.Asked,
   count-reads.Learnt,
@@ -1516,7 +1868,7 @@ expression-same-length-9 : (t : ℕ) → expression-lts.Need-same-length-9 (
 ) (expression-at t) expression.Post
 expression-same-length-9 t c = search needs
 
--- src/lib.rt:25:1
+-- src/lib.rt:27:1
 expression-same-length-10 : (t : ℕ) → expression-lts.Need-same-length-10 (
   count-reads.Asked,
   count-reads.Learnt,
@@ -1533,7 +1885,7 @@ expression-same-length-10 : (t : ℕ) → expression-lts.Need-same-length-10 (
 ) (expression-at t) expression.Post
 expression-same-length-10 t c = search needs
 
--- src/lib.rt:25:1
+-- src/lib.rt:27:1
 expression-returns-7 : (t : ℕ) → expression-lts.Need-returns-7 (
   count-reads.Asked,
   count-reads.Learnt,
@@ -1550,7 +1902,432 @@ expression-returns-7 : (t : ℕ) → expression-lts.Need-returns-7 (
 ) (expression-at t) expression.Post
 expression-returns-7 t c = has-operands _ _ _ _ _ _ _ _ _ _ (c .before .before .before .before .before .before .before .before .before .before .before .before .before .before .before .before .before .before .before .if1 .left) (c .before .before .before .before .before .before .before .before .before .before .before .before .before .before .before .before .before .count .ensures) (c .before .before .before .before .before .before .before .before .before .before .before .before .before .before .if2 .left) _ (c .before .before .before .before .before .before .before .before .before .before .before .before .before .word-at .ensures) _ (c .before .before .before .before .before .before .before .before .before .before .before .before .tag-of .ensures) _ _ _ _ (c .before .before .before .before .before .before .before .before .before .before .before .if3 .left) (c .before .before .before .before .before .before .before .before .before .before .if4 .left) (c .before .before .before .before .before .before .before .operands .ensures) (c .before .n2 .given .1)
 
--- src/lib.rt:218:15
+abbrev inside-Inv-loop : inside-lts.InvT-loop
+inside-Inv-loop program code grants texts₀ words₀ fuel slot b p end c found₀ turns₀ texts words found turns = Turning (statementAt fuel (setting program code grants) b) grants fuel b texts₀ words₀ p slot end found₀ turns₀ texts words found turns
+
+abbrev inside-μ-loop : inside-lts.MeasureT-loop
+inside-μ-loop program code grants texts₀ words₀ fuel slot b p end c found₀ turns₀ texts words found turns = turns
+
+-- src/lib.rt:745:9
+inside-look-in-requires : (t : ℕ) → inside-lts.Need-look-in-requires (
+  look-in-reads.Asked,
+  look-in-reads.Learnt,
+  component-at-reads.Asked,
+  component-at-reads.Learnt,
+  bound-below t,
+  bound.Post,
+  unmark-below-reads.Asked,
+  unmark-below-reads.Learnt,
+  look-behind-reads.Asked,
+  look-behind-reads.Learnt,
+) (inside-at t) inside.Post inside-Inv-loop inside-μ-loop
+inside-look-in-requires t c κs = c .before .before .before .before .before .pre .1 .lent .lent .room
+
+-- src/lib.rt:746:21
+inside-element-copy-out-turns : (t : ℕ) → inside-lts.Need-element-copy-out-turns (
+  look-in-reads.Asked,
+  look-in-reads.Learnt,
+  component-at-reads.Asked,
+  component-at-reads.Learnt,
+  bound-below t,
+  bound.Post,
+  unmark-below-reads.Asked,
+  unmark-below-reads.Learnt,
+  look-behind-reads.Asked,
+  look-behind-reads.Learnt,
+) (inside-at t) inside.Post inside-Inv-loop inside-μ-loop
+inside-element-copy-out-turns t c = search needs
+
+-- src/lib.rt:746:21
+inside-add-turns : (t : ℕ) → inside-lts.Need-add-turns (
+  look-in-reads.Asked,
+  look-in-reads.Learnt,
+  component-at-reads.Asked,
+  component-at-reads.Learnt,
+  bound-below t,
+  bound.Post,
+  unmark-below-reads.Asked,
+  unmark-below-reads.Learnt,
+  look-behind-reads.Asked,
+  look-behind-reads.Learnt,
+) (inside-at t) inside.Post inside-Inv-loop inside-μ-loop
+inside-add-turns t c = omega (arith, c .before .before .before .before .before .before .before .before .before .pre .1 .lent .lent .room .steps)
+
+-- src/lib.rt:747:5
+inside-loop-holds : (t : ℕ) → inside-lts.Need-loop-holds (
+  look-in-reads.Asked,
+  look-in-reads.Learnt,
+  component-at-reads.Asked,
+  component-at-reads.Learnt,
+  bound-below t,
+  bound.Post,
+  unmark-below-reads.Asked,
+  unmark-below-reads.Learnt,
+  look-behind-reads.Asked,
+  look-behind-reads.Learnt,
+) (inside-at t) inside.Post inside-Inv-loop inside-μ-loop
+inside-loop-holds t c = turns-first _ _ _ _ _ _ _ _ _ _ _ (still-runs _ _ _ _ _ refl (let a0 = c .before .before .words in omega arith) _ _ (c .before .before .before .before .before .before .before .before .before .pre .1))
+
+-- src/lib.rt:748:9
+inside-sub-turns : (t : ℕ) → inside-lts.Need-sub-turns (
+  look-in-reads.Asked,
+  look-in-reads.Learnt,
+  component-at-reads.Asked,
+  component-at-reads.Learnt,
+  bound-below t,
+  bound.Post,
+  unmark-below-reads.Asked,
+  unmark-below-reads.Learnt,
+  look-behind-reads.Asked,
+  look-behind-reads.Learnt,
+) (inside-at t) inside.Post inside-Inv-loop inside-μ-loop
+inside-sub-turns t c = search needs
+
+-- src/lib.rt:750:13
+inside-same-length : (t : ℕ) → inside-lts.Need-same-length (
+  look-in-reads.Asked,
+  look-in-reads.Learnt,
+  component-at-reads.Asked,
+  component-at-reads.Learnt,
+  bound-below t,
+  bound.Post,
+  unmark-below-reads.Asked,
+  unmark-below-reads.Learnt,
+  look-behind-reads.Asked,
+  look-behind-reads.Learnt,
+) (inside-at t) inside.Post inside-Inv-loop inside-μ-loop
+inside-same-length t c = search needs
+
+-- src/lib.rt:750:13
+inside-same-length-2 : (t : ℕ) → inside-lts.Need-same-length-2 (
+  look-in-reads.Asked,
+  look-in-reads.Learnt,
+  component-at-reads.Asked,
+  component-at-reads.Learnt,
+  bound-below t,
+  bound.Post,
+  unmark-below-reads.Asked,
+  unmark-below-reads.Learnt,
+  look-behind-reads.Asked,
+  look-behind-reads.Learnt,
+) (inside-at t) inside.Post inside-Inv-loop inside-μ-loop
+inside-same-length-2 t c = search needs
+
+-- src/lib.rt:750:13
+inside-returns : (t : ℕ) → inside-lts.Need-returns (
+  look-in-reads.Asked,
+  look-in-reads.Learnt,
+  component-at-reads.Asked,
+  component-at-reads.Learnt,
+  bound-below t,
+  bound.Post,
+  unmark-below-reads.Asked,
+  unmark-below-reads.Learnt,
+  look-behind-reads.Asked,
+  look-behind-reads.Learnt,
+) (inside-at t) inside.Post inside-Inv-loop inside-μ-loop
+inside-returns t c = looked-in _ _ _ _ _ _ _ _ _ _ _ (c .before .before .before .before .before .before .look-in .ensures) (turns-done _ _ _ _ _ _ _ _ _ _ _ _ _ _ _ (c .before .before .loop .inv) (c .before .loop-test .taken) (c .if1 .taken))
+
+-- src/lib.rt:752:65
+inside-sub-component-at : (t : ℕ) → inside-lts.Need-sub-component-at (
+  look-in-reads.Asked,
+  look-in-reads.Learnt,
+  component-at-reads.Asked,
+  component-at-reads.Learnt,
+  bound-below t,
+  bound.Post,
+  unmark-below-reads.Asked,
+  unmark-below-reads.Learnt,
+  look-behind-reads.Asked,
+  look-behind-reads.Learnt,
+) (inside-at t) inside.Post inside-Inv-loop inside-μ-loop
+inside-sub-component-at t c = omega (arith, c .before .if1 .left)
+
+-- src/lib.rt:752:13
+inside-component-at-requires : (t : ℕ) → inside-lts.Need-component-at-requires (
+  look-in-reads.Asked,
+  look-in-reads.Learnt,
+  component-at-reads.Asked,
+  component-at-reads.Learnt,
+  bound-below t,
+  bound.Post,
+  unmark-below-reads.Asked,
+  unmark-below-reads.Learnt,
+  look-behind-reads.Asked,
+  look-behind-reads.Learnt,
+) (inside-at t) inside.Post inside-Inv-loop inside-μ-loop
+inside-component-at-requires t c κs = c .before .before .before .loop .inv .runs .lent .lent .room
+
+-- src/lib.rt:753:15
+inside-bound-requires : (t : ℕ) → inside-lts.Need-bound-requires (
+  look-in-reads.Asked,
+  look-in-reads.Learnt,
+  component-at-reads.Asked,
+  component-at-reads.Learnt,
+  bound-below t,
+  bound.Post,
+  unmark-below-reads.Asked,
+  unmark-below-reads.Learnt,
+  look-behind-reads.Asked,
+  look-behind-reads.Learnt,
+) (inside-at t) inside.Post inside-Inv-loop inside-μ-loop
+inside-bound-requires t c κs = (omega arith, c .before .before .before .before .before .before .loop .inv .runs)
+
+inside-enum-told : (t : ℕ) → inside-lts.Need-enum-told (
+  look-in-reads.Asked,
+  look-in-reads.Learnt,
+  component-at-reads.Asked,
+  component-at-reads.Learnt,
+  bound-below t,
+  bound.Post,
+  unmark-below-reads.Asked,
+  unmark-below-reads.Learnt,
+  look-behind-reads.Asked,
+  look-behind-reads.Learnt,
+) (inside-at t) inside.Post inside-Inv-loop inside-μ-loop
+inside-enum-told t c = search needs
+
+-- src/lib.rt:755:28
+inside-enum-known-v : (t : ℕ) → inside-lts.Need-enum-known-v (
+  look-in-reads.Asked,
+  look-in-reads.Learnt,
+  component-at-reads.Asked,
+  component-at-reads.Learnt,
+  bound-below t,
+  bound.Post,
+  unmark-below-reads.Asked,
+  unmark-below-reads.Learnt,
+  look-behind-reads.Asked,
+  look-behind-reads.Learnt,
+) (inside-at t) inside.Post inside-Inv-loop inside-μ-loop
+inside-enum-known-v t c = search needs
+
+-- src/lib.rt:756:17
+inside-unmark-below-requires : (t : ℕ) → inside-lts.Need-unmark-below-requires (
+  look-in-reads.Asked,
+  look-in-reads.Learnt,
+  component-at-reads.Asked,
+  component-at-reads.Learnt,
+  bound-below t,
+  bound.Post,
+  unmark-below-reads.Asked,
+  unmark-below-reads.Learnt,
+  look-behind-reads.Asked,
+  look-behind-reads.Learnt,
+) (inside-at t) inside.Post inside-Inv-loop inside-μ-loop
+inside-unmark-below-requires t c κs = still-room _ _ _ _ _ (c .before .before .before .before .before .before .before .before .before .before .before .before .before .before .before .loop .inv .runs .lent) (let a0 = c .before .before .before .before .before .words2 in omega arith)
+
+-- src/lib.rt:757:17
+inside-same-length-3 : (t : ℕ) → inside-lts.Need-same-length-3 (
+  look-in-reads.Asked,
+  look-in-reads.Learnt,
+  component-at-reads.Asked,
+  component-at-reads.Learnt,
+  bound-below t,
+  bound.Post,
+  unmark-below-reads.Asked,
+  unmark-below-reads.Learnt,
+  look-behind-reads.Asked,
+  look-behind-reads.Learnt,
+) (inside-at t) inside.Post inside-Inv-loop inside-μ-loop
+inside-same-length-3 t c = search needs
+
+-- src/lib.rt:757:17
+inside-same-length-4 : (t : ℕ) → inside-lts.Need-same-length-4 (
+  look-in-reads.Asked,
+  look-in-reads.Learnt,
+  component-at-reads.Asked,
+  component-at-reads.Learnt,
+  bound-below t,
+  bound.Post,
+  unmark-below-reads.Asked,
+  unmark-below-reads.Learnt,
+  look-behind-reads.Asked,
+  look-behind-reads.Learnt,
+) (inside-at t) inside.Post inside-Inv-loop inside-μ-loop
+inside-same-length-4 t c = search needs
+
+-- src/lib.rt:757:17
+inside-returns-2 : (t : ℕ) → inside-lts.Need-returns-2 (
+  look-in-reads.Asked,
+  look-in-reads.Learnt,
+  component-at-reads.Asked,
+  component-at-reads.Learnt,
+  bound-below t,
+  bound.Post,
+  unmark-below-reads.Asked,
+  unmark-below-reads.Learnt,
+  look-behind-reads.Asked,
+  look-behind-reads.Learnt,
+) (inside-at t) inside.Post inside-Inv-loop inside-μ-loop
+inside-returns-2 t c = looked-in _ _ _ _ _ _ _ _ _ _ _ (c .before .before .before .before .before .before .before .before .before .before .before .before .before .before .before .before .before .before .before .before .before .before .look-in .ensures) (turn-returns _ _ _ _ _ _ _ _ _ _ _ _ _ _ _ (c .before .before .before .before .before .before .before .before .before .before .before .before .before .before .before .before .before .before .loop .inv) (c .before .before .before .before .before .before .before .before .before .before .before .before .before .before .before .before .before .loop-test .taken) (c .before .before .before .before .before .before .before .before .before .before .before .before .before .before .before .before .if1 .left) _ (c .before .before .before .before .before .before .before .before .before .before .before .before .before .before .component-at .ensures) _ _ _ (c .before .before .before .before .before .before .before .before .before .before .before .bound .ensures) _ _ (c .before .before .before .before .before .v .given .1) (c .before .before .unmark-below .ensures))
+
+-- src/lib.rt:759:27
+inside-enum-known-n : (t : ℕ) → inside-lts.Need-enum-known-n (
+  look-in-reads.Asked,
+  look-in-reads.Learnt,
+  component-at-reads.Asked,
+  component-at-reads.Learnt,
+  bound-below t,
+  bound.Post,
+  unmark-below-reads.Asked,
+  unmark-below-reads.Learnt,
+  look-behind-reads.Asked,
+  look-behind-reads.Learnt,
+) (inside-at t) inside.Post inside-Inv-loop inside-μ-loop
+inside-enum-known-n t c = search needs
+
+-- src/lib.rt:759:36
+inside-same-length-5 : (t : ℕ) → inside-lts.Need-same-length-5 (
+  look-in-reads.Asked,
+  look-in-reads.Learnt,
+  component-at-reads.Asked,
+  component-at-reads.Learnt,
+  bound-below t,
+  bound.Post,
+  unmark-below-reads.Asked,
+  unmark-below-reads.Learnt,
+  look-behind-reads.Asked,
+  look-behind-reads.Learnt,
+) (inside-at t) inside.Post inside-Inv-loop inside-μ-loop
+inside-same-length-5 t c = search needs
+
+-- src/lib.rt:759:36
+inside-same-length-6 : (t : ℕ) → inside-lts.Need-same-length-6 (
+  look-in-reads.Asked,
+  look-in-reads.Learnt,
+  component-at-reads.Asked,
+  component-at-reads.Learnt,
+  bound-below t,
+  bound.Post,
+  unmark-below-reads.Asked,
+  unmark-below-reads.Learnt,
+  look-behind-reads.Asked,
+  look-behind-reads.Learnt,
+) (inside-at t) inside.Post inside-Inv-loop inside-μ-loop
+inside-same-length-6 t c = search needs
+
+-- src/lib.rt:759:36
+inside-returns-3 : (t : ℕ) → inside-lts.Need-returns-3 (
+  look-in-reads.Asked,
+  look-in-reads.Learnt,
+  component-at-reads.Asked,
+  component-at-reads.Learnt,
+  bound-below t,
+  bound.Post,
+  unmark-below-reads.Asked,
+  unmark-below-reads.Learnt,
+  look-behind-reads.Asked,
+  look-behind-reads.Learnt,
+) (inside-at t) inside.Post inside-Inv-loop inside-μ-loop
+inside-returns-3 t c = looked-in _ _ _ _ _ _ _ _ _ _ _ (c .before .before .before .before .before .before .before .before .before .before .before .before .before .before .before .before .before .before .look-in .ensures) (turn-fails _ _ _ _ _ _ _ _ _ _ _ _ _ _ _ (c .before .before .before .before .before .before .before .before .before .before .before .before .before .before .loop .inv) (c .before .before .before .before .before .before .before .before .before .before .before .before .before .loop-test .taken) (c .before .before .before .before .before .before .before .before .before .before .before .before .if1 .left) _ (c .before .before .before .before .before .before .before .before .before .before .component-at .ensures) _ _ _ (c .before .before .before .before .before .before .before .bound .ensures) _ _ (c .before .n .given .1))
+
+-- src/lib.rt:761:66
+inside-sub-look-behind : (t : ℕ) → inside-lts.Need-sub-look-behind (
+  look-in-reads.Asked,
+  look-in-reads.Learnt,
+  component-at-reads.Asked,
+  component-at-reads.Learnt,
+  bound-below t,
+  bound.Post,
+  unmark-below-reads.Asked,
+  unmark-below-reads.Learnt,
+  look-behind-reads.Asked,
+  look-behind-reads.Learnt,
+) (inside-at t) inside.Post inside-Inv-loop inside-μ-loop
+inside-sub-look-behind t c = omega (arith, c .before .before .before .before .before .before .before .before .before .before .before .before .if1 .left)
+
+-- src/lib.rt:761:9
+inside-look-behind-requires : (t : ℕ) → inside-lts.Need-look-behind-requires (
+  look-in-reads.Asked,
+  look-in-reads.Learnt,
+  component-at-reads.Asked,
+  component-at-reads.Learnt,
+  bound-below t,
+  bound.Post,
+  unmark-below-reads.Asked,
+  unmark-below-reads.Learnt,
+  look-behind-reads.Asked,
+  look-behind-reads.Learnt,
+) (inside-at t) inside.Post inside-Inv-loop inside-μ-loop
+inside-look-behind-requires t c κs = still-room _ _ _ _ _ (c .before .before .before .before .before .before .before .before .before .before .before .before .before .before .loop .inv .runs .lent) (let a0 = c .before .before .before .before .words2 in omega arith)
+
+-- src/lib.rt:747:5
+inside-loop-less : (t : ℕ) → inside-lts.Need-loop-less (
+  look-in-reads.Asked,
+  look-in-reads.Learnt,
+  component-at-reads.Asked,
+  component-at-reads.Learnt,
+  bound-below t,
+  bound.Post,
+  unmark-below-reads.Asked,
+  unmark-below-reads.Learnt,
+  look-behind-reads.Asked,
+  look-behind-reads.Learnt,
+) (inside-at t) inside.Post inside-Inv-loop inside-μ-loop
+inside-loop-less t c = omega arith
+
+-- src/lib.rt:747:5
+inside-loop-again : (t : ℕ) → inside-lts.Need-loop-again (
+  look-in-reads.Asked,
+  look-in-reads.Learnt,
+  component-at-reads.Asked,
+  component-at-reads.Learnt,
+  bound-below t,
+  bound.Post,
+  unmark-below-reads.Asked,
+  unmark-below-reads.Learnt,
+  look-behind-reads.Asked,
+  look-behind-reads.Learnt,
+) (inside-at t) inside.Post inside-Inv-loop inside-μ-loop
+inside-loop-again t c = turn-again _ _ _ _ _ _ _ _ _ _ _ _ _ _ _ (c .before .before .before .before .before .before .before .before .before .before .before .before .before .before .before .before .before .loop .inv) (c .before .before .before .before .before .before .before .before .before .before .before .before .before .before .before .before .loop-test .taken) (c .before .before .before .before .before .before .before .before .before .before .before .before .before .before .before .if1 .left) _ (c .before .before .before .before .before .before .before .before .before .before .before .before .before .component-at .ensures) _ _ _ (c .before .before .before .before .before .before .before .before .before .before .bound .ensures) _ _ (c .before .before .before .before .enum-told .given .1) (c .before .before .look-behind .ensures) (let a0 = c .before .before .before .before .before .before .before .before .before .texts in omega arith) (let a0 = c .before .before .before .before .before .before .before .words2 in let a1 = c .before .words4 in omega arith)
+
+-- src/lib.rt:729:1
+inside-same-length-7 : (t : ℕ) → inside-lts.Need-same-length-7 (
+  look-in-reads.Asked,
+  look-in-reads.Learnt,
+  component-at-reads.Asked,
+  component-at-reads.Learnt,
+  bound-below t,
+  bound.Post,
+  unmark-below-reads.Asked,
+  unmark-below-reads.Learnt,
+  look-behind-reads.Asked,
+  look-behind-reads.Learnt,
+) (inside-at t) inside.Post inside-Inv-loop inside-μ-loop
+inside-same-length-7 t c = search needs
+
+-- src/lib.rt:729:1
+inside-same-length-8 : (t : ℕ) → inside-lts.Need-same-length-8 (
+  look-in-reads.Asked,
+  look-in-reads.Learnt,
+  component-at-reads.Asked,
+  component-at-reads.Learnt,
+  bound-below t,
+  bound.Post,
+  unmark-below-reads.Asked,
+  unmark-below-reads.Learnt,
+  look-behind-reads.Asked,
+  look-behind-reads.Learnt,
+) (inside-at t) inside.Post inside-Inv-loop inside-μ-loop
+inside-same-length-8 t c = search needs
+
+-- src/lib.rt:729:1
+inside-returns-4 : (t : ℕ) → inside-lts.Need-returns-4 (
+  look-in-reads.Asked,
+  look-in-reads.Learnt,
+  component-at-reads.Asked,
+  component-at-reads.Learnt,
+  bound-below t,
+  bound.Post,
+  unmark-below-reads.Asked,
+  unmark-below-reads.Learnt,
+  look-behind-reads.Asked,
+  look-behind-reads.Learnt,
+) (inside-at t) inside.Post inside-Inv-loop inside-μ-loop
+inside-returns-4 t c = looked-in _ _ _ _ _ _ _ _ _ _ _ (c .before .before .before .before .before .look-in .ensures) (turns-short _ _ _ _ _ _ _ _ _ _ _ _ _ _ _ (c .before .loop .inv) (omega arith))
+
+-- src/lib.rt:220:15
 invoke-arguments-held-requires : (t : ℕ) → invoke-lts.Need-arguments-held-requires (
   arguments-held-reads.Asked,
   arguments-held-reads.Learnt,
@@ -1558,6 +2335,8 @@ invoke-arguments-held-requires : (t : ℕ) → invoke-lts.Need-arguments-held-re
   declared-count-reads.Learnt,
   running-reads.Asked,
   running-reads.Learnt,
+  loop-unit-reads.Asked,
+  loop-unit-reads.Learnt,
   begin-reads.Asked,
   begin-reads.Learnt,
   table-place-reads.Asked,
@@ -1577,7 +2356,7 @@ invoke-arguments-held-requires : (t : ℕ) → invoke-lts.Need-arguments-held-re
 ) (invoke-at t) invoke.Post
 invoke-arguments-held-requires t c κs = omega (arith, c .before .before .before .before .before .pre .1 .lent .lent .room .words)
 
--- src/lib.rt:219:9
+-- src/lib.rt:221:9
 invoke-declared-count-requires : (t : ℕ) → invoke-lts.Need-declared-count-requires (
   arguments-held-reads.Asked,
   arguments-held-reads.Learnt,
@@ -1585,6 +2364,8 @@ invoke-declared-count-requires : (t : ℕ) → invoke-lts.Need-declared-count-re
   declared-count-reads.Learnt,
   running-reads.Asked,
   running-reads.Learnt,
+  loop-unit-reads.Asked,
+  loop-unit-reads.Learnt,
   begin-reads.Asked,
   begin-reads.Learnt,
   table-place-reads.Asked,
@@ -1604,7 +2385,7 @@ invoke-declared-count-requires : (t : ℕ) → invoke-lts.Need-declared-count-re
 ) (invoke-at t) invoke.Post
 invoke-declared-count-requires t c κs = omega (arith, c .before .before .before .before .before .before .before .pre .1 .lent .lent .room .words)
 
--- src/lib.rt:220:9
+-- src/lib.rt:222:9
 invoke-running-requires : (t : ℕ) → invoke-lts.Need-running-requires (
   arguments-held-reads.Asked,
   arguments-held-reads.Learnt,
@@ -1612,6 +2393,8 @@ invoke-running-requires : (t : ℕ) → invoke-lts.Need-running-requires (
   declared-count-reads.Learnt,
   running-reads.Asked,
   running-reads.Learnt,
+  loop-unit-reads.Asked,
+  loop-unit-reads.Learnt,
   begin-reads.Asked,
   begin-reads.Learnt,
   table-place-reads.Asked,
@@ -1631,14 +2414,16 @@ invoke-running-requires : (t : ℕ) → invoke-lts.Need-running-requires (
 ) (invoke-at t) invoke.Post
 invoke-running-requires t c κs = omega (arith, c .before .before .before .before .before .before .before .before .before .pre .1 .lent .lent .room .words)
 
--- src/lib.rt:221:11
-invoke-begin-requires : (t : ℕ) → invoke-lts.Need-begin-requires (
+-- src/lib.rt:223:9
+invoke-loop-unit-requires : (t : ℕ) → invoke-lts.Need-loop-unit-requires (
   arguments-held-reads.Asked,
   arguments-held-reads.Learnt,
   declared-count-reads.Asked,
   declared-count-reads.Learnt,
   running-reads.Asked,
   running-reads.Learnt,
+  loop-unit-reads.Asked,
+  loop-unit-reads.Learnt,
   begin-reads.Asked,
   begin-reads.Learnt,
   table-place-reads.Asked,
@@ -1656,7 +2441,36 @@ invoke-begin-requires : (t : ℕ) → invoke-lts.Need-begin-requires (
   resume-reads.Asked,
   resume-reads.Learnt,
 ) (invoke-at t) invoke.Post
-invoke-begin-requires t c κs = record { room = c .before .before .before .before .before .before .before .before .before .before .before .pre .1 .lent .lent .room; small = c .before .before .before .before .before .before .before .before .before .before .before .pre .1 .small }
+invoke-loop-unit-requires t c κs = omega (arith, c .before .before .before .before .before .before .before .before .before .before .before .pre .1 .lent .lent .room .words)
+
+-- src/lib.rt:224:11
+invoke-begin-requires : (t : ℕ) → invoke-lts.Need-begin-requires (
+  arguments-held-reads.Asked,
+  arguments-held-reads.Learnt,
+  declared-count-reads.Asked,
+  declared-count-reads.Learnt,
+  running-reads.Asked,
+  running-reads.Learnt,
+  loop-unit-reads.Asked,
+  loop-unit-reads.Learnt,
+  begin-reads.Asked,
+  begin-reads.Learnt,
+  table-place-reads.Asked,
+  table-place-reads.Learnt,
+  word-at-reads.Asked,
+  word-at-reads.Learnt,
+  start-of-reads.Asked,
+  start-of-reads.Learnt,
+  parameters-of-reads.Asked,
+  parameters-of-reads.Learnt,
+  body-of-reads.Asked,
+  body-of-reads.Learnt,
+  procedure-below t,
+  procedure.Post,
+  resume-reads.Asked,
+  resume-reads.Learnt,
+) (invoke-at t) invoke.Post
+invoke-begin-requires t c κs = record { room = c .before .before .before .before .before .before .before .before .before .before .before .before .before .pre .1 .lent .lent .room; small = c .before .before .before .before .before .before .before .before .before .before .before .before .before .pre .1 .small }
 
 invoke-enum-told : (t : ℕ) → invoke-lts.Need-enum-told (
   arguments-held-reads.Asked,
@@ -1665,6 +2479,8 @@ invoke-enum-told : (t : ℕ) → invoke-lts.Need-enum-told (
   declared-count-reads.Learnt,
   running-reads.Asked,
   running-reads.Learnt,
+  loop-unit-reads.Asked,
+  loop-unit-reads.Learnt,
   begin-reads.Asked,
   begin-reads.Learnt,
   table-place-reads.Asked,
@@ -1684,7 +2500,7 @@ invoke-enum-told : (t : ℕ) → invoke-lts.Need-enum-told (
 ) (invoke-at t) invoke.Post
 invoke-enum-told t c = search needs
 
--- src/lib.rt:223:21
+-- src/lib.rt:226:21
 invoke-enum-known-k : (t : ℕ) → invoke-lts.Need-enum-known-k (
   arguments-held-reads.Asked,
   arguments-held-reads.Learnt,
@@ -1692,6 +2508,8 @@ invoke-enum-known-k : (t : ℕ) → invoke-lts.Need-enum-known-k (
   declared-count-reads.Learnt,
   running-reads.Asked,
   running-reads.Learnt,
+  loop-unit-reads.Asked,
+  loop-unit-reads.Learnt,
   begin-reads.Asked,
   begin-reads.Learnt,
   table-place-reads.Asked,
@@ -1711,7 +2529,7 @@ invoke-enum-known-k : (t : ℕ) → invoke-lts.Need-enum-known-k (
 ) (invoke-at t) invoke.Post
 invoke-enum-known-k t c = search needs
 
--- src/lib.rt:223:30
+-- src/lib.rt:226:30
 invoke-same-length : (t : ℕ) → invoke-lts.Need-same-length (
   arguments-held-reads.Asked,
   arguments-held-reads.Learnt,
@@ -1719,6 +2537,8 @@ invoke-same-length : (t : ℕ) → invoke-lts.Need-same-length (
   declared-count-reads.Learnt,
   running-reads.Asked,
   running-reads.Learnt,
+  loop-unit-reads.Asked,
+  loop-unit-reads.Learnt,
   begin-reads.Asked,
   begin-reads.Learnt,
   table-place-reads.Asked,
@@ -1738,7 +2558,7 @@ invoke-same-length : (t : ℕ) → invoke-lts.Need-same-length (
 ) (invoke-at t) invoke.Post
 invoke-same-length t c = search needs
 
--- src/lib.rt:223:30
+-- src/lib.rt:226:30
 invoke-returns : (t : ℕ) → invoke-lts.Need-returns (
   arguments-held-reads.Asked,
   arguments-held-reads.Learnt,
@@ -1746,6 +2566,8 @@ invoke-returns : (t : ℕ) → invoke-lts.Need-returns (
   declared-count-reads.Learnt,
   running-reads.Asked,
   running-reads.Learnt,
+  loop-unit-reads.Asked,
+  loop-unit-reads.Learnt,
   begin-reads.Asked,
   begin-reads.Learnt,
   table-place-reads.Asked,
@@ -1763,9 +2585,9 @@ invoke-returns : (t : ℕ) → invoke-lts.Need-returns (
   resume-reads.Asked,
   resume-reads.Learnt,
 ) (invoke-at t) invoke.Post
-invoke-returns t c = begin-stops _ _ _ _ _ _ _ _ _ _ _ _ (c .before .before .before .before .before .before .before .before .before .before .before .arguments-held .ensures) (c .before .before .before .before .before .before .before .before .before .declared-count .ensures) (c .before .before .before .before .before .before .before .running .ensures) _ _ (c .before .before .before .before .before .begin .ensures) _ _ (c .before .k .given .1)
+invoke-returns t c = begin-stops _ _ _ _ _ _ _ _ _ _ _ _ _ (c .before .before .before .before .before .before .before .before .before .before .before .before .before .arguments-held .ensures) (c .before .before .before .before .before .before .before .before .before .before .before .declared-count .ensures) (c .before .before .before .before .before .before .before .before .before .running .ensures) (c .before .before .before .before .before .before .before .loop-unit .ensures) _ _ (c .before .before .before .before .before .begin .ensures) _ _ (c .before .k .given .1)
 
--- src/lib.rt:225:42
+-- src/lib.rt:228:42
 invoke-table-place-requires : (t : ℕ) → invoke-lts.Need-table-place-requires (
   arguments-held-reads.Asked,
   arguments-held-reads.Learnt,
@@ -1773,6 +2595,8 @@ invoke-table-place-requires : (t : ℕ) → invoke-lts.Need-table-place-requires
   declared-count-reads.Learnt,
   running-reads.Asked,
   running-reads.Learnt,
+  loop-unit-reads.Asked,
+  loop-unit-reads.Learnt,
   begin-reads.Asked,
   begin-reads.Learnt,
   table-place-reads.Asked,
@@ -1792,7 +2616,7 @@ invoke-table-place-requires : (t : ℕ) → invoke-lts.Need-table-place-requires
 ) (invoke-at t) invoke.Post
 invoke-table-place-requires t c κs = search needs
 
--- src/lib.rt:225:9
+-- src/lib.rt:228:9
 invoke-word-at-requires : (t : ℕ) → invoke-lts.Need-word-at-requires (
   arguments-held-reads.Asked,
   arguments-held-reads.Learnt,
@@ -1800,6 +2624,8 @@ invoke-word-at-requires : (t : ℕ) → invoke-lts.Need-word-at-requires (
   declared-count-reads.Learnt,
   running-reads.Asked,
   running-reads.Learnt,
+  loop-unit-reads.Asked,
+  loop-unit-reads.Learnt,
   begin-reads.Asked,
   begin-reads.Learnt,
   table-place-reads.Asked,
@@ -1819,7 +2645,7 @@ invoke-word-at-requires : (t : ℕ) → invoke-lts.Need-word-at-requires (
 ) (invoke-at t) invoke.Post
 invoke-word-at-requires t c κs = search needs
 
--- src/lib.rt:226:13
+-- src/lib.rt:229:13
 invoke-start-of-requires : (t : ℕ) → invoke-lts.Need-start-of-requires (
   arguments-held-reads.Asked,
   arguments-held-reads.Learnt,
@@ -1827,6 +2653,8 @@ invoke-start-of-requires : (t : ℕ) → invoke-lts.Need-start-of-requires (
   declared-count-reads.Learnt,
   running-reads.Asked,
   running-reads.Learnt,
+  loop-unit-reads.Asked,
+  loop-unit-reads.Learnt,
   begin-reads.Asked,
   begin-reads.Learnt,
   table-place-reads.Asked,
@@ -1846,7 +2674,7 @@ invoke-start-of-requires : (t : ℕ) → invoke-lts.Need-start-of-requires (
 ) (invoke-at t) invoke.Post
 invoke-start-of-requires t c κs = search needs
 
--- src/lib.rt:226:33
+-- src/lib.rt:229:33
 invoke-parameters-of-requires : (t : ℕ) → invoke-lts.Need-parameters-of-requires (
   arguments-held-reads.Asked,
   arguments-held-reads.Learnt,
@@ -1854,6 +2682,8 @@ invoke-parameters-of-requires : (t : ℕ) → invoke-lts.Need-parameters-of-requ
   declared-count-reads.Learnt,
   running-reads.Asked,
   running-reads.Learnt,
+  loop-unit-reads.Asked,
+  loop-unit-reads.Learnt,
   begin-reads.Asked,
   begin-reads.Learnt,
   table-place-reads.Asked,
@@ -1873,7 +2703,7 @@ invoke-parameters-of-requires : (t : ℕ) → invoke-lts.Need-parameters-of-requ
 ) (invoke-at t) invoke.Post
 invoke-parameters-of-requires t c κs = search needs
 
--- src/lib.rt:226:13
+-- src/lib.rt:229:13
 invoke-add-a : (t : ℕ) → invoke-lts.Need-add-a (
   arguments-held-reads.Asked,
   arguments-held-reads.Learnt,
@@ -1881,6 +2711,8 @@ invoke-add-a : (t : ℕ) → invoke-lts.Need-add-a (
   declared-count-reads.Learnt,
   running-reads.Asked,
   running-reads.Learnt,
+  loop-unit-reads.Asked,
+  loop-unit-reads.Learnt,
   begin-reads.Asked,
   begin-reads.Learnt,
   table-place-reads.Asked,
@@ -1900,7 +2732,7 @@ invoke-add-a : (t : ℕ) → invoke-lts.Need-add-a (
 ) (invoke-at t) invoke.Post
 invoke-add-a t c = omega (arith, c .before .start-of .ensures .1, c .parameters-of .ensures .1)
 
--- src/lib.rt:227:9
+-- src/lib.rt:230:9
 invoke-body-of-requires : (t : ℕ) → invoke-lts.Need-body-of-requires (
   arguments-held-reads.Asked,
   arguments-held-reads.Learnt,
@@ -1908,6 +2740,8 @@ invoke-body-of-requires : (t : ℕ) → invoke-lts.Need-body-of-requires (
   declared-count-reads.Learnt,
   running-reads.Asked,
   running-reads.Learnt,
+  loop-unit-reads.Asked,
+  loop-unit-reads.Learnt,
   begin-reads.Asked,
   begin-reads.Learnt,
   table-place-reads.Asked,
@@ -1927,7 +2761,7 @@ invoke-body-of-requires : (t : ℕ) → invoke-lts.Need-body-of-requires (
 ) (invoke-at t) invoke.Post
 invoke-body-of-requires t c κs = search needs
 
--- src/lib.rt:236:9
+-- src/lib.rt:239:9
 invoke-add-procedure : (t : ℕ) → invoke-lts.Need-add-procedure (
   arguments-held-reads.Asked,
   arguments-held-reads.Learnt,
@@ -1935,6 +2769,8 @@ invoke-add-procedure : (t : ℕ) → invoke-lts.Need-add-procedure (
   declared-count-reads.Learnt,
   running-reads.Asked,
   running-reads.Learnt,
+  loop-unit-reads.Asked,
+  loop-unit-reads.Learnt,
   begin-reads.Asked,
   begin-reads.Learnt,
   table-place-reads.Asked,
@@ -1954,7 +2790,7 @@ invoke-add-procedure : (t : ℕ) → invoke-lts.Need-add-procedure (
 ) (invoke-at t) invoke.Post
 invoke-add-procedure t c = omega (arith, c .before .before .before .before .start-of .ensures .1, c .before .before .before .parameters-of .ensures .1, c .before .before .body-of .ensures .1)
 
--- src/lib.rt:237:9
+-- src/lib.rt:240:9
 invoke-add-procedure-2 : (t : ℕ) → invoke-lts.Need-add-procedure-2 (
   arguments-held-reads.Asked,
   arguments-held-reads.Learnt,
@@ -1962,6 +2798,8 @@ invoke-add-procedure-2 : (t : ℕ) → invoke-lts.Need-add-procedure-2 (
   declared-count-reads.Learnt,
   running-reads.Asked,
   running-reads.Learnt,
+  loop-unit-reads.Asked,
+  loop-unit-reads.Learnt,
   begin-reads.Asked,
   begin-reads.Learnt,
   table-place-reads.Asked,
@@ -1981,7 +2819,7 @@ invoke-add-procedure-2 : (t : ℕ) → invoke-lts.Need-add-procedure-2 (
 ) (invoke-at t) invoke.Post
 invoke-add-procedure-2 t c = omega (arith, c .before .before .before .before .start-of .ensures .1, c .before .before .before .parameters-of .ensures .1, c .before .before .body-of .ensures .1)
 
--- src/lib.rt:228:11
+-- src/lib.rt:231:11
 invoke-procedure-requires : (t : ℕ) → invoke-lts.Need-procedure-requires (
   arguments-held-reads.Asked,
   arguments-held-reads.Learnt,
@@ -1989,6 +2827,8 @@ invoke-procedure-requires : (t : ℕ) → invoke-lts.Need-procedure-requires (
   declared-count-reads.Learnt,
   running-reads.Asked,
   running-reads.Learnt,
+  loop-unit-reads.Asked,
+  loop-unit-reads.Learnt,
   begin-reads.Asked,
   begin-reads.Learnt,
   table-place-reads.Asked,
@@ -2006,9 +2846,9 @@ invoke-procedure-requires : (t : ℕ) → invoke-lts.Need-procedure-requires (
   resume-reads.Asked,
   resume-reads.Learnt,
 ) (invoke-at t) invoke.Post
-invoke-procedure-requires t c κs = (omega arith, record { lent = record { lent = still-lent-words _ _ _ _ (c .before .before .before .before .before .before .before .before .before .before .before .before .before .before .before .before .before .before .before .before .before .before .before .pre .1 .lent .lent) (let a0 = c .before .before .before .before .before .before .before .before .before .before .words in omega arith); deep = c .before .before .before .before .before .before .before .before .before .before .before .before .before .before .before .before .before .before .before .before .before .before .before .pre .1 .lent .deep }; room = omega (arith, c .before .before .before .before .before .before .before .before .before .before .before .before .before .before .before .before .before .before .before .before .before .before .before .pre .1 .lent .deep, c .before .before .before .before .start-of .ensures .1, c .before .before .before .parameters-of .ensures .1, c .before .before .body-of .ensures .1) })
+invoke-procedure-requires t c κs = (omega arith, record { lent = record { lent = still-lent-words _ _ _ _ (c .before .before .before .before .before .before .before .before .before .before .before .before .before .before .before .before .before .before .before .before .before .before .before .before .before .pre .1 .lent .lent) (let a0 = c .before .before .before .before .before .before .before .before .before .before .words in omega arith); deep = c .before .before .before .before .before .before .before .before .before .before .before .before .before .before .before .before .before .before .before .before .before .before .before .before .before .pre .1 .lent .deep }; room = omega (arith, c .before .before .before .before .before .before .before .before .before .before .before .before .before .before .before .before .before .before .before .before .before .before .before .before .before .pre .1 .lent .deep, c .before .before .before .before .start-of .ensures .1, c .before .before .before .parameters-of .ensures .1, c .before .before .body-of .ensures .1) })
 
--- src/lib.rt:239:22
+-- src/lib.rt:242:22
 invoke-enum-known-v : (t : ℕ) → invoke-lts.Need-enum-known-v (
   arguments-held-reads.Asked,
   arguments-held-reads.Learnt,
@@ -2016,6 +2856,8 @@ invoke-enum-known-v : (t : ℕ) → invoke-lts.Need-enum-known-v (
   declared-count-reads.Learnt,
   running-reads.Asked,
   running-reads.Learnt,
+  loop-unit-reads.Asked,
+  loop-unit-reads.Learnt,
   begin-reads.Asked,
   begin-reads.Learnt,
   table-place-reads.Asked,
@@ -2035,7 +2877,7 @@ invoke-enum-known-v : (t : ℕ) → invoke-lts.Need-enum-known-v (
 ) (invoke-at t) invoke.Post
 invoke-enum-known-v t c = search needs
 
--- src/lib.rt:240:13
+-- src/lib.rt:243:13
 invoke-resume-requires : (t : ℕ) → invoke-lts.Need-resume-requires (
   arguments-held-reads.Asked,
   arguments-held-reads.Learnt,
@@ -2043,6 +2885,8 @@ invoke-resume-requires : (t : ℕ) → invoke-lts.Need-resume-requires (
   declared-count-reads.Learnt,
   running-reads.Asked,
   running-reads.Learnt,
+  loop-unit-reads.Asked,
+  loop-unit-reads.Learnt,
   begin-reads.Asked,
   begin-reads.Learnt,
   table-place-reads.Asked,
@@ -2060,9 +2904,9 @@ invoke-resume-requires : (t : ℕ) → invoke-lts.Need-resume-requires (
   resume-reads.Asked,
   resume-reads.Learnt,
 ) (invoke-at t) invoke.Post
-invoke-resume-requires t c κs = let a0 = c .before .before .before .before .before .before .before .before .before .before .before .before .before .before .before .before .before .before .before .words in let a1 = c .before .before .before .before .before .words2 in omega (arith, c .before .before .before .before .before .before .before .before .before .before .before .before .before .before .before .before .before .before .before .before .before .before .before .before .before .before .before .before .before .before .before .before .pre .1 .lent .lent .room .words)
+invoke-resume-requires t c κs = let a0 = c .before .before .before .before .before .before .before .before .before .before .before .before .before .before .before .before .before .before .before .words in let a1 = c .before .before .before .before .before .words2 in omega (arith, c .before .before .before .before .before .before .before .before .before .before .before .before .before .before .before .before .before .before .before .before .before .before .before .before .before .before .before .before .before .before .before .before .before .before .pre .1 .lent .lent .room .words)
 
--- src/lib.rt:243:21
+-- src/lib.rt:246:21
 invoke-enum-known-k-2 : (t : ℕ) → invoke-lts.Need-enum-known-k-2 (
   arguments-held-reads.Asked,
   arguments-held-reads.Learnt,
@@ -2070,6 +2914,8 @@ invoke-enum-known-k-2 : (t : ℕ) → invoke-lts.Need-enum-known-k-2 (
   declared-count-reads.Learnt,
   running-reads.Asked,
   running-reads.Learnt,
+  loop-unit-reads.Asked,
+  loop-unit-reads.Learnt,
   begin-reads.Asked,
   begin-reads.Learnt,
   table-place-reads.Asked,
@@ -2089,7 +2935,7 @@ invoke-enum-known-k-2 : (t : ℕ) → invoke-lts.Need-enum-known-k-2 (
 ) (invoke-at t) invoke.Post
 invoke-enum-known-k-2 t c = search needs
 
--- src/lib.rt:203:1
+-- src/lib.rt:205:1
 invoke-same-length-2 : (t : ℕ) → invoke-lts.Need-same-length-2 (
   arguments-held-reads.Asked,
   arguments-held-reads.Learnt,
@@ -2097,6 +2943,8 @@ invoke-same-length-2 : (t : ℕ) → invoke-lts.Need-same-length-2 (
   declared-count-reads.Learnt,
   running-reads.Asked,
   running-reads.Learnt,
+  loop-unit-reads.Asked,
+  loop-unit-reads.Learnt,
   begin-reads.Asked,
   begin-reads.Learnt,
   table-place-reads.Asked,
@@ -2116,7 +2964,7 @@ invoke-same-length-2 : (t : ℕ) → invoke-lts.Need-same-length-2 (
 ) (invoke-at t) invoke.Post
 invoke-same-length-2 t c = search needs
 
--- src/lib.rt:203:1
+-- src/lib.rt:205:1
 invoke-same-length-3 : (t : ℕ) → invoke-lts.Need-same-length-3 (
   arguments-held-reads.Asked,
   arguments-held-reads.Learnt,
@@ -2124,6 +2972,8 @@ invoke-same-length-3 : (t : ℕ) → invoke-lts.Need-same-length-3 (
   declared-count-reads.Learnt,
   running-reads.Asked,
   running-reads.Learnt,
+  loop-unit-reads.Asked,
+  loop-unit-reads.Learnt,
   begin-reads.Asked,
   begin-reads.Learnt,
   table-place-reads.Asked,
@@ -2143,7 +2993,7 @@ invoke-same-length-3 : (t : ℕ) → invoke-lts.Need-same-length-3 (
 ) (invoke-at t) invoke.Post
 invoke-same-length-3 t c = search needs
 
--- src/lib.rt:203:1
+-- src/lib.rt:205:1
 invoke-returns-2 : (t : ℕ) → invoke-lts.Need-returns-2 (
   arguments-held-reads.Asked,
   arguments-held-reads.Learnt,
@@ -2151,6 +3001,8 @@ invoke-returns-2 : (t : ℕ) → invoke-lts.Need-returns-2 (
   declared-count-reads.Learnt,
   running-reads.Asked,
   running-reads.Learnt,
+  loop-unit-reads.Asked,
+  loop-unit-reads.Learnt,
   begin-reads.Asked,
   begin-reads.Learnt,
   table-place-reads.Asked,
@@ -2168,9 +3020,9 @@ invoke-returns-2 : (t : ℕ) → invoke-lts.Need-returns-2 (
   resume-reads.Asked,
   resume-reads.Learnt,
 ) (invoke-at t) invoke.Post
-invoke-returns-2 t c = gives-value _ _ _ _ _ _ _ _ _ _ _ _ (c .before .before .before .before .before .before .before .before .before .before .before .before .before .before .before .before .before .before .before .before .before .before .before .before .before .before .before .before .before .arguments-held .ensures) (c .before .before .before .before .before .before .before .before .before .before .before .before .before .before .before .before .before .before .before .before .before .before .before .before .before .before .before .declared-count .ensures) (c .before .before .before .before .before .before .before .before .before .before .before .before .before .before .before .before .before .before .before .before .before .before .before .before .before .running .ensures) _ _ (c .before .before .before .before .before .before .before .before .before .before .before .before .before .before .before .before .before .before .before .before .before .before .before .begin .ensures) _ (c .before .before .before .before .before .before .before .before .before .before .before .before .before .before .before .before .before .before .before .enum-told .given .1) _ _ _ _ _ _ (c .before .before .before .before .before .before .before .before .before .before .before .before .before .before .before .before .before .before .table-place .ensures) (c .before .before .before .before .before .before .before .before .before .before .before .before .before .before .before .before .before .word-at .ensures) (c .before .before .before .before .before .before .before .before .before .before .before .before .before .before .before .before .start-of .ensures .0) (c .before .before .before .before .before .before .before .before .before .before .before .before .before .before .before .parameters-of .ensures .0) refl (c .before .before .before .before .before .before .before .before .before .before .before .before .before .before .body-of .ensures .0) _ _ _ (c .before .before .before .before .before .before .before .before .before .before .before .procedure .ensures) _ _ (c .before .before .resume .ensures) (c .before .before .before .before .before .v .given .1)
+invoke-returns-2 t c = gives-value _ _ _ _ _ _ _ _ _ _ _ _ _ (c .before .before .before .before .before .before .before .before .before .before .before .before .before .before .before .before .before .before .before .before .before .before .before .before .before .before .before .before .before .before .before .arguments-held .ensures) (c .before .before .before .before .before .before .before .before .before .before .before .before .before .before .before .before .before .before .before .before .before .before .before .before .before .before .before .before .before .declared-count .ensures) (c .before .before .before .before .before .before .before .before .before .before .before .before .before .before .before .before .before .before .before .before .before .before .before .before .before .before .before .running .ensures) (c .before .before .before .before .before .before .before .before .before .before .before .before .before .before .before .before .before .before .before .before .before .before .before .before .before .loop-unit .ensures) _ _ (c .before .before .before .before .before .before .before .before .before .before .before .before .before .before .before .before .before .before .before .before .before .before .before .begin .ensures) _ (c .before .before .before .before .before .before .before .before .before .before .before .before .before .before .before .before .before .before .before .enum-told .given .1) _ _ _ _ _ _ (c .before .before .before .before .before .before .before .before .before .before .before .before .before .before .before .before .before .before .table-place .ensures) (c .before .before .before .before .before .before .before .before .before .before .before .before .before .before .before .before .before .word-at .ensures) (c .before .before .before .before .before .before .before .before .before .before .before .before .before .before .before .before .start-of .ensures .0) (c .before .before .before .before .before .before .before .before .before .before .before .before .before .before .before .parameters-of .ensures .0) refl (c .before .before .before .before .before .before .before .before .before .before .before .before .before .before .body-of .ensures .0) _ _ _ (c .before .before .before .before .before .before .before .before .before .before .before .procedure .ensures) _ _ (c .before .before .resume .ensures) (c .before .before .before .before .before .v .given .1)
 
--- src/lib.rt:203:1
+-- src/lib.rt:205:1
 invoke-same-length-4 : (t : ℕ) → invoke-lts.Need-same-length-4 (
   arguments-held-reads.Asked,
   arguments-held-reads.Learnt,
@@ -2178,6 +3030,8 @@ invoke-same-length-4 : (t : ℕ) → invoke-lts.Need-same-length-4 (
   declared-count-reads.Learnt,
   running-reads.Asked,
   running-reads.Learnt,
+  loop-unit-reads.Asked,
+  loop-unit-reads.Learnt,
   begin-reads.Asked,
   begin-reads.Learnt,
   table-place-reads.Asked,
@@ -2197,7 +3051,7 @@ invoke-same-length-4 : (t : ℕ) → invoke-lts.Need-same-length-4 (
 ) (invoke-at t) invoke.Post
 invoke-same-length-4 t c = search needs
 
--- src/lib.rt:203:1
+-- src/lib.rt:205:1
 invoke-same-length-5 : (t : ℕ) → invoke-lts.Need-same-length-5 (
   arguments-held-reads.Asked,
   arguments-held-reads.Learnt,
@@ -2205,6 +3059,8 @@ invoke-same-length-5 : (t : ℕ) → invoke-lts.Need-same-length-5 (
   declared-count-reads.Learnt,
   running-reads.Asked,
   running-reads.Learnt,
+  loop-unit-reads.Asked,
+  loop-unit-reads.Learnt,
   begin-reads.Asked,
   begin-reads.Learnt,
   table-place-reads.Asked,
@@ -2224,7 +3080,7 @@ invoke-same-length-5 : (t : ℕ) → invoke-lts.Need-same-length-5 (
 ) (invoke-at t) invoke.Post
 invoke-same-length-5 t c = search needs
 
--- src/lib.rt:203:1
+-- src/lib.rt:205:1
 invoke-returns-3 : (t : ℕ) → invoke-lts.Need-returns-3 (
   arguments-held-reads.Asked,
   arguments-held-reads.Learnt,
@@ -2232,6 +3088,8 @@ invoke-returns-3 : (t : ℕ) → invoke-lts.Need-returns-3 (
   declared-count-reads.Learnt,
   running-reads.Asked,
   running-reads.Learnt,
+  loop-unit-reads.Asked,
+  loop-unit-reads.Learnt,
   begin-reads.Asked,
   begin-reads.Learnt,
   table-place-reads.Asked,
@@ -2249,9 +3107,9 @@ invoke-returns-3 : (t : ℕ) → invoke-lts.Need-returns-3 (
   resume-reads.Asked,
   resume-reads.Learnt,
 ) (invoke-at t) invoke.Post
-invoke-returns-3 t c = body-stops _ _ _ _ _ _ _ _ _ _ _ _ (c .before .before .before .before .before .before .before .before .before .before .before .before .before .before .before .before .before .before .before .before .before .before .before .before .before .arguments-held .ensures) (c .before .before .before .before .before .before .before .before .before .before .before .before .before .before .before .before .before .before .before .before .before .before .before .declared-count .ensures) (c .before .before .before .before .before .before .before .before .before .before .before .before .before .before .before .before .before .before .before .before .before .running .ensures) _ _ (c .before .before .before .before .before .before .before .before .before .before .before .before .before .before .before .before .before .before .before .begin .ensures) _ (c .before .before .before .before .before .before .before .before .before .before .before .before .before .before .before .enum-told .given .1) _ _ _ _ _ _ (c .before .before .before .before .before .before .before .before .before .before .before .before .before .before .table-place .ensures) (c .before .before .before .before .before .before .before .before .before .before .before .before .before .word-at .ensures) (c .before .before .before .before .before .before .before .before .before .before .before .before .start-of .ensures .0) (c .before .before .before .before .before .before .before .before .before .before .before .parameters-of .ensures .0) refl (c .before .before .before .before .before .before .before .before .before .before .body-of .ensures .0) _ _ _ (c .before .before .before .before .before .before .before .procedure .ensures) _ _ (c .before .k2 .given .1)
+invoke-returns-3 t c = body-stops _ _ _ _ _ _ _ _ _ _ _ _ _ (c .before .before .before .before .before .before .before .before .before .before .before .before .before .before .before .before .before .before .before .before .before .before .before .before .before .before .before .arguments-held .ensures) (c .before .before .before .before .before .before .before .before .before .before .before .before .before .before .before .before .before .before .before .before .before .before .before .before .before .declared-count .ensures) (c .before .before .before .before .before .before .before .before .before .before .before .before .before .before .before .before .before .before .before .before .before .before .before .running .ensures) (c .before .before .before .before .before .before .before .before .before .before .before .before .before .before .before .before .before .before .before .before .before .loop-unit .ensures) _ _ (c .before .before .before .before .before .before .before .before .before .before .before .before .before .before .before .before .before .before .before .begin .ensures) _ (c .before .before .before .before .before .before .before .before .before .before .before .before .before .before .before .enum-told .given .1) _ _ _ _ _ _ (c .before .before .before .before .before .before .before .before .before .before .before .before .before .before .table-place .ensures) (c .before .before .before .before .before .before .before .before .before .before .before .before .before .word-at .ensures) (c .before .before .before .before .before .before .before .before .before .before .before .before .start-of .ensures .0) (c .before .before .before .before .before .before .before .before .before .before .before .parameters-of .ensures .0) refl (c .before .before .before .before .before .before .before .before .before .before .body-of .ensures .0) _ _ _ (c .before .before .before .before .before .before .before .procedure .ensures) _ _ (c .before .k2 .given .1)
 
--- src/lib.rt:300:9
+-- src/lib.rt:303:9
 leave-returns : (t : ℕ) → leave-lts.Need-returns (
   place-of-reads.Asked,
   place-of-reads.Learnt,
@@ -2270,7 +3128,7 @@ leave-returns : (t : ℕ) → leave-lts.Need-returns (
 ) (leave-at t) leave.Post
 leave-returns t c = leave-too-deep _ _ _ _ _ _ _ _ (c .before .before .before .before .before .pre .1) (c .if1 .taken)
 
--- src/lib.rt:302:9
+-- src/lib.rt:305:9
 leave-place-of-requires : (t : ℕ) → leave-lts.Need-place-of-requires (
   place-of-reads.Asked,
   place-of-reads.Learnt,
@@ -2289,7 +3147,7 @@ leave-place-of-requires : (t : ℕ) → leave-lts.Need-place-of-requires (
 ) (leave-at t) leave.Post
 leave-place-of-requires t c κs = search needs
 
--- src/lib.rt:303:9
+-- src/lib.rt:306:9
 leave-count-requires : (t : ℕ) → leave-lts.Need-count-requires (
   place-of-reads.Asked,
   place-of-reads.Learnt,
@@ -2308,7 +3166,7 @@ leave-count-requires : (t : ℕ) → leave-lts.Need-count-requires (
 ) (leave-at t) leave.Post
 leave-count-requires t c κs = omega (arith, c .before .before .before .before .before .before .before .pre .1 .runs .lent .lent .room .words)
 
--- src/lib.rt:304:9
+-- src/lib.rt:307:9
 leave-same-length : (t : ℕ) → leave-lts.Need-same-length (
   place-of-reads.Asked,
   place-of-reads.Learnt,
@@ -2327,7 +3185,7 @@ leave-same-length : (t : ℕ) → leave-lts.Need-same-length (
 ) (leave-at t) leave.Post
 leave-same-length t c = search needs
 
--- src/lib.rt:304:9
+-- src/lib.rt:307:9
 leave-returns-2 : (t : ℕ) → leave-lts.Need-returns-2 (
   place-of-reads.Asked,
   place-of-reads.Learnt,
@@ -2346,7 +3204,7 @@ leave-returns-2 : (t : ℕ) → leave-lts.Need-returns-2 (
 ) (leave-at t) leave.Post
 leave-returns-2 t c = leave-no-step _ _ _ _ _ _ _ _ (c .before .before .before .before .before .before .before .before .before .before .before .pre .1) (c .before .before .before .before .before .before .if1 .left) _ (c .before .before .before .before .before .place-of .ensures) _ _ (c .before .before .before .count .ensures) (c .if2 .taken)
 
--- src/lib.rt:306:9
+-- src/lib.rt:309:9
 leave-last-of-requires : (t : ℕ) → leave-lts.Need-last-of-requires (
   place-of-reads.Asked,
   place-of-reads.Learnt,
@@ -2365,7 +3223,7 @@ leave-last-of-requires : (t : ℕ) → leave-lts.Need-last-of-requires (
 ) (leave-at t) leave.Post
 leave-last-of-requires t c κs = omega (arith, c .before .before .before .before .before .before .before .before .before .before .before .pre .1 .runs .room)
 
--- src/lib.rt:307:55
+-- src/lib.rt:310:55
 leave-sub-fast-value : (t : ℕ) → leave-lts.Need-sub-fast-value (
   place-of-reads.Asked,
   place-of-reads.Learnt,
@@ -2384,7 +3242,7 @@ leave-sub-fast-value : (t : ℕ) → leave-lts.Need-sub-fast-value (
 ) (leave-at t) leave.Post
 leave-sub-fast-value t c = search needs
 
--- src/lib.rt:307:9
+-- src/lib.rt:310:9
 leave-fast-value-requires : (t : ℕ) → leave-lts.Need-fast-value-requires (
   place-of-reads.Asked,
   place-of-reads.Learnt,
@@ -2403,7 +3261,7 @@ leave-fast-value-requires : (t : ℕ) → leave-lts.Need-fast-value-requires (
 ) (leave-at t) leave.Post
 leave-fast-value-requires t c κs = let a0 = c .before .before .before .before .words in omega (arith, c .before .before .before .before .before .before .before .before .before .before .before .before .before .pre .1 .runs .lent .lent .room .words)
 
--- src/lib.rt:309:29
+-- src/lib.rt:312:29
 leave-unpack-requires : (t : ℕ) → leave-lts.Need-unpack-requires (
   place-of-reads.Asked,
   place-of-reads.Learnt,
@@ -2422,7 +3280,7 @@ leave-unpack-requires : (t : ℕ) → leave-lts.Need-unpack-requires (
 ) (leave-at t) leave.Post
 leave-unpack-requires t c κs = search needs
 
--- src/lib.rt:309:9
+-- src/lib.rt:312:9
 leave-same-length-2 : (t : ℕ) → leave-lts.Need-same-length-2 (
   place-of-reads.Asked,
   place-of-reads.Learnt,
@@ -2441,7 +3299,7 @@ leave-same-length-2 : (t : ℕ) → leave-lts.Need-same-length-2 (
 ) (leave-at t) leave.Post
 leave-same-length-2 t c = search needs
 
--- src/lib.rt:309:9
+-- src/lib.rt:312:9
 leave-returns-3 : (t : ℕ) → leave-lts.Need-returns-3 (
   place-of-reads.Asked,
   place-of-reads.Learnt,
@@ -2460,7 +3318,7 @@ leave-returns-3 : (t : ℕ) → leave-lts.Need-returns-3 (
 ) (leave-at t) leave.Post
 leave-returns-3 t c = leave-fast _ _ _ _ _ _ _ _ (c .before .before .before .before .before .before .before .before .before .before .before .before .before .before .before .before .before .before .pre .1) (c .before .before .before .before .before .before .before .before .before .before .before .before .before .if1 .left) _ (c .before .before .before .before .before .before .before .before .before .before .before .before .place-of .ensures) _ _ (c .before .before .before .before .before .before .before .before .before .before .count .ensures) (c .before .before .before .before .before .before .before .if2 .left) _ _ (c .before .before .before .before .before .before .last-of .ensures .0) _ (c .before .before .before .before .fast-value .ensures) _ (let a0 = c .before .before .before .before .before .before .before .before .before .words in omega arith) (c .before .if3 .taken) (c .unpack .ensures)
 
--- src/lib.rt:311:59
+-- src/lib.rt:314:59
 leave-sub-expression : (t : ℕ) → leave-lts.Need-sub-expression (
   place-of-reads.Asked,
   place-of-reads.Learnt,
@@ -2479,7 +3337,7 @@ leave-sub-expression : (t : ℕ) → leave-lts.Need-sub-expression (
 ) (leave-at t) leave.Post
 leave-sub-expression t c = search needs
 
--- src/lib.rt:311:11
+-- src/lib.rt:314:11
 leave-expression-requires : (t : ℕ) → leave-lts.Need-expression-requires (
   place-of-reads.Asked,
   place-of-reads.Learnt,
@@ -2498,7 +3356,7 @@ leave-expression-requires : (t : ℕ) → leave-lts.Need-expression-requires (
 ) (leave-at t) leave.Post
 leave-expression-requires t c κs = (omega arith, slow-lent _ _ _ _ _ _ _ _ (c .before .before .before .before .before .fast-value .ensures) (c .before .before .if3 .left) (still-lent _ _ _ _ _ refl (let a0 = c .before .before .before .before .before .before .before .before .before .before .words in omega arith) _ (deeper-lent _ _ _ _ (c .before .before .before .before .before .before .before .before .before .before .before .before .before .before .before .before .before .before .before .pre .1 .runs .lent))))
 
--- src/lib.rt:312:22
+-- src/lib.rt:315:22
 leave-enum-known-v : (t : ℕ) → leave-lts.Need-enum-known-v (
   place-of-reads.Asked,
   place-of-reads.Learnt,
@@ -2517,7 +3375,7 @@ leave-enum-known-v : (t : ℕ) → leave-lts.Need-enum-known-v (
 ) (leave-at t) leave.Post
 leave-enum-known-v t c = search needs
 
--- src/lib.rt:312:56
+-- src/lib.rt:315:56
 leave-pack-requires : (t : ℕ) → leave-lts.Need-pack-requires (
   place-of-reads.Asked,
   place-of-reads.Learnt,
@@ -2536,7 +3394,7 @@ leave-pack-requires : (t : ℕ) → leave-lts.Need-pack-requires (
 ) (leave-at t) leave.Post
 leave-pack-requires t c κs = search needs
 
--- src/lib.rt:312:41
+-- src/lib.rt:315:41
 leave-unpack-requires-2 : (t : ℕ) → leave-lts.Need-unpack-requires-2 (
   place-of-reads.Asked,
   place-of-reads.Learnt,
@@ -2555,7 +3413,7 @@ leave-unpack-requires-2 : (t : ℕ) → leave-lts.Need-unpack-requires-2 (
 ) (leave-at t) leave.Post
 leave-unpack-requires-2 t c κs = search needs
 
--- src/lib.rt:313:21
+-- src/lib.rt:316:21
 leave-enum-known-n : (t : ℕ) → leave-lts.Need-enum-known-n (
   place-of-reads.Asked,
   place-of-reads.Learnt,
@@ -2574,7 +3432,7 @@ leave-enum-known-n : (t : ℕ) → leave-lts.Need-enum-known-n (
 ) (leave-at t) leave.Post
 leave-enum-known-n t c = search needs
 
--- src/lib.rt:286:1
+-- src/lib.rt:289:1
 leave-same-length-3 : (t : ℕ) → leave-lts.Need-same-length-3 (
   place-of-reads.Asked,
   place-of-reads.Learnt,
@@ -2593,7 +3451,7 @@ leave-same-length-3 : (t : ℕ) → leave-lts.Need-same-length-3 (
 ) (leave-at t) leave.Post
 leave-same-length-3 t c = search needs
 
--- src/lib.rt:286:1
+-- src/lib.rt:289:1
 leave-same-length-4 : (t : ℕ) → leave-lts.Need-same-length-4 (
   place-of-reads.Asked,
   place-of-reads.Learnt,
@@ -2612,7 +3470,7 @@ leave-same-length-4 : (t : ℕ) → leave-lts.Need-same-length-4 (
 ) (leave-at t) leave.Post
 leave-same-length-4 t c = search needs
 
--- src/lib.rt:286:1
+-- src/lib.rt:289:1
 leave-returns-4 : (t : ℕ) → leave-lts.Need-returns-4 (
   place-of-reads.Asked,
   place-of-reads.Learnt,
@@ -2631,7 +3489,7 @@ leave-returns-4 : (t : ℕ) → leave-lts.Need-returns-4 (
 ) (leave-at t) leave.Post
 leave-returns-4 t c = leave-done _ _ _ _ _ _ _ _ (c .before .before .before .before .before .before .before .before .before .before .before .before .before .before .before .before .before .before .before .before .before .before .before .before .before .before .before .before .before .pre .1) (c .before .before .before .before .before .before .before .before .before .before .before .before .before .before .before .before .before .before .before .before .before .before .before .before .if1 .left) _ (c .before .before .before .before .before .before .before .before .before .before .before .before .before .before .before .before .before .before .before .before .before .before .before .place-of .ensures) _ _ (c .before .before .before .before .before .before .before .before .before .before .before .before .before .before .before .before .before .before .before .before .before .count .ensures) (c .before .before .before .before .before .before .before .before .before .before .before .before .before .before .before .before .before .before .if2 .left) _ _ (c .before .before .before .before .before .before .before .before .before .before .before .before .before .before .before .before .before .last-of .ensures .0) _ (c .before .before .before .before .before .before .before .before .before .before .before .before .before .before .before .fast-value .ensures) (c .before .before .before .before .before .before .before .before .before .before .before .before .if3 .left) _ _ _ (c .before .before .before .before .before .before .before .before .before .expression .ensures) _ _ _ (c .before .before .before .v .given .1) (c .before .pack .ensures) (c .unpack2 .ensures)
 
--- src/lib.rt:286:1
+-- src/lib.rt:289:1
 leave-same-length-5 : (t : ℕ) → leave-lts.Need-same-length-5 (
   place-of-reads.Asked,
   place-of-reads.Learnt,
@@ -2650,7 +3508,7 @@ leave-same-length-5 : (t : ℕ) → leave-lts.Need-same-length-5 (
 ) (leave-at t) leave.Post
 leave-same-length-5 t c = search needs
 
--- src/lib.rt:286:1
+-- src/lib.rt:289:1
 leave-same-length-6 : (t : ℕ) → leave-lts.Need-same-length-6 (
   place-of-reads.Asked,
   place-of-reads.Learnt,
@@ -2669,7 +3527,7 @@ leave-same-length-6 : (t : ℕ) → leave-lts.Need-same-length-6 (
 ) (leave-at t) leave.Post
 leave-same-length-6 t c = search needs
 
--- src/lib.rt:286:1
+-- src/lib.rt:289:1
 leave-returns-5 : (t : ℕ) → leave-lts.Need-returns-5 (
   place-of-reads.Asked,
   place-of-reads.Learnt,
@@ -2688,7 +3546,279 @@ leave-returns-5 : (t : ℕ) → leave-lts.Need-returns-5 (
 ) (leave-at t) leave.Post
 leave-returns-5 t c = leave-stops _ _ _ _ _ _ _ _ (c .before .before .before .before .before .before .before .before .before .before .before .before .before .before .before .before .before .before .before .before .before .before .before .before .before .before .before .pre .1) (c .before .before .before .before .before .before .before .before .before .before .before .before .before .before .before .before .before .before .before .before .before .before .if1 .left) _ (c .before .before .before .before .before .before .before .before .before .before .before .before .before .before .before .before .before .before .before .before .before .place-of .ensures) _ _ (c .before .before .before .before .before .before .before .before .before .before .before .before .before .before .before .before .before .before .before .count .ensures) (c .before .before .before .before .before .before .before .before .before .before .before .before .before .before .before .before .if2 .left) _ _ (c .before .before .before .before .before .before .before .before .before .before .before .before .before .before .before .last-of .ensures .0) _ (c .before .before .before .before .before .before .before .before .before .before .before .before .before .fast-value .ensures) (c .before .before .before .before .before .before .before .before .before .before .if3 .left) _ _ _ (c .before .before .before .before .before .before .before .expression .ensures) _ _ (c .before .n .given .1)
 
--- src/lib.rt:85:9
+-- src/lib.rt:713:9
+member-component-at-requires : (t : ℕ) → member-lts.Need-component-at-requires (
+  component-at-reads.Asked,
+  component-at-reads.Learnt,
+  is-destroyed-reads.Asked,
+  is-destroyed-reads.Learnt,
+  count-reads.Asked,
+  count-reads.Learnt,
+  is-group-reads.Asked,
+  is-group-reads.Learnt,
+  bound-below t,
+  bound.Post,
+  inside-below t,
+  inside.Post,
+) (member-at t) member.Post
+member-component-at-requires t c κs = c .before .before .before .before .before .pre .1 .lent .lent .room
+
+-- src/lib.rt:714:8
+member-is-destroyed-requires : (t : ℕ) → member-lts.Need-is-destroyed-requires (
+  component-at-reads.Asked,
+  component-at-reads.Learnt,
+  is-destroyed-reads.Asked,
+  is-destroyed-reads.Learnt,
+  count-reads.Asked,
+  count-reads.Learnt,
+  is-group-reads.Asked,
+  is-group-reads.Learnt,
+  bound-below t,
+  bound.Post,
+  inside-below t,
+  inside.Post,
+) (member-at t) member.Post
+member-is-destroyed-requires t c κs = search needs
+
+-- src/lib.rt:715:9
+member-same-length : (t : ℕ) → member-lts.Need-same-length (
+  component-at-reads.Asked,
+  component-at-reads.Learnt,
+  is-destroyed-reads.Asked,
+  is-destroyed-reads.Learnt,
+  count-reads.Asked,
+  count-reads.Learnt,
+  is-group-reads.Asked,
+  is-group-reads.Learnt,
+  bound-below t,
+  bound.Post,
+  inside-below t,
+  inside.Post,
+) (member-at t) member.Post
+member-same-length t c = search needs
+
+-- src/lib.rt:715:9
+member-returns : (t : ℕ) → member-lts.Need-returns (
+  component-at-reads.Asked,
+  component-at-reads.Learnt,
+  is-destroyed-reads.Asked,
+  is-destroyed-reads.Learnt,
+  count-reads.Asked,
+  count-reads.Learnt,
+  is-group-reads.Asked,
+  is-group-reads.Learnt,
+  bound-below t,
+  bound.Post,
+  inside-below t,
+  inside.Post,
+) (member-at t) member.Post
+member-returns t c = member-passed _ _ _ _ _ _ _ _ (c .before .before .before .component-at .ensures) _ (c .before .is-destroyed .ensures) (c .if1 .taken)
+
+-- src/lib.rt:717:9
+member-count-requires : (t : ℕ) → member-lts.Need-count-requires (
+  component-at-reads.Asked,
+  component-at-reads.Learnt,
+  is-destroyed-reads.Asked,
+  is-destroyed-reads.Learnt,
+  count-reads.Asked,
+  count-reads.Learnt,
+  is-group-reads.Asked,
+  is-group-reads.Learnt,
+  bound-below t,
+  bound.Post,
+  inside-below t,
+  inside.Post,
+) (member-at t) member.Post
+member-count-requires t c κs = omega (arith, c .before .before .before .before .before .before .before .before .before .before .pre .1 .lent .lent .room .words)
+
+-- src/lib.rt:718:9
+member-same-length-2 : (t : ℕ) → member-lts.Need-same-length-2 (
+  component-at-reads.Asked,
+  component-at-reads.Learnt,
+  is-destroyed-reads.Asked,
+  is-destroyed-reads.Learnt,
+  count-reads.Asked,
+  count-reads.Learnt,
+  is-group-reads.Asked,
+  is-group-reads.Learnt,
+  bound-below t,
+  bound.Post,
+  inside-below t,
+  inside.Post,
+) (member-at t) member.Post
+member-same-length-2 t c = search needs
+
+-- src/lib.rt:718:9
+member-returns-2 : (t : ℕ) → member-lts.Need-returns-2 (
+  component-at-reads.Asked,
+  component-at-reads.Learnt,
+  is-destroyed-reads.Asked,
+  is-destroyed-reads.Learnt,
+  count-reads.Asked,
+  count-reads.Learnt,
+  is-group-reads.Asked,
+  is-group-reads.Learnt,
+  bound-below t,
+  bound.Post,
+  inside-below t,
+  inside.Post,
+) (member-at t) member.Post
+member-returns-2 t c = member-no-step _ _ _ _ _ _ _ _ (c .before .before .before .before .before .before .before .before .component-at .ensures) _ (c .before .before .before .before .before .before .is-destroyed .ensures) (c .before .before .before .before .before .if1 .left) _ _ (c .before .before .before .count .ensures) (c .if2 .taken)
+
+-- src/lib.rt:720:9
+member-is-group-requires : (t : ℕ) → member-lts.Need-is-group-requires (
+  component-at-reads.Asked,
+  component-at-reads.Learnt,
+  is-destroyed-reads.Asked,
+  is-destroyed-reads.Learnt,
+  count-reads.Asked,
+  count-reads.Learnt,
+  is-group-reads.Asked,
+  is-group-reads.Learnt,
+  bound-below t,
+  bound.Post,
+  inside-below t,
+  inside.Post,
+) (member-at t) member.Post
+member-is-group-requires t c κs = search needs
+
+-- src/lib.rt:721:13
+member-bound-requires : (t : ℕ) → member-lts.Need-bound-requires (
+  component-at-reads.Asked,
+  component-at-reads.Learnt,
+  is-destroyed-reads.Asked,
+  is-destroyed-reads.Learnt,
+  count-reads.Asked,
+  count-reads.Learnt,
+  is-group-reads.Asked,
+  is-group-reads.Learnt,
+  bound-below t,
+  bound.Post,
+  inside-below t,
+  inside.Post,
+) (member-at t) member.Post
+member-bound-requires t c κs = (omega arith, still-runs _ _ _ _ _ refl (let a0 = c .before .before .before .before .before .before .before .words in omega arith) _ _ (c .before .before .before .before .before .before .before .before .before .before .before .before .before .before .before .before .before .before .before .pre .1))
+
+-- src/lib.rt:722:9
+member-same-length-3 : (t : ℕ) → member-lts.Need-same-length-3 (
+  component-at-reads.Asked,
+  component-at-reads.Learnt,
+  is-destroyed-reads.Asked,
+  is-destroyed-reads.Learnt,
+  count-reads.Asked,
+  count-reads.Learnt,
+  is-group-reads.Asked,
+  is-group-reads.Learnt,
+  bound-below t,
+  bound.Post,
+  inside-below t,
+  inside.Post,
+) (member-at t) member.Post
+member-same-length-3 t c = search needs
+
+-- src/lib.rt:722:9
+member-same-length-4 : (t : ℕ) → member-lts.Need-same-length-4 (
+  component-at-reads.Asked,
+  component-at-reads.Learnt,
+  is-destroyed-reads.Asked,
+  is-destroyed-reads.Learnt,
+  count-reads.Asked,
+  count-reads.Learnt,
+  is-group-reads.Asked,
+  is-group-reads.Learnt,
+  bound-below t,
+  bound.Post,
+  inside-below t,
+  inside.Post,
+) (member-at t) member.Post
+member-same-length-4 t c = search needs
+
+-- src/lib.rt:722:9
+member-returns-3 : (t : ℕ) → member-lts.Need-returns-3 (
+  component-at-reads.Asked,
+  component-at-reads.Learnt,
+  is-destroyed-reads.Asked,
+  is-destroyed-reads.Learnt,
+  count-reads.Asked,
+  count-reads.Learnt,
+  is-group-reads.Asked,
+  is-group-reads.Learnt,
+  bound-below t,
+  bound.Post,
+  inside-below t,
+  inside.Post,
+) (member-at t) member.Post
+member-returns-3 t c = member-figure _ _ _ _ _ _ _ _ (c .before .before .before .before .before .before .before .before .before .before .before .before .before .before .before .before .before .before .component-at .ensures) _ (c .before .before .before .before .before .before .before .before .before .before .before .before .before .before .before .before .is-destroyed .ensures) (c .before .before .before .before .before .before .before .before .before .before .before .before .before .before .before .if1 .left) _ _ (c .before .before .before .before .before .before .before .before .before .before .before .before .before .count .ensures) (c .before .before .before .before .before .before .before .before .before .before .if2 .left) _ (c .before .before .before .before .before .before .before .before .is-group .ensures) _ (c .before .before .before .before .before .before .before .if3 .taken) (c .before .before .before .before .bound .ensures)
+
+-- src/lib.rt:724:9
+member-inside-requires : (t : ℕ) → member-lts.Need-inside-requires (
+  component-at-reads.Asked,
+  component-at-reads.Learnt,
+  is-destroyed-reads.Asked,
+  is-destroyed-reads.Learnt,
+  count-reads.Asked,
+  count-reads.Learnt,
+  is-group-reads.Asked,
+  is-group-reads.Learnt,
+  bound-below t,
+  bound.Post,
+  inside-below t,
+  inside.Post,
+) (member-at t) member.Post
+member-inside-requires t c κs = (omega arith, still-runs _ _ _ _ _ refl (let a0 = c .before .before .before .before .before .before .before .words in omega arith) _ _ (c .before .before .before .before .before .before .before .before .before .before .before .before .before .before .before .before .before .before .before .pre .1))
+
+-- src/lib.rt:698:1
+member-same-length-5 : (t : ℕ) → member-lts.Need-same-length-5 (
+  component-at-reads.Asked,
+  component-at-reads.Learnt,
+  is-destroyed-reads.Asked,
+  is-destroyed-reads.Learnt,
+  count-reads.Asked,
+  count-reads.Learnt,
+  is-group-reads.Asked,
+  is-group-reads.Learnt,
+  bound-below t,
+  bound.Post,
+  inside-below t,
+  inside.Post,
+) (member-at t) member.Post
+member-same-length-5 t c = search needs
+
+-- src/lib.rt:698:1
+member-same-length-6 : (t : ℕ) → member-lts.Need-same-length-6 (
+  component-at-reads.Asked,
+  component-at-reads.Learnt,
+  is-destroyed-reads.Asked,
+  is-destroyed-reads.Learnt,
+  count-reads.Asked,
+  count-reads.Learnt,
+  is-group-reads.Asked,
+  is-group-reads.Learnt,
+  bound-below t,
+  bound.Post,
+  inside-below t,
+  inside.Post,
+) (member-at t) member.Post
+member-same-length-6 t c = search needs
+
+-- src/lib.rt:698:1
+member-returns-4 : (t : ℕ) → member-lts.Need-returns-4 (
+  component-at-reads.Asked,
+  component-at-reads.Learnt,
+  is-destroyed-reads.Asked,
+  is-destroyed-reads.Learnt,
+  count-reads.Asked,
+  count-reads.Learnt,
+  is-group-reads.Asked,
+  is-group-reads.Learnt,
+  bound-below t,
+  bound.Post,
+  inside-below t,
+  inside.Post,
+) (member-at t) member.Post
+member-returns-4 t c = member-group _ _ _ _ _ _ _ _ (c .before .before .before .before .before .before .before .before .before .before .before .before .before .before .before .before .before .before .component-at .ensures) _ (c .before .before .before .before .before .before .before .before .before .before .before .before .before .before .before .before .is-destroyed .ensures) (c .before .before .before .before .before .before .before .before .before .before .before .before .before .before .before .if1 .left) _ _ (c .before .before .before .before .before .before .before .before .before .before .before .before .before .count .ensures) (c .before .before .before .before .before .before .before .before .before .before .if2 .left) _ (c .before .before .before .before .before .before .before .before .is-group .ensures) _ (c .before .before .before .before .before .before .before .if3 .left) (c .before .before .before .before .inside .ensures)
+
+-- src/lib.rt:87:9
 operands-left-of-requires : (t : ℕ) → operands-lts.Need-left-of-requires (
   left-of-reads.Asked,
   left-of-reads.Learnt,
@@ -2709,7 +3839,7 @@ operands-left-of-requires : (t : ℕ) → operands-lts.Need-left-of-requires (
 ) (operands-at t) operands.Post
 operands-left-of-requires t c κs = search needs
 
--- src/lib.rt:78:11
+-- src/lib.rt:80:11
 operands-expression-requires : (t : ℕ) → operands-lts.Need-expression-requires (
   left-of-reads.Asked,
   left-of-reads.Learnt,
@@ -2730,7 +3860,7 @@ operands-expression-requires : (t : ℕ) → operands-lts.Need-expression-requir
 ) (operands-at t) operands.Post
 operands-expression-requires t c κs = (omega arith, c .before .before .before .before .before .before .before .pre .1)
 
--- src/lib.rt:88:22
+-- src/lib.rt:90:22
 operands-enum-known-u : (t : ℕ) → operands-lts.Need-enum-known-u (
   left-of-reads.Asked,
   left-of-reads.Learnt,
@@ -2751,7 +3881,7 @@ operands-enum-known-u : (t : ℕ) → operands-lts.Need-enum-known-u (
 ) (operands-at t) operands.Post
 operands-enum-known-u t c = search needs
 
--- src/lib.rt:89:17
+-- src/lib.rt:91:17
 operands-pack-requires : (t : ℕ) → operands-lts.Need-pack-requires (
   left-of-reads.Asked,
   left-of-reads.Learnt,
@@ -2772,7 +3902,7 @@ operands-pack-requires : (t : ℕ) → operands-lts.Need-pack-requires (
 ) (operands-at t) operands.Post
 operands-pack-requires t c κs = search needs
 
--- src/lib.rt:90:17
+-- src/lib.rt:92:17
 operands-tag-of-requires : (t : ℕ) → operands-lts.Need-tag-of-requires (
   left-of-reads.Asked,
   left-of-reads.Learnt,
@@ -2793,7 +3923,7 @@ operands-tag-of-requires : (t : ℕ) → operands-lts.Need-tag-of-requires (
 ) (operands-at t) operands.Post
 operands-tag-of-requires t c κs = search needs
 
--- src/lib.rt:92:21
+-- src/lib.rt:94:21
 operands-new-table-requires : (t : ℕ) → operands-lts.Need-new-table-requires (
   left-of-reads.Asked,
   left-of-reads.Learnt,
@@ -2814,7 +3944,7 @@ operands-new-table-requires : (t : ℕ) → operands-lts.Need-new-table-requires
 ) (operands-at t) operands.Post
 operands-new-table-requires t c κs = search needs
 
--- src/lib.rt:93:17
+-- src/lib.rt:95:17
 operands-same-length : (t : ℕ) → operands-lts.Need-same-length (
   left-of-reads.Asked,
   left-of-reads.Learnt,
@@ -2835,7 +3965,7 @@ operands-same-length : (t : ℕ) → operands-lts.Need-same-length (
 ) (operands-at t) operands.Post
 operands-same-length t c = search needs
 
--- src/lib.rt:93:17
+-- src/lib.rt:95:17
 operands-same-length-2 : (t : ℕ) → operands-lts.Need-same-length-2 (
   left-of-reads.Asked,
   left-of-reads.Learnt,
@@ -2856,7 +3986,7 @@ operands-same-length-2 : (t : ℕ) → operands-lts.Need-same-length-2 (
 ) (operands-at t) operands.Post
 operands-same-length-2 t c = search needs
 
--- src/lib.rt:93:17
+-- src/lib.rt:95:17
 operands-returns : (t : ℕ) → operands-lts.Need-returns (
   left-of-reads.Asked,
   left-of-reads.Learnt,
@@ -2877,7 +4007,7 @@ operands-returns : (t : ℕ) → operands-lts.Need-returns (
 ) (operands-at t) operands.Post
 operands-returns t c = search table-made
 
--- src/lib.rt:95:16
+-- src/lib.rt:97:16
 operands-lacks-table-requires : (t : ℕ) → operands-lts.Need-lacks-table-requires (
   left-of-reads.Asked,
   left-of-reads.Learnt,
@@ -2898,7 +4028,7 @@ operands-lacks-table-requires : (t : ℕ) → operands-lts.Need-lacks-table-requ
 ) (operands-at t) operands.Post
 operands-lacks-table-requires t c κs = search needs
 
--- src/lib.rt:96:17
+-- src/lib.rt:98:17
 operands-same-length-3 : (t : ℕ) → operands-lts.Need-same-length-3 (
   left-of-reads.Asked,
   left-of-reads.Learnt,
@@ -2919,7 +4049,7 @@ operands-same-length-3 : (t : ℕ) → operands-lts.Need-same-length-3 (
 ) (operands-at t) operands.Post
 operands-same-length-3 t c = search needs
 
--- src/lib.rt:96:17
+-- src/lib.rt:98:17
 operands-same-length-4 : (t : ℕ) → operands-lts.Need-same-length-4 (
   left-of-reads.Asked,
   left-of-reads.Learnt,
@@ -2940,7 +4070,7 @@ operands-same-length-4 : (t : ℕ) → operands-lts.Need-same-length-4 (
 ) (operands-at t) operands.Post
 operands-same-length-4 t c = search needs
 
--- src/lib.rt:96:17
+-- src/lib.rt:98:17
 operands-returns-2 : (t : ℕ) → operands-lts.Need-returns-2 (
   left-of-reads.Asked,
   left-of-reads.Learnt,
@@ -2961,7 +4091,7 @@ operands-returns-2 : (t : ℕ) → operands-lts.Need-returns-2 (
 ) (operands-at t) operands.Post
 operands-returns-2 t c = no-table _ _ _ _ _ _ _ _ (c .before .before .before .before .before .before .before .before .before .before .before .before .before .left-of .ensures) _ _ _ (c .before .before .before .before .before .before .before .before .before .before .before .before .expression .ensures) _ (c .before .before .before .before .before .before .u .given .1) _ (c .before .before .before .before .pack .ensures) _ (c .before .before .before .tag-of .ensures) (c .before .before .if1 .left) _ (c .before .lacks-table .ensures) (c .if2 .taken)
 
--- src/lib.rt:105:17
+-- src/lib.rt:107:17
 operands-right-of-requires : (t : ℕ) → operands-lts.Need-right-of-requires (
   left-of-reads.Asked,
   left-of-reads.Learnt,
@@ -2982,7 +4112,7 @@ operands-right-of-requires : (t : ℕ) → operands-lts.Need-right-of-requires (
 ) (operands-at t) operands.Post
 operands-right-of-requires t c κs = search needs
 
--- src/lib.rt:98:19
+-- src/lib.rt:100:19
 operands-expression-requires-2 : (t : ℕ) → operands-lts.Need-expression-requires-2 (
   left-of-reads.Asked,
   left-of-reads.Learnt,
@@ -3003,7 +4133,7 @@ operands-expression-requires-2 : (t : ℕ) → operands-lts.Need-expression-requ
 ) (operands-at t) operands.Post
 operands-expression-requires-2 t c κs = (omega arith, still-lent _ _ _ _ _ (let a0 = c .before .before .before .before .before .before .before .before .before .before .before .before .before .before .texts in omega arith) (let a0 = c .before .before .before .before .before .before .before .before .before .before .before .before .words in omega arith) _ (c .before .before .before .before .before .before .before .before .before .before .before .before .before .before .before .before .before .before .before .before .before .before .before .pre .1))
 
--- src/lib.rt:108:30
+-- src/lib.rt:110:30
 operands-enum-known-v : (t : ℕ) → operands-lts.Need-enum-known-v (
   left-of-reads.Asked,
   left-of-reads.Learnt,
@@ -3024,7 +4154,7 @@ operands-enum-known-v : (t : ℕ) → operands-lts.Need-enum-known-v (
 ) (operands-at t) operands.Post
 operands-enum-known-v t c = search needs
 
--- src/lib.rt:117:25
+-- src/lib.rt:119:25
 operands-pack-requires-2 : (t : ℕ) → operands-lts.Need-pack-requires-2 (
   left-of-reads.Asked,
   left-of-reads.Learnt,
@@ -3045,7 +4175,7 @@ operands-pack-requires-2 : (t : ℕ) → operands-lts.Need-pack-requires-2 (
 ) (operands-at t) operands.Post
 operands-pack-requires-2 t c κs = search needs
 
--- src/lib.rt:109:25
+-- src/lib.rt:111:25
 operands-apply-requires : (t : ℕ) → operands-lts.Need-apply-requires (
   left-of-reads.Asked,
   left-of-reads.Learnt,
@@ -3066,7 +4196,7 @@ operands-apply-requires : (t : ℕ) → operands-lts.Need-apply-requires (
 ) (operands-at t) operands.Post
 operands-apply-requires t c κs = laws.still-lent _ _ _ _ _ (c .before .before .before .before .before .before .before .before .before .before .before .before .before .before .before .before .before .before .before .before .before .before .before .before .before .before .before .before .before .before .before .before .before .before .pre .1 .lent) (let a0 = c .before .before .before .before .before .before .before .before .before .before .before .before .before .before .before .before .before .before .before .before .before .before .before .before .before .texts in let a1 = c .before .before .before .before .before .before .before .before .before .texts2 in omega arith) (let a0 = c .before .before .before .before .before .before .before .before .before .before .before .before .before .before .before .before .before .before .before .before .before .before .before .words in let a1 = c .before .before .before .before .before .before .before .words3 in omega arith)
 
--- src/lib.rt:121:29
+-- src/lib.rt:123:29
 operands-enum-known-n : (t : ℕ) → operands-lts.Need-enum-known-n (
   left-of-reads.Asked,
   left-of-reads.Learnt,
@@ -3087,7 +4217,7 @@ operands-enum-known-n : (t : ℕ) → operands-lts.Need-enum-known-n (
 ) (operands-at t) operands.Post
 operands-enum-known-n t c = search needs
 
--- src/lib.rt:124:21
+-- src/lib.rt:126:21
 operands-enum-known-n-2 : (t : ℕ) → operands-lts.Need-enum-known-n-2 (
   left-of-reads.Asked,
   left-of-reads.Learnt,
@@ -3108,7 +4238,7 @@ operands-enum-known-n-2 : (t : ℕ) → operands-lts.Need-enum-known-n-2 (
 ) (operands-at t) operands.Post
 operands-enum-known-n-2 t c = search needs
 
--- src/lib.rt:63:1
+-- src/lib.rt:65:1
 operands-same-length-5 : (t : ℕ) → operands-lts.Need-same-length-5 (
   left-of-reads.Asked,
   left-of-reads.Learnt,
@@ -3129,7 +4259,7 @@ operands-same-length-5 : (t : ℕ) → operands-lts.Need-same-length-5 (
 ) (operands-at t) operands.Post
 operands-same-length-5 t c = let a = c .before .before .before .before .before .before .before .before .before .before .before .before .before .before .before .before .before .before .before .before .before .before .before .before .before .before .before .before .before .before .before .before .before .before .before .before .slice-known in let b = c .before .before .before .before .before .before .before .before .before .before .before .before .before .before .before .before .before .before .before .before .before .before .before .before .before .before .before .before .before .before .texts in let d = c .before .before .before .before .before .before .before .before .before .before .before .before .before .before .texts2 in let e = c .before .before .before .texts3 in search needs
 
--- src/lib.rt:63:1
+-- src/lib.rt:65:1
 operands-same-length-6 : (t : ℕ) → operands-lts.Need-same-length-6 (
   left-of-reads.Asked,
   left-of-reads.Learnt,
@@ -3150,7 +4280,7 @@ operands-same-length-6 : (t : ℕ) → operands-lts.Need-same-length-6 (
 ) (operands-at t) operands.Post
 operands-same-length-6 t c = search needs
 
--- src/lib.rt:63:1
+-- src/lib.rt:65:1
 operands-returns-3 : (t : ℕ) → operands-lts.Need-returns-3 (
   left-of-reads.Asked,
   left-of-reads.Learnt,
@@ -3171,7 +4301,7 @@ operands-returns-3 : (t : ℕ) → operands-lts.Need-returns-3 (
 ) (operands-at t) operands.Post
 operands-returns-3 t c = operands-applied _ _ _ _ _ _ _ _ (c .before .before .before .before .before .before .before .before .before .before .before .before .before .before .before .before .before .before .before .before .before .before .before .before .before .before .before .before .before .before .before .before .left-of .ensures) _ _ _ (c .before .before .before .before .before .before .before .before .before .before .before .before .before .before .before .before .before .before .before .before .before .before .before .before .before .before .before .before .before .before .before .expression .ensures) _ (c .before .before .before .before .before .before .before .before .before .before .before .before .before .before .before .before .before .before .before .before .before .before .before .before .before .u .given .1) _ (c .before .before .before .before .before .before .before .before .before .before .before .before .before .before .before .before .before .before .before .before .before .before .before .pack .ensures) _ (c .before .before .before .before .before .before .before .before .before .before .before .before .before .before .before .before .before .before .before .before .before .before .tag-of .ensures) (c .before .before .before .before .before .before .before .before .before .before .before .before .before .before .before .before .before .before .before .before .before .if1 .left) _ (c .before .before .before .before .before .before .before .before .before .before .before .before .before .before .before .before .before .before .before .before .lacks-table .ensures) (c .before .before .before .before .before .before .before .before .before .before .before .before .before .before .before .before .before .before .before .if2 .left) _ (c .before .before .before .before .before .before .before .before .before .before .before .before .before .before .before .before .right-of .ensures) _ _ _ (c .before .before .before .before .before .before .before .before .before .before .before .before .before .before .before .expression2 .ensures) _ _ _ (c .before .before .before .before .before .before .before .before .before .v .given .1) (c .before .before .before .before .before .pack2 .ensures) (c .before .before .before .before .apply .ensures)
 
--- src/lib.rt:63:1
+-- src/lib.rt:65:1
 operands-same-length-7 : (t : ℕ) → operands-lts.Need-same-length-7 (
   left-of-reads.Asked,
   left-of-reads.Learnt,
@@ -3192,7 +4322,7 @@ operands-same-length-7 : (t : ℕ) → operands-lts.Need-same-length-7 (
 ) (operands-at t) operands.Post
 operands-same-length-7 t c = search needs
 
--- src/lib.rt:63:1
+-- src/lib.rt:65:1
 operands-same-length-8 : (t : ℕ) → operands-lts.Need-same-length-8 (
   left-of-reads.Asked,
   left-of-reads.Learnt,
@@ -3213,7 +4343,7 @@ operands-same-length-8 : (t : ℕ) → operands-lts.Need-same-length-8 (
 ) (operands-at t) operands.Post
 operands-same-length-8 t c = search needs
 
--- src/lib.rt:63:1
+-- src/lib.rt:65:1
 operands-returns-4 : (t : ℕ) → operands-lts.Need-returns-4 (
   left-of-reads.Asked,
   left-of-reads.Learnt,
@@ -3234,7 +4364,7 @@ operands-returns-4 : (t : ℕ) → operands-lts.Need-returns-4 (
 ) (operands-at t) operands.Post
 operands-returns-4 t c = second-stops _ _ _ _ _ _ _ _ (c .before .before .before .before .before .before .before .before .before .before .before .before .before .before .before .before .before .before .before .before .before .before .before .before .left-of .ensures) _ _ _ (c .before .before .before .before .before .before .before .before .before .before .before .before .before .before .before .before .before .before .before .before .before .before .before .expression .ensures) _ (c .before .before .before .before .before .before .before .before .before .before .before .before .before .before .before .before .before .u .given .1) _ (c .before .before .before .before .before .before .before .before .before .before .before .before .before .before .before .pack .ensures) _ (c .before .before .before .before .before .before .before .before .before .before .before .before .before .before .tag-of .ensures) (c .before .before .before .before .before .before .before .before .before .before .before .before .before .if1 .left) _ (c .before .before .before .before .before .before .before .before .before .before .before .before .lacks-table .ensures) (c .before .before .before .before .before .before .before .before .before .before .before .if2 .left) _ (c .before .before .before .before .before .before .before .before .right-of .ensures) _ _ _ (c .before .before .before .before .before .before .before .expression2 .ensures) _ _ (c .before .n .given .1)
 
--- src/lib.rt:63:1
+-- src/lib.rt:65:1
 operands-same-length-9 : (t : ℕ) → operands-lts.Need-same-length-9 (
   left-of-reads.Asked,
   left-of-reads.Learnt,
@@ -3255,7 +4385,7 @@ operands-same-length-9 : (t : ℕ) → operands-lts.Need-same-length-9 (
 ) (operands-at t) operands.Post
 operands-same-length-9 t c = search needs
 
--- src/lib.rt:63:1
+-- src/lib.rt:65:1
 operands-same-length-10 : (t : ℕ) → operands-lts.Need-same-length-10 (
   left-of-reads.Asked,
   left-of-reads.Learnt,
@@ -3276,7 +4406,7 @@ operands-same-length-10 : (t : ℕ) → operands-lts.Need-same-length-10 (
 ) (operands-at t) operands.Post
 operands-same-length-10 t c = search needs
 
--- src/lib.rt:63:1
+-- src/lib.rt:65:1
 operands-returns-5 : (t : ℕ) → operands-lts.Need-returns-5 (
   left-of-reads.Asked,
   left-of-reads.Learnt,
@@ -3297,15 +4427,363 @@ operands-returns-5 : (t : ℕ) → operands-lts.Need-returns-5 (
 ) (operands-at t) operands.Post
 operands-returns-5 t c = search first-stops
 
+abbrev own-Inv-loop : own-lts.InvT-loop
+own-Inv-loop program code grants texts₀ words₀ fuel slot b p i k₀ n₀ unit texts words k n = Owning (statementAt fuel (setting program code grants) b) grants fuel b texts₀ words₀ p slot unit k₀ n₀ texts words k n
+
+abbrev own-μ-loop : own-lts.MeasureT-loop
+own-μ-loop program code grants texts₀ words₀ fuel slot b p i k₀ n₀ unit texts words k n = n
+
+-- src/lib.rt:678:9
+own-first-at-requires : (t : ℕ) → own-lts.Need-first-at-requires (
+  first-at-reads.Asked,
+  first-at-reads.Learnt,
+  count-at-reads.Asked,
+  count-at-reads.Learnt,
+  enter-loop-reads.Asked,
+  enter-loop-reads.Learnt,
+  member-below t,
+  member.Post,
+  leave-loop-reads.Asked,
+  leave-loop-reads.Learnt,
+) (own-at t) own.Post own-Inv-loop own-μ-loop
+own-first-at-requires t c κs = search needs
+
+-- src/lib.rt:679:9
+own-count-at-requires : (t : ℕ) → own-lts.Need-count-at-requires (
+  first-at-reads.Asked,
+  first-at-reads.Learnt,
+  count-at-reads.Asked,
+  count-at-reads.Learnt,
+  enter-loop-reads.Asked,
+  enter-loop-reads.Learnt,
+  member-below t,
+  member.Post,
+  leave-loop-reads.Asked,
+  leave-loop-reads.Learnt,
+) (own-at t) own.Post own-Inv-loop own-μ-loop
+own-count-at-requires t c κs = search needs
+
+-- src/lib.rt:680:9
+own-enter-loop-requires : (t : ℕ) → own-lts.Need-enter-loop-requires (
+  first-at-reads.Asked,
+  first-at-reads.Learnt,
+  count-at-reads.Asked,
+  count-at-reads.Learnt,
+  enter-loop-reads.Asked,
+  enter-loop-reads.Learnt,
+  member-below t,
+  member.Post,
+  leave-loop-reads.Asked,
+  leave-loop-reads.Learnt,
+) (own-at t) own.Post own-Inv-loop own-μ-loop
+own-enter-loop-requires t c κs = omega (arith, c .before .before .before .before .before .before .before .before .before .pre .1 .lent .lent .room .words)
+
+-- src/lib.rt:681:5
+own-loop-holds : (t : ℕ) → own-lts.Need-loop-holds (
+  first-at-reads.Asked,
+  first-at-reads.Learnt,
+  count-at-reads.Asked,
+  count-at-reads.Learnt,
+  enter-loop-reads.Asked,
+  enter-loop-reads.Learnt,
+  member-below t,
+  member.Post,
+  leave-loop-reads.Asked,
+  leave-loop-reads.Learnt,
+) (own-at t) own.Post own-Inv-loop own-μ-loop
+own-loop-holds t c = owning-first _ _ _ _ _ _ _ _ _ _ _ (still-runs _ _ _ _ _ refl (let a0 = c .before .words in omega arith) _ _ (c .before .before .before .before .before .before .before .before .before .before .before .before .pre .1)) (omega (arith, c .before .before .before .before .before .before .first-at .ensures, c .before .before .before .before .count-at .ensures))
+
+-- src/lib.rt:682:9
+own-sub-n : (t : ℕ) → own-lts.Need-sub-n (
+  first-at-reads.Asked,
+  first-at-reads.Learnt,
+  count-at-reads.Asked,
+  count-at-reads.Learnt,
+  enter-loop-reads.Asked,
+  enter-loop-reads.Learnt,
+  member-below t,
+  member.Post,
+  leave-loop-reads.Asked,
+  leave-loop-reads.Learnt,
+) (own-at t) own.Post own-Inv-loop own-μ-loop
+own-sub-n t c = search needs
+
+-- src/lib.rt:683:15
+own-member-requires : (t : ℕ) → own-lts.Need-member-requires (
+  first-at-reads.Asked,
+  first-at-reads.Learnt,
+  count-at-reads.Asked,
+  count-at-reads.Learnt,
+  enter-loop-reads.Asked,
+  enter-loop-reads.Learnt,
+  member-below t,
+  member.Post,
+  leave-loop-reads.Asked,
+  leave-loop-reads.Learnt,
+) (own-at t) own.Post own-Inv-loop own-μ-loop
+own-member-requires t c κs = (omega arith, c .before .before .before .loop .inv .runs)
+
+own-enum-told : (t : ℕ) → own-lts.Need-enum-told (
+  first-at-reads.Asked,
+  first-at-reads.Learnt,
+  count-at-reads.Asked,
+  count-at-reads.Learnt,
+  enter-loop-reads.Asked,
+  enter-loop-reads.Learnt,
+  member-below t,
+  member.Post,
+  leave-loop-reads.Asked,
+  leave-loop-reads.Learnt,
+) (own-at t) own.Post own-Inv-loop own-μ-loop
+own-enum-told t c = search needs
+
+-- src/lib.rt:685:28
+own-enum-known-v : (t : ℕ) → own-lts.Need-enum-known-v (
+  first-at-reads.Asked,
+  first-at-reads.Learnt,
+  count-at-reads.Asked,
+  count-at-reads.Learnt,
+  enter-loop-reads.Asked,
+  enter-loop-reads.Learnt,
+  member-below t,
+  member.Post,
+  leave-loop-reads.Asked,
+  leave-loop-reads.Learnt,
+) (own-at t) own.Post own-Inv-loop own-μ-loop
+own-enum-known-v t c = search needs
+
+-- src/lib.rt:686:17
+own-leave-loop-requires : (t : ℕ) → own-lts.Need-leave-loop-requires (
+  first-at-reads.Asked,
+  first-at-reads.Learnt,
+  count-at-reads.Asked,
+  count-at-reads.Learnt,
+  enter-loop-reads.Asked,
+  enter-loop-reads.Learnt,
+  member-below t,
+  member.Post,
+  leave-loop-reads.Asked,
+  leave-loop-reads.Learnt,
+) (own-at t) own.Post own-Inv-loop own-μ-loop
+own-leave-loop-requires t c κs = let a0 = c .before .before .before .before .before .words2 in omega (arith, c .before .before .before .before .before .before .before .before .before .before .before .before .loop .inv .runs .lent .lent .room .words)
+
+-- src/lib.rt:687:17
+own-same-length : (t : ℕ) → own-lts.Need-same-length (
+  first-at-reads.Asked,
+  first-at-reads.Learnt,
+  count-at-reads.Asked,
+  count-at-reads.Learnt,
+  enter-loop-reads.Asked,
+  enter-loop-reads.Learnt,
+  member-below t,
+  member.Post,
+  leave-loop-reads.Asked,
+  leave-loop-reads.Learnt,
+) (own-at t) own.Post own-Inv-loop own-μ-loop
+own-same-length t c = search needs
+
+-- src/lib.rt:687:17
+own-same-length-2 : (t : ℕ) → own-lts.Need-same-length-2 (
+  first-at-reads.Asked,
+  first-at-reads.Learnt,
+  count-at-reads.Asked,
+  count-at-reads.Learnt,
+  enter-loop-reads.Asked,
+  enter-loop-reads.Learnt,
+  member-below t,
+  member.Post,
+  leave-loop-reads.Asked,
+  leave-loop-reads.Learnt,
+) (own-at t) own.Post own-Inv-loop own-μ-loop
+own-same-length-2 t c = search needs
+
+-- src/lib.rt:687:17
+own-returns : (t : ℕ) → own-lts.Need-returns (
+  first-at-reads.Asked,
+  first-at-reads.Learnt,
+  count-at-reads.Asked,
+  count-at-reads.Learnt,
+  enter-loop-reads.Asked,
+  enter-loop-reads.Learnt,
+  member-below t,
+  member.Post,
+  leave-loop-reads.Asked,
+  leave-loop-reads.Learnt,
+) (own-at t) own.Post own-Inv-loop own-μ-loop
+own-returns t c = entered-loop _ _ _ _ _ _ _ _ _ _ _ _ (c .before .before .before .before .before .before .before .before .before .before .before .before .before .before .before .before .before .before .before .before .before .before .first-at .ensures) (c .before .before .before .before .before .before .before .before .before .before .before .before .before .before .before .before .before .before .before .before .count-at .ensures) (c .before .before .before .before .before .before .before .before .before .before .before .before .before .before .before .before .before .before .enter-loop .ensures) (owning-returns _ _ _ _ _ _ _ _ _ _ _ _ _ _ _ (c .before .before .before .before .before .before .before .before .before .before .before .before .before .before .before .loop .inv) (c .before .before .before .before .before .before .before .before .before .before .before .before .before .before .loop-test .taken) _ _ _ (c .before .before .before .before .before .before .before .before .before .before .before .member .ensures) _ _ (c .before .before .before .before .before .v .given .1) (c .before .before .leave-loop .ensures))
+
+-- src/lib.rt:689:27
+own-enum-known-m : (t : ℕ) → own-lts.Need-enum-known-m (
+  first-at-reads.Asked,
+  first-at-reads.Learnt,
+  count-at-reads.Asked,
+  count-at-reads.Learnt,
+  enter-loop-reads.Asked,
+  enter-loop-reads.Learnt,
+  member-below t,
+  member.Post,
+  leave-loop-reads.Asked,
+  leave-loop-reads.Learnt,
+) (own-at t) own.Post own-Inv-loop own-μ-loop
+own-enum-known-m t c = search needs
+
+-- src/lib.rt:689:36
+own-same-length-3 : (t : ℕ) → own-lts.Need-same-length-3 (
+  first-at-reads.Asked,
+  first-at-reads.Learnt,
+  count-at-reads.Asked,
+  count-at-reads.Learnt,
+  enter-loop-reads.Asked,
+  enter-loop-reads.Learnt,
+  member-below t,
+  member.Post,
+  leave-loop-reads.Asked,
+  leave-loop-reads.Learnt,
+) (own-at t) own.Post own-Inv-loop own-μ-loop
+own-same-length-3 t c = search needs
+
+-- src/lib.rt:689:36
+own-same-length-4 : (t : ℕ) → own-lts.Need-same-length-4 (
+  first-at-reads.Asked,
+  first-at-reads.Learnt,
+  count-at-reads.Asked,
+  count-at-reads.Learnt,
+  enter-loop-reads.Asked,
+  enter-loop-reads.Learnt,
+  member-below t,
+  member.Post,
+  leave-loop-reads.Asked,
+  leave-loop-reads.Learnt,
+) (own-at t) own.Post own-Inv-loop own-μ-loop
+own-same-length-4 t c = search needs
+
+-- src/lib.rt:689:36
+own-returns-2 : (t : ℕ) → own-lts.Need-returns-2 (
+  first-at-reads.Asked,
+  first-at-reads.Learnt,
+  count-at-reads.Asked,
+  count-at-reads.Learnt,
+  enter-loop-reads.Asked,
+  enter-loop-reads.Learnt,
+  member-below t,
+  member.Post,
+  leave-loop-reads.Asked,
+  leave-loop-reads.Learnt,
+) (own-at t) own.Post own-Inv-loop own-μ-loop
+own-returns-2 t c = entered-loop _ _ _ _ _ _ _ _ _ _ _ _ (c .before .before .before .before .before .before .before .before .before .before .before .before .before .before .before .before .before .before .first-at .ensures) (c .before .before .before .before .before .before .before .before .before .before .before .before .before .before .before .before .count-at .ensures) (c .before .before .before .before .before .before .before .before .before .before .before .before .before .before .enter-loop .ensures) (owning-fails _ _ _ _ _ _ _ _ _ _ _ _ _ _ _ (c .before .before .before .before .before .before .before .before .before .before .before .loop .inv) (c .before .before .before .before .before .before .before .before .before .before .loop-test .taken) _ _ _ (c .before .before .before .before .before .before .before .member .ensures) _ _ (c .before .m .given .1))
+
+-- src/lib.rt:691:9
+own-add-k : (t : ℕ) → own-lts.Need-add-k (
+  first-at-reads.Asked,
+  first-at-reads.Learnt,
+  count-at-reads.Asked,
+  count-at-reads.Learnt,
+  enter-loop-reads.Asked,
+  enter-loop-reads.Learnt,
+  member-below t,
+  member.Post,
+  leave-loop-reads.Asked,
+  leave-loop-reads.Learnt,
+) (own-at t) own.Post own-Inv-loop own-μ-loop
+own-add-k t c = omega (arith, c .before .before .before .before .before .before .before .before .before .before .loop .inv .small)
+
+-- src/lib.rt:681:5
+own-loop-less : (t : ℕ) → own-lts.Need-loop-less (
+  first-at-reads.Asked,
+  first-at-reads.Learnt,
+  count-at-reads.Asked,
+  count-at-reads.Learnt,
+  enter-loop-reads.Asked,
+  enter-loop-reads.Learnt,
+  member-below t,
+  member.Post,
+  leave-loop-reads.Asked,
+  leave-loop-reads.Learnt,
+) (own-at t) own.Post own-Inv-loop own-μ-loop
+own-loop-less t c = omega arith
+
+-- src/lib.rt:681:5
+own-loop-again : (t : ℕ) → own-lts.Need-loop-again (
+  first-at-reads.Asked,
+  first-at-reads.Learnt,
+  count-at-reads.Asked,
+  count-at-reads.Learnt,
+  enter-loop-reads.Asked,
+  enter-loop-reads.Learnt,
+  member-below t,
+  member.Post,
+  leave-loop-reads.Asked,
+  leave-loop-reads.Learnt,
+) (own-at t) own.Post own-Inv-loop own-μ-loop
+own-loop-again t c = owning-again _ _ _ _ _ _ _ _ _ _ _ _ _ _ _ (c .before .before .before .before .before .before .before .before .before .before .loop .inv) (c .before .before .before .before .before .before .before .before .before .loop-test .taken) _ _ _ (c .before .before .before .before .before .before .member .ensures) (c .enum-told .given .1) (let a0 = c .before .before .before .before .before .texts in omega arith) (let a0 = c .before .before .before .words2 in omega arith)
+
+-- src/lib.rt:693:5
+own-leave-loop-requires-2 : (t : ℕ) → own-lts.Need-leave-loop-requires-2 (
+  first-at-reads.Asked,
+  first-at-reads.Learnt,
+  count-at-reads.Asked,
+  count-at-reads.Learnt,
+  enter-loop-reads.Asked,
+  enter-loop-reads.Learnt,
+  member-below t,
+  member.Post,
+  leave-loop-reads.Asked,
+  leave-loop-reads.Learnt,
+) (own-at t) own.Post own-Inv-loop own-μ-loop
+own-leave-loop-requires-2 t c κs = omega (arith, c .before .before .loop .inv .runs .lent .lent .room .words)
+
+-- src/lib.rt:663:1
+own-same-length-5 : (t : ℕ) → own-lts.Need-same-length-5 (
+  first-at-reads.Asked,
+  first-at-reads.Learnt,
+  count-at-reads.Asked,
+  count-at-reads.Learnt,
+  enter-loop-reads.Asked,
+  enter-loop-reads.Learnt,
+  member-below t,
+  member.Post,
+  leave-loop-reads.Asked,
+  leave-loop-reads.Learnt,
+) (own-at t) own.Post own-Inv-loop own-μ-loop
+own-same-length-5 t c = search needs
+
+-- src/lib.rt:663:1
+own-same-length-6 : (t : ℕ) → own-lts.Need-same-length-6 (
+  first-at-reads.Asked,
+  first-at-reads.Learnt,
+  count-at-reads.Asked,
+  count-at-reads.Learnt,
+  enter-loop-reads.Asked,
+  enter-loop-reads.Learnt,
+  member-below t,
+  member.Post,
+  leave-loop-reads.Asked,
+  leave-loop-reads.Learnt,
+) (own-at t) own.Post own-Inv-loop own-μ-loop
+own-same-length-6 t c = search needs
+
+-- src/lib.rt:663:1
+own-returns-3 : (t : ℕ) → own-lts.Need-returns-3 (
+  first-at-reads.Asked,
+  first-at-reads.Learnt,
+  count-at-reads.Asked,
+  count-at-reads.Learnt,
+  enter-loop-reads.Asked,
+  enter-loop-reads.Learnt,
+  member-below t,
+  member.Post,
+  leave-loop-reads.Asked,
+  leave-loop-reads.Learnt,
+) (own-at t) own.Post own-Inv-loop own-μ-loop
+own-returns-3 t c = entered-loop _ _ _ _ _ _ _ _ _ _ _ _ (c .before .before .before .before .before .before .before .before .before .before .before .before .first-at .ensures) (c .before .before .before .before .before .before .before .before .before .before .count-at .ensures) (c .before .before .before .before .before .before .before .before .enter-loop .ensures) (owning-ends _ _ _ _ _ _ _ _ _ _ _ _ _ _ _ (c .before .before .before .before .before .loop .inv) _ (omega arith) (c .before .before .leave-loop2 .ensures))
+
 abbrev procedure-Inv-loop : procedure-lts.InvT-loop
-procedure-Inv-loop program code grants texts₀ words₀ fuel a end rounds at₀ left₀ texts words at left =
-    Following program code grants fuel texts₀ words₀ a end rounds texts words at left
+procedure-Inv-loop program code grants texts₀ words₀ fuel a end rounds at₀ left₀ texts words at left = Following program code grants fuel texts₀ words₀ a end rounds texts words at left
 
 abbrev procedure-μ-loop : procedure-lts.MeasureT-loop
-procedure-μ-loop program code grants texts₀ words₀ fuel a end rounds at₀ left₀ texts words at left =
-    left
+procedure-μ-loop program code grants texts₀ words₀ fuel a end rounds at₀ left₀ texts words at left = left
 
--- src/lib.rt:265:5
+-- src/lib.rt:268:5
 procedure-loop-holds : (t : ℕ) → procedure-lts.Need-loop-holds (
   word-at-reads.Asked,
   word-at-reads.Learnt,
@@ -3320,7 +4798,7 @@ procedure-loop-holds : (t : ℕ) → procedure-lts.Need-loop-holds (
 ) (procedure-at t) procedure.Post procedure-Inv-loop procedure-μ-loop
 procedure-loop-holds t c = all-first _ _ _ _ _ _ _ _ _ (c .before .before .before .before .pre .1)
 
--- src/lib.rt:266:9
+-- src/lib.rt:269:9
 procedure-sub-left : (t : ℕ) → procedure-lts.Need-sub-left (
   word-at-reads.Asked,
   word-at-reads.Learnt,
@@ -3335,7 +4813,7 @@ procedure-sub-left : (t : ℕ) → procedure-lts.Need-sub-left (
 ) (procedure-at t) procedure.Post procedure-Inv-loop procedure-μ-loop
 procedure-sub-left t c = search needs
 
--- src/lib.rt:268:13
+-- src/lib.rt:271:13
 procedure-same-length : (t : ℕ) → procedure-lts.Need-same-length (
   word-at-reads.Asked,
   word-at-reads.Learnt,
@@ -3350,7 +4828,7 @@ procedure-same-length : (t : ℕ) → procedure-lts.Need-same-length (
 ) (procedure-at t) procedure.Post procedure-Inv-loop procedure-μ-loop
 procedure-same-length t c = search needs
 
--- src/lib.rt:268:13
+-- src/lib.rt:271:13
 procedure-same-length-2 : (t : ℕ) → procedure-lts.Need-same-length-2 (
   word-at-reads.Asked,
   word-at-reads.Learnt,
@@ -3365,7 +4843,7 @@ procedure-same-length-2 : (t : ℕ) → procedure-lts.Need-same-length-2 (
 ) (procedure-at t) procedure.Post procedure-Inv-loop procedure-μ-loop
 procedure-same-length-2 t c = search needs
 
--- src/lib.rt:268:13
+-- src/lib.rt:271:13
 procedure-returns : (t : ℕ) → procedure-lts.Need-returns (
   word-at-reads.Asked,
   word-at-reads.Learnt,
@@ -3380,7 +4858,7 @@ procedure-returns : (t : ℕ) → procedure-lts.Need-returns (
 ) (procedure-at t) procedure.Post procedure-Inv-loop procedure-μ-loop
 procedure-returns t c = ends-done _ _ _ _ _ _ _ _ _ _ _ _ _ (c .before .before .loop .inv) (c .before .loop-test .taken) (c .if1 .taken)
 
--- src/lib.rt:270:13
+-- src/lib.rt:273:13
 procedure-word-at-requires : (t : ℕ) → procedure-lts.Need-word-at-requires (
   word-at-reads.Asked,
   word-at-reads.Learnt,
@@ -3395,7 +4873,7 @@ procedure-word-at-requires : (t : ℕ) → procedure-lts.Need-word-at-requires (
 ) (procedure-at t) procedure.Post procedure-Inv-loop procedure-μ-loop
 procedure-word-at-requires t c κs = search needs
 
--- src/lib.rt:271:12
+-- src/lib.rt:274:12
 procedure-tag-of-requires : (t : ℕ) → procedure-lts.Need-tag-of-requires (
   word-at-reads.Asked,
   word-at-reads.Learnt,
@@ -3410,7 +4888,7 @@ procedure-tag-of-requires : (t : ℕ) → procedure-lts.Need-tag-of-requires (
 ) (procedure-at t) procedure.Post procedure-Inv-loop procedure-μ-loop
 procedure-tag-of-requires t c κs = search needs
 
--- src/lib.rt:272:17
+-- src/lib.rt:275:17
 procedure-leave-requires : (t : ℕ) → procedure-lts.Need-leave-requires (
   word-at-reads.Asked,
   word-at-reads.Learnt,
@@ -3425,7 +4903,7 @@ procedure-leave-requires : (t : ℕ) → procedure-lts.Need-leave-requires (
 ) (procedure-at t) procedure.Post procedure-Inv-loop procedure-μ-loop
 procedure-leave-requires t c κs = (omega arith, leaves-here _ _ _ _ _ _ _ _ _ _ _ _ _ (c .before .before .before .before .before .before .before .loop .inv) _ _ (c .before .before .before .before .before .if1 .left) (c .before .before .before .before .word-at .ensures) (c .before .before .before .tag-of .ensures) (c .before .before .if2 .taken))
 
--- src/lib.rt:273:13
+-- src/lib.rt:276:13
 procedure-same-length-3 : (t : ℕ) → procedure-lts.Need-same-length-3 (
   word-at-reads.Asked,
   word-at-reads.Learnt,
@@ -3440,7 +4918,7 @@ procedure-same-length-3 : (t : ℕ) → procedure-lts.Need-same-length-3 (
 ) (procedure-at t) procedure.Post procedure-Inv-loop procedure-μ-loop
 procedure-same-length-3 t c = search needs
 
--- src/lib.rt:273:13
+-- src/lib.rt:276:13
 procedure-same-length-4 : (t : ℕ) → procedure-lts.Need-same-length-4 (
   word-at-reads.Asked,
   word-at-reads.Learnt,
@@ -3455,7 +4933,7 @@ procedure-same-length-4 : (t : ℕ) → procedure-lts.Need-same-length-4 (
 ) (procedure-at t) procedure.Post procedure-Inv-loop procedure-μ-loop
 procedure-same-length-4 t c = search needs
 
--- src/lib.rt:273:13
+-- src/lib.rt:276:13
 procedure-returns-2 : (t : ℕ) → procedure-lts.Need-returns-2 (
   word-at-reads.Asked,
   word-at-reads.Learnt,
@@ -3470,7 +4948,7 @@ procedure-returns-2 : (t : ℕ) → procedure-lts.Need-returns-2 (
 ) (procedure-at t) procedure.Post procedure-Inv-loop procedure-μ-loop
 procedure-returns-2 t c = ends-left _ _ _ _ _ _ _ _ _ _ _ _ _ (c .before .before .before .before .before .before .before .before .before .before .before .before .loop .inv) (c .before .before .before .before .before .before .before .before .before .before .before .loop-test .taken) (c .before .before .before .before .before .before .before .before .before .before .if1 .left) _ _ _ (c .before .before .before .before .leave .ensures)
 
--- src/lib.rt:275:15
+-- src/lib.rt:278:15
 procedure-statement-requires : (t : ℕ) → procedure-lts.Need-statement-requires (
   word-at-reads.Asked,
   word-at-reads.Learnt,
@@ -3499,7 +4977,7 @@ procedure-enum-told : (t : ℕ) → procedure-lts.Need-enum-told (
 ) (procedure-at t) procedure.Post procedure-Inv-loop procedure-μ-loop
 procedure-enum-told t c = search needs
 
--- src/lib.rt:277:28
+-- src/lib.rt:280:28
 procedure-enum-known-v : (t : ℕ) → procedure-lts.Need-enum-known-v (
   word-at-reads.Asked,
   word-at-reads.Learnt,
@@ -3514,7 +4992,7 @@ procedure-enum-known-v : (t : ℕ) → procedure-lts.Need-enum-known-v (
 ) (procedure-at t) procedure.Post procedure-Inv-loop procedure-μ-loop
 procedure-enum-known-v t c = search needs
 
--- src/lib.rt:277:34
+-- src/lib.rt:280:34
 procedure-same-length-5 : (t : ℕ) → procedure-lts.Need-same-length-5 (
   word-at-reads.Asked,
   word-at-reads.Learnt,
@@ -3529,7 +5007,7 @@ procedure-same-length-5 : (t : ℕ) → procedure-lts.Need-same-length-5 (
 ) (procedure-at t) procedure.Post procedure-Inv-loop procedure-μ-loop
 procedure-same-length-5 t c = search needs
 
--- src/lib.rt:277:34
+-- src/lib.rt:280:34
 procedure-same-length-6 : (t : ℕ) → procedure-lts.Need-same-length-6 (
   word-at-reads.Asked,
   word-at-reads.Learnt,
@@ -3544,7 +5022,7 @@ procedure-same-length-6 : (t : ℕ) → procedure-lts.Need-same-length-6 (
 ) (procedure-at t) procedure.Post procedure-Inv-loop procedure-μ-loop
 procedure-same-length-6 t c = search needs
 
--- src/lib.rt:277:34
+-- src/lib.rt:280:34
 procedure-returns-3 : (t : ℕ) → procedure-lts.Need-returns-3 (
   word-at-reads.Asked,
   word-at-reads.Learnt,
@@ -3559,7 +5037,7 @@ procedure-returns-3 : (t : ℕ) → procedure-lts.Need-returns-3 (
 ) (procedure-at t) procedure.Post procedure-Inv-loop procedure-μ-loop
 procedure-returns-3 t c = ends-returns _ _ _ _ _ _ _ _ _ _ _ _ _ (c .before .before .before .before .before .before .before .before .before .before .before .before .before .before .before .loop .inv) (c .before .before .before .before .before .before .before .before .before .before .before .before .before .before .loop-test .taken) (c .before .before .before .before .before .before .before .before .before .before .before .before .before .if1 .left) _ _ _ (c .before .before .before .before .before .before .before .statement .ensures) _ (c .before .v .given .1)
 
--- src/lib.rt:278:27
+-- src/lib.rt:281:27
 procedure-enum-known-n : (t : ℕ) → procedure-lts.Need-enum-known-n (
   word-at-reads.Asked,
   word-at-reads.Learnt,
@@ -3574,7 +5052,7 @@ procedure-enum-known-n : (t : ℕ) → procedure-lts.Need-enum-known-n (
 ) (procedure-at t) procedure.Post procedure-Inv-loop procedure-μ-loop
 procedure-enum-known-n t c = search needs
 
--- src/lib.rt:278:36
+-- src/lib.rt:281:36
 procedure-same-length-7 : (t : ℕ) → procedure-lts.Need-same-length-7 (
   word-at-reads.Asked,
   word-at-reads.Learnt,
@@ -3589,7 +5067,7 @@ procedure-same-length-7 : (t : ℕ) → procedure-lts.Need-same-length-7 (
 ) (procedure-at t) procedure.Post procedure-Inv-loop procedure-μ-loop
 procedure-same-length-7 t c = search needs
 
--- src/lib.rt:278:36
+-- src/lib.rt:281:36
 procedure-same-length-8 : (t : ℕ) → procedure-lts.Need-same-length-8 (
   word-at-reads.Asked,
   word-at-reads.Learnt,
@@ -3604,7 +5082,7 @@ procedure-same-length-8 : (t : ℕ) → procedure-lts.Need-same-length-8 (
 ) (procedure-at t) procedure.Post procedure-Inv-loop procedure-μ-loop
 procedure-same-length-8 t c = search needs
 
--- src/lib.rt:278:36
+-- src/lib.rt:281:36
 procedure-returns-4 : (t : ℕ) → procedure-lts.Need-returns-4 (
   word-at-reads.Asked,
   word-at-reads.Learnt,
@@ -3619,7 +5097,7 @@ procedure-returns-4 : (t : ℕ) → procedure-lts.Need-returns-4 (
 ) (procedure-at t) procedure.Post procedure-Inv-loop procedure-μ-loop
 procedure-returns-4 t c = ends-fails _ _ _ _ _ _ _ _ _ _ _ _ _ (c .before .before .before .before .before .before .before .before .before .before .before .before .before .before .before .loop .inv) (c .before .before .before .before .before .before .before .before .before .before .before .before .before .before .loop-test .taken) (c .before .before .before .before .before .before .before .before .before .before .before .before .before .if1 .left) _ _ _ (c .before .before .before .before .before .before .before .statement .ensures) _ _ (c .before .n .given .1)
 
--- src/lib.rt:280:15
+-- src/lib.rt:283:15
 procedure-size-of-requires : (t : ℕ) → procedure-lts.Need-size-of-requires (
   word-at-reads.Asked,
   word-at-reads.Learnt,
@@ -3634,7 +5112,7 @@ procedure-size-of-requires : (t : ℕ) → procedure-lts.Need-size-of-requires (
 ) (procedure-at t) procedure.Post procedure-Inv-loop procedure-μ-loop
 procedure-size-of-requires t c κs = search needs
 
--- src/lib.rt:280:9
+-- src/lib.rt:283:9
 procedure-add-at : (t : ℕ) → procedure-lts.Need-add-at (
   word-at-reads.Asked,
   word-at-reads.Learnt,
@@ -3649,7 +5127,7 @@ procedure-add-at : (t : ℕ) → procedure-lts.Need-add-at (
 ) (procedure-at t) procedure.Post procedure-Inv-loop procedure-μ-loop
 procedure-add-at t c = omega (arith, c .before .before .before .before .before .before .before .before .before .before .before .before .before .before .before .before .before .before .before .before .pre .1 .room, c .before .before .before .before .before .before .before .before .before .before .before .before .before .if1 .left, c .size-of .ensures)
 
--- src/lib.rt:265:5
+-- src/lib.rt:268:5
 procedure-loop-less : (t : ℕ) → procedure-lts.Need-loop-less (
   word-at-reads.Asked,
   word-at-reads.Learnt,
@@ -3664,7 +5142,7 @@ procedure-loop-less : (t : ℕ) → procedure-lts.Need-loop-less (
 ) (procedure-at t) procedure.Post procedure-Inv-loop procedure-μ-loop
 procedure-loop-less t c = omega arith
 
--- src/lib.rt:265:5
+-- src/lib.rt:268:5
 procedure-loop-again : (t : ℕ) → procedure-lts.Need-loop-again (
   word-at-reads.Asked,
   word-at-reads.Learnt,
@@ -3679,7 +5157,7 @@ procedure-loop-again : (t : ℕ) → procedure-lts.Need-loop-again (
 ) (procedure-at t) procedure.Post procedure-Inv-loop procedure-μ-loop
 procedure-loop-again t c = all-again _ _ _ _ _ _ _ _ _ _ _ _ _ (c .before .before .before .before .before .before .before .before .before .before .before .before .before .before .before .loop .inv) (c .before .before .before .before .before .before .before .before .before .before .before .before .before .before .loop-test .taken) (c .before .before .before .before .before .before .before .before .before .before .before .before .before .if1 .left) _ _ _ (c .before .before .before .before .before .before .before .statement .ensures) _ _ (let a0 = c .before .before .before .before .before .before .texts2 in omega arith) (let a0 = c .before .before .before .before .words2 in omega arith) (c .before .enum-told .given .1) (c .before .before .before .before .before .before .before .before .before .before .before .before .word-at .ensures) (c .size-of .ensures)
 
--- src/lib.rt:248:1
+-- src/lib.rt:251:1
 procedure-same-length-9 : (t : ℕ) → procedure-lts.Need-same-length-9 (
   word-at-reads.Asked,
   word-at-reads.Learnt,
@@ -3694,7 +5172,7 @@ procedure-same-length-9 : (t : ℕ) → procedure-lts.Need-same-length-9 (
 ) (procedure-at t) procedure.Post procedure-Inv-loop procedure-μ-loop
 procedure-same-length-9 t c = search needs
 
--- src/lib.rt:248:1
+-- src/lib.rt:251:1
 procedure-same-length-10 : (t : ℕ) → procedure-lts.Need-same-length-10 (
   word-at-reads.Asked,
   word-at-reads.Learnt,
@@ -3709,7 +5187,7 @@ procedure-same-length-10 : (t : ℕ) → procedure-lts.Need-same-length-10 (
 ) (procedure-at t) procedure.Post procedure-Inv-loop procedure-μ-loop
 procedure-same-length-10 t c = search needs
 
--- src/lib.rt:248:1
+-- src/lib.rt:251:1
 procedure-returns-5 : (t : ℕ) → procedure-lts.Need-returns-5 (
   word-at-reads.Asked,
   word-at-reads.Learnt,
@@ -3730,7 +5208,7 @@ repeat-Inv-loop program code grants texts₀ words₀ fuel y p turns₀ texts wo
 abbrev repeat-μ-loop : repeat-lts.MeasureT-loop
 repeat-μ-loop program code grants texts₀ words₀ fuel y p turns₀ texts words turns = turns
 
--- src/lib.rt:558:21
+-- src/lib.rt:576:21
 repeat-element-copy-out-turns : (t : ℕ) → repeat-lts.Need-element-copy-out-turns (
   count-reads.Asked,
   count-reads.Learnt,
@@ -3741,7 +5219,7 @@ repeat-element-copy-out-turns : (t : ℕ) → repeat-lts.Need-element-copy-out-t
 ) (repeat-at t) repeat.Post repeat-Inv-loop repeat-μ-loop
 repeat-element-copy-out-turns t c = search needs
 
--- src/lib.rt:558:21
+-- src/lib.rt:576:21
 repeat-add-turns : (t : ℕ) → repeat-lts.Need-add-turns (
   count-reads.Asked,
   count-reads.Learnt,
@@ -3752,7 +5230,7 @@ repeat-add-turns : (t : ℕ) → repeat-lts.Need-add-turns (
 ) (repeat-at t) repeat.Post repeat-Inv-loop repeat-μ-loop
 repeat-add-turns t c = omega (arith, c .before .before .before .before .before .pre .1 .lent .lent .room .steps)
 
--- src/lib.rt:559:5
+-- src/lib.rt:577:5
 repeat-loop-holds : (t : ℕ) → repeat-lts.Need-loop-holds (
   count-reads.Asked,
   count-reads.Learnt,
@@ -3763,7 +5241,7 @@ repeat-loop-holds : (t : ℕ) → repeat-lts.Need-loop-holds (
 ) (repeat-at t) repeat.Post repeat-Inv-loop repeat-μ-loop
 repeat-loop-holds t c = loop-first _ _ _ _ _ _ _ _ (c .before .before .before .before .before .pre .1)
 
--- src/lib.rt:560:9
+-- src/lib.rt:578:9
 repeat-sub-turns : (t : ℕ) → repeat-lts.Need-sub-turns (
   count-reads.Asked,
   count-reads.Learnt,
@@ -3774,7 +5252,7 @@ repeat-sub-turns : (t : ℕ) → repeat-lts.Need-sub-turns (
 ) (repeat-at t) repeat.Post repeat-Inv-loop repeat-μ-loop
 repeat-sub-turns t c = search needs
 
--- src/lib.rt:561:13
+-- src/lib.rt:579:13
 repeat-count-requires : (t : ℕ) → repeat-lts.Need-count-requires (
   count-reads.Asked,
   count-reads.Learnt,
@@ -3785,7 +5263,7 @@ repeat-count-requires : (t : ℕ) → repeat-lts.Need-count-requires (
 ) (repeat-at t) repeat.Post repeat-Inv-loop repeat-μ-loop
 repeat-count-requires t c κs = omega (arith, c .before .before .loop .inv .runs .lent .lent .room .words)
 
--- src/lib.rt:562:13
+-- src/lib.rt:580:13
 repeat-same-length : (t : ℕ) → repeat-lts.Need-same-length (
   count-reads.Asked,
   count-reads.Learnt,
@@ -3796,7 +5274,7 @@ repeat-same-length : (t : ℕ) → repeat-lts.Need-same-length (
 ) (repeat-at t) repeat.Post repeat-Inv-loop repeat-μ-loop
 repeat-same-length t c = search needs
 
--- src/lib.rt:562:13
+-- src/lib.rt:580:13
 repeat-same-length-2 : (t : ℕ) → repeat-lts.Need-same-length-2 (
   count-reads.Asked,
   count-reads.Learnt,
@@ -3807,7 +5285,7 @@ repeat-same-length-2 : (t : ℕ) → repeat-lts.Need-same-length-2 (
 ) (repeat-at t) repeat.Post repeat-Inv-loop repeat-μ-loop
 repeat-same-length-2 t c = search needs
 
--- src/lib.rt:562:13
+-- src/lib.rt:580:13
 repeat-returns : (t : ℕ) → repeat-lts.Need-returns (
   count-reads.Asked,
   count-reads.Learnt,
@@ -3818,7 +5296,7 @@ repeat-returns : (t : ℕ) → repeat-lts.Need-returns (
 ) (repeat-at t) repeat.Post repeat-Inv-loop repeat-μ-loop
 repeat-returns t c = loop-refused _ _ _ _ _ _ _ _ _ _ _ (c .before .before .before .before .before .before .loop .inv) (c .before .before .before .before .before .loop-test .taken) _ _ (c .before .before .before .count .ensures) (c .if1 .taken)
 
--- src/lib.rt:564:15
+-- src/lib.rt:582:15
 repeat-test-requires : (t : ℕ) → repeat-lts.Need-test-requires (
   count-reads.Asked,
   count-reads.Learnt,
@@ -3839,7 +5317,7 @@ repeat-enum-told : (t : ℕ) → repeat-lts.Need-enum-told (
 ) (repeat-at t) repeat.Post repeat-Inv-loop repeat-μ-loop
 repeat-enum-told t c = search needs
 
--- src/lib.rt:566:28
+-- src/lib.rt:584:28
 repeat-enum-told-2 : (t : ℕ) → repeat-lts.Need-enum-told-2 (
   count-reads.Asked,
   count-reads.Learnt,
@@ -3850,7 +5328,7 @@ repeat-enum-told-2 : (t : ℕ) → repeat-lts.Need-enum-told-2 (
 ) (repeat-at t) repeat.Post repeat-Inv-loop repeat-μ-loop
 repeat-enum-told-2 t c = search needs
 
--- src/lib.rt:566:28
+-- src/lib.rt:584:28
 repeat-same-length-3 : (t : ℕ) → repeat-lts.Need-same-length-3 (
   count-reads.Asked,
   count-reads.Learnt,
@@ -3861,7 +5339,7 @@ repeat-same-length-3 : (t : ℕ) → repeat-lts.Need-same-length-3 (
 ) (repeat-at t) repeat.Post repeat-Inv-loop repeat-μ-loop
 repeat-same-length-3 t c = search needs
 
--- src/lib.rt:566:28
+-- src/lib.rt:584:28
 repeat-same-length-4 : (t : ℕ) → repeat-lts.Need-same-length-4 (
   count-reads.Asked,
   count-reads.Learnt,
@@ -3872,7 +5350,7 @@ repeat-same-length-4 : (t : ℕ) → repeat-lts.Need-same-length-4 (
 ) (repeat-at t) repeat.Post repeat-Inv-loop repeat-μ-loop
 repeat-same-length-4 t c = search needs
 
--- src/lib.rt:566:28
+-- src/lib.rt:584:28
 repeat-returns-2 : (t : ℕ) → repeat-lts.Need-returns-2 (
   count-reads.Asked,
   count-reads.Learnt,
@@ -3883,7 +5361,7 @@ repeat-returns-2 : (t : ℕ) → repeat-lts.Need-returns-2 (
 ) (repeat-at t) repeat.Post repeat-Inv-loop repeat-μ-loop
 repeat-returns-2 t c = loop-ends _ _ _ _ _ _ _ _ _ _ _ (c .before .before .before .before .before .before .before .before .before .before .before .before .before .before .before .loop .inv) (c .before .before .before .before .before .before .before .before .before .before .before .before .before .before .loop-test .taken) _ _ (c .before .before .before .before .before .before .before .before .before .before .before .before .count .ensures) (c .before .before .before .before .before .before .before .before .before .if1 .left) _ _ _ (c .before .before .before .before .before .before .test .ensures) (c .enum-told2 .given .1)
 
--- src/lib.rt:567:30
+-- src/lib.rt:585:30
 repeat-enum-known-n : (t : ℕ) → repeat-lts.Need-enum-known-n (
   count-reads.Asked,
   count-reads.Learnt,
@@ -3894,7 +5372,7 @@ repeat-enum-known-n : (t : ℕ) → repeat-lts.Need-enum-known-n (
 ) (repeat-at t) repeat.Post repeat-Inv-loop repeat-μ-loop
 repeat-enum-known-n t c = search needs
 
--- src/lib.rt:567:39
+-- src/lib.rt:585:39
 repeat-same-length-5 : (t : ℕ) → repeat-lts.Need-same-length-5 (
   count-reads.Asked,
   count-reads.Learnt,
@@ -3905,7 +5383,7 @@ repeat-same-length-5 : (t : ℕ) → repeat-lts.Need-same-length-5 (
 ) (repeat-at t) repeat.Post repeat-Inv-loop repeat-μ-loop
 repeat-same-length-5 t c = search needs
 
--- src/lib.rt:567:39
+-- src/lib.rt:585:39
 repeat-same-length-6 : (t : ℕ) → repeat-lts.Need-same-length-6 (
   count-reads.Asked,
   count-reads.Learnt,
@@ -3916,7 +5394,7 @@ repeat-same-length-6 : (t : ℕ) → repeat-lts.Need-same-length-6 (
 ) (repeat-at t) repeat.Post repeat-Inv-loop repeat-μ-loop
 repeat-same-length-6 t c = search needs
 
--- src/lib.rt:567:39
+-- src/lib.rt:585:39
 repeat-returns-3 : (t : ℕ) → repeat-lts.Need-returns-3 (
   count-reads.Asked,
   count-reads.Learnt,
@@ -3927,7 +5405,7 @@ repeat-returns-3 : (t : ℕ) → repeat-lts.Need-returns-3 (
 ) (repeat-at t) repeat.Post repeat-Inv-loop repeat-μ-loop
 repeat-returns-3 t c = loop-stops _ _ _ _ _ _ _ _ _ _ _ (c .before .before .before .before .before .before .before .before .before .before .before .before .before .before .before .before .loop .inv) (c .before .before .before .before .before .before .before .before .before .before .before .before .before .before .before .loop-test .taken) _ _ (c .before .before .before .before .before .before .before .before .before .before .before .before .before .count .ensures) (c .before .before .before .before .before .before .before .before .before .before .if1 .left) _ _ _ (c .before .before .before .before .before .before .before .test .ensures) _ _ (c .before .n .given .1)
 
--- src/lib.rt:569:68
+-- src/lib.rt:587:68
 repeat-add-statement : (t : ℕ) → repeat-lts.Need-add-statement (
   count-reads.Asked,
   count-reads.Learnt,
@@ -3938,7 +5416,7 @@ repeat-add-statement : (t : ℕ) → repeat-lts.Need-add-statement (
 ) (repeat-at t) repeat.Post repeat-Inv-loop repeat-μ-loop
 repeat-add-statement t c = omega (arith, c .before .before .before .before .before .before .before .before .before .before .before .before .before .before .before .before .before .before .before .before .before .before .before .pre .1 .room)
 
--- src/lib.rt:569:15
+-- src/lib.rt:587:15
 repeat-statement-requires : (t : ℕ) → repeat-lts.Need-statement-requires (
   count-reads.Asked,
   count-reads.Learnt,
@@ -3959,7 +5437,7 @@ repeat-enum-told-3 : (t : ℕ) → repeat-lts.Need-enum-told-3 (
 ) (repeat-at t) repeat.Post repeat-Inv-loop repeat-μ-loop
 repeat-enum-told-3 t c = search needs
 
--- src/lib.rt:559:5
+-- src/lib.rt:577:5
 repeat-loop-less : (t : ℕ) → repeat-lts.Need-loop-less (
   count-reads.Asked,
   count-reads.Learnt,
@@ -3970,7 +5448,7 @@ repeat-loop-less : (t : ℕ) → repeat-lts.Need-loop-less (
 ) (repeat-at t) repeat.Post repeat-Inv-loop repeat-μ-loop
 repeat-loop-less t c = omega arith
 
--- src/lib.rt:559:5
+-- src/lib.rt:577:5
 repeat-loop-again : (t : ℕ) → repeat-lts.Need-loop-again (
   count-reads.Asked,
   count-reads.Learnt,
@@ -3981,7 +5459,7 @@ repeat-loop-again : (t : ℕ) → repeat-lts.Need-loop-again (
 ) (repeat-at t) repeat.Post repeat-Inv-loop repeat-μ-loop
 repeat-loop-again t c = loop-again _ _ _ _ _ _ _ _ _ _ _ (c .before .before .before .before .before .before .before .before .before .before .before .before .before .before .before .before .before .before .before .before .before .before .before .before .loop .inv) (c .before .before .before .before .before .before .before .before .before .before .before .before .before .before .before .before .before .before .before .before .before .before .before .loop-test .taken) _ _ (c .before .before .before .before .before .before .before .before .before .before .before .before .before .before .before .before .before .before .before .before .before .count .ensures) (c .before .before .before .before .before .before .before .before .before .before .before .before .before .before .before .before .before .before .if1 .left) _ _ _ (c .before .before .before .before .before .before .before .before .before .before .before .before .before .before .before .test .ensures) (c .before .before .before .before .before .before .before .before .before .enum-told .given .1) _ _ _ (c .before .before .before .before .before .before .statement .ensures) (let a0 = c .before .before .before .before .before .before .before .before .before .before .before .before .before .before .texts in let a1 = c .before .before .before .before .before .texts2 in omega arith) (let a0 = c .before .before .before .before .before .before .before .before .before .before .before .before .before .before .before .before .before .before .before .before .words in let a1 = c .before .before .before .before .before .before .before .before .before .before .before .before .words2 in let a2 = c .before .before .before .words3 in omega arith) (c .enum-told3 .given .1)
 
--- src/lib.rt:571:28
+-- src/lib.rt:589:28
 repeat-enum-known-v : (t : ℕ) → repeat-lts.Need-enum-known-v (
   count-reads.Asked,
   count-reads.Learnt,
@@ -3992,7 +5470,7 @@ repeat-enum-known-v : (t : ℕ) → repeat-lts.Need-enum-known-v (
 ) (repeat-at t) repeat.Post repeat-Inv-loop repeat-μ-loop
 repeat-enum-known-v t c = search needs
 
--- src/lib.rt:571:34
+-- src/lib.rt:589:34
 repeat-same-length-7 : (t : ℕ) → repeat-lts.Need-same-length-7 (
   count-reads.Asked,
   count-reads.Learnt,
@@ -4003,7 +5481,7 @@ repeat-same-length-7 : (t : ℕ) → repeat-lts.Need-same-length-7 (
 ) (repeat-at t) repeat.Post repeat-Inv-loop repeat-μ-loop
 repeat-same-length-7 t c = search needs
 
--- src/lib.rt:571:34
+-- src/lib.rt:589:34
 repeat-same-length-8 : (t : ℕ) → repeat-lts.Need-same-length-8 (
   count-reads.Asked,
   count-reads.Learnt,
@@ -4014,7 +5492,7 @@ repeat-same-length-8 : (t : ℕ) → repeat-lts.Need-same-length-8 (
 ) (repeat-at t) repeat.Post repeat-Inv-loop repeat-μ-loop
 repeat-same-length-8 t c = search needs
 
--- src/lib.rt:571:34
+-- src/lib.rt:589:34
 repeat-returns-4 : (t : ℕ) → repeat-lts.Need-returns-4 (
   count-reads.Asked,
   count-reads.Learnt,
@@ -4025,7 +5503,7 @@ repeat-returns-4 : (t : ℕ) → repeat-lts.Need-returns-4 (
 ) (repeat-at t) repeat.Post repeat-Inv-loop repeat-μ-loop
 repeat-returns-4 t c = loop-returns _ _ _ _ _ _ _ _ _ _ _ (c .before .before .before .before .before .before .before .before .before .before .before .before .before .before .before .before .before .before .before .before .before .before .before .before .before .loop .inv) (c .before .before .before .before .before .before .before .before .before .before .before .before .before .before .before .before .before .before .before .before .before .before .before .before .loop-test .taken) _ _ (c .before .before .before .before .before .before .before .before .before .before .before .before .before .before .before .before .before .before .before .before .before .before .count .ensures) (c .before .before .before .before .before .before .before .before .before .before .before .before .before .before .before .before .before .before .before .if1 .left) _ _ _ (c .before .before .before .before .before .before .before .before .before .before .before .before .before .before .before .before .test .ensures) (c .before .before .before .before .before .before .before .before .before .before .enum-told .given .1) _ _ _ (c .before .before .before .before .before .before .before .statement .ensures) _ (c .before .v .given .1)
 
--- src/lib.rt:572:27
+-- src/lib.rt:590:27
 repeat-enum-known-n-2 : (t : ℕ) → repeat-lts.Need-enum-known-n-2 (
   count-reads.Asked,
   count-reads.Learnt,
@@ -4036,7 +5514,7 @@ repeat-enum-known-n-2 : (t : ℕ) → repeat-lts.Need-enum-known-n-2 (
 ) (repeat-at t) repeat.Post repeat-Inv-loop repeat-μ-loop
 repeat-enum-known-n-2 t c = search needs
 
--- src/lib.rt:572:36
+-- src/lib.rt:590:36
 repeat-same-length-9 : (t : ℕ) → repeat-lts.Need-same-length-9 (
   count-reads.Asked,
   count-reads.Learnt,
@@ -4047,7 +5525,7 @@ repeat-same-length-9 : (t : ℕ) → repeat-lts.Need-same-length-9 (
 ) (repeat-at t) repeat.Post repeat-Inv-loop repeat-μ-loop
 repeat-same-length-9 t c = search needs
 
--- src/lib.rt:572:36
+-- src/lib.rt:590:36
 repeat-same-length-10 : (t : ℕ) → repeat-lts.Need-same-length-10 (
   count-reads.Asked,
   count-reads.Learnt,
@@ -4058,7 +5536,7 @@ repeat-same-length-10 : (t : ℕ) → repeat-lts.Need-same-length-10 (
 ) (repeat-at t) repeat.Post repeat-Inv-loop repeat-μ-loop
 repeat-same-length-10 t c = search needs
 
--- src/lib.rt:572:36
+-- src/lib.rt:590:36
 repeat-returns-5 : (t : ℕ) → repeat-lts.Need-returns-5 (
   count-reads.Asked,
   count-reads.Learnt,
@@ -4069,7 +5547,7 @@ repeat-returns-5 : (t : ℕ) → repeat-lts.Need-returns-5 (
 ) (repeat-at t) repeat.Post repeat-Inv-loop repeat-μ-loop
 repeat-returns-5 t c = loop-fails _ _ _ _ _ _ _ _ _ _ _ (c .before .before .before .before .before .before .before .before .before .before .before .before .before .before .before .before .before .before .before .before .before .before .before .before .before .loop .inv) (c .before .before .before .before .before .before .before .before .before .before .before .before .before .before .before .before .before .before .before .before .before .before .before .before .loop-test .taken) _ _ (c .before .before .before .before .before .before .before .before .before .before .before .before .before .before .before .before .before .before .before .before .before .before .count .ensures) (c .before .before .before .before .before .before .before .before .before .before .before .before .before .before .before .before .before .before .before .if1 .left) _ _ _ (c .before .before .before .before .before .before .before .before .before .before .before .before .before .before .before .before .test .ensures) (c .before .before .before .before .before .before .before .before .before .before .enum-told .given .1) _ _ _ (c .before .before .before .before .before .before .before .statement .ensures) _ _ (c .before .n2 .given .1)
 
--- src/lib.rt:544:1
+-- src/lib.rt:562:1
 repeat-same-length-11 : (t : ℕ) → repeat-lts.Need-same-length-11 (
   count-reads.Asked,
   count-reads.Learnt,
@@ -4080,7 +5558,7 @@ repeat-same-length-11 : (t : ℕ) → repeat-lts.Need-same-length-11 (
 ) (repeat-at t) repeat.Post repeat-Inv-loop repeat-μ-loop
 repeat-same-length-11 t c = search needs
 
--- src/lib.rt:544:1
+-- src/lib.rt:562:1
 repeat-same-length-12 : (t : ℕ) → repeat-lts.Need-same-length-12 (
   count-reads.Asked,
   count-reads.Learnt,
@@ -4091,7 +5569,7 @@ repeat-same-length-12 : (t : ℕ) → repeat-lts.Need-same-length-12 (
 ) (repeat-at t) repeat.Post repeat-Inv-loop repeat-μ-loop
 repeat-same-length-12 t c = search needs
 
--- src/lib.rt:544:1
+-- src/lib.rt:562:1
 repeat-returns-6 : (t : ℕ) → repeat-lts.Need-returns-6 (
   count-reads.Asked,
   count-reads.Learnt,
@@ -4102,7 +5580,7 @@ repeat-returns-6 : (t : ℕ) → repeat-lts.Need-returns-6 (
 ) (repeat-at t) repeat.Post repeat-Inv-loop repeat-μ-loop
 repeat-returns-6 t c = loop-short _ _ _ _ _ _ _ _ _ _ _ (c .before .loop .inv) (omega arith)
 
--- src/lib.rt:334:9
+-- src/lib.rt:337:9
 simple-last-of-requires : (t : ℕ) → simple-lts.Need-last-of-requires (
   last-of-reads.Asked,
   last-of-reads.Learnt,
@@ -4125,7 +5603,7 @@ simple-last-of-requires : (t : ℕ) → simple-lts.Need-last-of-requires (
 ) (simple-at t) simple.Post
 simple-last-of-requires t c κs = omega (arith, c .before .before .before .before .pre .1 .room)
 
--- src/lib.rt:335:9
+-- src/lib.rt:338:9
 simple-fast-value-requires : (t : ℕ) → simple-lts.Need-fast-value-requires (
   last-of-reads.Asked,
   last-of-reads.Learnt,
@@ -4148,7 +5626,7 @@ simple-fast-value-requires : (t : ℕ) → simple-lts.Need-fast-value-requires (
 ) (simple-at t) simple.Post
 simple-fast-value-requires t c κs = omega (arith, c .before .before .before .before .before .before .pre .1 .lent .lent .room .words)
 
--- src/lib.rt:337:12
+-- src/lib.rt:340:12
 simple-tag-of-requires : (t : ℕ) → simple-lts.Need-tag-of-requires (
   last-of-reads.Asked,
   last-of-reads.Learnt,
@@ -4171,7 +5649,7 @@ simple-tag-of-requires : (t : ℕ) → simple-lts.Need-tag-of-requires (
 ) (simple-at t) simple.Post
 simple-tag-of-requires t c κs = search needs
 
--- src/lib.rt:338:54
+-- src/lib.rt:341:54
 simple-extra-of-requires : (t : ℕ) → simple-lts.Need-extra-of-requires (
   last-of-reads.Asked,
   last-of-reads.Learnt,
@@ -4194,7 +5672,7 @@ simple-extra-of-requires : (t : ℕ) → simple-lts.Need-extra-of-requires (
 ) (simple-at t) simple.Post
 simple-extra-of-requires t c κs = search needs
 
--- src/lib.rt:338:17
+-- src/lib.rt:341:17
 simple-put-word-requires : (t : ℕ) → simple-lts.Need-put-word-requires (
   last-of-reads.Asked,
   last-of-reads.Learnt,
@@ -4217,7 +5695,7 @@ simple-put-word-requires : (t : ℕ) → simple-lts.Need-put-word-requires (
 ) (simple-at t) simple.Post
 simple-put-word-requires t c κs = (let b = c .before .before .before .before .before .before .words in omega (arith, c .before .before .before .before .before .before .before .before .before .before .before .before .before .before .pre .1 .lent .lent .room .words), no-shape _ _ _ _ _ _ _ _ (c .before .before .before .before .before .before .before .fast-value .ensures) (c .before .before .before .before .before .before .before .before .before .before .before .before .before .before .pre .1 .lent) (c .before .before .before .before .if1 .taken))
 
--- src/lib.rt:339:13
+-- src/lib.rt:342:13
 simple-same-length : (t : ℕ) → simple-lts.Need-same-length (
   last-of-reads.Asked,
   last-of-reads.Learnt,
@@ -4240,7 +5718,7 @@ simple-same-length : (t : ℕ) → simple-lts.Need-same-length (
 ) (simple-at t) simple.Post
 simple-same-length t c = search needs
 
--- src/lib.rt:339:13
+-- src/lib.rt:342:13
 simple-returns : (t : ℕ) → simple-lts.Need-returns (
   last-of-reads.Asked,
   last-of-reads.Learnt,
@@ -4263,7 +5741,7 @@ simple-returns : (t : ℕ) → simple-lts.Need-returns (
 ) (simple-at t) simple.Post
 simple-returns t c = simple-fast _ _ _ _ _ _ _ _ _ _ (c .before .before .before .before .before .before .before .before .before .before .fast-value .ensures) (c .before .before .before .before .before .before .before .before .before .before .before .before .before .before .before .before .before .pre .1 .lent) (c .before .before .before .before .before .before .before .if1 .taken) _ _ _ _ (c .before .before .before .before .before .before .before .before .before .before .before .before .last-of .ensures .0) (is-assignment _ _ _ _ _ _ (c .before .before .before .before .before .before .tag-of .ensures) _ _ _ (c .before .before .before .before .before .if2 .taken) (c .before .before .before .extra-of .ensures .0) (c .before .before .put-word .ensures))
 
--- src/lib.rt:341:9
+-- src/lib.rt:344:9
 simple-pass-on-requires : (t : ℕ) → simple-lts.Need-pass-on-requires (
   last-of-reads.Asked,
   last-of-reads.Learnt,
@@ -4286,7 +5764,7 @@ simple-pass-on-requires : (t : ℕ) → simple-lts.Need-pass-on-requires (
 ) (simple-at t) simple.Post
 simple-pass-on-requires t c κs = λ q. c .if2 .left (c .before .tag-of .ensures ∙ q)
 
--- src/lib.rt:341:9
+-- src/lib.rt:344:9
 simple-same-length-2 : (t : ℕ) → simple-lts.Need-same-length-2 (
   last-of-reads.Asked,
   last-of-reads.Learnt,
@@ -4309,7 +5787,7 @@ simple-same-length-2 : (t : ℕ) → simple-lts.Need-same-length-2 (
 ) (simple-at t) simple.Post
 simple-same-length-2 t c = search needs
 
--- src/lib.rt:341:9
+-- src/lib.rt:344:9
 simple-returns-2 : (t : ℕ) → simple-lts.Need-returns-2 (
   last-of-reads.Asked,
   last-of-reads.Learnt,
@@ -4332,7 +5810,7 @@ simple-returns-2 : (t : ℕ) → simple-lts.Need-returns-2 (
 ) (simple-at t) simple.Post
 simple-returns-2 t c = simple-fast _ _ _ _ _ _ _ _ _ _ (c .before .before .before .before .before .before .fast-value .ensures) (c .before .before .before .before .before .before .before .before .before .before .before .before .before .pre .1 .lent) (c .before .before .before .if1 .taken) _ _ _ _ (c .before .before .before .before .before .before .before .before .last-of .ensures .0) (c .pass-on .ensures _ _ _)
 
--- src/lib.rt:343:11
+-- src/lib.rt:346:11
 simple-expression-requires : (t : ℕ) → simple-lts.Need-expression-requires (
   last-of-reads.Asked,
   last-of-reads.Learnt,
@@ -4355,7 +5833,7 @@ simple-expression-requires : (t : ℕ) → simple-lts.Need-expression-requires (
 ) (simple-at t) simple.Post
 simple-expression-requires t c κs = (omega arith, slow-lent _ _ _ _ _ _ _ _ (c .before .before .before .before .before .fast-value .ensures) (c .before .before .if1 .left) (c .before .before .before .before .before .before .before .before .before .before .before .before .pre .1 .lent))
 
--- src/lib.rt:344:22
+-- src/lib.rt:347:22
 simple-enum-known-v : (t : ℕ) → simple-lts.Need-enum-known-v (
   last-of-reads.Asked,
   last-of-reads.Learnt,
@@ -4378,7 +5856,7 @@ simple-enum-known-v : (t : ℕ) → simple-lts.Need-enum-known-v (
 ) (simple-at t) simple.Post
 simple-enum-known-v t c = search needs
 
--- src/lib.rt:344:68
+-- src/lib.rt:347:68
 simple-pack-requires : (t : ℕ) → simple-lts.Need-pack-requires (
   last-of-reads.Asked,
   last-of-reads.Learnt,
@@ -4401,7 +5879,7 @@ simple-pack-requires : (t : ℕ) → simple-lts.Need-pack-requires (
 ) (simple-at t) simple.Post
 simple-pack-requires t c κs = search needs
 
--- src/lib.rt:344:34
+-- src/lib.rt:347:34
 simple-finish-requires : (t : ℕ) → simple-lts.Need-finish-requires (
   last-of-reads.Asked,
   last-of-reads.Learnt,
@@ -4424,7 +5902,7 @@ simple-finish-requires : (t : ℕ) → simple-lts.Need-finish-requires (
 ) (simple-at t) simple.Post
 simple-finish-requires t c κs = still-room _ _ _ _ _ (c .before .before .before .before .before .before .before .before .before .before .before .before .before .before .before .before .before .before .before .before .before .before .pre .1 .lent) (let a0 = c .before .before .before .before .before .before .before .before .before .before .before .before .before .before .words in let a1 = c .before .before .before .before .before .before .words3 in omega arith)
 
--- src/lib.rt:345:29
+-- src/lib.rt:348:29
 simple-enum-told : (t : ℕ) → simple-lts.Need-enum-told (
   last-of-reads.Asked,
   last-of-reads.Learnt,
@@ -4447,7 +5925,7 @@ simple-enum-told : (t : ℕ) → simple-lts.Need-enum-told (
 ) (simple-at t) simple.Post
 simple-enum-told t c = search needs
 
--- src/lib.rt:346:28
+-- src/lib.rt:349:28
 simple-enum-known-u : (t : ℕ) → simple-lts.Need-enum-known-u (
   last-of-reads.Asked,
   last-of-reads.Learnt,
@@ -4470,7 +5948,7 @@ simple-enum-known-u : (t : ℕ) → simple-lts.Need-enum-known-u (
 ) (simple-at t) simple.Post
 simple-enum-known-u t c = search needs
 
--- src/lib.rt:347:27
+-- src/lib.rt:350:27
 simple-enum-known-n : (t : ℕ) → simple-lts.Need-enum-known-n (
   last-of-reads.Asked,
   last-of-reads.Learnt,
@@ -4493,7 +5971,7 @@ simple-enum-known-n : (t : ℕ) → simple-lts.Need-enum-known-n (
 ) (simple-at t) simple.Post
 simple-enum-known-n t c = search needs
 
--- src/lib.rt:349:21
+-- src/lib.rt:352:21
 simple-enum-known-n-2 : (t : ℕ) → simple-lts.Need-enum-known-n-2 (
   last-of-reads.Asked,
   last-of-reads.Learnt,
@@ -4516,7 +5994,7 @@ simple-enum-known-n-2 : (t : ℕ) → simple-lts.Need-enum-known-n-2 (
 ) (simple-at t) simple.Post
 simple-enum-known-n-2 t c = search needs
 
--- src/lib.rt:319:1
+-- src/lib.rt:322:1
 simple-same-length-3 : (t : ℕ) → simple-lts.Need-same-length-3 (
   last-of-reads.Asked,
   last-of-reads.Learnt,
@@ -4539,7 +6017,7 @@ simple-same-length-3 : (t : ℕ) → simple-lts.Need-same-length-3 (
 ) (simple-at t) simple.Post
 simple-same-length-3 t c = search needs
 
--- src/lib.rt:319:1
+-- src/lib.rt:322:1
 simple-same-length-4 : (t : ℕ) → simple-lts.Need-same-length-4 (
   last-of-reads.Asked,
   last-of-reads.Learnt,
@@ -4562,7 +6040,7 @@ simple-same-length-4 : (t : ℕ) → simple-lts.Need-same-length-4 (
 ) (simple-at t) simple.Post
 simple-same-length-4 t c = search needs
 
--- src/lib.rt:319:1
+-- src/lib.rt:322:1
 simple-returns-3 : (t : ℕ) → simple-lts.Need-returns-3 (
   last-of-reads.Asked,
   last-of-reads.Learnt,
@@ -4585,7 +6063,7 @@ simple-returns-3 : (t : ℕ) → simple-lts.Need-returns-3 (
 ) (simple-at t) simple.Post
 simple-returns-3 t c = simple-done _ _ _ _ _ _ _ _ _ _ (c .before .before .before .before .before .before .before .before .before .before .before .before .before .before .before .before .before .before .before .before .fast-value .ensures) (c .before .before .before .before .before .before .before .before .before .before .before .before .before .before .before .before .before .if1 .left) _ _ _ (c .before .before .before .before .before .before .before .before .before .before .before .before .before .before .expression .ensures) _ _ _ _ _ _ _ (c .before .before .before .before .before .before .before .before .before .before .before .before .before .before .before .before .before .before .before .before .before .before .last-of .ensures .0) (c .before .before .before .before .before .before .before .before .v .given .1) (c .before .before .before .before .before .pack .ensures) (c .before .before .before .before .finish .ensures) (c .enum-told .given .1)
 
--- src/lib.rt:319:1
+-- src/lib.rt:322:1
 simple-same-length-5 : (t : ℕ) → simple-lts.Need-same-length-5 (
   last-of-reads.Asked,
   last-of-reads.Learnt,
@@ -4608,7 +6086,7 @@ simple-same-length-5 : (t : ℕ) → simple-lts.Need-same-length-5 (
 ) (simple-at t) simple.Post
 simple-same-length-5 t c = search needs
 
--- src/lib.rt:319:1
+-- src/lib.rt:322:1
 simple-same-length-6 : (t : ℕ) → simple-lts.Need-same-length-6 (
   last-of-reads.Asked,
   last-of-reads.Learnt,
@@ -4631,7 +6109,7 @@ simple-same-length-6 : (t : ℕ) → simple-lts.Need-same-length-6 (
 ) (simple-at t) simple.Post
 simple-same-length-6 t c = search needs
 
--- src/lib.rt:319:1
+-- src/lib.rt:322:1
 simple-returns-4 : (t : ℕ) → simple-lts.Need-returns-4 (
   last-of-reads.Asked,
   last-of-reads.Learnt,
@@ -4654,7 +6132,7 @@ simple-returns-4 : (t : ℕ) → simple-lts.Need-returns-4 (
 ) (simple-at t) simple.Post
 simple-returns-4 t c = simple-done _ _ _ _ _ _ _ _ _ _ (c .before .before .before .before .before .before .before .before .before .before .before .before .before .before .before .before .before .before .before .before .before .fast-value .ensures) (c .before .before .before .before .before .before .before .before .before .before .before .before .before .before .before .before .before .before .if1 .left) _ _ _ (c .before .before .before .before .before .before .before .before .before .before .before .before .before .before .before .expression .ensures) _ _ _ _ _ _ _ (c .before .before .before .before .before .before .before .before .before .before .before .before .before .before .before .before .before .before .before .before .before .before .before .last-of .ensures .0) (c .before .before .before .before .before .before .before .before .before .v .given .1) (c .before .before .before .before .before .before .pack .ensures) (c .before .before .before .before .before .finish .ensures) (c .before .u .given .1)
 
--- src/lib.rt:319:1
+-- src/lib.rt:322:1
 simple-same-length-7 : (t : ℕ) → simple-lts.Need-same-length-7 (
   last-of-reads.Asked,
   last-of-reads.Learnt,
@@ -4677,7 +6155,7 @@ simple-same-length-7 : (t : ℕ) → simple-lts.Need-same-length-7 (
 ) (simple-at t) simple.Post
 simple-same-length-7 t c = search needs
 
--- src/lib.rt:319:1
+-- src/lib.rt:322:1
 simple-same-length-8 : (t : ℕ) → simple-lts.Need-same-length-8 (
   last-of-reads.Asked,
   last-of-reads.Learnt,
@@ -4700,7 +6178,7 @@ simple-same-length-8 : (t : ℕ) → simple-lts.Need-same-length-8 (
 ) (simple-at t) simple.Post
 simple-same-length-8 t c = search needs
 
--- src/lib.rt:319:1
+-- src/lib.rt:322:1
 simple-returns-5 : (t : ℕ) → simple-lts.Need-returns-5 (
   last-of-reads.Asked,
   last-of-reads.Learnt,
@@ -4723,7 +6201,7 @@ simple-returns-5 : (t : ℕ) → simple-lts.Need-returns-5 (
 ) (simple-at t) simple.Post
 simple-returns-5 t c = simple-done _ _ _ _ _ _ _ _ _ _ (c .before .before .before .before .before .before .before .before .before .before .before .before .before .before .before .before .before .before .before .before .before .fast-value .ensures) (c .before .before .before .before .before .before .before .before .before .before .before .before .before .before .before .before .before .before .if1 .left) _ _ _ (c .before .before .before .before .before .before .before .before .before .before .before .before .before .before .before .expression .ensures) _ _ _ _ _ _ _ (c .before .before .before .before .before .before .before .before .before .before .before .before .before .before .before .before .before .before .before .before .before .before .before .last-of .ensures .0) (c .before .before .before .before .before .before .before .before .before .v .given .1) (c .before .before .before .before .before .before .pack .ensures) (c .before .before .before .before .before .finish .ensures) (c .before .n .given .1)
 
--- src/lib.rt:319:1
+-- src/lib.rt:322:1
 simple-same-length-9 : (t : ℕ) → simple-lts.Need-same-length-9 (
   last-of-reads.Asked,
   last-of-reads.Learnt,
@@ -4746,7 +6224,7 @@ simple-same-length-9 : (t : ℕ) → simple-lts.Need-same-length-9 (
 ) (simple-at t) simple.Post
 simple-same-length-9 t c = search needs
 
--- src/lib.rt:319:1
+-- src/lib.rt:322:1
 simple-same-length-10 : (t : ℕ) → simple-lts.Need-same-length-10 (
   last-of-reads.Asked,
   last-of-reads.Learnt,
@@ -4769,7 +6247,7 @@ simple-same-length-10 : (t : ℕ) → simple-lts.Need-same-length-10 (
 ) (simple-at t) simple.Post
 simple-same-length-10 t c = search needs
 
--- src/lib.rt:319:1
+-- src/lib.rt:322:1
 simple-returns-6 : (t : ℕ) → simple-lts.Need-returns-6 (
   last-of-reads.Asked,
   last-of-reads.Learnt,
@@ -4792,7 +6270,7 @@ simple-returns-6 : (t : ℕ) → simple-lts.Need-returns-6 (
 ) (simple-at t) simple.Post
 simple-returns-6 t c = simple-stops _ _ _ _ _ _ _ _ _ _ (c .before .before .before .before .before .before .before .before .before .before .before .before .before .fast-value .ensures) (c .before .before .before .before .before .before .before .before .before .before .if1 .left) _ _ _ (c .before .before .before .before .before .before .before .expression .ensures) _ _ _ _ (c .before .before .before .before .before .before .before .before .before .before .before .before .before .before .before .last-of .ensures .0) (c .before .n2 .given .1)
 
--- src/lib.rt:443:9
+-- src/lib.rt:447:9
 statement-returns : (t : ℕ) → statement-lts.Need-returns (
   word-at-reads.Asked,
   word-at-reads.Learnt,
@@ -4814,6 +6292,8 @@ statement-returns : (t : ℕ) → statement-lts.Need-returns (
   update.Post,
   when-below t,
   when.Post,
+  each-below t,
+  each.Post,
   size-of-reads.Asked,
   size-of-reads.Learnt,
   statements-below t,
@@ -4823,7 +6303,7 @@ statement-returns : (t : ℕ) → statement-lts.Need-returns (
 ) (statement-at t) statement′.Post
 statement-returns t c = search statement-too-deep
 
--- src/lib.rt:445:9
+-- src/lib.rt:449:9
 statement-word-at-requires : (t : ℕ) → statement-lts.Need-word-at-requires (
   word-at-reads.Asked,
   word-at-reads.Learnt,
@@ -4845,6 +6325,8 @@ statement-word-at-requires : (t : ℕ) → statement-lts.Need-word-at-requires (
   update.Post,
   when-below t,
   when.Post,
+  each-below t,
+  each.Post,
   size-of-reads.Asked,
   size-of-reads.Learnt,
   statements-below t,
@@ -4854,7 +6336,7 @@ statement-word-at-requires : (t : ℕ) → statement-lts.Need-word-at-requires (
 ) (statement-at t) statement′.Post
 statement-word-at-requires t c κs = search needs
 
--- src/lib.rt:446:9
+-- src/lib.rt:450:9
 statement-place-of-requires : (t : ℕ) → statement-lts.Need-place-of-requires (
   word-at-reads.Asked,
   word-at-reads.Learnt,
@@ -4876,6 +6358,8 @@ statement-place-of-requires : (t : ℕ) → statement-lts.Need-place-of-requires
   update.Post,
   when-below t,
   when.Post,
+  each-below t,
+  each.Post,
   size-of-reads.Asked,
   size-of-reads.Learnt,
   statements-below t,
@@ -4885,7 +6369,7 @@ statement-place-of-requires : (t : ℕ) → statement-lts.Need-place-of-requires
 ) (statement-at t) statement′.Post
 statement-place-of-requires t c κs = search needs
 
--- src/lib.rt:447:9
+-- src/lib.rt:451:9
 statement-tag-of-requires : (t : ℕ) → statement-lts.Need-tag-of-requires (
   word-at-reads.Asked,
   word-at-reads.Learnt,
@@ -4907,6 +6391,8 @@ statement-tag-of-requires : (t : ℕ) → statement-lts.Need-tag-of-requires (
   update.Post,
   when-below t,
   when.Post,
+  each-below t,
+  each.Post,
   size-of-reads.Asked,
   size-of-reads.Learnt,
   statements-below t,
@@ -4916,7 +6402,7 @@ statement-tag-of-requires : (t : ℕ) → statement-lts.Need-tag-of-requires (
 ) (statement-at t) statement′.Post
 statement-tag-of-requires t c κs = search needs
 
--- src/lib.rt:455:13
+-- src/lib.rt:459:13
 statement-sub-repeat : (t : ℕ) → statement-lts.Need-sub-repeat (
   word-at-reads.Asked,
   word-at-reads.Learnt,
@@ -4938,6 +6424,8 @@ statement-sub-repeat : (t : ℕ) → statement-lts.Need-sub-repeat (
   update.Post,
   when-below t,
   when.Post,
+  each-below t,
+  each.Post,
   size-of-reads.Asked,
   size-of-reads.Learnt,
   statements-below t,
@@ -4947,7 +6435,7 @@ statement-sub-repeat : (t : ℕ) → statement-lts.Need-sub-repeat (
 ) (statement-at t) statement′.Post
 statement-sub-repeat t c = search needs
 
--- src/lib.rt:456:17
+-- src/lib.rt:460:17
 statement-extra-of-requires : (t : ℕ) → statement-lts.Need-extra-of-requires (
   word-at-reads.Asked,
   word-at-reads.Learnt,
@@ -4969,6 +6457,8 @@ statement-extra-of-requires : (t : ℕ) → statement-lts.Need-extra-of-requires
   update.Post,
   when-below t,
   when.Post,
+  each-below t,
+  each.Post,
   size-of-reads.Asked,
   size-of-reads.Learnt,
   statements-below t,
@@ -4978,7 +6468,7 @@ statement-extra-of-requires : (t : ℕ) → statement-lts.Need-extra-of-requires
 ) (statement-at t) statement′.Post
 statement-extra-of-requires t c κs = search needs
 
--- src/lib.rt:456:13
+-- src/lib.rt:460:13
 statement-add-repeat : (t : ℕ) → statement-lts.Need-add-repeat (
   word-at-reads.Asked,
   word-at-reads.Learnt,
@@ -5000,6 +6490,8 @@ statement-add-repeat : (t : ℕ) → statement-lts.Need-add-repeat (
   update.Post,
   when-below t,
   when.Post,
+  each-below t,
+  each.Post,
   size-of-reads.Asked,
   size-of-reads.Learnt,
   statements-below t,
@@ -5009,7 +6501,7 @@ statement-add-repeat : (t : ℕ) → statement-lts.Need-add-repeat (
 ) (statement-at t) statement′.Post
 statement-add-repeat t c = omega (arith, c .before .before .before .before .before .before .before .before .before .before .before .before .pre .1 .room, c .extra-of .ensures .1)
 
--- src/lib.rt:449:13
+-- src/lib.rt:453:13
 statement-repeat-requires : (t : ℕ) → statement-lts.Need-repeat-requires (
   word-at-reads.Asked,
   word-at-reads.Learnt,
@@ -5031,6 +6523,8 @@ statement-repeat-requires : (t : ℕ) → statement-lts.Need-repeat-requires (
   update.Post,
   when-below t,
   when.Post,
+  each-below t,
+  each.Post,
   size-of-reads.Asked,
   size-of-reads.Learnt,
   statements-below t,
@@ -5040,7 +6534,7 @@ statement-repeat-requires : (t : ℕ) → statement-lts.Need-repeat-requires (
 ) (statement-at t) statement′.Post
 statement-repeat-requires t c κs = (omega arith, record { lent = record { lent = c .before .before .before .before .before .before .before .before .before .before .before .before .pre .1 .lent .lent; deep = omega (arith, c .before .before .before .before .before .before .before .before .before .before .before .before .pre .1 .lent .deep) }; room = omega (arith, c .before .before .before .before .before .before .before .before .before .before .before .before .pre .1 .room, c .extra-of .ensures .1, c .before .before .before .before .before .before .before .if1 .left) })
 
--- src/lib.rt:459:9
+-- src/lib.rt:463:9
 statement-same-length : (t : ℕ) → statement-lts.Need-same-length (
   word-at-reads.Asked,
   word-at-reads.Learnt,
@@ -5062,6 +6556,8 @@ statement-same-length : (t : ℕ) → statement-lts.Need-same-length (
   update.Post,
   when-below t,
   when.Post,
+  each-below t,
+  each.Post,
   size-of-reads.Asked,
   size-of-reads.Learnt,
   statements-below t,
@@ -5071,7 +6567,7 @@ statement-same-length : (t : ℕ) → statement-lts.Need-same-length (
 ) (statement-at t) statement′.Post
 statement-same-length t c = search needs
 
--- src/lib.rt:459:9
+-- src/lib.rt:463:9
 statement-same-length-2 : (t : ℕ) → statement-lts.Need-same-length-2 (
   word-at-reads.Asked,
   word-at-reads.Learnt,
@@ -5093,6 +6589,8 @@ statement-same-length-2 : (t : ℕ) → statement-lts.Need-same-length-2 (
   update.Post,
   when-below t,
   when.Post,
+  each-below t,
+  each.Post,
   size-of-reads.Asked,
   size-of-reads.Learnt,
   statements-below t,
@@ -5102,7 +6600,7 @@ statement-same-length-2 : (t : ℕ) → statement-lts.Need-same-length-2 (
 ) (statement-at t) statement′.Post
 statement-same-length-2 t c = search needs
 
--- src/lib.rt:459:9
+-- src/lib.rt:463:9
 statement-returns-2 : (t : ℕ) → statement-lts.Need-returns-2 (
   word-at-reads.Asked,
   word-at-reads.Learnt,
@@ -5124,6 +6622,8 @@ statement-returns-2 : (t : ℕ) → statement-lts.Need-returns-2 (
   update.Post,
   when-below t,
   when.Post,
+  each-below t,
+  each.Post,
   size-of-reads.Asked,
   size-of-reads.Learnt,
   statements-below t,
@@ -5133,7 +6633,7 @@ statement-returns-2 : (t : ℕ) → statement-lts.Need-returns-2 (
 ) (statement-at t) statement′.Post
 statement-returns-2 t c = is-loop _ _ _ _ _ _ _ (c .before .before .before .before .before .before .before .before .before .before .before .before .if1 .left) _ (c .before .before .before .before .before .before .before .before .before .before .before .word-at .ensures) _ (c .before .before .before .before .before .before .before .before .before .before .place-of .ensures) _ (c .before .before .before .before .before .before .before .before .before .tag-of .ensures) _ _ (c .before .before .before .before .before .before .before .before .if2 .taken) (c .before .before .before .before .before .extra-of .ensures .0) (c .before .before .before .before .repeat .ensures)
 
--- src/lib.rt:461:9
+-- src/lib.rt:465:9
 statement-count-requires : (t : ℕ) → statement-lts.Need-count-requires (
   word-at-reads.Asked,
   word-at-reads.Learnt,
@@ -5155,6 +6655,8 @@ statement-count-requires : (t : ℕ) → statement-lts.Need-count-requires (
   update.Post,
   when-below t,
   when.Post,
+  each-below t,
+  each.Post,
   size-of-reads.Asked,
   size-of-reads.Learnt,
   statements-below t,
@@ -5164,7 +6666,7 @@ statement-count-requires : (t : ℕ) → statement-lts.Need-count-requires (
 ) (statement-at t) statement′.Post
 statement-count-requires t c κs = omega (arith, c .before .before .before .before .before .before .before .before .before .before .pre .1 .lent .lent .room .words)
 
--- src/lib.rt:462:9
+-- src/lib.rt:466:9
 statement-same-length-3 : (t : ℕ) → statement-lts.Need-same-length-3 (
   word-at-reads.Asked,
   word-at-reads.Learnt,
@@ -5186,6 +6688,8 @@ statement-same-length-3 : (t : ℕ) → statement-lts.Need-same-length-3 (
   update.Post,
   when-below t,
   when.Post,
+  each-below t,
+  each.Post,
   size-of-reads.Asked,
   size-of-reads.Learnt,
   statements-below t,
@@ -5195,7 +6699,7 @@ statement-same-length-3 : (t : ℕ) → statement-lts.Need-same-length-3 (
 ) (statement-at t) statement′.Post
 statement-same-length-3 t c = search needs
 
--- src/lib.rt:462:9
+-- src/lib.rt:466:9
 statement-returns-3 : (t : ℕ) → statement-lts.Need-returns-3 (
   word-at-reads.Asked,
   word-at-reads.Learnt,
@@ -5217,6 +6721,8 @@ statement-returns-3 : (t : ℕ) → statement-lts.Need-returns-3 (
   update.Post,
   when-below t,
   when.Post,
+  each-below t,
+  each.Post,
   size-of-reads.Asked,
   size-of-reads.Learnt,
   statements-below t,
@@ -5226,7 +6732,7 @@ statement-returns-3 : (t : ℕ) → statement-lts.Need-returns-3 (
 ) (statement-at t) statement′.Post
 statement-returns-3 t c = statement-no-step _ _ _ _ _ _ _ (c .before .before .before .before .before .before .before .before .before .if1 .left) _ (c .before .before .before .before .before .before .before .before .word-at .ensures) _ (c .before .before .before .before .before .before .before .place-of .ensures) _ (c .before .before .before .before .before .before .tag-of .ensures) (c .before .before .before .before .before .if2 .left) _ _ (c .before .before .before .count .ensures) (c .if3 .taken)
 
--- src/lib.rt:466:45
+-- src/lib.rt:470:45
 statement-extra-of-requires-2 : (t : ℕ) → statement-lts.Need-extra-of-requires-2 (
   word-at-reads.Asked,
   word-at-reads.Learnt,
@@ -5248,6 +6754,8 @@ statement-extra-of-requires-2 : (t : ℕ) → statement-lts.Need-extra-of-requir
   update.Post,
   when-below t,
   when.Post,
+  each-below t,
+  each.Post,
   size-of-reads.Asked,
   size-of-reads.Learnt,
   statements-below t,
@@ -5257,7 +6765,7 @@ statement-extra-of-requires-2 : (t : ℕ) → statement-lts.Need-extra-of-requir
 ) (statement-at t) statement′.Post
 statement-extra-of-requires-2 t c κs = search needs
 
--- src/lib.rt:466:17
+-- src/lib.rt:470:17
 statement-declare-requires : (t : ℕ) → statement-lts.Need-declare-requires (
   word-at-reads.Asked,
   word-at-reads.Learnt,
@@ -5279,6 +6787,8 @@ statement-declare-requires : (t : ℕ) → statement-lts.Need-declare-requires (
   update.Post,
   when-below t,
   when.Post,
+  each-below t,
+  each.Post,
   size-of-reads.Asked,
   size-of-reads.Learnt,
   statements-below t,
@@ -5288,7 +6798,7 @@ statement-declare-requires : (t : ℕ) → statement-lts.Need-declare-requires (
 ) (statement-at t) statement′.Post
 statement-declare-requires t c κs = let b = c .before .before .before .before .before .words2 in omega (arith, c .before .before .before .before .before .before .before .before .before .before .before .before .before .before .before .before .before .pre .1 .lent .lent .room .words)
 
--- src/lib.rt:476:17
+-- src/lib.rt:480:17
 statement-sub-update : (t : ℕ) → statement-lts.Need-sub-update (
   word-at-reads.Asked,
   word-at-reads.Learnt,
@@ -5310,6 +6820,8 @@ statement-sub-update : (t : ℕ) → statement-lts.Need-sub-update (
   update.Post,
   when-below t,
   when.Post,
+  each-below t,
+  each.Post,
   size-of-reads.Asked,
   size-of-reads.Learnt,
   statements-below t,
@@ -5319,7 +6831,7 @@ statement-sub-update : (t : ℕ) → statement-lts.Need-sub-update (
 ) (statement-at t) statement′.Post
 statement-sub-update t c = search needs
 
--- src/lib.rt:477:17
+-- src/lib.rt:481:17
 statement-last-of-requires : (t : ℕ) → statement-lts.Need-last-of-requires (
   word-at-reads.Asked,
   word-at-reads.Learnt,
@@ -5341,6 +6853,8 @@ statement-last-of-requires : (t : ℕ) → statement-lts.Need-last-of-requires (
   update.Post,
   when-below t,
   when.Post,
+  each-below t,
+  each.Post,
   size-of-reads.Asked,
   size-of-reads.Learnt,
   statements-below t,
@@ -5350,7 +6864,7 @@ statement-last-of-requires : (t : ℕ) → statement-lts.Need-last-of-requires (
 ) (statement-at t) statement′.Post
 statement-last-of-requires t c κs = omega (arith, c .before .before .before .before .before .before .before .before .before .before .before .before .before .before .before .before .before .pre .1 .room)
 
--- src/lib.rt:470:17
+-- src/lib.rt:474:17
 statement-update-requires : (t : ℕ) → statement-lts.Need-update-requires (
   word-at-reads.Asked,
   word-at-reads.Learnt,
@@ -5372,6 +6886,8 @@ statement-update-requires : (t : ℕ) → statement-lts.Need-update-requires (
   update.Post,
   when-below t,
   when.Post,
+  each-below t,
+  each.Post,
   size-of-reads.Asked,
   size-of-reads.Learnt,
   statements-below t,
@@ -5381,7 +6897,7 @@ statement-update-requires : (t : ℕ) → statement-lts.Need-update-requires (
 ) (statement-at t) statement′.Post
 statement-update-requires t c κs = (omega arith, record { lent = still-lent-words _ _ _ _ (c .before .before .before .before .before .before .before .before .before .before .before .before .before .before .before .before .before .before .pre .1 .lent .lent) (let a0 = c .before .before .before .before .before .before .words2 in omega arith); deep = omega (arith, c .before .before .before .before .before .before .before .before .before .before .before .before .before .before .before .before .before .before .pre .1 .lent .deep) })
 
--- src/lib.rt:489:17
+-- src/lib.rt:493:17
 statement-sub-when : (t : ℕ) → statement-lts.Need-sub-when (
   word-at-reads.Asked,
   word-at-reads.Learnt,
@@ -5403,6 +6919,8 @@ statement-sub-when : (t : ℕ) → statement-lts.Need-sub-when (
   update.Post,
   when-below t,
   when.Post,
+  each-below t,
+  each.Post,
   size-of-reads.Asked,
   size-of-reads.Learnt,
   statements-below t,
@@ -5412,7 +6930,7 @@ statement-sub-when : (t : ℕ) → statement-lts.Need-sub-when (
 ) (statement-at t) statement′.Post
 statement-sub-when t c = search needs
 
--- src/lib.rt:490:21
+-- src/lib.rt:494:21
 statement-extra-of-requires-3 : (t : ℕ) → statement-lts.Need-extra-of-requires-3 (
   word-at-reads.Asked,
   word-at-reads.Learnt,
@@ -5434,6 +6952,8 @@ statement-extra-of-requires-3 : (t : ℕ) → statement-lts.Need-extra-of-requir
   update.Post,
   when-below t,
   when.Post,
+  each-below t,
+  each.Post,
   size-of-reads.Asked,
   size-of-reads.Learnt,
   statements-below t,
@@ -5443,7 +6963,7 @@ statement-extra-of-requires-3 : (t : ℕ) → statement-lts.Need-extra-of-requir
 ) (statement-at t) statement′.Post
 statement-extra-of-requires-3 t c κs = search needs
 
--- src/lib.rt:490:17
+-- src/lib.rt:494:17
 statement-add-when : (t : ℕ) → statement-lts.Need-add-when (
   word-at-reads.Asked,
   word-at-reads.Learnt,
@@ -5465,6 +6985,8 @@ statement-add-when : (t : ℕ) → statement-lts.Need-add-when (
   update.Post,
   when-below t,
   when.Post,
+  each-below t,
+  each.Post,
   size-of-reads.Asked,
   size-of-reads.Learnt,
   statements-below t,
@@ -5474,7 +6996,7 @@ statement-add-when : (t : ℕ) → statement-lts.Need-add-when (
 ) (statement-at t) statement′.Post
 statement-add-when t c = omega (arith, c .before .before .before .before .before .before .before .before .before .before .before .before .before .before .before .before .before .before .pre .1 .room, c .extra-of3 .ensures .1)
 
--- src/lib.rt:483:17
+-- src/lib.rt:487:17
 statement-when-requires : (t : ℕ) → statement-lts.Need-when-requires (
   word-at-reads.Asked,
   word-at-reads.Learnt,
@@ -5496,6 +7018,8 @@ statement-when-requires : (t : ℕ) → statement-lts.Need-when-requires (
   update.Post,
   when-below t,
   when.Post,
+  each-below t,
+  each.Post,
   size-of-reads.Asked,
   size-of-reads.Learnt,
   statements-below t,
@@ -5505,7 +7029,205 @@ statement-when-requires : (t : ℕ) → statement-lts.Need-when-requires (
 ) (statement-at t) statement′.Post
 statement-when-requires t c κs = (omega arith, record { lent = record { lent = still-lent-words _ _ _ _ (c .before .before .before .before .before .before .before .before .before .before .before .before .before .before .before .before .before .before .pre .1 .lent .lent) (let a0 = c .before .before .before .before .before .before .words2 in omega arith); deep = omega (arith, c .before .before .before .before .before .before .before .before .before .before .before .before .before .before .before .before .before .before .pre .1 .lent .deep) }; room = omega (arith, c .before .before .before .before .before .before .before .before .before .before .before .before .before .before .before .before .before .before .pre .1 .room, c .extra-of3 .ensures .1, c .before .before .before .before .before .before .before .before .before .before .before .before .before .if1 .left) })
 
--- src/lib.rt:496:17
+-- src/lib.rt:506:17
+statement-sub-each : (t : ℕ) → statement-lts.Need-sub-each (
+  word-at-reads.Asked,
+  word-at-reads.Learnt,
+  place-of-reads.Asked,
+  place-of-reads.Learnt,
+  tag-of-reads.Asked,
+  tag-of-reads.Learnt,
+  extra-of-reads.Asked,
+  extra-of-reads.Learnt,
+  repeat-below t,
+  repeat.Post,
+  count-reads.Asked,
+  count-reads.Learnt,
+  declare-reads.Asked,
+  declare-reads.Learnt,
+  last-of-reads.Asked,
+  last-of-reads.Learnt,
+  update-below t,
+  update.Post,
+  when-below t,
+  when.Post,
+  each-below t,
+  each.Post,
+  size-of-reads.Asked,
+  size-of-reads.Learnt,
+  statements-below t,
+  statements.Post,
+  simple-below t,
+  simple.Post,
+) (statement-at t) statement′.Post
+statement-sub-each t c = search needs
+
+-- src/lib.rt:507:46
+statement-add-word-at : (t : ℕ) → statement-lts.Need-add-word-at (
+  word-at-reads.Asked,
+  word-at-reads.Learnt,
+  place-of-reads.Asked,
+  place-of-reads.Learnt,
+  tag-of-reads.Asked,
+  tag-of-reads.Learnt,
+  extra-of-reads.Asked,
+  extra-of-reads.Learnt,
+  repeat-below t,
+  repeat.Post,
+  count-reads.Asked,
+  count-reads.Learnt,
+  declare-reads.Asked,
+  declare-reads.Learnt,
+  last-of-reads.Asked,
+  last-of-reads.Learnt,
+  update-below t,
+  update.Post,
+  when-below t,
+  when.Post,
+  each-below t,
+  each.Post,
+  size-of-reads.Asked,
+  size-of-reads.Learnt,
+  statements-below t,
+  statements.Post,
+  simple-below t,
+  simple.Post,
+) (statement-at t) statement′.Post
+statement-add-word-at t c = omega (arith, c .before .before .before .before .before .before .before .before .before .before .before .before .before .before .before .before .before .pre .1 .room)
+
+-- src/lib.rt:507:17
+statement-word-at-requires-2 : (t : ℕ) → statement-lts.Need-word-at-requires-2 (
+  word-at-reads.Asked,
+  word-at-reads.Learnt,
+  place-of-reads.Asked,
+  place-of-reads.Learnt,
+  tag-of-reads.Asked,
+  tag-of-reads.Learnt,
+  extra-of-reads.Asked,
+  extra-of-reads.Learnt,
+  repeat-below t,
+  repeat.Post,
+  count-reads.Asked,
+  count-reads.Learnt,
+  declare-reads.Asked,
+  declare-reads.Learnt,
+  last-of-reads.Asked,
+  last-of-reads.Learnt,
+  update-below t,
+  update.Post,
+  when-below t,
+  when.Post,
+  each-below t,
+  each.Post,
+  size-of-reads.Asked,
+  size-of-reads.Learnt,
+  statements-below t,
+  statements.Post,
+  simple-below t,
+  simple.Post,
+) (statement-at t) statement′.Post
+statement-word-at-requires-2 t c κs = search needs
+
+-- src/lib.rt:508:21
+statement-extra-of-requires-4 : (t : ℕ) → statement-lts.Need-extra-of-requires-4 (
+  word-at-reads.Asked,
+  word-at-reads.Learnt,
+  place-of-reads.Asked,
+  place-of-reads.Learnt,
+  tag-of-reads.Asked,
+  tag-of-reads.Learnt,
+  extra-of-reads.Asked,
+  extra-of-reads.Learnt,
+  repeat-below t,
+  repeat.Post,
+  count-reads.Asked,
+  count-reads.Learnt,
+  declare-reads.Asked,
+  declare-reads.Learnt,
+  last-of-reads.Asked,
+  last-of-reads.Learnt,
+  update-below t,
+  update.Post,
+  when-below t,
+  when.Post,
+  each-below t,
+  each.Post,
+  size-of-reads.Asked,
+  size-of-reads.Learnt,
+  statements-below t,
+  statements.Post,
+  simple-below t,
+  simple.Post,
+) (statement-at t) statement′.Post
+statement-extra-of-requires-4 t c κs = search needs
+
+-- src/lib.rt:508:17
+statement-add-each : (t : ℕ) → statement-lts.Need-add-each (
+  word-at-reads.Asked,
+  word-at-reads.Learnt,
+  place-of-reads.Asked,
+  place-of-reads.Learnt,
+  tag-of-reads.Asked,
+  tag-of-reads.Learnt,
+  extra-of-reads.Asked,
+  extra-of-reads.Learnt,
+  repeat-below t,
+  repeat.Post,
+  count-reads.Asked,
+  count-reads.Learnt,
+  declare-reads.Asked,
+  declare-reads.Learnt,
+  last-of-reads.Asked,
+  last-of-reads.Learnt,
+  update-below t,
+  update.Post,
+  when-below t,
+  when.Post,
+  each-below t,
+  each.Post,
+  size-of-reads.Asked,
+  size-of-reads.Learnt,
+  statements-below t,
+  statements.Post,
+  simple-below t,
+  simple.Post,
+) (statement-at t) statement′.Post
+statement-add-each t c = omega (arith, c .before .before .before .before .before .before .before .before .before .before .before .before .before .before .before .before .before .before .before .pre .1 .room, c .extra-of4 .ensures .1)
+
+-- src/lib.rt:500:17
+statement-each-requires : (t : ℕ) → statement-lts.Need-each-requires (
+  word-at-reads.Asked,
+  word-at-reads.Learnt,
+  place-of-reads.Asked,
+  place-of-reads.Learnt,
+  tag-of-reads.Asked,
+  tag-of-reads.Learnt,
+  extra-of-reads.Asked,
+  extra-of-reads.Learnt,
+  repeat-below t,
+  repeat.Post,
+  count-reads.Asked,
+  count-reads.Learnt,
+  declare-reads.Asked,
+  declare-reads.Learnt,
+  last-of-reads.Asked,
+  last-of-reads.Learnt,
+  update-below t,
+  update.Post,
+  when-below t,
+  when.Post,
+  each-below t,
+  each.Post,
+  size-of-reads.Asked,
+  size-of-reads.Learnt,
+  statements-below t,
+  statements.Post,
+  simple-below t,
+  simple.Post,
+) (statement-at t) statement′.Post
+statement-each-requires t c κs = (omega arith, record { lent = record { lent = still-lent-words _ _ _ _ (c .before .before .before .before .before .before .before .before .before .before .before .before .before .before .before .before .before .before .before .pre .1 .lent .lent) (let a0 = c .before .before .before .before .before .before .before .words2 in omega arith); deep = omega (arith, c .before .before .before .before .before .before .before .before .before .before .before .before .before .before .before .before .before .before .before .pre .1 .lent .deep) }; room = omega (arith, c .before .before .before .before .before .before .before .before .before .before .before .before .before .before .before .before .before .before .before .pre .1 .room, c .extra-of4 .ensures .1, c .before .before .before .before .before .before .before .before .before .before .before .before .before .before .if1 .left) })
+
+-- src/lib.rt:514:17
 statement-size-of-requires : (t : ℕ) → statement-lts.Need-size-of-requires (
   word-at-reads.Asked,
   word-at-reads.Learnt,
@@ -5527,6 +7249,8 @@ statement-size-of-requires : (t : ℕ) → statement-lts.Need-size-of-requires (
   update.Post,
   when-below t,
   when.Post,
+  each-below t,
+  each.Post,
   size-of-reads.Asked,
   size-of-reads.Learnt,
   statements-below t,
@@ -5536,7 +7260,7 @@ statement-size-of-requires : (t : ℕ) → statement-lts.Need-size-of-requires (
 ) (statement-at t) statement′.Post
 statement-size-of-requires t c κs = search needs
 
--- src/lib.rt:503:17
+-- src/lib.rt:521:17
 statement-sub-statements : (t : ℕ) → statement-lts.Need-sub-statements (
   word-at-reads.Asked,
   word-at-reads.Learnt,
@@ -5558,6 +7282,8 @@ statement-sub-statements : (t : ℕ) → statement-lts.Need-sub-statements (
   update.Post,
   when-below t,
   when.Post,
+  each-below t,
+  each.Post,
   size-of-reads.Asked,
   size-of-reads.Learnt,
   statements-below t,
@@ -5567,7 +7293,7 @@ statement-sub-statements : (t : ℕ) → statement-lts.Need-sub-statements (
 ) (statement-at t) statement′.Post
 statement-sub-statements t c = search needs
 
--- src/lib.rt:504:17
+-- src/lib.rt:522:17
 statement-add-statements : (t : ℕ) → statement-lts.Need-add-statements (
   word-at-reads.Asked,
   word-at-reads.Learnt,
@@ -5589,6 +7315,8 @@ statement-add-statements : (t : ℕ) → statement-lts.Need-add-statements (
   update.Post,
   when-below t,
   when.Post,
+  each-below t,
+  each.Post,
   size-of-reads.Asked,
   size-of-reads.Learnt,
   statements-below t,
@@ -5598,7 +7326,7 @@ statement-add-statements : (t : ℕ) → statement-lts.Need-add-statements (
 ) (statement-at t) statement′.Post
 statement-add-statements t c = omega (arith, c .before .before .before .before .before .before .before .before .before .before .before .before .before .before .before .before .before .before .pre .1 .room, c .before .before .size-of .ensures, c .before .before .before .before .before .before .before .before .before .before .before .before .before .if1 .left)
 
--- src/lib.rt:505:17
+-- src/lib.rt:523:17
 statement-add-statements-2 : (t : ℕ) → statement-lts.Need-add-statements-2 (
   word-at-reads.Asked,
   word-at-reads.Learnt,
@@ -5620,6 +7348,8 @@ statement-add-statements-2 : (t : ℕ) → statement-lts.Need-add-statements-2 (
   update.Post,
   when-below t,
   when.Post,
+  each-below t,
+  each.Post,
   size-of-reads.Asked,
   size-of-reads.Learnt,
   statements-below t,
@@ -5629,7 +7359,7 @@ statement-add-statements-2 : (t : ℕ) → statement-lts.Need-add-statements-2 (
 ) (statement-at t) statement′.Post
 statement-add-statements-2 t c = omega (arith, c .before .before .before .before .before .before .before .before .before .before .before .before .before .before .before .before .before .before .pre .1 .room, c .before .before .size-of .ensures, c .before .before .before .before .before .before .before .before .before .before .before .before .before .if1 .left)
 
--- src/lib.rt:506:17
+-- src/lib.rt:524:17
 statement-add-statements-3 : (t : ℕ) → statement-lts.Need-add-statements-3 (
   word-at-reads.Asked,
   word-at-reads.Learnt,
@@ -5651,6 +7381,8 @@ statement-add-statements-3 : (t : ℕ) → statement-lts.Need-add-statements-3 (
   update.Post,
   when-below t,
   when.Post,
+  each-below t,
+  each.Post,
   size-of-reads.Asked,
   size-of-reads.Learnt,
   statements-below t,
@@ -5660,7 +7392,7 @@ statement-add-statements-3 : (t : ℕ) → statement-lts.Need-add-statements-3 (
 ) (statement-at t) statement′.Post
 statement-add-statements-3 t c = omega (arith, c .before .before .before .before .before .before .before .before .before .before .before .before .before .before .before .before .before .before .pre .1 .room, c .before .before .size-of .ensures, c .before .before .before .before .before .before .before .before .before .before .before .before .before .if1 .left)
 
--- src/lib.rt:497:17
+-- src/lib.rt:515:17
 statement-statements-requires : (t : ℕ) → statement-lts.Need-statements-requires (
   word-at-reads.Asked,
   word-at-reads.Learnt,
@@ -5682,6 +7414,8 @@ statement-statements-requires : (t : ℕ) → statement-lts.Need-statements-requ
   update.Post,
   when-below t,
   when.Post,
+  each-below t,
+  each.Post,
   size-of-reads.Asked,
   size-of-reads.Learnt,
   statements-below t,
@@ -5691,7 +7425,7 @@ statement-statements-requires : (t : ℕ) → statement-lts.Need-statements-requ
 ) (statement-at t) statement′.Post
 statement-statements-requires t c κs = (omega arith, record { lent = record { lent = still-lent-words _ _ _ _ (c .before .before .before .before .before .before .before .before .before .before .before .before .before .before .before .before .before .before .pre .1 .lent .lent) (let a0 = c .before .before .before .before .before .before .words2 in omega arith); deep = omega (arith, c .before .before .before .before .before .before .before .before .before .before .before .before .before .before .before .before .before .before .pre .1 .lent .deep) }; room = omega (arith, c .before .before .before .before .before .before .before .before .before .before .before .before .before .before .before .before .before .before .pre .1 .room, c .before .before .size-of .ensures, c .before .before .before .before .before .before .before .before .before .before .before .before .before .if1 .left) })
 
--- src/lib.rt:511:65
+-- src/lib.rt:529:65
 statement-sub-simple : (t : ℕ) → statement-lts.Need-sub-simple (
   word-at-reads.Asked,
   word-at-reads.Learnt,
@@ -5713,6 +7447,8 @@ statement-sub-simple : (t : ℕ) → statement-lts.Need-sub-simple (
   update.Post,
   when-below t,
   when.Post,
+  each-below t,
+  each.Post,
   size-of-reads.Asked,
   size-of-reads.Learnt,
   statements-below t,
@@ -5722,7 +7458,7 @@ statement-sub-simple : (t : ℕ) → statement-lts.Need-sub-simple (
 ) (statement-at t) statement′.Post
 statement-sub-simple t c = search needs
 
--- src/lib.rt:511:17
+-- src/lib.rt:529:17
 statement-simple-requires : (t : ℕ) → statement-lts.Need-simple-requires (
   word-at-reads.Asked,
   word-at-reads.Learnt,
@@ -5744,6 +7480,8 @@ statement-simple-requires : (t : ℕ) → statement-lts.Need-simple-requires (
   update.Post,
   when-below t,
   when.Post,
+  each-below t,
+  each.Post,
   size-of-reads.Asked,
   size-of-reads.Learnt,
   statements-below t,
@@ -5753,7 +7491,7 @@ statement-simple-requires : (t : ℕ) → statement-lts.Need-simple-requires (
 ) (statement-at t) statement′.Post
 statement-simple-requires t c κs = (omega arith, record { lent = record { lent = still-lent-words _ _ _ _ (c .before .before .before .before .before .before .before .before .before .before .before .before .before .before .before .before .before .pre .1 .lent .lent) (let a0 = c .before .before .before .before .before .words2 in omega arith); deep = omega (arith, c .before .before .before .before .before .before .before .before .before .before .before .before .before .before .before .before .before .pre .1 .lent .deep) }; room = omega (arith, c .before .before .before .before .before .before .before .before .before .before .before .before .before .before .before .before .before .pre .1 .room) })
 
--- src/lib.rt:429:1
+-- src/lib.rt:433:1
 statement-same-length-4 : (t : ℕ) → statement-lts.Need-same-length-4 (
   word-at-reads.Asked,
   word-at-reads.Learnt,
@@ -5775,6 +7513,8 @@ statement-same-length-4 : (t : ℕ) → statement-lts.Need-same-length-4 (
   update.Post,
   when-below t,
   when.Post,
+  each-below t,
+  each.Post,
   size-of-reads.Asked,
   size-of-reads.Learnt,
   statements-below t,
@@ -5784,7 +7524,7 @@ statement-same-length-4 : (t : ℕ) → statement-lts.Need-same-length-4 (
 ) (statement-at t) statement′.Post
 statement-same-length-4 t c = search needs
 
--- src/lib.rt:429:1
+-- src/lib.rt:433:1
 statement-returns-4 : (t : ℕ) → statement-lts.Need-returns-4 (
   word-at-reads.Asked,
   word-at-reads.Learnt,
@@ -5806,6 +7546,8 @@ statement-returns-4 : (t : ℕ) → statement-lts.Need-returns-4 (
   update.Post,
   when-below t,
   when.Post,
+  each-below t,
+  each.Post,
   size-of-reads.Asked,
   size-of-reads.Learnt,
   statements-below t,
@@ -5815,7 +7557,7 @@ statement-returns-4 : (t : ℕ) → statement-lts.Need-returns-4 (
 ) (statement-at t) statement′.Post
 statement-returns-4 t c = is-declaration _ _ _ _ _ _ _ (c .before .before .before .before .before .before .before .before .before .before .before .before .before .before .before .if1 .left) _ (c .before .before .before .before .before .before .before .before .before .before .before .before .before .before .word-at .ensures) _ (c .before .before .before .before .before .before .before .before .before .before .before .before .before .place-of .ensures) _ (c .before .before .before .before .before .before .before .before .before .before .before .before .tag-of .ensures) (c .before .before .before .before .before .before .before .before .before .before .before .if2 .left) _ _ (c .before .before .before .before .before .before .before .before .before .count .ensures) (c .before .before .before .before .before .before .if3 .left) _ _ _ (c .before .before .before .before .before .match .keys1) (c .before .before .before .extra-of2 .ensures .0) (c .before .before .declare .ensures)
 
--- src/lib.rt:429:1
+-- src/lib.rt:433:1
 statement-same-length-5 : (t : ℕ) → statement-lts.Need-same-length-5 (
   word-at-reads.Asked,
   word-at-reads.Learnt,
@@ -5837,6 +7579,8 @@ statement-same-length-5 : (t : ℕ) → statement-lts.Need-same-length-5 (
   update.Post,
   when-below t,
   when.Post,
+  each-below t,
+  each.Post,
   size-of-reads.Asked,
   size-of-reads.Learnt,
   statements-below t,
@@ -5846,7 +7590,7 @@ statement-same-length-5 : (t : ℕ) → statement-lts.Need-same-length-5 (
 ) (statement-at t) statement′.Post
 statement-same-length-5 t c = search needs
 
--- src/lib.rt:429:1
+-- src/lib.rt:433:1
 statement-same-length-6 : (t : ℕ) → statement-lts.Need-same-length-6 (
   word-at-reads.Asked,
   word-at-reads.Learnt,
@@ -5868,6 +7612,8 @@ statement-same-length-6 : (t : ℕ) → statement-lts.Need-same-length-6 (
   update.Post,
   when-below t,
   when.Post,
+  each-below t,
+  each.Post,
   size-of-reads.Asked,
   size-of-reads.Learnt,
   statements-below t,
@@ -5877,7 +7623,7 @@ statement-same-length-6 : (t : ℕ) → statement-lts.Need-same-length-6 (
 ) (statement-at t) statement′.Post
 statement-same-length-6 t c = search needs
 
--- src/lib.rt:429:1
+-- src/lib.rt:433:1
 statement-returns-5 : (t : ℕ) → statement-lts.Need-returns-5 (
   word-at-reads.Asked,
   word-at-reads.Learnt,
@@ -5899,6 +7645,8 @@ statement-returns-5 : (t : ℕ) → statement-lts.Need-returns-5 (
   update.Post,
   when-below t,
   when.Post,
+  each-below t,
+  each.Post,
   size-of-reads.Asked,
   size-of-reads.Learnt,
   statements-below t,
@@ -5908,7 +7656,7 @@ statement-returns-5 : (t : ℕ) → statement-lts.Need-returns-5 (
 ) (statement-at t) statement′.Post
 statement-returns-5 t c = is-update _ _ _ _ _ _ _ (c .before .before .before .before .before .before .before .before .before .before .before .before .before .before .before .before .before .before .if1 .left) _ (c .before .before .before .before .before .before .before .before .before .before .before .before .before .before .before .before .before .word-at .ensures) _ (c .before .before .before .before .before .before .before .before .before .before .before .before .before .before .before .before .place-of .ensures) _ (c .before .before .before .before .before .before .before .before .before .before .before .before .before .before .before .tag-of .ensures) (c .before .before .before .before .before .before .before .before .before .before .before .before .before .before .if2 .left) _ _ (c .before .before .before .before .before .before .before .before .before .before .before .before .count .ensures) (c .before .before .before .before .before .before .before .before .before .if3 .left) _ _ (c .before .before .before .before .before .before .before .before .match .keys2) (c .before .before .before .before .before .last-of .ensures .0) (c .before .before .before .before .update .ensures)
 
--- src/lib.rt:429:1
+-- src/lib.rt:433:1
 statement-same-length-7 : (t : ℕ) → statement-lts.Need-same-length-7 (
   word-at-reads.Asked,
   word-at-reads.Learnt,
@@ -5930,6 +7678,8 @@ statement-same-length-7 : (t : ℕ) → statement-lts.Need-same-length-7 (
   update.Post,
   when-below t,
   when.Post,
+  each-below t,
+  each.Post,
   size-of-reads.Asked,
   size-of-reads.Learnt,
   statements-below t,
@@ -5939,7 +7689,7 @@ statement-same-length-7 : (t : ℕ) → statement-lts.Need-same-length-7 (
 ) (statement-at t) statement′.Post
 statement-same-length-7 t c = search needs
 
--- src/lib.rt:429:1
+-- src/lib.rt:433:1
 statement-same-length-8 : (t : ℕ) → statement-lts.Need-same-length-8 (
   word-at-reads.Asked,
   word-at-reads.Learnt,
@@ -5961,6 +7711,8 @@ statement-same-length-8 : (t : ℕ) → statement-lts.Need-same-length-8 (
   update.Post,
   when-below t,
   when.Post,
+  each-below t,
+  each.Post,
   size-of-reads.Asked,
   size-of-reads.Learnt,
   statements-below t,
@@ -5970,7 +7722,7 @@ statement-same-length-8 : (t : ℕ) → statement-lts.Need-same-length-8 (
 ) (statement-at t) statement′.Post
 statement-same-length-8 t c = search needs
 
--- src/lib.rt:429:1
+-- src/lib.rt:433:1
 statement-returns-6 : (t : ℕ) → statement-lts.Need-returns-6 (
   word-at-reads.Asked,
   word-at-reads.Learnt,
@@ -5992,6 +7744,8 @@ statement-returns-6 : (t : ℕ) → statement-lts.Need-returns-6 (
   update.Post,
   when-below t,
   when.Post,
+  each-below t,
+  each.Post,
   size-of-reads.Asked,
   size-of-reads.Learnt,
   statements-below t,
@@ -6001,7 +7755,7 @@ statement-returns-6 : (t : ℕ) → statement-lts.Need-returns-6 (
 ) (statement-at t) statement′.Post
 statement-returns-6 t c = is-when _ _ _ _ _ _ _ (c .before .before .before .before .before .before .before .before .before .before .before .before .before .before .before .before .before .before .if1 .left) _ (c .before .before .before .before .before .before .before .before .before .before .before .before .before .before .before .before .before .word-at .ensures) _ (c .before .before .before .before .before .before .before .before .before .before .before .before .before .before .before .before .place-of .ensures) _ (c .before .before .before .before .before .before .before .before .before .before .before .before .before .before .before .tag-of .ensures) (c .before .before .before .before .before .before .before .before .before .before .before .before .before .before .if2 .left) _ _ (c .before .before .before .before .before .before .before .before .before .before .before .before .count .ensures) (c .before .before .before .before .before .before .before .before .before .if3 .left) _ _ (c .before .before .before .before .before .before .before .before .match .keys3) (c .before .before .before .before .before .extra-of3 .ensures .0) (c .before .before .before .before .when .ensures)
 
--- src/lib.rt:429:1
+-- src/lib.rt:433:1
 statement-same-length-9 : (t : ℕ) → statement-lts.Need-same-length-9 (
   word-at-reads.Asked,
   word-at-reads.Learnt,
@@ -6023,6 +7777,8 @@ statement-same-length-9 : (t : ℕ) → statement-lts.Need-same-length-9 (
   update.Post,
   when-below t,
   when.Post,
+  each-below t,
+  each.Post,
   size-of-reads.Asked,
   size-of-reads.Learnt,
   statements-below t,
@@ -6032,7 +7788,7 @@ statement-same-length-9 : (t : ℕ) → statement-lts.Need-same-length-9 (
 ) (statement-at t) statement′.Post
 statement-same-length-9 t c = search needs
 
--- src/lib.rt:429:1
+-- src/lib.rt:433:1
 statement-same-length-10 : (t : ℕ) → statement-lts.Need-same-length-10 (
   word-at-reads.Asked,
   word-at-reads.Learnt,
@@ -6054,6 +7810,8 @@ statement-same-length-10 : (t : ℕ) → statement-lts.Need-same-length-10 (
   update.Post,
   when-below t,
   when.Post,
+  each-below t,
+  each.Post,
   size-of-reads.Asked,
   size-of-reads.Learnt,
   statements-below t,
@@ -6063,7 +7821,7 @@ statement-same-length-10 : (t : ℕ) → statement-lts.Need-same-length-10 (
 ) (statement-at t) statement′.Post
 statement-same-length-10 t c = search needs
 
--- src/lib.rt:429:1
+-- src/lib.rt:433:1
 statement-returns-7 : (t : ℕ) → statement-lts.Need-returns-7 (
   word-at-reads.Asked,
   word-at-reads.Learnt,
@@ -6085,6 +7843,8 @@ statement-returns-7 : (t : ℕ) → statement-lts.Need-returns-7 (
   update.Post,
   when-below t,
   when.Post,
+  each-below t,
+  each.Post,
   size-of-reads.Asked,
   size-of-reads.Learnt,
   statements-below t,
@@ -6092,9 +7852,9 @@ statement-returns-7 : (t : ℕ) → statement-lts.Need-returns-7 (
   simple-below t,
   simple.Post,
 ) (statement-at t) statement′.Post
-statement-returns-7 t c = is-block _ _ _ _ _ _ _ (c .before .before .before .before .before .before .before .before .before .before .before .before .before .before .before .before .before .before .if1 .left) _ (c .before .before .before .before .before .before .before .before .before .before .before .before .before .before .before .before .before .word-at .ensures) _ (c .before .before .before .before .before .before .before .before .before .before .before .before .before .before .before .before .place-of .ensures) _ (c .before .before .before .before .before .before .before .before .before .before .before .before .before .before .before .tag-of .ensures) (c .before .before .before .before .before .before .before .before .before .before .before .before .before .before .if2 .left) _ _ (c .before .before .before .before .before .before .before .before .before .before .before .before .count .ensures) (c .before .before .before .before .before .before .before .before .before .if3 .left) _ _ (c .before .before .before .before .before .before .before .before .match .keys4) (c .before .before .before .before .before .before .before .size-of .ensures) (c .before .before .before .before .statements .ensures)
+statement-returns-7 t c = is-foreach _ _ _ _ _ _ _ (c .before .before .before .before .before .before .before .before .before .before .before .before .before .before .before .before .before .before .before .if1 .left) _ (c .before .before .before .before .before .before .before .before .before .before .before .before .before .before .before .before .before .before .word-at .ensures) _ (c .before .before .before .before .before .before .before .before .before .before .before .before .before .before .before .before .before .place-of .ensures) _ (c .before .before .before .before .before .before .before .before .before .before .before .before .before .before .before .before .tag-of .ensures) (c .before .before .before .before .before .before .before .before .before .before .before .before .before .before .before .if2 .left) _ _ (c .before .before .before .before .before .before .before .before .before .before .before .before .before .count .ensures) (c .before .before .before .before .before .before .before .before .before .before .if3 .left) _ _ _ (c .before .before .before .before .before .before .before .before .before .match .keys4) (c .before .before .before .before .before .extra-of4 .ensures .0) (c .before .before .before .before .before .before .word-at2 .ensures) (c .before .before .before .before .each .ensures)
 
--- src/lib.rt:429:1
+-- src/lib.rt:433:1
 statement-same-length-11 : (t : ℕ) → statement-lts.Need-same-length-11 (
   word-at-reads.Asked,
   word-at-reads.Learnt,
@@ -6116,6 +7876,8 @@ statement-same-length-11 : (t : ℕ) → statement-lts.Need-same-length-11 (
   update.Post,
   when-below t,
   when.Post,
+  each-below t,
+  each.Post,
   size-of-reads.Asked,
   size-of-reads.Learnt,
   statements-below t,
@@ -6125,7 +7887,7 @@ statement-same-length-11 : (t : ℕ) → statement-lts.Need-same-length-11 (
 ) (statement-at t) statement′.Post
 statement-same-length-11 t c = search needs
 
--- src/lib.rt:429:1
+-- src/lib.rt:433:1
 statement-same-length-12 : (t : ℕ) → statement-lts.Need-same-length-12 (
   word-at-reads.Asked,
   word-at-reads.Learnt,
@@ -6147,6 +7909,8 @@ statement-same-length-12 : (t : ℕ) → statement-lts.Need-same-length-12 (
   update.Post,
   when-below t,
   when.Post,
+  each-below t,
+  each.Post,
   size-of-reads.Asked,
   size-of-reads.Learnt,
   statements-below t,
@@ -6156,7 +7920,7 @@ statement-same-length-12 : (t : ℕ) → statement-lts.Need-same-length-12 (
 ) (statement-at t) statement′.Post
 statement-same-length-12 t c = search needs
 
--- src/lib.rt:429:1
+-- src/lib.rt:433:1
 statement-returns-8 : (t : ℕ) → statement-lts.Need-returns-8 (
   word-at-reads.Asked,
   word-at-reads.Learnt,
@@ -6178,6 +7942,8 @@ statement-returns-8 : (t : ℕ) → statement-lts.Need-returns-8 (
   update.Post,
   when-below t,
   when.Post,
+  each-below t,
+  each.Post,
   size-of-reads.Asked,
   size-of-reads.Learnt,
   statements-below t,
@@ -6185,17 +7951,114 @@ statement-returns-8 : (t : ℕ) → statement-lts.Need-returns-8 (
   simple-below t,
   simple.Post,
 ) (statement-at t) statement′.Post
-statement-returns-8 t c = is-simple _ _ _ _ _ _ _ (c .before .before .before .before .before .before .before .before .before .before .before .before .before .before .before .before .before .if1 .left) _ (c .before .before .before .before .before .before .before .before .before .before .before .before .before .before .before .before .word-at .ensures) _ (c .before .before .before .before .before .before .before .before .before .before .before .before .before .before .before .place-of .ensures) _ (c .before .before .before .before .before .before .before .before .before .before .before .before .before .before .tag-of .ensures) (c .before .before .before .before .before .before .before .before .before .before .before .before .before .if2 .left) _ _ (c .before .before .before .before .before .before .before .before .before .before .before .count .ensures) (c .before .before .before .before .before .before .before .before .if3 .left) _ (c .before .before .before .before .before .before .before .match .rest .0 .0 .0 .1) (c .before .before .before .before .before .before .before .match .rest .0 .0 .1) (c .before .before .before .before .before .before .before .match .rest .0 .1) (c .before .before .before .before .before .before .before .match .rest .1) (c .before .before .before .before .simple .ensures)
+statement-returns-8 t c = is-block _ _ _ _ _ _ _ (c .before .before .before .before .before .before .before .before .before .before .before .before .before .before .before .before .before .before .if1 .left) _ (c .before .before .before .before .before .before .before .before .before .before .before .before .before .before .before .before .before .word-at .ensures) _ (c .before .before .before .before .before .before .before .before .before .before .before .before .before .before .before .before .place-of .ensures) _ (c .before .before .before .before .before .before .before .before .before .before .before .before .before .before .before .tag-of .ensures) (c .before .before .before .before .before .before .before .before .before .before .before .before .before .before .if2 .left) _ _ (c .before .before .before .before .before .before .before .before .before .before .before .before .count .ensures) (c .before .before .before .before .before .before .before .before .before .if3 .left) _ _ (c .before .before .before .before .before .before .before .before .match .keys5) (c .before .before .before .before .before .before .before .size-of .ensures) (c .before .before .before .before .statements .ensures)
+
+-- src/lib.rt:433:1
+statement-same-length-13 : (t : ℕ) → statement-lts.Need-same-length-13 (
+  word-at-reads.Asked,
+  word-at-reads.Learnt,
+  place-of-reads.Asked,
+  place-of-reads.Learnt,
+  tag-of-reads.Asked,
+  tag-of-reads.Learnt,
+  extra-of-reads.Asked,
+  extra-of-reads.Learnt,
+  repeat-below t,
+  repeat.Post,
+  count-reads.Asked,
+  count-reads.Learnt,
+  declare-reads.Asked,
+  declare-reads.Learnt,
+  last-of-reads.Asked,
+  last-of-reads.Learnt,
+  update-below t,
+  update.Post,
+  when-below t,
+  when.Post,
+  each-below t,
+  each.Post,
+  size-of-reads.Asked,
+  size-of-reads.Learnt,
+  statements-below t,
+  statements.Post,
+  simple-below t,
+  simple.Post,
+) (statement-at t) statement′.Post
+statement-same-length-13 t c = search needs
+
+-- src/lib.rt:433:1
+statement-same-length-14 : (t : ℕ) → statement-lts.Need-same-length-14 (
+  word-at-reads.Asked,
+  word-at-reads.Learnt,
+  place-of-reads.Asked,
+  place-of-reads.Learnt,
+  tag-of-reads.Asked,
+  tag-of-reads.Learnt,
+  extra-of-reads.Asked,
+  extra-of-reads.Learnt,
+  repeat-below t,
+  repeat.Post,
+  count-reads.Asked,
+  count-reads.Learnt,
+  declare-reads.Asked,
+  declare-reads.Learnt,
+  last-of-reads.Asked,
+  last-of-reads.Learnt,
+  update-below t,
+  update.Post,
+  when-below t,
+  when.Post,
+  each-below t,
+  each.Post,
+  size-of-reads.Asked,
+  size-of-reads.Learnt,
+  statements-below t,
+  statements.Post,
+  simple-below t,
+  simple.Post,
+) (statement-at t) statement′.Post
+statement-same-length-14 t c = search needs
+
+-- src/lib.rt:433:1
+statement-returns-9 : (t : ℕ) → statement-lts.Need-returns-9 (
+  word-at-reads.Asked,
+  word-at-reads.Learnt,
+  place-of-reads.Asked,
+  place-of-reads.Learnt,
+  tag-of-reads.Asked,
+  tag-of-reads.Learnt,
+  extra-of-reads.Asked,
+  extra-of-reads.Learnt,
+  repeat-below t,
+  repeat.Post,
+  count-reads.Asked,
+  count-reads.Learnt,
+  declare-reads.Asked,
+  declare-reads.Learnt,
+  last-of-reads.Asked,
+  last-of-reads.Learnt,
+  update-below t,
+  update.Post,
+  when-below t,
+  when.Post,
+  each-below t,
+  each.Post,
+  size-of-reads.Asked,
+  size-of-reads.Learnt,
+  statements-below t,
+  statements.Post,
+  simple-below t,
+  simple.Post,
+) (statement-at t) statement′.Post
+statement-returns-9 t c = is-simple _ _ _ _ _ _ _ (c .before .before .before .before .before .before .before .before .before .before .before .before .before .before .before .before .before .if1 .left) _ (c .before .before .before .before .before .before .before .before .before .before .before .before .before .before .before .before .word-at .ensures) _ (c .before .before .before .before .before .before .before .before .before .before .before .before .before .before .before .place-of .ensures) _ (c .before .before .before .before .before .before .before .before .before .before .before .before .before .before .tag-of .ensures) (c .before .before .before .before .before .before .before .before .before .before .before .before .before .if2 .left) _ _ (c .before .before .before .before .before .before .before .before .before .before .before .count .ensures) (c .before .before .before .before .before .before .before .before .if3 .left) _ (c .before .before .before .before .before .before .before .match .rest .0 .0 .0 .0 .1) (c .before .before .before .before .before .before .before .match .rest .0 .0 .0 .1) (c .before .before .before .before .before .before .before .match .rest .0 .0 .1) (c .before .before .before .before .before .before .before .match .rest .0 .1) (c .before .before .before .before .before .before .before .match .rest .1) (c .before .before .before .before .simple .ensures)
 
 abbrev statements-Inv-loop : statements-lts.InvT-loop
-statements-Inv-loop program code grants texts₀ words₀ fuel a end rounds at₀ left₀ texts words at left =
-    Following program code grants fuel texts₀ words₀ a end rounds texts words at left
+statements-Inv-loop program code grants texts₀ words₀ fuel a end rounds at₀ left₀ texts words at left = Following program code grants fuel texts₀ words₀ a end rounds texts words at left
 
 abbrev statements-μ-loop : statements-lts.MeasureT-loop
-statements-μ-loop program code grants texts₀ words₀ fuel a end rounds at₀ left₀ texts words at left =
-    left
+statements-μ-loop program code grants texts₀ words₀ fuel a end rounds at₀ left₀ texts words at left = left
 
--- src/lib.rt:596:5
+-- src/lib.rt:614:5
 statements-loop-holds : (t : ℕ) → statements-lts.Need-loop-holds (
   statement-below t,
   statement′.Post,
@@ -6206,7 +8069,7 @@ statements-loop-holds : (t : ℕ) → statements-lts.Need-loop-holds (
 ) (statements-at t) statements.Post statements-Inv-loop statements-μ-loop
 statements-loop-holds t c = all-first _ _ _ _ _ _ _ _ _ (c .before .before .before .before .pre .1)
 
--- src/lib.rt:597:9
+-- src/lib.rt:615:9
 statements-sub-left : (t : ℕ) → statements-lts.Need-sub-left (
   statement-below t,
   statement′.Post,
@@ -6217,7 +8080,7 @@ statements-sub-left : (t : ℕ) → statements-lts.Need-sub-left (
 ) (statements-at t) statements.Post statements-Inv-loop statements-μ-loop
 statements-sub-left t c = search needs
 
--- src/lib.rt:599:13
+-- src/lib.rt:617:13
 statements-same-length : (t : ℕ) → statements-lts.Need-same-length (
   statement-below t,
   statement′.Post,
@@ -6228,7 +8091,7 @@ statements-same-length : (t : ℕ) → statements-lts.Need-same-length (
 ) (statements-at t) statements.Post statements-Inv-loop statements-μ-loop
 statements-same-length t c = search needs
 
--- src/lib.rt:599:13
+-- src/lib.rt:617:13
 statements-same-length-2 : (t : ℕ) → statements-lts.Need-same-length-2 (
   statement-below t,
   statement′.Post,
@@ -6239,7 +8102,7 @@ statements-same-length-2 : (t : ℕ) → statements-lts.Need-same-length-2 (
 ) (statements-at t) statements.Post statements-Inv-loop statements-μ-loop
 statements-same-length-2 t c = search needs
 
--- src/lib.rt:599:13
+-- src/lib.rt:617:13
 statements-returns : (t : ℕ) → statements-lts.Need-returns (
   statement-below t,
   statement′.Post,
@@ -6250,7 +8113,7 @@ statements-returns : (t : ℕ) → statements-lts.Need-returns (
 ) (statements-at t) statements.Post statements-Inv-loop statements-μ-loop
 statements-returns t c = all-done _ _ _ _ _ _ _ _ _ _ _ _ _ (c .before .before .loop .inv) (c .before .loop-test .taken) (c .if1 .taken)
 
--- src/lib.rt:601:15
+-- src/lib.rt:619:15
 statements-statement-requires : (t : ℕ) → statements-lts.Need-statement-requires (
   statement-below t,
   statement′.Post,
@@ -6271,7 +8134,7 @@ statements-enum-told : (t : ℕ) → statements-lts.Need-enum-told (
 ) (statements-at t) statements.Post statements-Inv-loop statements-μ-loop
 statements-enum-told t c = search needs
 
--- src/lib.rt:603:28
+-- src/lib.rt:621:28
 statements-enum-known-v : (t : ℕ) → statements-lts.Need-enum-known-v (
   statement-below t,
   statement′.Post,
@@ -6282,7 +8145,7 @@ statements-enum-known-v : (t : ℕ) → statements-lts.Need-enum-known-v (
 ) (statements-at t) statements.Post statements-Inv-loop statements-μ-loop
 statements-enum-known-v t c = search needs
 
--- src/lib.rt:603:34
+-- src/lib.rt:621:34
 statements-same-length-3 : (t : ℕ) → statements-lts.Need-same-length-3 (
   statement-below t,
   statement′.Post,
@@ -6293,7 +8156,7 @@ statements-same-length-3 : (t : ℕ) → statements-lts.Need-same-length-3 (
 ) (statements-at t) statements.Post statements-Inv-loop statements-μ-loop
 statements-same-length-3 t c = search needs
 
--- src/lib.rt:603:34
+-- src/lib.rt:621:34
 statements-same-length-4 : (t : ℕ) → statements-lts.Need-same-length-4 (
   statement-below t,
   statement′.Post,
@@ -6304,7 +8167,7 @@ statements-same-length-4 : (t : ℕ) → statements-lts.Need-same-length-4 (
 ) (statements-at t) statements.Post statements-Inv-loop statements-μ-loop
 statements-same-length-4 t c = search needs
 
--- src/lib.rt:603:34
+-- src/lib.rt:621:34
 statements-returns-2 : (t : ℕ) → statements-lts.Need-returns-2 (
   statement-below t,
   statement′.Post,
@@ -6315,7 +8178,7 @@ statements-returns-2 : (t : ℕ) → statements-lts.Need-returns-2 (
 ) (statements-at t) statements.Post statements-Inv-loop statements-μ-loop
 statements-returns-2 t c = all-returns _ _ _ _ _ _ _ _ _ _ _ _ _ (c .before .before .before .before .before .before .before .before .before .before .before .before .loop .inv) (c .before .before .before .before .before .before .before .before .before .before .before .loop-test .taken) (c .before .before .before .before .before .before .before .before .before .before .if1 .left) _ _ _ (c .before .before .before .before .before .before .before .statement .ensures) _ (c .before .v .given .1)
 
--- src/lib.rt:604:27
+-- src/lib.rt:622:27
 statements-enum-known-n : (t : ℕ) → statements-lts.Need-enum-known-n (
   statement-below t,
   statement′.Post,
@@ -6326,7 +8189,7 @@ statements-enum-known-n : (t : ℕ) → statements-lts.Need-enum-known-n (
 ) (statements-at t) statements.Post statements-Inv-loop statements-μ-loop
 statements-enum-known-n t c = search needs
 
--- src/lib.rt:604:36
+-- src/lib.rt:622:36
 statements-same-length-5 : (t : ℕ) → statements-lts.Need-same-length-5 (
   statement-below t,
   statement′.Post,
@@ -6337,7 +8200,7 @@ statements-same-length-5 : (t : ℕ) → statements-lts.Need-same-length-5 (
 ) (statements-at t) statements.Post statements-Inv-loop statements-μ-loop
 statements-same-length-5 t c = search needs
 
--- src/lib.rt:604:36
+-- src/lib.rt:622:36
 statements-same-length-6 : (t : ℕ) → statements-lts.Need-same-length-6 (
   statement-below t,
   statement′.Post,
@@ -6348,7 +8211,7 @@ statements-same-length-6 : (t : ℕ) → statements-lts.Need-same-length-6 (
 ) (statements-at t) statements.Post statements-Inv-loop statements-μ-loop
 statements-same-length-6 t c = search needs
 
--- src/lib.rt:604:36
+-- src/lib.rt:622:36
 statements-returns-3 : (t : ℕ) → statements-lts.Need-returns-3 (
   statement-below t,
   statement′.Post,
@@ -6359,7 +8222,7 @@ statements-returns-3 : (t : ℕ) → statements-lts.Need-returns-3 (
 ) (statements-at t) statements.Post statements-Inv-loop statements-μ-loop
 statements-returns-3 t c = all-fails _ _ _ _ _ _ _ _ _ _ _ _ _ (c .before .before .before .before .before .before .before .before .before .before .before .before .loop .inv) (c .before .before .before .before .before .before .before .before .before .before .before .loop-test .taken) (c .before .before .before .before .before .before .before .before .before .before .if1 .left) _ _ _ (c .before .before .before .before .before .before .before .statement .ensures) _ _ (c .before .n .given .1)
 
--- src/lib.rt:606:29
+-- src/lib.rt:624:29
 statements-word-at-requires : (t : ℕ) → statements-lts.Need-word-at-requires (
   statement-below t,
   statement′.Post,
@@ -6370,7 +8233,7 @@ statements-word-at-requires : (t : ℕ) → statements-lts.Need-word-at-requires
 ) (statements-at t) statements.Post statements-Inv-loop statements-μ-loop
 statements-word-at-requires t c κs = search needs
 
--- src/lib.rt:606:15
+-- src/lib.rt:624:15
 statements-size-of-requires : (t : ℕ) → statements-lts.Need-size-of-requires (
   statement-below t,
   statement′.Post,
@@ -6381,7 +8244,7 @@ statements-size-of-requires : (t : ℕ) → statements-lts.Need-size-of-requires
 ) (statements-at t) statements.Post statements-Inv-loop statements-μ-loop
 statements-size-of-requires t c κs = search needs
 
--- src/lib.rt:606:9
+-- src/lib.rt:624:9
 statements-add-at : (t : ℕ) → statements-lts.Need-add-at (
   statement-below t,
   statement′.Post,
@@ -6392,7 +8255,7 @@ statements-add-at : (t : ℕ) → statements-lts.Need-add-at (
 ) (statements-at t) statements.Post statements-Inv-loop statements-μ-loop
 statements-add-at t c = omega (arith, c .before .before .before .before .before .before .before .before .before .before .before .before .before .before .before .before .before .before .pre .1 .room, c .before .before .before .before .before .before .before .before .before .before .before .if1 .left, c .size-of .ensures)
 
--- src/lib.rt:596:5
+-- src/lib.rt:614:5
 statements-loop-less : (t : ℕ) → statements-lts.Need-loop-less (
   statement-below t,
   statement′.Post,
@@ -6403,7 +8266,7 @@ statements-loop-less : (t : ℕ) → statements-lts.Need-loop-less (
 ) (statements-at t) statements.Post statements-Inv-loop statements-μ-loop
 statements-loop-less t c = omega arith
 
--- src/lib.rt:596:5
+-- src/lib.rt:614:5
 statements-loop-again : (t : ℕ) → statements-lts.Need-loop-again (
   statement-below t,
   statement′.Post,
@@ -6414,7 +8277,7 @@ statements-loop-again : (t : ℕ) → statements-lts.Need-loop-again (
 ) (statements-at t) statements.Post statements-Inv-loop statements-μ-loop
 statements-loop-again t c = all-again _ _ _ _ _ _ _ _ _ _ _ _ _ (c .before .before .before .before .before .before .before .before .before .before .before .before .before .loop .inv) (c .before .before .before .before .before .before .before .before .before .before .before .before .loop-test .taken) (c .before .before .before .before .before .before .before .before .before .before .before .if1 .left) _ _ _ (c .before .before .before .before .before .before .before .before .statement .ensures) _ _ (let a0 = c .before .before .before .before .before .before .before .texts in omega arith) (let a0 = c .before .before .before .before .before .words in omega arith) (c .before .before .enum-told .given .1) (c .before .word-at .ensures) (c .size-of .ensures)
 
--- src/lib.rt:579:1
+-- src/lib.rt:597:1
 statements-same-length-7 : (t : ℕ) → statements-lts.Need-same-length-7 (
   statement-below t,
   statement′.Post,
@@ -6425,7 +8288,7 @@ statements-same-length-7 : (t : ℕ) → statements-lts.Need-same-length-7 (
 ) (statements-at t) statements.Post statements-Inv-loop statements-μ-loop
 statements-same-length-7 t c = search needs
 
--- src/lib.rt:579:1
+-- src/lib.rt:597:1
 statements-same-length-8 : (t : ℕ) → statements-lts.Need-same-length-8 (
   statement-below t,
   statement′.Post,
@@ -6436,7 +8299,7 @@ statements-same-length-8 : (t : ℕ) → statements-lts.Need-same-length-8 (
 ) (statements-at t) statements.Post statements-Inv-loop statements-μ-loop
 statements-same-length-8 t c = search needs
 
--- src/lib.rt:579:1
+-- src/lib.rt:597:1
 statements-returns-4 : (t : ℕ) → statements-lts.Need-returns-4 (
   statement-below t,
   statement′.Post,
@@ -6447,7 +8310,7 @@ statements-returns-4 : (t : ℕ) → statements-lts.Need-returns-4 (
 ) (statements-at t) statements.Post statements-Inv-loop statements-μ-loop
 statements-returns-4 t c = all-short _ _ _ _ _ _ _ _ _ _ _ _ _ (c .before .loop .inv) (omega arith)
 
--- src/lib.rt:416:16
+-- src/lib.rt:420:16
 test-sub-code : (t : ℕ) → test-lts.Need-sub-code (
   fast-value-reads.Asked,
   fast-value-reads.Learnt,
@@ -6460,7 +8323,7 @@ test-sub-code : (t : ℕ) → test-lts.Need-sub-code (
 ) (test-at t) test.Post
 test-sub-code t c = search needs
 
--- src/lib.rt:416:16
+-- src/lib.rt:420:16
 test-part-code-start : (t : ℕ) → test-lts.Need-part-code-start (
   fast-value-reads.Asked,
   fast-value-reads.Learnt,
@@ -6473,7 +8336,7 @@ test-part-code-start : (t : ℕ) → test-lts.Need-part-code-start (
 ) (test-at t) test.Post
 test-part-code-start t c = search needs
 
--- src/lib.rt:416:16
+-- src/lib.rt:420:16
 test-part-code-end : (t : ℕ) → test-lts.Need-part-code-end (
   fast-value-reads.Asked,
   fast-value-reads.Learnt,
@@ -6486,7 +8349,7 @@ test-part-code-end : (t : ℕ) → test-lts.Need-part-code-end (
 ) (test-at t) test.Post
 test-part-code-end t c = search needs
 
--- src/lib.rt:417:9
+-- src/lib.rt:421:9
 test-fast-value-requires : (t : ℕ) → test-lts.Need-fast-value-requires (
   fast-value-reads.Asked,
   fast-value-reads.Learnt,
@@ -6499,7 +8362,7 @@ test-fast-value-requires : (t : ℕ) → test-lts.Need-fast-value-requires (
 ) (test-at t) test.Post
 test-fast-value-requires t c κs = omega (arith, c .before .before .before .before .before .before .pre .1 .lent .room .words)
 
--- src/lib.rt:419:9
+-- src/lib.rt:423:9
 test-outcome-of-requires : (t : ℕ) → test-lts.Need-outcome-of-requires (
   fast-value-reads.Asked,
   fast-value-reads.Learnt,
@@ -6512,7 +8375,7 @@ test-outcome-of-requires : (t : ℕ) → test-lts.Need-outcome-of-requires (
 ) (test-at t) test.Post
 test-outcome-of-requires t c κs = search needs
 
--- src/lib.rt:419:9
+-- src/lib.rt:423:9
 test-same-length : (t : ℕ) → test-lts.Need-same-length (
   fast-value-reads.Asked,
   fast-value-reads.Learnt,
@@ -6525,7 +8388,7 @@ test-same-length : (t : ℕ) → test-lts.Need-same-length (
 ) (test-at t) test.Post
 test-same-length t c = search needs
 
--- src/lib.rt:419:9
+-- src/lib.rt:423:9
 test-returns : (t : ℕ) → test-lts.Need-returns (
   fast-value-reads.Asked,
   fast-value-reads.Learnt,
@@ -6538,7 +8401,7 @@ test-returns : (t : ℕ) → test-lts.Need-returns (
 ) (test-at t) test.Post
 test-returns t c = test-fast _ _ _ _ _ _ _ _ _ _ (worked-anew _ _ _ _ _ _ _ (c .before .before .before .before .fast-value .ensures)) (c .before .before .before .before .before .before .before .before .before .before .before .pre .1) (c .before .if1 .taken) _ (c .outcome-of .ensures)
 
--- src/lib.rt:421:11
+-- src/lib.rt:425:11
 test-expression-requires : (t : ℕ) → test-lts.Need-expression-requires (
   fast-value-reads.Asked,
   fast-value-reads.Learnt,
@@ -6551,7 +8414,7 @@ test-expression-requires : (t : ℕ) → test-lts.Need-expression-requires (
 ) (test-at t) test.Post
 test-expression-requires t c κs = (omega arith, slow-lent _ _ _ _ _ _ _ _ (c .before .before .before .before .before .fast-value .ensures) (c .before .before .if1 .left) (c .before .before .before .before .before .before .before .before .before .before .before .before .pre .1))
 
--- src/lib.rt:422:22
+-- src/lib.rt:426:22
 test-enum-known-v : (t : ℕ) → test-lts.Need-enum-known-v (
   fast-value-reads.Asked,
   fast-value-reads.Learnt,
@@ -6564,7 +8427,7 @@ test-enum-known-v : (t : ℕ) → test-lts.Need-enum-known-v (
 ) (test-at t) test.Post
 test-enum-known-v t c = search needs
 
--- src/lib.rt:422:48
+-- src/lib.rt:426:48
 test-pack-requires : (t : ℕ) → test-lts.Need-pack-requires (
   fast-value-reads.Asked,
   fast-value-reads.Learnt,
@@ -6577,7 +8440,7 @@ test-pack-requires : (t : ℕ) → test-lts.Need-pack-requires (
 ) (test-at t) test.Post
 test-pack-requires t c κs = search needs
 
--- src/lib.rt:422:28
+-- src/lib.rt:426:28
 test-outcome-of-requires-2 : (t : ℕ) → test-lts.Need-outcome-of-requires-2 (
   fast-value-reads.Asked,
   fast-value-reads.Learnt,
@@ -6590,7 +8453,7 @@ test-outcome-of-requires-2 : (t : ℕ) → test-lts.Need-outcome-of-requires-2 (
 ) (test-at t) test.Post
 test-outcome-of-requires-2 t c κs = search needs
 
--- src/lib.rt:423:21
+-- src/lib.rt:427:21
 test-enum-known-n : (t : ℕ) → test-lts.Need-enum-known-n (
   fast-value-reads.Asked,
   fast-value-reads.Learnt,
@@ -6603,7 +8466,7 @@ test-enum-known-n : (t : ℕ) → test-lts.Need-enum-known-n (
 ) (test-at t) test.Post
 test-enum-known-n t c = search needs
 
--- src/lib.rt:402:1
+-- src/lib.rt:406:1
 test-same-length-2 : (t : ℕ) → test-lts.Need-same-length-2 (
   fast-value-reads.Asked,
   fast-value-reads.Learnt,
@@ -6616,7 +8479,7 @@ test-same-length-2 : (t : ℕ) → test-lts.Need-same-length-2 (
 ) (test-at t) test.Post
 test-same-length-2 t c = search needs
 
--- src/lib.rt:402:1
+-- src/lib.rt:406:1
 test-same-length-3 : (t : ℕ) → test-lts.Need-same-length-3 (
   fast-value-reads.Asked,
   fast-value-reads.Learnt,
@@ -6629,7 +8492,7 @@ test-same-length-3 : (t : ℕ) → test-lts.Need-same-length-3 (
 ) (test-at t) test.Post
 test-same-length-3 t c = search needs
 
--- src/lib.rt:402:1
+-- src/lib.rt:406:1
 test-returns-2 : (t : ℕ) → test-lts.Need-returns-2 (
   fast-value-reads.Asked,
   fast-value-reads.Learnt,
@@ -6642,7 +8505,7 @@ test-returns-2 : (t : ℕ) → test-lts.Need-returns-2 (
 ) (test-at t) test.Post
 test-returns-2 t c = test-says _ _ _ _ _ _ _ _ _ _ (worked-anew _ _ _ _ _ _ _ (c .before .before .before .before .before .before .before .before .before .before .before .before .before .before .before .fast-value .ensures)) (c .before .before .before .before .before .before .before .before .before .before .before .before .if1 .left) _ _ _ (evaluated-anew _ _ _ _ _ _ _ _ (c .before .before .before .before .before .before .before .before .before .expression .ensures)) _ _ _ (c .before .before .before .v .given .1) (c .before .pack .ensures) (c .outcome-of2 .ensures)
 
--- src/lib.rt:402:1
+-- src/lib.rt:406:1
 test-same-length-4 : (t : ℕ) → test-lts.Need-same-length-4 (
   fast-value-reads.Asked,
   fast-value-reads.Learnt,
@@ -6655,7 +8518,7 @@ test-same-length-4 : (t : ℕ) → test-lts.Need-same-length-4 (
 ) (test-at t) test.Post
 test-same-length-4 t c = search needs
 
--- src/lib.rt:402:1
+-- src/lib.rt:406:1
 test-same-length-5 : (t : ℕ) → test-lts.Need-same-length-5 (
   fast-value-reads.Asked,
   fast-value-reads.Learnt,
@@ -6668,7 +8531,7 @@ test-same-length-5 : (t : ℕ) → test-lts.Need-same-length-5 (
 ) (test-at t) test.Post
 test-same-length-5 t c = search needs
 
--- src/lib.rt:402:1
+-- src/lib.rt:406:1
 test-returns-3 : (t : ℕ) → test-lts.Need-returns-3 (
   fast-value-reads.Asked,
   fast-value-reads.Learnt,
@@ -6681,7 +8544,7 @@ test-returns-3 : (t : ℕ) → test-lts.Need-returns-3 (
 ) (test-at t) test.Post
 test-returns-3 t c = test-refused _ _ _ _ _ _ _ _ _ _ (worked-anew _ _ _ _ _ _ _ (c .before .before .before .before .before .before .before .before .before .before .before .before .before .fast-value .ensures)) (c .before .before .before .before .before .before .before .before .before .before .if1 .left) _ _ _ (evaluated-anew _ _ _ _ _ _ _ _ (c .before .before .before .before .before .before .before .expression .ensures)) _ _ (c .before .n .given .1)
 
--- src/lib.rt:368:26
+-- src/lib.rt:371:26
 update-word-at-requires : (t : ℕ) → update-lts.Need-word-at-requires (
   word-at-reads.Asked,
   word-at-reads.Learnt,
@@ -6696,7 +8559,7 @@ update-word-at-requires : (t : ℕ) → update-lts.Need-word-at-requires (
 ) (update-at t) update.Post
 update-word-at-requires t c κs = search needs
 
--- src/lib.rt:368:9
+-- src/lib.rt:371:9
 update-before-requires : (t : ℕ) → update-lts.Need-before-requires (
   word-at-reads.Asked,
   word-at-reads.Learnt,
@@ -6711,7 +8574,7 @@ update-before-requires : (t : ℕ) → update-lts.Need-before-requires (
 ) (update-at t) update.Post
 update-before-requires t c κs = search needs
 
--- src/lib.rt:369:26
+-- src/lib.rt:372:26
 update-word-at-requires-2 : (t : ℕ) → update-lts.Need-word-at-requires-2 (
   word-at-reads.Asked,
   word-at-reads.Learnt,
@@ -6726,7 +8589,7 @@ update-word-at-requires-2 : (t : ℕ) → update-lts.Need-word-at-requires-2 (
 ) (update-at t) update.Post
 update-word-at-requires-2 t c κs = search needs
 
--- src/lib.rt:369:9
+-- src/lib.rt:372:9
 update-before-requires-2 : (t : ℕ) → update-lts.Need-before-requires-2 (
   word-at-reads.Asked,
   word-at-reads.Learnt,
@@ -6741,7 +8604,7 @@ update-before-requires-2 : (t : ℕ) → update-lts.Need-before-requires-2 (
 ) (update-at t) update.Post
 update-before-requires-2 t c κs = search needs
 
--- src/lib.rt:370:11
+-- src/lib.rt:373:11
 update-expression-requires : (t : ℕ) → update-lts.Need-expression-requires (
   word-at-reads.Asked,
   word-at-reads.Learnt,
@@ -6756,7 +8619,7 @@ update-expression-requires : (t : ℕ) → update-lts.Need-expression-requires (
 ) (update-at t) update.Post
 update-expression-requires t c κs = (omega arith, c .before .before .before .before .before .before .before .before .before .before .pre .1)
 
--- src/lib.rt:371:22
+-- src/lib.rt:374:22
 update-enum-known-v : (t : ℕ) → update-lts.Need-enum-known-v (
   word-at-reads.Asked,
   word-at-reads.Learnt,
@@ -6771,7 +8634,7 @@ update-enum-known-v : (t : ℕ) → update-lts.Need-enum-known-v (
 ) (update-at t) update.Post
 update-enum-known-v t c = search needs
 
--- src/lib.rt:372:26
+-- src/lib.rt:375:26
 update-enum-known-v-2 : (t : ℕ) → update-lts.Need-enum-known-v-2 (
   word-at-reads.Asked,
   word-at-reads.Learnt,
@@ -6786,7 +8649,7 @@ update-enum-known-v-2 : (t : ℕ) → update-lts.Need-enum-known-v-2 (
 ) (update-at t) update.Post
 update-enum-known-v-2 t c = search needs
 
--- src/lib.rt:372:38
+-- src/lib.rt:375:38
 update-expression-requires-2 : (t : ℕ) → update-lts.Need-expression-requires-2 (
   word-at-reads.Asked,
   word-at-reads.Learnt,
@@ -6801,7 +8664,7 @@ update-expression-requires-2 : (t : ℕ) → update-lts.Need-expression-requires
 ) (update-at t) update.Post
 update-expression-requires-2 t c κs = (omega arith, still-lent _ _ _ _ _ (let a0 = c .before .before .before .before .before .before .before .before .before .before .before .texts in omega arith) (let a0 = c .before .before .before .before .before .before .before .before .before .words in omega arith) _ (c .before .before .before .before .before .before .before .before .before .before .before .before .before .before .before .before .before .before .before .before .before .before .before .pre .1))
 
--- src/lib.rt:373:30
+-- src/lib.rt:376:30
 update-enum-known-u : (t : ℕ) → update-lts.Need-enum-known-u (
   word-at-reads.Asked,
   word-at-reads.Learnt,
@@ -6816,7 +8679,7 @@ update-enum-known-u : (t : ℕ) → update-lts.Need-enum-known-u (
 ) (update-at t) update.Post
 update-enum-known-u t c = search needs
 
--- src/lib.rt:374:25
+-- src/lib.rt:377:25
 update-pack-requires : (t : ℕ) → update-lts.Need-pack-requires (
   word-at-reads.Asked,
   word-at-reads.Learnt,
@@ -6831,7 +8694,7 @@ update-pack-requires : (t : ℕ) → update-lts.Need-pack-requires (
 ) (update-at t) update.Post
 update-pack-requires t c κs = search needs
 
--- src/lib.rt:375:27
+-- src/lib.rt:378:27
 update-expression-requires-3 : (t : ℕ) → update-lts.Need-expression-requires-3 (
   word-at-reads.Asked,
   word-at-reads.Learnt,
@@ -6846,7 +8709,7 @@ update-expression-requires-3 : (t : ℕ) → update-lts.Need-expression-requires
 ) (update-at t) update.Post
 update-expression-requires-3 t c κs = (omega (arith, c .before .before .before .before .before .before .before .before .before .before .before .before .before .before .before .before .before .before .before .before .before .before .before .before .before .before .before .before .before .before .before .before .before .before .pre .0), still-lent _ _ _ _ _ (let a0 = c .before .before .before .before .before .before .before .before .before .before .before .before .before .before .before .before .before .before .before .before .before .before .texts in let a1 = c .before .before .before .before .before .before .before .before .before .texts2 in omega arith) (let a0 = c .before .before .before .before .before .before .before .before .before .before .before .before .before .before .before .before .before .before .before .before .words in let a1 = c .before .before .before .before .before .before .before .words2 in omega arith) _ (c .before .before .before .before .before .before .before .before .before .before .before .before .before .before .before .before .before .before .before .before .before .before .before .before .before .before .before .before .before .before .before .before .before .before .pre .1))
 
--- src/lib.rt:376:38
+-- src/lib.rt:379:38
 update-enum-known-z : (t : ℕ) → update-lts.Need-enum-known-z (
   word-at-reads.Asked,
   word-at-reads.Learnt,
@@ -6861,7 +8724,7 @@ update-enum-known-z : (t : ℕ) → update-lts.Need-enum-known-z (
 ) (update-at t) update.Post
 update-enum-known-z t c = search needs
 
--- src/lib.rt:384:33
+-- src/lib.rt:387:33
 update-pack-requires-2 : (t : ℕ) → update-lts.Need-pack-requires-2 (
   word-at-reads.Asked,
   word-at-reads.Learnt,
@@ -6876,7 +8739,7 @@ update-pack-requires-2 : (t : ℕ) → update-lts.Need-pack-requires-2 (
 ) (update-at t) update.Post
 update-pack-requires-2 t c κs = search needs
 
--- src/lib.rt:377:33
+-- src/lib.rt:380:33
 update-store-entry-requires : (t : ℕ) → update-lts.Need-store-entry-requires (
   word-at-reads.Asked,
   word-at-reads.Learnt,
@@ -6891,7 +8754,7 @@ update-store-entry-requires : (t : ℕ) → update-lts.Need-store-entry-requires
 ) (update-at t) update.Post
 update-store-entry-requires t c κs = still-room _ _ _ _ _ (c .before .before .before .before .before .before .before .before .before .before .before .before .before .before .before .before .before .before .before .before .before .before .before .before .before .before .before .before .before .before .before .before .before .before .before .before .before .before .before .before .before .before .before .before .before .pre .1) (let a0 = c .before .before .before .before .before .before .before .before .before .before .before .before .before .before .before .before .before .before .before .before .before .before .before .before .before .before .before .before .before .before .before .words in let a1 = c .before .before .before .before .before .before .before .before .before .before .before .before .before .before .before .before .before .before .words2 in let a2 = c .before .before .before .before .before .before .before .words3 in omega arith)
 
--- src/lib.rt:386:33
+-- src/lib.rt:390:33
 update-same-length : (t : ℕ) → update-lts.Need-same-length (
   word-at-reads.Asked,
   word-at-reads.Learnt,
@@ -6906,7 +8769,7 @@ update-same-length : (t : ℕ) → update-lts.Need-same-length (
 ) (update-at t) update.Post
 update-same-length t c = let a = c .before .before .before .before .before .before .before .before .before .before .before .before .before .before .before .before .before .before .before .before .before .before .before .before .before .before .before .before .before .before .before .before .before .before .before .before .before .before .before .before .before .before .before .before .before .before .slice-known in let b = c .before .before .before .before .before .before .before .before .before .before .before .before .before .before .before .before .before .before .before .before .before .before .before .before .before .before .before .before .before .before .before .before .before .before .before .before .before .texts in let d = c .before .before .before .before .before .before .before .before .before .before .before .before .before .before .before .before .before .before .before .before .before .before .before .before .texts2 in let e = c .before .before .before .before .before .before .before .before .before .before .before .before .before .texts3 in search needs
 
--- src/lib.rt:386:33
+-- src/lib.rt:390:33
 update-same-length-2 : (t : ℕ) → update-lts.Need-same-length-2 (
   word-at-reads.Asked,
   word-at-reads.Learnt,
@@ -6921,7 +8784,7 @@ update-same-length-2 : (t : ℕ) → update-lts.Need-same-length-2 (
 ) (update-at t) update.Post
 update-same-length-2 t c = let a = c .before .before .before .before .before .before .before .before .before .before .before .before .before .before .before .before .before .before .before .before .before .before .before .before .before .before .before .before .before .before .before .before .before .before .before .before .before .before .before .before .before .before .before .before .before .slice-known2 in let b = c .before .before .before .before .before .before .before .before .before .before .before .before .before .before .before .before .before .before .before .before .before .before .before .before .before .before .before .before .before .before .before .before .before .before .before .words in let d = c .before .before .before .before .before .before .before .before .before .before .before .before .before .before .before .before .before .before .before .before .before .before .words2 in let e = c .before .before .before .before .before .before .before .before .before .before .before .words3 in let f = c .before .before .words4 in search needs
 
--- src/lib.rt:386:33
+-- src/lib.rt:390:33
 update-returns : (t : ℕ) → update-lts.Need-returns (
   word-at-reads.Asked,
   word-at-reads.Learnt,
@@ -6936,7 +8799,7 @@ update-returns : (t : ℕ) → update-lts.Need-returns (
 ) (update-at t) update.Post
 update-returns t c = update-refused _ _ _ _ _ _ _ _ _ _ _ _ (c .before .before .before .before .before .before .before .before .before .before .before .before .before .before .before .before .before .before .before .before .before .before .before .before .before .before .before .before .before .before .before .before .before .before .before .before .before .before .before .before .before .before .before .before .word-at .ensures) (c .before .before .before .before .before .before .before .before .before .before .before .before .before .before .before .before .before .before .before .before .before .before .before .before .before .before .before .before .before .before .before .before .before .before .before .before .before .before .before .before .before .before .before .before2 .ensures .0) (c .before .before .before .before .before .before .before .before .before .before .before .before .before .before .before .before .before .before .before .before .before .before .before .before .before .before .before .before .before .before .before .before .before .before .before .before .before .before .before .before .before .before .word-at2 .ensures) (c .before .before .before .before .before .before .before .before .before .before .before .before .before .before .before .before .before .before .before .before .before .before .before .before .before .before .before .before .before .before .before .before .before .before .before .before .before .before .before .before .before .before3 .ensures .0) _ _ _ (c .before .before .before .before .before .before .before .before .before .before .before .before .before .before .before .before .before .before .before .before .before .before .before .before .before .before .before .before .before .before .before .before .before .before .before .before .before .before .expression .ensures) _ _ (c .before .before .before .before .before .before .before .before .before .before .before .before .before .before .before .before .before .before .before .before .before .before .before .before .before .before .before .before .before .before .before .before .v .given .1) (c .before .before .before .before .before .before .before .before .before .before .before .before .before .before .before .before .before .before .before .before .before .before .before .before .before .before .before .before .before .v2 .given .1) _ _ _ (c .before .before .before .before .before .before .before .before .before .before .before .before .before .before .before .before .before .before .before .before .before .before .before .before .before .expression2 .ensures) _ _ (c .before .before .before .before .before .before .before .before .before .before .before .before .before .before .before .before .before .before .before .u .given .1) (c .before .before .before .before .before .before .before .before .before .before .before .before .before .before .before .before .before .pack .ensures) _ _ _ (c .before .before .before .before .before .before .before .before .before .before .before .before .before .before .expression3 .ensures) _ _ (c .before .before .before .before .before .before .before .before .z .given .1) (c .before .before .before .before .pack2 .ensures) _ _ (c .before .before .before .store-entry .ensures) (c .if1 .taken)
 
--- src/lib.rt:390:37
+-- src/lib.rt:394:37
 update-enum-known-n : (t : ℕ) → update-lts.Need-enum-known-n (
   word-at-reads.Asked,
   word-at-reads.Learnt,
@@ -6951,7 +8814,7 @@ update-enum-known-n : (t : ℕ) → update-lts.Need-enum-known-n (
 ) (update-at t) update.Post
 update-enum-known-n t c = search needs
 
--- src/lib.rt:393:29
+-- src/lib.rt:397:29
 update-enum-known-n-2 : (t : ℕ) → update-lts.Need-enum-known-n-2 (
   word-at-reads.Asked,
   word-at-reads.Learnt,
@@ -6966,7 +8829,7 @@ update-enum-known-n-2 : (t : ℕ) → update-lts.Need-enum-known-n-2 (
 ) (update-at t) update.Post
 update-enum-known-n-2 t c = search needs
 
--- src/lib.rt:397:21
+-- src/lib.rt:401:21
 update-enum-known-n-3 : (t : ℕ) → update-lts.Need-enum-known-n-3 (
   word-at-reads.Asked,
   word-at-reads.Learnt,
@@ -6981,7 +8844,7 @@ update-enum-known-n-3 : (t : ℕ) → update-lts.Need-enum-known-n-3 (
 ) (update-at t) update.Post
 update-enum-known-n-3 t c = search needs
 
--- src/lib.rt:354:1
+-- src/lib.rt:357:1
 update-same-length-3 : (t : ℕ) → update-lts.Need-same-length-3 (
   word-at-reads.Asked,
   word-at-reads.Learnt,
@@ -6996,7 +8859,7 @@ update-same-length-3 : (t : ℕ) → update-lts.Need-same-length-3 (
 ) (update-at t) update.Post
 update-same-length-3 t c = let a = c .before .before .before .before .before .before .before .before .before .before .before .before .before .before .before .before .before .before .before .before .before .before .before .before .before .before .before .before .before .before .before .before .before .before .before .before .before .before .before .before .before .before .before .before .before .before .slice-known in let b = c .before .before .before .before .before .before .before .before .before .before .before .before .before .before .before .before .before .before .before .before .before .before .before .before .before .before .before .before .before .before .before .before .before .before .before .before .before .texts in let d = c .before .before .before .before .before .before .before .before .before .before .before .before .before .before .before .before .before .before .before .before .before .before .before .before .texts2 in let e = c .before .before .before .before .before .before .before .before .before .before .before .before .before .texts3 in search needs
 
--- src/lib.rt:354:1
+-- src/lib.rt:357:1
 update-same-length-4 : (t : ℕ) → update-lts.Need-same-length-4 (
   word-at-reads.Asked,
   word-at-reads.Learnt,
@@ -7011,7 +8874,7 @@ update-same-length-4 : (t : ℕ) → update-lts.Need-same-length-4 (
 ) (update-at t) update.Post
 update-same-length-4 t c = let a = c .before .before .before .before .before .before .before .before .before .before .before .before .before .before .before .before .before .before .before .before .before .before .before .before .before .before .before .before .before .before .before .before .before .before .before .before .before .before .before .before .before .before .before .before .before .slice-known2 in let b = c .before .before .before .before .before .before .before .before .before .before .before .before .before .before .before .before .before .before .before .before .before .before .before .before .before .before .before .before .before .before .before .before .before .before .before .words in let d = c .before .before .before .before .before .before .before .before .before .before .before .before .before .before .before .before .before .before .before .before .before .before .words2 in let e = c .before .before .before .before .before .before .before .before .before .before .before .words3 in let f = c .before .before .words4 in search needs
 
--- src/lib.rt:354:1
+-- src/lib.rt:357:1
 update-returns-2 : (t : ℕ) → update-lts.Need-returns-2 (
   word-at-reads.Asked,
   word-at-reads.Learnt,
@@ -7026,7 +8889,7 @@ update-returns-2 : (t : ℕ) → update-lts.Need-returns-2 (
 ) (update-at t) update.Post
 update-returns-2 t c = update-done _ _ _ _ _ _ _ _ _ _ _ _ (c .before .before .before .before .before .before .before .before .before .before .before .before .before .before .before .before .before .before .before .before .before .before .before .before .before .before .before .before .before .before .before .before .before .before .before .before .before .before .before .before .before .before .before .before .word-at .ensures) (c .before .before .before .before .before .before .before .before .before .before .before .before .before .before .before .before .before .before .before .before .before .before .before .before .before .before .before .before .before .before .before .before .before .before .before .before .before .before .before .before .before .before .before .before2 .ensures .0) (c .before .before .before .before .before .before .before .before .before .before .before .before .before .before .before .before .before .before .before .before .before .before .before .before .before .before .before .before .before .before .before .before .before .before .before .before .before .before .before .before .before .before .word-at2 .ensures) (c .before .before .before .before .before .before .before .before .before .before .before .before .before .before .before .before .before .before .before .before .before .before .before .before .before .before .before .before .before .before .before .before .before .before .before .before .before .before .before .before .before .before3 .ensures .0) _ _ _ (c .before .before .before .before .before .before .before .before .before .before .before .before .before .before .before .before .before .before .before .before .before .before .before .before .before .before .before .before .before .before .before .before .before .before .before .before .before .before .expression .ensures) _ _ (c .before .before .before .before .before .before .before .before .before .before .before .before .before .before .before .before .before .before .before .before .before .before .before .before .before .before .before .before .before .before .before .before .v .given .1) (c .before .before .before .before .before .before .before .before .before .before .before .before .before .before .before .before .before .before .before .before .before .before .before .before .before .before .before .before .before .v2 .given .1) _ _ _ (c .before .before .before .before .before .before .before .before .before .before .before .before .before .before .before .before .before .before .before .before .before .before .before .before .before .expression2 .ensures) _ _ (c .before .before .before .before .before .before .before .before .before .before .before .before .before .before .before .before .before .before .before .u .given .1) (c .before .before .before .before .before .before .before .before .before .before .before .before .before .before .before .before .before .pack .ensures) _ _ _ (c .before .before .before .before .before .before .before .before .before .before .before .before .before .before .expression3 .ensures) _ _ (c .before .before .before .before .before .before .before .before .z .given .1) (c .before .before .before .before .pack2 .ensures) _ _ (c .before .before .before .store-entry .ensures) (c .if1 .left)
 
--- src/lib.rt:354:1
+-- src/lib.rt:357:1
 update-same-length-5 : (t : ℕ) → update-lts.Need-same-length-5 (
   word-at-reads.Asked,
   word-at-reads.Learnt,
@@ -7041,7 +8904,7 @@ update-same-length-5 : (t : ℕ) → update-lts.Need-same-length-5 (
 ) (update-at t) update.Post
 update-same-length-5 t c = let a = c .before .before .before .before .before .before .before .before .before .before .before .before .before .before .before .before .before .before .before .before .before .before .before .before .before .before .before .before .before .before .before .before .before .before .before .before .before .before .before .slice-known in let b = c .before .before .before .before .before .before .before .before .before .before .before .before .before .before .before .before .before .before .before .before .before .before .before .before .before .before .before .before .before .before .texts in let d = c .before .before .before .before .before .before .before .before .before .before .before .before .before .before .before .before .before .texts2 in let e = c .before .before .before .before .before .before .texts3 in search needs
 
--- src/lib.rt:354:1
+-- src/lib.rt:357:1
 update-same-length-6 : (t : ℕ) → update-lts.Need-same-length-6 (
   word-at-reads.Asked,
   word-at-reads.Learnt,
@@ -7056,7 +8919,7 @@ update-same-length-6 : (t : ℕ) → update-lts.Need-same-length-6 (
 ) (update-at t) update.Post
 update-same-length-6 t c = let a = c .before .before .before .before .before .before .before .before .before .before .before .before .before .before .before .before .before .before .before .before .before .before .before .before .before .before .before .before .before .before .before .before .before .before .before .before .before .before .slice-known2 in let b = c .before .before .before .before .before .before .before .before .before .before .before .before .before .before .before .before .before .before .before .before .before .before .before .before .before .before .before .before .words in let d = c .before .before .before .before .before .before .before .before .before .before .before .before .before .before .before .words2 in let e = c .before .before .before .before .words3 in search needs
 
--- src/lib.rt:354:1
+-- src/lib.rt:357:1
 update-returns-3 : (t : ℕ) → update-lts.Need-returns-3 (
   word-at-reads.Asked,
   word-at-reads.Learnt,
@@ -7071,7 +8934,7 @@ update-returns-3 : (t : ℕ) → update-lts.Need-returns-3 (
 ) (update-at t) update.Post
 update-returns-3 t c = value-stops _ _ _ _ _ _ _ _ _ _ _ _ (c .before .before .before .before .before .before .before .before .before .before .before .before .before .before .before .before .before .before .before .before .before .before .before .before .before .before .before .before .before .before .before .before .before .before .before .before .before .word-at .ensures) (c .before .before .before .before .before .before .before .before .before .before .before .before .before .before .before .before .before .before .before .before .before .before .before .before .before .before .before .before .before .before .before .before .before .before .before .before .before2 .ensures .0) (c .before .before .before .before .before .before .before .before .before .before .before .before .before .before .before .before .before .before .before .before .before .before .before .before .before .before .before .before .before .before .before .before .before .before .before .word-at2 .ensures) (c .before .before .before .before .before .before .before .before .before .before .before .before .before .before .before .before .before .before .before .before .before .before .before .before .before .before .before .before .before .before .before .before .before .before .before3 .ensures .0) _ _ _ (c .before .before .before .before .before .before .before .before .before .before .before .before .before .before .before .before .before .before .before .before .before .before .before .before .before .before .before .before .before .before .before .expression .ensures) _ _ (c .before .before .before .before .before .before .before .before .before .before .before .before .before .before .before .before .before .before .before .before .before .before .before .before .before .v .given .1) (c .before .before .before .before .before .before .before .before .before .before .before .before .before .before .before .before .before .before .before .before .before .before .v2 .given .1) _ _ _ (c .before .before .before .before .before .before .before .before .before .before .before .before .before .before .before .before .before .before .expression2 .ensures) _ _ (c .before .before .before .before .before .before .before .before .before .before .before .before .u .given .1) (c .before .before .before .before .before .before .before .before .before .before .pack .ensures) _ _ _ (c .before .before .before .before .before .before .before .expression3 .ensures) _ _ (c .before .n .given .1)
 
--- src/lib.rt:354:1
+-- src/lib.rt:357:1
 update-same-length-7 : (t : ℕ) → update-lts.Need-same-length-7 (
   word-at-reads.Asked,
   word-at-reads.Learnt,
@@ -7086,7 +8949,7 @@ update-same-length-7 : (t : ℕ) → update-lts.Need-same-length-7 (
 ) (update-at t) update.Post
 update-same-length-7 t c = search needs
 
--- src/lib.rt:354:1
+-- src/lib.rt:357:1
 update-same-length-8 : (t : ℕ) → update-lts.Need-same-length-8 (
   word-at-reads.Asked,
   word-at-reads.Learnt,
@@ -7101,7 +8964,7 @@ update-same-length-8 : (t : ℕ) → update-lts.Need-same-length-8 (
 ) (update-at t) update.Post
 update-same-length-8 t c = search needs
 
--- src/lib.rt:354:1
+-- src/lib.rt:357:1
 update-returns-4 : (t : ℕ) → update-lts.Need-returns-4 (
   word-at-reads.Asked,
   word-at-reads.Learnt,
@@ -7116,7 +8979,7 @@ update-returns-4 : (t : ℕ) → update-lts.Need-returns-4 (
 ) (update-at t) update.Post
 update-returns-4 t c = key-stops _ _ _ _ _ _ _ _ _ _ _ _ (c .before .before .before .before .before .before .before .before .before .before .before .before .before .before .before .before .before .before .before .before .before .before .before .before .before .before .word-at .ensures) (c .before .before .before .before .before .before .before .before .before .before .before .before .before .before .before .before .before .before .before .before .before .before .before .before .before .before2 .ensures .0) (c .before .before .before .before .before .before .before .before .before .before .before .before .before .before .before .before .before .before .before .before .before .before .before .before .word-at2 .ensures) (c .before .before .before .before .before .before .before .before .before .before .before .before .before .before .before .before .before .before .before .before .before .before .before .before3 .ensures .0) _ _ _ (c .before .before .before .before .before .before .before .before .before .before .before .before .before .before .before .before .before .before .before .before .expression .ensures) _ _ (c .before .before .before .before .before .before .before .before .before .before .before .before .before .before .v .given .1) (c .before .before .before .before .before .before .before .before .before .before .before .v2 .given .1) _ _ _ (c .before .before .before .before .before .before .before .expression2 .ensures) _ _ (c .before .n2 .given .1)
 
--- src/lib.rt:354:1
+-- src/lib.rt:357:1
 update-same-length-9 : (t : ℕ) → update-lts.Need-same-length-9 (
   word-at-reads.Asked,
   word-at-reads.Learnt,
@@ -7131,7 +8994,7 @@ update-same-length-9 : (t : ℕ) → update-lts.Need-same-length-9 (
 ) (update-at t) update.Post
 update-same-length-9 t c = search needs
 
--- src/lib.rt:354:1
+-- src/lib.rt:357:1
 update-same-length-10 : (t : ℕ) → update-lts.Need-same-length-10 (
   word-at-reads.Asked,
   word-at-reads.Learnt,
@@ -7146,7 +9009,7 @@ update-same-length-10 : (t : ℕ) → update-lts.Need-same-length-10 (
 ) (update-at t) update.Post
 update-same-length-10 t c = search needs
 
--- src/lib.rt:354:1
+-- src/lib.rt:357:1
 update-returns-5 : (t : ℕ) → update-lts.Need-returns-5 (
   word-at-reads.Asked,
   word-at-reads.Learnt,
@@ -7161,7 +9024,7 @@ update-returns-5 : (t : ℕ) → update-lts.Need-returns-5 (
 ) (update-at t) update.Post
 update-returns-5 t c = table-other _ _ _ _ _ _ _ _ _ _ _ _ (c .before .before .before .before .before .before .before .before .before .before .before .before .before .before .word-at .ensures) (c .before .before .before .before .before .before .before .before .before .before .before .before .before .before2 .ensures .0) (c .before .before .before .before .before .before .before .before .before .before .before .before .word-at2 .ensures) (c .before .before .before .before .before .before .before .before .before .before .before .before3 .ensures .0) _ _ _ (c .before .before .before .before .before .before .before .before .expression .ensures) _ (c .before .before .v .given .1) (c .match2 .keys2)
 
--- src/lib.rt:354:1
+-- src/lib.rt:357:1
 update-same-length-11 : (t : ℕ) → update-lts.Need-same-length-11 (
   word-at-reads.Asked,
   word-at-reads.Learnt,
@@ -7176,7 +9039,7 @@ update-same-length-11 : (t : ℕ) → update-lts.Need-same-length-11 (
 ) (update-at t) update.Post
 update-same-length-11 t c = search needs
 
--- src/lib.rt:354:1
+-- src/lib.rt:357:1
 update-same-length-12 : (t : ℕ) → update-lts.Need-same-length-12 (
   word-at-reads.Asked,
   word-at-reads.Learnt,
@@ -7191,7 +9054,7 @@ update-same-length-12 : (t : ℕ) → update-lts.Need-same-length-12 (
 ) (update-at t) update.Post
 update-same-length-12 t c = search needs
 
--- src/lib.rt:354:1
+-- src/lib.rt:357:1
 update-returns-6 : (t : ℕ) → update-lts.Need-returns-6 (
   word-at-reads.Asked,
   word-at-reads.Learnt,
@@ -7206,7 +9069,7 @@ update-returns-6 : (t : ℕ) → update-lts.Need-returns-6 (
 ) (update-at t) update.Post
 update-returns-6 t c = table-stops _ _ _ _ _ _ _ _ _ _ _ _ (c .before .before .before .before .before .before .before .before .before .before .before .before .before .word-at .ensures) (c .before .before .before .before .before .before .before .before .before .before .before .before .before2 .ensures .0) (c .before .before .before .before .before .before .before .before .before .before .before .word-at2 .ensures) (c .before .before .before .before .before .before .before .before .before .before .before3 .ensures .0) _ _ _ (c .before .before .before .before .before .before .before .expression .ensures) _ _ (c .before .n3 .given .1)
 
--- src/lib.rt:532:11
+-- src/lib.rt:550:11
 when-test-requires : (t : ℕ) → when-lts.Need-test-requires (
   test-below t,
   test.Post,
@@ -7215,7 +9078,7 @@ when-test-requires : (t : ℕ) → when-lts.Need-test-requires (
 ) (when-at t) when.Post
 when-test-requires t c κs = (omega arith, c .before .before .before .before .before .before .pre .1 .lent)
 
--- src/lib.rt:533:64
+-- src/lib.rt:551:64
 when-enum-told : (t : ℕ) → when-lts.Need-enum-told (
   test-below t,
   test.Post,
@@ -7224,7 +9087,7 @@ when-enum-told : (t : ℕ) → when-lts.Need-enum-told (
 ) (when-at t) when.Post
 when-enum-told t c = search needs
 
--- src/lib.rt:533:84
+-- src/lib.rt:551:84
 when-add-statement : (t : ℕ) → when-lts.Need-add-statement (
   test-below t,
   test.Post,
@@ -7233,7 +9096,7 @@ when-add-statement : (t : ℕ) → when-lts.Need-add-statement (
 ) (when-at t) when.Post
 when-add-statement t c = omega (arith, c .before .before .before .before .before .before .before .before .before .before .before .before .before .before .before .pre .1 .room)
 
--- src/lib.rt:533:31
+-- src/lib.rt:551:31
 when-statement-requires : (t : ℕ) → when-lts.Need-statement-requires (
   test-below t,
   test.Post,
@@ -7242,7 +9105,7 @@ when-statement-requires : (t : ℕ) → when-lts.Need-statement-requires (
 ) (when-at t) when.Post
 when-statement-requires t c κs = (omega arith, still-runs _ _ _ _ _ (let a0 = c .before .before .before .before .before .before .before .texts in omega arith) (let a0 = c .before .before .before .before .before .words in omega arith) _ _ (c .before .before .before .before .before .before .before .before .before .before .before .before .before .before .before .pre .1))
 
--- src/lib.rt:534:29
+-- src/lib.rt:552:29
 when-enum-told-2 : (t : ℕ) → when-lts.Need-enum-told-2 (
   test-below t,
   test.Post,
@@ -7251,7 +9114,7 @@ when-enum-told-2 : (t : ℕ) → when-lts.Need-enum-told-2 (
 ) (when-at t) when.Post
 when-enum-told-2 t c = search needs
 
--- src/lib.rt:535:28
+-- src/lib.rt:553:28
 when-enum-known-v : (t : ℕ) → when-lts.Need-enum-known-v (
   test-below t,
   test.Post,
@@ -7260,7 +9123,7 @@ when-enum-known-v : (t : ℕ) → when-lts.Need-enum-known-v (
 ) (when-at t) when.Post
 when-enum-known-v t c = search needs
 
--- src/lib.rt:536:27
+-- src/lib.rt:554:27
 when-enum-known-n : (t : ℕ) → when-lts.Need-enum-known-n (
   test-below t,
   test.Post,
@@ -7269,7 +9132,7 @@ when-enum-known-n : (t : ℕ) → when-lts.Need-enum-known-n (
 ) (when-at t) when.Post
 when-enum-known-n t c = search needs
 
--- src/lib.rt:538:24
+-- src/lib.rt:556:24
 when-enum-told-3 : (t : ℕ) → when-lts.Need-enum-told-3 (
   test-below t,
   test.Post,
@@ -7278,7 +9141,7 @@ when-enum-told-3 : (t : ℕ) → when-lts.Need-enum-told-3 (
 ) (when-at t) when.Post
 when-enum-told-3 t c = search needs
 
--- src/lib.rt:539:26
+-- src/lib.rt:557:26
 when-enum-known-n-2 : (t : ℕ) → when-lts.Need-enum-known-n-2 (
   test-below t,
   test.Post,
@@ -7287,7 +9150,7 @@ when-enum-known-n-2 : (t : ℕ) → when-lts.Need-enum-known-n-2 (
 ) (when-at t) when.Post
 when-enum-known-n-2 t c = search needs
 
--- src/lib.rt:518:1
+-- src/lib.rt:536:1
 when-same-length : (t : ℕ) → when-lts.Need-same-length (
   test-below t,
   test.Post,
@@ -7296,7 +9159,7 @@ when-same-length : (t : ℕ) → when-lts.Need-same-length (
 ) (when-at t) when.Post
 when-same-length t c = search needs
 
--- src/lib.rt:518:1
+-- src/lib.rt:536:1
 when-same-length-2 : (t : ℕ) → when-lts.Need-same-length-2 (
   test-below t,
   test.Post,
@@ -7305,7 +9168,7 @@ when-same-length-2 : (t : ℕ) → when-lts.Need-same-length-2 (
 ) (when-at t) when.Post
 when-same-length-2 t c = search needs
 
--- src/lib.rt:518:1
+-- src/lib.rt:536:1
 when-returns : (t : ℕ) → when-lts.Need-returns (
   test-below t,
   test.Post,
@@ -7314,7 +9177,7 @@ when-returns : (t : ℕ) → when-lts.Need-returns (
 ) (when-at t) when.Post
 when-returns t c = when-holds _ _ _ _ _ _ _ _ _ _ (c .before .before .before .before .before .before .before .before .before .before .before .before .before .before .before .test .ensures) _ _ _ _ (c .before .before .before .before .before .before .before .before .before .enum-told .given .1) (c .before .before .before .before .before .before .statement .ensures) (c .enum-told2 .given .1)
 
--- src/lib.rt:518:1
+-- src/lib.rt:536:1
 when-same-length-3 : (t : ℕ) → when-lts.Need-same-length-3 (
   test-below t,
   test.Post,
@@ -7323,7 +9186,7 @@ when-same-length-3 : (t : ℕ) → when-lts.Need-same-length-3 (
 ) (when-at t) when.Post
 when-same-length-3 t c = search needs
 
--- src/lib.rt:518:1
+-- src/lib.rt:536:1
 when-same-length-4 : (t : ℕ) → when-lts.Need-same-length-4 (
   test-below t,
   test.Post,
@@ -7332,7 +9195,7 @@ when-same-length-4 : (t : ℕ) → when-lts.Need-same-length-4 (
 ) (when-at t) when.Post
 when-same-length-4 t c = search needs
 
--- src/lib.rt:518:1
+-- src/lib.rt:536:1
 when-returns-2 : (t : ℕ) → when-lts.Need-returns-2 (
   test-below t,
   test.Post,
@@ -7341,7 +9204,7 @@ when-returns-2 : (t : ℕ) → when-lts.Need-returns-2 (
 ) (when-at t) when.Post
 when-returns-2 t c = when-holds _ _ _ _ _ _ _ _ _ _ (c .before .before .before .before .before .before .before .before .before .before .before .before .before .before .before .before .test .ensures) _ _ _ _ (c .before .before .before .before .before .before .before .before .before .before .enum-told .given .1) (c .before .before .before .before .before .before .before .statement .ensures) (c .before .v .given .1)
 
--- src/lib.rt:518:1
+-- src/lib.rt:536:1
 when-same-length-5 : (t : ℕ) → when-lts.Need-same-length-5 (
   test-below t,
   test.Post,
@@ -7350,7 +9213,7 @@ when-same-length-5 : (t : ℕ) → when-lts.Need-same-length-5 (
 ) (when-at t) when.Post
 when-same-length-5 t c = search needs
 
--- src/lib.rt:518:1
+-- src/lib.rt:536:1
 when-same-length-6 : (t : ℕ) → when-lts.Need-same-length-6 (
   test-below t,
   test.Post,
@@ -7359,7 +9222,7 @@ when-same-length-6 : (t : ℕ) → when-lts.Need-same-length-6 (
 ) (when-at t) when.Post
 when-same-length-6 t c = search needs
 
--- src/lib.rt:518:1
+-- src/lib.rt:536:1
 when-returns-3 : (t : ℕ) → when-lts.Need-returns-3 (
   test-below t,
   test.Post,
@@ -7368,7 +9231,7 @@ when-returns-3 : (t : ℕ) → when-lts.Need-returns-3 (
 ) (when-at t) when.Post
 when-returns-3 t c = when-holds _ _ _ _ _ _ _ _ _ _ (c .before .before .before .before .before .before .before .before .before .before .before .before .before .before .before .before .test .ensures) _ _ _ _ (c .before .before .before .before .before .before .before .before .before .before .enum-told .given .1) (c .before .before .before .before .before .before .before .statement .ensures) (c .before .n .given .1)
 
--- src/lib.rt:518:1
+-- src/lib.rt:536:1
 when-same-length-7 : (t : ℕ) → when-lts.Need-same-length-7 (
   test-below t,
   test.Post,
@@ -7377,7 +9240,7 @@ when-same-length-7 : (t : ℕ) → when-lts.Need-same-length-7 (
 ) (when-at t) when.Post
 when-same-length-7 t c = search needs
 
--- src/lib.rt:518:1
+-- src/lib.rt:536:1
 when-same-length-8 : (t : ℕ) → when-lts.Need-same-length-8 (
   test-below t,
   test.Post,
@@ -7386,7 +9249,7 @@ when-same-length-8 : (t : ℕ) → when-lts.Need-same-length-8 (
 ) (when-at t) when.Post
 when-same-length-8 t c = search needs
 
--- src/lib.rt:518:1
+-- src/lib.rt:536:1
 when-returns-4 : (t : ℕ) → when-lts.Need-returns-4 (
   test-below t,
   test.Post,
@@ -7395,7 +9258,7 @@ when-returns-4 : (t : ℕ) → when-lts.Need-returns-4 (
 ) (when-at t) when.Post
 when-returns-4 t c = search when-not
 
--- src/lib.rt:518:1
+-- src/lib.rt:536:1
 when-same-length-9 : (t : ℕ) → when-lts.Need-same-length-9 (
   test-below t,
   test.Post,
@@ -7404,7 +9267,7 @@ when-same-length-9 : (t : ℕ) → when-lts.Need-same-length-9 (
 ) (when-at t) when.Post
 when-same-length-9 t c = search needs
 
--- src/lib.rt:518:1
+-- src/lib.rt:536:1
 when-same-length-10 : (t : ℕ) → when-lts.Need-same-length-10 (
   test-below t,
   test.Post,
@@ -7413,7 +9276,7 @@ when-same-length-10 : (t : ℕ) → when-lts.Need-same-length-10 (
 ) (when-at t) when.Post
 when-same-length-10 t c = search needs
 
--- src/lib.rt:518:1
+-- src/lib.rt:536:1
 when-returns-5 : (t : ℕ) → when-lts.Need-returns-5 (
   test-below t,
   test.Post,
@@ -7422,16 +9285,21 @@ when-returns-5 : (t : ℕ) → when-lts.Need-returns-5 (
 ) (when-at t) when.Post
 when-returns-5 t c = search when-stops
 
-pub +argument+call+expression+invoke+leave+operands+procedure+repeat+simple+statement+statements+test+update+when-spec :
+pub +argument+bound+call+each+expression+inside+invoke+leave+member+operands+own+procedure+repeat+simple+statement+statements+test+update+when-spec :
     {M : Type 1} → statement M
-+argument+call+expression+invoke+leave+operands+procedure+repeat+simple+statement+statements+test+update+when-spec =
++argument+bound+call+each+expression+inside+invoke+leave+member+operands+own+procedure+repeat+simple+statement+statements+test+update+when-spec =
     close
     μ-argument
+    μ-bound
     μ-call
+    μ-each
     μ-expression
+    μ-inside
     μ-invoke
     μ-leave
+    μ-member
     μ-operands
+    μ-own
     μ-procedure
     μ-repeat
     μ-simple
@@ -7467,6 +9335,22 @@ pub +argument+call+expression+invoke+leave+operands+procedure+repeat+simple+stat
     (argument-same-length-4 t)
     (argument-same-length-5 t)
     (argument-returns-3 t))
+    (λ t. bound-lts.spec (
+      pack-reads.Asked,
+      pack-reads.Learnt,
+      set-variable-reads.Asked,
+      set-variable-reads.Learnt,
+      statement-below t,
+      statement′.Post,
+    )
+    (bound-at t)
+    bound.Post
+    (bound-pack-requires t)
+    (bound-set-variable-requires t)
+    (bound-statement-requires t)
+    (bound-same-length t)
+    (bound-same-length-2 t)
+    (bound-returns t))
     (λ t. call-lts.spec (
       arguments-held-reads.Asked,
       arguments-held-reads.Learnt,
@@ -7518,6 +9402,35 @@ pub +argument+call+expression+invoke+leave+operands+procedure+repeat+simple+stat
     (call-same-length-5 t)
     (call-same-length-6 t)
     (call-returns-3 t))
+    (λ t. each-lts.spec (
+      expression-below t,
+      expression.Post,
+      open-loop-reads.Asked,
+      open-loop-reads.Learnt,
+      own-below t,
+      own.Post,
+    )
+    (each-at t)
+    each.Post
+    (each-expression-requires t)
+    (each-enum-known-v t)
+    (each-enum-known-v-2 t)
+    (each-open-loop-requires t)
+    (each-same-length t)
+    (each-same-length-2 t)
+    (each-returns t)
+    (each-add-own t)
+    (each-own-requires t)
+    (each-enum-known-n t)
+    (each-same-length-3 t)
+    (each-same-length-4 t)
+    (each-returns-2 t)
+    (each-same-length-5 t)
+    (each-same-length-6 t)
+    (each-returns-3 t)
+    (each-same-length-7 t)
+    (each-same-length-8 t)
+    (each-returns-4 t))
     (λ t. expression-lts.spec (
       count-reads.Asked,
       count-reads.Learnt,
@@ -7563,6 +9476,50 @@ pub +argument+call+expression+invoke+leave+operands+procedure+repeat+simple+stat
     (expression-same-length-9 t)
     (expression-same-length-10 t)
     (expression-returns-7 t))
+    (λ t. inside-lts.spec (
+      look-in-reads.Asked,
+      look-in-reads.Learnt,
+      component-at-reads.Asked,
+      component-at-reads.Learnt,
+      bound-below t,
+      bound.Post,
+      unmark-below-reads.Asked,
+      unmark-below-reads.Learnt,
+      look-behind-reads.Asked,
+      look-behind-reads.Learnt,
+    )
+    (inside-at t)
+    inside.Post
+    inside-Inv-loop
+    inside-μ-loop
+    (inside-look-in-requires t)
+    (inside-element-copy-out-turns t)
+    (inside-add-turns t)
+    (inside-loop-holds t)
+    (inside-sub-turns t)
+    (inside-same-length t)
+    (inside-same-length-2 t)
+    (inside-returns t)
+    (inside-sub-component-at t)
+    (inside-component-at-requires t)
+    (inside-bound-requires t)
+    (inside-enum-told t)
+    (inside-enum-known-v t)
+    (inside-unmark-below-requires t)
+    (inside-same-length-3 t)
+    (inside-same-length-4 t)
+    (inside-returns-2 t)
+    (inside-enum-known-n t)
+    (inside-same-length-5 t)
+    (inside-same-length-6 t)
+    (inside-returns-3 t)
+    (inside-sub-look-behind t)
+    (inside-look-behind-requires t)
+    (inside-loop-less t)
+    (inside-loop-again t)
+    (inside-same-length-7 t)
+    (inside-same-length-8 t)
+    (inside-returns-4 t))
     (λ t. invoke-lts.spec (
       arguments-held-reads.Asked,
       arguments-held-reads.Learnt,
@@ -7570,6 +9527,8 @@ pub +argument+call+expression+invoke+leave+operands+procedure+repeat+simple+stat
       declared-count-reads.Learnt,
       running-reads.Asked,
       running-reads.Learnt,
+      loop-unit-reads.Asked,
+      loop-unit-reads.Learnt,
       begin-reads.Asked,
       begin-reads.Learnt,
       table-place-reads.Asked,
@@ -7592,6 +9551,7 @@ pub +argument+call+expression+invoke+leave+operands+procedure+repeat+simple+stat
     (invoke-arguments-held-requires t)
     (invoke-declared-count-requires t)
     (invoke-running-requires t)
+    (invoke-loop-unit-requires t)
     (invoke-begin-requires t)
     (invoke-enum-told t)
     (invoke-enum-known-k t)
@@ -7656,6 +9616,38 @@ pub +argument+call+expression+invoke+leave+operands+procedure+repeat+simple+stat
     (leave-same-length-5 t)
     (leave-same-length-6 t)
     (leave-returns-5 t))
+    (λ t. member-lts.spec (
+      component-at-reads.Asked,
+      component-at-reads.Learnt,
+      is-destroyed-reads.Asked,
+      is-destroyed-reads.Learnt,
+      count-reads.Asked,
+      count-reads.Learnt,
+      is-group-reads.Asked,
+      is-group-reads.Learnt,
+      bound-below t,
+      bound.Post,
+      inside-below t,
+      inside.Post,
+    )
+    (member-at t)
+    member.Post
+    (member-component-at-requires t)
+    (member-is-destroyed-requires t)
+    (member-same-length t)
+    (member-returns t)
+    (member-count-requires t)
+    (member-same-length-2 t)
+    (member-returns-2 t)
+    (member-is-group-requires t)
+    (member-bound-requires t)
+    (member-same-length-3 t)
+    (member-same-length-4 t)
+    (member-returns-3 t)
+    (member-inside-requires t)
+    (member-same-length-5 t)
+    (member-same-length-6 t)
+    (member-returns-4 t))
     (λ t. operands-lts.spec (
       left-of-reads.Asked,
       left-of-reads.Learnt,
@@ -7705,6 +9697,45 @@ pub +argument+call+expression+invoke+leave+operands+procedure+repeat+simple+stat
     (operands-same-length-9 t)
     (operands-same-length-10 t)
     (operands-returns-5 t))
+    (λ t. own-lts.spec (
+      first-at-reads.Asked,
+      first-at-reads.Learnt,
+      count-at-reads.Asked,
+      count-at-reads.Learnt,
+      enter-loop-reads.Asked,
+      enter-loop-reads.Learnt,
+      member-below t,
+      member.Post,
+      leave-loop-reads.Asked,
+      leave-loop-reads.Learnt,
+    )
+    (own-at t)
+    own.Post
+    own-Inv-loop
+    own-μ-loop
+    (own-first-at-requires t)
+    (own-count-at-requires t)
+    (own-enter-loop-requires t)
+    (own-loop-holds t)
+    (own-sub-n t)
+    (own-member-requires t)
+    (own-enum-told t)
+    (own-enum-known-v t)
+    (own-leave-loop-requires t)
+    (own-same-length t)
+    (own-same-length-2 t)
+    (own-returns t)
+    (own-enum-known-m t)
+    (own-same-length-3 t)
+    (own-same-length-4 t)
+    (own-returns-2 t)
+    (own-add-k t)
+    (own-loop-less t)
+    (own-loop-again t)
+    (own-leave-loop-requires-2 t)
+    (own-same-length-5 t)
+    (own-same-length-6 t)
+    (own-returns-3 t))
     (λ t. procedure-lts.spec (
       word-at-reads.Asked,
       word-at-reads.Learnt,
@@ -7868,6 +9899,8 @@ pub +argument+call+expression+invoke+leave+operands+procedure+repeat+simple+stat
       update.Post,
       when-below t,
       when.Post,
+      each-below t,
+      each.Post,
       size-of-reads.Asked,
       size-of-reads.Learnt,
       statements-below t,
@@ -7900,6 +9933,12 @@ pub +argument+call+expression+invoke+leave+operands+procedure+repeat+simple+stat
     (statement-extra-of-requires-3 t)
     (statement-add-when t)
     (statement-when-requires t)
+    (statement-sub-each t)
+    (statement-add-word-at t)
+    (statement-word-at-requires-2 t)
+    (statement-extra-of-requires-4 t)
+    (statement-add-each t)
+    (statement-each-requires t)
     (statement-size-of-requires t)
     (statement-sub-statements t)
     (statement-add-statements t)
@@ -7921,7 +9960,10 @@ pub +argument+call+expression+invoke+leave+operands+procedure+repeat+simple+stat
     (statement-returns-7 t)
     (statement-same-length-11 t)
     (statement-same-length-12 t)
-    (statement-returns-8 t))
+    (statement-returns-8 t)
+    (statement-same-length-13 t)
+    (statement-same-length-14 t)
+    (statement-returns-9 t))
     (λ t. statements-lts.spec (
       statement-below t,
       statement′.Post,
