@@ -5,3 +5,4 @@ mod MakingLaws
 mod SceneLaws
 mod LookLaws
 mod MarkLaws
+pub mod RemakeLaws
