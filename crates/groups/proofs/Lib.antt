@@ -1,7 +1,8 @@
 pub mod WalkLaws
 pub mod TurnLaws
 pub mod DestroyLaws
-mod MakingLaws
+pub mod MakingLaws
+pub mod WaitingLaws
 mod SceneLaws
 mod LookLaws
 mod MarkLaws

@@ -87,7 +87,8 @@ module _ (g code : List ℕ) (callee top n p base : ℕ) (ws : List ℕ) (at d :
 
     module _ (o : k ≡ m) (ok₁ : Bool) (ws₁ : List ℕ) (h₁ : Passes ws 20 (suspend top n) ok₁ ws₁) where
       asked : (ts : List ℕ) → begin g code callee top n p base (raw ts ws)
-          ≡ goOn (passed ok₁ 20 p ts ws₁) (λ _. store running (callee + 1) >>= λ _. store loopUnit 0 >>= λ _. declareFrom code (startIn d) m p >>= λ _. spend callsUsed (callsGranted g) 1 81 p >>= λ _. assignFrom g code (startIn d) base m p)
+          ≡ goOn (passed ok₁ 20 p ts ws₁)
+          (λ _. store running (callee + 1) >>= λ _. store loopUnit 0 >>= λ _. declareFrom code (startIn d) m p >>= λ _. spend callsUsed (callsGranted g) 1 81 p >>= λ _. assignFrom g code (startIn d) base m p)
       unfolding begin _>>=_ goOn refuse give
       asked ts = rw (word-is, ne-eqb _ _ z, ← e, ← f, eq-eqb k m o, ← h₁ .equal p ts)
 
