@@ -6,6 +6,7 @@ pub mod Act
 pub mod Texts
 pub mod Shapes
 pub mod Groups
+pub mod Show
 pub mod Variables
 pub mod Stack
 pub mod Tables

@@ -60,9 +60,9 @@ begin g code callee top n p base =
       refuse (not (eqb (top - base) (parametersIn d))) 20 p
       suspend top n p
       store running (callee + 1)
-      store loopUnit 0
       declareFrom code (startIn d) (parametersIn d) p
       spend callsUsed (callsGranted g) 1 81 p
+      store loopUnit 0
       assignFrom g code (startIn d) base (parametersIn d) p
 
 -- ---- the caller goes on

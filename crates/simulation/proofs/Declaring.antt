@@ -21,7 +21,7 @@ use Rattle.code.specs.Code.{slotOf}
 use Rattle.reader.proofs.Homes.{Occurs, occurs-found, text-same}
 use Rattle.machine.specs.declared.Value.{Value}
 use Rattle.machine.specs.Words.{kindNothing, packed, unpacked}
-use Rattle.machine.specs.Layout.{stepsUsed, tablesMade, declared, argumentsHeld, callsUsed, running, valuePlace, orderPlace}
+use Rattle.machine.specs.Layout.{stepsUsed, tablesMade, declared, argumentsHeld, callsUsed, running, componentsMade, loopUnit, valuePlace, orderPlace}
 use Rattle.machine.specs.Act.{Raw, raw, done, stop}
 use Rattle.machine.specs.Act as Act
 use Rattle.machine.specs.Variables.{declare}
@@ -32,9 +32,9 @@ use Rattle.simulation.specs.Scope.{scopeOf, isIn}
 use Rattle.simulation.specs.Sound.{Valid, declaredAmong, Variables}
 use Rattle.simulation.specs.Follows.{Related, Later, Follows}
 use Rattle.simulation.proofs.Listed.{listed-same, listed-first, listed-more}
-use Rattle.simulation.proofs.Frames.{untouched-words, valid-later, SameWaiting, same-waiting}
+use Rattle.simulation.proofs.Frames.{SameRest, rest-marks, untouched-words, valid-later, SameWaiting, same-waiting}
 use Rattle.simulation.proofs.Results.{given, failed, Untouched, After, steps-told}
-use Rattle.simulation.proofs.Shapes.{up-to}
+use Rattle.simulation.proofs.Growing.{up-to}
 use Rattle.simulation.proofs.Moving.{moved-later, moved-related}
 use Rattle.simulation.proofs.Variables.{slot-less, slot-named, name-slotted, apart-text, undeclared, is-declared}
 use Rattle.simulation.proofs.Flows.{both-onward, Flows}
@@ -85,10 +85,18 @@ module _ {program : List ℕ} {ts : List Token} {g : List ℕ} {r : Raw} {s : St
     (low : (j : ℕ) → j ≢ declared → j < 80 → getD ws′ j 0 ≡ getD (r .words) j 0)
     (high : (j : ℕ) → 16464 ≤ j → getD ws′ j 0 ≡ getD (r .words) j 0) where
   pub changed-later : Later program r (raw (r .texts) ws′)
-  changed-later = moved-later h ws′ (λ j l. low j (λ e. omega arith) (omega arith)) (λ j l. high j (omega arith))
+  changed-later = moved-later h ws′ (λ j l. low j (λ e. omega arith) (omega arith)) (λ j a b. low j (λ e. omega arith) (omega arith)) (λ j l. high j (omega arith))
 
-  changed-untouched : Untouched r (raw (r .texts) ws′)
-  changed-untouched = untouched-words (λ j a b. low j (λ e. omega arith) b) (λ k l. high _ (omega arith))
+  changed-rest : SameRest g r (raw (r .texts) ws′)
+  changed-rest = record {
+    parts = low componentsMade (λ e. omega arith) (omega arith);
+    unit = low loopUnit (λ e. omega arith) (omega arith);
+    calls = low callsUsed (λ e. omega arith) (omega arith);
+    high = λ j l. high j (omega arith);
+  }
+
+  changed-untouched : Untouched g r (raw (r .texts) ws′)
+  changed-untouched = untouched-words changed-rest (low running (λ e. omega arith) (omega arith)) (λ j a b. low j (λ e. omega arith) b) (λ k l. high _ (omega arith))
 
   height : getD ws′ argumentsHeld 0 ≡ getD (r .words) argumentsHeld 0
   height = low argumentsHeld (λ e. omega arith) (omega arith)
@@ -102,8 +110,8 @@ module _ {program : List ℕ} {ts : List Token} {g : List ℕ} {r : Raw} {s : St
   pub changed : (vs : List Variable) → length ws′ ≡ length (r .words) → Variables program ts ws′ → vs ≡ variablesOf program ts (raw (r .texts) ws′)
       → After program ts g r (raw (r .texts) ws′) (withVariables s vs) total
   changed vs long v e = record {
-    related = moved-related h ws′ (λ j l. low j (λ e. omega arith) (omega arith)) (λ j l. high j (omega arith)) long
-        (rw height (h .sound .counted .arguments)) (rw calls-same (h .sound .counted .calls)) v e (changed-waiting .waiting) (h .suspended ∙ sym (changed-waiting .suspended))
+    related = moved-related h ws′ (λ j l. low j (λ e. omega arith) (omega arith)) (λ j a b. low j (λ e. omega arith) (omega arith)) (λ j l. high j (omega arith)) long
+        (rw height (h .sound .counted .arguments)) (rw calls-same (h .sound .counted .calls)) v e (changed-waiting .waiting) (rest-marks changed-rest (h .sound .marks)) (h .suspended ∙ sym (changed-waiting .suspended))
         refl refl refl refl (h .callsTaken ∙ sym calls-same);
     later = changed-later;
     spare = omega (arith, low stepsUsed (λ e. omega arith) (omega arith), low tablesMade (λ e. omega arith) (omega arith));
@@ -265,7 +273,7 @@ module _ {program : List ℕ} {ts : List Token} {g : List ℕ} (few : length ts 
     new-other j a b c =
         getD-set-other two declared j (many + 1) 0 c ∙ getD-set-other one (orderPlace many) j slot 0 b ∙ getD-set-other (r .words) (valuePlace slot) j 4 0 a
 
-    new-value : getD three (valuePlace slot) 0 ≡ 4
+    pub new-value : getD three (valuePlace slot) 0 ≡ 4
     new-value =
         getD-set-other two declared (valuePlace slot) (many + 1) 0 (λ e. omega arith)
         ∙ getD-set-other one (orderPlace many) (valuePlace slot) slot 0 (λ e. omega arith) ∙ one-own

@@ -31,7 +31,7 @@ use Rattle.reader.proofs.Known.{KnownNames, KnownStatements}
 use Rattle.reader.proofs.Walk.{Stands, stands-back}
 use Rattle.reader.proofs.Tables.{head-positive, start-told, parameters-told, body-told}
 use Rattle.machine.specs.declared.Value.{Value}
-use Rattle.machine.specs.Layout.{stepsUsed, declared, argumentsHeld, callsUsed, running, callsGranted, stackWords}
+use Rattle.machine.specs.Layout.{stepsUsed, declared, argumentsHeld, callsUsed, running, callsGranted, stackWords, loopUnit}
 use Rattle.machine.specs.Act.{Raw, raw, Out, stop, Act}
 use Rattle.machine.specs.Act as Act
 use Rattle.machine.specs.Evaluate.{Setting}
@@ -74,7 +74,7 @@ pub record Procedures (e : Setting) (ts : List Token) (m : Program) : Type 0 whe
   pub apart : (x : List ℕ) (l : Library) → libraryOf x ≡ some l → procedureNamed x (m .procedures) ≡ none
 
 -- a name that is neither main's nor in the library
-own-number : (l : Option Library) → numberOf l ≡ 10 → l ≡ none
+own-number : (l : Option Library) → numberOf l ≡ 11 → l ≡ none
 unfolding numberOf
 own-number none e = refl
 own-number (some Library.drawLine) e = absurd (omega arith)
@@ -87,12 +87,13 @@ own-number (some Library.xCoordinate) e = absurd (omega arith)
 own-number (some Library.yCoordinate) e = absurd (omega arith)
 own-number (some Library.destroyShape) e = absurd (omega arith)
 own-number (some Library.clearScene) e = absurd (omega arith)
+own-number (some Library.drawGroup) e = absurd (omega arith)
 
-own-name : (x : List ℕ) → procedureNumber x ≡ 10 → (sameText x (bytes "main") ≡ false) × (libraryOf x ≡ none)
+own-name : (x : List ℕ) → procedureNumber x ≡ 11 → (sameText x (bytes "main") ≡ false) × (libraryOf x ≡ none)
 unfolding procedureNumber libraryNumber
 own-name x e = go (sameText x (bytes "main")) e
   where
-    go : (b : Bool) → cond b 11 (libraryNumber x) ≡ 10 → (b ≡ false) × (libraryOf x ≡ none)
+    go : (b : Bool) → cond b 12 (libraryNumber x) ≡ 11 → (b ≡ false) × (libraryOf x ≡ none)
     go true q = absurd (omega arith)
     go false q = (refl, own-number (libraryOf x) q)
 
@@ -187,7 +188,7 @@ module _ (e : Setting) {ts : List Token} (sane : Sane ts) (strings : Strings (e 
     -- ---- parameters assigned, the body, and the return
     abbrev inside : Act Value
     inside = Act._>>=_ (bodyAt fuel e (st .start + length (f .parameters)) (length (codeOfStatements (f .body) ts))) (λ flow.
-        Act._>>_ (resume (getD (r .words) argumentsHeld 0) (getD (r .words) declared 0) (getD (r .words) running 0) (getD (r₁ .words) argumentsHeld 0)) (resultOf flow))
+        Act._>>_ (resume (getD (r .words) argumentsHeld 0) (getD (r .words) declared 0) (getD (r .words) running 0) (getD (r .words) loopUnit 0) (getD (r₁ .words) argumentsHeld 0)) (resultOf flow))
 
     abbrev inside′ : Run.Action Value.Value
     inside′ = Run._>>=_ Run.current (λ s. Run._>>_ (Run.become (entered s (fresh (f .parameters)))) (Run._>>_ (assigningAll p (f .parameters) us)
@@ -214,16 +215,16 @@ module _ (e : Setting) {ts : List Token} (sane : Sane ts) (strings : Strings (e 
         → args .many ≡ length (f .parameters)
         → Follows granted total (Values (e .program) ts (e .grants) r₁)
         (Act.goOn (Act.goOn out (λ _. Act._>>_ (Act.spend callsUsed (callsGranted (e .grants)) 1 81 p)
-        (assignFrom (e .grants) (e .code) (st .start) (getD (r₁ .words) argumentsHeld 0) (length (f .parameters)) p))) (λ _. inside))
+        (Act._>>_ (Act.store loopUnit 0) (assignFrom (e .grants) (e .code) (st .start) (getD (r₁ .words) argumentsHeld 0) (length (f .parameters)) p)))) (λ _. inside))
         (Run._>>_ (Run.refuse t 60 p) (Run._>>_ (Run.spend Run.calls 1 p) inside′) s)
-    unfolding Act._>>=_ Act.goOn Run._>>=_ Run.goOn Run.refuse Run.fail Run.give shortageOf
+    unfolding Act._>>=_ Act.goOn Run._>>=_ Run.goOn Run.refuse Run.fail Run.give shortageOf Act.store
     after-declared true _ (twice {r′ = r₂} q) same =
         failed 60 p r₂ (q ∙ waits-low h fit (slotOf ts x + 1) stepsUsed (omega arith) ∙ steps-told h)
     after-declared false _ (once {r′ = r₂} a low texts) same =
         rw (regroup (Act.spend callsUsed (callsGranted (e .grants)) 1 81 p r₂)
-        (λ _. assignFrom (e .grants) (e .code) (st .start) (getD (r₁ .words) argumentsHeld 0) (length (f .parameters)) p) (λ _. inside))
+        (λ _. Act._>>_ (Act.store loopUnit 0) (assignFrom (e .grants) (e .code) (st .start) (getD (r₁ .words) argumentsHeld 0) (length (f .parameters)) p)) (λ _. inside))
         (spent-then Run.calls callsUsed (callsGranted (e .grants)) 1 81 p r₂ s (a .related .callsTaken) (gr .calls) refl (steps-told (a .related))
-        (Act._>>_ (assignFrom (e .grants) (e .code) (st .start) (getD (r₁ .words) argumentsHeld 0) (length (f .parameters)) p) inside) inside′
+        (Act._>>_ (Act._>>_ (Act.store loopUnit 0) (assignFrom (e .grants) (e .code) (st .start) (getD (r₁ .words) argumentsHeld 0) (length (f .parameters)) p)) inside) inside′
         (λ less.
         let were : getD (r₂ .words) callsUsed 0 ≡ c = a .untouched .calls ∙ waits-calls h fit (slotOf ts x + 1) ∙ calls-are in
         called-with (rw were at less) (begun h fit (slotOf ts x + 1) p (f .parameters) a low texts (omega (arith, calls-are)) (omega (arith, calls-are, were, less))) same))
@@ -264,7 +265,7 @@ module _ (e : Setting) {ts : List Token} (sane : Sane ts) (strings : Strings (e 
     begin-right : args .many ≡ length (f .parameters)
         → begins ≡ Act.goOn (declareFrom (e .code) (st .start) (length (f .parameters)) p (raw (r .texts) (waits h fit (slotOf ts x + 1))))
         (λ _. Act._>>_ (Act.spend callsUsed (callsGranted (e .grants)) 1 81 p)
-        (assignFrom (e .grants) (e .code) (st .start) (getD (r₁ .words) argumentsHeld 0) (length (f .parameters)) p))
+        (Act._>>_ (Act.store loopUnit 0) (assignFrom (e .grants) (e .code) (st .start) (getD (r₁ .words) argumentsHeld 0) (length (f .parameters)) p)))
     unfolding begin Act._>>=_ Act.goOn Act.refuse Act.give Act.store
     begin-right q = rw (ne-eqb _ 0 there, takes, given-many, eq-eqb (args .many) (length (f .parameters)) q, starts, suspends h fit p)
 

@@ -1,42 +1,51 @@
--- Statements, tests with bodies, blocks and what stands in braces meet their contracts: each way is one law. The measures are the tokens left, then the rank.
+-- Statements, tests and groups with bodies, blocks and what stands in braces meet their contracts: each way is one law. The measures are the tokens left, then the rank.
 -- Assumes nothing.
 use Prim.Native.Nat.{ℕ, _<_, _+_, _-_, _*_}
 use mathlib.Core.Path.{_∙_, sym}
 use lib.ListN.{length}
 use native.Mathlib.Omega.{arith}
 use borrow.Author.Needs.{needs}
-use Rattle.statements.proofs.Paid.{statement-paid}
-use Rattle.statements.proofs.Moves.{space-inside, parts-code, tested, guarded-wrong, guarded-reads, block-none, block-parts, block-reads, states-declaration, states-when, states-while, states-return, states-simple}
+use Rattle.statements.proofs.Paid.{statement-paid, members-paid}
+use Rattle.statements.proofs.Moves.{space-inside, parts-code, parted, tested-opens, tested, guarded-wrong, guarded-reads, block-none, block-parts, block-reads, states-declaration, states-when, states-while, states-return, states-foreach, states-simple}
+use Rattle.statements.proofs.Iterating.{iteration-wrong, iteration-stops, iteration-none, iteration-reads}
 use Rattle.statements.proofs.Going.{Going, going-starts, going-fails, turned, going-on, going-ends}
 use borrow.Fn.Kinds.{In}
 use borrow.Fn.PlainCycle.{Measures, is, falls, and}
 use Rattle.statements.proofs.read_block.Reads as read-block
 use Rattle.statements.proofs.read_block.Kinds as read-block-kinds
-use Rattle.statements.proofs.+read_block+read_guarded+read_statement+read_statements.Lts-read_block as read-block-lts
+use Rattle.statements.proofs.+read_block+read_foreach+read_guarded+read_statement+read_statements.Lts-read_block as read-block-lts
+use Rattle.statements.proofs.read_foreach.Reads as read-foreach
+use Rattle.statements.proofs.read_foreach.Kinds as read-foreach-kinds
+use Rattle.statements.proofs.+read_block+read_foreach+read_guarded+read_statement+read_statements.Lts-read_foreach as read-foreach-lts
 use Rattle.statements.proofs.read_guarded.Reads as read-guarded
 use Rattle.statements.proofs.read_guarded.Kinds as read-guarded-kinds
-use Rattle.statements.proofs.+read_block+read_guarded+read_statement+read_statements.Lts-read_guarded as read-guarded-lts
+use Rattle.statements.proofs.+read_block+read_foreach+read_guarded+read_statement+read_statements.Lts-read_guarded as read-guarded-lts
 use Rattle.statements.proofs.read_statement.Reads as read-statement
 use Rattle.statements.proofs.read_statement.Kinds as read-statement-kinds
-use Rattle.statements.proofs.+read_block+read_guarded+read_statement+read_statements.Lts-read_statement as read-statement-lts
+use Rattle.statements.proofs.+read_block+read_foreach+read_guarded+read_statement+read_statements.Lts-read_statement as read-statement-lts
 use Rattle.statements.proofs.read_statements.Reads as read-statements
 use Rattle.statements.proofs.read_statements.Kinds as read-statements-kinds
-use Rattle.statements.proofs.+read_block+read_guarded+read_statement+read_statements.Lts-read_statements as read-statements-lts
+use Rattle.statements.proofs.+read_block+read_foreach+read_guarded+read_statement+read_statements.Lts-read_statements as read-statements-lts
 use Rattle.expressions.proofs.token.kind_at.Reads as kind-at-reads
+use Rattle.statements.proofs.begins_statement.Reads as begins-statement-reads
 use Rattle.statements.proofs.head.Reads as head-reads
 use Rattle.statements.proofs.read_declaration.Reads as read-declaration-reads
+use Rattle.statements.proofs.read_members.Reads as read-members-reads
 use Rattle.statements.proofs.read_return.Reads as read-return-reads
 use Rattle.statements.proofs.read_simple.Reads as read-simple-reads
 use Rattle.statements.proofs.read_test.Reads as read-test-reads
-use Rattle.statements.proofs.+read_block+read_guarded+read_statement+read_statements.{
+use Rattle.statements.proofs.+read_block+read_foreach+read_guarded+read_statement+read_statements.{
   statement,
 }
-use Rattle.statements.proofs.+read_block+read_guarded+read_statement+read_statements.Tie.{
+use Rattle.statements.proofs.+read_block+read_foreach+read_guarded+read_statement+read_statements.Tie.{
   close,
 }
 
 abbrev μ-read-block : Measures 2 read-block-kinds.ps ℕ
 μ-read-block κs a = 3 * (length (a .0 .now) - a .1 .1 .0) + 0
+
+abbrev μ-read-foreach : Measures 2 read-foreach-kinds.ps ℕ
+μ-read-foreach κs a = 3 * (length (a .0 .now) - a .1 .1 .0) + 0
 
 abbrev μ-read-guarded : Measures 2 read-guarded-kinds.ps ℕ
 μ-read-guarded κs a = 3 * (length (a .0 .now) - a .1 .1 .1 .0) + 0
@@ -54,6 +63,18 @@ read-block-at t =
 abbrev read-block-below : ℕ → In 2 read-block-kinds.ps
 read-block-below t =
     and 2 read-block-kinds.ps (falls 2 read-block-kinds.ps _<_ μ-read-block t) read-block.Pre
+
+abbrev read-foreach-at : ℕ → In 2 read-foreach-kinds.ps
+read-foreach-at t =
+    and 2 read-foreach-kinds.ps (is 2 read-foreach-kinds.ps μ-read-foreach t) read-foreach.Pre
+
+abbrev read-foreach-below : ℕ → In 2 read-foreach-kinds.ps
+read-foreach-below t =
+    and
+    2
+    read-foreach-kinds.ps
+    (falls 2 read-foreach-kinds.ps _<_ μ-read-foreach t)
+    read-foreach.Pre
 
 abbrev read-guarded-at : ℕ → In 2 read-guarded-kinds.ps
 read-guarded-at t =
@@ -172,6 +193,255 @@ read-block-returns-2 : (t : ℕ) → read-block-lts.Need-returns-2 (
 ) (read-block-at t) read-block.Post
 read-block-returns-2 t c = block-reads _ _ _ _ _ (c .before .before .before .before .before .before .before .before .before .before .before .pre .1 .1) _ _ _ _ (c .before .before .before .before .before .before .before .before .before .before .before .pre .1 .0) (c .before .before .before .before .before .before .before .before .if1 .left) (c .before .before .before .before .before .before .read-statements .ensures) (c .before .before .head .ensures)
 
+read-foreach-add-read-members : (t : ℕ) → read-foreach-lts.Need-add-read-members (
+  read-members-reads.Asked,
+  read-members-reads.Learnt,
+  begins-statement-reads.Asked,
+  begins-statement-reads.Learnt,
+  read-statement-below t,
+  read-statement.Post,
+  head-reads.Asked,
+  head-reads.Learnt,
+) (read-foreach-at t) read-foreach.Post
+read-foreach-add-read-members t c =
+    let o = c .before .before .before .pre .1 .0 in
+    omega (arith, o .behind, o .few, c .before .before .before .pre .1 .1)
+
+read-foreach-add-read-members-2 : (t : ℕ) → read-foreach-lts.Need-add-read-members-2 (
+  read-members-reads.Asked,
+  read-members-reads.Learnt,
+  begins-statement-reads.Asked,
+  begins-statement-reads.Learnt,
+  read-statement-below t,
+  read-statement.Post,
+  head-reads.Asked,
+  head-reads.Learnt,
+) (read-foreach-at t) read-foreach.Post
+read-foreach-add-read-members-2 t c =
+    let o = c .before .before .before .pre .1 .0 in
+    omega (arith, o .behind, o .few, c .before .before .before .pre .1 .1)
+
+read-foreach-read-members-requires : (t : ℕ) → read-foreach-lts.Need-read-members-requires (
+  read-members-reads.Asked,
+  read-members-reads.Learnt,
+  begins-statement-reads.Asked,
+  begins-statement-reads.Learnt,
+  read-statement-below t,
+  read-statement.Post,
+  head-reads.Asked,
+  head-reads.Learnt,
+) (read-foreach-at t) read-foreach.Post
+read-foreach-read-members-requires t c κs =
+    let o = c .before .before .before .pre .1 .0 in
+    record { behind = omega (arith, o .behind); wide = o .wide; short = omega (arith, o .few) }
+
+read-foreach-enum-known-e : (t : ℕ) → read-foreach-lts.Need-enum-known-e (
+  read-members-reads.Asked,
+  read-members-reads.Learnt,
+  begins-statement-reads.Asked,
+  begins-statement-reads.Learnt,
+  read-statement-below t,
+  read-statement.Post,
+  head-reads.Asked,
+  head-reads.Learnt,
+) (read-foreach-at t) read-foreach.Post
+read-foreach-enum-known-e t c = search needs
+
+read-foreach-enum-known-e-2 : (t : ℕ) → read-foreach-lts.Need-enum-known-e-2 (
+  read-members-reads.Asked,
+  read-members-reads.Learnt,
+  begins-statement-reads.Asked,
+  begins-statement-reads.Learnt,
+  read-statement-below t,
+  read-statement.Post,
+  head-reads.Asked,
+  head-reads.Learnt,
+) (read-foreach-at t) read-foreach.Post
+read-foreach-enum-known-e-2 t c = search needs
+
+read-foreach-begins-statement-requires : (t : ℕ) → read-foreach-lts.Need-begins-statement-requires (
+  read-members-reads.Asked,
+  read-members-reads.Learnt,
+  begins-statement-reads.Asked,
+  begins-statement-reads.Learnt,
+  read-statement-below t,
+  read-statement.Post,
+  head-reads.Asked,
+  head-reads.Learnt,
+) (read-foreach-at t) read-foreach.Post
+read-foreach-begins-statement-requires t c κs = search needs
+
+read-foreach-same-length : (t : ℕ) → read-foreach-lts.Need-same-length (
+  read-members-reads.Asked,
+  read-members-reads.Learnt,
+  begins-statement-reads.Asked,
+  begins-statement-reads.Learnt,
+  read-statement-below t,
+  read-statement.Post,
+  head-reads.Asked,
+  head-reads.Learnt,
+) (read-foreach-at t) read-foreach.Post
+read-foreach-same-length t c = search needs
+
+read-foreach-returns : (t : ℕ) → read-foreach-lts.Need-returns (
+  read-members-reads.Asked,
+  read-members-reads.Learnt,
+  begins-statement-reads.Asked,
+  begins-statement-reads.Learnt,
+  read-statement-below t,
+  read-statement.Post,
+  head-reads.Asked,
+  head-reads.Learnt,
+) (read-foreach-at t) read-foreach.Post
+read-foreach-returns t c = iteration-stops _ _ _ _ _ _ (c .before .before .before .before .before .before .before .before .before .before .before .pre .1 .0) _ (c .before .before .before .before .before .before .before .read-members .ensures) _ _ _ (c .before .before .before .e2 .given .1) _ (c .before .begins-statement .ensures) (c .if1 .taken)
+
+read-foreach-same-length-2 : (t : ℕ) → read-foreach-lts.Need-same-length-2 (
+  read-members-reads.Asked,
+  read-members-reads.Learnt,
+  begins-statement-reads.Asked,
+  begins-statement-reads.Learnt,
+  read-statement-below t,
+  read-statement.Post,
+  head-reads.Asked,
+  head-reads.Learnt,
+) (read-foreach-at t) read-foreach.Post
+read-foreach-same-length-2 t c = search needs
+
+read-foreach-returns-2 : (t : ℕ) → read-foreach-lts.Need-returns-2 (
+  read-members-reads.Asked,
+  read-members-reads.Learnt,
+  begins-statement-reads.Asked,
+  begins-statement-reads.Learnt,
+  read-statement-below t,
+  read-statement.Post,
+  head-reads.Asked,
+  head-reads.Learnt,
+) (read-foreach-at t) read-foreach.Post
+read-foreach-returns-2 t c = iteration-none _ _ _ _ _ _ (c .before .before .before .before .before .before .before .before .before .before .before .before .pre .1 .0) _ (c .before .before .before .before .before .before .before .before .read-members .ensures) _ _ _ (c .before .before .before .before .e2 .given .1) _ (c .before .before .begins-statement .ensures) (c .before .if1 .left) (c .if2 .taken)
+
+read-foreach-sub-read-statement : (t : ℕ) → read-foreach-lts.Need-sub-read-statement (
+  read-members-reads.Asked,
+  read-members-reads.Learnt,
+  begins-statement-reads.Asked,
+  begins-statement-reads.Learnt,
+  read-statement-below t,
+  read-statement.Post,
+  head-reads.Asked,
+  head-reads.Learnt,
+) (read-foreach-at t) read-foreach.Post
+read-foreach-sub-read-statement t c = search needs
+
+read-foreach-read-statement-requires : (t : ℕ) → read-foreach-lts.Need-read-statement-requires (
+  read-members-reads.Asked,
+  read-members-reads.Learnt,
+  begins-statement-reads.Asked,
+  begins-statement-reads.Learnt,
+  read-statement-below t,
+  read-statement.Post,
+  head-reads.Asked,
+  head-reads.Learnt,
+) (read-foreach-at t) read-foreach.Post
+read-foreach-read-statement-requires t c κs =
+    let o = c .before .before .before .before .before .before .before .before .before .before .before .before .before .pre .1 .0 in
+    let p = parted _ _ _ _ _ _ o _ (c .before .before .before .before .before .before .before .before .before .read-members .ensures) (members-paid _ _ _) _ _ _ (c .before .before .before .before .before .e2 .given .1) (c .before .before .before .before .before .before .before .before .before .read-members .kept .1 .0) in
+    (omega (arith, p .ahead, p .within, c .before .before .before .before .before .before .before .before .before .before .before .before .before .pre .0), p .space)
+
+read-foreach-sub-head : (t : ℕ) → read-foreach-lts.Need-sub-head (
+  read-members-reads.Asked,
+  read-members-reads.Learnt,
+  begins-statement-reads.Asked,
+  begins-statement-reads.Learnt,
+  read-statement-below t,
+  read-statement.Post,
+  head-reads.Asked,
+  head-reads.Learnt,
+) (read-foreach-at t) read-foreach.Post
+read-foreach-sub-head t c =
+    let o = c .before .before .before .before .before .before .before .before .before .before .before .before .before .before .before .before .before .pre .1 .0 in
+    let p = parted _ _ _ _ _ _ o _ (c .before .before .before .before .before .before .before .before .before .before .before .before .before .read-members .ensures) (members-paid _ _ _) _ _ _ (c .before .before .before .before .before .before .before .before .before .e2 .given .1) (c .before .before .before .before .before .before .before .before .before .before .before .before .before .read-members .kept .1 .0) in
+    omega (arith, p .some)
+
+read-foreach-sub-head-2 : (t : ℕ) → read-foreach-lts.Need-sub-head-2 (
+  read-members-reads.Asked,
+  read-members-reads.Learnt,
+  begins-statement-reads.Asked,
+  begins-statement-reads.Learnt,
+  read-statement-below t,
+  read-statement.Post,
+  head-reads.Asked,
+  head-reads.Learnt,
+) (read-foreach-at t) read-foreach.Post
+read-foreach-sub-head-2 t c =
+    let o = c .before .before .before .before .before .before .before .before .before .before .before .before .before .before .before .before .before .pre .1 .0 in
+    let p = parted _ _ _ _ _ _ o _ (c .before .before .before .before .before .before .before .before .before .before .before .before .before .read-members .ensures) (members-paid _ _ _) _ _ _ (c .before .before .before .before .before .before .before .before .before .e2 .given .1) (c .before .before .before .before .before .before .before .before .before .before .before .before .before .read-members .kept .1 .0) in
+    omega (arith, p .some)
+
+read-foreach-head-requires : (t : ℕ) → read-foreach-lts.Need-head-requires (
+  read-members-reads.Asked,
+  read-members-reads.Learnt,
+  begins-statement-reads.Asked,
+  begins-statement-reads.Learnt,
+  read-statement-below t,
+  read-statement.Post,
+  head-reads.Asked,
+  head-reads.Learnt,
+) (read-foreach-at t) read-foreach.Post
+read-foreach-head-requires t c κs =
+    let o = c .before .before .before .before .before .before .before .before .before .before .before .before .before .before .before .before .before .pre .1 .0 in
+    let p = parted _ _ _ _ _ _ o _ (c .before .before .before .before .before .before .before .before .before .before .before .before .before .read-members .ensures) (members-paid _ _ _) _ _ _ (c .before .before .before .before .before .before .before .before .before .e2 .given .1) (c .before .before .before .before .before .before .before .before .before .before .before .before .before .read-members .kept .1 .0) in
+    parts-code _ _ _ _ _ _ _ _ _ _ (c .before .before .before .read-statement .ensures) (statement-paid _ _ _) (omega (arith, p .some)) (omega (arith, p .space .behind)) (o .few) (omega arith) (p .small)
+
+read-foreach-same-length-3 : (t : ℕ) → read-foreach-lts.Need-same-length-3 (
+  read-members-reads.Asked,
+  read-members-reads.Learnt,
+  begins-statement-reads.Asked,
+  begins-statement-reads.Learnt,
+  read-statement-below t,
+  read-statement.Post,
+  head-reads.Asked,
+  head-reads.Learnt,
+) (read-foreach-at t) read-foreach.Post
+read-foreach-same-length-3 t c = search needs
+
+read-foreach-returns-3 : (t : ℕ) → read-foreach-lts.Need-returns-3 (
+  read-members-reads.Asked,
+  read-members-reads.Learnt,
+  begins-statement-reads.Asked,
+  begins-statement-reads.Learnt,
+  read-statement-below t,
+  read-statement.Post,
+  head-reads.Asked,
+  head-reads.Learnt,
+) (read-foreach-at t) read-foreach.Post
+read-foreach-returns-3 t c = iteration-wrong _ _ _ _ _ _ (c .before .before .before .before .before .before .before .before .before .pre .1 .0) _ (c .before .before .before .before .before .read-members .ensures) _ _ (c .before .e .given .1)
+
+read-foreach-same-length-4 : (t : ℕ) → read-foreach-lts.Need-same-length-4 (
+  read-members-reads.Asked,
+  read-members-reads.Learnt,
+  begins-statement-reads.Asked,
+  begins-statement-reads.Learnt,
+  read-statement-below t,
+  read-statement.Post,
+  head-reads.Asked,
+  head-reads.Learnt,
+) (read-foreach-at t) read-foreach.Post
+read-foreach-same-length-4 t c = search needs
+
+read-foreach-returns-4 : (t : ℕ) → read-foreach-lts.Need-returns-4 (
+  read-members-reads.Asked,
+  read-members-reads.Learnt,
+  begins-statement-reads.Asked,
+  begins-statement-reads.Learnt,
+  read-statement-below t,
+  read-statement.Post,
+  head-reads.Asked,
+  head-reads.Learnt,
+) (read-foreach-at t) read-foreach.Post
+read-foreach-returns-4 t c =
+    let o = c .before .before .before .before .before .before .before .before .before .before .before .before .before .before .before .before .before .before .before .before .pre .1 .0 in
+    let p = parted _ _ _ _ _ _ o _ (c .before .before .before .before .before .before .before .before .before .before .before .before .before .before .before .before .read-members .ensures) (members-paid _ _ _) _ _ _ (c .before .before .before .before .before .before .before .before .before .before .before .before .e2 .given .1) (c .before .before .before .before .before .before .before .before .before .before .before .before .before .before .before .before .read-members .kept .1 .0) in
+    iteration-reads _ _ _ _ _ _ o _ (c .before .before .before .before .before .before .before .before .before .before .before .before .before .before .before .before .read-members .ensures) _ _ _ (c .before .before .before .before .before .before .before .before .before .before .before .before .e2 .given .1) _ (c .before .before .before .before .before .before .before .before .before .before .begins-statement .ensures) (c .before .before .before .before .before .before .before .before .before .if1 .left) (c .before .before .before .before .before .before .before .before .if2 .left) p _ _ _ _ (c .before .before .before .before .before .before .read-statement .ensures) (c .before .before .head .ensures)
+
 read-guarded-add-read-test : (t : ℕ) → read-guarded-lts.Need-add-read-test (
   read-test-reads.Asked,
   read-test-reads.Learnt,
@@ -238,8 +508,7 @@ read-guarded-sub-read-statement : (t : ℕ) → read-guarded-lts.Need-sub-read-s
 ) (read-guarded-at t) read-guarded.Post
 read-guarded-sub-read-statement t c =
     let o = c .before .before .before .before .before .before .before .before .before .before .pre .1 .0 in
-    let p = tested _ _ _ _ _ _ o _ (c .before .before .before .before .before .before .read-test .ensures) _ _ _ (c .before .before .e2 .given .1) (c .before .before .before .before .before .before .read-test .kept .1 .0) in
-    omega (arith, p .opens)
+    omega (arith, tested-opens _ _ _ _ _ _ o _ (c .before .before .before .before .before .before .read-test .ensures) _ _ _ (c .before .before .e2 .given .1) (c .before .before .before .before .before .before .read-test .kept .1 .0))
 
 read-guarded-read-statement-requires : (t : ℕ) → read-guarded-lts.Need-read-statement-requires (
   read-test-reads.Asked,
@@ -342,6 +611,8 @@ read-statement-kind-at-requires : (t : ℕ) → read-statement-lts.Need-kind-at-
   read-guarded.Post,
   read-return-reads.Asked,
   read-return-reads.Learnt,
+  read-foreach-below t,
+  read-foreach.Post,
   read-block-below t,
   read-block.Post,
   read-simple-reads.Asked,
@@ -359,6 +630,8 @@ read-statement-read-declaration-requires :
       read-guarded.Post,
       read-return-reads.Asked,
       read-return-reads.Learnt,
+      read-foreach-below t,
+      read-foreach.Post,
       read-block-below t,
       read-block.Post,
       read-simple-reads.Asked,
@@ -378,6 +651,8 @@ read-statement-read-guarded-requires : (t : ℕ) → read-statement-lts.Need-rea
   read-guarded.Post,
   read-return-reads.Asked,
   read-return-reads.Learnt,
+  read-foreach-below t,
+  read-foreach.Post,
   read-block-below t,
   read-block.Post,
   read-simple-reads.Asked,
@@ -397,6 +672,8 @@ read-statement-read-guarded-requires-2 : (t : ℕ) → read-statement-lts.Need-r
   read-guarded.Post,
   read-return-reads.Asked,
   read-return-reads.Learnt,
+  read-foreach-below t,
+  read-foreach.Post,
   read-block-below t,
   read-block.Post,
   read-simple-reads.Asked,
@@ -416,6 +693,8 @@ read-statement-read-return-requires : (t : ℕ) → read-statement-lts.Need-read
   read-guarded.Post,
   read-return-reads.Asked,
   read-return-reads.Learnt,
+  read-foreach-below t,
+  read-foreach.Post,
   read-block-below t,
   read-block.Post,
   read-simple-reads.Asked,
@@ -426,6 +705,27 @@ read-statement-read-return-requires t c κs =
     let w = space-inside _ _ _ _ _ o (sym (c .before .before .kind-at .ensures)) (λ z. omega (arith, c .before .match .keys4)) in
     (o, w)
 
+read-statement-read-foreach-requires : (t : ℕ) → read-statement-lts.Need-read-foreach-requires (
+  kind-at-reads.Asked,
+  kind-at-reads.Learnt,
+  read-declaration-reads.Asked,
+  read-declaration-reads.Learnt,
+  read-guarded-below t,
+  read-guarded.Post,
+  read-return-reads.Asked,
+  read-return-reads.Learnt,
+  read-foreach-below t,
+  read-foreach.Post,
+  read-block-below t,
+  read-block.Post,
+  read-simple-reads.Asked,
+  read-simple-reads.Learnt,
+) (read-statement-at t) read-statement.Post
+read-statement-read-foreach-requires t c κs =
+    let o = c .before .before .before .before .before .pre .1 in
+    let w = space-inside _ _ _ _ _ o (sym (c .before .before .kind-at .ensures)) (λ z. omega (arith, c .before .match .keys5)) in
+    (omega (arith, c .before .before .before .before .before .pre .0), (o, w))
+
 read-statement-read-block-requires : (t : ℕ) → read-statement-lts.Need-read-block-requires (
   kind-at-reads.Asked,
   kind-at-reads.Learnt,
@@ -435,12 +735,14 @@ read-statement-read-block-requires : (t : ℕ) → read-statement-lts.Need-read-
   read-guarded.Post,
   read-return-reads.Asked,
   read-return-reads.Learnt,
+  read-foreach-below t,
+  read-foreach.Post,
   read-block-below t,
   read-block.Post,
   read-simple-reads.Asked,
   read-simple-reads.Learnt,
 ) (read-statement-at t) read-statement.Post
-read-statement-read-block-requires t c κs = (omega (arith, c .before .before .before .before .before .pre .0), (c .before .before .before .before .before .pre .1, sym (c .before .before .kind-at .ensures) ∙ c .before .match .keys5))
+read-statement-read-block-requires t c κs = (omega (arith, c .before .before .before .before .before .pre .0), (c .before .before .before .before .before .pre .1, sym (c .before .before .kind-at .ensures) ∙ c .before .match .keys6))
 
 read-statement-read-simple-requires : (t : ℕ) → read-statement-lts.Need-read-simple-requires (
   kind-at-reads.Asked,
@@ -451,6 +753,8 @@ read-statement-read-simple-requires : (t : ℕ) → read-statement-lts.Need-read
   read-guarded.Post,
   read-return-reads.Asked,
   read-return-reads.Learnt,
+  read-foreach-below t,
+  read-foreach.Post,
   read-block-below t,
   read-block.Post,
   read-simple-reads.Asked,
@@ -467,6 +771,8 @@ read-statement-same-length : (t : ℕ) → read-statement-lts.Need-same-length (
   read-guarded.Post,
   read-return-reads.Asked,
   read-return-reads.Learnt,
+  read-foreach-below t,
+  read-foreach.Post,
   read-block-below t,
   read-block.Post,
   read-simple-reads.Asked,
@@ -483,6 +789,8 @@ read-statement-returns : (t : ℕ) → read-statement-lts.Need-returns (
   read-guarded.Post,
   read-return-reads.Asked,
   read-return-reads.Learnt,
+  read-foreach-below t,
+  read-foreach.Post,
   read-block-below t,
   read-block.Post,
   read-simple-reads.Asked,
@@ -499,6 +807,8 @@ read-statement-same-length-2 : (t : ℕ) → read-statement-lts.Need-same-length
   read-guarded.Post,
   read-return-reads.Asked,
   read-return-reads.Learnt,
+  read-foreach-below t,
+  read-foreach.Post,
   read-block-below t,
   read-block.Post,
   read-simple-reads.Asked,
@@ -515,6 +825,8 @@ read-statement-returns-2 : (t : ℕ) → read-statement-lts.Need-returns-2 (
   read-guarded.Post,
   read-return-reads.Asked,
   read-return-reads.Learnt,
+  read-foreach-below t,
+  read-foreach.Post,
   read-block-below t,
   read-block.Post,
   read-simple-reads.Asked,
@@ -531,6 +843,8 @@ read-statement-same-length-3 : (t : ℕ) → read-statement-lts.Need-same-length
   read-guarded.Post,
   read-return-reads.Asked,
   read-return-reads.Learnt,
+  read-foreach-below t,
+  read-foreach.Post,
   read-block-below t,
   read-block.Post,
   read-simple-reads.Asked,
@@ -547,6 +861,8 @@ read-statement-returns-3 : (t : ℕ) → read-statement-lts.Need-returns-3 (
   read-guarded.Post,
   read-return-reads.Asked,
   read-return-reads.Learnt,
+  read-foreach-below t,
+  read-foreach.Post,
   read-block-below t,
   read-block.Post,
   read-simple-reads.Asked,
@@ -563,6 +879,8 @@ read-statement-same-length-4 : (t : ℕ) → read-statement-lts.Need-same-length
   read-guarded.Post,
   read-return-reads.Asked,
   read-return-reads.Learnt,
+  read-foreach-below t,
+  read-foreach.Post,
   read-block-below t,
   read-block.Post,
   read-simple-reads.Asked,
@@ -579,6 +897,8 @@ read-statement-returns-4 : (t : ℕ) → read-statement-lts.Need-returns-4 (
   read-guarded.Post,
   read-return-reads.Asked,
   read-return-reads.Learnt,
+  read-foreach-below t,
+  read-foreach.Post,
   read-block-below t,
   read-block.Post,
   read-simple-reads.Asked,
@@ -595,6 +915,8 @@ read-statement-same-length-5 : (t : ℕ) → read-statement-lts.Need-same-length
   read-guarded.Post,
   read-return-reads.Asked,
   read-return-reads.Learnt,
+  read-foreach-below t,
+  read-foreach.Post,
   read-block-below t,
   read-block.Post,
   read-simple-reads.Asked,
@@ -611,12 +933,14 @@ read-statement-returns-5 : (t : ℕ) → read-statement-lts.Need-returns-5 (
   read-guarded.Post,
   read-return-reads.Asked,
   read-return-reads.Learnt,
+  read-foreach-below t,
+  read-foreach.Post,
   read-block-below t,
   read-block.Post,
   read-simple-reads.Asked,
   read-simple-reads.Learnt,
 ) (read-statement-at t) read-statement.Post
-read-statement-returns-5 t c = c .before .before .read-block .ensures
+read-statement-returns-5 t c = states-foreach _ _ _ _ _ _ _ _ (c .before .before .before .before .before .kind-at .ensures) (c .before .before .before .before .match .keys5) (c .before .before .read-foreach .ensures)
 
 read-statement-same-length-6 : (t : ℕ) → read-statement-lts.Need-same-length-6 (
   kind-at-reads.Asked,
@@ -627,6 +951,8 @@ read-statement-same-length-6 : (t : ℕ) → read-statement-lts.Need-same-length
   read-guarded.Post,
   read-return-reads.Asked,
   read-return-reads.Learnt,
+  read-foreach-below t,
+  read-foreach.Post,
   read-block-below t,
   read-block.Post,
   read-simple-reads.Asked,
@@ -643,14 +969,52 @@ read-statement-returns-6 : (t : ℕ) → read-statement-lts.Need-returns-6 (
   read-guarded.Post,
   read-return-reads.Asked,
   read-return-reads.Learnt,
+  read-foreach-below t,
+  read-foreach.Post,
   read-block-below t,
   read-block.Post,
   read-simple-reads.Asked,
   read-simple-reads.Learnt,
 ) (read-statement-at t) read-statement.Post
-read-statement-returns-6 t c =
+read-statement-returns-6 t c = c .before .before .read-block .ensures
+
+read-statement-same-length-7 : (t : ℕ) → read-statement-lts.Need-same-length-7 (
+  kind-at-reads.Asked,
+  kind-at-reads.Learnt,
+  read-declaration-reads.Asked,
+  read-declaration-reads.Learnt,
+  read-guarded-below t,
+  read-guarded.Post,
+  read-return-reads.Asked,
+  read-return-reads.Learnt,
+  read-foreach-below t,
+  read-foreach.Post,
+  read-block-below t,
+  read-block.Post,
+  read-simple-reads.Asked,
+  read-simple-reads.Learnt,
+) (read-statement-at t) read-statement.Post
+read-statement-same-length-7 t c = search needs
+
+read-statement-returns-7 : (t : ℕ) → read-statement-lts.Need-returns-7 (
+  kind-at-reads.Asked,
+  kind-at-reads.Learnt,
+  read-declaration-reads.Asked,
+  read-declaration-reads.Learnt,
+  read-guarded-below t,
+  read-guarded.Post,
+  read-return-reads.Asked,
+  read-return-reads.Learnt,
+  read-foreach-below t,
+  read-foreach.Post,
+  read-block-below t,
+  read-block.Post,
+  read-simple-reads.Asked,
+  read-simple-reads.Learnt,
+) (read-statement-at t) read-statement.Post
+read-statement-returns-7 t c =
     let x = c .before .before .before .before .match .rest in
-    states-simple _ _ _ _ _ _ _ _ (c .before .before .before .before .before .kind-at .ensures) (x .0 .0 .0 .0 .1) (x .0 .0 .0 .1) (x .0 .0 .1) (x .0 .1) (x .1) (c .before .before .read-simple .ensures)
+    states-simple _ _ _ _ _ _ _ _ (c .before .before .before .before .before .kind-at .ensures) (x .0 .0 .0 .0 .0 .1) (x .0 .0 .0 .0 .1) (x .0 .0 .0 .1) (x .0 .0 .1) (x .0 .1) (x .1) (c .before .before .read-simple .ensures)
 
 abbrev read-statements-Inv-loop : read-statements-lts.InvT-loop
 read-statements-Inv-loop tokens words₀ i n left at₀ m₀ words at m = Going left tokens i n words₀ at m words
@@ -759,9 +1123,16 @@ read-statements-loop-again : (t : ℕ) → read-statements-lts.Need-loop-again (
 ) (read-statements-at t) read-statements.Post read-statements-Inv-loop read-statements-μ-loop
 read-statements-loop-again t c = going-on _ _ _ _ _ _ _ _ (c .before .before .before .before .before .before .before .before .before .loop .inv) _ _ (c .before .before .before .before .before .before .before .read-statement .ensures) _ _ _ (c .before .before .before .s2 .given .1) (c .before .before .before .before .before .before .before .read-statement .kept .1 .0) _ (c .before .kind-at .ensures) (c .if1 .left)
 
-pub +read-block+read-guarded+read-statement+read-statements-spec : {M : Type 1} → statement M
-+read-block+read-guarded+read-statement+read-statements-spec =
-    close μ-read-block μ-read-guarded μ-read-statement μ-read-statements (λ t. read-block-lts.spec (
+pub +read-block+read-foreach+read-guarded+read-statement+read-statements-spec :
+    {M : Type 1} → statement M
++read-block+read-foreach+read-guarded+read-statement+read-statements-spec =
+    close
+    μ-read-block
+    μ-read-foreach
+    μ-read-guarded
+    μ-read-statement
+    μ-read-statements
+    (λ t. read-block-lts.spec (
       read-statements-below t,
       read-statements.Post,
       head-reads.Asked,
@@ -777,6 +1148,37 @@ pub +read-block+read-guarded+read-statement+read-statements-spec : {M : Type 1} 
     (read-block-head-requires t)
     (read-block-same-length t)
     (read-block-returns-2 t))
+    (λ t. read-foreach-lts.spec (
+      read-members-reads.Asked,
+      read-members-reads.Learnt,
+      begins-statement-reads.Asked,
+      begins-statement-reads.Learnt,
+      read-statement-below t,
+      read-statement.Post,
+      head-reads.Asked,
+      head-reads.Learnt,
+    )
+    (read-foreach-at t)
+    read-foreach.Post
+    (read-foreach-add-read-members t)
+    (read-foreach-add-read-members-2 t)
+    (read-foreach-read-members-requires t)
+    (read-foreach-enum-known-e t)
+    (read-foreach-enum-known-e-2 t)
+    (read-foreach-begins-statement-requires t)
+    (read-foreach-same-length t)
+    (read-foreach-returns t)
+    (read-foreach-same-length-2 t)
+    (read-foreach-returns-2 t)
+    (read-foreach-sub-read-statement t)
+    (read-foreach-read-statement-requires t)
+    (read-foreach-sub-head t)
+    (read-foreach-sub-head-2 t)
+    (read-foreach-head-requires t)
+    (read-foreach-same-length-3 t)
+    (read-foreach-returns-3 t)
+    (read-foreach-same-length-4 t)
+    (read-foreach-returns-4 t))
     (λ t. read-guarded-lts.spec (
       read-test-reads.Asked,
       read-test-reads.Learnt,
@@ -810,6 +1212,8 @@ pub +read-block+read-guarded+read-statement+read-statements-spec : {M : Type 1} 
       read-guarded.Post,
       read-return-reads.Asked,
       read-return-reads.Learnt,
+      read-foreach-below t,
+      read-foreach.Post,
       read-block-below t,
       read-block.Post,
       read-simple-reads.Asked,
@@ -822,6 +1226,7 @@ pub +read-block+read-guarded+read-statement+read-statements-spec : {M : Type 1} 
     (read-statement-read-guarded-requires t)
     (read-statement-read-guarded-requires-2 t)
     (read-statement-read-return-requires t)
+    (read-statement-read-foreach-requires t)
     (read-statement-read-block-requires t)
     (read-statement-read-simple-requires t)
     (read-statement-same-length t)
@@ -835,7 +1240,9 @@ pub +read-block+read-guarded+read-statement+read-statements-spec : {M : Type 1} 
     (read-statement-same-length-5 t)
     (read-statement-returns-5 t)
     (read-statement-same-length-6 t)
-    (read-statement-returns-6 t))
+    (read-statement-returns-6 t)
+    (read-statement-same-length-7 t)
+    (read-statement-returns-7 t))
     λ t. read-statements-lts.spec
     (read-statement-below t, read-statement.Post, kind-at-reads.Asked, kind-at-reads.Learnt)
     (read-statements-at t)
