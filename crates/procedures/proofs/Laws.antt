@@ -5,7 +5,7 @@ use mathlib.Core.Bool.{Bool, true, false, not}
 use mathlib.Core.List.{List, [], _∷_}
 use mathlib.Core.Logic.{⊎-elim}
 use native.Mathlib.Omega.{arith}
-use lib.ListN.{getD, set, length, length-set}
+use lib.ListN.{getD, set, length}
 use denote.Enum.Declared.{tagOf}
 use types.Run.{OneOf}
 use borrow.Author.Tests.{eq-eqb, ne-eqb, not-true, not-false}
@@ -69,9 +69,6 @@ module _ (g code : List ℕ) (a base n p : ℕ) (ws₀ : List ℕ) where
           record { equal = λ ts. sym (rw ((rw (d, e, from-none n) at (t .rest ts)), c, turn-by (n - (k + 1)) ts, o)) }
 
 -- ---- a call begins
-pub long-still : (ws : List ℕ) (v : ℕ) → length (set (set ws running v) loopUnit 0) ≡ length ws
-long-still ws v = simp length-set
-
 module _ (g code : List ℕ) (callee top n p base : ℕ) (ws : List ℕ) (at d : ℕ) (i : at ≡ tablePlace callee) (j : d ≡ getD code at 0) where
   word-is : getD code (tablePlace callee) 0 ≡ d
   word-is = rw (← i, ← j)
@@ -88,7 +85,7 @@ module _ (g code : List ℕ) (callee top n p base : ℕ) (ws : List ℕ) (at d :
     module _ (o : k ≡ m) (ok₁ : Bool) (ws₁ : List ℕ) (h₁ : Passes ws 20 (suspend top n) ok₁ ws₁) where
       asked : (ts : List ℕ) → begin g code callee top n p base (raw ts ws)
           ≡ goOn (passed ok₁ 20 p ts ws₁)
-          (λ _. store running (callee + 1) >>= λ _. store loopUnit 0 >>= λ _. declareFrom code (startIn d) m p >>= λ _. spend callsUsed (callsGranted g) 1 81 p >>= λ _. assignFrom g code (startIn d) base m p)
+          (λ _. store running (callee + 1) >>= λ _. declareFrom code (startIn d) m p >>= λ _. spend callsUsed (callsGranted g) 1 81 p >>= λ _. store loopUnit 0 >>= λ _. assignFrom g code (startIn d) base m p)
       unfolding begin _>>=_ goOn refuse give
       asked ts = rw (word-is, ne-eqb _ _ z, ← e, ← f, eq-eqb k m o, ← h₁ .equal p ts)
 
@@ -96,8 +93,8 @@ module _ (g code : List ℕ) (callee top n p base : ℕ) (ws : List ℕ) (at d :
       unfolding answered _>>=_ goOn passed shown
       no-room t = record { equal = λ ts. sym (rw (asked ts, not-true ok₁ t)) }
 
-      module _ (t₁ : not ok₁ ≡ false) (a : ℕ) (b : a ≡ startIn d) (ok₂ : Bool) (ws₂ : List ℕ) (h₂ : Passes (set (set ws₁ running (callee + 1)) loopUnit 0) 60 (declareFrom code a m) ok₂ ws₂) where
-        suspended : (ts : List ℕ) → begin g code callee top n p base (raw ts ws) ≡ goOn (passed ok₂ 60 p ts ws₂) (λ _. spend callsUsed (callsGranted g) 1 81 p >>= λ _. assignFrom g code a base m p)
+      module _ (t₁ : not ok₁ ≡ false) (a : ℕ) (b : a ≡ startIn d) (ok₂ : Bool) (ws₂ : List ℕ) (h₂ : Passes (set ws₁ running (callee + 1)) 60 (declareFrom code a m) ok₂ ws₂) where
+        suspended : (ts : List ℕ) → begin g code callee top n p base (raw ts ws) ≡ goOn (passed ok₂ 60 p ts ws₂) (λ _. spend callsUsed (callsGranted g) 1 81 p >>= λ _. store loopUnit 0 >>= λ _. assignFrom g code a base m p)
         unfolding _>>=_ goOn store passed
         suspended ts = asked ts ∙ rw (not-false ok₁ t₁, ← b, ← h₂ .equal p ts)
 
@@ -106,7 +103,7 @@ module _ (g code : List ℕ) (callee top n p base : ℕ) (ws : List ℕ) (at d :
         name-twice t = record { equal = λ ts. sym (rw (suspended ts, not-true ok₂ t)) }
 
         module _ (t₂ : not ok₂ ≡ false) (ok₃ : Bool) (ws₃ : List ℕ) (h₃ : Pays ws₂ callsUsed (callsGranted g) 1 ok₃ ws₃) where
-          named : (ts : List ℕ) → begin g code callee top n p base (raw ts ws) ≡ goOn (passed ok₃ 81 p ts ws₃) (λ _. assignFrom g code a base m p)
+          named : (ts : List ℕ) → begin g code callee top n p base (raw ts ws) ≡ goOn (passed ok₃ 81 p ts ws₃) (λ _. store loopUnit 0 >>= λ _. assignFrom g code a base m p)
           unfolding _>>=_ goOn passed
           named ts = suspended ts ∙ rw (not-false ok₂ t₂, ← h₃ .equal 81 p ts)
 
@@ -114,7 +111,7 @@ module _ (g code : List ℕ) (callee top n p base : ℕ) (ws : List ℕ) (at d :
           unfolding answered _>>=_ goOn passed shown
           no-call t = record { equal = λ ts. sym (rw (named ts, not-true ok₃ t)) }
 
-          pub begun : (r : Answer) (ws₄ : List ℕ) → not ok₃ ≡ false → Answers ws₃ (answered (assignFrom g code a base m p)) r ws₄
+          pub begun : (r : Answer) (ws₄ : List ℕ) → not ok₃ ≡ false → Answers (set ws₃ loopUnit 0) (answered (assignFrom g code a base m p)) r ws₄
               → Answers ws (answered (begin g code callee top n p base)) r ws₄
-          unfolding answered _>>=_ goOn passed
+          unfolding answered _>>=_ goOn store passed
           begun r ws₄ t q = record { equal = λ ts. q .equal ts ∙ sym (rw (named ts, not-false ok₃ t)) }

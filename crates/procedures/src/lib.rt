@@ -61,7 +61,6 @@ pub fn begin(
         return Answer::Bad(20, p);
     }
     words[counters::RUNNING] = callee as u64 + 1;
-    words[counters::LOOP_UNIT] = 0;
     let a = code::start_of(d);
     let limit = grants[granted::CALLS];
     if !stores::calls::declare_parameters(words, code, a, m) {
@@ -70,6 +69,7 @@ pub fn begin(
     if !stores::counters::spend(words, counters::CALLS, limit, 1) {
         return Answer::Bad(81, p);
     }
+    words[counters::LOOP_UNIT] = 0;
     let r = assign_parameters(words, code, grants, a, base, m, p);
     r
 }

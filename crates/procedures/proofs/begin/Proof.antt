@@ -1,5 +1,5 @@
 use Prim.Native.Nat.{_+_}
-use Rattle.procedures.proofs.Laws.{still-room, long-still, no-procedure, other-number, no-room, name-twice, no-call, begun}
+use Rattle.procedures.proofs.Laws.{still-room, no-procedure, other-number, no-room, name-twice, no-call, begun}
 use native.Mathlib.Omega.{arith}
 use lib.ListN.{length-set}
 use borrow.Author.Needs.{needs}
@@ -50,10 +50,6 @@ add-words c = search needs
 slice-write-words : tie.Need-slice-write-words
 slice-write-words c = search needs
 
--- src/lib.rt:64:5
-slice-write-words-2 : tie.Need-slice-write-words-2
-slice-write-words-2 c = simp length-set (omega arith)
-
 -- src/lib.rt:64:9
 start-of-requires : tie.Need-start-of-requires
 start-of-requires c κs = search needs
@@ -68,7 +64,7 @@ declare-parameters-requires c κs = (simp length-set (omega arith), omega arith)
 
 -- src/lib.rt:67:9
 same-length-2 : tie.Need-same-length-2
-same-length-2 c = omega (arith, long-still (c .before .before .before .before .before .before .before .before .before .before .suspend .last .0) (c .before .before .before .before .before .before .before .before .before .before .before .before .before .before .before .before .before .before .before .before .args .callee + 1))
+same-length-2 c = omega (arith, length-set (c .before .before .before .before .before .before .before .before .before .before .suspend .last .0) 8 (c .before .before .before .before .before .before .before .before .before .before .before .before .before .before .before .before .before .before .before .before .args .callee + 1))
 
 -- src/lib.rt:67:9
 returns-4 : tie.Need-returns-4
@@ -76,29 +72,27 @@ returns-4 c = search name-twice
 
 -- src/lib.rt:69:9
 spend-requires : tie.Need-spend-requires
-spend-requires c κs = omega (arith, long-still (c .before .before .before .before .before .before .before .before .before .before .before .suspend .last .0) (c .before .before .before .before .before .before .before .before .before .before .before .before .before .before .before .before .before .before .before .before .before .args .callee + 1))
+spend-requires c κs = omega (arith, length-set (c .before .before .before .before .before .before .before .before .before .before .before .suspend .last .0) 8 (c .before .before .before .before .before .before .before .before .before .before .before .before .before .before .before .before .before .before .before .before .before .args .callee + 1))
 
 -- src/lib.rt:70:9
 same-length-3 : tie.Need-same-length-3
-same-length-3 c = omega (arith, long-still (c .before .before .before .before .before .before .before .before .before .before .before .before .before .before .before .suspend .last .0) (c .before .before .before .before .before .before .before .before .before .before .before .before .before .before .before .before .before .before .before .before .before .before .before .before .before .args .callee + 1))
+same-length-3 c = omega (arith, length-set (c .before .before .before .before .before .before .before .before .before .before .before .before .before .before .before .suspend .last .0) 8 (c .before .before .before .before .before .before .before .before .before .before .before .before .before .before .before .before .before .before .before .before .before .before .before .before .before .args .callee + 1))
 
 -- src/lib.rt:70:9
 returns-5 : tie.Need-returns-5
 returns-5 c = search no-call
 
--- src/lib.rt:72:9
+-- src/lib.rt:72:5
+slice-write-words-2 : tie.Need-slice-write-words-2
+slice-write-words-2 c = omega (arith, length-set (c .before .before .before .before .before .before .before .before .before .before .before .before .before .before .before .suspend .last .0) 8 (c .before .before .before .before .before .before .before .before .before .before .before .before .before .before .before .before .before .before .before .before .before .before .before .before .before .args .callee + 1))
+
+-- src/lib.rt:73:9
 assign-parameters-requires : tie.Need-assign-parameters-requires
-assign-parameters-requires c κs =
-    let long = long-still (c .before .before .before .before .before .before .before .before .before .before .before .before .before .before .before .before .suspend .last .0) (c .before .before .before .before .before .before .before .before .before .before .before .before .before .before .before .before .before .before .before .before .before .before .before .before .before .before .args .callee + 1) in
-    record {
-      room = still-room _ _ _ (c .before .before .before .before .before .before .before .before .before .before .before .before .before .before .before .before .before .before .before .before .before .before .before .before .before .before .pre .room) (omega arith);
-      slots = omega arith;
-      arguments = omega arith;
-    }
+assign-parameters-requires c κs = let long = length-set (c .before .before .before .before .before .before .before .before .before .before .before .before .before .before .before .before .suspend .last .0) 8 (c .before .before .before .before .before .before .before .before .before .before .before .before .before .before .before .before .before .before .before .before .before .before .before .before .before .before .args .callee + 1) in let after = length-set (c .before .before .before .before .spend .last .0) 12 0 in record { room = still-room _ _ _ (c .before .before .before .before .before .before .before .before .before .before .before .before .before .before .before .before .before .before .before .before .before .before .before .before .before .before .pre .room) (omega arith); slots = omega arith; arguments = omega arith }
 
 -- src/lib.rt:39:1
 same-length-4 : tie.Need-same-length-4
-same-length-4 c = omega (arith, long-still (c .before .before .before .before .before .before .before .before .before .before .before .before .before .before .before .before .before .before .before .suspend .last .0) (c .before .before .before .before .before .before .before .before .before .before .before .before .before .before .before .before .before .before .before .before .before .before .before .before .before .before .before .before .before .args .callee + 1))
+same-length-4 c = omega (arith, length-set (c .before .before .before .before .before .before .before .before .before .before .before .before .before .before .before .before .before .before .before .suspend .last .0) 8 (c .before .before .before .before .before .before .before .before .before .before .before .before .before .before .before .before .before .before .before .before .before .before .before .before .before .before .before .before .before .args .callee + 1), length-set (c .before .before .before .before .before .before .before .spend .last .0) 12 0)
 
 -- src/lib.rt:39:1
 returns-6 : tie.Need-returns-6
@@ -119,7 +113,6 @@ begin-spec =
     returns-3
     add-words
     slice-write-words
-    slice-write-words-2
     start-of-requires
     element-copy-out-limit
     declare-parameters-requires
@@ -128,6 +121,7 @@ begin-spec =
     spend-requires
     same-length-3
     returns-5
+    slice-write-words-2
     assign-parameters-requires
     same-length-4
     returns-6)
