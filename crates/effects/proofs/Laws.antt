@@ -58,7 +58,8 @@ module _ (ws g : List ℕ) (slot k p : ℕ) (ok : Bool) (d : ok ≡ isDeclared w
   unfolding assigning usable _>>=_ goOn load refuse fail give shownFlow
   shape-dead b t e u = record { equal = λ ts. rw (known-is t, ← e, u) }
 
-  module _ (t : not ok ≡ false) (l : Bool) (d₁ : l ≡ isDead ws (unpacked k)) (u : l ≡ false) (i : kindIn k ≡ kindShape) (n : ℕ) (m : n ≡ numberIn k) (a : Answer) (ws₁ : List ℕ) (o : Answers ws (copyShape g p n) a ws₁) where
+  module _ (t : not ok ≡ false) (l : Bool) (d₁ : l ≡ isDead ws (unpacked k)) (u : l ≡ false) (i : kindIn k ≡ kindShape) (n : ℕ) (m : n ≡ numberIn k)
+      (a : Answer) (ws₁ : List ℕ) (o : Answers ws (copyShape g p n) a ws₁) where
     pub no-copy : (l q : ℕ) → a ≡ Bad l q → Flows ws (assigning g p slot k) (Stopped l q) ws₁
     unfolding assigning copied usable if_then_else_ _>>=_ goOn load refuse give shownFlow shown
     no-copy l q b = record { equal = λ ts. sym (rw (known-is t, ← d₁, u, i, ← m, ← o .equal ts, b)) }

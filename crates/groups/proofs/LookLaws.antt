@@ -194,7 +194,8 @@ module _ (g ws : List ℕ) where
     unfolding lookBy WalksBy owedBy SmallBy
     looking-on n u t = record {
       equal = λ ts. sym (look-passes g d k n (raw ts ws) c e (sym f ∙ t));
-      walks = walks-same g ws ws d d k (k + 1) (suc n) n (u .walks) refl (λ e h. refl) (omega arith) (λ h. u .walks .within (omega arith)) (omega (arith, u .walks .small)) (omega (arith, u .walks .few));
+      walks = walks-same g ws ws d d k (k + 1) (suc n) n (u .walks) refl (λ e h. refl) (omega arith) (λ h. u .walks .within (omega arith))
+          (omega (arith, u .walks .small)) (omega (arith, u .walks .few));
       small = tt;
       less = advance-less (shapesGranted g) ws ws d n (λ e h. refl);
     }
@@ -220,7 +221,8 @@ module _ (g ws : List ℕ) where
         mark-kept e q = kept-way e (raw [] ws) (mark g k (raw [] ws)) (raw [] ws₁) (keeps-mark g e q k (raw [] ws)) (sym (m .equal []))
 
         looking-down : (n : ℕ) → Walks g ws d k (suc n) → a ≡ true
-            → Looked g ws d k (suc n) (At (d + 1) (firstAt (set ws₁ (wayPlace d) (wayWord k n 0)) c) (countWithin g (set ws₁ (wayPlace d) (wayWord k n 0)) (d + 1) c)) (set ws₁ (wayPlace d) (wayWord k n 0))
+            → Looked g ws d k (suc n)
+            (At (d + 1) (firstAt (set ws₁ (wayPlace d) (wayWord k n 0)) c) (countWithin g (set ws₁ (wayPlace d) (wayWord k n 0)) (d + 1) c)) (set ws₁ (wayPlace d) (wayWord k n 0))
         unfolding lookBy WalksBy owedBy SmallBy countWithin within
         looking-down n w v =
             let deep : d < shapesGranted g = w .within (omega arith) in
@@ -228,7 +230,8 @@ module _ (g ws : List ℕ) where
             let long : wayPlace d < length ws₁ = rw l (omega (arith, w .room .words)) in
             let ws″ = set ws₁ (wayPlace d) (wayWord k n 0) in
             let here : getD ws″ (wayPlace d) 0 ≡ wayWord k n 0 = getD-set-same ws₁ (wayPlace d) (wayWord k n 0) 0 long in
-            let there : (e : ℕ) → e < d → getD ws″ (wayPlace e) 0 ≡ getD ws (wayPlace e) 0 = λ e y. getD-set-other ws₁ (wayPlace d) (wayPlace e) (wayWord k n 0) 0 (λ x. omega arith) ∙ mark-kept e (omega arith) in
+            let there : (e : ℕ) → e < d → getD ws″ (wayPlace e) 0 ≡ getD ws (wayPlace e) 0 =
+            λ e y. getD-set-other ws₁ (wayPlace d) (wayPlace e) (wayWord k n 0) 0 (λ x. omega arith) ∙ mark-kept e (omega arith) in
             let left : leftIn (getD ws″ (wayPlace d) 0) ≡ n = ap leftIn here ∙ left-back k n 0 (omega (arith, w .few)) in
             let slot : slotIn (getD ws″ (wayPlace d) 0) ≡ k = ap slotIn here ∙ slot-back k n 0 (omega (arith, w .small)) in
             rw one record {

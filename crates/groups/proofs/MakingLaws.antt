@@ -7,8 +7,8 @@ use native.Mathlib.Omega.{arith}
 use native.Mathlib.Nat.{mod-lt}
 use lib.ListN.{getD, set, length, length-set}
 use lib.Seq.{getD-set-same, getD-set-other}
-use lib.Dec.{leb}
-use borrow.Author.Tests.{not-true, not-false, le-leb, lt-leb}
+use lib.Dec.{eqb, leb}
+use borrow.Author.Tests.{not-true, not-false, le-leb, lt-leb, ne-eqb}
 use Rattle.meaning.specs.Basics.{if_then_else_}
 use Rattle.machine.specs.declared.Value.{Value}
 use Rattle.machine.specs.declared.Value.the-variants.{Shape}
@@ -20,7 +20,7 @@ use Rattle.machine.specs.Act.{Raw, raw, Out, done, stop, Act, goOn, _>>=_, give
 use Rattle.machine.specs.Shapes.{isGroupAt, figureAt, newShape}
 use Rattle.machine.specs.Groups.{slotWord, firstAt, countAt, fillFrom, groupLaid, putGroup, newGroup, copyShape}
 use Rattle.stores.proofs.Acts.{paid, short, after-pass, after-refusal}
-use Rattle.groups.specs.Making.{addOne, grouping, copyGroup, Units, Sources, Adds}
+use Rattle.groups.specs.Making.{addOne, grouping, copyGroup, Units, Sources, Adds, making, Makes}
 use Rattle.groups.proofs.TurnLaws.{room-same}
 
 -- ---- a component
@@ -113,39 +113,72 @@ module _ (g : List ℕ) (stride unit place n : ℕ) (ws₀ : List ℕ) where
             }
 
 -- ---- a group
-two-gifts : (o : Out (Unit {0})) (k : ℕ) → goOn (goOn o (λ _. give k)) (λ x. give (Shape x)) ≡ goOn o (λ _. give (Shape k))
-unfolding goOn give
-two-gifts (done a r) k = refl
-two-gifts (stop n p r) k = refl
-
 pub lays-group : (ws : List ℕ) (at first n w : ℕ) → w ≡ slotWord first n → set (set (set ws at 8) (at + 1) w) (at + 2) 0 ≡ groupLaid ws at first n
 lays-group ws at first n w e = rw e
 
-module _ (g ws : List ℕ) (p stride unit place n : ℕ) (ok : Bool) (ws₁ : List ℕ) (h : Pays ws shapesUsed (shapesGranted g) 1 ok ws₁) where
-  pub no-group : not ok ≡ true → Answers ws (grouping g p stride unit place n) (Bad 76 p) ws₁
-  unfolding grouping newGroup _>>=_ goOn load spend shown if_then_else_
+-- its number is that of the next shape
+gift-known : (o : Out (Unit {0})) (i : ℕ) → goOn o (λ _. give i) ≡ goOn (goOn (goOn o (λ _. give i)) (λ j. give (tt {0}))) (λ _. give i)
+unfolding goOn give
+gift-known (done a r) i = refl
+gift-known (stop n p r) i = refl
+
+pub number-known : (g : List ℕ) (p stride unit place n : ℕ) (ts ws : List ℕ)
+    → newGroup g p stride unit place n (raw ts ws) ≡ goOn (making g stride unit place n p (raw ts ws)) (λ _. give (getD ws shapesUsed 0))
+unfolding making newGroup putGroup _>>=_ goOn load spend if_then_else_
+number-known g p stride unit place n ts ws = go (leb (getD ws shapesUsed 0 + 1) (shapesGranted g)) refl
+  where
+    go : (b : Bool) → leb (getD ws shapesUsed 0 + 1) (shapesGranted g) ≡ b
+        → newGroup g p stride unit place n (raw ts ws) ≡ goOn (making g stride unit place n p (raw ts ws)) (λ _. give (getD ws shapesUsed 0))
+    go true e = rw e (gift-known (fillFrom g p stride unit place n _) (getD ws shapesUsed 0))
+    go false e = rw e
+
+module _ (g ws : List ℕ) (stride unit place n : ℕ) (ok : Bool) (ws₁ : List ℕ) (h : Pays ws shapesUsed (shapesGranted g) 1 ok ws₁) where
+  pub no-group : not ok ≡ true → Makes g ws stride unit place n 76 ws₁
+  unfolding making newGroup _>>=_ goOn load spend passed if_then_else_
   no-group t =
       let q = short (rw (not-true ok t) at h) in
-      record { equal = λ ts. rw (q .words, lt-leb (getD ws shapesUsed 0 + 1) (shapesGranted g) (q .beyond)) }
+      record {
+        ends = record { equal = λ p ts. rw (q .words, lt-leb (getD ws shapesUsed 0 + 1) (shapesGranted g) (q .beyond)) };
+        within = λ z. absurd (omega arith);
+      }
 
-  module _ (t : not ok ≡ false) (k at : ℕ) (i : k ≡ getD ws shapesUsed 0) (j : at ≡ shapePlace k) (ws₂ : List ℕ) (d : ws₂ ≡ groupLaid ws₁ at (getD ws₁ componentsMade 0) n)
-      (good : Bool) (ws₃ : List ℕ) (f : Passes ws₂ 77 (λ p. fillFrom g p stride unit place n) good ws₃) where
-    begun : (ts : List ℕ) → grouping g p stride unit place n (raw ts ws) ≡ goOn (goOn (fillFrom g p stride unit place n (raw ts ws₂)) (λ _. give k)) (λ x. give (Shape x))
-    unfolding grouping newGroup putGroup _>>=_ goOn load spend if_then_else_
-    begun ts =
+  module _ (t : not ok ≡ false) (room : Room g ws) (k at : ℕ) (i : k ≡ getD ws shapesUsed 0) (j : at ≡ shapePlace k) (ws₂ : List ℕ)
+      (d : ws₂ ≡ groupLaid ws₁ at (getD ws₁ componentsMade 0) n) (good : Bool) (ws₃ : List ℕ) (f : Passes ws₂ 77 (λ p. fillFrom g p stride unit place n) good ws₃) where
+    begun : (p : ℕ) (ts : List ℕ) → making g stride unit place n p (raw ts ws) ≡ goOn (goOn (fillFrom g p stride unit place n (raw ts ws₂)) (λ _. give k)) (λ x. give tt)
+    unfolding making newGroup putGroup _>>=_ goOn load spend if_then_else_
+    begun p ts =
         let q = paid (rw (not-false ok t) at h) in
         rw (d, j, i, q .words, le-leb (getD ws shapesUsed 0 + 1) (shapesGranted g) (q .within))
 
-    made-by : (o : Out (Unit {0})) → (ts : List ℕ) → o ≡ fillFrom g p stride unit place n (raw ts ws₂) → goOn o (λ _. give (Shape k)) ≡ grouping g p stride unit place n (raw ts ws)
-    made-by o ts e = ap (λ x. goOn x (λ _. give (Shape k))) e ∙ sym (two-gifts (fillFrom g p stride unit place n (raw ts ws₂)) k) ∙ sym (begun ts)
+    small : getD ws shapesUsed 0 < 2 ^ 16
+    small = omega (arith, paid (rw (not-false ok t) at h) .within, room .shapes)
 
-    pub group-short : not good ≡ true → Answers ws (grouping g p stride unit place n) (Bad 77 p) ws₃
-    unfolding goOn shown passed
-    group-short v = record { equal = λ ts. made-by (stop 77 p (raw ts ws₃)) ts ((rw (not-true good v) at f) .equal p ts) }
+    pub group-short : not good ≡ true → Makes g ws stride unit place n 77 ws₃
+    unfolding goOn passed
+    group-short v = record {
+      ends = record { equal = λ p ts. sym (begun p ts ∙ rw (← (rw (not-true good v) at f) .equal p ts)) };
+      within = λ z. small;
+    }
 
-    pub group-made : not good ≡ false → Answers ws (grouping g p stride unit place n) (Good (Shape k)) ws₃
-    unfolding goOn give shown passed
-    group-made v = record { equal = λ ts. made-by (done tt (raw ts ws₃)) ts ((rw (not-false good v) at f) .equal p ts) }
+    pub group-made : not good ≡ false → Makes g ws stride unit place n 0 ws₃
+    unfolding goOn give passed
+    group-made v = record {
+      ends = record { equal = λ p ts. sym (begun p ts ∙ rw (← (rw (not-false good v) at f) .equal p ts)) };
+      within = λ z. small;
+    }
+
+module _ (g ws : List ℕ) (p stride unit place n number : ℕ) (ws′ : List ℕ) (h : Makes g ws stride unit place n number ws′) where
+  answered-by : (ts : List ℕ) → grouping g p stride unit place n (raw ts ws) ≡ goOn (goOn (passed (eqb number 0) number p ts ws′) (λ _. give (getD ws shapesUsed 0))) (λ x. give (Shape x))
+  unfolding grouping _>>=_
+  answered-by ts = rw (number-known g p stride unit place n ts ws, ← h .ends .equal p ts)
+
+  pub group-refused : (number ≡ 0 → ⊥) → Answers ws (grouping g p stride unit place n) (Bad number p) ws′
+  unfolding goOn shown passed
+  group-refused z = record { equal = λ ts. sym (answered-by ts ∙ rw (ne-eqb number 0 z)) }
+
+  pub group-answered : number ≡ 0 → Answers ws (grouping g p stride unit place n) (Good (Shape (getD ws shapesUsed 0))) ws′
+  unfolding goOn give shown passed
+  group-answered z = record { equal = λ ts. sym (answered-by ts ∙ rw z) }
 
 pub group-sources : (g ws ws₂ : List ℕ) (stride unit place : ℕ) → Sources g ws stride unit place → length ws₂ ≡ length ws → Sources g ws₂ stride unit place
 group-sources g ws ws₂ stride unit place s l = record { units = record { room = room-same (s .units .room) l; some = s .units .some }; near = s .near; small = s .small }

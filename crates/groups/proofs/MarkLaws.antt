@@ -153,7 +153,14 @@ module _ (g : List ℕ) (first count : ℕ) (ws₀ : List ℕ) where
       let w = within-small g count in
       record {
         rest = λ ts. rw e (then-given (lookLevel g 0 first (within g 0 count) (raw ts ws₀)) ∙ (rw z at (level-any g 0 first count (raw ts ws₀))));
-        walks = record { room = s .room; deep = omega arith; within = λ h. within-deep g count (rw (← e) h); small = omega (arith, s .small, e, w); few = omega (arith, s .few, e, w); ways = λ e h. absurd (omega arith) };
+        walks = record {
+          room = s .room;
+          deep = omega arith;
+          within = λ h. within-deep g count (rw (← e) h);
+          small = omega (arith, s .small, e, w);
+          few = omega (arith, s .few, e, w);
+          ways = λ e h. absurd (omega arith);
+        };
         long = refl;
       }
 

@@ -64,7 +64,10 @@ from-none n = omega arith
 module _ (g ws : List ℕ) (w : ℕ) where
   pub destroys-nothing : (kindIn w ≡ kindShape → ⊥) → Ends ws (λ p. destroyIn g p (unpacked w)) 0 ws
   unfolding destroyIn give passed
-  destroys-nothing h = record { equal = λ p ts. by-kind w (λ v. _≡_ {A = Out (Unit {0})} (done tt (raw ts ws)) (destroyIn g p v (raw ts ws))) (λ _. refl) (λ _. refl) (λ _. refl) refl (λ _. refl) (λ e. absurd (h e)) }
+  destroys-nothing h = record {
+    equal = λ p ts. by-kind w (λ v. _≡_ {A = Out (Unit {0})} (done tt (raw ts ws)) (destroyIn g p v (raw ts ws)))
+        (λ _. refl) (λ _. refl) (λ _. refl) refl (λ _. refl) (λ e. absurd (h e));
+  }
 
   pub destroys-shape : (i r : ℕ) (ws′ : List ℕ) → kindIn w ≡ kindShape → i ≡ numberIn w → Ends ws (λ p. destroyLiving g p i) r ws′ → Ends ws (λ p. destroyIn g p (unpacked w)) r ws′
   unfolding destroyIn
@@ -72,7 +75,8 @@ module _ (g ws : List ℕ) (w : ℕ) where
 
 -- ---- the call under way
 module _ (g ws₀ : List ℕ) (n : ℕ) (ws : List ℕ) (k : ℕ) (a : Runs (clearFrom g) 0 n ws₀ ws k) where
-  variable-turn : (p m : ℕ) (ts : List ℕ) → clearFrom g p k (suc m) (raw ts ws) ≡ (destroyIn g p (unpacked (getD ws (valuePlace (getD ws (orderPlace k) 0)) 0)) >>= λ _. clearFrom g p (k + 1) m) (raw ts ws)
+  variable-turn : (p m : ℕ) (ts : List ℕ) → clearFrom g p k (suc m) (raw ts ws)
+      ≡ (destroyIn g p (unpacked (getD ws (valuePlace (getD ws (orderPlace k) 0)) 0)) >>= λ _. clearFrom g p (k + 1) m) (raw ts ws)
   unfolding clearFrom _>>=_ goOn load
   variable-turn p m ts = refl
 

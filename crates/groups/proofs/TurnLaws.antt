@@ -15,8 +15,10 @@ use Rattle.machine.specs.Shapes.{isGroupAt, destroyedAt}
 use Rattle.machine.specs.Groups.{componentAt, firstAt, countAt, wayWord, wayPlace, eachFrom, walkIn}
 use Rattle.groups.specs.declared.Turn.{Turn}
 use Rattle.groups.specs.declared.Turn.the-variants.{At, Stopped}
-use Rattle.groups.specs.Walks.{Ends, Doing, walking, slotIn, leftIn, levelFrom, aboveOf, restOf, restBy, Walks, countWithin, owed, owedBy, WalksBy, Turned, Under, backAt, wayLaid, downIn, Descends, Descended}
-use Rattle.groups.proofs.WalkLaws.{Keeps, Steady, kept-way, slot-back, left-back, climbs, climb-stops, passes-over, reach-stops, figure-reached, group-reached, level-walk, advance-less, climb-less, descend-less, owed-some}
+use Rattle.groups.specs.Walks.{Ends, Doing, walking, slotIn, leftIn, levelFrom, aboveOf, restOf, restBy}
+use Rattle.groups.specs.Walks.{Walks, countWithin, owed, owedBy, WalksBy, Turned, Under, backAt, wayLaid, downIn, Descends, Descended}
+use Rattle.groups.proofs.WalkLaws.{Keeps, Steady, kept-way, slot-back, left-back, climbs, climb-stops, passes-over, reach-stops, figure-reached, group-reached}
+use Rattle.groups.proofs.WalkLaws.{level-walk, advance-less, climb-less, descend-less, owed-some}
 
 -- ---- ranges
 pub room-same : {g ws ws′ : List ℕ} → Room g ws → length ws′ ≡ length ws → Room g ws′
@@ -111,7 +113,8 @@ module _ (reach leave : Doing) (g ws : List ℕ) where
     unfolding restBy WalksBy owedBy
     going-over n c b u e f t = record {
       equal = λ p ts. sym (passes-over reach leave g p d k n (raw ts ws) (rw (← e) (sym f ∙ t)));
-      walks = walks-same g ws ws d d k (k + 1) (suc n) n (u .walks) refl (λ e h. refl) (omega arith) (λ h. u .walks .within (omega arith)) (omega (arith, u .walks .small)) (omega (arith, u .walks .few));
+      walks = walks-same g ws ws d d k (k + 1) (suc n) n (u .walks) refl (λ e h. refl) (omega arith) (λ h. u .walks .within (omega arith))
+          (omega (arith, u .walks .small)) (omega (arith, u .walks .few));
       less = advance-less (shapesGranted g) ws ws d n (λ e h. refl);
     }
 
@@ -120,7 +123,8 @@ module _ (reach leave : Doing) (g ws : List ℕ) where
     turn-over (suc n) c b u z e f t = rw (less-one n) (going-over n c b u e f t)
 
     module _ (c : ℕ) (e : c ≡ componentAt g ws k) (b : Bool) (f : b ≡ destroyedAt ws c) (t : b ≡ false) (ws′ : List ℕ) where
-      pub turn-stops : (n m : ℕ) → (m ≡ 0 → ⊥) → Under g ws d k n → (n ≡ 0 → ⊥) → ((p : ℕ) (ts : List ℕ) → reach p c (raw ts ws) ≡ stop m p (raw ts ws′)) → Turned reach leave g ws d k n (Stopped m) ws′
+      pub turn-stops : (n m : ℕ) → (m ≡ 0 → ⊥) → Under g ws d k n → (n ≡ 0 → ⊥) → ((p : ℕ) (ts : List ℕ) → reach p c (raw ts ws) ≡ stop m p (raw ts ws′))
+          → Turned reach leave g ws d k n (Stopped m) ws′
       unfolding restBy WalksBy owedBy
       turn-stops zero m x u z h = absurd (z refl)
       turn-stops (suc n) m x u z h = record {
@@ -155,7 +159,8 @@ module _ (reach leave : Doing) (g ws : List ℕ) where
             let m = getD ws′ waitingHeld 0 in
             let ws″ = set ws′ (wayPlace d) (wayWord k n m) in
             let here : getD ws″ (wayPlace d) 0 ≡ wayWord k n m = getD-set-same ws′ (wayPlace d) (wayWord k n m) 0 long in
-            let there : (e : ℕ) → e < d → getD ws″ (wayPlace e) 0 ≡ getD ws (wayPlace e) 0 = λ e y. getD-set-other ws′ (wayPlace d) (wayPlace e) (wayWord k n m) 0 (λ x. omega arith) ∙ kept e (omega arith) in
+            let there : (e : ℕ) → e < d → getD ws″ (wayPlace e) 0 ≡ getD ws (wayPlace e) 0 =
+            λ e y. getD-set-other ws′ (wayPlace d) (wayPlace e) (wayWord k n m) 0 (λ x. omega arith) ∙ kept e (omega arith) in
             let left : leftIn (getD ws″ (wayPlace d) 0) ≡ n = ap leftIn here ∙ left-back k n m (omega (arith, w .few)) in
             let slot : slotIn (getD ws″ (wayPlace d) 0) ≡ k = ap slotIn here ∙ slot-back k n m (omega (arith, w .small)) in
             rw one record {

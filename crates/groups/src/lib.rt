@@ -4,6 +4,7 @@ pub mod looking;
 pub mod making;
 pub mod marks;
 pub mod scene;
+pub mod waiting;
 pub mod walks;
 
 // Where a walk is: its depth, the slot of the next component and how many are left there; or the number that it stops with, or

@@ -12,7 +12,7 @@ ghost use lib.ListN.{length};
 ghost use Rattle.machine.specs.Layout.{Room};
 ghost use Rattle.machine.specs.Act.{Answers, Passes};
 ghost use Rattle.machine.specs.Groups.{slotWord, fillFrom, groupLaid, copyShape};
-ghost use Rattle.groups.specs.Making.{Adds, grouping, copyGroup, Units, Sources};
+ghost use Rattle.groups.specs.Making.{Adds, Makes, grouping, copyGroup, Units, Sources};
 
 // A number below, and how many.
 fn slot_word(c: u64, n: u64) -> u64
@@ -73,7 +73,33 @@ fn put_group(words: &mut [u64], at: usize, first: u64, n: u64)
     words[at + 2] = 0;
 }
 
-// A new group: 76 if no shape is left, 77 if the entries run out.
+// A new group, which has the number of the next shape: 76 if none is left, 77 if the entries run out, else 0.
+pub fn make_group(
+    words: &mut [u64],
+    grants: &[u64; 5],
+    stride: usize,
+    unit: u64,
+    place: usize,
+    n: u64,
+) -> u64
+    requires { ⌜ Sources (now grants) (now words) stride unit place ⌝ }
+    ensures { λ r. ⌜ Makes (now (grants .entry)) (now (words .entry)) stride unit place n r (now (words .exit)) ⌝ }
+{
+    let i = words[counters::SHAPES];
+    let limit = grants[granted::SHAPES];
+    if !stores::counters::spend(words, counters::SHAPES, limit, 1) {
+        return 76;
+    }
+    let k = i as u32;
+    let first = words[counters::COMPONENTS_MADE];
+    put_group(words, shapes::place_of(k), first, n);
+    if !fill(words, grants, stride, unit, place, n) {
+        return 77;
+    }
+    0
+}
+
+// The same as an answer.
 pub fn new_group(
     words: &mut [u64],
     grants: &[u64; 5],
@@ -87,17 +113,11 @@ pub fn new_group(
     ensures { λ r. ⌜ Answers (now (words .entry)) (grouping (now (grants .entry)) p stride unit place n) r (now (words .exit)) ⌝ }
 {
     let i = words[counters::SHAPES];
-    let limit = grants[granted::SHAPES];
-    if !stores::counters::spend(words, counters::SHAPES, limit, 1) {
-        return Answer::Bad(76, p);
+    let number = make_group(words, grants, stride, unit, place, n);
+    if number != 0 {
+        return Answer::Bad(number, p);
     }
-    let k = i as u32;
-    let first = words[counters::COMPONENTS_MADE];
-    put_group(words, shapes::place_of(k), first, n);
-    if !fill(words, grants, stride, unit, place, n) {
-        return Answer::Bad(77, p);
-    }
-    Answer::Good(Value::Shape(k))
+    Answer::Good(Value::Shape(i as u32))
 }
 
 // A group copied: it has the same components.

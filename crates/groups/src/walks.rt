@@ -4,7 +4,7 @@ use machine::counters;
 use machine::granted;
 use stores::components;
 use stores::shapes;
-ghost use Prim.Native.Nat.{_+_, _^_, _<_};
+ghost use Prim.Native.Nat.{_+_, _/_, _^_, _<_};
 ghost use mathlib.Core.Path.{_≡_};
 ghost use lib.ListN.{getD};
 ghost use Rattle.machine.specs.Layout.{Room};
@@ -67,6 +67,13 @@ pub fn slot_at(words: &[u64], d: u32) -> u32
     ensures { λ r. ⌜ r ≡ slotIn (getD (now (words .entry)) (wayPlace d) 0) ⌝ }
 {
     (stores::words::word_at(words, way_place(d)) % 4294967296) as u32
+}
+
+// How many new components waited there.
+pub fn waiting_at(words: &[u64], d: u32) -> u32
+    ensures { λ r. ⌜ r ≡ getD (now (words .entry)) (wayPlace d) 0 / 2 ^ 48 ⌝ }
+{
+    (stores::words::word_at(words, way_place(d)) / 281474976710656) as u32
 }
 
 // Down into group c as by `descend`, where nothing waits.

@@ -19,7 +19,8 @@ use Rattle.machine.specs.declared.Value.the-variants.{Table, Shape}
 use Rattle.machine.specs.declared.Answer.the-variants.{Good, Bad}
 use Rattle.machine.specs.Words.{kindIn, kindNothing, kindShape, numberIn, packed, unpacked}
 use Rattle.values.proofs.Laws.{unpacked-shape, by-kind}
-use Rattle.machine.specs.Layout.{stepsUsed, shapesUsed, tablesMade, declared, argumentsHeld, callsUsed, stepsGranted, shapesGranted, stackWords, valuePlace, orderPlace, argumentPlace, shapePlace, componentPlace, Room}
+use Rattle.machine.specs.Layout.{stepsUsed, shapesUsed, tablesMade, declared, argumentsHeld, callsUsed}
+use Rattle.machine.specs.Layout.{stepsGranted, shapesGranted, stackWords, valuePlace, orderPlace, argumentPlace, shapePlace, componentPlace, Room}
 use Rattle.machine.specs.Act.{raw, Out, done, stop, goOn, give, fail, refuse, load, store, held, spend, count, newTable, shown, passed, Answers, Passes, Pays, Gives, _>>=_}
 use Rattle.machine.specs.declared.Figure.{Figure}
 use Rattle.machine.specs.Shapes.{firstWord, pairWord, figureLaid, putFigure, lowNumber, highNumber, figureAt, kindGroup, destroyedAt, isGroupAt, newShape, destroy}
@@ -177,7 +178,8 @@ module _ (ws : List ℕ) (slot : ℕ) where
   unfolding declareOnce declare _>>=_ goOn held load store refuse fail give passed packed if_then_else_ wordsIn
   declares-once ok ws′ h = record { equal = λ ts. go ts ok (eqb (getD ws (valuePlace slot) 0) 0) refl (h .equal 0 ts) }
     where
-      go : (ts : List ℕ) (ok z : Bool) → eqb (getD ws (valuePlace slot) 0) 0 ≡ z → passed ok 60 0 ts ws′ ≡ declare slot 0 (raw ts ws) → _≡_ {A = Out (Unit {0})} (done tt (raw ts ws′)) (declareOnce slot (raw ts ws))
+      go : (ts : List ℕ) (ok z : Bool) → eqb (getD ws (valuePlace slot) 0) 0 ≡ z → passed ok 60 0 ts ws′ ≡ declare slot 0 (raw ts ws)
+          → _≡_ {A = Out (Unit {0})} (done tt (raw ts ws′)) (declareOnce slot (raw ts ws))
       go ts true true e q = let h : getD ws (valuePlace slot) 0 ≡ 0 = eqb-true _ _ e in q ∙ sym (declares h .equal 0 ts) ∙ rw (h, h)
       go ts true false e q = absurd (not-stopped (q ∙ sym (declared-before (eqb-false _ _ e) .equal 0 ts)))
       go ts false true e q = absurd (not-stopped (declares (eqb-true _ _ e) .equal 0 ts ∙ sym q))

@@ -60,7 +60,8 @@ module _ (program g ts ws : List ℕ) (t key value : ℕ) where
   unfolding addEntry _>>=_ goOn load spend passed if_then_else_
   no-entry-left h = record { equal = λ p. rw (lt-leb (getD ws 2 0 + 1) (getD g 2 0) (omega arith)) }
 
-  module _ (n b at head : ℕ) (h : getD ws 2 0 < getD g 2 0) (m : n ≡ getD ws entriesMade 0 % getD g 2 0) (e : b ≡ bucketOf program g ts ws t key) (f : at ≡ entryPlace g n) (d : head ≡ entryPlace g b) where
+  module _ (n b at head : ℕ) (h : getD ws 2 0 < getD g 2 0) (m : n ≡ getD ws entriesMade 0 % getD g 2 0) (e : b ≡ bucketOf program g ts ws t key)
+      (f : at ≡ entryPlace g n) (d : head ≡ entryPlace g b) where
     pub entry-added : (ws′ : List ℕ) → ws′ ≡ entryLaid (set (set ws 2 (getD ws 2 0 + 1)) entriesMade (n + 1)) at (head + 3) t key value (n + 1)
         → PassesIn ts ws 77 (addEntry program g t key value) true ws′
     unfolding addEntry putEntry _>>=_ goOn load store spend passed if_then_else_

@@ -171,7 +171,8 @@ fn put_value<'a>(
     value: u64,
 ) -> bool
     requires { ⌜ Room (now grants) (now words) ⌝ }
-    ensures { λ r. ⌜ PassesIn (now (texts .entry)) (now (words .entry)) 77 (putting (now (program .entry)) (now (grants .entry)) (now (texts .entry)) (now (words .entry)) t key value) r (now (words .exit)) ⌝ }
+    ensures { λ r. ⌜ PassesIn (now (texts .entry)) (now (words .entry)) 77
+        (putting (now (program .entry)) (now (grants .entry)) (now (texts .entry)) (now (words .entry)) t key value) r (now (words .exit)) ⌝ }
 {
     let found = find_entry(program, texts, words, grants, t, key);
     if found == 0 {

@@ -1,82 +1,48 @@
 use native.Mathlib.Omega.{arith}
-use mathlib.Core.Path.{_∙_, refl}
-use Rattle.stores.proofs.Laws.{shape-number, shape-room}
-use Rattle.groups.proofs.MakingLaws.{no-group, group-short, group-made, group-sources}
+use Rattle.groups.proofs.MakingLaws.{group-refused, group-answered}
 use borrow.Author.Needs.{needs}
 use Rattle.groups.proofs.making.new_group.Statement.{statement}
 use Rattle.groups.proofs.making.new_group.Tie as tie
+use Rattle.groups.proofs.making.new_group.Reads as reads
+use Rattle.groups.proofs.making.new_group.Lts as lts
+use Rattle.groups.proofs.making.make_group.Reads as make-group-reads
 
--- src/making.rt:89:13
+-- src/making.rt:115:13
 slice-read-i : tie.Need-slice-read-i
 slice-read-i c = search needs
 
--- src/making.rt:90:17
-element-copy-out-limit : tie.Need-element-copy-out-limit
-element-copy-out-limit c = search needs
+-- src/making.rt:116:9
+make-group-requires : tie.Need-make-group-requires
+make-group-requires c κs = search needs
 
--- src/making.rt:91:9
-spend-requires : tie.Need-spend-requires
-spend-requires c κs = search needs
-
--- src/making.rt:92:9
+-- src/making.rt:118:9
 same-length : tie.Need-same-length
 same-length c = search needs
 
--- src/making.rt:92:9
+-- src/making.rt:118:9
 returns : tie.Need-returns
-returns c = search no-group
+returns c = search group-refused
 
--- src/making.rt:94:13
-cast-k : tie.Need-cast-k
-cast-k c = omega (arith, shape-number _ _ _ _ (c .before .before .before .spend .ensures) (c .if1 .left) (c .before .before .before .before .before .before .before .before .pre .units .room))
+-- src/making.rt:120:31
+cast-t15 : tie.Need-cast-t15
+cast-t15 c = omega (arith, c .before .before .before .make-group .ensures .within (c .if1 .left))
 
--- src/making.rt:95:17
-slice-read-first : tie.Need-slice-read-first
-slice-read-first c = search needs
-
--- src/making.rt:96:22
-place-of-requires : tie.Need-place-of-requires
-place-of-requires c κs = search needs
-
--- src/making.rt:96:5
-put-group-requires : tie.Need-put-group-requires
-put-group-requires c κs = shape-room _ _ _ _ (c .before .before .before .before .before .before .spend .ensures) (c .before .before .before .if1 .left) (c .before .before .before .before .before .before .before .before .before .before .before .pre .units .room) _ _ refl (c .place-of .ensures) (c .before .before .before .before .before .before .spend .kept .0)
-
--- src/making.rt:97:9
-fill-requires : tie.Need-fill-requires
-fill-requires c κs = group-sources _ _ _ _ _ _ (c .before .before .before .before .before .before .before .before .before .before .before .before .before .before .before .pre) (c .before .before .before .put-group .kept .0 ∙ c .before .before .before .before .before .before .before .before .before .before .spend .kept .0)
-
--- src/making.rt:98:9
+-- src/making.rt:103:1
 same-length-2 : tie.Need-same-length-2
 same-length-2 c = search needs
 
--- src/making.rt:98:9
+-- src/making.rt:103:1
 returns-2 : tie.Need-returns-2
-returns-2 c = group-short _ _ _ _ _ _ _ _ _ (c .before .before .before .before .before .before .before .before .before .before .before .before .before .before .spend .ensures) (c .before .before .before .before .before .before .before .before .before .before .before .if1 .left) _ _ refl (c .before .before .before .before .before .before .before .before .place-of .ensures) _ (c .before .before .before .before .before .before .before .put-group .ensures) _ _ (c .before .before .before .fill .ensures) (c .if2 .taken)
-
--- src/making.rt:77:1
-same-length-3 : tie.Need-same-length-3
-same-length-3 c = search needs
-
--- src/making.rt:77:1
-returns-3 : tie.Need-returns-3
-returns-3 c = group-made _ _ _ _ _ _ _ _ _ (c .before .before .before .before .before .before .before .before .before .before .before .before .before .before .spend .ensures) (c .before .before .before .before .before .before .before .before .before .before .before .if1 .left) _ _ refl (c .before .before .before .before .before .before .before .before .place-of .ensures) _ (c .before .before .before .before .before .before .before .put-group .ensures) _ _ (c .before .before .before .fill .ensures) (c .if2 .left)
+returns-2 c = search group-answered
 
 pub new-group-spec : {M : Type 1} → statement M
 new-group-spec =
     tie.close
     (tie.spec
     slice-read-i
-    element-copy-out-limit
-    spend-requires
+    make-group-requires
     same-length
     returns
-    cast-k
-    slice-read-first
-    place-of-requires
-    put-group-requires
-    fill-requires
+    cast-t15
     same-length-2
-    returns-2
-    same-length-3
-    returns-3)
+    returns-2)
