@@ -3,31 +3,47 @@ pub mod Listed
 mod Index
 mod Indexing
 mod Frames
+mod Holding
 pub mod Results
 mod Counting
 mod Moving
 mod Arguments
 pub mod Usable
 pub mod Variables
+mod Growing
 mod Shapes
+mod Grouping
+mod Walking
 mod Destroying
+mod Chaining
+mod Clearing
 mod Texts
 mod Figures
 mod Equality
+mod Remaking
+mod Alike
+mod Asked
 mod Operators
 mod Keys
 mod Lookup
-mod Asked
 mod Library
+pub mod Showing
 mod Stacking
-mod Chaining
 mod Scopes
 mod Under
 mod Expressions
 pub mod Flows
 pub mod Declaring
 mod Assigning
+mod Kept
 mod Storing
+mod Hollowing
+mod Marking
+mod Paths
+mod Unmarking
+mod Turning
+mod Nesting
+mod Looping
 mod Statements
 mod Suspending
 mod Parameters

@@ -34,13 +34,14 @@ use Rattle.simulation.proofs.Frames.{
   variables-kept,
   variables-same,
   SameWaiting,
+  SameRest,
+  rest-components,
+  rest-marks,
   SameShapes,
   shapes-kept,
   shapes-same,
-  SameEntries,
-  entries-kept,
-  entries-same,
 }
+use Rattle.simulation.proofs.Holding.{SameEntries, entries-kept, entries-same}
 
 -- ---- outcomes
 -- a weaker relation
@@ -96,7 +97,7 @@ module _ (program : List ℕ) (ts : List Token) (g : List ℕ) where
 
 module _ {program : List ℕ} {ts : List Token} {g : List ℕ} where
   pub unmoved : {r : Raw} {s : State} {total : Amounts} → Related program ts g r s total → After program ts g r r s total
-  unmoved {r} h = record { related = h; later = later-refl program r; spare = le-refl _; held = refl; untouched = untouched-refl r }
+  unmoved {r} h = record { related = h; later = later-refl program r; spare = le-refl _; held = refl; untouched = untouched-refl g r }
 
   pub onward : {r r′ r″ : Raw} {s s′ : State} {total total′ : Amounts} → After program ts g r r′ s total → After program ts g r′ r″ s′ total′
       → After program ts g r r″ s′ total′
@@ -135,25 +136,26 @@ module _ {program : List ℕ} {ts : List Token} {g : List ℕ} where
   -- nothing but counters, arguments and texts has changed
   pub kept-related : {r r′ : Raw} {s s′ : State} {total total′ : Amounts} (h : Related program ts g r s total) (l : Later program r r′)
       → Lent g (r′ .texts) (r′ .words) → Counted g (r′ .words)
-      → SameVariables l → SameWaiting program ts r r′ → SameShapes l → SameEntries l (h .sound .shapes) g
+      → SameRest g r r′ → SameVariables l → SameWaiting program ts r r′ → SameShapes l → SameEntries l (h .sound .shapes)
       → s′ .variables ≡ s .variables → s′ .suspended ≡ s .suspended → s′ .shapes ≡ s .shapes → s′ .tables ≡ getD (r′ .words) tablesMade 0 → s′ .entries ≡ s .entries
       → total′ Run.steps ≡ getD (r′ .words) stepsUsed 0 → total′ Run.shapes ≡ getD (r′ .words) shapesUsed 0
       → total′ Run.entries ≡ getD (r′ .words) entriesUsed 0 → total′ Run.textBytes ≡ getD (r′ .words) textUsed 0 → total′ Run.calls ≡ getD (r′ .words) callsUsed 0
       → Related program ts g r′ s′ total′
-  kept-related h l le co sv sw ss se a k b c d w x y z v = record {
+  kept-related h l le co re sv sw ss se a k b c d w x y z v = let parts = rest-components re in record {
     sound = record {
       lent = le;
       counted = co;
       variables = variables-kept l sv ts (h .sound .variables);
       waiting = sw .waiting;
-      shapes = shapes-kept l ss (h .sound .shapes);
-      entries = entries-kept l (h .sound .shapes) g se (h .sound .entries);
+      shapes = shapes-kept l parts ss (h .sound .shapes);
+      marks = rest-marks re (h .sound .marks);
+      entries = entries-kept l (h .sound .shapes) parts se (h .sound .entries);
     };
     variables = a ∙ h .variables ∙ sym (variables-same l sv ts (h .sound .variables));
     suspended = k ∙ h .suspended ∙ sym (sw .suspended);
-    shapes = b ∙ h .shapes ∙ sym (shapes-same l ss (h .sound .shapes));
+    shapes = b ∙ h .shapes ∙ sym (shapes-same l parts ss (h .sound .shapes));
     tables = c;
-    entries = d ∙ h .entries ∙ sym (entries-same l (h .sound .shapes) g se (h .sound .entries));
+    entries = d ∙ h .entries ∙ sym (entries-same l (h .sound .shapes) parts se (h .sound .entries));
     stepsTaken = w;
     shapesTaken = x;
     entriesTaken = y;
