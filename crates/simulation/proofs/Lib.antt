@@ -41,6 +41,7 @@ mod Hollowing
 mod Marking
 mod Paths
 mod Unmarking
+mod Remaining
 mod Turning
 mod Nesting
 mod Looping
