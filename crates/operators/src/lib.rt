@@ -2,6 +2,7 @@
 pub mod equality;
 pub mod figures;
 pub mod integers;
+pub mod remaking;
 
 ghost use mathlib.Core.Path.{_≡_};
 ghost use Rattle.operators.specs.Parts.{bothIntegers};
