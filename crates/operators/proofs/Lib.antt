@@ -2,4 +2,5 @@ pub mod Held
 pub mod KindLaws
 mod IntegerLaws
 mod FigureLaws
+mod PairLaws
 mod EqualityLaws
