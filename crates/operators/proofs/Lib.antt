@@ -2,5 +2,6 @@ pub mod Held
 pub mod KindLaws
 mod IntegerLaws
 mod FigureLaws
+mod PairLaws
 mod RemakingLaws
 mod EqualityLaws
