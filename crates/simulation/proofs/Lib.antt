@@ -39,6 +39,7 @@ mod Kept
 mod Storing
 mod Hollowing
 mod Marking
+mod Innermost
 mod Paths
 mod Unmarking
 mod Remaining
