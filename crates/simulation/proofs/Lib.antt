@@ -42,6 +42,8 @@ mod Marking
 mod Paths
 mod Unmarking
 mod Remaining
+mod RemainingLaws
+mod Searching
 mod Turning
 mod Nesting
 mod Looping
