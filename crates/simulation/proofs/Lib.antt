@@ -43,6 +43,8 @@ mod Innermost
 mod Paths
 mod Unmarking
 mod Remaining
+mod RemainingLaws
+mod Searching
 mod Turning
 mod Nesting
 mod Looping
