@@ -46,6 +46,7 @@ mod Remaining
 mod RemainingLaws
 mod Searching
 mod Turning
+mod Iterating
 mod Nesting
 mod Looping
 mod Statements
