@@ -47,6 +47,7 @@ mod RemainingLaws
 mod Searching
 mod Turning
 mod Iterating
+mod OverGroups
 mod Nesting
 mod Looping
 mod Statements

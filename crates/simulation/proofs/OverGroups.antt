@@ -1,0 +1,101 @@
+-- Loops over groups: their own components one after the other, and a loop as a whole.
+use Prim.Native.Nat.{ℕ, zero, suc, _+_, _-_, _*_, _^_, _≤_, _<_}
+use native.Mathlib.Omega.{arith}
+use native.Mathlib.Nat.{le-trans, le-of-lt, pow-le-pow-right}
+use native.Mathlib.Numerals.{add-one}
+use mathlib.Core.Path.{_≡_, refl, ap, sym, _∙_}
+use mathlib.Core.Logic.{_≢_}
+use mathlib.Core.Bool.{Bool, true, false}
+use mathlib.Core.List.{List, []}
+use lib.ListN.{getD, set, length}
+use Rattle.meaning.specs.Basics.{if_then_else_}
+use Rattle.meaning.specs.Token.{Token, aName}
+use Rattle.meaning.specs.State.{State, isDestroyed}
+use Rattle.meaning.specs.Run as Run
+use Rattle.meaning.specs.Book.{Amounts}
+use Rattle.meaning.specs.Execute.{onward, binding, turns, iterating}
+use Rattle.meaning.specs.Execute as Execute
+use Rattle.code.specs.Code.{slotOf}
+use Rattle.reader.proofs.Homes.{Occurs}
+use Rattle.machine.specs.declared.Flow.{Flow}
+use Rattle.machine.specs.declared.Flow.the-variants.{Onward, Returned}
+use Rattle.machine.specs.Layout.{shapesUsed, callsUsed, componentsMade, loopUnit, entriesGranted, valuePlace}
+use Rattle.machine.specs.Act.{Raw, raw, Act}
+use Rattle.machine.specs.Act as Act
+use Rattle.machine.specs.Shapes.{isGroupAt, destroyedAt}
+use Rattle.machine.specs.Groups.{componentAt, firstAt, countAt}
+use Rattle.machine.specs.Loops.{unmarkFrom, following, ownTurn, ownFrom, innerUnit, loopOver}
+use Rattle.simulation.specs.Meant.{listed, componentsOf}
+use Rattle.simulation.specs.Scope.{isIn}
+use Rattle.simulation.specs.Follows.{Grants, Related, Follows}
+use Rattle.simulation.proofs.Binding.{bind, act-after}
+use Rattle.simulation.proofs.Listed.{listed-same}
+use Rattle.simulation.proofs.Frames.{group-stays, untouched-components, component-later, first-later, count-later}
+use Rattle.simulation.proofs.Results.{given, After, unmoved}
+use Rattle.simulation.proofs.Usable.{destroyed-found}
+use Rattle.simulation.proofs.Counting.{counts}
+use Rattle.simulation.proofs.Flows.{SameFlow, both-onward, both-returned, AfterFlow, Flows, flow-from}
+use Rattle.simulation.proofs.Marking.{markAt, but-after}
+use Rattle.simulation.proofs.Paths.{Path, inner-fits, inner-more}
+use Rattle.simulation.proofs.Innermost.{switched, as-was, unit-now, switch-later, switch-related, mark-was, switched-back}
+use Rattle.simulation.proofs.Iterating.{Repeats, Searches, Ready, ready-on, path-on, own-turn}
+
+-- nothing is marked between own components
+module _ {program : List ℕ} {ts : List Token} {g : List ℕ} {granted : Amounts} {r₀ : Raw} where
+  passes : {r : Raw} {f : Flow} {f′ : Execute.Flow} {s : State} {total : Amounts} (k : Act Flow) (k′ : Run.Action Execute.Flow) → SameFlow program r f f′
+      → AfterFlow program ts g r₀ f f′ r s total → Follows granted total (Flows program ts g r₀) (k r) (k′ s)
+      → Follows granted total (Flows program ts g r₀) (following g 0 f k r) (Execute.continue f′ k′ s)
+  unfolding following unmarkFrom Execute.continue Act._>>=_ Act.goOn Act.give Run.give
+  passes k k′ both-onward a h = h
+  passes k k′ (both-returned x y) a h = given a
+
+-- ---- own components
+module _ {program : List ℕ} {ts : List Token} {g : List ℕ} (few : length ts ≤ 8192) {granted : Amounts} (gr : Grants g granted) (x : List ℕ) (o : Occurs ts aName x)
+    (body : Act Flow) (body′ : Run.Action Execute.Flow) (P : Raw → Type 0) (repeats : Repeats program ts g granted body body′ P)
+    (around : ℕ → ℕ) (unit : ℕ) (fits : 2 * unit ≤ 2 ^ 64) (p : ℕ)
+    (searches : Searches program ts g (λ i. Run._>>_ (binding x i) body′) around unit) where
+  abbrev visit : ℕ → Run.Action Execute.Flow
+  visit i = Run._>>_ (Run.count p) (iterating (suc i) (λ j. Run._>>_ (binding x j) body′) i)
+
+  abbrev Prepared : Raw → Type 0
+  Prepared r = Ready few x o body body′ P repeats around unit fits p searches r
+
+  -- of group i, n from slot k on
+  own-from : (i n k : ℕ) {r : Raw} {s : State} {total : Amounts} → Related program ts g r s total → Prepared r → Path g around unit [] r → i < getD (r .words) shapesUsed 0
+      → isGroupAt (r .words) i ≡ true → firstAt (r .words) i ≤ k → k + n ≡ firstAt (r .words) i + countAt (r .words) i
+      → Follows granted total (Flows program ts g r) (ownFrom body g p (slotOf ts x) k n r) (turns visit (listed (componentAt g (r .words)) k n) s)
+  unfolding ownFrom turns listed if_then_else_ Act._>>=_ Act.goOn Act.held Act.give Run._>>=_ Run.goOn Run.current Run.give
+  own-from i zero k h q clean l e a b = given (record { after = unmoved h; flow = both-onward })
+  own-from i (suc n) k {r} {s} {total} h q clean l e a b =
+      let c = componentAt g (r .words) k in
+      let group = h .sound .shapes .groups i l e in
+      let older : c < i = group .older k a (omega arith) in
+      bind (one (destroyedAt (r .words) c) (isDestroyed s c) (sym (destroyed-found h c (le-trans older (le-of-lt l))))) (λ f f′ r₁ s₁ total₁ w.
+      let z = w .after in
+      let same = untouched-components (z .untouched) in
+      let first = first-later (z .later) (h .sound .shapes) same i l in
+      let list : listed (componentAt g (r₁ .words)) (k + 1) n ≡ listed (componentAt g (r .words)) (suc k) n =
+      ap (λ j. listed (componentAt g (r₁ .words)) j n) (add-one k)
+      ∙ listed-same _ _ (suc k) n (λ j y y′. component-later (z .later) (h .sound .shapes) same j (omega (arith, group .within))) in
+      passes _ _ (w .flow) w (flow-from z (rw list at (own-from i n (k + 1) (z .related) (ready-on few x o body body′ P repeats around unit fits p searches (but-after z) q)
+      (path-on few x o body body′ P repeats around unit fits p searches z q clean) (le-trans l (z .later .shapes)) (group-stays (z .later .figures i l) ∙ e)
+      (omega (arith, first)) (omega (arith, first, count-later (z .later) (h .sound .shapes) same i l))))))
+    where
+      one : (t t′ : Bool) → t ≡ t′
+          → Follows granted total (Flows program ts g r)
+          ((if t then (λ _. Act.give Onward) else λ _. Act._>>_ (Act.count g p) (ownTurn body g p (slotOf ts x) k (componentAt g (r .words) k))) r)
+          ((if t′ then (λ _. Run.give onward) else λ _. visit (componentAt g (r .words) k)) s)
+      one true true m = given (record { after = unmoved h; flow = both-onward })
+      one true false m = let z : _≡_ {A = ℕ} 0 1 = cc in absurd (omega arith)
+      one false true m = let z : _≡_ {A = ℕ} 0 1 = cc in absurd (omega arith)
+      one false false m =
+          let c = componentAt g (r .words) k in
+          let group = h .sound .shapes .groups i l e in
+          let older : c < i = group .older k a (omega arith) in
+          bind (counts gr h p) (λ _ _ r₁ s₁ total₁ w.
+          let z = w .after in
+          let first = first-later (z .later) (h .sound .shapes) (untouched-components (z .untouched)) i l in
+          flow-from z (own-turn few x o body body′ P repeats around unit fits p searches (z .related)
+          (ready-on few x o body body′ P repeats around unit fits p searches (but-after z) q) (path-on few x o body body′ P repeats around unit fits p searches z q clean)
+          c (le-trans older (le-trans (le-of-lt l) (z .later .shapes))) k (omega (arith, group .within, z .untouched .made))
+          (λ y. omega (arith, z .related .sound .shapes .order c i older (le-trans l (z .later .shapes)) y (group-stays (z .later .figures i l) ∙ e), first))))
