@@ -63,7 +63,7 @@ module _ {program : List ℕ} {ts : List Token} {g : List ℕ} {r : Raw} {s : St
     figures = λ i l. stays-words (r .words) (switched .words) i (λ j m. beyond _ (omega arith));
   }
 
-  switch-parts : SameComponents g r switched
+  pub switch-parts : SameComponents g r switched
   switch-parts = record { made = omega (arith, counter componentsMade (omega arith)); words = λ j l. beyond _ (omega arith) }
 
   switch-counted : Counted g (switched .words)

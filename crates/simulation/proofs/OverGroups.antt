@@ -27,17 +27,17 @@ use Rattle.machine.specs.Groups.{componentAt, firstAt, countAt}
 use Rattle.machine.specs.Loops.{unmarkFrom, following, ownTurn, ownFrom, innerUnit, loopOver}
 use Rattle.simulation.specs.Meant.{listed, componentsOf}
 use Rattle.simulation.specs.Scope.{isIn}
-use Rattle.simulation.specs.Follows.{Grants, Related, Follows}
+use Rattle.simulation.specs.Follows.{Grants, Related, Later, Follows}
 use Rattle.simulation.proofs.Binding.{bind, act-after}
 use Rattle.simulation.proofs.Listed.{listed-same}
-use Rattle.simulation.proofs.Frames.{group-stays, untouched-components, component-later, first-later, count-later}
+use Rattle.simulation.proofs.Frames.{valid-later, meant-later, group-stays, untouched-components, component-later, first-later, count-later}
 use Rattle.simulation.proofs.Results.{given, After, unmoved}
 use Rattle.simulation.proofs.Usable.{destroyed-found}
 use Rattle.simulation.proofs.Counting.{counts}
 use Rattle.simulation.proofs.Flows.{SameFlow, both-onward, both-returned, AfterFlow, Flows, flow-from}
 use Rattle.simulation.proofs.Marking.{markAt, but-after}
 use Rattle.simulation.proofs.Paths.{Path, inner-fits, inner-more}
-use Rattle.simulation.proofs.Innermost.{switched, as-was, unit-now, switch-later, switch-related, mark-was, switched-back}
+use Rattle.simulation.proofs.Innermost.{switched, as-was, unit-now, switch-later, switch-parts, switch-related, mark-was, back-fits, switched-back}
 use Rattle.simulation.proofs.Iterating.{Repeats, Searches, Ready, ready-on, path-on, own-turn}
 
 -- nothing is marked between own components
@@ -99,3 +99,64 @@ module _ {program : List ℕ} {ts : List Token} {g : List ℕ} (few : length ts 
           (ready-on few x o body body′ P repeats around unit fits p searches (but-after z) q) (path-on few x o body body′ P repeats around unit fits p searches z q clean)
           c (le-trans older (le-trans (le-of-lt l) (z .later .shapes))) k (omega (arith, group .within, z .untouched .made))
           (λ y. omega (arith, z .related .sound .shapes .order c i older (le-trans l (z .later .shapes)) y (group-stays (z .later .figures i l) ∙ e), first))))
+
+-- ---- a loop as a whole: its unit is more than all that loops around it add, and no word of a slot has changed when it has ended
+flow-later : {program : List ℕ} {r r′ : Raw} {f : Flow} {f′ : Execute.Flow} → Later program r r′ → SameFlow program r f f′ → SameFlow program r′ f f′
+flow-later l both-onward = both-onward
+flow-later l (both-returned {v = v} x y) = both-returned (valid-later l v x) (y ∙ sym (meant-later l v x))
+
+module _ {program : List ℕ} {ts : List Token} {g : List ℕ} {r : Raw} {s : State} {total : Amounts} (h : Related program ts g r s total) (some : 0 < getD (r .words) callsUsed 0)
+    (n : ℕ) (any : 0 < n) (most : n ≤ 64) (room : 2 * getD (r .words) loopUnit 0 ≤ 2 ^ (64 - n)) where
+  abbrev pub within : ℕ
+  within = innerUnit (getD (r .words) loopUnit 0)
+
+  marks-less : (k : ℕ) → k < entriesGranted g → markAt g r k < within
+  marks-less k l = inner-more n (getD (r .words) loopUnit 0) (markAt g r k) any most room (h .sound .marks .own k some l)
+
+  marks-fit : (k : ℕ) → 0 < getD (r .words) callsUsed 0 → k < entriesGranted g → markAt g r k ≤ 2 * within - 1
+  marks-fit k a l = let m = marks-less k l in omega arith
+
+  unit-fits : 2 * within ≤ 2 ^ 64
+  unit-fits =
+      let z : 0 < 2 = omega arith in
+      let m : 64 - (n - 1) ≤ 64 = omega arith in
+      le-trans (inner-fits n (getD (r .words) loopUnit 0) any most room) (pow-le-pow-right z m)
+
+  clean-within : Path g (markAt g r) within [] (switched h within marks-fit)
+  unfolding isIn
+  clean-within = record { each = λ k l. mark-was h within marks-fit k ∙ omega arith; less = marks-less }
+
+  module _ (few : length ts ≤ 8192) {granted : Amounts} (gr : Grants g granted) (x : List ℕ) (o : Occurs ts aName x) (body : Act Flow) (body′ : Run.Action Execute.Flow)
+      (P : Raw → Type 0) (repeats : Repeats program ts g granted body body′ P) (p : ℕ) (searches : Searches program ts g (λ i. Run._>>_ (binding x i) body′) (markAt g r) within) where
+    pub loops-over : (i : ℕ) → i < getD (r .words) shapesUsed 0 → isGroupAt (r .words) i ≡ true → getD (r .words) (valuePlace (slotOf ts x)) 0 ≢ 0
+        → P (raw (r .texts) (set (r .words) loopUnit within))
+        → Follows granted total (Flows program ts g r) (loopOver body g p (slotOf ts x) i r)
+        (turns (λ i. Run._>>_ (Run.count p) (iterating (suc i) (λ j. Run._>>_ (binding x j) body′) i)) (componentsOf g (r .words) i) s)
+    unfolding loopOver componentsOf Act._>>=_ Act.goOn Act.held Act.store Act.give
+    loops-over i l e there ready =
+        let h₁ = switch-related h within marks-fit in
+        let later = switch-later h within marks-fit in
+        let was = as-was h within marks-fit in
+        let same = switch-parts h within marks-fit in
+        let shapes = h .sound .shapes in
+        let first = first-later later shapes same i l in
+        let count = count-later later shapes same i l in
+        let list : listed (componentAt g (switched h within marks-fit .words)) (firstAt (r .words) i) (countAt (r .words) i) ≡ listed (componentAt g (r .words)) (firstAt (r .words) i) (countAt (r .words) i) =
+        listed-same _ _ (firstAt (r .words) i) (countAt (r .words) i) (λ k a b. component-later later shapes same k (le-trans b (shapes .groups i l e .within))) in
+        act-after (λ f. Act._>>_ (Act.store loopUnit (getD (r .words) loopUnit 0)) (Act.give f)) (λ f f′ r₂ s₂ total₂ w. record {
+          result = f;
+          slices = raw (r₂ .texts) (set (r₂ .words) loopUnit (getD (r .words) loopUnit 0));
+          is = refl;
+          holds = record {
+            after = switched-back h within marks-fit (w .after);
+            flow = flow-later (switch-later (w .after .related) (getD (r .words) loopUnit 0) (back-fits h within marks-fit (w .after))) (w .flow);
+          };
+        })
+        (rw list at (own-from few gr x o body body′ P repeats (markAt g r) within unit-fits p searches i (countAt (r .words) i) (firstAt (r .words) i) h₁
+        (record {
+          there = rw (was (valuePlace (slotOf ts x)) (λ z. omega arith)) there;
+          some = rw (was callsUsed (λ z. omega arith)) some;
+          unit-is = unit-now h within marks-fit;
+          more = ready;
+        })
+        clean-within (le-trans l (later .shapes)) (group-stays (later .figures i l) ∙ e) (omega (arith, first)) (omega (arith, first, count))))
