@@ -27,7 +27,7 @@ use Rattle.machine.specs.Act.{Raw, Act}
 use Rattle.machine.specs.Act as Act
 use Rattle.machine.specs.Shapes.{isGroupAt}
 use Rattle.machine.specs.Groups.{componentAt, firstAt, countAt}
-use Rattle.machine.specs.Loops.{turn, unmarkFrom, lookIn, lookBehind, following, turnsFrom, ownTurn}
+use Rattle.machine.specs.Loops.{turn, unmarkFrom, lookBehind, following, turnsFrom, ownTurn}
 use Rattle.simulation.specs.Meant.{meantValue}
 use Rattle.simulation.specs.Scope.{isIn}
 use Rattle.simulation.specs.Sound.{Valid}
@@ -41,8 +41,9 @@ use Rattle.simulation.proofs.Flows.{SameFlow, both-onward, both-returne
 use Rattle.simulation.proofs.Marking.{markAt, AfterBut, but-after, but-trans, after-but}
 use Rattle.simulation.proofs.Paths.{Path}
 use Rattle.simulation.proofs.Unmarking.{clears}
-use Rattle.simulation.proofs.Remaining.{Stop, slots, remaining, Way, nextUp, Outcome, found, none, Sought}
+use Rattle.simulation.proofs.Remaining.{Stop, slots, remaining, Way, nextUp, Outcome, found, none}
 use Rattle.simulation.proofs.RemainingLaws.{way-below, way-later, remaining-later}
+use Rattle.simulation.proofs.Searching.{look-in, behind}
 use Rattle.simulation.proofs.Turning.{turn-follows}
 
 -- no slot of a way is behind the end
@@ -60,18 +61,9 @@ pub record Repeats (program : List ℕ) (ts : List Token) (g : List ℕ) (grante
   pub keeps : {r r′ : Raw} {s : State} {total : Amounts} → AfterBut program ts g r r′ s total → P r → P r′
   pub does : {r : Raw} {s : State} {total : Amounts} → Related program ts g r s total → P r → Follows granted total (Turns program ts g r) (body r) (body′ s)
 
-pub record Searches (program : List ℕ) (ts : List Token) (g : List ℕ) (body : ℕ → Run.Action Execute.Flow) (around : ℕ → ℕ) (unit : ℕ) : Type 0 where
-  pub look-in : (end : ℕ) {r : Raw} {s : State} {total : Amounts} → Related program ts g r s total → 0 < getD (r .words) callsUsed 0 → getD (r .words) loopUnit 0 ≡ unit
-      → end ≤ getD (r .words) componentsMade 0 → (c : ℕ) → c < getD (r .words) shapesUsed 0 → isGroupAt (r .words) c ≡ true → firstAt (r .words) c + countAt (r .words) c ≤ end
-      → Path g around unit [] r → Sought program ts g body around unit end r s total (iterating (suc c) body c) [] (lookIn g c r)
-  pub behind : (end : ℕ) {r : Raw} {s : State} {total : Amounts} → Related program ts g r s total → 0 < getD (r .words) callsUsed 0 → getD (r .words) loopUnit 0 ≡ unit
-      → end ≤ getD (r .words) componentsMade 0 → (at : Stop) (ways : List Stop) → Path g around unit (slots ways) r → Way g (r .words) end (at ∷ ways)
-      → Sought program ts g body around unit end r s total (remaining g (r .words) body (at ∷ ways)) [] (lookBehind end g end (at .slot) r)
-
 -- ---- such a loop; the words of the slots that it marked have its unit on top of what loops around it added
 module _ {program : List ℕ} {ts : List Token} {g : List ℕ} (few : length ts ≤ 8192) {granted : Amounts} (x : List ℕ) (o : Occurs ts aName x) (body : Act Flow) (body′ : Run.Action Execute.Flow)
-    (P : Raw → Type 0) (repeats : Repeats program ts g granted body body′ P) (around : ℕ → ℕ) (unit : ℕ) (fits : 2 * unit ≤ 2 ^ 64) (p : ℕ)
-    (searches : Searches program ts g (λ i. Run._>>_ (binding x i) body′) around unit) where
+    (P : Raw → Type 0) (repeats : Repeats program ts g granted body body′ P) (around : ℕ → ℕ) (unit : ℕ) (fits : 2 * unit ≤ 2 ^ 64) (p : ℕ) where
   abbrev bound : ℕ → Run.Action Execute.Flow
   bound i = Run._>>_ (binding x i) body′
 
@@ -126,7 +118,7 @@ module _ {program : List ℕ} {ts : List Token} {g : List ℕ} (few : length ts 
       (Execute.continue f′ (remaining g (r .words) bound (at ∷ ways)) s)
   unfolding following Execute.continue Act._>>=_ Act.goOn Way
   after-turn turns end r₀ at ways both-onward clean a q l path way again =
-      let b = searches .behind end (a .related) (q .some) (q .unit-is) l at ways path way in
+      let b = behind bound end fits (a .related) (q .some) (q .unit-is) l at ways path way in
       rw (b .is) (again (b .slices) (b .result) (b .after) (b .outcome))
   after-turn turns end r₀ at ways (both-returned {v = v} {u = u} y z) clean a q l path way again =
       let m = a .related .sound .counted in
@@ -165,7 +157,7 @@ module _ {program : List ℕ} {ts : List Token} {g : List ℕ} (few : length ts 
         → Follows granted total (Flows program ts g r) (ownTurn body g p (slotOf ts x) k c r) (iterating (suc c) bound c s)
     unfolding ownTurn if_then_else_ Act._>>=_ Act.goOn Act.held
     own-group k m before e =
-        let b = searches .look-in k h (q .some) (q .unit-is) m c l e before clean in
+        let b = look-in bound k fits h (q .some) (q .unit-is) m c l e before clean in
         rw (e, b .is) (from (stepsGranted g + 1) k r (b .slices) s total (iterating (suc c) bound c) (b .result) clean (b .after) (ready-on (b .after) q) (le-trans m (b .after .parts .made))
         (omega arith) (b .outcome))
 

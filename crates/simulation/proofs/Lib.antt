@@ -50,6 +50,7 @@ mod Iterating
 mod OverGroups
 mod Nesting
 mod Looping
+mod Inside
 mod Statements
 mod Suspending
 mod Parameters

@@ -38,7 +38,7 @@ use Rattle.simulation.proofs.Flows.{SameFlow, both-onward, both-returne
 use Rattle.simulation.proofs.Marking.{markAt, but-after}
 use Rattle.simulation.proofs.Paths.{Path, inner-fits, inner-more}
 use Rattle.simulation.proofs.Innermost.{switched, as-was, unit-now, switch-later, switch-parts, switch-related, mark-was, back-fits, switched-back}
-use Rattle.simulation.proofs.Iterating.{Repeats, Searches, Ready, ready-on, path-on, own-turn}
+use Rattle.simulation.proofs.Iterating.{Repeats, Ready, ready-on, path-on, own-turn}
 
 -- nothing is marked between own components
 module _ {program : List ℕ} {ts : List Token} {g : List ℕ} {granted : Amounts} {r₀ : Raw} where
@@ -52,13 +52,12 @@ module _ {program : List ℕ} {ts : List Token} {g : List ℕ} {granted : Amount
 -- ---- own components
 module _ {program : List ℕ} {ts : List Token} {g : List ℕ} (few : length ts ≤ 8192) {granted : Amounts} (gr : Grants g granted) (x : List ℕ) (o : Occurs ts aName x)
     (body : Act Flow) (body′ : Run.Action Execute.Flow) (P : Raw → Type 0) (repeats : Repeats program ts g granted body body′ P)
-    (around : ℕ → ℕ) (unit : ℕ) (fits : 2 * unit ≤ 2 ^ 64) (p : ℕ)
-    (searches : Searches program ts g (λ i. Run._>>_ (binding x i) body′) around unit) where
+    (around : ℕ → ℕ) (unit : ℕ) (fits : 2 * unit ≤ 2 ^ 64) (p : ℕ) where
   abbrev visit : ℕ → Run.Action Execute.Flow
   visit i = Run._>>_ (Run.count p) (iterating (suc i) (λ j. Run._>>_ (binding x j) body′) i)
 
   abbrev Prepared : Raw → Type 0
-  Prepared r = Ready few x o body body′ P repeats around unit fits p searches r
+  Prepared r = Ready few x o body body′ P repeats around unit fits p r
 
   -- of group i, n from slot k on
   own-from : (i n k : ℕ) {r : Raw} {s : State} {total : Amounts} → Related program ts g r s total → Prepared r → Path g around unit [] r → i < getD (r .words) shapesUsed 0
@@ -77,8 +76,8 @@ module _ {program : List ℕ} {ts : List Token} {g : List ℕ} (few : length ts 
       let list : listed (componentAt g (r₁ .words)) (k + 1) n ≡ listed (componentAt g (r .words)) (suc k) n =
       ap (λ j. listed (componentAt g (r₁ .words)) j n) (add-one k)
       ∙ listed-same _ _ (suc k) n (λ j y y′. component-later (z .later) (h .sound .shapes) same j (omega (arith, group .within))) in
-      passes _ _ (w .flow) w (flow-from z (rw list at (own-from i n (k + 1) (z .related) (ready-on few x o body body′ P repeats around unit fits p searches (but-after z) q)
-      (path-on few x o body body′ P repeats around unit fits p searches z q clean) (le-trans l (z .later .shapes)) (group-stays (z .later .figures i l) ∙ e)
+      passes _ _ (w .flow) w (flow-from z (rw list at (own-from i n (k + 1) (z .related) (ready-on few x o body body′ P repeats around unit fits p (but-after z) q)
+      (path-on few x o body body′ P repeats around unit fits p z q clean) (le-trans l (z .later .shapes)) (group-stays (z .later .figures i l) ∙ e)
       (omega (arith, first)) (omega (arith, first, count-later (z .later) (h .sound .shapes) same i l))))))
     where
       one : (t t′ : Bool) → t ≡ t′
@@ -95,8 +94,8 @@ module _ {program : List ℕ} {ts : List Token} {g : List ℕ} (few : length ts 
           bind (counts gr h p) (λ _ _ r₁ s₁ total₁ w.
           let z = w .after in
           let first = first-later (z .later) (h .sound .shapes) (untouched-components (z .untouched)) i l in
-          flow-from z (own-turn few x o body body′ P repeats around unit fits p searches (z .related)
-          (ready-on few x o body body′ P repeats around unit fits p searches (but-after z) q) (path-on few x o body body′ P repeats around unit fits p searches z q clean)
+          flow-from z (own-turn few x o body body′ P repeats around unit fits p (z .related)
+          (ready-on few x o body body′ P repeats around unit fits p (but-after z) q) (path-on few x o body body′ P repeats around unit fits p z q clean)
           c (le-trans older (le-trans (le-of-lt l) (z .later .shapes))) k (omega (arith, group .within, z .untouched .made))
           (λ y. omega (arith, z .related .sound .shapes .order c i older (le-trans l (z .later .shapes)) y (group-stays (z .later .figures i l) ∙ e), first))))
 
@@ -127,7 +126,7 @@ module _ {program : List ℕ} {ts : List Token} {g : List ℕ} {r : Raw} {s : St
   clean-within = record { each = λ k l. mark-was h within marks-fit k ∙ omega arith; less = marks-less }
 
   module _ (few : length ts ≤ 8192) {granted : Amounts} (gr : Grants g granted) (x : List ℕ) (o : Occurs ts aName x) (body : Act Flow) (body′ : Run.Action Execute.Flow)
-      (P : Raw → Type 0) (repeats : Repeats program ts g granted body body′ P) (p : ℕ) (searches : Searches program ts g (λ i. Run._>>_ (binding x i) body′) (markAt g r) within) where
+      (P : Raw → Type 0) (repeats : Repeats program ts g granted body body′ P) (p : ℕ) where
     pub loops-over : (i : ℕ) → i < getD (r .words) shapesUsed 0 → isGroupAt (r .words) i ≡ true → getD (r .words) (valuePlace (slotOf ts x)) 0 ≢ 0
         → P (raw (r .texts) (set (r .words) loopUnit within))
         → Follows granted total (Flows program ts g r) (loopOver body g p (slotOf ts x) i r)
@@ -152,7 +151,7 @@ module _ {program : List ℕ} {ts : List Token} {g : List ℕ} {r : Raw} {s : St
             flow = flow-later (switch-later (w .after .related) (getD (r .words) loopUnit 0) (back-fits h within marks-fit (w .after))) (w .flow);
           };
         })
-        (rw list at (own-from few gr x o body body′ P repeats (markAt g r) within unit-fits p searches i (countAt (r .words) i) (firstAt (r .words) i) h₁
+        (rw list at (own-from few gr x o body body′ P repeats (markAt g r) within unit-fits p i (countAt (r .words) i) (firstAt (r .words) i) h₁
         (record {
           there = rw (was (valuePlace (slotOf ts x)) (λ z. omega arith)) there;
           some = rw (was callsUsed (λ z. omega arith)) some;
