@@ -43,7 +43,9 @@ mod Paths
 mod Unmarking
 mod Remaining
 mod RemainingLaws
+mod Levels
 mod Searching
+mod Climbing
 mod Turning
 mod Nesting
 mod Looping
