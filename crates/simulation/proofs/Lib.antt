@@ -44,7 +44,9 @@ mod Paths
 mod Unmarking
 mod Remaining
 mod RemainingLaws
+mod Levels
 mod Searching
+mod Climbing
 mod Turning
 mod Iterating
 mod OverGroups
