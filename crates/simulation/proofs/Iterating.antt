@@ -43,7 +43,8 @@ use Rattle.simulation.proofs.Paths.{Path}
 use Rattle.simulation.proofs.Unmarking.{clears}
 use Rattle.simulation.proofs.Remaining.{Stop, slots, remaining, Way, nextUp, Outcome, found, none}
 use Rattle.simulation.proofs.RemainingLaws.{way-below, way-later, remaining-later}
-use Rattle.simulation.proofs.Searching.{look-in, behind}
+use Rattle.simulation.proofs.Searching.{look-in}
+use Rattle.simulation.proofs.Climbing.{behind}
 use Rattle.simulation.proofs.Turning.{turn-follows}
 
 -- no slot of a way is behind the end
