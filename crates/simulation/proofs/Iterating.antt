@@ -15,14 +15,14 @@ use Rattle.meaning.specs.Value as Value
 use Rattle.meaning.specs.State.{State, byContent}
 use Rattle.meaning.specs.Run as Run
 use Rattle.meaning.specs.Book.{Amounts}
-use Rattle.meaning.specs.Execute.{onward, returned, binding, iterating}
+use Rattle.meaning.specs.Execute.{returned, binding, iterating}
 use Rattle.meaning.specs.Execute as Execute
 use Rattle.code.specs.Code.{slotOf}
 use Rattle.reader.proofs.Homes.{Occurs}
 use Rattle.machine.specs.declared.Value.{Value}
 use Rattle.machine.specs.declared.Flow.{Flow}
-use Rattle.machine.specs.declared.Flow.the-variants.{Onward, Returned}
-use Rattle.machine.specs.Layout.{stepsUsed, shapesUsed, callsUsed, componentsMade, loopUnit, stepsGranted, entriesGranted, valuePlace}
+use Rattle.machine.specs.declared.Flow.the-variants.{Returned}
+use Rattle.machine.specs.Layout.{shapesUsed, callsUsed, componentsMade, loopUnit, stepsGranted, entriesGranted, valuePlace}
 use Rattle.machine.specs.Act.{Raw, Act}
 use Rattle.machine.specs.Act as Act
 use Rattle.machine.specs.Shapes.{isGroupAt}
@@ -34,14 +34,14 @@ use Rattle.simulation.specs.Sound.{Valid}
 use Rattle.simulation.specs.Follows.{Related, Follows}
 use Rattle.simulation.proofs.Binding.{bind}
 use Rattle.simulation.proofs.Frames.{valid-later, meant-later, untouched-components}
-use Rattle.simulation.proofs.Results.{given, After, unmoved}
+use Rattle.simulation.proofs.Results.{given, After}
 use Rattle.simulation.proofs.Usable.{figure-found}
 use Rattle.simulation.proofs.Under.{stepsLeft}
 use Rattle.simulation.proofs.Flows.{SameFlow, both-onward, both-returned, Flows, Turns, ended}
 use Rattle.simulation.proofs.Marking.{markAt, AfterBut, but-after, but-trans, after-but}
 use Rattle.simulation.proofs.Paths.{Path}
 use Rattle.simulation.proofs.Unmarking.{clears}
-use Rattle.simulation.proofs.Remaining.{Stop, slots, remaining, Way, nextUp, Outcome, found, none}
+use Rattle.simulation.proofs.Remaining.{Stop, slots, remaining, Way, Outcome, found, none}
 use Rattle.simulation.proofs.RemainingLaws.{way-below, way-later, remaining-later}
 use Rattle.simulation.proofs.Searching.{look-in}
 use Rattle.simulation.proofs.Climbing.{behind}

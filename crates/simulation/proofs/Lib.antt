@@ -53,6 +53,7 @@ mod OverGroups
 mod Nesting
 mod Looping
 mod Inside
+mod Dispatching
 mod Statements
 mod Suspending
 mod Parameters

@@ -18,8 +18,8 @@ use Rattle.meaning.specs.Execute as Execute
 use Rattle.code.specs.Code.{slotOf}
 use Rattle.reader.proofs.Homes.{Occurs}
 use Rattle.machine.specs.declared.Flow.{Flow}
-use Rattle.machine.specs.declared.Flow.the-variants.{Onward, Returned}
-use Rattle.machine.specs.Layout.{shapesUsed, callsUsed, componentsMade, loopUnit, entriesGranted, valuePlace}
+use Rattle.machine.specs.declared.Flow.the-variants.{Onward}
+use Rattle.machine.specs.Layout.{shapesUsed, callsUsed, loopUnit, entriesGranted, valuePlace}
 use Rattle.machine.specs.Act.{Raw, raw, Act}
 use Rattle.machine.specs.Act as Act
 use Rattle.machine.specs.Shapes.{isGroupAt, destroyedAt}
@@ -31,7 +31,7 @@ use Rattle.simulation.specs.Follows.{Grants, Related, Later, Follows}
 use Rattle.simulation.proofs.Binding.{bind, act-after}
 use Rattle.simulation.proofs.Listed.{listed-same}
 use Rattle.simulation.proofs.Frames.{valid-later, meant-later, group-stays, untouched-components, component-later, first-later, count-later}
-use Rattle.simulation.proofs.Results.{given, After, unmoved}
+use Rattle.simulation.proofs.Results.{given, unmoved}
 use Rattle.simulation.proofs.Usable.{destroyed-found}
 use Rattle.simulation.proofs.Counting.{counts}
 use Rattle.simulation.proofs.Flows.{SameFlow, both-onward, both-returned, AfterFlow, Flows, flow-from}

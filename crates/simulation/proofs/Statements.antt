@@ -1,5 +1,5 @@
 -- Statements: executing their code follows what they mean.
-use Prim.Native.Nat.{ℕ, zero, suc, _+_, _-_, _*_, _^_, _≤_, _<_}
+use Prim.Native.Nat.{ℕ, zero, suc, _+_, _-_, _*_, _≤_, _<_}
 use native.Mathlib.Omega.{arith}
 use native.Mathlib.Nat.{le-trans}
 use mathlib.Core.Path.{_≡_, refl, ap, _∙_, subst}
@@ -22,28 +22,25 @@ use Rattle.meaning.specs.Execute.{onward, execute}
 use Rattle.meaning.specs.Execute as Execute
 use Rattle.meaning.specs.Library.{Library, libraryOf}
 use Rattle.meaning.specs.Procedure.{calling}
-use Rattle.machine.specs.Opcodes.{word, tagIn, sizeIn, placeIn, extraIn, sizeAt, tagDeclare, tagAssign, tagUpdate, tagWhen, tagWhile, tagForeach, tagReturn, tagBlock, tagAct}
+use Rattle.machine.specs.Opcodes.{word, sizeAt, tagUpdate, tagBlock}
 use Rattle.code.specs.Code.{slotOf, codeOf, codeOfStatement, codeOfStatements}
 use Rattle.reader.specs.Sane.{Sane}
 use Rattle.reader.specs.Declarations.{declaredIn, declaredBy}
 use Rattle.reader.proofs.Homes.{Occurs}
-use Rattle.reader.proofs.Fields.{first-half, second-half, code-rooted, statement-headed, statement-some}
+use Rattle.reader.proofs.Fields.{code-rooted, statement-headed, statement-some}
 use Rattle.reader.proofs.Known.{Placed, Known, KnownStatement, KnownStatements}
 use Rattle.reader.proofs.Walk as Walk
 use Rattle.reader.proofs.Walk.{Stands, stands-front, stands-back, stands-first, stands-rest, ends-word}
-use Rattle.machine.specs.Words.{packed, unpacked}
-use Rattle.machine.specs.Layout.{argumentsHeld, loopUnit, stepsGranted, stackWords}
+use Rattle.machine.specs.Words.{packed}
+use Rattle.machine.specs.Layout.{argumentsHeld, stepsGranted, stackWords}
 use Rattle.machine.specs.Act.{Raw, Act}
 use Rattle.machine.specs.Act as Act
-use Rattle.machine.specs.Variables as Stored
 use Rattle.machine.specs.Tables.{storeEntry}
-use Rattle.machine.specs.Operate.{withBoolean, withTable, withGroup}
-use Rattle.machine.specs.Loops.{loopOver}
-use Rattle.machine.specs.Evaluate.{Setting, Evaluator}
+use Rattle.machine.specs.Operate.{withBoolean, withTable}
+use Rattle.machine.specs.Evaluate.{Setting}
 use Rattle.machine.specs.declared.Flow.{Flow}
 use Rattle.machine.specs.declared.Flow.the-variants.{Onward, Returned}
-use Rattle.machine.specs.Effects.{declaring, assigning, finishing}
-use Rattle.machine.specs.Execute.{simpleAt, updateValue, updateIn, updateAt, continue, Executor, whenAt, looping, repeatAt, statementsFrom, foreachAt, countedAt, statementBy}
+use Rattle.machine.specs.Execute.{updateValue, updateIn, updateAt, continue, looping, statementsFrom}
 use Rattle.machine.specs.Interpret.{expressionAt, statementAt}
 use Rattle.simulation.specs.Scope.{scopeOf, isIn}
 use Rattle.simulation.specs.Follows.{Grants, Related, Follows}
@@ -53,7 +50,7 @@ use Rattle.simulation.proofs.Results as Results
 use Rattle.simulation.proofs.Counting.{AfterStep, counts}
 use Rattle.simulation.proofs.Asked.{with-boolean, with-table, with-group}
 use Rattle.simulation.proofs.Usable.{uses}
-use Rattle.simulation.proofs.Chaining.{tested-then, turning-then}
+use Rattle.simulation.proofs.Chaining.{turning-then}
 use Rattle.simulation.proofs.Scopes.{mapped-left, mapped-right}
 use Rattle.simulation.proofs.Under.{stepsLeft, Under, stays, Invokes}
 use Rattle.simulation.proofs.Expressions.{told, Strings, evaluates}
@@ -63,60 +60,8 @@ use Rattle.simulation.proofs.Declaring.{declares}
 use Rattle.simulation.proofs.Assigning.{assigns}
 use Rattle.simulation.proofs.Storing.{stores}
 use Rattle.simulation.proofs.Keys.{back-again}
+use Rattle.simulation.proofs.Dispatching.{Heads, heads, by-declare, by-assign, by-update, by-when, by-while, by-foreach, by-return, by-block, by-act}
 use Rattle.simulation.proofs.Inside.{Room, room-stays, iterates}
-
--- ---- a statement's word
-record Heads (w tag size p n : ℕ) : Type 0 where
-  tag-is : tagIn w ≡ tag
-  size-is : sizeIn w ≡ size
-  place-is : placeIn w ≡ p
-  extra-is : extraIn w ≡ n
-
-heads : {w tag size p n : ℕ} → w ≡ word tag size (p + 65536 * n) → tag < 256 → size < 16777216 → p < 65536 → Heads w tag size p n
-heads {w} {tag} {size} {p} {n} e a b c =
-    let t = told e a b in
-    record { tag-is = t .tag-is; size-is = t .size-is; place-is = rw (t .number-is) (first-half p n c); extra-is = rw (t .number-is) (second-half p n c) }
-
-module _ (eval : Evaluator) (inner : Executor) (e : Setting) (w x p size q n : ℕ) where
-  by-declare : Heads w tagDeclare size q n → statementBy eval inner e w x p ≡ Act._>>_ (Act.count (e .grants) p) (Act._>>_ (Stored.declare n p) (Act.give Onward))
-  unfolding statementBy if_then_else_ countedAt declaring
-  by-declare t = rw (t .tag-is, t .extra-is)
-
-  by-assign : Heads w tagAssign size q n → statementBy eval inner e w x p ≡ Act._>>_ (Act.count (e .grants) p) (Act._>>=_ (eval (x + size - 1) p) (λ v. assigning (e .grants) p n (packed v)))
-  unfolding statementBy if_then_else_ countedAt simpleAt finishing
-  by-assign t = rw (t .tag-is, t .extra-is, t .size-is)
-
-  by-update : Heads w tagUpdate size q n → statementBy eval inner e w x p ≡ Act._>>_ (Act.count (e .grants) p) (updateAt eval e (x + size - 1) p)
-  unfolding statementBy if_then_else_ countedAt
-  by-update t = rw (t .tag-is, t .size-is)
-
-  by-when : Heads w tagWhen size q n → statementBy eval inner e w x p
-      ≡ Act._>>_ (Act.count (e .grants) p) (Act._>>=_ (eval (x + n) p) (λ v. withBoolean p v λ b. if b then (λ _. inner (x + n + 1)) else λ _. Act.give Onward))
-  unfolding statementBy if_then_else_ countedAt whenAt
-  by-when t = rw (t .tag-is, t .extra-is) (ap (λ f. Act._>>_ (Act.count (e .grants) p) f) (tested-then eval e (x + n) p (λ b. if b then (λ _. inner (x + n + 1)) else λ _. Act.give Onward)))
-
-  by-while : Heads w tagWhile size q n → statementBy eval inner e w x p ≡ looping (stepsGranted (e .grants) + 1) eval e (x + n) p (inner (x + n + 1))
-  unfolding statementBy if_then_else_ repeatAt
-  by-while t = rw (t .tag-is, t .extra-is)
-
-  by-foreach : (slot : ℕ) → getD (e .code) (x + 1) 0 ≡ slot → Heads w tagForeach size q n → statementBy eval inner e w x p
-      ≡ Act._>>_ (Act.count (e .grants) p) (Act._>>=_ (eval (x + n) p) (λ v. Act._>>_ (Stored.usable p v) (withGroup p v λ i.
-      Act._>>_ (Stored.declareOnce slot) (loopOver (inner (x + n + 1)) (e .grants) p slot i))))
-  unfolding statementBy if_then_else_ countedAt foreachAt
-  by-foreach slot i t = rw (t .tag-is, t .extra-is, i)
-
-  by-return : Heads w tagReturn size q n → statementBy eval inner e w x p
-      ≡ Act._>>_ (Act.count (e .grants) p) (Act._>>=_ (eval (x + size - 1) p) (λ v. Act.give (Returned (unpacked (packed v)))))
-  unfolding statementBy if_then_else_ countedAt simpleAt finishing
-  by-return t = rw (t .tag-is, t .size-is)
-
-  by-block : Heads w tagBlock size q n → statementBy eval inner e w x p ≡ Act._>>_ (Act.count (e .grants) p) (statementsFrom (size + 1) inner e (x + 1) (x + size))
-  unfolding statementBy if_then_else_ countedAt
-  by-block t = rw (t .tag-is, t .size-is)
-
-  by-act : Heads w tagAct size q n → statementBy eval inner e w x p ≡ Act._>>_ (Act.count (e .grants) p) (Act._>>_ (eval (x + size - 1) p) (Act.give Onward))
-  unfolding statementBy if_then_else_ countedAt simpleAt finishing
-  by-act t = rw (t .tag-is, t .size-is)
 
 -- ---- how a statement ends
 flow-done : {program : List ℕ} {ts : List Token} {g : List ℕ} {r₀ r : Raw} {f : Flow} {f′ : Execute.Flow} {s : State} {total : Amounts} → SameFlow program r f f′
