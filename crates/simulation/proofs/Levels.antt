@@ -3,12 +3,12 @@ use Prim.Native.Nat.{ℕ, zero, suc, _+_, _<_}
 use native.Mathlib.Omega.{arith}
 use native.Mathlib.Numerals.{add-one}
 use mathlib.Core.Path.{_≡_, refl, ap, _∙_}
-use mathlib.Core.Bool.{Bool, true, false}
+use mathlib.Core.Bool.{true, false}
 use mathlib.Core.List.{List, [], _∷_}
 use lib.ListN.{getD}
 use Rattle.meaning.specs.Basics.{if_then_else_}
 use Rattle.meaning.specs.Token.{Token}
-use Rattle.meaning.specs.State.{State, byContent, isDestroyed}
+use Rattle.meaning.specs.State.{State, byContent}
 use Rattle.meaning.specs.Run as Run
 use Rattle.meaning.specs.Run.{Run}
 use Rattle.meaning.specs.Book.{Amounts}

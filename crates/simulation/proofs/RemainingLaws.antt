@@ -1,5 +1,5 @@
 -- What a loop has left stays so while components and shapes do.
-use Prim.Native.Nat.{ℕ, suc, _+_, _/_, _%_, _^_, _≤_, _<_}
+use Prim.Native.Nat.{ℕ, _+_, _/_, _%_, _^_, _≤_, _<_}
 use native.Mathlib.Omega.{arith}
 use native.Mathlib.Nat.{le-trans, le-refl}
 use mathlib.Core.Path.{_≡_, refl, ap, sym, _∙_}
@@ -7,11 +7,11 @@ use mathlib.Core.Bool.{true}
 use mathlib.Core.List.{List, [], _∷_}
 use lib.ListN.{getD}
 use Rattle.meaning.specs.Run as Run
-use Rattle.meaning.specs.Execute.{Flow, continue, turns, iterating}
+use Rattle.meaning.specs.Execute.{Flow, turns, iterating}
 use Rattle.machine.specs.Layout.{shapesUsed, componentsMade}
 use Rattle.machine.specs.Act.{Raw}
 use Rattle.machine.specs.Shapes.{isGroupAt}
-use Rattle.machine.specs.Groups.{componentAt, followersAt, firstAt, countAt}
+use Rattle.machine.specs.Groups.{componentAt, followersAt}
 use Rattle.simulation.specs.Sound.{Shapes}
 use Rattle.simulation.specs.Follows.{Later}
 use Rattle.simulation.proofs.Listed.{listed-same}
