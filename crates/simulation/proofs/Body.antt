@@ -34,7 +34,8 @@ use Rattle.simulation.specs.Follows.{Grants, Related, Follows}
 use Rattle.simulation.proofs.Flows.{Flows, ended}
 use Rattle.simulation.proofs.Nesting.{procedures-nest}
 use Rattle.simulation.proofs.Scopes.{mapped-left, mapped-right}
-use Rattle.simulation.proofs.Statements.{room-first, executes-all}
+use Rattle.simulation.proofs.Inside.{room-first}
+use Rattle.simulation.proofs.Statements.{executes-all}
 use Rattle.simulation.proofs.Performing.{Stored, Procedures, main-scope, calls-follow}
 use Rattle.simulation.proofs.Quoted.{strings-stand}
 
@@ -155,7 +156,7 @@ module _ (e : Setting) (ts : List Token) (m : Program) (short : length (e .progr
         let balance : size + 2 * length (scopeOf (e .program) ts 0) ≤ 8192 * 1 = omega (arith, scope-size, main-stored .short) in
         rw (main-starts, main-takes, main-has)
         (ended (executes-all e sane strings gr (m .procedures) (stored-all .apart) limit 0 1 size (8192 * (64 - 1)) (omega (arith, balance))
-        (λ k l. calls-follow e sane strings gr m stored-all limit 0 1 size (omega arith) balance k l) 0 64 (m .main .body) (main-stored .nests) (main-stored .body)
+        (λ k l. calls-follow e sane strings gr m stored-all limit 0 1 size (omega arith) balance k l) 0 (omega arith) 64 (m .main .body) (main-stored .nests) (main-stored .body)
         (λ slot i. rw (main-scope e ts m (read .is)) (mapped-right (slotOf ts) slot (m .main .parameters) (declaredBy (m .main .body)) i))
         fuel (size + 1) (main-stored .start + length (m .main .parameters)) (main-stored .start + length (m .main .parameters) + size) body-there
         (omega (arith, deep, main-stored .short)) (omega arith) (omega arith) refl r s total h (record { procedure = main; calls = one; turns = turns }) bottom (room-first idle)))

@@ -74,11 +74,11 @@ module _ {program : List ℕ} {ts : List Token} {g : List ℕ} (few : length ts 
 
 -- ---- where no figure is left, nothing is done: no turn, no step, and the state stays
 module _ {program : List ℕ} {ts : List Token} {g : List ℕ} {r : Raw} {s : State} {total : Amounts} (h : Related program ts g r s total) (B : ℕ → Run.Action Flow) where
-  abbrev Idle : Run.Run Flow → Type 0
+  abbrev pub Idle : Run.Run Flow → Type 0
   Idle m = m ≡ Run.run [] (Run.result onward s)
 
   -- n components from slot k on, all older than i
-  idle-turns : (visit : ℕ → Run.Action Flow) (inside : ℕ → List ℕ) (i n k : ℕ) → i ≤ getD (r .words) shapesUsed 0
+  pub idle-turns : (visit : ℕ → Run.Action Flow) (inside : ℕ → List ℕ) (i n k : ℕ) → i ≤ getD (r .words) shapesUsed 0
       → ((c : ℕ) → c < i → inside c ≡ [] → Idle (visit c s)) → ((j : ℕ) → k ≤ j → j < k + n → componentAt g (r .words) j < i)
       → shownFrom inside g (r .words) k n ≡ [] → Idle (turns visit (listed (componentAt g (r .words)) k n) s)
   unfolding turns shownFrom listed continue if_then_else_ Run._>>=_ Run.goOn Run.current Run.give
@@ -96,7 +96,7 @@ module _ {program : List ℕ} {ts : List Token} {g : List ℕ} {r : Raw} {s : St
       one c true d f e again = rw d again
       one c false d f e again = rw (d, f e) again
 
-  idle : (b b′ i : ℕ) → i < getD (r .words) shapesUsed 0 → i < b → i < b′ → figuresIn b g (r .words) i ≡ [] → Idle (iterating b′ B i s)
+  pub idle : (b b′ i : ℕ) → i < getD (r .words) shapesUsed 0 → i < b → i < b′ → figuresIn b g (r .words) i ≡ [] → Idle (iterating b′ B i s)
   unfolding figuresIn iterating byContent componentsOf if_then_else_ Run._>>=_ Run.goOn Run.current
   idle zero b′ i l x y e = absurd (omega arith)
   idle (suc b) zero i l x y e = absurd (omega arith)

@@ -39,23 +39,9 @@ use Rattle.machine.specs.Loops.{mark, unmark}
 use Rattle.simulation.specs.Meant.{frameAt}
 use Rattle.simulation.specs.Sound.{Marks}
 use Rattle.simulation.specs.Follows.{Related, Later}
-use Rattle.simulation.proofs.Frames.{
-  stays-words,
-  later-trans,
-  SameComponents,
-  SameStack,
-  SameVariables,
-  same-words,
-  variables-kept,
-  variables-same,
-  SameWaiting,
-  waits-same,
-  SameShapes,
-  shapes-kept,
-  shapes-same,
-}
-use Rattle.simulation.proofs.Holding.{SameEntries, entries-kept, entries-same}
-use Rattle.simulation.proofs.Results.{After}
+use Rattle.simulation.proofs.Frames.{stays-words, later-trans, SameComponents, SameStack, SameVariables, same-words, SameWaiting, waits-same, SameShapes}
+use Rattle.simulation.proofs.Holding.{SameEntries}
+use Rattle.simulation.proofs.Results.{After, kept-marks}
 use Rattle.simulation.proofs.Counting.{lent-set, other}
 
 -- the word of a slot, of the call under way
@@ -230,10 +216,8 @@ module _ {program : List ℕ} {ts : List Token} {g : List ℕ} {r : Raw} {s : St
 
   pub marks : AfterBut program ts g r remarked s total
   marks = let c = h .sound .counted in record {
-    related = record {
-      sound = record {
-        lent = lent-set _ _ (h .sound .lent);
-        counted = record {
+    related = kept-marks h mark-later (lent-set _ _ (h .sound .lent))
+        (record {
           steps = rw (low stepsUsed (omega arith)) (c .steps);
           shapes = rw (low shapesUsed (omega arith)) (c .shapes);
           entries = rw (low entriesUsed (omega arith)) (c .entries);
@@ -242,24 +226,11 @@ module _ {program : List ℕ} {ts : List Token} {g : List ℕ} {r : Raw} {s : St
           tables = rw (low tablesMade (omega arith), low stepsUsed (omega arith)) (c .tables);
           arguments = rw (low argumentsHeld (omega arith)) (c .arguments);
           calls = rw calls-as (c .calls);
-        };
-        variables = variables-kept mark-later mark-variables ts (h .sound .variables);
-        waiting = mark-waiting .waiting;
-        shapes = shapes-kept mark-later mark-parts mark-shapes (h .sound .shapes);
-        marks = mark-marks;
-        entries = entries-kept mark-later (h .sound .shapes) mark-parts mark-entries (h .sound .entries);
-      };
-      variables = h .variables ∙ sym (variables-same mark-later mark-variables ts (h .sound .variables));
-      suspended = h .suspended ∙ sym (mark-waiting .suspended);
-      shapes = h .shapes ∙ sym (shapes-same mark-later mark-parts mark-shapes (h .sound .shapes));
-      tables = h .tables ∙ sym (low tablesMade (omega arith));
-      entries = h .entries ∙ sym (entries-same mark-later (h .sound .shapes) mark-parts mark-entries (h .sound .entries));
-      stepsTaken = h .stepsTaken ∙ sym (low stepsUsed (omega arith));
-      shapesTaken = h .shapesTaken ∙ sym (low shapesUsed (omega arith));
-      entriesTaken = h .entriesTaken ∙ sym (low entriesUsed (omega arith));
-      textTaken = h .textTaken ∙ sym (low textUsed (omega arith));
-      callsTaken = h .callsTaken ∙ sym calls-as;
-    };
+        })
+        mark-parts mark-marks mark-variables mark-waiting mark-shapes mark-entries
+        refl refl refl (h .tables ∙ sym (low tablesMade (omega arith))) refl
+        (h .stepsTaken ∙ sym (low stepsUsed (omega arith))) (h .shapesTaken ∙ sym (low shapesUsed (omega arith)))
+        (h .entriesTaken ∙ sym (low entriesUsed (omega arith))) (h .textTaken ∙ sym (low textUsed (omega arith))) (h .callsTaken ∙ sym calls-as);
     later = mark-later;
     spare = omega (arith, low stepsUsed (omega arith), low tablesMade (omega arith));
     held = low argumentsHeld (omega arith);

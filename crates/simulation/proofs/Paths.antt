@@ -18,6 +18,7 @@ use Rattle.machine.specs.Act.{Raw}
 use Rattle.machine.specs.Loops.{markedAt, markedFrom, innerUnit}
 use Rattle.simulation.specs.Scope.{isIn}
 use Rattle.simulation.specs.Follows.{Related}
+use Rattle.simulation.proofs.Results.{After}
 use Rattle.simulation.proofs.Marking.{markAt, remarked, own-now, own-others}
 
 -- ---- the next marked slot
@@ -42,6 +43,11 @@ module _ (g ws : List ℕ) where
 pub record Path (g : List ℕ) (around : ℕ → ℕ) (unit : ℕ) (ks : List ℕ) (r : Raw) : Type 0 where
   pub each : (k : ℕ) → k < entriesGranted g → markAt g r k ≡ around k + cond (isIn k ks) unit 0
   pub less : (k : ℕ) → k < entriesGranted g → around k < unit
+
+-- it stays where all marks do
+pub path-after : {program : List ℕ} {ts : List Token} {g : List ℕ} {r r′ : Raw} {s : State} {total : Amounts} {around : ℕ → ℕ} {unit : ℕ} {ks : List ℕ} → After program ts g r r′ s total
+    → 0 < getD (r .words) callsUsed 0 → Path g around unit ks r → Path g around unit ks r′
+path-after a some p = record { each = λ k l. rw (a .untouched .calls) (a .untouched .marks _ k (omega arith) l ∙ p .each k l); less = p .less }
 
 -- ---- a loop inside: its unit fits with one foreach less, and is more than all that loops around it add
 power-more : (n : ℕ) → 0 < n → n ≤ 64 → 2 ^ (64 - (n - 1)) ≡ 2 * 2 ^ (64 - n)

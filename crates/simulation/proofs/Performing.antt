@@ -51,7 +51,8 @@ use Rattle.simulation.proofs.Library.{stacked-kept}
 use Rattle.simulation.proofs.Stacking.{AfterArguments}
 use Rattle.simulation.proofs.Under.{stepsLeft, Under, stays, Invokes}
 use Rattle.simulation.proofs.Expressions.{Strings}
-use Rattle.simulation.proofs.Statements.{Room, room-first, executes-all}
+use Rattle.simulation.proofs.Inside.{Room, room-first}
+use Rattle.simulation.proofs.Statements.{executes-all}
 use Rattle.simulation.proofs.Parameters.{Declares, twice, once, declares-first, assigns-all}
 use Rattle.simulation.proofs.Calling.{without, waits, waits-related, waits-running, waits-calls, waits-low, suspends, Begun, counted, begun}
 use Rattle.simulation.proofs.Returning.{resumes, returned-with}
@@ -182,7 +183,7 @@ module _ (e : Setting) {ts : List Token} (sane : Sane ts) (strings : Strings (e 
         let mine : 8192 * c + length (codeOfStatements (f .body) ts) + 2 * length (scopeOf (e .program) ts (slotOf ts x + 1)) ≤ 8192 * (c + 1) = omega (arith, scope-size, st .short) in
         ended (executes-all e sane strings gr (m .procedures) (ps .apart) n (slotOf ts x + 1) (c + 1) (8192 * c + length (codeOfStatements (f .body) ts)) (8192 * (64 - (c + 1)))
         (omega (arith, mine, more)) (λ k l. again (slotOf ts x + 1) (c + 1) (8192 * c + length (codeOfStatements (f .body) ts)) (omega arith) mine k l)
-        (getD (r .words) argumentsHeld 0 + getD (r .words) declared 0) 64 (f .body) (st .nests) (st .body)
+        (getD (r .words) argumentsHeld 0 + getD (r .words) declared 0) (omega arith) 64 (f .body) (st .nests) (st .body)
         (λ slot i. rw scope-is (mapped-right (slotOf ts) slot (f .parameters) (declaredBy (f .body)) i))
         fuel (length (codeOfStatements (f .body) ts) + 1) (st .start + length (f .parameters)) (st .start + length (f .parameters) + length (codeOfStatements (f .body) ts)) body-there
         (omega (arith, deep, more, st .short)) (omega (arith, base-low)) (omega arith) refl r₂ s₂ total₂ h₂ un z low)

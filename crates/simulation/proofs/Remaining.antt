@@ -1,7 +1,7 @@
 -- What a loop over a group has left to do: behind the slot of the figure that was bound, and behind each slot on the way down to it.
 use Prim.Native.Nat.{ℕ, suc, _+_, _≤_, _<_}
 use mathlib.Core.Path.{_≡_}
-use mathlib.Core.Bool.{false}
+use mathlib.Core.Bool.{true, false}
 use mathlib.Core.List.{List, [], _∷_}
 use lib.ListN.{getD}
 use Rattle.meaning.specs.Token.{Token}
@@ -12,7 +12,7 @@ use Rattle.meaning.specs.Execute.{Flow, onward, continue, turns, iterating}
 use Rattle.machine.specs.Layout.{shapesUsed}
 use Rattle.machine.specs.Act.{Raw, Out, done}
 use Rattle.machine.specs.Shapes.{isGroupAt, destroyedAt}
-use Rattle.machine.specs.Groups.{componentAt, followersAt}
+use Rattle.machine.specs.Groups.{componentAt, followersAt, firstAt, countAt}
 use Rattle.simulation.specs.Meant.{listed}
 use Rattle.simulation.proofs.Marking.{AfterBut}
 use Rattle.simulation.proofs.Paths.{Path}
@@ -38,12 +38,13 @@ module _ (g ws : List ℕ) (body : ℕ → Run.Action Flow) where
   remaining (w ∷ ways) = Run._>>=_ (level (w .depth) (w .slot + 1) (followersAt g ws (w .slot))) (λ f. continue f (remaining ways))
 
 -- ---- where it lies
--- n components from slot k on lie below a slot further up, are older than b, and each tells how many follow it
+-- n components from slot k on lie below a slot further up, are older than b, and each tells how many follow it; groups among them have their slots before k
 pub record Level (g ws : List ℕ) (b k n up : ℕ) : Type 0 where
   pub below : k + n ≤ up
   pub known : b ≤ getD ws shapesUsed 0
   pub older : (j : ℕ) → k ≤ j → j < k + n → componentAt g ws j < b
   pub follow : (j : ℕ) → k ≤ j → j < k + n → suc j + followersAt g ws j ≡ k + n
+  pub inner : (j : ℕ) → k ≤ j → j < k + n → isGroupAt ws (componentAt g ws j) ≡ true → firstAt ws (componentAt g ws j) + countAt ws (componentAt g ws j) ≤ k
 
 -- the next slot up, or the end
 unfoldable pub nextUp : ℕ → List Stop → ℕ

@@ -113,7 +113,7 @@ run-after us vs (result a s) k = ap (λ ws. run ws (k a s .end)) (append-assoc u
 run-after us vs (error n p) k = refl
 run-after us vs unfinished k = refl
 
-run-assoc : {A B C : Type 0} (us : List Event) (e : End A) (f : A → Run.Action B) (k : B → Run.Action C)
+pub run-assoc : {A B C : Type 0} (us : List Event) (e : End A) (f : A → Run.Action B) (k : B → Run.Action C)
     → Run.goOn (Run.goOn us e f .takings) (Run.goOn us e f .end) k ≡ Run.goOn us e (λ a s. Run.goOn (f a s .takings) (f a s .end) k)
 unfolding Run.goOn
 run-assoc us (result a s) f k = run-after us (f a s .takings) (f a s .end) k

@@ -1,5 +1,5 @@
 -- Statements: executing their code follows what they mean.
-use Prim.Native.Nat.{ℕ, zero, suc, _+_, _-_, _*_, _^_, _≤_, _<_}
+use Prim.Native.Nat.{ℕ, zero, suc, _+_, _-_, _*_, _≤_, _<_}
 use native.Mathlib.Omega.{arith}
 use native.Mathlib.Nat.{le-trans}
 use mathlib.Core.Path.{_≡_, refl, ap, _∙_, subst}
@@ -22,27 +22,25 @@ use Rattle.meaning.specs.Execute.{onward, execute}
 use Rattle.meaning.specs.Execute as Execute
 use Rattle.meaning.specs.Library.{Library, libraryOf}
 use Rattle.meaning.specs.Procedure.{calling}
-use Rattle.machine.specs.Opcodes.{word, tagIn, sizeIn, placeIn, extraIn, sizeAt, tagDeclare, tagAssign, tagUpdate, tagWhen, tagWhile, tagReturn, tagBlock, tagAct}
+use Rattle.machine.specs.Opcodes.{word, sizeAt, tagUpdate, tagBlock}
 use Rattle.code.specs.Code.{slotOf, codeOf, codeOfStatement, codeOfStatements}
 use Rattle.reader.specs.Sane.{Sane}
 use Rattle.reader.specs.Declarations.{declaredIn, declaredBy}
 use Rattle.reader.proofs.Homes.{Occurs}
-use Rattle.reader.proofs.Fields.{first-half, second-half, code-rooted, statement-headed, statement-some}
+use Rattle.reader.proofs.Fields.{code-rooted, statement-headed, statement-some}
 use Rattle.reader.proofs.Known.{Placed, Known, KnownStatement, KnownStatements}
 use Rattle.reader.proofs.Walk as Walk
 use Rattle.reader.proofs.Walk.{Stands, stands-front, stands-back, stands-first, stands-rest, ends-word}
-use Rattle.machine.specs.Words.{packed, unpacked}
-use Rattle.machine.specs.Layout.{argumentsHeld, loopUnit, stepsGranted, stackWords}
+use Rattle.machine.specs.Words.{packed}
+use Rattle.machine.specs.Layout.{argumentsHeld, stepsGranted, stackWords}
 use Rattle.machine.specs.Act.{Raw, Act}
 use Rattle.machine.specs.Act as Act
-use Rattle.machine.specs.Variables as Stored
 use Rattle.machine.specs.Tables.{storeEntry}
 use Rattle.machine.specs.Operate.{withBoolean, withTable}
-use Rattle.machine.specs.Evaluate.{Setting, Evaluator}
+use Rattle.machine.specs.Evaluate.{Setting}
 use Rattle.machine.specs.declared.Flow.{Flow}
 use Rattle.machine.specs.declared.Flow.the-variants.{Onward, Returned}
-use Rattle.machine.specs.Effects.{declaring, assigning, finishing}
-use Rattle.machine.specs.Execute.{simpleAt, updateValue, updateIn, updateAt, continue, Executor, whenAt, looping, repeatAt, statementsFrom, countedAt, statementBy}
+use Rattle.machine.specs.Execute.{updateValue, updateIn, updateAt, continue, looping, statementsFrom}
 use Rattle.machine.specs.Interpret.{expressionAt, statementAt}
 use Rattle.simulation.specs.Scope.{scopeOf, isIn}
 use Rattle.simulation.specs.Follows.{Grants, Related, Follows}
@@ -50,8 +48,9 @@ use Rattle.simulation.proofs.Binding.{bind, Succeeds, act-after}
 use Rattle.simulation.proofs.Results.{given, After, Values, unmoved, still}
 use Rattle.simulation.proofs.Results as Results
 use Rattle.simulation.proofs.Counting.{AfterStep, counts}
-use Rattle.simulation.proofs.Asked.{with-boolean, with-table}
-use Rattle.simulation.proofs.Chaining.{tested-then, turning-then}
+use Rattle.simulation.proofs.Asked.{with-boolean, with-table, with-group}
+use Rattle.simulation.proofs.Usable.{uses}
+use Rattle.simulation.proofs.Chaining.{turning-then}
 use Rattle.simulation.proofs.Scopes.{mapped-left, mapped-right}
 use Rattle.simulation.proofs.Under.{stepsLeft, Under, stays, Invokes}
 use Rattle.simulation.proofs.Expressions.{told, Strings, evaluates}
@@ -61,53 +60,8 @@ use Rattle.simulation.proofs.Declaring.{declares}
 use Rattle.simulation.proofs.Assigning.{assigns}
 use Rattle.simulation.proofs.Storing.{stores}
 use Rattle.simulation.proofs.Keys.{back-again}
-
--- ---- a statement's word
-record Heads (w tag size p n : ℕ) : Type 0 where
-  tag-is : tagIn w ≡ tag
-  size-is : sizeIn w ≡ size
-  place-is : placeIn w ≡ p
-  extra-is : extraIn w ≡ n
-
-heads : {w tag size p n : ℕ} → w ≡ word tag size (p + 65536 * n) → tag < 256 → size < 16777216 → p < 65536 → Heads w tag size p n
-heads {w} {tag} {size} {p} {n} e a b c =
-    let t = told e a b in
-    record { tag-is = t .tag-is; size-is = t .size-is; place-is = rw (t .number-is) (first-half p n c); extra-is = rw (t .number-is) (second-half p n c) }
-
-module _ (eval : Evaluator) (inner : Executor) (e : Setting) (w x p size q n : ℕ) where
-  by-declare : Heads w tagDeclare size q n → statementBy eval inner e w x p ≡ Act._>>_ (Act.count (e .grants) p) (Act._>>_ (Stored.declare n p) (Act.give Onward))
-  unfolding statementBy if_then_else_ countedAt declaring
-  by-declare t = rw (t .tag-is, t .extra-is)
-
-  by-assign : Heads w tagAssign size q n → statementBy eval inner e w x p ≡ Act._>>_ (Act.count (e .grants) p) (Act._>>=_ (eval (x + size - 1) p) (λ v. assigning (e .grants) p n (packed v)))
-  unfolding statementBy if_then_else_ countedAt simpleAt finishing
-  by-assign t = rw (t .tag-is, t .extra-is, t .size-is)
-
-  by-update : Heads w tagUpdate size q n → statementBy eval inner e w x p ≡ Act._>>_ (Act.count (e .grants) p) (updateAt eval e (x + size - 1) p)
-  unfolding statementBy if_then_else_ countedAt
-  by-update t = rw (t .tag-is, t .size-is)
-
-  by-when : Heads w tagWhen size q n → statementBy eval inner e w x p
-      ≡ Act._>>_ (Act.count (e .grants) p) (Act._>>=_ (eval (x + n) p) (λ v. withBoolean p v λ b. if b then (λ _. inner (x + n + 1)) else λ _. Act.give Onward))
-  unfolding statementBy if_then_else_ countedAt whenAt
-  by-when t = rw (t .tag-is, t .extra-is) (ap (λ f. Act._>>_ (Act.count (e .grants) p) f) (tested-then eval e (x + n) p (λ b. if b then (λ _. inner (x + n + 1)) else λ _. Act.give Onward)))
-
-  by-while : Heads w tagWhile size q n → statementBy eval inner e w x p ≡ looping (stepsGranted (e .grants) + 1) eval e (x + n) p (inner (x + n + 1))
-  unfolding statementBy if_then_else_ repeatAt
-  by-while t = rw (t .tag-is, t .extra-is)
-
-  by-return : Heads w tagReturn size q n → statementBy eval inner e w x p
-      ≡ Act._>>_ (Act.count (e .grants) p) (Act._>>=_ (eval (x + size - 1) p) (λ v. Act.give (Returned (unpacked (packed v)))))
-  unfolding statementBy if_then_else_ countedAt simpleAt finishing
-  by-return t = rw (t .tag-is, t .size-is)
-
-  by-block : Heads w tagBlock size q n → statementBy eval inner e w x p ≡ Act._>>_ (Act.count (e .grants) p) (statementsFrom (size + 1) inner e (x + 1) (x + size))
-  unfolding statementBy if_then_else_ countedAt
-  by-block t = rw (t .tag-is, t .size-is)
-
-  by-act : Heads w tagAct size q n → statementBy eval inner e w x p ≡ Act._>>_ (Act.count (e .grants) p) (Act._>>_ (eval (x + size - 1) p) (Act.give Onward))
-  unfolding statementBy if_then_else_ countedAt simpleAt finishing
-  by-act t = rw (t .tag-is, t .size-is)
+use Rattle.simulation.proofs.Dispatching.{Heads, heads, by-declare, by-assign, by-update, by-when, by-while, by-foreach, by-return, by-block, by-act}
+use Rattle.simulation.proofs.Inside.{Room, room-stays, iterates}
 
 -- ---- how a statement ends
 flow-done : {program : List ℕ} {ts : List Token} {g : List ℕ} {r₀ r : Raw} {f : Flow} {f′ : Execute.Flow} {s : State} {total : Amounts} → SameFlow program r f f′
@@ -137,22 +91,11 @@ module _ {program : List ℕ} {ts : List Token} {g : List ℕ} {granted : Amount
   goes-on k k′ both-onward h a = h
   goes-on k k′ (both-returned x y) h a = given a
 
--- ---- marks: those of n loops more, inside one another, fit in a word
-pub record Room (n : ℕ) (r : Raw) : Type 0 where
-  pub few : n ≤ 64
-  pub fits : 2 * getD (r .words) loopUnit 0 ≤ 2 ^ (64 - n)
-
-room-stays : {program : List ℕ} {ts : List Token} {g : List ℕ} {n : ℕ} {r r′ : Raw} {s : State} {total : Amounts} → After program ts g r r′ s total → Room n r → Room n r′
-room-stays a m = record { few = m .few; fits = rw (a .untouched .unit) (m .fits) }
-
--- a call begins with none
-pub room-first : {r : Raw} → getD (r .words) loopUnit 0 ≡ 0 → Room 64 r
-room-first e = record { few = omega arith; fits = rw e (omega arith) }
-
 -- ---- statements of a call under way, whose stack has so many words before each statement
 module _ (e : Setting) {ts : List Token} (sane : Sane ts) (strings : Strings (e .program) ts) {granted : Amounts} (gr : Grants (e .grants) granted)
     (fs : List Procedure) (apart : (f : List ℕ) (l : Library) → libraryOf f ≡ some l → procedureNamed f fs ≡ Option.none)
-    (limit w c room reserve : ℕ) (enough : room ≤ 2 * stackWords) (invokes : (fuel : ℕ) → reserve ≤ fuel → Invokes e ts granted fs limit w c room fuel) (base : ℕ) where
+    (limit w c room reserve : ℕ) (enough : room ≤ 2 * stackWords) (invokes : (fuel : ℕ) → reserve ≤ fuel → Invokes e ts granted fs limit w c room fuel) (base : ℕ)
+    (busy : 0 < c) where
   abbrev Here : Raw → State → Amounts → Type 0
   Here r s total = Related (e .program) ts (e .grants) r s total
 
@@ -324,6 +267,26 @@ module _ (e : Setting) {ts : List Token} (sane : Sane ts) (strings : Strings (e 
         (loops y k fuel (at + 1) (at + length (codeOf y ts)) p deep (stands-front (codeOf y ts) (codeOfStatement d ts) rest) (omega arith) (omega arith)
         (statementAt fuel e (at + length (codeOf y ts) + 1)) (execute (calling limit fs) d limit) inner limit (stepsGranted (e .grants) + 1) r s total h un z low (un .turns) (omega arith))
 
+    foreach-does : {n : ℕ} (p : ℕ) (x : List ℕ) (y : Expression) (d : Statement) → 0 < n → Placed ts p → Occurs ts aName x → Known y ts → Owns (x ∷ [])
+        → Fits (length (codeOf y ts) + length (codeOfStatement d ts)) → length (codeOf y ts) + reserve ≤ fuel → Stands (e .code) at (codeOfStatement (foreach p x y d) ts)
+        → Does (n - 1) d fuel (at + (length (codeOf y ts) + 1) + 1) → Does n (foreach p x y d) (suc fuel) at
+    unfolding codeOfStatement execute statementAt isIn Act._>>=_ Run._>>=_
+    foreach-does {n} p x y d any pl o k own short deep st inner r s total h un z low =
+        let rest = stands-rest st in
+        let size : length (codeOf y ts ++ codeOfStatement d ts) ≡ length (codeOf y ts) + length (codeOfStatement d ts) = length-append (codeOf y ts) (codeOfStatement d ts) in
+        let t = heads (stands-first st) (omega arith) (omega (arith, size, enough)) (placed pl) in
+        let mine : isIn (slotOf ts x) (scopeOf (e .program) ts w) ≡ true = own (slotOf ts x) (rw (eq-eqb (slotOf ts x) (slotOf ts x) refl)) in
+        rw (t .place-is, by-foreach (expressionAt fuel e) (statementAt fuel e) e (getD (e .code) at 0) at p _ p (length (codeOf y ts) + 1) (slotOf ts x) (stands-first rest) t)
+        (bind (counts gr h p) (λ _ _ r₁ s₁ total₁ a.
+        let un₁ = stays (a .after) un in
+        turned a (bind (valued y k fuel (at + 1 + 1) (at + (length (codeOf y ts) + 1)) p deep (stands-front (codeOf y ts) (codeOfStatement d ts) (stands-rest rest)) (omega arith)
+        (a .after .related) un₁ (a .after .held ∙ z) (omega arith)) (λ v u r₂ s₂ total₂ b.
+        flow-from (b .after) (bind (uses (b .after .related) v u (b .valid) (b .means) p) (λ _ _ r₃ s₃ total₃ f.
+        let b₃ = still b f in
+        rw (b₃ .means) (flow-from f (with-group (f .related) p v (b₃ .valid) _ _ (λ i l grouped.
+        iterates (sane .few) gr x o w c limit base n busy any mine (statementAt fuel e (at + (length (codeOf y ts) + 1) + 1)) (execute (calling limit fs) d limit) inner p
+        (f .related) (stays (b₃ .after) un₁) (b₃ .after .held ∙ a .after .held ∙ z) (room-stays (b₃ .after) (room-stays (a .after) low)) i l grouped)))))))))
+
     -- a.b = c
     update-by : (y p n m : ℕ) → sizeAt (e .code) y ≡ n → sizeAt (e .code) (y - n) ≡ m → updateAt (expressionAt fuel e) e y p
         ≡ Act._>>=_ (expressionAt fuel e (y - n - m) p) (λ v. withTable p v λ t. Act._>>=_ (expressionAt fuel e (y - n) p) (λ k. Act._>>=_ (expressionAt fuel e y p) (λ u.
@@ -459,7 +422,15 @@ module _ (e : Setting) {ts : List Token} (sane : Sane ts) (strings : Strings (e 
         let here = subst (λ i. Stands (e .code) i (codeOfStatement d ts)) there (stands-back (codeOf y ts) (codeOfStatement d ts) (stands-rest st)) in
         deeper (while p y d) fuel at l (while-does (fuel - 1) at p y d (k .0) (k .1) (omega arith) (omega arith) st
         (executes n d ne (k .2) own (fuel - 1) (at + length (codeOf y ts) + 1) here (omega arith) (omega arith)))
-    executes n (foreach p x y d) ne k own fuel at st l m = ?
+    executes n (foreach p x y d) ne k own fuel at st l m =
+        let long = simp length-append at m in
+        let long′ = simp length-append at l in
+        let there : at + 1 + 1 + length (codeOf y ts) ≡ at + (length (codeOf y ts) + 1) + 1 = omega arith in
+        let here = subst (λ i. Stands (e .code) i (codeOfStatement d ts)) there (stands-back (codeOf y ts) (codeOfStatement d ts) (stands-rest (stands-rest st))) in
+        deeper (foreach p x y d) fuel at l (foreach-does (fuel - 1) at p x y d (ne .0) (k .0) (k .1) (k .2) (λ slot i. own slot (mapped-left (slotOf ts) slot (x ∷ []) (declaredIn d) i))
+        (omega arith) (omega arith) st
+        (executes (n - 1) d (ne .1) (k .3) (λ slot i. own slot (mapped-right (slotOf ts) slot (x ∷ []) (declaredIn d) i)) (fuel - 1) (at + (length (codeOf y ts) + 1) + 1) here
+        (omega arith) (omega arith)))
     executes n (return p y) ne k own fuel at st l m = deeper (return p y) fuel at l (return-does (fuel - 1) at p y (k .0) (k .1) (omega arith) (omega arith) st)
     executes n (block p ds) ne k own fuel at st l m =
         deeper (block p ds) fuel at l (block-does p ds (fuel - 1) at (k .0) (omega arith) st
