@@ -235,7 +235,8 @@ module _ {program g ws : List ℕ} (shapes : Shapes program g ws) where
       let q = append-none (if destroyedAt ws c then (λ _. []) else λ _. figuresIn b g ws c) (shownFrom (figuresIn b g ws) g ws (k + 1) n) e in
       rw (one c (destroyedAt ws c) (f c (o k (omega arith) (omega arith))) (q .0), shown-any b b′ i n (k + 1) f (λ j x y. o j (omega arith) (omega arith)) (q .1))
     where
-      one : (c : ℕ) (t : Bool) → (figuresIn b g ws c ≡ [] → figuresIn b′ g ws c ≡ []) → (if t then (λ _. []) else λ _. figuresIn b g ws c) ≡ [] → (if t then (λ _. []) else λ _. figuresIn b′ g ws c) ≡ []
+      one : (c : ℕ) (t : Bool) → (figuresIn b g ws c ≡ [] → figuresIn b′ g ws c ≡ []) → (if t then (λ _. []) else λ _. figuresIn b g ws c) ≡ []
+          → (if t then (λ _. []) else λ _. figuresIn b′ g ws c) ≡ []
       one c true f e = refl
       one c false f e = f e
 
