@@ -104,8 +104,11 @@ module _ (program : List ℕ) (ts : List Token) (g : List ℕ) {granted : Amount
         let f = figureAt (r .words) i in
         let t = textOf program (r .texts) (f .text) in
         subst (λ a. length (lineOf a) ≤ lineLimit) (by-kind-number program (r .texts) (f .kind) f refl)
-        (omega (arith, line-short (f .kind) (f .a) (f .b) (f .c) (f .d) t (record { sfits = p .a }) (record { sfits = p .b }) (record { sfits = p .c }) (record { sfits = p .d }),
-        text-short program (r .texts) (f .text)));
+        (omega (
+          arith,
+          line-short (f .kind) (f .a) (f .b) (f .c) (f .d) t (record { sfits = p .a }) (record { sfits = p .b }) (record { sfits = p .c }) (record { sfits = p .d }),
+          text-short program (r .texts) (f .text),
+        ));
   }
 
   -- the scene, measured where no call is under way
@@ -117,8 +120,16 @@ module _ (program : List ℕ) (ts : List Token) (g : List ℕ) {granted : Amount
       mapped (λ _ xs r′ s′ total′ w.
       let a = w .0 in
       let all : sizes (λ a. length (lineOf a)) (shownAll s) < 2 ^ 49 =
-      omega (arith, a .short, m .few, held-within h, fit-spent steps refl granted total total′ (each (λ i. figuresOf (suc i) 0 i) (shapesHeld (s .variables)) s .takings) (w .2),
-      a .related .stepsTaken, a .related .sound .counted .steps, a .related .sound .lent .room .steps) in
+      omega (
+        arith,
+        a .short,
+        m .few,
+        held-within h,
+        fit-spent steps refl granted total total′ (each (λ i. figuresOf (suc i) 0 i) (shapesHeld (s .variables)) s .takings) (w .2),
+        a .related .stepsTaken,
+        a .related .sound .counted .steps,
+        a .related .sound .lent .room .steps,
+      ) in
       record {
         scene = w .1 ∙ scene-shown (a .related);
         lines = rw (w .1, lines-size (shownAll s)) (omega (arith, a .lines, all));

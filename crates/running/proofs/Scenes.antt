@@ -261,5 +261,11 @@ module _ {program : List ℕ} {ts : List Token} {g : List ℕ} {r : Raw} {s : St
 
   pub held-within : length (shapesHeld (s .variables)) ≤ 8192
   unfolding variablesOf
-  held-within = omega (arith, held-few (s .variables), ap (λ (l : List Variable). length l) (h .variables), many (variableAt program ts r) 0 (getD (r .words) declared 0),
-      h .sound .variables .few, among-few (r .words) 8192)
+  held-within = omega (
+    arith,
+    held-few (s .variables),
+    ap (λ (l : List Variable). length l) (h .variables),
+    many (variableAt program ts r) 0 (getD (r .words) declared 0),
+    h .sound .variables .few,
+    among-few (r .words) 8192,
+  )
