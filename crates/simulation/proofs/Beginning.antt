@@ -1,5 +1,5 @@
 -- Where nothing was done yet: words of 0, but on the stack, stand for the empty state. And main's call.
-use Prim.Native.Nat.{ℕ, _+_, _-_, _≤_, _<_}
+use Prim.Native.Nat.{ℕ, zero, suc, _+_, _-_, _*_, _≤_, _<_}
 use native.Mathlib.Omega.{arith}
 use mathlib.Core.Path.{_≡_, refl, sym, _∙_}
 use mathlib.Core.Logic.{_≢_}
@@ -10,7 +10,7 @@ use Rattle.meaning.specs.Basics.{if_then_else_}
 use Rattle.meaning.specs.Token.{Token}
 use Rattle.meaning.specs.State.{State}
 use Rattle.meaning.specs.Run as Run
-use Rattle.meaning.specs.Book.{Amounts, nothingYet, added, resourceNumber, shortageOf}
+use Rattle.meaning.specs.Book.{Amounts, nothingYet, added, lowered, resourceNumber, shortageOf}
 use Rattle.meaning.specs.Program.{empty}
 use Rattle.machine.specs.Words.{unpacked}
 use Rattle.machine.specs.Layout.{
@@ -25,6 +25,8 @@ use Rattle.machine.specs.Layout.{
   running,
   entriesMade,
   componentsMade,
+  loopUnit,
+  entriesGranted,
   callsGranted,
   pathPlace,
   fixedWords,
@@ -181,3 +183,51 @@ module _ {program : List ℕ} {ts : List Token} {g : List ℕ} {r : Raw} {s : St
       → Follows granted total (λ _ _ r′ s′ total′. Called program ts g r r′ s′ total′ × (s′ ≡ s)) (Act.spend callsUsed (callsGranted g) 1 81 p r) (Run.spend Run.calls 1 p s)
   unfolding shortageOf
   calls-main gr = spent Run.calls callsUsed (callsGranted g) 1 81 p r s (h .callsTaken) (gr .calls) refl (steps-told h) (λ fit. (called fit, refl))
+
+-- ---- and is given back
+module _ {program : List ℕ} {ts : List Token} {g : List ℕ} {r : Raw} {s : State} {total : Amounts} (h : Related program ts g r s total)
+    (one : getD (r .words) callsUsed 0 ≡ 1) (idle : getD (r .words) loopUnit 0 ≡ 0) where
+  abbrev left : List ℕ
+  left = set (r .words) callsUsed 0
+
+  as-was : (i : ℕ) → i ≢ callsUsed → getD left i 0 ≡ getD (r .words) i 0
+  as-was i d = getD-set-other (r .words) callsUsed i 0 0 d
+
+  none-called : getD left callsUsed 0 ≡ 0
+  none-called = getD-set-same (r .words) callsUsed 0 0 (omega (arith, h .sound .lent .room .words))
+
+  left-later : Later program r (raw (r .texts) left)
+  left-later = moved-later h left (λ j l. as-was j (λ e. omega arith)) (λ j x y. as-was j (λ e. omega arith)) (λ j l. as-was j (λ e. omega arith))
+
+  left-variables : SameVariables left-later
+  left-variables = same-words left-later (as-was declared (λ e. omega arith)) (as-was running (λ e. omega arith)) (λ i a b. as-was i (λ e. omega arith))
+
+  none-waits : suspendedOf program ts r ≡ []
+  unfolding suspendedOf listed
+  none-waits = rw one
+
+  none-left : suspendedOf program ts (raw (r .texts) left) ≡ []
+  unfolding suspendedOf listed
+  none-left = rw none-called
+
+  left-marks : Marks g left
+  left-marks = record {
+    idle = λ d k x y z. as-was (pathPlace g d k) (λ e. omega arith) ∙ gone d k y z;
+    own = λ k x y. absurd (omega (arith, none-called));
+  }
+    where
+      gone : (d k : ℕ) → d < callsGranted g → k < entriesGranted g → getD (r .words) (pathPlace g d k) 0 ≡ 0
+      gone zero k y z =
+          let q : getD (r .words) callsUsed 0 - 1 ≡ 0 = omega (arith, one) in
+          let m : getD (r .words) (pathPlace g 0 k) 0 ≤ 2 * getD (r .words) loopUnit 0 - 1 = rw q at (h .sound .marks .own k (omega (arith, one)) z) in
+          omega (arith, idle)
+      gone (suc d) k y z = h .sound .marks .idle (suc d) k (omega (arith, one)) y z
+
+  pub returns-main : Related program ts g (raw (r .texts) (set (r .words) callsUsed 0)) s (lowered total)
+  unfolding lowered resourceNumber
+  returns-main =
+      moved-related h left (λ j l. as-was j (λ e. omega arith)) (λ j x y. as-was j (λ e. omega arith)) (λ j l. as-was j (λ e. omega arith)) (length-set (r .words) callsUsed 0)
+      (rw (as-was argumentsHeld (λ e. omega arith)) (h .sound .counted .arguments)) (omega (arith, none-called))
+      (variables-kept left-later left-variables ts (h .sound .variables)) (h .variables ∙ sym (variables-same left-later left-variables ts (h .sound .variables)))
+      (record { within = λ d z l. absurd (omega (arith, none-called)); holds = λ d z l. absurd (omega (arith, none-called)) }) left-marks (h .suspended ∙ none-waits ∙ sym none-left)
+      (omega arith) (omega arith) (omega arith) (omega arith) (omega (arith, h .callsTaken, one, none-called))

@@ -15,7 +15,7 @@ mod Shapes
 mod Grouping
 mod Walking
 mod Destroying
-mod Chaining
+pub mod Chaining
 mod Clearing
 mod Texts
 mod Figures
