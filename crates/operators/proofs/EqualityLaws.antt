@@ -19,10 +19,9 @@ use Rattle.machine.specs.declared.Answer.the-variants.{Good, Bad}
 use Rattle.machine.specs.Words.{numberIn, handleIn, truthIn, unpacked}
 use Rattle.values.proofs.Laws.{unpacked-integer, unpacked-text, unpacked-truth, unpacked-table, unpacked-shape, as-nothing, by-kind}
 use Rattle.machine.specs.declared.Figure.{Figure}
-use Rattle.machine.specs.Act.{Raw, raw, Out, done, stop, goOn, _>>=_, give, fail, shown}
+use Rattle.machine.specs.Act.{Raw, raw, done, stop, goOn, _>>=_, give, fail, shown}
 use Rattle.machine.specs.Texts.{textOf}
 use Rattle.machine.specs.Shapes.{figureAt}
-use Rattle.machine.specs.Groups.{alikeAt}
 use Rattle.machine.specs.Operate.{sameFigure, Comparison, refused, settled, ofShapes, equality, answered, equated, operateOn}
 use Rattle.operators.specs.Parts.{samePair, sameNumbers, kindNumber, unlike, Compares}
 use Rattle.operators.specs.Pairs.{judged, comparison, Alike, Equates}

@@ -1,12 +1,12 @@
 -- Two groups compared pair by pair: the loop does what the comparison does, since nothing on the way changes the words of the depths above.
-use Prim.Native.Nat.{ℕ, zero, suc, _+_, _-_, _*_, _/_, _%_, _^_, _≤_, _<_}
+use Prim.Native.Nat.{ℕ, zero, suc, _+_, _-_, _/_, _%_, _^_, _≤_, _<_}
 use mathlib.Core.Path.{_≡_, refl, ap, sym, _∙_}
 use mathlib.Core.Bool.{Bool, true, false, not, _&&_, _||_}
 use mathlib.Core.List.{List, []}
 use native.Mathlib.Omega.{arith}
 use lib.ListN.{getD, set, length, length-set}
 use lib.Seq.{getD-set-same, getD-set-other}
-use lib.Dec.{eqb, ltb, leb}
+use lib.Dec.{eqb, leb}
 use borrow.Author.Tests.{not-true, not-false, eq-eqb, ne-eqb}
 use Rattle.meaning.specs.Basics.{if_then_else_}
 use Rattle.machine.specs.Layout.{stepsUsed, stepsGranted, shapesGranted, shapePlace, Room}
@@ -14,14 +14,13 @@ use Rattle.machine.specs.Act.{Raw, raw, Out, done, stop, Act, goOn, _>>=_, _>>_
 use Rattle.machine.specs.Shapes.{isGroupAt, destroyedAt, figureAt}
 use Rattle.machine.specs.Groups.{componentAt, firstAt, countAt, wayWord, wayPlace, waitingPlace, passedFrom, pairsFrom, alikeAt}
 use Rattle.machine.specs.Operate.{sameFigure, figuresSame}
-use Rattle.stores.proofs.Acts.{after-pass, after-refusal}
 use Rattle.groups.specs.Walks.{slotIn, leftIn, owed}
-use Rattle.groups.proofs.WalkLaws.{slot-back, left-back, advance-less, climb-less, descend-less, owed-some}
+use Rattle.groups.proofs.WalkLaws.{slot-back, left-back, advance-less, climb-less, descend-less, same-owed, owed-some}
 use Rattle.groups.proofs.TurnLaws.{room-same, way-at, less-one}
 use Rattle.operators.specs.declared.PairTurn.{PairTurn}
 use Rattle.operators.specs.declared.PairTurn.the-variants.{At, Settled}
-use Rattle.operators.specs.Pairs.{judged, bothLaid, pairAt, pairLevel, pairAbove, pairRest, pairAfter, pairFirst, pairBy, metBy, backBoth}
-use Rattle.operators.specs.Pairs.{Pairs, PairsBy, leftBy, Passing, Backs, Within, Paired, PairedFirst, PairEnds, Meets, PairsWithin, Alike}
+use Rattle.operators.specs.Pairs.{judged, bothLaid, pairAt, pairLevel, pairAbove, pairRest, pairAfter, pairKept, pairFirst, pairBy, metBy, backBoth}
+use Rattle.operators.specs.Pairs.{Pairs, PairsBy, leftBy, Passing, Backs, Kept, Within, Paired, PairedFirst, Follows, PairEnds, Meets, PairsWithin, Alike}
 
 -- ---- acts that spare a word
 unfoldable Spares : {A : Type 0} → ℕ → Raw → Out A → Type 0
@@ -95,33 +94,30 @@ module _ (program g ts ws : List ℕ) (d i j : ℕ) where
   meet-beyond h = let z : shapesGranted g - d ≡ 0 = omega arith in record { equal = λ p. rw z; deep = λ e. absurd (omega arith); small = omega arith }
 
   module _ (h : d < shapesGranted g) where
-    alike-below : (p : ℕ) (b : ℕ) → shapesGranted g - d ≡ suc b → alikeAt (figuresSame program) (shapesGranted g - d) g p d i j (raw ts ws) ≡ alikeAt (figuresSame program) (suc b) g p d i j (raw ts ws)
-    alike-below p b e = rw e
-
-    next-below : shapesGranted g - d ≡ suc (shapesGranted g - suc d)
-    next-below = omega arith
+    alike-below : (p : ℕ) → alikeAt (figuresSame program) (shapesGranted g - d) g p d i j (raw ts ws) ≡ alikeAt (figuresSame program) (suc (shapesGranted g - suc d)) g p d i j (raw ts ws)
+    alike-below p = let z : shapesGranted g - d ≡ suc (shapesGranted g - suc d) = omega arith in rw z
 
     module _ (a : Bool) (e : a ≡ isGroupAt ws i) (c : Bool) (f : c ≡ isGroupAt ws j) where
       pub meet-groups : a ≡ true → c ≡ true → Meets program g ts ws d i j 2
       unfolding metBy pairLevel pairAt alikeAt _>>=_ goOn held if_then_else_
-      meet-groups t u = record { equal = λ p. sym (alike-below p (shapesGranted g - suc d) next-below ∙ rw (← e, ← f, t, u)); deep = λ _. h; small = omega arith }
+      meet-groups t u = record { equal = λ p. sym (alike-below p ∙ rw (← e, ← f, t, u)); deep = λ _. h; small = omega arith }
 
       pub meet-group-left : a ≡ true → c ≡ false → Meets program g ts ws d i j 0
       unfolding metBy judged alikeAt _>>=_ goOn held give if_then_else_
-      meet-group-left t u = record { equal = λ p. sym (alike-below p (shapesGranted g - suc d) next-below ∙ rw (← e, ← f, t, u)); deep = λ z. absurd (omega arith); small = omega arith }
+      meet-group-left t u = record { equal = λ p. sym (alike-below p ∙ rw (← e, ← f, t, u)); deep = λ z. absurd (omega arith); small = omega arith }
 
       pub meet-group-right : a ≡ false → c ≡ true → Meets program g ts ws d i j 0
       unfolding metBy judged alikeAt _>>=_ goOn held give if_then_else_
-      meet-group-right t u = record { equal = λ p. sym (alike-below p (shapesGranted g - suc d) next-below ∙ rw (← e, ← f, t, u)); deep = λ z. absurd (omega arith); small = omega arith }
+      meet-group-right t u = record { equal = λ p. sym (alike-below p ∙ rw (← e, ← f, t, u)); deep = λ z. absurd (omega arith); small = omega arith }
 
       module _ (t : a ≡ false) (u : c ≡ false) (s : Bool) (v : s ≡ sameFigure program ts (figureAt ws i) (figureAt ws j)) where
         pub meet-same : s ≡ true → Meets program g ts ws d i j 1
         unfolding metBy judged alikeAt figuresSame _>>=_ goOn held give if_then_else_
-        meet-same x = record { equal = λ p. sym (alike-below p (shapesGranted g - suc d) next-below ∙ rw (← e, ← f, t, u, ← v, x)); deep = λ z. absurd (omega arith); small = omega arith }
+        meet-same x = record { equal = λ p. sym (alike-below p ∙ rw (← e, ← f, t, u, ← v, x)); deep = λ z. absurd (omega arith); small = omega arith }
 
         pub meet-other : s ≡ false → Meets program g ts ws d i j 0
         unfolding metBy judged alikeAt figuresSame _>>=_ goOn held give if_then_else_
-        meet-other x = record { equal = λ p. sym (alike-below p (shapesGranted g - suc d) next-below ∙ rw (← e, ← f, t, u, ← v, x)); deep = λ z. absurd (omega arith); small = omega arith }
+        meet-other x = record { equal = λ p. sym (alike-below p ∙ rw (← e, ← f, t, u, ← v, x)); deep = λ z. absurd (omega arith); small = omega arith }
 
 -- ---- one act and then another
 then-alike : (o : Out Bool) (k k′ : Bool → Act Bool) → ((b : Bool) (r : Raw) → o ≡ done b r → k b r ≡ k′ b r) → goOn o k ≡ goOn o k′
@@ -172,59 +168,52 @@ module _ (program g : List ℕ) (p : ℕ) where
     unfolding pairRest pairLevel pairsFrom pairFirst pairAfter _>>=_ goOn held if_then_else_
     goes-on e y q f = rw (e, ← q, f)
 
-  -- a pair
-  module _ (d k n l m : ℕ) (ts ws ws₁ : List ℕ) (h : Passes ws 79 (count g) true ws₁) where
-    abbrev below : Raw
-    below = raw ts (bothLaid ws₁ d k n l m)
-
+  -- a pair whose ways are kept
+  module _ (d k n l m : ℕ) (r : Raw) where
     abbrev met : Out Bool
-    met = alikeAt (figuresSame program) (shapesGranted g - suc d) g p (suc d) (componentAt g (below .words) k) (componentAt g (below .words) l) below
+    met = alikeAt (figuresSame program) (shapesGranted g - suc d) g p (suc d) (componentAt g (r .words) k) (componentAt g (r .words) l) r
 
-    first-met : pairFirst program g p d k n l m (raw ts ws) ≡ goOn (goOn met (pairAfter program g p d k n l m)) (pairAbove program g p d)
-    unfolding pairFirst pairAt bothLaid _>>=_ goOn held store passed
-    first-met = let one : d + 1 ≡ suc d = omega arith in rw (← h .equal p ts, one)
+    kept-met : pairKept program g p d k n l m r ≡ goOn (goOn met (pairAfter program g p d k n l m)) (pairAbove program g p d)
+    unfolding pairKept _>>=_ goOn held
+    kept-met = let one : d + 1 ≡ suc d = omega arith in rw one
 
-    first-apart : met ≡ done false below → pairFirst program g p d k n l m (raw ts ws) ≡ done false below
+    kept-apart : met ≡ done false r → pairKept program g p d k n l m r ≡ done false r
     unfolding pairAfter goOn give if_then_else_
-    first-apart e = first-met ∙ rw e (unequal-above d below)
+    kept-apart e = kept-met ∙ rw e (unequal-above d r)
 
-    first-same : met ≡ done true below → pairFirst program g p d k n l m (raw ts ws) ≡ pairRest program g p d (k + 1) n (l + 1) m below
+    kept-same : met ≡ done true r → pairKept program g p d k n l m r ≡ pairRest program g p d (k + 1) n (l + 1) m r
     unfolding pairAfter pairRest _>>=_ goOn if_then_else_
-    first-same e = first-met ∙ rw e
+    kept-same e = kept-met ∙ rw e
 
-    module _ (deep : d < shapesGranted g) (small : k < 2 ^ 17) (few : n < 2 ^ 16) (small′ : l < 2 ^ 17) (few′ : m < 2 ^ 16) (long : waitingPlace d < length ws₁) where
-      left-here : getD (below .words) (wayPlace d) 0 ≡ wayWord k n 0
-      unfolding bothLaid
-      left-here =
-          getD-set-other (set ws₁ (wayPlace d) (wayWord k n 0)) (waitingPlace d) (wayPlace d) (wayWord l m 0) 0 (λ e. omega arith)
-          ∙ getD-set-same ws₁ (wayPlace d) (wayWord k n 0) 0 (omega arith)
-
-      right-here : getD (below .words) (waitingPlace d) 0 ≡ wayWord l m 0
-      unfolding bothLaid
-      right-here =
-          let z = length-set ws₁ (wayPlace d) (wayWord k n 0) in
-          getD-set-same (set ws₁ (wayPlace d) (wayWord k n 0)) (waitingPlace d) (wayWord l m 0) 0 (omega (arith, z))
-
-      comes-back : (b : Bool) (r : Raw) → met ≡ done b r → (pairAfter program g p d k n l m b >>= pairAbove program g p d) r ≡ pairAbove program g p (suc d) b r
+    module _ (w : Kept g (r .words) d k n l m) where
+      comes-back : (b : Bool) (r′ : Raw) → met ≡ done b r′ → (pairAfter program g p d k n l m b >>= pairAbove program g p d) r′ ≡ pairAbove program g p (suc d) b r′
       unfolding pairAbove pairAfter _>>=_ goOn give load if_then_else_
-      comes-back false r e = unequal-above d r
-      comes-back true r e =
-          let i = componentAt g (below .words) k in
-          let j = componentAt g (below .words) l in
-          let w : getD (r .words) (wayPlace d) 0 ≡ wayWord k n 0 =
-          spared (wayPlace d) below met true r (alike-spares program g p (wayPlace d) (omega arith) (shapesGranted g - suc d) (suc d) (omega arith) i j below) e ∙ left-here in
-          let v : getD (r .words) (waitingPlace d) 0 ≡ wayWord l m 0 =
-          spared (waitingPlace d) below met true r (alike-spares program g p (waitingPlace d) (omega arith) (shapesGranted g - suc d) (suc d) (omega arith) i j below) e ∙ right-here in
-          rw (w, v, slot-back k n 0 small, left-back k n 0 few, slot-back l m 0 small′, left-back l m 0 few′)
+      comes-back false r′ e = unequal-above d r′
+      comes-back true r′ e =
+          let i = componentAt g (r .words) k in
+          let j = componentAt g (r .words) l in
+          let a = w .pairs in
+          let u : getD (r′ .words) (wayPlace d) 0 ≡ wayWord k n 0 =
+          spared (wayPlace d) r met true r′ (alike-spares program g p (wayPlace d) (omega arith) (shapesGranted g - suc d) (suc d) (omega arith) i j r) e ∙ w .left in
+          let v : getD (r′ .words) (waitingPlace d) 0 ≡ wayWord l m 0 =
+          spared (waitingPlace d) r met true r′ (alike-spares program g p (waitingPlace d) (omega arith) (shapesGranted g - suc d) (suc d) (omega arith) i j r) e ∙ w .right in
+          let left = left-back k n 0 (omega (arith, a .few)) in
+          let left′ = left-back l m 0 (omega (arith, a .few′)) in
+          rw (u, v, slot-back k n 0 (omega (arith, a .small)), left, slot-back l m 0 (omega (arith, a .small′)), left′)
 
-      first-down : (i j : ℕ) → met ≡ pairLevel program g p (suc d) (firstAt (below .words) i) (countAt (below .words) i) (firstAt (below .words) j) (countAt (below .words) j) below
-          → pairFirst program g p d k n l m (raw ts ws)
-          ≡ pairRest program g p (suc d) (firstAt (below .words) i) (countAt (below .words) i) (firstAt (below .words) j) (countAt (below .words) j) below
+      kept-down : (i j : ℕ) → met ≡ pairLevel program g p (suc d) (firstAt (r .words) i) (countAt (r .words) i) (firstAt (r .words) j) (countAt (r .words) j) r
+          → pairKept program g p d k n l m r ≡ pairRest program g p (suc d) (firstAt (r .words) i) (countAt (r .words) i) (firstAt (r .words) j) (countAt (r .words) j) r
       unfolding pairRest _>>=_
-      first-down i j e =
-          first-met ∙ go-then met (pairAfter program g p d k n l m) (pairAbove program g p d)
+      kept-down i j e =
+          kept-met ∙ go-then met (pairAfter program g p d k n l m) (pairAbove program g p d)
           ∙ then-alike met (λ b. pairAfter program g p d k n l m b >>= pairAbove program g p d) (pairAbove program g p (suc d)) comes-back
           ∙ ap (λ o. goOn o (pairAbove program g p (suc d))) e
+
+  -- a step is counted, and the ways are kept
+  first-kept : (d k n l m : ℕ) (ts ws ws₁ : List ℕ) → Passes ws 79 (count g) true ws₁
+      → pairFirst program g p d k n l m (raw ts ws) ≡ pairKept program g p d k n l m (raw ts (bothLaid ws₁ d k n l m))
+  unfolding pairFirst pairKept pairAt bothLaid _>>=_ goOn held store passed
+  first-kept d k n l m ts ws ws₁ h = rw (← h .equal p ts)
 
 -- ---- those passed over
 pub passed-most : (g ws : List ℕ) (k n : ℕ) → passedFrom g ws k n ≤ n
@@ -272,7 +261,8 @@ module _ (g ws : List ℕ) (k n : ℕ) where
           record { rest = omega (arith, r, s); most = omega arith }
 
 -- ---- the ways
-pub keeps-both : (ws ws₁ ws₂ : List ℕ) (d k n l m at v w : ℕ) → at ≡ shapePlace d → v ≡ wayWord k n 0 → ws₁ ≡ set ws (at + 3) v → w ≡ wayWord l m 0 → ws₂ ≡ set ws₁ (at + 3 + 1) w → ws₂ ≡ bothLaid ws d k n l m
+pub keeps-both : (ws ws₁ ws₂ : List ℕ) (d k n l m at v w : ℕ) → at ≡ shapePlace d → v ≡ wayWord k n 0 → ws₁ ≡ set ws (at + 3) v
+    → w ≡ wayWord l m 0 → ws₂ ≡ set ws₁ (at + 3 + 1) w → ws₂ ≡ bothLaid ws d k n l m
 unfolding bothLaid
 keeps-both ws ws₁ ws₂ d k n l m at v w e f h q i =
     let a : at + 3 ≡ wayPlace d = omega (arith, e) in
@@ -413,112 +403,123 @@ module _ (g ws : List ℕ) (l m y : ℕ) (e : y ≡ passedFrom g ws l m) where
   right-more h = let x = right-most in omega (arith, x, h)
 
 -- ---- a pair
-module _ (program g ts ws : List ℕ) (d k n l m : ℕ) (a : Pairs g ws d k (n + 1) l (m + 1)) (ok : Bool) (ws₁ : List ℕ) (h : Passes ws 79 (count g) ok ws₁) where
-  pub pair-stops : not ok ≡ true → PairedFirst program g ts ws d k n l m (Settled 79) ws₁
+module _ (program g ts ws : List ℕ) (d k n l m : ℕ) (w : Kept g ws d k n l m) (i j : ℕ) (e : i ≡ componentAt g ws k) (f : j ≡ componentAt g ws l) (number : ℕ)
+    (s : Meets program g ts ws (d + 1) i j number) where
+  met-as : (p : ℕ) → metBy program g p number (suc d) i j ts ws ≡ met program g p d k n l m (raw ts ws)
+  met-as p = let one : d + 1 ≡ suc d = omega arith in (rw one at s) .equal p ∙ rw (e, f)
+
+  pub follow-apart : (number ≡ 1 → ⊥) → (number ≡ 2 → ⊥) → Follows program g ts ws d k n l m (Settled 0)
+  unfolding pairBy PairsBy leftBy metBy judged if_then_else_
+  follow-apart y z =
+      let none : number ≡ 0 = omega (arith, s .small, y, z) in
+      record {
+        equal = λ p. sym (kept-apart program g p d k n l m (raw ts ws) (sym (met-as p) ∙ rw none));
+        pairs = tt;
+        less = owed-some (shapesGranted g) ws d (suc n);
+      }
+
+  pub follow-same : number ≡ 1 → Follows program g ts ws d k n l m (At d (k + 1) n (l + 1) m)
+  unfolding pairBy PairsBy leftBy metBy judged if_then_else_
+  follow-same z =
+      let a = w .pairs in
+      record {
+        equal = λ p. sym (kept-same program g p d k n l m (raw ts ws) (sym (met-as p) ∙ rw z));
+        pairs = record {
+          room = a .room;
+          deep = a .deep;
+          small = omega (arith, a .small);
+          few = omega (arith, a .few);
+          small′ = omega (arith, a .small′);
+          few′ = omega (arith, a .few′);
+          ways = a .ways;
+          ways′ = a .ways′;
+        };
+        less = advance-less (shapesGranted g) ws ws d n (λ e y. refl);
+      }
+
+  following-down : number ≡ 2 → Follows program g ts ws d k n l m (At (suc d) (firstAt ws i) (countAt ws i) (firstAt ws j) (countAt ws j))
+  unfolding pairBy PairsBy leftBy metBy judged if_then_else_
+  following-down z =
+      let a = w .pairs in
+      let deep = s .deep z in
+      let slot : slotIn (getD ws (wayPlace d) 0) ≡ k = ap slotIn (w .left) ∙ slot-back k n 0 (omega (arith, a .small)) in
+      let left : leftIn (getD ws (wayPlace d) 0) ≡ n = ap leftIn (w .left) ∙ left-back k n 0 (omega (arith, a .few)) in
+      let slot′ : slotIn (getD ws (waitingPlace d) 0) ≡ l = ap slotIn (w .right) ∙ slot-back l m 0 (omega (arith, a .small′)) in
+      let left′ : leftIn (getD ws (waitingPlace d) 0) ≡ m = ap leftIn (w .right) ∙ left-back l m 0 (omega (arith, a .few′)) in
+      record {
+        equal = λ p. sym (kept-down program g p d k n l m (raw ts ws) w i j (sym (met-as p) ∙ rw z));
+        pairs = record {
+          room = a .room;
+          deep = omega (arith, deep);
+          small = omega arith;
+          few = omega arith;
+          small′ = omega arith;
+          few′ = omega arith;
+          ways = λ e y. way-at d e y (λ v. rw v (omega (arith, slot, left, a .small))) (a .ways e);
+          ways′ = λ e y. way-at d e y (λ v. rw v (omega (arith, slot′, left′, a .small′))) (a .ways′ e);
+        };
+        less = descend-less (shapesGranted g) ws ws d n (countAt ws i) (a .deep) (omega arith) left (λ e y. refl);
+      }
+
+  pub follow-down : (k₁ n₁ l₁ m₁ : ℕ) → number ≡ 2 → k₁ ≡ firstAt ws i → n₁ ≡ countAt ws i → l₁ ≡ firstAt ws j → m₁ ≡ countAt ws j
+      → Follows program g ts ws d k n l m (At (d + 1) k₁ n₁ l₁ m₁)
+  follow-down k₁ n₁ l₁ m₁ z u v x y = let one : d + 1 ≡ suc d = omega arith in rw (u, v, x, y, one) (following-down z)
+
+module _ (g ws : List ℕ) (d k n l m : ℕ) (a : Pairs g ws d k (n + 1) l (m + 1)) (ok : Bool) (ws₁ : List ℕ) (h : Passes ws 79 (count g) ok ws₁) where
+  pub pair-stops : (program ts : List ℕ) → not ok ≡ true → PairedFirst program g ts ws d k n l m (Settled 79) ws₁
   unfolding pairBy judged PairsBy leftBy pairFirst pairAt _>>=_ goOn passed if_then_else_
-  pair-stops t = record {
+  pair-stops program ts t = record {
     equal = λ p. let q = (rw (not-true ok t) at h) .equal p ts in rw (← q);
     pairs = tt;
     less = owed-some (shapesGranted g) ws d (suc n);
   }
 
-  module _ (t : not ok ≡ false) (ws₂ : List ℕ) (q : ws₂ ≡ bothLaid ws₁ d k n l m) (i j : ℕ) (e : i ≡ componentAt g ws₂ k) (f : j ≡ componentAt g ws₂ l) (number : ℕ)
-      (s : Meets program g ts ws₂ (d + 1) i j number) (x : length ws₁ ≡ length ws) where
+  module _ (t : not ok ≡ false) (ws₂ : List ℕ) (q : ws₂ ≡ bothLaid ws₁ d k n l m) where
     went : Passes ws 79 (count g) true ws₁
     went = rw (not-false ok t) at h
-
-    met-as : (p : ℕ) → metBy program g p number (suc d) i j ts (bothLaid ws₁ d k n l m) ≡ met program g p d k n l m ts ws ws₁ went
-    met-as p =
-        let one : d + 1 ≡ suc d = omega arith in
-        let v = rw (one, e, f, q) at s in
-        rw (e, f, q) (v .equal p)
 
     counted : (at : ℕ) → 0 < at → getD ws₁ at 0 ≡ getD ws at 0
     unfolding passed
     counted at z = spared at (raw [] ws) (count g 0 (raw [] ws)) tt (raw [] ws₁) (count-spares g 0 at z (raw [] ws)) (sym (went .equal 0 []))
 
-    abbrev laid : List ℕ
-    laid = bothLaid ws₁ d k n l m
-
-    long-laid : length laid ≡ length ws
-    unfolding bothLaid
-    long-laid = length-set (set ws₁ (wayPlace d) (wayWord k n 0)) (waitingPlace d) (wayWord l m 0) ∙ length-set ws₁ (wayPlace d) (wayWord k n 0) ∙ x
-
     -- the depths above are as they were
-    above-kept : (at : ℕ) → 0 < at → at < wayPlace d → getD laid at 0 ≡ getD ws at 0
+    above-kept : (at : ℕ) → 0 < at → at < wayPlace d → getD (bothLaid ws₁ d k n l m) at 0 ≡ getD ws at 0
     unfolding bothLaid
     above-kept at z y =
         getD-set-other (set ws₁ (wayPlace d) (wayWord k n 0)) (waitingPlace d) at (wayWord l m 0) 0 (λ e. omega arith)
         ∙ getD-set-other ws₁ (wayPlace d) at (wayWord k n 0) 0 (λ e. omega arith) ∙ counted at z
 
-    left-kept : (e : ℕ) → e < d → getD laid (wayPlace e) 0 ≡ getD ws (wayPlace e) 0
-    left-kept e y = above-kept (wayPlace e) (omega arith) (omega arith)
-
-    right-kept : (e : ℕ) → e < d → getD laid (waitingPlace e) 0 ≡ getD ws (waitingPlace e) 0
-    right-kept e y = above-kept (waitingPlace e) (omega arith) (omega arith)
-
-    pub pair-apart : (number ≡ 1 → ⊥) → (number ≡ 2 → ⊥) → PairedFirst program g ts ws d k n l m (Settled 0) ws₂
-    unfolding pairBy PairsBy leftBy metBy judged if_then_else_
-    pair-apart y z =
-        let none : number ≡ 0 = omega (arith, s .small, y, z) in
+    pub keeps : length ws₁ ≡ length ws → Kept g ws₂ d k n l m
+    unfolding bothLaid
+    keeps x =
+        let long : waitingPlace d < length ws₁ = rw x (omega (arith, a .room .words, a .deep)) in
+        let z = length-set ws₁ (wayPlace d) (wayWord k n 0) in
         rw q record {
-          equal = λ p. sym (first-apart program g p d k n l m ts ws ws₁ went (sym (met-as p) ∙ rw none));
-          pairs = tt;
-          less = owed-some (shapesGranted g) ws d (suc n);
-        }
-
-    pub pair-same : number ≡ 1 → PairedFirst program g ts ws d k n l m (At d (k + 1) n (l + 1) m) ws₂
-    unfolding pairBy PairsBy leftBy metBy judged if_then_else_
-    pair-same z = rw q record {
-      equal = λ p. sym (first-same program g p d k n l m ts ws ws₁ went (sym (met-as p) ∙ rw z));
-      pairs = record {
-        room = room-same (a .room) long-laid;
-        deep = a .deep;
-        small = omega (arith, a .small);
-        few = omega (arith, a .few);
-        small′ = omega (arith, a .small′);
-        few′ = omega (arith, a .few′);
-        ways = λ e y. rw (left-kept e y) (a .ways e y);
-        ways′ = λ e y. rw (right-kept e y) (a .ways′ e y);
-      };
-      less = advance-less (shapesGranted g) ws laid d n left-kept;
-    }
-
-    long-way : waitingPlace d < length ws₁
-    long-way = rw x (omega (arith, a .room .words, a .deep))
-
-    left-way : getD laid (wayPlace d) 0 ≡ wayWord k n 0
-    left-way = left-here program g 0 d k n l m ts ws ws₁ went (a .deep) (omega (arith, a .small)) (omega (arith, a .few)) (omega (arith, a .small′)) (omega (arith, a .few′)) long-way
-
-    right-way : getD laid (waitingPlace d) 0 ≡ wayWord l m 0
-    right-way = right-here program g 0 d k n l m ts ws ws₁ went (a .deep) (omega (arith, a .small)) (omega (arith, a .few)) (omega (arith, a .small′)) (omega (arith, a .few′)) long-way
-
-    pairing-down : number ≡ 2 → PairedFirst program g ts ws d k n l m (At (suc d) (firstAt laid i) (countAt laid i) (firstAt laid j) (countAt laid j)) laid
-    unfolding pairBy PairsBy leftBy metBy judged if_then_else_
-    pairing-down z =
-        let deep = s .deep z in
-        let slot : slotIn (getD laid (wayPlace d) 0) ≡ k = ap slotIn left-way ∙ slot-back k n 0 (omega (arith, a .small)) in
-        let left : leftIn (getD laid (wayPlace d) 0) ≡ n = ap leftIn left-way ∙ left-back k n 0 (omega (arith, a .few)) in
-        let slot′ : slotIn (getD laid (waitingPlace d) 0) ≡ l = ap slotIn right-way ∙ slot-back l m 0 (omega (arith, a .small′)) in
-        let left′ : leftIn (getD laid (waitingPlace d) 0) ≡ m = ap leftIn right-way ∙ left-back l m 0 (omega (arith, a .few′)) in
-        record {
-          equal = λ p. sym (first-down program g p d k n l m ts ws ws₁ went (a .deep) (omega (arith, a .small)) (omega (arith, a .few)) (omega (arith, a .small′)) (omega (arith, a .few′)) long-way
-              i j (sym (met-as p) ∙ rw z));
           pairs = record {
-            room = room-same (a .room) long-laid;
-            deep = omega (arith, deep);
-            small = omega arith;
-            few = omega arith;
-            small′ = omega arith;
-            few′ = omega arith;
-            ways = λ e y. way-at d e y (λ v. rw v (omega (arith, slot, left, a .small))) (λ v. rw (left-kept e v) (a .ways e v));
-            ways′ = λ e y. way-at d e y (λ v. rw v (omega (arith, slot′, left′, a .small′))) (λ v. rw (right-kept e v) (a .ways′ e v));
+            room = room-same (a .room) (length-set (set ws₁ (wayPlace d) (wayWord k n 0)) (waitingPlace d) (wayWord l m 0) ∙ z ∙ x);
+            deep = a .deep;
+            small = a .small;
+            few = a .few;
+            small′ = a .small′;
+            few′ = a .few′;
+            ways = λ e y. rw (above-kept (wayPlace e) (omega arith) (omega arith)) (a .ways e y);
+            ways′ = λ e y. rw (above-kept (waitingPlace e) (omega arith) (omega arith)) (a .ways′ e y);
           };
-          less = descend-less (shapesGranted g) ws laid d n (countAt laid i) (a .deep) (omega arith) left left-kept;
+          left = getD-set-other (set ws₁ (wayPlace d) (wayWord k n 0)) (waitingPlace d) (wayPlace d) (wayWord l m 0) 0 (λ e. omega arith)
+              ∙ getD-set-same ws₁ (wayPlace d) (wayWord k n 0) 0 (omega arith);
+          right = getD-set-same (set ws₁ (wayPlace d) (wayWord k n 0)) (waitingPlace d) (wayWord l m 0) 0 (omega (arith, z));
         }
 
-    pub pair-down : (k₁ n₁ l₁ m₁ : ℕ) → number ≡ 2 → k₁ ≡ firstAt ws₂ i → n₁ ≡ countAt ws₂ i → l₁ ≡ firstAt ws₂ j → m₁ ≡ countAt ws₂ j → PairedFirst program g ts ws d k n l m (At (d + 1) k₁ n₁ l₁ m₁) ws₂
-    pair-down k₁ n₁ l₁ m₁ z u v y w = let one : d + 1 ≡ suc d = omega arith in rw (u, v, y, w, q, one) (pairing-down z)
+    pub pair-follows : (program ts : List ℕ) (r : PairTurn) → Follows program g ts ws₂ d k n l m r → PairedFirst program g ts ws d k n l m r ws₂
+    unfolding owed
+    pair-follows program ts r w =
+        let v = rw q at w in
+        let same = same-owed (shapesGranted g) ws (bothLaid ws₁ d k n l m) d (λ e y. above-kept (wayPlace e) (omega arith) (omega arith)) in
+        rw q record {
+          equal = λ p. v .equal p ∙ sym (first-kept program g p d k n l m ts ws ws₁ went);
+          pairs = v .pairs;
+          less = rw same at (v .less);
+        }
 
 -- ---- the loop
 pub record PairsGo (program g ts : List ℕ) (i j : ℕ) (ws₀ ws : List ℕ) (d k n l m : ℕ) : Type 0 where

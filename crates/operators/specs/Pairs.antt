@@ -48,9 +48,14 @@ module _ (program g : List ℕ) (p : ℕ) where
   unfoldable pub pairRest : ℕ → ℕ → ℕ → ℕ → ℕ → Act Bool
   pairRest d k n l m = pairLevel d k n l m >>= pairAbove d
 
-  -- after a pair, and the pair itself with all that is left
+  -- after a pair; a pair whose ways are kept, and a pair, each with all that is left
   unfoldable pub pairAfter : ℕ → ℕ → ℕ → ℕ → ℕ → Bool → Act Bool
   pairAfter d k n l m b = if b then (λ _. pairLevel d (k + 1) n (l + 1) m) else λ _. give false
+
+  unfoldable pub pairKept : ℕ → ℕ → ℕ → ℕ → ℕ → Act Bool
+  pairKept d k n l m =
+      (held >>= λ ws. alikeAt (figuresSame program) (shapesGranted g - suc d) g p (d + 1) (componentAt g ws k) (componentAt g ws l))
+      >>= pairAfter d k n l m >>= pairAbove d
 
   unfoldable pub pairFirst : ℕ → ℕ → ℕ → ℕ → ℕ → Act Bool
   pairFirst d k n l m = pairAt (shapesGranted g - suc d) d k n l m >>= pairAfter d k n l m >>= pairAbove d
@@ -100,6 +105,12 @@ pub record Backs (ws : List ℕ) (d : ℕ) : Type 0 where
   pub left : slotIn (getD ws (wayPlace d) 0) + leftIn (getD ws (wayPlace d) 0) + 1 < 2 ^ 17
   pub right : slotIn (getD ws (waitingPlace d) 0) + leftIn (getD ws (waitingPlace d) 0) + 1 < 2 ^ 17
 
+-- the ways kept for a pair
+pub record Kept (g ws : List ℕ) (d k n l m : ℕ) : Type 0 where
+  pub pairs : Pairs g ws d k (n + 1) l (m + 1)
+  pub left : getD ws (wayPlace d) 0 ≡ wayWord k n 0
+  pub right : getD ws (waitingPlace d) 0 ≡ wayWord l m 0
+
 pub record Within (g ws : List ℕ) : Type 0 where
   pub room : Room g ws
   pub some : 0 < shapesGranted g
@@ -120,6 +131,12 @@ pub record PairedFirst (program g ts ws : List ℕ) (d k n l m : ℕ) (turn : Pa
   pub equal : (p : ℕ) → pairBy program g p turn ts ws′ ≡ pairFirst program g p d k n l m (raw ts ws)
   pub pairs : PairsBy g ws′ turn
   pub less : leftBy (shapesGranted g) ws′ turn < owed (shapesGranted g) ws d (suc n)
+
+-- its ways are kept: the words are not changed
+pub record Follows (program g ts ws : List ℕ) (d k n l m : ℕ) (turn : PairTurn) : Type 0 where
+  pub equal : (p : ℕ) → pairBy program g p turn ts ws ≡ pairKept program g p d k n l m (raw ts ws)
+  pub pairs : PairsBy g ws turn
+  pub less : leftBy (shapesGranted g) ws turn < owed (shapesGranted g) ws d (suc n)
 
 -- the end of a level on the left side
 pub record PairEnds (g ws : List ℕ) (d k l m : ℕ) (turn : PairTurn) : Type 0 where

@@ -10,7 +10,7 @@ ghost use Prim.Native.Nat.{_+_};
 ghost use mathlib.Core.Path.{_≡_};
 ghost use Rattle.machine.specs.Layout.{Room};
 ghost use Rattle.machine.specs.Groups.{wayWord, passedFrom};
-ghost use Rattle.operators.specs.Pairs.{bothLaid, backBoth, Passing, Backs, Pairs, Within, Paired, PairedFirst, PairEnds, Meets, PairsWithin, Alike};
+ghost use Rattle.operators.specs.Pairs.{bothLaid, backBoth, Passing, Backs, Pairs, Kept, Within, Paired, PairedFirst, Follows, PairEnds, Meets, PairsWithin, Alike};
 
 // How many of n components from slot k on stand before the first that is not destroyed.
 fn passed_from(words: &[u64], grants: &[u64; 5], k: u32, n: u32) -> u32
@@ -105,7 +105,37 @@ fn meet<'a>(
     0
 }
 
-// A pair, its slots followed by n and m components: a step is counted for it, and the ways are kept.
+// What follows a pair whose ways are kept: down into two groups, on behind two equal figures, or the verdict.
+fn follow<'a>(
+    program: &'a [u8],
+    texts: &'a [u8],
+    words: &[u64],
+    grants: &[u64; 5],
+    d: u32,
+    k: u32,
+    n: u32,
+    l: u32,
+    m: u32,
+) -> PairTurn
+    requires { ⌜ Kept (now grants) (now words) d k n l m ⌝ }
+    ensures { λ r. ⌜ Follows (now (program .entry)) (now (grants .entry)) (now (texts .entry)) (now (words .entry)) d k n l m r ⌝ }
+{
+    let i = components::component_at(words, grants, k);
+    let j = components::component_at(words, grants, l);
+    match meet(program, texts, words, grants, d + 1, i, j) {
+        1 => PairTurn::At(d, k + 1, n, l + 1, m),
+        2 => PairTurn::At(
+            d + 1,
+            components::first_at(words, i),
+            components::count_at(words, i),
+            components::first_at(words, j),
+            components::count_at(words, j),
+        ),
+        _ => PairTurn::Settled(0),
+    }
+}
+
+// A pair, its slots followed by n and m components: a step is counted for it.
 fn pair<'a>(
     program: &'a [u8],
     texts: &'a [u8],
@@ -124,19 +154,7 @@ fn pair<'a>(
         return PairTurn::Settled(79);
     }
     keep(words, d, k, n, l, m);
-    let i = components::component_at(words, grants, k);
-    let j = components::component_at(words, grants, l);
-    match meet(program, texts, words, grants, d + 1, i, j) {
-        1 => PairTurn::At(d, k + 1, n, l + 1, m),
-        2 => PairTurn::At(
-            d + 1,
-            components::first_at(words, i),
-            components::count_at(words, i),
-            components::first_at(words, j),
-            components::count_at(words, j),
-        ),
-        _ => PairTurn::Settled(0),
-    }
+    follow(program, texts, words, grants, d, k, n, l, m)
 }
 
 // A turn: up from the end of a depth, past a destroyed component, or a pair.

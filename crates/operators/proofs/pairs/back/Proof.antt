@@ -1,5 +1,4 @@
 use borrow.Author.Needs.{needs}
-use native.Mathlib.Omega.{arith}
 use Rattle.operators.proofs.PairLaws.{back-both, back-fits, back-fits′}
 use Rattle.operators.proofs.pairs.back.Statement.{statement}
 use Rattle.operators.proofs.pairs.back.Tie as tie
