@@ -15,7 +15,7 @@ use Rattle.meaning.specs.Run as Run
 use Rattle.meaning.specs.Figure.{Figure}
 use Rattle.meaning.specs.Picture.{pictureOf}
 use Rattle.meaning.specs.Program.{Outcome, drawn, drawing, empty, performing, specified}
-use Rattle.meaning.specs.Book.{Amounts, nothingYet, added, lowered, fits, Booked, allFit, lacking, book, pictured, number, shortageOf, lengthNeeded, resourceNumber, answerTo, settled, booked}
+use Rattle.meaning.specs.Book.{Amounts, nothingYet, added, lowered, fits, allFit, lacking, book, pictured, number, shortageOf, lengthNeeded, resourceNumber, answerTo, settled, booked}
 use Rattle.meaning.specs.Call.{granted, outAfterEnd}
 use Rattle.meaning.proofs.BookLaws.{part, spent, onFit, book-append}
 use Rattle.claims.proofs.Booking.{lacking-no-fit}

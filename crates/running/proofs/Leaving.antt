@@ -1,10 +1,10 @@
 -- Main returns: its call is given back, and the scene that is measured is the one that is meant.
-use Prim.Native.Nat.{ℕ, suc, _+_, _*_, _%_, _^_, _≤_, _<_}
+use Prim.Native.Nat.{ℕ, suc, _+_, _^_, _≤_, _<_}
 use native.Mathlib.Omega.{arith}
 use mathlib.Core.Path.{_≡_, refl, ap, sym, _∙_, subst}
 use mathlib.Core.Bool.{Bool, true, false}
 use mathlib.Core.List.{List, [], _∷_}
-use lib.ListN.{getD, set, length, drop, length-append, length-take}
+use lib.ListN.{getD, length, drop, length-append, length-take}
 use lib.Dec.{eqb}
 use Rattle.meaning.specs.Basics.{if_then_else_}
 use Rattle.meaning.specs.Token.{Token}
@@ -18,8 +18,8 @@ use Rattle.meaning.specs.Group.{each, figuresOf}
 use Rattle.meaning.proofs.BookLaws.{part, spent}
 use Rattle.claims.proofs.Booking.{lacking-no-fit}
 use Rattle.picture.proofs.Lines.{line-short}
-use Rattle.machine.specs.Layout.{stepsUsed, callsUsed, loopUnit}
-use Rattle.machine.specs.Act.{Raw, raw, Out, done}
+use Rattle.machine.specs.Layout.{callsUsed, loopUnit}
+use Rattle.machine.specs.Act.{Raw, raw, Out}
 use Rattle.machine.specs.Act as Act
 use Rattle.machine.specs.Texts.{originIn, startIn, sizeIn, textOf}
 use Rattle.machine.specs.Texts as Texts
@@ -31,9 +31,9 @@ use Rattle.simulation.specs.Follows.{Grants, Related, Together, gives, lacks, f
 use Rattle.simulation.proofs.Binding.{Relation}
 use Rattle.simulation.proofs.Results.{mapped, steps-told}
 use Rattle.simulation.proofs.Beginning.{returns-main}
-use Rattle.simulation.proofs.Showing.{sizes, lineLimit, Sizes, Measured, measures}
+use Rattle.simulation.proofs.Showing.{sizes, lineLimit, Sizes, measures}
 use Rattle.running.specs.Running.{mainEnds, Painted}
-use Rattle.running.proofs.Scenes.{Gathers, shownAll, scene-gathers, by-kind-number, figure-meant, scene-shown, held-within}
+use Rattle.running.proofs.Scenes.{shownAll, scene-gathers, by-kind-number, figure-meant, scene-shown, held-within}
 
 -- ---- what takings that fit come to, of a resource of which nothing is given back
 abbrev amountIn : Resource → Booked → ℕ
@@ -89,12 +89,6 @@ text-short program texts h = go (eqb (originIn h) 0)
     go false = omega (arith, length-take (sizeIn h) (drop (startIn h) texts))
 
 module _ (program : List ℕ) (ts : List Token) (g : List ℕ) {granted : Amounts} (gr : Grants g granted) (texts : List ℕ) where
-  abbrev size : Raw → ℕ → ℕ
-  size = sizeWith program texts
-
-  abbrev size′ : Figure → ℕ
-  size′ a = length (lineOf a)
-
   known : Sizes program ts g gr texts (sizeWith program texts) (λ a. length (lineOf a))
   unfolding sizeWith lineSize
   known = record {

@@ -104,7 +104,8 @@ unfolding figuresOf showing byContent spent Run._>>=_ Run.goOn Run.current Run.g
 figures-gather zero p i s = record { end = refl; few = omega arith }
 figures-gather (suc b) p i s = go (contentOf s i) (λ c. figures-gather b p c s)
   where
-    go : (c : Content) → ((c : ℕ) → Gathers s 1 (showing b s c) (figuresOf b p c s)) → Gathers s 1 (byContent c (λ a. a ∷ []) (among (showing b s) s)) (byContent c (λ a. Run.give (a ∷ [])) (each (λ c. Run._>>_ (Run.count p) (figuresOf b p c))) s)
+    go : (c : Content) → ((c : ℕ) → Gathers s 1 (showing b s c) (figuresOf b p c s))
+        → Gathers s 1 (byContent c (λ a. a ∷ []) (among (showing b s) s)) (byContent c (λ a. Run.give (a ∷ [])) (each (λ c. Run._>>_ (Run.count p) (figuresOf b p c))) s)
     go (atom a) f = record { end = refl; few = omega arith }
     go (group cs) f =
         let a = each-gathers (λ c. Run._>>_ (Run.count p) (figuresOf b p c)) (showing b s) 0 s (λ c. counted (figuresOf b p c) p (f c)) cs in
@@ -251,7 +252,8 @@ module _ {program : List ℕ} {ts : List Token} {g : List ℕ} {r : Raw} {s : St
       ap (λ (l : List Variable). among inside s (shapesHeld l)) (listed-more (variableAt program ts r) 0 n)
       ∙ ap (among inside s) (held-append (listed (variableAt program ts r) 0 n) (variableAt program ts r (0 + n) ∷ []))
       ∙ among-append inside s (shapesHeld (listed (variableAt program ts r) 0 n)) (shapesHeld (variableAt program ts r (0 + n) ∷ []))
-      ∙ ap₂ _++_ (first-shown n) (rw q (ap (among inside s) (append-nil (shapeIn (variableAt program ts r n .holds))) ∙ word-shown (wordOf (r .words) n) (h .sound .variables .holds (slotAt (r .words) n))))
+      ∙ ap₂ _++_ (first-shown n)
+      (rw q (ap (among inside s) (append-nil (shapeIn (variableAt program ts r n .holds))) ∙ word-shown (wordOf (r .words) n) (h .sound .variables .holds (slotAt (r .words) n))))
       ∙ sym (for-append program r (shownFirst g (r .words) n) (shownBy g (r .words) (wordOf (r .words) n)))
 
   -- THE LAW

@@ -115,11 +115,11 @@ pub body-starts : (g ts ws ws₁ : List ℕ) (a n : ℕ) → Lent g ts ws → le
 body-starts g ts ws ws₁ a n l j i k = record { lent = record { lent = still-lent g ts ws ts ws₁ l refl j; deep = omega arith }; place = omega arith; small = k }
 
 -- ---- `leave`
-pub left-room : {g : List ℕ} (ws : List ℕ) → Room g ws → Room g (set ws callsUsed 0)
-left-room ws h = record { steps = h .steps; shapes = h .shapes; entries = h .entries; text = h .text; calls = h .calls; words = rw (length-set ws callsUsed 0) (h .words) }
+pub left-room : {g : List ℕ} (ws : List ℕ) (x : ℕ) → Room g ws → Room g (set ws callsUsed x)
+left-room ws x h = record { steps = h .steps; shapes = h .shapes; entries = h .entries; text = h .text; calls = h .calls; words = rw (length-set ws callsUsed x) (h .words) }
 
-pub left-long : (ws : List ℕ) {n : ℕ} → n ≡ length (set ws callsUsed 0) → n ≡ length ws
-left-long ws e = e ∙ length-set ws callsUsed 0
+pub left-long : (ws : List ℕ) (x : ℕ) {n : ℕ} → n ≡ length (set ws callsUsed x) → n ≡ length ws
+left-long ws x e = e ∙ length-set ws callsUsed x
 
 module _ (program ts g ws ws₁ : List ℕ) (e : ws₁ ≡ set ws callsUsed 0) (r : ℕ) (ws₂ : List ℕ) (f : Finishes ws₁ (showScene (sizeWith program ts) g) r ws₂) where
   left-so : (us : List ℕ) → passed (eqb r 0) r 0 us ws₂ ≡ mainEnds program ts g (raw us ws)
