@@ -87,13 +87,18 @@ pub fn pass_on(w: u64, k: u64) -> Flow
     Flow::Onward
 }
 
-// What any such statement does.
+// What any such statement does. It asks for shapes itself, as `assign` does: where their copies are made in one place only, words pay for them too.
 pub fn finish(words: &mut [u64], grants: &[u64; 5], w: u64, k: u64, p: u64) -> Flow
     requires { ⌜ Room (now grants) (now words) ⌝ }
     ensures { λ r. ⌜ Flows (now (words .entry)) (finishing (now (grants .entry)) w k p) r (now (words .exit)) ⌝ }
 {
     if code::tag_of(w) == tags::ASSIGN {
-        let r = assign(words, grants, code::extra_of(w), k, p);
+        let slot = code::extra_of(w);
+        if values::kind_of(k) == kinds::SHAPE {
+            let r = put_copy(words, grants, slot, k, p);
+            return r;
+        }
+        let r = put_word(words, grants, slot, k, p);
         return r;
     }
     pass_on(w, k)
