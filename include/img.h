@@ -30,8 +30,9 @@ extern "C" {
  * `texts` depend on the counts granted. */
 #define IMG_TOKENS ((size_t)8193)
 #define IMG_CODE ((size_t)16384)
-#define IMG_WORDS(shapes, entries) \
-    ((size_t)278608 + (size_t)3 * (size_t)(shapes) + (size_t)4 * (size_t)(entries))
+#define IMG_WORDS(shapes, entries, calls) \
+    ((size_t)278608 + (size_t)5 * (size_t)(shapes) + \
+     ((size_t)5 + (size_t)(calls)) * (size_t)(entries))
 #define IMG_TEXTS(text_bytes) ((size_t)(text_bytes))
 
 /* The most that can be granted; more gives the number 71. Of calls, the
@@ -135,7 +136,7 @@ static inline const char *img_sentence(uint64_t number)
     case 76:
         return "no shape is left of those granted";
     case 77:
-        return "no table entry is left of those granted";
+        return "no entry for a table or a group is left of those granted";
     case 78:
         return "too few bytes for joined strings are left of those granted";
     case 79:

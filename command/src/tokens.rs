@@ -34,7 +34,7 @@ impl Token<'_> {
     }
 
     pub fn is_reserved(&self) -> bool {
-        self.is_one_of(&["def", "var", "if", "while", "return", "none", "true", "false"])
+        self.is_one_of(&["def", "var", "if", "while", "foreach", "in", "do", "return", "none", "true", "false"])
     }
 
     pub fn is_name(&self) -> bool {
@@ -96,7 +96,7 @@ fn string_length(text: &[u8]) -> usize {
 }
 
 /// Where the statement ends that begins with the first of some tokens: at its `;`, behind the test of an `if` or `while`, behind the parameters of `def`, at
-/// the brace of a block.
+/// the `do` of a foreach, at the brace of a block.
 pub fn statement<'a, 'b>(tokens: &'b [Token<'a>]) -> &'b [Token<'a>] {
     let mut depth = 0;
     let Some(first) = tokens.first() else {
@@ -109,7 +109,7 @@ pub fn statement<'a, 'b>(tokens: &'b [Token<'a>]) -> &'b [Token<'a>] {
         depth = depth.saturating_sub(closes as usize);
         let ends = match headed {
             true => closes && depth == 0,
-            false => token.is_one_of(&[";", "{"]),
+            false => token.is_one_of(&[";", "{", "do"]),
         };
         if ends {
             return &tokens[..=index];

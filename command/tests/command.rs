@@ -73,7 +73,7 @@ fn draws_sheets_and_drawings() {
     assert_eq!(fed(&folder, &["draw", "-"], DAY, 0).0, picture());
     let program = DAY.strip_prefix("20 20\n").unwrap();
     assert_eq!(fed(&folder, &["draw", "--size", "20", "20", "-"], program, 0).0, picture());
-    for name in ["day", "day-procedures", "week", "stickman", "stickman-table", "stickman-procedures"] {
+    for name in ["day", "day-procedures", "day-group", "week", "stickman", "stickman-table", "stickman-procedures", "stickman-group"] {
         let size = fs::read_to_string(examples(&format!("{name}.size"))).unwrap();
         let (width, height) = size.trim_end().split_once(' ').unwrap();
         let drawing = examples(&format!("{name}.img"));

@@ -28,7 +28,7 @@ static uint8_t program[IMG_MOST_PROGRAM + 1];
 
 static uint64_t tokens[IMG_TOKENS];
 static uint64_t code[IMG_CODE];
-static uint64_t words[IMG_WORDS(SHAPES, ENTRIES)];
+static uint64_t words[IMG_WORDS(SHAPES, ENTRIES, CALLS)];
 static uint8_t texts[IMG_TEXTS(TEXT_BYTES)];
 static uint8_t out[OUT_BYTES];
 

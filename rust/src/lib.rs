@@ -88,12 +88,13 @@ impl Grants {
         calls: 64,
     };
 
-    /// How many words the slice for variables, arguments, shapes and entries must have. A count out of its range is taken as the largest in range, since
+    /// How many words the slice for variables, arguments, shapes and entries must have. A count out of its range is taken as the nearest in range, since
     /// the library answers 71 to it however much is lent.
     pub fn words(&self) -> usize {
         let shapes = self.shapes.min(Grants::MOST.shapes) as usize;
         let entries = self.entries.min(Grants::MOST.entries) as usize;
-        278_608 + 3 * shapes + 4 * entries
+        let calls = self.calls.clamp(1, Grants::MOST.calls) as usize;
+        278_608 + 5 * shapes + (5 + calls) * entries
     }
 
     /// How many bytes the slice for joined strings must have, with a count out of its range as in [`Grants::words`].

@@ -124,8 +124,10 @@ fn the_numbers_are_those_of_the_header() {
         ..most
     };
     let words = format!(
-        "((size_t){} + (size_t)3 * (size_t)(shapes) + ",
+        "((size_t){} + (size_t)5 * (size_t)(shapes) + \\\n     ((size_t)5 + (size_t)(calls)) * (size_t)(entries))\n",
         none.words()
     );
     assert!(header.contains(&words), "{words}");
+    let most_words = none.words() + 5 * most.shapes as usize + (5 + 64) * most.entries as usize;
+    assert_eq!(most.words(), most_words);
 }

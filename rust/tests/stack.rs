@@ -12,7 +12,7 @@ type Nest = (
     usize,
 );
 
-const NESTS: [Nest; 16] = [
+const NESTS: [Nest; 18] = [
     ("(", "", "", ")", 1),
     ("[", "", "", "]", 1),
     ("g(", "", "", ")", 1),
@@ -29,6 +29,8 @@ const NESTS: [Nest; 16] = [
     ("while(true)", "return ", ";", "", 1),
     ("if(true){", "return ", ";", "}", 2),
     ("while(true){", "return ", ";", "}", 2),
+    ("foreach x in w.0 do ", "return ", ";", "", 1),
+    ("foreach x in w.0 do{", "return ", ";", "}", 2),
 ];
 
 /// A statement with so many levels around an inside, which is an expression.
@@ -53,7 +55,7 @@ fn program(calls: usize, around: impl Fn(&str) -> String) -> String {
         _ => call(&(calls - 2).to_string()),
     };
     format!(
-        "def f(n,w){{if(n==0)return 1;{}}}def g(x){{return x;}}def main(w,h){{w=[0];{main}}}",
+        "def f(n,w){{if(n==0)return 1;{}}}def g(x){{return x;}}def main(w,h){{w=[0];w.0=drawGroup(drawGroup(drawLine(1,2,3,4)));{main}}}",
         call("n-1")
     )
 }

@@ -3,6 +3,7 @@
 
 #![forbid(unsafe_code)]
 
+mod groups;
 mod picture;
 mod read;
 mod run;

@@ -1,7 +1,7 @@
 //! The picture. Its length is worked out before the first byte is written.
 
 use crate::shape::{Kind, Shape};
-use crate::stores::Stores;
+use crate::stores::{Level, Stores};
 use crate::value::Value;
 
 const HEAD: &[u8] = b"<?xml version=\"1.0\"?>\n<svg viewBox=\"0 0 ";
@@ -30,13 +30,57 @@ const BOX: [&[u8]; 5] = [
 ];
 const TEXT: [&[u8]; 4] = [b"<text x=\"", b"\" y=\"", b"\">", b"</text>\n"];
 
-/// The shapes that variables hold undestroyed, in the order of declaration.
-fn shown(stores: &Stores, declared: usize) -> impl Iterator<Item = &Shape> {
-    let slots = stores.order[..declared].iter();
-    slots.filter_map(|slot| match stores.stack[usize::from(*slot)] {
-        Value::Shape(i) => Some(&stores.shapes[usize::from(i)]).filter(|shape| !shape.destroyed),
-        _ => None,
-    })
+/// Does something with each atom of the picture: those that main's variables hold undestroyed, parameters first, then in the order of declaration, and those in
+/// groups that they hold.
+fn each(stores: &mut Stores, declared: usize, mut show: impl FnMut(&Shape, &[u8])) {
+    let Stores {
+        stack,
+        order,
+        shapes,
+        entries,
+        texts,
+        path,
+        ..
+    } = stores;
+    let slots = [0, 1].iter().chain(&order[..declared]);
+    for slot in slots {
+        let Value::Shape(i) = stack[usize::from(*slot)] else {
+            continue;
+        };
+        let mut next = Some(i);
+        let mut depth = 0;
+        loop {
+            if let Some(i) = next {
+                let shape = &shapes[usize::from(i)];
+                if shape.is_group() && !shape.destroyed {
+                    let (first, end) = shape.entries();
+                    path[depth] = Level {
+                        next: first as u16,
+                        end: end as u16,
+                        ..Level::default()
+                    };
+                    depth += 1;
+                } else if !shape.destroyed {
+                    show(shape, texts);
+                }
+            }
+            if depth == 0 {
+                break;
+            }
+            let level = &mut path[depth - 1];
+            next = match level.next < level.end {
+                true => match entries[usize::from(level.next)].value {
+                    Value::Shape(i) => Some(i),
+                    _ => None,
+                },
+                false => None,
+            };
+            match next {
+                Some(_) => level.next += 1,
+                None => depth -= 1,
+            }
+        }
+    }
 }
 
 /// The numbers that a shape's line shows: no size is negative.
@@ -53,29 +97,36 @@ fn turned(shape: &Shape) -> [i64; 4] {
     numbers
 }
 
-pub fn length(stores: &Stores, program: &[u8], width: i32, height: i32, declared: usize) -> usize {
+pub fn length(
+    stores: &mut Stores,
+    program: &[u8],
+    width: i32,
+    height: i32,
+    declared: usize,
+) -> usize {
     let sides = digits(width.into()) + 1 + digits(height.into());
-    let frame = HEAD.len() + sides + REST.len() + TAIL.len();
-    let lines = shown(stores, declared).map(|shape| {
+    let mut length = HEAD.len() + sides + REST.len() + TAIL.len();
+    each(stores, declared, |shape, texts| {
         let parts = |parts: &[&[u8]]| parts.iter().map(|part| part.len()).sum::<usize>();
         let numbers = |numbers: &[i64]| numbers.iter().map(|n| digits(*n)).sum::<usize>();
         let shown = turned(shape);
-        match shape.kind {
+        length += match shape.kind {
             Kind::Line => parts(&LINE) + numbers(&shown),
             Kind::Ellipse => parts(&ELLIPSE) + numbers(&shown),
             Kind::Box => parts(&BOX) + numbers(&shown),
             Kind::Text => {
-                let text = shape.text.bytes(program, &stores.texts);
+                let text = shape.text.bytes(program, texts);
                 parts(&TEXT) + numbers(&shown[..2]) + text.len()
             }
-        }
+            Kind::Group => 0,
+        };
     });
-    frame + lines.sum::<usize>()
+    length
 }
 
 /// Writes the picture to the front of a slice in which it fits.
 pub fn write(
-    stores: &Stores,
+    stores: &mut Stores,
     program: &[u8],
     width: i32,
     height: i32,
@@ -88,7 +139,7 @@ pub fn write(
     writer.bytes(b" ");
     writer.number(height.into());
     writer.bytes(REST);
-    for shape in shown(stores, declared) {
+    each(stores, declared, |shape, texts| {
         let numbers = turned(shape);
         match shape.kind {
             Kind::Line => writer.element(&LINE, &numbers),
@@ -100,11 +151,12 @@ pub fn write(
                 writer.bytes(TEXT[1]);
                 writer.number(numbers[1]);
                 writer.bytes(TEXT[2]);
-                writer.bytes(shape.text.bytes(program, &stores.texts));
+                writer.bytes(shape.text.bytes(program, texts));
                 writer.bytes(TEXT[3]);
             }
+            Kind::Group => {}
         }
-    }
+    });
     writer.bytes(TAIL);
 }
 

@@ -302,7 +302,7 @@ impl Reader<'_> {
             match self.tokens[at].kind {
                 Kind::OpenBrace => depth += 1,
                 Kind::CloseBrace => depth -= 1,
-                Kind::Var if self.tokens[at + 1].kind == Kind::Name => {
+                Kind::Var | Kind::Foreach if self.tokens[at + 1].kind == Kind::Name => {
                     let name = self.number(at + 1);
                     self.declare(name);
                 }
@@ -343,6 +343,7 @@ impl Reader<'_> {
                 let (test, body) = self.test_and_body()?;
                 Action::While(test, body)
             }
+            Kind::Foreach => self.foreach()?,
             Kind::Return => {
                 self.next += 1;
                 let value = self.expression()?;
@@ -376,6 +377,43 @@ impl Reader<'_> {
         let body = self.statement()?;
         self.level -= 1;
         Ok((test, body))
+    }
+
+    /// A foreach. At its body's first token 10 goes before 75.
+    fn foreach(&mut self) -> Result<Action, Refusal> {
+        self.next += 1;
+        let name = self.name()?;
+        self.expect(Kind::In)?;
+        let group = self.expression()?;
+        self.expect(Kind::Do)?;
+        self.ask_beginning()?;
+        self.open_level()?;
+        let body = self.statement()?;
+        self.level -= 1;
+        // It was declared ahead.
+        Ok(Action::Foreach(self.slot(name).unwrap_or(0), group, body))
+    }
+
+    /// Asks that a statement can begin here.
+    fn ask_beginning(&mut self) -> Result<(), Refusal> {
+        match self.kind() {
+            Kind::Digits => self.integer(false).map(|_| ()),
+            Kind::Operator(Operator::Subtract) if self.digits_follow() => Ok(()),
+            Kind::Var
+            | Kind::If
+            | Kind::While
+            | Kind::Foreach
+            | Kind::Return
+            | Kind::Name
+            | Kind::Text
+            | Kind::None
+            | Kind::True
+            | Kind::False
+            | Kind::OpenBrace
+            | Kind::OpenParen
+            | Kind::OpenBracket => Ok(()),
+            _ => self.refusal(10),
+        }
     }
 
     fn simple(&mut self) -> Result<Action, Refusal> {

@@ -1,13 +1,13 @@
 //! The run: a walk over the tree.
 
 use crate::shape::{Kind, Shape};
-use crate::stores::{Stores, STACK, TOKENS};
+use crate::stores::{Level, Stores, DECLARED, STACK};
 use crate::table::{Entry, Keys};
 use crate::tree::{Action, Expression, Link, Operator, Procedure, Tree};
 use crate::tree::{DEFINITIONS, NODES, NO_LINK};
 use crate::value::{calculate, Stop, Text, Value};
 
-/// How a run ended: the number is 0 if it came to its end.
+/// How a run ended: the number is 0 if it came to its end. Main declared so many variables besides its two parameters.
 pub struct End {
     pub number: u64,
     pub place: u64,
@@ -18,48 +18,56 @@ pub struct End {
 /// As many calls as can be under way.
 const CALLS: usize = 64;
 
-/// Where the variables of a call stand.
+/// Where the variables of a call stand, how many of them are parameters, and where its declarations begin.
 #[derive(Clone, Copy, Default)]
-struct Frame {
-    base: u32,
-    variables: u32,
+pub(crate) struct Frame {
+    pub(crate) base: u32,
+    pub(crate) parameters: u32,
+    pub(crate) declared: u32,
 }
 
 /// Whether the next statement follows, or the call is over.
 #[derive(Clone, Copy, PartialEq, Eq)]
-enum Flow {
+pub(crate) enum Flow {
     Next,
     Return,
 }
 
-struct Run<'a> {
+pub(crate) struct Run<'a> {
     /// How many steps, shapes, entries and text bytes are used.
-    steps: u64,
-    granted: u64,
-    tree: &'a Tree,
+    pub(crate) steps: u64,
+    pub(crate) granted: u64,
+    pub(crate) tree: &'a Tree,
     /// Variables and waiting arguments of the calls under way.
-    stack: &'a mut [Value; STACK],
+    pub(crate) stack: &'a mut [Value; STACK],
     /// Where the variables of the innermost call begin.
-    base: usize,
-    top: usize,
-    frames: [Frame; CALLS],
-    calls: usize,
-    calls_granted: usize,
+    pub(crate) base: usize,
+    pub(crate) top: usize,
+    pub(crate) frames: [Frame; CALLS],
+    pub(crate) calls: usize,
+    pub(crate) calls_granted: usize,
     /// What the last return handed back.
-    returned: Value,
+    pub(crate) returned: Value,
     /// The first byte of the innermost statement under way.
-    place: u16,
-    program: &'a [u8],
-    order: &'a mut [u16; TOKENS],
-    declared: usize,
-    shapes: &'a mut [Shape],
-    shapes_used: usize,
-    tables: u32,
-    entries: &'a mut [Entry],
-    entries_used: usize,
-    heads: &'a mut [u16],
-    texts: &'a mut [u8],
-    texts_used: usize,
+    pub(crate) place: u16,
+    pub(crate) program: &'a [u8],
+    pub(crate) order: &'a mut [u16; DECLARED],
+    pub(crate) declared: usize,
+    /// How many loops the innermost call is in.
+    pub(crate) loops: u32,
+    pub(crate) shapes: &'a mut [Shape],
+    pub(crate) shapes_used: usize,
+    pub(crate) tables: u32,
+    pub(crate) entries: &'a mut [Entry],
+    pub(crate) entries_used: usize,
+    pub(crate) heads: &'a mut [u16],
+    pub(crate) texts: &'a mut [u8],
+    pub(crate) texts_used: usize,
+    pub(crate) path: &'a mut [Level],
+    pub(crate) made: &'a mut [u16],
+    pub(crate) ways: &'a mut [u64],
+    /// Of so many calls the ways hold no bit but those that were set.
+    pub(crate) ways_clear: usize,
 }
 
 /// Runs a program that has been read.
@@ -88,12 +96,19 @@ pub fn run(stores: &mut Stores, program: &[u8], main: usize, width: i32, height:
         heads: &mut stores.heads,
         texts: &mut stores.texts,
         texts_used: 0,
+        path: &mut stores.path,
+        made: &mut stores.made,
+        ways: &mut stores.ways,
+        ways_clear: 0,
+        loops: 0,
     };
     run.stack[0] = Value::Integer(width);
     run.stack[1] = Value::Integer(height);
-    run.order[1] = 1;
-    run.declared = 2;
-    let (number, place) = match run.invoke(main, 0) {
+    let end = match run.invoke(main, 0) {
+        Ok(_) => run.count_picture(),
+        Err(stop) => Err(stop),
+    };
+    let (number, place) = match end {
         Ok(_) => (0, 0),
         Err(Stop(number)) => (number.into(), run.place.into()),
     };
@@ -107,7 +122,7 @@ pub fn run(stores: &mut Stores, program: &[u8], main: usize, width: i32, height:
 
 impl Run<'_> {
     #[inline(always)]
-    fn step(&mut self) -> Result<(), Stop> {
+    pub(crate) fn step(&mut self) -> Result<(), Stop> {
         if self.steps >= self.granted {
             return Err(Stop(79));
         }
@@ -117,20 +132,18 @@ impl Run<'_> {
 
     /// Where a variable of the innermost call stands.
     #[inline(always)]
-    fn at(&self, slot: u16) -> usize {
+    pub(crate) fn at(&self, slot: u16) -> usize {
         (self.base + usize::from(slot)) % STACK
     }
 
-    fn declare(&mut self, slot: u16) -> Result<(), Stop> {
+    pub(crate) fn declare(&mut self, slot: u16) -> Result<(), Stop> {
         let at = self.at(slot);
         if !matches!(self.stack[at], Value::Undeclared) {
             return Err(Stop(60));
         }
         self.stack[at] = Value::Nothing;
-        if self.base == 0 {
-            self.order[self.declared % TOKENS] = slot;
-            self.declared += 1;
-        }
+        self.order[self.declared % DECLARED] = slot;
+        self.declared += 1;
         Ok(())
     }
 
@@ -149,7 +162,8 @@ impl Run<'_> {
         }
         self.frames[self.calls % CALLS] = Frame {
             base: from as u32,
-            variables: callee.variables.into(),
+            parameters: callee.parameters.into(),
+            declared: self.declared as u32,
         };
         self.calls += 1;
         for at in from..self.top {
@@ -160,12 +174,19 @@ impl Run<'_> {
         let end = from + usize::from(callee.variables);
         self.stack[self.top..end].fill(Value::Undeclared);
         let (base, place) = (self.base, self.place);
+        let (loops, declared) = (self.loops, self.declared);
         self.base = from;
         self.top = end;
+        self.loops = 0;
         let flow = self.sequence(callee.body)?;
         self.base = base;
         self.place = place;
+        self.loops = loops;
         self.calls -= 1;
+        // The picture needs main's.
+        if self.calls > 0 {
+            self.declared = declared;
+        }
         Ok(match flow {
             Flow::Next => Value::Nothing,
             Flow::Return => self.returned,
@@ -178,6 +199,9 @@ impl Run<'_> {
         let shape = self.shapes[usize::from(i)];
         if shape.destroyed {
             return Err(Stop(30));
+        }
+        if shape.is_group() {
+            return self.copy_group(&shape);
         }
         self.new_shape(shape)
     }
@@ -193,7 +217,7 @@ impl Run<'_> {
         Ok(Flow::Next)
     }
 
-    fn statement(&mut self, at: Link) -> Result<Flow, Stop> {
+    pub(crate) fn statement(&mut self, at: Link) -> Result<Flow, Stop> {
         let statement = &self.tree.statements[usize::from(at) % NODES];
         let place = statement.place;
         self.place = place;
@@ -217,6 +241,7 @@ impl Run<'_> {
                     self.step()?;
                 }
             }
+            Action::Foreach(slot, group, body) => return self.foreach(place, slot, group, body),
             Action::Block(first) => return self.sequence(first),
             Action::Update(table, key, value) => self.update(table, key, value)?,
             Action::Evaluate(value) => {
@@ -264,6 +289,9 @@ impl Run<'_> {
         };
         let key = self.evaluate(key)?;
         let value = self.evaluate(value)?;
+        if matches!(key, Value::Shape(i) if self.shapes[usize::from(i)].is_group()) {
+            return Err(Stop(20));
+        }
         if let Some(found) = self.find(table, key) {
             self.entries[found].value = value;
             return Ok(());
@@ -334,7 +362,7 @@ impl Run<'_> {
         }
     }
 
-    fn evaluate(&mut self, at: Link) -> Result<Value, Stop> {
+    pub(crate) fn evaluate(&mut self, at: Link) -> Result<Value, Stop> {
         self.step()?;
         match self.tree.expressions[usize::from(at) % NODES] {
             Expression::Constant(value) => Ok(value),
@@ -376,7 +404,7 @@ impl Run<'_> {
 
     /// Asks that a value is no destroyed shape.
     #[inline(always)]
-    fn usable(&self, value: Value) -> Result<Value, Stop> {
+    pub(crate) fn usable(&self, value: Value) -> Result<Value, Stop> {
         match value {
             Value::Shape(i) if self.shapes[usize::from(i)].destroyed => Err(Stop(30)),
             other => Ok(other),
@@ -384,7 +412,7 @@ impl Run<'_> {
     }
 
     #[inline(always)]
-    fn new_shape(&mut self, shape: Shape) -> Result<Value, Stop> {
+    pub(crate) fn new_shape(&mut self, shape: Shape) -> Result<Value, Stop> {
         let at = self.shapes_used;
         match self.shapes.get_mut(at) {
             None => Err(Stop(76)),
@@ -406,21 +434,31 @@ impl Run<'_> {
             (Operator::Unequal, _, _) => Ok(Value::Boolean(!self.equal(left, right)?)),
             (Operator::Join, Value::Text(left), Value::Text(right)) => self.join(left, right),
             (_, Value::Shape(i), Value::Integer(by)) => {
-                let changed = self.shapes[usize::from(i)].changed(operator, by)?;
-                self.new_shape(changed)
+                let shape = self.shapes[usize::from(i)];
+                if shape.is_group() {
+                    return self.changed_group(operator, &shape, by);
+                }
+                self.new_shape(shape.changed(operator, by)?)
             }
             _ => Err(Stop(20)),
         }
     }
 
-    fn equal(&self, left: Value, right: Value) -> Result<bool, Stop> {
+    fn equal(&mut self, left: Value, right: Value) -> Result<bool, Stop> {
         match (left, right) {
             (Value::Nothing, Value::Nothing) => Ok(true),
             (Value::Nothing, _) | (_, Value::Nothing) => Ok(false),
             (Value::Table(_), Value::Table(_)) => Err(Stop(20)),
-            (Value::Text(_), Value::Text(_))
-            | (Value::Boolean(_), Value::Boolean(_))
-            | (Value::Shape(_), Value::Shape(_)) => Ok(self.keys().same(left, right)),
+            (Value::Shape(i), Value::Shape(j)) => {
+                let [left, right] = [i, j].map(|i| self.shapes[usize::from(i)]);
+                if left.is_group() && right.is_group() {
+                    return self.equal_groups(&left, &right);
+                }
+                Ok(left.same(&right, self.program, self.texts))
+            }
+            (Value::Text(_), Value::Text(_)) | (Value::Boolean(_), Value::Boolean(_)) => {
+                Ok(self.keys().same(left, right))
+            }
             _ => Err(Stop(20)),
         }
     }
@@ -494,33 +532,37 @@ impl Run<'_> {
                 self.new_shape(Shape::text(x, y, text))
             }
             (Procedure::Connect, &[Value::Shape(i), Value::Shape(j)]) => {
-                let (a, b) = self.shapes[usize::from(i)].centre();
-                let (c, d) = self.shapes[usize::from(j)].centre();
+                let (a, b) = self.shapes[usize::from(i)].centre()?;
+                let (c, d) = self.shapes[usize::from(j)].centre()?;
                 self.new_shape(Shape::new(Kind::Line, [a, b, c, d]))
             }
             (Procedure::Label, &[Value::Shape(i), Value::Text(text)]) => {
-                let (x, y) = self.shapes[usize::from(i)].centre();
+                let (x, y) = self.shapes[usize::from(i)].centre()?;
                 self.new_shape(Shape::text(x, y, text))
             }
             (Procedure::XCoordinate, &[Value::Shape(i)]) => {
-                Ok(Value::Integer(self.shapes[usize::from(i)].centre().0))
+                Ok(Value::Integer(self.shapes[usize::from(i)].centre()?.0))
             }
             (Procedure::YCoordinate, &[Value::Shape(i)]) => {
-                Ok(Value::Integer(self.shapes[usize::from(i)].centre().1))
+                Ok(Value::Integer(self.shapes[usize::from(i)].centre()?.1))
+            }
+            (Procedure::DrawGroup, components) => {
+                if components.iter().any(|v| !matches!(v, Value::Shape(_))) {
+                    return Err(Stop(20));
+                }
+                let count = components.len();
+                let group = self.new_group(count, |run, i| match run.stack[base + i] {
+                    Value::Shape(component) => component,
+                    _ => 0,
+                });
+                Ok(Value::Shape(group?))
             }
             (Procedure::Destroy, &[Value::Shape(i)]) => {
-                self.shapes[usize::from(i)].destroyed = true;
+                self.destroy(i)?;
                 Ok(Value::Nothing)
             }
             (Procedure::ClearScene, []) => {
-                for frame in &self.frames[..self.calls] {
-                    let base = frame.base as usize;
-                    for value in &self.stack[base..base + frame.variables as usize] {
-                        if let Value::Shape(i) = value {
-                            self.shapes[usize::from(*i)].destroyed = true;
-                        }
-                    }
-                }
+                self.clear_scene()?;
                 Ok(Value::Nothing)
             }
             _ => Err(Stop(20)),

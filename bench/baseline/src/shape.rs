@@ -10,13 +10,16 @@ pub enum Kind {
     Ellipse,
     Box,
     Text,
+    Group,
 }
 
-/// A shape's kind, four numbers and text, each 0 where it has none.
+/// A shape's kind, four numbers and text, each 0 where it has none. A group's first two numbers are its first entry and the end of its entries.
 #[derive(Clone, Copy, Default)]
 pub struct Shape {
     pub kind: Kind,
     pub destroyed: bool,
+    /// Of a group: there is no undestroyed atom in it, and never will be one again.
+    pub barren: bool,
     pub text: Text,
     pub numbers: [i32; 4],
 }
@@ -39,16 +42,31 @@ impl Shape {
         }
     }
 
-    pub fn centre(&self) -> (i32, i32) {
+    pub fn group(first: usize, end: usize) -> Shape {
+        Shape::new(Kind::Group, [first as i32, end as i32, 0, 0])
+    }
+
+    pub fn is_group(&self) -> bool {
+        self.kind == Kind::Group
+    }
+
+    /// A group's first entry and the end of its entries.
+    pub fn entries(&self) -> (usize, usize) {
+        (self.numbers[0] as usize, self.numbers[1] as usize)
+    }
+
+    /// The centre; a group has none.
+    pub fn centre(&self) -> Result<(i32, i32), Stop> {
         let [a, b, c, d] = self.numbers;
         match self.kind {
-            Kind::Line => (middle(a, c), middle(b, d)),
-            Kind::Box => (a.wrapping_add(c / 2), b.wrapping_add(d / 2)),
-            Kind::Ellipse | Kind::Text => (a, b),
+            Kind::Line => Ok((middle(a, c), middle(b, d))),
+            Kind::Box => Ok((a.wrapping_add(c / 2), b.wrapping_add(d / 2))),
+            Kind::Ellipse | Kind::Text => Ok((a, b)),
+            Kind::Group => Err(Stop(20)),
         }
     }
 
-    /// What an operator makes of the shape and an integer.
+    /// What an operator makes of an atom and an integer.
     pub fn changed(&self, operator: Operator, by: i32) -> Result<Shape, Stop> {
         match operator {
             Operator::Add => Ok(self.placed(|x| x, |y| y.wrapping_add(by))),
@@ -81,7 +99,7 @@ impl Shape {
         }
     }
 
-    /// Whether kind, numbers and text are the same.
+    /// Whether kind, numbers and text are the same. Two groups are not asked.
     pub fn same(&self, other: &Shape, program: &[u8], texts: &[u8]) -> bool {
         self.kind == other.kind
             && self.numbers == other.numbers

@@ -14,6 +14,19 @@ pub const TOKENS: usize = 8_192;
 /// call has at most 4,096 of them.
 pub const STACK: usize = 262_144;
 
+/// As many declared variables as 64 calls can have besides their parameters: each has three tokens of its procedure.
+pub const DECLARED: usize = 174_784;
+
+/// Where a walk stands in a group: the next entry and the end. Two groups that are compared have a level together; for an operator the second pair's first tells
+/// which component was made first.
+#[derive(Clone, Copy, Default)]
+pub struct Level {
+    pub next: u16,
+    pub end: u16,
+    pub other: u16,
+    pub other_end: u16,
+}
+
 /// What a drawing may take.
 #[derive(Clone, Copy, Debug)]
 pub struct Grants {
@@ -32,13 +45,20 @@ pub struct Stores {
     pub(crate) tree: Tree,
     /// Variables and waiting arguments of the calls under way, main's first.
     pub(crate) stack: Box<[Value; STACK]>,
-    /// Main's variables in the order of their declarations.
-    pub(crate) order: Box<[u16; TOKENS]>,
+    /// The declared variables of the calls under way, but for parameters, in the order of their declarations, main's first.
+    pub(crate) order: Box<[u16; DECLARED]>,
     pub(crate) shapes: Box<[Shape]>,
     pub(crate) entries: Box<[Entry]>,
     /// For each bucket, one more than the entry that was added last.
     pub(crate) heads: Box<[u16]>,
     pub(crate) texts: Box<[u8]>,
+    /// The way into a group; groups may lie in each other as deep as there are shapes.
+    pub(crate) path: Box<[Level]>,
+    /// Components made for groups that are not made yet.
+    pub(crate) made: Box<[u16]>,
+    /// For each call and each entry, a bit for each loop of the call whose way into a group leads through the entry. Components are older than their group, so
+    /// entries further down a way have smaller numbers: its last entry is the first that has the bit.
+    pub(crate) ways: Box<[u64]>,
 }
 
 impl Stores {
@@ -65,6 +85,9 @@ impl Stores {
             entries: vec![Entry::default(); grants.entries as usize].into(),
             heads: vec![0; grants.entries as usize].into(),
             texts: vec![0; grants.text_bytes as usize].into(),
+            path: vec![Level::default(); grants.shapes as usize].into(),
+            made: vec![0; grants.shapes as usize].into(),
+            ways: vec![0; (grants.calls * grants.entries) as usize].into(),
         }
     }
 
@@ -88,6 +111,9 @@ impl Stores {
         self.entries.fill(Entry::default());
         self.heads.fill(0);
         self.texts.fill(0);
+        self.path.fill(Level::default());
+        self.made.fill(0);
+        self.ways.fill(0);
     }
 }
 

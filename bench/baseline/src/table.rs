@@ -3,6 +3,7 @@
 use crate::shape::Shape;
 use crate::value::Value;
 
+/// An entry of a table, or of a group: then its table is the end of the group's entries and its value the component.
 #[derive(Clone, Copy, Default)]
 pub struct Entry {
     pub table: u32,

@@ -85,6 +85,14 @@ fn generated_cases() {
 }
 
 #[test]
+fn programs_with_groups() {
+    for seed in 0..6_000 {
+        let program = generator::groups::program(&mut generator::random::Random::new(seed));
+        assert_eq!(misfit_on_a_sheet(&program), None, "seed {seed}");
+    }
+}
+
+#[test]
 fn systematic_programs_and_limits() {
     let systematic = generator::systematic::programs();
     for (i, program) in systematic.iter().enumerate() {

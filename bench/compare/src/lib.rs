@@ -54,6 +54,15 @@ pub const TREE: Drawing = Drawing {
     },
 };
 
+/// 96 bars in one group, each bar in a group with those before it, moved by two operators and gone through 100 times.
+pub const GROUP: Drawing = Drawing {
+    name: "group",
+    program: include_bytes!("../../drawings/group.img"),
+    width: 640,
+    height: 480,
+    grants: SHEET,
+};
+
 /// A loop of so many turns, each with a call of a procedure with two parameters that hands back their sum, or with the sum itself.
 pub fn calls(called: bool, times: i32) -> Drawing {
     Drawing {
@@ -108,6 +117,7 @@ pub fn drawing(name: &str) -> Option<Drawing> {
         "loop" => Some(LOOP),
         "shapes" => Some(SHAPES),
         "tree" => Some(TREE),
+        "group" => Some(GROUP),
         "call" => Some(calls(true, 100_000)),
         "inline" => Some(calls(false, 100_000)),
         "few" => Some(look_ups(16, 100_000)),
@@ -168,7 +178,7 @@ mod ours {
     impl Ours {
         /// Slices as long as docs/INTERFACE.md asks.
         pub fn new(grants: Grants) -> Ours {
-            let words = 278_608 + 3 * grants.shapes + 4 * grants.entries;
+            let words = 278_608 + 5 * grants.shapes + (5 + grants.calls) * grants.entries;
             Ours {
                 tokens: vec![0; 8_193],
                 code: vec![0; 16_384],

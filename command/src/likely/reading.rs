@@ -213,9 +213,10 @@ impl Spot<'_> {
             [] if !here.is("def") => {
                 reason_of(format!("`{}` cannot begin a drawing", here.shown()), "A drawing begins with `def`, as in `def main(w, h) {`")
             }
-            [.., def] if def.is("def") && here.is_reserved() => {
-                reason_of("a reserved word", "A procedure needs another name: def, var, if, while, return, none, true and false are taken")
-            }
+            [.., def] if def.is("def") && here.is_reserved() => reason_of(
+                "a reserved word",
+                "A procedure needs another name: def, var, if, while, foreach, in, do, return, none, true and false are taken",
+            ),
             [.., def] if def.is("def") && !here.is_number() => reason_of("a name is missing before", form),
             [.., def, _] if def.is("def") && !here.is("(") => reason_of("a `(` is missing before", form),
             [.., last] if open.is_empty() && last.is(")") => reason_of("a `{` is missing before", form),
@@ -296,17 +297,17 @@ impl Spot<'_> {
         if last.is("var") && here.is_reserved() {
             return reason_of(
                 "a reserved word",
-                "A variable needs another name: def, var, if, while, return, none, true and false are taken",
+                "A variable needs another name: def, var, if, while, foreach, in, do, return, none, true and false are taken",
             );
         }
         if last.is_one_of(&["if", "while"]) && !here.is("(") {
             return reason_of("a `(` is missing before", format!("A test stands in parentheses: `{} (k < 96)`", last.shown()));
         }
-        if last.is_one_of(&["then", "do"]) {
-            return reason_of(
-                format!("behind `{}`, which the language has not", last.shown()),
-                "Behind the test stands a statement, or several in braces",
-            );
+        if last.is("then") {
+            return reason_of("behind `then`, which the language has not", "Behind the test stands a statement, or several in braces");
+        }
+        if here.is("do") && self.body_due() {
+            return reason_of("a `do` belongs to `foreach`", "Behind the test stands a statement, or several in braces");
         }
         if last.is_one_of(&["let", "int", "const", "function"]) && here.is_name() {
             return reason_of(format!("there is no `{}`", last.shown()), "A variable is declared with `var name;`");

@@ -38,10 +38,15 @@ impl<'a> Own<'a> {
         names.iter().enumerate().any(|(index, name)| names[..index].contains(name))
     }
 
-    /// The names of its parameters and of its declarations, where they stand.
+    /// The names of its parameters and of its declarations, where they stand; a foreach declares its name.
     fn declared(&self) -> Vec<Token<'a>> {
-        let variables = self.tokens.windows(2).filter(|two| two[0].is("var")).map(|two| two[1]);
+        let variables = self.tokens.windows(2).filter(|two| two[0].is("var") || two[0].is("foreach")).map(|two| two[1]);
         self.parameters().chain(variables).collect()
+    }
+
+    /// Whether the name that stands there is declared by a foreach.
+    fn by_foreach(&self, name: Token) -> bool {
+        self.tokens.windows(2).any(|two| two[0].is("foreach") && two[1].start == name.start)
     }
 }
 
@@ -95,11 +100,18 @@ pub fn undeclared(drawing: &Drawing, refusal: &Refusal) -> Option<Reason> {
     let declared = spot.within().declared();
     let mut names = spot.statement.iter().enumerate().filter_map(|(index, token)| {
         let called = spot.statement.get(index + 1).is_some_and(|next| next.is("("));
-        (token.is_name() && !called).then_some(token)
+        let bound = index > 0 && spot.statement[index - 1].is("foreach");
+        (token.is_name() && !called && !bound).then_some(token)
     });
     let name = names.find(|name| !declared.iter().any(|first| first.text == name.text && first.start < refusal.place))?;
     let shown = name.shown();
     if let Some(first) = declared.iter().find(|first| first.text == name.text) {
+        if spot.within().by_foreach(*first) {
+            return reason_of(
+                format!("`{shown}` is declared only by the foreach in line {}", spot.line(*first)),
+                format!("Declare it by `var {shown};` before this statement"),
+            );
+        }
         return reason_of(
             format!("`{shown}` is declared further down, in line {}", spot.line(*first)),
             format!("Move its `var {shown};` before this statement"),
@@ -176,18 +188,19 @@ pub fn endless(drawing: &Drawing, refusal: &Refusal) -> Option<Reason> {
     }
 }
 
-/// The procedures of the library, with how many arguments each takes.
-const LIBRARY: [(&str, usize); 10] = [
-    ("drawLine", 4),
-    ("drawEllipse", 4),
-    ("drawBox", 4),
-    ("drawText", 3),
-    ("drawLineConnectingShapes", 2),
-    ("drawTextOnShape", 2),
-    ("getShapeXCoordinate", 1),
-    ("getShapeYCoordinate", 1),
-    ("destroyShape", 1),
-    ("clearScene", 0),
+/// The procedures of the library, with how many arguments each takes; drawGroup takes any number.
+const LIBRARY: [(&str, Option<usize>); 11] = [
+    ("drawLine", Some(4)),
+    ("drawEllipse", Some(4)),
+    ("drawBox", Some(4)),
+    ("drawText", Some(3)),
+    ("drawLineConnectingShapes", Some(2)),
+    ("drawTextOnShape", Some(2)),
+    ("getShapeXCoordinate", Some(1)),
+    ("getShapeYCoordinate", Some(1)),
+    ("destroyShape", Some(1)),
+    ("clearScene", Some(0)),
+    ("drawGroup", None),
 ];
 
 /// A value that does not fit, a call of the statement that names no procedure, or one with another number of arguments.
@@ -202,7 +215,7 @@ pub fn unfit(drawing: &Drawing, refusal: &Refusal) -> Option<Reason> {
             return reason_of("`main` cannot be called", "Put what both need into another procedure, and call that");
         }
         let library = LIBRARY.iter().find(|(known, _)| name.is(known)).map(|(_, takes)| *takes);
-        let own = spot.named(name).map(|own| own.parameters().count());
+        let own = spot.named(name).map(|own| Some(own.parameters().count()));
         let Some(takes) = library.or(own) else {
             let known = LIBRARY.iter().map(|(known, _)| known.to_string());
             let mut names = known.chain(spot.procedures.iter().map(Own::shown));
@@ -211,7 +224,7 @@ pub fn unfit(drawing: &Drawing, refusal: &Refusal) -> Option<Reason> {
             return reason_of(format!("there is no procedure `{shown}`"), help);
         };
         let given = arguments(behind);
-        if given != takes {
+        if let Some(takes) = takes.filter(|takes| *takes != given) {
             let arguments = if takes == 1 { "argument" } else { "arguments" };
             return reason_of(format!("`{shown}` takes {takes} {arguments}, here are {given}"), "");
         }

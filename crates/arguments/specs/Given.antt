@@ -1,6 +1,6 @@
 -- What the code for library procedures asks of a call's arguments.
 use Prim.Native.Nat.{ℕ, _+_}
-use mathlib.Core.Bool.{Bool, _&&_}
+use mathlib.Core.Bool.{Bool, not, _&&_}
 use mathlib.Core.List.{List}
 use lib.IntN.{ℤ, pos}
 use lib.Dec.{eqb}
@@ -9,7 +9,7 @@ use mir.Val.{toZ}
 use Rattle.machine.specs.Words.{kindIn, numberIn, handleIn}
 use Rattle.machine.specs.Stack.{argumentAt}
 use Rattle.machine.specs.declared.Figure.{Figure}
-use Rattle.machine.specs.Shapes.{figureAt}
+use Rattle.machine.specs.Shapes.{isGroupAt, figureAt}
 use Rattle.machine.specs.Arguments.{figure, connecting, textOn}
 
 -- ---- kinds
@@ -39,6 +39,16 @@ shapeAt ws base i = numberIn (argumentAt ws (base + i))
 
 unfoldable pub givenFigure : List ℕ → ℕ → ℕ → Figure
 givenFigure ws base i = figureAt ws (shapeAt ws base i)
+
+-- ---- figures: shapes that are no groups
+unfoldable pub isFigure : List ℕ → ℕ → ℕ → Bool
+isFigure ws base i = isKind ws base i 6 && not (isGroupAt ws (shapeAt ws base i))
+
+unfoldable pub twoFigures : List ℕ → ℕ → Bool
+twoFigures ws base = isFigure ws base 0 && isFigure ws base 1
+
+unfoldable pub figureAndText : List ℕ → ℕ → Bool
+figureAndText ws base = isFigure ws base 0 && isKind ws base 1 2
 
 -- ---- the figures that procedures make of them
 unfoldable pub drawnFigure : List ℕ → ℕ → ℕ → Figure

@@ -2,6 +2,7 @@
 pub mod figures;
 
 use machine::Figure;
+use machine::kinds;
 use machine::layout;
 ghost use Prim.Native.Nat.{_+_, _≤_};
 ghost use mathlib.Core.Path.{_≡_};
@@ -10,7 +11,8 @@ ghost use Rattle.machine.specs.Layout.{fixedWords};
 ghost use Rattle.machine.specs.Act.{Passes};
 ghost use Rattle.machine.specs.Stack.{argumentAt};
 ghost use Rattle.machine.specs.Arguments.{allUsable};
-ghost use Rattle.arguments.specs.Given.{isKind, areKinds, fourIntegers, pointAndText, integerAt, handleAt, shapeAt, givenFigure};
+ghost use Rattle.machine.specs.Library.{allShapes};
+ghost use Rattle.arguments.specs.Given.{isKind, areKinds, fourIntegers, pointAndText, isFigure, twoFigures, figureAndText, integerAt, handleAt, shapeAt, givenFigure};
 
 // The word of argument i.
 pub fn argument(words: &[u64], base: u64, i: u64) -> u64
@@ -86,6 +88,52 @@ pub fn given_figure(words: &[u64], base: u64, i: u64) -> Figure
     ensures { λ r. ⌜ r ≡ givenFigure (now (words .entry)) base i ⌝ }
 {
     stores::shapes::figure_at(words, shape_at(words, base, i))
+}
+
+// Whether argument i is a shape, and no group.
+pub fn is_figure(words: &[u64], base: u64, i: u64) -> bool
+    requires { ⌜ fixedWords ≤ length (now words) ⌝ }
+    ensures { λ r. ⌜ r ≡ isFigure (now (words .entry)) base i ⌝ }
+{
+    if !is_kind(words, base, i, kinds::SHAPE) {
+        return false;
+    }
+    !stores::shapes::is_group(words, shape_at(words, base, i))
+}
+
+pub fn two_figures(words: &[u64], base: u64) -> bool
+    requires { ⌜ fixedWords ≤ length (now words) ⌝ }
+    ensures { λ r. ⌜ r ≡ twoFigures (now (words .entry)) base ⌝ }
+{
+    if !is_figure(words, base, 0) {
+        return false;
+    }
+    is_figure(words, base, 1)
+}
+
+pub fn figure_and_text(words: &[u64], base: u64) -> bool
+    requires { ⌜ fixedWords ≤ length (now words) ⌝ }
+    ensures { λ r. ⌜ r ≡ figureAndText (now (words .entry)) base ⌝ }
+{
+    if !is_figure(words, base, 0) {
+        return false;
+    }
+    is_kind(words, base, 1, kinds::TEXT)
+}
+
+// Whether all arguments are shapes.
+pub fn all_shapes(words: &[u64], base: u64, n: u64) -> bool
+    requires { ⌜ fixedWords ≤ length (now words) ⌝ }
+    ensures { λ r. ⌜ Passes (now (words .entry)) 20 (λ p. allShapes p base n) r (now (words .entry)) ⌝ }
+{
+    let mut k = 0;
+    while k < n {
+        if !is_kind(words, base, k, kinds::SHAPE) {
+            return false;
+        }
+        k += 1;
+    }
+    true
 }
 
 // Whether no argument is a destroyed shape.

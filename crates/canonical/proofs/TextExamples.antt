@@ -7,7 +7,7 @@ use mathlib.Core.List.{List, [], _∷_, _++_}
 use lib.ListN.{length, replicate}
 use lib.IntN.{pos}
 use Rattle.meaning.specs.Basics.{bytes}
-use Rattle.meaning.specs.Tree.{subtract, number, string, nothing, truth, name, table, operation, call, noArgument, argument, declare, assign, update, when, while, return, block, act, only, first, Procedure}
+use Rattle.meaning.specs.Tree.{subtract, number, string, nothing, truth, name, table, operation, call, noArgument, argument, declare, assign, update, when, while, foreach, return, block, act, only, first, Procedure}
 use Rattle.meaning.specs.Grammar.{Reading, wellFormed, malformed, reading}
 use Rattle.meaning.specs.Program.{checking}
 use Rattle.meaning.specs.Book.{Answer, pictured, number}
@@ -21,7 +21,7 @@ use Rattle.canonical.specs.Call.{text, textRead, fits, answerWith, textA
 
 -- all definitions of the text at once
 unfoldable pub everyText : Unit {0}
-unfolding Text.commaSeparated Text.operatorText Text.isOperation Text.isEntry Text.enclosedIf Text.expressionText Text.argumentTexts Text.apart
+unfolding Text.commaSeparated Text.operatorText Text.isOperation Text.isEntry Text.enclosedIf Text.expressionText Text.argumentTexts Text.apart Text.between
     Text.statementText Text.statementsText Text.procedureText Text.proceduresText Text.programText textRead fits answerWith textAnswer outWith textOut
 everyText = tt
 
@@ -57,6 +57,19 @@ bodies =
     ∷ "return (w+1).h;" gives lines "return(w+1).h;"
     ∷ "return [w];" gives lines "return[w];"
     ∷ "return none;" gives lines "return none;"
+    ∷ "foreach  w  in  h  do  w;" gives lines "foreach w in h do\nw;"
+    ∷ "foreach w in(007)do w;" gives lines "foreach w in 7 do\nw;"
+    ∷ "foreach w in \"a\" do w;" gives lines "foreach w in\"a\"do\nw;"
+    ∷ "foreach w in f( ) do w;" gives lines "foreach w in f()do\nw;"
+    ∷ "foreach w in -1 do w;" gives lines "foreach w in-1 do\nw;"
+    ∷ "foreach w in [w] do w;" gives lines "foreach w in[w]do\nw;"
+    ∷ "foreach w in (w+1).(h) do w;" gives lines "foreach w in(w+1).h do\nw;"
+    ∷ "foreach w in h.(w+1) do w;" gives lines "foreach w in h.(w+1)do\nw;"
+    ∷ "foreach w in(w+1)-(h*2)do w;" gives lines "foreach w in(w+1)-(h*2)do\nw;"
+    ∷ "foreach w in w.h+true do w;" gives lines "foreach w in w.h+true do\nw;"
+    ∷ "foreach w in h do foreach h in w do h;" gives lines "foreach w in h do\nforeach h in w do\nh;"
+    ∷ "foreach w in h do{w;h;}w;" gives lines "foreach w in h do\n{\nw;\nh;\n}\nw;"
+    ∷ "if(w)foreach w in h do if(h)w;" gives lines "if(w)\nforeach w in h do\nif(h)\nw;"
     ∷ []
 
 pub bodies-hold : Hold ofBody bodies
@@ -188,13 +201,13 @@ unfolding bareRead
 bareOf p = bareRead (reading (bytes p))
 
 -- parentheses, places and spelling are no part of it
-pub same-trees : bareOf "def f(x){x;}def main(w,h){var a;a=((w))+007;(w).(h)=[-0];if((w)){f((w));}while(h)return(w.h);}"
-    ≡ bareOf "def f(x) { x ; }  def main(w,h) { var a; a = w+7; w.h = [0]; if(w) { f(w); } while(h) return w.h; }"
+pub same-trees : bareOf "def f(x){x;}def main(w,h){var a;a=((w))+007;(w).(h)=[-0];if((w)){f((w));}while(h)return(w.h);foreach a in((w))do(a);}"
+    ≡ bareOf "def f(x) { x ; }  def main(w,h) { var a; a = w+7; w.h = [0]; if(w) { f(w); } while(h) return w.h; foreach a in w do a; }"
 unfolding everything everyBare bareOf
 same-trees = refl
 
 -- all else is
-pub tree : bareOf "def main(w,h){var a;a=(w-1);w.\"k\"=none;if(true)while(h){w;}return[f(w,2)];}"
+pub tree : bareOf "def main(w,h){var a;a=(w-1);w.\"k\"=none;if(true)while(h){w;}foreach x in(w)do h;return[f(w,2)];}"
     ≡ record {
       place = 0;
       name = bytes "main";
@@ -204,7 +217,8 @@ pub tree : bareOf "def main(w,h){var a;a=(w-1);w.\"k\"=none;if(true)while(h){w;}
           (first (assign 0 (bytes "a") (operation subtract (name (bytes "w")) (number (pos 1))))
           (first (update 0 (name (bytes "w")) (string (bytes "k")) nothing)
           (first (when 0 (truth true) (while 0 (name (bytes "h")) (block 0 (only (act 0 (name (bytes "w")))))))
-          (only (return 0 (table (call (bytes "f") (argument (name (bytes "w")) (argument (number (pos 2)) noArgument)))))))));
+          (first (foreach 0 (bytes "x") (name (bytes "w")) (act 0 (name (bytes "h"))))
+          (only (return 0 (table (call (bytes "f") (argument (name (bytes "w")) (argument (number (pos 2)) noArgument))))))))));
     } ∷ []
 unfolding everything everyBare bareOf
 tree = refl

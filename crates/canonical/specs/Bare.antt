@@ -1,6 +1,6 @@
 -- What two programs must share to be the same: their trees without parentheses and places. How a constant is spelled is no part of a tree.
 use mathlib.Core.List.{List, map}
-use Rattle.meaning.specs.Tree.{Expression, number, string, nothing, truth, name, table, entry, operation, call, paren, Arguments, noArgument, argument, Statement, declare, assign, update, when, while, return, block, act, Statements, only, first, Procedure, Program}
+use Rattle.meaning.specs.Tree.{Expression, number, string, nothing, truth, name, table, entry, operation, call, paren, Arguments, noArgument, argument, Statement, declare, assign, update, when, while, foreach, return, block, act, Statements, only, first, Procedure, Program}
 
 unfoldable mutual
   pub bare : Expression → Expression
@@ -26,6 +26,7 @@ unfoldable mutual
   bareStatement (update p a b e) = update 0 (bare a) (bare b) (bare e)
   bareStatement (when p e s) = when 0 (bare e) (bareStatement s)
   bareStatement (while p e s) = while 0 (bare e) (bareStatement s)
+  bareStatement (foreach p x e s) = foreach 0 x (bare e) (bareStatement s)
   bareStatement (return p e) = return 0 (bare e)
   bareStatement (block p ss) = block 0 (bareStatements ss)
   bareStatement (act p e) = act 0 (bare e)

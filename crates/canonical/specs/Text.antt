@@ -1,12 +1,12 @@
 -- The one text of a program: a statement a line, no needless parentheses, constants without leading zeros, and white space only where it has to be.
-use Prim.Native.Nat.{ℕ}
+use Prim.Native.Nat.{ℕ, _-_}
 use mathlib.Core.Bool.{Bool, true, false, _||_, cond}
 use mathlib.Core.List.{List, [], _∷_, _++_}
-use lib.ListN.{getD}
+use lib.ListN.{length, getD}
 use Rattle.meaning.specs.Basics.{bytes}
 use Rattle.meaning.specs.Byte.{isNamePart}
 use Rattle.meaning.specs.Picture.{decimal}
-use Rattle.meaning.specs.Tree.{Operator, concatenate, add, subtract, multiply, divide, remainder, shiftRight, shiftLeft, equal, unequal, greater, less, Expression, number, string, nothing, truth, name, table, entry, operation, call, paren, Arguments, noArgument, argument, Statement, declare, assign, update, when, while, return, block, act, Statements, only, first, Procedure, Program}
+use Rattle.meaning.specs.Tree.{Operator, concatenate, add, subtract, multiply, divide, remainder, shiftRight, shiftLeft, equal, unequal, greater, less, Expression, number, string, nothing, truth, name, table, entry, operation, call, paren, Arguments, noArgument, argument, Statement, declare, assign, update, when, while, foreach, return, block, act, Statements, only, first, Procedure, Program}
 
 -- texts with a comma between each two
 unfoldable pub commaSeparated : List (List ℕ) → List ℕ
@@ -83,7 +83,11 @@ unfoldable mutual
 unfoldable pub apart : List ℕ → List ℕ
 apart t = cond (isNamePart (getD t 0 0)) (bytes " " ++ t) t
 
--- Each statement begins a line, the body of an if or a while too, and so does a closing brace.
+-- between two words: one space behind a letter or a digit too
+unfoldable pub between : List ℕ → List ℕ
+between t = apart (cond (isNamePart (getD t (length t - 1) 0)) (t ++ bytes " ") t)
+
+-- Each statement begins a line, the body of another too, and so does a closing brace.
 unfoldable mutual
   pub statementText : Statement → List ℕ
   statementText (declare p x) = bytes "var" ++ apart x ++ bytes ";"
@@ -91,6 +95,7 @@ unfoldable mutual
   statementText (update p a b e) = expressionText (entry a b) ++ bytes "=" ++ expressionText e ++ bytes ";"
   statementText (when p e s) = bytes "if(" ++ expressionText e ++ bytes ")\n" ++ statementText s
   statementText (while p e s) = bytes "while(" ++ expressionText e ++ bytes ")\n" ++ statementText s
+  statementText (foreach p x e s) = bytes "foreach" ++ apart x ++ bytes " in" ++ between (expressionText e) ++ bytes "do\n" ++ statementText s
   statementText (return p e) = bytes "return" ++ apart (expressionText e) ++ bytes ";"
   statementText (block p ss) = bytes "{\n" ++ statementsText ss ++ bytes "\n}"
   statementText (act p e) = expressionText e ++ bytes ";"

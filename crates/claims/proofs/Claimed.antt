@@ -1,7 +1,7 @@
 -- The claims of specs/Claims, each proved.
 use Rattle.claims.specs.Claims.{ReadingErrors, LanguageErrors, BeginningsExtend, BeginningsFill, EndedStays, NeededIsBounded, BeginningsDecide, AlwaysAnswered, NumbersWriteNothing}
 use Rattle.claims.specs.Claims.{PicturesFillTheFront, CheckingTakesNothing, UnrunTakesNothing, UnrunIsRefused, OthersTakeAStep, LargerGrant, ShortageExact, CallsUnderWay, ReturnsGiveBack, NoneUnderWay, LengthIsTold, DrawnIsTold}
-use Rattle.claims.specs.Claims.{ToldIsDrawn, NumbersStay, EndAlike, FittingIsRun, AnswersAreBeginnings, PicturesAreBeginnings, SizesNotNegative, OthersStay}
+use Rattle.claims.specs.Claims.{ToldIsDrawn, NumbersStay, EndAlike, FittingIsRun, AnswersAreBeginnings, PicturesAreBeginnings, SizesNotNegative, OthersStay, ComponentsAreOlder, DepthsSuffice}
 use Rattle.claims.proofs.Ends
 use Rattle.claims.proofs.Beginnings
 use Rattle.claims.proofs.Answers
@@ -14,6 +14,8 @@ use Rattle.claims.proofs.UnderWay
 use Rattle.claims.proofs.Unrun
 use Rattle.claims.proofs.Alike
 use Rattle.claims.proofs.Sizes
+use Rattle.claims.proofs.Components
+use Rattle.claims.proofs.Depths
 
 pub beginnings-extend : BeginningsExtend
 beginnings-extend = Beginnings.beginnings-extend
@@ -101,3 +103,9 @@ sizes-not-negative = Sizes.sizes-not-negative
 
 pub others-stay : OthersStay
 others-stay = Sizes.others-stay
+
+pub components-are-older : ComponentsAreOlder
+components-are-older = Components.components-are-older
+
+pub depths-suffice : DepthsSuffice
+depths-suffice = Depths.depths-suffice

@@ -15,16 +15,17 @@ use lib.Dec.{eqb}
 use borrow.Author.Tests.{le-ltb}
 use Rattle.meaning.specs.Basics.{bytes, if_then_else_, sameText, standsIn}
 use Rattle.meaning.specs.Figure.{Figure}
-use Rattle.meaning.specs.Tree.{Operator, concatenate, add, subtract, multiply, divide, remainder, shiftRight, shiftLeft, equal, unequal, greater, less, Expression, Arguments, noArgument, argument, Statement, declare, assign, update, when, while, return, block, act, Statements, only, first, Procedure}
+use Rattle.meaning.specs.Tree.{Operator, concatenate, add, subtract, multiply, divide, remainder, shiftRight, shiftLeft, equal, unequal, greater, less, Expression, Arguments, noArgument, argument, Statement, declare, assign, update, when, while, foreach, return, block, act, Statements, only, first, Procedure}
 use Rattle.meaning.specs.Tree as Tree
 use Rattle.meaning.specs.Grammar.{procedureNamed, Reading, wellFormed, malformed, reading}
 use Rattle.meaning.specs.Value.{Value, integer, string, boolean, none, table, shape}
-use Rattle.meaning.specs.State.{State, Key, scene}
+use Rattle.meaning.specs.State.{State, Content, atom, group, Key, byContent, shapesHeld}
 use Rattle.meaning.specs.Run.{Resource, steps, shapes, entries, textBytes, calls, picture, Taking, Event, taken, gaveBack, taking, End, result, error, unfinished, Run, Action, goOn, _>>=_, give, fail, spend, giveBack, refuse, current, become}
-use Rattle.meaning.specs.Operator.{usable, withInteger, withString, withBoolean, withTable, withShapeNumber, withFigure, newShape, newString, calculated, compared, remaindered, joined, answered, equated, operateOn, operate}
-use Rattle.meaning.specs.Library.{Library, drawLine, drawEllipse, drawBox, drawText, connectShapes, drawTextOnShape, xCoordinate, yCoordinate, destroyShape, clearScene, withNone, withOne, withTwo, withThree, withFour, drawFigure, perform, allUsable, callLibrary}
-use Rattle.meaning.specs.Evaluate.{lookedUp, variable, newTable, entryOf, Invoke, evaluate, evaluateAll}
-use Rattle.meaning.specs.Execute.{Flow, onward, returned, continue, declaring, copied, assigning, storing, updating, looping, execute, executeAll}
+use Rattle.meaning.specs.Group.{spendEach, newShape, each, destroying, remade, figuresOf, pairwise, alike}
+use Rattle.meaning.specs.Operator.{usable, withInteger, withString, withBoolean, withTable, withShapeNumber, withFigure, withGroup, newString, calculated, compared, remaindered, joined, Comparison, refused, settled, ofShapes, answered, equated, operateOn, operate}
+use Rattle.meaning.specs.Library.{Library, drawLine, drawEllipse, drawBox, drawText, connectShapes, drawTextOnShape, xCoordinate, yCoordinate, destroyShape, clearScene, drawGroup, withNone, withOne, withTwo, withThree, withFour, shapeNumbers, draw, drawFigure, perform, allUsable, callLibrary}
+use Rattle.meaning.specs.Evaluate.{lookedUp, variable, newTable, keyed, entryOf, Invoke, evaluate, evaluateAll}
+use Rattle.meaning.specs.Execute.{Flow, onward, returned, continue, declaring, copied, assigning, storing, updating, looping, declaringOnce, binding, turns, iterating, execute, executeAll}
 use Rattle.meaning.specs.Procedure.{doubled, assigningAll, found, calling}
 use Rattle.meaning.specs.Procedure as Procedures
 use Rattle.meaning.specs.Program.{Operation, checking, drawing, accepted, empty, entering, sheet, sized, namedApart, understood, painting, performing, specified}
@@ -269,17 +270,80 @@ module _ {n : ℕ} where
   shape-lawful p (table t) h = fail-20 p
   shape-lawful p (shape i) h = h i
 
+  content-lawful : {A : Type 0} (c : Content) {f : Figure → Action A} {g : List ℕ → Action A} → ((a : Figure) → Lawful languageErrors n (f a)) →
+      ((is : List ℕ) → Lawful languageErrors n (g is)) → Lawful languageErrors n (byContent c f g)
+  unfolding byContent
+  content-lawful (atom a) h k = h a
+  content-lawful (group is) h k = k is
+
   figure-lawful : {A : Type 0} (p : ℕ) (v : Value) {k : Figure → Action A} → ((a : Figure) → Lawful languageErrors n (k a)) →
       Lawful languageErrors n (withFigure p v k)
   unfolding withFigure
-  figure-lawful p v h = shape-lawful p v λ i. bind-lawful current-lawful λ s. h _
+  figure-lawful p v h = shape-lawful p v λ i. bind-lawful current-lawful λ s. content-lawful _ h λ is. fail-20 p
+
+  group-lawful : {A : Type 0} (p : ℕ) (v : Value) {k : List ℕ → Action A} → ((is : List ℕ) → Lawful languageErrors n (k is)) →
+      Lawful languageErrors n (withGroup p v k)
+  unfolding withGroup
+  group-lawful p v h = shape-lawful p v λ i. bind-lawful current-lawful λ s. content-lawful _ (λ a. fail-20 p) h
+
+  -- ---- shapes and groups
+  count-lawful : (p : ℕ) → Lawful languageErrors n (spend steps 1 p)
+  unfolding resourceNumber
+  count-lawful p = spend-lawful steps 1 p refl refl
+
+  entries-lawful : (m p : ℕ) → Lawful languageErrors n (spendEach entries m p)
+  unfolding spendEach resourceNumber
+  entries-lawful zero p = give-lawful tt
+  entries-lawful (suc m) p = bind-lawful (spend-lawful entries 1 p refl refl) λ _. entries-lawful m p
+
+  new-shape-lawful : (p : ℕ) (c : Content) → Lawful languageErrors n (newShape p c)
+  unfolding newShape resourceNumber
+  new-shape-lawful p c =
+      bind-lawful (spend-lawful shapes 1 p refl refl) λ _. bind-lawful (entries-lawful _ p) λ _. bind-lawful current-lawful λ s. bind-lawful (become-lawful _) λ _.
+      give-lawful _
+
+  each-lawful : {A : Type 0} {visit : ℕ → Action (List A)} → ((i : ℕ) → Lawful languageErrors n (visit i)) → (is : List ℕ) →
+      Lawful languageErrors n (each visit is)
+  unfolding each
+  each-lawful h [] = give-lawful []
+  each-lawful h (i ∷ is) =
+      bind-lawful current-lawful λ s. bind-lawful (if-lawful _ (give-lawful []) (h i)) λ xs. bind-lawful (each-lawful h is) λ ys. give-lawful _
+
+  destroying-lawful : (b p i : ℕ) → Lawful languageErrors n (destroying b p i)
+  unfolding destroying
+  destroying-lawful zero p i = give-lawful []
+  destroying-lawful (suc b) p i =
+      bind-lawful current-lawful λ s. bind-lawful (become-lawful _) λ _. each-lawful (λ c. bind-lawful (count-lawful p) λ _. destroying-lawful b p c) _
+
+  remade-lawful : (b p : ℕ) (f : Figure → Figure) (i : ℕ) → Lawful languageErrors n (remade b p f i)
+  unfolding remade
+  remade-lawful zero p f i = give-lawful i
+  remade-lawful (suc b) p f i =
+      bind-lawful current-lawful λ s. content-lawful _ (λ a. new-shape-lawful p _) λ is.
+      bind-lawful (each-lawful (λ c. bind-lawful (bind-lawful (count-lawful p) λ _. remade-lawful b p f c) λ j. give-lawful _) is) λ js. new-shape-lawful p _
+
+  figures-lawful : (b p i : ℕ) → Lawful languageErrors n (figuresOf b p i)
+  unfolding figuresOf
+  figures-lawful zero p i = give-lawful []
+  figures-lawful (suc b) p i =
+      bind-lawful current-lawful λ s. content-lawful _ (λ a. give-lawful _) (each-lawful λ c. bind-lawful (count-lawful p) λ _. figures-lawful b p c)
+
+  pairwise-lawful : {same : ℕ → ℕ → Action Bool} → ((i j : ℕ) → Lawful languageErrors n (same i j)) → (is js : List ℕ) →
+      Lawful languageErrors n (pairwise same is js)
+  unfolding pairwise
+  pairwise-lawful h [] [] = give-lawful true
+  pairwise-lawful h [] (j ∷ js) = give-lawful false
+  pairwise-lawful h (i ∷ is) [] = give-lawful false
+  pairwise-lawful h (i ∷ is) (j ∷ js) = bind-lawful (h i j) λ b. if-lawful b (pairwise-lawful h is js) (give-lawful false)
+
+  alike-lawful : (b p i j : ℕ) → Lawful languageErrors n (alike b p i j)
+  unfolding alike
+  alike-lawful zero p i j = give-lawful false
+  alike-lawful (suc b) p i j =
+      bind-lawful current-lawful λ s. content-lawful _ (λ a. content-lawful _ (λ a′. give-lawful _) λ ds. give-lawful false)
+      λ cs. content-lawful _ (λ a′. give-lawful false) λ ds. pairwise-lawful (λ c d. bind-lawful (count-lawful p) λ _. alike-lawful b p c d) _ _
 
   -- ---- operators
-  new-shape-lawful : (p : ℕ) (a : Figure) → Lawful languageErrors n (newShape p a)
-  unfolding newShape resourceNumber
-  new-shape-lawful p a =
-      bind-lawful (spend-lawful shapes 1 p refl refl) λ _. bind-lawful current-lawful λ s. bind-lawful (become-lawful _) λ _. give-lawful _
-
   new-string-lawful : (p : ℕ) (t : List ℕ) → Lawful languageErrors n (newString p t)
   unfolding newString resourceNumber
   new-string-lawful p t = bind-lawful (spend-lawful textBytes _ p refl refl) λ _. give-lawful _
@@ -295,20 +359,21 @@ module _ {n : ℕ} where
   calculated-lawful d f g p none w = fail-20 p
   calculated-lawful d f g p (table t) w = fail-20 p
   calculated-lawful d f g p (shape i) w =
-      integer-lawful p w λ b. bind-lawful (nonzero-lawful _ p) λ _. bind-lawful current-lawful λ s. new-shape-lawful p _
+      integer-lawful p w λ b. bind-lawful (nonzero-lawful _ p) λ _. bind-lawful (remade-lawful _ p _ i) λ j. give-lawful _
 
   compared-lawful : (f : ℤ → ℤ → Bool) (p : ℕ) (v w : Value) → Lawful languageErrors n (compared f p v w)
   unfolding compared
   compared-lawful f p v w = integer-lawful p v λ a. integer-lawful p w λ b. give-lawful _
 
-  answered-lawful : (p : ℕ) (f : Bool → Bool) (o : Option Bool) → Lawful languageErrors n (answered p f o)
+  answered-lawful : (p : ℕ) (f : Bool → Bool) (c : Comparison) → Lawful languageErrors n (answered p f c)
   unfolding answered
-  answered-lawful p f Option.none = fail-20 p
-  answered-lawful p f (some b) = give-lawful _
+  answered-lawful p f refused = fail-20 p
+  answered-lawful p f (settled b) = give-lawful _
+  answered-lawful p f (ofShapes i j) = bind-lawful (alike-lawful _ p i j) λ b. give-lawful _
 
   equated-lawful : (f : Bool → Bool) (p : ℕ) (v w : Value) → Lawful languageErrors n (equated f p v w)
   unfolding equated
-  equated-lawful f p v w = bind-lawful current-lawful λ s. answered-lawful p f _
+  equated-lawful f p v w = answered-lawful p f _
 
   operate-on-lawful : (o : Operator) (p : ℕ) (v w : Value) → Lawful languageErrors n (operateOn o p v w)
   unfolding operateOn joined remaindered
@@ -358,11 +423,20 @@ module _ {n : ℕ} where
   four-lawful p [] h = fail-20 p
   four-lawful p (v ∷ vs) h = three-lawful p vs (h v)
 
+  numbers-lawful : (p : ℕ) (vs : List Value) → Lawful languageErrors n (shapeNumbers p vs)
+  unfolding shapeNumbers
+  numbers-lawful p [] = give-lawful []
+  numbers-lawful p (v ∷ vs) = shape-lawful p v λ i. bind-lawful (numbers-lawful p vs) λ is. give-lawful _
+
+  draw-lawful : (p : ℕ) (c : Content) → Lawful languageErrors n (draw p c)
+  unfolding draw
+  draw-lawful p c = bind-lawful (new-shape-lawful p c) λ i. give-lawful _
+
   drawn-lawful : (make : ℤ → ℤ → ℤ → ℤ → Figure) (p : ℕ) (vs : List Value) → Lawful languageErrors n (drawFigure make p vs)
   unfolding drawFigure
   drawn-lawful make p vs =
       four-lawful p vs λ v₁ v₂ v₃ v₄. integer-lawful p v₁ λ a. integer-lawful p v₂ λ b. integer-lawful p v₃ λ c. integer-lawful p v₄ λ d.
-      new-shape-lawful p _
+      draw-lawful p _
 
   perform-lawful : (f : Library) (p : ℕ) (vs : List Value) → Lawful languageErrors n (perform f p vs)
   unfolding perform
@@ -370,14 +444,15 @@ module _ {n : ℕ} where
   perform-lawful drawEllipse p vs = drawn-lawful _ p vs
   perform-lawful drawBox p vs = drawn-lawful _ p vs
   perform-lawful drawText p vs =
-      three-lawful p vs λ v₁ v₂ v₃. integer-lawful p v₁ λ x. integer-lawful p v₂ λ y. string-lawful p v₃ λ t. new-shape-lawful p _
-  perform-lawful connectShapes p vs = two-lawful p vs λ v₁ v₂. figure-lawful p v₁ λ a. figure-lawful p v₂ λ b. new-shape-lawful p _
-  perform-lawful drawTextOnShape p vs = two-lawful p vs λ v₁ v₂. figure-lawful p v₁ λ a. string-lawful p v₂ λ t. new-shape-lawful p _
+      three-lawful p vs λ v₁ v₂ v₃. integer-lawful p v₁ λ x. integer-lawful p v₂ λ y. string-lawful p v₃ λ t. draw-lawful p _
+  perform-lawful connectShapes p vs = two-lawful p vs λ v₁ v₂. figure-lawful p v₁ λ a. figure-lawful p v₂ λ b. draw-lawful p _
+  perform-lawful drawTextOnShape p vs = two-lawful p vs λ v₁ v₂. figure-lawful p v₁ λ a. string-lawful p v₂ λ t. draw-lawful p _
   perform-lawful xCoordinate p vs = one-lawful p vs λ v. figure-lawful p v λ a. give-lawful _
   perform-lawful yCoordinate p vs = one-lawful p vs λ v. figure-lawful p v λ a. give-lawful _
-  perform-lawful destroyShape p vs =
-      one-lawful p vs λ v. shape-lawful p v λ i. bind-lawful current-lawful λ s. bind-lawful (become-lawful _) λ _. give-lawful _
-  perform-lawful clearScene p vs = none-lawful p vs (bind-lawful current-lawful λ s. bind-lawful (become-lawful _) λ _. give-lawful _)
+  perform-lawful destroyShape p vs = one-lawful p vs λ v. shape-lawful p v λ i. bind-lawful (destroying-lawful _ p i) λ _. give-lawful _
+  perform-lawful clearScene p vs =
+      none-lawful p vs (bind-lawful current-lawful λ s. bind-lawful (each-lawful (λ i. destroying-lawful _ p i) _) λ _. give-lawful _)
+  perform-lawful drawGroup p vs = bind-lawful (numbers-lawful p vs) λ is. draw-lawful p _
 
   all-usable-lawful : (p : ℕ) (vs : List Value) → Lawful languageErrors n (allUsable p vs)
   unfolding allUsable
@@ -404,13 +479,14 @@ module _ {n : ℕ} where
   new-table-lawful p z =
       bind-lawful (refuse-lawful _ 40 p is-40) λ _. bind-lawful current-lawful λ s. bind-lawful (become-lawful _) λ _. give-lawful _
 
+  keyed-lawful : {A : Type 0} (p : ℕ) (o : Option Key) {k : Key → Action A} → ((key : Key) → Lawful languageErrors n (k key)) → Lawful languageErrors n (keyed p o k)
+  unfolding keyed
+  keyed-lawful p Option.none h = fail-20 p
+  keyed-lawful p (some key) h = h key
+
   entry-lawful : (p t : ℕ) (v : Value) → Lawful languageErrors n (entryOf p t v)
   unfolding entryOf
-  entry-lawful p t v = bind-lawful current-lawful λ s. found-lawful 20 p _ is-20
-
-  count-lawful : (p : ℕ) → Lawful languageErrors n (spend steps 1 p)
-  unfolding resourceNumber
-  count-lawful p = spend-lawful steps 1 p refl refl
+  entry-lawful p t v = bind-lawful current-lawful λ s. keyed-lawful p _ λ key. found-lawful 20 p _ is-20
 
   -- ---- statements
   continue-lawful : (f : Flow) {k : Action Flow} → Lawful languageErrors n k → Lawful languageErrors n (continue f k)
@@ -430,7 +506,7 @@ module _ {n : ℕ} where
   copied-lawful p (boolean b) = give-lawful _
   copied-lawful p none = give-lawful _
   copied-lawful p (table t) = give-lawful _
-  copied-lawful p (shape i) = bind-lawful current-lawful λ s. new-shape-lawful p _
+  copied-lawful p (shape i) = bind-lawful current-lawful λ s. bind-lawful (new-shape-lawful p _) λ j. give-lawful _
 
   assigning-lawful : (p : ℕ) (x : List ℕ) (v : Value) → Lawful languageErrors n (assigning p x v)
   unfolding assigning
@@ -446,7 +522,27 @@ module _ {n : ℕ} where
 
   updating-lawful : (p t : ℕ) (w v : Value) → Lawful languageErrors n (updating p t w v)
   unfolding updating
-  updating-lawful p t w v = bind-lawful current-lawful λ s. storing-lawful p t _ v _
+  updating-lawful p t w v = bind-lawful current-lawful λ s. keyed-lawful p _ λ k. storing-lawful p t k v _
+
+  declaring-once-lawful : (x : List ℕ) → Lawful languageErrors n (declaringOnce x)
+  unfolding declaringOnce
+  declaring-once-lawful x = bind-lawful current-lawful λ s. become-lawful _
+
+  binding-lawful : (x : List ℕ) (i : ℕ) → Lawful languageErrors n (binding x i)
+  unfolding binding
+  binding-lawful x i = bind-lawful current-lawful λ s. become-lawful _
+
+  turns-lawful : {visit : ℕ → Action Flow} → ((i : ℕ) → Lawful languageErrors n (visit i)) → (is : List ℕ) → Lawful languageErrors n (turns visit is)
+  unfolding turns
+  turns-lawful h [] = give-lawful onward
+  turns-lawful h (i ∷ is) =
+      bind-lawful current-lawful λ s. bind-lawful (if-lawful _ (give-lawful onward) (h i)) λ f. continue-lawful f (turns-lawful h is)
+
+  iterating-lawful : (b : ℕ) {body : ℕ → Action Flow} → ((i : ℕ) → Lawful languageErrors n (body i)) → (i : ℕ) →
+      Lawful languageErrors n (iterating b body i)
+  unfolding iterating
+  iterating-lawful zero h i = give-lawful onward
+  iterating-lawful (suc b) h i = bind-lawful current-lawful λ s. content-lawful _ (λ a. h i) (turns-lawful (iterating-lawful b h))
 
 -- a step counted is one more
 ending-counted : {A : Type 0} (ns : List ℕ) (n p : ℕ) (ts : List Event) (e : End A) → Ending ns n ts e → Ending ns (suc n) (taking steps 1 p ∷ ts) e
@@ -515,6 +611,10 @@ module _ (n m : ℕ) (l : n ≤ suc m) (invoke : Invoke) (called : (x : List ℕ
         bind-lawful (count-lawful p) λ _. bind-lawful (value-lawful e p) λ v. boolean-lawful p v λ b.
         if-lawful b (execute-lawful s) (give-lawful _)
     execute-lawful (while p e s) = loop-lawful n n p (le-refl n) (value-lawful e p) (execute-lawful s)
+    execute-lawful (foreach p x e t) =
+        bind-lawful (count-lawful p) λ _. bind-lawful (value-lawful e p) λ v. bind-lawful (usable-lawful p v) λ _. group-lawful p v λ is.
+        bind-lawful (declaring-once-lawful x) λ _. turns-lawful (λ i. bind-lawful (count-lawful p) λ _.
+        iterating-lawful (suc i) (λ j. bind-lawful (binding-lawful x j) λ _. execute-lawful t) i) is
     execute-lawful (return p e) = bind-lawful (count-lawful p) λ _. bind-lawful (value-lawful e p) λ v. give-lawful _
     execute-lawful (block p ss) = bind-lawful (count-lawful p) λ _. all-lawful ss
     execute-lawful (act p e) = bind-lawful (count-lawful p) λ _. bind-lawful (value-lawful e p) λ v. give-lawful _
@@ -566,7 +666,7 @@ calling-lawful (suc n) fs x p vs =
 abbrev paintingOf : ℕ → Tree.Program → ℤ → ℤ → Action (List Figure)
 paintingOf n tree width height =
     entering (tree .main .parameters) width height >>= λ _. executeAll (calling n (tree .procedures)) (tree .main .body) n >>= λ _.
-    current >>= λ s. giveBack >>= λ _. give (scene s)
+    giveBack >>= λ _. current >>= λ s. each (λ i. figuresOf (suc i) 0 i) (shapesHeld (s .variables))
 
 module _ {n : ℕ} where
   entering-moving : (xs : List (List ℕ)) (width height : ℤ) → Moving languageErrors n false true (entering xs width height)
@@ -581,7 +681,7 @@ module _ {n : ℕ} where
   painting-of-lawful tree width height =
       let run = all-lawful n (lessOne n) (less-one n) (calling n (tree .procedures)) (calling-lawful n (tree .procedures)) (tree .main .body) in
       bind-moving (entering-moving (tree .main .parameters) width height) λ _. bind-moving (shifted run) λ _.
-      bind-moving (shifted current-lawful) λ s. bind-moving return-moving λ _. give-lawful _
+      bind-moving return-moving λ _. bind-lawful current-lawful λ s. each-lawful (λ i. figures-lawful (suc i) 0 i) _
 
   -- a `def` of another's name is 60
   apart-lawful : (o : Option ℕ) (tree : Tree.Program) → Lawful languageErrors n (namedApart o tree)

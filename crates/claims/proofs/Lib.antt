@@ -13,4 +13,6 @@ pub mod Shortages
 pub mod Alike
 pub mod Told
 pub mod Sizes
+pub mod Components
+pub mod Depths
 pub mod Claimed

@@ -7,7 +7,7 @@ use mathlib.Core.Option.{Option, none, some}
 use Rattle.meaning.specs.Basics.{bytes, if_then_else_, standsIn}
 use Rattle.meaning.specs.Token.{Token, Lexed, lexed, stray, tokensOf}
 use Rattle.meaning.specs.Tree.{Operator, Expression, Statement, Procedure}
-use Rattle.meaning.specs.Grammar.{Got, good, wrong, after, expect, Inside, noLevel, level, opening, ReadExpression, argumentsFrom, arguments, primary, operand, operated, expressionIn, expression, ReadStatement, Readers, declaration, returning, Target, variable, element, noTarget, assignment, simple, guarded, statementsFrom, statementIn, statement, parametersFrom, parameters, procedure, proceduresFrom, procedureNamed, withMain, procedures, Reading, wellFormed, malformed, readOf, parsed, reading}
+use Rattle.meaning.specs.Grammar.{Got, good, wrong, after, expect, Inside, noLevel, level, opening, ReadExpression, argumentsFrom, arguments, primary, operand, operated, expressionIn, expression, ReadStatement, Readers, declaration, returning, Target, variable, element, noTarget, assignment, simple, guarded, iteration, statementsFrom, statementIn, statement, parametersFrom, parameters, procedure, proceduresFrom, procedureNamed, withMain, procedures, Reading, wellFormed, malformed, readOf, parsed, reading}
 use Rattle.claims.specs.Claims.{among, readingErrors, ReadingErrors}
 
 -- ---- the relation
@@ -136,12 +136,19 @@ module _ (ts : List Token) where
         if-low _ (opening-low LowReaders inside _ h λ inner w.
         after-low (w .0 (i + 1)) λ e j. after-low (expect-low _ ts j _) λ _ m. after-low (w .1 m) λ s n. fine) wrong-10
 
+    iteration-low : (read : ReadExpression) → LowAt read → LowAt (iteration read inside ts)
+    unfolding iteration
+    iteration-low read k i =
+        after-low (expect-low _ ts (i + 1) _) λ x i₂. after-low (expect-low _ ts i₂ _) λ _ i₃. after-low (k i₃) λ e j. after-low (expect-low _ ts j _) λ _ m.
+        if-low _ (opening-low LowReaders inside m h λ inner w. after-low (w .1 m) λ s n. fine) wrong-10
+
     statement-in-low : (read : ReadExpression) → LowAt read → LowAt (statementIn read inside ts)
     unfolding statementIn
     statement-in-low read k i =
-        if-low _ (declaration-low i) (if-low _ (guarded-low _ (i + 1)) (if-low _ (guarded-low _ (i + 1)) (if-low _ (returning-low read k i)
+        if-low _ (declaration-low i) (if-low _ (guarded-low _ (i + 1)) (if-low _ (guarded-low _ (i + 1)) (if-low _ (iteration-low read k i)
+        (if-low _ (returning-low read k i)
         (if-low _ (opening-low LowReaders inside _ h λ inner w. after-low (statements-from-low _ (inner .inStatement) (w .1) (i + 1)) λ ss j. fine)
-        (simple-low read k i)))))
+        (simple-low read k i))))))
 
   statement-low : (left : ℕ) → LowAt (statement left ts)
   unfolding statement

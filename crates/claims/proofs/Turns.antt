@@ -2,21 +2,22 @@
 use Prim.Native.Nat.{ℕ, zero, suc, _≤_}
 use mathlib.Core.Path.{_≡_, refl, ap, sym, _∙_}
 use mathlib.Core.Bool.{Bool, true, false}
-use mathlib.Core.List.{List, [], _++_, append-assoc, append-nil}
+use mathlib.Core.List.{List, [], _∷_, _++_, append-assoc, append-nil}
 use mathlib.Core.Option.{Option, some}
 use mathlib.Core.Option as Option
 use native.Mathlib.Nat.{not-suc-le-zero, le-of-suc-le-suc}
 use lib.IntN.{ℤ}
 use Rattle.meaning.specs.Basics.{bytes, if_then_else_, sameText}
-use Rattle.meaning.specs.Tree.{Expression, Arguments, noArgument, argument, Procedure, Statement, declare, assign, update, when, while, return, block, act, Statements, only, first}
+use Rattle.meaning.specs.Tree.{Expression, Arguments, noArgument, argument, Procedure, Statement, declare, assign, update, when, while, foreach, return, block, act, Statements, only, first}
 use Rattle.meaning.specs.Tree as Tree
 use Rattle.meaning.specs.Grammar.{procedureNamed}
 use Rattle.meaning.specs.Value.{Value, integer, string, boolean, none, table, shape}
-use Rattle.meaning.specs.State.{State}
+use Rattle.meaning.specs.Figure.{Figure}
+use Rattle.meaning.specs.State.{State, Content, atom, group, byContent}
 use Rattle.meaning.specs.Run.{Event, End, result, error, unfinished, Run, Action, following, goOn, _>>=_}
-use Rattle.meaning.specs.Operator.{withBoolean, withTable}
+use Rattle.meaning.specs.Operator.{withBoolean, withTable, withShapeNumber, withGroup}
 use Rattle.meaning.specs.Evaluate.{Invoke, evaluate, evaluateAll}
-use Rattle.meaning.specs.Execute.{Flow, onward, returned, continue, looping, execute, executeAll}
+use Rattle.meaning.specs.Execute.{Flow, onward, returned, continue, looping, turns, iterating, execute, executeAll}
 use Rattle.meaning.specs.Procedure.{found, calling}
 use Rattle.meaning.specs.Procedure as Procedures
 use Rattle.meaning.specs.Program.{Operation, checking, drawing, empty, painting, performing, specified}
@@ -94,6 +95,22 @@ table-lengthens p none h = unchanged
 table-lengthens p (table t) h = h t
 table-lengthens p (shape i) h = unchanged
 
+content-lengthens : {A : Type 0} (c : Content) {f f′ : Figure → Action A} {g g′ : List ℕ → Action A} → ((a : Figure) → Lengthens (f a) (f′ a)) →
+    ((is : List ℕ) → Lengthens (g is) (g′ is)) → Lengthens (byContent c f g) (byContent c f′ g′)
+unfolding byContent
+content-lengthens (atom a) h k = h a
+content-lengthens (group is) h k = k is
+
+group-lengthens : {A : Type 0} (p : ℕ) (v : Value) {k k′ : List ℕ → Action A} → ((is : List ℕ) → Lengthens (k is) (k′ is)) →
+    Lengthens (withGroup p v k) (withGroup p v k′)
+unfolding withGroup withShapeNumber
+group-lengthens p (integer z) h = unchanged
+group-lengthens p (string t) h = unchanged
+group-lengthens p (boolean b) h = unchanged
+group-lengthens p none h = unchanged
+group-lengthens p (table t) h = unchanged
+group-lengthens p (shape i) h = bind-lengthens unchanged λ s. content-lengthens _ (λ a. unchanged) h
+
 continue-lengthens : (f : Flow) {k k′ : Action Flow} → Lengthens k k′ → Lengthens (continue f k) (continue f k′)
 unfolding continue
 continue-lengthens onward h = h
@@ -107,6 +124,18 @@ loop-lengthens (suc n) zero p l t h = absurd (not-suc-le-zero l)
 loop-lengthens (suc n) (suc n′) p l t h =
     bind-lengthens unchanged λ _. bind-lengthens t λ v. boolean-lengthens p v λ b.
     if-lengthens b (bind-lengthens h λ f. continue-lengthens f (loop-lengthens n n′ p (le-of-suc-le-suc l) t h)) unchanged
+
+turns-lengthens : {visit visit′ : ℕ → Action Flow} → ((i : ℕ) → Lengthens (visit i) (visit′ i)) → (is : List ℕ) → Lengthens (turns visit is) (turns visit′ is)
+unfolding turns
+turns-lengthens h [] = unchanged
+turns-lengthens h (i ∷ is) =
+    bind-lengthens unchanged λ s. bind-lengthens (if-lengthens _ unchanged (h i)) λ f. continue-lengthens f (turns-lengthens h is)
+
+iterating-lengthens : (b : ℕ) {body body′ : ℕ → Action Flow} → ((i : ℕ) → Lengthens (body i) (body′ i)) → (i : ℕ) →
+    Lengthens (iterating b body i) (iterating b body′ i)
+unfolding iterating
+iterating-lengthens zero h i = unchanged
+iterating-lengthens (suc b) h i = bind-lengthens unchanged λ s. content-lengthens _ (λ a. h i) (turns-lengthens (iterating-lengthens b h))
 
 -- ---- expressions and statements, if calls do so
 module _ (invoke invoke′ : Invoke) (called : (x : List ℕ) (p : ℕ) (vs : List Value) → Lengthens (invoke x p vs) (invoke′ x p vs)) where
@@ -146,6 +175,10 @@ module _ (invoke invoke′ : Invoke) (called : (x : List ℕ) (p : ℕ) (vs : Li
         bind-lengthens unchanged λ _. bind-lengthens (evaluate-lengthens e p) λ v. boolean-lengthens p v λ b.
         if-lengthens b (execute-lengthens s l) unchanged
     execute-lengthens (while p e s) {n} {n′} l = loop-lengthens n n′ p l (evaluate-lengthens e p) (execute-lengthens s l)
+    execute-lengthens (foreach p x e t) l =
+        bind-lengthens unchanged λ _. bind-lengthens (evaluate-lengthens e p) λ v. bind-lengthens unchanged λ _. group-lengthens p v λ is.
+        bind-lengthens unchanged λ _. turns-lengthens (λ i. bind-lengthens unchanged λ _. iterating-lengthens (suc i)
+        (λ j. bind-lengthens unchanged λ _. execute-lengthens t l) i) is
     execute-lengthens (return p e) l = bind-lengthens unchanged λ _. bind-lengthens (evaluate-lengthens e p) λ v. unchanged
     execute-lengthens (block p ss) l = bind-lengthens unchanged λ _. all-lengthens ss l
     execute-lengthens (act p e) l = bind-lengthens unchanged λ _. bind-lengthens (evaluate-lengthens e p) λ v. unchanged

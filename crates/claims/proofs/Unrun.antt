@@ -12,7 +12,7 @@ use lib.Signed.{ltZ}
 use lib.Dec.{ltb}
 use borrow.Author.Tests.{lt-ltb, ltb-true}
 use Rattle.meaning.specs.Basics.{sameText}
-use Rattle.meaning.specs.Tree.{Statement, declare, assign, update, when, while, return, block, act, Statements, only, first, Program}
+use Rattle.meaning.specs.Tree.{Statement, declare, assign, update, when, while, foreach, return, block, act, Statements, only, first, Program}
 use Rattle.meaning.specs.Grammar.{Reading, wellFormed, malformed, reading}
 use Rattle.meaning.specs.State.{State}
 use Rattle.meaning.specs.Run.{steps, calls, Event, taking, End, result, error, unfinished, Run, run, Action, goOn, _>>=_, give, fail, spend, refuse, become}
@@ -186,6 +186,7 @@ execute-steps invoke (assign p x e) n = bind-steps _ (count-steps p)
 execute-steps invoke (update p a b e) n = bind-steps _ (count-steps p)
 execute-steps invoke (when p e s) n = bind-steps _ (count-steps p)
 execute-steps invoke (while p e s) n = bind-steps _ (count-steps p)
+execute-steps invoke (foreach p x e t) n = bind-steps _ (count-steps p)
 execute-steps invoke (return p e) n = bind-steps _ (count-steps p)
 execute-steps invoke (block p ss) n = bind-steps _ (count-steps p)
 execute-steps invoke (act p e) n = bind-steps _ (count-steps p)

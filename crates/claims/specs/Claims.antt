@@ -13,13 +13,16 @@ use Rattle.meaning.specs.Basics.{sameText, laidOver, standsIn}
 use Rattle.meaning.specs.Integer.{isNegative}
 use Rattle.meaning.specs.Figure.{Figure, line, ellipse, box, text}
 use Rattle.meaning.specs.Picture.{plainLine, turned, lineOf}
-use Rattle.meaning.specs.Tree.{Procedure, Program}
+use Rattle.meaning.specs.Tree.{Expression, Statement, Procedure, Program}
 use Rattle.meaning.specs.Grammar.{wellFormed, malformed, reading}
 use Rattle.meaning.specs.Value.{Value}
-use Rattle.meaning.specs.State.{State}
-use Rattle.meaning.specs.Run.{Resource, steps, calls, picture, Taking, Event, taken, gaveBack, taking, Run, run, result, error, unfinished}
+use Rattle.meaning.specs.State.{Entry, State, contentOf, componentsIn, shapeIn, shapesHeld, shapesHeldBy}
+use Rattle.meaning.specs.Run.{Resource, steps, calls, picture, Taking, Event, taken, gaveBack, taking, Run, run, result, error, unfinished, Action}
+use Rattle.meaning.specs.Group.{destroying, remade, figuresOf, alike}
+use Rattle.meaning.specs.Evaluate.{evaluate}
+use Rattle.meaning.specs.Execute.{Flow, iterating, execute}
 use Rattle.meaning.specs.Procedure.{doubled, calling}
-use Rattle.meaning.specs.Program.{Operation, checking, drawing, Outcome, drawn, specified, beginning}
+use Rattle.meaning.specs.Program.{Operation, checking, drawing, Outcome, drawn, empty, painting, specified, beginning}
 use Rattle.meaning.specs.Book.{Amounts, nothingYet, resourceNumber, added, lowered, fits, allFit, book, Answer, pictured, number, undecided, shortageOf, lengthNeeded, booked}
 use Rattle.meaning.specs.Call.{Call, Grants, inRange, needed, admitted, grantedTo, runOf, answer, outAfter}
 
@@ -301,3 +304,46 @@ SizesNotNegative = (a : Figure) → (lineOf a ≡ plainLine (turned a)) × NoneN
 -- and a figure that has none is shown with its own numbers
 abbrev pub OthersStay : Type 0
 OthersStay = (a : Figure) → NoneNegative (sizesOf a) → lineOf a ≡ plainLine a
+
+-- ---- groups
+-- all below n
+pub data Below : ℕ → List ℕ → Type 0 where
+  done : {n : ℕ} → Below n []
+  next : {n i : ℕ} {is : List ℕ} → i < n → Below n is → Below n (i ∷ is)
+
+-- the shapes that entries hold
+unfoldable pub shapesStored : List Entry → List ℕ
+shapesStored [] = []
+shapesStored (e ∷ es) = shapeIn (e .holds) ++ shapesStored es
+
+-- each component of a group is an older shape, and every shape that a variable or an entry holds is there
+pub record Older (s : State) : Type 0 where
+  pub components : (i : ℕ) → Below i (componentsIn (contentOf s i))
+  pub held : Below (length (s .shapes)) (shapesHeld (s .variables))
+  pub waiting : Below (length (s .shapes)) (shapesHeldBy (s .suspended))
+  pub stored : Below (length (s .shapes)) (shapesStored (s .entries))
+
+-- Components are always older: it is so at first, and every statement, every expression and every program leaves it so.
+abbrev pub ComponentsAreOlder : Type 0
+ComponentsAreOlder =
+    Older empty
+    × ((t : Statement) (procedures : List Procedure) (m n : ℕ) (s s′ : State) (f : Flow) →
+    Older s → execute (calling m procedures) t n s .end ≡ result f s′ → Older s′)
+    × ((e : Expression) (procedures : List Procedure) (m p : ℕ) (s s′ : State) (v : Value) →
+    Older s → evaluate (calling m procedures) e p s .end ≡ result v s′ → Older s′ × Below (length (s′ .shapes)) (shapeIn v))
+    × ((program : List ℕ) (width height : ℤ) (n : ℕ) (figures : List Figure) (s : State) →
+    painting program width height n empty .end ≡ result figures s → Older s)
+
+-- whatever it does to a state with older components leaves one
+abbrev pub KeepsOlder : {A : Type 0} → Action A → Type 0
+KeepsOlder {A} m = (s s′ : State) (a : A) → Older s → m s .end ≡ result a s′ → Older s′
+
+-- So the depth that a walk through a group is given, one more than the shape's number, never runs out: a greater one changes nothing.
+abbrev pub DepthsSuffice : Type 0
+DepthsSuffice =
+    (s : State) → Older s → (b p i : ℕ) → i < b →
+    (destroying b p i s ≡ destroying (suc i) p i s)
+    × ((f : Figure → Figure) → remade b p f i s ≡ remade (suc i) p f i s)
+    × (figuresOf b p i s ≡ figuresOf (suc i) p i s)
+    × ((j : ℕ) → alike b p i j s ≡ alike (suc i) p i j s)
+    × ((body : ℕ → Action Flow) → ((j : ℕ) → KeepsOlder (body j)) → iterating b body i s ≡ iterating (suc i) body i s)

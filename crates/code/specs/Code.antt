@@ -1,17 +1,17 @@
 -- The code of a program: its tree as a list of words, which the evaluator runs.
 -- An expression's word stands behind its parts, so the last word of its code is its root. A statement's word stands before its parts, so the code of
--- a body's statements is theirs one after the other. Each word holds how many words its code has. Parentheses leave no word. A procedure's code is the
--- slots of its parameters and its body's.
+-- a body's statements is theirs one after the other. Each word holds how many words its code has. Parentheses leave no word. Behind a foreach's
+-- word stands its variable's slot, as a word of its own. A procedure's code is the slots of its parameters and its body's.
 use Prim.Native.Nat.{ℕ, _+_, _*_}
 use mathlib.Core.Bool.{Bool, true, false}
 use mathlib.Core.List.{List, [], _∷_, _++_, map}
 use lib.ListN.{length, set}
 use Rattle.meaning.specs.Basics.{if_then_else_, sameText}
 use Rattle.meaning.specs.Token.{Token, aName, aString}
-use Rattle.meaning.specs.Tree.{Expression, number, string, nothing, truth, name, table, entry, operation, call, paren, Arguments, noArgument, argument, Statement, declare, assign, update, when, while, return, block, act, Statements, only, first, Procedure}
+use Rattle.meaning.specs.Tree.{Expression, number, string, nothing, truth, name, table, entry, operation, call, paren, Arguments, noArgument, argument, Statement, declare, assign, update, when, while, foreach, return, block, act, Statements, only, first, Procedure}
 use Rattle.meaning.specs.Grammar.{startAt}
 use Rattle.meaning.specs.Integer.{bits}
-use Rattle.machine.specs.Opcodes.{word, procedureWord, tagNumber, tagString, tagNone, tagTruth, tagName, tagTable, tagEntry, tagCall, tagArgument, tagOf, tagDeclare, tagAssign, tagUpdate, tagWhen, tagWhile, tagReturn, tagBlock, tagAct}
+use Rattle.machine.specs.Opcodes.{word, procedureWord, tagNumber, tagString, tagNone, tagTruth, tagName, tagTable, tagEntry, tagCall, tagArgument, tagOf, tagDeclare, tagAssign, tagUpdate, tagWhen, tagWhile, tagReturn, tagBlock, tagAct, tagForeach}
 use Rattle.names.specs.Prepared.{home, procedureNumber}
 
 -- ---- expressions
@@ -61,6 +61,7 @@ unfoldable mutual
   codeOfStatement (update p a b e) ts = headed tagUpdate p 0 (codeOf a ts ++ (codeOf b ts ++ codeOf e ts))
   codeOfStatement (when p e s) ts = headed tagWhen p (length (codeOf e ts)) (codeOf e ts ++ codeOfStatement s ts)
   codeOfStatement (while p e s) ts = headed tagWhile p (length (codeOf e ts)) (codeOf e ts ++ codeOfStatement s ts)
+  codeOfStatement (foreach p x e s) ts = headed tagForeach p (length (codeOf e ts) + 1) (slotOf ts x ∷ (codeOf e ts ++ codeOfStatement s ts))
   codeOfStatement (return p e) ts = headed tagReturn p 0 (codeOf e ts)
   codeOfStatement (block p ss) ts = headed tagBlock p 0 (codeOfStatements ss ts)
   codeOfStatement (act p e) ts = headed tagAct p 0 (codeOf e ts)

@@ -17,7 +17,7 @@ use Rattle.demands.proofs.Proved.{not-empty}
 -- a body drawn on a sheet so wide and 20 high, with these grants, token words and bytes of out slice
 abbrev pub drawnOn : ℕ → ℕ → ℕ → List ℕ → String → Call
 drawnOn width tokens room g body =
-    called drawing (main body) (pos width) (pos 20) g (replicate tokens 0) (replicate 16384 0) (replicate 278624 0) (replicate 2 0) (replicate room 0)
+    called drawing (main body) (pos width) (pos 20) g (replicate tokens 0) (replicate 16384 0) (replicate 278640 0) (replicate 2 0) (replicate room 0)
 
 pub record Instance : Type 0 where
   pub width : ℕ
@@ -50,6 +50,8 @@ table =
     ∷ plain some "var t;t=[0];t.1=1;t.2=2;" (number 77 32 12 0)
     ∷ plain (100 ∷ 4 ∷ 1 ∷ 1 ∷ 1 ∷ []) "\"a\"++\"b\";" (number 78 14 4 0)
     ∷ plain (0 ∷ 4 ∷ 1 ∷ 2 ∷ 1 ∷ []) "var a;" (number 79 14 0 0)
+    ∷ plain (7 ∷ 4 ∷ 2 ∷ 2 ∷ 1 ∷ []) "w=drawGroup(drawLine(1,2,3,4));" (number 79 0 7 0)
+    ∷ plain (8 ∷ 4 ∷ 2 ∷ 2 ∷ 1 ∷ []) "w=drawGroup(drawLine(1,2,3,4));" (pictured 177 8)
     ∷ record { width = 20; tokens = 8193; room = 140; grants = some; body = "var a;"; expected = number 80 0 1 141 }
     ∷ record { width = 20; tokens = 8193; room = 0; grants = some; body = "var a;"; expected = number 80 0 1 141 }
     ∷ plain some "f();}def f(){1;" (number 81 14 2 0)
@@ -74,12 +76,12 @@ byLengths i = record {
   width = pos (i .width);
   height = pos 20;
   grants = grantsOf (i .grants);
-  lent = i .tokens ∷ 16384 ∷ 278624 ∷ 2 ∷ [];
+  lent = i .tokens ∷ 16384 ∷ 278640 ∷ 2 ∷ [];
   out = replicate (i .room) 0;
 }
 
 same-call : (i : Instance) → callOf i ≡ byLengths i
-same-call i = rw (length-replicate {A = ℕ} (i .tokens) 0, length-replicate {A = ℕ} 16384 0, length-replicate {A = ℕ} 278624 0)
+same-call i = rw (length-replicate {A = ℕ} (i .tokens) 0, length-replicate {A = ℕ} 16384 0, length-replicate {A = ℕ} 278640 0)
 
 abbrev AllAnswered : List Instance → Type 0
 AllAnswered [] = Unit {0}
@@ -87,11 +89,11 @@ AllAnswered (i ∷ is) = (answer (byLengths i) ≡ i .expected) × AllAnswered i
 
 all-answered : AllAnswered table
 unfolding everything
-all-answered = (refl, (refl, (refl, (refl, (refl, (refl, (refl, (refl, (refl, (refl, (refl, (refl, (refl, (refl, (refl, (refl, (refl, tt)))))))))))))))))
+all-answered = (refl, (refl, (refl, (refl, (refl, (refl, (refl, (refl, (refl, (refl, (refl, (refl, (refl, (refl, (refl, (refl, (refl, (refl, (refl, tt)))))))))))))))))))
 
 returns : (i : Instance) → answer (byLengths i) ≡ i .expected → Returns i
 returns i e =
-    let p = not-empty .drawing (main (i .body)) (pos (i .width)) (pos 20) (i .grants) (replicate (i .tokens) 0) (replicate 16384 0) (replicate 278624 0) (replicate 2 0)
+    let p = not-empty .drawing (main (i .body)) (pos (i .width)) (pos 20) (i .grants) (replicate (i .tokens) 0) (replicate 16384 0) (replicate 278640 0) (replicate 2 0)
     (replicate (i .room) 0) in
     (p .handed, p .work, p .work′, p .out, p .returned, p .is ∙ ap answer (same-call i) ∙ e)
 

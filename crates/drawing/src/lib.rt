@@ -9,8 +9,8 @@ ghost use Rattle.lending.specs.Lending.{Ready, called, Performed};
 ghost use Rattle.drawing.specs.Drawing.{Drawn, Scene};
 
 // Runs the program and draws its picture into the front of `out`; after a number `out` is as it was. The grants are steps, shapes, entries, text
-// bytes and calls; `tokens` must hold 8,193 words, `code` 16,384, `words` 278,608 + 3 × shapes + 4 × entries, and `texts` as many bytes as text bytes
-// are granted. These four hold zeros afterwards, and keep what they had after 71.
+// bytes and calls; `tokens` must hold 8,193 words, `code` 16,384, `words` 278,608 + 5 × shapes + (5 + calls) × entries, and `texts` as many bytes as
+// text bytes are granted. These four hold zeros afterwards, and keep what they had after 71.
 pub fn draw(
     program: &[u8],
     width: i32,
@@ -74,7 +74,7 @@ fn draw_scene<'a>(
     width: i32,
     height: i32,
     grants: &[u64; 5],
-    words: &[u64],
+    words: &mut [u64],
     texts: &'a [u8],
     out: &mut [u8],
 ) -> Answer
@@ -82,10 +82,10 @@ fn draw_scene<'a>(
     ensures { λ r. ⌜ Drawn (now (program .entry)) width height (now (grants .entry)) (now (out .entry)) (meant r) (now (out .exit)) ⌝ }
 {
     let steps = stores::words::word_at(words, 0);
-    let length = scene::picture_length(program, texts, words, width, height);
+    let length = scene::picture_length(words, width, height);
     if out.len() < length {
         return Answer::Number(80, 0, steps, length as u64);
     }
-    scene::write_picture(program, texts, words, width, height, out);
+    scene::write_picture(program, texts, words, grants, width, height, out);
     Answer::Picture(length as u64, steps)
 }

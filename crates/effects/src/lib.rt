@@ -2,16 +2,19 @@
 use machine::Answer;
 use machine::Flow;
 use machine::Outcome;
+use machine::counters;
 use machine::kinds;
 use machine::tags;
 ghost use Prim.Native.Nat.{ℕ, _≤_};
 ghost use mathlib.Core.Path.{_≡_};
 ghost use mathlib.Core.List.{List};
-ghost use lib.ListN.{length};
+ghost use lib.ListN.{length, set};
 ghost use Rattle.machine.specs.Opcodes.{tagIn, tagAssign};
 ghost use Rattle.machine.specs.Words.{kindIn, kindShape};
-ghost use Rattle.machine.specs.Layout.{fixedWords, Room};
+ghost use Rattle.machine.specs.Layout.{loopUnit, fixedWords, Room};
+ghost use Rattle.machine.specs.Loops.{innerUnit};
 ghost use Rattle.machine.specs.Effects.{Flows, declaring, assigning, finishing, outcomeIn};
+ghost use Rattle.effects.specs.Looped.{Opens, Enters};
 
 // ---- declarations
 pub fn declare(words: &mut [u64], slot: usize, p: u64) -> Flow
@@ -50,8 +53,7 @@ fn put_copy(words: &mut [u64], grants: &[u64; 5], slot: usize, k: u64, p: u64) -
     if stores::variables::is_dead(words, k) {
         return Flow::Stopped(30, p);
     }
-    let figure = stores::shapes::figure_at(words, values::number_of(k));
-    match stores::shapes::new_shape(words, grants, p, figure) {
+    match groups::making::copy_shape(words, grants, p, values::number_of(k)) {
         Answer::Good(v) => {
             stores::variables::set_variable(words, slot, values::pack(v));
             Flow::Onward
@@ -85,13 +87,18 @@ pub fn pass_on(w: u64, k: u64) -> Flow
     Flow::Onward
 }
 
-// What any such statement does.
+// What any such statement does. It asks for shapes itself, as `assign` does: where their copies are made in one place only, words pay for them too.
 pub fn finish(words: &mut [u64], grants: &[u64; 5], w: u64, k: u64, p: u64) -> Flow
     requires { ⌜ Room (now grants) (now words) ⌝ }
     ensures { λ r. ⌜ Flows (now (words .entry)) (finishing (now (grants .entry)) w k p) r (now (words .exit)) ⌝ }
 {
     if code::tag_of(w) == tags::ASSIGN {
-        let r = assign(words, grants, code::extra_of(w), k, p);
+        let slot = code::extra_of(w);
+        if values::kind_of(k) == kinds::SHAPE {
+            let r = put_copy(words, grants, slot, k, p);
+            return r;
+        }
+        let r = put_word(words, grants, slot, k, p);
         return r;
     }
     pass_on(w, k)
@@ -109,4 +116,48 @@ pub fn outcome_of(k: u64, p: u64) -> Outcome
         return Outcome::Yes;
     }
     Outcome::No
+}
+
+// ---- loops over groups
+// What a loop asks of shape i: 30 if it is destroyed, 20 if it is no group; else 0, and the loop's variable is declared.
+pub fn open_loop(words: &mut [u64], slot: usize, i: u32) -> u64
+    requires { ⌜ fixedWords ≤ length (now words) ⌝ }
+    ensures { λ r. ⌜ Opens (now (words .entry)) slot i r (now (words .exit)) ⌝ }
+{
+    if stores::shapes::is_destroyed(words, i) {
+        return 30;
+    }
+    if !stores::shapes::is_group(words, i) {
+        return 20;
+    }
+    stores::variables::declare_once(words, slot);
+    0
+}
+
+// What a loop adds to the words of its way that is inside one that adds u.
+fn inner_unit(u: u64) -> u64
+    ensures { λ r. ⌜ r ≡ innerUnit u ⌝ }
+{
+    if u == 0 {
+        return 1;
+    }
+    u % 9223372036854775808 * 2
+}
+
+// A loop begins; what the one around it adds is given.
+pub fn enter_loop(words: &mut [u64]) -> u64
+    requires { ⌜ fixedWords ≤ length (now words) ⌝ }
+    ensures { λ r. ⌜ Enters (now (words .entry)) r (now (words .exit)) ⌝ }
+{
+    let unit = words[counters::LOOP_UNIT];
+    words[counters::LOOP_UNIT] = inner_unit(unit);
+    unit
+}
+
+// A loop is over, and the one around it adds so much.
+pub fn leave_loop(words: &mut [u64], unit: u64)
+    requires { ⌜ fixedWords ≤ length (now words) ⌝ }
+    ensures { λ _. ⌜ now (words .exit) ≡ set (now (words .entry)) loopUnit unit ⌝ }
+{
+    words[counters::LOOP_UNIT] = unit;
 }

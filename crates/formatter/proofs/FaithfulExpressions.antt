@@ -9,12 +9,14 @@ use lib.IntN.{ℤ}
 use lib.Dec.{eqb, leb}
 use borrow.Author.Tests.{lt-ltb, le-ltb, ne-eqb, le-leb}
 use Rattle.meaning.specs.Basics.{bytes, if_then_else_}
+use Rattle.meaning.specs.Byte.{isNamePart}
 use Rattle.meaning.specs.Token.{Token, aName, aString}
 use Rattle.meaning.specs.Tree.{Operator, concatenate, add, subtract, multiply, divide, remainder, shiftRight, shiftLeft, equal, unequal, greater, less, Expression, number, string, nothing, truth, name, table, entry, operation, call, paren, Arguments, noArgument, argument}
 use Rattle.meaning.specs.Integer.{bits, wrap}
 use Rattle.meaning.specs.Picture.{decimal}
 use Rattle.canonical.specs.Text.{commaSeparated, operatorText, isOperation, isEntry, enclosedIf, expressionText, argumentTexts}
 use Rattle.canonical.specs.Text as Text
+use Rattle.roundtrip.proofs.LexesTree.{lastOf}
 use Rattle.machine.specs.Opcodes.{word, tagIn, sizeIn, numberIn, argumentRoot, calleeIn, tagNumber, tagString, tagNone, tagTruth, tagName, tagTable, tagEntry, tagCall, tagArgument, firstOperator, tagOf}
 use Rattle.names.specs.Prepared.{procedureNumber}
 use Rattle.code.specs.Code.{slotOf, partOf, joined, codeOf, codeOfAll}
@@ -31,10 +33,11 @@ pub record Spells (s : Source) (ts : List Token) : Type 0 where
   pub names : (x : List ℕ) → Occurs ts aName x → spelling s (slotOf ts x) ≡ x
   pub strings : (t : List ℕ) → Occurs ts aString t → part (s .program) (partOf ts t % 65536) (partOf ts t / 65536) ≡ t
   pub apart : (x : List ℕ) → Occurs ts aName x → Text.apart x ≡ bytes " " ++ x
+  pub last : (x : List ℕ) → Occurs ts aName x → isNamePart (lastOf x) ≡ true
 
 -- ---- tags
 -- the tag of an expression's last word
-unfoldable rootTag : Expression → ℕ
+unfoldable pub rootTag : Expression → ℕ
 rootTag (number z) = tagNumber
 rootTag (string t) = tagString
 rootTag nothing = tagNone
@@ -46,7 +49,7 @@ rootTag (operation o a b) = tagOf o
 rootTag (call f es) = tagCall
 rootTag (paren e) = rootTag e
 
-tag-large : (o : Operator) → 16 ≤ tagOf o
+pub tag-large : (o : Operator) → 16 ≤ tagOf o
 unfolding tagOf
 tag-large concatenate = omega arith
 tag-large add = omega arith
@@ -81,7 +84,7 @@ unfolding signText if_then_else_
 sign-entry = refl
 
 -- the tag says whether an expression is an operator's or an entry
-operation-tag : (e : Expression) → leb firstOperator (rootTag e) ≡ isOperation e
+pub operation-tag : (e : Expression) → leb firstOperator (rootTag e) ≡ isOperation e
 unfolding rootTag isOperation
 operation-tag (number z) = refl
 operation-tag (string t) = refl
@@ -94,7 +97,7 @@ operation-tag (operation o a b) = le-leb 16 (tagOf o) (tag-large o)
 operation-tag (call f es) = refl
 operation-tag (paren e) = operation-tag e
 
-entry-tag : (e : Expression) → eqb (rootTag e) tagEntry ≡ isEntry e
+pub entry-tag : (e : Expression) → eqb (rootTag e) tagEntry ≡ isEntry e
 unfolding rootTag isEntry
 entry-tag (number z) = refl
 entry-tag (string t) = refl
@@ -133,7 +136,7 @@ led-comma (t ∷ u ∷ more) =
     ap (λ (l : List ℕ). t ++ (bytes "," ++ l)) (led-comma (u ∷ more)) ∙ sym (append-assoc t (bytes ",") (commaSeparated (u ∷ more)))
 
 -- ---- lengths
-joined-length : (tag : ℕ) (a b : List ℕ) → length (joined tag a b) ≡ length a + length b + 1
+pub joined-length : (tag : ℕ) (a b : List ℕ) → length (joined tag a b) ≡ length a + length b + 1
 joined-length tag a b =
     let w : List ℕ = word tag (length a + length b + 1) (length b) ∷ [] in
     length-append a (b ++ w) ∙ omega (arith, length-append b w)
@@ -227,7 +230,7 @@ module _ (s : Source) (ts : List Token) (spells : Spells s ts) where
       ∙ ap (λ (t : List ℕ). bytes "[" ++ t ++ bytes "]") (h fuel (x - 1) (omega arith) (ends-front c w q (code-some e ts)) (omega arith))
 
   -- ---- two parts
-  root-tag : (e : Expression) (x : ℕ) → length (codeOf e ts) < 16777216 → Ends code x (codeOf e ts) → tagIn (getD code x 0) ≡ rootTag e
+  pub root-tag : (e : Expression) (x : ℕ) → length (codeOf e ts) < 16777216 → Ends code x (codeOf e ts) → tagIn (getD code x 0) ≡ rootTag e
   unfolding codeOf rootTag
   root-tag (number z) x l q = ap tagIn (ends-word [] _ q) ∙ tag-leaf tagNumber _ (omega arith)
   root-tag (string t) x l q = ap tagIn (ends-word [] _ q) ∙ tag-leaf tagString _ (omega arith)

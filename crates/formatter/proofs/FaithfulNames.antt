@@ -3,13 +3,13 @@ use Prim.Native.Nat.{ℕ, zero, suc, _+_, _-_, _/_, _%_, _<_}
 use native.Mathlib.Nat.{add-zero}
 use native.Mathlib.Omega.{arith}
 use mathlib.Core.Path.{_≡_, refl, ap, sym, _∙_, subst}
-use mathlib.Core.Bool.{Bool, true, false}
+use mathlib.Core.Bool.{true}
 use mathlib.Core.List.{List, [], _∷_, _++_, map}
 use lib.ListN.{length, getD, take, drop}
 use lib.Seq.{drop-drop}
-use Rattle.meaning.specs.Basics.{bytes, if_then_else_, standsIn, span}
-use Rattle.meaning.specs.Byte.{isLetter, isDigit, isNamePart, isQuote, isSign}
-use Rattle.meaning.specs.Token.{Token, aName, aString, Front, found, nothing, front, lexed, tokensOf}
+use Rattle.meaning.specs.Basics.{bytes, if_then_else_}
+use Rattle.meaning.specs.Byte.{isNamePart}
+use Rattle.meaning.specs.Token.{Token, aName, aString, found, front, lexed, tokensOf}
 use Rattle.meaning.specs.Grammar.{afterLast, kindAt, startAt}
 use Rattle.tokens.specs.Words.{textIn}
 use Rattle.lexer.proofs.Fits.{fits}
@@ -17,6 +17,10 @@ use Rattle.lexer.proofs.Decode.{Each, each-token}
 use Rattle.names.specs.Prepared.{home}
 use Rattle.code.specs.Code.{slotOf, partOf}
 use Rattle.canonical.specs.Text.{apart}
+use Rattle.roundtrip.proofs.Sound.{Named}
+use Rattle.roundtrip.proofs.Spelling.{tokens-spelt}
+use Rattle.roundtrip.proofs.Weights.{part-letter}
+use Rattle.roundtrip.proofs.LexesTree.{lastOf, last-spelled}
 use Rattle.reader.specs.Coded.{wordsOf}
 use Rattle.reader.specs.Sane.{Sane}
 use Rattle.reader.proofs.Homes.{Occurs, occurs-found, there}
@@ -25,41 +29,12 @@ use Rattle.reader.proofs.Fields.{place-at, name-size-at, part-start, part-lengt
 use Rattle.spellings.specs.Spelling.{part, nameText}
 use Rattle.formatter.specs.Raw.{source, spelling}
 
--- ---- a name begins with a letter
-abbrev Lead : Front → Type 0
-Lead (found k n w) = k ≡ aName → isNamePart (getD w 0 0) ≡ true
-Lead nothing = Unit {0}
-
-by-if : (b : Bool) (x y : Unit {0} → Front) → (b ≡ true → Lead (x tt)) → Lead (y tt) → Lead (if b then x else y)
-unfolding if_then_else_
-by-if true x y f g = f refl
-by-if false x y f g = g
-
-name-lead : (b : ℕ) (bs : List ℕ) → isLetter b ≡ true → isNamePart (getD (take (span isNamePart (b ∷ bs)) (b ∷ bs)) 0 0) ≡ true
-unfolding span if_then_else_ isNamePart
-name-lead b bs e = rw (e, e)
-
-no-sign : isSign 1 ≡ true → ⊥
-unfolding isSign standsIn
-no-sign e = let z : _≡_ {A = ℕ} 0 1 = cc in omega arith
-
-front-lead : (s : List ℕ) → Lead (front s)
-unfolding front
-front-lead [] = tt
-front-lead (b ∷ bs) =
-    by-if (isLetter b) _ _ (λ e _. name-lead b bs e)
-    (by-if (isDigit b) _ _ (λ _ k. absurd (omega arith))
-    (by-if (isQuote b) _ _ (λ _. by-if _ _ _ (λ _ k. absurd (omega arith)) tt)
-    (by-if (isSign b) _ _
-    (λ e. by-if _ _ _ (λ _ k. absurd (omega arith)) (by-if _ _ _ (λ _. tt) (λ k. absurd (no-sign (subst (λ x. isSign x ≡ true) k e))))) tt)))
-
 -- ---- the text of a token
 -- what a token of a program tells
 record Sound (program : List ℕ) (t : Token) : Type 0 where
   some : 0 < t .kind
   named : t .kind ≡ aName → take (length (t .text)) (drop (t .place) program) ≡ t .text
   quoted : t .kind ≡ aString → take (length (t .text)) (drop (t .place + 1) program) ≡ t .text
-  lead : t .kind ≡ aName → isNamePart (getD (t .text) 0 0) ≡ true
 
 sound : (program : List ℕ) (at k n : ℕ) (w : List ℕ) → at < length program → front (drop at program) ≡ found k n w
     → Sound program (record { kind = k; place = at; text = w })
@@ -77,7 +52,6 @@ sound program at k n w h e =
           let t : take (n - 2) (drop 1 (drop at program)) ≡ w = rw q at (f .text-is) in
           let m : length w ≡ n - 2 = omega arith in
           rw (m, ← drop-drop 1 at program) t;
-      lead = subst Lead e (front-lead (drop at program));
     }
 
 each-in : (P : Token → Type 0) (ts : List Token) → Each P ts → (i : ℕ) → i < length ts → P (getD ts i afterLast)
@@ -93,13 +67,18 @@ module _ (program : List ℕ) (ts : List Token) (are : tokensOf program ≡ lexe
   pub kind-some : (i : ℕ) → i < length ts → 0 < kindAt ts i
   kind-some i l = token-sound i l .some
 
-  -- one space stands before a name behind a word
+  -- a name is a letter and letters and digits
+  named : (x : List ℕ) → Occurs ts aName x → Named x
+  named x o = subst Named (o .text) (tokens-spelt program ts are (o .index) .asName (o .kind))
+
+  -- so one space stands before it behind a word
   pub name-apart : (x : List ℕ) → Occurs ts aName x → apart x ≡ bytes " " ++ x
   unfolding apart
-  name-apart x o =
-      let s = token-sound (o .index) (there ts (o .index) aName (omega arith) (o .kind)) .lead (o .kind) in
-      let l : isNamePart (getD x 0 0) ≡ true = subst (λ (y : List ℕ). isNamePart (getD y 0 0) ≡ true) (o .text) s in
-      rw l
+  name-apart x o = rw (part-letter (getD x 0 0) (named x o .spelled .letter))
+
+  -- and one behind it before a word
+  pub name-last : (x : List ℕ) → Occurs ts aName x → isNamePart (lastOf x) ≡ true
+  name-last x o = last-spelled x (named x o .spelled)
 
   module _ (sane : Sane ts) (c : List ℕ) where
     -- a name is spelled by its slot

@@ -29,7 +29,7 @@ use Rattle.reader.proofs.Tables.{start-told, parameters-told, body-told, head-s
 use Rattle.reader.proofs.Walk.{Stands, stands-front, stands-back}
 use Rattle.formatter.specs.Raw.{Source, source, wordAt, parameterNames, rawStatement, rawStatements, procedureBy, rawProcedures}
 use Rattle.formatter.specs.Raw as Raw
-use Rattle.formatter.proofs.FaithfulNames.{kind-some, name-apart, spelled, spelled-all, quoted-part}
+use Rattle.formatter.proofs.FaithfulNames.{kind-some, name-apart, name-last, spelled, spelled-all, quoted-part}
 use Rattle.formatter.proofs.FaithfulExpressions.{Spells}
 use Rattle.formatter.proofs.FaithfulStatements.{statements-tell}
 use Rattle.formatter.proofs.FaithfulTokens.{Free, Begins, Parted, last, more}
@@ -75,7 +75,7 @@ module _ (program c : List ℕ) (ts : List Token) (are : tokensOf program ≡ le
   s = source program (wordsOf ts) c
 
   spells : Spells s ts
-  spells = record { names = spelled program ts are sane c; strings = quoted-part program ts are sane c; apart = name-apart program ts are }
+  spells = record { names = spelled program ts are sane c; strings = quoted-part program ts are sane c; apart = name-apart program ts are; last = name-last program ts are }
 
   -- the names of its parameters
   names-say : (f : Procedure) (start : ℕ) → Understood ts f → Stands c start (codeOfProcedure f ts) → parameterNames s start (length (f .parameters)) ≡ f .parameters

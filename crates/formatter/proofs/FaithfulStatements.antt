@@ -2,23 +2,24 @@
 use Prim.Native.Nat.{ℕ, zero, suc, _+_, _-_, _*_, _/_, _≤_, _<_}
 use native.Mathlib.Omega.{arith}
 use mathlib.Core.Path.{_≡_, refl, ap, sym, _∙_, subst}
-use mathlib.Core.List.{List, [], _++_, append-nil, append-assoc}
+use mathlib.Core.List.{List, [], _∷_, _++_, append-nil, append-assoc}
 use lib.ListN.{length, getD, length-append}
 use borrow.Author.Tests.{lt-ltb, le-ltb}
 use Rattle.meaning.specs.Basics.{bytes, if_then_else_}
 use Rattle.meaning.specs.Token.{Token, aName}
-use Rattle.meaning.specs.Tree.{Expression, Statement, declare, assign, update, when, while, return, block, act, Statements, only, first}
+use Rattle.meaning.specs.Tree.{Expression, Statement, declare, assign, update, when, while, foreach, return, block, act, Statements, only, first}
 use Rattle.canonical.specs.Text.{expressionText, statementText, statementsText}
 use Rattle.canonical.specs.Text as Text
-use Rattle.machine.specs.Opcodes.{word, tagIn, sizeIn, extraIn, sizeAt, tagDeclare, tagAssign, tagUpdate, tagWhen, tagWhile, tagReturn, tagBlock, tagAct}
+use Rattle.machine.specs.Opcodes.{word, tagIn, sizeIn, extraIn, sizeAt, tagDeclare, tagAssign, tagUpdate, tagWhen, tagWhile, tagForeach, tagReturn, tagBlock, tagAct}
 use Rattle.code.specs.Code.{slotOf, headed, codeOf, codeOfStatement, codeOfStatements}
 use Rattle.reader.specs.Sane.{Sane}
 use Rattle.reader.proofs.Homes.{Occurs}
 use Rattle.reader.proofs.Known.{Placed, Known, KnownStatement, KnownStatements}
 use Rattle.reader.proofs.Fields.{word-told, second-half, code-rooted, statement-headed, statement-some}
 use Rattle.reader.proofs.Walk.{Stands, Ends, stands-front, stands-back, stands-first, stands-rest, ends-word}
-use Rattle.formatter.specs.Raw.{Source, endingIn, updateText, guardedText, rawExpression, statementBy, rawStatement, rawStatements}
+use Rattle.formatter.specs.Raw.{Source, endingIn, updateText, guardedText, iteratorText, foreachText, rawExpression, statementBy, rawStatement, rawStatements}
 use Rattle.formatter.proofs.FaithfulExpressions.{Spells, expression-says, entry-says}
+use Rattle.formatter.proofs.FaithfulEnds.{word-behind, word-ends}
 
 module _ (s : Source) (ts : List Token) (spells : Spells s ts) (sane : Sane ts) where
   abbrev code : List ℕ
@@ -173,6 +174,31 @@ module _ (s : Source) (ts : List Token) (spells : Spells s ts) (sane : Sane ts) 
       let h = head at tagWhile p (length (codeOf e ts)) (codeOf e ts ++ codeOfStatement b ts) o (omega arith) (omega arith) q in
       by-head fuel at _ (h .root) ∙ rw (h .tag-is, h .extra-is) (guarded-tells (bytes "while(") e b d t fuel at (omega arith) (h .behind) (omega arith))
 
+  foreach-tells : (p : ℕ) (x : List ℕ) (e : Expression) (b : Statement) → Placed ts p → Occurs ts aName x → Known e ts → Tells b → Tells (foreach p x e b)
+  unfolding codeOfStatement statementText statementBy if_then_else_ iteratorText foreachText
+  foreach-tells p x e b o n d t zero at f q k = absurd (omega arith)
+  foreach-tells p x e b o n d t (suc fuel) at f q k =
+      let c = codeOf e ts in
+      let cs = codeOfStatement b ts in
+      let i = length-append c cs in
+      let y = at + (length c + 1) in
+      let j : at + 1 + 1 + length c ≡ y + 1 = omega arith in
+      let h = head at tagForeach p (length c + 1) (slotOf ts x ∷ (c ++ cs)) o (omega arith) (omega arith) q in
+      let parts = stands-rest (h .behind) in
+      let ends : Ends code y c = record { start = at + 1 + 1; stands = stands-front c cs parts; last = omega arith } in
+      let lead : List ℕ = bytes "foreach " ++ x ++ bytes " in" in
+      by-head fuel at _ (h .root)
+      ∙ rw (
+        h .tag-is,
+        h .extra-is,
+        stands-first (h .behind),
+        spells .names x n,
+        spells .apart x n,
+        expression-says s ts spells e d fuel y (omega arith) ends (omega arith),
+        t fuel (y + 1) (omega arith) (subst (λ m. Stands code m cs) j (stands-back c cs parts)) (omega arith),
+      )
+      (ap (λ (l : List ℕ). l ++ statementText b) (word-behind lead (expressionText e) _ (word-ends s ts spells e y d (omega arith, ends))))
+
   -- ---- statements one after the other
   -- what is written from their code, each with its linefeed
   abbrev TellsAll : Statements → Type 0
@@ -231,6 +257,7 @@ module _ (s : Source) (ts : List Token) (spells : Spells s ts) (sane : Sane ts) 
     statement-tells (update p a b e) k = update-tells p a b e (k .0) (k .1) (k .2) (k .3)
     statement-tells (when p e b) k = when-tells p e b (k .0) (k .1) (statement-tells b (k .2))
     statement-tells (while p e b) k = while-tells p e b (k .0) (k .1) (statement-tells b (k .2))
+    statement-tells (foreach p x e b) k = foreach-tells p x e b (k .0) (k .1) (k .2) (statement-tells b (k .3))
     statement-tells (return p e) k = return-tells p e (k .0) (k .1)
     statement-tells (block p ss) k = block-tells p ss (k .0) (statements-tell ss (k .1))
     statement-tells (act p e) k = act-tells p e (k .0) (k .1)

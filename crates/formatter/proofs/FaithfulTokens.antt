@@ -13,7 +13,7 @@ use Rattle.meaning.specs.Basics.{bytes, if_then_else_}
 use Rattle.meaning.specs.Token.{Token, ending, aName, digits, wordDef, minus}
 use Rattle.meaning.specs.Tree.{Operator, Expression, Statement, Procedure, Program}
 use Rattle.meaning.specs.Grammar.{good, kindAt, textAt, is, expect, operatorOf, Inside, ReadExpression, argumentsFrom, arguments, primary, operand, operated, expressionIn, expression}
-use Rattle.meaning.specs.Grammar.{ReadStatement, Readers, declaration, returning, Target, variable, element, noTarget, assignment, simple, guarded, statementsFrom, statements, statementIn, statement}
+use Rattle.meaning.specs.Grammar.{ReadStatement, Readers, declaration, returning, Target, variable, element, noTarget, assignment, simple, guarded, iteration, statementsFrom, statements, statementIn, statement}
 use Rattle.meaning.specs.Grammar.{parametersFrom, parameters, procedure, proceduresFrom, procedureNamed, withMain, procedures}
 use Rattle.meaning.specs.Grammar
 use Rattle.reader.proofs.Homes.{both-true}
@@ -167,6 +167,15 @@ module _ (ts : List Token) where
       yields-after _ (b .statements m) λ a n g. yields (free-both h g))
       λ _. fails
 
+  iteration-free : {f : ReadExpression} {x : Inside Readers} → Frees f → Inner Both x → (i : ℕ) → Free ts i (i + 1) → Yields (λ _ j. Free ts i j) (iteration f x ts i)
+  unfolding iteration
+  iteration-free s l i p =
+      yields-after _ (free-expect _ (i + 1) _ (omega arith) p) λ _ i₂ p₂.
+      yields-after _ (free-expect _ i₂ _ (omega arith) p₂) λ _ i₃ p₃.
+      yields-after _ (s i₃) λ e j q.
+      yields-after _ (free-expect _ j _ (omega arith) (free-both p₃ q)) λ _ m h.
+      yields-if _ _ _ (λ _. yields-opening _ _ l λ f b. yields-after _ (b .statements m) λ a n g. yields (free-both h g)) λ _. fails
+
   statements-from-free : {f : ReadStatement} → Frees f → (rounds : ℕ) → Frees (statementsFrom rounds f ts)
   unfolding statementsFrom
   statements-from-free s zero i = fails
@@ -181,6 +190,7 @@ module _ (ts : List Token) where
       yields-if _ _ _ (λ e. declaration-free i (free-kind i _ (omega arith) e))
       λ _. yields-if _ _ _ (λ e. guarded-free l _ i (free-kind i _ (omega arith) e))
       λ _. yields-if _ _ _ (λ e. guarded-free l _ i (free-kind i _ (omega arith) e))
+      λ _. yields-if _ _ _ (λ e. iteration-free s l i (free-kind i _ (omega arith) e))
       λ _. yields-if _ _ _ (λ e. returning-free s i (free-kind i _ (omega arith) e))
       λ _. yields-if _ _ _
       (λ e. yields-opening _ _ l λ f b. yields-after _ (statements-from-free (b .statements) (suc (length ts - (i + 1))) (i + 1)) λ ss j p.

@@ -3,6 +3,7 @@ pub mod Statements
 pub mod Procedures
 mod FaithfulNames
 mod FaithfulExpressions
+mod FaithfulEnds
 mod FaithfulStatements
 mod FaithfulTokens
 mod FaithfulProcedures

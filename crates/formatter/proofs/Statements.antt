@@ -1,20 +1,21 @@
 -- One law for each way through each function on statements.
 -- Assumes nothing.
 use Prim.Native.Nat.{ℕ, suc, _+_, _-_, _^_, _≤_, _<_}
-use mathlib.Core.Path.{_≡_}
-use mathlib.Core.Bool.{Bool, true, false}
-use mathlib.Core.List.{List, [], _++_}
+use mathlib.Core.Path.{_≡_, _∙_}
+use mathlib.Core.Bool.{Bool, true, false, not}
+use mathlib.Core.List.{List, [], _++_, append-assoc}
 use native.Mathlib.Numerals.{add-one}
 use native.Mathlib.Omega.{arith}
-use borrow.Author.Tests.{lt-ltb, le-ltb, ne-eqb}
+use borrow.Author.Tests.{lt-ltb, le-ltb, lt-leb, le-leb, ne-eqb}
 use lib.ListN.{length, getD}
+use lib.Dec.{eqb}
 use Rattle.meaning.specs.Basics.{bytes, if_then_else_}
 use Rattle.meaning.specs.Byte.{isNamePart}
 use Rattle.canonical.specs.Text.{apart}
-use Rattle.machine.specs.Opcodes.{tagIn, sizeIn, extraIn, tagEntry, tagDeclare, tagAssign, tagUpdate, tagWhen, tagWhile, tagReturn, tagBlock}
+use Rattle.machine.specs.Opcodes.{tagIn, sizeIn, extraIn, tagString, tagTable, tagEntry, firstOperator, tagDeclare, tagAssign, tagUpdate, tagWhen, tagWhile, tagForeach, tagReturn, tagBlock}
 use Rattle.writing.specs.Placed.{WroteAt}
 use Rattle.spellings.specs.Spelling.{nameText}
-use Rattle.formatter.specs.Raw.{source, spelling, pairText, rawExpression, endingIn, updateText, guardedText, rawStatements, statementBy, rawStatement}
+use Rattle.formatter.specs.Raw.{source, spelling, pairText, rawExpression, endingIn, updateText, guardedText, tagEnds, operandEnds, endsWord, iteratorText, foreachText, rawStatements, statementBy, rawStatement}
 use Rattle.formatter.specs.Asked.{Room}
 use Rattle.spellings.proofs.Chains.{nothing, then-two, then-three, then-ending, Writing, begin, goes-on, ends}
 
@@ -33,16 +34,57 @@ module _ (program tokens code : List ℕ) (fuel : ℕ) {at r : ℕ} {d : List �
   unfolding updateText endingIn
   update-written y j b k a h i l m n p q = rw (← i, ← l, ← m, ← n) (then-ending _ _ _ h p q)
 
-  module _ (y : ℕ) (b : Bool) (i : b ≡ isNamePart (getD (rawExpression fuel (source program tokens code) y) 0 0)) {e : List ℕ} where
-    pub return-apart : b ≡ true → WroteAt at (bytes "return " ++ rawExpression fuel (source program tokens code) y ++ bytes ";") d e r
-        → WroteAt at (bytes "return" ++ apart (rawExpression fuel (source program tokens code) y) ++ bytes ";") d e r
+  module _ (y : ℕ) (b : Bool) (i : b ≡ isNamePart (getD (rawExpression fuel (source program tokens code) y) 0 0)) (word close : List ℕ) {m : ℕ} {e f : List ℕ}
+      (h : length d < 2 ^ 64) (p : WroteAt at word d e m) where
+    pub apart-spaced : b ≡ true → WroteAt m (bytes " " ++ rawExpression fuel (source program tokens code) y ++ close) e f r
+        → WroteAt at (word ++ apart (rawExpression fuel (source program tokens code) y) ++ close) d f r
     unfolding apart
-    return-apart t p = rw (← i, t) p
+    apart-spaced t q = rw (← i, t, append-assoc word (bytes " " ++ rawExpression fuel (source program tokens code) y) close) (then-two h p q)
 
-    pub return-close : b ≡ false → WroteAt at (bytes "return" ++ rawExpression fuel (source program tokens code) y ++ bytes ";") d e r
-        → WroteAt at (bytes "return" ++ apart (rawExpression fuel (source program tokens code) y) ++ bytes ";") d e r
+    pub apart-closed : b ≡ false → WroteAt m ([] ++ rawExpression fuel (source program tokens code) y ++ close) e f r
+        → WroteAt at (word ++ apart (rawExpression fuel (source program tokens code) y) ++ close) d f r
     unfolding apart
-    return-close t p = rw (← i, t) p
+    apart-closed t q = rw (← i, t, append-assoc word (rawExpression fuel (source program tokens code) y) close) (then-two h p q)
+
+  -- ---- foreach up to its body
+  module _ (slot y : ℕ) (b : Bool) (i : b ≡ endsWord code y) {m n : ℕ} {e f g : List ℕ}
+      (h : length d < 2 ^ 64) (p : WroteAt at (bytes "foreach ") d e m) (q : WroteAt m (nameText program tokens slot) e f n) where
+    pub iterator-spaced : b ≡ true → WroteAt n (bytes " in" ++ apart (rawExpression fuel (source program tokens code) y) ++ bytes " do\n") f g r
+        → WroteAt at (iteratorText (rawExpression fuel (source program tokens code)) (source program tokens code) slot y) d g r
+    unfolding iteratorText
+    iterator-spaced t w = rw (← i, t) (then-ending _ _ _ h (then-two h p q) w)
+
+    pub iterator-closed : b ≡ false → WroteAt n (bytes " in" ++ apart (rawExpression fuel (source program tokens code) y) ++ bytes "do\n") f g r
+        → WroteAt at (iteratorText (rawExpression fuel (source program tokens code)) (source program tokens code) slot y) d g r
+    unfolding iteratorText
+    iterator-closed t w = rw (← i, t) (then-ending _ _ _ h (then-two h p q) w)
+
+-- ---- how an expression ends
+module _ (tag : ℕ) where
+  pub tag-closed : tagTable ≤ tag → false ≡ tagEnds tag
+  unfolding tagEnds
+  tag-closed h = rw (le-ltb tag 6 h)
+
+  pub tag-leaf : tag < tagTable → not (eqb tag tagString) ≡ tagEnds tag
+  unfolding tagEnds
+  tag-leaf h = rw (lt-ltb tag 6 h)
+
+module _ (code : List ℕ) (y w tag : ℕ) (i : w ≡ getD code y 0) (j : tag ≡ tagIn w) {r : Bool} where
+  pub operand-own : (tag ≡ tagEntry → ⊥) → r ≡ tagEnds tag → r ≡ operandEnds code y
+  unfolding operandEnds if_then_else_
+  operand-own n q = q ∙ rw (← i, ← j, ne-eqb tag 7 n)
+
+  pub operand-second : (z v u : ℕ) → tag ≡ tagEntry → z ≡ y - 1 → v ≡ getD code z 0 → u ≡ tagIn v → r ≡ tagEnds u → r ≡ operandEnds code y
+  unfolding operandEnds if_then_else_
+  operand-second z v u e k l m q = q ∙ rw (← i, ← j, e, ← k, ← l, ← m)
+
+  pub word-own : tag < firstOperator → r ≡ operandEnds code y → r ≡ endsWord code y
+  unfolding endsWord if_then_else_
+  word-own l q = q ∙ rw (← i, ← j, lt-leb 16 tag l)
+
+  pub word-second : (z : ℕ) → firstOperator ≤ tag → z ≡ y - 1 → r ≡ operandEnds code z → r ≡ endsWord code y
+  unfolding endsWord if_then_else_
+  word-second z l k q = q ∙ rw (← i, ← j, le-leb 16 tag l, ← k)
 
 -- ---- by the word
 pub some-fuel : (fuel : ℕ) → (fuel ≡ 0 → ⊥) → 1 ≤ fuel
@@ -91,6 +133,13 @@ module _ (program tokens code : List ℕ) (fuel x : ℕ) where
     unfolding statementBy if_then_else_
     is-while extra k t p = rw (begun n w i, ← j, t, ← k) p
 
+    pub is-foreach : (extra : ℕ) → extra ≡ extraIn w → tag ≡ tagForeach
+        → WroteAt at (foreachText (rawExpression (fuel - 1) (source program tokens code)) (rawStatement (fuel - 1) (source program tokens code)) (source program tokens code)
+        (getD code (x + 1) 0) (x + extra)) d e r
+        → WroteAt at (rawStatement fuel (source program tokens code) x) d e r
+    unfolding statementBy if_then_else_
+    is-foreach extra k t p = rw (begun n w i, ← j, t, ← k) p
+
     pub is-return : (y : ℕ) → y ≡ x + sizeIn w - 1 → tag ≡ tagReturn
         → WroteAt at (bytes "return" ++ apart (rawExpression (fuel - 1) (source program tokens code) y) ++ bytes ";") d e r
         → WroteAt at (rawStatement fuel (source program tokens code) x) d e r
@@ -104,12 +153,12 @@ module _ (program tokens code : List ℕ) (fuel x : ℕ) where
     is-block size k t p = rw (begun n w i, ← j, t, ← k) p
 
     pub is-act : (y : ℕ) → y ≡ x + sizeIn w - 1 → (tag ≡ tagDeclare → ⊥) → (tag ≡ tagAssign → ⊥) → (tag ≡ tagUpdate → ⊥) → (tag ≡ tagWhen → ⊥) → (tag ≡ tagWhile → ⊥)
-        → (tag ≡ tagReturn → ⊥) → (tag ≡ tagBlock → ⊥) → WroteAt at ([] ++ rawExpression (fuel - 1) (source program tokens code) y ++ bytes ";") d e r
+        → (tag ≡ tagForeach → ⊥) → (tag ≡ tagReturn → ⊥) → (tag ≡ tagBlock → ⊥) → WroteAt at ([] ++ rawExpression (fuel - 1) (source program tokens code) y ++ bytes ";") d e r
         → WroteAt at (rawStatement fuel (source program tokens code) x) d e r
     unfolding statementBy if_then_else_ endingIn
-    is-act y l a b c f g k m p =
+    is-act y l a b c f g o k m p =
         rw (begun n w i, ← j, ne-eqb _ _ a, ne-eqb _ _ b, ne-eqb _ _ c)
-        (rw (ne-eqb _ _ f, ne-eqb _ _ g, ne-eqb _ _ k, ne-eqb _ _ m, ← l) p)
+        (rw (ne-eqb _ _ f, ne-eqb _ _ g, ne-eqb _ _ o, ne-eqb _ _ k, ne-eqb _ _ m, ← l) p)
 
 -- ---- statements that hold others
 module _ (program tokens code : List ℕ) (fuel : ℕ) {at r : ℕ} {d : List ℕ} where
@@ -119,6 +168,14 @@ module _ (program tokens code : List ℕ) (fuel : ℕ) {at r : ℕ} {d : List �
       → WroteAt at (guardedText (rawExpression fuel (source program tokens code)) (rawStatement fuel (source program tokens code)) lead y) d f r
   unfolding guardedText
   guarded-written lead y h p q = then-two h p q
+
+  pub foreach-written : (x extra slot y : ℕ) {m : ℕ} {e f : List ℕ} → length d < 2 ^ 64 → y ≡ x + extra → slot ≡ getD code (x + 1) 0
+      → WroteAt at (iteratorText (rawExpression fuel (source program tokens code)) (source program tokens code) slot y) d e m
+      → WroteAt m (rawStatement fuel (source program tokens code) (y + 1)) e f r
+      → WroteAt at (foreachText (rawExpression fuel (source program tokens code)) (rawStatement fuel (source program tokens code)) (source program tokens code)
+      (getD code (x + 1) 0) (x + extra)) d f r
+  unfolding foreachText
+  foreach-written x extra slot y h i j p q = rw (← i, ← j) (then-two h p q)
 
   pub block-written : (x n : ℕ) {m o : ℕ} {e f g : List ℕ} → length d < 2 ^ 64 → WroteAt at (bytes "{\n") d e m
       → WroteAt m (rawStatements (n + 1) (rawStatement fuel (source program tokens code)) (source program tokens code) (x + 1) (x + n)) e f o

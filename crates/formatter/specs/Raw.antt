@@ -1,13 +1,14 @@
 -- The text of a program's code: what the functions here write. `proofs/Faithful` shows that it is the program's text.
 use Prim.Native.Nat.{ℕ, zero, suc, _+_, _-_}
+use mathlib.Core.Bool.{Bool, not, _&&_, cond}
 use mathlib.Core.List.{List, [], _∷_, _++_, map}
 use lib.ListN.{length, getD, take, drop}
-use lib.Dec.{eqb, ltb}
+use lib.Dec.{eqb, leb, ltb}
 use Rattle.meaning.specs.Basics.{bytes, if_then_else_}
 use Rattle.meaning.specs.Token.{wordDef}
 use Rattle.canonical.specs.Text.{commaSeparated, enclosedIf, apart}
 use Rattle.machine.specs.Opcodes.{tagIn, sizeIn, numberIn, extraIn, sizeAt, argumentRoot, calleeIn, tablePlace, startIn, parametersIn, bodyIn}
-use Rattle.machine.specs.Opcodes.{tagTable, tagEntry, tagDeclare, tagAssign, tagUpdate, tagWhen, tagWhile, tagReturn, tagBlock}
+use Rattle.machine.specs.Opcodes.{tagString, tagTable, tagEntry, firstOperator, tagDeclare, tagAssign, tagUpdate, tagWhen, tagWhile, tagForeach, tagReturn, tagBlock}
 use Rattle.expressions.specs.Words.{is, homeAt}
 use Rattle.spellings.specs.Spelling.{nameText, leafText, signText, encloses}
 
@@ -84,6 +85,24 @@ updateText inner s y =
 unfoldable pub guardedText : Writer → Writer → List ℕ → ℕ → List ℕ
 guardedText inner body lead y = lead ++ inner y ++ bytes ")\n" ++ body (y + 1)
 
+-- Whether the text of an expression with root y ends with a letter or a digit: a leaf's does unless it is a string, a table's, a call's and one in
+-- parentheses do not. By the tag of a primary; of an operand, whose last primary is the second part of an entry; and of an expression likewise.
+unfoldable pub tagEnds : ℕ → Bool
+tagEnds tag = ltb tag tagTable && not (eqb tag tagString)
+
+unfoldable pub operandEnds : List ℕ → ℕ → Bool
+operandEnds code y = if eqb (tagIn (getD code y 0)) tagEntry then (λ _. tagEnds (tagIn (getD code (y - 1) 0))) else λ _. tagEnds (tagIn (getD code y 0))
+
+unfoldable pub endsWord : List ℕ → ℕ → Bool
+endsWord code y = if leb firstOperator (tagIn (getD code y 0)) then (λ _. operandEnds code (y - 1)) else λ _. operandEnds code y
+
+-- a foreach by its variable's slot and the root of its expression, up to its body, and with it
+unfoldable pub iteratorText : Writer → Source → ℕ → ℕ → List ℕ
+iteratorText inner s slot y = bytes "foreach " ++ spelling s slot ++ bytes " in" ++ apart (inner y) ++ cond (endsWord (s .code) y) (bytes " do\n") (bytes "do\n")
+
+unfoldable pub foreachText : Writer → Writer → Source → ℕ → ℕ → List ℕ
+foreachText inner body s slot y = iteratorText inner s slot y ++ body (y + 1)
+
 -- the statements from a up to end, each with its linefeed; there are fewer than there are words
 unfoldable pub rawStatements : ℕ → Writer → Source → ℕ → ℕ → List ℕ
 rawStatements zero body s a end = []
@@ -99,6 +118,7 @@ statementBy inner body s w x =
     else λ _. if eqb (tagIn w) tagUpdate then (λ _. updateText inner s y)
     else λ _. if eqb (tagIn w) tagWhen then (λ _. guardedText inner body (bytes "if(") (x + extraIn w))
     else λ _. if eqb (tagIn w) tagWhile then (λ _. guardedText inner body (bytes "while(") (x + extraIn w))
+    else λ _. if eqb (tagIn w) tagForeach then (λ _. foreachText inner body s (wordAt s (x + 1)) (x + extraIn w))
     else λ _. if eqb (tagIn w) tagReturn then (λ _. bytes "return" ++ apart (inner y) ++ bytes ";")
     else λ _. if eqb (tagIn w) tagBlock then (λ _. bytes "{\n" ++ rawStatements (suc (sizeIn w)) body s (x + 1) (x + sizeIn w) ++ bytes "}")
     else λ _. endingIn inner [] y

@@ -8,11 +8,14 @@ use stores::words::word_at;
 use writing::write_bytes_at;
 ghost use mathlib.Core.List.{_++_};
 ghost use Prim.Native.Nat.{suc, _+_};
+ghost use mathlib.Core.Path.{_≡_};
+ghost use lib.ListN.{getD};
 ghost use Rattle.meaning.specs.Basics.{bytes};
 ghost use Rattle.canonical.specs.Text.{apart};
 ghost use Rattle.writing.specs.Placed.{WroteAt};
 ghost use Rattle.spellings.specs.Spelling.{nameText};
 ghost use Rattle.formatter.specs.Raw.{source, spelling, endingIn, updateText, guardedText, rawExpression, rawStatement, rawStatements};
+ghost use Rattle.formatter.specs.Raw.{tagEnds, operandEnds, endsWord, iteratorText, foreachText};
 ghost use Rattle.formatter.specs.Asked.{Room};
 
 // ---- statements that hold no others
@@ -68,23 +71,78 @@ fn write_update(
     write_between(program, tokens, code, fuel, b"=", y, b";", out, next)
 }
 
-// A return of the expression whose root is y.
-fn write_return(
+// A word, one space if the expression whose root is y begins with a letter or a digit, the expression, and some bytes.
+fn write_apart(
     program: &[u8],
     tokens: &[u64],
     code: &[u64],
     fuel: usize,
+    word: &[u8],
+    y: usize,
+    close: &[u8],
+    out: &mut [u8],
+    at: usize,
+) -> usize
+    ensures { λ r. ⌜ WroteAt at (now (word .entry) ++ apart (rawExpression fuel (source (now (program .entry)) (now (tokens .entry)) (now (code .entry))) y) ++ now (close .entry))
+        (now (out .entry)) (now (out .exit)) r ⌝ }
+{
+    let next = write_bytes_at(out, at, word);
+    if begins_word(program, tokens, code, fuel, y) {
+        return write_between(program, tokens, code, fuel, b" ", y, close, out, next);
+    }
+    write_between(program, tokens, code, fuel, b"", y, close, out, next)
+}
+
+// ---- foreach up to its body
+// Whether the text of a primary whose root has a tag ends with a letter or a digit; of an operand and of an expression by their roots.
+fn tag_ends(tag: u64) -> bool
+    ensures { λ r. ⌜ r ≡ tagEnds tag ⌝ }
+{
+    if tags::TABLE <= tag {
+        return false;
+    }
+    tag != tags::STRING
+}
+
+fn operand_ends(code: &[u64], y: usize) -> bool
+    ensures { λ r. ⌜ r ≡ operandEnds (now (code .entry)) y ⌝ }
+{
+    let tag = code::tag_of(word_at(code, y));
+    if tag != tags::ENTRY {
+        return tag_ends(tag);
+    }
+    tag_ends(code::tag_of(word_at(code, code::right_of(y))))
+}
+
+fn ends_word(code: &[u64], y: usize) -> bool
+    ensures { λ r. ⌜ r ≡ endsWord (now (code .entry)) y ⌝ }
+{
+    if code::tag_of(word_at(code, y)) < tags::FIRST_OPERATOR {
+        return operand_ends(code, y);
+    }
+    operand_ends(code, code::right_of(y))
+}
+
+// The slot of the variable, and the root of the expression.
+fn write_iterator(
+    program: &[u8],
+    tokens: &[u64],
+    code: &[u64],
+    fuel: usize,
+    slot: usize,
     y: usize,
     out: &mut [u8],
     at: usize,
 ) -> usize
-    ensures { λ r. ⌜ WroteAt at (bytes "return" ++ apart (rawExpression fuel (source (now (program .entry)) (now (tokens .entry)) (now (code .entry))) y) ++ bytes ";")
-        (now (out .entry)) (now (out .exit)) r ⌝ }
+    ensures { λ r. ⌜ WroteAt at (iteratorText (rawExpression fuel (source (now (program .entry)) (now (tokens .entry)) (now (code .entry))))
+        (source (now (program .entry)) (now (tokens .entry)) (now (code .entry))) slot y) (now (out .entry)) (now (out .exit)) r ⌝ }
 {
-    if begins_word(program, tokens, code, fuel, y) {
-        return write_between(program, tokens, code, fuel, b"return ", y, b";", out, at);
+    let name = write_bytes_at(out, at, b"foreach ");
+    let next = write_name(program, tokens, slot, out, name);
+    if ends_word(code, y) {
+        return write_apart(program, tokens, code, fuel, b" in", y, b" do\n", out, next);
     }
-    write_between(program, tokens, code, fuel, b"return", y, b";", out, at)
+    write_apart(program, tokens, code, fuel, b" in", y, b"do\n", out, next)
 }
 
 // ---- statements that hold others
@@ -125,7 +183,8 @@ fn write_statement(
                 at,
             )
         }
-        tags::RETURN => write_return(program, tokens, code, fuel - 1, y, out, at),
+        tags::FOREACH => write_foreach(program, tokens, code, fuel - 1, x, extra, out, at),
+        tags::RETURN => write_apart(program, tokens, code, fuel - 1, b"return", y, b";", out, at),
         tags::BLOCK => write_block(
             program,
             tokens,
@@ -156,6 +215,28 @@ fn write_guarded(
         (rawStatement fuel (source (now (program .entry)) (now (tokens .entry)) (now (code .entry)))) (now (lead .entry)) y) (now (out .entry)) (now (out .exit)) r ⌝ }
 {
     let next = write_between(program, tokens, code, fuel, lead, y, b")\n", out, at);
+    write_statement(program, tokens, code, fuel, y + 1, out, next)
+}
+
+// A foreach whose word is at x and the root of whose expression stands so many words behind, and its body.
+fn write_foreach(
+    program: &[u8],
+    tokens: &[u64],
+    code: &[u64],
+    fuel: usize,
+    x: usize,
+    extra: usize,
+    out: &mut [u8],
+    at: usize,
+) -> usize
+    requires { ⌜ Room fuel (x + extra + 1) ⌝ }
+    ensures { λ r. ⌜ WroteAt at (foreachText (rawExpression fuel (source (now (program .entry)) (now (tokens .entry)) (now (code .entry))))
+        (rawStatement fuel (source (now (program .entry)) (now (tokens .entry)) (now (code .entry)))) (source (now (program .entry)) (now (tokens .entry)) (now (code .entry)))
+        (getD (now (code .entry)) (x + 1) 0) (x + extra)) (now (out .entry)) (now (out .exit)) r ⌝ }
+{
+    let y = x + extra;
+    let slot = word_at(code, x + 1) as usize;
+    let next = write_iterator(program, tokens, code, fuel, slot, y, out, at);
     write_statement(program, tokens, code, fuel, y + 1, out, next)
 }
 

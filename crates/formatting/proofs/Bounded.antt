@@ -1,5 +1,5 @@
 -- A text is far shorter than a usize can count: each word of code stands for at most 40,000 bytes of it, and a procedure's name for one word more.
-use Prim.Native.Nat.{ℕ, _+_, _*_, _≤_, _<_, _^_}
+use Prim.Native.Nat.{ℕ, _+_, _-_, _*_, _≤_, _<_, _^_}
 use mathlib.Core.Path.{_≡_, refl, sym, _∙_}
 use mathlib.Core.Bool.{Bool, true, false, _||_, cond}
 use mathlib.Core.List.{List, [], _∷_, _++_, map}
@@ -11,13 +11,13 @@ use mir.Val.{SFits}
 use Rattle.meaning.specs.Basics.{bytes}
 use Rattle.meaning.specs.Byte.{isNamePart}
 use Rattle.meaning.specs.Token.{Token, aName, aString}
-use Rattle.meaning.specs.Tree.{Operator, concatenate, add, subtract, multiply, divide, remainder, shiftRight, shiftLeft, equal, unequal, greater, less, Expression, number, string, nothing, truth, name, table, entry, operation, call, paren, Arguments, noArgument, argument, Statement, declare, assign, update, when, while, return, block, act, Statements, only, first, Procedure, Program}
+use Rattle.meaning.specs.Tree.{Operator, concatenate, add, subtract, multiply, divide, remainder, shiftRight, shiftLeft, equal, unequal, greater, less, Expression, number, string, nothing, truth, name, table, entry, operation, call, paren, Arguments, noArgument, argument, Statement, declare, assign, update, when, while, foreach, return, block, act, Statements, only, first, Procedure, Program}
 use Rattle.meaning.specs.Grammar.{textAt}
 use Rattle.meaning.specs.Integer.{wrap, bits}
 use Rattle.meaning.specs.Picture.{decimal}
 use Rattle.meaning.proofs.IntegerLaws.{wrap-range}
 use Rattle.writing.proofs.Decimals.{decimal-short}
-use Rattle.canonical.specs.Text.{commaSeparated, operatorText, isOperation, isEntry, enclosedIf, expressionText, argumentTexts, apart, statementText, statementsText, procedureText, proceduresText, programText}
+use Rattle.canonical.specs.Text.{commaSeparated, operatorText, isOperation, isEntry, enclosedIf, expressionText, argumentTexts, apart, between, statementText, statementsText, procedureText, proceduresText, programText}
 use Rattle.code.specs.Code.{codeOf, codeOfAll, codeOfStatement, codeOfStatements, slotOf, codeOfProcedure, codeOfProcedures}
 use Rattle.reader.proofs.Homes.{Occurs}
 use Rattle.reader.proofs.Known.{Known, KnownAll, KnownStatement, KnownStatements, KnownNames}
@@ -55,6 +55,14 @@ apart-short t = go (isNamePart (getD t 0 0))
     go : (b : Bool) → length (cond b (bytes " " ++ t) t) ≤ length t + 1
     go true = omega arith
     go false = omega arith
+
+between-short : (t : List ℕ) → length (between t) ≤ length t + 2
+unfolding between
+between-short t = go (isNamePart (getD t (length t - 1) 0))
+  where
+    go : (b : Bool) → length (apart (cond b (t ++ bytes " ") t)) ≤ length t + 2
+    go true = omega (arith, apart-short (t ++ bytes " "), length-append t (bytes " "))
+    go false = omega (arith, apart-short t)
 
 truth-short : (b : Bool) → length (cond b (bytes "true") (bytes "false")) ≤ 5
 truth-short true = omega arith
@@ -127,6 +135,15 @@ module _ (ts : List Token) (texts : (i : ℕ) → length (textAt ts i) ≤ 32768
         ))
     statement-short (when p e s) k = simp length-append (omega (arith, expression-short e (k .1), statement-short s (k .2)))
     statement-short (while p e s) k = simp length-append (omega (arith, expression-short e (k .1), statement-short s (k .2)))
+    statement-short (foreach p x e s) k =
+        simp length-append (omega (
+          arith,
+          name-short aName x (k .1),
+          apart-short x,
+          expression-short e (k .2),
+          between-short (expressionText e),
+          statement-short s (k .3),
+        ))
     statement-short (return p e) k = simp length-append (omega (arith, expression-short e (k .1), apart-short (expressionText e)))
     statement-short (block p ss) k = simp length-append (omega (arith, statements-short ss (k .1)))
     statement-short (act p e) k = simp length-append (omega (arith, expression-short e (k .1)))

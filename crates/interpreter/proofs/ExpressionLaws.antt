@@ -165,12 +165,12 @@ module _ (program code g : List ℕ) (fuel : ℕ) (ts₀ ws₀ : List ℕ) (w x 
       unfolding goOn
       ended = h .rest ∙ rw (ends (h .rounds) l)
 
-      pub library-called : (r : Answer) (ws₁ : List ℕ) → (n ≡ 10 → ⊥) → Answers ws (called g n p base) r ws₁
+      pub library-called : (r : Answer) (ws₁ : List ℕ) → (n ≡ 11 → ⊥) → Answers ws (called g n p base) r ws₁
           → shown r ts ws₁ ≡ callAt (expressionAt fuel (setting program code g)) (invokeAt fuel (setting program code g)) (setting program code g) w x p (raw ts₀ ws₀)
       unfolding invoked if_then_else_
       library-called r ws₁ o q = q .equal ts ∙ sym (ended ∙ rw (← e, ne-eqb _ _ o))
 
-      pub procedure-called : (callee : ℕ) (o : Out Value) → n ≡ 10 → callee ≡ calleeIn w → o ≡ invokeAt fuel (setting program code g) callee p base (raw ts ws)
+      pub procedure-called : (callee : ℕ) (o : Out Value) → n ≡ 11 → callee ≡ calleeIn w → o ≡ invokeAt fuel (setting program code g) callee p base (raw ts ws)
           → o ≡ callAt (expressionAt fuel (setting program code g)) (invokeAt fuel (setting program code g)) (setting program code g) w x p (raw ts₀ ws₀)
       unfolding invoked if_then_else_
       procedure-called callee o k i q = q ∙ sym (ended ∙ rw (← e, k, i))

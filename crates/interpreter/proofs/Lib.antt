@@ -2,3 +2,4 @@ pub mod ExpressionLaws
 pub mod Fast
 pub mod StatementLaws
 pub mod CallLaws
+pub mod LoopLaws

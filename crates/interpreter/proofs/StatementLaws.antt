@@ -12,7 +12,7 @@ use types.Run.{OneOf}
 use borrow.Author.Tests.{lt-ltb, le-ltb, ne-eqb, not-true, not-false}
 use Rattle.meaning.specs.Basics.{if_then_else_}
 use Rattle.machine.proofs.Value as value
-use Rattle.machine.specs.Opcodes.{tagIn, sizeIn, placeIn, extraIn, tagDeclare, tagUpdate, tagWhen, tagWhile, tagReturn, tagBlock}
+use Rattle.machine.specs.Opcodes.{tagIn, sizeIn, placeIn, extraIn, tagDeclare, tagUpdate, tagWhen, tagWhile, tagForeach, tagReturn, tagBlock}
 use Rattle.machine.specs.declared.Value.{Value}
 use Rattle.machine.specs.declared.Value.the-variants.{Integer, Text, Boolean, Nothing, Table, Shape}
 use Rattle.machine.specs.declared.Answer.{Answer}
@@ -20,8 +20,9 @@ use Rattle.machine.specs.declared.Answer.the-variants.{Good, Bad}
 use Rattle.machine.specs.Words.{kindIn, kindShape, packed, unpacked}
 use Rattle.machine.specs.Layout.{fixedWords, stepsGranted, Room}
 use Rattle.machine.specs.Layout as Layout
-use Rattle.machine.specs.Act.{Raw, raw, Out, stop, Act, goOn, _>>=_, give, fail, count, shown, passed, Passes, PassesIn}
+use Rattle.machine.specs.Act.{Raw, raw, Out, stop, Act, goOn, _>>=_, give, fail, count, shown, passed, Passes}
 use Rattle.machine.specs.Tables.{storeEntry}
+use Rattle.tables.specs.Asked.{Stores}
 use Rattle.machine.specs.Operate.{withTable}
 use Rattle.machine.specs.Evaluate.{Evaluator, Setting, setting}
 use Rattle.machine.specs.declared.Flow.{Flow}
@@ -29,7 +30,7 @@ use Rattle.machine.specs.declared.Flow.the-variants.{Onward, Returned, Stopped}
 use Rattle.machine.specs.declared.Outcome.{Outcome}
 use Rattle.machine.specs.declared.Outcome.the-variants as outcome
 use Rattle.machine.specs.Effects.{shownFlow, shownTest, Flows, declaring, finishing, outcomeIn, saying}
-use Rattle.machine.specs.Execute.{Executor, simpleAt, updateValue, updateIn, updateAt, testOf, continue, whenAt, turning, looping, repeatAt, statementsFrom, countedAt, statementBy}
+use Rattle.machine.specs.Execute.{Executor, simpleAt, updateValue, updateIn, updateAt, testOf, continue, whenAt, turning, looping, repeatAt, foreachAt, statementsFrom, countedAt, statementBy}
 use Rattle.machine.specs.Interpret.{expressionAt, statementAt, bodyAt, invokeAt}
 use Rattle.fastpath.specs.Fast.{Values}
 use Rattle.stores.proofs.Acts.{after-pass, after-refusal}
@@ -160,14 +161,14 @@ module _ (program code g : List ℕ) (p : ℕ) (ts ws : List ℕ) (fuel y wy b w
       unfolding shownFlow
       value-stops n q f = sym (with-key ∙ stops _ h₃ f)
 
-      module _ (v₃ : Value) (k : ℕ) (f₃ : r₃ ≡ Good v₃) (e₃ : k ≡ packed v₃) (ok : Bool) (ws₄ : List ℕ) (d : PassesIn ts₃ ws₃ 77 (storeEntry program g t key k) ok ws₄) where
-        pub update-refused : not ok ≡ true → shownFlow (Stopped 77 p) ts₃ ws₄ ≡ updateAt (expressionAt fuel (setting program code g)) (setting program code g) y p (raw ts ws)
+      module _ (v₃ : Value) (k : ℕ) (f₃ : r₃ ≡ Good v₃) (e₃ : k ≡ packed v₃) (number : ℕ) (ws₄ : List ℕ) (d : Stores program g ts₃ ws₃ t key k number ws₄) where
+        pub update-refused : (number ≡ 0 → ⊥) → shownFlow (Stopped number p) ts₃ ws₄ ≡ updateAt (expressionAt fuel (setting program code g)) (setting program code g) y p (raw ts ws)
         unfolding _>>=_ goOn passed shownFlow
-        update-refused c = sym (with-key ∙ goes-on _ h₃ f₃ ∙ rw (← e₃, ← d .equal p, not-true ok c))
+        update-refused c = sym (with-key ∙ goes-on _ h₃ f₃ ∙ rw (← e₃, ← d .equal p, ne-eqb _ _ c))
 
-        pub update-done : not ok ≡ false → shownFlow Onward ts₃ ws₄ ≡ updateAt (expressionAt fuel (setting program code g)) (setting program code g) y p (raw ts ws)
+        pub update-done : number ≡ 0 → shownFlow Onward ts₃ ws₄ ≡ updateAt (expressionAt fuel (setting program code g)) (setting program code g) y p (raw ts ws)
         unfolding _>>=_ goOn passed give shownFlow
-        update-done c = sym (with-key ∙ goes-on _ h₃ f₃ ∙ rw (← e₃, ← d .equal p, not-false ok c))
+        update-done c = sym (with-key ∙ goes-on _ h₃ f₃ ∙ rw (← e₃, ← d .equal p, c))
 
 -- ---- at a fuel
 module _ (program code g : List ℕ) (x : ℕ) (ts ws : List ℕ) (fuel : ℕ) where
@@ -213,16 +214,22 @@ module _ (program code g : List ℕ) (x : ℕ) (ts ws : List ℕ) (fuel : ℕ) w
         unfolding countedAt if_then_else_
         is-when k o q e h = h ∙ sym (stepped ∙ rw (← i, q, e))
 
+        pub is-foreach : (k slot : ℕ) (o : Out Flow) → tag ≡ tagForeach → k ≡ extraIn w → slot ≡ getD code (x + 1) 0
+            → o ≡ foreachAt (expressionAt (fuel - 1) (setting program code g)) (statementAt (fuel - 1) (setting program code g)) (setting program code g) slot (x + k) p (raw ts ws₁)
+            → o ≡ statementAt fuel (setting program code g) x (raw ts ws)
+        unfolding countedAt if_then_else_
+        is-foreach k slot o q e f h = h ∙ sym (stepped ∙ rw (← i, q, e, f))
+
         pub is-block : (k : ℕ) (o : Out Flow) → tag ≡ tagBlock → k ≡ sizeIn w
             → o ≡ statementsFrom (k + 1) (statementAt (fuel - 1) (setting program code g)) (setting program code g) (x + 1) (x + k) (raw ts ws₁)
             → o ≡ statementAt fuel (setting program code g) x (raw ts ws)
         unfolding countedAt if_then_else_
         is-block k o q e h = h ∙ sym (stepped ∙ rw (← i, q, e))
 
-        pub is-simple : (o : Out Flow) → (tag ≡ tagDeclare → ⊥) → (tag ≡ tagUpdate → ⊥) → (tag ≡ tagWhen → ⊥) → (tag ≡ tagBlock → ⊥)
+        pub is-simple : (o : Out Flow) → (tag ≡ tagDeclare → ⊥) → (tag ≡ tagUpdate → ⊥) → (tag ≡ tagWhen → ⊥) → (tag ≡ tagForeach → ⊥) → (tag ≡ tagBlock → ⊥)
             → o ≡ simpleAt (expressionAt (fuel - 1) (setting program code g)) (setting program code g) w x p (raw ts ws₁) → o ≡ statementAt fuel (setting program code g) x (raw ts ws)
         unfolding countedAt if_then_else_
-        is-simple o a b d e h = h ∙ sym (stepped ∙ rw (← i, ne-eqb _ _ a, ne-eqb _ _ b, ne-eqb _ _ d, ne-eqb _ _ e))
+        is-simple o a b d e f h = h ∙ sym (stepped ∙ rw (← i, ne-eqb _ _ a, ne-eqb _ _ b, ne-eqb _ _ d, ne-eqb _ _ e, ne-eqb _ _ f))
 
 -- ---- a return
 module _ (program code g : List ℕ) (x : ℕ) (ts ws : List ℕ) (fuel w : ℕ) (s : Leaves code g ts ws fuel w x) where
@@ -241,7 +248,7 @@ module _ (program code g : List ℕ) (x : ℕ) (ts ws : List ℕ) (fuel w : ℕ)
     module _ (t : not ok ≡ false) (y k : ℕ) (e : y ≡ x + sizeIn w - 1) (ws₂ : List ℕ) (h : Values (fuel - 1) code g ws₁ y k ws₂) where
       simply : (o : Out Flow) → o ≡ simpleAt (expressionAt (fuel - 1) (setting program code g)) (setting program code g) w x p (raw ts ws₁) → o ≡ statementAt fuel (setting program code g) x (raw ts ws)
       simply o q = is-simple program code g x ts ws fuel n w (s .word) p j (tagIn w) refl (no-other tagWhile (λ e. omega (arith, e))) ok ws₁ c t o (no-other tagDeclare (λ e. omega (arith, e)))
-          (no-other tagUpdate (λ e. omega (arith, e))) (no-other tagWhen (λ e. omega (arith, e))) (no-other tagBlock (λ e. omega (arith, e))) q
+          (no-other tagUpdate (λ e. omega (arith, e))) (no-other tagWhen (λ e. omega (arith, e))) (no-other tagForeach (λ e. omega (arith, e))) (no-other tagBlock (λ e. omega (arith, e))) q
 
       pub leave-fast : (v : Value) → length ws₁ ≡ length ws → (k ≡ 0 → ⊥) → v ≡ unpacked k → shownFlow (given (Good v)) ts ws₂ ≡ statementAt fuel (setting program code g) x (raw ts ws)
       unfolding given

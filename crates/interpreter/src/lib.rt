@@ -11,13 +11,15 @@ ghost use mathlib.Core.Path.{_≡_};
 ghost use Rattle.machine.specs.Act.{raw, shown};
 ghost use Rattle.machine.specs.Effects.{shownFlow, shownTest};
 ghost use Rattle.machine.specs.Evaluate.{setting, argumentOf, callAt, operandsAt};
-ghost use Rattle.machine.specs.Execute.{simpleAt, updateAt, testOf, whenAt, repeatAt, statementsFrom};
+ghost use Rattle.machine.specs.Execute.{simpleAt, updateAt, testOf, whenAt, repeatAt, foreachAt, statementsFrom};
+ghost use Rattle.machine.specs.Loops.{turn, loopOver};
 ghost use Rattle.machine.specs.Interpret.{expressionAt, statementAt, bodyAt, invokeAt};
 ghost use Rattle.interpreter.specs.Asked.{Lent, Calls, Runs, Leaves, Body};
 ghost use Rattle.interpreter.specs.Ended.{given, Ended};
+ghost use Rattle.interpreter.specs.Members.{memberAt, insideAt};
 
 // What a call's word says of a name that is neither the library's nor main.
-const OTHER: u64 = 10;
+const OTHER: u64 = 11;
 
 // ---- expressions
 // An expression by its root x, in the statement at p. An answer that is handed on is made anew, here and in `simple`: a copy would be read in other
@@ -218,6 +220,7 @@ fn invoke(
     let top = stores::arguments::arguments_held(words) as usize;
     let n = stores::variables::declared_count(words);
     let caller = stores::calls::running(words);
+    let unit = stores::calls::loop_unit(words);
     match procedures::begin(words, code, grants, callee, top, n, p, base) {
         Answer::Good(_) => {}
         Answer::Bad(k, q) => return Answer::Bad(k, q),
@@ -237,7 +240,7 @@ fn invoke(
         size + 1,
     ) {
         Answer::Good(v) => {
-            stores::calls::resume(words, top, n, caller, base as u64);
+            stores::calls::resume(words, top, n, caller, unit, base as u64);
             Answer::Good(v)
         }
         Answer::Bad(k, q) => Answer::Bad(k, q),
@@ -374,7 +377,7 @@ fn update(
                     let key = values::pack(u);
                     match expression(program, code, grants, texts, words, fuel, y, p) {
                         Answer::Good(z) => {
-                            if !tables::entries::store_entry(
+                            let number = tables::entries::store_entry(
                                 program,
                                 texts,
                                 words,
@@ -382,8 +385,9 @@ fn update(
                                 t,
                                 key,
                                 values::pack(z),
-                            ) {
-                                return Flow::Stopped(77, p);
+                            );
+                            if number != 0 {
+                                return Flow::Stopped(number, p);
                             }
                             Flow::Onward
                         }
@@ -487,6 +491,20 @@ fn statement(
                 texts,
                 words,
                 fuel - 1,
+                x + code::extra_of(w),
+                p,
+            );
+            r
+        }
+        tags::FOREACH => {
+            let r = each(
+                program,
+                code,
+                grants,
+                texts,
+                words,
+                fuel - 1,
+                stores::words::word_at(code, x + 1) as usize,
                 x + code::extra_of(w),
                 p,
             );
@@ -606,6 +624,167 @@ fn statements(
         at += code::size_of(stores::words::word_at(code, at));
     }
     Flow::Onward
+}
+
+// ---- loops over groups
+// The statement behind the expression whose root is y, for each figure in the group that this gives; the variable has so much for its slot.
+fn each(
+    program: &[u8],
+    code: &[u64],
+    grants: &[u64; 5],
+    texts: &mut [u8],
+    words: &mut [u64],
+    fuel: usize,
+    slot: usize,
+    y: usize,
+    p: u64,
+) -> Flow
+    requires { ⌜ Runs (now grants) (now texts) (now words) fuel (y + 1) ⌝ }
+    ensures { λ r. ⌜ shownFlow r (now (texts .exit)) (now (words .exit))
+        ≡ foreachAt (expressionAt fuel (setting (now (program .entry)) (now (code .entry)) (now (grants .entry)))) (statementAt fuel (setting (now (program .entry)) (now (code .entry)) (now (grants .entry)))) (setting (now (program .entry)) (now (code .entry)) (now (grants .entry))) slot y p (raw (now (texts .entry)) (now (words .entry))) ⌝ }
+{
+    match expression(program, code, grants, texts, words, fuel, y, p) {
+        Answer::Good(v) => match v {
+            Value::Shape(i) => {
+                let number = effects::open_loop(words, slot, i);
+                if number != 0 {
+                    return Flow::Stopped(number, p);
+                }
+                let r = own(program, code, grants, texts, words, fuel, slot, y + 1, p, i);
+                r
+            }
+            _ => Flow::Stopped(20, p),
+        },
+        Answer::Bad(n, q) => Flow::Stopped(n, q),
+    }
+}
+
+// The statement at b for each figure in group i, its own components one after the other.
+fn own(
+    program: &[u8],
+    code: &[u64],
+    grants: &[u64; 5],
+    texts: &mut [u8],
+    words: &mut [u64],
+    fuel: usize,
+    slot: usize,
+    b: usize,
+    p: u64,
+    i: u32,
+) -> Flow
+    requires { ⌜ Runs (now grants) (now texts) (now words) fuel b ⌝ }
+    ensures { λ r. ⌜ shownFlow r (now (texts .exit)) (now (words .exit))
+        ≡ loopOver (statementAt fuel (setting (now (program .entry)) (now (code .entry)) (now (grants .entry))) b) (now (grants .entry)) p slot i (raw (now (texts .entry)) (now (words .entry))) ⌝ }
+{
+    let mut k = stores::components::first_at(words, i);
+    let mut n = stores::components::count_at(words, i);
+    let unit = effects::enter_loop(words);
+    while 0 < n {
+        n -= 1;
+        match member(program, code, grants, texts, words, fuel, slot, b, p, k) {
+            Flow::Onward => {}
+            Flow::Returned(v) => {
+                effects::leave_loop(words, unit);
+                return Flow::Returned(v);
+            }
+            Flow::Stopped(m, q) => return Flow::Stopped(m, q),
+        }
+        k += 1;
+    }
+    effects::leave_loop(words, unit);
+    Flow::Onward
+}
+
+// For each figure that the component in slot k is or holds; it is passed over without a step if it is destroyed.
+fn member(
+    program: &[u8],
+    code: &[u64],
+    grants: &[u64; 5],
+    texts: &mut [u8],
+    words: &mut [u64],
+    fuel: usize,
+    slot: usize,
+    b: usize,
+    p: u64,
+    k: u32,
+) -> Flow
+    requires { ⌜ Runs (now grants) (now texts) (now words) fuel b ⌝ }
+    ensures { λ r. ⌜ shownFlow r (now (texts .exit)) (now (words .exit))
+        ≡ memberAt (statementAt fuel (setting (now (program .entry)) (now (code .entry)) (now (grants .entry))) b) (now (grants .entry)) p slot k (raw (now (texts .entry)) (now (words .entry))) ⌝ }
+{
+    let c = stores::components::component_at(words, grants, k);
+    if stores::shapes::is_destroyed(words, c) {
+        return Flow::Onward;
+    }
+    if !stores::counters::count(words, grants) {
+        return Flow::Stopped(79, p);
+    }
+    if !stores::shapes::is_group(words, c) {
+        let r = bound(program, code, grants, texts, words, fuel, slot, b, c);
+        return r;
+    }
+    let r = inside(program, code, grants, texts, words, fuel, slot, b, p, k, c);
+    r
+}
+
+// For each figure in group c, the component in slot end.
+fn inside(
+    program: &[u8],
+    code: &[u64],
+    grants: &[u64; 5],
+    texts: &mut [u8],
+    words: &mut [u64],
+    fuel: usize,
+    slot: usize,
+    b: usize,
+    p: u64,
+    end: u32,
+    c: u32,
+) -> Flow
+    requires { ⌜ Runs (now grants) (now texts) (now words) fuel b ⌝ }
+    ensures { λ r. ⌜ shownFlow r (now (texts .exit)) (now (words .exit))
+        ≡ insideAt (statementAt fuel (setting (now (program .entry)) (now (code .entry)) (now (grants .entry))) b) (now (grants .entry)) p slot end c (raw (now (texts .entry)) (now (words .entry))) ⌝ }
+{
+    let mut found = groups::looking::look_in(words, grants, c);
+    let mut turns = grants[granted::STEPS] + 1;
+    while 0 < turns {
+        turns -= 1;
+        if found == 0 {
+            return Flow::Onward;
+        }
+        let i = stores::components::component_at(words, grants, found - 1);
+        match bound(program, code, grants, texts, words, fuel, slot, b, i) {
+            Flow::Onward => {}
+            Flow::Returned(v) => {
+                groups::marks::unmark_below(words, grants, end);
+                return Flow::Returned(v);
+            }
+            Flow::Stopped(n, q) => return Flow::Stopped(n, q),
+        }
+        found = groups::looking::look_behind(words, grants, end, found - 1);
+    }
+    Flow::Stopped(79, p)
+}
+
+// The statement at b with the variable bound to shape i.
+fn bound(
+    program: &[u8],
+    code: &[u64],
+    grants: &[u64; 5],
+    texts: &mut [u8],
+    words: &mut [u64],
+    fuel: usize,
+    slot: usize,
+    b: usize,
+    i: u32,
+) -> Flow
+    requires { ⌜ Runs (now grants) (now texts) (now words) fuel b ⌝ }
+    ensures { λ r. ⌜ shownFlow r (now (texts .exit)) (now (words .exit))
+        ≡ turn (statementAt fuel (setting (now (program .entry)) (now (code .entry)) (now (grants .entry))) b) slot i (raw (now (texts .entry)) (now (words .entry))) ⌝ }
+{
+    stores::variables::set_variable(words, slot, values::pack(Value::Shape(i)));
+    let r = statement(program, code, grants, texts, words, fuel, b);
+    r
 }
 
 // A body of n words from a on.

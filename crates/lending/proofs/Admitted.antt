@@ -1,6 +1,7 @@
 -- The first question: the grants' ranges and the lengths of the work slices.
 use Prim.Native.Nat.{ℕ, suc, _+_, _*_, _≤_, _<_}
 use native.Mathlib.Omega.{arith}
+use native.Mathlib.Nat.{le-trans, mul-le-mul-left}
 use mathlib.Core.Path.{_≡_, refl, sym, _∙_}
 use mathlib.Core.Bool.{Bool, true, false, not, _&&_}
 use mathlib.Core.List.{List}
@@ -106,18 +107,27 @@ in-ranges g e =
     }
 
 -- ---- `words_needed`
+rows-few : (c n : ℕ) → c ≤ 64 → n ≤ 65535 → (5 + c) * n ≤ 69 * 65535
+rows-few c n h l = le-trans (mul-le-mul-left (5 + c) l) (omega arith)
+
 module _ (g : List ℕ) (e : inRange (grantsOf g) ≡ true) where
-  pub shapes-fit : Fits w64 (3 * shapesGranted g)
+  pub shapes-fit : Fits w64 (5 * shapesGranted g)
   shapes-fit = record { fits = omega (arith, in-ranges g e .shapes) }
 
-  pub shapes-end-fits : Fits w64 (278608 + 3 * shapesGranted g)
+  pub shapes-end-fits : Fits w64 (278608 + 5 * shapesGranted g)
   shapes-end-fits = record { fits = omega (arith, in-ranges g e .shapes) }
 
-  pub entries-fit : Fits w64 (4 * entriesGranted g)
-  entries-fit = record { fits = omega (arith, in-ranges g e .entries) }
+  pub rows-fit : Fits w64 (5 + callsGranted g)
+  rows-fit = record { fits = omega (arith, in-ranges g e .calls) }
+
+  entries-few : (5 + callsGranted g) * entriesGranted g ≤ 69 * 65535
+  entries-few = rows-few (callsGranted g) (entriesGranted g) (in-ranges g e .calls) (in-ranges g e .entries)
+
+  pub entries-fit : Fits w64 ((5 + callsGranted g) * entriesGranted g)
+  entries-fit = record { fits = omega (arith, entries-few) }
 
   pub words-fit : Fits w64 (wordsNeeded g)
-  words-fit = record { fits = omega (arith, in-ranges g e .shapes, in-ranges g e .entries) }
+  words-fit = record { fits = omega (arith, in-ranges g e .shapes, entries-few) }
 
 -- ---- `can_read`
 module _ (g : List ℕ) (tokens code : ℕ) (ok : Bool) (ranges : ok ≡ inRange (grantsOf g)) where

@@ -46,7 +46,7 @@ fn words_needed(grants: &[u64; 5]) -> u64
     requires { ⌜ inRange (grantsOf (now grants)) ≡ true ⌝ }
     ensures { λ r. ⌜ r ≡ wordsNeeded (now (grants .entry)) ⌝ }
 {
-    278608 + 3 * grants[1] + 4 * grants[2]
+    278608 + 5 * grants[1] + (5 + grants[4]) * grants[2]
 }
 
 // Whether the counts are in their ranges, and work slices of these lengths as long as they need to be.

@@ -53,8 +53,11 @@ word-plain w =
     (by-cond (sameText w (bytes "return")) 8 _ (omega arith)
     (by-cond (sameText w (bytes "none")) 9 _ (omega arith)
     (by-cond (sameText w (bytes "true")) 10 _ (omega arith)
-    (by-cond (sameText w (bytes "false")) 11 1 (omega arith)
-    (omega arith))))))))
+    (by-cond (sameText w (bytes "false")) 11 _ (omega arith)
+    (by-cond (sameText w (bytes "foreach")) 12 _ (omega arith)
+    (by-cond (sameText w (bytes "in")) 13 _ (omega arith)
+    (by-cond (sameText w (bytes "do")) 14 1 (omega arith)
+    (omega arith)))))))))))
 
 -- a token that is no string has its bytes for its text
 plain : (s : List ℕ) (k n : ℕ) → Plain k → 0 < n → n ≤ length s → Fits s k n (take n s)

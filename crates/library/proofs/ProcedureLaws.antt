@@ -1,6 +1,6 @@
 -- Library procedures.
 use Prim.Native.Nat.{ℕ, _+_, _^_, _≤_, _<_}
-use mathlib.Core.Path.{_≡_, _∙_, refl, sym}
+use mathlib.Core.Path.{_≡_, _∙_, refl, ap, sym}
 use mathlib.Core.Bool.{Bool, true, false, not, _&&_, cond}
 use mathlib.Core.List.{List}
 use native.Mathlib.Omega.{arith}
@@ -17,18 +17,23 @@ use Rattle.machine.specs.declared.Answer.{Answer}
 use Rattle.machine.specs.declared.Answer.the-variants.{Good, Bad}
 use Rattle.machine.specs.Words.{kindIn, numberIn, handleIn, unpacked}
 use Rattle.machine.specs.declared.Figure.{Figure}
-use Rattle.machine.specs.Act.{Raw, raw, done, stop, Act, goOn, _>>=_, give, fail, refuse, shown, Answers, Passes, Gives}
+use Rattle.machine.specs.Act.{Raw, raw, Out, done, stop, Act, goOn, _>>=_, give, fail, refuse, held, shown, passed, Answers, Passes}
 use Rattle.machine.specs.Stack.{argumentAt}
-use Rattle.machine.specs.Shapes.{figureAt, newShape, destroy}
+use Rattle.machine.specs.Layout.{argumentPlace}
+use Rattle.machine.specs.Shapes.{isGroupAt, figureAt, newShape}
+use Rattle.machine.specs.Groups.{destroyAll}
+use Rattle.groups.specs.Walks.{Ends}
+use Rattle.groups.specs.Making.{grouping}
 use Rattle.machine.specs.Variables.{clearScene}
-use Rattle.stores.proofs.Acts.{after-pass, after-refusal, after-gift}
+use Rattle.stores.proofs.Acts.{after-pass, after-refusal}
 use Rattle.machine.specs.Operate.{withInteger, withText}
-use Rattle.operators.proofs.Held.{held, back-to}
+use Rattle.operators.proofs.Held.{back-to}
+use Rattle.operators.proofs.Held as held
 use Rattle.operators.proofs.KindLaws.{integer-or, text-or, shape-or}
 use Rattle.machine.specs.Library.{withFigure}
 use Rattle.machine.specs.Arguments.{figure, connecting, textOn, allUsable}
-use Rattle.machine.specs.Library.{drawn, drawnText, connected, labelled, coordinate, destroyed, clearing, perform, callLibrary}
-use Rattle.arguments.specs.Given.{isKind, areKinds, fourIntegers, pointAndText, integerAt, handleAt, shapeAt, givenFigure}
+use Rattle.machine.specs.Library.{drawn, drawnText, connected, labelled, coordinate, destroyed, clearing, allShapes, grouped, perform, callLibrary}
+use Rattle.arguments.specs.Given.{isKind, areKinds, fourIntegers, pointAndText, isFigure, twoFigures, figureAndText, integerAt, handleAt, shapeAt, givenFigure}
 use Rattle.arguments.specs.Given.{drawnFigure, textFigure, connectingFigure, labelFigure}
 
 -- ---- several questions
@@ -55,6 +60,10 @@ int a = toZ w32 (numberIn a)
 abbrev is : ℕ → ℕ → Bool
 is a k = eqb (kindIn a) k
 
+-- whether it is a shape, and no group
+abbrev fig : List ℕ → ℕ → Bool
+fig ws a = eqb (kindIn a) 6 && not (isGroupAt ws (numberIn a))
+
 module _ {A : Type 0} (p : ℕ) (s : Raw) where
   integers-or : (a b c d : ℕ) (k : ℤ → ℤ → ℤ → ℤ → Act A)
       → withInteger p (unpacked a) (λ x. withInteger p (unpacked b) λ y. withInteger p (unpacked c) λ z. withInteger p (unpacked d) λ w. k x y z w) s
@@ -69,18 +78,26 @@ module _ {A : Type 0} (p : ℕ) (s : Raw) where
   point-or a b c k =
       rw (integer-or p a s _, integer-or p b s _, text-or p c s _) (three-asked (k (int a) (int b) (handleIn c) s) (stop 20 p s) (is a 1) (is b 1) (is c 2))
 
+  no-group : (b c : Bool) (k : Act A) → cond b ((if c then (λ _. fail 20 p) else λ _. k) s) (stop 20 p s) ≡ cond (b && not c) (k s) (stop 20 p s)
+  unfolding if_then_else_ fail
+  no-group true true k = refl
+  no-group true false k = refl
+  no-group false c k = refl
+
+  figure-or : (a : ℕ) (k : Figure → Act A) → withFigure p (unpacked a) k s ≡ cond (fig (s .words) a) (k (figureAt (s .words) (numberIn a)) s) (stop 20 p s)
+  unfolding withFigure _>>=_ goOn held
+  figure-or a k = shape-or p a s _ ∙ no-group (is a 6) (isGroupAt (s .words) (numberIn a)) (k (figureAt (s .words) (numberIn a)))
+
   shapes-or : (a b : ℕ) (k : Figure → Figure → Act A) → withFigure p (unpacked a) (λ x. withFigure p (unpacked b) λ y. k x y) s
-      ≡ cond (is a 6 && is b 6) (k (figureAt (s .words) (numberIn a)) (figureAt (s .words) (numberIn b)) s) (stop 20 p s)
-  unfolding withFigure
+      ≡ cond (fig (s .words) a && fig (s .words) b) (k (figureAt (s .words) (numberIn a)) (figureAt (s .words) (numberIn b)) s) (stop 20 p s)
   shapes-or a b k =
-      rw (shape-or p a s _, shape-or p b s _)
-      (two-asked (k (figureAt (s .words) (numberIn a)) (figureAt (s .words) (numberIn b)) s) (stop 20 p s) (is a 6) (is b 6))
+      rw (figure-or a _, figure-or b _)
+      (two-asked (k (figureAt (s .words) (numberIn a)) (figureAt (s .words) (numberIn b)) s) (stop 20 p s) (fig (s .words) a) (fig (s .words) b))
 
   label-or : (a b : ℕ) (k : Figure → ℕ → Act A) → withFigure p (unpacked a) (λ x. withText p (unpacked b) λ h. k x h) s
-      ≡ cond (is a 6 && is b 2) (k (figureAt (s .words) (numberIn a)) (handleIn b) s) (stop 20 p s)
-  unfolding withFigure
+      ≡ cond (fig (s .words) a && is b 2) (k (figureAt (s .words) (numberIn a)) (handleIn b) s) (stop 20 p s)
   label-or a b k =
-      rw (shape-or p a s _, text-or p b s _) (two-asked (k (figureAt (s .words) (numberIn a)) (handleIn b) s) (stop 20 p s) (is a 6) (is b 2))
+      rw (figure-or a _, text-or p b s _) (two-asked (k (figureAt (s .words) (numberIn a)) (handleIn b) s) (stop 20 p s) (fig (s .words) a) (is b 2))
 
 -- ---- each procedure, with as many arguments as it takes
 first-is : (base : ℕ) → base + 0 ≡ base
@@ -97,12 +114,12 @@ module _ (g ts ws : List ℕ) (p base : ℕ) where
   text-by = rw (first-is base)
       (point-or p (raw ts ws) (argumentAt ws base) (argumentAt ws (base + 1)) (argumentAt ws (base + 2)) λ x y h. newShape g p (figure 3 x y (pos 0) (pos 0) h))
 
-  connected-by : connected g p base 2 (raw ts ws) ≡ cond (areKinds ws base 0 6 1 6) (newShape g p (connectingFigure ws base) (raw ts ws)) (stop 20 p (raw ts ws))
-  unfolding connected _>>=_ goOn refuse give areKinds isKind connectingFigure givenFigure shapeAt
+  connected-by : connected g p base 2 (raw ts ws) ≡ cond (twoFigures ws base) (newShape g p (connectingFigure ws base) (raw ts ws)) (stop 20 p (raw ts ws))
+  unfolding connected _>>=_ goOn refuse give twoFigures isFigure isKind connectingFigure givenFigure shapeAt
   connected-by = rw (first-is base) (shapes-or p (raw ts ws) (argumentAt ws base) (argumentAt ws (base + 1)) λ x y. newShape g p (connecting x y))
 
-  labelled-by : labelled g p base 2 (raw ts ws) ≡ cond (areKinds ws base 0 6 1 2) (newShape g p (labelFigure ws base) (raw ts ws)) (stop 20 p (raw ts ws))
-  unfolding labelled _>>=_ goOn refuse give areKinds isKind labelFigure givenFigure handleAt shapeAt
+  labelled-by : labelled g p base 2 (raw ts ws) ≡ cond (figureAndText ws base) (newShape g p (labelFigure ws base) (raw ts ws)) (stop 20 p (raw ts ws))
+  unfolding labelled _>>=_ goOn refuse give figureAndText isFigure isKind labelFigure givenFigure handleAt shapeAt
   labelled-by = rw (first-is base) (label-or p (raw ts ws) (argumentAt ws base) (argumentAt ws (base + 1)) λ x h. newShape g p (textOn x h))
 
 module _ (g ws : List ℕ) (act : Act Value) (p : ℕ) (ok b : Bool) (f : Figure) (e : b ≡ ok)
@@ -141,90 +158,119 @@ module _ (ws g : List ℕ) (p base n : ℕ) where
   unfolding connected _>>=_ goOn refuse fail shown
   connect-count h = record { equal = λ ts. rw (ne-eqb _ _ h) }
 
-  pub connect-kinds : {b : Bool} → n ≡ 2 → b ≡ areKinds ws base 0 6 1 6 → not b ≡ true → Answers ws (connected g p base n) (Bad 20 p) ws
-  connect-kinds {b} k e h = rw k (refused g ws (connected g p base 2) p (areKinds ws base 0 6 1 6) b (connectingFigure ws base) e (λ ts. connected-by g ts ws p base) h)
+  pub connect-kinds : {b : Bool} → n ≡ 2 → b ≡ twoFigures ws base → not b ≡ true → Answers ws (connected g p base n) (Bad 20 p) ws
+  connect-kinds {b} k e h = rw k (refused g ws (connected g p base 2) p (twoFigures ws base) b (connectingFigure ws base) e (λ ts. connected-by g ts ws p base) h)
 
-  pub connect-made : {b : Bool} {f : Figure} {r : Answer} {ws′ : List ℕ} → n ≡ 2 → b ≡ areKinds ws base 0 6 1 6 → not b ≡ false → f ≡ connectingFigure ws base
+  pub connect-made : {b : Bool} {f : Figure} {r : Answer} {ws′ : List ℕ} → n ≡ 2 → b ≡ twoFigures ws base → not b ≡ false → f ≡ connectingFigure ws base
       → Answers ws (newShape g p f) r ws′ → Answers ws (connected g p base n) r ws′
-  connect-made {b} {f} {r} {ws′} k e h q a = rw k (made g ws (connected g p base 2) p (areKinds ws base 0 6 1 6) b (connectingFigure ws base) e (λ ts. connected-by g ts ws p base) r f ws′ h q a)
+  connect-made {b} {f} {r} {ws′} k e h q a = rw k (made g ws (connected g p base 2) p (twoFigures ws base) b (connectingFigure ws base) e (λ ts. connected-by g ts ws p base) r f ws′ h q a)
 
   pub label-count : (n ≡ 2 → ⊥) → Answers ws (labelled g p base n) (Bad 20 p) ws
   unfolding labelled _>>=_ goOn refuse fail shown
   label-count h = record { equal = λ ts. rw (ne-eqb _ _ h) }
 
-  pub label-kinds : {b : Bool} → n ≡ 2 → b ≡ areKinds ws base 0 6 1 2 → not b ≡ true → Answers ws (labelled g p base n) (Bad 20 p) ws
-  label-kinds {b} k e h = rw k (refused g ws (labelled g p base 2) p (areKinds ws base 0 6 1 2) b (labelFigure ws base) e (λ ts. labelled-by g ts ws p base) h)
+  pub label-kinds : {b : Bool} → n ≡ 2 → b ≡ figureAndText ws base → not b ≡ true → Answers ws (labelled g p base n) (Bad 20 p) ws
+  label-kinds {b} k e h = rw k (refused g ws (labelled g p base 2) p (figureAndText ws base) b (labelFigure ws base) e (λ ts. labelled-by g ts ws p base) h)
 
-  pub label-made : {b : Bool} {f : Figure} {r : Answer} {ws′ : List ℕ} → n ≡ 2 → b ≡ areKinds ws base 0 6 1 2 → not b ≡ false → f ≡ labelFigure ws base
+  pub label-made : {b : Bool} {f : Figure} {r : Answer} {ws′ : List ℕ} → n ≡ 2 → b ≡ figureAndText ws base → not b ≡ false → f ≡ labelFigure ws base
       → Answers ws (newShape g p f) r ws′ → Answers ws (labelled g p base n) r ws′
-  label-made {b} {f} {r} {ws′} k e h q a = rw k (made g ws (labelled g p base 2) p (areKinds ws base 0 6 1 2) b (labelFigure ws base) e (λ ts. labelled-by g ts ws p base) r f ws′ h q a)
+  label-made {b} {f} {r} {ws′} k e h q a = rw k (made g ws (labelled g p base 2) p (figureAndText ws base) b (labelFigure ws base) e (λ ts. labelled-by g ts ws p base) r f ws′ h q a)
 
--- ---- a centre, a shape destroyed, the scene cleared
+-- ---- a centre, a shape destroyed, the scene cleared, a group
+-- behind an act that ends with a number nothing is given
+module _ (ws ws′ : List ℕ) (act : ℕ → Act (Unit {0})) (r : ℕ) (h : Ends ws act r ws′) (p : ℕ) (ts : List ℕ) where
+  all-done : r ≡ 0 → (act p >>= λ _. give Nothing) (raw ts ws) ≡ done Nothing (raw ts ws′)
+  unfolding _>>=_ goOn passed give
+  all-done z = ap (λ (o : Out (Unit {0})). goOn o (λ _. give Nothing)) (sym (h .equal p ts)) ∙ rw z
+
+  broken-off : (r ≡ 0 → ⊥) → (act p >>= λ _. give Nothing) (raw ts ws) ≡ stop r p (raw ts ws′)
+  unfolding _>>=_ goOn passed
+  broken-off z = ap (λ (o : Out (Unit {0})). goOn o (λ _. give Nothing)) (sym (h .equal p ts)) ∙ rw (ne-eqb r 0 z)
+
 module _ (ws : List ℕ) (p base n : ℕ) where
   module _ (f : Figure → ℤ) where
     pub coordinate-count : (n ≡ 1 → ⊥) → Answers ws (coordinate f p base n) (Bad 20 p) ws
     unfolding coordinate _>>=_ goOn refuse fail shown
     coordinate-count h = record { equal = λ ts. rw (ne-eqb _ _ h) }
 
-    coordinate-by : (ts : List ℕ) → coordinate f p base 1 (raw ts ws) ≡ cond (isKind ws base 0 6) (done (Integer (f (givenFigure ws base 0))) (raw ts ws)) (stop 20 p (raw ts ws))
-    unfolding coordinate _>>=_ goOn refuse give withFigure isKind givenFigure shapeAt
-    coordinate-by ts = rw (first-is base) (shape-or p (argumentAt ws base) (raw ts ws) _)
+    coordinate-by : (ts : List ℕ) → coordinate f p base 1 (raw ts ws) ≡ cond (isFigure ws base 0) (done (Integer (f (givenFigure ws base 0))) (raw ts ws)) (stop 20 p (raw ts ws))
+    unfolding coordinate _>>=_ goOn refuse give isFigure isKind givenFigure shapeAt
+    coordinate-by ts = rw (first-is base) (figure-or p (raw ts ws) (argumentAt ws base) _)
 
-    pub coordinate-kind : {b : Bool} → n ≡ 1 → b ≡ isKind ws base 0 6 → not b ≡ true → Answers ws (coordinate f p base n) (Bad 20 p) ws
+    pub coordinate-kind : {b : Bool} → n ≡ 1 → b ≡ isFigure ws base 0 → not b ≡ true → Answers ws (coordinate f p base n) (Bad 20 p) ws
     unfolding shown
     coordinate-kind {b} k e h = rw k (record { equal = λ ts. sym (coordinate-by ts ∙ rw (← e, not-true b h)) })
 
-    pub coordinate-given : {b : Bool} {s : Figure} {m : ℤ} → n ≡ 1 → b ≡ isKind ws base 0 6 → not b ≡ false → s ≡ givenFigure ws base 0 → m ≡ f s → mag m < 2 ^ 31
-        → Answers ws (coordinate f p base n) (Good (Integer (held m))) ws
+    pub coordinate-given : {b : Bool} {s : Figure} {m : ℤ} → n ≡ 1 → b ≡ isFigure ws base 0 → not b ≡ false → s ≡ givenFigure ws base 0 → m ≡ f s → mag m < 2 ^ 31
+        → Answers ws (coordinate f p base n) (Good (Integer (held.held m))) ws
     unfolding shown
     coordinate-given {b} k e h q m l = rw k (record { equal = λ ts. sym (coordinate-by ts ∙ rw (← e, not-false b h, back-to l m, q)) })
 
-  pub destroy-count : (n ≡ 1 → ⊥) → Answers ws (destroyed p base n) (Bad 20 p) ws
+module _ (g ws : List ℕ) (p base n : ℕ) where
+  pub destroy-count : (n ≡ 1 → ⊥) → Answers ws (destroyed g p base n) (Bad 20 p) ws
   unfolding destroyed _>>=_ goOn refuse fail shown
   destroy-count h = record { equal = λ ts. rw (ne-eqb _ _ h) }
 
-  destroyed-by : (ts : List ℕ) → destroyed p base 1 (raw ts ws)
-      ≡ cond (isKind ws base 0 6) ((destroy (shapeAt ws base 0) >>= λ _. give Nothing) (raw ts ws)) (stop 20 p (raw ts ws))
+  destroyed-by : (ts : List ℕ) → destroyed g p base 1 (raw ts ws)
+      ≡ cond (isKind ws base 0 6) ((destroyAll g p (shapeAt ws base 0) >>= λ _. give Nothing) (raw ts ws)) (stop 20 p (raw ts ws))
   unfolding destroyed _>>=_ goOn refuse give isKind shapeAt
   destroyed-by ts = rw (first-is base) (shape-or p (argumentAt ws base) (raw ts ws) _)
 
-  pub destroy-kind : {b : Bool} → n ≡ 1 → b ≡ isKind ws base 0 6 → not b ≡ true → Answers ws (destroyed p base n) (Bad 20 p) ws
-  unfolding shown
-  destroy-kind {b} k e h = rw k (record { equal = λ ts. sym (destroyed-by ts ∙ rw (← e, not-true b h)) })
+  module _ {b : Bool} (k : n ≡ 1) (e : b ≡ isKind ws base 0 6) where
+    pub destroy-kind : not b ≡ true → Answers ws (destroyed g p base n) (Bad 20 p) ws
+    unfolding shown
+    destroy-kind h = rw k (record { equal = λ ts. sym (destroyed-by ts ∙ rw (← e, not-true b h)) })
 
-  pub destroy-done : {b : Bool} {i : ℕ} {ws′ : List ℕ} → n ≡ 1 → b ≡ isKind ws base 0 6 → not b ≡ false → i ≡ shapeAt ws base 0 → Gives ws (destroy i) tt ws′
-      → Answers ws (destroyed p base n) (Good Nothing) ws′
-  unfolding give shown
-  destroy-done {b} k e h q d =
-      rw k (record { equal = λ ts. sym (destroyed-by ts ∙ rw (← e, not-false b h, ← q) (after-gift (λ _. give Nothing) ts d)) })
+    module _ (h : not b ≡ false) {i r : ℕ} {ws′ : List ℕ} (q : i ≡ shapeAt ws base 0) (d : Ends ws (λ p. destroyAll g p i) r ws′) where
+      pub destroy-done : r ≡ 0 → Answers ws (destroyed g p base n) (Good Nothing) ws′
+      unfolding shown
+      destroy-done z = rw k (record { equal = λ ts. sym (destroyed-by ts ∙ rw (← e, not-false b h, ← q) (all-done ws ws′ (λ p. destroyAll g p i) r d p ts z)) })
 
-module _ (ws : List ℕ) (p n : ℕ) where
-  pub clear-count : (n ≡ 0 → ⊥) → Answers ws (clearing p n) (Bad 20 p) ws
+      pub destroy-stops : (r ≡ 0 → ⊥) → Answers ws (destroyed g p base n) (Bad r p) ws′
+      unfolding shown
+      destroy-stops z = rw k (record { equal = λ ts. sym (destroyed-by ts ∙ rw (← e, not-false b h, ← q) (broken-off ws ws′ (λ p. destroyAll g p i) r d p ts z)) })
+
+  pub clear-count : (n ≡ 0 → ⊥) → Answers ws (clearing g p n) (Bad 20 p) ws
   unfolding clearing _>>=_ goOn refuse fail shown
   clear-count h = record { equal = λ ts. rw (ne-eqb _ _ h) }
 
-  pub clear-done : {ws′ : List ℕ} → n ≡ 0 → Gives ws clearScene tt ws′ → Answers ws (clearing p n) (Good Nothing) ws′
-  unfolding clearing _>>=_ goOn refuse give shown
-  clear-done k d = rw k (record { equal = λ ts. sym (after-gift (λ _. give Nothing) ts d) })
+  module _ (k : n ≡ 0) {r : ℕ} {ws′ : List ℕ} (d : Ends ws (clearScene g) r ws′) where
+    pub clear-done : r ≡ 0 → Answers ws (clearing g p n) (Good Nothing) ws′
+    unfolding clearing _>>=_ goOn refuse give shown
+    clear-done z = rw k (record { equal = λ ts. sym (all-done ws ws′ (clearScene g) r d p ts z) })
+
+    pub clear-stops : (r ≡ 0 → ⊥) → Answers ws (clearing g p n) (Bad r p) ws′
+    unfolding clearing _>>=_ goOn refuse give shown
+    clear-stops z = rw k (record { equal = λ ts. sym (broken-off ws ws′ (clearScene g) r d p ts z) })
+
+  module _ {ok : Bool} (u : Passes ws 20 (λ p. allShapes p base n) ok ws) where
+    pub group-refused : not ok ≡ true → Answers ws (grouped g p base n) (Bad 20 p) ws
+    unfolding grouped shown
+    group-refused t = record { equal = λ ts. sym (after-refusal _ p ts (rw (not-true ok t) at u)) }
+
+    pub group-made : {r : Answer} {at : ℕ} {ws′ : List ℕ} → not ok ≡ false → at ≡ argumentPlace (base + 0) → Answers ws (grouping g p 1 8 at n) r ws′
+        → Answers ws (grouped g p base n) r ws′
+    unfolding grouped grouping
+    group-made t e a = record { equal = λ ts. (rw (e, first-is base) at (a .equal ts)) ∙ sym (after-pass _ p ts (rw (not-false ok t) at u)) }
 
 -- ---- calls
 module _ (ws g : List ℕ) (number p base n : ℕ) where
-  pub performs-9 : {r : Answer} {ws′ : List ℕ} → (number ≡ 0 → ⊥) → (number ≡ 1 → ⊥) → (number ≡ 2 → ⊥) → (number ≡ 3 → ⊥) → (number ≡ 4 → ⊥) → (number ≡ 5 → ⊥)
-      → (number ≡ 6 → ⊥) → (number ≡ 7 → ⊥) → (number ≡ 8 → ⊥) → Answers ws (clearing p n) r ws′ → Answers ws (perform g number p base n) r ws′
+  pub performs-10 : {r : Answer} {ws′ : List ℕ} → (number ≡ 0 → ⊥) → (number ≡ 1 → ⊥) → (number ≡ 2 → ⊥) → (number ≡ 3 → ⊥) → (number ≡ 4 → ⊥) → (number ≡ 5 → ⊥)
+      → (number ≡ 6 → ⊥) → (number ≡ 7 → ⊥) → (number ≡ 8 → ⊥) → (number ≡ 9 → ⊥) → Answers ws (grouped g p base n) r ws′ → Answers ws (perform g number p base n) r ws′
   unfolding perform if_then_else_
-  performs-9 a b c d e f h i j k =
-      rw (ne-eqb _ _ a, ne-eqb _ _ b, ne-eqb _ _ c, ne-eqb _ _ d, ne-eqb _ _ e) (rw (ne-eqb _ _ f, ne-eqb _ _ h, ne-eqb _ _ i, ne-eqb _ _ j) k)
+  performs-10 a b c d e f h i j k l =
+      rw (ne-eqb _ _ a, ne-eqb _ _ b, ne-eqb _ _ c, ne-eqb _ _ d, ne-eqb _ _ e) (rw (ne-eqb _ _ f, ne-eqb _ _ h, ne-eqb _ _ i, ne-eqb _ _ j, ne-eqb _ _ k) l)
 
-  pub unknown : 10 ≤ number → Answers ws (callLibrary g number p base n) (Bad 20 p) ws
+  pub unknown : 11 ≤ number → Answers ws (callLibrary g number p base n) (Bad 20 p) ws
   unfolding callLibrary if_then_else_ fail shown
-  unknown h = record { equal = λ ts. rw (le-ltb number 10 h) }
+  unknown h = record { equal = λ ts. rw (le-ltb number 11 h) }
 
-  pub dead-argument : {ok : Bool} → number < 10 → Passes ws 30 (λ p. allUsable p base n) ok ws → not ok ≡ true → Answers ws (callLibrary g number p base n) (Bad 30 p) ws
+  pub dead-argument : {ok : Bool} → number < 11 → Passes ws 30 (λ p. allUsable p base n) ok ws → not ok ≡ true → Answers ws (callLibrary g number p base n) (Bad 30 p) ws
   unfolding callLibrary if_then_else_ shown
-  dead-argument {ok} h u t = record { equal = λ ts. sym (rw (lt-ltb number 10 h) (after-refusal (λ _. perform g number p base n) p ts (rw (not-true ok t) at u))) }
+  dead-argument {ok} h u t = record { equal = λ ts. sym (rw (lt-ltb number 11 h) (after-refusal (λ _. perform g number p base n) p ts (rw (not-true ok t) at u))) }
 
-  pub performs : {ok : Bool} {r : Answer} {ws′ : List ℕ} → number < 10 → Passes ws 30 (λ p. allUsable p base n) ok ws → not ok ≡ false
+  pub performs : {ok : Bool} {r : Answer} {ws′ : List ℕ} → number < 11 → Passes ws 30 (λ p. allUsable p base n) ok ws → not ok ≡ false
       → Answers ws (perform g number p base n) r ws′ → Answers ws (callLibrary g number p base n) r ws′
   unfolding callLibrary if_then_else_
   performs {ok} h u t a =
-      record { equal = λ ts. a .equal ts ∙ sym (rw (lt-ltb number 10 h) (after-pass (λ _. perform g number p base n) p ts (rw (not-false ok t) at u))) }
+      record { equal = λ ts. a .equal ts ∙ sym (rw (lt-ltb number 11 h) (after-pass (λ _. perform g number p base n) p ts (rw (not-false ok t) at u))) }

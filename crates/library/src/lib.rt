@@ -2,11 +2,12 @@
 use arguments::figures;
 use machine::Answer;
 use machine::Value;
+use machine::kinds;
 ghost use Prim.Native.Nat.{_≤_};
 ghost use lib.ListN.{length};
 ghost use Rattle.machine.specs.Layout.{fixedWords, Room};
 ghost use Rattle.machine.specs.Act.{Answers};
-ghost use Rattle.machine.specs.Library.{drawn, drawnText, connected, labelled, coordinate, destroyed, clearing, perform, callLibrary};
+ghost use Rattle.machine.specs.Library.{drawn, drawnText, connected, labelled, coordinate, destroyed, clearing, grouped, perform, callLibrary};
 ghost use Rattle.machine.specs.Arguments.{centreX, centreY};
 
 // Four integers make a figure of a kind.
@@ -47,7 +48,7 @@ fn connect(words: &mut [u64], grants: &[u64; 5], p: u64, base: u64, n: u64) -> A
     if n != 2 {
         return Answer::Bad(20, p);
     }
-    if !arguments::are_kinds(words, base, 0, 6, 1, 6) {
+    if !arguments::two_figures(words, base) {
         return Answer::Bad(20, p);
     }
     let f = figures::connecting_figure(words, base);
@@ -62,7 +63,7 @@ fn label(words: &mut [u64], grants: &[u64; 5], p: u64, base: u64, n: u64) -> Ans
     if n != 2 {
         return Answer::Bad(20, p);
     }
-    if !arguments::are_kinds(words, base, 0, 6, 1, 2) {
+    if !arguments::figure_and_text(words, base) {
         return Answer::Bad(20, p);
     }
     let f = figures::label_figure(words, base);
@@ -77,7 +78,7 @@ fn x_coordinate(words: &[u64], p: u64, base: u64, n: u64) -> Answer
     if n != 1 {
         return Answer::Bad(20, p);
     }
-    if !arguments::is_kind(words, base, 0, 6) {
+    if !arguments::is_figure(words, base, 0) {
         return Answer::Bad(20, p);
     }
     Answer::Good(Value::Integer(figures::centre_x(arguments::given_figure(words, base, 0))))
@@ -90,36 +91,55 @@ fn y_coordinate(words: &[u64], p: u64, base: u64, n: u64) -> Answer
     if n != 1 {
         return Answer::Bad(20, p);
     }
-    if !arguments::is_kind(words, base, 0, 6) {
+    if !arguments::is_figure(words, base, 0) {
         return Answer::Bad(20, p);
     }
     Answer::Good(Value::Integer(figures::centre_y(arguments::given_figure(words, base, 0))))
 }
 
-fn destroy(words: &mut [u64], p: u64, base: u64, n: u64) -> Answer
-    requires { ⌜ fixedWords ≤ length (now words) ⌝ }
-    ensures { λ r. ⌜ Answers (now (words .entry)) (destroyed p base n) r (now (words .exit)) ⌝ }
+fn destroy(words: &mut [u64], grants: &[u64; 5], p: u64, base: u64, n: u64) -> Answer
+    requires { ⌜ Room (now grants) (now words) ⌝ }
+    ensures { λ r. ⌜ Answers (now (words .entry)) (destroyed (now (grants .entry)) p base n) r (now (words .exit)) ⌝ }
 {
     if n != 1 {
         return Answer::Bad(20, p);
     }
-    if !arguments::is_kind(words, base, 0, 6) {
+    if !arguments::is_kind(words, base, 0, kinds::SHAPE) {
         return Answer::Bad(20, p);
     }
     let i = arguments::shape_at(words, base, 0);
-    stores::shapes::destroy(words, i);
+    let number = groups::destroying::destroy_all(words, grants, i);
+    if number != 0 {
+        return Answer::Bad(number, p);
+    }
     Answer::Good(Value::Nothing)
 }
 
-fn clear(words: &mut [u64], p: u64, n: u64) -> Answer
-    requires { ⌜ fixedWords ≤ length (now words) ⌝ }
-    ensures { λ r. ⌜ Answers (now (words .entry)) (clearing p n) r (now (words .exit)) ⌝ }
+fn clear(words: &mut [u64], grants: &[u64; 5], p: u64, n: u64) -> Answer
+    requires { ⌜ Room (now grants) (now words) ⌝ }
+    ensures { λ r. ⌜ Answers (now (words .entry)) (clearing (now (grants .entry)) p n) r (now (words .exit)) ⌝ }
 {
     if n != 0 {
         return Answer::Bad(20, p);
     }
-    stores::variables::clear_scene(words);
+    let number = groups::scene::clear_scene(words, grants);
+    if number != 0 {
+        return Answer::Bad(number, p);
+    }
     Answer::Good(Value::Nothing)
+}
+
+// A group of shapes, whose numbers stand above the kinds in the arguments' words.
+fn group(words: &mut [u64], grants: &[u64; 5], p: u64, base: u64, n: u64) -> Answer
+    requires { ⌜ Room (now grants) (now words) ⌝ }
+    ensures { λ r. ⌜ Answers (now (words .entry)) (grouped (now (grants .entry)) p base n) r (now (words .exit)) ⌝ }
+{
+    if !arguments::all_shapes(words, base, n) {
+        return Answer::Bad(20, p);
+    }
+    let at = stores::arguments::place_above(base as usize, 0);
+    let r = groups::making::new_group(words, grants, p, 1, 8, at, n);
+    r
 }
 
 // A procedure by its number.
@@ -155,11 +175,15 @@ fn perform(words: &mut [u64], grants: &[u64; 5], number: u64, p: u64, base: u64,
         6 => x_coordinate(words, p, base, n),
         7 => y_coordinate(words, p, base, n),
         8 => {
-            let r = destroy(words, p, base, n);
+            let r = destroy(words, grants, p, base, n);
+            r
+        }
+        9 => {
+            let r = clear(words, grants, p, n);
             r
         }
         _ => {
-            let r = clear(words, p, n);
+            let r = group(words, grants, p, base, n);
             r
         }
     }
@@ -177,7 +201,7 @@ pub fn call_library(
     requires { ⌜ Room (now grants) (now words) ⌝ }
     ensures { λ r. ⌜ Answers (now (words .entry)) (callLibrary (now (grants .entry)) number p base n) r (now (words .exit)) ⌝ }
 {
-    if 10 <= number {
+    if 11 <= number {
         return Answer::Bad(20, p);
     }
     if !arguments::all_usable(words, base, n) {

@@ -55,6 +55,10 @@ load i r = done (getD (r .words) i 0) r
 unfoldable pub store : ℕ → ℕ → Act (Unit {0})
 store i w r = done tt (raw (r .texts) (set (r .words) i w))
 
+-- all words as they are
+unfoldable pub held : Act (List ℕ)
+held r = done (r .words) r
+
 -- so much is added to a counter if it stays within the grant; a shortage has its number
 unfoldable pub spend : ℕ → ℕ → ℕ → ℕ → ℕ → Act (Unit {0})
 spend counter granted amount number p r =

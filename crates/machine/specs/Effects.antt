@@ -9,7 +9,7 @@ use Rattle.machine.specs.Opcodes.{tagIn, extraIn, tagAssign, tagReturn}
 use Rattle.machine.specs.Words.{kindIn, numberIn, truthIn, packed, unpacked, kindTruth, kindShape}
 use Rattle.machine.specs.Layout.{valuePlace}
 use Rattle.machine.specs.Act.{Raw, raw, Out, done, stop, Act, _>>=_, _>>_, give, refuse, load}
-use Rattle.machine.specs.Shapes.{figureAt, newShape}
+use Rattle.machine.specs.Groups.{copyShape}
 use Rattle.machine.specs.Variables.{usable, declare, setVariable}
 use Rattle.machine.specs.declared.Flow.{Flow}
 use Rattle.machine.specs.declared.Flow.the-variants.{Onward, Returned, Stopped}
@@ -40,7 +40,7 @@ declaring slot p = declare slot p >> give Onward
 unfoldable pub copied : List ℕ → ℕ → ℕ → Act ℕ
 copied g p k =
     if eqb (kindIn k) kindShape
-    then (λ _. (λ r. newShape g p (figureAt (r .words) (numberIn k)) r) >>= λ v. give (packed v))
+    then (λ _. copyShape g p (numberIn k) >>= λ v. give (packed v))
     else λ _. give k
 
 unfoldable pub assigning : List ℕ → ℕ → ℕ → ℕ → Act Flow

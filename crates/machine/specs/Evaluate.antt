@@ -48,7 +48,7 @@ argumentsFrom (suc rounds) inner e y x p =
 -- by the call's word: a procedure of the library, of the program, or main, which is 20
 unfoldable pub invoked : Invoke → Setting → ℕ → ℕ → ℕ → Act Value
 invoked invoke e w p base =
-    if eqb (libraryIn w) 10 then (λ _. invoke (calleeIn w) p base) else λ _. called (e .grants) (libraryIn w) p base
+    if eqb (libraryIn w) 11 then (λ _. invoke (calleeIn w) p base) else λ _. called (e .grants) (libraryIn w) p base
 
 unfoldable pub callAt : Evaluator → Invoke → Setting → ℕ → ℕ → ℕ → Act Value
 callAt inner invoke e w x p = do

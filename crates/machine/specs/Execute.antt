@@ -5,13 +5,15 @@ use mathlib.Core.Bool.{Bool}
 use lib.ListN.{getD}
 use lib.Dec.{eqb, ltb}
 use Rattle.meaning.specs.Basics.{if_then_else_}
-use Rattle.machine.specs.Opcodes.{tagIn, sizeIn, placeIn, extraIn, sizeAt, tagDeclare, tagUpdate, tagWhen, tagWhile, tagBlock}
+use Rattle.machine.specs.Opcodes.{tagIn, sizeIn, placeIn, extraIn, sizeAt, tagDeclare, tagUpdate, tagWhen, tagWhile, tagForeach, tagBlock}
 use Rattle.machine.specs.declared.Value.{Value}
 use Rattle.machine.specs.Words.{packed}
 use Rattle.machine.specs.Layout.{stepsGranted}
 use Rattle.machine.specs.Act.{Act, _>>=_, _>>_, give, fail, count}
 use Rattle.machine.specs.Tables.{storeEntry}
-use Rattle.machine.specs.Operate.{withTable}
+use Rattle.machine.specs.Variables.{usable, declareOnce}
+use Rattle.machine.specs.Operate.{withTable, withGroup}
+use Rattle.machine.specs.Loops.{loopOver}
 use Rattle.machine.specs.Evaluate.{Setting, Evaluator}
 use Rattle.machine.specs.Effects.{declaring, finishing, saying}
 use Rattle.machine.specs.declared.Flow.{Flow}
@@ -71,12 +73,20 @@ statementsFrom zero inner e a end = give Onward
 statementsFrom (suc rounds) inner e a end =
     if ltb a end then (λ _. inner a >>= λ f. continue f (statementsFrom rounds inner e (a + sizeAt (e .code) a) end)) else λ _. give Onward
 
+-- a loop over the group that the expression with root y gives; the word before the expression is its variable's slot
+unfoldable pub foreachAt : Evaluator → Executor → Setting → ℕ → ℕ → ℕ → Act Flow
+foreachAt eval inner e slot y p = do
+  v ← eval y p
+  usable p v
+  withGroup p v λ i. declareOnce slot >> loopOver (inner (y + 1)) (e .grants) p slot i
+
 -- a statement whose step is counted
 unfoldable pub countedAt : Evaluator → Executor → Setting → ℕ → ℕ → ℕ → Act Flow
 countedAt eval inner e w x p =
     if eqb (tagIn w) tagDeclare then (λ _. declaring (extraIn w) p)
     else λ _. if eqb (tagIn w) tagUpdate then (λ _. updateAt eval e (x + sizeIn w - 1) p)
     else λ _. if eqb (tagIn w) tagWhen then (λ _. whenAt eval inner e (x + extraIn w) p)
+    else λ _. if eqb (tagIn w) tagForeach then (λ _. foreachAt eval inner e (getD (e .code) (x + 1) 0) (x + extraIn w) p)
     else λ _. if eqb (tagIn w) tagBlock then (λ _. statementsFrom (sizeIn w + 1) inner e (x + 1) (x + sizeIn w))
     else λ _. simpleAt eval e w x p
 

@@ -1,7 +1,8 @@
 -- Where everything stands in the words that are lent for a run.
 -- 16 counters; a word for each call that waits for another; the 8,192 variables of the call under way, by slot; their slots in the order of their
--- declarations; a stack of 262,144 words, which holds the arguments of calls and the variables of calls that wait; shapes of three words each;
--- entries of four words each, behind as many shapes as are granted.
+-- declarations; a stack of 262,144 words, which holds the arguments of calls and the variables of calls that wait; shapes of five words each;
+-- entries of tables, four words each, behind as many shapes as are granted; components of groups, a word each, behind as many entries; and for each call
+-- under way a word for each component, which says on which loops' ways it is.
 use Prim.Native.Nat.{ℕ, _+_, _*_, _%_, _^_, _≤_, _<_}
 use mathlib.Core.List.{List}
 use lib.ListN.{getD, length}
@@ -34,6 +35,25 @@ callsUsed = 7
 -- the procedure under way: 0 is main, else it is one more than the slot of its name
 abbrev pub running : ℕ
 running = 8
+
+-- of the entries used, those of tables and those of groups
+abbrev pub entriesMade : ℕ
+entriesMade = 9
+
+abbrev pub componentsMade : ℕ
+componentsMade = 10
+
+-- new components that wait for their group
+abbrev pub waitingHeld : ℕ
+waitingHeld = 11
+
+-- what the innermost loop over a group adds to the words of its way, 0 if none is under way in this call
+abbrev pub loopUnit : ℕ
+loopUnit = 12
+
+-- the bytes that the lines of the figures reached take
+abbrev pub linesLength : ℕ
+linesLength = 13
 
 -- ---- grants, a list of five
 abbrev pub stepsGranted : List ℕ → ℕ
@@ -72,14 +92,21 @@ abbrev pub argumentPlace : ℕ → ℕ
 argumentPlace k = 16464 + k % stackWords
 
 abbrev pub shapePlace : ℕ → ℕ
-shapePlace i = fixedWords + 3 * i
+shapePlace i = fixedWords + 5 * i
 
 abbrev pub entryPlace : List ℕ → ℕ → ℕ
-entryPlace g k = fixedWords + 3 * shapesGranted g + 4 * k
+entryPlace g k = fixedWords + 5 * shapesGranted g + 4 * k
+
+abbrev pub componentPlace : List ℕ → ℕ → ℕ
+componentPlace g k = fixedWords + 5 * shapesGranted g + 4 * entriesGranted g + k
+
+-- of the d-th call under way
+abbrev pub pathPlace : List ℕ → ℕ → ℕ → ℕ
+pathPlace g d k = fixedWords + 5 * shapesGranted g + 5 * entriesGranted g + entriesGranted g * d + k
 
 -- how many words a run needs
 abbrev pub wordsNeeded : List ℕ → ℕ
-wordsNeeded g = fixedWords + 3 * shapesGranted g + 4 * entriesGranted g
+wordsNeeded g = fixedWords + 5 * shapesGranted g + (5 + callsGranted g) * entriesGranted g
 
 -- ---- lengths
 -- the grants are in their ranges, and the words are as many as they need

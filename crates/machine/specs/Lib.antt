@@ -5,6 +5,8 @@ pub mod Layout
 pub mod Act
 pub mod Texts
 pub mod Shapes
+pub mod Groups
+pub mod Show
 pub mod Variables
 pub mod Stack
 pub mod Tables
@@ -14,6 +16,7 @@ pub mod Library
 pub mod Primaries
 pub mod Evaluate
 pub mod Effects
+pub mod Loops
 pub mod Execute
 pub mod Procedures
 pub mod Interpret

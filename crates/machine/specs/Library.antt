@@ -1,22 +1,24 @@
 -- Library procedures on values as the code holds them. The arguments of a call stand in the words, n of them from the one numbered base on.
-use Prim.Native.Nat.{ℕ, _+_}
+use Prim.Native.Nat.{ℕ, zero, suc, _+_}
 use mathlib.Core.Bool.{not}
 use mathlib.Core.List.{List}
 use lib.IntN.{ℤ, pos}
 use lib.Dec.{eqb, ltb}
 use Rattle.meaning.specs.Basics.{if_then_else_}
 use Rattle.machine.specs.declared.Value.{Value}
-use Rattle.machine.specs.declared.Value.the-variants.{Integer, Nothing}
-use Rattle.machine.specs.Act.{Act, _>>=_, _>>_, give, fail, refuse}
+use Rattle.machine.specs.declared.Value.the-variants.{Integer, Nothing, Shape}
+use Rattle.machine.specs.Layout.{argumentPlace}
+use Rattle.machine.specs.Act.{Act, _>>=_, _>>_, give, fail, refuse, held}
 use Rattle.machine.specs.declared.Figure.{Figure}
-use Rattle.machine.specs.Shapes.{figureAt, newShape, destroy}
+use Rattle.machine.specs.Shapes.{isGroupAt, figureAt, newShape}
+use Rattle.machine.specs.Groups.{newGroup, destroyAll}
 use Rattle.machine.specs.Variables.{clearScene}
 use Rattle.machine.specs.Operate.{withInteger, withText, withShape}
 use Rattle.machine.specs.Arguments.{argument, allUsable, figure, centreX, centreY, connecting, textOn}
 
 -- ---- procedures
 unfoldable pub withFigure : {A : Type 0} → ℕ → Value → (Figure → Act A) → Act A
-withFigure p v k = withShape p v λ i r. k (figureAt (r .words) i) r
+withFigure p v k = withShape p v λ i. held >>= λ ws. if isGroupAt ws i then (λ _. fail 20 p) else λ _. k (figureAt ws i)
 
 -- four integers make a figure of a kind
 unfoldable pub drawn : List ℕ → ℕ → ℕ → ℕ → ℕ → Act Value
@@ -49,16 +51,27 @@ coordinate f p base n r = (do
   refuse (not (eqb n 1)) 20 p
   withFigure p (argument r base) λ s. give (Integer (f s))) r
 
-unfoldable pub destroyed : ℕ → ℕ → ℕ → Act Value
-destroyed p base n r = (do
+unfoldable pub destroyed : List ℕ → ℕ → ℕ → ℕ → Act Value
+destroyed grants p base n r = (do
   refuse (not (eqb n 1)) 20 p
-  withShape p (argument r base) λ i. destroy i >> give Nothing) r
+  withShape p (argument r base) λ i. destroyAll grants p i >> give Nothing) r
 
-unfoldable pub clearing : ℕ → ℕ → Act Value
-clearing p n = do
+unfoldable pub clearing : List ℕ → ℕ → ℕ → Act Value
+clearing grants p n = do
   refuse (not (eqb n 0)) 20 p
-  clearScene
+  clearScene grants p
   give Nothing
+
+-- n arguments from the one numbered base on, which all have to be shapes
+unfoldable pub allShapes : ℕ → ℕ → ℕ → Act (Unit {0})
+allShapes p base zero = give tt
+allShapes p base (suc n) = (λ r. withShape p (argument r base) (λ i. allShapes p (base + 1) n) r)
+
+unfoldable pub grouped : List ℕ → ℕ → ℕ → ℕ → Act Value
+grouped grants p base n = do
+  allShapes p base n
+  j ← newGroup grants p 1 8 (argumentPlace base) n
+  give (Shape j)
 
 -- by the procedure's number
 unfoldable pub perform : List ℕ → ℕ → ℕ → ℕ → ℕ → Act Value
@@ -71,10 +84,11 @@ perform grants number p base n =
     else λ _. if eqb number 5 then (λ _. labelled grants p base n)
     else λ _. if eqb number 6 then (λ _. coordinate centreX p base n)
     else λ _. if eqb number 7 then (λ _. coordinate centreY p base n)
-    else λ _. if eqb number 8 then (λ _. destroyed p base n)
-    else λ _. clearing p n
+    else λ _. if eqb number 8 then (λ _. destroyed grants p base n)
+    else λ _. if eqb number 9 then (λ _. clearing grants p n)
+    else λ _. grouped grants p base n
 
 -- a procedure that is not known is 20 and uses no argument
 unfoldable pub callLibrary : List ℕ → ℕ → ℕ → ℕ → ℕ → Act Value
 callLibrary grants number p base n =
-    if ltb number 10 then (λ _. allUsable p base n >> perform grants number p base n) else λ _. fail 20 p
+    if ltb number 11 then (λ _. allUsable p base n >> perform grants number p base n) else λ _. fail 20 p

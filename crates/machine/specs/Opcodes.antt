@@ -19,7 +19,7 @@ sizeIn w = w / 256 % 16777216
 abbrev pub numberIn : ℕ → ℕ
 numberIn w = w / 4294967296
 
--- a statement's number is its place in the program and one more number: a variable's slot, or where a test's root stands
+-- a statement's number is its place in the program and one more number: a variable's slot, or where the root of a test or of a group stands
 abbrev pub placeIn : ℕ → ℕ
 placeIn w = numberIn w % 65536
 
@@ -35,7 +35,7 @@ unfoldable pub argumentRoot : ℕ → ℕ → ℕ → ℕ
 argumentRoot w a x = if ltb (a + sizeIn w) x then (λ _. a + sizeIn w) else λ _. x
 
 -- ---- calls
--- a call's number is that of the library's procedure, 0 to 9, or 10, or 11 for main, and the slot of the name
+-- a call's number is that of the library's procedure, 0 to 10, or 11, or 12 for main, and the slot of the name
 abbrev pub libraryIn : ℕ → ℕ
 libraryIn w = numberIn w % 16
 
@@ -173,3 +173,7 @@ tagBlock = 38
 
 abbrev pub tagAct : ℕ
 tagAct = 39
+
+-- the word behind it is its variable's slot; its other number is how far behind it the root of its group stands
+abbrev pub tagForeach : ℕ
+tagForeach = 40

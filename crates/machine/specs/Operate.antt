@@ -2,7 +2,6 @@
 use Prim.Native.Nat.{ℕ}
 use mathlib.Core.Bool.{Bool, true, false, not, _&&_, cond}
 use mathlib.Core.List.{List}
-use mathlib.Core.Option.{Option, none, some}
 use lib.IntN.{ℤ}
 use lib.Signed.{ltZ}
 use lib.Dec.{eqb}
@@ -12,10 +11,12 @@ use Rattle.meaning.specs.Integer as Integer
 use Rattle.machine.specs.Opcodes.{tagConcatenate, tagAdd, tagSubtract, tagMultiply, tagDivide, tagRemainder, tagShiftRight, tagShiftLeft, tagEqual, tagUnequal, tagGreater, tagLess}
 use Rattle.machine.specs.declared.Value.{Value}
 use Rattle.machine.specs.declared.Value.the-variants.{Integer, Text, Boolean, Nothing, Table, Shape}
-use Rattle.machine.specs.Act.{Raw, Act, _>>=_, _>>_, give, fail, refuse}
+use Rattle.machine.specs.Act.{Raw, Act, _>>=_, _>>_, give, fail, refuse, held}
 use Rattle.machine.specs.Texts.{textOf, joinTexts}
 use Rattle.machine.specs.declared.Figure.{Figure}
-use Rattle.machine.specs.Shapes.{figureAt, newShape}
+use Rattle.machine.specs.Layout.{shapesGranted}
+use Rattle.machine.specs.Shapes.{isGroupAt, figureAt}
+use Rattle.machine.specs.Groups.{remake, alikeAt}
 use Rattle.machine.specs.Variables.{usable}
 
 -- ---- values of one kind; every other kind is 20
@@ -58,6 +59,9 @@ withShape p (Boolean b) k = fail 20 p
 withShape p Nothing k = fail 20 p
 withShape p (Table t) k = fail 20 p
 withShape p (Shape i) k = k i
+
+unfoldable pub withGroup : {A : Type 0} → ℕ → Value → (ℕ → Act A) → Act A
+withGroup p v k = withShape p v λ i. held >>= λ ws. if isGroupAt ws i then (λ _. k i) else λ _. fail 20 p
 
 -- ---- figures
 -- each x coordinate by f, each y coordinate by g
@@ -119,7 +123,7 @@ calculated grants divides f g p (Boolean b) w = fail 20 p
 calculated grants divides f g p Nothing w = fail 20 p
 calculated grants divides f g p (Table t) w = fail 20 p
 calculated grants divides f g p (Shape i) w =
-    withInteger p w λ b. refuse (divides && isZero b) 70 p >> λ r. newShape grants p (g (figureAt (r .words) i) b) r
+    withInteger p w λ b. refuse (divides && isZero b) 70 p >> remake grants p (λ s. g s b) i
 
 -- two integers only
 unfoldable pub compared : (ℤ → ℤ → Bool) → ℕ → Value → Value → Act Value
@@ -131,51 +135,61 @@ remaindered p v w = withInteger p v λ a. withInteger p w λ b. refuse (isZero b
 unfoldable pub joined : List ℕ → List ℕ → ℕ → Value → Value → Act Value
 joined program grants p v w = withText p v λ a. withText p w λ b. joinTexts program grants p a b
 
--- whether two values are equal, where they may be compared
-unfoldable pub equality : List ℕ → Raw → Value → Value → Option Bool
-equality program r (Integer a) (Integer b) = some (sameInteger a b)
-equality program r (Integer a) (Text b) = none
-equality program r (Integer a) (Boolean b) = none
-equality program r (Integer a) Nothing = some false
-equality program r (Integer a) (Table b) = none
-equality program r (Integer a) (Shape b) = none
-equality program r (Text a) (Integer b) = none
-equality program r (Text a) (Text b) = some (sameText (textOf program (r .texts) a) (textOf program (r .texts) b))
-equality program r (Text a) (Boolean b) = none
-equality program r (Text a) Nothing = some false
-equality program r (Text a) (Table b) = none
-equality program r (Text a) (Shape b) = none
-equality program r (Boolean a) (Integer b) = none
-equality program r (Boolean a) (Text b) = none
-equality program r (Boolean a) (Boolean b) = some (cond a b (not b))
-equality program r (Boolean a) Nothing = some false
-equality program r (Boolean a) (Table b) = none
-equality program r (Boolean a) (Shape b) = none
-equality program r Nothing (Integer b) = some false
-equality program r Nothing (Text b) = some false
-equality program r Nothing (Boolean b) = some false
-equality program r Nothing Nothing = some true
-equality program r Nothing (Table b) = some false
-equality program r Nothing (Shape b) = some false
-equality program r (Table a) (Integer b) = none
-equality program r (Table a) (Text b) = none
-equality program r (Table a) (Boolean b) = none
-equality program r (Table a) Nothing = some false
-equality program r (Table a) (Table b) = none
-equality program r (Table a) (Shape b) = none
-equality program r (Shape a) (Integer b) = none
-equality program r (Shape a) (Text b) = none
-equality program r (Shape a) (Boolean b) = none
-equality program r (Shape a) Nothing = some false
-equality program r (Shape a) (Table b) = none
-equality program r (Shape a) (Shape b) = some (sameFigure program (r .texts) (figureAt (r .words) a) (figureAt (r .words) b))
+-- what two values come to: they cannot be compared, it is settled, or they are two shapes, whose contents decide
+pub data Comparison : Type 0 where
+  refused : Comparison
+  settled : Bool → Comparison
+  ofShapes : ℕ → ℕ → Comparison
 
-unfoldable pub answered : ℕ → (Bool → Bool) → Option Bool → Act Value
-answered p f none = fail 20 p
-answered p f (some b) = give (Boolean (f b))
+unfoldable pub equality : List ℕ → Raw → Value → Value → Comparison
+equality program r (Integer a) (Integer b) = settled (sameInteger a b)
+equality program r (Integer a) (Text b) = refused
+equality program r (Integer a) (Boolean b) = refused
+equality program r (Integer a) Nothing = settled false
+equality program r (Integer a) (Table b) = refused
+equality program r (Integer a) (Shape b) = refused
+equality program r (Text a) (Integer b) = refused
+equality program r (Text a) (Text b) = settled (sameText (textOf program (r .texts) a) (textOf program (r .texts) b))
+equality program r (Text a) (Boolean b) = refused
+equality program r (Text a) Nothing = settled false
+equality program r (Text a) (Table b) = refused
+equality program r (Text a) (Shape b) = refused
+equality program r (Boolean a) (Integer b) = refused
+equality program r (Boolean a) (Text b) = refused
+equality program r (Boolean a) (Boolean b) = settled (cond a b (not b))
+equality program r (Boolean a) Nothing = settled false
+equality program r (Boolean a) (Table b) = refused
+equality program r (Boolean a) (Shape b) = refused
+equality program r Nothing (Integer b) = settled false
+equality program r Nothing (Text b) = settled false
+equality program r Nothing (Boolean b) = settled false
+equality program r Nothing Nothing = settled true
+equality program r Nothing (Table b) = settled false
+equality program r Nothing (Shape b) = settled false
+equality program r (Table a) (Integer b) = refused
+equality program r (Table a) (Text b) = refused
+equality program r (Table a) (Boolean b) = refused
+equality program r (Table a) Nothing = settled false
+equality program r (Table a) (Table b) = refused
+equality program r (Table a) (Shape b) = refused
+equality program r (Shape a) (Integer b) = refused
+equality program r (Shape a) (Text b) = refused
+equality program r (Shape a) (Boolean b) = refused
+equality program r (Shape a) Nothing = settled false
+equality program r (Shape a) (Table b) = refused
+equality program r (Shape a) (Shape b) = ofShapes a b
 
-unfoldable pub equated : List ℕ → (Bool → Bool) → ℕ → Value → Value → Act Value
-equated program f p v w r = answered p f (equality program r v w) r
+-- two figures by their shapes' numbers
+unfoldable pub figuresSame : List ℕ → ℕ → ℕ → Act Bool
+figuresSame program i j r = give (sameFigure program (r .texts) (figureAt (r .words) i) (figureAt (r .words) j)) r
+
+unfoldable pub answered : List ℕ → List ℕ → ℕ → (Bool → Bool) → Comparison → Act Value
+answered program grants p f refused = fail 20 p
+answered program grants p f (settled b) = give (Boolean (f b))
+answered program grants p f (ofShapes i j) = alikeAt (figuresSame program) (shapesGranted grants) grants p 0 i j >>= λ b. give (Boolean (f b))
+
+unfoldable pub equated : List ℕ → List ℕ → (Bool → Bool) → ℕ → Value → Value → Act Value
+equated program grants f p v w r = answered program grants p f (equality program r v w) r
 
 -- by the operator's tag
 unfoldable pub operateOn : List ℕ → List ℕ → ℕ → ℕ → Value → Value → Act Value
@@ -188,8 +202,8 @@ operateOn program grants tag p v w =
     else λ _. if eqb tag tagRemainder then (λ _. remaindered p v w)
     else λ _. if eqb tag tagShiftRight then (λ _. calculated grants false shiftedRight plusX p v w)
     else λ _. if eqb tag tagShiftLeft then (λ _. calculated grants false shiftedLeft minusX p v w)
-    else λ _. if eqb tag tagEqual then (λ _. equated program (λ b. b) p v w)
-    else λ _. if eqb tag tagUnequal then (λ _. equated program not p v w)
+    else λ _. if eqb tag tagEqual then (λ _. equated program grants (λ b. b) p v w)
+    else λ _. if eqb tag tagUnequal then (λ _. equated program grants not p v w)
     else λ _. if eqb tag tagGreater then (λ _. compared (λ a b. ltZ b a) p v w)
     else λ _. if eqb tag tagLess then (λ _. compared ltZ p v w)
     else λ _. fail 20 p

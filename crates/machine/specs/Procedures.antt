@@ -10,7 +10,7 @@ use Rattle.machine.specs.declared.Value.{Value}
 use Rattle.machine.specs.declared.Value.the-variants.{Nothing}
 use Rattle.machine.specs.declared.Flow.{Flow}
 use Rattle.machine.specs.declared.Flow.the-variants.{Onward, Returned, Stopped}
-use Rattle.machine.specs.Layout.{declared, argumentsHeld, callsUsed, running, callsGranted, framePlace, valuePlace, orderPlace, argumentPlace, stackWords}
+use Rattle.machine.specs.Layout.{declared, argumentsHeld, callsUsed, running, loopUnit, callsGranted, framePlace, valuePlace, orderPlace, argumentPlace, stackWords}
 use Rattle.machine.specs.Act.{Act, _>>=_, _>>_, give, fail, refuse, load, store, spend}
 use Rattle.machine.specs.Stack.{dropTo}
 use Rattle.machine.specs.Variables.{declare, waitingWord, wordIn, slotIn, frameWord}
@@ -62,6 +62,7 @@ begin g code callee top n p base =
       store running (callee + 1)
       declareFrom code (startIn d) (parametersIn d) p
       spend callsUsed (callsGranted g) 1 81 p
+      store loopUnit 0
       assignFrom g code (startIn d) base (parametersIn d) p
 
 -- ---- the caller goes on
@@ -82,13 +83,14 @@ resumeFrom top k (suc n) = do
   store (valuePlace (slotIn w)) (wordIn w)
   resumeFrom top (k + 1) n
 
-unfoldable pub resume : ℕ → ℕ → ℕ → ℕ → Act (Unit {0})
-resume top n caller base = do
+unfoldable pub resume : ℕ → ℕ → ℕ → ℕ → ℕ → Act (Unit {0})
+resume top n caller unit base = do
   m ← load declared
   undeclareFrom 0 m
   resumeFrom top 0 n
   store declared n
   store running caller
+  store loopUnit unit
   c ← load callsUsed
   store callsUsed (c - 1)
   dropTo base
@@ -107,7 +109,8 @@ procedureAt body e callee p base =
       top ← load argumentsHeld
       n ← load declared
       caller ← load running
+      unit ← load loopUnit
       begin (e .grants) (e .code) callee top n p base
       flow ← body (startIn d + parametersIn d) (bodyIn d)
-      resume top n caller base
+      resume top n caller unit base
       resultOf flow

@@ -1,4 +1,6 @@
--- Shapes: three words each. The first holds whether it is destroyed (1 bit), its kind (2 bits) and its text's handle; the others four numbers of 32 bits.
+-- Shapes: five words each. The first holds whether it is destroyed (1 bit), its kind (3 bits) and its text's handle; the next two four numbers of 32 bits.
+-- A group's kind is 4; its second word holds the slot of its first component and how many there are, its third whether no figure is left in it (Groups).
+-- The last two serve walks over groups, whichever the shape is.
 use Prim.Native.Nat.{ℕ, _+_, _-_, _*_, _/_, _%_, _^_}
 use mathlib.Core.Bool.{Bool}
 use mathlib.Core.List.{List}
@@ -16,7 +18,7 @@ use Rattle.machine.specs.Act.{raw, done, Act, give, load, store, spend, 
 
 -- ---- words
 abbrev pub firstWord : ℕ → ℕ → ℕ
-firstWord kind text = 2 * (kind % 4) + 8 * (text % 2 ^ 40)
+firstWord kind text = 2 * (kind % 8) + 16 * (text % 2 ^ 40)
 
 abbrev pub pairWord : ℤ → ℤ → ℕ
 pairWord x y = bits x + 2 ^ 32 * bits y
@@ -31,15 +33,24 @@ highNumber w = toZ w32 (w / 2 ^ 32 % 2 ^ 32)
 abbrev pub destroyedAt : List ℕ → ℕ → Bool
 destroyedAt ws i = eqb (getD ws (shapePlace i) 0 % 2) 1
 
+abbrev pub kindAt : List ℕ → ℕ → ℕ
+kindAt ws i = getD ws (shapePlace i) 0 / 2 % 8
+
+abbrev pub kindGroup : ℕ
+kindGroup = 4
+
+abbrev pub isGroupAt : List ℕ → ℕ → Bool
+isGroupAt ws i = eqb (kindAt ws i) kindGroup
+
 -- a figure: its kind (0 line, 1 ellipse, 2 box, 3 text), four numbers, and a text's handle, each 0 where it has none
 unfoldable pub figureAt : List ℕ → ℕ → Figure
 figureAt ws i = record {
-  kind = getD ws (shapePlace i) 0 / 2 % 4;
+  kind = kindAt ws i;
   a = lowNumber (getD ws (shapePlace i + 1) 0);
   b = highNumber (getD ws (shapePlace i + 1) 0);
   c = lowNumber (getD ws (shapePlace i + 2) 0);
   d = highNumber (getD ws (shapePlace i + 2) 0);
-  text = getD ws (shapePlace i) 0 / 8;
+  text = getD ws (shapePlace i) 0 / 16;
 }
 
 -- ---- writing

@@ -7,18 +7,19 @@ use lib.Dec.{eqb, leb, ltb}
 use Rattle.meaning.specs.Basics.{if_then_else_, sameText}
 use Rattle.machine.specs.declared.Value.{Value}
 use Rattle.machine.specs.Words.{kindIn, numberIn, handleIn, unpacked}
-use Rattle.machine.specs.Layout.{entriesUsed, entriesGranted, shapePlace, entryPlace}
+use Rattle.machine.specs.Layout.{entriesUsed, entriesMade, entriesGranted, shapePlace, entryPlace}
 use Rattle.machine.specs.Act.{raw, done, Act, give, refuse, load, store, spend, _>>=_, _>>_}
 use Rattle.machine.specs.Texts.{textOf}
+use Rattle.machine.specs.Shapes.{kindAt, isGroupAt}
 use Rattle.machine.specs.Variables.{usable}
 
 -- ---- keys
 -- the same kind, numbers and text, destroyed or not
 unfoldable pub sameFigure : List ℕ → List ℕ → List ℕ → ℕ → ℕ → Bool
 sameFigure program ts ws i j =
-    eqb (getD ws (shapePlace i) 0 / 2 % 4) (getD ws (shapePlace j) 0 / 2 % 4) && eqb (getD ws (shapePlace i + 1) 0) (getD ws (shapePlace j + 1) 0) &&
+    eqb (kindAt ws i) (kindAt ws j) && eqb (getD ws (shapePlace i + 1) 0) (getD ws (shapePlace j + 1) 0) &&
     eqb (getD ws (shapePlace i + 2) 0) (getD ws (shapePlace j + 2) 0) &&
-    sameText (textOf program ts (getD ws (shapePlace i) 0 / 8)) (textOf program ts (getD ws (shapePlace j) 0 / 8))
+    sameText (textOf program ts (getD ws (shapePlace i) 0 / 16)) (textOf program ts (getD ws (shapePlace j) 0 / 16))
 
 -- Keys are words. Strings are compared by their texts, shapes by what they look like, everything else by the word.
 unfoldable pub sameKey : List ℕ → List ℕ → List ℕ → ℕ → ℕ → Bool
@@ -44,8 +45,8 @@ matches program g ts ws t key k = eqb (ownerAt g ws k) t && sameKey program ts w
 -- what a key holds, as numbers
 unfoldable pub figureContent : List ℕ → List ℕ → List ℕ → ℕ → List ℕ
 figureContent program ts ws i =
-    getD ws (shapePlace i) 0 / 2 % 4 ∷ getD ws (shapePlace i + 1) 0 % 2 ^ 32 ∷ getD ws (shapePlace i + 1) 0 / 2 ^ 32 % 2 ^ 32 ∷
-    getD ws (shapePlace i + 2) 0 % 2 ^ 32 ∷ getD ws (shapePlace i + 2) 0 / 2 ^ 32 % 2 ^ 32 ∷ textOf program ts (getD ws (shapePlace i) 0 / 8)
+    kindAt ws i ∷ getD ws (shapePlace i + 1) 0 % 2 ^ 32 ∷ getD ws (shapePlace i + 1) 0 / 2 ^ 32 % 2 ^ 32 ∷
+    getD ws (shapePlace i + 2) 0 % 2 ^ 32 ∷ getD ws (shapePlace i + 2) 0 / 2 ^ 32 % 2 ^ 32 ∷ textOf program ts (getD ws (shapePlace i) 0 / 16)
 
 unfoldable pub contentOf : List ℕ → List ℕ → List ℕ → ℕ → List ℕ
 contentOf program ts ws key =
@@ -89,6 +90,10 @@ findEntry program g ts ws t key =
     let head = getD ws (headPlace g (bucketOf program g ts ws t key)) 0 in
     if leb head (entriesGranted g) then (λ _. walk (matches program g ts ws t key) (linkAt g ws) head head) else λ _. 0
 
+-- ---- a group is no key
+abbrev pub isGroupKey : List ℕ → ℕ → Bool
+isGroupKey ws key = eqb (kindIn key) 6 && isGroupAt ws (numberIn key)
+
 -- ---- reading: 20 if there is no such entry
 unfoldable pub readFrom : List ℕ → ℕ → ℕ → Act Value
 readFrom g p found = do
@@ -98,7 +103,8 @@ readFrom g p found = do
   give (unpacked w)
 
 unfoldable pub readEntry : List ℕ → List ℕ → ℕ → ℕ → ℕ → Act Value
-readEntry program g p t key r = readFrom g p (findEntry program g (r .texts) (r .words) t key) r
+readEntry program g p t key r =
+    (refuse (isGroupKey (r .words) key) 20 p >> readFrom g p (findEntry program g (r .texts) (r .words) t key)) r
 
 -- ---- writing
 -- an entry's words at a place, first in the bucket whose head stands at another
@@ -112,9 +118,10 @@ putEntry at head t key value number r = done tt (raw (r .texts) (entryLaid (r .w
 -- a new entry takes one
 unfoldable pub addEntry : List ℕ → List ℕ → ℕ → ℕ → ℕ → ℕ → Act (Unit {0})
 addEntry program g t key value p r = (do
-  n ← load entriesUsed
+  n ← load entriesMade
   spend entriesUsed (entriesGranted g) 1 77 p
-  putEntry (entryPlace g n) (headPlace g (bucketOf program g (r .texts) (r .words) t key)) t key value (n + 1)) r
+  store entriesMade (n % entriesGranted g + 1)
+  putEntry (entryPlace g (n % entriesGranted g)) (headPlace g (bucketOf program g (r .texts) (r .words) t key)) t key value (n % entriesGranted g + 1)) r
 
 -- the entry is overwritten, or a new one added
 unfoldable pub storeIn : List ℕ → List ℕ → ℕ → ℕ → ℕ → ℕ → ℕ → Act (Unit {0})
@@ -122,4 +129,5 @@ storeIn program g t key value p found =
     if eqb found 0 then (λ _. addEntry program g t key value p) else λ _. store (entryPlace g (found - 1) + 2) value
 
 unfoldable pub storeEntry : List ℕ → List ℕ → ℕ → ℕ → ℕ → ℕ → Act (Unit {0})
-storeEntry program g t key value p r = storeIn program g t key value p (findEntry program g (r .texts) (r .words) t key) r
+storeEntry program g t key value p r =
+    (refuse (isGroupKey (r .words) key) 20 p >> storeIn program g t key value p (findEntry program g (r .texts) (r .words) t key)) r

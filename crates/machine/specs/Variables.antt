@@ -5,12 +5,14 @@ use mathlib.Core.Bool.{Bool, false, not}
 use mathlib.Core.List.{List}
 use lib.ListN.{getD}
 use lib.Dec.{eqb}
+use Rattle.meaning.specs.Basics.{if_then_else_}
 use Rattle.machine.specs.declared.Value.{Value}
 use Rattle.machine.specs.declared.Value.the-variants.{Integer, Text, Boolean, Nothing, Table, Shape}
 use Rattle.machine.specs.Words.{packed, unpacked}
 use Rattle.machine.specs.Layout.{declared, callsUsed, framePlace, valuePlace, orderPlace, argumentPlace}
-use Rattle.machine.specs.Act.{Act, give, refuse, load, store, _>>=_, _>>_}
-use Rattle.machine.specs.Shapes.{destroyedAt, destroy}
+use Rattle.machine.specs.Act.{Act, give, refuse, load, store, held, _>>=_, _>>_}
+use Rattle.machine.specs.Shapes.{destroyedAt}
+use Rattle.machine.specs.Groups.{destroyLiving}
 
 -- a destroyed shape is 30
 unfoldable pub isDead : List ℕ → Value → Bool
@@ -46,6 +48,10 @@ declare slot p = do
   store (orderPlace k) slot
   store declared (k % 8192 + 1)
 
+-- declared, if it is not
+unfoldable pub declareOnce : ℕ → Act (Unit {0})
+declareOnce slot = held >>= λ ws. if isDeclared ws slot then (λ _. give tt) else λ _. declare slot 0
+
 -- a variable holds the value of this word from now on
 unfoldable pub setVariable : ℕ → ℕ → Act (Unit {0})
 setVariable slot w = store (valuePlace slot) w
@@ -72,44 +78,44 @@ abbrev pub countIn : ℕ → ℕ
 countIn f = f / 1048576
 
 -- ---- the scene
--- the shape that a value is, destroyed
-unfoldable pub destroyIn : Value → Act (Unit {0})
-destroyIn (Integer z) = give tt
-destroyIn (Text h) = give tt
-destroyIn (Boolean b) = give tt
-destroyIn Nothing = give tt
-destroyIn (Table t) = give tt
-destroyIn (Shape i) = destroy i
+-- the shape that a value is, destroyed with all in it
+unfoldable pub destroyIn : List ℕ → ℕ → Value → Act (Unit {0})
+destroyIn g p (Integer z) = give tt
+destroyIn g p (Text h) = give tt
+destroyIn g p (Boolean b) = give tt
+destroyIn g p Nothing = give tt
+destroyIn g p (Table t) = give tt
+destroyIn g p (Shape i) = destroyLiving g p i
 
 -- the shapes that the variables from the k-th declaration on hold, n of them, destroyed
-unfoldable pub clearFrom : ℕ → ℕ → Act (Unit {0})
-clearFrom k zero = give tt
-clearFrom k (suc n) = do
+unfoldable pub clearFrom : List ℕ → ℕ → ℕ → ℕ → Act (Unit {0})
+clearFrom g p k zero = give tt
+clearFrom g p k (suc n) = do
   slot ← load (orderPlace k)
   w ← load (valuePlace slot)
-  destroyIn (unpacked w)
-  clearFrom (k + 1) n
+  destroyIn g p (unpacked w)
+  clearFrom g p (k + 1) n
 
 -- the same of the variables on the stack from place k on, n of them
-unfoldable pub clearWaiting : ℕ → ℕ → Act (Unit {0})
-clearWaiting k zero = give tt
-clearWaiting k (suc n) = do
+unfoldable pub clearWaiting : List ℕ → ℕ → ℕ → ℕ → Act (Unit {0})
+clearWaiting g p k zero = give tt
+clearWaiting g p k (suc n) = do
   w ← load (argumentPlace k)
-  destroyIn (unpacked (wordIn w))
-  clearWaiting (k + 1) n
+  destroyIn g p (unpacked (wordIn w))
+  clearWaiting g p (k + 1) n
 
 -- of n calls that wait, from the d-th on
-unfoldable pub clearFrames : ℕ → ℕ → Act (Unit {0})
-clearFrames d zero = give tt
-clearFrames d (suc n) = do
+unfoldable pub clearFrames : List ℕ → ℕ → ℕ → ℕ → Act (Unit {0})
+clearFrames g p d zero = give tt
+clearFrames g p d (suc n) = do
   f ← load (framePlace d)
-  clearWaiting (topIn f) (countIn f)
-  clearFrames (d + 1) n
+  clearWaiting g p (topIn f) (countIn f)
+  clearFrames g p (d + 1) n
 
 -- of all calls under way, from main on
-unfoldable pub clearScene : Act (Unit {0})
-clearScene = do
+unfoldable pub clearScene : List ℕ → ℕ → Act (Unit {0})
+clearScene g p = do
   c ← load callsUsed
-  clearFrames 1 (c - 1)
+  clearFrames g p 1 (c - 1)
   n ← load declared
-  clearFrom 0 n
+  clearFrom g p 0 n

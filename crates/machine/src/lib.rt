@@ -16,8 +16,7 @@ pub enum Answer {
     Bad(u64, u64),
 }
 
-// What a shape looks like: its kind (0 line, 1 ellipse, 2 box, 3 text), four numbers, and a text's handle, each 0 where it has
-// none.
+// What a shape that is no group looks like: its kind (shapes), four numbers, and a text's handle, each 0 where it has none.
 pub struct Figure {
     pub kind: u64,
     pub a: i32,
@@ -103,6 +102,8 @@ pub mod tags {
     pub const BLOCK: u64 = 38;
 
     pub const ACT: u64 = 39;
+
+    pub const FOREACH: u64 = 40;
 }
 
 // The lower half of the word of a number, and of a name: the tag and a size of 1.
@@ -125,6 +126,19 @@ pub mod kinds {
     pub const TABLE: u64 = 5;
 
     pub const SHAPE: u64 = 6;
+}
+
+// Which shape it is.
+pub mod shapes {
+    pub const LINE: u64 = 0;
+
+    pub const ELLIPSE: u64 = 1;
+
+    pub const BOX: u64 = 2;
+
+    pub const TEXT: u64 = 3;
+
+    pub const GROUP: u64 = 4;
 }
 
 // A variable that waits on the stack: its slot counts so much. A call that waits: how many variables it has counts so much.
@@ -153,6 +167,16 @@ pub mod counters {
     pub const CALLS: usize = 7;
 
     pub const RUNNING: usize = 8;
+
+    pub const ENTRIES_MADE: usize = 9;
+
+    pub const COMPONENTS_MADE: usize = 10;
+
+    pub const WAITING: usize = 11;
+
+    pub const LOOP_UNIT: usize = 12;
+
+    pub const LINES_LENGTH: usize = 13;
 }
 
 pub mod granted {
@@ -189,7 +213,7 @@ pub mod layout {
     // as many words are on the stack at most
     pub const MOST_ARGUMENTS: u64 = STACK_WORDS as u64;
 
-    pub const SHAPE_WORDS: usize = 3;
+    pub const SHAPE_WORDS: usize = 5;
 
     pub const ENTRY_WORDS: usize = 4;
 

@@ -16,7 +16,7 @@ use Rattle.meaning.proofs.ProcedureExamples.{granting}
 
 -- ---- calls
 abbrev long : List ℕ
-long = 999999 ∷ 999999 ∷ 999999 ∷ 999999 ∷ []
+long = 9999999 ∷ 9999999 ∷ 9999999 ∷ 9999999 ∷ []
 
 abbrev pub calling : Operation → List ℕ → ℤ → ℤ → Grants → List ℕ → List ℕ → Call
 calling o program width height g lent out =
@@ -86,12 +86,12 @@ admission =
     ∷ lending drawing (granting 65 0) long gives number 71 0 0 0
     ∷ lending checking (granting 0 0) long gives number 71 0 0 0
     ∷ lending checking (granting 65 0) long gives number 71 0 0 0
-    ∷ lending drawing some (8193 ∷ 16384 ∷ 278626 ∷ 5 ∷ []) gives pictured 141 2
-    ∷ lending drawing some (8192 ∷ 16384 ∷ 278626 ∷ 5 ∷ []) gives number 71 0 0 0
-    ∷ lending drawing some (8193 ∷ 16383 ∷ 278626 ∷ 5 ∷ []) gives number 71 0 0 0
-    ∷ lending drawing some (8193 ∷ 16384 ∷ 278625 ∷ 5 ∷ []) gives number 71 0 0 0
-    ∷ lending drawing some (8193 ∷ 16384 ∷ 278626 ∷ 4 ∷ []) gives number 71 0 0 0
-    ∷ lending drawing some (8193 ∷ 16384 ∷ 278626 ∷ []) gives number 71 0 0 0
+    ∷ lending drawing some (8193 ∷ 16384 ∷ 278825 ∷ 5 ∷ []) gives pictured 141 2
+    ∷ lending drawing some (8192 ∷ 16384 ∷ 278825 ∷ 5 ∷ []) gives number 71 0 0 0
+    ∷ lending drawing some (8193 ∷ 16383 ∷ 278825 ∷ 5 ∷ []) gives number 71 0 0 0
+    ∷ lending drawing some (8193 ∷ 16384 ∷ 278824 ∷ 5 ∷ []) gives number 71 0 0 0
+    ∷ lending drawing some (8193 ∷ 16384 ∷ 278825 ∷ 4 ∷ []) gives number 71 0 0 0
+    ∷ lending drawing some (8193 ∷ 16384 ∷ 278825 ∷ []) gives number 71 0 0 0
     ∷ lending drawing (only 99 0 0 0) (8193 ∷ 16384 ∷ 278608 ∷ 0 ∷ []) gives pictured 141 2
     ∷ lending drawing (only 99 0 0 0) (8193 ∷ 16384 ∷ 278607 ∷ 0 ∷ []) gives number 71 0 0 0
     ∷ lending checking some (8193 ∷ 16384 ∷ []) gives pictured 0 0

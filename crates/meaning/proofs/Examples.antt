@@ -39,7 +39,7 @@ asked o program n room = record {
   width = pos 20;
   height = pos 20;
   grants = grants n;
-  lent = 65536 ∷ 65536 ∷ 300000 ∷ 65536 ∷ [];
+  lent = 65536 ∷ 65536 ∷ 1000000 ∷ 65536 ∷ [];
   out = replicate room 0;
 }
 

@@ -1,5 +1,5 @@
 -- Examples of the grammar: a tree, or the index of the first token that fails, for each form, and the places of programs that cannot be read.
-use Prim.Native.Nat.{ℕ}
+use Prim.Native.Nat.{ℕ, zero, suc}
 use Prim.Native.String.{String}
 use mathlib.Core.Path.{_≡_, refl}
 use mathlib.Core.Bool.{true, false}
@@ -8,7 +8,7 @@ use lib.ListN.{replicate}
 use lib.IntN.{pos}
 use Rattle.meaning.specs.Basics.{bytes}
 use Rattle.meaning.specs.Token.{Token, Lexed, lexed, stray, tokensOf}
-use Rattle.meaning.specs.Tree.{concatenate, add, subtract, multiply, divide, remainder, shiftRight, shiftLeft, equal, unequal, greater, less, Operator, Expression, number, string, nothing, truth, name, table, entry, operation, call, paren, noArgument, argument, Statement, declare, assign, update, when, while, return, block, act, only, first, Procedure}
+use Rattle.meaning.specs.Tree.{concatenate, add, subtract, multiply, divide, remainder, shiftRight, shiftLeft, equal, unequal, greater, less, Operator, Expression, number, string, nothing, truth, name, table, entry, operation, call, paren, noArgument, argument, Statement, declare, assign, update, when, while, foreach, return, block, act, only, first, Procedure}
 use Rattle.meaning.specs.Grammar.{kindAt, textAt, startAt, Got, good, wrong, argumentsFrom, expression, statementsFrom, statement, parametersFrom, proceduresFrom, Reading, wellFormed, malformed, reading}
 use Rattle.meaning.proofs.Computing.{everything}
 use Rattle.meaning.proofs.Rows.{Row, _gives_, Hold, minus}
@@ -164,6 +164,26 @@ statements =
     ∷ "{a;" gives wrong 10 3
     ∷ "{a}" gives wrong 10 2
     ∷ "if(a)if(b)c;" gives good (when 0 (named "a") (when 5 (named "b") (act 10 (named "c")))) 10
+    ∷ " foreach x in g do a;" gives good (foreach 1 (bytes "x") (named "g") (act 19 (named "a"))) 7
+    ∷ "foreach x in-1 do 1;" gives good (foreach 0 (bytes "x") (number (minus 1)) (act 18 (number (pos 1)))) 8
+    ∷ "foreach x in a.b do{c;}" gives good (foreach 0 (bytes "x") (entry (named "a") (named "b")) (block 19 (only (act 20 (named "c"))))) 11
+    ∷ "foreach x in a do foreach y in b do c;" gives
+    good (foreach 0 (bytes "x") (named "a") (foreach 18 (bytes "y") (named "b") (act 36 (named "c")))) 12
+    ∷ "foreach 1 in a do b;" gives wrong 10 1
+    ∷ "foreach in in a do b;" gives wrong 10 1
+    ∷ "foreach(x)in a do b;" gives wrong 10 1
+    ∷ "foreach x a do b;" gives wrong 10 2
+    ∷ "foreach x=a;" gives wrong 10 2
+    ∷ "foreach x in do b;" gives wrong 10 3
+    ∷ "foreach x in a b;" gives wrong 10 4
+    ∷ "foreach x in a=b do c;" gives wrong 10 4
+    ∷ "foreach x in a do" gives wrong 10 5
+    ∷ "foreach x in a do }" gives wrong 10 5
+    ∷ "foreach x in a do b" gives wrong 10 6
+    ∷ "foreach=1;" gives wrong 10 1
+    ∷ "var in;" gives wrong 10 1
+    ∷ "in=1;" gives wrong 10 0
+    ∷ "do;" gives wrong 10 0
     ∷ []
 
 pub statements-hold : Hold (statementOf 64) statements
@@ -187,11 +207,64 @@ levels =
     ∷ statementOf 1 "{{a;}}" gives wrong 75 1
     ∷ statementOf 1 "{(a);}" gives wrong 75 1
     ∷ statementOf 2 "if(a){b;}" gives good (when 0 (named "a") (block 5 (only (act 6 (named "b"))))) 8
+    ∷ statementOf 0 "foreach x in(a)do b;" gives wrong 75 3
+    ∷ statementOf 1 "foreach x in(a)do b;" gives good (foreach 0 (bytes "x") (paren (named "a")) (act 18 (named "b"))) 9
+    ∷ statementOf 1 "foreach x in((a))do b;" gives wrong 75 4
+    ∷ statementOf 1 "foreach x in a do{b;}" gives wrong 75 5
+    ∷ statementOf 1 "foreach x in a do(b);" gives wrong 75 5
+    ∷ statementOf 1 "foreach x in a do foreach y in b do c;" gives wrong 75 10
+    ∷ statementOf 2 "foreach x in a do if(b)c;" gives good (foreach 0 (bytes "x") (named "a") (when 18 (named "b") (act 23 (named "c")))) 11
     ∷ []
 
 pub levels-hold : Hold (λ g. g) levels
 unfolding everything statementOf
 levels-hold = refl
+
+unfoldable pub bodyOf : String → Got Statement
+unfolding tokensIn
+bodyOf body = statement 0 (tokensIn (tokensOf (bytes "foreach x in a do " ++ bytes body))) 0
+
+-- The body of a foreach where no level is left: 75 at its first token if a statement can begin with that, else 10.
+abbrev pub bodies : List (Row String (Got Statement))
+bodies =
+    "1;" gives wrong 75 5
+    ∷ "2147483647;" gives wrong 75 5
+    ∷ "-1;" gives wrong 75 5
+    ∷ "-2147483649;" gives wrong 75 5
+    ∷ "\"a\";" gives wrong 75 5
+    ∷ "none;" gives wrong 75 5
+    ∷ "true;" gives wrong 75 5
+    ∷ "false;" gives wrong 75 5
+    ∷ "a;" gives wrong 75 5
+    ∷ "(a);" gives wrong 75 5
+    ∷ "[a];" gives wrong 75 5
+    ∷ "var a;" gives wrong 75 5
+    ∷ "if(a)b;" gives wrong 75 5
+    ∷ "while(a)b;" gives wrong 75 5
+    ∷ "foreach y in a do b;" gives wrong 75 5
+    ∷ "return a;" gives wrong 75 5
+    ∷ "{a;}" gives wrong 75 5
+    ∷ "" gives wrong 10 5
+    ∷ "2147483648;" gives wrong 10 5
+    ∷ "- 1;" gives wrong 10 5
+    ∷ "-a;" gives wrong 10 5
+    ∷ "def" gives wrong 10 5
+    ∷ "in" gives wrong 10 5
+    ∷ "do" gives wrong 10 5
+    ∷ ";" gives wrong 10 5
+    ∷ ")" gives wrong 10 5
+    ∷ "]" gives wrong 10 5
+    ∷ "}" gives wrong 10 5
+    ∷ "+" gives wrong 10 5
+    ∷ "==" gives wrong 10 5
+    ∷ "=" gives wrong 10 5
+    ∷ "." gives wrong 10 5
+    ∷ "," gives wrong 10 5
+    ∷ []
+
+pub bodies-hold : Hold bodyOf bodies
+unfolding everything bodyOf
+bodies-hold = refl
 
 -- where no round is left, and behind the last token
 pub no-rounds : (i : ℕ) →
@@ -207,6 +280,11 @@ behind-last = (refl, refl, refl)
 -- one procedure, main
 abbrev mainAlone : Procedure → Reading
 mainAlone f = wellFormed (record { procedures = f ∷ []; main = f })
+
+-- n times the same
+unfoldable pub again : ℕ → List ℕ → List ℕ
+again zero l = []
+again (suc n) l = l ++ again n l
 
 abbrev pub programs : List (Row (List ℕ) Reading)
 programs =
@@ -233,12 +311,15 @@ programs =
     ∷ bytes "def main(w,h){-2147483649;}" gives malformed 10 15
     ∷ (bytes "def main(w,h){" ++ replicate 63 123 ++ bytes "(1)}") gives malformed 10 80
     ∷ (bytes "def main(w,h){ " ++ replicate 64 123 ++ bytes "(1);" ++ replicate 65 125) gives malformed 75 79
+    ∷ (bytes "def main(w,h){" ++ again 65 (bytes "foreach x in w do ") ++ bytes "1;}") gives malformed 75 1184
+    ∷ (bytes "def main(w,h){" ++ again 65 (bytes "foreach x in w do ") ++ bytes "}") gives malformed 10 1184
+    ∷ (bytes "def main(w,h){" ++ again 64 (bytes "foreach x in w do ") ++ bytes "1}") gives malformed 10 1167
     ∷ replicate 8192 41 gives malformed 10 0
     ∷ (replicate 8193 41 ++ bytes "#") gives malformed 10 8193
     ∷ []
 
 pub programs-hold : Hold reading programs
-unfolding everything
+unfolding everything again
 programs-hold = refl
 
 -- ---- several procedures

@@ -12,7 +12,7 @@ use borrow.Author.Tests.{ltb-true, ltb-false, eqb-true, ne-eqb}
 use Rattle.meaning.specs.Basics.{if_then_else_}
 use Rattle.meaning.specs.Token.{Token, ending, comma, closeBrace}
 use Rattle.meaning.specs.Tree.{Operator, Expression, Arguments, argument, Statement, Statements, first, Procedure}
-use Rattle.meaning.specs.Grammar.{Got, good, wrong, after, expect, is, afterLast, kindAt, Inside, noLevel, level, opening, ReadExpression, argumentsFrom, arguments, primary, operand, operated, expressionIn, expression, ReadStatement, Readers, declaration, returning, Target, variable, element, noTarget, assignment, simple, guarded, statementsFrom, statements, statementIn, statement, parametersFrom, parameters, procedure, proceduresFrom}
+use Rattle.meaning.specs.Grammar.{Got, good, wrong, after, expect, is, afterLast, kindAt, Inside, noLevel, level, opening, ReadExpression, argumentsFrom, arguments, primary, operand, operated, expressionIn, expression, ReadStatement, Readers, declaration, returning, Target, variable, element, noTarget, assignment, simple, guarded, iteration, statementsFrom, statements, statementIn, statement, parametersFrom, parameters, procedure, proceduresFrom}
 
 -- ---- the relation
 abbrev AheadGot : {A : Type 0} → ℕ → Got A → Type 0
@@ -138,13 +138,20 @@ module _ (ts : List Token) where
         if-ahead _ (opening-ahead AheadReaders inside i _ h λ inner w.
         after-ahead (w .0 (i + 1 + 1)) λ e j l. after-ahead (expect-ahead _ ts j j _ (omega arith)) λ _ m k. after-ahead (w .1 m) λ s n q. fine (omega arith)) bad
 
+    iteration-ahead : (read : ReadExpression) → AheadAt read → AheadAt (iteration read inside ts)
+    unfolding iteration
+    iteration-ahead read k i =
+        after-ahead (expect-ahead _ ts i (i + 1) _ (omega arith)) λ x i₂ l₂. after-ahead (expect-ahead _ ts i i₂ _ (omega arith)) λ _ i₃ l₃.
+        after-ahead (k i₃) λ e j l. after-ahead (expect-ahead _ ts i j _ (omega arith)) λ _ m q.
+        if-ahead _ (opening-ahead AheadReaders inside i m h λ inner w. after-ahead (w .1 m) λ s n r. fine (omega arith)) bad
+
     statement-in-ahead : (read : ReadExpression) → AheadAt read → AheadAt (statementIn read inside ts)
     unfolding statementIn
     statement-in-ahead read k i =
-        if-ahead _ (declaration-ahead i) (if-ahead _ (guarded-ahead _ i) (if-ahead _ (guarded-ahead _ i) (if-ahead _ (returning-ahead read k i)
+        if-ahead _ (declaration-ahead i) (if-ahead _ (guarded-ahead _ i) (if-ahead _ (guarded-ahead _ i) (if-ahead _ (iteration-ahead read k i) (if-ahead _ (returning-ahead read k i)
         (if-ahead _ (opening-ahead AheadReaders inside i _ h λ inner w.
         after-ahead (statements-from-ahead _ (inner .inStatement) (w .1) (i + 1)) λ ss j l. fine (omega arith))
-        (simple-ahead read k i)))))
+        (simple-ahead read k i))))))
 
   pub statement-ahead : (left : ℕ) → AheadAt (statement left ts)
   unfolding statement
@@ -236,8 +243,8 @@ module _ (ts : List Token) where
   statement-in-past : (left : ℕ) (inside : Inside Readers) (i : ℕ) → length ts ≤ i → statementIn (expression left ts) inside ts i ≡ wrong 10 i
   unfolding statementIn
   statement-in-past left inside i l =
-      if-no _ _ _ (is-past 4 i l) (if-no _ _ _ (is-past 5 i l) (if-no _ _ _ (is-past 6 i l) (if-no _ _ _ (is-past 7 i l) (if-no _ _ _ (is-past 122 i l)
-      (simple-past left i l)))))
+      if-no _ _ _ (is-past 4 i l) (if-no _ _ _ (is-past 5 i l) (if-no _ _ _ (is-past 6 i l) (if-no _ _ _ (is-past 11 i l) (if-no _ _ _ (is-past 7 i l)
+      (if-no _ _ _ (is-past 122 i l) (simple-past left i l))))))
 
   statement-past : (left i : ℕ) → length ts ≤ i → statement left ts i ≡ wrong 10 i
   unfolding statement

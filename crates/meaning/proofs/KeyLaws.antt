@@ -4,6 +4,8 @@ use mathlib.Core.Path.{_≡_, refl, ap, ap₂, sym, _∙_}
 use mathlib.Core.Logic.{_↔_}
 use mathlib.Core.Bool.{Bool, true, false, _&&_, cond, and-eq-true-iff}
 use mathlib.Core.List.{List, [], _∷_}
+use mathlib.Core.Option.{some, Option·some-injective}
+use mathlib.Core.Option as Option
 use native.Mathlib.Omega.{arith}
 use lib.ListN.{getD}
 use lib.Dec.{eqb}
@@ -13,7 +15,7 @@ use Rattle.meaning.specs.Basics.{sameText}
 use Rattle.meaning.specs.Integer.{sameInteger, sameIntegers}
 use Rattle.meaning.specs.Figure.{Figure, line, ellipse, box, text, figureKind, numbersOf, textOf, sameFigure}
 use Rattle.meaning.specs.Value.{Value, integer, string, boolean, none, table, shape, kindOf}
-use Rattle.meaning.specs.State.{State, Key, figureKey, keyOf, sameKey}
+use Rattle.meaning.specs.State.{State, Content, atom, group, contentOf, byContent, Key, figureKey, keyOf, sameKey}
 
 eqb-same : (n : ℕ) → eqb n n ≡ true
 eqb-same n = eq-eqb n n refl
@@ -96,22 +98,23 @@ sameKey-iff a b = (sameKey-equal a b, λ e. rw (← e) (sameKey-same a))
 pub sameKey-symmetric : (a b : Key) → sameKey a b ≡ sameKey b a
 sameKey-symmetric = test-symmetric sameKey sameKey-iff
 
--- a value matches itself as a key
-pub sameKey-keyOf : (s : State) (v : Value) → sameKey (keyOf s v) (keyOf s v) ≡ true
-sameKey-keyOf s v = sameKey-same (keyOf s v)
-
+-- ---- keys of values
 -- keys of different kinds never match
-key-kind : (s : State) (v : Value) → min 5 (keyOf s v .kind) ≡ kindOf v
-unfolding keyOf kindOf
-key-kind s (integer z) = refl
-key-kind s (string t) = refl
-key-kind s (boolean b) = refl
-key-kind s none = refl
-key-kind s (table t) = refl
-key-kind s (shape i) = omega arith
+key-kind : (s : State) (v : Value) (k : Key) → keyOf s v ≡ some k → min 5 (k .kind) ≡ kindOf v
+unfolding keyOf kindOf byContent
+key-kind s (integer z) k e = ap (λ (x : Key). min 5 (x .kind)) (sym (Option·some-injective _ _ e))
+key-kind s (string t) k e = ap (λ (x : Key). min 5 (x .kind)) (sym (Option·some-injective _ _ e))
+key-kind s (boolean b) k e = ap (λ (x : Key). min 5 (x .kind)) (sym (Option·some-injective _ _ e))
+key-kind s none k e = ap (λ (x : Key). min 5 (x .kind)) (sym (Option·some-injective _ _ e))
+key-kind s (table t) k e = ap (λ (x : Key). min 5 (x .kind)) (sym (Option·some-injective _ _ e))
+key-kind s (shape i) k e = by (contentOf s i) e
+  where
+    by : (c : Content) → byContent c (λ a. some (figureKey a)) (λ cs. Option.none) ≡ some k → min 5 (k .kind) ≡ 5
+    by (atom a) q = ap (λ (x : Key). min 5 (x .kind)) (sym (Option·some-injective _ _ q)) ∙ omega arith
+    by (group cs) q = cc
 
-pub sameKey-kind : (s : State) (v w : Value) → sameKey (keyOf s v) (keyOf s w) ≡ true → kindOf v ≡ kindOf w
-sameKey-kind s v w e = sym (key-kind s v) ∙ ap (λ (k : Key). min 5 (k .kind)) (sameKey-equal (keyOf s v) (keyOf s w) e) ∙ key-kind s w
+pub sameKey-kind : (s : State) (v w : Value) (a b : Key) → keyOf s v ≡ some a → keyOf s w ≡ some b → sameKey a b ≡ true → kindOf v ≡ kindOf w
+sameKey-kind s v w a b h k e = sym (key-kind s v a h) ∙ ap (λ (x : Key). min 5 (x .kind)) (sameKey-equal a b e) ∙ key-kind s w b k
 
 -- ---- a key forgets nothing
 -- the figure that a key is of, and the value that is no shape
@@ -151,21 +154,24 @@ valueBack k ns t =
     (cond (eqb k 3) none
     (table (magnitude (nth ns 0))))))
 
-value-back : (s : State) (v : Value) → kindOf v < 5 → valueBack (keyOf s v .kind) (keyOf s v .numbers) (keyOf s v .text) ≡ v
+abbrev back : Key → Value
+back x = valueBack (x .kind) (x .numbers) (x .text)
+
+value-back : (s : State) (v : Value) (k : Key) → kindOf v < 5 → keyOf s v ≡ some k → valueBack (k .kind) (k .numbers) (k .text) ≡ v
 unfolding valueBack magnitude keyOf kindOf
-value-back s (integer z) h = refl
-value-back s (string t) h = refl
-value-back s (boolean true) h = refl
-value-back s (boolean false) h = refl
-value-back s none h = refl
-value-back s (table t) h = refl
-value-back s (shape i) h = absurd (omega arith)
+value-back s (integer z) k h e = ap back (sym (Option·some-injective _ _ e))
+value-back s (string t) k h e = ap back (sym (Option·some-injective _ _ e))
+value-back s (boolean true) k h e = ap back (sym (Option·some-injective _ _ e))
+value-back s (boolean false) k h e = ap back (sym (Option·some-injective _ _ e))
+value-back s none k h e = ap back (sym (Option·some-injective _ _ e))
+value-back s (table t) k h e = ap back (sym (Option·some-injective _ _ e))
+value-back s (shape i) k h e = absurd (omega arith)
 
 -- and other values exactly where they are the same
-pub keyOf-iff : (s : State) (v w : Value) → kindOf v < 5 → kindOf w < 5 → sameKey (keyOf s v) (keyOf s w) ≡ true ↔ v ≡ w
-keyOf-iff s v w h k = (
-  λ e. sym (value-back s v h) ∙ ap (λ (x : Key). valueBack (x .kind) (x .numbers) (x .text)) (sameKey-equal (keyOf s v) (keyOf s w) e) ∙ value-back s w k,
-  λ e. sameKey-iff (keyOf s v) (keyOf s w) .1 (ap (keyOf s) e),
+pub keyOf-iff : (s : State) (v w : Value) (a b : Key) → kindOf v < 5 → kindOf w < 5 → keyOf s v ≡ some a → keyOf s w ≡ some b → sameKey a b ≡ true ↔ v ≡ w
+keyOf-iff s v w a b h k va wb = (
+  λ e. sym (value-back s v a h va) ∙ ap back (sameKey-equal a b e) ∙ value-back s w b k wb,
+  λ e. sameKey-iff a b .1 (Option·some-injective _ _ (sym va ∙ ap (keyOf s) e ∙ wb)),
 )
 
 -- ---- figures

@@ -10,6 +10,7 @@ pub mod StateExamples
 pub mod PictureExamples
 pub mod RunExamples
 pub mod ProcedureExamples
+pub mod GroupExamples
 pub mod CallExamples
 -- Laws of the definitions
 pub mod IntegerLaws

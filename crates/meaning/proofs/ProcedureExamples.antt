@@ -13,7 +13,7 @@ use Rattle.meaning.specs.Figure.{Figure, line, ellipse, box}
 use Rattle.meaning.specs.Tree.{number, act, only, Procedure}
 use Rattle.meaning.specs.Grammar.{procedureNamed}
 use Rattle.meaning.specs.Value.{Value, integer, boolean, none, table, shape}
-use Rattle.meaning.specs.State.{State, Variable, Shape, fresh, entered, resumed, clearedAll}
+use Rattle.meaning.specs.State.{State, Variable, fresh, entered, resumed}
 use Rattle.meaning.specs.Run.{Resource, steps, shapes, entries, textBytes, calls, picture, Event, taking, gaveBack, End, result, error, unfinished, Run, run, Action}
 use Rattle.meaning.specs.Library.{libraryOf}
 use Rattle.meaning.specs.Execute.{onward, returned, assigning}
@@ -52,7 +52,8 @@ answers =
     ∷ (ample, "def f(){1;}def f(){1;}def drawBox(){1;}def main(w,h){1;}") gives Book.number 60 11 0 0
     ∷ (ample, "def drawLines(){1;}def drawLin(){1;}def mains(){1;}def mai(){1;}def main(w,h){drawLines();mains();}") gives pictured 141 8
     ∷ (ample, "def sin(x){return x;}def main(w,h){w=sin(1);}") gives pictured 141 5
-    ∷ (ample, "def eval(){1;}def drawGroup(){1;}def main(w,h){eval();drawGroup();}") gives pictured 141 8
+    ∷ (ample, "def eval(){1;}def cos(){1;}def main(w,h){eval();cos();}") gives pictured 141 8
+    ∷ (ample, "def main(w,h){1;}def drawGroup(){1;}") gives Book.number 60 17 0 0
     -- the order of the questions: arguments, main, the Book.number of arguments, the parameter names, a call, each parameter
     ∷ (granting 64 2, "def f(x,y,z){1;}def main(w,h){var a;a=drawLine(1,2,3,4);f(drawLine(1,2,3,4),a,destroyShape(a));}") gives Book.number 76 56 14 0
     ∷ (granting 64 3, "def f(x,y,z){1;}def main(w,h){var a;a=drawLine(1,2,3,4);f(drawLine(1,2,3,4),a,destroyShape(a));}") gives Book.number 76 56 17 0
@@ -214,7 +215,8 @@ pub names-hold : Hold (λ b. b) (
     ∷ inLibrary (libraryOf (bytes "drawText")) gives true
     ∷ inLibrary (libraryOf (bytes "sin")) gives false
     ∷ inLibrary (libraryOf (bytes "eval")) gives false
-    ∷ inLibrary (libraryOf (bytes "drawGroup")) gives false
+    ∷ inLibrary (libraryOf (bytes "drawGroup")) gives true
+    ∷ inLibrary (libraryOf (bytes "drawGroups")) gives false
     ∷ []
     )
 unfolding everything
@@ -294,19 +296,6 @@ pub waiting :
     ≡ record { variables = b; suspended = b ∷ a ∷ []; shapes = standing .shapes; tables = 2; entries = standing .entries })
 unfolding everything
 waiting = (refl, refl, refl, refl)
-
-abbrev three : List Shape
-three = alive (line (pos 1) (pos 2) (pos 3) (pos 4)) ∷ alive (ellipse (pos 1) (pos 2) (pos 3) (pos 4)) ∷ alive (box (pos 1) (pos 2) (pos 3) (pos 4)) ∷ []
-
-pub cleared-hold : Hold (λ vs. map (λ (s : Shape). s .destroyed) (clearedAll vs three)) (
-    [] gives (false ∷ false ∷ false ∷ [])
-    ∷ (a ∷ []) gives (true ∷ false ∷ false ∷ [])
-    ∷ (a ∷ b ∷ []) gives (true ∷ false ∷ true ∷ [])
-    ∷ (b ∷ [] ∷ []) gives (false ∷ false ∷ true ∷ [])
-    ∷ []
-    )
-unfolding everything
-cleared-hold = refl
 
 -- ---- the book
 abbrev all : List Resource

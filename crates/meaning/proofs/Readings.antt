@@ -29,7 +29,7 @@ called o g program = record {
   width = pos 20;
   height = pos 20;
   grants = g;
-  lent = 65536 ∷ 65536 ∷ 300000 ∷ 65536 ∷ [];
+  lent = 65536 ∷ 65536 ∷ 1000000 ∷ 65536 ∷ [];
   out = replicate 300 0;
 }
 

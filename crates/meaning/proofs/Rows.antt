@@ -13,7 +13,7 @@ use Rattle.meaning.specs.Tree.{Expression, Statement}
 use Rattle.meaning.specs.Grammar.{Got, good, wrong, expression, statement}
 use Rattle.meaning.specs.Figure.{Figure, line, ellipse, box, text}
 use Rattle.meaning.specs.Value.{Value, integer, string, boolean, none, table, shape}
-use Rattle.meaning.specs.State.{State, Shape, Variable, Entry, keyWith, figureOf}
+use Rattle.meaning.specs.State.{State, Shape, Variable, Entry, atom, keyWith, contentOf, byContent}
 use Rattle.meaning.specs.Run.{End, result, error, unfinished, Action}
 use Rattle.meaning.specs.Evaluate.{evaluate}
 use Rattle.meaning.specs.Procedure.{calling}
@@ -37,10 +37,10 @@ Hold f rows = map f (asked rows) ≡ answered rows
 
 -- ---- a state to ask in
 abbrev pub alive : Figure → Shape
-alive a = record { figure = a; destroyed = false }
+alive a = record { content = atom a; destroyed = false }
 
 abbrev pub dead : Figure → Shape
-dead a = record { figure = a; destroyed = true }
+dead a = record { content = atom a; destroyed = true }
 
 abbrev pub holding : String → Value → Variable
 holding x v = record { name = bytes x; holds = v }
@@ -64,10 +64,11 @@ standing = record {
 }
 
 -- ---- expressions
--- what evaluating ends with: a value, the figure of a shape, or a number and its place
+-- what evaluating ends with: a value, a shape's figure or components, or a number and its place
 pub data Shown : Type 0 where
   value : Value → Shown
   figure : Figure → Shown
+  components : List ℕ → Shown
   number : ℕ → ℕ → Shown
   nothing : Shown
 
@@ -77,7 +78,7 @@ shownValue s (string t) = value (string t)
 shownValue s (boolean b) = value (boolean b)
 shownValue s none = value none
 shownValue s (table t) = value (table t)
-shownValue s (shape i) = figure (figureOf s i)
+shownValue s (shape i) = byContent (contentOf s i) figure components
 
 unfoldable pub shown : End Value → Shown
 unfolding shownValue
@@ -132,6 +133,7 @@ letterOf (value none) = 111
 letterOf (value (table t)) = 116
 letterOf (value (shape i)) = 63
 letterOf (figure a) = 102
+letterOf (components cs) = 103
 letterOf (number n p) = cond (eqb n 20) (cond (eqb p 5) 46 63) 63
 letterOf nothing = 63
 

@@ -9,7 +9,7 @@ use lib.IntN.{pos}
 use Rattle.meaning.specs.Basics.{bytes}
 use Rattle.meaning.specs.Figure.{Figure, line, box}
 use Rattle.meaning.specs.Value.{Value, integer, string, boolean, none, table}
-use Rattle.meaning.specs.State.{State, Entry, keyWith, scene}
+use Rattle.meaning.specs.State.{State, Entry, keyWith}
 use Rattle.meaning.specs.Run.{Resource, steps, shapes, entries, textBytes, calls, picture, Event, taking, taken, gaveBack, End, result, error, unfinished, Run, run}
 use Rattle.meaning.specs.Tree.{nothing, truth, name, while, return, act}
 use Rattle.meaning.specs.Procedure.{calling}
@@ -188,9 +188,14 @@ unfolding everything entriesAfter
 entries-hold = refl
 
 -- ---- what is shown
+figuresAt : End (List Figure) → List Figure
+figuresAt (result a s) = a
+figuresAt (error n p) = []
+figuresAt unfinished = []
+
 unfoldable pub sceneAfter : String → List Figure
-unfolding stateAt
-sceneAfter body = scene (stateAt (painted body .end))
+unfolding figuresAt
+sceneAfter body = figuresAt (painted body .end)
 
 abbrev aBox : Figure
 aBox = box (pos 1) (pos 2) (pos 3) (pos 4)

@@ -9,7 +9,7 @@ use lib.IntN.{ℤ, pos}
 use Rattle.meaning.specs.Basics.{bytes}
 use Rattle.meaning.specs.Figure.{Figure, line, ellipse, box, text}
 use Rattle.meaning.specs.Value.{Value, integer, string, boolean, none, table, shape, kindOf}
-use Rattle.meaning.specs.State.{State, Variable, Shape, Entry, Key, figureOf, isDestroyed, keyWith, keyOf, sameKey, valueIn, isSome, assigned, destroy, cleared, withShape, withNewTable, sceneOf, entryIn, overwritten}
+use Rattle.meaning.specs.State.{State, Variable, Shape, Entry, Key, atom, group, contentOf, isDestroyed, living, shapesHeld, shapesHeldBy, keyWith, keyOf, sameKey, valueIn, assigned, destroy, withShape, withNewTable, entryIn, overwritten}
 use Rattle.meaning.proofs.Computing.{everything}
 use Rattle.meaning.proofs.Rows.{Row, _gives_, Hold, alive, dead, holding, minus, standing}
 
@@ -29,13 +29,23 @@ many = record {
   entries = [];
 }
 
+-- the same with a group of the first two behind them
+abbrev pub grouped : State
+grouped = withShape many (group (0 ∷ 1 ∷ []))
+
 abbrev pub different : List Value
 different =
     integer (pos 0) ∷ integer (pos 1) ∷ integer (minus 1) ∷ integer (minus 2) ∷ string [] ∷ string (bytes "a") ∷ string (bytes "b") ∷ string (bytes "ab")
     ∷ boolean false ∷ boolean true ∷ none ∷ table 0 ∷ table 1 ∷ shape 0 ∷ shape 1 ∷ shape 2 ∷ shape 3 ∷ shape 4 ∷ shape 5 ∷ shape 6 ∷ shape 7 ∷ shape 8 ∷ shape 9 ∷ []
 
+-- whether two are keys, and match
+unfoldable pub matched : Option Key → Option Key → Bool
+matched Option.none k = false
+matched (some a) Option.none = false
+matched (some a) (some b) = sameKey a b
+
 unfoldable pub matching : List Value → List (List Bool)
-matching vs = map (λ v. map (λ w. sameKey (keyOf many v) (keyOf many w)) vs) vs
+matching vs = map (λ v. map (λ w. matched (keyOf many v) (keyOf many w)) vs) vs
 
 -- true on the diagonal alone
 unfoldable pub diagonal : {A : Type 0} → List A → List (List Bool)
@@ -44,22 +54,23 @@ diagonal (v ∷ vs) = (true ∷ map (λ _. false) vs) ∷ map (λ row. false ∷
 
 -- each of these is a key of its own
 pub own-keys : matching different ≡ diagonal different
-unfolding everything matching diagonal
+unfolding everything matched matching diagonal
 own-keys = refl
 
 -- a destroyed shape's key is its figure's, and shapes that look alike have one key
-abbrev pub keys : List (Row (State × Value) Key)
+abbrev pub keys : List (Row (State × Value) (Option Key))
 keys =
-    (many, shape 10) gives keyWith 5 (pos 1 ∷ pos 2 ∷ pos 3 ∷ pos 4 ∷ []) []
-    ∷ (many, shape 1) gives keyWith 6 (pos 1 ∷ pos 2 ∷ pos 3 ∷ pos 4 ∷ []) []
-    ∷ (many, shape 11) gives keyWith 7 (pos 1 ∷ pos 2 ∷ pos 3 ∷ pos 4 ∷ []) []
-    ∷ (many, shape 3) gives keyWith 8 (pos 1 ∷ pos 2 ∷ []) (bytes "a")
-    ∷ (many, integer (minus 5)) gives keyWith 0 (minus 5 ∷ []) []
-    ∷ (many, string (bytes "day")) gives keyWith 1 [] (bytes "day")
-    ∷ (many, boolean true) gives keyWith 2 (pos 1 ∷ []) []
-    ∷ (many, boolean false) gives keyWith 2 (pos 0 ∷ []) []
-    ∷ (many, none) gives keyWith 3 [] []
-    ∷ (many, table 1) gives keyWith 4 (pos 1 ∷ []) []
+    (many, shape 10) gives some (keyWith 5 (pos 1 ∷ pos 2 ∷ pos 3 ∷ pos 4 ∷ []) [])
+    ∷ (many, shape 1) gives some (keyWith 6 (pos 1 ∷ pos 2 ∷ pos 3 ∷ pos 4 ∷ []) [])
+    ∷ (many, shape 11) gives some (keyWith 7 (pos 1 ∷ pos 2 ∷ pos 3 ∷ pos 4 ∷ []) [])
+    ∷ (many, shape 3) gives some (keyWith 8 (pos 1 ∷ pos 2 ∷ []) (bytes "a"))
+    ∷ (many, integer (minus 5)) gives some (keyWith 0 (minus 5 ∷ []) [])
+    ∷ (many, string (bytes "day")) gives some (keyWith 1 [] (bytes "day"))
+    ∷ (many, boolean true) gives some (keyWith 2 (pos 1 ∷ []) [])
+    ∷ (many, boolean false) gives some (keyWith 2 (pos 0 ∷ []) [])
+    ∷ (many, none) gives some (keyWith 3 [] [])
+    ∷ (many, table 1) gives some (keyWith 4 (pos 1 ∷ []) [])
+    ∷ (grouped, shape 12) gives Option.none
     ∷ []
 
 pub keys-hold : Hold (λ (q : State × Value). keyOf (q .0) (q .1)) keys
@@ -109,11 +120,7 @@ shapeLists =
     destroy three 2 gives (alive (small line) ∷ dead (small ellipse) ∷ dead (small box) ∷ [])
     ∷ destroy three 1 gives three
     ∷ destroy three 0 gives (dead (small line) ∷ dead (small ellipse) ∷ alive (small box) ∷ [])
-    ∷ cleared (holding "a" (shape 2) ∷ holding "b" (integer (pos 0)) ∷ []) three gives (alive (small line) ∷ dead (small ellipse) ∷ dead (small box) ∷ [])
-    ∷ cleared (holding "a" (table 0) ∷ holding "b" (shape 0) ∷ holding "c" (shape 2) ∷ []) three
-    gives (dead (small line) ∷ dead (small ellipse) ∷ dead (small box) ∷ [])
-    ∷ cleared (holding "a" (boolean true) ∷ holding "b" none ∷ holding "c" (string []) ∷ []) three gives three
-    ∷ (withShape standing (small box) .shapes) gives
+    ∷ (withShape standing (atom (small box)) .shapes) gives
     (alive (box (pos 2) (pos 9) (pos 3) (pos 10)) ∷ alive (line (pos 1) (pos 2) (pos 30) (pos 40)) ∷ alive (ellipse (pos 5) (pos 6) (pos 7) (pos 8)) ∷
     alive (text (pos 11) (pos 12) (bytes "ab")) ∷ dead (line (pos 1) (pos 1) (pos 1) (pos 1)) ∷ alive (small box) ∷ [])
     ∷ []
@@ -122,18 +129,20 @@ pub shape-lists-hold : Hold (λ v. v) shapeLists
 unfolding everything
 shape-lists-hold = refl
 
--- what variables show: neither a destroyed shape nor anything else than a shape
-pub shown-scene :
-    sceneOf standing (holding "a" (shape 2) ∷ holding "b" (integer (pos 1)) ∷ holding "c" (shape 4) ∷ holding "d" (shape 0) ∷ holding "e" (table 0) ∷ holding "f" (shape 1) ∷ [])
-    ≡ ellipse (pos 5) (pos 6) (pos 7) (pos 8) ∷ box (pos 2) (pos 9) (pos 3) (pos 10) ∷ line (pos 1) (pos 2) (pos 30) (pos 40) ∷ []
+-- the shapes that variables hold, destroyed ones too, and those that are not destroyed
+pub shapes-held :
+    (shapesHeld (holding "a" (shape 2) ∷ holding "b" (integer (pos 1)) ∷ holding "c" (shape 4) ∷ holding "d" (shape 2) ∷ holding "e" (table 0) ∷ []) ≡ 2 ∷ 4 ∷ 2 ∷ [])
+    × (shapesHeld (holding "a" (string []) ∷ holding "b" (boolean true) ∷ holding "c" none ∷ []) ≡ [])
+    × (shapesHeldBy ((holding "a" (shape 3) ∷ holding "b" (shape 1) ∷ []) ∷ [] ∷ (holding "a" (shape 2) ∷ []) ∷ []) ≡ 3 ∷ 1 ∷ 2 ∷ [])
+    × (living standing (2 ∷ 4 ∷ 0 ∷ 5 ∷ 2 ∷ []) ≡ 2 ∷ 0 ∷ 2 ∷ [])
 unfolding everything
-shown-scene = refl
+shapes-held = (refl, refl, refl, refl)
 
 pub tables-counted : withNewTable standing .tables ≡ 3
 tables-counted = refl
 
 -- the number of no shape
-pub no-shape : (figureOf standing 5 ≡ line (pos 0) (pos 0) (pos 0) (pos 0)) × (isDestroyed standing 5 ≡ true)
+pub no-shape : (contentOf standing 5 ≡ atom (line (pos 0) (pos 0) (pos 0) (pos 0))) × (isDestroyed standing 5 ≡ true)
 no-shape = (refl, refl)
 
 -- ---- entries

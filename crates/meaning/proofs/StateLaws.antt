@@ -12,7 +12,7 @@ use borrow.Author.Tests.{eqb-true}
 use Rattle.meaning.specs.Basics.{if_then_else_, sameText}
 use Rattle.meaning.specs.Figure.{Figure}
 use Rattle.meaning.specs.Value.{Value, integer, string, boolean, none, table, shape}
-use Rattle.meaning.specs.State.{State, Variable, Shape, Entry, Key, valueIn, isSome, assigned, withVariables, noShape, withShape, destroy, destroyedIn, cleared, sameKey, matches, entryIn, overwritten}
+use Rattle.meaning.specs.State.{State, Variable, Content, Shape, Entry, Key, valueIn, isSome, assigned, withVariables, noShape, withShape, destroy, sameKey, matches, entryIn, overwritten}
 use Rattle.meaning.specs.Run.{run, result, goOn, _>>=_, give, refuse, current, become}
 use Rattle.meaning.specs.Execute.{onward, declaring, storing}
 use Rattle.meaning.proofs.KeyLaws.{sameText-same, sameText-iff, sameKey-iff}
@@ -71,24 +71,14 @@ valueIn-other (v ∷ vs) x y u d = go (sameText (v .name) x) refl (valueIn-other
 
 -- ---- shapes
 -- a shape made is found by the number of shapes before it, undestroyed
-pub shape-made : (s : State) (a : Figure) → getD (withShape s a .shapes) (length (s .shapes)) noShape ≡ record { figure = a; destroyed = false }
+pub shape-made : (s : State) (c : Content) → getD (withShape s c .shapes) (length (s .shapes)) noShape ≡ record { content = c; destroyed = false }
 unfolding withShape
-shape-made s a = getD-append-seam (s .shapes) (record { figure = a; destroyed = false }) [] noShape
+shape-made s c = getD-append-seam (s .shapes) (record { content = c; destroyed = false }) [] noShape
 
 -- destroying keeps the number of shapes
-length-destroyedIn : (ss : List Shape) (v : Value) → length (destroyedIn ss v) ≡ length ss
-unfolding destroyedIn destroy
-length-destroyedIn ss (integer z) = refl
-length-destroyedIn ss (string t) = refl
-length-destroyedIn ss (boolean b) = refl
-length-destroyedIn ss none = refl
-length-destroyedIn ss (table t) = refl
-length-destroyedIn ss (shape i) = length-set ss i _
-
-pub length-cleared : (vs : List Variable) (ss : List Shape) → length (cleared vs ss) ≡ length ss
-unfolding cleared
-length-cleared [] ss = refl
-length-cleared (v ∷ vs) ss = length-cleared vs (destroyedIn ss (v .holds)) ∙ length-destroyedIn ss (v .holds)
+pub length-destroy : (ss : List Shape) (i : ℕ) → length (destroy ss i) ≡ length ss
+unfolding destroy
+length-destroy ss i = length-set ss i _
 
 -- ---- entries
 -- an entry overwritten is read again

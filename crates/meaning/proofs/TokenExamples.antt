@@ -86,6 +86,9 @@ tokens =
     [] gives lexed []
     ∷ bytes "def var if while return none true false" gives
     lexed (tok 4 0 "def" ∷ tok 5 4 "var" ∷ tok 6 8 "if" ∷ tok 7 11 "while" ∷ tok 8 17 "return" ∷ tok 9 24 "none" ∷ tok 10 29 "true" ∷ tok 11 34 "false" ∷ [])
+    ∷ bytes "foreach in do" gives lexed (tok 12 0 "foreach" ∷ tok 13 8 "in" ∷ tok 14 11 "do" ∷ [])
+    ∷ bytes "foreachs foreac inn i doo d Do" gives
+    lexed (tok 1 0 "foreachs" ∷ tok 1 9 "foreac" ∷ tok 1 16 "inn" ∷ tok 1 20 "i" ∷ tok 1 22 "doo" ∷ tok 1 26 "d" ∷ tok 1 28 "Do" ∷ [])
     ∷ bytes "defs Def iff whil a1 Z9z" gives
     lexed (tok 1 0 "defs" ∷ tok 1 5 "Def" ∷ tok 1 9 "iff" ∷ tok 1 13 "whil" ∷ tok 1 18 "a1" ∷ tok 1 21 "Z9z" ∷ [])
     ∷ bytes "vars returns nones truer falsey" gives

@@ -53,7 +53,7 @@ either-kind false x y h k = k
 
 word-no-string : (w : List ℕ) → eqb (wordKind w) aString ≡ false
 unfolding wordKind
-word-no-string w = search either-kind depth 10
+word-no-string w = search either-kind depth 13
 
 name-covers : (l : List ℕ) → FrontCover l (foundName l)
 name-covers l =

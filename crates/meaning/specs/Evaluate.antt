@@ -9,7 +9,7 @@ use Rattle.meaning.specs.Integer.{isNegative}
 use Rattle.meaning.specs.Tree.{Expression, number, string, nothing, truth, name, table, entry, operation, call, paren, Arguments, noArgument, argument}
 use Rattle.meaning.specs.Value.{Value}
 use Rattle.meaning.specs.Value as Value
-use Rattle.meaning.specs.State.{valueIn, keyOf, entryIn, withNewTable}
+use Rattle.meaning.specs.State.{Key, valueIn, keyOf, entryIn, withNewTable}
 use Rattle.meaning.specs.Run.{Action, _>>=_, _>>_, give, fail, count, refuse, current, become}
 use Rattle.meaning.specs.Operator.{usable, withInteger, operate}
 use Rattle.meaning.specs.Operator as Operator
@@ -29,8 +29,13 @@ newTable p size = do
   become (withNewTable s)
   give (Value.table (s .tables))
 
+-- a key, or 20 for a group
+unfoldable pub keyed : {A : Type 0} → ℕ → Option Key → (Key → Action A) → Action A
+keyed p Option.none k = fail 20 p
+keyed p (some key) k = k key
+
 unfoldable pub entryOf : ℕ → ℕ → Value → Action Value
-entryOf p t v = current >>= λ s. lookedUp 20 p (entryIn (s .entries) t (keyOf s v))
+entryOf p t v = current >>= λ s. keyed p (keyOf s v) λ key. lookedUp 20 p (entryIn (s .entries) t key)
 
 -- by the name, the place and the arguments
 abbrev pub Invoke : Type 0

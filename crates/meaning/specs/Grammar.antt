@@ -1,14 +1,14 @@
 -- The grammar, as what reading the tokens from left to right yields: a tree, or the first token that fails.
 use Prim.Native.Nat.{ℕ, zero, suc, _+_, _-_, _*_}
-use mathlib.Core.Bool.{Bool, true, false, _&&_}
+use mathlib.Core.Bool.{Bool, true, false, _&&_, _||_}
 use mathlib.Core.List.{List, [], _∷_}
 use mathlib.Core.Option.{Option, none, some}
 use lib.ListN.{length, getD}
 use lib.Dec.{eqb, ltb, leb}
 use lib.IntN.{pos, negℤ}
 use Rattle.meaning.specs.Basics.{bytes, if_then_else_, sameText}
-use Rattle.meaning.specs.Token.{Token, Lexed, lexed, stray, tokensOf, ending, aName, digits, aString, wordDef, wordVar, wordIf, wordWhile, wordReturn, wordNone, wordTrue, wordFalse, dot, comma, semicolon, openParen, closeParen, openBracket, closeBracket, openBrace, closeBrace, becomes, minus, doubled}
-use Rattle.meaning.specs.Tree.{Operator, concatenate, add, subtract, multiply, divide, remainder, shiftRight, shiftLeft, equal, unequal, greater, less, Expression, number, string, nothing, truth, name, table, entry, operation, call, paren, Arguments, noArgument, argument, Statement, declare, assign, update, when, while, return, block, act, Statements, only, first, Procedure, Program}
+use Rattle.meaning.specs.Token.{Token, Lexed, lexed, stray, tokensOf, ending, aName, digits, aString, wordDef, wordVar, wordIf, wordWhile, wordReturn, wordNone, wordTrue, wordFalse, wordForeach, wordIn, wordDo, dot, comma, semicolon, openParen, closeParen, openBracket, closeBracket, openBrace, closeBrace, becomes, minus, doubled}
+use Rattle.meaning.specs.Tree.{Operator, concatenate, add, subtract, multiply, divide, remainder, shiftRight, shiftLeft, equal, unequal, greater, less, Expression, number, string, nothing, truth, name, table, entry, operation, call, paren, Arguments, noArgument, argument, Statement, declare, assign, update, when, while, foreach, return, block, act, Statements, only, first, Procedure, Program}
 
 -- ---- tokens by their index
 abbrev pub afterLast : Token
@@ -224,6 +224,23 @@ unfoldable pub guarded : (Expression → Statement → Statement) → Inside Rea
 guarded make inside ts i =
     if is openParen ts i then (λ _. opening inside i λ inner. guardedIn make inner ts i) else λ _. wrong 10 i
 
+-- whether a statement can begin with token i
+unfoldable pub beginsStatement : List Token → ℕ → Bool
+beginsStatement ts i =
+    positiveAt ts i || signedAt ts i || is aString ts i || is wordNone ts i || is wordTrue ts i || is wordFalse ts i || is aName ts i || is openParen ts i ||
+    is openBracket ts i || is wordVar ts i || is wordIf ts i || is wordWhile ts i || is wordForeach ts i || is wordReturn ts i || is openBrace ts i
+
+-- foreach x in e do and a body, whose first token opens a level if a statement can begin there
+unfoldable pub iteration : ReadExpression → Inside Readers → List Token → ℕ → Got Statement
+iteration read inside ts i =
+    after (expect aName ts (i + 1) (textAt ts (i + 1))) λ x i₂.
+    after (skip wordIn ts i₂) λ _ i₃.
+    after (read i₃) λ e j.
+    after (skip wordDo ts j) λ _ m.
+    if beginsStatement ts m
+    then (λ _. opening inside m λ inner. after (inner .inStatement m) λ s n. good (foreach (startAt ts i) x e s) n)
+    else λ _. wrong 10 m
+
 -- One statement or more and the closing brace. Each statement takes a token at least, so rounds need be no more than the tokens left, as with
 -- arguments (`statements-rounds` of GrammarLaws).
 unfoldable pub statementsFrom : ℕ → ReadStatement → List Token → ℕ → Got Statements
@@ -246,6 +263,7 @@ statementIn read inside ts i =
     if is wordVar ts i then (λ _. declaration ts i)
     else λ _. if is wordIf ts i then (λ _. guarded (when (startAt ts i)) inside ts (i + 1))
     else λ _. if is wordWhile ts i then (λ _. guarded (while (startAt ts i)) inside ts (i + 1))
+    else λ _. if is wordForeach ts i then (λ _. iteration read inside ts i)
     else λ _. if is wordReturn ts i then (λ _. returning read ts i)
     else λ _. if is openBrace ts i then (λ _. blockAt inside ts i)
     else λ _. simple read ts i

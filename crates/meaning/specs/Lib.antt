@@ -9,6 +9,7 @@ pub mod Figure
 pub mod Value
 pub mod State
 pub mod Run
+pub mod Group
 pub mod Operator
 pub mod Library
 pub mod Evaluate

@@ -1,18 +1,19 @@
 -- The library procedures (section 2.2.6 of the IMG specification, less the trigonometric ones).
-use Prim.Native.Nat.{ℕ}
-use mathlib.Core.List.{List, [], _∷_}
+use Prim.Native.Nat.{ℕ, suc}
+use mathlib.Core.List.{List, [], _∷_, _++_}
 use mathlib.Core.Option.{Option, some}
 use mathlib.Core.Option as Option
 use lib.IntN.{ℤ}
 use Rattle.meaning.specs.Basics.{bytes, if_then_else_, sameText}
 use Rattle.meaning.specs.Figure.{Figure, line, ellipse, box, text, centreX, centreY, connecting, textOn}
-use Rattle.meaning.specs.Value.{Value, integer, none}
-use Rattle.meaning.specs.State.{withShapes, destroy, cleared, clearedAll}
-use Rattle.meaning.specs.Run.{Action, _>>=_, _>>_, give, fail, current, become}
-use Rattle.meaning.specs.Operator.{usable, withInteger, withString, withShapeNumber, withFigure, newShape}
+use Rattle.meaning.specs.Value.{Value, integer, none, shape}
+use Rattle.meaning.specs.State.{Content, atom, group, shapesHeld, shapesHeldBy}
+use Rattle.meaning.specs.Run.{Action, _>>=_, _>>_, give, fail, current}
+use Rattle.meaning.specs.Group.{newShape, each, destroying}
+use Rattle.meaning.specs.Operator.{usable, withInteger, withString, withShapeNumber, withFigure}
 
 pub data Library : Type 0 where
-  drawLine drawEllipse drawBox drawText connectShapes drawTextOnShape xCoordinate yCoordinate destroyShape clearScene : Library
+  drawLine drawEllipse drawBox drawText connectShapes drawTextOnShape xCoordinate yCoordinate destroyShape clearScene drawGroup : Library
 
 unfoldable pub libraryOf : List ℕ → Option Library
 libraryOf f =
@@ -26,6 +27,7 @@ libraryOf f =
     else λ _. if sameText f (bytes "getShapeYCoordinate") then (λ _. some yCoordinate)
     else λ _. if sameText f (bytes "destroyShape") then (λ _. some destroyShape)
     else λ _. if sameText f (bytes "clearScene") then (λ _. some clearScene)
+    else λ _. if sameText f (bytes "drawGroup") then (λ _. some drawGroup)
     else λ _. Option.none
 
 -- ---- arguments: a wrong number of them is 20
@@ -49,13 +51,21 @@ unfoldable pub withFour : ℕ → List Value → (Value → Value → Value → 
 withFour p [] k = fail 20 p
 withFour p (v ∷ vs) k = withThree p vs (k v)
 
+-- each has to be a shape
+unfoldable pub shapeNumbers : ℕ → List Value → Action (List ℕ)
+shapeNumbers p [] = give []
+shapeNumbers p (v ∷ vs) = withShapeNumber p v λ i. shapeNumbers p vs >>= λ is. give (i ∷ is)
+
 -- ---- procedures
+unfoldable pub draw : ℕ → Content → Action Value
+draw p c = newShape p c >>= λ i. give (shape i)
+
 -- four integers make a figure
 unfoldable pub drawFigure : (ℤ → ℤ → ℤ → ℤ → Figure) → ℕ → List Value → Action Value
 drawFigure make p vs =
     withFour p vs λ v₁ v₂ v₃ v₄.
     withInteger p v₁ λ a. withInteger p v₂ λ b. withInteger p v₃ λ c. withInteger p v₄ λ d.
-    newShape p (make a b c d)
+    draw p (atom (make a b c d))
 
 unfoldable pub perform : Library → ℕ → List Value → Action Value
 perform drawLine p vs = drawFigure line p vs
@@ -63,21 +73,19 @@ perform drawEllipse p vs = drawFigure ellipse p vs
 perform drawBox p vs = drawFigure box p vs
 perform drawText p vs =
     withThree p vs λ v₁ v₂ v₃.
-    withInteger p v₁ λ x. withInteger p v₂ λ y. withString p v₃ λ t. newShape p (text x y t)
+    withInteger p v₁ λ x. withInteger p v₂ λ y. withString p v₃ λ t. draw p (atom (text x y t))
 perform connectShapes p vs =
-    withTwo p vs λ v₁ v₂. withFigure p v₁ λ a. withFigure p v₂ λ b. newShape p (connecting a b)
+    withTwo p vs λ v₁ v₂. withFigure p v₁ λ a. withFigure p v₂ λ b. draw p (atom (connecting a b))
 perform drawTextOnShape p vs =
-    withTwo p vs λ v₁ v₂. withFigure p v₁ λ a. withString p v₂ λ t. newShape p (textOn a t)
+    withTwo p vs λ v₁ v₂. withFigure p v₁ λ a. withString p v₂ λ t. draw p (atom (textOn a t))
 perform xCoordinate p vs = withOne p vs λ v. withFigure p v λ a. give (integer (centreX a))
 perform yCoordinate p vs = withOne p vs λ v. withFigure p v λ a. give (integer (centreY a))
-perform destroyShape p vs = withOne p vs λ v. withShapeNumber p v λ i. do
-  s ← current
-  become (withShapes s (destroy (s .shapes) i))
-  give none
+perform destroyShape p vs = withOne p vs λ v. withShapeNumber p v λ i. destroying (suc i) p i >> give none
 perform clearScene p vs = withNone p vs do
   s ← current
-  become (withShapes s (cleared (s .variables) (clearedAll (s .suspended) (s .shapes))))
+  each (λ i. destroying (suc i) p i) (shapesHeldBy (s .suspended) ++ shapesHeld (s .variables))
   give none
+perform drawGroup p vs = shapeNumbers p vs >>= λ is. draw p (group is)
 
 -- no argument may be a destroyed shape
 unfoldable pub allUsable : ℕ → List Value → Action (Unit {0})

@@ -1,20 +1,19 @@
 -- What values are asked, and what operators do (figure 3 of the IMG specification).
-use Prim.Native.Nat.{ℕ}
+use Prim.Native.Nat.{ℕ, suc}
 use mathlib.Core.Bool.{Bool, true, false, not, cond, _&&_}
 use mathlib.Core.List.{List, _++_}
-use mathlib.Core.Option.{Option, some}
-use mathlib.Core.Option as Option
 use lib.ListN.{length}
 use lib.IntN.{ℤ}
 use lib.Signed.{ltZ}
 use Rattle.meaning.specs.Basics.{sameText}
 use Rattle.meaning.specs.Integer.{sum, difference, product, quotient, shiftedLeft, shiftedRight, isZero, sameInteger}
 use Rattle.meaning.specs.Integer as Integer
-use Rattle.meaning.specs.Figure.{Figure, plusX, plusY, minusX, minusY, scaledUp, scaledDown, sameFigure}
+use Rattle.meaning.specs.Figure.{Figure, plusX, plusY, minusX, minusY, scaledUp, scaledDown}
 use Rattle.meaning.specs.Tree.{Operator, concatenate, add, subtract, multiply, divide, remainder, shiftRight, shiftLeft, equal, unequal, greater, less}
 use Rattle.meaning.specs.Value.{Value, integer, string, boolean, none, table, shape}
-use Rattle.meaning.specs.State.{State, isDestroyed, figureOf, withShape}
-use Rattle.meaning.specs.Run.{Action, textBytes, shapes, _>>=_, _>>_, give, fail, spend, refuse, current, become}
+use Rattle.meaning.specs.State.{State, isDestroyed, contentOf, byContent}
+use Rattle.meaning.specs.Run.{Action, textBytes, _>>=_, _>>_, give, fail, spend, refuse, current}
+use Rattle.meaning.specs.Group.{remade, alike}
 
 -- ---- questions about one value, at a place
 -- a destroyed shape is 30
@@ -73,17 +72,12 @@ withShapeNumber p (table t) k = fail 20 p
 withShapeNumber p (shape i) k = k i
 
 unfoldable pub withFigure : {A : Type 0} → ℕ → Value → (Figure → Action A) → Action A
-withFigure p v k = withShapeNumber p v λ i. current >>= λ s. k (figureOf s i)
+withFigure p v k = withShapeNumber p v λ i. current >>= λ s. byContent (contentOf s i) k (λ cs. fail 20 p)
 
--- ---- shapes and strings made
--- a new shape takes one
-unfoldable pub newShape : ℕ → Figure → Action Value
-newShape p a = do
-  spend shapes 1 p
-  s ← current
-  become (withShape s a)
-  give (shape (length (s .shapes)))
+unfoldable pub withGroup : {A : Type 0} → ℕ → Value → (List ℕ → Action A) → Action A
+withGroup p v k = withShapeNumber p v λ i. current >>= λ s. byContent (contentOf s i) (λ a. fail 20 p) k
 
+-- ---- strings made
 -- a joined string takes as many text bytes as it is long
 unfoldable pub newString : ℕ → List ℕ → Action Value
 newString p t = do
@@ -91,7 +85,7 @@ newString p t = do
   give (string t)
 
 -- ---- operators
--- two integers by f, or a shape and an integer by g; where the right side divides it must not be 0
+-- two integers by f, or a shape and an integer by g, of a group each figure in it; where the right side divides it must not be 0, which is asked first
 unfoldable pub calculated : Bool → (ℤ → ℤ → ℤ) → (Figure → ℤ → Figure) → ℕ → Value → Value → Action Value
 calculated divides f g p (integer a) w =
     withInteger p w λ b. refuse (divides && isZero b) 70 p >> give (integer (f a b))
@@ -100,7 +94,7 @@ calculated divides f g p (boolean b) w = fail 20 p
 calculated divides f g p none w = fail 20 p
 calculated divides f g p (table t) w = fail 20 p
 calculated divides f g p (shape i) w =
-    withInteger p w λ b. refuse (divides && isZero b) 70 p >> (current >>= λ s. newShape p (g (figureOf s i) b))
+    withInteger p w λ b. refuse (divides && isZero b) 70 p >> (remade (suc i) p (λ a. g a b) i >>= λ j. give (shape j))
 
 -- two integers only
 unfoldable pub compared : (ℤ → ℤ → Bool) → ℕ → Value → Value → Action Value
@@ -112,52 +106,59 @@ remaindered p v w = withInteger p v λ a. withInteger p w λ b. refuse (isZero b
 unfoldable pub joined : ℕ → Value → Value → Action Value
 joined p v w = withString p v λ a. withString p w λ b. newString p (a ++ b)
 
--- Figure 3's rows of == and !=, by the kinds of both sides. Integers, strings, booleans and shapes are compared with their own kind; nothing but none
--- equals none; a pair that cannot be compared, two tables among them, gives nothing.
-unfoldable pub equality : State → Value → Value → Option Bool
-equality s (integer a) (integer b) = some (sameInteger a b)
-equality s (integer a) (string b) = Option.none
-equality s (integer a) (boolean b) = Option.none
-equality s (integer a) none = some false
-equality s (integer a) (table b) = Option.none
-equality s (integer a) (shape j) = Option.none
-equality s (string a) (integer b) = Option.none
-equality s (string a) (string b) = some (sameText a b)
-equality s (string a) (boolean b) = Option.none
-equality s (string a) none = some false
-equality s (string a) (table b) = Option.none
-equality s (string a) (shape j) = Option.none
-equality s (boolean a) (integer b) = Option.none
-equality s (boolean a) (string b) = Option.none
-equality s (boolean a) (boolean b) = some (cond a b (not b))
-equality s (boolean a) none = some false
-equality s (boolean a) (table b) = Option.none
-equality s (boolean a) (shape j) = Option.none
-equality s none (integer b) = some false
-equality s none (string b) = some false
-equality s none (boolean b) = some false
-equality s none none = some true
-equality s none (table b) = some false
-equality s none (shape j) = some false
-equality s (table a) (integer b) = Option.none
-equality s (table a) (string b) = Option.none
-equality s (table a) (boolean b) = Option.none
-equality s (table a) none = some false
-equality s (table a) (table b) = Option.none
-equality s (table a) (shape j) = Option.none
-equality s (shape i) (integer b) = Option.none
-equality s (shape i) (string b) = Option.none
-equality s (shape i) (boolean b) = Option.none
-equality s (shape i) none = some false
-equality s (shape i) (table b) = Option.none
-equality s (shape i) (shape j) = some (sameFigure (figureOf s i) (figureOf s j))
+-- what a pair of values comes to: it cannot be compared, it is settled, or it is two shapes, whose contents decide
+pub data Comparison : Type 0 where
+  refused : Comparison
+  settled : Bool → Comparison
+  ofShapes : ℕ → ℕ → Comparison
 
-unfoldable pub answered : ℕ → (Bool → Bool) → Option Bool → Action Value
-answered p f Option.none = fail 20 p
-answered p f (some b) = give (boolean (f b))
+-- Figure 3's rows of == and !=, by the kinds of both sides. Integers, strings, booleans and shapes are compared with their own kind; nothing but none
+-- equals none; a pair that cannot be compared, two tables among them, is refused.
+unfoldable pub equality : Value → Value → Comparison
+equality (integer a) (integer b) = settled (sameInteger a b)
+equality (integer a) (string b) = refused
+equality (integer a) (boolean b) = refused
+equality (integer a) none = settled false
+equality (integer a) (table b) = refused
+equality (integer a) (shape j) = refused
+equality (string a) (integer b) = refused
+equality (string a) (string b) = settled (sameText a b)
+equality (string a) (boolean b) = refused
+equality (string a) none = settled false
+equality (string a) (table b) = refused
+equality (string a) (shape j) = refused
+equality (boolean a) (integer b) = refused
+equality (boolean a) (string b) = refused
+equality (boolean a) (boolean b) = settled (cond a b (not b))
+equality (boolean a) none = settled false
+equality (boolean a) (table b) = refused
+equality (boolean a) (shape j) = refused
+equality none (integer b) = settled false
+equality none (string b) = settled false
+equality none (boolean b) = settled false
+equality none none = settled true
+equality none (table b) = settled false
+equality none (shape j) = settled false
+equality (table a) (integer b) = refused
+equality (table a) (string b) = refused
+equality (table a) (boolean b) = refused
+equality (table a) none = settled false
+equality (table a) (table b) = refused
+equality (table a) (shape j) = refused
+equality (shape i) (integer b) = refused
+equality (shape i) (string b) = refused
+equality (shape i) (boolean b) = refused
+equality (shape i) none = settled false
+equality (shape i) (table b) = refused
+equality (shape i) (shape j) = ofShapes i j
+
+unfoldable pub answered : ℕ → (Bool → Bool) → Comparison → Action Value
+answered p f refused = fail 20 p
+answered p f (settled b) = give (boolean (f b))
+answered p f (ofShapes i j) = alike (suc i) p i j >>= λ b. give (boolean (f b))
 
 unfoldable pub equated : (Bool → Bool) → ℕ → Value → Value → Action Value
-equated f p v w = current >>= λ s. answered p f (equality s v w)
+equated f p v w = answered p f (equality v w)
 
 unfoldable pub operateOn : Operator → ℕ → Value → Value → Action Value
 operateOn concatenate = joined

@@ -13,8 +13,9 @@ use Rattle.meaning.specs.Tree as Tree
 use Rattle.meaning.specs.Grammar.{Reading, wellFormed, malformed, reading}
 use Rattle.meaning.specs.Figure.{Figure}
 use Rattle.meaning.specs.Value.{integer}
-use Rattle.meaning.specs.State.{State, scene}
+use Rattle.meaning.specs.State.{State, shapesHeld}
 use Rattle.meaning.specs.Run.{Run, run, unfinished, Action, calls, picture, _>>=_, _>>_, give, fail, spend, giveBack, refuse, current, become}
+use Rattle.meaning.specs.Group.{each, figuresOf}
 use Rattle.meaning.specs.Execute.{executeAll}
 use Rattle.meaning.specs.Procedure.{doubled, calling}
 use Rattle.meaning.specs.Picture.{pictureOf}
@@ -65,7 +66,8 @@ unfoldable pub understood : Reading → Action Tree.Program
 understood (wellFormed m) = namedApart (doubled [] (m .procedures)) m
 understood (malformed n p) = fail n p
 
--- the figures that a program shows whose loops turn at most n times each, and whose calls are at most n deep
+-- The figures that a program shows whose loops turn at most n times each, and whose calls are at most n deep: those of the shapes that main's
+-- variables hold, in their order.
 unfoldable pub painting : List ℕ → ℤ → ℤ → ℕ → Action (List Figure)
 painting program width height n = do
   sheet width height
@@ -73,9 +75,9 @@ painting program width height n = do
   m ← understood (reading program)
   entering (m .main .parameters) width height
   executeAll (calling n (m .procedures)) (m .main .body) n
-  s ← current
   giveBack
-  give (scene s)
+  s ← current
+  each (λ i. figuresOf (suc i) 0 i) (shapesHeld (s .variables))
 
 -- both operations, each with its questions in document 01's order
 unfoldable pub performing : Operation → List ℕ → ℤ → ℤ → ℕ → Action Outcome

@@ -16,8 +16,13 @@ pub record Variable : Type 0 where
   pub name : List ℕ
   pub holds : Value
 
+-- a figure, or a group of older shapes
+pub data Content : Type 0 where
+  atom : Figure → Content
+  group : List ℕ → Content
+
 pub record Shape : Type 0 where
-  pub figure : Figure
+  pub content : Content
   pub destroyed : Bool
 
 -- what a value is as a key: its kind, numbers and text, of a shape its figure's, whatever becomes of the shape
@@ -76,10 +81,19 @@ resumed s s′ = record { variables = s .variables; suspended = s .suspended; sh
 -- ---- shapes
 -- what the number of no shape stands for; no value holds such a number
 abbrev pub noShape : Shape
-noShape = record { figure = line (pos 0) (pos 0) (pos 0) (pos 0); destroyed = true }
+noShape = record { content = atom (line (pos 0) (pos 0) (pos 0) (pos 0)); destroyed = true }
 
-abbrev pub figureOf : State → ℕ → Figure
-figureOf s i = getD (s .shapes) i noShape .figure
+abbrev pub contentOf : State → ℕ → Content
+contentOf s i = getD (s .shapes) i noShape .content
+
+-- by what a shape is
+unfoldable pub byContent : {A : Type 0} → Content → (Figure → A) → (List ℕ → A) → A
+byContent (atom a) f g = f a
+byContent (group cs) f g = g cs
+
+unfoldable pub componentsIn : Content → List ℕ
+componentsIn (atom a) = []
+componentsIn (group cs) = cs
 
 abbrev pub isDestroyed : State → ℕ → Bool
 isDestroyed s i = getD (s .shapes) i noShape .destroyed
@@ -87,46 +101,34 @@ isDestroyed s i = getD (s .shapes) i noShape .destroyed
 abbrev pub withShapes : State → List Shape → State
 withShapes s ss = record { variables = s .variables; suspended = s .suspended; shapes = ss; tables = s .tables; entries = s .entries }
 
-unfoldable pub withShape : State → Figure → State
-withShape s a = withShapes s (s .shapes ++ (record { figure = a; destroyed = false } ∷ []))
+unfoldable pub withShape : State → Content → State
+withShape s c = withShapes s (s .shapes ++ (record { content = c; destroyed = false } ∷ []))
 
 unfoldable pub destroy : List Shape → ℕ → List Shape
-destroy ss i = set ss i (record { figure = getD ss i noShape .figure; destroyed = true })
+destroy ss i = set ss i (record { content = getD ss i noShape .content; destroyed = true })
 
--- the shape that a value is, destroyed
-unfoldable pub destroyedIn : List Shape → Value → List Shape
-destroyedIn ss (integer z) = ss
-destroyedIn ss (string t) = ss
-destroyedIn ss (boolean b) = ss
-destroyedIn ss none = ss
-destroyedIn ss (table t) = ss
-destroyedIn ss (shape i) = destroy ss i
+-- those of some shapes that are not destroyed
+unfoldable pub living : State → List ℕ → List ℕ
+living s [] = []
+living s (i ∷ is) = if isDestroyed s i then (λ _. living s is) else λ _. i ∷ living s is
 
--- the shapes that variables hold, destroyed
-unfoldable pub cleared : List Variable → List Shape → List Shape
-cleared [] ss = ss
-cleared (v ∷ vs) ss = cleared vs (destroyedIn ss (v .holds))
+-- the shapes that variables hold, in their order
+unfoldable pub shapeIn : Value → List ℕ
+shapeIn (integer z) = []
+shapeIn (string t) = []
+shapeIn (boolean b) = []
+shapeIn none = []
+shapeIn (table t) = []
+shapeIn (shape i) = i ∷ []
 
--- the same of each call that waits
-unfoldable pub clearedAll : List (List Variable) → List Shape → List Shape
-clearedAll [] ss = ss
-clearedAll (vs ∷ more) ss = clearedAll more (cleared vs ss)
+unfoldable pub shapesHeld : List Variable → List ℕ
+shapesHeld [] = []
+shapesHeld (v ∷ vs) = shapeIn (v .holds) ++ shapesHeld vs
 
--- the figures of the undestroyed shapes that variables hold, in their order
-unfoldable pub seen : State → Value → List Figure
-seen s (integer z) = []
-seen s (string t) = []
-seen s (boolean b) = []
-seen s none = []
-seen s (table t) = []
-seen s (shape i) = if isDestroyed s i then (λ _. []) else λ _. figureOf s i ∷ []
-
-unfoldable pub sceneOf : State → List Variable → List Figure
-sceneOf s [] = []
-sceneOf s (v ∷ vs) = seen s (v .holds) ++ sceneOf s vs
-
-abbrev pub scene : State → List Figure
-scene s = sceneOf s (s .variables)
+-- the same of several calls
+unfoldable pub shapesHeldBy : List (List Variable) → List ℕ
+shapesHeldBy [] = []
+shapesHeldBy (vs ∷ more) = shapesHeld vs ++ shapesHeldBy more
 
 -- ---- tables
 abbrev pub keyWith : ℕ → List ℤ → List ℕ → Key
@@ -135,13 +137,14 @@ keyWith k ns t = record { kind = k; numbers = ns; text = t }
 abbrev pub figureKey : Figure → Key
 figureKey a = keyWith (5 + figureKind a) (numbersOf a) (textOf a)
 
-unfoldable pub keyOf : State → Value → Key
-keyOf s (integer z) = keyWith 0 (z ∷ []) []
-keyOf s (string t) = keyWith 1 [] t
-keyOf s (boolean b) = keyWith 2 (pos (cond b 1 0) ∷ []) []
-keyOf s none = keyWith 3 [] []
-keyOf s (table t) = keyWith 4 (pos t ∷ []) []
-keyOf s (shape i) = figureKey (figureOf s i)
+-- a group is no key
+unfoldable pub keyOf : State → Value → Option Key
+keyOf s (integer z) = some (keyWith 0 (z ∷ []) [])
+keyOf s (string t) = some (keyWith 1 [] t)
+keyOf s (boolean b) = some (keyWith 2 (pos (cond b 1 0) ∷ []) [])
+keyOf s none = some (keyWith 3 [] [])
+keyOf s (table t) = some (keyWith 4 (pos t ∷ []) [])
+keyOf s (shape i) = byContent (contentOf s i) (λ a. some (figureKey a)) (λ cs. Option.none)
 
 -- the same kind, numbers and text
 unfoldable pub sameKey : Key → Key → Bool

@@ -45,6 +45,15 @@ wordTrue = 10
 abbrev pub wordFalse : ℕ
 wordFalse = 11
 
+abbrev pub wordForeach : ℕ
+wordForeach = 12
+
+abbrev pub wordIn : ℕ
+wordIn = 13
+
+abbrev pub wordDo : ℕ
+wordDo = 14
+
 -- A sign of one byte has that byte for its kind: . , ; ( ) [ ] { } = - + * / % > <
 abbrev pub dot : ℕ
 dot = 46
@@ -94,7 +103,10 @@ wordKind w =
     (cond (sameText w (bytes "none")) wordNone
     (cond (sameText w (bytes "true")) wordTrue
     (cond (sameText w (bytes "false")) wordFalse
-    aName)))))))
+    (cond (sameText w (bytes "foreach")) wordForeach
+    (cond (sameText w (bytes "in")) wordIn
+    (cond (sameText w (bytes "do")) wordDo
+    aName))))))))))
 
 -- ---- one token
 -- a token: its kind, its first byte's place, and its bytes, of a string without the quotes

@@ -34,6 +34,7 @@ mutual
     update : ℕ → Expression → Expression → Expression → Statement
     when : ℕ → Expression → Statement → Statement
     while : ℕ → Expression → Statement → Statement
+    foreach : ℕ → List ℕ → Expression → Statement → Statement
     return : ℕ → Expression → Statement
     block : ℕ → Statements → Statement
     act : ℕ → Expression → Statement

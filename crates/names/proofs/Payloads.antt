@@ -13,13 +13,13 @@ use Rattle.meaning.specs.Basics.{bytes, sameText}
 use Rattle.meaning.specs.Token.{Token, aString}
 use Rattle.meaning.specs.Grammar.{numeral}
 use Rattle.meaning.specs.Library.{Library, libraryOf, drawLine, drawEllipse, drawBox, drawText, connectShapes, drawTextOnShape}
-use Rattle.meaning.specs.Library.{xCoordinate, yCoordinate, destroyShape, clearScene}
+use Rattle.meaning.specs.Library.{xCoordinate, yCoordinate, destroyShape, clearScene, drawGroup}
 use Rattle.tokens.specs.Words.{sizeOf, textIn, tokenIn, kindIn, placeIn, sizeIn}
 use Rattle.names.specs.Prepared.{home, numberOf, libraryNumber, procedureNumber, payload, prepared}
 use Rattle.names.specs.Index.{payloadWith, wordWith, named}
 
 -- ---- sizes
-number-few : (o : Option Library) → numberOf o ≤ 10
+number-few : (o : Option Library) → numberOf o ≤ 11
 unfolding numberOf
 number-few (some drawLine) = omega arith
 number-few (some drawEllipse) = omega arith
@@ -31,13 +31,14 @@ number-few (some xCoordinate) = omega arith
 number-few (some yCoordinate) = omega arith
 number-few (some destroyShape) = omega arith
 number-few (some clearScene) = omega arith
+number-few (some drawGroup) = omega arith
 number-few none = omega arith
 
-main-few : (b : Bool) (n : ℕ) → n ≤ 10 → cond b 11 n ≤ 11
+main-few : (b : Bool) (n : ℕ) → n ≤ 11 → cond b 12 n ≤ 12
 main-few true n h = omega arith
 main-few false n h = omega arith
 
-pub procedure-few : (x : List ℕ) (n : ℕ) → n ≡ procedureNumber x → n ≤ 11
+pub procedure-few : (x : List ℕ) (n : ℕ) → n ≡ procedureNumber x → n ≤ 12
 unfolding procedureNumber libraryNumber
 procedure-few x n e = rw e (main-few (sameText x (bytes "main")) (numberOf (libraryOf x)) (number-few (libraryOf x)))
 

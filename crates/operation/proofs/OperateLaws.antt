@@ -87,8 +87,8 @@ module _ {program g ts ws : List ℕ} {tag p a b : ℕ} {r : Answer} where
   unfolding operateOn if_then_else_
   by-joining t h = record { equal = λ _. h ∙ rw t }
 
-  pub by-equality : (n : ℕ) → tag ≡ n → Compares program ts ws n p a b r → Mixes program g ts ws tag p a b r ts ws
-  by-equality n t h = record { equal = λ _. h .equal g ∙ rw t }
+  pub by-equality : (n : ℕ) {ws′ : List ℕ} → tag ≡ n → Compares program g ts ws n p a b r ws′ → Mixes program g ts ws tag p a b r ts ws′
+  by-equality n t h = record { equal = λ _. h .equal ∙ rw t }
 
   pub by-calculation : {ws′ : List ℕ} → (tag ≡ 16 → ⊥) → (tag ≡ 24 → ⊥) → (tag ≡ 25 → ⊥) → Calculates g ws tag p a b r ws′
       → Mixes program g ts ws tag p a b r ts ws′

@@ -82,8 +82,14 @@ fn on_usable(
             let r = join(program, grants, texts, words, p, a, b);
             r
         }
-        24 => equality::equal(program, texts, words, p, a, b),
-        25 => equality::unequal(program, texts, words, p, a, b),
+        24 => {
+            let r = equality::equal(program, texts, words, grants, p, a, b);
+            r
+        }
+        25 => {
+            let r = equality::unequal(program, texts, words, grants, p, a, b);
+            r
+        }
         _ => {
             let r = calculate(words, grants, tag, p, a, b);
             r

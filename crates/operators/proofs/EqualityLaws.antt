@@ -1,11 +1,10 @@
 -- Equality.
-use Prim.Native.Nat.{ℕ, zero, suc, _/_, _%_, _^_, _<_}
+use Prim.Native.Nat.{ℕ, zero, suc, _/_, _%_, _^_, _<_, _≤_}
 use mathlib.Core.Path.{_≡_, _∙_, refl, ap, sym}
 use mathlib.Core.Bool.{Bool, true, false, not, _&&_, cond}
 use mathlib.Core.List.{List}
-use mathlib.Core.Option.{Option, none, some}
 use native.Mathlib.Omega.{arith}
-use borrow.Author.Tests.{ne-eqb, eq-eqb, not-true, not-false}
+use borrow.Author.Tests.{ne-eqb, eq-eqb, lt-ltb, le-ltb, not-true, not-false}
 use lib.Dec.{eqb}
 use lib.IntN.{ℤ}
 use lib.Signed.{mag}
@@ -20,11 +19,12 @@ use Rattle.machine.specs.declared.Answer.the-variants.{Good, Bad}
 use Rattle.machine.specs.Words.{numberIn, handleIn, truthIn, unpacked}
 use Rattle.values.proofs.Laws.{unpacked-integer, unpacked-text, unpacked-truth, unpacked-table, unpacked-shape, as-nothing, by-kind}
 use Rattle.machine.specs.declared.Figure.{Figure}
-use Rattle.machine.specs.Act.{Raw, raw, done, stop, give, fail, shown}
+use Rattle.machine.specs.Act.{Raw, raw, done, stop, goOn, _>>=_, give, fail, shown}
 use Rattle.machine.specs.Texts.{textOf}
 use Rattle.machine.specs.Shapes.{figureAt}
-use Rattle.machine.specs.Operate.{sameFigure, equality, answered, equated, operateOn}
-use Rattle.operators.specs.Parts.{samePair, sameNumbers, kindNumber, verdict, unlike, Compares}
+use Rattle.machine.specs.Operate.{sameFigure, Comparison, refused, settled, ofShapes, equality, answered, equated, operateOn}
+use Rattle.operators.specs.Parts.{samePair, sameNumbers, kindNumber, unlike, Compares}
+use Rattle.operators.specs.Pairs.{judged, comparison, Alike, Equates}
 use Rattle.operators.proofs.Held.{held, back}
 
 -- ---- kinds
@@ -126,12 +126,12 @@ unlike-4 k l e = rw e
 pub unlike-to-4 : (k l : ℕ) → (k ≡ 4 → ⊥) → l ≡ 4 → 0 ≡ unlike k l
 unlike-to-4 k l h e = rw (ne-eqb _ _ h, e)
 
-pub unlike-other : (k l : ℕ) → (k ≡ 4 → ⊥) → (l ≡ 4 → ⊥) → 2 ≡ unlike k l
+pub unlike-other : (k l : ℕ) → (k ≡ 4 → ⊥) → (l ≡ 4 → ⊥) → 20 ≡ unlike k l
 unlike-other k l h e = rw (ne-eqb _ _ h, ne-eqb _ _ e)
 
-module _ (program : List ℕ) (s : Raw) where
-  kinds-apart : (v w : Value) → (kindNumber v ≡ kindNumber w → ⊥) → unlike (kindNumber v) (kindNumber w) ≡ verdict (equality program s v w)
-  unfolding equality verdict kindNumber
+module _ (program g : List ℕ) (p : ℕ) (s : Raw) where
+  kinds-apart : (v w : Value) → (kindNumber v ≡ kindNumber w → ⊥) → judged (unlike (kindNumber v) (kindNumber w)) p (s .texts) (s .words) ≡ comparison program g p (equality program s v w) s
+  unfolding equality judged comparison fail give if_then_else_ kindNumber
   kinds-apart (Integer x) (Integer y) h = absurd (h refl)
   kinds-apart (Integer x) (Text y) h = refl
   kinds-apart (Integer x) (Boolean y) h = refl
@@ -170,8 +170,8 @@ module _ (program : List ℕ) (s : Raw) where
   kinds-apart (Shape x) (Shape y) h = absurd (h refl)
 
   no-comparison : (v w : Value) → kindNumber v ≡ kindNumber w → (kindNumber v ≡ 1 → ⊥) → (kindNumber v ≡ 2 → ⊥) → (kindNumber v ≡ 3 → ⊥) → (kindNumber v ≡ 4 → ⊥)
-      → (kindNumber v ≡ 6 → ⊥) → 2 ≡ verdict (equality program s v w)
-  unfolding equality verdict kindNumber
+      → (kindNumber v ≡ 6 → ⊥) → judged 20 p (s .texts) (s .words) ≡ comparison program g p (equality program s v w) s
+  unfolding equality judged comparison fail if_then_else_ kindNumber
   no-comparison (Integer x) w e i j k l m = absurd (i refl)
   no-comparison (Text x) w e i j k l m = absurd (j refl)
   no-comparison (Boolean x) w e i j k l m = absurd (k refl)
@@ -193,70 +193,86 @@ same-truth (suc zero) (suc zero) h k = refl
 same-truth (suc zero) (suc (suc n)) h k = absurd (omega arith)
 same-truth (suc (suc m)) n h k = absurd (omega arith)
 
-module _ (program ts ws : List ℕ) (a b k l : ℕ) (e : k ≡ kindNumber (unpacked a)) (f : l ≡ kindNumber (unpacked b)) where
-  pub apart : {r : ℕ} → (k ≡ l → ⊥) → r ≡ unlike k l → r ≡ verdict (equality program (raw ts ws) (unpacked a) (unpacked b))
-  apart h q = q ∙ rw (e, f) (kinds-apart program (raw ts ws) (unpacked a) (unpacked b) (rw (e, f) at h))
+-- 1 if so, else 0
+settled-by : (p : ℕ) (ts ws : List ℕ) (c : Bool) (r : ℕ) → r ≡ cond c 1 0 → judged r p ts ws ≡ done c (raw ts ws)
+unfolding judged if_then_else_
+settled-by p ts ws true r e = rw e
+settled-by p ts ws false r e = rw e
+
+module _ (program g ts ws : List ℕ) (a b k l : ℕ) (e : k ≡ kindNumber (unpacked a)) (f : l ≡ kindNumber (unpacked b)) where
+  pub apart : {r : ℕ} → (k ≡ l → ⊥) → r ≡ unlike k l → Equates program g ts ws a b r ws
+  apart h q = record { equal = λ p. rw (q, e, f) (kinds-apart program g p (raw ts ws) (unpacked a) (unpacked b) (rw (e, f) at h)) }
 
   module _ (t : k ≡ l) where
     pub integers : {x y : ℤ} {c : Bool} {r : ℕ} → k ≡ 1 → r ≡ cond c 1 0 → c ≡ sameInteger (held x) (held y) → mag x < 2 ^ 31 → mag y < 2 ^ 31
-        → x ≡ toZ w32 (numberIn a) → y ≡ toZ w32 (numberIn b) → r ≡ verdict (equality program (raw ts ws) (unpacked a) (unpacked b))
-    unfolding verdict equality valueAs if_then_else_
-    integers {x = x′} {y = y′} n q c i j x y = q ∙ rw (c, back {r = x′} i, back {r = y′} j, x, y, value-as a k 1 e n, value-as b l 1 f (sym t ∙ n))
+        → x ≡ toZ w32 (numberIn a) → y ≡ toZ w32 (numberIn b) → Equates program g ts ws a b r ws
+    unfolding comparison equality give valueAs if_then_else_
+    integers {x = x′} {y = y′} {c = c′} n q c i j x y = record {
+      equal = λ p. settled-by p ts ws c′ _ q ∙ rw (c, back {r = x′} i, back {r = y′} j, x, y, value-as a k 1 e n, value-as b l 1 f (sym t ∙ n));
+    }
 
     pub strings : {x y : ℕ} {c : Bool} {r : ℕ} → k ≡ 2 → r ≡ cond c 1 0 → c ≡ sameText (textOf program ts x) (textOf program ts y)
-        → x ≡ handleIn a → y ≡ handleIn b → r ≡ verdict (equality program (raw ts ws) (unpacked a) (unpacked b))
-    unfolding verdict equality valueAs if_then_else_
-    strings n q c x y = q ∙ rw (c, x, y, value-as a k 2 e n, value-as b l 2 f (sym t ∙ n))
+        → x ≡ handleIn a → y ≡ handleIn b → Equates program g ts ws a b r ws
+    unfolding comparison equality give valueAs if_then_else_
+    strings {c = c′} n q c x y = record { equal = λ p. settled-by p ts ws c′ _ q ∙ rw (c, x, y, value-as a k 2 e n, value-as b l 2 f (sym t ∙ n)) }
 
-    pub truths : {r : ℕ} → k ≡ 3 → r ≡ cond (eqb (a / 8 % 2) (b / 8 % 2)) 1 0 → r ≡ verdict (equality program (raw ts ws) (unpacked a) (unpacked b))
-    unfolding verdict equality valueAs if_then_else_
-    truths n q = q ∙ rw (same-truth (a / 8 % 2) (b / 8 % 2) (omega arith) (omega arith), value-as a k 3 e n, value-as b l 3 f (sym t ∙ n))
+    pub truths : {r : ℕ} → k ≡ 3 → r ≡ cond (eqb (a / 8 % 2) (b / 8 % 2)) 1 0 → Equates program g ts ws a b r ws
+    unfolding comparison equality give valueAs if_then_else_
+    truths n q = record {
+      equal = λ p. settled-by p ts ws (eqb (a / 8 % 2) (b / 8 % 2)) _ q
+          ∙ rw (same-truth (a / 8 % 2) (b / 8 % 2) (omega arith) (omega arith), value-as a k 3 e n, value-as b l 3 f (sym t ∙ n));
+    }
 
-    pub nothings : k ≡ 4 → 1 ≡ verdict (equality program (raw ts ws) (unpacked a) (unpacked b))
-    unfolding verdict equality valueAs if_then_else_
-    nothings n = rw (value-as a k 4 e n, value-as b l 4 f (sym t ∙ n))
+    pub nothings : k ≡ 4 → Equates program g ts ws a b 1 ws
+    unfolding judged comparison equality give valueAs if_then_else_
+    nothings n = record { equal = λ p. rw (value-as a k 4 e n, value-as b l 4 f (sym t ∙ n)) }
 
-    pub shapes : {i j : ℕ} {c : Bool} {r : ℕ} → k ≡ 6 → r ≡ cond c 1 0 → c ≡ sameFigure program ts (figureAt ws i) (figureAt ws j)
-        → i ≡ numberIn a → j ≡ numberIn b → r ≡ verdict (equality program (raw ts ws) (unpacked a) (unpacked b))
-    unfolding verdict equality valueAs if_then_else_
-    shapes n q c i j = q ∙ rw (c, i, j, value-as a k 6 e n, value-as b l 6 f (sym t ∙ n))
+    pub shapes : {i j r : ℕ} {ws′ : List ℕ} → k ≡ 6 → Alike program g ts ws i j r ws′ → i ≡ numberIn a → j ≡ numberIn b → Equates program g ts ws a b r ws′
+    unfolding comparison equality valueAs if_then_else_
+    shapes n q i j = record { equal = λ p. q .equal p ∙ rw (i, j, value-as a k 6 e n, value-as b l 6 f (sym t ∙ n)) }
 
-    pub uncompared : (k ≡ 1 → ⊥) → (k ≡ 2 → ⊥) → (k ≡ 3 → ⊥) → (k ≡ 4 → ⊥) → (k ≡ 6 → ⊥) → 2 ≡ verdict (equality program (raw ts ws) (unpacked a) (unpacked b))
-    uncompared u v w x y = no-comparison program (raw ts ws) (unpacked a) (unpacked b) (sym e ∙ t ∙ f) (rw e at u) (rw e at v) (rw e at w) (rw e at x) (rw e at y)
+    pub uncompared : (k ≡ 1 → ⊥) → (k ≡ 2 → ⊥) → (k ≡ 3 → ⊥) → (k ≡ 4 → ⊥) → (k ≡ 6 → ⊥) → Equates program g ts ws a b 20 ws
+    uncompared u v w x y = record {
+      equal = λ p. no-comparison program g p (raw ts ws) (unpacked a) (unpacked b) (sym e ∙ t ∙ f) (rw e at u) (rw e at v) (rw e at w) (rw e at x) (rw e at y);
+    }
 
 -- ---- the answers
-module _ (p : ℕ) (s : Raw) where
-  uncompared-is : (f : Bool → Bool) (o : Option Bool) → verdict o ≡ 2 → answered p f o s ≡ stop 20 p s
-  unfolding verdict answered fail
-  uncompared-is f none h = refl
-  uncompared-is f (some true) h = absurd (omega arith)
-  uncompared-is f (some false) h = absurd (omega arith)
+answered-by : (program g : List ℕ) (p : ℕ) (s : Raw) (f : Bool → Bool) (c : Comparison) → answered program g p f c s ≡ goOn (comparison program g p c s) (λ b. give (Boolean (f b)))
+unfolding answered comparison fail give _>>=_ goOn
+answered-by program g p s f refused = refl
+answered-by program g p s f (settled b) = refl
+answered-by program g p s f (ofShapes i j) = refl
 
-  same-is : (o : Option Bool) → (verdict o ≡ 2 → ⊥) → answered p (λ b. b) o s ≡ done (Boolean (eqb (verdict o) 1)) s
-  unfolding verdict answered give
-  same-is none h = absurd (h refl)
-  same-is (some true) h = refl
-  same-is (some false) h = refl
+other-verdict : (n : ℕ) → n ≤ 1 → eqb n 0 ≡ not (eqb n 1)
+other-verdict zero h = refl
+other-verdict (suc zero) h = refl
+other-verdict (suc (suc n)) h = absurd (omega arith)
 
-  other-is : (o : Option Bool) → (verdict o ≡ 2 → ⊥) → answered p not o s ≡ done (Boolean (eqb (verdict o) 0)) s
-  unfolding verdict answered give
-  other-is none h = absurd (h refl)
-  other-is (some true) h = refl
-  other-is (some false) h = refl
+module _ (program g ts ws ws′ : List ℕ) (p a b k : ℕ) (e : Equates program g ts ws a b k ws′) where
+  stops-so : (f : Bool → Bool) → 1 < k → stop k p (raw ts ws′) ≡ equated program g f p (unpacked a) (unpacked b) (raw ts ws)
+  unfolding equated judged goOn if_then_else_
+  stops-so f h =
+      let q : judged k p ts ws′ ≡ stop k p (raw ts ws′) = rw (lt-ltb 1 k h) in
+      sym (answered-by program g p (raw ts ws) f (equality program (raw ts ws) (unpacked a) (unpacked b)) ∙ rw (← e .equal p, q))
 
-module _ {program ts ws : List ℕ} {p a b : ℕ} (k : ℕ) (e : k ≡ verdict (equality program (raw ts ws) (unpacked a) (unpacked b))) where
-  pub equal-refused : k ≡ 2 → Compares program ts ws 24 p a b (Bad 20 p)
-  unfolding operateOn if_then_else_ equated shown
-  equal-refused h = record { equal = λ grants. sym (uncompared-is p (raw ts ws) (λ b. b) (equality program (raw ts ws) (unpacked a) (unpacked b)) (sym e ∙ h)) }
+  gives-so : (f : Bool → Bool) → k ≤ 1 → done (Boolean (f (eqb k 1))) (raw ts ws′) ≡ equated program g f p (unpacked a) (unpacked b) (raw ts ws)
+  unfolding equated judged goOn give if_then_else_
+  gives-so f h =
+      let q : judged k p ts ws′ ≡ done (eqb k 1) (raw ts ws′) = rw (le-ltb 1 k h) in
+      sym (answered-by program g p (raw ts ws) f (equality program (raw ts ws) (unpacked a) (unpacked b)) ∙ rw (← e .equal p, q))
 
-  pub equal-answered : (k ≡ 2 → ⊥) → Compares program ts ws 24 p a b (Good (Boolean (eqb k 1)))
-  unfolding operateOn if_then_else_ equated shown
-  equal-answered h = record { equal = λ grants. sym (rw e (same-is p (raw ts ws) (equality program (raw ts ws) (unpacked a) (unpacked b)) (rw e at h))) }
+  pub equal-refused : 1 < k → Compares program g ts ws 24 p a b (Bad k p) ws′
+  unfolding operateOn if_then_else_ shown
+  equal-refused h = record { equal = stops-so (λ b. b) h }
 
-  pub unequal-refused : k ≡ 2 → Compares program ts ws 25 p a b (Bad 20 p)
-  unfolding operateOn if_then_else_ equated shown
-  unequal-refused h = record { equal = λ grants. sym (uncompared-is p (raw ts ws) not (equality program (raw ts ws) (unpacked a) (unpacked b)) (sym e ∙ h)) }
+  pub equal-answered : k ≤ 1 → Compares program g ts ws 24 p a b (Good (Boolean (eqb k 1))) ws′
+  unfolding operateOn if_then_else_ shown
+  equal-answered h = record { equal = gives-so (λ b. b) h }
 
-  pub unequal-answered : (k ≡ 2 → ⊥) → Compares program ts ws 25 p a b (Good (Boolean (eqb k 0)))
-  unfolding operateOn if_then_else_ equated shown
-  unequal-answered h = record { equal = λ grants. sym (rw e (other-is p (raw ts ws) (equality program (raw ts ws) (unpacked a) (unpacked b)) (rw e at h))) }
+  pub unequal-refused : 1 < k → Compares program g ts ws 25 p a b (Bad k p) ws′
+  unfolding operateOn if_then_else_ shown
+  unequal-refused h = record { equal = stops-so not h }
+
+  pub unequal-answered : k ≤ 1 → Compares program g ts ws 25 p a b (Good (Boolean (eqb k 0))) ws′
+  unfolding operateOn if_then_else_ shown
+  unequal-answered h = record { equal = rw (other-verdict k h) (gives-so not h) }

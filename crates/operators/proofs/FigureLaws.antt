@@ -19,10 +19,13 @@ use Rattle.machine.specs.declared.Answer.{Answer}
 use Rattle.machine.specs.declared.Answer.the-variants.{Bad}
 use Rattle.machine.specs.declared.Figure.{Figure}
 use Rattle.machine.specs.Act.{Raw, Out, stop, goOn, _>>=_, give, fail, refuse, shown, Answers}
-use Rattle.machine.specs.Shapes.{figureAt, newShape}
+use Rattle.machine.specs.Act as Act
+use Rattle.machine.specs.Shapes.{isGroupAt, figureAt, newShape}
+use Rattle.machine.specs.Groups.{remake, remakeGroup}
 use Rattle.machine.specs.Operate.{withInteger, withText, calculated, compared, remaindered, joined, equality, answered, equated, operateOn}
 use Rattle.machine.specs.Operate.{moved, kept, plusX, plusY, minusX, minusY, scaled, scaledUp, scaledDown}
 use Rattle.operators.specs.Parts.{placed, renumbered, refusal, changed, Draws}
+use Rattle.operators.specs.Remaking.{changing}
 use Rattle.operators.proofs.Held.{held, back, back-by, test-is, by-number}
 
 -- ---- points in other places, and other numbers
@@ -165,10 +168,10 @@ module _ {tag : ℕ} (n : ℤ) where
 -- ---- a shape and an integer
 unfoldable drawing : List ℕ → ℕ → ℕ → ℕ → ℤ → Raw → Out Value
 drawing grants tag p i n r =
-    if eqb (refusal tag n) 0 then (λ _. newShape grants p (changed tag (figureAt (r .words) i) n) r) else λ _. stop (refusal tag n) p r
+    if eqb (refusal tag n) 0 then (λ _. remake grants p (changing tag n) i r) else λ _. stop (refusal tag n) p r
 
 shape-drawn : (program grants : List ℕ) (tag p i : ℕ) (n : ℤ) (r : Raw) → operateOn program grants tag p (Shape i) (Integer n) r ≡ drawing grants tag p i n r
-unfolding operateOn if_then_else_ drawing refusal changed calculated withInteger withText joined compared remaindered equated equality answered _>>=_ goOn refuse give fail
+unfolding operateOn if_then_else_ drawing refusal changing changed calculated withInteger withText joined compared remaindered equated equality answered _>>=_ goOn refuse give fail
 shape-drawn program grants tag p i n r =
     by-number P tag 16 refl λ a. by-number P tag 17 refl λ b. by-number P tag 18 refl λ c. by-number P tag 19 refl λ d. by-number P tag 20 (divided (isZero n) refl) λ e.
     by-number P tag 21 refl λ f. by-number P tag 22 refl λ g. by-number P tag 23 refl λ h. by-number P tag 24 refl λ k. by-number P tag 25 refl λ l.
@@ -191,7 +194,11 @@ module _ {ws g : List ℕ} {tag : ℕ} (p : ℕ) {i : ℕ} {n : ℤ} (j : SFits 
   unfolding drawing if_then_else_ shown
   refuses h = record { equal = λ program ts. sym (shape-drawn program g tag p i n _ ∙ rw (refusal-is tag n k j e, ne-eqb _ _ h)) }
 
-  pub draws : (f fs : Figure) {r : Answer} {ws′ : List ℕ} → (k ≡ 0) → fs ≡ figureAt ws i → f ≡ changed tag fs (held n) → Answers ws (newShape g p f) r ws′
-      → Draws g ws tag p (Shape i) (Integer n) r ws′
-  unfolding drawing if_then_else_
-  draws f fs h s t a = record { equal = λ program ts. a .equal ts ∙ sym (shape-drawn program g tag p i n _ ∙ rw (refusal-is tag n k j e, h, t, s, toZ-ofZ j)) }
+  module _ (b : Bool) (h : k ≡ 0) (s : b ≡ isGroupAt ws i) {r : Answer} {ws′ : List ℕ} where
+    pub draws : (f fs : Figure) → b ≡ false → fs ≡ figureAt ws i → f ≡ changed tag fs (held n) → Answers ws (newShape g p f) r ws′ → Draws g ws tag p (Shape i) (Integer n) r ws′
+    unfolding drawing remake changing _>>=_ goOn Act.held if_then_else_
+    draws f fs u t v a = record { equal = λ program ts. a .equal ts ∙ sym (shape-drawn program g tag p i n _ ∙ rw (refusal-is tag n k j e, h, ← s, u, v, t, toZ-ofZ j)) }
+
+    pub draws-group : b ≡ true → Answers ws (remakeGroup g p (changing tag (held n)) i) r ws′ → Draws g ws tag p (Shape i) (Integer n) r ws′
+    unfolding drawing remake _>>=_ goOn Act.held if_then_else_
+    draws-group u a = record { equal = λ program ts. (rw (toZ-ofZ j) at a) .equal ts ∙ sym (shape-drawn program g tag p i n _ ∙ rw (refusal-is tag n k j e, h, ← s, u)) }

@@ -3,7 +3,6 @@ use Prim.Native.Nat.{ℕ}
 use mathlib.Core.Path.{_≡_}
 use mathlib.Core.Bool.{Bool, cond, _&&_}
 use mathlib.Core.List.{List}
-use mathlib.Core.Option.{Option, none, some}
 use lib.IntN.{ℤ}
 use lib.Dec.{eqb}
 use Rattle.meaning.specs.Basics.{if_then_else_}
@@ -102,18 +101,13 @@ kindNumber Nothing = 4
 kindNumber (Table t) = 5
 kindNumber (Shape i) = 6
 
--- 0 unequal, 1 equal, 2 not to be compared
-unfoldable pub verdict : Option Bool → ℕ
-verdict none = 2
-verdict (some b) = cond b 1 0
-
--- of two kinds
+-- of two kinds: 0 unequal, 20 not to be compared
 abbrev pub unlike : ℕ → ℕ → ℕ
-unlike k l = cond (eqb k 4) 0 (cond (eqb l 4) 0 2)
+unlike k l = cond (eqb k 4) 0 (cond (eqb l 4) 0 20)
 
--- the slices are not changed
-pub record Compares (program ts ws : List ℕ) (tag p a b : ℕ) (answer : Answer) : Type 0 where
-  pub equal : (grants : List ℕ) → shown answer ts ws ≡ operateOn program grants tag p (unpacked a) (unpacked b) (raw ts ws)
+-- the texts are not changed
+pub record Compares (program grants ts ws : List ℕ) (tag p a b : ℕ) (answer : Answer) (ws′ : List ℕ) : Type 0 where
+  pub equal : shown answer ts ws′ ≡ operateOn program grants tag p (unpacked a) (unpacked b) (raw ts ws)
 
 -- ---- any values that are not both integers
 -- neither of them a destroyed shape

@@ -1,14 +1,16 @@
 // Equality of values.
+use crate::pairs;
 use machine::Answer;
 use machine::Figure;
 use machine::Value;
 ghost use mathlib.Core.Path.{_≡_};
 ghost use mathlib.Core.Bool.{cond};
 ghost use Rattle.machine.specs.Words.{unpacked};
-ghost use Rattle.machine.specs.Act.{raw};
+ghost use Rattle.machine.specs.Layout.{Room};
 ghost use Rattle.machine.specs.Shapes.{figureAt};
-ghost use Rattle.machine.specs.Operate.{sameFigure, equality};
-ghost use Rattle.operators.specs.Parts.{samePair, sameNumbers, kindNumber, verdict, unlike, Compares};
+ghost use Rattle.machine.specs.Operate.{sameFigure};
+ghost use Rattle.operators.specs.Parts.{samePair, sameNumbers, kindNumber, unlike, Compares};
+ghost use Rattle.operators.specs.Pairs.{Equates};
 
 // A value's kind; a word of no other kind holds nothing.
 fn kind(w: u64) -> u64
@@ -61,7 +63,7 @@ fn same_figure<'a>(program: &'a [u8], texts: &'a [u8], f: Figure, g: Figure) -> 
     texts::same_text(program, texts, f.text, g.text)
 }
 
-fn same_shape<'a>(program: &'a [u8], texts: &'a [u8], words: &[u64], i: u32, j: u32) -> bool
+pub fn same_shape<'a>(program: &'a [u8], texts: &'a [u8], words: &[u64], i: u32, j: u32) -> bool
     ensures { λ r. ⌜ r ≡ sameFigure (now (program .entry)) (now (texts .entry)) (figureAt (now (words .entry)) i) (figureAt (now (words .entry)) j) ⌝ }
 {
     let f = stores::shapes::figure_at(words, i);
@@ -79,12 +81,20 @@ fn unlike(k: u64, l: u64) -> u64
     if l == 4 {
         return 0;
     }
-    2
+    20
 }
 
-// Whether two values are equal: 0 no, 1 yes, 2 if they may not be compared.
-fn equality<'a>(program: &'a [u8], texts: &'a [u8], words: &[u64], a: u64, b: u64) -> u64
-    ensures { λ r. ⌜ r ≡ verdict (equality (now (program .entry)) (raw (now (texts .entry)) (now (words .entry))) (unpacked a) (unpacked b)) ⌝ }
+// Whether two values are equal: 0 no, 1 yes, 20 if they may not be compared, 79 if the steps run out.
+fn equality<'a>(
+    program: &'a [u8],
+    texts: &'a [u8],
+    words: &mut [u64],
+    grants: &[u64; 5],
+    a: u64,
+    b: u64,
+) -> u64
+    requires { ⌜ Room (now grants) (now words) ⌝ }
+    ensures { λ r. ⌜ Equates (now (program .entry)) (now (grants .entry)) (now (texts .entry)) (now (words .entry)) a b r (now (words .exit)) ⌝ }
 {
     let k = kind(a);
     let l = kind(b);
@@ -96,14 +106,13 @@ fn equality<'a>(program: &'a [u8], texts: &'a [u8], words: &[u64], a: u64, b: u6
         2 => number(texts::same_text(program, texts, values::handle_of(a), values::handle_of(b))),
         3 => number(a / 8 % 2 == b / 8 % 2),
         4 => 1,
-        6 => number(same_shape(
-            program,
-            texts,
-            words,
-            values::number_of(a),
-            values::number_of(b),
-        )),
-        _ => 2,
+        6 => {
+            let i = values::number_of(a);
+            let j = values::number_of(b);
+            let r = pairs::alike(program, texts, words, grants, i, j);
+            r
+        }
+        _ => 20,
     }
 }
 
@@ -111,16 +120,18 @@ fn equality<'a>(program: &'a [u8], texts: &'a [u8], words: &[u64], a: u64, b: u6
 pub fn equal<'a>(
     program: &'a [u8],
     texts: &'a [u8],
-    words: &[u64],
+    words: &mut [u64],
+    grants: &[u64; 5],
     p: u64,
     a: u64,
     b: u64,
 ) -> Answer
-    ensures { λ r. ⌜ Compares (now (program .entry)) (now (texts .entry)) (now (words .entry)) 24 p a b r ⌝ }
+    requires { ⌜ Room (now grants) (now words) ⌝ }
+    ensures { λ r. ⌜ Compares (now (program .entry)) (now (grants .entry)) (now (texts .entry)) (now (words .entry)) 24 p a b r (now (words .exit)) ⌝ }
 {
-    let found = equality(program, texts, words, a, b);
-    if found == 2 {
-        return Answer::Bad(20, p);
+    let found = equality(program, texts, words, grants, a, b);
+    if 1 < found {
+        return Answer::Bad(found, p);
     }
     Answer::Good(Value::Boolean(found == 1))
 }
@@ -129,16 +140,18 @@ pub fn equal<'a>(
 pub fn unequal<'a>(
     program: &'a [u8],
     texts: &'a [u8],
-    words: &[u64],
+    words: &mut [u64],
+    grants: &[u64; 5],
     p: u64,
     a: u64,
     b: u64,
 ) -> Answer
-    ensures { λ r. ⌜ Compares (now (program .entry)) (now (texts .entry)) (now (words .entry)) 25 p a b r ⌝ }
+    requires { ⌜ Room (now grants) (now words) ⌝ }
+    ensures { λ r. ⌜ Compares (now (program .entry)) (now (grants .entry)) (now (texts .entry)) (now (words .entry)) 25 p a b r (now (words .exit)) ⌝ }
 {
-    let found = equality(program, texts, words, a, b);
-    if found == 2 {
-        return Answer::Bad(20, p);
+    let found = equality(program, texts, words, grants, a, b);
+    if 1 < found {
+        return Answer::Bad(found, p);
     }
     Answer::Good(Value::Boolean(found == 0))
 }

@@ -1,4 +1,5 @@
 // Figures moved and scaled, and new shapes of them.
+use crate::remaking;
 use machine::Answer;
 use machine::Figure;
 ghost use mathlib.Core.Path.{_≡_};
@@ -121,7 +122,7 @@ fn refusal(tag: u64, n: i32) -> u64
 }
 
 // The figure that an operator makes of a figure and n.
-fn changed(tag: u64, f: Figure, n: i32) -> Figure
+pub fn changed(tag: u64, f: Figure, n: i32) -> Figure
     requires { ⌜ refusal tag n ≡ 0 ⌝ }
     ensures { λ r. ⌜ r ≡ changed tag f n ⌝ }
 {
@@ -143,6 +144,10 @@ pub fn on_shape(words: &mut [u64], grants: &[u64; 5], tag: u64, p: u64, i: u32, 
     let refused = refusal(tag, n);
     if refused != 0 {
         return Answer::Bad(refused, p);
+    }
+    if stores::shapes::is_group(words, i) {
+        let r = remaking::remake_group(words, grants, tag, n, p, i);
+        return r;
     }
     let f = changed(tag, stores::shapes::figure_at(words, i), n);
     let r = stores::shapes::new_shape(words, grants, p, f);

@@ -16,7 +16,7 @@ use Rattle.machine.specs.declared.Answer.the-variants.{Good, Bad}
 use Rattle.machine.specs.declared.Flow.{Flow}
 use Rattle.machine.specs.declared.Flow.the-variants.{Onward, Returned, Stopped}
 use Rattle.machine.specs.Opcodes.{tablePlace, startIn, parametersIn}
-use Rattle.machine.specs.Layout.{callsUsed, running, callsGranted, argumentPlace, Room}
+use Rattle.machine.specs.Layout.{callsUsed, running, loopUnit, callsGranted, argumentPlace, Room}
 use Rattle.machine.specs.Act.{raw, done, stop, Act, goOn, give, fail, refuse, load, store, spend, shown, passed, Answers, Passes, Pays, _>>=_}
 use Rattle.machine.specs.Stack.{argumentAt}
 use Rattle.machine.specs.Effects.{Flows, shownFlow, assigning}
@@ -84,7 +84,7 @@ module _ (g code : List ℕ) (callee top n p base : ℕ) (ws : List ℕ) (at d :
 
     module _ (o : k ≡ m) (ok₁ : Bool) (ws₁ : List ℕ) (h₁ : Passes ws 20 (suspend top n) ok₁ ws₁) where
       asked : (ts : List ℕ) → begin g code callee top n p base (raw ts ws)
-          ≡ goOn (passed ok₁ 20 p ts ws₁) (λ _. store running (callee + 1) >>= λ _. declareFrom code (startIn d) m p >>= λ _. spend callsUsed (callsGranted g) 1 81 p >>= λ _. assignFrom g code (startIn d) base m p)
+          ≡ goOn (passed ok₁ 20 p ts ws₁) (λ _. store running (callee + 1) >>= λ _. declareFrom code (startIn d) m p >>= λ _. spend callsUsed (callsGranted g) 1 81 p >>= λ _. store loopUnit 0 >>= λ _. assignFrom g code (startIn d) base m p)
       unfolding begin _>>=_ goOn refuse give
       asked ts = rw (word-is, ne-eqb _ _ z, ← e, ← f, eq-eqb k m o, ← h₁ .equal p ts)
 
@@ -93,7 +93,7 @@ module _ (g code : List ℕ) (callee top n p base : ℕ) (ws : List ℕ) (at d :
       no-room t = record { equal = λ ts. sym (rw (asked ts, not-true ok₁ t)) }
 
       module _ (t₁ : not ok₁ ≡ false) (a : ℕ) (b : a ≡ startIn d) (ok₂ : Bool) (ws₂ : List ℕ) (h₂ : Passes (set ws₁ running (callee + 1)) 60 (declareFrom code a m) ok₂ ws₂) where
-        suspended : (ts : List ℕ) → begin g code callee top n p base (raw ts ws) ≡ goOn (passed ok₂ 60 p ts ws₂) (λ _. spend callsUsed (callsGranted g) 1 81 p >>= λ _. assignFrom g code a base m p)
+        suspended : (ts : List ℕ) → begin g code callee top n p base (raw ts ws) ≡ goOn (passed ok₂ 60 p ts ws₂) (λ _. spend callsUsed (callsGranted g) 1 81 p >>= λ _. store loopUnit 0 >>= λ _. assignFrom g code a base m p)
         unfolding _>>=_ goOn store passed
         suspended ts = asked ts ∙ rw (not-false ok₁ t₁, ← b, ← h₂ .equal p ts)
 
@@ -102,7 +102,7 @@ module _ (g code : List ℕ) (callee top n p base : ℕ) (ws : List ℕ) (at d :
         name-twice t = record { equal = λ ts. sym (rw (suspended ts, not-true ok₂ t)) }
 
         module _ (t₂ : not ok₂ ≡ false) (ok₃ : Bool) (ws₃ : List ℕ) (h₃ : Pays ws₂ callsUsed (callsGranted g) 1 ok₃ ws₃) where
-          named : (ts : List ℕ) → begin g code callee top n p base (raw ts ws) ≡ goOn (passed ok₃ 81 p ts ws₃) (λ _. assignFrom g code a base m p)
+          named : (ts : List ℕ) → begin g code callee top n p base (raw ts ws) ≡ goOn (passed ok₃ 81 p ts ws₃) (λ _. store loopUnit 0 >>= λ _. assignFrom g code a base m p)
           unfolding _>>=_ goOn passed
           named ts = suspended ts ∙ rw (not-false ok₂ t₂, ← h₃ .equal 81 p ts)
 
@@ -110,7 +110,7 @@ module _ (g code : List ℕ) (callee top n p base : ℕ) (ws : List ℕ) (at d :
           unfolding answered _>>=_ goOn passed shown
           no-call t = record { equal = λ ts. sym (rw (named ts, not-true ok₃ t)) }
 
-          pub begun : (r : Answer) (ws₄ : List ℕ) → not ok₃ ≡ false → Answers ws₃ (answered (assignFrom g code a base m p)) r ws₄
+          pub begun : (r : Answer) (ws₄ : List ℕ) → not ok₃ ≡ false → Answers (set ws₃ loopUnit 0) (answered (assignFrom g code a base m p)) r ws₄
               → Answers ws (answered (begin g code callee top n p base)) r ws₄
-          unfolding answered _>>=_ goOn passed
+          unfolding answered _>>=_ goOn passed store
           begun r ws₄ t q = record { equal = λ ts. q .equal ts ∙ sym (rw (named ts, not-false ok₃ t)) }

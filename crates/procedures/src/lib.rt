@@ -69,6 +69,7 @@ pub fn begin(
     if !stores::counters::spend_one(words, counters::CALLS, limit) {
         return Answer::Bad(81, p);
     }
+    words[counters::LOOP_UNIT] = 0;
     let r = assign_parameters(words, code, grants, a, base, m, p);
     r
 }

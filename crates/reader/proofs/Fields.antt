@@ -15,9 +15,9 @@ use borrow.Author.Tests.{eqb-true, leb-true, leb-false, le-leb, lt-leb, lt-ltb, 
 use Rattle.meaning.specs.Basics.{bytes, sameText}
 use Rattle.meaning.specs.Token.{Token, aName, digits, aString}
 use Rattle.meaning.specs.Grammar.{afterLast, kindAt, textAt, startAt, is, numeral, positiveAt, negativeAt, signedAt}
-use Rattle.meaning.specs.Tree.{Operator, concatenate, add, subtract, multiply, divide, remainder, shiftRight, shiftLeft, equal, unequal, greater, less, Expression, number, string, nothing, truth, name, table, entry, operation, call, paren, Statement, declare, assign, update, when, while, return, block, act}
+use Rattle.meaning.specs.Tree.{Operator, concatenate, add, subtract, multiply, divide, remainder, shiftRight, shiftLeft, equal, unequal, greater, less, Expression, number, string, nothing, truth, name, table, entry, operation, call, paren, Statement, declare, assign, update, when, while, foreach, return, block, act}
 use Rattle.meaning.specs.Integer.{bits, wrap}
-use Rattle.meaning.specs.Library.{Library, drawLine, drawEllipse, drawBox, drawText, connectShapes, drawTextOnShape, xCoordinate, yCoordinate, destroyShape, clearScene, libraryOf}
+use Rattle.meaning.specs.Library.{Library, drawLine, drawEllipse, drawBox, drawText, connectShapes, drawTextOnShape, xCoordinate, yCoordinate, destroyShape, clearScene, drawGroup, libraryOf}
 use Rattle.tokens.specs.Words.{sizeOf, tokenIn}
 use Rattle.names.specs.Prepared.{home, numberOf, libraryNumber, procedureNumber, payload, prepared, preparedAll}
 use Rattle.machine.specs.Opcodes.{word, tagIn, sizeIn, numberIn, tagOf}
@@ -28,7 +28,7 @@ use Rattle.reader.specs.Sane.{Sane}
 use Rattle.reader.proofs.Homes.{both-true, home-within}
 
 -- ---- library numbers
-pub number-small : (l : Option Library) → numberOf l ≤ 10
+pub number-small : (l : Option Library) → numberOf l ≤ 11
 unfolding numberOf
 number-small (some drawLine) = omega arith
 number-small (some drawEllipse) = omega arith
@@ -40,17 +40,18 @@ number-small (some xCoordinate) = omega arith
 number-small (some yCoordinate) = omega arith
 number-small (some destroyShape) = omega arith
 number-small (some clearScene) = omega arith
+number-small (some drawGroup) = omega arith
 number-small none = omega arith
 
-pub library-small : (f : List ℕ) → libraryNumber f ≤ 10
+pub library-small : (f : List ℕ) → libraryNumber f ≤ 11
 unfolding libraryNumber
 library-small f = number-small (libraryOf f)
 
-main-small : (b : Bool) (n : ℕ) → n ≤ 10 → cond b 11 n ≤ 11
+main-small : (b : Bool) (n : ℕ) → n ≤ 11 → cond b 12 n ≤ 12
 main-small true n h = omega arith
 main-small false n h = omega arith
 
-pub procedure-small : (f : List ℕ) → procedureNumber f ≤ 11
+pub procedure-small : (f : List ℕ) → procedureNumber f ≤ 12
 unfolding procedureNumber
 procedure-small f = main-small (sameText f (bytes "main")) (libraryNumber f) (library-small f)
 
@@ -320,6 +321,7 @@ statement-headed (assign p x e) ts = has-head _ _ _ _ (omega arith) refl
 statement-headed (update p a b e) ts = has-head _ _ _ _ (omega arith) refl
 statement-headed (when p e s) ts = has-head _ _ _ _ (omega arith) refl
 statement-headed (while p e s) ts = has-head _ _ _ _ (omega arith) refl
+statement-headed (foreach p x e s) ts = has-head _ _ _ _ (omega arith) refl
 statement-headed (return p e) ts = has-head _ _ _ _ (omega arith) refl
 statement-headed (block p ss) ts = has-head _ _ _ _ (omega arith) refl
 statement-headed (act p e) ts = has-head _ _ _ _ (omega arith) refl

@@ -14,7 +14,7 @@ use Rattle.meaning.specs.Token.{Token, aName}
 use Rattle.meaning.specs.Tree.{Procedure}
 use Rattle.meaning.specs.Grammar.{Got, good, wrong, after, proceduresFrom, procedureNamed, withMain, procedures, placeOf, readOf}
 use Rattle.meaning.specs.Procedure.{isAmong, inLibrary, doubled}
-use Rattle.meaning.specs.Library.{Library, libraryOf, drawLine, drawEllipse, drawBox, drawText, connectShapes, drawTextOnShape, xCoordinate, yCoordinate, destroyShape, clearScene}
+use Rattle.meaning.specs.Library.{Library, libraryOf, drawLine, drawEllipse, drawBox, drawText, connectShapes, drawTextOnShape, xCoordinate, yCoordinate, destroyShape, clearScene, drawGroup}
 use Rattle.names.specs.Prepared.{numberOf, libraryNumber, procedureNumber}
 use Rattle.code.specs.Code.{slotOf, codeOfProcedure, codeOfProcedures, headWord, tabled, headNamed}
 use Rattle.statements.specs.Words.{Head, Gathered, mainWord, firstTwice, wordAt, gather, gatherAll, nothing, SeenWhole, whole, twiceAt, failedWhole, settled, writtenWhole}
@@ -26,15 +26,15 @@ use Rattle.reader.proofs.Trees.{Understood, UnderstoodAll, procedures-k
 use Rattle.reader.proofs.Tables.{head-positive, head-none, head-some}
 
 -- ---- numbers of procedures
-main-number : (x : List ℕ) → eqb (procedureNumber x) 11 ≡ sameText x (bytes "main")
+main-number : (x : List ℕ) → eqb (procedureNumber x) 12 ≡ sameText x (bytes "main")
 unfolding procedureNumber
 main-number x = go (sameText x (bytes "main"))
   where
-    go : (b : Bool) → eqb (cond b 11 (libraryNumber x)) 11 ≡ b
+    go : (b : Bool) → eqb (cond b 12 (libraryNumber x)) 12 ≡ b
     go true = refl
-    go false = ne-eqb (libraryNumber x) 11 (λ e. omega (arith, library-small x))
+    go false = ne-eqb (libraryNumber x) 12 (λ e. omega (arith, library-small x))
 
-number-library : (o : Option Library) → ltb (numberOf o) 10 ≡ inLibrary o
+number-library : (o : Option Library) → ltb (numberOf o) 11 ≡ inLibrary o
 unfolding numberOf inLibrary
 number-library none = refl
 number-library (some drawLine) = refl
@@ -47,16 +47,17 @@ number-library (some xCoordinate) = refl
 number-library (some yCoordinate) = refl
 number-library (some destroyShape) = refl
 number-library (some clearScene) = refl
+number-library (some drawGroup) = refl
 
 main-own : inLibrary (libraryOf (bytes "main")) ≡ false
 unfolding libraryOf inLibrary sameText if_then_else_
 main-own = refl
 
-library-number : (x : List ℕ) → ltb (procedureNumber x) 10 ≡ inLibrary (libraryOf x)
+library-number : (x : List ℕ) → ltb (procedureNumber x) 11 ≡ inLibrary (libraryOf x)
 unfolding procedureNumber libraryNumber
 library-number x = go (sameText x (bytes "main")) refl
   where
-    go : (b : Bool) → sameText x (bytes "main") ≡ b → ltb (cond b 11 (numberOf (libraryOf x))) 10 ≡ inLibrary (libraryOf x)
+    go : (b : Bool) → sameText x (bytes "main") ≡ b → ltb (cond b 12 (numberOf (libraryOf x))) 11 ≡ inLibrary (libraryOf x)
     go true e = rw (same-text x (bytes "main") e) (sym main-own)
     go false e = number-library (libraryOf x)
 

@@ -3,7 +3,7 @@ use Prim.Native.Nat.{ℕ}
 use mathlib.Core.Path.{_≡_}
 use mathlib.Core.List.{List, [], _∷_}
 use Rattle.meaning.specs.Token.{Token, aName, aString}
-use Rattle.meaning.specs.Tree.{Expression, number, string, nothing, truth, name, table, entry, operation, call, paren, Arguments, noArgument, argument, Statement, declare, assign, update, when, while, return, block, act, Statements, only, first}
+use Rattle.meaning.specs.Tree.{Expression, number, string, nothing, truth, name, table, entry, operation, call, paren, Arguments, noArgument, argument, Statement, declare, assign, update, when, while, foreach, return, block, act, Statements, only, first}
 use Rattle.meaning.specs.Grammar.{startAt}
 use Rattle.meaning.specs.Integer.{wrap}
 use Rattle.reader.proofs.Homes.{Occurs}
@@ -37,6 +37,7 @@ unfoldable mutual
   KnownStatement (update p a b e) ts = Placed ts p × Known a ts × Known b ts × Known e ts
   KnownStatement (when p e s) ts = Placed ts p × Known e ts × KnownStatement s ts
   KnownStatement (while p e s) ts = Placed ts p × Known e ts × KnownStatement s ts
+  KnownStatement (foreach p x e s) ts = Placed ts p × Occurs ts aName x × Known e ts × KnownStatement s ts
   KnownStatement (return p e) ts = Placed ts p × Known e ts
   KnownStatement (block p ss) ts = Placed ts p × KnownStatements ss ts
   KnownStatement (act p e) ts = Placed ts p × Known e ts

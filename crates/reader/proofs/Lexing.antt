@@ -9,29 +9,31 @@ use lib.Dec.{eqb, ltb}
 use borrow.Author.Tests.{eqb-true, ltb-true}
 use Rattle.meaning.specs.Basics.{bytes, if_then_else_, sameText, standsIn, span}
 use Rattle.meaning.specs.Byte.{isSpace, isDigit, isNamePart, isSign}
-use Rattle.meaning.specs.Token.{Token, aName, wordDef, wordVar, wordIf, wordWhile, wordReturn, wordNone, wordTrue, wordFalse, Front, found, nothing, wordKind, front, Lexed, lexed, stray, prepend, starting, scan, tokensOf}
+use Rattle.meaning.specs.Token.{Token, Front, found, nothing, wordKind, front, Lexed, lexed, stray, prepend, starting, scan, tokensOf}
 use Rattle.meaning.specs.Grammar.{afterLast}
 use Rattle.reader.specs.Sane.{Sane}
 use Rattle.reader.proofs.Homes.{both-true}
 
 -- ---- kinds
-one-of : (a b c d e f g h : Bool)
-    → cond a wordDef (cond b wordVar (cond c wordIf (cond d wordWhile (cond e wordReturn (cond f wordNone (cond g wordTrue (cond h wordFalse aName))))))) < 256
-one-of true b c d e f g h = omega arith
-one-of false true c d e f g h = omega arith
-one-of false false true d e f g h = omega arith
-one-of false false false true e f g h = omega arith
-one-of false false false false true f g h = omega arith
-one-of false false false false false true g h = omega arith
-one-of false false false false false false true h = omega arith
-one-of false false false false false false false true = omega arith
-one-of false false false false false false false false = omega arith
+either-small : (t : Bool) (x y : ℕ) → x < 256 → y < 256 → cond t x y < 256
+either-small true x y h k = h
+either-small false x y h k = k
 
 word-kind-small : (w : List ℕ) → wordKind w < 256
 unfolding wordKind
 word-kind-small w =
-    one-of (sameText w (bytes "def")) (sameText w (bytes "var")) (sameText w (bytes "if")) (sameText w (bytes "while"))
-    (sameText w (bytes "return")) (sameText w (bytes "none")) (sameText w (bytes "true")) (sameText w (bytes "false"))
+    either-small (sameText w (bytes "def")) 4 _ (omega arith)
+    (either-small (sameText w (bytes "var")) 5 _ (omega arith)
+    (either-small (sameText w (bytes "if")) 6 _ (omega arith)
+    (either-small (sameText w (bytes "while")) 7 _ (omega arith)
+    (either-small (sameText w (bytes "return")) 8 _ (omega arith)
+    (either-small (sameText w (bytes "none")) 9 _ (omega arith)
+    (either-small (sameText w (bytes "true")) 10 _ (omega arith)
+    (either-small (sameText w (bytes "false")) 11 _ (omega arith)
+    (either-small (sameText w (bytes "foreach")) 12 _ (omega arith)
+    (either-small (sameText w (bytes "in")) 13 _ (omega arith)
+    (either-small (sameText w (bytes "do")) 14 1 (omega arith)
+    (omega arith)))))))))))
 
 -- whether all of some bytes are below a number
 abbrev allBelow : ℕ → List ℕ → Bool

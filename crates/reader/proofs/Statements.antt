@@ -7,10 +7,10 @@ use lib.ListN.{length, length-append, length-map}
 use lib.Seq.{take-at}
 use borrow.Author.Tests.{eqb-true}
 use Rattle.meaning.specs.Basics.{if_then_else_}
-use Rattle.meaning.specs.Token.{Token, aName, wordDef, openParen, openBrace}
+use Rattle.meaning.specs.Token.{Token, aName, wordDef, wordIn, wordDo, openParen, openBrace}
 use Rattle.meaning.specs.Tree.{Expression, number, string, nothing, truth, name, table, entry, operation, call, paren, Statement, when, while}
 use Rattle.meaning.specs.Grammar.{textAt, startAt, expect, skip, Inside, ReadExpression, ReadStatement, Readers, declaration, returning, targetOf, assignment, simple, guarded}
-use Rattle.meaning.specs.Grammar.{statementsFrom, statements, statementIn, statement, parametersFrom, parameters, procedure, proceduresFrom}
+use Rattle.meaning.specs.Grammar.{beginsStatement, iteration, statementsFrom, statements, statementIn, statement, parametersFrom, parameters, procedure, proceduresFrom}
 use Rattle.names.specs.Prepared.{prepared}
 use Rattle.machine.specs.Opcodes.{tagWhen, tagWhile}
 use Rattle.code.specs.Code.{slotOf, codeOf, codeOfStatement, codeOfStatements, joined, headed}
@@ -18,7 +18,7 @@ use Rattle.expressions.specs.Words as Words
 use Rattle.statements.specs.Words as Bodies
 use Rattle.reader.specs.Coded.{wordsOf, mapGot, targetNumber, pieceOf, nameOf, headOf}
 use Rattle.reader.specs.Sane.{Sane}
-use Rattle.reader.proofs.Fields.{is-at, place-at, name-home-at, procedure-at}
+use Rattle.reader.proofs.Fields.{kind-at, is-at, positive-at, signed-at, place-at, name-home-at, procedure-at}
 use Rattle.reader.proofs.Mapped.{Maps, Levels, neither, both, maps-good, maps-wrong, maps-if, maps-after, maps-opening, after-after}
 use Rattle.reader.proofs.Yields.{yielded}
 use Rattle.reader.proofs.Trees.{Names, Spelling, expression-spelled}
@@ -95,6 +95,32 @@ module _ (ts : List Token) (sane : Sane ts) where
       maps-good (m e s))
       λ _. maps-wrong
 
+  name-maps : (i : ℕ) → Maps (slotOf ts) (Words.expect aName (wordsOf ts) i (Words.homeAt (wordsOf ts) i)) (expect aName ts i (textAt ts i))
+  unfolding expect Words.expect
+  name-maps i =
+      maps-if _ _ _ _ _ _ (is-at ts sane _ i) (λ e. maps-good (name-home-at ts sane i (eqb-true _ _ e))) (λ _. maps-wrong)
+
+  skip-maps : (k i : ℕ) → Maps (λ u. u) (Bodies.skip k (wordsOf ts) i) (skip k ts i)
+  skip-maps k i = expect-maps ts sane k i tt tt refl
+
+  begins-same : (i : ℕ) → Bodies.beginsStatement (wordsOf ts) i ≡ beginsStatement ts i
+  unfolding beginsStatement Bodies.beginsStatement
+  begins-same i = rw (positive-at ts sane i, signed-at ts sane i, kind-at ts sane i)
+
+  iteration-maps : {g : Words.ReadPiece} {f : ReadExpression} {x : Inside Bodies.Readers} {y : Inside Readers} → Reads ts g f → Levels (Both ts) x y
+      → (i : ℕ) → Maps (λ s. codeOfStatement s ts) (Bodies.iteration g x (wordsOf ts) i) (iteration f y ts i)
+  unfolding iteration Bodies.iteration pieceOf codeOfStatement
+  iteration-maps r l i =
+      maps-after {g = slotOf ts} _ _ (name-maps (i + 1)) λ x i₂ _.
+      maps-after _ _ (skip-maps wordIn i₂) λ _ i₃ _.
+      maps-after _ _ (r i₃) λ e j _.
+      maps-after _ _ (skip-maps wordDo j) λ _ m _.
+      maps-if _ _ _ _ _ _ (begins-same m)
+      (λ _. maps-opening _ _ _ l λ g f b.
+      maps-after _ _ (b .statements m) λ s n _.
+      maps-good (rw (place-at ts sane i)))
+      λ _. maps-wrong
+
   statements-from-maps : {g : Bodies.ReadCode} {f : ReadStatement} → Codes ts g f
       → (rounds i : ℕ) → Maps (λ ss. codeOfStatements ss ts) (Bodies.statementsFrom rounds g (wordsOf ts) i) (statementsFrom rounds f ts i)
   unfolding statementsFrom Bodies.statementsFrom codeOfStatements
@@ -118,6 +144,7 @@ module _ (ts : List Token) (sane : Sane ts) where
       (λ _. rw (place-at ts sane i) (guarded-maps l tagWhen (startAt ts i) (when (startAt ts i)) (λ _ _. refl) (i + 1)))
       λ _. maps-if _ _ _ _ _ _ (is-at ts sane _ i)
       (λ _. rw (place-at ts sane i) (guarded-maps l tagWhile (startAt ts i) (while (startAt ts i)) (λ _ _. refl) (i + 1)))
+      λ _. maps-if _ _ _ _ _ _ (is-at ts sane _ i) (λ _. iteration-maps r l i)
       λ _. maps-if _ _ _ _ _ _ (is-at ts sane _ i) (λ _. returning-maps r i)
       λ _. maps-if _ _ _ _ _ _ (is-at ts sane _ i)
       (λ _. maps-opening _ _ _ l λ g f b. maps-after _ _ (statements-maps (b .statements) (i + 1)) λ ss j _.
@@ -132,11 +159,6 @@ module _ (ts : List Token) (sane : Sane ts) where
       (both (record { expressions = expression-maps ts sane left; statements = statement-maps left })) i
 
   -- ---- procedures
-  name-maps : (i : ℕ) → Maps (slotOf ts) (Words.expect aName (wordsOf ts) i (Words.homeAt (wordsOf ts) i)) (expect aName ts i (textAt ts i))
-  unfolding expect Words.expect
-  name-maps i =
-      maps-if _ _ _ _ _ _ (is-at ts sane _ i) (λ e. maps-good (name-home-at ts sane i (eqb-true _ _ e))) (λ _. maps-wrong)
-
   parameters-from-maps : (rounds i : ℕ) → Maps (map (slotOf ts)) (Bodies.parametersFrom rounds (wordsOf ts) i) (parametersFrom rounds ts i)
   unfolding parametersFrom Bodies.parametersFrom
   parameters-from-maps zero i = maps-wrong
@@ -158,9 +180,6 @@ module _ (ts : List Token) (sane : Sane ts) where
       maps-if _ _ _ _ _ _ (is-at ts sane _ i)
       (λ e. maps-good (rw (procedure-at ts sane i (eqb-true _ _ e), name-home-at ts sane i (eqb-true _ _ e))))
       (λ _. maps-wrong)
-
-  skip-maps : (k i : ℕ) → Maps (λ u. u) (Bodies.skip k (wordsOf ts) i) (skip k ts i)
-  skip-maps k i = expect-maps ts sane k i tt tt refl
 
   pub procedure-maps : (i : ℕ) → Maps (headOf ts) (Bodies.procedure (wordsOf ts) i) (procedure ts i)
   unfolding procedure Bodies.procedure Bodies.body headOf

@@ -14,7 +14,7 @@ use Rattle.meaning.specs.Basics.{bytes}
 use Rattle.meaning.specs.Token.{Token, ending, aName, digits, aString}
 use Rattle.meaning.specs.Tree.{Operator, Expression, number, string, nothing, truth, name, table, entry, operation, call, paren, Arguments, Statement, when, while, Statements, Procedure, Program}
 use Rattle.meaning.specs.Grammar.{good, kindAt, textAt, startAt, is, expect, numeral, positiveAt, negativeAt, operatorOf, Inside, ReadExpression, argumentsFrom, arguments, primary, operand}
-use Rattle.meaning.specs.Grammar.{operated, expressionIn, expression, ReadStatement, Readers, declaration, returning, targetOf, assignment, simple, guarded, statementsFrom, statements}
+use Rattle.meaning.specs.Grammar.{operated, expressionIn, expression, ReadStatement, Readers, declaration, returning, targetOf, assignment, simple, guarded, iteration, statementsFrom, statements}
 use Rattle.meaning.specs.Grammar.{statementIn, statement, parametersFrom, parameters, procedure, proceduresFrom, procedureNamed, withMain, procedures}
 use Rattle.meaning.specs.Integer.{wrap}
 use Rattle.code.specs.Code.{slotOf, codeOf, codeOfAll, codeOfStatement, codeOfStatements, codeOfProcedure, codeOfProcedures}
@@ -248,6 +248,22 @@ module _ (ts : List Token) where
       yields (record { spans = rw (size e s, same e s) (omega arith); known = makes e s (p .known) (q .known) }))
       λ _. fails
 
+  iteration-stated : {f : ReadExpression} {x : Inside Readers} → Spelling ts f → Inner (Both ts) x → (i : ℕ) → Yields (Stated ts i) (iteration f x ts i)
+  unfolding iteration codeOfStatement KnownStatement declaredIn
+  iteration-stated s l i =
+      yields-after {Q = λ x j. Occurs ts aName x × (j ≡ i + 1 + 1)} _
+      (yields-expect aName (i + 1) _ (omega arith) λ e _. (record { index = i + 1; kind = e; text = refl }, refl)) λ x i₂ o.
+      yields-after {Q = λ _ j. j ≡ i₂ + 1} _ (yields-expect _ i₂ _ (omega arith) λ _ _. refl) λ _ i₃ e₃.
+      yields-after _ (s i₃) λ e j p.
+      yields-after {Q = λ _ m. m ≡ j + 1} _ (yields-expect _ j _ (omega arith) λ _ _. refl) λ _ m next.
+      yields-if _ _ _
+      (λ _. yields-opening _ _ l λ f b.
+      yields-after _ (b .statements m) λ t n q.
+      let p' = p .spans in
+      let q' = q .spans in
+      yields (record { spans = simp length-append (omega (arith, o .1)); known = (placed i, o .0, p .known, q .known) }))
+      λ _. fails
+
   statements-from-stated : {f : ReadStatement} → Stating ts f → (rounds i : ℕ) → Yields (StatedAll ts i) (statementsFrom rounds f ts i)
   unfolding statementsFrom codeOfStatements KnownStatements declaredBy
   statements-from-stated s zero i = fails
@@ -271,6 +287,7 @@ module _ (ts : List Token) where
       (λ _. guarded-stated l (when (startAt ts i)) i (λ e s. simp length-append (omega arith)) (λ e s. refl) λ e s p q. (placed i, p, q))
       λ _. yields-if _ _ _
       (λ _. guarded-stated l (while (startAt ts i)) i (λ e s. simp length-append (omega arith)) (λ e s. refl) λ e s p q. (placed i, p, q))
+      λ _. yields-if _ _ _ (λ _. iteration-stated s l i)
       λ _. yields-if _ _ _ (λ _. returning-stated s i)
       λ _. yields-if _ _ _
       (λ _. yields-opening _ _ l λ f b. yields-after _ (statements-stated (b .statements) (i + 1)) λ ss j p.
@@ -303,7 +320,7 @@ module _ (ts : List Token) where
   parameters-named i =
       yields-if _ _ _ (λ e. yields (record { spans = omega (arith, is-there ts i _ (omega arith) e); known = tt })) (λ _. parameters-from-named (suc (length ts - i)) i)
 
-  -- of a procedure that was read: its names are known, and each `var` has two tokens more than words, each parameter two tokens
+  -- of a procedure that was read: its names are known, and each `var` and each `foreach` has two tokens more than words, each parameter two tokens
   pub record Understood (f : Procedure) : Type 0 where
     pub name : Occurs ts aName (f .name)
     pub parameters : KnownNames (f .parameters) ts

@@ -1,8 +1,8 @@
--- The names that a body declares, one for each `var`.
+-- The names that a body declares, one for each `var` and each `foreach`.
 use Prim.Native.Nat.{ℕ}
 use mathlib.Core.List.{List, [], _∷_, _++_}
 use lib.ListN.{length}
-use Rattle.meaning.specs.Tree.{Statement, declare, assign, update, when, while, return, block, act, Statements, only, first}
+use Rattle.meaning.specs.Tree.{Statement, declare, assign, update, when, while, foreach, return, block, act, Statements, only, first}
 
 unfoldable mutual
   pub declaredIn : Statement → List (List ℕ)
@@ -11,6 +11,7 @@ unfoldable mutual
   declaredIn (update p a b e) = []
   declaredIn (when p e s) = declaredIn s
   declaredIn (while p e s) = declaredIn s
+  declaredIn (foreach p x e s) = x ∷ declaredIn s
   declaredIn (return p e) = []
   declaredIn (block p ss) = declaredBy ss
   declaredIn (act p e) = []

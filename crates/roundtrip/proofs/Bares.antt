@@ -1,7 +1,7 @@
 -- The text of a tree is that of the tree without parentheses and places.
 use mathlib.Core.Path.{_≡_, refl, ap, sym, _∙_}
 use mathlib.Core.List.{List, [], _∷_, map}
-use Rattle.meaning.specs.Tree.{Expression, number, string, nothing, truth, name, table, entry, operation, call, paren, Arguments, noArgument, argument, Statement, declare, assign, update, when, while, return, block, act, Statements, only, first, Procedure, Program}
+use Rattle.meaning.specs.Tree.{Expression, number, string, nothing, truth, name, table, entry, operation, call, paren, Arguments, noArgument, argument, Statement, declare, assign, update, when, while, foreach, return, block, act, Statements, only, first, Procedure, Program}
 use Rattle.canonical.specs.Bare.{bare, bareArguments, bareStatement, bareStatements, bareProcedure, bareProgram}
 use Rattle.canonical.specs.Text.{isOperation, isEntry, expressionText, argumentTexts, statementText, statementsText, procedureText, proceduresText, programText}
 
@@ -61,6 +61,7 @@ mutual
   statement-text (update p a b e) = rw (expression-text a, expression-text b, expression-text e, bare-operation a, bare-entry a, bare-operation b, bare-entry b)
   statement-text (when p e s) = rw (expression-text e, statement-text s)
   statement-text (while p e s) = rw (expression-text e, statement-text s)
+  statement-text (foreach p x e s) = rw (expression-text e, statement-text s)
   statement-text (return p e) = rw (expression-text e)
   statement-text (block p ss) = rw (statements-text ss)
   statement-text (act p e) = rw (expression-text e)

@@ -1,10 +1,11 @@
 -- The text of a tree lexes to its words.
-use Prim.Native.Nat.{ℕ, suc}
+use Prim.Native.Nat.{ℕ, suc, _+_, _-_}
 use native.Mathlib.Omega.{arith}
 use mathlib.Core.Path.{_≡_, refl, ap, sym, _∙_, subst}
 use mathlib.Core.Bool.{Bool, true, false, not, _&&_, _||_, cond, and-eq-true-iff}
 use mathlib.Core.List.{List, [], _∷_, _++_}
-use lib.ListN.{length, getD}
+use lib.ListN.{length, getD, length-append}
+use lib.Seq.{getD-append-add}
 use lib.IntN.{ℤ, pos, negsuc}
 use lib.Dec.{eqb}
 use borrow.Author.Tests.{eqb-true, not-true}
@@ -13,12 +14,13 @@ use Rattle.meaning.specs.Byte.{isSpace, isLetter, isDigit, isNamePart, isQuote,
 use Rattle.meaning.specs.Token.{found, nothing, wordKind, isDouble, front}
 use Rattle.meaning.specs.Grammar.{numeral, numeralFrom}
 use Rattle.meaning.specs.Picture.{digitsOf, decimal}
-use Rattle.meaning.specs.Tree.{Operator, concatenate, add, subtract, multiply, divide, remainder, shiftRight, shiftLeft, equal, unequal, greater, less, Expression, number, string, nothing, truth, name, table, entry, operation, call, paren, Arguments, noArgument, argument, Statement, declare, assign, update, when, while, return, block, act, Statements, only, first, Procedure}
+use Rattle.meaning.specs.Tree.{Operator, concatenate, add, subtract, multiply, divide, remainder, shiftRight, shiftLeft, equal, unequal, greater, less, Expression, number, string, nothing, truth, name, table, entry, operation, call, paren, Arguments, noArgument, argument, Statement, declare, assign, update, when, while, foreach, return, block, act, Statements, only, first, Procedure}
 use Rattle.meaning.proofs.DecimalLaws.{AllDigits, digits-digitsOf, numeral-digitsOf, digitsOf-zero}
-use Rattle.canonical.specs.Text.{operatorText, isOperation, isEntry, enclosedIf, commaSeparated, expressionText, argumentTexts, apart, statementText, statementsText, procedureText, proceduresText}
+use Rattle.canonical.specs.Text.{operatorText, isOperation, isEntry, enclosedIf, commaSeparated, expressionText, argumentTexts, apart, between, statementText, statementsText, procedureText, proceduresText}
 use Rattle.roundtrip.proofs.Words.{Word, sign, aWord, joined, operatorKind, numberWords, enclosedWords, words, argumentWords, statementWords, statementsWords, nameWords, procedureWords, proceduresWords}
 use Rattle.roundtrip.proofs.Scanning.{AllPass, Lone, not-double, scan-found}
-use Rattle.roundtrip.proofs.Sound.{Spelled, Sound, SoundAll, SoundStatement, SoundStatements, NamedAll, SoundProcedure, SoundProcedures}
+use Rattle.roundtrip.proofs.Weights.{part-digit}
+use Rattle.roundtrip.proofs.Sound.{Spelled, Named, Sound, SoundAll, SoundStatement, SoundStatements, NamedAll, SoundProcedure, SoundProcedures}
 use Rattle.roundtrip.proofs.Lexes.{Lexes, lexes-append, lexes-nothing, lexes-space, lexes-then, lexes-one, lexes-word, lexes-name, lexes-digits, lexes-string, lexes-sign, lexes-mark, lexes-negative}
 
 -- all classes of bytes at once
@@ -29,6 +31,17 @@ classes = tt
 -- r goes on behind a name or digits
 abbrev pub Stops : List ℕ → Type 0
 Stops r = isNamePart (getD r 0 0) ≡ false
+
+-- the last byte
+abbrev pub lastOf : List ℕ → ℕ
+lastOf t = getD t (length t - 1) 0
+
+-- no two letters or digits meet where r stands behind t
+pub record Parts (t r : List ℕ) : Type 0 where
+  pub so : isNamePart (lastOf t) ≡ true → Stops r
+
+pub stopped : {t r : List ℕ} → Stops r → Parts t r
+stopped s = record { so = λ _. s }
 
 -- no sign of two bytes ends with the first byte
 abbrev pub BeginsSo : List ℕ → Type 0
@@ -156,9 +169,13 @@ begins-enclosed true t h = record { so = (refl, refl, refl, refl) }
 begins-enclosed false t h = h
 
 -- a constant
+begins-digits : (n : ℕ) → Begins (digitsOf n)
+unfolding signs
+begins-digits n = begins-by isDigit (digitsOf n) (first-digit n) refl refl refl refl refl
+
 begins-decimal : (z : ℤ) → Begins (decimal z)
-unfolding decimal signs
-begins-decimal (pos n) = begins-by isDigit (digitsOf n) (first-digit n) refl refl refl refl refl
+unfolding decimal
+begins-decimal (pos n) = begins-digits n
 begins-decimal (negsuc n) = record { so = (refl, refl, refl, refl) }
 
 -- a word
@@ -183,11 +200,47 @@ begins-expression (operation o a b) h =
 begins-expression (call f es) h = begins-append _ _ (begins-append _ _ (begins-append _ _ (begins-spelled f (h .0 .spelled))))
 begins-expression (paren e) h = begins-expression e h
 
+-- ---- how texts end
+-- behind another text
+pub last-behind : (t : List ℕ) (c : ℕ) (u : List ℕ) → lastOf (t ++ c ∷ u) ≡ lastOf (c ∷ u)
+last-behind t c u =
+    let n : length (t ++ c ∷ u) - 1 ≡ length t + (length (c ∷ u) - 1) = omega (arith, length-append t (c ∷ u)) in
+    ap (λ (m : ℕ). getD (t ++ c ∷ u) m 0) n ∙ getD-append-add t (c ∷ u) (length (c ∷ u) - 1) 0
+
+last-append : (t u : List ℕ) → Begins u → lastOf (t ++ u) ≡ lastOf u
+last-append t [] b = absurd (b .so)
+last-append t (c ∷ u) b = last-behind t c u
+
+parts-append : (t u r : List ℕ) → Begins u → Parts (t ++ u) r → Parts u r
+parts-append t u r b h = record { so = λ k. h .so (ap isNamePart (last-append t u b) ∙ k) }
+
+-- a text whose bytes all pass a test
+last-passes : (f : ℕ → Bool) (t : List ℕ) → Begins t → AllPass f t → f (lastOf t) ≡ true
+last-passes f [] b h = absurd (b .so)
+last-passes f (c ∷ t) b h = by c t h
+  where
+    by : (c : ℕ) (t : List ℕ) → AllPass f (c ∷ t) → f (lastOf (c ∷ t)) ≡ true
+    by c [] h = h .0
+    by c (d ∷ t) h = ap f (last-behind (c ∷ []) d t) ∙ by d t (h .1)
+
+-- a word
+pub last-spelled : (x : List ℕ) → Spelled x → isNamePart (lastOf x) ≡ true
+last-spelled x h = last-passes isNamePart x (begins-spelled x h) (h .parts)
+
+-- a constant
+last-digits : (n : ℕ) → isNamePart (lastOf (digitsOf n)) ≡ true
+last-digits n = part-digit (lastOf (digitsOf n)) (last-passes isDigit (digitsOf n) (begins-digits n) (all-digits (digitsOf n) (digits-digitsOf n)))
+
+pub last-decimal : (z : ℤ) → isNamePart (lastOf (decimal z)) ≡ true
+unfolding decimal
+last-decimal (pos n) = last-digits n
+last-decimal (negsuc n) = ap isNamePart (last-append (45 ∷ []) (digitsOf (suc n)) (begins-digits (suc n))) ∙ last-digits (suc n)
+
 -- ---- expressions
 -- in parentheses or not
-lexes-enclosed : (b : Bool) {ws : List Word} {t r : List ℕ} → Stops r → ((r : List ℕ) → Stops r → Lexes ws t r) → Lexes (enclosedWords b ws) (enclosedIf b t) r
+lexes-enclosed : (b : Bool) {ws : List Word} {t r : List ℕ} → Parts (enclosedIf b t) r → ((r : List ℕ) → Parts t r → Lexes ws t r) → Lexes (enclosedWords b ws) (enclosedIf b t) r
 unfolding enclosedWords enclosedIf signs
-lexes-enclosed true {ws} {t} {r} s h = lexes-append (lexes-append (mark 40 (t ++ 41 ∷ r) refl refl) (h (41 ∷ r) refl)) (mark 41 r refl refl)
+lexes-enclosed true {ws} {t} {r} s h = lexes-append (lexes-append (mark 40 (t ++ 41 ∷ r) refl refl) (h (41 ∷ r) (stopped refl))) (mark 41 r refl refl)
 lexes-enclosed false {ws} {t} {r} s h = h r s
 
 -- a constant
@@ -223,23 +276,28 @@ lexes-commas (w ∷ v ∷ ws) (t ∷ u ∷ ts) r s h =
 mutual
   unfolding words expressionText Sound signs wordKind sameText
 
-  pub lexes-expression : (e : Expression) → Sound e → (r : List ℕ) → Stops r → Lexes (words e) (expressionText e) r
-  lexes-expression (number z) h r s = lexes-decimal z r s
+  pub lexes-expression : (e : Expression) → Sound e → (r : List ℕ) → Parts (expressionText e) r → Lexes (words e) (expressionText e) r
+  lexes-expression (number z) h r s = lexes-decimal z r (s .so (last-decimal z))
   lexes-expression (string t) h r s = lexes-string t r h
-  lexes-expression nothing h r s = reserved 9 (bytes "none") r refl refl (refl, (refl, (refl, (refl, tt)))) s
-  lexes-expression (truth true) h r s = reserved 10 (bytes "true") r refl refl (refl, (refl, (refl, (refl, tt)))) s
-  lexes-expression (truth false) h r s = reserved 11 (bytes "false") r refl refl (refl, (refl, (refl, (refl, (refl, tt))))) s
-  lexes-expression (name x) h r s = lexes-name x r h s
+  lexes-expression nothing h r s = reserved 9 (bytes "none") r refl refl (refl, (refl, (refl, (refl, tt)))) (s .so refl)
+  lexes-expression (truth true) h r s = reserved 10 (bytes "true") r refl refl (refl, (refl, (refl, (refl, tt)))) (s .so refl)
+  lexes-expression (truth false) h r s = reserved 11 (bytes "false") r refl refl (refl, (refl, (refl, (refl, (refl, tt))))) (s .so refl)
+  lexes-expression (name x) h r s = lexes-name x r h (s .so (last-spelled x (h .spelled)))
   lexes-expression (table e) h r s =
-      lexes-append (lexes-append (mark 91 (expressionText e ++ 93 ∷ r) refl refl) (lexes-expression e h (93 ∷ r) refl)) (mark 93 r refl refl)
+      lexes-append (lexes-append (mark 91 (expressionText e ++ 93 ∷ r) refl refl) (lexes-expression e h (93 ∷ r) (stopped refl))) (mark 93 r refl refl)
   lexes-expression (entry a b) h r s =
-      lexes-append (lexes-append (lexes-enclosed (isOperation a || isEntry a) refl (λ q k. lexes-expression a (h .0) q k))
-      (mark 46 (enclosedIf (isOperation b || isEntry b) (expressionText b) ++ r) refl refl)) (lexes-enclosed (isOperation b || isEntry b) s (λ q k. lexes-expression b (h .1) q k))
+      let t = enclosedIf (isOperation a || isEntry a) (expressionText a) in
+      let u = enclosedIf (isOperation b || isEntry b) (expressionText b) in
+      let k = begins-enclosed (isOperation b || isEntry b) (expressionText b) (begins-expression b (h .1)) in
+      lexes-append (lexes-append (lexes-enclosed (isOperation a || isEntry a) (stopped refl) (λ q k. lexes-expression a (h .0) q k)) (mark 46 (u ++ r) refl refl))
+      (lexes-enclosed (isOperation b || isEntry b) (parts-append (t ++ bytes ".") u r k s) (λ q k. lexes-expression b (h .1) q k))
   lexes-expression (operation o a b) h r s =
-      lexes-append (lexes-append (lexes-enclosed (isOperation a) (operator-stops o (enclosedIf (isOperation b) (expressionText b) ++ r)) (λ q k. lexes-expression a (h .0) q k))
-      (lexes-operator o (enclosedIf (isOperation b) (expressionText b) ++ r)
-      (begins-append _ r (begins-enclosed (isOperation b) (expressionText b) (begins-expression b (h .1))))))
-      (lexes-enclosed (isOperation b) s (λ q k. lexes-expression b (h .1) q k))
+      let t = enclosedIf (isOperation a) (expressionText a) in
+      let u = enclosedIf (isOperation b) (expressionText b) in
+      let k = begins-enclosed (isOperation b) (expressionText b) (begins-expression b (h .1)) in
+      lexes-append (lexes-append (lexes-enclosed (isOperation a) (stopped (operator-stops o (u ++ r))) (λ q k. lexes-expression a (h .0) q k))
+      (lexes-operator o (u ++ r) (begins-append _ r k)))
+      (lexes-enclosed (isOperation b) (parts-append (t ++ operatorText o) u r k s) (λ q k. lexes-expression b (h .1) q k))
   lexes-expression (call f es) h r s =
       lexes-append (lexes-append (lexes-append (lexes-name f (40 ∷ (commaSeparated (argumentTexts es) ++ 41 ∷ r)) (h .0) refl)
       (mark 40 (commaSeparated (argumentTexts es) ++ 41 ∷ r) refl refl))
@@ -248,7 +306,7 @@ mutual
 
   lexes-arguments : (es : Arguments) → SoundAll es → LexesAll (argumentWords es) (argumentTexts es)
   lexes-arguments noArgument h = tt
-  lexes-arguments (argument e es) h = (λ r s. lexes-expression e (h .0) r s, lexes-arguments es (h .1))
+  lexes-arguments (argument e es) h = (λ r s. lexes-expression e (h .0) r (stopped s), lexes-arguments es (h .1))
 
 -- ---- statements
 -- behind a word
@@ -270,6 +328,25 @@ lexes-apart {ws} {t} {r} h = by (isNamePart (getD t 0 0))
     by true = lexes-append (lexes-space 32 (t ++ r) refl) h
     by false = h
 
+-- a space behind a word or not
+abbrev spaced : List ℕ → List ℕ
+spaced t = cond (isNamePart (lastOf t)) (t ++ 32 ∷ []) t
+
+begins-spaced : (t : List ℕ) → Begins t → Begins (spaced t)
+begins-spaced t h = by (isNamePart (lastOf t))
+  where
+    by : (b : Bool) → Begins (cond b (t ++ 32 ∷ []) t)
+    by true = begins-append t (32 ∷ []) h
+    by false = h
+
+lexes-spaced : {ws : List Word} {t r : List ℕ} → ((r : List ℕ) → Parts t r → Lexes ws t r) → Lexes ws (spaced t) r
+unfolding signs
+lexes-spaced {ws} {t} {r} h = by (isNamePart (lastOf t)) refl
+  where
+    by : (b : Bool) → isNamePart (lastOf t) ≡ b → Lexes ws (cond b (t ++ 32 ∷ []) t) r
+    by true e = lexes-then (h (32 ∷ r) (stopped refl)) (lexes-space 32 r refl)
+    by false e = h r (record { so = λ k. let w : _≡_ {A = Bool} true false = cc in let v : _≡_ {A = ℕ} 0 1 = cc in absurd (omega arith) })
+
 -- a sign and a linefeed
 mark-line : (b : ℕ) (r : List ℕ) → loneSign b ≡ true → standsIn b (bytes "+><=") ≡ false → Lexes (sign b) (b ∷ 10 ∷ []) r
 unfolding isSpace
@@ -282,6 +359,24 @@ unfolding signs
 lexes-guard k w {t} {r} {vs} h e =
     lexes-append (lexes-append (lexes-append (h (40 ∷ (t ++ 41 ∷ 10 ∷ r)) refl) (mark 40 (t ++ 41 ∷ 10 ∷ r) refl refl)) e) (mark-line 41 r refl refl)
 
+-- foreach, and what it goes through
+lexes-foreach : (x : List ℕ) (e : Expression) (r : List ℕ) → Named x → Sound e →
+    Lexes (aWord 12 (bytes "foreach") ++ aWord 1 x ++ aWord 13 (bytes "in") ++ words e ++ aWord 14 (bytes "do"))
+    (bytes "foreach" ++ apart x ++ bytes " in" ++ between (expressionText e) ++ bytes "do\n") r
+unfolding signs wordKind sameText between
+lexes-foreach x e r h k =
+    let t = expressionText e in
+    let u = spaced t in
+    let p : List ℕ = bytes "do\n" ++ r in
+    let q : List ℕ = bytes " in" ++ (apart u ++ p) in
+    lexes-append (lexes-append (lexes-append (lexes-append
+    (reserved 12 (bytes "foreach") (apart x ++ q) refl refl (refl, (refl, (refl, (refl, (refl, (refl, (refl, tt))))))) (apart-stops x q (begins-spelled x (h .spelled))))
+    (lexes-apart (lexes-name x q h refl)))
+    (lexes-append (lexes-space 32 (bytes "in" ++ (apart u ++ p)) refl)
+    (reserved 13 (bytes "in") (apart u ++ p) refl refl (refl, (refl, tt)) (apart-stops u p (begins-spaced t (begins-expression e k))))))
+    (lexes-apart (lexes-spaced (λ r s. lexes-expression e k r s))))
+    (lexes-then (reserved 14 (bytes "do") (10 ∷ r) refl refl (refl, (refl, tt)) refl) (lexes-space 10 r refl))
+
 mutual
   unfolding statementWords statementText SoundStatement words expressionText Sound signs wordKind sameText
 
@@ -291,25 +386,26 @@ mutual
       (lexes-apart (lexes-name x (59 ∷ r) h refl))) (mark 59 r refl refl)
   lexes-statement (assign p x e) h r =
       lexes-append (lexes-append (lexes-append (lexes-name x (61 ∷ (expressionText e ++ 59 ∷ r)) (h .0) refl)
-      (lexes-becomes (expressionText e ++ 59 ∷ r) (begins-append _ (59 ∷ r) (begins-expression e (h .1))))) (lexes-expression e (h .1) (59 ∷ r) refl)) (mark 59 r refl refl)
+      (lexes-becomes (expressionText e ++ 59 ∷ r) (begins-append _ (59 ∷ r) (begins-expression e (h .1))))) (lexes-expression e (h .1) (59 ∷ r) (stopped refl))) (mark 59 r refl refl)
   lexes-statement (update p a b e) h r =
-      lexes-append (lexes-append (lexes-append (lexes-expression (entry a b) (h .0, h .1) (61 ∷ (expressionText e ++ 59 ∷ r)) refl)
-      (lexes-becomes (expressionText e ++ 59 ∷ r) (begins-append _ (59 ∷ r) (begins-expression e (h .2))))) (lexes-expression e (h .2) (59 ∷ r) refl)) (mark 59 r refl refl)
+      lexes-append (lexes-append (lexes-append (lexes-expression (entry a b) (h .0, h .1) (61 ∷ (expressionText e ++ 59 ∷ r)) (stopped refl))
+      (lexes-becomes (expressionText e ++ 59 ∷ r) (begins-append _ (59 ∷ r) (begins-expression e (h .2))))) (lexes-expression e (h .2) (59 ∷ r) (stopped refl))) (mark 59 r refl refl)
   lexes-statement (when p e s) h r =
-      lexes-append (lexes-guard 6 (bytes "if") (λ q. reserved 6 (bytes "if") q refl refl (refl, (refl, tt))) (lexes-expression e (h .0) (41 ∷ 10 ∷ (statementText s ++ r)) refl))
+      lexes-append (lexes-guard 6 (bytes "if") (λ q. reserved 6 (bytes "if") q refl refl (refl, (refl, tt))) (lexes-expression e (h .0) (41 ∷ 10 ∷ (statementText s ++ r)) (stopped refl)))
       (lexes-statement s (h .1) r)
   lexes-statement (while p e s) h r =
       lexes-append (lexes-guard 7 (bytes "while") (λ q. reserved 7 (bytes "while") q refl refl (refl, (refl, (refl, (refl, (refl, tt))))))
-      (lexes-expression e (h .0) (41 ∷ 10 ∷ (statementText s ++ r)) refl))
+      (lexes-expression e (h .0) (41 ∷ 10 ∷ (statementText s ++ r)) (stopped refl)))
       (lexes-statement s (h .1) r)
+  lexes-statement (foreach p x e s) h r = lexes-append (lexes-foreach x e (statementText s ++ r) (h .0) (h .1)) (lexes-statement s (h .2) r)
   lexes-statement (return p e) h r =
       lexes-append (lexes-append (reserved 8 (bytes "return") (apart (expressionText e) ++ 59 ∷ r) refl refl (refl, (refl, (refl, (refl, (refl, (refl, tt))))))
       (apart-stops (expressionText e) (59 ∷ r) (begins-expression e h)))
-      (lexes-apart (lexes-expression e h (59 ∷ r) refl))) (mark 59 r refl refl)
+      (lexes-apart (lexes-expression e h (59 ∷ r) (stopped refl)))) (mark 59 r refl refl)
   lexes-statement (block p ss) h r =
       lexes-append (lexes-append (mark-line 123 (statementsText ss ++ 10 ∷ 125 ∷ r) refl refl) (lexes-statements ss h (10 ∷ 125 ∷ r)))
       (lexes-append (lexes-space 10 (125 ∷ r) refl) (mark 125 r refl refl))
-  lexes-statement (act p e) h r = lexes-append (lexes-expression e h (59 ∷ r) refl) (mark 59 r refl refl)
+  lexes-statement (act p e) h r = lexes-append (lexes-expression e h (59 ∷ r) (stopped refl)) (mark 59 r refl refl)
 
   pub lexes-statements : (ss : Statements) → SoundStatements ss → (r : List ℕ) → Lexes (statementsWords ss) (statementsText ss) r
   lexes-statements (only s) h r = lexes-statement s h r

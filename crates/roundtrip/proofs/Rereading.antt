@@ -2,16 +2,16 @@
 use Prim.Native.Nat.{ℕ, zero, suc, _+_, _≤_}
 use native.Mathlib.Omega.{arith}
 use mathlib.Core.Path.{_≡_, refl, ap, sym, _∙_, subst}
-use mathlib.Core.Bool.{Bool, true, false, _||_, true≢false}
+use mathlib.Core.Bool.{Bool, true, false, _&&_, _||_, true≢false}
 use mathlib.Core.List.{List, _∷_, _++_}
 use mathlib.Core.Option.{none, some}
 use lib.ListN.{length}
 use lib.IntN.{ℤ, pos, negsuc}
-use lib.Dec.{eqb}
+use lib.Dec.{eqb, leb}
 use borrow.Author.Tests.{eq-eqb, le-leb}
 use Rattle.meaning.specs.Basics.{if_then_else_}
-use Rattle.meaning.specs.Token.{Token, aName, openParen, dot}
-use Rattle.meaning.specs.Grammar.{good, after, expect, is, kindAt, startAt, operatorOf, Inside, noLevel, level, opening, ReadExpression, argumentsFrom, arguments, primary, operand, operated, expressionIn, expression}
+use Rattle.meaning.specs.Token.{Token, aName, digits, openParen, dot}
+use Rattle.meaning.specs.Grammar.{good, after, expect, is, kindAt, textAt, startAt, numeral, operatorOf, Inside, noLevel, level, opening, ReadExpression, argumentsFrom, arguments, primary, operand, operated, expressionIn, expression}
 use Rattle.meaning.specs.Tree.{Operator, concatenate, add, subtract, multiply, divide, remainder, shiftRight, shiftLeft, equal, unequal, greater, less, Expression, number, string, nothing, truth, name, table, entry, operation, call, paren, Arguments, noArgument, argument}
 use Rattle.meaning.proofs.DecimalLaws.{numeral-digitsOf}
 use Rattle.meaning.proofs.GrammarLaws.{arguments-rounds}
@@ -54,8 +54,9 @@ operator-apart greater = (refl, refl)
 operator-apart less = (refl, refl)
 
 -- ---- the first word of an expression
-unfoldable pub opens : ℕ → Bool
-opens k = eqb k 1 || eqb k 2 || eqb k 3 || eqb k 9 || eqb k 10 || eqb k 11 || eqb k 45 || eqb k 40 || eqb k 91
+-- by its kind, by whether it is a number's digits and by whether digits stand directly behind; in the order of `beginsStatement`
+unfoldable pub opens : Bool → Bool → ℕ → Bool
+opens n d k = (eqb k 2 && n) || (eqb k 45 && d) || eqb k 3 || eqb k 9 || eqb k 10 || eqb k 11 || eqb k 1 || eqb k 40 || eqb k 91
 
 -- ---- what follows
 -- a token of this kind goes on with no primary, operand or expression before it
@@ -81,35 +82,39 @@ module _ (ts : List Token) where
   expression-is (suc left) i = refl
 
   -- ---- how an expression's words begin
+  -- whether an expression can begin with token i
+  abbrev pub opensAt : ℕ → Bool
+  opensAt i = opens (leb (numeral (textAt ts i)) 2147483647) (is digits ts (i + 1) && eqb (startAt ts (i + 1)) (startAt ts i + 1)) (kindAt ts i)
+
   -- in parentheses or not
-  starts-enclosed : (b : Bool) (ws : List Word) (i j : ℕ) → Stands ts i (enclosedWords b ws) j → (Stands ts i ws j → opens (kindAt ts i) ≡ true) → opens (kindAt ts i) ≡ true
+  starts-enclosed : (b : Bool) (ws : List Word) (i j : ℕ) → Stands ts i (enclosedWords b ws) j → (Stands ts i ws j → opensAt i ≡ true) → opensAt i ≡ true
   unfolding enclosedWords opens
   starts-enclosed true ws i j h f = rw (h .0)
   starts-enclosed false ws i j h f = f h
 
   -- every expression begins with one of these
-  pub starts : (e : Expression) (i j : ℕ) → Stands ts i (words e) j → opens (kindAt ts i) ≡ true
-  unfolding words numberWords opens
-  starts (number (pos n)) i j h = rw (h .0)
-  starts (number (negsuc n)) i j h = rw (h .0)
-  starts (string t) i j h = rw (h .0)
-  starts nothing i j h = rw (h .0)
-  starts (truth true) i j h = rw (h .0)
-  starts (truth false) i j h = rw (h .0)
-  starts (name x) i j h = rw (h .0)
-  starts (table e) i j h = rw (h .0)
-  starts (entry a b) i j h =
+  pub starts : (e : Expression) → Sound e → (i j : ℕ) → Stands ts i (words e) j → opensAt i ≡ true
+  unfolding words numberWords opens Sound Written
+  starts (number (pos n)) f i j h = rw (h .0, h .1, numeral-digitsOf n, le-leb n 2147483647 f)
+  starts (number (negsuc n)) f i j h = rw (h .0, h .1, eq-eqb (startAt ts (i + 1)) (startAt ts i + 1) (h .3))
+  starts (string t) f i j h = rw (h .0)
+  starts nothing f i j h = rw (h .0)
+  starts (truth true) f i j h = rw (h .0)
+  starts (truth false) f i j h = rw (h .0)
+  starts (name x) f i j h = rw (h .0)
+  starts (table e) f i j h = rw (h .0)
+  starts (entry a b) f i j h =
       let w = enclosedWords (isOperation a || isEntry a) (words a) in
       let p = split ts i (w ++ sign 46) (enclosedWords (isOperation b || isEntry b) (words b)) j h in
       let q = split ts i w (sign 46) (p .0) (p .1) in
-      starts-enclosed (isOperation a || isEntry a) (words a) i (q .0) (q .1) (λ k. starts a i (q .0) k)
-  starts (operation o a b) i j h =
+      starts-enclosed (isOperation a || isEntry a) (words a) i (q .0) (q .1) (λ k. starts a (f .0) i (q .0) k)
+  starts (operation o a b) f i j h =
       let w = enclosedWords (isOperation a) (words a) in
       let p = split ts i (w ++ aWord (operatorKind o) (operatorText o)) (enclosedWords (isOperation b) (words b)) j h in
       let q = split ts i w (aWord (operatorKind o) (operatorText o)) (p .0) (p .1) in
-      starts-enclosed (isOperation a) (words a) i (q .0) (q .1) (λ k. starts a i (q .0) k)
-  starts (call f es) i j h = rw (h .0)
-  starts (paren e) i j h = starts e i j h
+      starts-enclosed (isOperation a) (words a) i (q .0) (q .1) (λ k. starts a (f .0) i (q .0) k)
+  starts (call x es) f i j h = rw (h .0)
+  starts (paren e) f i j h = starts e f i j h
 
   -- ---- what is read of an expression's words
   pub record Read (e : Expression) : Type 0 where
@@ -230,36 +235,35 @@ module _ (ts : List Token) where
       rw (x, d, q .2 .2, y)
 
   -- all arguments
-  read-arguments : (es : Arguments) → ReadAll es → (left i j : ℕ) → levelsAll es ≤ left → Stands ts i (joined (argumentWords es)) j → kindAt ts j ≡ 41 →
+  read-arguments : (es : Arguments) → SoundAll es → ReadAll es → (left i j : ℕ) → levelsAll es ≤ left → Stands ts i (joined (argumentWords es)) j → kindAt ts j ≡ 41 →
       arguments (expression left ts) ts i ≡ good (keptAll es) (j + 1)
-  unfolding arguments joined argumentWords levelsAll kept if_then_else_ opens
-  read-arguments noArgument fs left i j l h k =
+  unfolding arguments joined argumentWords levelsAll kept if_then_else_ opens Sound
+  read-arguments noArgument s fs left i j l h k =
       let d : kindAt ts i ≡ 41 = subst (λ (n : ℕ). kindAt ts n ≡ 41) (sym h) k in
       rw (d, h)
-  read-arguments (argument e es) fs left i j l h k =
-      let w = first-of e es i j h in
-      let n : eqb (kindAt ts i) 41 ≡ false = differs opens (kindAt ts i) 41 w refl in
+  read-arguments (argument e es) s fs left i j l h k =
+      let n : eqb (kindAt ts i) 41 ≡ false = differs (opens _ _) (kindAt ts i) 41 (first-of e es (s .0) i j h) refl in
       let m = rounds-more es (length ts) in
       rw (n, ← arguments-rounds ts left i (suc (rounds es (length ts))) (omega arith))
       (read-arguments-from e es (length ts) (fs .0) (fs .1) left i j (omega arith) (omega arith) h k)
     where
-      first-of : (e : Expression) (es : Arguments) (i j : ℕ) → Stands ts i (joined (words e ∷ argumentWords es)) j → opens (kindAt ts i) ≡ true
-      first-of e noArgument i j h = starts e i j h
-      first-of e (argument e′ es) i j h =
+      first-of : (e : Expression) (es : Arguments) → Sound e → (i j : ℕ) → Stands ts i (joined (words e ∷ argumentWords es)) j → opensAt i ≡ true
+      first-of e noArgument f i j h = starts e f i j h
+      first-of e (argument e′ es) f i j h =
           let p = split ts i (words e ++ sign 44) (joined (words e′ ∷ argumentWords es)) j h in
           let q = split ts i (words e) (sign 44) (p .0) (p .1) in
-          starts e i (q .0) (q .1)
+          starts e f i (q .0) (q .1)
 
   -- a call
-  read-call : (x : List ℕ) (es : Arguments) → ReadAll es → (left i j : ℕ) → levels (call x es) ≤ left → Stands ts i (words (call x es)) j →
+  read-call : (x : List ℕ) (es : Arguments) → SoundAll es → ReadAll es → (left i j : ℕ) → levels (call x es) ≤ left → Stands ts i (words (call x es)) j →
       primary (insideOf left) ts i ≡ good (kept (call x es)) j
   unfolding words levels kept primary opening after if_then_else_
-  read-call x es fs zero i j l h = absurd (omega arith)
-  read-call x es fs (suc left) i j l h =
+  read-call x es f fs zero i j l h = absurd (omega arith)
+  read-call x es f fs (suc left) i j l h =
       let e : i + 1 + 1 ≡ i + 2 = omega arith in
       let s : Stands ts (i + 2) (joined (argumentWords es) ++ sign 41) j = subst (λ (n : ℕ). Stands ts n (joined (argumentWords es) ++ sign 41) j) e (h .2 .2) in
       let p = split ts (i + 2) (joined (argumentWords es)) (sign 41) j s in
-      let r = read-arguments es fs left (i + 2) (p .0) (omega arith) (p .1) (p .2 .0) in
+      let r = read-arguments es f fs left (i + 2) (p .0) (omega arith) (p .1) (p .2 .0) in
       rw (h .0, h .2 .0, r, h .1, p .2 .2)
 
   -- a table
@@ -301,7 +305,7 @@ module _ (ts : List Token) where
       asOperand = λ n. absurd (true≢false n);
       asExpression = λ left i j l s k. read-operation o a b (read a (h .0)) (read b (h .1)) left i j l s (k .noCall) (k .noDot);
     }
-    read (call f es) h = by-primary (call f es) λ left i j l s k. read-call f es (read-all es (h .1)) left i j l s
+    read (call f es) h = by-primary (call f es) λ left i j l s k. read-call f es (h .1) (read-all es (h .1)) left i j l s
     read (paren e) h =
         let r = read e h in
         record { asPrimary = r .asPrimary; asOperand = r .asOperand; asExpression = r .asExpression }

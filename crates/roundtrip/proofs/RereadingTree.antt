@@ -2,23 +2,24 @@
 use Prim.Native.Nat.{ℕ, zero, suc, _+_, _≤_, _<_}
 use native.Mathlib.Omega.{arith}
 use mathlib.Core.Path.{_≡_, refl, sym, _∙_, subst}
-use mathlib.Core.Bool.{true, false, _||_}
+use mathlib.Core.Bool.{Bool, true, false, _||_}
 use mathlib.Core.List.{List, _++_}
 use lib.ListN.{length}
 use lib.Dec.{eqb}
-use Rattle.meaning.specs.Basics.{if_then_else_}
+use borrow.Author.Tests.{eqb-true}
+use Rattle.meaning.specs.Basics.{bytes, if_then_else_}
 use Rattle.meaning.specs.Token.{Token}
-use Rattle.meaning.specs.Grammar.{good, after, expect, kindAt, startAt, operatorOf, Inside, noLevel, level, opening, expression, Readers, declaration, returning, targetOf, assignment, simple, guarded, statementsFrom, statements, statementIn, statement}
-use Rattle.meaning.specs.Tree.{Expression, name, entry, Statement, declare, assign, update, when, while, return, block, act, Statements, only, first}
+use Rattle.meaning.specs.Grammar.{good, after, expect, kindAt, startAt, operatorOf, Inside, noLevel, level, opening, expression, Readers, declaration, returning, targetOf, assignment, simple, guarded, beginsStatement, iteration, statementsFrom, statements, statementIn, statement}
+use Rattle.meaning.specs.Tree.{Expression, name, entry, Statement, declare, assign, update, when, while, foreach, return, block, act, Statements, only, first}
 use Rattle.meaning.proofs.GrammarLaws.{statements-rounds}
 use Rattle.canonical.specs.Bare.{bareStatement, bareStatements}
 use Rattle.canonical.specs.Text.{isOperation, isEntry}
-use Rattle.roundtrip.proofs.Words.{sign, words, levels, kept, parenIf, statementWords, statementsWords, statementLevels, statementsLevels}
+use Rattle.roundtrip.proofs.Words.{sign, aWord, words, levels, kept, parenIf, statementWords, statementsWords, statementLevels, statementsLevels}
 use Rattle.roundtrip.proofs.Scanning.{differs}
 use Rattle.roundtrip.proofs.Sound.{Named, Sound, SoundStatement, SoundStatements}
 use Rattle.roundtrip.proofs.Stands.{Stands, split}
 use Rattle.roundtrip.proofs.Kept.{bare-kept, bare-paren}
-use Rattle.roundtrip.proofs.Rereading.{opens, Ends, ends, starts, read}
+use Rattle.roundtrip.proofs.Rereading.{opens, opensAt, Ends, ends, starts, read}
 
 module _ (ts : List Token) where
   -- what may be read inside a level
@@ -37,12 +38,19 @@ module _ (ts : List Token) where
   tree e h left i j k l s d n = read ts e h .asExpression left i j l s (subst Ends (sym d) n)
 
   -- a statement that begins with an expression
-  simple-is : (left i : ℕ) → opens (kindAt ts i) ≡ true → statement left ts i ≡ simple (expression left ts) ts i
+  simple-is : (left i : ℕ) → opensAt ts i ≡ true → statement left ts i ≡ simple (expression left ts) ts i
   unfolding statementIn if_then_else_ opens
   simple-is left i o =
       let k = kindAt ts i in
       statement-is left i
-      ∙ rw (differs opens k 5 o refl, differs opens k 6 o refl, differs opens k 7 o refl, differs opens k 8 o refl, differs opens k 123 o refl)
+      ∙ rw (
+        differs (opens _ _) k 5 o refl,
+        differs (opens _ _) k 6 o refl,
+        differs (opens _ _) k 7 o refl,
+        differs (opens _ _) k 12 o refl,
+        differs (opens _ _) k 8 o refl,
+        differs (opens _ _) k 123 o refl,
+      )
 
   -- ---- statements
   pub record Again (s : Statement) (left i j : ℕ) : Type 0 where
@@ -81,7 +89,7 @@ module _ (ts : List Token) where
       let q = split ts i (words e) (sign 59) j h in
       record {
         tree = act (startAt ts i) (kept e);
-        reads = simple-is left i (starts ts e i (q .0) (q .1)) ∙ rw (tree e f left i (q .0) 59 l (q .1) (q .2 .0) (ends 59 refl refl refl), q .2 .0, q .2 .2);
+        reads = simple-is left i (starts ts e f i (q .0) (q .1)) ∙ rw (tree e f left i (q .0) 59 l (q .1) (q .2 .0) (ends 59 refl refl refl), q .2 .0, q .2 .2);
         same = rw (bare-kept e);
       }
 
@@ -91,7 +99,7 @@ module _ (ts : List Token) where
   unfolding statementWords simple assignment targetOf after expect if_then_else_ bareStatement operatorOf words levels kept Sound opens
   again-assign p x e g f left i j l h =
       let q = split ts (i + 1 + 1) (words e) (sign 59) j (h .2 .2) in
-      let o : opens (kindAt ts i) ≡ true = rw (h .0) in
+      let o : opensAt ts i ≡ true = rw (h .0) in
       record {
         tree = assign (startAt ts i) x (kept e);
         reads =
@@ -118,7 +126,7 @@ module _ (ts : List Token) where
       record {
         tree = update (startAt ts i) x y (kept e);
         reads =
-            simple-is left i (starts ts (entry a b) i (u .0) (u .1)) ∙
+            simple-is left i (starts ts (entry a b) (f, g) i (u .0) (u .1)) ∙
             rw (
               tree (entry a b) (f, g) left i (u .0) 61 (omega arith) (u .1) (u .2 .0) (ends 61 refl refl refl),
               u .2 .0,
@@ -163,30 +171,68 @@ module _ (ts : List Token) where
       let r = again-guarded while left (i + 1) j e s f (omega arith) (λ m k. g left m (omega arith) k) (h .2 .0) (h .2 .2) (startAt ts i) in
       record { tree = while (startAt ts i) (kept e) (r .0); reads = statement-is (suc left) i ∙ rw (h .0) (r .1); same = rw (bare-kept e, r .2) }
 
-  -- ---- blocks
-  -- no statement begins with a closing brace
-  no-brace : (s : Statement) (i j : ℕ) → Stands ts i (statementWords s) j → eqb (kindAt ts i) 125 ≡ false
-  unfolding statementWords opens
-  no-brace (declare p x) i j h = rw (h .0)
-  no-brace (assign p x e) i j h = rw (h .0)
-  no-brace (update p a b e) i j s =
+  -- ---- foreach
+  -- a statement can begin with the first token of every statement
+  begins-so : (i : ℕ) → opensAt ts i ≡ true → beginsStatement ts i ≡ true
+  unfolding opens beginsStatement
+  begins-so i o = rw o
+
+  begins : (s : Statement) → SoundStatement s → (i j : ℕ) → Stands ts i (statementWords s) j → beginsStatement ts i ≡ true
+  unfolding statementWords SoundStatement Sound beginsStatement
+  begins (declare p x) f i j h = rw (h .0)
+  begins (assign p x e) f i j h = rw (h .0)
+  begins (update p a b e) f i j s =
       let q = split ts i (words (entry a b) ++ sign 61 ++ words e) (sign 59) j s in
       let r = split ts i (words (entry a b) ++ sign 61) (words e) (q .0) (q .1) in
       let u = split ts i (words (entry a b)) (sign 61) (r .0) (r .1) in
-      differs opens (kindAt ts i) 125 (starts ts (entry a b) i (u .0) (u .1)) refl
-  no-brace (when p e s) i j h = rw (h .0)
-  no-brace (while p e s) i j h = rw (h .0)
-  no-brace (return p e) i j h = rw (h .0)
-  no-brace (block p ss) i j h = rw (h .0)
-  no-brace (act p e) i j h =
+      begins-so i (starts ts (entry a b) (f .0, f .1) i (u .0) (u .1))
+  begins (when p e s) f i j h = rw (h .0)
+  begins (while p e s) f i j h = rw (h .0)
+  begins (foreach p x e s) f i j h = rw (h .0)
+  begins (return p e) f i j h = rw (h .0)
+  begins (block p ss) f i j h = rw (h .0)
+  begins (act p e) f i j h =
       let q = split ts i (words e) (sign 59) j h in
-      differs opens (kindAt ts i) 125 (starts ts e i (q .0) (q .1)) refl
+      begins-so i (starts ts e f i (q .0) (q .1))
+
+  -- a foreach
+  again-foreach : (p : ℕ) (x : List ℕ) (e : Expression) (s : Statement) → Sound e → SoundStatement s → (left i j : ℕ) → statementLevels (foreach p x e s) ≤ left →
+      ((left m : ℕ) → statementLevels s ≤ left → Stands ts m (statementWords s) j → Again s left m j) →
+      Stands ts i (statementWords (foreach p x e s)) j → Again (foreach p x e s) left i j
+  unfolding statementWords statementLevels statementIn iteration opening after expect if_then_else_ bareStatement operatorOf
+  again-foreach p x e s f u zero i j l g h = absurd (omega arith)
+  again-foreach p x e s f u (suc left) i j l g h =
+      let d = aWord 14 (bytes "do") in
+      let q = split ts (i + 1 + 1 + 1) (words e ++ d) (statementWords s) j (h .2 .2 .2) in
+      let r = split ts (i + 1 + 1 + 1) (words e) d (q .0) (q .1) in
+      let t = g left (q .0) (omega arith) (q .2) in
+      record {
+        tree = foreach (startAt ts i) x (kept e) (t .tree);
+        reads =
+            statement-is (suc left) i ∙ rw (
+              h .0,
+              h .2 .0,
+              h .2 .2 .0,
+              tree e f (suc left) (i + 1 + 1 + 1) (r .0) 14 (omega arith) (r .1) (r .2 .0) (ends 14 refl refl refl),
+            ) (rw (r .2 .0, r .2 .2, begins s u (q .0) j (q .2), t .reads, h .2 .1));
+        same = rw (bare-kept e, t .same);
+      }
+
+  -- ---- blocks
+  -- no statement begins with a closing brace
+  no-brace : (i : ℕ) → beginsStatement ts i ≡ true → eqb (kindAt ts i) 125 ≡ false
+  unfolding beginsStatement
+  no-brace i b = by (eqb (kindAt ts i) 125) refl
+    where
+      by : (t : Bool) → eqb (kindAt ts i) 125 ≡ t → t ≡ false
+      by true e = sym (rw (eqb-true (kindAt ts i) 125 e) at b)
+      by false e = refl
 
   -- nor do statements
-  no-braces : (ss : Statements) (i j : ℕ) → Stands ts i (statementsWords ss) j → eqb (kindAt ts i) 125 ≡ false
-  unfolding statementWords
-  no-braces (only s) i j h = no-brace s i j h
-  no-braces (first s ss) i j h = let q = split ts i (statementWords s) (statementsWords ss) j h in no-brace s i (q .0) (q .1)
+  no-braces : (ss : Statements) → SoundStatements ss → (i j : ℕ) → Stands ts i (statementsWords ss) j → eqb (kindAt ts i) 125 ≡ false
+  unfolding statementWords SoundStatement
+  no-braces (only s) f i j h = no-brace i (begins s f i j h)
+  no-braces (first s ss) f i j h = let q = split ts i (statementWords s) (statementsWords ss) j h in no-brace i (begins s (f .0) i (q .0) (q .1))
 
   -- as many rounds as statements, and more
   pub rounds : Statements → ℕ → ℕ
@@ -209,11 +255,11 @@ module _ (ts : List Token) where
   again-only s r left i j a k = record { tree = only (a .tree); reads = rw (a .reads, k); same = rw (a .same) }
 
   -- a statement before others
-  again-first : (s : Statement) (ss : Statements) (r left i m j : ℕ) → Again s left i m → Stands ts m (statementsWords ss) j → AgainAll ss r left m j →
+  again-first : (s : Statement) (ss : Statements) → SoundStatements ss → (r left i m j : ℕ) → Again s left i m → Stands ts m (statementsWords ss) j → AgainAll ss r left m j →
       AgainAll (first s ss) r left i j
   unfolding rounds statementsFrom after if_then_else_ bareStatement
-  again-first s ss r left i m j a h b =
-      record { tree = first (a .tree) (b .tree); reads = rw (a .reads, no-braces ss m j h, b .reads); same = rw (a .same, b .same) }
+  again-first s ss f r left i m j a h b =
+      record { tree = first (a .tree) (b .tree); reads = rw (a .reads, no-braces ss f m j h, b .reads); same = rw (a .same, b .same) }
 
   -- the rounds that the grammar gives are enough
   pub again-statements : (ss : Statements) (left i j : ℕ) → AgainAll ss (length ts) left i j →
@@ -242,6 +288,7 @@ module _ (ts : List Token) where
     again (update p a b e) f left i j l h = again-update p a b e (f .0) (f .1) (f .2) left i j l h
     again (when p e s) f left i j l h = again-when p e s (f .0) left i j l (λ n m k w. again s (f .1) n m j k w) h
     again (while p e s) f left i j l h = again-while p e s (f .0) left i j l (λ n m k w. again s (f .1) n m j k w) h
+    again (foreach p x e s) f left i j l h = again-foreach p x e s (f .1) (f .2) left i j l (λ n m k w. again s (f .2) n m j k w) h
     again (return p e) f left i j l h = again-return p e f left i j l h
     again (block p ss) f left i j l h = again-block p ss left i j l (λ n m k u w z. again-all ss f (length ts) n m k u w z) h
     again (act p e) f left i j l h = again-act p e f left i j l h
@@ -251,4 +298,4 @@ module _ (ts : List Token) where
     again-all (only s) f r left i j l h k = again-only s r left i j (again s f left i j l h) k
     again-all (first s ss) f r left i j l h k =
         let q = split ts i (statementWords s) (statementsWords ss) j h in
-        again-first s ss r left i (q .0) j (again s (f .0) left i (q .0) (omega arith) (q .1)) (q .2) (again-all ss (f .1) r left (q .0) j (omega arith) (q .2) k)
+        again-first s ss (f .1) r left i (q .0) j (again s (f .0) left i (q .0) (omega arith) (q .1)) (q .2) (again-all ss (f .1) r left (q .0) j (omega arith) (q .2) k)

@@ -7,7 +7,7 @@ use lib.ListN.{getD}
 use lib.IntN.{ℤ, pos, negsuc}
 use Rattle.meaning.specs.Byte.{isLetter, isNamePart}
 use Rattle.meaning.specs.Token.{wordKind, aName}
-use Rattle.meaning.specs.Tree.{Expression, number, string, nothing, truth, name, table, entry, operation, call, paren, Arguments, noArgument, argument, Statement, declare, assign, update, when, while, return, block, act, Statements, only, first, Procedure}
+use Rattle.meaning.specs.Tree.{Expression, number, string, nothing, truth, name, table, entry, operation, call, paren, Arguments, noArgument, argument, Statement, declare, assign, update, when, while, foreach, return, block, act, Statements, only, first, Procedure}
 use Rattle.roundtrip.proofs.Scanning.{AllPass}
 
 -- a letter, and letters and digits
@@ -49,6 +49,7 @@ unfoldable mutual
   SoundStatement (update p a b e) = Sound a × Sound b × Sound e
   SoundStatement (when p e s) = Sound e × SoundStatement s
   SoundStatement (while p e s) = Sound e × SoundStatement s
+  SoundStatement (foreach p x e s) = Named x × Sound e × SoundStatement s
   SoundStatement (return p e) = Sound e
   SoundStatement (block p ss) = SoundStatements ss
   SoundStatement (act p e) = Sound e

@@ -9,8 +9,8 @@ use lib.ListN.{length, List·getD-eq-default}
 use lib.Dec.{ltb}
 use borrow.Author.Tests.{eqb-true, ltb-true, ltb-false}
 use Rattle.meaning.specs.Basics.{bytes}
-use Rattle.meaning.specs.Token.{Token, aName, closeBrace}
-use Rattle.meaning.specs.Grammar.{Got, is, afterLast, kindAt, textAt, startAt, Inside, noLevel, level, expression, ReadStatement, Readers, declaration, returning, targetOf, assignment, simple, guarded, statementsFrom, statements, statementIn, statement, parametersFrom, parameters, procedure, proceduresFrom, procedureNamed, withMain, procedures}
+use Rattle.meaning.specs.Token.{Token, aName, wordDo, closeBrace}
+use Rattle.meaning.specs.Grammar.{Got, is, afterLast, kindAt, textAt, startAt, Inside, noLevel, level, expression, ReadStatement, Readers, declaration, returning, targetOf, assignment, simple, guarded, iteration, statementsFrom, statements, statementIn, statement, parametersFrom, parameters, procedure, proceduresFrom, procedureNamed, withMain, procedures}
 use Rattle.meaning.specs.Tree.{Expression, number, string, nothing, truth, name, table, entry, operation, call, paren, Statement, when, while, Statements, Procedure, Program}
 use Rattle.roundtrip.proofs.Words.{tokens, sign, aWord, joined, enclosedWords, words, levelsIn, levels, statementWords, statementsWords, statementLevels, statementsLevels, nameWords, procedureWords, proceduresWords}
 use Rattle.roundtrip.proofs.Sound.{Named, Sound, SoundStatement, SoundStatements, NamedAll, SoundProcedure, SoundProcedures}
@@ -166,6 +166,26 @@ module _ (ts : List Token) (spelt : (i : ℕ) → Spelt (kindAt ts i) (textAt ts
       few = let a = f .few in let b = u .few in omega (arith, tokens-append (words e ++ sign 41) (statementWords s), tokens-append (words e) (sign 41));
     }
 
+    -- a foreach
+    iteration-fine : (i : ℕ) → Yields (λ s j. FineStatement left i s j) (iteration (expression left ts) inside ts i)
+    unfolding iteration SoundStatement statementLevels statementWords
+    iteration-fine i =
+        yields-after {Q = λ x j. Named x × (j ≡ i + 1 + 1)} _ (yields-expect _ ts (i + 1) _ λ k. (spelt (i + 1) .asName k, refl)) λ x i₂ l₂.
+        yields-after {Q = λ _ j. j ≡ i₂ + 1} _ (yields-expect _ ts i₂ _ λ _. refl) λ _ i₃ l₃.
+        yields-after _ (read-fine left i₃) λ e j f.
+        yields-after {Q = λ _ m. m ≡ j + 1} _ (yields-expect _ ts j _ λ _. refl) λ _ m k. yields-if _ _ _
+        (λ _. yields-opening _ _ h λ l inner q w. yields-after _ (w .statements m) λ s n u. yields (record {
+          sound = (l₂ .0, f .sound, u .sound);
+          low = let a = f .low in let b = u .low in omega arith;
+          few =
+              let a = f .few in
+              let b = u .few in
+              let c = l₂ .1 in
+              let d = aWord wordDo (bytes "do") in
+              omega (arith, tokens-append (words e ++ d) (statementWords s), tokens-append (words e) d);
+        }))
+        (λ _. fails)
+
     -- a statement in a level
     statement-in-fine : (i : ℕ) → Yields (λ s j. FineStatement left i s j) (statementIn (expression left ts) inside ts i)
     unfolding statementIn SoundStatement statementLevels statementWords
@@ -173,6 +193,7 @@ module _ (ts : List Token) (spelt : (i : ℕ) → Spelt (kindAt ts i) (textAt ts
         yields-if _ _ _ (λ _. declaration-fine left i)
         λ _. yields-if _ _ _ (λ _. guarded-fine _ i (when-fine (startAt ts i) i))
         λ _. yields-if _ _ _ (λ _. guarded-fine _ i (while-fine (startAt ts i) i))
+        λ _. yields-if _ _ _ (λ _. iteration-fine i)
         λ _. yields-if _ _ _ (λ _. returning-fine left i)
         λ _. yields-if _ _ _ (λ _. yields-opening _ _ h λ l inner q w. yields-after _ (statements-fine _ l (inner .inStatement) (w .statements) (i + 1)) λ ss j f. yields (record {
           sound = f .sound;

@@ -4,9 +4,9 @@ use mathlib.Core.Bool.{Bool, true, false, _||_, cond}
 use mathlib.Core.List.{List, [], _∷_, _++_}
 use lib.IntN.{ℤ, pos, negsuc}
 use Rattle.meaning.specs.Basics.{bytes}
-use Rattle.meaning.specs.Token.{digits, aString, aName, wordDef, wordVar, wordIf, wordWhile, wordReturn, wordNone, wordTrue, wordFalse, dot, comma, semicolon, openParen, closeParen, openBracket, closeBracket, openBrace, closeBrace, becomes, doubled}
+use Rattle.meaning.specs.Token.{digits, aString, aName, wordDef, wordVar, wordIf, wordWhile, wordReturn, wordNone, wordTrue, wordFalse, wordForeach, wordIn, wordDo, dot, comma, semicolon, openParen, closeParen, openBracket, closeBracket, openBrace, closeBrace, becomes, doubled}
 use Rattle.meaning.specs.Picture.{digitsOf}
-use Rattle.meaning.specs.Tree.{Operator, concatenate, add, subtract, multiply, divide, remainder, shiftRight, shiftLeft, equal, unequal, greater, less, Expression, number, string, nothing, truth, name, table, entry, operation, call, paren, Arguments, noArgument, argument, Statement, declare, assign, update, when, while, return, block, act, Statements, only, first, Procedure}
+use Rattle.meaning.specs.Tree.{Operator, concatenate, add, subtract, multiply, divide, remainder, shiftRight, shiftLeft, equal, unequal, greater, less, Expression, number, string, nothing, truth, name, table, entry, operation, call, paren, Arguments, noArgument, argument, Statement, declare, assign, update, when, while, foreach, return, block, act, Statements, only, first, Procedure}
 use Rattle.canonical.specs.Text.{operatorText, isOperation, isEntry}
 
 -- a token by its kind and text; or a minus and, directly behind it, digits
@@ -124,6 +124,8 @@ unfoldable mutual
   statementWords (update p a b e) = words (entry a b) ++ sign becomes ++ words e ++ sign semicolon
   statementWords (when p e s) = aWord wordIf (bytes "if") ++ sign openParen ++ words e ++ sign closeParen ++ statementWords s
   statementWords (while p e s) = aWord wordWhile (bytes "while") ++ sign openParen ++ words e ++ sign closeParen ++ statementWords s
+  statementWords (foreach p x e s) =
+      aWord wordForeach (bytes "foreach") ++ aWord aName x ++ aWord wordIn (bytes "in") ++ words e ++ aWord wordDo (bytes "do") ++ statementWords s
   statementWords (return p e) = aWord wordReturn (bytes "return") ++ words e ++ sign semicolon
   statementWords (block p ss) = sign openBrace ++ statementsWords ss ++ sign closeBrace
   statementWords (act p e) = words e ++ sign semicolon
@@ -139,6 +141,7 @@ unfoldable mutual
   statementLevels (update p a b e) = max (levels (entry a b)) (levels e)
   statementLevels (when p e s) = suc (max (levels e) (statementLevels s))
   statementLevels (while p e s) = suc (max (levels e) (statementLevels s))
+  statementLevels (foreach p x e s) = max (levels e) (suc (statementLevels s))
   statementLevels (return p e) = levels e
   statementLevels (block p ss) = suc (statementsLevels ss)
   statementLevels (act p e) = levels e

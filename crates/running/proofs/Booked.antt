@@ -15,9 +15,10 @@ use Rattle.meaning.specs.Run as Run
 use Rattle.meaning.specs.Figure.{Figure}
 use Rattle.meaning.specs.Picture.{pictureOf}
 use Rattle.meaning.specs.Program.{Outcome, drawn, drawing, empty, performing, specified}
-use Rattle.meaning.specs.Book.{Amounts, nothingYet, added, lowered, fits, Booked, allFit, lacking, book, pictured, number, shortageOf, lengthNeeded, resourceNumber, answerTo, settled, booked}
+use Rattle.meaning.specs.Book.{Amounts, nothingYet, added, lowered, fits, allFit, lacking, book, pictured, number, shortageOf, lengthNeeded, resourceNumber, answerTo, settled, booked}
 use Rattle.meaning.specs.Call.{granted, outAfterEnd}
 use Rattle.meaning.proofs.BookLaws.{part, spent, onFit, book-append}
+use Rattle.claims.proofs.Booking.{lacking-no-fit}
 use Rattle.claims.proofs.Ends.{painting-lawful}
 use Rattle.machine.specs.Layout.{stepsUsed, stepsGranted}
 use Rattle.machine.specs.Act.{raw, done, stop}
@@ -26,28 +27,10 @@ use Rattle.scene.specs.Scene.{sceneIn}
 use Rattle.running.specs.declared.Ending.the-variants.{Complete, Stopped}
 use Rattle.running.specs.Running.{shownEnding, Painted, Ran, paintingRun}
 use Rattle.lending.specs.Lending.{grantsOf}
+use Rattle.running.proofs.Leaving.{fit-spent}
 
 -- ---- takings of which none is a picture
-pictureIn : Booked → ℕ
-pictureIn (allFit total) = total picture
-pictureIn (lacking t total) = total picture
-
-lacks-not : {t : Taking} {total total′ : Amounts} {A : Type 0} → lacking t total ≡ allFit total′ → A
-lacks-not e = let q : _≡_ {A = ℕ} 0 1 = cc in absurd (omega arith)
-
--- their book's total has none
-fit-picture : (g total total′ : Amounts) (us : List Event) → book g total us ≡ allFit total′ → spent picture us ≡ 0 → total′ picture ≡ total picture
-unfolding book spent if_then_else_ added part pictureIn lowered resourceNumber
-fit-picture g total total′ [] b z = ap pictureIn (sym b)
-fit-picture g total total′ (gaveBack ∷ us) b z = fit-picture g (lowered total) total′ us b z ∙ omega arith
-fit-picture g total total′ (taken t ∷ us) b z = go (fits g total t) b (λ b. fit-picture g (added total t) total′ us b (omega arith))
-  where
-    go : (c : Bool) → (if c then (λ _. book g (added total t) us) else λ _. lacking t total) ≡ allFit total′
-        → (book g (added total t) us ≡ allFit total′ → total′ picture ≡ added total t picture) → total′ picture ≡ total picture
-    go true b k = k b ∙ omega arith
-    go false b k = lacks-not b
-
--- and the one that lacks is no picture
+-- the one that lacks is no picture
 no-length : (t : Taking) → part picture t ≡ 0 → lengthNeeded t ≡ 0
 unfolding part lengthNeeded resourceNumber
 no-length t z = go (t .of) (t .amount) z
@@ -62,7 +45,7 @@ no-length t z = go (t .of) (t .amount) z
 
 lack-picture : (g total total′ : Amounts) (t : Taking) (us : List Event) → book g total us ≡ lacking t total′ → spent picture us ≡ 0 → lengthNeeded t ≡ 0
 unfolding book spent if_then_else_
-lack-picture g total total′ t [] b z = lacks-not (sym b)
+lack-picture g total total′ t [] b z = absurd (lacking-no-fit (sym b))
 lack-picture g total total′ t (gaveBack ∷ us) b z = lack-picture g (lowered total) total′ t us b z
 lack-picture g total total′ t (taken u ∷ us) b z = go (fits g total u) b (λ b. lack-picture g (added total u) total′ t us b (omega arith))
   where
@@ -89,7 +72,7 @@ module _ (program : List ℕ) (width height : ℤ) (g : List ℕ) (out : List �
 
   -- ---- a number
   stopped-go : (n p : ℕ) (k : List Figure → Action Outcome) (us : List Event) (e : End (List Figure)) → spent picture us ≡ 0
-      → Together amounts nothingYet (Painted program) (stop n p (raw ts ws)) us e
+      → Together amounts nothingYet (Painted program g) (stop n p (raw ts ws)) us e
       → booked amounts (Run.goOn us e k) ≡ number n p (getD ws stepsUsed 0) 0
   unfolding booked settled answerTo onFit Run.goOn
   stopped-go n p k us (result b s) z (lacks t total′ f x y w) =
@@ -99,7 +82,7 @@ module _ (program : List ℕ) (width height : ℤ) (g : List ℕ) (out : List �
   stopped-go n p k us (error m q) z (fails total′ f w) = rw (f, w)
 
   untouched-go : (n p : ℕ) (k : List Figure → Action Outcome) (us : List Event) (e : End (List Figure))
-      → Together amounts nothingYet (Painted program) (stop n p (raw ts ws)) us e
+      → Together amounts nothingYet (Painted program g) (stop n p (raw ts ws)) us e
       → outAfterEnd drawing (book amounts nothingYet (Run.goOn us e k .takings)) (Run.goOn us e k .end) out ≡ out
   unfolding outAfterEnd onFit Run.goOn
   untouched-go n p k us (result b s) (lacks t total′ f x y w) = rw (book-append amounts nothingYet us (k b s .takings), f)
@@ -108,7 +91,7 @@ module _ (program : List ℕ) (width height : ℤ) (g : List ℕ) (out : List �
   untouched-go n p k us (error m q) (fails total′ f w) = rw f
 
   module _ (n p : ℕ) (ran : Ran program g painted (Stopped n p) ts ws) where
-    together : Together amounts nothingYet (Painted program) (stop n p (raw ts ws)) (painted .takings) (painted .end)
+    together : Together amounts nothingYet (Painted program g) (stop n p (raw ts ws)) (painted .takings) (painted .end)
     unfolding shownEnding
     together = ran .follows amounts (grants-are g out) .is
 
@@ -130,17 +113,18 @@ module _ (program : List ℕ) (width height : ℤ) (g : List ℕ) (out : List �
     pub end : painted .end ≡ result figures state
     pub fit : book amounts nothingYet (painted .takings) ≡ allFit total
     pub none : total picture ≡ 0
-    pub holds : Painted program tt figures (raw ts ws) state total
+    pub holds : Painted program g tt figures (raw ts ws) state total
 
   ended-go : (us : List Event) (e : End (List Figure)) → spent picture us ≡ 0 → painted .takings ≡ us → painted .end ≡ e
-      → Together amounts nothingYet (Painted program) (done tt (raw ts ws)) us e → Ended
+      → Together amounts nothingYet (Painted program g) (done tt (raw ts ws)) us e → Ended
+  unfolding resourceNumber
   ended-go us (result a s) z q h (gives total f w) = record {
     figures = a;
     state = s;
     total = total;
     end = h;
     fit = ap (book amounts nothingYet) q ∙ f;
-    none = fit-picture amounts nothingYet total us f z;
+    none = omega (arith, fit-spent picture refl amounts nothingYet total us f, z);
     holds = w;
   }
 
@@ -150,7 +134,7 @@ module _ (program : List ℕ) (width height : ℤ) (g : List ℕ) (out : List �
     painted-ended = ended-go (painted .takings) (painted .end) plain refl refl (ran .follows amounts (grants-are g out) .is)
 
     abbrev bytes : List ℕ
-    bytes = pictureOf width height (sceneIn program (raw ts ws))
+    bytes = pictureOf width height (sceneIn program g (raw ts ws))
 
     -- ---- drawn
     abbrev last : Taking

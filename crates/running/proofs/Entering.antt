@@ -27,7 +27,7 @@ use Rattle.reader.proofs.Homes.{Occurs, text-same}
 use Rattle.machine.specs.declared.Value.the-variants.{Integer}
 use Rattle.machine.specs.Words.{kindNothing, packed, unpacked}
 use Rattle.values.proofs.Laws.{InRange, unpacked-packed}
-use Rattle.machine.specs.Layout.{declared, argumentsHeld, callsUsed, running, callsGranted, valuePlace, orderPlace, Lent}
+use Rattle.machine.specs.Layout.{declared, argumentsHeld, callsUsed, running, loopUnit, callsGranted, valuePlace, orderPlace, Lent}
 use Rattle.machine.specs.Act.{Raw, raw, done, stop}
 use Rattle.machine.specs.Act as Act
 use Rattle.machine.specs.Variables.{declare, setVariable}
@@ -90,6 +90,7 @@ pub record Entered (program : List ℕ) (ts : List Token) (g : List ℕ) (r : Ra
   pub calls : getD (r .words) callsUsed 0 ≡ 1
   pub procedure : getD (r .words) running 0 ≡ 0
   pub stack : getD (r .words) argumentsHeld 0 ≡ 0
+  pub unit : getD (r .words) loopUnit 0 ≡ 0
 
 module _ (program : List ℕ) (ts : List Token) (g : List ℕ) (few : length ts ≤ 8192) (texts words : List ℕ) (lent : Lent g texts words)
     (blank : Blank words) (x y : List ℕ) (o : Occurs ts aName x) (p : Occurs ts aName y)
@@ -204,6 +205,8 @@ module _ (program : List ℕ) (ts : List Token) (g : List ℕ) (few : length ts 
         procedure = fourth .untouched .running ∙ third .untouched .running ∙ c .others running (λ e. omega arith)
             ∙ second .untouched .running ∙ first .untouched .running ∙ blank .front running (omega arith);
         stack = fourth .held ∙ third .held ∙ c .others argumentsHeld (λ e. omega arith) ∙ second .held ∙ first .held ∙ blank .front argumentsHeld (omega arith);
+        unit = fourth .untouched .unit ∙ third .untouched .unit ∙ c .others loopUnit (λ e. omega arith)
+            ∙ second .untouched .unit ∙ first .untouched .unit ∙ blank .front loopUnit (omega arith);
       }
 
     -- both sides behind the declarations

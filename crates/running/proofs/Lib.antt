@@ -1,4 +1,5 @@
 mod Scenes
+mod Leaving
 mod Entering
 mod Painting
 mod Ways

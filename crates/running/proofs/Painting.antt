@@ -1,7 +1,7 @@
 -- The run of a program's body paints the picture that is meant.
-use Prim.Native.Nat.{ℕ, suc, _+_, _-_, _^_, _≤_, _<_}
+use Prim.Native.Nat.{ℕ, suc, _+_, _^_, _≤_, _<_}
 use native.Mathlib.Omega.{arith}
-use mathlib.Core.Path.{_≡_, refl, ap, sym, _∙_, subst}
+use mathlib.Core.Path.{_≡_, refl, ap, sym, _∙_}
 use mathlib.Core.Bool.{Bool, true, false, _&&_, _||_}
 use mathlib.Core.List.{List, [], _∷_}
 use mathlib.Core.Option.{Option, none, some}
@@ -14,10 +14,8 @@ use Rattle.meaning.specs.Basics.{bytes}
 use Rattle.meaning.specs.Token.{Token}
 use Rattle.meaning.specs.Tree as Tree
 use Rattle.meaning.specs.Grammar.{Reading, wellFormed, malformed, reading}
-use Rattle.meaning.specs.Figure.{Figure}
-use Rattle.meaning.specs.State.{State, scene}
 use Rattle.meaning.specs.Run as Run
-use Rattle.meaning.specs.Book.{Amounts, nothingYet, resourceNumber, lowered, book}
+use Rattle.meaning.specs.Book.{Amounts, nothingYet}
 use Rattle.meaning.specs.Program.{empty, sheet, sized, namedApart, understood, entering, painting}
 use Rattle.meaning.specs.Procedure.{doubled}
 use Rattle.code.specs.Code.{slotOf, codeOfStatements, codeOfProcedures, tabled, headNamed}
@@ -27,32 +25,24 @@ use Rattle.reader.specs.Reading.{refused, seen, codedApart, coded, tokensIn}
 use Rattle.reader.proofs.Known.{KnownNames}
 use Rattle.reader.proofs.Walk.{Stands, stands-first, stands-rest}
 use Rattle.reader.proofs.Whole.{Read, formed-refused, Whole, whole}
-use Rattle.machine.specs.Opcodes.{startIn, parametersIn}
+use Rattle.machine.specs.Opcodes.{startIn, parametersIn, bodyIn}
 use Rattle.machine.specs.Layout.{stepsUsed, stepsGranted, Lent}
-use Rattle.machine.specs.Act.{Raw, raw}
+use Rattle.machine.specs.Act.{raw}
 use Rattle.machine.specs.Act as Act
 use Rattle.machine.specs.Evaluate.{Setting, setting}
+use Rattle.machine.specs.Interpret.{bodyAt}
 use Rattle.simulation.specs.Scope.{scopeOf, isIn}
-use Rattle.simulation.specs.Follows.{Grants, gives, Follows}
+use Rattle.simulation.specs.Follows.{Grants, Follows}
 use Rattle.simulation.proofs.Binding.{bind}
-use Rattle.simulation.proofs.Results.{given, failed, steps-told}
+use Rattle.simulation.proofs.Chaining.{regroup}
+use Rattle.simulation.proofs.Results.{failed}
 use Rattle.simulation.proofs.Body.{main-stored, main-takes, main-there, main-owns, body-follows}
 use Rattle.running.specs.declared.Ending.{Ending}
 use Rattle.running.specs.declared.Ending.the-variants.{Stopped}
 use Rattle.running.specs.Specified.{paintRead}
-use Rattle.running.specs.Running.{mainFuel, bodyRun, shownEnding, Painted, Ran, paintingRun, readingRun, Blank}
-use Rattle.running.proofs.Scenes.{scene-shown, is-drawable}
+use Rattle.running.specs.Running.{mainBegins, mainFuel, bodyRun, mainEnds, mainRun, shownEnding, Painted, Ran, paintingRun, readingRun, Blank}
 use Rattle.running.proofs.Entering.{enters}
-
--- ---- main's return gives its call back
-lowered-steps : (total : Amounts) → lowered total Run.steps ≡ total Run.steps
-unfolding lowered resourceNumber
-lowered-steps total = omega arith
-
-given-back : {granted total : Amounts} {program : List ℕ} {figures : List Figure} {r : Raw} {s : State} → Painted program tt figures r s (lowered total)
-    → Follows granted total (Painted program) (Act.done tt r) (Run.run (Run.gaveBack ∷ []) (Run.result figures s))
-unfolding book
-given-back {total = total} h = record { is = gives (lowered total) refl h }
+use Rattle.running.proofs.Leaving.{main-ends}
 
 -- ---- names
 own-first : (x : ℕ) (xs : List ℕ) → isIn x (x ∷ xs) ≡ true
@@ -97,19 +87,26 @@ module _ (program code g : List ℕ) (short : length program ≤ 32768) (ts : Li
     two : startIn main + parametersIn main ≡ startIn main + 2
     two = rw (main-takes e ts m short read different stands table, parameters)
 
-    body-paints : Follows granted nothingYet (Painted program) (bodyRun e main width height (raw texts words))
+    -- its beginning, its body and its return, one after the other
+    in-turn : mainRun e main width height (raw texts words)
+        ≡ Act.goOn (mainBegins g (getD code (startIn main) 0) (getD code (startIn main + 1) 0) width height (raw texts words))
+        (λ _ r. Act.goOn (bodyAt mainFuel e (startIn main + 2) (bodyIn main) r) (λ _ r′. mainEnds program (r′ .texts) g r′))
+    unfolding mainRun bodyRun Act._>>=_ Act.goOn Act.give
+    in-turn =
+        regroup (mainBegins g (getD code (startIn main) 0) (getD code (startIn main + 1) 0) width height (raw texts words))
+        (λ _ r. Act.goOn (bodyAt mainFuel e (startIn main + 2) (bodyIn main) r) (λ _. Act.give tt)) (λ _ r′. mainEnds program (r′ .texts) g r′)
+        ∙ ap (Act.goOn (mainBegins g (getD code (startIn main) 0) (getD code (startIn main + 1) 0) width height (raw texts words)))
+        (λ i _ r. regroup (bodyAt mainFuel e (startIn main + 2) (bodyIn main) r) (λ _. Act.give tt) (λ _ r′. mainEnds program (r′ .texts) g r′) i)
+
+    main-paints : Follows granted nothingYet (Painted program g) (mainRun e main width height (raw texts words))
         (paintRead (wellFormed m) width height (suc (stepsGranted g)) empty)
-    unfolding bodyRun paintRead understood namedApart KnownNames isIn Act._>>=_ Act.goOn Act.give Run._>>=_ Run.goOn Run.give Run.current Run.giveBack
-    body-paints = rw (different, parameters, first-slot, second-slot)
+    unfolding paintRead understood namedApart KnownNames isIn Run._>>=_ Run.goOn Run.give
+    main-paints = rw (in-turn, different, parameters, first-slot, second-slot)
         (bind (enters program ts g (read .few) texts words lent blank x y (both .0) (both .1 .0) (owns (slotOf ts x) (own-first (slotOf ts x) (slotOf ts y ∷ []))) (owns (slotOf ts y) (own-second (slotOf ts x) (slotOf ts y)))
         width height w-small h-small gr) (λ _ _ r s total a.
-        bind (rw two at (body-follows e ts m short read different stands table gr mainFuel (suc (stepsGranted g)) (omega arith) (a .related) (a .procedure) (a .calls) (a .stack)
+        bind (rw two at (body-follows e ts m short read different stands table gr mainFuel (suc (stepsGranted g)) (omega arith) (a .related) (a .procedure) (a .calls) (a .stack) (a .unit)
         (omega (arith, a .related .stepsTaken)))) (λ f f′ r′ s′ total′ b.
-        given-back (record {
-          scene = scene-shown (b .after .related);
-          drawable = is-drawable (b .after .related);
-          told = steps-told (b .after .related) ∙ sym (lowered-steps total′);
-        }))))
+        main-ends program ts g gr (r′ .texts) (b .after .related) (b .after .untouched .calls ∙ a .calls) (b .after .untouched .unit ∙ a .unit) refl)))
 
 -- ---- what reading left
 module _ (program code g texts words : List ℕ) (short : length program ≤ 32768) (width height : ℤ) (r : Program)
@@ -159,7 +156,7 @@ module _ (program code g texts words : List ℕ) (short : length program ≤ 327
         by-names m s (x ∷ y ∷ z ∷ xs) q l = record { follows = λ granted gr. rw (s .different, q) (failed 20 0 (raw texts words) steps) }
 
     pub read-body : parametersIn d ≡ 2 → (lent : Lent g texts words) (blank : Blank words) → mag width < 2 ^ 31 → mag height < 2 ^ 31
-        → (e : Ending) (ts ws : List ℕ) → shownEnding e ts ws ≡ bodyRun (setting program code g) d width height (raw texts words)
+        → (e : Ending) (ts ws : List ℕ) → shownEnding e ts ws ≡ mainRun (setting program code g) d width height (raw texts words)
         → Ran program g (readingRun program width height g) e ts ws
     read-body two lent blank w-small h-small e ts ws h = by-program e ts ws (λ m s. by-names m s (m .main .parameters) refl
         (sym (main-takes (setting program code g) (tokensIn program) m short (s .read) (s .different) (s .stands) (s .table)) ∙ rw (← s .main) two))
@@ -170,7 +167,7 @@ module _ (program code g texts words : List ℕ) (short : length program ≤ 327
         by-names m s (x ∷ []) q l = absurd (omega (arith, sym (ap (λ (k : List (List ℕ)). length k) q) ∙ l))
         by-names m s (x ∷ y ∷ []) q l = record {
           follows = λ granted gr. rw (h, s .main)
-              (body-paints program code g short (tokensIn program) m (s .read) (s .different) (s .stands) (s .table) texts words lent blank width height w-small h-small gr x y q);
+              (main-paints program code g short (tokensIn program) m (s .read) (s .different) (s .stands) (s .table) texts words lent blank width height w-small h-small gr x y q);
         }
         by-names m s (x ∷ y ∷ z ∷ xs) q l = absurd (omega (arith, sym (ap (λ (k : List (List ℕ)). length k) q) ∙ l))
 

@@ -4,14 +4,15 @@ use native.Mathlib.Omega.{arith}
 use mathlib.Core.Path.{_≡_, refl, ap, sym, _∙_}
 use mathlib.Core.Bool.{Bool, true, false, not, _&&_}
 use mathlib.Core.List.{List, _++_, append-nil}
-use lib.ListN.{getD, length, take, drop, replicate, length-append, length-drop, length-replicate, drop-of-length-le, List·getD-append}
+use lib.ListN.{getD, set, length, take, drop, replicate, length-append, length-set, length-drop, length-replicate, drop-of-length-le, List·getD-append}
 use lib.Seq.{length-take-le, getD-take, getD-append-add}
 use lib.IntN.{ℤ, pos}
 use lib.Signed.{mag, ltZ}
 use mir.Syntax.{w32}
 use mir.Val.{toZ, ofZ, SFits}
 use mir.Facts.{toZ-ofZ}
-use borrow.Author.Tests.{not-true, not-false}
+use lib.Dec.{eqb}
+use borrow.Author.Tests.{not-true, not-false, eq-eqb, ne-eqb}
 use borrow.Rule.Slice.PartMut.{midOf, putMid}
 use Rattle.meaning.specs.Grammar.{reading}
 use Rattle.reader.specs.declared.Program.{Program}
@@ -21,22 +22,24 @@ use Rattle.machine.specs.declared.Value.{Value}
 use Rattle.machine.specs.declared.Value.the-variants.{Integer}
 use Rattle.machine.specs.Words.{packed}
 use Rattle.machine.specs.Opcodes.{startIn, parametersIn, bodyIn}
-use Rattle.machine.specs.Layout.{stepsUsed, callsUsed, callsGranted, fixedWords, argumentPlace, Lent}
-use Rattle.machine.specs.Act.{raw, goOn, _>>=_, give, passed, Passes, Pays, Gives}
+use Rattle.machine.specs.Layout.{stepsUsed, callsUsed, callsGranted, fixedWords, argumentPlace, Room, Lent}
+use Rattle.machine.specs.Act.{raw, goOn, _>>=_, give, store, passed, Passes, Pays, Gives}
 use Rattle.machine.specs.Variables.{declare, setVariable}
 use Rattle.stores.proofs.Acts.{after-pass, after-refusal, after-gift}
 use Rattle.machine.specs.Evaluate.{setting}
 use Rattle.machine.specs.declared.Flow.{Flow}
 use Rattle.machine.specs.declared.Flow.the-variants as flows
 use Rattle.machine.specs.Interpret.{bodyAt}
+use Rattle.machine.specs.Show.{showScene}
 use Rattle.machine.specs.Effects.{shownFlow}
 use Rattle.interpreter.specs.Asked.{Body}
 use Rattle.interpreter.proofs.ExpressionLaws.{still-lent}
 use Rattle.effects.proofs.Acts.{flow-on, flow-returns, flow-stops}
+use Rattle.scene.specs.Measuring.{sizeWith, Finishes}
 use Rattle.running.specs.declared.Ending.{Ending}
 use Rattle.running.specs.declared.Ending.the-variants.{Complete, Stopped}
 use Rattle.lending.specs.Lending.{Ready}
-use Rattle.running.specs.Running.{mainBegins, mainFuel, Begins, bodyRun, shownEnding, Ran, paintingRun, readingRun, Blank, ReadyToRead}
+use Rattle.running.specs.Running.{mainBegins, mainFuel, Begins, bodyRun, mainEnds, mainRun, shownEnding, Ran, paintingRun, readingRun, Blank, ReadyToRead}
 use Rattle.running.proofs.Painting.{read-malformed, read-parameters, read-body, no-sheet, too-long, as-read}
 
 -- a signed number handed over, as its bits
@@ -111,6 +114,44 @@ module _ (program code g : List ℕ) (main : ℕ) (width height : ℤ) (f : SFit
 pub body-starts : (g ts ws ws₁ : List ℕ) (a n : ℕ) → Lent g ts ws → length ws₁ ≡ length ws → a < 2 ^ 16 → n < 2 ^ 32 → Body g ts ws₁ mainFuel (a + 2) n
 body-starts g ts ws ws₁ a n l j i k = record { lent = record { lent = still-lent g ts ws ts ws₁ l refl j; deep = omega arith }; place = omega arith; small = k }
 
+-- ---- `leave`
+pub left-room : {g : List ℕ} (ws : List ℕ) (x : ℕ) → Room g ws → Room g (set ws callsUsed x)
+left-room ws x h = record { steps = h .steps; shapes = h .shapes; entries = h .entries; text = h .text; calls = h .calls; words = rw (length-set ws callsUsed x) (h .words) }
+
+pub left-long : (ws : List ℕ) (x : ℕ) {n : ℕ} → n ≡ length (set ws callsUsed x) → n ≡ length ws
+left-long ws x e = e ∙ length-set ws callsUsed x
+
+module _ (program ts g ws ws₁ : List ℕ) (e : ws₁ ≡ set ws callsUsed 0) (r : ℕ) (ws₂ : List ℕ) (f : Finishes ws₁ (showScene (sizeWith program ts) g) r ws₂) where
+  left-so : (us : List ℕ) → passed (eqb r 0) r 0 us ws₂ ≡ mainEnds program ts g (raw us ws)
+  unfolding mainEnds _>>=_ goOn store
+  left-so us = f .equal us ∙ rw e
+
+  pub left-short : (r ≡ 0 → ⊥) → Begins ws (mainEnds program ts g) (Stopped r 0) ws₂
+  unfolding passed shownEnding
+  left-short n = record { equal = λ us. rw (ne-eqb r 0 n) at (left-so us) }
+
+  pub left-whole : r ≡ 0 → Begins ws (mainEnds program ts g) Complete ws₂
+  unfolding passed shownEnding
+  left-whole n = record { equal = λ us. rw (eq-eqb r 0 n) at (left-so us) }
+
+-- ---- `run_main`
+pub still-room : (g ts ws ts₁ ws₁ : List ℕ) → Lent g ts ws → length ts₁ ≡ length ts → length ws₁ ≡ length ws → Room g ws₁
+still-room g ts ws ts₁ ws₁ l i j = still-lent g ts ws ts₁ ws₁ l i j .room
+
+module _ (program code g : List ℕ) (main : ℕ) (width height : ℤ) (f : SFits w32 width) (f₂ : SFits w32 height) (ts ws : List ℕ) (x : Ending) (ts₁ ws₁ : List ℕ)
+    (body : shownEnding x ts₁ ws₁ ≡ bodyRun (setting program code g) main (held width) (held height) (raw ts ws)) where
+  ran-so : shownEnding x ts₁ ws₁ ≡ bodyRun (setting program code g) main width height (raw ts ws)
+  ran-so = rw (toZ-ofZ f, toZ-ofZ f₂) at body
+
+  pub main-stopped : (k p : ℕ) → x ≡ Stopped k p → shownEnding (Stopped k p) ts₁ ws₁ ≡ mainRun (setting program code g) main width height (raw ts ws)
+  unfolding mainRun shownEnding _>>=_ goOn
+  main-stopped k p q = sym (rw (← ran-so, q))
+
+  pub main-left : x ≡ Complete → (y : Ending) (ws₂ : List ℕ) → Begins ws₁ (mainEnds program ts₁ g) y ws₂
+      → shownEnding y ts₁ ws₂ ≡ mainRun (setting program code g) main width height (raw ts ws)
+  unfolding mainRun shownEnding _>>=_ goOn
+  main-left q y ws₂ b = b .equal ts₁ ∙ sym (rw (← ran-so, q))
+
 -- ---- `run_read`
 module _ (program code g tokens unread ts ws : List ℕ) (ready : ReadyToRead program g tokens unread ts ws) (width height : ℤ) (r : Program)
     (left : seen r code ≡ coded (tokensIn program) (reading program)) where
@@ -122,10 +163,10 @@ module _ (program code g tokens unread ts ws : List ℕ) (ready : ReadyToRead pr
     way-parameters h =
         read-parameters program code g ts ws (ready .short) width height r left main n t e (ready .blank .front stepsUsed (omega arith)) (λ p. h (q ∙ p))
 
-    pub way-body : k ≡ 2 → SFits w32 width → SFits w32 height → (x : Ending) (ts₁ ws₁ : List ℕ)
-        → shownEnding x ts₁ ws₁ ≡ bodyRun (setting program code g) main (held width) (held height) (raw ts ws)
+    pub way-main : k ≡ 2 → SFits w32 width → SFits w32 height → (x : Ending) (ts₁ ws₁ : List ℕ)
+        → shownEnding x ts₁ ws₁ ≡ mainRun (setting program code g) main (held width) (held height) (raw ts ws)
         → Ran program g (readingRun program width height g) x ts₁ ws₁
-    way-body two f f₂ x ts₁ ws₁ h =
+    way-main two f f₂ x ts₁ ws₁ h =
         read-body program code g ts ws (ready .short) width height r left main n t e (sym q ∙ two) (ready .ready .lent) (ready .blank) (f .sfits) (f₂ .sfits) x ts₁ ws₁
         (rw (toZ-ofZ f, toZ-ofZ f₂) at h)
 

@@ -1,5 +1,5 @@
 -- A run from the program to its picture: how it ends, and what the stores hold then.
-use Prim.Native.Nat.{ℕ, suc, _+_, _≤_, _<_}
+use Prim.Native.Nat.{ℕ, suc, _+_, _^_, _≤_, _<_}
 use mathlib.Core.Path.{_≡_}
 use mathlib.Core.List.{List}
 use lib.ListN.{length, getD}
@@ -10,17 +10,20 @@ use Rattle.meaning.specs.State.{State}
 use Rattle.meaning.specs.Run.{steps, Run}
 use Rattle.meaning.specs.Book.{Amounts, nothingYet}
 use Rattle.meaning.specs.Program.{empty, painting}
+use Rattle.meaning.specs.Picture.{linesOf}
 use Rattle.machine.specs.declared.Value.the-variants.{Integer}
 use Rattle.machine.specs.Words.{packed}
 use Rattle.machine.specs.Opcodes.{startIn, bodyIn}
-use Rattle.machine.specs.Layout.{stepsUsed, callsUsed, stepsGranted, callsGranted, fixedWords, argumentPlace}
-use Rattle.machine.specs.Act.{Raw, raw, Out, done, stop, Act, give, spend, _>>_, _>>=_}
+use Rattle.machine.specs.Layout.{stepsUsed, callsUsed, linesLength, stepsGranted, callsGranted, fixedWords, argumentPlace, Room}
+use Rattle.machine.specs.Act.{Raw, raw, Out, done, stop, Act, give, store, spend, _>>_, _>>=_}
 use Rattle.machine.specs.Variables.{declare, setVariable}
 use Rattle.machine.specs.Evaluate.{Setting}
 use Rattle.machine.specs.Interpret.{bodyAt}
+use Rattle.machine.specs.Show.{showScene}
 use Rattle.simulation.specs.Follows.{Grants, Follows}
 use Rattle.lending.specs.Lending.{Ready}
-use Rattle.scene.specs.Scene.{sceneIn, Drawable}
+use Rattle.scene.specs.Scene.{sceneIn}
+use Rattle.scene.specs.Measuring.{sizeWith}
 use Rattle.running.specs.Specified.{paintRead}
 use Rattle.running.specs.declared.Ending.{Ending}
 use Rattle.running.specs.declared.Ending.the-variants.{Complete, Stopped}
@@ -45,6 +48,16 @@ bodyRun e main width height = do
   bodyAt mainFuel e (startIn main + 2) (bodyIn main)
   give tt
 
+-- main returns: its call is given back, and the scene that it leaves is measured
+unfoldable pub mainEnds : List ℕ → List ℕ → List ℕ → Act (Unit {0})
+mainEnds program texts g = do
+  store callsUsed 0
+  showScene (sizeWith program texts) g
+
+-- both
+unfoldable pub mainRun : Setting → ℕ → ℤ → ℤ → Act (Unit {0})
+mainRun e main width height = bodyRun e main width height >>= λ _ r. mainEnds (e .program) (r .texts) (e .grants) r
+
 -- ---- endings
 unfoldable pub shownEnding : Ending → List ℕ → List ℕ → Out (Unit {0})
 shownEnding Complete ts ws = done tt (raw ts ws)
@@ -55,15 +68,17 @@ pub record Begins (before : List ℕ) (act : Act (Unit {0})) (e : Ending) (after
   pub equal : (ts : List ℕ) → shownEnding e ts after ≡ act (raw ts before)
 
 -- ---- what is promised
--- the stores hold the shapes of these figures, and the steps counted
-pub record Painted (program : List ℕ) (a : Unit {0}) (figures : List Figure) (r : Raw) (s : State) (total : Amounts) : Type 0 where
-  pub scene : figures ≡ sceneIn program r
-  pub drawable : Drawable (r .words)
+-- the stores hold the shapes of these figures, how long the lines of all are, and the steps counted
+pub record Painted (program g : List ℕ) (a : Unit {0}) (figures : List Figure) (r : Raw) (s : State) (total : Amounts) : Type 0 where
+  pub scene : figures ≡ sceneIn program g r
+  pub lines : getD (r .words) linesLength 0 ≡ length (linesOf figures)
+  pub short : length (linesOf figures) < 2 ^ 49
+  pub room : Room g (r .words)
   pub told : getD (r .words) stepsUsed 0 ≡ total steps
 
 -- the run ends as the book of a specified run does, whatever out slice there is
 pub record Ran (program : List ℕ) (g : List ℕ) (m : Run (List Figure)) (e : Ending) (ts ws : List ℕ) : Type 0 where
-  pub follows : (granted : Amounts) → Grants g granted → Follows granted nothingYet (Painted program) (shownEnding e ts ws) m
+  pub follows : (granted : Amounts) → Grants g granted → Follows granted nothingYet (Painted program g) (shownEnding e ts ws) m
 
 abbrev pub paintingRun : List ℕ → ℤ → ℤ → List ℕ → Run (List Figure)
 paintingRun program width height g = painting program width height (suc (stepsGranted g)) empty

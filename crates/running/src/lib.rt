@@ -12,10 +12,10 @@ ghost use lib.IntN.{pos};
 ghost use lib.Signed.{ltZ};
 ghost use lib.ListN.{length};
 ghost use Rattle.machine.specs.Act.{raw};
-ghost use Rattle.machine.specs.Layout.{fixedWords, Lent};
+ghost use Rattle.machine.specs.Layout.{fixedWords, Room, Lent};
 ghost use Rattle.machine.specs.Evaluate.{setting};
 ghost use Rattle.lending.specs.Lending.{Ready};
-ghost use Rattle.running.specs.Running.{mainBegins, Begins, bodyRun, shownEnding, Ran, paintingRun, readingRun, Blank, ReadyToRead};
+ghost use Rattle.running.specs.Running.{mainBegins, Begins, bodyRun, mainEnds, mainRun, shownEnding, Ran, paintingRun, readingRun, Blank, ReadyToRead};
 
 // How deep expressions, statements and calls may be inside one another: 64 calls of a program's whole code need less than half of it.
 const FUEL: usize = 2097152;
@@ -98,6 +98,43 @@ fn run_body(
     }
 }
 
+// Main returns: its call is given back, and the scene that it leaves is measured. 79 if the steps run out.
+fn leave<'a>(program: &'a [u8], texts: &'a [u8], words: &mut [u64], grants: &[u64; 5]) -> Ending
+    requires { ⌜ Room (now grants) (now words) ⌝ }
+    ensures { λ r. ⌜ Begins (now (words .entry)) (mainEnds (now (program .entry)) (now (texts .entry)) (now (grants .entry))) r (now (words .exit)) ⌝ }
+{
+    words[counters::CALLS] = 0;
+    let r = scene::measure_scene(program, texts, words, grants);
+    if r != 0 {
+        return Ending::Stopped(r, 0);
+    }
+    Ending::Complete
+}
+
+// Main from its beginning to its return.
+fn run_main(
+    program: &[u8],
+    code: &[u64],
+    grants: &[u64; 5],
+    texts: &mut [u8],
+    words: &mut [u64],
+    main: u64,
+    width: i32,
+    height: i32,
+) -> Ending
+    requires { ⌜ Lent (now grants) (now texts) (now words) ⌝ }
+    ensures { λ r. ⌜ shownEnding r (now (texts .exit)) (now (words .exit))
+        ≡ mainRun (setting (now (program .entry)) (now (code .entry)) (now (grants .entry))) main width height (raw (now (texts .entry)) (now (words .entry))) ⌝ }
+{
+    match run_body(program, code, grants, texts, words, main, width, height) {
+        Ending::Complete => {
+            let r = leave(program, texts, words, grants);
+            r
+        }
+        Ending::Stopped(k, p) => Ending::Stopped(k, p),
+    }
+}
+
 // A program of at most 32,768 bytes on a sheet, where the words hold zeros.
 fn run_read(
     program: &[u8],
@@ -119,7 +156,7 @@ fn run_read(
             if code::parameters_of(main) != 2 {
                 return Ending::Stopped(20, 0);
             }
-            let r = run_body(program, code, grants, texts, words, main, width, height);
+            let r = run_main(program, code, grants, texts, words, main, width, height);
             r
         }
     }
@@ -134,7 +171,7 @@ fn clear_but_stack(words: &mut [u64])
     slices::clear_words(&mut words[layout::FIXED_WORDS..]);
 }
 
-// Runs a program. The words and the text store then hold what it left, and the words how many steps were counted.
+// Runs a program. The words and the text store then hold what it left, and the words how many steps were counted and how long the lines of its scene are.
 pub fn run(
     program: &[u8],
     width: i32,

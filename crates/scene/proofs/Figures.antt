@@ -1,27 +1,23 @@
 -- The line of a shape, from its words.
 -- Assumes nothing.
-use Prim.Native.Nat.{ℕ, _+_, _/_, _%_, _^_, _≤_, _<_}
+use Prim.Native.Nat.{ℕ, _+_, _/_, _%_, _^_, _<_}
 use mathlib.Core.Path.{_≡_}
-use mathlib.Core.Bool.{Bool, true, false}
 use mathlib.Core.List.{List}
 use native.Mathlib.Omega.{arith}
-use lib.Dec.{eqb}
 use lib.IntN.{ℤ}
-use lib.ListN.{length, getD, length-take}
+use lib.ListN.{length, getD}
 use mir.Syntax.{w8, w32}
 use mir.Val.{Fits, SFits, toZ, ofZ}
 use mir.ValLaws.{toZ-fits, toZ-ofZ}
-use Rattle.meaning.specs.Basics.{if_then_else_}
 use Rattle.meaning.specs.Figure as drawn
 use Rattle.meaning.specs.Picture.{lineOf}
-use Rattle.machine.specs.Act.{Raw, raw}
+use Rattle.machine.specs.Act.{raw}
 use Rattle.machine.specs.declared.Figure.{Figure}
 use Rattle.machine.specs.Layout.{shapePlace}
 use Rattle.machine.specs.Shapes.{lowNumber, highNumber, figureAt}
-use Rattle.machine.specs.Texts.{originIn, startIn, sizeIn, part, textOf}
+use Rattle.machine.specs.Texts.{textOf}
 use Rattle.picture.specs.Parts.{figureFrom}
 use Rattle.writing.specs.Placed.{WroteAt}
-use Rattle.picture.proofs.Lines.{line-short}
 use Rattle.scene.specs.Scene.{figureFor}
 
 -- ---- numbers
@@ -72,25 +68,3 @@ module _ (program ts ws : List ℕ) (i : ℕ) (f : Figure) (s : List ℕ) (e : f
   pub line-written : {at r : ℕ} {before after : List ℕ} → WroteAt at (lineOf (handed f s)) before after r
       → WroteAt at (lineOf (figureFor program (raw ts ws) i)) before after r
   line-written h = rw is-figure at h
-
--- ---- how long a line can be
-text-short : (program ts : List ℕ) (h : ℕ) → length (textOf program ts h) ≤ 65535
-unfolding textOf if_then_else_ part
-text-short program ts h = go (eqb (originIn h) 0)
-  where
-    go : (o : Bool) → length (if o then (λ _. part (startIn h) (sizeIn h) program) else λ _. part (startIn h) (sizeIn h) ts) ≤ 65535
-    go true = simp length-take (omega arith)
-    go false = simp length-take (omega arith)
-
-pub line-bound : (program : List ℕ) (r : Raw) (i : ℕ) → length (lineOf (figureFor program r i)) ≤ 65616
-unfolding figureFor figureAt
-line-bound program r i =
-    let x = getD (r .words) (shapePlace i) 0 in
-    let y = getD (r .words) (shapePlace i + 1) 0 in
-    let z = getD (r .words) (shapePlace i + 2) 0 in
-    omega (
-      arith,
-      text-short program (r .texts) (x / 8),
-      line-short (x / 2 % 4) (lowNumber y) (highNumber y) (lowNumber z) (highNumber z) (textOf program (r .texts) (x / 8)) (low-fits y)
-          (high-fits y) (low-fits z) (high-fits z),
-    )

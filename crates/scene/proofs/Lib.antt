@@ -1,3 +1,5 @@
 mod Figures
-mod Shown
-mod Turns
+mod MeasureLaws
+mod ShowLaws
+mod WriteLaws
+mod Words

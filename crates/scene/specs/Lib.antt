@@ -1,1 +1,3 @@
 pub mod Scene
+pub mod Measuring
+pub mod Showing

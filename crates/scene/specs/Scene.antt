@@ -1,16 +1,17 @@
 -- The figures that the stores hold for a picture.
-use Prim.Native.Nat.{ℕ, zero, suc, _≤_}
+use Prim.Native.Nat.{ℕ, zero, suc}
 use mathlib.Core.Bool.{_&&_, not}
 use mathlib.Core.List.{List, [], _∷_, _++_}
-use lib.ListN.{length, getD}
+use lib.ListN.{getD}
 use lib.Dec.{eqb}
 use Rattle.meaning.specs.Basics.{if_then_else_}
 use Rattle.meaning.specs.Figure.{Figure}
 use Rattle.machine.specs.Words.{kindIn, numberIn}
-use Rattle.machine.specs.Layout.{declared, valuePlace, orderPlace, fixedWords}
+use Rattle.machine.specs.Layout.{declared, valuePlace, orderPlace, shapesGranted}
 use Rattle.machine.specs.Act.{Raw}
 use Rattle.machine.specs.Texts.{textOf}
 use Rattle.machine.specs.Shapes.{destroyedAt, figureAt}
+use Rattle.machine.specs.Show.{figuresIn}
 use Rattle.picture.specs.Parts.{figureFrom}
 
 -- the figure of the shape numbered i
@@ -19,24 +20,24 @@ figureFor program r i =
     let f = figureAt (r .words) i in
     figureFrom (f .kind) (f .a) (f .b) (f .c) (f .d) (textOf program (r .texts) (f .text))
 
--- what a variable's word adds: the figure of an undestroyed shape
-unfoldable pub shownBy : List ℕ → Raw → ℕ → List Figure
-shownBy program r w =
-    if eqb (kindIn w) 6 && not (destroyedAt (r .words) (numberIn w)) then (λ _. figureFor program r (numberIn w) ∷ []) else λ _. []
+-- those of several
+unfoldable pub figuresFor : List ℕ → Raw → List ℕ → List Figure
+figuresFor program r [] = []
+figuresFor program r (i ∷ more) = figureFor program r i ∷ figuresFor program r more
+
+-- the shapes that a variable's word adds: an undestroyed figure, or those in a group
+unfoldable pub shownBy : List ℕ → List ℕ → ℕ → List ℕ
+shownBy g ws w =
+    if eqb (kindIn w) 6 && not (destroyedAt ws (numberIn w)) then (λ _. figuresIn (shapesGranted g) g ws (numberIn w)) else λ _. []
 
 -- the word of the k-th declaration's variable
 abbrev pub wordOf : List ℕ → ℕ → ℕ
 wordOf ws k = getD ws (valuePlace (getD ws (orderPlace k) 0)) 0
 
 -- what the variables of the first n declarations add
-unfoldable pub shownFirst : List ℕ → Raw → ℕ → List Figure
-shownFirst program r zero = []
-shownFirst program r (suc k) = shownFirst program r k ++ shownBy program r (wordOf (r .words) k)
+unfoldable pub shownFirst : List ℕ → List ℕ → ℕ → List ℕ
+shownFirst g ws zero = []
+shownFirst g ws (suc k) = shownFirst g ws k ++ shownBy g ws (wordOf ws k)
 
-abbrev pub sceneIn : List ℕ → Raw → List Figure
-sceneIn program r = shownFirst program r (getD (r .words) declared 0)
-
--- what both functions ask
-pub record Drawable (ws : List ℕ) : Type 0 where
-  pub long : fixedWords ≤ length ws
-  pub few : getD ws declared 0 ≤ 8192
+abbrev pub sceneIn : List ℕ → List ℕ → Raw → List Figure
+sceneIn program g r = figuresFor program r (shownFirst g (r .words) (getD (r .words) declared 0))

@@ -10,20 +10,20 @@ use borrow.Author.Tests.{lt-leb}
 use Rattle.meaning.specs.Token.{Token}
 use Rattle.meaning.specs.State.{State}
 use Rattle.meaning.specs.Book.{Amounts}
-use Rattle.machine.specs.Layout.{stepsUsed, shapesUsed, entriesUsed, textUsed, tablesMade, argumentsHeld, callsUsed, stackWords, fixedWords, argumentPlace}
+use Rattle.machine.specs.Layout.{stepsUsed, shapesUsed, entriesUsed, textUsed, tablesMade, argumentsHeld, callsUsed, entriesMade, componentsMade, stackWords, argumentPlace}
 use Rattle.machine.specs.Act.{Raw, raw, done}
 use Rattle.machine.specs.Act as Act
 use Rattle.machine.specs.Stack.{argumentAt, push}
 use Rattle.simulation.specs.Sound.{Counted, Waiting}
 use Rattle.simulation.specs.Follows.{Related, Later}
-use Rattle.simulation.proofs.Frames.{later-trans, untouched-trans, SameWaiting, same-waiting}
+use Rattle.simulation.proofs.Frames.{stays-words, later-trans, untouched-trans, SameWaiting, same-waiting}
 use Rattle.simulation.proofs.Results.{Untouched, After}
-use Rattle.simulation.proofs.Counting.{figure-same, other, here, set-untouched, set-related}
+use Rattle.simulation.proofs.Counting.{other, here, Aside, aside, set-untouched, set-related}
 
 module _ {program : List ℕ} {ts : List Token} {g : List ℕ} where
   -- ---- one word of the stack, or its height
-  module _ {r : Raw} {s : State} {total : Amounts} (h : Related program ts g r s total) (i x : ℕ) (high : argumentsHeld ≤ i) (low : i < fixedWords)
-      (apart : (j : ℕ) → callsUsed ≤ j → j < 16464 → j ≢ i) (few : getD (set (r .words) i x) argumentsHeld 0 ≤ stackWords) where
+  module _ {r : Raw} {s : State} {total : Amounts} (h : Related program ts g r s total) (i x : ℕ) (high : argumentsHeld ≤ i)
+      (beside : Aside h i x) (made : i ≢ entriesMade) (few : getD (set (r .words) i x) argumentsHeld 0 ≤ stackWords) where
     abbrev next : Raw
     next = raw (r .texts) (set (r .words) i x)
 
@@ -31,7 +31,7 @@ module _ {program : List ℕ} {ts : List Token} {g : List ℕ} where
     counter j l = other h i x j (λ e. omega arith)
 
     calls-same : getD (next .words) callsUsed 0 ≡ getD (r .words) callsUsed 0
-    calls-same = other h i x callsUsed (apart callsUsed (omega arith) (omega arith))
+    calls-same = other h i x callsUsed (λ e. beside .calls (sym e))
 
     stack-later : Later program r next
     stack-later = record {
@@ -40,7 +40,7 @@ module _ {program : List ℕ} {ts : List Token} {g : List ℕ} where
       text = omega (arith, counter textUsed (omega arith));
       tables = omega (arith, counter tablesMade (omega arith));
       texts = λ t v. refl;
-      figures = λ k l. figure-same (r .words) (next .words) k (λ j m. other h i x _ (λ e. omega arith));
+      figures = λ k l. stays-words (r .words) (next .words) k (λ j m. other h i x _ (λ e. omega (arith, beside .low)));
     }
 
     stack-counted : Counted g (next .words)
@@ -48,6 +48,7 @@ module _ {program : List ℕ} {ts : List Token} {g : List ℕ} where
       steps = rw (counter stepsUsed (omega arith)) (c .steps);
       shapes = rw (counter shapesUsed (omega arith)) (c .shapes);
       entries = rw (counter entriesUsed (omega arith)) (c .entries);
+      made = rw (other h i x entriesMade (λ e. made (sym e)), other h i x componentsMade (λ e. beside .parts (sym e)), counter entriesUsed (omega arith)) (c .made);
       text = rw (counter textUsed (omega arith)) (c .text);
       tables = rw (counter tablesMade (omega arith), counter stepsUsed (omega arith)) (c .tables);
       arguments = few;
@@ -56,7 +57,7 @@ module _ {program : List ℕ} {ts : List Token} {g : List ℕ} where
 
     stack-related : SameWaiting program ts r next → Related program ts g next s total
     stack-related sw =
-        set-related h i x stack-later apart low (λ e. omega arith) (λ e. omega arith) (λ e. omega arith) stack-counted sw
+        set-related h i x beside stack-later (λ e. omega arith) (λ e. omega arith) made stack-counted sw
         refl refl refl (h .tables ∙ sym (counter tablesMade (omega arith))) refl
         (h .stepsTaken ∙ sym (counter stepsUsed (omega arith))) (h .shapesTaken ∙ sym (counter shapesUsed (omega arith)))
         (h .entriesTaken ∙ sym (counter entriesUsed (omega arith))) (h .textTaken ∙ sym (counter textUsed (omega arith))) (h .callsTaken ∙ sym calls-same)
@@ -70,7 +71,7 @@ module _ (program : List ℕ) (ts : List Token) (g : List ℕ) where
     pub tables : getD (r′ .words) tablesMade 0 ≡ getD (r .words) tablesMade 0
     pub held : getD (r′ .words) argumentsHeld 0 ≡ getD (r .words) argumentsHeld 0 + 1
     pub newest : argumentAt (r′ .words) (getD (r .words) argumentsHeld 0) ≡ w
-    pub untouched : Untouched r r′
+    pub untouched : Untouched g r r′
 
 module _ {program : List ℕ} {ts : List Token} {g : List ℕ} where
   module _ {r : Raw} {s : State} {total : Amounts} (h : Related program ts g r s total) (room : getD (r .words) argumentsHeld 0 < stackWords) (w : ℕ) where
@@ -80,17 +81,27 @@ module _ {program : List ℕ} {ts : List Token} {g : List ℕ} where
     first-other : (j : ℕ) → j < 16464 → getD (first .words) j 0 ≡ getD (r .words) j 0
     first-other j l = other h (argumentPlace (getD (r .words) argumentsHeld 0)) w j (λ e. omega arith)
 
+    on-stack : Aside h (argumentPlace (getD (r .words) argumentsHeld 0)) w
+    on-stack = record {
+      low = omega arith;
+      parts = λ e. omega arith;
+      unit = λ e. omega arith;
+      calls = λ e. omega arith;
+      running = λ e. omega arith;
+      variables = λ j a b e. omega arith;
+    }
+
     first-few : getD (first .words) argumentsHeld 0 ≤ stackWords
     first-few = rw (first-other argumentsHeld (omega arith)) (h .sound .counted .arguments)
 
     first-later : Later program r first
-    first-later = stack-later h (argumentPlace (getD (r .words) argumentsHeld 0)) w (omega arith) (omega arith) (λ j a b e. omega arith) first-few
+    first-later = stack-later h (argumentPlace (getD (r .words) argumentsHeld 0)) w (omega arith) on-stack (λ e. omega arith) first-few
 
-    first-untouched : Untouched r first
-    first-untouched = set-untouched h (argumentPlace (getD (r .words) argumentsHeld 0)) w (λ j a b e. omega arith) (λ k l e. omega arith)
+    first-untouched : Untouched g r first
+    first-untouched = set-untouched h (argumentPlace (getD (r .words) argumentsHeld 0)) w on-stack (λ k l e. omega arith)
 
     h₁ : Related program ts g first s total
-    h₁ = stack-related h (argumentPlace (getD (r .words) argumentsHeld 0)) w (omega arith) (omega arith) (λ j a b e. omega arith) first-few
+    h₁ = stack-related h (argumentPlace (getD (r .words) argumentsHeld 0)) w (omega arith) on-stack (λ e. omega arith) first-few
         (same-waiting first-later first-untouched (rw (first-other argumentsHeld (omega arith)) (le-refl _)) (h .sound .waiting) ts)
 
     abbrev pub pushedOn : Raw
@@ -100,14 +111,14 @@ module _ {program : List ℕ} {ts : List Token} {g : List ℕ} where
     height = here h₁ argumentsHeld _ (omega arith)
 
     push-later : Later program first pushedOn
-    push-later = stack-later h₁ argumentsHeld _ (omega arith) (omega arith) (λ j a b e. omega arith) (omega (arith, height))
+    push-later = stack-later h₁ argumentsHeld _ (omega arith) (aside h₁ argumentsHeld _ (omega arith)) (λ e. omega arith) (omega (arith, height))
 
-    push-untouched : Untouched first pushedOn
-    push-untouched = set-untouched h₁ argumentsHeld _ (λ j a b e. omega arith) (λ k l e. omega arith)
+    push-untouched : Untouched g first pushedOn
+    push-untouched = set-untouched h₁ argumentsHeld _ (aside h₁ argumentsHeld _ (omega arith)) (λ k l e. omega arith)
 
     pub pushed : Pushed program ts g r w pushedOn s total
     pushed = record {
-      related = stack-related h₁ argumentsHeld _ (omega arith) (omega arith) (λ j a b e. omega arith) (omega (arith, height))
+      related = stack-related h₁ argumentsHeld _ (omega arith) (aside h₁ argumentsHeld _ (omega arith)) (λ e. omega arith) (omega (arith, height))
           (same-waiting push-later push-untouched (omega (arith, height, first-other argumentsHeld (omega arith))) (h₁ .sound .waiting) ts);
       later = later-trans first-later push-later;
       steps = other h₁ argumentsHeld _ stepsUsed (λ e. omega arith) ∙ first-other stepsUsed (omega arith);
@@ -124,7 +135,7 @@ module _ {program : List ℕ} {ts : List Token} {g : List ℕ} where
   -- back to as many as there were at r₀
   module _ {r₀ r : Raw} {s : State} {total : Amounts} (h : Related program ts g r s total) (l : Later program r₀ r)
       (spare : getD (r .words) tablesMade 0 + getD (r₀ .words) stepsUsed 0 ≤ getD (r₀ .words) tablesMade 0 + getD (r .words) stepsUsed 0)
-      (low : getD (r₀ .words) argumentsHeld 0 ≤ getD (r .words) argumentsHeld 0) (u : Untouched r₀ r) (waits : Waiting program (r₀ .words)) where
+      (low : getD (r₀ .words) argumentsHeld 0 ≤ getD (r .words) argumentsHeld 0) (u : Untouched g r₀ r) (waits : Waiting program (r₀ .words)) where
     abbrev pub dropped : Raw
     dropped = raw (r .texts) (set (r .words) argumentsHeld (getD (r₀ .words) argumentsHeld 0))
 
@@ -135,20 +146,20 @@ module _ {program : List ℕ} {ts : List Token} {g : List ℕ} where
     few = omega (arith, back, low, h .sound .counted .arguments)
 
     pub drop-later : Later program r dropped
-    drop-later = stack-later h argumentsHeld _ (omega arith) (omega arith) (λ j a b e. omega arith) few
+    drop-later = stack-later h argumentsHeld _ (omega arith) (aside h argumentsHeld _ (omega arith)) (λ e. omega arith) few
 
     all-later : Later program r₀ dropped
     all-later = later-trans l drop-later
 
-    drop-untouched : Untouched r₀ dropped
-    drop-untouched = untouched-trans low u (set-untouched h argumentsHeld _ (λ j a b e. omega arith) (λ k l e. omega arith))
+    drop-untouched : Untouched g r₀ dropped
+    drop-untouched = untouched-trans low u (set-untouched h argumentsHeld _ (aside h argumentsHeld _ (omega arith)) (λ k l e. omega arith))
 
     level : getD (r₀ .words) argumentsHeld 0 ≤ getD (dropped .words) argumentsHeld 0
     level = omega (arith, back)
 
     pub drops : After program ts g r₀ dropped s total
     drops = record {
-      related = stack-related h argumentsHeld _ (omega arith) (omega arith) (λ j a b e. omega arith) few
+      related = stack-related h argumentsHeld _ (omega arith) (aside h argumentsHeld _ (omega arith)) (λ e. omega arith) few
           (record {
             waiting = same-waiting all-later drop-untouched level waits ts .waiting;
             suspended = same-waiting all-later drop-untouched level waits ts .suspended ∙ sym (same-waiting l u low waits ts .suspended);

@@ -1,7 +1,7 @@
 -- Assignments: a shape is copied, anything else is put as it is.
 use Prim.Native.Nat.{ℕ, _+_, _*_, _/_, _%_, _^_, _≤_, _<_}
 use native.Mathlib.Omega.{arith}
-use mathlib.Core.Path.{_≡_, refl, sym, _∙_, subst}
+use mathlib.Core.Path.{_≡_, refl, ap, sym, _∙_, subst}
 use mathlib.Core.Logic.{_≢_}
 use mathlib.Core.Bool.{Bool, true, false}
 use mathlib.Core.List.{List}
@@ -15,19 +15,21 @@ use Rattle.meaning.specs.Basics.{if_then_else_}
 use Rattle.meaning.specs.Token.{Token, aName}
 use Rattle.meaning.specs.Integer.{bits}
 use Rattle.meaning.specs.Value as Value
-use Rattle.meaning.specs.State.{State, figureOf, valueIn, isSome, assigned, withVariables}
+use Rattle.meaning.specs.State.{State, contentOf, valueIn, isSome, assigned, withVariables}
 use Rattle.meaning.specs.Run as Run
 use Rattle.meaning.specs.Book.{Amounts}
+use Rattle.meaning.specs.Group as Group
 use Rattle.meaning.specs.Execute as Execute
 use Rattle.code.specs.Code.{slotOf}
 use Rattle.reader.proofs.Homes.{Occurs}
 use Rattle.machine.specs.declared.Value.{Value}
 use Rattle.machine.specs.declared.Value.the-variants.{Integer, Text, Boolean, Nothing, Table, Shape}
 use Rattle.machine.specs.Words.{kindIn, kindShape, numberIn, packed}
-use Rattle.machine.specs.Layout.{valuePlace}
+use Rattle.machine.specs.Layout.{shapesUsed, valuePlace}
 use Rattle.machine.specs.Act.{Raw, raw}
 use Rattle.machine.specs.Act as Act
-use Rattle.machine.specs.Shapes.{figureAt, newShape}
+use Rattle.machine.specs.Shapes.{isGroupAt, figureAt}
+use Rattle.machine.specs.Groups.{copyShape}
 use Rattle.machine.specs.Variables.{setVariable}
 use Rattle.machine.specs.Evaluate.{Setting}
 use Rattle.machine.specs.declared.Flow.the-variants.{Onward}
@@ -35,10 +37,12 @@ use Rattle.machine.specs.Effects.{copied, assigning}
 use Rattle.simulation.specs.Meant.{meantValue, meantWord}
 use Rattle.simulation.specs.Sound.{Valid, Sound}
 use Rattle.simulation.specs.Follows.{Grants, Related, Follows}
-use Rattle.simulation.proofs.Binding.{bind}
-use Rattle.simulation.proofs.Results.{given, failed, at-exactly, After, AfterValue, unmoved, onward, steps-told}
-use Rattle.simulation.proofs.Usable.{figure-found, uses-at}
-use Rattle.simulation.proofs.Shapes.{AfterShape, makes-shape}
+use Rattle.simulation.proofs.Binding.{bind, give-after, act-after}
+use Rattle.simulation.proofs.Results.{mapped, given, failed, at-exactly, After, AfterValue, unmoved, onward, steps-told}
+use Rattle.simulation.proofs.Usable.{figure-found, group-found, uses-at}
+use Rattle.simulation.proofs.Shapes.{shape-value, makes-shape}
+use Rattle.simulation.proofs.Growing.{AfterShape}
+use Rattle.simulation.proofs.Grouping.{copies-group}
 use Rattle.simulation.proofs.Variables.{undeclared, is-declared}
 use Rattle.simulation.proofs.Keys.{kind-packed, back-again, shape-small}
 use Rattle.simulation.proofs.Chaining.{regroup}
@@ -52,19 +56,48 @@ copyOf g p (Text t) = Act.give (Text t)
 copyOf g p (Boolean b) = Act.give (Boolean b)
 copyOf g p Nothing = Act.give Nothing
 copyOf g p (Table t) = Act.give (Table t)
-copyOf g p (Shape i) = λ r. newShape g p (figureAt (r .words) i) r
+copyOf g p (Shape i) = copyShape g p i
+
+-- the variables stay
+record AfterCopy (program : List ℕ) (ts : List Token) (g : List ℕ) (r : Raw) (s : State) (v : Value) (u : Value.Value) (r′ : Raw) (s′ : State) (total : Amounts) : Type 0 where
+  value : AfterValue program ts g r v u r′ s′ total
+  variables : s′ .variables ≡ s .variables
 
 module _ (e : Setting) {ts : List Token} {granted : Amounts} (gr : Grants (e .grants) granted) {r : Raw} {s : State} {total : Amounts}
     (h : Related (e .program) ts (e .grants) r s total) (p : ℕ) where
+  -- a figure anew, or a group with the same components
+  copies-shape : (i : ℕ) → i < getD (r .words) shapesUsed 0
+      → Follows granted total (λ w u r′ s′ total′. AfterCopy (e .program) ts (e .grants) r s w (Value.shape u) r′ s′ total′) (copyShape (e .grants) p i r) (Group.newShape p (contentOf s i) s)
+  unfolding copyShape if_then_else_ Valid meantValue Act._>>=_ Act.goOn Act.held Act.give
+  copies-shape i l = go (isGroupAt (r .words) i) refl
+    where
+      go : (t : Bool) → isGroupAt (r .words) i ≡ t
+          → Follows granted total (λ w u r′ s′ total′. AfterCopy (e .program) ts (e .grants) r s w (Value.shape u) r′ s′ total′) (copyShape (e .grants) p i r) (Group.newShape p (contentOf s i) s)
+      go true q =
+          rw (q, group-found h i l q)
+          (act-after {R = λ k j r′ s′ total′. AfterShape (e .program) ts (e .grants) r s k j r′ s′ total′} _ (λ k j r′ s′ total′ a. record {
+            result = Shape k;
+            slices = r′;
+            is = refl;
+            holds = record {
+              value = record { after = a .after; valid = omega (arith, a .here, a .used); means = ap Value.shape (a .same) };
+              variables = a .variables;
+            };
+          }) (copies-group h i l q p gr))
+      go false q =
+          rw (q, figure-found h i l q)
+          (mapped (λ v j r′ s′ total′ a. record { value = shape-value a; variables = a .shape .variables })
+          (makes-shape gr h (figureAt (r .words) i) _ (h .sound .shapes .proper i l q) refl p))
+
   copies : (v : Value) → Valid (e .program) (r .words) v
-      → Follows granted total (λ w u r′ s′ total′. AfterShape (e .program) ts (e .grants) r s w u r′ s′ total′) (copyOf (e .grants) p v r) (Execute.copied p (meantValue (e .program) (r .texts) v) s)
+      → Follows granted total (λ w u r′ s′ total′. AfterCopy (e .program) ts (e .grants) r s w u r′ s′ total′) (copyOf (e .grants) p v r) (Execute.copied p (meantValue (e .program) (r .texts) v) s)
   unfolding copyOf Execute.copied meantValue Valid Act.give Run.give Run._>>=_ Run.goOn Run.current
   copies (Integer z) l = given (record { value = record { after = unmoved h; valid = l; means = refl }; variables = refl })
   copies (Text t) l = given (record { value = record { after = unmoved h; valid = l; means = refl }; variables = refl })
   copies (Boolean b) l = given (record { value = record { after = unmoved h; valid = tt; means = refl }; variables = refl })
   copies Nothing l = given (record { value = record { after = unmoved h; valid = tt; means = refl }; variables = refl })
   copies (Table t) l = given (record { value = record { after = unmoved h; valid = l; means = refl }; variables = refl })
-  copies (Shape i) l = makes-shape gr h (figureAt (r .words) i) (figureOf s i) (h .sound .shapes .proper i l) (figure-found h i l) p
+  copies (Shape i) l = give-after Value.shape (λ v j r′ s′ total′ a. a) (copies-shape i l)
 
   -- the same by the value's word
   module _ {B : Type 0} (k : ℕ → Act.Act B) where
@@ -73,9 +106,9 @@ module _ (e : Setting) {ts : List Token} {granted : Amounts} (gr : Grants (e .gr
     not-copied w n = rw (ne-eqb _ _ n)
 
     shape-copied : (w i : ℕ) → kindIn w ≡ kindShape → numberIn w ≡ i
-        → Act.goOn (copied (e .grants) p w r) k ≡ Act.goOn (newShape (e .grants) p (figureAt (r .words) i) r) (λ v. k (packed v))
+        → Act.goOn (copied (e .grants) p w r) k ≡ Act.goOn (copyShape (e .grants) p i r) (λ v. k (packed v))
     unfolding copied if_then_else_ Act._>>=_ Act.goOn Act.give
-    shape-copied w i a b = rw (a, b) (regroup (newShape (e .grants) p (figureAt (r .words) i) r) (λ v. Act.give (packed v)) k)
+    shape-copied w i a b = rw (a, b) (regroup (copyShape (e .grants) p i r) (λ v. Act.give (packed v)) k)
 
     copied-then : (v : Value) → Valid (e .program) (r .words) v → Act.goOn (copied (e .grants) p (packed v) r) k ≡ Act.goOn (copyOf (e .grants) p v r) (λ u. k (packed u))
     unfolding copyOf packed Valid Act.give Act.goOn

@@ -25,14 +25,16 @@ use Rattle.reader.proofs.Whole.{Read}
 use Rattle.reader.proofs.Lexing.{lexed-sane}
 use Rattle.reader.proofs.Walk.{Stands, stands-back}
 use Rattle.machine.specs.Opcodes.{tablePlace, startIn, parametersIn, bodyIn}
-use Rattle.machine.specs.Layout.{stepsUsed, argumentsHeld, callsUsed, running, stepsGranted}
+use Rattle.machine.specs.Layout.{stepsUsed, argumentsHeld, loopUnit, callsUsed, running, stepsGranted}
 use Rattle.machine.specs.Act.{Raw}
 use Rattle.machine.specs.Evaluate.{Setting}
 use Rattle.machine.specs.Interpret.{bodyAt}
 use Rattle.simulation.specs.Scope.{scopeOf, isIn}
 use Rattle.simulation.specs.Follows.{Grants, Related, Follows}
-use Rattle.simulation.proofs.Flows.{Flows}
+use Rattle.simulation.proofs.Flows.{Flows, ended}
+use Rattle.simulation.proofs.Nesting.{procedures-nest}
 use Rattle.simulation.proofs.Scopes.{mapped-left, mapped-right}
+use Rattle.simulation.proofs.Inside.{room-first}
 use Rattle.simulation.proofs.Statements.{executes-all}
 use Rattle.simulation.proofs.Performing.{Stored, Procedures, main-scope, calls-follow}
 use Rattle.simulation.proofs.Quoted.{strings-stand}
@@ -79,6 +81,7 @@ module _ (e : Setting) (ts : List Token) (m : Program) (short : length (e .progr
         early = omega (arith, l .within, whole .short, read .few);
         parameters = u .parameters;
         body = u .body;
+        nests = procedures-nest ts m (read .behind) (read .tree) x f named;
         short = omega (arith, u .short, read .few);
       }
 
@@ -141,18 +144,19 @@ module _ (e : Setting) (ts : List Token) (m : Program) (short : length (e .progr
   -- ---- THE LAW
   module _ {granted : Amounts} (gr : Grants (e .grants) granted) where
     pub body-follows : (fuel limit : ℕ) → 8192 * 64 ≤ fuel → {r : Raw} {s : State} {total : Amounts} → Related (e .program) ts (e .grants) r s total
-        → getD (r .words) running 0 ≡ 0 → getD (r .words) callsUsed 0 ≡ 1 → getD (r .words) argumentsHeld 0 ≡ 0 → stepsGranted (e .grants) - getD (r .words) stepsUsed 0 < limit
+        → getD (r .words) running 0 ≡ 0 → getD (r .words) callsUsed 0 ≡ 1 → getD (r .words) argumentsHeld 0 ≡ 0 → getD (r .words) loopUnit 0 ≡ 0
+        → stepsGranted (e .grants) - getD (r .words) stepsUsed 0 < limit
         → Follows granted total (Flows (e .program) ts (e .grants) r)
         (bodyAt fuel e (startIn mainWord + parametersIn mainWord) (bodyIn mainWord) r)
         (executeAll (calling limit (m .procedures)) (m .main .body) limit s)
     unfolding bodyAt
-    body-follows fuel limit deep {r} {s} {total} h main one bottom turns =
+    body-follows fuel limit deep {r} {s} {total} h main one bottom idle turns =
         let size = length (codeOfStatements (m .main .body) ts) in
         let strings = strings-stand (e .program) ts short (read .tokens) sane in
         let balance : size + 2 * length (scopeOf (e .program) ts 0) ≤ 8192 * 1 = omega (arith, scope-size, main-stored .short) in
         rw (main-starts, main-takes, main-has)
-        (executes-all e sane strings gr (m .procedures) (stored-all .apart) limit 0 1 size (8192 * (64 - 1)) (omega (arith, balance))
-        (λ k l. calls-follow e sane strings gr m stored-all limit 0 1 size (omega arith) balance k l) 0 (m .main .body) (main-stored .body)
+        (ended (executes-all e sane strings gr (m .procedures) (stored-all .apart) limit 0 1 size (8192 * (64 - 1)) (omega (arith, balance))
+        (λ k l. calls-follow e sane strings gr m stored-all limit 0 1 size (omega arith) balance k l) 0 (omega arith) 64 (m .main .body) (main-stored .nests) (main-stored .body)
         (λ slot i. rw (main-scope e ts m (read .is)) (mapped-right (slotOf ts) slot (m .main .parameters) (declaredBy (m .main .body)) i))
         fuel (size + 1) (main-stored .start + length (m .main .parameters)) (main-stored .start + length (m .main .parameters) + size) body-there
-        (omega (arith, deep, main-stored .short)) (omega arith) (omega arith) refl r s total h (record { procedure = main; calls = one; turns = turns }) bottom)
+        (omega (arith, deep, main-stored .short)) (omega arith) (omega arith) refl r s total h (record { procedure = main; calls = one; turns = turns }) bottom (room-first idle)))

@@ -16,17 +16,36 @@ use Rattle.meaning.specs.State.{State, Variable, fresh, entered, withVariables}
 use Rattle.meaning.specs.Run as Run
 use Rattle.meaning.specs.Book.{Amounts, added, resourceNumber}
 use Rattle.machine.specs.Words.{unpacked}
-use Rattle.machine.specs.Layout.{declared, argumentsHeld, callsUsed, running, callsGranted, framePlace, valuePlace, argumentPlace, stackWords, fixedWords}
+use Rattle.machine.specs.Layout.{
+  declared,
+  argumentsHeld,
+  callsUsed,
+  running,
+  entriesMade,
+  componentsMade,
+  loopUnit,
+  entriesGranted,
+  callsGranted,
+  pathPlace,
+  framePlace,
+  valuePlace,
+  argumentPlace,
+  stackWords,
+  fixedWords,
+}
 use Rattle.machine.specs.Act.{Raw, raw, done}
 use Rattle.machine.specs.Act as Act
 use Rattle.machine.specs.Stack.{argumentAt}
 use Rattle.machine.specs.Variables.{waitingWord, wordIn, slotIn, frameWord, topIn, countIn}
 use Rattle.machine.specs.Procedures.{suspendFrom, suspend}
 use Rattle.simulation.specs.Meant.{listed, slotAt, variableAt, variablesOf, waitingAt, frameAt, frameOf, suspendedOf}
-use Rattle.simulation.specs.Sound.{Valid, Variables, Waiting}
+use Rattle.simulation.specs.Sound.{Valid, Variables, Waiting, Marks}
 use Rattle.simulation.specs.Follows.{Related, Later}
 use Rattle.simulation.proofs.Listed.{listed-more, listed-shift}
 use Rattle.simulation.proofs.Frames.{
+  SameComponents,
+  SameRest,
+  rest-marks,
   later-trans,
   valid-later,
   same-words,
@@ -133,6 +152,9 @@ module _ {program : List ℕ} {ts : List Token} {g : List ℕ} {r : Raw} {s : St
     pub waits-low : (i : ℕ) → i < declared → getD waits i 0 ≡ getD (r .words) i 0
     waits-low i l = other i (λ e. omega arith) (λ e. omega arith) (λ e. omega arith) (λ e. omega arith) ∙ parked .undeclared .low i (omega arith)
 
+    pub waits-parts : (i : ℕ) → entriesMade ≤ i → i < 16 → getD waits i 0 ≡ getD (r .words) i 0
+    waits-parts i l m = other i (λ e. omega arith) (λ e. omega arith) (λ e. omega arith) (λ e. omega arith) ∙ parked .undeclared .low i (omega arith)
+
     pub waits-high : (i : ℕ) → fixedWords ≤ i → getD waits i 0 ≡ getD (r .words) i 0
     waits-high i l = other i (λ e. omega arith) (λ e. omega arith) (λ e. omega arith) (λ e. omega arith) ∙ parked .undeclared .high i l
 
@@ -185,15 +207,24 @@ module _ {program : List ℕ} {ts : List Token} {g : List ℕ} {r : Raw} {s : St
     }
 
     pub waits-later : Later program r (raw (r .texts) waits)
-    waits-later = moved-later h waits waits-low waits-high
+    waits-later = moved-later h waits waits-low (λ j a b. waits-parts j a (omega arith)) waits-high
+
+    pub waits-rest : SameRest g r (raw (r .texts) waits)
+    waits-rest = record {
+      parts = waits-parts componentsMade (omega arith) (omega arith);
+      unit = waits-parts loopUnit (omega arith) (omega arith);
+      calls = waits-calls;
+      high = λ j l. waits-high j (omega arith);
+    }
 
     still-waiting : SameWaiting program ts r (raw (r .texts) waits)
     still-waiting = waits-same waits-later waits-stack (omega (arith, waits-held)) (h .sound .waiting) ts waits-calls
 
     pub waits-related : Related program ts g (raw (r .texts) waits) (without s) total
     unfolding variablesOf listed
-    waits-related = moved-related h waits waits-low waits-high waits-long (rw waits-held fit) (rw waits-calls (h .sound .counted .calls)) no-variables (rw waits-declared refl)
-        (still-waiting .waiting) (h .suspended ∙ sym (still-waiting .suspended)) refl refl refl refl (h .callsTaken ∙ sym waits-calls)
+    waits-related = moved-related h waits waits-low (λ j a b. waits-parts j a (omega arith)) waits-high waits-long (rw waits-held fit) (rw waits-calls
+        (h .sound .counted .calls)) no-variables (rw waits-declared refl)
+        (still-waiting .waiting) (rest-marks waits-rest (h .sound .marks)) (h .suspended ∙ sym (still-waiting .suspended)) refl refl refl refl (h .callsTaken ∙ sym waits-calls)
 
   -- the act
   pub suspends : (p : ℕ) → suspend (getD (r .words) argumentsHeld 0) (getD (r .words) declared 0) p r
@@ -212,6 +243,9 @@ module _ (program : List ℕ) (ts : List Token) (g : List ℕ) where
     pub held : getD (r′ .words) argumentsHeld 0 ≡ getD (r .words) argumentsHeld 0 + getD (r .words) declared 0
     pub calls : getD (r′ .words) callsUsed 0 ≡ getD (r .words) callsUsed 0 + 1
     pub procedure : getD (r′ .words) running 0 ≡ number
+    pub unit : getD (r′ .words) loopUnit 0 ≡ 0
+    pub parts : SameComponents g r r′
+    pub marks : (d k : ℕ) → d < getD (r .words) callsUsed 0 → k < entriesGranted g → getD (r′ .words) (pathPlace g d k) 0 ≡ getD (r .words) (pathPlace g d k) 0
     pub waits : (j : ℕ) → j < getD (r .words) declared 0
         → argumentAt (r′ .words) (getD (r .words) argumentsHeld 0 + j) ≡ waitingWord (slotAt (r .words) j) (getD (r .words) (valuePlace (slotAt (r .words) j)) 0)
 
@@ -220,42 +254,65 @@ module _ {program : List ℕ} {ts : List Token} {g : List ℕ} {r : Raw} {s : St
     (a : After program ts g (raw (r .texts) (waits h fit number)) r′ (withVariables (without s) (without s .variables ++ fresh xs)) total)
     (same : (i : ℕ) → i ≢ declared → i < 80 → getD (r′ .words) i 0 ≡ getD (waits h fit number) i 0) (texts : r′ .texts ≡ r .texts)
     (some : 0 < getD (r .words) callsUsed 0) (less : getD (r .words) callsUsed 0 + 1 ≤ callsGranted g) where
+  abbrev one : List ℕ
+  one = set (r′ .words) callsUsed (getD (r′ .words) callsUsed 0 + 1)
+
   abbrev now : List ℕ
-  now = set (r′ .words) callsUsed (getD (r′ .words) callsUsed 0 + 1)
+  now = set (set (r′ .words) callsUsed (getD (r′ .words) callsUsed 0 + 1)) loopUnit 0
 
   abbrev pub counted : Raw
-  counted = raw (r′ .texts) (set (r′ .words) callsUsed (getD (r′ .words) callsUsed 0 + 1))
+  counted = raw (r′ .texts) (set (set (r′ .words) callsUsed (getD (r′ .words) callsUsed 0 + 1)) loopUnit 0)
 
-  now-other : (i : ℕ) → i ≢ callsUsed → getD now i 0 ≡ getD (r′ .words) i 0
-  now-other i d = getD-set-other (r′ .words) callsUsed i (getD (r′ .words) callsUsed 0 + 1) 0 d
+  now-other : (i : ℕ) → i ≢ callsUsed → i ≢ loopUnit → getD now i 0 ≡ getD (r′ .words) i 0
+  now-other i d f = getD-set-other one loopUnit i 0 0 f ∙ getD-set-other (r′ .words) callsUsed i (getD (r′ .words) callsUsed 0 + 1) 0 d
 
   now-calls : getD now callsUsed 0 ≡ getD (r .words) callsUsed 0 + 1
   now-calls =
-      getD-set-same (r′ .words) callsUsed (getD (r′ .words) callsUsed 0 + 1) 0 (omega (arith, a .related .sound .lent .room .words))
+      getD-set-other one loopUnit callsUsed 0 0 (λ e. omega arith)
+      ∙ getD-set-same (r′ .words) callsUsed (getD (r′ .words) callsUsed 0 + 1) 0 (omega (arith, a .related .sound .lent .room .words))
       ∙ ap (λ n. n + 1) (same callsUsed (λ e. omega arith) (omega arith) ∙ waits-calls h fit number)
 
+  now-unit : getD now loopUnit 0 ≡ 0
+  now-unit = getD-set-same one loopUnit 0 0 (rw (length-set (r′ .words) callsUsed (getD (r′ .words) callsUsed 0 + 1)) (omega (arith, a .related .sound .lent .room .words)))
+
+  calls-were : getD (r′ .words) callsUsed 0 ≡ getD (r .words) callsUsed 0
+  calls-were = same callsUsed (λ e. omega arith) (omega arith) ∙ waits-calls h fit number
+
+  now-high : (j : ℕ) → fixedWords ≤ j → getD now j 0 ≡ getD (r′ .words) j 0
+  now-high j l = now-other j (λ e. omega arith) (λ e. omega arith)
+
+  now-marks : Marks g now
+  now-marks = let m = a .related .sound .marks in record {
+    idle = λ d k x y z. now-high _ (omega arith) ∙ m .idle d k (omega (arith, calls-were, now-calls)) y z;
+    own = λ k x y.
+        let q : getD now callsUsed 0 - 1 ≡ getD (r .words) callsUsed 0 = omega (arith, now-calls) in
+        let z = now-high (pathPlace g (getD (r .words) callsUsed 0) k) (omega arith) ∙ m .idle (getD (r .words) callsUsed 0) k (omega (arith, calls-were)) (omega arith) y in
+        rw (q, z) (omega arith);
+  }
+
   now-held : getD now argumentsHeld 0 ≡ getD (r .words) argumentsHeld 0 + getD (r .words) declared 0
-  now-held = now-other argumentsHeld (λ e. omega arith) ∙ a .held ∙ waits-held h fit number
+  now-held = now-other argumentsHeld (λ e. omega arith) (λ e. omega arith) ∙ a .held ∙ waits-held h fit number
 
   now-later : Later program r′ counted
-  now-later = moved-later (a .related) now (λ j l. now-other j (λ e. omega arith)) (λ j l. now-other j (λ e. omega arith))
+  now-later = moved-later (a .related) now (λ j l. now-other j (λ e. omega arith) (λ e. omega arith)) (λ j x y. now-other j (λ e. omega arith) (λ e. omega arith)) now-high
 
   all-later : Later program r counted
   all-later = later-trans (waits-later h fit number) (later-trans (a .later) now-later)
 
   stack-same : SameStack r counted
   stack-same = record {
-    frames = λ d z l. now-other (framePlace d) (λ e. omega arith) ∙ same (framePlace d) (λ e. omega arith) (omega arith) ∙ waits-stack h fit number .frames d z l;
-    arguments = λ k l. now-other (argumentPlace k) (λ e. omega arith) ∙ a .untouched .arguments k (omega (arith, waits-held h fit number)) ∙ waits-stack h fit number .arguments k l;
+    frames = λ d z l. now-other (framePlace d) (λ e. omega arith) (λ e. omega arith) ∙ same (framePlace d) (λ e. omega arith) (omega arith) ∙ waits-stack h fit number .frames d z l;
+    arguments = λ k l. now-other (argumentPlace k) (λ e. omega arith) (λ e. omega arith) ∙ a .untouched .arguments k (omega (arith, waits-held h fit number)) ∙ waits-stack h fit number .arguments k l;
   }
 
   own-frame : frameAt now (getD (r .words) callsUsed 0) ≡ frameWord (getD (r .words) argumentsHeld 0) (getD (r .words) declared 0)
-  own-frame = now-other (framePlace (getD (r .words) callsUsed 0)) (λ e. omega arith) ∙ same (framePlace (getD (r .words) callsUsed 0)) (λ e. omega arith) (omega arith) ∙ waits-frame h fit number
+  own-frame = now-other (framePlace (getD (r .words) callsUsed 0)) (λ e. omega arith) (λ e. omega arith) ∙ same (framePlace (getD (r .words) callsUsed 0)) (λ e. omega arith)
+      (omega arith) ∙ waits-frame h fit number
 
   own-word : (j : ℕ) → j < getD (r .words) declared 0
       → argumentAt now (getD (r .words) argumentsHeld 0 + j) ≡ waitingWord (slotAt (r .words) j) (getD (r .words) (valuePlace (slotAt (r .words) j)) 0)
   own-word j l =
-      now-other (argumentPlace (getD (r .words) argumentsHeld 0 + j)) (λ e. omega arith)
+      now-other (argumentPlace (getD (r .words) argumentsHeld 0 + j)) (λ e. omega arith) (λ e. omega arith)
       ∙ a .untouched .arguments (getD (r .words) argumentsHeld 0 + j) (omega (arith, waits-held h fit number))
       ∙ waits-word h fit number j l ∙ parked h fit .waits j (omega arith) (omega arith)
 
@@ -330,18 +387,26 @@ module _ {program : List ℕ} {ts : List Token} {g : List ℕ} {r : Raw} {s : St
   pub begun : Begun program ts g r s total number p xs counted
   unfolding added resourceNumber
   begun = record {
-    related = moved-related (a .related) now (λ j l. now-other j (λ e. omega arith)) (λ j l. now-other j (λ e. omega arith))
-        (length-set (r′ .words) callsUsed (getD (r′ .words) callsUsed 0 + 1)) (rw now-held fit) (rw now-calls less)
+    related = moved-related (a .related) now (λ j l. now-other j (λ e. omega arith) (λ e. omega arith)) (λ j x y. now-other j (λ e. omega arith) (λ e. omega arith)) now-high
+        (length-set one loopUnit 0 ∙ length-set (r′ .words) callsUsed (getD (r′ .words) callsUsed 0 + 1)) (rw now-held fit) (rw now-calls less)
         (variables-kept now-later kept ts (a .related .sound .variables)) (a .related .variables ∙ sym (variables-same now-later kept ts (a .related .sound .variables)))
-        now-waiting now-suspended (omega arith) (omega arith) (omega arith) (omega arith) (omega (arith, h .callsTaken, now-calls));
+        now-waiting now-marks now-suspended (omega arith) (omega arith) (omega arith) (omega arith) (omega (arith, h .callsTaken, now-calls));
     later = all-later;
     stack = stack-same;
-    low = λ i l. now-other i (λ e. omega arith) ∙ same i (λ e. omega arith) (omega arith) ∙ waits-low h fit number i l;
+    low = λ i l. now-other i (λ e. omega arith) (λ e. omega arith) ∙ same i (λ e. omega arith) (omega arith) ∙ waits-low h fit number i l;
     held = now-held;
     calls = now-calls;
-    procedure = now-other running (λ e. omega arith) ∙ same running (λ e. omega arith) (omega arith) ∙ waits-running h fit number;
+    procedure = now-other running (λ e. omega arith) (λ e. omega arith) ∙ same running (λ e. omega arith) (omega arith) ∙ waits-running h fit number;
+    unit = now-unit;
+    parts = record {
+      made = omega (arith, now-other componentsMade (λ e. omega arith) (λ e. omega arith), a .untouched .made, waits-rest h fit number .parts);
+      words = λ k l.
+          now-high _ (omega arith) ∙ a .untouched .components k (omega (arith, waits-rest h fit number .parts)) ∙ waits-high h fit number _ (omega arith);
+    };
+    marks = λ d k x y. now-high _ (omega arith) ∙ a .untouched .marks d k (omega (arith, waits-calls h fit number)) y ∙ waits-high h fit number _ (omega arith);
     waits = own-word;
   }
     where
       kept : SameVariables now-later
-      kept = same-words now-later (now-other declared (λ e. omega arith)) (λ i x y. now-other i (λ e. omega arith))
+      kept = same-words now-later (now-other declared (λ e. omega arith) (λ e. omega arith)) (now-other running (λ e. omega arith) (λ e. omega arith)) (λ i x y. now-other i
+          (λ e. omega arith) (λ e. omega arith))

@@ -18,15 +18,32 @@ use Rattle.meaning.specs.Book.{Amounts, added, resourceNumber, shortageOf}
 use Rattle.meaning.specs.Evaluate as Evaluate
 use Rattle.machine.specs.declared.Value.{Value}
 use Rattle.machine.specs.declared.Value.the-variants.{Table}
-use Rattle.machine.specs.Layout.{stepsUsed, shapesUsed, entriesUsed, textUsed, tablesMade, declared, argumentsHeld, callsUsed, stepsGranted, fixedWords, argumentPlace, shapePlace, Lent}
+use Rattle.machine.specs.Layout.{
+  stepsUsed,
+  shapesUsed,
+  entriesUsed,
+  textUsed,
+  tablesMade,
+  declared,
+  argumentsHeld,
+  callsUsed,
+  running,
+  entriesMade,
+  componentsMade,
+  loopUnit,
+  stepsGranted,
+  fixedWords,
+  argumentPlace,
+  Lent,
+}
 use Rattle.machine.specs.Act.{Raw, raw}
 use Rattle.machine.specs.Act as Act
-use Rattle.machine.specs.Shapes.{figureAt}
 use Rattle.simulation.specs.Meant.{meantValue}
 use Rattle.simulation.specs.Sound.{Valid, Counted}
 use Rattle.simulation.specs.Follows.{Grants, Related, Later, Follows}
 use Rattle.simulation.proofs.Binding.{bind}
-use Rattle.simulation.proofs.Frames.{later-trans, untouched-trans, untouched-words, SameVariables, same-words, SameWaiting, same-waiting, SameShapes, SameEntries}
+use Rattle.simulation.proofs.Frames.{stays-words, later-trans, SameRest, untouched-trans, untouched-words, SameVariables, same-words, SameWaiting, same-waiting, SameShapes}
+use Rattle.simulation.proofs.Holding.{SameEntries}
 use Rattle.simulation.proofs.Results.{due, given, Untouched, After, AfterValue, Values, onward, steps-told, refused, kept-related, spent}
 
 -- ---- lengths
@@ -36,15 +53,7 @@ lent-set {g} {ts} {ws} i x l = record {
   texts = l .texts;
 }
 
--- a figure is the same if its three words are
-pub figure-same : (ws ws′ : List ℕ) (i : ℕ) → ((j : ℕ) → j < 3 → getD ws′ (shapePlace i + j) 0 ≡ getD ws (shapePlace i + j) 0) → figureAt ws′ i ≡ figureAt ws i
-unfolding figureAt
-figure-same ws ws′ i h =
-    let z : shapePlace i + 0 ≡ shapePlace i = omega arith in
-    let a : getD ws′ (shapePlace i) 0 ≡ getD ws (shapePlace i) 0 = rw (← z) (h 0 (omega arith)) in
-    rw (a, h 1 (omega arith), h 2 (omega arith))
-
--- ---- one word set, which is no variable, shape or entry
+-- ---- one word set, which is no variable, shape, entry or component
 module _ {program : List ℕ} {ts : List Token} {g : List ℕ} {r : Raw} {s : State} {total : Amounts} (h : Related program ts g r s total) (i x : ℕ) where
   abbrev pub words′ : List ℕ
   words′ = set (r .words) i x
@@ -55,33 +64,61 @@ module _ {program : List ℕ} {ts : List Token} {g : List ℕ} {r : Raw} {s : St
   pub here : i < fixedWords → getD words′ i 0 ≡ x
   here l = getD-set-same (r .words) i x 0 (omega (arith, h .sound .lent .room .words))
 
-  pub set-untouched : ((j : ℕ) → callsUsed ≤ j → j < 16464 → j ≢ i) → ((k : ℕ) → k < getD (r .words) argumentsHeld 0 → argumentPlace k ≢ i)
-      → Untouched r (raw (r .texts) words′)
-  set-untouched e f = untouched-words (λ j a b. other j (e j a (omega arith))) (λ k l. other (argumentPlace k) (f k l))
+  -- it lies before the shapes, and is none of the counters of components, loops and calls
+  pub record Aside : Type 0 where
+    pub low : i < fixedWords
+    pub parts : i ≢ componentsMade
+    pub unit : i ≢ loopUnit
+    pub calls : i ≢ callsUsed
+    pub running : i ≢ running
+    pub variables : (j : ℕ) → 16 ≤ j → j < 16464 → j ≢ i
 
-  module _ (l : Later program r (raw (r .texts) words′)) where
-    pub same-variables : ((j : ℕ) → callsUsed ≤ j → j < 16464 → j ≢ i) → i ≢ declared → SameVariables l
-    same-variables e n = same-words l (other 5 (λ q. n (sym q))) (λ j a b. other j (e j (omega arith) b))
-
-    pub same-shapes : i < fixedWords → i ≢ shapesUsed → SameShapes l
-    same-shapes e n = record { count = other 1 (λ q. n (sym q)); words = λ k j a b. other _ (λ q. omega arith) }
-
-    pub same-entries : i < fixedWords → i ≢ entriesUsed → SameEntries l (h .sound .shapes) g
-    same-entries e n = record {
-      count = other 2 (λ q. n (sym q));
-      firsts = λ k a. other _ (λ q. omega arith);
-      keys = λ k a. other _ (λ q. omega arith);
-      values = λ k a. other _ (λ q. omega arith);
-      heads = λ b a. other _ (λ q. omega arith);
+  module _ (a : Aside) where
+    pub set-rest : SameRest g r (raw (r .texts) words′)
+    set-rest = record {
+      parts = other componentsMade (λ q. a .parts (sym q));
+      unit = other loopUnit (λ q. a .unit (sym q));
+      calls = other callsUsed (λ q. a .calls (sym q));
+      high = λ j l. other j (λ q. omega (arith, a .low));
     }
 
-    pub set-related : {s′ : State} {total′ : Amounts} → ((j : ℕ) → callsUsed ≤ j → j < 16464 → j ≢ i) → i < fixedWords → i ≢ declared → i ≢ shapesUsed → i ≢ entriesUsed
-        → Counted g words′ → SameWaiting program ts r (raw (r .texts) words′)
-        → s′ .variables ≡ s .variables → s′ .suspended ≡ s .suspended → s′ .shapes ≡ s .shapes → s′ .tables ≡ getD words′ tablesMade 0 → s′ .entries ≡ s .entries
-        → total′ Run.steps ≡ getD words′ stepsUsed 0 → total′ Run.shapes ≡ getD words′ shapesUsed 0 → total′ Run.entries ≡ getD words′ entriesUsed 0 → total′ Run.textBytes ≡ getD words′ textUsed 0
-        → total′ Run.calls ≡ getD words′ callsUsed 0 → Related program ts g (raw (r .texts) words′) s′ total′
-    set-related e b c d f co sw =
-        kept-related h l (lent-set i x (h .sound .lent)) co (same-variables e c) sw (same-shapes b d) (same-entries b f)
+    pub set-untouched : ((k : ℕ) → k < getD (r .words) argumentsHeld 0 → argumentPlace k ≢ i) → Untouched g r (raw (r .texts) words′)
+    set-untouched f = untouched-words set-rest (other running (λ q. a .running (sym q))) (λ j x y. other j (a .variables j x y)) (λ k l. other (argumentPlace k) (f k l))
+
+    module _ (l : Later program r (raw (r .texts) words′)) where
+      pub same-variables : i ≢ declared → SameVariables l
+      same-variables n = same-words l (other declared (λ q. n (sym q))) (other running (λ q. a .running (sym q))) (λ j x y. other j (a .variables j x y))
+
+      pub same-shapes : i ≢ shapesUsed → SameShapes l
+      same-shapes n = record { count = other shapesUsed (λ q. n (sym q)); words = λ k j x y. other _ (λ q. omega (arith, a .low)) }
+
+      pub same-entries : i ≢ entriesMade → SameEntries l (h .sound .shapes)
+      same-entries n = record {
+        count = other entriesMade (λ q. n (sym q));
+        firsts = λ k x. other _ (λ q. omega (arith, a .low));
+        keys = λ k x. other _ (λ q. omega (arith, a .low));
+        values = λ k x. other _ (λ q. omega (arith, a .low));
+        heads = λ b x. other _ (λ q. omega (arith, a .low));
+      }
+
+      pub set-related : {s′ : State} {total′ : Amounts} → i ≢ declared → i ≢ shapesUsed → i ≢ entriesMade
+          → Counted g words′ → SameWaiting program ts r (raw (r .texts) words′)
+          → s′ .variables ≡ s .variables → s′ .suspended ≡ s .suspended → s′ .shapes ≡ s .shapes → s′ .tables ≡ getD words′ tablesMade 0 → s′ .entries ≡ s .entries
+          → total′ Run.steps ≡ getD words′ stepsUsed 0 → total′ Run.shapes ≡ getD words′ shapesUsed 0 → total′ Run.entries ≡ getD words′ entriesUsed 0 → total′ Run.textBytes ≡ getD words′ textUsed 0
+          → total′ Run.calls ≡ getD words′ callsUsed 0 → Related program ts g (raw (r .texts) words′) s′ total′
+      set-related c d f co sw =
+          kept-related h l (lent-set i x (h .sound .lent)) co set-rest (same-variables c) sw (same-shapes d) (same-entries f)
+
+-- a counter below the calls' is aside
+pub aside : {program : List ℕ} {ts : List Token} {g : List ℕ} {r : Raw} {s : State} {total : Amounts} (h : Related program ts g r s total) (i x : ℕ) → i < callsUsed → Aside h i x
+aside h i x l = record {
+  low = omega arith;
+  parts = λ e. omega arith;
+  unit = λ e. omega arith;
+  calls = λ e. omega arith;
+  running = λ e. omega arith;
+  variables = λ j a b e. omega arith;
+}
 
 -- ---- a step
 -- what follows a step: fewer tables were made than steps counted
@@ -117,8 +154,8 @@ module _ {program : List ℕ} {ts : List Token} {g : List ℕ} where
     next-calls : getD (next .words) callsUsed 0 ≡ getD (r .words) callsUsed 0
     next-calls = other h stepsUsed _ callsUsed (λ e. omega arith)
 
-    next-untouched : Untouched r next
-    next-untouched = set-untouched h stepsUsed _ (λ j a b e. omega arith) (λ k l e. omega arith)
+    next-untouched : Untouched g r next
+    next-untouched = set-untouched h stepsUsed _ (aside h stepsUsed _ (omega arith)) (λ k l e. omega arith)
 
     step-later : Later program r next
     step-later = record {
@@ -127,7 +164,7 @@ module _ {program : List ℕ} {ts : List Token} {g : List ℕ} where
       text = omega (arith, next-text);
       tables = omega (arith, next-tables);
       texts = λ t v. refl;
-      figures = λ i l. figure-same (r .words) (next .words) i (λ j k. other h stepsUsed _ _ (λ e. omega arith));
+      figures = λ i l. stays-words (r .words) (next .words) i (λ j k. other h stepsUsed _ _ (λ e. omega arith));
     }
 
     step-counted : Counted g (next .words)
@@ -135,6 +172,7 @@ module _ {program : List ℕ} {ts : List Token} {g : List ℕ} where
       steps = omega (arith, next-steps, fit);
       shapes = rw next-shapes (c .shapes);
       entries = rw next-entries (c .entries);
+      made = rw (other h stepsUsed _ entriesMade (λ e. omega arith), other h stepsUsed _ componentsMade (λ e. omega arith), next-entries) (c .made);
       text = rw next-text (c .text);
       tables = omega (arith, next-steps, next-tables, c .tables);
       arguments = rw next-arguments (c .arguments);
@@ -145,7 +183,7 @@ module _ {program : List ℕ} {ts : List Token} {g : List ℕ} where
     unfolding added resourceNumber
     step-related = record {
       after = record {
-        related = set-related h stepsUsed _ step-later (λ j a b e. omega arith) (omega arith) (λ e. omega arith) (λ e. omega arith) (λ e. omega arith) step-counted
+        related = set-related h stepsUsed _ (aside h stepsUsed _ (omega arith)) step-later (λ e. omega arith) (λ e. omega arith) (λ e. omega arith) step-counted
             (same-waiting step-later next-untouched (rw next-arguments (le-refl _)) (h .sound .waiting) ts) refl refl refl (h .tables ∙ sym next-tables) refl
             (omega (arith, h .stepsTaken, next-steps)) (omega (arith, h .shapesTaken, next-shapes)) (omega (arith, h .entriesTaken, next-entries)) (omega (arith, h .textTaken, next-text))
             (omega (arith, h .callsTaken, next-calls));
@@ -203,8 +241,8 @@ module _ {program : List ℕ} {ts : List Token} {g : List ℕ} where
     tabled-calls : getD (tabled .words) callsUsed 0 ≡ getD (r .words) callsUsed 0
     tabled-calls = other h tablesMade _ callsUsed (λ e. omega arith)
 
-    tabled-untouched : Untouched r tabled
-    tabled-untouched = set-untouched h tablesMade _ (λ j a b e. omega arith) (λ k l e. omega arith)
+    tabled-untouched : Untouched g r tabled
+    tabled-untouched = set-untouched h tablesMade _ (aside h tablesMade _ (omega arith)) (λ k l e. omega arith)
 
     table-later : Later program r tabled
     table-later = record {
@@ -213,7 +251,7 @@ module _ {program : List ℕ} {ts : List Token} {g : List ℕ} where
       text = omega (arith, tabled-text);
       tables = omega (arith, tabled-tables);
       texts = λ t v. refl;
-      figures = λ i l. figure-same (r .words) (tabled .words) i (λ j k. other h tablesMade _ _ (λ e. omega arith));
+      figures = λ i l. stays-words (r .words) (tabled .words) i (λ j k. other h tablesMade _ _ (λ e. omega arith));
     }
 
     table-counted : Counted g (tabled .words)
@@ -221,6 +259,7 @@ module _ {program : List ℕ} {ts : List Token} {g : List ℕ} where
       steps = rw tabled-steps (c .steps);
       shapes = rw tabled-shapes (c .shapes);
       entries = rw tabled-entries (c .entries);
+      made = rw (other h tablesMade _ entriesMade (λ e. omega arith), other h tablesMade _ componentsMade (λ e. omega arith), tabled-entries) (c .made);
       text = rw tabled-text (c .text);
       tables = omega (arith, tabled-tables, tabled-steps, a .few);
       arguments = rw tabled-arguments (c .arguments);
@@ -231,7 +270,7 @@ module _ {program : List ℕ} {ts : List Token} {g : List ℕ} where
     unfolding Valid meantValue
     table-after = record {
       after = record {
-        related = set-related h tablesMade _ table-later (λ j a b e. omega arith) (omega arith) (λ e. omega arith) (λ e. omega arith) (λ e. omega arith) table-counted
+        related = set-related h tablesMade _ (aside h tablesMade _ (omega arith)) table-later (λ e. omega arith) (λ e. omega arith) (λ e. omega arith) table-counted
             (same-waiting table-later tabled-untouched (rw tabled-arguments (le-refl _)) (h .sound .waiting) ts) refl refl refl (ap suc (h .tables) ∙ omega (arith, tabled-tables)) refl
             (h .stepsTaken ∙ sym tabled-steps) (h .shapesTaken ∙ sym tabled-shapes) (h .entriesTaken ∙ sym tabled-entries) (h .textTaken ∙ sym tabled-text) (h .callsTaken ∙ sym tabled-calls);
         later = later-trans (a .after .later) table-later;

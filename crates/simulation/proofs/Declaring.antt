@@ -21,7 +21,7 @@ use Rattle.code.specs.Code.{slotOf}
 use Rattle.reader.proofs.Homes.{Occurs, occurs-found, text-same}
 use Rattle.machine.specs.declared.Value.{Value}
 use Rattle.machine.specs.Words.{kindNothing, packed, unpacked}
-use Rattle.machine.specs.Layout.{stepsUsed, tablesMade, declared, argumentsHeld, callsUsed, running, valuePlace, orderPlace}
+use Rattle.machine.specs.Layout.{stepsUsed, tablesMade, declared, argumentsHeld, callsUsed, running, componentsMade, loopUnit, valuePlace, orderPlace}
 use Rattle.machine.specs.Act.{Raw, raw, done, stop}
 use Rattle.machine.specs.Act as Act
 use Rattle.machine.specs.Variables.{declare}
@@ -32,9 +32,9 @@ use Rattle.simulation.specs.Scope.{scopeOf, isIn}
 use Rattle.simulation.specs.Sound.{Valid, declaredAmong, Variables}
 use Rattle.simulation.specs.Follows.{Related, Later, Follows}
 use Rattle.simulation.proofs.Listed.{listed-same, listed-first, listed-more}
-use Rattle.simulation.proofs.Frames.{untouched-words, valid-later, SameWaiting, same-waiting}
+use Rattle.simulation.proofs.Frames.{SameRest, rest-marks, untouched-but, valid-later, SameWaiting, same-waiting}
 use Rattle.simulation.proofs.Results.{given, failed, Untouched, After, steps-told}
-use Rattle.simulation.proofs.Shapes.{up-to}
+use Rattle.simulation.proofs.Growing.{up-to}
 use Rattle.simulation.proofs.Moving.{moved-later, moved-related}
 use Rattle.simulation.proofs.Variables.{slot-less, slot-named, name-slotted, apart-text, undeclared, is-declared}
 use Rattle.simulation.proofs.Flows.{both-onward, Flows}
@@ -83,12 +83,21 @@ module _ (ws ws′ : List ℕ) (slot : ℕ) (others : (j : ℕ) → j < 8192 →
 -- ---- nothing but variables has changed
 module _ {program : List ℕ} {ts : List Token} {g : List ℕ} {r : Raw} {s : State} {total : Amounts} (h : Related program ts g r s total) (ws′ : List ℕ)
     (low : (j : ℕ) → j ≢ declared → j < 80 → getD ws′ j 0 ≡ getD (r .words) j 0)
-    (high : (j : ℕ) → 16464 ≤ j → getD ws′ j 0 ≡ getD (r .words) j 0) where
+    (high : (j : ℕ) → 16464 ≤ j → getD ws′ j 0 ≡ getD (r .words) j 0)
+    (still : (j : ℕ) → getD (r .words) (valuePlace j) 0 ≢ 0 → getD ws′ (valuePlace j) 0 ≢ 0) where
   pub changed-later : Later program r (raw (r .texts) ws′)
-  changed-later = moved-later h ws′ (λ j l. low j (λ e. omega arith) (omega arith)) (λ j l. high j (omega arith))
+  changed-later = moved-later h ws′ (λ j l. low j (λ e. omega arith) (omega arith)) (λ j a b. low j (λ e. omega arith) (omega arith)) (λ j l. high j (omega arith))
 
-  changed-untouched : Untouched r (raw (r .texts) ws′)
-  changed-untouched = untouched-words (λ j a b. low j (λ e. omega arith) b) (λ k l. high _ (omega arith))
+  changed-rest : SameRest g r (raw (r .texts) ws′)
+  changed-rest = record {
+    parts = low componentsMade (λ e. omega arith) (omega arith);
+    unit = low loopUnit (λ e. omega arith) (omega arith);
+    calls = low callsUsed (λ e. omega arith) (omega arith);
+    high = λ j l. high j (omega arith);
+  }
+
+  changed-untouched : Untouched g r (raw (r .texts) ws′)
+  changed-untouched = untouched-but changed-rest (low running (λ e. omega arith) (omega arith)) (λ j a b. low j (λ e. omega arith) b) (λ k l. high _ (omega arith)) still
 
   height : getD ws′ argumentsHeld 0 ≡ getD (r .words) argumentsHeld 0
   height = low argumentsHeld (λ e. omega arith) (omega arith)
@@ -102,8 +111,9 @@ module _ {program : List ℕ} {ts : List Token} {g : List ℕ} {r : Raw} {s : St
   pub changed : (vs : List Variable) → length ws′ ≡ length (r .words) → Variables program ts ws′ → vs ≡ variablesOf program ts (raw (r .texts) ws′)
       → After program ts g r (raw (r .texts) ws′) (withVariables s vs) total
   changed vs long v e = record {
-    related = moved-related h ws′ (λ j l. low j (λ e. omega arith) (omega arith)) (λ j l. high j (omega arith)) long
-        (rw height (h .sound .counted .arguments)) (rw calls-same (h .sound .counted .calls)) v e (changed-waiting .waiting) (h .suspended ∙ sym (changed-waiting .suspended))
+    related = moved-related h ws′ (λ j l. low j (λ e. omega arith) (omega arith)) (λ j a b. low j (λ e. omega arith) (omega arith)) (λ j l. high j (omega arith)) long
+        (rw height (h .sound .counted .arguments)) (rw calls-same (h .sound .counted .calls)) v e (changed-waiting .waiting) (rest-marks changed-rest (h .sound .marks)) (h .suspended ∙ sym
+        (changed-waiting .suspended))
         refl refl refl refl (h .callsTaken ∙ sym calls-same);
     later = changed-later;
     spare = omega (arith, low stepsUsed (λ e. omega arith) (omega arith), low tablesMade (λ e. omega arith) (omega arith));
@@ -173,15 +183,15 @@ module _ {program : List ℕ} {ts : List Token} {g : List ℕ} (few : length ts 
     put-values : (j : ℕ) → j < 8192 → j ≢ slot → getD put (valuePlace j) 0 ≡ getD (r .words) (valuePlace j) 0
     put-values j l n = put-other (valuePlace j) (λ e. n (omega (arith, less)))
 
-    put-later : Later program r (raw (r .texts) put)
-    put-later = changed-later h put (λ j n l. put-other j (λ e. omega arith)) (λ j l. put-other j (λ e. omega arith))
-
     put-there : (j : ℕ) → getD (r .words) (valuePlace j) 0 ≢ 0 → getD put (valuePlace j) 0 ≢ 0
     put-there j n = go (eqb (valuePlace j) (valuePlace slot)) refl
       where
         go : (b : Bool) → eqb (valuePlace j) (valuePlace slot) ≡ b → getD put (valuePlace j) 0 ≢ 0
         go true e = rw (eqb-true (valuePlace j) (valuePlace slot) e, put-own) some-word
         go false e = rw (put-other (valuePlace j) (eqb-false (valuePlace j) (valuePlace slot) e)) n
+
+    put-later : Later program r (raw (r .texts) put)
+    put-later = changed-later h put (λ j n l. put-other j (λ e. omega arith)) (λ j l. put-other j (λ e. omega arith)) put-there
 
     put-back : (j : ℕ) → getD put (valuePlace j) 0 ≢ 0 → getD (r .words) (valuePlace j) 0 ≢ 0
     put-back j n = go (eqb (valuePlace j) (valuePlace slot)) refl
@@ -232,7 +242,7 @@ module _ {program : List ℕ} {ts : List Token} {g : List ℕ} (few : length ts 
         (λ j a b d. rw (put-slot j, put-values (slotAt (r .words) j) (v .small j (omega arith)) (λ e. d (v .apart j (q .0) (omega arith) (q .1) (e ∙ sym (q .2)))))))
 
     pub put-after : After program ts g r (raw (r .texts) put) (withVariables s (assigned (s .variables) x (meantWord program r w))) total
-    put-after = changed h put (λ j n l. put-other j (λ e. omega arith)) (λ j l. put-other j (λ e. omega arith))
+    put-after = changed h put (λ j n l. put-other j (λ e. omega arith)) (λ j l. put-other j (λ e. omega arith)) put-there
         (assigned (s .variables) x (meantWord program r w)) (length-set (r .words) (valuePlace slot) w) put-variables put-list
 
   -- ---- a variable declared
@@ -265,7 +275,7 @@ module _ {program : List ℕ} {ts : List Token} {g : List ℕ} (few : length ts 
     new-other j a b c =
         getD-set-other two declared j (many + 1) 0 c ∙ getD-set-other one (orderPlace many) j slot 0 b ∙ getD-set-other (r .words) (valuePlace slot) j 4 0 a
 
-    new-value : getD three (valuePlace slot) 0 ≡ 4
+    pub new-value : getD three (valuePlace slot) 0 ≡ 4
     new-value =
         getD-set-other two declared (valuePlace slot) (many + 1) 0 (λ e. omega arith)
         ∙ getD-set-other one (orderPlace many) (valuePlace slot) slot 0 (λ e. omega arith) ∙ one-own
@@ -289,8 +299,11 @@ module _ {program : List ℕ} {ts : List Token} {g : List ℕ} (few : length ts 
     fresh : (k : ℕ) → k < many → slotAt (r .words) k ≢ slot
     fresh k l e = v .there k l (rw e free)
 
+    new-there : (j : ℕ) → getD (r .words) (valuePlace j) 0 ≢ 0 → getD three (valuePlace j) 0 ≢ 0
+    new-there j n = rw (new-other (valuePlace j) (λ e. n (rw e free)) (λ e. omega arith) (λ e. omega arith)) n
+
     new-later : Later program r (raw (r .texts) three)
-    new-later = changed-later h three (λ j n l. new-other j (λ e. omega arith) (λ e. omega arith) n) (λ j l. new-other j (λ e. omega arith) (λ e. omega arith) (λ e. omega arith))
+    new-later = changed-later h three (λ j n l. new-other j (λ e. omega arith) (λ e. omega arith) n) (λ j l. new-other j (λ e. omega arith) (λ e. omega arith) (λ e. omega arith)) new-there
 
     new-valid : (j : ℕ) → Valid program three (unpacked (getD three (valuePlace j) 0))
     unfolding Valid unpacked if_then_else_
@@ -353,7 +366,7 @@ module _ {program : List ℕ} {ts : List Token} {g : List ℕ} (few : length ts 
     pub new-after : isIn (slotOf ts x) (scopeOf program ts (getD (r .words) running 0)) ≡ true
         → After program ts g r (raw (r .texts) three) (withVariables s (s .variables ++ (record { name = x; holds = Value.none } ∷ []))) total
     new-after own = changed h three (λ j n l. new-other j (λ e. omega arith) (λ e. omega arith) n) (λ j l. new-other j (λ e. omega arith) (λ e. omega arith) (λ e. omega arith))
-        _ (length-set two declared (many + 1) ∙ length-set one (orderPlace many) slot ∙ length-set (r .words) (valuePlace slot) kindNothing) (new-variables own) new-list
+        new-there _ (length-set two declared (many + 1) ∙ length-set one (orderPlace many) slot ∙ length-set (r .words) (valuePlace slot) kindNothing) (new-variables own) new-list
 
   pub declares : {granted : Amounts} → isIn (slotOf ts x) (scopeOf program ts (getD (r .words) running 0)) ≡ true → (p : ℕ)
       → Follows granted total (Flows program ts g r) (Act._>>_ (declare (slotOf ts x) p) (Act.give Onward) r) (declaring p x s)

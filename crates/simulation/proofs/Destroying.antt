@@ -1,22 +1,24 @@
--- Shapes destroyed, one of them or those that variables hold.
-use Prim.Native.Nat.{ℕ, zero, suc, _+_, _-_, _/_, _%_, _≤_, _<_}
+-- Shapes destroyed: one of them, and all that a group holds.
+use Prim.Native.Nat.{ℕ, suc, _+_, _-_, _/_, _%_, _≤_, _<_}
 use native.Mathlib.Omega.{arith}
-use native.Mathlib.Numerals.{add-one}
+use native.Mathlib.Nat.{le-refl, le-trans}
 use mathlib.Core.Path.{_≡_, refl, ap, sym, _∙_, subst}
 use mathlib.Core.Logic.{_≢_}
 use mathlib.Core.Bool.{Bool, true, false}
-use mathlib.Core.List.{List}
+use mathlib.Core.List.{List, [], _∷_, append-nil}
 use lib.ListN.{getD, set}
 use lib.Seq.{getD-set-same}
 use lib.Dec.{eqb}
 use borrow.Author.Tests.{eqb-true, eqb-false}
+use Rattle.meaning.specs.Basics.{if_then_else_}
 use Rattle.meaning.specs.Token.{Token}
-use Rattle.meaning.specs.State.{State, noShape, withShapes, destroyedIn, cleared, clearedAll}
+use Rattle.meaning.specs.Figure as Meaning
+use Rattle.meaning.specs.State.{State, noShape, componentsIn, withShapes}
 use Rattle.meaning.specs.State as State
-use Rattle.meaning.specs.Book.{Amounts}
-use Rattle.machine.specs.declared.Value.{Value}
-use Rattle.machine.specs.declared.Value.the-variants.{Integer, Text, Boolean, Nothing, Table, Shape}
-use Rattle.machine.specs.Words.{unpacked}
+use Rattle.meaning.specs.Run.{Event, End, result, error, unfinished, Run, run}
+use Rattle.meaning.specs.Run as Run
+use Rattle.meaning.specs.Book.{Amounts, added, shortageOf}
+use Rattle.meaning.specs.Group.{each, destroying}
 use Rattle.machine.specs.Layout.{
   stepsUsed,
   shapesUsed,
@@ -26,46 +28,58 @@ use Rattle.machine.specs.Layout.{
   declared,
   argumentsHeld,
   callsUsed,
+  running,
+  entriesMade,
+  componentsMade,
+  loopUnit,
+  stepsGranted,
+  shapesGranted,
   fixedWords,
-  framePlace,
-  valuePlace,
-  orderPlace,
-  argumentPlace,
   shapePlace,
 }
-use Rattle.machine.specs.Act.{Raw, raw, done}
+use Rattle.machine.specs.Act.{Raw, raw, done, Act}
 use Rattle.machine.specs.Act as Act
-use Rattle.machine.specs.Shapes.{figureAt, destroyedWord, destroy}
-use Rattle.machine.specs.Stack.{argumentAt}
-use Rattle.machine.specs.Variables.{wordIn, topIn, countIn, destroyIn, clearFrom, clearWaiting, clearFrames, clearScene}
-use Rattle.simulation.specs.Meant.{meantValue, listed, slotAt, variableAt, variablesOf, waitingAt, frameAt, frameOf, suspendedOf, shapeAt, shapesOf}
-use Rattle.simulation.specs.Sound.{Valid, Shapes}
-use Rattle.simulation.specs.Follows.{Related, Later}
-use Rattle.simulation.proofs.Listed.{listed-same, set-listed}
+use Rattle.machine.specs.Shapes.{isGroupAt, figureAt, destroyedWord, destroy}
+use Rattle.machine.specs.Groups.{wayPlace, walkIn, destroyAll}
+use Rattle.simulation.specs.Meant.{listed, componentsOf, contentAt, shapeAt, shapesOf}
+use Rattle.simulation.specs.Sound.{Shapes}
+use Rattle.simulation.specs.Follows.{Grants, Stays, Related, Later, Follows}
+use Rattle.simulation.proofs.Listed.{set-listed}
 use Rattle.simulation.proofs.Frames.{
+  group-stays,
+  stays-words,
+  SameRest,
+  rest-components,
+  rest-marks,
+  untouched-components,
   untouched-words,
-  valid-later,
-  figure-made,
   proper-kept,
+  first-later,
+  count-later,
+  grouped-later,
+  components-later,
+  content-stays,
+  content-made,
+  figures-none,
   SameVariables,
   same-words,
   variables-kept,
   variables-same,
   SameWaiting,
   same-waiting,
-  SameEntries,
-  entries-kept,
-  entries-same,
 }
-use Rattle.simulation.proofs.Results.{Untouched, After, unmoved, onward}
-use Rattle.simulation.proofs.Counting.{lent-set, figure-same, other}
+use Rattle.simulation.proofs.Holding.{SameEntries, entries-kept, entries-same}
+use Rattle.simulation.proofs.Results.{due, mapped, given, Untouched, After, onward, steps-told, spent-then}
+use Rattle.simulation.proofs.Counting.{lent-set, other, step-related}
+use Rattle.simulation.proofs.Usable.{figure-found, group-found}
+use Rattle.simulation.proofs.Walking.{Reached, Gathers, Walks, spare-way, spare-after, walk-follows}
 
 -- the bit of a destroyed shape leaves the others
 halved : (w : ℕ) → destroyedWord w / 2 ≡ w / 2
 halved w = omega arith
 
-eighth : (w : ℕ) → destroyedWord w / 8 ≡ w / 8
-eighth w = omega arith
+sixteenth : (w : ℕ) → destroyedWord w / 16 ≡ w / 16
+sixteenth w = omega arith
 
 bit : (w : ℕ) → destroyedWord w % 2 ≡ 1
 bit w = omega arith
@@ -78,7 +92,7 @@ module _ {program : List ℕ} {ts : List Token} {g : List ℕ} where
     abbrev pub gone : Raw
     gone = raw (r .texts) (set (r .words) (shapePlace i) (destroyedWord (getD (r .words) (shapePlace i) 0)))
 
-    as-was : (j : ℕ) → j ≢ shapePlace i → getD (gone .words) j 0 ≡ getD (r .words) j 0
+    pub as-was : (j : ℕ) → j ≢ shapePlace i → getD (gone .words) j 0 ≡ getD (r .words) j 0
     as-was j n = other h (shapePlace i) (destroyedWord w) j n
 
     pub low-was : (j : ℕ) → j < fixedWords → getD (gone .words) j 0 ≡ getD (r .words) j 0
@@ -87,16 +101,23 @@ module _ {program : List ℕ} {ts : List Token} {g : List ℕ} where
     now : getD (gone .words) (shapePlace i) 0 ≡ destroyedWord w
     now = getD-set-same (r .words) (shapePlace i) (destroyedWord w) 0 (omega (arith, h .sound .counted .shapes, h .sound .lent .room .words))
 
-    own-figure : figureAt (gone .words) i ≡ figureAt (r .words) i
+    own-stays : Stays (r .words) (gone .words) i
     unfolding figureAt
-    own-figure = rw (now, halved w, eighth w, as-was (shapePlace i + 1) (λ e. omega arith), as-was (shapePlace i + 2) (λ e. omega arith))
+    own-stays =
+        let b = as-was (shapePlace i + 1) (λ e. omega arith) in
+        record {
+          kind = rw (now, halved w);
+          figure = λ n. rw (now, halved w, sixteenth w, b, as-was (shapePlace i + 2) (λ e. omega arith));
+          slots = b;
+          dead = λ e. rw (now, bit w);
+        }
 
-    figures-are : (k : ℕ) → figureAt (gone .words) k ≡ figureAt (r .words) k
-    figures-are k = go (eqb k i) refl
+    stays : (k : ℕ) → Stays (r .words) (gone .words) k
+    stays k = go (eqb k i) refl
       where
-        go : (b : Bool) → eqb k i ≡ b → figureAt (gone .words) k ≡ figureAt (r .words) k
-        go true e = rw (eqb-true k i e) own-figure
-        go false e = let n : k ≢ i = eqb-false k i e in figure-same (r .words) (gone .words) k (λ j m. as-was _ (λ q. n (omega arith)))
+        go : (b : Bool) → eqb k i ≡ b → Stays (r .words) (gone .words) k
+        go true e = rw (eqb-true k i e) own-stays
+        go false e = let n : k ≢ i = eqb-false k i e in stays-words (r .words) (gone .words) k (λ j m. as-was _ (λ q. n (omega arith)))
 
     gone-later : Later program r gone
     gone-later = record {
@@ -105,49 +126,73 @@ module _ {program : List ℕ} {ts : List Token} {g : List ℕ} where
       text = omega (arith, low-was textUsed (omega arith));
       tables = omega (arith, low-was tablesMade (omega arith));
       texts = λ t v. refl;
-      figures = λ k m. figures-are k;
+      figures = λ k m. stays k;
     }
 
     gone-variables : SameVariables gone-later
-    gone-variables = same-words gone-later (low-was declared (omega arith)) (λ j a b. low-was j (omega arith))
+    gone-variables = same-words gone-later (low-was declared (omega arith)) (low-was running (omega arith)) (λ j a b. low-was j (omega arith))
 
-    gone-untouched : Untouched r gone
-    gone-untouched = untouched-words (λ j a b. low-was j (omega arith)) (λ k l. low-was _ (omega arith))
+    gone-rest : SameRest g r gone
+    gone-rest = record {
+      parts = low-was componentsMade (omega arith);
+      unit = low-was loopUnit (omega arith);
+      calls = low-was callsUsed (omega arith);
+      high = λ j a. as-was j (λ e. omega (arith, h .sound .counted .shapes));
+    }
+
+    gone-untouched : Untouched g r gone
+    gone-untouched = untouched-words gone-rest (low-was running (omega arith)) (λ j a b. low-was j (omega arith)) (λ k l. low-was _ (omega arith))
 
     gone-waiting : SameWaiting program ts r gone
     gone-waiting = same-waiting gone-later gone-untouched (omega (arith, low-was argumentsHeld (omega arith))) (h .sound .waiting) ts
 
-    gone-entries : SameEntries gone-later (h .sound .shapes) g
+    gone-entries : SameEntries gone-later (h .sound .shapes)
     gone-entries = record {
-      count = low-was entriesUsed (omega arith);
+      count = low-was entriesMade (omega arith);
       firsts = λ k a. as-was _ (λ e. omega (arith, h .sound .counted .shapes));
       keys = λ k a. as-was _ (λ e. omega (arith, h .sound .counted .shapes));
       values = λ k a. as-was _ (λ e. omega (arith, h .sound .counted .shapes));
       heads = λ b a. as-was _ (λ e. omega (arith, h .sound .counted .shapes));
     }
 
-    gone-shapes : Shapes program (gone .words)
-    gone-shapes = let old = h .sound .shapes in record {
-      proper = λ k m. proper-kept gone-later old k (rw (low-was shapesUsed (omega arith)) at m);
-      first = λ k m. rw (as-was (shapePlace k + 1) (λ e. omega arith)) (old .first k (rw (low-was shapesUsed (omega arith)) at m));
-      second = λ k m. rw (as-was (shapePlace k + 2) (λ e. omega arith)) (old .second k (rw (low-was shapesUsed (omega arith)) at m));
-    }
+    gone-shapes : Shapes program g (gone .words)
+    gone-shapes =
+        let old = h .sound .shapes in
+        let u = low-was shapesUsed (omega arith) in
+        let c = rest-components gone-rest in
+        record {
+          proper = λ k m n. proper-kept gone-later old k (rw u at m) (sym (group-stays (stays k)) ∙ n);
+          first = λ k m. rw (as-was (shapePlace k + 1) (λ e. omega arith)) (old .first k (rw u at m));
+          second = λ k m. rw (as-was (shapePlace k + 2) (λ e. omega arith)) (old .second k (rw u at m));
+          groups = λ k m n. grouped-later gone-later old c k (rw u at m) (old .groups k (rw u at m) (sym (group-stays (stays k)) ∙ n));
+          order = λ j k a m n o.
+              let b = rw u at m in
+              let d : j < getD (r .words) shapesUsed 0 = omega arith in
+              rw (first-later gone-later old c j d, count-later gone-later old c j d, first-later gone-later old c k b)
+              (old .order j k a b (sym (group-stays (stays j)) ∙ n) (sym (group-stays (stays k)) ∙ o));
+          hollow = λ k m n e.
+              let b = rw u at m in
+              figures-none gone-later old c (suc k) k b (old .hollow k b (sym (group-stays (stays k)) ∙ n) (rw (as-was (shapePlace k + 2) (λ e. omega arith)) at e));
+        }
 
-    own-shape : shapeAt program gone (0 + i) ≡ record { figure = getD (shapesOf program r) i noShape .figure; destroyed = true }
+    content-was : (k : ℕ) → k < getD (r .words) shapesUsed 0 → contentAt program g gone k ≡ contentAt program g r k
+    content-was k m = content-stays gone-later (h .sound .shapes) (rest-components gone-rest) k m
+
+    own-shape : shapeAt program g gone (0 + i) ≡ record { content = getD (shapesOf program g r) i noShape .content; destroyed = true }
     unfolding shapeAt
     own-shape =
         let z : 0 + i ≡ i = omega arith in
-        rw (z, now, bit w, figures-are i, figure-made program r i l)
+        rw (z, now, bit w, content-was i l, content-made program g r i l)
 
-    shapes-are : (k : ℕ) → k ≢ 0 + i → shapeAt program gone k ≡ shapeAt program r k
+    shapes-are : (k : ℕ) → k < getD (r .words) shapesUsed 0 → k ≢ 0 + i → shapeAt program g gone k ≡ shapeAt program g r k
     unfolding shapeAt
-    shapes-are k n = rw (figures-are k, as-was (shapePlace k) (λ e. n (omega arith)))
+    shapes-are k m n = rw (content-was k m, as-was (shapePlace k) (λ e. n (omega arith)))
 
-    gone-list : shapesOf program gone ≡ State.destroy (shapesOf program r) i
+    gone-list : shapesOf program g gone ≡ State.destroy (shapesOf program g r) i
     unfolding State.destroy shapesOf
     gone-list =
-        ap (listed (shapeAt program gone) 0) (low-was shapesUsed (omega arith))
-        ∙ sym (set-listed (shapeAt program r) (shapeAt program gone) 0 (getD (r .words) shapesUsed 0) i _ l own-shape shapes-are)
+        ap (listed (shapeAt program g gone) 0) (low-was shapesUsed (omega arith))
+        ∙ sym (set-listed (shapeAt program g r) (shapeAt program g gone) 0 (getD (r .words) shapesUsed 0) i _ l own-shape (λ j a n. shapes-are j (omega arith) n))
 
     pub destroys : After program ts g r gone (withShapes s (State.destroy (s .shapes) i)) total
     destroys = let c = h .sound .counted in record {
@@ -158,6 +203,7 @@ module _ {program : List ℕ} {ts : List Token} {g : List ℕ} where
             steps = rw (low-was stepsUsed (omega arith)) (c .steps);
             shapes = rw (low-was shapesUsed (omega arith)) (c .shapes);
             entries = rw (low-was entriesUsed (omega arith)) (c .entries);
+            made = rw (low-was entriesMade (omega arith), low-was componentsMade (omega arith), low-was entriesUsed (omega arith)) (c .made);
             text = rw (low-was textUsed (omega arith)) (c .text);
             tables = rw (low-was tablesMade (omega arith), low-was stepsUsed (omega arith)) (c .tables);
             arguments = rw (low-was argumentsHeld (omega arith)) (c .arguments);
@@ -166,13 +212,14 @@ module _ {program : List ℕ} {ts : List Token} {g : List ℕ} where
           variables = variables-kept gone-later gone-variables ts (h .sound .variables);
           waiting = gone-waiting .waiting;
           shapes = gone-shapes;
-          entries = entries-kept gone-later (h .sound .shapes) g gone-entries (h .sound .entries);
+          marks = rest-marks gone-rest (h .sound .marks);
+          entries = entries-kept gone-later (h .sound .shapes) (rest-components gone-rest) gone-entries (h .sound .entries);
         };
         variables = h .variables ∙ sym (variables-same gone-later gone-variables ts (h .sound .variables));
         suspended = h .suspended ∙ sym (gone-waiting .suspended);
         shapes = ap (λ (l : List State.Shape). State.destroy l i) (h .shapes) ∙ sym gone-list;
         tables = h .tables ∙ sym (low-was tablesMade (omega arith));
-        entries = h .entries ∙ sym (entries-same gone-later (h .sound .shapes) g gone-entries (h .sound .entries));
+        entries = h .entries ∙ sym (entries-same gone-later (h .sound .shapes) (rest-components gone-rest) gone-entries (h .sound .entries));
         stepsTaken = h .stepsTaken ∙ sym (low-was stepsUsed (omega arith));
         shapesTaken = h .shapesTaken ∙ sym (low-was shapesUsed (omega arith));
         entriesTaken = h .entriesTaken ∙ sym (low-was entriesUsed (omega arith));
@@ -189,127 +236,136 @@ module _ {program : List ℕ} {ts : List Token} {g : List ℕ} where
     unfolding destroy Act._>>=_ Act.goOn Act.load Act.store
     destroy-is = refl
 
--- ---- what an act that always succeeds leaves, the texts and the words before the shapes untouched
-module _ (program : List ℕ) (ts : List Token) (g : List ℕ) where
-  pub record Leaves (r : Raw) (o : Act.Out (Unit {0})) (s : State) (total : Amounts) : Type 0 where
-    pub slices : Raw
-    pub is : o ≡ done tt slices
-    pub after : After program ts g r slices s total
-    pub texts : slices .texts ≡ r .texts
-    pub low : (j : ℕ) → j < fixedWords → getD (slices .words) j 0 ≡ getD (r .words) j 0
+-- ---- what a run gives is given
+unit-of : {A : Type 0} (us : List Event) (e : End A) → Run.goOn us e Run.give ≡ run us e
+unfolding Run.goOn Run.give
+unit-of us (result a s) = ap (λ vs. run vs (result a s)) (append-nil us)
+unit-of us (error n p) = refl
+unit-of us unfinished = refl
 
-module _ {program : List ℕ} {ts : List Token} {g : List ℕ} where
-  as-it-is : {r : Raw} {s : State} {total : Amounts} → Related program ts g r s total → Leaves program ts g r (done tt r) s total
-  as-it-is {r} h = record { slices = r; is = refl; after = unmoved h; texts = refl; low = λ j l. refl }
+pub run-unit : {A : Type 0} (m : Run A) → Run.goOn (m .takings) (m .end) Run.give ≡ m
+run-unit m = unit-of (m .takings) (m .end)
 
-  -- what waits and what is declared, then
-  module _ {r : Raw} {o : Act.Out (Unit {0})} {s : State} {total : Amounts} (a : Leaves program ts g r o s total) where
-    variables-left : (k n : ℕ) → listed (variableAt program ts (a .slices)) k n ≡ listed (variableAt program ts r) k n
-    unfolding variableAt
-    variables-left k n = listed-same _ _ k n (λ j x y.
-        rw (a .texts, a .low (orderPlace j) (omega arith), a .low (valuePlace (slotAt (r .words) j)) (omega arith)))
+-- ---- texts and the words of variables and the stack stay
+pub record Quiet {A : Type 0} (r : Raw) (xs : List A) (r′ : Raw) : Type 0 where
+  pub texts : r′ .texts ≡ r .texts
+  pub low : (j : ℕ) → 16 ≤ j → j < fixedWords → getD (r′ .words) j 0 ≡ getD (r .words) j 0
+  pub declared : getD (r′ .words) declared 0 ≡ getD (r .words) declared 0
 
-    waiting-left : (k n : ℕ) → listed (waitingAt program ts (a .slices)) k n ≡ listed (waitingAt program ts r) k n
-    unfolding waitingAt
-    waiting-left k n = listed-same _ _ k n (λ j x y. rw (a .texts, a .low (argumentPlace j) (omega arith)))
+pub quiet-nil : {A : Type 0} (r : Raw) → Quiet {A = A} r [] r
+quiet-nil r = record { texts = refl; low = λ j a b. refl; declared = refl }
 
-    frames-left : (d n : ℕ) → listed (frameOf program ts (a .slices)) d n ≡ listed (frameOf program ts r) d n
-    unfolding frameOf
-    frames-left d n = listed-same _ _ d n (λ j x y. rw (a .low (framePlace j) (omega arith)) (waiting-left _ _))
+pub quiet-on : {A B C : Type 0} {r r₁ r₂ : Raw} {xs : List A} {ys : List B} (zs : List C) → Quiet r xs r₁ → Quiet r₁ ys r₂ → Quiet r zs r₂
+quiet-on zs a b = record { texts = b .texts ∙ a .texts; low = λ j x y. b .low j x y ∙ a .low j x y; declared = b .declared ∙ a .declared }
 
-    -- and then more
-    leaves-more : (k : Act.Act (Unit {0})) {s′ : State} → Leaves program ts g (a .slices) (k (a .slices)) s′ total → Leaves program ts g r (Act.goOn o (λ _. k)) s′ total
-    unfolding Act.goOn
-    leaves-more k b = record {
-      slices = b .slices;
-      is = rw (a .is) (b .is);
-      after = onward (a .after) (b .after);
-      texts = b .texts ∙ a .texts;
-      low = λ j l. b .low j l ∙ a .low j l;
-    }
+Any : Raw → Type 0
+Any r = Unit {0}
 
-  destroys-in : {r : Raw} {s : State} {total : Amounts} → Related program ts g r s total → (v : Value) → Valid program (r .words) v
-      → Leaves program ts g r (destroyIn v r) (withShapes s (destroyedIn (s .shapes) (meantValue program (r .texts) v))) total
-  unfolding destroyIn destroyedIn meantValue Valid Act.give
-  destroys-in h (Integer z) l = as-it-is h
-  destroys-in h (Text t) l = as-it-is h
-  destroys-in h (Boolean b) l = as-it-is h
-  destroys-in h Nothing l = as-it-is h
-  destroys-in h (Table t) l = as-it-is h
-  destroys-in h (Shape i) l = record { slices = gone h i l; is = destroy-is h i l; after = destroys h i l; texts = refl; low = low-was h i l }
+gathered : Gathers {A = Meaning.Figure} Quiet Any
+unfolding Any
+gathered = record { nil = quiet-nil; more = λ a b. quiet-on _ a b; keep = λ a b. tt }
 
-  -- ---- variables of the call under way
-  clear-step : (n k : ℕ) {r : Raw} (s : State) {total : Amounts}
-      (a : Leaves program ts g r (destroyIn (unpacked (getD (r .words) (valuePlace (slotAt (r .words) k)) 0)) r)
-      (withShapes s (destroyedIn (s .shapes) (variableAt program ts r k .holds))) total)
-      → Leaves program ts g (a .slices) (clearFrom (k + 1) n (a .slices))
-      (withShapes s (cleared (listed (variableAt program ts (a .slices)) (k + 1) n) (destroyedIn (s .shapes) (variableAt program ts r k .holds)))) total
-      → Leaves program ts g r (clearFrom k (suc n) r) (withShapes s (cleared (listed (variableAt program ts r) k (suc n)) (s .shapes))) total
-  unfolding clearFrom listed cleared Act._>>=_ Act.goOn Act.load
-  clear-step n k {r} s {total} a b =
-      let e : listed (variableAt program ts (a .slices)) (k + 1) n ≡ listed (variableAt program ts r) (suc k) n =
-      variables-left a (k + 1) n ∙ ap (λ j. listed (variableAt program ts r) j n) (add-one k) in
-      leaves-more a (clearFrom (k + 1) n) (rw e at b)
+-- the words of the way at depth d are set, and then a walk leaves more
+pub left : {program : List ℕ} {ts : List Token} {g : List ℕ} {A : Type 0} {Acc Acc′ : Raw → List A → Raw → Type 0} {d : ℕ} (v : ℕ) {r r₂ : Raw} {s s₂ : State} {total total₂ : Amounts} {xs : List A}
+    → Related program ts g r s total → d < shapesGranted g → Reached program ts g Acc (d + 1) (raw (r .texts) (set (r .words) (wayPlace d) v)) xs r₂ s₂ total₂ → Acc′ r xs r₂
+    → Reached program ts g Acc′ d r xs r₂ s₂ total₂
+left {d = d} v h l x a = record {
+  after = onward (spare-after h (wayPlace d) v (spare-way d 3 l (omega arith) (omega arith))) (x .after);
+  ways = λ e m n. x .ways e (omega arith) n ∙ other h (wayPlace d) v (wayPlace e) (λ q. omega arith);
+  acc = a;
+}
 
-  clears-from : (n k : ℕ) {r : Raw} {s : State} {total : Amounts} → Related program ts g r s total
-      → Leaves program ts g r (clearFrom k n r) (withShapes s (cleared (listed (variableAt program ts r) k n) (s .shapes))) total
-  unfolding clearFrom listed cleared Act.give variableAt
-  clears-from zero k h = as-it-is h
-  clears-from (suc n) k {r} {s} h =
-      let a = destroys-in h (unpacked (getD (r .words) (valuePlace (slotAt (r .words) k)) 0)) (h .sound .variables .holds (slotAt (r .words) k)) in
-      clear-step n k s a (clears-from n (k + 1) (a .after .related))
+-- ---- all in a group
+module _ (program : List ℕ) (ts : List Token) (g : List ℕ) {granted : Amounts} (gr : Grants g granted) (p : ℕ) where
+  abbrev visit′ : ℕ → ℕ → Run.Action (List Meaning.Figure)
+  visit′ b c = Run._>>_ (Run.count p) (destroying b p c)
 
-  -- ---- variables of a call that waits
-  wait-step : (n k : ℕ) {r : Raw} (s : State) {total : Amounts}
-      (a : Leaves program ts g r (destroyIn (unpacked (wordIn (argumentAt (r .words) k))) r) (withShapes s (destroyedIn (s .shapes) (waitingAt program ts r k .holds))) total)
-      → Leaves program ts g (a .slices) (clearWaiting (k + 1) n (a .slices))
-      (withShapes s (cleared (listed (waitingAt program ts (a .slices)) (k + 1) n) (destroyedIn (s .shapes) (waitingAt program ts r k .holds)))) total
-      → Leaves program ts g r (clearWaiting k (suc n) r) (withShapes s (cleared (listed (waitingAt program ts r) k (suc n)) (s .shapes))) total
-  unfolding clearWaiting listed cleared Act._>>=_ Act.goOn Act.load
-  wait-step n k {r} s {total} a b =
-      let e : listed (waitingAt program ts (a .slices)) (k + 1) n ≡ listed (waitingAt program ts r) (suc k) n =
-      waiting-left a (k + 1) n ∙ ap (λ j. listed (waitingAt program ts r) j n) (add-one k) in
-      leaves-more a (clearWaiting (k + 1) n) (rw e at b)
+  abbrev enter′ : ℕ → Run.Action (Unit {0})
+  enter′ c = Run._>>_ (Run.count p) (Run._>>=_ Run.current (λ s. Run.become (withShapes s (State.destroy (s .shapes) c))))
 
-  clears-waiting : (n k : ℕ) {r : Raw} {s : State} {total : Amounts} → Related program ts g r s total
-      → ((j : ℕ) → k ≤ j → j < k + n → Valid program (r .words) (unpacked (wordIn (argumentAt (r .words) j))))
-      → Leaves program ts g r (clearWaiting k n r) (withShapes s (cleared (listed (waitingAt program ts r) k n) (s .shapes))) total
-  unfolding clearWaiting listed cleared Act.give waitingAt
-  clears-waiting zero k h v = as-it-is h
-  clears-waiting (suc n) k {r} {s} h v =
-      let a = destroys-in h (unpacked (wordIn (argumentAt (r .words) k))) (v k (omega arith) (omega arith)) in
-      wait-step n k s a (clears-waiting n (k + 1) (a .after .related)
-      (λ j x y. rw (a .low (argumentPlace j) (omega arith)) (valid-later (a .after .later) _ (v j (omega arith) (omega arith)))))
+  module _ {r : Raw} {s : State} {total : Amounts} (h : Related program ts g r s total) (c d : ℕ) (l : c < getD (r .words) shapesUsed 0) where
+    -- a step, and the component is destroyed
+    reached : (fit : getD (r .words) stepsUsed 0 + 1 ≤ stepsGranted g)
+        → Reached program ts g {A = Meaning.Figure} Quiet d r [] (gone (step-related h p fit .after .related) c (le-trans l (step-related h p fit .after .later .shapes)))
+        (withShapes s (State.destroy (s .shapes) c)) (added total (due Run.steps 1 p))
+    reached fit =
+        let a = step-related h p fit .after in
+        let m = le-trans l (a .later .shapes) in
+        let same : (j : ℕ) → j ≢ stepsUsed → j ≢ shapePlace c → getD (gone (a .related) c m .words) j 0 ≡ getD (r .words) j 0 =
+        λ j x y. as-was (a .related) c m j y ∙ other h stepsUsed _ j x in
+        record {
+          after = onward a (destroys (a .related) c m);
+          ways = λ e x y. same (wayPlace e) (λ q. omega arith) (λ q. omega arith);
+          acc = record { texts = refl; low = λ j x y. same j (λ q. omega arith) (λ q. omega arith); declared = same declared (λ q. omega arith) (λ q. omega arith) };
+        }
 
-  -- ---- calls that wait
-  frame-step : (n d : ℕ) {r : Raw} (s : State) {total : Amounts}
-      (a : Leaves program ts g r (clearWaiting (topIn (frameAt (r .words) d)) (countIn (frameAt (r .words) d)) r) (withShapes s (cleared (frameOf program ts r d) (s .shapes))) total)
-      → Leaves program ts g (a .slices) (clearFrames (d + 1) n (a .slices))
-      (withShapes s (clearedAll (listed (frameOf program ts (a .slices)) (d + 1) n) (cleared (frameOf program ts r d) (s .shapes)))) total
-      → Leaves program ts g r (clearFrames d (suc n) r) (withShapes s (clearedAll (listed (frameOf program ts r) d (suc n)) (s .shapes))) total
-  unfolding clearFrames listed clearedAll Act._>>=_ Act.goOn Act.load
-  frame-step n d {r} s {total} a b =
-      let e : listed (frameOf program ts (a .slices)) (d + 1) n ≡ listed (frameOf program ts r) (suc d) n =
-      frames-left a (d + 1) n ∙ ap (λ j. listed (frameOf program ts r) j n) (add-one d) in
-      leaves-more a (clearFrames (d + 1) n) (rw e at b)
+    enters : Follows granted total (λ _ _ r′ s′ total′. Reached program ts g {A = Meaning.Figure} Quiet d r [] r′ s′ total′) (Act._>>_ (Act.count g p) (destroy c) r) (enter′ c s)
+    unfolding Run._>>=_ Run.goOn Run.current Run.become shortageOf
+    enters =
+        spent-then Run.steps stepsUsed (stepsGranted g) 1 79 p r s (h .stepsTaken) (gr .steps) refl (steps-told h) (destroy c) _
+        (λ fit. let a = step-related h p fit .after in rw (destroy-is (a .related) c (le-trans l (a .later .shapes))) (given (reached fit)))
 
-  clears-frames : (n d : ℕ) {r : Raw} {s : State} {total : Amounts} → Related program ts g r s total → 0 < d → ((j : ℕ) → d ≤ j → j < d + n → j < getD (r .words) callsUsed 0)
-      → Leaves program ts g r (clearFrames d n r) (withShapes s (clearedAll (listed (frameOf program ts r) d n) (s .shapes))) total
-  unfolding clearFrames listed clearedAll Act.give frameOf
-  clears-frames zero d h z l = as-it-is h
-  clears-frames (suc n) d {r} {s} h z l =
-      let a = clears-waiting (countIn (frameAt (r .words) d)) (topIn (frameAt (r .words) d)) h (h .sound .waiting .holds d z (l d (omega arith) (omega arith))) in
-      frame-step n d s a (clears-frames n (d + 1) (a .after .related) (omega arith)
-      (λ j x y. rw (a .low callsUsed (omega arith)) (l j (omega arith) (omega arith))))
+    at-figure : (b : ℕ) → isGroupAt (r .words) c ≡ false
+        → Follows granted total (λ _ xs r′ s′ total′. Reached program ts g {A = Meaning.Figure} Quiet d r xs r′ s′ total′) (Act._>>_ (Act.count g p) (destroy c) r) (visit′ (suc b) c s)
+    unfolding destroying each componentsIn Run._>>=_ Run.goOn Run.current Run.become Run.give shortageOf
+    at-figure b n =
+        spent-then Run.steps stepsUsed (stepsGranted g) 1 79 p r s (h .stepsTaken) (gr .steps) refl (steps-told h) (destroy c) _
+        (λ fit. let a = step-related h p fit .after in rw (destroy-is (a .related) c (le-trans l (a .later .shapes)), figure-found h c l n) (given (reached fit)))
 
-  -- ---- all of them
-  pub clears : {r : Raw} {s : State} {total : Amounts} → Related program ts g r s total
-      → Leaves program ts g r (clearScene r) (withShapes s (cleared (s .variables) (clearedAll (s .suspended) (s .shapes)))) total
-  unfolding clearScene variablesOf suspendedOf Act._>>=_ Act.load Act.goOn
-  clears {r} {s} {total} h =
-      let a = clears-frames (getD (r .words) callsUsed 0 - 1) 1 h (omega arith) (λ j x y. omega arith) in
-      let b = clears-from (getD (a .slices .words) declared 0) 0 (a .after .related) in
-      subst (λ (vs : List State.Variable). Leaves program ts g r (clearScene r) (withShapes s (cleared vs (clearedAll (s .suspended) (s .shapes)))) total)
-      (sym (a .after .related .variables))
-      (subst (λ (fs : List (List State.Variable)). Leaves program ts g r (clearScene r) (withShapes s (cleared (variablesOf program ts (a .slices)) (clearedAll fs (s .shapes)))) total)
-      (sym (h .suspended)) (leaves-more a _ b))
+    splits : (b : ℕ) → isGroupAt (r .words) c ≡ true
+        → visit′ (suc b) c s ≡ Run._>>_ (enter′ c) (Run._>>=_ (each (visit′ b) (componentsOf g (r .words) c)) Run.give) s
+    unfolding destroying componentsIn Run._>>=_ Run.goOn Run.current Run.become Run.spend
+    splits b e =
+        rw (group-found h c l e)
+        (ap (λ (m : Run (List Meaning.Figure)). Run.following (Run.taking Run.steps 1 p ∷ []) m)
+        (sym (run-unit (each (visit′ b) (componentsOf g (r .words) c) (withShapes s (State.destroy (s .shapes) c))))))
+
+  walks : Walks program ts g granted Quiet Any gathered (λ c. Act._>>_ (Act.count g p) (destroy c)) (λ d. Act.give tt) visit′ enter′ Run.give
+  unfolding Act.give Run.give Any
+  walks = record {
+    atoms = λ b c d h w l e. at-figure h c d l b e;
+    splits = λ b c h l e. splits h c 0 l b e;
+    enters = λ c d h w l e. enters h c d l;
+    leaves = λ d k n h w l x.
+        given (left _ h l x (record {
+          texts = x .acc .texts;
+          low = λ j a b. x .acc .low j a b ∙ other h (wayPlace d) _ j (λ q. omega arith);
+          declared = x .acc .declared ∙ other h (wayPlace d) _ declared (λ q. omega arith);
+        }));
+    aside = λ d w k. tt;
+  }
+
+  -- a shape itself, then all in it
+  pub destroys-all : {r : Raw} {s : State} {total : Amounts} (h : Related program ts g r s total) (i : ℕ) → i < getD (r .words) shapesUsed 0
+      → Follows granted total (λ _ xs r′ s′ total′. Reached program ts g {A = Meaning.Figure} Quiet 0 r xs r′ s′ total′) (destroyAll g p i r) (destroying (suc i) p i s)
+  unfolding destroyAll destroying each componentsIn if_then_else_ Any Act._>>=_ Act.goOn Act.held Act.give Run._>>=_ Run.goOn Run.current Run.become Run.give
+  destroys-all {r} {s} {total} h i l = rw (destroy-is h i l) (go (isGroupAt (r .words) i) refl)
+    where
+      a : After program ts g r (gone h i l) (withShapes s (State.destroy (s .shapes) i)) total
+      a = destroys h i l
+
+      quiet : Reached program ts g {A = Meaning.Figure} Quiet 0 r [] (gone h i l) (withShapes s (State.destroy (s .shapes) i)) total
+      quiet = record { after = a; ways = λ e x y. absurd (omega arith); acc = record { texts = refl; low = λ j x y. low-was h i l j y; declared = low-was h i l declared (omega arith) } }
+
+      go : (t : Bool) → isGroupAt (r .words) i ≡ t
+          → Follows granted total (λ _ xs r′ s′ total′. Reached program ts g {A = Meaning.Figure} Quiet 0 r xs r′ s′ total′)
+          ((if isGroupAt (gone h i l .words) i then (λ _. walkIn (λ c. Act._>>_ (Act.count g p) (destroy c)) (λ d. Act.give tt) (shapesGranted g) g 0 i) else λ _. Act.give tt) (gone h i l))
+          (each (visit′ i) (componentsIn (State.contentOf s i)) (withShapes s (State.destroy (s .shapes) i)))
+      go true e =
+          let k = a .later .figures i l in
+          let q : suc (shapesGranted g - 1) ≡ shapesGranted g = omega (arith, h .sound .counted .shapes) in
+          let list : componentsOf g (gone h i l .words) i ≡ componentsOf g (r .words) i =
+          components-later (a .later) (h .sound .shapes) (untouched-components (a .untouched)) i l e in
+          let w = walk-follows program ts g granted Quiet Any gathered (λ c. Act._>>_ (Act.count g p) (destroy c)) (λ d. Act.give tt) visit′ enter′ Run.give walks
+          (shapesGranted g - 1) i 0 i (omega (arith, q)) (omega (arith, h .sound .counted .shapes)) (le-refl i) (gone h i l) (withShapes s (State.destroy (s .shapes) i)) total
+          (a .related) tt (le-trans l (a .later .shapes)) (group-stays k ∙ e) in
+          rw (group-stays k, e, group-found h i l e)
+          (mapped (λ _ ys r′ s′ total′ y. record {
+            after = onward a (y .after);
+            ways = λ e x y. absurd (omega arith);
+            acc = quiet-on ys (quiet .acc) (y .acc);
+          })
+          (subst (λ b. Follows granted total (λ _ xs r′ s′ total′. Reached program ts g {A = Meaning.Figure} Quiet 0 (gone h i l) xs r′ s′ total′)
+          (walkIn (λ c. Act._>>_ (Act.count g p) (destroy c)) (λ d. Act.give tt) b g 0 i (gone h i l)) (each (visit′ i) (componentsOf g (r .words) i) (withShapes s (State.destroy (s .shapes) i))))
+          q (rw list at w)))
+      go false e = rw (group-stays (a .later .figures i l), e, figure-found h i l e) (given quiet)

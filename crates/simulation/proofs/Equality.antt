@@ -5,30 +5,25 @@ use mathlib.Core.Path.{_≡_, refl, ap, sym, _∙_}
 use mathlib.Core.Logic.{_≢_}
 use mathlib.Core.Bool.{Bool, true, false, _&&_}
 use mathlib.Core.List.{List}
-use mathlib.Core.Option.{some}
+use lib.ListN.{getD}
 use lib.Dec.{eqb}
 use lib.IntN.{ℤ, pos}
 use borrow.Author.Tests.{eqb-true}
 use Rattle.meaning.specs.Basics.{sameText}
-use Rattle.meaning.specs.Token.{Token}
 use Rattle.meaning.specs.Integer.{sameInteger, sameIntegers}
 use Rattle.meaning.specs.Figure.{text, figureKind, numbersOf}
 use Rattle.meaning.specs.Figure as Meaning
-use Rattle.meaning.specs.State.{State}
-use Rattle.meaning.specs.Book.{Amounts}
 use Rattle.meaning.specs.Operator as Operator
 use Rattle.meaning.proofs.KeyLaws.{sameText-same, sameInteger-same}
 use Rattle.machine.specs.declared.Value.{Value}
 use Rattle.machine.specs.declared.Value.the-variants.{Integer, Text, Boolean, Nothing, Table, Shape}
+use Rattle.machine.specs.Layout.{shapesUsed}
 use Rattle.machine.specs.Act.{Raw}
 use Rattle.machine.specs.Texts.{textOf}
 use Rattle.machine.specs.declared.Figure.{Figure}
-use Rattle.machine.specs.Shapes.{figureAt}
-use Rattle.machine.specs.Operate.{sameFigure, equality}
+use Rattle.machine.specs.Operate.{sameFigure, Comparison, refused, settled, ofShapes, equality}
 use Rattle.simulation.specs.Meant.{meantValue, meantFigure}
 use Rattle.simulation.specs.Sound.{Valid, Proper}
-use Rattle.simulation.specs.Follows.{Related}
-use Rattle.simulation.proofs.Usable.{figure-found}
 use Rattle.simulation.proofs.Figures.{kinds, as-line, as-ellipse, as-box, as-text}
 
 -- ---- truths
@@ -89,44 +84,92 @@ module _ (program texts : List ℕ) where
           (two (sameInteger (f .a) (h .a)) (sameInteger (f .b) (h .b)) (pos 0) (pos 0) (sameText (textOf program texts (f .text)) (textOf program texts (h .text))) refl))
 
 -- ---- values
-module _ {program : List ℕ} {ts : List Token} {g : List ℕ} {r : Raw} {s : State} {total : Amounts} (h : Related program ts g r s total) where
-  pub equal-alike : (v w : Value) → Valid program (r .words) v → Valid program (r .words) w
-      → equality program r v w ≡ Operator.equality s (meantValue program (r .texts) v) (meantValue program (r .texts) w)
-  unfolding equality Operator.equality meantValue Valid
-  equal-alike (Integer a) (Integer b) p q = refl
-  equal-alike (Integer a) (Text b) p q = refl
-  equal-alike (Integer a) (Boolean b) p q = refl
-  equal-alike (Integer a) Nothing p q = refl
-  equal-alike (Integer a) (Table b) p q = refl
-  equal-alike (Integer a) (Shape b) p q = refl
-  equal-alike (Text a) (Integer b) p q = refl
-  equal-alike (Text a) (Text b) p q = refl
-  equal-alike (Text a) (Boolean b) p q = refl
-  equal-alike (Text a) Nothing p q = refl
-  equal-alike (Text a) (Table b) p q = refl
-  equal-alike (Text a) (Shape b) p q = refl
-  equal-alike (Boolean a) (Integer b) p q = refl
-  equal-alike (Boolean a) (Text b) p q = refl
-  equal-alike (Boolean a) (Boolean b) p q = refl
-  equal-alike (Boolean a) Nothing p q = refl
-  equal-alike (Boolean a) (Table b) p q = refl
-  equal-alike (Boolean a) (Shape b) p q = refl
-  equal-alike Nothing (Integer b) p q = refl
-  equal-alike Nothing (Text b) p q = refl
-  equal-alike Nothing (Boolean b) p q = refl
-  equal-alike Nothing Nothing p q = refl
-  equal-alike Nothing (Table b) p q = refl
-  equal-alike Nothing (Shape b) p q = refl
-  equal-alike (Table a) (Integer b) p q = refl
-  equal-alike (Table a) (Text b) p q = refl
-  equal-alike (Table a) (Boolean b) p q = refl
-  equal-alike (Table a) Nothing p q = refl
-  equal-alike (Table a) (Table b) p q = refl
-  equal-alike (Table a) (Shape b) p q = refl
-  equal-alike (Shape a) (Integer b) p q = refl
-  equal-alike (Shape a) (Text b) p q = refl
-  equal-alike (Shape a) (Boolean b) p q = refl
-  equal-alike (Shape a) Nothing p q = refl
-  equal-alike (Shape a) (Table b) p q = refl
-  equal-alike (Shape a) (Shape b) p q = rw (figure-found h a p, figure-found h b q)
-      (ap some (figures-compared program (r .texts) (figureAt (r .words) a) (figureAt (r .words) b) (h .sound .shapes .proper a p) (h .sound .shapes .proper b q)))
+unfoldable pub meant-comparison : Comparison → Operator.Comparison
+meant-comparison refused = Operator.refused
+meant-comparison (settled b) = Operator.settled b
+meant-comparison (ofShapes i j) = Operator.ofShapes i j
+
+pub equal-alike : (program : List ℕ) (r : Raw) (v w : Value)
+    → Operator.equality (meantValue program (r .texts) v) (meantValue program (r .texts) w) ≡ meant-comparison (equality program r v w)
+unfolding equality Operator.equality meantValue meant-comparison
+equal-alike program r (Integer a) (Integer b) = refl
+equal-alike program r (Integer a) (Text b) = refl
+equal-alike program r (Integer a) (Boolean b) = refl
+equal-alike program r (Integer a) Nothing = refl
+equal-alike program r (Integer a) (Table b) = refl
+equal-alike program r (Integer a) (Shape b) = refl
+equal-alike program r (Text a) (Integer b) = refl
+equal-alike program r (Text a) (Text b) = refl
+equal-alike program r (Text a) (Boolean b) = refl
+equal-alike program r (Text a) Nothing = refl
+equal-alike program r (Text a) (Table b) = refl
+equal-alike program r (Text a) (Shape b) = refl
+equal-alike program r (Boolean a) (Integer b) = refl
+equal-alike program r (Boolean a) (Text b) = refl
+equal-alike program r (Boolean a) (Boolean b) = refl
+equal-alike program r (Boolean a) Nothing = refl
+equal-alike program r (Boolean a) (Table b) = refl
+equal-alike program r (Boolean a) (Shape b) = refl
+equal-alike program r Nothing (Integer b) = refl
+equal-alike program r Nothing (Text b) = refl
+equal-alike program r Nothing (Boolean b) = refl
+equal-alike program r Nothing Nothing = refl
+equal-alike program r Nothing (Table b) = refl
+equal-alike program r Nothing (Shape b) = refl
+equal-alike program r (Table a) (Integer b) = refl
+equal-alike program r (Table a) (Text b) = refl
+equal-alike program r (Table a) (Boolean b) = refl
+equal-alike program r (Table a) Nothing = refl
+equal-alike program r (Table a) (Table b) = refl
+equal-alike program r (Table a) (Shape b) = refl
+equal-alike program r (Shape a) (Integer b) = refl
+equal-alike program r (Shape a) (Text b) = refl
+equal-alike program r (Shape a) (Boolean b) = refl
+equal-alike program r (Shape a) Nothing = refl
+equal-alike program r (Shape a) (Table b) = refl
+equal-alike program r (Shape a) (Shape b) = refl
+
+-- two shapes that are to be compared were made
+unfoldable pub Fine : List ℕ → Comparison → Type 0
+Fine ws refused = Unit {0}
+Fine ws (settled b) = Unit {0}
+Fine ws (ofShapes i j) = (i < getD ws shapesUsed 0) × (j < getD ws shapesUsed 0)
+
+pub fine : (program : List ℕ) (r : Raw) (v w : Value) → Valid program (r .words) v → Valid program (r .words) w → Fine (r .words) (equality program r v w)
+unfolding Fine equality Valid
+fine program r (Integer a) (Integer b) p q = tt
+fine program r (Integer a) (Text b) p q = tt
+fine program r (Integer a) (Boolean b) p q = tt
+fine program r (Integer a) Nothing p q = tt
+fine program r (Integer a) (Table b) p q = tt
+fine program r (Integer a) (Shape b) p q = tt
+fine program r (Text a) (Integer b) p q = tt
+fine program r (Text a) (Text b) p q = tt
+fine program r (Text a) (Boolean b) p q = tt
+fine program r (Text a) Nothing p q = tt
+fine program r (Text a) (Table b) p q = tt
+fine program r (Text a) (Shape b) p q = tt
+fine program r (Boolean a) (Integer b) p q = tt
+fine program r (Boolean a) (Text b) p q = tt
+fine program r (Boolean a) (Boolean b) p q = tt
+fine program r (Boolean a) Nothing p q = tt
+fine program r (Boolean a) (Table b) p q = tt
+fine program r (Boolean a) (Shape b) p q = tt
+fine program r Nothing (Integer b) p q = tt
+fine program r Nothing (Text b) p q = tt
+fine program r Nothing (Boolean b) p q = tt
+fine program r Nothing Nothing p q = tt
+fine program r Nothing (Table b) p q = tt
+fine program r Nothing (Shape b) p q = tt
+fine program r (Table a) (Integer b) p q = tt
+fine program r (Table a) (Text b) p q = tt
+fine program r (Table a) (Boolean b) p q = tt
+fine program r (Table a) Nothing p q = tt
+fine program r (Table a) (Table b) p q = tt
+fine program r (Table a) (Shape b) p q = tt
+fine program r (Shape a) (Integer b) p q = tt
+fine program r (Shape a) (Text b) p q = tt
+fine program r (Shape a) (Boolean b) p q = tt
+fine program r (Shape a) Nothing p q = tt
+fine program r (Shape a) (Table b) p q = tt
+fine program r (Shape a) (Shape b) p q = (p, q)

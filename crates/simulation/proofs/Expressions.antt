@@ -200,18 +200,18 @@ module _ (inner : Evaluator) (e : Setting) (rounds a x p len : ℕ) where
   by-no-argument l = rw (le-ltb (a + sizeIn (getD (e .code) a 0)) x (omega arith), le-ltb x x (le-refl x))
 
 -- ---- calls by the word's number
-by-own : (invoke : Invoke) (e : Setting) (w p base slot : ℕ) → numberIn w ≡ 10 + 16 * slot → invoked invoke e w p base ≡ invoke slot p base
+by-own : (invoke : Invoke) (e : Setting) (w p base slot : ℕ) → numberIn w ≡ 11 + 16 * slot → invoked invoke e w p base ≡ invoke slot p base
 unfolding invoked if_then_else_
 by-own invoke e w p base slot q =
-    let a : (10 + 16 * slot) % 16 ≡ 10 = omega arith in
-    let b : (10 + 16 * slot) / 16 ≡ slot = omega arith in
+    let a : (11 + 16 * slot) % 16 ≡ 11 = omega arith in
+    let b : (11 + 16 * slot) / 16 ≡ slot = omega arith in
     rw (q, a, b)
 
-by-library : (invoke : Invoke) (e : Setting) (w p base n slot : ℕ) → n < 16 → n ≢ 10 → numberIn w ≡ n + 16 * slot → invoked invoke e w p base ≡ called (e .grants) n p base
+by-library : (invoke : Invoke) (e : Setting) (w p base n slot : ℕ) → n < 16 → n ≢ 11 → numberIn w ≡ n + 16 * slot → invoked invoke e w p base ≡ called (e .grants) n p base
 unfolding invoked if_then_else_
 by-library invoke e w p base n slot l d q =
     let a : (n + 16 * slot) % 16 ≡ n = omega arith in
-    rw (q, a, ne-eqb n 10 d)
+    rw (q, a, ne-eqb n 11 d)
 
 -- ---- expressions of a call under way, by its procedure and how many calls there are
 -- Twice what the stack holds and the words of the expression's code are at most `room`: an argument is one word of the stack and two of code or more.
@@ -296,7 +296,7 @@ module _ (e : Setting) {ts : List Token} (few : length ts ≤ 8192) (strings : S
       (bind (left r₁ s₁ total₁ (a .after .related) (stays (a .after) un) (omega (arith, a .after .held))) (λ v u r₂ s₂ total₂ b.
       rw (back-again (b .after .related .sound) v (b .valid), b .means) (with-table (b .after .related) p v (b .valid) _ _ (λ t w.
       bind (right r₂ s₂ total₂ (b .after .related) (stays (b .after) (stays (a .after) un)) (omega (arith, a .after .held, b .after .held))) (λ k q r₃ s₃ total₃ c.
-      rw (c .means) (from-here (onward (a .after) (onward (b .after) (c .after))) (reads-entry (c .after .related) t k (c .valid) p))))))))
+      rw (c .means) (from-here (onward (a .after) (onward (b .after) (c .after))) (reads-entry (c .after .related) k (c .valid) t p))))))))
 
   operation-follows : (o : Operator) (x y : Expression) (fuel at p : ℕ) → Joint (e .code) at (tagOf o) (codeOf x ts) (codeOf y ts)
       → Evaluates x fuel (at - 1 - length (codeOf y ts)) p → Evaluates y fuel (at - 1) p → Evaluates (operation o x y) (suc fuel) at p
@@ -345,20 +345,20 @@ module _ (e : Setting) {ts : List Token} (few : length ts ≤ 8192) (strings : S
       (omega (arith, q .held, b .after .held, code-some y ts))))))
 
   -- a name that is main's or in the library
-  performs : (f : List ℕ) → procedureNumber f ≢ 10 → 0 < limit → (p base n : ℕ) {r : Raw} {s : State} {total : Amounts} → Here r s total
+  performs : (f : List ℕ) → procedureNumber f ≢ 11 → 0 < limit → (p base n : ℕ) {r : Raw} {s : State} {total : Amounts} → Here r s total
       → (us : List Value.Value) → Stacked (e .program) r base n us
       → Follows granted total (Values (e .program) ts (e .grants) r) (callLibrary (e .grants) (procedureNumber f) p base n r) (calling limit fs f p us s)
   unfolding procedureNumber libraryNumber numberOf calling found callLibrary if_then_else_ Act.fail Run.fail
   performs f d pos p base n {r} {s} {total} h us st = at (limit - 1) (omega arith)
     where
-      by-library-name : (m : ℕ) (l : Option Library) → libraryOf f ≡ l → numberOf l ≢ 10
+      by-library-name : (m : ℕ) (l : Option Library) → libraryOf f ≡ l → numberOf l ≢ 11
           → Follows granted total (Values (e .program) ts (e .grants) r) (callLibrary (e .grants) (numberOf l) p base n r)
           (found (λ ss. executeAll (calling m fs) ss m) (procedureNamed f fs) f p us s)
       by-library-name m (some l) q k = rw (apart f l q, q) (calls e gr (some l) p base n h us st)
       by-library-name m Option.none q k = absurd (k refl)
 
-      by-name : (m : ℕ) (b : Bool) → sameText f (bytes "main") ≡ b → cond b 11 (libraryNumber f) ≢ 10
-          → Follows granted total (Values (e .program) ts (e .grants) r) (callLibrary (e .grants) (cond b 11 (libraryNumber f)) p base n r) (calling (suc m) fs f p us s)
+      by-name : (m : ℕ) (b : Bool) → sameText f (bytes "main") ≡ b → cond b 12 (libraryNumber f) ≢ 11
+          → Follows granted total (Values (e .program) ts (e .grants) r) (callLibrary (e .grants) (cond b 12 (libraryNumber f)) p base n r) (calling (suc m) fs f p us s)
       by-name m true q k = rw q (failed 20 p r (steps-told h))
       by-name m false q k = rw q (by-library-name m (libraryOf f) refl k)
 
@@ -366,7 +366,7 @@ module _ (e : Setting) {ts : List Token} (few : length ts ≤ 8192) (strings : S
           → Follows granted total (Values (e .program) ts (e .grants) r) (callLibrary (e .grants) (procedureNumber f) p base n r) (calling limit fs f p us s)
       at m q = rw (← q) (by-name m (sameText f (bytes "main")) refl d)
 
-  call-ends : (f : List ℕ) → procedureNumber f ≢ 10 → 0 < limit → (p : ℕ) {r₁ r₂ : Raw} {us : List Value.Value} {s₂ : State} {total₁ total₂ : Amounts} {s₁ : State} → Here r₁ s₁ total₁
+  call-ends : (f : List ℕ) → procedureNumber f ≢ 11 → 0 < limit → (p : ℕ) {r₁ r₂ : Raw} {us : List Value.Value} {s₂ : State} {total₁ total₂ : Amounts} {s₁ : State} → Here r₁ s₁ total₁
       → (c : AfterArguments (e .program) ts (e .grants) r₁ us r₂ s₂ total₂)
       → Follows granted total₂ (Values (e .program) ts (e .grants) r₁) (called (e .grants) (procedureNumber f) p (getD (r₁ .words) argumentsHeld 0) r₂) (calling limit fs f p us s₂)
   unfolding called Act._>>=_ Act.goOn Act.load Act.give Act.store dropTo
@@ -410,16 +410,16 @@ module _ (e : Setting) {ts : List Token} (few : length ts ≤ 8192) (strings : S
           → Here r₁ s₁ total₁ → (c′ : AfterArguments (e .program) ts (e .grants) r₁ us r₂ s₂ total₂) → Under (e .grants) w c limit r₂ → suc (stepsLeft (e .grants) r₂) < limit
           → 2 * getD (r₂ .words) argumentsHeld 0 ≤ room → numberIn (getD (e .code) at 0) ≡ procedureNumber f + 16 * slotOf ts f
           → Follows granted total₂ (Values (e .program) ts (e .grants) r₁) (invoked (invokeAt fuel e) e (getD (e .code) at 0) p (getD (r₁ .words) argumentsHeld 0) r₂) (calling limit fs f p us s₂)
-      by-number-of n q r₁ s₁ total₁ r₂ s₂ total₂ us h₁ c′ u′ fewer fits k = go (eqb n 10) refl
+      by-number-of n q r₁ s₁ total₁ r₂ s₂ total₂ us h₁ c′ u′ fewer fits k = go (eqb n 11) refl
         where
-          go : (b : Bool) → eqb n 10 ≡ b
+          go : (b : Bool) → eqb n 11 ≡ b
               → Follows granted total₂ (Values (e .program) ts (e .grants) r₁) (invoked (invokeAt fuel e) e (getD (e .code) at 0) p (getD (r₁ .words) argumentsHeld 0) r₂) (calling limit fs f p us s₂)
           go true z =
-              let ten : procedureNumber f ≡ 10 = q ∙ eqb-true n 10 z in
-              rw (by-own (invokeAt fuel e) e (getD (e .code) at 0) p (getD (r₁ .words) argumentsHeld 0) (slotOf ts f) (rw ten at k))
-              (invokes fuel spare .follows f o ten p h₁ c′ u′ fewer fits)
+              let own : procedureNumber f ≡ 11 = q ∙ eqb-true n 11 z in
+              rw (by-own (invokeAt fuel e) e (getD (e .code) at 0) p (getD (r₁ .words) argumentsHeld 0) (slotOf ts f) (rw own at k))
+              (invokes fuel spare .follows f o own p h₁ c′ u′ fewer fits)
           go false z =
-              let other : procedureNumber f ≢ 10 = λ y. eqb-false n 10 z (sym q ∙ y) in
+              let other : procedureNumber f ≢ 11 = λ y. eqb-false n 11 z (sym q ∙ y) in
               rw (by-library (invokeAt fuel e) e (getD (e .code) at 0) p (getD (r₁ .words) argumentsHeld 0) (procedureNumber f) (slotOf ts f) (omega (arith, procedure-small f)) other k)
               (call-ends f other (omega arith) p h₁ c′)
 

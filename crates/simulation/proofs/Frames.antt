@@ -1,54 +1,34 @@
 -- What stays when words change that do not matter.
 use Prim.Native.Nat.{ℕ, zero, suc, _+_, _-_, _/_, _%_, _^_, _≤_, _<_}
 use native.Mathlib.Omega.{arith}
-use native.Mathlib.Nat.{le-refl, le-trans, add-zero}
+use native.Mathlib.Nat.{le-refl, le-trans, le-of-lt, add-zero}
 use mathlib.Core.Path.{_≡_, refl, ap, ap₂, sym, _∙_}
+use mathlib.Core.Logic.{_≢_}
 use mathlib.Core.Bool.{Bool, true, false, cond, not}
-use mathlib.Core.List.{List}
+use mathlib.Core.List.{List, [], _∷_, _++_}
 use lib.ListN.{length, getD}
 use lib.Dec.{eqb}
-use mir.Syntax.{w32}
-use mir.Val.{toZ}
-use mir.Facts.{toZ-inj}
 use Rattle.meaning.specs.Basics.{if_then_else_}
 use Rattle.meaning.specs.Token.{Token}
 use Rattle.meaning.specs.Value.{string}
-use Rattle.meaning.specs.State.{keyOf, figureKey, noShape}
+use Rattle.meaning.specs.State.{atom, group, noShape}
 use Rattle.meaning.specs.State as State
 use Rattle.machine.specs.declared.Value.{Value}
 use Rattle.machine.specs.declared.Value.the-variants.{Integer, Text, Boolean, Nothing, Table, Shape}
-use Rattle.machine.specs.Words.{kindIn, numberIn, handleIn, unpacked}
-use Rattle.machine.specs.Layout.{shapesUsed, entriesUsed, textUsed, declared, argumentsHeld, callsUsed, running, entriesGranted, framePlace, valuePlace, orderPlace, shapePlace, entryPlace}
+use Rattle.machine.specs.Words.{unpacked}
+use Rattle.machine.specs.Layout.{shapesUsed, textUsed, declared, argumentsHeld, callsUsed, running, componentsMade, loopUnit, framePlace, valuePlace, orderPlace, shapePlace, componentPlace, pathPlace}
 use Rattle.machine.specs.Act.{Raw}
 use Rattle.machine.specs.Texts.{originIn, startIn, sizeIn}
 use Rattle.machine.specs.declared.Figure.{Figure}
-use Rattle.machine.specs.Shapes.{figureAt}
+use Rattle.machine.specs.Shapes.{kindGroup, isGroupAt, figureAt, destroyedAt}
+use Rattle.machine.specs.Groups.{componentAt, firstAt, countAt}
+use Rattle.machine.specs.Show.{shownFrom, figuresIn}
 use Rattle.machine.specs.Stack.{argumentAt}
 use Rattle.machine.specs.Variables.{wordIn, topIn, countIn}
-use Rattle.machine.specs.Tables.{ownerAt, keyAt, valueAt, figureContent, contentOf, headPlace}
-use Rattle.simulation.specs.Meant.{
-  meantValue,
-  meantWord,
-  meantFigure,
-  listed,
-  slotAt,
-  variableAt,
-  variablesOf,
-  waitingAt,
-  frameAt,
-  frameOf,
-  suspendedOf,
-  shapeAt,
-  shapesOf,
-  keyAmong,
-  meantKey,
-  entryAt,
-  entriesOf,
-}
-use Rattle.simulation.specs.Sound.{Held, Valid, Proper, declaredAmong, Variables, Waiting, Shapes, Entries}
-use Rattle.simulation.specs.Follows.{Later}
+use Rattle.simulation.specs.Meant.{meantValue, meantFigure, listed, slotAt, variableAt, variablesOf, waitingAt, frameAt, frameOf, suspendedOf, componentsOf, contentAt, shapeAt, shapesOf}
+use Rattle.simulation.specs.Sound.{Held, Valid, Proper, declaredAmong, Variables, Waiting, Grouped, Shapes, Marks}
+use Rattle.simulation.specs.Follows.{Stays, Later}
 use Rattle.simulation.specs.After.{Untouched}
-use Rattle.simulation.proofs.Indexing.{content-same, index-agrees}
 use Rattle.simulation.proofs.Listed.{listed-same, listed-first, getD-listed}
 
 -- ---- what is held stays held
@@ -59,6 +39,25 @@ held-more {program} {used} {used′} {h} l v = record { small = v .small; inside
     go true e = e
     go false e = omega arith
 
+-- ---- shapes stay
+pub group-stays : {ws ws′ : List ℕ} {i : ℕ} → Stays ws ws′ i → isGroupAt ws′ i ≡ isGroupAt ws i
+group-stays a = ap (λ k. eqb k kindGroup) (a .kind)
+
+stays-trans : {ws ws′ ws″ : List ℕ} {i : ℕ} → Stays ws ws′ i → Stays ws′ ws″ i → Stays ws ws″ i
+stays-trans a b = record {
+  kind = b .kind ∙ a .kind;
+  figure = λ n. b .figure (group-stays a ∙ n) ∙ a .figure n;
+  slots = b .slots ∙ a .slots;
+  dead = λ e. b .dead (a .dead e);
+}
+
+-- if its three words do
+pub stays-words : (ws ws′ : List ℕ) (i : ℕ) → ((j : ℕ) → j < 3 → getD ws′ (shapePlace i + j) 0 ≡ getD ws (shapePlace i + j) 0) → Stays ws ws′ i
+unfolding figureAt
+stays-words ws ws′ i h =
+    let a : getD ws′ (shapePlace i) 0 ≡ getD ws (shapePlace i) 0 = rw (← add-zero (shapePlace i)) (h 0 (omega arith)) in
+    record { kind = rw a; figure = λ n. rw (a, h 1 (omega arith), h 2 (omega arith)); slots = h 1 (omega arith); dead = λ e. rw a e }
+
 pub later-refl : (program : List ℕ) (r : Raw) → Later program r r
 later-refl program r = record {
   steps = le-refl _;
@@ -66,7 +65,7 @@ later-refl program r = record {
   text = le-refl _;
   tables = le-refl _;
   texts = λ h v. refl;
-  figures = λ i l. refl;
+  figures = λ i l. record { kind = refl; figure = λ n. refl; slots = refl; dead = λ e. e };
 }
 
 pub later-trans : {program : List ℕ} {r r′ r″ : Raw} → Later program r r′ → Later program r′ r″ → Later program r r″
@@ -76,37 +75,98 @@ later-trans a b = record {
   text = le-trans (a .text) (b .text);
   tables = le-trans (a .tables) (b .tables);
   texts = λ h v. b .texts h (held-more (a .text) v) ∙ a .texts h v;
-  figures = λ i l. b .figures i (le-trans l (a .shapes)) ∙ a .figures i l;
+  figures = λ i l. stays-trans (a .figures i l) (b .figures i (le-trans l (a .shapes)));
 }
 
--- ---- the calls under way
-pub untouched-refl : (r : Raw) → Untouched r r
-untouched-refl r = record { calls = refl; running = refl; frames = λ d z h. refl; arguments = λ k h. refl }
+pub append-none : {A : Type 0} (xs ys : List A) → xs ++ ys ≡ [] → (xs ≡ []) × (ys ≡ [])
+append-none [] ys e = (refl, e)
+append-none (x ∷ xs) ys e = let y : _≡_ {A = ℕ} (suc (length (xs ++ ys))) 0 = ap length e in absurd (omega arith)
 
-pub untouched-trans : {r r′ r″ : Raw} → getD (r .words) argumentsHeld 0 ≤ getD (r′ .words) argumentsHeld 0 → Untouched r r′ → Untouched r′ r″ → Untouched r r″
+both-none : {A : Type 0} {xs ys : List A} → xs ≡ [] → ys ≡ [] → xs ++ ys ≡ []
+both-none a b = rw (a, b)
+
+-- ---- components and marks
+pub record SameComponents (g : List ℕ) (r r′ : Raw) : Type 0 where
+  pub made : getD (r .words) componentsMade 0 ≤ getD (r′ .words) componentsMade 0
+  pub words : (k : ℕ) → k < getD (r .words) componentsMade 0 → getD (r′ .words) (componentPlace g k) 0 ≡ getD (r .words) (componentPlace g k) 0
+
+-- all of them as they were
+pub record SameRest (g : List ℕ) (r r′ : Raw) : Type 0 where
+  pub parts : getD (r′ .words) componentsMade 0 ≡ getD (r .words) componentsMade 0
+  pub unit : getD (r′ .words) loopUnit 0 ≡ getD (r .words) loopUnit 0
+  pub calls : getD (r′ .words) callsUsed 0 ≡ getD (r .words) callsUsed 0
+  pub high : (j : ℕ) → componentPlace g 0 ≤ j → getD (r′ .words) j 0 ≡ getD (r .words) j 0
+
+module _ {g : List ℕ} {r r′ : Raw} (a : SameRest g r r′) where
+  pub rest-components : SameComponents g r r′
+  rest-components = record { made = omega (arith, a .parts); words = λ k l. a .high _ (omega arith) }
+
+  pub rest-marks : Marks g (r .words) → Marks g (r′ .words)
+  rest-marks m = record {
+    idle = λ d k x y z. a .high _ (omega arith) ∙ m .idle d k (rw (a .calls) at x) y z;
+    own = λ k x y. rw (a .calls, a .unit, a .high (pathPlace g (getD (r .words) callsUsed 0 - 1) k) (omega arith)) (m .own k (rw (a .calls) at x) y);
+  }
+
+-- ---- the calls under way
+pub untouched-refl : (g : List ℕ) (r : Raw) → Untouched g r r
+untouched-refl g r = record {
+  calls = refl;
+  running = refl;
+  frames = λ d z h. refl;
+  arguments = λ k h. refl;
+  made = le-refl _;
+  components = λ k h. refl;
+  unit = refl;
+  marks = λ d k x y. refl;
+  bound = λ slot n. n;
+}
+
+pub untouched-trans : {g : List ℕ} {r r′ r″ : Raw} → getD (r .words) argumentsHeld 0 ≤ getD (r′ .words) argumentsHeld 0
+    → Untouched g r r′ → Untouched g r′ r″ → Untouched g r r″
 untouched-trans h a b = record {
   calls = b .calls ∙ a .calls;
   running = b .running ∙ a .running;
   frames = λ d z l. b .frames d z (rw (a .calls) l) ∙ a .frames d z l;
   arguments = λ k l. b .arguments k (le-trans l h) ∙ a .arguments k l;
+  made = le-trans (a .made) (b .made);
+  components = λ k l. b .components k (le-trans l (a .made)) ∙ a .components k l;
+  unit = b .unit ∙ a .unit;
+  marks = λ d k x y. b .marks d k (rw (a .calls) x) y ∙ a .marks d k x y;
+  bound = λ slot n. b .bound slot (a .bound slot n);
 }
 
--- the words from the number of calls up to the variables, and those of the stack
-pub untouched-words : {r r′ : Raw} → ((i : ℕ) → callsUsed ≤ i → i < 80 → getD (r′ .words) i 0 ≡ getD (r .words) i 0)
-    → ((k : ℕ) → k < getD (r .words) argumentsHeld 0 → argumentAt (r′ .words) k ≡ argumentAt (r .words) k) → Untouched r r′
-untouched-words e s = record {
-  calls = e callsUsed (omega arith) (omega arith);
-  running = e running (omega arith) (omega arith);
+pub untouched-components : {g : List ℕ} {r r′ : Raw} → Untouched g r r′ → SameComponents g r r′
+untouched-components u = record { made = u .made; words = u .components }
+
+-- the words of the procedure under way and of calls that wait, and those of the stack
+pub untouched-but : {g : List ℕ} {r r′ : Raw} → SameRest g r r′ → getD (r′ .words) running 0 ≡ getD (r .words) running 0
+    → ((i : ℕ) → 16 ≤ i → i < 80 → getD (r′ .words) i 0 ≡ getD (r .words) i 0)
+    → ((k : ℕ) → k < getD (r .words) argumentsHeld 0 → argumentAt (r′ .words) k ≡ argumentAt (r .words) k)
+    → ((slot : ℕ) → getD (r .words) (valuePlace slot) 0 ≢ 0 → getD (r′ .words) (valuePlace slot) 0 ≢ 0) → Untouched g r r′
+untouched-but a n e s b = record {
+  calls = a .calls;
+  running = n;
   frames = λ d z h. e (framePlace d) (omega arith) (omega arith);
   arguments = s;
+  made = omega (arith, a .parts);
+  components = λ k l. a .high _ (omega arith);
+  unit = a .unit;
+  marks = λ d k x y. a .high _ (omega arith);
+  bound = b;
 }
+
+-- and those of the variables
+pub untouched-words : {g : List ℕ} {r r′ : Raw} → SameRest g r r′ → getD (r′ .words) running 0 ≡ getD (r .words) running 0
+    → ((i : ℕ) → 16 ≤ i → i < 16464 → getD (r′ .words) i 0 ≡ getD (r .words) i 0)
+    → ((k : ℕ) → k < getD (r .words) argumentsHeld 0 → argumentAt (r′ .words) k ≡ argumentAt (r .words) k) → Untouched g r r′
+untouched-words a n e s = untouched-but a n (λ i l m. e i l (omega arith)) s (λ slot z. rw (e (valuePlace slot) (omega arith) (omega arith)) z)
 
 -- the words of calls that wait, and the stack as far as it was held
 pub record SameStack (r r′ : Raw) : Type 0 where
   pub frames : (d : ℕ) → 0 < d → d < getD (r .words) callsUsed 0 → frameAt (r′ .words) d ≡ frameAt (r .words) d
   pub arguments : (k : ℕ) → k < getD (r .words) argumentsHeld 0 → argumentAt (r′ .words) k ≡ argumentAt (r .words) k
 
-pub same-stack : {r r′ : Raw} → Untouched r r′ → SameStack r r′
+pub same-stack : {g : List ℕ} {r r′ : Raw} → Untouched g r r′ → SameStack r r′
 same-stack u = record { frames = u .frames; arguments = u .arguments }
 
 pub record SameWaiting (program : List ℕ) (ts : List Token) (r r′ : Raw) : Type 0 where
@@ -139,12 +199,12 @@ module _ {program : List ℕ} {r r′ : Raw} (l : Later program r r′) where
     pub slots : (k : ℕ) → k < getD (r .words) declared 0 → slotAt (r′ .words) k ≡ slotAt (r .words) k
     pub values : (slot : ℕ) → getD (r′ .words) (valuePlace slot) 0 ≡ getD (r .words) (valuePlace slot) 0
 
-  -- the words from the procedure under way up to the stack
-  pub same-words : getD (r′ .words) declared 0 ≡ getD (r .words) declared 0
-      → ((i : ℕ) → running ≤ i → i < 16464 → getD (r′ .words) i 0 ≡ getD (r .words) i 0) → SameVariables
-  same-words n e = record {
+  -- the words of the procedure under way and of variables
+  pub same-words : getD (r′ .words) declared 0 ≡ getD (r .words) declared 0 → getD (r′ .words) running 0 ≡ getD (r .words) running 0
+      → ((i : ℕ) → 16 ≤ i → i < 16464 → getD (r′ .words) i 0 ≡ getD (r .words) i 0) → SameVariables
+  same-words n m e = record {
     count = n;
-    procedure = e running (omega arith) (omega arith);
+    procedure = m;
     slots = λ k h. e (orderPlace k) (omega arith) (omega arith);
     values = λ slot. e (valuePlace slot) (omega arith) (omega arith);
   }
@@ -219,7 +279,7 @@ module _ {program : List ℕ} {r r′ : Raw} (l : Later program r r′) where
       suspended = rw c frames-same;
     }
 
-  pub same-waiting : Untouched r r′ → getD (r .words) argumentsHeld 0 ≤ getD (r′ .words) argumentsHeld 0 → Waiting program (r .words) → (ts : List Token) → SameWaiting program ts r r′
+  pub same-waiting : {g : List ℕ} → Untouched g r r′ → getD (r .words) argumentsHeld 0 ≤ getD (r′ .words) argumentsHeld 0 → Waiting program (r .words) → (ts : List Token) → SameWaiting program ts r r′
   same-waiting u high w ts = waits-same (same-stack u) high w ts (u .calls)
 
   -- ---- shapes
@@ -235,130 +295,126 @@ module _ {program : List ℕ} {r r′ : Raw} (l : Later program r r′) where
     lettered = p .lettered;
   }
 
-  module _ (shapes : Shapes program (r .words)) where
-    pub figure-later : (i : ℕ) → i < getD (r .words) shapesUsed 0
+  module _ {g : List ℕ} (shapes : Shapes program g (r .words)) where
+    pub figure-later : (i : ℕ) → i < getD (r .words) shapesUsed 0 → isGroupAt (r .words) i ≡ false
         → meantFigure program (r′ .texts) (figureAt (r′ .words) i) ≡ meantFigure program (r .texts) (figureAt (r .words) i)
     unfolding meantFigure
-    figure-later i h = rw (l .figures i h, l .texts (figureAt (r .words) i .text) (shapes .proper i h .text))
+    figure-later i h n = rw (l .figures i h .figure n, l .texts (figureAt (r .words) i .text) (shapes .proper i h n .text))
 
-    pub proper-kept : (i : ℕ) → i < getD (r .words) shapesUsed 0 → Proper program (getD (r′ .words) textUsed 0) (figureAt (r′ .words) i)
-    proper-kept i h = rw (l .figures i h) (proper-later (shapes .proper i h))
+    pub proper-kept : (i : ℕ) → i < getD (r .words) shapesUsed 0 → isGroupAt (r .words) i ≡ false → Proper program (getD (r′ .words) textUsed 0) (figureAt (r′ .words) i)
+    proper-kept i h n = rw (l .figures i h .figure n) (proper-later (shapes .proper i h n))
+
+    module _ (same : SameComponents g r r′) where
+      pub component-later : (k : ℕ) → k < getD (r .words) componentsMade 0 → componentAt g (r′ .words) k ≡ componentAt g (r .words) k
+      component-later k h = ap (λ (w : ℕ). w % 2 ^ 32) (same .words k h)
+
+      pub first-later : (i : ℕ) → i < getD (r .words) shapesUsed 0 → firstAt (r′ .words) i ≡ firstAt (r .words) i
+      first-later i h = ap (λ (w : ℕ). w % 2 ^ 16) (l .figures i h .slots)
+
+      pub count-later : (i : ℕ) → i < getD (r .words) shapesUsed 0 → countAt (r′ .words) i ≡ countAt (r .words) i
+      count-later i h = ap (λ (w : ℕ). w / 2 ^ 32 % 2 ^ 16) (l .figures i h .slots)
+
+      pub grouped-later : (i : ℕ) → i < getD (r .words) shapesUsed 0 → Grouped g (r .words) i → Grouped g (r′ .words) i
+      grouped-later i h a =
+          let x = first-later i h in
+          let y = count-later i h in record {
+            within = rw (x, y) (le-trans (a .within) (same .made));
+            older = λ k u v. let m = rw (x, y) at v in rw (component-later k (le-trans m (a .within))) (a .older k (rw x at u) m);
+            follow = λ k u v. let m = rw (x, y) at v in rw (x, y, same .words k (le-trans m (a .within))) (a .follow k (rw x at u) m);
+          }
+
+      pub components-later : (i : ℕ) → i < getD (r .words) shapesUsed 0 → isGroupAt (r .words) i ≡ true → componentsOf g (r′ .words) i ≡ componentsOf g (r .words) i
+      unfolding componentsOf
+      components-later i h n =
+          rw (first-later i h, count-later i h)
+          (listed-same _ _ (firstAt (r .words) i) (countAt (r .words) i) (λ k a b. component-later k (le-trans b (shapes .groups i h n .within))))
+
+      pub content-stays : (i : ℕ) → i < getD (r .words) shapesUsed 0 → contentAt program g r′ i ≡ contentAt program g r i
+      unfolding contentAt if_then_else_
+      content-stays i h = rw (group-stays (l .figures i h)) (go (isGroupAt (r .words) i) refl)
+        where
+          go : (b : Bool) → isGroupAt (r .words) i ≡ b
+              → (if b then (λ _. group (componentsOf g (r′ .words) i)) else λ _. atom (meantFigure program (r′ .texts) (figureAt (r′ .words) i)))
+              ≡ (if b then (λ _. group (componentsOf g (r .words) i)) else λ _. atom (meantFigure program (r .texts) (figureAt (r .words) i)))
+          go true n = ap group (components-later i h n)
+          go false n = ap atom (figure-later i h n)
+
+      -- where no figure was left, none is
+      shown-none : (b i k n : ℕ) → i < getD (r .words) shapesUsed 0
+          → ((c : ℕ) → c < i → figuresIn b g (r .words) c ≡ [] → figuresIn b g (r′ .words) c ≡ [])
+          → k + n ≤ getD (r .words) componentsMade 0 → ((j : ℕ) → k ≤ j → j < k + n → componentAt g (r .words) j < i)
+          → shownFrom (figuresIn b g (r .words)) g (r .words) k n ≡ [] → shownFrom (figuresIn b g (r′ .words)) g (r′ .words) k n ≡ []
+      unfolding shownFrom if_then_else_
+      shown-none b i k zero h f w o e = refl
+      shown-none b i k (suc n) h f w o e =
+          let c = componentAt g (r .words) k in
+          let same : componentAt g (r′ .words) k ≡ c = component-later k (omega arith) in
+          let older : c < i = o k (omega arith) (omega arith) in
+          let q = append-none (if destroyedAt (r .words) c then (λ _. []) else λ _. figuresIn b g (r .words) c) (shownFrom (figuresIn b g (r .words)) g (r .words) (k + 1) n) e in
+          rw same (both-none
+          (one c (destroyedAt (r .words) c) (destroyedAt (r′ .words) c) refl refl (l .figures c (le-trans older (le-of-lt h)) .dead) (f c older) (q .0))
+          (shown-none b i (k + 1) n h f (omega arith) (λ j x y. o j (omega arith) (omega arith)) (q .1)))
+        where
+          one : (c : ℕ) (x y : Bool) → destroyedAt (r .words) c ≡ x → destroyedAt (r′ .words) c ≡ y → (destroyedAt (r .words) c ≡ true → destroyedAt (r′ .words) c ≡ true)
+              → (figuresIn b g (r .words) c ≡ [] → figuresIn b g (r′ .words) c ≡ []) → (if x then (λ _. []) else λ _. figuresIn b g (r .words) c) ≡ []
+              → (if y then (λ _. []) else λ _. figuresIn b g (r′ .words) c) ≡ []
+          one c x true p q d f e = refl
+          one c true false p q d f e = let z : _≡_ {A = Bool} true false = sym (d p) ∙ q in let y : _≡_ {A = ℕ} 0 1 = cc in absurd (omega arith)
+          one c false false p q d f e = f e
+
+      pub figures-none : (b i : ℕ) → i < getD (r .words) shapesUsed 0 → figuresIn b g (r .words) i ≡ [] → figuresIn b g (r′ .words) i ≡ []
+      unfolding figuresIn if_then_else_
+      figures-none zero i h e = refl
+      figures-none (suc b) i h e = rw (group-stays (l .figures i h)) (go (isGroupAt (r .words) i) refl (λ c o. figures-none b c (le-trans o (le-of-lt h))) e)
+        where
+          go : (t : Bool) → isGroupAt (r .words) i ≡ t → ((c : ℕ) → c < i → figuresIn b g (r .words) c ≡ [] → figuresIn b g (r′ .words) c ≡ [])
+              → (if t then (λ _. shownFrom (figuresIn b g (r .words)) g (r .words) (firstAt (r .words) i) (countAt (r .words) i)) else λ _. i ∷ []) ≡ []
+              → (if t then (λ _. shownFrom (figuresIn b g (r′ .words)) g (r′ .words) (firstAt (r′ .words) i) (countAt (r′ .words) i)) else λ _. i ∷ []) ≡ []
+          go true n f e =
+              let a = shapes .groups i h n in
+              rw (first-later i h, count-later i h)
+              (shown-none b i (firstAt (r .words) i) (countAt (r .words) i) h f (a .within) (a .older) e)
+          go false n f e = e
 
   pub record SameShapes : Type 0 where
     pub count : getD (r′ .words) shapesUsed 0 ≡ getD (r .words) shapesUsed 0
     pub words : (i j : ℕ) → i < getD (r .words) shapesUsed 0 → j < 3 → getD (r′ .words) (shapePlace i + j) 0 ≡ getD (r .words) (shapePlace i + j) 0
 
-  module _ (same : SameShapes) (shapes : Shapes program (r .words)) where
-    pub shapes-kept : Shapes program (r′ .words)
+  module _ {g : List ℕ} (parts : SameComponents g r r′) (same : SameShapes) (shapes : Shapes program g (r .words)) where
+    pub shapes-kept : Shapes program g (r′ .words)
     shapes-kept = record {
-      proper = λ i h. proper-kept shapes i (rw (same .count) at h);
+      proper = λ i h n. let k = rw (same .count) at h in proper-kept shapes i k (sym (group-stays (l .figures i k)) ∙ n);
       first = λ i h. let k = rw (same .count) at h in rw (same .words i 1 k (omega arith)) (shapes .first i k);
       second = λ i h. let k = rw (same .count) at h in rw (same .words i 2 k (omega arith)) (shapes .second i k);
+      groups = λ i h n. let k = rw (same .count) at h in grouped-later shapes parts i k (shapes .groups i k (sym (group-stays (l .figures i k)) ∙ n));
+      order = λ i j u h m n.
+          let k = rw (same .count) at h in
+          let o = le-trans u (le-of-lt k) in
+          rw (first-later shapes parts i o, count-later shapes parts i o, first-later shapes parts j k)
+          (shapes .order i j u k (sym (group-stays (l .figures i o)) ∙ m) (sym (group-stays (l .figures j k)) ∙ n));
+      hollow = λ i h n e.
+          let k = rw (same .count) at h in
+          figures-none shapes parts (suc i) i k (shapes .hollow i k (sym (group-stays (l .figures i k)) ∙ n) (rw (same .words i 2 k (omega arith)) at e));
     }
 
-    pub shapes-same : shapesOf program r′ ≡ shapesOf program r
+    pub shapes-same : shapesOf program g r′ ≡ shapesOf program g r
     unfolding shapesOf shapeAt
     shapes-same =
-        rw (same .count) (listed-first (shapeAt program r′) (shapeAt program r) (getD (r .words) shapesUsed 0)
+        rw (same .count) (listed-first (shapeAt program g r′) (shapeAt program g r) (getD (r .words) shapesUsed 0)
         (λ j b.
         let w : getD (r′ .words) (shapePlace j) 0 ≡ getD (r .words) (shapePlace j) 0 =
         rw (← add-zero (shapePlace j)) (same .words j 0 b (omega arith)) in
-        rw (figure-later shapes j b, w)))
+        rw (content-stays shapes parts j b, w)))
 
--- the figure of a shape that was made
-pub figure-made : (program : List ℕ) (r : Raw) (i : ℕ) → i < getD (r .words) shapesUsed 0
-    → getD (shapesOf program r) i noShape ≡ shapeAt program r i
+-- what was made of a shape
+pub shape-made : (program g : List ℕ) (r : Raw) (i : ℕ) → i < getD (r .words) shapesUsed 0
+    → getD (shapesOf program g r) i noShape ≡ shapeAt program g r i
 unfolding shapesOf
-figure-made program r i h =
+shape-made program g r i h =
     let q : 0 + i ≡ i = omega arith in
-    getD-listed (shapeAt program r) 0 (getD (r .words) shapesUsed 0) i noShape h ∙ ap (shapeAt program r) q
+    getD-listed (shapeAt program g r) 0 (getD (r .words) shapesUsed 0) i noShape h ∙ ap (shapeAt program g r) q
 
--- ---- keys and entries
-number-back : (a b : ℕ) → toZ w32 (a % 2 ^ 32) ≡ toZ w32 (b % 2 ^ 32) → a % 2 ^ 32 ≡ b % 2 ^ 32
-number-back a b e = toZ-inj {w = w32} (omega arith) (omega arith) e
-
-unpacked-text : (key : ℕ) → kindIn key ≡ 2 → unpacked key ≡ Text (handleIn key)
-unfolding unpacked if_then_else_
-unpacked-text key e = rw e
-
-unpacked-shape : (key : ℕ) → kindIn key ≡ 6 → unpacked key ≡ Shape (numberIn key)
-unfolding unpacked if_then_else_
-unpacked-shape key e = rw e
-
-module _ {program : List ℕ} {r r′ : Raw} (l : Later program r r′) (shapes : Shapes program (r .words)) where
-  pub key-later : (v : Value) → Valid program (r .words) v
-      → keyAmong (shapesOf program r′) (meantValue program (r′ .texts) v) ≡ keyAmong (shapesOf program r) (meantValue program (r .texts) v)
-  unfolding Valid meantValue keyAmong keyOf shapeAt
-  key-later (Integer z) h = refl
-  key-later (Text t) h = rw (l .texts t h)
-  key-later (Boolean b) h = refl
-  key-later Nothing h = refl
-  key-later (Table t) h = refl
-  key-later (Shape i) h =
-      ap figureKey (ap (λ (s : State.Shape). s .figure) (figure-made program r′ i (le-trans h (l .shapes)))
-      ∙ figure-later l shapes i h ∙ sym (ap (λ (s : State.Shape). s .figure) (figure-made program r i h)))
-
-  -- a key's content, by its word
-  figure-content : (i : ℕ) → i < getD (r .words) shapesUsed 0 → figureContent program (r′ .texts) (r′ .words) i ≡ figureContent program (r .texts) (r .words) i
-  unfolding figureContent figureAt
-  figure-content i h =
-      let e = l .figures i h in
-      let q = getD (r′ .words) (shapePlace i + 1) 0 in
-      let u = getD (r .words) (shapePlace i + 1) 0 in
-      let s = getD (r′ .words) (shapePlace i + 2) 0 in
-      let v = getD (r .words) (shapePlace i + 2) 0 in
-      let k = ap (λ (f : Figure). f .kind) e in
-      let a = number-back q u (ap (λ (f : Figure). f .a) e) in
-      let b = number-back (q / 2 ^ 32) (u / 2 ^ 32) (ap (λ (f : Figure). f .b) e) in
-      let c = number-back s v (ap (λ (f : Figure). f .c) e) in
-      let d = number-back (s / 2 ^ 32) (v / 2 ^ 32) (ap (λ (f : Figure). f .d) e) in
-      let t = ap (λ (f : Figure). f .text) e in
-      rw (k, a, b, c, d, t, l .texts (getD (r .words) (shapePlace i) 0 / 8) (shapes .proper i h .text))
-
-  pub content-later : (key : ℕ) → Valid program (r .words) (unpacked key) → contentOf program (r′ .texts) (r′ .words) key ≡ contentOf program (r .texts) (r .words) key
-  unfolding Valid
-  content-later key v =
-      content-same program (r .texts) (r′ .texts) (r .words) (r′ .words) key
-      (λ e. l .texts (handleIn key) (rw (unpacked-text key e) at v)) (λ e. figure-content (numberIn key) (rw (unpacked-shape key e) at v))
-
-  pub record SameEntries (g : List ℕ) : Type 0 where
-    pub count : getD (r′ .words) entriesUsed 0 ≡ getD (r .words) entriesUsed 0
-    pub firsts : (k : ℕ) → k < getD (r .words) entriesUsed 0 → getD (r′ .words) (entryPlace g k) 0 ≡ getD (r .words) (entryPlace g k) 0
-    pub keys : (k : ℕ) → k < getD (r .words) entriesUsed 0 → keyAt g (r′ .words) k ≡ keyAt g (r .words) k
-    pub values : (k : ℕ) → k < getD (r .words) entriesUsed 0 → valueAt g (r′ .words) k ≡ valueAt g (r .words) k
-    pub heads : (b : ℕ) → b < entriesGranted g → getD (r′ .words) (headPlace g b) 0 ≡ getD (r .words) (headPlace g b) 0
-
-  module _ (g : List ℕ) (same : SameEntries g) (entries : Entries program g r) where
-    owner-kept : (k : ℕ) → k < getD (r .words) entriesUsed 0 → ownerAt g (r′ .words) k ≡ ownerAt g (r .words) k
-    owner-kept k h = ap (λ (w : ℕ). w % 2 ^ 40) (same .firsts k h)
-
-    key-kept : (k : ℕ) → k < getD (r .words) entriesUsed 0 → meantKey program r′ (keyAt g (r′ .words) k) ≡ meantKey program r (keyAt g (r .words) k)
-    key-kept k h = rw (same .keys k h) (key-later (unpacked (keyAt g (r .words) k)) (entries .keys k h))
-
-    pub entries-kept : Entries program g r′
-    entries-kept = record {
-      packs = λ k h. let q = rw (same .count) at h in rw (same .keys k q) (entries .packs k q);
-      keys = λ k h. let q = rw (same .count) at h in rw (same .keys k q) (valid-later l _ (entries .keys k q));
-      holds = λ k h. let q = rw (same .count) at h in rw (same .values k q) (valid-later l _ (entries .holds k q));
-      apart = λ j k a b o e.
-          let p = rw (same .count) at a in
-          let q = rw (same .count) at b in
-          entries .apart j k p q (sym (owner-kept j p) ∙ o ∙ owner-kept k q) (sym (key-kept j p) ∙ e ∙ key-kept k q);
-      index = index-agrees program g (r .texts) (r′ .texts) (r .words) (r′ .words)
-          (record { firsts = same .firsts; keys = same .keys; contents = λ k h. content-later (keyAt g (r .words) k) (entries .keys k h) })
-          (same .count) (same .heads) (entries .index);
-    }
-
-    entry-kept : (k : ℕ) → k < getD (r .words) entriesUsed 0 → entryAt program g r′ k ≡ entryAt program g r k
-    unfolding entryAt
-    entry-kept k h =
-        let o = owner-kept k h in
-        let e = key-kept k h in
-        let v : meantWord program r′ (valueAt g (r′ .words) k) ≡ meantWord program r (valueAt g (r .words) k) =
-        rw (same .values k h) (meant-later l _ (entries .holds k h)) in
-        λ i. record { owner = o i; key = e i; holds = v i }
-
-    pub entries-same : entriesOf program g r′ ≡ entriesOf program g r
-    unfolding entriesOf
-    entries-same =
-        rw (same .count) (listed-first (entryAt program g r′) (entryAt program g r) (getD (r .words) entriesUsed 0) (λ j b. entry-kept j b))
+pub content-made : (program g : List ℕ) (r : Raw) (i : ℕ) → i < getD (r .words) shapesUsed 0
+    → getD (shapesOf program g r) i noShape .content ≡ contentAt program g r i
+unfolding shapeAt
+content-made program g r i h = ap (λ (s : State.Shape). s .content) (shape-made program g r i h)

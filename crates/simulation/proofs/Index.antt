@@ -8,7 +8,7 @@ use lib.ListN.{getD}
 use lib.Dec.{eqb}
 use borrow.Author.Tests.{eq-eqb, eqb-true, eqb-false, le-leb}
 use Rattle.meaning.specs.Basics.{if_then_else_}
-use Rattle.machine.specs.Layout.{entriesUsed, entriesGranted}
+use Rattle.machine.specs.Layout.{entriesMade, entriesGranted}
 use Rattle.machine.specs.Tables.{ownerAt, keyAt, matches, contentOf, hashFrom, spread, bucketOf, headPlace, linkAt, walk, findEntry}
 use Rattle.tables.proofs.KeyLaws.{both, same-content}
 use Rattle.tables.proofs.IndexLaws.{bucket-less, walk-done, walk-here, walk-next, found-le}
@@ -84,12 +84,12 @@ module _ (program g ts ws : List ℕ) (t key : ℕ) (x : Indexed program g ts ws
   inside = lies program g ts ws (bucketOf program g ts ws t key)
 
   -- an entry's link leads to the last of its bucket before it
-  next : (k : ℕ) → k < getD ws entriesUsed 0 → inside k ≡ true → linkAt g ws k ≡ last inside k
+  next : (k : ℕ) → k < getD ws entriesMade 0 → inside k ≡ true → linkAt g ws k ≡ last inside k
   unfolding lies
   next k l e = x .links k l ∙ ap (λ (c : ℕ). last (lies program g ts ws c) k) (eqb-true _ _ e)
 
   -- a walk from an entry of the bucket on
-  walk-last : (n k : ℕ) → k ≤ n → k ≤ getD ws entriesUsed 0 → (0 < k → inside (k - 1) ≡ true) → walk meets (linkAt g ws) n k ≡ last meets k
+  walk-last : (n k : ℕ) → k ≤ n → k ≤ getD ws entriesMade 0 → (0 < k → inside (k - 1) ≡ true) → walk meets (linkAt g ws) n k ≡ last meets k
   walk-last zero k a b e = walk-done meets (linkAt g ws) 0 k a ∙ sym (last-none meets k a)
   walk-last (suc n) k a b e =
       go (eqb k 0) (meets (k - 1)) refl refl
@@ -111,22 +111,22 @@ module _ (program g ts ws : List ℕ) (t key : ℕ) (x : Indexed program g ts ws
           walk-next meets (linkAt g ws) (suc n) k p a f s ∙ rw (d, l) r
           ∙ sym (last-skip meets inside (k - 1) (match-lies program g ts ws t key)) ∙ sym (last-below meets k p f)
 
-  from-head : (h : ℕ) → h ≡ last inside (getD ws entriesUsed 0) → walk meets (linkAt g ws) h h ≡ last meets (getD ws entriesUsed 0)
+  from-head : (h : ℕ) → h ≡ last inside (getD ws entriesMade 0) → walk meets (linkAt g ws) h h ≡ last meets (getD ws entriesMade 0)
   from-head h e =
-      rw e (walk-last (last inside (getD ws entriesUsed 0)) (last inside (getD ws entriesUsed 0)) (omega arith) (last-le inside (getD ws entriesUsed 0)) (last-meets inside (getD ws entriesUsed 0))
-      ∙ sym (last-skip meets inside (getD ws entriesUsed 0) (match-lies program g ts ws t key)))
+      rw e (walk-last (last inside (getD ws entriesMade 0)) (last inside (getD ws entriesMade 0)) (omega arith) (last-le inside (getD ws entriesMade 0)) (last-meets inside (getD ws entriesMade 0))
+      ∙ sym (last-skip meets inside (getD ws entriesMade 0) (match-lies program g ts ws t key)))
 
-  pub found-is-last : findEntry program g ts ws t key ≡ last meets (getD ws entriesUsed 0)
+  pub found-is-last : findEntry program g ts ws t key ≡ last meets (getD ws entriesMade 0)
   unfolding findEntry if_then_else_
   found-is-last = go (eqb (entriesGranted g) 0) refl
     where
-      go : (b : Bool) → eqb (entriesGranted g) 0 ≡ b → findEntry program g ts ws t key ≡ last meets (getD ws entriesUsed 0)
+      go : (b : Bool) → eqb (entriesGranted g) 0 ≡ b → findEntry program g ts ws t key ≡ last meets (getD ws entriesMade 0)
       go true e =
           let z = eqb-true (entriesGranted g) 0 e in
           let u : findEntry program g ts ws t key ≡ 0 = omega (arith, found-le program g ts ws t key) in
-          u ∙ sym (last-none meets (getD ws entriesUsed 0) (omega (arith, x .few)))
+          u ∙ sym (last-none meets (getD ws entriesMade 0) (omega (arith, x .few)))
       go false e =
           let p : 0 < entriesGranted g = omega (arith, eqb-false (entriesGranted g) 0 e) in
           let h = x .begins (bucketOf program g ts ws t key) (bucket-less program g ts ws t key p) in
-          let s : getD ws (headPlace g (bucketOf program g ts ws t key)) 0 ≤ entriesGranted g = omega (arith, h, last-le inside (getD ws entriesUsed 0), x .few) in
+          let s : getD ws (headPlace g (bucketOf program g ts ws t key)) 0 ≤ entriesGranted g = omega (arith, h, last-le inside (getD ws entriesMade 0), x .few) in
           rw (le-leb (getD ws (headPlace g (bucketOf program g ts ws t key)) 0) (entriesGranted g) s) (from-head _ h)

@@ -10,7 +10,7 @@ use lib.Dec.{eqb, ltb}
 use borrow.Author.Tests.{eqb-true, eqb-false, ltb-true, ltb-false}
 use Rattle.meaning.specs.Basics.{if_then_else_}
 use Rattle.machine.specs.Words.{kindIn, numberIn, handleIn}
-use Rattle.machine.specs.Layout.{entriesUsed, entriesGranted, entryPlace}
+use Rattle.machine.specs.Layout.{entriesMade, entriesGranted, entryPlace}
 use Rattle.machine.specs.Texts.{textOf}
 use Rattle.machine.specs.Tables.{ownerAt, keyAt, figureContent, contentOf, bucketOf, headPlace, linkAt}
 use Rattle.tables.proofs.IndexLaws.{bucket-less}
@@ -55,12 +55,12 @@ module _ (program g ts ts′ ws ws′ : List ℕ) (n : ℕ) (a : Agree program g
       (ap (λ (w : ℕ). w / 2 ^ 40) (a .firsts k l) ∙ h ∙ sym (lies-agree (bucketOf program g ts ws (ownerAt g ws k) (keyAt g ws k)) k (omega arith)))
 
 -- all entries and heads as they were
-pub index-agrees : (program g ts ts′ ws ws′ : List ℕ) → Agree program g ts ts′ ws ws′ (getD ws entriesUsed 0) → getD ws′ entriesUsed 0 ≡ getD ws entriesUsed 0
+pub index-agrees : (program g ts ts′ ws ws′ : List ℕ) → Agree program g ts ts′ ws ws′ (getD ws entriesMade 0) → getD ws′ entriesMade 0 ≡ getD ws entriesMade 0
     → ((b : ℕ) → b < entriesGranted g → getD ws′ (headPlace g b) 0 ≡ getD ws (headPlace g b) 0) → Indexed program g ts ws → Indexed program g ts′ ws′
 index-agrees program g ts ts′ ws ws′ a u h x = record {
   few = rw u (x .few);
-  begins = λ b l. rw u (h b l ∙ x .begins b l ∙ sym (lies-agree program g ts ts′ ws ws′ (getD ws entriesUsed 0) a b (getD ws entriesUsed 0) (omega arith)));
-  links = λ k l. link-agrees program g ts ts′ ws ws′ (getD ws entriesUsed 0) a k (rw u at l) (x .links k (rw u at l));
+  begins = λ b l. rw u (h b l ∙ x .begins b l ∙ sym (lies-agree program g ts ts′ ws ws′ (getD ws entriesMade 0) a b (getD ws entriesMade 0) (omega arith)));
+  links = λ k l. link-agrees program g ts ts′ ws ws′ (getD ws entriesMade 0) a k (rw u at l) (x .links k (rw u at l));
 }
 
 -- ---- one entry more
@@ -69,19 +69,19 @@ unfolding last
 last-more f n = rw (add-one n)
 
 pub record Added (program g ts ws ws′ : List ℕ) (t key : ℕ) : Type 0 where
-  pub agree : Agree program g ts ts ws ws′ (getD ws entriesUsed 0)
-  pub used : getD ws′ entriesUsed 0 ≡ getD ws entriesUsed 0 + 1
-  pub left : getD ws entriesUsed 0 < entriesGranted g
-  pub owner : ownerAt g ws′ (getD ws entriesUsed 0) ≡ t
-  pub key-there : keyAt g ws′ (getD ws entriesUsed 0) ≡ key
+  pub agree : Agree program g ts ts ws ws′ (getD ws entriesMade 0)
+  pub used : getD ws′ entriesMade 0 ≡ getD ws entriesMade 0 + 1
+  pub left : getD ws entriesMade 0 < entriesGranted g
+  pub owner : ownerAt g ws′ (getD ws entriesMade 0) ≡ t
+  pub key-there : keyAt g ws′ (getD ws entriesMade 0) ≡ key
   pub content : contentOf program ts ws′ key ≡ contentOf program ts ws key
-  pub link : linkAt g ws′ (getD ws entriesUsed 0) ≡ getD ws (headPlace g (bucketOf program g ts ws t key)) 0
-  pub head : getD ws′ (headPlace g (bucketOf program g ts ws t key)) 0 ≡ getD ws entriesUsed 0 + 1
+  pub link : linkAt g ws′ (getD ws entriesMade 0) ≡ getD ws (headPlace g (bucketOf program g ts ws t key)) 0
+  pub head : getD ws′ (headPlace g (bucketOf program g ts ws t key)) 0 ≡ getD ws entriesMade 0 + 1
   pub heads : (b : ℕ) → b < entriesGranted g → (b ≡ bucketOf program g ts ws t key → ⊥) → getD ws′ (headPlace g b) 0 ≡ getD ws (headPlace g b) 0
 
 module _ (program g ts ws ws′ : List ℕ) (t key : ℕ) (a : Added program g ts ws ws′ t key) (x : Indexed program g ts ws) where
   abbrev n : ℕ
-  n = getD ws entriesUsed 0
+  n = getD ws entriesMade 0
 
   abbrev b : ℕ
   b = bucketOf program g ts ws t key

@@ -5,34 +5,34 @@ use mathlib.Core.Path.{_≡_, refl, ap, ap₂, sym, _∙_}
 use mathlib.Core.Logic.{_≢_}
 use mathlib.Core.Bool.{Bool, true, false, _&&_}
 use mathlib.Core.List.{List, []}
+use mathlib.Core.Option.{some}
 use lib.ListN.{getD}
 use lib.Dec.{eqb}
 use lib.IntN.{ℤ, pos, negsuc}
 use lib.Signed.{mag}
 use mir.Syntax.{w32}
 use mir.Val.{toZ}
-use borrow.Author.Tests.{eqb-true, eq-eqb}
+use borrow.Author.Tests.{eqb-true, eq-eqb, ne-eqb}
 use Rattle.meaning.specs.Basics.{if_then_else_, sameText}
 use Rattle.meaning.specs.Token.{Token}
 use Rattle.meaning.specs.Integer.{bits, wrap, sameInteger, sameIntegers}
 use Rattle.meaning.proofs.IntegerLaws.{bits-wrap, wrap-id}
 use Rattle.meaning.proofs.KeyLaws.{sameInteger-same, sameInteger-iff, sameKey-kind, figureKey-alike}
 use Rattle.meaning.specs.Value.{kindOf}
-use Rattle.meaning.specs.State.{State, keyOf, sameKey, figureKey}
-use Rattle.meaning.specs.State as State
+use Rattle.meaning.specs.State.{atom, byContent, noShape, keyOf, sameKey, figureKey}
 use Rattle.machine.specs.declared.Value.{Value}
 use Rattle.machine.specs.declared.Value.the-variants.{Integer, Text, Boolean, Nothing, Table, Shape}
 use Rattle.machine.specs.Words.{kindIn, packed, unpacked}
 use Rattle.values.proofs.Laws.{unpacked-integer, unpacked-text, unpacked-truth, unpacked-table, unpacked-shape}
 use Rattle.machine.specs.Act.{Raw}
 use Rattle.machine.specs.Texts.{textOf}
-use Rattle.machine.specs.Shapes.{lowNumber, highNumber, figureAt}
+use Rattle.machine.specs.Shapes.{lowNumber, highNumber, isGroupAt, figureAt}
 use Rattle.machine.specs.Tables as Tables
 use Rattle.tables.proofs.KeyLaws.{other-kinds, text-keys, shape-keys, other-keys}
 use Rattle.machine.specs.Operate.{sameFigure}
-use Rattle.simulation.specs.Meant.{meantValue, meantFigure, shapeAt, shapesOf, keyAmong}
+use Rattle.simulation.specs.Meant.{meantValue, meantFigure, contentAt, shapesOf, someKey, keyAmong}
 use Rattle.simulation.specs.Sound.{Valid, Sound}
-use Rattle.simulation.proofs.Frames.{figure-made}
+use Rattle.simulation.proofs.Frames.{content-made}
 use Rattle.simulation.proofs.Equality.{and-true, figures-compared}
 
 -- two tests are the same if each passes with the other
@@ -134,27 +134,50 @@ module _ {program : List ℕ} {ts : List Token} {g : List ℕ} {r : Raw} (sound 
       (sameInteger (figureAt (r .words) i .c) (figureAt (r .words) j .c)) (sameInteger (figureAt (r .words) i .d) (figureAt (r .words) j .d))
       (sameText (textOf program (r .texts) (figureAt (r .words) i .text)) (textOf program (r .texts) (figureAt (r .words) j .text))))
 
+  -- ---- keys: no groups
+  unfoldable pub IsKey : Value → Type 0
+  IsKey (Integer z) = Unit {0}
+  IsKey (Text t) = Unit {0}
+  IsKey (Boolean b) = Unit {0}
+  IsKey Nothing = Unit {0}
+  IsKey (Table t) = Unit {0}
+  IsKey (Shape i) = (i < getD (r .words) 1 0) × (isGroupAt (r .words) i ≡ false)
+
+  figure-made : (i : ℕ) → i < getD (r .words) 1 0 → isGroupAt (r .words) i ≡ false
+      → getD (shapesOf program g r) i noShape .content ≡ atom (meantFigure program (r .texts) (figureAt (r .words) i))
+  unfolding contentAt if_then_else_
+  figure-made i l n = content-made program g r i l ∙ rw n
+
+  pub is-key : (v : Value) → IsKey v → keyOf (record { variables = []; suspended = []; shapes = shapesOf program g r; tables = 0; entries = [] }) (meantValue program (r .texts) v)
+      ≡ some (keyAmong (shapesOf program g r) (meantValue program (r .texts) v))
+  unfolding IsKey meantValue keyAmong keyOf someKey byContent
+  is-key (Integer z) k = refl
+  is-key (Text t) k = refl
+  is-key (Boolean b) k = refl
+  is-key Nothing k = refl
+  is-key (Table t) k = refl
+  is-key (Shape i) k = rw (figure-made i (k .0) (k .1))
+
   -- ---- keys of different kinds
   module _ (v w : Value) where
     abbrev pub Alike : Type 0
     Alike = Tables.sameKey program (r .texts) (r .words) (packed v) (packed w)
-        ≡ sameKey (keyAmong (shapesOf program r) (meantValue program (r .texts) v)) (keyAmong (shapesOf program r) (meantValue program (r .texts) w))
+        ≡ sameKey (keyAmong (shapesOf program g r) (meantValue program (r .texts) v)) (keyAmong (shapesOf program g r) (meantValue program (r .texts) w))
 
-    apart : kindOf (meantValue program (r .texts) v) ≢ kindOf (meantValue program (r .texts) w) → Alike
-    unfolding keyAmong
-    apart n =
+    apart : IsKey v → IsKey w → kindOf (meantValue program (r .texts) v) ≢ kindOf (meantValue program (r .texts) w) → Alike
+    apart x y n =
         sym (other-kinds program (r .texts) (r .words) (packed v) (packed w) (λ e. n (omega (arith, sym (kind-packed v) ∙ e ∙ kind-packed w))))
-        ∙ go (sameKey (keyAmong (shapesOf program r) (meantValue program (r .texts) v)) (keyAmong (shapesOf program r) (meantValue program (r .texts) w))) refl
+        ∙ go (sameKey (keyAmong (shapesOf program g r) (meantValue program (r .texts) v)) (keyAmong (shapesOf program g r) (meantValue program (r .texts) w))) refl
       where
-        go : (b : Bool) → sameKey (keyAmong (shapesOf program r) (meantValue program (r .texts) v)) (keyAmong (shapesOf program r) (meantValue program (r .texts) w)) ≡ b → false ≡ b
+        go : (b : Bool) → sameKey (keyAmong (shapesOf program g r) (meantValue program (r .texts) v)) (keyAmong (shapesOf program g r) (meantValue program (r .texts) w)) ≡ b → false ≡ b
         go true e =
-            absurd (n (sameKey-kind (record { variables = []; suspended = []; shapes = shapesOf program r; tables = 0; entries = [] })
-            (meantValue program (r .texts) v) (meantValue program (r .texts) w) e))
+            absurd (n (sameKey-kind (record { variables = []; suspended = []; shapes = shapesOf program g r; tables = 0; entries = [] })
+            (meantValue program (r .texts) v) (meantValue program (r .texts) w) _ _ (is-key v x) (is-key w y) e))
         go false e = refl
 
   -- ---- keys of one kind
   integers : (a b : ℤ) → mag a < 2 ^ 31 → mag b < 2 ^ 31 → Alike (Integer a) (Integer b)
-  unfolding packed meantValue keyAmong keyOf sameKey sameIntegers sameText wrap
+  unfolding packed meantValue keyAmong keyOf someKey sameKey sameIntegers sameText wrap
   integers a b l m =
       sym (other-keys program (r .texts) (r .words) (packed (Integer a)) (packed (Integer b)) (omega arith) (λ e. omega arith) (λ e. omega arith))
       ∙ same-test (eqb (1 + 8 * bits a) (1 + 8 * bits b)) (sameInteger a b)
@@ -168,7 +191,7 @@ module _ {program : List ℕ} {ts : List Token} {g : List ℕ} {r : Raw} (sound 
       from z l = wrap-id z l
 
   tables : (a b : ℕ) → Alike (Table a) (Table b)
-  unfolding packed meantValue keyAmong keyOf sameKey sameIntegers sameText sameInteger
+  unfolding packed meantValue keyAmong keyOf someKey sameKey sameIntegers sameText sameInteger
   tables a b =
       sym (other-keys program (r .texts) (r .words) (packed (Table a)) (packed (Table b)) (omega arith) (λ e. omega arith) (λ e. omega arith))
       ∙ same-test (eqb (5 + 8 * a) (5 + 8 * b)) (eqb a b)
@@ -177,7 +200,7 @@ module _ {program : List ℕ} {ts : List Token} {g : List ℕ} {r : Raw} (sound 
       ∙ sym (and-true (eqb a b && true) ∙ and-true (eqb a b))
 
   texts-alike : (a b : ℕ) → a < 2 ^ 40 → b < 2 ^ 40 → Alike (Text a) (Text b)
-  unfolding packed meantValue keyAmong keyOf sameKey sameIntegers
+  unfolding packed meantValue keyAmong keyOf someKey sameKey sameIntegers
   texts-alike a b l m =
       let x : a % 2 ^ 40 ≡ a = omega arith in
       let y : b % 2 ^ 40 ≡ b = omega arith in
@@ -186,9 +209,14 @@ module _ {program : List ℕ} {ts : List Token} {g : List ℕ} {r : Raw} (sound 
       sym (text-keys program (r .texts) (r .words) (packed (Text a)) (packed (Text b)) (omega arith)
       (sameText (textOf program (r .texts) a) (textOf program (r .texts) b)) (omega arith) (rw (x, y, c, d)))
 
-  shapes-alike : (i j : ℕ) → i < getD (r .words) 1 0 → j < getD (r .words) 1 0 → Alike (Shape i) (Shape j)
-  unfolding packed meantValue keyAmong keyOf shapeAt
-  shapes-alike i j l m =
+  figure-keys : (i : ℕ) → i < getD (r .words) 1 0 → isGroupAt (r .words) i ≡ false
+      → keyAmong (shapesOf program g r) (meantValue program (r .texts) (Shape i)) ≡ figureKey (meantFigure program (r .texts) (figureAt (r .words) i))
+  unfolding meantValue keyAmong keyOf someKey byContent
+  figure-keys i l n = rw (figure-made i l n)
+
+  shapes-alike : (i j : ℕ) → IsKey (Shape i) → IsKey (Shape j) → Alike (Shape i) (Shape j)
+  unfolding packed IsKey
+  shapes-alike i j (l, n) (m, o) =
       let x : i % 2 ^ 32 ≡ i = omega (arith, shape-small i l) in
       let y : j % 2 ^ 32 ≡ j = omega (arith, shape-small j m) in
       let c : (6 + 8 * i) / 8 ≡ i = omega arith in
@@ -198,48 +226,91 @@ module _ {program : List ℕ} {ts : List Token} {g : List ℕ} {r : Raw} (sound 
       sym (shape-keys program (r .texts) (r .words) (packed (Shape i)) (packed (Shape j)) (omega arith)
       (Tables.sameFigure program (r .texts) (r .words) i j) i j (omega arith) p q refl)
       ∙ figures-alike i j l m
-      ∙ figures-compared program (r .texts) (figureAt (r .words) i) (figureAt (r .words) j) (sound .shapes .proper i l) (sound .shapes .proper j m)
+      ∙ figures-compared program (r .texts) (figureAt (r .words) i) (figureAt (r .words) j) (sound .shapes .proper i l n) (sound .shapes .proper j m o)
       ∙ sym (figureKey-alike (meantFigure program (r .texts) (figureAt (r .words) i)) (meantFigure program (r .texts) (figureAt (r .words) j)))
-      ∙ ap₂ (λ (a b : State.Shape). sameKey (figureKey (a .figure)) (figureKey (b .figure))) (sym (figure-made program r i l)) (sym (figure-made program r j m))
+      ∙ ap₂ sameKey (sym (figure-keys i l n)) (sym (figure-keys j m o))
 
-  pub keys-alike : (v w : Value) → Valid program (r .words) v → Valid program (r .words) w → Alike v w
-  unfolding packed meantValue keyAmong keyOf sameKey sameIntegers sameText sameInteger Valid Tables.sameKey if_then_else_ kindOf
-  keys-alike (Integer a) (Integer b) p q = integers a b p q
-  keys-alike (Integer a) (Text b) p q = apart (Integer a) (Text b) (λ e. omega arith)
-  keys-alike (Integer a) (Boolean b) p q = apart (Integer a) (Boolean b) (λ e. omega arith)
-  keys-alike (Integer a) Nothing p q = apart (Integer a) Nothing (λ e. omega arith)
-  keys-alike (Integer a) (Table b) p q = apart (Integer a) (Table b) (λ e. omega arith)
-  keys-alike (Integer a) (Shape b) p q = apart (Integer a) (Shape b) (λ e. omega arith)
-  keys-alike (Text a) (Integer b) p q = apart (Text a) (Integer b) (λ e. omega arith)
-  keys-alike (Text a) (Text b) p q = texts-alike a b (p .small) (q .small)
-  keys-alike (Text a) (Boolean b) p q = apart (Text a) (Boolean b) (λ e. omega arith)
-  keys-alike (Text a) Nothing p q = apart (Text a) Nothing (λ e. omega arith)
-  keys-alike (Text a) (Table b) p q = apart (Text a) (Table b) (λ e. omega arith)
-  keys-alike (Text a) (Shape b) p q = apart (Text a) (Shape b) (λ e. omega arith)
-  keys-alike (Boolean a) (Integer b) p q = apart (Boolean a) (Integer b) (λ e. omega arith)
-  keys-alike (Boolean a) (Text b) p q = apart (Boolean a) (Text b) (λ e. omega arith)
-  keys-alike (Boolean true) (Boolean true) p q = refl
-  keys-alike (Boolean true) (Boolean false) p q = refl
-  keys-alike (Boolean false) (Boolean true) p q = refl
-  keys-alike (Boolean false) (Boolean false) p q = refl
-  keys-alike (Boolean a) Nothing p q = apart (Boolean a) Nothing (λ e. omega arith)
-  keys-alike (Boolean a) (Table b) p q = apart (Boolean a) (Table b) (λ e. omega arith)
-  keys-alike (Boolean a) (Shape b) p q = apart (Boolean a) (Shape b) (λ e. omega arith)
-  keys-alike Nothing (Integer b) p q = apart Nothing (Integer b) (λ e. omega arith)
-  keys-alike Nothing (Text b) p q = apart Nothing (Text b) (λ e. omega arith)
-  keys-alike Nothing (Boolean b) p q = apart Nothing (Boolean b) (λ e. omega arith)
-  keys-alike Nothing Nothing p q = refl
-  keys-alike Nothing (Table b) p q = apart Nothing (Table b) (λ e. omega arith)
-  keys-alike Nothing (Shape b) p q = apart Nothing (Shape b) (λ e. omega arith)
-  keys-alike (Table a) (Integer b) p q = apart (Table a) (Integer b) (λ e. omega arith)
-  keys-alike (Table a) (Text b) p q = apart (Table a) (Text b) (λ e. omega arith)
-  keys-alike (Table a) (Boolean b) p q = apart (Table a) (Boolean b) (λ e. omega arith)
-  keys-alike (Table a) Nothing p q = apart (Table a) Nothing (λ e. omega arith)
-  keys-alike (Table a) (Table b) p q = tables a b
-  keys-alike (Table a) (Shape b) p q = apart (Table a) (Shape b) (λ e. omega arith)
-  keys-alike (Shape a) (Integer b) p q = apart (Shape a) (Integer b) (λ e. omega arith)
-  keys-alike (Shape a) (Text b) p q = apart (Shape a) (Text b) (λ e. omega arith)
-  keys-alike (Shape a) (Boolean b) p q = apart (Shape a) (Boolean b) (λ e. omega arith)
-  keys-alike (Shape a) Nothing p q = apart (Shape a) Nothing (λ e. omega arith)
-  keys-alike (Shape a) (Table b) p q = apart (Shape a) (Table b) (λ e. omega arith)
-  keys-alike (Shape a) (Shape b) p q = shapes-alike a b p q
+  pub keys-alike : (v w : Value) → Valid program (r .words) v → Valid program (r .words) w → IsKey v → IsKey w → Alike v w
+  unfolding packed meantValue keyAmong keyOf someKey sameKey sameIntegers sameText sameInteger Valid Tables.sameKey if_then_else_ kindOf
+  keys-alike (Integer a) (Integer b) p q x y = integers a b p q
+  keys-alike (Integer a) (Text b) p q x y = apart (Integer a) (Text b) x y (λ e. omega arith)
+  keys-alike (Integer a) (Boolean b) p q x y = apart (Integer a) (Boolean b) x y (λ e. omega arith)
+  keys-alike (Integer a) Nothing p q x y = apart (Integer a) Nothing x y (λ e. omega arith)
+  keys-alike (Integer a) (Table b) p q x y = apart (Integer a) (Table b) x y (λ e. omega arith)
+  keys-alike (Integer a) (Shape b) p q x y = apart (Integer a) (Shape b) x y (λ e. omega arith)
+  keys-alike (Text a) (Integer b) p q x y = apart (Text a) (Integer b) x y (λ e. omega arith)
+  keys-alike (Text a) (Text b) p q x y = texts-alike a b (p .small) (q .small)
+  keys-alike (Text a) (Boolean b) p q x y = apart (Text a) (Boolean b) x y (λ e. omega arith)
+  keys-alike (Text a) Nothing p q x y = apart (Text a) Nothing x y (λ e. omega arith)
+  keys-alike (Text a) (Table b) p q x y = apart (Text a) (Table b) x y (λ e. omega arith)
+  keys-alike (Text a) (Shape b) p q x y = apart (Text a) (Shape b) x y (λ e. omega arith)
+  keys-alike (Boolean a) (Integer b) p q x y = apart (Boolean a) (Integer b) x y (λ e. omega arith)
+  keys-alike (Boolean a) (Text b) p q x y = apart (Boolean a) (Text b) x y (λ e. omega arith)
+  keys-alike (Boolean true) (Boolean true) p q x y = refl
+  keys-alike (Boolean true) (Boolean false) p q x y = refl
+  keys-alike (Boolean false) (Boolean true) p q x y = refl
+  keys-alike (Boolean false) (Boolean false) p q x y = refl
+  keys-alike (Boolean a) Nothing p q x y = apart (Boolean a) Nothing x y (λ e. omega arith)
+  keys-alike (Boolean a) (Table b) p q x y = apart (Boolean a) (Table b) x y (λ e. omega arith)
+  keys-alike (Boolean a) (Shape b) p q x y = apart (Boolean a) (Shape b) x y (λ e. omega arith)
+  keys-alike Nothing (Integer b) p q x y = apart Nothing (Integer b) x y (λ e. omega arith)
+  keys-alike Nothing (Text b) p q x y = apart Nothing (Text b) x y (λ e. omega arith)
+  keys-alike Nothing (Boolean b) p q x y = apart Nothing (Boolean b) x y (λ e. omega arith)
+  keys-alike Nothing Nothing p q x y = refl
+  keys-alike Nothing (Table b) p q x y = apart Nothing (Table b) x y (λ e. omega arith)
+  keys-alike Nothing (Shape b) p q x y = apart Nothing (Shape b) x y (λ e. omega arith)
+  keys-alike (Table a) (Integer b) p q x y = apart (Table a) (Integer b) x y (λ e. omega arith)
+  keys-alike (Table a) (Text b) p q x y = apart (Table a) (Text b) x y (λ e. omega arith)
+  keys-alike (Table a) (Boolean b) p q x y = apart (Table a) (Boolean b) x y (λ e. omega arith)
+  keys-alike (Table a) Nothing p q x y = apart (Table a) Nothing x y (λ e. omega arith)
+  keys-alike (Table a) (Table b) p q x y = tables a b
+  keys-alike (Table a) (Shape b) p q x y = apart (Table a) (Shape b) x y (λ e. omega arith)
+  keys-alike (Shape a) (Integer b) p q x y = apart (Shape a) (Integer b) x y (λ e. omega arith)
+  keys-alike (Shape a) (Text b) p q x y = apart (Shape a) (Text b) x y (λ e. omega arith)
+  keys-alike (Shape a) (Boolean b) p q x y = apart (Shape a) (Boolean b) x y (λ e. omega arith)
+  keys-alike (Shape a) Nothing p q x y = apart (Shape a) Nothing x y (λ e. omega arith)
+  keys-alike (Shape a) (Table b) p q x y = apart (Shape a) (Table b) x y (λ e. omega arith)
+  keys-alike (Shape a) (Shape b) p q x y = shapes-alike a b x y
+
+  -- ---- a group is no key
+  pub group-key : (i : ℕ) → i < getD (r .words) 1 0 → Tables.isGroupKey (r .words) (packed (Shape i)) ≡ isGroupAt (r .words) i
+  unfolding packed
+  group-key i l =
+      let a : (6 + 8 * i) % 8 ≡ 6 = omega arith in
+      let b : (6 + 8 * i) / 8 ≡ i = omega arith in
+      let c : i % 2 ^ 32 ≡ i = omega (arith, shape-small i l) in
+      rw (a, b, c)
+
+  pub value-key : (v : Value) → Valid program (r .words) v → Tables.isGroupKey (r .words) (packed v) ≡ false → IsKey v
+  unfolding IsKey Valid
+  value-key (Integer z) l n = tt
+  value-key (Text t) l n = tt
+  value-key (Boolean b) l n = tt
+  value-key Nothing l n = tt
+  value-key (Table t) l n = tt
+  value-key (Shape i) l n = (l, sym (group-key i l) ∙ n)
+
+  no-shape : (v : Value) → kindOf (meantValue program (r .texts) v) ≢ 5 → Tables.isGroupKey (r .words) (packed v) ≡ false
+  no-shape v n = rw (ne-eqb (kindIn (packed v)) 6 (λ e. n (omega (arith, kind-packed v, e))))
+
+  pub key-no-group : (v : Value) → IsKey v → Tables.isGroupKey (r .words) (packed v) ≡ false
+  unfolding IsKey kindOf meantValue
+  key-no-group (Integer z) k = no-shape (Integer z) (λ e. omega arith)
+  key-no-group (Text t) k = no-shape (Text t) (λ e. omega arith)
+  key-no-group (Boolean b) k = no-shape (Boolean b) (λ e. omega arith)
+  key-no-group Nothing k = no-shape Nothing (λ e. omega arith)
+  key-no-group (Table t) k = no-shape (Table t) (λ e. omega arith)
+  key-no-group (Shape i) k = group-key i (k .0) ∙ k .1
+
+  wrong : {A : Type 0} (v : Value) → kindOf (meantValue program (r .texts) v) ≢ 5 → Tables.isGroupKey (r .words) (packed v) ≡ true → A
+  wrong v n e = let z : _≡_ {A = Bool} true false = sym e ∙ no-shape v n in let y : _≡_ {A = ℕ} 0 1 = cc in absurd (omega arith)
+
+  -- a value that is one is a group
+  pub no-key : (v : Value) → Valid program (r .words) v → Tables.isGroupKey (r .words) (packed v) ≡ true → (i : ℕ) × (v ≡ Shape i) × (i < getD (r .words) 1 0) × (isGroupAt (r .words) i ≡ true)
+  unfolding Valid kindOf meantValue
+  no-key (Integer z) l n = wrong (Integer z) (λ e. omega arith) n
+  no-key (Text t) l n = wrong (Text t) (λ e. omega arith) n
+  no-key (Boolean b) l n = wrong (Boolean b) (λ e. omega arith) n
+  no-key Nothing l n = wrong Nothing (λ e. omega arith) n
+  no-key (Table t) l n = wrong (Table t) (λ e. omega arith) n
+  no-key (Shape i) l n = (i, refl, l, sym (group-key i l) ∙ n)

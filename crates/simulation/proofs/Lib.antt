@@ -3,31 +3,57 @@ pub mod Listed
 mod Index
 mod Indexing
 mod Frames
+mod Holding
 pub mod Results
 mod Counting
 mod Moving
 mod Arguments
 pub mod Usable
 pub mod Variables
+mod Growing
 mod Shapes
+mod Grouping
+mod Walking
 mod Destroying
+pub mod Chaining
+mod Clearing
 mod Texts
 mod Figures
 mod Equality
+mod Remaking
+mod Alike
+mod Asked
 mod Operators
 mod Keys
 mod Lookup
-mod Asked
 mod Library
+pub mod Showing
 mod Stacking
-mod Chaining
 mod Scopes
 mod Under
 mod Expressions
 pub mod Flows
 pub mod Declaring
 mod Assigning
+mod Kept
 mod Storing
+mod Hollowing
+mod Marking
+mod Innermost
+mod Paths
+mod Unmarking
+mod Remaining
+mod RemainingLaws
+mod Levels
+mod Searching
+mod Climbing
+mod Turning
+mod Iterating
+mod OverGroups
+mod Nesting
+mod Looping
+mod Inside
+mod Dispatching
 mod Statements
 mod Suspending
 mod Parameters

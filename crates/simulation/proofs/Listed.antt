@@ -47,12 +47,12 @@ module _ {A : Type 0} where
       let q : suc k + i ≡ k + suc i = omega arith in
       getD-listed f (suc k) n i d (omega arith) ∙ ap f q
 
-  pub set-listed : (f h : ℕ → A) (k n i : ℕ) (a : A) → i < n → h (k + i) ≡ a → ((j : ℕ) → j ≢ k + i → h j ≡ f j)
+  pub set-listed : (f h : ℕ → A) (k n i : ℕ) (a : A) → i < n → h (k + i) ≡ a → ((j : ℕ) → j < k + n → j ≢ k + i → h j ≡ f j)
       → set (listed f k n) i a ≡ listed h k n
   unfolding listed
   set-listed f h k zero i a l e o = absurd (omega arith)
   set-listed f h k (suc n) zero a l e o =
-      ap₂ _∷_ (sym e ∙ ap h (add-zero k)) (listed-same f h (suc k) n (λ j x y. sym (o j (λ z. omega arith))))
+      ap₂ _∷_ (sym e ∙ ap h (add-zero k)) (listed-same f h (suc k) n (λ j x y. sym (o j (omega arith) (λ z. omega arith))))
   set-listed f h k (suc n) (suc i) a l e o =
       let q : suc k + i ≡ k + suc i = omega arith in
-      ap₂ _∷_ (sym (o k (λ z. omega arith))) (set-listed f h (suc k) n i a (omega arith) (ap h q ∙ e) (λ j x. o j (λ z. x (omega arith))))
+      ap₂ _∷_ (sym (o k (omega arith) (λ z. omega arith))) (set-listed f h (suc k) n i a (omega arith) (ap h q ∙ e) (λ j y x. o j (omega arith) (λ z. x (omega arith))))

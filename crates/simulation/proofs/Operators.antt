@@ -1,11 +1,10 @@
 -- Operators do what the meaning says.
-use Prim.Native.Nat.{ℕ, _^_, _<_}
-use native.Mathlib.Nat.{le-trans}
-use mathlib.Core.Path.{_≡_, refl, ap, sym, _∙_}
+use Prim.Native.Nat.{ℕ, suc, _-_, _^_, _<_}
+use native.Mathlib.Omega.{arith}
+use native.Mathlib.Nat.{le-refl, le-trans}
+use mathlib.Core.Path.{_≡_, refl, ap, sym, _∙_, subst}
 use mathlib.Core.Bool.{Bool, true, false, not, _&&_}
 use mathlib.Core.List.{List}
-use mathlib.Core.Option.{Option, some}
-use mathlib.Core.Option as Option
 use lib.ListN.{getD}
 use lib.IntN.{ℤ}
 use lib.Signed.{mag, ltZ}
@@ -16,9 +15,10 @@ use Rattle.meaning.proofs.IntegerLaws.{sum-range, difference-range, product-ran
 use Rattle.meaning.specs.Figure as Meaning
 use Rattle.meaning.specs.Tree.{Operator, concatenate, add, subtract, multiply, divide, remainder, shiftRight, shiftLeft, equal, unequal, greater, less}
 use Rattle.meaning.specs.Value as Value
-use Rattle.meaning.specs.State.{State, figureOf}
+use Rattle.meaning.specs.State.{State}
 use Rattle.meaning.specs.Run as Run
 use Rattle.meaning.specs.Book.{Amounts}
+use Rattle.meaning.specs.Group.{alike}
 use Rattle.meaning.specs.Operator as Operator
 use Rattle.machine.specs.Opcodes.{tagOf}
 use Rattle.machine.specs.declared.Value.{Value}
@@ -26,20 +26,47 @@ use Rattle.machine.specs.declared.Value.the-variants.{Integer, Text, Boolean, N
 use Rattle.machine.specs.Act.{Raw}
 use Rattle.machine.specs.Act as Act
 use Rattle.machine.specs.declared.Figure.{Figure}
-use Rattle.machine.specs.Shapes.{figureAt}
-use Rattle.machine.specs.Operate.{withInteger, withText, plusX, plusY, minusX, minusY, scaledUp, scaledDown, calculated, compared, remaindered, joined, answered, equated, operateOn, operate}
+use Rattle.machine.specs.Layout.{shapesGranted}
+use Rattle.machine.specs.Groups.{alikeAt}
+use Rattle.machine.specs.Operate.{
+  withInteger,
+  withText,
+  plusX,
+  plusY,
+  minusX,
+  minusY,
+  scaledUp,
+  scaledDown,
+  calculated,
+  compared,
+  remaindered,
+  joined,
+  Comparison,
+  refused,
+  settled,
+  ofShapes,
+  equality,
+  figuresSame,
+  answered,
+  equated,
+  operateOn,
+  operate,
+}
 use Rattle.machine.specs.Evaluate.{Setting}
 use Rattle.simulation.specs.Meant.{meantValue, meantFigure}
 use Rattle.simulation.specs.Sound.{Valid, Proper}
 use Rattle.simulation.specs.Follows.{Grants, Related, Follows}
-use Rattle.simulation.proofs.Binding.{bind}
+use Rattle.simulation.proofs.Binding.{bind, give-after}
 use Rattle.simulation.proofs.Frames.{valid-later, meant-later}
-use Rattle.simulation.proofs.Results.{mapped, given, failed, Values, unmoved, onward, from-here, steps-told, refused}
-use Rattle.simulation.proofs.Usable.{figure-found, uses}
-use Rattle.simulation.proofs.Shapes.{makes-shape}
+use Rattle.simulation.proofs.Results.{given, failed, Values, unmoved, onward, from-here, steps-told}
+use Rattle.simulation.proofs.Results as Results
+use Rattle.simulation.proofs.Usable.{uses}
 use Rattle.simulation.proofs.Texts.{joins}
 use Rattle.simulation.proofs.Figures.{moved-meant, moved-proper, scaled-meant, scaled-proper}
-use Rattle.simulation.proofs.Equality.{equal-alike}
+use Rattle.simulation.proofs.Equality.{meant-comparison, equal-alike, Fine, fine}
+use Rattle.simulation.proofs.Remaking.{remakes}
+use Rattle.simulation.proofs.Alike.{AfterAlike}
+use Rattle.simulation.proofs.Alike as Alike
 
 -- a figure made from a figure and an integer, as the meaning makes it
 pub record Makes (G : Figure → ℤ → Figure) (G′ : Meaning.Figure → ℤ → Meaning.Figure) : Type 0 where
@@ -59,18 +86,16 @@ module _ (e : Setting) {ts : List Token} {granted : Amounts} (gr : Grants (e .gr
         (calculated (e .grants) divides f G p (Integer a) (Integer b) r) (Operator.calculated divides f G′ p (Value.integer a) (Value.integer b) s)
     unfolding calculated Operator.calculated withInteger Operator.withInteger Act._>>=_ Run._>>=_ Act.give Run.give Valid meantValue
     numbers a b v =
-        bind (refused h (divides && isZero b) (divides && isZero b) refl 70 p) (λ _ _ r′ s′ total′ q. given (record { after = q; valid = range a b v; means = refl }))
+        bind (Results.refused h (divides && isZero b) (divides && isZero b) refl 70 p) (λ _ _ r′ s′ total′ q. given (record { after = q; valid = range a b v; means = refl }))
 
     shaped : (i : ℕ) (b : ℤ) → i < getD (r .words) 1 0 → Follows granted total (Values (e .program) ts (e .grants) r)
         (calculated (e .grants) divides f G p (Shape i) (Integer b) r) (Operator.calculated divides f G′ p (Value.shape i) (Value.integer b) s)
-    unfolding calculated Operator.calculated withInteger Operator.withInteger Act._>>=_ Run._>>=_ Run.goOn Run.current
+    unfolding calculated Operator.calculated withInteger Operator.withInteger Act._>>=_ Run._>>=_
     shaped i b l =
-        bind (refused h (divides && isZero b) (divides && isZero b) refl 70 p) (λ _ _ r′ s′ total′ q.
-        let k = le-trans l (q .later .shapes) in
-        let proper = q .related .sound .shapes .proper i k in
-        from-here q (mapped (λ v u r₁ s₁ total₁ w. w .value)
-        (makes-shape gr (q .related) (G (figureAt (r′ .words) i) b) (G′ (figureOf s′ i) b) (makes .proper (figureAt (r′ .words) i) b proper)
-        (ap (λ (a : Meaning.Figure). G′ a b) (figure-found (q .related) i k) ∙ sym (makes .meant (e .program) (r′ .texts) (figureAt (r′ .words) i) b (proper .kind))) p)))
+        bind (Results.refused h (divides && isZero b) (divides && isZero b) refl 70 p) (λ _ _ r′ s′ total′ q.
+        from-here q (give-after Value.shape (λ v j r₁ s₁ total₁ x. x)
+        (remakes (e .program) ts (e .grants) gr p (λ a. G a b) (λ a. G′ a b) (λ used a v. makes .proper a b v) (λ texts a k. makes .meant (e .program) texts a b k)
+        (q .related) i (le-trans l (q .later .shapes)))))
 
     pub calculates : (v w : Value) → Valid (e .program) (r .words) v → Valid (e .program) (r .words) w
         → Follows granted total (Values (e .program) ts (e .grants) r) (calculated (e .grants) divides f G p v w r)
@@ -112,7 +137,7 @@ module _ (e : Setting) {ts : List Token} {granted : Amounts} (gr : Grants (e .gr
   pub remainders : (v w : Value) → Follows granted total (Values (e .program) ts (e .grants) r) (remaindered p v w r)
       (Operator.remaindered p (meantValue (e .program) (r .texts) v) (meantValue (e .program) (r .texts) w) s)
   unfolding remaindered Operator.remaindered withInteger Operator.withInteger meantValue Valid Act._>>=_ Run._>>=_ Act.give Run.give
-  remainders (Integer a) (Integer b) = bind (refused h (isZero b) (isZero b) refl 70 p) (λ _ _ r′ s′ total′ q. given (record { after = q; valid = remainder-range a b; means = refl }))
+  remainders (Integer a) (Integer b) = bind (Results.refused h (isZero b) (isZero b) refl 70 p) (λ _ _ r′ s′ total′ q. given (record { after = q; valid = remainder-range a b; means = refl }))
   remainders (Integer a) (Text b) = no
   remainders (Integer a) (Boolean b) = no
   remainders (Integer a) Nothing = no
@@ -140,16 +165,29 @@ module _ (e : Setting) {ts : List Token} {granted : Amounts} (gr : Grants (e .gr
   concatenates (Table a) w x y = no
   concatenates (Shape a) w x y = no
 
-  answers : (f : Bool → Bool) (o : Option Bool) → Follows granted total (Values (e .program) ts (e .grants) r) (answered p f o r) (Operator.answered p f o s)
-  unfolding answered Operator.answered Act.give Run.give meantValue Valid
-  answers f Option.none = no
-  answers f (some b) = given (record { after = unmoved h; valid = tt; means = refl })
+  -- two shapes
+  shapes-compared : (f : Bool → Bool) (i j : ℕ) → i < getD (r .words) 1 0 → j < getD (r .words) 1 0
+      → Follows granted total (Values (e .program) ts (e .grants) r) (answered (e .program) (e .grants) p f (ofShapes i j) r) (Operator.answered p f (Operator.ofShapes i j) s)
+  unfolding answered Operator.answered Act._>>=_ Act.give Run._>>=_ Run.give meantValue Valid
+  shapes-compared f i j l m =
+      let q : suc (shapesGranted (e .grants) - 1) ≡ shapesGranted (e .grants) = omega (arith, h .sound .counted .shapes) in
+      bind (subst (λ b. Follows granted total (λ x x′ r′ s′ total′. AfterAlike (e .program) ts (e .grants) r s x x′ r′ s′ total′)
+      (alikeAt (figuresSame (e .program)) b (e .grants) p 0 i j r) (alike (suc i) p i j s)) q
+      (Alike.compares (e .program) ts (e .grants) gr p (shapesGranted (e .grants) - 1) i 0 i (omega (arith, q)) (omega (arith, h .sound .counted .shapes)) (le-refl i) j r s total h l m))
+      (λ x x′ r′ s′ total′ a. given (record { after = a .after; valid = tt; means = ap (λ b. Value.boolean (f b)) (sym (a .same)) }))
+
+  answers : (f : Bool → Bool) (o : Comparison) → Fine (r .words) o
+      → Follows granted total (Values (e .program) ts (e .grants) r) (answered (e .program) (e .grants) p f o r) (Operator.answered p f (meant-comparison o) s)
+  unfolding answered Operator.answered meant-comparison Fine Act.give Run.give meantValue Valid
+  answers f refused l = no
+  answers f (settled b) l = given (record { after = unmoved h; valid = tt; means = refl })
+  answers f (ofShapes i j) l = shapes-compared f i j (l .0) (l .1)
 
   pub equates : (f : Bool → Bool) (v w : Value) → Valid (e .program) (r .words) v → Valid (e .program) (r .words) w
-      → Follows granted total (Values (e .program) ts (e .grants) r) (equated (e .program) f p v w r)
+      → Follows granted total (Values (e .program) ts (e .grants) r) (equated (e .program) (e .grants) f p v w r)
       (Operator.equated f p (meantValue (e .program) (r .texts) v) (meantValue (e .program) (r .texts) w) s)
-  unfolding equated Operator.equated Run._>>=_ Run.goOn Run.current
-  equates f v w x y = rw (equal-alike h v w x y) (answers f _)
+  unfolding equated Operator.equated
+  equates f v w x y = rw (equal-alike (e .program) r v w) (answers f (equality (e .program) r v w) (fine (e .program) r v w x y))
 
 -- ---- figures moved and scaled
 own : (z : ℤ) → mag z < 2 ^ 31 → mag z < 2 ^ 31

@@ -31,7 +31,7 @@ use Rattle.reader.proofs.Known.{KnownNames, KnownStatements}
 use Rattle.reader.proofs.Walk.{Stands, stands-back}
 use Rattle.reader.proofs.Tables.{head-positive, start-told, parameters-told, body-told}
 use Rattle.machine.specs.declared.Value.{Value}
-use Rattle.machine.specs.Layout.{stepsUsed, declared, argumentsHeld, callsUsed, running, callsGranted, stackWords}
+use Rattle.machine.specs.Layout.{stepsUsed, declared, argumentsHeld, callsUsed, running, callsGranted, stackWords, loopUnit}
 use Rattle.machine.specs.Act.{Raw, raw, Out, stop, Act}
 use Rattle.machine.specs.Act as Act
 use Rattle.machine.specs.Evaluate.{Setting}
@@ -39,17 +39,19 @@ use Rattle.machine.specs.Procedures.{declareFrom, assignFrom, begin, resume, re
 use Rattle.machine.specs.Interpret.{bodyAt, invokeAt}
 use Rattle.simulation.specs.Meant.{slotAt}
 use Rattle.simulation.specs.Scope.{ownSlots, underWay, scopeOf, isIn}
+use Rattle.simulation.specs.Nesting.{NestsAll}
 use Rattle.simulation.specs.Follows.{Grants, Related, Follows}
 use Rattle.simulation.proofs.Binding.{bind}
 use Rattle.simulation.proofs.Listed.{length-listed}
 use Rattle.simulation.proofs.Results.{due, failed, Values, onward, steps-told, spent-then}
-use Rattle.simulation.proofs.Flows.{Flows}
+use Rattle.simulation.proofs.Flows.{Flows, ended}
 use Rattle.simulation.proofs.Chaining.{regroup}
 use Rattle.simulation.proofs.Scopes.{mapped-left, mapped-right, distinct-few}
 use Rattle.simulation.proofs.Library.{stacked-kept}
 use Rattle.simulation.proofs.Stacking.{AfterArguments}
 use Rattle.simulation.proofs.Under.{stepsLeft, Under, stays, Invokes}
 use Rattle.simulation.proofs.Expressions.{Strings}
+use Rattle.simulation.proofs.Inside.{Room, room-first}
 use Rattle.simulation.proofs.Statements.{executes-all}
 use Rattle.simulation.proofs.Parameters.{Declares, twice, once, declares-first, assigns-all}
 use Rattle.simulation.proofs.Calling.{without, waits, waits-related, waits-running, waits-calls, waits-low, suspends, Begun, counted, begun}
@@ -64,6 +66,7 @@ pub record Stored (e : Setting) (ts : List Token) (x : List ℕ) (f : Procedure)
   pub early : start < 65536
   pub parameters : KnownNames (f .parameters) ts
   pub body : KnownStatements (f .body) ts
+  pub nests : NestsAll 64 (f .body)
   pub short : length (codeOfStatements (f .body) ts) + 2 * declarations (f .body) + 2 * length (f .parameters) ≤ 8192
 
 -- those of a program that was read
@@ -74,7 +77,7 @@ pub record Procedures (e : Setting) (ts : List Token) (m : Program) : Type 0 whe
   pub apart : (x : List ℕ) (l : Library) → libraryOf x ≡ some l → procedureNamed x (m .procedures) ≡ none
 
 -- a name that is neither main's nor in the library
-own-number : (l : Option Library) → numberOf l ≡ 10 → l ≡ none
+own-number : (l : Option Library) → numberOf l ≡ 11 → l ≡ none
 unfolding numberOf
 own-number none e = refl
 own-number (some Library.drawLine) e = absurd (omega arith)
@@ -87,12 +90,13 @@ own-number (some Library.xCoordinate) e = absurd (omega arith)
 own-number (some Library.yCoordinate) e = absurd (omega arith)
 own-number (some Library.destroyShape) e = absurd (omega arith)
 own-number (some Library.clearScene) e = absurd (omega arith)
+own-number (some Library.drawGroup) e = absurd (omega arith)
 
-own-name : (x : List ℕ) → procedureNumber x ≡ 10 → (sameText x (bytes "main") ≡ false) × (libraryOf x ≡ none)
+own-name : (x : List ℕ) → procedureNumber x ≡ 11 → (sameText x (bytes "main") ≡ false) × (libraryOf x ≡ none)
 unfolding procedureNumber libraryNumber
 own-name x e = go (sameText x (bytes "main")) e
   where
-    go : (b : Bool) → cond b 11 (libraryNumber x) ≡ 10 → (b ≡ false) × (libraryOf x ≡ none)
+    go : (b : Bool) → cond b 12 (libraryNumber x) ≡ 11 → (b ≡ false) × (libraryOf x ≡ none)
     go true q = absurd (omega arith)
     go false q = (refl, own-number (libraryOf x) q)
 
@@ -170,24 +174,24 @@ module _ (e : Setting) {ts : List Token} (sane : Sane ts) (strings : Strings (e 
 
     -- ---- the body
     body-does : {r₂ : Raw} {s₂ : State} {total₂ : Amounts} → Here r₂ s₂ total₂ → c + 1 ≤ callsGranted (e .grants)
-        → Under (e .grants) (slotOf ts x + 1) (c + 1) n r₂ → getD (r₂ .words) argumentsHeld 0 ≡ getD (r .words) argumentsHeld 0 + getD (r .words) declared 0
+        → Under (e .grants) (slotOf ts x + 1) (c + 1) n r₂ → getD (r₂ .words) argumentsHeld 0 ≡ getD (r .words) argumentsHeld 0 + getD (r .words) declared 0 → Room 64 r₂
         → Follows granted total₂ (Flows (e .program) ts (e .grants) r₂) (bodyAt fuel e (st .start + length (f .parameters)) (length (codeOfStatements (f .body) ts)) r₂)
         (executeAll (calling n (m .procedures)) (f .body) n s₂)
     unfolding bodyAt
-    body-does {r₂} {s₂} {total₂} h₂ less un z =
+    body-does {r₂} {s₂} {total₂} h₂ less un z low =
         let more : c + 1 ≤ 64 = omega (arith, less, h .sound .lent .room .calls) in
         let mine : 8192 * c + length (codeOfStatements (f .body) ts) + 2 * length (scopeOf (e .program) ts (slotOf ts x + 1)) ≤ 8192 * (c + 1) = omega (arith, scope-size, st .short) in
-        executes-all e sane strings gr (m .procedures) (ps .apart) n (slotOf ts x + 1) (c + 1) (8192 * c + length (codeOfStatements (f .body) ts)) (8192 * (64 - (c + 1)))
+        ended (executes-all e sane strings gr (m .procedures) (ps .apart) n (slotOf ts x + 1) (c + 1) (8192 * c + length (codeOfStatements (f .body) ts)) (8192 * (64 - (c + 1)))
         (omega (arith, mine, more)) (λ k l. again (slotOf ts x + 1) (c + 1) (8192 * c + length (codeOfStatements (f .body) ts)) (omega arith) mine k l)
-        (getD (r .words) argumentsHeld 0 + getD (r .words) declared 0) (f .body) (st .body)
+        (getD (r .words) argumentsHeld 0 + getD (r .words) declared 0) (omega arith) 64 (f .body) (st .nests) (st .body)
         (λ slot i. rw scope-is (mapped-right (slotOf ts) slot (f .parameters) (declaredBy (f .body)) i))
         fuel (length (codeOfStatements (f .body) ts) + 1) (st .start + length (f .parameters)) (st .start + length (f .parameters) + length (codeOfStatements (f .body) ts)) body-there
-        (omega (arith, deep, more, st .short)) (omega (arith, base-low)) (omega arith) refl r₂ s₂ total₂ h₂ un z
+        (omega (arith, deep, more, st .short)) (omega (arith, base-low)) (omega arith) refl r₂ s₂ total₂ h₂ un z low)
 
     -- ---- parameters assigned, the body, and the return
     abbrev inside : Act Value
     inside = Act._>>=_ (bodyAt fuel e (st .start + length (f .parameters)) (length (codeOfStatements (f .body) ts))) (λ flow.
-        Act._>>_ (resume (getD (r .words) argumentsHeld 0) (getD (r .words) declared 0) (getD (r .words) running 0) (getD (r₁ .words) argumentsHeld 0)) (resultOf flow))
+        Act._>>_ (resume (getD (r .words) argumentsHeld 0) (getD (r .words) declared 0) (getD (r .words) running 0) (getD (r .words) loopUnit 0) (getD (r₁ .words) argumentsHeld 0)) (resultOf flow))
 
     abbrev inside′ : Run.Action Value.Value
     inside′ = Run._>>=_ Run.current (λ s. Run._>>_ (Run.become (entered s (fresh (f .parameters)))) (Run._>>_ (assigningAll p (f .parameters) us)
@@ -206,7 +210,7 @@ module _ (e : Setting) {ts : List Token} (sane : Sane ts) (strings : Strings (e 
         } in
         bind (assigns-all e (sane .few) gr p (f .parameters) (st .start) (getD (r₁ .words) argumentsHeld 0) (codeOfStatements (f .body) ts) (st .parameters) code-there (b .related) us
         (stacked-kept (b .later) (b .stack .arguments) (omega (arith, b .held)) (rw same at (args .stacked)))) (λ _ _ r₃ s₃ total₃ a.
-        bind (body-does (a .related) less (stays a un) (a .held ∙ b .held)) (λ flow flow′ r₄ s₄ total₄ d.
+        bind (body-does (a .related) less (stays a un) (a .held ∙ b .held) (room-first (a .untouched .unit ∙ b .unit))) (λ flow flow′ r₄ s₄ total₄ d.
         rw (resumes h₁ args b fit (onward a (d .after))) (returned-with h₁ args b fit (onward a (d .after)) (d .flow))))
 
     -- ---- what is asked before
@@ -214,16 +218,16 @@ module _ (e : Setting) {ts : List Token} (sane : Sane ts) (strings : Strings (e 
         → args .many ≡ length (f .parameters)
         → Follows granted total (Values (e .program) ts (e .grants) r₁)
         (Act.goOn (Act.goOn out (λ _. Act._>>_ (Act.spend callsUsed (callsGranted (e .grants)) 1 81 p)
-        (assignFrom (e .grants) (e .code) (st .start) (getD (r₁ .words) argumentsHeld 0) (length (f .parameters)) p))) (λ _. inside))
+        (Act._>>_ (Act.store loopUnit 0) (assignFrom (e .grants) (e .code) (st .start) (getD (r₁ .words) argumentsHeld 0) (length (f .parameters)) p)))) (λ _. inside))
         (Run._>>_ (Run.refuse t 60 p) (Run._>>_ (Run.spend Run.calls 1 p) inside′) s)
-    unfolding Act._>>=_ Act.goOn Run._>>=_ Run.goOn Run.refuse Run.fail Run.give shortageOf
+    unfolding Act._>>=_ Act.goOn Run._>>=_ Run.goOn Run.refuse Run.fail Run.give shortageOf Act.store
     after-declared true _ (twice {r′ = r₂} q) same =
         failed 60 p r₂ (q ∙ waits-low h fit (slotOf ts x + 1) stepsUsed (omega arith) ∙ steps-told h)
     after-declared false _ (once {r′ = r₂} a low texts) same =
         rw (regroup (Act.spend callsUsed (callsGranted (e .grants)) 1 81 p r₂)
-        (λ _. assignFrom (e .grants) (e .code) (st .start) (getD (r₁ .words) argumentsHeld 0) (length (f .parameters)) p) (λ _. inside))
+        (λ _. Act._>>_ (Act.store loopUnit 0) (assignFrom (e .grants) (e .code) (st .start) (getD (r₁ .words) argumentsHeld 0) (length (f .parameters)) p)) (λ _. inside))
         (spent-then Run.calls callsUsed (callsGranted (e .grants)) 1 81 p r₂ s (a .related .callsTaken) (gr .calls) refl (steps-told (a .related))
-        (Act._>>_ (assignFrom (e .grants) (e .code) (st .start) (getD (r₁ .words) argumentsHeld 0) (length (f .parameters)) p) inside) inside′
+        (Act._>>_ (Act._>>_ (Act.store loopUnit 0) (assignFrom (e .grants) (e .code) (st .start) (getD (r₁ .words) argumentsHeld 0) (length (f .parameters)) p)) inside) inside′
         (λ less.
         let were : getD (r₂ .words) callsUsed 0 ≡ c = a .untouched .calls ∙ waits-calls h fit (slotOf ts x + 1) ∙ calls-are in
         called-with (rw were at less) (begun h fit (slotOf ts x + 1) p (f .parameters) a low texts (omega (arith, calls-are)) (omega (arith, calls-are, were, less))) same))
@@ -264,7 +268,7 @@ module _ (e : Setting) {ts : List Token} (sane : Sane ts) (strings : Strings (e 
     begin-right : args .many ≡ length (f .parameters)
         → begins ≡ Act.goOn (declareFrom (e .code) (st .start) (length (f .parameters)) p (raw (r .texts) (waits h fit (slotOf ts x + 1))))
         (λ _. Act._>>_ (Act.spend callsUsed (callsGranted (e .grants)) 1 81 p)
-        (assignFrom (e .grants) (e .code) (st .start) (getD (r₁ .words) argumentsHeld 0) (length (f .parameters)) p))
+        (Act._>>_ (Act.store loopUnit 0) (assignFrom (e .grants) (e .code) (st .start) (getD (r₁ .words) argumentsHeld 0) (length (f .parameters)) p)))
     unfolding begin Act._>>=_ Act.goOn Act.refuse Act.give Act.store
     begin-right q = rw (ne-eqb _ 0 there, takes, given-many, eq-eqb (args .many) (length (f .parameters)) q, starts, suspends h fit p)
 
@@ -292,10 +296,10 @@ module _ (e : Setting) {ts : List Token} (sane : Sane ts) (strings : Strings (e 
   -- ---- all calls
   pub calls-follow : (n : ℕ) → Calls n
   unfolding calling found callLibrary if_then_else_ Run.fail
-  calls-follow zero w c room some-call balance fuel deep = record { follows = λ x o ten p h₁ args un fewer held. absurd (omega arith) }
+  calls-follow zero w c room some-call balance fuel deep = record { follows = λ x o own p h₁ args un fewer held. absurd (omega arith) }
   calls-follow (suc n) w c room some-call balance fuel deep = record {
-    follows = λ x o ten p h₁ args un fewer held.
-        by-name (calls-follow n) x o (own-name x ten) p h₁ args (un .procedure) (un .calls) (omega arith) held (procedureNamed x (m .procedures)) refl;
+    follows = λ x o own p h₁ args un fewer held.
+        by-name (calls-follow n) x o (own-name x own) p h₁ args (un .procedure) (un .calls) (omega arith) held (procedureNamed x (m .procedures)) refl;
   }
     where
       by-name : Calls n → (x : List ℕ) → Occurs ts aName x → (sameText x (bytes "main") ≡ false) × (libraryOf x ≡ none) → (p : ℕ)

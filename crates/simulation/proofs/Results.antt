@@ -19,7 +19,7 @@ use Rattle.machine.specs.declared.Value.{Value}
 use Rattle.machine.specs.Layout.{stepsUsed, shapesUsed, entriesUsed, textUsed, tablesMade, callsUsed, Lent}
 use Rattle.machine.specs.Act.{Raw, raw, Out, done, stop}
 use Rattle.machine.specs.Act as Act
-use Rattle.simulation.specs.Sound.{Counted}
+use Rattle.simulation.specs.Sound.{Counted, Marks}
 use Rattle.simulation.specs.Follows.{Related, Later, Together, gives, lacks, fails, Follows}
 pub use Rattle.simulation.specs.After.{Untouched, After, AfterValue}
 use Rattle.simulation.proofs.Binding.{Relation, bind}
@@ -33,14 +33,16 @@ use Rattle.simulation.proofs.Frames.{
   SameVariables,
   variables-kept,
   variables-same,
+  SameComponents,
   SameWaiting,
+  SameRest,
+  rest-components,
+  rest-marks,
   SameShapes,
   shapes-kept,
   shapes-same,
-  SameEntries,
-  entries-kept,
-  entries-same,
 }
+use Rattle.simulation.proofs.Holding.{SameEntries, entries-kept, entries-same}
 
 -- ---- outcomes
 -- a weaker relation
@@ -96,7 +98,7 @@ module _ (program : List ℕ) (ts : List Token) (g : List ℕ) where
 
 module _ {program : List ℕ} {ts : List Token} {g : List ℕ} where
   pub unmoved : {r : Raw} {s : State} {total : Amounts} → Related program ts g r s total → After program ts g r r s total
-  unmoved {r} h = record { related = h; later = later-refl program r; spare = le-refl _; held = refl; untouched = untouched-refl r }
+  unmoved {r} h = record { related = h; later = later-refl program r; spare = le-refl _; held = refl; untouched = untouched-refl g r }
 
   pub onward : {r r′ r″ : Raw} {s s′ : State} {total total′ : Amounts} → After program ts g r r′ s total → After program ts g r′ r″ s′ total′
       → After program ts g r r″ s′ total′
@@ -132,34 +134,45 @@ module _ {program : List ℕ} {ts : List Token} {g : List ℕ} where
       stays : {r r′ : Raw} {s s′ : State} {total total′ : Amounts} → Related program ts g r s total → Exactly r s total r′ s′ total′ → After program ts g r r′ s′ total′
       stays h exactly = unmoved h
 
-  -- nothing but counters, arguments and texts has changed
-  pub kept-related : {r r′ : Raw} {s s′ : State} {total total′ : Amounts} (h : Related program ts g r s total) (l : Later program r r′)
+  -- nothing but counters, arguments, texts and marks has changed
+  pub kept-marks : {r r′ : Raw} {s s′ : State} {total total′ : Amounts} (h : Related program ts g r s total) (l : Later program r r′)
       → Lent g (r′ .texts) (r′ .words) → Counted g (r′ .words)
-      → SameVariables l → SameWaiting program ts r r′ → SameShapes l → SameEntries l (h .sound .shapes) g
+      → SameComponents g r r′ → Marks g (r′ .words) → SameVariables l → SameWaiting program ts r r′ → SameShapes l → SameEntries l (h .sound .shapes)
       → s′ .variables ≡ s .variables → s′ .suspended ≡ s .suspended → s′ .shapes ≡ s .shapes → s′ .tables ≡ getD (r′ .words) tablesMade 0 → s′ .entries ≡ s .entries
       → total′ Run.steps ≡ getD (r′ .words) stepsUsed 0 → total′ Run.shapes ≡ getD (r′ .words) shapesUsed 0
       → total′ Run.entries ≡ getD (r′ .words) entriesUsed 0 → total′ Run.textBytes ≡ getD (r′ .words) textUsed 0 → total′ Run.calls ≡ getD (r′ .words) callsUsed 0
       → Related program ts g r′ s′ total′
-  kept-related h l le co sv sw ss se a k b c d w x y z v = record {
+  kept-marks h l le co parts ma sv sw ss se a k b c d w x y z v = record {
     sound = record {
       lent = le;
       counted = co;
       variables = variables-kept l sv ts (h .sound .variables);
       waiting = sw .waiting;
-      shapes = shapes-kept l ss (h .sound .shapes);
-      entries = entries-kept l (h .sound .shapes) g se (h .sound .entries);
+      shapes = shapes-kept l parts ss (h .sound .shapes);
+      marks = ma;
+      entries = entries-kept l (h .sound .shapes) parts se (h .sound .entries);
     };
     variables = a ∙ h .variables ∙ sym (variables-same l sv ts (h .sound .variables));
     suspended = k ∙ h .suspended ∙ sym (sw .suspended);
-    shapes = b ∙ h .shapes ∙ sym (shapes-same l ss (h .sound .shapes));
+    shapes = b ∙ h .shapes ∙ sym (shapes-same l parts ss (h .sound .shapes));
     tables = c;
-    entries = d ∙ h .entries ∙ sym (entries-same l (h .sound .shapes) g se (h .sound .entries));
+    entries = d ∙ h .entries ∙ sym (entries-same l (h .sound .shapes) parts se (h .sound .entries));
     stepsTaken = w;
     shapesTaken = x;
     entriesTaken = y;
     textTaken = z;
     callsTaken = v;
   }
+
+  -- nor the marks
+  pub kept-related : {r r′ : Raw} {s s′ : State} {total total′ : Amounts} (h : Related program ts g r s total) (l : Later program r r′)
+      → Lent g (r′ .texts) (r′ .words) → Counted g (r′ .words)
+      → SameRest g r r′ → SameVariables l → SameWaiting program ts r r′ → SameShapes l → SameEntries l (h .sound .shapes)
+      → s′ .variables ≡ s .variables → s′ .suspended ≡ s .suspended → s′ .shapes ≡ s .shapes → s′ .tables ≡ getD (r′ .words) tablesMade 0 → s′ .entries ≡ s .entries
+      → total′ Run.steps ≡ getD (r′ .words) stepsUsed 0 → total′ Run.shapes ≡ getD (r′ .words) shapesUsed 0
+      → total′ Run.entries ≡ getD (r′ .words) entriesUsed 0 → total′ Run.textBytes ≡ getD (r′ .words) textUsed 0 → total′ Run.calls ≡ getD (r′ .words) callsUsed 0
+      → Related program ts g r′ s′ total′
+  kept-related h l le co re = kept-marks h l le co (rest-components re) (rest-marks re (h .sound .marks))
 
 -- ---- what is spent
 abbrev pub due : Resource → ℕ → ℕ → Taking

@@ -1,6 +1,7 @@
 -- A call returns: the caller's variables are as they were, and what was made and stored stays.
 use Prim.Native.Nat.{ℕ, _+_, _-_, _%_, _≤_, _<_}
 use native.Mathlib.Omega.{arith}
+use native.Mathlib.Nat.{le-trans}
 use mathlib.Core.Path.{_≡_, refl, sym, _∙_}
 use mathlib.Core.Logic.{_≢_}
 use mathlib.Core.Bool.{Bool, true, false}
@@ -18,14 +19,33 @@ use Rattle.meaning.specs.Execute as Execute
 use Rattle.meaning.specs.Procedure.{returnedBy}
 use Rattle.machine.specs.declared.Value.{Value}
 use Rattle.machine.specs.declared.Flow.{Flow}
-use Rattle.machine.specs.Layout.{stepsUsed, tablesMade, declared, argumentsHeld, callsUsed, running, framePlace, valuePlace, orderPlace, argumentPlace, stackWords, fixedWords}
+use Rattle.machine.specs.Layout.{
+  stepsUsed,
+  tablesMade,
+  declared,
+  argumentsHeld,
+  callsUsed,
+  running,
+  entriesMade,
+  componentsMade,
+  loopUnit,
+  entriesGranted,
+  callsGranted,
+  pathPlace,
+  framePlace,
+  valuePlace,
+  orderPlace,
+  argumentPlace,
+  stackWords,
+  fixedWords,
+}
 use Rattle.machine.specs.Act.{Raw, raw, done}
 use Rattle.machine.specs.Act as Act
 use Rattle.machine.specs.Stack.{argumentAt, dropTo}
 use Rattle.machine.specs.Variables.{waitingWord}
 use Rattle.machine.specs.Procedures.{undeclareFrom, resumeFrom, resume, resultOf}
 use Rattle.simulation.specs.Meant.{slotAt, meantValue}
-use Rattle.simulation.specs.Sound.{Valid, Variables}
+use Rattle.simulation.specs.Sound.{Valid, Variables, Marks}
 use Rattle.simulation.specs.Follows.{Related, Later, Follows}
 use Rattle.simulation.proofs.Frames.{later-trans, valid-later, SameVariables, variables-kept, variables-same, same-waiting}
 use Rattle.simulation.proofs.Results.{gave-back, Untouched, After, Values}
@@ -49,6 +69,9 @@ module _ {program : List ℕ} {ts : List Token} {g : List ℕ} {r₁ r r₂ r′
 
   abbrev pub caller : ℕ
   caller = getD (r .words) running 0
+
+  abbrev pub unit : ℕ
+  unit = getD (r .words) loopUnit 0
 
   abbrev pub base : ℕ
   base = getD (r₁ .words) argumentsHeld 0
@@ -100,13 +123,18 @@ module _ {program : List ℕ} {ts : List Token} {g : List ℕ} {r₁ r r₂ r′
   w₁ = set (back .words) declared many
 
   abbrev w₂ : List ℕ
-  w₂ = set (set (back .words) declared many) running caller
+  w₂ = set (set (set (back .words) declared many) running caller) loopUnit unit
 
   abbrev w₃ : List ℕ
-  w₃ = set (set (set (back .words) declared many) running caller) callsUsed (getD (set (set (back .words) declared many) running caller) callsUsed 0 - 1)
+  w₃ = set (set (set (set (back .words) declared many) running caller) loopUnit unit) callsUsed
+      (getD (set (set (set (back .words) declared many) running caller) loopUnit unit) callsUsed 0 - 1)
 
   abbrev pub ended : List ℕ
-  ended = set (set (set (set (back .words) declared many) running caller) callsUsed (getD (set (set (back .words) declared many) running caller) callsUsed 0 - 1)) argumentsHeld base
+  ended = set (set (set (set (set (back .words) declared many) running caller) loopUnit unit) callsUsed
+      (getD (set (set (set (back .words) declared many) running caller) loopUnit unit) callsUsed 0 - 1)) argumentsHeld base
+
+  abbrev w₀ : List ℕ
+  w₀ = set (set (back .words) declared many) running caller
 
   back-long : length (back .words) ≡ length (r′ .words)
   back-long = back .restored .long ∙ taken .undeclared .long
@@ -114,8 +142,11 @@ module _ {program : List ℕ} {ts : List Token} {g : List ℕ} {r₁ r r₂ r′
   long₁ : length w₁ ≡ length (r′ .words)
   long₁ = length-set (back .words) declared many ∙ back-long
 
+  long₀ : length w₀ ≡ length (r′ .words)
+  long₀ = length-set w₁ running caller ∙ long₁
+
   long₂ : length w₂ ≡ length (r′ .words)
-  long₂ = length-set w₁ running caller ∙ long₁
+  long₂ = length-set w₀ loopUnit unit ∙ long₀
 
   long₃ : length w₃ ≡ length (r′ .words)
   long₃ = length-set w₂ callsUsed (getD w₂ callsUsed 0 - 1) ∙ long₂
@@ -123,24 +154,27 @@ module _ {program : List ℕ} {ts : List Token} {g : List ℕ} {r₁ r r₂ r′
   ended-long : length ended ≡ length (r′ .words)
   ended-long = length-set w₃ argumentsHeld base ∙ long₃
 
-  other : (i : ℕ) → i ≢ declared → i ≢ running → i ≢ callsUsed → i ≢ argumentsHeld → getD ended i 0 ≡ getD (back .words) i 0
-  other i x y z w =
-      getD-set-other w₃ argumentsHeld i base 0 w ∙ getD-set-other w₂ callsUsed i (getD w₂ callsUsed 0 - 1) 0 z ∙ getD-set-other w₁ running i caller 0 y
-      ∙ getD-set-other (back .words) declared i many 0 x
+  other : (i : ℕ) → i ≢ declared → i ≢ running → i ≢ callsUsed → i ≢ argumentsHeld → i ≢ loopUnit → getD ended i 0 ≡ getD (back .words) i 0
+  other i x y z w u =
+      getD-set-other w₃ argumentsHeld i base 0 w ∙ getD-set-other w₂ callsUsed i (getD w₂ callsUsed 0 - 1) 0 z ∙ getD-set-other w₀ loopUnit i unit 0 u
+      ∙ getD-set-other w₁ running i caller 0 y ∙ getD-set-other (back .words) declared i many 0 x
 
-  low : (i : ℕ) → i ≢ declared → i ≢ running → i ≢ callsUsed → i ≢ argumentsHeld → i < 80 → getD ended i 0 ≡ getD (r′ .words) i 0
-  low i x y z w l = other i x y z w ∙ back .restored .low i l ∙ taken .undeclared .low i l
+  low : (i : ℕ) → i ≢ declared → i ≢ running → i ≢ callsUsed → i ≢ argumentsHeld → i ≢ loopUnit → i < 80 → getD ended i 0 ≡ getD (r′ .words) i 0
+  low i x y z w u l = other i x y z w u ∙ back .restored .low i l ∙ taken .undeclared .low i l
 
   ended-low : (i : ℕ) → i < declared → getD ended i 0 ≡ getD (r′ .words) i 0
-  ended-low i l = low i (λ e. omega arith) (λ e. omega arith) (λ e. omega arith) (λ e. omega arith) (omega arith)
+  ended-low i l = low i (λ e. omega arith) (λ e. omega arith) (λ e. omega arith) (λ e. omega arith) (λ e. omega arith) (omega arith)
+
+  ended-parts : (i : ℕ) → entriesMade ≤ i → i < loopUnit → getD ended i 0 ≡ getD (r′ .words) i 0
+  ended-parts i l m = low i (λ e. omega arith) (λ e. omega arith) (λ e. omega arith) (λ e. omega arith) (λ e. omega arith) (omega arith)
 
   ended-high : (i : ℕ) → fixedWords ≤ i → getD ended i 0 ≡ getD (r′ .words) i 0
   ended-high i l =
-      other i (λ e. omega arith) (λ e. omega arith) (λ e. omega arith) (λ e. omega arith) ∙ back .restored .high i (omega arith) ∙ taken .undeclared .high i l
+      other i (λ e. omega arith) (λ e. omega arith) (λ e. omega arith) (λ e. omega arith) (λ e. omega arith) ∙ back .restored .high i (omega arith) ∙ taken .undeclared .high i l
 
   ended-stack : (k : ℕ) → k < stackWords → argumentAt ended k ≡ argumentAt (r′ .words) k
   ended-stack k l =
-      other (argumentPlace k) (λ e. omega arith) (λ e. omega arith) (λ e. omega arith) (λ e. omega arith)
+      other (argumentPlace k) (λ e. omega arith) (λ e. omega arith) (λ e. omega arith) (λ e. omega arith) (λ e. omega arith)
       ∙ back .restored .high (argumentPlace k) (omega arith) ∙ taken .undeclared .stack k l l
 
   ended-held : getD ended argumentsHeld 0 ≡ base
@@ -148,7 +182,8 @@ module _ {program : List ℕ} {ts : List Token} {g : List ℕ} {r₁ r r₂ r′
 
   calls-were : getD w₂ callsUsed 0 ≡ getD (r .words) callsUsed 0 + 1
   calls-were =
-      getD-set-other w₁ running callsUsed caller 0 (λ e. omega arith) ∙ getD-set-other (back .words) declared callsUsed many 0 (λ e. omega arith)
+      getD-set-other w₀ loopUnit callsUsed unit 0 (λ e. omega arith) ∙ getD-set-other w₁ running callsUsed caller 0 (λ e. omega arith) ∙ getD-set-other
+      (back .words) declared callsUsed many 0 (λ e. omega arith)
       ∙ back .restored .low callsUsed (omega arith) ∙ taken .undeclared .low callsUsed (omega arith) ∙ a .untouched .calls ∙ b .calls
 
   ended-calls : getD ended callsUsed 0 ≡ getD (r .words) callsUsed 0
@@ -159,16 +194,22 @@ module _ {program : List ℕ} {ts : List Token} {g : List ℕ} {r₁ r r₂ r′
   ended-running : getD ended running 0 ≡ caller
   ended-running =
       getD-set-other w₃ argumentsHeld running base 0 (λ e. omega arith) ∙ getD-set-other w₂ callsUsed running (getD w₂ callsUsed 0 - 1) 0 (λ e. omega arith)
-      ∙ getD-set-same w₁ running caller 0 (rw long₁ (omega (arith, room)))
+      ∙ getD-set-other w₀ loopUnit running unit 0 (λ e. omega arith) ∙ getD-set-same w₁ running caller 0 (rw long₁ (omega (arith, room)))
+
+  ended-unit : getD ended loopUnit 0 ≡ unit
+  ended-unit =
+      getD-set-other w₃ argumentsHeld loopUnit base 0 (λ e. omega arith) ∙ getD-set-other w₂ callsUsed loopUnit (getD w₂ callsUsed 0 - 1) 0 (λ e. omega arith)
+      ∙ getD-set-same w₀ loopUnit unit 0 (rw long₀ (omega (arith, room)))
 
   ended-declared : getD ended declared 0 ≡ many
   ended-declared =
       getD-set-other w₃ argumentsHeld declared base 0 (λ e. omega arith) ∙ getD-set-other w₂ callsUsed declared (getD w₂ callsUsed 0 - 1) 0 (λ e. omega arith)
-      ∙ getD-set-other w₁ running declared caller 0 (λ e. omega arith) ∙ getD-set-same (back .words) declared many 0 (rw back-long (omega (arith, room)))
+      ∙ getD-set-other w₀ loopUnit declared unit 0 (λ e. omega arith) ∙ getD-set-other w₁ running declared caller 0 (λ e. omega arith) ∙ getD-set-same (back .words) declared many 0
+      (rw back-long (omega (arith, room)))
 
   -- ---- variables as they were
   ended-slot : (k : ℕ) → k < many → slotAt ended k ≡ slotAt (r .words) k
-  ended-slot k l = other (orderPlace k) (λ e. omega arith) (λ e. omega arith) (λ e. omega arith) (λ e. omega arith) ∙ back .restored .order k (omega arith) (omega arith)
+  ended-slot k l = other (orderPlace k) (λ e. omega arith) (λ e. omega arith) (λ e. omega arith) (λ e. omega arith) (λ e. omega arith) ∙ back .restored .order k (omega arith) (omega arith)
 
   small-value : (slot : ℕ) → slot < 8192 → getD (back .words) (valuePlace slot) 0 ≡ getD (r .words) (valuePlace slot) 0
   small-value slot l = go (eqb (getD (r .words) (valuePlace slot) 0) 0) refl
@@ -184,13 +225,13 @@ module _ {program : List ℕ} {ts : List Token} {g : List ℕ} {r₁ r r₂ r′
   ended-value : (slot : ℕ) → getD ended (valuePlace slot) 0 ≡ getD (r .words) (valuePlace slot) 0
   ended-value slot =
       let same : valuePlace (slot % 8192) ≡ valuePlace slot = omega arith in
-      other (valuePlace slot) (λ e. omega arith) (λ e. omega arith) (λ e. omega arith) (λ e. omega arith) ∙ rw (← same) (small-value (slot % 8192) (omega arith))
+      other (valuePlace slot) (λ e. omega arith) (λ e. omega arith) (λ e. omega arith) (λ e. omega arith) (λ e. omega arith) ∙ rw (← same) (small-value (slot % 8192) (omega arith))
 
   abbrev pub returned : Raw
   returned = raw (r′ .texts) ended
 
   pub return-later : Later program r′ returned
-  return-later = moved-later (a .related) ended ended-low ended-high
+  return-later = moved-later (a .related) ended ended-low ended-parts ended-high
 
   call-later : Later program r returned
   call-later = later-trans (b .later) (later-trans (a .later) return-later)
@@ -202,17 +243,52 @@ module _ {program : List ℕ} {ts : List Token} {g : List ℕ} {r₁ r r₂ r′
   variables-as = record { count = ended-declared; procedure = ended-running; slots = ended-slot; values = ended-value }
 
   -- ---- calls as they were
-  untouched-all : Untouched r₁ returned
+  untouched-all : Untouched g r₁ returned
   untouched-all = record {
     calls = ended-calls ∙ args .untouched .calls;
     running = ended-running ∙ args .untouched .running;
     frames = λ d z l.
-        low (framePlace d) (λ e. omega arith) (λ e. omega arith) (λ e. omega arith) (λ e. omega arith) (omega arith)
+        low (framePlace d) (λ e. omega arith) (λ e. omega arith) (λ e. omega arith) (λ e. omega arith) (λ e. omega arith) (omega arith)
         ∙ a .untouched .frames d z (omega (arith, b .calls, args .untouched .calls)) ∙ b .stack .frames d z (omega (arith, args .untouched .calls)) ∙ args .untouched .frames d z l;
     arguments = λ k l.
         ended-stack k (omega (arith, h₁ .sound .counted .arguments)) ∙ a .untouched .arguments k (omega (arith, b .held, args .held))
         ∙ b .stack .arguments k (omega (arith, args .held)) ∙ args .untouched .arguments k l;
+    made = omega (arith, args .untouched .made, b .parts .made, a .untouched .made, ended-parts componentsMade (omega arith) (omega arith));
+    components = λ k l.
+        let m = le-trans l (args .untouched .made) in
+        ended-high _ (omega arith) ∙ a .untouched .components k (le-trans m (b .parts .made)) ∙ b .parts .words k m ∙ args .untouched .components k l;
+    unit = ended-unit ∙ args .untouched .unit;
+    marks = λ d k x y.
+        let c = args .untouched .calls in
+        ended-high _ (omega arith) ∙ a .untouched .marks d k (omega (arith, b .calls, c)) y ∙ b .marks d k (omega (arith, c)) y ∙ args .untouched .marks d k x y;
+    bound = λ slot n. rw (ended-value slot) (args .untouched .bound slot n);
   }
+
+  -- the callee's marks are gone, and the caller's as they were
+  ended-marks : Marks g ended
+  ended-marks = record {
+    idle = λ d k x y z. ended-high _ (omega arith) ∙ gone d k (rw ended-calls at x) y z (eqb d (getD (r .words) callsUsed 0)) refl;
+    own = λ k x y.
+        let o = rw ended-calls at x in
+        let d : getD (r .words) callsUsed 0 - 1 < getD (r .words) callsUsed 0 = omega arith in
+        rw (
+          ended-calls,
+          ended-unit,
+          ended-high (pathPlace g (getD (r .words) callsUsed 0 - 1) k) (omega arith),
+          a .untouched .marks (getD (r .words) callsUsed 0 - 1) k (omega (arith, b .calls)) y,
+          b .marks (getD (r .words) callsUsed 0 - 1) k d y,
+        ) (h .sound .marks .own k o y);
+  }
+    where
+      gone : (d k : ℕ) → getD (r .words) callsUsed 0 ≤ d → d < callsGranted g → k < entriesGranted g → (t : Bool) → eqb d (getD (r .words) callsUsed 0) ≡ t → getD (r′ .words) (pathPlace g d k) 0 ≡ 0
+      gone d k x y z true e =
+          let q : getD (r₂ .words) callsUsed 0 - 1 ≡ getD (r .words) callsUsed 0 = omega (arith, b .calls) in
+          let m = b .related .sound .marks .own k (omega (arith, b .calls)) z in
+          let n = rw (q, b .unit) at m in
+          rw (eqb-true d (getD (r .words) callsUsed 0) e) (a .untouched .marks (getD (r .words) callsUsed 0) k (omega (arith, b .calls)) z ∙ omega (arith, n))
+      gone d k x y z false e =
+          let n : d ≢ getD (r .words) callsUsed 0 = eqb-false d (getD (r .words) callsUsed 0) e in
+          a .related .sound .marks .idle d k (omega (arith, a .untouched .calls, b .calls)) y z
 
   level : getD (r₁ .words) argumentsHeld 0 ≤ getD ended argumentsHeld 0
   level = omega (arith, ended-held)
@@ -220,9 +296,9 @@ module _ {program : List ℕ} {ts : List Token} {g : List ℕ} {r₁ r r₂ r′
   pub returns : After program ts g r₁ returned (resumed s s′) (lowered total′)
   unfolding lowered resourceNumber
   returns = record {
-    related = moved-related (a .related) ended ended-low ended-high ended-long (rw ended-held (h₁ .sound .counted .arguments)) (rw ended-calls (h .sound .counted .calls))
+    related = moved-related (a .related) ended ended-low ended-parts ended-high ended-long (rw ended-held (h₁ .sound .counted .arguments)) (rw ended-calls (h .sound .counted .calls))
         (variables-kept call-later variables-as ts v) (h .variables ∙ sym (variables-same call-later variables-as ts v))
-        (same-waiting all-later untouched-all level (h₁ .sound .waiting) ts .waiting)
+        (same-waiting all-later untouched-all level (h₁ .sound .waiting) ts .waiting) ended-marks
         (h .suspended ∙ same-waiting (args .later) (args .untouched) (omega (arith, args .held)) (h₁ .sound .waiting) ts .suspended
         ∙ sym (same-waiting all-later untouched-all level (h₁ .sound .waiting) ts .suspended))
         (omega arith) (omega arith) (omega arith) (omega arith) (omega (arith, a .related .callsTaken, a .untouched .calls, b .calls, ended-calls));
@@ -233,7 +309,7 @@ module _ {program : List ℕ} {ts : List Token} {g : List ℕ} {r₁ r r₂ r′
   }
 
   -- ---- the act
-  pub resumes : resume (getD (r .words) argumentsHeld 0) (getD (r .words) declared 0) (getD (r .words) running 0) (getD (r₁ .words) argumentsHeld 0) r′ ≡ done tt returned
+  pub resumes : resume (getD (r .words) argumentsHeld 0) (getD (r .words) declared 0) (getD (r .words) running 0) (getD (r .words) loopUnit 0) (getD (r₁ .words) argumentsHeld 0) r′ ≡ done tt returned
   unfolding resume dropTo Act._>>=_ Act.goOn Act.load Act.store
   resumes = rw (taken .is, back .is)
 

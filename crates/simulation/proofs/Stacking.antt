@@ -36,7 +36,7 @@ module _ (program : List ℕ) (ts : List Token) (g : List ℕ) where
     pub later : Later program r r′
     pub spare : getD (r′ .words) tablesMade 0 + getD (r .words) stepsUsed 0 ≤ getD (r .words) tablesMade 0 + getD (r′ .words) stepsUsed 0
     pub held : getD (r′ .words) argumentsHeld 0 ≡ getD (r .words) argumentsHeld 0 + many
-    pub untouched : Untouched r r′
+    pub untouched : Untouched g r r′
     pub stacked : Stacked program r′ (getD (r .words) argumentsHeld 0) many us
 
 module _ {program : List ℕ} {ts : List Token} {g : List ℕ} where
@@ -48,7 +48,7 @@ module _ {program : List ℕ} {ts : List Token} {g : List ℕ} where
     later = later-refl program r;
     spare = le-refl _;
     held = omega arith;
-    untouched = untouched-refl r;
+    untouched = untouched-refl g r;
     stacked = record { within = omega arith; valid = λ k x y. absurd (omega arith); packs = λ k x y. absurd (omega arith); are = refl };
   }
 

@@ -11,7 +11,7 @@ use lib.ListN.{getD, length, length-append}
 use borrow.Author.Tests.{eq-eqb, lt-ltb, le-ltb}
 use Rattle.meaning.specs.Basics.{if_then_else_}
 use Rattle.meaning.specs.Token.{Token, aName}
-use Rattle.meaning.specs.Tree.{Expression, Statement, declare, assign, update, when, while, return, block, act, Statements, only, first, Procedure}
+use Rattle.meaning.specs.Tree.{Expression, Statement, declare, assign, update, when, while, foreach, return, block, act, Statements, only, first, Procedure}
 use Rattle.meaning.specs.Grammar.{procedureNamed}
 use Rattle.meaning.specs.State.{State}
 use Rattle.meaning.specs.Run as Run
@@ -22,26 +22,25 @@ use Rattle.meaning.specs.Execute.{onward, execute}
 use Rattle.meaning.specs.Execute as Execute
 use Rattle.meaning.specs.Library.{Library, libraryOf}
 use Rattle.meaning.specs.Procedure.{calling}
-use Rattle.machine.specs.Opcodes.{word, tagIn, sizeIn, placeIn, extraIn, sizeAt, tagDeclare, tagAssign, tagUpdate, tagWhen, tagWhile, tagReturn, tagBlock, tagAct}
+use Rattle.machine.specs.Opcodes.{word, sizeAt, tagUpdate, tagBlock}
 use Rattle.code.specs.Code.{slotOf, codeOf, codeOfStatement, codeOfStatements}
 use Rattle.reader.specs.Sane.{Sane}
 use Rattle.reader.specs.Declarations.{declaredIn, declaredBy}
 use Rattle.reader.proofs.Homes.{Occurs}
-use Rattle.reader.proofs.Fields.{first-half, second-half, code-rooted, statement-headed, statement-some}
+use Rattle.reader.proofs.Fields.{code-rooted, statement-headed, statement-some}
 use Rattle.reader.proofs.Known.{Placed, Known, KnownStatement, KnownStatements}
-use Rattle.reader.proofs.Walk.{Stands, Ends, stands-front, stands-back, stands-first, stands-rest, ends-word}
-use Rattle.machine.specs.Words.{packed, unpacked}
+use Rattle.reader.proofs.Walk as Walk
+use Rattle.reader.proofs.Walk.{Stands, stands-front, stands-back, stands-first, stands-rest, ends-word}
+use Rattle.machine.specs.Words.{packed}
 use Rattle.machine.specs.Layout.{argumentsHeld, stepsGranted, stackWords}
 use Rattle.machine.specs.Act.{Raw, Act}
 use Rattle.machine.specs.Act as Act
-use Rattle.machine.specs.Variables as Stored
 use Rattle.machine.specs.Tables.{storeEntry}
 use Rattle.machine.specs.Operate.{withBoolean, withTable}
-use Rattle.machine.specs.Evaluate.{Setting, Evaluator}
+use Rattle.machine.specs.Evaluate.{Setting}
 use Rattle.machine.specs.declared.Flow.{Flow}
 use Rattle.machine.specs.declared.Flow.the-variants.{Onward, Returned}
-use Rattle.machine.specs.Effects.{declaring, assigning, finishing}
-use Rattle.machine.specs.Execute.{simpleAt, updateValue, updateIn, updateAt, continue, Executor, whenAt, looping, repeatAt, statementsFrom, countedAt, statementBy}
+use Rattle.machine.specs.Execute.{updateValue, updateIn, updateAt, continue, looping, statementsFrom}
 use Rattle.machine.specs.Interpret.{expressionAt, statementAt}
 use Rattle.simulation.specs.Scope.{scopeOf, isIn}
 use Rattle.simulation.specs.Follows.{Grants, Related, Follows}
@@ -49,67 +48,24 @@ use Rattle.simulation.proofs.Binding.{bind, Succeeds, act-after}
 use Rattle.simulation.proofs.Results.{given, After, Values, unmoved, still}
 use Rattle.simulation.proofs.Results as Results
 use Rattle.simulation.proofs.Counting.{AfterStep, counts}
-use Rattle.simulation.proofs.Asked.{with-boolean, with-table}
-use Rattle.simulation.proofs.Chaining.{tested-then, turning-then}
+use Rattle.simulation.proofs.Asked.{with-boolean, with-table, with-group}
+use Rattle.simulation.proofs.Usable.{uses}
+use Rattle.simulation.proofs.Chaining.{turning-then}
 use Rattle.simulation.proofs.Scopes.{mapped-left, mapped-right}
 use Rattle.simulation.proofs.Under.{stepsLeft, Under, stays, Invokes}
 use Rattle.simulation.proofs.Expressions.{told, Strings, evaluates}
-use Rattle.simulation.proofs.Flows.{SameFlow, both-onward, both-returned, AfterFlow, Flows, flow-from}
+use Rattle.simulation.specs.Nesting.{Nests, NestsAll}
+use Rattle.simulation.proofs.Flows.{SameFlow, both-onward, both-returned, AfterFlow, Flows, flow-from, Turned, Turns, turned, turned-from, ended}
 use Rattle.simulation.proofs.Declaring.{declares}
 use Rattle.simulation.proofs.Assigning.{assigns}
 use Rattle.simulation.proofs.Storing.{stores}
 use Rattle.simulation.proofs.Keys.{back-again}
-
--- ---- a statement's word
-record Heads (w tag size p n : ℕ) : Type 0 where
-  tag-is : tagIn w ≡ tag
-  size-is : sizeIn w ≡ size
-  place-is : placeIn w ≡ p
-  extra-is : extraIn w ≡ n
-
-heads : {w tag size p n : ℕ} → w ≡ word tag size (p + 65536 * n) → tag < 256 → size < 16777216 → p < 65536 → Heads w tag size p n
-heads {w} {tag} {size} {p} {n} e a b c =
-    let t = told e a b in
-    record { tag-is = t .tag-is; size-is = t .size-is; place-is = rw (t .number-is) (first-half p n c); extra-is = rw (t .number-is) (second-half p n c) }
-
-module _ (eval : Evaluator) (inner : Executor) (e : Setting) (w x p size q n : ℕ) where
-  by-declare : Heads w tagDeclare size q n → statementBy eval inner e w x p ≡ Act._>>_ (Act.count (e .grants) p) (Act._>>_ (Stored.declare n p) (Act.give Onward))
-  unfolding statementBy if_then_else_ countedAt declaring
-  by-declare t = rw (t .tag-is, t .extra-is)
-
-  by-assign : Heads w tagAssign size q n → statementBy eval inner e w x p ≡ Act._>>_ (Act.count (e .grants) p) (Act._>>=_ (eval (x + size - 1) p) (λ v. assigning (e .grants) p n (packed v)))
-  unfolding statementBy if_then_else_ countedAt simpleAt finishing
-  by-assign t = rw (t .tag-is, t .extra-is, t .size-is)
-
-  by-update : Heads w tagUpdate size q n → statementBy eval inner e w x p ≡ Act._>>_ (Act.count (e .grants) p) (updateAt eval e (x + size - 1) p)
-  unfolding statementBy if_then_else_ countedAt
-  by-update t = rw (t .tag-is, t .size-is)
-
-  by-when : Heads w tagWhen size q n → statementBy eval inner e w x p
-      ≡ Act._>>_ (Act.count (e .grants) p) (Act._>>=_ (eval (x + n) p) (λ v. withBoolean p v λ b. if b then (λ _. inner (x + n + 1)) else λ _. Act.give Onward))
-  unfolding statementBy if_then_else_ countedAt whenAt
-  by-when t = rw (t .tag-is, t .extra-is) (ap (λ f. Act._>>_ (Act.count (e .grants) p) f) (tested-then eval e (x + n) p (λ b. if b then (λ _. inner (x + n + 1)) else λ _. Act.give Onward)))
-
-  by-while : Heads w tagWhile size q n → statementBy eval inner e w x p ≡ looping (stepsGranted (e .grants) + 1) eval e (x + n) p (inner (x + n + 1))
-  unfolding statementBy if_then_else_ repeatAt
-  by-while t = rw (t .tag-is, t .extra-is)
-
-  by-return : Heads w tagReturn size q n → statementBy eval inner e w x p
-      ≡ Act._>>_ (Act.count (e .grants) p) (Act._>>=_ (eval (x + size - 1) p) (λ v. Act.give (Returned (unpacked (packed v)))))
-  unfolding statementBy if_then_else_ countedAt simpleAt finishing
-  by-return t = rw (t .tag-is, t .size-is)
-
-  by-block : Heads w tagBlock size q n → statementBy eval inner e w x p ≡ Act._>>_ (Act.count (e .grants) p) (statementsFrom (size + 1) inner e (x + 1) (x + size))
-  unfolding statementBy if_then_else_ countedAt
-  by-block t = rw (t .tag-is, t .size-is)
-
-  by-act : Heads w tagAct size q n → statementBy eval inner e w x p ≡ Act._>>_ (Act.count (e .grants) p) (Act._>>_ (eval (x + size - 1) p) (Act.give Onward))
-  unfolding statementBy if_then_else_ countedAt simpleAt finishing
-  by-act t = rw (t .tag-is, t .size-is)
+use Rattle.simulation.proofs.Dispatching.{Heads, heads, by-declare, by-assign, by-update, by-when, by-while, by-foreach, by-return, by-block, by-act}
+use Rattle.simulation.proofs.Inside.{Room, room-stays, iterates}
 
 -- ---- how a statement ends
 flow-done : {program : List ℕ} {ts : List Token} {g : List ℕ} {r₀ r : Raw} {f : Flow} {f′ : Execute.Flow} {s : State} {total : Amounts} → SameFlow program r f f′
-    → AfterFlow program ts g r₀ f f′ r s total → Succeeds (Flows program ts g r₀) (continue f (Act.give Onward) r) f′ s total
+    → Turned program ts g r₀ f f′ r s total → Succeeds (Turns program ts g r₀) (continue f (Act.give Onward) r) f′ s total
 unfolding continue Act.give
 flow-done {r = r} both-onward w = record { result = Onward; slices = r; is = refl; holds = w }
 flow-done {r = r} (both-returned {v = v} x y) w = record { result = Returned v; slices = r; is = refl; holds = w }
@@ -126,10 +82,20 @@ module _ {program : List ℕ} {ts : List Token} {g : List ℕ} {granted : Amount
       go both-onward h a = h
       go (both-returned x y) h a = given a
 
+-- the same of statements
+module _ {program : List ℕ} {ts : List Token} {g : List ℕ} {granted : Amounts} {r₀ : Raw} where
+  goes-on : {r : Raw} {f : Flow} {f′ : Execute.Flow} {s : State} {total : Amounts} (k : Act Flow) (k′ : Run.Action Execute.Flow) → SameFlow program r f f′
+      → Follows granted total (Turns program ts g r₀) (k r) (k′ s) → Turned program ts g r₀ f f′ r s total
+      → Follows granted total (Turns program ts g r₀) (continue f k r) (Execute.continue f′ k′ s)
+  unfolding continue Execute.continue Act.give Run.give
+  goes-on k k′ both-onward h a = h
+  goes-on k k′ (both-returned x y) h a = given a
+
 -- ---- statements of a call under way, whose stack has so many words before each statement
 module _ (e : Setting) {ts : List Token} (sane : Sane ts) (strings : Strings (e .program) ts) {granted : Amounts} (gr : Grants (e .grants) granted)
     (fs : List Procedure) (apart : (f : List ℕ) (l : Library) → libraryOf f ≡ some l → procedureNamed f fs ≡ Option.none)
-    (limit w c room reserve : ℕ) (enough : room ≤ 2 * stackWords) (invokes : (fuel : ℕ) → reserve ≤ fuel → Invokes e ts granted fs limit w c room fuel) (base : ℕ) where
+    (limit w c room reserve : ℕ) (enough : room ≤ 2 * stackWords) (invokes : (fuel : ℕ) → reserve ≤ fuel → Invokes e ts granted fs limit w c room fuel) (base : ℕ)
+    (busy : 0 < c) where
   abbrev Here : Raw → State → Amounts → Type 0
   Here r s total = Related (e .program) ts (e .grants) r s total
 
@@ -152,31 +118,37 @@ module _ (e : Setting) {ts : List Token} (sane : Sane ts) (strings : Strings (e 
       → sizeAt (e .code) at ≡ length (codeOf x ts)
   sized-at x a at st q l =
       let c = code-rooted x ts in
-      let en : Ends (e .code) at (c .front ++ (word (c .tag) (length (codeOf x ts)) (c .number) ∷ [])) =
-      subst (Ends (e .code) at) (c .whole) (record { start = a; stands = st; last = q }) in
+      let en : Walk.Ends (e .code) at (c .front ++ (word (c .tag) (length (codeOf x ts)) (c .number) ∷ [])) =
+      subst (Walk.Ends (e .code) at) (c .whole) (record { start = a; stands = st; last = q }) in
       told (ends-word (c .front) _ en) (c .small) (omega (arith, enough)) .size-is
 
-  -- what executing the code from a place on comes to
-  abbrev Executes : Act Flow → Run.Action Execute.Flow → Type 0
-  Executes o m = (r : Raw) (s : State) (total : Amounts) → Here r s total → Under (e .grants) w c limit r → getD (r .words) argumentsHeld 0 ≡ base
+  -- what executing the code from a place on comes to, with at most n foreach inside one another
+  abbrev Executes : ℕ → Act Flow → Run.Action Execute.Flow → Type 0
+  Executes n o m = (r : Raw) (s : State) (total : Amounts) → Here r s total → Under (e .grants) w c limit r → getD (r .words) argumentsHeld 0 ≡ base → Room n r
+      → Follows granted total (Turns (e .program) ts (e .grants) r) (o r) (m s)
+
+  -- or of what a statement does besides
+  abbrev Ends : ℕ → Act Flow → Run.Action Execute.Flow → Type 0
+  Ends n o m = (r : Raw) (s : State) (total : Amounts) → Here r s total → Under (e .grants) w c limit r → getD (r .words) argumentsHeld 0 ≡ base → Room n r
       → Follows granted total (Flows (e .program) ts (e .grants) r) (o r) (m s)
 
   -- ---- loops
   module _ (x : Expression) (known : Known x ts) (fuel a at p : ℕ) (deep : length (codeOf x ts) + reserve ≤ fuel) (st : Stands (e .code) a (codeOf x ts))
-      (q : a + length (codeOf x ts) ≡ at + 1) (short : Fits (length (codeOf x ts))) (body : Act Flow) (body′ : Run.Action Execute.Flow) (does : Executes body body′) where
+      (q : a + length (codeOf x ts) ≡ at + 1) (short : Fits (length (codeOf x ts))) (body : Act Flow) (body′ : Run.Action Execute.Flow)
+      {n : ℕ} (does : Executes n body body′) where
     turn : (turns m : ℕ) (r₀ r : Raw) (s : State) (total : Amounts)
-        → ((r′ : Raw) (s′ : State) (total′ : Amounts) → Here r′ s′ total′ → Under (e .grants) w c limit r′ → getD (r′ .words) argumentsHeld 0 ≡ base
+        → ((r′ : Raw) (s′ : State) (total′ : Amounts) → Here r′ s′ total′ → Under (e .grants) w c limit r′ → getD (r′ .words) argumentsHeld 0 ≡ base → Room n r′
         → stepsLeft (e .grants) r′ < stepsLeft (e .grants) r₀
-        → Follows granted total′ (Flows (e .program) ts (e .grants) r′) (looping turns (expressionAt fuel e) e at p body r′) (Execute.looping m p (evaluate (calling limit fs) x p) body′ s′))
-        → AfterStep (e .program) ts (e .grants) r₀ r s total → Under (e .grants) w c limit r₀ → getD (r₀ .words) argumentsHeld 0 ≡ base
-        → Follows granted total (Flows (e .program) ts (e .grants) r₀)
+        → Follows granted total′ (Turns (e .program) ts (e .grants) r′) (looping turns (expressionAt fuel e) e at p body r′) (Execute.looping m p (evaluate (calling limit fs) x p) body′ s′))
+        → AfterStep (e .program) ts (e .grants) r₀ r s total → Under (e .grants) w c limit r₀ → getD (r₀ .words) argumentsHeld 0 ≡ base → Room n r₀
+        → Follows granted total (Turns (e .program) ts (e .grants) r₀)
         (Act._>>=_ (expressionAt fuel e at p) (λ v. withBoolean p v λ b.
         if b then (λ _. Act._>>=_ body (λ f. continue f (looping turns (expressionAt fuel e) e at p body))) else λ _. Act.give Onward) r)
         (Run._>>=_ (evaluate (calling limit fs) x p)
         (λ v. Operator.withBoolean p v λ b. if b then (λ _. Run._>>=_ body′ (λ f. Execute.continue f (Execute.looping m p (evaluate (calling limit fs) x p) body′))) else λ _. Run.give onward) s)
     unfolding Act._>>=_ Run._>>=_ if_then_else_ Act.give Run.give
-    turn turns m r₀ r s total again b un z =
-        flow-from (b .after)
+    turn turns m r₀ r s total again b un z low =
+        turned b
         (bind (valued x known fuel a at p deep st q (b .after .related) (stays (b .after) un) (b .after .held ∙ z) short) (λ v u r₁ s₁ total₁ d.
         rw (d .means) (with-boolean (d .after .related) p v (d .valid) _ _ (λ t. branch t r₁ s₁ total₁ (d .after)))))
       where
@@ -185,11 +157,13 @@ module _ (e : Setting) {ts : List Token} (sane : Sane ts) (strings : Strings (e 
             ((if t then (λ _. Act._>>=_ body (λ f. continue f (looping turns (expressionAt fuel e) e at p body))) else λ _. Act.give Onward) r₁)
             ((if t then (λ _. Run._>>=_ body′ (λ f. Execute.continue f (Execute.looping m p (evaluate (calling limit fs) x p) body′))) else λ _. Run.give onward) s₁)
         branch true r₁ s₁ total₁ d =
-            bind (does r₁ s₁ total₁ (d .related) (stays d (stays (b .after) un)) (d .held ∙ b .after .held ∙ z)) (λ f f′ r₂ s₂ total₂ g.
+            bind (does r₁ s₁ total₁ (d .related) (stays d (stays (b .after) un)) (d .held ∙ b .after .held ∙ z) (room-stays d (room-stays (b .after) low))) (λ f f′ r₂ s₂ total₂ w.
+            let g = w .ends in
             continues (looping turns (expressionAt fuel e) e at p body) (Execute.looping m p (evaluate (calling limit fs) x p) body′) (record { after = Results.onward d (g .after); flow = g .flow })
             (flow-from (Results.onward d (g .after))
-            (again r₂ s₂ total₂ (g .after .related) (stays (g .after) (stays d (stays (b .after) un))) (g .after .held ∙ d .held ∙ b .after .held ∙ z)
-            (omega (arith, d .later .steps, g .after .later .steps, b .spare, b .after .later .tables, g .after .related .sound .counted .steps)))))
+            (ended (again r₂ s₂ total₂ (g .after .related) (stays (g .after) (stays d (stays (b .after) un))) (g .after .held ∙ d .held ∙ b .after .held ∙ z)
+            (room-stays (g .after) (room-stays d (room-stays (b .after) low)))
+            (omega (arith, d .later .steps, g .after .later .steps, b .spare, b .after .later .tables, g .after .related .sound .counted .steps))))))
         branch false r₁ s₁ total₁ d = given (record { after = d; flow = both-onward })
 
     by-turn : (turns : ℕ) → looping (suc turns) (expressionAt fuel e) e at p body
@@ -198,33 +172,33 @@ module _ (e : Setting) {ts : List Token} (sane : Sane ts) (strings : Strings (e 
     unfolding looping
     by-turn turns = turning-then (expressionAt fuel e) e at p (λ b. if b then (λ _. Act._>>=_ body (λ f. continue f (looping turns (expressionAt fuel e) e at p body))) else λ _. Act.give Onward)
 
-    loops : (m turns : ℕ) (r : Raw) (s : State) (total : Amounts) → Here r s total → Under (e .grants) w c limit r → getD (r .words) argumentsHeld 0 ≡ base
+    loops : (m turns : ℕ) (r : Raw) (s : State) (total : Amounts) → Here r s total → Under (e .grants) w c limit r → getD (r .words) argumentsHeld 0 ≡ base → Room n r
         → stepsLeft (e .grants) r < m → stepsLeft (e .grants) r < turns
-        → Follows granted total (Flows (e .program) ts (e .grants) r) (looping turns (expressionAt fuel e) e at p body r) (Execute.looping m p (evaluate (calling limit fs) x p) body′ s)
+        → Follows granted total (Turns (e .program) ts (e .grants) r) (looping turns (expressionAt fuel e) e at p body r) (Execute.looping m p (evaluate (calling limit fs) x p) body′ s)
     unfolding Act._>>=_ Run._>>=_ Execute.looping
-    loops zero turns r s total h un z i j = absurd (omega arith)
-    loops (suc m) turns r s total h un z i j =
+    loops zero turns r s total h un z low i j = absurd (omega arith)
+    loops (suc m) turns r s total h un z low i j =
         let n : suc (turns - 1) ≡ turns = omega arith in
-        subst (λ n. Follows granted total (Flows (e .program) ts (e .grants) r) (looping n (expressionAt fuel e) e at p body r) (Execute.looping (suc m) p (evaluate (calling limit fs) x p) body′ s)) n
+        subst (λ n. Follows granted total (Turns (e .program) ts (e .grants) r) (looping n (expressionAt fuel e) e at p body r) (Execute.looping (suc m) p (evaluate (calling limit fs) x p) body′ s)) n
         (rw (by-turn (turns - 1)) (bind (counts gr h p) (λ _ _ r₁ s₁ total₁ b.
-        turn (turns - 1) m r r₁ s₁ total₁ (λ r′ s′ total′ h′ un′ z′ few. loops m (turns - 1) r′ s′ total′ h′ un′ z′ (omega arith) (omega arith)) b un z)))
+        turn (turns - 1) m r r₁ s₁ total₁ (λ r′ s′ total′ h′ un′ z′ low′ few. loops m (turns - 1) r′ s′ total′ h′ un′ z′ low′ (omega arith) (omega arith)) b un z low)))
 
   -- ---- each kind of statement
-  abbrev Does : Statement → ℕ → ℕ → Type 0
-  Does d fuel at = Executes (statementAt fuel e at) (execute (calling limit fs) d limit)
+  abbrev Does : ℕ → Statement → ℕ → ℕ → Type 0
+  Does n d fuel at = Executes n (statementAt fuel e at) (execute (calling limit fs) d limit)
 
   -- the procedure under way may declare these names
   abbrev Owns : List (List ℕ) → Type 0
   Owns xs = (slot : ℕ) → isIn slot (map (slotOf ts) xs) ≡ true → isIn slot (scopeOf (e .program) ts w) ≡ true
 
   module _ (fuel at : ℕ) where
-    declare-does : (p : ℕ) (x : List ℕ) → Placed ts p → Occurs ts aName x → Owns (x ∷ []) → Stands (e .code) at (codeOfStatement (declare p x) ts) → Does (declare p x) (suc fuel) at
+    declare-does : {n : ℕ} (p : ℕ) (x : List ℕ) → Placed ts p → Occurs ts aName x → Owns (x ∷ []) → Stands (e .code) at (codeOfStatement (declare p x) ts) → Does n (declare p x) (suc fuel) at
     unfolding codeOfStatement execute statementAt isIn Act._>>=_ Run._>>=_
-    declare-does p x pl o own st r s total h un z =
+    declare-does p x pl o own st r s total h un z low =
         let t = heads (stands-first st) (omega arith) (omega (arith, enough)) (placed pl) in
         rw (t .place-is, by-declare (expressionAt fuel e) (statementAt fuel e) e (getD (e .code) at 0) at p _ p (slotOf ts x) t)
         (bind (counts gr h p) (λ _ _ r₁ s₁ total₁ a.
-        flow-from (a .after) (declares (sane .few) (a .after .related) x o (rw (stays (a .after) un .procedure) (own (slotOf ts x) (rw (eq-eqb (slotOf ts x) (slotOf ts x) refl)))) p)))
+        turned a (declares (sane .few) (a .after .related) x o (rw (stays (a .after) un .procedure) (own (slotOf ts x) (rw (eq-eqb (slotOf ts x) (slotOf ts x) refl)))) p)))
 
     -- an expression behind the word
     module _ (x : Expression) (known : Known x ts) (short : Fits (length (codeOf x ts))) (deep : length (codeOf x ts) + reserve ≤ fuel) (st : Stands (e .code) (at + 1) (codeOf x ts)) (p : ℕ) where
@@ -232,65 +206,86 @@ module _ (e : Setting) {ts : List Token} (sane : Sane ts) (strings : Strings (e 
           → Follows granted total (Values (e .program) ts (e .grants) r) (expressionAt fuel e (at + (length (codeOf x ts) + 1) - 1) p r) (evaluate (calling limit fs) x p s)
       behind h un z = valued x known fuel (at + 1) (at + (length (codeOf x ts) + 1) - 1) p deep st (omega arith) h un z short
 
-    assign-does : (p : ℕ) (x : List ℕ) (y : Expression) → Placed ts p → Occurs ts aName x → Known y ts → Fits (length (codeOf y ts)) → length (codeOf y ts) + reserve ≤ fuel
-        → Stands (e .code) at (codeOfStatement (assign p x y) ts) → Does (assign p x y) (suc fuel) at
+    assign-does : {n : ℕ} (p : ℕ) (x : List ℕ) (y : Expression) → Placed ts p → Occurs ts aName x → Known y ts → Fits (length (codeOf y ts)) → length (codeOf y ts) + reserve ≤ fuel
+        → Stands (e .code) at (codeOfStatement (assign p x y) ts) → Does n (assign p x y) (suc fuel) at
     unfolding codeOfStatement execute statementAt Act._>>=_ Run._>>=_
-    assign-does p x y pl o k short deep st r s total h un z =
+    assign-does p x y pl o k short deep st r s total h un z low =
         let t = heads (stands-first st) (omega arith) (omega (arith, enough)) (placed pl) in
         rw (t .place-is, by-assign (expressionAt fuel e) (statementAt fuel e) e (getD (e .code) at 0) at p _ p (slotOf ts x) t)
         (bind (counts gr h p) (λ _ _ r₁ s₁ total₁ a.
-        bind (behind y k short deep (stands-rest st) p (a .after .related) (stays (a .after) un) (a .after .held ∙ z)) (λ v u r₂ s₂ total₂ b.
-        rw (b .means) (flow-from (Results.onward (a .after) (b .after)) (assigns e (sane .few) gr x o p (b .after .related) v (b .valid))))))
+        turned a (bind (behind y k short deep (stands-rest st) p (a .after .related) (stays (a .after) un) (a .after .held ∙ z)) (λ v u r₂ s₂ total₂ b.
+        rw (b .means) (flow-from (b .after) (assigns e (sane .few) gr x o p (b .after .related) v (b .valid)))))))
 
-    return-does : (p : ℕ) (y : Expression) → Placed ts p → Known y ts → Fits (length (codeOf y ts)) → length (codeOf y ts) + reserve ≤ fuel
-        → Stands (e .code) at (codeOfStatement (return p y) ts) → Does (return p y) (suc fuel) at
+    return-does : {n : ℕ} (p : ℕ) (y : Expression) → Placed ts p → Known y ts → Fits (length (codeOf y ts)) → length (codeOf y ts) + reserve ≤ fuel
+        → Stands (e .code) at (codeOfStatement (return p y) ts) → Does n (return p y) (suc fuel) at
     unfolding codeOfStatement execute statementAt Act._>>=_ Run._>>=_ Act.give Run.give
-    return-does p y pl k short deep st r s total h un z =
+    return-does p y pl k short deep st r s total h un z low =
         let t = heads (stands-first st) (omega arith) (omega (arith, enough)) (placed pl) in
         rw (t .place-is, by-return (expressionAt fuel e) (statementAt fuel e) e (getD (e .code) at 0) at p _ p 0 t)
         (bind (counts gr h p) (λ _ _ r₁ s₁ total₁ a.
-        bind (behind y k short deep (stands-rest st) p (a .after .related) (stays (a .after) un) (a .after .held ∙ z)) (λ v u r₂ s₂ total₂ b.
-        rw (back-again (b .after .related .sound) v (b .valid)) (given (record { after = Results.onward (a .after) (b .after); flow = both-returned (b .valid) (b .means) })))))
+        turned a (bind (behind y k short deep (stands-rest st) p (a .after .related) (stays (a .after) un) (a .after .held ∙ z)) (λ v u r₂ s₂ total₂ b.
+        rw (back-again (b .after .related .sound) v (b .valid)) (given (record { after = b .after; flow = both-returned (b .valid) (b .means) }))))))
 
-    act-does : (p : ℕ) (y : Expression) → Placed ts p → Known y ts → Fits (length (codeOf y ts)) → length (codeOf y ts) + reserve ≤ fuel
-        → Stands (e .code) at (codeOfStatement (act p y) ts) → Does (act p y) (suc fuel) at
+    act-does : {n : ℕ} (p : ℕ) (y : Expression) → Placed ts p → Known y ts → Fits (length (codeOf y ts)) → length (codeOf y ts) + reserve ≤ fuel
+        → Stands (e .code) at (codeOfStatement (act p y) ts) → Does n (act p y) (suc fuel) at
     unfolding codeOfStatement execute statementAt Act._>>=_ Run._>>=_ Act.give Run.give
-    act-does p y pl k short deep st r s total h un z =
+    act-does p y pl k short deep st r s total h un z low =
         let t = heads (stands-first st) (omega arith) (omega (arith, enough)) (placed pl) in
         rw (t .place-is, by-act (expressionAt fuel e) (statementAt fuel e) e (getD (e .code) at 0) at p _ p 0 t)
         (bind (counts gr h p) (λ _ _ r₁ s₁ total₁ a.
-        bind (behind y k short deep (stands-rest st) p (a .after .related) (stays (a .after) un) (a .after .held ∙ z)) (λ v u r₂ s₂ total₂ b.
-        given (record { after = Results.onward (a .after) (b .after); flow = both-onward }))))
+        turned a (bind (behind y k short deep (stands-rest st) p (a .after .related) (stays (a .after) un) (a .after .held ∙ z)) (λ v u r₂ s₂ total₂ b.
+        given (record { after = b .after; flow = both-onward })))))
 
-    when-does : (p : ℕ) (y : Expression) (d : Statement) → Placed ts p → Known y ts → Fits (length (codeOf y ts) + length (codeOfStatement d ts)) → length (codeOf y ts) + reserve ≤ fuel
-        → Stands (e .code) at (codeOfStatement (when p y d) ts) → Does d fuel (at + length (codeOf y ts) + 1) → Does (when p y d) (suc fuel) at
+    when-does : {n : ℕ} (p : ℕ) (y : Expression) (d : Statement) → Placed ts p → Known y ts → Fits (length (codeOf y ts) + length (codeOfStatement d ts)) → length (codeOf y ts) + reserve ≤ fuel
+        → Stands (e .code) at (codeOfStatement (when p y d) ts) → Does n d fuel (at + length (codeOf y ts) + 1) → Does n (when p y d) (suc fuel) at
     unfolding codeOfStatement execute statementAt Act._>>=_ Run._>>=_ if_then_else_ Act.give Run.give
-    when-does p y d pl k short deep st inner r s total h un z =
+    when-does {n} p y d pl k short deep st inner r s total h un z low =
         let rest = stands-rest st in
         let size : length (codeOf y ts ++ codeOfStatement d ts) ≡ length (codeOf y ts) + length (codeOfStatement d ts) = length-append (codeOf y ts) (codeOfStatement d ts) in
         let t = heads (stands-first st) (omega arith) (omega (arith, size, enough)) (placed pl) in
         rw (t .place-is, by-when (expressionAt fuel e) (statementAt fuel e) e (getD (e .code) at 0) at p _ p (length (codeOf y ts)) t)
         (bind (counts gr h p) (λ _ _ r₁ s₁ total₁ a.
-        bind (valued y k fuel (at + 1) (at + length (codeOf y ts)) p deep (stands-front (codeOf y ts) (codeOfStatement d ts) rest) (omega arith)
+        turned a (bind (valued y k fuel (at + 1) (at + length (codeOf y ts)) p deep (stands-front (codeOf y ts) (codeOfStatement d ts) rest) (omega arith)
         (a .after .related) (stays (a .after) un) (a .after .held ∙ z) (omega arith)) (λ v u r₂ s₂ total₂ b.
-        rw (b .means) (flow-from (Results.onward (a .after) (b .after)) (with-boolean (b .after .related) p v (b .valid) _ _ (λ t.
-        branch t r₂ s₂ total₂ (b .after .related) (stays (b .after) (stays (a .after) un)) (b .after .held ∙ a .after .held ∙ z)))))))
+        rw (b .means) (flow-from (b .after) (with-boolean (b .after .related) p v (b .valid) _ _ (λ t.
+        branch t r₂ s₂ total₂ (b .after .related) (stays (b .after) (stays (a .after) un)) (b .after .held ∙ a .after .held ∙ z)
+        (room-stays (b .after) (room-stays (a .after) low)))))))))
       where
-        branch : (t : Bool) → Executes (if t then (λ _. statementAt fuel e (at + length (codeOf y ts) + 1)) else λ _. Act.give Onward)
+        branch : (t : Bool) → Ends n (if t then (λ _. statementAt fuel e (at + length (codeOf y ts) + 1)) else λ _. Act.give Onward)
             (if t then (λ _. execute (calling limit fs) d limit) else λ _. Run.give onward)
-        branch true = inner
-        branch false = λ r s total h un z. given (record { after = unmoved h; flow = both-onward })
+        branch true = λ r s total h un z low. ended (inner r s total h un z low)
+        branch false = λ r s total h un z low. given (record { after = unmoved h; flow = both-onward })
 
-    while-does : (p : ℕ) (y : Expression) (d : Statement) → Placed ts p → Known y ts → Fits (length (codeOf y ts) + length (codeOfStatement d ts)) → length (codeOf y ts) + reserve ≤ fuel
-        → Stands (e .code) at (codeOfStatement (while p y d) ts) → Does d fuel (at + length (codeOf y ts) + 1) → Does (while p y d) (suc fuel) at
+    while-does : {n : ℕ} (p : ℕ) (y : Expression) (d : Statement) → Placed ts p → Known y ts → Fits (length (codeOf y ts) + length (codeOfStatement d ts)) → length (codeOf y ts) + reserve ≤ fuel
+        → Stands (e .code) at (codeOfStatement (while p y d) ts) → Does n d fuel (at + length (codeOf y ts) + 1) → Does n (while p y d) (suc fuel) at
     unfolding codeOfStatement execute statementAt
-    while-does p y d pl k short deep st inner r s total h un z =
+    while-does p y d pl k short deep st inner r s total h un z low =
         let rest = stands-rest st in
         let size : length (codeOf y ts ++ codeOfStatement d ts) ≡ length (codeOf y ts) + length (codeOfStatement d ts) = length-append (codeOf y ts) (codeOfStatement d ts) in
         let t = heads (stands-first st) (omega arith) (omega (arith, size, enough)) (placed pl) in
         rw (t .place-is, by-while (expressionAt fuel e) (statementAt fuel e) e (getD (e .code) at 0) at p _ p (length (codeOf y ts)) t)
         (loops y k fuel (at + 1) (at + length (codeOf y ts)) p deep (stands-front (codeOf y ts) (codeOfStatement d ts) rest) (omega arith) (omega arith)
-        (statementAt fuel e (at + length (codeOf y ts) + 1)) (execute (calling limit fs) d limit) inner limit (stepsGranted (e .grants) + 1) r s total h un z (un .turns) (omega arith))
+        (statementAt fuel e (at + length (codeOf y ts) + 1)) (execute (calling limit fs) d limit) inner limit (stepsGranted (e .grants) + 1) r s total h un z low (un .turns) (omega arith))
+
+    foreach-does : {n : ℕ} (p : ℕ) (x : List ℕ) (y : Expression) (d : Statement) → 0 < n → Placed ts p → Occurs ts aName x → Known y ts → Owns (x ∷ [])
+        → Fits (length (codeOf y ts) + length (codeOfStatement d ts)) → length (codeOf y ts) + reserve ≤ fuel → Stands (e .code) at (codeOfStatement (foreach p x y d) ts)
+        → Does (n - 1) d fuel (at + (length (codeOf y ts) + 1) + 1) → Does n (foreach p x y d) (suc fuel) at
+    unfolding codeOfStatement execute statementAt isIn Act._>>=_ Run._>>=_
+    foreach-does {n} p x y d any pl o k own short deep st inner r s total h un z low =
+        let rest = stands-rest st in
+        let size : length (codeOf y ts ++ codeOfStatement d ts) ≡ length (codeOf y ts) + length (codeOfStatement d ts) = length-append (codeOf y ts) (codeOfStatement d ts) in
+        let t = heads (stands-first st) (omega arith) (omega (arith, size, enough)) (placed pl) in
+        let mine : isIn (slotOf ts x) (scopeOf (e .program) ts w) ≡ true = own (slotOf ts x) (rw (eq-eqb (slotOf ts x) (slotOf ts x) refl)) in
+        rw (t .place-is, by-foreach (expressionAt fuel e) (statementAt fuel e) e (getD (e .code) at 0) at p _ p (length (codeOf y ts) + 1) (slotOf ts x) (stands-first rest) t)
+        (bind (counts gr h p) (λ _ _ r₁ s₁ total₁ a.
+        let un₁ = stays (a .after) un in
+        turned a (bind (valued y k fuel (at + 1 + 1) (at + (length (codeOf y ts) + 1)) p deep (stands-front (codeOf y ts) (codeOfStatement d ts) (stands-rest rest)) (omega arith)
+        (a .after .related) un₁ (a .after .held ∙ z) (omega arith)) (λ v u r₂ s₂ total₂ b.
+        flow-from (b .after) (bind (uses (b .after .related) v u (b .valid) (b .means) p) (λ _ _ r₃ s₃ total₃ f.
+        let b₃ = still b f in
+        rw (b₃ .means) (flow-from f (with-group (f .related) p v (b₃ .valid) _ _ (λ i l grouped.
+        iterates (sane .few) gr x o w c limit base n busy any mine (statementAt fuel e (at + (length (codeOf y ts) + 1) + 1)) (execute (calling limit fs) d limit) inner p
+        (f .related) (stays (b₃ .after) un₁) (b₃ .after .held ∙ a .after .held ∙ z) (room-stays (b₃ .after) (room-stays (a .after) low)) i l grouped)))))))))
 
     -- a.b = c
     update-by : (y p n m : ℕ) → sizeAt (e .code) y ≡ n → sizeAt (e .code) (y - n) ≡ m → updateAt (expressionAt fuel e) e y p
@@ -299,11 +294,11 @@ module _ (e : Setting) {ts : List Token} (sane : Sane ts) (strings : Strings (e 
     unfolding updateAt updateIn updateValue
     update-by y p n m i j = rw (i, j)
 
-    update-does : (p : ℕ) (x y v : Expression) → Placed ts p → Known x ts → Known y ts → Known v ts
+    update-does : {n : ℕ} (p : ℕ) (x y v : Expression) → Placed ts p → Known x ts → Known y ts → Known v ts
         → Fits (length (codeOf x ts) + length (codeOf y ts) + length (codeOf v ts)) → length (codeOf x ts) + length (codeOf y ts) + length (codeOf v ts) + reserve ≤ fuel
-        → Stands (e .code) at (codeOfStatement (update p x y v) ts) → Does (update p x y v) (suc fuel) at
+        → Stands (e .code) at (codeOfStatement (update p x y v) ts) → Does n (update p x y v) (suc fuel) at
     unfolding codeOfStatement execute statementAt Act._>>=_ Run._>>=_
-    update-does p x y v pl kx ky kv short deep st r s total h un z =
+    update-does p x y v pl kx ky kv short deep st r s total h un z low =
         let a = codeOf x ts in
         let b = codeOf y ts in
         let d = codeOf v ts in
@@ -323,7 +318,7 @@ module _ (e : Setting) {ts : List Token} (sane : Sane ts) (strings : Strings (e 
         (rw (update-by (at + length a + length b + length d) p (length d) (length b) zd zb, j, i)
         (bind (counts gr h p) (λ _ _ r₁ s₁ total₁ f.
         let un₁ = stays (f .after) un in
-        bind (valued x kx fuel (at + 1) (at + length a) p (omega arith) sa (omega arith) (f .after .related) un₁ (f .after .held ∙ z) (omega arith)) (λ v₂ u r₂ s₂ total₂ f₂.
+        turned f (bind (valued x kx fuel (at + 1) (at + length a) p (omega arith) sa (omega arith) (f .after .related) un₁ (f .after .held ∙ z) (omega arith)) (λ v₂ u r₂ s₂ total₂ f₂.
         let un₂ = stays (f₂ .after) un₁ in
         rw (f₂ .means) (with-table (f₂ .after .related) p v₂ (f₂ .valid) _ _ (λ n made.
         bind (valued y ky fuel (at + 1 + length a) (at + length a + length b) p (omega arith) sb (omega arith) (f₂ .after .related) un₂
@@ -332,12 +327,12 @@ module _ (e : Setting) {ts : List Token} (sane : Sane ts) (strings : Strings (e 
         (f₃ .after .held ∙ f₂ .after .held ∙ f .after .held ∙ z) (omega arith)) (λ v₄ u₄ r₄ s₄ total₄ f₄.
         let k′ = still f₃ (f₄ .after) in
         rw (k′ .means, f₄ .means)
-        (flow-from (Results.onward (f .after) (Results.onward (f₂ .after) (Results.onward (f₃ .after) (f₄ .after))))
-        (stores (f₄ .after .related) n (le-trans made (le-trans (f₃ .after .later .tables) (f₄ .after .later .tables))) k (k′ .valid) v₄ (f₄ .valid) gr p))))))))))
+        (flow-from (Results.onward (f₂ .after) (Results.onward (f₃ .after) (f₄ .after)))
+        (stores (f₄ .after .related) n (le-trans made (le-trans (f₃ .after .later .tables) (f₄ .after .later .tables))) k (k′ .valid) v₄ (f₄ .valid) gr p)))))))))))
 
   -- ---- statements one after the other
-  abbrev DoesAll : Statements → ℕ → ℕ → ℕ → ℕ → Type 0
-  DoesAll ds fuel rounds a end = Executes (statementsFrom rounds (statementAt fuel e) e a end) (Execute.executeAll (calling limit fs) ds limit)
+  abbrev DoesAll : ℕ → Statements → ℕ → ℕ → ℕ → ℕ → Type 0
+  DoesAll n ds fuel rounds a end = Executes n (statementsFrom rounds (statementAt fuel e) e a end) (Execute.executeAll (calling limit fs) ds limit)
 
   -- one of them: it counts its words
   statement-size : (d : Statement) (a : ℕ) → Stands (e .code) a (codeOfStatement d ts) → Fits (length (codeOfStatement d ts)) → sizeAt (e .code) a ≡ length (codeOfStatement d ts)
@@ -355,45 +350,46 @@ module _ (e : Setting) {ts : List Token} (sane : Sane ts) (strings : Strings (e 
   unfolding statementsFrom if_then_else_
   by-first fuel rounds a end size x l = rw (lt-ltb a end l, x)
 
-  only-does : (d : Statement) (fuel rounds a end : ℕ) → Stands (e .code) a (codeOfStatement d ts) → Fits (length (codeOfStatement d ts))
-      → a + length (codeOfStatement d ts) ≡ end → Does d fuel a → DoesAll (only d) fuel (suc rounds) a end
+  only-does : {n : ℕ} (d : Statement) (fuel rounds a end : ℕ) → Stands (e .code) a (codeOfStatement d ts) → Fits (length (codeOfStatement d ts))
+      → a + length (codeOfStatement d ts) ≡ end → Does n d fuel a → DoesAll n (only d) fuel (suc rounds) a end
   unfolding Execute.executeAll Act._>>=_
-  only-does d fuel rounds a end st l q does r s total h un z =
+  only-does d fuel rounds a end st l q does r s total h un z low =
       rw (by-first fuel rounds a end (length (codeOfStatement d ts)) (statement-size d a st l) (omega (arith, statement-some d ts)), q, none-left fuel rounds end)
-      (act-after (λ f. continue f (Act.give Onward)) (λ f f′ r₁ s₁ total₁ w. done-with f f′ r₁ s₁ total₁ w) (does r s total h un z))
+      (act-after (λ f. continue f (Act.give Onward)) (λ f f′ r₁ s₁ total₁ w. done-with f f′ r₁ s₁ total₁ w) (does r s total h un z low))
     where
-      done-with : (f : Flow) (f′ : Execute.Flow) (r₁ : Raw) (s₁ : State) (total₁ : Amounts) → AfterFlow (e .program) ts (e .grants) r f f′ r₁ s₁ total₁
-          → Succeeds (Flows (e .program) ts (e .grants) r) (continue f (Act.give Onward) r₁) f′ s₁ total₁
-      done-with f f′ r₁ s₁ total₁ w = flow-done (w .flow) w
+      done-with : (f : Flow) (f′ : Execute.Flow) (r₁ : Raw) (s₁ : State) (total₁ : Amounts) → Turned (e .program) ts (e .grants) r f f′ r₁ s₁ total₁
+          → Succeeds (Turns (e .program) ts (e .grants) r) (continue f (Act.give Onward) r₁) f′ s₁ total₁
+      done-with f f′ r₁ s₁ total₁ w = flow-done (w .ends .flow) w
 
-  first-does : (d : Statement) (ds : Statements) (fuel rounds a end : ℕ) → Stands (e .code) a (codeOfStatement d ts) → Fits (length (codeOfStatement d ts))
-      → a + length (codeOfStatement d ts) < end → Does d fuel a → DoesAll ds fuel rounds (a + length (codeOfStatement d ts)) end
-      → DoesAll (first d ds) fuel (suc rounds) a end
+  first-does : {n : ℕ} (d : Statement) (ds : Statements) (fuel rounds a end : ℕ) → Stands (e .code) a (codeOfStatement d ts) → Fits (length (codeOfStatement d ts))
+      → a + length (codeOfStatement d ts) < end → Does n d fuel a → DoesAll n ds fuel rounds (a + length (codeOfStatement d ts)) end
+      → DoesAll n (first d ds) fuel (suc rounds) a end
   unfolding Execute.executeAll Act._>>=_ Run._>>=_
-  first-does d ds fuel rounds a end st l q does more r s total h un z =
+  first-does d ds fuel rounds a end st l q does more r s total h un z low =
       rw (by-first fuel rounds a end (length (codeOfStatement d ts)) (statement-size d a st l) (omega arith))
-      (bind (does r s total h un z) (λ f f′ r₁ s₁ total₁ w.
-      continues _ _ w (flow-from (w .after) (more r₁ s₁ total₁ (w .after .related) (stays (w .after) un) (w .after .held ∙ z)))))
+      (bind (does r s total h un z low) (λ f f′ r₁ s₁ total₁ w.
+      let a = w .ends .after in
+      goes-on _ _ (w .ends .flow) (turned-from a (more r₁ s₁ total₁ (a .related) (stays a un) (a .held ∙ z) (room-stays a low))) w))
 
-  block-does : (p : ℕ) (ds : Statements) (fuel at : ℕ) → Placed ts p → Fits (length (codeOfStatements ds ts)) → Stands (e .code) at (codeOfStatement (block p ds) ts)
-      → DoesAll ds fuel (length (codeOfStatements ds ts) + 1 + 1) (at + 1) (at + (length (codeOfStatements ds ts) + 1)) → Does (block p ds) (suc fuel) at
+  block-does : {n : ℕ} (p : ℕ) (ds : Statements) (fuel at : ℕ) → Placed ts p → Fits (length (codeOfStatements ds ts)) → Stands (e .code) at (codeOfStatement (block p ds) ts)
+      → DoesAll n ds fuel (length (codeOfStatements ds ts) + 1 + 1) (at + 1) (at + (length (codeOfStatements ds ts) + 1)) → Does n (block p ds) (suc fuel) at
   unfolding codeOfStatement execute statementAt Act._>>=_ Run._>>=_
-  block-does p ds fuel at pl short st inner r s total h un z =
+  block-does p ds fuel at pl short st inner r s total h un z low =
       let t : Heads (getD (e .code) at 0) tagBlock (length (codeOfStatements ds ts) + 1) p 0 = heads (stands-first st) (omega arith) (omega (arith, enough)) (placed pl) in
       rw (t .place-is, by-block (expressionAt fuel e) (statementAt fuel e) e (getD (e .code) at 0) at p _ p 0 t)
       (bind (counts gr h p) (λ _ _ r₁ s₁ total₁ a.
-      flow-from (a .after) (inner r₁ s₁ total₁ (a .after .related) (stays (a .after) un) (a .after .held ∙ z))))
+      turned a (ended (inner r₁ s₁ total₁ (a .after .related) (stays (a .after) un) (a .after .held ∙ z) (room-stays (a .after) low)))))
 
   -- ---- all statements
-  deeper : (d : Statement) (fuel at : ℕ) → length (codeOfStatement d ts) + reserve ≤ fuel → Does d (suc (fuel - 1)) at → Does d fuel at
-  deeper d fuel at l f =
+  deeper : {n : ℕ} (d : Statement) (fuel at : ℕ) → length (codeOfStatement d ts) + reserve ≤ fuel → Does n d (suc (fuel - 1)) at → Does n d fuel at
+  deeper {n} d fuel at l f =
       let m : suc (fuel - 1) ≡ fuel = omega (arith, statement-some d ts) in
-      subst (λ n. Does d n at) m f
+      subst (λ k. Does n d k at) m f
 
-  longer : (ds : Statements) (fuel rounds a end : ℕ) → 0 < rounds → DoesAll ds fuel (suc (rounds - 1)) a end → DoesAll ds fuel rounds a end
-  longer ds fuel rounds a end l f =
+  longer : {n : ℕ} (ds : Statements) (fuel rounds a end : ℕ) → 0 < rounds → DoesAll n ds fuel (suc (rounds - 1)) a end → DoesAll n ds fuel rounds a end
+  longer {n} ds fuel rounds a end l f =
       let m : suc (rounds - 1) ≡ rounds = omega arith in
-      subst (λ n. DoesAll ds fuel n a end) m f
+      subst (λ k. DoesAll n ds fuel k a end) m f
 
   all-some : (ds : Statements) → 0 < length (codeOfStatements ds ts)
   unfolding codeOfStatements
@@ -401,53 +397,62 @@ module _ (e : Setting) {ts : List Token} (sane : Sane ts) (strings : Strings (e 
   all-some (first d ds) = simp length-append (omega (arith, statement-some d ts))
 
   mutual
-    unfolding codeOfStatement codeOfStatements KnownStatement KnownStatements declaredIn declaredBy
+    unfolding codeOfStatement codeOfStatements KnownStatement KnownStatements declaredIn declaredBy Nests NestsAll
 
-    pub executes : (d : Statement) → KnownStatement d ts → Owns (declaredIn d) → (fuel at : ℕ) → Stands (e .code) at (codeOfStatement d ts)
-        → length (codeOfStatement d ts) + reserve ≤ fuel → Fits (length (codeOfStatement d ts)) → Does d fuel at
-    executes (declare p x) k own fuel at st l m = deeper (declare p x) fuel at l (declare-does (fuel - 1) at p x (k .0) (k .1) own st)
-    executes (assign p x y) k own fuel at st l m =
+    pub executes : (n : ℕ) (d : Statement) → Nests n d → KnownStatement d ts → Owns (declaredIn d) → (fuel at : ℕ) → Stands (e .code) at (codeOfStatement d ts)
+        → length (codeOfStatement d ts) + reserve ≤ fuel → Fits (length (codeOfStatement d ts)) → Does n d fuel at
+    executes n (declare p x) ne k own fuel at st l m = deeper (declare p x) fuel at l (declare-does (fuel - 1) at p x (k .0) (k .1) own st)
+    executes n (assign p x y) ne k own fuel at st l m =
         deeper (assign p x y) fuel at l (assign-does (fuel - 1) at p x y (k .0) (k .1) (k .2) (omega arith) (omega arith) st)
-    executes (update p x y v) k own fuel at st l m =
+    executes n (update p x y v) ne k own fuel at st l m =
         let long = simp length-append at m in
         let long′ = simp length-append at l in
         deeper (update p x y v) fuel at l (update-does (fuel - 1) at p x y v (k .0) (k .1) (k .2) (k .3) (omega arith) (omega arith) st)
-    executes (when p y d) k own fuel at st l m =
+    executes n (when p y d) ne k own fuel at st l m =
         let long = simp length-append at m in
         let long′ = simp length-append at l in
         let there : at + 1 + length (codeOf y ts) ≡ at + length (codeOf y ts) + 1 = omega arith in
         let here = subst (λ i. Stands (e .code) i (codeOfStatement d ts)) there (stands-back (codeOf y ts) (codeOfStatement d ts) (stands-rest st)) in
         deeper (when p y d) fuel at l (when-does (fuel - 1) at p y d (k .0) (k .1) (omega arith) (omega arith) st
-        (executes d (k .2) own (fuel - 1) (at + length (codeOf y ts) + 1) here (omega arith) (omega arith)))
-    executes (while p y d) k own fuel at st l m =
+        (executes n d ne (k .2) own (fuel - 1) (at + length (codeOf y ts) + 1) here (omega arith) (omega arith)))
+    executes n (while p y d) ne k own fuel at st l m =
         let long = simp length-append at m in
         let long′ = simp length-append at l in
         let there : at + 1 + length (codeOf y ts) ≡ at + length (codeOf y ts) + 1 = omega arith in
         let here = subst (λ i. Stands (e .code) i (codeOfStatement d ts)) there (stands-back (codeOf y ts) (codeOfStatement d ts) (stands-rest st)) in
         deeper (while p y d) fuel at l (while-does (fuel - 1) at p y d (k .0) (k .1) (omega arith) (omega arith) st
-        (executes d (k .2) own (fuel - 1) (at + length (codeOf y ts) + 1) here (omega arith) (omega arith)))
-    executes (return p y) k own fuel at st l m = deeper (return p y) fuel at l (return-does (fuel - 1) at p y (k .0) (k .1) (omega arith) (omega arith) st)
-    executes (block p ds) k own fuel at st l m =
+        (executes n d ne (k .2) own (fuel - 1) (at + length (codeOf y ts) + 1) here (omega arith) (omega arith)))
+    executes n (foreach p x y d) ne k own fuel at st l m =
+        let long = simp length-append at m in
+        let long′ = simp length-append at l in
+        let there : at + 1 + 1 + length (codeOf y ts) ≡ at + (length (codeOf y ts) + 1) + 1 = omega arith in
+        let here = subst (λ i. Stands (e .code) i (codeOfStatement d ts)) there (stands-back (codeOf y ts) (codeOfStatement d ts) (stands-rest (stands-rest st))) in
+        deeper (foreach p x y d) fuel at l (foreach-does (fuel - 1) at p x y d (ne .0) (k .0) (k .1) (k .2) (λ slot i. own slot (mapped-left (slotOf ts) slot (x ∷ []) (declaredIn d) i))
+        (omega arith) (omega arith) st
+        (executes (n - 1) d (ne .1) (k .3) (λ slot i. own slot (mapped-right (slotOf ts) slot (x ∷ []) (declaredIn d) i)) (fuel - 1) (at + (length (codeOf y ts) + 1) + 1) here
+        (omega arith) (omega arith)))
+    executes n (return p y) ne k own fuel at st l m = deeper (return p y) fuel at l (return-does (fuel - 1) at p y (k .0) (k .1) (omega arith) (omega arith) st)
+    executes n (block p ds) ne k own fuel at st l m =
         deeper (block p ds) fuel at l (block-does p ds (fuel - 1) at (k .0) (omega arith) st
-        (executes-all ds (k .1) own (fuel - 1) (length (codeOfStatements ds ts) + 1 + 1) (at + 1) (at + (length (codeOfStatements ds ts) + 1)) (stands-rest st)
+        (executes-all n ds ne (k .1) own (fuel - 1) (length (codeOfStatements ds ts) + 1 + 1) (at + 1) (at + (length (codeOfStatements ds ts) + 1)) (stands-rest st)
         (omega arith) (omega arith) (omega arith) (omega arith)))
-    executes (act p y) k own fuel at st l m = deeper (act p y) fuel at l (act-does (fuel - 1) at p y (k .0) (k .1) (omega arith) (omega arith) st)
+    executes n (act p y) ne k own fuel at st l m = deeper (act p y) fuel at l (act-does (fuel - 1) at p y (k .0) (k .1) (omega arith) (omega arith) st)
 
-    pub executes-all : (ds : Statements) → KnownStatements ds ts → Owns (declaredBy ds) → (fuel rounds a end : ℕ) → Stands (e .code) a (codeOfStatements ds ts)
+    pub executes-all : (n : ℕ) (ds : Statements) → NestsAll n ds → KnownStatements ds ts → Owns (declaredBy ds) → (fuel rounds a end : ℕ) → Stands (e .code) a (codeOfStatements ds ts)
         → length (codeOfStatements ds ts) + reserve ≤ fuel → Fits (length (codeOfStatements ds ts)) → length (codeOfStatements ds ts) < rounds
-        → a + length (codeOfStatements ds ts) ≡ end → DoesAll ds fuel rounds a end
-    executes-all (only d) k own fuel rounds a end st l m n q =
-        longer (only d) fuel rounds a end (omega arith) (only-does d fuel (rounds - 1) a end st m q (executes d k own fuel a st l m))
-    executes-all (first d ds) k own fuel rounds a end st l m n q =
+        → a + length (codeOfStatements ds ts) ≡ end → DoesAll n ds fuel rounds a end
+    executes-all n (only d) ne k own fuel rounds a end st l m o q =
+        longer (only d) fuel rounds a end (omega arith) (only-does d fuel (rounds - 1) a end st m q (executes n d ne k own fuel a st l m))
+    executes-all n (first d ds) ne k own fuel rounds a end st l m o q =
         let long = simp length-append at l in
         let long′ = simp length-append at m in
-        let long″ = simp length-append at n in
+        let long″ = simp length-append at o in
         let long‴ = simp length-append at q in
         let some = all-some ds in
         let one = statement-some d ts in
         longer (first d ds) fuel rounds a end (omega arith)
         (first-does d ds fuel (rounds - 1) a end (stands-front (codeOfStatement d ts) (codeOfStatements ds ts) st) (omega arith) (omega arith)
-        (executes d (k .0) (λ slot i. own slot (mapped-left (slotOf ts) slot (declaredIn d) (declaredBy ds) i)) fuel a
+        (executes n d (ne .0) (k .0) (λ slot i. own slot (mapped-left (slotOf ts) slot (declaredIn d) (declaredBy ds) i)) fuel a
         (stands-front (codeOfStatement d ts) (codeOfStatements ds ts) st) (omega arith) (omega arith))
-        (executes-all ds (k .1) (λ slot i. own slot (mapped-right (slotOf ts) slot (declaredIn d) (declaredBy ds) i)) fuel (rounds - 1) (a + length (codeOfStatement d ts)) end
+        (executes-all n ds (ne .1) (k .1) (λ slot i. own slot (mapped-right (slotOf ts) slot (declaredIn d) (declaredBy ds) i)) fuel (rounds - 1) (a + length (codeOfStatement d ts)) end
         (stands-back (codeOfStatement d ts) (codeOfStatements ds ts) st) (omega arith) (omega arith) (omega arith) (omega arith)))

@@ -1,6 +1,7 @@
 -- Entries stored: a new one added, or the one with the key overwritten.
 use Prim.Native.Nat.{ℕ, suc, _+_, _-_, _*_, _%_, _^_, _≤_, _<_}
 use native.Mathlib.Omega.{arith}
+use native.Mathlib.Nat.{mod-eq-of-lt}
 use mathlib.Core.Path.{_≡_, refl, ap, ap₂, sym, _∙_}
 use mathlib.Core.Logic.{_≢_}
 use mathlib.Core.Bool.{Bool, true, false}
@@ -15,16 +16,18 @@ use Rattle.meaning.specs.Basics.{if_then_else_}
 use Rattle.meaning.specs.Token.{Token}
 use Rattle.meaning.proofs.KeyLaws.{sameKey-same}
 use Rattle.meaning.specs.Value as Value
-use Rattle.meaning.specs.State.{State, Key, Entry, matches, overwritten, withEntries}
+use Rattle.meaning.specs.State.{State, Key, Entry, matches, entryIn, overwritten, withEntries}
 use Rattle.meaning.specs.Run as Run
 use Rattle.meaning.specs.Book.{Amounts, added, resourceNumber, shortageOf}
+use Rattle.meaning.specs.Evaluate as Evaluate
 use Rattle.meaning.specs.Execute.{storing, updating}
+use Rattle.meaning.specs.Execute as Execute
 use Rattle.machine.specs.declared.Value.{Value}
 use Rattle.machine.specs.Words.{packed, unpacked}
-use Rattle.machine.specs.Layout.{stepsUsed, shapesUsed, entriesUsed, textUsed, tablesMade, declared, argumentsHeld, callsUsed, shapesGranted, entriesGranted, fixedWords, entryPlace}
+use Rattle.machine.specs.Layout.{entriesUsed, tablesMade, entriesMade, componentsMade, shapesGranted, entriesGranted, fixedWords, entryPlace, componentPlace}
 use Rattle.machine.specs.Act.{Raw, raw}
 use Rattle.machine.specs.Act as Act
-use Rattle.machine.specs.Tables.{ownerAt, keyAt, valueAt, linkAt, findEntry, bucketOf, headPlace, entryLaid, putEntry, addEntry, storeIn, storeEntry}
+use Rattle.machine.specs.Tables.{ownerAt, keyAt, valueAt, linkAt, findEntry, bucketOf, headPlace, entryLaid, putEntry, addEntry, storeIn, storeEntry, isGroupKey}
 use Rattle.machine.specs.declared.Flow.the-variants.{Onward}
 use Rattle.simulation.specs.Meant.{meantValue, meantWord, listed, shapesOf, keyAmong, meantKey, entryAt, entriesOf}
 use Rattle.simulation.specs.Sound.{Valid, Entries}
@@ -35,116 +38,25 @@ use Rattle.tables.proofs.IndexLaws.{bucket-less}
 use Rattle.simulation.specs.Index.{lies}
 use Rattle.simulation.proofs.Index.{last-le}
 use Rattle.simulation.proofs.Indexing.{index-agrees, index-added}
-use Rattle.simulation.proofs.Frames.{
-  valid-later,
-  key-later,
-  content-later,
-  untouched-words,
-  SameVariables,
-  same-words,
-  variables-kept,
-  variables-same,
-  SameWaiting,
-  same-waiting,
-  SameShapes,
-  shapes-kept,
-  shapes-same,
-}
-use Rattle.simulation.proofs.Results.{due, given, Untouched, After, steps-told, spent-then}
-use Rattle.simulation.proofs.Counting.{figure-same}
-use Rattle.simulation.proofs.Shapes.{up-to, read-four, read-first, read-second, read-third, read-fourth}
-use Rattle.simulation.proofs.Keys.{back-again}
-use Rattle.simulation.proofs.Lookup.{key-is, matches-alike, others, found-less, found-meets, missing-all, missing, present, one-overwritten}
+use Rattle.simulation.proofs.Frames.{valid-later}
+use Rattle.simulation.proofs.Holding.{key-later, content-later, atom-kept}
+use Rattle.simulation.proofs.Results.{due, given, failed, After, steps-told, spent-then}
+use Rattle.simulation.proofs.Growing.{up-to, length-four, read-four, read-first, read-second, read-third, read-fourth}
+use Rattle.simulation.proofs.Keys.{IsKey, back-again, value-key, key-no-group}
+use Rattle.simulation.proofs.Lookup.{key-is, matches-alike, others, found-less, found-meets, missing-all, missing, present, one-overwritten, group-no-key}
 use Rattle.simulation.proofs.Flows.{both-onward, AfterFlow, Flows}
-
--- ---- nothing but entries has changed
-module _ {program : List ℕ} {ts : List Token} {g : List ℕ} {r : Raw} {s : State} {total : Amounts} (h : Related program ts g r s total) (ws′ : List ℕ)
-    (low : (j : ℕ) → j ≢ entriesUsed → j < fixedWords + 3 * shapesGranted g → getD ws′ j 0 ≡ getD (r .words) j 0) where
-  counter : (j : ℕ) → j ≢ entriesUsed → j < 80 → getD ws′ j 0 ≡ getD (r .words) j 0
-  counter j n l = low j n (omega arith)
-
-  pub stored-later : Later program r (raw (r .texts) ws′)
-  stored-later = record {
-    steps = omega (arith, counter stepsUsed (λ e. omega arith) (omega arith));
-    shapes = omega (arith, counter shapesUsed (λ e. omega arith) (omega arith));
-    text = omega (arith, counter textUsed (λ e. omega arith) (omega arith));
-    tables = omega (arith, counter tablesMade (λ e. omega arith) (omega arith));
-    texts = λ t v. refl;
-    figures = λ i l. figure-same (r .words) ws′ i (λ j k. low _ (λ e. omega arith) (omega (arith, h .sound .counted .shapes)));
-  }
-
-  stored-variables : SameVariables stored-later
-  stored-variables = same-words stored-later (counter declared (λ e. omega arith) (omega arith)) (λ i a b. low i (λ e. omega arith) (omega arith))
-
-  stored-untouched : Untouched r (raw (r .texts) ws′)
-  stored-untouched = untouched-words (λ i a b. low i (λ e. omega arith) (omega arith)) (λ k l. low _ (λ e. omega arith) (omega arith))
-
-  stored-waiting : SameWaiting program ts r (raw (r .texts) ws′)
-  stored-waiting = same-waiting stored-later stored-untouched (omega (arith, counter argumentsHeld (λ e. omega arith) (omega arith))) (h .sound .waiting) ts
-
-  stored-shapes : SameShapes stored-later
-  stored-shapes = record {
-    count = counter shapesUsed (λ e. omega arith) (omega arith);
-    words = λ i j a b. low _ (λ e. omega arith) (omega (arith, h .sound .counted .shapes));
-  }
-
-  pub stored : (es : List Entry) (total′ : Amounts) → length ws′ ≡ length (r .words) → getD ws′ entriesUsed 0 ≤ entriesGranted g → Entries program g (raw (r .texts) ws′)
-      → es ≡ entriesOf program g (raw (r .texts) ws′)
-      → total′ Run.steps ≡ total Run.steps → total′ Run.shapes ≡ total Run.shapes → total′ Run.entries ≡ getD ws′ entriesUsed 0 → total′ Run.textBytes ≡ total Run.textBytes
-      → total′ Run.calls ≡ total Run.calls
-      → After program ts g r (raw (r .texts) ws′) (withEntries s es) total′
-  stored es total′ long fit en e a b c d f = let n = h .sound .counted in let l = h .sound .lent in record {
-    related = record {
-      sound = record {
-        lent = record {
-          room = record { steps = l .room .steps; shapes = l .room .shapes; entries = l .room .entries; text = l .room .text; calls = l .room .calls; words = rw long (l .room .words) };
-          texts = l .texts;
-        };
-        counted = record {
-          steps = rw (counter stepsUsed (λ e. omega arith) (omega arith)) (n .steps);
-          shapes = rw (counter shapesUsed (λ e. omega arith) (omega arith)) (n .shapes);
-          entries = fit;
-          text = rw (counter textUsed (λ e. omega arith) (omega arith)) (n .text);
-          tables = rw (counter tablesMade (λ e. omega arith) (omega arith), counter stepsUsed (λ e. omega arith) (omega arith)) (n .tables);
-          arguments = rw (counter argumentsHeld (λ e. omega arith) (omega arith)) (n .arguments);
-          calls = rw (counter callsUsed (λ e. omega arith) (omega arith)) (n .calls);
-        };
-        variables = variables-kept stored-later stored-variables ts (h .sound .variables);
-        waiting = stored-waiting .waiting;
-        shapes = shapes-kept stored-later stored-shapes (h .sound .shapes);
-        entries = en;
-      };
-      variables = h .variables ∙ sym (variables-same stored-later stored-variables ts (h .sound .variables));
-      suspended = h .suspended ∙ sym (stored-waiting .suspended);
-      shapes = h .shapes ∙ sym (shapes-same stored-later stored-shapes (h .sound .shapes));
-      tables = h .tables ∙ sym (counter tablesMade (λ e. omega arith) (omega arith));
-      entries = e;
-      stepsTaken = a ∙ h .stepsTaken ∙ sym (counter stepsUsed (λ e. omega arith) (omega arith));
-      shapesTaken = b ∙ h .shapesTaken ∙ sym (counter shapesUsed (λ e. omega arith) (omega arith));
-      entriesTaken = c;
-      textTaken = d ∙ h .textTaken ∙ sym (counter textUsed (λ e. omega arith) (omega arith));
-      callsTaken = f ∙ h .callsTaken ∙ sym (counter callsUsed (λ e. omega arith) (omega arith));
-    };
-    later = stored-later;
-    spare = omega (arith, counter stepsUsed (λ e. omega arith) (omega arith), counter tablesMade (λ e. omega arith) (omega arith));
-    held = counter argumentsHeld (λ e. omega arith) (omega arith);
-    untouched = stored-untouched;
-  }
-
-  -- what an entry is called and holds, by its words
-  pub key-stays : (w : ℕ) → Valid program (r .words) (unpacked w) → meantKey program (raw (r .texts) ws′) w ≡ meantKey program r w
-  key-stays w l = key-later stored-later (h .sound .shapes) (unpacked w) l
+use Rattle.simulation.proofs.Kept.{stored-later, stored-components, stored, key-stays}
 
 module _ {program : List ℕ} {ts : List Token} {g : List ℕ} {r : Raw} {s : State} {total : Amounts} (h : Related program ts g r s total)
-    (t : ℕ) (made : t < getD (r .words) tablesMade 0) (v : Value) (valid : Valid program (r .words) v) (w : Value) (valid′ : Valid program (r .words) w) where
+    (t : ℕ) (made : t < getD (r .words) tablesMade 0) (v : Value) (valid : Valid program (r .words) v) (known : IsKey (h .sound) v) (w : Value) (valid′ : Valid program (r .words) w) where
   abbrev used : ℕ
-  used = getD (r .words) entriesUsed 0
+  used = getD (r .words) entriesMade 0
 
   abbrev found : ℕ
   found = findEntry program g (r .texts) (r .words) t (packed v)
 
   abbrev key : Key
-  key = keyAmong (shapesOf program r) (meantValue program (r .texts) v)
+  key = keyAmong (shapesOf program g r) (meantValue program (r .texts) v)
 
   old : Entries program g r
   old = h .sound .entries
@@ -155,13 +67,16 @@ module _ {program : List ℕ} {ts : List Token} {g : List ℕ} {r : Raw} {s : St
   back-key : unpacked (packed v) ≡ v
   back-key = back-again (h .sound) v valid
 
+  no-group : isGroupKey (r .words) (packed v) ≡ false
+  no-group = key-no-group (h .sound) v known
+
   -- ---- overwritten
   module _ (n : findEntry program g (r .texts) (r .words) t (packed v) ≢ 0) where
     abbrev at : ℕ
     at = findEntry program g (r .texts) (r .words) t (packed v) - 1
 
     less : at < used
-    less = found-less h t v valid n
+    less = found-less h t v valid known n
 
     abbrev over : List ℕ
     over = set (r .words) (entryPlace g (findEntry program g (r .texts) (r .words) t (packed v) - 1) + 2) (packed w)
@@ -170,13 +85,19 @@ module _ {program : List ℕ} {ts : List Token} {g : List ℕ} {r : Raw} {s : St
     over-other j d = getD-set-other (r .words) (entryPlace g at + 2) j (packed w) 0 d
 
     over-own : valueAt g over at ≡ packed w
-    over-own = getD-set-same (r .words) (entryPlace g at + 2) (packed w) 0 (omega (arith, less, h .sound .counted .entries, h .sound .lent .room .words))
+    over-own = getD-set-same (r .words) (entryPlace g at + 2) (packed w) 0 (omega (arith, less, h .sound .counted .made, h .sound .counted .entries, h .sound .lent .room .words))
 
-    over-low : (j : ℕ) → j ≢ entriesUsed → j < fixedWords + 3 * shapesGranted g → getD over j 0 ≡ getD (r .words) j 0
-    over-low j d l = over-other j (λ e. omega arith)
+    over-low : (j : ℕ) → j ≢ entriesUsed → j ≢ entriesMade → j < fixedWords + 5 * shapesGranted g → getD over j 0 ≡ getD (r .words) j 0
+    over-low j d m l = over-other j (λ e. omega arith)
 
-    over-count : getD over entriesUsed 0 ≡ used
-    over-count = over-other entriesUsed (λ e. omega arith)
+    over-high : (j : ℕ) → componentPlace g 0 ≤ j → getD over j 0 ≡ getD (r .words) j 0
+    over-high j l = over-other j (λ e. omega (arith, less, h .sound .counted .made, h .sound .counted .entries))
+
+    over-count : getD over entriesMade 0 ≡ used
+    over-count = over-other entriesMade (λ e. omega arith)
+
+    over-used : getD over entriesUsed 0 ≡ getD (r .words) entriesUsed 0
+    over-used = over-other entriesUsed (λ e. omega arith)
 
     over-first : (k : ℕ) → getD over (entryPlace g k) 0 ≡ getD (r .words) (entryPlace g k) 0
     over-first k = over-other _ (λ e. omega arith)
@@ -191,10 +112,10 @@ module _ {program : List ℕ} {ts : List Token} {g : List ℕ} {r : Raw} {s : St
     over-value k d = over-other _ (λ e. d (omega arith))
 
     abbrev over-later : Later program r (raw (r .texts) over)
-    over-later = stored-later h over over-low
+    over-later = stored-later h over over-low over-high
 
-    over-meant : (k : ℕ) → k < used → meantKey program (raw (r .texts) over) (keyAt g over k) ≡ meantKey program r (keyAt g (r .words) k)
-    over-meant k l = rw (over-key k) (key-stays h over over-low (keyAt g (r .words) k) (old .keys k l))
+    over-meant : (k : ℕ) → k < used → meantKey program g (raw (r .texts) over) (keyAt g over k) ≡ meantKey program g r (keyAt g (r .words) k)
+    over-meant k l = rw (over-key k) (key-stays h over over-low over-high (keyAt g (r .words) k) (old .keys k l))
 
     over-holds : (k : ℕ) → k < used → Valid program over (unpacked (valueAt g over k))
     over-holds k l = go (eqb k at) refl
@@ -207,6 +128,7 @@ module _ {program : List ℕ} {ts : List Token} {g : List ℕ} {r : Raw} {s : St
     over-entries = record {
       packs = λ k l. rw (over-key k) (old .packs k (rw over-count at l));
       keys = λ k l. rw (over-key k) (valid-later over-later _ (old .keys k (rw over-count at l)));
+      atoms = λ k l. let m = rw over-count at l in rw (over-key k) (atom-kept over-later (h .sound .shapes) (keyAt g (r .words) k) (old .keys k m) (old .atoms k m));
       holds = λ k l. over-holds k (rw over-count at l);
       apart = λ j k a b x y.
           let p = rw over-count at a in
@@ -216,7 +138,7 @@ module _ {program : List ℕ} {ts : List Token} {g : List ℕ} {r : Raw} {s : St
           (record {
             firsts = λ k l. over-first k;
             keys = λ k l. over-key k;
-            contents = λ k l. content-later over-later (h .sound .shapes) (keyAt g (r .words) k) (old .keys k l);
+            contents = λ k l. content-later over-later (h .sound .shapes) (keyAt g (r .words) k) (old .keys k l) (old .atoms k l);
           })
           over-count (λ b l. over-other _ (λ e. omega arith)) (old .index);
     }
@@ -241,14 +163,15 @@ module _ {program : List ℕ} {ts : List Token} {g : List ℕ} {r : Raw} {s : St
     over-list : overwritten (s .entries) t key (meantValue program (r .texts) w) ≡ entriesOf program g (raw (r .texts) over)
     unfolding entriesOf
     over-list = rw (h .entries) (one-overwritten (entryAt program g r) t key (meantValue program (r .texts) w) (entryAt program g (raw (r .texts) over)) 0 used at
-        (omega arith) (omega (arith, less)) (matches-alike h t v valid at less ∙ found-meets h t v valid n)
-        (λ j a b d. matches-alike h t v valid j (omega arith) ∙ others h t v valid at less (found-meets h t v valid n) j (omega arith) d)
+        (omega arith) (omega (arith, less)) (matches-alike h t v valid known at less ∙ found-meets h t v valid known n)
+        (λ j a b d. matches-alike h t v valid known j (omega arith) ∙ others h t v valid known at less (found-meets h t v valid known n) j (omega arith) d)
         over-this (λ j a b d. over-that j (omega arith) d)
         ∙ ap (listed (entryAt program g (raw (r .texts) over)) 0) (sym over-count))
 
     pub overwrites : After program ts g r (raw (r .texts) over) (withEntries s (overwritten (s .entries) t key (meantValue program (r .texts) w))) total
-    overwrites = stored h over over-low (overwritten (s .entries) t key (meantValue program (r .texts) w)) total (length-set (r .words) (entryPlace g at + 2) (packed w))
-        (rw over-count (h .sound .counted .entries)) over-entries over-list refl refl (h .entriesTaken ∙ sym over-count) refl refl
+    overwrites = stored h over over-low over-high (overwritten (s .entries) t key (meantValue program (r .texts) w)) total (length-set (r .words) (entryPlace g at + 2) (packed w))
+        (rw over-used (h .sound .counted .entries)) (rw (over-count, over-other componentsMade (λ e. omega arith), over-used) (h .sound .counted .made)) over-entries over-list refl refl
+        (h .entriesTaken ∙ sym over-used) refl refl
 
   -- ---- added
   module _ (none : findEntry program g (r .texts) (r .words) t (packed v) ≡ 0) (fit : getD (r .words) entriesUsed 0 + 1 ≤ entriesGranted g) where
@@ -256,34 +179,52 @@ module _ {program : List ℕ} {ts : List Token} {g : List ℕ} {r : Raw} {s : St
     bucket = bucketOf program g (r .texts) (r .words) t (packed v)
 
     abbrev place : ℕ
-    place = entryPlace g (getD (r .words) entriesUsed 0)
+    place = entryPlace g (getD (r .words) entriesMade 0)
 
     abbrev head : ℕ
     head = headPlace g bucket
 
     abbrev paid : List ℕ
-    paid = set (r .words) entriesUsed (getD (r .words) entriesUsed 0 + 1)
+    paid = set (set (r .words) entriesUsed (getD (r .words) entriesUsed 0 + 1)) entriesMade (getD (r .words) entriesMade 0 + 1)
 
     abbrev more : List ℕ
-    more = entryLaid (set (r .words) entriesUsed (getD (r .words) entriesUsed 0 + 1)) (entryPlace g (getD (r .words) entriesUsed 0))
-        (headPlace g (bucketOf program g (r .texts) (r .words) t (packed v))) t (packed v) (packed w) (getD (r .words) entriesUsed 0 + 1)
+    more = entryLaid (set (set (r .words) entriesUsed (getD (r .words) entriesUsed 0 + 1)) entriesMade (getD (r .words) entriesMade 0 + 1)) (entryPlace g (getD (r .words) entriesMade 0))
+        (headPlace g (bucketOf program g (r .texts) (r .words) t (packed v))) t (packed v) (packed w) (getD (r .words) entriesMade 0 + 1)
+
+    few : used + 1 ≤ entriesGranted g
+    few = omega (arith, fit, h .sound .counted .made)
 
     long : place + 3 ≤ length (r .words)
-    long = omega (arith, fit, h .sound .lent .room .words)
+    long = omega (arith, few, h .sound .lent .room .words)
+
+    length-paid : length paid ≡ length (r .words)
+    length-paid = length-set (set (r .words) entriesUsed (getD (r .words) entriesUsed 0 + 1)) entriesMade (used + 1) ∙ length-set (r .words) entriesUsed (getD (r .words) entriesUsed 0 + 1)
 
     long-paid : place + 3 ≤ length paid
-    long-paid = rw (length-set (r .words) entriesUsed (used + 1)) long
+    long-paid = rw length-paid long
 
-    more-other : (j : ℕ) → j ≢ entriesUsed → j ≢ place → j ≢ place + 1 → j ≢ place + 2 → j ≢ head → getD more j 0 ≡ getD (r .words) j 0
-    more-other j a b c d e =
-        read-four paid place (place + 1) (place + 2) head (t + 2 ^ 40 * (getD paid head 0 % 2 ^ 16)) (packed v) (packed w) (used + 1) j b c d e
-        ∙ getD-set-other (r .words) 2 j (used + 1) 0 a
+    paid-other : (j : ℕ) → j ≢ entriesUsed → j ≢ entriesMade → getD paid j 0 ≡ getD (r .words) j 0
+    paid-other j a b =
+        getD-set-other (set (r .words) entriesUsed (getD (r .words) entriesUsed 0 + 1)) entriesMade j (used + 1) 0 b
+        ∙ getD-set-other (r .words) entriesUsed j (getD (r .words) entriesUsed 0 + 1) 0 a
 
-    more-count : getD more entriesUsed 0 ≡ used + 1
+    more-paid : (j : ℕ) → j ≢ place → j ≢ place + 1 → j ≢ place + 2 → j ≢ head → getD more j 0 ≡ getD paid j 0
+    more-paid j b c d e = read-four paid place (place + 1) (place + 2) head (t + 2 ^ 40 * (getD paid head 0 % 2 ^ 16)) (packed v) (packed w) (used + 1) j b c d e
+
+    more-other : (j : ℕ) → j ≢ entriesUsed → j ≢ entriesMade → j ≢ place → j ≢ place + 1 → j ≢ place + 2 → j ≢ head → getD more j 0 ≡ getD (r .words) j 0
+    more-other j a z b c d e = more-paid j b c d e ∙ paid-other j a z
+
+    more-count : getD more entriesMade 0 ≡ used + 1
     more-count =
-        read-four paid place (place + 1) (place + 2) head (t + 2 ^ 40 * (getD paid head 0 % 2 ^ 16)) (packed v) (packed w) (used + 1) 2
-        (λ e. omega arith) (λ e. omega arith) (λ e. omega arith) (λ e. omega arith)
-        ∙ getD-set-same (r .words) 2 (used + 1) 0 (omega (arith, long))
+        more-paid entriesMade (λ e. omega arith) (λ e. omega arith) (λ e. omega arith) (λ e. omega arith)
+        ∙ getD-set-same (set (r .words) entriesUsed (getD (r .words) entriesUsed 0 + 1)) entriesMade (used + 1) 0
+        (rw (length-set (r .words) entriesUsed (getD (r .words) entriesUsed 0 + 1)) (omega (arith, long)))
+
+    more-used : getD more entriesUsed 0 ≡ getD (r .words) entriesUsed 0 + 1
+    more-used =
+        more-paid entriesUsed (λ e. omega arith) (λ e. omega arith) (λ e. omega arith) (λ e. omega arith)
+        ∙ getD-set-other (set (r .words) entriesUsed (getD (r .words) entriesUsed 0 + 1)) entriesMade entriesUsed (used + 1) 0 (λ e. omega arith)
+        ∙ getD-set-same (r .words) entriesUsed (getD (r .words) entriesUsed 0 + 1) 0 (omega (arith, long))
 
     small : t < 2 ^ 40
     small = omega (arith, h .sound .counted .tables, h .sound .counted .steps, h .sound .lent .room .steps)
@@ -297,15 +238,15 @@ module _ {program : List ℕ} {ts : List Token} {g : List ℕ} {r : Raw} {s : St
 
     -- the bucket, and its head
     bucket-below : bucket < entriesGranted g
-    bucket-below = bucket-less program g (r .texts) (r .words) t (packed v) (omega (arith, fit))
+    bucket-below = bucket-less program g (r .texts) (r .words) t (packed v) (omega (arith, few))
 
     head-small : getD (r .words) head 0 < 2 ^ 16
     head-small =
-        omega (arith, old .index .begins bucket bucket-below, last-le (lies program g (r .texts) (r .words) bucket) used, fit, h .sound .lent .room .entries)
+        omega (arith, old .index .begins bucket bucket-below, last-le (lies program g (r .texts) (r .words) bucket) used, few, h .sound .lent .room .entries)
 
     head-paid : getD paid head 0 % 2 ^ 16 ≡ getD (r .words) head 0
     head-paid =
-        let q : getD paid head 0 ≡ getD (r .words) head 0 = getD-set-other (r .words) entriesUsed head (used + 1) 0 (λ e. omega arith) in
+        let q : getD paid head 0 ≡ getD (r .words) head 0 = paid-other head (λ e. omega arith) (λ e. omega arith) in
         rw q (omega (arith, head-small))
 
     new-link : linkAt g more used ≡ getD (r .words) head 0
@@ -313,7 +254,7 @@ module _ {program : List ℕ} {ts : List Token} {g : List ℕ} {r : Raw} {s : St
 
     new-head : getD more head 0 ≡ used + 1
     new-head = read-fourth paid place (place + 1) (place + 2) head (t + 2 ^ 40 * (getD paid head 0 % 2 ^ 16)) (packed v) (packed w) (used + 1)
-        (rw (length-set (r .words) entriesUsed (used + 1)) (omega (arith, bucket-below, h .sound .lent .room .words)))
+        (rw length-paid (omega (arith, bucket-below, h .sound .lent .room .words)))
 
     new-key : keyAt g more used ≡ packed v
     new-key = read-second paid place (place + 1) (place + 2) head (t + 2 ^ 40 * (getD paid head 0 % 2 ^ 16)) (packed v) (packed w) (used + 1) (omega (arith, long-paid))
@@ -323,35 +264,39 @@ module _ {program : List ℕ} {ts : List Token} {g : List ℕ} {r : Raw} {s : St
     new-value = read-third paid place (place + 1) (place + 2) head (t + 2 ^ 40 * (getD paid head 0 % 2 ^ 16)) (packed v) (packed w) (used + 1) (omega (arith, long-paid))
         (λ e. omega arith)
 
-    more-low : (j : ℕ) → j ≢ entriesUsed → j < fixedWords + 3 * shapesGranted g → getD more j 0 ≡ getD (r .words) j 0
-    more-low j d l = more-other j d (λ e. omega arith) (λ e. omega arith) (λ e. omega arith) (λ e. omega arith)
+    more-low : (j : ℕ) → j ≢ entriesUsed → j ≢ entriesMade → j < fixedWords + 5 * shapesGranted g → getD more j 0 ≡ getD (r .words) j 0
+    more-low j d m l = more-other j d m (λ e. omega arith) (λ e. omega arith) (λ e. omega arith) (λ e. omega arith)
+
+    more-high : (j : ℕ) → componentPlace g 0 ≤ j → getD more j 0 ≡ getD (r .words) j 0
+    more-high j l =
+        more-other j (λ e. omega arith) (λ e. omega arith) (λ e. omega (arith, few)) (λ e. omega (arith, few)) (λ e. omega (arith, few)) (λ e. omega (arith, bucket-below))
 
     old-first : (k : ℕ) → k < used → getD more (entryPlace g k) 0 ≡ getD (r .words) (entryPlace g k) 0
-    old-first k l = more-other _ (λ e. omega arith) (λ e. omega arith) (λ e. omega arith) (λ e. omega arith) (λ e. omega arith)
+    old-first k l = more-other _ (λ e. omega arith) (λ e. omega arith) (λ e. omega arith) (λ e. omega arith) (λ e. omega arith) (λ e. omega arith)
 
     old-owner : (k : ℕ) → k < used → ownerAt g more k ≡ ownerAt g (r .words) k
     old-owner k l = ap (λ w. w % 2 ^ 40) (old-first k l)
 
     old-key : (k : ℕ) → k < used → keyAt g more k ≡ keyAt g (r .words) k
-    old-key k l = more-other _ (λ e. omega arith) (λ e. omega arith) (λ e. omega arith) (λ e. omega arith) (λ e. omega arith)
+    old-key k l = more-other _ (λ e. omega arith) (λ e. omega arith) (λ e. omega arith) (λ e. omega arith) (λ e. omega arith) (λ e. omega arith)
 
     old-value : (k : ℕ) → k < used → valueAt g more k ≡ valueAt g (r .words) k
-    old-value k l = more-other _ (λ e. omega arith) (λ e. omega arith) (λ e. omega arith) (λ e. omega arith) (λ e. omega arith)
+    old-value k l = more-other _ (λ e. omega arith) (λ e. omega arith) (λ e. omega arith) (λ e. omega arith) (λ e. omega arith) (λ e. omega arith)
 
     abbrev more-later : Later program r (raw (r .texts) more)
-    more-later = stored-later h more more-low
+    more-later = stored-later h more more-low more-high
 
-    old-meant : (k : ℕ) → k < used → meantKey program (raw (r .texts) more) (keyAt g more k) ≡ meantKey program r (keyAt g (r .words) k)
-    old-meant k l = rw (old-key k l) (key-stays h more more-low (keyAt g (r .words) k) (old .keys k l))
+    old-meant : (k : ℕ) → k < used → meantKey program g (raw (r .texts) more) (keyAt g more k) ≡ meantKey program g r (keyAt g (r .words) k)
+    old-meant k l = rw (old-key k l) (key-stays h more more-low more-high (keyAt g (r .words) k) (old .keys k l))
 
-    new-meant : meantKey program (raw (r .texts) more) (keyAt g more used) ≡ key
-    new-meant = rw (new-key, back-key) (key-later more-later (h .sound .shapes) v valid)
+    new-meant : meantKey program g (raw (r .texts) more) (keyAt g more used) ≡ key
+    new-meant = rw (new-key, back-key) (key-later more-later (h .sound .shapes) (stored-components h more more-low more-high) v valid)
 
     -- no entry has this owner and this key yet
-    fresh : (k : ℕ) → k < used → ownerAt g (r .words) k ≡ t → meantKey program r (keyAt g (r .words) k) ≡ key → ⊥
+    fresh : (k : ℕ) → k < used → ownerAt g (r .words) k ≡ t → meantKey program g r (keyAt g (r .words) k) ≡ key → ⊥
     unfolding entryAt
     fresh k l a b =
-        let m = missing-all h t v valid none k l in
+        let m = missing-all h t v valid known none k l in
         let q : matches (entryAt program g r k) t key ≡ true = rw (eq-eqb _ _ a, b, sameKey-same key) in
         let z : true ≡ false = sym q ∙ m in
         let y : _≡_ {A = ℕ} 0 1 = cc in omega arith
@@ -361,14 +306,18 @@ module _ {program : List ℕ} {ts : List Token} {g : List ℕ} {r : Raw} {s : St
       packs = λ k l. up-to (λ k. packed (unpacked (keyAt g more k)) ≡ keyAt g more k) used (λ k l. rw (old-key k l) (old .packs k l)) (rw (new-key, back-key)) k (rw more-count at l);
       keys = λ k l. up-to (λ k. Valid program more (unpacked (keyAt g more k))) used (λ k l. rw (old-key k l) (valid-later more-later _ (old .keys k l)))
           (rw (new-key, back-key) (valid-later more-later v valid)) k (rw more-count at l);
+      atoms = λ k l. up-to (λ k. isGroupKey more (keyAt g more k) ≡ false) used
+          (λ k l. rw (old-key k l) (atom-kept more-later (h .sound .shapes) (keyAt g (r .words) k) (old .keys k l) (old .atoms k l)))
+          (rw new-key (atom-kept more-later (h .sound .shapes) (packed v) (rw back-key valid) no-group)) k (rw more-count at l);
       holds = λ k l. up-to (λ k. Valid program more (unpacked (valueAt g more k))) used (λ k l. rw (old-value k l) (valid-later more-later _ (old .holds k l)))
           (rw (new-value, back) (valid-later more-later w valid′)) k (rw more-count at l);
       apart = λ j k a b.
-          up-to (λ j. ownerAt g more j ≡ ownerAt g more k → meantKey program (raw (r .texts) more) (keyAt g more j) ≡ meantKey program (raw (r .texts) more) (keyAt g more k) → j ≡ k) used
-          (λ j a. up-to (λ k. ownerAt g more j ≡ ownerAt g more k → meantKey program (raw (r .texts) more) (keyAt g more j) ≡ meantKey program (raw (r .texts) more) (keyAt g more k) → j ≡ k) used
+          up-to (λ j. ownerAt g more j ≡ ownerAt g more k → meantKey program g (raw (r .texts) more) (keyAt g more j) ≡ meantKey program g (raw (r .texts) more) (keyAt g more k) → j ≡ k) used
+          (λ j a. up-to (λ k. ownerAt g more j ≡ ownerAt g more k → meantKey program g (raw (r .texts) more) (keyAt g more j) ≡ meantKey program g (raw (r .texts) more) (keyAt g more k) → j ≡ k) used
           (λ k b x y. old .apart j k a b (sym (old-owner j a) ∙ x ∙ old-owner k b) (sym (old-meant j a) ∙ y ∙ old-meant k b))
           (λ x y. absurd (fresh j a (sym (old-owner j a) ∙ x ∙ new-owner) (sym (old-meant j a) ∙ y ∙ new-meant))) k (rw more-count at b))
-          (up-to (λ k. ownerAt g more used ≡ ownerAt g more k → meantKey program (raw (r .texts) more) (keyAt g more used) ≡ meantKey program (raw (r .texts) more) (keyAt g more k) → used ≡ k) used
+          (up-to (λ k. ownerAt g more used ≡ ownerAt g more k → meantKey program g (raw (r .texts) more) (keyAt g more used) ≡ meantKey program g (raw (r .texts) more)
+          (keyAt g more k) → used ≡ k) used
           (λ k b x y. absurd (fresh k b (sym (old-owner k b) ∙ sym x ∙ new-owner) (sym (old-meant k b) ∙ sym y ∙ new-meant)))
           (λ x y. refl) k (rw more-count at b))
           j (rw more-count at a);
@@ -376,16 +325,16 @@ module _ {program : List ℕ} {ts : List Token} {g : List ℕ} {r : Raw} {s : St
         agree = record {
           firsts = old-first;
           keys = old-key;
-          contents = λ k l. content-later more-later (h .sound .shapes) (keyAt g (r .words) k) (old .keys k l);
+          contents = λ k l. content-later more-later (h .sound .shapes) (keyAt g (r .words) k) (old .keys k l) (old .atoms k l);
         };
         used = more-count;
-        left = omega (arith, fit);
+        left = omega (arith, few);
         owner = new-owner;
         key-there = new-key;
-        content = content-later more-later (h .sound .shapes) (packed v) (rw back-key valid);
+        content = content-later more-later (h .sound .shapes) (packed v) (rw back-key valid) no-group;
         link = new-link;
         head = new-head;
-        heads = λ b l n. more-other _ (λ e. omega arith) (λ e. omega arith) (λ e. omega arith) (λ e. omega arith) (λ e. n (omega arith));
+        heads = λ b l n. more-other _ (λ e. omega arith) (λ e. omega arith) (λ e. omega arith) (λ e. omega arith) (λ e. omega arith) (λ e. n (omega arith));
       }) (old .index);
     }
 
@@ -417,42 +366,61 @@ module _ {program : List ℕ} {ts : List Token} {g : List ℕ} {r : Raw} {s : St
     pub adds : (p : ℕ) → After program ts g r (raw (r .texts) more)
         (withEntries s (s .entries ++ (record { owner = t; key = key; holds = meantValue program (r .texts) w } ∷ []))) (added total (due Run.entries 1 p))
     unfolding added resourceNumber
-    adds p = stored h more more-low _ (added total (due Run.entries 1 p))
-        (length-set (set (set (set paid place (t + 2 ^ 40 * (getD paid head 0 % 2 ^ 16))) (place + 1) (packed v)) (place + 2) (packed w)) head (used + 1)
-        ∙ length-set (set (set paid place (t + 2 ^ 40 * (getD paid head 0 % 2 ^ 16))) (place + 1) (packed v)) (place + 2) (packed w)
-        ∙ length-set (set paid place (t + 2 ^ 40 * (getD paid head 0 % 2 ^ 16))) (place + 1) (packed v)
-        ∙ length-set paid place (t + 2 ^ 40 * (getD paid head 0 % 2 ^ 16)) ∙ length-set (r .words) entriesUsed (used + 1))
-        (rw more-count fit) more-entries more-list (omega arith) (omega arith) (omega (arith, h .entriesTaken, more-count)) (omega arith) (omega arith)
+    adds p = stored h more more-low more-high _ (added total (due Run.entries 1 p))
+        (length-four paid place (place + 1) (place + 2) head (t + 2 ^ 40 * (getD paid head 0 % 2 ^ 16)) (packed v) (packed w) (used + 1) ∙ length-paid)
+        (rw more-used fit)
+        (omega (arith, more-count, more-used, more-low componentsMade (λ e. omega arith) (λ e. omega arith) (omega arith), h .sound .counted .made))
+        more-entries more-list (omega arith) (omega arith) (omega (arith, h .entriesTaken, more-used)) (omega arith) (omega arith)
 
   -- ---- stored
   module _ {granted : Amounts} (gr : Grants g granted) (p : ℕ) where
+    abbrev Stores : Act.Out (Unit {0}) → Run.Run Execute.Flow → Type 0
+    Stores o m = Follows granted total (λ _ f r′ s′ total′. AfterFlow program ts g r Onward f r′ s′ total′) o m
+
     stores-new : findEntry program g (r .texts) (r .words) t (packed v) ≡ 0
-        → Follows granted total (λ _ f r′ s′ total′. AfterFlow program ts g r Onward f r′ s′ total′) (addEntry program g t (packed v) (packed w) p r)
-        (storing p t key (meantValue program (r .texts) w) Option.none s)
-    unfolding addEntry storing putEntry Act._>>=_ Act.goOn Act.load Run._>>=_ Run.goOn Run.current Run.become Run.give shortageOf
+        → Stores (addEntry program g t (packed v) (packed w) p r) (storing p t key (meantValue program (r .texts) w) Option.none s)
+    unfolding addEntry storing putEntry Act._>>=_ Act.goOn Act.load Act.store Run._>>=_ Run.goOn Run.current Run.become Run.give shortageOf
     stores-new none =
         spent-then Run.entries entriesUsed (entriesGranted g) 1 77 p r s (h .entriesTaken) (gr .entries) refl (steps-told h) _ _
-        (λ fit. given (record { after = adds none fit p; flow = both-onward }))
+        (λ fit.
+        let q : getD (r .words) entriesMade 0 % entriesGranted g ≡ getD (r .words) entriesMade 0 = mod-eq-of-lt (omega (arith, few none fit)) in
+        rw q (given (record { after = adds none fit p; flow = both-onward })))
 
     stores-old : (n : findEntry program g (r .texts) (r .words) t (packed v) ≢ 0) (u : Value.Value)
-        → Follows granted total (λ _ f r′ s′ total′. AfterFlow program ts g r Onward f r′ s′ total′)
-        (Act.store (entryPlace g (findEntry program g (r .texts) (r .words) t (packed v) - 1) + 2) (packed w) r)
+        → Stores (Act.store (entryPlace g (findEntry program g (r .texts) (r .words) t (packed v) - 1) + 2) (packed w) r)
         (storing p t key (meantValue program (r .texts) w) (some u) s)
     unfolding storing Act.store Run._>>=_ Run.goOn Run.current Run.become Run.give
     stores-old n u = given (record { after = overwrites n; flow = both-onward })
 
-    stores-in : Follows granted total (λ _ f r′ s′ total′. AfterFlow program ts g r Onward f r′ s′ total′) (storeEntry program g t (packed v) (packed w) p r)
-        (updating p t (meantValue program (r .texts) v) (meantValue program (r .texts) w) s)
-    unfolding storeEntry storeIn updating if_then_else_ Run._>>=_ Run.goOn Run.current
-    stores-in = go (eqb found 0) refl
+    pub stores-key : Stores (storeIn program g t (packed v) (packed w) p (findEntry program g (r .texts) (r .words) t (packed v)) r)
+        (storing p t key (meantValue program (r .texts) w) (entryIn (s .entries) t key) s)
+    unfolding storeIn if_then_else_
+    stores-key = go (eqb found 0) refl
       where
         go : (b : Bool) → eqb found 0 ≡ b
-            → Follows granted total (λ _ f r′ s′ total′. AfterFlow program ts g r Onward f r′ s′ total′) (storeEntry program g t (packed v) (packed w) p r)
-            (updating p t (meantValue program (r .texts) v) (meantValue program (r .texts) w) s)
-        go true e = rw (e, missing h t v valid (eqb-true _ _ e), key-is h t v valid) (stores-new (eqb-true _ _ e))
-        go false e = rw (e, present h t v valid (eqb-false _ _ e), key-is h t v valid) (stores-old (eqb-false _ _ e) _)
+            → Stores (storeIn program g t (packed v) (packed w) p (findEntry program g (r .texts) (r .words) t (packed v)) r)
+            (storing p t key (meantValue program (r .texts) w) (entryIn (s .entries) t key) s)
+        go true e = rw (e, missing h t v valid known (eqb-true _ _ e)) (stores-new (eqb-true _ _ e))
+        go false e = rw (e, present h t v valid known (eqb-false _ _ e)) (stores-old (eqb-false _ _ e) _)
 
-    pub stores : Follows granted total (Flows program ts g r) (Act._>>_ (storeEntry program g t (packed v) (packed w) p) (Act.give Onward) r)
-        (updating p t (meantValue program (r .texts) v) (meantValue program (r .texts) w) s)
-    unfolding Act._>>=_ Act.give
-    stores = act-after (λ _. Act.give Onward) (λ _ f r′ s′ total′ q. record { result = Onward; slices = r′; is = refl; holds = q }) stores-in
+-- ---- any value as a key: a group is 20
+module _ {program : List ℕ} {ts : List Token} {g : List ℕ} {r : Raw} {s : State} {total : Amounts} (h : Related program ts g r s total)
+    (t : ℕ) (made : t < getD (r .words) tablesMade 0) (v : Value) (valid : Valid program (r .words) v) (w : Value) (valid′ : Valid program (r .words) w)
+    {granted : Amounts} (gr : Grants g granted) (p : ℕ) where
+  stores-in : Follows granted total (λ _ f r′ s′ total′. AfterFlow program ts g r Onward f r′ s′ total′) (storeEntry program g t (packed v) (packed w) p r)
+      (updating p t (meantValue program (r .texts) v) (meantValue program (r .texts) w) s)
+  unfolding storeEntry updating Evaluate.keyed Act._>>=_ Act.goOn Act.refuse Act.fail Act.give Run._>>=_ Run.goOn Run.current Run.fail
+  stores-in = go (isGroupKey (r .words) (packed v)) refl
+    where
+      go : (b : Bool) → isGroupKey (r .words) (packed v) ≡ b
+          → Follows granted total (λ _ f r′ s′ total′. AfterFlow program ts g r Onward f r′ s′ total′) (storeEntry program g t (packed v) (packed w) p r)
+          (updating p t (meantValue program (r .texts) v) (meantValue program (r .texts) w) s)
+      go true e = rw (e, group-no-key h v valid e) (failed 20 p r (steps-told h))
+      go false e =
+          let k = value-key (h .sound) v valid e in
+          rw (e, key-is h t v valid k) (stores-key h t made v valid k w valid′ gr p)
+
+  pub stores : Follows granted total (Flows program ts g r) (Act._>>_ (storeEntry program g t (packed v) (packed w) p) (Act.give Onward) r)
+      (updating p t (meantValue program (r .texts) v) (meantValue program (r .texts) w) s)
+  unfolding Act._>>=_ Act.give
+  stores = act-after (λ _. Act.give Onward) (λ _ f r′ s′ total′ q. record { result = Onward; slices = r′; is = refl; holds = q }) stores-in

@@ -19,14 +19,14 @@ use Rattle.machine.specs.declared.Value.the-variants.{Text}
 use Rattle.machine.specs.Act.{Raw, raw}
 use Rattle.machine.specs.Act as Act
 use Rattle.machine.specs.Texts.{handle, originIn, startIn, sizeIn, part, textOf, laidAt, joined, putJoined, joinTexts}
-use Rattle.machine.specs.Layout.{stepsUsed, shapesUsed, entriesUsed, textUsed, tablesMade, declared, argumentsHeld, callsUsed, textGranted}
+use Rattle.machine.specs.Layout.{stepsUsed, shapesUsed, entriesUsed, textUsed, tablesMade, declared, argumentsHeld, callsUsed, running, entriesMade, componentsMade, loopUnit, textGranted}
 use Rattle.texts.proofs.Layer.{length-laid, kept-laid, part-laid, part-take, length-part}
 use Rattle.simulation.specs.Meant.{meantValue}
 use Rattle.simulation.specs.Sound.{Held, Valid}
 use Rattle.simulation.specs.Follows.{Grants, Related, Later, Follows}
-use Rattle.simulation.proofs.Frames.{untouched-words, same-words, same-waiting}
+use Rattle.simulation.proofs.Frames.{stays-words, SameRest, untouched-words, same-words, same-waiting}
 use Rattle.simulation.proofs.Results.{due, given, Untouched, AfterValue, Values, steps-told, kept-related, spent-then}
-use Rattle.simulation.proofs.Counting.{lent-set, figure-same, other, here}
+use Rattle.simulation.proofs.Counting.{lent-set, other, here}
 
 -- ---- a handle that is held
 module _ {program : List ℕ} {used h : ℕ} (v : Held program used h) where
@@ -120,11 +120,19 @@ module _ {program : List ℕ} {ts : List Token} {g : List ℕ} where
       text = omega (arith, used-now);
       tables = omega (arith, as-was tablesMade (λ e. omega arith));
       texts = λ t v. text-kept v (r .texts) (grown .texts) (kept-laid (r .texts) used (joined program (r .texts) used a b) (omega (arith, room)));
-      figures = λ i l. figure-same (r .words) (grown .words) i (λ j k. as-was _ (λ e. omega arith));
+      figures = λ i l. stays-words (r .words) (grown .words) i (λ j k. as-was _ (λ e. omega arith));
     }
 
-    grown-untouched : Untouched r grown
-    grown-untouched = untouched-words (λ j x y. as-was j (λ e. omega arith)) (λ k l. as-was _ (λ e. omega arith))
+    grown-rest : SameRest g r grown
+    grown-rest = record {
+      parts = as-was componentsMade (λ e. omega arith);
+      unit = as-was loopUnit (λ e. omega arith);
+      calls = as-was callsUsed (λ e. omega arith);
+      high = λ j l. as-was j (λ e. omega arith);
+    }
+
+    grown-untouched : Untouched g r grown
+    grown-untouched = untouched-words grown-rest (as-was running (λ e. omega arith)) (λ j x y. as-was j (λ e. omega arith)) (λ k l. as-was _ (λ e. omega arith))
 
     new-text : textOf program (grown .texts) (handle 1 used size) ≡ both
     new-text =
@@ -143,16 +151,18 @@ module _ {program : List ℕ} {ts : List Token} {g : List ℕ} where
           steps = rw (as-was stepsUsed (λ e. omega arith)) (c .steps);
           shapes = rw (as-was shapesUsed (λ e. omega arith)) (c .shapes);
           entries = rw (as-was entriesUsed (λ e. omega arith)) (c .entries);
+          made = rw (as-was entriesMade (λ e. omega arith), as-was componentsMade (λ e. omega arith), as-was entriesUsed (λ e. omega arith)) (c .made);
           text = rw used-now fit;
           tables = rw (as-was tablesMade (λ e. omega arith), as-was stepsUsed (λ e. omega arith)) (c .tables);
           arguments = rw (as-was argumentsHeld (λ e. omega arith)) (c .arguments);
           calls = rw (as-was callsUsed (λ e. omega arith)) (c .calls);
         })
-        (same-words grown-later (as-was declared (λ e. omega arith)) (λ j x y. as-was j (λ e. omega arith)))
+        grown-rest
+        (same-words grown-later (as-was declared (λ e. omega arith)) (as-was running (λ e. omega arith)) (λ j x y. as-was j (λ e. omega arith)))
         (same-waiting grown-later grown-untouched (omega (arith, as-was argumentsHeld (λ e. omega arith))) (h .sound .waiting) ts)
         (record { count = as-was shapesUsed (λ e. omega arith); words = λ i j x y. as-was _ (λ e. omega arith) })
         (record {
-          count = as-was entriesUsed (λ e. omega arith);
+          count = as-was entriesMade (λ e. omega arith);
           firsts = λ k x. as-was _ (λ e. omega arith);
           keys = λ k x. as-was _ (λ e. omega arith);
           values = λ k x. as-was _ (λ e. omega arith);

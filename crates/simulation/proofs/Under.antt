@@ -31,7 +31,7 @@ pub record Under (g : List ℕ) (w c limit : ℕ) (r : Raw) : Type 0 where
   pub turns : stepsLeft g r < limit
 
 module _ {program : List ℕ} {g : List ℕ} {w c limit : ℕ} where
-  pub under-later : {r r′ : Raw} → Untouched r r′ → Later program r r′ → Under g w c limit r → Under g w c limit r′
+  pub under-later : {r r′ : Raw} → Untouched g r r′ → Later program r r′ → Under g w c limit r → Under g w c limit r′
   under-later u l x = record { procedure = u .running ∙ x .procedure; calls = u .calls ∙ x .calls; turns = omega (arith, l .steps, x .turns) }
 
 pub stays : {program : List ℕ} {ts : List Token} {g : List ℕ} {w c limit : ℕ} {r r′ : Raw} {s : State} {total : Amounts} → After program ts g r r′ s total
@@ -41,7 +41,7 @@ stays a x = under-later (a .untouched) (a .later) x
 -- A call of a name that is neither main nor in the library, its arguments on the stack, follows what it means, where twice what the stack holds is at
 -- most `room`, and a turn more is left than steps.
 pub record Invokes (e : Setting) (ts : List Token) (granted : Amounts) (fs : List Procedure) (limit w c room fuel : ℕ) : Type 0 where
-  pub follows : (f : List ℕ) → Occurs ts aName f → procedureNumber f ≡ 10 → (p : ℕ) {r r′ : Raw} {s s′ : State} {total total′ : Amounts} {us : List Value.Value}
+  pub follows : (f : List ℕ) → Occurs ts aName f → procedureNumber f ≡ 11 → (p : ℕ) {r r′ : Raw} {s s′ : State} {total total′ : Amounts} {us : List Value.Value}
       → Related (e .program) ts (e .grants) r s total → AfterArguments (e .program) ts (e .grants) r us r′ s′ total′
       → Under (e .grants) w c limit r′ → suc (stepsLeft (e .grants) r′) < limit → 2 * getD (r′ .words) argumentsHeld 0 ≤ room
       → Follows granted total′ (Values (e .program) ts (e .grants) r) (invokeAt fuel e (slotOf ts f) p (getD (r .words) argumentsHeld 0) r′) (calling limit fs f p us s′)

@@ -1,6 +1,7 @@
 -- The run of the code and the specified run, side by side.
-use Prim.Native.Nat.{ℕ, _≤_, _<_}
+use Prim.Native.Nat.{ℕ, _+_, _≤_, _<_}
 use mathlib.Core.Path.{_≡_}
+use mathlib.Core.Bool.{true, false}
 use mathlib.Core.List.{List}
 use lib.ListN.{getD}
 use Rattle.meaning.specs.Token.{Token}
@@ -8,10 +9,10 @@ use Rattle.meaning.specs.State.{State}
 use Rattle.meaning.specs.Run as Run
 use Rattle.meaning.specs.Run.{steps, shapes, entries, textBytes, calls, Taking, Event, End, result, error, Run}
 use Rattle.meaning.specs.Book.{Amounts, allFit, lacking, book, shortageOf}
-use Rattle.machine.specs.Layout.{stepsUsed, shapesUsed, entriesUsed, textUsed, tablesMade, callsUsed, stepsGranted, shapesGranted, entriesGranted, textGranted, callsGranted}
+use Rattle.machine.specs.Layout.{stepsUsed, shapesUsed, entriesUsed, textUsed, tablesMade, callsUsed, stepsGranted, shapesGranted, entriesGranted, textGranted, callsGranted, shapePlace}
 use Rattle.machine.specs.Act.{Raw, Out, done, stop}
 use Rattle.machine.specs.Texts.{textOf}
-use Rattle.machine.specs.Shapes.{figureAt}
+use Rattle.machine.specs.Shapes.{kindAt, isGroupAt, destroyedAt, figureAt}
 use Rattle.simulation.specs.Meant.{variablesOf, suspendedOf, shapesOf, entriesOf}
 use Rattle.simulation.specs.Sound.{Held, Sound}
 
@@ -28,7 +29,7 @@ pub record Related (program : List ℕ) (ts : List Token) (g : List ℕ) (r : Ra
   pub sound : Sound program ts g r
   pub variables : s .variables ≡ variablesOf program ts r
   pub suspended : s .suspended ≡ suspendedOf program ts r
-  pub shapes : s .shapes ≡ shapesOf program r
+  pub shapes : s .shapes ≡ shapesOf program g r
   pub tables : s .tables ≡ getD (r .words) tablesMade 0
   pub entries : s .entries ≡ entriesOf program g r
   pub stepsTaken : total Run.steps ≡ getD (r .words) stepsUsed 0
@@ -37,14 +38,21 @@ pub record Related (program : List ℕ) (ts : List Token) (g : List ℕ) (r : Ra
   pub textTaken : total Run.textBytes ≡ getD (r .words) textUsed 0
   pub callsTaken : total Run.calls ≡ getD (r .words) callsUsed 0
 
--- what was held at r is held at r′ and stands for the same: counters only rise, and texts held and figures stay
+-- a shape stays what it is: a figure with its numbers and text, or a group with its slots; if it is destroyed it remains so
+pub record Stays (ws ws′ : List ℕ) (i : ℕ) : Type 0 where
+  pub kind : kindAt ws′ i ≡ kindAt ws i
+  pub figure : isGroupAt ws i ≡ false → figureAt ws′ i ≡ figureAt ws i
+  pub slots : getD ws′ (shapePlace i + 1) 0 ≡ getD ws (shapePlace i + 1) 0
+  pub dead : destroyedAt ws i ≡ true → destroyedAt ws′ i ≡ true
+
+-- what was held at r is held at r′ and stands for the same: counters only rise, texts held and shapes stay
 pub record Later (program : List ℕ) (r r′ : Raw) : Type 0 where
   pub steps : getD (r .words) stepsUsed 0 ≤ getD (r′ .words) stepsUsed 0
   pub shapes : getD (r .words) shapesUsed 0 ≤ getD (r′ .words) shapesUsed 0
   pub text : getD (r .words) textUsed 0 ≤ getD (r′ .words) textUsed 0
   pub tables : getD (r .words) tablesMade 0 ≤ getD (r′ .words) tablesMade 0
   pub texts : (h : ℕ) → Held program (getD (r .words) textUsed 0) h → textOf program (r′ .texts) h ≡ textOf program (r .texts) h
-  pub figures : (i : ℕ) → i < getD (r .words) shapesUsed 0 → figureAt (r′ .words) i ≡ figureAt (r .words) i
+  pub figures : (i : ℕ) → i < getD (r .words) shapesUsed 0 → Stays (r .words) (r′ .words) i
 
 -- ---- outcomes
 -- Both give results that belong together; or the first taking that does not fit has the number and the place at which the code stops; or both end

@@ -4,3 +4,4 @@ pub mod Scope
 pub mod Sound
 pub mod Follows
 pub mod After
+pub mod Nesting

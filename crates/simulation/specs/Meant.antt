@@ -1,6 +1,8 @@
 -- What the code's values, figures and lent slices stand for.
 use Prim.Native.Nat.{ℕ, zero, suc, _-_}
 use mathlib.Core.List.{List, [], _∷_}
+use mathlib.Core.Option.{Option, some}
+use mathlib.Core.Option as Option
 use lib.ListN.{getD}
 use lib.Dec.{eqb}
 use Rattle.meaning.specs.Basics.{if_then_else_}
@@ -10,16 +12,17 @@ use Rattle.meaning.specs.Figure.{line, ellipse, box, text}
 use Rattle.meaning.specs.Figure as Meaning
 use Rattle.meaning.specs.Value.{integer, string, boolean, none, table, shape}
 use Rattle.meaning.specs.Value as Value
-use Rattle.meaning.specs.State.{Variable, Key, Entry, keyOf}
+use Rattle.meaning.specs.State.{Variable, Content, atom, group, Key, Entry, keyWith, keyOf}
 use Rattle.meaning.specs.State as State
 use Rattle.machine.specs.declared.Value.{Value}
 use Rattle.machine.specs.declared.Value.the-variants.{Integer, Text, Boolean, Nothing, Table, Shape}
 use Rattle.machine.specs.Words.{unpacked}
-use Rattle.machine.specs.Layout.{shapesUsed, entriesUsed, declared, callsUsed, framePlace, valuePlace, orderPlace}
+use Rattle.machine.specs.Layout.{shapesUsed, entriesMade, declared, callsUsed, framePlace, valuePlace, orderPlace}
 use Rattle.machine.specs.Act.{Raw}
 use Rattle.machine.specs.Texts.{textOf}
 use Rattle.machine.specs.declared.Figure.{Figure}
-use Rattle.machine.specs.Shapes.{figureAt, destroyedAt}
+use Rattle.machine.specs.Shapes.{isGroupAt, figureAt, destroyedAt}
+use Rattle.machine.specs.Groups.{componentAt, firstAt, countAt}
 use Rattle.machine.specs.Stack.{argumentAt}
 use Rattle.machine.specs.Variables.{wordIn, slotIn, topIn, countIn}
 use Rattle.machine.specs.Tables.{ownerAt, keyAt, valueAt}
@@ -81,28 +84,37 @@ frameOf program ts r d = listed (waitingAt program ts r) (topIn (frameAt (r .wor
 unfoldable pub suspendedOf : List ℕ → List Token → Raw → List (List Variable)
 suspendedOf program ts r = listed (frameOf program ts r) 1 (getD (r .words) callsUsed 0 - 1)
 
-unfoldable pub shapeAt : List ℕ → Raw → ℕ → State.Shape
-shapeAt program r i = record {
-  figure = meantFigure program (r .texts) (figureAt (r .words) i);
-  destroyed = destroyedAt (r .words) i;
-}
+-- the components of a group, by their numbers
+unfoldable pub componentsOf : List ℕ → List ℕ → ℕ → List ℕ
+componentsOf g ws i = listed (componentAt g ws) (firstAt ws i) (countAt ws i)
 
-unfoldable pub shapesOf : List ℕ → Raw → List State.Shape
-shapesOf program r = listed (shapeAt program r) 0 (getD (r .words) shapesUsed 0)
+unfoldable pub contentAt : List ℕ → List ℕ → Raw → ℕ → Content
+contentAt program g r i =
+    if isGroupAt (r .words) i then (λ _. group (componentsOf g (r .words) i)) else λ _. atom (meantFigure program (r .texts) (figureAt (r .words) i))
 
--- a key among some shapes
+unfoldable pub shapeAt : List ℕ → List ℕ → Raw → ℕ → State.Shape
+shapeAt program g r i = record { content = contentAt program g r i; destroyed = destroyedAt (r .words) i }
+
+unfoldable pub shapesOf : List ℕ → List ℕ → Raw → List State.Shape
+shapesOf program g r = listed (shapeAt program g r) 0 (getD (r .words) shapesUsed 0)
+
+-- what a value is as a key among some shapes; no entry's key is a group
+unfoldable pub someKey : Option Key → Key
+someKey Option.none = keyWith 0 [] []
+someKey (some k) = k
+
 unfoldable pub keyAmong : List State.Shape → Value.Value → Key
-keyAmong ss v = keyOf (record { variables = []; suspended = []; shapes = ss; tables = 0; entries = [] }) v
+keyAmong ss v = someKey (keyOf (record { variables = []; suspended = []; shapes = ss; tables = 0; entries = [] }) v)
 
-abbrev pub meantKey : List ℕ → Raw → ℕ → Key
-meantKey program r w = keyAmong (shapesOf program r) (meantWord program r w)
+abbrev pub meantKey : List ℕ → List ℕ → Raw → ℕ → Key
+meantKey program g r w = keyAmong (shapesOf program g r) (meantWord program r w)
 
 unfoldable pub entryAt : List ℕ → List ℕ → Raw → ℕ → Entry
 entryAt program g r k = record {
   owner = ownerAt g (r .words) k;
-  key = meantKey program r (keyAt g (r .words) k);
+  key = meantKey program g r (keyAt g (r .words) k);
   holds = meantWord program r (valueAt g (r .words) k);
 }
 
 unfoldable pub entriesOf : List ℕ → List ℕ → Raw → List Entry
-entriesOf program g r = listed (entryAt program g r) 0 (getD (r .words) entriesUsed 0)
+entriesOf program g r = listed (entryAt program g r) 0 (getD (r .words) entriesMade 0)

@@ -1,9 +1,9 @@
 -- What holds of the lent slices throughout a run.
-use Prim.Native.Nat.{ℕ, zero, suc, _+_, _^_, _≤_, _<_}
+use Prim.Native.Nat.{ℕ, zero, suc, _+_, _-_, _*_, _^_, _≤_, _<_}
 use mathlib.Core.Path.{_≡_}
 use mathlib.Core.Logic.{_≢_}
-use mathlib.Core.Bool.{true, cond}
-use mathlib.Core.List.{List}
+use mathlib.Core.Bool.{true, false, cond}
+use mathlib.Core.List.{List, []}
 use lib.ListN.{length, getD}
 use lib.IntN.{pos}
 use lib.Signed.{mag}
@@ -24,6 +24,9 @@ use Rattle.machine.specs.Layout.{
   argumentsHeld,
   callsUsed,
   running,
+  entriesMade,
+  componentsMade,
+  loopUnit,
   stepsGranted,
   shapesGranted,
   entriesGranted,
@@ -32,15 +35,19 @@ use Rattle.machine.specs.Layout.{
   valuePlace,
   stackWords,
   shapePlace,
+  pathPlace,
   Lent,
 }
 use Rattle.machine.specs.Act.{Raw}
 use Rattle.machine.specs.Texts.{originIn, startIn, sizeIn}
 use Rattle.machine.specs.declared.Figure.{Figure}
-use Rattle.machine.specs.Shapes.{figureAt}
+use Rattle.machine.specs.Shapes.{isGroupAt, figureAt}
+use Rattle.machine.specs.Groups.{componentAt, followersAt, firstAt, countAt}
+use Rattle.machine.specs.Show.{figuresIn}
+use Rattle.machine.specs.Loops.{hollowAt}
 use Rattle.machine.specs.Stack.{argumentAt}
 use Rattle.machine.specs.Variables.{isDeclared, wordIn, topIn, countIn}
-use Rattle.machine.specs.Tables.{ownerAt, keyAt, valueAt}
+use Rattle.machine.specs.Tables.{ownerAt, keyAt, valueAt, isGroupKey}
 use Rattle.simulation.specs.Meant.{slotAt, frameAt, meantKey}
 use Rattle.simulation.specs.Scope.{scopeOf, isIn}
 use Rattle.simulation.specs.Index.{Indexed}
@@ -75,6 +82,7 @@ pub record Counted (g ws : List ℕ) : Type 0 where
   pub steps : getD ws stepsUsed 0 ≤ stepsGranted g
   pub shapes : getD ws shapesUsed 0 ≤ shapesGranted g
   pub entries : getD ws entriesUsed 0 ≤ entriesGranted g
+  pub made : getD ws entriesMade 0 + getD ws componentsMade 0 ≡ getD ws entriesUsed 0
   pub text : getD ws textUsed 0 ≤ textGranted g
   pub tables : getD ws tablesMade 0 ≤ getD ws stepsUsed 0
   pub arguments : getD ws argumentsHeld 0 ≤ stackWords
@@ -106,19 +114,37 @@ pub record Waiting (program ws : List ℕ) : Type 0 where
       → Valid program ws (unpacked (wordIn (argumentAt ws k)))
 
 -- ---- shapes
-pub record Shapes (program ws : List ℕ) : Type 0 where
-  pub proper : (i : ℕ) → i < getD ws shapesUsed 0 → Proper program (getD ws textUsed 0) (figureAt ws i)
+-- a group: its slots are in use, its components are older, and each slot tells how many follow
+pub record Grouped (g ws : List ℕ) (i : ℕ) : Type 0 where
+  pub within : firstAt ws i + countAt ws i ≤ getD ws componentsMade 0
+  pub older : (k : ℕ) → firstAt ws i ≤ k → k < firstAt ws i + countAt ws i → componentAt g ws k < i
+  pub follow : (k : ℕ) → firstAt ws i ≤ k → k < firstAt ws i + countAt ws i → suc k + followersAt g ws k ≡ firstAt ws i + countAt ws i
+
+-- Figures are proper. Groups made later have later slots, and one that is hollow holds no figure that is not destroyed.
+pub record Shapes (program g ws : List ℕ) : Type 0 where
+  pub proper : (i : ℕ) → i < getD ws shapesUsed 0 → isGroupAt ws i ≡ false → Proper program (getD ws textUsed 0) (figureAt ws i)
   pub first : (i : ℕ) → i < getD ws shapesUsed 0 → getD ws (shapePlace i + 1) 0 < 2 ^ 64
   pub second : (i : ℕ) → i < getD ws shapesUsed 0 → getD ws (shapePlace i + 2) 0 < 2 ^ 64
+  pub groups : (i : ℕ) → i < getD ws shapesUsed 0 → isGroupAt ws i ≡ true → Grouped g ws i
+  pub order : (i j : ℕ) → i < j → j < getD ws shapesUsed 0 → isGroupAt ws i ≡ true → isGroupAt ws j ≡ true → firstAt ws i + countAt ws i ≤ firstAt ws j
+  pub hollow : (i : ℕ) → i < getD ws shapesUsed 0 → isGroupAt ws i ≡ true → hollowAt ws i ≡ true → figuresIn (suc i) g ws i ≡ []
+
+-- ---- marks of loops
+-- In the call under way the word of a slot has at most the marks of the loops under way, of which the innermost has this unit; calls that are not under way
+-- have none.
+pub record Marks (g ws : List ℕ) : Type 0 where
+  pub idle : (d k : ℕ) → getD ws callsUsed 0 ≤ d → d < callsGranted g → k < entriesGranted g → getD ws (pathPlace g d k) 0 ≡ 0
+  pub own : (k : ℕ) → 0 < getD ws callsUsed 0 → k < entriesGranted g → getD ws (pathPlace g (getD ws callsUsed 0 - 1) k) 0 ≤ 2 * getD ws loopUnit 0 - 1
 
 -- ---- entries
--- Keys are words as values are packed, no two entries of a table have one key, and the index is right.
+-- Keys are words as values are packed and no groups, no two entries of a table have one key, and the index is right.
 pub record Entries (program g : List ℕ) (r : Raw) : Type 0 where
-  pub packs : (k : ℕ) → k < getD (r .words) entriesUsed 0 → packed (unpacked (keyAt g (r .words) k)) ≡ keyAt g (r .words) k
-  pub keys : (k : ℕ) → k < getD (r .words) entriesUsed 0 → Valid program (r .words) (unpacked (keyAt g (r .words) k))
-  pub holds : (k : ℕ) → k < getD (r .words) entriesUsed 0 → Valid program (r .words) (unpacked (valueAt g (r .words) k))
-  pub apart : (j k : ℕ) → j < getD (r .words) entriesUsed 0 → k < getD (r .words) entriesUsed 0 → ownerAt g (r .words) j ≡ ownerAt g (r .words) k
-      → meantKey program r (keyAt g (r .words) j) ≡ meantKey program r (keyAt g (r .words) k) → j ≡ k
+  pub packs : (k : ℕ) → k < getD (r .words) entriesMade 0 → packed (unpacked (keyAt g (r .words) k)) ≡ keyAt g (r .words) k
+  pub keys : (k : ℕ) → k < getD (r .words) entriesMade 0 → Valid program (r .words) (unpacked (keyAt g (r .words) k))
+  pub atoms : (k : ℕ) → k < getD (r .words) entriesMade 0 → isGroupKey (r .words) (keyAt g (r .words) k) ≡ false
+  pub holds : (k : ℕ) → k < getD (r .words) entriesMade 0 → Valid program (r .words) (unpacked (valueAt g (r .words) k))
+  pub apart : (j k : ℕ) → j < getD (r .words) entriesMade 0 → k < getD (r .words) entriesMade 0 → ownerAt g (r .words) j ≡ ownerAt g (r .words) k
+      → meantKey program g r (keyAt g (r .words) j) ≡ meantKey program g r (keyAt g (r .words) k) → j ≡ k
   pub index : Indexed program g (r .texts) (r .words)
 
 -- ---- all of it
@@ -127,5 +153,6 @@ pub record Sound (program : List ℕ) (ts : List Token) (g : List ℕ) (r : Raw)
   pub counted : Counted g (r .words)
   pub variables : Variables program ts (r .words)
   pub waiting : Waiting program (r .words)
-  pub shapes : Shapes program (r .words)
+  pub shapes : Shapes program g (r .words)
+  pub marks : Marks g (r .words)
   pub entries : Entries program g r

@@ -1,6 +1,7 @@
 pub mod Paid
 mod Written
 mod Moves
+mod Iterating
 mod Going
 mod Listing
 mod Heads

@@ -20,7 +20,7 @@ use Rattle.expressions.specs.Steps.{closed}
 use Rattle.expressions.proofs.Tokens.{chosen, token-inside}
 use Rattle.expressions.proofs.Paid.{Paid, expression-paid, inside-levels}
 use Rattle.expressions.proofs.Answers.{wrote, wrote-code, erred, erred-code}
-use Rattle.statements.specs.Words.{declaration, returning, withoutLast, assignment, simple, guarded, statements, statementIn, statement}
+use Rattle.statements.specs.Words.{declaration, returning, withoutLast, assignment, simple, guarded, iteration, statements, statementIn, statement}
 use Rattle.statements.specs.Room.{Space, Parts}
 use Rattle.statements.specs.Steps.{insideOf, ended, test, topped}
 use Rattle.statements.proofs.Paid.{statement-levels, ended-paid, test-paid, statements-paid}
@@ -190,7 +190,7 @@ module _ (left : ℕ) (ws : List ℕ) (i n : ℕ) (s₀ s : List ℕ) (o : Space
             (closed-headed (expression left ws (j + 1)) d r ws (take (length c - 1) c) s₀ s s₁ s₂ 34 (placeAt ws i) n 0 (m - 1) l (rw (length-take-le (length c - 1) c (omega arith)) b) v y q)
 
 -- ---- if and while
-inside-level : (left : ℕ) (ws : List ℕ) → (left ≡ 0 → ⊥)
+pub inside-level : (left : ℕ) (ws : List ℕ) → (left ≡ 0 → ⊥)
     → insideOf left ws ≡ level (record { inExpression = expression (left - 1) ws; inStatement = statement (left - 1) ws })
 unfolding insideOf
 inside-level zero ws h = absurd (h refl)
@@ -206,14 +206,26 @@ guarded-tests (suc left) ws tag p i =
     rw q (sym (chosen-after (is openParen ws i) (λ _. after (expression left ws (i + 1)) λ e j. expect closeParen ws j (e .code)) (λ _. wrong 10 i) _
     ∙ ap (λ g. if is openParen ws i then (λ _. g) else λ _. wrong 10 i) (after-after (expression left ws (i + 1)) _ _)))
 
--- behind a test that ends before token j and word m
-pub record Tested (left : ℕ) (ws s : List ℕ) (i n j m : ℕ) : Type 0 where
-  pub opens : left ≡ 0 → ⊥
+-- behind what stands between a statement's first token, i, and its body, which begins at token j and word m
+pub record Parted (ws s : List ℕ) (i n j m : ℕ) : Type 0 where
   pub space : Space ws s j m
   pub ahead : i < j
   pub within : j ≤ length ws
   pub some : n + 1 < m
   pub small : m - n - 1 < 65536
+
+pub parted : (g : Got (List ℕ)) (ws : List ℕ) (i n : ℕ) (s₀ s : List ℕ) → Space ws s₀ i n → (e : Read) → seen e s ≡ writtenCode g (n + 1) s₀
+    → ((c : List ℕ) (j : ℕ) → g ≡ good c j → Paid c ws (i + 1) j) → (j m t : ℕ) → e ≡ At j m t → length s ≡ length s₀ → Parted ws s i n j m
+parted g ws i n s₀ s o e h pays j m t q l =
+    let w = wrote-code e g (n + 1) s₀ s j m t h q in
+    let p = pays (w .code) j (w .read) in
+    record {
+      space = record { behind = omega (arith, w .upTo, p .paid, o .behind); wide = omega (arith, o .wide); few = o .few };
+      ahead = omega (arith, p .ahead);
+      within = p .within;
+      some = omega (arith, w .upTo, p .some);
+      small = omega (arith, w .upTo, p .paid, p .within, o .few);
+    }
 
 test-opens : (left : ℕ) (ws : List ℕ) (i : ℕ) (c : List ℕ) (j : ℕ) → test (Expressions.insideOf left ws) ws i ≡ good c j → left ≡ 0 → ⊥
 unfolding test opening Expressions.insideOf
@@ -227,18 +239,11 @@ module _ (left : ℕ) (ws : List ℕ) (i n : ℕ) (s₀ s : List ℕ) (o : Space
   guarded-wrong tag k p q = rw (guarded-tests left ws tag (placeAt ws i) (i + 1), erred-code e _ (n + 1) s₀ s k p h q) (wrong-seen k p n s₀ s)
 
   module _ (j m t : ℕ) (q : e ≡ At j m t) (l : length s ≡ length s₀) where
-    pub tested : Tested left ws s i n j m
-    tested =
-        let w = wrote-code e _ (n + 1) s₀ s j m t h q in
-        let p = test-paid left ws (i + 1) (w .code) j (w .read) in
-        record {
-          opens = test-opens left ws (i + 1) (w .code) j (w .read);
-          space = record { behind = omega (arith, w .upTo, p .paid, o .behind); wide = omega (arith, o .wide); few = o .few };
-          ahead = omega (arith, p .ahead);
-          within = p .within;
-          some = omega (arith, w .upTo, p .some);
-          small = omega (arith, w .upTo, p .paid, p .within, o .few);
-        }
+    pub tested-opens : left ≡ 0 → ⊥
+    tested-opens = let w = wrote-code e _ (n + 1) s₀ s j m t h q in test-opens left ws (i + 1) (w .code) j (w .read)
+
+    pub tested : Parted ws s i n j m
+    tested = parted _ ws i n s₀ s o e h (test-paid left ws (i + 1)) j m t q l
 
     pub guarded-reads : (tag : ℕ) (b r : Read) (s₁ s₂ : List ℕ) → seen b s₁ ≡ writtenCode (statement (left - 1) ws j) m s
         → seen r s₂ ≡ topped tag (placeAt ws i) n (m - n - 1) (seen b s₁)
@@ -289,7 +294,12 @@ module _ (left : ℕ) (ws : List ℕ) (i n : ℕ) (s₀ s : List ℕ) (r : Read)
   unfolding statementIn if_then_else_
   states-return e h = rw (statement-levels left ws i, ← k, e) h
 
-  pub states-simple : (kind ≡ 5 → ⊥) → (kind ≡ 6 → ⊥) → (kind ≡ 7 → ⊥) → (kind ≡ 8 → ⊥) → (kind ≡ 123 → ⊥)
+  pub states-foreach : kind ≡ 12 → seen r s ≡ writtenCode (iteration (expression left ws) (insideOf left ws) ws i) n s₀ → seen r s ≡ writtenCode (statement left ws i) n s₀
+  unfolding statementIn if_then_else_
+  states-foreach e h = rw (statement-levels left ws i, ← k, e) h
+
+  pub states-simple : (kind ≡ 5 → ⊥) → (kind ≡ 6 → ⊥) → (kind ≡ 7 → ⊥) → (kind ≡ 8 → ⊥) → (kind ≡ 12 → ⊥) → (kind ≡ 123 → ⊥)
       → seen r s ≡ writtenCode (simple (expression left ws) ws i) n s₀ → seen r s ≡ writtenCode (statement left ws i) n s₀
   unfolding statementIn if_then_else_
-  states-simple h5 h6 h7 h8 h123 h = rw (statement-levels left ws i, ← k, ne-eqb _ _ h5, ne-eqb _ _ h6, ne-eqb _ _ h7, ne-eqb _ _ h8, ne-eqb _ _ h123) h
+  states-simple h5 h6 h7 h8 h12 h123 h =
+      rw (statement-levels left ws i, ← k, ne-eqb _ _ h5, ne-eqb _ _ h6, ne-eqb _ _ h7, ne-eqb _ _ h12, ne-eqb _ _ h8, ne-eqb _ _ h123) h

@@ -9,16 +9,17 @@ use borrow.Author.Tests.{eqb-true}
 use lib.Dec.{eqb}
 use lib.ListN.{length, length-append}
 use lib.Seq.{length-take-le}
-use Rattle.meaning.specs.Token.{aName, wordDef, wordVar, wordIf, wordWhile, wordReturn, comma, semicolon, openParen, closeParen, openBrace, closeBrace, becomes}
+use Rattle.meaning.specs.Token.{aName, wordDef, wordVar, wordIf, wordWhile, wordReturn, wordForeach, wordIn, wordDo, comma, semicolon, openParen, closeParen, openBrace, closeBrace, becomes}
 use Rattle.meaning.specs.Grammar.{Got, good, wrong, after, Inside, noLevel, level, opening}
 use Rattle.code.specs.Code.{headed}
 use Rattle.expressions.specs.Words.{placeAt, homeAt, is, Piece, ReadPiece, expect, expression}
 use Rattle.expressions.specs.Words as Expressions
 use Rattle.expressions.proofs.Tokens.{chosen, token-inside}
 use Rattle.expressions.proofs.Paid.{Paid, expression-paid}
-use Rattle.statements.specs.Words.{ReadCode, Readers, declaration, returning, withoutLast, assignment, simple, guarded, statementsFrom, statements, statementIn, statement, nameAt}
+use Rattle.statements.specs.Words.{ReadCode, Readers, declaration, returning, withoutLast, assignment, simple, guarded, beginsStatement, iteration}
+use Rattle.statements.specs.Words.{statementsFrom, statements, statementIn, statement, nameAt}
 use Rattle.statements.specs.Words.{Head, skip, parametersFrom, parameters, body, procedure}
-use Rattle.statements.specs.Steps.{insideOf, ended, test}
+use Rattle.statements.specs.Steps.{insideOf, ended, test, members, each}
 
 -- what has a kind is a token
 pub kind-inside : (ws : List ℕ) (i k : ℕ) → is (suc k) ws i ≡ true → i < length ws
@@ -81,6 +82,9 @@ expect-good k ws j a b m =
     chosen (λ g. g ≡ good b m → (a ≡ b) × (m ≡ j + 1)) (is k ws j) _ _ (λ _ q. (cc, cc))
     (λ _ q. let z : _≡_ {A = ℕ} 0 1 = cc in absurd (omega arith))
 
+skip-good : (k : ℕ) (ws : List ℕ) (j : ℕ) (u : Unit {0}) (m : ℕ) → skip k ws j ≡ good u m → m ≡ j + 1
+skip-good k ws j u m q = expect-good k ws j tt u m q .1
+
 opened : (ws : List ℕ) (i p : ℕ) (inside : Inside Readers) (f : Readers → Got (List ℕ)) → PaysInside ws inside
     → ((r : Readers) → PaysPiece ws (r .inExpression) → PaysCode ws (r .inStatement) → Pays ws i (f r)) → Pays ws i (opening inside p f)
 unfolding opening
@@ -140,6 +144,44 @@ module _ (ws : List ℕ) (read : ReadPiece) (ok : PaysPiece ws read) where
       chosen (Pays ws i) (is becomes ws j) _ _ (λ _. assignment-pays i j a w)
       (λ _. expect-pays ws i j 58 _ (omega arith) (omega (arith, w .ahead)) (omega (arith, w .paid)))
 
+  -- x in e do
+  members-pay : (i : ℕ) → Pays ws i (members read ws i)
+  unfolding members
+  members-pay i =
+      on ws i (expect aName ws i (homeAt ws i)) _ λ x i₂ q₂.
+      on ws i (skip wordIn ws i₂) _ λ u i₃ q₃.
+      on ws i (read i₃) _ λ e j q.
+      let w = ok i₃ e j q in
+      let e₂ = expect-good aName ws i (homeAt ws i) x i₂ q₂ in
+      let e₃ = skip-good wordIn ws i₂ u i₃ q₃ in
+      expect-pays ws i j 13 _ (omega arith) (omega (arith, e₂ .1, w .ahead)) (omega (arith, e₂ .1, w .paid))
+
+  each-pays : (inside : Inside Readers) → PaysInside ws inside → (i : ℕ) → Pays ws i (each read inside ws i)
+  unfolding each
+  each-pays inside deep i =
+      on ws i (members read ws i) _ λ c j q.
+      chosen (Pays ws i) (beginsStatement ws j) _ _ (λ _. opened ws i j inside _ deep λ _ _ _. pays ws i _ (members-pay i) c j q) (λ _. tt)
+
+  -- foreach at token i
+  iteration-pays : (inside : Inside Readers) → PaysInside ws inside → (i : ℕ) → Pays ws i (iteration read inside ws i)
+  unfolding iteration
+  iteration-pays inside deep i =
+      on ws i (expect aName ws (i + 1) (homeAt ws (i + 1))) _ λ x i₂ q₂.
+      on ws i (skip wordIn ws i₂) _ λ u i₃ q₃.
+      on ws i (read i₃) _ λ e j q.
+      on ws i (skip wordDo ws j) _ λ v m q₄.
+      chosen (Pays ws i) (beginsStatement ws m) _ _
+      (λ _. opened ws i m inside _ deep λ r pieces codes.
+      on ws i (r .inStatement m) _ λ s z q₅.
+      let w = ok i₃ e j q in
+      let y = codes m s z q₅ in
+      let e₂ = expect-good aName ws (i + 1) (homeAt ws (i + 1)) x i₂ q₂ in
+      let e₃ = skip-good wordIn ws i₂ u i₃ q₃ in
+      let e₄ = skip-good wordDo ws j v m q₄ in
+      let a = length-append (e .code) s in
+      record { some = omega arith; ahead = omega (arith, e₂ .1, w .ahead, y .ahead); paid = omega (arith, e₂ .1, w .paid, y .paid); within = y .within })
+      (λ _. tt)
+
   statement-in-pays : (inside : Inside Readers) → PaysInside ws inside → (i : ℕ) → Pays ws i (statementIn read inside ws i)
   unfolding statementIn declaration returning
   statement-in-pays inside deep i =
@@ -147,6 +189,7 @@ module _ (ws : List ℕ) (read : ReadPiece) (ok : PaysPiece ws read) where
       (λ _. chosen (Pays ws i) (is aName ws (i + 1)) _ _ (λ _. expect-pays ws i (i + 2) 58 _ (omega arith) (omega arith) (omega arith)) (λ _. tt)) λ _.
       chosen (Pays ws i) (is wordIf ws i) _ _ (λ _. guarded-pays ws 35 _ inside deep i) λ _.
       chosen (Pays ws i) (is wordWhile ws i) _ _ (λ _. guarded-pays ws 36 _ inside deep i) λ _.
+      chosen (Pays ws i) (is wordForeach ws i) _ _ (λ _. iteration-pays inside deep i) λ _.
       chosen (Pays ws i) (is wordReturn ws i) _ _ (λ _. headed-pays i (i + 1) 37 _ 0 [] (omega arith)) λ _.
       chosen (Pays ws i) (is openBrace ws i) _ _ (λ _. block-pays ws _ inside deep i) λ _. simple-pays i
 
@@ -179,15 +222,15 @@ module _ (left : ℕ) (ws : List ℕ) (i : ℕ) (c : List ℕ) (j : ℕ) where
   unfolding ended
   ended-paid q = pays ws i _ (bare-pays ws (expression left ws) (expression-paid left ws) i i 58 (omega arith)) c j q
 
+  pub each-paid : each (expression left ws) (insideOf left ws) ws i ≡ good c j → Paid c ws i j
+  each-paid q = pays ws i _ (each-pays ws (expression left ws) (expression-paid left ws) (insideOf left ws) (inside-pays left ws) i) c j q
+
 pub test-paid : (left : ℕ) (ws : List ℕ) (i : ℕ) (c : List ℕ) (j : ℕ) → test (Expressions.insideOf left ws) ws i ≡ good c j → Paid c ws i j
 unfolding test opening Expressions.insideOf
 test-paid zero ws i c j q =
     pays ws i _ (chosen (Pays ws i) (is openParen ws i) _ _ (λ _. tt) (λ _. tt)) c j q
 test-paid (suc left) ws i c j q =
     pays ws i _ (chosen (Pays ws i) (is openParen ws i) _ _ (λ _. bare-pays ws (expression left ws) (expression-paid left ws) i (i + 1) 40 (omega arith)) (λ _. tt)) c j q
-
-skip-good : (k : ℕ) (ws : List ℕ) (j : ℕ) (u : Unit {0}) (m : ℕ) → skip k ws j ≡ good u m → m ≡ j + 1
-skip-good k ws j u m q = expect-good k ws j tt u m q .1
 
 -- read from a later token on
 later : (ws : List ℕ) (i m : ℕ) (g : Got (List ℕ)) → i ≤ m → Pays ws m g → Pays ws i g

@@ -44,13 +44,13 @@ module _ (twice number old p : ℕ) where
   module _ (z : twice ≡ 0) where
     pub twice-again : (old ≡ 0 → ⊥) → p + 1 ≡ firstTwice twice number old p
     unfolding firstTwice if_then_else_
-    twice-again h = rw (z, ne-eqb _ _ h, or-true (ltb number 10))
+    twice-again h = rw (z, ne-eqb _ _ h, or-true (ltb number 11))
 
-    pub twice-library : number < 10 → p + 1 ≡ firstTwice twice number old p
+    pub twice-library : number < 11 → p + 1 ≡ firstTwice twice number old p
     unfolding firstTwice if_then_else_
     twice-library h = rw (z, lt-ltb _ _ h)
 
-    pub twice-none : old ≡ 0 → 10 ≤ number → 0 ≡ firstTwice twice number old p
+    pub twice-none : old ≡ 0 → 11 ≤ number → 0 ≡ firstTwice twice number old p
     unfolding firstTwice if_then_else_
     twice-none o h = rw (z, le-ltb _ _ h, o)
 
@@ -60,13 +60,13 @@ module _ (main number w : ℕ) where
   unfolding mainWord if_then_else_
   main-kept h = rw (ne-eqb _ _ h)
 
-  pub main-now : main ≡ 0 → number ≡ 11 → w ≡ mainWord main number w
+  pub main-now : main ≡ 0 → number ≡ 12 → w ≡ mainWord main number w
   unfolding mainWord if_then_else_
   main-now z e = rw (z, e)
 
-  pub main-other : main ≡ 0 → (number ≡ 11 → ⊥) → main ≡ mainWord main number w
+  pub main-other : main ≡ 0 → (number ≡ 12 → ⊥) → main ≡ mainWord main number w
   unfolding mainWord if_then_else_
-  main-other z h = rw (ne-eqb number 11 h, z)
+  main-other z h = rw (ne-eqb number 12 h, z)
 
 -- ---- the answer
 module _ (end main twice n : ℕ) where

@@ -1,15 +1,16 @@
 -- The grammar of statements and of procedures, over prepared token words and with code in place of trees.
 use Prim.Native.Nat.{ℕ, zero, suc, _+_, _-_}
-use mathlib.Core.Bool.{not, _&&_, _||_}
+use mathlib.Core.Bool.{Bool, not, _&&_, _||_}
 use mathlib.Core.List.{List, [], _∷_, _++_}
 use lib.ListN.{length, getD, set, take, drop, replicate}
 use lib.Dec.{eqb, ltb}
 use Rattle.meaning.specs.Basics.{if_then_else_}
-use Rattle.meaning.specs.Token.{ending, aName, wordDef, wordVar, wordIf, wordWhile, wordReturn, comma, semicolon, openParen, closeParen, openBrace, closeBrace, becomes}
+use Rattle.meaning.specs.Token.{ending, aName, aString, wordDef, wordVar, wordIf, wordWhile, wordReturn, wordNone, wordTrue, wordFalse, wordForeach, wordIn, wordDo}
+use Rattle.meaning.specs.Token.{comma, semicolon, openParen, closeParen, openBracket, openBrace, closeBrace, becomes}
 use Rattle.meaning.specs.Grammar.{Got, good, wrong, after, Inside, noLevel, level, opening}
-use Rattle.machine.specs.Opcodes.{procedureWord, tagDeclare, tagAssign, tagUpdate, tagWhen, tagWhile, tagReturn, tagBlock, tagAct}
+use Rattle.machine.specs.Opcodes.{procedureWord, tagDeclare, tagAssign, tagUpdate, tagWhen, tagWhile, tagReturn, tagBlock, tagAct, tagForeach}
 use Rattle.code.specs.Code.{headed}
-use Rattle.expressions.specs.Words.{placeAt, homeAt, procedureAt, is, Piece, ReadPiece, expect, expression, Seen, at, failed}
+use Rattle.expressions.specs.Words.{placeAt, homeAt, procedureAt, is, positiveAt, signedAt, Piece, ReadPiece, expect, expression, Seen, at, failed}
 use Rattle.statements.specs.declared.Parsed.{Parsed}
 use Rattle.statements.specs.declared.Parsed.the-variants.{Whole, Twice, Misfit}
 
@@ -20,6 +21,10 @@ ReadCode = ℕ → Got (List ℕ)
 pub record Readers : Type 0 where
   pub inExpression : ReadPiece
   pub inStatement : ReadCode
+
+-- a token of a kind has to follow
+abbrev pub skip : ℕ → List ℕ → ℕ → Got (Unit {0})
+skip k ws j = expect k ws j tt
 
 unfoldable pub declaration : List ℕ → ℕ → Got (List ℕ)
 declaration ws i =
@@ -59,6 +64,25 @@ guarded tag p inside ws i =
     good (headed tag p (length c) (c ++ s)) n)
     else λ _. wrong 10 i
 
+-- whether a statement can begin with token i
+unfoldable pub beginsStatement : List ℕ → ℕ → Bool
+beginsStatement ws i =
+    positiveAt ws i || signedAt ws i || is aString ws i || is wordNone ws i || is wordTrue ws i || is wordFalse ws i || is aName ws i || is openParen ws i ||
+    is openBracket ws i || is wordVar ws i || is wordIf ws i || is wordWhile ws i || is wordForeach ws i || is wordReturn ws i || is openBrace ws i
+
+-- foreach x in e do and a body, whose first token opens a level if a statement can begin there
+unfoldable pub iteration : ReadPiece → Inside Readers → List ℕ → ℕ → Got (List ℕ)
+iteration read inside ws i =
+    after (expect aName ws (i + 1) (homeAt ws (i + 1))) λ x i₂.
+    after (skip wordIn ws i₂) λ _ i₃.
+    after (read i₃) λ e j.
+    after (skip wordDo ws j) λ _ m.
+    if beginsStatement ws m then (λ _.
+    opening inside m λ inner.
+    after (inner .inStatement m) λ s n.
+    good (headed tagForeach (placeAt ws i) (length (e .code) + 1) (x ∷ (e .code ++ s))) n)
+    else λ _. wrong 10 m
+
 unfoldable pub statementsFrom : ℕ → ReadCode → List ℕ → ℕ → Got (List ℕ)
 statementsFrom zero inner ws i = wrong 10 i
 statementsFrom (suc rounds) inner ws i =
@@ -74,6 +98,7 @@ statementIn read inside ws i =
     if is wordVar ws i then (λ _. declaration ws i)
     else λ _. if is wordIf ws i then (λ _. guarded tagWhen (placeAt ws i) inside ws (i + 1))
     else λ _. if is wordWhile ws i then (λ _. guarded tagWhile (placeAt ws i) inside ws (i + 1))
+    else λ _. if is wordForeach ws i then (λ _. iteration read inside ws i)
     else λ _. if is wordReturn ws i then (λ _. returning read ws i)
     else λ _. if is openBrace ws i then (λ _.
     opening inside i λ inner.
@@ -114,10 +139,6 @@ parameters ws i =
     if is closeParen ws i then (λ _. good [] (i + 1))
     else λ _. parametersFrom (suc (length ws - i)) ws i
 
--- a token of a kind has to follow
-abbrev pub skip : ℕ → List ℕ → ℕ → Got (Unit {0})
-skip k ws j = expect k ws j tt
-
 -- the braces and what stands between, from token i on
 unfoldable pub body : List ℕ → ℕ → Got (List ℕ)
 body ws i = after (skip openBrace ws i) λ _ j. statements (statement 64 ws) ws j
@@ -153,11 +174,11 @@ pub record Gathered : Type 0 where
 
 -- main's word, where a procedure with a number has the word w
 unfoldable pub mainWord : ℕ → ℕ → ℕ → ℕ
-mainWord main number w = if eqb main 0 && eqb number 11 then (λ _. w) else λ _. main
+mainWord main number w = if eqb main 0 && eqb number 12 then (λ _. w) else λ _. main
 
 -- a `def` at a place p whose name has a number, and the word `old` in the table already
 unfoldable pub firstTwice : ℕ → ℕ → ℕ → ℕ → ℕ
-firstTwice twice number old p = if eqb twice 0 && (ltb number 10 || not (eqb old 0)) then (λ _. p + 1) else λ _. twice
+firstTwice twice number old p = if eqb twice 0 && (ltb number 11 || not (eqb old 0)) then (λ _. p + 1) else λ _. twice
 
 -- the word in the table of a procedure whose code begins at a
 abbrev pub wordAt : ℕ → Head → ℕ

@@ -6,14 +6,14 @@ ghost use mathlib.Core.Path.{_≡_};
 ghost use Prim.Native.Nat.{_+_, _-_, _<_, _≤_};
 ghost use lib.ListN.{length, replicate};
 ghost use Rattle.machine.specs.Opcodes.{procedureWord};
-ghost use Rattle.expressions.specs.Words.{kindAt, placeAt, homeAt, procedureAt, expression, seen, writtenCode};
+ghost use Rattle.expressions.specs.Words.{kindAt, placeAt, homeAt, procedureAt, signedAt, expression, seen, writtenCode};
 ghost use Rattle.expressions.specs.Words as Expressions;
 ghost use Rattle.expressions.specs.Room.{Room};
 ghost use Rattle.expressions.specs.Steps.{closed};
-ghost use Rattle.statements.specs.Words.{declaration, returning, simple, guarded, statement, statements, parameters, body, procedure, procedures};
+ghost use Rattle.statements.specs.Words.{declaration, returning, simple, guarded, beginsStatement, iteration, statement, statements, parameters, body, procedure, procedures};
 ghost use Rattle.statements.specs.Words.{writtenProcedure, tableIn, nothing, mainWord, firstTwice, seenWhole, writtenWhole};
 ghost use Rattle.statements.specs.Room.{Space, Parts, Ground, Halves};
-ghost use Rattle.statements.specs.Steps.{insideOf, ended, test, topped, Below, Entered, answered};
+ghost use Rattle.statements.specs.Steps.{insideOf, ended, test, members, each, topped, Below, Entered, answered};
 
 // By the first token.
 pub fn read_statement(tokens: &[u64], words: &mut [u64], i: usize, n: usize, left: usize) -> Read
@@ -26,6 +26,7 @@ pub fn read_statement(tokens: &[u64], words: &mut [u64], i: usize, n: usize, lef
         6 => read_guarded(tokens, words, 35, i, n, left),
         7 => read_guarded(tokens, words, 36, i, n, left),
         8 => read_return(tokens, words, i, n, left),
+        12 => read_foreach(tokens, words, i, n, left),
         123 => read_block(tokens, words, i, n, left),
         _ => read_simple(tokens, words, i, n, left),
     }
@@ -88,6 +89,78 @@ fn read_test(tokens: &[u64], words: &mut [u64], i: usize, n: usize, left: usize)
     }
     let e = expressions::read_expression(tokens, words, i + 1, n, left - 1);
     close(tokens, e, 41)
+}
+
+// x in e do: the slot of x, and the code of e behind it.
+fn read_members(tokens: &[u64], words: &mut [u64], i: usize, n: usize, left: usize) -> Read
+    requires { ⌜ Room (now tokens) (now words) i n ⌝ }
+    ensures { λ r. ⌜ seen r (now (words .exit)) ≡ writtenCode (members (expression left (now (tokens .entry))) (now (tokens .entry)) i) n (now (words .entry)) ⌝ }
+{
+    if token::kind_at(tokens, i) != 1 {
+        return Read::Wrong(10, i);
+    }
+    if token::kind_at(tokens, i + 1) != 13 {
+        return Read::Wrong(10, i + 1);
+    }
+    code::put(words, n, token::home_at(tokens, i));
+    let e = expressions::read_expression(tokens, words, i + 2, n + 1, left);
+    close(tokens, e, 14)
+}
+
+// The same, and the first token of a body, which opens a level if a statement can begin there.
+fn read_each(tokens: &[u64], words: &mut [u64], i: usize, n: usize, left: usize) -> Read
+    requires { ⌜ Room (now tokens) (now words) i n ⌝ }
+    ensures { λ r. ⌜ seen r (now (words .exit)) ≡ writtenCode (each (expression left (now (tokens .entry))) (insideOf left (now (tokens .entry))) (now (tokens .entry)) i) n (now (words .entry)) ⌝ }
+{
+    let e = read_members(tokens, words, i, n, left);
+    match e {
+        Read::Wrong(k, p) => Read::Wrong(k, p),
+        Read::At(j, m, _) => {
+            if !begins_statement(tokens, j) {
+                return Read::Wrong(10, j);
+            }
+            if left == 0 {
+                return Read::Wrong(75, j);
+            }
+            Read::At(j, m, 0)
+        }
+    }
+}
+
+// Whether a statement can begin with token i.
+fn begins_statement(tokens: &[u64], i: usize) -> bool
+    ensures { λ r. ⌜ r ≡ beginsStatement (now (tokens .entry)) i ⌝ }
+{
+    let kind = token::kind_at(tokens, i);
+    match kind {
+        1 => true,
+        2 => token::payload_at(tokens, i) <= 2147483647,
+        3 => true,
+        5 => true,
+        6 => true,
+        7 => true,
+        8 => true,
+        9 => true,
+        10 => true,
+        11 => true,
+        12 => true,
+        40 => true,
+        45 => is_signed(tokens, i),
+        91 => true,
+        123 => true,
+        _ => false,
+    }
+}
+
+// Whether digits stand directly behind the minus that is token i.
+fn is_signed(tokens: &[u64], i: usize) -> bool
+    requires { ⌜ kindAt (now tokens) i ≡ 45 ⌝ }
+    ensures { λ r. ⌜ r ≡ signedAt (now (tokens .entry)) i ⌝ }
+{
+    if token::kind_at(tokens, i + 1) != 2 {
+        return false;
+    }
+    token::place_at(tokens, i + 1) == token::place_at(tokens, i) + 1
 }
 
 // var x;
@@ -160,6 +233,23 @@ fn read_guarded(
         Read::At(j, m, _) => {
             let s = read_statement(tokens, words, j, m, left - 1);
             head(tokens, words, s, tag, i, n, (m - n - 1) as u64)
+        }
+    }
+}
+
+// foreach, at token i. The slot of its variable stands behind its word, then its group's code; the body is a level further in. What is asked of the
+// body's first token is asked before, in a function that calls no statement: so a level takes no more of the stack.
+fn read_foreach(tokens: &[u64], words: &mut [u64], i: usize, n: usize, left: usize) -> Read
+    requires { ⌜ Space (now tokens) (now words) i n ⌝ }
+    requires { ⌜ i < length (now tokens) ⌝ }
+    ensures { λ r. ⌜ seen r (now (words .exit)) ≡ writtenCode (iteration (expression left (now (tokens .entry))) (insideOf left (now (tokens .entry))) (now (tokens .entry)) i) n (now (words .entry)) ⌝ }
+{
+    let e = read_each(tokens, words, i + 1, n + 1, left);
+    match e {
+        Read::Wrong(k, p) => Read::Wrong(k, p),
+        Read::At(j, m, _) => {
+            let b = read_statement(tokens, words, j, m, left - 1);
+            head(tokens, words, b, 40, i, n, (m - n - 1) as u64)
         }
     }
 }
@@ -346,7 +436,7 @@ fn note_twice(tokens: &[u64], i: usize, twice: usize, old: u64) -> usize
     if old != 0 {
         return place + 1;
     }
-    if token::procedure_at(tokens, i + 1) < 10 {
+    if token::procedure_at(tokens, i + 1) < 11 {
         return place + 1;
     }
     0
@@ -360,7 +450,7 @@ fn note_main(tokens: &[u64], i: usize, main: u64, w: u64) -> u64
     if main != 0 {
         return main;
     }
-    if token::procedure_at(tokens, i + 1) == 11 {
+    if token::procedure_at(tokens, i + 1) == 12 {
         return w;
     }
     main

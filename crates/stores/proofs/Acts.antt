@@ -10,7 +10,7 @@ use borrow.Author.Tests.{leb-true, leb-false}
 use Rattle.meaning.specs.Basics.{if_then_else_}
 use Rattle.machine.specs.declared.Value.{Value}
 use Rattle.machine.specs.declared.Answer.the-variants.{Good, Bad}
-use Rattle.machine.specs.Act.{raw, Out, done, stop, Act, goOn, _>>=_, spend, shown, passed, Answers, Passes, Pays, Gives}
+use Rattle.machine.specs.Act.{Raw, raw, Out, done, stop, Act, goOn, _>>=_, spend, shown, passed, Answers, Passes, Pays, Gives}
 
 -- ---- one act and then another
 module _ {B : Type 0} (k : Value → Act B) where
@@ -36,13 +36,17 @@ unfolding _>>=_ goOn
 after-gift {A} k ts h = ap (λ (o : Out A). goOn o k) (sym (h .equal ts))
 
 -- ---- what a payment tells
-wordsIn : Out (Unit {0}) → List ℕ
+unfoldable pub wordsIn : Out (Unit {0}) → List ℕ
 wordsIn (done a r) = r .words
 wordsIn (stop n p r) = r .words
 
 isDone : Out (Unit {0}) → Bool
 isDone (done a r) = true
 isDone (stop n p r) = false
+
+pub not-stopped : {n p : ℕ} {r q : Raw} → _≡_ {A = Out (Unit {0})} (done tt r) (stop n p q) → ⊥
+unfolding isDone
+not-stopped e = let x : true ≡ false = ap isDone e in let z : _≡_ {A = ℕ} 0 1 = cc in omega arith
 
 -- paid: it was within the grant, and the counter has it
 pub record Paid (ws : List ℕ) (counter granted amount : ℕ) (ws′ : List ℕ) : Type 0 where

@@ -1,4 +1,4 @@
--- Calls and the scene: what each way through the code does.
+-- Calls: what each way through the code does.
 use Prim.Native.Nat.{ℕ, suc, _+_, _-_, _*_, _/_, _%_, _^_, _≤_, _<_}
 use mathlib.Core.Path.{_≡_, refl, sym, _∙_}
 use mathlib.Core.Bool.{Bool, true, false, not}
@@ -6,61 +6,14 @@ use mathlib.Core.List.{List}
 use native.Mathlib.Omega.{arith}
 use lib.ListN.{getD, set, length, length-set}
 use borrow.Author.Tests.{not-true, not-false, lt-ltb, le-ltb}
-use Rattle.machine.specs.Words.{unpacked}
-use Rattle.machine.specs.Layout.{declared, argumentsHeld, callsUsed, running, stackWords, framePlace, valuePlace, orderPlace, argumentPlace}
+use Rattle.machine.specs.Layout.{declared, argumentsHeld, callsUsed, running, loopUnit, stackWords, framePlace, valuePlace, orderPlace, argumentPlace}
 use Rattle.machine.specs.Act.{raw, done, Act, goOn, give, fail, refuse, load, store, passed, Passes, Gives, _>>=_}
-use Rattle.machine.specs.Variables.{declare, waitingWord, wordIn, slotIn, frameWord, topIn, countIn, destroyIn, clearFrom, clearWaiting, clearFrames, clearScene}
+use Rattle.machine.specs.Variables.{declare, waitingWord, wordIn, slotIn, frameWord}
 use Rattle.machine.specs.Stack.{dropTo}
 use Rattle.machine.specs.Procedures.{suspendFrom, suspend, declareFrom, undeclareFrom, resumeFrom, resume}
 use Rattle.meaning.specs.Basics.{if_then_else_}
 use Rattle.stores.proofs.Acts.{after-pass, after-refusal}
 use Rattle.stores.proofs.Turns.{Turns, turns-first, turns-next, turns-last, from-none}
-
--- ---- the scene
--- the call under way
-module _ (ws₀ : List ℕ) (n : ℕ) (ws : List ℕ) (k : ℕ) (g : Turns clearFrom 0 n ws₀ ws k) where
-  pub clear-more : (ws′ : List ℕ) → k < n → Gives ws (destroyIn (unpacked (getD ws (valuePlace (getD ws (orderPlace k) 0)) 0))) tt ws′
-      → length ws′ ≡ length ws → Turns clearFrom 0 n ws₀ ws′ (k + 1)
-  unfolding clearFrom _>>=_ goOn load
-  clear-more ws′ h d l = turns-next clearFrom 0 n ws₀ ws k g ws′ h (λ m ts. rw (← d .equal ts)) l
-
-  pub clear-all : n ≡ getD ws₀ declared 0 → n ≤ k → Gives ws₀ (clearFrom 0 (getD ws₀ declared 0)) tt ws
-  unfolding clearFrom give
-  clear-all e h = rw (← e, ← from-none n) (turns-last clearFrom 0 n ws₀ ws k g h (λ ts. refl))
-
--- a call that waits
-abbrev pub waitingFrom : ℕ → ℕ → ℕ → Act (Unit {0})
-waitingFrom top k m = clearWaiting (top + k) m
-
-module _ (ws₀ : List ℕ) (top n : ℕ) where
-  module _ (ws : List ℕ) (k : ℕ) (g : Turns (waitingFrom top) 0 n ws₀ ws k) where
-    pub clear-more-waiting : (at : ℕ) (ws′ : List ℕ) → k < n → at ≡ argumentPlace (top + k) → Gives ws (destroyIn (unpacked (wordIn (getD ws at 0)))) tt ws′
-        → length ws′ ≡ length ws → Turns (waitingFrom top) 0 n ws₀ ws′ (k + 1)
-    unfolding clearWaiting _>>=_ goOn load
-    clear-more-waiting at ws′ h i d l =
-        let e : top + k + 1 ≡ top + (k + 1) = omega arith in
-        turns-next (waitingFrom top) 0 n ws₀ ws k g ws′ h (λ m ts. rw (← i, ← d .equal ts, e)) l
-
-    pub clear-all-waiting : n ≤ k → Gives ws₀ (clearWaiting top n) tt ws
-    unfolding clearWaiting give
-    clear-all-waiting h =
-        let e : top + 0 ≡ top = omega arith in
-        rw (e, from-none n) at (turns-last (waitingFrom top) 0 n ws₀ ws k g h (λ ts. refl))
-
--- all that wait
-module _ (ws₀ : List ℕ) (n : ℕ) (ws : List ℕ) (d : ℕ) (g : Turns clearFrames 1 n ws₀ ws d) where
-  pub clear-more-frames : (ws′ : List ℕ) → d < n → Gives ws (clearWaiting (topIn (getD ws (framePlace d) 0)) (countIn (getD ws (framePlace d) 0))) tt ws′
-      → length ws′ ≡ length ws → Turns clearFrames 1 n ws₀ ws′ (d + 1)
-  unfolding clearFrames _>>=_ goOn load
-  clear-more-frames ws′ h q l = turns-next clearFrames 1 n ws₀ ws d g ws′ h (λ m ts. rw (← q .equal ts)) l
-
-  pub clear-all-frames : n ≡ getD ws₀ callsUsed 0 → n ≤ d → Gives ws₀ (clearFrames 1 (getD ws₀ callsUsed 0 - 1)) tt ws
-  unfolding clearFrames give
-  clear-all-frames e h = rw (← e) (turns-last clearFrames 1 n ws₀ ws d g h (λ ts. refl))
-
-pub scene-cleared : (ws ws₁ ws₂ : List ℕ) → Gives ws (clearFrames 1 (getD ws callsUsed 0 - 1)) tt ws₁ → Gives ws₁ (clearFrom 0 (getD ws₁ declared 0)) tt ws₂ → Gives ws clearScene tt ws₂
-unfolding clearScene _>>=_ goOn load
-scene-cleared ws ws₁ ws₂ a b = record { equal = λ ts. sym (rw (← a .equal ts, ← b .equal ts)) }
 
 -- ---- the caller waits
 two-set : (ws : List ℕ) (i u j v : ℕ) → length (set (set ws i u) j v) ≡ length ws
@@ -147,8 +100,8 @@ module _ (ws₀ : List ℕ) (top n : ℕ) (ws : List ℕ) (k : ℕ) (g : Turns (
   unfolding resumeFrom give
   all-resumed h = rw (from-none n) at (turns-last (resumeFrom top) 0 n ws₀ ws k g h (λ ts. refl))
 
-pub resumed : (ws ws₁ ws₂ : List ℕ) (top n caller base c : ℕ) → Gives ws (undeclareFrom 0 (getD ws declared 0)) tt ws₁ → Gives ws₁ (resumeFrom top 0 n) tt ws₂
-    → c ≡ getD (set (set ws₂ declared n) running caller) callsUsed 0 - 1
-    → Gives ws (resume top n caller base) tt (set (set (set (set ws₂ declared n) running caller) callsUsed c) argumentsHeld base)
+pub resumed : (ws ws₁ ws₂ : List ℕ) (top n caller unit base c : ℕ) → Gives ws (undeclareFrom 0 (getD ws declared 0)) tt ws₁ → Gives ws₁ (resumeFrom top 0 n) tt ws₂
+    → c ≡ getD (set (set (set ws₂ declared n) running caller) loopUnit unit) callsUsed 0 - 1
+    → Gives ws (resume top n caller unit base) tt (set (set (set (set (set ws₂ declared n) running caller) loopUnit unit) callsUsed c) argumentsHeld base)
 unfolding resume dropTo _>>=_ goOn load store
-resumed ws ws₁ ws₂ top n caller base c a b e = record { equal = λ ts. sym (rw (← a .equal ts, ← b .equal ts, e)) }
+resumed ws ws₁ ws₂ top n caller unit base c a b e = record { equal = λ ts. sym (rw (← a .equal ts, ← b .equal ts, e)) }

@@ -1,9 +1,10 @@
 -- What each way through the code does.
 use Prim.Native.Nat.{ℕ, zero, suc, _+_, _-_, _*_, _/_, _%_, _^_, _≤_, _<_}
-use mathlib.Core.Path.{_≡_, refl, sym, _∙_}
+use mathlib.Core.Path.{_≡_, refl, ap, sym, _∙_}
 use mathlib.Core.Bool.{Bool, true, false, not}
 use mathlib.Core.List.{List, [], _∷_}
 use native.Mathlib.Omega.{arith}
+use native.Mathlib.Nat.{le-trans, mul-le-mul-left}
 use lib.ListN.{getD, set, length}
 use lib.Dec.{eqb}
 use lib.IntN.{ℤ}
@@ -11,20 +12,23 @@ use lib.Signed.{mag}
 use mir.Syntax.{w32}
 use mir.Val.{toZ, ofZ, SFits}
 use mir.Facts.{toZ-ofZ}
-use borrow.Author.Tests.{not-true, not-false, le-leb, lt-leb, ne-eqb}
+use borrow.Author.Tests.{not-true, not-false, le-leb, lt-leb, ne-eqb, eqb-true, eqb-false}
 use Rattle.meaning.specs.Integer.{bits}
 use Rattle.machine.specs.declared.Value.{Value}
 use Rattle.machine.specs.declared.Value.the-variants.{Table, Shape}
 use Rattle.machine.specs.declared.Answer.the-variants.{Good, Bad}
 use Rattle.machine.specs.Words.{kindIn, kindNothing, kindShape, numberIn, packed, unpacked}
 use Rattle.values.proofs.Laws.{unpacked-shape, by-kind}
-use Rattle.machine.specs.Layout.{stepsUsed, shapesUsed, tablesMade, declared, argumentsHeld, stepsGranted, shapesGranted, stackWords, valuePlace, orderPlace, argumentPlace, shapePlace, Room}
-use Rattle.machine.specs.Act.{raw, Out, done, goOn, give, fail, refuse, load, store, spend, count, newTable, shown, passed, Answers, Passes, Pays, Gives, _>>=_}
+use Rattle.machine.specs.Layout.{stepsUsed, shapesUsed, tablesMade, declared, argumentsHeld, callsUsed}
+use Rattle.machine.specs.Layout.{stepsGranted, shapesGranted, stackWords, valuePlace, orderPlace, argumentPlace, shapePlace, componentPlace, Room}
+use Rattle.machine.specs.Act.{raw, Out, done, stop, goOn, give, fail, refuse, load, store, held, spend, count, newTable, shown, passed, Answers, Passes, Pays, Gives, _>>=_}
 use Rattle.machine.specs.declared.Figure.{Figure}
-use Rattle.machine.specs.Shapes.{firstWord, pairWord, figureLaid, putFigure, lowNumber, highNumber, figureAt, destroyedAt, newShape, destroy}
-use Rattle.machine.specs.Variables.{isDead, usable, variable, declare, setVariable, destroyIn}
+use Rattle.machine.specs.Shapes.{firstWord, pairWord, figureLaid, putFigure, lowNumber, highNumber, figureAt, kindGroup, destroyedAt, isGroupAt, newShape, destroy}
+use Rattle.machine.specs.Variables.{isDead, usable, variable, declare, declareOnce, setVariable}
+use Rattle.machine.specs.Groups.{componentAt, followersAt, firstAt, countAt}
+use Rattle.machine.specs.Loops.{markPlace}
 use Rattle.machine.specs.Stack.{push, dropTo}
-use Rattle.stores.proofs.Acts.{paid, short}
+use Rattle.stores.proofs.Acts.{wordsIn, not-stopped, paid, short}
 use Rattle.meaning.specs.Basics.{if_then_else_}
 
 -- ---- words
@@ -71,6 +75,32 @@ destroys ws ws′ i at w e f h = record { equal = λ ts. rw (h, f, e) }
 pub is-destroyed : (ws : List ℕ) (i at w : ℕ) → at ≡ shapePlace i → w ≡ getD ws at 0 → eqb (w % 2) 1 ≡ destroyedAt ws i
 is-destroyed ws i at w e f = rw (f, e)
 
+pub is-group : (ws : List ℕ) (i at w : ℕ) → at ≡ shapePlace i → w ≡ getD ws at 0 → eqb (w / 2 % 8) kindGroup ≡ isGroupAt ws i
+is-group ws i at w e f = rw (f, e)
+
+-- ---- components
+module _ (g ws : List ℕ) (k at w : ℕ) (e : at ≡ componentPlace g k) (f : w ≡ getD ws at 0) where
+  pub component-is : w % 4294967296 ≡ componentAt g ws k
+  component-is = rw (f, e)
+
+  pub followers-are : w / 4294967296 % 65536 ≡ followersAt g ws k
+  followers-are = rw (f, e)
+
+module _ (ws : List ℕ) (i at w : ℕ) (e : at ≡ shapePlace i) (f : w ≡ getD ws (at + 1) 0) where
+  pub first-is : w % 65536 ≡ firstAt ws i
+  first-is = rw (f, e)
+
+  pub count-is : w / 4294967296 % 65536 ≡ countAt ws i
+  count-is = rw (f, e)
+
+-- the words of a call's components
+pub rows-small : (e d : ℕ) → e < 65536 → e * (d % 64) ≤ 4194304
+rows-small e d h = let r : d % 64 ≤ 63 = omega arith in le-trans (mul-le-mul-left e r) (omega arith)
+
+pub mark-stands : (g ws : List ℕ) (d k : ℕ) → d ≡ getD ws callsUsed 0 - 1 → 278608 + 5 * getD g 1 0 + 5 * getD g 2 0 + getD g 2 0 * (d % 64) + k ≡ markPlace g ws k
+mark-stands g ws d k e = rw e
+
+-- ---- figures
 -- A signed local holds bits, and is read back from them.
 pub pair-is : {x y : ℤ} {a b : ℕ} → SFits w32 x → SFits w32 y → a ≡ bits (toZ w32 (ofZ w32 x)) → b ≡ bits (toZ w32 (ofZ w32 y)) → a + 4294967296 * b ≡ pairWord x y
 pair-is f g h k = rw (h, k, toZ-ofZ f, toZ-ofZ g)
@@ -80,7 +110,7 @@ back h e = toZ-ofZ (record { sfits = h }) ∙ e
 
 pub figure-is : (ws : List ℕ) (i at x y z : ℕ) {a b c d : ℤ} → at ≡ shapePlace i → x ≡ getD ws at 0 → y ≡ getD ws (at + 1) 0 → z ≡ getD ws (at + 2) 0
     → mag a < 2 ^ 31 → a ≡ lowNumber y → mag b < 2 ^ 31 → b ≡ highNumber y → mag c < 2 ^ 31 → c ≡ lowNumber z → mag d < 2 ^ 31 → d ≡ highNumber z
-    → _≡_ {A = Figure} (record { kind = x / 2 % 4; a = toZ w32 (ofZ w32 a); b = toZ w32 (ofZ w32 b); c = toZ w32 (ofZ w32 c); d = toZ w32 (ofZ w32 d); text = x / 8 }) (figureAt ws i)
+    → _≡_ {A = Figure} (record { kind = x / 2 % 8; a = toZ w32 (ofZ w32 a); b = toZ w32 (ofZ w32 b); c = toZ w32 (ofZ w32 c); d = toZ w32 (ofZ w32 d); text = x / 16 }) (figureAt ws i)
 unfolding figureAt
 figure-is ws i at x y z e f g h la a lb b lc c ld d = rw (back la a, back lb b, back lc c, back ld d, f, g, h, e)
 
@@ -120,14 +150,6 @@ module _ (ws : List ℕ) (w : ℕ) where
   unfolding isDead
   dead-shape b i h e d = d ∙ rw (e, unpacked-shape w h)
 
-  pub destroys-nothing : (kindIn w ≡ kindShape → ⊥) → Gives ws (destroyIn (unpacked w)) tt ws
-  unfolding destroyIn give
-  destroys-nothing h = record { equal = λ ts. by-kind w (λ v. _≡_ {A = Out (Unit {0})} (done tt (raw ts ws)) (destroyIn v (raw ts ws))) (λ _. refl) (λ _. refl) (λ _. refl) refl (λ _. refl) (λ e. absurd (h e)) }
-
-  pub destroys-shape : (i : ℕ) (ws′ : List ℕ) → kindIn w ≡ kindShape → i ≡ numberIn w → Gives ws (destroy i) tt ws′ → Gives ws (destroyIn (unpacked w)) tt ws′
-  unfolding destroyIn
-  destroys-shape i ws′ h e d = record { equal = λ ts. d .equal ts ∙ rw (e, unpacked-shape w h) }
-
 module _ (ws : List ℕ) (p slot : ℕ) where
   pub unknown : getD ws (valuePlace slot) 0 ≡ 0 → Answers ws (variable p slot) (Bad 50 p) ws
   unfolding variable _>>=_ goOn load refuse fail shown
@@ -151,6 +173,20 @@ module _ (ws : List ℕ) (slot : ℕ) where
       → Passes ws 60 (declare slot) true (set (set (set ws (valuePlace slot) kindNothing) (orderPlace (getD ws declared 0)) slot) declared (getD ws declared 0 % 8192 + 1))
   unfolding declare _>>=_ goOn load store refuse fail give passed packed
   declares h = record { equal = λ p ts. rw h }
+
+  pub declares-once : (ok : Bool) (ws′ : List ℕ) → Passes ws 60 (declare slot) ok ws′ → Gives ws (declareOnce slot) tt ws′
+  unfolding declareOnce declare _>>=_ goOn held load store refuse fail give passed packed if_then_else_ wordsIn
+  declares-once ok ws′ h = record { equal = λ ts. go ts ok (eqb (getD ws (valuePlace slot) 0) 0) refl (h .equal 0 ts) }
+    where
+      go : (ts : List ℕ) (ok z : Bool) → eqb (getD ws (valuePlace slot) 0) 0 ≡ z → passed ok 60 0 ts ws′ ≡ declare slot 0 (raw ts ws)
+          → _≡_ {A = Out (Unit {0})} (done tt (raw ts ws′)) (declareOnce slot (raw ts ws))
+      go ts true true e q = let h : getD ws (valuePlace slot) 0 ≡ 0 = eqb-true _ _ e in q ∙ sym (declares h .equal 0 ts) ∙ rw (h, h)
+      go ts true false e q = absurd (not-stopped (q ∙ sym (declared-before (eqb-false _ _ e) .equal 0 ts)))
+      go ts false true e q = absurd (not-stopped (declares (eqb-true _ _ e) .equal 0 ts ∙ sym q))
+      go ts false false e q =
+          let s : _≡_ {A = Out (Unit {0})} (stop 60 0 (raw ts ws′)) (stop 60 0 (raw ts ws)) = q ∙ rw e in
+          let w : ws′ ≡ ws = ap wordsIn s in
+          rw (w, e)
 
   pub sets-variable : (w : ℕ) → Gives ws (setVariable slot w) tt (set ws (valuePlace slot) w)
   unfolding setVariable store

@@ -7,7 +7,7 @@ use machine::layout;
 ghost use Prim.Native.Nat.{_+_, _^_, _≤_, _<_};
 ghost use mathlib.Core.Path.{_≡_};
 ghost use lib.ListN.{length, getD};
-ghost use Rattle.machine.specs.Layout.{running, fixedWords, stackWords};
+ghost use Rattle.machine.specs.Layout.{running, loopUnit, fixedWords, stackWords};
 ghost use Rattle.machine.specs.Act.{Passes, Gives};
 ghost use Rattle.machine.specs.Variables.{waitingWord, frameWord};
 ghost use Rattle.machine.specs.Procedures.{suspendFrom, suspend, declareFrom, undeclareFrom, resumeFrom, resume};
@@ -18,6 +18,14 @@ pub fn running(words: &[u64]) -> u64
     ensures { λ r. ⌜ r ≡ getD (now (words .entry)) running 0 ⌝ }
 {
     words[machine::counters::RUNNING]
+}
+
+// What the innermost loop over a group adds to the words of its way.
+pub fn loop_unit(words: &[u64]) -> u64
+    requires { ⌜ fixedWords ≤ length (now words) ⌝ }
+    ensures { λ r. ⌜ r ≡ getD (now (words .entry)) loopUnit 0 ⌝ }
+{
+    words[machine::counters::LOOP_UNIT]
 }
 
 // ---- the caller waits
@@ -118,15 +126,16 @@ fn resume_variables(words: &mut [u64], top: usize, n: usize)
 }
 
 // The call under way returns, and the caller, which has n variables, goes on.
-pub fn resume(words: &mut [u64], top: usize, n: usize, caller: u64, base: u64)
+pub fn resume(words: &mut [u64], top: usize, n: usize, caller: u64, unit: u64, base: u64)
     requires { ⌜ fixedWords ≤ length (now words) ⌝ }
-    ensures { λ _. ⌜ Gives (now (words .entry)) (resume top n caller base) tt (now (words .exit)) ⌝ }
+    ensures { λ _. ⌜ Gives (now (words .entry)) (resume top n caller unit base) tt (now (words .exit)) ⌝ }
 {
     let m = words[machine::counters::DECLARED] as usize;
     undeclare(words, m);
     resume_variables(words, top, n);
     words[machine::counters::DECLARED] = n as u64;
     words[machine::counters::RUNNING] = caller;
+    words[machine::counters::LOOP_UNIT] = unit;
     words[machine::counters::CALLS] = arithmetic::lowered_word(words[machine::counters::CALLS], 1);
     words[machine::counters::ARGUMENTS] = base;
 }

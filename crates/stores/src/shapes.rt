@@ -11,7 +11,7 @@ ghost use mathlib.Core.Path.{_≡_};
 ghost use lib.ListN.{length};
 ghost use Rattle.machine.specs.Layout.{Room, shapePlace};
 ghost use Rattle.machine.specs.Act.{Answers, Gives};
-ghost use Rattle.machine.specs.Shapes.{firstWord, pairWord, figureLaid, lowNumber, highNumber, destroyedAt, figureAt, newShape, destroy};
+ghost use Rattle.machine.specs.Shapes.{firstWord, pairWord, figureLaid, lowNumber, highNumber, destroyedAt, isGroupAt, figureAt, newShape, destroy};
 
 // Where a shape's words stand.
 pub fn place_of(i: u32) -> usize
@@ -37,7 +37,7 @@ fn high_number(w: u64) -> i32
 fn first_word(kind: u64, text: u64) -> u64
     ensures { λ r. ⌜ r ≡ firstWord kind text ⌝ }
 {
-    2 * (kind % 4) + 8 * (text % 1099511627776)
+    2 * (kind % 8) + 16 * (text % 1099511627776)
 }
 
 // A word of two numbers.
@@ -53,6 +53,12 @@ pub fn is_destroyed(words: &[u64], i: u32) -> bool
     words::word_at(words, place_of(i)) % 2 == 1
 }
 
+pub fn is_group(words: &[u64], i: u32) -> bool
+    ensures { λ r. ⌜ r ≡ isGroupAt (now (words .entry)) i ⌝ }
+{
+    words::word_at(words, place_of(i)) / 2 % 8 == machine::shapes::GROUP
+}
+
 pub fn figure_at(words: &[u64], i: u32) -> Figure
     ensures { λ r. ⌜ r ≡ figureAt (now (words .entry)) i ⌝ }
 {
@@ -61,16 +67,16 @@ pub fn figure_at(words: &[u64], i: u32) -> Figure
     let second = words::word_at(words, at + 1);
     let third = words::word_at(words, at + 2);
     Figure {
-        kind: first / 2 % 4,
+        kind: first / 2 % 8,
         a: low_number(second),
         b: high_number(second),
         c: low_number(third),
         d: high_number(third),
-        text: first / 8,
+        text: first / 16,
     }
 }
 
-// The three words of a shape, from a place on.
+// The three words of a figure, from a place on.
 fn put_figure(words: &mut [u64], at: usize, f: Figure)
     requires { ⌜ at + 3 ≤ length (now words) ⌝ }
     ensures { λ _. ⌜ now (words .exit) ≡ figureLaid (now (words .entry)) at f ⌝ }

@@ -33,10 +33,10 @@ pub hash-halves : (h w x r : ℕ) → x ≡ hashed h (w % 4294967296) → r ≡ 
 hash-halves h w x r e f = f ∙ rw e
 
 module _ (program ts ws : List ℕ) (h : ℕ) where
-  pub hash-figure : (i at w k x y z r : ℕ) (text : List ℕ) → at ≡ shapePlace i → w ≡ getD ws at 0 → k ≡ hashed h (w / 2 % 4)
+  pub hash-figure : (i at w k x y z r : ℕ) (text : List ℕ) → at ≡ shapePlace i → w ≡ getD ws at 0 → k ≡ hashed h (w / 2 % 8)
       → x ≡ getD ws (at + 1) 0 → y ≡ hashed (hashed k (x % 2 ^ 32)) (x / 2 ^ 32 % 2 ^ 32)
       → (u : ℕ) → u ≡ getD ws (at + 2) 0 → z ≡ hashed (hashed y (u % 2 ^ 32)) (u / 2 ^ 32 % 2 ^ 32)
-      → text ≡ textOf program ts (w / 8) → r ≡ hashFrom z text → r ≡ hashFrom h (figureContent program ts ws i)
+      → text ≡ textOf program ts (w / 16) → r ≡ hashFrom z text → r ≡ hashFrom h (figureContent program ts ws i)
   unfolding hashFrom figureContent
   hash-figure i at w k x y z r text a b c d e u f g t o = o ∙ rw (t, g, f, e, d, c, b, a)
 

@@ -11,7 +11,8 @@ use Rattle.meaning.specs.Basics.{if_then_else_, sameText}
 use Rattle.machine.specs.Words.{kindIn, numberIn, handleIn}
 use Rattle.machine.specs.Layout.{shapePlace}
 use Rattle.machine.specs.Texts.{textOf}
-use Rattle.machine.specs.Tables.{sameFigure, sameKey, figureContent, contentOf}
+use Rattle.machine.specs.Shapes.{isGroupAt}
+use Rattle.machine.specs.Tables.{sameFigure, sameKey, figureContent, contentOf, isGroupKey}
 use Rattle.tables.specs.Asked.{matchesAt}
 use Rattle.texts.proofs.Comparison.{same-eq}
 
@@ -20,23 +21,31 @@ pub same-words : (ws : List ℕ) (a b x y : ℕ) → x ≡ getD ws a 0 → y ≡
 same-words ws a b x y e f = rw (e, f)
 
 module _ (program ts ws : List ℕ) (i j a b x y : ℕ) (e : a ≡ shapePlace i) (f : b ≡ shapePlace j) (g : x ≡ getD ws a 0) (h : y ≡ getD ws b 0) where
-  pub other-kind : (x / 2 % 4 ≡ y / 2 % 4 → ⊥) → false ≡ sameFigure program ts ws i j
+  pub other-kind : (x / 2 % 8 ≡ y / 2 % 8 → ⊥) → false ≡ sameFigure program ts ws i j
   unfolding sameFigure
   other-kind n = rw (← e, ← f, ← g, ← h, ne-eqb _ _ n)
 
-  pub other-second : (q : Bool) → x / 2 % 4 ≡ y / 2 % 4 → q ≡ eqb (getD ws (a + 1) 0) (getD ws (b + 1) 0) → not q ≡ true → false ≡ sameFigure program ts ws i j
+  pub other-second : (q : Bool) → x / 2 % 8 ≡ y / 2 % 8 → q ≡ eqb (getD ws (a + 1) 0) (getD ws (b + 1) 0) → not q ≡ true → false ≡ sameFigure program ts ws i j
   unfolding sameFigure
   other-second q k s n = rw (← e, ← f, ← g, ← h, eq-eqb _ _ k, ← s, not-true q n)
 
-  pub other-third : (q r : Bool) → x / 2 % 4 ≡ y / 2 % 4 → q ≡ eqb (getD ws (a + 1) 0) (getD ws (b + 1) 0) → not q ≡ false
+  pub other-third : (q r : Bool) → x / 2 % 8 ≡ y / 2 % 8 → q ≡ eqb (getD ws (a + 1) 0) (getD ws (b + 1) 0) → not q ≡ false
       → r ≡ eqb (getD ws (a + 2) 0) (getD ws (b + 2) 0) → not r ≡ true → false ≡ sameFigure program ts ws i j
   unfolding sameFigure
   other-third q r k s n t m = rw (← e, ← f, ← g, ← h, eq-eqb _ _ k, ← s, not-false q n, ← t, not-true r m)
 
-  pub by-text : (q r z : Bool) → x / 2 % 4 ≡ y / 2 % 4 → q ≡ eqb (getD ws (a + 1) 0) (getD ws (b + 1) 0) → not q ≡ false
-      → r ≡ eqb (getD ws (a + 2) 0) (getD ws (b + 2) 0) → not r ≡ false → z ≡ sameText (textOf program ts (x / 8)) (textOf program ts (y / 8)) → z ≡ sameFigure program ts ws i j
+  pub by-text : (q r z : Bool) → x / 2 % 8 ≡ y / 2 % 8 → q ≡ eqb (getD ws (a + 1) 0) (getD ws (b + 1) 0) → not q ≡ false
+      → r ≡ eqb (getD ws (a + 2) 0) (getD ws (b + 2) 0) → not r ≡ false → z ≡ sameText (textOf program ts (x / 16)) (textOf program ts (y / 16)) → z ≡ sameFigure program ts ws i j
   unfolding sameFigure
   by-text q r z k s n t m u = u ∙ rw (← e, ← f, ← g, ← h, eq-eqb _ _ k, ← s, not-false q n, ← t, not-false r m)
+
+-- ---- groups
+module _ (ws : List ℕ) (key : ℕ) where
+  pub no-group-key : (key % 8 ≡ 6 → ⊥) → false ≡ isGroupKey ws key
+  no-group-key h = rw (ne-eqb _ _ h)
+
+  pub group-key : (i : ℕ) (b : Bool) → key % 8 ≡ 6 → i ≡ numberIn key → b ≡ isGroupAt ws i → b ≡ isGroupKey ws key
+  group-key i b h e f = f ∙ rw (e, h)
 
 -- ---- words
 two-kinds : {A : Type 0} (n : ℕ) → eqb n 2 ≡ true → eqb n 6 ≡ true → A
@@ -99,15 +108,15 @@ same-figure : (program ts ws : List ℕ) (i j : ℕ) → sameFigure program ts w
 unfolding sameFigure figureContent
 same-figure program ts ws i j e = go (getD ws (shapePlace i) 0) (getD ws (shapePlace j) 0) (getD ws (shapePlace i + 1) 0) (getD ws (shapePlace j + 1) 0) (getD ws (shapePlace i + 2) 0) (getD ws (shapePlace j + 2) 0) e
   where
-    go : (a b c d x y : ℕ) → (eqb (a / 2 % 4) (b / 2 % 4) && eqb c d && eqb x y && sameText (textOf program ts (a / 8)) (textOf program ts (b / 8))) ≡ true
-        → (a / 2 % 4 ∷ c % 2 ^ 32 ∷ c / 2 ^ 32 % 2 ^ 32 ∷ x % 2 ^ 32 ∷ x / 2 ^ 32 % 2 ^ 32 ∷ textOf program ts (a / 8))
-        ≡ (b / 2 % 4 ∷ d % 2 ^ 32 ∷ d / 2 ^ 32 % 2 ^ 32 ∷ y % 2 ^ 32 ∷ y / 2 ^ 32 % 2 ^ 32 ∷ textOf program ts (b / 8))
+    go : (a b c d x y : ℕ) → (eqb (a / 2 % 8) (b / 2 % 8) && eqb c d && eqb x y && sameText (textOf program ts (a / 16)) (textOf program ts (b / 16))) ≡ true
+        → (a / 2 % 8 ∷ c % 2 ^ 32 ∷ c / 2 ^ 32 % 2 ^ 32 ∷ x % 2 ^ 32 ∷ x / 2 ^ 32 % 2 ^ 32 ∷ textOf program ts (a / 16))
+        ≡ (b / 2 % 8 ∷ d % 2 ^ 32 ∷ d / 2 ^ 32 % 2 ^ 32 ∷ y % 2 ^ 32 ∷ y / 2 ^ 32 % 2 ^ 32 ∷ textOf program ts (b / 16))
     go a b c d x y e =
-        let q = all-four (eqb (a / 2 % 4) (b / 2 % 4)) (eqb c d) (eqb x y) (sameText (textOf program ts (a / 8)) (textOf program ts (b / 8))) e in
-        let k : a / 2 % 4 ≡ b / 2 % 4 = eqb-true _ _ (q .0) in
+        let q = all-four (eqb (a / 2 % 8) (b / 2 % 8)) (eqb c d) (eqb x y) (sameText (textOf program ts (a / 16)) (textOf program ts (b / 16))) e in
+        let k : a / 2 % 8 ≡ b / 2 % 8 = eqb-true _ _ (q .0) in
         let l : c ≡ d = eqb-true _ _ (q .1) in
         let m : x ≡ y = eqb-true _ _ (q .2) in
-        let t : textOf program ts (a / 8) ≡ textOf program ts (b / 8) = same-eq _ _ (q .3) in
+        let t : textOf program ts (a / 16) ≡ textOf program ts (b / 16) = same-eq _ _ (q .3) in
         rw (k, l, m, t)
 
 pub same-content : (program ts ws : List ℕ) (a b : ℕ) → sameKey program ts ws a b ≡ true → contentOf program ts ws a ≡ contentOf program ts ws b

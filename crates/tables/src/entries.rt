@@ -2,6 +2,7 @@
 use crate::hashes;
 use crate::keys;
 use machine::Answer;
+use machine::counters;
 use machine::granted;
 use machine::layout;
 ghost use Prim.Native.Nat.{_+_, _^_, _≤_, _<_};
@@ -9,8 +10,8 @@ ghost use mathlib.Core.Path.{_≡_};
 ghost use lib.ListN.{length, getD};
 ghost use Rattle.machine.specs.Layout.{entryPlace, Room};
 ghost use Rattle.machine.specs.Act.{raw, shown, PassesIn};
-ghost use Rattle.machine.specs.Tables.{findEntry, readEntry, bucketOf, entryLaid, addEntry, storeEntry};
-ghost use Rattle.tables.specs.Asked.{matchesAt, Puts};
+ghost use Rattle.machine.specs.Tables.{findEntry, readEntry, bucketOf, entryLaid, addEntry};
+ghost use Rattle.tables.specs.Asked.{matchesAt, Puts, putting, Stores};
 
 fn entry_place(grants: &[u64; 5], k: usize) -> usize
     requires { ⌜ (getD (now grants) 1 0 < 2 ^ 16) × (k < 2 ^ 16) ⌝ }
@@ -92,7 +93,7 @@ pub fn find_entry<'a>(
     0
 }
 
-// The value of an entry: 20 if there is none, 30 if it is a destroyed shape.
+// The value of an entry: 20 if there is none or the key is a group, 30 if it is a destroyed shape.
 pub fn read_entry<'a>(
     program: &'a [u8],
     texts: &'a [u8],
@@ -105,6 +106,9 @@ pub fn read_entry<'a>(
     requires { ⌜ Room (now grants) (now words) ⌝ }
     ensures { λ r. ⌜ shown r (now (texts .entry)) (now (words .entry)) ≡ readEntry (now (program .entry)) (now (grants .entry)) p t key (raw (now (texts .entry)) (now (words .entry))) ⌝ }
 {
+    if keys::is_group_key(words, key) {
+        return Answer::Bad(20, p);
+    }
     let k = find_entry(program, texts, words, grants, t, key);
     if k == 0 {
         return Answer::Bad(20, p);
@@ -141,21 +145,23 @@ fn add_entry<'a>(
     requires { ⌜ Room (now grants) (now words) ⌝ }
     ensures { λ r. ⌜ PassesIn (now (texts .entry)) (now (words .entry)) 77 (addEntry (now (program .entry)) (now (grants .entry)) t key value) r (now (words .exit)) ⌝ }
 {
-    let n = words[2];
-    let size = grants[2];
-    if size <= n {
+    let used = words[counters::ENTRIES];
+    let size = grants[granted::ENTRIES];
+    if size <= used {
         return false;
     }
+    let n = words[counters::ENTRIES_MADE] % size;
     let b = bucket(program, texts, words, grants, t, key);
     let at = entry_place(grants, n as usize);
     let head = entry_place(grants, b) + 3;
-    words[2] = n + 1;
+    words[counters::ENTRIES] = used + 1;
+    words[counters::ENTRIES_MADE] = n + 1;
     put_entry(words, at, head, t, key, value, n + 1);
     true
 }
 
 // Overwrites the value of an entry, or adds one; not if none is left.
-pub fn store_entry<'a>(
+fn put_value<'a>(
     program: &'a [u8],
     texts: &'a [u8],
     words: &mut [u64],
@@ -165,7 +171,8 @@ pub fn store_entry<'a>(
     value: u64,
 ) -> bool
     requires { ⌜ Room (now grants) (now words) ⌝ }
-    ensures { λ r. ⌜ PassesIn (now (texts .entry)) (now (words .entry)) 77 (storeEntry (now (program .entry)) (now (grants .entry)) t key value) r (now (words .exit)) ⌝ }
+    ensures { λ r. ⌜ PassesIn (now (texts .entry)) (now (words .entry)) 77
+        (putting (now (program .entry)) (now (grants .entry)) (now (texts .entry)) (now (words .entry)) t key value) r (now (words .exit)) ⌝ }
 {
     let found = find_entry(program, texts, words, grants, t, key);
     if found == 0 {
@@ -175,4 +182,26 @@ pub fn store_entry<'a>(
     let at = entry_place(grants, found - 1);
     words[at + 2] = value;
     true
+}
+
+// An update: 20 if the key is a group, 77 if no entry is left; else 0.
+pub fn store_entry<'a>(
+    program: &'a [u8],
+    texts: &'a [u8],
+    words: &mut [u64],
+    grants: &[u64; 5],
+    t: u32,
+    key: u64,
+    value: u64,
+) -> u64
+    requires { ⌜ Room (now grants) (now words) ⌝ }
+    ensures { λ r. ⌜ Stores (now (program .entry)) (now (grants .entry)) (now (texts .entry)) (now (words .entry)) t key value r (now (words .exit)) ⌝ }
+{
+    if keys::is_group_key(words, key) {
+        return 20;
+    }
+    if !put_value(program, texts, words, grants, t, key, value) {
+        return 77;
+    }
+    0
 }

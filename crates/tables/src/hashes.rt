@@ -34,10 +34,10 @@ fn hash_figure<'a>(program: &'a [u8], texts: &'a [u8], words: &[u64], h: u32, i:
 {
     let at = stores::shapes::place_of(i);
     let first = stores::words::word_at(words, at);
-    let kind = hash_number(h, (first / 2 % 4) as u32);
+    let kind = hash_number(h, (first / 2 % 8) as u32);
     let second = hash_word(kind, stores::words::word_at(words, at + 1));
     let third = hash_word(second, stores::words::word_at(words, at + 2));
-    hash_bytes(third, texts::text_of(program, texts, first / 8))
+    hash_bytes(third, texts::text_of(program, texts, first / 16))
 }
 
 pub fn hash_key<'a>(program: &'a [u8], texts: &'a [u8], words: &[u64], h: u32, key: u64) -> u32

@@ -2,7 +2,7 @@
 ghost use mathlib.Core.Path.{_≡_};
 ghost use lib.ListN.{getD};
 ghost use lib.Dec.{eqb};
-ghost use Rattle.machine.specs.Tables.{sameFigure, sameKey};
+ghost use Rattle.machine.specs.Tables.{sameFigure, sameKey, isGroupKey};
 
 // Whether the words at two places are the same.
 fn same_word(words: &[u64], a: usize, b: usize) -> bool
@@ -19,7 +19,7 @@ pub fn same_figure<'a>(program: &'a [u8], texts: &'a [u8], words: &[u64], i: u32
     let b = stores::shapes::place_of(j);
     let x = stores::words::word_at(words, a);
     let y = stores::words::word_at(words, b);
-    if x / 2 % 4 != y / 2 % 4 {
+    if x / 2 % 8 != y / 2 % 8 {
         return false;
     }
     if !same_word(words, a + 1, b + 1) {
@@ -28,7 +28,17 @@ pub fn same_figure<'a>(program: &'a [u8], texts: &'a [u8], words: &[u64], i: u32
     if !same_word(words, a + 2, b + 2) {
         return false;
     }
-    texts::same_text(program, texts, x / 8, y / 8)
+    texts::same_text(program, texts, x / 16, y / 16)
+}
+
+// Whether a word's value is a group, which is no key.
+pub fn is_group_key(words: &[u64], key: u64) -> bool
+    ensures { λ r. ⌜ r ≡ isGroupKey (now (words .entry)) key ⌝ }
+{
+    if key % 8 != 6 {
+        return false;
+    }
+    stores::shapes::is_group(words, values::number_of(key))
 }
 
 // Whether two words are the same key.

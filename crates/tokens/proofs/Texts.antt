@@ -46,7 +46,7 @@ module _ (w : List ℕ) where
   far : (v : String) → (length w ≡ length (bytes v) → ⊥) → sameText w (bytes v) ≡ false
   far v h = other-lengths w (bytes v) h
 
-  pub kind-2 : length w ≡ 2 → wordKind w ≡ cond (sameText w (bytes "if")) 6 1
+  pub kind-2 : length w ≡ 2 → wordKind w ≡ cond (sameText w (bytes "if")) 6 (cond (sameText w (bytes "in")) 13 (cond (sameText w (bytes "do")) 14 1))
   unfolding wordKind
   kind-2 h =
       simp (
@@ -57,6 +57,7 @@ module _ (w : List ℕ) where
         far "none" (omega arith),
         far "true" (omega arith),
         far "false" (omega arith),
+        far "foreach" (omega arith),
       )
 
   pub kind-3 : length w ≡ 3 → wordKind w ≡ cond (sameText w (bytes "def")) 4 (cond (sameText w (bytes "var")) 5 1)
@@ -69,6 +70,9 @@ module _ (w : List ℕ) where
         far "none" (omega arith),
         far "true" (omega arith),
         far "false" (omega arith),
+        far "foreach" (omega arith),
+        far "in" (omega arith),
+        far "do" (omega arith),
       )
 
   pub kind-4 : length w ≡ 4 → wordKind w ≡ cond (sameText w (bytes "none")) 9 (cond (sameText w (bytes "true")) 10 1)
@@ -81,6 +85,9 @@ module _ (w : List ℕ) where
         far "while" (omega arith),
         far "return" (omega arith),
         far "false" (omega arith),
+        far "foreach" (omega arith),
+        far "in" (omega arith),
+        far "do" (omega arith),
       )
 
   pub kind-5 : length w ≡ 5 → wordKind w ≡ cond (sameText w (bytes "while")) 7 (cond (sameText w (bytes "false")) 11 1)
@@ -93,6 +100,9 @@ module _ (w : List ℕ) where
         far "return" (omega arith),
         far "none" (omega arith),
         far "true" (omega arith),
+        far "foreach" (omega arith),
+        far "in" (omega arith),
+        far "do" (omega arith),
       )
 
   pub kind-6 : length w ≡ 6 → wordKind w ≡ cond (sameText w (bytes "return")) 8 1
@@ -106,12 +116,14 @@ module _ (w : List ℕ) where
         far "none" (omega arith),
         far "true" (omega arith),
         far "false" (omega arith),
+        far "foreach" (omega arith),
+        far "in" (omega arith),
+        far "do" (omega arith),
       )
 
-  pub kind-other : (length w ≡ 2 → ⊥) → (length w ≡ 3 → ⊥) → (length w ≡ 4 → ⊥) → (length w ≡ 5 → ⊥) → (length w ≡ 6 → ⊥)
-      → wordKind w ≡ 1
+  pub kind-7 : length w ≡ 7 → wordKind w ≡ cond (sameText w (bytes "foreach")) 12 1
   unfolding wordKind
-  kind-other h h1 h2 h3 h4 =
+  kind-7 h =
       simp (
         far "def" (omega arith),
         far "var" (omega arith),
@@ -121,6 +133,26 @@ module _ (w : List ℕ) where
         far "none" (omega arith),
         far "true" (omega arith),
         far "false" (omega arith),
+        far "in" (omega arith),
+        far "do" (omega arith),
+      )
+
+  pub kind-other : (length w ≡ 2 → ⊥) → (length w ≡ 3 → ⊥) → (length w ≡ 4 → ⊥) → (length w ≡ 5 → ⊥) → (length w ≡ 6 → ⊥) → (length w ≡ 7 → ⊥)
+      → wordKind w ≡ 1
+  unfolding wordKind
+  kind-other h h1 h2 h3 h4 h5 =
+      simp (
+        far "def" (omega arith),
+        far "var" (omega arith),
+        far "if" (omega arith),
+        far "while" (omega arith),
+        far "return" (omega arith),
+        far "none" (omega arith),
+        far "true" (omega arith),
+        far "false" (omega arith),
+        far "foreach" (omega arith),
+        far "in" (omega arith),
+        far "do" (omega arith),
       )
 
 -- ---- parts

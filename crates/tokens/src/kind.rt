@@ -20,3 +20,9 @@ pub const NONE: u8 = 9;
 pub const TRUE: u8 = 10;
 
 pub const FALSE: u8 = 11;
+
+pub const FOREACH: u8 = 12;
+
+pub const IN: u8 = 13;
+
+pub const DO: u8 = 14;

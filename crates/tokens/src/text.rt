@@ -49,6 +49,12 @@ pub fn word_kind(w: &[u8]) -> u8
             if same_text(w, b"if") {
                 return kind::IF;
             }
+            if same_text(w, b"in") {
+                return kind::IN;
+            }
+            if same_text(w, b"do") {
+                return kind::DO;
+            }
             kind::NAME
         }
         3 => {
@@ -81,6 +87,12 @@ pub fn word_kind(w: &[u8]) -> u8
         6 => {
             if same_text(w, b"return") {
                 return kind::RETURN;
+            }
+            kind::NAME
+        }
+        7 => {
+            if same_text(w, b"foreach") {
+                return kind::FOREACH;
             }
             kind::NAME
         }

@@ -1,6 +1,7 @@
 //! One call, judged by the proved library and by the reference.
 
 use crate::{check, draw, text, Lent, Numbers, Work, CODE_WORDS, RUN_WORDS, TOKEN_WORDS};
+pub use generator::case::one_less;
 use generator::case::{needed, EVENTS};
 use generator::text::{length, Call};
 use reference::case::Case;
@@ -90,7 +91,7 @@ impl Lengths {
         Lengths {
             tokens: TOKEN_WORDS,
             code: CODE_WORDS,
-            words: RUN_WORDS + 3 * count(grants.shapes) + 4 * count(grants.entries),
+            words: RUN_WORDS + 5 * count(grants.shapes) + (5 + grants.calls.min(65) as usize) * count(grants.entries),
             texts: count(grants.text_bytes),
         }
     }
@@ -484,26 +485,6 @@ fn around(case: &Case, seed: u64) -> Vec<(Case, Lengths)> {
             for few in one_less(exact) {
                 add(few, case.out_length);
             }
-        }
-    }
-    all
-}
-
-/// The same grants with one less of one kind, for each kind that has one to spare.
-pub fn one_less(grants: Grants) -> Vec<Grants> {
-    let mut all = Vec::new();
-    for kind in 0..5 {
-        let mut few = grants;
-        let (count, least) = match kind {
-            0 => (&mut few.steps, 0),
-            1 => (&mut few.shapes, 0),
-            2 => (&mut few.entries, 0),
-            3 => (&mut few.text_bytes, 0),
-            _ => (&mut few.calls, 1),
-        };
-        if *count > least {
-            *count -= 1;
-            all.push(few);
         }
     }
     all

@@ -5,7 +5,7 @@ use reference::Grants;
 /// How many words checking and `text` must be lent.
 pub const TOKEN_WORDS: usize = 8_193;
 pub const CODE_WORDS: usize = 16_384;
-/// How many words a run must be lent besides those for shapes and entries.
+/// How many words a run must be lent besides those for shapes, entries and components.
 pub const RUN_WORDS: usize = 278_608;
 
 #[path = "../../../rust/src/ffi.rs"]

@@ -7,6 +7,7 @@ use generator::random::Random;
 use generator::readers::{dots, well_formed};
 use reference::operation::Answer;
 use reference::sheet::{answer, print};
+use std::time::{Duration, Instant};
 
 /// Both print the same; says what.
 fn compare(input: &[u8]) -> Vec<u8> {
@@ -49,6 +50,23 @@ fn side(random: &mut Random) -> String {
         3 => format!("{value:011}"),
         _ => format!("-{value}"),
     }
+}
+
+/// A group that was doubled so often has more empty places than any grant has steps: a foreach ends at once, and the picture counts to its last step.
+#[test]
+fn doublings() {
+    let doubled = |rest: &str| {
+        let program = format!("def main(w,h){{var g;g=drawGroup();var i;i=0;while(i<250){{g=drawGroup(g,g);i=i+1;}}{rest}}}");
+        let begun = Instant::now();
+        let found = compare(&sheet("640 480\n", program.as_bytes()));
+        (found, begun.elapsed())
+    };
+    let (picture, time) = doubled("foreach x in g do 1;g=none;w=drawLine(1,2,3,4);");
+    assert!(picture.starts_with(b"<?xml"));
+    assert!(time < Duration::from_secs(2), "{time:?}");
+    let (number, time) = doubled("foreach x in g do 1;");
+    assert_eq!(number, b"error 79 at 0\n");
+    assert!(time < Duration::from_secs(2), "{time:?}");
 }
 
 #[test]

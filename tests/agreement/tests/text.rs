@@ -374,7 +374,7 @@ fn a_text_draws_what_its_program_draws() {
 #[test]
 fn decisions() {
     let rows = text_rows();
-    assert!(rows.len() >= 16, "{} rows", rows.len());
+    assert!(rows.len() >= 20, "{} rows", rows.len());
     for row in rows {
         let mut lent = Lent::filled(1);
         let mut out = vec![b'#'; row.out_length as usize];

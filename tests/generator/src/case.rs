@@ -2,7 +2,7 @@
 //! the run takes.
 
 use crate::random::Random;
-use crate::{damage, limit, procedures, program, quiz, soup, Case};
+use crate::{damage, groups, limit, procedures, program, quiz, soup, Case};
 use reference::sheet::{GRANTS, OUT_LENGTH};
 use reference::{run_specified, Answer, End, Event, Grants, Operation, Specified, Taking};
 use std::sync::OnceLock;
@@ -69,7 +69,7 @@ pub fn case_out_of_range(seed: u64) -> Case {
 
 /// A program of any sort.
 pub fn any_program(random: &mut Random) -> Vec<u8> {
-    match random.weighted(&[65, 10, 2, 2, 7, 15, 14, 3]) {
+    match random.weighted(&[60, 10, 2, 2, 9, 13, 12, 3, 22, 3]) {
         0 => program::program(random),
         1 => {
             let whole = program::program(random);
@@ -80,10 +80,15 @@ pub fn any_program(random: &mut Random) -> Vec<u8> {
             let whole = procedures::program(random);
             damage::damaged(whole, random)
         }
+        8 => groups::program(random),
+        9 => {
+            let whole = groups::program(random);
+            damage::damaged(whole, random)
+        }
         2 => soup::tokens(random),
         3 => soup::bytes(random),
         4 => {
-            let group = &limits()[random.weighted(&[2, 2, 6, 3, 3])];
+            let group = &limits()[random.weighted(&[2, 4, 6, 3, 3, 4])];
             let one = random.pick(group).clone();
             if random.chance(100) {
                 damage::damaged(one, random)
@@ -151,6 +156,26 @@ pub fn needed(events: &[Event]) -> Grants {
         ..totals
     };
     smaller(least, Grants::LARGEST)
+}
+
+/// The same grants with one less of one kind, for each kind that has one to spare.
+pub fn one_less(grants: Grants) -> Vec<Grants> {
+    let mut all = Vec::new();
+    for kind in 0..5 {
+        let mut few = grants;
+        let (count, least) = match kind {
+            0 => (&mut few.steps, 0),
+            1 => (&mut few.shapes, 0),
+            2 => (&mut few.entries, 0),
+            3 => (&mut few.text_bytes, 0),
+            _ => (&mut few.calls, 1),
+        };
+        if *count > least {
+            *count -= 1;
+            all.push(few);
+        }
+    }
+    all
 }
 
 fn smaller(one: Grants, other: Grants) -> Grants {

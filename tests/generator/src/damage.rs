@@ -8,7 +8,7 @@ use reference::token::{tokens, Token};
 const BYTES: &[u8] = b" \t\n\r\0\"!=+-*/%<>.,;()[]{}_'&#\x7f\x80\xff\xc3azAZ09d";
 
 /// Statements and other parts that nearly fit, and some that do.
-const PARTS: [&str; 50] = [
+const PARTS: [&str; 68] = [
     "(w)=1;",
     "(w.h)=1;",
     "((w).h)=1;",
@@ -59,6 +59,24 @@ const PARTS: [&str; 50] = [
     "f(1);",
     "f();",
     "main(w,h);",
+    "foreach x in drawGroup() do 1;",
+    "foreach x in w do{x;}",
+    "foreach x in w 1;",
+    "foreach x w do 1;",
+    "foreach in w do 1;",
+    "foreach x in do 1;",
+    "foreach x in w do;",
+    "foreach x in w do{}",
+    "foreach x in w do",
+    "foreach x in w do do 1;",
+    "foreach (x) in w do 1;",
+    "foreach x.1 in w do 1;",
+    "foreach x in(w)do(1);",
+    "foreach x in w do foreach y in x do 1;",
+    "foreach foreach in w do 1;",
+    "foreach x in w do var x;",
+    "in;",
+    "do 1;",
 ];
 
 /// The program with a few changes, which may leave it well formed.

@@ -11,7 +11,8 @@ pub fn cases() -> Vec<Case> {
         ..Grants::LARGEST
     };
     let whole = |body: String| format!("def main(w,h){{{body}}}");
-    let programs = bodies().into_iter().map(whole).chain(recursions());
+    let programs = bodies().into_iter().chain(groups()).map(whole);
+    let programs = programs.chain(recursions());
     for program in programs {
         for (grants, out_length) in [
             (largest, 0),
@@ -85,6 +86,54 @@ fn bodies() -> Vec<String> {
     all
 }
 
+/// Groups that are deep, wide or there many times.
+fn groups() -> Vec<String> {
+    let chain = |turns: usize, rest: &str| {
+        format!("h=drawGroup();var i;i=0;while(i<{turns}){{h=drawGroup(h,drawLine(i,2,3,4));i=i+1;}}{rest}")
+    };
+    let doubled = |first: &str, turns: usize, rest: &str| {
+        format!("h=drawGroup({first});var i;i=0;while(i<{turns}){{h=drawGroup(h,h);i=i+1;}}{rest}")
+    };
+    vec![
+        // One in the other, as deep as entries last, and one deeper.
+        chain(16_383, ""),
+        chain(16_384, ""),
+        chain(4_000, "h=(h+1)>>2;"),
+        chain(16_383, "var n;n=0;foreach x in h do n=n+getShapeXCoordinate(x);w=drawText(n,n,\"n\");h=x;"),
+        chain(16_383, "destroyShape(h);"),
+        chain(16_383, "if(h==h)w=drawLine(1,2,3,4);h=none;"),
+        chain(8_000, "w=h;foreach x in h do destroyShape(x);if(w==drawGroup())h=x;"),
+        chain(16_383, "foreach x in h do clearScene();"),
+        chain(250, "h=(h*2)-1;"),
+        chain(300, ""),
+        // There many times: lines, pairs, places without an atom.
+        doubled("drawLine(1,2,3,4)", 15, ""),
+        doubled("drawLine(1,2,3,4)", 16, ""),
+        doubled("drawLine(1,2,3,4)", 40, ""),
+        doubled("drawLine(1,2,3,4)", 12, "h=h+1;"),
+        doubled("drawLine(1,2,3,4)", 40, "h=h/3;"),
+        doubled("drawText(1,2,\"a\")", 15, "if(h==h)w=drawLine(1,2,3,4);"),
+        doubled("drawLine(1,2,3,4)", 17, "var n;n=0;foreach x in h do n=n+1;h=n;"),
+        doubled("drawLine(1,2,3,4)", 40, "foreach x in h do 1;"),
+        doubled("", 1_000, "foreach x in h do 1;destroyShape(h);"),
+        doubled("", 16_000, "foreach x in h do 1;foreach x in h do 1;clearScene();"),
+        doubled("drawLine(1,2,3,4)", 16_000, "foreach x in h do destroyShape(x);foreach x in h do 1;destroyShape(h);"),
+        doubled("", 40, "h==h;"),
+        // Loops through groups whose atoms go while they are gone through.
+        "h=drawGroup();var i;i=0;while(i<9000){h=drawGroup(drawGroup(h,drawBox(i,2,3,4)),drawBox(i,1,1,1));i=i+1;}\
+         i=0;foreach x in h do{i=i+1;if((i%3)==0)destroyShape(x);}var n;n=0;foreach x in h do n=(n*31)+getShapeXCoordinate(x);\
+         destroyShape(h);w=drawLine(n,i,0,0);"
+            .to_string(),
+        // Copies of one group take many entries.
+        format!("w=drawLine(1,2,3,4);h=drawGroup({});while(true)h=h;", vec!["w"; 1_000].join(",")),
+        format!("w=drawLine(1,2,3,4);h=drawGroup({});while(true)h=h+1;", vec!["w"; 1_000].join(",")),
+        // Entries of tables and groups by turns.
+        "w=[0];h=drawGroup();var i;i=0;while(i<9000){w.i=h;h=drawGroup(drawBox(i,i,1,1),w.i);w.(0-i)=i;i=i+1;}\
+         var n;n=0;i=0;while(i<9000){n=(n*7)+w.(0-i);i=i+1;}foreach x in w.8999 do n=n+getShapeYCoordinate(x);h=drawLine(n,i,0,0);"
+            .to_string(),
+    ]
+}
+
 /// Programs that call much.
 fn recursions() -> Vec<String> {
     [
@@ -105,6 +154,13 @@ fn recursions() -> Vec<String> {
         "def tree(n){var t;t=[0];t.0=n;if(n>0){t.1=tree(n-1);t.2=tree(n-1);}return t;}\
          def sum(t){if(t.0==0)return 1;return (sum(t.1)*3)+sum(t.2);}\
          def main(w,h){var t;t=tree(13);w=drawLine(sum(t),0,0,0);}",
+        // Groups handed down and back, gone through in every call.
+        "def f(n,g){if(n==0)return g;foreach x in g do g=drawGroup(g,x>>n);return f(n-1,drawGroup(g));}\
+         def main(w,h){w=f(6,drawGroup(drawLine(1,2,3,4)));}",
+        "def f(n,g){if(n>0)foreach x in g do f(n-1,g);}\
+         def main(w,h){f(12,drawGroup(drawLine(1,2,3,4),drawGroup(drawBox(1,2,3,4))));}",
+        "def f(n,g){if(n>0)foreach x in g do return f(n-1,drawGroup(g,x));return g;}\
+         def main(w,h){w=f(62,drawGroup(drawLine(1,2,3,4)));h=f(63,w);}",
         // Text made in calls.
         "def f(n){if(n==0)return \"a\";return f(n-1)++f(n-1);}def main(w,h){w=drawText(1,2,f(12));}",
         // Without an end: calls, and calls of calls.

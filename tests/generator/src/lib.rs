@@ -6,6 +6,7 @@
 pub mod backwards;
 pub mod case;
 pub mod damage;
+pub mod groups;
 pub mod heavy;
 pub mod limit;
 pub mod procedures;

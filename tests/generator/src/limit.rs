@@ -12,7 +12,14 @@ pub fn programs() -> Vec<Vec<u8>> {
 
 /// All of them, by what they are about.
 pub fn groups() -> Vec<Vec<Vec<u8>>> {
-    vec![lengths(), token_numbers(), levels(), constants(), calls()]
+    vec![
+        lengths(),
+        token_numbers(),
+        levels(),
+        constants(),
+        calls(),
+        loops(),
+    ]
 }
 
 /// 32,767, 32,768 and 32,769 bytes.
@@ -107,6 +114,18 @@ fn levels() -> Vec<Vec<u8>> {
         ("while(true){", "return 1;", "}"),
         ("if((true))", "1;", ""),
         ("{1;", "2;", "}"),
+        ("foreach x in w do ", "1;", ""),
+        ("foreach x in w do ", "{1;}", ""),
+        ("foreach x in w do ", "(1);", ""),
+        ("foreach x in w do ", "f(1);", ""),
+        ("foreach x in w do ", "99999999999;", ""),
+        ("foreach x in w do ", "-99999999999;", ""),
+        ("foreach x in w do ", ")", ""),
+        ("foreach x in w do{", "x;", "}"),
+        ("{foreach x in w do ", "1;", "}"),
+        ("foreach x in(w)do ", "1;", ""),
+        ("if(true)foreach x in w do ", "1;", ""),
+        ("foreach x in w do while(true)", "return 1;", ""),
     ];
     let mut all = Vec::new();
     for depth in [30, 31, 32, 33, 62, 63, 64, 65, 66, 300] {
@@ -204,12 +223,14 @@ const AROUND: [(&str, &str); 11] = [
 ];
 
 /// What stands around a statement, and how many levels it opens.
-const HEADS: [(&str, &str, usize); 5] = [
+const HEADS: [(&str, &str, usize); 7] = [
     ("{", "}", 1),
     ("if(true)", "", 1),
     ("while(true)", "", 1),
+    ("foreach x in o do ", "", 1),
     ("if(true){", "}", 2),
     ("while(true){", "}", 2),
+    ("foreach x in o do{", "}", 2),
 ];
 
 fn times(part: (&str, &str), times: usize, inside: &str) -> String {
@@ -219,9 +240,11 @@ fn times(part: (&str, &str), times: usize, inside: &str) -> String {
 /// A procedure that calls itself until so many calls are under way, each call inside what is put around it.
 fn under_way(calls: usize, around: impl Fn(&str) -> String) -> Vec<u8> {
     let call = |number: &str| around(&format!("f({number},t)"));
+    // A group of one line, for what goes through one.
+    let one = "var o;o=drawGroup(drawLine(1,2,3,4));";
     format!(
-        "def f(n,t){{if(n==0)return 0;{}}}def g(x){{return x;}}\
-         def main(w,h){{var t;t=[0];t.0=0;{}}}",
+        "def f(n,t){{if(n==0)return 0;{one}{}}}def g(x){{return x;}}\
+         def main(w,h){{var t;t=[0];t.0=0;{one}{}}}",
         call("n-1"),
         call(&(calls - 2).to_string())
     )
@@ -309,4 +332,112 @@ fn calls() -> Vec<Vec<u8>> {
     }
     deep.extend(all.into_iter().map(String::into_bytes));
     deep
+}
+
+/// What may stand where the body of a foreach begins, and what may not.
+const BEGINNINGS: [&str; 30] = [
+    "1;",
+    "w;",
+    "-1;",
+    "\"a\";",
+    "none;",
+    "var a;",
+    "return 1;",
+    "if(true)1;",
+    "while(false)1;",
+    "foreach y in w do 1;",
+    "foreach y in(w)do 1;",
+    "{1;}",
+    "(1);",
+    "[1];",
+    "f(1);",
+    "w=(1);",
+    "w.(1)=1;",
+    "-99999999999;",
+    "99999999999;",
+    "2147483647;",
+    "2147483648;",
+    "- 1;",
+    "-w;",
+    ")",
+    "}",
+    ";",
+    "do 1;",
+    "in",
+    "def",
+    "",
+];
+
+/// A foreach in every number of levels, with a body that fits and that does
+/// not; as many loops inside each other as fit, with groups as deep as can be
+/// and in as many calls.
+fn loops() -> Vec<Vec<u8>> {
+    let mut all = Vec::new();
+    let foreach = "foreach x in w do ";
+    for depth in 0..=66 {
+        let near = depth >= 62;
+        for (at, body) in BEGINNINGS.iter().enumerate() {
+            // All of them near the last level, by turns elsewhere.
+            if !near && at % 10 != depth % 10 {
+                continue;
+            }
+            let (open, close) = ("{".repeat(depth), "}".repeat(depth));
+            all.push(main_of(&format!("{open}{foreach}{body}{close}")));
+            let ifs = "if(true)".repeat(depth);
+            all.push(main_of(&format!("{ifs}{foreach}{body}")));
+            all.push(main_of(&format!("{}{body}", foreach.repeat(depth))));
+            if near {
+                let open = format!("def main(w,h){{{open}{foreach}{body}");
+                all.push(open.into_bytes());
+                let one_by_one = "foreach x in w do{".repeat(depth / 2);
+                all.push(main_of(&format!("{one_by_one}{foreach}{body}")));
+            }
+        }
+        let (open, close) = ("(".repeat(depth), ")".repeat(depth));
+        all.push(main_of(&format!("foreach x in{open}w{close}do 1;")));
+        all.push(main_of(&format!("foreach x in w do{open}1{close};")));
+    }
+    // Loops inside each other that run, each through a deep group.
+    let chain =
+        "var g;g=drawGroup();var i;i=0;while(i<60){g=drawGroup(g,drawLine(i,2,3,4));i=i+1;}";
+    for (depth, body) in [
+        (1, "x;"),
+        (63, "return x;"),
+        (64, "return x;"),
+        (64, "destroyShape(g);"),
+        (64, "destroyShape(x);"),
+        (64, "clearScene();"),
+        (65, "1;"),
+    ] {
+        let names: String = (0..depth)
+            .map(|at| format!("foreach v{at} in g do "))
+            .collect();
+        all.push(main_of(&format!("{chain}var x;{names}{body}")));
+        all.push(main_of(&format!(
+            "{chain}{}{body}",
+            "foreach x in g do ".repeat(depth)
+        )));
+        // The same in each call under way.
+        for calls in [3, 61, 62, 63] {
+            let names = names.replace("in g", "in s");
+            all.push(
+                format!(
+                    "def f(n,s){{if(n==0)return s;var x;x=none;{names}return f(n-1,s);}}\
+                     def main(w,h){{{chain}w=f({calls},g);}}"
+                )
+                .into_bytes(),
+            );
+        }
+    }
+    // As many arguments as fit.
+    for number in [1_022, 1_023, 1_024, 1_025, 4_000] {
+        let arguments = vec!["w"; number].join(",");
+        all.push(main_of(&format!(
+            "w=drawLine(1,2,3,4);h=drawGroup({arguments});"
+        )));
+        all.push(main_of(&format!(
+            "w=drawLine(1,2,3,4);drawGroup({arguments});"
+        )));
+    }
+    all
 }

@@ -18,18 +18,21 @@ enum Kind {
     Boolean,
     None,
     Table,
+    /// An atomic shape.
     Shape,
+    Group,
     /// A destroyed shape.
     Gone,
 }
 
-const WANTED: [Kind; 6] = [
+const WANTED: [Kind; 7] = [
     Kind::Integer,
     Kind::Text,
     Kind::Boolean,
     Kind::None,
     Kind::Table,
     Kind::Shape,
+    Kind::Group,
 ];
 
 /// A variable and what it is thought to hold.
@@ -64,12 +67,12 @@ const PROCEDURES: [&str; 14] = [
     "x",
     "sin",
     "eval",
-    "drawGroup",
+    "drawgroup",
     "foo",
     "scale",
     "w",
     "drawbox",
-    "in",
+    "In",
     "stickman",
 ];
 
@@ -145,11 +148,11 @@ fn own_procedures(random: &mut Random) -> Vec<Own> {
             let name = *random.pick(&["x", "y", "z", "a", "b", "w", "bar", "sin", "t"]);
             let twice = parameters.iter().any(|(other, _)| other == name);
             if !twice || random.chance(40) {
-                let kind = WANTED[random.weighted(&[30, 10, 6, 4, 12, 38])];
+                let kind = WANTED[random.weighted(&[30, 10, 6, 4, 12, 32, 14])];
                 parameters.push((name.to_string(), kind));
             }
         }
-        let gives = WANTED[random.weighted(&[28, 8, 10, 10, 8, 36])];
+        let gives = WANTED[random.weighted(&[28, 8, 10, 10, 8, 28, 12])];
         all.push(Own {
             name,
             parameters,
@@ -415,7 +418,7 @@ impl Maker<'_> {
     }
 
     fn any_kind(&mut self) -> Kind {
-        let place = self.random.weighted(&[26, 12, 10, 5, 15, 32]);
+        let place = self.random.weighted(&[26, 12, 10, 5, 15, 30, 10]);
         WANTED[place]
     }
 
@@ -472,6 +475,7 @@ impl Maker<'_> {
             1 + 2 * wild,
             3 * wild,
             6,
+            16 * nested,
         ];
         match self.random.weighted(&weights) {
             0 => self.new_variable(),
@@ -485,7 +489,8 @@ impl Maker<'_> {
             8 => self.rare_statement(),
             9 => self.finish(),
             10 => self.growth(),
-            _ => self.pattern(),
+            11 => self.pattern(),
+            _ => self.foreach(depth - 1),
         }
     }
 
@@ -545,12 +550,16 @@ impl Maker<'_> {
         }
     }
 
-    /// A primary for a key, most often one that other keys are like.
+    /// A primary for a key, most often one that other keys are like. A group
+    /// is none.
     fn key(&mut self, depth: usize) -> Tokens {
         match self.random.weighted(&[50, 15, 35]) {
             0 => vec![self.random.pick(&KEYS).to_string()],
             1 => vec![self.random.pick(&SHAPES).to_string()],
-            _ => self.any_primary(depth),
+            _ => match self.any_kind() {
+                Kind::Group if !self.noisy() => self.primary(Kind::Shape, depth),
+                kind => self.primary(kind, depth),
+            },
         }
     }
 
@@ -561,11 +570,6 @@ impl Maker<'_> {
         self.put(&["="]);
         self.append(value);
         self.put(&[";"]);
-    }
-
-    fn any_primary(&mut self, depth: usize) -> Tokens {
-        let kind = self.any_kind();
-        self.primary(kind, depth)
     }
 
     fn any_expression(&mut self, depth: usize) -> Tokens {
@@ -634,6 +638,39 @@ impl Maker<'_> {
         self.put(&["}"]);
     }
 
+    /// A foreach, whose variable may be declared or not.
+    fn foreach(&mut self, depth: usize) {
+        let group = self.expression(Kind::Group, 1);
+        let known = self.holder(Kind::Shape);
+        let name = match known {
+            Some(place) if self.random.chance(250) => self.variables[place].name.clone(),
+            _ => self.fresh_name(),
+        };
+        self.put(&["foreach", &name, "in"]);
+        self.append(group);
+        self.put(&["do"]);
+        if self.place_of(&name).is_none() {
+            self.know(&name, Kind::Shape, false);
+        }
+        self.loops += 1;
+        match self.random.weighted(&[40, 15, 10, 10, 8, 17]) {
+            0 => self.block(depth),
+            1 => self.any_assignment(),
+            2 => self.update(),
+            3 => self.expression_statement(),
+            4 => self.destruction(),
+            _ => match self.holder(Kind::Group) {
+                // More into a group that is held.
+                Some(place) => {
+                    let held = self.variables[place].name.clone();
+                    self.put(&[&held, "=", "drawGroup", "(", &held, ",", &name, ")", ";"]);
+                }
+                None => self.statement(depth),
+            },
+        }
+        self.loops -= 1;
+    }
+
     fn expression_statement(&mut self) {
         let depth = self.random.between(0, 4);
         let expression = self.any_expression(depth);
@@ -662,7 +699,7 @@ impl Maker<'_> {
 
     fn forget_shapes(&mut self) {
         for variable in &mut self.variables {
-            if variable.holds == Kind::Shape {
+            if matches!(variable.holds, Kind::Shape | Kind::Group) {
                 variable.holds = Kind::Gone;
             }
         }
@@ -670,12 +707,20 @@ impl Maker<'_> {
 
     /// An expression for a shape, which is destroyed if it is a variable's.
     fn shape_to_destroy(&mut self, depth: usize) -> Tokens {
-        match self.holder(Kind::Shape) {
+        let kind = self.shape_or_group();
+        match self.holder(kind) {
             Some(place) if self.random.chance(700) => {
                 self.variables[place].holds = Kind::Gone;
                 vec![self.variables[place].name.clone()]
             }
-            _ => self.expression(Kind::Shape, depth),
+            _ => self.expression(kind, depth),
+        }
+    }
+
+    fn shape_or_group(&mut self) -> Kind {
+        match self.random.chance(750) {
+            true => Kind::Shape,
+            false => Kind::Group,
         }
     }
 
@@ -790,7 +835,8 @@ impl Maker<'_> {
 
     /// A loop without an end that takes more and more of one store.
     fn growth(&mut self) {
-        let taken: &[&str] = match self.random.below(4) {
+        let taken: &[&str] = match self.random.below(5) {
+            4 => &["drawGroup", "(", "drawGroup", "(", ")", ")", ";"],
             0 => &["drawBox", "(", "1", ",", "2", ",", "3", ",", "4", ")", ";"],
             1 => &["\"a\"", "++", "\"bc\"", ";"],
             2 => &["[", "0", "]", ".", "1", "=", "2", ";"],
@@ -844,7 +890,7 @@ impl Maker<'_> {
             _ => {
                 let operators = &["+", "-", "*", "/", ">>", "<<"];
                 let operator = self.random.pick(operators).to_string();
-                let left = self.operand(Kind::Shape, depth);
+                let left = self.operand(kind, depth);
                 (left, operator, self.right_integer(depth))
             }
         };
@@ -862,27 +908,33 @@ impl Maker<'_> {
 
     fn comparison(&mut self, depth: usize) -> (Tokens, String, Tokens) {
         let equality = self.random.pick(&["==", "!="]).to_string();
-        match self.random.weighted(&[40, 25, 10, 10, 10, 15, 8, 6, 1]) {
+        match self.random.weighted(&[40, 25, 10, 10, 10, 8, 15, 8, 6, 1]) {
             0 => {
                 let order = self.random.pick(&["<", ">"]).to_string();
                 let left = self.operand(Kind::Integer, depth);
                 (left, order, self.operand(Kind::Integer, depth))
             }
-            place @ 1..=4 => {
-                let kinds = [Kind::Integer, Kind::Text, Kind::Boolean, Kind::Shape];
+            place @ 1..=5 => {
+                let kinds = [
+                    Kind::Integer,
+                    Kind::Text,
+                    Kind::Boolean,
+                    Kind::Shape,
+                    Kind::Group,
+                ];
                 let kind = kinds[place - 1];
                 let left = self.operand(kind, depth);
                 (left, equality, self.operand(kind, depth))
             }
-            5 => {
+            6 => {
                 let left = self.any_operand(depth);
                 (left, equality, self.operand(Kind::None, depth))
             }
-            6 => {
+            7 => {
                 let left = self.operand(Kind::None, depth);
                 (left, equality, self.any_operand(depth))
             }
-            7 => {
+            8 => {
                 let left = vec![self.random.pick(&SHAPES).to_string()];
                 let right = vec![self.random.pick(&SHAPES).to_string()];
                 (left, equality, right)
@@ -976,7 +1028,21 @@ impl Maker<'_> {
                 [texts(&["["]), size, texts(&["]"])].concat()
             }
             Kind::Shape => self.drawing(deeper),
+            Kind::Group => self.grouping(deeper),
         }
+    }
+
+    /// A call that draws a group, most often one of atoms.
+    fn grouping(&mut self, depth: usize) -> Tokens {
+        let mut arguments = Vec::new();
+        for _ in 0..self.random.weighted(&[10, 30, 35, 15, 10]) {
+            let kind = self.shape_or_group();
+            arguments.push(self.expression(kind, depth));
+        }
+        if self.noisy() {
+            arguments.push(self.any_expression(depth));
+        }
+        call("drawGroup", arguments)
     }
 
     /// The value none, now and then by destroying something.
@@ -1075,7 +1141,8 @@ impl Maker<'_> {
 
     /// An operation on a variable whose shape its other side destroys.
     fn used_and_destroyed(&mut self) -> Tokens {
-        let Some(place) = self.holder(Kind::Shape) else {
+        let kind = self.shape_or_group();
+        let Some(place) = self.holder(kind) else {
             return texts(&["none"]);
         };
         let name = self.variables[place].name.clone();

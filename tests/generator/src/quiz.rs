@@ -3,7 +3,7 @@
 //! waits for them, calls with any arguments.
 
 use crate::random::Random;
-use crate::words::{edge, KEYS, LIBRARY, LITERALS, OPERATORS, SHAPES, SPECIAL, UNKNOWN};
+use crate::words::{edge, GROUPS, KEYS, LIBRARY, LITERALS, OPERATORS, SHAPES, SPECIAL, UNKNOWN};
 
 /// Statements with holes, which are letters in angle brackets. The variables
 /// a and b hold shapes, t a table.
@@ -111,12 +111,17 @@ fn hole(letter: &str, random: &mut Random) -> String {
         "A" => random
             .pick(&["+", "-", "*", "/", "%", ">>", "<<"])
             .to_string(),
+        // An operator of a shape and an integer.
+        "T" => random.pick(&["+", "-", "*", "/", ">>", "<<"]).to_string(),
         // An operator that scales.
         "M" => random.pick(&["*", "/"]).to_string(),
         "I" => random.pick(&SPECIAL).to_string(),
         "E" => edge(random),
         "K" => random.pick(&KEYS).to_string(),
         "S" => random.pick(&SHAPES).to_string(),
+        // A group; those of what a and b hold come last.
+        "G" => random.pick(&GROUPS).to_string(),
+        "H" => random.pick(&GROUPS[..9]).to_string(),
         // A shape at the edges.
         "P" => {
             let name = *random.pick(&["drawLine", "drawEllipse", "drawBox"]);

@@ -196,6 +196,16 @@ impl Speller<'_> {
             }
             Action::If(test, body) => self.guarded("if", test, body),
             Action::While(test, body) => self.guarded("while", test, body),
+            Action::Foreach(name, group, body) => {
+                self.put("foreach");
+                self.name(*name);
+                self.put("in");
+                self.expression(group);
+                self.put("do");
+                self.level += 1;
+                self.statement(body);
+                self.level -= 1;
+            }
             Action::Return(value) => {
                 self.put("return");
                 self.expression(value);
@@ -465,6 +475,10 @@ fn other_token(program: &[u8], found: &[Token], one: Token, random: &mut Random)
         Kind::Text => string(random),
         Kind::None | Kind::True | Kind::False => {
             let words = ["none", "true", "false", "0", "\"none\"", "w"];
+            random.pick(&words).to_string()
+        }
+        Kind::Foreach | Kind::In | Kind::Do => {
+            let words = ["foreach", "in", "do", "var", "each", ""];
             random.pick(&words).to_string()
         }
         Kind::If => "while".to_string(),

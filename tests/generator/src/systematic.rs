@@ -1,8 +1,8 @@
 //! Small programs that go through all combinations: operators and kinds,
 //! integers at the edges, keys, library procedures and their arguments,
-//! procedures of the program's own.
+//! procedures of the program's own, groups.
 
-use crate::words::{BACKWARDS, EDGES, LIBRARY, LITERALS, OPERATORS, SHAPES, UNKNOWN};
+use crate::words::{BACKWARDS, EDGES, GROUPS, LIBRARY, LITERALS, OPERATORS, SHAPES, UNKNOWN};
 
 /// All of them, always in the same order.
 pub fn programs() -> Vec<Vec<u8>> {
@@ -16,6 +16,10 @@ pub fn programs() -> Vec<Vec<u8>> {
     bodies.extend(sizes());
     bodies.extend(keys());
     bodies.extend(calls());
+    bodies.extend(equal_groups());
+    bodies.extend(moved_groups());
+    bodies.extend(loops());
+    bodies.extend(used_groups());
     let whole = |body: &String| format!("def main(w,h){{{body}}}").into_bytes();
     let mut programs: Vec<Vec<u8>> = bodies.iter().map(whole).collect();
     programs.extend(own_calls());
@@ -306,4 +310,127 @@ fn names_twice() -> Vec<Vec<u8>> {
         programs.push(format!("def {first}(w,h){{1;}}\t"));
     }
     programs.into_iter().map(String::into_bytes).collect()
+}
+
+/// What the variables a and b hold where groups are made of them.
+const AB: &str = "var a;a=drawBox(1,2,3,4);var b;b=drawText(1,2,\"a\");";
+
+/// What happens to some of a group before it is used.
+const BEFORE: [&str; 6] = [
+    "",
+    "destroyShape(a);",
+    "destroyShape(b);",
+    "destroyShape(g);",
+    "clearScene();",
+    "foreach x in g do destroyShape(x);",
+];
+
+/// Every group with every group, whole and with something destroyed.
+fn equal_groups() -> Vec<String> {
+    let mut bodies = Vec::new();
+    for left in GROUPS {
+        for right in GROUPS {
+            for before in ["", "destroyShape(a);", "destroyShape(a);destroyShape(b);"] {
+                bodies.push(format!(
+                    "{AB}var g;g={left};h={right};{before}if(g==h)w=drawLine(1,2,3,4);if(h!=g)w=g;"
+                ));
+            }
+        }
+    }
+    bodies
+}
+
+/// Every operator on every group, by some edges, whole and with something
+/// destroyed.
+fn moved_groups() -> Vec<String> {
+    let mut bodies = Vec::new();
+    for group in GROUPS {
+        for operator in OPERATORS {
+            for by in ["0", "1", "-3", "2147483647", "none", "true", "a"] {
+                let before = BEFORE[(bodies.len() / 3) % 3];
+                bodies.push(format!("{AB}var g;g={group};{before}w=g{operator}{by};"));
+            }
+        }
+        for before in BEFORE {
+            bodies.push(format!("{AB}var g;g={group};{before}w=(g*2)>>1;h=w-1;"));
+        }
+    }
+    bodies
+}
+
+/// A loop over every group, with a variable that is declared and one that is
+/// not, and bodies that change what it goes through.
+fn loops() -> Vec<String> {
+    let bodies = [
+        "1;",
+        "{x;h=x;}",
+        "destroyShape(x);",
+        "destroyShape(g);",
+        "destroyShape(b);",
+        "clearScene();",
+        "g=drawGroup(g,x);",
+        "return x;",
+        "x=1;",
+        "foreach y in g do 1;",
+        "foreach x in g do destroyShape(x);",
+        "foreach y in g do if(x==y)destroyShape(x);",
+        "a=x;",
+    ];
+    let mut all = Vec::new();
+    for group in GROUPS {
+        for body in bodies {
+            for declared in ["", "var x;"] {
+                all.push(format!(
+                    "{AB}{declared}var g;g={group};foreach x in g do {body}"
+                ));
+                all.push(format!(
+                    "{AB}{declared}var g;g={group};foreach x in drawGroup(g,b,g) do {body}"
+                ));
+            }
+        }
+        for before in BEFORE {
+            all.push(format!(
+                "{AB}var g;g={group};h=g;{before}foreach x in h do w=x;x;"
+            ));
+        }
+    }
+    for literal in LITERALS {
+        all.push(format!("foreach x in {literal} do 1;x;"));
+        all.push(format!("var x;foreach x in {literal} do x;"));
+    }
+    all
+}
+
+/// Every group where a key, a centre, a parameter or an entry is due, and
+/// destroyed there.
+fn used_groups() -> Vec<String> {
+    let mut bodies = Vec::new();
+    for group in GROUPS {
+        for (at, used) in [
+            "t.g;",
+            "t.g=1;",
+            "t.g=1/0;",
+            "t.g=destroyShape(g);",
+            "getShapeXCoordinate(g);",
+            "drawTextOnShape(g,\"a\");",
+            "drawLineConnectingShapes(a,g);",
+            "drawLineConnectingShapes(g,destroyShape(g));",
+            "drawGroup(g,destroyShape(g));",
+            "g+destroyShape(g);",
+            "g==destroyShape(g);",
+            "t.1=g;destroyShape(t.1);g;",
+            "t.1=g;clearScene();t.1;",
+            "h=g;destroyShape(h);w=g;",
+            "w=drawGroup(g,g);destroyShape(w);a;",
+            "w=drawGroup(a,g);h=w;",
+        ]
+        .into_iter()
+        .enumerate()
+        {
+            let before = BEFORE[at % 3];
+            bodies.push(format!("{AB}var t;t=[0];var g;g={group};{used}"));
+            bodies.push(format!("{AB}var t;t=[0];var g;g={group};{before}{used}"));
+        }
+    }
+    bodies
 }

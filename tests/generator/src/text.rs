@@ -6,7 +6,7 @@ use crate::random::Random;
 use crate::spacing::{write, Spacing};
 use crate::spelling::{changed, respelled, spelled, Amount};
 use crate::words::{string, OPERATORS};
-use crate::{case_out_of_range, damage, procedures, program, quiz};
+use crate::{case_out_of_range, damage, groups, procedures, program, quiz};
 use reference::grammar::read;
 use reference::operation::{PROGRAM_BYTES, TEXT_BYTES};
 use reference::sheet::GRANTS;
@@ -102,10 +102,11 @@ pub fn spelling(random: &mut Random) -> Vec<u8> {
 
 /// A program that is most often readable.
 pub fn readable(random: &mut Random) -> Vec<u8> {
-    match random.weighted(&[45, 15, 10, 30]) {
+    match random.weighted(&[42, 12, 8, 10, 28]) {
         0 => program::program(random),
         1 => procedures::program(random),
         2 => quiz::program(random),
+        3 => groups::program(random),
         _ => {
             let tokens = derived(random);
             let spacing = Spacing::any(random);
@@ -159,7 +160,7 @@ impl Derivation<'_> {
 
     fn statement(&mut self, depth: usize) {
         let last = if depth == 0 { 0 } else { 10 };
-        match self.random.weighted(&[8, 20, 20, 15, 27, last, last]) {
+        match self.random.weighted(&[8, 20, 20, 15, 27, last, last, last]) {
             0 => {
                 self.put(&["var"]);
                 self.name();
@@ -185,6 +186,15 @@ impl Derivation<'_> {
                 self.put(&["{"]);
                 self.statements(depth - 1);
                 self.put(&["}"]);
+                return;
+            }
+            6 => {
+                self.put(&["foreach"]);
+                self.name();
+                self.put(&["in"]);
+                self.expression(depth);
+                self.put(&["do"]);
+                self.statement(depth - 1);
                 return;
             }
             _ => {
@@ -311,6 +321,8 @@ fn fillings() -> Vec<Filling> {
         before("{1;}", 2_000),
         before(&deep, 60),
         before("return-1;", 2_000),
+        before("foreach x in w do 1;", 900),
+        before("foreach x in(w)do{1;}", 600),
         // It is shorter: spaces, parentheses, zeros.
         before(" ", 300),
         before("((1));", 900),
@@ -358,7 +370,7 @@ pub fn lengths() -> Vec<Vec<u8>> {
 /// tokens, and such with one or two tokens more; always the same.
 pub fn brims() -> Vec<Vec<u8>> {
     let mut all = Vec::new();
-    for seed in 0..12 {
+    for seed in 0..16 {
         let mut random = Random::new(seed);
         let program = spelling(&mut random);
         all.extend(spelled(&program, Amount::Brim, &mut random));

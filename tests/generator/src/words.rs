@@ -50,8 +50,8 @@ pub const TEXTS: [&str; 14] = [
 ];
 
 /// The library procedures with the kinds of their arguments: i for an
-/// integer, t for a text, s for a shape.
-pub const LIBRARY: [(&str, &str); 10] = [
+/// integer, t for a text, s for a shape. A group takes any number of these.
+pub const LIBRARY: [(&str, &str); 11] = [
     ("drawLine", "iiii"),
     ("drawEllipse", "iiii"),
     ("drawBox", "iiii"),
@@ -62,6 +62,7 @@ pub const LIBRARY: [(&str, &str); 10] = [
     ("getShapeXCoordinate", "s"),
     ("getShapeYCoordinate", "s"),
     ("clearScene", ""),
+    ("drawGroup", "ss"),
 ];
 
 /// Names that can be called but are no library procedures.
@@ -74,8 +75,8 @@ pub const UNKNOWN: [&str; 16] = [
     "arctan",
     "eval",
     "instanceOf",
-    "drawGroup",
-    "foreach",
+    "drawgroup",
+    "forEach",
     "main",
     "foo",
     "drawline",
@@ -90,9 +91,10 @@ pub const OPERATORS: [&str; 12] = [
 ];
 
 /// Every token but names, constants and strings.
-pub const SIGNS_AND_WORDS: [&str; 30] = [
+pub const SIGNS_AND_WORDS: [&str; 33] = [
     "++", "+", "-", "*", "/", "%", ">>", "<<", "==", "!=", ">", "<", "=", ".", ",", ";", "(", ")",
-    "[", "]", "{", "}", "def", "var", "if", "while", "return", "none", "true", "false",
+    "[", "]", "{", "}", "def", "var", "if", "while", "foreach", "in", "do", "return", "none",
+    "true", "false",
 ];
 
 /// Integers at which something may change.
@@ -170,8 +172,29 @@ pub const BACKWARDS: [&str; 5] = [
     "drawEllipse(1,2,3,-4)",
 ];
 
+/// Groups of no shape, of equal and of other shapes, in each other, and of
+/// what the variables a and b hold.
+pub const GROUPS: [&str; 16] = [
+    "drawGroup()",
+    "drawGroup(drawLine(1,2,3,4))",
+    "drawGroup(drawLine(1,2,3,4),drawText(1,2,\"a\"))",
+    "drawGroup(drawText(1,2,\"a\"),drawLine(1,2,3,4))",
+    "drawGroup(drawGroup())",
+    "drawGroup(drawGroup(),drawGroup())",
+    "drawGroup(drawGroup(drawLine(1,2,3,4)))",
+    "drawGroup(drawLine(1,2,3,4),drawGroup(drawText(1,2,\"a\")))",
+    "drawGroup(drawGroup(drawLine(1,2,3,4)),drawText(1,2,\"a\"))",
+    "drawGroup(a)",
+    "drawGroup(a,a)",
+    "drawGroup(a,b)",
+    "drawGroup(b,drawGroup(a,b),a)",
+    "drawGroup(drawGroup(drawGroup(),a),b)",
+    "drawGroup(drawGroup(a,b),drawGroup(a,b))",
+    "drawGroup(drawLine(1,2,3,4),a,drawGroup(drawGroup(b)),drawGroup())",
+];
+
 /// One expression of each kind, for pairs that may not go together.
-pub const LITERALS: [&str; 12] = [
+pub const LITERALS: [&str; 14] = [
     "0",
     "1",
     "-1",
@@ -184,6 +207,8 @@ pub const LITERALS: [&str; 12] = [
     "drawEllipse(1,2,3,4)",
     "drawBox(-2147483648,2147483647,3,4)",
     "drawText(1,2,\"a\")",
+    "drawGroup()",
+    "drawGroup(drawLine(1,2,3,4),drawGroup())",
 ];
 
 /// Operations on integers in which something special happens.

@@ -84,21 +84,22 @@ fn has_minus_zero(program: &[u8], found: &[Token]) -> bool {
 }
 
 /// The white space that tokens get by the request's sentences, worked out from
-/// the tokens alone: a line ends behind `{`, `}` and `;` and behind the test
-/// of an if or while, since a statement, a closing brace, a `def` or the end
-/// follows.
+/// the tokens alone: a line ends behind `{`, `}`, `;` and `do` and behind the
+/// test of an if or while, since a statement, a closing brace, a `def` or the
+/// end follows.
 fn laid_out(program: &[u8], found: &[Token]) -> Vec<u8> {
     let word = |token: &Token| program[token.start].is_ascii_alphanumeric();
     let mut bytes = Vec::new();
     let mut before: Option<&Token> = None;
     for (token, test) in found.iter().zip(closing_tests(found)) {
-        if before.is_some_and(word) && word(token) {
+        let meets = |before: &Token| word(before) && before.kind != Kind::Do;
+        if before.is_some_and(meets) && word(token) {
             bytes.push(b' ');
         }
         bytes.extend_from_slice(token.spelling(program));
         let ends = matches!(
             token.kind,
-            Kind::OpenBrace | Kind::CloseBrace | Kind::Semicolon
+            Kind::OpenBrace | Kind::CloseBrace | Kind::Semicolon | Kind::Do
         );
         if ends || test {
             bytes.push(b'\n');

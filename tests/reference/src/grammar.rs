@@ -245,6 +245,7 @@ impl<'a> Parser<'a> {
                 let (test, body) = self.test_and_body()?;
                 Action::While(test, body)
             }
+            Some(Kind::Foreach) => self.foreach()?,
             Some(Kind::Return) => {
                 self.next += 1;
                 let value = self.expression()?;
@@ -274,6 +275,48 @@ impl<'a> Parser<'a> {
         let body = self.statement()?;
         self.close_level();
         Ok((test, Box::new(body)))
+    }
+
+    /// A foreach. Its body's first token opens a level as that of an if does,
+    /// but no parenthesis has asked for it before: a token that begins no
+    /// statement is a misfit there, any other may be one level too deep.
+    fn foreach(&mut self) -> Result<Action, Refusal> {
+        self.next += 1;
+        let name = self.name()?;
+        self.expect(Kind::In)?;
+        let group = self.expression()?;
+        self.expect(Kind::Do)?;
+        if !self.begins_statement() {
+            return self.misfit();
+        }
+        self.open_level()?;
+        let body = self.statement()?;
+        self.close_level();
+        Ok(Action::Foreach(name, group, Box::new(body)))
+    }
+
+    /// Whether a statement can begin with the next token.
+    fn begins_statement(&self) -> bool {
+        match self.kind() {
+            Some(Kind::Digits) => self.constant(false).is_some(),
+            Some(Kind::Minus) => self.digits_follow(),
+            Some(
+                Kind::Var
+                | Kind::If
+                | Kind::While
+                | Kind::Foreach
+                | Kind::Return
+                | Kind::OpenBrace
+                | Kind::Name
+                | Kind::Text
+                | Kind::None
+                | Kind::True
+                | Kind::False
+                | Kind::OpenParen
+                | Kind::OpenBracket,
+            ) => true,
+            _ => false,
+        }
     }
 
     /// An assignment, a table update or an expression statement.

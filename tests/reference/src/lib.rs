@@ -11,6 +11,7 @@ pub mod picture;
 pub mod run;
 pub mod shape;
 pub mod sheet;
+pub mod store;
 pub mod takings;
 pub mod token;
 pub mod tree;

@@ -1,8 +1,8 @@
-//! Shapes, their centres and what the operators make of them.
+//! Atomic shapes, their centres and what the operators make of them.
 
 use std::rc::Rc;
 
-/// A shape's kind, numbers and text. Two shapes are equal, and match as
+/// An atomic shape's kind, numbers and text. Two shapes are equal, and match as
 /// keys, if all of these are.
 #[derive(Clone, Debug, PartialEq, Eq, Hash)]
 pub enum Shape {

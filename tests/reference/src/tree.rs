@@ -91,6 +91,8 @@ pub enum Action {
     },
     If(Expression, Box<Statement>),
     While(Expression, Box<Statement>),
+    /// For each shape in a group, bound to the variable.
+    Foreach(Name, Expression, Box<Statement>),
     Return(Expression),
     Block(Vec<Statement>),
     Evaluate(Expression),
@@ -133,6 +135,7 @@ pub enum Procedure {
     DrawEllipse,
     DrawBox,
     DrawText,
+    DrawGroup,
     DestroyShape,
     DrawLineConnectingShapes,
     DrawTextOnShape,
@@ -145,11 +148,12 @@ pub enum Procedure {
 }
 
 /// The procedures that are known by their names.
-const KNOWN: [(&str, Procedure); 11] = [
+const KNOWN: [(&str, Procedure); 12] = [
     ("drawLine", Procedure::DrawLine),
     ("drawEllipse", Procedure::DrawEllipse),
     ("drawBox", Procedure::DrawBox),
     ("drawText", Procedure::DrawText),
+    ("drawGroup", Procedure::DrawGroup),
     ("destroyShape", Procedure::DestroyShape),
     (
         "drawLineConnectingShapes",

@@ -47,17 +47,16 @@ pub fn calculate(operator: Operator, left: i32, right: i32) -> Result<Value, u32
     Ok(Value::Integer(number))
 }
 
-/// What an operator makes of a shape and an integer, or the error's number.
-pub fn transform(operator: Operator, shape: &Shape, by: i32) -> Result<Shape, u32> {
-    let same = |coordinate: i32| coordinate;
+/// Whether an operator takes a shape and this integer, or the error's number.
+pub fn ask(operator: Operator, by: i32) -> Result<(), u32> {
     match operator {
-        Operator::Add => Ok(shape.changed(same, |y| y.wrapping_add(by))),
-        Operator::Subtract => Ok(shape.changed(same, |y| y.wrapping_sub(by))),
-        Operator::ShiftRight => Ok(shape.changed(|x| x.wrapping_add(by), same)),
-        Operator::ShiftLeft => Ok(shape.changed(|x| x.wrapping_sub(by), same)),
-        Operator::Multiply => Ok(shape.scaled(|number| number.wrapping_mul(by))),
+        Operator::Add
+        | Operator::Subtract
+        | Operator::Multiply
+        | Operator::ShiftRight
+        | Operator::ShiftLeft => Ok(()),
         Operator::Divide if by == 0 => Err(70),
-        Operator::Divide => Ok(shape.scaled(|number| number.wrapping_div(by))),
+        Operator::Divide => Ok(()),
         Operator::Join
         | Operator::Remainder
         | Operator::Equal
@@ -65,4 +64,20 @@ pub fn transform(operator: Operator, shape: &Shape, by: i32) -> Result<Shape, u3
         | Operator::Greater
         | Operator::Less => Err(20),
     }
+}
+
+/// What an operator makes of an atomic shape and an integer, or the error's
+/// number.
+pub fn transform(operator: Operator, shape: &Shape, by: i32) -> Result<Shape, u32> {
+    ask(operator, by)?;
+    let same = |coordinate: i32| coordinate;
+    Ok(match operator {
+        Operator::Add => shape.changed(same, |y| y.wrapping_add(by)),
+        Operator::Subtract => shape.changed(same, |y| y.wrapping_sub(by)),
+        Operator::ShiftRight => shape.changed(|x| x.wrapping_add(by), same),
+        Operator::ShiftLeft => shape.changed(|x| x.wrapping_sub(by), same),
+        Operator::Multiply => shape.scaled(|number| number.wrapping_mul(by)),
+        Operator::Divide => shape.scaled(|number| number.wrapping_div(by)),
+        _ => return Err(20),
+    })
 }

@@ -98,6 +98,14 @@ impl<'a> Writer<'a> {
             }
             Action::If(test, body) => self.guarded(b"if", test, body),
             Action::While(test, body) => self.guarded(b"while", test, body),
+            Action::Foreach(name, group, body) => {
+                self.word(b"foreach");
+                self.name(*name);
+                self.word(b"in");
+                self.expression(group);
+                self.word(b"do");
+                self.statement(body);
+            }
             Action::Return(value) => {
                 self.word(b"return");
                 self.expression(value);

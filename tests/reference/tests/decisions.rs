@@ -29,6 +29,6 @@ fn each_row() {
     let all = rows.iter().chain(&text_rows);
     let mut numbers: Vec<u32> = all.map(|row| row.number).collect();
     numbers.sort_unstable();
-    assert!(numbers.len() >= 129, "only {} rows", numbers.len());
+    assert!(numbers.len() >= 222, "only {} rows", numbers.len());
     assert_eq!(numbers, (1..=numbers.len() as u32).collect::<Vec<u32>>());
 }

@@ -488,3 +488,44 @@ fn at_the_limits() {
     assert_eq!(written(&spaced), "def main(w,h){⏎1;⏎}⏎");
     assert_eq!(written_body(&format!("{}7;", "0".repeat(32_751))), "7;");
 }
+
+// Would catch a foreach whose body shares its line, a space too many or too few around its words, and needless parentheses around its group.
+#[test]
+fn foreach() {
+    bodies(&[
+        ("foreach x in w do 1;", "foreach x in w do⏎1;"),
+        ("foreach\tx\nin w\ndo\n1;2;", "foreach x in w do⏎1;⏎2;"),
+        ("foreach x in w do{1;}", "foreach x in w do⏎{⏎1;⏎}"),
+        ("foreach x in(w)do 1;", "foreach x in w do⏎1;"),
+        ("foreach x in (w+h) do 1;", "foreach x in w+h do⏎1;"),
+        ("foreach x in((w+h)*2)do 1;", "foreach x in(w+h)*2 do⏎1;"),
+        ("foreach x in w*(w+h) do 1;", "foreach x in w*(w+h)do⏎1;"),
+        ("foreach x in -1 do 1;", "foreach x in-1 do⏎1;"),
+        ("foreach x in -0 do 1;", "foreach x in 0 do⏎1;"),
+        ("foreach x in 007 do 1;", "foreach x in 7 do⏎1;"),
+        ("foreach x in \"a\" do 1;", "foreach x in\"a\"do⏎1;"),
+        ("foreach x in [ 1 ] do 1;", "foreach x in[1]do⏎1;"),
+        ("foreach x in none do 1;", "foreach x in none do⏎1;"),
+        ("foreach x in(w.1)do 1;", "foreach x in w.1 do⏎1;"),
+        (
+            "foreach x in drawGroup ( w , h ) do -1;",
+            "foreach x in drawGroup(w,h)do⏎-1;",
+        ),
+        (
+            "if(w)foreach x in w do while(h)foreach y in x do{x;}",
+            "if(w)⏎foreach x in w do⏎while(h)⏎foreach y in x do⏎{⏎x;⏎}",
+        ),
+        ("foreach x in w do var a;", "foreach x in w do⏎var a;"),
+        ("foreach x in w do return 1;", "foreach x in w do⏎return 1;"),
+        ("foreach x in w do(1);", "foreach x in w do⏎1;"),
+    ]);
+    // The name and the body are part of the tree.
+    assert_ne!(
+        written_body("foreach x in w do 1;"),
+        written_body("foreach y in w do 1;")
+    );
+    assert_ne!(
+        written_body("foreach x in w do{1;}"),
+        written_body("foreach x in w do 1;")
+    );
+}

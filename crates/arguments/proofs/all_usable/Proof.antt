@@ -1,3 +1,4 @@
+use Rattle.machine.specs.Arguments.{allUsable}
 use Prim.Native.Nat.{_-_}
 use native.Mathlib.Omega.{arith}
 use borrow.Author.Needs.{needs}
@@ -6,13 +7,13 @@ use Rattle.arguments.proofs.all_usable.Statement.{statement}
 use Rattle.arguments.proofs.all_usable.Tie as tie
 
 abbrev Inv-loop : tie.InvT-loop
-Inv-loop words base n k₀ k = Asking words base n k
+Inv-loop words base n k₀ k = Asking allUsable words base n k
 
 abbrev μ-loop : tie.MeasureT-loop
 μ-loop words base n k₀ k = n - k
 
 loop-holds : tie.Need-loop-holds Inv-loop μ-loop
-loop-holds c = ask-first _ _ _
+loop-holds c = ask-first _ _ _ _
 
 argument-requires : tie.Need-argument-requires Inv-loop μ-loop
 argument-requires c κs = search needs

@@ -31,13 +31,9 @@ returns-2 c = search shape-dead
 number-of-requires : tie.Need-number-of-requires
 number-of-requires c κs = search needs
 
--- src/lib.rt:52:9
-figure-at-requires : tie.Need-figure-at-requires
-figure-at-requires c κs = search needs
-
--- src/lib.rt:53:11
-new-shape-requires : tie.Need-new-shape-requires
-new-shape-requires c κs = search needs
+-- src/lib.rt:52:11
+copy-shape-requires : tie.Need-copy-shape-requires
+copy-shape-requires c κs = search needs
 
 -- src/lib.rt:54:22
 enum-known-v : tie.Need-enum-known-v
@@ -82,8 +78,7 @@ put-copy-spec =
     same-length-2
     returns-2
     number-of-requires
-    figure-at-requires
-    new-shape-requires
+    copy-shape-requires
     enum-known-v
     pack-requires
     set-variable-requires

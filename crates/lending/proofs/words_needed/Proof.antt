@@ -1,4 +1,4 @@
-use Rattle.lending.proofs.Admitted.{shapes-fit, shapes-end-fits, entries-fit, words-fit}
+use Rattle.lending.proofs.Admitted.{shapes-fit, shapes-end-fits, rows-fit, entries-fit, words-fit}
 use borrow.Author.Needs.{needs}
 use Rattle.lending.proofs.words_needed.Statement.{statement}
 use Rattle.lending.proofs.words_needed.Tie as tie
@@ -19,13 +19,21 @@ add-result c = search shapes-end-fits
 element-copy-out-result-2 : tie.Need-element-copy-out-result-2
 element-copy-out-result-2 c = search needs
 
--- src/lib.rt:31:29
+-- src/lib.rt:51:36
+add-result-2 : tie.Need-add-result-2
+add-result-2 c = search rows-fit
+
+-- src/lib.rt:51:51
+element-copy-out-result-3 : tie.Need-element-copy-out-result-3
+element-copy-out-result-3 c = search needs
+
+-- src/lib.rt:51:35
 mul-result-2 : tie.Need-mul-result-2
 mul-result-2 c = search entries-fit
 
--- src/lib.rt:31:5
-add-result-2 : tie.Need-add-result-2
-add-result-2 c = search words-fit
+-- src/lib.rt:51:5
+add-result-3 : tie.Need-add-result-3
+add-result-3 c = search words-fit
 
 -- src/lib.rt:27:1
 returns : tie.Need-returns
@@ -39,6 +47,8 @@ words-needed-spec =
     mul-result
     add-result
     element-copy-out-result-2
-    mul-result-2
     add-result-2
+    element-copy-out-result-3
+    mul-result-2
+    add-result-3
     returns)

@@ -6,8 +6,8 @@ use Rattle.library.proofs.connect.Tie as tie
 returns : tie.Need-returns
 returns c = search connect-count
 
-are-kinds-requires : tie.Need-are-kinds-requires
-are-kinds-requires c κs = search needs
+two-figures-requires : tie.Need-two-figures-requires
+two-figures-requires c κs = search needs
 
 same-length : tie.Need-same-length
 same-length c = search needs
@@ -32,7 +32,7 @@ connect-spec =
     tie.close
     (tie.spec
     returns
-    are-kinds-requires
+    two-figures-requires
     same-length
     returns-2
     connecting-figure-requires

@@ -6,8 +6,8 @@ use Rattle.library.proofs.label.Tie as tie
 returns : tie.Need-returns
 returns c = search label-count
 
-are-kinds-requires : tie.Need-are-kinds-requires
-are-kinds-requires c κs = search needs
+figure-and-text-requires : tie.Need-figure-and-text-requires
+figure-and-text-requires c κs = search needs
 
 same-length : tie.Need-same-length
 same-length c = search needs
@@ -32,7 +32,7 @@ label-spec =
     tie.close
     (tie.spec
     returns
-    are-kinds-requires
+    figure-and-text-requires
     same-length
     returns-2
     label-figure-requires

@@ -1,7 +1,7 @@
 use borrow.Author.Needs.{needs}
 use Rattle.meaning.specs.Basics.{if_then_else_}
 use Rattle.machine.specs.Library.{perform}
-use Rattle.library.proofs.ProcedureLaws.{performs-9}
+use Rattle.library.proofs.ProcedureLaws.{performs-10}
 use Rattle.library.proofs.perform.Statement.{statement}
 use Rattle.library.proofs.perform.Tie as tie
 
@@ -34,6 +34,9 @@ destroy-requires c κs = search needs
 
 clear-requires : tie.Need-clear-requires
 clear-requires c κs = search needs
+
+group-requires : tie.Need-group-requires
+group-requires c κs = search needs
 
 same-length : tie.Need-same-length
 same-length c = search needs
@@ -102,7 +105,14 @@ same-length-10 : tie.Need-same-length-10
 same-length-10 c = search needs
 
 returns-10 : tie.Need-returns-10
-returns-10 c = search performs-9
+unfolding perform if_then_else_
+returns-10 c = rw (c .before .before .before .before .match .keys10) (c .before .before .clear .ensures)
+
+same-length-11 : tie.Need-same-length-11
+same-length-11 c = search needs
+
+returns-11 : tie.Need-returns-11
+returns-11 c = search performs-10
 
 pub perform-spec : {M : Type 1} → statement M
 perform-spec =
@@ -118,6 +128,7 @@ perform-spec =
     y-coordinate-requires
     destroy-requires
     clear-requires
+    group-requires
     same-length
     returns
     same-length-2
@@ -137,4 +148,6 @@ perform-spec =
     same-length-9
     returns-9
     same-length-10
-    returns-10)
+    returns-10
+    same-length-11
+    returns-11)

@@ -6,8 +6,8 @@ use Rattle.library.proofs.y_coordinate.Tie as tie
 returns : tie.Need-returns
 returns c = search coordinate-count
 
-is-kind-requires : tie.Need-is-kind-requires
-is-kind-requires c κs = search needs
+is-figure-requires : tie.Need-is-figure-requires
+is-figure-requires c κs = search needs
 
 returns-2 : tie.Need-returns-2
 returns-2 c = search coordinate-kind
@@ -24,4 +24,4 @@ returns-3 c = search coordinate-given
 pub y-coordinate-spec : {M : Type 1} → statement M
 y-coordinate-spec =
     tie.close
-    (tie.spec returns is-kind-requires returns-2 given-figure-requires centre-y-requires returns-3)
+    (tie.spec returns is-figure-requires returns-2 given-figure-requires centre-y-requires returns-3)

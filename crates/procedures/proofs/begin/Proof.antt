@@ -82,10 +82,15 @@ same-length-3 c = omega (arith, length-set (c .before .before .before .before .b
 returns-5 : tie.Need-returns-5
 returns-5 c = search no-call
 
--- src/lib.rt:72:9
+-- src/lib.rt:72:5
+slice-write-words-2 : tie.Need-slice-write-words-2
+slice-write-words-2 c = omega (arith, length-set (c .before .before .before .before .before .before .before .before .before .before .before .before .before .before .before .suspend .last .0) 8 (c .before .before .before .before .before .before .before .before .before .before .before .before .before .before .before .before .before .before .before .before .before .before .before .before .before .args .callee + 1))
+
+-- src/lib.rt:73:9
 assign-parameters-requires : tie.Need-assign-parameters-requires
 assign-parameters-requires c κs =
     let long = length-set (c .before .before .before .before .before .before .before .before .before .before .before .before .before .before .before .before .suspend .last .0) 8 (c .before .before .before .before .before .before .before .before .before .before .before .before .before .before .before .before .before .before .before .before .before .before .before .before .before .before .args .callee + 1) in
+    let long′ = length-set (c .before .before .before .before .spend-one .last .0) 12 0 in
     record {
       room = still-room _ _ _ (c .before .before .before .before .before .before .before .before .before .before .before .before .before .before .before .before .before .before .before .before .before .before .before .before .before .before .pre .room) (omega arith);
       slots = omega arith;
@@ -94,7 +99,9 @@ assign-parameters-requires c κs =
 
 -- src/lib.rt:39:1
 same-length-4 : tie.Need-same-length-4
-same-length-4 c = omega (arith, length-set (c .before .before .before .before .before .before .before .before .before .before .before .before .before .before .before .before .before .before .before .suspend .last .0) 8 (c .before .before .before .before .before .before .before .before .before .before .before .before .before .before .before .before .before .before .before .before .before .before .before .before .before .before .before .before .before .args .callee + 1))
+same-length-4 c =
+    let long = length-set (c .before .before .before .before .before .before .before .before .before .before .before .before .before .before .before .before .before .before .before .suspend .last .0) 8 (c .before .before .before .before .before .before .before .before .before .before .before .before .before .before .before .before .before .before .before .before .before .before .before .before .before .before .before .before .before .args .callee + 1) in
+    omega (arith, length-set (c .before .before .before .before .before .before .before .spend-one .last .0) 12 0)
 
 -- src/lib.rt:39:1
 returns-6 : tie.Need-returns-6
@@ -123,6 +130,7 @@ begin-spec =
     spend-one-requires
     same-length-3
     returns-5
+    slice-write-words-2
     assign-parameters-requires
     same-length-4
     returns-6)

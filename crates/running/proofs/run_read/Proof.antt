@@ -1,4 +1,4 @@
-use Rattle.running.proofs.Ways.{way-malformed, way-parameters, way-body}
+use Rattle.running.proofs.Ways.{way-malformed, way-parameters, way-main}
 use borrow.Author.Needs.{needs}
 use Rattle.running.proofs.run_read.Statement.{statement}
 use Rattle.running.proofs.run_read.Tie as tie
@@ -6,7 +6,7 @@ use Rattle.running.proofs.run_read.Reads as reads
 use Rattle.running.proofs.run_read.Lts as lts
 use Rattle.code.proofs.parameters_of.Reads as parameters-of-reads
 use Rattle.reader.proofs.read.Reads as read-reads
-use Rattle.running.proofs.run_body.Reads as run-body-reads
+use Rattle.running.proofs.run_main.Reads as run-main-reads
 
 -- src/lib.rt:99:11
 read-requires : tie.Need-read-requires
@@ -37,8 +37,8 @@ returns : tie.Need-returns
 returns c = search way-parameters
 
 -- src/lib.rt:105:17
-run-body-requires : tie.Need-run-body-requires
-run-body-requires c κs = c .before .before .before .before .before .before .before .before .before .before .before .before .before .before .before .before .before .before .before .before .pre .ready .lent
+run-main-requires : tie.Need-run-main-requires
+run-main-requires c κs = c .before .before .before .before .before .before .before .before .before .before .before .before .before .before .before .before .before .before .before .before .pre .ready .lent
 
 -- src/lib.rt:85:1
 same-length-3 : tie.Need-same-length-3
@@ -70,7 +70,7 @@ same-length-8 c = search needs
 
 -- src/lib.rt:85:1
 returns-3 : tie.Need-returns-3
-returns-3 c = search way-body
+returns-3 c = search way-main
 
 pub run-read-spec : {M : Type 1} → statement M
 run-read-spec =
@@ -83,7 +83,7 @@ run-read-spec =
     same-length
     same-length-2
     returns
-    run-body-requires
+    run-main-requires
     same-length-3
     same-length-4
     returns-2

@@ -145,7 +145,7 @@ const fn statement(name: &'static str, open: &'static str, close: &'static str) 
     }
 }
 
-const NESTS: [Nest; 20] = [
+const NESTS: [Nest; 22] = [
     expression("`(…)`", "(", ")"),
     expression("`[…]`", "[", "]"),
     expression("`f(…)`", "f(", ")"),
@@ -169,7 +169,12 @@ const NESTS: [Nest; 20] = [
     statement("`while(true)…`", "while(true)", ""),
     statement("`if(true){…}`", "if(true){", "}"),
     statement("`while(true){…}`", "while(true){", "}"),
+    statement("`foreach x in g do …`", "foreach x in w.0 do ", ""),
+    statement("`foreach x in g do{…}`", "foreach x in w.0 do{", "}"),
 ];
+
+/// A table with a group in a group, for what goes through one.
+const TABLE: &str = "w=[0];h=drawLine(1,2,3,4);h=drawGroup(h);h=drawGroup(h);w.0=h;";
 
 /// A statement that nests so many levels around an inside, which is an expression.
 fn nested(nest: &Nest, levels: usize, inside: &str) -> String {
@@ -181,14 +186,14 @@ fn nested(nest: &Nest, levels: usize, inside: &str) -> String {
 
 /// A program whose main nests so many levels around an inside.
 fn program(nest: &Nest, levels: usize, inside: &str) -> String {
-    format!("def main(w,h){{w=[0];{}}}", nested(nest, levels, inside))
+    format!("def main(w,h){{{TABLE}{}}}", nested(nest, levels, inside))
 }
 
 /// A program with so many calls under way, each inside so many levels of its procedure; the call's own parenthesis is the last of them.
 fn recursive(nest: &Nest, levels: usize, calls: usize) -> String {
     let call = |number: &str| nested(nest, levels - 1, &format!("d({number},w)"));
     format!(
-        "def d(n,w){{if(n==0)return 1;{}}}def main(w,h){{w=[0];{}}}",
+        "def d(n,w){{if(n==0)return 1;{}}}def main(w,h){{{TABLE}{}}}",
         call("n-1"),
         call(&(calls - 2).to_string())
     )

@@ -36,7 +36,7 @@ same-length c = search needs
 
 -- src/draw.rt:28:1
 returns : tie.Need-returns
-returns c = program-drawn _ (replicate 8193 0) (replicate 16384 0) (replicate 285776 0) (replicate 16384 0) _ _ _ (c .before .before .before .before .before .before .before .before .before .before .before .before .before .before .before .before .before .before .before .fits .width) (c .before .before .before .before .before .before .before .before .before .before .before .before .before .before .before .before .before .before .before .fits .height) refl refl refl refl _ _ _ _ (c .before .before .before .before .before .before .before .before .before .before .draw .ensures .0 .answered) (c .before .before .before .before .before .before .before .before .before .before .draw .ensures .1) (c .before .before .put-answer .ensures)
+returns c = program-drawn _ (replicate 8193 0) (replicate 16384 0) (replicate 354384 0) (replicate 16384 0) _ _ _ (c .before .before .before .before .before .before .before .before .before .before .before .before .before .before .before .before .before .before .before .fits .width) (c .before .before .before .before .before .before .before .before .before .before .before .before .before .before .before .before .before .before .before .fits .height) refl refl refl refl _ _ _ _ (c .before .before .before .before .before .before .before .before .before .before .draw .ensures .0 .answered) (c .before .before .before .before .before .before .before .before .before .before .draw .ensures .1) (c .before .before .put-answer .ensures)
 
 pub draw-program-spec : {M : Type 1} → statement M
 draw-program-spec =

@@ -1,6 +1,6 @@
 -- `names::library::library_number` meets its contract, by the lengths of the names.
 use borrow.Author.Needs.{needs}
-use Rattle.names.proofs.Procedures.{number-7, number-8, number-10, number-11, number-12, number-15, number-19, number-24, number-other}
+use Rattle.names.proofs.Procedures.{number-7, number-8, number-9, number-10, number-11, number-12, number-15, number-19, number-24, number-other}
 use Rattle.names.proofs.library.library_number.Statement.{statement}
 use Rattle.names.proofs.library.library_number.Tie as tie
 
@@ -64,6 +64,12 @@ slice-aggregate-one-of-10 c = search needs
 one-of-requires-10 : tie.Need-one-of-requires-10
 one-of-requires-10 c κs = search needs
 
+slice-aggregate-one-of-11 : tie.Need-slice-aggregate-one-of-11
+slice-aggregate-one-of-11 c = search needs
+
+one-of-requires-11 : tie.Need-one-of-requires-11
+one-of-requires-11 c κs = search needs
+
 returns : tie.Need-returns
 returns c = search number-7
 
@@ -71,27 +77,30 @@ returns-2 : tie.Need-returns-2
 returns-2 c = search number-8
 
 returns-3 : tie.Need-returns-3
-returns-3 c = search number-10
+returns-3 c = search number-9
 
 returns-4 : tie.Need-returns-4
-returns-4 c = search number-11
+returns-4 c = search number-10
 
 returns-5 : tie.Need-returns-5
-returns-5 c = search number-12
+returns-5 c = search number-11
 
 returns-6 : tie.Need-returns-6
-returns-6 c = search number-15
+returns-6 c = search number-12
 
 returns-7 : tie.Need-returns-7
-returns-7 c = search number-19
+returns-7 c = search number-15
 
 returns-8 : tie.Need-returns-8
-returns-8 c = search number-24
+returns-8 c = search number-19
 
 returns-9 : tie.Need-returns-9
-returns-9 c =
+returns-9 c = search number-24
+
+returns-10 : tie.Need-returns-10
+returns-10 c =
     let n = c .match .rest in
-    number-other _ (n .0 .0 .0 .0 .0 .0 .0 .1) (n .0 .0 .0 .0 .0 .0 .1) (n .0 .0 .0 .0 .0 .1) (n .0 .0 .0 .0 .1) (n .0 .0 .0 .1) (n .0 .0 .1) (n .0 .1) (n .1)
+    number-other _ (n .0 .0 .0 .0 .0 .0 .0 .0 .1) (n .0 .0 .0 .0 .0 .0 .0 .1) (n .0 .0 .0 .0 .0 .0 .1) (n .0 .0 .0 .0 .0 .1) (n .0 .0 .0 .0 .1) (n .0 .0 .0 .1) (n .0 .0 .1) (n .0 .1) (n .1)
 
 pub library-number-spec : {M : Type 1} → statement M
 library-number-spec =
@@ -117,6 +126,8 @@ library-number-spec =
     one-of-requires-9
     slice-aggregate-one-of-10
     one-of-requires-10
+    slice-aggregate-one-of-11
+    one-of-requires-11
     returns
     returns-2
     returns-3
@@ -125,4 +136,5 @@ library-number-spec =
     returns-6
     returns-7
     returns-8
-    returns-9)
+    returns-9
+    returns-10)

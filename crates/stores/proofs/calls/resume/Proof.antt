@@ -25,6 +25,10 @@ slice-write-words c = search needs
 slice-write-words-2 : tie.Need-slice-write-words-2
 slice-write-words-2 c = simp length-set (omega arith)
 
+-- src/calls.rt:129:5
+slice-write-words-3 : tie.Need-slice-write-words-3
+slice-write-words-3 c = simp length-set (omega arith)
+
 -- src/calls.rt:130:64
 slice-read-lowered-word : tie.Need-slice-read-lowered-word
 slice-read-lowered-word c = simp length-set (omega arith)
@@ -34,12 +38,12 @@ lowered-word-requires : tie.Need-lowered-word-requires
 lowered-word-requires c κs = search needs
 
 -- src/calls.rt:130:5
-slice-write-words-3 : tie.Need-slice-write-words-3
-slice-write-words-3 c = simp length-set (omega arith)
-
--- src/calls.rt:131:5
 slice-write-words-4 : tie.Need-slice-write-words-4
 slice-write-words-4 c = simp length-set (omega arith)
+
+-- src/calls.rt:131:5
+slice-write-words-5 : tie.Need-slice-write-words-5
+slice-write-words-5 c = simp length-set (omega arith)
 
 -- src/calls.rt:121:1
 same-length : tie.Need-same-length
@@ -58,9 +62,10 @@ resume-spec =
     resume-variables-requires
     slice-write-words
     slice-write-words-2
+    slice-write-words-3
     slice-read-lowered-word
     lowered-word-requires
-    slice-write-words-3
     slice-write-words-4
+    slice-write-words-5
     same-length
     returns)

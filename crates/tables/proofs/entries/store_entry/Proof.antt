@@ -1,54 +1,49 @@
-use native.Mathlib.Omega.{arith}
+use Rattle.tables.proofs.EntryLaws.{group-stored, none-left, value-stored}
 use borrow.Author.Needs.{needs}
-use Rattle.tables.proofs.EntryLaws.{found-small, found-room, stores-new, stores-old}
 use Rattle.tables.proofs.entries.store_entry.Statement.{statement}
 use Rattle.tables.proofs.entries.store_entry.Tie as tie
 
-find-entry-requires : tie.Need-find-entry-requires
-find-entry-requires c κs = search needs
+-- src/entries.rt:199:8
+is-group-key-requires : tie.Need-is-group-key-requires
+is-group-key-requires c κs = search needs
 
-add-entry-requires : tie.Need-add-entry-requires
-add-entry-requires c κs = search needs
-
+-- src/entries.rt:200:9
 same-length : tie.Need-same-length
 same-length c = search needs
 
+-- src/entries.rt:200:9
 returns : tie.Need-returns
-returns c = search stores-new
+returns c = search group-stored
 
-sub-entry-place : tie.Need-sub-entry-place
-sub-entry-place c = search needs
+-- src/entries.rt:202:9
+put-value-requires : tie.Need-put-value-requires
+put-value-requires c κs = search needs
 
-entry-place-requires : tie.Need-entry-place-requires
-entry-place-requires c κs = (c .before .before .before .before .before .before .pre .shapes, found-small _ _ _ _ _ _ _ (c .before .before .before .before .before .before .pre) (c .before .find-entry .ensures))
-
-add-words : tie.Need-add-words
-add-words c = omega (arith, found-room _ _ _ _ _ _ _ (c .before .before .before .before .before .before .before .pre) (c .before .before .find-entry .ensures) _ (c .before .if1 .left) (c .entry-place .ensures), c .before .before .before .before .before .before .before .good)
-
-mul-words : tie.Need-mul-words
-mul-words c = omega (arith, found-room _ _ _ _ _ _ _ (c .before .before .before .before .before .before .before .pre) (c .before .before .find-entry .ensures) _ (c .before .if1 .left) (c .entry-place .ensures), c .before .before .before .before .before .before .before .good)
-
-slice-write-words : tie.Need-slice-write-words
-slice-write-words c = omega (arith, found-room _ _ _ _ _ _ _ (c .before .before .before .before .before .before .before .pre) (c .before .before .find-entry .ensures) _ (c .before .if1 .left) (c .entry-place .ensures))
-
+-- src/entries.rt:203:9
 same-length-2 : tie.Need-same-length-2
 same-length-2 c = search needs
 
+-- src/entries.rt:203:9
 returns-2 : tie.Need-returns-2
-returns-2 c = search stores-old
+returns-2 c = search none-left
+
+-- src/entries.rt:187:1
+same-length-3 : tie.Need-same-length-3
+same-length-3 c = search needs
+
+-- src/entries.rt:187:1
+returns-3 : tie.Need-returns-3
+returns-3 c = search value-stored
 
 pub store-entry-spec : {M : Type 1} → statement M
 store-entry-spec =
     tie.close
     (tie.spec
-    find-entry-requires
-    add-entry-requires
+    is-group-key-requires
     same-length
     returns
-    sub-entry-place
-    entry-place-requires
-    add-words
-    mul-words
-    slice-write-words
+    put-value-requires
     same-length-2
-    returns-2)
+    returns-2
+    same-length-3
+    returns-3)

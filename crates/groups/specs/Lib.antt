@@ -1,0 +1,4 @@
+pub mod Walks
+pub mod Destroying
+pub mod Making
+pub mod Looking
