@@ -345,7 +345,7 @@ static void one(const uint8_t *input, size_t input_length) {
     }
     if (ran) {
         ask(place < program_length && length == 0, "a statement's place and no length");
-        ask(place > 0 ? answer[2] > 0 || number == 79 : number == 20 || number == 60, "place 0 only for main's parameters");
+        ask(place > 0 ? answer[2] > 0 || number == 79 : number == 20 || number == 60 || number == 79, "place 0 only for main's parameters and the picture's steps");
     }
     if (number == 0 && runs) {
         ask(place == 0 && answer[2] > 0 && length > 0, "a picture with its length and steps");
