@@ -11,7 +11,7 @@ use Rattle.machine.specs.declared.Value.the-variants.{Shape}
 use Rattle.machine.specs.declared.Flow.{Flow}
 use Rattle.machine.specs.declared.Flow.the-variants.{Onward, Returned, Stopped}
 use Rattle.machine.specs.Words.{packed}
-use Rattle.machine.specs.Layout.{callsUsed, loopUnit, shapesGranted, stepsGranted, shapePlace, pathPlace}
+use Rattle.machine.specs.Layout.{callsUsed, loopUnit, shapesGranted, entriesGranted, stepsGranted, shapePlace, pathPlace}
 use Rattle.machine.specs.Act.{Act, give, fail, store, held, count, _>>=_, _>>_}
 use Rattle.machine.specs.Shapes.{isGroupAt, destroyedAt}
 use Rattle.machine.specs.Groups.{componentAt, followersAt, firstAt, countAt, wayWord, wayPlace}
@@ -124,11 +124,24 @@ ownFrom body g p slot k (suc n) = do
 unfoldable pub innerUnit : ℕ → ℕ
 innerUnit u = if eqb u 0 then (λ _. 1) else λ _. 2 * u % 2 ^ 64
 
--- a loop over group i
-unfoldable pub loopOver : Act Flow → List ℕ → ℕ → ℕ → ℕ → Act Flow
-loopOver body g p slot i = do
+-- zeros in the words of n slots from k on, of the call under way
+unfoldable pub clearFrom : List ℕ → ℕ → ℕ → Act (Unit {0})
+clearFrom g k zero = give tt
+clearFrom g k (suc n) = (held >>= λ ws. store (markPlace g ws k) 0) >> clearFrom g (k + 1) n
+
+-- what the words of slots hold means nothing before a call's outermost loop, which begins with zeros in all of them
+unfoldable pub unmarked : List ℕ → Act (Unit {0})
+unmarked g = held >>= λ ws. if eqb (getD ws loopUnit 0) 0 then (λ _. clearFrom g 0 (entriesGranted g)) else λ _. give tt
+
+-- the own components of group i, with a unit of their own
+unfoldable pub loopInside : Act Flow → List ℕ → ℕ → ℕ → ℕ → Act Flow
+loopInside body g p slot i = do
   ws ← held
   store loopUnit (innerUnit (getD ws loopUnit 0))
   f ← ownFrom body g p slot (firstAt ws i) (countAt ws i)
   store loopUnit (getD ws loopUnit 0)
   give f
+
+-- a loop over group i
+unfoldable pub loopOver : Act Flow → List ℕ → ℕ → ℕ → ℕ → Act Flow
+loopOver body g p slot i = unmarked g >> loopInside body g p slot i

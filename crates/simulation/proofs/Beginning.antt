@@ -28,8 +28,8 @@ use Rattle.machine.specs.Layout.{
   loopUnit,
   entriesGranted,
   callsGranted,
-  pathPlace,
-  fixedWords,
+  entryPlace,
+  componentPlace,
   valuePlace,
   argumentPlace,
   Lent,
@@ -46,7 +46,7 @@ use Rattle.simulation.proofs.Results.{due, steps-told, spent}
 use Rattle.simulation.proofs.Moving.{moved-later, moved-related}
 
 module _ (program : List ℕ) (ts : List Token) (g texts words : List ℕ) (lent : Lent g texts words)
-    (front : (i : ℕ) → i < argumentPlace 0 → getD words i 0 ≡ 0) (behind : (i : ℕ) → fixedWords ≤ i → getD words i 0 ≡ 0) where
+    (front : (i : ℕ) → i < argumentPlace 0 → getD words i 0 ≡ 0) (entries : (i : ℕ) → entryPlace g 0 ≤ i → i < componentPlace g 0 → getD words i 0 ≡ 0) where
   counter : (c : ℕ) → c < 16 → getD words c 0 ≡ 0
   counter c s = front c (omega arith)
 
@@ -91,10 +91,7 @@ module _ (program : List ℕ) (ts : List Token) (g texts words : List ℕ) (lent
         order = λ i j x l. none shapesUsed j (omega arith) l;
         hollow = λ i l. none shapesUsed i (omega arith) l;
       };
-      marks = record {
-        idle = λ d k x y z. behind _ (omega arith);
-        own = λ k x y. absurd (omega (arith, counter callsUsed (omega arith)));
-      };
+      marks = record { own = λ k u x y. absurd (omega (arith, counter callsUsed (omega arith))) };
       entries = record {
         packs = λ k l. none entriesMade k (omega arith) l;
         keys = λ k l. none entriesMade k (omega arith) l;
@@ -104,7 +101,7 @@ module _ (program : List ℕ) (ts : List Token) (g texts words : List ℕ) (lent
         index = record {
           few = rw (counter entriesMade (omega arith)) (omega arith);
           begins = λ b l. rw (
-            behind (headPlace g b) (omega arith),
+            entries (headPlace g b) (omega arith) (omega arith),
             counter entriesMade
                 (omega arith),
           );
@@ -132,7 +129,7 @@ module _ (program : List ℕ) (ts : List Token) (g : List ℕ) where
     pub others : (i : ℕ) → i ≢ callsUsed → getD (r′ .words) i 0 ≡ getD (r .words) i 0
 
 module _ {program : List ℕ} {ts : List Token} {g : List ℕ} {r : Raw} {s : State} {total : Amounts} (h : Related program ts g r s total)
-    (first : getD (r .words) callsUsed 0 ≡ 0) (p : ℕ) where
+    (first : getD (r .words) callsUsed 0 ≡ 0) (idle : getD (r .words) loopUnit 0 ≡ 0) (p : ℕ) where
   abbrev now : List ℕ
   now = set (r .words) callsUsed (getD (r .words) callsUsed 0 + 1)
 
@@ -156,15 +153,8 @@ module _ {program : List ℕ} {ts : List Token} {g : List ℕ} {r : Raw} {s : St
   unfolding suspendedOf listed
   none-now = rw one
 
-  -- no loop is under way
-  marked : getD (r .words) callsUsed 0 + 1 ≤ callsGranted g → Marks g now
-  marked fit = let m = h .sound .marks in record {
-    idle = λ d k x y z. other (pathPlace g d k) (λ e. omega arith) ∙ m .idle d k (omega (arith, one, first)) y z;
-    own = λ k x y.
-        let q : getD now callsUsed 0 - 1 ≡ 0 = omega (arith, one) in
-        let z : getD now (pathPlace g 0 k) 0 ≡ 0 = other (pathPlace g 0 k) (λ e. omega arith) ∙ m .idle 0 k (omega (arith, first)) (omega arith) y in
-        rw (q, z) (omega arith);
-  }
+  marked : Marks g now
+  marked = record { own = λ k u x y. absurd (omega (arith, other loopUnit (λ e. omega arith), idle)) }
 
   called : getD (r .words) callsUsed 0 + 1 ≤ callsGranted g → Called program ts g r (raw (r .texts) now) s (added total (due Run.calls 1 p))
   unfolding added resourceNumber
@@ -173,7 +163,7 @@ module _ {program : List ℕ} {ts : List Token} {g : List ℕ} {r : Raw} {s : St
         (r .words) callsUsed 0 + 1))
         (rw (other argumentsHeld (λ e. omega arith)) (h .sound .counted .arguments)) (omega (arith, one, fit))
         (variables-kept later kept ts (h .sound .variables)) (h .variables ∙ sym (variables-same later kept ts (h .sound .variables)))
-        (record { within = λ d z l. absurd (omega (arith, one)); holds = λ d z l. absurd (omega (arith, one)) }) (marked fit) (h .suspended ∙ none-before ∙ sym none-now)
+        (record { within = λ d z l. absurd (omega (arith, one)); holds = λ d z l. absurd (omega (arith, one)) }) marked (h .suspended ∙ none-before ∙ sym none-now)
         (omega arith) (omega arith) (omega arith) (omega arith) (omega (arith, h .callsTaken, first, one));
     calls = one;
     others = other;
@@ -186,7 +176,7 @@ module _ {program : List ℕ} {ts : List Token} {g : List ℕ} {r : Raw} {s : St
 
 -- ---- and is given back
 module _ {program : List ℕ} {ts : List Token} {g : List ℕ} {r : Raw} {s : State} {total : Amounts} (h : Related program ts g r s total)
-    (one : getD (r .words) callsUsed 0 ≡ 1) (idle : getD (r .words) loopUnit 0 ≡ 0) where
+    (one : getD (r .words) callsUsed 0 ≡ 1) where
   abbrev left : List ℕ
   left = set (r .words) callsUsed 0
 
@@ -211,17 +201,7 @@ module _ {program : List ℕ} {ts : List Token} {g : List ℕ} {r : Raw} {s : St
   none-left = rw none-called
 
   left-marks : Marks g left
-  left-marks = record {
-    idle = λ d k x y z. as-was (pathPlace g d k) (λ e. omega arith) ∙ gone d k y z;
-    own = λ k x y. absurd (omega (arith, none-called));
-  }
-    where
-      gone : (d k : ℕ) → d < callsGranted g → k < entriesGranted g → getD (r .words) (pathPlace g d k) 0 ≡ 0
-      gone zero k y z =
-          let q : getD (r .words) callsUsed 0 - 1 ≡ 0 = omega (arith, one) in
-          let m : getD (r .words) (pathPlace g 0 k) 0 ≤ 2 * getD (r .words) loopUnit 0 - 1 = rw q at (h .sound .marks .own k (omega (arith, one)) z) in
-          omega (arith, idle)
-      gone (suc d) k y z = h .sound .marks .idle (suc d) k (omega (arith, one)) y z
+  left-marks = record { own = λ k u x y. absurd (omega (arith, none-called)) }
 
   pub returns-main : Related program ts g (raw (r .texts) (set (r .words) callsUsed 0)) s (lowered total)
   unfolding lowered resourceNumber

@@ -40,12 +40,15 @@ use Rattle.machine.specs.Variables.{waitingWord, wordIn, slotIn, frameWord, top
 use Rattle.machine.specs.Procedures.{suspendFrom, suspend}
 use Rattle.simulation.specs.Meant.{listed, slotAt, variableAt, variablesOf, waitingAt, frameAt, frameOf, suspendedOf}
 use Rattle.simulation.specs.Sound.{Valid, Variables, Waiting, Marks}
+use Rattle.simulation.specs.After.{SameMarks}
 use Rattle.simulation.specs.Follows.{Related, Later}
 use Rattle.simulation.proofs.Listed.{listed-more, listed-shift}
 use Rattle.simulation.proofs.Frames.{
   SameComponents,
   SameRest,
   rest-marks,
+  same-marks,
+  marks-trans,
   later-trans,
   valid-later,
   same-words,
@@ -241,11 +244,12 @@ module _ (program : List ℕ) (ts : List Token) (g : List ℕ) where
     pub stack : SameStack r r′
     pub low : (i : ℕ) → i < declared → getD (r′ .words) i 0 ≡ getD (r .words) i 0
     pub held : getD (r′ .words) argumentsHeld 0 ≡ getD (r .words) argumentsHeld 0 + getD (r .words) declared 0
+    pub busy : 0 < getD (r .words) callsUsed 0
     pub calls : getD (r′ .words) callsUsed 0 ≡ getD (r .words) callsUsed 0 + 1
     pub procedure : getD (r′ .words) running 0 ≡ number
     pub unit : getD (r′ .words) loopUnit 0 ≡ 0
     pub parts : SameComponents g r r′
-    pub marks : (d k : ℕ) → d < getD (r .words) callsUsed 0 → k < entriesGranted g → getD (r′ .words) (pathPlace g d k) 0 ≡ getD (r .words) (pathPlace g d k) 0
+    pub marks : SameMarks g r r′
     pub waits : (j : ℕ) → j < getD (r .words) declared 0
         → argumentAt (r′ .words) (getD (r .words) argumentsHeld 0 + j) ≡ waitingWord (slotAt (r .words) j) (getD (r .words) (valuePlace (slotAt (r .words) j)) 0)
 
@@ -282,13 +286,7 @@ module _ {program : List ℕ} {ts : List Token} {g : List ℕ} {r : Raw} {s : St
   now-high j l = now-other j (λ e. omega arith) (λ e. omega arith)
 
   now-marks : Marks g now
-  now-marks = let m = a .related .sound .marks in record {
-    idle = λ d k x y z. now-high _ (omega arith) ∙ m .idle d k (omega (arith, calls-were, now-calls)) y z;
-    own = λ k x y.
-        let q : getD now callsUsed 0 - 1 ≡ getD (r .words) callsUsed 0 = omega (arith, now-calls) in
-        let z = now-high (pathPlace g (getD (r .words) callsUsed 0) k) (omega arith) ∙ m .idle (getD (r .words) callsUsed 0) k (omega (arith, calls-were)) (omega arith) y in
-        rw (q, z) (omega arith);
-  }
+  now-marks = record { own = λ k u x y. absurd (omega (arith, now-unit)) }
 
   now-held : getD now argumentsHeld 0 ≡ getD (r .words) argumentsHeld 0 + getD (r .words) declared 0
   now-held = now-other argumentsHeld (λ e. omega arith) (λ e. omega arith) ∙ a .held ∙ waits-held h fit number
@@ -395,6 +393,7 @@ module _ {program : List ℕ} {ts : List Token} {g : List ℕ} {r : Raw} {s : St
     stack = stack-same;
     low = λ i l. now-other i (λ e. omega arith) (λ e. omega arith) ∙ same i (λ e. omega arith) (omega arith) ∙ waits-low h fit number i l;
     held = now-held;
+    busy = some;
     calls = now-calls;
     procedure = now-other running (λ e. omega arith) (λ e. omega arith) ∙ same running (λ e. omega arith) (omega arith) ∙ waits-running h fit number;
     unit = now-unit;
@@ -403,7 +402,9 @@ module _ {program : List ℕ} {ts : List Token} {g : List ℕ} {r : Raw} {s : St
       words = λ k l.
           now-high _ (omega arith) ∙ a .untouched .components k (omega (arith, waits-rest h fit number .parts)) ∙ waits-high h fit number _ (omega arith);
     };
-    marks = λ d k x y. now-high _ (omega arith) ∙ a .untouched .marks d k (omega (arith, waits-calls h fit number)) y ∙ waits-high h fit number _ (omega arith);
+    marks = marks-trans calls-were (same loopUnit (λ e. omega arith) (omega arith) ∙ waits-rest h fit number .unit)
+        (marks-trans (waits-calls h fit number) (waits-rest h fit number .unit) (same-marks (λ j l. waits-high h fit number j (omega arith))) (a .untouched .marks))
+        (same-marks (λ j l. now-high j (omega arith)));
     waits = own-word;
   }
     where

@@ -28,7 +28,7 @@ use Rattle.machine.specs.Variables.{wordIn, topIn, countIn}
 use Rattle.simulation.specs.Meant.{meantValue, meantFigure, listed, slotAt, variableAt, variablesOf, waitingAt, frameAt, frameOf, suspendedOf, componentsOf, contentAt, shapeAt, shapesOf}
 use Rattle.simulation.specs.Sound.{Held, Valid, Proper, declaredAmong, Variables, Waiting, Grouped, Shapes, Marks}
 use Rattle.simulation.specs.Follows.{Stays, Later}
-use Rattle.simulation.specs.After.{Untouched}
+use Rattle.simulation.specs.After.{SameMarks, Untouched}
 use Rattle.simulation.proofs.Listed.{listed-same, listed-first, getD-listed}
 
 -- ---- what is held stays held
@@ -103,9 +103,18 @@ module _ {g : List ℕ} {r r′ : Raw} (a : SameRest g r r′) where
 
   pub rest-marks : Marks g (r .words) → Marks g (r′ .words)
   rest-marks m = record {
-    idle = λ d k x y z. a .high _ (omega arith) ∙ m .idle d k (rw (a .calls) at x) y z;
-    own = λ k x y. rw (a .calls, a .unit, a .high (pathPlace g (getD (r .words) callsUsed 0 - 1) k) (omega arith)) (m .own k (rw (a .calls) at x) y);
+    own = λ k u x y. rw (a .calls, a .unit, a .high (pathPlace g (getD (r .words) callsUsed 0 - 1) k) (omega arith)) (m .own k (rw (a .unit) at u) (rw (a .calls) at x) y);
   }
+
+pub same-marks : {g : List ℕ} {r r′ : Raw} → ((j : ℕ) → pathPlace g 0 0 ≤ j → getD (r′ .words) j 0 ≡ getD (r .words) j 0) → SameMarks g r r′
+same-marks f = record { waits = λ d k x y. f _ (omega arith); own = λ k u y. f _ (omega arith) }
+
+pub marks-trans : {g : List ℕ} {r r′ r″ : Raw} → getD (r′ .words) callsUsed 0 ≡ getD (r .words) callsUsed 0 → getD (r′ .words) loopUnit 0 ≡ getD (r .words) loopUnit 0
+    → SameMarks g r r′ → SameMarks g r′ r″ → SameMarks g r r″
+marks-trans c u a b = record {
+  waits = λ d k x y. b .waits d k (rw c x) y ∙ a .waits d k x y;
+  own = λ k x y. let z = b .own k (rw u x) y in (rw c at z) ∙ a .own k x y;
+}
 
 -- ---- the calls under way
 pub untouched-refl : (g : List ℕ) (r : Raw) → Untouched g r r
@@ -117,7 +126,7 @@ untouched-refl g r = record {
   made = le-refl _;
   components = λ k h. refl;
   unit = refl;
-  marks = λ d k x y. refl;
+  marks = same-marks (λ j l. refl);
   bound = λ slot n. n;
 }
 
@@ -131,7 +140,7 @@ untouched-trans h a b = record {
   made = le-trans (a .made) (b .made);
   components = λ k l. b .components k (le-trans l (a .made)) ∙ a .components k l;
   unit = b .unit ∙ a .unit;
-  marks = λ d k x y. b .marks d k (rw (a .calls) x) y ∙ a .marks d k x y;
+  marks = marks-trans (a .calls) (a .unit) (a .marks) (b .marks);
   bound = λ slot n. b .bound slot (a .bound slot n);
 }
 
@@ -151,7 +160,7 @@ untouched-but a n e s b = record {
   made = omega (arith, a .parts);
   components = λ k l. a .high _ (omega arith);
   unit = a .unit;
-  marks = λ d k x y. a .high _ (omega arith);
+  marks = same-marks (λ j l. a .high _ (omega arith));
   bound = b;
 }
 

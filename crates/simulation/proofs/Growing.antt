@@ -57,6 +57,7 @@ use Rattle.simulation.specs.Sound.{Proper, Counted, Grouped, Shapes, Mar
 use Rattle.simulation.specs.Follows.{Related, Later}
 use Rattle.simulation.proofs.Listed.{listed-first, listed-more, length-listed}
 use Rattle.simulation.proofs.Frames.{
+  same-marks,
   group-stays,
   stays-words,
   SameComponents,
@@ -230,7 +231,7 @@ module _ {program : List ℕ} {ts : List Token} {g : List ℕ} {r : Raw} {s : St
     made = a .parts .made;
     components = a .parts .words;
     unit = unit-as;
-    marks = λ d k x y. a .paths _ (omega arith);
+    marks = same-marks (λ j l. a .paths _ (omega arith));
     bound = λ slot n. rw (plain (valuePlace slot) (omega arith) (omega arith)) n;
   }
 
@@ -286,8 +287,7 @@ module _ {program : List ℕ} {ts : List Token} {g : List ℕ} {r : Raw} {s : St
 
   grown-marks : Marks g ws′
   grown-marks = let m = h .sound .marks in record {
-    idle = λ d k x y z. a .paths _ (omega arith) ∙ m .idle d k (rw calls-as at x) y z;
-    own = λ k x y. rw (calls-as, unit-as, a .paths (pathPlace g (getD (r .words) callsUsed 0 - 1) k) (omega arith)) (m .own k (rw calls-as at x) y);
+    own = λ k u x y. rw (calls-as, unit-as, a .paths (pathPlace g (getD (r .words) callsUsed 0 - 1) k) (omega arith)) (m .own k (rw unit-as at u) (rw calls-as at x) y);
   }
 
   abbrev added-shape : State.Content → State.Shape

@@ -30,6 +30,7 @@ use Rattle.machine.specs.Layout.{
 use Rattle.machine.specs.Act.{Raw, raw}
 use Rattle.simulation.specs.Sound.{Counted, Marks}
 use Rattle.simulation.specs.Follows.{Related, Later}
+use Rattle.simulation.specs.After.{SameMarks}
 use Rattle.simulation.proofs.Frames.{stays-words, later-trans, SameComponents, same-words, waits-same}
 use Rattle.simulation.proofs.Results.{After, kept-marks}
 use Rattle.simulation.proofs.Counting.{lent-set, here, other}
@@ -37,7 +38,7 @@ use Rattle.simulation.proofs.Marking.{markAt}
 
 -- ---- another unit, with which the marks fit
 module _ {program : List ℕ} {ts : List Token} {g : List ℕ} {r : Raw} {s : State} {total : Amounts} (h : Related program ts g r s total) (x : ℕ)
-    (fits : (k : ℕ) → 0 < getD (r .words) callsUsed 0 → k < entriesGranted g → markAt g r k ≤ 2 * x - 1) where
+    (fits : (k : ℕ) → 0 < x → 0 < getD (r .words) callsUsed 0 → k < entriesGranted g → markAt g r k ≤ 2 * x - 1) where
   abbrev pub switched : Raw
   switched = raw (r .texts) (set (r .words) loopUnit x)
 
@@ -80,8 +81,7 @@ module _ {program : List ℕ} {ts : List Token} {g : List ℕ} {r : Raw} {s : St
 
   switch-marks : Marks g (switched .words)
   switch-marks = let n = counter callsUsed (omega arith) in record {
-    idle = λ d k a b c. beyond (pathPlace g d k) (omega arith) ∙ h .sound .marks .idle d k (rw n at a) b c;
-    own = λ k a b. rw (n, unit-now, beyond (pathPlace g (getD (r .words) callsUsed 0 - 1) k) (omega arith)) (fits k (rw n at a) b);
+    own = λ k u a b. rw (n, unit-now, beyond (pathPlace g (getD (r .words) callsUsed 0 - 1) k) (omega arith)) (fits k (rw unit-now at u) (rw n at a) b);
   }
 
   pub switch-related : Related program ts g switched s total
@@ -107,18 +107,19 @@ module _ {program : List ℕ} {ts : List Token} {g : List ℕ} {r : Raw} {s : St
 
 -- ---- what a loop left, with the unit that was before it
 module _ {program : List ℕ} {ts : List Token} {g : List ℕ} {r : Raw} {s : State} {total : Amounts} (h : Related program ts g r s total) (x : ℕ)
-    (fits : (k : ℕ) → 0 < getD (r .words) callsUsed 0 → k < entriesGranted g → markAt g r k ≤ 2 * x - 1)
-    {r′ : Raw} {s′ : State} {total′ : Amounts} (a : After program ts g (raw (r .texts) (set (r .words) loopUnit x)) r′ s′ total′) where
+    (fits : (k : ℕ) → 0 < x → 0 < getD (r .words) callsUsed 0 → k < entriesGranted g → markAt g r k ≤ 2 * x - 1)
+    (loops : 0 < x) {r′ : Raw} {s′ : State} {total′ : Amounts} (a : After program ts g (raw (r .texts) (set (r .words) loopUnit x)) r′ s′ total′) where
   calls-same : getD (r′ .words) callsUsed 0 ≡ getD (r .words) callsUsed 0
   calls-same = a .untouched .calls ∙ as-was h x fits callsUsed (λ e. omega arith)
 
-  marks-same : (d k : ℕ) → d < getD (r .words) callsUsed 0 → k < entriesGranted g → getD (r′ .words) (pathPlace g d k) 0 ≡ getD (r .words) (pathPlace g d k) 0
-  marks-same d k l m = a .untouched .marks d k (rw (as-was h x fits callsUsed (λ e. omega arith)) l) m ∙ as-was h x fits (pathPlace g d k) (λ e. omega arith)
+  marks-same : SameMarks g r r′
+  marks-same = let n = as-was h x fits callsUsed (λ e. omega arith) in record {
+    waits = λ d k l m. a .untouched .marks .waits d k (rw n l) m ∙ as-was h x fits (pathPlace g d k) (λ e. omega arith);
+    own = λ k u m. let z = a .untouched .marks .own k (rw (unit-now h x fits) loops) m in (rw n at z) ∙ as-was h x fits (pathPlace g (getD (r .words) callsUsed 0 - 1) k) (λ e. omega arith);
+  }
 
-  pub back-fits : (k : ℕ) → 0 < getD (r′ .words) callsUsed 0 → k < entriesGranted g → markAt g r′ k ≤ 2 * getD (r .words) loopUnit 0 - 1
-  back-fits k l m =
-      let n = rw calls-same at l in
-      rw (calls-same, marks-same (getD (r .words) callsUsed 0 - 1) k (omega arith) m) (h .sound .marks .own k n m)
+  pub back-fits : (k : ℕ) → 0 < getD (r .words) loopUnit 0 → 0 < getD (r′ .words) callsUsed 0 → k < entriesGranted g → markAt g r′ k ≤ 2 * getD (r .words) loopUnit 0 - 1
+  back-fits k u l m = rw (calls-same, marks-same .own k u m) (h .sound .marks .own k u (rw calls-same at l) m)
 
   pub switched-back : After program ts g r (raw (r′ .texts) (set (r′ .words) loopUnit (getD (r .words) loopUnit 0))) s′ total′
   switched-back =
@@ -146,7 +147,10 @@ module _ {program : List ℕ} {ts : List Token} {g : List ℕ} {r : Raw} {s : St
           made = omega (arith, a .untouched .made, in-was componentsMade (λ e. omega arith), out-was componentsMade (λ e. omega arith));
           components = λ k l. out-was _ (λ e. omega arith) ∙ a .untouched .components k (rw (in-was componentsMade (λ e. omega arith)) l) ∙ in-was _ (λ e. omega arith);
           unit = unit-now (a .related) u back-fits;
-          marks = λ d k l m. out-was (pathPlace g d k) (λ e. omega arith) ∙ marks-same d k l m;
+          marks = record {
+            waits = λ d k l m. out-was (pathPlace g d k) (λ e. omega arith) ∙ marks-same .waits d k l m;
+            own = λ k l m. out-was (pathPlace g (getD (r .words) callsUsed 0 - 1) k) (λ e. omega arith) ∙ marks-same .own k l m;
+          };
           bound = λ slot n. rw (out-was (valuePlace slot) (λ e. omega arith)) (a .untouched .bound slot (rw (in-was (valuePlace slot) (λ e. omega arith)) n));
         };
       }

@@ -101,4 +101,4 @@ module _ {program : List ℕ} {ts : List Token} {g : List ℕ} (few : length ts 
       rw (← components-later (b .later) (h .sound .shapes) (untouched-components (b .untouched)) i l e)
       (flow-from b (loops-over (b .related) (rw (un₁ .calls) busy) n any (low₁ .few) (low₁ .fits) few gr x o body body′ (Inside g w c limit base (n - 1)) repeats p
       i (le-trans l (b .later .shapes)) (group-stays (b .later .figures i l) ∙ e) (a .there)
-      (inside-more (b .related) any (record { under = un₁; held = b .held ∙ z; room = low₁ })))))
+      (λ r₂ d. inside-more (d .related) any (inside-but d (record { under = un₁; held = b .held ∙ z; room = low₁ }))))))

@@ -39,7 +39,7 @@ use Rattle.simulation.proofs.Usable.{figure-found}
 use Rattle.simulation.proofs.Under.{stepsLeft}
 use Rattle.simulation.proofs.Flows.{SameFlow, both-onward, both-returned, Flows, Turns, ended}
 use Rattle.simulation.proofs.Marking.{markAt, AfterBut, but-after, but-trans, after-but}
-use Rattle.simulation.proofs.Paths.{Path}
+use Rattle.simulation.proofs.Paths.{Path, path-after}
 use Rattle.simulation.proofs.Unmarking.{clears}
 use Rattle.simulation.proofs.Remaining.{Stop, slots, remaining, Way, Outcome, found, none}
 use Rattle.simulation.proofs.RemainingLaws.{way-below, way-later, remaining-later}
@@ -79,10 +79,7 @@ module _ {program : List ℕ} {ts : List Token} {g : List ℕ} (few : length ts 
 
   -- marks stay
   pub path-on : {r r′ : Raw} {s : State} {total : Amounts} {ks : List ℕ} → After program ts g r r′ s total → Ready r → Path g around unit ks r → Path g around unit ks r′
-  path-on {r} a q t = record {
-    each = λ k l. rw (a .untouched .calls, a .untouched .marks (getD (r .words) callsUsed 0 - 1) k (omega (arith, q .some)) l) (t .each k l);
-    less = t .less;
-  }
+  path-on a q t = path-after a (q .unit-is) t
 
   -- ---- a turn
   turns-once : {r : Raw} {s : State} {total : Amounts} → Related program ts g r s total → Ready r → (i : ℕ) → i < getD (r .words) shapesUsed 0
@@ -97,7 +94,7 @@ module _ {program : List ℕ} {ts : List Token} {g : List ℕ} (few : length ts 
   leaves {r₀} {r} {s} {total} end ways v u clean a q l path off y z =
       let c = clears program ts g s total around unit (path .less) (λ j. isIn j (slots ways)) end 0 r (a .related) (q .some) (q .unit-is) (omega arith) (λ j d e. path .each j (omega arith)) in
       rw (c .is) (given (record {
-        after = after-but (but-trans a (c .after)) (λ k m. at-slot (c .slices) k m (ltb k end) refl (λ d. c .clear k (omega arith) (omega arith)) (λ d. c .behind k (omega arith)) ∙ sym (clean .each k m));
+        after = after-but (but-trans a (c .after)) (λ k _ m. at-slot (c .slices) k m (ltb k end) refl (λ d. c .clear k (omega arith) (omega arith)) (λ d. c .behind k (omega arith)) ∙ sym (clean .each k m));
         flow = both-returned (valid-later (c .after .later) v y) (z ∙ sym (meant-later (c .after .later) v y));
       }))
     where
@@ -131,7 +128,7 @@ module _ {program : List ℕ} {ts : List Token} {g : List ℕ} (few : length ts 
   unfolding turnsFrom if_then_else_ remaining slots Act._>>=_ Act.goOn Act.held Act.give Run._>>=_ Run.give
   from zero end r₀ r s total left k clean a q l e w = absurd (omega arith)
   from (suc turns) end r₀ r s total left k clean a q l e (none w) =
-      rw (w .rest) (given (record { after = after-but a (λ j m. w .path .each j m ∙ sym (clean .each j m)); flow = both-onward }))
+      rw (w .rest) (given (record { after = after-but a (λ j _ m. w .path .each j m ∙ sym (clean .each j m)); flow = both-onward }))
   from (suc turns) end r₀ r s total left k clean a q l e (found at up w) =
       let back : at .slot + 1 - 1 ≡ at .slot = omega arith in
       let some : at .slot + 1 ≢ 0 = λ z. omega arith in

@@ -76,7 +76,7 @@ module _ {program : List ℕ} {ts : List Token} {g : List ℕ} where
     arguments = u .arguments;
     parts = record { made = u .made; words = u .components };
     unit = u .unit;
-    waits = λ d k x y. u .marks d k (omega arith) y;
+    waits = u .marks .waits;
     bound = u .bound;
   }
 
@@ -97,7 +97,7 @@ module _ {program : List ℕ} {ts : List Token} {g : List ℕ} where
   }
 
   -- where all marks are as they were, all is untouched
-  pub after-but : {r r′ : Raw} {s : State} {total : Amounts} → AfterBut program ts g r r′ s total → ((k : ℕ) → k < entriesGranted g → markAt g r′ k ≡ markAt g r k)
+  pub after-but : {r r′ : Raw} {s : State} {total : Amounts} → AfterBut program ts g r r′ s total → ((k : ℕ) → 0 < getD (r .words) loopUnit 0 → k < entriesGranted g → markAt g r′ k ≡ markAt g r k)
       → After program ts g r r′ s total
   after-but {r} {r′} a same = record {
     related = a .related;
@@ -112,18 +112,10 @@ module _ {program : List ℕ} {ts : List Token} {g : List ℕ} where
       made = a .parts .made;
       components = a .parts .words;
       unit = a .unit;
-      marks = λ d k x y. go d k x y (eqb (d + 1) (getD (r .words) callsUsed 0)) refl;
+      marks = record { waits = a .waits; own = λ k u l. let z = same k u l in rw (a .calls) at z };
       bound = a .bound;
     };
   }
-    where
-      go : (d k : ℕ) → d < getD (r .words) callsUsed 0 → k < entriesGranted g → (b : Bool) → eqb (d + 1) (getD (r .words) callsUsed 0) ≡ b
-          → getD (r′ .words) (pathPlace g d k) 0 ≡ getD (r .words) (pathPlace g d k) 0
-      go d k x y true e =
-          let q : getD (r .words) callsUsed 0 - 1 ≡ d = omega (arith, eqb-true (d + 1) (getD (r .words) callsUsed 0) e) in
-          let z = same k y in
-          rw (a .calls, q) at z
-      go d k x y false e = let n : d + 1 ≢ getD (r .words) callsUsed 0 = eqb-false (d + 1) (getD (r .words) callsUsed 0) e in a .waits d k (omega arith) y
 
 -- ---- one word of a slot
 -- words of different calls are apart
@@ -203,16 +195,11 @@ module _ {program : List ℕ} {ts : List Token} {g : List ℕ} {r : Raw} {s : St
   }
 
   mark-marks : Marks g (remarked .words)
-  mark-marks = let m = h .sound .marks in record {
-    idle = λ d j a b z.
-        let u = rw calls-as at a in
-        as-was (pathPlace g d j) (λ e. omega (arith, path-less (entriesGranted g) own d k j (omega arith) inside)) ∙ m .idle d j u b z;
-    own = λ j a b. own-at j b (eqb j k) refl;
-  }
+  mark-marks = record { own = λ j u a b. own-at j (rw (low loopUnit (omega arith)) at u) b (eqb j k) refl }
     where
-      own-at : (j : ℕ) → j < entriesGranted g → (b : Bool) → eqb j k ≡ b → markAt g remarked j ≤ 2 * getD (remarked .words) loopUnit 0 - 1
-      own-at j l true e = rw (eqb-true j k e, own-now, low loopUnit (omega arith)) few
-      own-at j l false e = rw (own-others j (eqb-false j k e), low loopUnit (omega arith)) (h .sound .marks .own j some l)
+      own-at : (j : ℕ) → 0 < getD (r .words) loopUnit 0 → j < entriesGranted g → (b : Bool) → eqb j k ≡ b → markAt g remarked j ≤ 2 * getD (remarked .words) loopUnit 0 - 1
+      own-at j u l true e = rw (eqb-true j k e, own-now, low loopUnit (omega arith)) few
+      own-at j u l false e = rw (own-others j (eqb-false j k e), low loopUnit (omega arith)) (h .sound .marks .own j u some l)
 
   pub marks : AfterBut program ts g r remarked s total
   marks = let c = h .sound .counted in record {
@@ -261,10 +248,11 @@ module _ {program : List ℕ} {ts : List Token} {g : List ℕ} {r : Raw} {s : St
         let q : (markAt g r k + getD (r .words) loopUnit 0) % 2 ^ 64 ≡ markAt g r k + getD (r .words) loopUnit 0 = omega arith in
         rw (own-call, q)
 
-  -- one that is
-  pub few-less : markAt g r k - getD (r .words) loopUnit 0 ≤ 2 * getD (r .words) loopUnit 0 - 1
-  few-less = omega (arith, h .sound .marks .own k some inside)
+  -- one that is, in a loop
+  module _ (loops : 0 < getD (r .words) loopUnit 0) where
+    pub few-less : markAt g r k - getD (r .words) loopUnit 0 ≤ 2 * getD (r .words) loopUnit 0 - 1
+    few-less = omega (arith, h .sound .marks .own k loops some inside)
 
-  pub unmark-is : unmark g k r ≡ done tt (remarked h some k inside (markAt g r k - getD (r .words) loopUnit 0) few-less)
-  unfolding unmark Act._>>=_ Act.goOn Act.held Act.store
-  unmark-is = rw own-call
+    pub unmark-is : unmark g k r ≡ done tt (remarked h some k inside (markAt g r k - getD (r .words) loopUnit 0) few-less)
+    unfolding unmark Act._>>=_ Act.goOn Act.held Act.store
+    unmark-is = rw own-call

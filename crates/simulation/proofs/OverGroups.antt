@@ -24,19 +24,20 @@ use Rattle.machine.specs.Act.{Raw, raw, Act}
 use Rattle.machine.specs.Act as Act
 use Rattle.machine.specs.Shapes.{isGroupAt, destroyedAt}
 use Rattle.machine.specs.Groups.{componentAt, firstAt, countAt}
-use Rattle.machine.specs.Loops.{unmarkFrom, following, ownTurn, ownFrom, innerUnit, loopOver}
+use Rattle.machine.specs.Loops.{unmarkFrom, following, ownTurn, ownFrom, innerUnit, loopInside, loopOver}
 use Rattle.simulation.specs.Meant.{listed, componentsOf}
 use Rattle.simulation.specs.Scope.{isIn}
 use Rattle.simulation.specs.Follows.{Grants, Related, Later, Follows}
 use Rattle.simulation.proofs.Binding.{bind, act-after}
 use Rattle.simulation.proofs.Listed.{listed-same}
-use Rattle.simulation.proofs.Frames.{valid-later, meant-later, group-stays, untouched-components, component-later, first-later, count-later}
+use Rattle.simulation.proofs.Frames.{valid-later, meant-later, group-stays, untouched-components, component-later, components-later, first-later, count-later}
 use Rattle.simulation.proofs.Results.{given, unmoved}
 use Rattle.simulation.proofs.Usable.{destroyed-found}
 use Rattle.simulation.proofs.Counting.{counts}
 use Rattle.simulation.proofs.Flows.{SameFlow, both-onward, both-returned, AfterFlow, Flows, flow-from}
-use Rattle.simulation.proofs.Marking.{markAt, but-after}
+use Rattle.simulation.proofs.Marking.{markAt, AfterBut, but-after}
 use Rattle.simulation.proofs.Paths.{Path, inner-fits, inner-more}
+use Rattle.simulation.proofs.Unmarking.{opens}
 use Rattle.simulation.proofs.Innermost.{switched, as-was, unit-now, switch-later, switch-parts, switch-related, mark-was, back-fits, switched-back}
 use Rattle.simulation.proofs.Iterating.{Repeats, Ready, ready-on, path-on, own-turn}
 
@@ -105,15 +106,19 @@ flow-later l both-onward = both-onward
 flow-later l (both-returned {v = v} x y) = both-returned (valid-later l v x) (y ∙ sym (meant-later l v x))
 
 module _ {program : List ℕ} {ts : List Token} {g : List ℕ} {r : Raw} {s : State} {total : Amounts} (h : Related program ts g r s total) (some : 0 < getD (r .words) callsUsed 0)
-    (n : ℕ) (any : 0 < n) (most : n ≤ 64) (room : 2 * getD (r .words) loopUnit 0 ≤ 2 ^ (64 - n)) where
-  abbrev pub within : ℕ
+    (n : ℕ) (any : 0 < n) (most : n ≤ 64) (room : 2 * getD (r .words) loopUnit 0 ≤ 2 ^ (64 - n))
+    (own : (k : ℕ) → k < entriesGranted g → markAt g r k ≤ 2 * getD (r .words) loopUnit 0 - 1) where
+  abbrev within : ℕ
   within = innerUnit (getD (r .words) loopUnit 0)
 
   marks-less : (k : ℕ) → k < entriesGranted g → markAt g r k < within
-  marks-less k l = inner-more n (getD (r .words) loopUnit 0) (markAt g r k) any most room (h .sound .marks .own k some l)
+  marks-less k l = inner-more n (getD (r .words) loopUnit 0) (markAt g r k) any most room (own k l)
 
-  marks-fit : (k : ℕ) → 0 < getD (r .words) callsUsed 0 → k < entriesGranted g → markAt g r k ≤ 2 * within - 1
-  marks-fit k a l = let m = marks-less k l in omega arith
+  loops : 0 < within
+  loops = inner-more n (getD (r .words) loopUnit 0) 0 any most room (omega arith)
+
+  marks-fit : (k : ℕ) → 0 < within → 0 < getD (r .words) callsUsed 0 → k < entriesGranted g → markAt g r k ≤ 2 * within - 1
+  marks-fit k z a l = let m = marks-less k l in omega arith
 
   unit-fits : 2 * within ≤ 2 ^ 64
   unit-fits =
@@ -127,12 +132,12 @@ module _ {program : List ℕ} {ts : List Token} {g : List ℕ} {r : Raw} {s : St
 
   module _ (few : length ts ≤ 8192) {granted : Amounts} (gr : Grants g granted) (x : List ℕ) (o : Occurs ts aName x) (body : Act Flow) (body′ : Run.Action Execute.Flow)
       (P : Raw → Type 0) (repeats : Repeats program ts g granted body body′ P) (p : ℕ) where
-    pub loops-over : (i : ℕ) → i < getD (r .words) shapesUsed 0 → isGroupAt (r .words) i ≡ true → getD (r .words) (valuePlace (slotOf ts x)) 0 ≢ 0
+    loops-inside : (i : ℕ) → i < getD (r .words) shapesUsed 0 → isGroupAt (r .words) i ≡ true → getD (r .words) (valuePlace (slotOf ts x)) 0 ≢ 0
         → P (raw (r .texts) (set (r .words) loopUnit within))
-        → Follows granted total (Flows program ts g r) (loopOver body g p (slotOf ts x) i r)
+        → Follows granted total (Flows program ts g r) (loopInside body g p (slotOf ts x) i r)
         (turns (λ i. Run._>>_ (Run.count p) (iterating (suc i) (λ j. Run._>>_ (binding x j) body′) i)) (componentsOf g (r .words) i) s)
-    unfolding loopOver componentsOf Act._>>=_ Act.goOn Act.held Act.store Act.give
-    loops-over i l e there ready =
+    unfolding loopInside componentsOf Act._>>=_ Act.goOn Act.held Act.store Act.give
+    loops-inside i l e there ready =
         let h₁ = switch-related h within marks-fit in
         let later = switch-later h within marks-fit in
         let was = as-was h within marks-fit in
@@ -147,8 +152,8 @@ module _ {program : List ℕ} {ts : List Token} {g : List ℕ} {r : Raw} {s : St
           slices = raw (r₂ .texts) (set (r₂ .words) loopUnit (getD (r .words) loopUnit 0));
           is = refl;
           holds = record {
-            after = switched-back h within marks-fit (w .after);
-            flow = flow-later (switch-later (w .after .related) (getD (r .words) loopUnit 0) (back-fits h within marks-fit (w .after))) (w .flow);
+            after = switched-back h within marks-fit loops (w .after);
+            flow = flow-later (switch-later (w .after .related) (getD (r .words) loopUnit 0) (back-fits h within marks-fit loops (w .after))) (w .flow);
           };
         })
         (rw list at (own-from few gr x o body body′ P repeats (markAt g r) within unit-fits p i (countAt (r .words) i) (firstAt (r .words) i) h₁
@@ -159,3 +164,21 @@ module _ {program : List ℕ} {ts : List Token} {g : List ℕ} {r : Raw} {s : St
           more = ready;
         })
         clean-within (le-trans l (later .shapes)) (group-stays (later .figures i l) ∙ e) (omega (arith, first)) (omega (arith, first, count))))
+
+-- behind zeros in the words of all slots, if the call has no other loop
+module _ {program : List ℕ} {ts : List Token} {g : List ℕ} {r : Raw} {s : State} {total : Amounts} (h : Related program ts g r s total) (some : 0 < getD (r .words) callsUsed 0)
+    (n : ℕ) (any : 0 < n) (most : n ≤ 64) (room : 2 * getD (r .words) loopUnit 0 ≤ 2 ^ (64 - n))
+    (few : length ts ≤ 8192) {granted : Amounts} (gr : Grants g granted) (x : List ℕ) (o : Occurs ts aName x) (body : Act Flow) (body′ : Run.Action Execute.Flow)
+    (P : Raw → Type 0) (repeats : Repeats program ts g granted body body′ P) (p : ℕ) where
+  pub loops-over : (i : ℕ) → i < getD (r .words) shapesUsed 0 → isGroupAt (r .words) i ≡ true → getD (r .words) (valuePlace (slotOf ts x)) 0 ≢ 0
+      → ((r₁ : Raw) → AfterBut program ts g r r₁ s total → P (raw (r₁ .texts) (set (r₁ .words) loopUnit (innerUnit (getD (r₁ .words) loopUnit 0)))))
+      → Follows granted total (Flows program ts g r) (loopOver body g p (slotOf ts x) i r)
+      (turns (λ i. Run._>>_ (Run.count p) (iterating (suc i) (λ j. Run._>>_ (binding x j) body′) i)) (componentsOf g (r .words) i) s)
+  unfolding loopOver Act._>>=_ Act.goOn
+  loops-over i l e there ready =
+      let c = opens program ts g s total r h some in
+      let a = c .after in
+      let u = a .untouched in
+      rw (c .is, ← components-later (a .later) (h .sound .shapes) (untouched-components u) i l e)
+      (flow-from a (loops-inside (a .related) (rw (u .calls) some) n any most (rw (u .unit) room) (c .own) few gr x o body body′ P repeats p
+      i (le-trans l (a .later .shapes)) (group-stays (a .later .figures i l) ∙ e) (u .bound (slotOf ts x) there) (ready (c .slices) (but-after a))))

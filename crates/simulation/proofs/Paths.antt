@@ -44,10 +44,10 @@ pub record Path (g : List ℕ) (around : ℕ → ℕ) (unit : ℕ) (ks : List �
   pub each : (k : ℕ) → k < entriesGranted g → markAt g r k ≡ around k + cond (isIn k ks) unit 0
   pub less : (k : ℕ) → k < entriesGranted g → around k < unit
 
--- it stays where all marks do
+-- it stays where all marks do, in a loop
 pub path-after : {program : List ℕ} {ts : List Token} {g : List ℕ} {r r′ : Raw} {s : State} {total : Amounts} {around : ℕ → ℕ} {unit : ℕ} {ks : List ℕ} → After program ts g r r′ s total
-    → 0 < getD (r .words) callsUsed 0 → Path g around unit ks r → Path g around unit ks r′
-path-after a some p = record { each = λ k l. rw (a .untouched .calls) (a .untouched .marks _ k (omega arith) l ∙ p .each k l); less = p .less }
+    → getD (r .words) loopUnit 0 ≡ unit → Path g around unit ks r → Path g around unit ks r′
+path-after a u p = record { each = λ k l. rw (a .untouched .calls) (a .untouched .marks .own k (omega (arith, u, p .less k l)) l ∙ p .each k l); less = p .less }
 
 -- ---- a loop inside: its unit fits with one foreach less, and is more than all that loops around it add
 power-more : (n : ℕ) → 0 < n → n ≤ 64 → 2 ^ (64 - (n - 1)) ≡ 2 * 2 ^ (64 - n)

@@ -151,7 +151,7 @@ module _ (program : List ℕ) (ts : List Token) (g : List ℕ) (body : ℕ → R
         slices = raw (r .texts) (set (remarked h (y .some) k inside m few .words) (wayPlace d) x);
         is = rw (mark-is h (y .some) k inside free fits′);
         after = but-trans a (but-after b);
-        path = path-after b (rw (a .calls) (y .some)) p;
+        path = path-after b (a .unit ∙ y .unitIs) p;
       }
 
   -- one on the way up
@@ -162,11 +162,12 @@ module _ (program : List ℕ) (ts : List Token) (g : List ℕ) (body : ℕ → R
       let l : at .slot < nextUp end ways = omega (arith, y .way .0 .below) in
       let inside : at .slot < entriesGranted g = in-upper y in
       let new = fresh g (r .words) end (at .slot) ways (y .way .1) l in
-      let few = few-less h (y .some) (at .slot) inside in
+      let loops : 0 < getD (r .words) loopUnit 0 = omega (arith, y .unitIs, y .path .less (at .slot) inside) in
+      let few = few-less h (y .some) (at .slot) inside loops in
       let m = markAt g r (at .slot) - getD (r .words) loopUnit 0 in
       record {
         slices = remarked h (y .some) (at .slot) inside m few;
-        is = unmark-is h (y .some) (at .slot) inside;
+        is = unmark-is h (y .some) (at .slot) inside loops;
         after = marks h (y .some) (at .slot) inside m few;
         path = path-unmarked h (y .some) (at .slot) inside m few (slots ways) (y .path) new (ap (λ (u : ℕ). markAt g r (at .slot) - u) (y .unitIs));
       }
@@ -185,7 +186,7 @@ module _ (program : List ℕ) (ts : List Token) (g : List ℕ) (body : ℕ → R
         slices = emptied (a .after .related) c l′ n′ e′;
         is = rw (a .is);
         after = but-trans (a .after) (but-after b);
-        path = path-after b (rw (a .after .calls) (y .some)) (a .path);
+        path = path-after b (a .after .unit ∙ y .unitIs) (a .path);
       }
 
   -- ---- the search

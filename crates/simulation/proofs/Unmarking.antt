@@ -1,5 +1,5 @@
--- A loop that the procedure leaves takes all its marks away.
-use Prim.Native.Nat.{ℕ, zero, suc, _+_, _-_, _≤_, _<_}
+-- A loop that the procedure leaves takes all its marks away. A call's outermost loop begins with zeros.
+use Prim.Native.Nat.{ℕ, zero, suc, _+_, _-_, _*_, _≤_, _<_}
 use native.Mathlib.Omega.{arith}
 use mathlib.Core.Path.{_≡_, refl, _∙_}
 use mathlib.Core.Logic.{_≢_}
@@ -15,10 +15,10 @@ use Rattle.meaning.specs.Book.{Amounts}
 use Rattle.machine.specs.Layout.{callsUsed, loopUnit, entriesGranted}
 use Rattle.machine.specs.Act.{Raw, done}
 use Rattle.machine.specs.Act as Act
-use Rattle.machine.specs.Loops.{markedAt, unmarkFrom}
+use Rattle.machine.specs.Loops.{markedAt, unmarkFrom, clearFrom, unmarked}
 use Rattle.simulation.specs.Follows.{Related}
-use Rattle.simulation.proofs.Results.{unmoved}
-use Rattle.simulation.proofs.Marking.{markAt, AfterBut, but-after, but-trans, remarked, own-now, own-others, marks, own-call, few-less, unmark-is}
+use Rattle.simulation.proofs.Results.{After, unmoved}
+use Rattle.simulation.proofs.Marking.{markAt, AfterBut, but-after, but-trans, after-but, remarked, own-now, own-others, marks, own-call, few-less, unmark-is}
 
 module _ (program : List ℕ) (ts : List Token) (g : List ℕ) (s : State) (total : Amounts) (around : ℕ → ℕ) (unit : ℕ) (less : (j : ℕ) → j < entriesGranted g → around j < unit)
     (on : ℕ → Bool) where
@@ -50,14 +50,15 @@ module _ (program : List ℕ) (ts : List Token) (g : List ℕ) (s : State) (tota
       go true e next =
           let inside : k < entriesGranted g = omega arith in
           let x = markAt g r k - getD (r .words) loopUnit 0 in
-          let few = few-less h some k inside in
+          let loops : 0 < getD (r .words) loopUnit 0 = omega (arith, u, less k inside) in
+          let few = few-less h some k inside loops in
           let is-on : markedAt g (r .words) k ≡ true = rw (own-call h some k inside) (le-leb (getD (r .words) loopUnit 0) (markAt g r k) (omega (arith, e, u))) in
           let a = marks h some k inside x few in
           let c = next (remarked h some k inside x few) (a .related) (rw (a .calls) some) (a .unit ∙ u)
           (λ j y z. own-others h some k inside x few j (λ q. omega arith) ∙ m j (omega arith) (omega arith)) in
           record {
             slices = c .slices;
-            is = rw (is-on, unmark-is h some k inside) (c .is);
+            is = rw (is-on, unmark-is h some k inside loops) (c .is);
             after = but-trans a (c .after);
             clear = λ j y z. at-slot (c .slices) j y z (c .clear) (c .before k (omega arith) ∙ own-now h some k inside x few ∙ omega (arith, e, u)) (eqb j k) refl;
             before = λ j y. c .before j (omega arith) ∙ own-others h some k inside x few j (λ q. omega arith);
@@ -75,3 +76,57 @@ module _ (program : List ℕ) (ts : List Token) (g : List ℕ) (s : State) (tota
             before = λ j y. c .before j (omega arith);
             behind = λ j y. c .behind j (omega arith);
           }
+
+-- ---- a call's outermost loop begins with zeros
+module _ (program : List ℕ) (ts : List Token) (g : List ℕ) (s : State) (total : Amounts) where
+  record Zeroed (k n : ℕ) (r : Raw) (o : Act.Out (Unit {0})) : Type 0 where
+    slices : Raw
+    is : o ≡ done tt slices
+    after : AfterBut program ts g r slices s total
+    zeros : (j : ℕ) → k ≤ j → j < k + n → markAt g slices j ≡ 0
+    before : (j : ℕ) → j < k → markAt g slices j ≡ markAt g r j
+
+  zeroes : (n k : ℕ) (r : Raw) → Related program ts g r s total → 0 < getD (r .words) callsUsed 0 → k + n ≤ entriesGranted g → Zeroed k n r (clearFrom g k n r)
+  unfolding clearFrom Act._>>=_ Act.goOn Act.held Act.give Act.store
+  zeroes zero k r h some l = record { slices = r; is = refl; after = but-after (unmoved h); zeros = λ j x y. absurd (omega arith); before = λ j x. refl }
+  zeroes (suc n) k r h some l =
+      let inside : k < entriesGranted g = omega arith in
+      let few : 0 ≤ 2 * getD (r .words) loopUnit 0 - 1 = omega arith in
+      let a = marks h some k inside 0 few in
+      let c = zeroes n (k + 1) (remarked h some k inside 0 few) (a .related) (rw (a .calls) some) (omega arith) in
+      record {
+        slices = c .slices;
+        is = rw (own-call h some k inside) (c .is);
+        after = but-trans a (c .after);
+        zeros = λ j x y. at-slot (c .slices) j x y (c .zeros) (c .before k (omega arith) ∙ own-now h some k inside 0 few) (eqb j k) refl;
+        before = λ j x. c .before j (omega arith) ∙ own-others h some k inside 0 few j (λ q. omega arith);
+      }
+    where
+      at-slot : (r′ : Raw) (j : ℕ) → k ≤ j → j < k + suc n → ((i : ℕ) → k + 1 ≤ i → i < k + 1 + n → markAt g r′ i ≡ 0) → markAt g r′ k ≡ 0 → (t : Bool) → eqb j k ≡ t → markAt g r′ j ≡ 0
+      at-slot r′ j y z f here true q = rw (eqb-true j k q) here
+      at-slot r′ j y z f here false q = let d : j ≢ k = eqb-false j k q in f j (omega arith) (omega arith)
+
+  -- then the words have at most the marks of the loops under way
+  pub record Opened (r : Raw) (o : Act.Out (Unit {0})) : Type 0 where
+    pub slices : Raw
+    pub is : o ≡ done tt slices
+    pub after : After program ts g r slices s total
+    pub own : (k : ℕ) → k < entriesGranted g → markAt g slices k ≤ 2 * getD (slices .words) loopUnit 0 - 1
+
+  pub opens : (r : Raw) → Related program ts g r s total → 0 < getD (r .words) callsUsed 0 → Opened r (unmarked g r)
+  unfolding unmarked Act._>>=_ Act.goOn Act.held Act.give if_then_else_
+  opens r h some = go (eqb (getD (r .words) loopUnit 0) 0) refl
+    where
+      go : (t : Bool) → eqb (getD (r .words) loopUnit 0) 0 ≡ t → Opened r ((if t then (λ _. clearFrom g 0 (entriesGranted g)) else λ _. Act.give tt) r)
+      go true e =
+          let z : getD (r .words) loopUnit 0 ≡ 0 = eqb-true (getD (r .words) loopUnit 0) 0 e in
+          let c = zeroes (entriesGranted g) 0 r h some (omega arith) in
+          record {
+            slices = c .slices;
+            is = c .is;
+            after = after-but (c .after) (λ k u l. absurd (omega (arith, z)));
+            own = λ k l. rw (c .zeros k (omega arith) (omega arith)) (omega arith);
+          }
+      go false e =
+          let d : getD (r .words) loopUnit 0 ≢ 0 = eqb-false (getD (r .words) loopUnit 0) 0 e in
+          record { slices = r; is = refl; after = unmoved h; own = λ k l. h .sound .marks .own k (omega arith) some l }

@@ -1,5 +1,5 @@
 -- The results that belong together, from slices r on.
-use Prim.Native.Nat.{ℕ, _+_, _≤_, _<_}
+use Prim.Native.Nat.{ℕ, _+_, _-_, _≤_, _<_}
 use mathlib.Core.Path.{_≡_}
 use mathlib.Core.Logic.{_≢_}
 use mathlib.Core.List.{List}
@@ -20,6 +20,12 @@ use Rattle.simulation.specs.Meant.{meantValue, frameAt}
 use Rattle.simulation.specs.Sound.{Valid}
 use Rattle.simulation.specs.Follows.{Related, Later}
 
+-- the marks of loops under way: those of calls that wait, and of the call under way if it has a loop
+pub record SameMarks (g : List ℕ) (r r′ : Raw) : Type 0 where
+  pub waits : (d k : ℕ) → d + 1 < getD (r .words) callsUsed 0 → k < entriesGranted g → getD (r′ .words) (pathPlace g d k) 0 ≡ getD (r .words) (pathPlace g d k) 0
+  pub own : (k : ℕ) → 0 < getD (r .words) loopUnit 0 → k < entriesGranted g
+      → getD (r′ .words) (pathPlace g (getD (r .words) callsUsed 0 - 1) k) 0 ≡ getD (r .words) (pathPlace g (getD (r .words) callsUsed 0 - 1) k) 0
+
 -- the calls that wait, the procedure under way, the stack as far as it was held, the components of groups, and the marks of loops under way;
 -- what was declared is so still
 pub record Untouched (g : List ℕ) (r r′ : Raw) : Type 0 where
@@ -30,7 +36,7 @@ pub record Untouched (g : List ℕ) (r r′ : Raw) : Type 0 where
   pub made : getD (r .words) componentsMade 0 ≤ getD (r′ .words) componentsMade 0
   pub components : (k : ℕ) → k < getD (r .words) componentsMade 0 → getD (r′ .words) (componentPlace g k) 0 ≡ getD (r .words) (componentPlace g k) 0
   pub unit : getD (r′ .words) loopUnit 0 ≡ getD (r .words) loopUnit 0
-  pub marks : (d k : ℕ) → d < getD (r .words) callsUsed 0 → k < entriesGranted g → getD (r′ .words) (pathPlace g d k) 0 ≡ getD (r .words) (pathPlace g d k) 0
+  pub marks : SameMarks g r r′
   pub bound : (slot : ℕ) → getD (r .words) (valuePlace slot) 0 ≢ 0 → getD (r′ .words) (valuePlace slot) 0 ≢ 0
 
 -- The slices stand for the state. No more tables were made than steps counted; the calls under way and their arguments are untouched.

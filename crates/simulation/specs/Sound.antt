@@ -130,11 +130,10 @@ pub record Shapes (program g ws : List ℕ) : Type 0 where
   pub hollow : (i : ℕ) → i < getD ws shapesUsed 0 → isGroupAt ws i ≡ true → hollowAt ws i ≡ true → figuresIn (suc i) g ws i ≡ []
 
 -- ---- marks of loops
--- In the call under way the word of a slot has at most the marks of the loops under way, of which the innermost has this unit; calls that are not under way
--- have none.
+-- In the call under way the word of a slot has at most the marks of the loops under way, of which the innermost has this unit. Where none is under way, the
+-- words may hold anything.
 pub record Marks (g ws : List ℕ) : Type 0 where
-  pub idle : (d k : ℕ) → getD ws callsUsed 0 ≤ d → d < callsGranted g → k < entriesGranted g → getD ws (pathPlace g d k) 0 ≡ 0
-  pub own : (k : ℕ) → 0 < getD ws callsUsed 0 → k < entriesGranted g → getD ws (pathPlace g (getD ws callsUsed 0 - 1) k) 0 ≤ 2 * getD ws loopUnit 0 - 1
+  pub own : (k : ℕ) → 0 < getD ws loopUnit 0 → 0 < getD ws callsUsed 0 → k < entriesGranted g → getD ws (pathPlace g (getD ws callsUsed 0 - 1) k) 0 ≤ 2 * getD ws loopUnit 0 - 1
 
 -- ---- entries
 -- Keys are words as values are packed and no groups, no two entries of a table have one key, and the index is right.
