@@ -129,19 +129,19 @@ unfoldable pub clearFrom : List ℕ → ℕ → ℕ → Act (Unit {0})
 clearFrom g k zero = give tt
 clearFrom g k (suc n) = (held >>= λ ws. store (markPlace g ws k) 0) >> clearFrom g (k + 1) n
 
--- what the words of slots hold means nothing before a call's outermost loop, which begins with zeros in all of them
-unfoldable pub unmarked : List ℕ → Act (Unit {0})
-unmarked g = held >>= λ ws. if eqb (getD ws loopUnit 0) 0 then (λ _. clearFrom g 0 (entriesGranted g)) else λ _. give tt
+-- what the words of slots hold means nothing before a call's outermost loop, inside one that adds 0: it begins with zeros in all of them
+unfoldable pub unmarked : List ℕ → ℕ → Act (Unit {0})
+unmarked g unit = if eqb unit 0 then (λ _. clearFrom g 0 (entriesGranted g)) else λ _. give tt
 
--- the own components of group i, with a unit of their own
-unfoldable pub loopInside : Act Flow → List ℕ → ℕ → ℕ → ℕ → Act Flow
-loopInside body g p slot i = do
-  ws ← held
-  store loopUnit (innerUnit (getD ws loopUnit 0))
-  f ← ownFrom body g p slot (firstAt ws i) (countAt ws i)
-  store loopUnit (getD ws loopUnit 0)
-  give f
+-- a loop begins, inside one that adds so much
+unfoldable pub enter : List ℕ → ℕ → Act (Unit {0})
+enter g unit = unmarked g unit >> store loopUnit (innerUnit unit)
 
 -- a loop over group i
 unfoldable pub loopOver : Act Flow → List ℕ → ℕ → ℕ → ℕ → Act Flow
-loopOver body g p slot i = unmarked g >> loopInside body g p slot i
+loopOver body g p slot i = do
+  ws ← held
+  enter g (getD ws loopUnit 0)
+  f ← ownFrom body g p slot (firstAt ws i) (countAt ws i)
+  store loopUnit (getD ws loopUnit 0)
+  give f

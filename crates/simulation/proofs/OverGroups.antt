@@ -24,7 +24,7 @@ use Rattle.machine.specs.Act.{Raw, raw, Act}
 use Rattle.machine.specs.Act as Act
 use Rattle.machine.specs.Shapes.{isGroupAt, destroyedAt}
 use Rattle.machine.specs.Groups.{componentAt, firstAt, countAt}
-use Rattle.machine.specs.Loops.{unmarkFrom, following, ownTurn, ownFrom, innerUnit, loopInside, loopOver}
+use Rattle.machine.specs.Loops.{unmarkFrom, following, ownTurn, ownFrom, innerUnit, enter, loopOver}
 use Rattle.simulation.specs.Meant.{listed, componentsOf}
 use Rattle.simulation.specs.Scope.{isIn}
 use Rattle.simulation.specs.Follows.{Grants, Related, Later, Follows}
@@ -134,9 +134,10 @@ module _ {program : List ℕ} {ts : List Token} {g : List ℕ} {r : Raw} {s : St
       (P : Raw → Type 0) (repeats : Repeats program ts g granted body body′ P) (p : ℕ) where
     loops-inside : (i : ℕ) → i < getD (r .words) shapesUsed 0 → isGroupAt (r .words) i ≡ true → getD (r .words) (valuePlace (slotOf ts x)) 0 ≢ 0
         → P (raw (r .texts) (set (r .words) loopUnit within))
-        → Follows granted total (Flows program ts g r) (loopInside body g p (slotOf ts x) i r)
+        → Follows granted total (Flows program ts g r) (Act._>>_ (Act.store loopUnit within)
+        (Act._>>=_ (ownFrom body g p (slotOf ts x) (firstAt (r .words) i) (countAt (r .words) i)) (λ f. Act._>>_ (Act.store loopUnit (getD (r .words) loopUnit 0)) (Act.give f))) r)
         (turns (λ i. Run._>>_ (Run.count p) (iterating (suc i) (λ j. Run._>>_ (binding x j) body′) i)) (componentsOf g (r .words) i) s)
-    unfolding loopInside componentsOf Act._>>=_ Act.goOn Act.held Act.store Act.give
+    unfolding componentsOf Act._>>=_ Act.goOn Act.store Act.give
     loops-inside i l e there ready =
         let h₁ = switch-related h within marks-fit in
         let later = switch-later h within marks-fit in
@@ -174,11 +175,13 @@ module _ {program : List ℕ} {ts : List Token} {g : List ℕ} {r : Raw} {s : St
       → ((r₁ : Raw) → AfterBut program ts g r r₁ s total → P (raw (r₁ .texts) (set (r₁ .words) loopUnit (innerUnit (getD (r₁ .words) loopUnit 0)))))
       → Follows granted total (Flows program ts g r) (loopOver body g p (slotOf ts x) i r)
       (turns (λ i. Run._>>_ (Run.count p) (iterating (suc i) (λ j. Run._>>_ (binding x j) body′) i)) (componentsOf g (r .words) i) s)
-  unfolding loopOver Act._>>=_ Act.goOn
+  unfolding loopOver enter Act._>>=_ Act.goOn Act.held
   loops-over i l e there ready =
       let c = opens program ts g s total r h some in
       let a = c .after in
       let u = a .untouched in
-      rw (c .is, ← components-later (a .later) (h .sound .shapes) (untouched-components u) i l e)
+      let same = untouched-components u in
+      let shapes = h .sound .shapes in
+      rw (c .is, ← first-later (a .later) shapes same i l, ← count-later (a .later) shapes same i l, ← u .unit, ← components-later (a .later) shapes same i l e)
       (flow-from a (loops-inside (a .related) (rw (u .calls) some) n any most (rw (u .unit) room) (c .own) few gr x o body body′ P repeats p
       i (le-trans l (a .later .shapes)) (group-stays (a .later .figures i l) ∙ e) (u .bound (slotOf ts x) there) (ready (c .slices) (but-after a))))

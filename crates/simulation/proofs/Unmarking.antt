@@ -113,8 +113,8 @@ module _ (program : List ℕ) (ts : List Token) (g : List ℕ) (s : State) (tota
     pub after : After program ts g r slices s total
     pub own : (k : ℕ) → k < entriesGranted g → markAt g slices k ≤ 2 * getD (slices .words) loopUnit 0 - 1
 
-  pub opens : (r : Raw) → Related program ts g r s total → 0 < getD (r .words) callsUsed 0 → Opened r (unmarked g r)
-  unfolding unmarked Act._>>=_ Act.goOn Act.held Act.give if_then_else_
+  pub opens : (r : Raw) → Related program ts g r s total → 0 < getD (r .words) callsUsed 0 → Opened r (unmarked g (getD (r .words) loopUnit 0) r)
+  unfolding unmarked Act.give if_then_else_
   opens r h some = go (eqb (getD (r .words) loopUnit 0) 0) refl
     where
       go : (t : Bool) → eqb (getD (r .words) loopUnit 0) 0 ≡ t → Opened r ((if t then (λ _. clearFrom g 0 (entriesGranted g)) else λ _. Act.give tt) r)
