@@ -14,11 +14,11 @@ use Rattle.machine.specs.declared.Answer.{Answer}
 use Rattle.machine.specs.declared.Answer.the-variants.{Good, Bad}
 use Rattle.machine.specs.Words.{kindIn, numberIn, truthIn, packed, unpacked, kindTruth, kindShape}
 use Rattle.machine.specs.Layout.{loopUnit, valuePlace}
-use Rattle.machine.specs.Act.{held, goOn, _>>=_, give, fail, refuse, load, shown, Answers, Passes, Gives}
+use Rattle.machine.specs.Act.{held, goOn, _>>=_, give, fail, refuse, load, store, shown, Answers, Passes, Gives}
 use Rattle.machine.specs.Shapes.{isGroupAt, destroyedAt}
 use Rattle.machine.specs.Groups.{copyShape}
 use Rattle.machine.specs.Operate.{withShape, withGroup}
-use Rattle.machine.specs.Loops.{innerUnit}
+use Rattle.machine.specs.Loops.{innerUnit, unmarked, enter}
 use Rattle.effects.specs.Looped.{orStop, asking, Opens, Enters}
 use Rattle.machine.specs.Variables.{isDead, usable, isDeclared, declare, declareOnce, setVariable}
 use Rattle.machine.specs.declared.Flow.{Flow}
@@ -26,7 +26,7 @@ use Rattle.machine.specs.declared.Flow.the-variants.{Onward, Returned, Stopped}
 use Rattle.machine.specs.declared.Outcome.{Outcome}
 use Rattle.machine.specs.declared.Outcome.the-variants as outcome
 use Rattle.machine.specs.Effects.{shownFlow, Flows, declaring, copied, assigning, finishing, outcomeIn}
-use Rattle.stores.proofs.Acts.{after-pass, after-refusal}
+use Rattle.stores.proofs.Acts.{after-pass, after-refusal, after-gift}
 use Rattle.stores.proofs.Laws.{not-dead}
 
 -- ---- declarations
@@ -119,5 +119,6 @@ pub inside-another : (u : ℕ) → (u ≡ 0 → ⊥) → u % 9223372036854775808
 unfolding innerUnit if_then_else_
 inside-another u z = rw (ne-eqb _ _ z) (omega arith)
 
-pub enters : (ws : List ℕ) (v : ℕ) → v ≡ innerUnit (getD ws loopUnit 0) → Enters ws (getD ws loopUnit 0) (set ws loopUnit v)
-enters ws v e = record { outer = refl; words = rw e }
+pub enters : (g ws ws₁ : List ℕ) (v : ℕ) → Gives ws (unmarked g (getD ws loopUnit 0)) tt ws₁ → v ≡ innerUnit (getD ws loopUnit 0) → Enters g ws (getD ws loopUnit 0) (set ws₁ loopUnit v)
+unfolding enter store
+enters g ws ws₁ v h e = record { outer = refl; words = record { equal = λ ts. sym (after-gift (λ _. store loopUnit (innerUnit (getD ws loopUnit 0))) ts h ∙ rw e) } }

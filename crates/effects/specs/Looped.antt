@@ -2,16 +2,16 @@
 use Prim.Native.Nat.{ℕ}
 use mathlib.Core.Path.{_≡_}
 use mathlib.Core.List.{List}
-use lib.ListN.{getD, set}
+use lib.ListN.{getD}
 use lib.Dec.{eqb}
 use Rattle.meaning.specs.Basics.{if_then_else_}
 use Rattle.machine.specs.declared.Flow.{Flow}
 use Rattle.machine.specs.declared.Value.the-variants.{Shape}
 use Rattle.machine.specs.Layout.{loopUnit}
-use Rattle.machine.specs.Act.{raw, Act, _>>=_, _>>_, fail}
+use Rattle.machine.specs.Act.{raw, Act, _>>=_, _>>_, fail, Gives}
 use Rattle.machine.specs.Variables.{usable, declareOnce}
 use Rattle.machine.specs.Operate.{withGroup}
-use Rattle.machine.specs.Loops.{innerUnit}
+use Rattle.machine.specs.Loops.{enter}
 
 -- what follows, or a stop with a number
 unfoldable pub orStop : ℕ → Act Flow → ℕ → Act Flow
@@ -26,6 +26,6 @@ pub record Opens (before : List ℕ) (slot i number : ℕ) (after : List ℕ) : 
   pub equal : (next : ℕ → Act Flow) (p : ℕ) (ts : List ℕ) → orStop number (next i) p (raw ts after) ≡ asking slot i next p (raw ts before)
 
 -- a loop begins inside the one that adds so much, unit
-pub record Enters (before : List ℕ) (unit : ℕ) (after : List ℕ) : Type 0 where
+pub record Enters (g before : List ℕ) (unit : ℕ) (after : List ℕ) : Type 0 where
   pub outer : unit ≡ getD before loopUnit 0
-  pub words : after ≡ set before loopUnit (innerUnit unit)
+  pub words : Gives before (enter g unit) tt after

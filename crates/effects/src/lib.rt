@@ -145,11 +145,12 @@ fn inner_unit(u: u64) -> u64
 }
 
 // A loop begins; what the one around it adds is given.
-pub fn enter_loop(words: &mut [u64]) -> u64
-    requires { ⌜ fixedWords ≤ length (now words) ⌝ }
-    ensures { λ r. ⌜ Enters (now (words .entry)) r (now (words .exit)) ⌝ }
+pub fn enter_loop(words: &mut [u64], grants: &[u64; 5]) -> u64
+    requires { ⌜ Room (now grants) (now words) ⌝ }
+    ensures { λ r. ⌜ Enters (now (grants .entry)) (now (words .entry)) r (now (words .exit)) ⌝ }
 {
     let unit = words[counters::LOOP_UNIT];
+    groups::marks::open_marks(words, grants, unit);
     words[counters::LOOP_UNIT] = inner_unit(unit);
     unit
 }

@@ -8,11 +8,11 @@ use lib.ListN.{getD, set, length}
 use lib.Dec.{eqb, leb, ltb}
 use borrow.Author.Tests.{not-true, not-false, lt-ltb, le-ltb, ltb-true, eq-eqb, ne-eqb}
 use Rattle.meaning.specs.Basics.{if_then_else_}
-use Rattle.machine.specs.Layout.{callsUsed, loopUnit, shapesGranted, shapePlace, Room}
+use Rattle.machine.specs.Layout.{callsUsed, loopUnit, shapesGranted, entriesGranted, shapePlace, Room}
 use Rattle.machine.specs.Act.{Gives, Raw, raw, Out, done, stop, Act, goOn, _>>=_, _>>_, give, load, store, held}
 use Rattle.machine.specs.Shapes.{isGroupAt, destroyedAt}
 use Rattle.machine.specs.Groups.{componentAt, followersAt, firstAt, countAt, wayWord, wayPlace}
-use Rattle.machine.specs.Loops.{hollowAt, hollow, markPlace, markedAt, mark, unmark, unmarkFrom, markedFrom, lookFrom, lookUnder, lookIn, lookBehind}
+use Rattle.machine.specs.Loops.{hollowAt, hollow, markPlace, markedAt, mark, unmark, unmarkFrom, clearFrom, unmarked, markedFrom, lookFrom, lookUnder, lookIn, lookBehind}
 use Rattle.stores.proofs.Turns.{Turns, turns-next, turns-last, from-none}
 use Rattle.stores.proofs.Acts.{after-gift}
 use Rattle.groups.specs.declared.Turn.{Turn}
@@ -72,6 +72,28 @@ module _ (g ws₀ : List ℕ) (n : ℕ) (ws : List ℕ) (k : ℕ) (a : Turns (un
 
   pub still-room : Room g ws₀ → Room g ws
   still-room r = room-same r (a .long)
+
+-- ---- zeros in all words
+module _ (g ws₀ : List ℕ) (n : ℕ) (ws : List ℕ) (k : ℕ) (a : Turns (clearFrom g) 0 n ws₀ ws k) where
+  pub zero-more : (at : ℕ) (ws′ : List ℕ) → k < n → at ≡ markPlace g ws k → ws′ ≡ set ws at 0 → length ws′ ≡ length ws → Turns (clearFrom g) 0 n ws₀ ws′ (k + 1)
+  unfolding clearFrom _>>=_ goOn held store
+  zero-more at ws′ h e s l = turns-next (clearFrom g) 0 n ws₀ ws k a ws′ h (λ m ts. rw (s, e)) l
+
+  pub all-zero : n ≤ k → n ≡ entriesGranted g → Gives ws₀ (clearFrom g 0 (entriesGranted g)) tt ws
+  unfolding clearFrom give
+  all-zero h e = rw (from-none n, e) at (turns-last (clearFrom g) 0 n ws₀ ws k a h (λ ts. refl))
+
+  pub zero-room : Room g ws₀ → Room g ws
+  zero-room r = room-same r (a .long)
+
+module _ (g ws : List ℕ) (unit : ℕ) where
+  pub opens-nothing : (unit ≡ 0 → ⊥) → Gives ws (unmarked g unit) tt ws
+  unfolding unmarked give if_then_else_
+  opens-nothing n = record { equal = λ ts. rw (ne-eqb unit 0 n) }
+
+  pub opens-clear : (ws′ : List ℕ) → unit ≡ 0 → Gives ws (clearFrom g 0 (entriesGranted g)) tt ws′ → Gives ws (unmarked g unit) tt ws′
+  unfolding unmarked if_then_else_
+  opens-clear ws′ z h = record { equal = λ ts. h .equal ts ∙ rw z }
 
 -- ---- the next marked slot
 pub record Seeks (g ws : List ℕ) (from end k : ℕ) : Type 0 where

@@ -1,12 +1,13 @@
 // Marks of the slots on a loop's way, of the call under way, and groups in which no figure is left.
 use machine::counters;
+use machine::granted;
 use stores::components;
 use stores::shapes;
 use stores::words;
 ghost use mathlib.Core.Path.{_≡_};
-ghost use Rattle.machine.specs.Layout.{Room};
+ghost use Rattle.machine.specs.Layout.{entriesGranted, Room};
 ghost use Rattle.machine.specs.Act.{Gives};
-ghost use Rattle.machine.specs.Loops.{markedAt, mark, unmark, unmarkFrom};
+ghost use Rattle.machine.specs.Loops.{markedAt, mark, unmark, unmarkFrom, clearFrom, unmarked};
 ghost use Rattle.groups.specs.Looking.{passedOver, giveUp, clearMark};
 
 // Whether a component is passed over: it is destroyed, or a group in which no figure is left.
@@ -78,4 +79,29 @@ pub fn unmark_below(words: &mut [u64], grants: &[u64; 5], end: u32)
         clear_mark(words, grants, k);
         k += 1;
     }
+}
+
+// Zeros in the words of all slots.
+fn clear_marks(words: &mut [u64], grants: &[u64; 5])
+    requires { ⌜ Room (now grants) (now words) ⌝ }
+    ensures { λ _. ⌜ Gives (now (words .entry)) (clearFrom (now (grants .entry)) 0 (entriesGranted (now (grants .entry)))) tt (now (words .exit)) ⌝ }
+{
+    let end = grants[granted::ENTRIES] as u32;
+    let mut k = 0;
+    while k < end {
+        let at = components::mark_place(words, grants, k);
+        words::put_word(words, at, 0);
+        k += 1;
+    }
+}
+
+// The same before a call's outermost loop, inside one that adds 0.
+pub fn open_marks(words: &mut [u64], grants: &[u64; 5], unit: u64)
+    requires { ⌜ Room (now grants) (now words) ⌝ }
+    ensures { λ _. ⌜ Gives (now (words .entry)) (unmarked (now (grants .entry)) unit) tt (now (words .exit)) ⌝ }
+{
+    if unit != 0 {
+        return;
+    }
+    clear_marks(words, grants);
 }

@@ -171,10 +171,10 @@ module _ (body : Act Flow) (g : List ℕ) (fuel b : ℕ) (ts₀ ws₀ : List ℕ
         rest = reached ∙ rw j;
       }
 
-pub entered-loop : (body : Act Flow) (g : List ℕ) (p slot i : ℕ) (ts ws ws₁ : List ℕ) (first many unit : ℕ) (o : Out Flow) → first ≡ firstAt ws i → many ≡ countAt ws i → Enters ws unit ws₁
+pub entered-loop : (body : Act Flow) (g : List ℕ) (p slot i : ℕ) (ts ws ws₁ : List ℕ) (first many unit : ℕ) (o : Out Flow) → first ≡ firstAt ws i → many ≡ countAt ws i → Enters g ws unit ws₁
     → o ≡ goOn (ownFrom body g p slot first many (raw ts ws₁)) (λ f. store loopUnit unit >>= λ _. give f) → o ≡ loopOver body g p slot i (raw ts ws)
-unfolding loopOver _>>=_ goOn held store
-entered-loop body g p slot i ts ws ws₁ first many unit o e f h q = q ∙ rw (h .words, e, f, h .outer)
+unfolding loopOver _>>=_ goOn held
+entered-loop body g p slot i ts ws ws₁ first many unit o e f h q = q ∙ sym (rw (← e, ← f, ← h .outer, ← h .words .equal ts))
 
 -- ---- the loop
 not-shape : (p : ℕ) (ts ws : List ℕ) (v : Value) (k : ℕ → Act Flow) → OneOf (0 ∷ 1 ∷ 2 ∷ 3 ∷ 4 ∷ []) (tagOf value.the-type v)

@@ -678,7 +678,7 @@ fn own(
 {
     let mut k = stores::components::first_at(words, i);
     let mut n = stores::components::count_at(words, i);
-    let unit = effects::enter_loop(words);
+    let unit = effects::enter_loop(words, grants);
     while 0 < n {
         n -= 1;
         match member(program, code, grants, texts, words, fuel, slot, b, p, k) {
