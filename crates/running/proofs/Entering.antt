@@ -93,11 +93,11 @@ pub record Entered (program : List ℕ) (ts : List Token) (g : List ℕ) (r : Ra
   pub unit : getD (r .words) loopUnit 0 ≡ 0
 
 module _ (program : List ℕ) (ts : List Token) (g : List ℕ) (few : length ts ≤ 8192) (texts words : List ℕ) (lent : Lent g texts words)
-    (blank : Blank words) (x y : List ℕ) (o : Occurs ts aName x) (p : Occurs ts aName y)
+    (blank : Blank g words) (x y : List ℕ) (o : Occurs ts aName x) (p : Occurs ts aName y)
     (own-x : isIn (slotOf ts x) (scopeOf program ts 0) ≡ true) (own-y : isIn (slotOf ts y) (scopeOf program ts 0) ≡ true)
     (width height : ℤ) (w-small : mag width < 2 ^ 31) (h-small : mag height < 2 ^ 31) where
   start : Related program ts g (raw texts words) empty nothingYet
-  start = begins program ts g texts words lent (blank .front) (blank .behind)
+  start = begins program ts g texts words lent (blank .front) (blank .entries)
 
   -- ---- both declared
   abbrev one : Raw
@@ -157,6 +157,9 @@ module _ (program : List ℕ) (ts : List Token) (g : List ℕ) (few : length ts 
     -- ---- the first call
     no-call : getD (two .words) callsUsed 0 ≡ 0
     no-call = second .untouched .calls ∙ first .untouched .calls ∙ blank .front callsUsed (omega arith)
+
+    no-loop : getD (two .words) loopUnit 0 ≡ 0
+    no-loop = second .untouched .unit ∙ first .untouched .unit ∙ blank .front loopUnit (omega arith)
 
     -- ---- both set
     abbrev half : List Variable
@@ -226,7 +229,7 @@ module _ (program : List ℕ) (ts : List Token) (g : List ℕ) (few : length ts 
     unfolding setVariable Act._>>=_ Act.goOn Act.store Run._>>=_ Run.become
     goes gr =
         rw (declared-then, meant-then)
-        (bind (calls-main (second .related) no-call 0 gr) (λ _ _ r s total c. given (all (rw (c .1) at (c .0)))))
+        (bind (calls-main (second .related) no-call no-loop 0 gr) (λ _ _ r s total c. given (all (rw (c .1) at (c .0)))))
 
   -- THE LAW
   pub enters : {granted : Amounts} → Grants g granted

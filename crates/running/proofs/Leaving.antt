@@ -18,7 +18,7 @@ use Rattle.meaning.specs.Group.{each, figuresOf}
 use Rattle.meaning.proofs.BookLaws.{part, spent}
 use Rattle.claims.proofs.Booking.{lacking-no-fit}
 use Rattle.picture.proofs.Lines.{line-short}
-use Rattle.machine.specs.Layout.{callsUsed, loopUnit}
+use Rattle.machine.specs.Layout.{callsUsed}
 use Rattle.machine.specs.Act.{Raw, raw, Out}
 use Rattle.machine.specs.Act as Act
 use Rattle.machine.specs.Texts.{originIn, startIn, sizeIn, textOf}
@@ -134,8 +134,8 @@ module _ (program : List ℕ) (ts : List Token) (g : List ℕ) {granted : Amount
       (ended-with (m .end) (measures program ts g gr texts (sizeWith program texts) (λ a. length (lineOf a)) known h t))
 
   -- THE LAW
-  pub main-ends : {r : Raw} {s : State} {total : Amounts} → Related program ts g r s total → getD (r .words) callsUsed 0 ≡ 1 → getD (r .words) loopUnit 0 ≡ 0 → r .texts ≡ texts
+  pub main-ends : {r : Raw} {s : State} {total : Amounts} → Related program ts g r s total → getD (r .words) callsUsed 0 ≡ 1 → r .texts ≡ texts
       → Follows granted total (Painted program g) (mainEnds program texts g r)
       (Run._>>_ Run.giveBack (Run._>>=_ Run.current (λ s. each (λ i. figuresOf (suc i) 0 i) (shapesHeld (s .variables)))) s)
   unfolding mainEnds Act._>>=_ Act.goOn Act.store Run._>>=_ Run.goOn Run.giveBack Run.current
-  main-ends h one idle t = record { is = back-together (painted (returns-main h one idle) t .is) }
+  main-ends h one t = record { is = back-together (painted (returns-main h one) t .is) }

@@ -3,8 +3,8 @@ use native.Mathlib.Omega.{arith}
 use lib.Seq.{length-take-le}
 use Rattle.running.proofs.Ways.{both-cleared}
 use borrow.Author.Needs.{needs}
-use Rattle.running.proofs.clear_but_stack.Statement.{statement}
-use Rattle.running.proofs.clear_but_stack.Tie as tie
+use Rattle.running.proofs.clear_first.Statement.{statement}
+use Rattle.running.proofs.clear_first.Tie as tie
 
 -- src/lib.rt:133:25
 slice-relend-prefix-clear-words : tie.Need-slice-relend-prefix-clear-words
@@ -42,8 +42,8 @@ same-length c = search needs
 returns : tie.Need-returns
 returns c = both-cleared (c .before .before .before .before .before .before .before .before .before .args .words .now) _ _ (c .before .before .before .before .before .before .before .before .before .pre) (c .before .before .before .before .before .before .clear-words .ensures) (c .before .before .clear-words2 .ensures)
 
-pub clear-but-stack-spec : {M : Type 1} → statement M
-clear-but-stack-spec =
+pub clear-first-spec : {M : Type 1} → statement M
+clear-first-spec =
     tie.close
     (tie.spec
     slice-relend-prefix-clear-words
