@@ -7,7 +7,11 @@ use Rattle.effects.proofs.enter_loop.Tie as tie
 slice-read-unit : tie.Need-slice-read-unit
 slice-read-unit c = search needs
 
--- src/lib.rt:152:34
+-- src/lib.rt:153:5
+open-marks-requires : tie.Need-open-marks-requires
+open-marks-requires c κs = search needs
+
+-- src/lib.rt:154:34
 inner-unit-requires : tie.Need-inner-unit-requires
 inner-unit-requires c κs = search needs
 
@@ -25,4 +29,4 @@ returns c = search enters
 
 pub enter-loop-spec : {M : Type 1} → statement M
 enter-loop-spec =
-    tie.close (tie.spec slice-read-unit inner-unit-requires slice-write-words same-length returns)
+    tie.close (tie.spec slice-read-unit open-marks-requires inner-unit-requires slice-write-words same-length returns)

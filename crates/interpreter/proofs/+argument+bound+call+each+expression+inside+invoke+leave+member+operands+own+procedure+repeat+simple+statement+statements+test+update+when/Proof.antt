@@ -4476,7 +4476,7 @@ own-enter-loop-requires : (t : ℕ) → own-lts.Need-enter-loop-requires (
   leave-loop-reads.Asked,
   leave-loop-reads.Learnt,
 ) (own-at t) own.Post own-Inv-loop own-μ-loop
-own-enter-loop-requires t c κs = omega (arith, c .before .before .before .before .before .before .before .before .before .pre .1 .lent .lent .room .words)
+own-enter-loop-requires t c κs = c .before .before .before .before .before .before .before .before .before .pre .1 .lent .lent .room
 
 -- src/lib.rt:681:5
 own-loop-holds : (t : ℕ) → own-lts.Need-loop-holds (

@@ -14,6 +14,14 @@ Inv-loop words₀ grants end k₀ words k = Turns (clearFrom grants) 0 end words
 abbrev μ-loop : tie.MeasureT-loop
 μ-loop words₀ grants end k₀ words k = end - k
 
+-- src/marks.rt:91:15
+element-copy-out-end : tie.Need-element-copy-out-end Inv-loop μ-loop
+element-copy-out-end c = search needs
+
+-- src/marks.rt:91:15
+cast-end : tie.Need-cast-end Inv-loop μ-loop
+cast-end c = omega (arith, c .before .before .pre .entries)
+
 -- src/marks.rt:93:5
 loop-holds : tie.Need-loop-holds Inv-loop μ-loop
 loop-holds c = turns-first _ 0 _ _ (omega arith)
@@ -52,6 +60,8 @@ clear-marks-spec =
     (tie.spec
     Inv-loop
     μ-loop
+    element-copy-out-end
+    cast-end
     loop-holds
     mark-place-requires
     put-word-requires
