@@ -23,7 +23,7 @@ use Rattle.machine.specs.declared.Value.{Value}
 use Rattle.machine.specs.declared.Value.the-variants.{Integer}
 use Rattle.machine.specs.Words.{packed}
 use Rattle.machine.specs.Opcodes.{startIn, parametersIn, bodyIn}
-use Rattle.machine.specs.Layout.{stepsUsed, callsUsed, entriesGranted, callsGranted, argumentPlace, entryPlace, componentPlace, Room, Lent}
+use Rattle.machine.specs.Layout.{stepsUsed, callsUsed, shapesGranted, entriesGranted, callsGranted, argumentPlace, shapePlace, entryPlace, componentPlace, Room, Lent}
 use Rattle.machine.specs.Act.{raw, goOn, _>>=_, give, store, passed, Passes, Pays, Gives}
 use Rattle.machine.specs.Variables.{declare, setVariable}
 use Rattle.stores.proofs.Acts.{after-pass, after-refusal, after-gift}
@@ -178,7 +178,7 @@ zero-at (suc n) zero = refl
 zero-at (suc n) (suc i) = zero-at n i
 
 -- the words with zeros e in front, and then with zeros f from a to b
-module _ (g ws e f : List ℕ) (a b : ℕ) (room : Room g ws) (from : a ≡ entryPlace g 0) (to : b ≡ componentPlace g 0) (c : e ≡ replicate (length (take (argumentPlace 0) ws)) 0)
+module _ (g ws e f : List ℕ) (a b : ℕ) (room : Room g ws) (from : a ≡ shapePlace (shapesGranted g)) (to : b ≡ componentPlace g 0) (c : e ≡ replicate (length (take (argumentPlace 0) ws)) 0)
     (d : f ≡ replicate (length (midOf a (b - a) (e ++ drop (argumentPlace 0) ws))) 0) where
   abbrev half : List ℕ
   half = e ++ drop (argumentPlace 0) ws

@@ -6,7 +6,7 @@ use Rattle.running.proofs.run.Tie as tie
 
 -- src/lib.rt:133:5
 clear-first-requires : tie.Need-clear-first-requires
-clear-first-requires c κs = omega (arith, c .before .before .before .before .before .before .pre .lent .room .words)
+clear-first-requires c κs = c .before .before .before .before .before .before .pre .lent .room
 
 -- src/lib.rt:134:9
 is-sheet-requires : tie.Need-is-sheet-requires
