@@ -135,7 +135,7 @@ fn run_main(
     }
 }
 
-// A program of at most 32,768 bytes on a sheet, where the words hold zeros.
+// A program of at most 32,768 bytes on a sheet, with words that are cleared for a run.
 fn run_read(
     program: &[u8],
     width: i32,

@@ -1,5 +1,5 @@
--- Where nothing was done yet: words of 0, but on the stack, stand for the empty state. And main's call.
-use Prim.Native.Nat.{ℕ, zero, suc, _+_, _-_, _*_, _≤_, _<_}
+-- Where nothing was done yet: words of 0 before the stack and where entries lie stand for the empty state. And main's call.
+use Prim.Native.Nat.{ℕ, _+_, _≤_, _<_}
 use native.Mathlib.Omega.{arith}
 use mathlib.Core.Path.{_≡_, refl, sym, _∙_}
 use mathlib.Core.Logic.{_≢_}
@@ -26,7 +26,6 @@ use Rattle.machine.specs.Layout.{
   entriesMade,
   componentsMade,
   loopUnit,
-  entriesGranted,
   callsGranted,
   entryPlace,
   componentPlace,

@@ -1,5 +1,4 @@
 use Rattle.running.proofs.Ways.{run-no-sheet, run-too-long, run-ready, run-as-read}
-use native.Mathlib.Omega.{arith}
 use borrow.Author.Needs.{needs}
 use Rattle.running.proofs.run.Statement.{statement}
 use Rattle.running.proofs.run.Tie as tie
