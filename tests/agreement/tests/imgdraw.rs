@@ -63,10 +63,10 @@ fn doublings() {
     };
     let (picture, time) = doubled("foreach x in g do 1;g=none;w=drawLine(1,2,3,4);");
     assert!(picture.starts_with(b"<?xml"));
-    assert!(time < Duration::from_secs(2), "{time:?}");
+    assert!(time < Duration::from_secs(30), "{time:?}");
     let (number, time) = doubled("foreach x in g do 1;");
     assert_eq!(number, b"error 79 at 0\n");
-    assert!(time < Duration::from_secs(2), "{time:?}");
+    assert!(time < Duration::from_secs(30), "{time:?}");
 }
 
 #[test]
