@@ -154,8 +154,8 @@ fn call(
         y = code::argument_root(stores::words::word_at(code, y + 1), y + 1, x);
     }
     let number = code::library_of(w);
-    if number == OTHER {
-        let r = invoke(
+    let r = if number == OTHER {
+        invoke(
             program,
             code,
             grants,
@@ -165,10 +165,10 @@ fn call(
             code::callee_of(w),
             p,
             base as usize,
-        );
-        return r;
-    }
-    let r = primaries::called(words, grants, number, p, base);
+        )
+    } else {
+        primaries::called(words, grants, number, p, base)
+    };
     r
 }
 
@@ -187,11 +187,30 @@ fn argument(
     ensures { λ r. ⌜ shown r (now (texts .exit)) (now (words .exit))
         ≡ argumentOf (expressionAt fuel (setting (now (program .entry)) (now (code .entry)) (now (grants .entry)))) y p (raw (now (texts .entry)) (now (words .entry))) ⌝ }
 {
-    let w = fastpath::fast_value(words, code, grants, fuel, y);
+    let w = fastpath::argument_value(words, code, grants, fuel, y);
     if w != 0 {
         let r = primaries::push_word(words, w, p);
         return r;
     }
+    let r = pushed(program, code, grants, texts, words, fuel, y, p);
+    r
+}
+
+// The same of one that is evaluated as any expression. It is a function of its own so that what its call takes of the stack is free again before the next.
+fn pushed(
+    program: &[u8],
+    code: &[u64],
+    grants: &[u64; 5],
+    texts: &mut [u8],
+    words: &mut [u64],
+    fuel: usize,
+    y: usize,
+    p: u64,
+) -> Answer
+    requires { ⌜ Lent (now grants) (now texts) (now words) fuel ⌝ }
+    ensures { λ r. ⌜ shown r (now (texts .exit)) (now (words .exit))
+        ≡ argumentOf (expressionAt fuel (setting (now (program .entry)) (now (code .entry)) (now (grants .entry)))) y p (raw (now (texts .entry)) (now (words .entry))) ⌝ }
+{
     match expression(program, code, grants, texts, words, fuel, y, p) {
         Answer::Good(v) => {
             let r = primaries::push_word(words, values::pack(v), p);

@@ -106,9 +106,11 @@ pub mod tags {
     pub const FOREACH: u64 = 40;
 }
 
-// The lower half of the word of a number, and of a name: the tag and a size of 1.
+// The lower half of the word of a number, of a string and of a name: the tag and a size of 1.
 pub mod heads {
     pub const NUMBER: u64 = 257;
+
+    pub const STRING: u64 = 258;
 
     pub const NAME: u64 = 261;
 }

@@ -1,4 +1,4 @@
-use Rattle.fastpath.proofs.Laws.{not-fast, too-many, counted}
+use Rattle.fastpath.proofs.Laws.{values-anew, not-fast, too-many, counted}
 use borrow.Author.Needs.{needs}
 use Rattle.fastpath.proofs.fast_value.Statement.{statement}
 use Rattle.fastpath.proofs.fast_value.Tie as tie
@@ -29,7 +29,7 @@ same-length c = search needs
 
 -- src/lib.rt:181:9
 returns : tie.Need-returns
-returns c = not-fast _ _ _ _ _ _ _ (c .before .before .before .word-at .ensures) (c .before .root .ensures) (c .if1 .taken)
+returns c = values-anew _ _ _ _ _ _ _ (not-fast _ _ _ _ _ _ _ (c .before .before .before .word-at .ensures) (c .before .root .ensures) (c .if1 .taken))
 
 -- src/lib.rt:183:19
 element-copy-out-limit : tie.Need-element-copy-out-limit
@@ -49,7 +49,7 @@ same-length-2 c = search needs
 
 -- src/lib.rt:185:9
 returns-2 : tie.Need-returns-2
-returns-2 c = too-many _ _ _ _ _ _ _ (c .before .before .before .before .before .before .before .before .before .before .word-at .ensures) (c .before .before .before .before .before .before .before .before .root .ensures) (c .before .before .before .before .before .before .before .if1 .left) _ (c .before .before .before .before .size-of .ensures) _ _ (c .before .before .before .spend .ensures) (c .if2 .taken)
+returns-2 c = values-anew _ _ _ _ _ _ _ (too-many _ _ _ _ _ _ _ (c .before .before .before .before .before .before .before .before .before .before .word-at .ensures) (c .before .before .before .before .before .before .before .before .root .ensures) (c .before .before .before .before .before .before .before .if1 .left) _ (c .before .before .before .before .size-of .ensures) _ _ (c .before .before .before .spend .ensures) (c .if2 .taken))
 
 -- src/lib.rt:173:1
 same-length-3 : tie.Need-same-length-3
@@ -57,7 +57,7 @@ same-length-3 c = search needs
 
 -- src/lib.rt:173:1
 returns-3 : tie.Need-returns-3
-returns-3 c = counted _ _ _ _ _ _ _ (c .before .before .before .before .before .before .before .before .before .before .word-at .ensures) (c .before .before .before .before .before .before .before .before .root .ensures) (c .before .before .before .before .before .before .before .if1 .left) _ (c .before .before .before .before .size-of .ensures) _ _ (c .before .before .before .spend .ensures) (c .if2 .left)
+returns-3 c = values-anew _ _ _ _ _ _ _ (counted _ _ _ _ _ _ _ (c .before .before .before .before .before .before .before .before .before .before .word-at .ensures) (c .before .before .before .before .before .before .before .before .root .ensures) (c .before .before .before .before .before .before .before .if1 .left) _ (c .before .before .before .before .size-of .ensures) _ _ (c .before .before .before .spend .ensures) (c .if2 .left))
 
 pub fast-value-spec : {M : Type 1} → statement M
 fast-value-spec =

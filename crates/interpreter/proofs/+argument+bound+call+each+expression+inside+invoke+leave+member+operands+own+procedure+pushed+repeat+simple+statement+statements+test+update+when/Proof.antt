@@ -3,8 +3,8 @@ use mathlib.Core.Path.{refl, ap, _∙_}
 use lib.ListN.{getD}
 use borrow.Author.Needs.{needs}
 use Rattle.interpreter.proofs.ExpressionLaws as laws
-use Rattle.interpreter.proofs.ExpressionLaws.{still-lent-words, first-stops, table-made, no-table, second-stops, operands-applied, too-deep, no-step, is-leaf, is-call, has-operands, Pushing, push-first, root-falls, library-called, procedure-called, push-fails, push-next}
-use Rattle.interpreter.proofs.Fast.{push-fast, slow-goes, slow-stops}
+use Rattle.interpreter.proofs.ExpressionLaws.{still-lent-words, first-stops, table-made, no-table, second-stops, operands-applied, too-deep, no-step, is-leaf, is-call, has-operands, Pushing, push-first, root-falls, library-called, procedure-called, push-fails, push-next, push-goes, push-stops}
+use Rattle.interpreter.proofs.Fast.{push-fast, push-slow}
 use Rattle.interpreter.proofs.StatementLaws.{still-lent, still-runs, still-room, slow-lent, no-shape, simple-fast, test-fast, simple-done, simple-stops, test-says, test-refused, table-stops, table-other, key-stops, value-stops, update-refused, update-done}
 use Rattle.interpreter.proofs.StatementLaws.{statement-too-deep, statement-no-step, is-loop, is-declaration, is-update, is-when, is-foreach, is-block, is-simple, when-holds, when-not, when-stops, Looping, loop-first, loop-short, loop-refused, loop-stops, loop-ends, loop-fails, loop-returns, loop-again}
 use Rattle.interpreter.proofs.StatementLaws.{Following, all-first, runs-before, all-short, all-done, all-fails, all-returns, all-again}
@@ -21,61 +21,64 @@ use borrow.Fn.Kinds.{In}
 use borrow.Fn.PlainCycle.{Measures, is, falls, and}
 use Rattle.interpreter.proofs.argument.Reads as argument
 use Rattle.interpreter.proofs.argument.Kinds as argument-kinds
-use Rattle.interpreter.proofs.+argument+bound+call+each+expression+inside+invoke+leave+member+operands+own+procedure+repeat+simple+statement+statements+test+update+when.Lts-argument as argument-lts
+use Rattle.interpreter.proofs.+argument+bound+call+each+expression+inside+invoke+leave+member+operands+own+procedure+pushed+repeat+simple+statement+statements+test+update+when.Lts-argument as argument-lts
 use Rattle.interpreter.proofs.bound.Reads as bound
 use Rattle.interpreter.proofs.bound.Kinds as bound-kinds
-use Rattle.interpreter.proofs.+argument+bound+call+each+expression+inside+invoke+leave+member+operands+own+procedure+repeat+simple+statement+statements+test+update+when.Lts-bound as bound-lts
+use Rattle.interpreter.proofs.+argument+bound+call+each+expression+inside+invoke+leave+member+operands+own+procedure+pushed+repeat+simple+statement+statements+test+update+when.Lts-bound as bound-lts
 use Rattle.interpreter.proofs.call.Reads as call
 use Rattle.interpreter.proofs.call.Kinds as call-kinds
-use Rattle.interpreter.proofs.+argument+bound+call+each+expression+inside+invoke+leave+member+operands+own+procedure+repeat+simple+statement+statements+test+update+when.Lts-call as call-lts
+use Rattle.interpreter.proofs.+argument+bound+call+each+expression+inside+invoke+leave+member+operands+own+procedure+pushed+repeat+simple+statement+statements+test+update+when.Lts-call as call-lts
 use Rattle.interpreter.proofs.each.Reads as each
 use Rattle.interpreter.proofs.each.Kinds as each-kinds
-use Rattle.interpreter.proofs.+argument+bound+call+each+expression+inside+invoke+leave+member+operands+own+procedure+repeat+simple+statement+statements+test+update+when.Lts-each as each-lts
+use Rattle.interpreter.proofs.+argument+bound+call+each+expression+inside+invoke+leave+member+operands+own+procedure+pushed+repeat+simple+statement+statements+test+update+when.Lts-each as each-lts
 use Rattle.interpreter.proofs.expression.Reads as expression
 use Rattle.interpreter.proofs.expression.Kinds as expression-kinds
-use Rattle.interpreter.proofs.+argument+bound+call+each+expression+inside+invoke+leave+member+operands+own+procedure+repeat+simple+statement+statements+test+update+when.Lts-expression as expression-lts
+use Rattle.interpreter.proofs.+argument+bound+call+each+expression+inside+invoke+leave+member+operands+own+procedure+pushed+repeat+simple+statement+statements+test+update+when.Lts-expression as expression-lts
 use Rattle.interpreter.proofs.inside.Reads as inside
 use Rattle.interpreter.proofs.inside.Kinds as inside-kinds
-use Rattle.interpreter.proofs.+argument+bound+call+each+expression+inside+invoke+leave+member+operands+own+procedure+repeat+simple+statement+statements+test+update+when.Lts-inside as inside-lts
+use Rattle.interpreter.proofs.+argument+bound+call+each+expression+inside+invoke+leave+member+operands+own+procedure+pushed+repeat+simple+statement+statements+test+update+when.Lts-inside as inside-lts
 use Rattle.interpreter.proofs.invoke.Reads as invoke
 use Rattle.interpreter.proofs.invoke.Kinds as invoke-kinds
-use Rattle.interpreter.proofs.+argument+bound+call+each+expression+inside+invoke+leave+member+operands+own+procedure+repeat+simple+statement+statements+test+update+when.Lts-invoke as invoke-lts
+use Rattle.interpreter.proofs.+argument+bound+call+each+expression+inside+invoke+leave+member+operands+own+procedure+pushed+repeat+simple+statement+statements+test+update+when.Lts-invoke as invoke-lts
 use Rattle.interpreter.proofs.leave.Reads as leave
 use Rattle.interpreter.proofs.leave.Kinds as leave-kinds
-use Rattle.interpreter.proofs.+argument+bound+call+each+expression+inside+invoke+leave+member+operands+own+procedure+repeat+simple+statement+statements+test+update+when.Lts-leave as leave-lts
+use Rattle.interpreter.proofs.+argument+bound+call+each+expression+inside+invoke+leave+member+operands+own+procedure+pushed+repeat+simple+statement+statements+test+update+when.Lts-leave as leave-lts
 use Rattle.interpreter.proofs.member.Reads as member
 use Rattle.interpreter.proofs.member.Kinds as member-kinds
-use Rattle.interpreter.proofs.+argument+bound+call+each+expression+inside+invoke+leave+member+operands+own+procedure+repeat+simple+statement+statements+test+update+when.Lts-member as member-lts
+use Rattle.interpreter.proofs.+argument+bound+call+each+expression+inside+invoke+leave+member+operands+own+procedure+pushed+repeat+simple+statement+statements+test+update+when.Lts-member as member-lts
 use Rattle.interpreter.proofs.operands.Reads as operands
 use Rattle.interpreter.proofs.operands.Kinds as operands-kinds
-use Rattle.interpreter.proofs.+argument+bound+call+each+expression+inside+invoke+leave+member+operands+own+procedure+repeat+simple+statement+statements+test+update+when.Lts-operands as operands-lts
+use Rattle.interpreter.proofs.+argument+bound+call+each+expression+inside+invoke+leave+member+operands+own+procedure+pushed+repeat+simple+statement+statements+test+update+when.Lts-operands as operands-lts
 use Rattle.interpreter.proofs.own.Reads as own
 use Rattle.interpreter.proofs.own.Kinds as own-kinds
-use Rattle.interpreter.proofs.+argument+bound+call+each+expression+inside+invoke+leave+member+operands+own+procedure+repeat+simple+statement+statements+test+update+when.Lts-own as own-lts
+use Rattle.interpreter.proofs.+argument+bound+call+each+expression+inside+invoke+leave+member+operands+own+procedure+pushed+repeat+simple+statement+statements+test+update+when.Lts-own as own-lts
 use Rattle.interpreter.proofs.procedure.Reads as procedure
 use Rattle.interpreter.proofs.procedure.Kinds as procedure-kinds
-use Rattle.interpreter.proofs.+argument+bound+call+each+expression+inside+invoke+leave+member+operands+own+procedure+repeat+simple+statement+statements+test+update+when.Lts-procedure as procedure-lts
+use Rattle.interpreter.proofs.+argument+bound+call+each+expression+inside+invoke+leave+member+operands+own+procedure+pushed+repeat+simple+statement+statements+test+update+when.Lts-procedure as procedure-lts
+use Rattle.interpreter.proofs.pushed.Reads as pushed
+use Rattle.interpreter.proofs.pushed.Kinds as pushed-kinds
+use Rattle.interpreter.proofs.+argument+bound+call+each+expression+inside+invoke+leave+member+operands+own+procedure+pushed+repeat+simple+statement+statements+test+update+when.Lts-pushed as pushed-lts
 use Rattle.interpreter.proofs.repeat.Reads as repeat
 use Rattle.interpreter.proofs.repeat.Kinds as repeat-kinds
-use Rattle.interpreter.proofs.+argument+bound+call+each+expression+inside+invoke+leave+member+operands+own+procedure+repeat+simple+statement+statements+test+update+when.Lts-repeat as repeat-lts
+use Rattle.interpreter.proofs.+argument+bound+call+each+expression+inside+invoke+leave+member+operands+own+procedure+pushed+repeat+simple+statement+statements+test+update+when.Lts-repeat as repeat-lts
 use Rattle.interpreter.proofs.simple.Reads as simple
 use Rattle.interpreter.proofs.simple.Kinds as simple-kinds
-use Rattle.interpreter.proofs.+argument+bound+call+each+expression+inside+invoke+leave+member+operands+own+procedure+repeat+simple+statement+statements+test+update+when.Lts-simple as simple-lts
+use Rattle.interpreter.proofs.+argument+bound+call+each+expression+inside+invoke+leave+member+operands+own+procedure+pushed+repeat+simple+statement+statements+test+update+when.Lts-simple as simple-lts
 use Rattle.interpreter.proofs.statement.Reads as statement′
 use Rattle.interpreter.proofs.statement.Kinds as statement-kinds
-use Rattle.interpreter.proofs.+argument+bound+call+each+expression+inside+invoke+leave+member+operands+own+procedure+repeat+simple+statement+statements+test+update+when.Lts-statement as statement-lts
+use Rattle.interpreter.proofs.+argument+bound+call+each+expression+inside+invoke+leave+member+operands+own+procedure+pushed+repeat+simple+statement+statements+test+update+when.Lts-statement as statement-lts
 use Rattle.interpreter.proofs.statements.Reads as statements
 use Rattle.interpreter.proofs.statements.Kinds as statements-kinds
-use Rattle.interpreter.proofs.+argument+bound+call+each+expression+inside+invoke+leave+member+operands+own+procedure+repeat+simple+statement+statements+test+update+when.Lts-statements as statements-lts
+use Rattle.interpreter.proofs.+argument+bound+call+each+expression+inside+invoke+leave+member+operands+own+procedure+pushed+repeat+simple+statement+statements+test+update+when.Lts-statements as statements-lts
 use Rattle.interpreter.proofs.test.Reads as test
 use Rattle.interpreter.proofs.test.Kinds as test-kinds
-use Rattle.interpreter.proofs.+argument+bound+call+each+expression+inside+invoke+leave+member+operands+own+procedure+repeat+simple+statement+statements+test+update+when.Lts-test as test-lts
+use Rattle.interpreter.proofs.+argument+bound+call+each+expression+inside+invoke+leave+member+operands+own+procedure+pushed+repeat+simple+statement+statements+test+update+when.Lts-test as test-lts
 use Rattle.interpreter.proofs.update.Reads as update
 use Rattle.interpreter.proofs.update.Kinds as update-kinds
-use Rattle.interpreter.proofs.+argument+bound+call+each+expression+inside+invoke+leave+member+operands+own+procedure+repeat+simple+statement+statements+test+update+when.Lts-update as update-lts
+use Rattle.interpreter.proofs.+argument+bound+call+each+expression+inside+invoke+leave+member+operands+own+procedure+pushed+repeat+simple+statement+statements+test+update+when.Lts-update as update-lts
 use Rattle.interpreter.proofs.when.Reads as when
 use Rattle.interpreter.proofs.when.Kinds as when-kinds
-use Rattle.interpreter.proofs.+argument+bound+call+each+expression+inside+invoke+leave+member+operands+own+procedure+repeat+simple+statement+statements+test+update+when.Lts-when as when-lts
+use Rattle.interpreter.proofs.+argument+bound+call+each+expression+inside+invoke+leave+member+operands+own+procedure+pushed+repeat+simple+statement+statements+test+update+when.Lts-when as when-lts
 use Rattle.code.proofs.argument_root.Reads as argument-root-reads
 use Rattle.code.proofs.before.Reads as before-reads
 use Rattle.code.proofs.body_of.Reads as body-of-reads
@@ -100,6 +103,7 @@ use Rattle.effects.proofs.open_loop.Reads as open-loop-reads
 use Rattle.effects.proofs.outcome_of.Reads as outcome-of-reads
 use Rattle.effects.proofs.pass_on.Reads as pass-on-reads
 use Rattle.effects.proofs.put_word.Reads as put-word-reads
+use Rattle.fastpath.proofs.argument_value.Reads as argument-value-reads
 use Rattle.fastpath.proofs.fast_value.Reads as fast-value-reads
 use Rattle.groups.proofs.looking.look_behind.Reads as look-behind-reads
 use Rattle.groups.proofs.looking.look_in.Reads as look-in-reads
@@ -127,15 +131,15 @@ use Rattle.stores.proofs.words.word_at.Reads as word-at-reads
 use Rattle.tables.proofs.entries.store_entry.Reads as store-entry-reads
 use Rattle.values.proofs.pack.Reads as pack-reads
 use Rattle.values.proofs.unpack.Reads as unpack-reads
-use Rattle.interpreter.proofs.+argument+bound+call+each+expression+inside+invoke+leave+member+operands+own+procedure+repeat+simple+statement+statements+test+update+when.{
+use Rattle.interpreter.proofs.+argument+bound+call+each+expression+inside+invoke+leave+member+operands+own+procedure+pushed+repeat+simple+statement+statements+test+update+when.{
   statement,
 }
-use Rattle.interpreter.proofs.+argument+bound+call+each+expression+inside+invoke+leave+member+operands+own+procedure+repeat+simple+statement+statements+test+update+when.Tie.{
+use Rattle.interpreter.proofs.+argument+bound+call+each+expression+inside+invoke+leave+member+operands+own+procedure+pushed+repeat+simple+statement+statements+test+update+when.Tie.{
   close,
 }
 
 abbrev μ-argument : Measures 5 argument-kinds.ps ℕ
-μ-argument κs a = 8 * (a .1 .1 .1 .1 .1 .0) + 1
+μ-argument κs a = 8 * (a .1 .1 .1 .1 .1 .0) + 2
 
 abbrev μ-bound : Measures 5 bound-kinds.ps ℕ
 μ-bound κs a = 8 * (a .1 .1 .1 .1 .1 .0) + 1
@@ -169,6 +173,9 @@ abbrev μ-own : Measures 5 own-kinds.ps ℕ
 
 abbrev μ-procedure : Measures 5 procedure-kinds.ps ℕ
 μ-procedure κs a = 8 * (a .1 .1 .1 .1 .1 .0) + 1
+
+abbrev μ-pushed : Measures 5 pushed-kinds.ps ℕ
+μ-pushed κs a = 8 * (a .1 .1 .1 .1 .1 .0) + 1
 
 abbrev μ-repeat : Measures 5 repeat-kinds.ps ℕ
 μ-repeat κs a = 8 * (a .1 .1 .1 .1 .1 .0) + 2
@@ -268,6 +275,12 @@ abbrev procedure-below : ℕ → In 5 procedure-kinds.ps
 procedure-below t =
     and 5 procedure-kinds.ps (falls 5 procedure-kinds.ps _<_ μ-procedure t) procedure.Pre
 
+abbrev pushed-at : ℕ → In 5 pushed-kinds.ps
+pushed-at t = and 5 pushed-kinds.ps (is 5 pushed-kinds.ps μ-pushed t) pushed.Pre
+
+abbrev pushed-below : ℕ → In 5 pushed-kinds.ps
+pushed-below t = and 5 pushed-kinds.ps (falls 5 pushed-kinds.ps _<_ μ-pushed t) pushed.Pre
+
 abbrev repeat-at : ℕ → In 5 repeat-kinds.ps
 repeat-at t = and 5 repeat-kinds.ps (is 5 repeat-kinds.ps μ-repeat t) repeat.Pre
 
@@ -314,201 +327,94 @@ abbrev when-below : ℕ → In 5 when-kinds.ps
 when-below t = and 5 when-kinds.ps (falls 5 when-kinds.ps _<_ μ-when t) when.Pre
 
 -- src/lib.rt:190:9
-argument-fast-value-requires : (t : ℕ) → argument-lts.Need-fast-value-requires (
-  fast-value-reads.Asked,
-  fast-value-reads.Learnt,
+argument-argument-value-requires : (t : ℕ) → argument-lts.Need-argument-value-requires (
+  argument-value-reads.Asked,
+  argument-value-reads.Learnt,
   push-word-reads.Asked,
   push-word-reads.Learnt,
-  expression-below t,
-  expression.Post,
-  pack-reads.Asked,
-  pack-reads.Learnt,
+  pushed-below t,
+  pushed.Post,
 ) (argument-at t) argument.Post
-argument-fast-value-requires t c κs = omega (arith, c .before .before .before .before .before .pre .1 .lent .room .words)
+argument-argument-value-requires t c κs = omega (arith, c .before .before .before .before .before .pre .1 .lent .room .words)
 
 -- src/lib.rt:192:13
 argument-push-word-requires : (t : ℕ) → argument-lts.Need-push-word-requires (
-  fast-value-reads.Asked,
-  fast-value-reads.Learnt,
+  argument-value-reads.Asked,
+  argument-value-reads.Learnt,
   push-word-reads.Asked,
   push-word-reads.Learnt,
-  expression-below t,
-  expression.Post,
-  pack-reads.Asked,
-  pack-reads.Learnt,
+  pushed-below t,
+  pushed.Post,
 ) (argument-at t) argument.Post
 argument-push-word-requires t c κs = search needs
 
 -- src/lib.rt:193:9
 argument-same-length : (t : ℕ) → argument-lts.Need-same-length (
-  fast-value-reads.Asked,
-  fast-value-reads.Learnt,
+  argument-value-reads.Asked,
+  argument-value-reads.Learnt,
   push-word-reads.Asked,
   push-word-reads.Learnt,
-  expression-below t,
-  expression.Post,
-  pack-reads.Asked,
-  pack-reads.Learnt,
+  pushed-below t,
+  pushed.Post,
 ) (argument-at t) argument.Post
 argument-same-length t c = search needs
 
 -- src/lib.rt:193:9
 argument-returns : (t : ℕ) → argument-lts.Need-returns (
-  fast-value-reads.Asked,
-  fast-value-reads.Learnt,
+  argument-value-reads.Asked,
+  argument-value-reads.Learnt,
   push-word-reads.Asked,
   push-word-reads.Learnt,
-  expression-below t,
-  expression.Post,
-  pack-reads.Asked,
-  pack-reads.Learnt,
+  pushed-below t,
+  pushed.Post,
 ) (argument-at t) argument.Post
-argument-returns t c = push-fast _ _ _ _ _ _ _ _ _ _ (c .before .before .before .before .before .before .before .fast-value .ensures) _ _ (c .before .before .before .before .before .before .before .before .before .before .before .before .before .pre .1 .lent) (c .before .before .before .before .if1 .taken) (c .before .before .push-word .ensures)
+argument-returns t c = push-fast _ _ _ _ _ _ _ _ _ _ (c .before .before .before .before .before .before .before .argument-value .ensures) _ _ (c .before .before .before .before .before .before .before .before .before .before .before .before .before .pre .1 .lent) (c .before .before .before .before .if1 .taken) (c .before .before .push-word .ensures)
 
--- src/lib.rt:195:11
-argument-expression-requires : (t : ℕ) → argument-lts.Need-expression-requires (
-  fast-value-reads.Asked,
-  fast-value-reads.Learnt,
+-- src/lib.rt:195:9
+argument-pushed-requires : (t : ℕ) → argument-lts.Need-pushed-requires (
+  argument-value-reads.Asked,
+  argument-value-reads.Learnt,
   push-word-reads.Asked,
   push-word-reads.Learnt,
-  expression-below t,
-  expression.Post,
-  pack-reads.Asked,
-  pack-reads.Learnt,
+  pushed-below t,
+  pushed.Post,
 ) (argument-at t) argument.Post
-argument-expression-requires t c κs = (omega arith, slow-lent _ _ _ _ _ _ _ _ (c .before .before .before .before .before .fast-value .ensures) (c .before .before .if1 .left) (c .before .before .before .before .before .before .before .before .before .before .before .pre .1))
-
--- src/lib.rt:196:22
-argument-enum-known-v : (t : ℕ) → argument-lts.Need-enum-known-v (
-  fast-value-reads.Asked,
-  fast-value-reads.Learnt,
-  push-word-reads.Asked,
-  push-word-reads.Learnt,
-  expression-below t,
-  expression.Post,
-  pack-reads.Asked,
-  pack-reads.Learnt,
-) (argument-at t) argument.Post
-argument-enum-known-v t c = search needs
-
--- src/lib.rt:197:49
-argument-pack-requires : (t : ℕ) → argument-lts.Need-pack-requires (
-  fast-value-reads.Asked,
-  fast-value-reads.Learnt,
-  push-word-reads.Asked,
-  push-word-reads.Learnt,
-  expression-below t,
-  expression.Post,
-  pack-reads.Asked,
-  pack-reads.Learnt,
-) (argument-at t) argument.Post
-argument-pack-requires t c κs = search needs
-
--- src/lib.rt:197:17
-argument-push-word-requires-2 : (t : ℕ) → argument-lts.Need-push-word-requires-2 (
-  fast-value-reads.Asked,
-  fast-value-reads.Learnt,
-  push-word-reads.Asked,
-  push-word-reads.Learnt,
-  expression-below t,
-  expression.Post,
-  pack-reads.Asked,
-  pack-reads.Learnt,
-) (argument-at t) argument.Post
-argument-push-word-requires-2 t c κs = search needs
-
--- src/lib.rt:200:21
-argument-enum-known-n : (t : ℕ) → argument-lts.Need-enum-known-n (
-  fast-value-reads.Asked,
-  fast-value-reads.Learnt,
-  push-word-reads.Asked,
-  push-word-reads.Learnt,
-  expression-below t,
-  expression.Post,
-  pack-reads.Asked,
-  pack-reads.Learnt,
-) (argument-at t) argument.Post
-argument-enum-known-n t c = search needs
+argument-pushed-requires t c κs = (omega arith, slow-lent _ _ _ _ _ _ _ _ (c .before .before .before .before .before .argument-value .ensures) (c .before .before .if1 .left) (c .before .before .before .before .before .before .before .before .before .before .before .pre .1))
 
 -- src/lib.rt:176:1
 argument-same-length-2 : (t : ℕ) → argument-lts.Need-same-length-2 (
-  fast-value-reads.Asked,
-  fast-value-reads.Learnt,
+  argument-value-reads.Asked,
+  argument-value-reads.Learnt,
   push-word-reads.Asked,
   push-word-reads.Learnt,
-  expression-below t,
-  expression.Post,
-  pack-reads.Asked,
-  pack-reads.Learnt,
+  pushed-below t,
+  pushed.Post,
 ) (argument-at t) argument.Post
 argument-same-length-2 t c = search needs
 
 -- src/lib.rt:176:1
 argument-same-length-3 : (t : ℕ) → argument-lts.Need-same-length-3 (
-  fast-value-reads.Asked,
-  fast-value-reads.Learnt,
+  argument-value-reads.Asked,
+  argument-value-reads.Learnt,
   push-word-reads.Asked,
   push-word-reads.Learnt,
-  expression-below t,
-  expression.Post,
-  pack-reads.Asked,
-  pack-reads.Learnt,
+  pushed-below t,
+  pushed.Post,
 ) (argument-at t) argument.Post
 argument-same-length-3 t c = search needs
 
 -- src/lib.rt:176:1
 argument-returns-2 : (t : ℕ) → argument-lts.Need-returns-2 (
-  fast-value-reads.Asked,
-  fast-value-reads.Learnt,
+  argument-value-reads.Asked,
+  argument-value-reads.Learnt,
   push-word-reads.Asked,
   push-word-reads.Learnt,
-  expression-below t,
-  expression.Post,
-  pack-reads.Asked,
-  pack-reads.Learnt,
+  pushed-below t,
+  pushed.Post,
 ) (argument-at t) argument.Post
-argument-returns-2 t c = search slow-goes
+argument-returns-2 t c = search push-slow
 
--- src/lib.rt:176:1
-argument-same-length-4 : (t : ℕ) → argument-lts.Need-same-length-4 (
-  fast-value-reads.Asked,
-  fast-value-reads.Learnt,
-  push-word-reads.Asked,
-  push-word-reads.Learnt,
-  expression-below t,
-  expression.Post,
-  pack-reads.Asked,
-  pack-reads.Learnt,
-) (argument-at t) argument.Post
-argument-same-length-4 t c = search needs
-
--- src/lib.rt:176:1
-argument-same-length-5 : (t : ℕ) → argument-lts.Need-same-length-5 (
-  fast-value-reads.Asked,
-  fast-value-reads.Learnt,
-  push-word-reads.Asked,
-  push-word-reads.Learnt,
-  expression-below t,
-  expression.Post,
-  pack-reads.Asked,
-  pack-reads.Learnt,
-) (argument-at t) argument.Post
-argument-same-length-5 t c = search needs
-
--- src/lib.rt:176:1
-argument-returns-3 : (t : ℕ) → argument-lts.Need-returns-3 (
-  fast-value-reads.Asked,
-  fast-value-reads.Learnt,
-  push-word-reads.Asked,
-  push-word-reads.Learnt,
-  expression-below t,
-  expression.Post,
-  pack-reads.Asked,
-  pack-reads.Learnt,
-) (argument-at t) argument.Post
-argument-returns-3 t c = search slow-stops
-
--- src/lib.rt:781:50
+-- src/lib.rt:804:50
 bound-pack-requires : (t : ℕ) → bound-lts.Need-pack-requires (
   pack-reads.Asked,
   pack-reads.Learnt,
@@ -519,7 +425,7 @@ bound-pack-requires : (t : ℕ) → bound-lts.Need-pack-requires (
 ) (bound-at t) bound.Post
 bound-pack-requires t c κs = search needs
 
--- src/lib.rt:781:5
+-- src/lib.rt:804:5
 bound-set-variable-requires : (t : ℕ) → bound-lts.Need-set-variable-requires (
   pack-reads.Asked,
   pack-reads.Learnt,
@@ -530,7 +436,7 @@ bound-set-variable-requires : (t : ℕ) → bound-lts.Need-set-variable-requires
 ) (bound-at t) bound.Post
 bound-set-variable-requires t c κs = omega (arith, c .before .before .before .before .before .before .pre .1 .lent .lent .room .words)
 
--- src/lib.rt:782:9
+-- src/lib.rt:805:9
 bound-statement-requires : (t : ℕ) → bound-lts.Need-statement-requires (
   pack-reads.Asked,
   pack-reads.Learnt,
@@ -541,7 +447,7 @@ bound-statement-requires : (t : ℕ) → bound-lts.Need-statement-requires (
 ) (bound-at t) bound.Post
 bound-statement-requires t c κs = (omega arith, still-runs _ _ _ _ _ refl (let a0 = c .before .before .before .words in omega arith) _ _ (c .before .before .before .before .before .before .before .before .before .before .before .pre .1))
 
--- src/lib.rt:767:1
+-- src/lib.rt:789:1
 bound-same-length : (t : ℕ) → bound-lts.Need-same-length (
   pack-reads.Asked,
   pack-reads.Learnt,
@@ -552,7 +458,7 @@ bound-same-length : (t : ℕ) → bound-lts.Need-same-length (
 ) (bound-at t) bound.Post
 bound-same-length t c = search needs
 
--- src/lib.rt:767:1
+-- src/lib.rt:789:1
 bound-same-length-2 : (t : ℕ) → bound-lts.Need-same-length-2 (
   pack-reads.Asked,
   pack-reads.Learnt,
@@ -563,7 +469,7 @@ bound-same-length-2 : (t : ℕ) → bound-lts.Need-same-length-2 (
 ) (bound-at t) bound.Post
 bound-same-length-2 t c = search needs
 
--- src/lib.rt:767:1
+-- src/lib.rt:789:1
 bound-returns : (t : ℕ) → bound-lts.Need-returns (
   pack-reads.Asked,
   pack-reads.Learnt,
@@ -1016,7 +922,7 @@ call-callee-of-requires : (t : ℕ) → call-lts.Need-callee-of-requires (
 ) (call-at t) call.Post call-Inv-loop call-μ-loop
 call-callee-of-requires t c κs = search needs
 
--- src/lib.rt:158:13
+-- src/lib.rt:158:9
 call-invoke-requires : (t : ℕ) → call-lts.Need-invoke-requires (
   arguments-held-reads.Asked,
   arguments-held-reads.Learnt,
@@ -1039,7 +945,30 @@ call-invoke-requires : (t : ℕ) → call-lts.Need-invoke-requires (
 ) (call-at t) call.Post call-Inv-loop call-μ-loop
 call-invoke-requires t c κs = (omega arith, record { lent = record { lent = c .before .before .before .before .before .before .loop .inv .lent; deep = c .before .before .before .before .before .before .before .before .before .before .before .before .before .before .before .before .pre .1 .deep }; small = c .callee-of .ensures .1 })
 
--- src/lib.rt:169:9
+-- src/lib.rt:170:9
+call-called-requires : (t : ℕ) → call-lts.Need-called-requires (
+  arguments-held-reads.Asked,
+  arguments-held-reads.Learnt,
+  first-argument-reads.Asked,
+  first-argument-reads.Learnt,
+  word-at-reads.Asked,
+  word-at-reads.Learnt,
+  argument-root-reads.Asked,
+  argument-root-reads.Learnt,
+  argument-below t,
+  argument.Post,
+  library-of-reads.Asked,
+  library-of-reads.Learnt,
+  callee-of-reads.Asked,
+  callee-of-reads.Learnt,
+  invoke-below t,
+  invoke.Post,
+  called-reads.Asked,
+  called-reads.Learnt,
+) (call-at t) call.Post call-Inv-loop call-μ-loop
+call-called-requires t c κs = c .before .before .before .before .loop .inv .lent .room
+
+-- src/lib.rt:131:1
 call-same-length-3 : (t : ℕ) → call-lts.Need-same-length-3 (
   arguments-held-reads.Asked,
   arguments-held-reads.Learnt,
@@ -1062,7 +991,7 @@ call-same-length-3 : (t : ℕ) → call-lts.Need-same-length-3 (
 ) (call-at t) call.Post call-Inv-loop call-μ-loop
 call-same-length-3 t c = search needs
 
--- src/lib.rt:169:9
+-- src/lib.rt:131:1
 call-same-length-4 : (t : ℕ) → call-lts.Need-same-length-4 (
   arguments-held-reads.Asked,
   arguments-held-reads.Learnt,
@@ -1085,7 +1014,7 @@ call-same-length-4 : (t : ℕ) → call-lts.Need-same-length-4 (
 ) (call-at t) call.Post call-Inv-loop call-μ-loop
 call-same-length-4 t c = search needs
 
--- src/lib.rt:169:9
+-- src/lib.rt:131:1
 call-returns-2 : (t : ℕ) → call-lts.Need-returns-2 (
   arguments-held-reads.Asked,
   arguments-held-reads.Learnt,
@@ -1107,29 +1036,6 @@ call-returns-2 : (t : ℕ) → call-lts.Need-returns-2 (
   called-reads.Learnt,
 ) (call-at t) call.Post call-Inv-loop call-μ-loop
 call-returns-2 t c = search procedure-called
-
--- src/lib.rt:171:9
-call-called-requires : (t : ℕ) → call-lts.Need-called-requires (
-  arguments-held-reads.Asked,
-  arguments-held-reads.Learnt,
-  first-argument-reads.Asked,
-  first-argument-reads.Learnt,
-  word-at-reads.Asked,
-  word-at-reads.Learnt,
-  argument-root-reads.Asked,
-  argument-root-reads.Learnt,
-  argument-below t,
-  argument.Post,
-  library-of-reads.Asked,
-  library-of-reads.Learnt,
-  callee-of-reads.Asked,
-  callee-of-reads.Learnt,
-  invoke-below t,
-  invoke.Post,
-  called-reads.Asked,
-  called-reads.Learnt,
-) (call-at t) call.Post call-Inv-loop call-μ-loop
-call-called-requires t c κs = c .before .before .before .before .loop .inv .lent .room
 
 -- src/lib.rt:131:1
 call-same-length-5 : (t : ℕ) → call-lts.Need-same-length-5 (
@@ -1200,7 +1106,7 @@ call-returns-3 : (t : ℕ) → call-lts.Need-returns-3 (
 ) (call-at t) call.Post call-Inv-loop call-μ-loop
 call-returns-3 t c = search library-called
 
--- src/lib.rt:646:11
+-- src/lib.rt:665:11
 each-expression-requires : (t : ℕ) → each-lts.Need-expression-requires (
   expression-below t,
   expression.Post,
@@ -1211,7 +1117,7 @@ each-expression-requires : (t : ℕ) → each-lts.Need-expression-requires (
 ) (each-at t) each.Post
 each-expression-requires t c κs = (omega arith, c .before .before .before .before .before .before .pre .1 .lent)
 
--- src/lib.rt:647:22
+-- src/lib.rt:666:22
 each-enum-known-v : (t : ℕ) → each-lts.Need-enum-known-v (
   expression-below t,
   expression.Post,
@@ -1222,7 +1128,7 @@ each-enum-known-v : (t : ℕ) → each-lts.Need-enum-known-v (
 ) (each-at t) each.Post
 each-enum-known-v t c = search needs
 
--- src/lib.rt:648:26
+-- src/lib.rt:667:26
 each-enum-known-v-2 : (t : ℕ) → each-lts.Need-enum-known-v-2 (
   expression-below t,
   expression.Post,
@@ -1233,7 +1139,7 @@ each-enum-known-v-2 : (t : ℕ) → each-lts.Need-enum-known-v-2 (
 ) (each-at t) each.Post
 each-enum-known-v-2 t c = search needs
 
--- src/lib.rt:649:21
+-- src/lib.rt:668:21
 each-open-loop-requires : (t : ℕ) → each-lts.Need-open-loop-requires (
   expression-below t,
   expression.Post,
@@ -1244,7 +1150,7 @@ each-open-loop-requires : (t : ℕ) → each-lts.Need-open-loop-requires (
 ) (each-at t) each.Post
 each-open-loop-requires t c κs = let a0 = c .before .before .before .before .before .before .before .before .words in omega (arith, c .before .before .before .before .before .before .before .before .before .before .before .before .before .before .before .before .before .before .pre .1 .lent .lent .room .words)
 
--- src/lib.rt:651:21
+-- src/lib.rt:670:21
 each-same-length : (t : ℕ) → each-lts.Need-same-length (
   expression-below t,
   expression.Post,
@@ -1255,7 +1161,7 @@ each-same-length : (t : ℕ) → each-lts.Need-same-length (
 ) (each-at t) each.Post
 each-same-length t c = search needs
 
--- src/lib.rt:651:21
+-- src/lib.rt:670:21
 each-same-length-2 : (t : ℕ) → each-lts.Need-same-length-2 (
   expression-below t,
   expression.Post,
@@ -1266,7 +1172,7 @@ each-same-length-2 : (t : ℕ) → each-lts.Need-same-length-2 (
 ) (each-at t) each.Post
 each-same-length-2 t c = search needs
 
--- src/lib.rt:651:21
+-- src/lib.rt:670:21
 each-returns : (t : ℕ) → each-lts.Need-returns (
   expression-below t,
   expression.Post,
@@ -1277,7 +1183,7 @@ each-returns : (t : ℕ) → each-lts.Need-returns (
 ) (each-at t) each.Post
 each-returns t c = each-refused _ _ _ _ _ _ _ _ _ _ _ (c .before .before .before .before .before .before .before .before .before .before .before .before .before .before .before .expression .ensures) _ (c .before .before .before .before .before .before .before .before .before .v .given .1) _ (c .before .before .before .before .before .before .v2 .given .1) _ _ (c .before .before .before .open-loop .ensures) (c .if1 .taken)
 
--- src/lib.rt:653:78
+-- src/lib.rt:672:78
 each-add-own : (t : ℕ) → each-lts.Need-add-own (
   expression-below t,
   expression.Post,
@@ -1288,7 +1194,7 @@ each-add-own : (t : ℕ) → each-lts.Need-add-own (
 ) (each-at t) each.Post
 each-add-own t c = omega (arith, c .before .before .before .before .before .before .before .before .before .before .before .before .before .before .before .before .before .before .before .before .before .before .before .before .pre .1 .room)
 
--- src/lib.rt:653:21
+-- src/lib.rt:672:21
 each-own-requires : (t : ℕ) → each-lts.Need-own-requires (
   expression-below t,
   expression.Post,
@@ -1299,7 +1205,7 @@ each-own-requires : (t : ℕ) → each-lts.Need-own-requires (
 ) (each-at t) each.Post
 each-own-requires t c κs = (omega arith, still-runs _ _ _ _ _ (let a0 = c .before .before .before .before .before .before .before .before .before .before .before .before .before .before .before .before .texts in omega arith) (let a0 = c .before .before .before .before .before .before .before .before .before .before .before .before .before .before .words in let a1 = c .before .before .before .before .words2 in omega arith) _ _ (c .before .before .before .before .before .before .before .before .before .before .before .before .before .before .before .before .before .before .before .before .before .before .before .before .pre .1))
 
--- src/lib.rt:658:21
+-- src/lib.rt:677:21
 each-enum-known-n : (t : ℕ) → each-lts.Need-enum-known-n (
   expression-below t,
   expression.Post,
@@ -1310,7 +1216,7 @@ each-enum-known-n : (t : ℕ) → each-lts.Need-enum-known-n (
 ) (each-at t) each.Post
 each-enum-known-n t c = search needs
 
--- src/lib.rt:631:1
+-- src/lib.rt:650:1
 each-same-length-3 : (t : ℕ) → each-lts.Need-same-length-3 (
   expression-below t,
   expression.Post,
@@ -1321,7 +1227,7 @@ each-same-length-3 : (t : ℕ) → each-lts.Need-same-length-3 (
 ) (each-at t) each.Post
 each-same-length-3 t c = search needs
 
--- src/lib.rt:631:1
+-- src/lib.rt:650:1
 each-same-length-4 : (t : ℕ) → each-lts.Need-same-length-4 (
   expression-below t,
   expression.Post,
@@ -1332,7 +1238,7 @@ each-same-length-4 : (t : ℕ) → each-lts.Need-same-length-4 (
 ) (each-at t) each.Post
 each-same-length-4 t c = search needs
 
--- src/lib.rt:631:1
+-- src/lib.rt:650:1
 each-returns-2 : (t : ℕ) → each-lts.Need-returns-2 (
   expression-below t,
   expression.Post,
@@ -1343,7 +1249,7 @@ each-returns-2 : (t : ℕ) → each-lts.Need-returns-2 (
 ) (each-at t) each.Post
 each-returns-2 t c = each-runs _ _ _ _ _ _ _ _ _ _ _ (c .before .before .before .before .before .before .before .before .before .before .before .before .before .before .before .before .before .before .before .before .before .before .expression .ensures) _ (c .before .before .before .before .before .before .before .before .before .before .before .before .before .before .before .before .v .given .1) _ (c .before .before .before .before .before .before .before .before .before .before .before .before .before .v2 .given .1) _ _ (c .before .before .before .before .before .before .before .before .before .before .open-loop .ensures) _ (c .before .before .before .before .before .before .before .if1 .left) (c .before .before .before .before .own .ensures)
 
--- src/lib.rt:631:1
+-- src/lib.rt:650:1
 each-same-length-5 : (t : ℕ) → each-lts.Need-same-length-5 (
   expression-below t,
   expression.Post,
@@ -1354,7 +1260,7 @@ each-same-length-5 : (t : ℕ) → each-lts.Need-same-length-5 (
 ) (each-at t) each.Post
 each-same-length-5 t c = search needs
 
--- src/lib.rt:631:1
+-- src/lib.rt:650:1
 each-same-length-6 : (t : ℕ) → each-lts.Need-same-length-6 (
   expression-below t,
   expression.Post,
@@ -1365,7 +1271,7 @@ each-same-length-6 : (t : ℕ) → each-lts.Need-same-length-6 (
 ) (each-at t) each.Post
 each-same-length-6 t c = search needs
 
--- src/lib.rt:631:1
+-- src/lib.rt:650:1
 each-returns-3 : (t : ℕ) → each-lts.Need-returns-3 (
   expression-below t,
   expression.Post,
@@ -1376,7 +1282,7 @@ each-returns-3 : (t : ℕ) → each-lts.Need-returns-3 (
 ) (each-at t) each.Post
 each-returns-3 t c = each-other _ _ _ _ _ _ _ _ _ _ _ (c .before .before .before .before .before .before .before .before .expression .ensures) _ (c .before .before .v .given .1) (c .match2 .keys2)
 
--- src/lib.rt:631:1
+-- src/lib.rt:650:1
 each-same-length-7 : (t : ℕ) → each-lts.Need-same-length-7 (
   expression-below t,
   expression.Post,
@@ -1387,7 +1293,7 @@ each-same-length-7 : (t : ℕ) → each-lts.Need-same-length-7 (
 ) (each-at t) each.Post
 each-same-length-7 t c = search needs
 
--- src/lib.rt:631:1
+-- src/lib.rt:650:1
 each-same-length-8 : (t : ℕ) → each-lts.Need-same-length-8 (
   expression-below t,
   expression.Post,
@@ -1398,7 +1304,7 @@ each-same-length-8 : (t : ℕ) → each-lts.Need-same-length-8 (
 ) (each-at t) each.Post
 each-same-length-8 t c = search needs
 
--- src/lib.rt:631:1
+-- src/lib.rt:650:1
 each-returns-4 : (t : ℕ) → each-lts.Need-returns-4 (
   expression-below t,
   expression.Post,
@@ -1908,7 +1814,7 @@ inside-Inv-loop program code grants texts₀ words₀ fuel slot b p end c found�
 abbrev inside-μ-loop : inside-lts.MeasureT-loop
 inside-μ-loop program code grants texts₀ words₀ fuel slot b p end c found₀ turns₀ texts words found turns = turns
 
--- src/lib.rt:745:9
+-- src/lib.rt:767:9
 inside-look-in-requires : (t : ℕ) → inside-lts.Need-look-in-requires (
   look-in-reads.Asked,
   look-in-reads.Learnt,
@@ -1923,7 +1829,7 @@ inside-look-in-requires : (t : ℕ) → inside-lts.Need-look-in-requires (
 ) (inside-at t) inside.Post inside-Inv-loop inside-μ-loop
 inside-look-in-requires t c κs = c .before .before .before .before .before .pre .1 .lent .lent .room
 
--- src/lib.rt:746:21
+-- src/lib.rt:768:21
 inside-element-copy-out-turns : (t : ℕ) → inside-lts.Need-element-copy-out-turns (
   look-in-reads.Asked,
   look-in-reads.Learnt,
@@ -1938,7 +1844,7 @@ inside-element-copy-out-turns : (t : ℕ) → inside-lts.Need-element-copy-out-t
 ) (inside-at t) inside.Post inside-Inv-loop inside-μ-loop
 inside-element-copy-out-turns t c = search needs
 
--- src/lib.rt:746:21
+-- src/lib.rt:768:21
 inside-add-turns : (t : ℕ) → inside-lts.Need-add-turns (
   look-in-reads.Asked,
   look-in-reads.Learnt,
@@ -1953,7 +1859,7 @@ inside-add-turns : (t : ℕ) → inside-lts.Need-add-turns (
 ) (inside-at t) inside.Post inside-Inv-loop inside-μ-loop
 inside-add-turns t c = omega (arith, c .before .before .before .before .before .before .before .before .before .pre .1 .lent .lent .room .steps)
 
--- src/lib.rt:747:5
+-- src/lib.rt:769:5
 inside-loop-holds : (t : ℕ) → inside-lts.Need-loop-holds (
   look-in-reads.Asked,
   look-in-reads.Learnt,
@@ -1968,7 +1874,7 @@ inside-loop-holds : (t : ℕ) → inside-lts.Need-loop-holds (
 ) (inside-at t) inside.Post inside-Inv-loop inside-μ-loop
 inside-loop-holds t c = turns-first _ _ _ _ _ _ _ _ _ _ _ (still-runs _ _ _ _ _ refl (let a0 = c .before .before .words in omega arith) _ _ (c .before .before .before .before .before .before .before .before .before .pre .1))
 
--- src/lib.rt:748:9
+-- src/lib.rt:770:9
 inside-sub-turns : (t : ℕ) → inside-lts.Need-sub-turns (
   look-in-reads.Asked,
   look-in-reads.Learnt,
@@ -1983,7 +1889,7 @@ inside-sub-turns : (t : ℕ) → inside-lts.Need-sub-turns (
 ) (inside-at t) inside.Post inside-Inv-loop inside-μ-loop
 inside-sub-turns t c = search needs
 
--- src/lib.rt:750:13
+-- src/lib.rt:772:13
 inside-same-length : (t : ℕ) → inside-lts.Need-same-length (
   look-in-reads.Asked,
   look-in-reads.Learnt,
@@ -1998,7 +1904,7 @@ inside-same-length : (t : ℕ) → inside-lts.Need-same-length (
 ) (inside-at t) inside.Post inside-Inv-loop inside-μ-loop
 inside-same-length t c = search needs
 
--- src/lib.rt:750:13
+-- src/lib.rt:772:13
 inside-same-length-2 : (t : ℕ) → inside-lts.Need-same-length-2 (
   look-in-reads.Asked,
   look-in-reads.Learnt,
@@ -2013,7 +1919,7 @@ inside-same-length-2 : (t : ℕ) → inside-lts.Need-same-length-2 (
 ) (inside-at t) inside.Post inside-Inv-loop inside-μ-loop
 inside-same-length-2 t c = search needs
 
--- src/lib.rt:750:13
+-- src/lib.rt:772:13
 inside-returns : (t : ℕ) → inside-lts.Need-returns (
   look-in-reads.Asked,
   look-in-reads.Learnt,
@@ -2028,7 +1934,7 @@ inside-returns : (t : ℕ) → inside-lts.Need-returns (
 ) (inside-at t) inside.Post inside-Inv-loop inside-μ-loop
 inside-returns t c = looked-in _ _ _ _ _ _ _ _ _ _ _ (c .before .before .before .before .before .before .look-in .ensures) (turns-done _ _ _ _ _ _ _ _ _ _ _ _ _ _ _ (c .before .before .loop .inv) (c .before .loop-test .taken) (c .if1 .taken))
 
--- src/lib.rt:752:65
+-- src/lib.rt:774:65
 inside-sub-component-at : (t : ℕ) → inside-lts.Need-sub-component-at (
   look-in-reads.Asked,
   look-in-reads.Learnt,
@@ -2043,7 +1949,7 @@ inside-sub-component-at : (t : ℕ) → inside-lts.Need-sub-component-at (
 ) (inside-at t) inside.Post inside-Inv-loop inside-μ-loop
 inside-sub-component-at t c = omega (arith, c .before .if1 .left)
 
--- src/lib.rt:752:13
+-- src/lib.rt:774:13
 inside-component-at-requires : (t : ℕ) → inside-lts.Need-component-at-requires (
   look-in-reads.Asked,
   look-in-reads.Learnt,
@@ -2058,7 +1964,7 @@ inside-component-at-requires : (t : ℕ) → inside-lts.Need-component-at-requir
 ) (inside-at t) inside.Post inside-Inv-loop inside-μ-loop
 inside-component-at-requires t c κs = c .before .before .before .loop .inv .runs .lent .lent .room
 
--- src/lib.rt:753:15
+-- src/lib.rt:775:15
 inside-bound-requires : (t : ℕ) → inside-lts.Need-bound-requires (
   look-in-reads.Asked,
   look-in-reads.Learnt,
@@ -2087,7 +1993,7 @@ inside-enum-told : (t : ℕ) → inside-lts.Need-enum-told (
 ) (inside-at t) inside.Post inside-Inv-loop inside-μ-loop
 inside-enum-told t c = search needs
 
--- src/lib.rt:755:28
+-- src/lib.rt:777:28
 inside-enum-known-v : (t : ℕ) → inside-lts.Need-enum-known-v (
   look-in-reads.Asked,
   look-in-reads.Learnt,
@@ -2102,7 +2008,7 @@ inside-enum-known-v : (t : ℕ) → inside-lts.Need-enum-known-v (
 ) (inside-at t) inside.Post inside-Inv-loop inside-μ-loop
 inside-enum-known-v t c = search needs
 
--- src/lib.rt:756:17
+-- src/lib.rt:778:17
 inside-unmark-below-requires : (t : ℕ) → inside-lts.Need-unmark-below-requires (
   look-in-reads.Asked,
   look-in-reads.Learnt,
@@ -2117,7 +2023,7 @@ inside-unmark-below-requires : (t : ℕ) → inside-lts.Need-unmark-below-requir
 ) (inside-at t) inside.Post inside-Inv-loop inside-μ-loop
 inside-unmark-below-requires t c κs = still-room _ _ _ _ _ (c .before .before .before .before .before .before .before .before .before .before .before .before .before .before .before .loop .inv .runs .lent) (let a0 = c .before .before .before .before .before .words2 in omega arith)
 
--- src/lib.rt:757:17
+-- src/lib.rt:779:17
 inside-same-length-3 : (t : ℕ) → inside-lts.Need-same-length-3 (
   look-in-reads.Asked,
   look-in-reads.Learnt,
@@ -2132,7 +2038,7 @@ inside-same-length-3 : (t : ℕ) → inside-lts.Need-same-length-3 (
 ) (inside-at t) inside.Post inside-Inv-loop inside-μ-loop
 inside-same-length-3 t c = search needs
 
--- src/lib.rt:757:17
+-- src/lib.rt:779:17
 inside-same-length-4 : (t : ℕ) → inside-lts.Need-same-length-4 (
   look-in-reads.Asked,
   look-in-reads.Learnt,
@@ -2147,7 +2053,7 @@ inside-same-length-4 : (t : ℕ) → inside-lts.Need-same-length-4 (
 ) (inside-at t) inside.Post inside-Inv-loop inside-μ-loop
 inside-same-length-4 t c = search needs
 
--- src/lib.rt:757:17
+-- src/lib.rt:779:17
 inside-returns-2 : (t : ℕ) → inside-lts.Need-returns-2 (
   look-in-reads.Asked,
   look-in-reads.Learnt,
@@ -2162,7 +2068,7 @@ inside-returns-2 : (t : ℕ) → inside-lts.Need-returns-2 (
 ) (inside-at t) inside.Post inside-Inv-loop inside-μ-loop
 inside-returns-2 t c = looked-in _ _ _ _ _ _ _ _ _ _ _ (c .before .before .before .before .before .before .before .before .before .before .before .before .before .before .before .before .before .before .before .before .before .before .look-in .ensures) (turn-returns _ _ _ _ _ _ _ _ _ _ _ _ _ _ _ (c .before .before .before .before .before .before .before .before .before .before .before .before .before .before .before .before .before .before .loop .inv) (c .before .before .before .before .before .before .before .before .before .before .before .before .before .before .before .before .before .loop-test .taken) (c .before .before .before .before .before .before .before .before .before .before .before .before .before .before .before .before .if1 .left) _ (c .before .before .before .before .before .before .before .before .before .before .before .before .before .before .component-at .ensures) _ _ _ (c .before .before .before .before .before .before .before .before .before .before .before .bound .ensures) _ _ (c .before .before .before .before .before .v .given .1) (c .before .before .unmark-below .ensures))
 
--- src/lib.rt:759:27
+-- src/lib.rt:781:27
 inside-enum-known-n : (t : ℕ) → inside-lts.Need-enum-known-n (
   look-in-reads.Asked,
   look-in-reads.Learnt,
@@ -2177,7 +2083,7 @@ inside-enum-known-n : (t : ℕ) → inside-lts.Need-enum-known-n (
 ) (inside-at t) inside.Post inside-Inv-loop inside-μ-loop
 inside-enum-known-n t c = search needs
 
--- src/lib.rt:759:36
+-- src/lib.rt:781:36
 inside-same-length-5 : (t : ℕ) → inside-lts.Need-same-length-5 (
   look-in-reads.Asked,
   look-in-reads.Learnt,
@@ -2192,7 +2098,7 @@ inside-same-length-5 : (t : ℕ) → inside-lts.Need-same-length-5 (
 ) (inside-at t) inside.Post inside-Inv-loop inside-μ-loop
 inside-same-length-5 t c = search needs
 
--- src/lib.rt:759:36
+-- src/lib.rt:781:36
 inside-same-length-6 : (t : ℕ) → inside-lts.Need-same-length-6 (
   look-in-reads.Asked,
   look-in-reads.Learnt,
@@ -2207,7 +2113,7 @@ inside-same-length-6 : (t : ℕ) → inside-lts.Need-same-length-6 (
 ) (inside-at t) inside.Post inside-Inv-loop inside-μ-loop
 inside-same-length-6 t c = search needs
 
--- src/lib.rt:759:36
+-- src/lib.rt:781:36
 inside-returns-3 : (t : ℕ) → inside-lts.Need-returns-3 (
   look-in-reads.Asked,
   look-in-reads.Learnt,
@@ -2222,7 +2128,7 @@ inside-returns-3 : (t : ℕ) → inside-lts.Need-returns-3 (
 ) (inside-at t) inside.Post inside-Inv-loop inside-μ-loop
 inside-returns-3 t c = looked-in _ _ _ _ _ _ _ _ _ _ _ (c .before .before .before .before .before .before .before .before .before .before .before .before .before .before .before .before .before .before .look-in .ensures) (turn-fails _ _ _ _ _ _ _ _ _ _ _ _ _ _ _ (c .before .before .before .before .before .before .before .before .before .before .before .before .before .before .loop .inv) (c .before .before .before .before .before .before .before .before .before .before .before .before .before .loop-test .taken) (c .before .before .before .before .before .before .before .before .before .before .before .before .if1 .left) _ (c .before .before .before .before .before .before .before .before .before .before .component-at .ensures) _ _ _ (c .before .before .before .before .before .before .before .bound .ensures) _ _ (c .before .n .given .1))
 
--- src/lib.rt:761:66
+-- src/lib.rt:783:66
 inside-sub-look-behind : (t : ℕ) → inside-lts.Need-sub-look-behind (
   look-in-reads.Asked,
   look-in-reads.Learnt,
@@ -2237,7 +2143,7 @@ inside-sub-look-behind : (t : ℕ) → inside-lts.Need-sub-look-behind (
 ) (inside-at t) inside.Post inside-Inv-loop inside-μ-loop
 inside-sub-look-behind t c = omega (arith, c .before .before .before .before .before .before .before .before .before .before .before .before .if1 .left)
 
--- src/lib.rt:761:9
+-- src/lib.rt:783:9
 inside-look-behind-requires : (t : ℕ) → inside-lts.Need-look-behind-requires (
   look-in-reads.Asked,
   look-in-reads.Learnt,
@@ -2252,7 +2158,7 @@ inside-look-behind-requires : (t : ℕ) → inside-lts.Need-look-behind-requires
 ) (inside-at t) inside.Post inside-Inv-loop inside-μ-loop
 inside-look-behind-requires t c κs = still-room _ _ _ _ _ (c .before .before .before .before .before .before .before .before .before .before .before .before .before .before .loop .inv .runs .lent) (let a0 = c .before .before .before .before .words2 in omega arith)
 
--- src/lib.rt:747:5
+-- src/lib.rt:769:5
 inside-loop-less : (t : ℕ) → inside-lts.Need-loop-less (
   look-in-reads.Asked,
   look-in-reads.Learnt,
@@ -2267,7 +2173,7 @@ inside-loop-less : (t : ℕ) → inside-lts.Need-loop-less (
 ) (inside-at t) inside.Post inside-Inv-loop inside-μ-loop
 inside-loop-less t c = omega arith
 
--- src/lib.rt:747:5
+-- src/lib.rt:769:5
 inside-loop-again : (t : ℕ) → inside-lts.Need-loop-again (
   look-in-reads.Asked,
   look-in-reads.Learnt,
@@ -2282,7 +2188,7 @@ inside-loop-again : (t : ℕ) → inside-lts.Need-loop-again (
 ) (inside-at t) inside.Post inside-Inv-loop inside-μ-loop
 inside-loop-again t c = turn-again _ _ _ _ _ _ _ _ _ _ _ _ _ _ _ (c .before .before .before .before .before .before .before .before .before .before .before .before .before .before .before .before .before .loop .inv) (c .before .before .before .before .before .before .before .before .before .before .before .before .before .before .before .before .loop-test .taken) (c .before .before .before .before .before .before .before .before .before .before .before .before .before .before .before .if1 .left) _ (c .before .before .before .before .before .before .before .before .before .before .before .before .before .component-at .ensures) _ _ _ (c .before .before .before .before .before .before .before .before .before .before .bound .ensures) _ _ (c .before .before .before .before .enum-told .given .1) (c .before .before .look-behind .ensures) (let a0 = c .before .before .before .before .before .before .before .before .before .texts in omega arith) (let a0 = c .before .before .before .before .before .before .before .words2 in let a1 = c .before .words4 in omega arith)
 
--- src/lib.rt:729:1
+-- src/lib.rt:750:1
 inside-same-length-7 : (t : ℕ) → inside-lts.Need-same-length-7 (
   look-in-reads.Asked,
   look-in-reads.Learnt,
@@ -2297,7 +2203,7 @@ inside-same-length-7 : (t : ℕ) → inside-lts.Need-same-length-7 (
 ) (inside-at t) inside.Post inside-Inv-loop inside-μ-loop
 inside-same-length-7 t c = search needs
 
--- src/lib.rt:729:1
+-- src/lib.rt:750:1
 inside-same-length-8 : (t : ℕ) → inside-lts.Need-same-length-8 (
   look-in-reads.Asked,
   look-in-reads.Learnt,
@@ -2312,7 +2218,7 @@ inside-same-length-8 : (t : ℕ) → inside-lts.Need-same-length-8 (
 ) (inside-at t) inside.Post inside-Inv-loop inside-μ-loop
 inside-same-length-8 t c = search needs
 
--- src/lib.rt:729:1
+-- src/lib.rt:750:1
 inside-returns-4 : (t : ℕ) → inside-lts.Need-returns-4 (
   look-in-reads.Asked,
   look-in-reads.Learnt,
@@ -2327,7 +2233,7 @@ inside-returns-4 : (t : ℕ) → inside-lts.Need-returns-4 (
 ) (inside-at t) inside.Post inside-Inv-loop inside-μ-loop
 inside-returns-4 t c = looked-in _ _ _ _ _ _ _ _ _ _ _ (c .before .before .before .before .before .look-in .ensures) (turns-short _ _ _ _ _ _ _ _ _ _ _ _ _ _ _ (c .before .loop .inv) (omega arith))
 
--- src/lib.rt:220:15
+-- src/lib.rt:239:15
 invoke-arguments-held-requires : (t : ℕ) → invoke-lts.Need-arguments-held-requires (
   arguments-held-reads.Asked,
   arguments-held-reads.Learnt,
@@ -2356,7 +2262,7 @@ invoke-arguments-held-requires : (t : ℕ) → invoke-lts.Need-arguments-held-re
 ) (invoke-at t) invoke.Post
 invoke-arguments-held-requires t c κs = omega (arith, c .before .before .before .before .before .pre .1 .lent .lent .room .words)
 
--- src/lib.rt:221:9
+-- src/lib.rt:240:9
 invoke-declared-count-requires : (t : ℕ) → invoke-lts.Need-declared-count-requires (
   arguments-held-reads.Asked,
   arguments-held-reads.Learnt,
@@ -2385,7 +2291,7 @@ invoke-declared-count-requires : (t : ℕ) → invoke-lts.Need-declared-count-re
 ) (invoke-at t) invoke.Post
 invoke-declared-count-requires t c κs = omega (arith, c .before .before .before .before .before .before .before .pre .1 .lent .lent .room .words)
 
--- src/lib.rt:222:9
+-- src/lib.rt:241:9
 invoke-running-requires : (t : ℕ) → invoke-lts.Need-running-requires (
   arguments-held-reads.Asked,
   arguments-held-reads.Learnt,
@@ -2414,7 +2320,7 @@ invoke-running-requires : (t : ℕ) → invoke-lts.Need-running-requires (
 ) (invoke-at t) invoke.Post
 invoke-running-requires t c κs = omega (arith, c .before .before .before .before .before .before .before .before .before .pre .1 .lent .lent .room .words)
 
--- src/lib.rt:223:9
+-- src/lib.rt:242:9
 invoke-loop-unit-requires : (t : ℕ) → invoke-lts.Need-loop-unit-requires (
   arguments-held-reads.Asked,
   arguments-held-reads.Learnt,
@@ -2443,7 +2349,7 @@ invoke-loop-unit-requires : (t : ℕ) → invoke-lts.Need-loop-unit-requires (
 ) (invoke-at t) invoke.Post
 invoke-loop-unit-requires t c κs = omega (arith, c .before .before .before .before .before .before .before .before .before .before .before .pre .1 .lent .lent .room .words)
 
--- src/lib.rt:224:11
+-- src/lib.rt:243:11
 invoke-begin-requires : (t : ℕ) → invoke-lts.Need-begin-requires (
   arguments-held-reads.Asked,
   arguments-held-reads.Learnt,
@@ -2500,7 +2406,7 @@ invoke-enum-told : (t : ℕ) → invoke-lts.Need-enum-told (
 ) (invoke-at t) invoke.Post
 invoke-enum-told t c = search needs
 
--- src/lib.rt:226:21
+-- src/lib.rt:245:21
 invoke-enum-known-k : (t : ℕ) → invoke-lts.Need-enum-known-k (
   arguments-held-reads.Asked,
   arguments-held-reads.Learnt,
@@ -2529,7 +2435,7 @@ invoke-enum-known-k : (t : ℕ) → invoke-lts.Need-enum-known-k (
 ) (invoke-at t) invoke.Post
 invoke-enum-known-k t c = search needs
 
--- src/lib.rt:226:30
+-- src/lib.rt:245:30
 invoke-same-length : (t : ℕ) → invoke-lts.Need-same-length (
   arguments-held-reads.Asked,
   arguments-held-reads.Learnt,
@@ -2558,7 +2464,7 @@ invoke-same-length : (t : ℕ) → invoke-lts.Need-same-length (
 ) (invoke-at t) invoke.Post
 invoke-same-length t c = search needs
 
--- src/lib.rt:226:30
+-- src/lib.rt:245:30
 invoke-returns : (t : ℕ) → invoke-lts.Need-returns (
   arguments-held-reads.Asked,
   arguments-held-reads.Learnt,
@@ -2587,7 +2493,7 @@ invoke-returns : (t : ℕ) → invoke-lts.Need-returns (
 ) (invoke-at t) invoke.Post
 invoke-returns t c = begin-stops _ _ _ _ _ _ _ _ _ _ _ _ _ (c .before .before .before .before .before .before .before .before .before .before .before .before .before .arguments-held .ensures) (c .before .before .before .before .before .before .before .before .before .before .before .declared-count .ensures) (c .before .before .before .before .before .before .before .before .before .running .ensures) (c .before .before .before .before .before .before .before .loop-unit .ensures) _ _ (c .before .before .before .before .before .begin .ensures) _ _ (c .before .k .given .1)
 
--- src/lib.rt:228:42
+-- src/lib.rt:247:42
 invoke-table-place-requires : (t : ℕ) → invoke-lts.Need-table-place-requires (
   arguments-held-reads.Asked,
   arguments-held-reads.Learnt,
@@ -2616,7 +2522,7 @@ invoke-table-place-requires : (t : ℕ) → invoke-lts.Need-table-place-requires
 ) (invoke-at t) invoke.Post
 invoke-table-place-requires t c κs = search needs
 
--- src/lib.rt:228:9
+-- src/lib.rt:247:9
 invoke-word-at-requires : (t : ℕ) → invoke-lts.Need-word-at-requires (
   arguments-held-reads.Asked,
   arguments-held-reads.Learnt,
@@ -2645,7 +2551,7 @@ invoke-word-at-requires : (t : ℕ) → invoke-lts.Need-word-at-requires (
 ) (invoke-at t) invoke.Post
 invoke-word-at-requires t c κs = search needs
 
--- src/lib.rt:229:13
+-- src/lib.rt:248:13
 invoke-start-of-requires : (t : ℕ) → invoke-lts.Need-start-of-requires (
   arguments-held-reads.Asked,
   arguments-held-reads.Learnt,
@@ -2674,7 +2580,7 @@ invoke-start-of-requires : (t : ℕ) → invoke-lts.Need-start-of-requires (
 ) (invoke-at t) invoke.Post
 invoke-start-of-requires t c κs = search needs
 
--- src/lib.rt:229:33
+-- src/lib.rt:248:33
 invoke-parameters-of-requires : (t : ℕ) → invoke-lts.Need-parameters-of-requires (
   arguments-held-reads.Asked,
   arguments-held-reads.Learnt,
@@ -2703,7 +2609,7 @@ invoke-parameters-of-requires : (t : ℕ) → invoke-lts.Need-parameters-of-requ
 ) (invoke-at t) invoke.Post
 invoke-parameters-of-requires t c κs = search needs
 
--- src/lib.rt:229:13
+-- src/lib.rt:248:13
 invoke-add-a : (t : ℕ) → invoke-lts.Need-add-a (
   arguments-held-reads.Asked,
   arguments-held-reads.Learnt,
@@ -2732,7 +2638,7 @@ invoke-add-a : (t : ℕ) → invoke-lts.Need-add-a (
 ) (invoke-at t) invoke.Post
 invoke-add-a t c = omega (arith, c .before .start-of .ensures .1, c .parameters-of .ensures .1)
 
--- src/lib.rt:230:9
+-- src/lib.rt:249:9
 invoke-body-of-requires : (t : ℕ) → invoke-lts.Need-body-of-requires (
   arguments-held-reads.Asked,
   arguments-held-reads.Learnt,
@@ -2761,7 +2667,7 @@ invoke-body-of-requires : (t : ℕ) → invoke-lts.Need-body-of-requires (
 ) (invoke-at t) invoke.Post
 invoke-body-of-requires t c κs = search needs
 
--- src/lib.rt:239:9
+-- src/lib.rt:258:9
 invoke-add-procedure : (t : ℕ) → invoke-lts.Need-add-procedure (
   arguments-held-reads.Asked,
   arguments-held-reads.Learnt,
@@ -2790,7 +2696,7 @@ invoke-add-procedure : (t : ℕ) → invoke-lts.Need-add-procedure (
 ) (invoke-at t) invoke.Post
 invoke-add-procedure t c = omega (arith, c .before .before .before .before .start-of .ensures .1, c .before .before .before .parameters-of .ensures .1, c .before .before .body-of .ensures .1)
 
--- src/lib.rt:240:9
+-- src/lib.rt:259:9
 invoke-add-procedure-2 : (t : ℕ) → invoke-lts.Need-add-procedure-2 (
   arguments-held-reads.Asked,
   arguments-held-reads.Learnt,
@@ -2819,7 +2725,7 @@ invoke-add-procedure-2 : (t : ℕ) → invoke-lts.Need-add-procedure-2 (
 ) (invoke-at t) invoke.Post
 invoke-add-procedure-2 t c = omega (arith, c .before .before .before .before .start-of .ensures .1, c .before .before .before .parameters-of .ensures .1, c .before .before .body-of .ensures .1)
 
--- src/lib.rt:231:11
+-- src/lib.rt:250:11
 invoke-procedure-requires : (t : ℕ) → invoke-lts.Need-procedure-requires (
   arguments-held-reads.Asked,
   arguments-held-reads.Learnt,
@@ -2848,7 +2754,7 @@ invoke-procedure-requires : (t : ℕ) → invoke-lts.Need-procedure-requires (
 ) (invoke-at t) invoke.Post
 invoke-procedure-requires t c κs = (omega arith, record { lent = record { lent = still-lent-words _ _ _ _ (c .before .before .before .before .before .before .before .before .before .before .before .before .before .before .before .before .before .before .before .before .before .before .before .before .before .pre .1 .lent .lent) (let a0 = c .before .before .before .before .before .before .before .before .before .before .words in omega arith); deep = c .before .before .before .before .before .before .before .before .before .before .before .before .before .before .before .before .before .before .before .before .before .before .before .before .before .pre .1 .lent .deep }; room = omega (arith, c .before .before .before .before .before .before .before .before .before .before .before .before .before .before .before .before .before .before .before .before .before .before .before .before .before .pre .1 .lent .deep, c .before .before .before .before .start-of .ensures .1, c .before .before .before .parameters-of .ensures .1, c .before .before .body-of .ensures .1) })
 
--- src/lib.rt:242:22
+-- src/lib.rt:261:22
 invoke-enum-known-v : (t : ℕ) → invoke-lts.Need-enum-known-v (
   arguments-held-reads.Asked,
   arguments-held-reads.Learnt,
@@ -2877,7 +2783,7 @@ invoke-enum-known-v : (t : ℕ) → invoke-lts.Need-enum-known-v (
 ) (invoke-at t) invoke.Post
 invoke-enum-known-v t c = search needs
 
--- src/lib.rt:243:13
+-- src/lib.rt:262:13
 invoke-resume-requires : (t : ℕ) → invoke-lts.Need-resume-requires (
   arguments-held-reads.Asked,
   arguments-held-reads.Learnt,
@@ -2906,7 +2812,7 @@ invoke-resume-requires : (t : ℕ) → invoke-lts.Need-resume-requires (
 ) (invoke-at t) invoke.Post
 invoke-resume-requires t c κs = let a0 = c .before .before .before .before .before .before .before .before .before .before .before .before .before .before .before .before .before .before .before .words in let a1 = c .before .before .before .before .before .words2 in omega (arith, c .before .before .before .before .before .before .before .before .before .before .before .before .before .before .before .before .before .before .before .before .before .before .before .before .before .before .before .before .before .before .before .before .before .before .pre .1 .lent .lent .room .words)
 
--- src/lib.rt:246:21
+-- src/lib.rt:265:21
 invoke-enum-known-k-2 : (t : ℕ) → invoke-lts.Need-enum-known-k-2 (
   arguments-held-reads.Asked,
   arguments-held-reads.Learnt,
@@ -2935,7 +2841,7 @@ invoke-enum-known-k-2 : (t : ℕ) → invoke-lts.Need-enum-known-k-2 (
 ) (invoke-at t) invoke.Post
 invoke-enum-known-k-2 t c = search needs
 
--- src/lib.rt:205:1
+-- src/lib.rt:224:1
 invoke-same-length-2 : (t : ℕ) → invoke-lts.Need-same-length-2 (
   arguments-held-reads.Asked,
   arguments-held-reads.Learnt,
@@ -2964,7 +2870,7 @@ invoke-same-length-2 : (t : ℕ) → invoke-lts.Need-same-length-2 (
 ) (invoke-at t) invoke.Post
 invoke-same-length-2 t c = search needs
 
--- src/lib.rt:205:1
+-- src/lib.rt:224:1
 invoke-same-length-3 : (t : ℕ) → invoke-lts.Need-same-length-3 (
   arguments-held-reads.Asked,
   arguments-held-reads.Learnt,
@@ -2993,7 +2899,7 @@ invoke-same-length-3 : (t : ℕ) → invoke-lts.Need-same-length-3 (
 ) (invoke-at t) invoke.Post
 invoke-same-length-3 t c = search needs
 
--- src/lib.rt:205:1
+-- src/lib.rt:224:1
 invoke-returns-2 : (t : ℕ) → invoke-lts.Need-returns-2 (
   arguments-held-reads.Asked,
   arguments-held-reads.Learnt,
@@ -3022,7 +2928,7 @@ invoke-returns-2 : (t : ℕ) → invoke-lts.Need-returns-2 (
 ) (invoke-at t) invoke.Post
 invoke-returns-2 t c = gives-value _ _ _ _ _ _ _ _ _ _ _ _ _ (c .before .before .before .before .before .before .before .before .before .before .before .before .before .before .before .before .before .before .before .before .before .before .before .before .before .before .before .before .before .before .before .arguments-held .ensures) (c .before .before .before .before .before .before .before .before .before .before .before .before .before .before .before .before .before .before .before .before .before .before .before .before .before .before .before .before .before .declared-count .ensures) (c .before .before .before .before .before .before .before .before .before .before .before .before .before .before .before .before .before .before .before .before .before .before .before .before .before .before .before .running .ensures) (c .before .before .before .before .before .before .before .before .before .before .before .before .before .before .before .before .before .before .before .before .before .before .before .before .before .loop-unit .ensures) _ _ (c .before .before .before .before .before .before .before .before .before .before .before .before .before .before .before .before .before .before .before .before .before .before .before .begin .ensures) _ (c .before .before .before .before .before .before .before .before .before .before .before .before .before .before .before .before .before .before .before .enum-told .given .1) _ _ _ _ _ _ (c .before .before .before .before .before .before .before .before .before .before .before .before .before .before .before .before .before .before .table-place .ensures) (c .before .before .before .before .before .before .before .before .before .before .before .before .before .before .before .before .before .word-at .ensures) (c .before .before .before .before .before .before .before .before .before .before .before .before .before .before .before .before .start-of .ensures .0) (c .before .before .before .before .before .before .before .before .before .before .before .before .before .before .before .parameters-of .ensures .0) refl (c .before .before .before .before .before .before .before .before .before .before .before .before .before .before .body-of .ensures .0) _ _ _ (c .before .before .before .before .before .before .before .before .before .before .before .procedure .ensures) _ _ (c .before .before .resume .ensures) (c .before .before .before .before .before .v .given .1)
 
--- src/lib.rt:205:1
+-- src/lib.rt:224:1
 invoke-same-length-4 : (t : ℕ) → invoke-lts.Need-same-length-4 (
   arguments-held-reads.Asked,
   arguments-held-reads.Learnt,
@@ -3051,7 +2957,7 @@ invoke-same-length-4 : (t : ℕ) → invoke-lts.Need-same-length-4 (
 ) (invoke-at t) invoke.Post
 invoke-same-length-4 t c = search needs
 
--- src/lib.rt:205:1
+-- src/lib.rt:224:1
 invoke-same-length-5 : (t : ℕ) → invoke-lts.Need-same-length-5 (
   arguments-held-reads.Asked,
   arguments-held-reads.Learnt,
@@ -3080,7 +2986,7 @@ invoke-same-length-5 : (t : ℕ) → invoke-lts.Need-same-length-5 (
 ) (invoke-at t) invoke.Post
 invoke-same-length-5 t c = search needs
 
--- src/lib.rt:205:1
+-- src/lib.rt:224:1
 invoke-returns-3 : (t : ℕ) → invoke-lts.Need-returns-3 (
   arguments-held-reads.Asked,
   arguments-held-reads.Learnt,
@@ -3109,7 +3015,7 @@ invoke-returns-3 : (t : ℕ) → invoke-lts.Need-returns-3 (
 ) (invoke-at t) invoke.Post
 invoke-returns-3 t c = body-stops _ _ _ _ _ _ _ _ _ _ _ _ _ (c .before .before .before .before .before .before .before .before .before .before .before .before .before .before .before .before .before .before .before .before .before .before .before .before .before .before .before .arguments-held .ensures) (c .before .before .before .before .before .before .before .before .before .before .before .before .before .before .before .before .before .before .before .before .before .before .before .before .before .declared-count .ensures) (c .before .before .before .before .before .before .before .before .before .before .before .before .before .before .before .before .before .before .before .before .before .before .before .running .ensures) (c .before .before .before .before .before .before .before .before .before .before .before .before .before .before .before .before .before .before .before .before .before .loop-unit .ensures) _ _ (c .before .before .before .before .before .before .before .before .before .before .before .before .before .before .before .before .before .before .before .begin .ensures) _ (c .before .before .before .before .before .before .before .before .before .before .before .before .before .before .before .enum-told .given .1) _ _ _ _ _ _ (c .before .before .before .before .before .before .before .before .before .before .before .before .before .before .table-place .ensures) (c .before .before .before .before .before .before .before .before .before .before .before .before .before .word-at .ensures) (c .before .before .before .before .before .before .before .before .before .before .before .before .start-of .ensures .0) (c .before .before .before .before .before .before .before .before .before .before .before .parameters-of .ensures .0) refl (c .before .before .before .before .before .before .before .before .before .before .body-of .ensures .0) _ _ _ (c .before .before .before .before .before .before .before .procedure .ensures) _ _ (c .before .k2 .given .1)
 
--- src/lib.rt:303:9
+-- src/lib.rt:322:9
 leave-returns : (t : ℕ) → leave-lts.Need-returns (
   place-of-reads.Asked,
   place-of-reads.Learnt,
@@ -3128,7 +3034,7 @@ leave-returns : (t : ℕ) → leave-lts.Need-returns (
 ) (leave-at t) leave.Post
 leave-returns t c = leave-too-deep _ _ _ _ _ _ _ _ (c .before .before .before .before .before .pre .1) (c .if1 .taken)
 
--- src/lib.rt:305:9
+-- src/lib.rt:324:9
 leave-place-of-requires : (t : ℕ) → leave-lts.Need-place-of-requires (
   place-of-reads.Asked,
   place-of-reads.Learnt,
@@ -3147,7 +3053,7 @@ leave-place-of-requires : (t : ℕ) → leave-lts.Need-place-of-requires (
 ) (leave-at t) leave.Post
 leave-place-of-requires t c κs = search needs
 
--- src/lib.rt:306:9
+-- src/lib.rt:325:9
 leave-count-requires : (t : ℕ) → leave-lts.Need-count-requires (
   place-of-reads.Asked,
   place-of-reads.Learnt,
@@ -3166,7 +3072,7 @@ leave-count-requires : (t : ℕ) → leave-lts.Need-count-requires (
 ) (leave-at t) leave.Post
 leave-count-requires t c κs = omega (arith, c .before .before .before .before .before .before .before .pre .1 .runs .lent .lent .room .words)
 
--- src/lib.rt:307:9
+-- src/lib.rt:326:9
 leave-same-length : (t : ℕ) → leave-lts.Need-same-length (
   place-of-reads.Asked,
   place-of-reads.Learnt,
@@ -3185,7 +3091,7 @@ leave-same-length : (t : ℕ) → leave-lts.Need-same-length (
 ) (leave-at t) leave.Post
 leave-same-length t c = search needs
 
--- src/lib.rt:307:9
+-- src/lib.rt:326:9
 leave-returns-2 : (t : ℕ) → leave-lts.Need-returns-2 (
   place-of-reads.Asked,
   place-of-reads.Learnt,
@@ -3204,7 +3110,7 @@ leave-returns-2 : (t : ℕ) → leave-lts.Need-returns-2 (
 ) (leave-at t) leave.Post
 leave-returns-2 t c = leave-no-step _ _ _ _ _ _ _ _ (c .before .before .before .before .before .before .before .before .before .before .before .pre .1) (c .before .before .before .before .before .before .if1 .left) _ (c .before .before .before .before .before .place-of .ensures) _ _ (c .before .before .before .count .ensures) (c .if2 .taken)
 
--- src/lib.rt:309:9
+-- src/lib.rt:328:9
 leave-last-of-requires : (t : ℕ) → leave-lts.Need-last-of-requires (
   place-of-reads.Asked,
   place-of-reads.Learnt,
@@ -3223,7 +3129,7 @@ leave-last-of-requires : (t : ℕ) → leave-lts.Need-last-of-requires (
 ) (leave-at t) leave.Post
 leave-last-of-requires t c κs = omega (arith, c .before .before .before .before .before .before .before .before .before .before .before .pre .1 .runs .room)
 
--- src/lib.rt:310:55
+-- src/lib.rt:329:55
 leave-sub-fast-value : (t : ℕ) → leave-lts.Need-sub-fast-value (
   place-of-reads.Asked,
   place-of-reads.Learnt,
@@ -3242,7 +3148,7 @@ leave-sub-fast-value : (t : ℕ) → leave-lts.Need-sub-fast-value (
 ) (leave-at t) leave.Post
 leave-sub-fast-value t c = search needs
 
--- src/lib.rt:310:9
+-- src/lib.rt:329:9
 leave-fast-value-requires : (t : ℕ) → leave-lts.Need-fast-value-requires (
   place-of-reads.Asked,
   place-of-reads.Learnt,
@@ -3261,7 +3167,7 @@ leave-fast-value-requires : (t : ℕ) → leave-lts.Need-fast-value-requires (
 ) (leave-at t) leave.Post
 leave-fast-value-requires t c κs = let a0 = c .before .before .before .before .words in omega (arith, c .before .before .before .before .before .before .before .before .before .before .before .before .before .pre .1 .runs .lent .lent .room .words)
 
--- src/lib.rt:312:29
+-- src/lib.rt:331:29
 leave-unpack-requires : (t : ℕ) → leave-lts.Need-unpack-requires (
   place-of-reads.Asked,
   place-of-reads.Learnt,
@@ -3280,7 +3186,7 @@ leave-unpack-requires : (t : ℕ) → leave-lts.Need-unpack-requires (
 ) (leave-at t) leave.Post
 leave-unpack-requires t c κs = search needs
 
--- src/lib.rt:312:9
+-- src/lib.rt:331:9
 leave-same-length-2 : (t : ℕ) → leave-lts.Need-same-length-2 (
   place-of-reads.Asked,
   place-of-reads.Learnt,
@@ -3299,7 +3205,7 @@ leave-same-length-2 : (t : ℕ) → leave-lts.Need-same-length-2 (
 ) (leave-at t) leave.Post
 leave-same-length-2 t c = search needs
 
--- src/lib.rt:312:9
+-- src/lib.rt:331:9
 leave-returns-3 : (t : ℕ) → leave-lts.Need-returns-3 (
   place-of-reads.Asked,
   place-of-reads.Learnt,
@@ -3318,7 +3224,7 @@ leave-returns-3 : (t : ℕ) → leave-lts.Need-returns-3 (
 ) (leave-at t) leave.Post
 leave-returns-3 t c = leave-fast _ _ _ _ _ _ _ _ (c .before .before .before .before .before .before .before .before .before .before .before .before .before .before .before .before .before .before .pre .1) (c .before .before .before .before .before .before .before .before .before .before .before .before .before .if1 .left) _ (c .before .before .before .before .before .before .before .before .before .before .before .before .place-of .ensures) _ _ (c .before .before .before .before .before .before .before .before .before .before .count .ensures) (c .before .before .before .before .before .before .before .if2 .left) _ _ (c .before .before .before .before .before .before .last-of .ensures .0) _ (c .before .before .before .before .fast-value .ensures) _ (let a0 = c .before .before .before .before .before .before .before .before .before .words in omega arith) (c .before .if3 .taken) (c .unpack .ensures)
 
--- src/lib.rt:314:59
+-- src/lib.rt:333:59
 leave-sub-expression : (t : ℕ) → leave-lts.Need-sub-expression (
   place-of-reads.Asked,
   place-of-reads.Learnt,
@@ -3337,7 +3243,7 @@ leave-sub-expression : (t : ℕ) → leave-lts.Need-sub-expression (
 ) (leave-at t) leave.Post
 leave-sub-expression t c = search needs
 
--- src/lib.rt:314:11
+-- src/lib.rt:333:11
 leave-expression-requires : (t : ℕ) → leave-lts.Need-expression-requires (
   place-of-reads.Asked,
   place-of-reads.Learnt,
@@ -3356,7 +3262,7 @@ leave-expression-requires : (t : ℕ) → leave-lts.Need-expression-requires (
 ) (leave-at t) leave.Post
 leave-expression-requires t c κs = (omega arith, slow-lent _ _ _ _ _ _ _ _ (c .before .before .before .before .before .fast-value .ensures) (c .before .before .if3 .left) (still-lent _ _ _ _ _ refl (let a0 = c .before .before .before .before .before .before .before .before .before .before .words in omega arith) _ (deeper-lent _ _ _ _ (c .before .before .before .before .before .before .before .before .before .before .before .before .before .before .before .before .before .before .before .pre .1 .runs .lent))))
 
--- src/lib.rt:315:22
+-- src/lib.rt:334:22
 leave-enum-known-v : (t : ℕ) → leave-lts.Need-enum-known-v (
   place-of-reads.Asked,
   place-of-reads.Learnt,
@@ -3375,7 +3281,7 @@ leave-enum-known-v : (t : ℕ) → leave-lts.Need-enum-known-v (
 ) (leave-at t) leave.Post
 leave-enum-known-v t c = search needs
 
--- src/lib.rt:315:56
+-- src/lib.rt:334:56
 leave-pack-requires : (t : ℕ) → leave-lts.Need-pack-requires (
   place-of-reads.Asked,
   place-of-reads.Learnt,
@@ -3394,7 +3300,7 @@ leave-pack-requires : (t : ℕ) → leave-lts.Need-pack-requires (
 ) (leave-at t) leave.Post
 leave-pack-requires t c κs = search needs
 
--- src/lib.rt:315:41
+-- src/lib.rt:334:41
 leave-unpack-requires-2 : (t : ℕ) → leave-lts.Need-unpack-requires-2 (
   place-of-reads.Asked,
   place-of-reads.Learnt,
@@ -3413,7 +3319,7 @@ leave-unpack-requires-2 : (t : ℕ) → leave-lts.Need-unpack-requires-2 (
 ) (leave-at t) leave.Post
 leave-unpack-requires-2 t c κs = search needs
 
--- src/lib.rt:316:21
+-- src/lib.rt:335:21
 leave-enum-known-n : (t : ℕ) → leave-lts.Need-enum-known-n (
   place-of-reads.Asked,
   place-of-reads.Learnt,
@@ -3432,7 +3338,7 @@ leave-enum-known-n : (t : ℕ) → leave-lts.Need-enum-known-n (
 ) (leave-at t) leave.Post
 leave-enum-known-n t c = search needs
 
--- src/lib.rt:289:1
+-- src/lib.rt:308:1
 leave-same-length-3 : (t : ℕ) → leave-lts.Need-same-length-3 (
   place-of-reads.Asked,
   place-of-reads.Learnt,
@@ -3451,7 +3357,7 @@ leave-same-length-3 : (t : ℕ) → leave-lts.Need-same-length-3 (
 ) (leave-at t) leave.Post
 leave-same-length-3 t c = search needs
 
--- src/lib.rt:289:1
+-- src/lib.rt:308:1
 leave-same-length-4 : (t : ℕ) → leave-lts.Need-same-length-4 (
   place-of-reads.Asked,
   place-of-reads.Learnt,
@@ -3470,7 +3376,7 @@ leave-same-length-4 : (t : ℕ) → leave-lts.Need-same-length-4 (
 ) (leave-at t) leave.Post
 leave-same-length-4 t c = search needs
 
--- src/lib.rt:289:1
+-- src/lib.rt:308:1
 leave-returns-4 : (t : ℕ) → leave-lts.Need-returns-4 (
   place-of-reads.Asked,
   place-of-reads.Learnt,
@@ -3489,7 +3395,7 @@ leave-returns-4 : (t : ℕ) → leave-lts.Need-returns-4 (
 ) (leave-at t) leave.Post
 leave-returns-4 t c = leave-done _ _ _ _ _ _ _ _ (c .before .before .before .before .before .before .before .before .before .before .before .before .before .before .before .before .before .before .before .before .before .before .before .before .before .before .before .before .before .pre .1) (c .before .before .before .before .before .before .before .before .before .before .before .before .before .before .before .before .before .before .before .before .before .before .before .before .if1 .left) _ (c .before .before .before .before .before .before .before .before .before .before .before .before .before .before .before .before .before .before .before .before .before .before .before .place-of .ensures) _ _ (c .before .before .before .before .before .before .before .before .before .before .before .before .before .before .before .before .before .before .before .before .before .count .ensures) (c .before .before .before .before .before .before .before .before .before .before .before .before .before .before .before .before .before .before .if2 .left) _ _ (c .before .before .before .before .before .before .before .before .before .before .before .before .before .before .before .before .before .last-of .ensures .0) _ (c .before .before .before .before .before .before .before .before .before .before .before .before .before .before .before .fast-value .ensures) (c .before .before .before .before .before .before .before .before .before .before .before .before .if3 .left) _ _ _ (c .before .before .before .before .before .before .before .before .before .expression .ensures) _ _ _ (c .before .before .before .v .given .1) (c .before .pack .ensures) (c .unpack2 .ensures)
 
--- src/lib.rt:289:1
+-- src/lib.rt:308:1
 leave-same-length-5 : (t : ℕ) → leave-lts.Need-same-length-5 (
   place-of-reads.Asked,
   place-of-reads.Learnt,
@@ -3508,7 +3414,7 @@ leave-same-length-5 : (t : ℕ) → leave-lts.Need-same-length-5 (
 ) (leave-at t) leave.Post
 leave-same-length-5 t c = search needs
 
--- src/lib.rt:289:1
+-- src/lib.rt:308:1
 leave-same-length-6 : (t : ℕ) → leave-lts.Need-same-length-6 (
   place-of-reads.Asked,
   place-of-reads.Learnt,
@@ -3527,7 +3433,7 @@ leave-same-length-6 : (t : ℕ) → leave-lts.Need-same-length-6 (
 ) (leave-at t) leave.Post
 leave-same-length-6 t c = search needs
 
--- src/lib.rt:289:1
+-- src/lib.rt:308:1
 leave-returns-5 : (t : ℕ) → leave-lts.Need-returns-5 (
   place-of-reads.Asked,
   place-of-reads.Learnt,
@@ -3546,7 +3452,7 @@ leave-returns-5 : (t : ℕ) → leave-lts.Need-returns-5 (
 ) (leave-at t) leave.Post
 leave-returns-5 t c = leave-stops _ _ _ _ _ _ _ _ (c .before .before .before .before .before .before .before .before .before .before .before .before .before .before .before .before .before .before .before .before .before .before .before .before .before .before .before .pre .1) (c .before .before .before .before .before .before .before .before .before .before .before .before .before .before .before .before .before .before .before .before .before .before .if1 .left) _ (c .before .before .before .before .before .before .before .before .before .before .before .before .before .before .before .before .before .before .before .before .before .place-of .ensures) _ _ (c .before .before .before .before .before .before .before .before .before .before .before .before .before .before .before .before .before .before .before .count .ensures) (c .before .before .before .before .before .before .before .before .before .before .before .before .before .before .before .before .if2 .left) _ _ (c .before .before .before .before .before .before .before .before .before .before .before .before .before .before .before .last-of .ensures .0) _ (c .before .before .before .before .before .before .before .before .before .before .before .before .before .fast-value .ensures) (c .before .before .before .before .before .before .before .before .before .before .if3 .left) _ _ _ (c .before .before .before .before .before .before .before .expression .ensures) _ _ (c .before .n .given .1)
 
--- src/lib.rt:713:9
+-- src/lib.rt:734:9
 member-component-at-requires : (t : ℕ) → member-lts.Need-component-at-requires (
   component-at-reads.Asked,
   component-at-reads.Learnt,
@@ -3563,7 +3469,7 @@ member-component-at-requires : (t : ℕ) → member-lts.Need-component-at-requir
 ) (member-at t) member.Post
 member-component-at-requires t c κs = c .before .before .before .before .before .pre .1 .lent .lent .room
 
--- src/lib.rt:714:8
+-- src/lib.rt:735:8
 member-is-destroyed-requires : (t : ℕ) → member-lts.Need-is-destroyed-requires (
   component-at-reads.Asked,
   component-at-reads.Learnt,
@@ -3580,7 +3486,7 @@ member-is-destroyed-requires : (t : ℕ) → member-lts.Need-is-destroyed-requir
 ) (member-at t) member.Post
 member-is-destroyed-requires t c κs = search needs
 
--- src/lib.rt:715:9
+-- src/lib.rt:736:9
 member-same-length : (t : ℕ) → member-lts.Need-same-length (
   component-at-reads.Asked,
   component-at-reads.Learnt,
@@ -3597,7 +3503,7 @@ member-same-length : (t : ℕ) → member-lts.Need-same-length (
 ) (member-at t) member.Post
 member-same-length t c = search needs
 
--- src/lib.rt:715:9
+-- src/lib.rt:736:9
 member-returns : (t : ℕ) → member-lts.Need-returns (
   component-at-reads.Asked,
   component-at-reads.Learnt,
@@ -3614,7 +3520,7 @@ member-returns : (t : ℕ) → member-lts.Need-returns (
 ) (member-at t) member.Post
 member-returns t c = member-passed _ _ _ _ _ _ _ _ (c .before .before .before .component-at .ensures) _ (c .before .is-destroyed .ensures) (c .if1 .taken)
 
--- src/lib.rt:717:9
+-- src/lib.rt:738:9
 member-count-requires : (t : ℕ) → member-lts.Need-count-requires (
   component-at-reads.Asked,
   component-at-reads.Learnt,
@@ -3631,7 +3537,7 @@ member-count-requires : (t : ℕ) → member-lts.Need-count-requires (
 ) (member-at t) member.Post
 member-count-requires t c κs = omega (arith, c .before .before .before .before .before .before .before .before .before .before .pre .1 .lent .lent .room .words)
 
--- src/lib.rt:718:9
+-- src/lib.rt:739:9
 member-same-length-2 : (t : ℕ) → member-lts.Need-same-length-2 (
   component-at-reads.Asked,
   component-at-reads.Learnt,
@@ -3648,7 +3554,7 @@ member-same-length-2 : (t : ℕ) → member-lts.Need-same-length-2 (
 ) (member-at t) member.Post
 member-same-length-2 t c = search needs
 
--- src/lib.rt:718:9
+-- src/lib.rt:739:9
 member-returns-2 : (t : ℕ) → member-lts.Need-returns-2 (
   component-at-reads.Asked,
   component-at-reads.Learnt,
@@ -3665,7 +3571,7 @@ member-returns-2 : (t : ℕ) → member-lts.Need-returns-2 (
 ) (member-at t) member.Post
 member-returns-2 t c = member-no-step _ _ _ _ _ _ _ _ (c .before .before .before .before .before .before .before .before .component-at .ensures) _ (c .before .before .before .before .before .before .is-destroyed .ensures) (c .before .before .before .before .before .if1 .left) _ _ (c .before .before .before .count .ensures) (c .if2 .taken)
 
--- src/lib.rt:720:9
+-- src/lib.rt:741:9
 member-is-group-requires : (t : ℕ) → member-lts.Need-is-group-requires (
   component-at-reads.Asked,
   component-at-reads.Learnt,
@@ -3682,7 +3588,7 @@ member-is-group-requires : (t : ℕ) → member-lts.Need-is-group-requires (
 ) (member-at t) member.Post
 member-is-group-requires t c κs = search needs
 
--- src/lib.rt:721:13
+-- src/lib.rt:742:13
 member-bound-requires : (t : ℕ) → member-lts.Need-bound-requires (
   component-at-reads.Asked,
   component-at-reads.Learnt,
@@ -3699,7 +3605,7 @@ member-bound-requires : (t : ℕ) → member-lts.Need-bound-requires (
 ) (member-at t) member.Post
 member-bound-requires t c κs = (omega arith, still-runs _ _ _ _ _ refl (let a0 = c .before .before .before .before .before .before .before .words in omega arith) _ _ (c .before .before .before .before .before .before .before .before .before .before .before .before .before .before .before .before .before .before .before .pre .1))
 
--- src/lib.rt:722:9
+-- src/lib.rt:743:9
 member-same-length-3 : (t : ℕ) → member-lts.Need-same-length-3 (
   component-at-reads.Asked,
   component-at-reads.Learnt,
@@ -3716,7 +3622,7 @@ member-same-length-3 : (t : ℕ) → member-lts.Need-same-length-3 (
 ) (member-at t) member.Post
 member-same-length-3 t c = search needs
 
--- src/lib.rt:722:9
+-- src/lib.rt:743:9
 member-same-length-4 : (t : ℕ) → member-lts.Need-same-length-4 (
   component-at-reads.Asked,
   component-at-reads.Learnt,
@@ -3733,7 +3639,7 @@ member-same-length-4 : (t : ℕ) → member-lts.Need-same-length-4 (
 ) (member-at t) member.Post
 member-same-length-4 t c = search needs
 
--- src/lib.rt:722:9
+-- src/lib.rt:743:9
 member-returns-3 : (t : ℕ) → member-lts.Need-returns-3 (
   component-at-reads.Asked,
   component-at-reads.Learnt,
@@ -3750,7 +3656,7 @@ member-returns-3 : (t : ℕ) → member-lts.Need-returns-3 (
 ) (member-at t) member.Post
 member-returns-3 t c = member-figure _ _ _ _ _ _ _ _ (c .before .before .before .before .before .before .before .before .before .before .before .before .before .before .before .before .before .before .component-at .ensures) _ (c .before .before .before .before .before .before .before .before .before .before .before .before .before .before .before .before .is-destroyed .ensures) (c .before .before .before .before .before .before .before .before .before .before .before .before .before .before .before .if1 .left) _ _ (c .before .before .before .before .before .before .before .before .before .before .before .before .before .count .ensures) (c .before .before .before .before .before .before .before .before .before .before .if2 .left) _ (c .before .before .before .before .before .before .before .before .is-group .ensures) _ (c .before .before .before .before .before .before .before .if3 .taken) (c .before .before .before .before .bound .ensures)
 
--- src/lib.rt:724:9
+-- src/lib.rt:745:9
 member-inside-requires : (t : ℕ) → member-lts.Need-inside-requires (
   component-at-reads.Asked,
   component-at-reads.Learnt,
@@ -3767,7 +3673,7 @@ member-inside-requires : (t : ℕ) → member-lts.Need-inside-requires (
 ) (member-at t) member.Post
 member-inside-requires t c κs = (omega arith, still-runs _ _ _ _ _ refl (let a0 = c .before .before .before .before .before .before .before .words in omega arith) _ _ (c .before .before .before .before .before .before .before .before .before .before .before .before .before .before .before .before .before .before .before .pre .1))
 
--- src/lib.rt:698:1
+-- src/lib.rt:718:1
 member-same-length-5 : (t : ℕ) → member-lts.Need-same-length-5 (
   component-at-reads.Asked,
   component-at-reads.Learnt,
@@ -3784,7 +3690,7 @@ member-same-length-5 : (t : ℕ) → member-lts.Need-same-length-5 (
 ) (member-at t) member.Post
 member-same-length-5 t c = search needs
 
--- src/lib.rt:698:1
+-- src/lib.rt:718:1
 member-same-length-6 : (t : ℕ) → member-lts.Need-same-length-6 (
   component-at-reads.Asked,
   component-at-reads.Learnt,
@@ -3801,7 +3707,7 @@ member-same-length-6 : (t : ℕ) → member-lts.Need-same-length-6 (
 ) (member-at t) member.Post
 member-same-length-6 t c = search needs
 
--- src/lib.rt:698:1
+-- src/lib.rt:718:1
 member-returns-4 : (t : ℕ) → member-lts.Need-returns-4 (
   component-at-reads.Asked,
   component-at-reads.Learnt,
@@ -4433,7 +4339,7 @@ own-Inv-loop program code grants texts₀ words₀ fuel slot b p i k₀ n₀ uni
 abbrev own-μ-loop : own-lts.MeasureT-loop
 own-μ-loop program code grants texts₀ words₀ fuel slot b p i k₀ n₀ unit texts words k n = n
 
--- src/lib.rt:678:9
+-- src/lib.rt:698:9
 own-first-at-requires : (t : ℕ) → own-lts.Need-first-at-requires (
   first-at-reads.Asked,
   first-at-reads.Learnt,
@@ -4448,7 +4354,7 @@ own-first-at-requires : (t : ℕ) → own-lts.Need-first-at-requires (
 ) (own-at t) own.Post own-Inv-loop own-μ-loop
 own-first-at-requires t c κs = search needs
 
--- src/lib.rt:679:9
+-- src/lib.rt:699:9
 own-count-at-requires : (t : ℕ) → own-lts.Need-count-at-requires (
   first-at-reads.Asked,
   first-at-reads.Learnt,
@@ -4463,7 +4369,7 @@ own-count-at-requires : (t : ℕ) → own-lts.Need-count-at-requires (
 ) (own-at t) own.Post own-Inv-loop own-μ-loop
 own-count-at-requires t c κs = search needs
 
--- src/lib.rt:680:9
+-- src/lib.rt:700:9
 own-enter-loop-requires : (t : ℕ) → own-lts.Need-enter-loop-requires (
   first-at-reads.Asked,
   first-at-reads.Learnt,
@@ -4478,7 +4384,7 @@ own-enter-loop-requires : (t : ℕ) → own-lts.Need-enter-loop-requires (
 ) (own-at t) own.Post own-Inv-loop own-μ-loop
 own-enter-loop-requires t c κs = omega (arith, c .before .before .before .before .before .before .before .before .before .pre .1 .lent .lent .room .words)
 
--- src/lib.rt:681:5
+-- src/lib.rt:701:5
 own-loop-holds : (t : ℕ) → own-lts.Need-loop-holds (
   first-at-reads.Asked,
   first-at-reads.Learnt,
@@ -4493,7 +4399,7 @@ own-loop-holds : (t : ℕ) → own-lts.Need-loop-holds (
 ) (own-at t) own.Post own-Inv-loop own-μ-loop
 own-loop-holds t c = owning-first _ _ _ _ _ _ _ _ _ _ _ (still-runs _ _ _ _ _ refl (let a0 = c .before .words in omega arith) _ _ (c .before .before .before .before .before .before .before .before .before .before .before .before .pre .1)) (omega (arith, c .before .before .before .before .before .before .first-at .ensures, c .before .before .before .before .count-at .ensures))
 
--- src/lib.rt:682:9
+-- src/lib.rt:702:9
 own-sub-n : (t : ℕ) → own-lts.Need-sub-n (
   first-at-reads.Asked,
   first-at-reads.Learnt,
@@ -4508,7 +4414,7 @@ own-sub-n : (t : ℕ) → own-lts.Need-sub-n (
 ) (own-at t) own.Post own-Inv-loop own-μ-loop
 own-sub-n t c = search needs
 
--- src/lib.rt:683:15
+-- src/lib.rt:703:15
 own-member-requires : (t : ℕ) → own-lts.Need-member-requires (
   first-at-reads.Asked,
   first-at-reads.Learnt,
@@ -4537,7 +4443,7 @@ own-enum-told : (t : ℕ) → own-lts.Need-enum-told (
 ) (own-at t) own.Post own-Inv-loop own-μ-loop
 own-enum-told t c = search needs
 
--- src/lib.rt:685:28
+-- src/lib.rt:705:28
 own-enum-known-v : (t : ℕ) → own-lts.Need-enum-known-v (
   first-at-reads.Asked,
   first-at-reads.Learnt,
@@ -4552,7 +4458,7 @@ own-enum-known-v : (t : ℕ) → own-lts.Need-enum-known-v (
 ) (own-at t) own.Post own-Inv-loop own-μ-loop
 own-enum-known-v t c = search needs
 
--- src/lib.rt:686:17
+-- src/lib.rt:706:17
 own-leave-loop-requires : (t : ℕ) → own-lts.Need-leave-loop-requires (
   first-at-reads.Asked,
   first-at-reads.Learnt,
@@ -4567,7 +4473,7 @@ own-leave-loop-requires : (t : ℕ) → own-lts.Need-leave-loop-requires (
 ) (own-at t) own.Post own-Inv-loop own-μ-loop
 own-leave-loop-requires t c κs = let a0 = c .before .before .before .before .before .words2 in omega (arith, c .before .before .before .before .before .before .before .before .before .before .before .before .loop .inv .runs .lent .lent .room .words)
 
--- src/lib.rt:687:17
+-- src/lib.rt:707:17
 own-same-length : (t : ℕ) → own-lts.Need-same-length (
   first-at-reads.Asked,
   first-at-reads.Learnt,
@@ -4582,7 +4488,7 @@ own-same-length : (t : ℕ) → own-lts.Need-same-length (
 ) (own-at t) own.Post own-Inv-loop own-μ-loop
 own-same-length t c = search needs
 
--- src/lib.rt:687:17
+-- src/lib.rt:707:17
 own-same-length-2 : (t : ℕ) → own-lts.Need-same-length-2 (
   first-at-reads.Asked,
   first-at-reads.Learnt,
@@ -4597,7 +4503,7 @@ own-same-length-2 : (t : ℕ) → own-lts.Need-same-length-2 (
 ) (own-at t) own.Post own-Inv-loop own-μ-loop
 own-same-length-2 t c = search needs
 
--- src/lib.rt:687:17
+-- src/lib.rt:707:17
 own-returns : (t : ℕ) → own-lts.Need-returns (
   first-at-reads.Asked,
   first-at-reads.Learnt,
@@ -4612,7 +4518,7 @@ own-returns : (t : ℕ) → own-lts.Need-returns (
 ) (own-at t) own.Post own-Inv-loop own-μ-loop
 own-returns t c = entered-loop _ _ _ _ _ _ _ _ _ _ _ _ (c .before .before .before .before .before .before .before .before .before .before .before .before .before .before .before .before .before .before .before .before .before .before .first-at .ensures) (c .before .before .before .before .before .before .before .before .before .before .before .before .before .before .before .before .before .before .before .before .count-at .ensures) (c .before .before .before .before .before .before .before .before .before .before .before .before .before .before .before .before .before .before .enter-loop .ensures) (owning-returns _ _ _ _ _ _ _ _ _ _ _ _ _ _ _ (c .before .before .before .before .before .before .before .before .before .before .before .before .before .before .before .loop .inv) (c .before .before .before .before .before .before .before .before .before .before .before .before .before .before .loop-test .taken) _ _ _ (c .before .before .before .before .before .before .before .before .before .before .before .member .ensures) _ _ (c .before .before .before .before .before .v .given .1) (c .before .before .leave-loop .ensures))
 
--- src/lib.rt:689:27
+-- src/lib.rt:709:27
 own-enum-known-m : (t : ℕ) → own-lts.Need-enum-known-m (
   first-at-reads.Asked,
   first-at-reads.Learnt,
@@ -4627,7 +4533,7 @@ own-enum-known-m : (t : ℕ) → own-lts.Need-enum-known-m (
 ) (own-at t) own.Post own-Inv-loop own-μ-loop
 own-enum-known-m t c = search needs
 
--- src/lib.rt:689:36
+-- src/lib.rt:709:36
 own-same-length-3 : (t : ℕ) → own-lts.Need-same-length-3 (
   first-at-reads.Asked,
   first-at-reads.Learnt,
@@ -4642,7 +4548,7 @@ own-same-length-3 : (t : ℕ) → own-lts.Need-same-length-3 (
 ) (own-at t) own.Post own-Inv-loop own-μ-loop
 own-same-length-3 t c = search needs
 
--- src/lib.rt:689:36
+-- src/lib.rt:709:36
 own-same-length-4 : (t : ℕ) → own-lts.Need-same-length-4 (
   first-at-reads.Asked,
   first-at-reads.Learnt,
@@ -4657,7 +4563,7 @@ own-same-length-4 : (t : ℕ) → own-lts.Need-same-length-4 (
 ) (own-at t) own.Post own-Inv-loop own-μ-loop
 own-same-length-4 t c = search needs
 
--- src/lib.rt:689:36
+-- src/lib.rt:709:36
 own-returns-2 : (t : ℕ) → own-lts.Need-returns-2 (
   first-at-reads.Asked,
   first-at-reads.Learnt,
@@ -4672,7 +4578,7 @@ own-returns-2 : (t : ℕ) → own-lts.Need-returns-2 (
 ) (own-at t) own.Post own-Inv-loop own-μ-loop
 own-returns-2 t c = entered-loop _ _ _ _ _ _ _ _ _ _ _ _ (c .before .before .before .before .before .before .before .before .before .before .before .before .before .before .before .before .before .before .first-at .ensures) (c .before .before .before .before .before .before .before .before .before .before .before .before .before .before .before .before .count-at .ensures) (c .before .before .before .before .before .before .before .before .before .before .before .before .before .before .enter-loop .ensures) (owning-fails _ _ _ _ _ _ _ _ _ _ _ _ _ _ _ (c .before .before .before .before .before .before .before .before .before .before .before .loop .inv) (c .before .before .before .before .before .before .before .before .before .before .loop-test .taken) _ _ _ (c .before .before .before .before .before .before .before .member .ensures) _ _ (c .before .m .given .1))
 
--- src/lib.rt:691:9
+-- src/lib.rt:711:9
 own-add-k : (t : ℕ) → own-lts.Need-add-k (
   first-at-reads.Asked,
   first-at-reads.Learnt,
@@ -4687,7 +4593,7 @@ own-add-k : (t : ℕ) → own-lts.Need-add-k (
 ) (own-at t) own.Post own-Inv-loop own-μ-loop
 own-add-k t c = omega (arith, c .before .before .before .before .before .before .before .before .before .before .loop .inv .small)
 
--- src/lib.rt:681:5
+-- src/lib.rt:701:5
 own-loop-less : (t : ℕ) → own-lts.Need-loop-less (
   first-at-reads.Asked,
   first-at-reads.Learnt,
@@ -4702,7 +4608,7 @@ own-loop-less : (t : ℕ) → own-lts.Need-loop-less (
 ) (own-at t) own.Post own-Inv-loop own-μ-loop
 own-loop-less t c = omega arith
 
--- src/lib.rt:681:5
+-- src/lib.rt:701:5
 own-loop-again : (t : ℕ) → own-lts.Need-loop-again (
   first-at-reads.Asked,
   first-at-reads.Learnt,
@@ -4717,7 +4623,7 @@ own-loop-again : (t : ℕ) → own-lts.Need-loop-again (
 ) (own-at t) own.Post own-Inv-loop own-μ-loop
 own-loop-again t c = owning-again _ _ _ _ _ _ _ _ _ _ _ _ _ _ _ (c .before .before .before .before .before .before .before .before .before .before .loop .inv) (c .before .before .before .before .before .before .before .before .before .loop-test .taken) _ _ _ (c .before .before .before .before .before .before .member .ensures) (c .enum-told .given .1) (let a0 = c .before .before .before .before .before .texts in omega arith) (let a0 = c .before .before .before .words2 in omega arith)
 
--- src/lib.rt:693:5
+-- src/lib.rt:713:5
 own-leave-loop-requires-2 : (t : ℕ) → own-lts.Need-leave-loop-requires-2 (
   first-at-reads.Asked,
   first-at-reads.Learnt,
@@ -4732,7 +4638,7 @@ own-leave-loop-requires-2 : (t : ℕ) → own-lts.Need-leave-loop-requires-2 (
 ) (own-at t) own.Post own-Inv-loop own-μ-loop
 own-leave-loop-requires-2 t c κs = omega (arith, c .before .before .loop .inv .runs .lent .lent .room .words)
 
--- src/lib.rt:663:1
+-- src/lib.rt:682:1
 own-same-length-5 : (t : ℕ) → own-lts.Need-same-length-5 (
   first-at-reads.Asked,
   first-at-reads.Learnt,
@@ -4747,7 +4653,7 @@ own-same-length-5 : (t : ℕ) → own-lts.Need-same-length-5 (
 ) (own-at t) own.Post own-Inv-loop own-μ-loop
 own-same-length-5 t c = search needs
 
--- src/lib.rt:663:1
+-- src/lib.rt:682:1
 own-same-length-6 : (t : ℕ) → own-lts.Need-same-length-6 (
   first-at-reads.Asked,
   first-at-reads.Learnt,
@@ -4762,7 +4668,7 @@ own-same-length-6 : (t : ℕ) → own-lts.Need-same-length-6 (
 ) (own-at t) own.Post own-Inv-loop own-μ-loop
 own-same-length-6 t c = search needs
 
--- src/lib.rt:663:1
+-- src/lib.rt:682:1
 own-returns-3 : (t : ℕ) → own-lts.Need-returns-3 (
   first-at-reads.Asked,
   first-at-reads.Learnt,
@@ -4783,7 +4689,7 @@ procedure-Inv-loop program code grants texts₀ words₀ fuel a end rounds at₀
 abbrev procedure-μ-loop : procedure-lts.MeasureT-loop
 procedure-μ-loop program code grants texts₀ words₀ fuel a end rounds at₀ left₀ texts words at left = left
 
--- src/lib.rt:268:5
+-- src/lib.rt:287:5
 procedure-loop-holds : (t : ℕ) → procedure-lts.Need-loop-holds (
   word-at-reads.Asked,
   word-at-reads.Learnt,
@@ -4798,7 +4704,7 @@ procedure-loop-holds : (t : ℕ) → procedure-lts.Need-loop-holds (
 ) (procedure-at t) procedure.Post procedure-Inv-loop procedure-μ-loop
 procedure-loop-holds t c = all-first _ _ _ _ _ _ _ _ _ (c .before .before .before .before .pre .1)
 
--- src/lib.rt:269:9
+-- src/lib.rt:288:9
 procedure-sub-left : (t : ℕ) → procedure-lts.Need-sub-left (
   word-at-reads.Asked,
   word-at-reads.Learnt,
@@ -4813,7 +4719,7 @@ procedure-sub-left : (t : ℕ) → procedure-lts.Need-sub-left (
 ) (procedure-at t) procedure.Post procedure-Inv-loop procedure-μ-loop
 procedure-sub-left t c = search needs
 
--- src/lib.rt:271:13
+-- src/lib.rt:290:13
 procedure-same-length : (t : ℕ) → procedure-lts.Need-same-length (
   word-at-reads.Asked,
   word-at-reads.Learnt,
@@ -4828,7 +4734,7 @@ procedure-same-length : (t : ℕ) → procedure-lts.Need-same-length (
 ) (procedure-at t) procedure.Post procedure-Inv-loop procedure-μ-loop
 procedure-same-length t c = search needs
 
--- src/lib.rt:271:13
+-- src/lib.rt:290:13
 procedure-same-length-2 : (t : ℕ) → procedure-lts.Need-same-length-2 (
   word-at-reads.Asked,
   word-at-reads.Learnt,
@@ -4843,7 +4749,7 @@ procedure-same-length-2 : (t : ℕ) → procedure-lts.Need-same-length-2 (
 ) (procedure-at t) procedure.Post procedure-Inv-loop procedure-μ-loop
 procedure-same-length-2 t c = search needs
 
--- src/lib.rt:271:13
+-- src/lib.rt:290:13
 procedure-returns : (t : ℕ) → procedure-lts.Need-returns (
   word-at-reads.Asked,
   word-at-reads.Learnt,
@@ -4858,7 +4764,7 @@ procedure-returns : (t : ℕ) → procedure-lts.Need-returns (
 ) (procedure-at t) procedure.Post procedure-Inv-loop procedure-μ-loop
 procedure-returns t c = ends-done _ _ _ _ _ _ _ _ _ _ _ _ _ (c .before .before .loop .inv) (c .before .loop-test .taken) (c .if1 .taken)
 
--- src/lib.rt:273:13
+-- src/lib.rt:292:13
 procedure-word-at-requires : (t : ℕ) → procedure-lts.Need-word-at-requires (
   word-at-reads.Asked,
   word-at-reads.Learnt,
@@ -4873,7 +4779,7 @@ procedure-word-at-requires : (t : ℕ) → procedure-lts.Need-word-at-requires (
 ) (procedure-at t) procedure.Post procedure-Inv-loop procedure-μ-loop
 procedure-word-at-requires t c κs = search needs
 
--- src/lib.rt:274:12
+-- src/lib.rt:293:12
 procedure-tag-of-requires : (t : ℕ) → procedure-lts.Need-tag-of-requires (
   word-at-reads.Asked,
   word-at-reads.Learnt,
@@ -4888,7 +4794,7 @@ procedure-tag-of-requires : (t : ℕ) → procedure-lts.Need-tag-of-requires (
 ) (procedure-at t) procedure.Post procedure-Inv-loop procedure-μ-loop
 procedure-tag-of-requires t c κs = search needs
 
--- src/lib.rt:275:17
+-- src/lib.rt:294:17
 procedure-leave-requires : (t : ℕ) → procedure-lts.Need-leave-requires (
   word-at-reads.Asked,
   word-at-reads.Learnt,
@@ -4903,7 +4809,7 @@ procedure-leave-requires : (t : ℕ) → procedure-lts.Need-leave-requires (
 ) (procedure-at t) procedure.Post procedure-Inv-loop procedure-μ-loop
 procedure-leave-requires t c κs = (omega arith, leaves-here _ _ _ _ _ _ _ _ _ _ _ _ _ (c .before .before .before .before .before .before .before .loop .inv) _ _ (c .before .before .before .before .before .if1 .left) (c .before .before .before .before .word-at .ensures) (c .before .before .before .tag-of .ensures) (c .before .before .if2 .taken))
 
--- src/lib.rt:276:13
+-- src/lib.rt:295:13
 procedure-same-length-3 : (t : ℕ) → procedure-lts.Need-same-length-3 (
   word-at-reads.Asked,
   word-at-reads.Learnt,
@@ -4918,7 +4824,7 @@ procedure-same-length-3 : (t : ℕ) → procedure-lts.Need-same-length-3 (
 ) (procedure-at t) procedure.Post procedure-Inv-loop procedure-μ-loop
 procedure-same-length-3 t c = search needs
 
--- src/lib.rt:276:13
+-- src/lib.rt:295:13
 procedure-same-length-4 : (t : ℕ) → procedure-lts.Need-same-length-4 (
   word-at-reads.Asked,
   word-at-reads.Learnt,
@@ -4933,7 +4839,7 @@ procedure-same-length-4 : (t : ℕ) → procedure-lts.Need-same-length-4 (
 ) (procedure-at t) procedure.Post procedure-Inv-loop procedure-μ-loop
 procedure-same-length-4 t c = search needs
 
--- src/lib.rt:276:13
+-- src/lib.rt:295:13
 procedure-returns-2 : (t : ℕ) → procedure-lts.Need-returns-2 (
   word-at-reads.Asked,
   word-at-reads.Learnt,
@@ -4948,7 +4854,7 @@ procedure-returns-2 : (t : ℕ) → procedure-lts.Need-returns-2 (
 ) (procedure-at t) procedure.Post procedure-Inv-loop procedure-μ-loop
 procedure-returns-2 t c = ends-left _ _ _ _ _ _ _ _ _ _ _ _ _ (c .before .before .before .before .before .before .before .before .before .before .before .before .loop .inv) (c .before .before .before .before .before .before .before .before .before .before .before .loop-test .taken) (c .before .before .before .before .before .before .before .before .before .before .if1 .left) _ _ _ (c .before .before .before .before .leave .ensures)
 
--- src/lib.rt:278:15
+-- src/lib.rt:297:15
 procedure-statement-requires : (t : ℕ) → procedure-lts.Need-statement-requires (
   word-at-reads.Asked,
   word-at-reads.Learnt,
@@ -4977,7 +4883,7 @@ procedure-enum-told : (t : ℕ) → procedure-lts.Need-enum-told (
 ) (procedure-at t) procedure.Post procedure-Inv-loop procedure-μ-loop
 procedure-enum-told t c = search needs
 
--- src/lib.rt:280:28
+-- src/lib.rt:299:28
 procedure-enum-known-v : (t : ℕ) → procedure-lts.Need-enum-known-v (
   word-at-reads.Asked,
   word-at-reads.Learnt,
@@ -4992,7 +4898,7 @@ procedure-enum-known-v : (t : ℕ) → procedure-lts.Need-enum-known-v (
 ) (procedure-at t) procedure.Post procedure-Inv-loop procedure-μ-loop
 procedure-enum-known-v t c = search needs
 
--- src/lib.rt:280:34
+-- src/lib.rt:299:34
 procedure-same-length-5 : (t : ℕ) → procedure-lts.Need-same-length-5 (
   word-at-reads.Asked,
   word-at-reads.Learnt,
@@ -5007,7 +4913,7 @@ procedure-same-length-5 : (t : ℕ) → procedure-lts.Need-same-length-5 (
 ) (procedure-at t) procedure.Post procedure-Inv-loop procedure-μ-loop
 procedure-same-length-5 t c = search needs
 
--- src/lib.rt:280:34
+-- src/lib.rt:299:34
 procedure-same-length-6 : (t : ℕ) → procedure-lts.Need-same-length-6 (
   word-at-reads.Asked,
   word-at-reads.Learnt,
@@ -5022,7 +4928,7 @@ procedure-same-length-6 : (t : ℕ) → procedure-lts.Need-same-length-6 (
 ) (procedure-at t) procedure.Post procedure-Inv-loop procedure-μ-loop
 procedure-same-length-6 t c = search needs
 
--- src/lib.rt:280:34
+-- src/lib.rt:299:34
 procedure-returns-3 : (t : ℕ) → procedure-lts.Need-returns-3 (
   word-at-reads.Asked,
   word-at-reads.Learnt,
@@ -5037,7 +4943,7 @@ procedure-returns-3 : (t : ℕ) → procedure-lts.Need-returns-3 (
 ) (procedure-at t) procedure.Post procedure-Inv-loop procedure-μ-loop
 procedure-returns-3 t c = ends-returns _ _ _ _ _ _ _ _ _ _ _ _ _ (c .before .before .before .before .before .before .before .before .before .before .before .before .before .before .before .loop .inv) (c .before .before .before .before .before .before .before .before .before .before .before .before .before .before .loop-test .taken) (c .before .before .before .before .before .before .before .before .before .before .before .before .before .if1 .left) _ _ _ (c .before .before .before .before .before .before .before .statement .ensures) _ (c .before .v .given .1)
 
--- src/lib.rt:281:27
+-- src/lib.rt:300:27
 procedure-enum-known-n : (t : ℕ) → procedure-lts.Need-enum-known-n (
   word-at-reads.Asked,
   word-at-reads.Learnt,
@@ -5052,7 +4958,7 @@ procedure-enum-known-n : (t : ℕ) → procedure-lts.Need-enum-known-n (
 ) (procedure-at t) procedure.Post procedure-Inv-loop procedure-μ-loop
 procedure-enum-known-n t c = search needs
 
--- src/lib.rt:281:36
+-- src/lib.rt:300:36
 procedure-same-length-7 : (t : ℕ) → procedure-lts.Need-same-length-7 (
   word-at-reads.Asked,
   word-at-reads.Learnt,
@@ -5067,7 +4973,7 @@ procedure-same-length-7 : (t : ℕ) → procedure-lts.Need-same-length-7 (
 ) (procedure-at t) procedure.Post procedure-Inv-loop procedure-μ-loop
 procedure-same-length-7 t c = search needs
 
--- src/lib.rt:281:36
+-- src/lib.rt:300:36
 procedure-same-length-8 : (t : ℕ) → procedure-lts.Need-same-length-8 (
   word-at-reads.Asked,
   word-at-reads.Learnt,
@@ -5082,7 +4988,7 @@ procedure-same-length-8 : (t : ℕ) → procedure-lts.Need-same-length-8 (
 ) (procedure-at t) procedure.Post procedure-Inv-loop procedure-μ-loop
 procedure-same-length-8 t c = search needs
 
--- src/lib.rt:281:36
+-- src/lib.rt:300:36
 procedure-returns-4 : (t : ℕ) → procedure-lts.Need-returns-4 (
   word-at-reads.Asked,
   word-at-reads.Learnt,
@@ -5097,7 +5003,7 @@ procedure-returns-4 : (t : ℕ) → procedure-lts.Need-returns-4 (
 ) (procedure-at t) procedure.Post procedure-Inv-loop procedure-μ-loop
 procedure-returns-4 t c = ends-fails _ _ _ _ _ _ _ _ _ _ _ _ _ (c .before .before .before .before .before .before .before .before .before .before .before .before .before .before .before .loop .inv) (c .before .before .before .before .before .before .before .before .before .before .before .before .before .before .loop-test .taken) (c .before .before .before .before .before .before .before .before .before .before .before .before .before .if1 .left) _ _ _ (c .before .before .before .before .before .before .before .statement .ensures) _ _ (c .before .n .given .1)
 
--- src/lib.rt:283:15
+-- src/lib.rt:302:15
 procedure-size-of-requires : (t : ℕ) → procedure-lts.Need-size-of-requires (
   word-at-reads.Asked,
   word-at-reads.Learnt,
@@ -5112,7 +5018,7 @@ procedure-size-of-requires : (t : ℕ) → procedure-lts.Need-size-of-requires (
 ) (procedure-at t) procedure.Post procedure-Inv-loop procedure-μ-loop
 procedure-size-of-requires t c κs = search needs
 
--- src/lib.rt:283:9
+-- src/lib.rt:302:9
 procedure-add-at : (t : ℕ) → procedure-lts.Need-add-at (
   word-at-reads.Asked,
   word-at-reads.Learnt,
@@ -5127,7 +5033,7 @@ procedure-add-at : (t : ℕ) → procedure-lts.Need-add-at (
 ) (procedure-at t) procedure.Post procedure-Inv-loop procedure-μ-loop
 procedure-add-at t c = omega (arith, c .before .before .before .before .before .before .before .before .before .before .before .before .before .before .before .before .before .before .before .before .pre .1 .room, c .before .before .before .before .before .before .before .before .before .before .before .before .before .if1 .left, c .size-of .ensures)
 
--- src/lib.rt:268:5
+-- src/lib.rt:287:5
 procedure-loop-less : (t : ℕ) → procedure-lts.Need-loop-less (
   word-at-reads.Asked,
   word-at-reads.Learnt,
@@ -5142,7 +5048,7 @@ procedure-loop-less : (t : ℕ) → procedure-lts.Need-loop-less (
 ) (procedure-at t) procedure.Post procedure-Inv-loop procedure-μ-loop
 procedure-loop-less t c = omega arith
 
--- src/lib.rt:268:5
+-- src/lib.rt:287:5
 procedure-loop-again : (t : ℕ) → procedure-lts.Need-loop-again (
   word-at-reads.Asked,
   word-at-reads.Learnt,
@@ -5157,7 +5063,7 @@ procedure-loop-again : (t : ℕ) → procedure-lts.Need-loop-again (
 ) (procedure-at t) procedure.Post procedure-Inv-loop procedure-μ-loop
 procedure-loop-again t c = all-again _ _ _ _ _ _ _ _ _ _ _ _ _ (c .before .before .before .before .before .before .before .before .before .before .before .before .before .before .before .loop .inv) (c .before .before .before .before .before .before .before .before .before .before .before .before .before .before .loop-test .taken) (c .before .before .before .before .before .before .before .before .before .before .before .before .before .if1 .left) _ _ _ (c .before .before .before .before .before .before .before .statement .ensures) _ _ (let a0 = c .before .before .before .before .before .before .texts2 in omega arith) (let a0 = c .before .before .before .before .words2 in omega arith) (c .before .enum-told .given .1) (c .before .before .before .before .before .before .before .before .before .before .before .before .word-at .ensures) (c .size-of .ensures)
 
--- src/lib.rt:251:1
+-- src/lib.rt:270:1
 procedure-same-length-9 : (t : ℕ) → procedure-lts.Need-same-length-9 (
   word-at-reads.Asked,
   word-at-reads.Learnt,
@@ -5172,7 +5078,7 @@ procedure-same-length-9 : (t : ℕ) → procedure-lts.Need-same-length-9 (
 ) (procedure-at t) procedure.Post procedure-Inv-loop procedure-μ-loop
 procedure-same-length-9 t c = search needs
 
--- src/lib.rt:251:1
+-- src/lib.rt:270:1
 procedure-same-length-10 : (t : ℕ) → procedure-lts.Need-same-length-10 (
   word-at-reads.Asked,
   word-at-reads.Learnt,
@@ -5187,7 +5093,7 @@ procedure-same-length-10 : (t : ℕ) → procedure-lts.Need-same-length-10 (
 ) (procedure-at t) procedure.Post procedure-Inv-loop procedure-μ-loop
 procedure-same-length-10 t c = search needs
 
--- src/lib.rt:251:1
+-- src/lib.rt:270:1
 procedure-returns-5 : (t : ℕ) → procedure-lts.Need-returns-5 (
   word-at-reads.Asked,
   word-at-reads.Learnt,
@@ -5202,13 +5108,134 @@ procedure-returns-5 : (t : ℕ) → procedure-lts.Need-returns-5 (
 ) (procedure-at t) procedure.Post procedure-Inv-loop procedure-μ-loop
 procedure-returns-5 t c = ends-short _ _ _ _ _ _ _ _ _ _ _ _ _ (c .before .loop .inv) (omega arith)
 
+-- src/lib.rt:214:11
+pushed-expression-requires : (t : ℕ) → pushed-lts.Need-expression-requires (
+  expression-below t,
+  expression.Post,
+  pack-reads.Asked,
+  pack-reads.Learnt,
+  push-word-reads.Asked,
+  push-word-reads.Learnt,
+) (pushed-at t) pushed.Post
+pushed-expression-requires t c κs = (omega arith, c .before .before .before .before .before .before .pre .1)
+
+-- src/lib.rt:215:22
+pushed-enum-known-v : (t : ℕ) → pushed-lts.Need-enum-known-v (
+  expression-below t,
+  expression.Post,
+  pack-reads.Asked,
+  pack-reads.Learnt,
+  push-word-reads.Asked,
+  push-word-reads.Learnt,
+) (pushed-at t) pushed.Post
+pushed-enum-known-v t c = search needs
+
+-- src/lib.rt:216:49
+pushed-pack-requires : (t : ℕ) → pushed-lts.Need-pack-requires (
+  expression-below t,
+  expression.Post,
+  pack-reads.Asked,
+  pack-reads.Learnt,
+  push-word-reads.Asked,
+  push-word-reads.Learnt,
+) (pushed-at t) pushed.Post
+pushed-pack-requires t c κs = search needs
+
+-- src/lib.rt:216:17
+pushed-push-word-requires : (t : ℕ) → pushed-lts.Need-push-word-requires (
+  expression-below t,
+  expression.Post,
+  pack-reads.Asked,
+  pack-reads.Learnt,
+  push-word-reads.Asked,
+  push-word-reads.Learnt,
+) (pushed-at t) pushed.Post
+pushed-push-word-requires t c κs = search needs
+
+-- src/lib.rt:219:21
+pushed-enum-known-n : (t : ℕ) → pushed-lts.Need-enum-known-n (
+  expression-below t,
+  expression.Post,
+  pack-reads.Asked,
+  pack-reads.Learnt,
+  push-word-reads.Asked,
+  push-word-reads.Learnt,
+) (pushed-at t) pushed.Post
+pushed-enum-known-n t c = search needs
+
+-- src/lib.rt:200:1
+pushed-same-length : (t : ℕ) → pushed-lts.Need-same-length (
+  expression-below t,
+  expression.Post,
+  pack-reads.Asked,
+  pack-reads.Learnt,
+  push-word-reads.Asked,
+  push-word-reads.Learnt,
+) (pushed-at t) pushed.Post
+pushed-same-length t c = search needs
+
+-- src/lib.rt:200:1
+pushed-same-length-2 : (t : ℕ) → pushed-lts.Need-same-length-2 (
+  expression-below t,
+  expression.Post,
+  pack-reads.Asked,
+  pack-reads.Learnt,
+  push-word-reads.Asked,
+  push-word-reads.Learnt,
+) (pushed-at t) pushed.Post
+pushed-same-length-2 t c = search needs
+
+-- src/lib.rt:200:1
+pushed-returns : (t : ℕ) → pushed-lts.Need-returns (
+  expression-below t,
+  expression.Post,
+  pack-reads.Asked,
+  pack-reads.Learnt,
+  push-word-reads.Asked,
+  push-word-reads.Learnt,
+) (pushed-at t) pushed.Post
+pushed-returns t c = search push-goes
+
+-- src/lib.rt:200:1
+pushed-same-length-3 : (t : ℕ) → pushed-lts.Need-same-length-3 (
+  expression-below t,
+  expression.Post,
+  pack-reads.Asked,
+  pack-reads.Learnt,
+  push-word-reads.Asked,
+  push-word-reads.Learnt,
+) (pushed-at t) pushed.Post
+pushed-same-length-3 t c = search needs
+
+-- src/lib.rt:200:1
+pushed-same-length-4 : (t : ℕ) → pushed-lts.Need-same-length-4 (
+  expression-below t,
+  expression.Post,
+  pack-reads.Asked,
+  pack-reads.Learnt,
+  push-word-reads.Asked,
+  push-word-reads.Learnt,
+) (pushed-at t) pushed.Post
+pushed-same-length-4 t c = search needs
+
+-- src/lib.rt:200:1
+pushed-returns-2 : (t : ℕ) → pushed-lts.Need-returns-2 (
+  expression-below t,
+  expression.Post,
+  pack-reads.Asked,
+  pack-reads.Learnt,
+  push-word-reads.Asked,
+  push-word-reads.Learnt,
+) (pushed-at t) pushed.Post
+pushed-returns-2 t c = search push-stops
+
 abbrev repeat-Inv-loop : repeat-lts.InvT-loop
 repeat-Inv-loop program code grants texts₀ words₀ fuel y p turns₀ texts words turns = Looping program code grants fuel texts₀ words₀ y p texts words turns
 
 abbrev repeat-μ-loop : repeat-lts.MeasureT-loop
 repeat-μ-loop program code grants texts₀ words₀ fuel y p turns₀ texts words turns = turns
 
--- src/lib.rt:576:21
+-- src/lib.rt:595:21
 repeat-element-copy-out-turns : (t : ℕ) → repeat-lts.Need-element-copy-out-turns (
   count-reads.Asked,
   count-reads.Learnt,
@@ -5219,7 +5246,7 @@ repeat-element-copy-out-turns : (t : ℕ) → repeat-lts.Need-element-copy-out-t
 ) (repeat-at t) repeat.Post repeat-Inv-loop repeat-μ-loop
 repeat-element-copy-out-turns t c = search needs
 
--- src/lib.rt:576:21
+-- src/lib.rt:595:21
 repeat-add-turns : (t : ℕ) → repeat-lts.Need-add-turns (
   count-reads.Asked,
   count-reads.Learnt,
@@ -5230,7 +5257,7 @@ repeat-add-turns : (t : ℕ) → repeat-lts.Need-add-turns (
 ) (repeat-at t) repeat.Post repeat-Inv-loop repeat-μ-loop
 repeat-add-turns t c = omega (arith, c .before .before .before .before .before .pre .1 .lent .lent .room .steps)
 
--- src/lib.rt:577:5
+-- src/lib.rt:596:5
 repeat-loop-holds : (t : ℕ) → repeat-lts.Need-loop-holds (
   count-reads.Asked,
   count-reads.Learnt,
@@ -5241,7 +5268,7 @@ repeat-loop-holds : (t : ℕ) → repeat-lts.Need-loop-holds (
 ) (repeat-at t) repeat.Post repeat-Inv-loop repeat-μ-loop
 repeat-loop-holds t c = loop-first _ _ _ _ _ _ _ _ (c .before .before .before .before .before .pre .1)
 
--- src/lib.rt:578:9
+-- src/lib.rt:597:9
 repeat-sub-turns : (t : ℕ) → repeat-lts.Need-sub-turns (
   count-reads.Asked,
   count-reads.Learnt,
@@ -5252,7 +5279,7 @@ repeat-sub-turns : (t : ℕ) → repeat-lts.Need-sub-turns (
 ) (repeat-at t) repeat.Post repeat-Inv-loop repeat-μ-loop
 repeat-sub-turns t c = search needs
 
--- src/lib.rt:579:13
+-- src/lib.rt:598:13
 repeat-count-requires : (t : ℕ) → repeat-lts.Need-count-requires (
   count-reads.Asked,
   count-reads.Learnt,
@@ -5263,7 +5290,7 @@ repeat-count-requires : (t : ℕ) → repeat-lts.Need-count-requires (
 ) (repeat-at t) repeat.Post repeat-Inv-loop repeat-μ-loop
 repeat-count-requires t c κs = omega (arith, c .before .before .loop .inv .runs .lent .lent .room .words)
 
--- src/lib.rt:580:13
+-- src/lib.rt:599:13
 repeat-same-length : (t : ℕ) → repeat-lts.Need-same-length (
   count-reads.Asked,
   count-reads.Learnt,
@@ -5274,7 +5301,7 @@ repeat-same-length : (t : ℕ) → repeat-lts.Need-same-length (
 ) (repeat-at t) repeat.Post repeat-Inv-loop repeat-μ-loop
 repeat-same-length t c = search needs
 
--- src/lib.rt:580:13
+-- src/lib.rt:599:13
 repeat-same-length-2 : (t : ℕ) → repeat-lts.Need-same-length-2 (
   count-reads.Asked,
   count-reads.Learnt,
@@ -5285,7 +5312,7 @@ repeat-same-length-2 : (t : ℕ) → repeat-lts.Need-same-length-2 (
 ) (repeat-at t) repeat.Post repeat-Inv-loop repeat-μ-loop
 repeat-same-length-2 t c = search needs
 
--- src/lib.rt:580:13
+-- src/lib.rt:599:13
 repeat-returns : (t : ℕ) → repeat-lts.Need-returns (
   count-reads.Asked,
   count-reads.Learnt,
@@ -5296,7 +5323,7 @@ repeat-returns : (t : ℕ) → repeat-lts.Need-returns (
 ) (repeat-at t) repeat.Post repeat-Inv-loop repeat-μ-loop
 repeat-returns t c = loop-refused _ _ _ _ _ _ _ _ _ _ _ (c .before .before .before .before .before .before .loop .inv) (c .before .before .before .before .before .loop-test .taken) _ _ (c .before .before .before .count .ensures) (c .if1 .taken)
 
--- src/lib.rt:582:15
+-- src/lib.rt:601:15
 repeat-test-requires : (t : ℕ) → repeat-lts.Need-test-requires (
   count-reads.Asked,
   count-reads.Learnt,
@@ -5317,7 +5344,7 @@ repeat-enum-told : (t : ℕ) → repeat-lts.Need-enum-told (
 ) (repeat-at t) repeat.Post repeat-Inv-loop repeat-μ-loop
 repeat-enum-told t c = search needs
 
--- src/lib.rt:584:28
+-- src/lib.rt:603:28
 repeat-enum-told-2 : (t : ℕ) → repeat-lts.Need-enum-told-2 (
   count-reads.Asked,
   count-reads.Learnt,
@@ -5328,7 +5355,7 @@ repeat-enum-told-2 : (t : ℕ) → repeat-lts.Need-enum-told-2 (
 ) (repeat-at t) repeat.Post repeat-Inv-loop repeat-μ-loop
 repeat-enum-told-2 t c = search needs
 
--- src/lib.rt:584:28
+-- src/lib.rt:603:28
 repeat-same-length-3 : (t : ℕ) → repeat-lts.Need-same-length-3 (
   count-reads.Asked,
   count-reads.Learnt,
@@ -5339,7 +5366,7 @@ repeat-same-length-3 : (t : ℕ) → repeat-lts.Need-same-length-3 (
 ) (repeat-at t) repeat.Post repeat-Inv-loop repeat-μ-loop
 repeat-same-length-3 t c = search needs
 
--- src/lib.rt:584:28
+-- src/lib.rt:603:28
 repeat-same-length-4 : (t : ℕ) → repeat-lts.Need-same-length-4 (
   count-reads.Asked,
   count-reads.Learnt,
@@ -5350,7 +5377,7 @@ repeat-same-length-4 : (t : ℕ) → repeat-lts.Need-same-length-4 (
 ) (repeat-at t) repeat.Post repeat-Inv-loop repeat-μ-loop
 repeat-same-length-4 t c = search needs
 
--- src/lib.rt:584:28
+-- src/lib.rt:603:28
 repeat-returns-2 : (t : ℕ) → repeat-lts.Need-returns-2 (
   count-reads.Asked,
   count-reads.Learnt,
@@ -5361,7 +5388,7 @@ repeat-returns-2 : (t : ℕ) → repeat-lts.Need-returns-2 (
 ) (repeat-at t) repeat.Post repeat-Inv-loop repeat-μ-loop
 repeat-returns-2 t c = loop-ends _ _ _ _ _ _ _ _ _ _ _ (c .before .before .before .before .before .before .before .before .before .before .before .before .before .before .before .loop .inv) (c .before .before .before .before .before .before .before .before .before .before .before .before .before .before .loop-test .taken) _ _ (c .before .before .before .before .before .before .before .before .before .before .before .before .count .ensures) (c .before .before .before .before .before .before .before .before .before .if1 .left) _ _ _ (c .before .before .before .before .before .before .test .ensures) (c .enum-told2 .given .1)
 
--- src/lib.rt:585:30
+-- src/lib.rt:604:30
 repeat-enum-known-n : (t : ℕ) → repeat-lts.Need-enum-known-n (
   count-reads.Asked,
   count-reads.Learnt,
@@ -5372,7 +5399,7 @@ repeat-enum-known-n : (t : ℕ) → repeat-lts.Need-enum-known-n (
 ) (repeat-at t) repeat.Post repeat-Inv-loop repeat-μ-loop
 repeat-enum-known-n t c = search needs
 
--- src/lib.rt:585:39
+-- src/lib.rt:604:39
 repeat-same-length-5 : (t : ℕ) → repeat-lts.Need-same-length-5 (
   count-reads.Asked,
   count-reads.Learnt,
@@ -5383,7 +5410,7 @@ repeat-same-length-5 : (t : ℕ) → repeat-lts.Need-same-length-5 (
 ) (repeat-at t) repeat.Post repeat-Inv-loop repeat-μ-loop
 repeat-same-length-5 t c = search needs
 
--- src/lib.rt:585:39
+-- src/lib.rt:604:39
 repeat-same-length-6 : (t : ℕ) → repeat-lts.Need-same-length-6 (
   count-reads.Asked,
   count-reads.Learnt,
@@ -5394,7 +5421,7 @@ repeat-same-length-6 : (t : ℕ) → repeat-lts.Need-same-length-6 (
 ) (repeat-at t) repeat.Post repeat-Inv-loop repeat-μ-loop
 repeat-same-length-6 t c = search needs
 
--- src/lib.rt:585:39
+-- src/lib.rt:604:39
 repeat-returns-3 : (t : ℕ) → repeat-lts.Need-returns-3 (
   count-reads.Asked,
   count-reads.Learnt,
@@ -5405,7 +5432,7 @@ repeat-returns-3 : (t : ℕ) → repeat-lts.Need-returns-3 (
 ) (repeat-at t) repeat.Post repeat-Inv-loop repeat-μ-loop
 repeat-returns-3 t c = loop-stops _ _ _ _ _ _ _ _ _ _ _ (c .before .before .before .before .before .before .before .before .before .before .before .before .before .before .before .before .loop .inv) (c .before .before .before .before .before .before .before .before .before .before .before .before .before .before .before .loop-test .taken) _ _ (c .before .before .before .before .before .before .before .before .before .before .before .before .before .count .ensures) (c .before .before .before .before .before .before .before .before .before .before .if1 .left) _ _ _ (c .before .before .before .before .before .before .before .test .ensures) _ _ (c .before .n .given .1)
 
--- src/lib.rt:587:68
+-- src/lib.rt:606:68
 repeat-add-statement : (t : ℕ) → repeat-lts.Need-add-statement (
   count-reads.Asked,
   count-reads.Learnt,
@@ -5416,7 +5443,7 @@ repeat-add-statement : (t : ℕ) → repeat-lts.Need-add-statement (
 ) (repeat-at t) repeat.Post repeat-Inv-loop repeat-μ-loop
 repeat-add-statement t c = omega (arith, c .before .before .before .before .before .before .before .before .before .before .before .before .before .before .before .before .before .before .before .before .before .before .before .pre .1 .room)
 
--- src/lib.rt:587:15
+-- src/lib.rt:606:15
 repeat-statement-requires : (t : ℕ) → repeat-lts.Need-statement-requires (
   count-reads.Asked,
   count-reads.Learnt,
@@ -5437,7 +5464,7 @@ repeat-enum-told-3 : (t : ℕ) → repeat-lts.Need-enum-told-3 (
 ) (repeat-at t) repeat.Post repeat-Inv-loop repeat-μ-loop
 repeat-enum-told-3 t c = search needs
 
--- src/lib.rt:577:5
+-- src/lib.rt:596:5
 repeat-loop-less : (t : ℕ) → repeat-lts.Need-loop-less (
   count-reads.Asked,
   count-reads.Learnt,
@@ -5448,7 +5475,7 @@ repeat-loop-less : (t : ℕ) → repeat-lts.Need-loop-less (
 ) (repeat-at t) repeat.Post repeat-Inv-loop repeat-μ-loop
 repeat-loop-less t c = omega arith
 
--- src/lib.rt:577:5
+-- src/lib.rt:596:5
 repeat-loop-again : (t : ℕ) → repeat-lts.Need-loop-again (
   count-reads.Asked,
   count-reads.Learnt,
@@ -5459,7 +5486,7 @@ repeat-loop-again : (t : ℕ) → repeat-lts.Need-loop-again (
 ) (repeat-at t) repeat.Post repeat-Inv-loop repeat-μ-loop
 repeat-loop-again t c = loop-again _ _ _ _ _ _ _ _ _ _ _ (c .before .before .before .before .before .before .before .before .before .before .before .before .before .before .before .before .before .before .before .before .before .before .before .before .loop .inv) (c .before .before .before .before .before .before .before .before .before .before .before .before .before .before .before .before .before .before .before .before .before .before .before .loop-test .taken) _ _ (c .before .before .before .before .before .before .before .before .before .before .before .before .before .before .before .before .before .before .before .before .before .count .ensures) (c .before .before .before .before .before .before .before .before .before .before .before .before .before .before .before .before .before .before .if1 .left) _ _ _ (c .before .before .before .before .before .before .before .before .before .before .before .before .before .before .before .test .ensures) (c .before .before .before .before .before .before .before .before .before .enum-told .given .1) _ _ _ (c .before .before .before .before .before .before .statement .ensures) (let a0 = c .before .before .before .before .before .before .before .before .before .before .before .before .before .before .texts in let a1 = c .before .before .before .before .before .texts2 in omega arith) (let a0 = c .before .before .before .before .before .before .before .before .before .before .before .before .before .before .before .before .before .before .before .before .words in let a1 = c .before .before .before .before .before .before .before .before .before .before .before .before .words2 in let a2 = c .before .before .before .words3 in omega arith) (c .enum-told3 .given .1)
 
--- src/lib.rt:589:28
+-- src/lib.rt:608:28
 repeat-enum-known-v : (t : ℕ) → repeat-lts.Need-enum-known-v (
   count-reads.Asked,
   count-reads.Learnt,
@@ -5470,7 +5497,7 @@ repeat-enum-known-v : (t : ℕ) → repeat-lts.Need-enum-known-v (
 ) (repeat-at t) repeat.Post repeat-Inv-loop repeat-μ-loop
 repeat-enum-known-v t c = search needs
 
--- src/lib.rt:589:34
+-- src/lib.rt:608:34
 repeat-same-length-7 : (t : ℕ) → repeat-lts.Need-same-length-7 (
   count-reads.Asked,
   count-reads.Learnt,
@@ -5481,7 +5508,7 @@ repeat-same-length-7 : (t : ℕ) → repeat-lts.Need-same-length-7 (
 ) (repeat-at t) repeat.Post repeat-Inv-loop repeat-μ-loop
 repeat-same-length-7 t c = search needs
 
--- src/lib.rt:589:34
+-- src/lib.rt:608:34
 repeat-same-length-8 : (t : ℕ) → repeat-lts.Need-same-length-8 (
   count-reads.Asked,
   count-reads.Learnt,
@@ -5492,7 +5519,7 @@ repeat-same-length-8 : (t : ℕ) → repeat-lts.Need-same-length-8 (
 ) (repeat-at t) repeat.Post repeat-Inv-loop repeat-μ-loop
 repeat-same-length-8 t c = search needs
 
--- src/lib.rt:589:34
+-- src/lib.rt:608:34
 repeat-returns-4 : (t : ℕ) → repeat-lts.Need-returns-4 (
   count-reads.Asked,
   count-reads.Learnt,
@@ -5503,7 +5530,7 @@ repeat-returns-4 : (t : ℕ) → repeat-lts.Need-returns-4 (
 ) (repeat-at t) repeat.Post repeat-Inv-loop repeat-μ-loop
 repeat-returns-4 t c = loop-returns _ _ _ _ _ _ _ _ _ _ _ (c .before .before .before .before .before .before .before .before .before .before .before .before .before .before .before .before .before .before .before .before .before .before .before .before .before .loop .inv) (c .before .before .before .before .before .before .before .before .before .before .before .before .before .before .before .before .before .before .before .before .before .before .before .before .loop-test .taken) _ _ (c .before .before .before .before .before .before .before .before .before .before .before .before .before .before .before .before .before .before .before .before .before .before .count .ensures) (c .before .before .before .before .before .before .before .before .before .before .before .before .before .before .before .before .before .before .before .if1 .left) _ _ _ (c .before .before .before .before .before .before .before .before .before .before .before .before .before .before .before .before .test .ensures) (c .before .before .before .before .before .before .before .before .before .before .enum-told .given .1) _ _ _ (c .before .before .before .before .before .before .before .statement .ensures) _ (c .before .v .given .1)
 
--- src/lib.rt:590:27
+-- src/lib.rt:609:27
 repeat-enum-known-n-2 : (t : ℕ) → repeat-lts.Need-enum-known-n-2 (
   count-reads.Asked,
   count-reads.Learnt,
@@ -5514,7 +5541,7 @@ repeat-enum-known-n-2 : (t : ℕ) → repeat-lts.Need-enum-known-n-2 (
 ) (repeat-at t) repeat.Post repeat-Inv-loop repeat-μ-loop
 repeat-enum-known-n-2 t c = search needs
 
--- src/lib.rt:590:36
+-- src/lib.rt:609:36
 repeat-same-length-9 : (t : ℕ) → repeat-lts.Need-same-length-9 (
   count-reads.Asked,
   count-reads.Learnt,
@@ -5525,7 +5552,7 @@ repeat-same-length-9 : (t : ℕ) → repeat-lts.Need-same-length-9 (
 ) (repeat-at t) repeat.Post repeat-Inv-loop repeat-μ-loop
 repeat-same-length-9 t c = search needs
 
--- src/lib.rt:590:36
+-- src/lib.rt:609:36
 repeat-same-length-10 : (t : ℕ) → repeat-lts.Need-same-length-10 (
   count-reads.Asked,
   count-reads.Learnt,
@@ -5536,7 +5563,7 @@ repeat-same-length-10 : (t : ℕ) → repeat-lts.Need-same-length-10 (
 ) (repeat-at t) repeat.Post repeat-Inv-loop repeat-μ-loop
 repeat-same-length-10 t c = search needs
 
--- src/lib.rt:590:36
+-- src/lib.rt:609:36
 repeat-returns-5 : (t : ℕ) → repeat-lts.Need-returns-5 (
   count-reads.Asked,
   count-reads.Learnt,
@@ -5547,7 +5574,7 @@ repeat-returns-5 : (t : ℕ) → repeat-lts.Need-returns-5 (
 ) (repeat-at t) repeat.Post repeat-Inv-loop repeat-μ-loop
 repeat-returns-5 t c = loop-fails _ _ _ _ _ _ _ _ _ _ _ (c .before .before .before .before .before .before .before .before .before .before .before .before .before .before .before .before .before .before .before .before .before .before .before .before .before .loop .inv) (c .before .before .before .before .before .before .before .before .before .before .before .before .before .before .before .before .before .before .before .before .before .before .before .before .loop-test .taken) _ _ (c .before .before .before .before .before .before .before .before .before .before .before .before .before .before .before .before .before .before .before .before .before .before .count .ensures) (c .before .before .before .before .before .before .before .before .before .before .before .before .before .before .before .before .before .before .before .if1 .left) _ _ _ (c .before .before .before .before .before .before .before .before .before .before .before .before .before .before .before .before .test .ensures) (c .before .before .before .before .before .before .before .before .before .before .enum-told .given .1) _ _ _ (c .before .before .before .before .before .before .before .statement .ensures) _ _ (c .before .n2 .given .1)
 
--- src/lib.rt:562:1
+-- src/lib.rt:581:1
 repeat-same-length-11 : (t : ℕ) → repeat-lts.Need-same-length-11 (
   count-reads.Asked,
   count-reads.Learnt,
@@ -5558,7 +5585,7 @@ repeat-same-length-11 : (t : ℕ) → repeat-lts.Need-same-length-11 (
 ) (repeat-at t) repeat.Post repeat-Inv-loop repeat-μ-loop
 repeat-same-length-11 t c = search needs
 
--- src/lib.rt:562:1
+-- src/lib.rt:581:1
 repeat-same-length-12 : (t : ℕ) → repeat-lts.Need-same-length-12 (
   count-reads.Asked,
   count-reads.Learnt,
@@ -5569,7 +5596,7 @@ repeat-same-length-12 : (t : ℕ) → repeat-lts.Need-same-length-12 (
 ) (repeat-at t) repeat.Post repeat-Inv-loop repeat-μ-loop
 repeat-same-length-12 t c = search needs
 
--- src/lib.rt:562:1
+-- src/lib.rt:581:1
 repeat-returns-6 : (t : ℕ) → repeat-lts.Need-returns-6 (
   count-reads.Asked,
   count-reads.Learnt,
@@ -5580,7 +5607,7 @@ repeat-returns-6 : (t : ℕ) → repeat-lts.Need-returns-6 (
 ) (repeat-at t) repeat.Post repeat-Inv-loop repeat-μ-loop
 repeat-returns-6 t c = loop-short _ _ _ _ _ _ _ _ _ _ _ (c .before .loop .inv) (omega arith)
 
--- src/lib.rt:337:9
+-- src/lib.rt:356:9
 simple-last-of-requires : (t : ℕ) → simple-lts.Need-last-of-requires (
   last-of-reads.Asked,
   last-of-reads.Learnt,
@@ -5603,7 +5630,7 @@ simple-last-of-requires : (t : ℕ) → simple-lts.Need-last-of-requires (
 ) (simple-at t) simple.Post
 simple-last-of-requires t c κs = omega (arith, c .before .before .before .before .pre .1 .room)
 
--- src/lib.rt:338:9
+-- src/lib.rt:357:9
 simple-fast-value-requires : (t : ℕ) → simple-lts.Need-fast-value-requires (
   last-of-reads.Asked,
   last-of-reads.Learnt,
@@ -5626,7 +5653,7 @@ simple-fast-value-requires : (t : ℕ) → simple-lts.Need-fast-value-requires (
 ) (simple-at t) simple.Post
 simple-fast-value-requires t c κs = omega (arith, c .before .before .before .before .before .before .pre .1 .lent .lent .room .words)
 
--- src/lib.rt:340:12
+-- src/lib.rt:359:12
 simple-tag-of-requires : (t : ℕ) → simple-lts.Need-tag-of-requires (
   last-of-reads.Asked,
   last-of-reads.Learnt,
@@ -5649,7 +5676,7 @@ simple-tag-of-requires : (t : ℕ) → simple-lts.Need-tag-of-requires (
 ) (simple-at t) simple.Post
 simple-tag-of-requires t c κs = search needs
 
--- src/lib.rt:341:54
+-- src/lib.rt:360:54
 simple-extra-of-requires : (t : ℕ) → simple-lts.Need-extra-of-requires (
   last-of-reads.Asked,
   last-of-reads.Learnt,
@@ -5672,7 +5699,7 @@ simple-extra-of-requires : (t : ℕ) → simple-lts.Need-extra-of-requires (
 ) (simple-at t) simple.Post
 simple-extra-of-requires t c κs = search needs
 
--- src/lib.rt:341:17
+-- src/lib.rt:360:17
 simple-put-word-requires : (t : ℕ) → simple-lts.Need-put-word-requires (
   last-of-reads.Asked,
   last-of-reads.Learnt,
@@ -5695,7 +5722,7 @@ simple-put-word-requires : (t : ℕ) → simple-lts.Need-put-word-requires (
 ) (simple-at t) simple.Post
 simple-put-word-requires t c κs = (let b = c .before .before .before .before .before .before .words in omega (arith, c .before .before .before .before .before .before .before .before .before .before .before .before .before .before .pre .1 .lent .lent .room .words), no-shape _ _ _ _ _ _ _ _ (c .before .before .before .before .before .before .before .fast-value .ensures) (c .before .before .before .before .before .before .before .before .before .before .before .before .before .before .pre .1 .lent) (c .before .before .before .before .if1 .taken))
 
--- src/lib.rt:342:13
+-- src/lib.rt:361:13
 simple-same-length : (t : ℕ) → simple-lts.Need-same-length (
   last-of-reads.Asked,
   last-of-reads.Learnt,
@@ -5718,7 +5745,7 @@ simple-same-length : (t : ℕ) → simple-lts.Need-same-length (
 ) (simple-at t) simple.Post
 simple-same-length t c = search needs
 
--- src/lib.rt:342:13
+-- src/lib.rt:361:13
 simple-returns : (t : ℕ) → simple-lts.Need-returns (
   last-of-reads.Asked,
   last-of-reads.Learnt,
@@ -5741,7 +5768,7 @@ simple-returns : (t : ℕ) → simple-lts.Need-returns (
 ) (simple-at t) simple.Post
 simple-returns t c = simple-fast _ _ _ _ _ _ _ _ _ _ (c .before .before .before .before .before .before .before .before .before .before .fast-value .ensures) (c .before .before .before .before .before .before .before .before .before .before .before .before .before .before .before .before .before .pre .1 .lent) (c .before .before .before .before .before .before .before .if1 .taken) _ _ _ _ (c .before .before .before .before .before .before .before .before .before .before .before .before .last-of .ensures .0) (is-assignment _ _ _ _ _ _ (c .before .before .before .before .before .before .tag-of .ensures) _ _ _ (c .before .before .before .before .before .if2 .taken) (c .before .before .before .extra-of .ensures .0) (c .before .before .put-word .ensures))
 
--- src/lib.rt:344:9
+-- src/lib.rt:363:9
 simple-pass-on-requires : (t : ℕ) → simple-lts.Need-pass-on-requires (
   last-of-reads.Asked,
   last-of-reads.Learnt,
@@ -5764,7 +5791,7 @@ simple-pass-on-requires : (t : ℕ) → simple-lts.Need-pass-on-requires (
 ) (simple-at t) simple.Post
 simple-pass-on-requires t c κs = λ q. c .if2 .left (c .before .tag-of .ensures ∙ q)
 
--- src/lib.rt:344:9
+-- src/lib.rt:363:9
 simple-same-length-2 : (t : ℕ) → simple-lts.Need-same-length-2 (
   last-of-reads.Asked,
   last-of-reads.Learnt,
@@ -5787,7 +5814,7 @@ simple-same-length-2 : (t : ℕ) → simple-lts.Need-same-length-2 (
 ) (simple-at t) simple.Post
 simple-same-length-2 t c = search needs
 
--- src/lib.rt:344:9
+-- src/lib.rt:363:9
 simple-returns-2 : (t : ℕ) → simple-lts.Need-returns-2 (
   last-of-reads.Asked,
   last-of-reads.Learnt,
@@ -5810,7 +5837,7 @@ simple-returns-2 : (t : ℕ) → simple-lts.Need-returns-2 (
 ) (simple-at t) simple.Post
 simple-returns-2 t c = simple-fast _ _ _ _ _ _ _ _ _ _ (c .before .before .before .before .before .before .fast-value .ensures) (c .before .before .before .before .before .before .before .before .before .before .before .before .before .pre .1 .lent) (c .before .before .before .if1 .taken) _ _ _ _ (c .before .before .before .before .before .before .before .before .last-of .ensures .0) (c .pass-on .ensures _ _ _)
 
--- src/lib.rt:346:11
+-- src/lib.rt:365:11
 simple-expression-requires : (t : ℕ) → simple-lts.Need-expression-requires (
   last-of-reads.Asked,
   last-of-reads.Learnt,
@@ -5833,7 +5860,7 @@ simple-expression-requires : (t : ℕ) → simple-lts.Need-expression-requires (
 ) (simple-at t) simple.Post
 simple-expression-requires t c κs = (omega arith, slow-lent _ _ _ _ _ _ _ _ (c .before .before .before .before .before .fast-value .ensures) (c .before .before .if1 .left) (c .before .before .before .before .before .before .before .before .before .before .before .before .pre .1 .lent))
 
--- src/lib.rt:347:22
+-- src/lib.rt:366:22
 simple-enum-known-v : (t : ℕ) → simple-lts.Need-enum-known-v (
   last-of-reads.Asked,
   last-of-reads.Learnt,
@@ -5856,7 +5883,7 @@ simple-enum-known-v : (t : ℕ) → simple-lts.Need-enum-known-v (
 ) (simple-at t) simple.Post
 simple-enum-known-v t c = search needs
 
--- src/lib.rt:347:68
+-- src/lib.rt:366:68
 simple-pack-requires : (t : ℕ) → simple-lts.Need-pack-requires (
   last-of-reads.Asked,
   last-of-reads.Learnt,
@@ -5879,7 +5906,7 @@ simple-pack-requires : (t : ℕ) → simple-lts.Need-pack-requires (
 ) (simple-at t) simple.Post
 simple-pack-requires t c κs = search needs
 
--- src/lib.rt:347:34
+-- src/lib.rt:366:34
 simple-finish-requires : (t : ℕ) → simple-lts.Need-finish-requires (
   last-of-reads.Asked,
   last-of-reads.Learnt,
@@ -5902,7 +5929,7 @@ simple-finish-requires : (t : ℕ) → simple-lts.Need-finish-requires (
 ) (simple-at t) simple.Post
 simple-finish-requires t c κs = still-room _ _ _ _ _ (c .before .before .before .before .before .before .before .before .before .before .before .before .before .before .before .before .before .before .before .before .before .before .pre .1 .lent) (let a0 = c .before .before .before .before .before .before .before .before .before .before .before .before .before .before .words in let a1 = c .before .before .before .before .before .before .words3 in omega arith)
 
--- src/lib.rt:348:29
+-- src/lib.rt:367:29
 simple-enum-told : (t : ℕ) → simple-lts.Need-enum-told (
   last-of-reads.Asked,
   last-of-reads.Learnt,
@@ -5925,7 +5952,7 @@ simple-enum-told : (t : ℕ) → simple-lts.Need-enum-told (
 ) (simple-at t) simple.Post
 simple-enum-told t c = search needs
 
--- src/lib.rt:349:28
+-- src/lib.rt:368:28
 simple-enum-known-u : (t : ℕ) → simple-lts.Need-enum-known-u (
   last-of-reads.Asked,
   last-of-reads.Learnt,
@@ -5948,7 +5975,7 @@ simple-enum-known-u : (t : ℕ) → simple-lts.Need-enum-known-u (
 ) (simple-at t) simple.Post
 simple-enum-known-u t c = search needs
 
--- src/lib.rt:350:27
+-- src/lib.rt:369:27
 simple-enum-known-n : (t : ℕ) → simple-lts.Need-enum-known-n (
   last-of-reads.Asked,
   last-of-reads.Learnt,
@@ -5971,7 +5998,7 @@ simple-enum-known-n : (t : ℕ) → simple-lts.Need-enum-known-n (
 ) (simple-at t) simple.Post
 simple-enum-known-n t c = search needs
 
--- src/lib.rt:352:21
+-- src/lib.rt:371:21
 simple-enum-known-n-2 : (t : ℕ) → simple-lts.Need-enum-known-n-2 (
   last-of-reads.Asked,
   last-of-reads.Learnt,
@@ -5994,7 +6021,7 @@ simple-enum-known-n-2 : (t : ℕ) → simple-lts.Need-enum-known-n-2 (
 ) (simple-at t) simple.Post
 simple-enum-known-n-2 t c = search needs
 
--- src/lib.rt:322:1
+-- src/lib.rt:341:1
 simple-same-length-3 : (t : ℕ) → simple-lts.Need-same-length-3 (
   last-of-reads.Asked,
   last-of-reads.Learnt,
@@ -6017,7 +6044,7 @@ simple-same-length-3 : (t : ℕ) → simple-lts.Need-same-length-3 (
 ) (simple-at t) simple.Post
 simple-same-length-3 t c = search needs
 
--- src/lib.rt:322:1
+-- src/lib.rt:341:1
 simple-same-length-4 : (t : ℕ) → simple-lts.Need-same-length-4 (
   last-of-reads.Asked,
   last-of-reads.Learnt,
@@ -6040,7 +6067,7 @@ simple-same-length-4 : (t : ℕ) → simple-lts.Need-same-length-4 (
 ) (simple-at t) simple.Post
 simple-same-length-4 t c = search needs
 
--- src/lib.rt:322:1
+-- src/lib.rt:341:1
 simple-returns-3 : (t : ℕ) → simple-lts.Need-returns-3 (
   last-of-reads.Asked,
   last-of-reads.Learnt,
@@ -6063,7 +6090,7 @@ simple-returns-3 : (t : ℕ) → simple-lts.Need-returns-3 (
 ) (simple-at t) simple.Post
 simple-returns-3 t c = simple-done _ _ _ _ _ _ _ _ _ _ (c .before .before .before .before .before .before .before .before .before .before .before .before .before .before .before .before .before .before .before .before .fast-value .ensures) (c .before .before .before .before .before .before .before .before .before .before .before .before .before .before .before .before .before .if1 .left) _ _ _ (c .before .before .before .before .before .before .before .before .before .before .before .before .before .before .expression .ensures) _ _ _ _ _ _ _ (c .before .before .before .before .before .before .before .before .before .before .before .before .before .before .before .before .before .before .before .before .before .before .last-of .ensures .0) (c .before .before .before .before .before .before .before .before .v .given .1) (c .before .before .before .before .before .pack .ensures) (c .before .before .before .before .finish .ensures) (c .enum-told .given .1)
 
--- src/lib.rt:322:1
+-- src/lib.rt:341:1
 simple-same-length-5 : (t : ℕ) → simple-lts.Need-same-length-5 (
   last-of-reads.Asked,
   last-of-reads.Learnt,
@@ -6086,7 +6113,7 @@ simple-same-length-5 : (t : ℕ) → simple-lts.Need-same-length-5 (
 ) (simple-at t) simple.Post
 simple-same-length-5 t c = search needs
 
--- src/lib.rt:322:1
+-- src/lib.rt:341:1
 simple-same-length-6 : (t : ℕ) → simple-lts.Need-same-length-6 (
   last-of-reads.Asked,
   last-of-reads.Learnt,
@@ -6109,7 +6136,7 @@ simple-same-length-6 : (t : ℕ) → simple-lts.Need-same-length-6 (
 ) (simple-at t) simple.Post
 simple-same-length-6 t c = search needs
 
--- src/lib.rt:322:1
+-- src/lib.rt:341:1
 simple-returns-4 : (t : ℕ) → simple-lts.Need-returns-4 (
   last-of-reads.Asked,
   last-of-reads.Learnt,
@@ -6132,7 +6159,7 @@ simple-returns-4 : (t : ℕ) → simple-lts.Need-returns-4 (
 ) (simple-at t) simple.Post
 simple-returns-4 t c = simple-done _ _ _ _ _ _ _ _ _ _ (c .before .before .before .before .before .before .before .before .before .before .before .before .before .before .before .before .before .before .before .before .before .fast-value .ensures) (c .before .before .before .before .before .before .before .before .before .before .before .before .before .before .before .before .before .before .if1 .left) _ _ _ (c .before .before .before .before .before .before .before .before .before .before .before .before .before .before .before .expression .ensures) _ _ _ _ _ _ _ (c .before .before .before .before .before .before .before .before .before .before .before .before .before .before .before .before .before .before .before .before .before .before .before .last-of .ensures .0) (c .before .before .before .before .before .before .before .before .before .v .given .1) (c .before .before .before .before .before .before .pack .ensures) (c .before .before .before .before .before .finish .ensures) (c .before .u .given .1)
 
--- src/lib.rt:322:1
+-- src/lib.rt:341:1
 simple-same-length-7 : (t : ℕ) → simple-lts.Need-same-length-7 (
   last-of-reads.Asked,
   last-of-reads.Learnt,
@@ -6155,7 +6182,7 @@ simple-same-length-7 : (t : ℕ) → simple-lts.Need-same-length-7 (
 ) (simple-at t) simple.Post
 simple-same-length-7 t c = search needs
 
--- src/lib.rt:322:1
+-- src/lib.rt:341:1
 simple-same-length-8 : (t : ℕ) → simple-lts.Need-same-length-8 (
   last-of-reads.Asked,
   last-of-reads.Learnt,
@@ -6178,7 +6205,7 @@ simple-same-length-8 : (t : ℕ) → simple-lts.Need-same-length-8 (
 ) (simple-at t) simple.Post
 simple-same-length-8 t c = search needs
 
--- src/lib.rt:322:1
+-- src/lib.rt:341:1
 simple-returns-5 : (t : ℕ) → simple-lts.Need-returns-5 (
   last-of-reads.Asked,
   last-of-reads.Learnt,
@@ -6201,7 +6228,7 @@ simple-returns-5 : (t : ℕ) → simple-lts.Need-returns-5 (
 ) (simple-at t) simple.Post
 simple-returns-5 t c = simple-done _ _ _ _ _ _ _ _ _ _ (c .before .before .before .before .before .before .before .before .before .before .before .before .before .before .before .before .before .before .before .before .before .fast-value .ensures) (c .before .before .before .before .before .before .before .before .before .before .before .before .before .before .before .before .before .before .if1 .left) _ _ _ (c .before .before .before .before .before .before .before .before .before .before .before .before .before .before .before .expression .ensures) _ _ _ _ _ _ _ (c .before .before .before .before .before .before .before .before .before .before .before .before .before .before .before .before .before .before .before .before .before .before .before .last-of .ensures .0) (c .before .before .before .before .before .before .before .before .before .v .given .1) (c .before .before .before .before .before .before .pack .ensures) (c .before .before .before .before .before .finish .ensures) (c .before .n .given .1)
 
--- src/lib.rt:322:1
+-- src/lib.rt:341:1
 simple-same-length-9 : (t : ℕ) → simple-lts.Need-same-length-9 (
   last-of-reads.Asked,
   last-of-reads.Learnt,
@@ -6224,7 +6251,7 @@ simple-same-length-9 : (t : ℕ) → simple-lts.Need-same-length-9 (
 ) (simple-at t) simple.Post
 simple-same-length-9 t c = search needs
 
--- src/lib.rt:322:1
+-- src/lib.rt:341:1
 simple-same-length-10 : (t : ℕ) → simple-lts.Need-same-length-10 (
   last-of-reads.Asked,
   last-of-reads.Learnt,
@@ -6247,7 +6274,7 @@ simple-same-length-10 : (t : ℕ) → simple-lts.Need-same-length-10 (
 ) (simple-at t) simple.Post
 simple-same-length-10 t c = search needs
 
--- src/lib.rt:322:1
+-- src/lib.rt:341:1
 simple-returns-6 : (t : ℕ) → simple-lts.Need-returns-6 (
   last-of-reads.Asked,
   last-of-reads.Learnt,
@@ -6270,7 +6297,7 @@ simple-returns-6 : (t : ℕ) → simple-lts.Need-returns-6 (
 ) (simple-at t) simple.Post
 simple-returns-6 t c = simple-stops _ _ _ _ _ _ _ _ _ _ (c .before .before .before .before .before .before .before .before .before .before .before .before .before .fast-value .ensures) (c .before .before .before .before .before .before .before .before .before .before .if1 .left) _ _ _ (c .before .before .before .before .before .before .before .expression .ensures) _ _ _ _ (c .before .before .before .before .before .before .before .before .before .before .before .before .before .before .before .last-of .ensures .0) (c .before .n2 .given .1)
 
--- src/lib.rt:447:9
+-- src/lib.rt:466:9
 statement-returns : (t : ℕ) → statement-lts.Need-returns (
   word-at-reads.Asked,
   word-at-reads.Learnt,
@@ -6303,7 +6330,7 @@ statement-returns : (t : ℕ) → statement-lts.Need-returns (
 ) (statement-at t) statement′.Post
 statement-returns t c = search statement-too-deep
 
--- src/lib.rt:449:9
+-- src/lib.rt:468:9
 statement-word-at-requires : (t : ℕ) → statement-lts.Need-word-at-requires (
   word-at-reads.Asked,
   word-at-reads.Learnt,
@@ -6336,7 +6363,7 @@ statement-word-at-requires : (t : ℕ) → statement-lts.Need-word-at-requires (
 ) (statement-at t) statement′.Post
 statement-word-at-requires t c κs = search needs
 
--- src/lib.rt:450:9
+-- src/lib.rt:469:9
 statement-place-of-requires : (t : ℕ) → statement-lts.Need-place-of-requires (
   word-at-reads.Asked,
   word-at-reads.Learnt,
@@ -6369,7 +6396,7 @@ statement-place-of-requires : (t : ℕ) → statement-lts.Need-place-of-requires
 ) (statement-at t) statement′.Post
 statement-place-of-requires t c κs = search needs
 
--- src/lib.rt:451:9
+-- src/lib.rt:470:9
 statement-tag-of-requires : (t : ℕ) → statement-lts.Need-tag-of-requires (
   word-at-reads.Asked,
   word-at-reads.Learnt,
@@ -6402,7 +6429,7 @@ statement-tag-of-requires : (t : ℕ) → statement-lts.Need-tag-of-requires (
 ) (statement-at t) statement′.Post
 statement-tag-of-requires t c κs = search needs
 
--- src/lib.rt:459:13
+-- src/lib.rt:478:13
 statement-sub-repeat : (t : ℕ) → statement-lts.Need-sub-repeat (
   word-at-reads.Asked,
   word-at-reads.Learnt,
@@ -6435,7 +6462,7 @@ statement-sub-repeat : (t : ℕ) → statement-lts.Need-sub-repeat (
 ) (statement-at t) statement′.Post
 statement-sub-repeat t c = search needs
 
--- src/lib.rt:460:17
+-- src/lib.rt:479:17
 statement-extra-of-requires : (t : ℕ) → statement-lts.Need-extra-of-requires (
   word-at-reads.Asked,
   word-at-reads.Learnt,
@@ -6468,7 +6495,7 @@ statement-extra-of-requires : (t : ℕ) → statement-lts.Need-extra-of-requires
 ) (statement-at t) statement′.Post
 statement-extra-of-requires t c κs = search needs
 
--- src/lib.rt:460:13
+-- src/lib.rt:479:13
 statement-add-repeat : (t : ℕ) → statement-lts.Need-add-repeat (
   word-at-reads.Asked,
   word-at-reads.Learnt,
@@ -6501,7 +6528,7 @@ statement-add-repeat : (t : ℕ) → statement-lts.Need-add-repeat (
 ) (statement-at t) statement′.Post
 statement-add-repeat t c = omega (arith, c .before .before .before .before .before .before .before .before .before .before .before .before .pre .1 .room, c .extra-of .ensures .1)
 
--- src/lib.rt:453:13
+-- src/lib.rt:472:13
 statement-repeat-requires : (t : ℕ) → statement-lts.Need-repeat-requires (
   word-at-reads.Asked,
   word-at-reads.Learnt,
@@ -6534,7 +6561,7 @@ statement-repeat-requires : (t : ℕ) → statement-lts.Need-repeat-requires (
 ) (statement-at t) statement′.Post
 statement-repeat-requires t c κs = (omega arith, record { lent = record { lent = c .before .before .before .before .before .before .before .before .before .before .before .before .pre .1 .lent .lent; deep = omega (arith, c .before .before .before .before .before .before .before .before .before .before .before .before .pre .1 .lent .deep) }; room = omega (arith, c .before .before .before .before .before .before .before .before .before .before .before .before .pre .1 .room, c .extra-of .ensures .1, c .before .before .before .before .before .before .before .if1 .left) })
 
--- src/lib.rt:463:9
+-- src/lib.rt:482:9
 statement-same-length : (t : ℕ) → statement-lts.Need-same-length (
   word-at-reads.Asked,
   word-at-reads.Learnt,
@@ -6567,7 +6594,7 @@ statement-same-length : (t : ℕ) → statement-lts.Need-same-length (
 ) (statement-at t) statement′.Post
 statement-same-length t c = search needs
 
--- src/lib.rt:463:9
+-- src/lib.rt:482:9
 statement-same-length-2 : (t : ℕ) → statement-lts.Need-same-length-2 (
   word-at-reads.Asked,
   word-at-reads.Learnt,
@@ -6600,7 +6627,7 @@ statement-same-length-2 : (t : ℕ) → statement-lts.Need-same-length-2 (
 ) (statement-at t) statement′.Post
 statement-same-length-2 t c = search needs
 
--- src/lib.rt:463:9
+-- src/lib.rt:482:9
 statement-returns-2 : (t : ℕ) → statement-lts.Need-returns-2 (
   word-at-reads.Asked,
   word-at-reads.Learnt,
@@ -6633,7 +6660,7 @@ statement-returns-2 : (t : ℕ) → statement-lts.Need-returns-2 (
 ) (statement-at t) statement′.Post
 statement-returns-2 t c = is-loop _ _ _ _ _ _ _ (c .before .before .before .before .before .before .before .before .before .before .before .before .if1 .left) _ (c .before .before .before .before .before .before .before .before .before .before .before .word-at .ensures) _ (c .before .before .before .before .before .before .before .before .before .before .place-of .ensures) _ (c .before .before .before .before .before .before .before .before .before .tag-of .ensures) _ _ (c .before .before .before .before .before .before .before .before .if2 .taken) (c .before .before .before .before .before .extra-of .ensures .0) (c .before .before .before .before .repeat .ensures)
 
--- src/lib.rt:465:9
+-- src/lib.rt:484:9
 statement-count-requires : (t : ℕ) → statement-lts.Need-count-requires (
   word-at-reads.Asked,
   word-at-reads.Learnt,
@@ -6666,7 +6693,7 @@ statement-count-requires : (t : ℕ) → statement-lts.Need-count-requires (
 ) (statement-at t) statement′.Post
 statement-count-requires t c κs = omega (arith, c .before .before .before .before .before .before .before .before .before .before .pre .1 .lent .lent .room .words)
 
--- src/lib.rt:466:9
+-- src/lib.rt:485:9
 statement-same-length-3 : (t : ℕ) → statement-lts.Need-same-length-3 (
   word-at-reads.Asked,
   word-at-reads.Learnt,
@@ -6699,7 +6726,7 @@ statement-same-length-3 : (t : ℕ) → statement-lts.Need-same-length-3 (
 ) (statement-at t) statement′.Post
 statement-same-length-3 t c = search needs
 
--- src/lib.rt:466:9
+-- src/lib.rt:485:9
 statement-returns-3 : (t : ℕ) → statement-lts.Need-returns-3 (
   word-at-reads.Asked,
   word-at-reads.Learnt,
@@ -6732,7 +6759,7 @@ statement-returns-3 : (t : ℕ) → statement-lts.Need-returns-3 (
 ) (statement-at t) statement′.Post
 statement-returns-3 t c = statement-no-step _ _ _ _ _ _ _ (c .before .before .before .before .before .before .before .before .before .if1 .left) _ (c .before .before .before .before .before .before .before .before .word-at .ensures) _ (c .before .before .before .before .before .before .before .place-of .ensures) _ (c .before .before .before .before .before .before .tag-of .ensures) (c .before .before .before .before .before .if2 .left) _ _ (c .before .before .before .count .ensures) (c .if3 .taken)
 
--- src/lib.rt:470:45
+-- src/lib.rt:489:45
 statement-extra-of-requires-2 : (t : ℕ) → statement-lts.Need-extra-of-requires-2 (
   word-at-reads.Asked,
   word-at-reads.Learnt,
@@ -6765,7 +6792,7 @@ statement-extra-of-requires-2 : (t : ℕ) → statement-lts.Need-extra-of-requir
 ) (statement-at t) statement′.Post
 statement-extra-of-requires-2 t c κs = search needs
 
--- src/lib.rt:470:17
+-- src/lib.rt:489:17
 statement-declare-requires : (t : ℕ) → statement-lts.Need-declare-requires (
   word-at-reads.Asked,
   word-at-reads.Learnt,
@@ -6798,7 +6825,7 @@ statement-declare-requires : (t : ℕ) → statement-lts.Need-declare-requires (
 ) (statement-at t) statement′.Post
 statement-declare-requires t c κs = let b = c .before .before .before .before .before .words2 in omega (arith, c .before .before .before .before .before .before .before .before .before .before .before .before .before .before .before .before .before .pre .1 .lent .lent .room .words)
 
--- src/lib.rt:480:17
+-- src/lib.rt:499:17
 statement-sub-update : (t : ℕ) → statement-lts.Need-sub-update (
   word-at-reads.Asked,
   word-at-reads.Learnt,
@@ -6831,7 +6858,7 @@ statement-sub-update : (t : ℕ) → statement-lts.Need-sub-update (
 ) (statement-at t) statement′.Post
 statement-sub-update t c = search needs
 
--- src/lib.rt:481:17
+-- src/lib.rt:500:17
 statement-last-of-requires : (t : ℕ) → statement-lts.Need-last-of-requires (
   word-at-reads.Asked,
   word-at-reads.Learnt,
@@ -6864,7 +6891,7 @@ statement-last-of-requires : (t : ℕ) → statement-lts.Need-last-of-requires (
 ) (statement-at t) statement′.Post
 statement-last-of-requires t c κs = omega (arith, c .before .before .before .before .before .before .before .before .before .before .before .before .before .before .before .before .before .pre .1 .room)
 
--- src/lib.rt:474:17
+-- src/lib.rt:493:17
 statement-update-requires : (t : ℕ) → statement-lts.Need-update-requires (
   word-at-reads.Asked,
   word-at-reads.Learnt,
@@ -6897,7 +6924,7 @@ statement-update-requires : (t : ℕ) → statement-lts.Need-update-requires (
 ) (statement-at t) statement′.Post
 statement-update-requires t c κs = (omega arith, record { lent = still-lent-words _ _ _ _ (c .before .before .before .before .before .before .before .before .before .before .before .before .before .before .before .before .before .before .pre .1 .lent .lent) (let a0 = c .before .before .before .before .before .before .words2 in omega arith); deep = omega (arith, c .before .before .before .before .before .before .before .before .before .before .before .before .before .before .before .before .before .before .pre .1 .lent .deep) })
 
--- src/lib.rt:493:17
+-- src/lib.rt:512:17
 statement-sub-when : (t : ℕ) → statement-lts.Need-sub-when (
   word-at-reads.Asked,
   word-at-reads.Learnt,
@@ -6930,7 +6957,7 @@ statement-sub-when : (t : ℕ) → statement-lts.Need-sub-when (
 ) (statement-at t) statement′.Post
 statement-sub-when t c = search needs
 
--- src/lib.rt:494:21
+-- src/lib.rt:513:21
 statement-extra-of-requires-3 : (t : ℕ) → statement-lts.Need-extra-of-requires-3 (
   word-at-reads.Asked,
   word-at-reads.Learnt,
@@ -6963,7 +6990,7 @@ statement-extra-of-requires-3 : (t : ℕ) → statement-lts.Need-extra-of-requir
 ) (statement-at t) statement′.Post
 statement-extra-of-requires-3 t c κs = search needs
 
--- src/lib.rt:494:17
+-- src/lib.rt:513:17
 statement-add-when : (t : ℕ) → statement-lts.Need-add-when (
   word-at-reads.Asked,
   word-at-reads.Learnt,
@@ -6996,7 +7023,7 @@ statement-add-when : (t : ℕ) → statement-lts.Need-add-when (
 ) (statement-at t) statement′.Post
 statement-add-when t c = omega (arith, c .before .before .before .before .before .before .before .before .before .before .before .before .before .before .before .before .before .before .pre .1 .room, c .extra-of3 .ensures .1)
 
--- src/lib.rt:487:17
+-- src/lib.rt:506:17
 statement-when-requires : (t : ℕ) → statement-lts.Need-when-requires (
   word-at-reads.Asked,
   word-at-reads.Learnt,
@@ -7029,7 +7056,7 @@ statement-when-requires : (t : ℕ) → statement-lts.Need-when-requires (
 ) (statement-at t) statement′.Post
 statement-when-requires t c κs = (omega arith, record { lent = record { lent = still-lent-words _ _ _ _ (c .before .before .before .before .before .before .before .before .before .before .before .before .before .before .before .before .before .before .pre .1 .lent .lent) (let a0 = c .before .before .before .before .before .before .words2 in omega arith); deep = omega (arith, c .before .before .before .before .before .before .before .before .before .before .before .before .before .before .before .before .before .before .pre .1 .lent .deep) }; room = omega (arith, c .before .before .before .before .before .before .before .before .before .before .before .before .before .before .before .before .before .before .pre .1 .room, c .extra-of3 .ensures .1, c .before .before .before .before .before .before .before .before .before .before .before .before .before .if1 .left) })
 
--- src/lib.rt:506:17
+-- src/lib.rt:525:17
 statement-sub-each : (t : ℕ) → statement-lts.Need-sub-each (
   word-at-reads.Asked,
   word-at-reads.Learnt,
@@ -7062,7 +7089,7 @@ statement-sub-each : (t : ℕ) → statement-lts.Need-sub-each (
 ) (statement-at t) statement′.Post
 statement-sub-each t c = search needs
 
--- src/lib.rt:507:46
+-- src/lib.rt:526:46
 statement-add-word-at : (t : ℕ) → statement-lts.Need-add-word-at (
   word-at-reads.Asked,
   word-at-reads.Learnt,
@@ -7095,7 +7122,7 @@ statement-add-word-at : (t : ℕ) → statement-lts.Need-add-word-at (
 ) (statement-at t) statement′.Post
 statement-add-word-at t c = omega (arith, c .before .before .before .before .before .before .before .before .before .before .before .before .before .before .before .before .before .pre .1 .room)
 
--- src/lib.rt:507:17
+-- src/lib.rt:526:17
 statement-word-at-requires-2 : (t : ℕ) → statement-lts.Need-word-at-requires-2 (
   word-at-reads.Asked,
   word-at-reads.Learnt,
@@ -7128,7 +7155,7 @@ statement-word-at-requires-2 : (t : ℕ) → statement-lts.Need-word-at-requires
 ) (statement-at t) statement′.Post
 statement-word-at-requires-2 t c κs = search needs
 
--- src/lib.rt:508:21
+-- src/lib.rt:527:21
 statement-extra-of-requires-4 : (t : ℕ) → statement-lts.Need-extra-of-requires-4 (
   word-at-reads.Asked,
   word-at-reads.Learnt,
@@ -7161,7 +7188,7 @@ statement-extra-of-requires-4 : (t : ℕ) → statement-lts.Need-extra-of-requir
 ) (statement-at t) statement′.Post
 statement-extra-of-requires-4 t c κs = search needs
 
--- src/lib.rt:508:17
+-- src/lib.rt:527:17
 statement-add-each : (t : ℕ) → statement-lts.Need-add-each (
   word-at-reads.Asked,
   word-at-reads.Learnt,
@@ -7194,7 +7221,7 @@ statement-add-each : (t : ℕ) → statement-lts.Need-add-each (
 ) (statement-at t) statement′.Post
 statement-add-each t c = omega (arith, c .before .before .before .before .before .before .before .before .before .before .before .before .before .before .before .before .before .before .before .pre .1 .room, c .extra-of4 .ensures .1)
 
--- src/lib.rt:500:17
+-- src/lib.rt:519:17
 statement-each-requires : (t : ℕ) → statement-lts.Need-each-requires (
   word-at-reads.Asked,
   word-at-reads.Learnt,
@@ -7227,7 +7254,7 @@ statement-each-requires : (t : ℕ) → statement-lts.Need-each-requires (
 ) (statement-at t) statement′.Post
 statement-each-requires t c κs = (omega arith, record { lent = record { lent = still-lent-words _ _ _ _ (c .before .before .before .before .before .before .before .before .before .before .before .before .before .before .before .before .before .before .before .pre .1 .lent .lent) (let a0 = c .before .before .before .before .before .before .before .words2 in omega arith); deep = omega (arith, c .before .before .before .before .before .before .before .before .before .before .before .before .before .before .before .before .before .before .before .pre .1 .lent .deep) }; room = omega (arith, c .before .before .before .before .before .before .before .before .before .before .before .before .before .before .before .before .before .before .before .pre .1 .room, c .extra-of4 .ensures .1, c .before .before .before .before .before .before .before .before .before .before .before .before .before .before .if1 .left) })
 
--- src/lib.rt:514:17
+-- src/lib.rt:533:17
 statement-size-of-requires : (t : ℕ) → statement-lts.Need-size-of-requires (
   word-at-reads.Asked,
   word-at-reads.Learnt,
@@ -7260,7 +7287,7 @@ statement-size-of-requires : (t : ℕ) → statement-lts.Need-size-of-requires (
 ) (statement-at t) statement′.Post
 statement-size-of-requires t c κs = search needs
 
--- src/lib.rt:521:17
+-- src/lib.rt:540:17
 statement-sub-statements : (t : ℕ) → statement-lts.Need-sub-statements (
   word-at-reads.Asked,
   word-at-reads.Learnt,
@@ -7293,7 +7320,7 @@ statement-sub-statements : (t : ℕ) → statement-lts.Need-sub-statements (
 ) (statement-at t) statement′.Post
 statement-sub-statements t c = search needs
 
--- src/lib.rt:522:17
+-- src/lib.rt:541:17
 statement-add-statements : (t : ℕ) → statement-lts.Need-add-statements (
   word-at-reads.Asked,
   word-at-reads.Learnt,
@@ -7326,7 +7353,7 @@ statement-add-statements : (t : ℕ) → statement-lts.Need-add-statements (
 ) (statement-at t) statement′.Post
 statement-add-statements t c = omega (arith, c .before .before .before .before .before .before .before .before .before .before .before .before .before .before .before .before .before .before .pre .1 .room, c .before .before .size-of .ensures, c .before .before .before .before .before .before .before .before .before .before .before .before .before .if1 .left)
 
--- src/lib.rt:523:17
+-- src/lib.rt:542:17
 statement-add-statements-2 : (t : ℕ) → statement-lts.Need-add-statements-2 (
   word-at-reads.Asked,
   word-at-reads.Learnt,
@@ -7359,7 +7386,7 @@ statement-add-statements-2 : (t : ℕ) → statement-lts.Need-add-statements-2 (
 ) (statement-at t) statement′.Post
 statement-add-statements-2 t c = omega (arith, c .before .before .before .before .before .before .before .before .before .before .before .before .before .before .before .before .before .before .pre .1 .room, c .before .before .size-of .ensures, c .before .before .before .before .before .before .before .before .before .before .before .before .before .if1 .left)
 
--- src/lib.rt:524:17
+-- src/lib.rt:543:17
 statement-add-statements-3 : (t : ℕ) → statement-lts.Need-add-statements-3 (
   word-at-reads.Asked,
   word-at-reads.Learnt,
@@ -7392,7 +7419,7 @@ statement-add-statements-3 : (t : ℕ) → statement-lts.Need-add-statements-3 (
 ) (statement-at t) statement′.Post
 statement-add-statements-3 t c = omega (arith, c .before .before .before .before .before .before .before .before .before .before .before .before .before .before .before .before .before .before .pre .1 .room, c .before .before .size-of .ensures, c .before .before .before .before .before .before .before .before .before .before .before .before .before .if1 .left)
 
--- src/lib.rt:515:17
+-- src/lib.rt:534:17
 statement-statements-requires : (t : ℕ) → statement-lts.Need-statements-requires (
   word-at-reads.Asked,
   word-at-reads.Learnt,
@@ -7425,7 +7452,7 @@ statement-statements-requires : (t : ℕ) → statement-lts.Need-statements-requ
 ) (statement-at t) statement′.Post
 statement-statements-requires t c κs = (omega arith, record { lent = record { lent = still-lent-words _ _ _ _ (c .before .before .before .before .before .before .before .before .before .before .before .before .before .before .before .before .before .before .pre .1 .lent .lent) (let a0 = c .before .before .before .before .before .before .words2 in omega arith); deep = omega (arith, c .before .before .before .before .before .before .before .before .before .before .before .before .before .before .before .before .before .before .pre .1 .lent .deep) }; room = omega (arith, c .before .before .before .before .before .before .before .before .before .before .before .before .before .before .before .before .before .before .pre .1 .room, c .before .before .size-of .ensures, c .before .before .before .before .before .before .before .before .before .before .before .before .before .if1 .left) })
 
--- src/lib.rt:529:65
+-- src/lib.rt:548:65
 statement-sub-simple : (t : ℕ) → statement-lts.Need-sub-simple (
   word-at-reads.Asked,
   word-at-reads.Learnt,
@@ -7458,7 +7485,7 @@ statement-sub-simple : (t : ℕ) → statement-lts.Need-sub-simple (
 ) (statement-at t) statement′.Post
 statement-sub-simple t c = search needs
 
--- src/lib.rt:529:17
+-- src/lib.rt:548:17
 statement-simple-requires : (t : ℕ) → statement-lts.Need-simple-requires (
   word-at-reads.Asked,
   word-at-reads.Learnt,
@@ -7491,7 +7518,7 @@ statement-simple-requires : (t : ℕ) → statement-lts.Need-simple-requires (
 ) (statement-at t) statement′.Post
 statement-simple-requires t c κs = (omega arith, record { lent = record { lent = still-lent-words _ _ _ _ (c .before .before .before .before .before .before .before .before .before .before .before .before .before .before .before .before .before .pre .1 .lent .lent) (let a0 = c .before .before .before .before .before .words2 in omega arith); deep = omega (arith, c .before .before .before .before .before .before .before .before .before .before .before .before .before .before .before .before .before .pre .1 .lent .deep) }; room = omega (arith, c .before .before .before .before .before .before .before .before .before .before .before .before .before .before .before .before .before .pre .1 .room) })
 
--- src/lib.rt:433:1
+-- src/lib.rt:452:1
 statement-same-length-4 : (t : ℕ) → statement-lts.Need-same-length-4 (
   word-at-reads.Asked,
   word-at-reads.Learnt,
@@ -7524,7 +7551,7 @@ statement-same-length-4 : (t : ℕ) → statement-lts.Need-same-length-4 (
 ) (statement-at t) statement′.Post
 statement-same-length-4 t c = search needs
 
--- src/lib.rt:433:1
+-- src/lib.rt:452:1
 statement-returns-4 : (t : ℕ) → statement-lts.Need-returns-4 (
   word-at-reads.Asked,
   word-at-reads.Learnt,
@@ -7557,7 +7584,7 @@ statement-returns-4 : (t : ℕ) → statement-lts.Need-returns-4 (
 ) (statement-at t) statement′.Post
 statement-returns-4 t c = is-declaration _ _ _ _ _ _ _ (c .before .before .before .before .before .before .before .before .before .before .before .before .before .before .before .if1 .left) _ (c .before .before .before .before .before .before .before .before .before .before .before .before .before .before .word-at .ensures) _ (c .before .before .before .before .before .before .before .before .before .before .before .before .before .place-of .ensures) _ (c .before .before .before .before .before .before .before .before .before .before .before .before .tag-of .ensures) (c .before .before .before .before .before .before .before .before .before .before .before .if2 .left) _ _ (c .before .before .before .before .before .before .before .before .before .count .ensures) (c .before .before .before .before .before .before .if3 .left) _ _ _ (c .before .before .before .before .before .match .keys1) (c .before .before .before .extra-of2 .ensures .0) (c .before .before .declare .ensures)
 
--- src/lib.rt:433:1
+-- src/lib.rt:452:1
 statement-same-length-5 : (t : ℕ) → statement-lts.Need-same-length-5 (
   word-at-reads.Asked,
   word-at-reads.Learnt,
@@ -7590,7 +7617,7 @@ statement-same-length-5 : (t : ℕ) → statement-lts.Need-same-length-5 (
 ) (statement-at t) statement′.Post
 statement-same-length-5 t c = search needs
 
--- src/lib.rt:433:1
+-- src/lib.rt:452:1
 statement-same-length-6 : (t : ℕ) → statement-lts.Need-same-length-6 (
   word-at-reads.Asked,
   word-at-reads.Learnt,
@@ -7623,7 +7650,7 @@ statement-same-length-6 : (t : ℕ) → statement-lts.Need-same-length-6 (
 ) (statement-at t) statement′.Post
 statement-same-length-6 t c = search needs
 
--- src/lib.rt:433:1
+-- src/lib.rt:452:1
 statement-returns-5 : (t : ℕ) → statement-lts.Need-returns-5 (
   word-at-reads.Asked,
   word-at-reads.Learnt,
@@ -7656,7 +7683,7 @@ statement-returns-5 : (t : ℕ) → statement-lts.Need-returns-5 (
 ) (statement-at t) statement′.Post
 statement-returns-5 t c = is-update _ _ _ _ _ _ _ (c .before .before .before .before .before .before .before .before .before .before .before .before .before .before .before .before .before .before .if1 .left) _ (c .before .before .before .before .before .before .before .before .before .before .before .before .before .before .before .before .before .word-at .ensures) _ (c .before .before .before .before .before .before .before .before .before .before .before .before .before .before .before .before .place-of .ensures) _ (c .before .before .before .before .before .before .before .before .before .before .before .before .before .before .before .tag-of .ensures) (c .before .before .before .before .before .before .before .before .before .before .before .before .before .before .if2 .left) _ _ (c .before .before .before .before .before .before .before .before .before .before .before .before .count .ensures) (c .before .before .before .before .before .before .before .before .before .if3 .left) _ _ (c .before .before .before .before .before .before .before .before .match .keys2) (c .before .before .before .before .before .last-of .ensures .0) (c .before .before .before .before .update .ensures)
 
--- src/lib.rt:433:1
+-- src/lib.rt:452:1
 statement-same-length-7 : (t : ℕ) → statement-lts.Need-same-length-7 (
   word-at-reads.Asked,
   word-at-reads.Learnt,
@@ -7689,7 +7716,7 @@ statement-same-length-7 : (t : ℕ) → statement-lts.Need-same-length-7 (
 ) (statement-at t) statement′.Post
 statement-same-length-7 t c = search needs
 
--- src/lib.rt:433:1
+-- src/lib.rt:452:1
 statement-same-length-8 : (t : ℕ) → statement-lts.Need-same-length-8 (
   word-at-reads.Asked,
   word-at-reads.Learnt,
@@ -7722,7 +7749,7 @@ statement-same-length-8 : (t : ℕ) → statement-lts.Need-same-length-8 (
 ) (statement-at t) statement′.Post
 statement-same-length-8 t c = search needs
 
--- src/lib.rt:433:1
+-- src/lib.rt:452:1
 statement-returns-6 : (t : ℕ) → statement-lts.Need-returns-6 (
   word-at-reads.Asked,
   word-at-reads.Learnt,
@@ -7755,7 +7782,7 @@ statement-returns-6 : (t : ℕ) → statement-lts.Need-returns-6 (
 ) (statement-at t) statement′.Post
 statement-returns-6 t c = is-when _ _ _ _ _ _ _ (c .before .before .before .before .before .before .before .before .before .before .before .before .before .before .before .before .before .before .if1 .left) _ (c .before .before .before .before .before .before .before .before .before .before .before .before .before .before .before .before .before .word-at .ensures) _ (c .before .before .before .before .before .before .before .before .before .before .before .before .before .before .before .before .place-of .ensures) _ (c .before .before .before .before .before .before .before .before .before .before .before .before .before .before .before .tag-of .ensures) (c .before .before .before .before .before .before .before .before .before .before .before .before .before .before .if2 .left) _ _ (c .before .before .before .before .before .before .before .before .before .before .before .before .count .ensures) (c .before .before .before .before .before .before .before .before .before .if3 .left) _ _ (c .before .before .before .before .before .before .before .before .match .keys3) (c .before .before .before .before .before .extra-of3 .ensures .0) (c .before .before .before .before .when .ensures)
 
--- src/lib.rt:433:1
+-- src/lib.rt:452:1
 statement-same-length-9 : (t : ℕ) → statement-lts.Need-same-length-9 (
   word-at-reads.Asked,
   word-at-reads.Learnt,
@@ -7788,7 +7815,7 @@ statement-same-length-9 : (t : ℕ) → statement-lts.Need-same-length-9 (
 ) (statement-at t) statement′.Post
 statement-same-length-9 t c = search needs
 
--- src/lib.rt:433:1
+-- src/lib.rt:452:1
 statement-same-length-10 : (t : ℕ) → statement-lts.Need-same-length-10 (
   word-at-reads.Asked,
   word-at-reads.Learnt,
@@ -7821,7 +7848,7 @@ statement-same-length-10 : (t : ℕ) → statement-lts.Need-same-length-10 (
 ) (statement-at t) statement′.Post
 statement-same-length-10 t c = search needs
 
--- src/lib.rt:433:1
+-- src/lib.rt:452:1
 statement-returns-7 : (t : ℕ) → statement-lts.Need-returns-7 (
   word-at-reads.Asked,
   word-at-reads.Learnt,
@@ -7854,7 +7881,7 @@ statement-returns-7 : (t : ℕ) → statement-lts.Need-returns-7 (
 ) (statement-at t) statement′.Post
 statement-returns-7 t c = is-foreach _ _ _ _ _ _ _ (c .before .before .before .before .before .before .before .before .before .before .before .before .before .before .before .before .before .before .before .if1 .left) _ (c .before .before .before .before .before .before .before .before .before .before .before .before .before .before .before .before .before .before .word-at .ensures) _ (c .before .before .before .before .before .before .before .before .before .before .before .before .before .before .before .before .before .place-of .ensures) _ (c .before .before .before .before .before .before .before .before .before .before .before .before .before .before .before .before .tag-of .ensures) (c .before .before .before .before .before .before .before .before .before .before .before .before .before .before .before .if2 .left) _ _ (c .before .before .before .before .before .before .before .before .before .before .before .before .before .count .ensures) (c .before .before .before .before .before .before .before .before .before .before .if3 .left) _ _ _ (c .before .before .before .before .before .before .before .before .before .match .keys4) (c .before .before .before .before .before .extra-of4 .ensures .0) (c .before .before .before .before .before .before .word-at2 .ensures) (c .before .before .before .before .each .ensures)
 
--- src/lib.rt:433:1
+-- src/lib.rt:452:1
 statement-same-length-11 : (t : ℕ) → statement-lts.Need-same-length-11 (
   word-at-reads.Asked,
   word-at-reads.Learnt,
@@ -7887,7 +7914,7 @@ statement-same-length-11 : (t : ℕ) → statement-lts.Need-same-length-11 (
 ) (statement-at t) statement′.Post
 statement-same-length-11 t c = search needs
 
--- src/lib.rt:433:1
+-- src/lib.rt:452:1
 statement-same-length-12 : (t : ℕ) → statement-lts.Need-same-length-12 (
   word-at-reads.Asked,
   word-at-reads.Learnt,
@@ -7920,7 +7947,7 @@ statement-same-length-12 : (t : ℕ) → statement-lts.Need-same-length-12 (
 ) (statement-at t) statement′.Post
 statement-same-length-12 t c = search needs
 
--- src/lib.rt:433:1
+-- src/lib.rt:452:1
 statement-returns-8 : (t : ℕ) → statement-lts.Need-returns-8 (
   word-at-reads.Asked,
   word-at-reads.Learnt,
@@ -7953,7 +7980,7 @@ statement-returns-8 : (t : ℕ) → statement-lts.Need-returns-8 (
 ) (statement-at t) statement′.Post
 statement-returns-8 t c = is-block _ _ _ _ _ _ _ (c .before .before .before .before .before .before .before .before .before .before .before .before .before .before .before .before .before .before .if1 .left) _ (c .before .before .before .before .before .before .before .before .before .before .before .before .before .before .before .before .before .word-at .ensures) _ (c .before .before .before .before .before .before .before .before .before .before .before .before .before .before .before .before .place-of .ensures) _ (c .before .before .before .before .before .before .before .before .before .before .before .before .before .before .before .tag-of .ensures) (c .before .before .before .before .before .before .before .before .before .before .before .before .before .before .if2 .left) _ _ (c .before .before .before .before .before .before .before .before .before .before .before .before .count .ensures) (c .before .before .before .before .before .before .before .before .before .if3 .left) _ _ (c .before .before .before .before .before .before .before .before .match .keys5) (c .before .before .before .before .before .before .before .size-of .ensures) (c .before .before .before .before .statements .ensures)
 
--- src/lib.rt:433:1
+-- src/lib.rt:452:1
 statement-same-length-13 : (t : ℕ) → statement-lts.Need-same-length-13 (
   word-at-reads.Asked,
   word-at-reads.Learnt,
@@ -7986,7 +8013,7 @@ statement-same-length-13 : (t : ℕ) → statement-lts.Need-same-length-13 (
 ) (statement-at t) statement′.Post
 statement-same-length-13 t c = search needs
 
--- src/lib.rt:433:1
+-- src/lib.rt:452:1
 statement-same-length-14 : (t : ℕ) → statement-lts.Need-same-length-14 (
   word-at-reads.Asked,
   word-at-reads.Learnt,
@@ -8019,7 +8046,7 @@ statement-same-length-14 : (t : ℕ) → statement-lts.Need-same-length-14 (
 ) (statement-at t) statement′.Post
 statement-same-length-14 t c = search needs
 
--- src/lib.rt:433:1
+-- src/lib.rt:452:1
 statement-returns-9 : (t : ℕ) → statement-lts.Need-returns-9 (
   word-at-reads.Asked,
   word-at-reads.Learnt,
@@ -8058,7 +8085,7 @@ statements-Inv-loop program code grants texts₀ words₀ fuel a end rounds at�
 abbrev statements-μ-loop : statements-lts.MeasureT-loop
 statements-μ-loop program code grants texts₀ words₀ fuel a end rounds at₀ left₀ texts words at left = left
 
--- src/lib.rt:614:5
+-- src/lib.rt:633:5
 statements-loop-holds : (t : ℕ) → statements-lts.Need-loop-holds (
   statement-below t,
   statement′.Post,
@@ -8069,7 +8096,7 @@ statements-loop-holds : (t : ℕ) → statements-lts.Need-loop-holds (
 ) (statements-at t) statements.Post statements-Inv-loop statements-μ-loop
 statements-loop-holds t c = all-first _ _ _ _ _ _ _ _ _ (c .before .before .before .before .pre .1)
 
--- src/lib.rt:615:9
+-- src/lib.rt:634:9
 statements-sub-left : (t : ℕ) → statements-lts.Need-sub-left (
   statement-below t,
   statement′.Post,
@@ -8080,7 +8107,7 @@ statements-sub-left : (t : ℕ) → statements-lts.Need-sub-left (
 ) (statements-at t) statements.Post statements-Inv-loop statements-μ-loop
 statements-sub-left t c = search needs
 
--- src/lib.rt:617:13
+-- src/lib.rt:636:13
 statements-same-length : (t : ℕ) → statements-lts.Need-same-length (
   statement-below t,
   statement′.Post,
@@ -8091,7 +8118,7 @@ statements-same-length : (t : ℕ) → statements-lts.Need-same-length (
 ) (statements-at t) statements.Post statements-Inv-loop statements-μ-loop
 statements-same-length t c = search needs
 
--- src/lib.rt:617:13
+-- src/lib.rt:636:13
 statements-same-length-2 : (t : ℕ) → statements-lts.Need-same-length-2 (
   statement-below t,
   statement′.Post,
@@ -8102,7 +8129,7 @@ statements-same-length-2 : (t : ℕ) → statements-lts.Need-same-length-2 (
 ) (statements-at t) statements.Post statements-Inv-loop statements-μ-loop
 statements-same-length-2 t c = search needs
 
--- src/lib.rt:617:13
+-- src/lib.rt:636:13
 statements-returns : (t : ℕ) → statements-lts.Need-returns (
   statement-below t,
   statement′.Post,
@@ -8113,7 +8140,7 @@ statements-returns : (t : ℕ) → statements-lts.Need-returns (
 ) (statements-at t) statements.Post statements-Inv-loop statements-μ-loop
 statements-returns t c = all-done _ _ _ _ _ _ _ _ _ _ _ _ _ (c .before .before .loop .inv) (c .before .loop-test .taken) (c .if1 .taken)
 
--- src/lib.rt:619:15
+-- src/lib.rt:638:15
 statements-statement-requires : (t : ℕ) → statements-lts.Need-statement-requires (
   statement-below t,
   statement′.Post,
@@ -8134,7 +8161,7 @@ statements-enum-told : (t : ℕ) → statements-lts.Need-enum-told (
 ) (statements-at t) statements.Post statements-Inv-loop statements-μ-loop
 statements-enum-told t c = search needs
 
--- src/lib.rt:621:28
+-- src/lib.rt:640:28
 statements-enum-known-v : (t : ℕ) → statements-lts.Need-enum-known-v (
   statement-below t,
   statement′.Post,
@@ -8145,7 +8172,7 @@ statements-enum-known-v : (t : ℕ) → statements-lts.Need-enum-known-v (
 ) (statements-at t) statements.Post statements-Inv-loop statements-μ-loop
 statements-enum-known-v t c = search needs
 
--- src/lib.rt:621:34
+-- src/lib.rt:640:34
 statements-same-length-3 : (t : ℕ) → statements-lts.Need-same-length-3 (
   statement-below t,
   statement′.Post,
@@ -8156,7 +8183,7 @@ statements-same-length-3 : (t : ℕ) → statements-lts.Need-same-length-3 (
 ) (statements-at t) statements.Post statements-Inv-loop statements-μ-loop
 statements-same-length-3 t c = search needs
 
--- src/lib.rt:621:34
+-- src/lib.rt:640:34
 statements-same-length-4 : (t : ℕ) → statements-lts.Need-same-length-4 (
   statement-below t,
   statement′.Post,
@@ -8167,7 +8194,7 @@ statements-same-length-4 : (t : ℕ) → statements-lts.Need-same-length-4 (
 ) (statements-at t) statements.Post statements-Inv-loop statements-μ-loop
 statements-same-length-4 t c = search needs
 
--- src/lib.rt:621:34
+-- src/lib.rt:640:34
 statements-returns-2 : (t : ℕ) → statements-lts.Need-returns-2 (
   statement-below t,
   statement′.Post,
@@ -8178,7 +8205,7 @@ statements-returns-2 : (t : ℕ) → statements-lts.Need-returns-2 (
 ) (statements-at t) statements.Post statements-Inv-loop statements-μ-loop
 statements-returns-2 t c = all-returns _ _ _ _ _ _ _ _ _ _ _ _ _ (c .before .before .before .before .before .before .before .before .before .before .before .before .loop .inv) (c .before .before .before .before .before .before .before .before .before .before .before .loop-test .taken) (c .before .before .before .before .before .before .before .before .before .before .if1 .left) _ _ _ (c .before .before .before .before .before .before .before .statement .ensures) _ (c .before .v .given .1)
 
--- src/lib.rt:622:27
+-- src/lib.rt:641:27
 statements-enum-known-n : (t : ℕ) → statements-lts.Need-enum-known-n (
   statement-below t,
   statement′.Post,
@@ -8189,7 +8216,7 @@ statements-enum-known-n : (t : ℕ) → statements-lts.Need-enum-known-n (
 ) (statements-at t) statements.Post statements-Inv-loop statements-μ-loop
 statements-enum-known-n t c = search needs
 
--- src/lib.rt:622:36
+-- src/lib.rt:641:36
 statements-same-length-5 : (t : ℕ) → statements-lts.Need-same-length-5 (
   statement-below t,
   statement′.Post,
@@ -8200,7 +8227,7 @@ statements-same-length-5 : (t : ℕ) → statements-lts.Need-same-length-5 (
 ) (statements-at t) statements.Post statements-Inv-loop statements-μ-loop
 statements-same-length-5 t c = search needs
 
--- src/lib.rt:622:36
+-- src/lib.rt:641:36
 statements-same-length-6 : (t : ℕ) → statements-lts.Need-same-length-6 (
   statement-below t,
   statement′.Post,
@@ -8211,7 +8238,7 @@ statements-same-length-6 : (t : ℕ) → statements-lts.Need-same-length-6 (
 ) (statements-at t) statements.Post statements-Inv-loop statements-μ-loop
 statements-same-length-6 t c = search needs
 
--- src/lib.rt:622:36
+-- src/lib.rt:641:36
 statements-returns-3 : (t : ℕ) → statements-lts.Need-returns-3 (
   statement-below t,
   statement′.Post,
@@ -8222,7 +8249,7 @@ statements-returns-3 : (t : ℕ) → statements-lts.Need-returns-3 (
 ) (statements-at t) statements.Post statements-Inv-loop statements-μ-loop
 statements-returns-3 t c = all-fails _ _ _ _ _ _ _ _ _ _ _ _ _ (c .before .before .before .before .before .before .before .before .before .before .before .before .loop .inv) (c .before .before .before .before .before .before .before .before .before .before .before .loop-test .taken) (c .before .before .before .before .before .before .before .before .before .before .if1 .left) _ _ _ (c .before .before .before .before .before .before .before .statement .ensures) _ _ (c .before .n .given .1)
 
--- src/lib.rt:624:29
+-- src/lib.rt:643:29
 statements-word-at-requires : (t : ℕ) → statements-lts.Need-word-at-requires (
   statement-below t,
   statement′.Post,
@@ -8233,7 +8260,7 @@ statements-word-at-requires : (t : ℕ) → statements-lts.Need-word-at-requires
 ) (statements-at t) statements.Post statements-Inv-loop statements-μ-loop
 statements-word-at-requires t c κs = search needs
 
--- src/lib.rt:624:15
+-- src/lib.rt:643:15
 statements-size-of-requires : (t : ℕ) → statements-lts.Need-size-of-requires (
   statement-below t,
   statement′.Post,
@@ -8244,7 +8271,7 @@ statements-size-of-requires : (t : ℕ) → statements-lts.Need-size-of-requires
 ) (statements-at t) statements.Post statements-Inv-loop statements-μ-loop
 statements-size-of-requires t c κs = search needs
 
--- src/lib.rt:624:9
+-- src/lib.rt:643:9
 statements-add-at : (t : ℕ) → statements-lts.Need-add-at (
   statement-below t,
   statement′.Post,
@@ -8255,7 +8282,7 @@ statements-add-at : (t : ℕ) → statements-lts.Need-add-at (
 ) (statements-at t) statements.Post statements-Inv-loop statements-μ-loop
 statements-add-at t c = omega (arith, c .before .before .before .before .before .before .before .before .before .before .before .before .before .before .before .before .before .before .pre .1 .room, c .before .before .before .before .before .before .before .before .before .before .before .if1 .left, c .size-of .ensures)
 
--- src/lib.rt:614:5
+-- src/lib.rt:633:5
 statements-loop-less : (t : ℕ) → statements-lts.Need-loop-less (
   statement-below t,
   statement′.Post,
@@ -8266,7 +8293,7 @@ statements-loop-less : (t : ℕ) → statements-lts.Need-loop-less (
 ) (statements-at t) statements.Post statements-Inv-loop statements-μ-loop
 statements-loop-less t c = omega arith
 
--- src/lib.rt:614:5
+-- src/lib.rt:633:5
 statements-loop-again : (t : ℕ) → statements-lts.Need-loop-again (
   statement-below t,
   statement′.Post,
@@ -8277,7 +8304,7 @@ statements-loop-again : (t : ℕ) → statements-lts.Need-loop-again (
 ) (statements-at t) statements.Post statements-Inv-loop statements-μ-loop
 statements-loop-again t c = all-again _ _ _ _ _ _ _ _ _ _ _ _ _ (c .before .before .before .before .before .before .before .before .before .before .before .before .before .loop .inv) (c .before .before .before .before .before .before .before .before .before .before .before .before .loop-test .taken) (c .before .before .before .before .before .before .before .before .before .before .before .if1 .left) _ _ _ (c .before .before .before .before .before .before .before .before .statement .ensures) _ _ (let a0 = c .before .before .before .before .before .before .before .texts in omega arith) (let a0 = c .before .before .before .before .before .words in omega arith) (c .before .before .enum-told .given .1) (c .before .word-at .ensures) (c .size-of .ensures)
 
--- src/lib.rt:597:1
+-- src/lib.rt:616:1
 statements-same-length-7 : (t : ℕ) → statements-lts.Need-same-length-7 (
   statement-below t,
   statement′.Post,
@@ -8288,7 +8315,7 @@ statements-same-length-7 : (t : ℕ) → statements-lts.Need-same-length-7 (
 ) (statements-at t) statements.Post statements-Inv-loop statements-μ-loop
 statements-same-length-7 t c = search needs
 
--- src/lib.rt:597:1
+-- src/lib.rt:616:1
 statements-same-length-8 : (t : ℕ) → statements-lts.Need-same-length-8 (
   statement-below t,
   statement′.Post,
@@ -8299,7 +8326,7 @@ statements-same-length-8 : (t : ℕ) → statements-lts.Need-same-length-8 (
 ) (statements-at t) statements.Post statements-Inv-loop statements-μ-loop
 statements-same-length-8 t c = search needs
 
--- src/lib.rt:597:1
+-- src/lib.rt:616:1
 statements-returns-4 : (t : ℕ) → statements-lts.Need-returns-4 (
   statement-below t,
   statement′.Post,
@@ -8310,7 +8337,7 @@ statements-returns-4 : (t : ℕ) → statements-lts.Need-returns-4 (
 ) (statements-at t) statements.Post statements-Inv-loop statements-μ-loop
 statements-returns-4 t c = all-short _ _ _ _ _ _ _ _ _ _ _ _ _ (c .before .loop .inv) (omega arith)
 
--- src/lib.rt:420:16
+-- src/lib.rt:439:16
 test-sub-code : (t : ℕ) → test-lts.Need-sub-code (
   fast-value-reads.Asked,
   fast-value-reads.Learnt,
@@ -8323,7 +8350,7 @@ test-sub-code : (t : ℕ) → test-lts.Need-sub-code (
 ) (test-at t) test.Post
 test-sub-code t c = search needs
 
--- src/lib.rt:420:16
+-- src/lib.rt:439:16
 test-part-code-start : (t : ℕ) → test-lts.Need-part-code-start (
   fast-value-reads.Asked,
   fast-value-reads.Learnt,
@@ -8336,7 +8363,7 @@ test-part-code-start : (t : ℕ) → test-lts.Need-part-code-start (
 ) (test-at t) test.Post
 test-part-code-start t c = search needs
 
--- src/lib.rt:420:16
+-- src/lib.rt:439:16
 test-part-code-end : (t : ℕ) → test-lts.Need-part-code-end (
   fast-value-reads.Asked,
   fast-value-reads.Learnt,
@@ -8349,7 +8376,7 @@ test-part-code-end : (t : ℕ) → test-lts.Need-part-code-end (
 ) (test-at t) test.Post
 test-part-code-end t c = search needs
 
--- src/lib.rt:421:9
+-- src/lib.rt:440:9
 test-fast-value-requires : (t : ℕ) → test-lts.Need-fast-value-requires (
   fast-value-reads.Asked,
   fast-value-reads.Learnt,
@@ -8362,7 +8389,7 @@ test-fast-value-requires : (t : ℕ) → test-lts.Need-fast-value-requires (
 ) (test-at t) test.Post
 test-fast-value-requires t c κs = omega (arith, c .before .before .before .before .before .before .pre .1 .lent .room .words)
 
--- src/lib.rt:423:9
+-- src/lib.rt:442:9
 test-outcome-of-requires : (t : ℕ) → test-lts.Need-outcome-of-requires (
   fast-value-reads.Asked,
   fast-value-reads.Learnt,
@@ -8375,7 +8402,7 @@ test-outcome-of-requires : (t : ℕ) → test-lts.Need-outcome-of-requires (
 ) (test-at t) test.Post
 test-outcome-of-requires t c κs = search needs
 
--- src/lib.rt:423:9
+-- src/lib.rt:442:9
 test-same-length : (t : ℕ) → test-lts.Need-same-length (
   fast-value-reads.Asked,
   fast-value-reads.Learnt,
@@ -8388,7 +8415,7 @@ test-same-length : (t : ℕ) → test-lts.Need-same-length (
 ) (test-at t) test.Post
 test-same-length t c = search needs
 
--- src/lib.rt:423:9
+-- src/lib.rt:442:9
 test-returns : (t : ℕ) → test-lts.Need-returns (
   fast-value-reads.Asked,
   fast-value-reads.Learnt,
@@ -8401,7 +8428,7 @@ test-returns : (t : ℕ) → test-lts.Need-returns (
 ) (test-at t) test.Post
 test-returns t c = test-fast _ _ _ _ _ _ _ _ _ _ (worked-anew _ _ _ _ _ _ _ (c .before .before .before .before .fast-value .ensures)) (c .before .before .before .before .before .before .before .before .before .before .before .pre .1) (c .before .if1 .taken) _ (c .outcome-of .ensures)
 
--- src/lib.rt:425:11
+-- src/lib.rt:444:11
 test-expression-requires : (t : ℕ) → test-lts.Need-expression-requires (
   fast-value-reads.Asked,
   fast-value-reads.Learnt,
@@ -8414,7 +8441,7 @@ test-expression-requires : (t : ℕ) → test-lts.Need-expression-requires (
 ) (test-at t) test.Post
 test-expression-requires t c κs = (omega arith, slow-lent _ _ _ _ _ _ _ _ (c .before .before .before .before .before .fast-value .ensures) (c .before .before .if1 .left) (c .before .before .before .before .before .before .before .before .before .before .before .before .pre .1))
 
--- src/lib.rt:426:22
+-- src/lib.rt:445:22
 test-enum-known-v : (t : ℕ) → test-lts.Need-enum-known-v (
   fast-value-reads.Asked,
   fast-value-reads.Learnt,
@@ -8427,7 +8454,7 @@ test-enum-known-v : (t : ℕ) → test-lts.Need-enum-known-v (
 ) (test-at t) test.Post
 test-enum-known-v t c = search needs
 
--- src/lib.rt:426:48
+-- src/lib.rt:445:48
 test-pack-requires : (t : ℕ) → test-lts.Need-pack-requires (
   fast-value-reads.Asked,
   fast-value-reads.Learnt,
@@ -8440,7 +8467,7 @@ test-pack-requires : (t : ℕ) → test-lts.Need-pack-requires (
 ) (test-at t) test.Post
 test-pack-requires t c κs = search needs
 
--- src/lib.rt:426:28
+-- src/lib.rt:445:28
 test-outcome-of-requires-2 : (t : ℕ) → test-lts.Need-outcome-of-requires-2 (
   fast-value-reads.Asked,
   fast-value-reads.Learnt,
@@ -8453,7 +8480,7 @@ test-outcome-of-requires-2 : (t : ℕ) → test-lts.Need-outcome-of-requires-2 (
 ) (test-at t) test.Post
 test-outcome-of-requires-2 t c κs = search needs
 
--- src/lib.rt:427:21
+-- src/lib.rt:446:21
 test-enum-known-n : (t : ℕ) → test-lts.Need-enum-known-n (
   fast-value-reads.Asked,
   fast-value-reads.Learnt,
@@ -8466,7 +8493,7 @@ test-enum-known-n : (t : ℕ) → test-lts.Need-enum-known-n (
 ) (test-at t) test.Post
 test-enum-known-n t c = search needs
 
--- src/lib.rt:406:1
+-- src/lib.rt:425:1
 test-same-length-2 : (t : ℕ) → test-lts.Need-same-length-2 (
   fast-value-reads.Asked,
   fast-value-reads.Learnt,
@@ -8479,7 +8506,7 @@ test-same-length-2 : (t : ℕ) → test-lts.Need-same-length-2 (
 ) (test-at t) test.Post
 test-same-length-2 t c = search needs
 
--- src/lib.rt:406:1
+-- src/lib.rt:425:1
 test-same-length-3 : (t : ℕ) → test-lts.Need-same-length-3 (
   fast-value-reads.Asked,
   fast-value-reads.Learnt,
@@ -8492,7 +8519,7 @@ test-same-length-3 : (t : ℕ) → test-lts.Need-same-length-3 (
 ) (test-at t) test.Post
 test-same-length-3 t c = search needs
 
--- src/lib.rt:406:1
+-- src/lib.rt:425:1
 test-returns-2 : (t : ℕ) → test-lts.Need-returns-2 (
   fast-value-reads.Asked,
   fast-value-reads.Learnt,
@@ -8505,7 +8532,7 @@ test-returns-2 : (t : ℕ) → test-lts.Need-returns-2 (
 ) (test-at t) test.Post
 test-returns-2 t c = test-says _ _ _ _ _ _ _ _ _ _ (worked-anew _ _ _ _ _ _ _ (c .before .before .before .before .before .before .before .before .before .before .before .before .before .before .before .fast-value .ensures)) (c .before .before .before .before .before .before .before .before .before .before .before .before .if1 .left) _ _ _ (evaluated-anew _ _ _ _ _ _ _ _ (c .before .before .before .before .before .before .before .before .before .expression .ensures)) _ _ _ (c .before .before .before .v .given .1) (c .before .pack .ensures) (c .outcome-of2 .ensures)
 
--- src/lib.rt:406:1
+-- src/lib.rt:425:1
 test-same-length-4 : (t : ℕ) → test-lts.Need-same-length-4 (
   fast-value-reads.Asked,
   fast-value-reads.Learnt,
@@ -8518,7 +8545,7 @@ test-same-length-4 : (t : ℕ) → test-lts.Need-same-length-4 (
 ) (test-at t) test.Post
 test-same-length-4 t c = search needs
 
--- src/lib.rt:406:1
+-- src/lib.rt:425:1
 test-same-length-5 : (t : ℕ) → test-lts.Need-same-length-5 (
   fast-value-reads.Asked,
   fast-value-reads.Learnt,
@@ -8531,7 +8558,7 @@ test-same-length-5 : (t : ℕ) → test-lts.Need-same-length-5 (
 ) (test-at t) test.Post
 test-same-length-5 t c = search needs
 
--- src/lib.rt:406:1
+-- src/lib.rt:425:1
 test-returns-3 : (t : ℕ) → test-lts.Need-returns-3 (
   fast-value-reads.Asked,
   fast-value-reads.Learnt,
@@ -8544,7 +8571,7 @@ test-returns-3 : (t : ℕ) → test-lts.Need-returns-3 (
 ) (test-at t) test.Post
 test-returns-3 t c = test-refused _ _ _ _ _ _ _ _ _ _ (worked-anew _ _ _ _ _ _ _ (c .before .before .before .before .before .before .before .before .before .before .before .before .before .fast-value .ensures)) (c .before .before .before .before .before .before .before .before .before .before .if1 .left) _ _ _ (evaluated-anew _ _ _ _ _ _ _ _ (c .before .before .before .before .before .before .before .expression .ensures)) _ _ (c .before .n .given .1)
 
--- src/lib.rt:371:26
+-- src/lib.rt:390:26
 update-word-at-requires : (t : ℕ) → update-lts.Need-word-at-requires (
   word-at-reads.Asked,
   word-at-reads.Learnt,
@@ -8559,7 +8586,7 @@ update-word-at-requires : (t : ℕ) → update-lts.Need-word-at-requires (
 ) (update-at t) update.Post
 update-word-at-requires t c κs = search needs
 
--- src/lib.rt:371:9
+-- src/lib.rt:390:9
 update-before-requires : (t : ℕ) → update-lts.Need-before-requires (
   word-at-reads.Asked,
   word-at-reads.Learnt,
@@ -8574,7 +8601,7 @@ update-before-requires : (t : ℕ) → update-lts.Need-before-requires (
 ) (update-at t) update.Post
 update-before-requires t c κs = search needs
 
--- src/lib.rt:372:26
+-- src/lib.rt:391:26
 update-word-at-requires-2 : (t : ℕ) → update-lts.Need-word-at-requires-2 (
   word-at-reads.Asked,
   word-at-reads.Learnt,
@@ -8589,7 +8616,7 @@ update-word-at-requires-2 : (t : ℕ) → update-lts.Need-word-at-requires-2 (
 ) (update-at t) update.Post
 update-word-at-requires-2 t c κs = search needs
 
--- src/lib.rt:372:9
+-- src/lib.rt:391:9
 update-before-requires-2 : (t : ℕ) → update-lts.Need-before-requires-2 (
   word-at-reads.Asked,
   word-at-reads.Learnt,
@@ -8604,7 +8631,7 @@ update-before-requires-2 : (t : ℕ) → update-lts.Need-before-requires-2 (
 ) (update-at t) update.Post
 update-before-requires-2 t c κs = search needs
 
--- src/lib.rt:373:11
+-- src/lib.rt:392:11
 update-expression-requires : (t : ℕ) → update-lts.Need-expression-requires (
   word-at-reads.Asked,
   word-at-reads.Learnt,
@@ -8619,7 +8646,7 @@ update-expression-requires : (t : ℕ) → update-lts.Need-expression-requires (
 ) (update-at t) update.Post
 update-expression-requires t c κs = (omega arith, c .before .before .before .before .before .before .before .before .before .before .pre .1)
 
--- src/lib.rt:374:22
+-- src/lib.rt:393:22
 update-enum-known-v : (t : ℕ) → update-lts.Need-enum-known-v (
   word-at-reads.Asked,
   word-at-reads.Learnt,
@@ -8634,7 +8661,7 @@ update-enum-known-v : (t : ℕ) → update-lts.Need-enum-known-v (
 ) (update-at t) update.Post
 update-enum-known-v t c = search needs
 
--- src/lib.rt:375:26
+-- src/lib.rt:394:26
 update-enum-known-v-2 : (t : ℕ) → update-lts.Need-enum-known-v-2 (
   word-at-reads.Asked,
   word-at-reads.Learnt,
@@ -8649,7 +8676,7 @@ update-enum-known-v-2 : (t : ℕ) → update-lts.Need-enum-known-v-2 (
 ) (update-at t) update.Post
 update-enum-known-v-2 t c = search needs
 
--- src/lib.rt:375:38
+-- src/lib.rt:394:38
 update-expression-requires-2 : (t : ℕ) → update-lts.Need-expression-requires-2 (
   word-at-reads.Asked,
   word-at-reads.Learnt,
@@ -8664,7 +8691,7 @@ update-expression-requires-2 : (t : ℕ) → update-lts.Need-expression-requires
 ) (update-at t) update.Post
 update-expression-requires-2 t c κs = (omega arith, still-lent _ _ _ _ _ (let a0 = c .before .before .before .before .before .before .before .before .before .before .before .texts in omega arith) (let a0 = c .before .before .before .before .before .before .before .before .before .words in omega arith) _ (c .before .before .before .before .before .before .before .before .before .before .before .before .before .before .before .before .before .before .before .before .before .before .before .pre .1))
 
--- src/lib.rt:376:30
+-- src/lib.rt:395:30
 update-enum-known-u : (t : ℕ) → update-lts.Need-enum-known-u (
   word-at-reads.Asked,
   word-at-reads.Learnt,
@@ -8679,7 +8706,7 @@ update-enum-known-u : (t : ℕ) → update-lts.Need-enum-known-u (
 ) (update-at t) update.Post
 update-enum-known-u t c = search needs
 
--- src/lib.rt:377:25
+-- src/lib.rt:396:25
 update-pack-requires : (t : ℕ) → update-lts.Need-pack-requires (
   word-at-reads.Asked,
   word-at-reads.Learnt,
@@ -8694,7 +8721,7 @@ update-pack-requires : (t : ℕ) → update-lts.Need-pack-requires (
 ) (update-at t) update.Post
 update-pack-requires t c κs = search needs
 
--- src/lib.rt:378:27
+-- src/lib.rt:397:27
 update-expression-requires-3 : (t : ℕ) → update-lts.Need-expression-requires-3 (
   word-at-reads.Asked,
   word-at-reads.Learnt,
@@ -8709,7 +8736,7 @@ update-expression-requires-3 : (t : ℕ) → update-lts.Need-expression-requires
 ) (update-at t) update.Post
 update-expression-requires-3 t c κs = (omega (arith, c .before .before .before .before .before .before .before .before .before .before .before .before .before .before .before .before .before .before .before .before .before .before .before .before .before .before .before .before .before .before .before .before .before .before .pre .0), still-lent _ _ _ _ _ (let a0 = c .before .before .before .before .before .before .before .before .before .before .before .before .before .before .before .before .before .before .before .before .before .before .texts in let a1 = c .before .before .before .before .before .before .before .before .before .texts2 in omega arith) (let a0 = c .before .before .before .before .before .before .before .before .before .before .before .before .before .before .before .before .before .before .before .before .words in let a1 = c .before .before .before .before .before .before .before .words2 in omega arith) _ (c .before .before .before .before .before .before .before .before .before .before .before .before .before .before .before .before .before .before .before .before .before .before .before .before .before .before .before .before .before .before .before .before .before .before .pre .1))
 
--- src/lib.rt:379:38
+-- src/lib.rt:398:38
 update-enum-known-z : (t : ℕ) → update-lts.Need-enum-known-z (
   word-at-reads.Asked,
   word-at-reads.Learnt,
@@ -8724,7 +8751,7 @@ update-enum-known-z : (t : ℕ) → update-lts.Need-enum-known-z (
 ) (update-at t) update.Post
 update-enum-known-z t c = search needs
 
--- src/lib.rt:387:33
+-- src/lib.rt:406:33
 update-pack-requires-2 : (t : ℕ) → update-lts.Need-pack-requires-2 (
   word-at-reads.Asked,
   word-at-reads.Learnt,
@@ -8739,7 +8766,7 @@ update-pack-requires-2 : (t : ℕ) → update-lts.Need-pack-requires-2 (
 ) (update-at t) update.Post
 update-pack-requires-2 t c κs = search needs
 
--- src/lib.rt:380:33
+-- src/lib.rt:399:33
 update-store-entry-requires : (t : ℕ) → update-lts.Need-store-entry-requires (
   word-at-reads.Asked,
   word-at-reads.Learnt,
@@ -8754,7 +8781,7 @@ update-store-entry-requires : (t : ℕ) → update-lts.Need-store-entry-requires
 ) (update-at t) update.Post
 update-store-entry-requires t c κs = still-room _ _ _ _ _ (c .before .before .before .before .before .before .before .before .before .before .before .before .before .before .before .before .before .before .before .before .before .before .before .before .before .before .before .before .before .before .before .before .before .before .before .before .before .before .before .before .before .before .before .before .before .pre .1) (let a0 = c .before .before .before .before .before .before .before .before .before .before .before .before .before .before .before .before .before .before .before .before .before .before .before .before .before .before .before .before .before .before .before .words in let a1 = c .before .before .before .before .before .before .before .before .before .before .before .before .before .before .before .before .before .before .words2 in let a2 = c .before .before .before .before .before .before .before .words3 in omega arith)
 
--- src/lib.rt:390:33
+-- src/lib.rt:409:33
 update-same-length : (t : ℕ) → update-lts.Need-same-length (
   word-at-reads.Asked,
   word-at-reads.Learnt,
@@ -8769,7 +8796,7 @@ update-same-length : (t : ℕ) → update-lts.Need-same-length (
 ) (update-at t) update.Post
 update-same-length t c = let a = c .before .before .before .before .before .before .before .before .before .before .before .before .before .before .before .before .before .before .before .before .before .before .before .before .before .before .before .before .before .before .before .before .before .before .before .before .before .before .before .before .before .before .before .before .before .before .slice-known in let b = c .before .before .before .before .before .before .before .before .before .before .before .before .before .before .before .before .before .before .before .before .before .before .before .before .before .before .before .before .before .before .before .before .before .before .before .before .before .texts in let d = c .before .before .before .before .before .before .before .before .before .before .before .before .before .before .before .before .before .before .before .before .before .before .before .before .texts2 in let e = c .before .before .before .before .before .before .before .before .before .before .before .before .before .texts3 in search needs
 
--- src/lib.rt:390:33
+-- src/lib.rt:409:33
 update-same-length-2 : (t : ℕ) → update-lts.Need-same-length-2 (
   word-at-reads.Asked,
   word-at-reads.Learnt,
@@ -8784,7 +8811,7 @@ update-same-length-2 : (t : ℕ) → update-lts.Need-same-length-2 (
 ) (update-at t) update.Post
 update-same-length-2 t c = let a = c .before .before .before .before .before .before .before .before .before .before .before .before .before .before .before .before .before .before .before .before .before .before .before .before .before .before .before .before .before .before .before .before .before .before .before .before .before .before .before .before .before .before .before .before .before .slice-known2 in let b = c .before .before .before .before .before .before .before .before .before .before .before .before .before .before .before .before .before .before .before .before .before .before .before .before .before .before .before .before .before .before .before .before .before .before .before .words in let d = c .before .before .before .before .before .before .before .before .before .before .before .before .before .before .before .before .before .before .before .before .before .before .words2 in let e = c .before .before .before .before .before .before .before .before .before .before .before .words3 in let f = c .before .before .words4 in search needs
 
--- src/lib.rt:390:33
+-- src/lib.rt:409:33
 update-returns : (t : ℕ) → update-lts.Need-returns (
   word-at-reads.Asked,
   word-at-reads.Learnt,
@@ -8799,7 +8826,7 @@ update-returns : (t : ℕ) → update-lts.Need-returns (
 ) (update-at t) update.Post
 update-returns t c = update-refused _ _ _ _ _ _ _ _ _ _ _ _ (c .before .before .before .before .before .before .before .before .before .before .before .before .before .before .before .before .before .before .before .before .before .before .before .before .before .before .before .before .before .before .before .before .before .before .before .before .before .before .before .before .before .before .before .before .word-at .ensures) (c .before .before .before .before .before .before .before .before .before .before .before .before .before .before .before .before .before .before .before .before .before .before .before .before .before .before .before .before .before .before .before .before .before .before .before .before .before .before .before .before .before .before .before .before2 .ensures .0) (c .before .before .before .before .before .before .before .before .before .before .before .before .before .before .before .before .before .before .before .before .before .before .before .before .before .before .before .before .before .before .before .before .before .before .before .before .before .before .before .before .before .before .word-at2 .ensures) (c .before .before .before .before .before .before .before .before .before .before .before .before .before .before .before .before .before .before .before .before .before .before .before .before .before .before .before .before .before .before .before .before .before .before .before .before .before .before .before .before .before .before3 .ensures .0) _ _ _ (c .before .before .before .before .before .before .before .before .before .before .before .before .before .before .before .before .before .before .before .before .before .before .before .before .before .before .before .before .before .before .before .before .before .before .before .before .before .before .expression .ensures) _ _ (c .before .before .before .before .before .before .before .before .before .before .before .before .before .before .before .before .before .before .before .before .before .before .before .before .before .before .before .before .before .before .before .before .v .given .1) (c .before .before .before .before .before .before .before .before .before .before .before .before .before .before .before .before .before .before .before .before .before .before .before .before .before .before .before .before .before .v2 .given .1) _ _ _ (c .before .before .before .before .before .before .before .before .before .before .before .before .before .before .before .before .before .before .before .before .before .before .before .before .before .expression2 .ensures) _ _ (c .before .before .before .before .before .before .before .before .before .before .before .before .before .before .before .before .before .before .before .u .given .1) (c .before .before .before .before .before .before .before .before .before .before .before .before .before .before .before .before .before .pack .ensures) _ _ _ (c .before .before .before .before .before .before .before .before .before .before .before .before .before .before .expression3 .ensures) _ _ (c .before .before .before .before .before .before .before .before .z .given .1) (c .before .before .before .before .pack2 .ensures) _ _ (c .before .before .before .store-entry .ensures) (c .if1 .taken)
 
--- src/lib.rt:394:37
+-- src/lib.rt:413:37
 update-enum-known-n : (t : ℕ) → update-lts.Need-enum-known-n (
   word-at-reads.Asked,
   word-at-reads.Learnt,
@@ -8814,7 +8841,7 @@ update-enum-known-n : (t : ℕ) → update-lts.Need-enum-known-n (
 ) (update-at t) update.Post
 update-enum-known-n t c = search needs
 
--- src/lib.rt:397:29
+-- src/lib.rt:416:29
 update-enum-known-n-2 : (t : ℕ) → update-lts.Need-enum-known-n-2 (
   word-at-reads.Asked,
   word-at-reads.Learnt,
@@ -8829,7 +8856,7 @@ update-enum-known-n-2 : (t : ℕ) → update-lts.Need-enum-known-n-2 (
 ) (update-at t) update.Post
 update-enum-known-n-2 t c = search needs
 
--- src/lib.rt:401:21
+-- src/lib.rt:420:21
 update-enum-known-n-3 : (t : ℕ) → update-lts.Need-enum-known-n-3 (
   word-at-reads.Asked,
   word-at-reads.Learnt,
@@ -8844,7 +8871,7 @@ update-enum-known-n-3 : (t : ℕ) → update-lts.Need-enum-known-n-3 (
 ) (update-at t) update.Post
 update-enum-known-n-3 t c = search needs
 
--- src/lib.rt:357:1
+-- src/lib.rt:376:1
 update-same-length-3 : (t : ℕ) → update-lts.Need-same-length-3 (
   word-at-reads.Asked,
   word-at-reads.Learnt,
@@ -8859,7 +8886,7 @@ update-same-length-3 : (t : ℕ) → update-lts.Need-same-length-3 (
 ) (update-at t) update.Post
 update-same-length-3 t c = let a = c .before .before .before .before .before .before .before .before .before .before .before .before .before .before .before .before .before .before .before .before .before .before .before .before .before .before .before .before .before .before .before .before .before .before .before .before .before .before .before .before .before .before .before .before .before .before .slice-known in let b = c .before .before .before .before .before .before .before .before .before .before .before .before .before .before .before .before .before .before .before .before .before .before .before .before .before .before .before .before .before .before .before .before .before .before .before .before .before .texts in let d = c .before .before .before .before .before .before .before .before .before .before .before .before .before .before .before .before .before .before .before .before .before .before .before .before .texts2 in let e = c .before .before .before .before .before .before .before .before .before .before .before .before .before .texts3 in search needs
 
--- src/lib.rt:357:1
+-- src/lib.rt:376:1
 update-same-length-4 : (t : ℕ) → update-lts.Need-same-length-4 (
   word-at-reads.Asked,
   word-at-reads.Learnt,
@@ -8874,7 +8901,7 @@ update-same-length-4 : (t : ℕ) → update-lts.Need-same-length-4 (
 ) (update-at t) update.Post
 update-same-length-4 t c = let a = c .before .before .before .before .before .before .before .before .before .before .before .before .before .before .before .before .before .before .before .before .before .before .before .before .before .before .before .before .before .before .before .before .before .before .before .before .before .before .before .before .before .before .before .before .before .slice-known2 in let b = c .before .before .before .before .before .before .before .before .before .before .before .before .before .before .before .before .before .before .before .before .before .before .before .before .before .before .before .before .before .before .before .before .before .before .before .words in let d = c .before .before .before .before .before .before .before .before .before .before .before .before .before .before .before .before .before .before .before .before .before .before .words2 in let e = c .before .before .before .before .before .before .before .before .before .before .before .words3 in let f = c .before .before .words4 in search needs
 
--- src/lib.rt:357:1
+-- src/lib.rt:376:1
 update-returns-2 : (t : ℕ) → update-lts.Need-returns-2 (
   word-at-reads.Asked,
   word-at-reads.Learnt,
@@ -8889,7 +8916,7 @@ update-returns-2 : (t : ℕ) → update-lts.Need-returns-2 (
 ) (update-at t) update.Post
 update-returns-2 t c = update-done _ _ _ _ _ _ _ _ _ _ _ _ (c .before .before .before .before .before .before .before .before .before .before .before .before .before .before .before .before .before .before .before .before .before .before .before .before .before .before .before .before .before .before .before .before .before .before .before .before .before .before .before .before .before .before .before .before .word-at .ensures) (c .before .before .before .before .before .before .before .before .before .before .before .before .before .before .before .before .before .before .before .before .before .before .before .before .before .before .before .before .before .before .before .before .before .before .before .before .before .before .before .before .before .before .before .before2 .ensures .0) (c .before .before .before .before .before .before .before .before .before .before .before .before .before .before .before .before .before .before .before .before .before .before .before .before .before .before .before .before .before .before .before .before .before .before .before .before .before .before .before .before .before .before .word-at2 .ensures) (c .before .before .before .before .before .before .before .before .before .before .before .before .before .before .before .before .before .before .before .before .before .before .before .before .before .before .before .before .before .before .before .before .before .before .before .before .before .before .before .before .before .before3 .ensures .0) _ _ _ (c .before .before .before .before .before .before .before .before .before .before .before .before .before .before .before .before .before .before .before .before .before .before .before .before .before .before .before .before .before .before .before .before .before .before .before .before .before .before .expression .ensures) _ _ (c .before .before .before .before .before .before .before .before .before .before .before .before .before .before .before .before .before .before .before .before .before .before .before .before .before .before .before .before .before .before .before .before .v .given .1) (c .before .before .before .before .before .before .before .before .before .before .before .before .before .before .before .before .before .before .before .before .before .before .before .before .before .before .before .before .before .v2 .given .1) _ _ _ (c .before .before .before .before .before .before .before .before .before .before .before .before .before .before .before .before .before .before .before .before .before .before .before .before .before .expression2 .ensures) _ _ (c .before .before .before .before .before .before .before .before .before .before .before .before .before .before .before .before .before .before .before .u .given .1) (c .before .before .before .before .before .before .before .before .before .before .before .before .before .before .before .before .before .pack .ensures) _ _ _ (c .before .before .before .before .before .before .before .before .before .before .before .before .before .before .expression3 .ensures) _ _ (c .before .before .before .before .before .before .before .before .z .given .1) (c .before .before .before .before .pack2 .ensures) _ _ (c .before .before .before .store-entry .ensures) (c .if1 .left)
 
--- src/lib.rt:357:1
+-- src/lib.rt:376:1
 update-same-length-5 : (t : ℕ) → update-lts.Need-same-length-5 (
   word-at-reads.Asked,
   word-at-reads.Learnt,
@@ -8904,7 +8931,7 @@ update-same-length-5 : (t : ℕ) → update-lts.Need-same-length-5 (
 ) (update-at t) update.Post
 update-same-length-5 t c = let a = c .before .before .before .before .before .before .before .before .before .before .before .before .before .before .before .before .before .before .before .before .before .before .before .before .before .before .before .before .before .before .before .before .before .before .before .before .before .before .before .slice-known in let b = c .before .before .before .before .before .before .before .before .before .before .before .before .before .before .before .before .before .before .before .before .before .before .before .before .before .before .before .before .before .before .texts in let d = c .before .before .before .before .before .before .before .before .before .before .before .before .before .before .before .before .before .texts2 in let e = c .before .before .before .before .before .before .texts3 in search needs
 
--- src/lib.rt:357:1
+-- src/lib.rt:376:1
 update-same-length-6 : (t : ℕ) → update-lts.Need-same-length-6 (
   word-at-reads.Asked,
   word-at-reads.Learnt,
@@ -8919,7 +8946,7 @@ update-same-length-6 : (t : ℕ) → update-lts.Need-same-length-6 (
 ) (update-at t) update.Post
 update-same-length-6 t c = let a = c .before .before .before .before .before .before .before .before .before .before .before .before .before .before .before .before .before .before .before .before .before .before .before .before .before .before .before .before .before .before .before .before .before .before .before .before .before .before .slice-known2 in let b = c .before .before .before .before .before .before .before .before .before .before .before .before .before .before .before .before .before .before .before .before .before .before .before .before .before .before .before .before .words in let d = c .before .before .before .before .before .before .before .before .before .before .before .before .before .before .before .words2 in let e = c .before .before .before .before .words3 in search needs
 
--- src/lib.rt:357:1
+-- src/lib.rt:376:1
 update-returns-3 : (t : ℕ) → update-lts.Need-returns-3 (
   word-at-reads.Asked,
   word-at-reads.Learnt,
@@ -8934,7 +8961,7 @@ update-returns-3 : (t : ℕ) → update-lts.Need-returns-3 (
 ) (update-at t) update.Post
 update-returns-3 t c = value-stops _ _ _ _ _ _ _ _ _ _ _ _ (c .before .before .before .before .before .before .before .before .before .before .before .before .before .before .before .before .before .before .before .before .before .before .before .before .before .before .before .before .before .before .before .before .before .before .before .before .before .word-at .ensures) (c .before .before .before .before .before .before .before .before .before .before .before .before .before .before .before .before .before .before .before .before .before .before .before .before .before .before .before .before .before .before .before .before .before .before .before .before .before2 .ensures .0) (c .before .before .before .before .before .before .before .before .before .before .before .before .before .before .before .before .before .before .before .before .before .before .before .before .before .before .before .before .before .before .before .before .before .before .before .word-at2 .ensures) (c .before .before .before .before .before .before .before .before .before .before .before .before .before .before .before .before .before .before .before .before .before .before .before .before .before .before .before .before .before .before .before .before .before .before .before3 .ensures .0) _ _ _ (c .before .before .before .before .before .before .before .before .before .before .before .before .before .before .before .before .before .before .before .before .before .before .before .before .before .before .before .before .before .before .before .expression .ensures) _ _ (c .before .before .before .before .before .before .before .before .before .before .before .before .before .before .before .before .before .before .before .before .before .before .before .before .before .v .given .1) (c .before .before .before .before .before .before .before .before .before .before .before .before .before .before .before .before .before .before .before .before .before .before .v2 .given .1) _ _ _ (c .before .before .before .before .before .before .before .before .before .before .before .before .before .before .before .before .before .before .expression2 .ensures) _ _ (c .before .before .before .before .before .before .before .before .before .before .before .before .u .given .1) (c .before .before .before .before .before .before .before .before .before .before .pack .ensures) _ _ _ (c .before .before .before .before .before .before .before .expression3 .ensures) _ _ (c .before .n .given .1)
 
--- src/lib.rt:357:1
+-- src/lib.rt:376:1
 update-same-length-7 : (t : ℕ) → update-lts.Need-same-length-7 (
   word-at-reads.Asked,
   word-at-reads.Learnt,
@@ -8949,7 +8976,7 @@ update-same-length-7 : (t : ℕ) → update-lts.Need-same-length-7 (
 ) (update-at t) update.Post
 update-same-length-7 t c = search needs
 
--- src/lib.rt:357:1
+-- src/lib.rt:376:1
 update-same-length-8 : (t : ℕ) → update-lts.Need-same-length-8 (
   word-at-reads.Asked,
   word-at-reads.Learnt,
@@ -8964,7 +8991,7 @@ update-same-length-8 : (t : ℕ) → update-lts.Need-same-length-8 (
 ) (update-at t) update.Post
 update-same-length-8 t c = search needs
 
--- src/lib.rt:357:1
+-- src/lib.rt:376:1
 update-returns-4 : (t : ℕ) → update-lts.Need-returns-4 (
   word-at-reads.Asked,
   word-at-reads.Learnt,
@@ -8979,7 +9006,7 @@ update-returns-4 : (t : ℕ) → update-lts.Need-returns-4 (
 ) (update-at t) update.Post
 update-returns-4 t c = key-stops _ _ _ _ _ _ _ _ _ _ _ _ (c .before .before .before .before .before .before .before .before .before .before .before .before .before .before .before .before .before .before .before .before .before .before .before .before .before .before .word-at .ensures) (c .before .before .before .before .before .before .before .before .before .before .before .before .before .before .before .before .before .before .before .before .before .before .before .before .before .before2 .ensures .0) (c .before .before .before .before .before .before .before .before .before .before .before .before .before .before .before .before .before .before .before .before .before .before .before .before .word-at2 .ensures) (c .before .before .before .before .before .before .before .before .before .before .before .before .before .before .before .before .before .before .before .before .before .before .before .before3 .ensures .0) _ _ _ (c .before .before .before .before .before .before .before .before .before .before .before .before .before .before .before .before .before .before .before .before .expression .ensures) _ _ (c .before .before .before .before .before .before .before .before .before .before .before .before .before .before .v .given .1) (c .before .before .before .before .before .before .before .before .before .before .before .v2 .given .1) _ _ _ (c .before .before .before .before .before .before .before .expression2 .ensures) _ _ (c .before .n2 .given .1)
 
--- src/lib.rt:357:1
+-- src/lib.rt:376:1
 update-same-length-9 : (t : ℕ) → update-lts.Need-same-length-9 (
   word-at-reads.Asked,
   word-at-reads.Learnt,
@@ -8994,7 +9021,7 @@ update-same-length-9 : (t : ℕ) → update-lts.Need-same-length-9 (
 ) (update-at t) update.Post
 update-same-length-9 t c = search needs
 
--- src/lib.rt:357:1
+-- src/lib.rt:376:1
 update-same-length-10 : (t : ℕ) → update-lts.Need-same-length-10 (
   word-at-reads.Asked,
   word-at-reads.Learnt,
@@ -9009,7 +9036,7 @@ update-same-length-10 : (t : ℕ) → update-lts.Need-same-length-10 (
 ) (update-at t) update.Post
 update-same-length-10 t c = search needs
 
--- src/lib.rt:357:1
+-- src/lib.rt:376:1
 update-returns-5 : (t : ℕ) → update-lts.Need-returns-5 (
   word-at-reads.Asked,
   word-at-reads.Learnt,
@@ -9024,7 +9051,7 @@ update-returns-5 : (t : ℕ) → update-lts.Need-returns-5 (
 ) (update-at t) update.Post
 update-returns-5 t c = table-other _ _ _ _ _ _ _ _ _ _ _ _ (c .before .before .before .before .before .before .before .before .before .before .before .before .before .before .word-at .ensures) (c .before .before .before .before .before .before .before .before .before .before .before .before .before .before2 .ensures .0) (c .before .before .before .before .before .before .before .before .before .before .before .before .word-at2 .ensures) (c .before .before .before .before .before .before .before .before .before .before .before .before3 .ensures .0) _ _ _ (c .before .before .before .before .before .before .before .before .expression .ensures) _ (c .before .before .v .given .1) (c .match2 .keys2)
 
--- src/lib.rt:357:1
+-- src/lib.rt:376:1
 update-same-length-11 : (t : ℕ) → update-lts.Need-same-length-11 (
   word-at-reads.Asked,
   word-at-reads.Learnt,
@@ -9039,7 +9066,7 @@ update-same-length-11 : (t : ℕ) → update-lts.Need-same-length-11 (
 ) (update-at t) update.Post
 update-same-length-11 t c = search needs
 
--- src/lib.rt:357:1
+-- src/lib.rt:376:1
 update-same-length-12 : (t : ℕ) → update-lts.Need-same-length-12 (
   word-at-reads.Asked,
   word-at-reads.Learnt,
@@ -9054,7 +9081,7 @@ update-same-length-12 : (t : ℕ) → update-lts.Need-same-length-12 (
 ) (update-at t) update.Post
 update-same-length-12 t c = search needs
 
--- src/lib.rt:357:1
+-- src/lib.rt:376:1
 update-returns-6 : (t : ℕ) → update-lts.Need-returns-6 (
   word-at-reads.Asked,
   word-at-reads.Learnt,
@@ -9069,7 +9096,7 @@ update-returns-6 : (t : ℕ) → update-lts.Need-returns-6 (
 ) (update-at t) update.Post
 update-returns-6 t c = table-stops _ _ _ _ _ _ _ _ _ _ _ _ (c .before .before .before .before .before .before .before .before .before .before .before .before .before .word-at .ensures) (c .before .before .before .before .before .before .before .before .before .before .before .before .before2 .ensures .0) (c .before .before .before .before .before .before .before .before .before .before .before .word-at2 .ensures) (c .before .before .before .before .before .before .before .before .before .before .before3 .ensures .0) _ _ _ (c .before .before .before .before .before .before .before .expression .ensures) _ _ (c .before .n3 .given .1)
 
--- src/lib.rt:550:11
+-- src/lib.rt:569:11
 when-test-requires : (t : ℕ) → when-lts.Need-test-requires (
   test-below t,
   test.Post,
@@ -9078,7 +9105,7 @@ when-test-requires : (t : ℕ) → when-lts.Need-test-requires (
 ) (when-at t) when.Post
 when-test-requires t c κs = (omega arith, c .before .before .before .before .before .before .pre .1 .lent)
 
--- src/lib.rt:551:64
+-- src/lib.rt:570:64
 when-enum-told : (t : ℕ) → when-lts.Need-enum-told (
   test-below t,
   test.Post,
@@ -9087,7 +9114,7 @@ when-enum-told : (t : ℕ) → when-lts.Need-enum-told (
 ) (when-at t) when.Post
 when-enum-told t c = search needs
 
--- src/lib.rt:551:84
+-- src/lib.rt:570:84
 when-add-statement : (t : ℕ) → when-lts.Need-add-statement (
   test-below t,
   test.Post,
@@ -9096,7 +9123,7 @@ when-add-statement : (t : ℕ) → when-lts.Need-add-statement (
 ) (when-at t) when.Post
 when-add-statement t c = omega (arith, c .before .before .before .before .before .before .before .before .before .before .before .before .before .before .before .pre .1 .room)
 
--- src/lib.rt:551:31
+-- src/lib.rt:570:31
 when-statement-requires : (t : ℕ) → when-lts.Need-statement-requires (
   test-below t,
   test.Post,
@@ -9105,7 +9132,7 @@ when-statement-requires : (t : ℕ) → when-lts.Need-statement-requires (
 ) (when-at t) when.Post
 when-statement-requires t c κs = (omega arith, still-runs _ _ _ _ _ (let a0 = c .before .before .before .before .before .before .before .texts in omega arith) (let a0 = c .before .before .before .before .before .words in omega arith) _ _ (c .before .before .before .before .before .before .before .before .before .before .before .before .before .before .before .pre .1))
 
--- src/lib.rt:552:29
+-- src/lib.rt:571:29
 when-enum-told-2 : (t : ℕ) → when-lts.Need-enum-told-2 (
   test-below t,
   test.Post,
@@ -9114,7 +9141,7 @@ when-enum-told-2 : (t : ℕ) → when-lts.Need-enum-told-2 (
 ) (when-at t) when.Post
 when-enum-told-2 t c = search needs
 
--- src/lib.rt:553:28
+-- src/lib.rt:572:28
 when-enum-known-v : (t : ℕ) → when-lts.Need-enum-known-v (
   test-below t,
   test.Post,
@@ -9123,7 +9150,7 @@ when-enum-known-v : (t : ℕ) → when-lts.Need-enum-known-v (
 ) (when-at t) when.Post
 when-enum-known-v t c = search needs
 
--- src/lib.rt:554:27
+-- src/lib.rt:573:27
 when-enum-known-n : (t : ℕ) → when-lts.Need-enum-known-n (
   test-below t,
   test.Post,
@@ -9132,7 +9159,7 @@ when-enum-known-n : (t : ℕ) → when-lts.Need-enum-known-n (
 ) (when-at t) when.Post
 when-enum-known-n t c = search needs
 
--- src/lib.rt:556:24
+-- src/lib.rt:575:24
 when-enum-told-3 : (t : ℕ) → when-lts.Need-enum-told-3 (
   test-below t,
   test.Post,
@@ -9141,7 +9168,7 @@ when-enum-told-3 : (t : ℕ) → when-lts.Need-enum-told-3 (
 ) (when-at t) when.Post
 when-enum-told-3 t c = search needs
 
--- src/lib.rt:557:26
+-- src/lib.rt:576:26
 when-enum-known-n-2 : (t : ℕ) → when-lts.Need-enum-known-n-2 (
   test-below t,
   test.Post,
@@ -9150,7 +9177,7 @@ when-enum-known-n-2 : (t : ℕ) → when-lts.Need-enum-known-n-2 (
 ) (when-at t) when.Post
 when-enum-known-n-2 t c = search needs
 
--- src/lib.rt:536:1
+-- src/lib.rt:555:1
 when-same-length : (t : ℕ) → when-lts.Need-same-length (
   test-below t,
   test.Post,
@@ -9159,7 +9186,7 @@ when-same-length : (t : ℕ) → when-lts.Need-same-length (
 ) (when-at t) when.Post
 when-same-length t c = search needs
 
--- src/lib.rt:536:1
+-- src/lib.rt:555:1
 when-same-length-2 : (t : ℕ) → when-lts.Need-same-length-2 (
   test-below t,
   test.Post,
@@ -9168,7 +9195,7 @@ when-same-length-2 : (t : ℕ) → when-lts.Need-same-length-2 (
 ) (when-at t) when.Post
 when-same-length-2 t c = search needs
 
--- src/lib.rt:536:1
+-- src/lib.rt:555:1
 when-returns : (t : ℕ) → when-lts.Need-returns (
   test-below t,
   test.Post,
@@ -9177,7 +9204,7 @@ when-returns : (t : ℕ) → when-lts.Need-returns (
 ) (when-at t) when.Post
 when-returns t c = when-holds _ _ _ _ _ _ _ _ _ _ (c .before .before .before .before .before .before .before .before .before .before .before .before .before .before .before .test .ensures) _ _ _ _ (c .before .before .before .before .before .before .before .before .before .enum-told .given .1) (c .before .before .before .before .before .before .statement .ensures) (c .enum-told2 .given .1)
 
--- src/lib.rt:536:1
+-- src/lib.rt:555:1
 when-same-length-3 : (t : ℕ) → when-lts.Need-same-length-3 (
   test-below t,
   test.Post,
@@ -9186,7 +9213,7 @@ when-same-length-3 : (t : ℕ) → when-lts.Need-same-length-3 (
 ) (when-at t) when.Post
 when-same-length-3 t c = search needs
 
--- src/lib.rt:536:1
+-- src/lib.rt:555:1
 when-same-length-4 : (t : ℕ) → when-lts.Need-same-length-4 (
   test-below t,
   test.Post,
@@ -9195,7 +9222,7 @@ when-same-length-4 : (t : ℕ) → when-lts.Need-same-length-4 (
 ) (when-at t) when.Post
 when-same-length-4 t c = search needs
 
--- src/lib.rt:536:1
+-- src/lib.rt:555:1
 when-returns-2 : (t : ℕ) → when-lts.Need-returns-2 (
   test-below t,
   test.Post,
@@ -9204,7 +9231,7 @@ when-returns-2 : (t : ℕ) → when-lts.Need-returns-2 (
 ) (when-at t) when.Post
 when-returns-2 t c = when-holds _ _ _ _ _ _ _ _ _ _ (c .before .before .before .before .before .before .before .before .before .before .before .before .before .before .before .before .test .ensures) _ _ _ _ (c .before .before .before .before .before .before .before .before .before .before .enum-told .given .1) (c .before .before .before .before .before .before .before .statement .ensures) (c .before .v .given .1)
 
--- src/lib.rt:536:1
+-- src/lib.rt:555:1
 when-same-length-5 : (t : ℕ) → when-lts.Need-same-length-5 (
   test-below t,
   test.Post,
@@ -9213,7 +9240,7 @@ when-same-length-5 : (t : ℕ) → when-lts.Need-same-length-5 (
 ) (when-at t) when.Post
 when-same-length-5 t c = search needs
 
--- src/lib.rt:536:1
+-- src/lib.rt:555:1
 when-same-length-6 : (t : ℕ) → when-lts.Need-same-length-6 (
   test-below t,
   test.Post,
@@ -9222,7 +9249,7 @@ when-same-length-6 : (t : ℕ) → when-lts.Need-same-length-6 (
 ) (when-at t) when.Post
 when-same-length-6 t c = search needs
 
--- src/lib.rt:536:1
+-- src/lib.rt:555:1
 when-returns-3 : (t : ℕ) → when-lts.Need-returns-3 (
   test-below t,
   test.Post,
@@ -9231,7 +9258,7 @@ when-returns-3 : (t : ℕ) → when-lts.Need-returns-3 (
 ) (when-at t) when.Post
 when-returns-3 t c = when-holds _ _ _ _ _ _ _ _ _ _ (c .before .before .before .before .before .before .before .before .before .before .before .before .before .before .before .before .test .ensures) _ _ _ _ (c .before .before .before .before .before .before .before .before .before .before .enum-told .given .1) (c .before .before .before .before .before .before .before .statement .ensures) (c .before .n .given .1)
 
--- src/lib.rt:536:1
+-- src/lib.rt:555:1
 when-same-length-7 : (t : ℕ) → when-lts.Need-same-length-7 (
   test-below t,
   test.Post,
@@ -9240,7 +9267,7 @@ when-same-length-7 : (t : ℕ) → when-lts.Need-same-length-7 (
 ) (when-at t) when.Post
 when-same-length-7 t c = search needs
 
--- src/lib.rt:536:1
+-- src/lib.rt:555:1
 when-same-length-8 : (t : ℕ) → when-lts.Need-same-length-8 (
   test-below t,
   test.Post,
@@ -9249,7 +9276,7 @@ when-same-length-8 : (t : ℕ) → when-lts.Need-same-length-8 (
 ) (when-at t) when.Post
 when-same-length-8 t c = search needs
 
--- src/lib.rt:536:1
+-- src/lib.rt:555:1
 when-returns-4 : (t : ℕ) → when-lts.Need-returns-4 (
   test-below t,
   test.Post,
@@ -9258,7 +9285,7 @@ when-returns-4 : (t : ℕ) → when-lts.Need-returns-4 (
 ) (when-at t) when.Post
 when-returns-4 t c = search when-not
 
--- src/lib.rt:536:1
+-- src/lib.rt:555:1
 when-same-length-9 : (t : ℕ) → when-lts.Need-same-length-9 (
   test-below t,
   test.Post,
@@ -9267,7 +9294,7 @@ when-same-length-9 : (t : ℕ) → when-lts.Need-same-length-9 (
 ) (when-at t) when.Post
 when-same-length-9 t c = search needs
 
--- src/lib.rt:536:1
+-- src/lib.rt:555:1
 when-same-length-10 : (t : ℕ) → when-lts.Need-same-length-10 (
   test-below t,
   test.Post,
@@ -9276,7 +9303,7 @@ when-same-length-10 : (t : ℕ) → when-lts.Need-same-length-10 (
 ) (when-at t) when.Post
 when-same-length-10 t c = search needs
 
--- src/lib.rt:536:1
+-- src/lib.rt:555:1
 when-returns-5 : (t : ℕ) → when-lts.Need-returns-5 (
   test-below t,
   test.Post,
@@ -9285,9 +9312,9 @@ when-returns-5 : (t : ℕ) → when-lts.Need-returns-5 (
 ) (when-at t) when.Post
 when-returns-5 t c = search when-stops
 
-pub +argument+bound+call+each+expression+inside+invoke+leave+member+operands+own+procedure+repeat+simple+statement+statements+test+update+when-spec :
+pub +argument+bound+call+each+expression+inside+invoke+leave+member+operands+own+procedure+pushed+repeat+simple+statement+statements+test+update+when-spec :
     {M : Type 1} → statement M
-+argument+bound+call+each+expression+inside+invoke+leave+member+operands+own+procedure+repeat+simple+statement+statements+test+update+when-spec =
++argument+bound+call+each+expression+inside+invoke+leave+member+operands+own+procedure+pushed+repeat+simple+statement+statements+test+update+when-spec =
     close
     μ-argument
     μ-bound
@@ -9301,6 +9328,7 @@ pub +argument+bound+call+each+expression+inside+invoke+leave+member+operands+own
     μ-operands
     μ-own
     μ-procedure
+    μ-pushed
     μ-repeat
     μ-simple
     μ-statement
@@ -9309,32 +9337,23 @@ pub +argument+bound+call+each+expression+inside+invoke+leave+member+operands+own
     μ-update
     μ-when
     (λ t. argument-lts.spec (
-      fast-value-reads.Asked,
-      fast-value-reads.Learnt,
+      argument-value-reads.Asked,
+      argument-value-reads.Learnt,
       push-word-reads.Asked,
       push-word-reads.Learnt,
-      expression-below t,
-      expression.Post,
-      pack-reads.Asked,
-      pack-reads.Learnt,
+      pushed-below t,
+      pushed.Post,
     )
     (argument-at t)
     argument.Post
-    (argument-fast-value-requires t)
+    (argument-argument-value-requires t)
     (argument-push-word-requires t)
     (argument-same-length t)
     (argument-returns t)
-    (argument-expression-requires t)
-    (argument-enum-known-v t)
-    (argument-pack-requires t)
-    (argument-push-word-requires-2 t)
-    (argument-enum-known-n t)
+    (argument-pushed-requires t)
     (argument-same-length-2 t)
     (argument-same-length-3 t)
-    (argument-returns-2 t)
-    (argument-same-length-4 t)
-    (argument-same-length-5 t)
-    (argument-returns-3 t))
+    (argument-returns-2 t))
     (λ t. bound-lts.spec (
       pack-reads.Asked,
       pack-reads.Learnt,
@@ -9395,10 +9414,10 @@ pub +argument+bound+call+each+expression+inside+invoke+leave+member+operands+own
     (call-library-of-requires t)
     (call-callee-of-requires t)
     (call-invoke-requires t)
+    (call-called-requires t)
     (call-same-length-3 t)
     (call-same-length-4 t)
     (call-returns-2 t)
-    (call-called-requires t)
     (call-same-length-5 t)
     (call-same-length-6 t)
     (call-returns-3 t))
@@ -9780,6 +9799,27 @@ pub +argument+bound+call+each+expression+inside+invoke+leave+member+operands+own
     (procedure-same-length-9 t)
     (procedure-same-length-10 t)
     (procedure-returns-5 t))
+    (λ t. pushed-lts.spec (
+      expression-below t,
+      expression.Post,
+      pack-reads.Asked,
+      pack-reads.Learnt,
+      push-word-reads.Asked,
+      push-word-reads.Learnt,
+    )
+    (pushed-at t)
+    pushed.Post
+    (pushed-expression-requires t)
+    (pushed-enum-known-v t)
+    (pushed-pack-requires t)
+    (pushed-push-word-requires t)
+    (pushed-enum-known-n t)
+    (pushed-same-length t)
+    (pushed-same-length-2 t)
+    (pushed-returns t)
+    (pushed-same-length-3 t)
+    (pushed-same-length-4 t)
+    (pushed-returns-2 t))
     (λ t. repeat-lts.spec (
       count-reads.Asked,
       count-reads.Learnt,
