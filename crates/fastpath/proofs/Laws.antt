@@ -15,7 +15,7 @@ use mir.Facts.{toZ-ofZ}
 use borrow.Author.Tests.{not-true, not-false, lt-ltb, le-ltb, le-leb, lt-leb, ne-eqb}
 use Rattle.meaning.specs.Basics.{if_then_else_}
 use Rattle.meaning.specs.Integer.{sum, difference, product, quotient, remainder, shiftedLeft, shiftedRight, isZero, sameInteger}
-use Rattle.machine.specs.Opcodes.{tagIn, sizeIn, numberIn, firstOperator, headNumber, headString, headName, tagAdd, tagSubtract, tagMultiply, tagDivide, tagRemainder, tagShiftRight, tagShiftLeft, tagEqual, tagUnequal, tagGreater, tagLess}
+use Rattle.machine.specs.Opcodes.{tagIn, sizeIn, sizeAt, numberIn, firstOperator, headNumber, headString, headName, tagAdd, tagSubtract, tagMultiply, tagDivide, tagRemainder, tagShiftRight, tagShiftLeft, tagEqual, tagUnequal, tagGreater, tagLess}
 use Rattle.machine.specs.declared.Value.the-variants.{Integer, Text, Boolean, Shape}
 use Rattle.machine.specs.Words.{packed}
 use Rattle.machine.specs.Words as Words
@@ -196,29 +196,29 @@ module _ (depth : ℕ) (code ws : List ℕ) (w x : ℕ) where
     is-operation-anew l h = is-operation l (rw (whole-is code, whole-is ws) at h)
 
 -- ---- their steps
-module _ (word : ℕ) (code g ws : List ℕ) (x v w : ℕ) (e : w ≡ getD code x 0) (f : v ≡ word) where
-  pub not-fast : v ≡ 0 → Values word code g ws x 0 ws
+module _ (v steps : ℕ) (g ws : List ℕ) where
+  pub no-value : v ≡ 0 → Values v steps g ws 0 ws
   unfolding applies if_then_else_
-  not-fast z = record { result = rw (← f, z); words = rw (← f, z) }
+  no-value z = record { result = rw z; words = rw z }
 
-  module _ (n : v ≡ 0 → ⊥) (size : ℕ) (s : size ≡ sizeIn w) (ok : Bool) (ws₁ : List ℕ) (p : Pays ws 0 (stepsGranted g) size ok ws₁) where
-    pub too-many : not ok ≡ true → Values word code g ws x 0 ws₁
+  module _ (n : v ≡ 0 → ⊥) (ok : Bool) (ws₁ : List ℕ) (p : Pays ws 0 (stepsGranted g) steps ok ws₁) where
+    pub too-many : not ok ≡ true → Values v steps g ws 0 ws₁
     unfolding applies if_then_else_
     too-many t =
         let q = short (rw (not-true ok t) at p) in
-        let b : leb (getD ws stepsUsed 0 + sizeIn w) (stepsGranted g) ≡ false = rw (← s) (lt-leb _ _ (q .beyond)) in
-        record { result = rw (← f, ne-eqb _ _ n, ← e, b); words = q .words ∙ rw (← f, ne-eqb _ _ n, ← e, b) }
+        let b : leb (getD ws stepsUsed 0 + steps) (stepsGranted g) ≡ false = lt-leb _ _ (q .beyond) in
+        record { result = rw (ne-eqb _ _ n, b); words = q .words ∙ rw (ne-eqb _ _ n, b) }
 
-    pub counted : not ok ≡ false → Values word code g ws x v ws₁
+    pub all-counted : not ok ≡ false → Values v steps g ws v ws₁
     unfolding applies if_then_else_
-    counted t =
+    all-counted t =
         let q = paid (rw (not-false ok t) at p) in
-        let b : leb (getD ws stepsUsed 0 + sizeIn w) (stepsGranted g) ≡ true = rw (← s) (le-leb _ _ (q .within)) in
-        record { result = f ∙ rw (← f, ne-eqb _ _ n, ← e, b); words = q .words ∙ rw (← f, ne-eqb _ _ n, ← e, b, s) }
+        let b : leb (getD ws stepsUsed 0 + steps) (stepsGranted g) ≡ true = le-leb _ _ (q .within) in
+        record { result = rw (ne-eqb _ _ n, b); words = q .words ∙ rw (ne-eqb _ _ n, b) }
 
-pub values-anew : (depth : ℕ) (code g ws : List ℕ) (x r : ℕ) (ws₁ : List ℕ) → Values (fastAt depth (whole code) ws x) (whole code) g ws x r ws₁
-    → Values (fastAt depth code ws x) code g ws x r ws₁
-values-anew depth code g ws x r ws₁ h = rw (whole-is code) at h
+pub values-anew : (depth : ℕ) (code g ws : List ℕ) (x v w steps r : ℕ) (ws₁ : List ℕ) → w ≡ getD (whole code) x 0 → v ≡ fastAt depth (whole code) ws x → steps ≡ sizeIn w
+    → Values v steps g ws r ws₁ → Values (fastAt depth code ws x) (sizeAt code x) g ws r ws₁
+values-anew depth code g ws x v w steps r ws₁ e f s h = rw (f, s, e, whole-is code) at h
 
 -- ---- arguments
 module _ (ws : List ℕ) (u : ℕ) where
@@ -254,16 +254,19 @@ module _ (code ws : List ℕ) (x : ℕ) where
   fast-argument zero n z = absurd (n refl)
   fast-argument (suc depth) n z = rw z
 
-  pub other-argument : (depth v w : ℕ) → (depth ≡ 0 → ⊥) → w ≡ getD code x 0 → v ≡ otherWord ws w → (v ≡ 0 → ⊥) → v ≡ argumentAt depth code ws x
+  other-argument : (depth v w : ℕ) → (depth ≡ 0 → ⊥) → w ≡ getD code x 0 → v ≡ otherWord ws w → (v ≡ 0 → ⊥) → argumentAt depth code ws x ≡ v
   unfolding argumentAt if_then_else_
   other-argument zero v w n e f m = absurd (n refl)
   other-argument (suc depth) v w n e f m = rw (← e, ← f, ne-eqb _ _ m)
 
   module _ (depth : ℕ) (g : List ℕ) where
-    pub no-argument : depth ≡ 0 → Values (argumentAt depth code ws x) code g ws x 0 ws
+    pub no-argument : depth ≡ 0 → Values (argumentAt depth code ws x) (sizeAt code x) g ws 0 ws
     unfolding argumentAt applies if_then_else_
     no-argument z = rw z record { result = refl; words = refl }
 
-    pub argument-fast : (v w r : ℕ) (ws₁ : List ℕ) → (depth ≡ 0 → ⊥) → w ≡ getD code x 0 → v ≡ otherWord ws w → v ≡ 0 → Values (fastAt depth code ws x) code g ws x r ws₁
-        → Values (argumentAt depth code ws x) code g ws x r ws₁
-    argument-fast v w r ws₁ n e f z h = rw (fast-argument depth n (rw (← e) (sym f ∙ z))) h
+    module _ (v w r : ℕ) (ws₁ : List ℕ) (n : depth ≡ 0 → ⊥) (e : w ≡ getD code x 0) (f : v ≡ otherWord ws w) where
+      pub argument-fast : v ≡ 0 → Values (fastAt depth code ws x) (sizeAt code x) g ws r ws₁ → Values (argumentAt depth code ws x) (sizeAt code x) g ws r ws₁
+      argument-fast z h = rw (fast-argument depth n (rw (← e) (sym f ∙ z))) h
+
+      pub argument-other : (steps : ℕ) → (v ≡ 0 → ⊥) → steps ≡ sizeIn w → Values v steps g ws r ws₁ → Values (argumentAt depth code ws x) (sizeAt code x) g ws r ws₁
+      argument-other steps m s h = rw (other-argument depth v w n e f m, ← e, ← s) h

@@ -95,11 +95,11 @@ argumentAt (suc depth) code ws x =
     if eqb (otherWord ws (getD code x 0)) 0 then (λ _. fastAt (suc depth) code ws x) else λ _. otherWord ws (getD code x 0)
 
 -- ---- steps
--- each word of an expression that is worked out so is a step: they are counted at once, if they stay within the grant
-unfoldable pub applies : ℕ → List ℕ → List ℕ → List ℕ → ℕ → Bool
-applies word code g ws x = not (eqb word 0) && leb (getD ws stepsUsed 0 + sizeIn (getD code x 0)) (stepsGranted g)
+-- as many as the expression has words; they are counted at once, if they stay within the grant
+unfoldable pub applies : ℕ → ℕ → List ℕ → List ℕ → Bool
+applies word steps g ws = not (eqb word 0) && leb (getD ws stepsUsed 0 + steps) (stepsGranted g)
 
--- the value, which is this word if it applies, with the words then
-pub record Values (word : ℕ) (code g before : List ℕ) (x value : ℕ) (after : List ℕ) : Type 0 where
-  pub result : value ≡ (if applies word code g before x then (λ _. word) else λ _. 0)
-  pub words : after ≡ (if applies word code g before x then (λ _. set before stepsUsed (getD before stepsUsed 0 + sizeIn (getD code x 0))) else λ _. before)
+-- the value, which is this word if that applies, with the words then
+pub record Values (word steps : ℕ) (g before : List ℕ) (value : ℕ) (after : List ℕ) : Type 0 where
+  pub result : value ≡ (if applies word steps g before then (λ _. word) else λ _. 0)
+  pub words : after ≡ (if applies word steps g before then (λ _. set before stepsUsed (getD before stepsUsed 0 + steps)) else λ _. before)

@@ -8,7 +8,7 @@ use machine::tags;
 ghost use Prim.Native.Nat.{_≤_};
 ghost use mathlib.Core.Path.{_≡_};
 ghost use lib.ListN.{length, getD};
-ghost use Rattle.machine.specs.Opcodes.{tagDivide, tagRemainder};
+ghost use Rattle.machine.specs.Opcodes.{tagDivide, tagRemainder, sizeAt};
 ghost use Rattle.machine.specs.Layout.{fixedWords};
 ghost use Rattle.fastpath.specs.Fast.{plainWord, leafWord, operatorWord, wordOn, sizesAgree, operationWord, fastAt, livingWord, otherWord, argumentAt, Values};
 
@@ -157,22 +157,32 @@ fn root(code: &[u64], words: &[u64], depth: usize, w: u64, x: usize) -> u64
     r
 }
 
-// The value of the expression whose root stands at x, its steps counted; 0, and nothing counted, where this does not apply.
-pub fn fast_value(words: &mut [u64], code: &[u64], grants: &[u64; 5], depth: usize, x: usize) -> u64
+// ---- steps
+// A value whose steps are counted; 0, and nothing counted, if it is 0 or they are too many.
+fn counted(words: &mut [u64], grants: &[u64; 5], v: u64, steps: usize) -> u64
     requires { ⌜ fixedWords ≤ length (now words) ⌝ }
-    ensures { λ r. ⌜ Values (fastAt depth (now (code .entry)) (now (words .entry)) x) (now (code .entry)) (now (grants .entry)) (now (words .entry)) x r (now (words .exit)) ⌝ }
+    ensures { λ r. ⌜ Values v steps (now (grants .entry)) (now (words .entry)) r (now (words .exit)) ⌝ }
 {
-    let code = &code[0..];
-    let w = stores::words::word_at(code, x);
-    let v = root(code, words, depth, w, x);
     if v == 0 {
         return 0;
     }
     let limit = grants[granted::STEPS];
-    if !stores::counters::spend(words, counters::STEPS, limit, code::size_of(w) as u64) {
+    if !stores::counters::spend(words, counters::STEPS, limit, steps as u64) {
         return 0;
     }
     v
+}
+
+// The value of the expression whose root stands at x, its steps counted; 0, and nothing counted, where this does not apply.
+pub fn fast_value(words: &mut [u64], code: &[u64], grants: &[u64; 5], depth: usize, x: usize) -> u64
+    requires { ⌜ fixedWords ≤ length (now words) ⌝ }
+    ensures { λ r. ⌜ Values (fastAt depth (now (code .entry)) (now (words .entry)) x) (sizeAt (now (code .entry)) x) (now (grants .entry)) (now (words .entry)) r (now (words .exit)) ⌝ }
+{
+    let code = &code[0..];
+    let w = stores::words::word_at(code, x);
+    let v = root(code, words, depth, w, x);
+    let r = counted(words, grants, v, code::size_of(w));
+    r
 }
 
 // ---- arguments
@@ -217,7 +227,7 @@ pub fn argument_value(
     x: usize,
 ) -> u64
     requires { ⌜ fixedWords ≤ length (now words) ⌝ }
-    ensures { λ r. ⌜ Values (argumentAt depth (now (code .entry)) (now (words .entry)) x) (now (code .entry)) (now (grants .entry)) (now (words .entry)) x r (now (words .exit)) ⌝ }
+    ensures { λ r. ⌜ Values (argumentAt depth (now (code .entry)) (now (words .entry)) x) (sizeAt (now (code .entry)) x) (now (grants .entry)) (now (words .entry)) r (now (words .exit)) ⌝ }
 {
     if depth == 0 {
         return 0;
@@ -228,9 +238,6 @@ pub fn argument_value(
         let r = fast_value(words, code, grants, depth, x);
         return r;
     }
-    let limit = grants[granted::STEPS];
-    if !stores::counters::spend(words, counters::STEPS, limit, code::size_of(w) as u64) {
-        return 0;
-    }
-    v
+    let r = counted(words, grants, v, code::size_of(w));
+    r
 }

@@ -14,7 +14,7 @@ use borrow.Author.Tests.{eqb-true, eqb-false, ltb-true, ltb-false, leb-true, le-
 use Rattle.meaning.specs.Basics.{if_then_else_}
 use Rattle.meaning.specs.Integer.{sum, difference, product, quotient, remainder, shiftedLeft, shiftedRight, isZero, sameInteger}
 use Rattle.arithmetic.proofs.Ranges.{bits-signed, signed-small, sum-small, difference-small, product-small, quotient-small, remainder-small, shifted-left-small, shifted-right-small}
-use Rattle.machine.specs.Opcodes.{tagIn, sizeIn, numberIn, tagNumber, tagString, tagName, tagTable, tagEntry, tagCall, firstOperator, headNumber, headString, headName, tagAdd, tagSubtract, tagMultiply, tagDivide, tagRemainder, tagShiftRight, tagShiftLeft, tagEqual, tagUnequal, tagGreater, tagLess}
+use Rattle.machine.specs.Opcodes.{tagIn, sizeIn, sizeAt, numberIn, tagNumber, tagString, tagName, tagTable, tagEntry, tagCall, firstOperator, headNumber, headString, headName, tagAdd, tagSubtract, tagMultiply, tagDivide, tagRemainder, tagShiftRight, tagShiftLeft, tagEqual, tagUnequal, tagGreater, tagLess}
 use Rattle.machine.specs.declared.Value.{Value}
 use Rattle.machine.specs.declared.Value.the-variants.{Integer, Text, Boolean, Shape}
 use Rattle.machine.specs.declared.Answer.{Answer}
@@ -427,20 +427,18 @@ module _ (program code g ts rest : List ℕ) (u p : ℕ) where
           }
 
 -- ---- as the code has it
-record Applied (word : ℕ) (code g ws : List ℕ) (x v : ℕ) (ws₁ : List ℕ) : Type 0 where
+record Applied (word steps : ℕ) (g ws : List ℕ) (v : ℕ) (ws₁ : List ℕ) : Type 0 where
   pub fast : word ≡ v
-  pub within : getD ws stepsUsed 0 + sizeIn (getD code x 0) ≤ stepsGranted g
-  pub words : ws₁ ≡ set ws stepsUsed (getD ws stepsUsed 0 + sizeIn (getD code x 0))
+  pub within : getD ws stepsUsed 0 + steps ≤ stepsGranted g
+  pub words : ws₁ ≡ set ws stepsUsed (getD ws stepsUsed 0 + steps)
 
-module _ (word : ℕ) (code g ws : List ℕ) (x v : ℕ) (ws₁ : List ℕ) (h : Values word code g ws x v ws₁) where
-  as-applied : (v ≡ 0 → ⊥) → Applied word code g ws x v ws₁
+module _ {word steps : ℕ} (g ws : List ℕ) (v : ℕ) (ws₁ : List ℕ) (h : Values word steps g ws v ws₁) where
+  as-applied : (v ≡ 0 → ⊥) → Applied word steps g ws v ws₁
   unfolding applies if_then_else_
-  as-applied n = go (eqb word 0) (leb (getD ws stepsUsed 0 + sizeIn (getD code x 0)) (stepsGranted g)) refl (h .result) (h .words)
+  as-applied n = go (eqb word 0) (leb (getD ws stepsUsed 0 + steps) (stepsGranted g)) refl (h .result) (h .words)
     where
-      go : (i j : Bool) → leb (getD ws stepsUsed 0 + sizeIn (getD code x 0)) (stepsGranted g) ≡ j
-          → v ≡ (if not i && j then (λ _. word) else λ _. 0)
-          → ws₁ ≡ (if not i && j then (λ _. set ws stepsUsed (getD ws stepsUsed 0 + sizeIn (getD code x 0))) else λ _. ws)
-          → Applied word code g ws x v ws₁
+      go : (i j : Bool) → leb (getD ws stepsUsed 0 + steps) (stepsGranted g) ≡ j → v ≡ (if not i && j then (λ _. word) else λ _. 0)
+          → ws₁ ≡ (if not i && j then (λ _. set ws stepsUsed (getD ws stepsUsed 0 + steps)) else λ _. ws) → Applied word steps g ws v ws₁
       go true j q f d = absurd (n f)
       go false false q f d = absurd (n f)
       go false true q f d = record { fast = sym f; within = leb-true _ _ q; words = d }
@@ -448,12 +446,10 @@ module _ (word : ℕ) (code g ws : List ℕ) (x v : ℕ) (ws₁ : List ℕ) (h :
   -- where it does not apply, nothing has changed
   pub unchanged : v ≡ 0 → ws₁ ≡ ws
   unfolding applies if_then_else_
-  unchanged z = go (eqb word 0) (leb (getD ws stepsUsed 0 + sizeIn (getD code x 0)) (stepsGranted g)) refl (h .result) (h .words)
+  unchanged z = go (eqb word 0) (leb (getD ws stepsUsed 0 + steps) (stepsGranted g)) refl (h .result) (h .words)
     where
-      go : (i j : Bool) → eqb word 0 ≡ i
-          → v ≡ (if not i && j then (λ _. word) else λ _. 0)
-          → ws₁ ≡ (if not i && j then (λ _. set ws stepsUsed (getD ws stepsUsed 0 + sizeIn (getD code x 0))) else λ _. ws)
-          → ws₁ ≡ ws
+      go : (i j : Bool) → eqb word 0 ≡ i → v ≡ (if not i && j then (λ _. word) else λ _. 0)
+          → ws₁ ≡ (if not i && j then (λ _. set ws stepsUsed (getD ws stepsUsed 0 + steps)) else λ _. ws) → ws₁ ≡ ws
       go true j q f d = d
       go false false q f d = d
       go false true q f d = absurd (eqb-false _ _ q (sym f ∙ z))
@@ -469,17 +465,17 @@ fast-plain code (u ∷ rest) fuel x v l h n = runs [] code [] [] rest u 0 fuel x
 
 -- an expression by fast_value
 abbrev pub Fast : ℕ → List ℕ → List ℕ → List ℕ → ℕ → ℕ → List ℕ → Type 0
-Fast fuel code g ws x v ws₁ = Values (fastAt fuel code ws x) code g ws x v ws₁
+Fast fuel code g ws x v ws₁ = Values (fastAt fuel code ws x) (sizeAt code x) g ws v ws₁
 
 module _ (fuel : ℕ) (code g ws : List ℕ) (x v : ℕ) (ws₁ : List ℕ) (h : Fast fuel code g ws x v ws₁) (l : fixedWords ≤ length ws) (n : v ≡ 0 → ⊥) where
   pub plain : Plain v
-  plain = fast-plain code ws fuel x v (omega arith) (as-applied _ code g ws x v ws₁ h n .fast) n
+  plain = fast-plain code ws fuel x v (omega arith) (as-applied g ws v ws₁ h n .fast) n
 
   -- the evaluator gives the word's value, and leaves the words so
   pub evaluates : (program ts : List ℕ) (p : ℕ) → shown (Good (unpacked v)) ts ws₁ ≡ expressionAt fuel (setting program code g) x p (raw ts ws)
   unfolding shown
   evaluates program ts p =
-      let q = as-applied _ code g ws x v ws₁ h n in
+      let q = as-applied g ws v ws₁ h n in
       sym (rw (q .words) (fast-found program code g ts ws p fuel x v (omega arith) (q .fast) n (q .within)))
 
 -- an argument by argument_value
@@ -492,17 +488,17 @@ argument-back : (code ws : List ℕ) (fuel x v : ℕ) → 0 < length ws → argu
 argument-back code [] fuel x v l h n = absurd (omega arith)
 argument-back code (u ∷ rest) fuel x v l h n = hands [] code [] [] rest u 0 fuel x v h n .back
 
-module _ (program code g : List ℕ) (fuel p : ℕ) (ts ws : List ℕ) (y w : ℕ) (ws₁ : List ℕ) (h : Values (argumentAt fuel code ws y) code g ws y w ws₁) where
+module _ (program code g : List ℕ) (fuel p : ℕ) (ts ws : List ℕ) (y w : ℕ) (ws₁ : List ℕ) (h : Values (argumentAt fuel code ws y) (sizeAt code y) g ws w ws₁) where
   pub push-fast : (r : Answer) (ws₂ : List ℕ) → Lent g ts ws → (w ≡ 0 → ⊥) → Answers ws₁ (pushWord w p) r ws₂
       → shown r ts ws₂ ≡ argumentOf (expressionAt fuel (setting program code g)) y p (raw ts ws)
   unfolding shown
   push-fast r ws₂ v n q =
       let some : 0 < length ws = omega (arith, v .room .words) in
-      let a = as-applied _ code g ws y w ws₁ h n in
+      let a = as-applied g ws w ws₁ h n in
       laws.push-goes (expressionAt fuel (setting program code g)) p ts ws (Good (unpacked w)) ts ws₁ y w (unpacked w) r ws₂
       (sym (rw (a .words) (argument-found program code g ts ws p fuel y w some (a .fast) n (a .within)))) refl (sym (argument-back code ws fuel y w some (a .fast) n)) q
 
   -- where it does not apply, the argument is evaluated
   pub push-slow : (o : Out Value) → w ≡ 0 → o ≡ argumentOf (expressionAt fuel (setting program code g)) y p (raw ts ws₁)
       → o ≡ argumentOf (expressionAt fuel (setting program code g)) y p (raw ts ws)
-  push-slow o z c = rw (unchanged _ code g ws y w ws₁ h z) at c
+  push-slow o z c = rw (unchanged g ws w ws₁ h z) at c

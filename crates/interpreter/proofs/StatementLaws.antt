@@ -53,8 +53,8 @@ module _ (g ts ws ts₁ ws₁ : List ℕ) (i : length ts₁ ≡ length ts) (j : 
 pub still-room : (g ts ws ws₁ : List ℕ) (fuel : ℕ) → Lent g ts ws fuel → length ws₁ ≡ length ws → Room g ws₁
 still-room g ts ws ws₁ fuel l j = laws.still-lent g ts ws ts ws₁ (l .lent) refl j .room
 
-pub slow-lent : {word : ℕ} (code g ts ws : List ℕ) (fuel y k : ℕ) (ws₁ : List ℕ) → Values word code g ws y k ws₁ → k ≡ 0 → Lent g ts ws fuel → Lent g ts ws₁ fuel
-slow-lent code g ts ws fuel y k ws₁ h z l = rw (unchanged _ code g ws y k ws₁ h z) l
+pub slow-lent : {word steps : ℕ} (g ts ws : List ℕ) (fuel k : ℕ) (ws₁ : List ℕ) → Values word steps g ws k ws₁ → k ≡ 0 → Lent g ts ws fuel → Lent g ts ws₁ fuel
+slow-lent g ts ws fuel k ws₁ h z l = rw (unchanged g ws k ws₁ h z) l
 
 -- one level deeper
 pub deeper-lent : (g ts ws : List ℕ) (fuel : ℕ) → Lent g ts ws fuel → Lent g ts ws (fuel - 1)
@@ -96,7 +96,7 @@ module _ (program code g : List ℕ) (p : ℕ) (ts ws : List ℕ) (fuel y k : �
 module _ (program code g : List ℕ) (p : ℕ) (ts ws : List ℕ) (fuel y i : ℕ) (ws₀ : List ℕ) (c : Fast fuel code g ws y i ws₀) (z : i ≡ 0) (a : Answer) (ts₁ ws₁ : List ℕ)
     (h : shown a ts₁ ws₁ ≡ expressionAt fuel (setting program code g) y p (raw ts ws₀)) where
   there : shown a ts₁ ws₁ ≡ expressionAt fuel (setting program code g) y p (raw ts ws)
-  there = rw (unchanged _ code g ws y i ws₀ c z) at h
+  there = rw (unchanged g ws i ws₀ c z) at h
 
   pub simple-done : (w x k : ℕ) (v : Value) (r s : Flow) (ws₂ : List ℕ) → y ≡ x + sizeIn w - 1 → a ≡ Good v → k ≡ packed v → Flows ws₁ (finishing g w k p) r ws₂ → r ≡ s
       → shownFlow s ts₁ ws₂ ≡ simpleAt (expressionAt fuel (setting program code g)) (setting program code g) w x p (raw ts ws)

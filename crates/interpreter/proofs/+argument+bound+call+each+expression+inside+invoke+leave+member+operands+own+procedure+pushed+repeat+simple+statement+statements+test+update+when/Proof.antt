@@ -379,7 +379,7 @@ argument-pushed-requires : (t : ℕ) → argument-lts.Need-pushed-requires (
   pushed-below t,
   pushed.Post,
 ) (argument-at t) argument.Post
-argument-pushed-requires t c κs = (omega arith, slow-lent _ _ _ _ _ _ _ _ (c .before .before .before .before .before .argument-value .ensures) (c .before .before .if1 .left) (c .before .before .before .before .before .before .before .before .before .before .before .pre .1))
+argument-pushed-requires t c κs = (omega arith, slow-lent _ _ _ _ _ _ (c .before .before .before .before .before .argument-value .ensures) (c .before .before .if1 .left) (c .before .before .before .before .before .before .before .before .before .before .before .pre .1))
 
 -- src/lib.rt:176:1
 argument-same-length-2 : (t : ℕ) → argument-lts.Need-same-length-2 (
@@ -3260,7 +3260,7 @@ leave-expression-requires : (t : ℕ) → leave-lts.Need-expression-requires (
   pack-reads.Asked,
   pack-reads.Learnt,
 ) (leave-at t) leave.Post
-leave-expression-requires t c κs = (omega arith, slow-lent _ _ _ _ _ _ _ _ (c .before .before .before .before .before .fast-value .ensures) (c .before .before .if3 .left) (still-lent _ _ _ _ _ refl (let a0 = c .before .before .before .before .before .before .before .before .before .before .words in omega arith) _ (deeper-lent _ _ _ _ (c .before .before .before .before .before .before .before .before .before .before .before .before .before .before .before .before .before .before .before .pre .1 .runs .lent))))
+leave-expression-requires t c κs = (omega arith, slow-lent _ _ _ _ _ _ (c .before .before .before .before .before .fast-value .ensures) (c .before .before .if3 .left) (still-lent _ _ _ _ _ refl (let a0 = c .before .before .before .before .before .before .before .before .before .before .words in omega arith) _ (deeper-lent _ _ _ _ (c .before .before .before .before .before .before .before .before .before .before .before .before .before .before .before .before .before .before .before .pre .1 .runs .lent))))
 
 -- src/lib.rt:334:22
 leave-enum-known-v : (t : ℕ) → leave-lts.Need-enum-known-v (
@@ -5858,7 +5858,7 @@ simple-expression-requires : (t : ℕ) → simple-lts.Need-expression-requires (
   finish-reads.Asked,
   finish-reads.Learnt,
 ) (simple-at t) simple.Post
-simple-expression-requires t c κs = (omega arith, slow-lent _ _ _ _ _ _ _ _ (c .before .before .before .before .before .fast-value .ensures) (c .before .before .if1 .left) (c .before .before .before .before .before .before .before .before .before .before .before .before .pre .1 .lent))
+simple-expression-requires t c κs = (omega arith, slow-lent _ _ _ _ _ _ (c .before .before .before .before .before .fast-value .ensures) (c .before .before .if1 .left) (c .before .before .before .before .before .before .before .before .before .before .before .before .pre .1 .lent))
 
 -- src/lib.rt:366:22
 simple-enum-known-v : (t : ℕ) → simple-lts.Need-enum-known-v (
@@ -8439,7 +8439,7 @@ test-expression-requires : (t : ℕ) → test-lts.Need-expression-requires (
   pack-reads.Asked,
   pack-reads.Learnt,
 ) (test-at t) test.Post
-test-expression-requires t c κs = (omega arith, slow-lent _ _ _ _ _ _ _ _ (c .before .before .before .before .before .fast-value .ensures) (c .before .before .if1 .left) (c .before .before .before .before .before .before .before .before .before .before .before .before .pre .1))
+test-expression-requires t c κs = (omega arith, slow-lent _ _ _ _ _ _ (c .before .before .before .before .before .fast-value .ensures) (c .before .before .if1 .left) (c .before .before .before .before .before .before .before .before .before .before .before .before .pre .1))
 
 -- src/lib.rt:445:22
 test-enum-known-v : (t : ℕ) → test-lts.Need-enum-known-v (
