@@ -59,24 +59,29 @@ module _ (g ws : List ℕ) (unit place n : ℕ) (ok : Bool) (ws₁ : List ℕ) (
           used = λ z. (a, omega arith);
         }
 
--- ---- zeros
--- from i on there are as many left as lead to the end
+-- ---- zeros: the first i are there
 pub record Zeroing (ws₀ : List ℕ) (at n : ℕ) (ws : List ℕ) (i : ℕ) : Type 0 where
-  pub rest : zeroed ws₀ at n ≡ zeroed ws i (at + n - i)
+  pub rest : zeroed ws₀ at n ≡ zeroed ws (at + i) (n - i)
   pub long : length ws ≡ length ws₀
 
 module _ (ws₀ : List ℕ) (at n : ℕ) where
-  pub zero-first : Zeroing ws₀ at n ws₀ at
-  zero-first = let q : at + n - at ≡ n = omega arith in record { rest = rw q; long = refl }
+  pub zero-first : Zeroing ws₀ at n ws₀ 0
+  zero-first =
+      let q : at + 0 ≡ at = omega arith in
+      let m : n - 0 ≡ n = omega arith in
+      record { rest = rw (q, m); long = refl }
 
   module _ (ws : List ℕ) (i : ℕ) (a : Zeroing ws₀ at n ws i) where
-    pub zero-next : i < at + n → Zeroing ws₀ at n (set ws i 0) (i + 1)
+    pub zero-next : i < n → Zeroing ws₀ at n (set ws (at + i) 0) (i + 1)
     unfolding zeroed
-    zero-next l = let q : at + n - i ≡ suc (at + n - (i + 1)) = omega arith in record { rest = rw q at (a .rest); long = length-set ws i 0 ∙ a .long }
+    zero-next l =
+        let q : n - i ≡ suc (n - (i + 1)) = omega arith in
+        let m : at + i + 1 ≡ at + (i + 1) = omega arith in
+        record { rest = rw q at (a .rest) ∙ ap (λ x. zeroed (set ws (at + i) 0) x (n - (i + 1))) m; long = length-set ws (at + i) 0 ∙ a .long }
 
-    pub zero-last : at + n ≤ i → ws ≡ zeroed ws₀ at n
+    pub zero-last : n ≤ i → ws ≡ zeroed ws₀ at n
     unfolding zeroed
-    zero-last l = let q : at + n - i ≡ 0 = omega arith in sym (rw q at (a .rest))
+    zero-last l = let q : n - i ≡ 0 = omega arith in sym (rw q at (a .rest))
 
 pub component-room : (g ws ws₁ : List ℕ) (k at : ℕ) → Room g ws → k < entriesGranted g → at ≡ componentPlace g k → length ws₁ ≡ length ws → at < length ws₁
 component-room g ws ws₁ k at r h e l = omega (arith, r .words, l)

@@ -26,10 +26,9 @@ fn clear_from(words: &mut [u64], at: usize, n: usize)
     requires { ⌜ at + n ≤ length (now words) ⌝ }
     ensures { λ _. ⌜ now (words .exit) ≡ zeroed (now (words .entry)) at n ⌝ }
 {
-    let end = at + n;
-    let mut i = at;
-    while i < end {
-        words[i] = 0;
+    let mut i = 0;
+    while i < n {
+        words[at + i] = 0;
         i += 1;
     }
 }
