@@ -8,8 +8,8 @@ use mathlib.Core.Bool.{Bool, true, false}
 use mathlib.Core.List.{List}
 use lib.ListN.{getD, set, length, length-set}
 use lib.Seq.{getD-set-same, getD-set-other}
-use lib.Dec.{ltb}
-use borrow.Author.Tests.{ltb-true, ltb-false}
+use lib.Dec.{eqb, ltb}
+use borrow.Author.Tests.{eqb-true, eqb-false, ltb-true, ltb-false}
 use Rattle.machine.specs.Layout.{entriesGranted, callsGranted, pathPlace, Room}
 use Rattle.machine.specs.Groups.{zeroed}
 
@@ -35,7 +35,7 @@ zeroed-here ws at (suc n) (suc i) l m =
     let q : at + suc i ≡ at + 1 + i = omega arith in
     rw q (zeroed-here (set ws at 0) (at + 1) n i (rw (length-set ws at 0) (omega arith)) (omega arith))
 
--- ---- words of different slots are apart
+-- ---- words of different slots are apart, and of different calls
 slot-less : (n d d′ k k′ : ℕ) → d < n → k < k′ → n * k + d < n * k′ + d′
 slot-less n d d′ k k′ l m =
     let a : n * (k + 1) ≤ n * k′ = mul-le-mul-left n (omega arith) in
@@ -48,6 +48,13 @@ slot-apart g d d′ k k′ a b n e = go (ltb k k′) refl
     go : (t : Bool) → ltb k k′ ≡ t → ⊥
     go true q = omega (arith, slot-less (callsGranted g) d d′ k k′ a (ltb-true k k′ q))
     go false q = let m : k′ ≤ k = ltb-false k k′ q in omega (arith, slot-less (callsGranted g) d′ d k′ k b (omega arith))
+
+pub call-apart : (g : List ℕ) (d d′ k k′ : ℕ) → d < callsGranted g → d′ < callsGranted g → d ≢ d′ → pathPlace g d k ≢ pathPlace g d′ k′
+call-apart g d d′ k k′ a b n e = go (eqb k k′) refl
+  where
+    go : (t : Bool) → eqb k k′ ≡ t → ⊥
+    go true q = let z : callsGranted g * k ≡ callsGranted g * k′ = ap (λ x. callsGranted g * x) (eqb-true k k′ q) in n (omega arith)
+    go false q = slot-apart g d d′ k k′ a b (eqb-false k k′ q) e
 
 -- ---- they are lent
 pub slot-room : (g ws : List ℕ) (k : ℕ) → Room g ws → k < entriesGranted g → pathPlace g 0 k + callsGranted g ≤ length ws
