@@ -11,7 +11,7 @@ use Rattle.machine.specs.Act.{Passes, Act, _>>=_, _>>_, give, load, store, spen
 use Rattle.groups.specs.Walks.{Ends}
 use Rattle.machine.specs.Groups.{slotWord, firstAt, countAt, unmarked, newGroup, groupWaiting}
 
--- the component whose number stands above so many bits, unit, of the word at a place, with n behind it; no loop is at it
+-- the component whose number stands above so many bits, unit, of the word at a place, with n behind it, on no loop's way
 unfoldable pub addOne : List ℕ → ℕ → ℕ → ℕ → ℕ → Act (Unit {0})
 addOne g unit place n p = do
   k ← load componentsMade

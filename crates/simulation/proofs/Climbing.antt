@@ -48,7 +48,8 @@ module _ (program : List ℕ) (ts : List Token) (g : List ℕ) (body : ℕ → R
       let inside = in-upper program ts g body around unit end s total y in
       let was : markAt g r (at .slot) ≡ around (at .slot) + cond (eqb (at .slot) (at .slot) || isIn (at .slot) (slots ways)) unit 0 = y .path .each (at .slot) in
       let was′ : markAt g r (at .slot) ≡ around (at .slot) + unit = rw (eq-eqb (at .slot) (at .slot) refl) at was in
-      rw (own-call (y .related) (y .some) (at .slot) inside, own-word (y .related) (y .some) (at .slot) inside) (le-leb (getD (r .words) loopUnit 0) (markAt g r (at .slot)) (omega (arith, was′, y .unitIs)))
+      rw (own-call (y .related) (y .some) (at .slot) inside, own-word (y .related) (y .some) (at .slot) inside)
+      (le-leb (getD (r .words) loopUnit 0) (markAt g r (at .slot)) (omega (arith, was′, y .unitIs)))
 
   next-none : {r : Raw} → Here [] r → (k : ℕ) → markedFrom g (r .words) (k + 1) (end - k - 1) ≡ 0
   unfolding nextUp

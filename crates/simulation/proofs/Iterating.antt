@@ -91,7 +91,8 @@ module _ {program : List ℕ} {ts : List Token} {g : List ℕ} (few : length ts 
 
   -- the procedure returns: from r₀ on, where no slot was marked, none is
   leaves : {r₀ r : Raw} {s : State} {total : Amounts} (end : ℕ) (ways : List Stop) (v : Value) (u : Value.Value) → Path g around unit [] r₀ → AfterBut program ts g r₀ r s total → Ready r
-      → end ≤ getD (r .words) componentsMade 0 → Path g around unit (slots ways) r → ((j : ℕ) → end ≤ j → isIn j (slots ways) ≡ false) → Valid program (r .words) v → u ≡ meantValue program (r .texts) v
+      → end ≤ getD (r .words) componentsMade 0 → Path g around unit (slots ways) r → ((j : ℕ) → end ≤ j → isIn j (slots ways) ≡ false)
+      → Valid program (r .words) v → u ≡ meantValue program (r .texts) v
       → Follows granted total (Flows program ts g r₀) (Act._>>_ (unmarkFrom g 0 end) (Act.give (Returned v)) r) (Run.give (returned u) s)
   unfolding isIn Act._>>=_ Act.goOn Act.give Run.give
   leaves {r₀} {r} {s} {total} end ways v u clean a q l path off y z =

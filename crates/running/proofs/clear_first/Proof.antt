@@ -62,7 +62,8 @@ same-length c = let a0 = c .before .words2 in let a1 = c .before .before .before
 returns : tie.Need-returns
 returns c =
     let s = c .before .before .before .before .before .before .before .before .before .before .before .before in
-    both-cleared (s .args .grants .now) (s .args .words .now) _ _ _ _ (s .pre) (c .before .before .before .before .before .before .before .before .before .place-of .ensures) (c .before .before .before .before .before .before .before .before .place-of2 .ensures)
+    both-cleared (s .args .grants .now) (s .args .words .now) _ _ _ _ (s .pre)
+    (c .before .before .before .before .before .before .before .before .before .place-of .ensures) (c .before .before .before .before .before .before .before .before .place-of2 .ensures)
     (c .before .before .before .before .before .before .clear-words .ensures) (c .before .before .clear-words2 .ensures)
 
 pub clear-first-spec : {M : Type 1} → statement M
