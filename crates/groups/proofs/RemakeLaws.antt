@@ -7,10 +7,11 @@ use lib.ListN.{getD, set}
 use lib.Seq.{getD-set-other}
 use Rattle.machine.specs.declared.Figure.{Figure}
 use Rattle.machine.specs.declared.Value.the-variants.{Shape}
-use Rattle.machine.specs.Layout.{stepsUsed, shapesUsed, entriesUsed, componentsMade, waitingHeld, stepsGranted, shapesGranted, entriesGranted, shapePlace, componentPlace}
+use Rattle.machine.specs.Layout.{stepsUsed, shapesUsed, entriesUsed, componentsMade, waitingHeld, stepsGranted, shapesGranted, entriesGranted, callsGranted, shapePlace, componentPlace, pathPlace}
 use Rattle.machine.specs.Act.{Raw, raw, Out, done, stop, Act, goOn, _>>=_, _>>_, give, load, store, held, spend, count}
 use Rattle.machine.specs.Shapes.{isGroupAt, figureAt, putFigure, newShape}
-use Rattle.machine.specs.Groups.{slotWord, fillFrom, putGroup, newGroup, wayPlace, waitingPlace, await, groupWaiting, remakeReached, remakeLeft}
+use Rattle.machine.specs.Groups.{slotWord, unmarked, fillFrom, putGroup, newGroup, wayPlace, waitingPlace, await, groupWaiting, remakeReached, remakeLeft}
+use Rattle.machine.proofs.Slots.{zeroed-other}
 use Rattle.groups.specs.Walks.{Doing}
 use Rattle.groups.proofs.WalkLaws.{Keeps, keeps-from, keeps-then, keeps-either, keeps-store, Steady}
 use Rattle.groups.proofs.DestroyLaws.{keeps-spend}
@@ -37,6 +38,10 @@ module _ (g : List ℕ) (p e : ℕ) where
       keeps-store e r₂ waitingHeld (k % 2 ^ 16 + 1) (λ q. omega arith)
 
   module _ (l : e < shapesGranted g) where
+    keeps-unmarked : (k : ℕ) (r : Raw) → Keeps e r (unmarked g k r)
+    unfolding unmarked Keeps
+    keeps-unmarked k r = zeroed-other (r .words) (pathPlace g 0 k) (callsGranted g) (wayPlace e) (λ i m q. omega arith)
+
     keeps-fill : (stride unit n place : ℕ) (r : Raw) → Keeps e r (fillFrom g p stride unit place n r)
     unfolding fillFrom load give Keeps
     keeps-fill stride unit zero place r = refl
@@ -46,8 +51,9 @@ module _ (g : List ℕ) (p e : ℕ) where
         keeps-then e r₂ (load place) _ refl λ w r₃.
         keeps-then e r₃ (store (componentPlace g (k % entriesGranted g)) (slotWord (w / unit) n)) _
         (keeps-store e r₃ (componentPlace g (k % entriesGranted g)) (slotWord (w / unit) n) (λ q. omega arith)) λ b r₄.
-        keeps-then e r₄ (store componentsMade (k % entriesGranted g + 1)) _ (keeps-store e r₄ componentsMade (k % entriesGranted g + 1) (λ q. omega arith)) λ c r₅.
-        keeps-fill stride unit n (place + stride) r₅
+        keeps-then e r₄ (unmarked g (k % entriesGranted g)) _ (keeps-unmarked (k % entriesGranted g) r₄) λ d r₅.
+        keeps-then e r₅ (store componentsMade (k % entriesGranted g + 1)) _ (keeps-store e r₅ componentsMade (k % entriesGranted g + 1) (λ q. omega arith)) λ c r₆.
+        keeps-fill stride unit n (place + stride) r₆
 
     keeps-group : (stride unit place n : ℕ) (r : Raw) → Keeps e r (newGroup g p stride unit place n r)
     unfolding newGroup putGroup load give Keeps
