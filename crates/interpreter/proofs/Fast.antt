@@ -27,7 +27,7 @@ use Rattle.machine.specs.Act.{Raw, raw, Out, done, goOn, _>>=_, give, refuse, s
 use Rattle.machine.specs.Variables.{isDead, usable}
 use Rattle.stores.proofs.Laws.{not-dead, found}
 use Rattle.machine.specs.Operate.{withInteger, calculated, compared, remaindered, equality, answered, equated, operateOn, operate}
-use Rattle.operators.proofs.Held.{by-number}
+use Rattle.values.proofs.Held.{by-number}
 use Rattle.fastpath.specs.Fast.{plainWord, leafWord, operatorWord, wordOn, sizesAgree, operationWord, fastAt, applies, Values}
 use Rattle.machine.specs.Evaluate.{Evaluator, Invoke, Setting, setting, argumentOf, secondOf, firstOf, operandsAt, expressionBy}
 use Rattle.machine.specs.Interpret.{expressionAt, invokeAt, bodyAt}
