@@ -7,9 +7,9 @@ use lib.ListN.{length}
 use native.Mathlib.Omega.{arith}
 use borrow.Author.Needs.{needs}
 use Rattle.expressions.proofs.Tokens.{token-inside}
-use Rattle.statements.proofs.Listing.{Listing, parameters-none, listing-starts, listing-stops, listing-fails, listing-ends, listing-on}
-use Rattle.statements.proofs.read_parameters.Statement.{statement}
-use Rattle.statements.proofs.read_parameters.Tie as tie
+use Rattle.definitions.proofs.Listing.{Listing, parameters-none, listing-starts, listing-stops, listing-fails, listing-ends, listing-on}
+use Rattle.definitions.proofs.read_parameters.Statement.{statement}
+use Rattle.definitions.proofs.read_parameters.Tie as tie
 
 abbrev Inv-loop : tie.InvT-loop
 Inv-loop tokens words₀ i n at₀ m₀ words at m = Listing tokens i n words₀ at m words

@@ -3,10 +3,10 @@
 use mathlib.Core.Path.{_∙_, ap}
 use Prim.Native.Nat.{_+_}
 use native.Mathlib.Omega.{arith}
-use Rattle.statements.proofs.Table.{twice-kept, twice-again, twice-library, twice-none}
+use Rattle.definitions.proofs.Table.{twice-kept, twice-again, twice-library, twice-none}
 use borrow.Author.Needs.{needs}
-use Rattle.statements.proofs.note_twice.Statement.{statement}
-use Rattle.statements.proofs.note_twice.Tie as tie
+use Rattle.definitions.proofs.note_twice.Statement.{statement}
+use Rattle.definitions.proofs.note_twice.Tie as tie
 
 returns : tie.Need-returns
 returns c = twice-kept _ _ _ _ (c .if1 .taken)

@@ -1,9 +1,9 @@
 -- `statements::settle` meets its contract.
 -- Assumes nothing.
-use Rattle.statements.proofs.Table.{settle-none, settle-whole, settle-twice}
+use Rattle.definitions.proofs.Table.{settle-none, settle-whole, settle-twice}
 use borrow.Author.Needs.{needs}
-use Rattle.statements.proofs.settle.Statement.{statement}
-use Rattle.statements.proofs.settle.Tie as tie
+use Rattle.definitions.proofs.settle.Statement.{statement}
+use Rattle.definitions.proofs.settle.Tie as tie
 
 returns : tie.Need-returns
 returns c = settle-none _ _ _ _ (c .if1 .taken)

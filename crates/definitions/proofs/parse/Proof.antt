@@ -5,9 +5,9 @@ use mathlib.Core.Path.{_∙_}
 use lib.ListN.{length}
 use native.Mathlib.Omega.{arith}
 use borrow.Author.Needs.{needs}
-use Rattle.statements.proofs.Gathering.{Gathering, gathering-starts, gathering-fails, turned, gathering-ends, gathering-on}
-use Rattle.statements.proofs.parse.Statement.{statement}
-use Rattle.statements.proofs.parse.Tie as tie
+use Rattle.definitions.proofs.Gathering.{Gathering, gathering-starts, gathering-fails, turned, gathering-ends, gathering-on}
+use Rattle.definitions.proofs.parse.Statement.{statement}
+use Rattle.definitions.proofs.parse.Tie as tie
 
 abbrev Inv-loop : tie.InvT-loop
 Inv-loop tokens words₀ i₀ n₀ main₀ twice₀ words i n main twice = Gathering tokens words₀ i n main twice words

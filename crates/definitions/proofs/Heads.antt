@@ -12,10 +12,12 @@ use Rattle.expressions.specs.declared.Read.{Read}
 use Rattle.expressions.specs.declared.Read.the-variants.{At, Wrong}
 use Rattle.expressions.specs.Words.{kindAt, placeAt, expect, seen, writtenCode}
 use Rattle.expressions.proofs.Answers.{wrote-code, erred-code}
-use Rattle.statements.specs.Words.{statements, statement, nameAt, Head, parameters, body, procedure, writtenProcedure}
-use Rattle.statements.specs.Room.{Space, Ground}
-use Rattle.statements.proofs.Paid.{parameters-paid}
+use Rattle.statements.specs.Words.{statements, statement}
+use Rattle.definitions.specs.Words.{nameAt, Head, parameters, body, procedure, writtenProcedure}
+use Rattle.statements.specs.Room.{Space}
+use Rattle.definitions.specs.Room.{Ground}
+use Rattle.definitions.proofs.Paid.{parameters-paid}
 use Rattle.statements.proofs.Written.{wrong-seen}
 
 -- ---- the body
 module _ (ws : List ℕ) (i n : ℕ) (s₀ : List ℕ) (kind : ℕ) (k : kind ≡ kindAt ws i) where

@@ -16,14 +16,14 @@ use Rattle.machine.specs.Opcodes.{procedureWord}
 use Rattle.expressions.specs.declared.Read.{Read}
 use Rattle.expressions.specs.declared.Read.the-variants.{At, Wrong}
 use Rattle.expressions.specs.Words.{kindAt, placeAt, homeAt, procedureAt, is, seen}
-use Rattle.statements.specs.declared.Parsed.{Parsed}
-use Rattle.statements.specs.declared.Parsed.the-variants.{Whole, Twice, Misfit}
-use Rattle.statements.specs.Words.{Head, procedure, proceduresFrom, procedures, Gathered, mainWord, firstTwice, wordAt, gather, gatherAll, nothing, writtenProcedure, tableIn, whole}
-use Rattle.statements.specs.Words.{twiceAt, failedWhole, seenWhole, settled, writtenWhole}
-use Rattle.statements.specs.Room.{Halves}
-use Rattle.statements.specs.Steps.{Below, Entered, answered}
-use Rattle.statements.proofs.Paid.{procedure-paid}
+use Rattle.definitions.specs.declared.Parsed.{Parsed}
+use Rattle.definitions.specs.declared.Parsed.the-variants.{Whole, Twice, Misfit}
+use Rattle.definitions.specs.Words.{Head, procedure, proceduresFrom, procedures, Gathered, mainWord, firstTwice, wordAt, gather, gatherAll, nothing, writtenProcedure, tableIn, whole}
+use Rattle.definitions.specs.Words.{twiceAt, failedWhole, seenWhole, settled, writtenWhole}
+use Rattle.definitions.specs.Room.{Halves}
+use Rattle.definitions.specs.Steps.{Below, Entered, answered}
+use Rattle.definitions.proofs.Paid.{procedure-paid}
 use Rattle.statements.proofs.Written.{same-after}
 
 -- ---- rounds
 -- a procedure, and what `rest` yields behind it

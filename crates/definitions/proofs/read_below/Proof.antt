@@ -1,9 +1,9 @@
 -- `statements::read_below` meets its contract: the upper half is not lent.
 -- Assumes nothing.
-use Rattle.statements.proofs.Gathering.{below-reads}
+use Rattle.definitions.proofs.Gathering.{below-reads}
 use borrow.Author.Needs.{needs}
-use Rattle.statements.proofs.read_below.Statement.{statement}
-use Rattle.statements.proofs.read_below.Tie as tie
+use Rattle.definitions.proofs.read_below.Statement.{statement}
+use Rattle.definitions.proofs.read_below.Tie as tie
 
 sub-read-procedure : tie.Need-sub-read-procedure
 sub-read-procedure c = search needs

@@ -10,9 +10,9 @@ use lib.Dec.{ltb}
 use lib.ListN.{length, getD, set, take, drop, length-take, List·getD-eq-default}
 use lib.Seq.{set-out, take-set-le, take-set-lt, drop-set-add, getD-take, getD-drop}
 use Rattle.meaning.specs.Basics.{if_then_else_}
-use Rattle.statements.specs.declared.Parsed.the-variants.{Whole, Twice, Misfit}
-use Rattle.statements.specs.Words.{mainWord, firstTwice, tableIn}
-use Rattle.statements.specs.Steps.{Entered, answered}
+use Rattle.definitions.specs.declared.Parsed.the-variants.{Whole, Twice, Misfit}
+use Rattle.definitions.specs.Words.{mainWord, firstTwice, tableIn}
+use Rattle.definitions.specs.Steps.{Entered, answered}
 
 -- ---- a word written into the table
 table-length : (s : List ℕ) → length (tableIn s) ≤ 8192

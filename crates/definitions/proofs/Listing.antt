@@ -13,10 +13,10 @@ use Rattle.expressions.specs.declared.Read.the-variants.{At, Wrong}
 use Rattle.expressions.specs.Words.{kindAt, homeAt, is, expect, at, seen, writtenCode}
 use Rattle.expressions.proofs.Tokens.{chosen, token-inside}
 use Rattle.expressions.proofs.Answers.{take-put, shifted}
-use Rattle.statements.specs.Words.{parametersFrom, parameters}
+use Rattle.definitions.specs.Words.{parametersFrom, parameters}
 use Rattle.statements.specs.Room.{Space}
 use Rattle.statements.proofs.Paid.{kind-inside, expect-good}
 use Rattle.statements.proofs.Written.{same-after, wrong-seen}
 
 -- ---- rounds
 -- a slot, and what `rest` yields behind a comma

@@ -1,10 +1,10 @@
 -- `statements::note_main` meets its contract.
 -- Assumes nothing.
 use mathlib.Core.Path.{_∙_, sym}
-use Rattle.statements.proofs.Table.{main-kept, main-now, main-other}
+use Rattle.definitions.proofs.Table.{main-kept, main-now, main-other}
 use borrow.Author.Needs.{needs}
-use Rattle.statements.proofs.note_main.Statement.{statement}
-use Rattle.statements.proofs.note_main.Tie as tie
+use Rattle.definitions.proofs.note_main.Statement.{statement}
+use Rattle.definitions.proofs.note_main.Tie as tie
 
 returns : tie.Need-returns
 returns c = main-kept _ _ _ (c .if1 .taken)

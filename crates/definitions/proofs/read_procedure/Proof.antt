@@ -5,10 +5,10 @@ use Prim.Native.Nat.{_+_}
 use mathlib.Core.Path.{_∙_, sym}
 use native.Mathlib.Omega.{arith}
 use Rattle.expressions.proofs.Tokens.{token-inside}
-use Rattle.statements.proofs.Heads.{head-other, head-nameless, head-shut, head-uncounted, behind-parameters, body-space, head-bodiless, head-reads}
+use Rattle.definitions.proofs.Heads.{head-other, head-nameless, head-shut, head-uncounted, behind-parameters, body-space, head-bodiless, head-reads}
 use borrow.Author.Needs.{needs}
-use Rattle.statements.proofs.read_procedure.Statement.{statement}
-use Rattle.statements.proofs.read_procedure.Tie as tie
+use Rattle.definitions.proofs.read_procedure.Statement.{statement}
+use Rattle.definitions.proofs.read_procedure.Tie as tie
 
 kind-at-requires : tie.Need-kind-at-requires
 kind-at-requires c κs = search needs

@@ -4,10 +4,10 @@ use denote.Ref.{now}
 use mathlib.Core.Path.{_∙_, sym}
 use native.Mathlib.Omega.{arith}
 use Rattle.expressions.proofs.Tokens.{token-inside}
-use Rattle.statements.proofs.Heads.{body-other, body-reads}
+use Rattle.definitions.proofs.Heads.{body-other, body-reads}
 use borrow.Author.Needs.{needs}
-use Rattle.statements.proofs.read_body.Statement.{statement}
-use Rattle.statements.proofs.read_body.Tie as tie
+use Rattle.definitions.proofs.read_body.Statement.{statement}
+use Rattle.definitions.proofs.read_body.Tie as tie
 
 kind-at-requires : tie.Need-kind-at-requires
 kind-at-requires c κs = search needs

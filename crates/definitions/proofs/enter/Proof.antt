@@ -1,9 +1,9 @@
 -- `statements::enter` meets its contract: a slot past the table changes nothing.
 -- Assumes nothing.
-use Rattle.statements.proofs.Table.{enter-out, enter-in}
+use Rattle.definitions.proofs.Table.{enter-out, enter-in}
 use borrow.Author.Needs.{needs}
-use Rattle.statements.proofs.enter.Statement.{statement}
-use Rattle.statements.proofs.enter.Tie as tie
+use Rattle.definitions.proofs.enter.Statement.{statement}
+use Rattle.definitions.proofs.enter.Tie as tie
 
 home-at-requires : tie.Need-home-at-requires
 home-at-requires c κs = search needs
