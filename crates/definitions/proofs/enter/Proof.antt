@@ -1,4 +1,4 @@
--- `statements::enter` meets its contract: a slot past the table changes nothing.
+-- `definitions::enter` meets its contract: a slot past the table changes nothing.
 -- Assumes nothing.
 use Rattle.definitions.proofs.Table.{enter-out, enter-in}
 use borrow.Author.Needs.{needs}

@@ -1,4 +1,4 @@
--- `statements::note_main` meets its contract.
+-- `definitions::note_main` meets its contract.
 -- Assumes nothing.
 use mathlib.Core.Path.{_∙_, sym}
 use Rattle.definitions.proofs.Table.{main-kept, main-now, main-other}

@@ -1,4 +1,4 @@
--- `statements::note_twice` meets its contract.
+-- `definitions::note_twice` meets its contract.
 -- Assumes nothing.
 use mathlib.Core.Path.{_∙_, ap}
 use Prim.Native.Nat.{_+_}

@@ -1,4 +1,4 @@
--- `statements::parse` meets its contract: the invariant has what was gathered, the measure is the tokens left.
+-- `definitions::parse` meets its contract: the invariant has what was gathered, the measure is the tokens left.
 -- Assumes nothing.
 use Prim.Native.Nat.{_-_}
 use mathlib.Core.Path.{_∙_}

@@ -1,4 +1,4 @@
--- `statements::read_below` meets its contract: the upper half is not lent.
+-- `definitions::read_below` meets its contract: the upper half is not lent.
 -- Assumes nothing.
 use Rattle.definitions.proofs.Gathering.{below-reads}
 use borrow.Author.Needs.{needs}

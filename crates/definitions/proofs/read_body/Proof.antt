@@ -1,4 +1,4 @@
--- `statements::read_body` meets its contract.
+-- `definitions::read_body` meets its contract.
 -- Assumes nothing.
 use denote.Ref.{now}
 use mathlib.Core.Path.{_∙_, sym}

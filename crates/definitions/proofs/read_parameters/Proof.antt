@@ -1,4 +1,4 @@
--- `statements::read_parameters` meets its contract: the measure is the tokens left.
+-- `definitions::read_parameters` meets its contract: the measure is the tokens left.
 -- Assumes nothing.
 use Prim.Native.Nat.{_-_}
 use denote.Ref.{now}

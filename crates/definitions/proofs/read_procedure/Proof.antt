@@ -1,4 +1,4 @@
--- `statements::read_procedure` meets its contract: each way is one law.
+-- `definitions::read_procedure` meets its contract: each way is one law.
 -- Assumes nothing.
 use denote.Ref.{now}
 use Prim.Native.Nat.{_+_}

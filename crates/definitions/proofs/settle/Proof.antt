@@ -1,4 +1,4 @@
--- `statements::settle` meets its contract.
+-- `definitions::settle` meets its contract.
 -- Assumes nothing.
 use Rattle.definitions.proofs.Table.{settle-none, settle-whole, settle-twice}
 use borrow.Author.Needs.{needs}
