@@ -23,7 +23,7 @@ use Rattle.machine.specs.Layout.{valuePlace, stepsUsed, stepsGranted}
 use Rattle.machine.specs.Act.{Pays}
 use Rattle.machine.specs.Shapes.{destroyedAt}
 use Rattle.stores.proofs.Acts.{paid, short}
-use Rattle.operators.proofs.Held.{held, back-by, test-is}
+use Rattle.values.proofs.Held.{held, back-by, test-is}
 use Rattle.fastpath.specs.Fast.{plainWord, leafWord, operatorWord, wordOn, sizesAgree, operationWord, fastAt, livingWord, otherWord, argumentAt, applies, Values}
 
 -- ---- constants and variables

@@ -28,7 +28,7 @@ use Rattle.machine.specs.Shapes.{destroyedAt}
 use Rattle.machine.specs.Variables.{isDead, usable}
 use Rattle.stores.proofs.Laws.{not-dead, dead-shape, found}
 use Rattle.machine.specs.Operate.{withInteger, calculated, compared, remaindered, equality, answered, equated, operateOn, operate}
-use Rattle.operators.proofs.Held.{by-number}
+use Rattle.values.proofs.Held.{by-number}
 use Rattle.fastpath.specs.Fast.{plainWord, leafWord, operatorWord, wordOn, sizesAgree, operationWord, fastAt, livingWord, otherWord, argumentAt, applies, Values}
 use Rattle.machine.specs.Evaluate.{Evaluator, Invoke, Setting, setting, argumentOf, secondOf, firstOf, operandsAt, expressionBy}
 use Rattle.machine.specs.Interpret.{expressionAt, invokeAt, bodyAt}

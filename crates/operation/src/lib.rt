@@ -1,8 +1,8 @@
 // An operator on any two values: destroyed shapes and kinds are asked here. A value is handed over as its word.
 use machine::Answer;
 use operators::equality;
-use operators::figures;
 use operators::integers;
+use operators::shapes;
 ghost use mathlib.Core.Path.{_≡_};
 ghost use Rattle.machine.specs.Words.{unpacked};
 ghost use Rattle.machine.specs.Layout.{Room, Lent};
@@ -52,7 +52,7 @@ fn calculate(words: &mut [u64], grants: &[u64; 5], tag: u64, p: u64, a: u64, b: 
     if b % 8 != 1 {
         return Answer::Bad(20, p);
     }
-    let r = figures::on_shape(
+    let r = shapes::on_shape(
         words,
         grants,
         tag,
