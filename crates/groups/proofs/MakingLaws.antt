@@ -22,7 +22,7 @@ use Rattle.machine.specs.Groups.{slotWord, firstAt, countAt, zeroed, unmarked, 
 use Rattle.machine.proofs.Slots.{zeroed-other, slot-room}
 use Rattle.stores.proofs.Acts.{paid, short, after-pass, after-refusal}
 use Rattle.groups.specs.Making.{addOne, grouping, copyGroup, Units, Sources, Adds, making, Makes}
-use Rattle.groups.proofs.TurnLaws.{room-same}
+use Rattle.walks.proofs.TurnLaws.{room-same}
 
 -- ---- a component
 module _ (g ws : List ℕ) (unit place n : ℕ) (ok : Bool) (ws₁ : List ℕ) (h : Pays ws entriesUsed (entriesGranted g) 1 ok ws₁) where

@@ -8,7 +8,7 @@ use Rattle.machine.specs.declared.Value.{Value}
 use Rattle.machine.specs.declared.Value.the-variants.{Shape}
 use Rattle.machine.specs.Layout.{shapesUsed, entriesUsed, componentsMade, entriesGranted, componentPlace, Room}
 use Rattle.machine.specs.Act.{Passes, Act, _>>=_, _>>_, give, load, store, spend}
-use Rattle.groups.specs.Walks.{Ends}
+use Rattle.walks.specs.Walks.{Ends}
 use Rattle.machine.specs.Groups.{slotWord, firstAt, countAt, unmarked, newGroup, groupWaiting}
 
 -- the component whose number stands above so many bits, unit, of the word at a place, with n behind it, on no loop's way

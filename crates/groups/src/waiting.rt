@@ -1,6 +1,5 @@
 // New shapes that wait for their group while a group is made anew: its components first, then the group.
 use crate::making;
-use crate::walks;
 use machine::counters;
 use stores::shapes;
 use stores::words;
@@ -9,7 +8,7 @@ ghost use lib.ListN.{length};
 ghost use Rattle.machine.specs.Layout.{fixedWords, Room};
 ghost use Rattle.machine.specs.Act.{Gives};
 ghost use Rattle.machine.specs.Groups.{await, remakeLeft};
-ghost use Rattle.groups.specs.Walks.{Ends};
+ghost use Rattle.walks.specs.Walks.{Ends};
 ghost use Rattle.groups.specs.Making.{gathering};
 
 // A new shape waits.

@@ -764,7 +764,7 @@ fn inside(
     ensures { λ r. ⌜ shownFlow r (now (texts .exit)) (now (words .exit))
         ≡ insideAt (statementAt fuel (setting (now (program .entry)) (now (code .entry)) (now (grants .entry))) b) (now (grants .entry)) p slot end c (raw (now (texts .entry)) (now (words .entry))) ⌝ }
 {
-    let mut found = groups::looking::look_in(words, grants, c);
+    let mut found = loops::looking::look_in(words, grants, c);
     let mut turns = grants[granted::STEPS] + 1;
     while 0 < turns {
         turns -= 1;
@@ -775,12 +775,12 @@ fn inside(
         match bound(program, code, grants, texts, words, fuel, slot, b, i) {
             Flow::Onward => {}
             Flow::Returned(v) => {
-                groups::marks::unmark_below(words, grants, end);
+                loops::marks::unmark_below(words, grants, end);
                 return Flow::Returned(v);
             }
             Flow::Stopped(n, q) => return Flow::Stopped(n, q),
         }
-        found = groups::looking::look_behind(words, grants, end, found - 1);
+        found = loops::looking::look_behind(words, grants, end, found - 1);
     }
     Flow::Stopped(79, p)
 }

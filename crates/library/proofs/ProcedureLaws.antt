@@ -22,7 +22,7 @@ use Rattle.machine.specs.Stack.{argumentAt}
 use Rattle.machine.specs.Layout.{argumentPlace}
 use Rattle.machine.specs.Shapes.{isGroupAt, figureAt, newShape}
 use Rattle.machine.specs.Groups.{destroyAll}
-use Rattle.groups.specs.Walks.{Ends}
+use Rattle.walks.specs.Walks.{Ends}
 use Rattle.groups.specs.Making.{grouping}
 use Rattle.machine.specs.Variables.{clearScene}
 use Rattle.stores.proofs.Acts.{after-pass, after-refusal}

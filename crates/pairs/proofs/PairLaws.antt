@@ -14,9 +14,9 @@ use Rattle.machine.specs.Act.{Raw, raw, Out, done, stop, Act, goOn, _>>=_, _>>_
 use Rattle.machine.specs.Shapes.{isGroupAt, destroyedAt, figureAt}
 use Rattle.machine.specs.Groups.{componentAt, firstAt, countAt, wayWord, wayPlace, waitingPlace, passedFrom, pairsFrom, alikeAt}
 use Rattle.machine.specs.Operate.{sameFigure, figuresSame}
-use Rattle.groups.specs.Walks.{slotIn, leftIn, owed}
-use Rattle.groups.proofs.WalkLaws.{slot-back, left-back, advance-less, climb-less, descend-less, same-owed, owed-some}
-use Rattle.groups.proofs.TurnLaws.{room-same, way-at, less-one}
+use Rattle.walks.specs.Walks.{slotIn, leftIn, owed}
+use Rattle.walks.proofs.WalkLaws.{slot-back, left-back, advance-less, climb-less, descend-less, same-owed, owed-some}
+use Rattle.walks.proofs.TurnLaws.{room-same, way-at, less-one}
 use Rattle.pairs.specs.declared.PairTurn.{PairTurn}
 use Rattle.pairs.specs.declared.PairTurn.the-variants.{At, Settled}
 use Rattle.pairs.specs.Pairs.{judged, bothLaid, pairAt, pairLevel, pairAbove, pairRest, pairAfter, pairKept, pairFirst, pairBy, metBy, backBoth}

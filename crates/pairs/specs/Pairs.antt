@@ -11,7 +11,7 @@ use Rattle.machine.specs.Layout.{shapesGranted, Room}
 use Rattle.machine.specs.Act.{raw, Out, done, stop, Act, _>>=_, _>>_, give, load, store, held, count}
 use Rattle.machine.specs.Groups.{componentAt, firstAt, countAt, wayWord, wayPlace, waitingPlace, pairsFrom, alikeAt}
 use Rattle.machine.specs.Operate.{figuresSame}
-use Rattle.groups.specs.Walks.{slotIn, leftIn, owed}
+use Rattle.walks.specs.Walks.{slotIn, leftIn, owed}
 use Rattle.pairs.specs.declared.PairTurn.{PairTurn}
 use Rattle.pairs.specs.declared.PairTurn.the-variants.{At, Settled}
 

@@ -1,1 +1,2 @@
+mod RemakeLaws
 mod RemakingLaws

@@ -22,13 +22,13 @@ use Rattle.machine.specs.Act.{Raw, raw, Out, done, stop, goOn, _>>=_, give, loa
 use Rattle.machine.specs.Shapes.{isGroupAt, destroyedAt, figureAt, putFigure, newShape}
 use Rattle.machine.specs.Groups.{componentAt, newGroup, wayPlace, await, groupWaiting, remakeReached, remakeLeft, remakeGroup}
 use Rattle.stores.proofs.Acts.{after-pass, after-refusal, not-stopped}
-use Rattle.groups.specs.declared.Turn.{Turn}
-use Rattle.groups.specs.declared.Turn.the-variants.{At, Stopped}
-use Rattle.groups.specs.Walks.{Ends, walking, slotIn, leftIn, Turned, Under, backAt, Descended}
+use Rattle.walks.specs.declared.Turn.{Turn}
+use Rattle.walks.specs.declared.Turn.the-variants.{At, Stopped}
+use Rattle.walks.specs.Walks.{Ends, walking, slotIn, leftIn, Turned, Under, backAt, Descended}
 use Rattle.groups.specs.Making.{gathering}
-use Rattle.groups.proofs.WalkLaws.{Steady}
-use Rattle.groups.proofs.TurnLaws.{room-same, leave-kept, way-bound, turn-climbs, turn-climb-stops, turn-stops, turn-figure, turn-group}
-use Rattle.groups.proofs.RemakeLaws.{remaking, remaking-steady}
+use Rattle.walks.proofs.WalkLaws.{Steady}
+use Rattle.walks.proofs.TurnLaws.{room-same, leave-kept, way-bound, turn-climbs, turn-climb-stops, turn-stops, turn-figure, turn-group}
+use Rattle.remaking.proofs.RemakeLaws.{remaking, remaking-steady}
 use Rattle.groups.proofs.WaitingLaws.{gathered-known}
 use Rattle.figures.specs.Changes.{changed}
 use Rattle.remaking.specs.Remaking.{changing, renewed, remakeReachedBy}

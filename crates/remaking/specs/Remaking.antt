@@ -8,7 +8,7 @@ use Rattle.machine.specs.Layout.{shapesUsed}
 use Rattle.machine.specs.Act.{Act, _>>_}
 use Rattle.machine.specs.Shapes.{figureAt, newShape}
 use Rattle.machine.specs.Groups.{await, remakeReached}
-use Rattle.groups.specs.Walks.{Doing}
+use Rattle.walks.specs.Walks.{Doing}
 use Rattle.figures.specs.Changes.{changed}
 
 -- a figure changed

@@ -1,19 +1,18 @@
 // Groups made anew by an operator and an integer: the components that are not destroyed first, then a group of the new ones. A step is counted for each
 // component that is reached.
 use figures::changes;
-use groups::Turn;
 use groups::waiting;
-use groups::walks;
 use machine::Answer;
 use machine::Value;
 use machine::counters;
 use stores::components;
 use stores::shapes;
+use walks::Turn;
 ghost use mathlib.Core.Path.{_≡_};
 ghost use Rattle.machine.specs.Layout.{Room};
 ghost use Rattle.machine.specs.Act.{Answers};
 ghost use Rattle.machine.specs.Groups.{remakeLeft, remakeGroup};
-ghost use Rattle.groups.specs.Walks.{Ends, walking, Turned, Under};
+ghost use Rattle.walks.specs.Walks.{Ends, walking, Turned, Under};
 ghost use Rattle.figures.specs.Changes.{refusal};
 ghost use Rattle.remaking.specs.Remaking.{changing, renewed, remakeReachedBy};
 

@@ -18,11 +18,11 @@ use Rattle.machine.specs.Shapes.{isGroupAt, destroyedAt, figureAt}
 use Rattle.machine.specs.Groups.{componentAt, firstAt, countAt, wayPlace, wayWord}
 use Rattle.machine.specs.Show.{shownFrom, figuresIn}
 use Rattle.picture.proofs.Frames.{lines-append}
-use Rattle.groups.specs.declared.Turn.{Turn}
-use Rattle.groups.specs.declared.Turn.the-variants.{At, Stopped}
-use Rattle.groups.specs.Walks.{slotIn, leftIn, countWithin, Walks, Under, Turned, backAt, wayLaid, downIn, Descended}
-use Rattle.groups.proofs.WalkLaws.{Keeps, Steady, slot-back, left-back}
-use Rattle.groups.proofs.TurnLaws.{turn-climbs, turn-over, turn-figure, turn-group, less-one}
+use Rattle.walks.specs.declared.Turn.{Turn}
+use Rattle.walks.specs.declared.Turn.the-variants.{At, Stopped}
+use Rattle.walks.specs.Walks.{slotIn, leftIn, countWithin, Walks, Under, Turned, backAt, wayLaid, downIn, Descended}
+use Rattle.walks.proofs.WalkLaws.{Keeps, Steady, slot-back, left-back}
+use Rattle.walks.proofs.TurnLaws.{turn-climbs, turn-over, turn-figure, turn-group, less-one}
 use Rattle.scene.specs.Scene.{figureFor, figuresFor, shownBy}
 use Rattle.scene.specs.Measuring.{nothingLeft}
 use Rattle.showing.specs.Showing.{Unmoved, linesFor, figureWithin, shownHere, levelShown, aboveShown, leftShown, ShownBy, Moved}

@@ -26,10 +26,10 @@ use Rattle.writing.proofs.Laying.{saturated-small, length-at, then}
 use Rattle.writing.proofs.Decimals.{decimal-short}
 use Rattle.picture.specs.Parts.{head, tail}
 use Rattle.picture.proofs.Frames.{length-head, length-tail, length-picture, picture-parts}
-use Rattle.groups.specs.declared.Turn.{Turn}
-use Rattle.groups.specs.declared.Turn.the-variants.{At, Stopped}
-use Rattle.groups.specs.Walks.{countWithin, owed, owedBy, Walks, WalksBy, Under}
-use Rattle.groups.proofs.TurnLaws.{room-same, walks-first}
+use Rattle.walks.specs.declared.Turn.{Turn}
+use Rattle.walks.specs.declared.Turn.the-variants.{At, Stopped}
+use Rattle.walks.specs.Walks.{countWithin, owed, owedBy, Walks, WalksBy, Under}
+use Rattle.walks.proofs.TurnLaws.{room-same, walks-first}
 use Rattle.scene.specs.Scene.{figureFor, figuresFor, shownBy, shownFirst, sceneIn, wordOf}
 use Rattle.showing.specs.Showing.{Unmoved, linesFor, figureWithin, shownHere, levelShown, aboveShown, leftShown, ShownBy, Moved, Shown, Pictured}
 use Rattle.scene.proofs.Figures.{seen}

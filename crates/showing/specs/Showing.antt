@@ -13,9 +13,9 @@ use Rattle.machine.specs.Shapes.{isGroupAt, destroyedAt}
 use Rattle.machine.specs.Groups.{componentAt, wayPlace}
 use Rattle.machine.specs.Show.{shownFrom, figuresIn}
 use Rattle.writing.specs.Placed.{WroteAt}
-use Rattle.groups.specs.declared.Turn.{Turn}
-use Rattle.groups.specs.declared.Turn.the-variants.{At, Stopped}
-use Rattle.groups.specs.Walks.{slotIn, leftIn, owed, owedBy, WalksBy}
+use Rattle.walks.specs.declared.Turn.{Turn}
+use Rattle.walks.specs.declared.Turn.the-variants.{At, Stopped}
+use Rattle.walks.specs.Walks.{slotIn, leftIn, owed, owedBy, WalksBy}
 use Rattle.scene.specs.Scene.{figuresFor, sceneIn}
 
 -- all but the words of the way is as it was

@@ -1,6 +1,4 @@
 // The lines of a scene, written by a walk that counts nothing.
-use groups::Turn;
-use groups::walks;
 use machine::counters;
 use machine::granted;
 use machine::kinds;
@@ -8,6 +6,7 @@ use scene::lines;
 use stores::components;
 use stores::shapes;
 use stores::variables;
+use walks::Turn;
 ghost use Prim.Native.Nat.{_+_, _≤_};
 ghost use mathlib.Core.Path.{_≡_};
 ghost use mathlib.Core.List.{[]};
@@ -17,7 +16,7 @@ ghost use Rattle.machine.specs.Layout.{declared, linesLength, shapesGranted, fi
 ghost use Rattle.machine.specs.Show.{figuresIn};
 ghost use Rattle.writing.specs.Placed.{saturated, WroteAt};
 ghost use Rattle.machine.specs.Groups.{firstAt};
-ghost use Rattle.groups.specs.Walks.{Under, countWithin};
+ghost use Rattle.walks.specs.Walks.{Under, countWithin};
 ghost use Rattle.scene.specs.Scene.{shownBy, shownFirst, wordOf};
 ghost use Rattle.showing.specs.Showing.{linesFor, figureWithin, shownHere, levelShown, Moved, Shown, Pictured};
 

@@ -105,9 +105,9 @@ use Rattle.effects.proofs.pass_on.Reads as pass-on-reads
 use Rattle.effects.proofs.put_word.Reads as put-word-reads
 use Rattle.fastpath.proofs.argument_value.Reads as argument-value-reads
 use Rattle.fastpath.proofs.fast_value.Reads as fast-value-reads
-use Rattle.groups.proofs.looking.look_behind.Reads as look-behind-reads
-use Rattle.groups.proofs.looking.look_in.Reads as look-in-reads
-use Rattle.groups.proofs.marks.unmark_below.Reads as unmark-below-reads
+use Rattle.loops.proofs.looking.look_behind.Reads as look-behind-reads
+use Rattle.loops.proofs.looking.look_in.Reads as look-in-reads
+use Rattle.loops.proofs.marks.unmark_below.Reads as unmark-below-reads
 use Rattle.primaries.proofs.apply.Reads as apply-reads
 use Rattle.primaries.proofs.called.Reads as called-reads
 use Rattle.primaries.proofs.lacks_table.Reads as lacks-table-reads

@@ -1,5 +1,5 @@
 use Rattle.machine.specs.Layout.{shapesGranted}
-use Rattle.groups.specs.Walks.{owed}
+use Rattle.walks.specs.Walks.{owed}
 use borrow.Author.Needs.{needs}
 use Rattle.pairs.proofs.PairLaws.{PairsGo, pairs-first, pairs-next, pairs-less, pairs-settled}
 use Rattle.pairs.proofs.within.Statement.{statement}

@@ -1,6 +1,6 @@
 use mir.Facts.{toZ-ofZ}
 use borrow.Author.Needs.{needs}
-use Rattle.groups.proofs.TurnLaws.{room-same}
+use Rattle.walks.proofs.TurnLaws.{room-same}
 use Rattle.remaking.proofs.RemakingLaws.{no-step, group-met, figure-met}
 use Rattle.remaking.proofs.reach.Statement.{statement}
 use Rattle.remaking.proofs.reach.Tie as tie

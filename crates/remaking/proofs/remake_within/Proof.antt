@@ -5,8 +5,8 @@ use mir.Val.{toZ}
 use borrow.Author.Needs.{needs}
 use Rattle.machine.specs.Layout.{shapesGranted}
 use Rattle.machine.specs.Groups.{remakeLeft}
-use Rattle.groups.specs.Walks.{owed}
-use Rattle.groups.proofs.TurnLaws.{Going, go-first, under, go-over, go-next, go-less, go-stops}
+use Rattle.walks.specs.Walks.{owed}
+use Rattle.walks.proofs.TurnLaws.{Going, go-first, under, go-over, go-next, go-less, go-stops}
 use Rattle.remaking.specs.Remaking.{remakeReachedBy}
 use Rattle.remaking.proofs.RemakingLaws.{walk-held}
 use Rattle.remaking.proofs.remake_within.Statement.{statement}

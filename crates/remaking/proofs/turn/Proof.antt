@@ -1,5 +1,5 @@
 use borrow.Author.Needs.{needs}
-use Rattle.groups.proofs.TurnLaws.{turn-over, descends}
+use Rattle.walks.proofs.TurnLaws.{turn-over, descends}
 use Rattle.remaking.proofs.RemakingLaws.{leave-stops, back-bound, climbs-back, reach-stopped, figure-remade, group-remade}
 use Rattle.remaking.proofs.turn.Statement.{statement}
 use Rattle.remaking.proofs.turn.Tie as tie

@@ -1,4 +1,4 @@
-use Rattle.groups.proofs.TurnLaws.{way-bound, descends}
+use Rattle.walks.proofs.TurnLaws.{way-bound, descends}
 use Rattle.showing.proofs.ShowLaws.{moves-back, moves-over, moves-on, moves-down}
 use mathlib.Core.Path.{refl}
 use borrow.Author.Needs.{needs}
@@ -6,8 +6,8 @@ use Rattle.showing.proofs.turn.Statement.{statement}
 use Rattle.showing.proofs.turn.Tie as tie
 use Rattle.showing.proofs.turn.Reads as reads
 use Rattle.showing.proofs.turn.Lts as lts
-use Rattle.groups.proofs.walks.back_at.Reads as back-at-reads
-use Rattle.groups.proofs.walks.descend.Reads as descend-reads
+use Rattle.walks.proofs.back_at.Reads as back-at-reads
+use Rattle.walks.proofs.descend.Reads as descend-reads
 use Rattle.stores.proofs.components.component_at.Reads as component-at-reads
 use Rattle.stores.proofs.shapes.is_destroyed.Reads as is-destroyed-reads
 use Rattle.stores.proofs.shapes.is_group.Reads as is-group-reads

@@ -1,13 +1,13 @@
 use native.Mathlib.Omega.{arith}
 use borrow.Author.Needs.{needs}
 use Rattle.machine.specs.Layout.{shapesGranted}
-use Rattle.groups.specs.Walks.{owed}
+use Rattle.walks.specs.Walks.{owed}
 use Rattle.showing.proofs.WriteLaws.{Showing, show-first, show-under, show-over, show-next, show-less, show-never}
 use Rattle.showing.proofs.write_within.Statement.{statement}
 use Rattle.showing.proofs.write_within.Tie as tie
 use Rattle.showing.proofs.write_within.Reads as reads
 use Rattle.showing.proofs.write_within.Lts as lts
-use Rattle.groups.proofs.walks.count_within.Reads as count-within-reads
+use Rattle.walks.proofs.count_within.Reads as count-within-reads
 use Rattle.showing.proofs.turn.Reads as turn-reads
 use Rattle.showing.proofs.write_reached.Reads as write-reached-reads
 use Rattle.stores.proofs.components.first_at.Reads as first-at-reads
