@@ -91,7 +91,9 @@ impl Lengths {
         Lengths {
             tokens: TOKEN_WORDS,
             code: CODE_WORDS,
-            words: RUN_WORDS + 5 * count(grants.shapes) + (5 + grants.calls.min(65) as usize) * count(grants.entries),
+            words: RUN_WORDS
+                + 5 * count(grants.shapes)
+                + (5 + grants.calls.min(65) as usize) * count(grants.entries),
             texts: count(grants.text_bytes),
         }
     }
@@ -142,7 +144,7 @@ impl Lengths {
 }
 
 /// How long a stretch of garbage is; longer slices repeat it.
-const STRETCH: usize = 65_521;
+const STRETCH: usize = 4_093;
 
 /// What slices hold before calls: one kind of garbage as words and as bytes.
 struct Garbage {
@@ -191,6 +193,11 @@ fn is_kept<T: PartialEq>(slice: &[T], mut from: usize, stretch: &[T]) -> bool {
         from += part;
     }
     true
+}
+
+/// Whether a slice holds zeros alone. It is read once, where a comparison with zeros would read these too.
+fn is_zero<T: Copy + Into<u64>>(slice: &[T]) -> bool {
+    slice.iter().fold(0, |all, element| all | (*element).into()) == 0
 }
 
 /// Bytes kept behind the lent part of the out slice; no call may reach them.
@@ -401,8 +408,13 @@ impl Lender {
     }
 
     fn is_zero(&self) -> bool {
-        let zeros = &self.garbage[0];
-        self.holds(zeros)
+        let Work {
+            tokens,
+            code,
+            words,
+            texts,
+        } = &self.work;
+        is_zero(tokens) && is_zero(code) && is_zero(words) && is_zero(texts)
     }
 
     fn is_kept(&self, seed: u64) -> bool {
