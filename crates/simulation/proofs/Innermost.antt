@@ -76,7 +76,7 @@ module _ {program : List ℕ} {ts : List Token} {g : List ℕ} {r : Raw} {s : St
     calls = rw (counter callsUsed (omega arith)) (c .calls);
   }
 
-  pub same-mark : (d k : ℕ) → markIn g (switched .words) d k ≡ markIn g (r .words) d k
+  same-mark : (d k : ℕ) → markIn g (switched .words) d k ≡ markIn g (r .words) d k
   same-mark d k = mark-same g (r .words) d k (switched .words) (counter componentsMade (omega arith)) (beyond _ (omega arith))
 
   switch-marks : Marks g (switched .words)
