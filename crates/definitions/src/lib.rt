@@ -1,6 +1,9 @@
 // Procedures and the whole program: the code of each, and the table of them all. `i` is a token, and `n` the first free word.
 use expressions::Read;
+use expressions::kinds;
 use expressions::token;
+use machine::layout;
+use machine::procedures;
 ghost use mathlib.Core.Path.{_≡_};
 ghost use Prim.Native.Nat.{_+_, _-_, _<_, _≤_};
 ghost use lib.ListN.{length, replicate};
@@ -11,19 +14,21 @@ ghost use Rattle.definitions.specs.Words.{parameters, body, procedure, p
 ghost use Rattle.definitions.specs.Room.{Ground, Halves};
 ghost use Rattle.definitions.specs.Steps.{Below, Entered, answered};
 
+const LAST_SLOT: usize = layout::SLOTS - 1;
+
 // ---- a procedure
 // def f(x, y) { .. } from token i on: the slots of its parameters and the code of its body. The number beside is how many parameters it has.
 fn read_procedure(tokens: &[u64], words: &mut [u64], i: usize, n: usize) -> Read
     requires { ⌜ Ground (now tokens) (now words) i n ⌝ }
     ensures { λ r. ⌜ seen r (now (words .exit)) ≡ writtenProcedure (procedure (now (tokens .entry)) i) n (now (words .entry)) ⌝ }
 {
-    if token::kind_at(tokens, i) != 4 {
+    if token::kind_at(tokens, i) != kinds::DEF {
         return Read::Wrong(10, i);
     }
-    if token::kind_at(tokens, i + 1) != 1 {
+    if token::kind_at(tokens, i + 1) != kinds::NAME {
         return Read::Wrong(10, i + 1);
     }
-    if token::kind_at(tokens, i + 2) != 40 {
+    if token::kind_at(tokens, i + 2) != kinds::OPEN {
         return Read::Wrong(10, i + 2);
     }
     let p = read_parameters(tokens, words, i + 3, n);
@@ -44,21 +49,21 @@ fn read_parameters(tokens: &[u64], words: &mut [u64], i: usize, n: usize) -> Rea
     requires { ⌜ Space (now tokens) (now words) i n ⌝ }
     ensures { λ r. ⌜ seen r (now (words .exit)) ≡ writtenCode (parameters (now (tokens .entry)) i) n (now (words .entry)) ⌝ }
 {
-    if token::kind_at(tokens, i) == 41 {
+    if token::kind_at(tokens, i) == kinds::CLOSE {
         return Read::At(i + 1, n, 0);
     }
     let mut at = i;
     let mut m = n;
     loop {
-        if token::kind_at(tokens, at) != 1 {
+        if token::kind_at(tokens, at) != kinds::NAME {
             return Read::Wrong(10, at);
         }
         code::put(words, m, token::home_at(tokens, at));
         let kind = token::kind_at(tokens, at + 1);
-        if kind == 41 {
+        if kind == kinds::CLOSE {
             return Read::At(at + 2, m + 1, 0);
         }
-        if kind != 44 {
+        if kind != kinds::COMMA {
             return Read::Wrong(10, at + 1);
         }
         at += 2;
@@ -71,7 +76,7 @@ fn read_body(tokens: &[u64], words: &mut [u64], i: usize, n: usize) -> Read
     requires { ⌜ Space (now tokens) (now words) i n ⌝ }
     ensures { λ r. ⌜ seen r (now (words .exit)) ≡ writtenCode (body (now (tokens .entry)) i) n (now (words .entry)) ⌝ }
 {
-    if token::kind_at(tokens, i) != 123 {
+    if token::kind_at(tokens, i) != kinds::OPEN_BRACE {
         return Read::Wrong(10, i);
     }
     statements::read_statements(tokens, words, i + 1, n, 64)
@@ -121,7 +126,7 @@ fn read_below(tokens: &[u64], words: &mut [u64], i: usize, n: usize) -> Read
     requires { ⌜ n ≤ i ⌝ }
     ensures { λ r. ⌜ Below r (now (tokens .entry)) i n (now (words .entry)) (now (words .exit)) ⌝ }
 {
-    read_procedure(tokens, &mut words[0..8192], i, n)
+    read_procedure(tokens, &mut words[0..layout::FIRST_PROCEDURE], i, n)
 }
 
 // The word in the table of a procedure that has the words from n up to m, of which the first are the slots of its parameters.
@@ -138,11 +143,11 @@ fn enter(tokens: &[u64], words: &mut [u64], i: usize, w: u64) -> u64
     ensures { λ r. ⌜ Entered (homeAt (now (tokens .entry)) i) w r (now (words .entry)) (now (words .exit)) ⌝ }
 {
     let slot = token::home_at(tokens, i) as usize;
-    if 8191 < slot {
+    if LAST_SLOT < slot {
         return 0;
     }
-    let old = words[8192 + slot];
-    words[8192 + slot] = w;
+    let old = words[layout::FIRST_PROCEDURE + slot];
+    words[layout::FIRST_PROCEDURE + slot] = w;
     old
 }
 
@@ -158,7 +163,7 @@ fn note_twice(tokens: &[u64], i: usize, twice: usize, old: u64) -> usize
     if old != 0 {
         return place + 1;
     }
-    if token::procedure_at(tokens, i + 1) < 11 {
+    if token::procedure_at(tokens, i + 1) < procedures::OTHER {
         return place + 1;
     }
     0
@@ -172,7 +177,7 @@ fn note_main(tokens: &[u64], i: usize, main: u64, w: u64) -> u64
     if main != 0 {
         return main;
     }
-    if token::procedure_at(tokens, i + 1) == 12 {
+    if token::procedure_at(tokens, i + 1) == procedures::MAIN {
         return w;
     }
     main

@@ -1,5 +1,7 @@
 // Figures moved and scaled.
 use machine::Figure;
+use machine::shapes;
+use machine::tags;
 ghost use mathlib.Core.Path.{_≡_};
 ghost use mathlib.Core.Bool.{false};
 ghost use Rattle.meaning.specs.Integer.{isZero};
@@ -10,7 +12,7 @@ ghost use Rattle.figures.specs.Changes.{placed, renumbered, refusal, cha
 fn placed(f: Figure, x: i32, y: i32, z: i32, w: i32) -> Figure
     ensures { λ r. ⌜ r ≡ placed f x y z w ⌝ }
 {
-    if f.kind == 0 {
+    if f.kind == shapes::LINE {
         return Figure {
             kind: f.kind,
             a: x,
@@ -102,17 +104,17 @@ pub fn refusal(tag: u64, n: i32) -> u64
     ensures { λ r. ⌜ r ≡ refusal tag n ⌝ }
 {
     match tag {
-        17 => 0,
-        18 => 0,
-        19 => 0,
-        20 => {
+        tags::ADD => 0,
+        tags::SUBTRACT => 0,
+        tags::MULTIPLY => 0,
+        tags::DIVIDE => {
             if arithmetic::is_zero(n) {
                 return 70;
             }
             0
         }
-        22 => 0,
-        23 => 0,
+        tags::SHIFT_RIGHT => 0,
+        tags::SHIFT_LEFT => 0,
         _ => 20,
     }
 }
@@ -123,11 +125,11 @@ pub fn changed(tag: u64, f: Figure, n: i32) -> Figure
     ensures { λ r. ⌜ r ≡ changed tag f n ⌝ }
 {
     match tag {
-        17 => plus_y(f, n),
-        18 => minus_y(f, n),
-        19 => scaled_up(f, n),
-        20 => scaled_down(f, n),
-        22 => plus_x(f, n),
+        tags::ADD => plus_y(f, n),
+        tags::SUBTRACT => minus_y(f, n),
+        tags::MULTIPLY => scaled_up(f, n),
+        tags::DIVIDE => scaled_down(f, n),
+        tags::SHIFT_RIGHT => plus_x(f, n),
         _ => minus_x(f, n),
     }
 }

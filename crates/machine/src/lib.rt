@@ -143,6 +143,35 @@ pub mod shapes {
     pub const GROUP: u64 = 4;
 }
 
+// Which procedure a name stands for: one of the library's, main, or any other.
+pub mod procedures {
+    pub const DRAW_LINE: u64 = 0;
+
+    pub const DRAW_ELLIPSE: u64 = 1;
+
+    pub const DRAW_BOX: u64 = 2;
+
+    pub const DRAW_TEXT: u64 = 3;
+
+    pub const CONNECT_SHAPES: u64 = 4;
+
+    pub const DRAW_TEXT_ON_SHAPE: u64 = 5;
+
+    pub const X_COORDINATE: u64 = 6;
+
+    pub const Y_COORDINATE: u64 = 7;
+
+    pub const DESTROY_SHAPE: u64 = 8;
+
+    pub const CLEAR_SCENE: u64 = 9;
+
+    pub const DRAW_GROUP: u64 = 10;
+
+    pub const OTHER: u64 = 11;
+
+    pub const MAIN: u64 = 12;
+}
+
 // A variable that waits on the stack: its slot counts so much. A call that waits: how many variables it has counts so much.
 pub mod frames {
     pub const VARIABLE: u64 = 281474976710656;

@@ -1,6 +1,7 @@
 // Equality of values.
 use machine::Answer;
 use machine::Value;
+use machine::kinds;
 ghost use mathlib.Core.Path.{_≡_};
 ghost use mathlib.Core.Bool.{cond};
 ghost use Rattle.machine.specs.Words.{unpacked};
@@ -13,12 +14,12 @@ fn kind(w: u64) -> u64
     ensures { λ r. ⌜ r ≡ kindNumber (unpacked w) ⌝ }
 {
     match w % 8 {
-        1 => 1,
-        2 => 2,
-        3 => 3,
-        5 => 5,
-        6 => 6,
-        _ => 4,
+        kinds::INTEGER => kinds::INTEGER,
+        kinds::TEXT => kinds::TEXT,
+        kinds::TRUTH => kinds::TRUTH,
+        kinds::TABLE => kinds::TABLE,
+        kinds::SHAPE => kinds::SHAPE,
+        _ => kinds::NOTHING,
     }
 }
 
@@ -33,10 +34,10 @@ fn number(b: bool) -> u64
 fn unlike(k: u64, l: u64) -> u64
     ensures { λ r. ⌜ r ≡ unlike k l ⌝ }
 {
-    if k == 4 {
+    if k == kinds::NOTHING {
         return 0;
     }
-    if l == 4 {
+    if l == kinds::NOTHING {
         return 0;
     }
     20
@@ -60,11 +61,16 @@ fn equality<'a>(
         return unlike(k, l);
     }
     match k {
-        1 => number(arithmetic::same(values::integer_of(a), values::integer_of(b))),
-        2 => number(texts::same_text(program, texts, values::handle_of(a), values::handle_of(b))),
-        3 => number(a / 8 % 2 == b / 8 % 2),
-        4 => 1,
-        6 => {
+        kinds::INTEGER => number(arithmetic::same(values::integer_of(a), values::integer_of(b))),
+        kinds::TEXT => number(texts::same_text(
+            program,
+            texts,
+            values::handle_of(a),
+            values::handle_of(b),
+        )),
+        kinds::TRUTH => number(a / 8 % 2 == b / 8 % 2),
+        kinds::NOTHING => 1,
+        kinds::SHAPE => {
             let i = values::number_of(a);
             let j = values::number_of(b);
             let r = pairs::alike(program, texts, words, grants, i, j);

@@ -3,6 +3,7 @@ pub mod equality;
 pub mod integers;
 pub mod shapes;
 
+use machine::kinds;
 ghost use mathlib.Core.Path.{_≡_};
 ghost use Rattle.operators.specs.Parts.{bothIntegers};
 
@@ -10,8 +11,8 @@ ghost use Rattle.operators.specs.Parts.{bothIntegers};
 pub fn both_integers(a: u64, b: u64) -> bool
     ensures { λ r. ⌜ r ≡ bothIntegers a b ⌝ }
 {
-    if a % 8 != 1 {
+    if a % 8 != kinds::INTEGER {
         return false;
     }
-    b % 8 == 1
+    b % 8 == kinds::INTEGER
 }

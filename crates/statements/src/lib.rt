@@ -1,7 +1,9 @@
 // Statements and bodies, which call each other: the levels left or the tokens left fall. A statement's word is written when its parts are.
 // `left` is how many levels may still be opened, `i` a token, and `n` the first free word.
 use expressions::Read;
+use expressions::kinds;
 use expressions::token;
+use machine::tags;
 ghost use mathlib.Core.Path.{_≡_};
 ghost use Prim.Native.Nat.{_+_, _<_};
 ghost use lib.ListN.{length};
@@ -20,12 +22,12 @@ pub fn read_statement(tokens: &[u64], words: &mut [u64], i: usize, n: usize, lef
 {
     let kind = token::kind_at(tokens, i);
     match kind {
-        5 => read_declaration(tokens, words, i, n),
-        6 => read_guarded(tokens, words, 35, i, n, left),
-        7 => read_guarded(tokens, words, 36, i, n, left),
-        8 => read_return(tokens, words, i, n, left),
-        12 => read_foreach(tokens, words, i, n, left),
-        123 => read_block(tokens, words, i, n, left),
+        kinds::VAR => read_declaration(tokens, words, i, n),
+        kinds::IF => read_guarded(tokens, words, tags::WHEN, i, n, left),
+        kinds::WHILE => read_guarded(tokens, words, tags::WHILE, i, n, left),
+        kinds::RETURN => read_return(tokens, words, i, n, left),
+        kinds::FOREACH => read_foreach(tokens, words, i, n, left),
+        kinds::OPEN_BRACE => read_block(tokens, words, i, n, left),
         _ => read_simple(tokens, words, i, n, left),
     }
 }
@@ -71,7 +73,7 @@ fn read_ended(tokens: &[u64], words: &mut [u64], i: usize, n: usize, left: usize
     ensures { λ r. ⌜ seen r (now (words .exit)) ≡ writtenCode (ended (expression left (now (tokens .entry))) (now (tokens .entry)) i) n (now (words .entry)) ⌝ }
 {
     let e = expressions::read_expression(tokens, words, i, n, left);
-    close(tokens, e, 59)
+    close(tokens, e, kinds::SEMICOLON)
 }
 
 // (e), which opens a level.
@@ -79,14 +81,14 @@ fn read_test(tokens: &[u64], words: &mut [u64], i: usize, n: usize, left: usize)
     requires { ⌜ Room (now tokens) (now words) i n ⌝ }
     ensures { λ r. ⌜ seen r (now (words .exit)) ≡ writtenCode (test (Expressions.insideOf left (now (tokens .entry))) (now (tokens .entry)) i) n (now (words .entry)) ⌝ }
 {
-    if token::kind_at(tokens, i) != 40 {
+    if token::kind_at(tokens, i) != kinds::OPEN {
         return Read::Wrong(10, i);
     }
     if left == 0 {
         return Read::Wrong(75, i);
     }
     let e = expressions::read_expression(tokens, words, i + 1, n, left - 1);
-    close(tokens, e, 41)
+    close(tokens, e, kinds::CLOSE)
 }
 
 // x in e do: the slot of x, and the code of e behind it.
@@ -94,15 +96,15 @@ fn read_members(tokens: &[u64], words: &mut [u64], i: usize, n: usize, left: usi
     requires { ⌜ Room (now tokens) (now words) i n ⌝ }
     ensures { λ r. ⌜ seen r (now (words .exit)) ≡ writtenCode (members (expression left (now (tokens .entry))) (now (tokens .entry)) i) n (now (words .entry)) ⌝ }
 {
-    if token::kind_at(tokens, i) != 1 {
+    if token::kind_at(tokens, i) != kinds::NAME {
         return Read::Wrong(10, i);
     }
-    if token::kind_at(tokens, i + 1) != 13 {
+    if token::kind_at(tokens, i + 1) != kinds::IN {
         return Read::Wrong(10, i + 1);
     }
     code::put(words, n, token::home_at(tokens, i));
     let e = expressions::read_expression(tokens, words, i + 2, n + 1, left);
-    close(tokens, e, 14)
+    close(tokens, e, kinds::DO)
 }
 
 // The same, and the first token of a body, which opens a level if a statement can begin there.
@@ -131,21 +133,21 @@ fn begins_statement(tokens: &[u64], i: usize) -> bool
 {
     let kind = token::kind_at(tokens, i);
     match kind {
-        1 => true,
-        2 => token::payload_at(tokens, i) <= 2147483647,
-        3 => true,
-        5 => true,
-        6 => true,
-        7 => true,
-        8 => true,
-        9 => true,
-        10 => true,
-        11 => true,
-        12 => true,
-        40 => true,
-        45 => is_signed(tokens, i),
-        91 => true,
-        123 => true,
+        kinds::NAME => true,
+        kinds::DIGITS => token::payload_at(tokens, i) <= 2147483647,
+        kinds::STRING => true,
+        kinds::VAR => true,
+        kinds::IF => true,
+        kinds::WHILE => true,
+        kinds::RETURN => true,
+        kinds::NONE => true,
+        kinds::TRUE => true,
+        kinds::FALSE => true,
+        kinds::FOREACH => true,
+        kinds::OPEN => true,
+        kinds::MINUS => is_signed(tokens, i),
+        kinds::OPEN_BRACKET => true,
+        kinds::OPEN_BRACE => true,
         _ => false,
     }
 }
@@ -155,7 +157,7 @@ fn is_signed(tokens: &[u64], i: usize) -> bool
     requires { ⌜ kindAt (now tokens) i ≡ 45 ⌝ }
     ensures { λ r. ⌜ r ≡ signedAt (now (tokens .entry)) i ⌝ }
 {
-    if token::kind_at(tokens, i + 1) != 2 {
+    if token::kind_at(tokens, i + 1) != kinds::DIGITS {
         return false;
     }
     token::place_at(tokens, i + 1) == token::place_at(tokens, i) + 1
@@ -167,11 +169,19 @@ fn read_declaration(tokens: &[u64], words: &mut [u64], i: usize, n: usize) -> Re
     requires { ⌜ i < length (now tokens) ⌝ }
     ensures { λ r. ⌜ seen r (now (words .exit)) ≡ writtenCode (declaration (now (tokens .entry)) i) n (now (words .entry)) ⌝ }
 {
-    if token::kind_at(tokens, i + 1) != 1 {
+    if token::kind_at(tokens, i + 1) != kinds::NAME {
         return Read::Wrong(10, i + 1);
     }
-    let e = close(tokens, Read::At(i + 2, n + 1, 0), 59);
-    head(tokens, words, e, 32, i, n, token::home_at(tokens, i + 1))
+    let e = close(tokens, Read::At(i + 2, n + 1, 0), kinds::SEMICOLON);
+    head(
+        tokens,
+        words,
+        e,
+        tags::DECLARE,
+        i,
+        n,
+        token::home_at(tokens, i + 1),
+    )
 }
 
 // return e;
@@ -181,7 +191,7 @@ fn read_return(tokens: &[u64], words: &mut [u64], i: usize, n: usize, left: usiz
     ensures { λ r. ⌜ seen r (now (words .exit)) ≡ writtenCode (returning (expression left (now (tokens .entry))) (now (tokens .entry)) i) n (now (words .entry)) ⌝ }
 {
     let e = read_ended(tokens, words, i + 1, n + 1, left);
-    head(tokens, words, e, 37, i, n, 0)
+    head(tokens, words, e, tags::RETURN, i, n, 0)
 }
 
 // e; or a = e; where the right side's code takes the place of a name's, or of an entry's last word.
@@ -193,18 +203,26 @@ fn read_simple(tokens: &[u64], words: &mut [u64], i: usize, n: usize, left: usiz
     match a {
         Read::Wrong(k, p) => Read::Wrong(k, p),
         Read::At(j, m, t) => {
-            if token::kind_at(tokens, j) != 61 {
-                let s = close(tokens, Read::At(j, m, t), 59);
-                return head(tokens, words, s, 39, i, n, 0);
+            if token::kind_at(tokens, j) != kinds::ASSIGN {
+                let s = close(tokens, Read::At(j, m, t), kinds::SEMICOLON);
+                return head(tokens, words, s, tags::ACT, i, n, 0);
             }
             match t {
                 1 => {
                     let e = read_ended(tokens, words, j + 1, n + 1, left);
-                    head(tokens, words, e, 33, i, n, token::home_at(tokens, i))
+                    head(
+                        tokens,
+                        words,
+                        e,
+                        tags::ASSIGN,
+                        i,
+                        n,
+                        token::home_at(tokens, i),
+                    )
                 }
                 2 => {
                     let e = read_ended(tokens, words, j + 1, m - 1, left);
-                    head(tokens, words, e, 34, i, n, 0)
+                    head(tokens, words, e, tags::UPDATE, i, n, 0)
                 }
                 _ => Read::Wrong(10, j),
             }
@@ -247,7 +265,7 @@ fn read_foreach(tokens: &[u64], words: &mut [u64], i: usize, n: usize, left: usi
         Read::Wrong(k, p) => Read::Wrong(k, p),
         Read::At(j, m, _) => {
             let b = read_statement(tokens, words, j, m, left - 1);
-            head(tokens, words, b, 40, i, n, (m - n - 1) as u64)
+            head(tokens, words, b, tags::FOREACH, i, n, (m - n - 1) as u64)
         }
     }
 }
@@ -262,7 +280,7 @@ fn read_block(tokens: &[u64], words: &mut [u64], i: usize, n: usize, left: usize
         return Read::Wrong(75, i);
     }
     let s = read_statements(tokens, words, i + 1, n + 1, left - 1);
-    head(tokens, words, s, 38, i, n, 0)
+    head(tokens, words, s, tags::BLOCK, i, n, 0)
 }
 
 // One statement or more, and the closing brace.
@@ -277,7 +295,7 @@ pub fn read_statements(tokens: &[u64], words: &mut [u64], i: usize, n: usize, le
         match s {
             Read::Wrong(k, p) => return Read::Wrong(k, p),
             Read::At(j, q, _) => {
-                if token::kind_at(tokens, j) == 125 {
+                if token::kind_at(tokens, j) == kinds::CLOSE_BRACE {
                     return Read::At(j + 1, q, 0);
                 }
                 at = j;
