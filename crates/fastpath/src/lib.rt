@@ -33,7 +33,7 @@ fn leaf_word(words: &[u64], w: u64) -> u64
 {
     let head = w % 4294967296;
     if head == heads::NUMBER {
-        return 1 + 8 * (w / 4294967296);
+        return kinds::INTEGER + 8 * (w / 4294967296);
     }
     if head == heads::NAME {
         return plain_word(stores::variables::word_of(words, (w / 4294967296) as usize));

@@ -18,9 +18,6 @@ ghost use Rattle.interpreter.specs.Asked.{Lent, Calls, Runs, Leaves, Bod
 ghost use Rattle.interpreter.specs.Ended.{given, Ended};
 ghost use Rattle.interpreter.specs.Members.{memberAt, insideAt};
 
-// What a call's word says of a name that is neither the library's nor main.
-const OTHER: u64 = 11;
-
 // ---- expressions
 // An expression by its root x, in the statement at p. An answer that is handed on is made anew, here and in `simple`: a copy would be read in other
 // pieces than it was written in, and the processor would wait.
@@ -154,7 +151,7 @@ fn call(
         y = code::argument_root(stores::words::word_at(code, y + 1), y + 1, x);
     }
     let number = code::library_of(w);
-    let r = if number == OTHER {
+    let r = if number == machine::procedures::OTHER {
         invoke(
             program,
             code,
