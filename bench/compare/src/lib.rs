@@ -63,6 +63,15 @@ pub const GROUP: Drawing = Drawing {
     grants: SHEET,
 };
 
+/// A flat's day with its 96 bars in one group, the highest of which is looked for.
+pub const DAY: Drawing = Drawing {
+    name: "day",
+    program: include_bytes!("../../../examples/drawings/day-group.img"),
+    width: 1080,
+    height: 400,
+    grants: SHEET,
+};
+
 /// A loop of so many turns, each with a call of a procedure with two parameters that hands back their sum, or with the sum itself.
 pub fn calls(called: bool, times: i32) -> Drawing {
     Drawing {
@@ -118,6 +127,7 @@ pub fn drawing(name: &str) -> Option<Drawing> {
         "shapes" => Some(SHAPES),
         "tree" => Some(TREE),
         "group" => Some(GROUP),
+        "day" => Some(DAY),
         "call" => Some(calls(true, 100_000)),
         "inline" => Some(calls(false, 100_000)),
         "few" => Some(look_ups(16, 100_000)),

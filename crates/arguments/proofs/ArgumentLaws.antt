@@ -17,7 +17,7 @@ use Rattle.machine.specs.Layout.{stackWords}
 use Rattle.machine.specs.Stack.{argumentAt}
 use Rattle.machine.specs.Shapes.{isGroupAt, figureAt}
 use Rattle.machine.specs.Variables.{isDead, usable}
-use Rattle.operators.proofs.Held.{held, back}
+use Rattle.values.proofs.Held.{held, back}
 use Rattle.operators.proofs.KindLaws.{shape-or}
 use Rattle.machine.specs.Arguments.{allUsable}
 use Rattle.machine.specs.Library.{allShapes}

@@ -8,7 +8,7 @@ use lib.Signed.{mag}
 use Rattle.meaning.specs.Basics.{if_then_else_}
 use Rattle.meaning.specs.Integer.{sum, half}
 use Rattle.machine.specs.declared.Figure.{Figure}
-use Rattle.operators.proofs.Held.{held, back, back-to}
+use Rattle.values.proofs.Held.{held, back, back-to}
 use Rattle.machine.specs.Arguments.{centreX, centreY, connecting, textOn}
 use Rattle.arguments.specs.Given.{integerAt, handleAt, givenFigure, drawnFigure, textFigure, connectingFigure, labelFigure}
 

@@ -1,5 +1,6 @@
 // Centres of figures, and the figures that procedures make.
 use machine::Figure;
+use machine::shapes;
 ghost use Prim.Native.Nat.{_≤_};
 ghost use mathlib.Core.Path.{_≡_};
 ghost use lib.ListN.{length};
@@ -10,10 +11,10 @@ ghost use Rattle.arguments.specs.Given.{drawnFigure, textFigure, connect
 pub fn centre_x(f: Figure) -> i32
     ensures { λ r. ⌜ r ≡ centreX f ⌝ }
 {
-    if f.kind == 0 {
+    if f.kind == shapes::LINE {
         return arithmetic::middle(f.a, f.c);
     }
-    if f.kind == 2 {
+    if f.kind == shapes::BOX {
         return arithmetic::corner_middle(f.a, f.c);
     }
     f.a
@@ -22,10 +23,10 @@ pub fn centre_x(f: Figure) -> i32
 pub fn centre_y(f: Figure) -> i32
     ensures { λ r. ⌜ r ≡ centreY f ⌝ }
 {
-    if f.kind == 0 {
+    if f.kind == shapes::LINE {
         return arithmetic::middle(f.b, f.d);
     }
-    if f.kind == 2 {
+    if f.kind == shapes::BOX {
         return arithmetic::corner_middle(f.b, f.d);
     }
     f.b
@@ -57,7 +58,7 @@ pub fn text_figure(words: &[u64], base: u64) -> Figure
     let top = crate::integer_at(words, base, 1);
     let h = crate::handle_at(words, base, 2);
     Figure {
-        kind: 3,
+        kind: shapes::TEXT,
         a: left,
         b: top,
         c: 0,
@@ -71,7 +72,7 @@ pub fn connecting(f: Figure, g: Figure) -> Figure
     ensures { λ r. ⌜ r ≡ connecting f g ⌝ }
 {
     Figure {
-        kind: 0,
+        kind: shapes::LINE,
         a: centre_x(f),
         b: centre_y(f),
         c: centre_x(g),
@@ -95,7 +96,7 @@ pub fn text_on(f: Figure, h: u64) -> Figure
     ensures { λ r. ⌜ r ≡ textOn f h ⌝ }
 {
     Figure {
-        kind: 3,
+        kind: shapes::TEXT,
         a: centre_x(f),
         b: centre_y(f),
         c: 0,

@@ -46,20 +46,20 @@ pub fn four_integers(words: &[u64], base: u64) -> bool
     requires { ⌜ fixedWords ≤ length (now words) ⌝ }
     ensures { λ r. ⌜ r ≡ fourIntegers (now (words .entry)) base ⌝ }
 {
-    if !are_kinds(words, base, 0, 1, 1, 1) {
+    if !are_kinds(words, base, 0, kinds::INTEGER, 1, kinds::INTEGER) {
         return false;
     }
-    are_kinds(words, base, 2, 1, 3, 1)
+    are_kinds(words, base, 2, kinds::INTEGER, 3, kinds::INTEGER)
 }
 
 pub fn point_and_text(words: &[u64], base: u64) -> bool
     requires { ⌜ fixedWords ≤ length (now words) ⌝ }
     ensures { λ r. ⌜ r ≡ pointAndText (now (words .entry)) base ⌝ }
 {
-    if !are_kinds(words, base, 0, 1, 1, 1) {
+    if !are_kinds(words, base, 0, kinds::INTEGER, 1, kinds::INTEGER) {
         return false;
     }
-    is_kind(words, base, 2, 2)
+    is_kind(words, base, 2, kinds::TEXT)
 }
 
 pub fn integer_at(words: &[u64], base: u64, i: u64) -> i32

@@ -773,8 +773,8 @@ returned-there n onward q = done
 returned-there n (returned v) q = q
 
 module _ {body : Statements → Action Flow} (h : (b : ℕ) (ss : Statements) → Keeps b FlowFits (body ss)) where
-  called-keeps : (b : ℕ) (f : Procedure) (p : ℕ) (vs : List Value) → AllThere b vs → Keeps b Fits (Procedures.performing body f p vs)
-  unfolding Procedures.performing
+  called-keeps : (b : ℕ) (f : Procedure) (p : ℕ) (vs : List Value) → AllThere b vs → Keeps b Fits (Procedures.invoking body f p vs)
+  unfolding Procedures.invoking
   called-keeps b f p vs q =
       bind-keeps (refuse-keeps _ 20 p) λ c₁ l₁ _ _. bind-keeps (refuse-keeps _ 60 p) λ c₂ l₂ _ _. bind-keeps (spend-keeps calls 1 p) λ c₃ l₃ _ _.
       current-keeps λ s o l₄. bind-keeps (become-keeps _ (entered-older s (f .parameters) o) (le-refl (made s))) λ c₅ l₅ _ _.

@@ -632,8 +632,8 @@ module _ {n : ℕ} where
   assigning-all-lawful p (x ∷ xs) (v ∷ vs) = bind-lawful (assigning-lawful p x v) λ _. assigning-all-lawful p xs vs
 
   module _ {body : Statements → Action Flow} (h : (ss : Statements) → Lawful languageErrors n (body ss)) where
-    called-lawful : (f : Procedure) (p : ℕ) (vs : List Value) → Lawful languageErrors n (Procedures.performing body f p vs)
-    unfolding Procedures.performing
+    called-lawful : (f : Procedure) (p : ℕ) (vs : List Value) → Lawful languageErrors n (Procedures.invoking body f p vs)
+    unfolding Procedures.invoking
     called-lawful f p vs =
         bind-lawful (refuse-lawful _ 20 p is-20) λ _. bind-lawful (refuse-lawful _ 60 p is-60) λ _. bind-moving (begin-moving p) λ _.
         bind-moving (shifted current-lawful) λ s. bind-moving (shifted (become-lawful _)) λ _.

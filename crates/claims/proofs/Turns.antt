@@ -189,8 +189,8 @@ module _ (invoke invoke′ : Invoke) (called : (x : List ℕ) (p : ℕ) (vs : Li
 
 -- ---- calls
 module _ {body body′ : Statements → Action Flow} (h : (ss : Statements) → Lengthens (body ss) (body′ ss)) where
-  called-lengthens : (f : Procedure) (p : ℕ) (vs : List Value) → Lengthens (Procedures.performing body f p vs) (Procedures.performing body′ f p vs)
-  unfolding Procedures.performing
+  called-lengthens : (f : Procedure) (p : ℕ) (vs : List Value) → Lengthens (Procedures.invoking body f p vs) (Procedures.invoking body′ f p vs)
+  unfolding Procedures.invoking
   called-lengthens f p vs =
       bind-lengthens unchanged λ _. bind-lengthens unchanged λ _. bind-lengthens unchanged λ _. bind-lengthens unchanged λ s.
       bind-lengthens unchanged λ _. bind-lengthens unchanged λ _. bind-lengthens (h (f .body)) λ flow. unchanged

@@ -24,7 +24,7 @@ use Rattle.writing.proofs.Laying.{saturated-small, from-front}
 use Rattle.writing.proofs.Decimals.{decimal-short}
 use Rattle.picture.proofs.Frames.{length-head, length-picture}
 use Rattle.scene.specs.Scene.{sceneIn}
-use Rattle.scene.specs.Showing.{Pictured}
+use Rattle.showing.specs.Showing.{Pictured}
 use Rattle.running.specs.declared.Ending.{Ending}
 use Rattle.running.specs.declared.Ending.the-variants.{Complete, Stopped}
 use Rattle.running.specs.Running.{Painted, Ran, paintingRun}

@@ -82,10 +82,10 @@ fn draw_scene<'a>(
     ensures { λ r. ⌜ Drawn (now (program .entry)) width height (now (grants .entry)) (now (out .entry)) (meant r) (now (out .exit)) ⌝ }
 {
     let steps = stores::words::word_at(words, 0);
-    let length = scene::picture_length(words, width, height);
+    let length = showing::picture_length(words, width, height);
     if out.len() < length {
         return Answer::Number(80, 0, steps, length as u64);
     }
-    scene::write_picture(program, texts, words, grants, width, height, out);
+    showing::write_picture(program, texts, words, grants, width, height, out);
     Answer::Picture(length as u64, steps)
 }

@@ -1,7 +1,9 @@
 // Expressions, operands, primaries and arguments, which call each other: the tokens left fall. Token words are read from left to right, and the
 // code of what was read is written. `left` is how many levels may still be opened, `i` a token, and `n` the first free word.
+pub mod kinds;
 pub mod token;
 
+use machine::tags;
 ghost use mathlib.Core.Path.{_≡_};
 ghost use Prim.Native.Nat.{_+_, _<_};
 ghost use Rattle.meaning.specs.Grammar.{noLevel};
@@ -44,11 +46,11 @@ fn read_operand(tokens: &[u64], words: &mut [u64], i: usize, n: usize, left: usi
     match a {
         Read::Wrong(k, p) => Read::Wrong(k, p),
         Read::At(j, m, t) => {
-            if token::kind_at(tokens, j) != 46 {
+            if token::kind_at(tokens, j) != kinds::DOT {
                 return Read::At(j, m, t);
             }
             let b = read_primary(tokens, words, j + 1, m, left);
-            join(words, b, 7, n, m, 2)
+            join(words, b, tags::ENTRY, n, m, 2)
         }
     }
 }
@@ -78,35 +80,41 @@ fn read_primary(tokens: &[u64], words: &mut [u64], i: usize, n: usize, left: usi
 {
     let kind = token::kind_at(tokens, i);
     match kind {
-        2 => read_digits(tokens, words, i, n),
-        45 => read_negative(tokens, words, i, n),
-        3 => put_leaf(words, i, n, 2, token::part_at(tokens, i), 0),
-        9 => put_leaf(words, i, n, 3, 0, 0),
-        10 => put_leaf(words, i, n, 4, 1, 0),
-        11 => put_leaf(words, i, n, 4, 0, 0),
-        1 => {
-            if token::kind_at(tokens, i + 1) != 40 {
-                return put_leaf(words, i, n, 5, token::home_at(tokens, i), 1);
+        kinds::DIGITS => read_digits(tokens, words, i, n),
+        kinds::MINUS => read_negative(tokens, words, i, n),
+        kinds::STRING => put_leaf(words, i, n, tags::STRING, token::part_at(tokens, i), 0),
+        kinds::NONE => put_leaf(words, i, n, tags::NONE, 0, 0),
+        kinds::TRUE => put_leaf(words, i, n, tags::TRUTH, 1, 0),
+        kinds::FALSE => put_leaf(words, i, n, tags::TRUTH, 0, 0),
+        kinds::NAME => {
+            if token::kind_at(tokens, i + 1) != kinds::OPEN {
+                return put_leaf(words, i, n, tags::NAME, token::home_at(tokens, i), 1);
             }
             if left == 0 {
                 return Read::Wrong(75, i + 1);
             }
             let es = read_arguments(tokens, words, i + 2, n, left - 1);
-            finish(words, es, 8, n, token::callee_at(tokens, i))
+            finish(words, es, tags::CALL, n, token::callee_at(tokens, i))
         }
-        40 => {
+        kinds::OPEN => {
             if left == 0 {
                 return Read::Wrong(75, i);
             }
             let e = read_expression(tokens, words, i + 1, n, left - 1);
-            close(tokens, e, 41)
+            close(tokens, e, kinds::CLOSE)
         }
-        91 => {
+        kinds::OPEN_BRACKET => {
             if left == 0 {
                 return Read::Wrong(75, i);
             }
             let e = read_expression(tokens, words, i + 1, n, left - 1);
-            finish(words, close(tokens, e, 93), 6, n, 0)
+            finish(
+                words,
+                close(tokens, e, kinds::CLOSE_BRACKET),
+                tags::TABLE,
+                n,
+                0,
+            )
         }
         _ => Read::Wrong(10, i),
     }
@@ -131,7 +139,7 @@ fn read_digits(tokens: &[u64], words: &mut [u64], i: usize, n: usize) -> Read
     if 2147483647 < x {
         return Read::Wrong(10, i);
     }
-    put_leaf(words, i, n, 1, x, 0)
+    put_leaf(words, i, n, tags::NUMBER, x, 0)
 }
 
 // A constant with a minus, which is token i: the digits stand directly behind it. It opens no level.
@@ -140,7 +148,7 @@ fn read_negative(tokens: &[u64], words: &mut [u64], i: usize, n: usize) -> Read
     requires { ⌜ kindAt (now tokens) i ≡ 45 ⌝ }
     ensures { λ r. ⌜ seen r (now (words .exit)) ≡ written (primary noLevel (now (tokens .entry)) i) n (now (words .entry)) ⌝ }
 {
-    if token::kind_at(tokens, i + 1) != 2 {
+    if token::kind_at(tokens, i + 1) != kinds::DIGITS {
         return Read::Wrong(10, i);
     }
     if token::place_at(tokens, i + 1) != token::place_at(tokens, i) + 1 {
@@ -150,7 +158,14 @@ fn read_negative(tokens: &[u64], words: &mut [u64], i: usize, n: usize) -> Read
     if 2147483648 < x {
         return Read::Wrong(10, i + 1);
     }
-    put_leaf(words, i + 1, n, 1, (4294967296 - x) % 4294967296, 0)
+    put_leaf(
+        words,
+        i + 1,
+        n,
+        tags::NUMBER,
+        (4294967296 - x) % 4294967296,
+        0,
+    )
 }
 
 // The token of a kind that has to follow what was read.
@@ -189,7 +204,7 @@ fn read_arguments(tokens: &[u64], words: &mut [u64], i: usize, n: usize, left: u
     requires { ⌜ Room (now tokens) (now words) i (n + 1) ⌝ }
     ensures { λ r. ⌜ seen r (now (words .exit)) ≡ writtenCode (arguments (expression left (now (tokens .entry))) (now (tokens .entry)) i) n (now (words .entry)) ⌝ }
 {
-    if token::kind_at(tokens, i) == 41 {
+    if token::kind_at(tokens, i) == kinds::CLOSE {
         return Read::At(i + 1, n, 0);
     }
     let mut at = i;
@@ -199,12 +214,16 @@ fn read_arguments(tokens: &[u64], words: &mut [u64], i: usize, n: usize, left: u
         match e {
             Read::Wrong(k, p) => return Read::Wrong(k, p),
             Read::At(j, q, _) => {
-                code::put(words, m, code::word_of(9, (q - m - 1) as u64, 0));
+                code::put(
+                    words,
+                    m,
+                    code::word_of(tags::ARGUMENT, (q - m - 1) as u64, 0),
+                );
                 let kind = token::kind_at(tokens, j);
-                if kind == 41 {
+                if kind == kinds::CLOSE {
                     return Read::At(j + 1, q, 0);
                 }
-                if kind != 44 {
+                if kind != kinds::COMMA {
                     return Read::Wrong(10, j);
                 }
                 at = j + 1;

@@ -1,4 +1,6 @@
 // Token words, each read as 0 behind the last.
+use crate::kinds;
+use machine::tags;
 ghost use mathlib.Core.Path.{_≡_};
 ghost use lib.ListN.{getD};
 ghost use Rattle.expressions.specs.Words.{kindAt, placeAt, payloadAt, homeAt, procedureAt, calleeAt, partAt, operatorTag};
@@ -67,18 +69,18 @@ pub fn operator_tag(kind: u64) -> u64
     ensures { λ r. ⌜ r ≡ operatorTag kind ⌝ }
 {
     match kind {
-        171 => 16,
-        43 => 17,
-        45 => 18,
-        42 => 19,
-        47 => 20,
-        37 => 21,
-        190 => 22,
-        188 => 23,
-        189 => 24,
-        161 => 25,
-        62 => 26,
-        60 => 27,
+        kinds::TWO_PLUS => tags::CONCATENATE,
+        kinds::PLUS => tags::ADD,
+        kinds::MINUS => tags::SUBTRACT,
+        kinds::TIMES => tags::MULTIPLY,
+        kinds::OVER => tags::DIVIDE,
+        kinds::PERCENT => tags::REMAINDER,
+        kinds::SHIFT_RIGHT => tags::SHIFT_RIGHT,
+        kinds::SHIFT_LEFT => tags::SHIFT_LEFT,
+        kinds::EQUAL => tags::EQUAL,
+        kinds::UNEQUAL => tags::UNEQUAL,
+        kinds::GREATER => tags::GREATER,
+        kinds::LESS => tags::LESS,
         _ => 0,
     }
 }

@@ -1,6 +1,6 @@
 -- One law for each way through each function.
-use Prim.Native.Nat.{ℕ, suc, _+_, _-_, _*_, _/_, _%_, _^_, _≤_, _<_}
-use mathlib.Core.Path.{_≡_, refl, _∙_}
+use Prim.Native.Nat.{ℕ, zero, suc, _+_, _-_, _*_, _/_, _%_, _^_, _≤_, _<_}
+use mathlib.Core.Path.{_≡_, refl, sym, _∙_}
 use mathlib.Core.Bool.{Bool, true, false, not}
 use mathlib.Core.List.{List}
 use native.Mathlib.Omega.{arith}
@@ -15,15 +15,16 @@ use mir.Facts.{toZ-ofZ}
 use borrow.Author.Tests.{not-true, not-false, lt-ltb, le-ltb, le-leb, lt-leb, ne-eqb}
 use Rattle.meaning.specs.Basics.{if_then_else_}
 use Rattle.meaning.specs.Integer.{sum, difference, product, quotient, remainder, shiftedLeft, shiftedRight, isZero, sameInteger}
-use Rattle.machine.specs.Opcodes.{tagIn, sizeIn, numberIn, firstOperator, headNumber, headName, tagAdd, tagSubtract, tagMultiply, tagDivide, tagRemainder, tagShiftRight, tagShiftLeft, tagEqual, tagUnequal, tagGreater, tagLess}
-use Rattle.machine.specs.declared.Value.the-variants.{Integer, Boolean}
+use Rattle.machine.specs.Opcodes.{tagIn, sizeIn, sizeAt, numberIn, firstOperator, headNumber, headString, headName, tagAdd, tagSubtract, tagMultiply, tagDivide, tagRemainder, tagShiftRight, tagShiftLeft, tagEqual, tagUnequal, tagGreater, tagLess}
+use Rattle.machine.specs.declared.Value.the-variants.{Integer, Text, Boolean, Shape}
 use Rattle.machine.specs.Words.{packed}
 use Rattle.machine.specs.Words as Words
 use Rattle.machine.specs.Layout.{valuePlace, stepsUsed, stepsGranted}
 use Rattle.machine.specs.Act.{Pays}
+use Rattle.machine.specs.Shapes.{destroyedAt}
 use Rattle.stores.proofs.Acts.{paid, short}
-use Rattle.operators.proofs.Held.{held, back-by, test-is}
-use Rattle.fastpath.specs.Fast.{plainWord, leafWord, operatorWord, wordOn, sizesAgree, operationWord, fastAt, applies, Values}
+use Rattle.values.proofs.Held.{held, back-by, test-is}
+use Rattle.fastpath.specs.Fast.{plainWord, leafWord, operatorWord, wordOn, sizesAgree, operationWord, fastAt, livingWord, otherWord, argumentAt, applies, Values}
 
 -- ---- constants and variables
 module _ (u : ℕ) where
@@ -195,28 +196,77 @@ module _ (depth : ℕ) (code ws : List ℕ) (w x : ℕ) where
     is-operation-anew l h = is-operation l (rw (whole-is code, whole-is ws) at h)
 
 -- ---- their steps
-module _ (depth : ℕ) (code g ws : List ℕ) (x v w : ℕ) (c : w ≡ getD (whole code) x 0) (d : v ≡ fastAt depth (whole code) ws x) where
-  e : w ≡ getD code x 0
-  e = rw (whole-is code) at c
-
-  f : v ≡ fastAt depth code ws x
-  f = rw (whole-is code) at d
-
-  pub not-fast : v ≡ 0 → Values depth code g ws x 0 ws
+module _ (v steps : ℕ) (g ws : List ℕ) where
+  pub no-value : v ≡ 0 → Values v steps g ws 0 ws
   unfolding applies if_then_else_
-  not-fast z = record { result = rw (← f, z); words = rw (← f, z) }
+  no-value z = record { result = rw z; words = rw z }
 
-  module _ (n : v ≡ 0 → ⊥) (size : ℕ) (s : size ≡ sizeIn w) (ok : Bool) (ws₁ : List ℕ) (p : Pays ws 0 (stepsGranted g) size ok ws₁) where
-    pub too-many : not ok ≡ true → Values depth code g ws x 0 ws₁
+  module _ (n : v ≡ 0 → ⊥) (ok : Bool) (ws₁ : List ℕ) (p : Pays ws 0 (stepsGranted g) steps ok ws₁) where
+    pub too-many : not ok ≡ true → Values v steps g ws 0 ws₁
     unfolding applies if_then_else_
     too-many t =
         let q = short (rw (not-true ok t) at p) in
-        let b : leb (getD ws stepsUsed 0 + sizeIn w) (stepsGranted g) ≡ false = rw (← s) (lt-leb _ _ (q .beyond)) in
-        record { result = rw (← f, ne-eqb _ _ n, ← e, b); words = q .words ∙ rw (← f, ne-eqb _ _ n, ← e, b) }
+        let b : leb (getD ws stepsUsed 0 + steps) (stepsGranted g) ≡ false = lt-leb _ _ (q .beyond) in
+        record { result = rw (ne-eqb _ _ n, b); words = q .words ∙ rw (ne-eqb _ _ n, b) }
 
-    pub counted : not ok ≡ false → Values depth code g ws x v ws₁
+    pub all-counted : not ok ≡ false → Values v steps g ws v ws₁
     unfolding applies if_then_else_
-    counted t =
+    all-counted t =
         let q = paid (rw (not-false ok t) at p) in
-        let b : leb (getD ws stepsUsed 0 + sizeIn w) (stepsGranted g) ≡ true = rw (← s) (le-leb _ _ (q .within)) in
-        record { result = f ∙ rw (← f, ne-eqb _ _ n, ← e, b); words = q .words ∙ rw (← f, ne-eqb _ _ n, ← e, b, s) }
+        let b : leb (getD ws stepsUsed 0 + steps) (stepsGranted g) ≡ true = le-leb _ _ (q .within) in
+        record { result = rw (ne-eqb _ _ n, b); words = q .words ∙ rw (ne-eqb _ _ n, b) }
+
+pub values-anew : (depth : ℕ) (code g ws : List ℕ) (x v w steps r : ℕ) (ws₁ : List ℕ) → w ≡ getD (whole code) x 0 → v ≡ fastAt depth (whole code) ws x → steps ≡ sizeIn w
+    → Values v steps g ws r ws₁ → Values (fastAt depth code ws x) (sizeAt code x) g ws r ws₁
+values-anew depth code g ws x v w steps r ws₁ e f s h = rw (f, s, e, whole-is code) at h
+
+-- ---- arguments
+module _ (ws : List ℕ) (u : ℕ) where
+  pub no-shape : (u % 8 ≡ 6 → ⊥) → 0 ≡ livingWord ws u
+  unfolding livingWord if_then_else_
+  no-shape n = rw (ne-eqb _ _ n)
+
+  module _ (i : ℕ) (h : u % 8 ≡ 6) (e : i ≡ Words.numberIn u) (b : Bool) (d : b ≡ destroyedAt ws i) where
+    pub no-longer : b ≡ true → 0 ≡ livingWord ws u
+    unfolding livingWord if_then_else_
+    no-longer t = rw (h, ← e, ← d, t)
+
+    pub lives : (r : ℕ) → b ≡ false → r ≡ packed (Shape i) → r ≡ livingWord ws u
+    unfolding livingWord if_then_else_
+    lives r t f = f ∙ rw (h, ← e, ← d, t)
+
+module _ (ws : List ℕ) (w : ℕ) where
+  pub other-string : (r : ℕ) → w % 4294967296 ≡ headString → w < 2 ^ 64 → r ≡ packed (Text (2 * (w / 4294967296))) → r ≡ otherWord ws w
+  unfolding otherWord if_then_else_
+  other-string r h l f = f ∙ rw (h, lt-ltb (w / 4294967296) (2 ^ 32) (omega arith))
+
+  pub other-name : (r k : ℕ) → w % 4294967296 ≡ headName → k ≡ getD ws (valuePlace (w / 4294967296)) 0 → r ≡ livingWord ws k → r ≡ otherWord ws w
+  unfolding otherWord if_then_else_
+  other-name r k h f g = g ∙ rw (h, f)
+
+  pub no-other : (w % 4294967296 ≡ headString → ⊥) → (w % 4294967296 ≡ headName → ⊥) → 0 ≡ otherWord ws w
+  unfolding otherWord if_then_else_
+  no-other n m = rw (ne-eqb _ _ n, ne-eqb _ _ m)
+
+module _ (code ws : List ℕ) (x : ℕ) where
+  fast-argument : (depth : ℕ) → (depth ≡ 0 → ⊥) → otherWord ws (getD code x 0) ≡ 0 → argumentAt depth code ws x ≡ fastAt depth code ws x
+  unfolding argumentAt if_then_else_
+  fast-argument zero n z = absurd (n refl)
+  fast-argument (suc depth) n z = rw z
+
+  other-argument : (depth v w : ℕ) → (depth ≡ 0 → ⊥) → w ≡ getD code x 0 → v ≡ otherWord ws w → (v ≡ 0 → ⊥) → argumentAt depth code ws x ≡ v
+  unfolding argumentAt if_then_else_
+  other-argument zero v w n e f m = absurd (n refl)
+  other-argument (suc depth) v w n e f m = rw (← e, ← f, ne-eqb _ _ m)
+
+  module _ (depth : ℕ) (g : List ℕ) where
+    pub no-argument : depth ≡ 0 → Values (argumentAt depth code ws x) (sizeAt code x) g ws 0 ws
+    unfolding argumentAt applies if_then_else_
+    no-argument z = rw z record { result = refl; words = refl }
+
+    module _ (v w r : ℕ) (ws₁ : List ℕ) (n : depth ≡ 0 → ⊥) (e : w ≡ getD code x 0) (f : v ≡ otherWord ws w) where
+      pub argument-fast : v ≡ 0 → Values (fastAt depth code ws x) (sizeAt code x) g ws r ws₁ → Values (argumentAt depth code ws x) (sizeAt code x) g ws r ws₁
+      argument-fast z h = rw (fast-argument depth n (rw (← e) (sym f ∙ z))) h
+
+      pub argument-other : (steps : ℕ) → (v ≡ 0 → ⊥) → steps ≡ sizeIn w → Values v steps g ws r ws₁ → Values (argumentAt depth code ws x) (sizeAt code x) g ws r ws₁
+      argument-other steps m s h = rw (other-argument depth v w n e f m, ← e, ← s) h

@@ -1,4 +1,5 @@
--- Expressions of integers worked out at once. Their values are words; 0 says that this does not apply, and the expression is evaluated.
+-- Expressions of integers worked out at once, and arguments that are strings or shapes. Their values are words; 0 says that this does not apply, and the
+-- expression is evaluated.
 -- x is the root's place in the code; depth bounds how deep expressions are nested.
 use Prim.Native.Nat.{ℕ, zero, suc, _+_, _-_, _*_, _%_, _^_}
 use mathlib.Core.Path.{_≡_}
@@ -12,11 +13,12 @@ use mir.Syntax.{w32}
 use mir.Val.{toZ}
 use Rattle.meaning.specs.Basics.{if_then_else_}
 use Rattle.meaning.specs.Integer.{sum, difference, product, quotient, remainder, shiftedLeft, shiftedRight, isZero, sameInteger}
-use Rattle.machine.specs.Opcodes.{tagIn, sizeIn, numberIn, firstOperator, headNumber, headName, tagAdd, tagSubtract, tagMultiply, tagDivide, tagRemainder, tagShiftRight, tagShiftLeft, tagEqual, tagUnequal, tagGreater, tagLess}
-use Rattle.machine.specs.declared.Value.the-variants.{Integer, Boolean}
-use Rattle.machine.specs.Words.{kindIn, kindInteger, kindTruth, packed}
+use Rattle.machine.specs.Opcodes.{tagIn, sizeIn, numberIn, firstOperator, headNumber, headString, headName, tagAdd, tagSubtract, tagMultiply, tagDivide, tagRemainder, tagShiftRight, tagShiftLeft, tagEqual, tagUnequal, tagGreater, tagLess}
+use Rattle.machine.specs.declared.Value.the-variants.{Integer, Text, Boolean, Shape}
+use Rattle.machine.specs.Words.{kindIn, kindInteger, kindTruth, kindShape, packed}
 use Rattle.machine.specs.Words as Words
 use Rattle.machine.specs.Layout.{stepsUsed, stepsGranted, valuePlace}
+use Rattle.machine.specs.Shapes.{destroyedAt}
 
 -- ---- constants and variables
 -- what a variable holds, if it is an integer or a truth
@@ -75,11 +77,29 @@ fastAt (suc depth) code ws x =
     if ltb (tagIn (getD code x 0)) firstOperator then (λ _. leafWord ws (getD code x 0))
     else λ _. operationWord (fastAt depth code ws) code (getD code x 0) x
 
--- each word of such an expression is a step: they are counted at once, if they stay within the grant
-unfoldable pub applies : ℕ → List ℕ → List ℕ → List ℕ → ℕ → Bool
-applies depth code g ws x = not (eqb (fastAt depth code ws x) 0) && leb (getD ws stepsUsed 0 + sizeIn (getD code x 0)) (stepsGranted g)
+-- ---- arguments
+-- the shape that a variable's word holds, if it is not destroyed
+unfoldable pub livingWord : List ℕ → ℕ → ℕ
+livingWord ws u = if eqb (kindIn u) kindShape && not (destroyedAt ws (Words.numberIn u)) then (λ _. packed (Shape (Words.numberIn u))) else λ _. 0
 
--- the value, with the words then
-pub record Values (depth : ℕ) (code g before : List ℕ) (x value : ℕ) (after : List ℕ) : Type 0 where
-  pub result : value ≡ (if applies depth code g before x then (λ _. fastAt depth code before x) else λ _. 0)
-  pub words : after ≡ (if applies depth code g before x then (λ _. set before stepsUsed (getD before stepsUsed 0 + sizeIn (getD code x 0))) else λ _. before)
+-- a string, or a variable that holds such a shape, by the word of the code, as above
+unfoldable pub otherWord : List ℕ → ℕ → ℕ
+otherWord ws w =
+    if eqb (w % 2 ^ 32) headString then (λ _. if ltb (numberIn w) (2 ^ 32) then (λ _. packed (Text (2 * numberIn w))) else λ _. 0)
+    else λ _. if eqb (w % 2 ^ 32) headName then (λ _. livingWord ws (getD ws (valuePlace (numberIn w)) 0))
+    else λ _. 0
+
+unfoldable pub argumentAt : ℕ → List ℕ → List ℕ → ℕ → ℕ
+argumentAt zero code ws x = 0
+argumentAt (suc depth) code ws x =
+    if eqb (otherWord ws (getD code x 0)) 0 then (λ _. fastAt (suc depth) code ws x) else λ _. otherWord ws (getD code x 0)
+
+-- ---- steps
+-- as many as the expression has words; they are counted at once, if they stay within the grant
+unfoldable pub applies : ℕ → ℕ → List ℕ → List ℕ → Bool
+applies word steps g ws = not (eqb word 0) && leb (getD ws stepsUsed 0 + steps) (stepsGranted g)
+
+-- the value, which is this word if that applies, with the words then
+pub record Values (word steps : ℕ) (g before : List ℕ) (value : ℕ) (after : List ℕ) : Type 0 where
+  pub result : value ≡ (if applies word steps g before then (λ _. word) else λ _. 0)
+  pub words : after ≡ (if applies word steps g before then (λ _. set before stepsUsed (getD before stepsUsed 0 + steps)) else λ _. before)

@@ -1,5 +1,5 @@
-// Expressions of integers worked out at once, as words: constants, variables and operators on integers. A word of 0 says that
-// this does not apply; nothing has changed then, and the expression is evaluated as any other.
+// Expressions of integers worked out at once, as words: constants, variables and operators on integers; and arguments that are strings or
+// shapes. A word of 0 says that this does not apply; nothing has changed then, and the expression is evaluated as any other.
 use machine::counters;
 use machine::granted;
 use machine::heads;
@@ -8,9 +8,9 @@ use machine::tags;
 ghost use Prim.Native.Nat.{_≤_};
 ghost use mathlib.Core.Path.{_≡_};
 ghost use lib.ListN.{length, getD};
-ghost use Rattle.machine.specs.Opcodes.{tagDivide, tagRemainder};
+ghost use Rattle.machine.specs.Opcodes.{tagDivide, tagRemainder, sizeAt};
 ghost use Rattle.machine.specs.Layout.{fixedWords};
-ghost use Rattle.fastpath.specs.Fast.{plainWord, leafWord, operatorWord, wordOn, sizesAgree, operationWord, fastAt, Values};
+ghost use Rattle.fastpath.specs.Fast.{plainWord, leafWord, operatorWord, wordOn, sizesAgree, operationWord, fastAt, livingWord, otherWord, argumentAt, Values};
 
 // ---- constants and variables
 // What a variable's word holds, if it is an integer or a truth.
@@ -33,7 +33,7 @@ fn leaf_word(words: &[u64], w: u64) -> u64
 {
     let head = w % 4294967296;
     if head == heads::NUMBER {
-        return 1 + 8 * (w / 4294967296);
+        return kinds::INTEGER + 8 * (w / 4294967296);
     }
     if head == heads::NAME {
         return plain_word(stores::variables::word_of(words, (w / 4294967296) as usize));
@@ -157,20 +157,87 @@ fn root(code: &[u64], words: &[u64], depth: usize, w: u64, x: usize) -> u64
     r
 }
 
-// The value of the expression whose root stands at x, its steps counted; 0, and nothing counted, where this does not apply.
-pub fn fast_value(words: &mut [u64], code: &[u64], grants: &[u64; 5], depth: usize, x: usize) -> u64
+// ---- steps
+// A value whose steps are counted; 0, and nothing counted, if it is 0 or they are too many.
+fn counted(words: &mut [u64], grants: &[u64; 5], v: u64, steps: usize) -> u64
     requires { ⌜ fixedWords ≤ length (now words) ⌝ }
-    ensures { λ r. ⌜ Values depth (now (code .entry)) (now (grants .entry)) (now (words .entry)) x r (now (words .exit)) ⌝ }
+    ensures { λ r. ⌜ Values v steps (now (grants .entry)) (now (words .entry)) r (now (words .exit)) ⌝ }
 {
-    let code = &code[0..];
-    let w = stores::words::word_at(code, x);
-    let v = root(code, words, depth, w, x);
     if v == 0 {
         return 0;
     }
     let limit = grants[granted::STEPS];
-    if !stores::counters::spend(words, counters::STEPS, limit, code::size_of(w) as u64) {
+    if !stores::counters::spend(words, counters::STEPS, limit, steps as u64) {
         return 0;
     }
     v
+}
+
+// The value of the expression whose root stands at x, its steps counted; 0, and nothing counted, where this does not apply.
+pub fn fast_value(words: &mut [u64], code: &[u64], grants: &[u64; 5], depth: usize, x: usize) -> u64
+    requires { ⌜ fixedWords ≤ length (now words) ⌝ }
+    ensures { λ r. ⌜ Values (fastAt depth (now (code .entry)) (now (words .entry)) x) (sizeAt (now (code .entry)) x) (now (grants .entry)) (now (words .entry)) r (now (words .exit)) ⌝ }
+{
+    let code = &code[0..];
+    let w = stores::words::word_at(code, x);
+    let v = root(code, words, depth, w, x);
+    let r = counted(words, grants, v, code::size_of(w));
+    r
+}
+
+// ---- arguments
+// The shape that a variable's word holds, if it is not destroyed.
+fn living_word(words: &[u64], u: u64) -> u64
+    ensures { λ r. ⌜ r ≡ livingWord (now (words .entry)) u ⌝ }
+{
+    if u % 8 != kinds::SHAPE {
+        return 0;
+    }
+    let i = values::number_of(u);
+    if stores::shapes::is_destroyed(words, i) {
+        return 0;
+    }
+    values::shape_word(i)
+}
+
+// A string, or a variable that holds such a shape, by the word of the code.
+fn other_word(words: &[u64], w: u64) -> u64
+    requires { ⌜ fixedWords ≤ length (now words) ⌝ }
+    ensures { λ r. ⌜ r ≡ otherWord (now (words .entry)) w ⌝ }
+{
+    let head = w % 4294967296;
+    if head == heads::STRING {
+        return values::text_word(2 * (w / 4294967296));
+    }
+    if head == heads::NAME {
+        return living_word(
+            words,
+            stores::variables::word_of(words, (w / 4294967296) as usize),
+        );
+    }
+    0
+}
+
+// The value of the argument whose root stands at x, its steps counted; 0, and nothing counted, where this does not apply.
+pub fn argument_value(
+    words: &mut [u64],
+    code: &[u64],
+    grants: &[u64; 5],
+    depth: usize,
+    x: usize,
+) -> u64
+    requires { ⌜ fixedWords ≤ length (now words) ⌝ }
+    ensures { λ r. ⌜ Values (argumentAt depth (now (code .entry)) (now (words .entry)) x) (sizeAt (now (code .entry)) x) (now (grants .entry)) (now (words .entry)) r (now (words .exit)) ⌝ }
+{
+    if depth == 0 {
+        return 0;
+    }
+    let w = stores::words::word_at(code, x);
+    let v = other_word(words, w);
+    if v == 0 {
+        let r = fast_value(words, code, grants, depth, x);
+        return r;
+    }
+    let r = counted(words, grants, v, code::size_of(w));
+    r
 }

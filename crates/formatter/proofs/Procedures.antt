@@ -17,7 +17,8 @@ use Rattle.expressions.specs.Words.{homeAt}
 use Rattle.tokens.specs.Words as Tokens
 use Rattle.writing.specs.Placed.{WroteAt}
 use Rattle.spellings.specs.Spelling.{nameText}
-use Rattle.formatter.specs.Raw.{source, wordAt, spelling, rawStatement, rawStatements, parameterNames, procedureBy, procedureText, rawProcedures, enoughFuel, rawText}
+use Rattle.phrases.specs.Raw.{source, wordAt, spelling}
+use Rattle.formatter.specs.Raw.{rawStatement, rawStatements, parameterNames, procedureBy, procedureText, rawProcedures, enoughFuel, rawText}
 use Rattle.spellings.proofs.Chains.{nothing, then-three, then-five, Writing, begin, goes-on, ends}
 
 -- ---- a part whose ends are clipped is what `take` and `drop` leave

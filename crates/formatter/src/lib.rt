@@ -1,5 +1,4 @@
 // Writing the text of a program from its code. Each function writes from a place on and returns the place behind.
-mod expression;
 mod procedure;
 mod statement;
 

@@ -13,7 +13,8 @@ ghost use Rattle.meaning.specs.Basics.{bytes};
 ghost use Rattle.canonical.specs.Text.{commaSeparated};
 ghost use Rattle.machine.specs.Opcodes.{tablePlace, startIn, parametersIn};
 ghost use Rattle.writing.specs.Placed.{WroteAt};
-ghost use Rattle.formatter.specs.Raw.{source, wordAt, spelling, parameterNames, procedureBy, procedureText, enoughFuel, rawText};
+ghost use Rattle.phrases.specs.Raw.{source, wordAt, spelling};
+ghost use Rattle.formatter.specs.Raw.{parameterNames, procedureBy, procedureText, enoughFuel, rawText};
 
 // More than there are words of code in a program, so enough for every expression and statement.
 const ENOUGH_FUEL: usize = 8193;

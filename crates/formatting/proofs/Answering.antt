@@ -22,8 +22,9 @@ use Rattle.reader.specs.declared.Program as Declared
 use Rattle.reader.specs.declared.Program.the-variants.{Formed, Malformed}
 use Rattle.reader.specs.Reading.{tokensIn, seen, coded, Kept}
 use Rattle.reader.proofs.Whole.{whole}
-use Rattle.formatter.specs.Raw.{source, rawText}
-use Rattle.formatter.proofs.Faithful.{tokens-counted, faithful}
+use Rattle.phrases.specs.Raw.{source}
+use Rattle.formatter.specs.Raw.{rawText}
+use Rattle.faithful.proofs.Faithful.{tokens-counted, faithful}
 use Rattle.formatting.specs.Formatting.{Formatted, Written, Fitted}
 use Rattle.formatting.proofs.Bounded.{text-bounded}
 

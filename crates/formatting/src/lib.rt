@@ -5,7 +5,8 @@ ghost use Prim.Native.Nat.{_<_, _^_};
 ghost use mathlib.Core.Path.{_≡_};
 ghost use lib.ListN.{length};
 ghost use Rattle.checking.specs.Checking.{calledWith, Lent};
-ghost use Rattle.formatter.specs.Raw.{source, rawText};
+ghost use Rattle.phrases.specs.Raw.{source};
+ghost use Rattle.formatter.specs.Raw.{rawText};
 ghost use Rattle.formatting.specs.Formatting.{Formatted, Written, Fitted};
 
 // A text is at most as long as a program may be.

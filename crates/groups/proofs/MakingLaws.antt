@@ -15,13 +15,14 @@ use Rattle.machine.specs.declared.Value.the-variants.{Shape}
 use Rattle.machine.specs.declared.Answer.{Answer}
 use Rattle.machine.specs.declared.Answer.the-variants.{Good, Bad}
 use Rattle.machine.specs.declared.Figure.{Figure}
-use Rattle.machine.specs.Layout.{shapesUsed, entriesUsed, componentsMade, shapesGranted, entriesGranted, shapePlace, componentPlace, Room}
+use Rattle.machine.specs.Layout.{shapesUsed, entriesUsed, componentsMade, shapesGranted, entriesGranted, callsGranted, shapePlace, componentPlace, pathPlace, Room}
 use Rattle.machine.specs.Act.{Raw, raw, Out, done, stop, Act, goOn, _>>=_, give, load, store, held, spend, shown, passed, Passes, Pays, Answers}
 use Rattle.machine.specs.Shapes.{isGroupAt, figureAt, newShape}
-use Rattle.machine.specs.Groups.{slotWord, firstAt, countAt, fillFrom, groupLaid, putGroup, newGroup, copyShape}
+use Rattle.machine.specs.Groups.{slotWord, firstAt, countAt, zeroed, unmarked, fillFrom, groupLaid, putGroup, newGroup, copyShape}
+use Rattle.machine.proofs.Slots.{zeroed-other, slot-room}
 use Rattle.stores.proofs.Acts.{paid, short, after-pass, after-refusal}
 use Rattle.groups.specs.Making.{addOne, grouping, copyGroup, Units, Sources, Adds, making, Makes}
-use Rattle.groups.proofs.TurnLaws.{room-same}
+use Rattle.walks.proofs.TurnLaws.{room-same}
 
 -- ---- a component
 module _ (g ws : List ℕ) (unit place n : ℕ) (ok : Bool) (ws₁ : List ℕ) (h : Pays ws entriesUsed (entriesGranted g) 1 ok ws₁) where
@@ -41,29 +42,57 @@ module _ (g ws : List ℕ) (unit place n : ℕ) (ok : Bool) (ws₁ : List ℕ) (
     pub made-less : getD ws componentsMade 0 % entriesGranted g < entriesGranted g
     made-less = mod-lt _ entries-some
 
-    pub one-added : (w at x : ℕ) → Room g ws → w ≡ getD ws₁ place 0 → at ≡ componentPlace g (getD ws componentsMade 0 % entriesGranted g) → x ≡ slotWord (w / unit) n
-        → Adds g ws unit place n true (set (set ws₁ at x) componentsMade (getD ws componentsMade 0 % entriesGranted g + 1))
-    unfolding addOne _>>=_ goOn load store spend passed if_then_else_
-    one-added w at x r e f i =
+    pub one-added : (w at x from : ℕ) (ws₂ : List ℕ) → Room g ws → w ≡ getD ws₁ place 0 → at ≡ componentPlace g (getD ws componentsMade 0 % entriesGranted g) → x ≡ slotWord (w / unit) n
+        → from ≡ pathPlace g 0 (getD ws componentsMade 0 % entriesGranted g) → ws₂ ≡ zeroed (set ws₁ at x) from (callsGranted g)
+        → Adds g ws unit place n true (set ws₂ componentsMade (getD ws componentsMade 0 % entriesGranted g + 1))
+    unfolding addOne unmarked _>>=_ goOn load store spend passed if_then_else_
+    one-added w at x from ws₂ r e f i b c =
         let q = paid (rw (not-false ok t) at h) in
         let l : entriesUsed < length ws = omega (arith, r .words) in
         let within = q .within in
         let entries = r .entries in
-        let a : getD (set (set ws₁ at x) componentsMade (getD ws componentsMade 0 % entriesGranted g + 1)) entriesUsed 0 ≡ getD ws entriesUsed 0 + 1 =
-        getD-set-other (set ws₁ at x) componentsMade entriesUsed _ 0 (λ z. omega arith) ∙ getD-set-other ws₁ at entriesUsed x 0 (λ z. omega (arith, f))
-        ∙ rw (q .words) (getD-set-same ws entriesUsed (getD ws entriesUsed 0 + 1) 0 l) in
+        let a : getD (set ws₂ componentsMade (getD ws componentsMade 0 % entriesGranted g + 1)) entriesUsed 0 ≡ getD ws entriesUsed 0 + 1 =
+        getD-set-other ws₂ componentsMade entriesUsed _ 0 (λ z. omega arith) ∙ rw c (zeroed-other (set ws₁ at x) from (callsGranted g) entriesUsed (λ j m z. omega (arith, b)))
+        ∙ getD-set-other ws₁ at entriesUsed x 0 (λ z. omega (arith, f)) ∙ rw (q .words) (getD-set-same ws entriesUsed (getD ws entriesUsed 0 + 1) 0 l) in
         record {
-          passes = record { equal = λ p ts. rw (i, f, e, q .words, le-leb (getD ws entriesUsed 0 + 1) (entriesGranted g) within) };
+          passes = record { equal = λ p ts. rw (c, b, i, f, e, q .words, le-leb (getD ws entriesUsed 0 + 1) (entriesGranted g) within) };
           used = λ z. (a, omega arith);
         }
+
+-- ---- zeros: the first i are there
+pub record Zeroing (ws₀ : List ℕ) (at n : ℕ) (ws : List ℕ) (i : ℕ) : Type 0 where
+  pub rest : zeroed ws₀ at n ≡ zeroed ws (at + i) (n - i)
+  pub long : length ws ≡ length ws₀
+
+module _ (ws₀ : List ℕ) (at n : ℕ) where
+  pub zero-first : Zeroing ws₀ at n ws₀ 0
+  zero-first =
+      let q : at + 0 ≡ at = omega arith in
+      let m : n - 0 ≡ n = omega arith in
+      record { rest = rw (q, m); long = refl }
+
+  module _ (ws : List ℕ) (i : ℕ) (a : Zeroing ws₀ at n ws i) where
+    pub zero-next : i < n → Zeroing ws₀ at n (set ws (at + i) 0) (i + 1)
+    unfolding zeroed
+    zero-next l =
+        let q : n - i ≡ suc (n - (i + 1)) = omega arith in
+        let m : at + i + 1 ≡ at + (i + 1) = omega arith in
+        record { rest = rw q at (a .rest) ∙ ap (λ x. zeroed (set ws (at + i) 0) x (n - (i + 1))) m; long = length-set ws (at + i) 0 ∙ a .long }
+
+    pub zero-last : n ≤ i → ws ≡ zeroed ws₀ at n
+    unfolding zeroed
+    zero-last l = let q : n - i ≡ 0 = omega arith in sym (rw q at (a .rest))
 
 pub component-room : (g ws ws₁ : List ℕ) (k at : ℕ) → Room g ws → k < entriesGranted g → at ≡ componentPlace g k → length ws₁ ≡ length ws → at < length ws₁
 component-room g ws ws₁ k at r h e l = omega (arith, r .words, l)
 
+pub marks-room : (g ws ws₁ : List ℕ) (k at x from : ℕ) → Room g ws → k < entriesGranted g → from ≡ pathPlace g 0 k → length ws₁ ≡ length ws → from + callsGranted g ≤ length (set ws₁ at x)
+marks-room g ws ws₁ k at x from r h e l = rw (length-set ws₁ at x, l, e) (slot-room g ws k r h)
+
 -- ---- all of them
 fill-one : (g : List ℕ) (p stride unit at m : ℕ) (ts ws : List ℕ)
     → fillFrom g p stride unit at (suc m) (raw ts ws) ≡ (addOne g unit at m p >>= λ _. fillFrom g p stride unit (at + stride) m) (raw ts ws)
-unfolding fillFrom addOne _>>=_ goOn load store spend if_then_else_
+unfolding fillFrom addOne unmarked _>>=_ goOn load store spend if_then_else_
 fill-one g p stride unit at m ts ws = go (leb (getD ws entriesUsed 0 + 1) (entriesGranted g)) refl
   where
     go : (b : Bool) → leb (getD ws entriesUsed 0 + 1) (entriesGranted g) ≡ b

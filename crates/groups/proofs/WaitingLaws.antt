@@ -10,7 +10,7 @@ use borrow.Author.Tests.{ne-eqb}
 use Rattle.machine.specs.Layout.{shapesUsed, waitingHeld, shapePlace, Room}
 use Rattle.machine.specs.Act.{Gives, Raw, raw, Out, done, stop, Act, goOn, _>>=_, _>>_, give, load, store, passed}
 use Rattle.machine.specs.Groups.{newGroup, wayPlace, waitingPlace, await, groupWaiting, remakeLeft}
-use Rattle.groups.specs.Walks.{Ends}
+use Rattle.walks.specs.Walks.{Ends}
 use Rattle.groups.specs.Making.{Sources, making, Makes, gathering}
 use Rattle.groups.proofs.MakingLaws.{number-known}
 use Rattle.stores.proofs.Acts.{after-gift}
@@ -18,9 +18,6 @@ use Rattle.stores.proofs.Acts.{after-gift}
 pub waits : (ws : List ℕ) (j k at : ℕ) (ws₁ : List ℕ) → k ≡ getD ws waitingHeld 0 % 65536 → at ≡ shapePlace k → ws₁ ≡ set ws (at + 4) j → Gives ws (await j) tt (set ws₁ waitingHeld (k + 1))
 unfolding await _>>=_ goOn load store
 waits ws j k at ws₁ e f h = record { equal = λ ts. rw (h, f, e) }
-
-pub waiting-is : (ws : List ℕ) (d at w : ℕ) → at ≡ wayPlace d → w ≡ getD ws at 0 → w / 281474976710656 ≡ getD ws (wayPlace d) 0 / 2 ^ 48
-waiting-is ws d at w e f = rw (f, e)
 
 pub waiting-sources : (g ws : List ℕ) (m at : ℕ) → Room g ws → m < 2 ^ 32 → at ≡ shapePlace m → Sources g ws 5 1 (at + 4)
 waiting-sources g ws m at r h e = record { units = record { room = r; some = omega arith }; near = omega arith; small = omega (arith, e, h) }

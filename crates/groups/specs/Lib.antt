@@ -1,4 +1,1 @@
-pub mod Walks
-pub mod Destroying
 pub mod Making
-pub mod Looking

@@ -8,16 +8,17 @@ use Rattle.machine.specs.declared.Value.{Value}
 use Rattle.machine.specs.declared.Value.the-variants.{Shape}
 use Rattle.machine.specs.Layout.{shapesUsed, entriesUsed, componentsMade, entriesGranted, componentPlace, Room}
 use Rattle.machine.specs.Act.{Passes, Act, _>>=_, _>>_, give, load, store, spend}
-use Rattle.groups.specs.Walks.{Ends}
-use Rattle.machine.specs.Groups.{slotWord, firstAt, countAt, newGroup, groupWaiting}
+use Rattle.walks.specs.Walks.{Ends}
+use Rattle.machine.specs.Groups.{slotWord, firstAt, countAt, unmarked, newGroup, groupWaiting}
 
--- the component whose number stands above so many bits, unit, of the word at a place, with n behind it
+-- the component whose number stands above so many bits, unit, of the word at a place, with n behind it, on no loop's way
 unfoldable pub addOne : List ℕ → ℕ → ℕ → ℕ → ℕ → Act (Unit {0})
 addOne g unit place n p = do
   k ← load componentsMade
   spend entriesUsed (entriesGranted g) 1 77 p
   w ← load place
   store (componentPlace g (k % entriesGranted g)) (slotWord (w / unit) n)
+  unmarked g (k % entriesGranted g)
   store componentsMade (k % entriesGranted g + 1)
 
 unfoldable pub grouping : List ℕ → ℕ → ℕ → ℕ → ℕ → ℕ → Act Value

@@ -11,7 +11,7 @@ ghost use mathlib.Core.Path.{_≡_};
 ghost use lib.ListN.{length};
 ghost use Rattle.machine.specs.Layout.{Room};
 ghost use Rattle.machine.specs.Act.{Answers, Passes};
-ghost use Rattle.machine.specs.Groups.{slotWord, fillFrom, groupLaid, copyShape};
+ghost use Rattle.machine.specs.Groups.{slotWord, zeroed, fillFrom, groupLaid, copyShape};
 ghost use Rattle.groups.specs.Making.{Adds, Makes, grouping, copyGroup, Units, Sources};
 
 // A number below, and how many.
@@ -19,6 +19,18 @@ fn slot_word(c: u64, n: u64) -> u64
     ensures { λ r. ⌜ r ≡ slotWord c n ⌝ }
 {
     c % 4294967296 + 4294967296 * (n % 4294967296)
+}
+
+// Zeros in n words from a place on.
+fn clear_from(words: &mut [u64], at: usize, n: usize)
+    requires { ⌜ at + n ≤ length (now words) ⌝ }
+    ensures { λ _. ⌜ now (words .exit) ≡ zeroed (now (words .entry)) at n ⌝ }
+{
+    let mut i = 0;
+    while i < n {
+        words[at + i] = 0;
+        i += 1;
+    }
 }
 
 // One more component, whose number stands above so many bits, unit, of the word at a place, with n behind it; not if no entry is left.
@@ -35,6 +47,8 @@ fn add_one(words: &mut [u64], grants: &[u64; 5], unit: u64, place: usize, n: u64
     let w = words::word_at(words, place);
     let at = components::place_of(grants, k as u32);
     words[at] = slot_word(w / unit, n);
+    let calls = grants[granted::CALLS] as usize;
+    clear_from(words, components::marks_of(grants, k as u32), calls);
     words[counters::COMPONENTS_MADE] = k + 1;
     true
 }

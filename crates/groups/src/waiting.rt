@@ -1,7 +1,7 @@
 // New shapes that wait for their group while a group is made anew: its components first, then the group.
 use crate::making;
-use crate::walks;
 use machine::counters;
+use machine::layout;
 use stores::shapes;
 use stores::words;
 ghost use Prim.Native.Nat.{_≤_};
@@ -9,7 +9,7 @@ ghost use lib.ListN.{length};
 ghost use Rattle.machine.specs.Layout.{fixedWords, Room};
 ghost use Rattle.machine.specs.Act.{Gives};
 ghost use Rattle.machine.specs.Groups.{await, remakeLeft};
-ghost use Rattle.groups.specs.Walks.{Ends};
+ghost use Rattle.walks.specs.Walks.{Ends};
 ghost use Rattle.groups.specs.Making.{gathering};
 
 // A new shape waits.
@@ -29,7 +29,7 @@ pub fn gather(words: &mut [u64], grants: &[u64; 5], m: u32) -> u64
 {
     let n = arithmetic::lowered_word(words[counters::WAITING], m as u64);
     let at = shapes::place_of(m) + 4;
-    let r = making::make_group(words, grants, 5, 1, at, n);
+    let r = making::make_group(words, grants, layout::SHAPE_WORDS, 1, at, n);
     if r != 0 {
         return r;
     }

@@ -1,4 +1,4 @@
--- An expression that is worked out at once gives what evaluating it gives.
+-- An expression that is worked out at once gives what evaluating it gives, and so does an argument.
 use Prim.Native.Nat.{ℕ, zero, suc, _+_, _-_, _*_, _/_, _%_, _^_, _≤_, _<_}
 use mathlib.Core.Path.{_≡_, refl, ap, sym, _∙_}
 use mathlib.Core.Bool.{Bool, true, false, not, _&&_}
@@ -14,21 +14,22 @@ use borrow.Author.Tests.{eqb-true, eqb-false, ltb-true, ltb-false, leb-true, le-
 use Rattle.meaning.specs.Basics.{if_then_else_}
 use Rattle.meaning.specs.Integer.{sum, difference, product, quotient, remainder, shiftedLeft, shiftedRight, isZero, sameInteger}
 use Rattle.arithmetic.proofs.Ranges.{bits-signed, signed-small, sum-small, difference-small, product-small, quotient-small, remainder-small, shifted-left-small, shifted-right-small}
-use Rattle.machine.specs.Opcodes.{tagIn, sizeIn, numberIn, tagNumber, tagName, tagTable, tagEntry, tagCall, firstOperator, headNumber, headName, tagAdd, tagSubtract, tagMultiply, tagDivide, tagRemainder, tagShiftRight, tagShiftLeft, tagEqual, tagUnequal, tagGreater, tagLess}
+use Rattle.machine.specs.Opcodes.{tagIn, sizeIn, sizeAt, numberIn, tagNumber, tagString, tagName, tagTable, tagEntry, tagCall, firstOperator, headNumber, headString, headName, tagAdd, tagSubtract, tagMultiply, tagDivide, tagRemainder, tagShiftRight, tagShiftLeft, tagEqual, tagUnequal, tagGreater, tagLess}
 use Rattle.machine.specs.declared.Value.{Value}
-use Rattle.machine.specs.declared.Value.the-variants.{Integer, Boolean}
+use Rattle.machine.specs.declared.Value.the-variants.{Integer, Text, Boolean, Shape}
 use Rattle.machine.specs.declared.Answer.{Answer}
 use Rattle.machine.specs.declared.Answer.the-variants.{Good, Bad}
 use Rattle.machine.specs.Words.{kindIn, packed, unpacked}
 use Rattle.machine.specs.Words as Words
-use Rattle.values.proofs.Laws.{InRange, unpacked-packed, unpacked-integer, unpacked-truth}
-use Rattle.machine.specs.Layout.{fixedWords, valuePlace, Lent, stepsUsed, stepsGranted}
+use Rattle.values.proofs.Laws.{InRange, unpacked-packed, unpacked-integer, unpacked-truth, unpacked-shape}
+use Rattle.machine.specs.Layout.{fixedWords, valuePlace, shapePlace, Lent, stepsUsed, stepsGranted}
 use Rattle.machine.specs.Act.{Raw, raw, Out, done, goOn, _>>=_, give, refuse, spend, shown, Answers}
+use Rattle.machine.specs.Shapes.{destroyedAt}
 use Rattle.machine.specs.Variables.{isDead, usable}
-use Rattle.stores.proofs.Laws.{not-dead, found}
+use Rattle.stores.proofs.Laws.{not-dead, dead-shape, found}
 use Rattle.machine.specs.Operate.{withInteger, calculated, compared, remaindered, equality, answered, equated, operateOn, operate}
-use Rattle.operators.proofs.Held.{by-number}
-use Rattle.fastpath.specs.Fast.{plainWord, leafWord, operatorWord, wordOn, sizesAgree, operationWord, fastAt, applies, Values}
+use Rattle.values.proofs.Held.{by-number}
+use Rattle.fastpath.specs.Fast.{plainWord, leafWord, operatorWord, wordOn, sizesAgree, operationWord, fastAt, livingWord, otherWord, argumentAt, applies, Values}
 use Rattle.machine.specs.Evaluate.{Evaluator, Invoke, Setting, setting, argumentOf, secondOf, firstOf, operandsAt, expressionBy}
 use Rattle.machine.specs.Interpret.{expressionAt, invokeAt, bodyAt}
 use Rattle.machine.specs.Primaries.{leaf, applied, pushWord}
@@ -258,17 +259,18 @@ module _ (program code g ts rest : List ℕ) (u p : ℕ) where
         gives = λ inner invoke x n. rw (t, unpacked-integer v k, m);
       }
 
-  name-leaf : (w v k : ℕ) → w % 2 ^ 32 ≡ headName → k ≡ getD (u ∷ rest) (valuePlace (numberIn w)) 0 → (k ≡ 0 → ⊥) → (kindIn k ≡ 6 → ⊥) → unpacked v ≡ unpacked k → Plain v → Leaf w v
-  unfolding expressionBy leaf if_then_else_ shown
-  name-leaf w v k h f z n q c =
-      let t : tagIn w ≡ tagName = tag-below w tagName (omega arith) h in
-      record {
-        size = one-word w tagName (omega arith) h;
-        plain = c;
-        gives = λ inner invoke x m.
-            let d : getD (m ∷ rest) (valuePlace (numberIn w)) 0 ≡ k = elsewhere rest m u (numberIn w % 8192) ∙ sym f in
-            rw t (sym (found (m ∷ rest) p (numberIn w) false (unpacked v) (rw d z) (rw d (not-dead (m ∷ rest) k n)) refl (rw d q) .equal ts));
-      }
+  -- a variable that is declared and holds no destroyed shape
+  module _ (w v k : ℕ) (h : w % 2 ^ 32 ≡ headName) (f : k ≡ getD (u ∷ rest) (valuePlace (numberIn w)) 0) (z : k ≡ 0 → ⊥) (q : unpacked v ≡ unpacked k) where
+    name-gives : ((m : ℕ) → false ≡ isDead (m ∷ rest) (unpacked k)) → (inner : Evaluator) (invoke : Invoke) (x n : ℕ)
+        → expressionBy inner invoke e w x p (raw ts (n ∷ rest)) ≡ done (unpacked v) (raw ts (n ∷ rest))
+    unfolding expressionBy leaf if_then_else_ shown
+    name-gives dead inner invoke x m =
+        let t : tagIn w ≡ tagName = tag-below w tagName (omega arith) h in
+        let d : getD (m ∷ rest) (valuePlace (numberIn w)) 0 ≡ k = elsewhere rest m u (numberIn w % 8192) ∙ sym f in
+        rw t (sym (found (m ∷ rest) p (numberIn w) false (unpacked v) (rw d z) (rw d (dead m)) refl (rw d q) .equal ts))
+
+    name-leaf : (kindIn k ≡ 6 → ⊥) → Plain v → Leaf w v
+    name-leaf n c = record { size = one-word w tagName (omega arith) h; plain = c; gives = name-gives (λ m. not-dead (m ∷ rest) k n) }
 
   plain-leaf : (w v k : ℕ) → w % 2 ^ 32 ≡ headName → k ≡ getD (u ∷ rest) (valuePlace (numberIn w)) 0 → plainWord k ≡ v → (v ≡ 0 → ⊥) → Leaf w v
   unfolding plainWord if_then_else_
@@ -278,11 +280,11 @@ module _ (program code g ts rest : List ℕ) (u p : ℕ) where
       go true j q s m =
           let a : kindIn k ≡ 1 = eqb-true _ _ q in
           let b : kindIn v ≡ 1 = cut-kind k v m a in
-          name-leaf w v k h f (λ z. omega arith) (λ z. omega arith) (rw (unpacked-integer v b, unpacked-integer k a, cut-number k v m a)) (back-integer v b (cut-small k v m a))
+          name-leaf w v k h f (λ z. omega arith) (rw (unpacked-integer v b, unpacked-integer k a, cut-number k v m a)) (λ z. omega arith) (back-integer v b (cut-small k v m a))
       go false true q s m =
           let a : kindIn k ≡ 3 = eqb-true _ _ s in
           let b : v ≡ packed (Boolean (eqb (k / 8 % 2) 1)) = sym m ∙ truth-word k (eqb (k / 8 % 2) 1) refl a in
-          name-leaf w v k h f (λ z. omega arith) (λ z. omega arith) (rw (b, unpacked-truth k a) (truth-back _)) (rw b (truth-plain _))
+          name-leaf w v k h f (λ z. omega arith) (rw (b, unpacked-truth k a) (truth-back _)) (λ z. omega arith) (rw b (truth-plain _))
       go false false q s m = absurd (n (sym m))
 
   leaf-found : (w v : ℕ) → leafWord (u ∷ rest) w ≡ v → (v ≡ 0 → ⊥) → Leaf w v
@@ -359,21 +361,84 @@ module _ (program code g ts rest : List ℕ) (u p : ℕ) where
       go inner false true q s f = operation fuel x v n inner (getD code x 0) (x - 1) (x - 1 - numberIn (getD code x 0)) refl refl refl _ _ refl refl (ltb-false _ _ q) (eqb-true _ _ s) f
       go inner false false q s f = absurd (n (sym f))
 
--- ---- as the code has it
-record Applied (fuel : ℕ) (code g ws : List ℕ) (x v : ℕ) (ws₁ : List ℕ) : Type 0 where
-  pub fast : fastAt fuel code ws x ≡ v
-  pub within : getD ws stepsUsed 0 + sizeIn (getD code x 0) ≤ stepsGranted g
-  pub words : ws₁ ≡ set ws stepsUsed (getD ws stepsUsed 0 + sizeIn (getD code x 0))
+  -- ---- arguments
+  -- a string, or a variable that holds a shape which is not destroyed
+  record Other (w v : ℕ) : Type 0 where
+    pub size : sizeIn w ≡ 1
+    pub back : packed (unpacked v) ≡ v
+    pub gives : (inner : Evaluator) (invoke : Invoke) (x n : ℕ) → expressionBy inner invoke e w x p (raw ts (n ∷ rest)) ≡ done (unpacked v) (raw ts (n ∷ rest))
 
-module _ (fuel : ℕ) (code g ws : List ℕ) (x v : ℕ) (ws₁ : List ℕ) (h : Values fuel code g ws x v ws₁) where
-  as-applied : (v ≡ 0 → ⊥) → Applied fuel code g ws x v ws₁
-  unfolding applies if_then_else_
-  as-applied n = go (eqb (fastAt fuel code ws x) 0) (leb (getD ws stepsUsed 0 + sizeIn (getD code x 0)) (stepsGranted g)) refl (h .result) (h .words)
+  string-leaf : (w v : ℕ) → w % 2 ^ 32 ≡ headString → numberIn w < 2 ^ 32 → packed (Text (2 * numberIn w)) ≡ v → Other w v
+  unfolding expressionBy leaf if_then_else_ give InRange
+  string-leaf w v h l f =
+      let t : tagIn w ≡ tagString = tag-below w tagString (omega arith) h in
+      let b : unpacked v ≡ Text (2 * numberIn w) = rw (← f) (unpacked-packed (Text (2 * numberIn w)) (omega arith)) in
+      record { size = one-word w tagString (omega arith) h; back = rw b f; gives = λ inner invoke x n. rw (t, b) }
+
+  shape-leaf : (w v k : ℕ) → w % 2 ^ 32 ≡ headName → k ≡ getD (u ∷ rest) (valuePlace (numberIn w)) 0 → livingWord (u ∷ rest) k ≡ v → (v ≡ 0 → ⊥) → Other w v
+  unfolding livingWord if_then_else_ InRange
+  shape-leaf w v k h f r n = go (eqb (kindIn k) 6) (destroyedAt (u ∷ rest) (Words.numberIn k)) refl refl r
     where
-      go : (i j : Bool) → leb (getD ws stepsUsed 0 + sizeIn (getD code x 0)) (stepsGranted g) ≡ j
-          → v ≡ (if not i && j then (λ _. fastAt fuel code ws x) else λ _. 0)
-          → ws₁ ≡ (if not i && j then (λ _. set ws stepsUsed (getD ws stepsUsed 0 + sizeIn (getD code x 0))) else λ _. ws)
-          → Applied fuel code g ws x v ws₁
+      go : (i j : Bool) → eqb (kindIn k) 6 ≡ i → destroyedAt (u ∷ rest) (Words.numberIn k) ≡ j → (if i && not j then (λ _. packed (Shape (Words.numberIn k))) else λ _. 0) ≡ v → Other w v
+      go false j q s m = absurd (n (sym m))
+      go true true q s m = absurd (n (sym m))
+      go true false q s m =
+          let a : kindIn k ≡ 6 = eqb-true _ _ q in
+          let b : unpacked v ≡ Shape (Words.numberIn k) = rw (← m) (unpacked-packed (Shape (Words.numberIn k)) (omega arith)) in
+          let place : shapePlace (Words.numberIn k) ≡ 80 + (278528 + 5 * Words.numberIn k) = omega arith in
+          let alike : (o : ℕ) → destroyedAt (o ∷ rest) (Words.numberIn k) ≡ false = λ o. rw (place, elsewhere rest o u (278528 + 5 * Words.numberIn k), ← place) s in
+          record {
+            size = one-word w tagName (omega arith) h;
+            back = rw b m;
+            gives = name-gives w v k h f (λ z. omega arith) (b ∙ sym (unpacked-shape k a)) (λ o. dead-shape (o ∷ rest) k false (Words.numberIn k) a refl (sym (alike o)));
+          }
+
+  other-found : (w v : ℕ) → otherWord (u ∷ rest) w ≡ v → (v ≡ 0 → ⊥) → Other w v
+  unfolding otherWord if_then_else_
+  other-found w v r n = go (eqb (w % 2 ^ 32) headString) (eqb (w % 2 ^ 32) headName) (ltb (numberIn w) (2 ^ 32)) refl refl refl r
+    where
+      go : (i j k : Bool) → eqb (w % 2 ^ 32) headString ≡ i → eqb (w % 2 ^ 32) headName ≡ j → ltb (numberIn w) (2 ^ 32) ≡ k
+          → (if i then (λ _. if k then (λ _. packed (Text (2 * numberIn w))) else λ _. 0) else λ _. if j then (λ _. livingWord (u ∷ rest) (getD (u ∷ rest) (valuePlace (numberIn w)) 0)) else λ _. 0) ≡ v
+          → Other w v
+      go true j true q s l m = string-leaf w v (eqb-true _ _ q) (ltb-true _ _ l) m
+      go true j false q s l m = absurd (n (sym m))
+      go false true k q s l m = shape-leaf w v _ (eqb-true _ _ s) refl m n
+      go false false k q s l m = absurd (n (sym m))
+
+  record Handed (fuel x v : ℕ) : Type 0 where
+    pub back : packed (unpacked v) ≡ v
+    pub gives : (n : ℕ) → n + sizeIn (getD code x 0) ≤ stepsGranted g
+        → expressionAt fuel e x p (raw ts (n ∷ rest)) ≡ done (unpacked v) (raw ts ((n + sizeIn (getD code x 0)) ∷ rest))
+
+  hands : (fuel x v : ℕ) → argumentAt fuel code (u ∷ rest) x ≡ v → (v ≡ 0 → ⊥) → Handed fuel x v
+  unfolding argumentAt if_then_else_
+  hands zero x v h n = absurd (n (sym h))
+  hands (suc fuel) x v h n = go (eqb (otherWord (u ∷ rest) (getD code x 0)) 0) refl h
+    where
+      go : (i : Bool) → eqb (otherWord (u ∷ rest) (getD code x 0)) 0 ≡ i
+          → (if i then (λ _. fastAt (suc fuel) code (u ∷ rest) x) else λ _. otherWord (u ∷ rest) (getD code x 0)) ≡ v → Handed (suc fuel) x v
+      go true q f = let c = runs (suc fuel) x v f n in record { back = c .plain .back; gives = c .gives }
+      go false q f =
+          let c = other-found (getD code x 0) v f n in
+          let o : sizeIn (getD code x 0) ≡ 1 = c .size in
+          record {
+            back = c .back;
+            gives = λ m d. rw o (counted fuel x m (omega arith) ∙ c .gives (expressionAt fuel e) (invokeAt fuel e) x (m + 1));
+          }
+
+-- ---- as the code has it
+record Applied (word steps : ℕ) (g ws : List ℕ) (v : ℕ) (ws₁ : List ℕ) : Type 0 where
+  pub fast : word ≡ v
+  pub within : getD ws stepsUsed 0 + steps ≤ stepsGranted g
+  pub words : ws₁ ≡ set ws stepsUsed (getD ws stepsUsed 0 + steps)
+
+module _ {word steps : ℕ} (g ws : List ℕ) (v : ℕ) (ws₁ : List ℕ) (h : Values word steps g ws v ws₁) where
+  as-applied : (v ≡ 0 → ⊥) → Applied word steps g ws v ws₁
+  unfolding applies if_then_else_
+  as-applied n = go (eqb word 0) (leb (getD ws stepsUsed 0 + steps) (stepsGranted g)) refl (h .result) (h .words)
+    where
+      go : (i j : Bool) → leb (getD ws stepsUsed 0 + steps) (stepsGranted g) ≡ j → v ≡ (if not i && j then (λ _. word) else λ _. 0)
+          → ws₁ ≡ (if not i && j then (λ _. set ws stepsUsed (getD ws stepsUsed 0 + steps)) else λ _. ws) → Applied word steps g ws v ws₁
       go true j q f d = absurd (n f)
       go false false q f d = absurd (n f)
       go false true q f d = record { fast = sym f; within = leb-true _ _ q; words = d }
@@ -381,12 +446,10 @@ module _ (fuel : ℕ) (code g ws : List ℕ) (x v : ℕ) (ws₁ : List ℕ) (h :
   -- where it does not apply, nothing has changed
   pub unchanged : v ≡ 0 → ws₁ ≡ ws
   unfolding applies if_then_else_
-  unchanged z = go (eqb (fastAt fuel code ws x) 0) (leb (getD ws stepsUsed 0 + sizeIn (getD code x 0)) (stepsGranted g)) refl (h .result) (h .words)
+  unchanged z = go (eqb word 0) (leb (getD ws stepsUsed 0 + steps) (stepsGranted g)) refl (h .result) (h .words)
     where
-      go : (i j : Bool) → eqb (fastAt fuel code ws x) 0 ≡ i
-          → v ≡ (if not i && j then (λ _. fastAt fuel code ws x) else λ _. 0)
-          → ws₁ ≡ (if not i && j then (λ _. set ws stepsUsed (getD ws stepsUsed 0 + sizeIn (getD code x 0))) else λ _. ws)
-          → ws₁ ≡ ws
+      go : (i j : Bool) → eqb word 0 ≡ i → v ≡ (if not i && j then (λ _. word) else λ _. 0)
+          → ws₁ ≡ (if not i && j then (λ _. set ws stepsUsed (getD ws stepsUsed 0 + steps)) else λ _. ws) → ws₁ ≡ ws
       go true j q f d = d
       go false false q f d = d
       go false true q f d = absurd (eqb-false _ _ q (sym f ∙ z))
@@ -400,35 +463,42 @@ fast-plain : (code ws : List ℕ) (fuel x v : ℕ) → 0 < length ws → fastAt 
 fast-plain code [] fuel x v l h n = absurd (omega arith)
 fast-plain code (u ∷ rest) fuel x v l h n = runs [] code [] [] rest u 0 fuel x v h n .plain
 
-module _ (fuel : ℕ) (code g ws : List ℕ) (x v : ℕ) (ws₁ : List ℕ) (h : Values fuel code g ws x v ws₁) (l : fixedWords ≤ length ws) (n : v ≡ 0 → ⊥) where
+-- an expression by fast_value
+abbrev pub Fast : ℕ → List ℕ → List ℕ → List ℕ → ℕ → ℕ → List ℕ → Type 0
+Fast fuel code g ws x v ws₁ = Values (fastAt fuel code ws x) (sizeAt code x) g ws v ws₁
+
+module _ (fuel : ℕ) (code g ws : List ℕ) (x v : ℕ) (ws₁ : List ℕ) (h : Fast fuel code g ws x v ws₁) (l : fixedWords ≤ length ws) (n : v ≡ 0 → ⊥) where
   pub plain : Plain v
-  plain = fast-plain code ws fuel x v (omega arith) (as-applied fuel code g ws x v ws₁ h n .fast) n
+  plain = fast-plain code ws fuel x v (omega arith) (as-applied g ws v ws₁ h n .fast) n
 
   -- the evaluator gives the word's value, and leaves the words so
   pub evaluates : (program ts : List ℕ) (p : ℕ) → shown (Good (unpacked v)) ts ws₁ ≡ expressionAt fuel (setting program code g) x p (raw ts ws)
   unfolding shown
   evaluates program ts p =
-      let q = as-applied fuel code g ws x v ws₁ h n in
+      let q = as-applied g ws v ws₁ h n in
       sym (rw (q .words) (fast-found program code g ts ws p fuel x v (omega arith) (q .fast) n (q .within)))
 
--- ---- an argument
-module _ (program code g : List ℕ) (fuel p : ℕ) (ts ws : List ℕ) (y w : ℕ) (ws₁ : List ℕ) (h : Values fuel code g ws y w ws₁) where
+-- an argument by argument_value
+argument-found : (program code g ts ws : List ℕ) (p fuel x v : ℕ) → 0 < length ws → argumentAt fuel code ws x ≡ v → (v ≡ 0 → ⊥) → getD ws stepsUsed 0 + sizeIn (getD code x 0) ≤ stepsGranted g
+    → expressionAt fuel (setting program code g) x p (raw ts ws) ≡ done (unpacked v) (raw ts (set ws stepsUsed (getD ws stepsUsed 0 + sizeIn (getD code x 0))))
+argument-found program code g ts [] p fuel x v l h n d = absurd (omega arith)
+argument-found program code g ts (u ∷ rest) p fuel x v l h n d = hands program code g ts rest u p fuel x v h n .gives u d
+
+argument-back : (code ws : List ℕ) (fuel x v : ℕ) → 0 < length ws → argumentAt fuel code ws x ≡ v → (v ≡ 0 → ⊥) → packed (unpacked v) ≡ v
+argument-back code [] fuel x v l h n = absurd (omega arith)
+argument-back code (u ∷ rest) fuel x v l h n = hands [] code [] [] rest u 0 fuel x v h n .back
+
+module _ (program code g : List ℕ) (fuel p : ℕ) (ts ws : List ℕ) (y w : ℕ) (ws₁ : List ℕ) (h : Values (argumentAt fuel code ws y) (sizeAt code y) g ws w ws₁) where
   pub push-fast : (r : Answer) (ws₂ : List ℕ) → Lent g ts ws → (w ≡ 0 → ⊥) → Answers ws₁ (pushWord w p) r ws₂
       → shown r ts ws₂ ≡ argumentOf (expressionAt fuel (setting program code g)) y p (raw ts ws)
+  unfolding shown
   push-fast r ws₂ v n q =
-      let l : fixedWords ≤ length ws = omega (arith, v .room .words) in
+      let some : 0 < length ws = omega (arith, v .room .words) in
+      let a = as-applied g ws w ws₁ h n in
       laws.push-goes (expressionAt fuel (setting program code g)) p ts ws (Good (unpacked w)) ts ws₁ y w (unpacked w) r ws₂
-      (evaluates fuel code g ws y w ws₁ h l n program ts p) refl (sym (plain fuel code g ws y w ws₁ h l n .back)) q
+      (sym (rw (a .words) (argument-found program code g ts ws p fuel y w some (a .fast) n (a .within)))) refl (sym (argument-back code ws fuel y w some (a .fast) n)) q
 
   -- where it does not apply, the argument is evaluated
-  module _ (z : w ≡ 0) where
-    same : ws₁ ≡ ws
-    same = unchanged fuel code g ws y w ws₁ h z
-
-    module _ (a : Answer) (ts₂ ws₂ : List ℕ) (c : shown a ts₂ ws₂ ≡ expressionAt fuel (setting program code g) y p (raw ts ws₁)) where
-      pub slow-stops : (n q : ℕ) → a ≡ Bad n q → shown (Bad n q) ts₂ ws₂ ≡ argumentOf (expressionAt fuel (setting program code g)) y p (raw ts ws)
-      slow-stops n q f = laws.push-stops (expressionAt fuel (setting program code g)) p ts ws a ts₂ ws₂ y n q (rw same at c) f
-
-      pub slow-goes : (k : ℕ) (v : Value) (r : Answer) (ws₃ : List ℕ) → a ≡ Good v → k ≡ packed v → Answers ws₂ (pushWord k p) r ws₃
-          → shown r ts₂ ws₃ ≡ argumentOf (expressionAt fuel (setting program code g)) y p (raw ts ws)
-      slow-goes k v r ws₃ f e q = laws.push-goes (expressionAt fuel (setting program code g)) p ts ws a ts₂ ws₂ y k v r ws₃ (rw same at c) f e q
+  pub push-slow : (o : Out Value) → w ≡ 0 → o ≡ argumentOf (expressionAt fuel (setting program code g)) y p (raw ts ws₁)
+      → o ≡ argumentOf (expressionAt fuel (setting program code g)) y p (raw ts ws)
+  push-slow o z c = rw (unchanged g ws w ws₁ h z) at c

@@ -24,6 +24,7 @@ use Rattle.machine.specs.Act.{Raw, raw, Out, stop, Act, goOn, _>>=_, give, fail
 use Rattle.machine.specs.Tables.{storeEntry}
 use Rattle.tables.specs.Asked.{Stores}
 use Rattle.machine.specs.Operate.{withTable}
+use Rattle.fastpath.specs.Fast.{Values}
 use Rattle.machine.specs.Evaluate.{Evaluator, Setting, setting}
 use Rattle.machine.specs.declared.Flow.{Flow}
 use Rattle.machine.specs.declared.Flow.the-variants.{Onward, Returned, Stopped}
@@ -32,12 +33,11 @@ use Rattle.machine.specs.declared.Outcome.the-variants as outcome
 use Rattle.machine.specs.Effects.{shownFlow, shownTest, Flows, declaring, finishing, outcomeIn, saying}
 use Rattle.machine.specs.Execute.{Executor, simpleAt, updateValue, updateIn, updateAt, testOf, continue, whenAt, turning, looping, repeatAt, foreachAt, statementsFrom, countedAt, statementBy}
 use Rattle.machine.specs.Interpret.{expressionAt, statementAt, bodyAt, invokeAt}
-use Rattle.fastpath.specs.Fast.{Values}
 use Rattle.stores.proofs.Acts.{after-pass, after-refusal}
 use Rattle.primaries.proofs.Acts.{goes-on, stops}
 use Rattle.effects.proofs.Acts.{flow-on, flow-returns, flow-stops, test-holds, test-fails, test-stops}
 use Rattle.interpreter.proofs.ExpressionLaws as laws
-use Rattle.interpreter.proofs.Fast.{plain, evaluates, unchanged}
+use Rattle.interpreter.proofs.Fast.{Fast, plain, evaluates, unchanged}
 use Rattle.effects.proofs.Laws.{is-return}
 use Rattle.interpreter.specs.Asked.{Lent, Runs, Leaves, Body}
 use Rattle.interpreter.specs.Ended.{given, answerOf, Ended}
@@ -53,8 +53,8 @@ module _ (g ts ws ts₁ ws₁ : List ℕ) (i : length ts₁ ≡ length ts) (j : 
 pub still-room : (g ts ws ws₁ : List ℕ) (fuel : ℕ) → Lent g ts ws fuel → length ws₁ ≡ length ws → Room g ws₁
 still-room g ts ws ws₁ fuel l j = laws.still-lent g ts ws ts ws₁ (l .lent) refl j .room
 
-pub slow-lent : (code g ts ws : List ℕ) (fuel y k : ℕ) (ws₁ : List ℕ) → Values fuel code g ws y k ws₁ → k ≡ 0 → Lent g ts ws fuel → Lent g ts ws₁ fuel
-slow-lent code g ts ws fuel y k ws₁ h z l = rw (unchanged fuel code g ws y k ws₁ h z) l
+pub slow-lent : {word steps : ℕ} (g ts ws : List ℕ) (fuel k : ℕ) (ws₁ : List ℕ) → Values word steps g ws k ws₁ → k ≡ 0 → Lent g ts ws fuel → Lent g ts ws₁ fuel
+slow-lent g ts ws fuel k ws₁ h z l = rw (unchanged g ws k ws₁ h z) l
 
 -- one level deeper
 pub deeper-lent : (g ts ws : List ℕ) (fuel : ℕ) → Lent g ts ws fuel → Lent g ts ws (fuel - 1)
@@ -64,7 +64,7 @@ deeper-lent g ts ws fuel l = record { lent = l .lent; deep = omega (arith, l .de
 abbrev lentAnew : List ℕ → List ℕ
 lentAnew s = take (length s - 0) (drop 0 s)
 
-pub worked-anew : (fuel : ℕ) (code g ws : List ℕ) (y k : ℕ) (ws₁ : List ℕ) → Values fuel (lentAnew code) g ws y k ws₁ → Values fuel code g ws y k ws₁
+pub worked-anew : (fuel : ℕ) (code g ws : List ℕ) (y k : ℕ) (ws₁ : List ℕ) → Fast fuel (lentAnew code) g ws y k ws₁ → Fast fuel code g ws y k ws₁
 worked-anew fuel code g ws y k ws₁ h = rw (part-to-end code 0) at h
 
 pub evaluated-anew : (program code g : List ℕ) (fuel y p : ℕ) (r : Raw) (o : Out Value)
@@ -72,10 +72,10 @@ pub evaluated-anew : (program code g : List ℕ) (fuel y p : ℕ) (r : Raw) (o :
 evaluated-anew program code g fuel y p r o h = rw (part-to-end code 0) at h
 
 -- ---- worked out at once
-pub no-shape : (code g ts ws : List ℕ) (fuel y k : ℕ) (ws₁ : List ℕ) → Values fuel code g ws y k ws₁ → Lent g ts ws fuel → (k ≡ 0 → ⊥) → kindIn k ≡ kindShape → ⊥
+pub no-shape : (code g ts ws : List ℕ) (fuel y k : ℕ) (ws₁ : List ℕ) → Fast fuel code g ws y k ws₁ → Lent g ts ws fuel → (k ≡ 0 → ⊥) → kindIn k ≡ kindShape → ⊥
 no-shape code g ts ws fuel y k ws₁ h l n = plain fuel code g ws y k ws₁ h (omega (arith, l .lent .room .words)) n .no-shape
 
-module _ (program code g : List ℕ) (p : ℕ) (ts ws : List ℕ) (fuel y k : ℕ) (ws₁ : List ℕ) (h : Values fuel code g ws y k ws₁) where
+module _ (program code g : List ℕ) (p : ℕ) (ts ws : List ℕ) (fuel y k : ℕ) (ws₁ : List ℕ) (h : Fast fuel code g ws y k ws₁) where
   module _ (l : Lent g ts ws fuel) (n : k ≡ 0 → ⊥) where
     long : fixedWords ≤ length ws
     long = omega (arith, l .lent .room .words)
@@ -93,10 +93,10 @@ module _ (program code g : List ℕ) (p : ℕ) (ts ws : List ℕ) (fuel y k : �
     test-fast t q = sym (at-once _ ∙ rw (plain fuel code g ws y k ws₁ h long n .back, q))
 
 -- ---- a statement of one expression, and a test, where that does not apply
-module _ (program code g : List ℕ) (p : ℕ) (ts ws : List ℕ) (fuel y i : ℕ) (ws₀ : List ℕ) (c : Values fuel code g ws y i ws₀) (z : i ≡ 0) (a : Answer) (ts₁ ws₁ : List ℕ)
+module _ (program code g : List ℕ) (p : ℕ) (ts ws : List ℕ) (fuel y i : ℕ) (ws₀ : List ℕ) (c : Fast fuel code g ws y i ws₀) (z : i ≡ 0) (a : Answer) (ts₁ ws₁ : List ℕ)
     (h : shown a ts₁ ws₁ ≡ expressionAt fuel (setting program code g) y p (raw ts ws₀)) where
   there : shown a ts₁ ws₁ ≡ expressionAt fuel (setting program code g) y p (raw ts ws)
-  there = rw (unchanged fuel code g ws y i ws₀ c z) at h
+  there = rw (unchanged g ws i ws₀ c z) at h
 
   pub simple-done : (w x k : ℕ) (v : Value) (r s : Flow) (ws₂ : List ℕ) → y ≡ x + sizeIn w - 1 → a ≡ Good v → k ≡ packed v → Flows ws₁ (finishing g w k p) r ws₂ → r ≡ s
       → shownFlow s ts₁ ws₂ ≡ simpleAt (expressionAt fuel (setting program code g)) (setting program code g) w x p (raw ts ws)
@@ -245,7 +245,7 @@ module _ (program code g : List ℕ) (x : ℕ) (ts ws : List ℕ) (fuel w : ℕ)
     unfolding given
     leave-no-step t = statement-no-step program code g x ts ws fuel n w (s .word) p j (tagIn w) refl (no-other tagWhile (λ e. omega (arith, e))) ok ws₁ c t
 
-    module _ (t : not ok ≡ false) (y k : ℕ) (e : y ≡ x + sizeIn w - 1) (ws₂ : List ℕ) (h : Values (fuel - 1) code g ws₁ y k ws₂) where
+    module _ (t : not ok ≡ false) (y k : ℕ) (e : y ≡ x + sizeIn w - 1) (ws₂ : List ℕ) (h : Fast (fuel - 1) code g ws₁ y k ws₂) where
       simply : (o : Out Flow) → o ≡ simpleAt (expressionAt (fuel - 1) (setting program code g)) (setting program code g) w x p (raw ts ws₁) → o ≡ statementAt fuel (setting program code g) x (raw ts ws)
       simply o q = is-simple program code g x ts ws fuel n w (s .word) p j (tagIn w) refl (no-other tagWhile (λ e. omega (arith, e))) ok ws₁ c t o (no-other tagDeclare (λ e. omega (arith, e)))
           (no-other tagUpdate (λ e. omega (arith, e))) (no-other tagWhen (λ e. omega (arith, e))) (no-other tagForeach (λ e. omega (arith, e))) (no-other tagBlock (λ e. omega (arith, e))) q

@@ -18,9 +18,6 @@ ghost use Rattle.interpreter.specs.Asked.{Lent, Calls, Runs, Leaves, Bod
 ghost use Rattle.interpreter.specs.Ended.{given, Ended};
 ghost use Rattle.interpreter.specs.Members.{memberAt, insideAt};
 
-// What a call's word says of a name that is neither the library's nor main.
-const OTHER: u64 = 11;
-
 // ---- expressions
 // An expression by its root x, in the statement at p. An answer that is handed on is made anew, here and in `simple`: a copy would be read in other
 // pieces than it was written in, and the processor would wait.
@@ -154,8 +151,8 @@ fn call(
         y = code::argument_root(stores::words::word_at(code, y + 1), y + 1, x);
     }
     let number = code::library_of(w);
-    if number == OTHER {
-        let r = invoke(
+    let r = if number == machine::procedures::OTHER {
+        invoke(
             program,
             code,
             grants,
@@ -165,10 +162,10 @@ fn call(
             code::callee_of(w),
             p,
             base as usize,
-        );
-        return r;
-    }
-    let r = primaries::called(words, grants, number, p, base);
+        )
+    } else {
+        primaries::called(words, grants, number, p, base)
+    };
     r
 }
 
@@ -187,11 +184,30 @@ fn argument(
     ensures { λ r. ⌜ shown r (now (texts .exit)) (now (words .exit))
         ≡ argumentOf (expressionAt fuel (setting (now (program .entry)) (now (code .entry)) (now (grants .entry)))) y p (raw (now (texts .entry)) (now (words .entry))) ⌝ }
 {
-    let w = fastpath::fast_value(words, code, grants, fuel, y);
+    let w = fastpath::argument_value(words, code, grants, fuel, y);
     if w != 0 {
         let r = primaries::push_word(words, w, p);
         return r;
     }
+    let r = pushed(program, code, grants, texts, words, fuel, y, p);
+    r
+}
+
+// The same of one that is evaluated as any expression. It is a function of its own so that what its call takes of the stack is free again before the next.
+fn pushed(
+    program: &[u8],
+    code: &[u64],
+    grants: &[u64; 5],
+    texts: &mut [u8],
+    words: &mut [u64],
+    fuel: usize,
+    y: usize,
+    p: u64,
+) -> Answer
+    requires { ⌜ Lent (now grants) (now texts) (now words) fuel ⌝ }
+    ensures { λ r. ⌜ shown r (now (texts .exit)) (now (words .exit))
+        ≡ argumentOf (expressionAt fuel (setting (now (program .entry)) (now (code .entry)) (now (grants .entry)))) y p (raw (now (texts .entry)) (now (words .entry))) ⌝ }
+{
     match expression(program, code, grants, texts, words, fuel, y, p) {
         Answer::Good(v) => {
             let r = primaries::push_word(words, values::pack(v), p);
@@ -745,7 +761,7 @@ fn inside(
     ensures { λ r. ⌜ shownFlow r (now (texts .exit)) (now (words .exit))
         ≡ insideAt (statementAt fuel (setting (now (program .entry)) (now (code .entry)) (now (grants .entry))) b) (now (grants .entry)) p slot end c (raw (now (texts .entry)) (now (words .entry))) ⌝ }
 {
-    let mut found = groups::looking::look_in(words, grants, c);
+    let mut found = loops::looking::look_in(words, grants, c);
     let mut turns = grants[granted::STEPS] + 1;
     while 0 < turns {
         turns -= 1;
@@ -756,12 +772,12 @@ fn inside(
         match bound(program, code, grants, texts, words, fuel, slot, b, i) {
             Flow::Onward => {}
             Flow::Returned(v) => {
-                groups::marks::unmark_below(words, grants, end);
+                loops::marks::unmark_below(words, grants, end);
                 return Flow::Returned(v);
             }
             Flow::Stopped(n, q) => return Flow::Stopped(n, q),
         }
-        found = groups::looking::look_behind(words, grants, end, found - 1);
+        found = loops::looking::look_behind(words, grants, end, found - 1);
     }
     Flow::Stopped(79, p)
 }

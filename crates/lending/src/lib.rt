@@ -1,4 +1,6 @@
 // What is lent and granted for a run.
+use machine::granted;
+use machine::layout;
 ghost use mathlib.Core.Path.{_≡_};
 ghost use mathlib.Core.Bool.{true};
 ghost use lib.ListN.{length, replicate};
@@ -6,26 +8,28 @@ ghost use Rattle.meaning.specs.Call.{inRange};
 ghost use Rattle.machine.specs.Layout.{wordsNeeded};
 ghost use Rattle.lending.specs.Lending.{grantsOf, enoughToRead, enough};
 
+const FIXED_WORDS: u64 = layout::FIXED_WORDS as u64;
+
 // Whether each count is in its range.
 pub fn in_range(grants: &[u64; 5]) -> bool
     ensures { λ r. ⌜ r ≡ inRange (grantsOf (now (grants .entry))) ⌝ }
 {
-    if 4294967295 < grants[0] {
+    if 4294967295 < grants[granted::STEPS] {
         return false;
     }
-    if 65535 < grants[1] {
+    if 65535 < grants[granted::SHAPES] {
         return false;
     }
-    if 65535 < grants[2] {
+    if 65535 < grants[granted::ENTRIES] {
         return false;
     }
-    if 65535 < grants[3] {
+    if 65535 < grants[granted::TEXT] {
         return false;
     }
-    if grants[4] < 1 {
+    if grants[granted::CALLS] < 1 {
         return false;
     }
-    grants[4] <= 64
+    grants[granted::CALLS] <= 64
 }
 
 // Whether the counts are in their ranges, and slices of these lengths long enough for a program to be read.
@@ -46,7 +50,9 @@ fn words_needed(grants: &[u64; 5]) -> u64
     requires { ⌜ inRange (grantsOf (now grants)) ≡ true ⌝ }
     ensures { λ r. ⌜ r ≡ wordsNeeded (now (grants .entry)) ⌝ }
 {
-    278608 + 5 * grants[1] + (5 + grants[4]) * grants[2]
+    FIXED_WORDS
+        + 5 * grants[granted::SHAPES]
+        + (5 + grants[granted::CALLS]) * grants[granted::ENTRIES]
 }
 
 // Whether the counts are in their ranges, and work slices of these lengths as long as they need to be.
@@ -59,7 +65,7 @@ pub fn is_enough(grants: &[u64; 5], tokens: usize, code: usize, words: usize, te
     if (words as u64) < words_needed(grants) {
         return false;
     }
-    grants[3] <= texts as u64
+    grants[granted::TEXT] <= texts as u64
 }
 
 // Zeros in all four work slices.

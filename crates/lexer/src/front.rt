@@ -61,11 +61,11 @@ fn is_double(b: u8, c: u8) -> bool
     ensures { λ r. ⌜ r ≡ isDouble b c ⌝ }
 {
     match b {
-        33 => c == 61,
-        43 => c == 43,
-        60 => c == 60,
-        61 => c == 61,
-        62 => c == 62,
+        b'!' => c == b'=',
+        b'+' => c == b'+',
+        b'<' => c == b'<',
+        b'=' => c == b'=',
+        b'>' => c == b'>',
         _ => false,
     }
 }
@@ -79,7 +79,7 @@ fn sign_at(b: u8, c: u8, at: usize) -> u64
     if double {
         return word_of(b + 128, at, 2);
     }
-    if b == 33 {
+    if b == b'!' {
         return 0;
     }
     word_of(b, at, 1)

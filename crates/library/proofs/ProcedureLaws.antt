@@ -22,13 +22,13 @@ use Rattle.machine.specs.Stack.{argumentAt}
 use Rattle.machine.specs.Layout.{argumentPlace}
 use Rattle.machine.specs.Shapes.{isGroupAt, figureAt, newShape}
 use Rattle.machine.specs.Groups.{destroyAll}
-use Rattle.groups.specs.Walks.{Ends}
+use Rattle.walks.specs.Walks.{Ends}
 use Rattle.groups.specs.Making.{grouping}
 use Rattle.machine.specs.Variables.{clearScene}
 use Rattle.stores.proofs.Acts.{after-pass, after-refusal}
 use Rattle.machine.specs.Operate.{withInteger, withText}
-use Rattle.operators.proofs.Held.{back-to}
-use Rattle.operators.proofs.Held as held
+use Rattle.values.proofs.Held.{back-to}
+use Rattle.values.proofs.Held as held
 use Rattle.operators.proofs.KindLaws.{integer-or, text-or, shape-or}
 use Rattle.machine.specs.Library.{withFigure}
 use Rattle.machine.specs.Arguments.{figure, connecting, textOn, allUsable}

@@ -3,6 +3,8 @@ use arguments::figures;
 use machine::Answer;
 use machine::Value;
 use machine::kinds;
+use machine::procedures;
+use machine::shapes;
 ghost use Prim.Native.Nat.{_≤_};
 ghost use lib.ListN.{length};
 ghost use Rattle.machine.specs.Layout.{fixedWords, Room};
@@ -108,7 +110,7 @@ fn destroy(words: &mut [u64], grants: &[u64; 5], p: u64, base: u64, n: u64) -> A
         return Answer::Bad(20, p);
     }
     let i = arguments::shape_at(words, base, 0);
-    let number = groups::destroying::destroy_all(words, grants, i);
+    let number = walks::destroying::destroy_all(words, grants, i);
     if number != 0 {
         return Answer::Bad(number, p);
     }
@@ -122,7 +124,7 @@ fn clear(words: &mut [u64], grants: &[u64; 5], p: u64, n: u64) -> Answer
     if n != 0 {
         return Answer::Bad(20, p);
     }
-    let number = groups::scene::clear_scene(words, grants);
+    let number = walks::scene::clear_scene(words, grants);
     if number != 0 {
         return Answer::Bad(number, p);
     }
@@ -148,37 +150,37 @@ fn perform(words: &mut [u64], grants: &[u64; 5], number: u64, p: u64, base: u64,
     ensures { λ r. ⌜ Answers (now (words .entry)) (perform (now (grants .entry)) number p base n) r (now (words .exit)) ⌝ }
 {
     match number {
-        0 => {
-            let r = draw(words, grants, 0, p, base, n);
+        procedures::DRAW_LINE => {
+            let r = draw(words, grants, shapes::LINE, p, base, n);
             r
         }
-        1 => {
-            let r = draw(words, grants, 1, p, base, n);
+        procedures::DRAW_ELLIPSE => {
+            let r = draw(words, grants, shapes::ELLIPSE, p, base, n);
             r
         }
-        2 => {
-            let r = draw(words, grants, 2, p, base, n);
+        procedures::DRAW_BOX => {
+            let r = draw(words, grants, shapes::BOX, p, base, n);
             r
         }
-        3 => {
+        procedures::DRAW_TEXT => {
             let r = draw_text(words, grants, p, base, n);
             r
         }
-        4 => {
+        procedures::CONNECT_SHAPES => {
             let r = connect(words, grants, p, base, n);
             r
         }
-        5 => {
+        procedures::DRAW_TEXT_ON_SHAPE => {
             let r = label(words, grants, p, base, n);
             r
         }
-        6 => x_coordinate(words, p, base, n),
-        7 => y_coordinate(words, p, base, n),
-        8 => {
+        procedures::X_COORDINATE => x_coordinate(words, p, base, n),
+        procedures::Y_COORDINATE => y_coordinate(words, p, base, n),
+        procedures::DESTROY_SHAPE => {
             let r = destroy(words, grants, p, base, n);
             r
         }
-        9 => {
+        procedures::CLEAR_SCENE => {
             let r = clear(words, grants, p, n);
             r
         }
@@ -201,7 +203,7 @@ pub fn call_library(
     requires { ⌜ Room (now grants) (now words) ⌝ }
     ensures { λ r. ⌜ Answers (now (words .entry)) (callLibrary (now (grants .entry)) number p base n) r (now (words .exit)) ⌝ }
 {
-    if 11 <= number {
+    if procedures::OTHER <= number {
         return Answer::Bad(20, p);
     }
     if !arguments::all_usable(words, base, n) {

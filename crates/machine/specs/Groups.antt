@@ -10,7 +10,7 @@ use Rattle.meaning.specs.Basics.{if_then_else_}
 use Rattle.machine.specs.declared.Value.{Value}
 use Rattle.machine.specs.declared.Value.the-variants.{Shape}
 use Rattle.machine.specs.declared.Figure.{Figure}
-use Rattle.machine.specs.Layout.{shapesUsed, entriesUsed, componentsMade, waitingHeld, shapesGranted, entriesGranted, shapePlace, componentPlace}
+use Rattle.machine.specs.Layout.{shapesUsed, entriesUsed, componentsMade, waitingHeld, shapesGranted, entriesGranted, callsGranted, shapePlace, componentPlace, pathPlace}
 use Rattle.machine.specs.Act.{raw, done, Act, give, load, store, held, spend, count, _>>=_, _>>_}
 use Rattle.machine.specs.Shapes.{kindGroup, isGroupAt, destroyedAt, figureAt, firstWord, newShape, destroy}
 
@@ -32,6 +32,15 @@ abbrev pub countAt : List ℕ → ℕ → ℕ
 countAt ws i = getD ws (shapePlace i + 1) 0 / 2 ^ 32 % 2 ^ 16
 
 -- ---- a group made
+-- zeros in n words from a place on
+unfoldable pub zeroed : List ℕ → ℕ → ℕ → List ℕ
+zeroed ws at zero = ws
+zeroed ws at (suc n) = zeroed (set ws at 0) (at + 1) n
+
+-- a new component in slot k is on no loop's way, of whichever call
+unfoldable pub unmarked : List ℕ → ℕ → Act (Unit {0})
+unmarked g k r = done tt (raw (r .texts) (zeroed (r .words) (pathPlace g 0 k) (callsGranted g)))
+
 -- n components, one entry for each: their numbers stand above so many bits, unit, of the words at a place and every stride further on
 unfoldable pub fillFrom : List ℕ → ℕ → ℕ → ℕ → ℕ → ℕ → Act (Unit {0})
 fillFrom g p stride unit place zero = give tt
@@ -40,6 +49,7 @@ fillFrom g p stride unit place (suc n) = do
   spend entriesUsed (entriesGranted g) 1 77 p
   w ← load place
   store (componentPlace g (k % entriesGranted g)) (slotWord (w / unit) n)
+  unmarked g (k % entriesGranted g)
   store componentsMade (k % entriesGranted g + 1)
   fillFrom g p stride unit (place + stride) n
 

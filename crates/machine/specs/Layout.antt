@@ -1,8 +1,8 @@
 -- Where everything stands in the words that are lent for a run.
 -- 16 counters; a word for each call that waits for another; the 8,192 variables of the call under way, by slot; their slots in the order of their
 -- declarations; a stack of 262,144 words, which holds the arguments of calls and the variables of calls that wait; shapes of five words each;
--- entries of tables, four words each, behind as many shapes as are granted; components of groups, a word each, behind as many entries; and for each call
--- under way a word for each component, which says on which loops' ways it is.
+-- entries of tables, four words each, behind as many shapes as are granted; components of groups, a word each, behind as many entries; and for each component
+-- a word for each call under way, which says on which of its loops' ways the component is.
 use Prim.Native.Nat.{ℕ, _+_, _*_, _%_, _^_, _≤_, _<_}
 use mathlib.Core.List.{List}
 use lib.ListN.{getD, length}
@@ -100,9 +100,9 @@ entryPlace g k = fixedWords + 5 * shapesGranted g + 4 * k
 abbrev pub componentPlace : List ℕ → ℕ → ℕ
 componentPlace g k = fixedWords + 5 * shapesGranted g + 4 * entriesGranted g + k
 
--- of the d-th call under way
+-- of the d-th call under way and the k-th component, whose words stand one after the other
 abbrev pub pathPlace : List ℕ → ℕ → ℕ → ℕ
-pathPlace g d k = fixedWords + 5 * shapesGranted g + 5 * entriesGranted g + entriesGranted g * d + k
+pathPlace g d k = fixedWords + 5 * shapesGranted g + 5 * entriesGranted g + callsGranted g * k + d
 
 -- how many words a run needs
 abbrev pub wordsNeeded : List ℕ → ℕ

@@ -142,9 +142,12 @@ tagOf unequal = tagUnequal
 tagOf greater = tagGreater
 tagOf less = tagLess
 
--- the lower half of the word of a number, and of a name: the tag and a size of 1
+-- the lower half of the word of a number, of a string and of a name: the tag and a size of 1
 abbrev pub headNumber : ℕ
 headNumber = 257
+
+abbrev pub headString : ℕ
+headString = 258
 
 abbrev pub headName : ℕ
 headName = 261

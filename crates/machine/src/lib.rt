@@ -106,9 +106,11 @@ pub mod tags {
     pub const FOREACH: u64 = 40;
 }
 
-// The lower half of the word of a number, and of a name: the tag and a size of 1.
+// The lower half of the word of a number, of a string and of a name: the tag and a size of 1.
 pub mod heads {
     pub const NUMBER: u64 = 257;
+
+    pub const STRING: u64 = 258;
 
     pub const NAME: u64 = 261;
 }
@@ -139,6 +141,35 @@ pub mod shapes {
     pub const TEXT: u64 = 3;
 
     pub const GROUP: u64 = 4;
+}
+
+// Which procedure a name stands for: one of the library's, main, or any other.
+pub mod procedures {
+    pub const DRAW_LINE: u64 = 0;
+
+    pub const DRAW_ELLIPSE: u64 = 1;
+
+    pub const DRAW_BOX: u64 = 2;
+
+    pub const DRAW_TEXT: u64 = 3;
+
+    pub const CONNECT_SHAPES: u64 = 4;
+
+    pub const DRAW_TEXT_ON_SHAPE: u64 = 5;
+
+    pub const X_COORDINATE: u64 = 6;
+
+    pub const Y_COORDINATE: u64 = 7;
+
+    pub const DESTROY_SHAPE: u64 = 8;
+
+    pub const CLEAR_SCENE: u64 = 9;
+
+    pub const DRAW_GROUP: u64 = 10;
+
+    pub const OTHER: u64 = 11;
+
+    pub const MAIN: u64 = 12;
 }
 
 // A variable that waits on the stack: its slot counts so much. A call that waits: how many variables it has counts so much.

@@ -44,7 +44,7 @@ unfolding Basics.if_then_else_ Basics.sameText Basics.standsIn Basics.span Basic
     Evaluate.keyed Evaluate.entryOf Evaluate.evaluate Evaluate.evaluateAll Execute.continue Execute.declaring Execute.copied
     Execute.assigning Execute.storing Execute.updating Execute.looping Execute.declaringOnce Execute.binding Execute.turns Execute.iterating Execute.execute Execute.executeAll
     Procedure.isAmong Procedure.anyTwice Procedure.inLibrary Procedure.doubled Procedure.assigningAll Procedure.returnedBy
-    Procedure.performing Procedure.found Procedure.calling
+    Procedure.invoking Procedure.found Procedure.calling
     Picture.digitsWithin Picture.digitsOf Picture.decimal Picture.attribute Picture.plainLine Picture.sideStart Picture.absolute Picture.turned Picture.lineOf Picture.linesOf
     Picture.pictureOf Program.entering Program.sheet Program.sized Program.namedApart Program.understood Program.painting
     Program.performing Program.specified Program.cut Program.beginning Book.resourceNumber Book.added Book.lowered Book.fits

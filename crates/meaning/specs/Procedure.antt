@@ -50,8 +50,8 @@ returnedBy (returned v) = v
 
 -- A procedure called with these arguments: their number, the names of the parameters, a call, and then the parameters. Its body has variables of its
 -- own, and its return gives the call back.
-unfoldable pub performing : (Statements → Action Flow) → Procedure → ℕ → List Value → Action Value
-performing body f p vs = do
+unfoldable pub invoking : (Statements → Action Flow) → Procedure → ℕ → List Value → Action Value
+invoking body f p vs = do
   refuse (not (eqb (length vs) (length (f .parameters)))) 20 p
   refuse (anyTwice (f .parameters)) 60 p
   spend calls 1 p
@@ -66,7 +66,7 @@ performing body f p vs = do
 
 -- a procedure of the program, or else one of the library
 unfoldable pub found : (Statements → Action Flow) → Option Procedure → List ℕ → ℕ → List Value → Action Value
-found body (some f) x p vs = performing body f p vs
+found body (some f) x p vs = invoking body f p vs
 found body none x p vs = callLibrary (libraryOf x) p vs
 
 -- How a call is performed, n deep; a call to main is 20. Each call counted a step before, so where none is left the run has taken as many: no call is

@@ -1,5 +1,6 @@
 // The index of names and strings. Words 0 to 8191 begin the buckets: the place behind the bucket's newest entry, 0 if it has none. Word 8192 + i is
 // of token i: the place behind the next older entry of its bucket, and above 16 bits its home. An entry is the first token of its kind and text.
+use tokens::kind;
 use tokens::kind_of;
 use tokens::same_text;
 use tokens::token_text;
@@ -40,8 +41,8 @@ fn is_named(kind: u8) -> bool
     ensures { λ r. ⌜ r ≡ named kind ⌝ }
 {
     match kind {
-        1 => true,
-        3 => true,
+        kind::NAME => true,
+        kind::STRING => true,
         _ => false,
     }
 }

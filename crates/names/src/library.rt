@@ -1,39 +1,46 @@
 // The library procedures and main, by their names.
+use machine::procedures;
+use machine::procedures::OTHER;
 use tokens::same_text;
 ghost use mathlib.Core.Path.{_≡_};
 ghost use Rattle.names.specs.Prepared.{libraryNumber, procedureNumber};
 ghost use Rattle.names.specs.Index.{either};
 
-// The number of a procedure: 12 for main, else that in the library.
+// The number of a procedure: that of main, else that in the library.
 pub fn procedure_number(w: &[u8]) -> u64
     ensures { λ r. ⌜ r ≡ procedureNumber (now (w .entry)) ⌝ }
 {
     let other = library_number(w);
-    one_of(w, b"main", 12, other)
+    one_of(w, b"main", procedures::MAIN, other)
 }
 
-// The number of a library procedure, 11 for every other name. The name's length leaves two of them at most.
+// The number of a library procedure, OTHER for every other name. The name's length leaves two of them at most.
 fn library_number(w: &[u8]) -> u64
     ensures { λ r. ⌜ r ≡ libraryNumber (now (w .entry)) ⌝ }
 {
     let n = w.len();
     match n {
-        7 => one_of(w, b"drawBox", 2, 11),
+        7 => one_of(w, b"drawBox", procedures::DRAW_BOX, OTHER),
         8 => {
-            let other = one_of(w, b"drawText", 3, 11);
-            one_of(w, b"drawLine", 0, other)
+            let other = one_of(w, b"drawText", procedures::DRAW_TEXT, OTHER);
+            one_of(w, b"drawLine", procedures::DRAW_LINE, other)
         }
-        9 => one_of(w, b"drawGroup", 10, 11),
-        10 => one_of(w, b"clearScene", 9, 11),
-        11 => one_of(w, b"drawEllipse", 1, 11),
-        12 => one_of(w, b"destroyShape", 8, 11),
-        15 => one_of(w, b"drawTextOnShape", 5, 11),
+        9 => one_of(w, b"drawGroup", procedures::DRAW_GROUP, OTHER),
+        10 => one_of(w, b"clearScene", procedures::CLEAR_SCENE, OTHER),
+        11 => one_of(w, b"drawEllipse", procedures::DRAW_ELLIPSE, OTHER),
+        12 => one_of(w, b"destroyShape", procedures::DESTROY_SHAPE, OTHER),
+        15 => one_of(w, b"drawTextOnShape", procedures::DRAW_TEXT_ON_SHAPE, OTHER),
         19 => {
-            let other = one_of(w, b"getShapeYCoordinate", 7, 11);
-            one_of(w, b"getShapeXCoordinate", 6, other)
+            let other = one_of(w, b"getShapeYCoordinate", procedures::Y_COORDINATE, OTHER);
+            one_of(w, b"getShapeXCoordinate", procedures::X_COORDINATE, other)
         }
-        24 => one_of(w, b"drawLineConnectingShapes", 4, 11),
-        _ => 11,
+        24 => one_of(
+            w,
+            b"drawLineConnectingShapes",
+            procedures::CONNECT_SHAPES,
+            OTHER,
+        ),
+        _ => OTHER,
     }
 }
 

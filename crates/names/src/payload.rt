@@ -1,5 +1,6 @@
 // What a token's word holds above its kind and place.
 use crate::library::procedure_number;
+use tokens::kind;
 use tokens::kind_of;
 use tokens::token_text;
 ghost use mathlib.Core.Path.{_≡_};
@@ -26,9 +27,9 @@ fn payload(kind: u8, x: &[u8], home: u64) -> u64
 {
     let n = x.len() as u64;
     match kind {
-        1 => n + 65536 * home + 4294967296 * procedure_number(x),
-        2 => value_of(x),
-        3 => n + 2 + 65536 * home,
+        kind::NAME => n + 65536 * home + 4294967296 * procedure_number(x),
+        kind::DIGITS => value_of(x),
+        kind::STRING => n + 2 + 65536 * home,
         _ => n,
     }
 }

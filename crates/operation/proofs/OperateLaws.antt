@@ -21,7 +21,7 @@ use Rattle.machine.specs.Texts.{joinTexts}
 use Rattle.machine.specs.Variables.{isDead, usable}
 use Rattle.machine.specs.Operate.{withInteger, withText, calculated, compared, remaindered, joined, operateOn, operate}
 use Rattle.operators.specs.Parts.{Computes, Draws, Other, Calculates, Compares, bothIntegers, NotBoth, Mixes, Operates}
-use Rattle.operators.proofs.Held.{held, back, either, past}
+use Rattle.values.proofs.Held.{held, back, either, past}
 use Rattle.operators.proofs.KindLaws.{no-integer, no-text, left-is, right-is, not-both}
 
 -- ---- texts

@@ -1,8 +1,10 @@
 // An operator on any two values: destroyed shapes and kinds are asked here. A value is handed over as its word.
 use machine::Answer;
+use machine::kinds;
+use machine::tags;
 use operators::equality;
-use operators::figures;
 use operators::integers;
+use operators::shapes;
 ghost use mathlib.Core.Path.{_≡_};
 ghost use Rattle.machine.specs.Words.{unpacked};
 ghost use Rattle.machine.specs.Layout.{Room, Lent};
@@ -23,10 +25,10 @@ fn join(
     requires { ⌜ Lent (now grants) (now texts) (now words) ⌝ }
     ensures { λ r. ⌜ shown r (now (texts .exit)) (now (words .exit)) ≡ joined (now (program .entry)) (now (grants .entry)) p (unpacked a) (unpacked b) (raw (now (texts .entry)) (now (words .entry))) ⌝ }
 {
-    if a % 8 != 2 {
+    if a % 8 != kinds::TEXT {
         return Answer::Bad(20, p);
     }
-    if b % 8 != 2 {
+    if b % 8 != kinds::TEXT {
         return Answer::Bad(20, p);
     }
     let r = texts::join_texts(
@@ -46,13 +48,13 @@ fn calculate(words: &mut [u64], grants: &[u64; 5], tag: u64, p: u64, a: u64, b: 
     requires { ⌜ Room (now grants) (now words) ⌝ }
     ensures { λ r. ⌜ Calculates (now (grants .entry)) (now (words .entry)) tag p a b r (now (words .exit)) ⌝ }
 {
-    if a % 8 != 6 {
+    if a % 8 != kinds::SHAPE {
         return Answer::Bad(20, p);
     }
-    if b % 8 != 1 {
+    if b % 8 != kinds::INTEGER {
         return Answer::Bad(20, p);
     }
-    let r = figures::on_shape(
+    let r = shapes::on_shape(
         words,
         grants,
         tag,
@@ -78,15 +80,15 @@ fn on_usable(
     ensures { λ r. ⌜ Mixes (now (program .entry)) (now (grants .entry)) (now (texts .entry)) (now (words .entry)) tag p a b r (now (texts .exit)) (now (words .exit)) ⌝ }
 {
     match tag {
-        16 => {
+        tags::CONCATENATE => {
             let r = join(program, grants, texts, words, p, a, b);
             r
         }
-        24 => {
+        tags::EQUAL => {
             let r = equality::equal(program, texts, words, grants, p, a, b);
             r
         }
-        25 => {
+        tags::UNEQUAL => {
             let r = equality::unequal(program, texts, words, grants, p, a, b);
             r
         }

@@ -18,7 +18,7 @@ use Rattle.machine.specs.declared.Answer.the-variants.{Good, Bad}
 use Rattle.machine.specs.Act.{goOn, _>>=_, give, fail, refuse, shown}
 use Rattle.machine.specs.Operate.{withInteger, withText, calculated, compared, remaindered, joined, equality, answered, equated, operateOn}
 use Rattle.operators.specs.Parts.{Computes}
-use Rattle.operators.proofs.Held.{held, back-by, test-is, either}
+use Rattle.values.proofs.Held.{held, back-by, test-is, either}
 
 -- ---- division
 module _ (p : ℕ) {x y : ℤ} where

@@ -1,7 +1,4 @@
-pub mod Held
 pub mod KindLaws
 mod IntegerLaws
-mod FigureLaws
-mod PairLaws
-mod RemakingLaws
+mod ShapeLaws
 mod EqualityLaws

@@ -3,17 +3,13 @@ use Prim.Native.Nat.{ℕ}
 use mathlib.Core.Path.{_≡_}
 use mathlib.Core.Bool.{Bool, cond, _&&_}
 use mathlib.Core.List.{List}
-use lib.IntN.{ℤ}
 use lib.Dec.{eqb}
-use Rattle.meaning.specs.Basics.{if_then_else_}
-use Rattle.meaning.specs.Integer.{isZero, sameInteger}
 use Rattle.machine.specs.declared.Value.{Value}
 use Rattle.machine.specs.declared.Value.the-variants.{Integer, Text, Boolean, Nothing, Table, Shape}
 use Rattle.machine.specs.declared.Answer.{Answer}
 use Rattle.machine.specs.Words.{kindIn, unpacked}
-use Rattle.machine.specs.declared.Figure.{Figure}
 use Rattle.machine.specs.Act.{raw, shown}
-use Rattle.machine.specs.Operate.{plusX, plusY, minusX, minusY, scaledUp, scaledDown, operateOn, operate}
+use Rattle.machine.specs.Operate.{operateOn, operate}
 
 -- ---- two integers: the slices are neither read nor changed
 pub record Computes (tag p : ℕ) (v w : Value) (answer : Answer) : Type 0 where
@@ -22,49 +18,6 @@ pub record Computes (tag p : ℕ) (v w : Value) (answer : Answer) : Type 0 where
 -- ---- a shape and an integer: the texts are neither read nor changed
 pub record Draws (grants before : List ℕ) (tag p : ℕ) (v w : Value) (answer : Answer) (after : List ℕ) : Type 0 where
   pub equal : (program ts : List ℕ) → shown answer ts after ≡ operateOn program grants tag p v w (raw ts before)
-
--- why an operator makes no shape of a shape and n: 20, or 70 where it divides and n is 0; 0 if it makes one
-unfoldable pub refusal : ℕ → ℤ → ℕ
-refusal tag n =
-    if eqb tag 17 then (λ _. 0)
-    else λ _. if eqb tag 18 then (λ _. 0)
-    else λ _. if eqb tag 19 then (λ _. 0)
-    else λ _. if eqb tag 20 then (λ _. cond (isZero n) 70 0)
-    else λ _. if eqb tag 22 then (λ _. 0)
-    else λ _. if eqb tag 23 then (λ _. 0)
-    else λ _. 20
-
--- the figure that it makes
-unfoldable pub changed : ℕ → Figure → ℤ → Figure
-changed tag s n =
-    if eqb tag 17 then (λ _. plusY s n)
-    else λ _. if eqb tag 18 then (λ _. minusY s n)
-    else λ _. if eqb tag 19 then (λ _. scaledUp s n)
-    else λ _. if eqb tag 20 then (λ _. scaledDown s n)
-    else λ _. if eqb tag 22 then (λ _. plusX s n)
-    else λ _. minusX s n
-
--- a figure's first point, and its second if it is a line, in their new places
-unfoldable pub placed : Figure → ℤ → ℤ → ℤ → ℤ → Figure
-placed s x y z w = record {
-  kind = s .kind;
-  a = x;
-  b = y;
-  c = cond (eqb (s .kind) 0) z (s .c);
-  d = cond (eqb (s .kind) 0) w (s .d);
-  text = s .text;
-}
-
--- a figure with other numbers
-unfoldable pub renumbered : Figure → ℤ → ℤ → ℤ → ℤ → Figure
-renumbered s x y z w = record {
-  kind = s .kind;
-  a = x;
-  b = y;
-  c = z;
-  d = w;
-  text = s .text;
-}
 
 -- ---- other values
 -- whether both words are integers
@@ -85,13 +38,6 @@ pub record Calculates (grants before : List ℕ) (tag p a b : ℕ) (answer : Ans
   pub equal : Other tag a b → Draws grants before tag p (unpacked a) (unpacked b) answer after
 
 -- ---- equality
--- two numbers of a figure, and all four
-unfoldable pub samePair : ℤ → ℤ → ℤ → ℤ → Bool
-samePair x y z w = sameInteger x z && sameInteger y w
-
-unfoldable pub sameNumbers : Figure → Figure → Bool
-sameNumbers s t = samePair (s .a) (s .b) (t .a) (t .b) && samePair (s .c) (s .d) (t .c) (t .d)
-
 -- a kind's number: every word that is of no other kind holds nothing
 unfoldable pub kindNumber : Value → ℕ
 kindNumber (Integer z) = 1

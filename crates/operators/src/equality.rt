@@ -1,28 +1,25 @@
 // Equality of values.
-use crate::pairs;
 use machine::Answer;
-use machine::Figure;
 use machine::Value;
+use machine::kinds;
 ghost use mathlib.Core.Path.{_≡_};
 ghost use mathlib.Core.Bool.{cond};
 ghost use Rattle.machine.specs.Words.{unpacked};
 ghost use Rattle.machine.specs.Layout.{Room};
-ghost use Rattle.machine.specs.Shapes.{figureAt};
-ghost use Rattle.machine.specs.Operate.{sameFigure};
-ghost use Rattle.operators.specs.Parts.{samePair, sameNumbers, kindNumber, unlike, Compares};
-ghost use Rattle.operators.specs.Pairs.{Equates};
+ghost use Rattle.operators.specs.Parts.{kindNumber, unlike, Compares};
+ghost use Rattle.operators.specs.Equality.{Equates};
 
 // A value's kind; a word of no other kind holds nothing.
 fn kind(w: u64) -> u64
     ensures { λ r. ⌜ r ≡ kindNumber (unpacked w) ⌝ }
 {
     match w % 8 {
-        1 => 1,
-        2 => 2,
-        3 => 3,
-        5 => 5,
-        6 => 6,
-        _ => 4,
+        kinds::INTEGER => kinds::INTEGER,
+        kinds::TEXT => kinds::TEXT,
+        kinds::TRUTH => kinds::TRUTH,
+        kinds::TABLE => kinds::TABLE,
+        kinds::SHAPE => kinds::SHAPE,
+        _ => kinds::NOTHING,
     }
 }
 
@@ -33,52 +30,14 @@ fn number(b: bool) -> u64
     if b { 1 } else { 0 }
 }
 
-fn same_pair(x: i32, y: i32, z: i32, w: i32) -> bool
-    ensures { λ r. ⌜ r ≡ samePair x y z w ⌝ }
-{
-    if !arithmetic::same(x, z) {
-        return false;
-    }
-    arithmetic::same(y, w)
-}
-
-fn same_numbers(f: Figure, g: Figure) -> bool
-    ensures { λ r. ⌜ r ≡ sameNumbers f g ⌝ }
-{
-    if !same_pair(f.a, f.b, g.a, g.b) {
-        return false;
-    }
-    same_pair(f.c, f.d, g.c, g.d)
-}
-
-fn same_figure<'a>(program: &'a [u8], texts: &'a [u8], f: Figure, g: Figure) -> bool
-    ensures { λ r. ⌜ r ≡ sameFigure (now (program .entry)) (now (texts .entry)) f g ⌝ }
-{
-    if f.kind != g.kind {
-        return false;
-    }
-    if !same_numbers(f, g) {
-        return false;
-    }
-    texts::same_text(program, texts, f.text, g.text)
-}
-
-pub fn same_shape<'a>(program: &'a [u8], texts: &'a [u8], words: &[u64], i: u32, j: u32) -> bool
-    ensures { λ r. ⌜ r ≡ sameFigure (now (program .entry)) (now (texts .entry)) (figureAt (now (words .entry)) i) (figureAt (now (words .entry)) j) ⌝ }
-{
-    let f = stores::shapes::figure_at(words, i);
-    let g = stores::shapes::figure_at(words, j);
-    same_figure(program, texts, f, g)
-}
-
 // Of values of two kinds: nothing and any other value are unequal.
 fn unlike(k: u64, l: u64) -> u64
     ensures { λ r. ⌜ r ≡ unlike k l ⌝ }
 {
-    if k == 4 {
+    if k == kinds::NOTHING {
         return 0;
     }
-    if l == 4 {
+    if l == kinds::NOTHING {
         return 0;
     }
     20
@@ -102,11 +61,16 @@ fn equality<'a>(
         return unlike(k, l);
     }
     match k {
-        1 => number(arithmetic::same(values::integer_of(a), values::integer_of(b))),
-        2 => number(texts::same_text(program, texts, values::handle_of(a), values::handle_of(b))),
-        3 => number(a / 8 % 2 == b / 8 % 2),
-        4 => 1,
-        6 => {
+        kinds::INTEGER => number(arithmetic::same(values::integer_of(a), values::integer_of(b))),
+        kinds::TEXT => number(texts::same_text(
+            program,
+            texts,
+            values::handle_of(a),
+            values::handle_of(b),
+        )),
+        kinds::TRUTH => number(a / 8 % 2 == b / 8 % 2),
+        kinds::NOTHING => 1,
+        kinds::SHAPE => {
             let i = values::number_of(a);
             let j = values::number_of(b);
             let r = pairs::alike(program, texts, words, grants, i, j);

@@ -1,6 +1,7 @@
 // Operators on two integers.
 use machine::Answer;
 use machine::Value;
+use machine::tags;
 ghost use Rattle.machine.specs.declared.Value.the-variants.{Integer};
 ghost use Rattle.operators.specs.Parts.{Computes};
 
@@ -29,17 +30,17 @@ pub fn on_integers(tag: u64, p: u64, x: i32, y: i32) -> Answer
     ensures { λ r. ⌜ Computes tag p (Integer x) (Integer y) r ⌝ }
 {
     match tag {
-        17 => Answer::Good(Value::Integer(arithmetic::sum(x, y))),
-        18 => Answer::Good(Value::Integer(arithmetic::difference(x, y))),
-        19 => Answer::Good(Value::Integer(arithmetic::product(x, y))),
-        20 => divide(p, x, y),
-        21 => remainder(p, x, y),
-        22 => Answer::Good(Value::Integer(arithmetic::shifted_right(x, y))),
-        23 => Answer::Good(Value::Integer(arithmetic::shifted_left(x, y))),
-        24 => Answer::Good(Value::Boolean(arithmetic::same(x, y))),
-        25 => Answer::Good(Value::Boolean(!arithmetic::same(x, y))),
-        26 => Answer::Good(Value::Boolean(arithmetic::less(y, x))),
-        27 => Answer::Good(Value::Boolean(arithmetic::less(x, y))),
+        tags::ADD => Answer::Good(Value::Integer(arithmetic::sum(x, y))),
+        tags::SUBTRACT => Answer::Good(Value::Integer(arithmetic::difference(x, y))),
+        tags::MULTIPLY => Answer::Good(Value::Integer(arithmetic::product(x, y))),
+        tags::DIVIDE => divide(p, x, y),
+        tags::REMAINDER => remainder(p, x, y),
+        tags::SHIFT_RIGHT => Answer::Good(Value::Integer(arithmetic::shifted_right(x, y))),
+        tags::SHIFT_LEFT => Answer::Good(Value::Integer(arithmetic::shifted_left(x, y))),
+        tags::EQUAL => Answer::Good(Value::Boolean(arithmetic::same(x, y))),
+        tags::UNEQUAL => Answer::Good(Value::Boolean(!arithmetic::same(x, y))),
+        tags::GREATER => Answer::Good(Value::Boolean(arithmetic::less(y, x))),
+        tags::LESS => Answer::Good(Value::Boolean(arithmetic::less(x, y))),
         _ => Answer::Bad(20, p),
     }
 }

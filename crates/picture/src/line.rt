@@ -10,6 +10,13 @@ use writing::saturating_add;
 use writing::write_bytes_at;
 use writing::write_pair_at;
 
+// ---- kinds of figures by their numbers; any other is a text
+const LINE: u8 = 0;
+
+const ELLIPSE: u8 = 1;
+
+const BOX: u8 = 2;
+
 // Where a side begins: a negative size leads back from its place.
 fn side_start(x: i32, size: i32) -> i64
     ensures { λ r. ⌜ r ≡ sideStart x size ⌝ }
@@ -36,7 +43,7 @@ fn magnitude(size: i32) -> i64
 fn shown_start(kind: u8, x: i32, size: i32) -> i64
     ensures { λ r. ⌜ r ≡ shownStart kind x size ⌝ }
 {
-    if kind == 2 {
+    if kind == BOX {
         side_start(x, size)
     } else {
         x as i64
@@ -46,7 +53,7 @@ fn shown_start(kind: u8, x: i32, size: i32) -> i64
 fn shown_size(kind: u8, size: i32) -> i64
     ensures { λ r. ⌜ r ≡ shownSize kind size ⌝ }
 {
-    if kind == 0 {
+    if kind == LINE {
         size as i64
     } else {
         magnitude(size)
@@ -90,7 +97,7 @@ fn write_plain(out: &mut [u8], kind: u8, a: i64, b: i64, c: i64, d: i64, text: &
     ensures { λ r. ⌜ Wrote (plainLine (figureFrom kind a b c d (now (text .entry)))) (now (out .entry)) (now (out .exit)) r ⌝ }
 {
     match kind {
-        0 => write_element(
+        LINE => write_element(
             out,
             b"<line x1=\"",
             a,
@@ -101,7 +108,7 @@ fn write_plain(out: &mut [u8], kind: u8, a: i64, b: i64, c: i64, d: i64, text: &
             b"\" y2=\"",
             d,
         ),
-        1 => write_element(
+        ELLIPSE => write_element(
             out,
             b"<ellipse cx=\"",
             a,
@@ -112,7 +119,7 @@ fn write_plain(out: &mut [u8], kind: u8, a: i64, b: i64, c: i64, d: i64, text: &
             b"\" ry=\"",
             d,
         ),
-        2 => write_element(
+        BOX => write_element(
             out,
             b"<rect x=\"",
             a,
@@ -132,9 +139,9 @@ fn plain_length(kind: u8, a: i64, b: i64, c: i64, d: i64, text: &[u8]) -> usize
     ensures { λ r. ⌜ r ≡ length (plainLine (figureFrom kind a b c d (now (text .entry)))) ⌝ }
 {
     match kind {
-        0 => 32 + pair_length(a, b) + pair_length(c, d),
-        1 => 35 + pair_length(a, b) + pair_length(c, d),
-        2 => 37 + pair_length(a, b) + pair_length(c, d),
+        LINE => 32 + pair_length(a, b) + pair_length(c, d),
+        ELLIPSE => 35 + pair_length(a, b) + pair_length(c, d),
+        BOX => 37 + pair_length(a, b) + pair_length(c, d),
         _ => 24 + pair_length(a, b) + text.len(),
     }
 }

@@ -17,7 +17,7 @@ use Rattle.meaning.specs.Procedure.{isAmong, inLibrary, doubled}
 use Rattle.meaning.specs.Library.{Library, libraryOf, drawLine, drawEllipse, drawBox, drawText, connectShapes, drawTextOnShape, xCoordinate, yCoordinate, destroyShape, clearScene, drawGroup}
 use Rattle.names.specs.Prepared.{numberOf, libraryNumber, procedureNumber}
 use Rattle.code.specs.Code.{slotOf, codeOfProcedure, codeOfProcedures, headWord, tabled, headNamed}
-use Rattle.statements.specs.Words.{Head, Gathered, mainWord, firstTwice, wordAt, gather, gatherAll, nothing, SeenWhole, whole, twiceAt, failedWhole, settled, writtenWhole}
+use Rattle.definitions.specs.Words.{Head, Gathered, mainWord, firstTwice, wordAt, gather, gatherAll, nothing, SeenWhole, whole, twiceAt, failedWhole, settled, writtenWhole}
 use Rattle.reader.specs.Coded.{mapGot, nameOf, headOf}
 use Rattle.reader.specs.Reading.{Seen, formed, refused, codedApart, coded}
 use Rattle.reader.proofs.Homes.{same-text, text-same, Occurs, slot-small, slots-apart}

@@ -16,6 +16,7 @@ use Rattle.machine.specs.Opcodes.{tagWhen, tagWhile}
 use Rattle.code.specs.Code.{slotOf, codeOf, codeOfStatement, codeOfStatements, joined, headed}
 use Rattle.expressions.specs.Words as Words
 use Rattle.statements.specs.Words as Bodies
+use Rattle.definitions.specs.Words as Definitions
 use Rattle.reader.specs.Coded.{wordsOf, mapGot, targetNumber, pieceOf, nameOf, headOf}
 use Rattle.reader.specs.Sane.{Sane}
 use Rattle.reader.proofs.Fields.{kind-at, is-at, positive-at, signed-at, place-at, name-home-at, procedure-at}
@@ -159,8 +160,8 @@ module _ (ts : List Token) (sane : Sane ts) where
       (both (record { expressions = expression-maps ts sane left; statements = statement-maps left })) i
 
   -- ---- procedures
-  parameters-from-maps : (rounds i : ℕ) → Maps (map (slotOf ts)) (Bodies.parametersFrom rounds (wordsOf ts) i) (parametersFrom rounds ts i)
-  unfolding parametersFrom Bodies.parametersFrom
+  parameters-from-maps : (rounds i : ℕ) → Maps (map (slotOf ts)) (Definitions.parametersFrom rounds (wordsOf ts) i) (parametersFrom rounds ts i)
+  unfolding parametersFrom Definitions.parametersFrom
   parameters-from-maps zero i = maps-wrong
   parameters-from-maps (suc rounds) i =
       maps-after {g = slotOf ts} _ _ (name-maps i) λ x j _.
@@ -168,21 +169,21 @@ module _ (ts : List Token) (sane : Sane ts) where
       (λ _. maps-after _ _ (parameters-from-maps rounds (j + 1)) λ xs m _. maps-good refl)
       λ _. expect-maps ts sane _ j _ _ refl
 
-  parameters-maps : (i : ℕ) → Maps (map (slotOf ts)) (Bodies.parameters (wordsOf ts) i) (parameters ts i)
-  unfolding parameters Bodies.parameters
+  parameters-maps : (i : ℕ) → Maps (map (slotOf ts)) (Definitions.parameters (wordsOf ts) i) (parameters ts i)
+  unfolding parameters Definitions.parameters
   parameters-maps i =
       maps-if _ _ _ _ _ _ (is-at ts sane _ i) (λ _. maps-good refl)
       λ _. rw (length-map ts (prepared ts)) (parameters-from-maps (suc (length ts - i)) i)
 
-  name-of-maps : (i : ℕ) → Maps (nameOf ts) (Words.expect aName (wordsOf ts) i (Bodies.nameAt (wordsOf ts) i)) (expect aName ts i (textAt ts i))
+  name-of-maps : (i : ℕ) → Maps (nameOf ts) (Words.expect aName (wordsOf ts) i (Definitions.nameAt (wordsOf ts) i)) (expect aName ts i (textAt ts i))
   unfolding expect Words.expect nameOf
   name-of-maps i =
       maps-if _ _ _ _ _ _ (is-at ts sane _ i)
       (λ e. maps-good (rw (procedure-at ts sane i (eqb-true _ _ e), name-home-at ts sane i (eqb-true _ _ e))))
       (λ _. maps-wrong)
 
-  pub procedure-maps : (i : ℕ) → Maps (headOf ts) (Bodies.procedure (wordsOf ts) i) (procedure ts i)
-  unfolding procedure Bodies.procedure Bodies.body headOf
+  pub procedure-maps : (i : ℕ) → Maps (headOf ts) (Definitions.procedure (wordsOf ts) i) (procedure ts i)
+  unfolding procedure Definitions.procedure Definitions.body headOf
   procedure-maps i =
       maps-after _ _ (skip-maps wordDef i) λ _ i₁ _.
       maps-after _ _ (name-of-maps i₁) λ f i₂ _.
@@ -193,8 +194,8 @@ module _ (ts : List Token) (sane : Sane ts) where
       maps-after _ _ (statements-maps (statement-maps 64) i₅) λ ss i₆ _.
       maps-good (rw (place-at ts sane i)))
 
-  procedures-from-maps : (rounds i : ℕ) → Maps (map (headOf ts)) (Bodies.proceduresFrom rounds (wordsOf ts) i) (proceduresFrom rounds ts i)
-  unfolding proceduresFrom Bodies.proceduresFrom
+  procedures-from-maps : (rounds i : ℕ) → Maps (map (headOf ts)) (Definitions.proceduresFrom rounds (wordsOf ts) i) (proceduresFrom rounds ts i)
+  unfolding proceduresFrom Definitions.proceduresFrom
   procedures-from-maps zero i = maps-wrong
   procedures-from-maps (suc rounds) i =
       maps-after _ _ (procedure-maps i) λ f j _.
@@ -209,6 +210,6 @@ module _ (ts : List Token) (sane : Sane ts) where
       → Bodies.statements (Bodies.statement left (wordsOf ts)) (wordsOf ts) i ≡ mapGot (λ ss. codeOfStatements ss ts) (statements (statement left ts) ts i)
   statements-law left i = statements-maps (statement-maps left) i .same
 
-  pub procedures-law : Bodies.procedures (wordsOf ts) ≡ mapGot (map (headOf ts)) (proceduresFrom (suc (length ts)) ts 0)
-  unfolding Bodies.procedures
+  pub procedures-law : Definitions.procedures (wordsOf ts) ≡ mapGot (map (headOf ts)) (proceduresFrom (suc (length ts)) ts 0)
+  unfolding Definitions.procedures
   procedures-law = rw (length-map ts (prepared ts)) (procedures-from-maps (suc (length ts)) 0 .same)

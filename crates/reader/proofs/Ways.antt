@@ -18,11 +18,11 @@ use Rattle.lexer.specs.Lexing as Lexing
 use Rattle.lexer.proofs.Decode.{held, words-decode, word-decodes}
 use Rattle.names.specs.Prepared.{preparedAll}
 use Rattle.names.specs.Index.{Room}
-use Rattle.statements.specs.declared.Parsed.{Parsed}
-use Rattle.statements.specs.declared.Parsed.the-variants.{Whole, Twice, Misfit}
-use Rattle.statements.specs.Words.{nothing, tableIn, seenWhole, writtenWhole}
-use Rattle.statements.specs.Words as Bodies
-use Rattle.statements.specs.Room.{Halves}
+use Rattle.definitions.specs.declared.Parsed.{Parsed}
+use Rattle.definitions.specs.declared.Parsed.the-variants.{Whole, Twice, Misfit}
+use Rattle.definitions.specs.Words.{nothing, tableIn, seenWhole, writtenWhole}
+use Rattle.definitions.specs.Words as Definitions
+use Rattle.definitions.specs.Room.{Halves}
 use Rattle.reader.specs.declared.Program.{Program}
 use Rattle.reader.specs.declared.Program.the-variants.{Formed, Malformed}
 use Rattle.reader.specs.Coded.{wordsOf}
@@ -134,7 +134,7 @@ module _ (program words code : List ℕ) (w : Worded program words code) where
   unfolding tokensAmong
   among = rw (w .are)
 
-  ways : toSeen ts program (w .few) (writtenWhole (length ts) nothing (Bodies.procedures (wordsOf ts))) ≡ coded (tokensIn program) (reading program)
+  ways : toSeen ts program (w .few) (writtenWhole (length ts) nothing (Definitions.procedures (wordsOf ts))) ≡ coded (tokensIn program) (reading program)
   ways =
       ap (λ g. toSeen ts program (w .few) (writtenWhole (length ts) nothing g)) (procedures-law ts sane)
       ∙ whole-law ts program (w .few) ∙ ap (coded ts) (sym read-so) ∙ ap (λ (xs : List Token). coded xs (reading program)) (sym among)
@@ -168,7 +168,7 @@ module _ (program words code : List ℕ) (w : Worded program words code) where
         let so : ws ≡ wordsOf (tokensIn program) = given-words ∙ ap wordsOf (sym (among program words code w)) in
         (ap (λ (xs : List ℕ). length xs) so ∙ length-map (tokensIn program) _, take-length ws ∙ so)
 
-    module _ (r : Parsed) (slice : List ℕ) (h : seenWhole r slice ≡ writtenWhole (length ws) nothing (Bodies.procedures ws)) where
+    module _ (r : Parsed) (slice : List ℕ) (h : seenWhole r slice ≡ writtenWhole (length ws) nothing (Definitions.procedures ws)) where
       answer : (a : Seen) → toSeen (w .tokens) program (w .few) (seenWhole r slice) ≡ a → a ≡ coded (tokensIn program) (reading program)
       answer a e =
           let l : length ws ≡ length (w .tokens) = rw (given-words, length-map) in

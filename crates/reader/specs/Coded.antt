@@ -7,7 +7,7 @@ use Rattle.meaning.specs.Grammar.{Got, good, wrong, Inside, noLevel, level, Rea
 use Rattle.names.specs.Prepared.{procedureNumber, prepared}
 use Rattle.code.specs.Code.{slotOf, codeOf, codeOfStatements}
 use Rattle.expressions.specs.Words.{Piece, piece}
-use Rattle.statements.specs.Words.{Name, Head}
+use Rattle.definitions.specs.Words.{Name, Head}
 
 -- the words of some tokens
 abbrev pub wordsOf : List Token → List ℕ

@@ -1,6 +1,6 @@
 // Reading a program: its tokens, its names, its grammar.
+use definitions::Parsed;
 use lexer::Tokens;
-use statements::Parsed;
 use tokens::place_of;
 ghost use mathlib.Core.Path.{_≡_};
 ghost use Rattle.meaning.specs.Grammar.{reading};
@@ -37,7 +37,7 @@ fn parse(program: &[u8], tokens: &mut [u64], code: &mut [u64]) -> Program
         × Kept r (tokensIn (now (program .entry))) (now (tokens .exit)) ⌝ }
 {
     names::prepare(program, tokens, code);
-    let p = statements::parse(tokens, code);
+    let p = definitions::parse(tokens, code);
     match p {
         Parsed::Whole(w, n) => Program::Formed(w, n, tokens.len()),
         Parsed::Twice(place) => Program::Malformed(60, place),

@@ -93,11 +93,11 @@ pub record Entered (program : List ℕ) (ts : List Token) (g : List ℕ) (r : Ra
   pub unit : getD (r .words) loopUnit 0 ≡ 0
 
 module _ (program : List ℕ) (ts : List Token) (g : List ℕ) (few : length ts ≤ 8192) (texts words : List ℕ) (lent : Lent g texts words)
-    (blank : Blank words) (x y : List ℕ) (o : Occurs ts aName x) (p : Occurs ts aName y)
+    (blank : Blank g words) (x y : List ℕ) (o : Occurs ts aName x) (p : Occurs ts aName y)
     (own-x : isIn (slotOf ts x) (scopeOf program ts 0) ≡ true) (own-y : isIn (slotOf ts y) (scopeOf program ts 0) ≡ true)
     (width height : ℤ) (w-small : mag width < 2 ^ 31) (h-small : mag height < 2 ^ 31) where
   start : Related program ts g (raw texts words) empty nothingYet
-  start = begins program ts g texts words lent (blank .front) (blank .behind)
+  start = begins program ts g texts words lent (blank .front) (blank .entries)
 
   -- ---- both declared
   abbrev one : Raw

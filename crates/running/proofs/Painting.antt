@@ -60,7 +60,7 @@ own-second x y = go (eqb x y)
 -- ---- main's body
 module _ (program code g : List ℕ) (short : length program ≤ 32768) (ts : List Token) (m : Tree.Program) (read : Read program ts m) (different : doubled [] (m .procedures) ≡ none)
     (stands : Stands code 0 (codeOfProcedures (m .procedures) ts)) (table : Stands code 8192 (tabled 0 (m .procedures) ts (replicate 8192 0)))
-    (texts words : List ℕ) (lent : Lent g texts words) (blank : Blank words)
+    (texts words : List ℕ) (lent : Lent g texts words) (blank : Blank g words)
     (width height : ℤ) (w-small : mag width < 2 ^ 31) (h-small : mag height < 2 ^ 31) {granted : Amounts} (gr : Grants g granted) where
   abbrev e : Setting
   e = setting program code g
@@ -155,7 +155,7 @@ module _ (program code g texts words : List ℕ) (short : length program ≤ 327
         by-names m s (x ∷ y ∷ []) q l = absurd (l (rw q))
         by-names m s (x ∷ y ∷ z ∷ xs) q l = record { follows = λ granted gr. rw (s .different, q) (failed 20 0 (raw texts words) steps) }
 
-    pub read-body : parametersIn d ≡ 2 → (lent : Lent g texts words) (blank : Blank words) → mag width < 2 ^ 31 → mag height < 2 ^ 31
+    pub read-body : parametersIn d ≡ 2 → (lent : Lent g texts words) (blank : Blank g words) → mag width < 2 ^ 31 → mag height < 2 ^ 31
         → (e : Ending) (ts ws : List ℕ) → shownEnding e ts ws ≡ mainRun (setting program code g) d width height (raw texts words)
         → Ran program g (readingRun program width height g) e ts ws
     read-body two lent blank w-small h-small e ts ws h = by-program e ts ws (λ m s. by-names m s (m .main .parameters) refl

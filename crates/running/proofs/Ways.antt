@@ -1,10 +1,11 @@
 -- One law for each way through each function.
 use Prim.Native.Nat.{ℕ, zero, suc, _+_, _-_, _^_, _≤_, _<_}
 use native.Mathlib.Omega.{arith}
+use native.Mathlib.Nat.{add-mul}
 use mathlib.Core.Path.{_≡_, refl, ap, sym, _∙_}
 use mathlib.Core.Bool.{Bool, true, false, not, _&&_}
-use mathlib.Core.List.{List, _++_, append-nil}
-use lib.ListN.{getD, set, length, take, drop, replicate, length-append, length-set, length-drop, length-replicate, drop-of-length-le, List·getD-append}
+use mathlib.Core.List.{List, _++_}
+use lib.ListN.{getD, set, length, take, drop, replicate, length-append, length-set, length-drop, length-replicate, List·getD-append}
 use lib.Seq.{length-take-le, getD-take, getD-append-add}
 use lib.IntN.{ℤ, pos}
 use lib.Signed.{mag, ltZ}
@@ -13,7 +14,7 @@ use mir.Val.{toZ, ofZ, SFits}
 use mir.Facts.{toZ-ofZ}
 use lib.Dec.{eqb}
 use borrow.Author.Tests.{not-true, not-false, eq-eqb, ne-eqb}
-use borrow.Rule.Slice.PartMut.{midOf, putMid}
+use borrow.Rule.Slice.PartMut.{midOf, putMid, mid-len}
 use Rattle.meaning.specs.Grammar.{reading}
 use Rattle.reader.specs.declared.Program.{Program}
 use Rattle.reader.specs.declared.Program.the-variants.{Formed, Malformed}
@@ -22,7 +23,7 @@ use Rattle.machine.specs.declared.Value.{Value}
 use Rattle.machine.specs.declared.Value.the-variants.{Integer}
 use Rattle.machine.specs.Words.{packed}
 use Rattle.machine.specs.Opcodes.{startIn, parametersIn, bodyIn}
-use Rattle.machine.specs.Layout.{stepsUsed, callsUsed, callsGranted, fixedWords, argumentPlace, Room, Lent}
+use Rattle.machine.specs.Layout.{stepsUsed, callsUsed, shapesGranted, entriesGranted, callsGranted, argumentPlace, shapePlace, entryPlace, componentPlace, Room, Lent}
 use Rattle.machine.specs.Act.{raw, goOn, _>>=_, give, store, passed, Passes, Pays, Gives}
 use Rattle.machine.specs.Variables.{declare, setVariable}
 use Rattle.stores.proofs.Acts.{after-pass, after-refusal, after-gift}
@@ -170,51 +171,55 @@ module _ (program code g tokens unread ts ws : List ℕ) (ready : ReadyToRead pr
         read-body program code g ts ws (ready .short) width height r left main n t e (sym q ∙ two) (ready .ready .lent) (ready .blank) (f .sfits) (f₂ .sfits) x ts₁ ws₁
         (rw (toZ-ofZ f, toZ-ofZ f₂) at h)
 
--- ---- `clear_but_stack`
+-- ---- `clear_first`
 zero-at : (n i : ℕ) → _≡_ {A = ℕ} (getD (replicate n 0) i 0) 0
 zero-at zero i = refl
 zero-at (suc n) zero = refl
 zero-at (suc n) (suc i) = zero-at n i
 
--- the words with zeros e in front, and then with zeros f behind the stack
-module _ (ws e f : List ℕ) (long : fixedWords ≤ length ws) (c : e ≡ replicate (length (take (argumentPlace 0) ws)) 0)
-    (d : f ≡ replicate (length (midOf fixedWords (length (e ++ drop (argumentPlace 0) ws) - fixedWords) (e ++ drop (argumentPlace 0) ws))) 0) where
+-- the words with zeros e in front, and then with zeros f from a to b
+module _ (g ws e f : List ℕ) (a b : ℕ) (room : Room g ws) (from : a ≡ shapePlace (shapesGranted g)) (to : b ≡ componentPlace g 0) (c : e ≡ replicate (length (take (argumentPlace 0) ws)) 0)
+    (d : f ≡ replicate (length (midOf a (b - a) (e ++ drop (argumentPlace 0) ws))) 0) where
   abbrev half : List ℕ
   half = e ++ drop (argumentPlace 0) ws
 
+  long : componentPlace g 0 ≤ length ws
+  long = omega (arith, room .words, add-mul 5 (callsGranted g) (entriesGranted g))
+
   as-many : length e ≡ argumentPlace 0
-  as-many = ap length c ∙ length-replicate (length (take (argumentPlace 0) ws)) 0 ∙ length-take-le (argumentPlace 0) ws (omega arith)
+  as-many = ap length c ∙ length-replicate (length (take (argumentPlace 0) ws)) 0 ∙ length-take-le (argumentPlace 0) ws (omega (arith, long))
 
   half-long : length half ≡ length ws
-  half-long = length-append e (drop (argumentPlace 0) ws) ∙ rw (as-many, length-drop (argumentPlace 0) ws) (omega arith)
+  half-long = length-append e (drop (argumentPlace 0) ws) ∙ rw (as-many, length-drop (argumentPlace 0) ws) (omega (arith, long))
+
+  front-long : length (take a half) ≡ a
+  front-long = length-take-le a half (omega (arith, half-long, long, from))
+
+  f-long : length f ≡ b - a
+  f-long = ap length d ∙ length-replicate (length (midOf a (b - a) half)) 0 ∙ mid-len a b half (omega (arith, half-long, long, to))
 
   abbrev done : List ℕ
-  done = putMid fixedWords (length half - fixedWords) half f
+  done = putMid a (b - a) half f
 
-  done-is : done ≡ take fixedWords half ++ f
-  done-is =
-      ap (λ (l : List ℕ). take fixedWords half ++ (f ++ l)) (drop-of-length-le (drop fixedWords half) {i = length half - fixedWords} (rw (length-drop fixedWords half) (omega arith)))
-      ∙ ap (λ (l : List ℕ). take fixedWords half ++ l) (append-nil f)
-
-  front-long : length (take fixedWords half) ≡ fixedWords
-  front-long = length-take-le fixedWords half (omega (arith, half-long))
+  abbrev rest : List ℕ
+  rest = drop (b - a) (drop a half)
 
   in-front : (i : ℕ) → i < argumentPlace 0 → getD done i 0 ≡ 0
   in-front i l =
-      ap (λ (s : List ℕ). getD s i 0) done-is ∙ List·getD-append (take fixedWords half) f 0 i (omega (arith, front-long))
-      ∙ getD-take fixedWords half i 0 (omega arith) ∙ List·getD-append e (drop (argumentPlace 0) ws) 0 i (omega (arith, as-many)) ∙ rw c (zero-at (length (take (argumentPlace 0) ws)) i)
+      List·getD-append (take a half) (f ++ rest) 0 i (omega (arith, front-long, from))
+      ∙ getD-take a half i 0 (omega (arith, from)) ∙ List·getD-append e (drop (argumentPlace 0) ws) 0 i (omega (arith, as-many)) ∙ rw c (zero-at (length (take (argumentPlace 0) ws)) i)
 
-  at-end : (i : ℕ) → fixedWords ≤ i → getD done i 0 ≡ 0
-  at-end i l =
-      let k : i ≡ length (take fixedWords half) + (i - fixedWords) = omega (arith, front-long) in
-      ap (λ (s : List ℕ). getD s i 0) done-is ∙ ap (λ (j : ℕ). getD (take fixedWords half ++ f) j 0) k
-      ∙ getD-append-add (take fixedWords half) f (i - fixedWords) 0 ∙ rw d (zero-at (length (midOf fixedWords (length half - fixedWords) half)) (i - fixedWords))
+  in-entries : (i : ℕ) → entryPlace g 0 ≤ i → i < componentPlace g 0 → getD done i 0 ≡ 0
+  in-entries i l m =
+      let k : i ≡ length (take a half) + (i - a) = omega (arith, front-long, from) in
+      ap (λ (j : ℕ). getD (take a half ++ (f ++ rest)) j 0) k ∙ getD-append-add (take a half) (f ++ rest) (i - a) 0
+      ∙ List·getD-append f rest 0 (i - a) (omega (arith, f-long, from, to)) ∙ rw d (zero-at (length (midOf a (b - a) half)) (i - a))
 
-  pub both-cleared : Blank done
-  both-cleared = record { front = in-front; behind = at-end }
+  pub both-cleared : Blank g done
+  both-cleared = record { front = in-front; entries = in-entries }
 
 -- ---- `run`
-module _ (program g tokens code ts ws₀ ws : List ℕ) (ready : Ready g tokens code ts ws₀) (long : length ws ≡ length ws₀) (blank : Blank ws) (width height : ℤ)
+module _ (program g tokens code ts ws₀ ws : List ℕ) (ready : Ready g tokens code ts ws₀) (long : length ws ≡ length ws₀) (blank : Blank g ws) (width height : ℤ)
     (f : SFits w32 width) (f₂ : SFits w32 height) (ok : Bool) (sheet : ok ≡ (ltZ (pos 0) (held width) && ltZ (pos 0) (held height))) where
   is : ok ≡ (ltZ (pos 0) width && ltZ (pos 0) height)
   is = sheet ∙ rw (toZ-ofZ f, toZ-ofZ f₂)

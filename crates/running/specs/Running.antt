@@ -14,7 +14,7 @@ use Rattle.meaning.specs.Picture.{linesOf}
 use Rattle.machine.specs.declared.Value.the-variants.{Integer}
 use Rattle.machine.specs.Words.{packed}
 use Rattle.machine.specs.Opcodes.{startIn, bodyIn}
-use Rattle.machine.specs.Layout.{stepsUsed, callsUsed, linesLength, stepsGranted, callsGranted, fixedWords, argumentPlace, Room}
+use Rattle.machine.specs.Layout.{stepsUsed, callsUsed, linesLength, stepsGranted, callsGranted, argumentPlace, entryPlace, componentPlace, Room}
 use Rattle.machine.specs.Act.{Raw, raw, Out, done, stop, Act, give, store, spend, _>>_, _>>=_}
 use Rattle.machine.specs.Variables.{declare, setVariable}
 use Rattle.machine.specs.Evaluate.{Setting}
@@ -87,12 +87,12 @@ abbrev pub readingRun : List ℕ → ℤ → ℤ → List ℕ → Run (List Figu
 readingRun program width height g = paintRead (reading program) width height (suc (stepsGranted g)) empty
 
 -- ---- what is asked
--- the words hold zeros before the stack and behind it
-pub record Blank (ws : List ℕ) : Type 0 where
+-- the words hold zeros before the stack and where entries stand; what the others hold means nothing
+pub record Blank (g ws : List ℕ) : Type 0 where
   pub front : (i : ℕ) → i < argumentPlace 0 → getD ws i 0 ≡ 0
-  pub behind : (i : ℕ) → fixedWords ≤ i → getD ws i 0 ≡ 0
+  pub entries : (i : ℕ) → entryPlace g 0 ≤ i → i < componentPlace g 0 → getD ws i 0 ≡ 0
 
 pub record ReadyToRead (program g tokens code ts ws : List ℕ) : Type 0 where
   pub ready : Ready g tokens code ts ws
   pub short : length program ≤ 32768
-  pub blank : Blank ws
+  pub blank : Blank g ws

@@ -135,7 +135,7 @@ fn run_main(
     }
 }
 
-// A program of at most 32,768 bytes on a sheet, where the words hold zeros.
+// A program of at most 32,768 bytes on a sheet, with words that are cleared for a run.
 fn run_read(
     program: &[u8],
     width: i32,
@@ -162,13 +162,15 @@ fn run_read(
     }
 }
 
-// Zeros in the words before the stack and behind it. What the stack holds before a run does not count.
-fn clear_but_stack(words: &mut [u64])
-    requires { ⌜ fixedWords ≤ length (now words) ⌝ }
-    ensures { λ _. ⌜ Blank (now (words .exit)) ⌝ }
+// Zeros in the words before the stack and in those of entries. What the others hold before a run does not count.
+fn clear_first(words: &mut [u64], grants: &[u64; 5])
+    requires { ⌜ Room (now grants) (now words) ⌝ }
+    ensures { λ _. ⌜ Blank (now (grants .entry)) (now (words .exit)) ⌝ }
 {
+    let a = stores::shapes::place_of(grants[granted::SHAPES] as u32);
+    let b = stores::components::place_of(grants, 0);
     slices::clear_words(&mut words[..layout::FIRST_ARGUMENT]);
-    slices::clear_words(&mut words[layout::FIXED_WORDS..]);
+    slices::clear_words(&mut words[a..b]);
 }
 
 // Runs a program. The words and the text store then hold what it left, and the words how many steps were counted and how long the lines of its scene are.
@@ -186,7 +188,7 @@ pub fn run(
     ensures { λ r. ⌜ Ran (now (program .entry)) (now (grants .entry)) (paintingRun (now (program .entry)) width height (now (grants .entry)))
         r (now (texts .exit)) (now (words .exit)) ⌝ }
 {
-    clear_but_stack(words);
+    clear_first(words, grants);
     if !is_sheet(width, height) {
         return Ending::Stopped(72, 0);
     }

@@ -1,5 +1,2 @@
-mod Figures
+pub mod Figures
 mod MeasureLaws
-mod ShowLaws
-mod WriteLaws
-mod Words

@@ -18,12 +18,12 @@ use Rattle.machine.specs.Groups.{componentAt, wayPlace}
 use Rattle.machine.specs.Show.{measure, showReached, show, showIn, showFrom, showScene}
 use Rattle.values.proofs.Laws.{unpacked-shape, by-kind}
 use Rattle.stores.proofs.Acts.{after-pass, after-refusal}
-use Rattle.groups.specs.declared.Turn.{Turn}
-use Rattle.groups.specs.declared.Turn.the-variants.{At, Stopped}
-use Rattle.groups.specs.Walks.{Ends, walking, Turned, Under, backAt, Descended}
-use Rattle.groups.proofs.WalkLaws.{Keeps, keeps-then, keeps-either, keeps-store, Steady}
-use Rattle.groups.proofs.TurnLaws.{room-same, turn-climbs, turn-stops, turn-figure, turn-group}
-use Rattle.groups.proofs.DestroyLaws.{keeps-spend}
+use Rattle.walks.specs.declared.Turn.{Turn}
+use Rattle.walks.specs.declared.Turn.the-variants.{At, Stopped}
+use Rattle.walks.specs.Walks.{Ends, walking, Turned, Under, backAt, Descended}
+use Rattle.walks.proofs.WalkLaws.{Keeps, keeps-then, keeps-either, keeps-store, Steady}
+use Rattle.walks.proofs.TurnLaws.{room-same, turn-climbs, turn-stops, turn-figure, turn-group}
+use Rattle.walks.proofs.DestroyLaws.{keeps-spend}
 use Rattle.scene.specs.Scene.{figureFor}
 use Rattle.scene.specs.Measuring.{lineSize, sizeWith, measureReached, nothingLeft, Finishes}
 

@@ -9,7 +9,7 @@ use Rattle.meaning.specs.Picture.{lineOf}
 use Rattle.machine.specs.Act.{Raw, raw, Act, give, held, count, passed, _>>=_, _>>_}
 use Rattle.machine.specs.Shapes.{isGroupAt}
 use Rattle.machine.specs.Show.{measure}
-use Rattle.groups.specs.Walks.{Doing}
+use Rattle.walks.specs.Walks.{Doing}
 use Rattle.scene.specs.Scene.{figureFor}
 
 -- how long the line of a shape is

@@ -1,19 +1,18 @@
 // How long the lines of a scene are. A step is counted for each component that is reached.
 use crate::lines;
-use groups::Turn;
-use groups::walks;
 use machine::counters;
 use machine::kinds;
 use machine::layout;
 use stores::components;
 use stores::shapes;
+use walks::Turn;
 ghost use Prim.Native.Nat.{_≤_};
 ghost use lib.ListN.{length, getD};
 ghost use Rattle.machine.specs.Words.{unpacked};
 ghost use Rattle.machine.specs.Layout.{declared, fixedWords, Room};
 ghost use Rattle.machine.specs.Act.{Gives, Passes};
 ghost use Rattle.machine.specs.Show.{measure, show, showIn, showFrom, showScene};
-ghost use Rattle.groups.specs.Walks.{Ends, walking, Turned, Under};
+ghost use Rattle.walks.specs.Walks.{Ends, walking, Turned, Under};
 ghost use Rattle.scene.specs.Measuring.{sizeWith, measureReached, nothingLeft, Finishes};
 
 // Adds the length of a shape's line.

@@ -1,4 +1,4 @@
--- Where nothing was done yet: words of 0, but on the stack, stand for the empty state. And main's call.
+-- Where nothing was done yet: words of 0 before the stack and where entries stand are the empty state. And main's call.
 use Prim.Native.Nat.{ℕ, zero, suc, _+_, _-_, _*_, _≤_, _<_}
 use native.Mathlib.Omega.{arith}
 use mathlib.Core.Path.{_≡_, refl, sym, _∙_}
@@ -26,10 +26,10 @@ use Rattle.machine.specs.Layout.{
   entriesMade,
   componentsMade,
   loopUnit,
-  entriesGranted,
   callsGranted,
   pathPlace,
-  fixedWords,
+  entryPlace,
+  componentPlace,
   valuePlace,
   argumentPlace,
   Lent,
@@ -39,14 +39,14 @@ use Rattle.machine.specs.Act as Act
 use Rattle.simulation.specs.Meant.{listed, variablesOf, suspendedOf, shapesOf, entriesOf}
 use Rattle.machine.specs.Tables.{headPlace}
 use Rattle.simulation.specs.Index.{last}
-use Rattle.simulation.specs.Sound.{Valid, Marks}
+use Rattle.simulation.specs.Sound.{Valid, markIn, Marks}
 use Rattle.simulation.specs.Follows.{Grants, Related, Later, Follows}
-use Rattle.simulation.proofs.Frames.{SameVariables, same-words, variables-kept, variables-same}
+use Rattle.simulation.proofs.Frames.{mark-none, mark-same, SameVariables, same-words, variables-kept, variables-same}
 use Rattle.simulation.proofs.Results.{due, steps-told, spent}
 use Rattle.simulation.proofs.Moving.{moved-later, moved-related}
 
 module _ (program : List ℕ) (ts : List Token) (g texts words : List ℕ) (lent : Lent g texts words)
-    (front : (i : ℕ) → i < argumentPlace 0 → getD words i 0 ≡ 0) (behind : (i : ℕ) → fixedWords ≤ i → getD words i 0 ≡ 0) where
+    (front : (i : ℕ) → i < argumentPlace 0 → getD words i 0 ≡ 0) (entries : (i : ℕ) → entryPlace g 0 ≤ i → i < componentPlace g 0 → getD words i 0 ≡ 0) where
   counter : (c : ℕ) → c < 16 → getD words c 0 ≡ 0
   counter c s = front c (omega arith)
 
@@ -92,8 +92,8 @@ module _ (program : List ℕ) (ts : List Token) (g texts words : List ℕ) (lent
         hollow = λ i l. none shapesUsed i (omega arith) l;
       };
       marks = record {
-        idle = λ d k x y z. behind _ (omega arith);
-        own = λ k x y. absurd (omega (arith, counter callsUsed (omega arith)));
+        idle = λ d k x y. mark-none g words d k (omega (arith, counter componentsMade (omega arith)));
+        own = λ k x. absurd (omega (arith, counter callsUsed (omega arith)));
       };
       entries = record {
         packs = λ k l. none entriesMade k (omega arith) l;
@@ -104,7 +104,7 @@ module _ (program : List ℕ) (ts : List Token) (g texts words : List ℕ) (lent
         index = record {
           few = rw (counter entriesMade (omega arith)) (omega arith);
           begins = λ b l. rw (
-            behind (headPlace g b) (omega arith),
+            entries (headPlace g b) (omega arith) (omega arith),
             counter entriesMade
                 (omega arith),
           );
@@ -159,12 +159,15 @@ module _ {program : List ℕ} {ts : List Token} {g : List ℕ} {r : Raw} {s : St
   -- no loop is under way
   marked : getD (r .words) callsUsed 0 + 1 ≤ callsGranted g → Marks g now
   marked fit = let m = h .sound .marks in record {
-    idle = λ d k x y z. other (pathPlace g d k) (λ e. omega arith) ∙ m .idle d k (omega (arith, one, first)) y z;
-    own = λ k x y.
+    idle = λ d k x y. same-mark d k ∙ m .idle d k (omega (arith, one, first)) y;
+    own = λ k x.
         let q : getD now callsUsed 0 - 1 ≡ 0 = omega (arith, one) in
-        let z : getD now (pathPlace g 0 k) 0 ≡ 0 = other (pathPlace g 0 k) (λ e. omega arith) ∙ m .idle 0 k (omega (arith, first)) (omega arith) y in
+        let z : markIn g now 0 k ≡ 0 = same-mark 0 k ∙ m .idle 0 k (omega (arith, first)) (omega arith) in
         rw (q, z) (omega arith);
   }
+    where
+      same-mark : (d k : ℕ) → markIn g now d k ≡ markIn g (r .words) d k
+      same-mark d k = mark-same g (r .words) d k now (other componentsMade (λ e. omega arith)) (other (pathPlace g d k) (λ e. omega arith))
 
   called : getD (r .words) callsUsed 0 + 1 ≤ callsGranted g → Called program ts g r (raw (r .texts) now) s (added total (due Run.calls 1 p))
   unfolding added resourceNumber
@@ -212,16 +215,16 @@ module _ {program : List ℕ} {ts : List Token} {g : List ℕ} {r : Raw} {s : St
 
   left-marks : Marks g left
   left-marks = record {
-    idle = λ d k x y z. as-was (pathPlace g d k) (λ e. omega arith) ∙ gone d k y z;
-    own = λ k x y. absurd (omega (arith, none-called));
+    idle = λ d k x y. mark-same g (r .words) d k left (as-was componentsMade (λ e. omega arith)) (as-was (pathPlace g d k) (λ e. omega arith)) ∙ gone d k y;
+    own = λ k x. absurd (omega (arith, none-called));
   }
     where
-      gone : (d k : ℕ) → d < callsGranted g → k < entriesGranted g → getD (r .words) (pathPlace g d k) 0 ≡ 0
-      gone zero k y z =
+      gone : (d k : ℕ) → d < callsGranted g → markIn g (r .words) d k ≡ 0
+      gone zero k y =
           let q : getD (r .words) callsUsed 0 - 1 ≡ 0 = omega (arith, one) in
-          let m : getD (r .words) (pathPlace g 0 k) 0 ≤ 2 * getD (r .words) loopUnit 0 - 1 = rw q at (h .sound .marks .own k (omega (arith, one)) z) in
+          let m : markIn g (r .words) 0 k ≤ 2 * getD (r .words) loopUnit 0 - 1 = rw q at (h .sound .marks .own k (omega (arith, one))) in
           omega (arith, idle)
-      gone (suc d) k y z = h .sound .marks .idle (suc d) k (omega (arith, one)) y z
+      gone (suc d) k y = h .sound .marks .idle (suc d) k (omega (arith, one)) y
 
   pub returns-main : Related program ts g (raw (r .texts) (set (r .words) callsUsed 0)) s (lowered total)
   unfolding lowered resourceNumber

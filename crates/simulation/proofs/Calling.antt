@@ -24,9 +24,7 @@ use Rattle.machine.specs.Layout.{
   entriesMade,
   componentsMade,
   loopUnit,
-  entriesGranted,
   callsGranted,
-  pathPlace,
   framePlace,
   valuePlace,
   argumentPlace,
@@ -39,12 +37,14 @@ use Rattle.machine.specs.Stack.{argumentAt}
 use Rattle.machine.specs.Variables.{waitingWord, wordIn, slotIn, frameWord, topIn, countIn}
 use Rattle.machine.specs.Procedures.{suspendFrom, suspend}
 use Rattle.simulation.specs.Meant.{listed, slotAt, variableAt, variablesOf, waitingAt, frameAt, frameOf, suspendedOf}
-use Rattle.simulation.specs.Sound.{Valid, Variables, Waiting, Marks}
+use Rattle.simulation.specs.Sound.{Valid, Variables, Waiting, markIn, Marks}
 use Rattle.simulation.specs.Follows.{Related, Later}
 use Rattle.simulation.proofs.Listed.{listed-more, listed-shift}
 use Rattle.simulation.proofs.Frames.{
   SameComponents,
   SameRest,
+  mark-same,
+  rest-mark,
   rest-marks,
   later-trans,
   valid-later,
@@ -245,7 +245,7 @@ module _ (program : List ℕ) (ts : List Token) (g : List ℕ) where
     pub procedure : getD (r′ .words) running 0 ≡ number
     pub unit : getD (r′ .words) loopUnit 0 ≡ 0
     pub parts : SameComponents g r r′
-    pub marks : (d k : ℕ) → d < getD (r .words) callsUsed 0 → k < entriesGranted g → getD (r′ .words) (pathPlace g d k) 0 ≡ getD (r .words) (pathPlace g d k) 0
+    pub marks : (d k : ℕ) → d < getD (r .words) callsUsed 0 → markIn g (r′ .words) d k ≡ markIn g (r .words) d k
     pub waits : (j : ℕ) → j < getD (r .words) declared 0
         → argumentAt (r′ .words) (getD (r .words) argumentsHeld 0 + j) ≡ waitingWord (slotAt (r .words) j) (getD (r .words) (valuePlace (slotAt (r .words) j)) 0)
 
@@ -281,12 +281,15 @@ module _ {program : List ℕ} {ts : List Token} {g : List ℕ} {r : Raw} {s : St
   now-high : (j : ℕ) → fixedWords ≤ j → getD now j 0 ≡ getD (r′ .words) j 0
   now-high j l = now-other j (λ e. omega arith) (λ e. omega arith)
 
+  now-mark : (d k : ℕ) → markIn g now d k ≡ markIn g (r′ .words) d k
+  now-mark d k = mark-same g (r′ .words) d k now (now-other componentsMade (λ e. omega arith) (λ e. omega arith)) (now-high _ (omega arith))
+
   now-marks : Marks g now
   now-marks = let m = a .related .sound .marks in record {
-    idle = λ d k x y z. now-high _ (omega arith) ∙ m .idle d k (omega (arith, calls-were, now-calls)) y z;
-    own = λ k x y.
+    idle = λ d k x y. now-mark d k ∙ m .idle d k (omega (arith, calls-were, now-calls)) y;
+    own = λ k x.
         let q : getD now callsUsed 0 - 1 ≡ getD (r .words) callsUsed 0 = omega (arith, now-calls) in
-        let z = now-high (pathPlace g (getD (r .words) callsUsed 0) k) (omega arith) ∙ m .idle (getD (r .words) callsUsed 0) k (omega (arith, calls-were)) (omega arith) y in
+        let z = now-mark (getD (r .words) callsUsed 0) k ∙ m .idle (getD (r .words) callsUsed 0) k (omega (arith, calls-were)) (omega arith) in
         rw (q, z) (omega arith);
   }
 
@@ -403,7 +406,7 @@ module _ {program : List ℕ} {ts : List Token} {g : List ℕ} {r : Raw} {s : St
       words = λ k l.
           now-high _ (omega arith) ∙ a .untouched .components k (omega (arith, waits-rest h fit number .parts)) ∙ waits-high h fit number _ (omega arith);
     };
-    marks = λ d k x y. now-high _ (omega arith) ∙ a .untouched .marks d k (omega (arith, waits-calls h fit number)) y ∙ waits-high h fit number _ (omega arith);
+    marks = λ d k x. now-mark d k ∙ a .untouched .marks d k (omega (arith, waits-calls h fit number)) ∙ rest-mark (waits-rest h fit number) d k;
     waits = own-word;
   }
     where

@@ -21,7 +21,7 @@ use Rattle.machine.specs.Loops.{markedAt, markedFrom, unmark, lookBehind}
 use Rattle.simulation.specs.Scope.{isIn}
 use Rattle.simulation.specs.Follows.{Related}
 use Rattle.simulation.proofs.Results.{unmoved}
-use Rattle.simulation.proofs.Marking.{markAt, AfterBut, but-after, own-call}
+use Rattle.simulation.proofs.Marking.{markAt, AfterBut, but-after, own-call, own-word}
 use Rattle.simulation.proofs.Paths.{Path, found-none, found-first}
 use Rattle.simulation.proofs.Remaining.{Stop, slots, remaining, nextUp, Way, Outcome, found, none, Sought}
 use Rattle.simulation.proofs.RemainingLaws.{way-below, way-later, remaining-later}
@@ -38,17 +38,18 @@ module _ (program : List ℕ) (ts : List Token) (g : List ℕ) (body : ℕ → R
   unmarked : {r : Raw} {ways : List Stop} → Here ways r → (j : ℕ) → j < nextUp end ways → markedAt g (r .words) j ≡ false
   unmarked {r} {ways} y j l =
       let inside = in-store program ts g body around unit end s total y j l in
-      let was : markAt g r j ≡ around j + cond (isIn j (slots ways)) unit 0 = y .path .each j inside in
+      let was : markAt g r j ≡ around j + cond (isIn j (slots ways)) unit 0 = y .path .each j in
       let was′ : markAt g r j ≡ around j + 0 = rw (fresh g (r .words) end j ways (y .way) l) at was in
-      rw (own-call (y .related) (y .some) j inside) (lt-leb (getD (r .words) loopUnit 0) (markAt g r j) (omega (arith, was′, y .unitIs, y .path .less j inside)))
+      rw (own-call (y .related) (y .some) j inside, own-word (y .related) (y .some) j inside) (lt-leb (getD (r .words) loopUnit 0) (markAt g r j) (omega (arith, was′, y .unitIs, y .path .less j)))
 
   marked : {r : Raw} {at : Stop} {ways : List Stop} → Here (at ∷ ways) r → markedAt g (r .words) (at .slot) ≡ true
   unfolding slots isIn
   marked {r} {at} {ways} y =
       let inside = in-upper program ts g body around unit end s total y in
-      let was : markAt g r (at .slot) ≡ around (at .slot) + cond (eqb (at .slot) (at .slot) || isIn (at .slot) (slots ways)) unit 0 = y .path .each (at .slot) inside in
+      let was : markAt g r (at .slot) ≡ around (at .slot) + cond (eqb (at .slot) (at .slot) || isIn (at .slot) (slots ways)) unit 0 = y .path .each (at .slot) in
       let was′ : markAt g r (at .slot) ≡ around (at .slot) + unit = rw (eq-eqb (at .slot) (at .slot) refl) at was in
-      rw (own-call (y .related) (y .some) (at .slot) inside) (le-leb (getD (r .words) loopUnit 0) (markAt g r (at .slot)) (omega (arith, was′, y .unitIs)))
+      rw (own-call (y .related) (y .some) (at .slot) inside, own-word (y .related) (y .some) (at .slot) inside)
+      (le-leb (getD (r .words) loopUnit 0) (markAt g r (at .slot)) (omega (arith, was′, y .unitIs)))
 
   next-none : {r : Raw} → Here [] r → (k : ℕ) → markedFrom g (r .words) (k + 1) (end - k - 1) ≡ 0
   unfolding nextUp
@@ -113,7 +114,7 @@ module _ (program : List ℕ) (ts : List Token) (g : List ℕ) (body : ℕ → R
         let l : at .slot < nextUp end ways = omega (arith, way .0 .below) in
         let x = look body end fits (y .related) (y .some) (y .unitIs) (y .inEnd) ways (y .path) (way .1) (at .depth) (at .slot + 1) (followersAt g (r .words) (at .slot)) (way .0) in
         let q : (at .slot + 1) % 2 ^ 16 ≡ at .slot + 1 =
-        omega (arith, in-store program ts g body around unit end s total y (at .slot) l, y .related .sound .lent .room .entries) in
+        omega (arith, in-store program ts g body around unit end s total y (at .slot) l, c .made, c .entries, y .related .sound .lent .room .entries) in
         rw (q, x .is) (back (at .slot) ways r (x .slices) (x .result) _ y (x .after) l t (x .outcome))
 
   climb : (turns : ℕ) (at : Stop) (ways : List Stop) (r : Raw) → Here ways r → Way g (r .words) end (at ∷ ways) → end ≤ turns + at .slot

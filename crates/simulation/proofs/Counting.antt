@@ -44,7 +44,7 @@ use Rattle.simulation.specs.Follows.{Grants, Related, Later, Follows}
 use Rattle.simulation.proofs.Binding.{bind}
 use Rattle.simulation.proofs.Frames.{stays-words, later-trans, SameRest, untouched-trans, untouched-words, SameVariables, same-words, SameWaiting, same-waiting, SameShapes}
 use Rattle.simulation.proofs.Holding.{SameEntries}
-use Rattle.simulation.proofs.Results.{due, given, Untouched, After, AfterValue, Values, onward, steps-told, refused, kept-related, spent}
+use Rattle.simulation.proofs.Results.{due, given, Untouched, After, AfterValue, Values, unmoved, onward, steps-told, refused, kept-related, spent}
 
 -- ---- lengths
 pub lent-set : {g ts ws : List ℕ} (i x : ℕ) → Lent g ts ws → Lent g ts (set ws i x)
@@ -120,6 +120,74 @@ aside h i x l = record {
   variables = λ j a b e. omega arith;
 }
 
+-- ---- steps and tables
+-- a counter of these rises, and no more tables are made than steps counted
+module _ {program : List ℕ} {ts : List Token} {g : List ℕ} {r₀ r : Raw} {s : State} {total : Amounts} (a : After program ts g r₀ r s total)
+    (i x : ℕ) (low : i < callsUsed) (apart : (j : ℕ) → j ≢ stepsUsed → j ≢ tablesMade → j ≢ i)
+    (steps : getD (r .words) stepsUsed 0 ≤ getD (set (r .words) i x) stepsUsed 0) (tables : getD (r .words) tablesMade 0 ≤ getD (set (r .words) i x) tablesMade 0)
+    (fit : getD (set (r .words) i x) stepsUsed 0 ≤ stepsGranted g) (few : getD (set (r .words) i x) tablesMade 0 ≤ getD (set (r .words) i x) stepsUsed 0) where
+  abbrev risen : Raw
+  risen = raw (r .texts) (set (r .words) i x)
+
+  was : (j : ℕ) → 0 < j → j ≢ tablesMade → getD (risen .words) j 0 ≡ getD (r .words) j 0
+  was j m n = other (a .related) i x j (apart j (λ e. omega arith) n)
+
+  shapes-were : getD (risen .words) shapesUsed 0 ≡ getD (r .words) shapesUsed 0
+  shapes-were = was shapesUsed (omega arith) (λ e. omega arith)
+
+  entries-were : getD (risen .words) entriesUsed 0 ≡ getD (r .words) entriesUsed 0
+  entries-were = was entriesUsed (omega arith) (λ e. omega arith)
+
+  text-was : getD (risen .words) textUsed 0 ≡ getD (r .words) textUsed 0
+  text-was = was textUsed (omega arith) (λ e. omega arith)
+
+  arguments-were : getD (risen .words) argumentsHeld 0 ≡ getD (r .words) argumentsHeld 0
+  arguments-were = was argumentsHeld (omega arith) (λ e. omega arith)
+
+  calls-were : getD (risen .words) callsUsed 0 ≡ getD (r .words) callsUsed 0
+  calls-were = was callsUsed (omega arith) (λ e. omega arith)
+
+  untouched : Untouched g r risen
+  untouched = set-untouched (a .related) i x (aside (a .related) i x low) (λ k l e. omega arith)
+
+  later : Later program r risen
+  later = record {
+    steps = steps;
+    shapes = omega (arith, shapes-were);
+    text = omega (arith, text-was);
+    tables = tables;
+    texts = λ t v. refl;
+    figures = λ k l. stays-words (r .words) (risen .words) k (λ j m. was _ (omega arith) (λ e. omega arith));
+  }
+
+  counted : Counted g (risen .words)
+  counted = let c = a .related .sound .counted in record {
+    steps = fit;
+    shapes = rw shapes-were (c .shapes);
+    entries = rw entries-were (c .entries);
+    made = rw (was entriesMade (omega arith) (λ e. omega arith), was componentsMade (omega arith) (λ e. omega arith), entries-were) (c .made);
+    text = rw text-was (c .text);
+    tables = few;
+    arguments = rw arguments-were (c .arguments);
+    calls = rw calls-were (c .calls);
+  }
+
+  rises : {total′ : Amounts} (t : ℕ) → getD (risen .words) tablesMade 0 + getD (r₀ .words) stepsUsed 0 ≤ getD (r₀ .words) tablesMade 0 + getD (risen .words) stepsUsed 0
+      → t ≡ getD (risen .words) tablesMade 0 → total′ Run.steps ≡ getD (risen .words) stepsUsed 0
+      → total′ Run.shapes ≡ total Run.shapes → total′ Run.entries ≡ total Run.entries → total′ Run.textBytes ≡ total Run.textBytes → total′ Run.calls ≡ total Run.calls
+      → After program ts g r₀ risen (record { variables = s .variables; suspended = s .suspended; shapes = s .shapes; tables = t; entries = s .entries }) total′
+  rises t spare e u v w y z = let h = a .related in record {
+    related = set-related h i x (aside h i x low) later
+        (λ q. apart declared (λ e. omega arith) (λ e. omega arith) (sym q)) (λ q. apart shapesUsed (λ e. omega arith) (λ e. omega arith) (sym q))
+        (λ q. apart entriesMade (λ e. omega arith) (λ e. omega arith) (sym q)) counted
+        (same-waiting later untouched (rw arguments-were (le-refl _)) (h .sound .waiting) ts) refl refl refl e refl
+        u (v ∙ h .shapesTaken ∙ sym shapes-were) (w ∙ h .entriesTaken ∙ sym entries-were) (y ∙ h .textTaken ∙ sym text-was) (z ∙ h .callsTaken ∙ sym calls-were);
+    later = later-trans (a .later) later;
+    spare = spare;
+    held = arguments-were ∙ a .held;
+    untouched = untouched-trans (rw (a .held) (le-refl _)) (a .untouched) untouched;
+  }
+
 -- ---- a step
 -- what follows a step: fewer tables were made than steps counted
 module _ (program : List ℕ) (ts : List Token) (g : List ℕ) where
@@ -136,62 +204,15 @@ module _ {program : List ℕ} {ts : List Token} {g : List ℕ} where
     next-steps : getD (next .words) stepsUsed 0 ≡ getD (r .words) stepsUsed 0 + 1
     next-steps = here h stepsUsed _ (omega arith)
 
-    next-shapes : getD (next .words) shapesUsed 0 ≡ getD (r .words) shapesUsed 0
-    next-shapes = other h stepsUsed _ shapesUsed (λ e. omega arith)
-
-    next-entries : getD (next .words) entriesUsed 0 ≡ getD (r .words) entriesUsed 0
-    next-entries = other h stepsUsed _ entriesUsed (λ e. omega arith)
-
-    next-text : getD (next .words) textUsed 0 ≡ getD (r .words) textUsed 0
-    next-text = other h stepsUsed _ textUsed (λ e. omega arith)
-
     next-tables : getD (next .words) tablesMade 0 ≡ getD (r .words) tablesMade 0
     next-tables = other h stepsUsed _ tablesMade (λ e. omega arith)
-
-    next-arguments : getD (next .words) argumentsHeld 0 ≡ getD (r .words) argumentsHeld 0
-    next-arguments = other h stepsUsed _ argumentsHeld (λ e. omega arith)
-
-    next-calls : getD (next .words) callsUsed 0 ≡ getD (r .words) callsUsed 0
-    next-calls = other h stepsUsed _ callsUsed (λ e. omega arith)
-
-    next-untouched : Untouched g r next
-    next-untouched = set-untouched h stepsUsed _ (aside h stepsUsed _ (omega arith)) (λ k l e. omega arith)
-
-    step-later : Later program r next
-    step-later = record {
-      steps = omega (arith, next-steps);
-      shapes = omega (arith, next-shapes);
-      text = omega (arith, next-text);
-      tables = omega (arith, next-tables);
-      texts = λ t v. refl;
-      figures = λ i l. stays-words (r .words) (next .words) i (λ j k. other h stepsUsed _ _ (λ e. omega arith));
-    }
-
-    step-counted : Counted g (next .words)
-    step-counted = let c = h .sound .counted in record {
-      steps = omega (arith, next-steps, fit);
-      shapes = rw next-shapes (c .shapes);
-      entries = rw next-entries (c .entries);
-      made = rw (other h stepsUsed _ entriesMade (λ e. omega arith), other h stepsUsed _ componentsMade (λ e. omega arith), next-entries) (c .made);
-      text = rw next-text (c .text);
-      tables = omega (arith, next-steps, next-tables, c .tables);
-      arguments = rw next-arguments (c .arguments);
-      calls = rw next-calls (c .calls);
-    }
 
     pub step-related : AfterStep program ts g r next s (added total (due Run.steps 1 p))
     unfolding added resourceNumber
     step-related = record {
-      after = record {
-        related = set-related h stepsUsed _ (aside h stepsUsed _ (omega arith)) step-later (λ e. omega arith) (λ e. omega arith) (λ e. omega arith) step-counted
-            (same-waiting step-later next-untouched (rw next-arguments (le-refl _)) (h .sound .waiting) ts) refl refl refl (h .tables ∙ sym next-tables) refl
-            (omega (arith, h .stepsTaken, next-steps)) (omega (arith, h .shapesTaken, next-shapes)) (omega (arith, h .entriesTaken, next-entries)) (omega (arith, h .textTaken, next-text))
-            (omega (arith, h .callsTaken, next-calls));
-        later = step-later;
-        spare = omega (arith, next-steps, next-tables);
-        held = next-arguments;
-        untouched = next-untouched;
-      };
+      after = rises (unmoved h) stepsUsed _ (omega arith) (λ j m n. m) (omega (arith, next-steps)) (omega (arith, next-tables)) (omega (arith, next-steps, fit))
+          (omega (arith, next-steps, next-tables, h .sound .counted .tables)) (s .tables) (omega (arith, next-steps, next-tables)) (h .tables ∙ sym next-tables)
+          (omega (arith, h .stepsTaken, next-steps)) (omega arith) (omega arith) (omega arith) (omega arith);
       few = omega (arith, next-steps, next-tables, h .sound .counted .tables);
       spare = omega (arith, next-steps, next-tables);
     }
@@ -226,58 +247,12 @@ module _ {program : List ℕ} {ts : List Token} {g : List ℕ} where
     tabled-steps : getD (tabled .words) stepsUsed 0 ≡ getD (r .words) stepsUsed 0
     tabled-steps = other h tablesMade _ stepsUsed (λ e. omega arith)
 
-    tabled-shapes : getD (tabled .words) shapesUsed 0 ≡ getD (r .words) shapesUsed 0
-    tabled-shapes = other h tablesMade _ shapesUsed (λ e. omega arith)
-
-    tabled-entries : getD (tabled .words) entriesUsed 0 ≡ getD (r .words) entriesUsed 0
-    tabled-entries = other h tablesMade _ entriesUsed (λ e. omega arith)
-
-    tabled-text : getD (tabled .words) textUsed 0 ≡ getD (r .words) textUsed 0
-    tabled-text = other h tablesMade _ textUsed (λ e. omega arith)
-
-    tabled-arguments : getD (tabled .words) argumentsHeld 0 ≡ getD (r .words) argumentsHeld 0
-    tabled-arguments = other h tablesMade _ argumentsHeld (λ e. omega arith)
-
-    tabled-calls : getD (tabled .words) callsUsed 0 ≡ getD (r .words) callsUsed 0
-    tabled-calls = other h tablesMade _ callsUsed (λ e. omega arith)
-
-    tabled-untouched : Untouched g r tabled
-    tabled-untouched = set-untouched h tablesMade _ (aside h tablesMade _ (omega arith)) (λ k l e. omega arith)
-
-    table-later : Later program r tabled
-    table-later = record {
-      steps = omega (arith, tabled-steps);
-      shapes = omega (arith, tabled-shapes);
-      text = omega (arith, tabled-text);
-      tables = omega (arith, tabled-tables);
-      texts = λ t v. refl;
-      figures = λ i l. stays-words (r .words) (tabled .words) i (λ j k. other h tablesMade _ _ (λ e. omega arith));
-    }
-
-    table-counted : Counted g (tabled .words)
-    table-counted = let c = h .sound .counted in record {
-      steps = rw tabled-steps (c .steps);
-      shapes = rw tabled-shapes (c .shapes);
-      entries = rw tabled-entries (c .entries);
-      made = rw (other h tablesMade _ entriesMade (λ e. omega arith), other h tablesMade _ componentsMade (λ e. omega arith), tabled-entries) (c .made);
-      text = rw tabled-text (c .text);
-      tables = omega (arith, tabled-tables, tabled-steps, a .few);
-      arguments = rw tabled-arguments (c .arguments);
-      calls = rw tabled-calls (c .calls);
-    }
-
     table-after : AfterValue program ts g r₀ (Table (getD (r .words) tablesMade 0)) (Value.table (s .tables)) tabled (withNewTable s) total
     unfolding Valid meantValue
     table-after = record {
-      after = record {
-        related = set-related h tablesMade _ (aside h tablesMade _ (omega arith)) table-later (λ e. omega arith) (λ e. omega arith) (λ e. omega arith) table-counted
-            (same-waiting table-later tabled-untouched (rw tabled-arguments (le-refl _)) (h .sound .waiting) ts) refl refl refl (ap suc (h .tables) ∙ omega (arith, tabled-tables)) refl
-            (h .stepsTaken ∙ sym tabled-steps) (h .shapesTaken ∙ sym tabled-shapes) (h .entriesTaken ∙ sym tabled-entries) (h .textTaken ∙ sym tabled-text) (h .callsTaken ∙ sym tabled-calls);
-        later = later-trans (a .after .later) table-later;
-        spare = omega (arith, tabled-tables, tabled-steps, a .spare);
-        held = tabled-arguments ∙ a .after .held;
-        untouched = untouched-trans (rw (a .after .held) (le-refl _)) (a .after .untouched) tabled-untouched;
-      };
+      after = rises (a .after) tablesMade _ (omega arith) (λ j m n. n) (omega (arith, tabled-steps)) (omega (arith, tabled-tables)) (rw tabled-steps (h .sound .counted .steps))
+          (omega (arith, tabled-tables, tabled-steps, a .few)) (suc (s .tables)) (omega (arith, tabled-tables, tabled-steps, a .spare)) (ap suc (h .tables) ∙ omega (arith, tabled-tables))
+          (h .stepsTaken ∙ sym tabled-steps) refl refl refl refl;
       valid = omega (arith, tabled-tables);
       means = ap Value.table (h .tables);
     }

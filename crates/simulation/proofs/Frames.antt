@@ -9,6 +9,7 @@ use mathlib.Core.List.{List, [], _∷_, _++_}
 use lib.ListN.{length, getD}
 use lib.Dec.{eqb}
 use Rattle.meaning.specs.Basics.{if_then_else_}
+use borrow.Author.Tests.{lt-ltb, le-ltb}
 use Rattle.meaning.specs.Token.{Token}
 use Rattle.meaning.specs.Value.{string}
 use Rattle.meaning.specs.State.{atom, group, noShape}
@@ -26,7 +27,7 @@ use Rattle.machine.specs.Show.{shownFrom, figuresIn}
 use Rattle.machine.specs.Stack.{argumentAt}
 use Rattle.machine.specs.Variables.{wordIn, topIn, countIn}
 use Rattle.simulation.specs.Meant.{meantValue, meantFigure, listed, slotAt, variableAt, variablesOf, waitingAt, frameAt, frameOf, suspendedOf, componentsOf, contentAt, shapeAt, shapesOf}
-use Rattle.simulation.specs.Sound.{Held, Valid, Proper, declaredAmong, Variables, Waiting, Grouped, Shapes, Marks}
+use Rattle.simulation.specs.Sound.{Held, Valid, Proper, declaredAmong, Variables, Waiting, Grouped, Shapes, markIn, Marks}
 use Rattle.simulation.specs.Follows.{Stays, Later}
 use Rattle.simulation.specs.After.{Untouched}
 use Rattle.simulation.proofs.Listed.{listed-same, listed-first, getD-listed}
@@ -90,6 +91,20 @@ pub record SameComponents (g : List ℕ) (r r′ : Raw) : Type 0 where
   pub made : getD (r .words) componentsMade 0 ≤ getD (r′ .words) componentsMade 0
   pub words : (k : ℕ) → k < getD (r .words) componentsMade 0 → getD (r′ .words) (componentPlace g k) 0 ≡ getD (r .words) (componentPlace g k) 0
 
+-- the marks of a slot, by its word
+module _ (g ws : List ℕ) (d k : ℕ) where
+  pub mark-here : k < getD ws componentsMade 0 → markIn g ws d k ≡ getD ws (pathPlace g d k) 0
+  unfolding markIn
+  mark-here l = rw (lt-ltb k (getD ws componentsMade 0) l)
+
+  pub mark-none : getD ws componentsMade 0 ≤ k → markIn g ws d k ≡ 0
+  unfolding markIn
+  mark-none l = rw (le-ltb k (getD ws componentsMade 0) l)
+
+  pub mark-same : (ws′ : List ℕ) → getD ws′ componentsMade 0 ≡ getD ws componentsMade 0 → getD ws′ (pathPlace g d k) 0 ≡ getD ws (pathPlace g d k) 0 → markIn g ws′ d k ≡ markIn g ws d k
+  unfolding markIn
+  mark-same ws′ m w = rw (m, w)
+
 -- all of them as they were
 pub record SameRest (g : List ℕ) (r r′ : Raw) : Type 0 where
   pub parts : getD (r′ .words) componentsMade 0 ≡ getD (r .words) componentsMade 0
@@ -101,10 +116,13 @@ module _ {g : List ℕ} {r r′ : Raw} (a : SameRest g r r′) where
   pub rest-components : SameComponents g r r′
   rest-components = record { made = omega (arith, a .parts); words = λ k l. a .high _ (omega arith) }
 
+  pub rest-mark : (d k : ℕ) → markIn g (r′ .words) d k ≡ markIn g (r .words) d k
+  rest-mark d k = mark-same g (r .words) d k (r′ .words) (a .parts) (a .high _ (omega arith))
+
   pub rest-marks : Marks g (r .words) → Marks g (r′ .words)
   rest-marks m = record {
-    idle = λ d k x y z. a .high _ (omega arith) ∙ m .idle d k (rw (a .calls) at x) y z;
-    own = λ k x y. rw (a .calls, a .unit, a .high (pathPlace g (getD (r .words) callsUsed 0 - 1) k) (omega arith)) (m .own k (rw (a .calls) at x) y);
+    idle = λ d k x y. rest-mark d k ∙ m .idle d k (rw (a .calls) at x) y;
+    own = λ k x. rw (a .calls, a .unit, rest-mark (getD (r .words) callsUsed 0 - 1) k) (m .own k (rw (a .calls) at x));
   }
 
 -- ---- the calls under way
@@ -117,7 +135,7 @@ untouched-refl g r = record {
   made = le-refl _;
   components = λ k h. refl;
   unit = refl;
-  marks = λ d k x y. refl;
+  marks = λ d k x. refl;
   bound = λ slot n. n;
 }
 
@@ -131,7 +149,7 @@ untouched-trans h a b = record {
   made = le-trans (a .made) (b .made);
   components = λ k l. b .components k (le-trans l (a .made)) ∙ a .components k l;
   unit = b .unit ∙ a .unit;
-  marks = λ d k x y. b .marks d k (rw (a .calls) x) y ∙ a .marks d k x y;
+  marks = λ d k x. b .marks d k (rw (a .calls) x) ∙ a .marks d k x;
   bound = λ slot n. b .bound slot (a .bound slot n);
 }
 
@@ -151,7 +169,7 @@ untouched-but a n e s b = record {
   made = omega (arith, a .parts);
   components = λ k l. a .high _ (omega arith);
   unit = a .unit;
-  marks = λ d k x y. a .high _ (omega arith);
+  marks = λ d k x. rest-mark a d k;
   bound = b;
 }
 

@@ -8,24 +8,26 @@ use mathlib.Core.Bool.{Bool, true, false}
 use mathlib.Core.List.{List}
 use lib.ListN.{getD, set, length, length-set}
 use lib.Seq.{getD-set-same, getD-set-other}
-use lib.Dec.{eqb}
-use borrow.Author.Tests.{eqb-true, eqb-false}
+use lib.Dec.{eqb, ltb}
+use borrow.Author.Tests.{eqb-true, eqb-false, ltb-true, ltb-false}
 use Rattle.meaning.specs.Basics.{if_then_else_}
 use Rattle.meaning.specs.Token.{Token}
 use Rattle.meaning.specs.State.{State, group, componentsIn, withShape}
 use Rattle.meaning.specs.Run as Run
 use Rattle.meaning.specs.Book.{Amounts, added, resourceNumber, shortageOf}
 use Rattle.meaning.specs.Group as Group
-use Rattle.machine.specs.Layout.{stepsUsed, shapesUsed, entriesUsed, entriesMade, componentsMade, shapesGranted, entriesGranted, fixedWords, shapePlace, componentPlace}
+use Rattle.machine.specs.Layout.{stepsUsed, shapesUsed, entriesUsed, entriesMade, componentsMade, shapesGranted, entriesGranted, callsGranted, fixedWords, shapePlace, componentPlace, pathPlace, Room}
 use Rattle.machine.specs.Act.{Raw, raw}
 use Rattle.machine.specs.Act as Act
 use Rattle.machine.specs.Shapes.{firstWord, kindGroup, isGroupAt}
-use Rattle.machine.specs.Groups.{slotWord, componentAt, followersAt, firstAt, countAt, fillFrom, groupLaid, putGroup, newGroup}
+use Rattle.machine.specs.Groups.{slotWord, componentAt, followersAt, firstAt, countAt, zeroed, unmarked, fillFrom, groupLaid, putGroup, newGroup}
+use Rattle.machine.proofs.Slots.{length-zeroed, zeroed-other, zeroed-here, slot-apart, slot-room}
 use Rattle.simulation.specs.Meant.{listed, componentsOf, contentAt}
-use Rattle.simulation.specs.Sound.{Grouped}
+use Rattle.simulation.specs.Sound.{Grouped, markIn}
 use Rattle.simulation.specs.Follows.{Grants, Related, Follows}
 use Rattle.simulation.proofs.Binding.{bind}
 use Rattle.simulation.proofs.Listed.{listed-shift, length-listed}
+use Rattle.simulation.proofs.Frames.{mark-here, mark-none}
 use Rattle.simulation.proofs.Results.{due, given, steps-told, spent-then}
 use Rattle.simulation.proofs.Growing.{alive, length-four, read-four, read-first, read-second, read-third, read-fourth, Grown, AfterShape, grown-after}
 
@@ -51,6 +53,7 @@ pub record Source (g ws : List ℕ) (place stride unit : ℕ) (parts : ℕ → �
   pub high : (k : ℕ) → k < many → 16 ≤ place + stride * k
   pub new : (k j : ℕ) → k < many → j < 3 → place + stride * k ≢ shapePlace (getD ws shapesUsed 0) + j
   pub slots : (k j : ℕ) → k < many → getD ws componentsMade 0 ≤ j → place + stride * k ≢ componentPlace g j
+  pub below : (k : ℕ) → k < many → place + stride * k < pathPlace g 0 0
 
 module _ {program : List ℕ} {ts : List Token} {g : List ℕ} {r : Raw} {s : State} {total : Amounts} (h : Related program ts g r s total) (place stride unit : ℕ)
     (parts : ℕ → ℕ) (many : ℕ) (src : Source g (r .words) place stride unit parts many) (p : ℕ) where
@@ -75,8 +78,10 @@ module _ {program : List ℕ} {ts : List Token} {g : List ℕ} {r : Raw} {s : St
     word₁ : getD ws (at + 1) 0 ≡ slotWord c many
     word₂ : getD ws (at + 2) 0 ≡ 0
     filled : (j : ℕ) → j < k → getD ws (componentPlace g (c + j)) 0 ≡ slotWord (parts j) (many - suc j)
-    others : (j : ℕ) → j ≢ shapesUsed → j ≢ entriesUsed → j ≢ componentsMade → j ≢ at → j ≢ at + 1 → j ≢ at + 2
+    others : (j : ℕ) → j < pathPlace g 0 0 → j ≢ shapesUsed → j ≢ entriesUsed → j ≢ componentsMade → j ≢ at → j ≢ at + 1 → j ≢ at + 2
         → ((i : ℕ) → i < k → j ≢ componentPlace g (c + i)) → getD ws j 0 ≡ getD (r .words) j 0
+    clear : (d j : ℕ) → d < callsGranted g → j < k → getD ws (pathPlace g d (c + j)) 0 ≡ 0
+    marks : (d j : ℕ) → d < callsGranted g → j < c → getD ws (pathPlace g d j) 0 ≡ getD (r .words) (pathPlace g d j) 0
 
   four : (j : ℕ) → j ≢ shapesUsed → j ≢ at → j ≢ at + 1 → j ≢ at + 2 → getD (groupLaid (set (r .words) shapesUsed (n + 1)) at c many) j 0 ≡ getD (r .words) j 0
   four j x y z w = read-four (r .words) 1 at (at + 1) (at + 2) (n + 1) (firstWord kindGroup 0) (slotWord c many) 0 j x y z w
@@ -96,7 +101,9 @@ module _ {program : List ℕ} {ts : List Token} {g : List ℕ} {r : Raw} {s : St
         word₁ = read-third (r .words) 1 at (at + 1) (at + 2) (n + 1) (firstWord kindGroup 0) (slotWord c many) 0 (omega arith) (λ e. omega arith);
         word₂ = read-fourth (r .words) 1 at (at + 1) (at + 2) (n + 1) (firstWord kindGroup 0) (slotWord c many) 0 (omega arith);
         filled = λ j x. absurd (omega arith);
-        others = λ j a b d x y z f. four j a x y z;
+        others = λ j m a b d x y z f. four j a x y z;
+        clear = λ d j x y. absurd (omega arith);
+        marks = λ d j x y. four _ (λ e. omega arith) (λ e. omega arith) (λ e. omega arith) (λ e. omega arith);
       }
 
   -- one more
@@ -105,13 +112,16 @@ module _ {program : List ℕ} {ts : List Token} {g : List ℕ} {r : Raw} {s : St
     w = slotWord (getD (set ws entriesUsed (getD ws entriesUsed 0 + 1)) (place + stride * k) 0 / unit) m
 
     abbrev next : List ℕ
-    next = set (set (set ws entriesUsed (getD ws entriesUsed 0 + 1)) (componentPlace g (c + k)) w) componentsMade (c + k + 1)
+    next = set (zeroed (set (set ws entriesUsed (getD ws entriesUsed 0 + 1)) (componentPlace g (c + k)) w) (pathPlace g 0 (c + k)) (callsGranted g)) componentsMade (c + k + 1)
 
     abbrev w₁ : List ℕ
     w₁ = set ws entriesUsed (getD ws entriesUsed 0 + 1)
 
     abbrev w₂ : List ℕ
     w₂ = set (set ws entriesUsed (getD ws entriesUsed 0 + 1)) (componentPlace g (c + k)) w
+
+    abbrev w₃ : List ℕ
+    w₃ = zeroed (set (set ws entriesUsed (getD ws entriesUsed 0 + 1)) (componentPlace g (c + k)) w) (pathPlace g 0 (c + k)) (callsGranted g)
 
     inside : c + k < entriesGranted g
     inside = omega (arith, a .taken, fit, h .sound .counted .made)
@@ -122,15 +132,37 @@ module _ {program : List ℕ} {ts : List Token} {g : List ℕ} {r : Raw} {s : St
     slot-long : componentPlace g (c + k) < length ws
     slot-long = omega (arith, inside, long-words)
 
-    other : (j : ℕ) → j ≢ entriesUsed → j ≢ componentPlace g (c + k) → j ≢ componentsMade → getD next j 0 ≡ getD ws j 0
-    other j x y z =
-        getD-set-other w₂ componentsMade j (c + k + 1) 0 z ∙ getD-set-other w₁ (componentPlace g (c + k)) j w 0 y ∙ getD-set-other ws entriesUsed j (getD ws entriesUsed 0 + 1) 0 x
+    long₂ : length w₂ ≡ length ws
+    long₂ = length-set w₁ (componentPlace g (c + k)) w ∙ length-set ws entriesUsed (getD ws entriesUsed 0 + 1)
+
+    long₃ : length w₃ ≡ length ws
+    long₃ = length-zeroed w₂ (pathPlace g 0 (c + k)) (callsGranted g) ∙ long₂
+
+    -- the words of other slots, and all that stand before
+    high : (j : ℕ) → j ≢ componentsMade → ((d : ℕ) → d < callsGranted g → j ≢ pathPlace g d (c + k)) → getD next j 0 ≡ getD w₂ j 0
+    high j z f = getD-set-other w₃ componentsMade j (c + k + 1) 0 z ∙ zeroed-other w₂ (pathPlace g 0 (c + k)) (callsGranted g) j (λ i l e. f i l (omega arith))
+
+    low : (j : ℕ) → j < pathPlace g 0 0 → j ≢ componentsMade → getD next j 0 ≡ getD w₂ j 0
+    low j l z = high j z (λ d m e. omega arith)
+
+    other : (j : ℕ) → j < pathPlace g 0 0 → j ≢ entriesUsed → j ≢ componentPlace g (c + k) → j ≢ componentsMade → getD next j 0 ≡ getD ws j 0
+    other j l x y z = low j l z ∙ getD-set-other w₁ (componentPlace g (c + k)) j w 0 y ∙ getD-set-other ws entriesUsed j (getD ws entriesUsed 0 + 1) 0 x
+
+    room : Room g ws
+    room = let m = h .sound .lent .room in record { steps = m .steps; shapes = m .shapes; entries = m .entries; text = m .text; calls = m .calls; words = rw (a .long) (m .words) }
+
+    -- the words of another slot
+    apart : (d j : ℕ) → d < callsGranted g → j ≢ c + k → getD next (pathPlace g d j) 0 ≡ getD ws (pathPlace g d j) 0
+    apart d j l n =
+        high (pathPlace g d j) (λ e. omega arith) (λ d′ m. slot-apart g d d′ j (c + k) l m n)
+        ∙ getD-set-other w₁ (componentPlace g (c + k)) (pathPlace g d j) w 0 (λ e. omega (arith, inside))
+        ∙ getD-set-other ws entriesUsed (pathPlace g d j) (getD ws entriesUsed 0 + 1) 0 (λ e. omega arith)
 
     source : getD w₁ (place + stride * k) 0 ≡ getD (r .words) (place + stride * k) 0
     source =
         let u = src .high k (omega arith) in
         getD-set-other ws entriesUsed (place + stride * k) (getD ws entriesUsed 0 + 1) 0 (λ e. omega arith)
-        ∙ a .others (place + stride * k) (λ e. omega arith) (λ e. omega arith) (λ e. omega arith)
+        ∙ a .others (place + stride * k) (src .below k (omega arith)) (λ e. omega arith) (λ e. omega arith) (λ e. omega arith)
         (λ e. src .new k 0 (omega arith) (omega arith) (omega arith)) (λ e. src .new k 1 (omega arith) (omega arith) e) (λ e. src .new k 2 (omega arith) (omega arith) e)
         (λ i l. src .slots k (c + i) (omega arith) (omega arith))
 
@@ -152,29 +184,42 @@ module _ {program : List ℕ} {ts : List Token} {g : List ℕ} {r : Raw} {s : St
         go : (b : Bool) → eqb j k ≡ b → getD next (componentPlace g (c + j)) 0 ≡ slotWord (parts j) (many - suc j)
         go true e =
             rw (eqb-true j k e)
-            (getD-set-other w₂ componentsMade (componentPlace g (c + k)) (c + k + 1) 0 (λ e. omega arith)
+            (low (componentPlace g (c + k)) (omega (arith, inside)) (λ e. omega arith)
             ∙ getD-set-same w₁ (componentPlace g (c + k)) w 0 (rw (length-set ws entriesUsed (getD ws entriesUsed 0 + 1)) slot-long) ∙ word-is)
         go false e =
             let d : j ≢ k = eqb-false j k e in
-            other (componentPlace g (c + j)) (λ e. omega arith) (λ e. d (omega arith)) (λ e. omega arith) ∙ a .filled j (omega arith)
+            other (componentPlace g (c + j)) (omega (arith, inside)) (λ e. omega arith) (λ e. d (omega arith)) (λ e. omega arith) ∙ a .filled j (omega arith)
+
+    clear-at : (d j : ℕ) → d < callsGranted g → j < k + 1 → getD next (pathPlace g d (c + j)) 0 ≡ 0
+    clear-at d j l m = go (eqb j k) refl
+      where
+        go : (b : Bool) → eqb j k ≡ b → getD next (pathPlace g d (c + j)) 0 ≡ 0
+        go true e =
+            let q : pathPlace g 0 (c + k) + d ≡ pathPlace g d (c + k) = omega arith in
+            let z = zeroed-here w₂ (pathPlace g 0 (c + k)) (callsGranted g) d (rw long₂ (slot-room g ws (c + k) room inside)) l in
+            rw (eqb-true j k e) (getD-set-other w₃ componentsMade (pathPlace g d (c + k)) (c + k + 1) 0 (λ e. omega arith) ∙ rw q at z)
+        go false e =
+            let n : j ≢ k = eqb-false j k e in
+            apart d (c + j) l (λ e. n (omega arith)) ∙ a .clear d j l (omega arith)
 
     one-more : Filling next (k + 1)
     one-more = record {
-      long = length-set w₂ componentsMade (c + k + 1) ∙ length-set w₁ (componentPlace g (c + k)) w ∙ length-set ws entriesUsed (getD ws entriesUsed 0 + 1) ∙ a .long;
-      used = other shapesUsed (λ e. omega arith) (λ e. omega arith) (λ e. omega arith) ∙ a .used;
+      long = length-set w₃ componentsMade (c + k + 1) ∙ long₃ ∙ a .long;
+      used = other shapesUsed (omega arith) (λ e. omega arith) (λ e. omega arith) (λ e. omega arith) ∙ a .used;
       fit = a .fit;
       taken =
-          getD-set-other w₂ componentsMade entriesUsed (c + k + 1) 0 (λ e. omega arith) ∙ getD-set-other w₁ (componentPlace g (c + k)) entriesUsed w 0 (λ e. omega arith)
+          low entriesUsed (omega arith) (λ e. omega arith) ∙ getD-set-other w₁ (componentPlace g (c + k)) entriesUsed w 0 (λ e. omega arith)
           ∙ getD-set-same ws entriesUsed (getD ws entriesUsed 0 + 1) 0 (omega (arith, slot-long)) ∙ omega (arith, a .taken);
       room = omega (arith, fit, a .taken);
       made =
-          getD-set-same w₂ componentsMade (c + k + 1) 0
-          (rw (length-set w₁ (componentPlace g (c + k)) w, length-set ws entriesUsed (getD ws entriesUsed 0 + 1)) (omega (arith, slot-long))) ∙ omega arith;
-      word₀ = other at (λ e. omega arith) (λ e. omega (arith, a .fit)) (λ e. omega arith) ∙ a .word₀;
-      word₁ = other (at + 1) (λ e. omega arith) (λ e. omega (arith, a .fit)) (λ e. omega arith) ∙ a .word₁;
-      word₂ = other (at + 2) (λ e. omega arith) (λ e. omega (arith, a .fit)) (λ e. omega arith) ∙ a .word₂;
+          getD-set-same w₃ componentsMade (c + k + 1) 0 (rw long₃ (omega (arith, slot-long))) ∙ omega arith;
+      word₀ = other at (omega (arith, a .fit)) (λ e. omega arith) (λ e. omega (arith, a .fit)) (λ e. omega arith) ∙ a .word₀;
+      word₁ = other (at + 1) (omega (arith, a .fit)) (λ e. omega arith) (λ e. omega (arith, a .fit)) (λ e. omega arith) ∙ a .word₁;
+      word₂ = other (at + 2) (omega (arith, a .fit)) (λ e. omega arith) (λ e. omega (arith, a .fit)) (λ e. omega arith) ∙ a .word₂;
       filled = filled-at;
-      others = λ j x y z u v q f. other j y (f k (omega arith)) z ∙ a .others j x y z u v q (λ i l. f i (omega arith));
+      others = λ j o x y z u v q f. other j o y (f k (omega arith)) z ∙ a .others j o x y z u v q (λ i l. f i (omega arith));
+      clear = clear-at;
+      marks = λ d j l m. apart d j l (λ e. omega arith) ∙ a .marks d j l m;
     }
 
   -- ---- all of them
@@ -190,7 +235,7 @@ module _ {program : List ℕ} {ts : List Token} {g : List ℕ} {r : Raw} {s : St
 
   told : (ws : List ℕ) (k : ℕ) (total′ : Amounts) → Filling ws k → Totals k total′ → getD ws stepsUsed 0 ≡ total′ Run.steps
   told ws k total′ a t =
-      a .others stepsUsed (λ e. omega arith) (λ e. omega arith) (λ e. omega arith) (λ e. omega arith) (λ e. omega arith) (λ e. omega arith) (λ i l e. omega arith)
+      a .others stepsUsed (omega arith) (λ e. omega arith) (λ e. omega arith) (λ e. omega arith) (λ e. omega arith) (λ e. omega arith) (λ e. omega arith) (λ i l e. omega arith)
       ∙ steps-told h ∙ sym (t .steps)
 
   step : (a b k : ℕ) → a + b * k + b ≡ a + b * (k + 1)
@@ -199,7 +244,7 @@ module _ {program : List ℕ} {ts : List Token} {g : List ℕ} {r : Raw} {s : St
   module _ {granted : Amounts} (gr : Grants g granted) where
     fills : (m k : ℕ) → k + m ≡ many → (ws : List ℕ) (total′ : Amounts) → Filling ws k → Totals k total′
         → Follows granted total′ (λ _ _ r′ s′ total″. Filled r′ s′ total″) (fillFrom g p stride unit (place + stride * k) m (raw (r .texts) ws)) (Group.spendEach Run.entries m p s)
-    unfolding fillFrom Group.spendEach Act._>>=_ Act.goOn Act.load Act.store Act.give Run._>>=_ Run.goOn Run.give shortageOf added resourceNumber
+    unfolding fillFrom unmarked Group.spendEach Act._>>=_ Act.goOn Act.load Act.store Act.give Run._>>=_ Run.goOn Run.give shortageOf added resourceNumber
     fills zero k e ws total′ a t =
         let q : k ≡ many = omega arith in
         given (filled-all ws total′ (subst (Filling ws) q a) (subst (λ k. Totals k total′) q t))
@@ -230,10 +275,13 @@ module _ {program : List ℕ} {ts : List Token} {g : List ℕ} {r : Raw} {s : St
       count-is = rw (a .word₁) (slot-count c many few)
 
       plain : (j : ℕ) → j ≢ shapesUsed → j ≢ entriesUsed → j ≢ componentsMade → j < at → getD ws j 0 ≡ getD (r .words) j 0
-      plain j x y z l = a .others j x y z (λ e. omega arith) (λ e. omega arith) (λ e. omega arith) (λ i m e. omega (arith, a .fit))
+      plain j x y z l = a .others j (omega (arith, a .fit)) x y z (λ e. omega arith) (λ e. omega arith) (λ e. omega arith) (λ i m e. omega (arith, a .fit))
+
+      first-in : c ≤ entriesGranted g
+      first-in = omega (arith, h .sound .counted .made, h .sound .counted .entries)
 
       behind : (j : ℕ) → at + 3 ≤ j → j < componentPlace g c → getD ws j 0 ≡ getD (r .words) j 0
-      behind j l m = a .others j (λ e. omega arith) (λ e. omega arith) (λ e. omega arith) (λ e. omega arith) (λ e. omega arith) (λ e. omega arith) (λ i o e. omega arith)
+      behind j l m = a .others j (omega (arith, first-in)) (λ e. omega arith) (λ e. omega arith) (λ e. omega arith) (λ e. omega arith) (λ e. omega arith) (λ e. omega arith) (λ i o e. omega arith)
 
       small : (j : ℕ) → j < many → parts j < 2 ^ 32
       small j l = omega (arith, src .older j l, h .sound .counted .shapes, h .sound .lent .room .shapes)
@@ -259,6 +307,21 @@ module _ {program : List ℕ} {ts : List Token} {g : List ℕ} {r : Raw} {s : St
             rw (first-is, count-is, rw q at f) (omega arith);
       }
 
+      -- those of the slots before are as they were, and of the new ones there are none
+      marks-kept : (d k : ℕ) → d < callsGranted g → (t : Bool) → ltb k c ≡ t → (u : Bool) → ltb k (c + many) ≡ u → markIn g ws d k ≡ markIn g (r .words) d k
+      marks-kept d k l true e u f =
+          let x : k < c = ltb-true k c e in
+          mark-here g ws d k (omega (arith, a .made)) ∙ a .marks d k l x ∙ sym (mark-here g (r .words) d k x)
+      marks-kept d k l false e true f =
+          let x : c ≤ k = ltb-false k c e in
+          let y : k < c + many = ltb-true k (c + many) f in
+          let q : c + (k - c) ≡ k = omega arith in
+          mark-here g ws d k (omega (arith, a .made)) ∙ rw q at (a .clear d (k - c) l (omega arith)) ∙ sym (mark-none g (r .words) d k x)
+      marks-kept d k l false e false f =
+          let x : c ≤ k = ltb-false k c e in
+          let y : c + many ≤ k = ltb-false k (c + many) f in
+          mark-none g ws d k (omega (arith, a .made)) ∙ sym (mark-none g (r .words) d k x)
+
       is-grown : Grown program g r ws
       is-grown = record {
         long = a .long;
@@ -267,12 +330,10 @@ module _ {program : List ℕ} {ts : List Token} {g : List ℕ} {r : Raw} {s : St
         fit = a .fit;
         shapes = λ i j l k. plain _ (λ e. omega arith) (λ e. omega arith) (λ e. omega arith) (omega arith);
         ways = λ i j x y l.
-            a .others _ (λ e. omega arith) (λ e. omega arith) (λ e. omega arith) (λ e. omega arith) (λ e. omega arith) (λ e. omega arith) (λ i m e. omega arith);
+            a .others _ (omega arith) (λ e. omega arith) (λ e. omega arith) (λ e. omega arith) (λ e. omega arith) (λ e. omega arith) (λ e. omega arith) (λ i m e. omega arith);
         entries = λ j x y. behind j (omega (arith, a .fit)) (omega arith);
         parts = record { made = omega (arith, a .made); words = λ k l. behind _ (omega (arith, a .fit)) (omega arith) };
-        paths = λ j l.
-            a .others j (λ e. omega arith) (λ e. omega arith) (λ e. omega arith) (λ e. omega (arith, a .fit)) (λ e. omega (arith, a .fit)) (λ e. omega (arith, a .fit))
-            (λ i m e. omega (arith, a .room, h .sound .counted .made));
+        marks = λ d k l. marks-kept d k l (ltb k c) refl (ltb k (c + many)) refl;
         taken = rw (a .taken) (a .room);
         made =
             let m = plain entriesMade (λ e. omega arith) (λ e. omega arith) (λ e. omega arith) (omega arith) in
@@ -330,6 +391,7 @@ module _ {program : List ℕ} {ts : List Token} {g : List ℕ} {r : Raw} {s : St
     high = λ k m. omega arith;
     new = λ k j m x q. omega (arith, h .sound .counted .shapes, own .within);
     slots = λ k j m x q. omega (arith, own .within);
+    below = λ k m. omega (arith, own .within, h .sound .counted .made, h .sound .counted .entries);
   }
 
   pub copies-group : {granted : Amounts} (gr : Grants g granted)

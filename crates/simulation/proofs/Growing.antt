@@ -38,6 +38,7 @@ use Rattle.machine.specs.Layout.{
   loopUnit,
   shapesGranted,
   entriesGranted,
+  callsGranted,
   fixedWords,
   framePlace,
   valuePlace,
@@ -45,7 +46,6 @@ use Rattle.machine.specs.Layout.{
   shapePlace,
   entryPlace,
   componentPlace,
-  pathPlace,
 }
 use Rattle.machine.specs.Act.{Raw, raw}
 use Rattle.machine.specs.Shapes.{firstWord, pairWord, lowNumber, highNumber, isGroupAt, figureAt}
@@ -53,7 +53,7 @@ use Rattle.machine.specs.Groups.{firstAt, countAt}
 use Rattle.machine.specs.Show.{figuresIn}
 use Rattle.machine.specs.Loops.{hollowAt}
 use Rattle.simulation.specs.Meant.{listed, contentAt, shapeAt, shapesOf}
-use Rattle.simulation.specs.Sound.{Proper, Counted, Grouped, Shapes, Marks}
+use Rattle.simulation.specs.Sound.{Proper, Counted, Grouped, Shapes, markIn, Marks}
 use Rattle.simulation.specs.Follows.{Related, Later}
 use Rattle.simulation.proofs.Listed.{listed-first, listed-more, length-listed}
 use Rattle.simulation.proofs.Frames.{
@@ -165,7 +165,7 @@ module _ (program g : List ℕ) where
     pub ways : (i j : ℕ) → 3 ≤ j → j < 5 → i < shapesGranted g → getD ws′ (shapePlace i + j) 0 ≡ getD (r .words) (shapePlace i + j) 0
     pub entries : (j : ℕ) → entryPlace g 0 ≤ j → j < componentPlace g 0 → getD ws′ j 0 ≡ getD (r .words) j 0
     pub parts : SameComponents g r (raw (r .texts) ws′)
-    pub paths : (j : ℕ) → componentPlace g (entriesGranted g) ≤ j → getD ws′ j 0 ≡ getD (r .words) j 0
+    pub marks : (d k : ℕ) → d < callsGranted g → markIn g ws′ d k ≡ markIn g (r .words) d k
     pub taken : getD ws′ entriesUsed 0 ≤ entriesGranted g
     pub made : getD ws′ entriesMade 0 + getD ws′ componentsMade 0 ≡ getD ws′ entriesUsed 0
     -- the new shape
@@ -230,7 +230,7 @@ module _ {program : List ℕ} {ts : List Token} {g : List ℕ} {r : Raw} {s : St
     made = a .parts .made;
     components = a .parts .words;
     unit = unit-as;
-    marks = λ d k x y. a .paths _ (omega arith);
+    marks = λ d k x. a .marks d k (omega (arith, h .sound .counted .calls));
     bound = λ slot n. rw (plain (valuePlace slot) (omega arith) (omega arith)) n;
   }
 
@@ -286,8 +286,10 @@ module _ {program : List ℕ} {ts : List Token} {g : List ℕ} {r : Raw} {s : St
 
   grown-marks : Marks g ws′
   grown-marks = let m = h .sound .marks in record {
-    idle = λ d k x y z. a .paths _ (omega arith) ∙ m .idle d k (rw calls-as at x) y z;
-    own = λ k x y. rw (calls-as, unit-as, a .paths (pathPlace g (getD (r .words) callsUsed 0 - 1) k) (omega arith)) (m .own k (rw calls-as at x) y);
+    idle = λ d k x y. a .marks d k y ∙ m .idle d k (rw calls-as at x) y;
+    own = λ k x.
+        let y = rw calls-as at x in
+        rw (calls-as, unit-as, a .marks (getD (r .words) callsUsed 0 - 1) k (omega (arith, h .sound .counted .calls))) (m .own k y);
   }
 
   abbrev added-shape : State.Content → State.Shape

@@ -21,23 +21,21 @@ use Rattle.machine.specs.Layout.{
   entriesMade,
   componentsMade,
   loopUnit,
-  entriesGranted,
   framePlace,
   valuePlace,
   argumentPlace,
-  pathPlace,
 }
 use Rattle.machine.specs.Act.{Raw, raw}
-use Rattle.simulation.specs.Sound.{Counted, Marks}
+use Rattle.simulation.specs.Sound.{Counted, markIn, Marks}
 use Rattle.simulation.specs.Follows.{Related, Later}
-use Rattle.simulation.proofs.Frames.{stays-words, later-trans, SameComponents, same-words, waits-same}
+use Rattle.simulation.proofs.Frames.{mark-same, stays-words, later-trans, SameComponents, same-words, waits-same}
 use Rattle.simulation.proofs.Results.{After, kept-marks}
 use Rattle.simulation.proofs.Counting.{lent-set, here, other}
 use Rattle.simulation.proofs.Marking.{markAt}
 
 -- ---- another unit, with which the marks fit
 module _ {program : List ℕ} {ts : List Token} {g : List ℕ} {r : Raw} {s : State} {total : Amounts} (h : Related program ts g r s total) (x : ℕ)
-    (fits : (k : ℕ) → 0 < getD (r .words) callsUsed 0 → k < entriesGranted g → markAt g r k ≤ 2 * x - 1) where
+    (fits : (k : ℕ) → 0 < getD (r .words) callsUsed 0 → markAt g r k ≤ 2 * x - 1) where
   abbrev pub switched : Raw
   switched = raw (r .texts) (set (r .words) loopUnit x)
 
@@ -78,10 +76,13 @@ module _ {program : List ℕ} {ts : List Token} {g : List ℕ} {r : Raw} {s : St
     calls = rw (counter callsUsed (omega arith)) (c .calls);
   }
 
+  same-mark : (d k : ℕ) → markIn g (switched .words) d k ≡ markIn g (r .words) d k
+  same-mark d k = mark-same g (r .words) d k (switched .words) (counter componentsMade (omega arith)) (beyond _ (omega arith))
+
   switch-marks : Marks g (switched .words)
   switch-marks = let n = counter callsUsed (omega arith) in record {
-    idle = λ d k a b c. beyond (pathPlace g d k) (omega arith) ∙ h .sound .marks .idle d k (rw n at a) b c;
-    own = λ k a b. rw (n, unit-now, beyond (pathPlace g (getD (r .words) callsUsed 0 - 1) k) (omega arith)) (fits k (rw n at a) b);
+    idle = λ d k a b. same-mark d k ∙ h .sound .marks .idle d k (rw n at a) b;
+    own = λ k a. rw (n, unit-now, same-mark (getD (r .words) callsUsed 0 - 1) k) (fits k (rw n at a));
   }
 
   pub switch-related : Related program ts g switched s total
@@ -103,22 +104,22 @@ module _ {program : List ℕ} {ts : List Token} {g : List ℕ} {r : Raw} {s : St
       (h .entriesTaken ∙ sym (counter entriesUsed (omega arith))) (h .textTaken ∙ sym (counter textUsed (omega arith))) (h .callsTaken ∙ sym (counter callsUsed (omega arith)))
 
   pub mark-was : (k : ℕ) → markAt g switched k ≡ markAt g r k
-  mark-was k = rw (counter callsUsed (omega arith)) (beyond (pathPlace g (getD (r .words) callsUsed 0 - 1) k) (omega arith))
+  mark-was k = rw (counter callsUsed (omega arith)) (same-mark (getD (r .words) callsUsed 0 - 1) k)
 
 -- ---- what a loop left, with the unit that was before it
 module _ {program : List ℕ} {ts : List Token} {g : List ℕ} {r : Raw} {s : State} {total : Amounts} (h : Related program ts g r s total) (x : ℕ)
-    (fits : (k : ℕ) → 0 < getD (r .words) callsUsed 0 → k < entriesGranted g → markAt g r k ≤ 2 * x - 1)
+    (fits : (k : ℕ) → 0 < getD (r .words) callsUsed 0 → markAt g r k ≤ 2 * x - 1)
     {r′ : Raw} {s′ : State} {total′ : Amounts} (a : After program ts g (raw (r .texts) (set (r .words) loopUnit x)) r′ s′ total′) where
   calls-same : getD (r′ .words) callsUsed 0 ≡ getD (r .words) callsUsed 0
   calls-same = a .untouched .calls ∙ as-was h x fits callsUsed (λ e. omega arith)
 
-  marks-same : (d k : ℕ) → d < getD (r .words) callsUsed 0 → k < entriesGranted g → getD (r′ .words) (pathPlace g d k) 0 ≡ getD (r .words) (pathPlace g d k) 0
-  marks-same d k l m = a .untouched .marks d k (rw (as-was h x fits callsUsed (λ e. omega arith)) l) m ∙ as-was h x fits (pathPlace g d k) (λ e. omega arith)
+  marks-same : (d k : ℕ) → d < getD (r .words) callsUsed 0 → markIn g (r′ .words) d k ≡ markIn g (r .words) d k
+  marks-same d k l = a .untouched .marks d k (rw (as-was h x fits callsUsed (λ e. omega arith)) l) ∙ same-mark h x fits d k
 
-  pub back-fits : (k : ℕ) → 0 < getD (r′ .words) callsUsed 0 → k < entriesGranted g → markAt g r′ k ≤ 2 * getD (r .words) loopUnit 0 - 1
-  back-fits k l m =
+  pub back-fits : (k : ℕ) → 0 < getD (r′ .words) callsUsed 0 → markAt g r′ k ≤ 2 * getD (r .words) loopUnit 0 - 1
+  back-fits k l =
       let n = rw calls-same at l in
-      rw (calls-same, marks-same (getD (r .words) callsUsed 0 - 1) k (omega arith) m) (h .sound .marks .own k n m)
+      rw (calls-same, marks-same (getD (r .words) callsUsed 0 - 1) k (omega arith)) (h .sound .marks .own k n)
 
   pub switched-back : After program ts g r (raw (r′ .texts) (set (r′ .words) loopUnit (getD (r .words) loopUnit 0))) s′ total′
   switched-back =
@@ -146,7 +147,7 @@ module _ {program : List ℕ} {ts : List Token} {g : List ℕ} {r : Raw} {s : St
           made = omega (arith, a .untouched .made, in-was componentsMade (λ e. omega arith), out-was componentsMade (λ e. omega arith));
           components = λ k l. out-was _ (λ e. omega arith) ∙ a .untouched .components k (rw (in-was componentsMade (λ e. omega arith)) l) ∙ in-was _ (λ e. omega arith);
           unit = unit-now (a .related) u back-fits;
-          marks = λ d k l m. out-was (pathPlace g d k) (λ e. omega arith) ∙ marks-same d k l m;
+          marks = λ d k l. same-mark (a .related) u back-fits d k ∙ marks-same d k l;
           bound = λ slot n. rw (out-was (valuePlace slot) (λ e. omega arith)) (a .untouched .bound slot (rw (in-was (valuePlace slot) (λ e. omega arith)) n));
         };
       }

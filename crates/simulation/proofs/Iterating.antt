@@ -22,7 +22,7 @@ use Rattle.reader.proofs.Homes.{Occurs}
 use Rattle.machine.specs.declared.Value.{Value}
 use Rattle.machine.specs.declared.Flow.{Flow}
 use Rattle.machine.specs.declared.Flow.the-variants.{Returned}
-use Rattle.machine.specs.Layout.{shapesUsed, callsUsed, componentsMade, loopUnit, stepsGranted, entriesGranted, valuePlace}
+use Rattle.machine.specs.Layout.{shapesUsed, callsUsed, componentsMade, loopUnit, stepsGranted, valuePlace}
 use Rattle.machine.specs.Act.{Raw, Act}
 use Rattle.machine.specs.Act as Act
 use Rattle.machine.specs.Shapes.{isGroupAt}
@@ -80,7 +80,7 @@ module _ {program : List ℕ} {ts : List Token} {g : List ℕ} (few : length ts 
   -- marks stay
   pub path-on : {r r′ : Raw} {s : State} {total : Amounts} {ks : List ℕ} → After program ts g r r′ s total → Ready r → Path g around unit ks r → Path g around unit ks r′
   path-on {r} a q t = record {
-    each = λ k l. rw (a .untouched .calls, a .untouched .marks (getD (r .words) callsUsed 0 - 1) k (omega (arith, q .some)) l) (t .each k l);
+    each = λ k. rw (a .untouched .calls, a .untouched .marks (getD (r .words) callsUsed 0 - 1) k (omega (arith, q .some))) (t .each k);
     less = t .less;
   }
 
@@ -91,22 +91,23 @@ module _ {program : List ℕ} {ts : List Token} {g : List ℕ} (few : length ts 
 
   -- the procedure returns: from r₀ on, where no slot was marked, none is
   leaves : {r₀ r : Raw} {s : State} {total : Amounts} (end : ℕ) (ways : List Stop) (v : Value) (u : Value.Value) → Path g around unit [] r₀ → AfterBut program ts g r₀ r s total → Ready r
-      → end ≤ entriesGranted g → Path g around unit (slots ways) r → ((j : ℕ) → end ≤ j → isIn j (slots ways) ≡ false) → Valid program (r .words) v → u ≡ meantValue program (r .texts) v
+      → end ≤ getD (r .words) componentsMade 0 → Path g around unit (slots ways) r → ((j : ℕ) → end ≤ j → isIn j (slots ways) ≡ false)
+      → Valid program (r .words) v → u ≡ meantValue program (r .texts) v
       → Follows granted total (Flows program ts g r₀) (Act._>>_ (unmarkFrom g 0 end) (Act.give (Returned v)) r) (Run.give (returned u) s)
   unfolding isIn Act._>>=_ Act.goOn Act.give Run.give
   leaves {r₀} {r} {s} {total} end ways v u clean a q l path off y z =
-      let c = clears program ts g s total around unit (path .less) (λ j. isIn j (slots ways)) end 0 r (a .related) (q .some) (q .unit-is) (omega arith) (λ j d e. path .each j (omega arith)) in
+      let c = clears program ts g s total around unit (path .less) (λ j. isIn j (slots ways)) end 0 r (a .related) (q .some) (q .unit-is) (omega arith) (λ j d e. path .each j) in
       rw (c .is) (given (record {
-        after = after-but (but-trans a (c .after)) (λ k m. at-slot (c .slices) k m (ltb k end) refl (λ d. c .clear k (omega arith) (omega arith)) (λ d. c .behind k (omega arith)) ∙ sym (clean .each k m));
+        after = after-but (but-trans a (c .after)) (λ k. at-slot (c .slices) k (ltb k end) refl (λ d. c .clear k (omega arith) (omega arith)) (λ d. c .behind k (omega arith)) ∙ sym (clean .each k));
         flow = both-returned (valid-later (c .after .later) v y) (z ∙ sym (meant-later (c .after .later) v y));
       }))
     where
-      at-slot : (r′ : Raw) (k : ℕ) → k < entriesGranted g → (t : Bool) → ltb k end ≡ t → (k < end → markAt g r′ k ≡ around k) → (end ≤ k → markAt g r′ k ≡ markAt g r k)
+      at-slot : (r′ : Raw) (k : ℕ) (t : Bool) → ltb k end ≡ t → (k < end → markAt g r′ k ≡ around k) → (end ≤ k → markAt g r′ k ≡ markAt g r k)
           → markAt g r′ k ≡ around k + 0
-      at-slot r′ k m true e f b = let i = f (ltb-true k end e) in omega arith
-      at-slot r′ k m false e f b =
+      at-slot r′ k true e f b = let i = f (ltb-true k end e) in omega arith
+      at-slot r′ k false e f b =
           let d : end ≤ k = ltb-false k end e in
-          let i : markAt g r k ≡ around k + cond (isIn k (slots ways)) unit 0 = path .each k m in
+          let i : markAt g r k ≡ around k + cond (isIn k (slots ways)) unit 0 = path .each k in
           let j : markAt g r k ≡ around k + 0 = rw (off k d) at i in
           b d ∙ j
 
@@ -122,8 +123,7 @@ module _ {program : List ℕ} {ts : List Token} {g : List ℕ} (few : length ts 
       let b = behind bound end fits (a .related) (q .some) (q .unit-is) l at ways path way in
       rw (b .is) (again (b .slices) (b .result) (b .after) (b .outcome))
   after-turn turns end r₀ at ways (both-returned {v = v} {u = u} y z) clean a q l path way again =
-      let m = a .related .sound .counted in
-      leaves end ways v u clean a q (omega (arith, m .made, m .entries)) path (λ j d. none-behind g _ end j ways (way .1) d) y z
+      leaves end ways v u clean a q l path (λ j d. none-behind g _ end j ways (way .1) d) y z
 
   from : (turns end : ℕ) (r₀ r : Raw) (s : State) (total : Amounts) (left : Run.Action Execute.Flow) (k : ℕ) → Path g around unit [] r₀ → AfterBut program ts g r₀ r s total → Ready r
       → end ≤ getD (r .words) componentsMade 0 → stepsLeft g r < turns → Outcome program ts g bound around unit end r s left [] k
@@ -131,7 +131,7 @@ module _ {program : List ℕ} {ts : List Token} {g : List ℕ} (few : length ts 
   unfolding turnsFrom if_then_else_ remaining slots Act._>>=_ Act.goOn Act.held Act.give Run._>>=_ Run.give
   from zero end r₀ r s total left k clean a q l e w = absurd (omega arith)
   from (suc turns) end r₀ r s total left k clean a q l e (none w) =
-      rw (w .rest) (given (record { after = after-but a (λ j m. w .path .each j m ∙ sym (clean .each j m)); flow = both-onward }))
+      rw (w .rest) (given (record { after = after-but a (λ j. w .path .each j ∙ sym (clean .each j)); flow = both-onward }))
   from (suc turns) end r₀ r s total left k clean a q l e (found at up w) =
       let back : at .slot + 1 - 1 ≡ at .slot = omega arith in
       let some : at .slot + 1 ≢ 0 = λ z. omega arith in

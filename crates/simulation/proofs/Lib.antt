@@ -14,6 +14,7 @@ mod Growing
 mod Shapes
 mod Grouping
 mod Walking
+mod Touching
 mod Destroying
 pub mod Chaining
 mod Clearing

@@ -304,6 +304,7 @@ module _ (e : Setting) {ts : List Token} {granted : Amounts} (gr : Grants (e .gr
         high = λ k y. omega arith;
         new = λ k j y z q. omega (arith, st .within, h .sound .counted .arguments);
         slots = λ k j y z q. omega (arith, st .within, h .sound .counted .arguments);
+        below = λ k y. omega (arith, st .within, h .sound .counted .arguments);
       }) p gr)))))
 
   performs : (f : Library) (n : ℕ) (us : List Value.Value) → Stacked (e .program) r base n us → Works (perform (e .grants) (numberOf (some f)) p base n r) (Library.perform f p us s)

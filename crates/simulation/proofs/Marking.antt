@@ -1,8 +1,8 @@
 -- Marks of the loops of the call under way: what stays when one of them changes.
 use Prim.Native.Nat.{ℕ, _+_, _-_, _*_, _%_, _^_, _≤_, _<_}
 use native.Mathlib.Omega.{arith}
-use native.Mathlib.Nat.{le-trans, mul-add, add-mul, mul-comm, mul-one, mul-le-mul-left}
-use mathlib.Core.Path.{_≡_, refl, ap, sym, _∙_}
+use native.Mathlib.Nat.{le-trans}
+use mathlib.Core.Path.{_≡_, refl, sym, _∙_}
 use mathlib.Core.Logic.{_≢_}
 use mathlib.Core.Bool.{Bool, true, false}
 use mathlib.Core.List.{List}
@@ -35,20 +35,21 @@ use Rattle.machine.specs.Layout.{
 use Rattle.machine.specs.Act.{Raw, raw, done}
 use Rattle.machine.specs.Act as Act
 use Rattle.machine.specs.Stack.{argumentAt}
+use Rattle.machine.proofs.Slots.{slot-apart, call-apart, slot-room}
 use Rattle.machine.specs.Loops.{mark, unmark}
 use Rattle.simulation.specs.Meant.{frameAt}
-use Rattle.simulation.specs.Sound.{Marks}
+use Rattle.simulation.specs.Sound.{markIn, Marks}
 use Rattle.simulation.specs.Follows.{Related, Later}
-use Rattle.simulation.proofs.Frames.{stays-words, later-trans, SameComponents, SameStack, SameVariables, same-words, SameWaiting, waits-same, SameShapes}
+use Rattle.simulation.proofs.Frames.{mark-here, mark-same, stays-words, later-trans, SameComponents, SameStack, SameVariables, same-words, SameWaiting, waits-same, SameShapes}
 use Rattle.simulation.proofs.Holding.{SameEntries}
 use Rattle.simulation.proofs.Results.{After, kept-marks}
 use Rattle.simulation.proofs.Counting.{lent-set, other}
 
--- the word of a slot, of the call under way
+-- those of a slot
 abbrev pub markAt : List ℕ → Raw → ℕ → ℕ
-markAt g r k = getD (r .words) (pathPlace g (getD (r .words) callsUsed 0 - 1) k) 0
+markAt g r k = markIn g (r .words) (getD (r .words) callsUsed 0 - 1) k
 
--- ---- all that an act leaves untouched, but for these words
+-- ---- all that an act leaves untouched, but for these
 pub record AfterBut (program : List ℕ) (ts : List Token) (g : List ℕ) (r r′ : Raw) (s : State) (total : Amounts) : Type 0 where
   pub related : Related program ts g r′ s total
   pub later : Later program r r′
@@ -60,7 +61,7 @@ pub record AfterBut (program : List ℕ) (ts : List Token) (g : List ℕ) (r r�
   pub arguments : (k : ℕ) → k < getD (r .words) argumentsHeld 0 → argumentAt (r′ .words) k ≡ argumentAt (r .words) k
   pub parts : SameComponents g r r′
   pub unit : getD (r′ .words) loopUnit 0 ≡ getD (r .words) loopUnit 0
-  pub waits : (d k : ℕ) → d + 1 < getD (r .words) callsUsed 0 → k < entriesGranted g → getD (r′ .words) (pathPlace g d k) 0 ≡ getD (r .words) (pathPlace g d k) 0
+  pub waits : (d k : ℕ) → d + 1 < getD (r .words) callsUsed 0 → markIn g (r′ .words) d k ≡ markIn g (r .words) d k
   pub bound : (slot : ℕ) → getD (r .words) (valuePlace slot) 0 ≢ 0 → getD (r′ .words) (valuePlace slot) 0 ≢ 0
 
 module _ {program : List ℕ} {ts : List Token} {g : List ℕ} where
@@ -76,7 +77,7 @@ module _ {program : List ℕ} {ts : List Token} {g : List ℕ} where
     arguments = u .arguments;
     parts = record { made = u .made; words = u .components };
     unit = u .unit;
-    waits = λ d k x y. u .marks d k (omega arith) y;
+    waits = λ d k x. u .marks d k (omega arith);
     bound = u .bound;
   }
 
@@ -92,12 +93,12 @@ module _ {program : List ℕ} {ts : List Token} {g : List ℕ} where
     arguments = λ k l. b .arguments k (rw (a .held) l) ∙ a .arguments k l;
     parts = record { made = le-trans (a .parts .made) (b .parts .made); words = λ k l. b .parts .words k (le-trans l (a .parts .made)) ∙ a .parts .words k l };
     unit = b .unit ∙ a .unit;
-    waits = λ d k x y. b .waits d k (rw (a .calls) x) y ∙ a .waits d k x y;
+    waits = λ d k x. b .waits d k (rw (a .calls) x) ∙ a .waits d k x;
     bound = λ slot n. b .bound slot (a .bound slot n);
   }
 
   -- where all marks are as they were, all is untouched
-  pub after-but : {r r′ : Raw} {s : State} {total : Amounts} → AfterBut program ts g r r′ s total → ((k : ℕ) → k < entriesGranted g → markAt g r′ k ≡ markAt g r k)
+  pub after-but : {r r′ : Raw} {s : State} {total : Amounts} → AfterBut program ts g r r′ s total → ((k : ℕ) → markAt g r′ k ≡ markAt g r k)
       → After program ts g r r′ s total
   after-but {r} {r′} a same = record {
     related = a .related;
@@ -112,29 +113,21 @@ module _ {program : List ℕ} {ts : List Token} {g : List ℕ} where
       made = a .parts .made;
       components = a .parts .words;
       unit = a .unit;
-      marks = λ d k x y. go d k x y (eqb (d + 1) (getD (r .words) callsUsed 0)) refl;
+      marks = λ d k x. go d k x (eqb (d + 1) (getD (r .words) callsUsed 0)) refl;
       bound = a .bound;
     };
   }
     where
-      go : (d k : ℕ) → d < getD (r .words) callsUsed 0 → k < entriesGranted g → (b : Bool) → eqb (d + 1) (getD (r .words) callsUsed 0) ≡ b
-          → getD (r′ .words) (pathPlace g d k) 0 ≡ getD (r .words) (pathPlace g d k) 0
-      go d k x y true e =
+      go : (d k : ℕ) → d < getD (r .words) callsUsed 0 → (b : Bool) → eqb (d + 1) (getD (r .words) callsUsed 0) ≡ b → markIn g (r′ .words) d k ≡ markIn g (r .words) d k
+      go d k x true e =
           let q : getD (r .words) callsUsed 0 - 1 ≡ d = omega (arith, eqb-true (d + 1) (getD (r .words) callsUsed 0) e) in
-          let z = same k y in
+          let z = same k in
           rw (a .calls, q) at z
-      go d k x y false e = let n : d + 1 ≢ getD (r .words) callsUsed 0 = eqb-false (d + 1) (getD (r .words) callsUsed 0) e in a .waits d k (omega arith) y
+      go d k x false e = let n : d + 1 ≢ getD (r .words) callsUsed 0 = eqb-false (d + 1) (getD (r .words) callsUsed 0) e in a .waits d k (omega arith)
 
 -- ---- one word of a slot
--- words of different calls are apart
-path-less : (n d d′ k k′ : ℕ) → d < d′ → k < n → n * d + k < n * d′ + k′
-path-less n d d′ k k′ l m =
-    let a : n * (d + 1) ≤ n * d′ = mul-le-mul-left n (omega arith) in
-    let b : n * (d + 1) ≡ n * d + n = mul-add n d 1 ∙ ap (λ x. n * d + x) (mul-one n) in
-    omega arith
-
 module _ {program : List ℕ} {ts : List Token} {g : List ℕ} {r : Raw} {s : State} {total : Amounts} (h : Related program ts g r s total) (some : 0 < getD (r .words) callsUsed 0)
-    (k : ℕ) (inside : k < entriesGranted g) (x : ℕ) (few : x ≤ 2 * getD (r .words) loopUnit 0 - 1) where
+    (k : ℕ) (inside : k < getD (r .words) componentsMade 0) (x : ℕ) (few : x ≤ 2 * getD (r .words) loopUnit 0 - 1) where
   abbrev own : ℕ
   own = getD (r .words) callsUsed 0 - 1
 
@@ -150,20 +143,24 @@ module _ {program : List ℕ} {ts : List Token} {g : List ℕ} {r : Raw} {s : St
   calls-as : getD (remarked .words) callsUsed 0 ≡ getD (r .words) callsUsed 0
   calls-as = low callsUsed (omega arith)
 
+  made-as : getD (remarked .words) componentsMade 0 ≡ getD (r .words) componentsMade 0
+  made-as = low componentsMade (omega arith)
+
+  own-granted : own < callsGranted g
+  own-granted = omega (arith, h .sound .counted .calls)
+
   pub own-now : markAt g remarked k ≡ x
   own-now =
+      let c = h .sound .counted in
       rw calls-as
-      (getD-set-same (r .words) (pathPlace g own k) x 0
-      (omega (
-        arith,
-        path-less (entriesGranted g) own (callsGranted g) k 0 (omega (arith, h .sound .counted .calls)) inside,
-        h .sound .lent .room .words,
-        mul-comm (entriesGranted g) (callsGranted g),
-        add-mul 5 (callsGranted g) (entriesGranted g),
-      )))
+      (mark-here g (remarked .words) own k (rw made-as inside) ∙ getD-set-same (r .words) (pathPlace g own k) x 0
+      (omega (arith, own-granted, slot-room g (r .words) k (h .sound .lent .room) (omega (arith, c .made, c .entries)))))
 
   pub own-others : (j : ℕ) → j ≢ k → markAt g remarked j ≡ markAt g r j
-  own-others j n = rw calls-as (as-was (pathPlace g own j) (λ e. n (omega arith)))
+  own-others j n = rw calls-as (mark-same g (r .words) own j (remarked .words) made-as (as-was (pathPlace g own j) (slot-apart g own own j k own-granted own-granted n)))
+
+  call-others : (d j : ℕ) → d < callsGranted g → d ≢ own → markIn g (remarked .words) d j ≡ markIn g (r .words) d j
+  call-others d j l n = mark-same g (r .words) d j (remarked .words) made-as (as-was (pathPlace g d j) (call-apart g d own j k l own-granted n))
 
   mark-later : Later program r remarked
   mark-later = record {
@@ -177,7 +174,7 @@ module _ {program : List ℕ} {ts : List Token} {g : List ℕ} {r : Raw} {s : St
 
   mark-parts : SameComponents g r remarked
   mark-parts = record {
-    made = omega (arith, low componentsMade (omega arith));
+    made = omega (arith, made-as);
     words = λ j l. low _ (omega (arith, h .sound .counted .made, h .sound .counted .entries));
   }
 
@@ -204,15 +201,15 @@ module _ {program : List ℕ} {ts : List Token} {g : List ℕ} {r : Raw} {s : St
 
   mark-marks : Marks g (remarked .words)
   mark-marks = let m = h .sound .marks in record {
-    idle = λ d j a b z.
+    idle = λ d j a b.
         let u = rw calls-as at a in
-        as-was (pathPlace g d j) (λ e. omega (arith, path-less (entriesGranted g) own d k j (omega arith) inside)) ∙ m .idle d j u b z;
-    own = λ j a b. own-at j b (eqb j k) refl;
+        call-others d j b (λ e. omega arith) ∙ m .idle d j u b;
+    own = λ j a. own-at j (eqb j k) refl;
   }
     where
-      own-at : (j : ℕ) → j < entriesGranted g → (b : Bool) → eqb j k ≡ b → markAt g remarked j ≤ 2 * getD (remarked .words) loopUnit 0 - 1
-      own-at j l true e = rw (eqb-true j k e, own-now, low loopUnit (omega arith)) few
-      own-at j l false e = rw (own-others j (eqb-false j k e), low loopUnit (omega arith)) (h .sound .marks .own j some l)
+      own-at : (j : ℕ) → (b : Bool) → eqb j k ≡ b → markAt g remarked j ≤ 2 * getD (remarked .words) loopUnit 0 - 1
+      own-at j true e = rw (eqb-true j k e, own-now, low loopUnit (omega arith)) few
+      own-at j false e = rw (own-others j (eqb-false j k e), low loopUnit (omega arith)) (h .sound .marks .own j some)
 
   pub marks : AfterBut program ts g r remarked s total
   marks = let c = h .sound .counted in record {
@@ -221,7 +218,7 @@ module _ {program : List ℕ} {ts : List Token} {g : List ℕ} {r : Raw} {s : St
           steps = rw (low stepsUsed (omega arith)) (c .steps);
           shapes = rw (low shapesUsed (omega arith)) (c .shapes);
           entries = rw (low entriesUsed (omega arith)) (c .entries);
-          made = rw (low entriesMade (omega arith), low componentsMade (omega arith), low entriesUsed (omega arith)) (c .made);
+          made = rw (low entriesMade (omega arith), made-as, low entriesUsed (omega arith)) (c .made);
           text = rw (low textUsed (omega arith)) (c .text);
           tables = rw (low tablesMade (omega arith), low stepsUsed (omega arith)) (c .tables);
           arguments = rw (low argumentsHeld (omega arith)) (c .arguments);
@@ -240,15 +237,18 @@ module _ {program : List ℕ} {ts : List Token} {g : List ℕ} {r : Raw} {s : St
     arguments = mark-stack .arguments;
     parts = mark-parts;
     unit = low loopUnit (omega arith);
-    waits = λ d j a b. as-was (pathPlace g d j) (λ e. omega (arith, path-less (entriesGranted g) d own j k (omega arith) b));
+    waits = λ d j a. call-others d j (omega (arith, c .calls)) (λ e. omega arith);
     bound = λ slot n. rw (low (valuePlace slot) (omega arith)) n;
   }
 
 -- ---- the acts
 module _ {program : List ℕ} {ts : List Token} {g : List ℕ} {r : Raw} {s : State} {total : Amounts} (h : Related program ts g r s total) (some : 0 < getD (r .words) callsUsed 0)
-    (k : ℕ) (inside : k < entriesGranted g) where
+    (k : ℕ) (inside : k < getD (r .words) componentsMade 0) where
   pub own-call : (getD (r .words) callsUsed 0 - 1) % 64 ≡ getD (r .words) callsUsed 0 - 1
   own-call = omega (arith, h .sound .counted .calls, h .sound .lent .room .calls)
+
+  pub own-word : getD (r .words) (pathPlace g (getD (r .words) callsUsed 0 - 1) k) 0 ≡ markAt g r k
+  own-word = sym (mark-here g (r .words) (getD (r .words) callsUsed 0 - 1) k inside)
 
   -- a slot that is not marked
   module _ (free : markAt g r k < getD (r .words) loopUnit 0) (fits : 2 * getD (r .words) loopUnit 0 ≤ 2 ^ 64) where
@@ -259,12 +259,12 @@ module _ {program : List ℕ} {ts : List Token} {g : List ℕ} {r : Raw} {s : St
     unfolding mark Act._>>=_ Act.goOn Act.held Act.store
     mark-is =
         let q : (markAt g r k + getD (r .words) loopUnit 0) % 2 ^ 64 ≡ markAt g r k + getD (r .words) loopUnit 0 = omega arith in
-        rw (own-call, q)
+        rw (own-call, own-word, q)
 
   -- one that is
   pub few-less : markAt g r k - getD (r .words) loopUnit 0 ≤ 2 * getD (r .words) loopUnit 0 - 1
-  few-less = omega (arith, h .sound .marks .own k some inside)
+  few-less = omega (arith, h .sound .marks .own k some)
 
   pub unmark-is : unmark g k r ≡ done tt (remarked h some k inside (markAt g r k - getD (r .words) loopUnit 0) few-less)
   unfolding unmark Act._>>=_ Act.goOn Act.held Act.store
-  unmark-is = rw own-call
+  unmark-is = rw (own-call, own-word)

@@ -19,7 +19,7 @@ use Rattle.code.specs.Code.{slotOf}
 use Rattle.reader.proofs.Homes.{Occurs}
 use Rattle.machine.specs.declared.Flow.{Flow}
 use Rattle.machine.specs.declared.Flow.the-variants.{Onward}
-use Rattle.machine.specs.Layout.{shapesUsed, callsUsed, loopUnit, entriesGranted, valuePlace}
+use Rattle.machine.specs.Layout.{shapesUsed, callsUsed, loopUnit, valuePlace}
 use Rattle.machine.specs.Act.{Raw, raw, Act}
 use Rattle.machine.specs.Act as Act
 use Rattle.machine.specs.Shapes.{isGroupAt, destroyedAt}
@@ -109,11 +109,11 @@ module _ {program : List ℕ} {ts : List Token} {g : List ℕ} {r : Raw} {s : St
   abbrev pub within : ℕ
   within = innerUnit (getD (r .words) loopUnit 0)
 
-  marks-less : (k : ℕ) → k < entriesGranted g → markAt g r k < within
-  marks-less k l = inner-more n (getD (r .words) loopUnit 0) (markAt g r k) any most room (h .sound .marks .own k some l)
+  marks-less : (k : ℕ) → markAt g r k < within
+  marks-less k = inner-more n (getD (r .words) loopUnit 0) (markAt g r k) any most room (h .sound .marks .own k some)
 
-  marks-fit : (k : ℕ) → 0 < getD (r .words) callsUsed 0 → k < entriesGranted g → markAt g r k ≤ 2 * within - 1
-  marks-fit k a l = let m = marks-less k l in omega arith
+  marks-fit : (k : ℕ) → 0 < getD (r .words) callsUsed 0 → markAt g r k ≤ 2 * within - 1
+  marks-fit k a = let m = marks-less k in omega arith
 
   unit-fits : 2 * within ≤ 2 ^ 64
   unit-fits =
@@ -123,7 +123,7 @@ module _ {program : List ℕ} {ts : List Token} {g : List ℕ} {r : Raw} {s : St
 
   clean-within : Path g (markAt g r) within [] (switched h within marks-fit)
   unfolding isIn
-  clean-within = record { each = λ k l. mark-was h within marks-fit k ∙ omega arith; less = marks-less }
+  clean-within = record { each = λ k. mark-was h within marks-fit k ∙ omega arith; less = marks-less }
 
   module _ (few : length ts ≤ 8192) {granted : Amounts} (gr : Grants g granted) (x : List ℕ) (o : Occurs ts aName x) (body : Act Flow) (body′ : Run.Action Execute.Flow)
       (P : Raw → Type 0) (repeats : Repeats program ts g granted body body′ P) (p : ℕ) where

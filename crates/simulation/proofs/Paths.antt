@@ -13,7 +13,7 @@ use Rattle.meaning.specs.Basics.{if_then_else_}
 use Rattle.meaning.specs.Token.{Token}
 use Rattle.meaning.specs.State.{State}
 use Rattle.meaning.specs.Book.{Amounts}
-use Rattle.machine.specs.Layout.{callsUsed, loopUnit, entriesGranted}
+use Rattle.machine.specs.Layout.{callsUsed, componentsMade, loopUnit}
 use Rattle.machine.specs.Act.{Raw}
 use Rattle.machine.specs.Loops.{markedAt, markedFrom, innerUnit}
 use Rattle.simulation.specs.Scope.{isIn}
@@ -41,13 +41,13 @@ module _ (g ws : List ℕ) where
 
 -- ---- the marks of a path: each slot of it has the unit on top of what loops around added
 pub record Path (g : List ℕ) (around : ℕ → ℕ) (unit : ℕ) (ks : List ℕ) (r : Raw) : Type 0 where
-  pub each : (k : ℕ) → k < entriesGranted g → markAt g r k ≡ around k + cond (isIn k ks) unit 0
-  pub less : (k : ℕ) → k < entriesGranted g → around k < unit
+  pub each : (k : ℕ) → markAt g r k ≡ around k + cond (isIn k ks) unit 0
+  pub less : (k : ℕ) → around k < unit
 
 -- it stays where all marks do
 pub path-after : {program : List ℕ} {ts : List Token} {g : List ℕ} {r r′ : Raw} {s : State} {total : Amounts} {around : ℕ → ℕ} {unit : ℕ} {ks : List ℕ} → After program ts g r r′ s total
     → 0 < getD (r .words) callsUsed 0 → Path g around unit ks r → Path g around unit ks r′
-path-after a some p = record { each = λ k l. rw (a .untouched .calls) (a .untouched .marks _ k (omega arith) l ∙ p .each k l); less = p .less }
+path-after a some p = record { each = λ k. rw (a .untouched .calls) (a .untouched .marks _ k (omega arith) ∙ p .each k); less = p .less }
 
 -- ---- a loop inside: its unit fits with one foreach less, and is more than all that loops around it add
 power-more : (n : ℕ) → 0 < n → n ≤ 64 → 2 ^ (64 - (n - 1)) ≡ 2 * 2 ^ (64 - n)
@@ -85,27 +85,27 @@ inner-more n u m a b l f = go (eqb u 0) refl
 
 -- ---- a slot more or less
 module _ {program : List ℕ} {ts : List Token} {g : List ℕ} {r : Raw} {s : State} {total : Amounts} (h : Related program ts g r s total) (some : 0 < getD (r .words) callsUsed 0)
-    (k : ℕ) (inside : k < entriesGranted g) (x : ℕ) (few : x ≤ 2 * getD (r .words) loopUnit 0 - 1) {around : ℕ → ℕ} {unit : ℕ} (ks : List ℕ) where
+    (k : ℕ) (inside : k < getD (r .words) componentsMade 0) (x : ℕ) (few : x ≤ 2 * getD (r .words) loopUnit 0 - 1) {around : ℕ → ℕ} {unit : ℕ} (ks : List ℕ) where
   pub path-marked : Path g around unit ks r → isIn k ks ≡ false → x ≡ markAt g r k + unit → Path g around unit (k ∷ ks) (remarked h some k inside x few)
   unfolding isIn
-  path-marked p new e = record { each = λ j l. at-slot j l (eqb k j) refl; less = p .less }
+  path-marked p new e = record { each = λ j. at-slot j (eqb k j) refl; less = p .less }
     where
-      at-slot : (j : ℕ) → j < entriesGranted g → (t : Bool) → eqb k j ≡ t → markAt g (remarked h some k inside x few) j ≡ around j + cond (t || isIn j ks) unit 0
-      at-slot j l true q =
+      at-slot : (j : ℕ) (t : Bool) → eqb k j ≡ t → markAt g (remarked h some k inside x few) j ≡ around j + cond (t || isIn j ks) unit 0
+      at-slot j true q =
           let here : k ≡ j = eqb-true k j q in
-          let was : markAt g r k ≡ around k + cond (isIn k ks) unit 0 = p .each k inside in
+          let was : markAt g r k ≡ around k + cond (isIn k ks) unit 0 = p .each k in
           let was′ : markAt g r k ≡ around k + 0 = rw new at was in
           rw (← here) (own-now h some k inside x few ∙ omega arith)
-      at-slot j l false q = own-others h some k inside x few j (λ d. eqb-false k j q (sym d)) ∙ p .each j l
+      at-slot j false q = own-others h some k inside x few j (λ d. eqb-false k j q (sym d)) ∙ p .each j
 
   pub path-unmarked : Path g around unit (k ∷ ks) r → isIn k ks ≡ false → x ≡ markAt g r k - unit → Path g around unit ks (remarked h some k inside x few)
   unfolding isIn
-  path-unmarked p last e = record { each = λ j l. at-slot j l (eqb k j) refl (p .each j l); less = p .less }
+  path-unmarked p last e = record { each = λ j. at-slot j (eqb k j) refl (p .each j); less = p .less }
     where
-      at-slot : (j : ℕ) → j < entriesGranted g → (t : Bool) → eqb k j ≡ t → markAt g r j ≡ around j + cond (t || isIn j ks) unit 0
+      at-slot : (j : ℕ) (t : Bool) → eqb k j ≡ t → markAt g r j ≡ around j + cond (t || isIn j ks) unit 0
           → markAt g (remarked h some k inside x few) j ≡ around j + cond (isIn j ks) unit 0
-      at-slot j l true q was =
+      at-slot j true q was =
           let here : k ≡ j = eqb-true k j q in
           let was′ : markAt g r k ≡ around k + unit = rw here was in
           rw (← here, last) (own-now h some k inside x few ∙ omega arith)
-      at-slot j l false q was = own-others h some k inside x few j (λ d. eqb-false k j q (sym d)) ∙ was
+      at-slot j false q was = own-others h some k inside x few j (λ d. eqb-false k j q (sym d)) ∙ was

@@ -20,7 +20,7 @@ use Rattle.meaning.specs.Run as Run
 use Rattle.meaning.specs.Book.{Amounts, added, shortageOf}
 use Rattle.meaning.specs.Library.{Library, libraryOf, callLibrary}
 use Rattle.meaning.specs.Execute.{executeAll}
-use Rattle.meaning.specs.Procedure.{anyTwice, assigningAll, returnedBy, performing, found, calling}
+use Rattle.meaning.specs.Procedure.{anyTwice, assigningAll, returnedBy, invoking, found, calling}
 use Rattle.names.specs.Prepared.{numberOf, libraryNumber, procedureNumber}
 use Rattle.machine.specs.Opcodes.{tablePlace, startIn, parametersIn, bodyIn}
 use Rattle.code.specs.Code.{slotOf, codeOfStatements, codeOfProcedure, headWord}
@@ -273,12 +273,12 @@ module _ (e : Setting) {ts : List Token} (sane : Sane ts) (strings : Strings (e 
     begin-right q = rw (ne-eqb _ 0 there, takes, given-many, eq-eqb (args .many) (length (f .parameters)) q, starts, suspends h fit p)
 
     performed : Follows granted total (Values (e .program) ts (e .grants) r₁) (invokeAt fuel e (slotOf ts x) p (getD (r₁ .words) argumentsHeld 0) r)
-        (performing (λ ss. executeAll (calling n (m .procedures)) ss n) f p us s)
-    unfolding performing Run._>>=_ Run.goOn Run.refuse Run.fail Run.give Act.goOn
+        (invoking (λ ss. executeAll (calling n (m .procedures)) ss n) f p us s)
+    unfolding invoking Run._>>=_ Run.goOn Run.refuse Run.fail Run.give Act.goOn
     performed = rw by-word (go (eqb (args .many) (length (f .parameters))) refl)
       where
         go : (t : Bool) → eqb (args .many) (length (f .parameters)) ≡ t
-            → Follows granted total (Values (e .program) ts (e .grants) r₁) (Act.goOn begins (λ _. inside)) (performing (λ ss. executeAll (calling n (m .procedures)) ss n) f p us s)
+            → Follows granted total (Values (e .program) ts (e .grants) r₁) (Act.goOn begins (λ _. inside)) (invoking (λ ss. executeAll (calling n (m .procedures)) ss n) f p us s)
         go true q =
             let same : args .many ≡ length (f .parameters) = eqb-true (args .many) (length (f .parameters)) q in
             rw (begin-right same, us-many, q) (after-declared (anyTwice (f .parameters)) _

@@ -288,6 +288,7 @@ module _ (program : List ℕ) (ts : List Token) (g : List ℕ) {granted : Amount
           high = λ k l. omega arith;
           new = λ k j l x e. omega arith;
           slots = λ k j l x e. omega (arith, a .held, w, h .sound .counted .shapes);
+          below = λ k l. omega (arith, a .held, w, h .sound .counted .shapes);
         }
 
     record AfterGroup (r₀ r : Raw) (s : State) (i j : ℕ) (r′ : Raw) (s′ : State) (total : Amounts) : Type 0 where

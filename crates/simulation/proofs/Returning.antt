@@ -29,9 +29,7 @@ use Rattle.machine.specs.Layout.{
   entriesMade,
   componentsMade,
   loopUnit,
-  entriesGranted,
   callsGranted,
-  pathPlace,
   framePlace,
   valuePlace,
   orderPlace,
@@ -45,9 +43,9 @@ use Rattle.machine.specs.Stack.{argumentAt, dropTo}
 use Rattle.machine.specs.Variables.{waitingWord}
 use Rattle.machine.specs.Procedures.{undeclareFrom, resumeFrom, resume, resultOf}
 use Rattle.simulation.specs.Meant.{slotAt, meantValue}
-use Rattle.simulation.specs.Sound.{Valid, Variables, Marks}
+use Rattle.simulation.specs.Sound.{Valid, Variables, markIn, Marks}
 use Rattle.simulation.specs.Follows.{Related, Later, Follows}
-use Rattle.simulation.proofs.Frames.{later-trans, valid-later, SameVariables, variables-kept, variables-same, same-waiting}
+use Rattle.simulation.proofs.Frames.{mark-same, later-trans, valid-later, SameVariables, variables-kept, variables-same, same-waiting}
 use Rattle.simulation.proofs.Results.{gave-back, Untouched, After, Values}
 use Rattle.simulation.proofs.Flows.{SameFlow, both-onward, both-returned}
 use Rattle.simulation.proofs.Moving.{moved-later, moved-related}
@@ -242,6 +240,9 @@ module _ {program : List ℕ} {ts : List Token} {g : List ℕ} {r₁ r r₂ r′
   variables-as : SameVariables call-later
   variables-as = record { count = ended-declared; procedure = ended-running; slots = ended-slot; values = ended-value }
 
+  ended-mark : (d k : ℕ) → markIn g ended d k ≡ markIn g (r′ .words) d k
+  ended-mark d k = mark-same g (r′ .words) d k ended (ended-parts componentsMade (omega arith) (omega arith)) (ended-high _ (omega arith))
+
   -- ---- calls as they were
   untouched-all : Untouched g r₁ returned
   untouched-all = record {
@@ -258,37 +259,37 @@ module _ {program : List ℕ} {ts : List Token} {g : List ℕ} {r₁ r r₂ r′
         let m = le-trans l (args .untouched .made) in
         ended-high _ (omega arith) ∙ a .untouched .components k (le-trans m (b .parts .made)) ∙ b .parts .words k m ∙ args .untouched .components k l;
     unit = ended-unit ∙ args .untouched .unit;
-    marks = λ d k x y.
+    marks = λ d k x.
         let c = args .untouched .calls in
-        ended-high _ (omega arith) ∙ a .untouched .marks d k (omega (arith, b .calls, c)) y ∙ b .marks d k (omega (arith, c)) y ∙ args .untouched .marks d k x y;
+        ended-mark d k ∙ a .untouched .marks d k (omega (arith, b .calls, c)) ∙ b .marks d k (omega (arith, c)) ∙ args .untouched .marks d k x;
     bound = λ slot n. rw (ended-value slot) (args .untouched .bound slot n);
   }
 
   -- the callee's marks are gone, and the caller's as they were
   ended-marks : Marks g ended
   ended-marks = record {
-    idle = λ d k x y z. ended-high _ (omega arith) ∙ gone d k (rw ended-calls at x) y z (eqb d (getD (r .words) callsUsed 0)) refl;
-    own = λ k x y.
+    idle = λ d k x y. ended-mark d k ∙ gone d k (rw ended-calls at x) y (eqb d (getD (r .words) callsUsed 0)) refl;
+    own = λ k x.
         let o = rw ended-calls at x in
         let d : getD (r .words) callsUsed 0 - 1 < getD (r .words) callsUsed 0 = omega arith in
         rw (
           ended-calls,
           ended-unit,
-          ended-high (pathPlace g (getD (r .words) callsUsed 0 - 1) k) (omega arith),
-          a .untouched .marks (getD (r .words) callsUsed 0 - 1) k (omega (arith, b .calls)) y,
-          b .marks (getD (r .words) callsUsed 0 - 1) k d y,
-        ) (h .sound .marks .own k o y);
+          ended-mark (getD (r .words) callsUsed 0 - 1) k,
+          a .untouched .marks (getD (r .words) callsUsed 0 - 1) k (omega (arith, b .calls)),
+          b .marks (getD (r .words) callsUsed 0 - 1) k d,
+        ) (h .sound .marks .own k o);
   }
     where
-      gone : (d k : ℕ) → getD (r .words) callsUsed 0 ≤ d → d < callsGranted g → k < entriesGranted g → (t : Bool) → eqb d (getD (r .words) callsUsed 0) ≡ t → getD (r′ .words) (pathPlace g d k) 0 ≡ 0
-      gone d k x y z true e =
+      gone : (d k : ℕ) → getD (r .words) callsUsed 0 ≤ d → d < callsGranted g → (t : Bool) → eqb d (getD (r .words) callsUsed 0) ≡ t → markIn g (r′ .words) d k ≡ 0
+      gone d k x y true e =
           let q : getD (r₂ .words) callsUsed 0 - 1 ≡ getD (r .words) callsUsed 0 = omega (arith, b .calls) in
-          let m = b .related .sound .marks .own k (omega (arith, b .calls)) z in
+          let m = b .related .sound .marks .own k (omega (arith, b .calls)) in
           let n = rw (q, b .unit) at m in
-          rw (eqb-true d (getD (r .words) callsUsed 0) e) (a .untouched .marks (getD (r .words) callsUsed 0) k (omega (arith, b .calls)) z ∙ omega (arith, n))
-      gone d k x y z false e =
+          rw (eqb-true d (getD (r .words) callsUsed 0) e) (a .untouched .marks (getD (r .words) callsUsed 0) k (omega (arith, b .calls)) ∙ omega (arith, n))
+      gone d k x y false e =
           let n : d ≢ getD (r .words) callsUsed 0 = eqb-false d (getD (r .words) callsUsed 0) e in
-          a .related .sound .marks .idle d k (omega (arith, a .untouched .calls, b .calls)) y z
+          a .related .sound .marks .idle d k (omega (arith, a .untouched .calls, b .calls)) y
 
   level : getD (r₁ .words) argumentsHeld 0 ≤ getD ended argumentsHeld 0
   level = omega (arith, ended-held)

@@ -14,7 +14,7 @@ use Rattle.meaning.specs.State.{State}
 use Rattle.meaning.specs.Run as Run
 use Rattle.meaning.specs.Book.{Amounts}
 use Rattle.meaning.specs.Execute.{Flow, continue, iterating}
-use Rattle.machine.specs.Layout.{shapesUsed, callsUsed, componentsMade, loopUnit, shapesGranted, entriesGranted}
+use Rattle.machine.specs.Layout.{shapesUsed, callsUsed, componentsMade, loopUnit, shapesGranted}
 use Rattle.machine.specs.Act.{Raw, raw, Out, done, Act}
 use Rattle.machine.specs.Act as Act
 use Rattle.machine.specs.Shapes.{isGroupAt, destroyedAt}
@@ -119,16 +119,12 @@ module _ (program : List ℕ) (ts : List Token) (g : List ℕ) (body : ℕ → R
     pub after : Leads r slices
     pub path : Path g around unit ks slices
 
-  pub in-store : {r : Raw} {ways : List Stop} → Ready ways r → (k : ℕ) → k < nextUp end ways → k < entriesGranted g
-  in-store {r} {ways} y k l =
-      let c = y .related .sound .counted in
-      omega (arith, way-below g (r .words) end ways (y .way), y .inEnd, c .made, c .entries)
+  pub in-store : {r : Raw} {ways : List Stop} → Ready ways r → (k : ℕ) → k < nextUp end ways → k < getD (r .words) componentsMade 0
+  in-store {r} {ways} y k l = omega (arith, way-below g (r .words) end ways (y .way), y .inEnd)
 
-  pub in-upper : {r : Raw} {at : Stop} {ways : List Stop} → Ready (at ∷ ways) r → at .slot < entriesGranted g
+  pub in-upper : {r : Raw} {at : Stop} {ways : List Stop} → Ready (at ∷ ways) r → at .slot < getD (r .words) componentsMade 0
   unfolding Way nextUp
-  in-upper {r} {at} {ways} y =
-      let c = y .related .sound .counted in
-      omega (arith, way-below g (r .words) end ways (y .way .1), y .way .0 .below, y .inEnd, c .made, c .entries)
+  in-upper {r} {at} {ways} y = omega (arith, way-below g (r .words) end ways (y .way .1), y .way .0 .below, y .inEnd)
 
   -- a slot on the way down, which is noted
   goes-down : {r : Raw} {ways : List Stop} → Ready ways r → 2 * unit ≤ 2 ^ 64 → (k : ℕ) → k < nextUp end ways → (d x : ℕ) → d < shapesGranted g
@@ -138,9 +134,9 @@ module _ (program : List ℕ) (ts : List Token) (g : List ℕ) (body : ℕ → R
       let h = y .related in
       let inside = in-store y k l in
       let new = fresh g (r .words) end k ways (y .way) l in
-      let was : markAt g r k ≡ around k + cond (isIn k (slots ways)) unit 0 = y .path .each k inside in
+      let was : markAt g r k ≡ around k + cond (isIn k (slots ways)) unit 0 = y .path .each k in
       let was′ : markAt g r k ≡ around k + 0 = rw new at was in
-      let free : markAt g r k < getD (r .words) loopUnit 0 = omega (arith, was′, y .path .less k inside, y .unitIs) in
+      let free : markAt g r k < getD (r .words) loopUnit 0 = omega (arith, was′, y .path .less k, y .unitIs) in
       let fits′ : 2 * getD (r .words) loopUnit 0 ≤ 2 ^ 64 = rw (y .unitIs) fits in
       let m = markAt g r k + getD (r .words) loopUnit 0 in
       let few = few-more h (y .some) k inside free fits′ in
@@ -160,7 +156,7 @@ module _ (program : List ℕ) (ts : List Token) (g : List ℕ) (body : ℕ → R
   goes-up {r} {at} {ways} y =
       let h = y .related in
       let l : at .slot < nextUp end ways = omega (arith, y .way .0 .below) in
-      let inside : at .slot < entriesGranted g = in-upper y in
+      let inside : at .slot < getD (r .words) componentsMade 0 = in-upper y in
       let new = fresh g (r .words) end (at .slot) ways (y .way .1) l in
       let few = few-less h (y .some) (at .slot) inside in
       let m = markAt g r (at .slot) - getD (r .words) loopUnit 0 in

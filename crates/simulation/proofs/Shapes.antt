@@ -26,6 +26,7 @@ use Rattle.simulation.specs.Meant.{meantValue, meantFigure, contentAt}
 use Rattle.simulation.specs.Sound.{Valid, Proper}
 use Rattle.simulation.specs.Follows.{Grants, Related, Follows}
 use Rattle.simulation.proofs.Results.{due, given, AfterValue, steps-told, spent-then}
+use Rattle.simulation.proofs.Frames.{mark-same}
 use Rattle.simulation.proofs.Growing.{
   low-of,
   high-of,
@@ -112,7 +113,7 @@ module _ {program : List ℕ} {ts : List Token} {g : List ℕ} {r : Raw} {s : St
     ways = λ i j x y l. untouched _ (λ e. omega arith) (λ e. omega arith) (λ e. omega arith) (λ e. omega arith);
     entries = λ j x y. highly j (omega arith);
     parts = record { made = omega (arith, lowly componentsMade (λ e. omega arith) (omega arith)); words = λ k l. highly _ (omega arith) };
-    paths = λ j l. highly j (omega arith);
+    marks = λ d k l. mark-same g (r .words) d k ws′ (lowly componentsMade (λ e. omega arith) (omega arith)) (highly _ (omega arith));
     taken = rw (lowly entriesUsed (λ e. omega arith) (omega arith)) (c .entries);
     made = rw (lowly entriesMade (λ e. omega arith) (omega arith), lowly componentsMade (λ e. omega arith) (omega arith), lowly entriesUsed (λ e. omega arith) (omega arith)) (c .made);
     first = rw word₁ (pair-small (f .a) (f .b));

@@ -12,15 +12,15 @@ use Rattle.meaning.specs.Basics.{if_then_else_}
 use Rattle.meaning.specs.Token.{Token}
 use Rattle.meaning.specs.State.{State}
 use Rattle.meaning.specs.Book.{Amounts}
-use Rattle.machine.specs.Layout.{callsUsed, loopUnit, entriesGranted}
+use Rattle.machine.specs.Layout.{callsUsed, componentsMade, loopUnit}
 use Rattle.machine.specs.Act.{Raw, done}
 use Rattle.machine.specs.Act as Act
 use Rattle.machine.specs.Loops.{markedAt, unmarkFrom}
 use Rattle.simulation.specs.Follows.{Related}
 use Rattle.simulation.proofs.Results.{unmoved}
-use Rattle.simulation.proofs.Marking.{markAt, AfterBut, but-after, but-trans, remarked, own-now, own-others, marks, own-call, few-less, unmark-is}
+use Rattle.simulation.proofs.Marking.{markAt, AfterBut, but-after, but-trans, remarked, own-now, own-others, marks, own-call, own-word, few-less, unmark-is}
 
-module _ (program : List ℕ) (ts : List Token) (g : List ℕ) (s : State) (total : Amounts) (around : ℕ → ℕ) (unit : ℕ) (less : (j : ℕ) → j < entriesGranted g → around j < unit)
+module _ (program : List ℕ) (ts : List Token) (g : List ℕ) (s : State) (total : Amounts) (around : ℕ → ℕ) (unit : ℕ) (less : (j : ℕ) → around j < unit)
     (on : ℕ → Bool) where
   -- n slots from k on are as they were without the loop, the others as they were
   pub record Cleared (k n : ℕ) (r : Raw) (o : Act.Out (Unit {0})) : Type 0 where
@@ -31,12 +31,12 @@ module _ (program : List ℕ) (ts : List Token) (g : List ℕ) (s : State) (tota
     pub before : (j : ℕ) → j < k → markAt g slices j ≡ markAt g r j
     pub behind : (j : ℕ) → k + n ≤ j → markAt g slices j ≡ markAt g r j
 
-  pub clears : (n k : ℕ) (r : Raw) → Related program ts g r s total → 0 < getD (r .words) callsUsed 0 → getD (r .words) loopUnit 0 ≡ unit → k + n ≤ entriesGranted g
+  pub clears : (n k : ℕ) (r : Raw) → Related program ts g r s total → 0 < getD (r .words) callsUsed 0 → getD (r .words) loopUnit 0 ≡ unit → k + n ≤ getD (r .words) componentsMade 0
       → ((j : ℕ) → k ≤ j → j < k + n → markAt g r j ≡ around j + cond (on j) unit 0) → Cleared k n r (unmarkFrom g k n r)
   unfolding unmarkFrom Act._>>=_ Act.goOn Act.held Act.give if_then_else_
   clears zero k r h some u l m = record { slices = r; is = refl; after = but-after (unmoved h); clear = λ j x y. absurd (omega arith); before = λ j x. refl; behind = λ j x. refl }
   clears (suc n) k r h some u l m =
-      go (on k) (m k (omega arith) (omega arith)) (λ r′ h′ c u′ f. clears n (k + 1) r′ h′ c u′ (omega arith) f)
+      go (on k) (m k (omega arith) (omega arith)) (λ r′ h′ c u′ l′ f. clears n (k + 1) r′ h′ c u′ l′ f)
     where
       at-slot : (r′ : Raw) (j : ℕ) → k ≤ j → j < k + suc n → ((i : ℕ) → k + 1 ≤ i → i < k + 1 + n → markAt g r′ i ≡ around i) → markAt g r′ k ≡ around k
           → (t : Bool) → eqb j k ≡ t → markAt g r′ j ≡ around j
@@ -44,16 +44,16 @@ module _ (program : List ℕ) (ts : List Token) (g : List ℕ) (s : State) (tota
       at-slot r′ j y z f here false q = let d : j ≢ k = eqb-false j k q in f j (omega arith) (omega arith)
 
       go : (t : Bool) → markAt g r k ≡ around k + cond t unit 0
-          → ((r′ : Raw) → Related program ts g r′ s total → 0 < getD (r′ .words) callsUsed 0 → getD (r′ .words) loopUnit 0 ≡ unit
+          → ((r′ : Raw) → Related program ts g r′ s total → 0 < getD (r′ .words) callsUsed 0 → getD (r′ .words) loopUnit 0 ≡ unit → k + 1 + n ≤ getD (r′ .words) componentsMade 0
           → ((j : ℕ) → k + 1 ≤ j → j < k + 1 + n → markAt g r′ j ≡ around j + cond (on j) unit 0) → Cleared (k + 1) n r′ (unmarkFrom g (k + 1) n r′))
           → Cleared k (suc n) r (unmarkFrom g k (suc n) r)
       go true e next =
-          let inside : k < entriesGranted g = omega arith in
+          let inside : k < getD (r .words) componentsMade 0 = omega arith in
           let x = markAt g r k - getD (r .words) loopUnit 0 in
           let few = few-less h some k inside in
-          let is-on : markedAt g (r .words) k ≡ true = rw (own-call h some k inside) (le-leb (getD (r .words) loopUnit 0) (markAt g r k) (omega (arith, e, u))) in
+          let is-on : markedAt g (r .words) k ≡ true = rw (own-call h some k inside, own-word h some k inside) (le-leb (getD (r .words) loopUnit 0) (markAt g r k) (omega (arith, e, u))) in
           let a = marks h some k inside x few in
-          let c = next (remarked h some k inside x few) (a .related) (rw (a .calls) some) (a .unit ∙ u)
+          let c = next (remarked h some k inside x few) (a .related) (rw (a .calls) some) (a .unit ∙ u) (omega (arith, a .parts .made))
           (λ j y z. own-others h some k inside x few j (λ q. omega arith) ∙ m j (omega arith) (omega arith)) in
           record {
             slices = c .slices;
@@ -64,9 +64,9 @@ module _ (program : List ℕ) (ts : List Token) (g : List ℕ) (s : State) (tota
             behind = λ j y. c .behind j (omega arith) ∙ own-others h some k inside x few j (λ q. omega arith);
           }
       go false e next =
-          let inside : k < entriesGranted g = omega arith in
-          let is-off : markedAt g (r .words) k ≡ false = rw (own-call h some k inside) (lt-leb (getD (r .words) loopUnit 0) (markAt g r k) (omega (arith, e, u, less k inside))) in
-          let c = next r h some u (λ j y z. m j (omega arith) (omega arith)) in
+          let inside : k < getD (r .words) componentsMade 0 = omega arith in
+          let is-off : markedAt g (r .words) k ≡ false = rw (own-call h some k inside, own-word h some k inside) (lt-leb (getD (r .words) loopUnit 0) (markAt g r k) (omega (arith, e, u, less k))) in
+          let c = next r h some u (omega arith) (λ j y z. m j (omega arith) (omega arith)) in
           record {
             slices = c .slices;
             is = rw is-off (c .is);

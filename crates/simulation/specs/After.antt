@@ -11,13 +11,13 @@ use Rattle.meaning.specs.Book.{Amounts}
 use Rattle.meaning.specs.Execute.{onward, returned}
 use Rattle.meaning.specs.Execute as Execute
 use Rattle.machine.specs.declared.Value.{Value}
-use Rattle.machine.specs.Layout.{stepsUsed, tablesMade, argumentsHeld, callsUsed, running, componentsMade, loopUnit, entriesGranted, valuePlace, componentPlace, pathPlace}
+use Rattle.machine.specs.Layout.{stepsUsed, tablesMade, argumentsHeld, callsUsed, running, componentsMade, loopUnit, valuePlace, componentPlace}
 use Rattle.machine.specs.Act.{Raw}
 use Rattle.machine.specs.Stack.{argumentAt}
 use Rattle.machine.specs.declared.Flow.{Flow}
 use Rattle.machine.specs.declared.Flow.the-variants.{Onward, Returned}
 use Rattle.simulation.specs.Meant.{meantValue, frameAt}
-use Rattle.simulation.specs.Sound.{Valid}
+use Rattle.simulation.specs.Sound.{Valid, markIn}
 use Rattle.simulation.specs.Follows.{Related, Later}
 
 -- the calls that wait, the procedure under way, the stack as far as it was held, the components of groups, and the marks of loops under way;
@@ -30,7 +30,7 @@ pub record Untouched (g : List ℕ) (r r′ : Raw) : Type 0 where
   pub made : getD (r .words) componentsMade 0 ≤ getD (r′ .words) componentsMade 0
   pub components : (k : ℕ) → k < getD (r .words) componentsMade 0 → getD (r′ .words) (componentPlace g k) 0 ≡ getD (r .words) (componentPlace g k) 0
   pub unit : getD (r′ .words) loopUnit 0 ≡ getD (r .words) loopUnit 0
-  pub marks : (d k : ℕ) → d < getD (r .words) callsUsed 0 → k < entriesGranted g → getD (r′ .words) (pathPlace g d k) 0 ≡ getD (r .words) (pathPlace g d k) 0
+  pub marks : (d k : ℕ) → d < getD (r .words) callsUsed 0 → markIn g (r′ .words) d k ≡ markIn g (r .words) d k
   pub bound : (slot : ℕ) → getD (r .words) (valuePlace slot) 0 ≢ 0 → getD (r′ .words) (valuePlace slot) 0 ≢ 0
 
 -- The slices stand for the state. No more tables were made than steps counted; the calls under way and their arguments are untouched.

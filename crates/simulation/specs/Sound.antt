@@ -7,7 +7,7 @@ use mathlib.Core.List.{List, []}
 use lib.ListN.{length, getD}
 use lib.IntN.{pos}
 use lib.Signed.{mag}
-use lib.Dec.{eqb}
+use lib.Dec.{eqb, ltb}
 use Rattle.meaning.specs.Token.{Token}
 use Rattle.meaning.specs.Grammar.{textAt}
 use Rattle.code.specs.Code.{slotOf}
@@ -130,11 +130,14 @@ pub record Shapes (program g ws : List ℕ) : Type 0 where
   pub hollow : (i : ℕ) → i < getD ws shapesUsed 0 → isGroupAt ws i ≡ true → hollowAt ws i ≡ true → figuresIn (suc i) g ws i ≡ []
 
 -- ---- marks of loops
--- In the call under way the word of a slot has at most the marks of the loops under way, of which the innermost has this unit; calls that are not under way
--- have none.
+-- those that slot k has of call d, none where no component was made yet: what its word holds then means nothing
+unfoldable pub markIn : List ℕ → List ℕ → ℕ → ℕ → ℕ
+markIn g ws d k = cond (ltb k (getD ws componentsMade 0)) (getD ws (pathPlace g d k) 0) 0
+
+-- In the call under way a slot has at most the marks of the loops under way, of which the innermost has this unit; of calls that are not under way it has none.
 pub record Marks (g ws : List ℕ) : Type 0 where
-  pub idle : (d k : ℕ) → getD ws callsUsed 0 ≤ d → d < callsGranted g → k < entriesGranted g → getD ws (pathPlace g d k) 0 ≡ 0
-  pub own : (k : ℕ) → 0 < getD ws callsUsed 0 → k < entriesGranted g → getD ws (pathPlace g (getD ws callsUsed 0 - 1) k) 0 ≤ 2 * getD ws loopUnit 0 - 1
+  pub idle : (d k : ℕ) → getD ws callsUsed 0 ≤ d → d < callsGranted g → markIn g ws d k ≡ 0
+  pub own : (k : ℕ) → 0 < getD ws callsUsed 0 → markIn g ws (getD ws callsUsed 0 - 1) k ≤ 2 * getD ws loopUnit 0 - 1
 
 -- ---- entries
 -- Keys are words as values are packed and no groups, no two entries of a table have one key, and the index is right.

@@ -1,9 +1,5 @@
 pub mod Paid
-mod Written
+pub mod Written
 mod Moves
 mod Iterating
 mod Going
-mod Listing
-mod Heads
-mod Table
-mod Gathering

@@ -9,7 +9,7 @@ use borrow.Author.Tests.{eqb-true}
 use lib.Dec.{eqb}
 use lib.ListN.{length, length-append}
 use lib.Seq.{length-take-le}
-use Rattle.meaning.specs.Token.{aName, wordDef, wordVar, wordIf, wordWhile, wordReturn, wordForeach, wordIn, wordDo, comma, semicolon, openParen, closeParen, openBrace, closeBrace, becomes}
+use Rattle.meaning.specs.Token.{aName, wordVar, wordIf, wordWhile, wordReturn, wordForeach, wordIn, wordDo, semicolon, openParen, closeParen, openBrace, closeBrace, becomes}
 use Rattle.meaning.specs.Grammar.{Got, good, wrong, after, Inside, noLevel, level, opening}
 use Rattle.code.specs.Code.{headed}
 use Rattle.expressions.specs.Words.{placeAt, homeAt, is, Piece, ReadPiece, expect, expression}
@@ -17,8 +17,7 @@ use Rattle.expressions.specs.Words as Expressions
 use Rattle.expressions.proofs.Tokens.{chosen, token-inside}
 use Rattle.expressions.proofs.Paid.{Paid, expression-paid}
 use Rattle.statements.specs.Words.{ReadCode, Readers, declaration, returning, withoutLast, assignment, simple, guarded, beginsStatement, iteration}
-use Rattle.statements.specs.Words.{statementsFrom, statements, statementIn, statement, nameAt}
-use Rattle.statements.specs.Words.{Head, skip, parametersFrom, parameters, body, procedure}
+use Rattle.statements.specs.Words.{skip, statementsFrom, statements, statementIn, statement}
 use Rattle.statements.specs.Steps.{insideOf, ended, test, members, each}
 
 -- what has a kind is a token
@@ -26,29 +25,29 @@ pub kind-inside : (ws : List ℕ) (i k : ℕ) → is (suc k) ws i ≡ true → i
 kind-inside ws i k e = token-inside ws i (suc k) (eqb-true _ _ e) (λ z. omega arith)
 
 -- ---- what is read
-abbrev Pays : List ℕ → ℕ → Got (List ℕ) → Type 0
+abbrev pub Pays : List ℕ → ℕ → Got (List ℕ) → Type 0
 Pays ws i (good c j) = Paid c ws i j
 Pays ws i (wrong k p) = Unit {0}
 
-abbrev PaysPiece : List ℕ → ReadPiece → Type 0
+abbrev pub PaysPiece : List ℕ → ReadPiece → Type 0
 PaysPiece ws read = (i : ℕ) (e : Piece) (j : ℕ) → read i ≡ good e j → Paid (e .code) ws i j
 
-abbrev PaysCode : List ℕ → ReadCode → Type 0
+abbrev pub PaysCode : List ℕ → ReadCode → Type 0
 PaysCode ws read = (i : ℕ) (c : List ℕ) (j : ℕ) → read i ≡ good c j → Paid c ws i j
 
-abbrev PaysInside : List ℕ → Inside Readers → Type 0
+abbrev pub PaysInside : List ℕ → Inside Readers → Type 0
 PaysInside ws noLevel = Unit {0}
 PaysInside ws (level r) = PaysPiece ws (r .inExpression) × PaysCode ws (r .inStatement)
 
-pays : (ws : List ℕ) (i : ℕ) (g : Got (List ℕ)) → Pays ws i g → (c : List ℕ) (j : ℕ) → g ≡ good c j → Paid c ws i j
+pub pays : (ws : List ℕ) (i : ℕ) (g : Got (List ℕ)) → Pays ws i g → (c : List ℕ) (j : ℕ) → g ≡ good c j → Paid c ws i j
 pays ws i g p c j q = subst (Pays ws i) q p
 
-over : {A B : Type 0} (P : Got B → Type 0) (g : Got A) (f : A → ℕ → Got B) → ((k p : ℕ) → P (wrong k p)) → ((a : A) (j : ℕ) → g ≡ good a j → P (f a j)) → P (after g f)
+pub over : {A B : Type 0} (P : Got B → Type 0) (g : Got A) (f : A → ℕ → Got B) → ((k p : ℕ) → P (wrong k p)) → ((a : A) (j : ℕ) → g ≡ good a j → P (f a j)) → P (after g f)
 unfolding after
 over P (good a j) f w h = h a j refl
 over P (wrong k p) f w h = w k p
 
-on : {A : Type 0} (ws : List ℕ) (i : ℕ) (g : Got A) (f : A → ℕ → Got (List ℕ)) → ((a : A) (j : ℕ) → g ≡ good a j → Pays ws i (f a j)) → Pays ws i (after g f)
+pub on : {A : Type 0} (ws : List ℕ) (i : ℕ) (g : Got A) (f : A → ℕ → Got (List ℕ)) → ((a : A) (j : ℕ) → g ≡ good a j → Pays ws i (f a j)) → Pays ws i (after g f)
 on ws i g f h = over (Pays ws i) g f (λ k p. tt) h
 
 expect-pays : (ws : List ℕ) (i j k : ℕ) (c : List ℕ) → 0 < length c → i ≤ j → i + length c ≤ j + 1 → Pays ws i (expect (suc k) ws j c)
@@ -63,7 +62,7 @@ unfolding withoutLast
 without-size c = length-take-le (length c - 1) c (omega arith)
 
 module _ (ws : List ℕ) (inner : ReadCode) (ok : PaysCode ws inner) where
-  statements-from-pay : (rounds i : ℕ) → Pays ws i (statementsFrom rounds inner ws i)
+  pub statements-from-pay : (rounds i : ℕ) → Pays ws i (statementsFrom rounds inner ws i)
   unfolding statementsFrom
   statements-from-pay zero i = tt
   statements-from-pay (suc rounds) i = on ws i (inner i) _ λ s j q.
@@ -82,7 +81,7 @@ expect-good k ws j a b m =
     chosen (λ g. g ≡ good b m → (a ≡ b) × (m ≡ j + 1)) (is k ws j) _ _ (λ _ q. (cc, cc))
     (λ _ q. let z : _≡_ {A = ℕ} 0 1 = cc in absurd (omega arith))
 
-skip-good : (k : ℕ) (ws : List ℕ) (j : ℕ) (u : Unit {0}) (m : ℕ) → skip k ws j ≡ good u m → m ≡ j + 1
+pub skip-good : (k : ℕ) (ws : List ℕ) (j : ℕ) (u : Unit {0}) (m : ℕ) → skip k ws j ≡ good u m → m ≡ j + 1
 skip-good k ws j u m q = expect-good k ws j tt u m q .1
 
 opened : (ws : List ℕ) (i p : ℕ) (inside : Inside Readers) (f : Readers → Got (List ℕ)) → PaysInside ws inside
@@ -200,7 +199,7 @@ unfolding statement insideOf
 statement-levels zero ws i = refl
 statement-levels (suc left) ws i = refl
 
-inside-pays : (left : ℕ) (ws : List ℕ) → PaysInside ws (insideOf left ws)
+pub inside-pays : (left : ℕ) (ws : List ℕ) → PaysInside ws (insideOf left ws)
 unfolding insideOf
 inside-pays zero ws = tt
 inside-pays (suc left) ws = (
@@ -231,75 +230,3 @@ test-paid zero ws i c j q =
     pays ws i _ (chosen (Pays ws i) (is openParen ws i) _ _ (λ _. tt) (λ _. tt)) c j q
 test-paid (suc left) ws i c j q =
     pays ws i _ (chosen (Pays ws i) (is openParen ws i) _ _ (λ _. bare-pays ws (expression left ws) (expression-paid left ws) i (i + 1) 40 (omega arith)) (λ _. tt)) c j q
-
--- read from a later token on
-later : (ws : List ℕ) (i m : ℕ) (g : Got (List ℕ)) → i ≤ m → Pays ws m g → Pays ws i g
-later ws i m (good c j) h p = record { some = p .some; ahead = omega (arith, p .ahead); paid = omega (arith, p .paid); within = p .within }
-later ws i m (wrong k p) h q = tt
-
-pub body-paid : (ws : List ℕ) (i : ℕ) (c : List ℕ) (j : ℕ) → body ws i ≡ good c j → Paid c ws i j
-unfolding body insideOf
-body-paid ws i c j q =
-    pays ws i _ (on ws i (skip openBrace ws i) _ λ u m e.
-    later ws i m (statements (statement 64 ws) ws m) (omega (arith, skip-good openBrace ws i u m e)) (statements-from-pay ws (statement 64 ws) (inside-pays 65 ws .1) (suc (length ws - m)) m)) c j q
-
--- ---- parameters and procedures
--- two tokens for each parameter, and one at least
-abbrev PaysSlots : List ℕ → ℕ → Got (List ℕ) → Type 0
-PaysSlots ws i (good xs j) = (i + 2 * length xs ≤ j) × (i < j) × (j ≤ length ws)
-PaysSlots ws i (wrong k p) = Unit {0}
-
-last-slot-pays : (ws : List ℕ) (i j x : ℕ) → j ≡ i + 1 → PaysSlots ws i (expect closeParen ws j (x ∷ []))
-unfolding expect
-last-slot-pays ws i j x h = chosen (PaysSlots ws i) (is closeParen ws j) _ _ (λ b. let w = kind-inside ws j 40 b in omega arith) (λ _. tt)
-
-slots-pay : (rounds : ℕ) (ws : List ℕ) (i : ℕ) → PaysSlots ws i (parametersFrom rounds ws i)
-unfolding parametersFrom
-slots-pay zero ws i = tt
-slots-pay (suc rounds) ws i = over (PaysSlots ws i) (expect aName ws i (homeAt ws i)) _ (λ k p. tt) λ x j q.
-    let e = expect-good aName ws i (homeAt ws i) x j q in
-    chosen (PaysSlots ws i) (is comma ws j) _ _
-    (λ _. over (PaysSlots ws i) (parametersFrom rounds ws (j + 1)) _ (λ k p. tt) λ xs m r.
-    let w : PaysSlots ws (j + 1) (good xs m) = subst (PaysSlots ws (j + 1)) r (slots-pay rounds ws (j + 1)) in
-    omega arith)
-    (λ _. last-slot-pays ws i j x (e .1))
-
-pub parameters-paid : (ws : List ℕ) (i : ℕ) (xs : List ℕ) (j : ℕ) → parameters ws i ≡ good xs j → (i + length xs < j) × (j ≤ length ws)
-unfolding parameters
-parameters-paid ws i xs j q =
-    let w : PaysSlots ws i (good xs j) = subst (PaysSlots ws i) q (
-    chosen (PaysSlots ws i) (is closeParen ws i) _ _ (λ b. let w = kind-inside ws i 40 b in omega arith) (λ _. slots-pay (suc (length ws - i)) ws i)) in
-    omega arith
-
--- a procedure from token i up to token j
-pub record PaidHead (h : Head) (ws : List ℕ) (i j : ℕ) : Type 0 where
-  pub place : h .place ≡ placeAt ws i
-  pub name : h .name ≡ nameAt ws (i + 1)
-  pub some : 0 < length (h .body)
-  pub paid : i + length (h .slots) + length (h .body) + 3 < j
-  pub within : j ≤ length ws
-
-abbrev PaysHead : List ℕ → ℕ → Got Head → Type 0
-PaysHead ws i (good h j) = PaidHead h ws i j
-PaysHead ws i (wrong k p) = Unit {0}
-
-pub procedure-paid : (ws : List ℕ) (i : ℕ) (h : Head) (j : ℕ) → procedure ws i ≡ good h j → PaidHead h ws i j
-unfolding procedure
-procedure-paid ws i h j q = subst (PaysHead ws i) q (
-    over (PaysHead ws i) (skip wordDef ws i) _ (λ k p. tt) λ u₁ i₁ q₁.
-    over (PaysHead ws i) (expect aName ws i₁ (nameAt ws i₁)) _ (λ k p. tt) λ f i₂ q₂.
-    over (PaysHead ws i) (skip openParen ws i₂) _ (λ k p. tt) λ u₃ i₃ q₃.
-    over (PaysHead ws i) (parameters ws i₃) _ (λ k p. tt) λ xs i₄ q₄.
-    over (PaysHead ws i) (body ws i₄) _ (λ k p. tt) λ ss i₅ q₅.
-    let e₁ = skip-good wordDef ws i u₁ i₁ q₁ in
-    let e₂ = expect-good aName ws i₁ (nameAt ws i₁) f i₂ q₂ in
-    let e₃ = skip-good openParen ws i₂ u₃ i₃ q₃ in
-    let e₄ = parameters-paid ws i₃ xs i₄ q₄ in
-    let e₅ = body-paid ws i₄ ss i₅ q₅ in
-    record {
-      place = refl;
-      name = sym (e₂ .0) ∙ ap (nameAt ws) e₁;
-      some = e₅ .some;
-      paid = omega (arith, e₂ .1, e₅ .paid);
-      within = e₅ .within;
-    })

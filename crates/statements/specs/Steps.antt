@@ -1,18 +1,13 @@
 -- What the smaller functions read, and what is done with what was read.
 use Prim.Native.Nat.{ℕ, zero, suc, _+_, _-_, _*_}
-use mathlib.Core.Path.{_≡_}
 use mathlib.Core.List.{List, _∷_}
-use lib.ListN.{getD, set, take}
-use lib.Dec.{eqb}
+use lib.ListN.{set}
 use Rattle.meaning.specs.Basics.{if_then_else_}
 use Rattle.meaning.specs.Token.{aName, wordIn, wordDo, semicolon, openParen, closeParen}
 use Rattle.meaning.specs.Grammar.{Got, good, wrong, after, Inside, noLevel, level, opening}
 use Rattle.machine.specs.Opcodes.{word}
-use Rattle.expressions.specs.declared.Read.{Read}
-use Rattle.expressions.specs.Words.{homeAt, is, ReadPiece, expect, expression, Seen, at, failed, seen}
-use Rattle.statements.specs.declared.Parsed.{Parsed}
-use Rattle.statements.specs.declared.Parsed.the-variants.{Whole, Twice, Misfit}
-use Rattle.statements.specs.Words.{Readers, skip, beginsStatement, statement, procedure, writtenProcedure, tableIn}
+use Rattle.expressions.specs.Words.{homeAt, is, ReadPiece, expect, expression, Seen, at, failed}
+use Rattle.statements.specs.Words.{Readers, skip, beginsStatement, statement}
 
 -- how the inside of a level is read, where so many are left
 unfoldable pub insideOf : ℕ → List ℕ → Inside Readers
@@ -47,22 +42,3 @@ each read inside ws i =
 unfoldable pub topped : ℕ → ℕ → ℕ → ℕ → Seen → Seen
 topped tag p n x (at j m t xs) = at j m 0 (set xs n (word tag (m - n) (p + 65536 * x)))
 topped tag p n x (failed k q) = failed k q
-
--- ---- all procedures
--- a procedure was read from token i on, and its code written from word n on; the table is as it was
-pub record Below (r : Read) (ws : List ℕ) (i n : ℕ) (s₀ s : List ℕ) : Type 0 where
-  pub reads : seen r s ≡ writtenProcedure (procedure ws i) n s₀
-  pub table : tableIn s ≡ tableIn s₀
-
--- a word w was written into the table, where `old` stood; the code is as it was
-pub record Entered (slot w old : ℕ) (s₀ s : List ℕ) : Type 0 where
-  pub stood : old ≡ getD (tableIn s₀) slot 0
-  pub table : tableIn s ≡ set (tableIn s₀) slot w
-  pub code : take 8192 s ≡ take 8192 s₀
-
--- what is answered of n words of code
-unfoldable pub answered : ℕ → ℕ → ℕ → ℕ → Parsed
-answered end main twice n =
-    if eqb main 0 then (λ _. Misfit 10 end)
-    else λ _. if eqb twice 0 then (λ _. Whole main n)
-    else λ _. Twice (twice - 1)

@@ -1,19 +1,19 @@
 // Statements and bodies, which call each other: the levels left or the tokens left fall. A statement's word is written when its parts are.
 // `left` is how many levels may still be opened, `i` a token, and `n` the first free word.
 use expressions::Read;
+use expressions::kinds;
 use expressions::token;
+use machine::tags;
 ghost use mathlib.Core.Path.{_≡_};
-ghost use Prim.Native.Nat.{_+_, _-_, _<_, _≤_};
-ghost use lib.ListN.{length, replicate};
-ghost use Rattle.machine.specs.Opcodes.{procedureWord};
-ghost use Rattle.expressions.specs.Words.{kindAt, placeAt, homeAt, procedureAt, signedAt, expression, seen, writtenCode};
+ghost use Prim.Native.Nat.{_+_, _<_};
+ghost use lib.ListN.{length};
+ghost use Rattle.expressions.specs.Words.{kindAt, placeAt, signedAt, expression, seen, writtenCode};
 ghost use Rattle.expressions.specs.Words as Expressions;
 ghost use Rattle.expressions.specs.Room.{Room};
 ghost use Rattle.expressions.specs.Steps.{closed};
-ghost use Rattle.statements.specs.Words.{declaration, returning, simple, guarded, beginsStatement, iteration, statement, statements, parameters, body, procedure, procedures};
-ghost use Rattle.statements.specs.Words.{writtenProcedure, tableIn, nothing, mainWord, firstTwice, seenWhole, writtenWhole};
-ghost use Rattle.statements.specs.Room.{Space, Parts, Ground, Halves};
-ghost use Rattle.statements.specs.Steps.{insideOf, ended, test, members, each, topped, Below, Entered, answered};
+ghost use Rattle.statements.specs.Words.{declaration, returning, simple, guarded, beginsStatement, iteration, statement, statements};
+ghost use Rattle.statements.specs.Room.{Space, Parts};
+ghost use Rattle.statements.specs.Steps.{insideOf, ended, test, members, each, topped};
 
 // By the first token.
 pub fn read_statement(tokens: &[u64], words: &mut [u64], i: usize, n: usize, left: usize) -> Read
@@ -22,12 +22,12 @@ pub fn read_statement(tokens: &[u64], words: &mut [u64], i: usize, n: usize, lef
 {
     let kind = token::kind_at(tokens, i);
     match kind {
-        5 => read_declaration(tokens, words, i, n),
-        6 => read_guarded(tokens, words, 35, i, n, left),
-        7 => read_guarded(tokens, words, 36, i, n, left),
-        8 => read_return(tokens, words, i, n, left),
-        12 => read_foreach(tokens, words, i, n, left),
-        123 => read_block(tokens, words, i, n, left),
+        kinds::VAR => read_declaration(tokens, words, i, n),
+        kinds::IF => read_guarded(tokens, words, tags::WHEN, i, n, left),
+        kinds::WHILE => read_guarded(tokens, words, tags::WHILE, i, n, left),
+        kinds::RETURN => read_return(tokens, words, i, n, left),
+        kinds::FOREACH => read_foreach(tokens, words, i, n, left),
+        kinds::OPEN_BRACE => read_block(tokens, words, i, n, left),
         _ => read_simple(tokens, words, i, n, left),
     }
 }
@@ -73,7 +73,7 @@ fn read_ended(tokens: &[u64], words: &mut [u64], i: usize, n: usize, left: usize
     ensures { λ r. ⌜ seen r (now (words .exit)) ≡ writtenCode (ended (expression left (now (tokens .entry))) (now (tokens .entry)) i) n (now (words .entry)) ⌝ }
 {
     let e = expressions::read_expression(tokens, words, i, n, left);
-    close(tokens, e, 59)
+    close(tokens, e, kinds::SEMICOLON)
 }
 
 // (e), which opens a level.
@@ -81,14 +81,14 @@ fn read_test(tokens: &[u64], words: &mut [u64], i: usize, n: usize, left: usize)
     requires { ⌜ Room (now tokens) (now words) i n ⌝ }
     ensures { λ r. ⌜ seen r (now (words .exit)) ≡ writtenCode (test (Expressions.insideOf left (now (tokens .entry))) (now (tokens .entry)) i) n (now (words .entry)) ⌝ }
 {
-    if token::kind_at(tokens, i) != 40 {
+    if token::kind_at(tokens, i) != kinds::OPEN {
         return Read::Wrong(10, i);
     }
     if left == 0 {
         return Read::Wrong(75, i);
     }
     let e = expressions::read_expression(tokens, words, i + 1, n, left - 1);
-    close(tokens, e, 41)
+    close(tokens, e, kinds::CLOSE)
 }
 
 // x in e do: the slot of x, and the code of e behind it.
@@ -96,15 +96,15 @@ fn read_members(tokens: &[u64], words: &mut [u64], i: usize, n: usize, left: usi
     requires { ⌜ Room (now tokens) (now words) i n ⌝ }
     ensures { λ r. ⌜ seen r (now (words .exit)) ≡ writtenCode (members (expression left (now (tokens .entry))) (now (tokens .entry)) i) n (now (words .entry)) ⌝ }
 {
-    if token::kind_at(tokens, i) != 1 {
+    if token::kind_at(tokens, i) != kinds::NAME {
         return Read::Wrong(10, i);
     }
-    if token::kind_at(tokens, i + 1) != 13 {
+    if token::kind_at(tokens, i + 1) != kinds::IN {
         return Read::Wrong(10, i + 1);
     }
     code::put(words, n, token::home_at(tokens, i));
     let e = expressions::read_expression(tokens, words, i + 2, n + 1, left);
-    close(tokens, e, 14)
+    close(tokens, e, kinds::DO)
 }
 
 // The same, and the first token of a body, which opens a level if a statement can begin there.
@@ -133,21 +133,21 @@ fn begins_statement(tokens: &[u64], i: usize) -> bool
 {
     let kind = token::kind_at(tokens, i);
     match kind {
-        1 => true,
-        2 => token::payload_at(tokens, i) <= 2147483647,
-        3 => true,
-        5 => true,
-        6 => true,
-        7 => true,
-        8 => true,
-        9 => true,
-        10 => true,
-        11 => true,
-        12 => true,
-        40 => true,
-        45 => is_signed(tokens, i),
-        91 => true,
-        123 => true,
+        kinds::NAME => true,
+        kinds::DIGITS => token::payload_at(tokens, i) <= 2147483647,
+        kinds::STRING => true,
+        kinds::VAR => true,
+        kinds::IF => true,
+        kinds::WHILE => true,
+        kinds::RETURN => true,
+        kinds::NONE => true,
+        kinds::TRUE => true,
+        kinds::FALSE => true,
+        kinds::FOREACH => true,
+        kinds::OPEN => true,
+        kinds::MINUS => is_signed(tokens, i),
+        kinds::OPEN_BRACKET => true,
+        kinds::OPEN_BRACE => true,
         _ => false,
     }
 }
@@ -157,7 +157,7 @@ fn is_signed(tokens: &[u64], i: usize) -> bool
     requires { ⌜ kindAt (now tokens) i ≡ 45 ⌝ }
     ensures { λ r. ⌜ r ≡ signedAt (now (tokens .entry)) i ⌝ }
 {
-    if token::kind_at(tokens, i + 1) != 2 {
+    if token::kind_at(tokens, i + 1) != kinds::DIGITS {
         return false;
     }
     token::place_at(tokens, i + 1) == token::place_at(tokens, i) + 1
@@ -169,11 +169,19 @@ fn read_declaration(tokens: &[u64], words: &mut [u64], i: usize, n: usize) -> Re
     requires { ⌜ i < length (now tokens) ⌝ }
     ensures { λ r. ⌜ seen r (now (words .exit)) ≡ writtenCode (declaration (now (tokens .entry)) i) n (now (words .entry)) ⌝ }
 {
-    if token::kind_at(tokens, i + 1) != 1 {
+    if token::kind_at(tokens, i + 1) != kinds::NAME {
         return Read::Wrong(10, i + 1);
     }
-    let e = close(tokens, Read::At(i + 2, n + 1, 0), 59);
-    head(tokens, words, e, 32, i, n, token::home_at(tokens, i + 1))
+    let e = close(tokens, Read::At(i + 2, n + 1, 0), kinds::SEMICOLON);
+    head(
+        tokens,
+        words,
+        e,
+        tags::DECLARE,
+        i,
+        n,
+        token::home_at(tokens, i + 1),
+    )
 }
 
 // return e;
@@ -183,7 +191,7 @@ fn read_return(tokens: &[u64], words: &mut [u64], i: usize, n: usize, left: usiz
     ensures { λ r. ⌜ seen r (now (words .exit)) ≡ writtenCode (returning (expression left (now (tokens .entry))) (now (tokens .entry)) i) n (now (words .entry)) ⌝ }
 {
     let e = read_ended(tokens, words, i + 1, n + 1, left);
-    head(tokens, words, e, 37, i, n, 0)
+    head(tokens, words, e, tags::RETURN, i, n, 0)
 }
 
 // e; or a = e; where the right side's code takes the place of a name's, or of an entry's last word.
@@ -195,18 +203,26 @@ fn read_simple(tokens: &[u64], words: &mut [u64], i: usize, n: usize, left: usiz
     match a {
         Read::Wrong(k, p) => Read::Wrong(k, p),
         Read::At(j, m, t) => {
-            if token::kind_at(tokens, j) != 61 {
-                let s = close(tokens, Read::At(j, m, t), 59);
-                return head(tokens, words, s, 39, i, n, 0);
+            if token::kind_at(tokens, j) != kinds::ASSIGN {
+                let s = close(tokens, Read::At(j, m, t), kinds::SEMICOLON);
+                return head(tokens, words, s, tags::ACT, i, n, 0);
             }
             match t {
                 1 => {
                     let e = read_ended(tokens, words, j + 1, n + 1, left);
-                    head(tokens, words, e, 33, i, n, token::home_at(tokens, i))
+                    head(
+                        tokens,
+                        words,
+                        e,
+                        tags::ASSIGN,
+                        i,
+                        n,
+                        token::home_at(tokens, i),
+                    )
                 }
                 2 => {
                     let e = read_ended(tokens, words, j + 1, m - 1, left);
-                    head(tokens, words, e, 34, i, n, 0)
+                    head(tokens, words, e, tags::UPDATE, i, n, 0)
                 }
                 _ => Read::Wrong(10, j),
             }
@@ -249,7 +265,7 @@ fn read_foreach(tokens: &[u64], words: &mut [u64], i: usize, n: usize, left: usi
         Read::Wrong(k, p) => Read::Wrong(k, p),
         Read::At(j, m, _) => {
             let b = read_statement(tokens, words, j, m, left - 1);
-            head(tokens, words, b, 40, i, n, (m - n - 1) as u64)
+            head(tokens, words, b, tags::FOREACH, i, n, (m - n - 1) as u64)
         }
     }
 }
@@ -264,7 +280,7 @@ fn read_block(tokens: &[u64], words: &mut [u64], i: usize, n: usize, left: usize
         return Read::Wrong(75, i);
     }
     let s = read_statements(tokens, words, i + 1, n + 1, left - 1);
-    head(tokens, words, s, 38, i, n, 0)
+    head(tokens, words, s, tags::BLOCK, i, n, 0)
 }
 
 // One statement or more, and the closing brace.
@@ -279,7 +295,7 @@ pub fn read_statements(tokens: &[u64], words: &mut [u64], i: usize, n: usize, le
         match s {
             Read::Wrong(k, p) => return Read::Wrong(k, p),
             Read::At(j, q, _) => {
-                if token::kind_at(tokens, j) == 125 {
+                if token::kind_at(tokens, j) == kinds::CLOSE_BRACE {
                     return Read::At(j + 1, q, 0);
                 }
                 at = j;
@@ -287,184 +303,4 @@ pub fn read_statements(tokens: &[u64], words: &mut [u64], i: usize, n: usize, le
             }
         }
     }
-}
-
-// ---- a procedure
-// def f(x, y) { .. } from token i on: the slots of its parameters and the code of its body. The number beside is how many parameters it has.
-fn read_procedure(tokens: &[u64], words: &mut [u64], i: usize, n: usize) -> Read
-    requires { ⌜ Ground (now tokens) (now words) i n ⌝ }
-    ensures { λ r. ⌜ seen r (now (words .exit)) ≡ writtenProcedure (procedure (now (tokens .entry)) i) n (now (words .entry)) ⌝ }
-{
-    if token::kind_at(tokens, i) != 4 {
-        return Read::Wrong(10, i);
-    }
-    if token::kind_at(tokens, i + 1) != 1 {
-        return Read::Wrong(10, i + 1);
-    }
-    if token::kind_at(tokens, i + 2) != 40 {
-        return Read::Wrong(10, i + 2);
-    }
-    let p = read_parameters(tokens, words, i + 3, n);
-    match p {
-        Read::Wrong(k, q) => Read::Wrong(k, q),
-        Read::At(j, m, _) => {
-            let s = read_body(tokens, words, j, m);
-            match s {
-                Read::Wrong(k, q) => Read::Wrong(k, q),
-                Read::At(e, q, _) => Read::At(e, q, (m - n) as u64),
-            }
-        }
-    }
-}
-
-// Parameters and the closing parenthesis.
-fn read_parameters(tokens: &[u64], words: &mut [u64], i: usize, n: usize) -> Read
-    requires { ⌜ Space (now tokens) (now words) i n ⌝ }
-    ensures { λ r. ⌜ seen r (now (words .exit)) ≡ writtenCode (parameters (now (tokens .entry)) i) n (now (words .entry)) ⌝ }
-{
-    if token::kind_at(tokens, i) == 41 {
-        return Read::At(i + 1, n, 0);
-    }
-    let mut at = i;
-    let mut m = n;
-    loop {
-        if token::kind_at(tokens, at) != 1 {
-            return Read::Wrong(10, at);
-        }
-        code::put(words, m, token::home_at(tokens, at));
-        let kind = token::kind_at(tokens, at + 1);
-        if kind == 41 {
-            return Read::At(at + 2, m + 1, 0);
-        }
-        if kind != 44 {
-            return Read::Wrong(10, at + 1);
-        }
-        at += 2;
-        m += 1;
-    }
-}
-
-// The braces from token i on and what stands between.
-fn read_body(tokens: &[u64], words: &mut [u64], i: usize, n: usize) -> Read
-    requires { ⌜ Space (now tokens) (now words) i n ⌝ }
-    ensures { λ r. ⌜ seen r (now (words .exit)) ≡ writtenCode (body (now (tokens .entry)) i) n (now (words .entry)) ⌝ }
-{
-    if token::kind_at(tokens, i) != 123 {
-        return Read::Wrong(10, i);
-    }
-    read_statements(tokens, words, i + 1, n, 64)
-}
-
-// ---- all procedures
-// A program: main's word in the table, and how many words the code has. Or the place of the first `def` whose name an earlier one or the library has. Or a
-// number, and the token that fails.
-pub enum Parsed {
-    Whole(u64, usize),
-    Twice(usize),
-    Misfit(u64, usize),
-}
-
-// One procedure or more and nothing behind. Code is written from the first word on, the table from word 8192 on, where zeros stand.
-pub fn parse(tokens: &[u64], words: &mut [u64]) -> Parsed
-    requires { ⌜ Halves (now tokens) (now words) ⌝ }
-    requires { ⌜ tableIn (now words) ≡ replicate 8192 0 ⌝ }
-    ensures { λ r. ⌜ seenWhole r (now (words .exit)) ≡ writtenWhole (length (now (tokens .entry))) nothing (procedures (now (tokens .entry))) ⌝ }
-{
-    let mut i = 0;
-    let mut n = 0;
-    let mut main = 0;
-    let mut twice = 0;
-    loop {
-        let p = read_below(tokens, words, i, n);
-        match p {
-            Read::Wrong(k, q) => return Parsed::Misfit(k, q),
-            Read::At(j, m, count) => {
-                let w = head_word(n, m, count);
-                let old = enter(tokens, words, i + 1, w);
-                twice = note_twice(tokens, i, twice, old);
-                main = note_main(tokens, i, main, w);
-                if token::kind_at(tokens, j) == 0 {
-                    return settle(tokens.len(), main, twice, m);
-                }
-                i = j;
-                n = m;
-            }
-        }
-    }
-}
-
-// A procedure whose code is written into the lower half of the words.
-fn read_below(tokens: &[u64], words: &mut [u64], i: usize, n: usize) -> Read
-    requires { ⌜ Halves (now tokens) (now words) ⌝ }
-    requires { ⌜ n ≤ i ⌝ }
-    ensures { λ r. ⌜ Below r (now (tokens .entry)) i n (now (words .entry)) (now (words .exit)) ⌝ }
-{
-    read_procedure(tokens, &mut words[0..8192], i, n)
-}
-
-// The word in the table of a procedure that has the words from n up to m, of which the first are the slots of its parameters.
-fn head_word(n: usize, m: usize, parameters: u64) -> u64
-    requires { ⌜ (n + parameters ≤ m) × (m ≤ 8192) ⌝ }
-    ensures { λ r. ⌜ r ≡ procedureWord n parameters (m - n - parameters) ⌝ }
-{
-    code::procedure_word(n as u64, parameters, (m - n) as u64 - parameters)
-}
-
-// Writes a word into the table, by the slot of the name that token i is. The word that stood there.
-fn enter(tokens: &[u64], words: &mut [u64], i: usize, w: u64) -> u64
-    requires { ⌜ Halves (now tokens) (now words) ⌝ }
-    ensures { λ r. ⌜ Entered (homeAt (now (tokens .entry)) i) w r (now (words .entry)) (now (words .exit)) ⌝ }
-{
-    let slot = token::home_at(tokens, i) as usize;
-    if 8191 < slot {
-        return 0;
-    }
-    let old = words[8192 + slot];
-    words[8192 + slot] = w;
-    old
-}
-
-// One more than the place of the first `def` whose name an earlier one or the library has. The one at token i has the word `old` in the table already.
-fn note_twice(tokens: &[u64], i: usize, twice: usize, old: u64) -> usize
-    requires { ⌜ i < length (now tokens) ⌝ }
-    ensures { λ r. ⌜ r ≡ firstTwice twice (procedureAt (now (tokens .entry)) (i + 1)) old (placeAt (now (tokens .entry)) i) ⌝ }
-{
-    if twice != 0 {
-        return twice;
-    }
-    let place = token::place_at(tokens, i) as usize;
-    if old != 0 {
-        return place + 1;
-    }
-    if token::procedure_at(tokens, i + 1) < 11 {
-        return place + 1;
-    }
-    0
-}
-
-// Main's word, if the procedure at token i, which has the word w, is the first of that name.
-fn note_main(tokens: &[u64], i: usize, main: u64, w: u64) -> u64
-    requires { ⌜ i < length (now tokens) ⌝ }
-    ensures { λ r. ⌜ r ≡ mainWord main (procedureAt (now (tokens .entry)) (i + 1)) w ⌝ }
-{
-    if main != 0 {
-        return main;
-    }
-    if token::procedure_at(tokens, i + 1) == 12 {
-        return w;
-    }
-    main
-}
-
-// Whether main is there, and each name once.
-fn settle(end: usize, main: u64, twice: usize, n: usize) -> Parsed
-    ensures { λ r. ⌜ r ≡ answered end main twice n ⌝ }
-{
-    if main == 0 {
-        return Parsed::Misfit(10, end);
-    }
-    if twice == 0 {
-        return Parsed::Whole(main, n);
-    }
-    Parsed::Twice(twice - 1)
 }

@@ -20,7 +20,7 @@ use Rattle.machine.specs.declared.Answer.the-variants.{Good, Bad}
 use Rattle.machine.specs.Words.{kindIn, kindNothing, kindShape, numberIn, packed, unpacked}
 use Rattle.values.proofs.Laws.{unpacked-shape, by-kind}
 use Rattle.machine.specs.Layout.{stepsUsed, shapesUsed, tablesMade, declared, argumentsHeld, callsUsed}
-use Rattle.machine.specs.Layout.{stepsGranted, shapesGranted, stackWords, valuePlace, orderPlace, argumentPlace, shapePlace, componentPlace, Room}
+use Rattle.machine.specs.Layout.{stepsGranted, shapesGranted, stackWords, valuePlace, orderPlace, argumentPlace, shapePlace, componentPlace, pathPlace, Room}
 use Rattle.machine.specs.Act.{raw, Out, done, stop, goOn, give, fail, refuse, load, store, held, spend, count, newTable, shown, passed, Answers, Passes, Pays, Gives, _>>=_}
 use Rattle.machine.specs.declared.Figure.{Figure}
 use Rattle.machine.specs.Shapes.{firstWord, pairWord, figureLaid, putFigure, lowNumber, highNumber, figureAt, kindGroup, destroyedAt, isGroupAt, newShape, destroy}
@@ -93,12 +93,12 @@ module _ (ws : List ℕ) (i at w : ℕ) (e : at ≡ shapePlace i) (f : w ≡ get
   pub count-is : w / 4294967296 % 65536 ≡ countAt ws i
   count-is = rw (f, e)
 
--- the words of a call's components
-pub rows-small : (e d : ℕ) → e < 65536 → e * (d % 64) ≤ 4194304
-rows-small e d h = let r : d % 64 ≤ 63 = omega arith in le-trans (mul-le-mul-left e r) (omega arith)
+-- the words of a component's slot
+pub rows-small : (c k : ℕ) → c ≤ 64 → k < 4294967296 → c * k ≤ 274877906944
+rows-small c k h l = let r : k ≤ 4294967295 = omega arith in le-trans (mul-le-mul-left c r) (omega arith)
 
-pub mark-stands : (g ws : List ℕ) (d k : ℕ) → d ≡ getD ws callsUsed 0 - 1 → 278608 + 5 * getD g 1 0 + 5 * getD g 2 0 + getD g 2 0 * (d % 64) + k ≡ markPlace g ws k
-mark-stands g ws d k e = rw e
+pub mark-stands : (g ws : List ℕ) (d k at : ℕ) → d ≡ getD ws callsUsed 0 - 1 → at ≡ pathPlace g 0 k → at + d % 64 ≡ markPlace g ws k
+mark-stands g ws d k at e f = rw (e, f) (omega arith)
 
 -- ---- figures
 -- A signed local holds bits, and is read back from them.

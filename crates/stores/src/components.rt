@@ -7,7 +7,7 @@ use machine::layout;
 ghost use Prim.Native.Nat.{_+_, _^_, _≤_, _<_};
 ghost use mathlib.Core.Path.{_≡_};
 ghost use lib.ListN.{length, getD};
-ghost use Rattle.machine.specs.Layout.{componentPlace, Room};
+ghost use Rattle.machine.specs.Layout.{componentPlace, pathPlace, Room};
 ghost use Rattle.machine.specs.Groups.{componentAt, followersAt, firstAt, countAt};
 ghost use Rattle.machine.specs.Loops.{markPlace};
 
@@ -51,16 +51,22 @@ pub fn count_at(words: &[u64], i: u32) -> u32
     (words::word_at(words, shapes::place_of(i) + 1) / 4294967296 % 65536) as u32
 }
 
-// Where a slot's mark stands, of the call under way.
+// Where a slot's marks stand, a word for each call.
+pub fn marks_of(grants: &[u64; 5], k: u32) -> usize
+    requires { ⌜ (getD (now grants) 1 0 < 2 ^ 16) × ((getD (now grants) 2 0 < 2 ^ 16) × (getD (now grants) 4 0 ≤ 64)) ⌝ }
+    ensures { λ r. ⌜ r ≡ pathPlace (now (grants .entry)) 0 k ⌝ }
+{
+    layout::FIXED_WORDS
+        + layout::SHAPE_WORDS * (grants[granted::SHAPES] as usize)
+        + 5 * (grants[granted::ENTRIES] as usize)
+        + (grants[granted::CALLS] as usize) * (k as usize)
+}
+
+// The one of the call under way.
 pub fn mark_place(words: &[u64], grants: &[u64; 5], k: u32) -> usize
     requires { ⌜ Room (now grants) (now words) ⌝ }
     ensures { λ r. ⌜ r ≡ markPlace (now (grants .entry)) (now (words .entry)) k ⌝ }
 {
     let d = arithmetic::lowered_word(words[counters::CALLS], 1) % layout::FRAMES as u64;
-    let size = grants[granted::ENTRIES] as usize;
-    layout::FIXED_WORDS
-        + layout::SHAPE_WORDS * (grants[granted::SHAPES] as usize)
-        + 5 * size
-        + size * (d as usize)
-        + k as usize
+    marks_of(grants, k) + d as usize
 }

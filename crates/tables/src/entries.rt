@@ -34,7 +34,7 @@ fn bucket<'a>(
     requires { ⌜ getD (now grants) 2 0 < 2 ^ 16 ⌝ }
     ensures { λ r. ⌜ r ≡ bucketOf (now (program .entry)) (now (grants .entry)) (now (texts .entry)) (now (words .entry)) t key ⌝ }
 {
-    let size = grants[2];
+    let size = grants[granted::ENTRIES];
     let h = hashes::hash_key(program, texts, words, t, key);
     (h as u64 * 2654435769 % 4294967296 * size / 4294967296) as usize
 }
@@ -69,18 +69,18 @@ pub fn find_entry<'a>(
     requires { ⌜ Room (now grants) (now words) ⌝ }
     ensures { λ r. ⌜ r ≡ findEntry (now (program .entry)) (now (grants .entry)) (now (texts .entry)) (now (words .entry)) t key ⌝ }
 {
-    if grants[2] == 0 {
+    if grants[granted::ENTRIES] == 0 {
         return 0;
     }
     let base = entry_place(grants, 0);
     let b = bucket(program, texts, words, grants, t, key);
-    let head = words[base + 4 * b + 3];
-    if grants[2] < head {
+    let head = words[base + layout::ENTRY_WORDS * b + 3];
+    if grants[granted::ENTRIES] < head {
         return 0;
     }
     let mut k = head as usize;
     while 0 < k {
-        let at = base + 4 * (k - 1);
+        let at = base + layout::ENTRY_WORDS * (k - 1);
         if entry_matches(program, texts, words, at, t, key) {
             return k;
         }

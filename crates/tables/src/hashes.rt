@@ -1,4 +1,5 @@
 // Hashes of keys.
+use machine::kinds;
 ghost use Prim.Native.Nat.{_/_, _%_, _^_};
 ghost use mathlib.Core.Path.{_≡_};
 ghost use Rattle.machine.specs.Tables.{figureContent, contentOf, hashed, hashFrom};
@@ -44,10 +45,10 @@ pub fn hash_key<'a>(program: &'a [u8], texts: &'a [u8], words: &[u64], h: u32, k
     ensures { λ r. ⌜ r ≡ hashFrom h (contentOf (now (program .entry)) (now (texts .entry)) (now (words .entry)) key) ⌝ }
 {
     let kind = key % 8;
-    if kind == 2 {
+    if kind == kinds::TEXT {
         return hash_bytes(h, texts::text_of(program, texts, key / 8));
     }
-    if kind == 6 {
+    if kind == kinds::SHAPE {
         return hash_figure(program, texts, words, h, values::number_of(key));
     }
     hash_number(h, values::number_of(key))

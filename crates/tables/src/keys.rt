@@ -1,4 +1,5 @@
 // Keys: strings are compared by their texts, shapes by what they look like, everything else by the word.
+use machine::kinds;
 ghost use mathlib.Core.Path.{_≡_};
 ghost use lib.ListN.{getD};
 ghost use lib.Dec.{eqb};
@@ -35,7 +36,7 @@ pub fn same_figure<'a>(program: &'a [u8], texts: &'a [u8], words: &[u64], i: u32
 pub fn is_group_key(words: &[u64], key: u64) -> bool
     ensures { λ r. ⌜ r ≡ isGroupKey (now (words .entry)) key ⌝ }
 {
-    if key % 8 != 6 {
+    if key % 8 != kinds::SHAPE {
         return false;
     }
     stores::shapes::is_group(words, values::number_of(key))
@@ -49,10 +50,10 @@ pub fn same_key<'a>(program: &'a [u8], texts: &'a [u8], words: &[u64], a: u64, b
     if kind != b % 8 {
         return false;
     }
-    if kind == 2 {
+    if kind == kinds::TEXT {
         return texts::same_text(program, texts, a / 8, b / 8);
     }
-    if kind == 6 {
+    if kind == kinds::SHAPE {
         return same_figure(
             program,
             texts,

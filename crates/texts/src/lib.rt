@@ -1,6 +1,8 @@
 // Texts: parts of the program or of the text store, known by handles.
 use machine::Answer;
 use machine::Value;
+use machine::counters;
+use machine::granted;
 ghost use mathlib.Core.Path.{_≡_};
 ghost use lib.ListN.{length};
 ghost use Rattle.meaning.specs.Basics.{sameText};
@@ -143,10 +145,10 @@ pub fn join_texts(
     requires { ⌜ Lent (now grants) (now texts) (now words) ⌝ }
     ensures { λ r. ⌜ shown r (now (texts .exit)) (now (words .exit)) ≡ joinTexts (now (program .entry)) (now (grants .entry)) p a b (raw (now (texts .entry)) (now (words .entry))) ⌝ }
 {
-    let used = words[3];
-    let granted = grants[3];
+    let used = words[counters::TEXT];
+    let granted = grants[granted::TEXT];
     let size = size_of(a) + size_of(b);
-    if !stores::counters::spend(words, 3, granted, size as u64) {
+    if !stores::counters::spend(words, counters::TEXT, granted, size as u64) {
         return Answer::Bad(78, p);
     }
     let at = used as usize;

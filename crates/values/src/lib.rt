@@ -1,11 +1,17 @@
 // Values, and the words that they are stored as.
 use machine::Value;
+use machine::kinds;
 ghost use mathlib.Core.Path.{_≡_};
 ghost use mir.Syntax.{w32};
 ghost use mir.Val.{toZ};
 ghost use Rattle.machine.specs.Words.{kindIn, numberIn, handleIn, truthIn, packed, unpacked};
 
-// Which value a word holds: 1 an integer, 2 a text, 3 a truth, 4 nothing, 5 a table, 6 a shape.
+// The words of the two truths.
+const FALSE: u64 = kinds::TRUTH;
+
+const TRUE: u64 = 8 + kinds::TRUTH;
+
+// Which value a word holds (kinds).
 pub fn kind_of(w: u64) -> u64
     ensures { λ r. ⌜ r ≡ kindIn w ⌝ }
 {
@@ -41,31 +47,31 @@ pub fn truth_of(w: u64) -> bool
 pub fn integer_word(z: i32) -> u64
     ensures { λ r. ⌜ r ≡ packed (Value.Integer z) ⌝ }
 {
-    1 + 8 * (arithmetic::bits_of(z) as u64)
+    kinds::INTEGER + 8 * (arithmetic::bits_of(z) as u64)
 }
 
 pub fn text_word(h: u64) -> u64
     ensures { λ r. ⌜ r ≡ packed (Value.Text h) ⌝ }
 {
-    2 + 8 * (h % 1099511627776)
+    kinds::TEXT + 8 * (h % 1099511627776)
 }
 
 pub fn truth_word(b: bool) -> u64
     ensures { λ r. ⌜ r ≡ packed (Value.Boolean b) ⌝ }
 {
-    if b { 11 } else { 3 }
+    if b { TRUE } else { FALSE }
 }
 
 pub fn table_word(t: u32) -> u64
     ensures { λ r. ⌜ r ≡ packed (Value.Table t) ⌝ }
 {
-    5 + 8 * (t as u64)
+    kinds::TABLE + 8 * (t as u64)
 }
 
 pub fn shape_word(i: u32) -> u64
     ensures { λ r. ⌜ r ≡ packed (Value.Shape i) ⌝ }
 {
-    6 + 8 * (i as u64)
+    kinds::SHAPE + 8 * (i as u64)
 }
 
 // The word of a value.
@@ -76,7 +82,7 @@ pub fn pack(v: Value) -> u64
         Value::Integer(z) => integer_word(z),
         Value::Text(h) => text_word(h),
         Value::Boolean(b) => truth_word(b),
-        Value::Nothing => 4,
+        Value::Nothing => kinds::NOTHING,
         Value::Table(t) => table_word(t),
         Value::Shape(i) => shape_word(i),
     }
@@ -87,19 +93,19 @@ pub fn unpack(w: u64) -> Value
     ensures { λ r. ⌜ r ≡ unpacked w ⌝ }
 {
     let kind = w % 8;
-    if kind == 1 {
+    if kind == kinds::INTEGER {
         return Value::Integer(integer_of(w));
     }
-    if kind == 2 {
+    if kind == kinds::TEXT {
         return Value::Text(w / 8);
     }
-    if kind == 3 {
+    if kind == kinds::TRUTH {
         return Value::Boolean(truth_of(w));
     }
-    if kind == 5 {
+    if kind == kinds::TABLE {
         return Value::Table(number_of(w));
     }
-    if kind == 6 {
+    if kind == kinds::SHAPE {
         return Value::Shape(number_of(w));
     }
     Value::Nothing

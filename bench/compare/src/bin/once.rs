@@ -1,4 +1,4 @@
-//! Draws `once baseline|ours NAME TIMES`, for a tool that counts instructions. NAME is loop, shapes, tree, group, call or inline (100,000 turns with a call
+//! Draws `once baseline|ours NAME TIMES`, for a tool that counts instructions. NAME is loop, shapes, tree, group, day, call or inline (100,000 turns with a call
 //! each, and without), few or many (100,000 look-ups in a table of 16 and of 60,000 entries), ten-digits or one-digit (2,000 numbers of so many).
 
 use compare::{drawing, ours, Baseline, Drawer};

@@ -1,7 +1,7 @@
 //! Draws with the baseline and with the proved library, one after the other, `race [ROUNDS]` times, and prints the median and the least times.
 //! Beside the medians stands the median of the rounds' ratios. Then how long a look-up takes in a small and in a large table, and a call with its return.
 
-use compare::{calls, look_ups, ours, Baseline, Drawer, Drawing, GROUP, LOOP, SHAPES, TREE};
+use compare::{calls, look_ups, ours, Baseline, Drawer, Drawing, DAY, GROUP, LOOP, SHAPES, TREE};
 use std::time::Instant;
 
 fn main() {
@@ -10,7 +10,7 @@ fn main() {
         None => 41,
     };
     println!("drawing      steps          baseline, µs      ours, µs  ratio");
-    for drawing in [LOOP, SHAPES, TREE, GROUP] {
+    for drawing in [LOOP, SHAPES, TREE, GROUP, DAY] {
         race(&drawing, rounds);
     }
     println!("look-ups in a table of 16 and of 60,000 entries, ns each");

@@ -1,12 +1,11 @@
 use Rattle.running.proofs.Ways.{run-no-sheet, run-too-long, run-ready, run-as-read}
-use native.Mathlib.Omega.{arith}
 use borrow.Author.Needs.{needs}
 use Rattle.running.proofs.run.Statement.{statement}
 use Rattle.running.proofs.run.Tie as tie
 
 -- src/lib.rt:133:5
-clear-but-stack-requires : tie.Need-clear-but-stack-requires
-clear-but-stack-requires c κs = omega (arith, c .before .before .before .before .before .before .pre .lent .room .words)
+clear-first-requires : tie.Need-clear-first-requires
+clear-first-requires c κs = c .before .before .before .before .before .before .pre .lent .room
 
 -- src/lib.rt:134:9
 is-sheet-requires : tie.Need-is-sheet-requires
@@ -56,7 +55,7 @@ pub run-spec : {M : Type 1} → statement M
 run-spec =
     tie.close
     (tie.spec
-    clear-but-stack-requires
+    clear-first-requires
     is-sheet-requires
     same-length
     returns

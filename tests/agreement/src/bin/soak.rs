@@ -1,5 +1,5 @@
-//! Compares one operation on many generated cases: `soak [checking|drawing|text] FIRST COUNT`, checking if none is named. Prints how many cases were compared, in
-//! how many calls, and how many differ.
+//! Compares one operation on many generated cases: `soak [checking|drawing|text] FIRST COUNT [seldom]`, checking if none is named. Prints how many cases were compared,
+//! in how many calls, and how many differ. With `seldom` the work slices of drawing and of texts are filled and looked at in one of eight calls, which takes half the time.
 
 use agreement::compare::{misfit, Lender};
 use generator::case::any_program;
@@ -17,7 +17,11 @@ fn main() {
     };
     let first = number(0);
     let count = number(1_000_000);
-    let mut lender = Lender::default();
+    let mut lender = match words.next().as_deref() {
+        None => Lender::default(),
+        Some("seldom") => Lender::seldom(),
+        Some(other) => panic!("{other}: seldom, or nothing"),
+    };
     let mut compare: Box<dyn FnMut(u64) -> Option<String>> = match operation.as_deref() {
         None | Some("checking") => {
             Box::new(|seed| misfit(&any_program(&mut Random::new(seed)), seed))

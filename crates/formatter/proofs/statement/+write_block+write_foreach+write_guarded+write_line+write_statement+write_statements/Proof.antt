@@ -31,12 +31,12 @@ use Rattle.code.proofs.extra_of.Reads as extra-of-reads
 use Rattle.code.proofs.last_of.Reads as last-of-reads
 use Rattle.code.proofs.size_of.Reads as size-of-reads
 use Rattle.code.proofs.tag_of.Reads as tag-of-reads
-use Rattle.formatter.proofs.expression.write_between.Reads as write-between-reads
-use Rattle.formatter.proofs.statement.write_apart.Reads as write-apart-reads
-use Rattle.formatter.proofs.statement.write_assignment.Reads as write-assignment-reads
-use Rattle.formatter.proofs.statement.write_declaration.Reads as write-declaration-reads
-use Rattle.formatter.proofs.statement.write_iterator.Reads as write-iterator-reads
-use Rattle.formatter.proofs.statement.write_update.Reads as write-update-reads
+use Rattle.phrases.proofs.write_between.Reads as write-between-reads
+use Rattle.clauses.proofs.write_apart.Reads as write-apart-reads
+use Rattle.clauses.proofs.write_assignment.Reads as write-assignment-reads
+use Rattle.clauses.proofs.write_declaration.Reads as write-declaration-reads
+use Rattle.clauses.proofs.write_iterator.Reads as write-iterator-reads
+use Rattle.clauses.proofs.write_update.Reads as write-update-reads
 use Rattle.stores.proofs.words.word_at.Reads as word-at-reads
 use Rattle.writing.proofs.write_bytes_at.Reads as write-bytes-at-reads
 use Rattle.formatter.proofs.statement.+write_block+write_foreach+write_guarded+write_line+write_statement+write_statements.{

@@ -7,7 +7,7 @@ use Rattle.groups.proofs.waiting.leave_group.Reads as reads
 use Rattle.groups.proofs.waiting.leave_group.Lts as lts
 use Rattle.groups.proofs.waiting.await_shape.Reads as await-shape-reads
 use Rattle.groups.proofs.waiting.gather.Reads as gather-reads
-use Rattle.groups.proofs.walks.waiting_at.Reads as waiting-at-reads
+use Rattle.walks.proofs.waiting_at.Reads as waiting-at-reads
 
 -- src/waiting.rt:45:9
 waiting-at-requires : tie.Need-waiting-at-requires

@@ -1,9 +1,9 @@
 use native.Mathlib.Omega.{arith}
 use borrow.Author.Needs.{needs}
 use Rattle.machine.specs.Layout.{shapesGranted}
-use Rattle.groups.specs.Walks.{owed}
+use Rattle.walks.specs.Walks.{owed}
 use Rattle.scene.specs.Measuring.{measureReached, nothingLeft}
-use Rattle.groups.proofs.TurnLaws.{Going, go-first, under, go-over, go-next, go-less, go-stops}
+use Rattle.walks.proofs.TurnLaws.{Going, go-first, under, go-over, go-next, go-less, go-stops}
 use Rattle.scene.proofs.measuring.measure_within.Statement.{statement}
 use Rattle.scene.proofs.measuring.measure_within.Tie as tie
 

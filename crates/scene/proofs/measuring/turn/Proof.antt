@@ -1,12 +1,12 @@
-use Rattle.groups.proofs.TurnLaws.{way-bound, turn-over, descends}
+use Rattle.walks.proofs.TurnLaws.{way-bound, turn-over, descends}
 use Rattle.scene.proofs.MeasureLaws.{climbs-back, steps-short, figure-measured, group-measured}
 use borrow.Author.Needs.{needs}
 use Rattle.scene.proofs.measuring.turn.Statement.{statement}
 use Rattle.scene.proofs.measuring.turn.Tie as tie
 use Rattle.scene.proofs.measuring.turn.Reads as reads
 use Rattle.scene.proofs.measuring.turn.Lts as lts
-use Rattle.groups.proofs.walks.back_at.Reads as back-at-reads
-use Rattle.groups.proofs.walks.descend.Reads as descend-reads
+use Rattle.walks.proofs.back_at.Reads as back-at-reads
+use Rattle.walks.proofs.descend.Reads as descend-reads
 use Rattle.scene.proofs.measuring.reach.Reads as reach-reads
 use Rattle.stores.proofs.components.component_at.Reads as component-at-reads
 use Rattle.stores.proofs.shapes.is_destroyed.Reads as is-destroyed-reads

@@ -5,55 +5,29 @@ use borrow.Author.Needs.{needs}
 use Rattle.stores.proofs.components.mark_place.Statement.{statement}
 use Rattle.stores.proofs.components.mark_place.Tie as tie
 
--- src/components.rt:59:38
+-- src/components.rt:70:38
 shared-slice-read-lowered-word : tie.Need-shared-slice-read-lowered-word
 shared-slice-read-lowered-word c = search needs
 
--- src/components.rt:59:13
+-- src/components.rt:70:13
 lowered-word-requires : tie.Need-lowered-word-requires
 lowered-word-requires c κs = search needs
 
--- src/components.rt:59:13
+-- src/components.rt:70:13
 rem-d : tie.Need-rem-d
 rem-d c = search needs
 
--- src/components.rt:60:16
-element-copy-out-size : tie.Need-element-copy-out-size
-element-copy-out-size c = search needs
+-- src/components.rt:71:5
+marks-of-requires : tie.Need-marks-of-requires
+marks-of-requires c κs = search needs
 
--- src/components.rt:62:34
-element-copy-out-result : tie.Need-element-copy-out-result
-element-copy-out-result c = search needs
-
--- src/components.rt:62:11
-mul-result : tie.Need-mul-result
-mul-result c = search needs
-
--- src/components.rt:61:5
+-- src/components.rt:71:5
 add-result : tie.Need-add-result
-add-result c = search needs
+add-result c =
+    let s = c .before .before .before .before in
+    omega (arith, c .marks-of .ensures, rows-small (getD (s .args .grants .now) 4 0) (s .args .k) (s .pre .calls) (omega arith), s .pre .shapes, s .pre .entries)
 
--- src/components.rt:63:11
-mul-result-2 : tie.Need-mul-result-2
-mul-result-2 c = search needs
-
--- src/components.rt:61:5
-add-result-2 : tie.Need-add-result-2
-add-result-2 c = search needs
-
--- src/components.rt:64:11
-mul-result-3 : tie.Need-mul-result-3
-mul-result-3 c = omega (arith, rows-small (getD (c .before .before .before .before .before .args .grants .now) 2 0) (c .before .before .lowered-word .result) (c .before .before .before .before .before .pre .entries), c .before .before .before .before .before .pre .shapes, c .before .before .before .before .before .pre .entries)
-
--- src/components.rt:61:5
-add-result-3 : tie.Need-add-result-3
-add-result-3 c = omega (arith, rows-small (getD (c .before .before .before .before .before .args .grants .now) 2 0) (c .before .before .lowered-word .result) (c .before .before .before .before .before .pre .entries), c .before .before .before .before .before .pre .shapes, c .before .before .before .before .before .pre .entries)
-
--- src/components.rt:61:5
-add-result-4 : tie.Need-add-result-4
-add-result-4 c = omega (arith, rows-small (getD (c .before .before .before .before .before .args .grants .now) 2 0) (c .before .before .lowered-word .result) (c .before .before .before .before .before .pre .entries), c .before .before .before .before .before .pre .shapes, c .before .before .before .before .before .pre .entries)
-
--- src/components.rt:55:1
+-- src/components.rt:66:1
 returns : tie.Need-returns
 returns c = search mark-stands
 
@@ -64,13 +38,6 @@ mark-place-spec =
     shared-slice-read-lowered-word
     lowered-word-requires
     rem-d
-    element-copy-out-size
-    element-copy-out-result
-    mul-result
+    marks-of-requires
     add-result
-    mul-result-2
-    add-result-2
-    mul-result-3
-    add-result-3
-    add-result-4
     returns)

@@ -1,0 +1,5 @@
+mod Paid
+mod Listing
+mod Heads
+mod Table
+mod Gathering

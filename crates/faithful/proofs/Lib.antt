@@ -1,0 +1,7 @@
+mod Names
+mod Expressions
+mod Ends
+mod Statements
+mod Tokens
+mod Procedures
+pub mod Faithful

@@ -1,0 +1,3 @@
+// Figures: moved, scaled and compared.
+pub mod changes;
+pub mod comparing;

@@ -1,0 +1,2 @@
+mod LookLaws
+mod MarkLaws

@@ -1,0 +1,2 @@
+mod RemakeLaws
+mod RemakingLaws

@@ -1,0 +1,3 @@
+mod ShowLaws
+mod WriteLaws
+mod Words

@@ -1,0 +1,4 @@
+pub mod WalkLaws
+pub mod TurnLaws
+pub mod DestroyLaws
+mod SceneLaws
