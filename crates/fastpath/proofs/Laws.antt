@@ -15,7 +15,8 @@ use mir.Facts.{toZ-ofZ}
 use borrow.Author.Tests.{not-true, not-false, lt-ltb, le-ltb, le-leb, lt-leb, ne-eqb}
 use Rattle.meaning.specs.Basics.{if_then_else_}
 use Rattle.meaning.specs.Integer.{sum, difference, product, quotient, remainder, shiftedLeft, shiftedRight, isZero, sameInteger}
-use Rattle.machine.specs.Opcodes.{tagIn, sizeIn, sizeAt, numberIn, firstOperator, headNumber, headString, headName, tagAdd, tagSubtract, tagMultiply, tagDivide, tagRemainder, tagShiftRight, tagShiftLeft, tagEqual, tagUnequal, tagGreater, tagLess}
+use Rattle.machine.specs.Opcodes.{tagIn, sizeIn, sizeAt, numberIn, firstOperator, headNumber, headString, headName, tagAdd, tagSubtract, tagMultiply}
+use Rattle.machine.specs.Opcodes.{tagDivide, tagRemainder, tagShiftRight, tagShiftLeft, tagEqual, tagUnequal, tagGreater, tagLess}
 use Rattle.machine.specs.declared.Value.the-variants.{Integer, Text, Boolean, Shape}
 use Rattle.machine.specs.Words.{packed}
 use Rattle.machine.specs.Words as Words
