@@ -313,7 +313,8 @@ fn leave(
     x: usize,
 ) -> Answer
     requires { ⌜ Leaves (now code) (now grants) (now texts) (now words) fuel w x ⌝ }
-    ensures { λ r. ⌜ shownFlow (given r) (now (texts .exit)) (now (words .exit)) ≡ statementAt fuel (setting (now (program .entry)) (now (code .entry)) (now (grants .entry))) x (raw (now (texts .entry)) (now (words .entry))) ⌝ }
+    ensures { λ r. ⌜ shownFlow (given r) (now (texts .exit)) (now (words .exit))
+        ≡ statementAt fuel (setting (now (program .entry)) (now (code .entry)) (now (grants .entry))) x (raw (now (texts .entry)) (now (words .entry))) ⌝ }
 {
     if fuel == 0 {
         return Answer::Bad(20, 0);
@@ -759,7 +760,8 @@ fn inside(
 ) -> Flow
     requires { ⌜ Runs (now grants) (now texts) (now words) fuel b ⌝ }
     ensures { λ r. ⌜ shownFlow r (now (texts .exit)) (now (words .exit))
-        ≡ insideAt (statementAt fuel (setting (now (program .entry)) (now (code .entry)) (now (grants .entry))) b) (now (grants .entry)) p slot end c (raw (now (texts .entry)) (now (words .entry))) ⌝ }
+        ≡ insideAt (statementAt fuel (setting (now (program .entry)) (now (code .entry)) (now (grants .entry))) b) (now (grants .entry)) p slot end c
+        (raw (now (texts .entry)) (now (words .entry))) ⌝ }
 {
     let mut found = loops::looking::look_in(words, grants, c);
     let mut turns = grants[granted::STEPS] + 1;

@@ -17,7 +17,8 @@ use Rattle.meaning.specs.State as State
 use Rattle.machine.specs.declared.Value.{Value}
 use Rattle.machine.specs.declared.Value.the-variants.{Integer, Text, Boolean, Nothing, Table, Shape}
 use Rattle.machine.specs.Words.{unpacked}
-use Rattle.machine.specs.Layout.{shapesUsed, textUsed, declared, argumentsHeld, callsUsed, running, componentsMade, loopUnit, framePlace, valuePlace, orderPlace, shapePlace, componentPlace, pathPlace, firstArgument, firstFrame, firstValue}
+use Rattle.machine.specs.Layout.{shapesUsed, textUsed, declared, argumentsHeld, callsUsed, running, componentsMade, loopUnit, framePlace}
+use Rattle.machine.specs.Layout.{valuePlace, orderPlace, shapePlace, componentPlace, pathPlace, firstArgument, firstFrame, firstValue}
 use Rattle.machine.specs.Act.{Raw}
 use Rattle.machine.specs.Texts.{originIn, startIn, sizeIn}
 use Rattle.machine.specs.declared.Figure.{Figure}

@@ -16,7 +16,8 @@ use Rattle.meaning.specs.State.{State, group, componentsIn, withShape}
 use Rattle.meaning.specs.Run as Run
 use Rattle.meaning.specs.Book.{Amounts, added, resourceNumber, shortageOf}
 use Rattle.meaning.specs.Group as Group
-use Rattle.machine.specs.Layout.{stepsUsed, shapesUsed, entriesUsed, entriesMade, componentsMade, shapesGranted, entriesGranted, callsGranted, fixedWords, shapePlace, componentPlace, pathPlace, Room, firstFrame}
+use Rattle.machine.specs.Layout.{stepsUsed, shapesUsed, entriesUsed, entriesMade, componentsMade, shapesGranted, entriesGranted}
+use Rattle.machine.specs.Layout.{callsGranted, fixedWords, shapePlace, componentPlace, pathPlace, Room, firstFrame}
 use Rattle.machine.specs.Act.{Raw, raw}
 use Rattle.machine.specs.Act as Act
 use Rattle.machine.specs.Shapes.{firstWord, kindGroup, isGroupAt}
