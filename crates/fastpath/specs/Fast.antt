@@ -90,6 +90,10 @@ otherWord ws w =
     else λ _. if eqb (w % 2 ^ 32) headName then (λ _. livingWord ws (getD ws (valuePlace (numberIn w)) 0))
     else λ _. 0
 
+-- a constant, a variable or a string
+unfoldable pub leafArgument : List ℕ → ℕ → ℕ
+leafArgument ws w = if eqb (otherWord ws w) 0 then (λ _. leafWord ws w) else λ _. otherWord ws w
+
 unfoldable pub argumentAt : ℕ → List ℕ → List ℕ → ℕ → ℕ
 argumentAt zero code ws x = 0
 argumentAt (suc depth) code ws x =
