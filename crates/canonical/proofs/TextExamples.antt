@@ -7,7 +7,8 @@ use mathlib.Core.List.{List, [], _∷_, _++_}
 use lib.ListN.{length, replicate}
 use lib.IntN.{pos}
 use Rattle.meaning.specs.Basics.{bytes}
-use Rattle.meaning.specs.Tree.{subtract, number, string, nothing, truth, name, table, operation, call, noArgument, argument, declare, assign, update, when, while, foreach, return, block, act, only, first, Procedure}
+use Rattle.meaning.specs.Tree.{subtract, number, string, nothing, truth, name, table, operation, call, noArgument, argument, declare}
+use Rattle.meaning.specs.Tree.{assign, update, when, while, foreach, return, block, act, only, first, Procedure}
 use Rattle.meaning.specs.Grammar.{Reading, wellFormed, malformed, reading}
 use Rattle.meaning.specs.Program.{checking}
 use Rattle.meaning.specs.Book.{Answer, pictured, number}

@@ -1,6 +1,7 @@
 -- What two programs must share to be the same: their trees without parentheses and places. How a constant is spelled is no part of a tree.
 use mathlib.Core.List.{List, map}
-use Rattle.meaning.specs.Tree.{Expression, number, string, nothing, truth, name, table, entry, operation, call, paren, Arguments, noArgument, argument, Statement, declare, assign, update, when, while, foreach, return, block, act, Statements, only, first, Procedure, Program}
+use Rattle.meaning.specs.Tree.{Expression, number, string, nothing, truth, name, table, entry, operation, call, paren, Arguments, noArgument, argument, Statement}
+use Rattle.meaning.specs.Tree.{declare, assign, update, when, while, foreach, return, block, act, Statements, only, first, Procedure, Program}
 
 unfoldable mutual
   pub bare : Expression → Expression

@@ -6,7 +6,9 @@ use lib.ListN.{length, getD}
 use Rattle.meaning.specs.Basics.{bytes}
 use Rattle.meaning.specs.Byte.{isNamePart}
 use Rattle.meaning.specs.Picture.{decimal}
-use Rattle.meaning.specs.Tree.{Operator, concatenate, add, subtract, multiply, divide, remainder, shiftRight, shiftLeft, equal, unequal, greater, less, Expression, number, string, nothing, truth, name, table, entry, operation, call, paren, Arguments, noArgument, argument, Statement, declare, assign, update, when, while, foreach, return, block, act, Statements, only, first, Procedure, Program}
+use Rattle.meaning.specs.Tree.{Operator, concatenate, add, subtract, multiply, divide, remainder, shiftRight, shiftLeft, equal, unequal, greater, less}
+use Rattle.meaning.specs.Tree.{Expression, number, string, nothing, truth, name, table, entry, operation, call, paren, Arguments, noArgument, argument, Statement}
+use Rattle.meaning.specs.Tree.{declare, assign, update, when, while, foreach, return, block, act, Statements, only, first, Procedure, Program}
 
 -- texts with a comma between each two
 unfoldable pub commaSeparated : List (List ℕ) → List ℕ

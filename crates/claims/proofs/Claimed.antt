@@ -1,6 +1,7 @@
 -- The claims of specs/Claims, each proved.
 use Rattle.claims.specs.Claims.{ReadingErrors, LanguageErrors, BeginningsExtend, BeginningsFill, EndedStays, NeededIsBounded, BeginningsDecide, AlwaysAnswered, NumbersWriteNothing}
-use Rattle.claims.specs.Claims.{PicturesFillTheFront, CheckingTakesNothing, UnrunTakesNothing, UnrunIsRefused, OthersTakeAStep, LargerGrant, ShortageExact, CallsUnderWay, ReturnsGiveBack, NoneUnderWay, LengthIsTold, DrawnIsTold}
+use Rattle.claims.specs.Claims.{PicturesFillTheFront, CheckingTakesNothing, UnrunTakesNothing, UnrunIsRefused, OthersTakeAStep, LargerGrant}
+use Rattle.claims.specs.Claims.{ShortageExact, CallsUnderWay, ReturnsGiveBack, NoneUnderWay, LengthIsTold, DrawnIsTold}
 use Rattle.claims.specs.Claims.{ToldIsDrawn, NumbersStay, EndAlike, FittingIsRun, AnswersAreBeginnings, PicturesAreBeginnings, SizesNotNegative, OthersStay, ComponentsAreOlder, DepthsSuffice}
 use Rattle.claims.proofs.Ends
 use Rattle.claims.proofs.Beginnings

@@ -15,15 +15,19 @@ use lib.Dec.{eqb}
 use borrow.Author.Tests.{le-ltb}
 use Rattle.meaning.specs.Basics.{bytes, if_then_else_, sameText, standsIn}
 use Rattle.meaning.specs.Figure.{Figure}
-use Rattle.meaning.specs.Tree.{Operator, concatenate, add, subtract, multiply, divide, remainder, shiftRight, shiftLeft, equal, unequal, greater, less, Expression, Arguments, noArgument, argument, Statement, declare, assign, update, when, while, foreach, return, block, act, Statements, only, first, Procedure}
+use Rattle.meaning.specs.Tree.{Operator, concatenate, add, subtract, multiply, divide, remainder, shiftRight, shiftLeft, equal, unequal, greater, less, Expression, Arguments}
+use Rattle.meaning.specs.Tree.{noArgument, argument, Statement, declare, assign, update, when, while, foreach, return, block, act, Statements, only, first, Procedure}
 use Rattle.meaning.specs.Tree as Tree
 use Rattle.meaning.specs.Grammar.{procedureNamed, Reading, wellFormed, malformed, reading}
 use Rattle.meaning.specs.Value.{Value, integer, string, boolean, none, table, shape}
 use Rattle.meaning.specs.State.{State, Content, atom, group, Key, byContent, shapesHeld}
-use Rattle.meaning.specs.Run.{Resource, steps, shapes, entries, textBytes, calls, picture, Taking, Event, taken, gaveBack, taking, End, result, error, unfinished, Run, Action, goOn, _>>=_, give, fail, spend, giveBack, refuse, current, become}
+use Rattle.meaning.specs.Run.{Resource, steps, shapes, entries, textBytes, calls, picture, Taking, Event, taken, gaveBack, taking, End, result}
+use Rattle.meaning.specs.Run.{error, unfinished, Run, Action, goOn, _>>=_, give, fail, spend, giveBack, refuse, current, become}
 use Rattle.meaning.specs.Group.{spendEach, newShape, each, destroying, remade, figuresOf, pairwise, alike}
-use Rattle.meaning.specs.Operator.{usable, withInteger, withString, withBoolean, withTable, withShapeNumber, withFigure, withGroup, newString, calculated, compared, remaindered, joined, Comparison, refused, settled, ofShapes, answered, equated, operateOn, operate}
-use Rattle.meaning.specs.Library.{Library, drawLine, drawEllipse, drawBox, drawText, connectShapes, drawTextOnShape, xCoordinate, yCoordinate, destroyShape, clearScene, drawGroup, withNone, withOne, withTwo, withThree, withFour, shapeNumbers, draw, drawFigure, perform, allUsable, callLibrary}
+use Rattle.meaning.specs.Operator.{usable, withInteger, withString, withBoolean, withTable, withShapeNumber, withFigure, withGroup, newString, calculated}
+use Rattle.meaning.specs.Operator.{compared, remaindered, joined, Comparison, refused, settled, ofShapes, answered, equated, operateOn, operate}
+use Rattle.meaning.specs.Library.{Library, drawLine, drawEllipse, drawBox, drawText, connectShapes, drawTextOnShape, xCoordinate, yCoordinate, destroyShape, clearScene}
+use Rattle.meaning.specs.Library.{drawGroup, withNone, withOne, withTwo, withThree, withFour, shapeNumbers, draw, drawFigure, perform, allUsable, callLibrary}
 use Rattle.meaning.specs.Evaluate.{lookedUp, variable, newTable, keyed, entryOf, Invoke, evaluate, evaluateAll}
 use Rattle.meaning.specs.Execute.{Flow, onward, returned, continue, declaring, copied, assigning, storing, updating, looping, declaringOnce, binding, turns, iterating, execute, executeAll}
 use Rattle.meaning.specs.Procedure.{doubled, assigningAll, found, calling}

@@ -7,7 +7,9 @@ use mathlib.Core.Option.{Option, none, some}
 use Rattle.meaning.specs.Basics.{bytes, if_then_else_, standsIn}
 use Rattle.meaning.specs.Token.{Token, Lexed, lexed, stray, tokensOf}
 use Rattle.meaning.specs.Tree.{Operator, Expression, Statement, Procedure}
-use Rattle.meaning.specs.Grammar.{Got, good, wrong, after, expect, Inside, noLevel, level, opening, ReadExpression, argumentsFrom, arguments, primary, operand, operated, expressionIn, expression, ReadStatement, Readers, declaration, returning, Target, variable, element, noTarget, assignment, simple, guarded, iteration, statementsFrom, statementIn, statement, parametersFrom, parameters, procedure, proceduresFrom, procedureNamed, withMain, procedures, Reading, wellFormed, malformed, readOf, parsed, reading}
+use Rattle.meaning.specs.Grammar.{Got, good, wrong, after, expect, Inside, noLevel, level, opening, ReadExpression, argumentsFrom, arguments, primary, operand, operated, expressionIn, expression}
+use Rattle.meaning.specs.Grammar.{ReadStatement, Readers, declaration, returning, Target, variable, element, noTarget, assignment, simple, guarded, iteration, statementsFrom, statementIn, statement}
+use Rattle.meaning.specs.Grammar.{parametersFrom, parameters, procedure, proceduresFrom, procedureNamed, withMain, procedures, Reading, wellFormed, malformed, readOf, parsed, reading}
 use Rattle.claims.specs.Claims.{among, readingErrors, ReadingErrors}
 
 -- ---- the relation

@@ -22,9 +22,11 @@ pub fn draw(
     texts: &mut [u8],
     out: &mut [u8],
 ) -> Answer
-    ensures { λ r. ⌜ Performed (called drawing (now (program .entry)) width height (now (grants .entry)) (now (tokens .entry)) (now (code .entry)) (now (words .entry)) (now (texts .entry)) (now (out .entry)))
+    ensures { λ r. ⌜ Performed (called drawing (now (program .entry)) width height (now (grants .entry)) (now (tokens .entry)) (now (code .entry)) (now (words .entry)) (now (texts .entry))
+        (now (out .entry)))
         (meant r) (now (tokens .entry)) (now (code .entry)) (now (words .entry)) (now (texts .entry)) (now (tokens .exit)) (now (code .exit)) (now (words .exit)) (now (texts .exit)) ⌝ }
-    ensures { λ _. ⌜ now (out .exit) ≡ outAfter (called drawing (now (program .entry)) width height (now (grants .entry)) (now (tokens .entry)) (now (code .entry)) (now (words .entry)) (now (texts .entry)) (now (out .entry))) ⌝ }
+    ensures { λ _. ⌜ now (out .exit) ≡ outAfter (called drawing (now (program .entry)) width height (now (grants .entry)) (now (tokens .entry)) (now (code .entry)) (now (words .entry))
+        (now (texts .entry)) (now (out .entry))) ⌝ }
 {
     if !lending::is_enough(grants, tokens.len(), code.len(), words.len(), texts.len()) {
         return Answer::Number(71, 0, 0, 0);

@@ -76,7 +76,8 @@ pub record Turned (ws s₁ : List ℕ) (p m j q : ℕ) : Type 0 where
   pub size : q < m + 16777216
   pub paid : q + 1 ≤ j + 1
 
-module _ (left : ℕ) (ws : List ℕ) (i n : ℕ) (s₀ : List ℕ) (p m : ℕ) (s : List ℕ) (g : Going left ws i n s₀ p m s) (e : Read) (s₁ : List ℕ) (h : seen e s₁ ≡ written (expression left ws p) (m + 1) s) where
+module _ (left : ℕ) (ws : List ℕ) (i n : ℕ) (s₀ : List ℕ) (p m : ℕ) (s : List ℕ) (g : Going left ws i n s₀ p m s) (e : Read) (s₁ : List ℕ) (h : seen e s₁
+    ≡ written (expression left ws p) (m + 1) s) where
   pub going-fails : (k a : ℕ) → e ≡ Wrong k a → seen (Wrong k a) s₁ ≡ writtenCode (arguments (expression left ws) ws i) n s₀
   unfolding after seen writtenCode
   going-fails k a u = rw (g .same, rest-turns left ws p, erred e _ (m + 1) s s₁ k a h u)

@@ -85,17 +85,20 @@ module _ (left : ℕ) (ws : List ℕ) (i n : ℕ) (s₀ s : List ℕ) (r : Read)
   pub reads-false : kind ≡ 11 → seen r s ≡ written (leaf 4 0 0 (i + 1)) n s₀ → seen r s ≡ written (primary (insideOf left ws) ws i) n s₀
   reads-false e = being _ (primary-false _ ws i (sym k ∙ e))
 
-  pub reads-name : (x next : ℕ) → kind ≡ 1 → next ≡ kindAt ws (i + 1) → (next ≡ 40 → ⊥) → x ≡ homeAt ws i → seen r s ≡ written (leaf 5 x 1 (i + 1)) n s₀ → seen r s ≡ written (primary (insideOf left ws) ws i) n s₀
+  pub reads-name : (x next : ℕ) → kind ≡ 1 → next ≡ kindAt ws (i + 1) → (next ≡ 40 → ⊥) → x ≡ homeAt ws i → seen r s ≡ written (leaf 5 x 1 (i + 1)) n s₀
+      → seen r s ≡ written (primary (insideOf left ws) ws i) n s₀
   reads-name x next e f l p h = being _ (primary-name _ ws i (sym k ∙ e) (λ q. l (f ∙ q))) (rw p at h)
 
-  pub reads-call : (es : Read) (s₁ : List ℕ) (x next : ℕ) → kind ≡ 1 → next ≡ kindAt ws (i + 1) → next ≡ 40 → (left ≡ 0 → ⊥) → seen es s₁ ≡ writtenCode (arguments (expression (left - 1) ws) ws (i + 2)) n s₀
+  pub reads-call : (es : Read) (s₁ : List ℕ) (x next : ℕ) → kind ≡ 1 → next ≡ kindAt ws (i + 1) → next ≡ 40 → (left ≡ 0 → ⊥)
+      → seen es s₁ ≡ writtenCode (arguments (expression (left - 1) ws) ws (i + 2)) n s₀
       → x ≡ calleeAt ws i → seen r s ≡ finished 8 n x (seen es s₁) → seen r s ≡ written (primary (insideOf left ws) ws i) n s₀
   unfolding opening
   reads-call es s₁ x next e f g l h p q =
       let y : seen r s ≡ finished 8 n (calleeAt ws i) (writtenCode (arguments (expression (left - 1) ws) ws (i + 2)) n s₀) = cc in
       being _ (primary-call _ ws i (sym k ∙ e) (sym f ∙ g)) (rw (inside-levels left ws l) (y ∙ finished-code _ 8 n (calleeAt ws i) s₀))
 
-  pub reads-paren : (e : Read) → kind ≡ 40 → (left ≡ 0 → ⊥) → seen e s ≡ written (expression (left - 1) ws (i + 1)) n s₀ → r ≡ closed 41 ws e → seen r s ≡ written (primary (insideOf left ws) ws i) n s₀
+  pub reads-paren : (e : Read) → kind ≡ 40 → (left ≡ 0 → ⊥) → seen e s ≡ written (expression (left - 1) ws (i + 1)) n s₀ → r ≡ closed 41 ws e
+      → seen r s ≡ written (primary (insideOf left ws) ws i) n s₀
   unfolding opening
   reads-paren e f l h c =
       being _ (primary-paren _ ws i (sym k ∙ f)) (rw (c, inside-levels left ws l) (closed-reads e _ 41 n ws s₀ s h))

@@ -30,7 +30,8 @@ module _ (inside : Inside ReadPiece) (ws : List ℕ) (i : ℕ) where
   unfolding primary if_then_else_
   primary-lower e d p l = rw (e, d, eq-eqb _ _ p, lt-leb _ _ l)
 
-  pub primary-negative : kindAt ws i ≡ 45 → kindAt ws (i + 1) ≡ 2 → placeAt ws (i + 1) ≡ placeAt ws i + 1 → payloadAt ws (i + 1) ≤ 2147483648 → primary inside ws i ≡ leaf 1 (minusBits (payloadAt ws (i + 1))) 0 (i + 2)
+  pub primary-negative : kindAt ws i ≡ 45 → kindAt ws (i + 1) ≡ 2 → placeAt ws (i + 1) ≡ placeAt ws i + 1 → payloadAt ws (i + 1) ≤ 2147483648
+      → primary inside ws i ≡ leaf 1 (minusBits (payloadAt ws (i + 1))) 0 (i + 2)
   unfolding primary if_then_else_
   primary-negative e d p l = rw (e, d, eq-eqb _ _ p, le-leb _ _ l)
 
@@ -54,7 +55,8 @@ module _ (inside : Inside ReadPiece) (ws : List ℕ) (i : ℕ) where
   unfolding primary if_then_else_
   primary-name e h = rw (e, ne-eqb _ _ h)
 
-  pub primary-call : kindAt ws i ≡ 1 → kindAt ws (i + 1) ≡ 40 → primary inside ws i ≡ opening inside (i + 1) λ inner. after (arguments inner ws (i + 2)) λ es j. good (piece (callCode (calleeAt ws i) es) 0) j
+  pub primary-call : kindAt ws i ≡ 1 → kindAt ws (i + 1) ≡ 40 → primary inside ws i
+      ≡ opening inside (i + 1) λ inner. after (arguments inner ws (i + 2)) λ es j. good (piece (callCode (calleeAt ws i) es) 0) j
   unfolding primary if_then_else_
   primary-call e h = rw (e, h)
 
@@ -66,7 +68,8 @@ module _ (inside : Inside ReadPiece) (ws : List ℕ) (i : ℕ) where
   unfolding primary if_then_else_
   primary-table e = rw e
 
-  pub primary-other : (k : ℕ) → k ≡ kindAt ws i → (k ≡ 2 → ⊥) → (k ≡ 45 → ⊥) → (k ≡ 3 → ⊥) → (k ≡ 9 → ⊥) → (k ≡ 10 → ⊥) → (k ≡ 11 → ⊥) → (k ≡ 1 → ⊥) → (k ≡ 40 → ⊥) → (k ≡ 91 → ⊥) → primary inside ws i ≡ wrong 10 i
+  pub primary-other : (k : ℕ) → k ≡ kindAt ws i → (k ≡ 2 → ⊥) → (k ≡ 45 → ⊥) → (k ≡ 3 → ⊥) → (k ≡ 9 → ⊥) → (k ≡ 10 → ⊥) → (k ≡ 11 → ⊥) → (k ≡ 1 → ⊥) → (k ≡ 40 → ⊥) → (k ≡ 91 → ⊥)
+      → primary inside ws i ≡ wrong 10 i
   unfolding primary if_then_else_
   primary-other k e h2 h45 h3 h9 h10 h11 h1 h40 h91 =
       rw (← e, ne-eqb _ _ h2, ne-eqb _ _ h45, ne-eqb _ _ h3, ne-eqb _ _ h9)

@@ -75,7 +75,8 @@ operator-small k =
     chosen (λ t. t < 256) (eqb k 62) _ _ (λ _. omega arith) λ _.
     chosen (λ t. t < 256) (eqb k 60) _ _ (λ _. omega arith) λ _. omega arith
 
-pub operator-none : (k : ℕ) → (k ≡ 171 → ⊥) → (k ≡ 43 → ⊥) → (k ≡ 45 → ⊥) → (k ≡ 42 → ⊥) → (k ≡ 47 → ⊥) → (k ≡ 37 → ⊥) → (k ≡ 190 → ⊥) → (k ≡ 188 → ⊥) → (k ≡ 189 → ⊥) → (k ≡ 161 → ⊥) → (k ≡ 62 → ⊥) → (k ≡ 60 → ⊥)
+pub operator-none : (k : ℕ) → (k ≡ 171 → ⊥) → (k ≡ 43 → ⊥) → (k ≡ 45 → ⊥) → (k ≡ 42 → ⊥) → (k ≡ 47 → ⊥) → (k ≡ 37 → ⊥) → (k ≡ 190 → ⊥) → (k ≡ 188 → ⊥) → (k ≡ 189 → ⊥) → (k ≡ 161 → ⊥)
+    → (k ≡ 62 → ⊥) → (k ≡ 60 → ⊥)
     → 0 ≡ operatorTag k
 unfolding operatorTag if_then_else_
 operator-none k a b c d e f g h i j l m =

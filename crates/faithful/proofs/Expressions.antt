@@ -11,13 +11,15 @@ use borrow.Author.Tests.{lt-ltb, le-ltb, ne-eqb, le-leb}
 use Rattle.meaning.specs.Basics.{bytes, if_then_else_}
 use Rattle.meaning.specs.Byte.{isNamePart}
 use Rattle.meaning.specs.Token.{Token, aName, aString}
-use Rattle.meaning.specs.Tree.{Operator, concatenate, add, subtract, multiply, divide, remainder, shiftRight, shiftLeft, equal, unequal, greater, less, Expression, number, string, nothing, truth, name, table, entry, operation, call, paren, Arguments, noArgument, argument}
+use Rattle.meaning.specs.Tree.{Operator, concatenate, add, subtract, multiply, divide, remainder, shiftRight, shiftLeft, equal, unequal, greater, less}
+use Rattle.meaning.specs.Tree.{Expression, number, string, nothing, truth, name, table, entry, operation, call, paren, Arguments, noArgument, argument}
 use Rattle.meaning.specs.Integer.{bits, wrap}
 use Rattle.meaning.specs.Picture.{decimal}
 use Rattle.canonical.specs.Text.{commaSeparated, operatorText, isOperation, isEntry, enclosedIf, expressionText, argumentTexts}
 use Rattle.canonical.specs.Text as Text
 use Rattle.roundtrip.proofs.LexesTree.{lastOf}
-use Rattle.machine.specs.Opcodes.{word, tagIn, sizeIn, numberIn, argumentRoot, calleeIn, tagNumber, tagString, tagNone, tagTruth, tagName, tagTable, tagEntry, tagCall, tagArgument, firstOperator, tagOf}
+use Rattle.machine.specs.Opcodes.{word, tagIn, sizeIn, numberIn, argumentRoot, calleeIn, tagNumber, tagString, tagNone}
+use Rattle.machine.specs.Opcodes.{tagTruth, tagName, tagTable, tagEntry, tagCall, tagArgument, firstOperator, tagOf}
 use Rattle.names.specs.Prepared.{procedureNumber}
 use Rattle.code.specs.Code.{slotOf, partOf, joined, codeOf, codeOfAll}
 use Rattle.reader.proofs.Homes.{Occurs}

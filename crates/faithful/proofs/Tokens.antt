@@ -13,7 +13,8 @@ use Rattle.meaning.specs.Basics.{bytes, if_then_else_}
 use Rattle.meaning.specs.Token.{Token, ending, aName, digits, wordDef, minus}
 use Rattle.meaning.specs.Tree.{Operator, Expression, Statement, Procedure, Program}
 use Rattle.meaning.specs.Grammar.{good, kindAt, textAt, is, expect, operatorOf, Inside, ReadExpression, argumentsFrom, arguments, primary, operand, operated, expressionIn, expression}
-use Rattle.meaning.specs.Grammar.{ReadStatement, Readers, declaration, returning, Target, variable, element, noTarget, assignment, simple, guarded, iteration, statementsFrom, statements, statementIn, statement}
+use Rattle.meaning.specs.Grammar.{ReadStatement, Readers, declaration, returning, Target, variable, element, noTarget, assignment}
+use Rattle.meaning.specs.Grammar.{simple, guarded, iteration, statementsFrom, statements, statementIn, statement}
 use Rattle.meaning.specs.Grammar.{parametersFrom, parameters, procedure, proceduresFrom, procedureNamed, withMain, procedures}
 use Rattle.meaning.specs.Grammar
 use Rattle.reader.proofs.Homes.{both-true}

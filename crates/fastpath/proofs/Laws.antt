@@ -12,10 +12,11 @@ use lib.Dec.{eqb, leb}
 use mir.Syntax.{w32}
 use mir.Val.{toZ, SFits}
 use mir.Facts.{toZ-ofZ}
-use borrow.Author.Tests.{not-true, not-false, lt-ltb, le-ltb, le-leb, lt-leb, ne-eqb}
+use borrow.Author.Tests.{not-true, not-false, lt-ltb, le-ltb, le-leb, lt-leb, ne-eqb, eqb-true, eqb-false}
 use Rattle.meaning.specs.Basics.{if_then_else_}
 use Rattle.meaning.specs.Integer.{sum, difference, product, quotient, remainder, shiftedLeft, shiftedRight, isZero, sameInteger}
-use Rattle.machine.specs.Opcodes.{tagIn, sizeIn, sizeAt, numberIn, firstOperator, headNumber, headString, headName, tagAdd, tagSubtract, tagMultiply, tagDivide, tagRemainder, tagShiftRight, tagShiftLeft, tagEqual, tagUnequal, tagGreater, tagLess}
+use Rattle.machine.specs.Opcodes.{tagIn, sizeIn, sizeAt, numberIn, firstOperator, headNumber, headString, headName, tagAdd, tagSubtract, tagMultiply}
+use Rattle.machine.specs.Opcodes.{tagDivide, tagRemainder, tagShiftRight, tagShiftLeft, tagEqual, tagUnequal, tagGreater, tagLess}
 use Rattle.machine.specs.declared.Value.the-variants.{Integer, Text, Boolean, Shape}
 use Rattle.machine.specs.Words.{packed}
 use Rattle.machine.specs.Words as Words
@@ -24,7 +25,7 @@ use Rattle.machine.specs.Act.{Pays}
 use Rattle.machine.specs.Shapes.{destroyedAt}
 use Rattle.stores.proofs.Acts.{paid, short}
 use Rattle.values.proofs.Held.{held, back-by, test-is}
-use Rattle.fastpath.specs.Fast.{plainWord, leafWord, operatorWord, wordOn, sizesAgree, operationWord, fastAt, livingWord, otherWord, argumentAt, applies, Values}
+use Rattle.fastpath.specs.Fast.{plainWord, leafWord, operatorWord, wordOn, sizesAgree, operationWord, fastAt, livingWord, otherWord, leafArgument, argumentAt, applies, Values}
 
 -- ---- constants and variables
 module _ (u : ℕ) where
@@ -248,25 +249,65 @@ module _ (ws : List ℕ) (w : ℕ) where
   unfolding otherWord if_then_else_
   no-other n m = rw (ne-eqb _ _ n, ne-eqb _ _ m)
 
-module _ (code ws : List ℕ) (x : ℕ) where
-  fast-argument : (depth : ℕ) → (depth ≡ 0 → ⊥) → otherWord ws (getD code x 0) ≡ 0 → argumentAt depth code ws x ≡ fastAt depth code ws x
-  unfolding argumentAt if_then_else_
-  fast-argument zero n z = absurd (n refl)
-  fast-argument (suc depth) n z = rw z
+  -- a leaf that is an integer or a truth is nothing else
+  no-other-leaf : (leafWord ws w ≡ 0 → ⊥) → 0 ≡ otherWord ws w
+  no-other-leaf n = go (eqb (w % 2 ^ 32) headString) (eqb (w % 2 ^ 32) headName) refl refl
+    where
+      go : (i j : Bool) → eqb (w % 2 ^ 32) headString ≡ i → eqb (w % 2 ^ 32) headName ≡ j → 0 ≡ otherWord ws w
+      go true j p q = let h = eqb-true (w % 2 ^ 32) headString p in absurd (n (sym (leaf-other ws w (λ k. omega arith) (λ k. omega arith))))
+      go false true p q =
+          let h = eqb-true (w % 2 ^ 32) headName q in
+          other-name 0 _ h refl (no-shape ws _ λ s. n (sym (leaf-name ws w 0 _ h refl (plain-other _ (λ k. omega arith) (λ k. omega arith)))))
+      go false false p q = no-other (eqb-false _ _ p) (eqb-false _ _ q)
 
-  other-argument : (depth v w : ℕ) → (depth ≡ 0 → ⊥) → w ≡ getD code x 0 → v ≡ otherWord ws w → (v ≡ 0 → ⊥) → argumentAt depth code ws x ≡ v
+  module _ (v : ℕ) (e : v ≡ leafWord ws w) where
+    pub leaf-found : (v ≡ 0 → ⊥) → v ≡ leafArgument ws w
+    unfolding leafArgument if_then_else_
+    leaf-found n = rw (← no-other-leaf (λ z. n (e ∙ z))) e
+
+    pub leaf-or-other : (r : ℕ) → v ≡ 0 → r ≡ otherWord ws w → r ≡ leafArgument ws w
+    unfolding leafArgument if_then_else_
+    leaf-or-other r z f = rw (← f, ← e) (go (eqb r 0) refl)
+      where
+        go : (i : Bool) → eqb r 0 ≡ i → r ≡ (if i then (λ _. v) else λ _. r)
+        go true q = eqb-true _ _ q ∙ sym z
+        go false q = refl
+
+  -- a word of another size than 1 is none
+  no-leaf : (sizeIn w ≡ 1 → ⊥) → 0 ≡ leafArgument ws w
+  unfolding leafArgument if_then_else_
+  no-leaf n = rw (← no-other (λ h. n (omega arith)) (λ h. n (omega arith))) (leaf-other ws w (λ h. n (omega arith)) (λ h. n (omega arith)))
+
+  one-step : (v : ℕ) (g : List ℕ) (r : ℕ) (ws₁ : List ℕ) → v ≡ leafArgument ws w → Values v 1 g ws r ws₁ → Values v (sizeIn w) g ws r ws₁
+  unfolding applies if_then_else_
+  one-step v g r ws₁ e h = go (eqb (sizeIn w) 1) refl
+    where
+      go : (i : Bool) → eqb (sizeIn w) 1 ≡ i → Values v (sizeIn w) g ws r ws₁
+      go true q = rw (eqb-true (sizeIn w) 1 q) h
+      go false q =
+          let z = e ∙ sym (no-leaf (eqb-false _ _ q)) in
+          let k = rw z at h in
+          rw z record { result = k .result; words = k .words }
+
+module _ (code ws : List ℕ) (x : ℕ) where
+  leaf-argument : (depth w : ℕ) → (depth ≡ 0 → ⊥) → w ≡ getD code x 0 → tagIn w < firstOperator → argumentAt depth code ws x ≡ leafArgument ws w
+  unfolding argumentAt fastAt leafArgument if_then_else_
+  leaf-argument zero w n e l = absurd (n refl)
+  leaf-argument (suc depth) w n e l = rw (← e, lt-ltb (tagIn w) firstOperator l)
+
+  operation-argument : (depth w : ℕ) → (depth ≡ 0 → ⊥) → w ≡ getD code x 0 → firstOperator ≤ tagIn w → argumentAt depth code ws x ≡ fastAt depth code ws x
   unfolding argumentAt if_then_else_
-  other-argument zero v w n e f m = absurd (n refl)
-  other-argument (suc depth) v w n e f m = rw (← e, ← f, ne-eqb _ _ m)
+  operation-argument zero w n e l = absurd (n refl)
+  operation-argument (suc depth) w n e l = rw (← e, ← no-other ws w (λ k. omega arith) (λ k. omega arith))
 
   module _ (depth : ℕ) (g : List ℕ) where
     pub no-argument : depth ≡ 0 → Values (argumentAt depth code ws x) (sizeAt code x) g ws 0 ws
     unfolding argumentAt applies if_then_else_
     no-argument z = rw z record { result = refl; words = refl }
 
-    module _ (v w r : ℕ) (ws₁ : List ℕ) (n : depth ≡ 0 → ⊥) (e : w ≡ getD code x 0) (f : v ≡ otherWord ws w) where
-      pub argument-fast : v ≡ 0 → Values (fastAt depth code ws x) (sizeAt code x) g ws r ws₁ → Values (argumentAt depth code ws x) (sizeAt code x) g ws r ws₁
-      argument-fast z h = rw (fast-argument depth n (rw (← e) (sym f ∙ z))) h
+    module _ (w tag r : ℕ) (ws₁ : List ℕ) (n : depth ≡ 0 → ⊥) (e : w ≡ getD code x 0) (t : tag ≡ tagIn w) where
+      pub argument-leaf : (v : ℕ) → tag < firstOperator → v ≡ leafArgument ws w → Values v 1 g ws r ws₁ → Values (argumentAt depth code ws x) (sizeAt code x) g ws r ws₁
+      argument-leaf v l f h = rw (leaf-argument depth w n e (rw t at l), ← f, ← e) (one-step ws w v g r ws₁ f h)
 
-      pub argument-other : (steps : ℕ) → (v ≡ 0 → ⊥) → steps ≡ sizeIn w → Values v steps g ws r ws₁ → Values (argumentAt depth code ws x) (sizeAt code x) g ws r ws₁
-      argument-other steps m s h = rw (other-argument depth v w n e f m, ← e, ← s) h
+      pub argument-operation : firstOperator ≤ tag → Values (fastAt depth code ws x) (sizeAt code x) g ws r ws₁ → Values (argumentAt depth code ws x) (sizeAt code x) g ws r ws₁
+      argument-operation l h = rw (operation-argument depth w n e (rw t at l)) h

@@ -13,7 +13,8 @@ use mir.Syntax.{w32}
 use mir.Val.{toZ}
 use Rattle.meaning.specs.Basics.{if_then_else_}
 use Rattle.meaning.specs.Integer.{sum, difference, product, quotient, remainder, shiftedLeft, shiftedRight, isZero, sameInteger}
-use Rattle.machine.specs.Opcodes.{tagIn, sizeIn, numberIn, firstOperator, headNumber, headString, headName, tagAdd, tagSubtract, tagMultiply, tagDivide, tagRemainder, tagShiftRight, tagShiftLeft, tagEqual, tagUnequal, tagGreater, tagLess}
+use Rattle.machine.specs.Opcodes.{tagIn, sizeIn, numberIn, firstOperator, headNumber, headString, headName, tagAdd, tagSubtract, tagMultiply}
+use Rattle.machine.specs.Opcodes.{tagDivide, tagRemainder, tagShiftRight, tagShiftLeft, tagEqual, tagUnequal, tagGreater, tagLess}
 use Rattle.machine.specs.declared.Value.the-variants.{Integer, Text, Boolean, Shape}
 use Rattle.machine.specs.Words.{kindIn, kindInteger, kindTruth, kindShape, packed}
 use Rattle.machine.specs.Words as Words
@@ -88,6 +89,10 @@ otherWord ws w =
     if eqb (w % 2 ^ 32) headString then (λ _. if ltb (numberIn w) (2 ^ 32) then (λ _. packed (Text (2 * numberIn w))) else λ _. 0)
     else λ _. if eqb (w % 2 ^ 32) headName then (λ _. livingWord ws (getD ws (valuePlace (numberIn w)) 0))
     else λ _. 0
+
+-- a constant, a variable or a string
+unfoldable pub leafArgument : List ℕ → ℕ → ℕ
+leafArgument ws w = if eqb (otherWord ws w) 0 then (λ _. leafWord ws w) else λ _. otherWord ws w
 
 unfoldable pub argumentAt : ℕ → List ℕ → List ℕ → ℕ → ℕ
 argumentAt zero code ws x = 0

@@ -10,7 +10,7 @@ ghost use mathlib.Core.Path.{_≡_};
 ghost use lib.ListN.{length, getD};
 ghost use Rattle.machine.specs.Opcodes.{tagDivide, tagRemainder, sizeAt};
 ghost use Rattle.machine.specs.Layout.{fixedWords};
-ghost use Rattle.fastpath.specs.Fast.{plainWord, leafWord, operatorWord, wordOn, sizesAgree, operationWord, fastAt, livingWord, otherWord, argumentAt, Values};
+ghost use Rattle.fastpath.specs.Fast.{plainWord, leafWord, operatorWord, wordOn, sizesAgree, operationWord, fastAt, livingWord, otherWord, leafArgument, argumentAt, Values};
 
 // ---- constants and variables
 // What a variable's word holds, if it is an integer or a truth.
@@ -218,7 +218,19 @@ fn other_word(words: &[u64], w: u64) -> u64
     0
 }
 
-// The value of the argument whose root stands at x, its steps counted; 0, and nothing counted, where this does not apply.
+// A constant, a variable or a string, by the word of the code.
+fn leaf_argument(words: &[u64], w: u64) -> u64
+    requires { ⌜ fixedWords ≤ length (now words) ⌝ }
+    ensures { λ r. ⌜ r ≡ leafArgument (now (words .entry)) w ⌝ }
+{
+    let v = leaf_word(words, w);
+    if v == 0 {
+        return other_word(words, w);
+    }
+    v
+}
+
+// The value of the argument whose root stands at x, its steps counted, one for a leaf; 0, and nothing counted, where this does not apply.
 pub fn argument_value(
     words: &mut [u64],
     code: &[u64],
@@ -233,11 +245,11 @@ pub fn argument_value(
         return 0;
     }
     let w = stores::words::word_at(code, x);
-    let v = other_word(words, w);
-    if v == 0 {
-        let r = fast_value(words, code, grants, depth, x);
+    if code::tag_of(w) < tags::FIRST_OPERATOR {
+        let v = leaf_argument(words, w);
+        let r = counted(words, grants, v, 1);
         return r;
     }
-    let r = counted(words, grants, v, code::size_of(w));
+    let r = fast_value(words, code, grants, depth, x);
     r
 }

@@ -51,7 +51,12 @@ module _ (op : ℤ → ℤ → ℤ) (f : Figure) {n : ℤ} (j : SFits w32 n) {r 
       → r ≡ scaled (λ z. op z n) f
   unfolding scaled renumbered
   scales t p h q i s k u l =
-      t ∙ rw (back-by {x = f .a} op (record { sfits = ka }) j h p, back-by {x = f .b} op (record { sfits = kb }) j i q, back-by {x = f .c} op (record { sfits = kc }) j k s, back-by {x = f .d} op (record { sfits = kd }) j l u)
+      t ∙ rw (
+        back-by {x = f .a} op (record { sfits = ka }) j h p,
+        back-by {x = f .b} op (record { sfits = kb }) j i q,
+        back-by {x = f .c} op (record { sfits = kc }) j k s,
+        back-by {x = f .d} op (record { sfits = kd }) j l u,
+      )
 
 module _ (f : Figure) {n : ℤ} (j : SFits w32 n) {r : Figure} (ka : mag (f .a) < 2 ^ 31) (kb : mag (f .b) < 2 ^ 31) (kc : mag (f .c) < 2 ^ 31) (kd : mag (f .d) < 2 ^ 31) where
   pub plus-y-is : {y w : ℤ} → r ≡ placed f (held (f .a)) (held y) (held (f .c)) (held w) → y ≡ sum (held (f .b)) (held n) → mag y < 2 ^ 31

@@ -11,13 +11,16 @@ use mir.Val.{SFits}
 use Rattle.meaning.specs.Basics.{bytes}
 use Rattle.meaning.specs.Byte.{isNamePart}
 use Rattle.meaning.specs.Token.{Token, aName, aString}
-use Rattle.meaning.specs.Tree.{Operator, concatenate, add, subtract, multiply, divide, remainder, shiftRight, shiftLeft, equal, unequal, greater, less, Expression, number, string, nothing, truth, name, table, entry, operation, call, paren, Arguments, noArgument, argument, Statement, declare, assign, update, when, while, foreach, return, block, act, Statements, only, first, Procedure, Program}
+use Rattle.meaning.specs.Tree.{Operator, concatenate, add, subtract, multiply, divide, remainder, shiftRight, shiftLeft, equal, unequal, greater, less}
+use Rattle.meaning.specs.Tree.{Expression, number, string, nothing, truth, name, table, entry, operation, call, paren, Arguments, noArgument, argument, Statement}
+use Rattle.meaning.specs.Tree.{declare, assign, update, when, while, foreach, return, block, act, Statements, only, first, Procedure, Program}
 use Rattle.meaning.specs.Grammar.{textAt}
 use Rattle.meaning.specs.Integer.{wrap, bits}
 use Rattle.meaning.specs.Picture.{decimal}
 use Rattle.meaning.proofs.IntegerLaws.{wrap-range}
 use Rattle.writing.proofs.Decimals.{decimal-short}
-use Rattle.canonical.specs.Text.{commaSeparated, operatorText, isOperation, isEntry, enclosedIf, expressionText, argumentTexts, apart, between, statementText, statementsText, procedureText, proceduresText, programText}
+use Rattle.canonical.specs.Text.{commaSeparated, operatorText, isOperation, isEntry, enclosedIf, expressionText, argumentTexts, apart}
+use Rattle.canonical.specs.Text.{between, statementText, statementsText, procedureText, proceduresText, programText}
 use Rattle.code.specs.Code.{codeOf, codeOfAll, codeOfStatement, codeOfStatements, slotOf, codeOfProcedure, codeOfProcedures}
 use Rattle.reader.proofs.Homes.{Occurs}
 use Rattle.reader.proofs.Known.{Known, KnownAll, KnownStatement, KnownStatements, KnownNames}

@@ -45,9 +45,11 @@ module _ (program code g : List ℕ) (fuel callee p base : ℕ) (ts ws : List �
   unfolding goOn shown
   begin-stops m q f = sym (asked ∙ rw f)
 
-  module _ (v : Value) (f : b ≡ Good v) (i e k m a size : ℕ) (ei : i ≡ tablePlace callee) (ed : e ≡ getD code i 0) (ek : k ≡ startIn e) (em : m ≡ parametersIn e) (ea : a ≡ k + m) (es : size ≡ bodyIn e)
+  module _ (v : Value) (f : b ≡ Good v) (i e k m a size : ℕ) (ei : i ≡ tablePlace callee) (ed : e ≡ getD code i 0) (ek : k ≡ startIn e) (em : m ≡ parametersIn e) (ea : a ≡ k + m) (es : size
+      ≡ bodyIn e)
       (o : Answer) (ts₂ ws₂ : List ℕ) (c : Ended o ts₂ ws₂ (statementsFrom (size + 1) (statementAt fuel (setting program code g)) (setting program code g) a (a + size) (raw ts ws₁))) where
-    after : (flow : Flow) → goOn (shownFlow flow ts₂ ws₂) (λ f. resume top n caller unit base >>= λ _. resultOf f) ≡ goOn (shown (answerOf flow) ts₂ ws₂) (λ u. resume top n caller unit base >>= λ _. give u)
+    after : (flow : Flow) → goOn (shownFlow flow ts₂ ws₂) (λ f. resume top n caller unit base >>= λ _. resultOf f)
+        ≡ goOn (shown (answerOf flow) ts₂ ws₂) (λ u. resume top n caller unit base >>= λ _. give u)
     unfolding goOn shown shownFlow answerOf _>>=_ resultOf
     after Onward = refl
     after (Returned u) = refl
@@ -61,6 +63,7 @@ module _ (program code g : List ℕ) (fuel callee p base : ℕ) (ts ws : List �
     unfolding goOn shown
     body-stops z q j = sym (ran ∙ rw j)
 
-    pub gives-value : (ws₃ : List ℕ) (u : Value) → Gives ws₂ (resume top n caller unit base) tt ws₃ → o ≡ Good u → shown (Good u) ts₂ ws₃ ≡ invokeAt fuel (setting program code g) callee p base (raw ts ws)
+    pub gives-value : (ws₃ : List ℕ) (u : Value) → Gives ws₂ (resume top n caller unit base) tt ws₃ → o ≡ Good u
+        → shown (Good u) ts₂ ws₃ ≡ invokeAt fuel (setting program code g) callee p base (raw ts ws)
     unfolding goOn shown _>>=_ give
     gives-value ws₃ u r j = sym (ran ∙ rw (j, ← r .equal ts₂))

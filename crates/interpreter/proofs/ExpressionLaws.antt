@@ -123,7 +123,8 @@ pub record Pushing (program code g : List ℕ) (fuel : ℕ) (ts₀ ws₀ : List 
   pub enough : x < y + rounds
   pub within : y ≤ x
   pub rest : callAt (expressionAt fuel (setting program code g)) (invokeAt fuel (setting program code g)) (setting program code g) w x p (raw ts₀ ws₀)
-      ≡ goOn (argumentsFrom rounds (expressionAt fuel (setting program code g)) (setting program code g) y x p (raw ts ws)) (λ _. invoked (invokeAt fuel (setting program code g)) (setting program code g) w p base)
+      ≡ goOn (argumentsFrom rounds (expressionAt fuel (setting program code g)) (setting program code g) y x p (raw ts ws))
+      (λ _. invoked (invokeAt fuel (setting program code g)) (setting program code g) w p base)
 
 root-within : (w a x : ℕ) → argumentRoot w a x ≤ x
 unfolding argumentRoot if_then_else_
@@ -185,7 +186,8 @@ module _ (program code g : List ℕ) (fuel : ℕ) (ts₀ ws₀ : List ℕ) (w x 
           let k : suc rounds - 1 ≡ rounds = omega arith in
           rw (lt-ltb y x l, c, k)
 
-      pub push-fails : (n q : ℕ) → r ≡ Bad n q → shown (Bad n q) ts₁ ws₁ ≡ callAt (expressionAt fuel (setting program code g)) (invokeAt fuel (setting program code g)) (setting program code g) w x p (raw ts₀ ws₀)
+      pub push-fails : (n q : ℕ) → r ≡ Bad n q → shown (Bad n q) ts₁ ws₁
+          ≡ callAt (expressionAt fuel (setting program code g)) (invokeAt fuel (setting program code g)) (setting program code g) w x p (raw ts₀ ws₀)
       unfolding goOn shown
       push-fails n q f = sym (h .rest ∙ rw (again (h .rounds) (h .enough), f))
 

@@ -14,7 +14,8 @@ use borrow.Author.Tests.{eqb-true, eqb-false, ltb-true, ltb-false, leb-true, le-
 use Rattle.meaning.specs.Basics.{if_then_else_}
 use Rattle.meaning.specs.Integer.{sum, difference, product, quotient, remainder, shiftedLeft, shiftedRight, isZero, sameInteger}
 use Rattle.arithmetic.proofs.Ranges.{bits-signed, signed-small, sum-small, difference-small, product-small, quotient-small, remainder-small, shifted-left-small, shifted-right-small}
-use Rattle.machine.specs.Opcodes.{tagIn, sizeIn, sizeAt, numberIn, tagNumber, tagString, tagName, tagTable, tagEntry, tagCall, firstOperator, headNumber, headString, headName, tagAdd, tagSubtract, tagMultiply, tagDivide, tagRemainder, tagShiftRight, tagShiftLeft, tagEqual, tagUnequal, tagGreater, tagLess}
+use Rattle.machine.specs.Opcodes.{tagIn, sizeIn, sizeAt, numberIn, tagNumber, tagString, tagName, tagTable, tagEntry, tagCall, firstOperator, headNumber, headString, headName}
+use Rattle.machine.specs.Opcodes.{tagAdd, tagSubtract, tagMultiply, tagDivide, tagRemainder, tagShiftRight, tagShiftLeft, tagEqual, tagUnequal, tagGreater, tagLess}
 use Rattle.machine.specs.declared.Value.{Value}
 use Rattle.machine.specs.declared.Value.the-variants.{Integer, Text, Boolean, Shape}
 use Rattle.machine.specs.declared.Answer.{Answer}
@@ -345,11 +346,13 @@ module _ (program code g ts rest : List ℕ) (u p : ℕ) where
   runs : (fuel x v : ℕ) → fastAt fuel code (u ∷ rest) x ≡ v → (v ≡ 0 → ⊥) → Found fuel x v
   unfolding fastAt operationWord if_then_else_
   runs zero x v h n = absurd (n (sym h))
-  runs (suc fuel) x v h n = go (λ y a q m. runs fuel y a q m) (ltb (tagIn (getD code x 0)) firstOperator) (sizesAgree (getD code x 0) (getD code (x - 1 - numberIn (getD code x 0)) 0) (getD code (x - 1) 0)) refl refl h
+  runs (suc fuel) x v h n = go (λ y a q m. runs fuel y a q m) (ltb (tagIn (getD code x 0)) firstOperator)
+      (sizesAgree (getD code x 0) (getD code (x - 1 - numberIn (getD code x 0)) 0) (getD code (x - 1) 0)) refl refl h
     where
       go : ((y a : ℕ) → fastAt fuel code (u ∷ rest) y ≡ a → (a ≡ 0 → ⊥) → Found fuel y a) → (i j : Bool) → ltb (tagIn (getD code x 0)) firstOperator ≡ i
           → sizesAgree (getD code x 0) (getD code (x - 1 - numberIn (getD code x 0)) 0) (getD code (x - 1) 0) ≡ j
-          → (if i then (λ _. leafWord (u ∷ rest) (getD code x 0)) else λ _. if j then (λ _. wordOn (tagIn (getD code x 0)) (fastAt fuel code (u ∷ rest) (x - 1 - numberIn (getD code x 0))) (fastAt fuel code (u ∷ rest) (x - 1))) else λ _. 0) ≡ v
+          → (if i then (λ _. leafWord (u ∷ rest) (getD code x 0)) else λ _. if j then
+          (λ _. wordOn (tagIn (getD code x 0)) (fastAt fuel code (u ∷ rest) (x - 1 - numberIn (getD code x 0))) (fastAt fuel code (u ∷ rest) (x - 1))) else λ _. 0) ≡ v
           → Found (suc fuel) x v
       go inner true j q s f =
           let c = leaf-found (getD code x 0) v f n in
@@ -398,7 +401,8 @@ module _ (program code g ts rest : List ℕ) (u p : ℕ) where
   other-found w v r n = go (eqb (w % 2 ^ 32) headString) (eqb (w % 2 ^ 32) headName) (ltb (numberIn w) (2 ^ 32)) refl refl refl r
     where
       go : (i j k : Bool) → eqb (w % 2 ^ 32) headString ≡ i → eqb (w % 2 ^ 32) headName ≡ j → ltb (numberIn w) (2 ^ 32) ≡ k
-          → (if i then (λ _. if k then (λ _. packed (Text (2 * numberIn w))) else λ _. 0) else λ _. if j then (λ _. livingWord (u ∷ rest) (getD (u ∷ rest) (valuePlace (numberIn w)) 0)) else λ _. 0) ≡ v
+          → (if i then (λ _. if k then (λ _. packed (Text (2 * numberIn w))) else λ _. 0) else λ _. if j then (λ _. livingWord (u ∷ rest) (getD (u ∷ rest) (valuePlace (numberIn w)) 0)) else
+          λ _. 0) ≡ v
           → Other w v
       go true j true q s l m = string-leaf w v (eqb-true _ _ q) (ltb-true _ _ l) m
       go true j false q s l m = absurd (n (sym m))

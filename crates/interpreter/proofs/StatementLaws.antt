@@ -103,11 +103,13 @@ module _ (program code g : List ℕ) (p : ℕ) (ts ws : List ℕ) (fuel y i : �
   unfolding simpleAt _>>=_
   simple-done w x k v r s ws₂ e f m q b = (rw b at q .equal ts₁) ∙ sym (rw (← e) (goes-on _ there f ∙ rw m))
 
-  pub simple-stops : (w x n q : ℕ) → y ≡ x + sizeIn w - 1 → a ≡ Bad n q → shownFlow (Stopped n q) ts₁ ws₁ ≡ simpleAt (expressionAt fuel (setting program code g)) (setting program code g) w x p (raw ts ws)
+  pub simple-stops : (w x n q : ℕ) → y ≡ x + sizeIn w - 1 → a ≡ Bad n q
+      → shownFlow (Stopped n q) ts₁ ws₁ ≡ simpleAt (expressionAt fuel (setting program code g)) (setting program code g) w x p (raw ts ws)
   unfolding simpleAt _>>=_ shownFlow
   simple-stops w x n q e f = sym (rw (← e) (stops _ there f))
 
-  pub test-says : (k : ℕ) (v : Value) (t : Outcome) → a ≡ Good v → k ≡ packed v → t ≡ outcomeIn k p → shownTest t ts₁ ws₁ ≡ testOf (expressionAt fuel (setting program code g)) (setting program code g) y p (raw ts ws)
+  pub test-says : (k : ℕ) (v : Value) (t : Outcome) → a ≡ Good v → k ≡ packed v → t ≡ outcomeIn k p
+      → shownTest t ts₁ ws₁ ≡ testOf (expressionAt fuel (setting program code g)) (setting program code g) y p (raw ts ws)
   unfolding testOf saying _>>=_
   test-says k v t f m q = sym (goes-on _ there f ∙ rw (← m, q))
 
@@ -138,12 +140,14 @@ module _ (program code g : List ℕ) (p : ℕ) (ts ws : List ℕ) (fuel y wy b w
   unfolding updateAt _>>=_ shownFlow
   table-stops n q f = sym (rw (← key-is, ← table-is) (stops _ h₁ f))
 
-  pub table-other : (v : Value) → r₁ ≡ Good v → OneOf (0 ∷ 1 ∷ 2 ∷ 3 ∷ 5 ∷ []) (tagOf value.the-type v) → shownFlow (Stopped 20 p) ts₁ ws₁ ≡ updateAt (expressionAt fuel (setting program code g)) (setting program code g) y p (raw ts ws)
+  pub table-other : (v : Value) → r₁ ≡ Good v → OneOf (0 ∷ 1 ∷ 2 ∷ 3 ∷ 5 ∷ []) (tagOf value.the-type v)
+      → shownFlow (Stopped 20 p) ts₁ ws₁ ≡ updateAt (expressionAt fuel (setting program code g)) (setting program code g) y p (raw ts ws)
   unfolding updateAt _>>=_ shownFlow
   table-other v f o = sym (rw (← key-is, ← table-is) (goes-on _ h₁ f ∙ not-table p (raw ts₁ ws₁) v _ o))
 
   module _ (v₁ : Value) (t : ℕ) (f₁ : r₁ ≡ Good v₁) (e₁ : v₁ ≡ Table t) (r₂ : Answer) (ts₂ ws₂ : List ℕ) (h₂ : shown r₂ ts₂ ws₂ ≡ expressionAt fuel (setting program code g) b p (raw ts₁ ws₁)) where
-    with-table : updateAt (expressionAt fuel (setting program code g)) (setting program code g) y p (raw ts ws) ≡ goOn (expressionAt fuel (setting program code g) b p (raw ts₁ ws₁)) (λ k. updateValue (expressionAt fuel (setting program code g)) (setting program code g) t (packed k) y p)
+    with-table : updateAt (expressionAt fuel (setting program code g)) (setting program code g) y p (raw ts ws)
+        ≡ goOn (expressionAt fuel (setting program code g) b p (raw ts₁ ws₁)) (λ k. updateValue (expressionAt fuel (setting program code g)) (setting program code g) t (packed k) y p)
     unfolding updateAt updateIn _>>=_ withTable
     with-table = rw (← key-is, ← table-is) (goes-on _ h₁ f₁ ∙ rw e₁)
 
@@ -151,7 +155,8 @@ module _ (program code g : List ℕ) (p : ℕ) (ts ws : List ℕ) (fuel y wy b w
     unfolding shownFlow
     key-stops n q f = sym (with-table ∙ stops _ h₂ f)
 
-    module _ (v₂ : Value) (key : ℕ) (f₂ : r₂ ≡ Good v₂) (e₂ : key ≡ packed v₂) (r₃ : Answer) (ts₃ ws₃ : List ℕ) (h₃ : shown r₃ ts₃ ws₃ ≡ expressionAt fuel (setting program code g) y p (raw ts₂ ws₂)) where
+    module _ (v₂ : Value) (key : ℕ) (f₂ : r₂ ≡ Good v₂) (e₂ : key ≡ packed v₂) (r₃ : Answer) (ts₃ ws₃ : List ℕ) (h₃ : shown r₃ ts₃ ws₃
+        ≡ expressionAt fuel (setting program code g) y p (raw ts₂ ws₂)) where
       with-key : updateAt (expressionAt fuel (setting program code g)) (setting program code g) y p (raw ts ws)
           ≡ goOn (expressionAt fuel (setting program code g) y p (raw ts₂ ws₂)) (λ u. storeEntry program g t key (packed u) p >>= λ _. give Onward)
       unfolding updateValue _>>=_
@@ -180,11 +185,13 @@ module _ (program code g : List ℕ) (x : ℕ) (ts ws : List ℕ) (fuel : ℕ) w
     deeper : fuel ≡ suc (fuel - 1)
     deeper = omega (arith, n)
 
-    begun : statementAt fuel (setting program code g) x (raw ts ws) ≡ statementBy (expressionAt (fuel - 1) (setting program code g)) (statementAt (fuel - 1) (setting program code g)) (setting program code g) w x p (raw ts ws)
+    begun : statementAt fuel (setting program code g) x (raw ts ws) ≡ statementBy (expressionAt (fuel - 1) (setting program code g)) (statementAt (fuel - 1) (setting program code g))
+        (setting program code g) w x p (raw ts ws)
     unfolding statementAt
     begun = rw deeper (rw (← deeper, ← f, ← j))
 
-    pub is-loop : (k : ℕ) (o : Out Flow) → tag ≡ tagWhile → k ≡ extraIn w → o ≡ repeatAt (expressionAt (fuel - 1) (setting program code g)) (statementAt (fuel - 1) (setting program code g)) (setting program code g) (x + k) p (raw ts ws)
+    pub is-loop : (k : ℕ) (o : Out Flow) → tag ≡ tagWhile → k ≡ extraIn w
+        → o ≡ repeatAt (expressionAt (fuel - 1) (setting program code g)) (statementAt (fuel - 1) (setting program code g)) (setting program code g) (x + k) p (raw ts ws)
         → o ≡ statementAt fuel (setting program code g) x (raw ts ws)
     unfolding statementBy if_then_else_
     is-loop k o t e h = h ∙ sym (begun ∙ rw (← i, t, e))
@@ -195,7 +202,8 @@ module _ (program code g : List ℕ) (x : ℕ) (ts ws : List ℕ) (fuel : ℕ) w
       statement-no-step t = sym (begun ∙ rw (← i, ne-eqb _ _ m) (after-refusal _ p ts (rw (not-true ok t) at c)))
 
       module _ (t : not ok ≡ false) where
-        stepped : statementAt fuel (setting program code g) x (raw ts ws) ≡ countedAt (expressionAt (fuel - 1) (setting program code g)) (statementAt (fuel - 1) (setting program code g)) (setting program code g) w x p (raw ts ws₁)
+        stepped : statementAt fuel (setting program code g) x (raw ts ws)
+            ≡ countedAt (expressionAt (fuel - 1) (setting program code g)) (statementAt (fuel - 1) (setting program code g)) (setting program code g) w x p (raw ts ws₁)
         unfolding statementBy if_then_else_ _>>=_
         stepped = begun ∙ rw (← i, ne-eqb _ _ m) (after-pass _ p ts (rw (not-false ok t) at c))
 
@@ -209,7 +217,8 @@ module _ (program code g : List ℕ) (x : ℕ) (ts ws : List ℕ) (fuel : ℕ) w
         unfolding countedAt if_then_else_
         is-update y o q e h = h ∙ sym (stepped ∙ rw (← i, q, e))
 
-        pub is-when : (k : ℕ) (o : Out Flow) → tag ≡ tagWhen → k ≡ extraIn w → o ≡ whenAt (expressionAt (fuel - 1) (setting program code g)) (statementAt (fuel - 1) (setting program code g)) (setting program code g) (x + k) p (raw ts ws₁)
+        pub is-when : (k : ℕ) (o : Out Flow) → tag ≡ tagWhen → k ≡ extraIn w
+            → o ≡ whenAt (expressionAt (fuel - 1) (setting program code g)) (statementAt (fuel - 1) (setting program code g)) (setting program code g) (x + k) p (raw ts ws₁)
             → o ≡ statementAt fuel (setting program code g) x (raw ts ws)
         unfolding countedAt if_then_else_
         is-when k o q e h = h ∙ sym (stepped ∙ rw (← i, q, e))
@@ -246,7 +255,8 @@ module _ (program code g : List ℕ) (x : ℕ) (ts ws : List ℕ) (fuel w : ℕ)
     leave-no-step t = statement-no-step program code g x ts ws fuel n w (s .word) p j (tagIn w) refl (no-other tagWhile (λ e. omega (arith, e))) ok ws₁ c t
 
     module _ (t : not ok ≡ false) (y k : ℕ) (e : y ≡ x + sizeIn w - 1) (ws₂ : List ℕ) (h : Fast (fuel - 1) code g ws₁ y k ws₂) where
-      simply : (o : Out Flow) → o ≡ simpleAt (expressionAt (fuel - 1) (setting program code g)) (setting program code g) w x p (raw ts ws₁) → o ≡ statementAt fuel (setting program code g) x (raw ts ws)
+      simply : (o : Out Flow) → o ≡ simpleAt (expressionAt (fuel - 1) (setting program code g)) (setting program code g) w x p (raw ts ws₁)
+          → o ≡ statementAt fuel (setting program code g) x (raw ts ws)
       simply o q = is-simple program code g x ts ws fuel n w (s .word) p j (tagIn w) refl (no-other tagWhile (λ e. omega (arith, e))) ok ws₁ c t o (no-other tagDeclare (λ e. omega (arith, e)))
           (no-other tagUpdate (λ e. omega (arith, e))) (no-other tagWhen (λ e. omega (arith, e))) (no-other tagForeach (λ e. omega (arith, e))) (no-other tagBlock (λ e. omega (arith, e))) q
 
@@ -304,7 +314,9 @@ module _ (program code g : List ℕ) (fuel : ℕ) (ts₀ ws₀ : List ℕ) (y p 
 
     module _ (m : 0 < turns) (ok : Bool) (wsₛ : List ℕ) (c : Passes ws 79 (count g) ok wsₛ) where
       turn-by : whole ≡ goOn (turning (expressionAt fuel (setting program code g)) (setting program code g) y p (raw ts ws))
-          (λ b. if b then (λ _. statementAt fuel (setting program code g) (y + 1) >>= λ f. continue f (looping (turns - 1) (expressionAt fuel (setting program code g)) (setting program code g) y p (statementAt fuel (setting program code g) (y + 1)))) else λ _. give Onward)
+          (λ b. if b then (λ _. statementAt fuel (setting program code g) (y + 1)
+          >>= λ f. continue f (looping (turns - 1) (expressionAt fuel (setting program code g)) (setting program code g) y p (statementAt fuel (setting program code g) (y + 1)))) else
+          λ _. give Onward)
       unfolding looping _>>=_
       turn-by =
           let d : turns ≡ suc (turns - 1) = omega arith in
@@ -410,7 +422,8 @@ module _ (program code g : List ℕ) (fuel : ℕ) (ts₀ ws₀ : List ℕ) (a en
   leaves-here w tag b f i t = record { runs = runs-before program code g fuel ts₀ ws₀ a end rounds ts ws at left l b; word = f; tagged = sym i ∙ t }
 
   module _ (m : 0 < left) (b : at < end) where
-    pub ends-left : (r : Answer) (ts₁ ws₁ : List ℕ) → shownFlow (given r) ts₁ ws₁ ≡ statementAt fuel (setting program code g) at (raw ts ws) → Ended r ts₁ ws₁ (all program code g fuel ts₀ ws₀ a end rounds)
+    pub ends-left : (r : Answer) (ts₁ ws₁ : List ℕ) → shownFlow (given r) ts₁ ws₁ ≡ statementAt fuel (setting program code g) at (raw ts ws)
+        → Ended r ts₁ ws₁ (all program code g fuel ts₀ ws₀ a end rounds)
     unfolding given answerOf
     ends-left (Good v) ts₁ ws₁ q =
         record { flow = Returned v; shows = all-returns program code g fuel ts₀ ws₀ a end rounds ts ws at left l m b (Returned v) ts₁ ws₁ q v refl; answers = refl }

@@ -1,3 +1,4 @@
 pub mod Asked
+pub mod Cycle
 pub mod Ended
 pub mod Members

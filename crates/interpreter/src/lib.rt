@@ -10,11 +10,11 @@ ghost use Prim.Native.Nat.{_+_};
 ghost use mathlib.Core.Path.{_≡_};
 ghost use Rattle.machine.specs.Act.{raw, shown};
 ghost use Rattle.machine.specs.Effects.{shownFlow, shownTest};
-ghost use Rattle.machine.specs.Evaluate.{setting, argumentOf, callAt, operandsAt};
-ghost use Rattle.machine.specs.Execute.{simpleAt, updateAt, testOf, whenAt, repeatAt, foreachAt, statementsFrom};
+ghost use Rattle.machine.specs.Evaluate.{setting};
 ghost use Rattle.machine.specs.Loops.{turn, loopOver};
 ghost use Rattle.machine.specs.Interpret.{expressionAt, statementAt, bodyAt, invokeAt};
 ghost use Rattle.interpreter.specs.Asked.{Lent, Calls, Runs, Leaves, Body};
+ghost use Rattle.interpreter.specs.Cycle.{operandsIn, callIn, argumentIn, simpleIn, updateIn, testIn, whenIn, repeatIn, foreachIn, statementsIn};
 ghost use Rattle.interpreter.specs.Ended.{given, Ended};
 ghost use Rattle.interpreter.specs.Members.{memberAt, insideAt};
 
@@ -72,7 +72,7 @@ fn operands(
 ) -> Answer
     requires { ⌜ Lent (now grants) (now texts) (now words) fuel ⌝ }
     ensures { λ r. ⌜ shown r (now (texts .exit)) (now (words .exit))
-        ≡ operandsAt (expressionAt fuel (setting (now (program .entry)) (now (code .entry)) (now (grants .entry)))) (setting (now (program .entry)) (now (code .entry)) (now (grants .entry))) w x p (raw (now (texts .entry)) (now (words .entry))) ⌝ }
+        ≡ operandsIn fuel (setting (now (program .entry)) (now (code .entry)) (now (grants .entry))) w x p (raw (now (texts .entry)) (now (words .entry))) ⌝ }
 {
     match expression(
         program,
@@ -138,7 +138,7 @@ fn call(
 ) -> Answer
     requires { ⌜ Lent (now grants) (now texts) (now words) fuel ⌝ }
     ensures { λ r. ⌜ shown r (now (texts .exit)) (now (words .exit))
-        ≡ callAt (expressionAt fuel (setting (now (program .entry)) (now (code .entry)) (now (grants .entry)))) (invokeAt fuel (setting (now (program .entry)) (now (code .entry)) (now (grants .entry)))) (setting (now (program .entry)) (now (code .entry)) (now (grants .entry))) w x p (raw (now (texts .entry)) (now (words .entry))) ⌝ }
+        ≡ callIn fuel (setting (now (program .entry)) (now (code .entry)) (now (grants .entry))) w x p (raw (now (texts .entry)) (now (words .entry))) ⌝ }
 {
     let base = stores::arguments::arguments_held(words);
     let a = code::first_argument(w, x);
@@ -182,7 +182,7 @@ fn argument(
 ) -> Answer
     requires { ⌜ Lent (now grants) (now texts) (now words) fuel ⌝ }
     ensures { λ r. ⌜ shown r (now (texts .exit)) (now (words .exit))
-        ≡ argumentOf (expressionAt fuel (setting (now (program .entry)) (now (code .entry)) (now (grants .entry)))) y p (raw (now (texts .entry)) (now (words .entry))) ⌝ }
+        ≡ argumentIn fuel (setting (now (program .entry)) (now (code .entry)) (now (grants .entry))) y p (raw (now (texts .entry)) (now (words .entry))) ⌝ }
 {
     let w = fastpath::argument_value(words, code, grants, fuel, y);
     if w != 0 {
@@ -206,7 +206,7 @@ fn pushed(
 ) -> Answer
     requires { ⌜ Lent (now grants) (now texts) (now words) fuel ⌝ }
     ensures { λ r. ⌜ shown r (now (texts .exit)) (now (words .exit))
-        ≡ argumentOf (expressionAt fuel (setting (now (program .entry)) (now (code .entry)) (now (grants .entry)))) y p (raw (now (texts .entry)) (now (words .entry))) ⌝ }
+        ≡ argumentIn fuel (setting (now (program .entry)) (now (code .entry)) (now (grants .entry))) y p (raw (now (texts .entry)) (now (words .entry))) ⌝ }
 {
     match expression(program, code, grants, texts, words, fuel, y, p) {
         Answer::Good(v) => {
@@ -277,7 +277,7 @@ fn procedure(
 ) -> Answer
     requires { ⌜ Runs (now grants) (now texts) (now words) fuel end ⌝ }
     ensures { λ r. ⌜ Ended r (now (texts .exit)) (now (words .exit))
-        (statementsFrom rounds (statementAt fuel (setting (now (program .entry)) (now (code .entry)) (now (grants .entry)))) (setting (now (program .entry)) (now (code .entry)) (now (grants .entry))) a end (raw (now (texts .entry)) (now (words .entry)))) ⌝ }
+        (statementsIn fuel (setting (now (program .entry)) (now (code .entry)) (now (grants .entry))) rounds a end (raw (now (texts .entry)) (now (words .entry)))) ⌝ }
 {
     let mut at = a;
     let mut left = rounds;
@@ -313,7 +313,8 @@ fn leave(
     x: usize,
 ) -> Answer
     requires { ⌜ Leaves (now code) (now grants) (now texts) (now words) fuel w x ⌝ }
-    ensures { λ r. ⌜ shownFlow (given r) (now (texts .exit)) (now (words .exit)) ≡ statementAt fuel (setting (now (program .entry)) (now (code .entry)) (now (grants .entry))) x (raw (now (texts .entry)) (now (words .entry))) ⌝ }
+    ensures { λ r. ⌜ shownFlow (given r) (now (texts .exit)) (now (words .exit))
+        ≡ statementAt fuel (setting (now (program .entry)) (now (code .entry)) (now (grants .entry))) x (raw (now (texts .entry)) (now (words .entry))) ⌝ }
 {
     if fuel == 0 {
         return Answer::Bad(20, 0);
@@ -348,7 +349,7 @@ fn simple(
 ) -> Flow
     requires { ⌜ Runs (now grants) (now texts) (now words) fuel x ⌝ }
     ensures { λ r. ⌜ shownFlow r (now (texts .exit)) (now (words .exit))
-        ≡ simpleAt (expressionAt fuel (setting (now (program .entry)) (now (code .entry)) (now (grants .entry)))) (setting (now (program .entry)) (now (code .entry)) (now (grants .entry))) w x p (raw (now (texts .entry)) (now (words .entry))) ⌝ }
+        ≡ simpleIn fuel (setting (now (program .entry)) (now (code .entry)) (now (grants .entry))) w x p (raw (now (texts .entry)) (now (words .entry))) ⌝ }
 {
     let y = code::last_of(w, x);
     let k = fastpath::fast_value(words, code, grants, fuel, y);
@@ -382,7 +383,7 @@ fn update(
 ) -> Flow
     requires { ⌜ Lent (now grants) (now texts) (now words) fuel ⌝ }
     ensures { λ r. ⌜ shownFlow r (now (texts .exit)) (now (words .exit))
-        ≡ updateAt (expressionAt fuel (setting (now (program .entry)) (now (code .entry)) (now (grants .entry)))) (setting (now (program .entry)) (now (code .entry)) (now (grants .entry))) y p (raw (now (texts .entry)) (now (words .entry))) ⌝ }
+        ≡ updateIn fuel (setting (now (program .entry)) (now (code .entry)) (now (grants .entry))) y p (raw (now (texts .entry)) (now (words .entry))) ⌝ }
 {
     let b = code::before(stores::words::word_at(code, y), y);
     let a = code::before(stores::words::word_at(code, b), b);
@@ -431,7 +432,7 @@ fn test(
 ) -> Outcome
     requires { ⌜ Lent (now grants) (now texts) (now words) fuel ⌝ }
     ensures { λ r. ⌜ shownTest r (now (texts .exit)) (now (words .exit))
-        ≡ testOf (expressionAt fuel (setting (now (program .entry)) (now (code .entry)) (now (grants .entry)))) (setting (now (program .entry)) (now (code .entry)) (now (grants .entry))) y p (raw (now (texts .entry)) (now (words .entry))) ⌝ }
+        ≡ testIn fuel (setting (now (program .entry)) (now (code .entry)) (now (grants .entry))) y p (raw (now (texts .entry)) (now (words .entry))) ⌝ }
 {
     let code = &code[0..];
     let k = fastpath::fast_value(words, code, grants, fuel, y);
@@ -561,7 +562,7 @@ fn when(
 ) -> Flow
     requires { ⌜ Runs (now grants) (now texts) (now words) fuel (y + 1) ⌝ }
     ensures { λ r. ⌜ shownFlow r (now (texts .exit)) (now (words .exit))
-        ≡ whenAt (expressionAt fuel (setting (now (program .entry)) (now (code .entry)) (now (grants .entry)))) (statementAt fuel (setting (now (program .entry)) (now (code .entry)) (now (grants .entry)))) (setting (now (program .entry)) (now (code .entry)) (now (grants .entry))) y p (raw (now (texts .entry)) (now (words .entry))) ⌝ }
+        ≡ whenIn fuel (setting (now (program .entry)) (now (code .entry)) (now (grants .entry))) y p (raw (now (texts .entry)) (now (words .entry))) ⌝ }
 {
     match test(program, code, grants, texts, words, fuel, y, p) {
         Outcome::Yes => match statement(program, code, grants, texts, words, fuel, y + 1) {
@@ -587,7 +588,7 @@ fn repeat(
 ) -> Flow
     requires { ⌜ Runs (now grants) (now texts) (now words) fuel (y + 1) ⌝ }
     ensures { λ r. ⌜ shownFlow r (now (texts .exit)) (now (words .exit))
-        ≡ repeatAt (expressionAt fuel (setting (now (program .entry)) (now (code .entry)) (now (grants .entry)))) (statementAt fuel (setting (now (program .entry)) (now (code .entry)) (now (grants .entry)))) (setting (now (program .entry)) (now (code .entry)) (now (grants .entry))) y p (raw (now (texts .entry)) (now (words .entry))) ⌝ }
+        ≡ repeatIn fuel (setting (now (program .entry)) (now (code .entry)) (now (grants .entry))) y p (raw (now (texts .entry)) (now (words .entry))) ⌝ }
 {
     let mut turns = grants[granted::STEPS] + 1;
     while 0 < turns {
@@ -623,7 +624,7 @@ fn statements(
 ) -> Flow
     requires { ⌜ Runs (now grants) (now texts) (now words) fuel end ⌝ }
     ensures { λ r. ⌜ shownFlow r (now (texts .exit)) (now (words .exit))
-        ≡ statementsFrom rounds (statementAt fuel (setting (now (program .entry)) (now (code .entry)) (now (grants .entry)))) (setting (now (program .entry)) (now (code .entry)) (now (grants .entry))) a end (raw (now (texts .entry)) (now (words .entry))) ⌝ }
+        ≡ statementsIn fuel (setting (now (program .entry)) (now (code .entry)) (now (grants .entry))) rounds a end (raw (now (texts .entry)) (now (words .entry))) ⌝ }
 {
     let mut at = a;
     let mut left = rounds;
@@ -657,7 +658,7 @@ fn each(
 ) -> Flow
     requires { ⌜ Runs (now grants) (now texts) (now words) fuel (y + 1) ⌝ }
     ensures { λ r. ⌜ shownFlow r (now (texts .exit)) (now (words .exit))
-        ≡ foreachAt (expressionAt fuel (setting (now (program .entry)) (now (code .entry)) (now (grants .entry)))) (statementAt fuel (setting (now (program .entry)) (now (code .entry)) (now (grants .entry)))) (setting (now (program .entry)) (now (code .entry)) (now (grants .entry))) slot y p (raw (now (texts .entry)) (now (words .entry))) ⌝ }
+        ≡ foreachIn fuel (setting (now (program .entry)) (now (code .entry)) (now (grants .entry))) slot y p (raw (now (texts .entry)) (now (words .entry))) ⌝ }
 {
     match expression(program, code, grants, texts, words, fuel, y, p) {
         Answer::Good(v) => match v {
@@ -759,7 +760,8 @@ fn inside(
 ) -> Flow
     requires { ⌜ Runs (now grants) (now texts) (now words) fuel b ⌝ }
     ensures { λ r. ⌜ shownFlow r (now (texts .exit)) (now (words .exit))
-        ≡ insideAt (statementAt fuel (setting (now (program .entry)) (now (code .entry)) (now (grants .entry))) b) (now (grants .entry)) p slot end c (raw (now (texts .entry)) (now (words .entry))) ⌝ }
+        ≡ insideAt (statementAt fuel (setting (now (program .entry)) (now (code .entry)) (now (grants .entry))) b) (now (grants .entry)) p slot end c
+        (raw (now (texts .entry)) (now (words .entry))) ⌝ }
 {
     let mut found = loops::looking::look_in(words, grants, c);
     let mut turns = grants[granted::STEPS] + 1;

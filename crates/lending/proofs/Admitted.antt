@@ -16,7 +16,7 @@ use Rattle.meaning.specs.Run.{Run}
 use Rattle.meaning.specs.Program.{Operation, Outcome, drawing, specified}
 use Rattle.meaning.specs.Book.{nothingYet, book, Answer, number, booked}
 use Rattle.meaning.specs.Call.{Call, inRange, needed, longEnough, admitted, granted, runOf, answer, workAfter, outAfterEnd, outAfter}
-use Rattle.machine.specs.Layout.{stepsGranted, shapesGranted, entriesGranted, textGranted, callsGranted, wordsNeeded}
+use Rattle.machine.specs.Layout.{stepsGranted, shapesGranted, entriesGranted, textGranted, callsGranted, fixedWords, wordsNeeded}
 use Rattle.lending.specs.Lending.{grantsOf, enoughToRead, enough, Ready, called, Performed}
 
 -- ---- conjunctions
@@ -114,7 +114,7 @@ module _ (g : List ℕ) (e : inRange (grantsOf g) ≡ true) where
   pub shapes-fit : Fits w64 (5 * shapesGranted g)
   shapes-fit = record { fits = omega (arith, in-ranges g e .shapes) }
 
-  pub shapes-end-fits : Fits w64 (278608 + 5 * shapesGranted g)
+  pub shapes-end-fits : Fits w64 (fixedWords + 5 * shapesGranted g)
   shapes-end-fits = record { fits = omega (arith, in-ranges g e .shapes) }
 
   pub rows-fit : Fits w64 (5 + callsGranted g)

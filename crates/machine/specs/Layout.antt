@@ -72,24 +72,36 @@ abbrev pub callsGranted : List ℕ → ℕ
 callsGranted g = getD g 4 0
 
 -- ---- regions
--- what stands before the shapes
-abbrev pub fixedWords : ℕ
-fixedWords = 278608
+-- the first word of each behind the counters, and how many words stand before the shapes
+abbrev pub firstFrame : ℕ
+firstFrame = 16
 
-abbrev pub framePlace : ℕ → ℕ
-framePlace d = 16 + d % 64
+abbrev pub firstValue : ℕ
+firstValue = 80
 
-abbrev pub valuePlace : ℕ → ℕ
-valuePlace slot = 80 + slot % 8192
+abbrev pub firstOrder : ℕ
+firstOrder = 8272
 
-abbrev pub orderPlace : ℕ → ℕ
-orderPlace k = 8272 + k % 8192
+abbrev pub firstArgument : ℕ
+firstArgument = 16464
 
 abbrev pub stackWords : ℕ
 stackWords = 262144
 
+abbrev pub fixedWords : ℕ
+fixedWords = 278608
+
+abbrev pub framePlace : ℕ → ℕ
+framePlace d = firstFrame + d % 64
+
+abbrev pub valuePlace : ℕ → ℕ
+valuePlace slot = firstValue + slot % 8192
+
+abbrev pub orderPlace : ℕ → ℕ
+orderPlace k = firstOrder + k % 8192
+
 abbrev pub argumentPlace : ℕ → ℕ
-argumentPlace k = 16464 + k % stackWords
+argumentPlace k = firstArgument + k % stackWords
 
 abbrev pub shapePlace : ℕ → ℕ
 shapePlace i = fixedWords + 5 * i

@@ -35,7 +35,8 @@ unfolding Basics.if_then_else_ Basics.sameText Basics.standsIn Basics.span Basic
     Figure.textOn Figure.figureKind Figure.numbersOf Figure.textOf Figure.sameFigure Value.kindOf State.valueIn State.isSome
     State.assigned State.withShape State.byContent State.componentsIn State.destroy State.living State.shapeIn State.shapesHeld State.shapesHeldBy State.fresh
     State.keyOf State.sameKey State.entryIn State.overwritten Run.goOn Run._>>=_ Run.give Run.fail Run.spend Run.giveBack
-    Run.refuse Run.current Run.become Group.spendEach Group.newShape Group.each Group.destroying Group.remade Group.figuresOf Group.pairwise Group.alike Operator.isDead Operator.usable Operator.withInteger Operator.withString
+    Run.refuse Run.current Run.become Group.spendEach Group.newShape Group.each Group.destroying Group.remade Group.figuresOf Group.pairwise Group.alike Operator.isDead Operator.usable
+    Operator.withInteger Operator.withString
     Operator.withBoolean Operator.withTable Operator.withShapeNumber Operator.withFigure Operator.withGroup
     Operator.newString Operator.calculated Operator.compared Operator.remaindered Operator.joined
     Operator.equality Operator.answered Operator.equated Operator.operateOn Operator.operate Library.libraryOf

@@ -8,8 +8,11 @@ use lib.ListN.{replicate}
 use lib.IntN.{pos}
 use Rattle.meaning.specs.Basics.{bytes}
 use Rattle.meaning.specs.Token.{Token, Lexed, lexed, stray, tokensOf}
-use Rattle.meaning.specs.Tree.{concatenate, add, subtract, multiply, divide, remainder, shiftRight, shiftLeft, equal, unequal, greater, less, Operator, Expression, number, string, nothing, truth, name, table, entry, operation, call, paren, noArgument, argument, Statement, declare, assign, update, when, while, foreach, return, block, act, only, first, Procedure}
-use Rattle.meaning.specs.Grammar.{kindAt, textAt, startAt, Got, good, wrong, argumentsFrom, expression, statementsFrom, statement, parametersFrom, proceduresFrom, Reading, wellFormed, malformed, reading}
+use Rattle.meaning.specs.Tree.{concatenate, add, subtract, multiply, divide, remainder, shiftRight, shiftLeft, equal, unequal, greater, less, Operator, Expression, number, string, nothing}
+use Rattle.meaning.specs.Tree.{truth, name, table, entry, operation, call, paren, noArgument, argument, Statement, declare, assign, update, when, while, foreach, return, block, act, only}
+use Rattle.meaning.specs.Tree.{first, Procedure}
+use Rattle.meaning.specs.Grammar.{kindAt, textAt, startAt, Got, good, wrong, argumentsFrom, expression, statementsFrom}
+use Rattle.meaning.specs.Grammar.{statement, parametersFrom, proceduresFrom, Reading, wellFormed, malformed, reading}
 use Rattle.meaning.proofs.Computing.{everything}
 use Rattle.meaning.proofs.Rows.{Row, _gives_, Hold, minus}
 

@@ -12,7 +12,9 @@ use borrow.Author.Tests.{ltb-true, ltb-false, eqb-true, ne-eqb}
 use Rattle.meaning.specs.Basics.{if_then_else_}
 use Rattle.meaning.specs.Token.{Token, ending, comma, closeBrace}
 use Rattle.meaning.specs.Tree.{Operator, Expression, Arguments, argument, Statement, Statements, first, Procedure}
-use Rattle.meaning.specs.Grammar.{Got, good, wrong, after, expect, is, afterLast, kindAt, Inside, noLevel, level, opening, ReadExpression, argumentsFrom, arguments, primary, operand, operated, expressionIn, expression, ReadStatement, Readers, declaration, returning, Target, variable, element, noTarget, assignment, simple, guarded, iteration, statementsFrom, statements, statementIn, statement, parametersFrom, parameters, procedure, proceduresFrom}
+use Rattle.meaning.specs.Grammar.{Got, good, wrong, after, expect, is, afterLast, kindAt, Inside, noLevel, level, opening, ReadExpression, argumentsFrom, arguments, primary, operand}
+use Rattle.meaning.specs.Grammar.{operated, expressionIn, expression, ReadStatement, Readers, declaration, returning, Target, variable, element, noTarget, assignment, simple}
+use Rattle.meaning.specs.Grammar.{guarded, iteration, statementsFrom, statements, statementIn, statement, parametersFrom, parameters, procedure, proceduresFrom}
 
 -- ---- the relation
 abbrev AheadGot : {A : Type 0} → ℕ → Got A → Type 0

@@ -123,7 +123,8 @@ readings =
     ∷ gets "var t;t=[0];t==t;" (number 20 26 8 0)
     ∷ gets "w=1000;" (pictured 141 2)
     ∷ same (evaluates "getShapeXCoordinate(drawBox(-5,0,3,0))" (integer (negsuc 3)))
-    ∷ same (pictures "def main(w,h){var a;var b;a=drawBox(2,9,3,h-9);b=drawText(2,h,\"day\");}" "<?xml version=\"1.0\"?>\n<svg viewBox=\"0 0 20 20\" xmlns=\"http://www.w3.org/2000/svg\" version=\"1.1\">\n<g stroke=\"black\" fill=\"black\">\n<rect x=\"2\" y=\"9\" width=\"3\" height=\"11\"/>\n<text x=\"2\" y=\"20\">day</text>\n</g>\n</svg>\n")
+    ∷ same (pictures "def main(w,h){var a;var b;a=drawBox(2,9,3,h-9);b=drawText(2,h,\"day\");}"
+    "<?xml version=\"1.0\"?>\n<svg viewBox=\"0 0 20 20\" xmlns=\"http://www.w3.org/2000/svg\" version=\"1.1\">\n<g stroke=\"black\" fill=\"black\">\n<rect x=\"2\" y=\"9\" width=\"3\" height=\"11\"/>\n<text x=\"2\" y=\"20\">day</text>\n</g>\n</svg>\n")
     ∷ []
 
 -- THE CLAIM

@@ -9,7 +9,8 @@ use lib.IntN.{ℤ, pos}
 use Rattle.meaning.specs.Basics.{bytes}
 use Rattle.meaning.specs.Figure.{Figure, line, ellipse, box, text}
 use Rattle.meaning.specs.Value.{Value, integer, string, boolean, none, table, shape, kindOf}
-use Rattle.meaning.specs.State.{State, Variable, Shape, Entry, Key, atom, group, contentOf, isDestroyed, living, shapesHeld, shapesHeldBy, keyWith, keyOf, sameKey, valueIn, assigned, destroy, withShape, withNewTable, entryIn, overwritten}
+use Rattle.meaning.specs.State.{State, Variable, Shape, Entry, Key, atom, group, contentOf, isDestroyed, living, shapesHeld, shapesHeldBy}
+use Rattle.meaning.specs.State.{keyWith, keyOf, sameKey, valueIn, assigned, destroy, withShape, withNewTable, entryIn, overwritten}
 use Rattle.meaning.proofs.Computing.{everything}
 use Rattle.meaning.proofs.Rows.{Row, _gives_, Hold, alive, dead, holding, minus, standing}
 

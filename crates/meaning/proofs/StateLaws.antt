@@ -112,7 +112,8 @@ unfolding overwritten if_then_else_
 length-overwritten [] t k u = refl
 length-overwritten (x ∷ xs) t k u = go (matches x t k) (length-overwritten xs t k u)
   where
-    go : (b : Bool) → length (overwritten xs t k u) ≡ length xs → length (if b then (λ _. record { owner = x .owner; key = x .key; holds = u } ∷ xs) else λ _. x ∷ overwritten xs t k u) ≡ suc (length xs)
+    go : (b : Bool) → length (overwritten xs t k u) ≡ length xs → length (if b then (λ _. record { owner = x .owner; key = x .key; holds = u } ∷ xs) else λ _. x ∷ overwritten xs t k u)
+        ≡ suc (length xs)
     go true h = refl
     go false h = ap suc h
 

@@ -11,7 +11,8 @@ use lib.Dec.{eqb}
 use borrow.Author.Tests.{eqb-true, ne-eqb}
 use Rattle.meaning.specs.Basics.{bytes, if_then_else_, standsIn, span}
 use Rattle.meaning.specs.Byte.{isSpace, isLetter, isDigit, isNamePart, isQuote, isSign}
-use Rattle.meaning.specs.Token.{Token, Front, found, nothing, Lexed, lexed, stray, aString, wordKind, doubled, isDouble, front, prepend, starting, scan, tokensOf, foundName, foundDigits, foundString, foundSign}
+use Rattle.meaning.specs.Token.{Token, Front, found, nothing, Lexed, lexed, stray, aString, wordKind, doubled, isDouble, front}
+use Rattle.meaning.specs.Token.{prepend, starting, scan, tokensOf, foundName, foundDigits, foundString, foundSign}
 
 -- ---- what is claimed
 -- where a token's text begins: a string's behind the quote

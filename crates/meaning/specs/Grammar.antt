@@ -7,8 +7,11 @@ use lib.ListN.{length, getD}
 use lib.Dec.{eqb, ltb, leb}
 use lib.IntN.{pos, negℤ}
 use Rattle.meaning.specs.Basics.{bytes, if_then_else_, sameText}
-use Rattle.meaning.specs.Token.{Token, Lexed, lexed, stray, tokensOf, ending, aName, digits, aString, wordDef, wordVar, wordIf, wordWhile, wordReturn, wordNone, wordTrue, wordFalse, wordForeach, wordIn, wordDo, dot, comma, semicolon, openParen, closeParen, openBracket, closeBracket, openBrace, closeBrace, becomes, minus, doubled}
-use Rattle.meaning.specs.Tree.{Operator, concatenate, add, subtract, multiply, divide, remainder, shiftRight, shiftLeft, equal, unequal, greater, less, Expression, number, string, nothing, truth, name, table, entry, operation, call, paren, Arguments, noArgument, argument, Statement, declare, assign, update, when, while, foreach, return, block, act, Statements, only, first, Procedure, Program}
+use Rattle.meaning.specs.Token.{Token, Lexed, lexed, stray, tokensOf, ending, aName, digits, aString, wordDef, wordVar, wordIf, wordWhile, wordReturn, wordNone, wordTrue, wordFalse}
+use Rattle.meaning.specs.Token.{wordForeach, wordIn, wordDo, dot, comma, semicolon, openParen, closeParen, openBracket, closeBracket, openBrace, closeBrace, becomes, minus, doubled}
+use Rattle.meaning.specs.Tree.{Operator, concatenate, add, subtract, multiply, divide, remainder, shiftRight, shiftLeft, equal, unequal, greater, less}
+use Rattle.meaning.specs.Tree.{Expression, number, string, nothing, truth, name, table, entry, operation, call, paren, Arguments, noArgument, argument, Statement}
+use Rattle.meaning.specs.Tree.{declare, assign, update, when, while, foreach, return, block, act, Statements, only, first, Procedure, Program}
 
 -- ---- tokens by their index
 abbrev pub afterLast : Token

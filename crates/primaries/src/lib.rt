@@ -104,7 +104,7 @@ pub fn apply(
         );
         return r;
     }
-    let r = operation::operate(program, grants, texts, words, tag, p, a, b);
+    let r = dispatch::operate(program, grants, texts, words, tag, p, a, b);
     r
 }
 

@@ -84,7 +84,8 @@ module _ (g code : List ℕ) (callee top n p base : ℕ) (ws : List ℕ) (at d :
 
     module _ (o : k ≡ m) (ok₁ : Bool) (ws₁ : List ℕ) (h₁ : Passes ws 20 (suspend top n) ok₁ ws₁) where
       asked : (ts : List ℕ) → begin g code callee top n p base (raw ts ws)
-          ≡ goOn (passed ok₁ 20 p ts ws₁) (λ _. store running (callee + 1) >>= λ _. declareFrom code (startIn d) m p >>= λ _. spend callsUsed (callsGranted g) 1 81 p >>= λ _. store loopUnit 0 >>= λ _. assignFrom g code (startIn d) base m p)
+          ≡ goOn (passed ok₁ 20 p ts ws₁) (λ _. store running (callee + 1) >>= λ _. declareFrom code (startIn d) m p >>= λ _. spend callsUsed (callsGranted g) 1 81 p >>= λ _. store loopUnit 0
+          >>= λ _. assignFrom g code (startIn d) base m p)
       unfolding begin _>>=_ goOn refuse give
       asked ts = rw (word-is, ne-eqb _ _ z, ← e, ← f, eq-eqb k m o, ← h₁ .equal p ts)
 
@@ -93,7 +94,8 @@ module _ (g code : List ℕ) (callee top n p base : ℕ) (ws : List ℕ) (at d :
       no-room t = record { equal = λ ts. sym (rw (asked ts, not-true ok₁ t)) }
 
       module _ (t₁ : not ok₁ ≡ false) (a : ℕ) (b : a ≡ startIn d) (ok₂ : Bool) (ws₂ : List ℕ) (h₂ : Passes (set ws₁ running (callee + 1)) 60 (declareFrom code a m) ok₂ ws₂) where
-        suspended : (ts : List ℕ) → begin g code callee top n p base (raw ts ws) ≡ goOn (passed ok₂ 60 p ts ws₂) (λ _. spend callsUsed (callsGranted g) 1 81 p >>= λ _. store loopUnit 0 >>= λ _. assignFrom g code a base m p)
+        suspended : (ts : List ℕ) → begin g code callee top n p base (raw ts ws)
+            ≡ goOn (passed ok₂ 60 p ts ws₂) (λ _. spend callsUsed (callsGranted g) 1 81 p >>= λ _. store loopUnit 0 >>= λ _. assignFrom g code a base m p)
         unfolding _>>=_ goOn store passed
         suspended ts = asked ts ∙ rw (not-false ok₁ t₁, ← b, ← h₂ .equal p ts)
 

@@ -15,7 +15,8 @@ use borrow.Author.Tests.{eqb-true, leb-true, leb-false, le-leb, lt-leb, lt-ltb, 
 use Rattle.meaning.specs.Basics.{bytes, sameText}
 use Rattle.meaning.specs.Token.{Token, aName, digits, aString}
 use Rattle.meaning.specs.Grammar.{afterLast, kindAt, textAt, startAt, is, numeral, positiveAt, negativeAt, signedAt}
-use Rattle.meaning.specs.Tree.{Operator, concatenate, add, subtract, multiply, divide, remainder, shiftRight, shiftLeft, equal, unequal, greater, less, Expression, number, string, nothing, truth, name, table, entry, operation, call, paren, Statement, declare, assign, update, when, while, foreach, return, block, act}
+use Rattle.meaning.specs.Tree.{Operator, concatenate, add, subtract, multiply, divide, remainder, shiftRight, shiftLeft, equal, unequal, greater, less, Expression, number, string}
+use Rattle.meaning.specs.Tree.{nothing, truth, name, table, entry, operation, call, paren, Statement, declare, assign, update, when, while, foreach, return, block, act}
 use Rattle.meaning.specs.Integer.{bits, wrap}
 use Rattle.meaning.specs.Library.{Library, drawLine, drawEllipse, drawBox, drawText, connectShapes, drawTextOnShape, xCoordinate, yCoordinate, destroyShape, clearScene, drawGroup, libraryOf}
 use Rattle.tokens.specs.Words.{sizeOf, tokenIn}

@@ -1,7 +1,8 @@
 -- The text of a tree is that of the tree without parentheses and places.
 use mathlib.Core.Path.{_≡_, refl, ap, sym, _∙_}
 use mathlib.Core.List.{List, [], _∷_, map}
-use Rattle.meaning.specs.Tree.{Expression, number, string, nothing, truth, name, table, entry, operation, call, paren, Arguments, noArgument, argument, Statement, declare, assign, update, when, while, foreach, return, block, act, Statements, only, first, Procedure, Program}
+use Rattle.meaning.specs.Tree.{Expression, number, string, nothing, truth, name, table, entry, operation, call, paren, Arguments, noArgument, argument, Statement}
+use Rattle.meaning.specs.Tree.{declare, assign, update, when, while, foreach, return, block, act, Statements, only, first, Procedure, Program}
 use Rattle.canonical.specs.Bare.{bare, bareArguments, bareStatement, bareStatements, bareProcedure, bareProgram}
 use Rattle.canonical.specs.Text.{isOperation, isEntry, expressionText, argumentTexts, statementText, statementsText, procedureText, proceduresText, programText}
 

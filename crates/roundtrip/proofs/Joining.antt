@@ -13,7 +13,8 @@ use Rattle.meaning.specs.Byte.{isSpace, isLetter, isDigit, isNamePart, isQuote}
 use Rattle.meaning.specs.Token.{isDouble, front}
 use Rattle.roundtrip.proofs.Scanning.{Lone, letter-no-space, digit-no-space}
 use Rattle.roundtrip.proofs.LexesTree.{lone, signs}
-use Rattle.roundtrip.proofs.Weights.{sized, weighAt, weigh, CleanAt, Clean, Class, letter, digit, quote, sign, other, classify, stringSize, signSize, sized-letter, sized-digit, sized-quote, sized-sign, sized-other}
+use Rattle.roundtrip.proofs.Weights.{sized, weighAt, weigh, CleanAt, Clean, Class, letter, digit, quote, sign, other, classify}
+use Rattle.roundtrip.proofs.Weights.{stringSize, signSize, sized-letter, sized-digit, sized-quote, sized-sign, sized-other}
 use Rattle.roundtrip.proofs.Separating.{stop-end, quote-inside, size-bound}
 
 -- ---- without the rest of a name, or of digits

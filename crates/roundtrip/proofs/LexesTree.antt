@@ -14,14 +14,19 @@ use Rattle.meaning.specs.Byte.{isSpace, isLetter, isDigit, isNamePart, isQuote,
 use Rattle.meaning.specs.Token.{found, nothing, wordKind, isDouble, front}
 use Rattle.meaning.specs.Grammar.{numeral, numeralFrom}
 use Rattle.meaning.specs.Picture.{digitsOf, decimal}
-use Rattle.meaning.specs.Tree.{Operator, concatenate, add, subtract, multiply, divide, remainder, shiftRight, shiftLeft, equal, unequal, greater, less, Expression, number, string, nothing, truth, name, table, entry, operation, call, paren, Arguments, noArgument, argument, Statement, declare, assign, update, when, while, foreach, return, block, act, Statements, only, first, Procedure}
+use Rattle.meaning.specs.Tree.{Operator, concatenate, add, subtract, multiply, divide, remainder, shiftRight, shiftLeft, equal, unequal, greater, less, Expression, number, string, nothing, truth}
+use Rattle.meaning.specs.Tree.{name, table, entry, operation, call, paren, Arguments, noArgument, argument, Statement, declare, assign, update, when, while, foreach, return, block, act, Statements}
+use Rattle.meaning.specs.Tree.{only, first, Procedure}
 use Rattle.meaning.proofs.DecimalLaws.{AllDigits, digits-digitsOf, numeral-digitsOf, digitsOf-zero}
-use Rattle.canonical.specs.Text.{operatorText, isOperation, isEntry, enclosedIf, commaSeparated, expressionText, argumentTexts, apart, between, statementText, statementsText, procedureText, proceduresText}
-use Rattle.roundtrip.proofs.Words.{Word, sign, aWord, joined, operatorKind, numberWords, enclosedWords, words, argumentWords, statementWords, statementsWords, nameWords, procedureWords, proceduresWords}
+use Rattle.canonical.specs.Text.{operatorText, isOperation, isEntry, enclosedIf, commaSeparated, expressionText, argumentTexts}
+use Rattle.canonical.specs.Text.{apart, between, statementText, statementsText, procedureText, proceduresText}
+use Rattle.roundtrip.proofs.Words.{Word, sign, aWord, joined, operatorKind, numberWords, enclosedWords, words, argumentWords}
+use Rattle.roundtrip.proofs.Words.{statementWords, statementsWords, nameWords, procedureWords, proceduresWords}
 use Rattle.roundtrip.proofs.Scanning.{AllPass, Lone, not-double, scan-found}
 use Rattle.roundtrip.proofs.Weights.{part-digit}
 use Rattle.roundtrip.proofs.Sound.{Spelled, Named, Sound, SoundAll, SoundStatement, SoundStatements, NamedAll, SoundProcedure, SoundProcedures}
-use Rattle.roundtrip.proofs.Lexes.{Lexes, lexes-append, lexes-nothing, lexes-space, lexes-then, lexes-one, lexes-word, lexes-name, lexes-digits, lexes-string, lexes-sign, lexes-mark, lexes-negative}
+use Rattle.roundtrip.proofs.Lexes.{Lexes, lexes-append, lexes-nothing, lexes-space, lexes-then, lexes-one, lexes-word}
+use Rattle.roundtrip.proofs.Lexes.{lexes-name, lexes-digits, lexes-string, lexes-sign, lexes-mark, lexes-negative}
 
 -- all classes of bytes at once
 unfoldable pub classes : Unit {0}

@@ -11,8 +11,10 @@ use lib.Dec.{eqb, leb}
 use borrow.Author.Tests.{eq-eqb, le-leb}
 use Rattle.meaning.specs.Basics.{if_then_else_}
 use Rattle.meaning.specs.Token.{Token, aName, digits, openParen, dot}
-use Rattle.meaning.specs.Grammar.{good, after, expect, is, kindAt, textAt, startAt, numeral, operatorOf, Inside, noLevel, level, opening, ReadExpression, argumentsFrom, arguments, primary, operand, operated, expressionIn, expression}
-use Rattle.meaning.specs.Tree.{Operator, concatenate, add, subtract, multiply, divide, remainder, shiftRight, shiftLeft, equal, unequal, greater, less, Expression, number, string, nothing, truth, name, table, entry, operation, call, paren, Arguments, noArgument, argument}
+use Rattle.meaning.specs.Grammar.{good, after, expect, is, kindAt, textAt, startAt, numeral, operatorOf, Inside, noLevel, level, opening}
+use Rattle.meaning.specs.Grammar.{ReadExpression, argumentsFrom, arguments, primary, operand, operated, expressionIn, expression}
+use Rattle.meaning.specs.Tree.{Operator, concatenate, add, subtract, multiply, divide, remainder, shiftRight, shiftLeft, equal, unequal, greater, less}
+use Rattle.meaning.specs.Tree.{Expression, number, string, nothing, truth, name, table, entry, operation, call, paren, Arguments, noArgument, argument}
 use Rattle.meaning.proofs.DecimalLaws.{numeral-digitsOf}
 use Rattle.meaning.proofs.GrammarLaws.{arguments-rounds}
 use Rattle.canonical.specs.Text.{operatorText, isOperation, isEntry}

@@ -9,7 +9,8 @@ use lib.Dec.{eqb}
 use borrow.Author.Tests.{eqb-true}
 use Rattle.meaning.specs.Basics.{bytes, if_then_else_}
 use Rattle.meaning.specs.Token.{Token}
-use Rattle.meaning.specs.Grammar.{good, after, expect, kindAt, startAt, operatorOf, Inside, noLevel, level, opening, expression, Readers, declaration, returning, targetOf, assignment, simple, guarded, beginsStatement, iteration, statementsFrom, statements, statementIn, statement}
+use Rattle.meaning.specs.Grammar.{good, after, expect, kindAt, startAt, operatorOf, Inside, noLevel, level, opening, expression, Readers, declaration, returning}
+use Rattle.meaning.specs.Grammar.{targetOf, assignment, simple, guarded, beginsStatement, iteration, statementsFrom, statements, statementIn, statement}
 use Rattle.meaning.specs.Tree.{Expression, name, entry, Statement, declare, assign, update, when, while, foreach, return, block, act, Statements, only, first}
 use Rattle.meaning.proofs.GrammarLaws.{statements-rounds}
 use Rattle.canonical.specs.Bare.{bareStatement, bareStatements}

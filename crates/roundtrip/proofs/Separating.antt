@@ -12,7 +12,8 @@ use Rattle.meaning.specs.Basics.{bytes, if_then_else_, standsIn, span}
 use Rattle.meaning.specs.Byte.{isSpace, isLetter, isDigit, isNamePart, isQuote}
 use Rattle.meaning.specs.Token.{isDouble, front}
 use Rattle.roundtrip.proofs.LexesTree.{signs}
-use Rattle.roundtrip.proofs.Weights.{sized, weighAt, weigh, CleanAt, Clean, Class, letter, digit, quote, sign, other, classify, stringSize, signSize, sized-letter, sized-digit, sized-quote, sized-sign, sized-other}
+use Rattle.roundtrip.proofs.Weights.{sized, weighAt, weigh, CleanAt, Clean, Class, letter, digit, quote, sign, other, classify}
+use Rattle.roundtrip.proofs.Weights.{stringSize, signSize, sized-letter, sized-digit, sized-quote, sized-sign, sized-other}
 
 -- ---- spans
 -- a run ends where a byte stops it

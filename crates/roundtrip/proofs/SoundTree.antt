@@ -10,9 +10,11 @@ use lib.Dec.{ltb}
 use borrow.Author.Tests.{eqb-true, ltb-true, ltb-false}
 use Rattle.meaning.specs.Basics.{bytes}
 use Rattle.meaning.specs.Token.{Token, aName, wordDo, closeBrace}
-use Rattle.meaning.specs.Grammar.{Got, is, afterLast, kindAt, textAt, startAt, Inside, noLevel, level, expression, ReadStatement, Readers, declaration, returning, targetOf, assignment, simple, guarded, iteration, statementsFrom, statements, statementIn, statement, parametersFrom, parameters, procedure, proceduresFrom, procedureNamed, withMain, procedures}
+use Rattle.meaning.specs.Grammar.{Got, is, afterLast, kindAt, textAt, startAt, Inside, noLevel, level, expression, ReadStatement, Readers, declaration, returning, targetOf, assignment, simple}
+use Rattle.meaning.specs.Grammar.{guarded, iteration, statementsFrom, statements, statementIn, statement, parametersFrom, parameters, procedure, proceduresFrom, procedureNamed, withMain, procedures}
 use Rattle.meaning.specs.Tree.{Expression, number, string, nothing, truth, name, table, entry, operation, call, paren, Statement, when, while, Statements, Procedure, Program}
-use Rattle.roundtrip.proofs.Words.{tokens, sign, aWord, joined, enclosedWords, words, levelsIn, levels, statementWords, statementsWords, statementLevels, statementsLevels, nameWords, procedureWords, proceduresWords}
+use Rattle.roundtrip.proofs.Words.{tokens, sign, aWord, joined, enclosedWords, words, levelsIn, levels, statementWords}
+use Rattle.roundtrip.proofs.Words.{statementsWords, statementLevels, statementsLevels, nameWords, procedureWords, proceduresWords}
 use Rattle.roundtrip.proofs.Sound.{Named, Sound, SoundStatement, SoundStatements, NamedAll, SoundProcedure, SoundProcedures}
 use Rattle.roundtrip.proofs.Spelling.{Spelt}
 use Rattle.roundtrip.proofs.RereadingProgram.{Shallow}

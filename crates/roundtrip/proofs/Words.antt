@@ -4,9 +4,12 @@ use mathlib.Core.Bool.{Bool, true, false, _||_, cond}
 use mathlib.Core.List.{List, [], _∷_, _++_}
 use lib.IntN.{ℤ, pos, negsuc}
 use Rattle.meaning.specs.Basics.{bytes}
-use Rattle.meaning.specs.Token.{digits, aString, aName, wordDef, wordVar, wordIf, wordWhile, wordReturn, wordNone, wordTrue, wordFalse, wordForeach, wordIn, wordDo, dot, comma, semicolon, openParen, closeParen, openBracket, closeBracket, openBrace, closeBrace, becomes, doubled}
+use Rattle.meaning.specs.Token.{digits, aString, aName, wordDef, wordVar, wordIf, wordWhile, wordReturn, wordNone, wordTrue, wordFalse, wordForeach, wordIn, wordDo}
+use Rattle.meaning.specs.Token.{dot, comma, semicolon, openParen, closeParen, openBracket, closeBracket, openBrace, closeBrace, becomes, doubled}
 use Rattle.meaning.specs.Picture.{digitsOf}
-use Rattle.meaning.specs.Tree.{Operator, concatenate, add, subtract, multiply, divide, remainder, shiftRight, shiftLeft, equal, unequal, greater, less, Expression, number, string, nothing, truth, name, table, entry, operation, call, paren, Arguments, noArgument, argument, Statement, declare, assign, update, when, while, foreach, return, block, act, Statements, only, first, Procedure}
+use Rattle.meaning.specs.Tree.{Operator, concatenate, add, subtract, multiply, divide, remainder, shiftRight, shiftLeft, equal, unequal, greater, less, Expression, number, string, nothing, truth}
+use Rattle.meaning.specs.Tree.{name, table, entry, operation, call, paren, Arguments, noArgument, argument, Statement, declare, assign, update, when, while, foreach, return, block, act, Statements}
+use Rattle.meaning.specs.Tree.{only, first, Procedure}
 use Rattle.canonical.specs.Text.{operatorText, isOperation, isEntry}
 
 -- a token by its kind and text; or a minus and, directly behind it, digits

@@ -102,7 +102,8 @@ module _ (program code g : List ℕ) (short : length program ≤ 32768) (ts : Li
         (paintRead (wellFormed m) width height (suc (stepsGranted g)) empty)
     unfolding paintRead understood namedApart KnownNames isIn Run._>>=_ Run.goOn Run.give
     main-paints = rw (in-turn, different, parameters, first-slot, second-slot)
-        (bind (enters program ts g (read .few) texts words lent blank x y (both .0) (both .1 .0) (owns (slotOf ts x) (own-first (slotOf ts x) (slotOf ts y ∷ []))) (owns (slotOf ts y) (own-second (slotOf ts x) (slotOf ts y)))
+        (bind (enters program ts g (read .few) texts words lent blank x y (both .0) (both .1 .0) (owns (slotOf ts x) (own-first (slotOf ts x) (slotOf ts y ∷ [])))
+        (owns (slotOf ts y) (own-second (slotOf ts x) (slotOf ts y)))
         width height w-small h-small gr) (λ _ _ r s total a.
         bind (rw two at (body-follows e ts m short read different stands table gr mainFuel (suc (stepsGranted g)) (omega arith) (a .related) (a .procedure) (a .calls) (a .stack) (a .unit)
         (omega (arith, a .related .stepsTaken)))) (λ f f′ r′ s′ total′ b.

@@ -85,7 +85,8 @@ module _ (g : List ℕ) (a b : ℕ) (width height : ℤ) (ws ws₁ : List ℕ) (
           record { equal = λ ts. sym (declared-then ts ∙ rw (not-false ok₃ t₃, ← d, ← d₂) (after-gift _ ts s ∙ sym (s₂ .equal ts))) }
 
 -- ---- `run_body`
-module _ (program code g : List ℕ) (main : ℕ) (width height : ℤ) (f : SFits w32 width) (f₂ : SFits w32 height) (a x y : ℕ) (ea : a ≡ startIn main) (ex : x ≡ getD code a 0) (ey : y ≡ getD code (a + 1) 0)
+module _ (program code g : List ℕ) (main : ℕ) (width height : ℤ) (f : SFits w32 width) (f₂ : SFits w32 height) (a x y : ℕ) (ea : a ≡ startIn main) (ex : x ≡ getD code a 0) (ey : y
+    ≡ getD code (a + 1) 0)
     (ts ws ws₁ : List ℕ) (begun : Ending) (begins : Begins ws (mainBegins g x y (held width) (held height)) begun ws₁) where
   begun-so : shownEnding begun ts ws₁ ≡ mainBegins g (getD code (startIn main) 0) (getD code (startIn main + 1) 0) width height (raw ts ws)
   begun-so = begins .equal ts ∙ rw (toZ-ofZ f, toZ-ofZ f₂, ex, ey, ea)
@@ -94,7 +95,8 @@ module _ (program code g : List ℕ) (main : ℕ) (width height : ℤ) (f : SFit
   unfolding bodyRun shownEnding _>>=_ goOn
   not-entered k p t = sym (rw (← begun-so, t))
 
-  module _ (t : begun ≡ Complete) (size : ℕ) (es : size ≡ bodyIn main) (flow : Flow) (ts₂ ws₂ : List ℕ) (e : shownFlow flow ts₂ ws₂ ≡ bodyAt mainFuel (setting program code g) (a + 2) size (raw ts ws₁)) where
+  module _ (t : begun ≡ Complete) (size : ℕ) (es : size ≡ bodyIn main) (flow : Flow) (ts₂ ws₂ : List ℕ) (e : shownFlow flow ts₂ ws₂
+      ≡ bodyAt mainFuel (setting program code g) (a + 2) size (raw ts ws₁)) where
     entered-then : bodyRun (setting program code g) main width height (raw ts ws) ≡ goOn (bodyAt mainFuel (setting program code g) (a + 2) size (raw ts ws₁)) (λ _. give tt)
     unfolding bodyRun shownEnding _>>=_ goOn
     entered-then = rw (← begun-so, t, ea, es)

@@ -10,7 +10,7 @@ use borrow.Author.Tests.{lt-leb}
 use Rattle.meaning.specs.Token.{Token}
 use Rattle.meaning.specs.State.{State}
 use Rattle.meaning.specs.Book.{Amounts}
-use Rattle.machine.specs.Layout.{stepsUsed, shapesUsed, entriesUsed, textUsed, tablesMade, argumentsHeld, callsUsed, entriesMade, componentsMade, stackWords, argumentPlace}
+use Rattle.machine.specs.Layout.{stepsUsed, shapesUsed, entriesUsed, textUsed, tablesMade, argumentsHeld, callsUsed, entriesMade, componentsMade, stackWords, argumentPlace, firstArgument}
 use Rattle.machine.specs.Act.{Raw, raw, done}
 use Rattle.machine.specs.Act as Act
 use Rattle.machine.specs.Stack.{argumentAt, push}
@@ -78,7 +78,7 @@ module _ {program : List ℕ} {ts : List Token} {g : List ℕ} where
     abbrev first : Raw
     first = raw (r .texts) (set (r .words) (argumentPlace (getD (r .words) argumentsHeld 0)) w)
 
-    first-other : (j : ℕ) → j < 16464 → getD (first .words) j 0 ≡ getD (r .words) j 0
+    first-other : (j : ℕ) → j < firstArgument → getD (first .words) j 0 ≡ getD (r .words) j 0
     first-other j l = other h (argumentPlace (getD (r .words) argumentsHeld 0)) w j (λ e. omega arith)
 
     on-stack : Aside h (argumentPlace (getD (r .words) argumentsHeld 0)) w

@@ -150,7 +150,8 @@ module _ (e : Setting) {ts : List Token} (few : length ts ≤ 8192) {granted : A
       let back = back-again (h .sound) v (a .valid) in
       let there : getD (r .words) (valuePlace (slotOf ts x)) 0 ≢ 0 = λ z. let n : some w ≡ Option.none = sym d ∙ undeclared few h x o z in let y : _≡_ {A = ℕ} 0 1 = cc in omega arith in
       let m : meantWord (e .program) r (packed v) ≡ u = rw back (sym (a .means)) in
-      onward (a .after) (subst (λ (y : Value.Value). After (e .program) ts (e .grants) r (raw (r .texts) (set (r .words) (valuePlace (slotOf ts x)) (packed v))) (withVariables s (assigned (s .variables) x y)) total) m
+      onward (a .after) (subst (λ (y : Value.Value). After (e .program) ts (e .grants) r (raw (r .texts) (set (r .words) (valuePlace (slotOf ts x)) (packed v)))
+      (withVariables s (assigned (s .variables) x y)) total) m
       (put-after few h x o (packed v) there (packed-some h v) (rw back (a .valid)) (packed-narrow (h .sound) v (a .valid))))
 
   -- a copy put there

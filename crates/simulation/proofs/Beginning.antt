@@ -33,6 +33,7 @@ use Rattle.machine.specs.Layout.{
   valuePlace,
   argumentPlace,
   Lent,
+  firstFrame,
 }
 use Rattle.machine.specs.Act.{Raw, raw}
 use Rattle.machine.specs.Act as Act
@@ -47,13 +48,13 @@ use Rattle.simulation.proofs.Moving.{moved-later, moved-related}
 
 module _ (program : List ℕ) (ts : List Token) (g texts words : List ℕ) (lent : Lent g texts words)
     (front : (i : ℕ) → i < argumentPlace 0 → getD words i 0 ≡ 0) (entries : (i : ℕ) → entryPlace g 0 ≤ i → i < componentPlace g 0 → getD words i 0 ≡ 0) where
-  counter : (c : ℕ) → c < 16 → getD words c 0 ≡ 0
+  counter : (c : ℕ) → c < firstFrame → getD words c 0 ≡ 0
   counter c s = front c (omega arith)
 
   value : (slot : ℕ) → getD words (valuePlace slot) 0 ≡ 0
   value slot = front (valuePlace slot) (omega arith)
 
-  none : {A : Type 0} (c k : ℕ) → c < 16 → k < getD words c 0 → A
+  none : {A : Type 0} (c k : ℕ) → c < firstFrame → k < getD words c 0 → A
   none c k s l = absurd (omega (arith, counter c s))
 
   pub begins : Related program ts g (raw texts words) empty nothingYet

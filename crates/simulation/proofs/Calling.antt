@@ -30,6 +30,8 @@ use Rattle.machine.specs.Layout.{
   argumentPlace,
   stackWords,
   fixedWords,
+  firstFrame,
+  firstValue,
 }
 use Rattle.machine.specs.Act.{Raw, raw, done}
 use Rattle.machine.specs.Act as Act
@@ -152,7 +154,7 @@ module _ {program : List ℕ} {ts : List Token} {g : List ℕ} {r : Raw} {s : St
     pub waits-low : (i : ℕ) → i < declared → getD waits i 0 ≡ getD (r .words) i 0
     waits-low i l = other i (λ e. omega arith) (λ e. omega arith) (λ e. omega arith) (λ e. omega arith) ∙ parked .undeclared .low i (omega arith)
 
-    pub waits-parts : (i : ℕ) → entriesMade ≤ i → i < 16 → getD waits i 0 ≡ getD (r .words) i 0
+    pub waits-parts : (i : ℕ) → entriesMade ≤ i → i < firstFrame → getD waits i 0 ≡ getD (r .words) i 0
     waits-parts i l m = other i (λ e. omega arith) (λ e. omega arith) (λ e. omega arith) (λ e. omega arith) ∙ parked .undeclared .low i (omega arith)
 
     pub waits-high : (i : ℕ) → fixedWords ≤ i → getD waits i 0 ≡ getD (r .words) i 0
@@ -252,7 +254,7 @@ module _ (program : List ℕ) (ts : List Token) (g : List ℕ) where
 module _ {program : List ℕ} {ts : List Token} {g : List ℕ} {r : Raw} {s : State} {total : Amounts} (h : Related program ts g r s total)
     (fit : getD (r .words) argumentsHeld 0 + getD (r .words) declared 0 ≤ stackWords) (number p : ℕ) (xs : List (List ℕ)) {r′ : Raw}
     (a : After program ts g (raw (r .texts) (waits h fit number)) r′ (withVariables (without s) (without s .variables ++ fresh xs)) total)
-    (same : (i : ℕ) → i ≢ declared → i < 80 → getD (r′ .words) i 0 ≡ getD (waits h fit number) i 0) (texts : r′ .texts ≡ r .texts)
+    (same : (i : ℕ) → i ≢ declared → i < firstValue → getD (r′ .words) i 0 ≡ getD (waits h fit number) i 0) (texts : r′ .texts ≡ r .texts)
     (some : 0 < getD (r .words) callsUsed 0) (less : getD (r .words) callsUsed 0 + 1 ≤ callsGranted g) where
   abbrev one : List ℕ
   one = set (r′ .words) callsUsed (getD (r′ .words) callsUsed 0 + 1)

@@ -35,6 +35,8 @@ use Rattle.machine.specs.Layout.{
   fixedWords,
   argumentPlace,
   Lent,
+  firstArgument,
+  firstFrame,
 }
 use Rattle.machine.specs.Act.{Raw, raw}
 use Rattle.machine.specs.Act as Act
@@ -71,7 +73,7 @@ module _ {program : List ℕ} {ts : List Token} {g : List ℕ} {r : Raw} {s : St
     pub unit : i ≢ loopUnit
     pub calls : i ≢ callsUsed
     pub running : i ≢ running
-    pub variables : (j : ℕ) → 16 ≤ j → j < 16464 → j ≢ i
+    pub variables : (j : ℕ) → firstFrame ≤ j → j < firstArgument → j ≢ i
 
   module _ (a : Aside) where
     pub set-rest : SameRest g r (raw (r .texts) words′)

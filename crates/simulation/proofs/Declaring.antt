@@ -21,7 +21,7 @@ use Rattle.code.specs.Code.{slotOf}
 use Rattle.reader.proofs.Homes.{Occurs, occurs-found, text-same}
 use Rattle.machine.specs.declared.Value.{Value}
 use Rattle.machine.specs.Words.{kindNothing, packed, unpacked}
-use Rattle.machine.specs.Layout.{stepsUsed, tablesMade, declared, argumentsHeld, callsUsed, running, componentsMade, loopUnit, valuePlace, orderPlace}
+use Rattle.machine.specs.Layout.{stepsUsed, tablesMade, declared, argumentsHeld, callsUsed, running, componentsMade, loopUnit, valuePlace, orderPlace, firstArgument, firstValue}
 use Rattle.machine.specs.Act.{Raw, raw, done, stop}
 use Rattle.machine.specs.Act as Act
 use Rattle.machine.specs.Variables.{declare}
@@ -82,8 +82,8 @@ module _ (ws ws′ : List ℕ) (slot : ℕ) (others : (j : ℕ) → j < 8192 →
 
 -- ---- nothing but variables has changed
 module _ {program : List ℕ} {ts : List Token} {g : List ℕ} {r : Raw} {s : State} {total : Amounts} (h : Related program ts g r s total) (ws′ : List ℕ)
-    (low : (j : ℕ) → j ≢ declared → j < 80 → getD ws′ j 0 ≡ getD (r .words) j 0)
-    (high : (j : ℕ) → 16464 ≤ j → getD ws′ j 0 ≡ getD (r .words) j 0)
+    (low : (j : ℕ) → j ≢ declared → j < firstValue → getD ws′ j 0 ≡ getD (r .words) j 0)
+    (high : (j : ℕ) → firstArgument ≤ j → getD ws′ j 0 ≡ getD (r .words) j 0)
     (still : (j : ℕ) → getD (r .words) (valuePlace j) 0 ≢ 0 → getD ws′ (valuePlace j) 0 ≢ 0) where
   pub changed-later : Later program r (raw (r .texts) ws′)
   changed-later = moved-later h ws′ (λ j l. low j (λ e. omega arith) (omega arith)) (λ j a b. low j (λ e. omega arith) (omega arith)) (λ j l. high j (omega arith))

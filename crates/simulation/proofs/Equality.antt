@@ -74,11 +74,17 @@ module _ (program texts : List ℕ) where
           let e = eqb-true _ _ q in
           kinds (f .kind) (v .kind)
           (λ z. let y : h .kind ≡ 0 = sym e ∙ z in
-          rw (as-line program texts f z, as-line program texts h y, z, y) (four (sameInteger (f .a) (h .a)) (sameInteger (f .b) (h .b)) (sameInteger (f .c) (h .c)) (sameInteger (f .d) (h .d)) (textOf program texts (f .text)) (textOf program texts (h .text)) (plainly (λ x. omega arith) (λ x. omega arith))))
+          rw (as-line program texts f z, as-line program texts h y, z, y)
+          (four (sameInteger (f .a) (h .a)) (sameInteger (f .b) (h .b)) (sameInteger (f .c) (h .c)) (sameInteger (f .d) (h .d)) (textOf program texts (f .text))
+          (textOf program texts (h .text)) (plainly (λ x. omega arith) (λ x. omega arith))))
           (λ z. let y : h .kind ≡ 1 = sym e ∙ z in
-          rw (as-ellipse program texts f z, as-ellipse program texts h y, z, y) (four (sameInteger (f .a) (h .a)) (sameInteger (f .b) (h .b)) (sameInteger (f .c) (h .c)) (sameInteger (f .d) (h .d)) (textOf program texts (f .text)) (textOf program texts (h .text)) (plainly (λ x. omega arith) (λ x. omega arith))))
+          rw (as-ellipse program texts f z, as-ellipse program texts h y, z, y)
+          (four (sameInteger (f .a) (h .a)) (sameInteger (f .b) (h .b)) (sameInteger (f .c) (h .c)) (sameInteger (f .d) (h .d)) (textOf program texts (f .text))
+          (textOf program texts (h .text)) (plainly (λ x. omega arith) (λ x. omega arith))))
           (λ z. let y : h .kind ≡ 2 = sym e ∙ z in
-          rw (as-box program texts f z, as-box program texts h y, z, y) (four (sameInteger (f .a) (h .a)) (sameInteger (f .b) (h .b)) (sameInteger (f .c) (h .c)) (sameInteger (f .d) (h .d)) (textOf program texts (f .text)) (textOf program texts (h .text)) (plainly (λ x. omega arith) (λ x. omega arith))))
+          rw (as-box program texts f z, as-box program texts h y, z, y)
+          (four (sameInteger (f .a) (h .a)) (sameInteger (f .b) (h .b)) (sameInteger (f .c) (h .c)) (sameInteger (f .d) (h .d)) (textOf program texts (f .text))
+          (textOf program texts (h .text)) (plainly (λ x. omega arith) (λ x. omega arith))))
           (λ z. let y : h .kind ≡ 3 = sym e ∙ z in
           rw (as-text program texts f z, as-text program texts h y, z, y, v .lettered z .0, v .lettered z .1, w .lettered y .0, w .lettered y .1)
           (two (sameInteger (f .a) (h .a)) (sameInteger (f .b) (h .b)) (pos 0) (pos 0) (sameText (textOf program texts (f .text)) (textOf program texts (h .text))) refl))

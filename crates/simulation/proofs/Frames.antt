@@ -17,7 +17,8 @@ use Rattle.meaning.specs.State as State
 use Rattle.machine.specs.declared.Value.{Value}
 use Rattle.machine.specs.declared.Value.the-variants.{Integer, Text, Boolean, Nothing, Table, Shape}
 use Rattle.machine.specs.Words.{unpacked}
-use Rattle.machine.specs.Layout.{shapesUsed, textUsed, declared, argumentsHeld, callsUsed, running, componentsMade, loopUnit, framePlace, valuePlace, orderPlace, shapePlace, componentPlace, pathPlace}
+use Rattle.machine.specs.Layout.{shapesUsed, textUsed, declared, argumentsHeld, callsUsed, running, componentsMade, loopUnit, framePlace}
+use Rattle.machine.specs.Layout.{valuePlace, orderPlace, shapePlace, componentPlace, pathPlace, firstArgument, firstFrame, firstValue}
 use Rattle.machine.specs.Act.{Raw}
 use Rattle.machine.specs.Texts.{originIn, startIn, sizeIn}
 use Rattle.machine.specs.declared.Figure.{Figure}
@@ -158,7 +159,7 @@ untouched-components u = record { made = u .made; words = u .components }
 
 -- the words of the procedure under way and of calls that wait, and those of the stack
 pub untouched-but : {g : List ℕ} {r r′ : Raw} → SameRest g r r′ → getD (r′ .words) running 0 ≡ getD (r .words) running 0
-    → ((i : ℕ) → 16 ≤ i → i < 80 → getD (r′ .words) i 0 ≡ getD (r .words) i 0)
+    → ((i : ℕ) → firstFrame ≤ i → i < firstValue → getD (r′ .words) i 0 ≡ getD (r .words) i 0)
     → ((k : ℕ) → k < getD (r .words) argumentsHeld 0 → argumentAt (r′ .words) k ≡ argumentAt (r .words) k)
     → ((slot : ℕ) → getD (r .words) (valuePlace slot) 0 ≢ 0 → getD (r′ .words) (valuePlace slot) 0 ≢ 0) → Untouched g r r′
 untouched-but a n e s b = record {
@@ -175,7 +176,7 @@ untouched-but a n e s b = record {
 
 -- and those of the variables
 pub untouched-words : {g : List ℕ} {r r′ : Raw} → SameRest g r r′ → getD (r′ .words) running 0 ≡ getD (r .words) running 0
-    → ((i : ℕ) → 16 ≤ i → i < 16464 → getD (r′ .words) i 0 ≡ getD (r .words) i 0)
+    → ((i : ℕ) → firstFrame ≤ i → i < firstArgument → getD (r′ .words) i 0 ≡ getD (r .words) i 0)
     → ((k : ℕ) → k < getD (r .words) argumentsHeld 0 → argumentAt (r′ .words) k ≡ argumentAt (r .words) k) → Untouched g r r′
 untouched-words a n e s = untouched-but a n (λ i l m. e i l (omega arith)) s (λ slot z. rw (e (valuePlace slot) (omega arith) (omega arith)) z)
 
@@ -219,7 +220,7 @@ module _ {program : List ℕ} {r r′ : Raw} (l : Later program r r′) where
 
   -- the words of the procedure under way and of variables
   pub same-words : getD (r′ .words) declared 0 ≡ getD (r .words) declared 0 → getD (r′ .words) running 0 ≡ getD (r .words) running 0
-      → ((i : ℕ) → 16 ≤ i → i < 16464 → getD (r′ .words) i 0 ≡ getD (r .words) i 0) → SameVariables
+      → ((i : ℕ) → firstFrame ≤ i → i < firstArgument → getD (r′ .words) i 0 ≡ getD (r .words) i 0) → SameVariables
   same-words n m e = record {
     count = n;
     procedure = m;

@@ -46,6 +46,7 @@ use Rattle.machine.specs.Layout.{
   shapePlace,
   entryPlace,
   componentPlace,
+  firstFrame,
 }
 use Rattle.machine.specs.Act.{Raw, raw}
 use Rattle.machine.specs.Shapes.{firstWord, pairWord, lowNumber, highNumber, isGroupAt, figureAt}
@@ -181,10 +182,10 @@ module _ {program : List ℕ} {ts : List Token} {g : List ℕ} {r : Raw} {s : St
   abbrev n : ℕ
   n = getD (r .words) shapesUsed 0
 
-  counter : (j : ℕ) → j ≢ shapesUsed → j ≢ entriesUsed → j ≢ componentsMade → j < 16 → getD ws′ j 0 ≡ getD (r .words) j 0
+  counter : (j : ℕ) → j ≢ shapesUsed → j ≢ entriesUsed → j ≢ componentsMade → j < firstFrame → getD ws′ j 0 ≡ getD (r .words) j 0
   counter j x y z l = a .low j x y z (omega arith)
 
-  plain : (j : ℕ) → 16 ≤ j → j < fixedWords → getD ws′ j 0 ≡ getD (r .words) j 0
+  plain : (j : ℕ) → firstFrame ≤ j → j < fixedWords → getD ws′ j 0 ≡ getD (r .words) j 0
   plain j l m = a .low j (λ e. omega arith) (λ e. omega arith) (λ e. omega arith) m
 
   steps-as : getD ws′ stepsUsed 0 ≡ getD (r .words) stepsUsed 0

@@ -27,6 +27,7 @@ use Rattle.machine.specs.Layout.{
   entriesGranted,
   fixedWords,
   componentPlace,
+  firstValue,
 }
 use Rattle.machine.specs.Act.{Raw, raw}
 use Rattle.simulation.specs.Meant.{meantKey, entriesOf}
@@ -55,7 +56,7 @@ use Rattle.simulation.proofs.Results.{Untouched, After}
 module _ {program : List ℕ} {ts : List Token} {g : List ℕ} {r : Raw} {s : State} {total : Amounts} (h : Related program ts g r s total) (ws′ : List ℕ)
     (low : (j : ℕ) → j ≢ entriesUsed → j ≢ entriesMade → j < fixedWords + 5 * shapesGranted g → getD ws′ j 0 ≡ getD (r .words) j 0)
     (high : (j : ℕ) → componentPlace g 0 ≤ j → getD ws′ j 0 ≡ getD (r .words) j 0) where
-  counter : (j : ℕ) → j ≢ entriesUsed → j ≢ entriesMade → j < 80 → getD ws′ j 0 ≡ getD (r .words) j 0
+  counter : (j : ℕ) → j ≢ entriesUsed → j ≢ entriesMade → j < firstValue → getD ws′ j 0 ≡ getD (r .words) j 0
   counter j n m l = low j n m (omega arith)
 
   pub stored-later : Later program r (raw (r .texts) ws′)

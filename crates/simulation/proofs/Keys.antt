@@ -67,7 +67,8 @@ pairs-same v w l m = same-test (eqb v w) (sameInteger (lowNumber v) (lowNumber w
     back e =
         let q = both-true (sameInteger (lowNumber v) (lowNumber w)) (sameInteger (highNumber v) (highNumber w)) e in
         let x : v % 2 ^ 32 ≡ w % 2 ^ 32 = sym (bits-of (v % 2 ^ 32) (omega arith)) ∙ ap bits (sameInteger-iff (lowNumber v) (lowNumber w) .0 (q .0)) ∙ bits-of (w % 2 ^ 32) (omega arith) in
-        let y : v / 2 ^ 32 % 2 ^ 32 ≡ w / 2 ^ 32 % 2 ^ 32 = sym (bits-of (v / 2 ^ 32 % 2 ^ 32) (omega arith)) ∙ ap bits (sameInteger-iff (highNumber v) (highNumber w) .0 (q .1)) ∙ bits-of (w / 2 ^ 32 % 2 ^ 32) (omega arith) in
+        let y : v / 2 ^ 32 % 2 ^ 32 ≡ w / 2 ^ 32 % 2 ^ 32 = sym (bits-of (v / 2 ^ 32 % 2 ^ 32) (omega arith)) ∙ ap bits (sameInteger-iff (highNumber v) (highNumber w) .0 (q .1))
+        ∙ bits-of (w / 2 ^ 32 % 2 ^ 32) (omega arith) in
         let a : v / 2 ^ 32 % 2 ^ 32 ≡ v / 2 ^ 32 = omega arith in
         let b : w / 2 ^ 32 % 2 ^ 32 ≡ w / 2 ^ 32 = omega arith in
         eq-eqb v w (omega arith)

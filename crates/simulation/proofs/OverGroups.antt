@@ -140,7 +140,8 @@ module _ {program : List ℕ} {ts : List Token} {g : List ℕ} {r : Raw} {s : St
         let shapes = h .sound .shapes in
         let first = first-later later shapes same i l in
         let count = count-later later shapes same i l in
-        let list : listed (componentAt g (switched h within marks-fit .words)) (firstAt (r .words) i) (countAt (r .words) i) ≡ listed (componentAt g (r .words)) (firstAt (r .words) i) (countAt (r .words) i) =
+        let list : listed (componentAt g (switched h within marks-fit .words)) (firstAt (r .words) i) (countAt (r .words) i)
+        ≡ listed (componentAt g (r .words)) (firstAt (r .words) i) (countAt (r .words) i) =
         listed-same _ _ (firstAt (r .words) i) (countAt (r .words) i) (λ k a b. component-later later shapes same k (le-trans b (shapes .groups i l e .within))) in
         act-after (λ f. Act._>>_ (Act.store loopUnit (getD (r .words) loopUnit 0)) (Act.give f)) (λ f f′ r₂ s₂ total₂ w. record {
           result = f;

@@ -24,7 +24,7 @@ use Rattle.reader.proofs.Homes.{Occurs, same-text, text-same}
 use Rattle.reader.proofs.Known.{KnownNames}
 use Rattle.reader.proofs.Walk.{Stands, stands-first, stands-rest}
 use Rattle.machine.specs.Words.{packed, unpacked}
-use Rattle.machine.specs.Layout.{stepsUsed, declared, running, valuePlace}
+use Rattle.machine.specs.Layout.{stepsUsed, declared, running, valuePlace, firstValue}
 use Rattle.machine.specs.Act.{Raw, Out, done, stop}
 use Rattle.machine.specs.Act as Act
 use Rattle.machine.specs.Stack.{argumentAt}
@@ -111,14 +111,14 @@ twice-is xs = clashes [] xs ∙ rw (none-declared xs)
 module _ (program : List ℕ) (ts : List Token) (g : List ℕ) where
   pub data Declares (r : Raw) (s : State) (total : Amounts) (xs : List (List ℕ)) (p : ℕ) : Bool → Out (Unit {0}) → Type 0 where
     twice : {r′ : Raw} → getD (r′ .words) stepsUsed 0 ≡ getD (r .words) stepsUsed 0 → Declares r s total xs p true (stop 60 p r′)
-    once : {r′ : Raw} → After program ts g r r′ (withVariables s (s .variables ++ fresh xs)) total → ((i : ℕ) → i ≢ declared → i < 80 → getD (r′ .words) i 0 ≡ getD (r .words) i 0)
+    once : {r′ : Raw} → After program ts g r r′ (withVariables s (s .variables ++ fresh xs)) total → ((i : ℕ) → i ≢ declared → i < firstValue → getD (r′ .words) i 0 ≡ getD (r .words) i 0)
         → r′ .texts ≡ r .texts → Declares r s total xs p false (done tt r′)
 
 module _ {program : List ℕ} {ts : List Token} {g : List ℕ} (few : length ts ≤ 8192) (code : List ℕ) (p : ℕ) where
   -- one of them, and then the others
   one-then : {r r₁ : Raw} {s : State} {total : Amounts} (x : List ℕ) (xs : List (List ℕ)) {b : Bool} {o : Out (Unit {0})}
       → After program ts g r r₁ (withVariables s (s .variables ++ (record { name = x; holds = Value.none } ∷ []))) total
-      → getD (r₁ .words) stepsUsed 0 ≡ getD (r .words) stepsUsed 0 → ((i : ℕ) → i ≢ declared → i < 80 → getD (r₁ .words) i 0 ≡ getD (r .words) i 0) → r₁ .texts ≡ r .texts
+      → getD (r₁ .words) stepsUsed 0 ≡ getD (r .words) stepsUsed 0 → ((i : ℕ) → i ≢ declared → i < firstValue → getD (r₁ .words) i 0 ≡ getD (r .words) i 0) → r₁ .texts ≡ r .texts
       → Declares program ts g r₁ (withVariables s (s .variables ++ (record { name = x; holds = Value.none } ∷ []))) total xs p b o → Declares program ts g r s total (x ∷ xs) p b o
   unfolding fresh
   one-then x xs a e w t (twice q) = twice (q ∙ e)
@@ -148,7 +148,7 @@ module _ {program : List ℕ} {ts : List Token} {g : List ℕ} (few : length ts 
       go true e rest =
           let z : getD (r .words) (valuePlace (slotOf ts x)) 0 ≡ 0 = eqb-true _ _ e in
           let c = new-after few h x (k .0) z mine in
-          let as-was : (i : ℕ) → i ≢ declared → i < 80 → getD (three few h x (k .0) z) i 0 ≡ getD (r .words) i 0 =
+          let as-was : (i : ℕ) → i ≢ declared → i < firstValue → getD (three few h x (k .0) z) i 0 ≡ getD (r .words) i 0 =
           λ i d l. new-other few h x (k .0) z i (λ q. omega arith) (λ q. omega arith) d in
           rw (stands-first st, declare-free (slotOf ts x) p r z (room few h x (k .0) z), undeclared few h x (k .0) z)
           (one-then x xs c (new-other few h x (k .0) z stepsUsed (λ q. omega arith) (λ q. omega arith) (λ q. omega arith)) as-was refl

@@ -36,6 +36,7 @@ use Rattle.machine.specs.Layout.{
   argumentPlace,
   stackWords,
   fixedWords,
+  firstValue,
 }
 use Rattle.machine.specs.Act.{Raw, raw, done}
 use Rattle.machine.specs.Act as Act
@@ -157,7 +158,7 @@ module _ {program : List ℕ} {ts : List Token} {g : List ℕ} {r₁ r r₂ r′
       getD-set-other w₃ argumentsHeld i base 0 w ∙ getD-set-other w₂ callsUsed i (getD w₂ callsUsed 0 - 1) 0 z ∙ getD-set-other w₀ loopUnit i unit 0 u
       ∙ getD-set-other w₁ running i caller 0 y ∙ getD-set-other (back .words) declared i many 0 x
 
-  low : (i : ℕ) → i ≢ declared → i ≢ running → i ≢ callsUsed → i ≢ argumentsHeld → i ≢ loopUnit → i < 80 → getD ended i 0 ≡ getD (r′ .words) i 0
+  low : (i : ℕ) → i ≢ declared → i ≢ running → i ≢ callsUsed → i ≢ argumentsHeld → i ≢ loopUnit → i < firstValue → getD ended i 0 ≡ getD (r′ .words) i 0
   low i x y z w u l = other i x y z w u ∙ back .restored .low i l ∙ taken .undeclared .low i l
 
   ended-low : (i : ℕ) → i < declared → getD ended i 0 ≡ getD (r′ .words) i 0

@@ -9,7 +9,7 @@ use lib.ListN.{getD, set, length, length-set}
 use lib.Seq.{getD-set-same, getD-set-other}
 use lib.Dec.{eqb}
 use borrow.Author.Tests.{eqb-true, eqb-false}
-use Rattle.machine.specs.Layout.{valuePlace, orderPlace, argumentPlace, stackWords, fixedWords}
+use Rattle.machine.specs.Layout.{valuePlace, orderPlace, argumentPlace, stackWords, fixedWords, firstArgument, firstOrder, firstValue}
 use Rattle.machine.specs.Act.{raw, Out, done}
 use Rattle.machine.specs.Act as Act
 use Rattle.machine.specs.Stack.{argumentAt}
@@ -56,8 +56,8 @@ pub record Undeclared (ws ws′ : List ℕ) (k n from : ℕ) : Type 0 where
   pub long : length ws′ ≡ length ws
   pub gone : (j : ℕ) → k ≤ j → j < k + n → getD ws′ (valuePlace (slotAt ws j)) 0 ≡ 0
   pub none : (slot : ℕ) → getD ws (valuePlace slot) 0 ≡ 0 → getD ws′ (valuePlace slot) 0 ≡ 0
-  pub low : (i : ℕ) → i < 80 → getD ws′ i 0 ≡ getD ws i 0
-  pub order : (i : ℕ) → 8272 ≤ i → i < 16464 → getD ws′ i 0 ≡ getD ws i 0
+  pub low : (i : ℕ) → i < firstValue → getD ws′ i 0 ≡ getD ws i 0
+  pub order : (i : ℕ) → firstOrder ≤ i → i < firstArgument → getD ws′ i 0 ≡ getD ws i 0
   pub stack : (j : ℕ) → j < from → j < stackWords → argumentAt ws′ j ≡ argumentAt ws j
   pub high : (i : ℕ) → fixedWords ≤ i → getD ws′ i 0 ≡ getD ws i 0
 
@@ -199,8 +199,8 @@ pub record Restored (ws ws′ : List ℕ) (slots values : ℕ → ℕ) (k n : �
   pub before : (j : ℕ) → j < k → slotAt ws′ j ≡ slotAt ws j
   pub value : (j : ℕ) → k ≤ j → j < k + n → getD ws′ (valuePlace (slots j)) 0 ≡ values j
   pub others : (slot : ℕ) → slot < 8192 → ((j : ℕ) → k ≤ j → j < k + n → slots j ≢ slot) → getD ws′ (valuePlace slot) 0 ≡ getD ws (valuePlace slot) 0
-  pub low : (i : ℕ) → i < 80 → getD ws′ i 0 ≡ getD ws i 0
-  pub high : (i : ℕ) → 16464 ≤ i → getD ws′ i 0 ≡ getD ws i 0
+  pub low : (i : ℕ) → i < firstValue → getD ws′ i 0 ≡ getD ws i 0
+  pub high : (i : ℕ) → firstArgument ≤ i → getD ws′ i 0 ≡ getD ws i 0
 
 pub record Restores (texts ws : List ℕ) (slots values : ℕ → ℕ) (k n : ℕ) (o : Out (Unit {0})) : Type 0 where
   pub words : List ℕ

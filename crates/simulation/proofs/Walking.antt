@@ -33,6 +33,7 @@ use Rattle.machine.specs.Layout.{
   fixedWords,
   shapePlace,
   entryPlace,
+  firstFrame,
 }
 use Rattle.machine.specs.Act.{Raw, raw, Act}
 use Rattle.machine.specs.Act as Act
@@ -72,7 +73,7 @@ module _ {program : List ℕ} {ts : List Token} {g : List ℕ} {r : Raw} {s : St
   counter : (j : ℕ) → j < waitingHeld → getD (next .words) j 0 ≡ getD (r .words) j 0
   counter j l = low j (omega arith) (λ e. omega arith) (λ e. omega arith)
 
-  front : (j : ℕ) → 16 ≤ j → j < fixedWords → getD (next .words) j 0 ≡ getD (r .words) j 0
+  front : (j : ℕ) → firstFrame ≤ j → j < fixedWords → getD (next .words) j 0 ≡ getD (r .words) j 0
   front j l m = low j m (λ e. omega arith) (λ e. omega arith)
 
   high : (j : ℕ) → entryPlace g 0 ≤ j → getD (next .words) j 0 ≡ getD (r .words) j 0

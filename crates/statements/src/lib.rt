@@ -241,7 +241,8 @@ fn read_guarded(
 ) -> Read
     requires { ⌜ Space (now tokens) (now words) i n ⌝ }
     requires { ⌜ (i < length (now tokens)) × (tag < 256) ⌝ }
-    ensures { λ r. ⌜ seen r (now (words .exit)) ≡ writtenCode (guarded tag (placeAt (now (tokens .entry)) i) (insideOf left (now (tokens .entry))) (now (tokens .entry)) (i + 1)) n (now (words .entry)) ⌝ }
+    ensures { λ r. ⌜ seen r (now (words .exit)) ≡ writtenCode (guarded tag (placeAt (now (tokens .entry)) i) (insideOf left (now (tokens .entry))) (now (tokens .entry)) (i + 1)) n
+        (now (words .entry)) ⌝ }
 {
     let e = read_test(tokens, words, i + 1, n + 1, left);
     match e {
@@ -258,7 +259,8 @@ fn read_guarded(
 fn read_foreach(tokens: &[u64], words: &mut [u64], i: usize, n: usize, left: usize) -> Read
     requires { ⌜ Space (now tokens) (now words) i n ⌝ }
     requires { ⌜ i < length (now tokens) ⌝ }
-    ensures { λ r. ⌜ seen r (now (words .exit)) ≡ writtenCode (iteration (expression left (now (tokens .entry))) (insideOf left (now (tokens .entry))) (now (tokens .entry)) i) n (now (words .entry)) ⌝ }
+    ensures { λ r. ⌜ seen r (now (words .exit)) ≡ writtenCode (iteration (expression left (now (tokens .entry))) (insideOf left (now (tokens .entry))) (now (tokens .entry)) i) n
+        (now (words .entry)) ⌝ }
 {
     let e = read_each(tokens, words, i + 1, n + 1, left);
     match e {

@@ -6,7 +6,7 @@ use mathlib.Core.List.{List}
 use native.Mathlib.Omega.{arith}
 use lib.ListN.{getD, set, length, length-set}
 use borrow.Author.Tests.{not-true, not-false, lt-ltb, le-ltb}
-use Rattle.machine.specs.Layout.{declared, argumentsHeld, callsUsed, running, loopUnit, stackWords, framePlace, valuePlace, orderPlace, argumentPlace}
+use Rattle.machine.specs.Layout.{declared, argumentsHeld, callsUsed, running, loopUnit, stackWords, framePlace, valuePlace, orderPlace, argumentPlace, firstArgument}
 use Rattle.machine.specs.Act.{raw, done, Act, goOn, give, fail, refuse, load, store, passed, Passes, Gives, _>>=_}
 use Rattle.machine.specs.Variables.{declare, waitingWord, wordIn, slotIn, frameWord}
 use Rattle.machine.specs.Stack.{dropTo}
@@ -21,11 +21,11 @@ two-set ws i u j v = simp length-set
 
 module _ (ws₀ : List ℕ) (top n : ℕ) (ws : List ℕ) (k : ℕ) (g : Turns (suspendFrom top) 0 n ws₀ ws k) where
   pub suspend-more : (w : ℕ) → k < n → top + n ≤ stackWords → w ≡ waitingWord (getD ws (orderPlace k) 0) (getD ws (valuePlace (getD ws (orderPlace k) 0)) 0)
-      → Turns (suspendFrom top) 0 n ws₀ (set (set ws (16464 + top + k) w) (valuePlace (getD ws (orderPlace k) 0)) 0) (k + 1)
+      → Turns (suspendFrom top) 0 n ws₀ (set (set ws (firstArgument + top + k) w) (valuePlace (getD ws (orderPlace k) 0)) 0) (k + 1)
   unfolding suspendFrom _>>=_ goOn load store
   suspend-more w h l e =
-      let i : 16464 + top + k ≡ argumentPlace (top + k) = omega arith in
-      turns-next (suspendFrom top) 0 n ws₀ ws k g _ h (λ m ts. rw (← i, ← e)) (two-set ws (16464 + top + k) w (valuePlace (getD ws (orderPlace k) 0)) 0)
+      let i : firstArgument + top + k ≡ argumentPlace (top + k) = omega arith in
+      turns-next (suspendFrom top) 0 n ws₀ ws k g _ h (λ m ts. rw (← i, ← e)) (two-set ws (firstArgument + top + k) w (valuePlace (getD ws (orderPlace k) 0)) 0)
 
   pub all-suspended : n ≤ k → Gives ws₀ (suspendFrom top 0 n) tt ws
   unfolding suspendFrom give

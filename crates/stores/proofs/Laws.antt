@@ -39,15 +39,15 @@ past-end (w ∷ ws) (suc i) h = past-end ws i (omega arith)
 
 -- ---- counters
 module _ (ws : List ℕ) (counter granted amount : ℕ) where
-  pub amount-beyond : granted < amount → Pays ws counter granted amount false ws
+  pub used-beyond : granted < getD ws counter 0 → Pays ws counter granted amount false ws
   unfolding spend passed if_then_else_
-  amount-beyond h = record { equal = λ n p ts. rw (lt-leb (getD ws counter 0 + amount) granted (omega arith)) }
+  used-beyond h = record { equal = λ n p ts. rw (lt-leb (getD ws counter 0 + amount) granted (omega arith)) }
 
-  pub left-beyond : amount ≤ granted → granted - amount < getD ws counter 0 → Pays ws counter granted amount false ws
+  pub amount-beyond : getD ws counter 0 ≤ granted → granted - getD ws counter 0 < amount → Pays ws counter granted amount false ws
   unfolding spend passed if_then_else_
-  left-beyond l h = record { equal = λ n p ts. rw (lt-leb (getD ws counter 0 + amount) granted (omega arith)) }
+  amount-beyond l h = record { equal = λ n p ts. rw (lt-leb (getD ws counter 0 + amount) granted (omega arith)) }
 
-  pub pays : amount ≤ granted → getD ws counter 0 ≤ granted - amount → Pays ws counter granted amount true (set ws counter (getD ws counter 0 + amount))
+  pub pays : getD ws counter 0 ≤ granted → amount ≤ granted - getD ws counter 0 → Pays ws counter granted amount true (set ws counter (getD ws counter 0 + amount))
   unfolding spend passed if_then_else_
   pays l h = record { equal = λ n p ts. rw (le-leb (getD ws counter 0 + amount) granted (omega arith)) }
 

@@ -13,10 +13,10 @@ pub fn spend(words: &mut [u64], counter: usize, granted: u64, amount: u64) -> bo
     ensures { λ r. ⌜ Pays (now (words .entry)) counter granted amount r (now (words .exit)) ⌝ }
 {
     let used = words[counter];
-    if granted < amount {
+    if granted < used {
         return false;
     }
-    if granted - amount < used {
+    if granted - used < amount {
         return false;
     }
     words[counter] = used + amount;

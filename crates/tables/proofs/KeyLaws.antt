@@ -106,7 +106,8 @@ all-four false b c d e = let z : _≡_ {A = ℕ} 0 1 = cc in absurd (omega arith
 
 same-figure : (program ts ws : List ℕ) (i j : ℕ) → sameFigure program ts ws i j ≡ true → figureContent program ts ws i ≡ figureContent program ts ws j
 unfolding sameFigure figureContent
-same-figure program ts ws i j e = go (getD ws (shapePlace i) 0) (getD ws (shapePlace j) 0) (getD ws (shapePlace i + 1) 0) (getD ws (shapePlace j + 1) 0) (getD ws (shapePlace i + 2) 0) (getD ws (shapePlace j + 2) 0) e
+same-figure program ts ws i j e = go (getD ws (shapePlace i) 0) (getD ws (shapePlace j) 0) (getD ws (shapePlace i + 1) 0) (getD ws (shapePlace j + 1) 0) (getD ws (shapePlace i + 2) 0)
+    (getD ws (shapePlace j + 2) 0) e
   where
     go : (a b c d x y : ℕ) → (eqb (a / 2 % 8) (b / 2 % 8) && eqb c d && eqb x y && sameText (textOf program ts (a / 16)) (textOf program ts (b / 16))) ≡ true
         → (a / 2 % 8 ∷ c % 2 ^ 32 ∷ c / 2 ^ 32 % 2 ^ 32 ∷ x % 2 ^ 32 ∷ x / 2 ^ 32 % 2 ^ 32 ∷ textOf program ts (a / 16))

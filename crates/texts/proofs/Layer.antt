@@ -131,7 +131,13 @@ module _ (source d : List ℕ) (start n at : ℕ) where
       few = omega arith;
       within = g .within;
       room = g .room;
-      holds = rw (g .holds, e, part-more source start i (omega (arith, g .within)), laid-more d at (part start i source) (getD source (start + i) 0) (omega (arith, g .room)), length-part source start i (omega (arith, g .within)));
+      holds = rw (
+        g .holds,
+        e,
+        part-more source start i (omega (arith, g .within)),
+        laid-more d at (part start i source) (getD source (start + i) 0) (omega (arith, g .room)),
+        length-part source start i (omega (arith, g .within)),
+      );
     }
 
     pub copy-all : n ≤ i → out ≡ laidAt d at (part start n source)

@@ -22,7 +22,8 @@ is-dead-requires : tie.Need-is-dead-requires Inv-loop μ-loop
 is-dead-requires c κs = search needs
 
 returns : tie.Need-returns Inv-loop μ-loop
-returns c = ask-dead _ _ _ _ _ _ (c .before .before .before .before .loop .inv) (c .before .before .before .loop-test .taken) (c .before .before .argument .ensures) (c .before .is-dead .ensures) (c .if1 .taken)
+returns c = ask-dead _ _ _ _ _ _ (c .before .before .before .before .loop .inv) (c .before .before .before .loop-test .taken) (c .before .before .argument .ensures)
+    (c .before .is-dead .ensures) (c .if1 .taken)
 
 add-k : tie.Need-add-k Inv-loop μ-loop
 add-k c = omega arith

@@ -23,7 +23,8 @@ same-length-2 : tie.Need-same-length-2
 same-length-2 c = search needs
 
 returns-2 : tie.Need-returns-2
-returns-2 c = read-formed _ (c .before .before .before .before .before .before .before .before .before .if1 .left) _ _ (c .before .before .before .before .before .before .read .ensures .0) _ _ _ (c .enum-told .given .1)
+returns-2 c = read-formed _ (c .before .before .before .before .before .before .before .before .before .if1 .left) _ _
+    (c .before .before .before .before .before .before .read .ensures .0) _ _ _ (c .enum-told .given .1)
 
 same-length-3 : tie.Need-same-length-3
 same-length-3 c = search needs
@@ -32,7 +33,8 @@ same-length-4 : tie.Need-same-length-4
 same-length-4 c = search needs
 
 returns-3 : tie.Need-returns-3
-returns-3 c = read-malformed _ (c .before .before .before .before .before .before .before .before .before .before .if1 .left) _ _ (c .before .before .before .before .before .before .before .read .ensures .0) _ _ (c .before .p .given .1)
+returns-3 c = read-malformed _ (c .before .before .before .before .before .before .before .before .before .before .if1 .left) _ _
+    (c .before .before .before .before .before .before .before .read .ensures .0) _ _ (c .before .p .given .1)
 
 pub read-answer-spec : {M : Type 1} → statement M
 read-answer-spec =

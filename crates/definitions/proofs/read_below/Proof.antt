@@ -21,7 +21,8 @@ same-length : tie.Need-same-length
 same-length c = search needs
 
 returns : tie.Need-returns
-returns c = below-reads _ _ _ _ _ (c .before .before .before .before .before .before .pre .0) (c .before .before .before .before .before .before .pre .1) (c .before .before .read-procedure .kept .1 .0) _ (c .before .before .read-procedure .ensures)
+returns c = below-reads _ _ _ _ _ (c .before .before .before .before .before .before .pre .0) (c .before .before .before .before .before .before .pre .1)
+    (c .before .before .read-procedure .kept .1 .0) _ (c .before .before .read-procedure .ensures)
 
 pub read-below-spec : {M : Type 1} → statement M
 read-below-spec =

@@ -17,7 +17,8 @@ returns c = body-other _ _ _ _ _ (c .before .kind-at .ensures) (c .if1 .taken)
 
 add-read-statements : tie.Need-add-read-statements
 add-read-statements c =
-    let w = token-inside (now (c .before .before .before .before .before .args .tokens)) (c .before .before .before .before .before .args .i) _ (sym (c .before .before .kind-at .ensures) ∙ c .before .if1 .left) (λ z. omega arith) in
+    let w = token-inside (now (c .before .before .before .before .before .args .tokens)) (c .before .before .before .before .before .args .i) _ (sym (c .before .before .kind-at .ensures)
+    ∙ c .before .if1 .left) (λ z. omega arith) in
     omega arith
 
 read-statements-requires : tie.Need-read-statements-requires

@@ -26,7 +26,8 @@ kind-at-requires-2 c κs = search needs
 
 add-t18 : tie.Need-add-t18
 add-t18 c =
-    let w = token-inside (now (c .before .before .before .before .before .before .args .tokens)) (c .before .before .before .before .before .before .args .i) _ (sym (c .before .before .before .kind-at .ensures) ∙ c .before .before .if1 .left) (λ z. omega arith) in
+    let w = token-inside (now (c .before .before .before .before .before .before .args .tokens)) (c .before .before .before .before .before .before .args .i) _
+    (sym (c .before .before .before .kind-at .ensures) ∙ c .before .before .if1 .left) (λ z. omega arith) in
     omega arith
 
 returns-2 : tie.Need-returns-2
@@ -34,7 +35,8 @@ returns-2 c = head-nameless _ _ _ _ _ (c .before .before .before .kind-at .ensur
 
 add-kind-at-2 : tie.Need-add-kind-at-2
 add-kind-at-2 c =
-    let w = token-inside (now (c .before .before .before .before .before .before .args .tokens)) (c .before .before .before .before .before .before .args .i + 1) _ (sym (c .before .kind-at2 .ensures) ∙ c .if2 .left) (λ z. omega arith) in
+    let w = token-inside (now (c .before .before .before .before .before .before .args .tokens)) (c .before .before .before .before .before .before .args .i
+    + 1) _ (sym (c .before .kind-at2 .ensures) ∙ c .if2 .left) (λ z. omega arith) in
     omega arith
 
 kind-at-requires-3 : tie.Need-kind-at-requires-3
@@ -42,15 +44,19 @@ kind-at-requires-3 c κs = search needs
 
 add-t19 : tie.Need-add-t19
 add-t19 c =
-    let w = token-inside (now (c .before .before .before .before .before .before .before .before .args .tokens)) (c .before .before .before .before .before .before .before .before .args .i + 1) _ (sym (c .before .before .before .kind-at2 .ensures) ∙ c .before .before .if2 .left) (λ z. omega arith) in
+    let w = token-inside (now (c .before .before .before .before .before .before .before .before .args .tokens)) (c .before .before .before .before .before .before .before .before .args .i
+    + 1) _ (sym (c .before .before .before .kind-at2 .ensures) ∙ c .before .before .if2 .left) (λ z. omega arith) in
     omega arith
 
 returns-3 : tie.Need-returns-3
-returns-3 c = head-shut _ _ _ _ _ (c .before .before .before .before .before .kind-at .ensures) (c .before .before .before .before .if1 .left) _ (c .before .before .before .kind-at2 .ensures) (c .before .before .if2 .left) _ (c .before .kind-at3 .ensures) (c .if3 .taken)
+returns-3 c = head-shut _ _ _ _ _ (c .before .before .before .before .before .kind-at .ensures) (c .before .before .before .before .if1 .left) _ (c .before .before .before .kind-at2 .ensures)
+    (c .before .before .if2 .left) _ (c .before .kind-at3 .ensures) (c .if3 .taken)
 
 add-read-parameters : tie.Need-add-read-parameters
 add-read-parameters c =
-    let w = token-inside (now (c .before .before .before .before .before .before .before .before .before .args .tokens)) (c .before .before .before .before .before .before .before .before .before .args .i + 1) _ (sym (c .before .before .before .before .kind-at2 .ensures) ∙ c .before .before .before .if2 .left) (λ z. omega arith) in
+    let w = token-inside (now (c .before .before .before .before .before .before .before .before .before .args .tokens))
+    (c .before .before .before .before .before .before .before .before .before .args .i + 1) _ (sym (c .before .before .before .before .kind-at2 .ensures)
+    ∙ c .before .before .before .if2 .left) (λ z. omega arith) in
     omega arith
 
 read-parameters-requires : tie.Need-read-parameters-requires
@@ -63,7 +69,14 @@ enum-known-p-2 : tie.Need-enum-known-p-2
 enum-known-p-2 c = search needs
 
 read-body-requires : tie.Need-read-body-requires
-read-body-requires c κs = body-space _ _ _ _ _ (c .before .before .before .before .before .before .before .before .before .before .before .before .before .kind-at .ensures) (c .before .before .before .before .before .before .before .before .before .before .before .before .if1 .left) _ (c .before .before .before .before .before .before .before .before .before .before .before .kind-at2 .ensures) (c .before .before .before .before .before .before .before .before .before .before .if2 .left) _ (c .before .before .before .before .before .before .before .before .before .kind-at3 .ensures) (c .before .before .before .before .before .before .before .before .if3 .left) _ _ (c .before .before .before .before .before .before .read-parameters .ensures) _ _ _ (c .before .before .p2 .given .1) (c .before .before .before .before .before .before .before .before .before .before .before .before .before .before .before .before .pre) (c .before .before .before .before .before .before .read-parameters .kept .1 .0)
+read-body-requires c κs = body-space _ _ _ _ _ (c .before .before .before .before .before .before .before .before .before .before .before .before .before .kind-at .ensures)
+    (c .before .before .before .before .before .before .before .before .before .before .before .before .if1 .left) _
+    (c .before .before .before .before .before .before .before .before .before .before .before .kind-at2 .ensures)
+    (c .before .before .before .before .before .before .before .before .before .before .if2 .left) _
+    (c .before .before .before .before .before .before .before .before .before .kind-at3 .ensures) (c .before .before .before .before .before .before .before .before .if3 .left) _ _
+    (c .before .before .before .before .before .before .read-parameters .ensures) _ _ _ (c .before .before .p2 .given .1)
+    (c .before .before .before .before .before .before .before .before .before .before .before .before .before .before .before .before .pre)
+    (c .before .before .before .before .before .before .read-parameters .kept .1 .0)
 
 enum-known-s : tie.Need-enum-known-s
 enum-known-s c = search needs
@@ -72,25 +85,50 @@ enum-known-s-2 : tie.Need-enum-known-s-2
 enum-known-s-2 c = search needs
 
 sub-t26 : tie.Need-sub-t26
-sub-t26 c = let w = behind-parameters _ _ _ _ _ (c .before .before .before .before .before .before .before .before .before .before .before .before .before .before .before .before .before .before .before .kind-at .ensures) (c .before .before .before .before .before .before .before .before .before .before .before .before .before .before .before .before .before .before .if1 .left) _ (c .before .before .before .before .before .before .before .before .before .before .before .before .before .before .before .before .before .kind-at2 .ensures) (c .before .before .before .before .before .before .before .before .before .before .before .before .before .before .before .before .if2 .left) _ (c .before .before .before .before .before .before .before .before .before .before .before .before .before .before .before .kind-at3 .ensures) (c .before .before .before .before .before .before .before .before .before .before .before .before .before .before .if3 .left) _ _ (c .before .before .before .before .before .before .before .before .before .before .before .before .read-parameters .ensures) _ _ _ (c .before .before .before .before .before .before .before .before .p2 .given .1) in omega arith
+sub-t26 c = let w = behind-parameters _ _ _ _ _ (c .before .before .before .before .before .before .before .before .before .before .before .before .before .before .before .before .before
+    .before .before .kind-at .ensures) (c .before .before .before .before .before .before .before .before .before .before .before .before .before .before .before .before .before .before .if1
+    .left) _ (c .before .before .before .before .before .before .before .before .before .before .before .before .before .before .before .before .before .kind-at2 .ensures)
+    (c .before .before .before .before .before .before .before .before .before .before .before .before .before .before .before .before .if2 .left) _
+    (c .before .before .before .before .before .before .before .before .before .before .before .before .before .before .before .kind-at3 .ensures)
+    (c .before .before .before .before .before .before .before .before .before .before .before .before .before .before .if3 .left) _ _
+    (c .before .before .before .before .before .before .before .before .before .before .before .before .read-parameters .ensures) _ _ _
+    (c .before .before .before .before .before .before .before .before .p2 .given .1) in omega arith
 
 same-length : tie.Need-same-length
 same-length c = search needs
 
 returns-4 : tie.Need-returns-4
-returns-4 c = head-uncounted _ _ _ _ _ (c .before .before .before .before .before .before .before .before .before .before .before .before .kind-at .ensures) (c .before .before .before .before .before .before .before .before .before .before .before .if1 .left) _ (c .before .before .before .before .before .before .before .before .before .before .kind-at2 .ensures) (c .before .before .before .before .before .before .before .before .before .if2 .left) _ (c .before .before .before .before .before .before .before .before .kind-at3 .ensures) (c .before .before .before .before .before .before .before .if3 .left) _ _ (c .before .before .before .before .before .read-parameters .ensures) _ _ (c .before .p .given .1)
+returns-4 c = head-uncounted _ _ _ _ _ (c .before .before .before .before .before .before .before .before .before .before .before .before .kind-at .ensures)
+    (c .before .before .before .before .before .before .before .before .before .before .before .if1 .left) _
+    (c .before .before .before .before .before .before .before .before .before .before .kind-at2 .ensures)
+    (c .before .before .before .before .before .before .before .before .before .if2 .left) _ (c .before .before .before .before .before .before .before .before .kind-at3 .ensures)
+    (c .before .before .before .before .before .before .before .if3 .left) _ _ (c .before .before .before .before .before .read-parameters .ensures) _ _ (c .before .p .given .1)
 
 same-length-2 : tie.Need-same-length-2
 same-length-2 c = search needs
 
 returns-5 : tie.Need-returns-5
-returns-5 c = head-bodiless _ _ _ _ _ (c .before .before .before .before .before .before .before .before .before .before .before .before .before .before .before .before .before .before .before .kind-at .ensures) (c .before .before .before .before .before .before .before .before .before .before .before .before .before .before .before .before .before .before .if1 .left) _ (c .before .before .before .before .before .before .before .before .before .before .before .before .before .before .before .before .before .kind-at2 .ensures) (c .before .before .before .before .before .before .before .before .before .before .before .before .before .before .before .before .if2 .left) _ (c .before .before .before .before .before .before .before .before .before .before .before .before .before .before .before .kind-at3 .ensures) (c .before .before .before .before .before .before .before .before .before .before .before .before .before .before .if3 .left) _ _ (c .before .before .before .before .before .before .before .before .before .before .before .before .read-parameters .ensures) _ _ _ (c .before .before .before .before .before .before .before .before .p2 .given .1) _ _ (c .before .before .before .before .before .read-body .ensures) _ _ (c .before .s .given .1)
+returns-5 c = head-bodiless _ _ _ _ _ (c .before .before .before .before .before .before .before .before .before .before .before .before .before .before .before .before .before .before .before
+    .kind-at .ensures) (c .before .before .before .before .before .before .before .before .before .before .before .before .before .before .before .before .before .before .if1 .left) _
+    (c .before .before .before .before .before .before .before .before .before .before .before .before .before .before .before .before .before .kind-at2 .ensures)
+    (c .before .before .before .before .before .before .before .before .before .before .before .before .before .before .before .before .if2 .left) _
+    (c .before .before .before .before .before .before .before .before .before .before .before .before .before .before .before .kind-at3 .ensures)
+    (c .before .before .before .before .before .before .before .before .before .before .before .before .before .before .if3 .left) _ _
+    (c .before .before .before .before .before .before .before .before .before .before .before .before .read-parameters .ensures) _ _ _
+    (c .before .before .before .before .before .before .before .before .p2 .given .1) _ _ (c .before .before .before .before .before .read-body .ensures) _ _ (c .before .s .given .1)
 
 same-length-3 : tie.Need-same-length-3
 same-length-3 c = search needs
 
 returns-6 : tie.Need-returns-6
-returns-6 c = head-reads _ _ _ _ _ (c .before .before .before .before .before .before .before .before .before .before .before .before .before .before .before .before .before .before .before .kind-at .ensures) (c .before .before .before .before .before .before .before .before .before .before .before .before .before .before .before .before .before .before .if1 .left) _ (c .before .before .before .before .before .before .before .before .before .before .before .before .before .before .before .before .before .kind-at2 .ensures) (c .before .before .before .before .before .before .before .before .before .before .before .before .before .before .before .before .if2 .left) _ (c .before .before .before .before .before .before .before .before .before .before .before .before .before .before .before .kind-at3 .ensures) (c .before .before .before .before .before .before .before .before .before .before .before .before .before .before .if3 .left) _ _ (c .before .before .before .before .before .before .before .before .before .before .before .before .read-parameters .ensures) _ _ _ (c .before .before .before .before .before .before .before .before .p2 .given .1) _ _ (c .before .before .before .before .before .read-body .ensures) _ _ _ (c .before .s2 .given .1)
+returns-6 c = head-reads _ _ _ _ _ (c .before .before .before .before .before .before .before .before .before .before .before .before .before .before .before .before .before .before .before
+    .kind-at .ensures) (c .before .before .before .before .before .before .before .before .before .before .before .before .before .before .before .before .before .before .if1 .left) _
+    (c .before .before .before .before .before .before .before .before .before .before .before .before .before .before .before .before .before .kind-at2 .ensures)
+    (c .before .before .before .before .before .before .before .before .before .before .before .before .before .before .before .before .if2 .left) _
+    (c .before .before .before .before .before .before .before .before .before .before .before .before .before .before .before .kind-at3 .ensures)
+    (c .before .before .before .before .before .before .before .before .before .before .before .before .before .before .if3 .left) _ _
+    (c .before .before .before .before .before .before .before .before .before .before .before .before .read-parameters .ensures) _ _ _
+    (c .before .before .before .before .before .before .before .before .p2 .given .1) _ _ (c .before .before .before .before .before .read-body .ensures) _ _ _ (c .before .s2 .given .1)
 
 pub read-procedure-spec : {M : Type 1} → statement M
 read-procedure-spec =

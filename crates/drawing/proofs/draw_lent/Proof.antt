@@ -3,67 +3,52 @@ use borrow.Author.Needs.{needs}
 use Rattle.drawing.proofs.draw_lent.Statement.{statement}
 use Rattle.drawing.proofs.draw_lent.Tie as tie
 
--- src/lib.rt:54:11
 run-requires : tie.Need-run-requires
 run-requires c κs = search needs
 
--- src/lib.rt:56:64
 enum-told : tie.Need-enum-told
 enum-told c = search needs
 
--- src/lib.rt:56:17
 draw-scene-requires : tie.Need-draw-scene-requires
-draw-scene-requires c κs = lent-scene _ _ _ _ _ _ _ (c .before .before .before .before .before .before .before .before .before .before .before .before .before .run .ensures) (c .before .before .before .enum-told .given .1)
+draw-scene-requires c κs = lent-scene _ _ _ _ _ _ _ (c .before .before .before .before .before .before .before .before .before .before .before .before .before .run .ensures)
+    (c .before .before .before .enum-told .given .1)
 
--- src/lib.rt:59:25
 enum-known-n : tie.Need-enum-known-n
 enum-known-n c = search needs
 
--- src/lib.rt:59:55
 word-at-requires : tie.Need-word-at-requires
 word-at-requires c κs = search needs
 
--- src/lib.rt:40:1
 same-length : tie.Need-same-length
 same-length c = search needs
 
--- src/lib.rt:40:1
 same-length-2 : tie.Need-same-length-2
 same-length-2 c = search needs
 
--- src/lib.rt:40:1
 same-length-3 : tie.Need-same-length-3
 same-length-3 c = search needs
 
--- src/lib.rt:40:1
 same-length-4 : tie.Need-same-length-4
 same-length-4 c = search needs
 
--- src/lib.rt:40:1
 same-length-5 : tie.Need-same-length-5
 same-length-5 c = search needs
 
--- src/lib.rt:40:1
 returns : tie.Need-returns
 returns c = search lent-drawn
 
--- src/lib.rt:40:1
 same-length-6 : tie.Need-same-length-6
 same-length-6 c = search needs
 
--- src/lib.rt:40:1
 same-length-7 : tie.Need-same-length-7
 same-length-7 c = search needs
 
--- src/lib.rt:40:1
 same-length-8 : tie.Need-same-length-8
 same-length-8 c = search needs
 
--- src/lib.rt:40:1
 same-length-9 : tie.Need-same-length-9
 same-length-9 c = search needs
 
--- src/lib.rt:40:1
 returns-2 : tie.Need-returns-2
 returns-2 c = search lent-number
 

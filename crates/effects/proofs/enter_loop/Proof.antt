@@ -3,23 +3,18 @@ use borrow.Author.Needs.{needs}
 use Rattle.effects.proofs.enter_loop.Statement.{statement}
 use Rattle.effects.proofs.enter_loop.Tie as tie
 
--- src/lib.rt:151:16
 slice-read-unit : tie.Need-slice-read-unit
 slice-read-unit c = search needs
 
--- src/lib.rt:152:34
 inner-unit-requires : tie.Need-inner-unit-requires
 inner-unit-requires c κs = search needs
 
--- src/lib.rt:152:5
 slice-write-words : tie.Need-slice-write-words
 slice-write-words c = search needs
 
--- src/lib.rt:147:1
 same-length : tie.Need-same-length
 same-length c = search needs
 
--- src/lib.rt:147:1
 returns : tie.Need-returns
 returns c = search enters
 

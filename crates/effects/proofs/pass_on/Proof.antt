@@ -4,19 +4,15 @@ use borrow.Author.Needs.{needs}
 use Rattle.effects.proofs.pass_on.Statement.{statement}
 use Rattle.effects.proofs.pass_on.Tie as tie
 
--- src/lib.rt:82:8
 tag-of-requires : tie.Need-tag-of-requires
 tag-of-requires c κs = search needs
 
--- src/lib.rt:83:31
 unpack-requires : tie.Need-unpack-requires
 unpack-requires c κs = search needs
 
--- src/lib.rt:83:9
 returns : tie.Need-returns
 returns c = λ ws g p. is-return ws g _ _ p _ (c .before .before .tag-of .ensures) _ (c .before .if1 .taken) (c .unpack .ensures)
 
--- src/lib.rt:78:1
 returns-2 : tie.Need-returns-2
 returns-2 c = λ ws g p. is-act ws g _ _ p _ (c .before .tag-of .ensures) (λ t. c .before .before .pre (sym (c .before .tag-of .ensures) ∙ t)) (c .if1 .left)
 

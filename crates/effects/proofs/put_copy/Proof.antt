@@ -3,67 +3,51 @@ use borrow.Author.Needs.{needs}
 use Rattle.effects.proofs.put_copy.Statement.{statement}
 use Rattle.effects.proofs.put_copy.Tie as tie
 
--- src/lib.rt:46:9
 is-declared-requires : tie.Need-is-declared-requires
 is-declared-requires c κs = search needs
 
--- src/lib.rt:47:9
 same-length : tie.Need-same-length
 same-length c = search needs
 
--- src/lib.rt:47:9
 returns : tie.Need-returns
 returns c = search unknown
 
--- src/lib.rt:49:8
 is-dead-requires : tie.Need-is-dead-requires
 is-dead-requires c κs = search needs
 
--- src/lib.rt:50:9
 same-length-2 : tie.Need-same-length-2
 same-length-2 c = search needs
 
--- src/lib.rt:50:9
 returns-2 : tie.Need-returns-2
 returns-2 c = search shape-dead
 
--- src/lib.rt:52:51
 number-of-requires : tie.Need-number-of-requires
 number-of-requires c κs = search needs
 
--- src/lib.rt:52:11
 copy-shape-requires : tie.Need-copy-shape-requires
 copy-shape-requires c κs = search needs
 
--- src/lib.rt:54:22
 enum-known-v : tie.Need-enum-known-v
 enum-known-v c = search needs
 
--- src/lib.rt:55:58
 pack-requires : tie.Need-pack-requires
 pack-requires c κs = search needs
 
--- src/lib.rt:55:13
 set-variable-requires : tie.Need-set-variable-requires
 set-variable-requires c κs = search needs
 
--- src/lib.rt:58:21
 enum-known-n : tie.Need-enum-known-n
 enum-known-n c = search needs
 
--- src/lib.rt:41:1
 same-length-3 : tie.Need-same-length-3
 same-length-3 c = search needs
 
--- src/lib.rt:41:1
 returns-3 : tie.Need-returns-3
 returns-3 c = search copy-put
 
--- src/lib.rt:41:1
 same-length-4 : tie.Need-same-length-4
 same-length-4 c = search needs
 
--- src/lib.rt:41:1
 returns-4 : tie.Need-returns-4
 returns-4 c = search no-copy
 

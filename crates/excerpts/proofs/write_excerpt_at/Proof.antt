@@ -28,7 +28,8 @@ part-write-shown-at-start : tie.Need-part-write-shown-at-start
 part-write-shown-at-start c = search needs
 
 part-write-shown-at-end : tie.Need-part-write-shown-at-end
-part-write-shown-at-end c = end-fits _ _ _ _ _ _ (c .before .before .before .before .before .before .pre) (c .before .before .before .line-rest .ensures) (c .before .before .least .ensures) (c .before .least2 .ensures)
+part-write-shown-at-end c = end-fits _ _ _ _ _ _ (c .before .before .before .before .before .before .pre) (c .before .before .before .line-rest .ensures) (c .before .before .least .ensures)
+    (c .before .least2 .ensures)
 
 write-shown-at-requires : tie.Need-write-shown-at-requires
 write-shown-at-requires c κs = search needs
@@ -49,7 +50,12 @@ same-length : tie.Need-same-length
 same-length c = search needs
 
 returns : tie.Need-returns
-returns c = wrote-excerpt _ _ _ _ _ _ (c .before .before .before .before .before .before .before .before .before .before .before .before .before .before .before .pre) (c .before .before .before .before .before .before .before .before .before .before .before .before .line-rest .ensures) (c .before .before .before .before .before .before .before .before .before .before .before .least .ensures) (c .before .before .before .before .before .before .before .before .before .before .least2 .ensures) (omega (arith, c .before .before .before .before .before .before .before .before .before .before .before .before .before .before .before)) (c .before .before .before .before .before .before .before .write-shown-at .ensures) (c .before .before .write-mark-at .ensures)
+returns c = wrote-excerpt _ _ _ _ _ _ (c .before .before .before .before .before .before .before .before .before .before .before .before .before .before .before .pre)
+    (c .before .before .before .before .before .before .before .before .before .before .before .before .line-rest .ensures)
+    (c .before .before .before .before .before .before .before .before .before .before .before .least .ensures)
+    (c .before .before .before .before .before .before .before .before .before .before .least2 .ensures)
+    (omega (arith, c .before .before .before .before .before .before .before .before .before .before .before .before .before .before .before))
+    (c .before .before .before .before .before .before .before .write-shown-at .ensures) (c .before .before .write-mark-at .ensures)
 
 pub write-excerpt-at-spec : {M : Type 1} → statement M
 write-excerpt-at-spec =

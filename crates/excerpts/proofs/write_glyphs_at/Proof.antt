@@ -36,7 +36,8 @@ loop-less : tie.Need-loop-less Inv-loop μ-loop
 loop-less c = omega arith
 
 loop-again : tie.Need-loop-again Inv-loop μ-loop
-loop-again c = show-more _ _ _ _ _ _ _ (c .before .before .before .before .before .before .before .before .loop .inv) _ _ _ (omega arith) (c .before .before .before .before .before .before .before .loop-test .taken) (c .before .before .before .before .before .glyph .ensures) (c .before .before .write-bytes-at .ensures)
+loop-again c = show-more _ _ _ _ _ _ _ (c .before .before .before .before .before .before .before .before .loop .inv) _ _ _ (omega arith)
+    (c .before .before .before .before .before .before .before .loop-test .taken) (c .before .before .before .before .before .glyph .ensures) (c .before .before .write-bytes-at .ensures)
 
 same-length : tie.Need-same-length Inv-loop μ-loop
 same-length c = show-kept _ _ _ _ _ _ _ (c .before .loop .inv)

@@ -25,7 +25,9 @@ same-length : tie.Need-same-length
 same-length c = search needs
 
 returns : tie.Need-returns
-returns c = wrote-mark _ (omega (arith, c .before .before .before .before .before .before .before .before .before .before .before .before .before .before .before .before)) _ (c .before .before .before .before .before .before .before .before .before .before .before .write-if-at .ensures) (c .before .before .before .before .before .before .before .write-glyphs-at .ensures) (c .before .before .write-bytes-at .ensures)
+returns c = wrote-mark _ (omega (arith, c .before .before .before .before .before .before .before .before .before .before .before .before .before .before .before .before)) _
+    (c .before .before .before .before .before .before .before .before .before .before .before .write-if-at .ensures)
+    (c .before .before .before .before .before .before .before .write-glyphs-at .ensures) (c .before .before .write-bytes-at .ensures)
 
 pub write-mark-at-spec : {M : Type 1} → statement M
 write-mark-at-spec =

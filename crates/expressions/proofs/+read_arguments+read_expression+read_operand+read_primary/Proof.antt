@@ -8,7 +8,8 @@ use native.Mathlib.Omega.{arith}
 use borrow.Author.Needs.{needs}
 use Rattle.expressions.proofs.Tokens.{room-inside, part-small, home-small, callee-small}
 use Rattle.expressions.proofs.Rooms.{operand-next, primary-next, operand-spare, primary-spare, spot-at, call-spare, table-spare}
-use Rattle.expressions.proofs.Moves.{expression-wrong, expression-one, expression-two, operand-wrong, operand-one, operand-two, reads-digits, reads-negative, reads-string, reads-none, reads-true, reads-false, reads-name, reads-call, reads-paren, reads-table, reads-no-call, reads-no-paren, reads-no-table, reads-other}
+use Rattle.expressions.proofs.Moves.{expression-wrong, expression-one, expression-two, operand-wrong, operand-one, operand-two, reads-digits, reads-negative, reads-string, reads-none}
+use Rattle.expressions.proofs.Moves.{reads-true, reads-false, reads-name, reads-call, reads-paren, reads-table, reads-no-call, reads-no-paren, reads-no-table, reads-other}
 use Rattle.expressions.proofs.Going.{Going, arguments-none, going-starts, going-fails, turned, going-on, going-ends, going-stops}
 use borrow.Fn.Kinds.{In}
 use borrow.Fn.PlainCycle.{Measures, is, falls, and}
@@ -190,12 +191,14 @@ read-arguments-returns t c = arguments-none _ _ _ _ _ _ (c .before .kind-at .ens
 read-arguments-loop-holds : (t : ℕ) → read-arguments-lts.Need-loop-holds (read-arguments-calls t) (read-arguments-at t) read-arguments.Post read-arguments-Inv-loop read-arguments-μ-loop
 read-arguments-loop-holds t c = going-starts _ _ _ _ _ _ (c .before .kind-at .ensures) (c .if1 .left) (c .before .before .before .before .fits .i .fits) (c .before .before .before .before .pre .1)
 
-read-arguments-add-read-expression : (t : ℕ) → read-arguments-lts.Need-add-read-expression (read-arguments-calls t) (read-arguments-at t) read-arguments.Post read-arguments-Inv-loop read-arguments-μ-loop
+read-arguments-add-read-expression : (t : ℕ) → read-arguments-lts.Need-add-read-expression (read-arguments-calls t)
+    (read-arguments-at t) read-arguments.Post read-arguments-Inv-loop read-arguments-μ-loop
 read-arguments-add-read-expression t c =
     let g = c .before .loop .inv in
     omega (arith, g .fits, g .room .behind)
 
-read-arguments-read-expression-requires : (t : ℕ) → read-arguments-lts.Need-read-expression-requires (read-arguments-calls t) (read-arguments-at t) read-arguments.Post read-arguments-Inv-loop read-arguments-μ-loop
+read-arguments-read-expression-requires : (t : ℕ) → read-arguments-lts.Need-read-expression-requires (read-arguments-calls t)
+    (read-arguments-at t) read-arguments.Post read-arguments-Inv-loop read-arguments-μ-loop
 read-arguments-read-expression-requires t c κs = (omega (arith, c .before .loop .inv .ahead, c .before .before .before .before .before .before .pre .0), c .before .loop .inv .room)
 
 read-arguments-enum-known-e : (t : ℕ) → read-arguments-lts.Need-enum-known-e (read-arguments-calls t) (read-arguments-at t) read-arguments.Post read-arguments-Inv-loop read-arguments-μ-loop
@@ -205,61 +208,91 @@ read-arguments-same-length : (t : ℕ) → read-arguments-lts.Need-same-length (
 read-arguments-same-length t c = omega (arith, c .before .before .before .before .before .before .before .loop .inv .kept, c .before .before .before .before .before .read-expression .kept .1 .0)
 
 read-arguments-returns-2 : (t : ℕ) → read-arguments-lts.Need-returns-2 (read-arguments-calls t) (read-arguments-at t) read-arguments.Post read-arguments-Inv-loop read-arguments-μ-loop
-read-arguments-returns-2 t c = going-fails _ _ _ _ _ _ _ _ (c .before .before .before .before .before .before .before .loop .inv) _ _ (c .before .before .before .before .before .read-expression .ensures) _ _ (c .before .e .given .1)
+read-arguments-returns-2 t c = going-fails _ _ _ _ _ _ _ _ (c .before .before .before .before .before .before .before .loop .inv) _ _
+    (c .before .before .before .before .before .read-expression .ensures) _ _ (c .before .e .given .1)
 
 read-arguments-enum-known-e-2 : (t : ℕ) → read-arguments-lts.Need-enum-known-e-2 (read-arguments-calls t) (read-arguments-at t) read-arguments.Post read-arguments-Inv-loop read-arguments-μ-loop
 read-arguments-enum-known-e-2 t c = search needs
 
 read-arguments-sub-word-of : (t : ℕ) → read-arguments-lts.Need-sub-word-of (read-arguments-calls t) (read-arguments-at t) read-arguments.Post read-arguments-Inv-loop read-arguments-μ-loop
 read-arguments-sub-word-of t c =
-    let x = turned _ _ _ _ _ _ _ _ (c .before .before .before .before .before .before .before .before .loop .inv) _ _ (c .before .before .before .before .before .before .read-expression .ensures) _ _ _ (c .before .before .e2 .given .1) (c .before .before .before .before .before .before .read-expression .kept .1 .0) in
+    let x = turned _ _ _ _ _ _ _ _ (c .before .before .before .before .before .before .before .before .loop .inv) _ _
+    (c .before .before .before .before .before .before .read-expression .ensures) _ _ _ (c .before .before .e2 .given .1)
+    (c .before .before .before .before .before .before .read-expression .kept .1 .0) in
     omega (arith, x .some)
 
 read-arguments-sub-word-of-2 : (t : ℕ) → read-arguments-lts.Need-sub-word-of-2 (read-arguments-calls t) (read-arguments-at t) read-arguments.Post read-arguments-Inv-loop read-arguments-μ-loop
 read-arguments-sub-word-of-2 t c =
-    let x = turned _ _ _ _ _ _ _ _ (c .before .before .before .before .before .before .before .before .loop .inv) _ _ (c .before .before .before .before .before .before .read-expression .ensures) _ _ _ (c .before .before .e2 .given .1) (c .before .before .before .before .before .before .read-expression .kept .1 .0) in
+    let x = turned _ _ _ _ _ _ _ _ (c .before .before .before .before .before .before .before .before .loop .inv) _ _
+    (c .before .before .before .before .before .before .read-expression .ensures) _ _ _ (c .before .before .e2 .given .1)
+    (c .before .before .before .before .before .before .read-expression .kept .1 .0) in
     omega (arith, x .some)
 
 read-arguments-word-of-requires : (t : ℕ) → read-arguments-lts.Need-word-of-requires (read-arguments-calls t) (read-arguments-at t) read-arguments.Post read-arguments-Inv-loop read-arguments-μ-loop
 read-arguments-word-of-requires t c κs =
-    let x = turned _ _ _ _ _ _ _ _ (c .before .before .before .before .before .before .before .before .loop .inv) _ _ (c .before .before .before .before .before .before .read-expression .ensures) _ _ _ (c .before .before .e2 .given .1) (c .before .before .before .before .before .before .read-expression .kept .1 .0) in
+    let x = turned _ _ _ _ _ _ _ _ (c .before .before .before .before .before .before .before .before .loop .inv) _ _
+    (c .before .before .before .before .before .before .read-expression .ensures) _ _ _ (c .before .before .e2 .given .1)
+    (c .before .before .before .before .before .before .read-expression .kept .1 .0) in
     omega (arith, x .some, x .size)
 
 read-arguments-put-requires : (t : ℕ) → read-arguments-lts.Need-put-requires (read-arguments-calls t) (read-arguments-at t) read-arguments.Post read-arguments-Inv-loop read-arguments-μ-loop
 read-arguments-put-requires t c κs = search needs
 
-read-arguments-kind-at-requires-2 : (t : ℕ) → read-arguments-lts.Need-kind-at-requires-2 (read-arguments-calls t) (read-arguments-at t) read-arguments.Post read-arguments-Inv-loop read-arguments-μ-loop
+read-arguments-kind-at-requires-2 : (t : ℕ) → read-arguments-lts.Need-kind-at-requires-2 (read-arguments-calls t)
+    (read-arguments-at t) read-arguments.Post read-arguments-Inv-loop read-arguments-μ-loop
 read-arguments-kind-at-requires-2 t c κs = search needs
 
 read-arguments-add-t28 : (t : ℕ) → read-arguments-lts.Need-add-t28 (read-arguments-calls t) (read-arguments-at t) read-arguments.Post read-arguments-Inv-loop read-arguments-μ-loop
 read-arguments-add-t28 t c =
-    let x = turned _ _ _ _ _ _ _ _ (c .before .before .before .before .before .before .before .before .before .before .before .before .before .before .loop .inv) _ _ (c .before .before .before .before .before .before .before .before .before .before .before .before .read-expression .ensures) _ _ _ (c .before .before .before .before .before .before .before .before .e2 .given .1) (c .before .before .before .before .before .before .before .before .before .before .before .before .read-expression .kept .1 .0) in
+    let x = turned _ _ _ _ _ _ _ _ (c .before .before .before .before .before .before .before .before .before .before .before .before .before .before .loop .inv) _ _
+    (c .before .before .before .before .before .before .before .before .before .before .before .before .read-expression .ensures) _ _ _
+    (c .before .before .before .before .before .before .before .before .e2 .given .1)
+    (c .before .before .before .before .before .before .before .before .before .before .before .before .read-expression .kept .1 .0) in
     omega (arith, x .within, c .before .before .before .before .before .before .before .before .before .before .before .before .before .before .loop .inv .room .short)
 
 read-arguments-same-length-2 : (t : ℕ) → read-arguments-lts.Need-same-length-2 (read-arguments-calls t) (read-arguments-at t) read-arguments.Post read-arguments-Inv-loop read-arguments-μ-loop
 read-arguments-same-length-2 t c = omega (arith, c .before .before .before .before .before .before .before .before .before .before .before .before .before .before .loop .inv .kept, c .before .before .before .before .before .before .before .before .before .before .before .before .read-expression .kept .1 .0)
 
 read-arguments-returns-3 : (t : ℕ) → read-arguments-lts.Need-returns-3 (read-arguments-calls t) (read-arguments-at t) read-arguments.Post read-arguments-Inv-loop read-arguments-μ-loop
-read-arguments-returns-3 t c = going-ends _ _ _ _ _ _ _ _ (c .before .before .before .before .before .before .before .before .before .before .before .before .before .before .loop .inv) _ _ (c .before .before .before .before .before .before .before .before .before .before .before .before .read-expression .ensures) _ _ _ (c .before .before .before .before .before .before .before .before .e2 .given .1) (c .before .before .before .before .before .before .before .before .before .before .before .before .read-expression .kept .1 .0) _ _ _ (c .before .before .before .before .before .word-of .ensures) (c .before .before .before .before .put .ensures) (c .before .kind-at2 .ensures) (c .if2 .taken)
+read-arguments-returns-3 t c = going-ends _ _ _ _ _ _ _ _ (c .before .before .before .before .before .before .before .before .before .before .before .before .before .before .loop .inv) _ _
+    (c .before .before .before .before .before .before .before .before .before .before .before .before .read-expression .ensures) _ _ _
+    (c .before .before .before .before .before .before .before .before .e2 .given .1)
+    (c .before .before .before .before .before .before .before .before .before .before .before .before .read-expression .kept .1 .0) _ _ _
+    (c .before .before .before .before .before .word-of .ensures) (c .before .before .before .before .put .ensures) (c .before .kind-at2 .ensures) (c .if2 .taken)
 
 read-arguments-same-length-3 : (t : ℕ) → read-arguments-lts.Need-same-length-3 (read-arguments-calls t) (read-arguments-at t) read-arguments.Post read-arguments-Inv-loop read-arguments-μ-loop
 read-arguments-same-length-3 t c = omega (arith, c .before .before .before .before .before .before .before .before .before .before .before .before .before .before .before .loop .inv .kept, c .before .before .before .before .before .before .before .before .before .before .before .before .before .read-expression .kept .1 .0)
 
 read-arguments-returns-4 : (t : ℕ) → read-arguments-lts.Need-returns-4 (read-arguments-calls t) (read-arguments-at t) read-arguments.Post read-arguments-Inv-loop read-arguments-μ-loop
-read-arguments-returns-4 t c = going-stops _ _ _ _ _ _ _ _ (c .before .before .before .before .before .before .before .before .before .before .before .before .before .before .before .loop .inv) _ _ (c .before .before .before .before .before .before .before .before .before .before .before .before .before .read-expression .ensures) _ _ _ (c .before .before .before .before .before .before .before .before .before .e2 .given .1) (c .before .before .before .before .before .before .before .before .before .before .before .before .before .read-expression .kept .1 .0) _ _ _ (c .before .before .before .before .before .before .word-of .ensures) (c .before .before .before .before .before .put .ensures) (c .before .before .kind-at2 .ensures) (c .before .if2 .left) (c .if3 .taken)
+read-arguments-returns-4 t c = going-stops _ _ _ _ _ _ _ _ (c .before .before .before .before .before .before .before .before .before .before .before .before .before .before .before .loop
+    .inv) _ _ (c .before .before .before .before .before .before .before .before .before .before .before .before .before .read-expression .ensures) _ _ _
+    (c .before .before .before .before .before .before .before .before .before .e2 .given .1)
+    (c .before .before .before .before .before .before .before .before .before .before .before .before .before .read-expression .kept .1 .0) _ _ _
+    (c .before .before .before .before .before .before .word-of .ensures) (c .before .before .before .before .before .put .ensures) (c .before .before .kind-at2 .ensures)
+    (c .before .if2 .left) (c .if3 .taken)
 
 read-arguments-add-at : (t : ℕ) → read-arguments-lts.Need-add-at (read-arguments-calls t) (read-arguments-at t) read-arguments.Post read-arguments-Inv-loop read-arguments-μ-loop
 read-arguments-add-at t c =
-    let x = turned _ _ _ _ _ _ _ _ (c .before .before .before .before .before .before .before .before .before .before .before .before .before .before .before .loop .inv) _ _ (c .before .before .before .before .before .before .before .before .before .before .before .before .before .read-expression .ensures) _ _ _ (c .before .before .before .before .before .before .before .before .before .e2 .given .1) (c .before .before .before .before .before .before .before .before .before .before .before .before .before .read-expression .kept .1 .0) in
+    let x = turned _ _ _ _ _ _ _ _ (c .before .before .before .before .before .before .before .before .before .before .before .before .before .before .before .loop .inv) _ _
+    (c .before .before .before .before .before .before .before .before .before .before .before .before .before .read-expression .ensures) _ _ _
+    (c .before .before .before .before .before .before .before .before .before .e2 .given .1)
+    (c .before .before .before .before .before .before .before .before .before .before .before .before .before .read-expression .kept .1 .0) in
     omega (arith, x .within, c .before .before .before .before .before .before .before .before .before .before .before .before .before .before .before .loop .inv .room .short)
 
 read-arguments-loop-less : (t : ℕ) → read-arguments-lts.Need-loop-less (read-arguments-calls t) (read-arguments-at t) read-arguments.Post read-arguments-Inv-loop read-arguments-μ-loop
 read-arguments-loop-less t c =
-    let x = turned _ _ _ _ _ _ _ _ (c .before .before .before .before .before .before .before .before .before .before .before .before .before .before .before .loop .inv) _ _ (c .before .before .before .before .before .before .before .before .before .before .before .before .before .read-expression .ensures) _ _ _ (c .before .before .before .before .before .before .before .before .before .e2 .given .1) (c .before .before .before .before .before .before .before .before .before .before .before .before .before .read-expression .kept .1 .0) in
+    let x = turned _ _ _ _ _ _ _ _ (c .before .before .before .before .before .before .before .before .before .before .before .before .before .before .before .loop .inv) _ _
+    (c .before .before .before .before .before .before .before .before .before .before .before .before .before .read-expression .ensures) _ _ _
+    (c .before .before .before .before .before .before .before .before .before .e2 .given .1)
+    (c .before .before .before .before .before .before .before .before .before .before .before .before .before .read-expression .kept .1 .0) in
     omega (arith, x .ahead, x .within)
 
 read-arguments-loop-again : (t : ℕ) → read-arguments-lts.Need-loop-again (read-arguments-calls t) (read-arguments-at t) read-arguments.Post read-arguments-Inv-loop read-arguments-μ-loop
-read-arguments-loop-again t c = going-on _ _ _ _ _ _ _ _ (c .before .before .before .before .before .before .before .before .before .before .before .before .before .before .before .loop .inv) _ _ (c .before .before .before .before .before .before .before .before .before .before .before .before .before .read-expression .ensures) _ _ _ (c .before .before .before .before .before .before .before .before .before .e2 .given .1) (c .before .before .before .before .before .before .before .before .before .before .before .before .before .read-expression .kept .1 .0) _ _ _ (c .before .before .before .before .before .before .word-of .ensures) (c .before .before .before .before .before .put .ensures) (c .before .before .kind-at2 .ensures) (c .if3 .left)
+read-arguments-loop-again t c = going-on _ _ _ _ _ _ _ _ (c .before .before .before .before .before .before .before .before .before .before .before .before .before .before .before .loop .inv)
+    _ _ (c .before .before .before .before .before .before .before .before .before .before .before .before .before .read-expression .ensures) _ _ _
+    (c .before .before .before .before .before .before .before .before .before .e2 .given .1)
+    (c .before .before .before .before .before .before .before .before .before .before .before .before .before .read-expression .kept .1 .0) _ _ _
+    (c .before .before .before .before .before .before .word-of .ensures) (c .before .before .before .before .before .put .ensures) (c .before .before .kind-at2 .ensures) (c .if3 .left)
 
 read-expression-read-operand-requires : (t : ℕ) → read-expression-lts.Need-read-operand-requires (read-expression-calls t) (read-expression-at t) read-expression.Post
 read-expression-read-operand-requires t c κs = (omega (arith, c .before .before .before .pre .0), c .before .before .before .pre .1)
@@ -280,22 +313,30 @@ read-expression-same-length : (t : ℕ) → read-expression-lts.Need-same-length
 read-expression-same-length t c = search needs
 
 read-expression-returns : (t : ℕ) → read-expression-lts.Need-returns (read-expression-calls t) (read-expression-at t) read-expression.Post
-read-expression-returns t c = expression-one _ _ _ _ _ _ _ _ _ _ _ _ (c .before .before .before .before .before .before .before .before .read-operand .ensures) (c .before .before .before .before .a2 .given .1) (c .before .before .kind-at .ensures) (c .before .operator-tag .ensures) (c .if1 .taken)
+read-expression-returns t c = expression-one _ _ _ _ _ _ _ _ _ _ _ _ (c .before .before .before .before .before .before .before .before .read-operand .ensures)
+    (c .before .before .before .before .a2 .given .1) (c .before .before .kind-at .ensures) (c .before .operator-tag .ensures) (c .if1 .taken)
 
 read-expression-add-read-operand : (t : ℕ) → read-expression-lts.Need-add-read-operand (read-expression-calls t) (read-expression-at t) read-expression.Post
 read-expression-add-read-operand t c =
     let o = c .before .before .before .before .before .before .before .before .before .before .before .before .before .pre .1 in
-    let x = operand-next _ _ _ _ _ _ _ _ _ _ o (c .before .before .before .before .before .before .before .before .before .read-operand .kept .1 .0) (c .before .before .before .before .before .a2 .given .1) (c .before .before .before .before .before .before .before .before .before .read-operand .ensures) in
+    let x = operand-next _ _ _ _ _ _ _ _ _ _ o (c .before .before .before .before .before .before .before .before .before .read-operand .kept .1 .0)
+    (c .before .before .before .before .before .a2 .given .1) (c .before .before .before .before .before .before .before .before .before .read-operand .ensures) in
     omega (arith, x .within, o .short)
 
 read-expression-read-operand-requires-2 : (t : ℕ) → read-expression-lts.Need-read-operand-requires-2 (read-expression-calls t) (read-expression-at t) read-expression.Post
 read-expression-read-operand-requires-2 t c κs =
     let o = c .before .before .before .before .before .before .before .before .before .before .before .before .before .pre .1 in
-    let x = operand-next _ _ _ _ _ _ _ _ _ _ o (c .before .before .before .before .before .before .before .before .before .read-operand .kept .1 .0) (c .before .before .before .before .before .a2 .given .1) (c .before .before .before .before .before .before .before .before .before .read-operand .ensures) in
+    let x = operand-next _ _ _ _ _ _ _ _ _ _ o (c .before .before .before .before .before .before .before .before .before .read-operand .kept .1 .0)
+    (c .before .before .before .before .before .a2 .given .1) (c .before .before .before .before .before .before .before .before .before .read-operand .ensures) in
     (omega (arith, x .ahead, x .within, c .before .before .before .before .before .before .before .before .before .before .before .before .before .pre .0), x .room)
 
 read-expression-join-requires : (t : ℕ) → read-expression-lts.Need-join-requires (read-expression-calls t) (read-expression-at t) read-expression.Post
-read-expression-join-requires t c κs = operand-spare _ _ _ _ _ _ _ _ _ _ (c .before .before .before .before .before .before .before .before .before .before .before .before .before .before .before .before .before .pre .1) (c .before .before .before .before .before .before .before .before .before .before .before .before .before .read-operand .kept .1 .0) (c .before .before .before .before .before .before .before .before .before .a2 .given .1) _ _ _ _ (c .before .before .before .before .before .before .operator-tag .ensures) (c .before .before .before .read-operand2 .kept .1 .0) (c .before .before .before .before .before .before .before .before .before .before .before .before .before .read-operand .ensures) (c .before .before .before .read-operand2 .ensures)
+read-expression-join-requires t c κs = operand-spare _ _ _ _ _ _ _ _ _ _
+    (c .before .before .before .before .before .before .before .before .before .before .before .before .before .before .before .before .before .pre .1)
+    (c .before .before .before .before .before .before .before .before .before .before .before .before .before .read-operand .kept .1 .0)
+    (c .before .before .before .before .before .before .before .before .before .a2 .given .1) _ _ _ _ (c .before .before .before .before .before .before .operator-tag .ensures)
+    (c .before .before .before .read-operand2 .kept .1 .0) (c .before .before .before .before .before .before .before .before .before .before .before .before .before .read-operand .ensures)
+    (c .before .before .before .read-operand2 .ensures)
 
 read-expression-same-length-2 : (t : ℕ) → read-expression-lts.Need-same-length-2 (read-expression-calls t) (read-expression-at t) read-expression.Post
 read-expression-same-length-2 t c = search needs
@@ -307,7 +348,12 @@ read-expression-same-length-3 : (t : ℕ) → read-expression-lts.Need-same-leng
 read-expression-same-length-3 t c = search needs
 
 read-expression-returns-3 : (t : ℕ) → read-expression-lts.Need-returns-3 (read-expression-calls t) (read-expression-at t) read-expression.Post
-read-expression-returns-3 t c = expression-two _ _ _ _ _ _ _ _ _ _ _ _ (c .before .before .before .before .before .before .before .before .before .before .before .before .before .before .before .before .read-operand .ensures) (c .before .before .before .before .before .before .before .before .before .before .before .before .a2 .given .1) (c .before .before .before .before .before .before .before .before .before .before .kind-at .ensures) (c .before .before .before .before .before .before .before .before .before .operator-tag .ensures) _ _ _ _ (c .before .before .before .before .before .before .before .before .if1 .left) (c .before .before .before .before .before .before .read-operand2 .ensures) (c .before .before .join .ensures)
+read-expression-returns-3 t c = expression-two _ _ _ _ _ _ _ _ _ _ _ _
+    (c .before .before .before .before .before .before .before .before .before .before .before .before .before .before .before .before .read-operand .ensures)
+    (c .before .before .before .before .before .before .before .before .before .before .before .before .a2 .given .1)
+    (c .before .before .before .before .before .before .before .before .before .before .kind-at .ensures)
+    (c .before .before .before .before .before .before .before .before .before .operator-tag .ensures) _ _ _ _ (c .before .before .before .before .before .before .before .before .if1 .left)
+    (c .before .before .before .before .before .before .read-operand2 .ensures) (c .before .before .join .ensures)
 
 read-operand-read-primary-requires : (t : ℕ) → read-operand-lts.Need-read-primary-requires (read-operand-calls t) (read-operand-at t) read-operand.Post
 read-operand-read-primary-requires t c κs = (omega (arith, c .before .before .before .pre .0), c .before .before .before .pre .1)
@@ -325,22 +371,28 @@ read-operand-same-length : (t : ℕ) → read-operand-lts.Need-same-length (read
 read-operand-same-length t c = search needs
 
 read-operand-returns : (t : ℕ) → read-operand-lts.Need-returns (read-operand-calls t) (read-operand-at t) read-operand.Post
-read-operand-returns t c = operand-one _ _ _ _ _ _ _ _ _ _ _ (c .before .before .before .before .before .before .before .read-primary .ensures) (c .before .before .before .a2 .given .1) (c .before .kind-at .ensures) (c .if1 .taken)
+read-operand-returns t c = operand-one _ _ _ _ _ _ _ _ _ _ _ (c .before .before .before .before .before .before .before .read-primary .ensures) (c .before .before .before .a2 .given .1)
+    (c .before .kind-at .ensures) (c .if1 .taken)
 
 read-operand-add-read-primary : (t : ℕ) → read-operand-lts.Need-add-read-primary (read-operand-calls t) (read-operand-at t) read-operand.Post
 read-operand-add-read-primary t c =
     let o = c .before .before .before .before .before .before .before .before .before .before .before .before .pre .1 in
-    let x = primary-next _ _ _ _ _ _ _ _ _ _ o (c .before .before .before .before .before .before .before .before .read-primary .kept .1 .0) (c .before .before .before .before .a2 .given .1) (c .before .before .before .before .before .before .before .before .read-primary .ensures) in
+    let x = primary-next _ _ _ _ _ _ _ _ _ _ o (c .before .before .before .before .before .before .before .before .read-primary .kept .1 .0) (c .before .before .before .before .a2 .given .1)
+    (c .before .before .before .before .before .before .before .before .read-primary .ensures) in
     omega (arith, x .within, o .short)
 
 read-operand-read-primary-requires-2 : (t : ℕ) → read-operand-lts.Need-read-primary-requires-2 (read-operand-calls t) (read-operand-at t) read-operand.Post
 read-operand-read-primary-requires-2 t c κs =
     let o = c .before .before .before .before .before .before .before .before .before .before .before .before .pre .1 in
-    let x = primary-next _ _ _ _ _ _ _ _ _ _ o (c .before .before .before .before .before .before .before .before .read-primary .kept .1 .0) (c .before .before .before .before .a2 .given .1) (c .before .before .before .before .before .before .before .before .read-primary .ensures) in
+    let x = primary-next _ _ _ _ _ _ _ _ _ _ o (c .before .before .before .before .before .before .before .before .read-primary .kept .1 .0) (c .before .before .before .before .a2 .given .1)
+    (c .before .before .before .before .before .before .before .before .read-primary .ensures) in
     (omega (arith, x .ahead, x .within, c .before .before .before .before .before .before .before .before .before .before .before .before .pre .0), x .room)
 
 read-operand-join-requires : (t : ℕ) → read-operand-lts.Need-join-requires (read-operand-calls t) (read-operand-at t) read-operand.Post
-read-operand-join-requires t c κs = primary-spare _ _ _ _ _ _ _ _ _ _ (c .before .before .before .before .before .before .before .before .before .before .before .before .before .before .before .before .pre .1) (c .before .before .before .before .before .before .before .before .before .before .before .before .read-primary .kept .1 .0) (c .before .before .before .before .before .before .before .before .a2 .given .1) _ _ (c .before .before .before .read-primary2 .kept .1 .0) (c .before .before .before .before .before .before .before .before .before .before .before .before .read-primary .ensures) (c .before .before .before .read-primary2 .ensures)
+read-operand-join-requires t c κs = primary-spare _ _ _ _ _ _ _ _ _ _ (c .before .before .before .before .before .before .before .before .before .before .before .before .before .before .before
+    .before .pre .1) (c .before .before .before .before .before .before .before .before .before .before .before .before .read-primary .kept .1 .0)
+    (c .before .before .before .before .before .before .before .before .a2 .given .1) _ _ (c .before .before .before .read-primary2 .kept .1 .0)
+    (c .before .before .before .before .before .before .before .before .before .before .before .before .read-primary .ensures) (c .before .before .before .read-primary2 .ensures)
 
 read-operand-same-length-2 : (t : ℕ) → read-operand-lts.Need-same-length-2 (read-operand-calls t) (read-operand-at t) read-operand.Post
 read-operand-same-length-2 t c = search needs
@@ -352,7 +404,10 @@ read-operand-same-length-3 : (t : ℕ) → read-operand-lts.Need-same-length-3 (
 read-operand-same-length-3 t c = search needs
 
 read-operand-returns-3 : (t : ℕ) → read-operand-lts.Need-returns-3 (read-operand-calls t) (read-operand-at t) read-operand.Post
-read-operand-returns-3 t c = operand-two _ _ _ _ _ _ _ _ _ _ _ (c .before .before .before .before .before .before .before .before .before .before .before .before .before .before .before .read-primary .ensures) (c .before .before .before .before .before .before .before .before .before .before .before .a2 .given .1) (c .before .before .before .before .before .before .before .before .before .kind-at .ensures) _ _ _ _ (c .before .before .before .before .before .before .before .before .if1 .left) (c .before .before .before .before .before .before .read-primary2 .ensures) (c .before .before .join .ensures)
+read-operand-returns-3 t c = operand-two _ _ _ _ _ _ _ _ _ _ _ (c .before .before .before .before .before .before .before .before .before .before .before .before .before .before .before
+    .read-primary .ensures) (c .before .before .before .before .before .before .before .before .before .before .before .a2 .given .1)
+    (c .before .before .before .before .before .before .before .before .before .kind-at .ensures) _ _ _ _ (c .before .before .before .before .before .before .before .before .if1 .left)
+    (c .before .before .before .before .before .before .read-primary2 .ensures) (c .before .before .join .ensures)
 
 read-primary-kind-at-requires : (t : ℕ) → read-primary-lts.Need-kind-at-requires (read-primary-calls t) (read-primary-at t) read-primary.Post
 read-primary-kind-at-requires t c κs = search needs
@@ -367,16 +422,21 @@ read-primary-part-at-requires : (t : ℕ) → read-primary-lts.Need-part-at-requ
 read-primary-part-at-requires t c κs = search needs
 
 read-primary-put-leaf-requires : (t : ℕ) → read-primary-lts.Need-put-leaf-requires (read-primary-calls t) (read-primary-at t) read-primary.Post
-read-primary-put-leaf-requires t c κs = spot-at _ _ _ _ _ _ _ (c .before .before .before .before .before .before .pre .1) (c .before .before .before .kind-at .ensures) (λ z. omega (arith, c .before .before .match .keys3)) (omega arith) (part-small (now (c .before .before .before .before .before .before .args .tokens)) (c .before .before .before .before .before .before .args .i) _ (c .part-at .ensures))
+read-primary-put-leaf-requires t c κs = spot-at _ _ _ _ _ _ _ (c .before .before .before .before .before .before .pre .1) (c .before .before .before .kind-at .ensures)
+    (λ z. omega (arith, c .before .before .match .keys3)) (omega arith)
+    (part-small (now (c .before .before .before .before .before .before .args .tokens)) (c .before .before .before .before .before .before .args .i) _ (c .part-at .ensures))
 
 read-primary-put-leaf-requires-2 : (t : ℕ) → read-primary-lts.Need-put-leaf-requires-2 (read-primary-calls t) (read-primary-at t) read-primary.Post
-read-primary-put-leaf-requires-2 t c κs = spot-at _ _ _ _ _ _ _ (c .before .before .before .before .before .pre .1) (c .before .before .kind-at .ensures) (λ z. omega (arith, c .before .match .keys4)) (omega arith) (omega arith)
+read-primary-put-leaf-requires-2 t c κs = spot-at _ _ _ _ _ _ _ (c .before .before .before .before .before .pre .1) (c .before .before .kind-at .ensures)
+    (λ z. omega (arith, c .before .match .keys4)) (omega arith) (omega arith)
 
 read-primary-put-leaf-requires-3 : (t : ℕ) → read-primary-lts.Need-put-leaf-requires-3 (read-primary-calls t) (read-primary-at t) read-primary.Post
-read-primary-put-leaf-requires-3 t c κs = spot-at _ _ _ _ _ _ _ (c .before .before .before .before .before .pre .1) (c .before .before .kind-at .ensures) (λ z. omega (arith, c .before .match .keys5)) (omega arith) (omega arith)
+read-primary-put-leaf-requires-3 t c κs = spot-at _ _ _ _ _ _ _ (c .before .before .before .before .before .pre .1) (c .before .before .kind-at .ensures)
+    (λ z. omega (arith, c .before .match .keys5)) (omega arith) (omega arith)
 
 read-primary-put-leaf-requires-4 : (t : ℕ) → read-primary-lts.Need-put-leaf-requires-4 (read-primary-calls t) (read-primary-at t) read-primary.Post
-read-primary-put-leaf-requires-4 t c κs = spot-at _ _ _ _ _ _ _ (c .before .before .before .before .before .pre .1) (c .before .before .kind-at .ensures) (λ z. omega (arith, c .before .match .keys6)) (omega arith) (omega arith)
+read-primary-put-leaf-requires-4 t c κs = spot-at _ _ _ _ _ _ _ (c .before .before .before .before .before .pre .1) (c .before .before .kind-at .ensures)
+    (λ z. omega (arith, c .before .match .keys6)) (omega arith) (omega arith)
 
 read-primary-add-kind-at : (t : ℕ) → read-primary-lts.Need-add-kind-at (read-primary-calls t) (read-primary-at t) read-primary.Post
 read-primary-add-kind-at t c =
@@ -391,13 +451,18 @@ read-primary-home-at-requires : (t : ℕ) → read-primary-lts.Need-home-at-requ
 read-primary-home-at-requires t c κs = search needs
 
 read-primary-put-leaf-requires-5 : (t : ℕ) → read-primary-lts.Need-put-leaf-requires-5 (read-primary-calls t) (read-primary-at t) read-primary.Post
-read-primary-put-leaf-requires-5 t c κs = spot-at _ _ _ _ _ _ _ (c .before .before .before .before .before .before .before .before .pre .1) (c .before .before .before .before .before .kind-at .ensures) (λ z. omega (arith, c .before .before .before .before .match .keys7)) (omega arith) (home-small (now (c .before .before .before .before .before .before .before .before .args .tokens)) (c .before .before .before .before .before .before .before .before .args .i) _ (c .home-at .ensures))
+read-primary-put-leaf-requires-5 t c κs = spot-at _ _ _ _ _ _ _ (c .before .before .before .before .before .before .before .before .pre .1)
+    (c .before .before .before .before .before .kind-at .ensures) (λ z. omega (arith, c .before .before .before .before .match .keys7)) (omega arith)
+    (home-small (now (c .before .before .before .before .before .before .before .before .args .tokens)) (c .before .before .before .before .before .before .before .before .args .i) _
+    (c .home-at .ensures))
 
 read-primary-same-length : (t : ℕ) → read-primary-lts.Need-same-length (read-primary-calls t) (read-primary-at t) read-primary.Post
 read-primary-same-length t c = search needs
 
 read-primary-returns : (t : ℕ) → read-primary-lts.Need-returns (read-primary-calls t) (read-primary-at t) read-primary.Post
-read-primary-returns t c = reads-name _ _ _ _ _ _ _ _ (c .before .before .before .before .before .before .before .before .kind-at .ensures) _ _ (c .before .before .before .before .before .before .before .match .keys7) (c .before .before .before .before .before .before .kind-at2 .ensures) (c .before .before .before .before .before .if1 .taken) (c .before .before .before .home-at .ensures) (c .before .before .put-leaf5 .ensures)
+read-primary-returns t c = reads-name _ _ _ _ _ _ _ _ (c .before .before .before .before .before .before .before .before .kind-at .ensures) _ _
+    (c .before .before .before .before .before .before .before .match .keys7) (c .before .before .before .before .before .before .kind-at2 .ensures)
+    (c .before .before .before .before .before .if1 .taken) (c .before .before .before .home-at .ensures) (c .before .before .put-leaf5 .ensures)
 
 read-primary-add-t30 : (t : ℕ) → read-primary-lts.Need-add-t30 (read-primary-calls t) (read-primary-at t) read-primary.Post
 read-primary-add-t30 t c =
@@ -406,7 +471,8 @@ read-primary-add-t30 t c =
     omega (arith, o .short)
 
 read-primary-returns-2 : (t : ℕ) → read-primary-lts.Need-returns-2 (read-primary-calls t) (read-primary-at t) read-primary.Post
-read-primary-returns-2 t c = reads-no-call _ _ _ _ _ _ (c .before .before .before .before .kind-at .ensures) _ (c .before .before .before .match .keys7) (c .before .before .kind-at2 .ensures) (c .before .if1 .left) (c .if2 .taken)
+read-primary-returns-2 t c = reads-no-call _ _ _ _ _ _ (c .before .before .before .before .kind-at .ensures) _ (c .before .before .before .match .keys7) (c .before .before .kind-at2 .ensures)
+    (c .before .if1 .left) (c .if2 .taken)
 
 read-primary-add-read-arguments : (t : ℕ) → read-primary-lts.Need-add-read-arguments (read-primary-calls t) (read-primary-at t) read-primary.Post
 read-primary-add-read-arguments t c =
@@ -478,60 +544,74 @@ read-primary-same-length-2 : (t : ℕ) → read-primary-lts.Need-same-length-2 (
 read-primary-same-length-2 t c = search needs
 
 read-primary-returns-5 : (t : ℕ) → read-primary-lts.Need-returns-5 (read-primary-calls t) (read-primary-at t) read-primary.Post
-read-primary-returns-5 t c = reads-digits _ _ _ _ _ _ _ _ (c .before .before .before .before .before .kind-at .ensures) (c .before .before .before .before .match .keys1) (c .before .before .read-digits .ensures)
+read-primary-returns-5 t c = reads-digits _ _ _ _ _ _ _ _ (c .before .before .before .before .before .kind-at .ensures) (c .before .before .before .before .match .keys1)
+    (c .before .before .read-digits .ensures)
 
 read-primary-same-length-3 : (t : ℕ) → read-primary-lts.Need-same-length-3 (read-primary-calls t) (read-primary-at t) read-primary.Post
 read-primary-same-length-3 t c = search needs
 
 read-primary-returns-6 : (t : ℕ) → read-primary-lts.Need-returns-6 (read-primary-calls t) (read-primary-at t) read-primary.Post
-read-primary-returns-6 t c = reads-negative _ _ _ _ _ _ _ _ (c .before .before .before .before .before .kind-at .ensures) (c .before .before .before .before .match .keys2) (c .before .before .read-negative .ensures)
+read-primary-returns-6 t c = reads-negative _ _ _ _ _ _ _ _ (c .before .before .before .before .before .kind-at .ensures) (c .before .before .before .before .match .keys2)
+    (c .before .before .read-negative .ensures)
 
 read-primary-same-length-4 : (t : ℕ) → read-primary-lts.Need-same-length-4 (read-primary-calls t) (read-primary-at t) read-primary.Post
 read-primary-same-length-4 t c = search needs
 
 read-primary-returns-7 : (t : ℕ) → read-primary-lts.Need-returns-7 (read-primary-calls t) (read-primary-at t) read-primary.Post
-read-primary-returns-7 t c = reads-string _ _ _ _ _ _ _ _ (c .before .before .before .before .before .before .kind-at .ensures) _ (c .before .before .before .before .before .match .keys3) (c .before .before .before .part-at .ensures) (c .before .before .put-leaf .ensures)
+read-primary-returns-7 t c = reads-string _ _ _ _ _ _ _ _ (c .before .before .before .before .before .before .kind-at .ensures) _ (c .before .before .before .before .before .match .keys3)
+    (c .before .before .before .part-at .ensures) (c .before .before .put-leaf .ensures)
 
 read-primary-same-length-5 : (t : ℕ) → read-primary-lts.Need-same-length-5 (read-primary-calls t) (read-primary-at t) read-primary.Post
 read-primary-same-length-5 t c = search needs
 
 read-primary-returns-8 : (t : ℕ) → read-primary-lts.Need-returns-8 (read-primary-calls t) (read-primary-at t) read-primary.Post
-read-primary-returns-8 t c = reads-none _ _ _ _ _ _ _ _ (c .before .before .before .before .before .kind-at .ensures) (c .before .before .before .before .match .keys4) (c .before .before .put-leaf2 .ensures)
+read-primary-returns-8 t c = reads-none _ _ _ _ _ _ _ _ (c .before .before .before .before .before .kind-at .ensures) (c .before .before .before .before .match .keys4)
+    (c .before .before .put-leaf2 .ensures)
 
 read-primary-same-length-6 : (t : ℕ) → read-primary-lts.Need-same-length-6 (read-primary-calls t) (read-primary-at t) read-primary.Post
 read-primary-same-length-6 t c = search needs
 
 read-primary-returns-9 : (t : ℕ) → read-primary-lts.Need-returns-9 (read-primary-calls t) (read-primary-at t) read-primary.Post
-read-primary-returns-9 t c = reads-true _ _ _ _ _ _ _ _ (c .before .before .before .before .before .kind-at .ensures) (c .before .before .before .before .match .keys5) (c .before .before .put-leaf3 .ensures)
+read-primary-returns-9 t c = reads-true _ _ _ _ _ _ _ _ (c .before .before .before .before .before .kind-at .ensures) (c .before .before .before .before .match .keys5)
+    (c .before .before .put-leaf3 .ensures)
 
 read-primary-same-length-7 : (t : ℕ) → read-primary-lts.Need-same-length-7 (read-primary-calls t) (read-primary-at t) read-primary.Post
 read-primary-same-length-7 t c = search needs
 
 read-primary-returns-10 : (t : ℕ) → read-primary-lts.Need-returns-10 (read-primary-calls t) (read-primary-at t) read-primary.Post
-read-primary-returns-10 t c = reads-false _ _ _ _ _ _ _ _ (c .before .before .before .before .before .kind-at .ensures) (c .before .before .before .before .match .keys6) (c .before .before .put-leaf4 .ensures)
+read-primary-returns-10 t c = reads-false _ _ _ _ _ _ _ _ (c .before .before .before .before .before .kind-at .ensures) (c .before .before .before .before .match .keys6)
+    (c .before .before .put-leaf4 .ensures)
 
 read-primary-same-length-8 : (t : ℕ) → read-primary-lts.Need-same-length-8 (read-primary-calls t) (read-primary-at t) read-primary.Post
 read-primary-same-length-8 t c = search needs
 
 read-primary-returns-11 : (t : ℕ) → read-primary-lts.Need-returns-11 (read-primary-calls t) (read-primary-at t) read-primary.Post
-read-primary-returns-11 t c = reads-call _ _ _ _ _ _ _ _ (c .before .before .before .before .before .before .before .before .before .before .before .before .before .kind-at .ensures) _ _ _ _ (c .before .before .before .before .before .before .before .before .before .before .before .before .match .keys7) (c .before .before .before .before .before .before .before .before .before .before .before .kind-at2 .ensures) (c .before .before .before .before .before .before .before .before .before .before .if1 .left) (c .before .before .before .before .before .before .before .before .before .if2 .left) (c .before .before .before .before .before .before .before .read-arguments .ensures) (c .before .before .before .callee-at .ensures) (c .before .before .finish .ensures)
+read-primary-returns-11 t c = reads-call _ _ _ _ _ _ _ _ (c .before .before .before .before .before .before .before .before .before .before .before .before .before .kind-at .ensures) _ _ _ _
+    (c .before .before .before .before .before .before .before .before .before .before .before .before .match .keys7)
+    (c .before .before .before .before .before .before .before .before .before .before .before .kind-at2 .ensures)
+    (c .before .before .before .before .before .before .before .before .before .before .if1 .left) (c .before .before .before .before .before .before .before .before .before .if2 .left)
+    (c .before .before .before .before .before .before .before .read-arguments .ensures) (c .before .before .before .callee-at .ensures) (c .before .before .finish .ensures)
 
 read-primary-same-length-9 : (t : ℕ) → read-primary-lts.Need-same-length-9 (read-primary-calls t) (read-primary-at t) read-primary.Post
 read-primary-same-length-9 t c = search needs
 
 read-primary-returns-12 : (t : ℕ) → read-primary-lts.Need-returns-12 (read-primary-calls t) (read-primary-at t) read-primary.Post
-read-primary-returns-12 t c = reads-paren _ _ _ _ _ _ _ _ (c .before .before .before .before .before .before .before .kind-at .ensures) _ (c .before .before .before .before .before .before .match .keys8) (c .before .before .before .before .before .if3 .left) (c .before .before .before .read-expression .ensures) (c .close .ensures)
+read-primary-returns-12 t c = reads-paren _ _ _ _ _ _ _ _ (c .before .before .before .before .before .before .before .kind-at .ensures) _
+    (c .before .before .before .before .before .before .match .keys8) (c .before .before .before .before .before .if3 .left) (c .before .before .before .read-expression .ensures) (c .close .ensures)
 
 read-primary-same-length-10 : (t : ℕ) → read-primary-lts.Need-same-length-10 (read-primary-calls t) (read-primary-at t) read-primary.Post
 read-primary-same-length-10 t c = search needs
 
 read-primary-returns-13 : (t : ℕ) → read-primary-lts.Need-returns-13 (read-primary-calls t) (read-primary-at t) read-primary.Post
-read-primary-returns-13 t c = reads-table _ _ _ _ _ _ _ _ (c .before .before .before .before .before .before .before .before .before .before .before .kind-at .ensures) _ _ _ (c .before .before .before .before .before .before .before .before .before .before .match .keys9) (c .before .before .before .before .before .before .before .before .before .if4 .left) (c .before .before .before .before .before .before .before .read-expression2 .ensures) (c .before .before .before .close2 .ensures) (c .before .before .finish2 .ensures)
+read-primary-returns-13 t c = reads-table _ _ _ _ _ _ _ _ (c .before .before .before .before .before .before .before .before .before .before .before .kind-at .ensures) _ _ _
+    (c .before .before .before .before .before .before .before .before .before .before .match .keys9) (c .before .before .before .before .before .before .before .before .before .if4 .left)
+    (c .before .before .before .before .before .before .before .read-expression2 .ensures) (c .before .before .before .close2 .ensures) (c .before .before .finish2 .ensures)
 
 read-primary-returns-14 : (t : ℕ) → read-primary-lts.Need-returns-14 (read-primary-calls t) (read-primary-at t) read-primary.Post
 read-primary-returns-14 t c =
     let x = c .match .rest in
-    reads-other _ _ _ _ _ _ (c .before .kind-at .ensures) (x .0 .0 .0 .0 .0 .0 .0 .0 .1) (x .0 .0 .0 .0 .0 .0 .0 .1) (x .0 .0 .0 .0 .0 .0 .1) (x .0 .0 .0 .0 .0 .1) (x .0 .0 .0 .0 .1) (x .0 .0 .0 .1) (x .0 .0 .1) (x .0 .1) (x .1)
+    reads-other _ _ _ _ _ _ (c .before .kind-at .ensures) (x .0 .0 .0 .0 .0 .0 .0 .0 .1) (x .0 .0 .0 .0 .0 .0 .0 .1) (x .0 .0 .0 .0 .0 .0 .1) (x .0 .0 .0 .0 .0 .1) (x .0 .0 .0 .0 .1)
+    (x .0 .0 .0 .1) (x .0 .0 .1) (x .0 .1) (x .1)
 
 pub +read-arguments+read-expression+read-operand+read-primary-spec : {M : Type 1} → statement M
 +read-arguments+read-expression+read-operand+read-primary-spec =

@@ -21,7 +21,8 @@ same-length : tie.Need-same-length
 same-length c = search needs
 
 returns : tie.Need-returns
-returns c = leaf-put _ _ _ _ _ _ _ _ (c .before .before .before .word-of .ensures) (c .before .before .put .ensures) (omega (arith, c .before .before .before .before .before .before .pre .behind, c .before .before .before .before .before .before .pre .inside))
+returns c = leaf-put _ _ _ _ _ _ _ _ (c .before .before .before .word-of .ensures) (c .before .before .put .ensures)
+    (omega (arith, c .before .before .before .before .before .before .pre .behind, c .before .before .before .before .before .before .pre .inside))
 
 pub put-leaf-spec : {M : Type 1} → statement M
 put-leaf-spec =

@@ -22,7 +22,8 @@ same-length : tie.Need-same-length
 same-length c = search needs
 
 returns-2 : tie.Need-returns-2
-returns-2 c = digits-leaf _ _ _ _ _ _ _ (c .before .before .before .before .before .before .before .before .pre .1) (c .before .before .before .before .before .payload-at .ensures) (c .before .before .before .before .if1 .left) (c .before .before .put-leaf .ensures)
+returns-2 c = digits-leaf _ _ _ _ _ _ _ (c .before .before .before .before .before .before .before .before .pre .1) (c .before .before .before .before .before .payload-at .ensures)
+    (c .before .before .before .before .if1 .left) (c .before .before .put-leaf .ensures)
 
 pub read-digits-spec : {M : Type 1} → statement M
 read-digits-spec =

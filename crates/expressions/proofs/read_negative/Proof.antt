@@ -37,7 +37,8 @@ add-if2 : tie.Need-add-if2
 add-if2 c = search needs
 
 returns-2 : tie.Need-returns-2
-returns-2 c = minus-apart _ _ _ _ (c .before .before .before .before .before .before .before .pre .1) _ (c .before .before .before .before .kind-at .ensures) (c .before .before .before .if1 .left) _ _ (c .before .before .place-at .ensures) (c .before .place-at2 .ensures) (c .if2 .taken)
+returns-2 c = minus-apart _ _ _ _ (c .before .before .before .before .before .before .before .pre .1) _ (c .before .before .before .before .kind-at .ensures)
+    (c .before .before .before .if1 .left) _ _ (c .before .before .place-at .ensures) (c .before .place-at2 .ensures) (c .if2 .taken)
 
 add-payload-at : tie.Need-add-payload-at
 add-payload-at c =
@@ -55,7 +56,9 @@ add-t11 c =
     omega (arith, o .short)
 
 returns-3 : tie.Need-returns-3
-returns-3 c = minus-large _ _ _ _ (c .before .before .before .before .before .before .before .before .before .pre .1) _ (c .before .before .before .before .before .before .kind-at .ensures) (c .before .before .before .before .before .if1 .left) _ _ (c .before .before .before .before .place-at .ensures) (c .before .before .before .place-at2 .ensures) (c .before .before .if2 .left) _ (c .before .payload-at .ensures) (c .if3 .taken)
+returns-3 c = minus-large _ _ _ _ (c .before .before .before .before .before .before .before .before .before .pre .1) _ (c .before .before .before .before .before .before .kind-at .ensures)
+    (c .before .before .before .before .before .if1 .left) _ _ (c .before .before .before .before .place-at .ensures) (c .before .before .before .place-at2 .ensures)
+    (c .before .before .if2 .left) _ (c .before .payload-at .ensures) (c .if3 .taken)
 
 add-put-leaf : tie.Need-add-put-leaf
 add-put-leaf c =
@@ -69,14 +72,20 @@ sub-put-leaf c = search needs
 put-leaf-requires : tie.Need-put-leaf-requires
 put-leaf-requires c κs =
     let o = c .before .before .before .before .before .before .before .before .before .before .pre .0 in
-    let w = token-inside (now (c .before .before .before .before .before .before .before .before .before .before .args .tokens)) (c .before .before .before .before .before .before .before .before .before .before .args .i + 1) _ (sym (c .before .before .before .before .before .before .before .kind-at .ensures) ∙ c .before .before .before .before .before .before .if1 .left) (λ z. omega arith) in
+    let w = token-inside (now (c .before .before .before .before .before .before .before .before .before .before .args .tokens))
+    (c .before .before .before .before .before .before .before .before .before .before .args .i + 1) _ (sym (c .before .before .before .before .before .before .before .kind-at .ensures)
+    ∙ c .before .before .before .before .before .before .if1 .left) (λ z. omega arith) in
     record { behind = omega (arith, o .behind); inside = omega (arith, o .wide); smallTag = omega arith; smallNumber = omega arith }
 
 same-length : tie.Need-same-length
 same-length c = search needs
 
 returns-4 : tie.Need-returns-4
-returns-4 c = minus-leaf _ _ _ _ (c .before .before .before .before .before .before .before .before .before .before .before .before .before .pre .1) _ (c .before .before .before .before .before .before .before .before .before .before .kind-at .ensures) (c .before .before .before .before .before .before .before .before .before .if1 .left) _ _ (c .before .before .before .before .before .before .before .before .place-at .ensures) (c .before .before .before .before .before .before .before .place-at2 .ensures) (c .before .before .before .before .before .before .if2 .left) _ (c .before .before .before .before .before .payload-at .ensures) _ _ (c .before .before .before .before .if3 .left) (c .before .before .put-leaf .ensures)
+returns-4 c = minus-leaf _ _ _ _ (c .before .before .before .before .before .before .before .before .before .before .before .before .before .pre .1) _
+    (c .before .before .before .before .before .before .before .before .before .before .kind-at .ensures)
+    (c .before .before .before .before .before .before .before .before .before .if1 .left) _ _ (c .before .before .before .before .before .before .before .before .place-at .ensures)
+    (c .before .before .before .before .before .before .before .place-at2 .ensures) (c .before .before .before .before .before .before .if2 .left) _
+    (c .before .before .before .before .before .payload-at .ensures) _ _ (c .before .before .before .before .if3 .left) (c .before .before .put-leaf .ensures)
 
 pub read-negative-spec : {M : Type 1} → statement M
 read-negative-spec =

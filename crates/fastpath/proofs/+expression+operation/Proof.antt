@@ -41,7 +41,6 @@ abbrev operation-below : ℕ → In 2 operation-kinds.ps
 operation-below t =
     and 2 operation-kinds.ps (falls 2 operation-kinds.ps _<_ μ-operation t) operation.Pre
 
--- src/lib.rt:145:9
 expression-returns : (t : ℕ) → expression-lts.Need-returns (
   tag-of-reads.Asked,
   tag-of-reads.Learnt,
@@ -52,7 +51,6 @@ expression-returns : (t : ℕ) → expression-lts.Need-returns (
 ) (expression-at t) expression.Post
 expression-returns t c = search too-deep
 
--- src/lib.rt:147:8
 expression-tag-of-requires : (t : ℕ) → expression-lts.Need-tag-of-requires (
   tag-of-reads.Asked,
   tag-of-reads.Learnt,
@@ -63,7 +61,6 @@ expression-tag-of-requires : (t : ℕ) → expression-lts.Need-tag-of-requires (
 ) (expression-at t) expression.Post
 expression-tag-of-requires t c κs = search needs
 
--- src/lib.rt:148:9
 expression-leaf-word-requires : (t : ℕ) → expression-lts.Need-leaf-word-requires (
   tag-of-reads.Asked,
   tag-of-reads.Learnt,
@@ -74,7 +71,6 @@ expression-leaf-word-requires : (t : ℕ) → expression-lts.Need-leaf-word-requ
 ) (expression-at t) expression.Post
 expression-leaf-word-requires t c κs = search needs
 
--- src/lib.rt:148:9
 expression-returns-2 : (t : ℕ) → expression-lts.Need-returns-2 (
   tag-of-reads.Asked,
   tag-of-reads.Learnt,
@@ -85,7 +81,6 @@ expression-returns-2 : (t : ℕ) → expression-lts.Need-returns-2 (
 ) (expression-at t) expression.Post
 expression-returns-2 t c = search is-leaf
 
--- src/lib.rt:150:36
 expression-sub-operation : (t : ℕ) → expression-lts.Need-sub-operation (
   tag-of-reads.Asked,
   tag-of-reads.Learnt,
@@ -96,7 +91,6 @@ expression-sub-operation : (t : ℕ) → expression-lts.Need-sub-operation (
 ) (expression-at t) expression.Post
 expression-sub-operation t c = search needs
 
--- src/lib.rt:150:9
 expression-operation-requires : (t : ℕ) → expression-lts.Need-operation-requires (
   tag-of-reads.Asked,
   tag-of-reads.Learnt,
@@ -107,7 +101,6 @@ expression-operation-requires : (t : ℕ) → expression-lts.Need-operation-requ
 ) (expression-at t) expression.Post
 expression-operation-requires t c κs = (omega arith, search needs)
 
--- src/lib.rt:139:1
 expression-returns-3 : (t : ℕ) → expression-lts.Need-returns-3 (
   tag-of-reads.Asked,
   tag-of-reads.Learnt,
@@ -332,7 +325,8 @@ operation-returns : (t : ℕ) → operation-lts.Need-returns (
   word-on-reads.Asked,
   word-on-reads.Learnt,
 ) (operation-at t) operation.Post
-operation-returns t c = sizes-differ _ _ _ _ _ _ _ _ _ (c .before .before .before .before .before .left-of .ensures) (c .before .before .before .before .right-of .ensures) (c .before .before .before .word-at .ensures) (c .before .before .word-at2 .ensures) _ (c .before .sizes-agree .ensures) (c .if1 .taken)
+operation-returns t c = sizes-differ _ _ _ _ _ _ _ _ _ (c .before .before .before .before .before .left-of .ensures) (c .before .before .before .before .right-of .ensures)
+    (c .before .before .before .word-at .ensures) (c .before .before .word-at2 .ensures) _ (c .before .sizes-agree .ensures) (c .if1 .taken)
 
 operation-expression-requires : (t : ℕ) → operation-lts.Need-expression-requires (
   left-of-reads.Asked,
@@ -368,7 +362,9 @@ operation-returns-2 : (t : ℕ) → operation-lts.Need-returns-2 (
   word-on-reads.Asked,
   word-on-reads.Learnt,
 ) (operation-at t) operation.Post
-operation-returns-2 t c = left-fails _ _ _ _ _ _ _ _ _ (c .before .before .before .before .before .before .before .left-of .ensures) (c .before .before .before .before .before .before .right-of .ensures) (c .before .before .before .before .before .word-at .ensures) (c .before .before .before .before .word-at2 .ensures) _ (c .before .before .before .sizes-agree .ensures) _ (c .before .before .if1 .left) (c .before .expression .ensures) (c .if2 .taken)
+operation-returns-2 t c = left-fails _ _ _ _ _ _ _ _ _ (c .before .before .before .before .before .before .before .left-of .ensures)
+    (c .before .before .before .before .before .before .right-of .ensures) (c .before .before .before .before .before .word-at .ensures)
+    (c .before .before .before .before .word-at2 .ensures) _ (c .before .before .before .sizes-agree .ensures) _ (c .before .before .if1 .left) (c .before .expression .ensures) (c .if2 .taken)
 
 operation-expression-requires-2 : (t : ℕ) → operation-lts.Need-expression-requires-2 (
   left-of-reads.Asked,
@@ -440,7 +436,11 @@ operation-returns-3 : (t : ℕ) → operation-lts.Need-returns-3 (
   word-on-reads.Asked,
   word-on-reads.Learnt,
 ) (operation-at t) operation.Post
-operation-returns-3 t c = operates _ _ _ _ _ _ _ _ _ (c .before .before .before .before .before .before .before .before .before .before .left-of .ensures) (c .before .before .before .before .before .before .before .before .before .right-of .ensures) (c .before .before .before .before .before .before .before .before .word-at .ensures) (c .before .before .before .before .before .before .before .word-at2 .ensures) _ (c .before .before .before .before .before .before .sizes-agree .ensures) _ (c .before .before .before .before .before .if1 .left) (c .before .before .before .before .expression .ensures) _ _ _ (c .before .before .expression2 .ensures) (c .before .tag-of .ensures) (c .word-on .ensures)
+operation-returns-3 t c = operates _ _ _ _ _ _ _ _ _ (c .before .before .before .before .before .before .before .before .before .before .left-of .ensures)
+    (c .before .before .before .before .before .before .before .before .before .right-of .ensures) (c .before .before .before .before .before .before .before .before .word-at .ensures)
+    (c .before .before .before .before .before .before .before .word-at2 .ensures) _ (c .before .before .before .before .before .before .sizes-agree .ensures) _
+    (c .before .before .before .before .before .if1 .left) (c .before .before .before .before .expression .ensures) _ _ _ (c .before .before .expression2 .ensures) (c .before .tag-of .ensures)
+    (c .word-on .ensures)
 
 pub +expression+operation-spec : {M : Type 1} → statement M
 +expression+operation-spec = close μ-expression μ-operation (λ t. expression-lts.spec (

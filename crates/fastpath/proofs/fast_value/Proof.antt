@@ -3,39 +3,30 @@ use borrow.Author.Needs.{needs}
 use Rattle.fastpath.proofs.fast_value.Statement.{statement}
 use Rattle.fastpath.proofs.fast_value.Tie as tie
 
--- src/lib.rt:181:16
 sub-code : tie.Need-sub-code
 sub-code c = search needs
 
--- src/lib.rt:181:16
 part-code-start : tie.Need-part-code-start
 part-code-start c = search needs
 
--- src/lib.rt:181:16
 part-code-end : tie.Need-part-code-end
 part-code-end c = search needs
 
--- src/lib.rt:182:9
 word-at-requires : tie.Need-word-at-requires
 word-at-requires c κs = search needs
 
--- src/lib.rt:183:9
 root-requires : tie.Need-root-requires
 root-requires c κs = search needs
 
--- src/lib.rt:184:39
 size-of-requires : tie.Need-size-of-requires
 size-of-requires c κs = search needs
 
--- src/lib.rt:184:9
 counted-requires : tie.Need-counted-requires
 counted-requires c κs = search needs
 
--- src/lib.rt:177:1
 same-length : tie.Need-same-length
 same-length c = search needs
 
--- src/lib.rt:177:1
 returns : tie.Need-returns
 returns c = search values-anew
 

@@ -3,27 +3,21 @@ use borrow.Author.Needs.{needs}
 use Rattle.fastpath.proofs.living_word.Statement.{statement}
 use Rattle.fastpath.proofs.living_word.Tie as tie
 
--- src/lib.rt:184:9
 returns : tie.Need-returns
 returns c = search no-shape
 
--- src/lib.rt:186:9
 number-of-requires : tie.Need-number-of-requires
 number-of-requires c κs = search needs
 
--- src/lib.rt:187:8
 is-destroyed-requires : tie.Need-is-destroyed-requires
 is-destroyed-requires c κs = search needs
 
--- src/lib.rt:188:9
 returns-2 : tie.Need-returns-2
 returns-2 c = search no-longer
 
--- src/lib.rt:190:5
 shape-word-requires : tie.Need-shape-word-requires
 shape-word-requires c κs = search needs
 
--- src/lib.rt:180:1
 returns-3 : tie.Need-returns-3
 returns-3 c = search lives
 

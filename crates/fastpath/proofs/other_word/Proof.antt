@@ -3,31 +3,24 @@ use borrow.Author.Needs.{needs}
 use Rattle.fastpath.proofs.other_word.Statement.{statement}
 use Rattle.fastpath.proofs.other_word.Tie as tie
 
--- src/lib.rt:200:34
 mul-text-word : tie.Need-mul-text-word
 mul-text-word c = search needs
 
--- src/lib.rt:200:9
 text-word-requires : tie.Need-text-word-requires
 text-word-requires c κs = search needs
 
--- src/lib.rt:200:9
 returns : tie.Need-returns
 returns c = search other-string
 
--- src/lib.rt:205:13
 word-of-requires : tie.Need-word-of-requires
 word-of-requires c κs = search needs
 
--- src/lib.rt:203:9
 living-word-requires : tie.Need-living-word-requires
 living-word-requires c κs = search needs
 
--- src/lib.rt:203:9
 returns-2 : tie.Need-returns-2
 returns-2 c = search other-name
 
--- src/lib.rt:194:1
 returns-3 : tie.Need-returns-3
 returns-3 c = search no-other
 

@@ -2,15 +2,12 @@ use Rattle.fastpath.proofs.Laws.{plain-integer, plain-truth, plain-othe
 use Rattle.fastpath.proofs.plain_word.Statement.{statement}
 use Rattle.fastpath.proofs.plain_word.Tie as tie
 
--- src/lib.rt:15:9
 returns : tie.Need-returns
 returns c = search plain-integer
 
--- src/lib.rt:18:9
 returns-2 : tie.Need-returns-2
 returns-2 c = search plain-truth
 
--- src/lib.rt:11:1
 returns-3 : tie.Need-returns-3
 returns-3 c = search plain-other
 

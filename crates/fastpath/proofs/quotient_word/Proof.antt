@@ -3,23 +3,18 @@ use borrow.Author.Needs.{needs}
 use Rattle.fastpath.proofs.quotient_word.Statement.{statement}
 use Rattle.fastpath.proofs.quotient_word.Tie as tie
 
--- src/lib.rt:42:8
 is-zero-requires : tie.Need-is-zero-requires
 is-zero-requires c κs = search needs
 
--- src/lib.rt:43:9
 returns : tie.Need-returns
 returns c = search divides-by-zero
 
--- src/lib.rt:45:26
 quotient-requires : tie.Need-quotient-requires
 quotient-requires c κs = cc
 
--- src/lib.rt:45:5
 integer-word-requires : tie.Need-integer-word-requires
 integer-word-requires c κs = search needs
 
--- src/lib.rt:39:1
 returns-2 : tie.Need-returns-2
 returns-2 c = search divides
 

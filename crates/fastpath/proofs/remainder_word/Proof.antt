@@ -3,23 +3,18 @@ use borrow.Author.Needs.{needs}
 use Rattle.fastpath.proofs.remainder_word.Statement.{statement}
 use Rattle.fastpath.proofs.remainder_word.Tie as tie
 
--- src/lib.rt:51:8
 is-zero-requires : tie.Need-is-zero-requires
 is-zero-requires c κs = search needs
 
--- src/lib.rt:52:9
 returns : tie.Need-returns
 returns c = search no-remainder
 
--- src/lib.rt:54:26
 remainder-requires : tie.Need-remainder-requires
 remainder-requires c κs = cc
 
--- src/lib.rt:54:5
 integer-word-requires : tie.Need-integer-word-requires
 integer-word-requires c κs = search needs
 
--- src/lib.rt:48:1
 returns-2 : tie.Need-returns-2
 returns-2 c = search leaves
 

@@ -3,27 +3,21 @@ use borrow.Author.Needs.{needs}
 use Rattle.fastpath.proofs.sizes_agree.Statement.{statement}
 use Rattle.fastpath.proofs.sizes_agree.Tie as tie
 
--- src/lib.rt:94:5
 size-of-requires : tie.Need-size-of-requires
 size-of-requires c κs = search needs
 
--- src/lib.rt:94:25
 size-of-requires-2 : tie.Need-size-of-requires-2
 size-of-requires-2 c κs = search needs
 
--- src/lib.rt:94:44
 size-of-requires-3 : tie.Need-size-of-requires-3
 size-of-requires-3 c κs = search needs
 
--- src/lib.rt:94:25
 add-result : tie.Need-add-result
 add-result c = search needs
 
--- src/lib.rt:94:25
 add-result-2 : tie.Need-add-result-2
 add-result-2 c = search needs
 
--- src/lib.rt:91:1
 returns : tie.Need-returns
 returns c = search agree
 

@@ -3,27 +3,21 @@ use borrow.Author.Needs.{needs}
 use Rattle.fastpath.proofs.word_on.Statement.{statement}
 use Rattle.fastpath.proofs.word_on.Tie as tie
 
--- src/lib.rt:82:9
 returns : tie.Need-returns
 returns c = search left-other
 
--- src/lib.rt:85:9
 returns-2 : tie.Need-returns-2
 returns-2 c = search right-other
 
--- src/lib.rt:87:24
 integer-of-requires : tie.Need-integer-of-requires
 integer-of-requires c κs = search needs
 
--- src/lib.rt:87:47
 integer-of-requires-2 : tie.Need-integer-of-requires-2
 integer-of-requires-2 c κs = search needs
 
--- src/lib.rt:87:5
 operator-word-requires : tie.Need-operator-word-requires
 operator-word-requires c κs = search needs
 
--- src/lib.rt:78:1
 returns-3 : tie.Need-returns-3
 returns-3 c = search on-integers
 

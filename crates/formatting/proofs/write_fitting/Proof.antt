@@ -26,7 +26,8 @@ same-length-2 : tie.Need-same-length-2
 same-length-2 c = search needs
 
 returns-2 : tie.Need-returns-2
-returns-2 c = out-too-short _ _ _ (c .before .before .before .before .before .before .before .before .before .before .pre) _ (c .before .before .before .before .write-text .ensures) (c .before .if1 .left) (c .if2 .taken)
+returns-2 c = out-too-short _ _ _ (c .before .before .before .before .before .before .before .before .before .before .pre) _ (c .before .before .before .before .write-text .ensures)
+    (c .before .if1 .left) (c .if2 .taken)
 
 write-text-requires-2 : tie.Need-write-text-requires-2
 write-text-requires-2 c κs = search needs
@@ -35,7 +36,9 @@ same-length-3 : tie.Need-same-length-3
 same-length-3 c = search needs
 
 returns-3 : tie.Need-returns-3
-returns-3 c = text-fits _ _ _ (c .before .before .before .before .before .before .before .before .before .before .before .before .before .before .pre) _ (c .before .before .before .before .before .before .before .before .write-text .ensures) (c .before .before .before .before .before .if1 .left) (c .before .before .before .before .if2 .left) _ _ (c .before .before .write-text2 .ensures)
+returns-3 c = text-fits _ _ _ (c .before .before .before .before .before .before .before .before .before .before .before .before .before .before .pre) _
+    (c .before .before .before .before .before .before .before .before .write-text .ensures) (c .before .before .before .before .before .if1 .left)
+    (c .before .before .before .before .if2 .left) _ _ (c .before .before .write-text2 .ensures)
 
 pub write-fitting-spec : {M : Type 1} → statement M
 write-fitting-spec =

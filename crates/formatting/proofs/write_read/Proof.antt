@@ -16,13 +16,21 @@ enum-known-p : tie.Need-enum-known-p
 enum-known-p c = search needs
 
 slice-reshare-prefix-write-fitting : tie.Need-slice-reshare-prefix-write-fitting
-slice-reshare-prefix-write-fitting c = tokens-within _ _ _ (c .before .before .before .before .before .before .before .before .before .before .if1 .left) _ (c .before .before .before .before .before .before .before .read .ensures .0) (c .before .before .before .before .before .before .before .read .ensures .1) _ _ _ (c .before .p .given .1) (let a = c .before .before .before .before .before .before .tokens in omega (arith, c .before .before .before .before .before .before .before .before .before .before .before .before .before .before .before .pre .tokensLong))
+slice-reshare-prefix-write-fitting c = tokens-within _ _ _ (c .before .before .before .before .before .before .before .before .before .before .if1 .left) _
+    (c .before .before .before .before .before .before .before .read .ensures .0) (c .before .before .before .before .before .before .before .read .ensures .1) _ _ _ (c .before .p .given .1)
+    (let a = c .before .before .before .before .before .before .tokens in
+    omega (arith, c .before .before .before .before .before .before .before .before .before .before .before .before .before .before .before .pre .tokensLong))
 
 slice-aggregate-write-fitting : tie.Need-slice-aggregate-write-fitting
-slice-aggregate-write-fitting c = let h = tokens-within _ _ _ (c .before .before .before .before .before .before .before .before .before .before .before .if1 .left) _ (c .before .before .before .before .before .before .before .before .read .ensures .0) (c .before .before .before .before .before .before .before .before .read .ensures .1) _ _ _ (c .before .before .p .given .1) (let a = c .before .before .before .before .before .before .before .tokens in omega (arith, c .before .before .before .before .before .before .before .before .before .before .before .before .before .before .before .before .pre .tokensLong)) in simp length-take (omega arith)
+slice-aggregate-write-fitting c = let h = tokens-within _ _ _ (c .before .before .before .before .before .before .before .before .before .before .before .if1 .left) _
+    (c .before .before .before .before .before .before .before .before .read .ensures .0) (c .before .before .before .before .before .before .before .before .read .ensures .1) _ _ _
+    (c .before .before .p .given .1) (let a = c .before .before .before .before .before .before .before .tokens in
+    omega (arith, c .before .before .before .before .before .before .before .before .before .before .before .before .before .before .before .before .pre .tokensLong)) in simp length-take (omega arith)
 
 write-fitting-requires : tie.Need-write-fitting-requires
-write-fitting-requires c κs = raw-bounded _ _ _ (c .before .before .before .before .before .before .before .before .before .before .before .before .before .if1 .left) _ (c .before .before .before .before .before .before .before .before .before .before .read .ensures .0) (c .before .before .before .before .before .before .before .before .before .before .read .ensures .1) _ _ _ (c .before .before .before .before .p .given .1)
+write-fitting-requires c κs = raw-bounded _ _ _ (c .before .before .before .before .before .before .before .before .before .before .before .before .before .if1 .left) _
+    (c .before .before .before .before .before .before .before .before .before .before .read .ensures .0)
+    (c .before .before .before .before .before .before .before .before .before .before .read .ensures .1) _ _ _ (c .before .before .before .before .p .given .1)
 
 enum-known-p-2 : tie.Need-enum-known-p-2
 enum-known-p-2 c = search needs
@@ -37,7 +45,10 @@ same-length-3 : tie.Need-same-length-3
 same-length-3 c = search needs
 
 returns-2 : tie.Need-returns-2
-returns-2 c = formed-written _ _ _ (c .before .before .before .before .before .before .before .before .before .before .before .before .before .before .before .before .if1 .left) _ (c .before .before .before .before .before .before .before .before .before .before .before .before .before .read .ensures .0) (c .before .before .before .before .before .before .before .before .before .before .before .before .before .read .ensures .1) _ _ _ (c .before .before .before .before .before .before .before .p .given .1) _ _ _ (c .before .before .write-fitting .ensures)
+returns-2 c = formed-written _ _ _ (c .before .before .before .before .before .before .before .before .before .before .before .before .before .before .before .before .if1 .left) _
+    (c .before .before .before .before .before .before .before .before .before .before .before .before .before .read .ensures .0)
+    (c .before .before .before .before .before .before .before .before .before .before .before .before .before .read .ensures .1) _ _ _
+    (c .before .before .before .before .before .before .before .p .given .1) _ _ _ (c .before .before .write-fitting .ensures)
 
 same-length-4 : tie.Need-same-length-4
 same-length-4 c = search needs
@@ -46,7 +57,8 @@ same-length-5 : tie.Need-same-length-5
 same-length-5 c = search needs
 
 returns-3 : tie.Need-returns-3
-returns-3 c = malformed-written _ _ _ (c .before .before .before .before .before .before .before .before .before .before .if1 .left) _ (c .before .before .before .before .before .before .before .read .ensures .0) _ _ (c .before .p2 .given .1)
+returns-3 c = malformed-written _ _ _ (c .before .before .before .before .before .before .before .before .before .before .if1 .left) _
+    (c .before .before .before .before .before .before .before .read .ensures .0) _ _ (c .before .p2 .given .1)
 
 pub write-read-spec : {M : Type 1} → statement M
 write-read-spec =

@@ -22,7 +22,12 @@ same-length c = search needs
 returns : tie.Need-returns
 returns c =
     let z = c .before .before .before .before .before .before .before .before .before .before .before .before .before .before .before .before .before .args in
-    four-writes (z .m) (z .p) (z .n) (z .l) (z .answer .now) (c .before .before .before .before .before .before .before .before .before .before .before .before .before .before .write-word .last .0) (c .before .before .before .before .before .before .before .before .before .before .write-word2 .last .0) (c .before .before .before .before .before .before .write-word3 .last .0) _ (c .before .before .before .before .before .before .before .before .before .before .before .before .before .before .write-word .ensures) (c .before .before .before .before .before .before .before .before .before .before .write-word2 .ensures) (c .before .before .before .before .before .before .write-word3 .ensures) (c .before .before .write-word4 .ensures)
+    four-writes (z .m) (z .p) (z .n) (z .l) (z .answer .now) (c .before .before .before .before .before .before .before .before .before .before .before .before .before .before .write-word
+    .last .0) (c .before .before .before .before .before .before .before .before .before .before .write-word2 .last .0)
+    (c .before .before .before .before .before .before .write-word3 .last .0) _
+    (c .before .before .before .before .before .before .before .before .before .before .before .before .before .before .write-word .ensures)
+    (c .before .before .before .before .before .before .before .before .before .before .write-word2 .ensures) (c .before .before .before .before .before .before .write-word3 .ensures)
+    (c .before .before .write-word4 .ensures)
 
 pub write-four-spec : {M : Type 1} → statement M
 write-four-spec =

@@ -17,7 +17,8 @@ same-length : tie.Need-same-length
 same-length c = search needs
 
 returns : tie.Need-returns
-returns c = read-prints _ _ _ _ _ (c .before .before .before .before .before .before .before .pre .0) (c .before .before .before .before .before .before .before .pre .2) (c .before .before .checked-report .ensures)
+returns c = read-prints _ _ _ _ _ (c .before .before .before .before .before .before .before .pre .0) (c .before .before .before .before .before .before .before .pre .2)
+    (c .before .before .checked-report .ensures)
 
 pub report-read-spec : {M : Type 1} → statement M
 report-read-spec =

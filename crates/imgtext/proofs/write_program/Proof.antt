@@ -21,7 +21,9 @@ same-length : tie.Need-same-length
 same-length c = search needs
 
 returns : tie.Need-returns
-returns c = formatted-front _ _ (replicate 8193 0) (replicate 16384 0) _ lent-enough (c .before .before .before .before .before .before .before .before .before .before .before .before .before .before .before .pre) _ _ _ _ _ _ (c .before .before .before .before .before .before .before .before .format .ensures) (c .before .before .put-answer .ensures)
+returns c = formatted-front _ _ (replicate 8193 0) (replicate 16384 0) _ lent-enough
+    (c .before .before .before .before .before .before .before .before .before .before .before .before .before .before .before .pre) _ _ _ _ _ _
+    (c .before .before .before .before .before .before .before .before .format .ensures) (c .before .before .put-answer .ensures)
 
 pub write-program-spec : {M : Type 1} → statement M
 write-program-spec =

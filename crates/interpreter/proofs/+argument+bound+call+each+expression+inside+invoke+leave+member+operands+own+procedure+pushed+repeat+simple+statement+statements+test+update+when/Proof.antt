@@ -3,16 +3,21 @@ use mathlib.Core.Path.{refl, ap, _∙_}
 use lib.ListN.{getD}
 use borrow.Author.Needs.{needs}
 use Rattle.interpreter.proofs.ExpressionLaws as laws
-use Rattle.interpreter.proofs.ExpressionLaws.{still-lent-words, first-stops, table-made, no-table, second-stops, operands-applied, too-deep, no-step, is-leaf, is-call, has-operands, Pushing, push-first, root-falls, library-called, procedure-called, push-fails, push-next, push-goes, push-stops}
+use Rattle.interpreter.proofs.ExpressionLaws.{still-lent-words, first-stops, table-made, no-table, second-stops, operands-applied, too-deep, no-step, is-leaf, is-call}
+use Rattle.interpreter.proofs.ExpressionLaws.{has-operands, Pushing, push-first, root-falls, library-called, procedure-called, push-fails, push-next, push-goes, push-stops}
 use Rattle.interpreter.proofs.Fast.{push-fast, push-slow}
-use Rattle.interpreter.proofs.StatementLaws.{still-lent, still-runs, still-room, slow-lent, no-shape, simple-fast, test-fast, simple-done, simple-stops, test-says, test-refused, table-stops, table-other, key-stops, value-stops, update-refused, update-done}
-use Rattle.interpreter.proofs.StatementLaws.{statement-too-deep, statement-no-step, is-loop, is-declaration, is-update, is-when, is-foreach, is-block, is-simple, when-holds, when-not, when-stops, Looping, loop-first, loop-short, loop-refused, loop-stops, loop-ends, loop-fails, loop-returns, loop-again}
+use Rattle.interpreter.proofs.StatementLaws.{still-lent, still-runs, still-room, slow-lent, no-shape, simple-fast, test-fast, simple-done, simple-stops}
+use Rattle.interpreter.proofs.StatementLaws.{test-says, test-refused, table-stops, table-other, key-stops, value-stops, update-refused, update-done}
+use Rattle.interpreter.proofs.StatementLaws.{statement-too-deep, statement-no-step, is-loop, is-declaration, is-update, is-when, is-foreach, is-block, is-simple, when-holds, when-not}
+use Rattle.interpreter.proofs.StatementLaws.{when-stops, Looping, loop-first, loop-short, loop-refused, loop-stops, loop-ends, loop-fails, loop-returns, loop-again}
 use Rattle.interpreter.proofs.StatementLaws.{Following, all-first, runs-before, all-short, all-done, all-fails, all-returns, all-again}
-use Rattle.interpreter.proofs.StatementLaws.{deeper-lent, leave-too-deep, leave-no-step, leave-fast, leave-done, leave-stops, ends-short, ends-done, leaves-here, ends-left, ends-fails, ends-returns}
+use Rattle.interpreter.proofs.StatementLaws.{deeper-lent, leave-too-deep, leave-no-step, leave-fast, leave-done, leave-stops}
+use Rattle.interpreter.proofs.StatementLaws.{ends-short, ends-done, leaves-here, ends-left, ends-fails, ends-returns}
 use Rattle.interpreter.proofs.CallLaws.{begin-stops, body-stops, gives-value}
 use Rattle.effects.proofs.Laws.{is-assignment}
 use Rattle.interpreter.proofs.StatementLaws.{worked-anew, evaluated-anew}
-use Rattle.interpreter.proofs.LoopLaws.{bound-to, member-passed, member-no-step, member-figure, member-group, Turning, turns-first, turns-short, turns-done, turn-fails, turn-returns, turn-again, looked-in}
+use Rattle.interpreter.proofs.LoopLaws.{bound-to, member-passed, member-no-step, member-figure, member-group, Turning, turns-first}
+use Rattle.interpreter.proofs.LoopLaws.{turns-short, turns-done, turn-fails, turn-returns, turn-again, looked-in}
 use Rattle.interpreter.proofs.LoopLaws.{Owning, owning-first, owning-ends, owning-fails, owning-returns, owning-again, entered-loop, each-stops, each-other, each-refused, each-runs}
 use Rattle.machine.specs.Evaluate.{setting}
 use Rattle.machine.specs.Interpret.{statementAt}
@@ -326,7 +331,6 @@ when-at t = and 5 when-kinds.ps (is 5 when-kinds.ps μ-when t) when.Pre
 abbrev when-below : ℕ → In 5 when-kinds.ps
 when-below t = and 5 when-kinds.ps (falls 5 when-kinds.ps _<_ μ-when t) when.Pre
 
--- src/lib.rt:190:9
 argument-argument-value-requires : (t : ℕ) → argument-lts.Need-argument-value-requires (
   argument-value-reads.Asked,
   argument-value-reads.Learnt,
@@ -337,7 +341,6 @@ argument-argument-value-requires : (t : ℕ) → argument-lts.Need-argument-valu
 ) (argument-at t) argument.Post
 argument-argument-value-requires t c κs = omega (arith, c .before .before .before .before .before .pre .1 .lent .room .words)
 
--- src/lib.rt:192:13
 argument-push-word-requires : (t : ℕ) → argument-lts.Need-push-word-requires (
   argument-value-reads.Asked,
   argument-value-reads.Learnt,
@@ -348,7 +351,6 @@ argument-push-word-requires : (t : ℕ) → argument-lts.Need-push-word-requires
 ) (argument-at t) argument.Post
 argument-push-word-requires t c κs = search needs
 
--- src/lib.rt:193:9
 argument-same-length : (t : ℕ) → argument-lts.Need-same-length (
   argument-value-reads.Asked,
   argument-value-reads.Learnt,
@@ -359,7 +361,6 @@ argument-same-length : (t : ℕ) → argument-lts.Need-same-length (
 ) (argument-at t) argument.Post
 argument-same-length t c = search needs
 
--- src/lib.rt:193:9
 argument-returns : (t : ℕ) → argument-lts.Need-returns (
   argument-value-reads.Asked,
   argument-value-reads.Learnt,
@@ -368,9 +369,10 @@ argument-returns : (t : ℕ) → argument-lts.Need-returns (
   pushed-below t,
   pushed.Post,
 ) (argument-at t) argument.Post
-argument-returns t c = push-fast _ _ _ _ _ _ _ _ _ _ (c .before .before .before .before .before .before .before .argument-value .ensures) _ _ (c .before .before .before .before .before .before .before .before .before .before .before .before .before .pre .1 .lent) (c .before .before .before .before .if1 .taken) (c .before .before .push-word .ensures)
+argument-returns t c = push-fast _ _ _ _ _ _ _ _ _ _ (c .before .before .before .before .before .before .before .argument-value .ensures) _ _
+    (c .before .before .before .before .before .before .before .before .before .before .before .before .before .pre .1 .lent) (c .before .before .before .before .if1 .taken)
+    (c .before .before .push-word .ensures)
 
--- src/lib.rt:195:9
 argument-pushed-requires : (t : ℕ) → argument-lts.Need-pushed-requires (
   argument-value-reads.Asked,
   argument-value-reads.Learnt,
@@ -381,7 +383,6 @@ argument-pushed-requires : (t : ℕ) → argument-lts.Need-pushed-requires (
 ) (argument-at t) argument.Post
 argument-pushed-requires t c κs = (omega arith, slow-lent _ _ _ _ _ _ (c .before .before .before .before .before .argument-value .ensures) (c .before .before .if1 .left) (c .before .before .before .before .before .before .before .before .before .before .before .pre .1))
 
--- src/lib.rt:176:1
 argument-same-length-2 : (t : ℕ) → argument-lts.Need-same-length-2 (
   argument-value-reads.Asked,
   argument-value-reads.Learnt,
@@ -392,7 +393,6 @@ argument-same-length-2 : (t : ℕ) → argument-lts.Need-same-length-2 (
 ) (argument-at t) argument.Post
 argument-same-length-2 t c = search needs
 
--- src/lib.rt:176:1
 argument-same-length-3 : (t : ℕ) → argument-lts.Need-same-length-3 (
   argument-value-reads.Asked,
   argument-value-reads.Learnt,
@@ -403,7 +403,6 @@ argument-same-length-3 : (t : ℕ) → argument-lts.Need-same-length-3 (
 ) (argument-at t) argument.Post
 argument-same-length-3 t c = search needs
 
--- src/lib.rt:176:1
 argument-returns-2 : (t : ℕ) → argument-lts.Need-returns-2 (
   argument-value-reads.Asked,
   argument-value-reads.Learnt,
@@ -414,7 +413,6 @@ argument-returns-2 : (t : ℕ) → argument-lts.Need-returns-2 (
 ) (argument-at t) argument.Post
 argument-returns-2 t c = search push-slow
 
--- src/lib.rt:804:50
 bound-pack-requires : (t : ℕ) → bound-lts.Need-pack-requires (
   pack-reads.Asked,
   pack-reads.Learnt,
@@ -425,7 +423,6 @@ bound-pack-requires : (t : ℕ) → bound-lts.Need-pack-requires (
 ) (bound-at t) bound.Post
 bound-pack-requires t c κs = search needs
 
--- src/lib.rt:804:5
 bound-set-variable-requires : (t : ℕ) → bound-lts.Need-set-variable-requires (
   pack-reads.Asked,
   pack-reads.Learnt,
@@ -436,7 +433,6 @@ bound-set-variable-requires : (t : ℕ) → bound-lts.Need-set-variable-requires
 ) (bound-at t) bound.Post
 bound-set-variable-requires t c κs = omega (arith, c .before .before .before .before .before .before .pre .1 .lent .lent .room .words)
 
--- src/lib.rt:805:9
 bound-statement-requires : (t : ℕ) → bound-lts.Need-statement-requires (
   pack-reads.Asked,
   pack-reads.Learnt,
@@ -447,7 +443,6 @@ bound-statement-requires : (t : ℕ) → bound-lts.Need-statement-requires (
 ) (bound-at t) bound.Post
 bound-statement-requires t c κs = (omega arith, still-runs _ _ _ _ _ refl (let a0 = c .before .before .before .words in omega arith) _ _ (c .before .before .before .before .before .before .before .before .before .before .before .pre .1))
 
--- src/lib.rt:789:1
 bound-same-length : (t : ℕ) → bound-lts.Need-same-length (
   pack-reads.Asked,
   pack-reads.Learnt,
@@ -458,7 +453,6 @@ bound-same-length : (t : ℕ) → bound-lts.Need-same-length (
 ) (bound-at t) bound.Post
 bound-same-length t c = search needs
 
--- src/lib.rt:789:1
 bound-same-length-2 : (t : ℕ) → bound-lts.Need-same-length-2 (
   pack-reads.Asked,
   pack-reads.Learnt,
@@ -469,7 +463,6 @@ bound-same-length-2 : (t : ℕ) → bound-lts.Need-same-length-2 (
 ) (bound-at t) bound.Post
 bound-same-length-2 t c = search needs
 
--- src/lib.rt:789:1
 bound-returns : (t : ℕ) → bound-lts.Need-returns (
   pack-reads.Asked,
   pack-reads.Learnt,
@@ -478,7 +471,8 @@ bound-returns : (t : ℕ) → bound-lts.Need-returns (
   statement-below t,
   statement′.Post,
 ) (bound-at t) bound.Post
-bound-returns t c = bound-to _ _ _ _ _ _ _ _ (c .before .before .before .before .before .before .before .before .before .before .pack .ensures) (c .before .before .before .before .before .before .before .before .before .set-variable .ensures) (c .before .before .before .before .statement .ensures)
+bound-returns t c = bound-to _ _ _ _ _ _ _ _ (c .before .before .before .before .before .before .before .before .before .before .pack .ensures)
+    (c .before .before .before .before .before .before .before .before .before .set-variable .ensures) (c .before .before .before .before .statement .ensures)
 
 abbrev call-Inv-loop : call-lts.InvT-loop
 call-Inv-loop program code grants texts₀ words₀ fuel w x p base a y₀ texts words y = Pushing program code grants fuel texts₀ words₀ w x p base texts words y
@@ -486,7 +480,6 @@ call-Inv-loop program code grants texts₀ words₀ fuel w x p base a y₀ texts
 abbrev call-μ-loop : call-lts.MeasureT-loop
 call-μ-loop program code grants texts₀ words₀ fuel w x p base a y₀ texts words y = x - y
 
--- src/lib.rt:146:9
 call-arguments-held-requires : (t : ℕ) → call-lts.Need-arguments-held-requires (
   arguments-held-reads.Asked,
   arguments-held-reads.Learnt,
@@ -509,7 +502,6 @@ call-arguments-held-requires : (t : ℕ) → call-lts.Need-arguments-held-requir
 ) (call-at t) call.Post call-Inv-loop call-μ-loop
 call-arguments-held-requires t c κs = omega (arith, c .before .before .before .before .before .pre .1 .lent .room .words)
 
--- src/lib.rt:147:9
 call-first-argument-requires : (t : ℕ) → call-lts.Need-first-argument-requires (
   arguments-held-reads.Asked,
   arguments-held-reads.Learnt,
@@ -532,7 +524,6 @@ call-first-argument-requires : (t : ℕ) → call-lts.Need-first-argument-requir
 ) (call-at t) call.Post call-Inv-loop call-μ-loop
 call-first-argument-requires t c κs = search needs
 
--- src/lib.rt:148:37
 call-word-at-requires : (t : ℕ) → call-lts.Need-word-at-requires (
   arguments-held-reads.Asked,
   arguments-held-reads.Learnt,
@@ -555,7 +546,6 @@ call-word-at-requires : (t : ℕ) → call-lts.Need-word-at-requires (
 ) (call-at t) call.Post call-Inv-loop call-μ-loop
 call-word-at-requires t c κs = search needs
 
--- src/lib.rt:148:9
 call-argument-root-requires : (t : ℕ) → call-lts.Need-argument-root-requires (
   arguments-held-reads.Asked,
   arguments-held-reads.Learnt,
@@ -578,7 +568,6 @@ call-argument-root-requires : (t : ℕ) → call-lts.Need-argument-root-requires
 ) (call-at t) call.Post call-Inv-loop call-μ-loop
 call-argument-root-requires t c κs = search needs
 
--- src/lib.rt:149:5
 call-loop-holds : (t : ℕ) → call-lts.Need-loop-holds (
   arguments-held-reads.Asked,
   arguments-held-reads.Learnt,
@@ -599,9 +588,9 @@ call-loop-holds : (t : ℕ) → call-lts.Need-loop-holds (
   called-reads.Asked,
   called-reads.Learnt,
 ) (call-at t) call.Post call-Inv-loop call-μ-loop
-call-loop-holds t c = push-first _ _ _ _ _ _ _ _ _ _ _ _ 0 _ (c .before .before .before .before .before .before .before .before .before .pre .1 .lent) (c .before .before .before .arguments-held .ensures) (c .before .before .first-argument .ensures) (c .before .word-at .ensures) (c .argument-root .ensures)
+call-loop-holds t c = push-first _ _ _ _ _ _ _ _ _ _ _ _ 0 _ (c .before .before .before .before .before .before .before .before .before .pre .1 .lent)
+    (c .before .before .before .arguments-held .ensures) (c .before .before .first-argument .ensures) (c .before .word-at .ensures) (c .argument-root .ensures)
 
--- src/lib.rt:150:15
 call-argument-requires : (t : ℕ) → call-lts.Need-argument-requires (
   arguments-held-reads.Asked,
   arguments-held-reads.Learnt,
@@ -646,7 +635,6 @@ call-enum-told : (t : ℕ) → call-lts.Need-enum-told (
 ) (call-at t) call.Post call-Inv-loop call-μ-loop
 call-enum-told t c = search needs
 
--- src/lib.rt:152:25
 call-enum-known-n : (t : ℕ) → call-lts.Need-enum-known-n (
   arguments-held-reads.Asked,
   arguments-held-reads.Learnt,
@@ -669,7 +657,6 @@ call-enum-known-n : (t : ℕ) → call-lts.Need-enum-known-n (
 ) (call-at t) call.Post call-Inv-loop call-μ-loop
 call-enum-known-n t c = search needs
 
--- src/lib.rt:152:34
 call-same-length : (t : ℕ) → call-lts.Need-same-length (
   arguments-held-reads.Asked,
   arguments-held-reads.Learnt,
@@ -692,7 +679,6 @@ call-same-length : (t : ℕ) → call-lts.Need-same-length (
 ) (call-at t) call.Post call-Inv-loop call-μ-loop
 call-same-length t c = search needs
 
--- src/lib.rt:152:34
 call-same-length-2 : (t : ℕ) → call-lts.Need-same-length-2 (
   arguments-held-reads.Asked,
   arguments-held-reads.Learnt,
@@ -715,7 +701,6 @@ call-same-length-2 : (t : ℕ) → call-lts.Need-same-length-2 (
 ) (call-at t) call.Post call-Inv-loop call-μ-loop
 call-same-length-2 t c = search needs
 
--- src/lib.rt:152:34
 call-returns : (t : ℕ) → call-lts.Need-returns (
   arguments-held-reads.Asked,
   arguments-held-reads.Learnt,
@@ -738,7 +723,6 @@ call-returns : (t : ℕ) → call-lts.Need-returns (
 ) (call-at t) call.Post call-Inv-loop call-μ-loop
 call-returns t c = search push-fails
 
--- src/lib.rt:154:62
 call-add-word-at : (t : ℕ) → call-lts.Need-add-word-at (
   arguments-held-reads.Asked,
   arguments-held-reads.Learnt,
@@ -761,7 +745,6 @@ call-add-word-at : (t : ℕ) → call-lts.Need-add-word-at (
 ) (call-at t) call.Post call-Inv-loop call-μ-loop
 call-add-word-at t c = search needs
 
--- src/lib.rt:154:33
 call-word-at-requires-2 : (t : ℕ) → call-lts.Need-word-at-requires-2 (
   arguments-held-reads.Asked,
   arguments-held-reads.Learnt,
@@ -784,7 +767,6 @@ call-word-at-requires-2 : (t : ℕ) → call-lts.Need-word-at-requires-2 (
 ) (call-at t) call.Post call-Inv-loop call-μ-loop
 call-word-at-requires-2 t c κs = search needs
 
--- src/lib.rt:154:70
 call-add-argument-root : (t : ℕ) → call-lts.Need-add-argument-root (
   arguments-held-reads.Asked,
   arguments-held-reads.Learnt,
@@ -807,7 +789,6 @@ call-add-argument-root : (t : ℕ) → call-lts.Need-add-argument-root (
 ) (call-at t) call.Post call-Inv-loop call-μ-loop
 call-add-argument-root t c = search needs
 
--- src/lib.rt:154:9
 call-argument-root-requires-2 : (t : ℕ) → call-lts.Need-argument-root-requires-2 (
   arguments-held-reads.Asked,
   arguments-held-reads.Learnt,
@@ -830,7 +811,6 @@ call-argument-root-requires-2 : (t : ℕ) → call-lts.Need-argument-root-requir
 ) (call-at t) call.Post call-Inv-loop call-μ-loop
 call-argument-root-requires-2 t c κs = search needs
 
--- src/lib.rt:149:5
 call-loop-less : (t : ℕ) → call-lts.Need-loop-less (
   arguments-held-reads.Asked,
   arguments-held-reads.Learnt,
@@ -853,7 +833,6 @@ call-loop-less : (t : ℕ) → call-lts.Need-loop-less (
 ) (call-at t) call.Post call-Inv-loop call-μ-loop
 call-loop-less t c = search root-falls
 
--- src/lib.rt:149:5
 call-loop-again : (t : ℕ) → call-lts.Need-loop-again (
   arguments-held-reads.Asked,
   arguments-held-reads.Learnt,
@@ -874,9 +853,11 @@ call-loop-again : (t : ℕ) → call-lts.Need-loop-again (
   called-reads.Asked,
   called-reads.Learnt,
 ) (call-at t) call.Post call-Inv-loop call-μ-loop
-call-loop-again t c = push-next _ _ _ _ _ _ _ _ _ _ _ _ _ (c .before .before .before .before .before .before .before .before .before .before .before .before .loop .inv) (c .before .before .before .before .before .before .before .before .before .before .before .loop-test .taken) _ _ _ (c .before .before .before .before .before .before .before .before .argument .ensures) _ _ _ (let a0 = c .before .before .before .before .before .before .before .texts in omega arith) (let a0 = c .before .before .before .before .before .words in omega arith) (c .before .before .enum-told .given .1) (c .before .word-at2 .ensures) (c .argument-root2 .ensures)
+call-loop-again t c = push-next _ _ _ _ _ _ _ _ _ _ _ _ _ (c .before .before .before .before .before .before .before .before .before .before .before .before .loop .inv)
+    (c .before .before .before .before .before .before .before .before .before .before .before .loop-test .taken) _ _ _
+    (c .before .before .before .before .before .before .before .before .argument .ensures) _ _ _ (let a0 = c .before .before .before .before .before .before .before .texts in
+    omega arith) (let a0 = c .before .before .before .before .before .words in omega arith) (c .before .before .enum-told .given .1) (c .before .word-at2 .ensures) (c .argument-root2 .ensures)
 
--- src/lib.rt:156:9
 call-library-of-requires : (t : ℕ) → call-lts.Need-library-of-requires (
   arguments-held-reads.Asked,
   arguments-held-reads.Learnt,
@@ -899,7 +880,6 @@ call-library-of-requires : (t : ℕ) → call-lts.Need-library-of-requires (
 ) (call-at t) call.Post call-Inv-loop call-μ-loop
 call-library-of-requires t c κs = search needs
 
--- src/lib.rt:165:13
 call-callee-of-requires : (t : ℕ) → call-lts.Need-callee-of-requires (
   arguments-held-reads.Asked,
   arguments-held-reads.Learnt,
@@ -922,7 +902,6 @@ call-callee-of-requires : (t : ℕ) → call-lts.Need-callee-of-requires (
 ) (call-at t) call.Post call-Inv-loop call-μ-loop
 call-callee-of-requires t c κs = search needs
 
--- src/lib.rt:158:9
 call-invoke-requires : (t : ℕ) → call-lts.Need-invoke-requires (
   arguments-held-reads.Asked,
   arguments-held-reads.Learnt,
@@ -945,7 +924,6 @@ call-invoke-requires : (t : ℕ) → call-lts.Need-invoke-requires (
 ) (call-at t) call.Post call-Inv-loop call-μ-loop
 call-invoke-requires t c κs = (omega arith, record { lent = record { lent = c .before .before .before .before .before .before .loop .inv .lent; deep = c .before .before .before .before .before .before .before .before .before .before .before .before .before .before .before .before .pre .1 .deep }; small = c .callee-of .ensures .1 })
 
--- src/lib.rt:170:9
 call-called-requires : (t : ℕ) → call-lts.Need-called-requires (
   arguments-held-reads.Asked,
   arguments-held-reads.Learnt,
@@ -968,7 +946,6 @@ call-called-requires : (t : ℕ) → call-lts.Need-called-requires (
 ) (call-at t) call.Post call-Inv-loop call-μ-loop
 call-called-requires t c κs = c .before .before .before .before .loop .inv .lent .room
 
--- src/lib.rt:131:1
 call-same-length-3 : (t : ℕ) → call-lts.Need-same-length-3 (
   arguments-held-reads.Asked,
   arguments-held-reads.Learnt,
@@ -991,7 +968,6 @@ call-same-length-3 : (t : ℕ) → call-lts.Need-same-length-3 (
 ) (call-at t) call.Post call-Inv-loop call-μ-loop
 call-same-length-3 t c = search needs
 
--- src/lib.rt:131:1
 call-same-length-4 : (t : ℕ) → call-lts.Need-same-length-4 (
   arguments-held-reads.Asked,
   arguments-held-reads.Learnt,
@@ -1014,7 +990,6 @@ call-same-length-4 : (t : ℕ) → call-lts.Need-same-length-4 (
 ) (call-at t) call.Post call-Inv-loop call-μ-loop
 call-same-length-4 t c = search needs
 
--- src/lib.rt:131:1
 call-returns-2 : (t : ℕ) → call-lts.Need-returns-2 (
   arguments-held-reads.Asked,
   arguments-held-reads.Learnt,
@@ -1037,7 +1012,6 @@ call-returns-2 : (t : ℕ) → call-lts.Need-returns-2 (
 ) (call-at t) call.Post call-Inv-loop call-μ-loop
 call-returns-2 t c = search procedure-called
 
--- src/lib.rt:131:1
 call-same-length-5 : (t : ℕ) → call-lts.Need-same-length-5 (
   arguments-held-reads.Asked,
   arguments-held-reads.Learnt,
@@ -1060,7 +1034,6 @@ call-same-length-5 : (t : ℕ) → call-lts.Need-same-length-5 (
 ) (call-at t) call.Post call-Inv-loop call-μ-loop
 call-same-length-5 t c = search needs
 
--- src/lib.rt:131:1
 call-same-length-6 : (t : ℕ) → call-lts.Need-same-length-6 (
   arguments-held-reads.Asked,
   arguments-held-reads.Learnt,
@@ -1083,7 +1056,6 @@ call-same-length-6 : (t : ℕ) → call-lts.Need-same-length-6 (
 ) (call-at t) call.Post call-Inv-loop call-μ-loop
 call-same-length-6 t c = search needs
 
--- src/lib.rt:131:1
 call-returns-3 : (t : ℕ) → call-lts.Need-returns-3 (
   arguments-held-reads.Asked,
   arguments-held-reads.Learnt,
@@ -1106,7 +1078,6 @@ call-returns-3 : (t : ℕ) → call-lts.Need-returns-3 (
 ) (call-at t) call.Post call-Inv-loop call-μ-loop
 call-returns-3 t c = search library-called
 
--- src/lib.rt:665:11
 each-expression-requires : (t : ℕ) → each-lts.Need-expression-requires (
   expression-below t,
   expression.Post,
@@ -1117,7 +1088,6 @@ each-expression-requires : (t : ℕ) → each-lts.Need-expression-requires (
 ) (each-at t) each.Post
 each-expression-requires t c κs = (omega arith, c .before .before .before .before .before .before .pre .1 .lent)
 
--- src/lib.rt:666:22
 each-enum-known-v : (t : ℕ) → each-lts.Need-enum-known-v (
   expression-below t,
   expression.Post,
@@ -1128,7 +1098,6 @@ each-enum-known-v : (t : ℕ) → each-lts.Need-enum-known-v (
 ) (each-at t) each.Post
 each-enum-known-v t c = search needs
 
--- src/lib.rt:667:26
 each-enum-known-v-2 : (t : ℕ) → each-lts.Need-enum-known-v-2 (
   expression-below t,
   expression.Post,
@@ -1139,7 +1108,6 @@ each-enum-known-v-2 : (t : ℕ) → each-lts.Need-enum-known-v-2 (
 ) (each-at t) each.Post
 each-enum-known-v-2 t c = search needs
 
--- src/lib.rt:668:21
 each-open-loop-requires : (t : ℕ) → each-lts.Need-open-loop-requires (
   expression-below t,
   expression.Post,
@@ -1148,9 +1116,9 @@ each-open-loop-requires : (t : ℕ) → each-lts.Need-open-loop-requires (
   own-below t,
   own.Post,
 ) (each-at t) each.Post
-each-open-loop-requires t c κs = let a0 = c .before .before .before .before .before .before .before .before .words in omega (arith, c .before .before .before .before .before .before .before .before .before .before .before .before .before .before .before .before .before .before .pre .1 .lent .lent .room .words)
+each-open-loop-requires t c κs = let a0 = c .before .before .before .before .before .before .before .before .words in
+    omega (arith, c .before .before .before .before .before .before .before .before .before .before .before .before .before .before .before .before .before .before .pre .1 .lent .lent .room .words)
 
--- src/lib.rt:670:21
 each-same-length : (t : ℕ) → each-lts.Need-same-length (
   expression-below t,
   expression.Post,
@@ -1161,7 +1129,6 @@ each-same-length : (t : ℕ) → each-lts.Need-same-length (
 ) (each-at t) each.Post
 each-same-length t c = search needs
 
--- src/lib.rt:670:21
 each-same-length-2 : (t : ℕ) → each-lts.Need-same-length-2 (
   expression-below t,
   expression.Post,
@@ -1172,7 +1139,6 @@ each-same-length-2 : (t : ℕ) → each-lts.Need-same-length-2 (
 ) (each-at t) each.Post
 each-same-length-2 t c = search needs
 
--- src/lib.rt:670:21
 each-returns : (t : ℕ) → each-lts.Need-returns (
   expression-below t,
   expression.Post,
@@ -1181,9 +1147,10 @@ each-returns : (t : ℕ) → each-lts.Need-returns (
   own-below t,
   own.Post,
 ) (each-at t) each.Post
-each-returns t c = each-refused _ _ _ _ _ _ _ _ _ _ _ (c .before .before .before .before .before .before .before .before .before .before .before .before .before .before .before .expression .ensures) _ (c .before .before .before .before .before .before .before .before .before .v .given .1) _ (c .before .before .before .before .before .before .v2 .given .1) _ _ (c .before .before .before .open-loop .ensures) (c .if1 .taken)
+each-returns t c = each-refused _ _ _ _ _ _ _ _ _ _ _ (c .before .before .before .before .before .before .before .before .before .before .before .before .before .before .before .expression
+    .ensures) _ (c .before .before .before .before .before .before .before .before .before .v .given .1) _ (c .before .before .before .before .before .before .v2 .given .1) _ _
+    (c .before .before .before .open-loop .ensures) (c .if1 .taken)
 
--- src/lib.rt:672:78
 each-add-own : (t : ℕ) → each-lts.Need-add-own (
   expression-below t,
   expression.Post,
@@ -1194,7 +1161,6 @@ each-add-own : (t : ℕ) → each-lts.Need-add-own (
 ) (each-at t) each.Post
 each-add-own t c = omega (arith, c .before .before .before .before .before .before .before .before .before .before .before .before .before .before .before .before .before .before .before .before .before .before .before .before .pre .1 .room)
 
--- src/lib.rt:672:21
 each-own-requires : (t : ℕ) → each-lts.Need-own-requires (
   expression-below t,
   expression.Post,
@@ -1205,7 +1171,6 @@ each-own-requires : (t : ℕ) → each-lts.Need-own-requires (
 ) (each-at t) each.Post
 each-own-requires t c κs = (omega arith, still-runs _ _ _ _ _ (let a0 = c .before .before .before .before .before .before .before .before .before .before .before .before .before .before .before .before .texts in omega arith) (let a0 = c .before .before .before .before .before .before .before .before .before .before .before .before .before .before .words in let a1 = c .before .before .before .before .words2 in omega arith) _ _ (c .before .before .before .before .before .before .before .before .before .before .before .before .before .before .before .before .before .before .before .before .before .before .before .before .pre .1))
 
--- src/lib.rt:677:21
 each-enum-known-n : (t : ℕ) → each-lts.Need-enum-known-n (
   expression-below t,
   expression.Post,
@@ -1216,7 +1181,6 @@ each-enum-known-n : (t : ℕ) → each-lts.Need-enum-known-n (
 ) (each-at t) each.Post
 each-enum-known-n t c = search needs
 
--- src/lib.rt:650:1
 each-same-length-3 : (t : ℕ) → each-lts.Need-same-length-3 (
   expression-below t,
   expression.Post,
@@ -1227,7 +1191,6 @@ each-same-length-3 : (t : ℕ) → each-lts.Need-same-length-3 (
 ) (each-at t) each.Post
 each-same-length-3 t c = search needs
 
--- src/lib.rt:650:1
 each-same-length-4 : (t : ℕ) → each-lts.Need-same-length-4 (
   expression-below t,
   expression.Post,
@@ -1238,7 +1201,6 @@ each-same-length-4 : (t : ℕ) → each-lts.Need-same-length-4 (
 ) (each-at t) each.Post
 each-same-length-4 t c = search needs
 
--- src/lib.rt:650:1
 each-returns-2 : (t : ℕ) → each-lts.Need-returns-2 (
   expression-below t,
   expression.Post,
@@ -1247,9 +1209,12 @@ each-returns-2 : (t : ℕ) → each-lts.Need-returns-2 (
   own-below t,
   own.Post,
 ) (each-at t) each.Post
-each-returns-2 t c = each-runs _ _ _ _ _ _ _ _ _ _ _ (c .before .before .before .before .before .before .before .before .before .before .before .before .before .before .before .before .before .before .before .before .before .before .expression .ensures) _ (c .before .before .before .before .before .before .before .before .before .before .before .before .before .before .before .before .v .given .1) _ (c .before .before .before .before .before .before .before .before .before .before .before .before .before .v2 .given .1) _ _ (c .before .before .before .before .before .before .before .before .before .before .open-loop .ensures) _ (c .before .before .before .before .before .before .before .if1 .left) (c .before .before .before .before .own .ensures)
+each-returns-2 t c = each-runs _ _ _ _ _ _ _ _ _ _ _ (c .before .before .before .before .before .before .before .before .before .before .before .before .before .before .before .before .before
+    .before .before .before .before .before .expression .ensures) _ (c .before .before .before .before .before .before .before .before .before .before .before .before .before .before .before
+    .before .v .given .1) _ (c .before .before .before .before .before .before .before .before .before .before .before .before .before .v2 .given .1) _ _
+    (c .before .before .before .before .before .before .before .before .before .before .open-loop .ensures) _ (c .before .before .before .before .before .before .before .if1 .left)
+    (c .before .before .before .before .own .ensures)
 
--- src/lib.rt:650:1
 each-same-length-5 : (t : ℕ) → each-lts.Need-same-length-5 (
   expression-below t,
   expression.Post,
@@ -1260,7 +1225,6 @@ each-same-length-5 : (t : ℕ) → each-lts.Need-same-length-5 (
 ) (each-at t) each.Post
 each-same-length-5 t c = search needs
 
--- src/lib.rt:650:1
 each-same-length-6 : (t : ℕ) → each-lts.Need-same-length-6 (
   expression-below t,
   expression.Post,
@@ -1271,7 +1235,6 @@ each-same-length-6 : (t : ℕ) → each-lts.Need-same-length-6 (
 ) (each-at t) each.Post
 each-same-length-6 t c = search needs
 
--- src/lib.rt:650:1
 each-returns-3 : (t : ℕ) → each-lts.Need-returns-3 (
   expression-below t,
   expression.Post,
@@ -1282,7 +1245,6 @@ each-returns-3 : (t : ℕ) → each-lts.Need-returns-3 (
 ) (each-at t) each.Post
 each-returns-3 t c = each-other _ _ _ _ _ _ _ _ _ _ _ (c .before .before .before .before .before .before .before .before .expression .ensures) _ (c .before .before .v .given .1) (c .match2 .keys2)
 
--- src/lib.rt:650:1
 each-same-length-7 : (t : ℕ) → each-lts.Need-same-length-7 (
   expression-below t,
   expression.Post,
@@ -1293,7 +1255,6 @@ each-same-length-7 : (t : ℕ) → each-lts.Need-same-length-7 (
 ) (each-at t) each.Post
 each-same-length-7 t c = search needs
 
--- src/lib.rt:650:1
 each-same-length-8 : (t : ℕ) → each-lts.Need-same-length-8 (
   expression-below t,
   expression.Post,
@@ -1304,7 +1265,6 @@ each-same-length-8 : (t : ℕ) → each-lts.Need-same-length-8 (
 ) (each-at t) each.Post
 each-same-length-8 t c = search needs
 
--- src/lib.rt:650:1
 each-returns-4 : (t : ℕ) → each-lts.Need-returns-4 (
   expression-below t,
   expression.Post,
@@ -1315,7 +1275,6 @@ each-returns-4 : (t : ℕ) → each-lts.Need-returns-4 (
 ) (each-at t) each.Post
 each-returns-4 t c = each-stops _ _ _ _ _ _ _ _ _ _ _ (c .before .before .before .before .before .before .before .expression .ensures) _ _ (c .before .n .given .1)
 
--- src/lib.rt:42:9
 expression-returns : (t : ℕ) → expression-lts.Need-returns (
   count-reads.Asked,
   count-reads.Learnt,
@@ -1332,7 +1291,6 @@ expression-returns : (t : ℕ) → expression-lts.Need-returns (
 ) (expression-at t) expression.Post
 expression-returns t c = search too-deep
 
--- src/lib.rt:44:9
 expression-count-requires : (t : ℕ) → expression-lts.Need-count-requires (
   count-reads.Asked,
   count-reads.Learnt,
@@ -1349,7 +1307,6 @@ expression-count-requires : (t : ℕ) → expression-lts.Need-count-requires (
 ) (expression-at t) expression.Post
 expression-count-requires t c κs = omega (arith, c .before .before .before .before .before .before .pre .1 .lent .room .words)
 
--- src/lib.rt:45:9
 expression-same-length : (t : ℕ) → expression-lts.Need-same-length (
   count-reads.Asked,
   count-reads.Learnt,
@@ -1366,7 +1323,6 @@ expression-same-length : (t : ℕ) → expression-lts.Need-same-length (
 ) (expression-at t) expression.Post
 expression-same-length t c = search needs
 
--- src/lib.rt:45:9
 expression-returns-2 : (t : ℕ) → expression-lts.Need-returns-2 (
   count-reads.Asked,
   count-reads.Learnt,
@@ -1383,7 +1339,6 @@ expression-returns-2 : (t : ℕ) → expression-lts.Need-returns-2 (
 ) (expression-at t) expression.Post
 expression-returns-2 t c = search no-step
 
--- src/lib.rt:47:9
 expression-word-at-requires : (t : ℕ) → expression-lts.Need-word-at-requires (
   count-reads.Asked,
   count-reads.Learnt,
@@ -1400,7 +1355,6 @@ expression-word-at-requires : (t : ℕ) → expression-lts.Need-word-at-requires
 ) (expression-at t) expression.Post
 expression-word-at-requires t c κs = search needs
 
--- src/lib.rt:48:9
 expression-tag-of-requires : (t : ℕ) → expression-lts.Need-tag-of-requires (
   count-reads.Asked,
   count-reads.Learnt,
@@ -1417,7 +1371,6 @@ expression-tag-of-requires : (t : ℕ) → expression-lts.Need-tag-of-requires (
 ) (expression-at t) expression.Post
 expression-tag-of-requires t c κs = search needs
 
--- src/lib.rt:50:9
 expression-leaf-requires : (t : ℕ) → expression-lts.Need-leaf-requires (
   count-reads.Asked,
   count-reads.Learnt,
@@ -1434,7 +1387,6 @@ expression-leaf-requires : (t : ℕ) → expression-lts.Need-leaf-requires (
 ) (expression-at t) expression.Post
 expression-leaf-requires t c κs = search needs
 
--- src/lib.rt:50:9
 expression-same-length-2 : (t : ℕ) → expression-lts.Need-same-length-2 (
   count-reads.Asked,
   count-reads.Learnt,
@@ -1451,7 +1403,6 @@ expression-same-length-2 : (t : ℕ) → expression-lts.Need-same-length-2 (
 ) (expression-at t) expression.Post
 expression-same-length-2 t c = search needs
 
--- src/lib.rt:50:9
 expression-returns-3 : (t : ℕ) → expression-lts.Need-returns-3 (
   count-reads.Asked,
   count-reads.Learnt,
@@ -1468,7 +1419,6 @@ expression-returns-3 : (t : ℕ) → expression-lts.Need-returns-3 (
 ) (expression-at t) expression.Post
 expression-returns-3 t c = search is-leaf
 
--- src/lib.rt:53:57
 expression-sub-call : (t : ℕ) → expression-lts.Need-sub-call (
   count-reads.Asked,
   count-reads.Learnt,
@@ -1485,7 +1435,6 @@ expression-sub-call : (t : ℕ) → expression-lts.Need-sub-call (
 ) (expression-at t) expression.Post
 expression-sub-call t c = search needs
 
--- src/lib.rt:53:15
 expression-call-requires : (t : ℕ) → expression-lts.Need-call-requires (
   count-reads.Asked,
   count-reads.Learnt,
@@ -1502,7 +1451,6 @@ expression-call-requires : (t : ℕ) → expression-lts.Need-call-requires (
 ) (expression-at t) expression.Post
 expression-call-requires t c κs = (omega arith, record { lent = still-lent-words _ _ _ _ (c .before .before .before .before .before .before .before .before .before .before .before .before .before .before .before .before .pre .1 .lent) (let a0 = c .before .before .before .before .before .before .before .before .words in omega arith); deep = omega (arith, c .before .before .before .before .before .before .before .before .before .before .before .before .before .before .before .before .pre .1 .deep) })
 
--- src/lib.rt:54:26
 expression-enum-known-v : (t : ℕ) → expression-lts.Need-enum-known-v (
   count-reads.Asked,
   count-reads.Learnt,
@@ -1519,7 +1467,6 @@ expression-enum-known-v : (t : ℕ) → expression-lts.Need-enum-known-v (
 ) (expression-at t) expression.Post
 expression-enum-known-v t c = search needs
 
--- src/lib.rt:54:32
 expression-same-length-3 : (t : ℕ) → expression-lts.Need-same-length-3 (
   count-reads.Asked,
   count-reads.Learnt,
@@ -1536,7 +1483,6 @@ expression-same-length-3 : (t : ℕ) → expression-lts.Need-same-length-3 (
 ) (expression-at t) expression.Post
 expression-same-length-3 t c = search needs
 
--- src/lib.rt:54:32
 expression-same-length-4 : (t : ℕ) → expression-lts.Need-same-length-4 (
   count-reads.Asked,
   count-reads.Learnt,
@@ -1553,7 +1499,6 @@ expression-same-length-4 : (t : ℕ) → expression-lts.Need-same-length-4 (
 ) (expression-at t) expression.Post
 expression-same-length-4 t c = search needs
 
--- src/lib.rt:54:32
 expression-returns-4 : (t : ℕ) → expression-lts.Need-returns-4 (
   count-reads.Asked,
   count-reads.Learnt,
@@ -1568,9 +1513,14 @@ expression-returns-4 : (t : ℕ) → expression-lts.Need-returns-4 (
   operands-below t,
   operands.Post,
 ) (expression-at t) expression.Post
-expression-returns-4 t c = is-call _ _ _ _ _ _ _ _ _ _ (c .before .before .before .before .before .before .before .before .before .before .before .before .before .before .before .before .before .before .before .if1 .left) (c .before .before .before .before .before .before .before .before .before .before .before .before .before .before .before .before .before .count .ensures) (c .before .before .before .before .before .before .before .before .before .before .before .before .before .before .if2 .left) _ (c .before .before .before .before .before .before .before .before .before .before .before .before .before .word-at .ensures) _ (c .before .before .before .before .before .before .before .before .before .before .before .before .tag-of .ensures) _ _ _ _ (c .before .before .before .before .before .before .before .before .before .before .before .if3 .left) (c .before .before .before .before .before .before .before .before .before .before .if4 .taken) (c .before .before .before .before .before .before .before .call .ensures) (c .before .v .given .1)
+expression-returns-4 t c = is-call _ _ _ _ _ _ _ _ _ _ (c .before .before .before .before .before .before .before .before .before .before .before .before .before .before .before .before
+    .before .before .before .if1 .left) (c .before .before .before .before .before .before .before .before .before .before .before .before .before .before .before .before .before .count
+    .ensures) (c .before .before .before .before .before .before .before .before .before .before .before .before .before .before .if2 .left) _
+    (c .before .before .before .before .before .before .before .before .before .before .before .before .before .word-at .ensures) _
+    (c .before .before .before .before .before .before .before .before .before .before .before .before .tag-of .ensures) _ _ _ _
+    (c .before .before .before .before .before .before .before .before .before .before .before .if3 .left)
+    (c .before .before .before .before .before .before .before .before .before .before .if4 .taken) (c .before .before .before .before .before .before .before .call .ensures) (c .before .v .given .1)
 
--- src/lib.rt:55:25
 expression-enum-known-n : (t : ℕ) → expression-lts.Need-enum-known-n (
   count-reads.Asked,
   count-reads.Learnt,
@@ -1587,7 +1537,6 @@ expression-enum-known-n : (t : ℕ) → expression-lts.Need-enum-known-n (
 ) (expression-at t) expression.Post
 expression-enum-known-n t c = search needs
 
--- src/lib.rt:55:34
 expression-same-length-5 : (t : ℕ) → expression-lts.Need-same-length-5 (
   count-reads.Asked,
   count-reads.Learnt,
@@ -1604,7 +1553,6 @@ expression-same-length-5 : (t : ℕ) → expression-lts.Need-same-length-5 (
 ) (expression-at t) expression.Post
 expression-same-length-5 t c = search needs
 
--- src/lib.rt:55:34
 expression-same-length-6 : (t : ℕ) → expression-lts.Need-same-length-6 (
   count-reads.Asked,
   count-reads.Learnt,
@@ -1621,7 +1569,6 @@ expression-same-length-6 : (t : ℕ) → expression-lts.Need-same-length-6 (
 ) (expression-at t) expression.Post
 expression-same-length-6 t c = search needs
 
--- src/lib.rt:55:34
 expression-returns-5 : (t : ℕ) → expression-lts.Need-returns-5 (
   count-reads.Asked,
   count-reads.Learnt,
@@ -1636,9 +1583,14 @@ expression-returns-5 : (t : ℕ) → expression-lts.Need-returns-5 (
   operands-below t,
   operands.Post,
 ) (expression-at t) expression.Post
-expression-returns-5 t c = is-call _ _ _ _ _ _ _ _ _ _ (c .before .before .before .before .before .before .before .before .before .before .before .before .before .before .before .before .before .before .before .if1 .left) (c .before .before .before .before .before .before .before .before .before .before .before .before .before .before .before .before .before .count .ensures) (c .before .before .before .before .before .before .before .before .before .before .before .before .before .before .if2 .left) _ (c .before .before .before .before .before .before .before .before .before .before .before .before .before .word-at .ensures) _ (c .before .before .before .before .before .before .before .before .before .before .before .before .tag-of .ensures) _ _ _ _ (c .before .before .before .before .before .before .before .before .before .before .before .if3 .left) (c .before .before .before .before .before .before .before .before .before .before .if4 .taken) (c .before .before .before .before .before .before .before .call .ensures) (c .before .n .given .1)
+expression-returns-5 t c = is-call _ _ _ _ _ _ _ _ _ _ (c .before .before .before .before .before .before .before .before .before .before .before .before .before .before .before .before
+    .before .before .before .if1 .left) (c .before .before .before .before .before .before .before .before .before .before .before .before .before .before .before .before .before .count
+    .ensures) (c .before .before .before .before .before .before .before .before .before .before .before .before .before .before .if2 .left) _
+    (c .before .before .before .before .before .before .before .before .before .before .before .before .before .word-at .ensures) _
+    (c .before .before .before .before .before .before .before .before .before .before .before .before .tag-of .ensures) _ _ _ _
+    (c .before .before .before .before .before .before .before .before .before .before .before .if3 .left)
+    (c .before .before .before .before .before .before .before .before .before .before .if4 .taken) (c .before .before .before .before .before .before .before .call .ensures) (c .before .n .given .1)
 
--- src/lib.rt:58:57
 expression-sub-operands : (t : ℕ) → expression-lts.Need-sub-operands (
   count-reads.Asked,
   count-reads.Learnt,
@@ -1655,7 +1607,6 @@ expression-sub-operands : (t : ℕ) → expression-lts.Need-sub-operands (
 ) (expression-at t) expression.Post
 expression-sub-operands t c = search needs
 
--- src/lib.rt:58:11
 expression-operands-requires : (t : ℕ) → expression-lts.Need-operands-requires (
   count-reads.Asked,
   count-reads.Learnt,
@@ -1672,7 +1623,6 @@ expression-operands-requires : (t : ℕ) → expression-lts.Need-operands-requir
 ) (expression-at t) expression.Post
 expression-operands-requires t c κs = (omega arith, record { lent = still-lent-words _ _ _ _ (c .before .before .before .before .before .before .before .before .before .before .before .before .before .before .before .before .pre .1 .lent) (let a0 = c .before .before .before .before .before .before .before .before .words in omega arith); deep = omega (arith, c .before .before .before .before .before .before .before .before .before .before .before .before .before .before .before .before .pre .1 .deep) })
 
--- src/lib.rt:59:22
 expression-enum-known-v-2 : (t : ℕ) → expression-lts.Need-enum-known-v-2 (
   count-reads.Asked,
   count-reads.Learnt,
@@ -1689,7 +1639,6 @@ expression-enum-known-v-2 : (t : ℕ) → expression-lts.Need-enum-known-v-2 (
 ) (expression-at t) expression.Post
 expression-enum-known-v-2 t c = search needs
 
--- src/lib.rt:60:21
 expression-enum-known-n-2 : (t : ℕ) → expression-lts.Need-enum-known-n-2 (
   count-reads.Asked,
   count-reads.Learnt,
@@ -1706,7 +1655,6 @@ expression-enum-known-n-2 : (t : ℕ) → expression-lts.Need-enum-known-n-2 (
 ) (expression-at t) expression.Post
 expression-enum-known-n-2 t c = search needs
 
--- src/lib.rt:27:1
 expression-same-length-7 : (t : ℕ) → expression-lts.Need-same-length-7 (
   count-reads.Asked,
   count-reads.Learnt,
@@ -1723,7 +1671,6 @@ expression-same-length-7 : (t : ℕ) → expression-lts.Need-same-length-7 (
 ) (expression-at t) expression.Post
 expression-same-length-7 t c = search needs
 
--- src/lib.rt:27:1
 expression-same-length-8 : (t : ℕ) → expression-lts.Need-same-length-8 (
   count-reads.Asked,
   count-reads.Learnt,
@@ -1740,7 +1687,6 @@ expression-same-length-8 : (t : ℕ) → expression-lts.Need-same-length-8 (
 ) (expression-at t) expression.Post
 expression-same-length-8 t c = search needs
 
--- src/lib.rt:27:1
 expression-returns-6 : (t : ℕ) → expression-lts.Need-returns-6 (
   count-reads.Asked,
   count-reads.Learnt,
@@ -1755,9 +1701,15 @@ expression-returns-6 : (t : ℕ) → expression-lts.Need-returns-6 (
   operands-below t,
   operands.Post,
 ) (expression-at t) expression.Post
-expression-returns-6 t c = has-operands _ _ _ _ _ _ _ _ _ _ (c .before .before .before .before .before .before .before .before .before .before .before .before .before .before .before .before .before .before .before .if1 .left) (c .before .before .before .before .before .before .before .before .before .before .before .before .before .before .before .before .before .count .ensures) (c .before .before .before .before .before .before .before .before .before .before .before .before .before .before .if2 .left) _ (c .before .before .before .before .before .before .before .before .before .before .before .before .before .word-at .ensures) _ (c .before .before .before .before .before .before .before .before .before .before .before .before .tag-of .ensures) _ _ _ _ (c .before .before .before .before .before .before .before .before .before .before .before .if3 .left) (c .before .before .before .before .before .before .before .before .before .before .if4 .left) (c .before .before .before .before .before .before .before .operands .ensures) (c .before .v2 .given .1)
+expression-returns-6 t c = has-operands _ _ _ _ _ _ _ _ _ _ (c .before .before .before .before .before .before .before .before .before .before .before .before .before .before .before .before
+    .before .before .before .if1 .left) (c .before .before .before .before .before .before .before .before .before .before .before .before .before .before .before .before .before .count
+    .ensures) (c .before .before .before .before .before .before .before .before .before .before .before .before .before .before .if2 .left) _
+    (c .before .before .before .before .before .before .before .before .before .before .before .before .before .word-at .ensures) _
+    (c .before .before .before .before .before .before .before .before .before .before .before .before .tag-of .ensures) _ _ _ _
+    (c .before .before .before .before .before .before .before .before .before .before .before .if3 .left)
+    (c .before .before .before .before .before .before .before .before .before .before .if4 .left) (c .before .before .before .before .before .before .before .operands .ensures)
+    (c .before .v2 .given .1)
 
--- src/lib.rt:27:1
 expression-same-length-9 : (t : ℕ) → expression-lts.Need-same-length-9 (
   count-reads.Asked,
   count-reads.Learnt,
@@ -1774,7 +1726,6 @@ expression-same-length-9 : (t : ℕ) → expression-lts.Need-same-length-9 (
 ) (expression-at t) expression.Post
 expression-same-length-9 t c = search needs
 
--- src/lib.rt:27:1
 expression-same-length-10 : (t : ℕ) → expression-lts.Need-same-length-10 (
   count-reads.Asked,
   count-reads.Learnt,
@@ -1791,7 +1742,6 @@ expression-same-length-10 : (t : ℕ) → expression-lts.Need-same-length-10 (
 ) (expression-at t) expression.Post
 expression-same-length-10 t c = search needs
 
--- src/lib.rt:27:1
 expression-returns-7 : (t : ℕ) → expression-lts.Need-returns-7 (
   count-reads.Asked,
   count-reads.Learnt,
@@ -1806,15 +1756,22 @@ expression-returns-7 : (t : ℕ) → expression-lts.Need-returns-7 (
   operands-below t,
   operands.Post,
 ) (expression-at t) expression.Post
-expression-returns-7 t c = has-operands _ _ _ _ _ _ _ _ _ _ (c .before .before .before .before .before .before .before .before .before .before .before .before .before .before .before .before .before .before .before .if1 .left) (c .before .before .before .before .before .before .before .before .before .before .before .before .before .before .before .before .before .count .ensures) (c .before .before .before .before .before .before .before .before .before .before .before .before .before .before .if2 .left) _ (c .before .before .before .before .before .before .before .before .before .before .before .before .before .word-at .ensures) _ (c .before .before .before .before .before .before .before .before .before .before .before .before .tag-of .ensures) _ _ _ _ (c .before .before .before .before .before .before .before .before .before .before .before .if3 .left) (c .before .before .before .before .before .before .before .before .before .before .if4 .left) (c .before .before .before .before .before .before .before .operands .ensures) (c .before .n2 .given .1)
+expression-returns-7 t c = has-operands _ _ _ _ _ _ _ _ _ _ (c .before .before .before .before .before .before .before .before .before .before .before .before .before .before .before .before
+    .before .before .before .if1 .left) (c .before .before .before .before .before .before .before .before .before .before .before .before .before .before .before .before .before .count
+    .ensures) (c .before .before .before .before .before .before .before .before .before .before .before .before .before .before .if2 .left) _
+    (c .before .before .before .before .before .before .before .before .before .before .before .before .before .word-at .ensures) _
+    (c .before .before .before .before .before .before .before .before .before .before .before .before .tag-of .ensures) _ _ _ _
+    (c .before .before .before .before .before .before .before .before .before .before .before .if3 .left)
+    (c .before .before .before .before .before .before .before .before .before .before .if4 .left) (c .before .before .before .before .before .before .before .operands .ensures)
+    (c .before .n2 .given .1)
 
 abbrev inside-Inv-loop : inside-lts.InvT-loop
-inside-Inv-loop program code grants texts₀ words₀ fuel slot b p end c found₀ turns₀ texts words found turns = Turning (statementAt fuel (setting program code grants) b) grants fuel b texts₀ words₀ p slot end found₀ turns₀ texts words found turns
+inside-Inv-loop program code grants texts₀ words₀ fuel slot b p end c found₀ turns₀ texts words found turns =
+    Turning (statementAt fuel (setting program code grants) b) grants fuel b texts₀ words₀ p slot end found₀ turns₀ texts words found turns
 
 abbrev inside-μ-loop : inside-lts.MeasureT-loop
 inside-μ-loop program code grants texts₀ words₀ fuel slot b p end c found₀ turns₀ texts words found turns = turns
 
--- src/lib.rt:767:9
 inside-look-in-requires : (t : ℕ) → inside-lts.Need-look-in-requires (
   look-in-reads.Asked,
   look-in-reads.Learnt,
@@ -1829,7 +1786,6 @@ inside-look-in-requires : (t : ℕ) → inside-lts.Need-look-in-requires (
 ) (inside-at t) inside.Post inside-Inv-loop inside-μ-loop
 inside-look-in-requires t c κs = c .before .before .before .before .before .pre .1 .lent .lent .room
 
--- src/lib.rt:768:21
 inside-element-copy-out-turns : (t : ℕ) → inside-lts.Need-element-copy-out-turns (
   look-in-reads.Asked,
   look-in-reads.Learnt,
@@ -1844,7 +1800,6 @@ inside-element-copy-out-turns : (t : ℕ) → inside-lts.Need-element-copy-out-t
 ) (inside-at t) inside.Post inside-Inv-loop inside-μ-loop
 inside-element-copy-out-turns t c = search needs
 
--- src/lib.rt:768:21
 inside-add-turns : (t : ℕ) → inside-lts.Need-add-turns (
   look-in-reads.Asked,
   look-in-reads.Learnt,
@@ -1859,7 +1814,6 @@ inside-add-turns : (t : ℕ) → inside-lts.Need-add-turns (
 ) (inside-at t) inside.Post inside-Inv-loop inside-μ-loop
 inside-add-turns t c = omega (arith, c .before .before .before .before .before .before .before .before .before .pre .1 .lent .lent .room .steps)
 
--- src/lib.rt:769:5
 inside-loop-holds : (t : ℕ) → inside-lts.Need-loop-holds (
   look-in-reads.Asked,
   look-in-reads.Learnt,
@@ -1872,9 +1826,9 @@ inside-loop-holds : (t : ℕ) → inside-lts.Need-loop-holds (
   look-behind-reads.Asked,
   look-behind-reads.Learnt,
 ) (inside-at t) inside.Post inside-Inv-loop inside-μ-loop
-inside-loop-holds t c = turns-first _ _ _ _ _ _ _ _ _ _ _ (still-runs _ _ _ _ _ refl (let a0 = c .before .before .words in omega arith) _ _ (c .before .before .before .before .before .before .before .before .before .pre .1))
+inside-loop-holds t c = turns-first _ _ _ _ _ _ _ _ _ _ _ (still-runs _ _ _ _ _ refl (let a0 = c .before .before .words in
+    omega arith) _ _ (c .before .before .before .before .before .before .before .before .before .pre .1))
 
--- src/lib.rt:770:9
 inside-sub-turns : (t : ℕ) → inside-lts.Need-sub-turns (
   look-in-reads.Asked,
   look-in-reads.Learnt,
@@ -1889,7 +1843,6 @@ inside-sub-turns : (t : ℕ) → inside-lts.Need-sub-turns (
 ) (inside-at t) inside.Post inside-Inv-loop inside-μ-loop
 inside-sub-turns t c = search needs
 
--- src/lib.rt:772:13
 inside-same-length : (t : ℕ) → inside-lts.Need-same-length (
   look-in-reads.Asked,
   look-in-reads.Learnt,
@@ -1904,7 +1857,6 @@ inside-same-length : (t : ℕ) → inside-lts.Need-same-length (
 ) (inside-at t) inside.Post inside-Inv-loop inside-μ-loop
 inside-same-length t c = search needs
 
--- src/lib.rt:772:13
 inside-same-length-2 : (t : ℕ) → inside-lts.Need-same-length-2 (
   look-in-reads.Asked,
   look-in-reads.Learnt,
@@ -1919,7 +1871,6 @@ inside-same-length-2 : (t : ℕ) → inside-lts.Need-same-length-2 (
 ) (inside-at t) inside.Post inside-Inv-loop inside-μ-loop
 inside-same-length-2 t c = search needs
 
--- src/lib.rt:772:13
 inside-returns : (t : ℕ) → inside-lts.Need-returns (
   look-in-reads.Asked,
   look-in-reads.Learnt,
@@ -1932,9 +1883,9 @@ inside-returns : (t : ℕ) → inside-lts.Need-returns (
   look-behind-reads.Asked,
   look-behind-reads.Learnt,
 ) (inside-at t) inside.Post inside-Inv-loop inside-μ-loop
-inside-returns t c = looked-in _ _ _ _ _ _ _ _ _ _ _ (c .before .before .before .before .before .before .look-in .ensures) (turns-done _ _ _ _ _ _ _ _ _ _ _ _ _ _ _ (c .before .before .loop .inv) (c .before .loop-test .taken) (c .if1 .taken))
+inside-returns t c = looked-in _ _ _ _ _ _ _ _ _ _ _ (c .before .before .before .before .before .before .look-in .ensures)
+    (turns-done _ _ _ _ _ _ _ _ _ _ _ _ _ _ _ (c .before .before .loop .inv) (c .before .loop-test .taken) (c .if1 .taken))
 
--- src/lib.rt:774:65
 inside-sub-component-at : (t : ℕ) → inside-lts.Need-sub-component-at (
   look-in-reads.Asked,
   look-in-reads.Learnt,
@@ -1949,7 +1900,6 @@ inside-sub-component-at : (t : ℕ) → inside-lts.Need-sub-component-at (
 ) (inside-at t) inside.Post inside-Inv-loop inside-μ-loop
 inside-sub-component-at t c = omega (arith, c .before .if1 .left)
 
--- src/lib.rt:774:13
 inside-component-at-requires : (t : ℕ) → inside-lts.Need-component-at-requires (
   look-in-reads.Asked,
   look-in-reads.Learnt,
@@ -1964,7 +1914,6 @@ inside-component-at-requires : (t : ℕ) → inside-lts.Need-component-at-requir
 ) (inside-at t) inside.Post inside-Inv-loop inside-μ-loop
 inside-component-at-requires t c κs = c .before .before .before .loop .inv .runs .lent .lent .room
 
--- src/lib.rt:775:15
 inside-bound-requires : (t : ℕ) → inside-lts.Need-bound-requires (
   look-in-reads.Asked,
   look-in-reads.Learnt,
@@ -1993,7 +1942,6 @@ inside-enum-told : (t : ℕ) → inside-lts.Need-enum-told (
 ) (inside-at t) inside.Post inside-Inv-loop inside-μ-loop
 inside-enum-told t c = search needs
 
--- src/lib.rt:777:28
 inside-enum-known-v : (t : ℕ) → inside-lts.Need-enum-known-v (
   look-in-reads.Asked,
   look-in-reads.Learnt,
@@ -2008,7 +1956,6 @@ inside-enum-known-v : (t : ℕ) → inside-lts.Need-enum-known-v (
 ) (inside-at t) inside.Post inside-Inv-loop inside-μ-loop
 inside-enum-known-v t c = search needs
 
--- src/lib.rt:778:17
 inside-unmark-below-requires : (t : ℕ) → inside-lts.Need-unmark-below-requires (
   look-in-reads.Asked,
   look-in-reads.Learnt,
@@ -2021,9 +1968,9 @@ inside-unmark-below-requires : (t : ℕ) → inside-lts.Need-unmark-below-requir
   look-behind-reads.Asked,
   look-behind-reads.Learnt,
 ) (inside-at t) inside.Post inside-Inv-loop inside-μ-loop
-inside-unmark-below-requires t c κs = still-room _ _ _ _ _ (c .before .before .before .before .before .before .before .before .before .before .before .before .before .before .before .loop .inv .runs .lent) (let a0 = c .before .before .before .before .before .words2 in omega arith)
+inside-unmark-below-requires t c κs = still-room _ _ _ _ _ (c .before .before .before .before .before .before .before .before .before .before .before .before .before .before .before .loop .inv
+    .runs .lent) (let a0 = c .before .before .before .before .before .words2 in omega arith)
 
--- src/lib.rt:779:17
 inside-same-length-3 : (t : ℕ) → inside-lts.Need-same-length-3 (
   look-in-reads.Asked,
   look-in-reads.Learnt,
@@ -2038,7 +1985,6 @@ inside-same-length-3 : (t : ℕ) → inside-lts.Need-same-length-3 (
 ) (inside-at t) inside.Post inside-Inv-loop inside-μ-loop
 inside-same-length-3 t c = search needs
 
--- src/lib.rt:779:17
 inside-same-length-4 : (t : ℕ) → inside-lts.Need-same-length-4 (
   look-in-reads.Asked,
   look-in-reads.Learnt,
@@ -2053,7 +1999,6 @@ inside-same-length-4 : (t : ℕ) → inside-lts.Need-same-length-4 (
 ) (inside-at t) inside.Post inside-Inv-loop inside-μ-loop
 inside-same-length-4 t c = search needs
 
--- src/lib.rt:779:17
 inside-returns-2 : (t : ℕ) → inside-lts.Need-returns-2 (
   look-in-reads.Asked,
   look-in-reads.Learnt,
@@ -2066,9 +2011,15 @@ inside-returns-2 : (t : ℕ) → inside-lts.Need-returns-2 (
   look-behind-reads.Asked,
   look-behind-reads.Learnt,
 ) (inside-at t) inside.Post inside-Inv-loop inside-μ-loop
-inside-returns-2 t c = looked-in _ _ _ _ _ _ _ _ _ _ _ (c .before .before .before .before .before .before .before .before .before .before .before .before .before .before .before .before .before .before .before .before .before .before .look-in .ensures) (turn-returns _ _ _ _ _ _ _ _ _ _ _ _ _ _ _ (c .before .before .before .before .before .before .before .before .before .before .before .before .before .before .before .before .before .before .loop .inv) (c .before .before .before .before .before .before .before .before .before .before .before .before .before .before .before .before .before .loop-test .taken) (c .before .before .before .before .before .before .before .before .before .before .before .before .before .before .before .before .if1 .left) _ (c .before .before .before .before .before .before .before .before .before .before .before .before .before .before .component-at .ensures) _ _ _ (c .before .before .before .before .before .before .before .before .before .before .before .bound .ensures) _ _ (c .before .before .before .before .before .v .given .1) (c .before .before .unmark-below .ensures))
+inside-returns-2 t c = looked-in _ _ _ _ _ _ _ _ _ _ _ (c .before .before .before .before .before .before .before .before .before .before .before .before .before .before .before .before
+    .before .before .before .before .before .before .look-in .ensures)
+    (turn-returns _ _ _ _ _ _ _ _ _ _ _ _ _ _ _ (c .before .before .before .before .before .before .before .before .before .before .before .before .before .before .before .before .before
+    .before .loop .inv) (c .before .before .before .before .before .before .before .before .before .before .before .before .before .before .before .before .before .loop-test .taken)
+    (c .before .before .before .before .before .before .before .before .before .before .before .before .before .before .before .before .if1 .left) _
+    (c .before .before .before .before .before .before .before .before .before .before .before .before .before .before .component-at .ensures) _ _ _
+    (c .before .before .before .before .before .before .before .before .before .before .before .bound .ensures) _ _ (c .before .before .before .before .before .v .given .1)
+    (c .before .before .unmark-below .ensures))
 
--- src/lib.rt:781:27
 inside-enum-known-n : (t : ℕ) → inside-lts.Need-enum-known-n (
   look-in-reads.Asked,
   look-in-reads.Learnt,
@@ -2083,7 +2034,6 @@ inside-enum-known-n : (t : ℕ) → inside-lts.Need-enum-known-n (
 ) (inside-at t) inside.Post inside-Inv-loop inside-μ-loop
 inside-enum-known-n t c = search needs
 
--- src/lib.rt:781:36
 inside-same-length-5 : (t : ℕ) → inside-lts.Need-same-length-5 (
   look-in-reads.Asked,
   look-in-reads.Learnt,
@@ -2098,7 +2048,6 @@ inside-same-length-5 : (t : ℕ) → inside-lts.Need-same-length-5 (
 ) (inside-at t) inside.Post inside-Inv-loop inside-μ-loop
 inside-same-length-5 t c = search needs
 
--- src/lib.rt:781:36
 inside-same-length-6 : (t : ℕ) → inside-lts.Need-same-length-6 (
   look-in-reads.Asked,
   look-in-reads.Learnt,
@@ -2113,7 +2062,6 @@ inside-same-length-6 : (t : ℕ) → inside-lts.Need-same-length-6 (
 ) (inside-at t) inside.Post inside-Inv-loop inside-μ-loop
 inside-same-length-6 t c = search needs
 
--- src/lib.rt:781:36
 inside-returns-3 : (t : ℕ) → inside-lts.Need-returns-3 (
   look-in-reads.Asked,
   look-in-reads.Learnt,
@@ -2126,9 +2074,14 @@ inside-returns-3 : (t : ℕ) → inside-lts.Need-returns-3 (
   look-behind-reads.Asked,
   look-behind-reads.Learnt,
 ) (inside-at t) inside.Post inside-Inv-loop inside-μ-loop
-inside-returns-3 t c = looked-in _ _ _ _ _ _ _ _ _ _ _ (c .before .before .before .before .before .before .before .before .before .before .before .before .before .before .before .before .before .before .look-in .ensures) (turn-fails _ _ _ _ _ _ _ _ _ _ _ _ _ _ _ (c .before .before .before .before .before .before .before .before .before .before .before .before .before .before .loop .inv) (c .before .before .before .before .before .before .before .before .before .before .before .before .before .loop-test .taken) (c .before .before .before .before .before .before .before .before .before .before .before .before .if1 .left) _ (c .before .before .before .before .before .before .before .before .before .before .component-at .ensures) _ _ _ (c .before .before .before .before .before .before .before .bound .ensures) _ _ (c .before .n .given .1))
+inside-returns-3 t c = looked-in _ _ _ _ _ _ _ _ _ _ _ (c .before .before .before .before .before .before .before .before .before .before .before .before .before .before .before .before
+    .before .before .look-in .ensures) (turn-fails _ _ _ _ _ _ _ _ _ _ _ _ _ _ _
+    (c .before .before .before .before .before .before .before .before .before .before .before .before .before .before .loop .inv)
+    (c .before .before .before .before .before .before .before .before .before .before .before .before .before .loop-test .taken)
+    (c .before .before .before .before .before .before .before .before .before .before .before .before .if1 .left) _
+    (c .before .before .before .before .before .before .before .before .before .before .component-at .ensures) _ _ _
+    (c .before .before .before .before .before .before .before .bound .ensures) _ _ (c .before .n .given .1))
 
--- src/lib.rt:783:66
 inside-sub-look-behind : (t : ℕ) → inside-lts.Need-sub-look-behind (
   look-in-reads.Asked,
   look-in-reads.Learnt,
@@ -2143,7 +2096,6 @@ inside-sub-look-behind : (t : ℕ) → inside-lts.Need-sub-look-behind (
 ) (inside-at t) inside.Post inside-Inv-loop inside-μ-loop
 inside-sub-look-behind t c = omega (arith, c .before .before .before .before .before .before .before .before .before .before .before .before .if1 .left)
 
--- src/lib.rt:783:9
 inside-look-behind-requires : (t : ℕ) → inside-lts.Need-look-behind-requires (
   look-in-reads.Asked,
   look-in-reads.Learnt,
@@ -2156,9 +2108,9 @@ inside-look-behind-requires : (t : ℕ) → inside-lts.Need-look-behind-requires
   look-behind-reads.Asked,
   look-behind-reads.Learnt,
 ) (inside-at t) inside.Post inside-Inv-loop inside-μ-loop
-inside-look-behind-requires t c κs = still-room _ _ _ _ _ (c .before .before .before .before .before .before .before .before .before .before .before .before .before .before .loop .inv .runs .lent) (let a0 = c .before .before .before .before .words2 in omega arith)
+inside-look-behind-requires t c κs = still-room _ _ _ _ _ (c .before .before .before .before .before .before .before .before .before .before .before .before .before .before .loop .inv .runs
+    .lent) (let a0 = c .before .before .before .before .words2 in omega arith)
 
--- src/lib.rt:769:5
 inside-loop-less : (t : ℕ) → inside-lts.Need-loop-less (
   look-in-reads.Asked,
   look-in-reads.Learnt,
@@ -2173,7 +2125,6 @@ inside-loop-less : (t : ℕ) → inside-lts.Need-loop-less (
 ) (inside-at t) inside.Post inside-Inv-loop inside-μ-loop
 inside-loop-less t c = omega arith
 
--- src/lib.rt:769:5
 inside-loop-again : (t : ℕ) → inside-lts.Need-loop-again (
   look-in-reads.Asked,
   look-in-reads.Learnt,
@@ -2186,9 +2137,14 @@ inside-loop-again : (t : ℕ) → inside-lts.Need-loop-again (
   look-behind-reads.Asked,
   look-behind-reads.Learnt,
 ) (inside-at t) inside.Post inside-Inv-loop inside-μ-loop
-inside-loop-again t c = turn-again _ _ _ _ _ _ _ _ _ _ _ _ _ _ _ (c .before .before .before .before .before .before .before .before .before .before .before .before .before .before .before .before .before .loop .inv) (c .before .before .before .before .before .before .before .before .before .before .before .before .before .before .before .before .loop-test .taken) (c .before .before .before .before .before .before .before .before .before .before .before .before .before .before .before .if1 .left) _ (c .before .before .before .before .before .before .before .before .before .before .before .before .before .component-at .ensures) _ _ _ (c .before .before .before .before .before .before .before .before .before .before .bound .ensures) _ _ (c .before .before .before .before .enum-told .given .1) (c .before .before .look-behind .ensures) (let a0 = c .before .before .before .before .before .before .before .before .before .texts in omega arith) (let a0 = c .before .before .before .before .before .before .before .words2 in let a1 = c .before .words4 in omega arith)
+inside-loop-again t c = turn-again _ _ _ _ _ _ _ _ _ _ _ _ _ _ _ (c .before .before .before .before .before .before .before .before .before .before .before .before .before .before .before
+    .before .before .loop .inv) (c .before .before .before .before .before .before .before .before .before .before .before .before .before .before .before .before .loop-test .taken)
+    (c .before .before .before .before .before .before .before .before .before .before .before .before .before .before .before .if1 .left) _
+    (c .before .before .before .before .before .before .before .before .before .before .before .before .before .component-at .ensures) _ _ _
+    (c .before .before .before .before .before .before .before .before .before .before .bound .ensures) _ _ (c .before .before .before .before .enum-told .given .1)
+    (c .before .before .look-behind .ensures) (let a0 = c .before .before .before .before .before .before .before .before .before .texts in
+    omega arith) (let a0 = c .before .before .before .before .before .before .before .words2 in let a1 = c .before .words4 in omega arith)
 
--- src/lib.rt:750:1
 inside-same-length-7 : (t : ℕ) → inside-lts.Need-same-length-7 (
   look-in-reads.Asked,
   look-in-reads.Learnt,
@@ -2203,7 +2159,6 @@ inside-same-length-7 : (t : ℕ) → inside-lts.Need-same-length-7 (
 ) (inside-at t) inside.Post inside-Inv-loop inside-μ-loop
 inside-same-length-7 t c = search needs
 
--- src/lib.rt:750:1
 inside-same-length-8 : (t : ℕ) → inside-lts.Need-same-length-8 (
   look-in-reads.Asked,
   look-in-reads.Learnt,
@@ -2218,7 +2173,6 @@ inside-same-length-8 : (t : ℕ) → inside-lts.Need-same-length-8 (
 ) (inside-at t) inside.Post inside-Inv-loop inside-μ-loop
 inside-same-length-8 t c = search needs
 
--- src/lib.rt:750:1
 inside-returns-4 : (t : ℕ) → inside-lts.Need-returns-4 (
   look-in-reads.Asked,
   look-in-reads.Learnt,
@@ -2233,7 +2187,6 @@ inside-returns-4 : (t : ℕ) → inside-lts.Need-returns-4 (
 ) (inside-at t) inside.Post inside-Inv-loop inside-μ-loop
 inside-returns-4 t c = looked-in _ _ _ _ _ _ _ _ _ _ _ (c .before .before .before .before .before .look-in .ensures) (turns-short _ _ _ _ _ _ _ _ _ _ _ _ _ _ _ (c .before .loop .inv) (omega arith))
 
--- src/lib.rt:239:15
 invoke-arguments-held-requires : (t : ℕ) → invoke-lts.Need-arguments-held-requires (
   arguments-held-reads.Asked,
   arguments-held-reads.Learnt,
@@ -2262,7 +2215,6 @@ invoke-arguments-held-requires : (t : ℕ) → invoke-lts.Need-arguments-held-re
 ) (invoke-at t) invoke.Post
 invoke-arguments-held-requires t c κs = omega (arith, c .before .before .before .before .before .pre .1 .lent .lent .room .words)
 
--- src/lib.rt:240:9
 invoke-declared-count-requires : (t : ℕ) → invoke-lts.Need-declared-count-requires (
   arguments-held-reads.Asked,
   arguments-held-reads.Learnt,
@@ -2291,7 +2243,6 @@ invoke-declared-count-requires : (t : ℕ) → invoke-lts.Need-declared-count-re
 ) (invoke-at t) invoke.Post
 invoke-declared-count-requires t c κs = omega (arith, c .before .before .before .before .before .before .before .pre .1 .lent .lent .room .words)
 
--- src/lib.rt:241:9
 invoke-running-requires : (t : ℕ) → invoke-lts.Need-running-requires (
   arguments-held-reads.Asked,
   arguments-held-reads.Learnt,
@@ -2320,7 +2271,6 @@ invoke-running-requires : (t : ℕ) → invoke-lts.Need-running-requires (
 ) (invoke-at t) invoke.Post
 invoke-running-requires t c κs = omega (arith, c .before .before .before .before .before .before .before .before .before .pre .1 .lent .lent .room .words)
 
--- src/lib.rt:242:9
 invoke-loop-unit-requires : (t : ℕ) → invoke-lts.Need-loop-unit-requires (
   arguments-held-reads.Asked,
   arguments-held-reads.Learnt,
@@ -2349,7 +2299,6 @@ invoke-loop-unit-requires : (t : ℕ) → invoke-lts.Need-loop-unit-requires (
 ) (invoke-at t) invoke.Post
 invoke-loop-unit-requires t c κs = omega (arith, c .before .before .before .before .before .before .before .before .before .before .before .pre .1 .lent .lent .room .words)
 
--- src/lib.rt:243:11
 invoke-begin-requires : (t : ℕ) → invoke-lts.Need-begin-requires (
   arguments-held-reads.Asked,
   arguments-held-reads.Learnt,
@@ -2406,7 +2355,6 @@ invoke-enum-told : (t : ℕ) → invoke-lts.Need-enum-told (
 ) (invoke-at t) invoke.Post
 invoke-enum-told t c = search needs
 
--- src/lib.rt:245:21
 invoke-enum-known-k : (t : ℕ) → invoke-lts.Need-enum-known-k (
   arguments-held-reads.Asked,
   arguments-held-reads.Learnt,
@@ -2435,7 +2383,6 @@ invoke-enum-known-k : (t : ℕ) → invoke-lts.Need-enum-known-k (
 ) (invoke-at t) invoke.Post
 invoke-enum-known-k t c = search needs
 
--- src/lib.rt:245:30
 invoke-same-length : (t : ℕ) → invoke-lts.Need-same-length (
   arguments-held-reads.Asked,
   arguments-held-reads.Learnt,
@@ -2464,7 +2411,6 @@ invoke-same-length : (t : ℕ) → invoke-lts.Need-same-length (
 ) (invoke-at t) invoke.Post
 invoke-same-length t c = search needs
 
--- src/lib.rt:245:30
 invoke-returns : (t : ℕ) → invoke-lts.Need-returns (
   arguments-held-reads.Asked,
   arguments-held-reads.Learnt,
@@ -2491,9 +2437,11 @@ invoke-returns : (t : ℕ) → invoke-lts.Need-returns (
   resume-reads.Asked,
   resume-reads.Learnt,
 ) (invoke-at t) invoke.Post
-invoke-returns t c = begin-stops _ _ _ _ _ _ _ _ _ _ _ _ _ (c .before .before .before .before .before .before .before .before .before .before .before .before .before .arguments-held .ensures) (c .before .before .before .before .before .before .before .before .before .before .before .declared-count .ensures) (c .before .before .before .before .before .before .before .before .before .running .ensures) (c .before .before .before .before .before .before .before .loop-unit .ensures) _ _ (c .before .before .before .before .before .begin .ensures) _ _ (c .before .k .given .1)
+invoke-returns t c = begin-stops _ _ _ _ _ _ _ _ _ _ _ _ _ (c .before .before .before .before .before .before .before .before .before .before .before .before .before .arguments-held .ensures)
+    (c .before .before .before .before .before .before .before .before .before .before .before .declared-count .ensures)
+    (c .before .before .before .before .before .before .before .before .before .running .ensures) (c .before .before .before .before .before .before .before .loop-unit .ensures) _ _
+    (c .before .before .before .before .before .begin .ensures) _ _ (c .before .k .given .1)
 
--- src/lib.rt:247:42
 invoke-table-place-requires : (t : ℕ) → invoke-lts.Need-table-place-requires (
   arguments-held-reads.Asked,
   arguments-held-reads.Learnt,
@@ -2522,7 +2470,6 @@ invoke-table-place-requires : (t : ℕ) → invoke-lts.Need-table-place-requires
 ) (invoke-at t) invoke.Post
 invoke-table-place-requires t c κs = search needs
 
--- src/lib.rt:247:9
 invoke-word-at-requires : (t : ℕ) → invoke-lts.Need-word-at-requires (
   arguments-held-reads.Asked,
   arguments-held-reads.Learnt,
@@ -2551,7 +2498,6 @@ invoke-word-at-requires : (t : ℕ) → invoke-lts.Need-word-at-requires (
 ) (invoke-at t) invoke.Post
 invoke-word-at-requires t c κs = search needs
 
--- src/lib.rt:248:13
 invoke-start-of-requires : (t : ℕ) → invoke-lts.Need-start-of-requires (
   arguments-held-reads.Asked,
   arguments-held-reads.Learnt,
@@ -2580,7 +2526,6 @@ invoke-start-of-requires : (t : ℕ) → invoke-lts.Need-start-of-requires (
 ) (invoke-at t) invoke.Post
 invoke-start-of-requires t c κs = search needs
 
--- src/lib.rt:248:33
 invoke-parameters-of-requires : (t : ℕ) → invoke-lts.Need-parameters-of-requires (
   arguments-held-reads.Asked,
   arguments-held-reads.Learnt,
@@ -2609,7 +2554,6 @@ invoke-parameters-of-requires : (t : ℕ) → invoke-lts.Need-parameters-of-requ
 ) (invoke-at t) invoke.Post
 invoke-parameters-of-requires t c κs = search needs
 
--- src/lib.rt:248:13
 invoke-add-a : (t : ℕ) → invoke-lts.Need-add-a (
   arguments-held-reads.Asked,
   arguments-held-reads.Learnt,
@@ -2638,7 +2582,6 @@ invoke-add-a : (t : ℕ) → invoke-lts.Need-add-a (
 ) (invoke-at t) invoke.Post
 invoke-add-a t c = omega (arith, c .before .start-of .ensures .1, c .parameters-of .ensures .1)
 
--- src/lib.rt:249:9
 invoke-body-of-requires : (t : ℕ) → invoke-lts.Need-body-of-requires (
   arguments-held-reads.Asked,
   arguments-held-reads.Learnt,
@@ -2667,7 +2610,6 @@ invoke-body-of-requires : (t : ℕ) → invoke-lts.Need-body-of-requires (
 ) (invoke-at t) invoke.Post
 invoke-body-of-requires t c κs = search needs
 
--- src/lib.rt:258:9
 invoke-add-procedure : (t : ℕ) → invoke-lts.Need-add-procedure (
   arguments-held-reads.Asked,
   arguments-held-reads.Learnt,
@@ -2696,7 +2638,6 @@ invoke-add-procedure : (t : ℕ) → invoke-lts.Need-add-procedure (
 ) (invoke-at t) invoke.Post
 invoke-add-procedure t c = omega (arith, c .before .before .before .before .start-of .ensures .1, c .before .before .before .parameters-of .ensures .1, c .before .before .body-of .ensures .1)
 
--- src/lib.rt:259:9
 invoke-add-procedure-2 : (t : ℕ) → invoke-lts.Need-add-procedure-2 (
   arguments-held-reads.Asked,
   arguments-held-reads.Learnt,
@@ -2725,7 +2666,6 @@ invoke-add-procedure-2 : (t : ℕ) → invoke-lts.Need-add-procedure-2 (
 ) (invoke-at t) invoke.Post
 invoke-add-procedure-2 t c = omega (arith, c .before .before .before .before .start-of .ensures .1, c .before .before .before .parameters-of .ensures .1, c .before .before .body-of .ensures .1)
 
--- src/lib.rt:250:11
 invoke-procedure-requires : (t : ℕ) → invoke-lts.Need-procedure-requires (
   arguments-held-reads.Asked,
   arguments-held-reads.Learnt,
@@ -2754,7 +2694,6 @@ invoke-procedure-requires : (t : ℕ) → invoke-lts.Need-procedure-requires (
 ) (invoke-at t) invoke.Post
 invoke-procedure-requires t c κs = (omega arith, record { lent = record { lent = still-lent-words _ _ _ _ (c .before .before .before .before .before .before .before .before .before .before .before .before .before .before .before .before .before .before .before .before .before .before .before .before .before .pre .1 .lent .lent) (let a0 = c .before .before .before .before .before .before .before .before .before .before .words in omega arith); deep = c .before .before .before .before .before .before .before .before .before .before .before .before .before .before .before .before .before .before .before .before .before .before .before .before .before .pre .1 .lent .deep }; room = omega (arith, c .before .before .before .before .before .before .before .before .before .before .before .before .before .before .before .before .before .before .before .before .before .before .before .before .before .pre .1 .lent .deep, c .before .before .before .before .start-of .ensures .1, c .before .before .before .parameters-of .ensures .1, c .before .before .body-of .ensures .1) })
 
--- src/lib.rt:261:22
 invoke-enum-known-v : (t : ℕ) → invoke-lts.Need-enum-known-v (
   arguments-held-reads.Asked,
   arguments-held-reads.Learnt,
@@ -2783,7 +2722,6 @@ invoke-enum-known-v : (t : ℕ) → invoke-lts.Need-enum-known-v (
 ) (invoke-at t) invoke.Post
 invoke-enum-known-v t c = search needs
 
--- src/lib.rt:262:13
 invoke-resume-requires : (t : ℕ) → invoke-lts.Need-resume-requires (
   arguments-held-reads.Asked,
   arguments-held-reads.Learnt,
@@ -2810,9 +2748,10 @@ invoke-resume-requires : (t : ℕ) → invoke-lts.Need-resume-requires (
   resume-reads.Asked,
   resume-reads.Learnt,
 ) (invoke-at t) invoke.Post
-invoke-resume-requires t c κs = let a0 = c .before .before .before .before .before .before .before .before .before .before .before .before .before .before .before .before .before .before .before .words in let a1 = c .before .before .before .before .before .words2 in omega (arith, c .before .before .before .before .before .before .before .before .before .before .before .before .before .before .before .before .before .before .before .before .before .before .before .before .before .before .before .before .before .before .before .before .before .before .pre .1 .lent .lent .room .words)
+invoke-resume-requires t c κs = let a0 = c .before .before .before .before .before .before .before .before .before .before .before .before .before .before .before .before .before .before
+    .before .words in let a1 = c .before .before .before .before .before .words2 in
+    omega (arith, c .before .before .before .before .before .before .before .before .before .before .before .before .before .before .before .before .before .before .before .before .before .before .before .before .before .before .before .before .before .before .before .before .before .before .pre .1 .lent .lent .room .words)
 
--- src/lib.rt:265:21
 invoke-enum-known-k-2 : (t : ℕ) → invoke-lts.Need-enum-known-k-2 (
   arguments-held-reads.Asked,
   arguments-held-reads.Learnt,
@@ -2841,7 +2780,6 @@ invoke-enum-known-k-2 : (t : ℕ) → invoke-lts.Need-enum-known-k-2 (
 ) (invoke-at t) invoke.Post
 invoke-enum-known-k-2 t c = search needs
 
--- src/lib.rt:224:1
 invoke-same-length-2 : (t : ℕ) → invoke-lts.Need-same-length-2 (
   arguments-held-reads.Asked,
   arguments-held-reads.Learnt,
@@ -2870,7 +2808,6 @@ invoke-same-length-2 : (t : ℕ) → invoke-lts.Need-same-length-2 (
 ) (invoke-at t) invoke.Post
 invoke-same-length-2 t c = search needs
 
--- src/lib.rt:224:1
 invoke-same-length-3 : (t : ℕ) → invoke-lts.Need-same-length-3 (
   arguments-held-reads.Asked,
   arguments-held-reads.Learnt,
@@ -2899,7 +2836,6 @@ invoke-same-length-3 : (t : ℕ) → invoke-lts.Need-same-length-3 (
 ) (invoke-at t) invoke.Post
 invoke-same-length-3 t c = search needs
 
--- src/lib.rt:224:1
 invoke-returns-2 : (t : ℕ) → invoke-lts.Need-returns-2 (
   arguments-held-reads.Asked,
   arguments-held-reads.Learnt,
@@ -2926,9 +2862,23 @@ invoke-returns-2 : (t : ℕ) → invoke-lts.Need-returns-2 (
   resume-reads.Asked,
   resume-reads.Learnt,
 ) (invoke-at t) invoke.Post
-invoke-returns-2 t c = gives-value _ _ _ _ _ _ _ _ _ _ _ _ _ (c .before .before .before .before .before .before .before .before .before .before .before .before .before .before .before .before .before .before .before .before .before .before .before .before .before .before .before .before .before .before .before .arguments-held .ensures) (c .before .before .before .before .before .before .before .before .before .before .before .before .before .before .before .before .before .before .before .before .before .before .before .before .before .before .before .before .before .declared-count .ensures) (c .before .before .before .before .before .before .before .before .before .before .before .before .before .before .before .before .before .before .before .before .before .before .before .before .before .before .before .running .ensures) (c .before .before .before .before .before .before .before .before .before .before .before .before .before .before .before .before .before .before .before .before .before .before .before .before .before .loop-unit .ensures) _ _ (c .before .before .before .before .before .before .before .before .before .before .before .before .before .before .before .before .before .before .before .before .before .before .before .begin .ensures) _ (c .before .before .before .before .before .before .before .before .before .before .before .before .before .before .before .before .before .before .before .enum-told .given .1) _ _ _ _ _ _ (c .before .before .before .before .before .before .before .before .before .before .before .before .before .before .before .before .before .before .table-place .ensures) (c .before .before .before .before .before .before .before .before .before .before .before .before .before .before .before .before .before .word-at .ensures) (c .before .before .before .before .before .before .before .before .before .before .before .before .before .before .before .before .start-of .ensures .0) (c .before .before .before .before .before .before .before .before .before .before .before .before .before .before .before .parameters-of .ensures .0) refl (c .before .before .before .before .before .before .before .before .before .before .before .before .before .before .body-of .ensures .0) _ _ _ (c .before .before .before .before .before .before .before .before .before .before .before .procedure .ensures) _ _ (c .before .before .resume .ensures) (c .before .before .before .before .before .v .given .1)
+invoke-returns-2 t c = gives-value _ _ _ _ _ _ _ _ _ _ _ _ _ (c .before .before .before .before .before .before .before .before .before .before .before .before .before .before .before .before
+    .before .before .before .before .before .before .before .before .before .before .before .before .before .before .before .arguments-held .ensures)
+    (c .before .before .before .before .before .before .before .before .before .before .before .before .before .before .before .before .before .before .before .before .before .before .before
+    .before .before .before .before .before .before .declared-count .ensures)
+    (c .before .before .before .before .before .before .before .before .before .before .before .before .before .before .before .before .before .before .before .before .before .before .before
+    .before .before .before .before .running .ensures) (c .before .before .before .before .before .before .before .before .before .before .before .before .before .before .before .before
+    .before .before .before .before .before .before .before .before .before .loop-unit .ensures) _ _
+    (c .before .before .before .before .before .before .before .before .before .before .before .before .before .before .before .before .before .before .before .before .before .before .before
+    .begin .ensures) _ (c .before .before .before .before .before .before .before .before .before .before .before .before .before .before .before .before .before .before .before .enum-told
+    .given .1) _ _ _ _ _ _ (c .before .before .before .before .before .before .before .before .before .before .before .before .before .before .before .before .before .before .table-place
+    .ensures) (c .before .before .before .before .before .before .before .before .before .before .before .before .before .before .before .before .before .word-at .ensures)
+    (c .before .before .before .before .before .before .before .before .before .before .before .before .before .before .before .before .start-of .ensures .0)
+    (c .before .before .before .before .before .before .before .before .before .before .before .before .before .before .before .parameters-of .ensures .0) refl
+    (c .before .before .before .before .before .before .before .before .before .before .before .before .before .before .body-of .ensures .0) _ _ _
+    (c .before .before .before .before .before .before .before .before .before .before .before .procedure .ensures) _ _ (c .before .before .resume .ensures)
+    (c .before .before .before .before .before .v .given .1)
 
--- src/lib.rt:224:1
 invoke-same-length-4 : (t : ℕ) → invoke-lts.Need-same-length-4 (
   arguments-held-reads.Asked,
   arguments-held-reads.Learnt,
@@ -2957,7 +2907,6 @@ invoke-same-length-4 : (t : ℕ) → invoke-lts.Need-same-length-4 (
 ) (invoke-at t) invoke.Post
 invoke-same-length-4 t c = search needs
 
--- src/lib.rt:224:1
 invoke-same-length-5 : (t : ℕ) → invoke-lts.Need-same-length-5 (
   arguments-held-reads.Asked,
   arguments-held-reads.Learnt,
@@ -2986,7 +2935,6 @@ invoke-same-length-5 : (t : ℕ) → invoke-lts.Need-same-length-5 (
 ) (invoke-at t) invoke.Post
 invoke-same-length-5 t c = search needs
 
--- src/lib.rt:224:1
 invoke-returns-3 : (t : ℕ) → invoke-lts.Need-returns-3 (
   arguments-held-reads.Asked,
   arguments-held-reads.Learnt,
@@ -3013,9 +2961,21 @@ invoke-returns-3 : (t : ℕ) → invoke-lts.Need-returns-3 (
   resume-reads.Asked,
   resume-reads.Learnt,
 ) (invoke-at t) invoke.Post
-invoke-returns-3 t c = body-stops _ _ _ _ _ _ _ _ _ _ _ _ _ (c .before .before .before .before .before .before .before .before .before .before .before .before .before .before .before .before .before .before .before .before .before .before .before .before .before .before .before .arguments-held .ensures) (c .before .before .before .before .before .before .before .before .before .before .before .before .before .before .before .before .before .before .before .before .before .before .before .before .before .declared-count .ensures) (c .before .before .before .before .before .before .before .before .before .before .before .before .before .before .before .before .before .before .before .before .before .before .before .running .ensures) (c .before .before .before .before .before .before .before .before .before .before .before .before .before .before .before .before .before .before .before .before .before .loop-unit .ensures) _ _ (c .before .before .before .before .before .before .before .before .before .before .before .before .before .before .before .before .before .before .before .begin .ensures) _ (c .before .before .before .before .before .before .before .before .before .before .before .before .before .before .before .enum-told .given .1) _ _ _ _ _ _ (c .before .before .before .before .before .before .before .before .before .before .before .before .before .before .table-place .ensures) (c .before .before .before .before .before .before .before .before .before .before .before .before .before .word-at .ensures) (c .before .before .before .before .before .before .before .before .before .before .before .before .start-of .ensures .0) (c .before .before .before .before .before .before .before .before .before .before .before .parameters-of .ensures .0) refl (c .before .before .before .before .before .before .before .before .before .before .body-of .ensures .0) _ _ _ (c .before .before .before .before .before .before .before .procedure .ensures) _ _ (c .before .k2 .given .1)
+invoke-returns-3 t c = body-stops _ _ _ _ _ _ _ _ _ _ _ _ _ (c .before .before .before .before .before .before .before .before .before .before .before .before .before .before .before .before
+    .before .before .before .before .before .before .before .before .before .before .before .arguments-held .ensures)
+    (c .before .before .before .before .before .before .before .before .before .before .before .before .before .before .before .before .before .before .before .before .before .before .before
+    .before .before .declared-count .ensures) (c .before .before .before .before .before .before .before .before .before .before .before .before .before .before .before .before .before .before
+    .before .before .before .before .before .running .ensures) (c .before .before .before .before .before .before .before .before .before .before .before .before .before .before .before
+    .before .before .before .before .before .before .loop-unit .ensures) _ _
+    (c .before .before .before .before .before .before .before .before .before .before .before .before .before .before .before .before .before .before .before .begin .ensures) _
+    (c .before .before .before .before .before .before .before .before .before .before .before .before .before .before .before .enum-told .given .1) _ _ _ _ _ _
+    (c .before .before .before .before .before .before .before .before .before .before .before .before .before .before .table-place .ensures)
+    (c .before .before .before .before .before .before .before .before .before .before .before .before .before .word-at .ensures)
+    (c .before .before .before .before .before .before .before .before .before .before .before .before .start-of .ensures .0)
+    (c .before .before .before .before .before .before .before .before .before .before .before .parameters-of .ensures .0) refl
+    (c .before .before .before .before .before .before .before .before .before .before .body-of .ensures .0) _ _ _
+    (c .before .before .before .before .before .before .before .procedure .ensures) _ _ (c .before .k2 .given .1)
 
--- src/lib.rt:322:9
 leave-returns : (t : ℕ) → leave-lts.Need-returns (
   place-of-reads.Asked,
   place-of-reads.Learnt,
@@ -3034,7 +2994,6 @@ leave-returns : (t : ℕ) → leave-lts.Need-returns (
 ) (leave-at t) leave.Post
 leave-returns t c = leave-too-deep _ _ _ _ _ _ _ _ (c .before .before .before .before .before .pre .1) (c .if1 .taken)
 
--- src/lib.rt:324:9
 leave-place-of-requires : (t : ℕ) → leave-lts.Need-place-of-requires (
   place-of-reads.Asked,
   place-of-reads.Learnt,
@@ -3053,7 +3012,6 @@ leave-place-of-requires : (t : ℕ) → leave-lts.Need-place-of-requires (
 ) (leave-at t) leave.Post
 leave-place-of-requires t c κs = search needs
 
--- src/lib.rt:325:9
 leave-count-requires : (t : ℕ) → leave-lts.Need-count-requires (
   place-of-reads.Asked,
   place-of-reads.Learnt,
@@ -3072,7 +3030,6 @@ leave-count-requires : (t : ℕ) → leave-lts.Need-count-requires (
 ) (leave-at t) leave.Post
 leave-count-requires t c κs = omega (arith, c .before .before .before .before .before .before .before .pre .1 .runs .lent .lent .room .words)
 
--- src/lib.rt:326:9
 leave-same-length : (t : ℕ) → leave-lts.Need-same-length (
   place-of-reads.Asked,
   place-of-reads.Learnt,
@@ -3091,7 +3048,6 @@ leave-same-length : (t : ℕ) → leave-lts.Need-same-length (
 ) (leave-at t) leave.Post
 leave-same-length t c = search needs
 
--- src/lib.rt:326:9
 leave-returns-2 : (t : ℕ) → leave-lts.Need-returns-2 (
   place-of-reads.Asked,
   place-of-reads.Learnt,
@@ -3108,9 +3064,9 @@ leave-returns-2 : (t : ℕ) → leave-lts.Need-returns-2 (
   pack-reads.Asked,
   pack-reads.Learnt,
 ) (leave-at t) leave.Post
-leave-returns-2 t c = leave-no-step _ _ _ _ _ _ _ _ (c .before .before .before .before .before .before .before .before .before .before .before .pre .1) (c .before .before .before .before .before .before .if1 .left) _ (c .before .before .before .before .before .place-of .ensures) _ _ (c .before .before .before .count .ensures) (c .if2 .taken)
+leave-returns-2 t c = leave-no-step _ _ _ _ _ _ _ _ (c .before .before .before .before .before .before .before .before .before .before .before .pre .1)
+    (c .before .before .before .before .before .before .if1 .left) _ (c .before .before .before .before .before .place-of .ensures) _ _ (c .before .before .before .count .ensures) (c .if2 .taken)
 
--- src/lib.rt:328:9
 leave-last-of-requires : (t : ℕ) → leave-lts.Need-last-of-requires (
   place-of-reads.Asked,
   place-of-reads.Learnt,
@@ -3129,7 +3085,6 @@ leave-last-of-requires : (t : ℕ) → leave-lts.Need-last-of-requires (
 ) (leave-at t) leave.Post
 leave-last-of-requires t c κs = omega (arith, c .before .before .before .before .before .before .before .before .before .before .before .pre .1 .runs .room)
 
--- src/lib.rt:329:55
 leave-sub-fast-value : (t : ℕ) → leave-lts.Need-sub-fast-value (
   place-of-reads.Asked,
   place-of-reads.Learnt,
@@ -3148,7 +3103,6 @@ leave-sub-fast-value : (t : ℕ) → leave-lts.Need-sub-fast-value (
 ) (leave-at t) leave.Post
 leave-sub-fast-value t c = search needs
 
--- src/lib.rt:329:9
 leave-fast-value-requires : (t : ℕ) → leave-lts.Need-fast-value-requires (
   place-of-reads.Asked,
   place-of-reads.Learnt,
@@ -3165,9 +3119,9 @@ leave-fast-value-requires : (t : ℕ) → leave-lts.Need-fast-value-requires (
   pack-reads.Asked,
   pack-reads.Learnt,
 ) (leave-at t) leave.Post
-leave-fast-value-requires t c κs = let a0 = c .before .before .before .before .words in omega (arith, c .before .before .before .before .before .before .before .before .before .before .before .before .before .pre .1 .runs .lent .lent .room .words)
+leave-fast-value-requires t c κs = let a0 = c .before .before .before .before .words in
+    omega (arith, c .before .before .before .before .before .before .before .before .before .before .before .before .before .pre .1 .runs .lent .lent .room .words)
 
--- src/lib.rt:331:29
 leave-unpack-requires : (t : ℕ) → leave-lts.Need-unpack-requires (
   place-of-reads.Asked,
   place-of-reads.Learnt,
@@ -3186,7 +3140,6 @@ leave-unpack-requires : (t : ℕ) → leave-lts.Need-unpack-requires (
 ) (leave-at t) leave.Post
 leave-unpack-requires t c κs = search needs
 
--- src/lib.rt:331:9
 leave-same-length-2 : (t : ℕ) → leave-lts.Need-same-length-2 (
   place-of-reads.Asked,
   place-of-reads.Learnt,
@@ -3205,7 +3158,6 @@ leave-same-length-2 : (t : ℕ) → leave-lts.Need-same-length-2 (
 ) (leave-at t) leave.Post
 leave-same-length-2 t c = search needs
 
--- src/lib.rt:331:9
 leave-returns-3 : (t : ℕ) → leave-lts.Need-returns-3 (
   place-of-reads.Asked,
   place-of-reads.Learnt,
@@ -3222,9 +3174,13 @@ leave-returns-3 : (t : ℕ) → leave-lts.Need-returns-3 (
   pack-reads.Asked,
   pack-reads.Learnt,
 ) (leave-at t) leave.Post
-leave-returns-3 t c = leave-fast _ _ _ _ _ _ _ _ (c .before .before .before .before .before .before .before .before .before .before .before .before .before .before .before .before .before .before .pre .1) (c .before .before .before .before .before .before .before .before .before .before .before .before .before .if1 .left) _ (c .before .before .before .before .before .before .before .before .before .before .before .before .place-of .ensures) _ _ (c .before .before .before .before .before .before .before .before .before .before .count .ensures) (c .before .before .before .before .before .before .before .if2 .left) _ _ (c .before .before .before .before .before .before .last-of .ensures .0) _ (c .before .before .before .before .fast-value .ensures) _ (let a0 = c .before .before .before .before .before .before .before .before .before .words in omega arith) (c .before .if3 .taken) (c .unpack .ensures)
+leave-returns-3 t c = leave-fast _ _ _ _ _ _ _ _ (c .before .before .before .before .before .before .before .before .before .before .before .before .before .before .before .before .before
+    .before .pre .1) (c .before .before .before .before .before .before .before .before .before .before .before .before .before .if1 .left) _
+    (c .before .before .before .before .before .before .before .before .before .before .before .before .place-of .ensures) _ _
+    (c .before .before .before .before .before .before .before .before .before .before .count .ensures) (c .before .before .before .before .before .before .before .if2 .left) _ _
+    (c .before .before .before .before .before .before .last-of .ensures .0) _ (c .before .before .before .before .fast-value .ensures) _ (let a0 =
+    c .before .before .before .before .before .before .before .before .before .words in omega arith) (c .before .if3 .taken) (c .unpack .ensures)
 
--- src/lib.rt:333:59
 leave-sub-expression : (t : ℕ) → leave-lts.Need-sub-expression (
   place-of-reads.Asked,
   place-of-reads.Learnt,
@@ -3243,7 +3199,6 @@ leave-sub-expression : (t : ℕ) → leave-lts.Need-sub-expression (
 ) (leave-at t) leave.Post
 leave-sub-expression t c = search needs
 
--- src/lib.rt:333:11
 leave-expression-requires : (t : ℕ) → leave-lts.Need-expression-requires (
   place-of-reads.Asked,
   place-of-reads.Learnt,
@@ -3262,7 +3217,6 @@ leave-expression-requires : (t : ℕ) → leave-lts.Need-expression-requires (
 ) (leave-at t) leave.Post
 leave-expression-requires t c κs = (omega arith, slow-lent _ _ _ _ _ _ (c .before .before .before .before .before .fast-value .ensures) (c .before .before .if3 .left) (still-lent _ _ _ _ _ refl (let a0 = c .before .before .before .before .before .before .before .before .before .before .words in omega arith) _ (deeper-lent _ _ _ _ (c .before .before .before .before .before .before .before .before .before .before .before .before .before .before .before .before .before .before .before .pre .1 .runs .lent))))
 
--- src/lib.rt:334:22
 leave-enum-known-v : (t : ℕ) → leave-lts.Need-enum-known-v (
   place-of-reads.Asked,
   place-of-reads.Learnt,
@@ -3281,7 +3235,6 @@ leave-enum-known-v : (t : ℕ) → leave-lts.Need-enum-known-v (
 ) (leave-at t) leave.Post
 leave-enum-known-v t c = search needs
 
--- src/lib.rt:334:56
 leave-pack-requires : (t : ℕ) → leave-lts.Need-pack-requires (
   place-of-reads.Asked,
   place-of-reads.Learnt,
@@ -3300,7 +3253,6 @@ leave-pack-requires : (t : ℕ) → leave-lts.Need-pack-requires (
 ) (leave-at t) leave.Post
 leave-pack-requires t c κs = search needs
 
--- src/lib.rt:334:41
 leave-unpack-requires-2 : (t : ℕ) → leave-lts.Need-unpack-requires-2 (
   place-of-reads.Asked,
   place-of-reads.Learnt,
@@ -3319,7 +3271,6 @@ leave-unpack-requires-2 : (t : ℕ) → leave-lts.Need-unpack-requires-2 (
 ) (leave-at t) leave.Post
 leave-unpack-requires-2 t c κs = search needs
 
--- src/lib.rt:335:21
 leave-enum-known-n : (t : ℕ) → leave-lts.Need-enum-known-n (
   place-of-reads.Asked,
   place-of-reads.Learnt,
@@ -3338,7 +3289,6 @@ leave-enum-known-n : (t : ℕ) → leave-lts.Need-enum-known-n (
 ) (leave-at t) leave.Post
 leave-enum-known-n t c = search needs
 
--- src/lib.rt:308:1
 leave-same-length-3 : (t : ℕ) → leave-lts.Need-same-length-3 (
   place-of-reads.Asked,
   place-of-reads.Learnt,
@@ -3357,7 +3307,6 @@ leave-same-length-3 : (t : ℕ) → leave-lts.Need-same-length-3 (
 ) (leave-at t) leave.Post
 leave-same-length-3 t c = search needs
 
--- src/lib.rt:308:1
 leave-same-length-4 : (t : ℕ) → leave-lts.Need-same-length-4 (
   place-of-reads.Asked,
   place-of-reads.Learnt,
@@ -3376,7 +3325,6 @@ leave-same-length-4 : (t : ℕ) → leave-lts.Need-same-length-4 (
 ) (leave-at t) leave.Post
 leave-same-length-4 t c = search needs
 
--- src/lib.rt:308:1
 leave-returns-4 : (t : ℕ) → leave-lts.Need-returns-4 (
   place-of-reads.Asked,
   place-of-reads.Learnt,
@@ -3393,9 +3341,17 @@ leave-returns-4 : (t : ℕ) → leave-lts.Need-returns-4 (
   pack-reads.Asked,
   pack-reads.Learnt,
 ) (leave-at t) leave.Post
-leave-returns-4 t c = leave-done _ _ _ _ _ _ _ _ (c .before .before .before .before .before .before .before .before .before .before .before .before .before .before .before .before .before .before .before .before .before .before .before .before .before .before .before .before .before .pre .1) (c .before .before .before .before .before .before .before .before .before .before .before .before .before .before .before .before .before .before .before .before .before .before .before .before .if1 .left) _ (c .before .before .before .before .before .before .before .before .before .before .before .before .before .before .before .before .before .before .before .before .before .before .before .place-of .ensures) _ _ (c .before .before .before .before .before .before .before .before .before .before .before .before .before .before .before .before .before .before .before .before .before .count .ensures) (c .before .before .before .before .before .before .before .before .before .before .before .before .before .before .before .before .before .before .if2 .left) _ _ (c .before .before .before .before .before .before .before .before .before .before .before .before .before .before .before .before .before .last-of .ensures .0) _ (c .before .before .before .before .before .before .before .before .before .before .before .before .before .before .before .fast-value .ensures) (c .before .before .before .before .before .before .before .before .before .before .before .before .if3 .left) _ _ _ (c .before .before .before .before .before .before .before .before .before .expression .ensures) _ _ _ (c .before .before .before .v .given .1) (c .before .pack .ensures) (c .unpack2 .ensures)
+leave-returns-4 t c = leave-done _ _ _ _ _ _ _ _ (c .before .before .before .before .before .before .before .before .before .before .before .before .before .before .before .before .before
+    .before .before .before .before .before .before .before .before .before .before .before .before .pre .1)
+    (c .before .before .before .before .before .before .before .before .before .before .before .before .before .before .before .before .before .before .before .before .before .before .before
+    .before .if1 .left) _ (c .before .before .before .before .before .before .before .before .before .before .before .before .before .before .before .before .before .before .before .before
+    .before .before .before .place-of .ensures) _ _ (c .before .before .before .before .before .before .before .before .before .before .before .before .before .before .before .before .before
+    .before .before .before .before .count .ensures) (c .before .before .before .before .before .before .before .before .before .before .before .before .before .before .before .before .before
+    .before .if2 .left) _ _ (c .before .before .before .before .before .before .before .before .before .before .before .before .before .before .before .before .before .last-of .ensures .0) _
+    (c .before .before .before .before .before .before .before .before .before .before .before .before .before .before .before .fast-value .ensures)
+    (c .before .before .before .before .before .before .before .before .before .before .before .before .if3 .left) _ _ _
+    (c .before .before .before .before .before .before .before .before .before .expression .ensures) _ _ _ (c .before .before .before .v .given .1) (c .before .pack .ensures) (c .unpack2 .ensures)
 
--- src/lib.rt:308:1
 leave-same-length-5 : (t : ℕ) → leave-lts.Need-same-length-5 (
   place-of-reads.Asked,
   place-of-reads.Learnt,
@@ -3414,7 +3370,6 @@ leave-same-length-5 : (t : ℕ) → leave-lts.Need-same-length-5 (
 ) (leave-at t) leave.Post
 leave-same-length-5 t c = search needs
 
--- src/lib.rt:308:1
 leave-same-length-6 : (t : ℕ) → leave-lts.Need-same-length-6 (
   place-of-reads.Asked,
   place-of-reads.Learnt,
@@ -3433,7 +3388,6 @@ leave-same-length-6 : (t : ℕ) → leave-lts.Need-same-length-6 (
 ) (leave-at t) leave.Post
 leave-same-length-6 t c = search needs
 
--- src/lib.rt:308:1
 leave-returns-5 : (t : ℕ) → leave-lts.Need-returns-5 (
   place-of-reads.Asked,
   place-of-reads.Learnt,
@@ -3450,9 +3404,17 @@ leave-returns-5 : (t : ℕ) → leave-lts.Need-returns-5 (
   pack-reads.Asked,
   pack-reads.Learnt,
 ) (leave-at t) leave.Post
-leave-returns-5 t c = leave-stops _ _ _ _ _ _ _ _ (c .before .before .before .before .before .before .before .before .before .before .before .before .before .before .before .before .before .before .before .before .before .before .before .before .before .before .before .pre .1) (c .before .before .before .before .before .before .before .before .before .before .before .before .before .before .before .before .before .before .before .before .before .before .if1 .left) _ (c .before .before .before .before .before .before .before .before .before .before .before .before .before .before .before .before .before .before .before .before .before .place-of .ensures) _ _ (c .before .before .before .before .before .before .before .before .before .before .before .before .before .before .before .before .before .before .before .count .ensures) (c .before .before .before .before .before .before .before .before .before .before .before .before .before .before .before .before .if2 .left) _ _ (c .before .before .before .before .before .before .before .before .before .before .before .before .before .before .before .last-of .ensures .0) _ (c .before .before .before .before .before .before .before .before .before .before .before .before .before .fast-value .ensures) (c .before .before .before .before .before .before .before .before .before .before .if3 .left) _ _ _ (c .before .before .before .before .before .before .before .expression .ensures) _ _ (c .before .n .given .1)
+leave-returns-5 t c = leave-stops _ _ _ _ _ _ _ _ (c .before .before .before .before .before .before .before .before .before .before .before .before .before .before .before .before .before
+    .before .before .before .before .before .before .before .before .before .before .pre .1)
+    (c .before .before .before .before .before .before .before .before .before .before .before .before .before .before .before .before .before .before .before .before .before .before .if1
+    .left) _ (c .before .before .before .before .before .before .before .before .before .before .before .before .before .before .before .before .before .before .before .before .before
+    .place-of .ensures) _ _ (c .before .before .before .before .before .before .before .before .before .before .before .before .before .before .before .before .before .before .before .count
+    .ensures) (c .before .before .before .before .before .before .before .before .before .before .before .before .before .before .before .before .if2 .left) _ _
+    (c .before .before .before .before .before .before .before .before .before .before .before .before .before .before .before .last-of .ensures .0) _
+    (c .before .before .before .before .before .before .before .before .before .before .before .before .before .fast-value .ensures)
+    (c .before .before .before .before .before .before .before .before .before .before .if3 .left) _ _ _ (c .before .before .before .before .before .before .before .expression .ensures) _ _
+    (c .before .n .given .1)
 
--- src/lib.rt:734:9
 member-component-at-requires : (t : ℕ) → member-lts.Need-component-at-requires (
   component-at-reads.Asked,
   component-at-reads.Learnt,
@@ -3469,7 +3431,6 @@ member-component-at-requires : (t : ℕ) → member-lts.Need-component-at-requir
 ) (member-at t) member.Post
 member-component-at-requires t c κs = c .before .before .before .before .before .pre .1 .lent .lent .room
 
--- src/lib.rt:735:8
 member-is-destroyed-requires : (t : ℕ) → member-lts.Need-is-destroyed-requires (
   component-at-reads.Asked,
   component-at-reads.Learnt,
@@ -3486,7 +3447,6 @@ member-is-destroyed-requires : (t : ℕ) → member-lts.Need-is-destroyed-requir
 ) (member-at t) member.Post
 member-is-destroyed-requires t c κs = search needs
 
--- src/lib.rt:736:9
 member-same-length : (t : ℕ) → member-lts.Need-same-length (
   component-at-reads.Asked,
   component-at-reads.Learnt,
@@ -3503,7 +3463,6 @@ member-same-length : (t : ℕ) → member-lts.Need-same-length (
 ) (member-at t) member.Post
 member-same-length t c = search needs
 
--- src/lib.rt:736:9
 member-returns : (t : ℕ) → member-lts.Need-returns (
   component-at-reads.Asked,
   component-at-reads.Learnt,
@@ -3520,7 +3479,6 @@ member-returns : (t : ℕ) → member-lts.Need-returns (
 ) (member-at t) member.Post
 member-returns t c = member-passed _ _ _ _ _ _ _ _ (c .before .before .before .component-at .ensures) _ (c .before .is-destroyed .ensures) (c .if1 .taken)
 
--- src/lib.rt:738:9
 member-count-requires : (t : ℕ) → member-lts.Need-count-requires (
   component-at-reads.Asked,
   component-at-reads.Learnt,
@@ -3537,7 +3495,6 @@ member-count-requires : (t : ℕ) → member-lts.Need-count-requires (
 ) (member-at t) member.Post
 member-count-requires t c κs = omega (arith, c .before .before .before .before .before .before .before .before .before .before .pre .1 .lent .lent .room .words)
 
--- src/lib.rt:739:9
 member-same-length-2 : (t : ℕ) → member-lts.Need-same-length-2 (
   component-at-reads.Asked,
   component-at-reads.Learnt,
@@ -3554,7 +3511,6 @@ member-same-length-2 : (t : ℕ) → member-lts.Need-same-length-2 (
 ) (member-at t) member.Post
 member-same-length-2 t c = search needs
 
--- src/lib.rt:739:9
 member-returns-2 : (t : ℕ) → member-lts.Need-returns-2 (
   component-at-reads.Asked,
   component-at-reads.Learnt,
@@ -3569,9 +3525,9 @@ member-returns-2 : (t : ℕ) → member-lts.Need-returns-2 (
   inside-below t,
   inside.Post,
 ) (member-at t) member.Post
-member-returns-2 t c = member-no-step _ _ _ _ _ _ _ _ (c .before .before .before .before .before .before .before .before .component-at .ensures) _ (c .before .before .before .before .before .before .is-destroyed .ensures) (c .before .before .before .before .before .if1 .left) _ _ (c .before .before .before .count .ensures) (c .if2 .taken)
+member-returns-2 t c = member-no-step _ _ _ _ _ _ _ _ (c .before .before .before .before .before .before .before .before .component-at .ensures) _
+    (c .before .before .before .before .before .before .is-destroyed .ensures) (c .before .before .before .before .before .if1 .left) _ _ (c .before .before .before .count .ensures) (c .if2 .taken)
 
--- src/lib.rt:741:9
 member-is-group-requires : (t : ℕ) → member-lts.Need-is-group-requires (
   component-at-reads.Asked,
   component-at-reads.Learnt,
@@ -3588,7 +3544,6 @@ member-is-group-requires : (t : ℕ) → member-lts.Need-is-group-requires (
 ) (member-at t) member.Post
 member-is-group-requires t c κs = search needs
 
--- src/lib.rt:742:13
 member-bound-requires : (t : ℕ) → member-lts.Need-bound-requires (
   component-at-reads.Asked,
   component-at-reads.Learnt,
@@ -3605,7 +3560,6 @@ member-bound-requires : (t : ℕ) → member-lts.Need-bound-requires (
 ) (member-at t) member.Post
 member-bound-requires t c κs = (omega arith, still-runs _ _ _ _ _ refl (let a0 = c .before .before .before .before .before .before .before .words in omega arith) _ _ (c .before .before .before .before .before .before .before .before .before .before .before .before .before .before .before .before .before .before .before .pre .1))
 
--- src/lib.rt:743:9
 member-same-length-3 : (t : ℕ) → member-lts.Need-same-length-3 (
   component-at-reads.Asked,
   component-at-reads.Learnt,
@@ -3622,7 +3576,6 @@ member-same-length-3 : (t : ℕ) → member-lts.Need-same-length-3 (
 ) (member-at t) member.Post
 member-same-length-3 t c = search needs
 
--- src/lib.rt:743:9
 member-same-length-4 : (t : ℕ) → member-lts.Need-same-length-4 (
   component-at-reads.Asked,
   component-at-reads.Learnt,
@@ -3639,7 +3592,6 @@ member-same-length-4 : (t : ℕ) → member-lts.Need-same-length-4 (
 ) (member-at t) member.Post
 member-same-length-4 t c = search needs
 
--- src/lib.rt:743:9
 member-returns-3 : (t : ℕ) → member-lts.Need-returns-3 (
   component-at-reads.Asked,
   component-at-reads.Learnt,
@@ -3654,9 +3606,13 @@ member-returns-3 : (t : ℕ) → member-lts.Need-returns-3 (
   inside-below t,
   inside.Post,
 ) (member-at t) member.Post
-member-returns-3 t c = member-figure _ _ _ _ _ _ _ _ (c .before .before .before .before .before .before .before .before .before .before .before .before .before .before .before .before .before .before .component-at .ensures) _ (c .before .before .before .before .before .before .before .before .before .before .before .before .before .before .before .before .is-destroyed .ensures) (c .before .before .before .before .before .before .before .before .before .before .before .before .before .before .before .if1 .left) _ _ (c .before .before .before .before .before .before .before .before .before .before .before .before .before .count .ensures) (c .before .before .before .before .before .before .before .before .before .before .if2 .left) _ (c .before .before .before .before .before .before .before .before .is-group .ensures) _ (c .before .before .before .before .before .before .before .if3 .taken) (c .before .before .before .before .bound .ensures)
+member-returns-3 t c = member-figure _ _ _ _ _ _ _ _ (c .before .before .before .before .before .before .before .before .before .before .before .before .before .before .before .before .before
+    .before .component-at .ensures) _ (c .before .before .before .before .before .before .before .before .before .before .before .before .before .before .before .before .is-destroyed .ensures)
+    (c .before .before .before .before .before .before .before .before .before .before .before .before .before .before .before .if1 .left) _ _
+    (c .before .before .before .before .before .before .before .before .before .before .before .before .before .count .ensures)
+    (c .before .before .before .before .before .before .before .before .before .before .if2 .left) _ (c .before .before .before .before .before .before .before .before .is-group .ensures) _
+    (c .before .before .before .before .before .before .before .if3 .taken) (c .before .before .before .before .bound .ensures)
 
--- src/lib.rt:745:9
 member-inside-requires : (t : ℕ) → member-lts.Need-inside-requires (
   component-at-reads.Asked,
   component-at-reads.Learnt,
@@ -3673,7 +3629,6 @@ member-inside-requires : (t : ℕ) → member-lts.Need-inside-requires (
 ) (member-at t) member.Post
 member-inside-requires t c κs = (omega arith, still-runs _ _ _ _ _ refl (let a0 = c .before .before .before .before .before .before .before .words in omega arith) _ _ (c .before .before .before .before .before .before .before .before .before .before .before .before .before .before .before .before .before .before .before .pre .1))
 
--- src/lib.rt:718:1
 member-same-length-5 : (t : ℕ) → member-lts.Need-same-length-5 (
   component-at-reads.Asked,
   component-at-reads.Learnt,
@@ -3690,7 +3645,6 @@ member-same-length-5 : (t : ℕ) → member-lts.Need-same-length-5 (
 ) (member-at t) member.Post
 member-same-length-5 t c = search needs
 
--- src/lib.rt:718:1
 member-same-length-6 : (t : ℕ) → member-lts.Need-same-length-6 (
   component-at-reads.Asked,
   component-at-reads.Learnt,
@@ -3707,7 +3661,6 @@ member-same-length-6 : (t : ℕ) → member-lts.Need-same-length-6 (
 ) (member-at t) member.Post
 member-same-length-6 t c = search needs
 
--- src/lib.rt:718:1
 member-returns-4 : (t : ℕ) → member-lts.Need-returns-4 (
   component-at-reads.Asked,
   component-at-reads.Learnt,
@@ -3722,9 +3675,13 @@ member-returns-4 : (t : ℕ) → member-lts.Need-returns-4 (
   inside-below t,
   inside.Post,
 ) (member-at t) member.Post
-member-returns-4 t c = member-group _ _ _ _ _ _ _ _ (c .before .before .before .before .before .before .before .before .before .before .before .before .before .before .before .before .before .before .component-at .ensures) _ (c .before .before .before .before .before .before .before .before .before .before .before .before .before .before .before .before .is-destroyed .ensures) (c .before .before .before .before .before .before .before .before .before .before .before .before .before .before .before .if1 .left) _ _ (c .before .before .before .before .before .before .before .before .before .before .before .before .before .count .ensures) (c .before .before .before .before .before .before .before .before .before .before .if2 .left) _ (c .before .before .before .before .before .before .before .before .is-group .ensures) _ (c .before .before .before .before .before .before .before .if3 .left) (c .before .before .before .before .inside .ensures)
+member-returns-4 t c = member-group _ _ _ _ _ _ _ _ (c .before .before .before .before .before .before .before .before .before .before .before .before .before .before .before .before .before
+    .before .component-at .ensures) _ (c .before .before .before .before .before .before .before .before .before .before .before .before .before .before .before .before .is-destroyed .ensures)
+    (c .before .before .before .before .before .before .before .before .before .before .before .before .before .before .before .if1 .left) _ _
+    (c .before .before .before .before .before .before .before .before .before .before .before .before .before .count .ensures)
+    (c .before .before .before .before .before .before .before .before .before .before .if2 .left) _ (c .before .before .before .before .before .before .before .before .is-group .ensures) _
+    (c .before .before .before .before .before .before .before .if3 .left) (c .before .before .before .before .inside .ensures)
 
--- src/lib.rt:87:9
 operands-left-of-requires : (t : ℕ) → operands-lts.Need-left-of-requires (
   left-of-reads.Asked,
   left-of-reads.Learnt,
@@ -3745,7 +3702,6 @@ operands-left-of-requires : (t : ℕ) → operands-lts.Need-left-of-requires (
 ) (operands-at t) operands.Post
 operands-left-of-requires t c κs = search needs
 
--- src/lib.rt:80:11
 operands-expression-requires : (t : ℕ) → operands-lts.Need-expression-requires (
   left-of-reads.Asked,
   left-of-reads.Learnt,
@@ -3766,7 +3722,6 @@ operands-expression-requires : (t : ℕ) → operands-lts.Need-expression-requir
 ) (operands-at t) operands.Post
 operands-expression-requires t c κs = (omega arith, c .before .before .before .before .before .before .before .pre .1)
 
--- src/lib.rt:90:22
 operands-enum-known-u : (t : ℕ) → operands-lts.Need-enum-known-u (
   left-of-reads.Asked,
   left-of-reads.Learnt,
@@ -3787,7 +3742,6 @@ operands-enum-known-u : (t : ℕ) → operands-lts.Need-enum-known-u (
 ) (operands-at t) operands.Post
 operands-enum-known-u t c = search needs
 
--- src/lib.rt:91:17
 operands-pack-requires : (t : ℕ) → operands-lts.Need-pack-requires (
   left-of-reads.Asked,
   left-of-reads.Learnt,
@@ -3808,7 +3762,6 @@ operands-pack-requires : (t : ℕ) → operands-lts.Need-pack-requires (
 ) (operands-at t) operands.Post
 operands-pack-requires t c κs = search needs
 
--- src/lib.rt:92:17
 operands-tag-of-requires : (t : ℕ) → operands-lts.Need-tag-of-requires (
   left-of-reads.Asked,
   left-of-reads.Learnt,
@@ -3829,7 +3782,6 @@ operands-tag-of-requires : (t : ℕ) → operands-lts.Need-tag-of-requires (
 ) (operands-at t) operands.Post
 operands-tag-of-requires t c κs = search needs
 
--- src/lib.rt:94:21
 operands-new-table-requires : (t : ℕ) → operands-lts.Need-new-table-requires (
   left-of-reads.Asked,
   left-of-reads.Learnt,
@@ -3850,7 +3802,6 @@ operands-new-table-requires : (t : ℕ) → operands-lts.Need-new-table-requires
 ) (operands-at t) operands.Post
 operands-new-table-requires t c κs = search needs
 
--- src/lib.rt:95:17
 operands-same-length : (t : ℕ) → operands-lts.Need-same-length (
   left-of-reads.Asked,
   left-of-reads.Learnt,
@@ -3871,7 +3822,6 @@ operands-same-length : (t : ℕ) → operands-lts.Need-same-length (
 ) (operands-at t) operands.Post
 operands-same-length t c = search needs
 
--- src/lib.rt:95:17
 operands-same-length-2 : (t : ℕ) → operands-lts.Need-same-length-2 (
   left-of-reads.Asked,
   left-of-reads.Learnt,
@@ -3892,7 +3842,6 @@ operands-same-length-2 : (t : ℕ) → operands-lts.Need-same-length-2 (
 ) (operands-at t) operands.Post
 operands-same-length-2 t c = search needs
 
--- src/lib.rt:95:17
 operands-returns : (t : ℕ) → operands-lts.Need-returns (
   left-of-reads.Asked,
   left-of-reads.Learnt,
@@ -3913,7 +3862,6 @@ operands-returns : (t : ℕ) → operands-lts.Need-returns (
 ) (operands-at t) operands.Post
 operands-returns t c = search table-made
 
--- src/lib.rt:97:16
 operands-lacks-table-requires : (t : ℕ) → operands-lts.Need-lacks-table-requires (
   left-of-reads.Asked,
   left-of-reads.Learnt,
@@ -3934,7 +3882,6 @@ operands-lacks-table-requires : (t : ℕ) → operands-lts.Need-lacks-table-requ
 ) (operands-at t) operands.Post
 operands-lacks-table-requires t c κs = search needs
 
--- src/lib.rt:98:17
 operands-same-length-3 : (t : ℕ) → operands-lts.Need-same-length-3 (
   left-of-reads.Asked,
   left-of-reads.Learnt,
@@ -3955,7 +3902,6 @@ operands-same-length-3 : (t : ℕ) → operands-lts.Need-same-length-3 (
 ) (operands-at t) operands.Post
 operands-same-length-3 t c = search needs
 
--- src/lib.rt:98:17
 operands-same-length-4 : (t : ℕ) → operands-lts.Need-same-length-4 (
   left-of-reads.Asked,
   left-of-reads.Learnt,
@@ -3976,7 +3922,6 @@ operands-same-length-4 : (t : ℕ) → operands-lts.Need-same-length-4 (
 ) (operands-at t) operands.Post
 operands-same-length-4 t c = search needs
 
--- src/lib.rt:98:17
 operands-returns-2 : (t : ℕ) → operands-lts.Need-returns-2 (
   left-of-reads.Asked,
   left-of-reads.Learnt,
@@ -3995,9 +3940,11 @@ operands-returns-2 : (t : ℕ) → operands-lts.Need-returns-2 (
   apply-reads.Asked,
   apply-reads.Learnt,
 ) (operands-at t) operands.Post
-operands-returns-2 t c = no-table _ _ _ _ _ _ _ _ (c .before .before .before .before .before .before .before .before .before .before .before .before .before .left-of .ensures) _ _ _ (c .before .before .before .before .before .before .before .before .before .before .before .before .expression .ensures) _ (c .before .before .before .before .before .before .u .given .1) _ (c .before .before .before .before .pack .ensures) _ (c .before .before .before .tag-of .ensures) (c .before .before .if1 .left) _ (c .before .lacks-table .ensures) (c .if2 .taken)
+operands-returns-2 t c = no-table _ _ _ _ _ _ _ _ (c .before .before .before .before .before .before .before .before .before .before .before .before .before .left-of .ensures) _ _ _
+    (c .before .before .before .before .before .before .before .before .before .before .before .before .expression .ensures) _
+    (c .before .before .before .before .before .before .u .given .1) _ (c .before .before .before .before .pack .ensures) _ (c .before .before .before .tag-of .ensures)
+    (c .before .before .if1 .left) _ (c .before .lacks-table .ensures) (c .if2 .taken)
 
--- src/lib.rt:107:17
 operands-right-of-requires : (t : ℕ) → operands-lts.Need-right-of-requires (
   left-of-reads.Asked,
   left-of-reads.Learnt,
@@ -4018,7 +3965,6 @@ operands-right-of-requires : (t : ℕ) → operands-lts.Need-right-of-requires (
 ) (operands-at t) operands.Post
 operands-right-of-requires t c κs = search needs
 
--- src/lib.rt:100:19
 operands-expression-requires-2 : (t : ℕ) → operands-lts.Need-expression-requires-2 (
   left-of-reads.Asked,
   left-of-reads.Learnt,
@@ -4039,7 +3985,6 @@ operands-expression-requires-2 : (t : ℕ) → operands-lts.Need-expression-requ
 ) (operands-at t) operands.Post
 operands-expression-requires-2 t c κs = (omega arith, still-lent _ _ _ _ _ (let a0 = c .before .before .before .before .before .before .before .before .before .before .before .before .before .before .texts in omega arith) (let a0 = c .before .before .before .before .before .before .before .before .before .before .before .before .words in omega arith) _ (c .before .before .before .before .before .before .before .before .before .before .before .before .before .before .before .before .before .before .before .before .before .before .before .pre .1))
 
--- src/lib.rt:110:30
 operands-enum-known-v : (t : ℕ) → operands-lts.Need-enum-known-v (
   left-of-reads.Asked,
   left-of-reads.Learnt,
@@ -4060,7 +4005,6 @@ operands-enum-known-v : (t : ℕ) → operands-lts.Need-enum-known-v (
 ) (operands-at t) operands.Post
 operands-enum-known-v t c = search needs
 
--- src/lib.rt:119:25
 operands-pack-requires-2 : (t : ℕ) → operands-lts.Need-pack-requires-2 (
   left-of-reads.Asked,
   left-of-reads.Learnt,
@@ -4081,7 +4025,6 @@ operands-pack-requires-2 : (t : ℕ) → operands-lts.Need-pack-requires-2 (
 ) (operands-at t) operands.Post
 operands-pack-requires-2 t c κs = search needs
 
--- src/lib.rt:111:25
 operands-apply-requires : (t : ℕ) → operands-lts.Need-apply-requires (
   left-of-reads.Asked,
   left-of-reads.Learnt,
@@ -4100,9 +4043,13 @@ operands-apply-requires : (t : ℕ) → operands-lts.Need-apply-requires (
   apply-reads.Asked,
   apply-reads.Learnt,
 ) (operands-at t) operands.Post
-operands-apply-requires t c κs = laws.still-lent _ _ _ _ _ (c .before .before .before .before .before .before .before .before .before .before .before .before .before .before .before .before .before .before .before .before .before .before .before .before .before .before .before .before .before .before .before .before .before .before .pre .1 .lent) (let a0 = c .before .before .before .before .before .before .before .before .before .before .before .before .before .before .before .before .before .before .before .before .before .before .before .before .before .texts in let a1 = c .before .before .before .before .before .before .before .before .before .texts2 in omega arith) (let a0 = c .before .before .before .before .before .before .before .before .before .before .before .before .before .before .before .before .before .before .before .before .before .before .before .words in let a1 = c .before .before .before .before .before .before .before .words3 in omega arith)
+operands-apply-requires t c κs = laws.still-lent _ _ _ _ _ (c .before .before .before .before .before .before .before .before .before .before .before .before .before .before .before .before
+    .before .before .before .before .before .before .before .before .before .before .before .before .before .before .before .before .before .before .pre .1 .lent) (let a0 =
+    c .before .before .before .before .before .before .before .before .before .before .before .before .before .before .before .before .before .before .before .before .before .before .before
+    .before .before .texts in let a1 = c .before .before .before .before .before .before .before .before .before .texts2 in
+    omega arith) (let a0 = c .before .before .before .before .before .before .before .before .before .before .before .before .before .before .before .before .before .before .before .before
+    .before .before .before .words in let a1 = c .before .before .before .before .before .before .before .words3 in omega arith)
 
--- src/lib.rt:123:29
 operands-enum-known-n : (t : ℕ) → operands-lts.Need-enum-known-n (
   left-of-reads.Asked,
   left-of-reads.Learnt,
@@ -4123,7 +4070,6 @@ operands-enum-known-n : (t : ℕ) → operands-lts.Need-enum-known-n (
 ) (operands-at t) operands.Post
 operands-enum-known-n t c = search needs
 
--- src/lib.rt:126:21
 operands-enum-known-n-2 : (t : ℕ) → operands-lts.Need-enum-known-n-2 (
   left-of-reads.Asked,
   left-of-reads.Learnt,
@@ -4144,7 +4090,6 @@ operands-enum-known-n-2 : (t : ℕ) → operands-lts.Need-enum-known-n-2 (
 ) (operands-at t) operands.Post
 operands-enum-known-n-2 t c = search needs
 
--- src/lib.rt:65:1
 operands-same-length-5 : (t : ℕ) → operands-lts.Need-same-length-5 (
   left-of-reads.Asked,
   left-of-reads.Learnt,
@@ -4163,9 +4108,12 @@ operands-same-length-5 : (t : ℕ) → operands-lts.Need-same-length-5 (
   apply-reads.Asked,
   apply-reads.Learnt,
 ) (operands-at t) operands.Post
-operands-same-length-5 t c = let a = c .before .before .before .before .before .before .before .before .before .before .before .before .before .before .before .before .before .before .before .before .before .before .before .before .before .before .before .before .before .before .before .before .before .before .before .before .slice-known in let b = c .before .before .before .before .before .before .before .before .before .before .before .before .before .before .before .before .before .before .before .before .before .before .before .before .before .before .before .before .before .before .texts in let d = c .before .before .before .before .before .before .before .before .before .before .before .before .before .before .texts2 in let e = c .before .before .before .texts3 in search needs
+operands-same-length-5 t c = let a = c .before .before .before .before .before .before .before .before .before .before .before .before .before .before .before .before .before .before .before
+    .before .before .before .before .before .before .before .before .before .before .before .before .before .before .before .before .before .slice-known in
+    let b = c .before .before .before .before .before .before .before .before .before .before .before .before .before .before .before .before .before .before .before .before .before .before
+    .before .before .before .before .before .before .before .before .texts in
+    let d = c .before .before .before .before .before .before .before .before .before .before .before .before .before .before .texts2 in let e = c .before .before .before .texts3 in search needs
 
--- src/lib.rt:65:1
 operands-same-length-6 : (t : ℕ) → operands-lts.Need-same-length-6 (
   left-of-reads.Asked,
   left-of-reads.Learnt,
@@ -4186,7 +4134,6 @@ operands-same-length-6 : (t : ℕ) → operands-lts.Need-same-length-6 (
 ) (operands-at t) operands.Post
 operands-same-length-6 t c = search needs
 
--- src/lib.rt:65:1
 operands-returns-3 : (t : ℕ) → operands-lts.Need-returns-3 (
   left-of-reads.Asked,
   left-of-reads.Learnt,
@@ -4205,9 +4152,21 @@ operands-returns-3 : (t : ℕ) → operands-lts.Need-returns-3 (
   apply-reads.Asked,
   apply-reads.Learnt,
 ) (operands-at t) operands.Post
-operands-returns-3 t c = operands-applied _ _ _ _ _ _ _ _ (c .before .before .before .before .before .before .before .before .before .before .before .before .before .before .before .before .before .before .before .before .before .before .before .before .before .before .before .before .before .before .before .before .left-of .ensures) _ _ _ (c .before .before .before .before .before .before .before .before .before .before .before .before .before .before .before .before .before .before .before .before .before .before .before .before .before .before .before .before .before .before .before .expression .ensures) _ (c .before .before .before .before .before .before .before .before .before .before .before .before .before .before .before .before .before .before .before .before .before .before .before .before .before .u .given .1) _ (c .before .before .before .before .before .before .before .before .before .before .before .before .before .before .before .before .before .before .before .before .before .before .before .pack .ensures) _ (c .before .before .before .before .before .before .before .before .before .before .before .before .before .before .before .before .before .before .before .before .before .before .tag-of .ensures) (c .before .before .before .before .before .before .before .before .before .before .before .before .before .before .before .before .before .before .before .before .before .if1 .left) _ (c .before .before .before .before .before .before .before .before .before .before .before .before .before .before .before .before .before .before .before .before .lacks-table .ensures) (c .before .before .before .before .before .before .before .before .before .before .before .before .before .before .before .before .before .before .before .if2 .left) _ (c .before .before .before .before .before .before .before .before .before .before .before .before .before .before .before .before .right-of .ensures) _ _ _ (c .before .before .before .before .before .before .before .before .before .before .before .before .before .before .before .expression2 .ensures) _ _ _ (c .before .before .before .before .before .before .before .before .before .v .given .1) (c .before .before .before .before .before .pack2 .ensures) (c .before .before .before .before .apply .ensures)
+operands-returns-3 t c = operands-applied _ _ _ _ _ _ _ _ (c .before .before .before .before .before .before .before .before .before .before .before .before .before .before .before .before
+    .before .before .before .before .before .before .before .before .before .before .before .before .before .before .before .before .left-of .ensures) _ _ _
+    (c .before .before .before .before .before .before .before .before .before .before .before .before .before .before .before .before .before .before .before .before .before .before .before
+    .before .before .before .before .before .before .before .before .expression .ensures) _
+    (c .before .before .before .before .before .before .before .before .before .before .before .before .before .before .before .before .before .before .before .before .before .before .before
+    .before .before .u .given .1) _ (c .before .before .before .before .before .before .before .before .before .before .before .before .before .before .before .before .before .before .before
+    .before .before .before .before .pack .ensures) _ (c .before .before .before .before .before .before .before .before .before .before .before .before .before .before .before .before .before
+    .before .before .before .before .before .tag-of .ensures) (c .before .before .before .before .before .before .before .before .before .before .before .before .before .before .before .before
+    .before .before .before .before .before .if1 .left) _ (c .before .before .before .before .before .before .before .before .before .before .before .before .before .before .before .before
+    .before .before .before .before .lacks-table .ensures) (c .before .before .before .before .before .before .before .before .before .before .before .before .before .before .before .before
+    .before .before .before .if2 .left) _ (c .before .before .before .before .before .before .before .before .before .before .before .before .before .before .before .before .right-of .ensures)
+    _ _ _ (c .before .before .before .before .before .before .before .before .before .before .before .before .before .before .before .expression2 .ensures) _ _ _
+    (c .before .before .before .before .before .before .before .before .before .v .given .1) (c .before .before .before .before .before .pack2 .ensures)
+    (c .before .before .before .before .apply .ensures)
 
--- src/lib.rt:65:1
 operands-same-length-7 : (t : ℕ) → operands-lts.Need-same-length-7 (
   left-of-reads.Asked,
   left-of-reads.Learnt,
@@ -4228,7 +4187,6 @@ operands-same-length-7 : (t : ℕ) → operands-lts.Need-same-length-7 (
 ) (operands-at t) operands.Post
 operands-same-length-7 t c = search needs
 
--- src/lib.rt:65:1
 operands-same-length-8 : (t : ℕ) → operands-lts.Need-same-length-8 (
   left-of-reads.Asked,
   left-of-reads.Learnt,
@@ -4249,7 +4207,6 @@ operands-same-length-8 : (t : ℕ) → operands-lts.Need-same-length-8 (
 ) (operands-at t) operands.Post
 operands-same-length-8 t c = search needs
 
--- src/lib.rt:65:1
 operands-returns-4 : (t : ℕ) → operands-lts.Need-returns-4 (
   left-of-reads.Asked,
   left-of-reads.Learnt,
@@ -4268,9 +4225,18 @@ operands-returns-4 : (t : ℕ) → operands-lts.Need-returns-4 (
   apply-reads.Asked,
   apply-reads.Learnt,
 ) (operands-at t) operands.Post
-operands-returns-4 t c = second-stops _ _ _ _ _ _ _ _ (c .before .before .before .before .before .before .before .before .before .before .before .before .before .before .before .before .before .before .before .before .before .before .before .before .left-of .ensures) _ _ _ (c .before .before .before .before .before .before .before .before .before .before .before .before .before .before .before .before .before .before .before .before .before .before .before .expression .ensures) _ (c .before .before .before .before .before .before .before .before .before .before .before .before .before .before .before .before .before .u .given .1) _ (c .before .before .before .before .before .before .before .before .before .before .before .before .before .before .before .pack .ensures) _ (c .before .before .before .before .before .before .before .before .before .before .before .before .before .before .tag-of .ensures) (c .before .before .before .before .before .before .before .before .before .before .before .before .before .if1 .left) _ (c .before .before .before .before .before .before .before .before .before .before .before .before .lacks-table .ensures) (c .before .before .before .before .before .before .before .before .before .before .before .if2 .left) _ (c .before .before .before .before .before .before .before .before .right-of .ensures) _ _ _ (c .before .before .before .before .before .before .before .expression2 .ensures) _ _ (c .before .n .given .1)
+operands-returns-4 t c = second-stops _ _ _ _ _ _ _ _ (c .before .before .before .before .before .before .before .before .before .before .before .before .before .before .before .before .before
+    .before .before .before .before .before .before .before .left-of .ensures) _ _ _
+    (c .before .before .before .before .before .before .before .before .before .before .before .before .before .before .before .before .before .before .before .before .before .before .before
+    .expression .ensures) _ (c .before .before .before .before .before .before .before .before .before .before .before .before .before .before .before .before .before .u .given .1) _
+    (c .before .before .before .before .before .before .before .before .before .before .before .before .before .before .before .pack .ensures) _
+    (c .before .before .before .before .before .before .before .before .before .before .before .before .before .before .tag-of .ensures)
+    (c .before .before .before .before .before .before .before .before .before .before .before .before .before .if1 .left) _
+    (c .before .before .before .before .before .before .before .before .before .before .before .before .lacks-table .ensures)
+    (c .before .before .before .before .before .before .before .before .before .before .before .if2 .left) _
+    (c .before .before .before .before .before .before .before .before .right-of .ensures) _ _ _ (c .before .before .before .before .before .before .before .expression2 .ensures) _ _
+    (c .before .n .given .1)
 
--- src/lib.rt:65:1
 operands-same-length-9 : (t : ℕ) → operands-lts.Need-same-length-9 (
   left-of-reads.Asked,
   left-of-reads.Learnt,
@@ -4291,7 +4257,6 @@ operands-same-length-9 : (t : ℕ) → operands-lts.Need-same-length-9 (
 ) (operands-at t) operands.Post
 operands-same-length-9 t c = search needs
 
--- src/lib.rt:65:1
 operands-same-length-10 : (t : ℕ) → operands-lts.Need-same-length-10 (
   left-of-reads.Asked,
   left-of-reads.Learnt,
@@ -4312,7 +4277,6 @@ operands-same-length-10 : (t : ℕ) → operands-lts.Need-same-length-10 (
 ) (operands-at t) operands.Post
 operands-same-length-10 t c = search needs
 
--- src/lib.rt:65:1
 operands-returns-5 : (t : ℕ) → operands-lts.Need-returns-5 (
   left-of-reads.Asked,
   left-of-reads.Learnt,
@@ -4334,12 +4298,12 @@ operands-returns-5 : (t : ℕ) → operands-lts.Need-returns-5 (
 operands-returns-5 t c = search first-stops
 
 abbrev own-Inv-loop : own-lts.InvT-loop
-own-Inv-loop program code grants texts₀ words₀ fuel slot b p i k₀ n₀ unit texts words k n = Owning (statementAt fuel (setting program code grants) b) grants fuel b texts₀ words₀ p slot unit k₀ n₀ texts words k n
+own-Inv-loop program code grants texts₀ words₀ fuel slot b p i k₀ n₀ unit texts words k n =
+    Owning (statementAt fuel (setting program code grants) b) grants fuel b texts₀ words₀ p slot unit k₀ n₀ texts words k n
 
 abbrev own-μ-loop : own-lts.MeasureT-loop
 own-μ-loop program code grants texts₀ words₀ fuel slot b p i k₀ n₀ unit texts words k n = n
 
--- src/lib.rt:698:9
 own-first-at-requires : (t : ℕ) → own-lts.Need-first-at-requires (
   first-at-reads.Asked,
   first-at-reads.Learnt,
@@ -4354,7 +4318,6 @@ own-first-at-requires : (t : ℕ) → own-lts.Need-first-at-requires (
 ) (own-at t) own.Post own-Inv-loop own-μ-loop
 own-first-at-requires t c κs = search needs
 
--- src/lib.rt:699:9
 own-count-at-requires : (t : ℕ) → own-lts.Need-count-at-requires (
   first-at-reads.Asked,
   first-at-reads.Learnt,
@@ -4369,7 +4332,6 @@ own-count-at-requires : (t : ℕ) → own-lts.Need-count-at-requires (
 ) (own-at t) own.Post own-Inv-loop own-μ-loop
 own-count-at-requires t c κs = search needs
 
--- src/lib.rt:700:9
 own-enter-loop-requires : (t : ℕ) → own-lts.Need-enter-loop-requires (
   first-at-reads.Asked,
   first-at-reads.Learnt,
@@ -4384,7 +4346,6 @@ own-enter-loop-requires : (t : ℕ) → own-lts.Need-enter-loop-requires (
 ) (own-at t) own.Post own-Inv-loop own-μ-loop
 own-enter-loop-requires t c κs = omega (arith, c .before .before .before .before .before .before .before .before .before .pre .1 .lent .lent .room .words)
 
--- src/lib.rt:701:5
 own-loop-holds : (t : ℕ) → own-lts.Need-loop-holds (
   first-at-reads.Asked,
   first-at-reads.Learnt,
@@ -4397,9 +4358,10 @@ own-loop-holds : (t : ℕ) → own-lts.Need-loop-holds (
   leave-loop-reads.Asked,
   leave-loop-reads.Learnt,
 ) (own-at t) own.Post own-Inv-loop own-μ-loop
-own-loop-holds t c = owning-first _ _ _ _ _ _ _ _ _ _ _ (still-runs _ _ _ _ _ refl (let a0 = c .before .words in omega arith) _ _ (c .before .before .before .before .before .before .before .before .before .before .before .before .pre .1)) (omega (arith, c .before .before .before .before .before .before .first-at .ensures, c .before .before .before .before .count-at .ensures))
+own-loop-holds t c = owning-first _ _ _ _ _ _ _ _ _ _ _ (still-runs _ _ _ _ _ refl (let a0 = c .before .words in
+    omega arith) _ _ (c .before .before .before .before .before .before .before .before .before .before .before .before .pre .1))
+    (omega (arith, c .before .before .before .before .before .before .first-at .ensures, c .before .before .before .before .count-at .ensures))
 
--- src/lib.rt:702:9
 own-sub-n : (t : ℕ) → own-lts.Need-sub-n (
   first-at-reads.Asked,
   first-at-reads.Learnt,
@@ -4414,7 +4376,6 @@ own-sub-n : (t : ℕ) → own-lts.Need-sub-n (
 ) (own-at t) own.Post own-Inv-loop own-μ-loop
 own-sub-n t c = search needs
 
--- src/lib.rt:703:15
 own-member-requires : (t : ℕ) → own-lts.Need-member-requires (
   first-at-reads.Asked,
   first-at-reads.Learnt,
@@ -4443,7 +4404,6 @@ own-enum-told : (t : ℕ) → own-lts.Need-enum-told (
 ) (own-at t) own.Post own-Inv-loop own-μ-loop
 own-enum-told t c = search needs
 
--- src/lib.rt:705:28
 own-enum-known-v : (t : ℕ) → own-lts.Need-enum-known-v (
   first-at-reads.Asked,
   first-at-reads.Learnt,
@@ -4458,7 +4418,6 @@ own-enum-known-v : (t : ℕ) → own-lts.Need-enum-known-v (
 ) (own-at t) own.Post own-Inv-loop own-μ-loop
 own-enum-known-v t c = search needs
 
--- src/lib.rt:706:17
 own-leave-loop-requires : (t : ℕ) → own-lts.Need-leave-loop-requires (
   first-at-reads.Asked,
   first-at-reads.Learnt,
@@ -4471,9 +4430,9 @@ own-leave-loop-requires : (t : ℕ) → own-lts.Need-leave-loop-requires (
   leave-loop-reads.Asked,
   leave-loop-reads.Learnt,
 ) (own-at t) own.Post own-Inv-loop own-μ-loop
-own-leave-loop-requires t c κs = let a0 = c .before .before .before .before .before .words2 in omega (arith, c .before .before .before .before .before .before .before .before .before .before .before .before .loop .inv .runs .lent .lent .room .words)
+own-leave-loop-requires t c κs = let a0 = c .before .before .before .before .before .words2 in
+    omega (arith, c .before .before .before .before .before .before .before .before .before .before .before .before .loop .inv .runs .lent .lent .room .words)
 
--- src/lib.rt:707:17
 own-same-length : (t : ℕ) → own-lts.Need-same-length (
   first-at-reads.Asked,
   first-at-reads.Learnt,
@@ -4488,7 +4447,6 @@ own-same-length : (t : ℕ) → own-lts.Need-same-length (
 ) (own-at t) own.Post own-Inv-loop own-μ-loop
 own-same-length t c = search needs
 
--- src/lib.rt:707:17
 own-same-length-2 : (t : ℕ) → own-lts.Need-same-length-2 (
   first-at-reads.Asked,
   first-at-reads.Learnt,
@@ -4503,7 +4461,6 @@ own-same-length-2 : (t : ℕ) → own-lts.Need-same-length-2 (
 ) (own-at t) own.Post own-Inv-loop own-μ-loop
 own-same-length-2 t c = search needs
 
--- src/lib.rt:707:17
 own-returns : (t : ℕ) → own-lts.Need-returns (
   first-at-reads.Asked,
   first-at-reads.Learnt,
@@ -4516,9 +4473,15 @@ own-returns : (t : ℕ) → own-lts.Need-returns (
   leave-loop-reads.Asked,
   leave-loop-reads.Learnt,
 ) (own-at t) own.Post own-Inv-loop own-μ-loop
-own-returns t c = entered-loop _ _ _ _ _ _ _ _ _ _ _ _ (c .before .before .before .before .before .before .before .before .before .before .before .before .before .before .before .before .before .before .before .before .before .before .first-at .ensures) (c .before .before .before .before .before .before .before .before .before .before .before .before .before .before .before .before .before .before .before .before .count-at .ensures) (c .before .before .before .before .before .before .before .before .before .before .before .before .before .before .before .before .before .before .enter-loop .ensures) (owning-returns _ _ _ _ _ _ _ _ _ _ _ _ _ _ _ (c .before .before .before .before .before .before .before .before .before .before .before .before .before .before .before .loop .inv) (c .before .before .before .before .before .before .before .before .before .before .before .before .before .before .loop-test .taken) _ _ _ (c .before .before .before .before .before .before .before .before .before .before .before .member .ensures) _ _ (c .before .before .before .before .before .v .given .1) (c .before .before .leave-loop .ensures))
+own-returns t c = entered-loop _ _ _ _ _ _ _ _ _ _ _ _ (c .before .before .before .before .before .before .before .before .before .before .before .before .before .before .before .before
+    .before .before .before .before .before .before .first-at .ensures)
+    (c .before .before .before .before .before .before .before .before .before .before .before .before .before .before .before .before .before .before .before .before .count-at .ensures)
+    (c .before .before .before .before .before .before .before .before .before .before .before .before .before .before .before .before .before .before .enter-loop .ensures)
+    (owning-returns _ _ _ _ _ _ _ _ _ _ _ _ _ _ _ (c .before .before .before .before .before .before .before .before .before .before .before .before .before .before .before .loop .inv)
+    (c .before .before .before .before .before .before .before .before .before .before .before .before .before .before .loop-test .taken) _ _ _
+    (c .before .before .before .before .before .before .before .before .before .before .before .member .ensures) _ _ (c .before .before .before .before .before .v .given .1)
+    (c .before .before .leave-loop .ensures))
 
--- src/lib.rt:709:27
 own-enum-known-m : (t : ℕ) → own-lts.Need-enum-known-m (
   first-at-reads.Asked,
   first-at-reads.Learnt,
@@ -4533,7 +4496,6 @@ own-enum-known-m : (t : ℕ) → own-lts.Need-enum-known-m (
 ) (own-at t) own.Post own-Inv-loop own-μ-loop
 own-enum-known-m t c = search needs
 
--- src/lib.rt:709:36
 own-same-length-3 : (t : ℕ) → own-lts.Need-same-length-3 (
   first-at-reads.Asked,
   first-at-reads.Learnt,
@@ -4548,7 +4510,6 @@ own-same-length-3 : (t : ℕ) → own-lts.Need-same-length-3 (
 ) (own-at t) own.Post own-Inv-loop own-μ-loop
 own-same-length-3 t c = search needs
 
--- src/lib.rt:709:36
 own-same-length-4 : (t : ℕ) → own-lts.Need-same-length-4 (
   first-at-reads.Asked,
   first-at-reads.Learnt,
@@ -4563,7 +4524,6 @@ own-same-length-4 : (t : ℕ) → own-lts.Need-same-length-4 (
 ) (own-at t) own.Post own-Inv-loop own-μ-loop
 own-same-length-4 t c = search needs
 
--- src/lib.rt:709:36
 own-returns-2 : (t : ℕ) → own-lts.Need-returns-2 (
   first-at-reads.Asked,
   first-at-reads.Learnt,
@@ -4576,9 +4536,13 @@ own-returns-2 : (t : ℕ) → own-lts.Need-returns-2 (
   leave-loop-reads.Asked,
   leave-loop-reads.Learnt,
 ) (own-at t) own.Post own-Inv-loop own-μ-loop
-own-returns-2 t c = entered-loop _ _ _ _ _ _ _ _ _ _ _ _ (c .before .before .before .before .before .before .before .before .before .before .before .before .before .before .before .before .before .before .first-at .ensures) (c .before .before .before .before .before .before .before .before .before .before .before .before .before .before .before .before .count-at .ensures) (c .before .before .before .before .before .before .before .before .before .before .before .before .before .before .enter-loop .ensures) (owning-fails _ _ _ _ _ _ _ _ _ _ _ _ _ _ _ (c .before .before .before .before .before .before .before .before .before .before .before .loop .inv) (c .before .before .before .before .before .before .before .before .before .before .loop-test .taken) _ _ _ (c .before .before .before .before .before .before .before .member .ensures) _ _ (c .before .m .given .1))
+own-returns-2 t c = entered-loop _ _ _ _ _ _ _ _ _ _ _ _ (c .before .before .before .before .before .before .before .before .before .before .before .before .before .before .before .before
+    .before .before .first-at .ensures) (c .before .before .before .before .before .before .before .before .before .before .before .before .before .before .before .before .count-at .ensures)
+    (c .before .before .before .before .before .before .before .before .before .before .before .before .before .before .enter-loop .ensures)
+    (owning-fails _ _ _ _ _ _ _ _ _ _ _ _ _ _ _ (c .before .before .before .before .before .before .before .before .before .before .before .loop .inv)
+    (c .before .before .before .before .before .before .before .before .before .before .loop-test .taken) _ _ _ (c .before .before .before .before .before .before .before .member .ensures) _ _
+    (c .before .m .given .1))
 
--- src/lib.rt:711:9
 own-add-k : (t : ℕ) → own-lts.Need-add-k (
   first-at-reads.Asked,
   first-at-reads.Learnt,
@@ -4593,7 +4557,6 @@ own-add-k : (t : ℕ) → own-lts.Need-add-k (
 ) (own-at t) own.Post own-Inv-loop own-μ-loop
 own-add-k t c = omega (arith, c .before .before .before .before .before .before .before .before .before .before .loop .inv .small)
 
--- src/lib.rt:701:5
 own-loop-less : (t : ℕ) → own-lts.Need-loop-less (
   first-at-reads.Asked,
   first-at-reads.Learnt,
@@ -4608,7 +4571,6 @@ own-loop-less : (t : ℕ) → own-lts.Need-loop-less (
 ) (own-at t) own.Post own-Inv-loop own-μ-loop
 own-loop-less t c = omega arith
 
--- src/lib.rt:701:5
 own-loop-again : (t : ℕ) → own-lts.Need-loop-again (
   first-at-reads.Asked,
   first-at-reads.Learnt,
@@ -4621,9 +4583,10 @@ own-loop-again : (t : ℕ) → own-lts.Need-loop-again (
   leave-loop-reads.Asked,
   leave-loop-reads.Learnt,
 ) (own-at t) own.Post own-Inv-loop own-μ-loop
-own-loop-again t c = owning-again _ _ _ _ _ _ _ _ _ _ _ _ _ _ _ (c .before .before .before .before .before .before .before .before .before .before .loop .inv) (c .before .before .before .before .before .before .before .before .before .loop-test .taken) _ _ _ (c .before .before .before .before .before .before .member .ensures) (c .enum-told .given .1) (let a0 = c .before .before .before .before .before .texts in omega arith) (let a0 = c .before .before .before .words2 in omega arith)
+own-loop-again t c = owning-again _ _ _ _ _ _ _ _ _ _ _ _ _ _ _ (c .before .before .before .before .before .before .before .before .before .before .loop .inv)
+    (c .before .before .before .before .before .before .before .before .before .loop-test .taken) _ _ _ (c .before .before .before .before .before .before .member .ensures)
+    (c .enum-told .given .1) (let a0 = c .before .before .before .before .before .texts in omega arith) (let a0 = c .before .before .before .words2 in omega arith)
 
--- src/lib.rt:713:5
 own-leave-loop-requires-2 : (t : ℕ) → own-lts.Need-leave-loop-requires-2 (
   first-at-reads.Asked,
   first-at-reads.Learnt,
@@ -4638,7 +4601,6 @@ own-leave-loop-requires-2 : (t : ℕ) → own-lts.Need-leave-loop-requires-2 (
 ) (own-at t) own.Post own-Inv-loop own-μ-loop
 own-leave-loop-requires-2 t c κs = omega (arith, c .before .before .loop .inv .runs .lent .lent .room .words)
 
--- src/lib.rt:682:1
 own-same-length-5 : (t : ℕ) → own-lts.Need-same-length-5 (
   first-at-reads.Asked,
   first-at-reads.Learnt,
@@ -4653,7 +4615,6 @@ own-same-length-5 : (t : ℕ) → own-lts.Need-same-length-5 (
 ) (own-at t) own.Post own-Inv-loop own-μ-loop
 own-same-length-5 t c = search needs
 
--- src/lib.rt:682:1
 own-same-length-6 : (t : ℕ) → own-lts.Need-same-length-6 (
   first-at-reads.Asked,
   first-at-reads.Learnt,
@@ -4668,7 +4629,6 @@ own-same-length-6 : (t : ℕ) → own-lts.Need-same-length-6 (
 ) (own-at t) own.Post own-Inv-loop own-μ-loop
 own-same-length-6 t c = search needs
 
--- src/lib.rt:682:1
 own-returns-3 : (t : ℕ) → own-lts.Need-returns-3 (
   first-at-reads.Asked,
   first-at-reads.Learnt,
@@ -4681,7 +4641,10 @@ own-returns-3 : (t : ℕ) → own-lts.Need-returns-3 (
   leave-loop-reads.Asked,
   leave-loop-reads.Learnt,
 ) (own-at t) own.Post own-Inv-loop own-μ-loop
-own-returns-3 t c = entered-loop _ _ _ _ _ _ _ _ _ _ _ _ (c .before .before .before .before .before .before .before .before .before .before .before .before .first-at .ensures) (c .before .before .before .before .before .before .before .before .before .before .count-at .ensures) (c .before .before .before .before .before .before .before .before .enter-loop .ensures) (owning-ends _ _ _ _ _ _ _ _ _ _ _ _ _ _ _ (c .before .before .before .before .before .loop .inv) _ (omega arith) (c .before .before .leave-loop2 .ensures))
+own-returns-3 t c = entered-loop _ _ _ _ _ _ _ _ _ _ _ _ (c .before .before .before .before .before .before .before .before .before .before .before .before .first-at .ensures)
+    (c .before .before .before .before .before .before .before .before .before .before .count-at .ensures)
+    (c .before .before .before .before .before .before .before .before .enter-loop .ensures)
+    (owning-ends _ _ _ _ _ _ _ _ _ _ _ _ _ _ _ (c .before .before .before .before .before .loop .inv) _ (omega arith) (c .before .before .leave-loop2 .ensures))
 
 abbrev procedure-Inv-loop : procedure-lts.InvT-loop
 procedure-Inv-loop program code grants texts₀ words₀ fuel a end rounds at₀ left₀ texts words at left = Following program code grants fuel texts₀ words₀ a end rounds texts words at left
@@ -4689,7 +4652,6 @@ procedure-Inv-loop program code grants texts₀ words₀ fuel a end rounds at₀
 abbrev procedure-μ-loop : procedure-lts.MeasureT-loop
 procedure-μ-loop program code grants texts₀ words₀ fuel a end rounds at₀ left₀ texts words at left = left
 
--- src/lib.rt:287:5
 procedure-loop-holds : (t : ℕ) → procedure-lts.Need-loop-holds (
   word-at-reads.Asked,
   word-at-reads.Learnt,
@@ -4704,7 +4666,6 @@ procedure-loop-holds : (t : ℕ) → procedure-lts.Need-loop-holds (
 ) (procedure-at t) procedure.Post procedure-Inv-loop procedure-μ-loop
 procedure-loop-holds t c = all-first _ _ _ _ _ _ _ _ _ (c .before .before .before .before .pre .1)
 
--- src/lib.rt:288:9
 procedure-sub-left : (t : ℕ) → procedure-lts.Need-sub-left (
   word-at-reads.Asked,
   word-at-reads.Learnt,
@@ -4719,7 +4680,6 @@ procedure-sub-left : (t : ℕ) → procedure-lts.Need-sub-left (
 ) (procedure-at t) procedure.Post procedure-Inv-loop procedure-μ-loop
 procedure-sub-left t c = search needs
 
--- src/lib.rt:290:13
 procedure-same-length : (t : ℕ) → procedure-lts.Need-same-length (
   word-at-reads.Asked,
   word-at-reads.Learnt,
@@ -4734,7 +4694,6 @@ procedure-same-length : (t : ℕ) → procedure-lts.Need-same-length (
 ) (procedure-at t) procedure.Post procedure-Inv-loop procedure-μ-loop
 procedure-same-length t c = search needs
 
--- src/lib.rt:290:13
 procedure-same-length-2 : (t : ℕ) → procedure-lts.Need-same-length-2 (
   word-at-reads.Asked,
   word-at-reads.Learnt,
@@ -4749,7 +4708,6 @@ procedure-same-length-2 : (t : ℕ) → procedure-lts.Need-same-length-2 (
 ) (procedure-at t) procedure.Post procedure-Inv-loop procedure-μ-loop
 procedure-same-length-2 t c = search needs
 
--- src/lib.rt:290:13
 procedure-returns : (t : ℕ) → procedure-lts.Need-returns (
   word-at-reads.Asked,
   word-at-reads.Learnt,
@@ -4764,7 +4722,6 @@ procedure-returns : (t : ℕ) → procedure-lts.Need-returns (
 ) (procedure-at t) procedure.Post procedure-Inv-loop procedure-μ-loop
 procedure-returns t c = ends-done _ _ _ _ _ _ _ _ _ _ _ _ _ (c .before .before .loop .inv) (c .before .loop-test .taken) (c .if1 .taken)
 
--- src/lib.rt:292:13
 procedure-word-at-requires : (t : ℕ) → procedure-lts.Need-word-at-requires (
   word-at-reads.Asked,
   word-at-reads.Learnt,
@@ -4779,7 +4736,6 @@ procedure-word-at-requires : (t : ℕ) → procedure-lts.Need-word-at-requires (
 ) (procedure-at t) procedure.Post procedure-Inv-loop procedure-μ-loop
 procedure-word-at-requires t c κs = search needs
 
--- src/lib.rt:293:12
 procedure-tag-of-requires : (t : ℕ) → procedure-lts.Need-tag-of-requires (
   word-at-reads.Asked,
   word-at-reads.Learnt,
@@ -4794,7 +4750,6 @@ procedure-tag-of-requires : (t : ℕ) → procedure-lts.Need-tag-of-requires (
 ) (procedure-at t) procedure.Post procedure-Inv-loop procedure-μ-loop
 procedure-tag-of-requires t c κs = search needs
 
--- src/lib.rt:294:17
 procedure-leave-requires : (t : ℕ) → procedure-lts.Need-leave-requires (
   word-at-reads.Asked,
   word-at-reads.Learnt,
@@ -4809,7 +4764,6 @@ procedure-leave-requires : (t : ℕ) → procedure-lts.Need-leave-requires (
 ) (procedure-at t) procedure.Post procedure-Inv-loop procedure-μ-loop
 procedure-leave-requires t c κs = (omega arith, leaves-here _ _ _ _ _ _ _ _ _ _ _ _ _ (c .before .before .before .before .before .before .before .loop .inv) _ _ (c .before .before .before .before .before .if1 .left) (c .before .before .before .before .word-at .ensures) (c .before .before .before .tag-of .ensures) (c .before .before .if2 .taken))
 
--- src/lib.rt:295:13
 procedure-same-length-3 : (t : ℕ) → procedure-lts.Need-same-length-3 (
   word-at-reads.Asked,
   word-at-reads.Learnt,
@@ -4824,7 +4778,6 @@ procedure-same-length-3 : (t : ℕ) → procedure-lts.Need-same-length-3 (
 ) (procedure-at t) procedure.Post procedure-Inv-loop procedure-μ-loop
 procedure-same-length-3 t c = search needs
 
--- src/lib.rt:295:13
 procedure-same-length-4 : (t : ℕ) → procedure-lts.Need-same-length-4 (
   word-at-reads.Asked,
   word-at-reads.Learnt,
@@ -4839,7 +4792,6 @@ procedure-same-length-4 : (t : ℕ) → procedure-lts.Need-same-length-4 (
 ) (procedure-at t) procedure.Post procedure-Inv-loop procedure-μ-loop
 procedure-same-length-4 t c = search needs
 
--- src/lib.rt:295:13
 procedure-returns-2 : (t : ℕ) → procedure-lts.Need-returns-2 (
   word-at-reads.Asked,
   word-at-reads.Learnt,
@@ -4852,9 +4804,10 @@ procedure-returns-2 : (t : ℕ) → procedure-lts.Need-returns-2 (
   size-of-reads.Asked,
   size-of-reads.Learnt,
 ) (procedure-at t) procedure.Post procedure-Inv-loop procedure-μ-loop
-procedure-returns-2 t c = ends-left _ _ _ _ _ _ _ _ _ _ _ _ _ (c .before .before .before .before .before .before .before .before .before .before .before .before .loop .inv) (c .before .before .before .before .before .before .before .before .before .before .before .loop-test .taken) (c .before .before .before .before .before .before .before .before .before .before .if1 .left) _ _ _ (c .before .before .before .before .leave .ensures)
+procedure-returns-2 t c = ends-left _ _ _ _ _ _ _ _ _ _ _ _ _ (c .before .before .before .before .before .before .before .before .before .before .before .before .loop .inv)
+    (c .before .before .before .before .before .before .before .before .before .before .before .loop-test .taken)
+    (c .before .before .before .before .before .before .before .before .before .before .if1 .left) _ _ _ (c .before .before .before .before .leave .ensures)
 
--- src/lib.rt:297:15
 procedure-statement-requires : (t : ℕ) → procedure-lts.Need-statement-requires (
   word-at-reads.Asked,
   word-at-reads.Learnt,
@@ -4883,7 +4836,6 @@ procedure-enum-told : (t : ℕ) → procedure-lts.Need-enum-told (
 ) (procedure-at t) procedure.Post procedure-Inv-loop procedure-μ-loop
 procedure-enum-told t c = search needs
 
--- src/lib.rt:299:28
 procedure-enum-known-v : (t : ℕ) → procedure-lts.Need-enum-known-v (
   word-at-reads.Asked,
   word-at-reads.Learnt,
@@ -4898,7 +4850,6 @@ procedure-enum-known-v : (t : ℕ) → procedure-lts.Need-enum-known-v (
 ) (procedure-at t) procedure.Post procedure-Inv-loop procedure-μ-loop
 procedure-enum-known-v t c = search needs
 
--- src/lib.rt:299:34
 procedure-same-length-5 : (t : ℕ) → procedure-lts.Need-same-length-5 (
   word-at-reads.Asked,
   word-at-reads.Learnt,
@@ -4913,7 +4864,6 @@ procedure-same-length-5 : (t : ℕ) → procedure-lts.Need-same-length-5 (
 ) (procedure-at t) procedure.Post procedure-Inv-loop procedure-μ-loop
 procedure-same-length-5 t c = search needs
 
--- src/lib.rt:299:34
 procedure-same-length-6 : (t : ℕ) → procedure-lts.Need-same-length-6 (
   word-at-reads.Asked,
   word-at-reads.Learnt,
@@ -4928,7 +4878,6 @@ procedure-same-length-6 : (t : ℕ) → procedure-lts.Need-same-length-6 (
 ) (procedure-at t) procedure.Post procedure-Inv-loop procedure-μ-loop
 procedure-same-length-6 t c = search needs
 
--- src/lib.rt:299:34
 procedure-returns-3 : (t : ℕ) → procedure-lts.Need-returns-3 (
   word-at-reads.Asked,
   word-at-reads.Learnt,
@@ -4941,9 +4890,11 @@ procedure-returns-3 : (t : ℕ) → procedure-lts.Need-returns-3 (
   size-of-reads.Asked,
   size-of-reads.Learnt,
 ) (procedure-at t) procedure.Post procedure-Inv-loop procedure-μ-loop
-procedure-returns-3 t c = ends-returns _ _ _ _ _ _ _ _ _ _ _ _ _ (c .before .before .before .before .before .before .before .before .before .before .before .before .before .before .before .loop .inv) (c .before .before .before .before .before .before .before .before .before .before .before .before .before .before .loop-test .taken) (c .before .before .before .before .before .before .before .before .before .before .before .before .before .if1 .left) _ _ _ (c .before .before .before .before .before .before .before .statement .ensures) _ (c .before .v .given .1)
+procedure-returns-3 t c = ends-returns _ _ _ _ _ _ _ _ _ _ _ _ _ (c .before .before .before .before .before .before .before .before .before .before .before .before .before .before .before
+    .loop .inv) (c .before .before .before .before .before .before .before .before .before .before .before .before .before .before .loop-test .taken)
+    (c .before .before .before .before .before .before .before .before .before .before .before .before .before .if1 .left) _ _ _
+    (c .before .before .before .before .before .before .before .statement .ensures) _ (c .before .v .given .1)
 
--- src/lib.rt:300:27
 procedure-enum-known-n : (t : ℕ) → procedure-lts.Need-enum-known-n (
   word-at-reads.Asked,
   word-at-reads.Learnt,
@@ -4958,7 +4909,6 @@ procedure-enum-known-n : (t : ℕ) → procedure-lts.Need-enum-known-n (
 ) (procedure-at t) procedure.Post procedure-Inv-loop procedure-μ-loop
 procedure-enum-known-n t c = search needs
 
--- src/lib.rt:300:36
 procedure-same-length-7 : (t : ℕ) → procedure-lts.Need-same-length-7 (
   word-at-reads.Asked,
   word-at-reads.Learnt,
@@ -4973,7 +4923,6 @@ procedure-same-length-7 : (t : ℕ) → procedure-lts.Need-same-length-7 (
 ) (procedure-at t) procedure.Post procedure-Inv-loop procedure-μ-loop
 procedure-same-length-7 t c = search needs
 
--- src/lib.rt:300:36
 procedure-same-length-8 : (t : ℕ) → procedure-lts.Need-same-length-8 (
   word-at-reads.Asked,
   word-at-reads.Learnt,
@@ -4988,7 +4937,6 @@ procedure-same-length-8 : (t : ℕ) → procedure-lts.Need-same-length-8 (
 ) (procedure-at t) procedure.Post procedure-Inv-loop procedure-μ-loop
 procedure-same-length-8 t c = search needs
 
--- src/lib.rt:300:36
 procedure-returns-4 : (t : ℕ) → procedure-lts.Need-returns-4 (
   word-at-reads.Asked,
   word-at-reads.Learnt,
@@ -5001,9 +4949,11 @@ procedure-returns-4 : (t : ℕ) → procedure-lts.Need-returns-4 (
   size-of-reads.Asked,
   size-of-reads.Learnt,
 ) (procedure-at t) procedure.Post procedure-Inv-loop procedure-μ-loop
-procedure-returns-4 t c = ends-fails _ _ _ _ _ _ _ _ _ _ _ _ _ (c .before .before .before .before .before .before .before .before .before .before .before .before .before .before .before .loop .inv) (c .before .before .before .before .before .before .before .before .before .before .before .before .before .before .loop-test .taken) (c .before .before .before .before .before .before .before .before .before .before .before .before .before .if1 .left) _ _ _ (c .before .before .before .before .before .before .before .statement .ensures) _ _ (c .before .n .given .1)
+procedure-returns-4 t c = ends-fails _ _ _ _ _ _ _ _ _ _ _ _ _ (c .before .before .before .before .before .before .before .before .before .before .before .before .before .before .before .loop
+    .inv) (c .before .before .before .before .before .before .before .before .before .before .before .before .before .before .loop-test .taken)
+    (c .before .before .before .before .before .before .before .before .before .before .before .before .before .if1 .left) _ _ _
+    (c .before .before .before .before .before .before .before .statement .ensures) _ _ (c .before .n .given .1)
 
--- src/lib.rt:302:15
 procedure-size-of-requires : (t : ℕ) → procedure-lts.Need-size-of-requires (
   word-at-reads.Asked,
   word-at-reads.Learnt,
@@ -5018,7 +4968,6 @@ procedure-size-of-requires : (t : ℕ) → procedure-lts.Need-size-of-requires (
 ) (procedure-at t) procedure.Post procedure-Inv-loop procedure-μ-loop
 procedure-size-of-requires t c κs = search needs
 
--- src/lib.rt:302:9
 procedure-add-at : (t : ℕ) → procedure-lts.Need-add-at (
   word-at-reads.Asked,
   word-at-reads.Learnt,
@@ -5033,7 +4982,6 @@ procedure-add-at : (t : ℕ) → procedure-lts.Need-add-at (
 ) (procedure-at t) procedure.Post procedure-Inv-loop procedure-μ-loop
 procedure-add-at t c = omega (arith, c .before .before .before .before .before .before .before .before .before .before .before .before .before .before .before .before .before .before .before .before .pre .1 .room, c .before .before .before .before .before .before .before .before .before .before .before .before .before .if1 .left, c .size-of .ensures)
 
--- src/lib.rt:287:5
 procedure-loop-less : (t : ℕ) → procedure-lts.Need-loop-less (
   word-at-reads.Asked,
   word-at-reads.Learnt,
@@ -5048,7 +4996,6 @@ procedure-loop-less : (t : ℕ) → procedure-lts.Need-loop-less (
 ) (procedure-at t) procedure.Post procedure-Inv-loop procedure-μ-loop
 procedure-loop-less t c = omega arith
 
--- src/lib.rt:287:5
 procedure-loop-again : (t : ℕ) → procedure-lts.Need-loop-again (
   word-at-reads.Asked,
   word-at-reads.Learnt,
@@ -5061,9 +5008,13 @@ procedure-loop-again : (t : ℕ) → procedure-lts.Need-loop-again (
   size-of-reads.Asked,
   size-of-reads.Learnt,
 ) (procedure-at t) procedure.Post procedure-Inv-loop procedure-μ-loop
-procedure-loop-again t c = all-again _ _ _ _ _ _ _ _ _ _ _ _ _ (c .before .before .before .before .before .before .before .before .before .before .before .before .before .before .before .loop .inv) (c .before .before .before .before .before .before .before .before .before .before .before .before .before .before .loop-test .taken) (c .before .before .before .before .before .before .before .before .before .before .before .before .before .if1 .left) _ _ _ (c .before .before .before .before .before .before .before .statement .ensures) _ _ (let a0 = c .before .before .before .before .before .before .texts2 in omega arith) (let a0 = c .before .before .before .before .words2 in omega arith) (c .before .enum-told .given .1) (c .before .before .before .before .before .before .before .before .before .before .before .before .word-at .ensures) (c .size-of .ensures)
+procedure-loop-again t c = all-again _ _ _ _ _ _ _ _ _ _ _ _ _ (c .before .before .before .before .before .before .before .before .before .before .before .before .before .before .before .loop
+    .inv) (c .before .before .before .before .before .before .before .before .before .before .before .before .before .before .loop-test .taken)
+    (c .before .before .before .before .before .before .before .before .before .before .before .before .before .if1 .left) _ _ _
+    (c .before .before .before .before .before .before .before .statement .ensures) _ _ (let a0 = c .before .before .before .before .before .before .texts2 in
+    omega arith) (let a0 = c .before .before .before .before .words2 in
+    omega arith) (c .before .enum-told .given .1) (c .before .before .before .before .before .before .before .before .before .before .before .before .word-at .ensures) (c .size-of .ensures)
 
--- src/lib.rt:270:1
 procedure-same-length-9 : (t : ℕ) → procedure-lts.Need-same-length-9 (
   word-at-reads.Asked,
   word-at-reads.Learnt,
@@ -5078,7 +5029,6 @@ procedure-same-length-9 : (t : ℕ) → procedure-lts.Need-same-length-9 (
 ) (procedure-at t) procedure.Post procedure-Inv-loop procedure-μ-loop
 procedure-same-length-9 t c = search needs
 
--- src/lib.rt:270:1
 procedure-same-length-10 : (t : ℕ) → procedure-lts.Need-same-length-10 (
   word-at-reads.Asked,
   word-at-reads.Learnt,
@@ -5093,7 +5043,6 @@ procedure-same-length-10 : (t : ℕ) → procedure-lts.Need-same-length-10 (
 ) (procedure-at t) procedure.Post procedure-Inv-loop procedure-μ-loop
 procedure-same-length-10 t c = search needs
 
--- src/lib.rt:270:1
 procedure-returns-5 : (t : ℕ) → procedure-lts.Need-returns-5 (
   word-at-reads.Asked,
   word-at-reads.Learnt,
@@ -5108,7 +5057,6 @@ procedure-returns-5 : (t : ℕ) → procedure-lts.Need-returns-5 (
 ) (procedure-at t) procedure.Post procedure-Inv-loop procedure-μ-loop
 procedure-returns-5 t c = ends-short _ _ _ _ _ _ _ _ _ _ _ _ _ (c .before .loop .inv) (omega arith)
 
--- src/lib.rt:214:11
 pushed-expression-requires : (t : ℕ) → pushed-lts.Need-expression-requires (
   expression-below t,
   expression.Post,
@@ -5119,7 +5067,6 @@ pushed-expression-requires : (t : ℕ) → pushed-lts.Need-expression-requires (
 ) (pushed-at t) pushed.Post
 pushed-expression-requires t c κs = (omega arith, c .before .before .before .before .before .before .pre .1)
 
--- src/lib.rt:215:22
 pushed-enum-known-v : (t : ℕ) → pushed-lts.Need-enum-known-v (
   expression-below t,
   expression.Post,
@@ -5130,7 +5077,6 @@ pushed-enum-known-v : (t : ℕ) → pushed-lts.Need-enum-known-v (
 ) (pushed-at t) pushed.Post
 pushed-enum-known-v t c = search needs
 
--- src/lib.rt:216:49
 pushed-pack-requires : (t : ℕ) → pushed-lts.Need-pack-requires (
   expression-below t,
   expression.Post,
@@ -5141,7 +5087,6 @@ pushed-pack-requires : (t : ℕ) → pushed-lts.Need-pack-requires (
 ) (pushed-at t) pushed.Post
 pushed-pack-requires t c κs = search needs
 
--- src/lib.rt:216:17
 pushed-push-word-requires : (t : ℕ) → pushed-lts.Need-push-word-requires (
   expression-below t,
   expression.Post,
@@ -5152,7 +5097,6 @@ pushed-push-word-requires : (t : ℕ) → pushed-lts.Need-push-word-requires (
 ) (pushed-at t) pushed.Post
 pushed-push-word-requires t c κs = search needs
 
--- src/lib.rt:219:21
 pushed-enum-known-n : (t : ℕ) → pushed-lts.Need-enum-known-n (
   expression-below t,
   expression.Post,
@@ -5163,7 +5107,6 @@ pushed-enum-known-n : (t : ℕ) → pushed-lts.Need-enum-known-n (
 ) (pushed-at t) pushed.Post
 pushed-enum-known-n t c = search needs
 
--- src/lib.rt:200:1
 pushed-same-length : (t : ℕ) → pushed-lts.Need-same-length (
   expression-below t,
   expression.Post,
@@ -5174,7 +5117,6 @@ pushed-same-length : (t : ℕ) → pushed-lts.Need-same-length (
 ) (pushed-at t) pushed.Post
 pushed-same-length t c = search needs
 
--- src/lib.rt:200:1
 pushed-same-length-2 : (t : ℕ) → pushed-lts.Need-same-length-2 (
   expression-below t,
   expression.Post,
@@ -5185,7 +5127,6 @@ pushed-same-length-2 : (t : ℕ) → pushed-lts.Need-same-length-2 (
 ) (pushed-at t) pushed.Post
 pushed-same-length-2 t c = search needs
 
--- src/lib.rt:200:1
 pushed-returns : (t : ℕ) → pushed-lts.Need-returns (
   expression-below t,
   expression.Post,
@@ -5196,7 +5137,6 @@ pushed-returns : (t : ℕ) → pushed-lts.Need-returns (
 ) (pushed-at t) pushed.Post
 pushed-returns t c = search push-goes
 
--- src/lib.rt:200:1
 pushed-same-length-3 : (t : ℕ) → pushed-lts.Need-same-length-3 (
   expression-below t,
   expression.Post,
@@ -5207,7 +5147,6 @@ pushed-same-length-3 : (t : ℕ) → pushed-lts.Need-same-length-3 (
 ) (pushed-at t) pushed.Post
 pushed-same-length-3 t c = search needs
 
--- src/lib.rt:200:1
 pushed-same-length-4 : (t : ℕ) → pushed-lts.Need-same-length-4 (
   expression-below t,
   expression.Post,
@@ -5218,7 +5157,6 @@ pushed-same-length-4 : (t : ℕ) → pushed-lts.Need-same-length-4 (
 ) (pushed-at t) pushed.Post
 pushed-same-length-4 t c = search needs
 
--- src/lib.rt:200:1
 pushed-returns-2 : (t : ℕ) → pushed-lts.Need-returns-2 (
   expression-below t,
   expression.Post,
@@ -5235,7 +5173,6 @@ repeat-Inv-loop program code grants texts₀ words₀ fuel y p turns₀ texts wo
 abbrev repeat-μ-loop : repeat-lts.MeasureT-loop
 repeat-μ-loop program code grants texts₀ words₀ fuel y p turns₀ texts words turns = turns
 
--- src/lib.rt:595:21
 repeat-element-copy-out-turns : (t : ℕ) → repeat-lts.Need-element-copy-out-turns (
   count-reads.Asked,
   count-reads.Learnt,
@@ -5246,7 +5183,6 @@ repeat-element-copy-out-turns : (t : ℕ) → repeat-lts.Need-element-copy-out-t
 ) (repeat-at t) repeat.Post repeat-Inv-loop repeat-μ-loop
 repeat-element-copy-out-turns t c = search needs
 
--- src/lib.rt:595:21
 repeat-add-turns : (t : ℕ) → repeat-lts.Need-add-turns (
   count-reads.Asked,
   count-reads.Learnt,
@@ -5257,7 +5193,6 @@ repeat-add-turns : (t : ℕ) → repeat-lts.Need-add-turns (
 ) (repeat-at t) repeat.Post repeat-Inv-loop repeat-μ-loop
 repeat-add-turns t c = omega (arith, c .before .before .before .before .before .pre .1 .lent .lent .room .steps)
 
--- src/lib.rt:596:5
 repeat-loop-holds : (t : ℕ) → repeat-lts.Need-loop-holds (
   count-reads.Asked,
   count-reads.Learnt,
@@ -5268,7 +5203,6 @@ repeat-loop-holds : (t : ℕ) → repeat-lts.Need-loop-holds (
 ) (repeat-at t) repeat.Post repeat-Inv-loop repeat-μ-loop
 repeat-loop-holds t c = loop-first _ _ _ _ _ _ _ _ (c .before .before .before .before .before .pre .1)
 
--- src/lib.rt:597:9
 repeat-sub-turns : (t : ℕ) → repeat-lts.Need-sub-turns (
   count-reads.Asked,
   count-reads.Learnt,
@@ -5279,7 +5213,6 @@ repeat-sub-turns : (t : ℕ) → repeat-lts.Need-sub-turns (
 ) (repeat-at t) repeat.Post repeat-Inv-loop repeat-μ-loop
 repeat-sub-turns t c = search needs
 
--- src/lib.rt:598:13
 repeat-count-requires : (t : ℕ) → repeat-lts.Need-count-requires (
   count-reads.Asked,
   count-reads.Learnt,
@@ -5290,7 +5223,6 @@ repeat-count-requires : (t : ℕ) → repeat-lts.Need-count-requires (
 ) (repeat-at t) repeat.Post repeat-Inv-loop repeat-μ-loop
 repeat-count-requires t c κs = omega (arith, c .before .before .loop .inv .runs .lent .lent .room .words)
 
--- src/lib.rt:599:13
 repeat-same-length : (t : ℕ) → repeat-lts.Need-same-length (
   count-reads.Asked,
   count-reads.Learnt,
@@ -5301,7 +5233,6 @@ repeat-same-length : (t : ℕ) → repeat-lts.Need-same-length (
 ) (repeat-at t) repeat.Post repeat-Inv-loop repeat-μ-loop
 repeat-same-length t c = search needs
 
--- src/lib.rt:599:13
 repeat-same-length-2 : (t : ℕ) → repeat-lts.Need-same-length-2 (
   count-reads.Asked,
   count-reads.Learnt,
@@ -5312,7 +5243,6 @@ repeat-same-length-2 : (t : ℕ) → repeat-lts.Need-same-length-2 (
 ) (repeat-at t) repeat.Post repeat-Inv-loop repeat-μ-loop
 repeat-same-length-2 t c = search needs
 
--- src/lib.rt:599:13
 repeat-returns : (t : ℕ) → repeat-lts.Need-returns (
   count-reads.Asked,
   count-reads.Learnt,
@@ -5321,9 +5251,9 @@ repeat-returns : (t : ℕ) → repeat-lts.Need-returns (
   statement-below t,
   statement′.Post,
 ) (repeat-at t) repeat.Post repeat-Inv-loop repeat-μ-loop
-repeat-returns t c = loop-refused _ _ _ _ _ _ _ _ _ _ _ (c .before .before .before .before .before .before .loop .inv) (c .before .before .before .before .before .loop-test .taken) _ _ (c .before .before .before .count .ensures) (c .if1 .taken)
+repeat-returns t c = loop-refused _ _ _ _ _ _ _ _ _ _ _ (c .before .before .before .before .before .before .loop .inv) (c .before .before .before .before .before .loop-test .taken) _ _
+    (c .before .before .before .count .ensures) (c .if1 .taken)
 
--- src/lib.rt:601:15
 repeat-test-requires : (t : ℕ) → repeat-lts.Need-test-requires (
   count-reads.Asked,
   count-reads.Learnt,
@@ -5344,7 +5274,6 @@ repeat-enum-told : (t : ℕ) → repeat-lts.Need-enum-told (
 ) (repeat-at t) repeat.Post repeat-Inv-loop repeat-μ-loop
 repeat-enum-told t c = search needs
 
--- src/lib.rt:603:28
 repeat-enum-told-2 : (t : ℕ) → repeat-lts.Need-enum-told-2 (
   count-reads.Asked,
   count-reads.Learnt,
@@ -5355,7 +5284,6 @@ repeat-enum-told-2 : (t : ℕ) → repeat-lts.Need-enum-told-2 (
 ) (repeat-at t) repeat.Post repeat-Inv-loop repeat-μ-loop
 repeat-enum-told-2 t c = search needs
 
--- src/lib.rt:603:28
 repeat-same-length-3 : (t : ℕ) → repeat-lts.Need-same-length-3 (
   count-reads.Asked,
   count-reads.Learnt,
@@ -5366,7 +5294,6 @@ repeat-same-length-3 : (t : ℕ) → repeat-lts.Need-same-length-3 (
 ) (repeat-at t) repeat.Post repeat-Inv-loop repeat-μ-loop
 repeat-same-length-3 t c = search needs
 
--- src/lib.rt:603:28
 repeat-same-length-4 : (t : ℕ) → repeat-lts.Need-same-length-4 (
   count-reads.Asked,
   count-reads.Learnt,
@@ -5377,7 +5304,6 @@ repeat-same-length-4 : (t : ℕ) → repeat-lts.Need-same-length-4 (
 ) (repeat-at t) repeat.Post repeat-Inv-loop repeat-μ-loop
 repeat-same-length-4 t c = search needs
 
--- src/lib.rt:603:28
 repeat-returns-2 : (t : ℕ) → repeat-lts.Need-returns-2 (
   count-reads.Asked,
   count-reads.Learnt,
@@ -5386,9 +5312,11 @@ repeat-returns-2 : (t : ℕ) → repeat-lts.Need-returns-2 (
   statement-below t,
   statement′.Post,
 ) (repeat-at t) repeat.Post repeat-Inv-loop repeat-μ-loop
-repeat-returns-2 t c = loop-ends _ _ _ _ _ _ _ _ _ _ _ (c .before .before .before .before .before .before .before .before .before .before .before .before .before .before .before .loop .inv) (c .before .before .before .before .before .before .before .before .before .before .before .before .before .before .loop-test .taken) _ _ (c .before .before .before .before .before .before .before .before .before .before .before .before .count .ensures) (c .before .before .before .before .before .before .before .before .before .if1 .left) _ _ _ (c .before .before .before .before .before .before .test .ensures) (c .enum-told2 .given .1)
+repeat-returns-2 t c = loop-ends _ _ _ _ _ _ _ _ _ _ _ (c .before .before .before .before .before .before .before .before .before .before .before .before .before .before .before .loop .inv)
+    (c .before .before .before .before .before .before .before .before .before .before .before .before .before .before .loop-test .taken) _ _
+    (c .before .before .before .before .before .before .before .before .before .before .before .before .count .ensures)
+    (c .before .before .before .before .before .before .before .before .before .if1 .left) _ _ _ (c .before .before .before .before .before .before .test .ensures) (c .enum-told2 .given .1)
 
--- src/lib.rt:604:30
 repeat-enum-known-n : (t : ℕ) → repeat-lts.Need-enum-known-n (
   count-reads.Asked,
   count-reads.Learnt,
@@ -5399,7 +5327,6 @@ repeat-enum-known-n : (t : ℕ) → repeat-lts.Need-enum-known-n (
 ) (repeat-at t) repeat.Post repeat-Inv-loop repeat-μ-loop
 repeat-enum-known-n t c = search needs
 
--- src/lib.rt:604:39
 repeat-same-length-5 : (t : ℕ) → repeat-lts.Need-same-length-5 (
   count-reads.Asked,
   count-reads.Learnt,
@@ -5410,7 +5337,6 @@ repeat-same-length-5 : (t : ℕ) → repeat-lts.Need-same-length-5 (
 ) (repeat-at t) repeat.Post repeat-Inv-loop repeat-μ-loop
 repeat-same-length-5 t c = search needs
 
--- src/lib.rt:604:39
 repeat-same-length-6 : (t : ℕ) → repeat-lts.Need-same-length-6 (
   count-reads.Asked,
   count-reads.Learnt,
@@ -5421,7 +5347,6 @@ repeat-same-length-6 : (t : ℕ) → repeat-lts.Need-same-length-6 (
 ) (repeat-at t) repeat.Post repeat-Inv-loop repeat-μ-loop
 repeat-same-length-6 t c = search needs
 
--- src/lib.rt:604:39
 repeat-returns-3 : (t : ℕ) → repeat-lts.Need-returns-3 (
   count-reads.Asked,
   count-reads.Learnt,
@@ -5430,9 +5355,12 @@ repeat-returns-3 : (t : ℕ) → repeat-lts.Need-returns-3 (
   statement-below t,
   statement′.Post,
 ) (repeat-at t) repeat.Post repeat-Inv-loop repeat-μ-loop
-repeat-returns-3 t c = loop-stops _ _ _ _ _ _ _ _ _ _ _ (c .before .before .before .before .before .before .before .before .before .before .before .before .before .before .before .before .loop .inv) (c .before .before .before .before .before .before .before .before .before .before .before .before .before .before .before .loop-test .taken) _ _ (c .before .before .before .before .before .before .before .before .before .before .before .before .before .count .ensures) (c .before .before .before .before .before .before .before .before .before .before .if1 .left) _ _ _ (c .before .before .before .before .before .before .before .test .ensures) _ _ (c .before .n .given .1)
+repeat-returns-3 t c = loop-stops _ _ _ _ _ _ _ _ _ _ _ (c .before .before .before .before .before .before .before .before .before .before .before .before .before .before .before .before .loop
+    .inv) (c .before .before .before .before .before .before .before .before .before .before .before .before .before .before .before .loop-test .taken) _ _
+    (c .before .before .before .before .before .before .before .before .before .before .before .before .before .count .ensures)
+    (c .before .before .before .before .before .before .before .before .before .before .if1 .left) _ _ _ (c .before .before .before .before .before .before .before .test .ensures) _ _
+    (c .before .n .given .1)
 
--- src/lib.rt:606:68
 repeat-add-statement : (t : ℕ) → repeat-lts.Need-add-statement (
   count-reads.Asked,
   count-reads.Learnt,
@@ -5443,7 +5371,6 @@ repeat-add-statement : (t : ℕ) → repeat-lts.Need-add-statement (
 ) (repeat-at t) repeat.Post repeat-Inv-loop repeat-μ-loop
 repeat-add-statement t c = omega (arith, c .before .before .before .before .before .before .before .before .before .before .before .before .before .before .before .before .before .before .before .before .before .before .before .pre .1 .room)
 
--- src/lib.rt:606:15
 repeat-statement-requires : (t : ℕ) → repeat-lts.Need-statement-requires (
   count-reads.Asked,
   count-reads.Learnt,
@@ -5464,7 +5391,6 @@ repeat-enum-told-3 : (t : ℕ) → repeat-lts.Need-enum-told-3 (
 ) (repeat-at t) repeat.Post repeat-Inv-loop repeat-μ-loop
 repeat-enum-told-3 t c = search needs
 
--- src/lib.rt:596:5
 repeat-loop-less : (t : ℕ) → repeat-lts.Need-loop-less (
   count-reads.Asked,
   count-reads.Learnt,
@@ -5475,7 +5401,6 @@ repeat-loop-less : (t : ℕ) → repeat-lts.Need-loop-less (
 ) (repeat-at t) repeat.Post repeat-Inv-loop repeat-μ-loop
 repeat-loop-less t c = omega arith
 
--- src/lib.rt:596:5
 repeat-loop-again : (t : ℕ) → repeat-lts.Need-loop-again (
   count-reads.Asked,
   count-reads.Learnt,
@@ -5484,9 +5409,18 @@ repeat-loop-again : (t : ℕ) → repeat-lts.Need-loop-again (
   statement-below t,
   statement′.Post,
 ) (repeat-at t) repeat.Post repeat-Inv-loop repeat-μ-loop
-repeat-loop-again t c = loop-again _ _ _ _ _ _ _ _ _ _ _ (c .before .before .before .before .before .before .before .before .before .before .before .before .before .before .before .before .before .before .before .before .before .before .before .before .loop .inv) (c .before .before .before .before .before .before .before .before .before .before .before .before .before .before .before .before .before .before .before .before .before .before .before .loop-test .taken) _ _ (c .before .before .before .before .before .before .before .before .before .before .before .before .before .before .before .before .before .before .before .before .before .count .ensures) (c .before .before .before .before .before .before .before .before .before .before .before .before .before .before .before .before .before .before .if1 .left) _ _ _ (c .before .before .before .before .before .before .before .before .before .before .before .before .before .before .before .test .ensures) (c .before .before .before .before .before .before .before .before .before .enum-told .given .1) _ _ _ (c .before .before .before .before .before .before .statement .ensures) (let a0 = c .before .before .before .before .before .before .before .before .before .before .before .before .before .before .texts in let a1 = c .before .before .before .before .before .texts2 in omega arith) (let a0 = c .before .before .before .before .before .before .before .before .before .before .before .before .before .before .before .before .before .before .before .before .words in let a1 = c .before .before .before .before .before .before .before .before .before .before .before .before .words2 in let a2 = c .before .before .before .words3 in omega arith) (c .enum-told3 .given .1)
+repeat-loop-again t c = loop-again _ _ _ _ _ _ _ _ _ _ _ (c .before .before .before .before .before .before .before .before .before .before .before .before .before .before .before .before
+    .before .before .before .before .before .before .before .before .loop .inv)
+    (c .before .before .before .before .before .before .before .before .before .before .before .before .before .before .before .before .before .before .before .before .before .before .before
+    .loop-test .taken) _ _ (c .before .before .before .before .before .before .before .before .before .before .before .before .before .before .before .before .before .before .before .before
+    .before .count .ensures) (c .before .before .before .before .before .before .before .before .before .before .before .before .before .before .before .before .before .before .if1 .left) _ _
+    _ (c .before .before .before .before .before .before .before .before .before .before .before .before .before .before .before .test .ensures)
+    (c .before .before .before .before .before .before .before .before .before .enum-told .given .1) _ _ _ (c .before .before .before .before .before .before .statement .ensures) (let a0 =
+    c .before .before .before .before .before .before .before .before .before .before .before .before .before .before .texts in let a1 = c .before .before .before .before .before .texts2 in
+    omega arith) (let a0 = c .before .before .before .before .before .before .before .before .before .before .before .before .before .before .before .before .before .before .before .before
+    .words in let a1 = c .before .before .before .before .before .before .before .before .before .before .before .before .words2 in let a2 = c .before .before .before .words3 in
+    omega arith) (c .enum-told3 .given .1)
 
--- src/lib.rt:608:28
 repeat-enum-known-v : (t : ℕ) → repeat-lts.Need-enum-known-v (
   count-reads.Asked,
   count-reads.Learnt,
@@ -5497,7 +5431,6 @@ repeat-enum-known-v : (t : ℕ) → repeat-lts.Need-enum-known-v (
 ) (repeat-at t) repeat.Post repeat-Inv-loop repeat-μ-loop
 repeat-enum-known-v t c = search needs
 
--- src/lib.rt:608:34
 repeat-same-length-7 : (t : ℕ) → repeat-lts.Need-same-length-7 (
   count-reads.Asked,
   count-reads.Learnt,
@@ -5508,7 +5441,6 @@ repeat-same-length-7 : (t : ℕ) → repeat-lts.Need-same-length-7 (
 ) (repeat-at t) repeat.Post repeat-Inv-loop repeat-μ-loop
 repeat-same-length-7 t c = search needs
 
--- src/lib.rt:608:34
 repeat-same-length-8 : (t : ℕ) → repeat-lts.Need-same-length-8 (
   count-reads.Asked,
   count-reads.Learnt,
@@ -5519,7 +5451,6 @@ repeat-same-length-8 : (t : ℕ) → repeat-lts.Need-same-length-8 (
 ) (repeat-at t) repeat.Post repeat-Inv-loop repeat-μ-loop
 repeat-same-length-8 t c = search needs
 
--- src/lib.rt:608:34
 repeat-returns-4 : (t : ℕ) → repeat-lts.Need-returns-4 (
   count-reads.Asked,
   count-reads.Learnt,
@@ -5528,9 +5459,15 @@ repeat-returns-4 : (t : ℕ) → repeat-lts.Need-returns-4 (
   statement-below t,
   statement′.Post,
 ) (repeat-at t) repeat.Post repeat-Inv-loop repeat-μ-loop
-repeat-returns-4 t c = loop-returns _ _ _ _ _ _ _ _ _ _ _ (c .before .before .before .before .before .before .before .before .before .before .before .before .before .before .before .before .before .before .before .before .before .before .before .before .before .loop .inv) (c .before .before .before .before .before .before .before .before .before .before .before .before .before .before .before .before .before .before .before .before .before .before .before .before .loop-test .taken) _ _ (c .before .before .before .before .before .before .before .before .before .before .before .before .before .before .before .before .before .before .before .before .before .before .count .ensures) (c .before .before .before .before .before .before .before .before .before .before .before .before .before .before .before .before .before .before .before .if1 .left) _ _ _ (c .before .before .before .before .before .before .before .before .before .before .before .before .before .before .before .before .test .ensures) (c .before .before .before .before .before .before .before .before .before .before .enum-told .given .1) _ _ _ (c .before .before .before .before .before .before .before .statement .ensures) _ (c .before .v .given .1)
+repeat-returns-4 t c = loop-returns _ _ _ _ _ _ _ _ _ _ _ (c .before .before .before .before .before .before .before .before .before .before .before .before .before .before .before .before
+    .before .before .before .before .before .before .before .before .before .loop .inv)
+    (c .before .before .before .before .before .before .before .before .before .before .before .before .before .before .before .before .before .before .before .before .before .before .before
+    .before .loop-test .taken) _ _ (c .before .before .before .before .before .before .before .before .before .before .before .before .before .before .before .before .before .before .before
+    .before .before .before .count .ensures) (c .before .before .before .before .before .before .before .before .before .before .before .before .before .before .before .before .before .before
+    .before .if1 .left) _ _ _ (c .before .before .before .before .before .before .before .before .before .before .before .before .before .before .before .before .test .ensures)
+    (c .before .before .before .before .before .before .before .before .before .before .enum-told .given .1) _ _ _
+    (c .before .before .before .before .before .before .before .statement .ensures) _ (c .before .v .given .1)
 
--- src/lib.rt:609:27
 repeat-enum-known-n-2 : (t : ℕ) → repeat-lts.Need-enum-known-n-2 (
   count-reads.Asked,
   count-reads.Learnt,
@@ -5541,7 +5478,6 @@ repeat-enum-known-n-2 : (t : ℕ) → repeat-lts.Need-enum-known-n-2 (
 ) (repeat-at t) repeat.Post repeat-Inv-loop repeat-μ-loop
 repeat-enum-known-n-2 t c = search needs
 
--- src/lib.rt:609:36
 repeat-same-length-9 : (t : ℕ) → repeat-lts.Need-same-length-9 (
   count-reads.Asked,
   count-reads.Learnt,
@@ -5552,7 +5488,6 @@ repeat-same-length-9 : (t : ℕ) → repeat-lts.Need-same-length-9 (
 ) (repeat-at t) repeat.Post repeat-Inv-loop repeat-μ-loop
 repeat-same-length-9 t c = search needs
 
--- src/lib.rt:609:36
 repeat-same-length-10 : (t : ℕ) → repeat-lts.Need-same-length-10 (
   count-reads.Asked,
   count-reads.Learnt,
@@ -5563,7 +5498,6 @@ repeat-same-length-10 : (t : ℕ) → repeat-lts.Need-same-length-10 (
 ) (repeat-at t) repeat.Post repeat-Inv-loop repeat-μ-loop
 repeat-same-length-10 t c = search needs
 
--- src/lib.rt:609:36
 repeat-returns-5 : (t : ℕ) → repeat-lts.Need-returns-5 (
   count-reads.Asked,
   count-reads.Learnt,
@@ -5572,9 +5506,15 @@ repeat-returns-5 : (t : ℕ) → repeat-lts.Need-returns-5 (
   statement-below t,
   statement′.Post,
 ) (repeat-at t) repeat.Post repeat-Inv-loop repeat-μ-loop
-repeat-returns-5 t c = loop-fails _ _ _ _ _ _ _ _ _ _ _ (c .before .before .before .before .before .before .before .before .before .before .before .before .before .before .before .before .before .before .before .before .before .before .before .before .before .loop .inv) (c .before .before .before .before .before .before .before .before .before .before .before .before .before .before .before .before .before .before .before .before .before .before .before .before .loop-test .taken) _ _ (c .before .before .before .before .before .before .before .before .before .before .before .before .before .before .before .before .before .before .before .before .before .before .count .ensures) (c .before .before .before .before .before .before .before .before .before .before .before .before .before .before .before .before .before .before .before .if1 .left) _ _ _ (c .before .before .before .before .before .before .before .before .before .before .before .before .before .before .before .before .test .ensures) (c .before .before .before .before .before .before .before .before .before .before .enum-told .given .1) _ _ _ (c .before .before .before .before .before .before .before .statement .ensures) _ _ (c .before .n2 .given .1)
+repeat-returns-5 t c = loop-fails _ _ _ _ _ _ _ _ _ _ _ (c .before .before .before .before .before .before .before .before .before .before .before .before .before .before .before .before
+    .before .before .before .before .before .before .before .before .before .loop .inv)
+    (c .before .before .before .before .before .before .before .before .before .before .before .before .before .before .before .before .before .before .before .before .before .before .before
+    .before .loop-test .taken) _ _ (c .before .before .before .before .before .before .before .before .before .before .before .before .before .before .before .before .before .before .before
+    .before .before .before .count .ensures) (c .before .before .before .before .before .before .before .before .before .before .before .before .before .before .before .before .before .before
+    .before .if1 .left) _ _ _ (c .before .before .before .before .before .before .before .before .before .before .before .before .before .before .before .before .test .ensures)
+    (c .before .before .before .before .before .before .before .before .before .before .enum-told .given .1) _ _ _
+    (c .before .before .before .before .before .before .before .statement .ensures) _ _ (c .before .n2 .given .1)
 
--- src/lib.rt:581:1
 repeat-same-length-11 : (t : ℕ) → repeat-lts.Need-same-length-11 (
   count-reads.Asked,
   count-reads.Learnt,
@@ -5585,7 +5525,6 @@ repeat-same-length-11 : (t : ℕ) → repeat-lts.Need-same-length-11 (
 ) (repeat-at t) repeat.Post repeat-Inv-loop repeat-μ-loop
 repeat-same-length-11 t c = search needs
 
--- src/lib.rt:581:1
 repeat-same-length-12 : (t : ℕ) → repeat-lts.Need-same-length-12 (
   count-reads.Asked,
   count-reads.Learnt,
@@ -5596,7 +5535,6 @@ repeat-same-length-12 : (t : ℕ) → repeat-lts.Need-same-length-12 (
 ) (repeat-at t) repeat.Post repeat-Inv-loop repeat-μ-loop
 repeat-same-length-12 t c = search needs
 
--- src/lib.rt:581:1
 repeat-returns-6 : (t : ℕ) → repeat-lts.Need-returns-6 (
   count-reads.Asked,
   count-reads.Learnt,
@@ -5607,7 +5545,6 @@ repeat-returns-6 : (t : ℕ) → repeat-lts.Need-returns-6 (
 ) (repeat-at t) repeat.Post repeat-Inv-loop repeat-μ-loop
 repeat-returns-6 t c = loop-short _ _ _ _ _ _ _ _ _ _ _ (c .before .loop .inv) (omega arith)
 
--- src/lib.rt:356:9
 simple-last-of-requires : (t : ℕ) → simple-lts.Need-last-of-requires (
   last-of-reads.Asked,
   last-of-reads.Learnt,
@@ -5630,7 +5567,6 @@ simple-last-of-requires : (t : ℕ) → simple-lts.Need-last-of-requires (
 ) (simple-at t) simple.Post
 simple-last-of-requires t c κs = omega (arith, c .before .before .before .before .pre .1 .room)
 
--- src/lib.rt:357:9
 simple-fast-value-requires : (t : ℕ) → simple-lts.Need-fast-value-requires (
   last-of-reads.Asked,
   last-of-reads.Learnt,
@@ -5653,7 +5589,6 @@ simple-fast-value-requires : (t : ℕ) → simple-lts.Need-fast-value-requires (
 ) (simple-at t) simple.Post
 simple-fast-value-requires t c κs = omega (arith, c .before .before .before .before .before .before .pre .1 .lent .lent .room .words)
 
--- src/lib.rt:359:12
 simple-tag-of-requires : (t : ℕ) → simple-lts.Need-tag-of-requires (
   last-of-reads.Asked,
   last-of-reads.Learnt,
@@ -5676,7 +5611,6 @@ simple-tag-of-requires : (t : ℕ) → simple-lts.Need-tag-of-requires (
 ) (simple-at t) simple.Post
 simple-tag-of-requires t c κs = search needs
 
--- src/lib.rt:360:54
 simple-extra-of-requires : (t : ℕ) → simple-lts.Need-extra-of-requires (
   last-of-reads.Asked,
   last-of-reads.Learnt,
@@ -5699,7 +5633,6 @@ simple-extra-of-requires : (t : ℕ) → simple-lts.Need-extra-of-requires (
 ) (simple-at t) simple.Post
 simple-extra-of-requires t c κs = search needs
 
--- src/lib.rt:360:17
 simple-put-word-requires : (t : ℕ) → simple-lts.Need-put-word-requires (
   last-of-reads.Asked,
   last-of-reads.Learnt,
@@ -5722,7 +5655,6 @@ simple-put-word-requires : (t : ℕ) → simple-lts.Need-put-word-requires (
 ) (simple-at t) simple.Post
 simple-put-word-requires t c κs = (let b = c .before .before .before .before .before .before .words in omega (arith, c .before .before .before .before .before .before .before .before .before .before .before .before .before .before .pre .1 .lent .lent .room .words), no-shape _ _ _ _ _ _ _ _ (c .before .before .before .before .before .before .before .fast-value .ensures) (c .before .before .before .before .before .before .before .before .before .before .before .before .before .before .pre .1 .lent) (c .before .before .before .before .if1 .taken))
 
--- src/lib.rt:361:13
 simple-same-length : (t : ℕ) → simple-lts.Need-same-length (
   last-of-reads.Asked,
   last-of-reads.Learnt,
@@ -5745,7 +5677,6 @@ simple-same-length : (t : ℕ) → simple-lts.Need-same-length (
 ) (simple-at t) simple.Post
 simple-same-length t c = search needs
 
--- src/lib.rt:361:13
 simple-returns : (t : ℕ) → simple-lts.Need-returns (
   last-of-reads.Asked,
   last-of-reads.Learnt,
@@ -5766,9 +5697,13 @@ simple-returns : (t : ℕ) → simple-lts.Need-returns (
   finish-reads.Asked,
   finish-reads.Learnt,
 ) (simple-at t) simple.Post
-simple-returns t c = simple-fast _ _ _ _ _ _ _ _ _ _ (c .before .before .before .before .before .before .before .before .before .before .fast-value .ensures) (c .before .before .before .before .before .before .before .before .before .before .before .before .before .before .before .before .before .pre .1 .lent) (c .before .before .before .before .before .before .before .if1 .taken) _ _ _ _ (c .before .before .before .before .before .before .before .before .before .before .before .before .last-of .ensures .0) (is-assignment _ _ _ _ _ _ (c .before .before .before .before .before .before .tag-of .ensures) _ _ _ (c .before .before .before .before .before .if2 .taken) (c .before .before .before .extra-of .ensures .0) (c .before .before .put-word .ensures))
+simple-returns t c = simple-fast _ _ _ _ _ _ _ _ _ _ (c .before .before .before .before .before .before .before .before .before .before .fast-value .ensures)
+    (c .before .before .before .before .before .before .before .before .before .before .before .before .before .before .before .before .before .pre .1 .lent)
+    (c .before .before .before .before .before .before .before .if1 .taken) _ _ _ _
+    (c .before .before .before .before .before .before .before .before .before .before .before .before .last-of .ensures .0)
+    (is-assignment _ _ _ _ _ _ (c .before .before .before .before .before .before .tag-of .ensures) _ _ _ (c .before .before .before .before .before .if2 .taken)
+    (c .before .before .before .extra-of .ensures .0) (c .before .before .put-word .ensures))
 
--- src/lib.rt:363:9
 simple-pass-on-requires : (t : ℕ) → simple-lts.Need-pass-on-requires (
   last-of-reads.Asked,
   last-of-reads.Learnt,
@@ -5791,7 +5726,6 @@ simple-pass-on-requires : (t : ℕ) → simple-lts.Need-pass-on-requires (
 ) (simple-at t) simple.Post
 simple-pass-on-requires t c κs = λ q. c .if2 .left (c .before .tag-of .ensures ∙ q)
 
--- src/lib.rt:363:9
 simple-same-length-2 : (t : ℕ) → simple-lts.Need-same-length-2 (
   last-of-reads.Asked,
   last-of-reads.Learnt,
@@ -5814,7 +5748,6 @@ simple-same-length-2 : (t : ℕ) → simple-lts.Need-same-length-2 (
 ) (simple-at t) simple.Post
 simple-same-length-2 t c = search needs
 
--- src/lib.rt:363:9
 simple-returns-2 : (t : ℕ) → simple-lts.Need-returns-2 (
   last-of-reads.Asked,
   last-of-reads.Learnt,
@@ -5835,9 +5768,10 @@ simple-returns-2 : (t : ℕ) → simple-lts.Need-returns-2 (
   finish-reads.Asked,
   finish-reads.Learnt,
 ) (simple-at t) simple.Post
-simple-returns-2 t c = simple-fast _ _ _ _ _ _ _ _ _ _ (c .before .before .before .before .before .before .fast-value .ensures) (c .before .before .before .before .before .before .before .before .before .before .before .before .before .pre .1 .lent) (c .before .before .before .if1 .taken) _ _ _ _ (c .before .before .before .before .before .before .before .before .last-of .ensures .0) (c .pass-on .ensures _ _ _)
+simple-returns-2 t c = simple-fast _ _ _ _ _ _ _ _ _ _ (c .before .before .before .before .before .before .fast-value .ensures)
+    (c .before .before .before .before .before .before .before .before .before .before .before .before .before .pre .1 .lent) (c .before .before .before .if1 .taken) _ _ _ _
+    (c .before .before .before .before .before .before .before .before .last-of .ensures .0) (c .pass-on .ensures _ _ _)
 
--- src/lib.rt:365:11
 simple-expression-requires : (t : ℕ) → simple-lts.Need-expression-requires (
   last-of-reads.Asked,
   last-of-reads.Learnt,
@@ -5860,7 +5794,6 @@ simple-expression-requires : (t : ℕ) → simple-lts.Need-expression-requires (
 ) (simple-at t) simple.Post
 simple-expression-requires t c κs = (omega arith, slow-lent _ _ _ _ _ _ (c .before .before .before .before .before .fast-value .ensures) (c .before .before .if1 .left) (c .before .before .before .before .before .before .before .before .before .before .before .before .pre .1 .lent))
 
--- src/lib.rt:366:22
 simple-enum-known-v : (t : ℕ) → simple-lts.Need-enum-known-v (
   last-of-reads.Asked,
   last-of-reads.Learnt,
@@ -5883,7 +5816,6 @@ simple-enum-known-v : (t : ℕ) → simple-lts.Need-enum-known-v (
 ) (simple-at t) simple.Post
 simple-enum-known-v t c = search needs
 
--- src/lib.rt:366:68
 simple-pack-requires : (t : ℕ) → simple-lts.Need-pack-requires (
   last-of-reads.Asked,
   last-of-reads.Learnt,
@@ -5906,7 +5838,6 @@ simple-pack-requires : (t : ℕ) → simple-lts.Need-pack-requires (
 ) (simple-at t) simple.Post
 simple-pack-requires t c κs = search needs
 
--- src/lib.rt:366:34
 simple-finish-requires : (t : ℕ) → simple-lts.Need-finish-requires (
   last-of-reads.Asked,
   last-of-reads.Learnt,
@@ -5927,9 +5858,10 @@ simple-finish-requires : (t : ℕ) → simple-lts.Need-finish-requires (
   finish-reads.Asked,
   finish-reads.Learnt,
 ) (simple-at t) simple.Post
-simple-finish-requires t c κs = still-room _ _ _ _ _ (c .before .before .before .before .before .before .before .before .before .before .before .before .before .before .before .before .before .before .before .before .before .before .pre .1 .lent) (let a0 = c .before .before .before .before .before .before .before .before .before .before .before .before .before .before .words in let a1 = c .before .before .before .before .before .before .words3 in omega arith)
+simple-finish-requires t c κs = still-room _ _ _ _ _ (c .before .before .before .before .before .before .before .before .before .before .before .before .before .before .before .before .before
+    .before .before .before .before .before .pre .1 .lent) (let a0 = c .before .before .before .before .before .before .before .before .before .before .before .before .before .before .words in
+    let a1 = c .before .before .before .before .before .before .words3 in omega arith)
 
--- src/lib.rt:367:29
 simple-enum-told : (t : ℕ) → simple-lts.Need-enum-told (
   last-of-reads.Asked,
   last-of-reads.Learnt,
@@ -5952,7 +5884,6 @@ simple-enum-told : (t : ℕ) → simple-lts.Need-enum-told (
 ) (simple-at t) simple.Post
 simple-enum-told t c = search needs
 
--- src/lib.rt:368:28
 simple-enum-known-u : (t : ℕ) → simple-lts.Need-enum-known-u (
   last-of-reads.Asked,
   last-of-reads.Learnt,
@@ -5975,7 +5906,6 @@ simple-enum-known-u : (t : ℕ) → simple-lts.Need-enum-known-u (
 ) (simple-at t) simple.Post
 simple-enum-known-u t c = search needs
 
--- src/lib.rt:369:27
 simple-enum-known-n : (t : ℕ) → simple-lts.Need-enum-known-n (
   last-of-reads.Asked,
   last-of-reads.Learnt,
@@ -5998,7 +5928,6 @@ simple-enum-known-n : (t : ℕ) → simple-lts.Need-enum-known-n (
 ) (simple-at t) simple.Post
 simple-enum-known-n t c = search needs
 
--- src/lib.rt:371:21
 simple-enum-known-n-2 : (t : ℕ) → simple-lts.Need-enum-known-n-2 (
   last-of-reads.Asked,
   last-of-reads.Learnt,
@@ -6021,7 +5950,6 @@ simple-enum-known-n-2 : (t : ℕ) → simple-lts.Need-enum-known-n-2 (
 ) (simple-at t) simple.Post
 simple-enum-known-n-2 t c = search needs
 
--- src/lib.rt:341:1
 simple-same-length-3 : (t : ℕ) → simple-lts.Need-same-length-3 (
   last-of-reads.Asked,
   last-of-reads.Learnt,
@@ -6044,7 +5972,6 @@ simple-same-length-3 : (t : ℕ) → simple-lts.Need-same-length-3 (
 ) (simple-at t) simple.Post
 simple-same-length-3 t c = search needs
 
--- src/lib.rt:341:1
 simple-same-length-4 : (t : ℕ) → simple-lts.Need-same-length-4 (
   last-of-reads.Asked,
   last-of-reads.Learnt,
@@ -6067,7 +5994,6 @@ simple-same-length-4 : (t : ℕ) → simple-lts.Need-same-length-4 (
 ) (simple-at t) simple.Post
 simple-same-length-4 t c = search needs
 
--- src/lib.rt:341:1
 simple-returns-3 : (t : ℕ) → simple-lts.Need-returns-3 (
   last-of-reads.Asked,
   last-of-reads.Learnt,
@@ -6088,9 +6014,13 @@ simple-returns-3 : (t : ℕ) → simple-lts.Need-returns-3 (
   finish-reads.Asked,
   finish-reads.Learnt,
 ) (simple-at t) simple.Post
-simple-returns-3 t c = simple-done _ _ _ _ _ _ _ _ _ _ (c .before .before .before .before .before .before .before .before .before .before .before .before .before .before .before .before .before .before .before .before .fast-value .ensures) (c .before .before .before .before .before .before .before .before .before .before .before .before .before .before .before .before .before .if1 .left) _ _ _ (c .before .before .before .before .before .before .before .before .before .before .before .before .before .before .expression .ensures) _ _ _ _ _ _ _ (c .before .before .before .before .before .before .before .before .before .before .before .before .before .before .before .before .before .before .before .before .before .before .last-of .ensures .0) (c .before .before .before .before .before .before .before .before .v .given .1) (c .before .before .before .before .before .pack .ensures) (c .before .before .before .before .finish .ensures) (c .enum-told .given .1)
+simple-returns-3 t c = simple-done _ _ _ _ _ _ _ _ _ _ (c .before .before .before .before .before .before .before .before .before .before .before .before .before .before .before .before
+    .before .before .before .before .fast-value .ensures) (c .before .before .before .before .before .before .before .before .before .before .before .before .before .before .before .before
+    .before .if1 .left) _ _ _ (c .before .before .before .before .before .before .before .before .before .before .before .before .before .before .expression .ensures) _ _ _ _ _ _ _
+    (c .before .before .before .before .before .before .before .before .before .before .before .before .before .before .before .before .before .before .before .before .before .before .last-of
+    .ensures .0) (c .before .before .before .before .before .before .before .before .v .given .1) (c .before .before .before .before .before .pack .ensures)
+    (c .before .before .before .before .finish .ensures) (c .enum-told .given .1)
 
--- src/lib.rt:341:1
 simple-same-length-5 : (t : ℕ) → simple-lts.Need-same-length-5 (
   last-of-reads.Asked,
   last-of-reads.Learnt,
@@ -6113,7 +6043,6 @@ simple-same-length-5 : (t : ℕ) → simple-lts.Need-same-length-5 (
 ) (simple-at t) simple.Post
 simple-same-length-5 t c = search needs
 
--- src/lib.rt:341:1
 simple-same-length-6 : (t : ℕ) → simple-lts.Need-same-length-6 (
   last-of-reads.Asked,
   last-of-reads.Learnt,
@@ -6136,7 +6065,6 @@ simple-same-length-6 : (t : ℕ) → simple-lts.Need-same-length-6 (
 ) (simple-at t) simple.Post
 simple-same-length-6 t c = search needs
 
--- src/lib.rt:341:1
 simple-returns-4 : (t : ℕ) → simple-lts.Need-returns-4 (
   last-of-reads.Asked,
   last-of-reads.Learnt,
@@ -6157,9 +6085,13 @@ simple-returns-4 : (t : ℕ) → simple-lts.Need-returns-4 (
   finish-reads.Asked,
   finish-reads.Learnt,
 ) (simple-at t) simple.Post
-simple-returns-4 t c = simple-done _ _ _ _ _ _ _ _ _ _ (c .before .before .before .before .before .before .before .before .before .before .before .before .before .before .before .before .before .before .before .before .before .fast-value .ensures) (c .before .before .before .before .before .before .before .before .before .before .before .before .before .before .before .before .before .before .if1 .left) _ _ _ (c .before .before .before .before .before .before .before .before .before .before .before .before .before .before .before .expression .ensures) _ _ _ _ _ _ _ (c .before .before .before .before .before .before .before .before .before .before .before .before .before .before .before .before .before .before .before .before .before .before .before .last-of .ensures .0) (c .before .before .before .before .before .before .before .before .before .v .given .1) (c .before .before .before .before .before .before .pack .ensures) (c .before .before .before .before .before .finish .ensures) (c .before .u .given .1)
+simple-returns-4 t c = simple-done _ _ _ _ _ _ _ _ _ _ (c .before .before .before .before .before .before .before .before .before .before .before .before .before .before .before .before
+    .before .before .before .before .before .fast-value .ensures) (c .before .before .before .before .before .before .before .before .before .before .before .before .before .before .before
+    .before .before .before .if1 .left) _ _ _ (c .before .before .before .before .before .before .before .before .before .before .before .before .before .before .before .expression .ensures) _
+    _ _ _ _ _ _ (c .before .before .before .before .before .before .before .before .before .before .before .before .before .before .before .before .before .before .before .before .before
+    .before .before .last-of .ensures .0) (c .before .before .before .before .before .before .before .before .before .v .given .1)
+    (c .before .before .before .before .before .before .pack .ensures) (c .before .before .before .before .before .finish .ensures) (c .before .u .given .1)
 
--- src/lib.rt:341:1
 simple-same-length-7 : (t : ℕ) → simple-lts.Need-same-length-7 (
   last-of-reads.Asked,
   last-of-reads.Learnt,
@@ -6182,7 +6114,6 @@ simple-same-length-7 : (t : ℕ) → simple-lts.Need-same-length-7 (
 ) (simple-at t) simple.Post
 simple-same-length-7 t c = search needs
 
--- src/lib.rt:341:1
 simple-same-length-8 : (t : ℕ) → simple-lts.Need-same-length-8 (
   last-of-reads.Asked,
   last-of-reads.Learnt,
@@ -6205,7 +6136,6 @@ simple-same-length-8 : (t : ℕ) → simple-lts.Need-same-length-8 (
 ) (simple-at t) simple.Post
 simple-same-length-8 t c = search needs
 
--- src/lib.rt:341:1
 simple-returns-5 : (t : ℕ) → simple-lts.Need-returns-5 (
   last-of-reads.Asked,
   last-of-reads.Learnt,
@@ -6226,9 +6156,13 @@ simple-returns-5 : (t : ℕ) → simple-lts.Need-returns-5 (
   finish-reads.Asked,
   finish-reads.Learnt,
 ) (simple-at t) simple.Post
-simple-returns-5 t c = simple-done _ _ _ _ _ _ _ _ _ _ (c .before .before .before .before .before .before .before .before .before .before .before .before .before .before .before .before .before .before .before .before .before .fast-value .ensures) (c .before .before .before .before .before .before .before .before .before .before .before .before .before .before .before .before .before .before .if1 .left) _ _ _ (c .before .before .before .before .before .before .before .before .before .before .before .before .before .before .before .expression .ensures) _ _ _ _ _ _ _ (c .before .before .before .before .before .before .before .before .before .before .before .before .before .before .before .before .before .before .before .before .before .before .before .last-of .ensures .0) (c .before .before .before .before .before .before .before .before .before .v .given .1) (c .before .before .before .before .before .before .pack .ensures) (c .before .before .before .before .before .finish .ensures) (c .before .n .given .1)
+simple-returns-5 t c = simple-done _ _ _ _ _ _ _ _ _ _ (c .before .before .before .before .before .before .before .before .before .before .before .before .before .before .before .before
+    .before .before .before .before .before .fast-value .ensures) (c .before .before .before .before .before .before .before .before .before .before .before .before .before .before .before
+    .before .before .before .if1 .left) _ _ _ (c .before .before .before .before .before .before .before .before .before .before .before .before .before .before .before .expression .ensures) _
+    _ _ _ _ _ _ (c .before .before .before .before .before .before .before .before .before .before .before .before .before .before .before .before .before .before .before .before .before
+    .before .before .last-of .ensures .0) (c .before .before .before .before .before .before .before .before .before .v .given .1)
+    (c .before .before .before .before .before .before .pack .ensures) (c .before .before .before .before .before .finish .ensures) (c .before .n .given .1)
 
--- src/lib.rt:341:1
 simple-same-length-9 : (t : ℕ) → simple-lts.Need-same-length-9 (
   last-of-reads.Asked,
   last-of-reads.Learnt,
@@ -6251,7 +6185,6 @@ simple-same-length-9 : (t : ℕ) → simple-lts.Need-same-length-9 (
 ) (simple-at t) simple.Post
 simple-same-length-9 t c = search needs
 
--- src/lib.rt:341:1
 simple-same-length-10 : (t : ℕ) → simple-lts.Need-same-length-10 (
   last-of-reads.Asked,
   last-of-reads.Learnt,
@@ -6274,7 +6207,6 @@ simple-same-length-10 : (t : ℕ) → simple-lts.Need-same-length-10 (
 ) (simple-at t) simple.Post
 simple-same-length-10 t c = search needs
 
--- src/lib.rt:341:1
 simple-returns-6 : (t : ℕ) → simple-lts.Need-returns-6 (
   last-of-reads.Asked,
   last-of-reads.Learnt,
@@ -6295,9 +6227,11 @@ simple-returns-6 : (t : ℕ) → simple-lts.Need-returns-6 (
   finish-reads.Asked,
   finish-reads.Learnt,
 ) (simple-at t) simple.Post
-simple-returns-6 t c = simple-stops _ _ _ _ _ _ _ _ _ _ (c .before .before .before .before .before .before .before .before .before .before .before .before .before .fast-value .ensures) (c .before .before .before .before .before .before .before .before .before .before .if1 .left) _ _ _ (c .before .before .before .before .before .before .before .expression .ensures) _ _ _ _ (c .before .before .before .before .before .before .before .before .before .before .before .before .before .before .before .last-of .ensures .0) (c .before .n2 .given .1)
+simple-returns-6 t c = simple-stops _ _ _ _ _ _ _ _ _ _ (c .before .before .before .before .before .before .before .before .before .before .before .before .before .fast-value .ensures)
+    (c .before .before .before .before .before .before .before .before .before .before .if1 .left) _ _ _
+    (c .before .before .before .before .before .before .before .expression .ensures) _ _ _ _
+    (c .before .before .before .before .before .before .before .before .before .before .before .before .before .before .before .last-of .ensures .0) (c .before .n2 .given .1)
 
--- src/lib.rt:466:9
 statement-returns : (t : ℕ) → statement-lts.Need-returns (
   word-at-reads.Asked,
   word-at-reads.Learnt,
@@ -6330,7 +6264,6 @@ statement-returns : (t : ℕ) → statement-lts.Need-returns (
 ) (statement-at t) statement′.Post
 statement-returns t c = search statement-too-deep
 
--- src/lib.rt:468:9
 statement-word-at-requires : (t : ℕ) → statement-lts.Need-word-at-requires (
   word-at-reads.Asked,
   word-at-reads.Learnt,
@@ -6363,7 +6296,6 @@ statement-word-at-requires : (t : ℕ) → statement-lts.Need-word-at-requires (
 ) (statement-at t) statement′.Post
 statement-word-at-requires t c κs = search needs
 
--- src/lib.rt:469:9
 statement-place-of-requires : (t : ℕ) → statement-lts.Need-place-of-requires (
   word-at-reads.Asked,
   word-at-reads.Learnt,
@@ -6396,7 +6328,6 @@ statement-place-of-requires : (t : ℕ) → statement-lts.Need-place-of-requires
 ) (statement-at t) statement′.Post
 statement-place-of-requires t c κs = search needs
 
--- src/lib.rt:470:9
 statement-tag-of-requires : (t : ℕ) → statement-lts.Need-tag-of-requires (
   word-at-reads.Asked,
   word-at-reads.Learnt,
@@ -6429,7 +6360,6 @@ statement-tag-of-requires : (t : ℕ) → statement-lts.Need-tag-of-requires (
 ) (statement-at t) statement′.Post
 statement-tag-of-requires t c κs = search needs
 
--- src/lib.rt:478:13
 statement-sub-repeat : (t : ℕ) → statement-lts.Need-sub-repeat (
   word-at-reads.Asked,
   word-at-reads.Learnt,
@@ -6462,7 +6392,6 @@ statement-sub-repeat : (t : ℕ) → statement-lts.Need-sub-repeat (
 ) (statement-at t) statement′.Post
 statement-sub-repeat t c = search needs
 
--- src/lib.rt:479:17
 statement-extra-of-requires : (t : ℕ) → statement-lts.Need-extra-of-requires (
   word-at-reads.Asked,
   word-at-reads.Learnt,
@@ -6495,7 +6424,6 @@ statement-extra-of-requires : (t : ℕ) → statement-lts.Need-extra-of-requires
 ) (statement-at t) statement′.Post
 statement-extra-of-requires t c κs = search needs
 
--- src/lib.rt:479:13
 statement-add-repeat : (t : ℕ) → statement-lts.Need-add-repeat (
   word-at-reads.Asked,
   word-at-reads.Learnt,
@@ -6528,7 +6456,6 @@ statement-add-repeat : (t : ℕ) → statement-lts.Need-add-repeat (
 ) (statement-at t) statement′.Post
 statement-add-repeat t c = omega (arith, c .before .before .before .before .before .before .before .before .before .before .before .before .pre .1 .room, c .extra-of .ensures .1)
 
--- src/lib.rt:472:13
 statement-repeat-requires : (t : ℕ) → statement-lts.Need-repeat-requires (
   word-at-reads.Asked,
   word-at-reads.Learnt,
@@ -6561,7 +6488,6 @@ statement-repeat-requires : (t : ℕ) → statement-lts.Need-repeat-requires (
 ) (statement-at t) statement′.Post
 statement-repeat-requires t c κs = (omega arith, record { lent = record { lent = c .before .before .before .before .before .before .before .before .before .before .before .before .pre .1 .lent .lent; deep = omega (arith, c .before .before .before .before .before .before .before .before .before .before .before .before .pre .1 .lent .deep) }; room = omega (arith, c .before .before .before .before .before .before .before .before .before .before .before .before .pre .1 .room, c .extra-of .ensures .1, c .before .before .before .before .before .before .before .if1 .left) })
 
--- src/lib.rt:482:9
 statement-same-length : (t : ℕ) → statement-lts.Need-same-length (
   word-at-reads.Asked,
   word-at-reads.Learnt,
@@ -6594,7 +6520,6 @@ statement-same-length : (t : ℕ) → statement-lts.Need-same-length (
 ) (statement-at t) statement′.Post
 statement-same-length t c = search needs
 
--- src/lib.rt:482:9
 statement-same-length-2 : (t : ℕ) → statement-lts.Need-same-length-2 (
   word-at-reads.Asked,
   word-at-reads.Learnt,
@@ -6627,7 +6552,6 @@ statement-same-length-2 : (t : ℕ) → statement-lts.Need-same-length-2 (
 ) (statement-at t) statement′.Post
 statement-same-length-2 t c = search needs
 
--- src/lib.rt:482:9
 statement-returns-2 : (t : ℕ) → statement-lts.Need-returns-2 (
   word-at-reads.Asked,
   word-at-reads.Learnt,
@@ -6658,9 +6582,12 @@ statement-returns-2 : (t : ℕ) → statement-lts.Need-returns-2 (
   simple-below t,
   simple.Post,
 ) (statement-at t) statement′.Post
-statement-returns-2 t c = is-loop _ _ _ _ _ _ _ (c .before .before .before .before .before .before .before .before .before .before .before .before .if1 .left) _ (c .before .before .before .before .before .before .before .before .before .before .before .word-at .ensures) _ (c .before .before .before .before .before .before .before .before .before .before .place-of .ensures) _ (c .before .before .before .before .before .before .before .before .before .tag-of .ensures) _ _ (c .before .before .before .before .before .before .before .before .if2 .taken) (c .before .before .before .before .before .extra-of .ensures .0) (c .before .before .before .before .repeat .ensures)
+statement-returns-2 t c = is-loop _ _ _ _ _ _ _ (c .before .before .before .before .before .before .before .before .before .before .before .before .if1 .left) _
+    (c .before .before .before .before .before .before .before .before .before .before .before .word-at .ensures) _
+    (c .before .before .before .before .before .before .before .before .before .before .place-of .ensures) _
+    (c .before .before .before .before .before .before .before .before .before .tag-of .ensures) _ _ (c .before .before .before .before .before .before .before .before .if2 .taken)
+    (c .before .before .before .before .before .extra-of .ensures .0) (c .before .before .before .before .repeat .ensures)
 
--- src/lib.rt:484:9
 statement-count-requires : (t : ℕ) → statement-lts.Need-count-requires (
   word-at-reads.Asked,
   word-at-reads.Learnt,
@@ -6693,7 +6620,6 @@ statement-count-requires : (t : ℕ) → statement-lts.Need-count-requires (
 ) (statement-at t) statement′.Post
 statement-count-requires t c κs = omega (arith, c .before .before .before .before .before .before .before .before .before .before .pre .1 .lent .lent .room .words)
 
--- src/lib.rt:485:9
 statement-same-length-3 : (t : ℕ) → statement-lts.Need-same-length-3 (
   word-at-reads.Asked,
   word-at-reads.Learnt,
@@ -6726,7 +6652,6 @@ statement-same-length-3 : (t : ℕ) → statement-lts.Need-same-length-3 (
 ) (statement-at t) statement′.Post
 statement-same-length-3 t c = search needs
 
--- src/lib.rt:485:9
 statement-returns-3 : (t : ℕ) → statement-lts.Need-returns-3 (
   word-at-reads.Asked,
   word-at-reads.Learnt,
@@ -6757,9 +6682,10 @@ statement-returns-3 : (t : ℕ) → statement-lts.Need-returns-3 (
   simple-below t,
   simple.Post,
 ) (statement-at t) statement′.Post
-statement-returns-3 t c = statement-no-step _ _ _ _ _ _ _ (c .before .before .before .before .before .before .before .before .before .if1 .left) _ (c .before .before .before .before .before .before .before .before .word-at .ensures) _ (c .before .before .before .before .before .before .before .place-of .ensures) _ (c .before .before .before .before .before .before .tag-of .ensures) (c .before .before .before .before .before .if2 .left) _ _ (c .before .before .before .count .ensures) (c .if3 .taken)
+statement-returns-3 t c = statement-no-step _ _ _ _ _ _ _ (c .before .before .before .before .before .before .before .before .before .if1 .left) _
+    (c .before .before .before .before .before .before .before .before .word-at .ensures) _ (c .before .before .before .before .before .before .before .place-of .ensures) _
+    (c .before .before .before .before .before .before .tag-of .ensures) (c .before .before .before .before .before .if2 .left) _ _ (c .before .before .before .count .ensures) (c .if3 .taken)
 
--- src/lib.rt:489:45
 statement-extra-of-requires-2 : (t : ℕ) → statement-lts.Need-extra-of-requires-2 (
   word-at-reads.Asked,
   word-at-reads.Learnt,
@@ -6792,7 +6718,6 @@ statement-extra-of-requires-2 : (t : ℕ) → statement-lts.Need-extra-of-requir
 ) (statement-at t) statement′.Post
 statement-extra-of-requires-2 t c κs = search needs
 
--- src/lib.rt:489:17
 statement-declare-requires : (t : ℕ) → statement-lts.Need-declare-requires (
   word-at-reads.Asked,
   word-at-reads.Learnt,
@@ -6823,9 +6748,9 @@ statement-declare-requires : (t : ℕ) → statement-lts.Need-declare-requires (
   simple-below t,
   simple.Post,
 ) (statement-at t) statement′.Post
-statement-declare-requires t c κs = let b = c .before .before .before .before .before .words2 in omega (arith, c .before .before .before .before .before .before .before .before .before .before .before .before .before .before .before .before .before .pre .1 .lent .lent .room .words)
+statement-declare-requires t c κs = let b = c .before .before .before .before .before .words2 in
+    omega (arith, c .before .before .before .before .before .before .before .before .before .before .before .before .before .before .before .before .before .pre .1 .lent .lent .room .words)
 
--- src/lib.rt:499:17
 statement-sub-update : (t : ℕ) → statement-lts.Need-sub-update (
   word-at-reads.Asked,
   word-at-reads.Learnt,
@@ -6858,7 +6783,6 @@ statement-sub-update : (t : ℕ) → statement-lts.Need-sub-update (
 ) (statement-at t) statement′.Post
 statement-sub-update t c = search needs
 
--- src/lib.rt:500:17
 statement-last-of-requires : (t : ℕ) → statement-lts.Need-last-of-requires (
   word-at-reads.Asked,
   word-at-reads.Learnt,
@@ -6891,7 +6815,6 @@ statement-last-of-requires : (t : ℕ) → statement-lts.Need-last-of-requires (
 ) (statement-at t) statement′.Post
 statement-last-of-requires t c κs = omega (arith, c .before .before .before .before .before .before .before .before .before .before .before .before .before .before .before .before .before .pre .1 .room)
 
--- src/lib.rt:493:17
 statement-update-requires : (t : ℕ) → statement-lts.Need-update-requires (
   word-at-reads.Asked,
   word-at-reads.Learnt,
@@ -6924,7 +6847,6 @@ statement-update-requires : (t : ℕ) → statement-lts.Need-update-requires (
 ) (statement-at t) statement′.Post
 statement-update-requires t c κs = (omega arith, record { lent = still-lent-words _ _ _ _ (c .before .before .before .before .before .before .before .before .before .before .before .before .before .before .before .before .before .before .pre .1 .lent .lent) (let a0 = c .before .before .before .before .before .before .words2 in omega arith); deep = omega (arith, c .before .before .before .before .before .before .before .before .before .before .before .before .before .before .before .before .before .before .pre .1 .lent .deep) })
 
--- src/lib.rt:512:17
 statement-sub-when : (t : ℕ) → statement-lts.Need-sub-when (
   word-at-reads.Asked,
   word-at-reads.Learnt,
@@ -6957,7 +6879,6 @@ statement-sub-when : (t : ℕ) → statement-lts.Need-sub-when (
 ) (statement-at t) statement′.Post
 statement-sub-when t c = search needs
 
--- src/lib.rt:513:21
 statement-extra-of-requires-3 : (t : ℕ) → statement-lts.Need-extra-of-requires-3 (
   word-at-reads.Asked,
   word-at-reads.Learnt,
@@ -6990,7 +6911,6 @@ statement-extra-of-requires-3 : (t : ℕ) → statement-lts.Need-extra-of-requir
 ) (statement-at t) statement′.Post
 statement-extra-of-requires-3 t c κs = search needs
 
--- src/lib.rt:513:17
 statement-add-when : (t : ℕ) → statement-lts.Need-add-when (
   word-at-reads.Asked,
   word-at-reads.Learnt,
@@ -7023,7 +6943,6 @@ statement-add-when : (t : ℕ) → statement-lts.Need-add-when (
 ) (statement-at t) statement′.Post
 statement-add-when t c = omega (arith, c .before .before .before .before .before .before .before .before .before .before .before .before .before .before .before .before .before .before .pre .1 .room, c .extra-of3 .ensures .1)
 
--- src/lib.rt:506:17
 statement-when-requires : (t : ℕ) → statement-lts.Need-when-requires (
   word-at-reads.Asked,
   word-at-reads.Learnt,
@@ -7056,7 +6975,6 @@ statement-when-requires : (t : ℕ) → statement-lts.Need-when-requires (
 ) (statement-at t) statement′.Post
 statement-when-requires t c κs = (omega arith, record { lent = record { lent = still-lent-words _ _ _ _ (c .before .before .before .before .before .before .before .before .before .before .before .before .before .before .before .before .before .before .pre .1 .lent .lent) (let a0 = c .before .before .before .before .before .before .words2 in omega arith); deep = omega (arith, c .before .before .before .before .before .before .before .before .before .before .before .before .before .before .before .before .before .before .pre .1 .lent .deep) }; room = omega (arith, c .before .before .before .before .before .before .before .before .before .before .before .before .before .before .before .before .before .before .pre .1 .room, c .extra-of3 .ensures .1, c .before .before .before .before .before .before .before .before .before .before .before .before .before .if1 .left) })
 
--- src/lib.rt:525:17
 statement-sub-each : (t : ℕ) → statement-lts.Need-sub-each (
   word-at-reads.Asked,
   word-at-reads.Learnt,
@@ -7089,7 +7007,6 @@ statement-sub-each : (t : ℕ) → statement-lts.Need-sub-each (
 ) (statement-at t) statement′.Post
 statement-sub-each t c = search needs
 
--- src/lib.rt:526:46
 statement-add-word-at : (t : ℕ) → statement-lts.Need-add-word-at (
   word-at-reads.Asked,
   word-at-reads.Learnt,
@@ -7122,7 +7039,6 @@ statement-add-word-at : (t : ℕ) → statement-lts.Need-add-word-at (
 ) (statement-at t) statement′.Post
 statement-add-word-at t c = omega (arith, c .before .before .before .before .before .before .before .before .before .before .before .before .before .before .before .before .before .pre .1 .room)
 
--- src/lib.rt:526:17
 statement-word-at-requires-2 : (t : ℕ) → statement-lts.Need-word-at-requires-2 (
   word-at-reads.Asked,
   word-at-reads.Learnt,
@@ -7155,7 +7071,6 @@ statement-word-at-requires-2 : (t : ℕ) → statement-lts.Need-word-at-requires
 ) (statement-at t) statement′.Post
 statement-word-at-requires-2 t c κs = search needs
 
--- src/lib.rt:527:21
 statement-extra-of-requires-4 : (t : ℕ) → statement-lts.Need-extra-of-requires-4 (
   word-at-reads.Asked,
   word-at-reads.Learnt,
@@ -7188,7 +7103,6 @@ statement-extra-of-requires-4 : (t : ℕ) → statement-lts.Need-extra-of-requir
 ) (statement-at t) statement′.Post
 statement-extra-of-requires-4 t c κs = search needs
 
--- src/lib.rt:527:17
 statement-add-each : (t : ℕ) → statement-lts.Need-add-each (
   word-at-reads.Asked,
   word-at-reads.Learnt,
@@ -7221,7 +7135,6 @@ statement-add-each : (t : ℕ) → statement-lts.Need-add-each (
 ) (statement-at t) statement′.Post
 statement-add-each t c = omega (arith, c .before .before .before .before .before .before .before .before .before .before .before .before .before .before .before .before .before .before .before .pre .1 .room, c .extra-of4 .ensures .1)
 
--- src/lib.rt:519:17
 statement-each-requires : (t : ℕ) → statement-lts.Need-each-requires (
   word-at-reads.Asked,
   word-at-reads.Learnt,
@@ -7254,7 +7167,6 @@ statement-each-requires : (t : ℕ) → statement-lts.Need-each-requires (
 ) (statement-at t) statement′.Post
 statement-each-requires t c κs = (omega arith, record { lent = record { lent = still-lent-words _ _ _ _ (c .before .before .before .before .before .before .before .before .before .before .before .before .before .before .before .before .before .before .before .pre .1 .lent .lent) (let a0 = c .before .before .before .before .before .before .before .words2 in omega arith); deep = omega (arith, c .before .before .before .before .before .before .before .before .before .before .before .before .before .before .before .before .before .before .before .pre .1 .lent .deep) }; room = omega (arith, c .before .before .before .before .before .before .before .before .before .before .before .before .before .before .before .before .before .before .before .pre .1 .room, c .extra-of4 .ensures .1, c .before .before .before .before .before .before .before .before .before .before .before .before .before .before .if1 .left) })
 
--- src/lib.rt:533:17
 statement-size-of-requires : (t : ℕ) → statement-lts.Need-size-of-requires (
   word-at-reads.Asked,
   word-at-reads.Learnt,
@@ -7287,7 +7199,6 @@ statement-size-of-requires : (t : ℕ) → statement-lts.Need-size-of-requires (
 ) (statement-at t) statement′.Post
 statement-size-of-requires t c κs = search needs
 
--- src/lib.rt:540:17
 statement-sub-statements : (t : ℕ) → statement-lts.Need-sub-statements (
   word-at-reads.Asked,
   word-at-reads.Learnt,
@@ -7320,7 +7231,6 @@ statement-sub-statements : (t : ℕ) → statement-lts.Need-sub-statements (
 ) (statement-at t) statement′.Post
 statement-sub-statements t c = search needs
 
--- src/lib.rt:541:17
 statement-add-statements : (t : ℕ) → statement-lts.Need-add-statements (
   word-at-reads.Asked,
   word-at-reads.Learnt,
@@ -7353,7 +7263,6 @@ statement-add-statements : (t : ℕ) → statement-lts.Need-add-statements (
 ) (statement-at t) statement′.Post
 statement-add-statements t c = omega (arith, c .before .before .before .before .before .before .before .before .before .before .before .before .before .before .before .before .before .before .pre .1 .room, c .before .before .size-of .ensures, c .before .before .before .before .before .before .before .before .before .before .before .before .before .if1 .left)
 
--- src/lib.rt:542:17
 statement-add-statements-2 : (t : ℕ) → statement-lts.Need-add-statements-2 (
   word-at-reads.Asked,
   word-at-reads.Learnt,
@@ -7386,7 +7295,6 @@ statement-add-statements-2 : (t : ℕ) → statement-lts.Need-add-statements-2 (
 ) (statement-at t) statement′.Post
 statement-add-statements-2 t c = omega (arith, c .before .before .before .before .before .before .before .before .before .before .before .before .before .before .before .before .before .before .pre .1 .room, c .before .before .size-of .ensures, c .before .before .before .before .before .before .before .before .before .before .before .before .before .if1 .left)
 
--- src/lib.rt:543:17
 statement-add-statements-3 : (t : ℕ) → statement-lts.Need-add-statements-3 (
   word-at-reads.Asked,
   word-at-reads.Learnt,
@@ -7419,7 +7327,6 @@ statement-add-statements-3 : (t : ℕ) → statement-lts.Need-add-statements-3 (
 ) (statement-at t) statement′.Post
 statement-add-statements-3 t c = omega (arith, c .before .before .before .before .before .before .before .before .before .before .before .before .before .before .before .before .before .before .pre .1 .room, c .before .before .size-of .ensures, c .before .before .before .before .before .before .before .before .before .before .before .before .before .if1 .left)
 
--- src/lib.rt:534:17
 statement-statements-requires : (t : ℕ) → statement-lts.Need-statements-requires (
   word-at-reads.Asked,
   word-at-reads.Learnt,
@@ -7452,7 +7359,6 @@ statement-statements-requires : (t : ℕ) → statement-lts.Need-statements-requ
 ) (statement-at t) statement′.Post
 statement-statements-requires t c κs = (omega arith, record { lent = record { lent = still-lent-words _ _ _ _ (c .before .before .before .before .before .before .before .before .before .before .before .before .before .before .before .before .before .before .pre .1 .lent .lent) (let a0 = c .before .before .before .before .before .before .words2 in omega arith); deep = omega (arith, c .before .before .before .before .before .before .before .before .before .before .before .before .before .before .before .before .before .before .pre .1 .lent .deep) }; room = omega (arith, c .before .before .before .before .before .before .before .before .before .before .before .before .before .before .before .before .before .before .pre .1 .room, c .before .before .size-of .ensures, c .before .before .before .before .before .before .before .before .before .before .before .before .before .if1 .left) })
 
--- src/lib.rt:548:65
 statement-sub-simple : (t : ℕ) → statement-lts.Need-sub-simple (
   word-at-reads.Asked,
   word-at-reads.Learnt,
@@ -7485,7 +7391,6 @@ statement-sub-simple : (t : ℕ) → statement-lts.Need-sub-simple (
 ) (statement-at t) statement′.Post
 statement-sub-simple t c = search needs
 
--- src/lib.rt:548:17
 statement-simple-requires : (t : ℕ) → statement-lts.Need-simple-requires (
   word-at-reads.Asked,
   word-at-reads.Learnt,
@@ -7518,7 +7423,6 @@ statement-simple-requires : (t : ℕ) → statement-lts.Need-simple-requires (
 ) (statement-at t) statement′.Post
 statement-simple-requires t c κs = (omega arith, record { lent = record { lent = still-lent-words _ _ _ _ (c .before .before .before .before .before .before .before .before .before .before .before .before .before .before .before .before .before .pre .1 .lent .lent) (let a0 = c .before .before .before .before .before .words2 in omega arith); deep = omega (arith, c .before .before .before .before .before .before .before .before .before .before .before .before .before .before .before .before .before .pre .1 .lent .deep) }; room = omega (arith, c .before .before .before .before .before .before .before .before .before .before .before .before .before .before .before .before .before .pre .1 .room) })
 
--- src/lib.rt:452:1
 statement-same-length-4 : (t : ℕ) → statement-lts.Need-same-length-4 (
   word-at-reads.Asked,
   word-at-reads.Learnt,
@@ -7551,7 +7455,6 @@ statement-same-length-4 : (t : ℕ) → statement-lts.Need-same-length-4 (
 ) (statement-at t) statement′.Post
 statement-same-length-4 t c = search needs
 
--- src/lib.rt:452:1
 statement-returns-4 : (t : ℕ) → statement-lts.Need-returns-4 (
   word-at-reads.Asked,
   word-at-reads.Learnt,
@@ -7582,9 +7485,14 @@ statement-returns-4 : (t : ℕ) → statement-lts.Need-returns-4 (
   simple-below t,
   simple.Post,
 ) (statement-at t) statement′.Post
-statement-returns-4 t c = is-declaration _ _ _ _ _ _ _ (c .before .before .before .before .before .before .before .before .before .before .before .before .before .before .before .if1 .left) _ (c .before .before .before .before .before .before .before .before .before .before .before .before .before .before .word-at .ensures) _ (c .before .before .before .before .before .before .before .before .before .before .before .before .before .place-of .ensures) _ (c .before .before .before .before .before .before .before .before .before .before .before .before .tag-of .ensures) (c .before .before .before .before .before .before .before .before .before .before .before .if2 .left) _ _ (c .before .before .before .before .before .before .before .before .before .count .ensures) (c .before .before .before .before .before .before .if3 .left) _ _ _ (c .before .before .before .before .before .match .keys1) (c .before .before .before .extra-of2 .ensures .0) (c .before .before .declare .ensures)
+statement-returns-4 t c = is-declaration _ _ _ _ _ _ _ (c .before .before .before .before .before .before .before .before .before .before .before .before .before .before .before .if1 .left) _
+    (c .before .before .before .before .before .before .before .before .before .before .before .before .before .before .word-at .ensures) _
+    (c .before .before .before .before .before .before .before .before .before .before .before .before .before .place-of .ensures) _
+    (c .before .before .before .before .before .before .before .before .before .before .before .before .tag-of .ensures)
+    (c .before .before .before .before .before .before .before .before .before .before .before .if2 .left) _ _
+    (c .before .before .before .before .before .before .before .before .before .count .ensures) (c .before .before .before .before .before .before .if3 .left) _ _ _
+    (c .before .before .before .before .before .match .keys1) (c .before .before .before .extra-of2 .ensures .0) (c .before .before .declare .ensures)
 
--- src/lib.rt:452:1
 statement-same-length-5 : (t : ℕ) → statement-lts.Need-same-length-5 (
   word-at-reads.Asked,
   word-at-reads.Learnt,
@@ -7617,7 +7525,6 @@ statement-same-length-5 : (t : ℕ) → statement-lts.Need-same-length-5 (
 ) (statement-at t) statement′.Post
 statement-same-length-5 t c = search needs
 
--- src/lib.rt:452:1
 statement-same-length-6 : (t : ℕ) → statement-lts.Need-same-length-6 (
   word-at-reads.Asked,
   word-at-reads.Learnt,
@@ -7650,7 +7557,6 @@ statement-same-length-6 : (t : ℕ) → statement-lts.Need-same-length-6 (
 ) (statement-at t) statement′.Post
 statement-same-length-6 t c = search needs
 
--- src/lib.rt:452:1
 statement-returns-5 : (t : ℕ) → statement-lts.Need-returns-5 (
   word-at-reads.Asked,
   word-at-reads.Learnt,
@@ -7681,9 +7587,15 @@ statement-returns-5 : (t : ℕ) → statement-lts.Need-returns-5 (
   simple-below t,
   simple.Post,
 ) (statement-at t) statement′.Post
-statement-returns-5 t c = is-update _ _ _ _ _ _ _ (c .before .before .before .before .before .before .before .before .before .before .before .before .before .before .before .before .before .before .if1 .left) _ (c .before .before .before .before .before .before .before .before .before .before .before .before .before .before .before .before .before .word-at .ensures) _ (c .before .before .before .before .before .before .before .before .before .before .before .before .before .before .before .before .place-of .ensures) _ (c .before .before .before .before .before .before .before .before .before .before .before .before .before .before .before .tag-of .ensures) (c .before .before .before .before .before .before .before .before .before .before .before .before .before .before .if2 .left) _ _ (c .before .before .before .before .before .before .before .before .before .before .before .before .count .ensures) (c .before .before .before .before .before .before .before .before .before .if3 .left) _ _ (c .before .before .before .before .before .before .before .before .match .keys2) (c .before .before .before .before .before .last-of .ensures .0) (c .before .before .before .before .update .ensures)
+statement-returns-5 t c = is-update _ _ _ _ _ _ _ (c .before .before .before .before .before .before .before .before .before .before .before .before .before .before .before .before .before
+    .before .if1 .left) _ (c .before .before .before .before .before .before .before .before .before .before .before .before .before .before .before .before .before .word-at .ensures) _
+    (c .before .before .before .before .before .before .before .before .before .before .before .before .before .before .before .before .place-of .ensures) _
+    (c .before .before .before .before .before .before .before .before .before .before .before .before .before .before .before .tag-of .ensures)
+    (c .before .before .before .before .before .before .before .before .before .before .before .before .before .before .if2 .left) _ _
+    (c .before .before .before .before .before .before .before .before .before .before .before .before .count .ensures)
+    (c .before .before .before .before .before .before .before .before .before .if3 .left) _ _ (c .before .before .before .before .before .before .before .before .match .keys2)
+    (c .before .before .before .before .before .last-of .ensures .0) (c .before .before .before .before .update .ensures)
 
--- src/lib.rt:452:1
 statement-same-length-7 : (t : ℕ) → statement-lts.Need-same-length-7 (
   word-at-reads.Asked,
   word-at-reads.Learnt,
@@ -7716,7 +7628,6 @@ statement-same-length-7 : (t : ℕ) → statement-lts.Need-same-length-7 (
 ) (statement-at t) statement′.Post
 statement-same-length-7 t c = search needs
 
--- src/lib.rt:452:1
 statement-same-length-8 : (t : ℕ) → statement-lts.Need-same-length-8 (
   word-at-reads.Asked,
   word-at-reads.Learnt,
@@ -7749,7 +7660,6 @@ statement-same-length-8 : (t : ℕ) → statement-lts.Need-same-length-8 (
 ) (statement-at t) statement′.Post
 statement-same-length-8 t c = search needs
 
--- src/lib.rt:452:1
 statement-returns-6 : (t : ℕ) → statement-lts.Need-returns-6 (
   word-at-reads.Asked,
   word-at-reads.Learnt,
@@ -7780,9 +7690,15 @@ statement-returns-6 : (t : ℕ) → statement-lts.Need-returns-6 (
   simple-below t,
   simple.Post,
 ) (statement-at t) statement′.Post
-statement-returns-6 t c = is-when _ _ _ _ _ _ _ (c .before .before .before .before .before .before .before .before .before .before .before .before .before .before .before .before .before .before .if1 .left) _ (c .before .before .before .before .before .before .before .before .before .before .before .before .before .before .before .before .before .word-at .ensures) _ (c .before .before .before .before .before .before .before .before .before .before .before .before .before .before .before .before .place-of .ensures) _ (c .before .before .before .before .before .before .before .before .before .before .before .before .before .before .before .tag-of .ensures) (c .before .before .before .before .before .before .before .before .before .before .before .before .before .before .if2 .left) _ _ (c .before .before .before .before .before .before .before .before .before .before .before .before .count .ensures) (c .before .before .before .before .before .before .before .before .before .if3 .left) _ _ (c .before .before .before .before .before .before .before .before .match .keys3) (c .before .before .before .before .before .extra-of3 .ensures .0) (c .before .before .before .before .when .ensures)
+statement-returns-6 t c = is-when _ _ _ _ _ _ _ (c .before .before .before .before .before .before .before .before .before .before .before .before .before .before .before .before .before
+    .before .if1 .left) _ (c .before .before .before .before .before .before .before .before .before .before .before .before .before .before .before .before .before .word-at .ensures) _
+    (c .before .before .before .before .before .before .before .before .before .before .before .before .before .before .before .before .place-of .ensures) _
+    (c .before .before .before .before .before .before .before .before .before .before .before .before .before .before .before .tag-of .ensures)
+    (c .before .before .before .before .before .before .before .before .before .before .before .before .before .before .if2 .left) _ _
+    (c .before .before .before .before .before .before .before .before .before .before .before .before .count .ensures)
+    (c .before .before .before .before .before .before .before .before .before .if3 .left) _ _ (c .before .before .before .before .before .before .before .before .match .keys3)
+    (c .before .before .before .before .before .extra-of3 .ensures .0) (c .before .before .before .before .when .ensures)
 
--- src/lib.rt:452:1
 statement-same-length-9 : (t : ℕ) → statement-lts.Need-same-length-9 (
   word-at-reads.Asked,
   word-at-reads.Learnt,
@@ -7815,7 +7731,6 @@ statement-same-length-9 : (t : ℕ) → statement-lts.Need-same-length-9 (
 ) (statement-at t) statement′.Post
 statement-same-length-9 t c = search needs
 
--- src/lib.rt:452:1
 statement-same-length-10 : (t : ℕ) → statement-lts.Need-same-length-10 (
   word-at-reads.Asked,
   word-at-reads.Learnt,
@@ -7848,7 +7763,6 @@ statement-same-length-10 : (t : ℕ) → statement-lts.Need-same-length-10 (
 ) (statement-at t) statement′.Post
 statement-same-length-10 t c = search needs
 
--- src/lib.rt:452:1
 statement-returns-7 : (t : ℕ) → statement-lts.Need-returns-7 (
   word-at-reads.Asked,
   word-at-reads.Learnt,
@@ -7879,9 +7793,16 @@ statement-returns-7 : (t : ℕ) → statement-lts.Need-returns-7 (
   simple-below t,
   simple.Post,
 ) (statement-at t) statement′.Post
-statement-returns-7 t c = is-foreach _ _ _ _ _ _ _ (c .before .before .before .before .before .before .before .before .before .before .before .before .before .before .before .before .before .before .before .if1 .left) _ (c .before .before .before .before .before .before .before .before .before .before .before .before .before .before .before .before .before .before .word-at .ensures) _ (c .before .before .before .before .before .before .before .before .before .before .before .before .before .before .before .before .before .place-of .ensures) _ (c .before .before .before .before .before .before .before .before .before .before .before .before .before .before .before .before .tag-of .ensures) (c .before .before .before .before .before .before .before .before .before .before .before .before .before .before .before .if2 .left) _ _ (c .before .before .before .before .before .before .before .before .before .before .before .before .before .count .ensures) (c .before .before .before .before .before .before .before .before .before .before .if3 .left) _ _ _ (c .before .before .before .before .before .before .before .before .before .match .keys4) (c .before .before .before .before .before .extra-of4 .ensures .0) (c .before .before .before .before .before .before .word-at2 .ensures) (c .before .before .before .before .each .ensures)
+statement-returns-7 t c = is-foreach _ _ _ _ _ _ _ (c .before .before .before .before .before .before .before .before .before .before .before .before .before .before .before .before .before
+    .before .before .if1 .left) _ (c .before .before .before .before .before .before .before .before .before .before .before .before .before .before .before .before .before .before .word-at
+    .ensures) _ (c .before .before .before .before .before .before .before .before .before .before .before .before .before .before .before .before .before .place-of .ensures) _
+    (c .before .before .before .before .before .before .before .before .before .before .before .before .before .before .before .before .tag-of .ensures)
+    (c .before .before .before .before .before .before .before .before .before .before .before .before .before .before .before .if2 .left) _ _
+    (c .before .before .before .before .before .before .before .before .before .before .before .before .before .count .ensures)
+    (c .before .before .before .before .before .before .before .before .before .before .if3 .left) _ _ _
+    (c .before .before .before .before .before .before .before .before .before .match .keys4) (c .before .before .before .before .before .extra-of4 .ensures .0)
+    (c .before .before .before .before .before .before .word-at2 .ensures) (c .before .before .before .before .each .ensures)
 
--- src/lib.rt:452:1
 statement-same-length-11 : (t : ℕ) → statement-lts.Need-same-length-11 (
   word-at-reads.Asked,
   word-at-reads.Learnt,
@@ -7914,7 +7835,6 @@ statement-same-length-11 : (t : ℕ) → statement-lts.Need-same-length-11 (
 ) (statement-at t) statement′.Post
 statement-same-length-11 t c = search needs
 
--- src/lib.rt:452:1
 statement-same-length-12 : (t : ℕ) → statement-lts.Need-same-length-12 (
   word-at-reads.Asked,
   word-at-reads.Learnt,
@@ -7947,7 +7867,6 @@ statement-same-length-12 : (t : ℕ) → statement-lts.Need-same-length-12 (
 ) (statement-at t) statement′.Post
 statement-same-length-12 t c = search needs
 
--- src/lib.rt:452:1
 statement-returns-8 : (t : ℕ) → statement-lts.Need-returns-8 (
   word-at-reads.Asked,
   word-at-reads.Learnt,
@@ -7978,9 +7897,15 @@ statement-returns-8 : (t : ℕ) → statement-lts.Need-returns-8 (
   simple-below t,
   simple.Post,
 ) (statement-at t) statement′.Post
-statement-returns-8 t c = is-block _ _ _ _ _ _ _ (c .before .before .before .before .before .before .before .before .before .before .before .before .before .before .before .before .before .before .if1 .left) _ (c .before .before .before .before .before .before .before .before .before .before .before .before .before .before .before .before .before .word-at .ensures) _ (c .before .before .before .before .before .before .before .before .before .before .before .before .before .before .before .before .place-of .ensures) _ (c .before .before .before .before .before .before .before .before .before .before .before .before .before .before .before .tag-of .ensures) (c .before .before .before .before .before .before .before .before .before .before .before .before .before .before .if2 .left) _ _ (c .before .before .before .before .before .before .before .before .before .before .before .before .count .ensures) (c .before .before .before .before .before .before .before .before .before .if3 .left) _ _ (c .before .before .before .before .before .before .before .before .match .keys5) (c .before .before .before .before .before .before .before .size-of .ensures) (c .before .before .before .before .statements .ensures)
+statement-returns-8 t c = is-block _ _ _ _ _ _ _ (c .before .before .before .before .before .before .before .before .before .before .before .before .before .before .before .before .before
+    .before .if1 .left) _ (c .before .before .before .before .before .before .before .before .before .before .before .before .before .before .before .before .before .word-at .ensures) _
+    (c .before .before .before .before .before .before .before .before .before .before .before .before .before .before .before .before .place-of .ensures) _
+    (c .before .before .before .before .before .before .before .before .before .before .before .before .before .before .before .tag-of .ensures)
+    (c .before .before .before .before .before .before .before .before .before .before .before .before .before .before .if2 .left) _ _
+    (c .before .before .before .before .before .before .before .before .before .before .before .before .count .ensures)
+    (c .before .before .before .before .before .before .before .before .before .if3 .left) _ _ (c .before .before .before .before .before .before .before .before .match .keys5)
+    (c .before .before .before .before .before .before .before .size-of .ensures) (c .before .before .before .before .statements .ensures)
 
--- src/lib.rt:452:1
 statement-same-length-13 : (t : ℕ) → statement-lts.Need-same-length-13 (
   word-at-reads.Asked,
   word-at-reads.Learnt,
@@ -8013,7 +7938,6 @@ statement-same-length-13 : (t : ℕ) → statement-lts.Need-same-length-13 (
 ) (statement-at t) statement′.Post
 statement-same-length-13 t c = search needs
 
--- src/lib.rt:452:1
 statement-same-length-14 : (t : ℕ) → statement-lts.Need-same-length-14 (
   word-at-reads.Asked,
   word-at-reads.Learnt,
@@ -8046,7 +7970,6 @@ statement-same-length-14 : (t : ℕ) → statement-lts.Need-same-length-14 (
 ) (statement-at t) statement′.Post
 statement-same-length-14 t c = search needs
 
--- src/lib.rt:452:1
 statement-returns-9 : (t : ℕ) → statement-lts.Need-returns-9 (
   word-at-reads.Asked,
   word-at-reads.Learnt,
@@ -8077,7 +8000,15 @@ statement-returns-9 : (t : ℕ) → statement-lts.Need-returns-9 (
   simple-below t,
   simple.Post,
 ) (statement-at t) statement′.Post
-statement-returns-9 t c = is-simple _ _ _ _ _ _ _ (c .before .before .before .before .before .before .before .before .before .before .before .before .before .before .before .before .before .if1 .left) _ (c .before .before .before .before .before .before .before .before .before .before .before .before .before .before .before .before .word-at .ensures) _ (c .before .before .before .before .before .before .before .before .before .before .before .before .before .before .before .place-of .ensures) _ (c .before .before .before .before .before .before .before .before .before .before .before .before .before .before .tag-of .ensures) (c .before .before .before .before .before .before .before .before .before .before .before .before .before .if2 .left) _ _ (c .before .before .before .before .before .before .before .before .before .before .before .count .ensures) (c .before .before .before .before .before .before .before .before .if3 .left) _ (c .before .before .before .before .before .before .before .match .rest .0 .0 .0 .0 .1) (c .before .before .before .before .before .before .before .match .rest .0 .0 .0 .1) (c .before .before .before .before .before .before .before .match .rest .0 .0 .1) (c .before .before .before .before .before .before .before .match .rest .0 .1) (c .before .before .before .before .before .before .before .match .rest .1) (c .before .before .before .before .simple .ensures)
+statement-returns-9 t c = is-simple _ _ _ _ _ _ _ (c .before .before .before .before .before .before .before .before .before .before .before .before .before .before .before .before .before
+    .if1 .left) _ (c .before .before .before .before .before .before .before .before .before .before .before .before .before .before .before .before .word-at .ensures) _
+    (c .before .before .before .before .before .before .before .before .before .before .before .before .before .before .before .place-of .ensures) _
+    (c .before .before .before .before .before .before .before .before .before .before .before .before .before .before .tag-of .ensures)
+    (c .before .before .before .before .before .before .before .before .before .before .before .before .before .if2 .left) _ _
+    (c .before .before .before .before .before .before .before .before .before .before .before .count .ensures) (c .before .before .before .before .before .before .before .before .if3 .left) _
+    (c .before .before .before .before .before .before .before .match .rest .0 .0 .0 .0 .1) (c .before .before .before .before .before .before .before .match .rest .0 .0 .0 .1)
+    (c .before .before .before .before .before .before .before .match .rest .0 .0 .1) (c .before .before .before .before .before .before .before .match .rest .0 .1)
+    (c .before .before .before .before .before .before .before .match .rest .1) (c .before .before .before .before .simple .ensures)
 
 abbrev statements-Inv-loop : statements-lts.InvT-loop
 statements-Inv-loop program code grants texts₀ words₀ fuel a end rounds at₀ left₀ texts words at left = Following program code grants fuel texts₀ words₀ a end rounds texts words at left
@@ -8085,7 +8016,6 @@ statements-Inv-loop program code grants texts₀ words₀ fuel a end rounds at�
 abbrev statements-μ-loop : statements-lts.MeasureT-loop
 statements-μ-loop program code grants texts₀ words₀ fuel a end rounds at₀ left₀ texts words at left = left
 
--- src/lib.rt:633:5
 statements-loop-holds : (t : ℕ) → statements-lts.Need-loop-holds (
   statement-below t,
   statement′.Post,
@@ -8096,7 +8026,6 @@ statements-loop-holds : (t : ℕ) → statements-lts.Need-loop-holds (
 ) (statements-at t) statements.Post statements-Inv-loop statements-μ-loop
 statements-loop-holds t c = all-first _ _ _ _ _ _ _ _ _ (c .before .before .before .before .pre .1)
 
--- src/lib.rt:634:9
 statements-sub-left : (t : ℕ) → statements-lts.Need-sub-left (
   statement-below t,
   statement′.Post,
@@ -8107,7 +8036,6 @@ statements-sub-left : (t : ℕ) → statements-lts.Need-sub-left (
 ) (statements-at t) statements.Post statements-Inv-loop statements-μ-loop
 statements-sub-left t c = search needs
 
--- src/lib.rt:636:13
 statements-same-length : (t : ℕ) → statements-lts.Need-same-length (
   statement-below t,
   statement′.Post,
@@ -8118,7 +8046,6 @@ statements-same-length : (t : ℕ) → statements-lts.Need-same-length (
 ) (statements-at t) statements.Post statements-Inv-loop statements-μ-loop
 statements-same-length t c = search needs
 
--- src/lib.rt:636:13
 statements-same-length-2 : (t : ℕ) → statements-lts.Need-same-length-2 (
   statement-below t,
   statement′.Post,
@@ -8129,7 +8056,6 @@ statements-same-length-2 : (t : ℕ) → statements-lts.Need-same-length-2 (
 ) (statements-at t) statements.Post statements-Inv-loop statements-μ-loop
 statements-same-length-2 t c = search needs
 
--- src/lib.rt:636:13
 statements-returns : (t : ℕ) → statements-lts.Need-returns (
   statement-below t,
   statement′.Post,
@@ -8140,7 +8066,6 @@ statements-returns : (t : ℕ) → statements-lts.Need-returns (
 ) (statements-at t) statements.Post statements-Inv-loop statements-μ-loop
 statements-returns t c = all-done _ _ _ _ _ _ _ _ _ _ _ _ _ (c .before .before .loop .inv) (c .before .loop-test .taken) (c .if1 .taken)
 
--- src/lib.rt:638:15
 statements-statement-requires : (t : ℕ) → statements-lts.Need-statement-requires (
   statement-below t,
   statement′.Post,
@@ -8161,7 +8086,6 @@ statements-enum-told : (t : ℕ) → statements-lts.Need-enum-told (
 ) (statements-at t) statements.Post statements-Inv-loop statements-μ-loop
 statements-enum-told t c = search needs
 
--- src/lib.rt:640:28
 statements-enum-known-v : (t : ℕ) → statements-lts.Need-enum-known-v (
   statement-below t,
   statement′.Post,
@@ -8172,7 +8096,6 @@ statements-enum-known-v : (t : ℕ) → statements-lts.Need-enum-known-v (
 ) (statements-at t) statements.Post statements-Inv-loop statements-μ-loop
 statements-enum-known-v t c = search needs
 
--- src/lib.rt:640:34
 statements-same-length-3 : (t : ℕ) → statements-lts.Need-same-length-3 (
   statement-below t,
   statement′.Post,
@@ -8183,7 +8106,6 @@ statements-same-length-3 : (t : ℕ) → statements-lts.Need-same-length-3 (
 ) (statements-at t) statements.Post statements-Inv-loop statements-μ-loop
 statements-same-length-3 t c = search needs
 
--- src/lib.rt:640:34
 statements-same-length-4 : (t : ℕ) → statements-lts.Need-same-length-4 (
   statement-below t,
   statement′.Post,
@@ -8194,7 +8116,6 @@ statements-same-length-4 : (t : ℕ) → statements-lts.Need-same-length-4 (
 ) (statements-at t) statements.Post statements-Inv-loop statements-μ-loop
 statements-same-length-4 t c = search needs
 
--- src/lib.rt:640:34
 statements-returns-2 : (t : ℕ) → statements-lts.Need-returns-2 (
   statement-below t,
   statement′.Post,
@@ -8203,9 +8124,11 @@ statements-returns-2 : (t : ℕ) → statements-lts.Need-returns-2 (
   size-of-reads.Asked,
   size-of-reads.Learnt,
 ) (statements-at t) statements.Post statements-Inv-loop statements-μ-loop
-statements-returns-2 t c = all-returns _ _ _ _ _ _ _ _ _ _ _ _ _ (c .before .before .before .before .before .before .before .before .before .before .before .before .loop .inv) (c .before .before .before .before .before .before .before .before .before .before .before .loop-test .taken) (c .before .before .before .before .before .before .before .before .before .before .if1 .left) _ _ _ (c .before .before .before .before .before .before .before .statement .ensures) _ (c .before .v .given .1)
+statements-returns-2 t c = all-returns _ _ _ _ _ _ _ _ _ _ _ _ _ (c .before .before .before .before .before .before .before .before .before .before .before .before .loop .inv)
+    (c .before .before .before .before .before .before .before .before .before .before .before .loop-test .taken)
+    (c .before .before .before .before .before .before .before .before .before .before .if1 .left) _ _ _ (c .before .before .before .before .before .before .before .statement .ensures) _
+    (c .before .v .given .1)
 
--- src/lib.rt:641:27
 statements-enum-known-n : (t : ℕ) → statements-lts.Need-enum-known-n (
   statement-below t,
   statement′.Post,
@@ -8216,7 +8139,6 @@ statements-enum-known-n : (t : ℕ) → statements-lts.Need-enum-known-n (
 ) (statements-at t) statements.Post statements-Inv-loop statements-μ-loop
 statements-enum-known-n t c = search needs
 
--- src/lib.rt:641:36
 statements-same-length-5 : (t : ℕ) → statements-lts.Need-same-length-5 (
   statement-below t,
   statement′.Post,
@@ -8227,7 +8149,6 @@ statements-same-length-5 : (t : ℕ) → statements-lts.Need-same-length-5 (
 ) (statements-at t) statements.Post statements-Inv-loop statements-μ-loop
 statements-same-length-5 t c = search needs
 
--- src/lib.rt:641:36
 statements-same-length-6 : (t : ℕ) → statements-lts.Need-same-length-6 (
   statement-below t,
   statement′.Post,
@@ -8238,7 +8159,6 @@ statements-same-length-6 : (t : ℕ) → statements-lts.Need-same-length-6 (
 ) (statements-at t) statements.Post statements-Inv-loop statements-μ-loop
 statements-same-length-6 t c = search needs
 
--- src/lib.rt:641:36
 statements-returns-3 : (t : ℕ) → statements-lts.Need-returns-3 (
   statement-below t,
   statement′.Post,
@@ -8247,9 +8167,11 @@ statements-returns-3 : (t : ℕ) → statements-lts.Need-returns-3 (
   size-of-reads.Asked,
   size-of-reads.Learnt,
 ) (statements-at t) statements.Post statements-Inv-loop statements-μ-loop
-statements-returns-3 t c = all-fails _ _ _ _ _ _ _ _ _ _ _ _ _ (c .before .before .before .before .before .before .before .before .before .before .before .before .loop .inv) (c .before .before .before .before .before .before .before .before .before .before .before .loop-test .taken) (c .before .before .before .before .before .before .before .before .before .before .if1 .left) _ _ _ (c .before .before .before .before .before .before .before .statement .ensures) _ _ (c .before .n .given .1)
+statements-returns-3 t c = all-fails _ _ _ _ _ _ _ _ _ _ _ _ _ (c .before .before .before .before .before .before .before .before .before .before .before .before .loop .inv)
+    (c .before .before .before .before .before .before .before .before .before .before .before .loop-test .taken)
+    (c .before .before .before .before .before .before .before .before .before .before .if1 .left) _ _ _ (c .before .before .before .before .before .before .before .statement .ensures) _ _
+    (c .before .n .given .1)
 
--- src/lib.rt:643:29
 statements-word-at-requires : (t : ℕ) → statements-lts.Need-word-at-requires (
   statement-below t,
   statement′.Post,
@@ -8260,7 +8182,6 @@ statements-word-at-requires : (t : ℕ) → statements-lts.Need-word-at-requires
 ) (statements-at t) statements.Post statements-Inv-loop statements-μ-loop
 statements-word-at-requires t c κs = search needs
 
--- src/lib.rt:643:15
 statements-size-of-requires : (t : ℕ) → statements-lts.Need-size-of-requires (
   statement-below t,
   statement′.Post,
@@ -8271,7 +8192,6 @@ statements-size-of-requires : (t : ℕ) → statements-lts.Need-size-of-requires
 ) (statements-at t) statements.Post statements-Inv-loop statements-μ-loop
 statements-size-of-requires t c κs = search needs
 
--- src/lib.rt:643:9
 statements-add-at : (t : ℕ) → statements-lts.Need-add-at (
   statement-below t,
   statement′.Post,
@@ -8282,7 +8202,6 @@ statements-add-at : (t : ℕ) → statements-lts.Need-add-at (
 ) (statements-at t) statements.Post statements-Inv-loop statements-μ-loop
 statements-add-at t c = omega (arith, c .before .before .before .before .before .before .before .before .before .before .before .before .before .before .before .before .before .before .pre .1 .room, c .before .before .before .before .before .before .before .before .before .before .before .if1 .left, c .size-of .ensures)
 
--- src/lib.rt:633:5
 statements-loop-less : (t : ℕ) → statements-lts.Need-loop-less (
   statement-below t,
   statement′.Post,
@@ -8293,7 +8212,6 @@ statements-loop-less : (t : ℕ) → statements-lts.Need-loop-less (
 ) (statements-at t) statements.Post statements-Inv-loop statements-μ-loop
 statements-loop-less t c = omega arith
 
--- src/lib.rt:633:5
 statements-loop-again : (t : ℕ) → statements-lts.Need-loop-again (
   statement-below t,
   statement′.Post,
@@ -8302,9 +8220,12 @@ statements-loop-again : (t : ℕ) → statements-lts.Need-loop-again (
   size-of-reads.Asked,
   size-of-reads.Learnt,
 ) (statements-at t) statements.Post statements-Inv-loop statements-μ-loop
-statements-loop-again t c = all-again _ _ _ _ _ _ _ _ _ _ _ _ _ (c .before .before .before .before .before .before .before .before .before .before .before .before .before .loop .inv) (c .before .before .before .before .before .before .before .before .before .before .before .before .loop-test .taken) (c .before .before .before .before .before .before .before .before .before .before .before .if1 .left) _ _ _ (c .before .before .before .before .before .before .before .before .statement .ensures) _ _ (let a0 = c .before .before .before .before .before .before .before .texts in omega arith) (let a0 = c .before .before .before .before .before .words in omega arith) (c .before .before .enum-told .given .1) (c .before .word-at .ensures) (c .size-of .ensures)
+statements-loop-again t c = all-again _ _ _ _ _ _ _ _ _ _ _ _ _ (c .before .before .before .before .before .before .before .before .before .before .before .before .before .loop .inv)
+    (c .before .before .before .before .before .before .before .before .before .before .before .before .loop-test .taken)
+    (c .before .before .before .before .before .before .before .before .before .before .before .if1 .left) _ _ _
+    (c .before .before .before .before .before .before .before .before .statement .ensures) _ _ (let a0 = c .before .before .before .before .before .before .before .texts in
+    omega arith) (let a0 = c .before .before .before .before .before .words in omega arith) (c .before .before .enum-told .given .1) (c .before .word-at .ensures) (c .size-of .ensures)
 
--- src/lib.rt:616:1
 statements-same-length-7 : (t : ℕ) → statements-lts.Need-same-length-7 (
   statement-below t,
   statement′.Post,
@@ -8315,7 +8236,6 @@ statements-same-length-7 : (t : ℕ) → statements-lts.Need-same-length-7 (
 ) (statements-at t) statements.Post statements-Inv-loop statements-μ-loop
 statements-same-length-7 t c = search needs
 
--- src/lib.rt:616:1
 statements-same-length-8 : (t : ℕ) → statements-lts.Need-same-length-8 (
   statement-below t,
   statement′.Post,
@@ -8326,7 +8246,6 @@ statements-same-length-8 : (t : ℕ) → statements-lts.Need-same-length-8 (
 ) (statements-at t) statements.Post statements-Inv-loop statements-μ-loop
 statements-same-length-8 t c = search needs
 
--- src/lib.rt:616:1
 statements-returns-4 : (t : ℕ) → statements-lts.Need-returns-4 (
   statement-below t,
   statement′.Post,
@@ -8337,7 +8256,6 @@ statements-returns-4 : (t : ℕ) → statements-lts.Need-returns-4 (
 ) (statements-at t) statements.Post statements-Inv-loop statements-μ-loop
 statements-returns-4 t c = all-short _ _ _ _ _ _ _ _ _ _ _ _ _ (c .before .loop .inv) (omega arith)
 
--- src/lib.rt:439:16
 test-sub-code : (t : ℕ) → test-lts.Need-sub-code (
   fast-value-reads.Asked,
   fast-value-reads.Learnt,
@@ -8350,7 +8268,6 @@ test-sub-code : (t : ℕ) → test-lts.Need-sub-code (
 ) (test-at t) test.Post
 test-sub-code t c = search needs
 
--- src/lib.rt:439:16
 test-part-code-start : (t : ℕ) → test-lts.Need-part-code-start (
   fast-value-reads.Asked,
   fast-value-reads.Learnt,
@@ -8363,7 +8280,6 @@ test-part-code-start : (t : ℕ) → test-lts.Need-part-code-start (
 ) (test-at t) test.Post
 test-part-code-start t c = search needs
 
--- src/lib.rt:439:16
 test-part-code-end : (t : ℕ) → test-lts.Need-part-code-end (
   fast-value-reads.Asked,
   fast-value-reads.Learnt,
@@ -8376,7 +8292,6 @@ test-part-code-end : (t : ℕ) → test-lts.Need-part-code-end (
 ) (test-at t) test.Post
 test-part-code-end t c = search needs
 
--- src/lib.rt:440:9
 test-fast-value-requires : (t : ℕ) → test-lts.Need-fast-value-requires (
   fast-value-reads.Asked,
   fast-value-reads.Learnt,
@@ -8389,7 +8304,6 @@ test-fast-value-requires : (t : ℕ) → test-lts.Need-fast-value-requires (
 ) (test-at t) test.Post
 test-fast-value-requires t c κs = omega (arith, c .before .before .before .before .before .before .pre .1 .lent .room .words)
 
--- src/lib.rt:442:9
 test-outcome-of-requires : (t : ℕ) → test-lts.Need-outcome-of-requires (
   fast-value-reads.Asked,
   fast-value-reads.Learnt,
@@ -8402,7 +8316,6 @@ test-outcome-of-requires : (t : ℕ) → test-lts.Need-outcome-of-requires (
 ) (test-at t) test.Post
 test-outcome-of-requires t c κs = search needs
 
--- src/lib.rt:442:9
 test-same-length : (t : ℕ) → test-lts.Need-same-length (
   fast-value-reads.Asked,
   fast-value-reads.Learnt,
@@ -8415,7 +8328,6 @@ test-same-length : (t : ℕ) → test-lts.Need-same-length (
 ) (test-at t) test.Post
 test-same-length t c = search needs
 
--- src/lib.rt:442:9
 test-returns : (t : ℕ) → test-lts.Need-returns (
   fast-value-reads.Asked,
   fast-value-reads.Learnt,
@@ -8426,9 +8338,9 @@ test-returns : (t : ℕ) → test-lts.Need-returns (
   pack-reads.Asked,
   pack-reads.Learnt,
 ) (test-at t) test.Post
-test-returns t c = test-fast _ _ _ _ _ _ _ _ _ _ (worked-anew _ _ _ _ _ _ _ (c .before .before .before .before .fast-value .ensures)) (c .before .before .before .before .before .before .before .before .before .before .before .pre .1) (c .before .if1 .taken) _ (c .outcome-of .ensures)
+test-returns t c = test-fast _ _ _ _ _ _ _ _ _ _ (worked-anew _ _ _ _ _ _ _ (c .before .before .before .before .fast-value .ensures))
+    (c .before .before .before .before .before .before .before .before .before .before .before .pre .1) (c .before .if1 .taken) _ (c .outcome-of .ensures)
 
--- src/lib.rt:444:11
 test-expression-requires : (t : ℕ) → test-lts.Need-expression-requires (
   fast-value-reads.Asked,
   fast-value-reads.Learnt,
@@ -8441,7 +8353,6 @@ test-expression-requires : (t : ℕ) → test-lts.Need-expression-requires (
 ) (test-at t) test.Post
 test-expression-requires t c κs = (omega arith, slow-lent _ _ _ _ _ _ (c .before .before .before .before .before .fast-value .ensures) (c .before .before .if1 .left) (c .before .before .before .before .before .before .before .before .before .before .before .before .pre .1))
 
--- src/lib.rt:445:22
 test-enum-known-v : (t : ℕ) → test-lts.Need-enum-known-v (
   fast-value-reads.Asked,
   fast-value-reads.Learnt,
@@ -8454,7 +8365,6 @@ test-enum-known-v : (t : ℕ) → test-lts.Need-enum-known-v (
 ) (test-at t) test.Post
 test-enum-known-v t c = search needs
 
--- src/lib.rt:445:48
 test-pack-requires : (t : ℕ) → test-lts.Need-pack-requires (
   fast-value-reads.Asked,
   fast-value-reads.Learnt,
@@ -8467,7 +8377,6 @@ test-pack-requires : (t : ℕ) → test-lts.Need-pack-requires (
 ) (test-at t) test.Post
 test-pack-requires t c κs = search needs
 
--- src/lib.rt:445:28
 test-outcome-of-requires-2 : (t : ℕ) → test-lts.Need-outcome-of-requires-2 (
   fast-value-reads.Asked,
   fast-value-reads.Learnt,
@@ -8480,7 +8389,6 @@ test-outcome-of-requires-2 : (t : ℕ) → test-lts.Need-outcome-of-requires-2 (
 ) (test-at t) test.Post
 test-outcome-of-requires-2 t c κs = search needs
 
--- src/lib.rt:446:21
 test-enum-known-n : (t : ℕ) → test-lts.Need-enum-known-n (
   fast-value-reads.Asked,
   fast-value-reads.Learnt,
@@ -8493,7 +8401,6 @@ test-enum-known-n : (t : ℕ) → test-lts.Need-enum-known-n (
 ) (test-at t) test.Post
 test-enum-known-n t c = search needs
 
--- src/lib.rt:425:1
 test-same-length-2 : (t : ℕ) → test-lts.Need-same-length-2 (
   fast-value-reads.Asked,
   fast-value-reads.Learnt,
@@ -8506,7 +8413,6 @@ test-same-length-2 : (t : ℕ) → test-lts.Need-same-length-2 (
 ) (test-at t) test.Post
 test-same-length-2 t c = search needs
 
--- src/lib.rt:425:1
 test-same-length-3 : (t : ℕ) → test-lts.Need-same-length-3 (
   fast-value-reads.Asked,
   fast-value-reads.Learnt,
@@ -8519,7 +8425,6 @@ test-same-length-3 : (t : ℕ) → test-lts.Need-same-length-3 (
 ) (test-at t) test.Post
 test-same-length-3 t c = search needs
 
--- src/lib.rt:425:1
 test-returns-2 : (t : ℕ) → test-lts.Need-returns-2 (
   fast-value-reads.Asked,
   fast-value-reads.Learnt,
@@ -8530,9 +8435,12 @@ test-returns-2 : (t : ℕ) → test-lts.Need-returns-2 (
   pack-reads.Asked,
   pack-reads.Learnt,
 ) (test-at t) test.Post
-test-returns-2 t c = test-says _ _ _ _ _ _ _ _ _ _ (worked-anew _ _ _ _ _ _ _ (c .before .before .before .before .before .before .before .before .before .before .before .before .before .before .before .fast-value .ensures)) (c .before .before .before .before .before .before .before .before .before .before .before .before .if1 .left) _ _ _ (evaluated-anew _ _ _ _ _ _ _ _ (c .before .before .before .before .before .before .before .before .before .expression .ensures)) _ _ _ (c .before .before .before .v .given .1) (c .before .pack .ensures) (c .outcome-of2 .ensures)
+test-returns-2 t c = test-says _ _ _ _ _ _ _ _ _ _ (worked-anew _ _ _ _ _ _ _
+    (c .before .before .before .before .before .before .before .before .before .before .before .before .before .before .before .fast-value .ensures))
+    (c .before .before .before .before .before .before .before .before .before .before .before .before .if1 .left) _ _ _
+    (evaluated-anew _ _ _ _ _ _ _ _ (c .before .before .before .before .before .before .before .before .before .expression .ensures)) _ _ _ (c .before .before .before .v .given .1)
+    (c .before .pack .ensures) (c .outcome-of2 .ensures)
 
--- src/lib.rt:425:1
 test-same-length-4 : (t : ℕ) → test-lts.Need-same-length-4 (
   fast-value-reads.Asked,
   fast-value-reads.Learnt,
@@ -8545,7 +8453,6 @@ test-same-length-4 : (t : ℕ) → test-lts.Need-same-length-4 (
 ) (test-at t) test.Post
 test-same-length-4 t c = search needs
 
--- src/lib.rt:425:1
 test-same-length-5 : (t : ℕ) → test-lts.Need-same-length-5 (
   fast-value-reads.Asked,
   fast-value-reads.Learnt,
@@ -8558,7 +8465,6 @@ test-same-length-5 : (t : ℕ) → test-lts.Need-same-length-5 (
 ) (test-at t) test.Post
 test-same-length-5 t c = search needs
 
--- src/lib.rt:425:1
 test-returns-3 : (t : ℕ) → test-lts.Need-returns-3 (
   fast-value-reads.Asked,
   fast-value-reads.Learnt,
@@ -8569,9 +8475,11 @@ test-returns-3 : (t : ℕ) → test-lts.Need-returns-3 (
   pack-reads.Asked,
   pack-reads.Learnt,
 ) (test-at t) test.Post
-test-returns-3 t c = test-refused _ _ _ _ _ _ _ _ _ _ (worked-anew _ _ _ _ _ _ _ (c .before .before .before .before .before .before .before .before .before .before .before .before .before .fast-value .ensures)) (c .before .before .before .before .before .before .before .before .before .before .if1 .left) _ _ _ (evaluated-anew _ _ _ _ _ _ _ _ (c .before .before .before .before .before .before .before .expression .ensures)) _ _ (c .before .n .given .1)
+test-returns-3 t c = test-refused _ _ _ _ _ _ _ _ _ _ (worked-anew _ _ _ _ _ _ _
+    (c .before .before .before .before .before .before .before .before .before .before .before .before .before .fast-value .ensures))
+    (c .before .before .before .before .before .before .before .before .before .before .if1 .left) _ _ _
+    (evaluated-anew _ _ _ _ _ _ _ _ (c .before .before .before .before .before .before .before .expression .ensures)) _ _ (c .before .n .given .1)
 
--- src/lib.rt:390:26
 update-word-at-requires : (t : ℕ) → update-lts.Need-word-at-requires (
   word-at-reads.Asked,
   word-at-reads.Learnt,
@@ -8586,7 +8494,6 @@ update-word-at-requires : (t : ℕ) → update-lts.Need-word-at-requires (
 ) (update-at t) update.Post
 update-word-at-requires t c κs = search needs
 
--- src/lib.rt:390:9
 update-before-requires : (t : ℕ) → update-lts.Need-before-requires (
   word-at-reads.Asked,
   word-at-reads.Learnt,
@@ -8601,7 +8508,6 @@ update-before-requires : (t : ℕ) → update-lts.Need-before-requires (
 ) (update-at t) update.Post
 update-before-requires t c κs = search needs
 
--- src/lib.rt:391:26
 update-word-at-requires-2 : (t : ℕ) → update-lts.Need-word-at-requires-2 (
   word-at-reads.Asked,
   word-at-reads.Learnt,
@@ -8616,7 +8522,6 @@ update-word-at-requires-2 : (t : ℕ) → update-lts.Need-word-at-requires-2 (
 ) (update-at t) update.Post
 update-word-at-requires-2 t c κs = search needs
 
--- src/lib.rt:391:9
 update-before-requires-2 : (t : ℕ) → update-lts.Need-before-requires-2 (
   word-at-reads.Asked,
   word-at-reads.Learnt,
@@ -8631,7 +8536,6 @@ update-before-requires-2 : (t : ℕ) → update-lts.Need-before-requires-2 (
 ) (update-at t) update.Post
 update-before-requires-2 t c κs = search needs
 
--- src/lib.rt:392:11
 update-expression-requires : (t : ℕ) → update-lts.Need-expression-requires (
   word-at-reads.Asked,
   word-at-reads.Learnt,
@@ -8646,7 +8550,6 @@ update-expression-requires : (t : ℕ) → update-lts.Need-expression-requires (
 ) (update-at t) update.Post
 update-expression-requires t c κs = (omega arith, c .before .before .before .before .before .before .before .before .before .before .pre .1)
 
--- src/lib.rt:393:22
 update-enum-known-v : (t : ℕ) → update-lts.Need-enum-known-v (
   word-at-reads.Asked,
   word-at-reads.Learnt,
@@ -8661,7 +8564,6 @@ update-enum-known-v : (t : ℕ) → update-lts.Need-enum-known-v (
 ) (update-at t) update.Post
 update-enum-known-v t c = search needs
 
--- src/lib.rt:394:26
 update-enum-known-v-2 : (t : ℕ) → update-lts.Need-enum-known-v-2 (
   word-at-reads.Asked,
   word-at-reads.Learnt,
@@ -8676,7 +8578,6 @@ update-enum-known-v-2 : (t : ℕ) → update-lts.Need-enum-known-v-2 (
 ) (update-at t) update.Post
 update-enum-known-v-2 t c = search needs
 
--- src/lib.rt:394:38
 update-expression-requires-2 : (t : ℕ) → update-lts.Need-expression-requires-2 (
   word-at-reads.Asked,
   word-at-reads.Learnt,
@@ -8691,7 +8592,6 @@ update-expression-requires-2 : (t : ℕ) → update-lts.Need-expression-requires
 ) (update-at t) update.Post
 update-expression-requires-2 t c κs = (omega arith, still-lent _ _ _ _ _ (let a0 = c .before .before .before .before .before .before .before .before .before .before .before .texts in omega arith) (let a0 = c .before .before .before .before .before .before .before .before .before .words in omega arith) _ (c .before .before .before .before .before .before .before .before .before .before .before .before .before .before .before .before .before .before .before .before .before .before .before .pre .1))
 
--- src/lib.rt:395:30
 update-enum-known-u : (t : ℕ) → update-lts.Need-enum-known-u (
   word-at-reads.Asked,
   word-at-reads.Learnt,
@@ -8706,7 +8606,6 @@ update-enum-known-u : (t : ℕ) → update-lts.Need-enum-known-u (
 ) (update-at t) update.Post
 update-enum-known-u t c = search needs
 
--- src/lib.rt:396:25
 update-pack-requires : (t : ℕ) → update-lts.Need-pack-requires (
   word-at-reads.Asked,
   word-at-reads.Learnt,
@@ -8721,7 +8620,6 @@ update-pack-requires : (t : ℕ) → update-lts.Need-pack-requires (
 ) (update-at t) update.Post
 update-pack-requires t c κs = search needs
 
--- src/lib.rt:397:27
 update-expression-requires-3 : (t : ℕ) → update-lts.Need-expression-requires-3 (
   word-at-reads.Asked,
   word-at-reads.Learnt,
@@ -8736,7 +8634,6 @@ update-expression-requires-3 : (t : ℕ) → update-lts.Need-expression-requires
 ) (update-at t) update.Post
 update-expression-requires-3 t c κs = (omega (arith, c .before .before .before .before .before .before .before .before .before .before .before .before .before .before .before .before .before .before .before .before .before .before .before .before .before .before .before .before .before .before .before .before .before .before .pre .0), still-lent _ _ _ _ _ (let a0 = c .before .before .before .before .before .before .before .before .before .before .before .before .before .before .before .before .before .before .before .before .before .before .texts in let a1 = c .before .before .before .before .before .before .before .before .before .texts2 in omega arith) (let a0 = c .before .before .before .before .before .before .before .before .before .before .before .before .before .before .before .before .before .before .before .before .words in let a1 = c .before .before .before .before .before .before .before .words2 in omega arith) _ (c .before .before .before .before .before .before .before .before .before .before .before .before .before .before .before .before .before .before .before .before .before .before .before .before .before .before .before .before .before .before .before .before .before .before .pre .1))
 
--- src/lib.rt:398:38
 update-enum-known-z : (t : ℕ) → update-lts.Need-enum-known-z (
   word-at-reads.Asked,
   word-at-reads.Learnt,
@@ -8751,7 +8648,6 @@ update-enum-known-z : (t : ℕ) → update-lts.Need-enum-known-z (
 ) (update-at t) update.Post
 update-enum-known-z t c = search needs
 
--- src/lib.rt:406:33
 update-pack-requires-2 : (t : ℕ) → update-lts.Need-pack-requires-2 (
   word-at-reads.Asked,
   word-at-reads.Learnt,
@@ -8766,7 +8662,6 @@ update-pack-requires-2 : (t : ℕ) → update-lts.Need-pack-requires-2 (
 ) (update-at t) update.Post
 update-pack-requires-2 t c κs = search needs
 
--- src/lib.rt:399:33
 update-store-entry-requires : (t : ℕ) → update-lts.Need-store-entry-requires (
   word-at-reads.Asked,
   word-at-reads.Learnt,
@@ -8779,9 +8674,14 @@ update-store-entry-requires : (t : ℕ) → update-lts.Need-store-entry-requires
   store-entry-reads.Asked,
   store-entry-reads.Learnt,
 ) (update-at t) update.Post
-update-store-entry-requires t c κs = still-room _ _ _ _ _ (c .before .before .before .before .before .before .before .before .before .before .before .before .before .before .before .before .before .before .before .before .before .before .before .before .before .before .before .before .before .before .before .before .before .before .before .before .before .before .before .before .before .before .before .before .before .pre .1) (let a0 = c .before .before .before .before .before .before .before .before .before .before .before .before .before .before .before .before .before .before .before .before .before .before .before .before .before .before .before .before .before .before .before .words in let a1 = c .before .before .before .before .before .before .before .before .before .before .before .before .before .before .before .before .before .before .words2 in let a2 = c .before .before .before .before .before .before .before .words3 in omega arith)
+update-store-entry-requires t c κs = still-room _ _ _ _ _ (c .before .before .before .before .before .before .before .before .before .before .before .before .before .before .before .before
+    .before .before .before .before .before .before .before .before .before .before .before .before .before .before .before .before .before .before .before .before .before .before .before
+    .before .before .before .before .before .before .pre .1) (let a0 =
+    c .before .before .before .before .before .before .before .before .before .before .before .before .before .before .before .before .before .before .before .before .before .before .before
+    .before .before .before .before .before .before .before .before .words in
+    let a1 = c .before .before .before .before .before .before .before .before .before .before .before .before .before .before .before .before .before .before .words2 in
+    let a2 = c .before .before .before .before .before .before .before .words3 in omega arith)
 
--- src/lib.rt:409:33
 update-same-length : (t : ℕ) → update-lts.Need-same-length (
   word-at-reads.Asked,
   word-at-reads.Learnt,
@@ -8794,9 +8694,13 @@ update-same-length : (t : ℕ) → update-lts.Need-same-length (
   store-entry-reads.Asked,
   store-entry-reads.Learnt,
 ) (update-at t) update.Post
-update-same-length t c = let a = c .before .before .before .before .before .before .before .before .before .before .before .before .before .before .before .before .before .before .before .before .before .before .before .before .before .before .before .before .before .before .before .before .before .before .before .before .before .before .before .before .before .before .before .before .before .before .slice-known in let b = c .before .before .before .before .before .before .before .before .before .before .before .before .before .before .before .before .before .before .before .before .before .before .before .before .before .before .before .before .before .before .before .before .before .before .before .before .before .texts in let d = c .before .before .before .before .before .before .before .before .before .before .before .before .before .before .before .before .before .before .before .before .before .before .before .before .texts2 in let e = c .before .before .before .before .before .before .before .before .before .before .before .before .before .texts3 in search needs
+update-same-length t c = let a = c .before .before .before .before .before .before .before .before .before .before .before .before .before .before .before .before .before .before .before
+    .before .before .before .before .before .before .before .before .before .before .before .before .before .before .before .before .before .before .before .before .before .before .before
+    .before .before .before .before .slice-known in let b = c .before .before .before .before .before .before .before .before .before .before .before .before .before .before .before .before
+    .before .before .before .before .before .before .before .before .before .before .before .before .before .before .before .before .before .before .before .before .before .texts in
+    let d = c .before .before .before .before .before .before .before .before .before .before .before .before .before .before .before .before .before .before .before .before .before .before
+    .before .before .texts2 in let e = c .before .before .before .before .before .before .before .before .before .before .before .before .before .texts3 in search needs
 
--- src/lib.rt:409:33
 update-same-length-2 : (t : ℕ) → update-lts.Need-same-length-2 (
   word-at-reads.Asked,
   word-at-reads.Learnt,
@@ -8809,9 +8713,13 @@ update-same-length-2 : (t : ℕ) → update-lts.Need-same-length-2 (
   store-entry-reads.Asked,
   store-entry-reads.Learnt,
 ) (update-at t) update.Post
-update-same-length-2 t c = let a = c .before .before .before .before .before .before .before .before .before .before .before .before .before .before .before .before .before .before .before .before .before .before .before .before .before .before .before .before .before .before .before .before .before .before .before .before .before .before .before .before .before .before .before .before .before .slice-known2 in let b = c .before .before .before .before .before .before .before .before .before .before .before .before .before .before .before .before .before .before .before .before .before .before .before .before .before .before .before .before .before .before .before .before .before .before .before .words in let d = c .before .before .before .before .before .before .before .before .before .before .before .before .before .before .before .before .before .before .before .before .before .before .words2 in let e = c .before .before .before .before .before .before .before .before .before .before .before .words3 in let f = c .before .before .words4 in search needs
+update-same-length-2 t c = let a = c .before .before .before .before .before .before .before .before .before .before .before .before .before .before .before .before .before .before .before
+    .before .before .before .before .before .before .before .before .before .before .before .before .before .before .before .before .before .before .before .before .before .before .before
+    .before .before .before .slice-known2 in let b = c .before .before .before .before .before .before .before .before .before .before .before .before .before .before .before .before .before
+    .before .before .before .before .before .before .before .before .before .before .before .before .before .before .before .before .before .before .words in
+    let d = c .before .before .before .before .before .before .before .before .before .before .before .before .before .before .before .before .before .before .before .before .before .before
+    .words2 in let e = c .before .before .before .before .before .before .before .before .before .before .before .words3 in let f = c .before .before .words4 in search needs
 
--- src/lib.rt:409:33
 update-returns : (t : ℕ) → update-lts.Need-returns (
   word-at-reads.Asked,
   word-at-reads.Learnt,
@@ -8824,9 +8732,27 @@ update-returns : (t : ℕ) → update-lts.Need-returns (
   store-entry-reads.Asked,
   store-entry-reads.Learnt,
 ) (update-at t) update.Post
-update-returns t c = update-refused _ _ _ _ _ _ _ _ _ _ _ _ (c .before .before .before .before .before .before .before .before .before .before .before .before .before .before .before .before .before .before .before .before .before .before .before .before .before .before .before .before .before .before .before .before .before .before .before .before .before .before .before .before .before .before .before .before .word-at .ensures) (c .before .before .before .before .before .before .before .before .before .before .before .before .before .before .before .before .before .before .before .before .before .before .before .before .before .before .before .before .before .before .before .before .before .before .before .before .before .before .before .before .before .before .before .before2 .ensures .0) (c .before .before .before .before .before .before .before .before .before .before .before .before .before .before .before .before .before .before .before .before .before .before .before .before .before .before .before .before .before .before .before .before .before .before .before .before .before .before .before .before .before .before .word-at2 .ensures) (c .before .before .before .before .before .before .before .before .before .before .before .before .before .before .before .before .before .before .before .before .before .before .before .before .before .before .before .before .before .before .before .before .before .before .before .before .before .before .before .before .before .before3 .ensures .0) _ _ _ (c .before .before .before .before .before .before .before .before .before .before .before .before .before .before .before .before .before .before .before .before .before .before .before .before .before .before .before .before .before .before .before .before .before .before .before .before .before .before .expression .ensures) _ _ (c .before .before .before .before .before .before .before .before .before .before .before .before .before .before .before .before .before .before .before .before .before .before .before .before .before .before .before .before .before .before .before .before .v .given .1) (c .before .before .before .before .before .before .before .before .before .before .before .before .before .before .before .before .before .before .before .before .before .before .before .before .before .before .before .before .before .v2 .given .1) _ _ _ (c .before .before .before .before .before .before .before .before .before .before .before .before .before .before .before .before .before .before .before .before .before .before .before .before .before .expression2 .ensures) _ _ (c .before .before .before .before .before .before .before .before .before .before .before .before .before .before .before .before .before .before .before .u .given .1) (c .before .before .before .before .before .before .before .before .before .before .before .before .before .before .before .before .before .pack .ensures) _ _ _ (c .before .before .before .before .before .before .before .before .before .before .before .before .before .before .expression3 .ensures) _ _ (c .before .before .before .before .before .before .before .before .z .given .1) (c .before .before .before .before .pack2 .ensures) _ _ (c .before .before .before .store-entry .ensures) (c .if1 .taken)
+update-returns t c = update-refused _ _ _ _ _ _ _ _ _ _ _ _ (c .before .before .before .before .before .before .before .before .before .before .before .before .before .before .before .before
+    .before .before .before .before .before .before .before .before .before .before .before .before .before .before .before .before .before .before .before .before .before .before .before
+    .before .before .before .before .before .word-at .ensures) (c .before .before .before .before .before .before .before .before .before .before .before .before .before .before .before
+    .before .before .before .before .before .before .before .before .before .before .before .before .before .before .before .before .before .before .before .before .before .before .before
+    .before .before .before .before .before .before2 .ensures .0) (c .before .before .before .before .before .before .before .before .before .before .before .before .before .before .before
+    .before .before .before .before .before .before .before .before .before .before .before .before .before .before .before .before .before .before .before .before .before .before .before
+    .before .before .before .before .word-at2 .ensures) (c .before .before .before .before .before .before .before .before .before .before .before .before .before .before .before .before
+    .before .before .before .before .before .before .before .before .before .before .before .before .before .before .before .before .before .before .before .before .before .before .before
+    .before .before .before3 .ensures .0) _ _ _ (c .before .before .before .before .before .before .before .before .before .before .before .before .before .before .before .before .before
+    .before .before .before .before .before .before .before .before .before .before .before .before .before .before .before .before .before .before .before .before .before .expression
+    .ensures) _ _ (c .before .before .before .before .before .before .before .before .before .before .before .before .before .before .before .before .before .before .before .before .before
+    .before .before .before .before .before .before .before .before .before .before .before .v .given .1)
+    (c .before .before .before .before .before .before .before .before .before .before .before .before .before .before .before .before .before .before .before .before .before .before .before
+    .before .before .before .before .before .before .v2 .given .1) _ _ _
+    (c .before .before .before .before .before .before .before .before .before .before .before .before .before .before .before .before .before .before .before .before .before .before .before
+    .before .before .expression2 .ensures) _ _ (c .before .before .before .before .before .before .before .before .before .before .before .before .before .before .before .before .before
+    .before .before .u .given .1) (c .before .before .before .before .before .before .before .before .before .before .before .before .before .before .before .before .before .pack .ensures) _ _
+    _ (c .before .before .before .before .before .before .before .before .before .before .before .before .before .before .expression3 .ensures) _ _
+    (c .before .before .before .before .before .before .before .before .z .given .1) (c .before .before .before .before .pack2 .ensures) _ _ (c .before .before .before .store-entry .ensures)
+    (c .if1 .taken)
 
--- src/lib.rt:413:37
 update-enum-known-n : (t : ℕ) → update-lts.Need-enum-known-n (
   word-at-reads.Asked,
   word-at-reads.Learnt,
@@ -8841,7 +8767,6 @@ update-enum-known-n : (t : ℕ) → update-lts.Need-enum-known-n (
 ) (update-at t) update.Post
 update-enum-known-n t c = search needs
 
--- src/lib.rt:416:29
 update-enum-known-n-2 : (t : ℕ) → update-lts.Need-enum-known-n-2 (
   word-at-reads.Asked,
   word-at-reads.Learnt,
@@ -8856,7 +8781,6 @@ update-enum-known-n-2 : (t : ℕ) → update-lts.Need-enum-known-n-2 (
 ) (update-at t) update.Post
 update-enum-known-n-2 t c = search needs
 
--- src/lib.rt:420:21
 update-enum-known-n-3 : (t : ℕ) → update-lts.Need-enum-known-n-3 (
   word-at-reads.Asked,
   word-at-reads.Learnt,
@@ -8871,7 +8795,6 @@ update-enum-known-n-3 : (t : ℕ) → update-lts.Need-enum-known-n-3 (
 ) (update-at t) update.Post
 update-enum-known-n-3 t c = search needs
 
--- src/lib.rt:376:1
 update-same-length-3 : (t : ℕ) → update-lts.Need-same-length-3 (
   word-at-reads.Asked,
   word-at-reads.Learnt,
@@ -8884,9 +8807,13 @@ update-same-length-3 : (t : ℕ) → update-lts.Need-same-length-3 (
   store-entry-reads.Asked,
   store-entry-reads.Learnt,
 ) (update-at t) update.Post
-update-same-length-3 t c = let a = c .before .before .before .before .before .before .before .before .before .before .before .before .before .before .before .before .before .before .before .before .before .before .before .before .before .before .before .before .before .before .before .before .before .before .before .before .before .before .before .before .before .before .before .before .before .before .slice-known in let b = c .before .before .before .before .before .before .before .before .before .before .before .before .before .before .before .before .before .before .before .before .before .before .before .before .before .before .before .before .before .before .before .before .before .before .before .before .before .texts in let d = c .before .before .before .before .before .before .before .before .before .before .before .before .before .before .before .before .before .before .before .before .before .before .before .before .texts2 in let e = c .before .before .before .before .before .before .before .before .before .before .before .before .before .texts3 in search needs
+update-same-length-3 t c = let a = c .before .before .before .before .before .before .before .before .before .before .before .before .before .before .before .before .before .before .before
+    .before .before .before .before .before .before .before .before .before .before .before .before .before .before .before .before .before .before .before .before .before .before .before
+    .before .before .before .before .slice-known in let b = c .before .before .before .before .before .before .before .before .before .before .before .before .before .before .before .before
+    .before .before .before .before .before .before .before .before .before .before .before .before .before .before .before .before .before .before .before .before .before .texts in
+    let d = c .before .before .before .before .before .before .before .before .before .before .before .before .before .before .before .before .before .before .before .before .before .before
+    .before .before .texts2 in let e = c .before .before .before .before .before .before .before .before .before .before .before .before .before .texts3 in search needs
 
--- src/lib.rt:376:1
 update-same-length-4 : (t : ℕ) → update-lts.Need-same-length-4 (
   word-at-reads.Asked,
   word-at-reads.Learnt,
@@ -8899,9 +8826,13 @@ update-same-length-4 : (t : ℕ) → update-lts.Need-same-length-4 (
   store-entry-reads.Asked,
   store-entry-reads.Learnt,
 ) (update-at t) update.Post
-update-same-length-4 t c = let a = c .before .before .before .before .before .before .before .before .before .before .before .before .before .before .before .before .before .before .before .before .before .before .before .before .before .before .before .before .before .before .before .before .before .before .before .before .before .before .before .before .before .before .before .before .before .slice-known2 in let b = c .before .before .before .before .before .before .before .before .before .before .before .before .before .before .before .before .before .before .before .before .before .before .before .before .before .before .before .before .before .before .before .before .before .before .before .words in let d = c .before .before .before .before .before .before .before .before .before .before .before .before .before .before .before .before .before .before .before .before .before .before .words2 in let e = c .before .before .before .before .before .before .before .before .before .before .before .words3 in let f = c .before .before .words4 in search needs
+update-same-length-4 t c = let a = c .before .before .before .before .before .before .before .before .before .before .before .before .before .before .before .before .before .before .before
+    .before .before .before .before .before .before .before .before .before .before .before .before .before .before .before .before .before .before .before .before .before .before .before
+    .before .before .before .slice-known2 in let b = c .before .before .before .before .before .before .before .before .before .before .before .before .before .before .before .before .before
+    .before .before .before .before .before .before .before .before .before .before .before .before .before .before .before .before .before .before .words in
+    let d = c .before .before .before .before .before .before .before .before .before .before .before .before .before .before .before .before .before .before .before .before .before .before
+    .words2 in let e = c .before .before .before .before .before .before .before .before .before .before .before .words3 in let f = c .before .before .words4 in search needs
 
--- src/lib.rt:376:1
 update-returns-2 : (t : ℕ) → update-lts.Need-returns-2 (
   word-at-reads.Asked,
   word-at-reads.Learnt,
@@ -8914,9 +8845,27 @@ update-returns-2 : (t : ℕ) → update-lts.Need-returns-2 (
   store-entry-reads.Asked,
   store-entry-reads.Learnt,
 ) (update-at t) update.Post
-update-returns-2 t c = update-done _ _ _ _ _ _ _ _ _ _ _ _ (c .before .before .before .before .before .before .before .before .before .before .before .before .before .before .before .before .before .before .before .before .before .before .before .before .before .before .before .before .before .before .before .before .before .before .before .before .before .before .before .before .before .before .before .before .word-at .ensures) (c .before .before .before .before .before .before .before .before .before .before .before .before .before .before .before .before .before .before .before .before .before .before .before .before .before .before .before .before .before .before .before .before .before .before .before .before .before .before .before .before .before .before .before .before2 .ensures .0) (c .before .before .before .before .before .before .before .before .before .before .before .before .before .before .before .before .before .before .before .before .before .before .before .before .before .before .before .before .before .before .before .before .before .before .before .before .before .before .before .before .before .before .word-at2 .ensures) (c .before .before .before .before .before .before .before .before .before .before .before .before .before .before .before .before .before .before .before .before .before .before .before .before .before .before .before .before .before .before .before .before .before .before .before .before .before .before .before .before .before .before3 .ensures .0) _ _ _ (c .before .before .before .before .before .before .before .before .before .before .before .before .before .before .before .before .before .before .before .before .before .before .before .before .before .before .before .before .before .before .before .before .before .before .before .before .before .before .expression .ensures) _ _ (c .before .before .before .before .before .before .before .before .before .before .before .before .before .before .before .before .before .before .before .before .before .before .before .before .before .before .before .before .before .before .before .before .v .given .1) (c .before .before .before .before .before .before .before .before .before .before .before .before .before .before .before .before .before .before .before .before .before .before .before .before .before .before .before .before .before .v2 .given .1) _ _ _ (c .before .before .before .before .before .before .before .before .before .before .before .before .before .before .before .before .before .before .before .before .before .before .before .before .before .expression2 .ensures) _ _ (c .before .before .before .before .before .before .before .before .before .before .before .before .before .before .before .before .before .before .before .u .given .1) (c .before .before .before .before .before .before .before .before .before .before .before .before .before .before .before .before .before .pack .ensures) _ _ _ (c .before .before .before .before .before .before .before .before .before .before .before .before .before .before .expression3 .ensures) _ _ (c .before .before .before .before .before .before .before .before .z .given .1) (c .before .before .before .before .pack2 .ensures) _ _ (c .before .before .before .store-entry .ensures) (c .if1 .left)
+update-returns-2 t c = update-done _ _ _ _ _ _ _ _ _ _ _ _ (c .before .before .before .before .before .before .before .before .before .before .before .before .before .before .before .before
+    .before .before .before .before .before .before .before .before .before .before .before .before .before .before .before .before .before .before .before .before .before .before .before
+    .before .before .before .before .before .word-at .ensures) (c .before .before .before .before .before .before .before .before .before .before .before .before .before .before .before
+    .before .before .before .before .before .before .before .before .before .before .before .before .before .before .before .before .before .before .before .before .before .before .before
+    .before .before .before .before .before .before2 .ensures .0) (c .before .before .before .before .before .before .before .before .before .before .before .before .before .before .before
+    .before .before .before .before .before .before .before .before .before .before .before .before .before .before .before .before .before .before .before .before .before .before .before
+    .before .before .before .before .word-at2 .ensures) (c .before .before .before .before .before .before .before .before .before .before .before .before .before .before .before .before
+    .before .before .before .before .before .before .before .before .before .before .before .before .before .before .before .before .before .before .before .before .before .before .before
+    .before .before .before3 .ensures .0) _ _ _ (c .before .before .before .before .before .before .before .before .before .before .before .before .before .before .before .before .before
+    .before .before .before .before .before .before .before .before .before .before .before .before .before .before .before .before .before .before .before .before .before .expression
+    .ensures) _ _ (c .before .before .before .before .before .before .before .before .before .before .before .before .before .before .before .before .before .before .before .before .before
+    .before .before .before .before .before .before .before .before .before .before .before .v .given .1)
+    (c .before .before .before .before .before .before .before .before .before .before .before .before .before .before .before .before .before .before .before .before .before .before .before
+    .before .before .before .before .before .before .v2 .given .1) _ _ _
+    (c .before .before .before .before .before .before .before .before .before .before .before .before .before .before .before .before .before .before .before .before .before .before .before
+    .before .before .expression2 .ensures) _ _ (c .before .before .before .before .before .before .before .before .before .before .before .before .before .before .before .before .before
+    .before .before .u .given .1) (c .before .before .before .before .before .before .before .before .before .before .before .before .before .before .before .before .before .pack .ensures) _ _
+    _ (c .before .before .before .before .before .before .before .before .before .before .before .before .before .before .expression3 .ensures) _ _
+    (c .before .before .before .before .before .before .before .before .z .given .1) (c .before .before .before .before .pack2 .ensures) _ _ (c .before .before .before .store-entry .ensures)
+    (c .if1 .left)
 
--- src/lib.rt:376:1
 update-same-length-5 : (t : ℕ) → update-lts.Need-same-length-5 (
   word-at-reads.Asked,
   word-at-reads.Learnt,
@@ -8929,9 +8878,13 @@ update-same-length-5 : (t : ℕ) → update-lts.Need-same-length-5 (
   store-entry-reads.Asked,
   store-entry-reads.Learnt,
 ) (update-at t) update.Post
-update-same-length-5 t c = let a = c .before .before .before .before .before .before .before .before .before .before .before .before .before .before .before .before .before .before .before .before .before .before .before .before .before .before .before .before .before .before .before .before .before .before .before .before .before .before .before .slice-known in let b = c .before .before .before .before .before .before .before .before .before .before .before .before .before .before .before .before .before .before .before .before .before .before .before .before .before .before .before .before .before .before .texts in let d = c .before .before .before .before .before .before .before .before .before .before .before .before .before .before .before .before .before .texts2 in let e = c .before .before .before .before .before .before .texts3 in search needs
+update-same-length-5 t c = let a = c .before .before .before .before .before .before .before .before .before .before .before .before .before .before .before .before .before .before .before
+    .before .before .before .before .before .before .before .before .before .before .before .before .before .before .before .before .before .before .before .before .slice-known in
+    let b = c .before .before .before .before .before .before .before .before .before .before .before .before .before .before .before .before .before .before .before .before .before .before
+    .before .before .before .before .before .before .before .before .texts in
+    let d = c .before .before .before .before .before .before .before .before .before .before .before .before .before .before .before .before .before .texts2 in
+    let e = c .before .before .before .before .before .before .texts3 in search needs
 
--- src/lib.rt:376:1
 update-same-length-6 : (t : ℕ) → update-lts.Need-same-length-6 (
   word-at-reads.Asked,
   word-at-reads.Learnt,
@@ -8944,9 +8897,12 @@ update-same-length-6 : (t : ℕ) → update-lts.Need-same-length-6 (
   store-entry-reads.Asked,
   store-entry-reads.Learnt,
 ) (update-at t) update.Post
-update-same-length-6 t c = let a = c .before .before .before .before .before .before .before .before .before .before .before .before .before .before .before .before .before .before .before .before .before .before .before .before .before .before .before .before .before .before .before .before .before .before .before .before .before .before .slice-known2 in let b = c .before .before .before .before .before .before .before .before .before .before .before .before .before .before .before .before .before .before .before .before .before .before .before .before .before .before .before .before .words in let d = c .before .before .before .before .before .before .before .before .before .before .before .before .before .before .before .words2 in let e = c .before .before .before .before .words3 in search needs
+update-same-length-6 t c = let a = c .before .before .before .before .before .before .before .before .before .before .before .before .before .before .before .before .before .before .before
+    .before .before .before .before .before .before .before .before .before .before .before .before .before .before .before .before .before .before .before .slice-known2 in
+    let b = c .before .before .before .before .before .before .before .before .before .before .before .before .before .before .before .before .before .before .before .before .before .before
+    .before .before .before .before .before .before .words in let d = c .before .before .before .before .before .before .before .before .before .before .before .before .before .before .before
+    .words2 in let e = c .before .before .before .before .words3 in search needs
 
--- src/lib.rt:376:1
 update-returns-3 : (t : ℕ) → update-lts.Need-returns-3 (
   word-at-reads.Asked,
   word-at-reads.Learnt,
@@ -8959,9 +8915,23 @@ update-returns-3 : (t : ℕ) → update-lts.Need-returns-3 (
   store-entry-reads.Asked,
   store-entry-reads.Learnt,
 ) (update-at t) update.Post
-update-returns-3 t c = value-stops _ _ _ _ _ _ _ _ _ _ _ _ (c .before .before .before .before .before .before .before .before .before .before .before .before .before .before .before .before .before .before .before .before .before .before .before .before .before .before .before .before .before .before .before .before .before .before .before .before .before .word-at .ensures) (c .before .before .before .before .before .before .before .before .before .before .before .before .before .before .before .before .before .before .before .before .before .before .before .before .before .before .before .before .before .before .before .before .before .before .before .before .before2 .ensures .0) (c .before .before .before .before .before .before .before .before .before .before .before .before .before .before .before .before .before .before .before .before .before .before .before .before .before .before .before .before .before .before .before .before .before .before .before .word-at2 .ensures) (c .before .before .before .before .before .before .before .before .before .before .before .before .before .before .before .before .before .before .before .before .before .before .before .before .before .before .before .before .before .before .before .before .before .before .before3 .ensures .0) _ _ _ (c .before .before .before .before .before .before .before .before .before .before .before .before .before .before .before .before .before .before .before .before .before .before .before .before .before .before .before .before .before .before .before .expression .ensures) _ _ (c .before .before .before .before .before .before .before .before .before .before .before .before .before .before .before .before .before .before .before .before .before .before .before .before .before .v .given .1) (c .before .before .before .before .before .before .before .before .before .before .before .before .before .before .before .before .before .before .before .before .before .before .v2 .given .1) _ _ _ (c .before .before .before .before .before .before .before .before .before .before .before .before .before .before .before .before .before .before .expression2 .ensures) _ _ (c .before .before .before .before .before .before .before .before .before .before .before .before .u .given .1) (c .before .before .before .before .before .before .before .before .before .before .pack .ensures) _ _ _ (c .before .before .before .before .before .before .before .expression3 .ensures) _ _ (c .before .n .given .1)
+update-returns-3 t c = value-stops _ _ _ _ _ _ _ _ _ _ _ _ (c .before .before .before .before .before .before .before .before .before .before .before .before .before .before .before .before
+    .before .before .before .before .before .before .before .before .before .before .before .before .before .before .before .before .before .before .before .before .before .word-at .ensures)
+    (c .before .before .before .before .before .before .before .before .before .before .before .before .before .before .before .before .before .before .before .before .before .before .before
+    .before .before .before .before .before .before .before .before .before .before .before .before .before .before2 .ensures .0)
+    (c .before .before .before .before .before .before .before .before .before .before .before .before .before .before .before .before .before .before .before .before .before .before .before
+    .before .before .before .before .before .before .before .before .before .before .before .before .word-at2 .ensures)
+    (c .before .before .before .before .before .before .before .before .before .before .before .before .before .before .before .before .before .before .before .before .before .before .before
+    .before .before .before .before .before .before .before .before .before .before .before .before3 .ensures .0) _ _ _
+    (c .before .before .before .before .before .before .before .before .before .before .before .before .before .before .before .before .before .before .before .before .before .before .before
+    .before .before .before .before .before .before .before .before .expression .ensures) _ _
+    (c .before .before .before .before .before .before .before .before .before .before .before .before .before .before .before .before .before .before .before .before .before .before .before
+    .before .before .v .given .1) (c .before .before .before .before .before .before .before .before .before .before .before .before .before .before .before .before .before .before .before
+    .before .before .before .v2 .given .1) _ _ _ (c .before .before .before .before .before .before .before .before .before .before .before .before .before .before .before .before .before
+    .before .expression2 .ensures) _ _ (c .before .before .before .before .before .before .before .before .before .before .before .before .u .given .1)
+    (c .before .before .before .before .before .before .before .before .before .before .pack .ensures) _ _ _
+    (c .before .before .before .before .before .before .before .expression3 .ensures) _ _ (c .before .n .given .1)
 
--- src/lib.rt:376:1
 update-same-length-7 : (t : ℕ) → update-lts.Need-same-length-7 (
   word-at-reads.Asked,
   word-at-reads.Learnt,
@@ -8976,7 +8946,6 @@ update-same-length-7 : (t : ℕ) → update-lts.Need-same-length-7 (
 ) (update-at t) update.Post
 update-same-length-7 t c = search needs
 
--- src/lib.rt:376:1
 update-same-length-8 : (t : ℕ) → update-lts.Need-same-length-8 (
   word-at-reads.Asked,
   word-at-reads.Learnt,
@@ -8991,7 +8960,6 @@ update-same-length-8 : (t : ℕ) → update-lts.Need-same-length-8 (
 ) (update-at t) update.Post
 update-same-length-8 t c = search needs
 
--- src/lib.rt:376:1
 update-returns-4 : (t : ℕ) → update-lts.Need-returns-4 (
   word-at-reads.Asked,
   word-at-reads.Learnt,
@@ -9004,9 +8972,17 @@ update-returns-4 : (t : ℕ) → update-lts.Need-returns-4 (
   store-entry-reads.Asked,
   store-entry-reads.Learnt,
 ) (update-at t) update.Post
-update-returns-4 t c = key-stops _ _ _ _ _ _ _ _ _ _ _ _ (c .before .before .before .before .before .before .before .before .before .before .before .before .before .before .before .before .before .before .before .before .before .before .before .before .before .before .word-at .ensures) (c .before .before .before .before .before .before .before .before .before .before .before .before .before .before .before .before .before .before .before .before .before .before .before .before .before .before2 .ensures .0) (c .before .before .before .before .before .before .before .before .before .before .before .before .before .before .before .before .before .before .before .before .before .before .before .before .word-at2 .ensures) (c .before .before .before .before .before .before .before .before .before .before .before .before .before .before .before .before .before .before .before .before .before .before .before .before3 .ensures .0) _ _ _ (c .before .before .before .before .before .before .before .before .before .before .before .before .before .before .before .before .before .before .before .before .expression .ensures) _ _ (c .before .before .before .before .before .before .before .before .before .before .before .before .before .before .v .given .1) (c .before .before .before .before .before .before .before .before .before .before .before .v2 .given .1) _ _ _ (c .before .before .before .before .before .before .before .expression2 .ensures) _ _ (c .before .n2 .given .1)
+update-returns-4 t c = key-stops _ _ _ _ _ _ _ _ _ _ _ _ (c .before .before .before .before .before .before .before .before .before .before .before .before .before .before .before .before
+    .before .before .before .before .before .before .before .before .before .before .word-at .ensures)
+    (c .before .before .before .before .before .before .before .before .before .before .before .before .before .before .before .before .before .before .before .before .before .before .before
+    .before .before .before2 .ensures .0) (c .before .before .before .before .before .before .before .before .before .before .before .before .before .before .before .before .before .before
+    .before .before .before .before .before .before .word-at2 .ensures)
+    (c .before .before .before .before .before .before .before .before .before .before .before .before .before .before .before .before .before .before .before .before .before .before .before
+    .before3 .ensures .0) _ _ _ (c .before .before .before .before .before .before .before .before .before .before .before .before .before .before .before .before .before .before .before
+    .before .expression .ensures) _ _ (c .before .before .before .before .before .before .before .before .before .before .before .before .before .before .v .given .1)
+    (c .before .before .before .before .before .before .before .before .before .before .before .v2 .given .1) _ _ _
+    (c .before .before .before .before .before .before .before .expression2 .ensures) _ _ (c .before .n2 .given .1)
 
--- src/lib.rt:376:1
 update-same-length-9 : (t : ℕ) → update-lts.Need-same-length-9 (
   word-at-reads.Asked,
   word-at-reads.Learnt,
@@ -9021,7 +8997,6 @@ update-same-length-9 : (t : ℕ) → update-lts.Need-same-length-9 (
 ) (update-at t) update.Post
 update-same-length-9 t c = search needs
 
--- src/lib.rt:376:1
 update-same-length-10 : (t : ℕ) → update-lts.Need-same-length-10 (
   word-at-reads.Asked,
   word-at-reads.Learnt,
@@ -9036,7 +9011,6 @@ update-same-length-10 : (t : ℕ) → update-lts.Need-same-length-10 (
 ) (update-at t) update.Post
 update-same-length-10 t c = search needs
 
--- src/lib.rt:376:1
 update-returns-5 : (t : ℕ) → update-lts.Need-returns-5 (
   word-at-reads.Asked,
   word-at-reads.Learnt,
@@ -9049,9 +9023,12 @@ update-returns-5 : (t : ℕ) → update-lts.Need-returns-5 (
   store-entry-reads.Asked,
   store-entry-reads.Learnt,
 ) (update-at t) update.Post
-update-returns-5 t c = table-other _ _ _ _ _ _ _ _ _ _ _ _ (c .before .before .before .before .before .before .before .before .before .before .before .before .before .before .word-at .ensures) (c .before .before .before .before .before .before .before .before .before .before .before .before .before .before2 .ensures .0) (c .before .before .before .before .before .before .before .before .before .before .before .before .word-at2 .ensures) (c .before .before .before .before .before .before .before .before .before .before .before .before3 .ensures .0) _ _ _ (c .before .before .before .before .before .before .before .before .expression .ensures) _ (c .before .before .v .given .1) (c .match2 .keys2)
+update-returns-5 t c = table-other _ _ _ _ _ _ _ _ _ _ _ _ (c .before .before .before .before .before .before .before .before .before .before .before .before .before .before .word-at .ensures)
+    (c .before .before .before .before .before .before .before .before .before .before .before .before .before .before2 .ensures .0)
+    (c .before .before .before .before .before .before .before .before .before .before .before .before .word-at2 .ensures)
+    (c .before .before .before .before .before .before .before .before .before .before .before .before3 .ensures .0) _ _ _
+    (c .before .before .before .before .before .before .before .before .expression .ensures) _ (c .before .before .v .given .1) (c .match2 .keys2)
 
--- src/lib.rt:376:1
 update-same-length-11 : (t : ℕ) → update-lts.Need-same-length-11 (
   word-at-reads.Asked,
   word-at-reads.Learnt,
@@ -9066,7 +9043,6 @@ update-same-length-11 : (t : ℕ) → update-lts.Need-same-length-11 (
 ) (update-at t) update.Post
 update-same-length-11 t c = search needs
 
--- src/lib.rt:376:1
 update-same-length-12 : (t : ℕ) → update-lts.Need-same-length-12 (
   word-at-reads.Asked,
   word-at-reads.Learnt,
@@ -9081,7 +9057,6 @@ update-same-length-12 : (t : ℕ) → update-lts.Need-same-length-12 (
 ) (update-at t) update.Post
 update-same-length-12 t c = search needs
 
--- src/lib.rt:376:1
 update-returns-6 : (t : ℕ) → update-lts.Need-returns-6 (
   word-at-reads.Asked,
   word-at-reads.Learnt,
@@ -9094,9 +9069,12 @@ update-returns-6 : (t : ℕ) → update-lts.Need-returns-6 (
   store-entry-reads.Asked,
   store-entry-reads.Learnt,
 ) (update-at t) update.Post
-update-returns-6 t c = table-stops _ _ _ _ _ _ _ _ _ _ _ _ (c .before .before .before .before .before .before .before .before .before .before .before .before .before .word-at .ensures) (c .before .before .before .before .before .before .before .before .before .before .before .before .before2 .ensures .0) (c .before .before .before .before .before .before .before .before .before .before .before .word-at2 .ensures) (c .before .before .before .before .before .before .before .before .before .before .before3 .ensures .0) _ _ _ (c .before .before .before .before .before .before .before .expression .ensures) _ _ (c .before .n3 .given .1)
+update-returns-6 t c = table-stops _ _ _ _ _ _ _ _ _ _ _ _ (c .before .before .before .before .before .before .before .before .before .before .before .before .before .word-at .ensures)
+    (c .before .before .before .before .before .before .before .before .before .before .before .before .before2 .ensures .0)
+    (c .before .before .before .before .before .before .before .before .before .before .before .word-at2 .ensures)
+    (c .before .before .before .before .before .before .before .before .before .before .before3 .ensures .0) _ _ _
+    (c .before .before .before .before .before .before .before .expression .ensures) _ _ (c .before .n3 .given .1)
 
--- src/lib.rt:569:11
 when-test-requires : (t : ℕ) → when-lts.Need-test-requires (
   test-below t,
   test.Post,
@@ -9105,7 +9083,6 @@ when-test-requires : (t : ℕ) → when-lts.Need-test-requires (
 ) (when-at t) when.Post
 when-test-requires t c κs = (omega arith, c .before .before .before .before .before .before .pre .1 .lent)
 
--- src/lib.rt:570:64
 when-enum-told : (t : ℕ) → when-lts.Need-enum-told (
   test-below t,
   test.Post,
@@ -9114,7 +9091,6 @@ when-enum-told : (t : ℕ) → when-lts.Need-enum-told (
 ) (when-at t) when.Post
 when-enum-told t c = search needs
 
--- src/lib.rt:570:84
 when-add-statement : (t : ℕ) → when-lts.Need-add-statement (
   test-below t,
   test.Post,
@@ -9123,7 +9099,6 @@ when-add-statement : (t : ℕ) → when-lts.Need-add-statement (
 ) (when-at t) when.Post
 when-add-statement t c = omega (arith, c .before .before .before .before .before .before .before .before .before .before .before .before .before .before .before .pre .1 .room)
 
--- src/lib.rt:570:31
 when-statement-requires : (t : ℕ) → when-lts.Need-statement-requires (
   test-below t,
   test.Post,
@@ -9132,7 +9107,6 @@ when-statement-requires : (t : ℕ) → when-lts.Need-statement-requires (
 ) (when-at t) when.Post
 when-statement-requires t c κs = (omega arith, still-runs _ _ _ _ _ (let a0 = c .before .before .before .before .before .before .before .texts in omega arith) (let a0 = c .before .before .before .before .before .words in omega arith) _ _ (c .before .before .before .before .before .before .before .before .before .before .before .before .before .before .before .pre .1))
 
--- src/lib.rt:571:29
 when-enum-told-2 : (t : ℕ) → when-lts.Need-enum-told-2 (
   test-below t,
   test.Post,
@@ -9141,7 +9115,6 @@ when-enum-told-2 : (t : ℕ) → when-lts.Need-enum-told-2 (
 ) (when-at t) when.Post
 when-enum-told-2 t c = search needs
 
--- src/lib.rt:572:28
 when-enum-known-v : (t : ℕ) → when-lts.Need-enum-known-v (
   test-below t,
   test.Post,
@@ -9150,7 +9123,6 @@ when-enum-known-v : (t : ℕ) → when-lts.Need-enum-known-v (
 ) (when-at t) when.Post
 when-enum-known-v t c = search needs
 
--- src/lib.rt:573:27
 when-enum-known-n : (t : ℕ) → when-lts.Need-enum-known-n (
   test-below t,
   test.Post,
@@ -9159,7 +9131,6 @@ when-enum-known-n : (t : ℕ) → when-lts.Need-enum-known-n (
 ) (when-at t) when.Post
 when-enum-known-n t c = search needs
 
--- src/lib.rt:575:24
 when-enum-told-3 : (t : ℕ) → when-lts.Need-enum-told-3 (
   test-below t,
   test.Post,
@@ -9168,7 +9139,6 @@ when-enum-told-3 : (t : ℕ) → when-lts.Need-enum-told-3 (
 ) (when-at t) when.Post
 when-enum-told-3 t c = search needs
 
--- src/lib.rt:576:26
 when-enum-known-n-2 : (t : ℕ) → when-lts.Need-enum-known-n-2 (
   test-below t,
   test.Post,
@@ -9177,7 +9147,6 @@ when-enum-known-n-2 : (t : ℕ) → when-lts.Need-enum-known-n-2 (
 ) (when-at t) when.Post
 when-enum-known-n-2 t c = search needs
 
--- src/lib.rt:555:1
 when-same-length : (t : ℕ) → when-lts.Need-same-length (
   test-below t,
   test.Post,
@@ -9186,7 +9155,6 @@ when-same-length : (t : ℕ) → when-lts.Need-same-length (
 ) (when-at t) when.Post
 when-same-length t c = search needs
 
--- src/lib.rt:555:1
 when-same-length-2 : (t : ℕ) → when-lts.Need-same-length-2 (
   test-below t,
   test.Post,
@@ -9195,16 +9163,16 @@ when-same-length-2 : (t : ℕ) → when-lts.Need-same-length-2 (
 ) (when-at t) when.Post
 when-same-length-2 t c = search needs
 
--- src/lib.rt:555:1
 when-returns : (t : ℕ) → when-lts.Need-returns (
   test-below t,
   test.Post,
   statement-below t,
   statement′.Post,
 ) (when-at t) when.Post
-when-returns t c = when-holds _ _ _ _ _ _ _ _ _ _ (c .before .before .before .before .before .before .before .before .before .before .before .before .before .before .before .test .ensures) _ _ _ _ (c .before .before .before .before .before .before .before .before .before .enum-told .given .1) (c .before .before .before .before .before .before .statement .ensures) (c .enum-told2 .given .1)
+when-returns t c = when-holds _ _ _ _ _ _ _ _ _ _ (c .before .before .before .before .before .before .before .before .before .before .before .before .before .before .before .test .ensures) _ _
+    _ _ (c .before .before .before .before .before .before .before .before .before .enum-told .given .1) (c .before .before .before .before .before .before .statement .ensures)
+    (c .enum-told2 .given .1)
 
--- src/lib.rt:555:1
 when-same-length-3 : (t : ℕ) → when-lts.Need-same-length-3 (
   test-below t,
   test.Post,
@@ -9213,7 +9181,6 @@ when-same-length-3 : (t : ℕ) → when-lts.Need-same-length-3 (
 ) (when-at t) when.Post
 when-same-length-3 t c = search needs
 
--- src/lib.rt:555:1
 when-same-length-4 : (t : ℕ) → when-lts.Need-same-length-4 (
   test-below t,
   test.Post,
@@ -9222,16 +9189,16 @@ when-same-length-4 : (t : ℕ) → when-lts.Need-same-length-4 (
 ) (when-at t) when.Post
 when-same-length-4 t c = search needs
 
--- src/lib.rt:555:1
 when-returns-2 : (t : ℕ) → when-lts.Need-returns-2 (
   test-below t,
   test.Post,
   statement-below t,
   statement′.Post,
 ) (when-at t) when.Post
-when-returns-2 t c = when-holds _ _ _ _ _ _ _ _ _ _ (c .before .before .before .before .before .before .before .before .before .before .before .before .before .before .before .before .test .ensures) _ _ _ _ (c .before .before .before .before .before .before .before .before .before .before .enum-told .given .1) (c .before .before .before .before .before .before .before .statement .ensures) (c .before .v .given .1)
+when-returns-2 t c = when-holds _ _ _ _ _ _ _ _ _ _ (c .before .before .before .before .before .before .before .before .before .before .before .before .before .before .before .before .test
+    .ensures) _ _ _ _ (c .before .before .before .before .before .before .before .before .before .before .enum-told .given .1)
+    (c .before .before .before .before .before .before .before .statement .ensures) (c .before .v .given .1)
 
--- src/lib.rt:555:1
 when-same-length-5 : (t : ℕ) → when-lts.Need-same-length-5 (
   test-below t,
   test.Post,
@@ -9240,7 +9207,6 @@ when-same-length-5 : (t : ℕ) → when-lts.Need-same-length-5 (
 ) (when-at t) when.Post
 when-same-length-5 t c = search needs
 
--- src/lib.rt:555:1
 when-same-length-6 : (t : ℕ) → when-lts.Need-same-length-6 (
   test-below t,
   test.Post,
@@ -9249,16 +9215,16 @@ when-same-length-6 : (t : ℕ) → when-lts.Need-same-length-6 (
 ) (when-at t) when.Post
 when-same-length-6 t c = search needs
 
--- src/lib.rt:555:1
 when-returns-3 : (t : ℕ) → when-lts.Need-returns-3 (
   test-below t,
   test.Post,
   statement-below t,
   statement′.Post,
 ) (when-at t) when.Post
-when-returns-3 t c = when-holds _ _ _ _ _ _ _ _ _ _ (c .before .before .before .before .before .before .before .before .before .before .before .before .before .before .before .before .test .ensures) _ _ _ _ (c .before .before .before .before .before .before .before .before .before .before .enum-told .given .1) (c .before .before .before .before .before .before .before .statement .ensures) (c .before .n .given .1)
+when-returns-3 t c = when-holds _ _ _ _ _ _ _ _ _ _ (c .before .before .before .before .before .before .before .before .before .before .before .before .before .before .before .before .test
+    .ensures) _ _ _ _ (c .before .before .before .before .before .before .before .before .before .before .enum-told .given .1)
+    (c .before .before .before .before .before .before .before .statement .ensures) (c .before .n .given .1)
 
--- src/lib.rt:555:1
 when-same-length-7 : (t : ℕ) → when-lts.Need-same-length-7 (
   test-below t,
   test.Post,
@@ -9267,7 +9233,6 @@ when-same-length-7 : (t : ℕ) → when-lts.Need-same-length-7 (
 ) (when-at t) when.Post
 when-same-length-7 t c = search needs
 
--- src/lib.rt:555:1
 when-same-length-8 : (t : ℕ) → when-lts.Need-same-length-8 (
   test-below t,
   test.Post,
@@ -9276,7 +9241,6 @@ when-same-length-8 : (t : ℕ) → when-lts.Need-same-length-8 (
 ) (when-at t) when.Post
 when-same-length-8 t c = search needs
 
--- src/lib.rt:555:1
 when-returns-4 : (t : ℕ) → when-lts.Need-returns-4 (
   test-below t,
   test.Post,
@@ -9285,7 +9249,6 @@ when-returns-4 : (t : ℕ) → when-lts.Need-returns-4 (
 ) (when-at t) when.Post
 when-returns-4 t c = search when-not
 
--- src/lib.rt:555:1
 when-same-length-9 : (t : ℕ) → when-lts.Need-same-length-9 (
   test-below t,
   test.Post,
@@ -9294,7 +9257,6 @@ when-same-length-9 : (t : ℕ) → when-lts.Need-same-length-9 (
 ) (when-at t) when.Post
 when-same-length-9 t c = search needs
 
--- src/lib.rt:555:1
 when-same-length-10 : (t : ℕ) → when-lts.Need-same-length-10 (
   test-below t,
   test.Post,
@@ -9303,7 +9265,6 @@ when-same-length-10 : (t : ℕ) → when-lts.Need-same-length-10 (
 ) (when-at t) when.Post
 when-same-length-10 t c = search needs
 
--- src/lib.rt:555:1
 when-returns-5 : (t : ℕ) → when-lts.Need-returns-5 (
   test-below t,
   test.Post,

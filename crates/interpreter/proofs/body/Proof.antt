@@ -3,27 +3,21 @@ use Rattle.interpreter.proofs.StatementLaws.{in-body}
 use Rattle.interpreter.proofs.body.Statement.{statement}
 use Rattle.interpreter.proofs.body.Tie as tie
 
--- src/lib.rt:559:70
 add-statements : tie.Need-add-statements
 add-statements c = search needs
 
--- src/lib.rt:559:77
 add-statements-2 : tie.Need-add-statements-2
 add-statements-2 c = search needs
 
--- src/lib.rt:559:9
 statements-requires : tie.Need-statements-requires
 statements-requires c κs = search needs
 
--- src/lib.rt:545:1
 same-length : tie.Need-same-length
 same-length c = search needs
 
--- src/lib.rt:545:1
 same-length-2 : tie.Need-same-length-2
 same-length-2 c = search needs
 
--- src/lib.rt:545:1
 returns : tie.Need-returns
 returns c = search in-body
 

@@ -2,39 +2,30 @@ use borrow.Author.Needs.{needs}
 use Rattle.lending.proofs.clear.Statement.{statement}
 use Rattle.lending.proofs.clear.Tie as tie
 
--- src/lib.rt:66:5
 clear-words-requires : tie.Need-clear-words-requires
 clear-words-requires c κs = search needs
 
--- src/lib.rt:67:5
 clear-words-requires-2 : tie.Need-clear-words-requires-2
 clear-words-requires-2 c κs = search needs
 
--- src/lib.rt:68:5
 clear-words-requires-3 : tie.Need-clear-words-requires-3
 clear-words-requires-3 c κs = search needs
 
--- src/lib.rt:69:5
 clear-bytes-requires : tie.Need-clear-bytes-requires
 clear-bytes-requires c κs = search needs
 
--- src/lib.rt:60:1
 same-length : tie.Need-same-length
 same-length c = search needs
 
--- src/lib.rt:60:1
 same-length-2 : tie.Need-same-length-2
 same-length-2 c = search needs
 
--- src/lib.rt:60:1
 same-length-3 : tie.Need-same-length-3
 same-length-3 c = search needs
 
--- src/lib.rt:60:1
 same-length-4 : tie.Need-same-length-4
 same-length-4 c = search needs
 
--- src/lib.rt:60:1
 returns : tie.Need-returns
 returns c = (c .before .before .before .before .before .before .before .before .before .before .before .before .before .before .clear-words .ensures, (c .before .before .before .before .before .before .before .before .before .before .clear-words2 .ensures, (c .before .before .before .before .before .before .clear-words3 .ensures, c .before .before .clear-bytes .ensures)))
 

@@ -3,51 +3,39 @@ use borrow.Author.Needs.{needs}
 use Rattle.lending.proofs.in_range.Statement.{statement}
 use Rattle.lending.proofs.in_range.Tie as tie
 
--- src/lib.rt:14:21
 element-copy-out-if1 : tie.Need-element-copy-out-if1
 element-copy-out-if1 c = search needs
 
--- src/lib.rt:15:9
 returns : tie.Need-returns
 returns c = search steps-out
 
--- src/lib.rt:17:16
 element-copy-out-if2 : tie.Need-element-copy-out-if2
 element-copy-out-if2 c = search needs
 
--- src/lib.rt:18:9
 returns-2 : tie.Need-returns-2
 returns-2 c = search shapes-out
 
--- src/lib.rt:20:16
 element-copy-out-if3 : tie.Need-element-copy-out-if3
 element-copy-out-if3 c = search needs
 
--- src/lib.rt:21:9
 returns-3 : tie.Need-returns-3
 returns-3 c = search entries-out
 
--- src/lib.rt:23:16
 element-copy-out-if4 : tie.Need-element-copy-out-if4
 element-copy-out-if4 c = search needs
 
--- src/lib.rt:24:9
 returns-4 : tie.Need-returns-4
 returns-4 c = search text-out
 
--- src/lib.rt:26:8
 element-copy-out-if5 : tie.Need-element-copy-out-if5
 element-copy-out-if5 c = search needs
 
--- src/lib.rt:27:9
 returns-5 : tie.Need-returns-5
 returns-5 c = search no-call
 
--- src/lib.rt:29:5
 element-copy-out-result : tie.Need-element-copy-out-result
 element-copy-out-result c = search needs
 
--- src/lib.rt:11:1
 returns-6 : tie.Need-returns-6
 returns-6 c = search calls-asked
 

@@ -3,43 +3,33 @@ use borrow.Author.Needs.{needs}
 use Rattle.library.proofs.destroy.Statement.{statement}
 use Rattle.library.proofs.destroy.Tie as tie
 
--- src/lib.rt:105:9
 returns : tie.Need-returns
 returns c = search destroy-count
 
--- src/lib.rt:107:9
 is-kind-requires : tie.Need-is-kind-requires
 is-kind-requires c κs = search needs
 
--- src/lib.rt:108:9
 same-length : tie.Need-same-length
 same-length c = search needs
 
--- src/lib.rt:108:9
 returns-2 : tie.Need-returns-2
 returns-2 c = search destroy-kind
 
--- src/lib.rt:110:9
 shape-at-requires : tie.Need-shape-at-requires
 shape-at-requires c κs = search needs
 
--- src/lib.rt:111:9
 destroy-all-requires : tie.Need-destroy-all-requires
 destroy-all-requires c κs = search needs
 
--- src/lib.rt:113:9
 same-length-2 : tie.Need-same-length-2
 same-length-2 c = search needs
 
--- src/lib.rt:113:9
 returns-3 : tie.Need-returns-3
 returns-3 c = search destroy-stops
 
--- src/lib.rt:100:1
 same-length-3 : tie.Need-same-length-3
 same-length-3 c = search needs
 
--- src/lib.rt:100:1
 returns-4 : tie.Need-returns-4
 returns-4 c = search destroy-done
 

@@ -27,7 +27,8 @@ same-length-2 c = search needs
 
 returns : tie.Need-returns
 returns c =
-    let same = c .before .before .before .before .before .before .before .before .before .before .before .fill .kept .1 .1 .0 ∙ c .before .before .before .before .before .before .before .before .before .before .before .before .before .before .before .before .clear-words .kept .0 in
+    let same = c .before .before .before .before .before .before .before .before .before .before .before .fill .kept .1 .1 .0
+    ∙ c .before .before .before .before .before .before .before .before .before .before .before .before .before .before .before .before .clear-words .kept .0 in
     (search needs, c .before .before .clear-words2 .ensures ∙ ap (λ (n : ℕ). replicate n 0) same)
 
 pub prepare-spec : {M : Type 1} → statement M

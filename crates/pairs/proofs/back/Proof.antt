@@ -3,51 +3,39 @@ use Rattle.pairs.proofs.PairLaws.{back-both, back-fits, back-fits′}
 use Rattle.pairs.proofs.back.Statement.{statement}
 use Rattle.pairs.proofs.back.Tie as tie
 
--- src/pairs.rt:52:14
 place-of-requires : tie.Need-place-of-requires
 place-of-requires c κs = search needs
 
--- src/pairs.rt:52:14
 add-at : tie.Need-add-at
 add-at c = search needs
 
--- src/pairs.rt:53:9
 word-at-requires : tie.Need-word-at-requires
 word-at-requires c κs = search needs
 
--- src/pairs.rt:54:35
 add-word-at : tie.Need-add-word-at
 add-word-at c = search needs
 
--- src/pairs.rt:54:9
 word-at-requires-2 : tie.Need-word-at-requires-2
 word-at-requires-2 c κs = search needs
 
--- src/pairs.rt:57:9
 cast-t8 : tie.Need-cast-t8
 cast-t8 c = search needs
 
--- src/pairs.rt:57:9
 add-t9 : tie.Need-add-t9
 add-t9 c = search back-fits
 
--- src/pairs.rt:58:9
 cast-t12 : tie.Need-cast-t12
 cast-t12 c = search needs
 
--- src/pairs.rt:59:9
 cast-t14 : tie.Need-cast-t14
 cast-t14 c = search needs
 
--- src/pairs.rt:59:9
 add-t15 : tie.Need-add-t15
 add-t15 c = search back-fits′
 
--- src/pairs.rt:60:9
 cast-t18 : tie.Need-cast-t18
 cast-t18 c = search needs
 
--- src/pairs.rt:48:1
 returns : tie.Need-returns
 returns c = search back-both
 

@@ -3,39 +3,30 @@ use Rattle.pairs.proofs.PairLaws.{keeps-both}
 use Rattle.pairs.proofs.keep.Statement.{statement}
 use Rattle.pairs.proofs.keep.Tie as tie
 
--- src/pairs.rt:42:14
 place-of-requires : tie.Need-place-of-requires
 place-of-requires c κs = search needs
 
--- src/pairs.rt:42:14
 add-at : tie.Need-add-at
 add-at c = search needs
 
--- src/pairs.rt:43:32
 way-word-requires : tie.Need-way-word-requires
 way-word-requires c κs = search needs
 
--- src/pairs.rt:43:5
 put-word-requires : tie.Need-put-word-requires
 put-word-requires c κs = search needs
 
--- src/pairs.rt:44:28
 add-put-word : tie.Need-add-put-word
 add-put-word c = search needs
 
--- src/pairs.rt:44:36
 way-word-requires-2 : tie.Need-way-word-requires-2
 way-word-requires-2 c κs = search needs
 
--- src/pairs.rt:44:5
 put-word-requires-2 : tie.Need-put-word-requires-2
 put-word-requires-2 c κs = search needs
 
--- src/pairs.rt:39:1
 same-length : tie.Need-same-length
 same-length c = search needs
 
--- src/pairs.rt:39:1
 returns : tie.Need-returns
 returns c = search keeps-both
 

@@ -3,47 +3,36 @@ use Rattle.pairs.proofs.PairLaws.{meet-beyond, meet-groups, meet-group-
 use Rattle.pairs.proofs.meet.Statement.{statement}
 use Rattle.pairs.proofs.meet.Tie as tie
 
--- src/pairs.rt:90:8
 element-copy-out-if1 : tie.Need-element-copy-out-if1
 element-copy-out-if1 c = search needs
 
--- src/pairs.rt:91:9
 returns : tie.Need-returns
 returns c = search meet-beyond
 
--- src/pairs.rt:93:8
 is-group-requires : tie.Need-is-group-requires
 is-group-requires c κs = search needs
 
--- src/pairs.rt:94:12
 is-group-requires-2 : tie.Need-is-group-requires-2
 is-group-requires-2 c κs = search needs
 
--- src/pairs.rt:95:13
 returns-2 : tie.Need-returns-2
 returns-2 c = search meet-groups
 
--- src/pairs.rt:97:9
 returns-3 : tie.Need-returns-3
 returns-3 c = search meet-group-left
 
--- src/pairs.rt:99:8
 is-group-requires-3 : tie.Need-is-group-requires-3
 is-group-requires-3 c κs = search needs
 
--- src/pairs.rt:100:9
 returns-4 : tie.Need-returns-4
 returns-4 c = search meet-group-right
 
--- src/pairs.rt:102:8
 same-shape-requires : tie.Need-same-shape-requires
 same-shape-requires c κs = search needs
 
--- src/pairs.rt:103:9
 returns-5 : tie.Need-returns-5
 returns-5 c = search meet-same
 
--- src/pairs.rt:79:1
 returns-6 : tie.Need-returns-6
 returns-6 c = search meet-other
 

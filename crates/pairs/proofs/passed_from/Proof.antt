@@ -11,39 +11,30 @@ Inv-loop words grants k n y₀ y = Passed grants words k n y
 abbrev μ-loop : tie.MeasureT-loop
 μ-loop words grants k n y₀ y = n - y
 
--- src/pairs.rt:21:5
 loop-holds : tie.Need-loop-holds Inv-loop μ-loop
 loop-holds c = search pass-first
 
--- src/pairs.rt:22:57
 add-component-at : tie.Need-add-component-at Inv-loop μ-loop
 add-component-at c = search needs
 
--- src/pairs.rt:22:13
 component-at-requires : tie.Need-component-at-requires Inv-loop μ-loop
 component-at-requires c κs = search needs
 
--- src/pairs.rt:23:13
 is-destroyed-requires : tie.Need-is-destroyed-requires Inv-loop μ-loop
 is-destroyed-requires c κs = search needs
 
--- src/pairs.rt:24:13
 returns : tie.Need-returns Inv-loop μ-loop
 returns c = search pass-found
 
--- src/pairs.rt:26:9
 add-y : tie.Need-add-y Inv-loop μ-loop
 add-y c = omega arith
 
--- src/pairs.rt:21:5
 loop-less : tie.Need-loop-less Inv-loop μ-loop
 loop-less c = omega arith
 
--- src/pairs.rt:21:5
 loop-again : tie.Need-loop-again Inv-loop μ-loop
 loop-again c = search pass-next
 
--- src/pairs.rt:16:1
 returns-2 : tie.Need-returns-2 Inv-loop μ-loop
 returns-2 c = search pass-last
 

@@ -4,79 +4,60 @@ use Rattle.pairs.proofs.PairLaws.{pairs-none, turn-ends, turn-over, tur
 use Rattle.pairs.proofs.turn.Statement.{statement}
 use Rattle.pairs.proofs.turn.Tie as tie
 
--- src/pairs.rt:158:9
 end-requires : tie.Need-end-requires
 end-requires c κs = search pairs-none
 
--- src/pairs.rt:158:9
 same-length : tie.Need-same-length
 same-length c = search needs
 
--- src/pairs.rt:158:9
 returns : tie.Need-returns
 returns c = search turn-ends
 
--- src/pairs.rt:160:36
 component-at-requires : tie.Need-component-at-requires
 component-at-requires c κs = search needs
 
--- src/pairs.rt:160:8
 is-destroyed-requires : tie.Need-is-destroyed-requires
 is-destroyed-requires c κs = search needs
 
--- src/pairs.rt:161:32
 add-t21 : tie.Need-add-t21
 add-t21 c = search needs
 
--- src/pairs.rt:161:39
 sub-t22 : tie.Need-sub-t22
 sub-t22 c = search needs
 
--- src/pairs.rt:161:9
 same-length-2 : tie.Need-same-length-2
 same-length-2 c = search needs
 
--- src/pairs.rt:161:9
 returns-2 : tie.Need-returns-2
 returns-2 c = search turn-over
 
--- src/pairs.rt:163:9
 passed-from-requires : tie.Need-passed-from-requires
 passed-from-requires c κs = search needs
 
--- src/pairs.rt:165:9
 same-length-3 : tie.Need-same-length-3
 same-length-3 c = search needs
 
--- src/pairs.rt:165:9
 returns-3 : tie.Need-returns-3
 returns-3 c = search turn-short
 
--- src/pairs.rt:167:55
 sub-pair : tie.Need-sub-pair
 sub-pair c = search needs
 
--- src/pairs.rt:167:62
 add-pair : tie.Need-add-pair
 add-pair c = omega (arith, right-most _ _ _ _ _ (c .before .before .passed-from .ensures), c .before .before .before .before .before .before .before .before .before .before .before .before .pre .small′)
 
--- src/pairs.rt:167:69
 sub-pair-2 : tie.Need-sub-pair-2
 sub-pair-2 c = right-most _ _ _ _ _ (c .before .before .passed-from .ensures)
 
--- src/pairs.rt:167:69
 sub-pair-3 : tie.Need-sub-pair-3
 sub-pair-3 c = right-more _ _ _ _ _ (c .before .before .passed-from .ensures) (c .before .if3 .left)
 
--- src/pairs.rt:167:9
 pair-requires : tie.Need-pair-requires
 pair-requires c κs = search pair-asks
 
--- src/pairs.rt:143:1
 same-length-4 : tie.Need-same-length-4
 same-length-4 c = search needs
 
--- src/pairs.rt:143:1
 returns-4 : tie.Need-returns-4
 returns-4 c = search turn-pair
 

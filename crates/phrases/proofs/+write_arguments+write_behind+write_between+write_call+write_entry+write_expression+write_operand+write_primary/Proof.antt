@@ -179,7 +179,6 @@ write-arguments-Inv-loop program tokens code fuel first x out₀ at next₀ y₀
 abbrev write-arguments-μ-loop : write-arguments-lts.MeasureT-loop
 write-arguments-μ-loop program tokens code fuel first x out₀ at next₀ y₀ t11 out next y = x - y
 
--- src/expression.rt:225:9
 write-arguments-returns : (t : ℕ) → write-arguments-lts.Need-returns (
   write-expression-below t,
   write-expression.Post,
@@ -190,7 +189,6 @@ write-arguments-returns : (t : ℕ) → write-arguments-lts.Need-returns (
 ) (write-arguments-at t) write-arguments.Post write-arguments-Inv-loop write-arguments-μ-loop
 write-arguments-returns t c = search no-argument
 
--- src/expression.rt:227:9
 write-arguments-write-expression-requires :
     (t : ℕ) → write-arguments-lts.Need-write-expression-requires (
       write-expression-below t,
@@ -202,7 +200,6 @@ write-arguments-write-expression-requires :
     ) (write-arguments-at t) write-arguments.Post write-arguments-Inv-loop write-arguments-μ-loop
 write-arguments-write-expression-requires t c κs = search needs
 
--- src/expression.rt:228:35
 write-arguments-add-argument-at : (t : ℕ) → write-arguments-lts.Need-add-argument-at (
   write-expression-below t,
   write-expression.Post,
@@ -213,7 +210,6 @@ write-arguments-add-argument-at : (t : ℕ) → write-arguments-lts.Need-add-arg
 ) (write-arguments-at t) write-arguments.Post write-arguments-Inv-loop write-arguments-μ-loop
 write-arguments-add-argument-at t c = search needs
 
--- src/expression.rt:228:9
 write-arguments-argument-at-requires : (t : ℕ) → write-arguments-lts.Need-argument-at-requires (
   write-expression-below t,
   write-expression.Post,
@@ -224,7 +220,6 @@ write-arguments-argument-at-requires : (t : ℕ) → write-arguments-lts.Need-ar
 ) (write-arguments-at t) write-arguments.Post write-arguments-Inv-loop write-arguments-μ-loop
 write-arguments-argument-at-requires t c κs = search needs
 
--- src/expression.rt:229:5
 write-arguments-loop-holds : (t : ℕ) → write-arguments-lts.Need-loop-holds (
   write-expression-below t,
   write-expression.Post,
@@ -235,7 +230,6 @@ write-arguments-loop-holds : (t : ℕ) → write-arguments-lts.Need-loop-holds (
 ) (write-arguments-at t) write-arguments.Post write-arguments-Inv-loop write-arguments-μ-loop
 write-arguments-loop-holds t c = list-first _ _ _ _ _ _ _ (omega arith) (omega arith) (omega (arith, c .before .before .before .before .before .if1 .left)) (c .argument-at .ensures)
 
--- src/expression.rt:230:58
 write-arguments-slice-aggregate-write-behind :
     (t : ℕ) → write-arguments-lts.Need-slice-aggregate-write-behind (
       write-expression-below t,
@@ -247,7 +241,6 @@ write-arguments-slice-aggregate-write-behind :
     ) (write-arguments-at t) write-arguments.Post write-arguments-Inv-loop write-arguments-μ-loop
 write-arguments-slice-aggregate-write-behind t c = search needs
 
--- src/expression.rt:230:9
 write-arguments-write-behind-requires : (t : ℕ) → write-arguments-lts.Need-write-behind-requires (
   write-expression-below t,
   write-expression.Post,
@@ -258,7 +251,6 @@ write-arguments-write-behind-requires : (t : ℕ) → write-arguments-lts.Need-w
 ) (write-arguments-at t) write-arguments.Post write-arguments-Inv-loop write-arguments-μ-loop
 write-arguments-write-behind-requires t c κs = search needs
 
--- src/expression.rt:231:31
 write-arguments-add-argument-at-2 : (t : ℕ) → write-arguments-lts.Need-add-argument-at-2 (
   write-expression-below t,
   write-expression.Post,
@@ -269,7 +261,6 @@ write-arguments-add-argument-at-2 : (t : ℕ) → write-arguments-lts.Need-add-a
 ) (write-arguments-at t) write-arguments.Post write-arguments-Inv-loop write-arguments-μ-loop
 write-arguments-add-argument-at-2 t c = search needs
 
--- src/expression.rt:231:9
 write-arguments-argument-at-requires-2 : (t : ℕ) → write-arguments-lts.Need-argument-at-requires-2 (
   write-expression-below t,
   write-expression.Post,
@@ -280,7 +271,6 @@ write-arguments-argument-at-requires-2 : (t : ℕ) → write-arguments-lts.Need-
 ) (write-arguments-at t) write-arguments.Post write-arguments-Inv-loop write-arguments-μ-loop
 write-arguments-argument-at-requires-2 t c κs = search needs
 
--- src/expression.rt:229:5
 write-arguments-loop-less : (t : ℕ) → write-arguments-lts.Need-loop-less (
   write-expression-below t,
   write-expression.Post,
@@ -291,7 +281,6 @@ write-arguments-loop-less : (t : ℕ) → write-arguments-lts.Need-loop-less (
 ) (write-arguments-at t) write-arguments.Post write-arguments-Inv-loop write-arguments-μ-loop
 write-arguments-loop-less t c = search root-falls
 
--- src/expression.rt:229:5
 write-arguments-loop-again : (t : ℕ) → write-arguments-lts.Need-loop-again (
   write-expression-below t,
   write-expression.Post,
@@ -308,7 +297,6 @@ write-arguments-loop-again t c =
     (c .before .before .before .write-behind .ensures)
     (c .argument-at2 .ensures)
 
--- src/expression.rt:211:1
 write-arguments-same-length : (t : ℕ) → write-arguments-lts.Need-same-length (
   write-expression-below t,
   write-expression.Post,
@@ -319,7 +307,6 @@ write-arguments-same-length : (t : ℕ) → write-arguments-lts.Need-same-length
 ) (write-arguments-at t) write-arguments.Post write-arguments-Inv-loop write-arguments-μ-loop
 write-arguments-same-length t c = search needs
 
--- src/expression.rt:211:1
 write-arguments-returns-2 : (t : ℕ) → write-arguments-lts.Need-returns-2 (
   write-expression-below t,
   write-expression.Post,
@@ -336,7 +323,6 @@ write-arguments-returns-2 t c =
     (c .before .before .before .before .before .write-expression .ensures)
     (list-ends _ _ _ _ _ _ _ (c .before .loop .inv) (omega arith))
 
--- src/expression.rt:158:9
 write-behind-write-bytes-at-requires : (t : ℕ) → write-behind-lts.Need-write-bytes-at-requires (
   write-bytes-at-reads.Asked,
   write-bytes-at-reads.Learnt,
@@ -345,7 +331,6 @@ write-behind-write-bytes-at-requires : (t : ℕ) → write-behind-lts.Need-write
 ) (write-behind-at t) write-behind.Post
 write-behind-write-bytes-at-requires t c κs = search needs
 
--- src/expression.rt:159:5
 write-behind-write-expression-requires : (t : ℕ) → write-behind-lts.Need-write-expression-requires (
   write-bytes-at-reads.Asked,
   write-bytes-at-reads.Learnt,
@@ -354,7 +339,6 @@ write-behind-write-expression-requires : (t : ℕ) → write-behind-lts.Need-wri
 ) (write-behind-at t) write-behind.Post
 write-behind-write-expression-requires t c κs = search needs
 
--- src/expression.rt:145:1
 write-behind-same-length : (t : ℕ) → write-behind-lts.Need-same-length (
   write-bytes-at-reads.Asked,
   write-bytes-at-reads.Learnt,
@@ -363,7 +347,6 @@ write-behind-same-length : (t : ℕ) → write-behind-lts.Need-same-length (
 ) (write-behind-at t) write-behind.Post
 write-behind-same-length t c = search needs
 
--- src/expression.rt:145:1
 write-behind-returns : (t : ℕ) → write-behind-lts.Need-returns (
   write-bytes-at-reads.Asked,
   write-bytes-at-reads.Learnt,
@@ -372,7 +355,6 @@ write-behind-returns : (t : ℕ) → write-behind-lts.Need-returns (
 ) (write-behind-at t) write-behind.Post
 write-behind-returns t c = search then-two
 
--- src/expression.rt:177:9
 write-between-write-behind-requires : (t : ℕ) → write-between-lts.Need-write-behind-requires (
   write-behind-below t,
   write-behind.Post,
@@ -381,7 +363,6 @@ write-between-write-behind-requires : (t : ℕ) → write-between-lts.Need-write
 ) (write-between-at t) write-between.Post
 write-between-write-behind-requires t c κs = search needs
 
--- src/expression.rt:178:5
 write-between-write-bytes-at-requires : (t : ℕ) → write-between-lts.Need-write-bytes-at-requires (
   write-behind-below t,
   write-behind.Post,
@@ -390,7 +371,6 @@ write-between-write-bytes-at-requires : (t : ℕ) → write-between-lts.Need-wri
 ) (write-between-at t) write-between.Post
 write-between-write-bytes-at-requires t c κs = search needs
 
--- src/expression.rt:163:1
 write-between-same-length : (t : ℕ) → write-between-lts.Need-same-length (
   write-behind-below t,
   write-behind.Post,
@@ -399,7 +379,6 @@ write-between-same-length : (t : ℕ) → write-between-lts.Need-same-length (
 ) (write-between-at t) write-between.Post
 write-between-same-length t c = search needs
 
--- src/expression.rt:163:1
 write-between-returns : (t : ℕ) → write-between-lts.Need-returns (
   write-behind-below t,
   write-behind.Post,
@@ -408,7 +387,6 @@ write-between-returns : (t : ℕ) → write-between-lts.Need-returns (
 ) (write-between-at t) write-between.Post
 write-between-returns t c = search then-two
 
--- src/expression.rt:203:31
 write-call-first-argument-requires : (t : ℕ) → write-call-lts.Need-first-argument-requires (
   first-argument-reads.Asked,
   first-argument-reads.Learnt,
@@ -425,7 +403,6 @@ write-call-first-argument-requires : (t : ℕ) → write-call-lts.Need-first-arg
 ) (write-call-at t) write-call.Post
 write-call-first-argument-requires t c κs = search needs
 
--- src/expression.rt:203:9
 write-call-argument-at-requires : (t : ℕ) → write-call-lts.Need-argument-at-requires (
   first-argument-reads.Asked,
   first-argument-reads.Learnt,
@@ -442,7 +419,6 @@ write-call-argument-at-requires : (t : ℕ) → write-call-lts.Need-argument-at-
 ) (write-call-at t) write-call.Post
 write-call-argument-at-requires t c κs = search needs
 
--- src/expression.rt:204:44
 write-call-callee-of-requires : (t : ℕ) → write-call-lts.Need-callee-of-requires (
   first-argument-reads.Asked,
   first-argument-reads.Learnt,
@@ -459,7 +435,6 @@ write-call-callee-of-requires : (t : ℕ) → write-call-lts.Need-callee-of-requ
 ) (write-call-at t) write-call.Post
 write-call-callee-of-requires t c κs = search needs
 
--- src/expression.rt:204:9
 write-call-write-name-requires : (t : ℕ) → write-call-lts.Need-write-name-requires (
   first-argument-reads.Asked,
   first-argument-reads.Learnt,
@@ -476,7 +451,6 @@ write-call-write-name-requires : (t : ℕ) → write-call-lts.Need-write-name-re
 ) (write-call-at t) write-call.Post
 write-call-write-name-requires t c κs = search needs
 
--- src/expression.rt:205:44
 write-call-slice-aggregate-write-bytes-at :
     (t : ℕ) → write-call-lts.Need-slice-aggregate-write-bytes-at (
       first-argument-reads.Asked,
@@ -494,7 +468,6 @@ write-call-slice-aggregate-write-bytes-at :
     ) (write-call-at t) write-call.Post
 write-call-slice-aggregate-write-bytes-at t c = search needs
 
--- src/expression.rt:205:9
 write-call-write-bytes-at-requires : (t : ℕ) → write-call-lts.Need-write-bytes-at-requires (
   first-argument-reads.Asked,
   first-argument-reads.Learnt,
@@ -511,7 +484,6 @@ write-call-write-bytes-at-requires : (t : ℕ) → write-call-lts.Need-write-byt
 ) (write-call-at t) write-call.Post
 write-call-write-bytes-at-requires t c κs = search needs
 
--- src/expression.rt:206:9
 write-call-write-arguments-requires : (t : ℕ) → write-call-lts.Need-write-arguments-requires (
   first-argument-reads.Asked,
   first-argument-reads.Learnt,
@@ -528,7 +500,6 @@ write-call-write-arguments-requires : (t : ℕ) → write-call-lts.Need-write-ar
 ) (write-call-at t) write-call.Post
 write-call-write-arguments-requires t c κs = search needs
 
--- src/expression.rt:207:30
 write-call-slice-aggregate-write-bytes-at-2 :
     (t : ℕ) → write-call-lts.Need-slice-aggregate-write-bytes-at-2 (
       first-argument-reads.Asked,
@@ -546,7 +517,6 @@ write-call-slice-aggregate-write-bytes-at-2 :
     ) (write-call-at t) write-call.Post
 write-call-slice-aggregate-write-bytes-at-2 t c = search needs
 
--- src/expression.rt:207:5
 write-call-write-bytes-at-requires-2 : (t : ℕ) → write-call-lts.Need-write-bytes-at-requires-2 (
   first-argument-reads.Asked,
   first-argument-reads.Learnt,
@@ -563,7 +533,6 @@ write-call-write-bytes-at-requires-2 : (t : ℕ) → write-call-lts.Need-write-b
 ) (write-call-at t) write-call.Post
 write-call-write-bytes-at-requires-2 t c κs = search needs
 
--- src/expression.rt:190:1
 write-call-same-length : (t : ℕ) → write-call-lts.Need-same-length (
   first-argument-reads.Asked,
   first-argument-reads.Learnt,
@@ -580,7 +549,6 @@ write-call-same-length : (t : ℕ) → write-call-lts.Need-same-length (
 ) (write-call-at t) write-call.Post
 write-call-same-length t c = search needs
 
--- src/expression.rt:190:1
 write-call-returns : (t : ℕ) → write-call-lts.Need-returns (
   first-argument-reads.Asked,
   first-argument-reads.Learnt,
@@ -606,7 +574,6 @@ write-call-returns t c =
     (c .before .before .before .before .before .before .before .write-arguments .ensures)
     (c .before .before .write-bytes-at2 .ensures)
 
--- src/expression.rt:108:9
 write-entry-write-primary-requires : (t : ℕ) → write-entry-lts.Need-write-primary-requires (
   write-primary-below t,
   write-primary.Post,
@@ -615,7 +582,6 @@ write-entry-write-primary-requires : (t : ℕ) → write-entry-lts.Need-write-pr
 ) (write-entry-at t) write-entry.Post
 write-entry-write-primary-requires t c κs = (search side-falls, tt)
 
--- src/expression.rt:109:9
 write-entry-write-sign-requires : (t : ℕ) → write-entry-lts.Need-write-sign-requires (
   write-primary-below t,
   write-primary.Post,
@@ -624,7 +590,6 @@ write-entry-write-sign-requires : (t : ℕ) → write-entry-lts.Need-write-sign-
 ) (write-entry-at t) write-entry.Post
 write-entry-write-sign-requires t c κs = search needs
 
--- src/expression.rt:110:5
 write-entry-write-primary-requires-2 : (t : ℕ) → write-entry-lts.Need-write-primary-requires-2 (
   write-primary-below t,
   write-primary.Post,
@@ -633,7 +598,6 @@ write-entry-write-primary-requires-2 : (t : ℕ) → write-entry-lts.Need-write-
 ) (write-entry-at t) write-entry.Post
 write-entry-write-primary-requires-2 t c κs = (search side-falls, tt)
 
--- src/expression.rt:95:1
 write-entry-same-length : (t : ℕ) → write-entry-lts.Need-same-length (
   write-primary-below t,
   write-primary.Post,
@@ -642,7 +606,6 @@ write-entry-same-length : (t : ℕ) → write-entry-lts.Need-same-length (
 ) (write-entry-at t) write-entry.Post
 write-entry-same-length t c = search needs
 
--- src/expression.rt:95:1
 write-entry-returns : (t : ℕ) → write-entry-lts.Need-returns (
   write-primary-below t,
   write-primary.Post,
@@ -651,7 +614,6 @@ write-entry-returns : (t : ℕ) → write-entry-lts.Need-returns (
 ) (write-entry-at t) write-entry.Post
 write-entry-returns t c = search entry-written
 
--- src/expression.rt:34:9
 write-expression-returns : (t : ℕ) → write-expression-lts.Need-returns (
   word-at-reads.Asked,
   word-at-reads.Learnt,
@@ -668,7 +630,6 @@ write-expression-returns : (t : ℕ) → write-expression-lts.Need-returns (
 ) (write-expression-at t) write-expression.Post
 write-expression-returns t c = search too-deep
 
--- src/expression.rt:36:9
 write-expression-word-at-requires : (t : ℕ) → write-expression-lts.Need-word-at-requires (
   word-at-reads.Asked,
   word-at-reads.Learnt,
@@ -685,7 +646,6 @@ write-expression-word-at-requires : (t : ℕ) → write-expression-lts.Need-word
 ) (write-expression-at t) write-expression.Post
 write-expression-word-at-requires t c κs = search needs
 
--- src/expression.rt:37:9
 write-expression-tag-of-requires : (t : ℕ) → write-expression-lts.Need-tag-of-requires (
   word-at-reads.Asked,
   word-at-reads.Learnt,
@@ -702,7 +662,6 @@ write-expression-tag-of-requires : (t : ℕ) → write-expression-lts.Need-tag-o
 ) (write-expression-at t) write-expression.Post
 write-expression-tag-of-requires t c κs = search needs
 
--- src/expression.rt:39:9
 write-expression-write-operand-requires :
     (t : ℕ) → write-expression-lts.Need-write-operand-requires (
       word-at-reads.Asked,
@@ -720,7 +679,6 @@ write-expression-write-operand-requires :
     ) (write-expression-at t) write-expression.Post
 write-expression-write-operand-requires t c κs = (search operand-falls, tt)
 
--- src/expression.rt:39:9
 write-expression-same-length : (t : ℕ) → write-expression-lts.Need-same-length (
   word-at-reads.Asked,
   word-at-reads.Learnt,
@@ -737,7 +695,6 @@ write-expression-same-length : (t : ℕ) → write-expression-lts.Need-same-leng
 ) (write-expression-at t) write-expression.Post
 write-expression-same-length t c = search needs
 
--- src/expression.rt:39:9
 write-expression-returns-2 : (t : ℕ) → write-expression-lts.Need-returns-2 (
   word-at-reads.Asked,
   word-at-reads.Learnt,
@@ -754,7 +711,6 @@ write-expression-returns-2 : (t : ℕ) → write-expression-lts.Need-returns-2 (
 ) (write-expression-at t) write-expression.Post
 write-expression-returns-2 t c = search one-operand
 
--- src/expression.rt:45:9
 write-expression-sub-write-operand : (t : ℕ) → write-expression-lts.Need-sub-write-operand (
   word-at-reads.Asked,
   word-at-reads.Learnt,
@@ -771,7 +727,6 @@ write-expression-sub-write-operand : (t : ℕ) → write-expression-lts.Need-sub
 ) (write-expression-at t) write-expression.Post
 write-expression-sub-write-operand t c = search needs
 
--- src/expression.rt:46:9
 write-expression-left-of-requires : (t : ℕ) → write-expression-lts.Need-left-of-requires (
   word-at-reads.Asked,
   word-at-reads.Learnt,
@@ -788,7 +743,6 @@ write-expression-left-of-requires : (t : ℕ) → write-expression-lts.Need-left
 ) (write-expression-at t) write-expression.Post
 write-expression-left-of-requires t c κs = search needs
 
--- src/expression.rt:41:9
 write-expression-write-operand-requires-2 :
     (t : ℕ) → write-expression-lts.Need-write-operand-requires-2 (
       word-at-reads.Asked,
@@ -806,7 +760,6 @@ write-expression-write-operand-requires-2 :
     ) (write-expression-at t) write-expression.Post
 write-expression-write-operand-requires-2 t c κs = (search inner-falls, tt)
 
--- src/expression.rt:50:9
 write-expression-write-sign-requires : (t : ℕ) → write-expression-lts.Need-write-sign-requires (
   word-at-reads.Asked,
   word-at-reads.Learnt,
@@ -823,7 +776,6 @@ write-expression-write-sign-requires : (t : ℕ) → write-expression-lts.Need-w
 ) (write-expression-at t) write-expression.Post
 write-expression-write-sign-requires t c κs = search needs
 
--- src/expression.rt:55:9
 write-expression-sub-write-operand-2 : (t : ℕ) → write-expression-lts.Need-sub-write-operand-2 (
   word-at-reads.Asked,
   word-at-reads.Learnt,
@@ -840,7 +792,6 @@ write-expression-sub-write-operand-2 : (t : ℕ) → write-expression-lts.Need-s
 ) (write-expression-at t) write-expression.Post
 write-expression-sub-write-operand-2 t c = search needs
 
--- src/expression.rt:56:9
 write-expression-right-of-requires : (t : ℕ) → write-expression-lts.Need-right-of-requires (
   word-at-reads.Asked,
   word-at-reads.Learnt,
@@ -857,7 +808,6 @@ write-expression-right-of-requires : (t : ℕ) → write-expression-lts.Need-rig
 ) (write-expression-at t) write-expression.Post
 write-expression-right-of-requires t c κs = search needs
 
--- src/expression.rt:51:5
 write-expression-write-operand-requires-3 :
     (t : ℕ) → write-expression-lts.Need-write-operand-requires-3 (
       word-at-reads.Asked,
@@ -875,7 +825,6 @@ write-expression-write-operand-requires-3 :
     ) (write-expression-at t) write-expression.Post
 write-expression-write-operand-requires-3 t c κs = (search inner-falls, tt)
 
--- src/expression.rt:21:1
 write-expression-same-length-2 : (t : ℕ) → write-expression-lts.Need-same-length-2 (
   word-at-reads.Asked,
   word-at-reads.Learnt,
@@ -892,7 +841,6 @@ write-expression-same-length-2 : (t : ℕ) → write-expression-lts.Need-same-le
 ) (write-expression-at t) write-expression.Post
 write-expression-same-length-2 t c = search needs
 
--- src/expression.rt:21:1
 write-expression-returns-3 : (t : ℕ) → write-expression-lts.Need-returns-3 (
   word-at-reads.Asked,
   word-at-reads.Learnt,
@@ -923,7 +871,6 @@ write-expression-returns-3 t c =
     (c .before .before .before .before .before .before .before .write-sign .ensures)
     (c .before .before .write-operand3 .ensures)
 
--- src/expression.rt:75:9
 write-operand-word-at-requires : (t : ℕ) → write-operand-lts.Need-word-at-requires (
   word-at-reads.Asked,
   word-at-reads.Learnt,
@@ -940,7 +887,6 @@ write-operand-word-at-requires : (t : ℕ) → write-operand-lts.Need-word-at-re
 ) (write-operand-at t) write-operand.Post
 write-operand-word-at-requires t c κs = search needs
 
--- src/expression.rt:76:8
 write-operand-tag-of-requires : (t : ℕ) → write-operand-lts.Need-tag-of-requires (
   word-at-reads.Asked,
   word-at-reads.Learnt,
@@ -957,7 +903,6 @@ write-operand-tag-of-requires : (t : ℕ) → write-operand-lts.Need-tag-of-requ
 ) (write-operand-at t) write-operand.Post
 write-operand-tag-of-requires t c κs = search needs
 
--- src/expression.rt:77:9
 write-operand-write-primary-requires : (t : ℕ) → write-operand-lts.Need-write-primary-requires (
   word-at-reads.Asked,
   word-at-reads.Learnt,
@@ -974,7 +919,6 @@ write-operand-write-primary-requires : (t : ℕ) → write-operand-lts.Need-writ
 ) (write-operand-at t) write-operand.Post
 write-operand-write-primary-requires t c κs = (search primary-falls, tt)
 
--- src/expression.rt:77:9
 write-operand-same-length : (t : ℕ) → write-operand-lts.Need-same-length (
   word-at-reads.Asked,
   word-at-reads.Learnt,
@@ -991,7 +935,6 @@ write-operand-same-length : (t : ℕ) → write-operand-lts.Need-same-length (
 ) (write-operand-at t) write-operand.Post
 write-operand-same-length t c = search needs
 
--- src/expression.rt:77:9
 write-operand-returns : (t : ℕ) → write-operand-lts.Need-returns (
   word-at-reads.Asked,
   word-at-reads.Learnt,
@@ -1008,7 +951,6 @@ write-operand-returns : (t : ℕ) → write-operand-lts.Need-returns (
 ) (write-operand-at t) write-operand.Post
 write-operand-returns t c = search one-primary
 
--- src/expression.rt:80:9
 write-operand-returns-2 : (t : ℕ) → write-operand-lts.Need-returns-2 (
   word-at-reads.Asked,
   word-at-reads.Learnt,
@@ -1025,7 +967,6 @@ write-operand-returns-2 : (t : ℕ) → write-operand-lts.Need-returns-2 (
 ) (write-operand-at t) write-operand.Post
 write-operand-returns-2 t c = search entry-too-deep
 
--- src/expression.rt:86:9
 write-operand-sub-write-entry : (t : ℕ) → write-operand-lts.Need-sub-write-entry (
   word-at-reads.Asked,
   word-at-reads.Learnt,
@@ -1042,7 +983,6 @@ write-operand-sub-write-entry : (t : ℕ) → write-operand-lts.Need-sub-write-e
 ) (write-operand-at t) write-operand.Post
 write-operand-sub-write-entry t c = search needs
 
--- src/expression.rt:87:9
 write-operand-left-of-requires : (t : ℕ) → write-operand-lts.Need-left-of-requires (
   word-at-reads.Asked,
   word-at-reads.Learnt,
@@ -1059,7 +999,6 @@ write-operand-left-of-requires : (t : ℕ) → write-operand-lts.Need-left-of-re
 ) (write-operand-at t) write-operand.Post
 write-operand-left-of-requires t c κs = search needs
 
--- src/expression.rt:88:9
 write-operand-right-of-requires : (t : ℕ) → write-operand-lts.Need-right-of-requires (
   word-at-reads.Asked,
   word-at-reads.Learnt,
@@ -1076,7 +1015,6 @@ write-operand-right-of-requires : (t : ℕ) → write-operand-lts.Need-right-of-
 ) (write-operand-at t) write-operand.Post
 write-operand-right-of-requires t c κs = search needs
 
--- src/expression.rt:82:5
 write-operand-write-entry-requires : (t : ℕ) → write-operand-lts.Need-write-entry-requires (
   word-at-reads.Asked,
   word-at-reads.Learnt,
@@ -1093,7 +1031,6 @@ write-operand-write-entry-requires : (t : ℕ) → write-operand-lts.Need-write-
 ) (write-operand-at t) write-operand.Post
 write-operand-write-entry-requires t c κs = (search entry-falls, tt)
 
--- src/expression.rt:63:1
 write-operand-same-length-2 : (t : ℕ) → write-operand-lts.Need-same-length-2 (
   word-at-reads.Asked,
   word-at-reads.Learnt,
@@ -1110,7 +1047,6 @@ write-operand-same-length-2 : (t : ℕ) → write-operand-lts.Need-same-length-2
 ) (write-operand-at t) write-operand.Post
 write-operand-same-length-2 t c = search needs
 
--- src/expression.rt:63:1
 write-operand-returns-3 : (t : ℕ) → write-operand-lts.Need-returns-3 (
   word-at-reads.Asked,
   word-at-reads.Learnt,
@@ -1127,7 +1063,6 @@ write-operand-returns-3 : (t : ℕ) → write-operand-lts.Need-returns-3 (
 ) (write-operand-at t) write-operand.Post
 write-operand-returns-3 t c = search is-entry
 
--- src/expression.rt:126:9
 write-primary-word-at-requires : (t : ℕ) → write-primary-lts.Need-word-at-requires (
   word-at-reads.Asked,
   word-at-reads.Learnt,
@@ -1146,7 +1081,6 @@ write-primary-word-at-requires : (t : ℕ) → write-primary-lts.Need-word-at-re
 ) (write-primary-at t) write-primary.Post
 write-primary-word-at-requires t c κs = search needs
 
--- src/expression.rt:127:9
 write-primary-tag-of-requires : (t : ℕ) → write-primary-lts.Need-tag-of-requires (
   word-at-reads.Asked,
   word-at-reads.Learnt,
@@ -1165,7 +1099,6 @@ write-primary-tag-of-requires : (t : ℕ) → write-primary-lts.Need-tag-of-requ
 ) (write-primary-at t) write-primary.Post
 write-primary-tag-of-requires t c κs = search needs
 
--- src/expression.rt:128:8
 write-primary-encloses-requires : (t : ℕ) → write-primary-lts.Need-encloses-requires (
   word-at-reads.Asked,
   word-at-reads.Learnt,
@@ -1184,7 +1117,6 @@ write-primary-encloses-requires : (t : ℕ) → write-primary-lts.Need-encloses-
 ) (write-primary-at t) write-primary.Post
 write-primary-encloses-requires t c κs = search needs
 
--- src/expression.rt:129:59
 write-primary-slice-aggregate-write-between :
     (t : ℕ) → write-primary-lts.Need-slice-aggregate-write-between (
       word-at-reads.Asked,
@@ -1204,7 +1136,6 @@ write-primary-slice-aggregate-write-between :
     ) (write-primary-at t) write-primary.Post
 write-primary-slice-aggregate-write-between t c = search needs
 
--- src/expression.rt:129:68
 write-primary-slice-aggregate-write-between-2 :
     (t : ℕ) → write-primary-lts.Need-slice-aggregate-write-between-2 (
       word-at-reads.Asked,
@@ -1224,7 +1155,6 @@ write-primary-slice-aggregate-write-between-2 :
     ) (write-primary-at t) write-primary.Post
 write-primary-slice-aggregate-write-between-2 t c = search needs
 
--- src/expression.rt:129:9
 write-primary-write-between-requires : (t : ℕ) → write-primary-lts.Need-write-between-requires (
   word-at-reads.Asked,
   word-at-reads.Learnt,
@@ -1243,7 +1173,6 @@ write-primary-write-between-requires : (t : ℕ) → write-primary-lts.Need-writ
 ) (write-primary-at t) write-primary.Post
 write-primary-write-between-requires t c κs = (search enclosed-falls, tt)
 
--- src/expression.rt:129:9
 write-primary-same-length : (t : ℕ) → write-primary-lts.Need-same-length (
   word-at-reads.Asked,
   word-at-reads.Learnt,
@@ -1262,7 +1191,6 @@ write-primary-same-length : (t : ℕ) → write-primary-lts.Need-same-length (
 ) (write-primary-at t) write-primary.Post
 write-primary-same-length t c = search needs
 
--- src/expression.rt:129:9
 write-primary-returns : (t : ℕ) → write-primary-lts.Need-returns (
   word-at-reads.Asked,
   word-at-reads.Learnt,
@@ -1281,7 +1209,6 @@ write-primary-returns : (t : ℕ) → write-primary-lts.Need-returns (
 ) (write-primary-at t) write-primary.Post
 write-primary-returns t c = search enclosed
 
--- src/expression.rt:132:9
 write-primary-returns-2 : (t : ℕ) → write-primary-lts.Need-returns-2 (
   word-at-reads.Asked,
   word-at-reads.Learnt,
@@ -1300,7 +1227,6 @@ write-primary-returns-2 : (t : ℕ) → write-primary-lts.Need-returns-2 (
 ) (write-primary-at t) write-primary.Post
 write-primary-returns-2 t c = search primary-too-deep
 
--- src/expression.rt:135:9
 write-primary-write-leaf-requires : (t : ℕ) → write-primary-lts.Need-write-leaf-requires (
   word-at-reads.Asked,
   word-at-reads.Learnt,
@@ -1319,7 +1245,6 @@ write-primary-write-leaf-requires : (t : ℕ) → write-primary-lts.Need-write-l
 ) (write-primary-at t) write-primary.Post
 write-primary-write-leaf-requires t c κs = search needs
 
--- src/expression.rt:135:9
 write-primary-same-length-2 : (t : ℕ) → write-primary-lts.Need-same-length-2 (
   word-at-reads.Asked,
   word-at-reads.Learnt,
@@ -1338,7 +1263,6 @@ write-primary-same-length-2 : (t : ℕ) → write-primary-lts.Need-same-length-2
 ) (write-primary-at t) write-primary.Post
 write-primary-same-length-2 t c = search needs
 
--- src/expression.rt:135:9
 write-primary-returns-3 : (t : ℕ) → write-primary-lts.Need-returns-3 (
   word-at-reads.Asked,
   word-at-reads.Learnt,
@@ -1357,7 +1281,6 @@ write-primary-returns-3 : (t : ℕ) → write-primary-lts.Need-returns-3 (
 ) (write-primary-at t) write-primary.Post
 write-primary-returns-3 t c = search is-leaf
 
--- src/expression.rt:138:13
 write-primary-right-of-requires : (t : ℕ) → write-primary-lts.Need-right-of-requires (
   word-at-reads.Asked,
   word-at-reads.Learnt,
@@ -1376,7 +1299,6 @@ write-primary-right-of-requires : (t : ℕ) → write-primary-lts.Need-right-of-
 ) (write-primary-at t) write-primary.Post
 write-primary-right-of-requires t c κs = search needs
 
--- src/expression.rt:139:53
 write-primary-sub-write-between : (t : ℕ) → write-primary-lts.Need-sub-write-between (
   word-at-reads.Asked,
   word-at-reads.Learnt,
@@ -1395,7 +1317,6 @@ write-primary-sub-write-between : (t : ℕ) → write-primary-lts.Need-sub-write
 ) (write-primary-at t) write-primary.Post
 write-primary-sub-write-between t c = search needs
 
--- src/expression.rt:139:63
 write-primary-slice-aggregate-write-between-3 :
     (t : ℕ) → write-primary-lts.Need-slice-aggregate-write-between-3 (
       word-at-reads.Asked,
@@ -1415,7 +1336,6 @@ write-primary-slice-aggregate-write-between-3 :
     ) (write-primary-at t) write-primary.Post
 write-primary-slice-aggregate-write-between-3 t c = search needs
 
--- src/expression.rt:139:75
 write-primary-slice-aggregate-write-between-4 :
     (t : ℕ) → write-primary-lts.Need-slice-aggregate-write-between-4 (
       word-at-reads.Asked,
@@ -1435,7 +1355,6 @@ write-primary-slice-aggregate-write-between-4 :
     ) (write-primary-at t) write-primary.Post
 write-primary-slice-aggregate-write-between-4 t c = search needs
 
--- src/expression.rt:139:9
 write-primary-write-between-requires-2 : (t : ℕ) → write-primary-lts.Need-write-between-requires-2 (
   word-at-reads.Asked,
   word-at-reads.Learnt,
@@ -1454,7 +1373,6 @@ write-primary-write-between-requires-2 : (t : ℕ) → write-primary-lts.Need-wr
 ) (write-primary-at t) write-primary.Post
 write-primary-write-between-requires-2 t c κs = (search table-falls, tt)
 
--- src/expression.rt:139:9
 write-primary-same-length-3 : (t : ℕ) → write-primary-lts.Need-same-length-3 (
   word-at-reads.Asked,
   word-at-reads.Learnt,
@@ -1473,7 +1391,6 @@ write-primary-same-length-3 : (t : ℕ) → write-primary-lts.Need-same-length-3
 ) (write-primary-at t) write-primary.Post
 write-primary-same-length-3 t c = search needs
 
--- src/expression.rt:139:9
 write-primary-returns-4 : (t : ℕ) → write-primary-lts.Need-returns-4 (
   word-at-reads.Asked,
   word-at-reads.Learnt,
@@ -1492,7 +1409,6 @@ write-primary-returns-4 : (t : ℕ) → write-primary-lts.Need-returns-4 (
 ) (write-primary-at t) write-primary.Post
 write-primary-returns-4 t c = search is-table
 
--- src/expression.rt:141:39
 write-primary-sub-write-call : (t : ℕ) → write-primary-lts.Need-sub-write-call (
   word-at-reads.Asked,
   word-at-reads.Learnt,
@@ -1511,7 +1427,6 @@ write-primary-sub-write-call : (t : ℕ) → write-primary-lts.Need-sub-write-ca
 ) (write-primary-at t) write-primary.Post
 write-primary-sub-write-call t c = search needs
 
--- src/expression.rt:141:5
 write-primary-write-call-requires : (t : ℕ) → write-primary-lts.Need-write-call-requires (
   word-at-reads.Asked,
   word-at-reads.Learnt,
@@ -1530,7 +1445,6 @@ write-primary-write-call-requires : (t : ℕ) → write-primary-lts.Need-write-c
 ) (write-primary-at t) write-primary.Post
 write-primary-write-call-requires t c κs = (search call-falls, tt)
 
--- src/expression.rt:114:1
 write-primary-same-length-4 : (t : ℕ) → write-primary-lts.Need-same-length-4 (
   word-at-reads.Asked,
   word-at-reads.Learnt,
@@ -1549,7 +1463,6 @@ write-primary-same-length-4 : (t : ℕ) → write-primary-lts.Need-same-length-4
 ) (write-primary-at t) write-primary.Post
 write-primary-same-length-4 t c = search needs
 
--- src/expression.rt:114:1
 write-primary-returns-5 : (t : ℕ) → write-primary-lts.Need-returns-5 (
   word-at-reads.Asked,
   word-at-reads.Learnt,

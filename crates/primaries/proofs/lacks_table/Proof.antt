@@ -3,15 +3,12 @@ use borrow.Author.Needs.{needs}
 use Rattle.primaries.proofs.lacks_table.Statement.{statement}
 use Rattle.primaries.proofs.lacks_table.Tie as tie
 
--- src/lib.rt:75:9
 returns : tie.Need-returns
 returns c = search needs-none
 
--- src/lib.rt:77:5
 kind-of-requires : tie.Need-kind-of-requires
 kind-of-requires c κs = search needs
 
--- src/lib.rt:71:1
 returns-2 : tie.Need-returns-2
 returns-2 c = search needs-table
 

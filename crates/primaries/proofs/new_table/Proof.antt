@@ -3,35 +3,27 @@ use borrow.Author.Needs.{needs}
 use Rattle.primaries.proofs.new_table.Statement.{statement}
 use Rattle.primaries.proofs.new_table.Tie as tie
 
--- src/lib.rt:60:8
 kind-of-requires : tie.Need-kind-of-requires
 kind-of-requires c κs = search needs
 
--- src/lib.rt:61:9
 returns : tie.Need-returns
 returns c = search no-size
 
--- src/lib.rt:63:32
 integer-of-requires : tie.Need-integer-of-requires
 integer-of-requires c κs = search needs
 
--- src/lib.rt:63:8
 is-negative-requires : tie.Need-is-negative-requires
 is-negative-requires c κs = search needs
 
--- src/lib.rt:64:9
 returns-2 : tie.Need-returns-2
 returns-2 c = search negative-size
 
--- src/lib.rt:66:9
 new-table-requires : tie.Need-new-table-requires
 new-table-requires c κs = search needs
 
--- src/lib.rt:56:1
 same-length : tie.Need-same-length
 same-length c = search needs
 
--- src/lib.rt:56:1
 returns-3 : tie.Need-returns-3
 returns-3 c = search new-table
 

@@ -12,59 +12,45 @@ Inv-loop words₀ code grants a base n p k₀ words k = Turns (assigningFrom gra
 abbrev μ-loop : tie.MeasureT-loop
 μ-loop words₀ code grants a base n p k₀ words k = n - k
 
--- src/lib.rt:25:5
 loop-holds : tie.Need-loop-holds Inv-loop μ-loop
 loop-holds c = turns-first _ 0 _ _ (omega arith)
 
--- src/lib.rt:26:49
 add-word-at : tie.Need-add-word-at Inv-loop μ-loop
 add-word-at c = omega arith
 
--- src/lib.rt:26:20
 word-at-requires : tie.Need-word-at-requires Inv-loop μ-loop
 word-at-requires c κs = search needs
 
--- src/lib.rt:27:52
 add-argument : tie.Need-add-argument Inv-loop μ-loop
 add-argument c = omega arith
 
--- src/lib.rt:27:13
 argument-requires : tie.Need-argument-requires Inv-loop μ-loop
 argument-requires c κs = search needs
 
--- src/lib.rt:28:15
 assign-requires : tie.Need-assign-requires Inv-loop μ-loop
 assign-requires c κs = search still-room
 
--- src/lib.rt:29:27
 enum-known-m : tie.Need-enum-known-m Inv-loop μ-loop
 enum-known-m c = search needs
 
--- src/lib.rt:29:36
 same-length : tie.Need-same-length Inv-loop μ-loop
 same-length c = search needs
 
--- src/lib.rt:29:36
 returns : tie.Need-returns Inv-loop μ-loop
 returns c = search assign-stops
 
--- src/lib.rt:32:9
 add-k : tie.Need-add-k Inv-loop μ-loop
 add-k c = omega arith
 
--- src/lib.rt:25:5
 loop-less : tie.Need-loop-less Inv-loop μ-loop
 loop-less c = omega arith
 
--- src/lib.rt:25:5
 loop-again : tie.Need-loop-again Inv-loop μ-loop
 loop-again c = search assign-next
 
--- src/lib.rt:12:1
 same-length-2 : tie.Need-same-length-2 Inv-loop μ-loop
 same-length-2 c = search needs
 
--- src/lib.rt:12:1
 returns-2 : tie.Need-returns-2 Inv-loop μ-loop
 returns-2 c = search all-assigned
 

@@ -6,104 +6,86 @@ use borrow.Author.Needs.{needs}
 use Rattle.procedures.proofs.begin.Statement.{statement}
 use Rattle.procedures.proofs.begin.Tie as tie
 
--- src/lib.rt:52:42
 table-place-requires : tie.Need-table-place-requires
 table-place-requires c κs = search needs
 
--- src/lib.rt:52:9
 word-at-requires : tie.Need-word-at-requires
 word-at-requires c κs = search needs
 
--- src/lib.rt:54:9
 returns : tie.Need-returns
 returns c = search no-procedure
 
--- src/lib.rt:56:9
 parameters-of-requires : tie.Need-parameters-of-requires
 parameters-of-requires c κs = search needs
 
--- src/lib.rt:57:8
 lowered-requires : tie.Need-lowered-requires
 lowered-requires c κs = search needs
 
--- src/lib.rt:58:9
 returns-2 : tie.Need-returns-2
 returns-2 c = search other-number
 
--- src/lib.rt:60:9
 suspend-requires : tie.Need-suspend-requires
 suspend-requires c κs = search needs
 
--- src/lib.rt:61:9
 same-length : tie.Need-same-length
 same-length c = search needs
 
--- src/lib.rt:61:9
 returns-3 : tie.Need-returns-3
 returns-3 c = search no-room
 
--- src/lib.rt:63:32
 add-words : tie.Need-add-words
 add-words c = search needs
 
--- src/lib.rt:63:5
 slice-write-words : tie.Need-slice-write-words
 slice-write-words c = search needs
 
--- src/lib.rt:64:9
 start-of-requires : tie.Need-start-of-requires
 start-of-requires c κs = search needs
 
--- src/lib.rt:65:17
 element-copy-out-limit : tie.Need-element-copy-out-limit
 element-copy-out-limit c = search needs
 
--- src/lib.rt:66:9
 declare-parameters-requires : tie.Need-declare-parameters-requires
 declare-parameters-requires c κs = (simp length-set (omega arith), omega arith)
 
--- src/lib.rt:67:9
 same-length-2 : tie.Need-same-length-2
 same-length-2 c = omega (arith, length-set (c .before .before .before .before .before .before .before .before .before .before .suspend .last .0) 8 (c .before .before .before .before .before .before .before .before .before .before .before .before .before .before .before .before .before .before .before .before .args .callee + 1))
 
--- src/lib.rt:67:9
 returns-4 : tie.Need-returns-4
 returns-4 c = search name-twice
 
--- src/lib.rt:69:9
 spend-one-requires : tie.Need-spend-one-requires
 spend-one-requires c κs = omega (arith, length-set (c .before .before .before .before .before .before .before .before .before .before .before .suspend .last .0) 8 (c .before .before .before .before .before .before .before .before .before .before .before .before .before .before .before .before .before .before .before .before .before .args .callee + 1))
 
--- src/lib.rt:70:9
 same-length-3 : tie.Need-same-length-3
 same-length-3 c = omega (arith, length-set (c .before .before .before .before .before .before .before .before .before .before .before .before .before .before .before .suspend .last .0) 8 (c .before .before .before .before .before .before .before .before .before .before .before .before .before .before .before .before .before .before .before .before .before .before .before .before .before .args .callee + 1))
 
--- src/lib.rt:70:9
 returns-5 : tie.Need-returns-5
 returns-5 c = search no-call
 
--- src/lib.rt:72:5
 slice-write-words-2 : tie.Need-slice-write-words-2
 slice-write-words-2 c = omega (arith, length-set (c .before .before .before .before .before .before .before .before .before .before .before .before .before .before .before .suspend .last .0) 8 (c .before .before .before .before .before .before .before .before .before .before .before .before .before .before .before .before .before .before .before .before .before .before .before .before .before .args .callee + 1))
 
--- src/lib.rt:73:9
 assign-parameters-requires : tie.Need-assign-parameters-requires
 assign-parameters-requires c κs =
-    let long = length-set (c .before .before .before .before .before .before .before .before .before .before .before .before .before .before .before .before .suspend .last .0) 8 (c .before .before .before .before .before .before .before .before .before .before .before .before .before .before .before .before .before .before .before .before .before .before .before .before .before .before .args .callee + 1) in
+    let long = length-set (c .before .before .before .before .before .before .before .before .before .before .before .before .before .before .before .before .suspend .last .0) 8
+    (c .before .before .before .before .before .before .before .before .before .before .before .before .before .before .before .before .before .before .before .before .before .before .before
+    .before .before .before .args .callee + 1) in
     let long′ = length-set (c .before .before .before .before .spend-one .last .0) 12 0 in
     record {
-      room = still-room _ _ _ (c .before .before .before .before .before .before .before .before .before .before .before .before .before .before .before .before .before .before .before .before .before .before .before .before .before .before .pre .room) (omega arith);
+      room = still-room _ _ _ (c .before .before .before .before .before .before .before .before .before .before .before .before .before .before .before .before .before .before .before .before
+          .before .before .before .before .before .before .pre .room) (omega arith);
       slots = omega arith;
       arguments = omega arith;
     }
 
--- src/lib.rt:39:1
 same-length-4 : tie.Need-same-length-4
 same-length-4 c =
-    let long = length-set (c .before .before .before .before .before .before .before .before .before .before .before .before .before .before .before .before .before .before .before .suspend .last .0) 8 (c .before .before .before .before .before .before .before .before .before .before .before .before .before .before .before .before .before .before .before .before .before .before .before .before .before .before .before .before .before .args .callee + 1) in
+    let long = length-set (c .before .before .before .before .before .before .before .before .before .before .before .before .before .before .before .before .before .before .before .suspend
+    .last .0) 8 (c .before .before .before .before .before .before .before .before .before .before .before .before .before .before .before .before .before .before .before .before .before
+    .before .before .before .before .before .before .before .before .args .callee + 1) in
     omega (arith, length-set (c .before .before .before .before .before .before .before .spend-one .last .0) 12 0)
 
--- src/lib.rt:39:1
 returns-6 : tie.Need-returns-6
 returns-6 c = search begun
 

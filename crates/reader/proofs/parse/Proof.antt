@@ -29,7 +29,10 @@ same-length-2 : tie.Need-same-length-2
 same-length-2 c = search needs
 
 returns : tie.Need-returns
-returns c = parse-formed _ _ _ (c .before .before .before .before .before .before .before .before .before .before .before .before .before .before .before .before .before .before .pre) _ _ (c .before .before .before .before .before .before .before .before .before .before .before .before .prepare .ensures .0) (c .before .before .before .before .before .before .before .before .before .before .before .before .prepare .ensures .1) _ _ (c .before .before .before .before .before .parse .ensures) _ _ (c .before .p .given .1)
+returns c = parse-formed _ _ _ (c .before .before .before .before .before .before .before .before .before .before .before .before .before .before .before .before .before .before .pre) _ _
+    (c .before .before .before .before .before .before .before .before .before .before .before .before .prepare .ensures .0)
+    (c .before .before .before .before .before .before .before .before .before .before .before .before .prepare .ensures .1) _ _ (c .before .before .before .before .before .parse .ensures) _ _
+    (c .before .p .given .1)
 
 same-length-3 : tie.Need-same-length-3
 same-length-3 c = search needs
@@ -38,7 +41,10 @@ same-length-4 : tie.Need-same-length-4
 same-length-4 c = search needs
 
 returns-2 : tie.Need-returns-2
-returns-2 c = parse-twice _ _ _ (c .before .before .before .before .before .before .before .before .before .before .before .before .before .before .before .before .before .before .pre) _ _ (c .before .before .before .before .before .before .before .before .before .before .before .before .prepare .ensures .0) (c .before .before .before .before .before .before .before .before .before .before .before .before .prepare .ensures .1) _ _ (c .before .before .before .before .before .parse .ensures) _ (c .before .p2 .given .1)
+returns-2 c = parse-twice _ _ _ (c .before .before .before .before .before .before .before .before .before .before .before .before .before .before .before .before .before .before .pre) _ _
+    (c .before .before .before .before .before .before .before .before .before .before .before .before .prepare .ensures .0)
+    (c .before .before .before .before .before .before .before .before .before .before .before .before .prepare .ensures .1) _ _ (c .before .before .before .before .before .parse .ensures) _
+    (c .before .p2 .given .1)
 
 same-length-5 : tie.Need-same-length-5
 same-length-5 c = search needs
@@ -47,7 +53,10 @@ same-length-6 : tie.Need-same-length-6
 same-length-6 c = search needs
 
 returns-3 : tie.Need-returns-3
-returns-3 c = parse-misfit _ _ _ (c .before .before .before .before .before .before .before .before .before .before .before .before .before .before .before .before .before .before .before .before .pre) _ _ (c .before .before .before .before .before .before .before .before .before .before .before .before .before .before .prepare .ensures .0) (c .before .before .before .before .before .before .before .before .before .before .before .before .before .before .prepare .ensures .1) _ _ (c .before .before .before .before .before .before .before .parse .ensures) _ _ _ (c .before .before .before .p3 .given .1) (c .place-among .ensures)
+returns-3 c = parse-misfit _ _ _ (c .before .before .before .before .before .before .before .before .before .before .before .before .before .before .before .before .before .before .before
+    .before .pre) _ _ (c .before .before .before .before .before .before .before .before .before .before .before .before .before .before .prepare .ensures .0)
+    (c .before .before .before .before .before .before .before .before .before .before .before .before .before .before .prepare .ensures .1) _ _
+    (c .before .before .before .before .before .before .before .parse .ensures) _ _ _ (c .before .before .before .p3 .given .1) (c .place-among .ensures)
 
 pub parse-spec : {M : Type 1} → statement M
 parse-spec =

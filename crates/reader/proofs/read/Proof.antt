@@ -23,7 +23,9 @@ same-length : tie.Need-same-length
 same-length c = search needs
 
 returns : tie.Need-returns
-returns c = read-many _ _ _ (c .before .before .before .before .before .before .before .before .before .before .before .before .before .pre) _ _ (c .before .before .before .before .before .before .before .before .lex .ensures) _ (c .before .before .before .before .found2 .given .1) (c .before .before .if1 .taken) _ (c .place-of .ensures) _ _
+returns c = read-many _ _ _ (c .before .before .before .before .before .before .before .before .before .before .before .before .before .pre) _ _
+    (c .before .before .before .before .before .before .before .before .lex .ensures) _ (c .before .before .before .before .found2 .given .1) (c .before .before .if1 .taken) _
+    (c .place-of .ensures) _ _
 
 sub-parse : tie.Need-sub-parse
 sub-parse c = search needs
@@ -35,13 +37,15 @@ part-parse-end : tie.Need-part-parse-end
 part-parse-end c = search needs
 
 parse-requires : tie.Need-parse-requires
-parse-requires c κs = read-few _ _ _ (c .before .before .before .before .before .before .before .before .before .before .before .before .before .pre) _ _ (c .before .before .before .before .before .before .before .before .lex .ensures) _ (c .before .before .before .before .found2 .given .1) (c .before .before .if1 .left)
+parse-requires c κs = read-few _ _ _ (c .before .before .before .before .before .before .before .before .before .before .before .before .before .pre) _ _
+    (c .before .before .before .before .before .before .before .before .lex .ensures) _ (c .before .before .before .before .found2 .given .1) (c .before .before .if1 .left)
 
 same-length-2 : tie.Need-same-length-2
 same-length-2 c = search needs
 
 returns-2 : tie.Need-returns-2
-returns-2 c = read-stray _ _ _ (c .before .before .before .before .before .before .before .before .before .before .pre) _ _ (c .before .before .before .before .before .lex .ensures) _ (c .before .found .given .1) _ _
+returns-2 c = read-stray _ _ _ (c .before .before .before .before .before .before .before .before .before .before .pre) _ _ (c .before .before .before .before .before .lex .ensures) _
+    (c .before .found .given .1) _ _
 
 same-length-3 : tie.Need-same-length-3
 same-length-3 c = search needs

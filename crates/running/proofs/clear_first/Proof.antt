@@ -1,64 +1,51 @@
 use mathlib.Core.Path.{sym}
 use native.Mathlib.Omega.{arith}
 use lib.Seq.{length-take-le}
+use Rattle.machine.specs.Layout.{firstArgument}
 use Rattle.running.proofs.Ways.{both-cleared}
 use borrow.Author.Needs.{needs}
 use Rattle.running.proofs.clear_first.Statement.{statement}
 use Rattle.running.proofs.clear_first.Tie as tie
 
--- src/lib.rt:170:38
 element-copy-out-place-of : tie.Need-element-copy-out-place-of
 element-copy-out-place-of c = search needs
 
--- src/lib.rt:170:38
 cast-place-of : tie.Need-cast-place-of
 cast-place-of c = search needs
 
--- src/lib.rt:170:9
 place-of-requires : tie.Need-place-of-requires
 place-of-requires c κs = search needs
 
--- src/lib.rt:171:9
 place-of-requires-2 : tie.Need-place-of-requires-2
 place-of-requires-2 c κs = search needs
 
--- src/lib.rt:172:25
 slice-relend-prefix-clear-words : tie.Need-slice-relend-prefix-clear-words
 slice-relend-prefix-clear-words c = search needs
 
--- src/lib.rt:172:25
 slice-aggregate-clear-words : tie.Need-slice-aggregate-clear-words
-slice-aggregate-clear-words c = sym (length-take-le 16464 (c .before .before .before .before .before .args .words .now) (omega (arith, c .before .before .before .before .before .pre .words)))
+slice-aggregate-clear-words c = sym (length-take-le firstArgument (c .before .before .before .before .before .args .words .now) (omega (arith, c .before .before .before .before .before .pre .words)))
 
--- src/lib.rt:172:5
 clear-words-requires : tie.Need-clear-words-requires
 clear-words-requires c κs = search needs
 
--- src/lib.rt:173:25
 mul-clear-words : tie.Need-mul-clear-words
 mul-clear-words c = search needs
 
--- src/lib.rt:173:25
 sub-clear-words : tie.Need-sub-clear-words
 sub-clear-words c = search needs
 
--- src/lib.rt:173:25
 part-clear-words-start : tie.Need-part-clear-words-start
 part-clear-words-start c = search needs
 
--- src/lib.rt:173:25
 part-clear-words-end : tie.Need-part-clear-words-end
 part-clear-words-end c = search needs
 
--- src/lib.rt:173:5
 clear-words-requires-2 : tie.Need-clear-words-requires-2
 clear-words-requires-2 c κs = search needs
 
--- src/lib.rt:166:1
 same-length : tie.Need-same-length
 same-length c = let a0 = c .before .words2 in let a1 = c .before .before .before .before .before .words in omega arith
 
--- src/lib.rt:166:1
 returns : tie.Need-returns
 returns c =
     let s = c .before .before .before .before .before .before .before .before .before .before .before .before in

@@ -2,11 +2,9 @@ use Rattle.running.proofs.Ways.{sheet-if, no-sheet-if}
 use Rattle.running.proofs.is_sheet.Statement.{statement}
 use Rattle.running.proofs.is_sheet.Tie as tie
 
--- src/lib.rt:23:1
 returns : tie.Need-returns
 returns c = search sheet-if
 
--- src/lib.rt:23:1
 returns-2 : tie.Need-returns-2
 returns-2 c = search no-sheet-if
 

@@ -6,27 +6,21 @@ use Rattle.running.proofs.leave.Reads as reads
 use Rattle.running.proofs.leave.Lts as lts
 use Rattle.scene.proofs.measure_scene.Reads as measure-scene-reads
 
--- src/lib.rt:106:5
 slice-write-words : tie.Need-slice-write-words
 slice-write-words c = search needs
 
--- src/lib.rt:107:9
 measure-scene-requires : tie.Need-measure-scene-requires
 measure-scene-requires c κs = left-room _ _ (c .before .before .before .before .pre)
 
--- src/lib.rt:109:9
 same-length : tie.Need-same-length
 same-length c = left-long (c .before .before .before .before .before .before .before .before .args .words .now) _ (c .before .before .before .measure-scene .kept .1 .1 .0)
 
--- src/lib.rt:109:9
 returns : tie.Need-returns
 returns c = search left-short
 
--- src/lib.rt:102:1
 same-length-2 : tie.Need-same-length-2
 same-length-2 c = left-long (c .before .before .before .before .before .before .before .before .args .words .now) _ (c .before .before .before .measure-scene .kept .1 .1 .0)
 
--- src/lib.rt:102:1
 returns-2 : tie.Need-returns-2
 returns-2 c = search left-whole
 

@@ -7,43 +7,33 @@ use Rattle.running.proofs.run_main.Lts as lts
 use Rattle.running.proofs.leave.Reads as leave-reads
 use Rattle.running.proofs.run_body.Reads as run-body-reads
 
--- src/lib.rt:129:11
 run-body-requires : tie.Need-run-body-requires
 run-body-requires c κs = search needs
 
--- src/lib.rt:131:36
 enum-told : tie.Need-enum-told
 enum-told c = search needs
 
--- src/lib.rt:131:17
 leave-requires : tie.Need-leave-requires
 leave-requires c κs = search still-room
 
--- src/lib.rt:134:25
 enum-known-k : tie.Need-enum-known-k
 enum-known-k c = search needs
 
--- src/lib.rt:115:1
 same-length : tie.Need-same-length
 same-length c = search needs
 
--- src/lib.rt:115:1
 same-length-2 : tie.Need-same-length-2
 same-length-2 c = search needs
 
--- src/lib.rt:115:1
 returns : tie.Need-returns
 returns c = search main-left
 
--- src/lib.rt:115:1
 same-length-3 : tie.Need-same-length-3
 same-length-3 c = search needs
 
--- src/lib.rt:115:1
 same-length-4 : tie.Need-same-length-4
 same-length-4 c = search needs
 
--- src/lib.rt:115:1
 returns-2 : tie.Need-returns-2
 returns-2 c = search main-stopped
 

@@ -8,27 +8,21 @@ use Rattle.picture.proofs.head_length.Reads as head-length-reads
 use Rattle.picture.proofs.tail_length.Reads as tail-length-reads
 use Rattle.writing.proofs.saturating_add.Reads as saturating-add-reads
 
--- src/showing.rt:229:17
 head-length-requires : tie.Need-head-length-requires
 head-length-requires c κs = search needs
 
--- src/showing.rt:229:55
 tail-length-requires : tie.Need-tail-length-requires
 tail-length-requires c κs = search needs
 
--- src/showing.rt:229:17
 add-frame : tie.Need-add-frame
 add-frame c = search frame-fits
 
--- src/showing.rt:230:36
 shared-slice-read-saturating-add : tie.Need-shared-slice-read-saturating-add
 shared-slice-read-saturating-add c = search needs
 
--- src/showing.rt:230:5
 saturating-add-requires : tie.Need-saturating-add-requires
 saturating-add-requires c κs = search needs
 
--- src/showing.rt:225:1
 returns : tie.Need-returns
 returns c = search length-is
 

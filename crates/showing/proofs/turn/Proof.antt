@@ -12,79 +12,60 @@ use Rattle.stores.proofs.components.component_at.Reads as component-at-reads
 use Rattle.stores.proofs.shapes.is_destroyed.Reads as is-destroyed-reads
 use Rattle.stores.proofs.shapes.is_group.Reads as is-group-reads
 
--- src/showing.rt:87:38
 sub-back-at : tie.Need-sub-back-at
 sub-back-at c = search needs
 
--- src/showing.rt:87:9
 back-at-requires : tie.Need-back-at-requires
 back-at-requires c κs = search way-bound
 
--- src/showing.rt:87:9
 same-length : tie.Need-same-length
 same-length c = search needs
 
--- src/showing.rt:87:9
 returns : tie.Need-returns
 returns c = search moves-back
 
--- src/showing.rt:89:9
 component-at-requires : tie.Need-component-at-requires
 component-at-requires c κs = search needs
 
--- src/showing.rt:90:8
 is-destroyed-requires : tie.Need-is-destroyed-requires
 is-destroyed-requires c κs = search needs
 
--- src/showing.rt:91:28
 add-t17 : tie.Need-add-t17
 add-t17 c = search needs
 
--- src/showing.rt:91:35
 sub-t18 : tie.Need-sub-t18
 sub-t18 c = search needs
 
--- src/showing.rt:91:9
 same-length-2 : tie.Need-same-length-2
 same-length-2 c = search needs
 
--- src/showing.rt:91:9
 returns-2 : tie.Need-returns-2
 returns-2 c = search moves-over
 
--- src/showing.rt:93:9
 is-group-requires : tie.Need-is-group-requires
 is-group-requires c κs = search needs
 
--- src/showing.rt:94:28
 add-t22 : tie.Need-add-t22
 add-t22 c = search needs
 
--- src/showing.rt:94:35
 sub-t23 : tie.Need-sub-t23
 sub-t23 c = search needs
 
--- src/showing.rt:94:9
 same-length-3 : tie.Need-same-length-3
 same-length-3 c = search needs
 
--- src/showing.rt:94:9
 returns-3 : tie.Need-returns-3
 returns-3 c = search moves-on
 
--- src/showing.rt:96:49
 sub-descend : tie.Need-sub-descend
 sub-descend c = search needs
 
--- src/showing.rt:96:9
 descend-requires : tie.Need-descend-requires
 descend-requires c κs = search descends
 
--- src/showing.rt:82:1
 same-length-4 : tie.Need-same-length-4
 same-length-4 c = search needs
 
--- src/showing.rt:82:1
 returns-4 : tie.Need-returns-4
 returns-4 c = search moves-down
 

@@ -6,23 +6,18 @@ use Rattle.showing.proofs.write_figure.Reads as reads
 use Rattle.showing.proofs.write_figure.Lts as lts
 use Rattle.scene.proofs.lines.write_line_of.Reads as write-line-of-reads
 
--- src/showing.rt:46:8
 element-copy-out-if1 : tie.Need-element-copy-out-if1
 element-copy-out-if1 c = search needs
 
--- src/showing.rt:47:9
 returns : tie.Need-returns
 returns c = search figure-none
 
--- src/showing.rt:49:5
 write-line-of-requires : tie.Need-write-line-of-requires
 write-line-of-requires c κs = search needs
 
--- src/showing.rt:33:1
 same-length : tie.Need-same-length
 same-length c = search needs
 
--- src/showing.rt:33:1
 returns-2 : tie.Need-returns-2
 returns-2 c = search figure-line
 

@@ -8,27 +8,21 @@ use Rattle.picture.proofs.write_head_at.Reads as write-head-at-reads
 use Rattle.picture.proofs.write_tail_at.Reads as write-tail-at-reads
 use Rattle.showing.proofs.write_variables.Reads as write-variables-reads
 
--- src/showing.rt:218:9
 write-head-at-requires : tie.Need-write-head-at-requires
 write-head-at-requires c κs = search needs
 
--- src/showing.rt:219:9
 write-variables-requires : tie.Need-write-variables-requires
 write-variables-requires c κs = search needs
 
--- src/showing.rt:220:9
 write-tail-at-requires : tie.Need-write-tail-at-requires
 write-tail-at-requires c κs = search needs
 
--- src/showing.rt:205:1
 same-length : tie.Need-same-length
 same-length c = search needs
 
--- src/showing.rt:205:1
 same-length-2 : tie.Need-same-length-2
 same-length-2 c = search needs
 
--- src/showing.rt:205:1
 returns : tie.Need-returns
 returns c = search picture-written
 

@@ -9,43 +9,33 @@ use Rattle.stores.proofs.components.component_at.Reads as component-at-reads
 use Rattle.stores.proofs.shapes.is_destroyed.Reads as is-destroyed-reads
 use Rattle.stores.proofs.shapes.is_group.Reads as is-group-reads
 
--- src/showing.rt:69:9
 returns : tie.Need-returns
 returns c = search reached-end
 
--- src/showing.rt:71:9
 component-at-requires : tie.Need-component-at-requires
 component-at-requires c κs = search needs
 
--- src/showing.rt:72:8
 is-destroyed-requires : tie.Need-is-destroyed-requires
 is-destroyed-requires c κs = search needs
 
--- src/showing.rt:73:9
 returns-2 : tie.Need-returns-2
 returns-2 c = search reached-gone
 
--- src/showing.rt:75:8
 is-group-requires : tie.Need-is-group-requires
 is-group-requires c κs = search needs
 
--- src/showing.rt:76:9
 returns-3 : tie.Need-returns-3
 returns-3 c = search reached-group
 
--- src/showing.rt:78:49
 add-write-figure : tie.Need-add-write-figure
 add-write-figure c = search needs
 
--- src/showing.rt:78:5
 write-figure-requires : tie.Need-write-figure-requires
 write-figure-requires c κs = search needs
 
--- src/showing.rt:53:1
 same-length : tie.Need-same-length
 same-length c = search needs
 
--- src/showing.rt:53:1
 returns-4 : tie.Need-returns-4
 returns-4 c = search reached-figure
 

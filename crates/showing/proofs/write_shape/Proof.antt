@@ -8,39 +8,30 @@ use Rattle.showing.proofs.write_figure.Reads as write-figure-reads
 use Rattle.showing.proofs.write_within.Reads as write-within-reads
 use Rattle.stores.proofs.shapes.is_group.Reads as is-group-reads
 
--- src/showing.rt:146:8
 is-group-requires : tie.Need-is-group-requires
 is-group-requires c κs = search needs
 
--- src/showing.rt:147:13
 write-within-requires : tie.Need-write-within-requires
 write-within-requires c κs = search needs
 
--- src/showing.rt:148:9
 same-length : tie.Need-same-length
 same-length c = search needs
 
--- src/showing.rt:148:9
 same-length-2 : tie.Need-same-length-2
 same-length-2 c = search needs
 
--- src/showing.rt:148:9
 returns : tie.Need-returns
 returns c = search group-written
 
--- src/showing.rt:150:9
 write-figure-requires : tie.Need-write-figure-requires
 write-figure-requires c κs = search needs
 
--- src/showing.rt:133:1
 same-length-3 : tie.Need-same-length-3
 same-length-3 c = search needs
 
--- src/showing.rt:133:1
 same-length-4 : tie.Need-same-length-4
 same-length-4 c = search needs
 
--- src/showing.rt:133:1
 returns-2 : tie.Need-returns-2
 returns-2 c = search figure-written
 

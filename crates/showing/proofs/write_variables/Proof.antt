@@ -16,46 +16,36 @@ Inv-loop program texts words₀ grants out₀ start n at₀ drawn₀ words out a
 abbrev μ-loop : tie.MeasureT-loop
 μ-loop program texts words₀ grants out₀ start n at₀ drawn₀ words out at drawn = n - drawn
 
--- src/showing.rt:193:9
 declared-count-requires : tie.Need-declared-count-requires Inv-loop μ-loop
 declared-count-requires c κs = search needs
 
--- src/showing.rt:196:5
 loop-holds : tie.Need-loop-holds Inv-loop μ-loop
 loop-holds c = search write-first
 
--- src/showing.rt:197:13
 declared-word-requires : tie.Need-declared-word-requires Inv-loop μ-loop
 declared-word-requires c κs = omega (arith, c .before .before .before .before .before .before .before .before .before .pre .words, c .before .before .loop .inv .unmoved .long)
 
--- src/showing.rt:198:9
 write-in-requires : tie.Need-write-in-requires Inv-loop μ-loop
 write-in-requires c κs = search write-room
 
--- src/showing.rt:199:9
 add-drawn : tie.Need-add-drawn Inv-loop μ-loop
 add-drawn c = omega arith
 
--- src/showing.rt:196:5
 loop-less : tie.Need-loop-less Inv-loop μ-loop
 loop-less c = omega arith
 
--- src/showing.rt:196:5
 loop-again : tie.Need-loop-again Inv-loop μ-loop
 loop-again c =
     write-more _ _ _ _ _ _ _ _ _ _ _ (c .before .before .before .before .before .before .before .before .before .before .loop .inv) _ _ _ _ (omega arith) (c .before .before .before
     .before .before .before .before .before .before .loop-test .taken) (c .before .before .before .before .before .before .before .declared-word .ensures) (c .before .before
     .before .before .write-in .ensures)
 
--- src/showing.rt:180:1
 same-length : tie.Need-same-length Inv-loop μ-loop
 same-length c = c .before .loop .inv .unmoved .long
 
--- src/showing.rt:180:1
 same-length-2 : tie.Need-same-length-2 Inv-loop μ-loop
 same-length-2 c = c .before .loop .inv .kept
 
--- src/showing.rt:180:1
 returns : tie.Need-returns Inv-loop μ-loop
 returns c = search write-all
 

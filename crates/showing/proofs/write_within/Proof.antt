@@ -18,71 +18,55 @@ Inv-loop program texts words₀ grants i out₀ start d₀ k₀ n₀ at₀ words
 abbrev μ-loop : tie.MeasureT-loop
 μ-loop program texts words₀ grants i out₀ start d₀ k₀ n₀ at₀ words out d k n at = owed (shapesGranted grants) words d n
 
--- src/showing.rt:115:9
 first-at-requires : tie.Need-first-at-requires Inv-loop μ-loop
 first-at-requires c κs = search needs
 
--- src/showing.rt:116:9
 count-within-requires : tie.Need-count-within-requires Inv-loop μ-loop
 count-within-requires c κs = search needs
 
--- src/showing.rt:118:5
 loop-holds : tie.Need-loop-holds Inv-loop μ-loop
 loop-holds c =
     show-first _ _ _ _ _ _ _ _ _ (omega arith) (omega arith) (c .before .before .before .before .before .before .before .before .pre) (c .before .before .first-at .ensures) (c
     .count-within .ensures)
 
--- src/showing.rt:118:15
 add-loop : tie.Need-add-loop Inv-loop μ-loop
 add-loop c = omega (arith, c .loop .inv .walks .few, c .loop .inv .walks .deep, c .before .before .before .before .before .before .before .before .before .pre .shapes)
 
--- src/showing.rt:119:9
 write-reached-requires : tie.Need-write-reached-requires Inv-loop μ-loop
 write-reached-requires c κs = search show-under
 
--- src/showing.rt:120:15
 turn-requires : tie.Need-turn-requires Inv-loop μ-loop
 turn-requires c κs = search show-under
 
--- src/showing.rt:121:22
 enum-known-e : tie.Need-enum-known-e Inv-loop μ-loop
 enum-known-e c = search needs
 
--- src/showing.rt:118:5
 loop-less : tie.Need-loop-less Inv-loop μ-loop
 loop-less c = search show-less
 
--- src/showing.rt:118:5
 loop-again : tie.Need-loop-again Inv-loop μ-loop
 loop-again c =
     show-next _ _ _ _ _ _ _ _ _ _ _ _ _ (c .before .before .before .before .before .before .before .before .before .before .before .before .before .loop .inv) _ _ (c .before
     .before .before .before .before .turn .ensures) _ _ _ _ _ (search needs) (c .before .before .before .before .before .before .before .before .before .write-reached .ensures)
 
--- src/showing.rt:126:27
 enum-known-number : tie.Need-enum-known-number Inv-loop μ-loop
 enum-known-number c = search needs
 
--- src/showing.rt:126:38
 same-length : tie.Need-same-length Inv-loop μ-loop
 same-length c = absurd (search show-never)
 
--- src/showing.rt:126:38
 same-length-2 : tie.Need-same-length-2 Inv-loop μ-loop
 same-length-2 c = absurd (search show-never)
 
--- src/showing.rt:126:38
 returns : tie.Need-returns Inv-loop μ-loop
 returns c = absurd (search show-never)
 
--- src/showing.rt:101:1
 same-length-3 : tie.Need-same-length-3 Inv-loop μ-loop
 same-length-3 c = c .before .loop .inv .unmoved .long
 
--- src/showing.rt:101:1
 same-length-4 : tie.Need-same-length-4 Inv-loop μ-loop
 same-length-4 c = c .before .loop .inv .kept
 
--- src/showing.rt:101:1
 returns-2 : tie.Need-returns-2 Inv-loop μ-loop
 returns-2 c = search show-over
 

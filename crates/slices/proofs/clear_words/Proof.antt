@@ -12,47 +12,37 @@ Inv-loop words₀ n a₀ words a = Clearing words₀ words a
 abbrev μ-loop : tie.MeasureT-loop
 μ-loop words₀ n a₀ words a = n - a
 
--- src/lib.rt:37:5
 loop-holds : tie.Need-loop-holds Inv-loop μ-loop
 loop-holds c = search clear-none
 
--- src/lib.rt:38:13
 part-end-requires : tie.Need-part-end-requires Inv-loop μ-loop
 part-end-requires c κs = search needs
 
--- src/lib.rt:39:20
 mul-clear-part : tie.Need-mul-clear-part Inv-loop μ-loop
 mul-clear-part c = search needs
 
--- src/lib.rt:39:20
 sub-clear-part : tie.Need-sub-clear-part Inv-loop μ-loop
 sub-clear-part c = search needs
 
--- src/lib.rt:39:20
 part-clear-part-start : tie.Need-part-clear-part-start Inv-loop μ-loop
 part-clear-part-start c = omega (arith, c .part-end .ensures .0)
 
--- src/lib.rt:39:20
 part-clear-part-end : tie.Need-part-clear-part-end Inv-loop μ-loop
 part-clear-part-end c = omega (arith, clear-long _ _ _ (c .before .before .loop .inv), c .part-end .ensures .1)
 
--- src/lib.rt:39:9
 clear-part-requires : tie.Need-clear-part-requires Inv-loop μ-loop
 clear-part-requires c κs = search needs
 
--- src/lib.rt:37:5
 loop-less : tie.Need-loop-less Inv-loop μ-loop
 loop-less c = omega (arith, c .before .before .before .before .part-end .ensures .0, c .before .before .before .before .part-end .ensures .1)
 
--- src/lib.rt:37:5
 loop-again : tie.Need-loop-again Inv-loop μ-loop
-loop-again c = clear-through _ _ _ _ (c .before .before .before .before .before .before .loop .inv) (c .before .before .before .before .part-end .ensures .0) (c .before .before .before .before .part-end .ensures .1) _ (c .before .before .clear-part .ensures)
+loop-again c = clear-through _ _ _ _ (c .before .before .before .before .before .before .loop .inv) (c .before .before .before .before .part-end .ensures .0)
+    (c .before .before .before .before .part-end .ensures .1) _ (c .before .before .clear-part .ensures)
 
--- src/lib.rt:32:1
 same-length : tie.Need-same-length Inv-loop μ-loop
 same-length c = search clear-long
 
--- src/lib.rt:32:1
 returns : tie.Need-returns Inv-loop μ-loop
 returns c = clear-all _ _ _ (c .before .loop .inv) (omega (arith, clear-long _ _ _ (c .before .loop .inv)))
 

@@ -41,7 +41,8 @@ same-length c = search needs
 returns-2 : tie.Need-returns-2
 returns-2 c =
     let f = c .before .before .before .before .before .before .before .before .before .before .before .pre .parts _ _ _ (c .before .before .before .before .before .before .before .e2 .given .1) in
-    head-at _ _ _ _ _ _ _ _ _ _ _ _ (c .before .before .before .before .before .before .before .e2 .given .1) (c .before .before .before .before .before .place-at .ensures) (c .before .before .before .word-of .ensures) (c .before .before .put .ensures) (f .0)
+    head-at _ _ _ _ _ _ _ _ _ _ _ _ (c .before .before .before .before .before .before .before .e2 .given .1) (c .before .before .before .before .before .place-at .ensures)
+    (c .before .before .before .word-of .ensures) (c .before .before .put .ensures) (f .0)
 
 pub head-spec : {M : Type 1} → statement M
 head-spec =

@@ -42,7 +42,10 @@ same-length : tie.Need-same-length
 same-length c = search needs
 
 returns-2 : tie.Need-returns-2
-returns-2 c = declaration-reads _ _ _ _ (c .before .before .before .before .before .before .before .before .before .before .pre .0) _ (c .before .before .before .before .before .before .before .kind-at .ensures) _ _ _ _ (c .before .before .before .before .before .before .if1 .left) (c .before .before .before .before .before .before .before .before .before .before .pre .1) (c .before .before .before .before .before .close .ensures) (c .before .before .before .home-at .ensures) (c .before .before .head .ensures)
+returns-2 c = declaration-reads _ _ _ _ (c .before .before .before .before .before .before .before .before .before .before .pre .0) _
+    (c .before .before .before .before .before .before .before .kind-at .ensures) _ _ _ _ (c .before .before .before .before .before .before .if1 .left)
+    (c .before .before .before .before .before .before .before .before .before .before .pre .1) (c .before .before .before .before .before .close .ensures)
+    (c .before .before .before .home-at .ensures) (c .before .before .head .ensures)
 
 pub read-declaration-spec : {M : Type 1} → statement M
 read-declaration-spec =

@@ -24,7 +24,9 @@ same-length : tie.Need-same-length
 same-length c = search needs
 
 returns : tie.Need-returns
-returns c = returning-reads _ _ _ _ (c .before .before .before .before .before .before .before .before .before .before .pre .0) _ _ _ _ _ (c .before .before .before .before .before .before .before .before .before .before .pre .1) (c .before .before .before .before .before .before .read-ended .ensures) (c .before .before .head .ensures)
+returns c = returning-reads _ _ _ _ (c .before .before .before .before .before .before .before .before .before .before .pre .0) _ _ _ _ _
+    (c .before .before .before .before .before .before .before .before .before .before .pre .1) (c .before .before .before .before .before .before .read-ended .ensures)
+    (c .before .before .head .ensures)
 
 pub read-return-spec : {M : Type 1} → statement M
 read-return-spec =

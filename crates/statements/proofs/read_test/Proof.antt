@@ -36,7 +36,8 @@ same-length : tie.Need-same-length
 same-length c = search needs
 
 returns-3 : tie.Need-returns-3
-returns-3 c = test-reads _ _ _ _ _ _ _ (c .before .before .before .before .before .before .before .kind-at .ensures) (c .before .before .before .before .before .before .if1 .left) _ _ (c .before .before .before .before .before .if2 .left) (c .before .before .before .read-expression .ensures) (c .close .ensures)
+returns-3 c = test-reads _ _ _ _ _ _ _ (c .before .before .before .before .before .before .before .kind-at .ensures) (c .before .before .before .before .before .before .if1 .left) _ _
+    (c .before .before .before .before .before .if2 .left) (c .before .before .before .read-expression .ensures) (c .close .ensures)
 
 pub read-test-spec : {M : Type 1} → statement M
 read-test-spec =

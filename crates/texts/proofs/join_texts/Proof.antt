@@ -30,10 +30,16 @@ returns : tie.Need-returns
 returns c = search no-text
 
 put-text-requires : tie.Need-put-text-requires
-put-text-requires c κs = lays-first (now (c .before .before .before .before .before .before .before .before .before .before .before .before .before .args .program)) _ _ _ 0 _ (c .before .before .before .before .before .before .before .before .before .before .before .before .before .args .b) _ _ _ _ (c .before .before .before .before .before .before .before .size-of .ensures) (c .before .before .before .before .before .before .size-of2 .ensures) (c .before .before .before .before .spend .ensures) (c .before .if1 .left) (c .before .before .before .before .before .before .before .before .before .before .before .before .before .pre)
+put-text-requires c κs = lays-first (now (c .before .before .before .before .before .before .before .before .before .before .before .before .before .args .program)) _ _ _ 0 _
+    (c .before .before .before .before .before .before .before .before .before .before .before .before .before .args .b) _ _ _ _
+    (c .before .before .before .before .before .before .before .size-of .ensures) (c .before .before .before .before .before .before .size-of2 .ensures)
+    (c .before .before .before .before .spend .ensures) (c .before .if1 .left) (c .before .before .before .before .before .before .before .before .before .before .before .before .before .pre)
 
 put-text-requires-2 : tie.Need-put-text-requires-2
-put-text-requires-2 c κs = lays-second _ _ _ _ 0 _ _ _ _ _ _ (c .before .before .before .before .before .before .before .before .before .before .before .size-of .ensures) (c .before .before .before .before .before .before .before .before .before .before .size-of2 .ensures) (c .before .before .before .before .before .before .before .before .spend .ensures) (c .before .before .before .before .before .if1 .left) (c .before .before .before .before .before .before .before .before .before .before .before .before .before .before .before .before .before .pre) _ _ (c .before .before .before .put-text .ensures) (search needs)
+put-text-requires-2 c κs = lays-second _ _ _ _ 0 _ _ _ _ _ _ (c .before .before .before .before .before .before .before .before .before .before .before .size-of .ensures)
+    (c .before .before .before .before .before .before .before .before .before .before .size-of2 .ensures) (c .before .before .before .before .before .before .before .before .spend .ensures)
+    (c .before .before .before .before .before .if1 .left) (c .before .before .before .before .before .before .before .before .before .before .before .before .before .before .before .before
+    .before .pre) _ _ (c .before .before .before .put-text .ensures) (search needs)
 
 mul-t27 : tie.Need-mul-t27
 mul-t27 c = search needs
@@ -57,7 +63,11 @@ same-length-3 : tie.Need-same-length-3
 same-length-3 c = search needs
 
 returns-2 : tie.Need-returns-2
-returns-2 c = joins _ _ _ _ _ _ _ _ _ _ _ (c .before .before .before .before .before .before .before .before .before .before .before .before .before .before .size-of .ensures) (c .before .before .before .before .before .before .before .before .before .before .before .before .before .size-of2 .ensures) (c .before .before .before .before .before .before .before .before .before .before .before .spend .ensures) (c .before .before .before .before .before .before .before .before .if1 .left) (c .before .before .before .before .before .before .before .before .before .before .before .before .before .before .before .before .before .before .before .before .pre) _ _ _ _ (c .before .before .before .before .before .before .put-text .ensures) (c .before .before .put-text2 .ensures)
+returns-2 c = joins _ _ _ _ _ _ _ _ _ _ _ (c .before .before .before .before .before .before .before .before .before .before .before .before .before .before .size-of .ensures)
+    (c .before .before .before .before .before .before .before .before .before .before .before .before .before .size-of2 .ensures)
+    (c .before .before .before .before .before .before .before .before .before .before .before .spend .ensures) (c .before .before .before .before .before .before .before .before .if1 .left)
+    (c .before .before .before .before .before .before .before .before .before .before .before .before .before .before .before .before .before .before .before .before .pre) _ _ _ _
+    (c .before .before .before .before .before .before .put-text .ensures) (c .before .before .put-text2 .ensures)
 
 pub join-texts-spec : {M : Type 1} → statement M
 join-texts-spec =

@@ -4,27 +4,21 @@ use borrow.Author.Needs.{needs}
 use Rattle.walks.proofs.back_at.Statement.{statement}
 use Rattle.walks.proofs.back_at.Tie as tie
 
--- src/lib.rt:56:43
 way-place-requires : tie.Need-way-place-requires
 way-place-requires c κs = search needs
 
--- src/lib.rt:56:9
 word-at-requires : tie.Need-word-at-requires
 word-at-requires c κs = search needs
 
--- src/lib.rt:59:9
 cast-t6 : tie.Need-cast-t6
 cast-t6 c = search needs
 
--- src/lib.rt:59:9
 add-t7 : tie.Need-add-t7
 add-t7 c = omega (arith, slot-fits (c .before .before .before .args .words .now) (c .before .before .before .args .d) _ _ (c .before .way-place .ensures) (c .word-at .ensures) (c .before .before .before .pre))
 
--- src/lib.rt:60:9
 cast-t10 : tie.Need-cast-t10
 cast-t10 c = search needs
 
--- src/lib.rt:52:1
 returns : tie.Need-returns
 returns c = search back-is
 

@@ -3,19 +3,15 @@ use borrow.Author.Needs.{needs}
 use Rattle.walks.proofs.count_within.Statement.{statement}
 use Rattle.walks.proofs.count_within.Tie as tie
 
--- src/lib.rt:32:21
 element-copy-out-if1 : tie.Need-element-copy-out-if1
 element-copy-out-if1 c = search needs
 
--- src/lib.rt:33:9
 count-at-requires : tie.Need-count-at-requires
 count-at-requires c κs = search needs
 
--- src/lib.rt:33:9
 returns : tie.Need-returns
 returns c = search count-is
 
--- src/lib.rt:29:1
 returns-2 : tie.Need-returns-2
 returns-2 c = search count-none
 

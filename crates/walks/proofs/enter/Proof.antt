@@ -3,43 +3,33 @@ use borrow.Author.Needs.{needs}
 use Rattle.walks.proofs.enter.Statement.{statement}
 use Rattle.walks.proofs.enter.Tie as tie
 
--- src/lib.rt:77:9
 way-place-requires : tie.Need-way-place-requires
 way-place-requires c κs = search needs
 
--- src/lib.rt:78:17
 way-word-requires : tie.Need-way-word-requires
 way-word-requires c κs = search needs
 
--- src/lib.rt:78:5
 mul-words : tie.Need-mul-words
 mul-words c = search needs
 
--- src/lib.rt:78:5
 slice-write-words : tie.Need-slice-write-words
 slice-write-words c = search needs
 
--- src/lib.rt:79:9
 first-at-requires : tie.Need-first-at-requires
 first-at-requires c κs = search needs
 
--- src/lib.rt:80:45
 add-count-within : tie.Need-add-count-within
 add-count-within c = search needs
 
--- src/lib.rt:80:9
 count-within-requires : tie.Need-count-within-requires
 count-within-requires c κs = search needs
 
--- src/lib.rt:81:14
 add-t17 : tie.Need-add-t17
 add-t17 c = search needs
 
--- src/lib.rt:73:1
 same-length : tie.Need-same-length
 same-length c = search needs
 
--- src/lib.rt:73:1
 returns : tie.Need-returns
 returns c = search is-entered
 

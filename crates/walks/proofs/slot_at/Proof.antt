@@ -3,19 +3,15 @@ use borrow.Author.Needs.{needs}
 use Rattle.walks.proofs.slot_at.Statement.{statement}
 use Rattle.walks.proofs.slot_at.Tie as tie
 
--- src/lib.rt:69:36
 way-place-requires : tie.Need-way-place-requires
 way-place-requires c κs = search needs
 
--- src/lib.rt:69:6
 word-at-requires : tie.Need-word-at-requires
 word-at-requires c κs = search needs
 
--- src/lib.rt:69:5
 cast-result : tie.Need-cast-result
 cast-result c = search needs
 
--- src/lib.rt:66:1
 returns : tie.Need-returns
 returns c = search slot-is
 

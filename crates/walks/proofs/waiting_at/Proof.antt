@@ -7,19 +7,15 @@ use Rattle.walks.proofs.waiting_at.Lts as lts
 use Rattle.walks.proofs.way_place.Reads as way-place-reads
 use Rattle.stores.proofs.words.word_at.Reads as word-at-reads
 
--- src/lib.rt:76:36
 way-place-requires : tie.Need-way-place-requires
 way-place-requires c κs = search needs
 
--- src/lib.rt:76:6
 word-at-requires : tie.Need-word-at-requires
 word-at-requires c κs = search needs
 
--- src/lib.rt:76:5
 cast-result : tie.Need-cast-result
 cast-result c = search needs
 
--- src/lib.rt:73:1
 returns : tie.Need-returns
 returns c = search waiting-is
 

@@ -18,7 +18,8 @@ add-result : tie.Need-add-result
 add-result c = search needs
 
 returns : tie.Need-returns
-returns c = part-short (now (c .before .before .before .before .before .args .tokens)) (c .before .before .before .before .before .args .i) _ _ _ (c .before .before .before .home-at .ensures) (c .before .before .payload-at .ensures) (c .place-at .ensures) (c .before .if1 .taken)
+returns c = part-short (now (c .before .before .before .before .before .args .tokens)) (c .before .before .before .before .before .args .i) _ _ _ (c .before .before .before .home-at .ensures)
+    (c .before .before .payload-at .ensures) (c .place-at .ensures) (c .before .if1 .taken)
 
 place-at-requires-2 : tie.Need-place-at-requires-2
 place-at-requires-2 c κs = search needs
@@ -33,7 +34,8 @@ add-result-3 : tie.Need-add-result-3
 add-result-3 c = search needs
 
 returns-2 : tie.Need-returns-2
-returns-2 c = part-long (now (c .before .before .before .before .before .args .tokens)) (c .before .before .before .before .before .args .i) _ _ _ (c .before .before .before .home-at .ensures) (c .before .before .payload-at .ensures) (c .place-at2 .ensures) (c .before .if1 .left)
+returns-2 c = part-long (now (c .before .before .before .before .before .args .tokens)) (c .before .before .before .before .before .args .i) _ _ _ (c .before .before .before .home-at .ensures)
+    (c .before .before .payload-at .ensures) (c .place-at2 .ensures) (c .before .if1 .left)
 
 pub part-at-spec : {M : Type 1} → statement M
 part-at-spec =

@@ -4,7 +4,8 @@ use native.Mathlib.Omega.{arith}
 use mathlib.Core.Path.{refl}
 use borrow.Author.Needs.{needs}
 use Rattle.spellings.proofs.Chains.{then-two}
-use Rattle.formatter.proofs.Statements.{too-deep, some-fuel, is-declaration, is-assignment, is-update, is-when, is-while, is-foreach, is-return, is-block, is-act, guarded-written, foreach-written, block-written}
+use Rattle.formatter.proofs.Statements.{too-deep, some-fuel, is-declaration, is-assignment, is-update, is-when, is-while, is-foreach}
+use Rattle.formatter.proofs.Statements.{is-return, is-block, is-act, guarded-written, foreach-written, block-written}
 use Rattle.formatter.proofs.Statements.{Following, all-first, room-before, all-short, all-done, all-again}
 use Prim.Native.Nat.{ℕ, _+_, _*_, _<_}
 use borrow.Fn.Kinds.{In}

@@ -11,39 +11,30 @@ Inv-loop words₀ at n i₀ words i = Zeroing words₀ at n words i
 abbrev μ-loop : tie.MeasureT-loop
 μ-loop words₀ at n i₀ words i = n - i
 
--- src/making.rt:30:5
 loop-holds : tie.Need-loop-holds Inv-loop μ-loop
 loop-holds c = search zero-first
 
--- src/making.rt:31:15
 add-words : tie.Need-add-words Inv-loop μ-loop
 add-words c = search needs
 
--- src/making.rt:31:9
 mul-words : tie.Need-mul-words Inv-loop μ-loop
 mul-words c = search needs
 
--- src/making.rt:31:9
 slice-write-words : tie.Need-slice-write-words Inv-loop μ-loop
 slice-write-words c = search needs
 
--- src/making.rt:32:9
 add-i : tie.Need-add-i Inv-loop μ-loop
 add-i c = search needs
 
--- src/making.rt:30:5
 loop-less : tie.Need-loop-less Inv-loop μ-loop
 loop-less c = search needs
 
--- src/making.rt:30:5
 loop-again : tie.Need-loop-again Inv-loop μ-loop
 loop-again c = search zero-next
 
--- src/making.rt:25:1
 same-length : tie.Need-same-length Inv-loop μ-loop
 same-length c = search needs
 
--- src/making.rt:25:1
 returns : tie.Need-returns Inv-loop μ-loop
 returns c = search zero-last
 

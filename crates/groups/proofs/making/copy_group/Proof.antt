@@ -3,31 +3,24 @@ use borrow.Author.Needs.{needs}
 use Rattle.groups.proofs.making.copy_group.Statement.{statement}
 use Rattle.groups.proofs.making.copy_group.Tie as tie
 
--- src/making.rt:108:43
 first-at-requires : tie.Need-first-at-requires
 first-at-requires c κs = search needs
 
--- src/making.rt:108:9
 place-of-requires : tie.Need-place-of-requires
 place-of-requires c κs = search needs
 
--- src/making.rt:109:13
 count-at-requires : tie.Need-count-at-requires
 count-at-requires c κs = search needs
 
--- src/making.rt:109:13
 cast-n : tie.Need-cast-n
 cast-n c = search needs
 
--- src/making.rt:110:9
 new-group-requires : tie.Need-new-group-requires
 new-group-requires c κs = search copy-sources
 
--- src/making.rt:104:1
 same-length : tie.Need-same-length
 same-length c = search needs
 
--- src/making.rt:104:1
 returns : tie.Need-returns
 returns c = search copied-group
 

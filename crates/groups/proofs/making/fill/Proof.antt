@@ -10,43 +10,34 @@ Inv-loop words₀ grants stride unit place n at₀ left₀ words at left = Filli
 abbrev μ-loop : tie.MeasureT-loop
 μ-loop words₀ grants stride unit place n at₀ left₀ words at left = left
 
--- src/making.rt:56:5
 loop-holds : tie.Need-loop-holds Inv-loop μ-loop
 loop-holds c = search fill-first
 
--- src/making.rt:57:9
 sub-left : tie.Need-sub-left Inv-loop μ-loop
 sub-left c = omega arith
 
--- src/making.rt:58:13
 add-one-requires : tie.Need-add-one-requires Inv-loop μ-loop
 add-one-requires c κs = c .before .before .loop .inv .source .units
 
--- src/making.rt:59:13
 same-length : tie.Need-same-length Inv-loop μ-loop
 same-length c = search needs
 
--- src/making.rt:59:13
 returns : tie.Need-returns Inv-loop μ-loop
-returns c = fill-short _ _ _ _ _ _ _ _ _ (c .before .before .before .before .before .before .loop .inv) _ _ (c .before .before .before .before .before .loop-test .taken) (c .before .before .before .add-one .ensures) (c .if1 .taken)
+returns c = fill-short _ _ _ _ _ _ _ _ _ (c .before .before .before .before .before .before .loop .inv) _ _ (c .before .before .before .before .before .loop-test .taken)
+    (c .before .before .before .add-one .ensures) (c .if1 .taken)
 
--- src/making.rt:61:9
 add-at : tie.Need-add-at Inv-loop μ-loop
 add-at c = omega (arith, place-fits _ _ _ _ _ _ _ _ _ (c .before .before .before .before .before .before .loop .inv) _ _ (c .before .before .before .before .before .loop-test .taken) (c .before .before .before .add-one .ensures) (c .if1 .left))
 
--- src/making.rt:56:5
 loop-less : tie.Need-loop-less Inv-loop μ-loop
 loop-less c = omega arith
 
--- src/making.rt:56:5
 loop-again : tie.Need-loop-again Inv-loop μ-loop
 loop-again c = search fill-next
 
--- src/making.rt:43:1
 same-length-2 : tie.Need-same-length-2 Inv-loop μ-loop
 same-length-2 c = search needs
 
--- src/making.rt:43:1
 returns-2 : tie.Need-returns-2 Inv-loop μ-loop
 returns-2 c = filled _ _ _ _ _ _ _ _ _ (c .before .loop .inv) (c .loop-test .left)
 

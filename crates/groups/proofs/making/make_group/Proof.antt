@@ -12,61 +12,58 @@ use Rattle.groups.proofs.making.put_group.Reads as put-group-reads
 use Rattle.stores.proofs.counters.spend.Reads as spend-reads
 use Rattle.stores.proofs.shapes.place_of.Reads as place-of-reads
 
--- src/making.rt:88:13
 slice-read-i : tie.Need-slice-read-i
 slice-read-i c = search needs
 
--- src/making.rt:89:17
 element-copy-out-limit : tie.Need-element-copy-out-limit
 element-copy-out-limit c = search needs
 
--- src/making.rt:90:9
 spend-requires : tie.Need-spend-requires
 spend-requires c κs = search needs
 
--- src/making.rt:91:9
 same-length : tie.Need-same-length
 same-length c = search needs
 
--- src/making.rt:91:9
 returns : tie.Need-returns
 returns c = search no-group
 
--- src/making.rt:93:13
 cast-k : tie.Need-cast-k
 cast-k c = omega (arith, shape-number _ _ _ _ (c .before .before .before .spend .ensures) (c .if1 .left) (c .before .before .before .before .before .before .before .before .pre .units .room))
 
--- src/making.rt:94:17
 slice-read-first : tie.Need-slice-read-first
 slice-read-first c = search needs
 
--- src/making.rt:95:22
 place-of-requires : tie.Need-place-of-requires
 place-of-requires c κs = search needs
 
--- src/making.rt:95:5
 put-group-requires : tie.Need-put-group-requires
-put-group-requires c κs = shape-room _ _ _ _ (c .before .before .before .before .before .before .spend .ensures) (c .before .before .before .if1 .left) (c .before .before .before .before .before .before .before .before .before .before .before .pre .units .room) _ _ refl (c .place-of .ensures) (c .before .before .before .before .before .before .spend .kept .0)
+put-group-requires c κs = shape-room _ _ _ _ (c .before .before .before .before .before .before .spend .ensures) (c .before .before .before .if1 .left)
+    (c .before .before .before .before .before .before .before .before .before .before .before .pre .units .room) _ _ refl (c .place-of .ensures)
+    (c .before .before .before .before .before .before .spend .kept .0)
 
--- src/making.rt:96:9
 fill-requires : tie.Need-fill-requires
-fill-requires c κs = group-sources _ _ _ _ _ _ (c .before .before .before .before .before .before .before .before .before .before .before .before .before .before .before .pre) (c .before .before .before .put-group .kept .0 ∙ c .before .before .before .before .before .before .before .before .before .before .spend .kept .0)
+fill-requires c κs = group-sources _ _ _ _ _ _ (c .before .before .before .before .before .before .before .before .before .before .before .before .before .before .before .pre)
+    (c .before .before .before .put-group .kept .0 ∙ c .before .before .before .before .before .before .before .before .before .before .spend .kept .0)
 
--- src/making.rt:97:9
 same-length-2 : tie.Need-same-length-2
 same-length-2 c = search needs
 
--- src/making.rt:97:9
 returns-2 : tie.Need-returns-2
-returns-2 c = group-short _ _ _ _ _ _ _ _ (c .before .before .before .before .before .before .before .before .before .before .before .before .before .before .spend .ensures) (c .before .before .before .before .before .before .before .before .before .before .before .if1 .left) (c .before .before .before .before .before .before .before .before .before .before .before .before .before .before .before .before .before .before .before .pre .units .room) _ _ refl (c .before .before .before .before .before .before .before .before .place-of .ensures) _ (c .before .before .before .before .before .before .before .put-group .ensures) _ _ (c .before .before .before .fill .ensures) (c .if2 .taken)
+returns-2 c = group-short _ _ _ _ _ _ _ _ (c .before .before .before .before .before .before .before .before .before .before .before .before .before .before .spend .ensures)
+    (c .before .before .before .before .before .before .before .before .before .before .before .if1 .left)
+    (c .before .before .before .before .before .before .before .before .before .before .before .before .before .before .before .before .before .before .before .pre .units .room) _ _ refl
+    (c .before .before .before .before .before .before .before .before .place-of .ensures) _ (c .before .before .before .before .before .before .before .put-group .ensures) _ _
+    (c .before .before .before .fill .ensures) (c .if2 .taken)
 
--- src/making.rt:77:1
 same-length-3 : tie.Need-same-length-3
 same-length-3 c = search needs
 
--- src/making.rt:77:1
 returns-3 : tie.Need-returns-3
-returns-3 c = group-made _ _ _ _ _ _ _ _ (c .before .before .before .before .before .before .before .before .before .before .before .before .before .before .spend .ensures) (c .before .before .before .before .before .before .before .before .before .before .before .if1 .left) (c .before .before .before .before .before .before .before .before .before .before .before .before .before .before .before .before .before .before .before .pre .units .room) _ _ refl (c .before .before .before .before .before .before .before .before .place-of .ensures) _ (c .before .before .before .before .before .before .before .put-group .ensures) _ _ (c .before .before .before .fill .ensures) (c .if2 .left)
+returns-3 c = group-made _ _ _ _ _ _ _ _ (c .before .before .before .before .before .before .before .before .before .before .before .before .before .before .spend .ensures)
+    (c .before .before .before .before .before .before .before .before .before .before .before .if1 .left)
+    (c .before .before .before .before .before .before .before .before .before .before .before .before .before .before .before .before .before .before .before .pre .units .room) _ _ refl
+    (c .before .before .before .before .before .before .before .before .place-of .ensures) _ (c .before .before .before .before .before .before .before .put-group .ensures) _ _
+    (c .before .before .before .fill .ensures) (c .if2 .left)
 
 pub make-group-spec : {M : Type 1} → statement M
 make-group-spec =

@@ -7,31 +7,24 @@ use Rattle.groups.proofs.making.new_group.Reads as reads
 use Rattle.groups.proofs.making.new_group.Lts as lts
 use Rattle.groups.proofs.making.make_group.Reads as make-group-reads
 
--- src/making.rt:115:13
 slice-read-i : tie.Need-slice-read-i
 slice-read-i c = search needs
 
--- src/making.rt:116:9
 make-group-requires : tie.Need-make-group-requires
 make-group-requires c κs = search needs
 
--- src/making.rt:118:9
 same-length : tie.Need-same-length
 same-length c = search needs
 
--- src/making.rt:118:9
 returns : tie.Need-returns
 returns c = search group-refused
 
--- src/making.rt:120:31
 cast-t15 : tie.Need-cast-t15
 cast-t15 c = omega (arith, c .before .before .before .make-group .ensures .within (c .if1 .left))
 
--- src/making.rt:103:1
 same-length-2 : tie.Need-same-length-2
 same-length-2 c = search needs
 
--- src/making.rt:103:1
 returns-2 : tie.Need-returns-2
 returns-2 c = search group-answered
 

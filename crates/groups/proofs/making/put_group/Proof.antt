@@ -5,51 +5,39 @@ use borrow.Author.Needs.{needs}
 use Rattle.groups.proofs.making.put_group.Statement.{statement}
 use Rattle.groups.proofs.making.put_group.Tie as tie
 
--- src/making.rt:71:17
 mul-words : tie.Need-mul-words
 mul-words c = search needs
 
--- src/making.rt:71:5
 mul-words-2 : tie.Need-mul-words-2
 mul-words-2 c = search needs
 
--- src/making.rt:71:5
 slice-write-words : tie.Need-slice-write-words
 slice-write-words c = search needs
 
--- src/making.rt:72:21
 slot-word-requires : tie.Need-slot-word-requires
 slot-word-requires c κs = search needs
 
--- src/making.rt:72:11
 add-words : tie.Need-add-words
 add-words c = search needs
 
--- src/making.rt:72:5
 mul-words-3 : tie.Need-mul-words-3
 mul-words-3 c = search needs
 
--- src/making.rt:72:5
 slice-write-words-2 : tie.Need-slice-write-words-2
 slice-write-words-2 c = simp length-set (omega arith)
 
--- src/making.rt:73:11
 add-words-2 : tie.Need-add-words-2
 add-words-2 c = search needs
 
--- src/making.rt:73:5
 mul-words-4 : tie.Need-mul-words-4
 mul-words-4 c = search needs
 
--- src/making.rt:73:5
 slice-write-words-3 : tie.Need-slice-write-words-3
 slice-write-words-3 c = simp length-set (omega arith)
 
--- src/making.rt:67:1
 same-length : tie.Need-same-length
 same-length c = search needs
 
--- src/making.rt:67:1
 returns : tie.Need-returns
 returns c = search lays-group
 

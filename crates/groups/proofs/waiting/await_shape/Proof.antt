@@ -10,39 +10,30 @@ use Rattle.groups.proofs.waiting.await_shape.Lts as lts
 use Rattle.stores.proofs.shapes.place_of.Reads as place-of-reads
 use Rattle.stores.proofs.words.put_word.Reads as put-word-reads
 
--- src/waiting.rt:20:13
 slice-read-k : tie.Need-slice-read-k
 slice-read-k c = search needs
 
--- src/waiting.rt:21:45
 cast-place-of : tie.Need-cast-place-of
 cast-place-of c = search needs
 
--- src/waiting.rt:21:28
 place-of-requires : tie.Need-place-of-requires
 place-of-requires c κs = search needs
 
--- src/waiting.rt:21:28
 add-put-word : tie.Need-add-put-word
 add-put-word c = search needs
 
--- src/waiting.rt:21:5
 put-word-requires : tie.Need-put-word-requires
 put-word-requires c κs = search needs
 
--- src/waiting.rt:22:32
 add-words : tie.Need-add-words
 add-words c = search needs
 
--- src/waiting.rt:22:5
 slice-write-words : tie.Need-slice-write-words
 slice-write-words c = search needs
 
--- src/waiting.rt:16:1
 same-length : tie.Need-same-length
 same-length c = search needs
 
--- src/waiting.rt:16:1
 returns : tie.Need-returns
 returns c = waits _ _ _ _ _ refl (c .before .before .before .place-of .ensures) (c .before .before .put-word .ensures)
 

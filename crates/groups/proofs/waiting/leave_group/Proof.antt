@@ -9,37 +9,30 @@ use Rattle.groups.proofs.waiting.await_shape.Reads as await-shape-reads
 use Rattle.groups.proofs.waiting.gather.Reads as gather-reads
 use Rattle.walks.proofs.waiting_at.Reads as waiting-at-reads
 
--- src/waiting.rt:45:9
 waiting-at-requires : tie.Need-waiting-at-requires
 waiting-at-requires c κs = search needs
 
--- src/waiting.rt:46:13
 slice-read-j : tie.Need-slice-read-j
 slice-read-j c = search needs
 
--- src/waiting.rt:47:9
 gather-requires : tie.Need-gather-requires
 gather-requires c κs = search needs
 
--- src/waiting.rt:49:9
 same-length : tie.Need-same-length
 same-length c = search needs
 
--- src/waiting.rt:49:9
 returns : tie.Need-returns
 returns c = leave-short _ _ _ _ _ (c .before .before .before .before .before .before .waiting-at .ensures) _ (c .before .before .before .gather .ensures) (c .if1 .taken)
 
--- src/waiting.rt:51:5
 await-shape-requires : tie.Need-await-shape-requires
 await-shape-requires c κs = omega (arith, c .before .before .before .before .before .before .before .before .before .before .pre .words, c .before .before .before .before .gather .kept .0)
 
--- src/waiting.rt:41:1
 same-length-2 : tie.Need-same-length-2
 same-length-2 c = search needs
 
--- src/waiting.rt:41:1
 returns-2 : tie.Need-returns-2
-returns-2 c = leaves _ _ _ _ _ (c .before .before .before .before .before .before .before .before .before .before .waiting-at .ensures) _ (c .before .before .before .before .before .before .before .gather .ensures) _ (c .before .before .before .before .if1 .left) (c .before .before .await-shape .ensures)
+returns-2 c = leaves _ _ _ _ _ (c .before .before .before .before .before .before .before .before .before .before .waiting-at .ensures) _
+    (c .before .before .before .before .before .before .before .gather .ensures) _ (c .before .before .before .before .if1 .left) (c .before .before .await-shape .ensures)
 
 pub leave-group-spec : {M : Type 1} → statement M
 leave-group-spec =

@@ -6,37 +6,33 @@ use borrow.Author.Needs.{needs}
 use Rattle.imgdraw.proofs.draw.draw_program.Statement.{statement}
 use Rattle.imgdraw.proofs.draw.draw_program.Tie as tie
 
--- src/draw.rt:42:9
 slice-aggregate-draw : tie.Need-slice-aggregate-draw
 slice-aggregate-draw c = search needs
 
--- src/draw.rt:43:9
 slice-aggregate-draw-2 : tie.Need-slice-aggregate-draw-2
 slice-aggregate-draw-2 c = search needs
 
--- src/draw.rt:44:9
 slice-aggregate-draw-3 : tie.Need-slice-aggregate-draw-3
 slice-aggregate-draw-3 c = search needs
 
--- src/draw.rt:45:9
 slice-aggregate-draw-4 : tie.Need-slice-aggregate-draw-4
 slice-aggregate-draw-4 c = search needs
 
--- src/draw.rt:37:9
 draw-requires : tie.Need-draw-requires
 draw-requires c κs = search needs
 
--- src/draw.rt:48:5
 put-answer-requires : tie.Need-put-answer-requires
 put-answer-requires c κs = let a = c .before .before .out in omega (arith, c .before .before .before .before .before .before .before .before .before .before .before .before .before .before .before .before .pre)
 
--- src/draw.rt:28:1
 same-length : tie.Need-same-length
 same-length c = search needs
 
--- src/draw.rt:28:1
 returns : tie.Need-returns
-returns c = program-drawn _ (replicate 8193 0) (replicate 16384 0) (replicate 354384 0) (replicate 16384 0) _ _ _ (c .before .before .before .before .before .before .before .before .before .before .before .before .before .before .before .before .before .before .before .fits .width) (c .before .before .before .before .before .before .before .before .before .before .before .before .before .before .before .before .before .before .before .fits .height) refl refl refl refl _ _ _ _ (c .before .before .before .before .before .before .before .before .before .before .draw .ensures .0 .answered) (c .before .before .before .before .before .before .before .before .before .before .draw .ensures .1) (c .before .before .put-answer .ensures)
+returns c = program-drawn _ (replicate 8193 0) (replicate 16384 0) (replicate 354384 0) (replicate 16384 0) _ _ _
+    (c .before .before .before .before .before .before .before .before .before .before .before .before .before .before .before .before .before .before .before .fits .width)
+    (c .before .before .before .before .before .before .before .before .before .before .before .before .before .before .before .before .before .before .before .fits .height) refl refl refl
+    refl _ _ _ _ (c .before .before .before .before .before .before .before .before .before .before .draw .ensures .0 .answered)
+    (c .before .before .before .before .before .before .before .before .before .before .draw .ensures .1) (c .before .before .put-answer .ensures)
 
 pub draw-program-spec : {M : Type 1} → statement M
 draw-program-spec =

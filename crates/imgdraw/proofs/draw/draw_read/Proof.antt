@@ -17,7 +17,8 @@ same-length : tie.Need-same-length
 same-length c = search needs
 
 returns : tie.Need-returns
-returns c = read-prints _ _ _ _ _ (c .before .before .before .before .before .before .before .pre .0) (c .before .before .before .before .before .before .before .pre .2) (c .before .before .draw-sheet .ensures)
+returns c = read-prints _ _ _ _ _ (c .before .before .before .before .before .before .before .pre .0) (c .before .before .before .before .before .before .before .pre .2)
+    (c .before .before .draw-sheet .ensures)
 
 pub draw-read-spec : {M : Type 1} → statement M
 draw-read-spec =

@@ -35,13 +35,15 @@ same-length : tie.Need-same-length
 same-length c = search needs
 
 returns : tie.Need-returns
-returns c = whole-unread _ _ _ (c .before .before .before .before .before .before .read-sheet .ensures) (c .before .before .before .before .enum-told .given .1) (c .before .before .before .before .before .before .before .before .before .pre) (c .before .before .write-error .ensures)
+returns c = whole-unread _ _ _ (c .before .before .before .before .before .before .read-sheet .ensures) (c .before .before .before .before .enum-told .given .1)
+    (c .before .before .before .before .before .before .before .before .before .pre) (c .before .before .write-error .ensures)
 
 same-length-2 : tie.Need-same-length-2
 same-length-2 c = search needs
 
 returns-2 : tie.Need-returns-2
-returns-2 c = whole-drawn _ _ _ (c .before .before .before .before .before .before .before .before .read-sheet .ensures) _ _ _ (c .before .before .before .before .before .before .s .given .1) (search needs) (search needs) (c .before .before .draw-program .ensures)
+returns-2 c = whole-drawn _ _ _ (c .before .before .before .before .before .before .before .before .read-sheet .ensures) _ _ _ (c .before .before .before .before .before .before .s .given .1)
+    (search needs) (search needs) (c .before .before .draw-program .ensures)
 
 pub draw-sheet-spec : {M : Type 1} → statement M
 draw-sheet-spec =

@@ -25,7 +25,8 @@ returns : tie.Need-returns Inv-loop μ-loop
 returns c = sym (c .before .before .before .loop .inv ∙ end-low _ _ _ (c .before .before .loop-test .taken) (rw (c .before .class-at .ensures) at (c .if1 .taken)))
 
 returns-2 : tie.Need-returns-2 Inv-loop μ-loop
-returns-2 c = sym (c .before .before .before .before .loop .inv ∙ end-high _ _ _ (c .before .before .before .loop-test .taken) (rw (c .before .before .class-at .ensures) at (c .before .if1 .left)) (rw (c .before .before .class-at .ensures) at (c .if2 .taken)))
+returns-2 c = sym (c .before .before .before .before .loop .inv ∙ end-high _ _ _ (c .before .before .before .loop-test .taken)
+    (rw (c .before .before .class-at .ensures) at (c .before .if1 .left)) (rw (c .before .before .class-at .ensures) at (c .if2 .taken)))
 
 add-i : tie.Need-add-i Inv-loop μ-loop
 add-i c = omega arith
@@ -34,7 +35,8 @@ loop-less : tie.Need-loop-less Inv-loop μ-loop
 loop-less c = omega arith
 
 loop-again : tie.Need-loop-again Inv-loop μ-loop
-loop-again c = c .before .before .before .before .loop .inv ∙ end-more _ _ _ (c .before .before .before .loop-test .taken) (rw (c .before .before .class-at .ensures) at (c .before .if1 .left)) (rw (c .before .before .class-at .ensures) at (c .if2 .left))
+loop-again c = c .before .before .before .before .loop .inv ∙ end-more _ _ _ (c .before .before .before .loop-test .taken) (rw (c .before .before .class-at .ensures) at (c .before .if1 .left))
+    (rw (c .before .before .class-at .ensures) at (c .if2 .left))
 
 returns-3 : tie.Need-returns-3 Inv-loop μ-loop
 returns-3 c = sym (c .before .loop .inv ∙ end-over _ _ _ (c .loop-test .left))

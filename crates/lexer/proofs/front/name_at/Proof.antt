@@ -22,10 +22,12 @@ sub-word-of : tie.Need-sub-word-of
 sub-word-of c = search needs
 
 word-of-requires : tie.Need-word-of-requires
-word-of-requires c κs = let f = end-fits (now (c .before .before .before .before .args .program)) (c .before .before .before .before .args .at) 2 _ (omega arith) (c .before .before .run-end .ensures) in omega arith
+word-of-requires c κs = let f = end-fits (now (c .before .before .before .before .args .program)) (c .before .before .before .before .args .at) 2 _ (omega arith)
+    (c .before .before .run-end .ensures) in omega arith
 
 returns : tie.Need-returns
-returns c = name-word (now (c .before .before .before .before .before .args .program)) (c .before .before .before .before .before .args .at) _ _ _ (c .before .before .before .run-end .ensures) (c .before .word-kind .ensures ∙ ap wordKind (c .before .before .spelling .ensures)) (c .word-of .ensures)
+returns c = name-word (now (c .before .before .before .before .before .args .program)) (c .before .before .before .before .before .args .at) _ _ _ (c .before .before .before .run-end .ensures)
+    (c .before .word-kind .ensures ∙ ap wordKind (c .before .before .spelling .ensures)) (c .word-of .ensures)
 
 pub name-at-spec : {M : Type 1} → statement M
 name-at-spec =

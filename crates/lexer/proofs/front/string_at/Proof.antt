@@ -27,19 +27,24 @@ class-at-requires-2 : tie.Need-class-at-requires-2
 class-at-requires-2 c κs = search needs
 
 returns-2 : tie.Need-returns-2
-returns-2 c = no-last (now (c .before .before .before .before .before .before .args .program)) (c .before .before .before .before .before .before .args .at) _ _ _ (c .before .before .before .before .class-at .ensures) (c .before .before .before .if1 .left) (c .before .before .run-end .ensures) (c .before .class-at2 .ensures) (c .if2 .taken)
+returns-2 c = no-last (now (c .before .before .before .before .before .before .args .program)) (c .before .before .before .before .before .before .args .at) _ _ _
+    (c .before .before .before .before .class-at .ensures) (c .before .before .before .if1 .left) (c .before .before .run-end .ensures) (c .before .class-at2 .ensures) (c .if2 .taken)
 
 add-word-of : tie.Need-add-word-of
-add-word-of c = let f = end-fits (now (c .before .before .before .before .before .before .args .program)) (c .before .before .before .before .before .before .args .at + 1) 2 _ (omega arith) (c .before .before .run-end .ensures) in omega arith
+add-word-of c = let f = end-fits (now (c .before .before .before .before .before .before .args .program)) (c .before .before .before .before .before .before .args .at
+    + 1) 2 _ (omega arith) (c .before .before .run-end .ensures) in omega arith
 
 sub-word-of : tie.Need-sub-word-of
 sub-word-of c = search needs
 
 word-of-requires : tie.Need-word-of-requires
-word-of-requires c κs = let f = end-fits (now (c .before .before .before .before .before .before .args .program)) (c .before .before .before .before .before .before .args .at + 1) 2 _ (omega arith) (c .before .before .run-end .ensures) in omega arith
+word-of-requires c κs = let f = end-fits (now (c .before .before .before .before .before .before .args .program)) (c .before .before .before .before .before .before .args .at
+    + 1) 2 _ (omega arith) (c .before .before .run-end .ensures) in omega arith
 
 returns-3 : tie.Need-returns-3
-returns-3 c = string-word (now (c .before .before .before .before .before .before .before .args .program)) (c .before .before .before .before .before .before .before .args .at) _ _ _ _ (c .before .before .before .before .before .class-at .ensures) (c .before .before .before .before .if1 .left) (c .before .before .before .run-end .ensures) (c .before .before .class-at2 .ensures) (c .before .if2 .left) (c .word-of .ensures)
+returns-3 c = string-word (now (c .before .before .before .before .before .before .before .args .program)) (c .before .before .before .before .before .before .before .args .at) _ _ _ _
+    (c .before .before .before .before .before .class-at .ensures) (c .before .before .before .before .if1 .left) (c .before .before .before .run-end .ensures)
+    (c .before .before .class-at2 .ensures) (c .before .if2 .left) (c .word-of .ensures)
 
 pub string-at-spec : {M : Type 1} → statement M
 string-at-spec =

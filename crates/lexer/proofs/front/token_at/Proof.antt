@@ -35,20 +35,27 @@ sign-at-requires : tie.Need-sign-at-requires
 sign-at-requires c κs = let l = sign-low _ (sym (c .before .before .class-of .ensures) ∙ c .before .match .keys4) in omega arith
 
 returns : tie.Need-returns
-returns c = c .name-at .ensures ∙ ap (frontWord (c .before .before .before .before .before .args .at)) (sym (front-2 (now (c .before .before .before .before .before .args .program)) (c .before .before .before .before .before .args .at) (c .before .before .before .before .before .pre .1 .0) (sym (c .before .before .class-of .ensures) ∙ c .before .match .keys1)))
+returns c = c .name-at .ensures ∙ ap (frontWord (c .before .before .before .before .before .args .at))
+    (sym (front-2 (now (c .before .before .before .before .before .args .program)) (c .before .before .before .before .before .args .at) (c .before .before .before .before .before .pre .1 .0)
+    (sym (c .before .before .class-of .ensures) ∙ c .before .match .keys1)))
 
 returns-2 : tie.Need-returns-2
-returns-2 c = c .digits-at .ensures ∙ ap (frontWord (c .before .before .before .before .before .args .at)) (sym (front-3 (now (c .before .before .before .before .before .args .program)) (c .before .before .before .before .before .args .at) (c .before .before .before .before .before .pre .1 .0) (sym (c .before .before .class-of .ensures) ∙ c .before .match .keys2)))
+returns-2 c = c .digits-at .ensures ∙ ap (frontWord (c .before .before .before .before .before .args .at))
+    (sym (front-3 (now (c .before .before .before .before .before .args .program)) (c .before .before .before .before .before .args .at) (c .before .before .before .before .before .pre .1 .0)
+    (sym (c .before .before .class-of .ensures) ∙ c .before .match .keys2)))
 
 returns-3 : tie.Need-returns-3
-returns-3 c = c .string-at .ensures ∙ ap (frontWord (c .before .before .before .before .before .args .at)) (sym (front-4 (now (c .before .before .before .before .before .args .program)) (c .before .before .before .before .before .args .at) (c .before .before .before .before .before .pre .1 .0) (sym (c .before .before .class-of .ensures) ∙ c .before .match .keys3)))
+returns-3 c = c .string-at .ensures ∙ ap (frontWord (c .before .before .before .before .before .args .at))
+    (sym (front-4 (now (c .before .before .before .before .before .args .program)) (c .before .before .before .before .before .args .at) (c .before .before .before .before .before .pre .1 .0)
+    (sym (c .before .before .class-of .ensures) ∙ c .before .match .keys3)))
 
 returns-4 : tie.Need-returns-4
 returns-4 c = rw (front-5 (now (c .before .before .before .before .before .before .args .program)) (c .before .before .before .before .before .before .args .at) (c .before .before .before .before .before .before .pre .1 .0) (sym (c .before .before .before .class-of .ensures) ∙ c .before .before .match .keys4), ← c .before .byte-at .ensures) (c .sign-at .ensures)
 
 returns-5 : tie.Need-returns-5
 unfolding frontWord
-returns-5 c = let n = c .match .rest in rw (front-none (now (c .before .before .before .before .args .program)) (c .before .before .before .before .args .at) (c .before .before .before .before .pre .1 .0) _ (sym (c .before .class-of .ensures)) (n .0 .0 .0 .1) (n .0 .0 .1) (n .0 .1) (n .1))
+returns-5 c = let n = c .match .rest in rw (front-none (now (c .before .before .before .before .args .program)) (c .before .before .before .before .args .at)
+    (c .before .before .before .before .pre .1 .0) _ (sym (c .before .class-of .ensures)) (n .0 .0 .0 .1) (n .0 .0 .1) (n .0 .1) (n .1))
 
 pub token-at-spec : {M : Type 1} → statement M
 token-at-spec =

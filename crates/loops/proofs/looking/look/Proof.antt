@@ -13,55 +13,42 @@ Inv-loop words₀ grants first count d₀ k₀ n₀ words d k n = Looks grants f
 abbrev μ-loop : tie.MeasureT-loop
 μ-loop words₀ grants first count d₀ k₀ n₀ words d k n = owed (shapesGranted grants) words d n
 
--- src/looking.rt:55:9
 within-requires : tie.Need-within-requires Inv-loop μ-loop
 within-requires c κs = search needs
 
--- src/looking.rt:56:5
 loop-holds : tie.Need-loop-holds Inv-loop μ-loop
 loop-holds c = search looks-first
 
--- src/looking.rt:56:15
 add-loop : tie.Need-add-loop Inv-loop μ-loop
 add-loop c = omega (arith, c .loop .inv .walks .few, c .loop .inv .walks .deep, c .before .before .before .pre .room .shapes)
 
--- src/looking.rt:57:15
 look-once-requires : tie.Need-look-once-requires Inv-loop μ-loop
 look-once-requires c κs = search looks-under
 
--- src/looking.rt:58:22
 enum-known-e : tie.Need-enum-known-e Inv-loop μ-loop
 enum-known-e c = search needs
 
--- src/looking.rt:56:5
 loop-less : tie.Need-loop-less Inv-loop μ-loop
 loop-less c = search looks-less
 
--- src/looking.rt:56:5
 loop-again : tie.Need-loop-again Inv-loop μ-loop
 loop-again c = search looks-next
 
--- src/looking.rt:63:27
 enum-known-found : tie.Need-enum-known-found Inv-loop μ-loop
 enum-known-found c = search needs
 
--- src/looking.rt:63:44
 cast-result : tie.Need-cast-result Inv-loop μ-loop
 cast-result c = let q : c .before .found .given .0 .0 < 2 ^ 18 = search found-small in omega (arith, q)
 
--- src/looking.rt:63:37
 same-length : tie.Need-same-length Inv-loop μ-loop
 same-length c = search needs
 
--- src/looking.rt:63:37
 returns : tie.Need-returns Inv-loop μ-loop
 returns c = search looks-found
 
--- src/looking.rt:49:1
 same-length-2 : tie.Need-same-length-2 Inv-loop μ-loop
 same-length-2 c = search needs
 
--- src/looking.rt:49:1
 returns-2 : tie.Need-returns-2 Inv-loop μ-loop
 returns-2 c = search looks-last
 

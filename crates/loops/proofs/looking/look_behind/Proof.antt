@@ -11,63 +11,50 @@ Inv-loop words₀ grants end k at₀ turns₀ words at turns = Climbs grants end
 abbrev μ-loop : tie.MeasureT-loop
 μ-loop words₀ grants end k at₀ turns₀ words at turns = turns
 
--- src/looking.rt:124:5
 loop-holds : tie.Need-loop-holds Inv-loop μ-loop
 loop-holds c = search climb-first
 
--- src/looking.rt:125:9
 sub-turns : tie.Need-sub-turns Inv-loop μ-loop
 sub-turns c = omega arith
 
--- src/looking.rt:126:13
 look-after-requires : tie.Need-look-after-requires Inv-loop μ-loop
 look-after-requires c κs = search climb-room
 
--- src/looking.rt:128:13
 same-length : tie.Need-same-length Inv-loop μ-loop
 same-length c = search needs
 
--- src/looking.rt:128:13
 returns : tie.Need-returns Inv-loop μ-loop
 returns c = search behind-found
 
--- src/looking.rt:130:13
 next-marked-requires : tie.Need-next-marked-requires Inv-loop μ-loop
-next-marked-requires c κs = room-same (climb-room _ _ _ _ _ _ _ (c .before .before .before .before .before .before .before .loop .inv) (c .before .before .before .before .before .before .before .before .before .pre)) (c .before .before .before .before .look-after .kept .0)
+next-marked-requires c κs = room-same (climb-room _ _ _ _ _ _ _ (c .before .before .before .before .before .before .before .loop .inv)
+    (c .before .before .before .before .before .before .before .before .before .pre)) (c .before .before .before .before .look-after .kept .0)
 
--- src/looking.rt:132:13
 same-length-2 : tie.Need-same-length-2 Inv-loop μ-loop
 same-length-2 c = search needs
 
--- src/looking.rt:132:13
 returns-2 : tie.Need-returns-2 Inv-loop μ-loop
 returns-2 c = search behind-none
 
--- src/looking.rt:134:38
 sub-unmark : tie.Need-sub-unmark Inv-loop μ-loop
 sub-unmark c = omega arith
 
--- src/looking.rt:134:9
 unmark-requires : tie.Need-unmark-requires Inv-loop μ-loop
-unmark-requires c κs = room-same (climb-room _ _ _ _ _ _ _ (c .before .before .before .before .before .before .before .before .before .before .loop .inv) (c .before .before .before .before .before .before .before .before .before .before .before .before .pre)) (c .before .before .before .before .before .before .before .look-after .kept .0)
+unmark-requires c κs = room-same (climb-room _ _ _ _ _ _ _ (c .before .before .before .before .before .before .before .before .before .before .loop .inv)
+    (c .before .before .before .before .before .before .before .before .before .before .before .before .pre)) (c .before .before .before .before .before .before .before .look-after .kept .0)
 
--- src/looking.rt:135:14
 sub-at : tie.Need-sub-at Inv-loop μ-loop
 sub-at c = omega arith
 
--- src/looking.rt:124:5
 loop-less : tie.Need-loop-less Inv-loop μ-loop
 loop-less c = omega arith
 
--- src/looking.rt:124:5
 loop-again : tie.Need-loop-again Inv-loop μ-loop
 loop-again c = search behind-next
 
--- src/looking.rt:118:1
 same-length-3 : tie.Need-same-length-3 Inv-loop μ-loop
 same-length-3 c = search needs
 
--- src/looking.rt:118:1
 returns-3 : tie.Need-returns-3 Inv-loop μ-loop
 returns-3 c = search climb-last
 

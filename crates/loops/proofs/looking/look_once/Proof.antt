@@ -5,93 +5,79 @@ use borrow.Author.Needs.{needs}
 use Rattle.loops.proofs.looking.look_once.Statement.{statement}
 use Rattle.loops.proofs.looking.look_once.Tie as tie
 
--- src/looking.rt:32:39
 sub-back-at : tie.Need-sub-back-at
 sub-back-at c = search needs
 
--- src/looking.rt:32:13
 back-at-requires : tie.Need-back-at-requires
 back-at-requires c κs = search way-bound
 
--- src/looking.rt:33:61
 sub-slot-at : tie.Need-sub-slot-at
 sub-slot-at c = search needs
 
--- src/looking.rt:33:39
 slot-at-requires : tie.Need-slot-at-requires
 slot-at-requires c κs = search needs
 
--- src/looking.rt:33:9
 give-up-requires : tie.Need-give-up-requires
 give-up-requires c κs = search needs
 
--- src/looking.rt:34:9
 same-length : tie.Need-same-length
 same-length c = search needs
 
--- src/looking.rt:34:9
 returns : tie.Need-returns
 returns c = search look-up
 
--- src/looking.rt:36:9
 component-at-requires : tie.Need-component-at-requires
 component-at-requires c κs = search needs
 
--- src/looking.rt:37:8
 is-passed-requires : tie.Need-is-passed-requires
 is-passed-requires c κs = search needs
 
--- src/looking.rt:38:28
 add-t24 : tie.Need-add-t24
 add-t24 c = search needs
 
--- src/looking.rt:38:35
 sub-t25 : tie.Need-sub-t25
 sub-t25 c = search needs
 
--- src/looking.rt:38:9
 same-length-2 : tie.Need-same-length-2
 same-length-2 c = search needs
 
--- src/looking.rt:38:9
 returns-2 : tie.Need-returns-2
 returns-2 c = search look-on
 
--- src/looking.rt:40:9
 is-group-requires : tie.Need-is-group-requires
 is-group-requires c κs = search needs
 
--- src/looking.rt:41:30
 add-t30 : tie.Need-add-t30
 add-t30 c = search needs
 
--- src/looking.rt:41:9
 same-length-3 : tie.Need-same-length-3
 same-length-3 c = search needs
 
--- src/looking.rt:41:9
 returns-3 : tie.Need-returns-3
 returns-3 c = search look-found
 
--- src/looking.rt:43:5
 mark-requires : tie.Need-mark-requires
 mark-requires c κs = search needs
 
--- src/looking.rt:44:47
 sub-enter : tie.Need-sub-enter
 sub-enter c = search needs
 
--- src/looking.rt:44:9
 enter-requires : tie.Need-enter-requires
-enter-requires c κs = descends _ _ _ _ _ _ (c .before .before .before .before .before .before .before .before .before .before .before .before .before .before .before .pre) (c .before .before .before .before .before .before .before .before .before .before .before .before .before .if1 .left) (c .before .before .before .mark .kept .0)
+enter-requires c κs = descends _ _ _ _ _ _ (c .before .before .before .before .before .before .before .before .before .before .before .before .before .before .before .pre)
+    (c .before .before .before .before .before .before .before .before .before .before .before .before .before .if1 .left) (c .before .before .before .mark .kept .0)
 
--- src/looking.rt:27:1
 same-length-4 : tie.Need-same-length-4
 same-length-4 c = search needs
 
--- src/looking.rt:27:1
 returns-4 : tie.Need-returns-4
-returns-4 c = look-in-group _ _ _ _ _ (c .before .before .before .before .before .before .before .before .before .before .before .before .before .before .component-at .ensures) _ (c .before .before .before .before .before .before .before .before .before .before .before .before .is-passed .ensures) (c .before .before .before .before .before .before .before .before .before .before .before .if2 .left) _ (c .before .before .before .before .before .before .before .before .before .is-group .ensures) _ (c .before .before .before .before .before .before .mark .ensures) (c .before .before .before .before .before .before .mark .kept .0) _ (c .before .before .before .before .before .before .before .before .before .before .before .before .before .before .before .before .before .before .pre) (c .before .before .before .before .before .before .before .before .before .before .before .before .before .before .before .before .if1 .left) (c .before .before .before .before .before .before .before .before .if3 .left) _ _ (c .before .before .enter .ensures)
+returns-4 c = look-in-group _ _ _ _ _ (c .before .before .before .before .before .before .before .before .before .before .before .before .before .before .component-at .ensures) _
+    (c .before .before .before .before .before .before .before .before .before .before .before .before .is-passed .ensures)
+    (c .before .before .before .before .before .before .before .before .before .before .before .if2 .left) _
+    (c .before .before .before .before .before .before .before .before .before .is-group .ensures) _ (c .before .before .before .before .before .before .mark .ensures)
+    (c .before .before .before .before .before .before .mark .kept .0) _
+    (c .before .before .before .before .before .before .before .before .before .before .before .before .before .before .before .before .before .before .pre)
+    (c .before .before .before .before .before .before .before .before .before .before .before .before .before .before .before .before .if1 .left)
+    (c .before .before .before .before .before .before .before .before .if3 .left) _ _ (c .before .before .enter .ensures)
 
 pub look-once-spec : {M : Type 1} → statement M
 look-once-spec =

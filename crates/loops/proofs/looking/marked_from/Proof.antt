@@ -11,35 +11,27 @@ Inv-loop words grants from end k₀ k = Seeks grants words from end k
 abbrev μ-loop : tie.MeasureT-loop
 μ-loop words grants from end k₀ k = end - k
 
--- src/looking.rt:86:5
 loop-holds : tie.Need-loop-holds Inv-loop μ-loop
 loop-holds c = search seek-first
 
--- src/looking.rt:87:12
 is-marked-requires : tie.Need-is-marked-requires Inv-loop μ-loop
 is-marked-requires c κs = search needs
 
--- src/looking.rt:88:20
 add-result : tie.Need-add-result Inv-loop μ-loop
 add-result c = omega arith
 
--- src/looking.rt:88:13
 returns : tie.Need-returns Inv-loop μ-loop
 returns c = search seek-found
 
--- src/looking.rt:90:9
 add-k : tie.Need-add-k Inv-loop μ-loop
 add-k c = omega arith
 
--- src/looking.rt:86:5
 loop-less : tie.Need-loop-less Inv-loop μ-loop
 loop-less c = omega arith
 
--- src/looking.rt:86:5
 loop-again : tie.Need-loop-again Inv-loop μ-loop
 loop-again c = search seek-next
 
--- src/looking.rt:81:1
 returns-2 : tie.Need-returns-2 Inv-loop μ-loop
 returns-2 c = search seek-last
 

@@ -3,19 +3,15 @@ use borrow.Author.Needs.{needs}
 use Rattle.loops.proofs.looking.next_marked.Statement.{statement}
 use Rattle.loops.proofs.looking.next_marked.Tie as tie
 
--- src/looking.rt:101:9
 returns : tie.Need-returns
 returns c = search none-behind
 
--- src/looking.rt:103:32
 add-marked-from : tie.Need-add-marked-from
 add-marked-from c = search needs
 
--- src/looking.rt:103:5
 marked-from-requires : tie.Need-marked-from-requires
 marked-from-requires c κs = search needs
 
--- src/looking.rt:96:1
 returns-2 : tie.Need-returns-2
 returns-2 c = search one-behind
 

@@ -3,27 +3,21 @@ use borrow.Author.Needs.{needs}
 use Rattle.loops.proofs.marks.clear_mark.Statement.{statement}
 use Rattle.loops.proofs.marks.clear_mark.Tie as tie
 
--- src/marks.rt:65:9
 is-marked-requires : tie.Need-is-marked-requires
 is-marked-requires c κs = search needs
 
--- src/marks.rt:66:9
 same-length : tie.Need-same-length
 same-length c = search needs
 
--- src/marks.rt:66:9
 returns : tie.Need-returns
 returns c = search no-mark
 
--- src/marks.rt:68:5
 unmark-requires : tie.Need-unmark-requires
 unmark-requires c κs = search needs
 
--- src/marks.rt:61:1
 same-length-2 : tie.Need-same-length-2
 same-length-2 c = search needs
 
--- src/marks.rt:61:1
 returns-2 : tie.Need-returns-2
 returns-2 c = search mark-cleared
 

@@ -3,31 +3,24 @@ use borrow.Author.Needs.{needs}
 use Rattle.loops.proofs.marks.give_up.Statement.{statement}
 use Rattle.loops.proofs.marks.give_up.Tie as tie
 
--- src/marks.rt:55:9
 component-at-requires : tie.Need-component-at-requires
 component-at-requires c κs = search needs
 
--- src/marks.rt:56:5
 unmark-requires : tie.Need-unmark-requires
 unmark-requires c κs = search needs
 
--- src/marks.rt:57:28
 place-of-requires : tie.Need-place-of-requires
 place-of-requires c κs = search needs
 
--- src/marks.rt:57:28
 add-put-word : tie.Need-add-put-word
 add-put-word c = search needs
 
--- src/marks.rt:57:5
 put-word-requires : tie.Need-put-word-requires
 put-word-requires c κs = search needs
 
--- src/marks.rt:51:1
 same-length : tie.Need-same-length
 same-length c = search needs
 
--- src/marks.rt:51:1
 returns : tie.Need-returns
 returns c = search gives-up
 

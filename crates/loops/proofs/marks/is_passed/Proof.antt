@@ -3,35 +3,27 @@ use borrow.Author.Needs.{needs}
 use Rattle.loops.proofs.marks.is_passed.Statement.{statement}
 use Rattle.loops.proofs.marks.is_passed.Tie as tie
 
--- src/marks.rt:16:8
 is-destroyed-requires : tie.Need-is-destroyed-requires
 is-destroyed-requires c κs = search needs
 
--- src/marks.rt:17:9
 returns : tie.Need-returns
 returns c = search gone-passed
 
--- src/marks.rt:19:9
 is-group-requires : tie.Need-is-group-requires
 is-group-requires c κs = search needs
 
--- src/marks.rt:20:9
 returns-2 : tie.Need-returns-2
 returns-2 c = search figure-kept
 
--- src/marks.rt:22:27
 place-of-requires : tie.Need-place-of-requires
 place-of-requires c κs = search needs
 
--- src/marks.rt:22:27
 add-word-at : tie.Need-add-word-at
 add-word-at c = search needs
 
--- src/marks.rt:22:5
 word-at-requires : tie.Need-word-at-requires
 word-at-requires c κs = search needs
 
--- src/marks.rt:13:1
 returns-3 : tie.Need-returns-3
 returns-3 c = search group-kept
 

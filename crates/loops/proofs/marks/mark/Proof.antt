@@ -3,31 +3,24 @@ use borrow.Author.Needs.{needs}
 use Rattle.loops.proofs.marks.mark.Statement.{statement}
 use Rattle.loops.proofs.marks.mark.Tie as tie
 
--- src/marks.rt:36:9
 mark-place-requires : tie.Need-mark-place-requires
 mark-place-requires c κs = search needs
 
--- src/marks.rt:37:40
 word-at-requires : tie.Need-word-at-requires
 word-at-requires c κs = search needs
 
--- src/marks.rt:37:67
 slice-read-wrapping-add-u64 : tie.Need-slice-read-wrapping-add-u64
 slice-read-wrapping-add-u64 c = search needs
 
--- src/marks.rt:37:9
 wrapping-add-u64-requires : tie.Need-wrapping-add-u64-requires
 wrapping-add-u64-requires c κs = search needs
 
--- src/marks.rt:38:5
 put-word-requires : tie.Need-put-word-requires
 put-word-requires c κs = search needs
 
--- src/marks.rt:32:1
 same-length : tie.Need-same-length
 same-length c = search needs
 
--- src/marks.rt:32:1
 returns : tie.Need-returns
 returns c = search marks
 

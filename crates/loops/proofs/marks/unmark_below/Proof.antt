@@ -13,31 +13,24 @@ Inv-loop words₀ grants end k₀ words k = Turns (unmarkFrom grants) 0 end word
 abbrev μ-loop : tie.MeasureT-loop
 μ-loop words₀ grants end k₀ words k = end - k
 
--- src/marks.rt:77:5
 loop-holds : tie.Need-loop-holds Inv-loop μ-loop
 loop-holds c = turns-first _ 0 _ _ (omega arith)
 
--- src/marks.rt:78:9
 clear-mark-requires : tie.Need-clear-mark-requires Inv-loop μ-loop
 clear-mark-requires c κs = search still-room
 
--- src/marks.rt:79:9
 add-k : tie.Need-add-k Inv-loop μ-loop
 add-k c = omega arith
 
--- src/marks.rt:77:5
 loop-less : tie.Need-loop-less Inv-loop μ-loop
 loop-less c = omega arith
 
--- src/marks.rt:77:5
 loop-again : tie.Need-loop-again Inv-loop μ-loop
 loop-again c = search unmark-more
 
--- src/marks.rt:72:1
 same-length : tie.Need-same-length Inv-loop μ-loop
 same-length c = search needs
 
--- src/marks.rt:72:1
 returns : tie.Need-returns Inv-loop μ-loop
 returns c = search all-unmarked
 

@@ -25,7 +25,10 @@ same-length : tie.Need-same-length
 same-length c = search needs
 
 returns : tie.Need-returns
-returns c = number-written _ _ (c .before .before .before .before .before .before .before .before .before .before .before .before .before .fits .n .fits) (c .before .before .before .before .before .before .before .before .before .decimal .ensures .1 .0) (c .before .before .before .before .before .before .before .before .before .decimal .ensures .1 .1) (omega arith) (c .before .before .before .before .before .before .before .write-bytes-at .ensures) (c .before .before .write-bytes-at2 .ensures)
+returns c = number-written _ _ (c .before .before .before .before .before .before .before .before .before .before .before .before .before .fits .n .fits)
+    (c .before .before .before .before .before .before .before .before .before .decimal .ensures .1 .0)
+    (c .before .before .before .before .before .before .before .before .before .decimal .ensures .1 .1) (omega arith)
+    (c .before .before .before .before .before .before .before .write-bytes-at .ensures) (c .before .before .write-bytes-at2 .ensures)
 
 pub write-number-at-spec : {M : Type 1} → statement M
 write-number-at-spec =

@@ -3,23 +3,18 @@ use Rattle.operators.proofs.EqualityLaws.{equal-refused, equal-answered
 use Rattle.operators.proofs.equality.equal.Statement.{statement}
 use Rattle.operators.proofs.equality.equal.Tie as tie
 
--- src/equality.rt:132:9
 equality-requires : tie.Need-equality-requires
 equality-requires c κs = search needs
 
--- src/equality.rt:134:9
 same-length : tie.Need-same-length
 same-length c = search needs
 
--- src/equality.rt:134:9
 returns : tie.Need-returns
 returns c = search equal-refused
 
--- src/equality.rt:120:1
 same-length-2 : tie.Need-same-length-2
 same-length-2 c = search needs
 
--- src/equality.rt:120:1
 returns-2 : tie.Need-returns-2
 returns-2 c = search equal-answered
 

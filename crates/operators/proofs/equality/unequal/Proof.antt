@@ -3,23 +3,18 @@ use Rattle.operators.proofs.EqualityLaws.{unequal-refused, unequal-answ
 use Rattle.operators.proofs.equality.unequal.Statement.{statement}
 use Rattle.operators.proofs.equality.unequal.Tie as tie
 
--- src/equality.rt:152:9
 equality-requires : tie.Need-equality-requires
 equality-requires c κs = search needs
 
--- src/equality.rt:154:9
 same-length : tie.Need-same-length
 same-length c = search needs
 
--- src/equality.rt:154:9
 returns : tie.Need-returns
 returns c = search unequal-refused
 
--- src/equality.rt:140:1
 same-length-2 : tie.Need-same-length-2
 same-length-2 c = search needs
 
--- src/equality.rt:140:1
 returns-2 : tie.Need-returns-2
 returns-2 c = search unequal-answered
 

@@ -40,7 +40,9 @@ same-length : tie.Need-same-length
 same-length c = search needs
 
 returns : tie.Need-returns
-returns c = heading-written _ _ (c .before .before .before .before .before .before .before .before .before .before .before .before .before .before .before .before .before .before .before .before .before .before .before .before .before .before .args .p) (omega (arith, c .before .before .before .before .before .before .before .before .before .before .before .before .before .before .before .before .before .before .before .before .before .before .before .before .before .before)) (c .before .before .before .before .before .before .before .before .before .before .before .before .before .before .before .before .before .before .before .before .before .before .write-number-at .ensures) (c .before .before .before .before .before .before .before .before .before .before .before .before .before .before .before .before .before .write-number-at2 .ensures) (c .before .before .before .before .before .before .before .before .before .before .before .before .write-number-at3 .ensures) (c .before .before .before .before .before .before .before .write-number-at4 .ensures) (c .before .before .write-bytes-at .ensures)
+returns c = heading-written _ _ (c .before .before .before .before .before .before .before .before .before .before .before .before .before .before .before .before .before .before .before
+    .before .before .before .before .before .before .before .args .p) (omega
+    (arith, c .before .before .before .before .before .before .before .before .before .before .before .before .before .before .before .before .before .before .before .before .before .before .before .before .before .before)) (c .before .before .before .before .before .before .before .before .before .before .before .before .before .before .before .before .before .before .before .before .before .before .write-number-at .ensures) (c .before .before .before .before .before .before .before .before .before .before .before .before .before .before .before .before .before .write-number-at2 .ensures) (c .before .before .before .before .before .before .before .before .before .before .before .before .write-number-at3 .ensures) (c .before .before .before .before .before .before .before .write-number-at4 .ensures) (c .before .before .write-bytes-at .ensures)
 
 pub write-heading-at-spec : {M : Type 1} → statement M
 write-heading-at-spec =

@@ -17,10 +17,12 @@ write-heading-at-requires : tie.Need-write-heading-at-requires
 write-heading-at-requires c κs = search needs
 
 sub-write-line-at : tie.Need-sub-write-line-at
-sub-write-line-at c = column-some _ (c .before .before .before .before .before .before .before .before .before .args .number) _ _ _ (c .before .before .before .before .before .before .least .ensures) (c .before .before .before .before .before .locate .ensures)
+sub-write-line-at c = column-some _ (c .before .before .before .before .before .before .before .before .before .args .number) _ _ _
+    (c .before .before .before .before .before .before .least .ensures) (c .before .before .before .before .before .locate .ensures)
 
 write-line-at-requires : tie.Need-write-line-at-requires
-write-line-at-requires c κs = around _ (c .before .before .before .before .before .before .before .before .before .args .number) _ _ _ (c .before .before .before .before .before .before .least .ensures) (c .before .before .before .before .before .locate .ensures)
+write-line-at-requires c κs = around _ (c .before .before .before .before .before .before .before .before .before .args .number) _ _ _
+    (c .before .before .before .before .before .before .least .ensures) (c .before .before .before .before .before .locate .ensures)
 
 write-sentence-at-requires : tie.Need-write-sentence-at-requires
 write-sentence-at-requires c κs = search needs
@@ -29,7 +31,12 @@ same-length : tie.Need-same-length
 same-length c = search needs
 
 returns : tie.Need-returns
-returns c = failed _ (c .before .before .before .before .before .before .before .before .before .before .before .before .before .before .before .before .args .number) _ _ _ (c .before .before .before .before .before .before .before .before .before .before .before .before .before .least .ensures) (c .before .before .before .before .before .before .before .before .before .before .before .before .locate .ensures) _ (omega (arith, c .before .before .before .before .before .before .before .before .before .before .before .before .before .before .before .before)) refl (c .before .before .before .before .before .before .before .before .before .before .write-heading-at .ensures) (c .before .before .before .before .before .before .write-line-at .ensures) (c .before .before .write-sentence-at .ensures)
+returns c = failed _ (c .before .before .before .before .before .before .before .before .before .before .before .before .before .before .before .before .args .number) _ _ _
+    (c .before .before .before .before .before .before .before .before .before .before .before .before .before .least .ensures)
+    (c .before .before .before .before .before .before .before .before .before .before .before .before .locate .ensures) _
+    (omega (arith, c .before .before .before .before .before .before .before .before .before .before .before .before .before .before .before .before)) refl
+    (c .before .before .before .before .before .before .before .before .before .before .write-heading-at .ensures) (c .before .before .before .before .before .before .write-line-at .ensures)
+    (c .before .before .write-sentence-at .ensures)
 
 pub write-failure-spec : {M : Type 1} → statement M
 write-failure-spec =

@@ -7,27 +7,21 @@ use Rattle.scene.proofs.measuring.measure.Lts as lts
 use Rattle.scene.proofs.lines.line_length_of.Reads as line-length-of-reads
 use Rattle.std.proofs.num.wrapping_add_u64.Reads as wrapping-add-u64-reads
 
--- src/measuring.rt:24:16
 line-length-of-requires : tie.Need-line-length-of-requires
 line-length-of-requires c κs = search needs
 
--- src/measuring.rt:25:42
 slice-read-wrapping-add-u64 : tie.Need-slice-read-wrapping-add-u64
 slice-read-wrapping-add-u64 c = search needs
 
--- src/measuring.rt:25:9
 wrapping-add-u64-requires : tie.Need-wrapping-add-u64-requires
 wrapping-add-u64-requires c κs = search needs
 
--- src/measuring.rt:26:5
 slice-write-words : tie.Need-slice-write-words
 slice-write-words c = search needs
 
--- src/measuring.rt:20:1
 same-length : tie.Need-same-length
 same-length c = search needs
 
--- src/measuring.rt:20:1
 returns : tie.Need-returns
 returns c = search measured
 

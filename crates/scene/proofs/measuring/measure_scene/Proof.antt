@@ -7,19 +7,15 @@ use Rattle.scene.proofs.measuring.measure_scene.Reads as reads
 use Rattle.scene.proofs.measuring.measure_scene.Lts as lts
 use Rattle.scene.proofs.measuring.measure_variables.Reads as measure-variables-reads
 
--- src/measuring.rt:185:5
 slice-write-words : tie.Need-slice-write-words
 slice-write-words c = search needs
 
--- src/measuring.rt:186:9
 measure-variables-requires : tie.Need-measure-variables-requires
 measure-variables-requires c κs = room-cleared _ (c .before .before .before .before .pre)
 
--- src/measuring.rt:176:1
 same-length : tie.Need-same-length
 same-length c = long-cleared (c .before .before .before .before .before .before .before .args .words .now) (c .before .before .measure-variables .kept .1 .1 .0)
 
--- src/measuring.rt:176:1
 returns : tie.Need-returns
 returns c = scene-measured _ _ _ _ _ _ _ refl (c .before .before .measure-variables .ensures)
 

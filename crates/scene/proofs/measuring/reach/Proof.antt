@@ -8,39 +8,30 @@ use Rattle.scene.proofs.measuring.measure.Reads as measure-reads
 use Rattle.stores.proofs.counters.count.Reads as count-reads
 use Rattle.stores.proofs.shapes.is_group.Reads as is-group-reads
 
--- src/measuring.rt:40:9
 count-requires : tie.Need-count-requires
 count-requires c κs = search needs
 
--- src/measuring.rt:41:9
 same-length : tie.Need-same-length
 same-length c = search needs
 
--- src/measuring.rt:41:9
 returns : tie.Need-returns
 returns c = no-step _ _ _ _ _ _ _ (c .before .before .before .count .ensures) (c .if1 .taken)
 
--- src/measuring.rt:43:8
 is-group-requires : tie.Need-is-group-requires
 is-group-requires c κs = search needs
 
--- src/measuring.rt:44:9
 same-length-2 : tie.Need-same-length-2
 same-length-2 c = search needs
 
--- src/measuring.rt:44:9
 returns-2 : tie.Need-returns-2
 returns-2 c = group-met _ _ _ _ _ _ _ (c .before .before .before .before .before .before .count .ensures) (c .before .before .before .if1 .left) _ (c .before .is-group .ensures) (c .if2 .taken)
 
--- src/measuring.rt:46:5
 measure-requires : tie.Need-measure-requires
 measure-requires c κs = search needs
 
--- src/measuring.rt:30:1
 same-length-3 : tie.Need-same-length-3
 same-length-3 c = search needs
 
--- src/measuring.rt:30:1
 returns-3 : tie.Need-returns-3
 returns-3 c =
     figure-met _ _ _ _ _ _ _ (c .before .before .before .before .before .before .before .before .before .before .count .ensures) (c .before .before .before .before .before .before

@@ -12,55 +12,42 @@ use Rattle.stores.proofs.components.component_at.Reads as component-at-reads
 use Rattle.stores.proofs.shapes.is_destroyed.Reads as is-destroyed-reads
 use Rattle.stores.proofs.shapes.is_group.Reads as is-group-reads
 
--- src/measuring.rt:65:38
 sub-back-at : tie.Need-sub-back-at
 sub-back-at c = search needs
 
--- src/measuring.rt:65:9
 back-at-requires : tie.Need-back-at-requires
 back-at-requires c κs = search way-bound
 
--- src/measuring.rt:65:9
 same-length : tie.Need-same-length
 same-length c = search needs
 
--- src/measuring.rt:65:9
 returns : tie.Need-returns
 returns c = search climbs-back
 
--- src/measuring.rt:67:9
 component-at-requires : tie.Need-component-at-requires
 component-at-requires c κs = search needs
 
--- src/measuring.rt:68:8
 is-destroyed-requires : tie.Need-is-destroyed-requires
 is-destroyed-requires c κs = search needs
 
--- src/measuring.rt:69:28
 add-t19 : tie.Need-add-t19
 add-t19 c = search needs
 
--- src/measuring.rt:69:35
 sub-t20 : tie.Need-sub-t20
 sub-t20 c = search needs
 
--- src/measuring.rt:69:9
 same-length-2 : tie.Need-same-length-2
 same-length-2 c = search needs
 
--- src/measuring.rt:69:9
 returns-2 : tie.Need-returns-2
 returns-2 c = search turn-over
 
--- src/measuring.rt:71:9
 reach-requires : tie.Need-reach-requires
 reach-requires c κs = search needs
 
--- src/measuring.rt:72:9
 same-length-3 : tie.Need-same-length-3
 same-length-3 c = search needs
 
--- src/measuring.rt:72:9
 returns-3 : tie.Need-returns-3
 returns-3 c =
     steps-short _ _ _ _ _ _ _ (c .before .before .before .before .before .before .before .before .before .before .before .before .before .before .pre) (c .before .before .before
@@ -68,23 +55,18 @@ returns-3 c =
     .before .before .before .before .before .is-destroyed .ensures) (c .before .before .before .before .before .if2 .left) _ _ (c .before .before .before .reach .ensures) (c .if3
     .taken)
 
--- src/measuring.rt:74:9
 is-group-requires : tie.Need-is-group-requires
 is-group-requires c κs = search needs
 
--- src/measuring.rt:75:28
 add-t26 : tie.Need-add-t26
 add-t26 c = search needs
 
--- src/measuring.rt:75:35
 sub-t27 : tie.Need-sub-t27
 sub-t27 c = search needs
 
--- src/measuring.rt:75:9
 same-length-4 : tie.Need-same-length-4
 same-length-4 c = search needs
 
--- src/measuring.rt:75:9
 returns-4 : tie.Need-returns-4
 returns-4 c =
     figure-measured _ _ _ _ _ _ _ (c .before .before .before .before .before .before .before .before .before .before .before .before .before .before .before .before .before .pre)
@@ -93,22 +75,18 @@ returns-4 c =
     .before .before .before .before .before .before .before .if2 .left) _ _ (c .before .before .before .before .before .before .reach .ensures) (c .before .before .before .if3
     .left) (c .before .before .before .before .before .before .reach .kept .1 .1 .0) _ (c .before .is-group .ensures) (c .if4 .taken)
 
--- src/measuring.rt:77:49
 sub-descend : tie.Need-sub-descend
 sub-descend c = search needs
 
--- src/measuring.rt:77:9
 descend-requires : tie.Need-descend-requires
 descend-requires c κs =
     descends _ _ _ _ _ _ (c .before .before .before .before .before .before .before .before .before .before .before .before .before .before .before .before .before .before .pre) (c
     .before .before .before .before .before .before .before .before .before .before .before .before .before .before .if1 .left) (c .before .before .before .before .before .before
     .before .reach .kept .1 .1 .0)
 
--- src/measuring.rt:51:1
 same-length-5 : tie.Need-same-length-5
 same-length-5 c = search needs
 
--- src/measuring.rt:51:1
 returns-5 : tie.Need-returns-5
 returns-5 c =
     group-measured _ _ _ _ _ _ _ (c .before .before .before .before .before .before .before .before .before .before .before .before .before .before .before .before .before .before

@@ -28,7 +28,9 @@ same-length : tie.Need-same-length
 same-length c = search needs
 
 returns : tie.Need-returns
-returns c = error-written _ _ (omega (arith, c .before .before .before .before .before .before .before .before .before .before .before .before .before .before .before .before)) (c .before .before .before .before .before .before .before .before .before .before .before .before .write-number-at .ensures) (c .before .before .before .before .before .before .before .write-number-at2 .ensures) (c .before .before .write-bytes-at .ensures)
+returns c = error-written _ _ (omega (arith, c .before .before .before .before .before .before .before .before .before .before .before .before .before .before .before .before))
+    (c .before .before .before .before .before .before .before .before .before .before .before .before .write-number-at .ensures)
+    (c .before .before .before .before .before .before .before .write-number-at2 .ensures) (c .before .before .write-bytes-at .ensures)
 
 pub write-error-spec : {M : Type 1} → statement M
 write-error-spec =

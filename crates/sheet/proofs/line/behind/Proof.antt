@@ -39,20 +39,33 @@ add-ended : tie.Need-add-ended
 add-ended c = search needs
 
 add-ended-2 : tie.Need-add-ended-2
-add-ended-2 c = let t = stands (c .before .before .before .before .before .before .before .before .args .s .now) (c .before .before .before .before .before .before .before .before .args .n) (c .before .before .before .before .before .before .byte-at .result) (c .before .before .before .before .before .before .byte-at .ensures) (omega (arith, c .before .before .before .before .before .if1 .left)) in
-    let f = height-found (c .before .before .before .before .before .before .before .before .args .s .now) (c .before .before .before .before .before .before .before .before .args .w) (c .before .before .before .before .before .before .before .before .args .n) (c .before .before .before .before .before .before .byte-at .result) (c .before .before .before .before .before .before .byte-at .ensures) (c .before .before .before .before .before .if1 .left) (c .before .before .before .read-field .result) (c .before .before .before .read-field .ensures) _ _ (c .before .height .given .1) in
+add-ended-2 c = let t = stands (c .before .before .before .before .before .before .before .before .args .s .now) (c .before .before .before .before .before .before .before .before .args .n)
+    (c .before .before .before .before .before .before .byte-at .result) (c .before .before .before .before .before .before .byte-at .ensures)
+    (omega (arith, c .before .before .before .before .before .if1 .left)) in
+    let f = height-found (c .before .before .before .before .before .before .before .before .args .s .now) (c .before .before .before .before .before .before .before .before .args .w)
+    (c .before .before .before .before .before .before .before .before .args .n) (c .before .before .before .before .before .before .byte-at .result)
+    (c .before .before .before .before .before .before .byte-at .ensures) (c .before .before .before .before .before .if1 .left) (c .before .before .before .read-field .result)
+    (c .before .before .before .read-field .ensures) _ _ (c .before .height .given .1) in
     omega (arith, f .within, length-drop (c .before .before .before .before .before .before .before .before .args .n + 1) (c .before .before .before .before .before .before .before .before .args .s .now))
 
 ended-requires : tie.Need-ended-requires
-ended-requires c κs = let t = stands (c .before .before .before .before .before .before .before .before .args .s .now) (c .before .before .before .before .before .before .before .before .args .n) (c .before .before .before .before .before .before .byte-at .result) (c .before .before .before .before .before .before .byte-at .ensures) (omega (arith, c .before .before .before .before .before .if1 .left)) in
-    let f = height-found (c .before .before .before .before .before .before .before .before .args .s .now) (c .before .before .before .before .before .before .before .before .args .w) (c .before .before .before .before .before .before .before .before .args .n) (c .before .before .before .before .before .before .byte-at .result) (c .before .before .before .before .before .before .byte-at .ensures) (c .before .before .before .before .before .if1 .left) (c .before .before .before .read-field .result) (c .before .before .before .read-field .ensures) _ _ (c .before .height .given .1) in
+ended-requires c κs = let t = stands (c .before .before .before .before .before .before .before .before .args .s .now)
+    (c .before .before .before .before .before .before .before .before .args .n) (c .before .before .before .before .before .before .byte-at .result)
+    (c .before .before .before .before .before .before .byte-at .ensures) (omega (arith, c .before .before .before .before .before .if1 .left)) in
+    let f = height-found (c .before .before .before .before .before .before .before .before .args .s .now) (c .before .before .before .before .before .before .before .before .args .w)
+    (c .before .before .before .before .before .before .before .before .args .n) (c .before .before .before .before .before .before .byte-at .result)
+    (c .before .before .before .before .before .before .byte-at .ensures) (c .before .before .before .before .before .if1 .left) (c .before .before .before .read-field .result)
+    (c .before .before .before .read-field .ensures) _ _ (c .before .height .given .1) in
     (c .before .before .before .before .before .before .before .before .pre .0, f .small, omega (arith, f .within, length-drop (c .before .before .before .before .before .before .before .before .args .n + 1) (c .before .before .before .before .before .before .before .before .args .s .now)))
 
 returns-2 : tie.Need-returns-2
-returns-2 c = no-height _ (c .before .before .before .before .before .before .before .args .w) _ _ (c .before .before .before .before .before .byte-at .ensures) (c .before .before .before .before .if1 .left) _ (c .before .before .read-field .ensures) (c .enum-told .given .1)
+returns-2 c = no-height _ (c .before .before .before .before .before .before .before .args .w) _ _ (c .before .before .before .before .before .byte-at .ensures)
+    (c .before .before .before .before .if1 .left) _ (c .before .before .read-field .ensures) (c .enum-told .given .1)
 
 returns-3 : tie.Need-returns-3
-returns-3 c = height-behind _ (c .before .before .before .before .before .before .before .before .before .args .w) _ _ (c .before .before .before .before .before .before .before .byte-at .ensures) (c .before .before .before .before .before .before .if1 .left) _ (c .before .before .before .before .read-field .ensures) _ _ _ (c .before .before .height .given .1) (c .ended .ensures)
+returns-3 c = height-behind _ (c .before .before .before .before .before .before .before .before .before .args .w) _ _
+    (c .before .before .before .before .before .before .before .byte-at .ensures) (c .before .before .before .before .before .before .if1 .left) _
+    (c .before .before .before .before .read-field .ensures) _ _ _ (c .before .before .height .given .1) (c .ended .ensures)
 
 pub behind-spec : {M : Type 1} → statement M
 behind-spec =

@@ -23,10 +23,12 @@ value-of-requires : tie.Need-value-of-requires
 value-of-requires c κs = simp length-take (omega (arith, c .before .if2 .left))
 
 returns-3 : tie.Need-returns-3
-returns-3 c = field-large _ _ (c .before .before .before .before .before .digit-count .ensures) _ (c .before .before .before .before .if1 .left) (c .before .before .before .if2 .left) (c .before .value-of .ensures) (c .if3 .taken)
+returns-3 c = field-large _ _ (c .before .before .before .before .before .digit-count .ensures) _ (c .before .before .before .before .if1 .left) (c .before .before .before .if2 .left)
+    (c .before .value-of .ensures) (c .if3 .taken)
 
 returns-4 : tie.Need-returns-4
-returns-4 c = field-good _ _ (c .before .before .before .before .before .digit-count .ensures) _ (c .before .before .before .before .if1 .left) (c .before .before .before .if2 .left) (c .before .value-of .ensures) (c .if3 .left)
+returns-4 c = field-good _ _ (c .before .before .before .before .before .digit-count .ensures) _ (c .before .before .before .before .if1 .left) (c .before .before .before .if2 .left)
+    (c .before .value-of .ensures) (c .if3 .left)
 
 pub read-field-spec : {M : Type 1} → statement M
 read-field-spec =

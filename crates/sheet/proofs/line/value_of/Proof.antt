@@ -36,7 +36,8 @@ loop-less : tie.Need-loop-less Inv-loop μ-loop
 loop-less c = omega arith
 
 loop-again : tie.Need-loop-again Inv-loop μ-loop
-loop-again c = value-more _ _ _ (c .before .before .before .loop .inv) _ (c .before .shared-slice-known2 .given (c .before .before .before .loop .i) .fits) (c .before .before .loop-test .taken) (c .digit .ensures)
+loop-again c = value-more _ _ _ (c .before .before .before .loop .inv) _ (c .before .shared-slice-known2 .given (c .before .before .before .loop .i) .fits)
+    (c .before .before .loop-test .taken) (c .digit .ensures)
 
 returns : tie.Need-returns Inv-loop μ-loop
 returns c = value-all _ _ _ (c .before .loop .inv) (c .loop-test .left)

@@ -24,7 +24,8 @@ same-length : tie.Need-same-length
 same-length c = search needs
 
 returns-2 : tie.Need-returns-2
-returns-2 c = error-front _ _ _ _ _ _ _ _ (c .before .before .before .before .before .answer2 .given .1) (c .before .before .before .before .before .before .before .before .pre) (c .before .before .write-error .ensures)
+returns-2 c = error-front _ _ _ _ _ _ _ _ (c .before .before .before .before .before .answer2 .given .1) (c .before .before .before .before .before .before .before .before .pre)
+    (c .before .before .write-error .ensures)
 
 pub put-answer-spec : {M : Type 1} → statement M
 put-answer-spec =

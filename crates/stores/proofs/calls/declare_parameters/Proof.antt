@@ -11,47 +11,36 @@ Inv-loop words₀ code a n k₀ words k = Declaring code a n words₀ words k
 abbrev μ-loop : tie.MeasureT-loop
 μ-loop words₀ code a n k₀ words k = n - k
 
--- src/calls.rt:83:5
 loop-holds : tie.Need-loop-holds Inv-loop μ-loop
 loop-holds c = declare-first _ _ _ _ (omega arith)
 
--- src/calls.rt:84:60
 add-word-at : tie.Need-add-word-at Inv-loop μ-loop
 add-word-at c = omega arith
 
--- src/calls.rt:84:39
 word-at-requires : tie.Need-word-at-requires Inv-loop μ-loop
 word-at-requires c κs = search needs
 
--- src/calls.rt:84:13
 declare-requires : tie.Need-declare-requires Inv-loop μ-loop
 declare-requires c κs = search needs
 
--- src/calls.rt:85:13
 same-length : tie.Need-same-length Inv-loop μ-loop
 same-length c = search needs
 
--- src/calls.rt:85:13
 returns : tie.Need-returns Inv-loop μ-loop
 returns c = search declared-twice
 
--- src/calls.rt:87:9
 add-k : tie.Need-add-k Inv-loop μ-loop
 add-k c = omega arith
 
--- src/calls.rt:83:5
 loop-less : tie.Need-loop-less Inv-loop μ-loop
 loop-less c = omega arith
 
--- src/calls.rt:83:5
 loop-again : tie.Need-loop-again Inv-loop μ-loop
 loop-again c = search declare-next
 
--- src/calls.rt:77:1
 same-length-2 : tie.Need-same-length-2 Inv-loop μ-loop
 same-length-2 c = search needs
 
--- src/calls.rt:77:1
 returns-2 : tie.Need-returns-2 Inv-loop μ-loop
 returns-2 c = search all-declared
 

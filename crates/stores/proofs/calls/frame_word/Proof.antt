@@ -4,15 +4,12 @@ use borrow.Author.Needs.{needs}
 use Rattle.stores.proofs.calls.frame_word.Statement.{statement}
 use Rattle.stores.proofs.calls.frame_word.Tie as tie
 
--- src/calls.rt:37:18
 mul-result : tie.Need-mul-result
 mul-result c = search needs
 
--- src/calls.rt:37:5
 add-result : tie.Need-add-result
 add-result c = search needs
 
--- src/calls.rt:33:1
 returns : tie.Need-returns
 unfolding frameWord
 returns c = refl

@@ -5,51 +5,39 @@ use borrow.Author.Needs.{needs}
 use Rattle.stores.proofs.calls.resume.Statement.{statement}
 use Rattle.stores.proofs.calls.resume.Tie as tie
 
--- src/calls.rt:125:13
 slice-read-m : tie.Need-slice-read-m
 slice-read-m c = search needs
 
--- src/calls.rt:126:5
 undeclare-requires : tie.Need-undeclare-requires
 undeclare-requires c κs = search needs
 
--- src/calls.rt:127:5
 resume-variables-requires : tie.Need-resume-variables-requires
 resume-variables-requires c κs = search needs
 
--- src/calls.rt:128:5
 slice-write-words : tie.Need-slice-write-words
 slice-write-words c = search needs
 
--- src/calls.rt:129:5
 slice-write-words-2 : tie.Need-slice-write-words-2
 slice-write-words-2 c = simp length-set (omega arith)
 
--- src/calls.rt:129:5
 slice-write-words-3 : tie.Need-slice-write-words-3
 slice-write-words-3 c = simp length-set (omega arith)
 
--- src/calls.rt:130:64
 slice-read-lowered-word : tie.Need-slice-read-lowered-word
 slice-read-lowered-word c = simp length-set (omega arith)
 
--- src/calls.rt:130:39
 lowered-word-requires : tie.Need-lowered-word-requires
 lowered-word-requires c κs = search needs
 
--- src/calls.rt:130:5
 slice-write-words-4 : tie.Need-slice-write-words-4
 slice-write-words-4 c = simp length-set (omega arith)
 
--- src/calls.rt:131:5
 slice-write-words-5 : tie.Need-slice-write-words-5
 slice-write-words-5 c = simp length-set (omega arith)
 
--- src/calls.rt:121:1
 same-length : tie.Need-same-length
 same-length c = simp length-set (search needs)
 
--- src/calls.rt:121:1
 returns : tie.Need-returns
 returns c = search resumed
 

@@ -14,63 +14,48 @@ Inv-loop words₀ top n k₀ words k = Turns (resumeFrom top) 0 n words₀ words
 abbrev μ-loop : tie.MeasureT-loop
 μ-loop words₀ top n k₀ words k = n - k
 
--- src/calls.rt:111:5
 loop-holds : tie.Need-loop-holds Inv-loop μ-loop
 loop-holds c = turns-first _ 0 _ _ (omega arith)
 
--- src/calls.rt:112:23
 place-above-requires : tie.Need-place-above-requires Inv-loop μ-loop
 place-above-requires c κs = search needs
 
--- src/calls.rt:112:17
 mul-w : tie.Need-mul-w Inv-loop μ-loop
 mul-w c = omega arith
 
--- src/calls.rt:112:17
 slice-read-w : tie.Need-slice-read-w Inv-loop μ-loop
 slice-read-w c = omega arith
 
--- src/calls.rt:114:15
 add-words : tie.Need-add-words Inv-loop μ-loop
 add-words c = omega arith
 
--- src/calls.rt:114:9
 mul-words : tie.Need-mul-words Inv-loop μ-loop
 mul-words c = omega arith
 
--- src/calls.rt:114:9
 slice-write-words : tie.Need-slice-write-words Inv-loop μ-loop
 slice-write-words c = omega arith
 
--- src/calls.rt:115:15
 add-words-2 : tie.Need-add-words-2 Inv-loop μ-loop
 add-words-2 c = omega arith
 
--- src/calls.rt:115:9
 mul-words-2 : tie.Need-mul-words-2 Inv-loop μ-loop
 mul-words-2 c = omega arith
 
--- src/calls.rt:115:9
 slice-write-words-2 : tie.Need-slice-write-words-2 Inv-loop μ-loop
 slice-write-words-2 c = simp length-set (omega arith)
 
--- src/calls.rt:116:9
 add-k : tie.Need-add-k Inv-loop μ-loop
 add-k c = omega arith
 
--- src/calls.rt:111:5
 loop-less : tie.Need-loop-less Inv-loop μ-loop
 loop-less c = omega arith
 
--- src/calls.rt:111:5
 loop-again : tie.Need-loop-again Inv-loop μ-loop
 loop-again c = search resume-more
 
--- src/calls.rt:106:1
 same-length : tie.Need-same-length Inv-loop μ-loop
 same-length c = search needs
 
--- src/calls.rt:106:1
 returns : tie.Need-returns Inv-loop μ-loop
 returns c = search all-resumed
 

@@ -5,55 +5,42 @@ use borrow.Author.Needs.{needs}
 use Rattle.stores.proofs.calls.suspend.Statement.{statement}
 use Rattle.stores.proofs.calls.suspend.Tie as tie
 
--- src/calls.rt:62:9
 returns : tie.Need-returns
 returns c = search top-beyond
 
--- src/calls.rt:65:9
 returns-2 : tie.Need-returns-2
 returns-2 c = search stack-full
 
--- src/calls.rt:67:5
 suspend-variables-requires : tie.Need-suspend-variables-requires
 suspend-variables-requires c κs = search needs
 
--- src/calls.rt:68:13
 slice-read-c : tie.Need-slice-read-c
 slice-read-c c = search needs
 
--- src/calls.rt:69:55
 frame-word-requires : tie.Need-frame-word-requires
 frame-word-requires c κs = search needs
 
--- src/calls.rt:69:11
 add-words : tie.Need-add-words
 add-words c = search needs
 
--- src/calls.rt:69:5
 mul-words : tie.Need-mul-words
 mul-words c = search needs
 
--- src/calls.rt:69:5
 slice-write-words : tie.Need-slice-write-words
 slice-write-words c = search needs
 
--- src/calls.rt:70:44
 add-words-2 : tie.Need-add-words-2
 add-words-2 c = search needs
 
--- src/calls.rt:70:5
 slice-write-words-2 : tie.Need-slice-write-words-2
 slice-write-words-2 c = simp length-set (omega arith)
 
--- src/calls.rt:71:5
 slice-write-words-3 : tie.Need-slice-write-words-3
 slice-write-words-3 c = simp length-set (omega arith)
 
--- src/calls.rt:57:1
 same-length : tie.Need-same-length
 same-length c = search needs
 
--- src/calls.rt:57:1
 returns-3 : tie.Need-returns-3
 returns-3 c = search suspended
 

@@ -14,83 +14,63 @@ Inv-loop words₀ top n k₀ words k = Turns (suspendFrom top) 0 n words₀ word
 abbrev μ-loop : tie.MeasureT-loop
 μ-loop words₀ top n k₀ words k = n - k
 
--- src/calls.rt:45:5
 loop-holds : tie.Need-loop-holds Inv-loop μ-loop
 loop-holds c = turns-first _ 0 _ _ (omega arith)
 
--- src/calls.rt:46:26
 add-slot : tie.Need-add-slot Inv-loop μ-loop
 add-slot c = omega arith
 
--- src/calls.rt:46:20
 mul-slot : tie.Need-mul-slot Inv-loop μ-loop
 mul-slot c = omega arith
 
--- src/calls.rt:46:20
 slice-read-slot : tie.Need-slice-read-slot Inv-loop μ-loop
 slice-read-slot c = omega arith
 
--- src/calls.rt:47:42
 add-waiting-word : tie.Need-add-waiting-word Inv-loop μ-loop
 add-waiting-word c = omega arith
 
--- src/calls.rt:47:36
 mul-waiting-word : tie.Need-mul-waiting-word Inv-loop μ-loop
 mul-waiting-word c = omega arith
 
--- src/calls.rt:47:36
 slice-read-waiting-word : tie.Need-slice-read-waiting-word Inv-loop μ-loop
 slice-read-waiting-word c = omega arith
 
--- src/calls.rt:47:13
 waiting-word-requires : tie.Need-waiting-word-requires Inv-loop μ-loop
 waiting-word-requires c κs = search needs
 
--- src/calls.rt:48:13
 add-words : tie.Need-add-words Inv-loop μ-loop
 add-words c = omega arith
 
--- src/calls.rt:48:9
 add-words-2 : tie.Need-add-words-2 Inv-loop μ-loop
 add-words-2 c = omega arith
 
--- src/calls.rt:49:9
 mul-words : tie.Need-mul-words Inv-loop μ-loop
 mul-words c = omega arith
 
--- src/calls.rt:49:9
 slice-write-words : tie.Need-slice-write-words Inv-loop μ-loop
 slice-write-words c = omega arith
 
--- src/calls.rt:50:15
 add-words-3 : tie.Need-add-words-3 Inv-loop μ-loop
 add-words-3 c = omega arith
 
--- src/calls.rt:50:9
 mul-words-2 : tie.Need-mul-words-2 Inv-loop μ-loop
 mul-words-2 c = omega arith
 
--- src/calls.rt:50:9
 slice-write-words-2 : tie.Need-slice-write-words-2 Inv-loop μ-loop
 slice-write-words-2 c = simp length-set (omega arith)
 
--- src/calls.rt:51:9
 add-k : tie.Need-add-k Inv-loop μ-loop
 add-k c = omega arith
 
--- src/calls.rt:45:5
 loop-less : tie.Need-loop-less Inv-loop μ-loop
 loop-less c = omega arith
 
--- src/calls.rt:45:5
 loop-again : tie.Need-loop-again Inv-loop μ-loop
 loop-again c = search suspend-more
 
--- src/calls.rt:40:1
 same-length : tie.Need-same-length Inv-loop μ-loop
 same-length c = search needs
 
--- src/calls.rt:40:1
 returns : tie.Need-returns Inv-loop μ-loop
 returns c = search all-suspended
 

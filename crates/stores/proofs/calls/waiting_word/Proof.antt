@@ -4,15 +4,12 @@ use borrow.Author.Needs.{needs}
 use Rattle.stores.proofs.calls.waiting_word.Statement.{statement}
 use Rattle.stores.proofs.calls.waiting_word.Tie as tie
 
--- src/calls.rt:29:28
 mul-result : tie.Need-mul-result
 mul-result c = search needs
 
--- src/calls.rt:29:5
 add-result : tie.Need-add-result
 add-result c = search needs
 
--- src/calls.rt:26:1
 returns : tie.Need-returns
 unfolding waitingWord
 returns c = refl

@@ -3,19 +3,15 @@ use borrow.Author.Needs.{needs}
 use Rattle.stores.proofs.components.component_at.Statement.{statement}
 use Rattle.stores.proofs.components.component_at.Tie as tie
 
--- src/components.rt:30:28
 place-of-requires : tie.Need-place-of-requires
 place-of-requires c κs = search needs
 
--- src/components.rt:30:6
 word-at-requires : tie.Need-word-at-requires
 word-at-requires c κs = search needs
 
--- src/components.rt:30:5
 cast-result : tie.Need-cast-result
 cast-result c = search needs
 
--- src/components.rt:26:1
 returns : tie.Need-returns
 returns c = search component-is
 

@@ -5,29 +5,23 @@ use borrow.Author.Needs.{needs}
 use Rattle.stores.proofs.components.mark_place.Statement.{statement}
 use Rattle.stores.proofs.components.mark_place.Tie as tie
 
--- src/components.rt:70:38
 shared-slice-read-lowered-word : tie.Need-shared-slice-read-lowered-word
 shared-slice-read-lowered-word c = search needs
 
--- src/components.rt:70:13
 lowered-word-requires : tie.Need-lowered-word-requires
 lowered-word-requires c κs = search needs
 
--- src/components.rt:70:13
 rem-d : tie.Need-rem-d
 rem-d c = search needs
 
--- src/components.rt:71:5
 marks-of-requires : tie.Need-marks-of-requires
 marks-of-requires c κs = search needs
 
--- src/components.rt:71:5
 add-result : tie.Need-add-result
 add-result c =
     let s = c .before .before .before .before in
     omega (arith, c .marks-of .ensures, rows-small (getD (s .args .grants .now) 4 0) (s .args .k) (s .pre .calls) (omega arith), s .pre .shapes, s .pre .entries)
 
--- src/components.rt:66:1
 returns : tie.Need-returns
 returns c = search mark-stands
 

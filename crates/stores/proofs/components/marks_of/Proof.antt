@@ -5,43 +5,33 @@ use borrow.Author.Needs.{needs}
 use Rattle.stores.proofs.components.marks_of.Statement.{statement}
 use Rattle.stores.proofs.components.marks_of.Tie as tie
 
--- src/components.rt:60:34
 element-copy-out-result : tie.Need-element-copy-out-result
 element-copy-out-result c = search needs
 
--- src/components.rt:60:11
 mul-result : tie.Need-mul-result
 mul-result c = search needs
 
--- src/components.rt:59:5
 add-result : tie.Need-add-result
 add-result c = search needs
 
--- src/components.rt:61:16
 element-copy-out-result-2 : tie.Need-element-copy-out-result-2
 element-copy-out-result-2 c = search needs
 
--- src/components.rt:61:11
 mul-result-2 : tie.Need-mul-result-2
 mul-result-2 c = search needs
 
--- src/components.rt:59:5
 add-result-2 : tie.Need-add-result-2
 add-result-2 c = search needs
 
--- src/components.rt:62:12
 element-copy-out-result-3 : tie.Need-element-copy-out-result-3
 element-copy-out-result-3 c = search needs
 
--- src/components.rt:62:11
 mul-result-3 : tie.Need-mul-result-3
 mul-result-3 c = let s = c .before .before .before in omega (arith, rows-small (getD (s .args .grants .now) 4 0) (s .args .k) (s .pre .1 .1) (omega arith))
 
--- src/components.rt:59:5
 add-result-3 : tie.Need-add-result-3
 add-result-3 c = let s = c .before .before .before in omega (arith, rows-small (getD (s .args .grants .now) 4 0) (s .args .k) (s .pre .1 .1) (omega arith), s .pre .0, s .pre .1 .0)
 
--- src/components.rt:55:1
 returns : tie.Need-returns
 returns c = search needs
 

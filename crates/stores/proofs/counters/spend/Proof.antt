@@ -1,5 +1,5 @@
 use borrow.Author.Needs.{needs}
-use Rattle.stores.proofs.Laws.{amount-beyond, left-beyond, pays}
+use Rattle.stores.proofs.Laws.{used-beyond, amount-beyond, pays}
 use Rattle.stores.proofs.counters.spend.Statement.{statement}
 use Rattle.stores.proofs.counters.spend.Tie as tie
 
@@ -10,10 +10,10 @@ slice-read-used : tie.Need-slice-read-used
 slice-read-used c = search needs
 
 returns : tie.Need-returns
-returns c = search amount-beyond
+returns c = search used-beyond
 
 returns-2 : tie.Need-returns-2
-returns-2 c = search left-beyond
+returns-2 c = search amount-beyond
 
 add-words : tie.Need-add-words
 add-words c = search needs

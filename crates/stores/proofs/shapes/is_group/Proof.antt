@@ -3,15 +3,12 @@ use borrow.Author.Needs.{needs}
 use Rattle.stores.proofs.shapes.is_group.Statement.{statement}
 use Rattle.stores.proofs.shapes.is_group.Tie as tie
 
--- src/shapes.rt:59:27
 place-of-requires : tie.Need-place-of-requires
 place-of-requires c κs = search needs
 
--- src/shapes.rt:59:5
 word-at-requires : tie.Need-word-at-requires
 word-at-requires c κs = search needs
 
--- src/shapes.rt:56:1
 returns : tie.Need-returns
 returns c = search is-group
 

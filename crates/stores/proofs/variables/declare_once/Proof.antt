@@ -3,15 +3,12 @@ use borrow.Author.Needs.{needs}
 use Rattle.stores.proofs.variables.declare_once.Statement.{statement}
 use Rattle.stores.proofs.variables.declare_once.Tie as tie
 
--- src/variables.rt:100:5
 declare-requires : tie.Need-declare-requires
 declare-requires c κs = search needs
 
--- src/variables.rt:96:1
 same-length : tie.Need-same-length
 same-length c = search needs
 
--- src/variables.rt:96:1
 returns : tie.Need-returns
 returns c = search declares-once
 

@@ -7,71 +7,55 @@ use borrow.Author.Needs.{needs}
 use Rattle.tables.proofs.entries.add_entry.Statement.{statement}
 use Rattle.tables.proofs.entries.add_entry.Tie as tie
 
--- src/entries.rt:148:16
 slice-read-used : tie.Need-slice-read-used
 slice-read-used c = search needs
 
--- src/entries.rt:149:16
 element-copy-out-size : tie.Need-element-copy-out-size
 element-copy-out-size c = search needs
 
--- src/entries.rt:151:9
 returns : tie.Need-returns
 returns c = search no-entry-left
 
--- src/entries.rt:153:13
 slice-read-n : tie.Need-slice-read-n
 slice-read-n c = search needs
 
--- src/entries.rt:153:13
 rem-n : tie.Need-rem-n
 rem-n c = search needs
 
--- src/entries.rt:154:9
 bucket-requires : tie.Need-bucket-requires
 bucket-requires c κs = search needs
 
--- src/entries.rt:155:9
 entry-place-requires : tie.Need-entry-place-requires
 entry-place-requires c κs = (c .before .before .before .before .before .before .before .before .before .pre .shapes, made-small _ _ (c .before .before .before .if1 .left) (c .before .before .before .before .before .before .before .before .before .pre .entries))
 
--- src/entries.rt:156:16
 entry-place-requires-2 : tie.Need-entry-place-requires-2
 entry-place-requires-2 c κs = (c .before .before .before .before .before .before .before .before .before .before .pre .shapes, bucket-small _ _ _ _ _ _ _ (c .before .before .before .before .if1 .left) (c .before .bucket .ensures) (c .before .before .before .before .before .before .before .before .before .before .pre))
 
--- src/entries.rt:156:16
 add-head : tie.Need-add-head
 add-head c = omega (arith, c .entry-place2 .ensures, bucket-small _ _ _ _ _ _ _ (c .before .before .before .before .before .if1 .left) (c .before .before .bucket .ensures) (c .before .before .before .before .before .before .before .before .before .before .before .pre), c .before .before .before .before .before .before .before .before .before .before .before .pre .shapes)
 
--- src/entries.rt:157:32
 add-words : tie.Need-add-words
 add-words c = search needs
 
--- src/entries.rt:157:5
 slice-write-words : tie.Need-slice-write-words
 slice-write-words c = search needs
 
--- src/entries.rt:158:37
 add-words-2 : tie.Need-add-words-2
 add-words-2 c = search needs
 
--- src/entries.rt:158:5
 slice-write-words-2 : tie.Need-slice-write-words-2
 slice-write-words-2 c = simp length-set (omega arith)
 
--- src/entries.rt:159:47
 add-put-entry : tie.Need-add-put-entry
 add-put-entry c = search needs
 
--- src/entries.rt:159:5
 put-entry-requires : tie.Need-put-entry-requires
-put-entry-requires c κs = puts-entry _ _ _ _ _ _ 0 _ _ _ _ (c .before .before .before .before .before .before .if1 .left) refl (c .before .before .before .bucket .ensures) (c .before .before .entry-place .ensures) (c .before .entry-place2 .ensures) (c .before .before .before .before .before .before .before .before .before .before .before .before .pre)
+put-entry-requires c κs = puts-entry _ _ _ _ _ _ 0 _ _ _ _ (c .before .before .before .before .before .before .if1 .left) refl (c .before .before .before .bucket .ensures)
+    (c .before .before .entry-place .ensures) (c .before .entry-place2 .ensures) (c .before .before .before .before .before .before .before .before .before .before .before .before .pre)
 
--- src/entries.rt:136:1
 same-length : tie.Need-same-length
 same-length c = c .before .before .put-entry .kept .0 ∙ simp length-set
 
--- src/entries.rt:136:1
 returns-2 : tie.Need-returns-2
 returns-2 c = search entry-added
 

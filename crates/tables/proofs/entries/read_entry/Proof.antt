@@ -4,55 +4,42 @@ use borrow.Author.Needs.{needs}
 use Rattle.tables.proofs.entries.read_entry.Statement.{statement}
 use Rattle.tables.proofs.entries.read_entry.Tie as tie
 
--- src/entries.rt:109:8
 is-group-key-requires : tie.Need-is-group-key-requires
 is-group-key-requires c κs = search needs
 
--- src/entries.rt:110:9
 returns : tie.Need-returns
 returns c = search group-read
 
--- src/entries.rt:112:9
 find-entry-requires : tie.Need-find-entry-requires
 find-entry-requires c κs = search needs
 
--- src/entries.rt:114:9
 returns-2 : tie.Need-returns-2
 returns-2 c = search no-entry
 
--- src/entries.rt:116:39
 sub-entry-place : tie.Need-sub-entry-place
 sub-entry-place c = search needs
 
--- src/entries.rt:116:19
 entry-place-requires : tie.Need-entry-place-requires
 entry-place-requires c κs = (c .before .before .before .before .before .before .before .pre .shapes, found-small _ _ _ _ _ _ _ (c .before .before .before .before .before .before .before .pre) (c .before .find-entry .ensures))
 
--- src/entries.rt:116:19
 add-w : tie.Need-add-w
 add-w c = omega (arith, found-room _ _ _ _ _ _ _ (c .before .before .before .before .before .before .before .before .pre) (c .before .before .find-entry .ensures) _ (c .before .if2 .left) (c .entry-place .ensures), c .before .before .before .before .before .before .before .before .good)
 
--- src/entries.rt:116:13
 mul-w : tie.Need-mul-w
 mul-w c = omega (arith, found-room _ _ _ _ _ _ _ (c .before .before .before .before .before .before .before .before .pre) (c .before .before .find-entry .ensures) _ (c .before .if2 .left) (c .entry-place .ensures), c .before .before .before .before .before .before .before .before .good)
 
--- src/entries.rt:116:13
 shared-slice-read-w : tie.Need-shared-slice-read-w
 shared-slice-read-w c = omega (arith, found-room _ _ _ _ _ _ _ (c .before .before .before .before .before .before .before .before .before .pre) (c .before .before .before .find-entry .ensures) _ (c .before .before .if2 .left) (c .before .entry-place .ensures))
 
--- src/entries.rt:117:8
 is-dead-requires : tie.Need-is-dead-requires
 is-dead-requires c κs = search needs
 
--- src/entries.rt:118:9
 returns-3 : tie.Need-returns-3
 returns-3 c = search dead-entry
 
--- src/entries.rt:120:18
 unpack-requires : tie.Need-unpack-requires
 unpack-requires c κs = search needs
 
--- src/entries.rt:97:1
 returns-4 : tie.Need-returns-4
 returns-4 c = search entry-read
 

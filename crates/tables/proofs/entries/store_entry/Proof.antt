@@ -3,35 +3,27 @@ use borrow.Author.Needs.{needs}
 use Rattle.tables.proofs.entries.store_entry.Statement.{statement}
 use Rattle.tables.proofs.entries.store_entry.Tie as tie
 
--- src/entries.rt:199:8
 is-group-key-requires : tie.Need-is-group-key-requires
 is-group-key-requires c κs = search needs
 
--- src/entries.rt:200:9
 same-length : tie.Need-same-length
 same-length c = search needs
 
--- src/entries.rt:200:9
 returns : tie.Need-returns
 returns c = search group-stored
 
--- src/entries.rt:202:9
 put-value-requires : tie.Need-put-value-requires
 put-value-requires c κs = search needs
 
--- src/entries.rt:203:9
 same-length-2 : tie.Need-same-length-2
 same-length-2 c = search needs
 
--- src/entries.rt:203:9
 returns-2 : tie.Need-returns-2
 returns-2 c = search none-left
 
--- src/entries.rt:187:1
 same-length-3 : tie.Need-same-length-3
 same-length-3 c = search needs
 
--- src/entries.rt:187:1
 returns-3 : tie.Need-returns-3
 returns-3 c = search value-stored
 

@@ -3,19 +3,15 @@ use borrow.Author.Needs.{needs}
 use Rattle.tables.proofs.keys.is_group_key.Statement.{statement}
 use Rattle.tables.proofs.keys.is_group_key.Tie as tie
 
--- src/keys.rt:39:9
 returns : tie.Need-returns
 returns c = search no-group-key
 
--- src/keys.rt:41:37
 number-of-requires : tie.Need-number-of-requires
 number-of-requires c κs = search needs
 
--- src/keys.rt:41:5
 is-group-requires : tie.Need-is-group-requires
 is-group-requires c κs = search needs
 
--- src/keys.rt:35:1
 returns-2 : tie.Need-returns-2
 returns-2 c = search group-key
 

@@ -30,7 +30,8 @@ shared-slice-read-if2-2 : tie.Need-shared-slice-read-if2-2 Inv-loop μ-loop
 shared-slice-read-if2-2 c = omega arith
 
 returns-2 : tie.Need-returns-2 Inv-loop μ-loop
-returns-2 c = sym (c .before .before .before .before .loop .inv .2 ∙ other-here (now (c .before .before .before .before .before .before .args .x)) (now (c .before .before .before .before .before .before .args .y)) (c .before .before .before .before .loop .i) (omega arith) (omega arith) (c .if2 .taken))
+returns-2 c = sym (c .before .before .before .before .loop .inv .2 ∙ other-here (now (c .before .before .before .before .before .before .args .x))
+    (now (c .before .before .before .before .before .before .args .y)) (c .before .before .before .before .loop .i) (omega arith) (omega arith) (c .if2 .taken))
 
 add-i : tie.Need-add-i Inv-loop μ-loop
 add-i c = omega arith

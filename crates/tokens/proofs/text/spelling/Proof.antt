@@ -22,7 +22,8 @@ part-result-end : tie.Need-part-result-end
 part-result-end c = search needs
 
 returns : tie.Need-returns
-returns c = clipped (now (c .before .before .before .before .args .program)) (c .before .before .before .before .args .start) (c .before .before .before .before .args .end) (c .before .before .least .result) (c .before .least2 .result) (c .before .before .least .ensures) (c .before .least2 .ensures)
+returns c = clipped (now (c .before .before .before .before .args .program)) (c .before .before .before .before .args .start) (c .before .before .before .before .args .end)
+    (c .before .before .least .result) (c .before .least2 .result) (c .before .before .least .ensures) (c .before .least2 .ensures)
 
 pub spelling-spec : {M : Type 1} → statement M
 spelling-spec =

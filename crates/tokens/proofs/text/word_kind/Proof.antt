@@ -24,7 +24,8 @@ same-text-requires-2 c κs = search needs
 returns-2 : tie.Need-returns-2
 returns-2 c =
     sym
-    (kind-2 _ (c .before .before .before .before .before .before .match .keys1) ∙ rw (sym (c .before .before .before .before .same-text .ensures) ∙ c .before .before .before .if1 .left, sym (c .before .same-text2 .ensures) ∙ c .if2 .taken))
+    (kind-2 _ (c .before .before .before .before .before .before .match .keys1)
+    ∙ rw (sym (c .before .before .before .before .same-text .ensures) ∙ c .before .before .before .if1 .left, sym (c .before .same-text2 .ensures) ∙ c .if2 .taken))
 
 slice-aggregate-same-text-3 : tie.Need-slice-aggregate-same-text-3
 slice-aggregate-same-text-3 c = search needs
@@ -35,7 +36,8 @@ same-text-requires-3 c κs = search needs
 returns-3 : tie.Need-returns-3
 returns-3 c =
     sym
-    (kind-2 _ (c .before .before .before .before .before .before .before .before .before .match .keys1) ∙ rw (sym (c .before .before .before .before .before .before .before .same-text .ensures) ∙ c .before .before .before .before .before .before .if1 .left, sym (c .before .before .before .before .same-text2 .ensures) ∙ c .before .before .before .if2 .left, sym (c .before .same-text3 .ensures) ∙ c .if3 .taken))
+    (kind-2 _ (c .before .before .before .before .before .before .before .before .before .match .keys1)
+    ∙ rw (sym (c .before .before .before .before .before .before .before .same-text .ensures) ∙ c .before .before .before .before .before .before .if1 .left, sym (c .before .before .before .before .same-text2 .ensures) ∙ c .before .before .before .if2 .left, sym (c .before .same-text3 .ensures) ∙ c .if3 .taken))
 
 slice-aggregate-same-text-4 : tie.Need-slice-aggregate-same-text-4
 slice-aggregate-same-text-4 c = search needs
@@ -55,7 +57,8 @@ same-text-requires-5 c κs = search needs
 returns-5 : tie.Need-returns-5
 returns-5 c =
     sym
-    (kind-3 _ (c .before .before .before .before .before .before .match .keys2) ∙ rw (sym (c .before .before .before .before .same-text4 .ensures) ∙ c .before .before .before .if4 .left, sym (c .before .same-text5 .ensures) ∙ c .if5 .taken))
+    (kind-3 _ (c .before .before .before .before .before .before .match .keys2)
+    ∙ rw (sym (c .before .before .before .before .same-text4 .ensures) ∙ c .before .before .before .if4 .left, sym (c .before .same-text5 .ensures) ∙ c .if5 .taken))
 
 slice-aggregate-same-text-6 : tie.Need-slice-aggregate-same-text-6
 slice-aggregate-same-text-6 c = search needs
@@ -75,7 +78,8 @@ same-text-requires-7 c κs = search needs
 returns-7 : tie.Need-returns-7
 returns-7 c =
     sym
-    (kind-4 _ (c .before .before .before .before .before .before .match .keys3) ∙ rw (sym (c .before .before .before .before .same-text6 .ensures) ∙ c .before .before .before .if6 .left, sym (c .before .same-text7 .ensures) ∙ c .if7 .taken))
+    (kind-4 _ (c .before .before .before .before .before .before .match .keys3)
+    ∙ rw (sym (c .before .before .before .before .same-text6 .ensures) ∙ c .before .before .before .if6 .left, sym (c .before .same-text7 .ensures) ∙ c .if7 .taken))
 
 slice-aggregate-same-text-8 : tie.Need-slice-aggregate-same-text-8
 slice-aggregate-same-text-8 c = search needs
@@ -95,7 +99,8 @@ same-text-requires-9 c κs = search needs
 returns-9 : tie.Need-returns-9
 returns-9 c =
     sym
-    (kind-5 _ (c .before .before .before .before .before .before .match .keys4) ∙ rw (sym (c .before .before .before .before .same-text8 .ensures) ∙ c .before .before .before .if8 .left, sym (c .before .same-text9 .ensures) ∙ c .if9 .taken))
+    (kind-5 _ (c .before .before .before .before .before .before .match .keys4)
+    ∙ rw (sym (c .before .before .before .before .same-text8 .ensures) ∙ c .before .before .before .if8 .left, sym (c .before .same-text9 .ensures) ∙ c .if9 .taken))
 
 slice-aggregate-same-text-10 : tie.Need-slice-aggregate-same-text-10
 slice-aggregate-same-text-10 c = search needs
@@ -118,22 +123,26 @@ returns-11 c = sym (kind-7 _ (c .before .before .before .match .keys6) ∙ rw (s
 returns-12 : tie.Need-returns-12
 returns-12 c =
     sym
-    (kind-2 _ (c .before .before .before .before .before .before .before .before .before .match .keys1) ∙ rw (sym (c .before .before .before .before .before .before .before .same-text .ensures) ∙ c .before .before .before .before .before .before .if1 .left, sym (c .before .before .before .before .same-text2 .ensures) ∙ c .before .before .before .if2 .left, sym (c .before .same-text3 .ensures) ∙ c .if3 .left))
+    (kind-2 _ (c .before .before .before .before .before .before .before .before .before .match .keys1)
+    ∙ rw (sym (c .before .before .before .before .before .before .before .same-text .ensures) ∙ c .before .before .before .before .before .before .if1 .left, sym (c .before .before .before .before .same-text2 .ensures) ∙ c .before .before .before .if2 .left, sym (c .before .same-text3 .ensures) ∙ c .if3 .left))
 
 returns-13 : tie.Need-returns-13
 returns-13 c =
     sym
-    (kind-3 _ (c .before .before .before .before .before .before .match .keys2) ∙ rw (sym (c .before .before .before .before .same-text4 .ensures) ∙ c .before .before .before .if4 .left, sym (c .before .same-text5 .ensures) ∙ c .if5 .left))
+    (kind-3 _ (c .before .before .before .before .before .before .match .keys2)
+    ∙ rw (sym (c .before .before .before .before .same-text4 .ensures) ∙ c .before .before .before .if4 .left, sym (c .before .same-text5 .ensures) ∙ c .if5 .left))
 
 returns-14 : tie.Need-returns-14
 returns-14 c =
     sym
-    (kind-4 _ (c .before .before .before .before .before .before .match .keys3) ∙ rw (sym (c .before .before .before .before .same-text6 .ensures) ∙ c .before .before .before .if6 .left, sym (c .before .same-text7 .ensures) ∙ c .if7 .left))
+    (kind-4 _ (c .before .before .before .before .before .before .match .keys3)
+    ∙ rw (sym (c .before .before .before .before .same-text6 .ensures) ∙ c .before .before .before .if6 .left, sym (c .before .same-text7 .ensures) ∙ c .if7 .left))
 
 returns-15 : tie.Need-returns-15
 returns-15 c =
     sym
-    (kind-5 _ (c .before .before .before .before .before .before .match .keys4) ∙ rw (sym (c .before .before .before .before .same-text8 .ensures) ∙ c .before .before .before .if8 .left, sym (c .before .same-text9 .ensures) ∙ c .if9 .left))
+    (kind-5 _ (c .before .before .before .before .before .before .match .keys4)
+    ∙ rw (sym (c .before .before .before .before .same-text8 .ensures) ∙ c .before .before .before .if8 .left, sym (c .before .same-text9 .ensures) ∙ c .if9 .left))
 
 returns-16 : tie.Need-returns-16
 returns-16 c = sym (kind-6 _ (c .before .before .before .match .keys5) ∙ rw (sym (c .before .same-text10 .ensures) ∙ c .if10 .left))

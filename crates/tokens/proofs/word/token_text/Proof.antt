@@ -25,14 +25,20 @@ spelling-requires c κs = search needs
 
 returns : tie.Need-returns
 unfolding tokenIn
-returns c = c .spelling .ensures ∙ rw (c .before .before .before .before .place-of .ensures, c .before .before .before .token-size .ensures) (text-plain (now (c .before .before .before .before .before .before .args .program)) (kindIn (c .before .before .before .before .before .before .args .w)) (placeIn (c .before .before .before .before .before .before .args .w)) (sizeIn (c .before .before .before .before .before .before .args .w)) (λ e. c .before .if1 .taken (c .before .before .kind-of .ensures ∙ e)))
+returns c = c .spelling .ensures ∙ rw (c .before .before .before .before .place-of .ensures, c .before .before .before .token-size .ensures)
+    (text-plain (now (c .before .before .before .before .before .before .args .program)) (kindIn (c .before .before .before .before .before .before .args .w))
+    (placeIn (c .before .before .before .before .before .before .args .w)) (sizeIn (c .before .before .before .before .before .before .args .w))
+    (λ e. c .before .if1 .taken (c .before .before .kind-of .ensures ∙ e)))
 
 spelling-requires-2 : tie.Need-spelling-requires-2
 spelling-requires-2 c κs = search needs
 
 returns-2 : tie.Need-returns-2
 unfolding tokenIn
-returns-2 c = c .spelling2 .ensures ∙ rw (c .before .before .before .before .before .place-of .ensures) (text-short (now (c .before .before .before .before .before .before .before .args .program)) (kindIn (c .before .before .before .before .before .before .before .args .w)) (placeIn (c .before .before .before .before .before .before .before .args .w)) (sizeIn (c .before .before .before .before .before .before .before .args .w)) (sym (c .before .before .before .kind-of .ensures) ∙ c .before .before .if1 .left) (rw (c .before .before .before .before .token-size .ensures) at (c .before .if2 .taken)))
+returns-2 c = c .spelling2 .ensures ∙ rw (c .before .before .before .before .before .place-of .ensures)
+    (text-short (now (c .before .before .before .before .before .before .before .args .program)) (kindIn (c .before .before .before .before .before .before .before .args .w))
+    (placeIn (c .before .before .before .before .before .before .before .args .w)) (sizeIn (c .before .before .before .before .before .before .before .args .w))
+    (sym (c .before .before .before .kind-of .ensures) ∙ c .before .before .if1 .left) (rw (c .before .before .before .before .token-size .ensures) at (c .before .if2 .taken)))
 
 add-spelling-2 : tie.Need-add-spelling-2
 add-spelling-2 c = search needs
@@ -48,7 +54,10 @@ spelling-requires-3 c κs = search needs
 
 returns-3 : tie.Need-returns-3
 unfolding tokenIn
-returns-3 c = c .spelling3 .ensures ∙ rw (c .before .before .before .before .before .place-of .ensures, c .before .before .before .before .token-size .ensures) (text-string (now (c .before .before .before .before .before .before .before .args .program)) (kindIn (c .before .before .before .before .before .before .before .args .w)) (placeIn (c .before .before .before .before .before .before .before .args .w)) (sizeIn (c .before .before .before .before .before .before .before .args .w)) (sym (c .before .before .before .kind-of .ensures) ∙ c .before .before .if1 .left) (rw (c .before .before .before .before .token-size .ensures) at (c .before .if2 .left)))
+returns-3 c = c .spelling3 .ensures ∙ rw (c .before .before .before .before .before .place-of .ensures, c .before .before .before .before .token-size .ensures)
+    (text-string (now (c .before .before .before .before .before .before .before .args .program)) (kindIn (c .before .before .before .before .before .before .before .args .w))
+    (placeIn (c .before .before .before .before .before .before .before .args .w)) (sizeIn (c .before .before .before .before .before .before .before .args .w))
+    (sym (c .before .before .before .kind-of .ensures) ∙ c .before .before .if1 .left) (rw (c .before .before .before .before .token-size .ensures) at (c .before .if2 .left)))
 
 pub token-text-spec : {M : Type 1} → statement M
 token-text-spec =

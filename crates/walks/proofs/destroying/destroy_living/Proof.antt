@@ -3,27 +3,21 @@ use borrow.Author.Needs.{needs}
 use Rattle.walks.proofs.destroying.destroy_living.Statement.{statement}
 use Rattle.walks.proofs.destroying.destroy_living.Tie as tie
 
--- src/destroying.rt:74:8
 is-destroyed-requires : tie.Need-is-destroyed-requires
 is-destroyed-requires c κs = search needs
 
--- src/destroying.rt:75:9
 same-length : tie.Need-same-length
 same-length c = search needs
 
--- src/destroying.rt:75:9
 returns : tie.Need-returns
 returns c = gone-before _ _ _ _ (c .before .is-destroyed .ensures) (c .if1 .taken)
 
--- src/destroying.rt:77:9
 destroy-all-requires : tie.Need-destroy-all-requires
 destroy-all-requires c κs = search needs
 
--- src/destroying.rt:70:1
 same-length-2 : tie.Need-same-length-2
 same-length-2 c = search needs
 
--- src/destroying.rt:70:1
 returns-2 : tie.Need-returns-2
 returns-2 c = living-gone _ _ _ _ (c .before .before .before .before .before .is-destroyed .ensures) _ _ (c .before .before .before .before .if1 .left) (c .before .before .destroy-all .ensures)
 

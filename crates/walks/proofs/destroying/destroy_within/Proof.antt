@@ -13,55 +13,42 @@ Inv-loop words₀ grants i d₀ k₀ n₀ words d k n = Going (destroyReached gr
 abbrev μ-loop : tie.MeasureT-loop
 μ-loop words₀ grants i d₀ k₀ n₀ words d k n = owed (shapesGranted grants) words d n
 
--- src/destroying.rt:41:9
 first-at-requires : tie.Need-first-at-requires Inv-loop μ-loop
 first-at-requires c κs = search needs
 
--- src/destroying.rt:42:9
 count-within-requires : tie.Need-count-within-requires Inv-loop μ-loop
 count-within-requires c κs = search needs
 
--- src/destroying.rt:43:5
 loop-holds : tie.Need-loop-holds Inv-loop μ-loop
 loop-holds c = search go-first
 
--- src/destroying.rt:43:15
 add-loop : tie.Need-add-loop Inv-loop μ-loop
 add-loop c = omega (arith, c .loop .inv .walks .few, c .loop .inv .walks .deep, c .before .before .before .before .before .before .pre .shapes)
 
--- src/destroying.rt:44:15
 turn-requires : tie.Need-turn-requires Inv-loop μ-loop
 turn-requires c κs = search under
 
--- src/destroying.rt:45:22
 enum-known-e : tie.Need-enum-known-e Inv-loop μ-loop
 enum-known-e c = search needs
 
--- src/destroying.rt:43:5
 loop-less : tie.Need-loop-less Inv-loop μ-loop
 loop-less c = search go-less
 
--- src/destroying.rt:43:5
 loop-again : tie.Need-loop-again Inv-loop μ-loop
 loop-again c = search go-next
 
--- src/destroying.rt:50:27
 enum-known-number : tie.Need-enum-known-number Inv-loop μ-loop
 enum-known-number c = search needs
 
--- src/destroying.rt:50:38
 same-length : tie.Need-same-length Inv-loop μ-loop
 same-length c = search needs
 
--- src/destroying.rt:50:38
 returns : tie.Need-returns Inv-loop μ-loop
 returns c = search go-stops
 
--- src/destroying.rt:36:1
 same-length-2 : tie.Need-same-length-2 Inv-loop μ-loop
 same-length-2 c = search needs
 
--- src/destroying.rt:36:1
 returns-2 : tie.Need-returns-2 Inv-loop μ-loop
 returns-2 c = search go-over
 

@@ -5,97 +5,93 @@ use borrow.Author.Needs.{needs}
 use Rattle.walks.proofs.destroying.turn.Statement.{statement}
 use Rattle.walks.proofs.destroying.turn.Tie as tie
 
--- src/destroying.rt:18:38
 sub-back-at : tie.Need-sub-back-at
 sub-back-at c = search needs
 
--- src/destroying.rt:18:9
 back-at-requires : tie.Need-back-at-requires
 back-at-requires c κs = search way-bound
 
--- src/destroying.rt:18:9
 same-length : tie.Need-same-length
 same-length c = search needs
 
--- src/destroying.rt:18:9
 returns : tie.Need-returns
 returns c = search climbs-back
 
--- src/destroying.rt:20:9
 component-at-requires : tie.Need-component-at-requires
 component-at-requires c κs = search needs
 
--- src/destroying.rt:21:8
 is-destroyed-requires : tie.Need-is-destroyed-requires
 is-destroyed-requires c κs = search needs
 
--- src/destroying.rt:22:28
 add-t17 : tie.Need-add-t17
 add-t17 c = search needs
 
--- src/destroying.rt:22:35
 sub-t18 : tie.Need-sub-t18
 sub-t18 c = search needs
 
--- src/destroying.rt:22:9
 same-length-2 : tie.Need-same-length-2
 same-length-2 c = search needs
 
--- src/destroying.rt:22:9
 returns-2 : tie.Need-returns-2
 returns-2 c = search turn-over
 
--- src/destroying.rt:24:9
 count-requires : tie.Need-count-requires
 count-requires c κs = search needs
 
--- src/destroying.rt:25:9
 same-length-3 : tie.Need-same-length-3
 same-length-3 c = search needs
 
--- src/destroying.rt:25:9
 returns-3 : tie.Need-returns-3
 returns-3 c = search steps-short
 
--- src/destroying.rt:27:5
 destroy-requires : tie.Need-destroy-requires
 destroy-requires c κs = search needs
 
--- src/destroying.rt:28:9
 is-group-requires : tie.Need-is-group-requires
 is-group-requires c κs = search needs
 
--- src/destroying.rt:29:28
 add-t27 : tie.Need-add-t27
 add-t27 c = search needs
 
--- src/destroying.rt:29:35
 sub-t28 : tie.Need-sub-t28
 sub-t28 c = search needs
 
--- src/destroying.rt:29:9
 same-length-4 : tie.Need-same-length-4
 same-length-4 c = search needs
 
--- src/destroying.rt:29:9
 returns-4 : tie.Need-returns-4
-returns-4 c = figure-destroyed _ _ _ _ _ (c .before .before .before .before .before .before .before .before .before .before .before .before .before .before .before .before .before .before .before .pre) (c .before .before .before .before .before .before .before .before .before .before .before .before .before .before .before .before .before .if1 .left) _ (c .before .before .before .before .before .before .before .before .before .before .before .before .before .before .before .component-at .ensures) _ (c .before .before .before .before .before .before .before .before .before .before .before .before .before .is-destroyed .ensures) (c .before .before .before .before .before .before .before .before .before .before .before .before .if2 .left) _ _ (c .before .before .before .before .before .before .before .before .before .before .count .ensures) (c .before .before .before .before .before .before .before .if3 .left) _ (c .before .before .before .before .before .destroy .ensures) (c .before .before .before .before .before .before .before .before .before .before .count .kept .0) (c .before .before .before .before .before .destroy .kept .0) _ (c .before .is-group .ensures) (c .if4 .taken)
+returns-4 c = figure-destroyed _ _ _ _ _ (c .before .before .before .before .before .before .before .before .before .before .before .before .before .before .before .before .before .before
+    .before .pre) (c .before .before .before .before .before .before .before .before .before .before .before .before .before .before .before .before .before .if1 .left) _
+    (c .before .before .before .before .before .before .before .before .before .before .before .before .before .before .before .component-at .ensures) _
+    (c .before .before .before .before .before .before .before .before .before .before .before .before .before .is-destroyed .ensures)
+    (c .before .before .before .before .before .before .before .before .before .before .before .before .if2 .left) _ _
+    (c .before .before .before .before .before .before .before .before .before .before .count .ensures) (c .before .before .before .before .before .before .before .if3 .left) _
+    (c .before .before .before .before .before .destroy .ensures) (c .before .before .before .before .before .before .before .before .before .before .count .kept .0)
+    (c .before .before .before .before .before .destroy .kept .0) _ (c .before .is-group .ensures) (c .if4 .taken)
 
--- src/destroying.rt:31:49
 sub-descend : tie.Need-sub-descend
 sub-descend c = search needs
 
--- src/destroying.rt:31:9
 descend-requires : tie.Need-descend-requires
-descend-requires c κs = descends _ _ _ _ _ _ (c .before .before .before .before .before .before .before .before .before .before .before .before .before .before .before .before .before .before .before .before .pre) (c .before .before .before .before .before .before .before .before .before .before .before .before .before .before .before .before .before .before .if1 .left) (c .before .before .before .before .before .before .destroy .kept .0 ∙ c .before .before .before .before .before .before .before .before .before .before .before .count .kept .0)
+descend-requires c κs = descends _ _ _ _ _ _ (c .before .before .before .before .before .before .before .before .before .before .before .before .before .before .before .before .before .before
+    .before .before .pre) (c .before .before .before .before .before .before .before .before .before .before .before .before .before .before .before .before .before .before .if1 .left)
+    (c .before .before .before .before .before .before .destroy .kept .0 ∙ c .before .before .before .before .before .before .before .before .before .before .before .count .kept .0)
 
--- src/destroying.rt:13:1
 same-length-5 : tie.Need-same-length-5
 same-length-5 c = search needs
 
--- src/destroying.rt:13:1
 returns-5 : tie.Need-returns-5
-returns-5 c = group-destroyed _ _ _ _ _ (c .before .before .before .before .before .before .before .before .before .before .before .before .before .before .before .before .before .before .before .before .before .before .before .pre) (c .before .before .before .before .before .before .before .before .before .before .before .before .before .before .before .before .before .before .before .before .before .if1 .left) _ (c .before .before .before .before .before .before .before .before .before .before .before .before .before .before .before .before .before .before .before .component-at .ensures) _ (c .before .before .before .before .before .before .before .before .before .before .before .before .before .before .before .before .before .is-destroyed .ensures) (c .before .before .before .before .before .before .before .before .before .before .before .before .before .before .before .before .if2 .left) _ _ (c .before .before .before .before .before .before .before .before .before .before .before .before .before .before .count .ensures) (c .before .before .before .before .before .before .before .before .before .before .before .if3 .left) _ (c .before .before .before .before .before .before .before .before .before .destroy .ensures) (c .before .before .before .before .before .before .before .before .before .before .before .before .before .before .count .kept .0) (c .before .before .before .before .before .before .before .before .before .destroy .kept .0) _ (c .before .before .before .before .before .is-group .ensures) (c .before .before .before .before .if4 .left) _ _ (c .before .before .descend .ensures)
+returns-5 c = group-destroyed _ _ _ _ _ (c .before .before .before .before .before .before .before .before .before .before .before .before .before .before .before .before .before .before
+    .before .before .before .before .before .pre) (c .before .before .before .before .before .before .before .before .before .before .before .before .before .before .before .before .before
+    .before .before .before .before .if1 .left) _ (c .before .before .before .before .before .before .before .before .before .before .before .before .before .before .before .before .before
+    .before .before .component-at .ensures) _ (c .before .before .before .before .before .before .before .before .before .before .before .before .before .before .before .before .before
+    .is-destroyed .ensures) (c .before .before .before .before .before .before .before .before .before .before .before .before .before .before .before .before .if2 .left) _ _
+    (c .before .before .before .before .before .before .before .before .before .before .before .before .before .before .count .ensures)
+    (c .before .before .before .before .before .before .before .before .before .before .before .if3 .left) _
+    (c .before .before .before .before .before .before .before .before .before .destroy .ensures)
+    (c .before .before .before .before .before .before .before .before .before .before .before .before .before .before .count .kept .0)
+    (c .before .before .before .before .before .before .before .before .before .destroy .kept .0) _ (c .before .before .before .before .before .is-group .ensures)
+    (c .before .before .before .before .if4 .left) _ _ (c .before .before .descend .ensures)
 
 pub turn-spec : {M : Type 1} → statement M
 turn-spec =

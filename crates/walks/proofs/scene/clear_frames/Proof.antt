@@ -13,55 +13,43 @@ Inv-loop words₀ grants calls d₀ words d = Runs (clearFrames grants) 1 calls 
 abbrev μ-loop : tie.MeasureT-loop
 μ-loop words₀ grants calls d₀ words d = calls - d
 
--- src/scene.rt:70:17
 slice-read-calls : tie.Need-slice-read-calls Inv-loop μ-loop
 slice-read-calls c = omega (arith, c .before .before .pre .words)
 
--- src/scene.rt:72:5
 loop-holds : tie.Need-loop-holds Inv-loop μ-loop
 loop-holds c = runs-first _ _ _ _ (omega (arith, c .slice-known2 .given 7))
 
--- src/scene.rt:73:23
 add-f : tie.Need-add-f Inv-loop μ-loop
 add-f c = omega arith
 
--- src/scene.rt:73:17
 mul-f : tie.Need-mul-f Inv-loop μ-loop
 mul-f c = omega arith
 
--- src/scene.rt:73:17
 slice-read-f : tie.Need-slice-read-f Inv-loop μ-loop
 slice-read-f c = omega (arith, c .before .before .before .before .before .pre .words, c .before .before .loop .inv .long)
 
--- src/scene.rt:74:13
 clear-waiting-requires : tie.Need-clear-waiting-requires Inv-loop μ-loop
 clear-waiting-requires c κs = runs-room _ _ _ _ _ _ (c .before .before .before .loop .inv) (c .before .before .before .before .before .before .pre)
 
--- src/scene.rt:76:13
 same-length : tie.Need-same-length Inv-loop μ-loop
 same-length c = search needs
 
--- src/scene.rt:76:13
 returns : tie.Need-returns Inv-loop μ-loop
-returns c = clear-stops-frames _ _ _ _ _ (c .before .before .before .before .before .before .before .loop .inv) _ _ (c .before .before .before .before .before .before .loop-test .taken) (c .before .before .before .clear-waiting .ensures) refl (c .if1 .taken)
+returns c = clear-stops-frames _ _ _ _ _ (c .before .before .before .before .before .before .before .loop .inv) _ _ (c .before .before .before .before .before .before .loop-test .taken)
+    (c .before .before .before .clear-waiting .ensures) refl (c .if1 .taken)
 
--- src/scene.rt:78:9
 add-d : tie.Need-add-d Inv-loop μ-loop
 add-d c = omega arith
 
--- src/scene.rt:72:5
 loop-less : tie.Need-loop-less Inv-loop μ-loop
 loop-less c = omega arith
 
--- src/scene.rt:72:5
 loop-again : tie.Need-loop-again Inv-loop μ-loop
 loop-again c = search clear-more-frames
 
--- src/scene.rt:66:1
 same-length-2 : tie.Need-same-length-2 Inv-loop μ-loop
 same-length-2 c = search needs
 
--- src/scene.rt:66:1
 returns-2 : tie.Need-returns-2 Inv-loop μ-loop
 returns-2 c = clear-all-frames _ _ _ _ _ (c .before .loop .inv) refl (c .loop-test .left)
 

@@ -4,29 +4,24 @@ use borrow.Author.Needs.{needs}
 use Rattle.walks.proofs.scene.clear_scene.Statement.{statement}
 use Rattle.walks.proofs.scene.clear_scene.Tie as tie
 
--- src/scene.rt:88:9
 clear-frames-requires : tie.Need-clear-frames-requires
 clear-frames-requires c κs = search needs
 
--- src/scene.rt:90:9
 same-length : tie.Need-same-length
 same-length c = search needs
 
--- src/scene.rt:90:9
 returns : tie.Need-returns
 returns c = frames-stop _ _ _ _ (c .before .before .before .clear-frames .ensures) (c .if1 .taken)
 
--- src/scene.rt:92:9
 clear-variables-requires : tie.Need-clear-variables-requires
 clear-variables-requires c κs = room-same (c .before .before .before .before .before .before .before .pre) (c .before .before .before .before .clear-frames .kept .0)
 
--- src/scene.rt:84:1
 same-length-2 : tie.Need-same-length-2
 same-length-2 c = search needs
 
--- src/scene.rt:84:1
 returns-2 : tie.Need-returns-2
-returns-2 c = scene-cleared _ _ _ _ (c .before .before .before .before .before .before .before .clear-frames .ensures) _ _ (c .before .before .before .before .if1 .left) (c .before .before .clear-variables .ensures)
+returns-2 c = scene-cleared _ _ _ _ (c .before .before .before .before .before .before .before .clear-frames .ensures) _ _ (c .before .before .before .before .if1 .left)
+    (c .before .before .clear-variables .ensures)
 
 pub clear-scene-spec : {M : Type 1} → statement M
 clear-scene-spec =

@@ -13,67 +13,52 @@ Inv-loop words₀ grants n k₀ words k = Runs (clearFrom grants) 0 n words₀ w
 abbrev μ-loop : tie.MeasureT-loop
 μ-loop words₀ grants n k₀ words k = n - k
 
--- src/scene.rt:32:13
 slice-read-n : tie.Need-slice-read-n Inv-loop μ-loop
 slice-read-n c = omega (arith, c .before .before .pre .words)
 
--- src/scene.rt:34:5
 loop-holds : tie.Need-loop-holds Inv-loop μ-loop
 loop-holds c = runs-first _ _ _ _ (omega (arith, c .slice-known2 .given 5))
 
--- src/scene.rt:35:26
 add-slot : tie.Need-add-slot Inv-loop μ-loop
 add-slot c = omega arith
 
--- src/scene.rt:35:20
 mul-slot : tie.Need-mul-slot Inv-loop μ-loop
 mul-slot c = omega arith
 
--- src/scene.rt:35:20
 slice-read-slot : tie.Need-slice-read-slot Inv-loop μ-loop
 slice-read-slot c = omega (arith, c .before .before .before .before .before .pre .words, c .before .before .loop .inv .long)
 
--- src/scene.rt:36:23
 add-w : tie.Need-add-w Inv-loop μ-loop
 add-w c = omega arith
 
--- src/scene.rt:36:17
 mul-w : tie.Need-mul-w Inv-loop μ-loop
 mul-w c = omega arith
 
--- src/scene.rt:36:17
 slice-read-w : tie.Need-slice-read-w Inv-loop μ-loop
 slice-read-w c = omega (arith, c .before .before .before .before .before .before .pre .words, c .before .before .before .loop .inv .long)
 
--- src/scene.rt:37:13
 destroy-in-requires : tie.Need-destroy-in-requires Inv-loop μ-loop
 destroy-in-requires c κs = runs-room _ _ _ _ _ _ (c .before .before .before .before .loop .inv) (c .before .before .before .before .before .before .before .pre)
 
--- src/scene.rt:39:13
 same-length : tie.Need-same-length Inv-loop μ-loop
 same-length c = search needs
 
--- src/scene.rt:39:13
 returns : tie.Need-returns Inv-loop μ-loop
-returns c = clear-stops _ _ _ _ _ (c .before .before .before .before .before .before .before .before .loop .inv) _ _ (c .before .before .before .before .before .before .before .loop-test .taken) (c .before .before .before .destroy-in .ensures) refl (c .if1 .taken)
+returns c = clear-stops _ _ _ _ _ (c .before .before .before .before .before .before .before .before .loop .inv) _ _
+    (c .before .before .before .before .before .before .before .loop-test .taken) (c .before .before .before .destroy-in .ensures) refl (c .if1 .taken)
 
--- src/scene.rt:41:9
 add-k : tie.Need-add-k Inv-loop μ-loop
 add-k c = omega arith
 
--- src/scene.rt:34:5
 loop-less : tie.Need-loop-less Inv-loop μ-loop
 loop-less c = omega arith
 
--- src/scene.rt:34:5
 loop-again : tie.Need-loop-again Inv-loop μ-loop
 loop-again c = search clear-more
 
--- src/scene.rt:28:1
 same-length-2 : tie.Need-same-length-2 Inv-loop μ-loop
 same-length-2 c = search needs
 
--- src/scene.rt:28:1
 returns-2 : tie.Need-returns-2 Inv-loop μ-loop
 returns-2 c = clear-all _ _ _ _ _ (c .before .loop .inv) refl (c .loop-test .left)
 

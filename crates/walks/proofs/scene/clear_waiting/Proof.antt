@@ -13,51 +13,41 @@ Inv-loop words₀ grants f top n k₀ words k = Runs (waitingFrom grants top) 0 
 abbrev μ-loop : tie.MeasureT-loop
 μ-loop words₀ grants f top n k₀ words k = n - k
 
--- src/scene.rt:54:5
 loop-holds : tie.Need-loop-holds Inv-loop μ-loop
 loop-holds c = runs-first _ _ _ _ (omega arith)
 
--- src/scene.rt:55:23
 place-above-requires : tie.Need-place-above-requires Inv-loop μ-loop
 place-above-requires c κs = search needs
 
--- src/scene.rt:55:17
 mul-w : tie.Need-mul-w Inv-loop μ-loop
 mul-w c = omega arith
 
--- src/scene.rt:55:17
 slice-read-w : tie.Need-slice-read-w Inv-loop μ-loop
 slice-read-w c = omega (arith, c .before .before .before .before .before .pre .words, c .before .before .before .loop .inv .long)
 
--- src/scene.rt:56:13
 destroy-in-requires : tie.Need-destroy-in-requires Inv-loop μ-loop
 destroy-in-requires c κs = runs-room _ _ _ _ _ _ (c .before .before .before .before .loop .inv) (c .before .before .before .before .before .before .pre)
 
--- src/scene.rt:58:13
 same-length : tie.Need-same-length Inv-loop μ-loop
 same-length c = search needs
 
--- src/scene.rt:58:13
 returns : tie.Need-returns Inv-loop μ-loop
-returns c = clear-stops-waiting _ _ _ _ _ _ (c .before .before .before .before .before .before .before .before .loop .inv) _ _ _ (c .before .before .before .before .before .before .before .loop-test .taken) (c .before .before .before .before .before .before .place-above .ensures) (c .before .before .before .destroy-in .ensures) (c .if1 .taken)
+returns c = clear-stops-waiting _ _ _ _ _ _ (c .before .before .before .before .before .before .before .before .loop .inv) _ _ _
+    (c .before .before .before .before .before .before .before .loop-test .taken) (c .before .before .before .before .before .before .place-above .ensures)
+    (c .before .before .before .destroy-in .ensures) (c .if1 .taken)
 
--- src/scene.rt:60:9
 add-k : tie.Need-add-k Inv-loop μ-loop
 add-k c = omega arith
 
--- src/scene.rt:54:5
 loop-less : tie.Need-loop-less Inv-loop μ-loop
 loop-less c = omega arith
 
--- src/scene.rt:54:5
 loop-again : tie.Need-loop-again Inv-loop μ-loop
 loop-again c = search clear-more-waiting
 
--- src/scene.rt:47:1
 same-length-2 : tie.Need-same-length-2 Inv-loop μ-loop
 same-length-2 c = search needs
 
--- src/scene.rt:47:1
 returns-2 : tie.Need-returns-2 Inv-loop μ-loop
 returns-2 c = clear-all-waiting _ _ _ _ _ _ (c .before .loop .inv) (c .loop-test .left)
 

@@ -3,23 +3,18 @@ use borrow.Author.Needs.{needs}
 use Rattle.walks.proofs.scene.destroy_in.Statement.{statement}
 use Rattle.walks.proofs.scene.destroy_in.Tie as tie
 
--- src/scene.rt:21:9
 returns : tie.Need-returns
 returns c = destroys-nothing _ _ _ (c .if1 .taken)
 
--- src/scene.rt:23:55
 number-of-requires : tie.Need-number-of-requires
 number-of-requires c κs = search needs
 
--- src/scene.rt:23:9
 destroy-living-requires : tie.Need-destroy-living-requires
 destroy-living-requires c κs = search needs
 
--- src/scene.rt:16:1
 same-length : tie.Need-same-length
 same-length c = search needs
 
--- src/scene.rt:16:1
 returns-2 : tie.Need-returns-2
 returns-2 c = destroys-shape _ _ _ _ _ _ (c .before .before .before .before .before .if1 .left) (c .before .before .before .number-of .ensures) (c .before .before .destroy-living .ensures)
 

@@ -1,7 +1,7 @@
 use borrow.Author.Needs.{needs}
-use Rattle.operation.proofs.OperateLaws.{dead-left, dead-right, both-usable}
-use Rattle.operation.proofs.on_mixed.Statement.{statement}
-use Rattle.operation.proofs.on_mixed.Tie as tie
+use Rattle.dispatch.proofs.OperateLaws.{dead-left, dead-right, both-usable}
+use Rattle.dispatch.proofs.on_mixed.Statement.{statement}
+use Rattle.dispatch.proofs.on_mixed.Tie as tie
 
 is-dead-requires : tie.Need-is-dead-requires
 is-dead-requires c κs = search needs

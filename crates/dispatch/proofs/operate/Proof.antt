@@ -1,7 +1,7 @@
 use borrow.Author.Needs.{needs}
-use Rattle.operation.proofs.OperateLaws.{two-integers, other-values}
-use Rattle.operation.proofs.operate.Statement.{statement}
-use Rattle.operation.proofs.operate.Tie as tie
+use Rattle.dispatch.proofs.OperateLaws.{two-integers, other-values}
+use Rattle.dispatch.proofs.operate.Statement.{statement}
+use Rattle.dispatch.proofs.operate.Tie as tie
 
 both-integers-requires : tie.Need-both-integers-requires
 both-integers-requires c κs = search needs

@@ -1,7 +1,7 @@
 use borrow.Author.Needs.{needs}
-use Rattle.operation.proofs.OperateLaws.{by-joining, by-equality, by-calculation}
-use Rattle.operation.proofs.on_usable.Statement.{statement}
-use Rattle.operation.proofs.on_usable.Tie as tie
+use Rattle.dispatch.proofs.OperateLaws.{by-joining, by-equality, by-calculation}
+use Rattle.dispatch.proofs.on_usable.Statement.{statement}
+use Rattle.dispatch.proofs.on_usable.Tie as tie
 
 join-requires : tie.Need-join-requires
 join-requires c κs = search needs

@@ -1,7 +1,7 @@
 use borrow.Author.Needs.{needs}
-use Rattle.operation.proofs.OperateLaws.{join-left, join-right, joins}
-use Rattle.operation.proofs.join.Statement.{statement}
-use Rattle.operation.proofs.join.Tie as tie
+use Rattle.dispatch.proofs.OperateLaws.{join-left, join-right, joins}
+use Rattle.dispatch.proofs.join.Statement.{statement}
+use Rattle.dispatch.proofs.join.Tie as tie
 
 returns : tie.Need-returns
 returns c = search join-left

@@ -23,7 +23,8 @@ fn join(
     b: u64,
 ) -> Answer
     requires { ⌜ Lent (now grants) (now texts) (now words) ⌝ }
-    ensures { λ r. ⌜ shown r (now (texts .exit)) (now (words .exit)) ≡ joined (now (program .entry)) (now (grants .entry)) p (unpacked a) (unpacked b) (raw (now (texts .entry)) (now (words .entry))) ⌝ }
+    ensures { λ r. ⌜ shown r (now (texts .exit)) (now (words .exit)) ≡ joined (now (program .entry)) (now (grants .entry)) p (unpacked a) (unpacked b)
+        (raw (now (texts .entry)) (now (words .entry))) ⌝ }
 {
     if a % 8 != kinds::TEXT {
         return Answer::Bad(20, p);
@@ -135,7 +136,8 @@ pub fn operate(
     b: u64,
 ) -> Answer
     requires { ⌜ Lent (now grants) (now texts) (now words) ⌝ }
-    ensures { λ r. ⌜ shown r (now (texts .exit)) (now (words .exit)) ≡ operate (now (program .entry)) (now (grants .entry)) tag p (unpacked a) (unpacked b) (raw (now (texts .entry)) (now (words .entry))) ⌝ }
+    ensures { λ r. ⌜ shown r (now (texts .exit)) (now (words .exit)) ≡ operate (now (program .entry)) (now (grants .entry)) tag p (unpacked a) (unpacked b)
+        (raw (now (texts .entry)) (now (words .entry))) ⌝ }
 {
     if operators::both_integers(a, b) {
         return integers::on_integers(tag, p, values::integer_of(a), values::integer_of(b));

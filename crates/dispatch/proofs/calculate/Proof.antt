@@ -1,7 +1,7 @@
 use borrow.Author.Needs.{needs}
-use Rattle.operation.proofs.OperateLaws.{not-shape, not-number, calculates}
-use Rattle.operation.proofs.calculate.Statement.{statement}
-use Rattle.operation.proofs.calculate.Tie as tie
+use Rattle.dispatch.proofs.OperateLaws.{not-shape, not-number, calculates}
+use Rattle.dispatch.proofs.calculate.Statement.{statement}
+use Rattle.dispatch.proofs.calculate.Tie as tie
 
 returns : tie.Need-returns
 returns c = search not-shape
