@@ -1,4 +1,4 @@
--- What the functions of the cycle do that have a part of an expression or a statement to do: the parts inside are evaluated and executed with the same fuel.
+-- What the functions of the cycle do, by the fuel that is left: the expressions and statements inside are evaluated and executed with it.
 use Prim.Native.Nat.{ℕ}
 use mathlib.Core.Bool.{Bool}
 use Rattle.machine.specs.declared.Value.{Value}
