@@ -2,7 +2,7 @@
 -- A variable is a number in it, given by a function of its name: the first token with that name, in what reading leaves.
 -- An expression's word stands behind its parts, so the last word of its code is its root. A statement's word stands before its parts, so the code of
 -- a body's statements is theirs one after the other. Each word holds how many words its code has. Parentheses leave no word. Behind a foreach's
--- word stands its variable's slot, as a word of its own. A procedure's code is the slots of its parameters and its body's.
+-- word stands its variable's number, as a word of its own. A procedure's code is the slots of its parameters and its body's.
 use Prim.Native.Nat.{ℕ, _+_, _*_}
 use mathlib.Core.Bool.{Bool, true, false}
 use mathlib.Core.List.{List, [], _∷_, _++_, map}

@@ -19,7 +19,7 @@ sizeIn w = w / 256 % 16777216
 abbrev pub numberIn : ℕ → ℕ
 numberIn w = w / 4294967296
 
--- a statement's number is its place in the program and one more number: a variable's slot, or where the root of a test or of a group stands
+-- a statement's number is its place in the program and one more number: a variable's slot, or its number once it has one, or where the root of a test or of a group stands
 abbrev pub placeIn : ℕ → ℕ
 placeIn w = numberIn w % 65536
 
@@ -181,6 +181,6 @@ tagBlock = 38
 abbrev pub tagAct : ℕ
 tagAct = 39
 
--- the word behind it is its variable's slot; its other number is how far behind it the root of its group stands
+-- the word behind it is its variable's slot or number; its other number is how far behind it the root of its group stands
 abbrev pub tagForeach : ℕ
 tagForeach = 40
