@@ -1,6 +1,7 @@
 pub mod Numbered
 mod Turns
 mod Trees
+pub mod Laws
 mod Names
 mod Words
 mod Starts

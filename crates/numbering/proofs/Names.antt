@@ -17,83 +17,8 @@ use Rattle.reader.specs.Declarations.{declaredIn, declaredBy}
 use Rattle.reader.proofs.Homes.{same-text, text-same, Occurs, slot-small, slots-apart}
 use Rattle.reader.proofs.Known.{KnownNames, KnownStatement, KnownStatements}
 use Rattle.numbering.specs.Numbers.{withName, withNames, numberIn}
+use Rattle.numbering.proofs.Laws.{false-true, number-front, number-missing, number-below, number-last, among-more, name-few}
 use Rattle.numbering.specs.Pass.{Entries, entries, isEntered, numberOf, entered, enteredAll}
-
--- ---- names, each once
-false-true : {A : Type 0} → false ≡ true → A
-false-true e = let z : _≡_ {A = ℕ} 0 1 = cc in absurd (omega arith)
-
-number-missing : (x : List ℕ) (xs : List (List ℕ)) → isAmong x xs ≡ false → numberIn xs x ≡ length xs
-unfolding isAmong numberIn if_then_else_
-number-missing x [] e = refl
-number-missing x (y ∷ ys) e = go (sameText y x) e (number-missing x ys)
-  where
-    go : (b : Bool) → b || isAmong x ys ≡ false → (isAmong x ys ≡ false → numberIn ys x ≡ length ys)
-        → (if b then (λ _. 0) else λ _. suc (numberIn ys x)) ≡ suc (length ys)
-    go true q r = false-true (sym q)
-    go false q r = ap suc (r q)
-
-number-below : (x : List ℕ) (xs : List (List ℕ)) → isAmong x xs ≡ true → numberIn xs x < length xs
-unfolding isAmong numberIn if_then_else_
-number-below x [] e = false-true e
-number-below x (y ∷ ys) e = go (sameText y x) e (number-below x ys)
-  where
-    go : (b : Bool) → b || isAmong x ys ≡ true → (isAmong x ys ≡ true → numberIn ys x < length ys)
-        → (if b then (λ _. 0) else λ _. suc (numberIn ys x)) < suc (length ys)
-    go true q r = omega arith
-    go false q r = let h = r q in omega arith
-
--- one name more
-number-kept : (x y : List ℕ) (xs : List (List ℕ)) → isAmong x xs ≡ true → numberIn (xs ++ (y ∷ [])) x ≡ numberIn xs x
-unfolding isAmong numberIn if_then_else_
-number-kept x y [] e = false-true e
-number-kept x y (z ∷ zs) e = go (sameText z x) e (number-kept x y zs)
-  where
-    go : (b : Bool) → b || isAmong x zs ≡ true → (isAmong x zs ≡ true → numberIn (zs ++ (y ∷ [])) x ≡ numberIn zs x)
-        → (if b then (λ _. 0) else λ _. suc (numberIn (zs ++ (y ∷ [])) x)) ≡ (if b then (λ _. 0) else λ _. suc (numberIn zs x))
-    go true q r = refl
-    go false q r = ap suc (r q)
-
-number-last : (x : List ℕ) (xs : List (List ℕ)) → isAmong x xs ≡ false → numberIn (xs ++ (x ∷ [])) x ≡ length xs
-unfolding isAmong numberIn if_then_else_
-number-last x [] e = rw (text-same x)
-number-last x (z ∷ zs) e = go (sameText z x) e (number-last x zs)
-  where
-    go : (b : Bool) → b || isAmong x zs ≡ false → (isAmong x zs ≡ false → numberIn (zs ++ (x ∷ [])) x ≡ length zs)
-        → (if b then (λ _. 0) else λ _. suc (numberIn (zs ++ (x ∷ [])) x)) ≡ suc (length zs)
-    go true q r = false-true (sym q)
-    go false q r = ap suc (r q)
-
-among-more : (x y : List ℕ) (xs : List (List ℕ)) → isAmong x (xs ++ (y ∷ [])) ≡ isAmong x xs || sameText y x
-unfolding isAmong
-among-more x y [] = or-false (sameText y x)
-  where
-    or-false : (b : Bool) → b || false ≡ b
-    or-false true = refl
-    or-false false = refl
-among-more x y (z ∷ zs) = rw (among-more x y zs) (or-assoc (sameText z x) (isAmong x zs) (sameText y x))
-  where
-    or-assoc : (a b c : Bool) → a || (b || c) ≡ (a || b) || c
-    or-assoc true b c = refl
-    or-assoc false b c = refl
-
-name-few : (xs : List (List ℕ)) (y : List ℕ) → length (withName xs y) ≤ length xs + 1
-unfolding withName if_then_else_
-name-few xs y = go (isAmong y xs)
-  where
-    go : (b : Bool) → length (if b then (λ _. xs) else λ _. xs ++ (y ∷ [])) ≤ length xs + 1
-    go true = omega arith
-    go false = omega (arith, length-append xs (y ∷ []))
-
-pub names-few : (xs ys : List (List ℕ)) → length (withNames xs ys) ≤ length xs + length ys
-unfolding withNames
-names-few xs [] = omega arith
-names-few xs (y ∷ ys) = omega (arith, names-few (withName xs y) ys, name-few xs y)
-
-pub names-append : (xs ys zs : List (List ℕ)) → withNames xs (ys ++ zs) ≡ withNames (withNames xs ys) zs
-unfolding withNames
-names-append xs [] zs = refl
-names-append xs (y ∷ ys) zs = names-append (withName xs y) ys zs
 
 -- ---- names in the table
 module _ (ts : List Token) (few : length ts ≤ 8192) (stamp : ℕ) where
@@ -167,7 +92,7 @@ module _ (ts : List Token) (few : length ts ≤ 8192) (stamp : ℕ) where
           go true d a = is-here (same-text x y d)
           go false d a =
               let m : isAmong y names ≡ true = was-there d (rw d at a) in
-              other y p d ∙ g .told y p m ∙ ap (λ (i : ℕ). 65536 * stamp + i) (sym (number-kept y x names m))
+              other y p d ∙ g .told y p m ∙ ap (λ (i : ℕ). 65536 * stamp + i) (sym (number-front names (x ∷ []) y (number-below y names m)))
 
       free-more : (y : List ℕ) → Occurs ts aName y → isAmong y (names ++ (x ∷ [])) ≡ false → getD next (slotOf ts y % 8192) 0 / 65536 ≡ stamp → ⊥
       free-more y p q =

@@ -21,7 +21,8 @@ use Rattle.numbering.specs.Numbers.{withNames, numberIn, variablesIn, fr
 use Rattle.numbering.specs.Pass.{wordsFrom, putFrom, Entries, entries, numberOf, enteredAll, declaredSlots, renumberedWords}
 use Rattle.numbering.specs.Pass.{renumberedCode, framedWord, parametersEntered, variablesEntered, numberProcedure}
 use Rattle.numbering.proofs.Trees.{Goes, statements-go}
-use Rattle.numbering.proofs.Names.{names-few, names-append, Holds, holds-none, holds-all, numbered, declared-by}
+use Rattle.numbering.proofs.Laws.{names-few, names-append}
+use Rattle.numbering.proofs.Names.{Holds, holds-none, holds-all, numbered, declared-by}
 
 module _ (ts : List Token) (sane : Sane ts) (f : Procedure) (u : Understood ts f) where
   abbrev size : ℕ

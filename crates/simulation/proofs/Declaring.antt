@@ -36,8 +36,9 @@ use Rattle.simulation.proofs.Frames.{SameRest, rest-marks, untouched-bu
 use Rattle.simulation.proofs.Results.{given, failed, Untouched, After, steps-told}
 use Rattle.simulation.proofs.Growing.{up-to}
 use Rattle.simulation.proofs.Moving.{moved-later, moved-related}
-use Rattle.simulation.proofs.Naming.{apart-text, number-within, number-name}
-use Rattle.simulation.proofs.Scopes.{number-small, distinct-below}
+use Rattle.numbering.proofs.Laws.{number-within, number-name, number-below}
+use Rattle.simulation.proofs.Naming.{apart-text}
+use Rattle.simulation.proofs.Scopes.{distinct-below}
 use Rattle.simulation.proofs.Variables.{number-named, name-numbered, undeclared, is-declared}
 use Rattle.simulation.proofs.Flows.{both-onward, Flows}
 
@@ -380,7 +381,7 @@ module _ {program : List ℕ} {ts : List Token} {g : List ℕ} {r : Raw} {s : St
 
     module _ (own : isAmong x (scopeOf program ts (getD (r .words) running 0)) ≡ true) where
       new-small : (k : ℕ) → k < many + 1 → numberOf three f k < size
-      new-small = up-to (λ k. numberOf three f k < size) many (λ k l. rw (old-number k l) (v .small k l)) (rw new-number (number-small x names own))
+      new-small = up-to (λ k. numberOf three f k < size) many (λ k l. rw (old-number k l) (v .small k l)) (rw new-number (number-below x names own))
 
       new-apart : (j k : ℕ) → j < many + 1 → k < many + 1 → numberOf three f j ≡ numberOf three f k → j ≡ k
       new-apart j k a b =
@@ -413,7 +414,7 @@ module _ {program : List ℕ} {ts : List Token} {g : List ℕ} {r : Raw} {s : St
           let z : many + 1 ≡ suc many = omega arith in
           let y : 0 + many ≡ many = omega arith in
           let last : variableAt program names (raw (r .texts) three) f (0 + many) ≡ record { name = x; holds = Value.none } =
-          rw (y, new-number, new-value, number-name names x (number-small x names own)) in
+          rw (y, new-number, new-value, number-name names x (number-below x names own)) in
           rw (h .variables)
           (sym (ap (listed (variableAt program names (raw (r .texts) three) f) 0) z ∙ listed-more (variableAt program names (raw (r .texts) three) f) 0 many
           ∙ ap₂ (λ (l : List Variable) (a : Variable). l ++ (a ∷ []))

@@ -36,7 +36,7 @@ use Rattle.simulation.proofs.Binding.{bind}
 use Rattle.simulation.proofs.Frames.{valid-later, meant-later, untouched-components}
 use Rattle.simulation.proofs.Results.{given, After}
 use Rattle.simulation.proofs.Usable.{figure-found}
-use Rattle.simulation.proofs.Naming.{number-within}
+use Rattle.numbering.proofs.Laws.{number-within}
 use Rattle.simulation.proofs.Under.{stepsLeft}
 use Rattle.simulation.proofs.Flows.{SameFlow, both-onward, both-returned, Flows, Turns, ended}
 use Rattle.simulation.proofs.Marking.{markAt, AfterBut, but-after, but-trans, after-but}

@@ -16,6 +16,7 @@ use Rattle.meaning.specs.Procedure as Meaning
 use Rattle.reader.specs.Declarations.{declaredBy, declarations}
 use Rattle.reader.proofs.Homes.{same-text, text-same}
 use Rattle.numbering.specs.Numbers.{withName, withNames, numberIn, variablesIn, frameSize}
+use Rattle.numbering.proofs.Laws.{text-turned, among-more, names-few, names-append}
 use Rattle.simulation.specs.Scope.{ownNames}
 use Rattle.simulation.proofs.Naming.{Once, own-once}
 
@@ -24,15 +25,6 @@ differ e = let z : _≡_ {A = ℕ} 0 1 = cc in absurd (omega arith)
 
 -- ---- a name among others
 module _ (x : List ℕ) where
-  pub number-small : (l : List (List ℕ)) → isAmong x l ≡ true → numberIn l x < length l
-  unfolding isAmong numberIn if_then_else_
-  number-small [] e = differ (sym e)
-  number-small (y ∷ l) e = go (sameText y x) e (number-small l)
-    where
-      go : (t : Bool) → (t || isAmong x l) ≡ true → (isAmong x l ≡ true → numberIn l x < length l) → (if t then (λ _. 0) else λ _. suc (numberIn l x)) < suc (length l)
-      go true q f = omega arith
-      go false q f = omega (arith, f q)
-
   pub among-left : (a b : List (List ℕ)) → isAmong x a ≡ true → isAmong x (a ++ b) ≡ true
   unfolding isAmong
   among-left [] b e = differ (sym e)
@@ -95,11 +87,6 @@ module _ (x : List ℕ) (l : List (List ℕ)) where
       go false e = rw (with-new e, length-append l (x ∷ [])) (omega arith, λ k m. List·getD-append l (x ∷ []) [] k m)
 
 -- ---- more names
-names-few : (ys l : List (List ℕ)) → length (withNames l ys) ≤ length l + length ys
-unfolding withNames
-names-few [] l = omega arith
-names-few (y ∷ ys) l = omega (arith, names-few ys (withName l y), with-long y l)
-
 names-kept : (x : List ℕ) (ys l : List (List ℕ)) → isAmong x l ≡ true → isAmong x (withNames l ys) ≡ true
 unfolding withNames
 names-kept x [] l e = e
@@ -124,11 +111,6 @@ names-given x (y ∷ ys) l e = go (sameText y x) refl e (names-given x ys (withN
     go true q e f = names-kept x ys (withName l y) (subst (λ (z : List ℕ). isAmong z (withName l y) ≡ true) (same-text y x q) (with-own y l))
     go false q e f = f e
 
-names-then : (a b l : List (List ℕ)) → withNames l (a ++ b) ≡ withNames (withNames l a) b
-unfolding withNames
-names-then [] b l = refl
-names-then (x ∷ a) b l = names-then a b (withName l x)
-
 -- ---- parameters: 60 if two have one name
 -- whether one of some is among others, or stands before
 unfoldable clash : List (List ℕ) → List (List ℕ) → Bool
@@ -139,27 +121,8 @@ unfoldable anyAmong : List (List ℕ) → List (List ℕ) → Bool
 anyAmong l [] = false
 anyAmong l (x ∷ xs) = isAmong x l || anyAmong l xs
 
-text-turned : (x y : List ℕ) → sameText x y ≡ sameText y x
-text-turned x y = go (sameText x y) (sameText y x) refl refl
-  where
-    go : (a b : Bool) → sameText x y ≡ a → sameText y x ≡ b → a ≡ b
-    go true true p q = refl
-    go true false p q = differ (sym (subst (λ (z : List ℕ). sameText z x ≡ true) (same-text x y p) (text-same x)) ∙ q)
-    go false true p q = differ (sym (subst (λ (z : List ℕ). sameText z y ≡ true) (same-text y x q) (text-same y)) ∙ p)
-    go false false p q = refl
-
 one-more-name : (l : List (List ℕ)) (x y : List ℕ) → isAmong y (l ++ (x ∷ [])) ≡ (isAmong y l || sameText y x)
-unfolding isAmong
-one-more-name [] x y = rw (text-turned x y) (go (sameText y x))
-  where
-    go : (b : Bool) → (b || false) ≡ b
-    go true = refl
-    go false = refl
-one-more-name (z ∷ l) x y = rw (one-more-name l x y) (go (sameText z y) (isAmong y l) (sameText y x))
-  where
-    go : (a b c : Bool) → (a || (b || c)) ≡ ((a || b) || c)
-    go true b c = refl
-    go false b c = refl
+one-more-name l x y = among-more y x l ∙ ap (λ (b : Bool). isAmong y l || b) (text-turned x y)
 
 four : (a b c d : Bool) → ((a || b) || (c || d)) ≡ ((a || c) || (b || d))
 four true b c d = refl
@@ -209,7 +172,7 @@ clash-some (x ∷ xs) l e = go (isAmong x l) refl e (clash-some xs (l ++ (x ∷ 
     go : (t : Bool) → isAmong x l ≡ t → (t || clash (l ++ (x ∷ [])) xs) ≡ true
         → (clash (l ++ (x ∷ [])) xs ≡ true → length (withNames (l ++ (x ∷ [])) xs) < length (l ++ (x ∷ [])) + length xs)
         → length (withNames (withName l x) xs) < length l + suc (length xs)
-    go true q e f = rw (with-known x l q) (omega (arith, names-few xs l))
+    go true q e f = rw (with-known x l q) (omega (arith, names-few l xs))
     go false q e f = rw (with-new x l q) (omega (arith, f e, length-append l (x ∷ [])))
 
 -- ---- different numbers
@@ -262,7 +225,7 @@ module _ (f : Procedure) where
 
   pub variables-few : length (variablesIn f) ≤ length (f .parameters) + declarations (f .body)
   unfolding variablesIn
-  variables-few = omega (arith, names-few (f .parameters ++ declaredBy (f .body)) [], length-append (f .parameters) (declaredBy (f .body)))
+  variables-few = omega (arith, names-few [] (f .parameters ++ declaredBy (f .body)), length-append (f .parameters) (declaredBy (f .body)))
 
   -- what its body declares is among them
   pub own-declared : (x : List ℕ) → isAmong x (declaredBy (f .body)) ≡ true → isAmong x (variablesIn f) ≡ true
@@ -271,7 +234,7 @@ module _ (f : Procedure) where
 
   parameters-then : variablesIn f ≡ withNames (withNames [] (f .parameters)) (declaredBy (f .body))
   unfolding variablesIn
-  parameters-then = names-then (f .parameters) (declaredBy (f .body)) []
+  parameters-then = names-append [] (f .parameters) (declaredBy (f .body))
 
   -- ---- its frame: none if two parameters have one name
   pub size-twice : anyTwice (f .parameters) ≡ true → frameSize f ≡ 0

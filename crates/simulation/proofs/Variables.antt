@@ -30,7 +30,8 @@ use Rattle.simulation.specs.Follows.{Related, Follows}
 use Rattle.simulation.proofs.Binding.{bind}
 use Rattle.simulation.proofs.Results.{given, failed, Values, unmoved, still, steps-told}
 use Rattle.simulation.proofs.Usable.{uses}
-use Rattle.simulation.proofs.Naming.{apart-text, number-within, number-name, scope-once}
+use Rattle.numbering.proofs.Laws.{number-within, number-name}
+use Rattle.simulation.proofs.Naming.{apart-text, scope-once}
 
 -- ---- looking up
 module _ (f : ℕ → Variable) (x : List ℕ) where
