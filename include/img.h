@@ -31,7 +31,7 @@ extern "C" {
 #define IMG_TOKENS ((size_t)8193)
 #define IMG_CODE ((size_t)16384)
 #define IMG_WORDS(shapes, entries, calls) \
-    ((size_t)278608 + (size_t)5 * (size_t)(shapes) + \
+    ((size_t)262416 + (size_t)5 * (size_t)(shapes) + \
      ((size_t)5 + (size_t)(calls)) * (size_t)(entries))
 #define IMG_TEXTS(text_bytes) ((size_t)(text_bytes))
 

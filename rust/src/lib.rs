@@ -94,7 +94,7 @@ impl Grants {
         let shapes = self.shapes.min(Grants::MOST.shapes) as usize;
         let entries = self.entries.min(Grants::MOST.entries) as usize;
         let calls = self.calls.clamp(1, Grants::MOST.calls) as usize;
-        278_608 + 5 * shapes + (5 + calls) * entries
+        262_416 + 5 * shapes + (5 + calls) * entries
     }
 
     /// How many bytes the slice for joined strings must have, with a count out of its range as in [`Grants::words`].

@@ -82,7 +82,7 @@ static void make_regions(void) {
     programs = region(MOST_PROGRAM);
     tokens_at = region((8193 + LONGER) * 8);
     code_at = region((16384 + LONGER) * 8);
-    words_at = region((278608 + 5 * 131071 + (5 + 65) * 131071 + LONGER) * 8);
+    words_at = region((262416 + 5 * 131071 + (5 + 65) * 131071 + LONGER) * 8);
     texts_at = region(131071 + LONGER);
     outs = region(MOST_OUT);
     seconds = region(PROGRAM_BYTES);
@@ -267,7 +267,7 @@ static void one(const uint8_t *input, size_t input_length) {
         memcpy(program.bytes, input + HEAD, program_length);
     }
 
-    size_t need[4] = {8193, 16384, 278608 + 5 * shapes + (5 + calls) * entries, bytes};
+    size_t need[4] = {8193, 16384, 262416 + 5 * shapes + (5 + calls) * entries, bytes};
     size_t lent[4];
     int is_short[4];
     for (int i = 0; i < 4; i++) {

@@ -188,7 +188,7 @@ mod ours {
     impl Ours {
         /// Slices as long as docs/INTERFACE.md asks.
         pub fn new(grants: Grants) -> Ours {
-            let words = 278_608 + 5 * grants.shapes + (5 + grants.calls) * grants.entries;
+            let words = 262_416 + 5 * grants.shapes + (5 + grants.calls) * grants.entries;
             Ours {
                 tokens: vec![0; 8_193],
                 code: vec![0; 16_384],

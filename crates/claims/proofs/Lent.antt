@@ -42,7 +42,7 @@ running-bounded n g w e =
     let l = leb-true 5128198 n e in
     let few : (5 + g .calls) * g .entries ≤ 69 * g .entries = mul-le-mul-right (g .entries) (omega (arith, w)) in
     one-more n 8193 (16384 ∷ runningSlices g) (omega (arith, l)) (one-more n 16384 (runningSlices g) (omega (arith, l))
-    (one-more n (278608 + 5 * g .shapes + (5 + g .calls) * g .entries) (g .textBytes ∷ []) (omega (arith, l, w, few))
+    (one-more n (262416 + 5 * g .shapes + (5 + g .calls) * g .entries) (g .textBytes ∷ []) (omega (arith, l, w, few))
     (one-more n (g .textBytes) [] (omega (arith, l, w)) refl)))
 
 reading-bounded : (n : ℕ) → leb 16384 n ≡ true → allWithin n (readingSlices []) ≡ true

@@ -1,7 +1,8 @@
 -- The code of a program: its tree as a list of words, which the evaluator runs.
+-- A variable is a number in it, given by a function of its name: the first token with that name, in what reading leaves.
 -- An expression's word stands behind its parts, so the last word of its code is its root. A statement's word stands before its parts, so the code of
 -- a body's statements is theirs one after the other. Each word holds how many words its code has. Parentheses leave no word. Behind a foreach's
--- word stands its variable's slot, as a word of its own. A procedure's code is the slots of its parameters and its body's.
+-- word stands its variable's number, as a word of its own. A procedure's code is the slots of its parameters and its body's.
 use Prim.Native.Nat.{ℕ, _+_, _*_}
 use mathlib.Core.Bool.{Bool, true, false}
 use mathlib.Core.List.{List, [], _∷_, _++_, map}
@@ -33,23 +34,30 @@ truthNumber false = 0
 abbrev pub joined : ℕ → List ℕ → List ℕ → List ℕ
 joined tag a b = a ++ (b ++ (word tag (length a + length b + 1) (length b) ∷ []))
 
+-- the function v numbers variables
 unfoldable mutual
-  pub codeOf : Expression → List Token → List ℕ
-  codeOf (number z) ts = word tagNumber 1 (bits z) ∷ []
-  codeOf (string t) ts = word tagString 1 (partOf ts t) ∷ []
-  codeOf nothing ts = word tagNone 1 0 ∷ []
-  codeOf (truth b) ts = word tagTruth 1 (truthNumber b) ∷ []
-  codeOf (name x) ts = word tagName 1 (slotOf ts x) ∷ []
-  codeOf (table e) ts = codeOf e ts ++ (word tagTable (length (codeOf e ts) + 1) 0 ∷ [])
-  codeOf (entry a b) ts = joined tagEntry (codeOf a ts) (codeOf b ts)
-  codeOf (operation o a b) ts = joined (tagOf o) (codeOf a ts) (codeOf b ts)
-  codeOf (call f es) ts =
-      codeOfAll es ts ++ (word tagCall (length (codeOfAll es ts) + 1) (procedureNumber f + 16 * slotOf ts f) ∷ [])
-  codeOf (paren e) ts = codeOf e ts
+  pub codeWith : (List ℕ → ℕ) → Expression → List Token → List ℕ
+  codeWith v (number z) ts = word tagNumber 1 (bits z) ∷ []
+  codeWith v (string t) ts = word tagString 1 (partOf ts t) ∷ []
+  codeWith v nothing ts = word tagNone 1 0 ∷ []
+  codeWith v (truth b) ts = word tagTruth 1 (truthNumber b) ∷ []
+  codeWith v (name x) ts = word tagName 1 (v x) ∷ []
+  codeWith v (table e) ts = codeWith v e ts ++ (word tagTable (length (codeWith v e ts) + 1) 0 ∷ [])
+  codeWith v (entry a b) ts = joined tagEntry (codeWith v a ts) (codeWith v b ts)
+  codeWith v (operation o a b) ts = joined (tagOf o) (codeWith v a ts) (codeWith v b ts)
+  codeWith v (call f es) ts =
+      argumentsWith v es ts ++ (word tagCall (length (argumentsWith v es ts) + 1) (procedureNumber f + 16 * slotOf ts f) ∷ [])
+  codeWith v (paren e) ts = codeWith v e ts
 
-  pub codeOfAll : Arguments → List Token → List ℕ
-  codeOfAll noArgument ts = []
-  codeOfAll (argument e es) ts = word tagArgument (length (codeOf e ts)) 0 ∷ (codeOf e ts ++ codeOfAll es ts)
+  pub argumentsWith : (List ℕ → ℕ) → Arguments → List Token → List ℕ
+  argumentsWith v noArgument ts = []
+  argumentsWith v (argument e es) ts = word tagArgument (length (codeWith v e ts)) 0 ∷ (codeWith v e ts ++ argumentsWith v es ts)
+
+abbrev pub codeOf : Expression → List Token → List ℕ
+codeOf e ts = codeWith (slotOf ts) e ts
+
+abbrev pub codeOfAll : Arguments → List Token → List ℕ
+codeOfAll es ts = argumentsWith (slotOf ts) es ts
 
 -- ---- statements
 -- a word before its parts, with the place and another number
@@ -57,20 +65,26 @@ abbrev pub headed : ℕ → ℕ → ℕ → List ℕ → List ℕ
 headed tag p n parts = word tag (length parts + 1) (p + 65536 * n) ∷ parts
 
 unfoldable mutual
-  pub codeOfStatement : Statement → List Token → List ℕ
-  codeOfStatement (declare p x) ts = headed tagDeclare p (slotOf ts x) []
-  codeOfStatement (assign p x e) ts = headed tagAssign p (slotOf ts x) (codeOf e ts)
-  codeOfStatement (update p a b e) ts = headed tagUpdate p 0 (codeOf a ts ++ (codeOf b ts ++ codeOf e ts))
-  codeOfStatement (when p e s) ts = headed tagWhen p (length (codeOf e ts)) (codeOf e ts ++ codeOfStatement s ts)
-  codeOfStatement (while p e s) ts = headed tagWhile p (length (codeOf e ts)) (codeOf e ts ++ codeOfStatement s ts)
-  codeOfStatement (foreach p x e s) ts = headed tagForeach p (length (codeOf e ts) + 1) (slotOf ts x ∷ (codeOf e ts ++ codeOfStatement s ts))
-  codeOfStatement (return p e) ts = headed tagReturn p 0 (codeOf e ts)
-  codeOfStatement (block p ss) ts = headed tagBlock p 0 (codeOfStatements ss ts)
-  codeOfStatement (act p e) ts = headed tagAct p 0 (codeOf e ts)
+  pub statementWith : (List ℕ → ℕ) → Statement → List Token → List ℕ
+  statementWith v (declare p x) ts = headed tagDeclare p (v x) []
+  statementWith v (assign p x e) ts = headed tagAssign p (v x) (codeWith v e ts)
+  statementWith v (update p a b e) ts = headed tagUpdate p 0 (codeWith v a ts ++ (codeWith v b ts ++ codeWith v e ts))
+  statementWith v (when p e s) ts = headed tagWhen p (length (codeWith v e ts)) (codeWith v e ts ++ statementWith v s ts)
+  statementWith v (while p e s) ts = headed tagWhile p (length (codeWith v e ts)) (codeWith v e ts ++ statementWith v s ts)
+  statementWith v (foreach p x e s) ts = headed tagForeach p (length (codeWith v e ts) + 1) (v x ∷ (codeWith v e ts ++ statementWith v s ts))
+  statementWith v (return p e) ts = headed tagReturn p 0 (codeWith v e ts)
+  statementWith v (block p ss) ts = headed tagBlock p 0 (statementsWith v ss ts)
+  statementWith v (act p e) ts = headed tagAct p 0 (codeWith v e ts)
 
-  pub codeOfStatements : Statements → List Token → List ℕ
-  codeOfStatements (only s) ts = codeOfStatement s ts
-  codeOfStatements (first s ss) ts = codeOfStatement s ts ++ codeOfStatements ss ts
+  pub statementsWith : (List ℕ → ℕ) → Statements → List Token → List ℕ
+  statementsWith v (only s) ts = statementWith v s ts
+  statementsWith v (first s ss) ts = statementWith v s ts ++ statementsWith v ss ts
+
+abbrev pub codeOfStatement : Statement → List Token → List ℕ
+codeOfStatement s ts = statementWith (slotOf ts) s ts
+
+abbrev pub codeOfStatements : Statements → List Token → List ℕ
+codeOfStatements ss ts = statementsWith (slotOf ts) ss ts
 
 -- ---- procedures
 -- the slots of its parameters, and its body

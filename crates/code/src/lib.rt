@@ -4,7 +4,7 @@ ghost use mathlib.Core.Path.{_≡_};
 ghost use Prim.Native.Nat.{_+_, _-_, _^_, _<_, _≤_};
 ghost use lib.ListN.{set};
 ghost use Rattle.machine.specs.Opcodes.{word, procedureWord, tagIn, sizeIn, numberIn, placeIn, extraIn, argumentRoot};
-ghost use Rattle.machine.specs.Opcodes.{libraryIn, calleeIn, tablePlace, startIn, parametersIn, bodyIn};
+ghost use Rattle.machine.specs.Opcodes.{libraryIn, calleeIn, tablePlace, startIn, parametersIn, bodyIn, frameIn};
 
 // A word of a tag, a size and a number.
 pub fn word_of(tag: u64, size: u64, n: u64) -> u64
@@ -101,9 +101,16 @@ pub fn parameters_of(d: u64) -> usize
 }
 
 pub fn body_of(d: u64) -> usize
-    ensures { λ r. ⌜ (r ≡ bodyIn d) × (r < 2 ^ 32) ⌝ }
+    ensures { λ r. ⌜ (r ≡ bodyIn d) × (r < 2 ^ 16) ⌝ }
 {
-    (d / 4294967296) as usize
+    (d / 4294967296 % 65536) as usize
+}
+
+// How many words its variables take in a call, once they are numbered.
+pub fn frame_of(d: u64) -> usize
+    ensures { λ r. ⌜ (r ≡ frameIn d) × (r < 2 ^ 16) ⌝ }
+{
+    (d / 281474976710656) as usize
 }
 
 // ---- where code stands, by a word of it

@@ -9,7 +9,7 @@ ghost use Rattle.lending.specs.Lending.{Ready, called, Performed};
 ghost use Rattle.drawing.specs.Drawing.{Drawn, Scene};
 
 // Runs the program and draws its picture into the front of `out`; after a number `out` is as it was. The grants are steps, shapes, entries, text
-// bytes and calls; `tokens` must hold 8,193 words, `code` 16,384, `words` 278,608 + 5 × shapes + (5 + calls) × entries, and `texts` as many bytes as
+// bytes and calls; `tokens` must hold 8,193 words, `code` 16,384, `words` 262,416 + 5 × shapes + (5 + calls) × entries, and `texts` as many bytes as
 // text bytes are granted. These four hold zeros afterwards, and keep what they had after 71.
 pub fn draw(
     program: &[u8],

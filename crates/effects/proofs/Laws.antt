@@ -13,8 +13,8 @@ use Rattle.machine.specs.declared.Value.{Value}
 use Rattle.machine.specs.declared.Answer.{Answer}
 use Rattle.machine.specs.declared.Answer.the-variants.{Good, Bad}
 use Rattle.machine.specs.Words.{kindIn, numberIn, truthIn, packed, unpacked, kindTruth, kindShape}
-use Rattle.machine.specs.Layout.{loopUnit, valuePlace}
-use Rattle.machine.specs.Act.{held, goOn, _>>=_, give, fail, refuse, load, shown, Answers, Passes, Gives}
+use Rattle.machine.specs.Layout.{loopUnit}
+use Rattle.machine.specs.Act.{held, goOn, _>>=_, give, fail, refuse, shown, Answers, Passes, Gives}
 use Rattle.machine.specs.Shapes.{isGroupAt, destroyedAt}
 use Rattle.machine.specs.Groups.{copyShape}
 use Rattle.machine.specs.Operate.{withShape, withGroup}
@@ -41,31 +41,29 @@ module _ (ws : List ℕ) (slot p : ℕ) (ok : Bool) (ws₁ : List ℕ) (h : Pass
 
 -- ---- assignments
 module _ (ws g : List ℕ) (slot k p : ℕ) (ok : Bool) (d : ok ≡ isDeclared ws slot) where
-  known-is : not ok ≡ false → eqb (getD ws (valuePlace slot) 0) 0 ≡ false
-  known-is t = not-true _ (sym d ∙ not-false ok t)
+  known-is : not ok ≡ false → not (isDeclared ws slot) ≡ false
+  known-is t = rw (← d) t
 
   pub unknown : not ok ≡ true → Flows ws (assigning g p slot k) (Stopped 50 p) ws
-  unfolding assigning _>>=_ goOn load refuse fail shownFlow
-  unknown t =
-      let u : eqb (getD ws (valuePlace slot) 0) 0 ≡ true = not-false _ (sym d ∙ not-true ok t) in
-      record { equal = λ ts. rw u }
+  unfolding assigning _>>=_ goOn held refuse fail shownFlow
+  unknown t = record { equal = λ ts. rw (← d, t) }
 
   pub word-put : (ws₁ : List ℕ) → not ok ≡ false → (kindIn k ≡ kindShape → ⊥) → Gives ws (setVariable slot k) tt ws₁ → Flows ws (assigning g p slot k) Onward ws₁
-  unfolding assigning copied usable if_then_else_ _>>=_ goOn load refuse give shownFlow
+  unfolding assigning copied usable if_then_else_ _>>=_ goOn held refuse give shownFlow
   word-put ws₁ t n s = record { equal = λ ts. rw (known-is t, ← not-dead ws k n, ne-eqb _ _ n, ← s .equal ts) }
 
   pub shape-dead : (b : Bool) → not ok ≡ false → b ≡ isDead ws (unpacked k) → b ≡ true → Flows ws (assigning g p slot k) (Stopped 30 p) ws
-  unfolding assigning usable _>>=_ goOn load refuse fail give shownFlow
+  unfolding assigning usable _>>=_ goOn held refuse fail give shownFlow
   shape-dead b t e u = record { equal = λ ts. rw (known-is t, ← e, u) }
 
   module _ (t : not ok ≡ false) (l : Bool) (d₁ : l ≡ isDead ws (unpacked k)) (u : l ≡ false) (i : kindIn k ≡ kindShape) (n : ℕ) (m : n ≡ numberIn k)
       (a : Answer) (ws₁ : List ℕ) (o : Answers ws (copyShape g p n) a ws₁) where
     pub no-copy : (l q : ℕ) → a ≡ Bad l q → Flows ws (assigning g p slot k) (Stopped l q) ws₁
-    unfolding assigning copied usable if_then_else_ _>>=_ goOn load refuse give shownFlow shown
+    unfolding assigning copied usable if_then_else_ _>>=_ goOn held refuse give shownFlow shown
     no-copy l q b = record { equal = λ ts. sym (rw (known-is t, ← d₁, u, i, ← m, ← o .equal ts, b)) }
 
     pub copy-put : (v : Value) (c : ℕ) (ws₂ : List ℕ) → a ≡ Good v → c ≡ packed v → Gives ws₁ (setVariable slot c) tt ws₂ → Flows ws (assigning g p slot k) Onward ws₂
-    unfolding assigning copied usable if_then_else_ _>>=_ goOn load refuse give shownFlow shown
+    unfolding assigning copied usable if_then_else_ _>>=_ goOn held refuse give shownFlow shown
     copy-put v c ws₂ b r s = record { equal = λ ts. sym (rw (known-is t, ← d₁, u, i, ← m, ← o .equal ts, b, ← r, ← s .equal ts)) }
 
 -- ---- statements of one expression

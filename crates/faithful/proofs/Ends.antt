@@ -14,7 +14,7 @@ use Rattle.meaning.specs.Tree.{Expression, number, string, nothing, truth, name
 use Rattle.canonical.specs.Text.{commaSeparated, operatorText, isOperation, isEntry, enclosedIf, expressionText, argumentTexts, apart, between}
 use Rattle.roundtrip.proofs.LexesTree.{lastOf, last-behind, last-decimal}
 use Rattle.machine.specs.Opcodes.{tagIn, tagEntry, tagOf}
-use Rattle.code.specs.Code.{joined, codeOf}
+use Rattle.code.specs.Code.{joined, codeOf, codeWith}
 use Rattle.reader.proofs.Known.{Known}
 use Rattle.reader.proofs.Fields.{code-some}
 use Rattle.reader.proofs.Walk.{Ends, ends-joined}
@@ -132,7 +132,7 @@ module _ (s : Source) (ts : List Token) (spells : Spells s ts) where
       (primary-ends e k ∙ ap (λ (b : Bool). partLast (enclosedIf b (expressionText e))) (or-right (isOperation e) (isEntry e) n))
 
   operand-ends : (e : Expression) (y : ℕ) → Known e ts → At y e → operandEnds code y ≡ partLast (enclosedIf (isOperation e) (expressionText e))
-  unfolding Known codeOf rootTag isOperation isEntry enclosedIf expressionText operandEnds if_then_else_
+  unfolding Known codeWith rootTag isOperation isEntry enclosedIf expressionText operandEnds if_then_else_
   operand-ends (number z) y k h = no-entry (number z) y refl k h
   operand-ends (string t) y k h = no-entry (string t) y refl k h
   operand-ends nothing y k h = no-entry nothing y refl k h
@@ -157,7 +157,7 @@ module _ (s : Source) (ts : List Token) (spells : Spells s ts) where
 
   -- THE LAST BYTE OF AN EXPRESSION'S TEXT
   pub word-ends : (e : Expression) (y : ℕ) → Known e ts → At y e → endsWord code y ≡ partLast (expressionText e)
-  unfolding Known codeOf rootTag isOperation expressionText endsWord if_then_else_
+  unfolding Known codeWith rootTag isOperation expressionText endsWord if_then_else_
   word-ends (number z) y k h = no-operator (number z) y refl k h
   word-ends (string t) y k h = no-operator (string t) y refl k h
   word-ends nothing y k h = no-operator nothing y refl k h

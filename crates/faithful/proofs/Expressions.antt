@@ -21,7 +21,7 @@ use Rattle.roundtrip.proofs.LexesTree.{lastOf}
 use Rattle.machine.specs.Opcodes.{word, tagIn, sizeIn, numberIn, argumentRoot, calleeIn, tagNumber, tagString, tagNone}
 use Rattle.machine.specs.Opcodes.{tagTruth, tagName, tagTable, tagEntry, tagCall, tagArgument, firstOperator, tagOf}
 use Rattle.names.specs.Prepared.{procedureNumber}
-use Rattle.code.specs.Code.{slotOf, partOf, joined, codeOf, codeOfAll}
+use Rattle.code.specs.Code.{slotOf, partOf, joined, codeOf, codeOfAll, argumentsWith, codeWith}
 use Rattle.reader.proofs.Homes.{Occurs}
 use Rattle.reader.proofs.Known.{Known, KnownAll}
 use Rattle.reader.proofs.Fields.{word-told, call-slot, tag-small, code-some}
@@ -191,37 +191,37 @@ module _ (s : Source) (ts : List Token) (spells : Spells s ts) where
   tag-leaf tag n l = word-told tag 1 n l (omega arith) .tag-is
 
   number-says : (z : ℤ) → wrap z ≡ z → Says (number z)
-  unfolding codeOf expressionText leafText if_then_else_ wrap
+  unfolding codeWith expressionText leafText if_then_else_ wrap
   number-says z e =
       leaf-says (number z) tagNumber (bits z) refl (omega arith)
       (rw (tag-leaf tagNumber (bits z) (omega arith), number-leaf tagNumber (bits z) (omega arith)) (ap decimal e))
 
   string-says : (t : List ℕ) → Occurs ts aString t → Says (string t)
-  unfolding codeOf expressionText leafText if_then_else_
+  unfolding codeWith expressionText leafText if_then_else_
   string-says t o =
       leaf-says (string t) tagString (partOf ts t) refl (omega arith)
       (rw (tag-leaf tagString (partOf ts t) (omega arith), number-leaf tagString (partOf ts t) (omega arith), spells .strings t o))
 
   nothing-says : Says nothing
-  unfolding codeOf expressionText leafText if_then_else_
+  unfolding codeWith expressionText leafText if_then_else_
   nothing-says = leaf-says nothing tagNone 0 refl (omega arith) (rw (tag-leaf tagNone 0 (omega arith)))
 
   truth-says : (b : Bool) → Says (truth b)
-  unfolding codeOf expressionText leafText if_then_else_
+  unfolding codeWith expressionText leafText if_then_else_
   truth-says true =
       leaf-says (truth true) tagTruth 1 refl (omega arith) (rw (tag-leaf tagTruth 1 (omega arith), number-leaf tagTruth 1 (omega arith)))
   truth-says false =
       leaf-says (truth false) tagTruth 0 refl (omega arith) (rw (tag-leaf tagTruth 0 (omega arith), number-leaf tagTruth 0 (omega arith)))
 
   name-says : (x : List ℕ) → Occurs ts aName x → Says (name x)
-  unfolding codeOf expressionText leafText if_then_else_
+  unfolding codeWith expressionText leafText if_then_else_
   name-says x o =
       leaf-says (name x) tagName (slotOf ts x) refl (omega arith)
       (rw (tag-leaf tagName (slotOf ts x) (omega arith), number-leaf tagName (slotOf ts x) (omega arith)) (spells .names x o))
 
   -- ---- a table
   table-says : (e : Expression) → Says e → Says (table e)
-  unfolding codeOf expressionText
+  unfolding codeWith expressionText
   table-says e h zero x f q k = absurd (omega (arith, code-some (table e) ts))
   table-says e h (suc fuel) x f q k =
       let c = codeOf e ts in
@@ -233,7 +233,7 @@ module _ (s : Source) (ts : List Token) (spells : Spells s ts) where
 
   -- ---- two parts
   pub root-tag : (e : Expression) (x : ℕ) → length (codeOf e ts) < 16777216 → Ends code x (codeOf e ts) → tagIn (getD code x 0) ≡ rootTag e
-  unfolding codeOf rootTag
+  unfolding codeWith rootTag
   root-tag (number z) x l q = ap tagIn (ends-word [] _ q) ∙ tag-leaf tagNumber _ (omega arith)
   root-tag (string t) x l q = ap tagIn (ends-word [] _ q) ∙ tag-leaf tagString _ (omega arith)
   root-tag nothing x l q = ap tagIn (ends-word [] _ q) ∙ tag-leaf tagNone _ (omega arith)
@@ -299,14 +299,14 @@ module _ (s : Source) (ts : List Token) (spells : Spells s ts) where
       → argumentsText rounds lead (rawExpression fuel s) s (argumentAfter s a x) x ≡ led lead (argumentTexts es)
 
   none-say : SaysAll noArgument
-  unfolding codeOfAll argumentTexts argumentsText argumentRoot if_then_else_
+  unfolding argumentsWith argumentTexts argumentsText argumentRoot if_then_else_
   none-say fuel a x zero lead f q e n k r = absurd (omega arith)
   none-say fuel a x (suc rounds) lead f q e n k r =
       let i : a ≡ x = omega arith in
       rw (i, le-ltb (x + sizeIn (getD code x 0)) x (omega arith), le-ltb x x (omega arith))
 
   more-say : (e : Expression) (es : Arguments) → Says e → SaysAll es → SaysAll (argument e es)
-  unfolding codeOfAll argumentTexts argumentsText argumentRoot if_then_else_
+  unfolding argumentsWith argumentTexts argumentsText argumentRoot if_then_else_
   more-say e es h hs fuel a x zero lead f q i n k r = absurd (omega arith)
   more-say e es h hs fuel a x (suc rounds) lead f q i n k r =
       let c = codeOf e ts in
@@ -320,7 +320,7 @@ module _ (s : Source) (ts : List Token) (spells : Spells s ts) where
       rw (size, t, t, one) (ap (λ (u : List ℕ). lead ++ expressionText e ++ u) rest)
 
   call-says : (f : List ℕ) (es : Arguments) → Occurs ts aName f → SaysAll es → Says (call f es)
-  unfolding codeOf expressionText callText
+  unfolding codeWith expressionText callText
   call-says f es o hs zero x small q k = absurd (omega (arith, code-some (call f es) ts))
   call-says f es o hs (suc fuel) x small q k =
       let cs = codeOfAll es ts in
@@ -346,7 +346,7 @@ module _ (s : Source) (ts : List Token) (spells : Spells s ts) where
 
   -- ---- every expression
   mutual
-    unfolding Known KnownAll codeOf expressionText
+    unfolding Known KnownAll codeWith expressionText
 
     -- WHAT IS WRITTEN FROM AN EXPRESSION'S CODE
     pub expression-says : (e : Expression) → Known e ts → Says e

@@ -111,7 +111,7 @@ module _ (program c : List ℕ) (ts : List Token) (are : tokensOf program ≡ le
       rw (
         start-told start n b l k,
         parameters-told start n b l k,
-        body-told start n b l k,
+        body-told start n b l k (omega (arith, u .short, sane .few)),
         names-say f start u h,
         body-says f start u h,
         spells .names (f .name) (u .name),

@@ -11,7 +11,7 @@ use Rattle.meaning.specs.Tree.{Expression, Statement, declare, assign, update, 
 use Rattle.canonical.specs.Text.{expressionText, statementText, statementsText}
 use Rattle.canonical.specs.Text as Text
 use Rattle.machine.specs.Opcodes.{word, tagIn, sizeIn, extraIn, sizeAt, tagDeclare, tagAssign, tagUpdate, tagWhen, tagWhile, tagForeach, tagReturn, tagBlock, tagAct}
-use Rattle.code.specs.Code.{slotOf, headed, codeOf, codeOfStatement, codeOfStatements}
+use Rattle.code.specs.Code.{slotOf, headed, codeOf, codeOfStatement, codeOfStatements, statementWith, statementsWith}
 use Rattle.reader.specs.Sane.{Sane}
 use Rattle.reader.proofs.Homes.{Occurs}
 use Rattle.reader.proofs.Known.{Placed, Known, KnownStatement, KnownStatements}
@@ -80,14 +80,14 @@ module _ (s : Source) (ts : List Token) (spells : Spells s ts) (sane : Sane ts) 
 
   -- ---- statements without statements inside
   declare-tells : (p : ℕ) (x : List ℕ) → Placed ts p → Occurs ts aName x → Tells (declare p x)
-  unfolding codeOfStatement statementText statementBy if_then_else_
+  unfolding statementWith statementText statementBy if_then_else_
   declare-tells p x o n zero at f q k = absurd (omega arith)
   declare-tells p x o n (suc fuel) at f q k =
       let h = head at tagDeclare p (slotOf ts x) [] o (omega arith) (omega arith) q in
       by-head fuel at _ (h .root) ∙ rw (h .tag-is, h .extra-is, spells .names x n, spells .apart x n)
 
   assign-tells : (p : ℕ) (x : List ℕ) (e : Expression) → Placed ts p → Occurs ts aName x → Known e ts → Tells (assign p x e)
-  unfolding codeOfStatement statementText statementBy if_then_else_ endingIn
+  unfolding statementWith statementText statementBy if_then_else_ endingIn
   assign-tells p x e o n d zero at f q k = absurd (omega arith)
   assign-tells p x e o n d (suc fuel) at f q k =
       let c = codeOf e ts in
@@ -104,7 +104,7 @@ module _ (s : Source) (ts : List Token) (spells : Spells s ts) (sane : Sane ts) 
       )
 
   return-tells : (p : ℕ) (e : Expression) → Placed ts p → Known e ts → Tells (return p e)
-  unfolding codeOfStatement statementText statementBy if_then_else_
+  unfolding statementWith statementText statementBy if_then_else_
   return-tells p e o d zero at f q k = absurd (omega arith)
   return-tells p e o d (suc fuel) at f q k =
       let c = codeOf e ts in
@@ -114,7 +114,7 @@ module _ (s : Source) (ts : List Token) (spells : Spells s ts) (sane : Sane ts) 
       ∙ rw (h .tag-is, h .size-is, y, expression-says s ts spells e d fuel (at + length c) (omega arith) (ends-behind at c (h .behind)) (omega arith))
 
   act-tells : (p : ℕ) (e : Expression) → Placed ts p → Known e ts → Tells (act p e)
-  unfolding codeOfStatement statementText statementBy if_then_else_ endingIn
+  unfolding statementWith statementText statementBy if_then_else_ endingIn
   act-tells p e o d zero at f q k = absurd (omega arith)
   act-tells p e o d (suc fuel) at f q k =
       let c = codeOf e ts in
@@ -124,7 +124,7 @@ module _ (s : Source) (ts : List Token) (spells : Spells s ts) (sane : Sane ts) 
       ∙ rw (h .tag-is, h .size-is, y, expression-says s ts spells e d fuel (at + length c) (omega arith) (ends-behind at c (h .behind)) (omega arith))
 
   update-tells : (p : ℕ) (a b e : Expression) → Placed ts p → Known a ts → Known b ts → Known e ts → Tells (update p a b e)
-  unfolding codeOfStatement statementText statementBy if_then_else_ updateText endingIn
+  unfolding statementWith statementText statementBy if_then_else_ updateText endingIn
   update-tells p a b e o i j d zero at f q k = absurd (omega arith)
   update-tells p a b e o i j d (suc fuel) at f q k =
       let ca = codeOf a ts in
@@ -163,21 +163,21 @@ module _ (s : Source) (ts : List Token) (spells : Spells s ts) (sane : Sane ts) 
       rw (expression-says s ts spells e d fuel (x + length c) f (ends-behind x c se) (omega arith), t fuel (x + length c + 1) f sb (omega arith))
 
   when-tells : (p : ℕ) (e : Expression) (b : Statement) → Placed ts p → Known e ts → Tells b → Tells (when p e b)
-  unfolding codeOfStatement statementText statementBy if_then_else_
+  unfolding statementWith statementText statementBy if_then_else_
   when-tells p e b o d t zero at f q k = absurd (omega arith)
   when-tells p e b o d t (suc fuel) at f q k =
       let h = head at tagWhen p (length (codeOf e ts)) (codeOf e ts ++ codeOfStatement b ts) o (omega arith) (omega arith) q in
       by-head fuel at _ (h .root) ∙ rw (h .tag-is, h .extra-is) (guarded-tells (bytes "if(") e b d t fuel at (omega arith) (h .behind) (omega arith))
 
   while-tells : (p : ℕ) (e : Expression) (b : Statement) → Placed ts p → Known e ts → Tells b → Tells (while p e b)
-  unfolding codeOfStatement statementText statementBy if_then_else_
+  unfolding statementWith statementText statementBy if_then_else_
   while-tells p e b o d t zero at f q k = absurd (omega arith)
   while-tells p e b o d t (suc fuel) at f q k =
       let h = head at tagWhile p (length (codeOf e ts)) (codeOf e ts ++ codeOfStatement b ts) o (omega arith) (omega arith) q in
       by-head fuel at _ (h .root) ∙ rw (h .tag-is, h .extra-is) (guarded-tells (bytes "while(") e b d t fuel at (omega arith) (h .behind) (omega arith))
 
   foreach-tells : (p : ℕ) (x : List ℕ) (e : Expression) (b : Statement) → Placed ts p → Occurs ts aName x → Known e ts → Tells b → Tells (foreach p x e b)
-  unfolding codeOfStatement statementText statementBy if_then_else_ iteratorText foreachText
+  unfolding statementWith statementText statementBy if_then_else_ iteratorText foreachText
   foreach-tells p x e b o n d t zero at f q k = absurd (omega arith)
   foreach-tells p x e b o n d t (suc fuel) at f q k =
       let c = codeOf e ts in
@@ -221,14 +221,14 @@ module _ (s : Source) (ts : List Token) (spells : Spells s ts) (sane : Sane ts) 
   one-tells b t fuel a end rounds f q k l = rw (lt-ltb a end l, t fuel a f q k, size-behind b a (omega arith) q)
 
   only-tells : (b : Statement) → Tells b → TellsAll (only b)
-  unfolding codeOfStatements statementsText
+  unfolding statementsWith statementsText
   only-tells b t fuel a end zero f q e k r = absurd (omega arith)
   only-tells b t fuel a end (suc rounds) f q e k r =
       one-tells b t fuel a end rounds f q k (omega (arith, statement-some b ts))
       ∙ ap (λ (l : List ℕ). statementText b ++ bytes "\n" ++ l) (rw e (none-left rounds fuel end)) ∙ append-nil (statementText b ++ bytes "\n")
 
   first-tells : (b : Statement) (ss : Statements) → Tells b → TellsAll ss → TellsAll (first b ss)
-  unfolding codeOfStatements statementsText
+  unfolding statementsWith statementsText
   first-tells b ss t u fuel a end zero f q e k r = absurd (omega arith)
   first-tells b ss t u fuel a end (suc rounds) f q e k r =
       let c = codeOfStatement b ts in
@@ -240,7 +240,7 @@ module _ (s : Source) (ts : List Token) (spells : Spells s ts) (sane : Sane ts) 
       ∙ sym (append-assoc (statementText b ++ bytes "\n") (statementsText ss) (bytes "\n"))
 
   block-tells : (p : ℕ) (ss : Statements) → Placed ts p → TellsAll ss → Tells (block p ss)
-  unfolding codeOfStatement statementText statementBy if_then_else_
+  unfolding statementWith statementText statementBy if_then_else_
   block-tells p ss o t zero at f q k = absurd (omega arith)
   block-tells p ss o t (suc fuel) at f q k =
       let cs = codeOfStatements ss ts in

@@ -20,7 +20,8 @@ use Rattle.machine.specs.Opcodes.{tagDivide, tagRemainder, tagShiftRight, tagSh
 use Rattle.machine.specs.declared.Value.the-variants.{Integer, Text, Boolean, Shape}
 use Rattle.machine.specs.Words.{packed}
 use Rattle.machine.specs.Words as Words
-use Rattle.machine.specs.Layout.{valuePlace, stepsUsed, stepsGranted}
+use Rattle.machine.specs.Layout.{stepsUsed, stepsGranted}
+use Rattle.machine.specs.Variables.{holding}
 use Rattle.machine.specs.Act.{Pays}
 use Rattle.machine.specs.Shapes.{destroyedAt}
 use Rattle.stores.proofs.Acts.{paid, short}
@@ -46,7 +47,7 @@ module _ (ws : List ℕ) (w : ℕ) where
   unfolding leafWord if_then_else_
   leaf-number h l = rw (h, lt-ltb (w / 4294967296) (2 ^ 32) (omega arith))
 
-  pub leaf-name : (r k : ℕ) → w % 4294967296 ≡ headName → k ≡ getD ws (valuePlace (w / 4294967296)) 0 → r ≡ plainWord k → r ≡ leafWord ws w
+  pub leaf-name : (r k : ℕ) → w % 4294967296 ≡ headName → k ≡ holding ws (w / 4294967296) → r ≡ plainWord k → r ≡ leafWord ws w
   unfolding leafWord if_then_else_
   leaf-name r k h f g = g ∙ rw (h, f)
 
@@ -241,7 +242,7 @@ module _ (ws : List ℕ) (w : ℕ) where
   unfolding otherWord if_then_else_
   other-string r h l f = f ∙ rw (h, lt-ltb (w / 4294967296) (2 ^ 32) (omega arith))
 
-  pub other-name : (r k : ℕ) → w % 4294967296 ≡ headName → k ≡ getD ws (valuePlace (w / 4294967296)) 0 → r ≡ livingWord ws k → r ≡ otherWord ws w
+  pub other-name : (r k : ℕ) → w % 4294967296 ≡ headName → k ≡ holding ws (w / 4294967296) → r ≡ livingWord ws k → r ≡ otherWord ws w
   unfolding otherWord if_then_else_
   other-name r k h f g = g ∙ rw (h, f)
 

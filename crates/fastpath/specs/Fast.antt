@@ -18,7 +18,8 @@ use Rattle.machine.specs.Opcodes.{tagDivide, tagRemainder, tagShiftRight, tagSh
 use Rattle.machine.specs.declared.Value.the-variants.{Integer, Text, Boolean, Shape}
 use Rattle.machine.specs.Words.{kindIn, kindInteger, kindTruth, kindShape, packed}
 use Rattle.machine.specs.Words as Words
-use Rattle.machine.specs.Layout.{stepsUsed, stepsGranted, valuePlace}
+use Rattle.machine.specs.Layout.{stepsUsed, stepsGranted}
+use Rattle.machine.specs.Variables.{holding}
 use Rattle.machine.specs.Shapes.{destroyedAt}
 
 -- ---- constants and variables
@@ -33,7 +34,7 @@ plainWord u =
 unfoldable pub leafWord : List ℕ → ℕ → ℕ
 leafWord ws w =
     if eqb (w % 2 ^ 32) headNumber then (λ _. if ltb (numberIn w) (2 ^ 32) then (λ _. 1 + 8 * numberIn w) else λ _. 0)
-    else λ _. if eqb (w % 2 ^ 32) headName then (λ _. plainWord (getD ws (valuePlace (numberIn w)) 0))
+    else λ _. if eqb (w % 2 ^ 32) headName then (λ _. plainWord (holding ws (numberIn w)))
     else λ _. 0
 
 -- ---- operators
@@ -87,7 +88,7 @@ livingWord ws u = if eqb (kindIn u) kindShape && not (destroyedAt ws (Words.numb
 unfoldable pub otherWord : List ℕ → ℕ → ℕ
 otherWord ws w =
     if eqb (w % 2 ^ 32) headString then (λ _. if ltb (numberIn w) (2 ^ 32) then (λ _. packed (Text (2 * numberIn w))) else λ _. 0)
-    else λ _. if eqb (w % 2 ^ 32) headName then (λ _. livingWord ws (getD ws (valuePlace (numberIn w)) 0))
+    else λ _. if eqb (w % 2 ^ 32) headName then (λ _. livingWord ws (holding ws (numberIn w)))
     else λ _. 0
 
 -- a constant, a variable or a string

@@ -21,7 +21,7 @@ use Rattle.meaning.proofs.IntegerLaws.{wrap-range}
 use Rattle.writing.proofs.Decimals.{decimal-short}
 use Rattle.canonical.specs.Text.{commaSeparated, operatorText, isOperation, isEntry, enclosedIf, expressionText, argumentTexts, apart}
 use Rattle.canonical.specs.Text.{between, statementText, statementsText, procedureText, proceduresText, programText}
-use Rattle.code.specs.Code.{codeOf, codeOfAll, codeOfStatement, codeOfStatements, slotOf, codeOfProcedure, codeOfProcedures}
+use Rattle.code.specs.Code.{codeOf, codeOfAll, codeOfStatement, codeOfStatements, slotOf, codeOfProcedure, codeOfProcedures, argumentsWith, codeWith, statementWith, statementsWith}
 use Rattle.reader.proofs.Homes.{Occurs}
 use Rattle.reader.proofs.Known.{Known, KnownAll, KnownStatement, KnownStatements, KnownNames}
 use Rattle.reader.proofs.Trees.{Understood, UnderstoodAll, UnderstoodWhole, procedures-understood}
@@ -85,7 +85,7 @@ module _ (ts : List Token) (texts : (i : ℕ) → length (textAt ts i) ≤ 32768
 
   -- ---- expressions
   mutual
-    unfolding expressionText argumentTexts codeOf codeOfAll Known KnownAll commaSeparated
+    unfolding expressionText argumentTexts codeWith argumentsWith Known KnownAll commaSeparated
 
     expression-short : (e : Expression) → Known e ts → length (expressionText e) ≤ 40000 * length (codeOf e ts)
     expression-short (number z) k = omega (arith, number-short z k)
@@ -122,7 +122,7 @@ module _ (ts : List Token) (texts : (i : ℕ) → length (textAt ts i) ≤ 32768
   -- ---- statements
   -- one byte to spare
   mutual
-    unfolding expressionText statementText statementsText codeOfStatement codeOfStatements KnownStatement KnownStatements
+    unfolding expressionText statementText statementsText statementWith statementsWith KnownStatement KnownStatements
 
     statement-short : (s : Statement) → KnownStatement s ts → length (statementText s) + 1 ≤ 40000 * length (codeOfStatement s ts)
     statement-short (declare p x) k = simp length-append (omega (arith, name-short aName x (k .1), apart-short x))

@@ -24,7 +24,7 @@ use Rattle.imgdraw.specs.Printed.{callOf, drawnText, printedOn, printedO
 use Rattle.sheet.proofs.Fronts.{error-line}
 
 -- drawing's call, with its slices' lengths and grants
-pub same-call : (program tokens code words texts out : List ℕ) (w h : ℤ) → length tokens ≡ 8193 → length code ≡ 16384 → length words ≡ 354384 → length texts ≡ 16384
+pub same-call : (program tokens code words texts out : List ℕ) (w h : ℤ) → length tokens ≡ 8193 → length code ≡ 16384 → length words ≡ 338192 → length texts ≡ 16384
     → called drawing program w h (1000000 ∷ 1024 ∷ 1024 ∷ 16384 ∷ 64 ∷ []) tokens code words texts out ≡ callOf program w h out
 unfolding needed
 same-call program tokens code words texts out w h a b c d = rw (a, b, c, d)
@@ -40,7 +40,7 @@ abbrev held : ℤ → ℤ
 held z = toZ w32 (ofZ w32 z)
 
 pub program-drawn : (program tokens code words texts out : List ℕ) (w h : ℤ) → SFits w32 w → SFits w32 h
-    → length tokens ≡ 8193 → length code ≡ 16384 → length words ≡ 354384 → length texts ≡ 16384 → (a : Declared.Answer) (out₁ after : List ℕ) (r : ℕ)
+    → length tokens ≡ 8193 → length code ≡ 16384 → length words ≡ 338192 → length texts ≡ 16384 → (a : Declared.Answer) (out₁ after : List ℕ) (r : ℕ)
     → meant a ≡ answer (called drawing program (held w) (held h) (1000000 ∷ 1024 ∷ 1024 ∷ 16384 ∷ 64 ∷ []) tokens code words texts out)
     → out₁ ≡ outAfter (called drawing program (held w) (held h) (1000000 ∷ 1024 ∷ 1024 ∷ 16384 ∷ 64 ∷ []) tokens code words texts out)
     → Front (shownText (meant a) out₁) after r → Front (drawnText (callOf program w h out)) after r

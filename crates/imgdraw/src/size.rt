@@ -14,6 +14,6 @@ pub const TOKENS: usize = 8193;
 
 pub const CODE: usize = 16384;
 
-pub const WORDS: usize = 278608 + 5 * 1024 + 69 * 1024;
+pub const WORDS: usize = 262416 + 5 * 1024 + 69 * 1024;
 
 pub const TEXTS: usize = 16384;

@@ -10,7 +10,7 @@ use Rattle.machine.specs.declared.Answer.{Answer}
 use Rattle.machine.specs.declared.Answer.the-variants.{Good, Bad}
 use Rattle.machine.specs.declared.Flow.{Flow}
 use Rattle.machine.specs.declared.Flow.the-variants.{Onward, Returned, Stopped}
-use Rattle.machine.specs.Layout.{declared, argumentsHeld, running, loopUnit}
+use Rattle.machine.specs.Layout.{argumentsHeld}
 use Rattle.machine.specs.Act.{Raw, raw, Out, done, stop, Act, goOn, _>>=_, give, load, shown, Answers, Gives}
 use Rattle.machine.specs.Effects.{shownFlow}
 use Rattle.machine.specs.Evaluate.{Setting, setting}
@@ -29,17 +29,17 @@ split act k r = go (act r)
     go (done a s) = refl
     go (stop n p s) = refl
 
-module _ (program code g : List ℕ) (fuel callee p base : ℕ) (ts ws : List ℕ) (top n caller unit : ℕ) (et : top ≡ getD ws argumentsHeld 0) (en : n ≡ getD ws declared 0)
-    (ec : caller ≡ getD ws running 0) (eu : unit ≡ getD ws loopUnit 0) (b : Answer) (ws₁ : List ℕ) (h : Answers ws (answered (begin g code callee top n p base)) b ws₁) where
+module _ (program code g : List ℕ) (fuel callee p base : ℕ) (ts ws : List ℕ) (top : ℕ) (et : top ≡ getD ws argumentsHeld 0) (b : Answer) (ws₁ : List ℕ)
+    (h : Answers ws (answered (begin g code callee top p base)) b ws₁) where
   abbrev d : ℕ
   d = getD code (tablePlace callee) 0
 
   abbrev rest : Act Value
-  rest = bodyAt fuel (setting program code g) (startIn d + parametersIn d) (bodyIn d) >>= λ flow. resume top n caller unit base >>= λ _. resultOf flow
+  rest = bodyAt fuel (setting program code g) (startIn d + parametersIn d) (bodyIn d) >>= λ flow. resume base >>= λ _. resultOf flow
 
   asked : invokeAt fuel (setting program code g) callee p base (raw ts ws) ≡ goOn (shown b ts ws₁) (λ _. rest)
   unfolding procedureAt _>>=_ goOn load
-  asked = rw (← et, ← en, ← ec, ← eu, h .equal ts) (sym (split (begin g code callee top n p base) rest (raw ts ws)))
+  asked = rw (← et, h .equal ts) (sym (split (begin g code callee top p base) rest (raw ts ws)))
 
   pub begin-stops : (m q : ℕ) → b ≡ Bad m q → shown (Bad m q) ts ws₁ ≡ invokeAt fuel (setting program code g) callee p base (raw ts ws)
   unfolding goOn shown
@@ -48,14 +48,14 @@ module _ (program code g : List ℕ) (fuel callee p base : ℕ) (ts ws : List �
   module _ (v : Value) (f : b ≡ Good v) (i e k m a size : ℕ) (ei : i ≡ tablePlace callee) (ed : e ≡ getD code i 0) (ek : k ≡ startIn e) (em : m ≡ parametersIn e) (ea : a ≡ k + m) (es : size
       ≡ bodyIn e)
       (o : Answer) (ts₂ ws₂ : List ℕ) (c : Ended o ts₂ ws₂ (statementsFrom (size + 1) (statementAt fuel (setting program code g)) (setting program code g) a (a + size) (raw ts ws₁))) where
-    after : (flow : Flow) → goOn (shownFlow flow ts₂ ws₂) (λ f. resume top n caller unit base >>= λ _. resultOf f)
-        ≡ goOn (shown (answerOf flow) ts₂ ws₂) (λ u. resume top n caller unit base >>= λ _. give u)
+    after : (flow : Flow) → goOn (shownFlow flow ts₂ ws₂) (λ f. resume base >>= λ _. resultOf f)
+        ≡ goOn (shown (answerOf flow) ts₂ ws₂) (λ u. resume base >>= λ _. give u)
     unfolding goOn shown shownFlow answerOf _>>=_ resultOf
     after Onward = refl
     after (Returned u) = refl
     after (Stopped z q) = refl
 
-    ran : invokeAt fuel (setting program code g) callee p base (raw ts ws) ≡ goOn (shown o ts₂ ws₂) (λ u. resume top n caller unit base >>= λ _. give u)
+    ran : invokeAt fuel (setting program code g) callee p base (raw ts ws) ≡ goOn (shown o ts₂ ws₂) (λ u. resume base >>= λ _. give u)
     unfolding goOn shown bodyAt _>>=_
     ran = asked ∙ rw f (rw (← ei, ← ed, ← ek, ← em, ← ea, ← es, ← c .shows, c .answers) (after (c .flow)))
 
@@ -63,7 +63,7 @@ module _ (program code g : List ℕ) (fuel callee p base : ℕ) (ts ws : List �
     unfolding goOn shown
     body-stops z q j = sym (ran ∙ rw j)
 
-    pub gives-value : (ws₃ : List ℕ) (u : Value) → Gives ws₂ (resume top n caller unit base) tt ws₃ → o ≡ Good u
+    pub gives-value : (ws₃ : List ℕ) (u : Value) → Gives ws₂ (resume base) tt ws₃ → o ≡ Good u
         → shown (Good u) ts₂ ws₃ ≡ invokeAt fuel (setting program code g) callee p base (raw ts ws)
     unfolding goOn shown _>>=_ give
     gives-value ws₃ u r j = sym (ran ∙ rw (j, ← r .equal ts₂))

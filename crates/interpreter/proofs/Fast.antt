@@ -23,10 +23,10 @@ use Rattle.machine.specs.declared.Answer.the-variants.{Good, Bad}
 use Rattle.machine.specs.Words.{kindIn, packed, unpacked}
 use Rattle.machine.specs.Words as Words
 use Rattle.values.proofs.Laws.{InRange, unpacked-packed, unpacked-integer, unpacked-truth, unpacked-shape}
-use Rattle.machine.specs.Layout.{fixedWords, valuePlace, shapePlace, Lent, stepsUsed, stepsGranted}
+use Rattle.machine.specs.Layout.{frame, fixedWords, shapePlace, Lent, stepsUsed, stepsGranted}
 use Rattle.machine.specs.Act.{Raw, raw, Out, done, goOn, _>>=_, give, refuse, spend, shown, Answers}
 use Rattle.machine.specs.Shapes.{destroyedAt}
-use Rattle.machine.specs.Variables.{isDead, usable}
+use Rattle.machine.specs.Variables.{isDead, usable, wordIn, holding}
 use Rattle.stores.proofs.Laws.{not-dead, dead-shape, found}
 use Rattle.machine.specs.Operate.{withInteger, calculated, compared, remaindered, equality, answered, equated, operateOn, operate}
 use Rattle.values.proofs.Held.{by-number}
@@ -236,8 +236,8 @@ module _ (w t : ℕ) (s : t < 256) (h : w % 2 ^ 32 ≡ 256 + t) where
 
 -- words apart from the steps' counter
 module _ (rest : List ℕ) (a b k : ℕ) where
-  elsewhere : getD (a ∷ rest) (80 + k) 0 ≡ getD (b ∷ rest) (80 + k) 0
-  elsewhere = let e : 80 + k ≡ suc (79 + k) = omega arith in rw e
+  elsewhere : getD (a ∷ rest) (272 + k) 0 ≡ getD (b ∷ rest) (272 + k) 0
+  elsewhere = let e : 272 + k ≡ suc (271 + k) = omega arith in rw e
 
 module _ (program code g ts rest : List ℕ) (u p : ℕ) where
   abbrev e : Setting
@@ -261,19 +261,19 @@ module _ (program code g ts rest : List ℕ) (u p : ℕ) where
       }
 
   -- a variable that is declared and holds no destroyed shape
-  module _ (w v k : ℕ) (h : w % 2 ^ 32 ≡ headName) (f : k ≡ getD (u ∷ rest) (valuePlace (numberIn w)) 0) (z : k ≡ 0 → ⊥) (q : unpacked v ≡ unpacked k) where
+  module _ (w v k : ℕ) (h : w % 2 ^ 32 ≡ headName) (f : k ≡ holding (u ∷ rest) (numberIn w)) (z : k ≡ 0 → ⊥) (q : unpacked v ≡ unpacked k) where
     name-gives : ((m : ℕ) → false ≡ isDead (m ∷ rest) (unpacked k)) → (inner : Evaluator) (invoke : Invoke) (x n : ℕ)
         → expressionBy inner invoke e w x p (raw ts (n ∷ rest)) ≡ done (unpacked v) (raw ts (n ∷ rest))
     unfolding expressionBy leaf if_then_else_ shown
     name-gives dead inner invoke x m =
         let t : tagIn w ≡ tagName = tag-below w tagName (omega arith) h in
-        let d : getD (m ∷ rest) (valuePlace (numberIn w)) 0 ≡ k = elsewhere rest m u (numberIn w % 8192) ∙ sym f in
-        rw t (sym (found (m ∷ rest) p (numberIn w) false (unpacked v) (rw d z) (rw d (dead m)) refl (rw d q) .equal ts))
+        let d : holding (m ∷ rest) (numberIn w) ≡ k = ap wordIn (elsewhere rest m u ((getD (u ∷ rest) frame 0 + numberIn w) % 262144)) ∙ sym f in
+        rw t (sym (found (m ∷ rest) p (numberIn w) k (sym d) false (unpacked v) z (dead m) refl q .equal ts))
 
     name-leaf : (kindIn k ≡ 6 → ⊥) → Plain v → Leaf w v
     name-leaf n c = record { size = one-word w tagName (omega arith) h; plain = c; gives = name-gives (λ m. not-dead (m ∷ rest) k n) }
 
-  plain-leaf : (w v k : ℕ) → w % 2 ^ 32 ≡ headName → k ≡ getD (u ∷ rest) (valuePlace (numberIn w)) 0 → plainWord k ≡ v → (v ≡ 0 → ⊥) → Leaf w v
+  plain-leaf : (w v k : ℕ) → w % 2 ^ 32 ≡ headName → k ≡ holding (u ∷ rest) (numberIn w) → plainWord k ≡ v → (v ≡ 0 → ⊥) → Leaf w v
   unfolding plainWord if_then_else_
   plain-leaf w v k h f r n = go (eqb (kindIn k) 1) (eqb (kindIn k) 3) refl refl r
     where
@@ -293,7 +293,7 @@ module _ (program code g ts rest : List ℕ) (u p : ℕ) where
   leaf-found w v r n = go (eqb (w % 2 ^ 32) headNumber) (eqb (w % 2 ^ 32) headName) (ltb (numberIn w) (2 ^ 32)) refl refl refl r
     where
       go : (i j k : Bool) → eqb (w % 2 ^ 32) headNumber ≡ i → eqb (w % 2 ^ 32) headName ≡ j → ltb (numberIn w) (2 ^ 32) ≡ k
-          → (if i then (λ _. if k then (λ _. 1 + 8 * numberIn w) else λ _. 0) else λ _. if j then (λ _. plainWord (getD (u ∷ rest) (valuePlace (numberIn w)) 0)) else λ _. 0) ≡ v
+          → (if i then (λ _. if k then (λ _. 1 + 8 * numberIn w) else λ _. 0) else λ _. if j then (λ _. plainWord (holding (u ∷ rest) (numberIn w))) else λ _. 0) ≡ v
           → Leaf w v
       go true j true q s l m = number-leaf w v (eqb-true _ _ q) (ltb-true _ _ l) m
       go true j false q s l m = absurd (n (sym m))
@@ -378,7 +378,7 @@ module _ (program code g ts rest : List ℕ) (u p : ℕ) where
       let b : unpacked v ≡ Text (2 * numberIn w) = rw (← f) (unpacked-packed (Text (2 * numberIn w)) (omega arith)) in
       record { size = one-word w tagString (omega arith) h; back = rw b f; gives = λ inner invoke x n. rw (t, b) }
 
-  shape-leaf : (w v k : ℕ) → w % 2 ^ 32 ≡ headName → k ≡ getD (u ∷ rest) (valuePlace (numberIn w)) 0 → livingWord (u ∷ rest) k ≡ v → (v ≡ 0 → ⊥) → Other w v
+  shape-leaf : (w v k : ℕ) → w % 2 ^ 32 ≡ headName → k ≡ holding (u ∷ rest) (numberIn w) → livingWord (u ∷ rest) k ≡ v → (v ≡ 0 → ⊥) → Other w v
   unfolding livingWord if_then_else_ InRange
   shape-leaf w v k h f r n = go (eqb (kindIn k) 6) (destroyedAt (u ∷ rest) (Words.numberIn k)) refl refl r
     where
@@ -388,8 +388,8 @@ module _ (program code g ts rest : List ℕ) (u p : ℕ) where
       go true false q s m =
           let a : kindIn k ≡ 6 = eqb-true _ _ q in
           let b : unpacked v ≡ Shape (Words.numberIn k) = rw (← m) (unpacked-packed (Shape (Words.numberIn k)) (omega arith)) in
-          let place : shapePlace (Words.numberIn k) ≡ 80 + (278528 + 5 * Words.numberIn k) = omega arith in
-          let alike : (o : ℕ) → destroyedAt (o ∷ rest) (Words.numberIn k) ≡ false = λ o. rw (place, elsewhere rest o u (278528 + 5 * Words.numberIn k), ← place) s in
+          let place : shapePlace (Words.numberIn k) ≡ 272 + (262144 + 5 * Words.numberIn k) = omega arith in
+          let alike : (o : ℕ) → destroyedAt (o ∷ rest) (Words.numberIn k) ≡ false = λ o. rw (place, elsewhere rest o u (262144 + 5 * Words.numberIn k), ← place) s in
           record {
             size = one-word w tagName (omega arith) h;
             back = rw b m;
@@ -401,7 +401,7 @@ module _ (program code g ts rest : List ℕ) (u p : ℕ) where
   other-found w v r n = go (eqb (w % 2 ^ 32) headString) (eqb (w % 2 ^ 32) headName) (ltb (numberIn w) (2 ^ 32)) refl refl refl r
     where
       go : (i j k : Bool) → eqb (w % 2 ^ 32) headString ≡ i → eqb (w % 2 ^ 32) headName ≡ j → ltb (numberIn w) (2 ^ 32) ≡ k
-          → (if i then (λ _. if k then (λ _. packed (Text (2 * numberIn w))) else λ _. 0) else λ _. if j then (λ _. livingWord (u ∷ rest) (getD (u ∷ rest) (valuePlace (numberIn w)) 0)) else
+          → (if i then (λ _. if k then (λ _. packed (Text (2 * numberIn w))) else λ _. 0) else λ _. if j then (λ _. livingWord (u ∷ rest) (holding (u ∷ rest) (numberIn w))) else
           λ _. 0) ≡ v
           → Other w v
       go true j true q s l m = string-leaf w v (eqb-true _ _ q) (ltb-true _ _ l) m

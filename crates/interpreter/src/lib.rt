@@ -234,10 +234,7 @@ fn invoke(
         ≡ invokeAt fuel (setting (now (program .entry)) (now (code .entry)) (now (grants .entry))) callee p base (raw (now (texts .entry)) (now (words .entry))) ⌝ }
 {
     let top = stores::arguments::arguments_held(words) as usize;
-    let n = stores::variables::declared_count(words);
-    let caller = stores::calls::running(words);
-    let unit = stores::calls::loop_unit(words);
-    match procedures::begin(words, code, grants, callee, top, n, p, base) {
+    match procedures::begin(words, code, grants, callee, top, p, base) {
         Answer::Good(_) => {}
         Answer::Bad(k, q) => return Answer::Bad(k, q),
     }
@@ -256,7 +253,7 @@ fn invoke(
         size + 1,
     ) {
         Answer::Good(v) => {
-            stores::calls::resume(words, top, n, caller, unit, base as u64);
+            stores::calls::resume(words, base as u64);
             Answer::Good(v)
         }
         Answer::Bad(k, q) => Answer::Bad(k, q),

@@ -1,16 +1,15 @@
 -- What a statement does once its parts are evaluated; these are held as words. p is the statement's place.
 use Prim.Native.Nat.{ℕ}
 use mathlib.Core.Path.{_≡_}
-use mathlib.Core.Bool.{Bool, true, false}
+use mathlib.Core.Bool.{Bool, true, false, not}
 use mathlib.Core.List.{List}
 use lib.Dec.{eqb}
 use Rattle.meaning.specs.Basics.{if_then_else_}
 use Rattle.machine.specs.Opcodes.{tagIn, extraIn, tagAssign, tagReturn}
 use Rattle.machine.specs.Words.{kindIn, numberIn, truthIn, packed, unpacked, kindTruth, kindShape}
-use Rattle.machine.specs.Layout.{valuePlace}
-use Rattle.machine.specs.Act.{Raw, raw, Out, done, stop, Act, _>>=_, _>>_, give, refuse, load}
+use Rattle.machine.specs.Act.{Raw, raw, Out, done, stop, Act, _>>=_, _>>_, give, refuse, held}
 use Rattle.machine.specs.Groups.{copyShape}
-use Rattle.machine.specs.Variables.{usable, declare, setVariable}
+use Rattle.machine.specs.Variables.{usable, isDeclared, declare, setVariable}
 use Rattle.machine.specs.declared.Flow.{Flow}
 use Rattle.machine.specs.declared.Flow.the-variants.{Onward, Returned, Stopped}
 use Rattle.machine.specs.declared.Outcome.{Outcome}
@@ -33,7 +32,7 @@ pub record Flows (before : List ℕ) (act : Act Flow) (flow : Flow) (after : Lis
 
 -- ---- declarations
 unfoldable pub declaring : ℕ → ℕ → Act Flow
-declaring slot p = declare slot p >> give Onward
+declaring n p = declare n p >> give Onward
 
 -- ---- assignments
 -- a shape is copied
@@ -44,12 +43,12 @@ copied g p k =
     else λ _. give k
 
 unfoldable pub assigning : List ℕ → ℕ → ℕ → ℕ → Act Flow
-assigning g p slot k = do
-  w ← load (valuePlace slot)
-  refuse (eqb w 0) 50 p
+assigning g p n k = do
+  ws ← held
+  refuse (not (isDeclared ws n)) 50 p
   usable p (unpacked k)
   c ← copied g p k
-  setVariable slot c
+  setVariable n c
   give Onward
 
 -- ---- statements of one expression, by their word

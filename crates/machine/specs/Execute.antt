@@ -73,7 +73,7 @@ statementsFrom zero inner e a end = give Onward
 statementsFrom (suc rounds) inner e a end =
     if ltb a end then (λ _. inner a >>= λ f. continue f (statementsFrom rounds inner e (a + sizeAt (e .code) a) end)) else λ _. give Onward
 
--- a loop over the group that the expression with root y gives; the word before the expression is its variable's slot
+-- a loop over the group that the expression with root y gives; the word before the expression is its variable's number
 unfoldable pub foreachAt : Evaluator → Executor → Setting → ℕ → ℕ → ℕ → Act Flow
 foreachAt eval inner e slot y p = do
   v ← eval y p

@@ -1,6 +1,5 @@
 -- Where everything stands in the words that are lent for a run.
--- 16 counters; a word for each call that waits for another; the 8,192 variables of the call under way, by slot; their slots in the order of their
--- declarations; a stack of 262,144 words, which holds the arguments of calls and the variables of calls that wait; shapes of five words each;
+-- 16 counters; four words for each call that waits for another; a stack of 262,144 words, which holds the arguments and the variables of calls; shapes of five words each;
 -- entries of tables, four words each, behind as many shapes as are granted; components of groups, a word each, behind as many entries; and for each component
 -- a word for each call under way, which says on which of its loops' ways the component is.
 use Prim.Native.Nat.{ℕ, _+_, _*_, _%_, _^_, _≤_, _<_}
@@ -55,6 +54,10 @@ loopUnit = 12
 abbrev pub linesLength : ℕ
 linesLength = 13
 
+-- where the variables of the call under way begin on the stack
+abbrev pub frame : ℕ
+frame = 14
+
 -- ---- grants, a list of five
 abbrev pub stepsGranted : List ℕ → ℕ
 stepsGranted g = getD g 0 0
@@ -73,32 +76,21 @@ callsGranted g = getD g 4 0
 
 -- ---- regions
 -- the first word of each behind the counters, and how many words stand before the shapes
-abbrev pub firstFrame : ℕ
-firstFrame = 16
-
-abbrev pub firstValue : ℕ
-firstValue = 80
-
-abbrev pub firstOrder : ℕ
-firstOrder = 8272
+abbrev pub firstCall : ℕ
+firstCall = 16
 
 abbrev pub firstArgument : ℕ
-firstArgument = 16464
+firstArgument = 272
 
 abbrev pub stackWords : ℕ
 stackWords = 262144
 
 abbrev pub fixedWords : ℕ
-fixedWords = 278608
+fixedWords = 262416
 
-abbrev pub framePlace : ℕ → ℕ
-framePlace d = firstFrame + d % 64
-
-abbrev pub valuePlace : ℕ → ℕ
-valuePlace slot = firstValue + slot % 8192
-
-abbrev pub orderPlace : ℕ → ℕ
-orderPlace k = firstOrder + k % 8192
+-- the first word of the d-th call; the four hold its frame, how many variables it has declared, its procedure and the unit of its innermost loop
+abbrev pub callPlace : ℕ → ℕ
+callPlace d = firstCall + 4 * (d % 64)
 
 abbrev pub argumentPlace : ℕ → ℕ
 argumentPlace k = firstArgument + k % stackWords

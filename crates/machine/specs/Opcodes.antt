@@ -19,7 +19,7 @@ sizeIn w = w / 256 % 16777216
 abbrev pub numberIn : ℕ → ℕ
 numberIn w = w / 4294967296
 
--- a statement's number is its place in the program and one more number: a variable's slot, or where the root of a test or of a group stands
+-- a statement's number is its place in the program and one more number: a variable's slot, or its number once it has one, or where the root of a test or of a group stands
 abbrev pub placeIn : ℕ → ℕ
 placeIn w = numberIn w % 65536
 
@@ -43,7 +43,8 @@ abbrev pub calleeIn : ℕ → ℕ
 calleeIn w = numberIn w / 16
 
 -- A table behind the code has a word for each name, by its slot; 0 if it names no procedure. The word says where the slots of its parameters stand in the
--- code, how many they are, and how many words its body has, which stands behind them.
+-- code, how many they are, and how many words its body has, which stands behind them. Once its variables are numbered it also says how many words they take
+-- in a call; 0 if two parameters have one name.
 abbrev pub tablePlace : ℕ → ℕ
 tablePlace slot = 8192 + slot % 8192
 
@@ -57,7 +58,10 @@ abbrev pub parametersIn : ℕ → ℕ
 parametersIn d = d / 65536 % 65536
 
 abbrev pub bodyIn : ℕ → ℕ
-bodyIn d = d / 4294967296
+bodyIn d = d / 4294967296 % 65536
+
+abbrev pub frameIn : ℕ → ℕ
+frameIn d = d / 281474976710656
 
 -- ---- tags of expressions
 abbrev pub tagNumber : ℕ
@@ -177,6 +181,6 @@ tagBlock = 38
 abbrev pub tagAct : ℕ
 tagAct = 39
 
--- the word behind it is its variable's slot; its other number is how far behind it the root of its group stands
+-- the word behind it is its variable's slot or number; its other number is how far behind it the root of its group stands
 abbrev pub tagForeach : ℕ
 tagForeach = 40

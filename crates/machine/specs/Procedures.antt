@@ -1,98 +1,95 @@
--- A procedure of the program called: the variables of the call under way wait on the stack, above the arguments, and come back at the return.
--- p is the place of the statement that calls, base the number of the first argument on the stack, top the stack's height above the last.
-use Prim.Native.Nat.{ℕ, zero, suc, _+_, _-_}
+-- A procedure of the program called: its variables take the words of the stack above the arguments; what belongs to its caller is kept, and comes back at the
+-- return. p is the place of the statement that calls, base the number of the first argument on the stack, top the stack's height above the last.
+use Prim.Native.Nat.{ℕ, zero, suc, _+_, _-_, _*_, _%_, _^_}
 use mathlib.Core.Bool.{not}
 use mathlib.Core.List.{List}
 use lib.ListN.{getD}
 use lib.Dec.{eqb, ltb}
-use Rattle.machine.specs.Opcodes.{tablePlace, startIn, parametersIn, bodyIn}
+use Rattle.meaning.specs.Basics.{if_then_else_}
+use Rattle.machine.specs.Opcodes.{tablePlace, startIn, parametersIn, bodyIn, frameIn}
 use Rattle.machine.specs.declared.Value.{Value}
 use Rattle.machine.specs.declared.Value.the-variants.{Nothing}
 use Rattle.machine.specs.declared.Flow.{Flow}
 use Rattle.machine.specs.declared.Flow.the-variants.{Onward, Returned, Stopped}
-use Rattle.machine.specs.Layout.{declared, argumentsHeld, callsUsed, running, loopUnit, callsGranted, framePlace, valuePlace, orderPlace, argumentPlace, stackWords}
+use Rattle.machine.specs.Words.{packed}
+use Rattle.machine.specs.Layout.{declared, argumentsHeld, callsUsed, running, loopUnit, frame, callsGranted, callPlace, argumentPlace, stackWords}
 use Rattle.machine.specs.Act.{Act, _>>=_, _>>_, give, fail, refuse, load, store, spend}
 use Rattle.machine.specs.Stack.{dropTo}
-use Rattle.machine.specs.Variables.{declare, waitingWord, wordIn, slotIn, frameWord}
 use Rattle.machine.specs.Effects.{assigning}
 use Rattle.machine.specs.Evaluate.{Setting, Invoke}
 
 -- ---- the caller waits
--- its variables from the k-th declaration on, n of them, put on the stack and undeclared
-unfoldable pub suspendFrom : ℕ → ℕ → ℕ → Act (Unit {0})
-suspendFrom top k zero = give tt
-suspendFrom top k (suc n) = do
-  slot ← load (orderPlace k)
-  w ← load (valuePlace slot)
-  store (argumentPlace (top + k)) (waitingWord slot w)
-  store (valuePlace slot) 0
-  suspendFrom top (k + 1) n
-
--- all n of them; 20 if the stack is full, as with arguments
-unfoldable pub suspend : ℕ → ℕ → ℕ → Act (Unit {0})
-suspend top n p = do
-  refuse (ltb stackWords (top + n)) 20 p
-  suspendFrom top 0 n
+-- what belongs to a call: from a counter to its word, and back
+unfoldable pub keep : Act (Unit {0})
+keep = do
   c ← load callsUsed
-  store (framePlace c) (frameWord top n)
+  f ← load frame
+  store (callPlace c) f
+  n ← load declared
+  store (callPlace c + 1) n
+  w ← load running
+  store (callPlace c + 2) w
+  u ← load loopUnit
+  store (callPlace c + 3) u
+
+unfoldable pub recall : ℕ → Act (Unit {0})
+recall c = do
+  f ← load (callPlace c)
+  store frame f
+  n ← load (callPlace c + 1)
+  store declared n
+  w ← load (callPlace c + 2)
+  store running w
+  u ← load (callPlace c + 3)
+  store loopUnit u
+
+-- ---- a frame from top on
+-- its k-th word: m parameters are declared and hold none, the k-th as the variable numbered k
+unfoldable pub firstWord : ℕ → ℕ → ℕ
+firstWord m k = if ltb k m then (λ _. packed Nothing + 2 ^ 48 * (k % 65536)) else λ _. 0
+
+-- n words from the k-th on
+unfoldable pub frameFrom : ℕ → ℕ → ℕ → ℕ → Act (Unit {0})
+frameFrom top m k zero = give tt
+frameFrom top m k (suc n) = store (argumentPlace (top + k)) (firstWord m k) >> frameFrom top m (k + 1) n
+
+-- all of it, n words with m parameters; 20 if the stack is full, as with arguments
+unfoldable pub openFrame : ℕ → ℕ → ℕ → ℕ → Act (Unit {0})
+openFrame top m n p = do
+  refuse (ltb stackWords (top + n)) 20 p
+  frameFrom top m 0 n
+  store frame top
+  store declared m
   store argumentsHeld (top + n)
-  store declared 0
 
--- ---- parameters, n of them, whose slots stand in the code from place a on
--- declared: 60 if two have one name
-unfoldable pub declareFrom : List ℕ → ℕ → ℕ → ℕ → Act (Unit {0})
-declareFrom code a zero p = give tt
-declareFrom code a (suc n) p = declare (getD code a 0) p >> declareFrom code (a + 1) n p
+-- ---- parameters assigned one by one, from the k-th on, n of them
+unfoldable pub assignFrom : List ℕ → ℕ → ℕ → ℕ → ℕ → Act (Unit {0})
+assignFrom g base k zero p = give tt
+assignFrom g base k (suc n) p = do
+  w ← load (argumentPlace (base + k))
+  assigning g p k w
+  assignFrom g base (k + 1) n p
 
--- assigned one by one
-unfoldable pub assignFrom : List ℕ → List ℕ → ℕ → ℕ → ℕ → ℕ → Act (Unit {0})
-assignFrom g code a base zero p = give tt
-assignFrom g code a base (suc n) p = do
-  w ← load (argumentPlace base)
-  assigning g p (getD code a 0) w
-  assignFrom g code (a + 1) (base + 1) n p
-
--- ---- the call begins, n variables being declared: all that is asked, in its order
-unfoldable pub begin : List ℕ → List ℕ → ℕ → ℕ → ℕ → ℕ → ℕ → Act (Unit {0})
-begin g code callee top n p base =
+-- ---- the call begins: all that is asked, in its order
+unfoldable pub begin : List ℕ → List ℕ → ℕ → ℕ → ℕ → ℕ → Act (Unit {0})
+begin g code callee top p base =
     let d = getD code (tablePlace callee) 0 in do
       refuse (eqb d 0) 20 p
       refuse (not (eqb (top - base) (parametersIn d))) 20 p
-      suspend top n p
-      store running (callee + 1)
-      declareFrom code (startIn d) (parametersIn d) p
+      refuse (eqb (frameIn d) 0) 60 p
+      keep
       spend callsUsed (callsGranted g) 1 81 p
+      openFrame top (parametersIn d) (frameIn d) p
+      store running (callee + 1)
       store loopUnit 0
-      assignFrom g code (startIn d) base (parametersIn d) p
+      assignFrom g base 0 (parametersIn d) p
 
 -- ---- the caller goes on
--- the variables of the call that returns, from the k-th declaration on, n of them, undeclared
-unfoldable pub undeclareFrom : ℕ → ℕ → Act (Unit {0})
-undeclareFrom k zero = give tt
-undeclareFrom k (suc n) = do
-  slot ← load (orderPlace k)
-  store (valuePlace slot) 0
-  undeclareFrom (k + 1) n
-
--- the caller's, taken from the stack
-unfoldable pub resumeFrom : ℕ → ℕ → ℕ → Act (Unit {0})
-resumeFrom top k zero = give tt
-resumeFrom top k (suc n) = do
-  w ← load (argumentPlace (top + k))
-  store (orderPlace k) (slotIn w)
-  store (valuePlace (slotIn w)) (wordIn w)
-  resumeFrom top (k + 1) n
-
-unfoldable pub resume : ℕ → ℕ → ℕ → ℕ → ℕ → Act (Unit {0})
-resume top n caller unit base = do
-  m ← load declared
-  undeclareFrom 0 m
-  resumeFrom top 0 n
-  store declared n
-  store running caller
-  store loopUnit unit
+unfoldable pub resume : ℕ → Act (Unit {0})
+resume base = do
   c ← load callsUsed
   store callsUsed (c - 1)
+  recall (c - 1)
   dropTo base
 
 -- ---- the call
@@ -107,10 +104,7 @@ unfoldable pub procedureAt : (ℕ → ℕ → Act Flow) → Setting → Invoke
 procedureAt body e callee p base =
     let d = getD (e .code) (tablePlace callee) 0 in do
       top ← load argumentsHeld
-      n ← load declared
-      caller ← load running
-      unit ← load loopUnit
-      begin (e .grants) (e .code) callee top n p base
+      begin (e .grants) (e .code) callee top p base
       flow ← body (startIn d + parametersIn d) (bodyIn d)
-      resume top n caller unit base
+      resume base
       resultOf flow

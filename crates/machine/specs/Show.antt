@@ -6,10 +6,11 @@ use Rattle.meaning.specs.Basics.{if_then_else_}
 use Rattle.machine.specs.declared.Value.{Value}
 use Rattle.machine.specs.declared.Value.the-variants.{Integer, Text, Boolean, Nothing, Table, Shape}
 use Rattle.machine.specs.Words.{unpacked}
-use Rattle.machine.specs.Layout.{declared, linesLength, shapesGranted, valuePlace, orderPlace}
+use Rattle.machine.specs.Layout.{declared, linesLength, frame, shapesGranted}
 use Rattle.machine.specs.Act.{Raw, Act, give, load, store, held, count, _>>=_, _>>_}
 use Rattle.machine.specs.Shapes.{isGroupAt, destroyedAt}
 use Rattle.machine.specs.Groups.{componentAt, firstAt, countAt, walkIn}
+use Rattle.machine.specs.Variables.{holdingOf}
 
 -- ---- figures by their shapes' numbers
 -- what n components from slot k on show, `inside` of each that is not destroyed
@@ -49,18 +50,18 @@ showIn size g Nothing = give tt
 showIn size g (Table t) = give tt
 showIn size g (Shape i) = show size g i
 
--- the shapes that the variables from the k-th declaration on hold, n of them
-unfoldable pub showFrom : (Raw → ℕ → ℕ) → List ℕ → ℕ → ℕ → Act (Unit {0})
-showFrom size g k zero = give tt
-showFrom size g k (suc n) = do
-  slot ← load (orderPlace k)
-  w ← load (valuePlace slot)
-  showIn size g (unpacked w)
-  showFrom size g (k + 1) n
+-- the shapes that the variables from the k-th declaration on hold, n of them, in the frame f
+unfoldable pub showFrom : (Raw → ℕ → ℕ) → List ℕ → ℕ → ℕ → ℕ → Act (Unit {0})
+showFrom size g f k zero = give tt
+showFrom size g f k (suc n) = do
+  ws ← held
+  showIn size g (unpacked (holdingOf ws f k))
+  showFrom size g f (k + 1) n
 
 -- of all of main's variables
 unfoldable pub showScene : (Raw → ℕ → ℕ) → List ℕ → Act (Unit {0})
 showScene size g = do
   store linesLength 0
+  f ← load frame
   n ← load declared
-  showFrom size g 0 n
+  showFrom size g f 0 n

@@ -1,4 +1,4 @@
--- A stack of words: the arguments of calls under way, and the variables of calls that wait.
+-- A stack of words: the arguments and the variables of calls under way.
 use Prim.Native.Nat.{ℕ, _+_}
 use mathlib.Core.List.{List}
 use lib.ListN.{getD}

@@ -1,5 +1,5 @@
--- Variables by slot: a word of 0 is a variable not declared. The order of declarations stands apart. The variables of a call that waits stand on the
--- stack.
+-- Variables by number, in the frame of their call: words one after the other on the stack. A word's lower 48 bits are what the variable of that number holds, 0 if
+-- it is not declared; its upper bits are a list of their own, the variables' numbers in the order of their declarations.
 use Prim.Native.Nat.{ℕ, zero, suc, _+_, _-_, _*_, _/_, _%_, _^_}
 use mathlib.Core.Bool.{Bool, false, not}
 use mathlib.Core.List.{List}
@@ -9,10 +9,11 @@ use Rattle.meaning.specs.Basics.{if_then_else_}
 use Rattle.machine.specs.declared.Value.{Value}
 use Rattle.machine.specs.declared.Value.the-variants.{Integer, Text, Boolean, Nothing, Table, Shape}
 use Rattle.machine.specs.Words.{packed, unpacked}
-use Rattle.machine.specs.Layout.{declared, callsUsed, framePlace, valuePlace, orderPlace, argumentPlace}
+use Rattle.machine.specs.Layout.{declared, callsUsed, frame, callPlace, argumentPlace}
 use Rattle.machine.specs.Act.{Act, give, refuse, load, store, held, _>>=_, _>>_}
 use Rattle.machine.specs.Shapes.{destroyedAt}
 use Rattle.machine.specs.Groups.{destroyLiving}
+use Rattle.machine.specs.Stack.{argumentAt}
 
 -- a destroyed shape is 30
 unfoldable pub isDead : List ℕ → Value → Bool
@@ -26,56 +27,72 @@ isDead ws (Shape i) = destroyedAt ws i
 unfoldable pub usable : ℕ → Value → Act (Unit {0})
 usable p v r = refuse (isDead (r .words) v) 30 p r
 
--- ---- variables
+-- ---- the words of a frame
+abbrev pub wordIn : ℕ → ℕ
+wordIn w = w % 2 ^ 48
+
+abbrev pub orderIn : ℕ → ℕ
+orderIn w = w / 2 ^ 48
+
+-- the same word with another value, and with another number
+unfoldable pub withWord : ℕ → ℕ → ℕ
+withWord w v = v % 2 ^ 48 + 2 ^ 48 * orderIn w
+
+unfoldable pub withOrder : ℕ → ℕ → ℕ
+withOrder w n = wordIn w + 2 ^ 48 * (n % 65536)
+
+-- in the frame f: what the variable numbered n holds, the number of the k-th declaration's, and what that holds
+abbrev pub holdingAt : List ℕ → ℕ → ℕ → ℕ
+holdingAt ws f n = wordIn (argumentAt ws (f + n))
+
+abbrev pub numberOf : List ℕ → ℕ → ℕ → ℕ
+numberOf ws f k = orderIn (argumentAt ws (f + k))
+
+abbrev pub holdingOf : List ℕ → ℕ → ℕ → ℕ
+holdingOf ws f k = holdingAt ws f (numberOf ws f k)
+
+-- ---- variables of the call under way
+abbrev pub holding : List ℕ → ℕ → ℕ
+holding ws n = holdingAt ws (getD ws frame 0) n
+
 abbrev pub isDeclared : List ℕ → ℕ → Bool
-isDeclared ws slot = not (eqb (getD ws (valuePlace slot) 0) 0)
+isDeclared ws n = not (eqb (holding ws n) 0)
 
 -- what a variable holds: 50 if it is not declared
 unfoldable pub variable : ℕ → ℕ → Act Value
-variable p slot = do
-  w ← load (valuePlace slot)
-  refuse (eqb w 0) 50 p
-  usable p (unpacked w)
-  give (unpacked w)
+variable p n = do
+  ws ← held
+  refuse (eqb (holding ws n) 0) 50 p
+  usable p (unpacked (holding ws n))
+  give (unpacked (holding ws n))
+
+-- a variable holds the value of this word from now on
+unfoldable pub setVariable : ℕ → ℕ → Act (Unit {0})
+setVariable n v = do
+  f ← load frame
+  w ← load (argumentPlace (f + n))
+  store (argumentPlace (f + n)) (withWord w v)
+
+-- the k-th declaration is that of the variable numbered n
+unfoldable pub setOrder : ℕ → ℕ → Act (Unit {0})
+setOrder k n = do
+  f ← load frame
+  w ← load (argumentPlace (f + k))
+  store (argumentPlace (f + k)) (withOrder w n)
 
 -- a declaration: 60 if it is declared
 unfoldable pub declare : ℕ → ℕ → Act (Unit {0})
-declare slot p = do
-  w ← load (valuePlace slot)
-  refuse (not (eqb w 0)) 60 p
+declare n p = do
+  ws ← held
+  refuse (isDeclared ws n) 60 p
+  setVariable n (packed Nothing)
   k ← load declared
-  store (valuePlace slot) (packed Nothing)
-  store (orderPlace k) slot
+  setOrder k n
   store declared (k % 8192 + 1)
 
 -- declared, if it is not
 unfoldable pub declareOnce : ℕ → Act (Unit {0})
-declareOnce slot = held >>= λ ws. if isDeclared ws slot then (λ _. give tt) else λ _. declare slot 0
-
--- a variable holds the value of this word from now on
-unfoldable pub setVariable : ℕ → ℕ → Act (Unit {0})
-setVariable slot w = store (valuePlace slot) w
-
--- ---- calls that wait
--- a variable that waits: its word in 48 bits, and its slot
-unfoldable pub waitingWord : ℕ → ℕ → ℕ
-waitingWord slot w = w % 2 ^ 48 + 2 ^ 48 * (slot % 8192)
-
-abbrev pub wordIn : ℕ → ℕ
-wordIn w = w % 2 ^ 48
-
-abbrev pub slotIn : ℕ → ℕ
-slotIn w = w / 2 ^ 48
-
--- a call that waits: where its variables stand on the stack, and how many there are
-unfoldable pub frameWord : ℕ → ℕ → ℕ
-frameWord top n = top + 1048576 * n
-
-abbrev pub topIn : ℕ → ℕ
-topIn f = f % 1048576
-
-abbrev pub countIn : ℕ → ℕ
-countIn f = f / 1048576
+declareOnce n = held >>= λ ws. if isDeclared ws n then (λ _. give tt) else λ _. declare n 0
 
 -- ---- the scene
 -- the shape that a value is, destroyed with all in it
@@ -87,35 +104,28 @@ destroyIn g p Nothing = give tt
 destroyIn g p (Table t) = give tt
 destroyIn g p (Shape i) = destroyLiving g p i
 
--- the shapes that the variables from the k-th declaration on hold, n of them, destroyed
-unfoldable pub clearFrom : List ℕ → ℕ → ℕ → ℕ → Act (Unit {0})
-clearFrom g p k zero = give tt
-clearFrom g p k (suc n) = do
-  slot ← load (orderPlace k)
-  w ← load (valuePlace slot)
-  destroyIn g p (unpacked w)
-  clearFrom g p (k + 1) n
-
--- the same of the variables on the stack from place k on, n of them
-unfoldable pub clearWaiting : List ℕ → ℕ → ℕ → ℕ → Act (Unit {0})
-clearWaiting g p k zero = give tt
-clearWaiting g p k (suc n) = do
-  w ← load (argumentPlace k)
-  destroyIn g p (unpacked (wordIn w))
-  clearWaiting g p (k + 1) n
+-- the shapes that the variables from the k-th declaration on hold, n of them, in the frame f, destroyed
+unfoldable pub clearFrom : List ℕ → ℕ → ℕ → ℕ → ℕ → Act (Unit {0})
+clearFrom g p f k zero = give tt
+clearFrom g p f k (suc n) = do
+  ws ← held
+  destroyIn g p (unpacked (holdingOf ws f k))
+  clearFrom g p f (k + 1) n
 
 -- of n calls that wait, from the d-th on
-unfoldable pub clearFrames : List ℕ → ℕ → ℕ → ℕ → Act (Unit {0})
-clearFrames g p d zero = give tt
-clearFrames g p d (suc n) = do
-  f ← load (framePlace d)
-  clearWaiting g p (topIn f) (countIn f)
-  clearFrames g p (d + 1) n
+unfoldable pub clearCalls : List ℕ → ℕ → ℕ → ℕ → Act (Unit {0})
+clearCalls g p d zero = give tt
+clearCalls g p d (suc n) = do
+  f ← load (callPlace d)
+  m ← load (callPlace d + 1)
+  clearFrom g p f 0 m
+  clearCalls g p (d + 1) n
 
 -- of all calls under way, from main on
 unfoldable pub clearScene : List ℕ → ℕ → Act (Unit {0})
 clearScene g p = do
   c ← load callsUsed
-  clearFrames g p 1 (c - 1)
+  clearCalls g p 1 (c - 1)
+  f ← load frame
   n ← load declared
-  clearFrom g p 0 n
+  clearFrom g p f 0 n

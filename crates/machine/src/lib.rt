@@ -172,11 +172,19 @@ pub mod procedures {
     pub const MAIN: u64 = 12;
 }
 
-// A variable that waits on the stack: its slot counts so much. A call that waits: how many variables it has counts so much.
+// A word of a frame: what the variable holds is below this, and the number in the order of declarations counts so much. Which of a call's four words it is.
 pub mod frames {
-    pub const VARIABLE: u64 = 281474976710656;
+    pub const ORDER: u64 = 281474976710656;
 
-    pub const COUNT: u64 = 1048576;
+    pub const NUMBERS: usize = 65536;
+
+    pub const FRAME: usize = 0;
+
+    pub const DECLARED: usize = 1;
+
+    pub const RUNNING: usize = 2;
+
+    pub const LOOP_UNIT: usize = 3;
 }
 
 // Where the counters stand in the words that are lent, and the grants among the five.
@@ -208,6 +216,8 @@ pub mod counters {
     pub const LOOP_UNIT: usize = 12;
 
     pub const LINES_LENGTH: usize = 13;
+
+    pub const FRAME: usize = 14;
 }
 
 pub mod granted {
@@ -222,22 +232,20 @@ pub mod granted {
     pub const CALLS: usize = 4;
 }
 
-// Where the words of calls that wait, variables by slot, their slots in the order of declarations and the stack begin, and how many of each there
-// are; how many words stand before the shapes; and how many a shape and an entry have.
+// Where the words of calls that wait and the stack begin, and how many there are; how many words stand before the shapes; and how many a shape and an
+// entry have. Names have so many slots.
 pub mod layout {
-    pub const FRAMES: usize = 64;
+    pub const CALLS: usize = 64;
+
+    pub const CALL_WORDS: usize = 4;
 
     pub const SLOTS: usize = 8192;
 
     pub const STACK_WORDS: usize = 262144;
 
-    pub const FIRST_FRAME: usize = 16;
+    pub const FIRST_CALL: usize = 16;
 
-    pub const FIRST_VALUE: usize = FIRST_FRAME + FRAMES;
-
-    pub const FIRST_ORDER: usize = FIRST_VALUE + SLOTS;
-
-    pub const FIRST_ARGUMENT: usize = FIRST_ORDER + SLOTS;
+    pub const FIRST_ARGUMENT: usize = FIRST_CALL + CALL_WORDS * CALLS;
 
     pub const FIXED_WORDS: usize = FIRST_ARGUMENT + STACK_WORDS;
 

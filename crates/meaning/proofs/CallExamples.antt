@@ -86,14 +86,14 @@ admission =
     ∷ lending drawing (granting 65 0) long gives number 71 0 0 0
     ∷ lending checking (granting 0 0) long gives number 71 0 0 0
     ∷ lending checking (granting 65 0) long gives number 71 0 0 0
-    ∷ lending drawing some (8193 ∷ 16384 ∷ 278825 ∷ 5 ∷ []) gives pictured 141 2
-    ∷ lending drawing some (8192 ∷ 16384 ∷ 278825 ∷ 5 ∷ []) gives number 71 0 0 0
-    ∷ lending drawing some (8193 ∷ 16383 ∷ 278825 ∷ 5 ∷ []) gives number 71 0 0 0
-    ∷ lending drawing some (8193 ∷ 16384 ∷ 278824 ∷ 5 ∷ []) gives number 71 0 0 0
-    ∷ lending drawing some (8193 ∷ 16384 ∷ 278825 ∷ 4 ∷ []) gives number 71 0 0 0
-    ∷ lending drawing some (8193 ∷ 16384 ∷ 278825 ∷ []) gives number 71 0 0 0
-    ∷ lending drawing (only 99 0 0 0) (8193 ∷ 16384 ∷ 278608 ∷ 0 ∷ []) gives pictured 141 2
-    ∷ lending drawing (only 99 0 0 0) (8193 ∷ 16384 ∷ 278607 ∷ 0 ∷ []) gives number 71 0 0 0
+    ∷ lending drawing some (8193 ∷ 16384 ∷ 262633 ∷ 5 ∷ []) gives pictured 141 2
+    ∷ lending drawing some (8192 ∷ 16384 ∷ 262633 ∷ 5 ∷ []) gives number 71 0 0 0
+    ∷ lending drawing some (8193 ∷ 16383 ∷ 262633 ∷ 5 ∷ []) gives number 71 0 0 0
+    ∷ lending drawing some (8193 ∷ 16384 ∷ 262632 ∷ 5 ∷ []) gives number 71 0 0 0
+    ∷ lending drawing some (8193 ∷ 16384 ∷ 262633 ∷ 4 ∷ []) gives number 71 0 0 0
+    ∷ lending drawing some (8193 ∷ 16384 ∷ 262633 ∷ []) gives number 71 0 0 0
+    ∷ lending drawing (only 99 0 0 0) (8193 ∷ 16384 ∷ 262416 ∷ 0 ∷ []) gives pictured 141 2
+    ∷ lending drawing (only 99 0 0 0) (8193 ∷ 16384 ∷ 262415 ∷ 0 ∷ []) gives number 71 0 0 0
     ∷ lending checking some (8193 ∷ 16384 ∷ []) gives pictured 0 0
     ∷ lending checking some (8192 ∷ 16384 ∷ []) gives number 71 0 0 0
     ∷ lending checking some (8193 ∷ 16383 ∷ []) gives number 71 0 0 0

@@ -38,7 +38,7 @@ abbrev pub readingSlices : List ℕ → List ℕ
 readingSlices ls = 8193 ∷ 16384 ∷ ls
 
 abbrev pub runningSlices : Grants → List ℕ
-runningSlices g = (278608 + 5 * g .shapes + (5 + g .calls) * g .entries) ∷ g .textBytes ∷ []
+runningSlices g = (262416 + 5 * g .shapes + (5 + g .calls) * g .entries) ∷ g .textBytes ∷ []
 
 unfoldable pub needed : Operation → Grants → List ℕ
 needed checking g = readingSlices []

@@ -1,5 +1,5 @@
 -- What the functions on calls ask, and how they answer.
-use Prim.Native.Nat.{ℕ, _+_, _^_, _<_}
+use Prim.Native.Nat.{ℕ, _^_, _<_}
 use mathlib.Core.List.{List}
 use Rattle.machine.specs.declared.Value.{Value}
 use Rattle.machine.specs.declared.Value.the-variants.{Nothing}
@@ -9,12 +9,6 @@ use Rattle.machine.specs.Act.{Act, _>>=_, _>>_, give}
 -- an act without a result, answered by none
 unfoldable pub answered : Act (Unit {0}) → Act Value
 answered act = act >> give Nothing
-
--- n parameters stand in the code from a on, n arguments on the stack from base on
-pub record Parameters (g ws : List ℕ) (a base n : ℕ) : Type 0 where
-  pub room : Room g ws
-  pub slots : a + n < 2 ^ 64
-  pub arguments : base + n < 2 ^ 64
 
 -- the slot of a name
 pub record Callable (g ws : List ℕ) (callee : ℕ) : Type 0 where

@@ -6,26 +6,18 @@ use machine::counters;
 use machine::granted;
 ghost use Rattle.machine.specs.Act.{Answers};
 ghost use Rattle.machine.specs.Procedures.{assignFrom, begin};
-ghost use Rattle.procedures.specs.Begun.{answered, Parameters, Callable};
+ghost use Rattle.machine.specs.Layout.{Room};
+ghost use Rattle.procedures.specs.Begun.{answered, Callable};
 
-// Assigns the n parameters whose slots stand in the code from place a on the arguments from the one numbered base on.
-fn assign_parameters(
-    words: &mut [u64],
-    code: &[u64],
-    grants: &[u64; 5],
-    a: usize,
-    base: usize,
-    n: usize,
-    p: u64,
-) -> Answer
-    requires { ⌜ Parameters (now grants) (now words) a base n ⌝ }
-    ensures { λ r. ⌜ Answers (now (words .entry)) (answered (assignFrom (now (grants .entry)) (now (code .entry)) a base n p)) r (now (words .exit)) ⌝ }
+// Assigns the n parameters the arguments from the one numbered base on.
+fn assign_parameters(words: &mut [u64], grants: &[u64; 5], base: usize, n: usize, p: u64) -> Answer
+    requires { ⌜ Room (now grants) (now words) ⌝ }
+    ensures { λ r. ⌜ Answers (now (words .entry)) (answered (assignFrom (now (grants .entry)) base 0 n p)) r (now (words .exit)) ⌝ }
 {
     let mut k = 0;
     while k < n {
-        let slot = stores::words::word_at(code, a + k) as usize;
-        let w = stores::arguments::argument(words, base + k);
-        match effects::assign(words, grants, slot, w, p) {
+        let w = words[stores::arguments::place_above(base, k)];
+        match effects::assign(words, grants, k, w, p) {
             Flow::Stopped(m, q) => return Answer::Bad(m, q),
             _ => {}
         }
@@ -34,20 +26,18 @@ fn assign_parameters(
     Answer::Good(Value::Nothing)
 }
 
-// All that a call of the procedure asks whose name has the slot callee, in its order. Its arguments are on the stack from base up to top; n
-// variables of the caller are declared, and wait from now on.
+// All that a call of the procedure asks whose name has the slot callee, in its order. Its arguments are on the stack from base up to top.
 pub fn begin(
     words: &mut [u64],
     code: &[u64],
     grants: &[u64; 5],
     callee: usize,
     top: usize,
-    n: usize,
     p: u64,
     base: usize,
 ) -> Answer
     requires { ⌜ Callable (now grants) (now words) callee ⌝ }
-    ensures { λ r. ⌜ Answers (now (words .entry)) (answered (begin (now (grants .entry)) (now (code .entry)) callee top n p base)) r (now (words .exit)) ⌝ }
+    ensures { λ r. ⌜ Answers (now (words .entry)) (answered (begin (now (grants .entry)) (now (code .entry)) callee top p base)) r (now (words .exit)) ⌝ }
 {
     let d = stores::words::word_at(code, code::table_place(callee));
     if d == 0 {
@@ -57,19 +47,20 @@ pub fn begin(
     if arithmetic::lowered(top, base) != m {
         return Answer::Bad(20, p);
     }
-    if !stores::calls::suspend(words, top, n) {
-        return Answer::Bad(20, p);
-    }
-    words[counters::RUNNING] = callee as u64 + 1;
-    let a = code::start_of(d);
-    let limit = grants[granted::CALLS];
-    if !stores::calls::declare_parameters(words, code, a, m) {
+    let n = code::frame_of(d);
+    if n == 0 {
         return Answer::Bad(60, p);
     }
+    stores::calls::keep(words);
+    let limit = grants[granted::CALLS];
     if !stores::counters::spend_one(words, counters::CALLS, limit) {
         return Answer::Bad(81, p);
     }
+    if !stores::calls::open_frame(words, top, m, n) {
+        return Answer::Bad(20, p);
+    }
+    words[counters::RUNNING] = callee as u64 + 1;
     words[counters::LOOP_UNIT] = 0;
-    let r = assign_parameters(words, code, grants, a, base, m, p);
+    let r = assign_parameters(words, grants, base, m, p);
     r
 }

@@ -13,7 +13,7 @@ use Rattle.meaning.specs.Tree.{Operator, concatenate, add, subtract, multiply, 
 use Rattle.meaning.specs.Grammar.{kindAt, expect, operatorOf, Inside, ReadExpression, argumentsFrom, arguments, primary, operand, operated, expressionIn, expression}
 use Rattle.names.specs.Prepared.{prepared}
 use Rattle.machine.specs.Opcodes.{word, tagNumber, tagString, tagName, tagOf}
-use Rattle.code.specs.Code.{codeOf, codeOfAll}
+use Rattle.code.specs.Code.{codeOf, codeOfAll, argumentsWith, codeWith}
 use Rattle.expressions.specs.Words as Words
 use Rattle.reader.specs.Coded.{wordsOf, mapGot, targetNumber, pieceOf, insideOf}
 use Rattle.reader.specs.Sane.{Sane}
@@ -66,7 +66,7 @@ module _ (ts : List Token) (sane : Sane ts) where
 
   pub arguments-from-maps : {g : Words.ReadPiece} {f : ReadExpression} → Reads ts g f
       → (rounds i : ℕ) → Maps (λ es. codeOfAll es ts) (Words.argumentsFrom rounds g (wordsOf ts) i) (argumentsFrom rounds f ts i)
-  unfolding argumentsFrom Words.argumentsFrom pieceOf codeOfAll
+  unfolding argumentsFrom Words.argumentsFrom pieceOf argumentsWith
   arguments-from-maps r zero i = maps-wrong
   arguments-from-maps r (suc rounds) i =
       maps-after _ _ (r i) λ e j _.
@@ -76,14 +76,14 @@ module _ (ts : List Token) (sane : Sane ts) where
 
   pub arguments-maps : {g : Words.ReadPiece} {f : ReadExpression} → Reads ts g f
       → (i : ℕ) → Maps (λ es. codeOfAll es ts) (Words.arguments g (wordsOf ts) i) (arguments f ts i)
-  unfolding arguments Words.arguments codeOfAll
+  unfolding arguments Words.arguments argumentsWith
   arguments-maps r i =
       maps-if _ _ _ _ _ _ (is-at ts sane _ i) (λ _. maps-good refl)
       λ _. rw (length-map ts (prepared ts)) (arguments-from-maps r (suc (length ts - i)) i)
 
   pub primary-maps : {x : Inside Words.ReadPiece} {y : Inside ReadExpression} → Levels (Reads ts) x y
       → (i : ℕ) → Maps (pieceOf ts) (Words.primary x (wordsOf ts) i) (primary y ts i)
-  unfolding primary Words.primary pieceOf codeOf targetNumber
+  unfolding primary Words.primary pieceOf codeWith targetNumber
   primary-maps l i =
       maps-if _ _ _ _ _ _ (positive-at ts sane i)
       (λ e. maps-good (ap (λ n. Words.piece (word tagNumber 1 n ∷ []) 0) (positive-bits ts sane i e)))
@@ -109,7 +109,7 @@ module _ (ts : List Token) (sane : Sane ts) where
 
   pub operand-maps : {x : Inside Words.ReadPiece} {y : Inside ReadExpression} → Levels (Reads ts) x y
       → (i : ℕ) → Maps (pieceOf ts) (Words.operand x (wordsOf ts) i) (operand y ts i)
-  unfolding operand Words.operand pieceOf codeOf targetNumber
+  unfolding operand Words.operand pieceOf codeWith targetNumber
   operand-maps l i =
       maps-after _ _ (primary-maps l i) λ a j _.
       maps-if _ _ _ _ _ _ (is-at ts sane _ j)
@@ -119,7 +119,7 @@ module _ (ts : List Token) (sane : Sane ts) where
   pub operated-maps : {x : Inside Words.ReadPiece} {y : Inside ReadExpression} → Levels (Reads ts) x y
       → (o : Option Operator) (a : Expression) (j : ℕ)
       → Maps (pieceOf ts) (Words.operated (tagFor o) x (wordsOf ts) (pieceOf ts a) j) (operated o y ts a j)
-  unfolding operated Words.operated tagFor if_then_else_ pieceOf codeOf targetNumber
+  unfolding operated Words.operated tagFor if_then_else_ pieceOf codeWith targetNumber
   operated-maps l none a j = maps-good refl
   operated-maps l (some o) a j =
       rw (tag-nonzero o) (maps-after _ _ (operand-maps l (j + 1)) λ b m _. maps-good refl)

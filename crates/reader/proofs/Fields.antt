@@ -22,7 +22,7 @@ use Rattle.meaning.specs.Library.{Library, drawLine, drawEllipse, drawBox, draw
 use Rattle.tokens.specs.Words.{sizeOf, tokenIn}
 use Rattle.names.specs.Prepared.{home, numberOf, libraryNumber, procedureNumber, payload, prepared, preparedAll}
 use Rattle.machine.specs.Opcodes.{word, tagIn, sizeIn, numberIn, tagOf}
-use Rattle.code.specs.Code.{partOf, joined, codeOf, codeOfAll, codeOfStatement}
+use Rattle.code.specs.Code.{slotOf, partOf, joined, codeOf, codeOfStatement, codeWith, argumentsWith, statementWith}
 use Rattle.expressions.specs.Words as Words
 use Rattle.reader.specs.Coded.{wordsOf}
 use Rattle.reader.specs.Sane.{Sane}
@@ -278,22 +278,29 @@ joined-rooted : (tag : ℕ) (a b : List ℕ) → tag < 256 → Rooted (joined ta
 joined-rooted tag a b h =
     rw (← append-assoc) (rooted (a ++ b) tag (length a + length b + 1) (length b) h (rw length-append))
 
+-- whatever the numbers of its variables
+pub code-rooted-with : (v : List ℕ → ℕ) (e : Expression) (ts : List Token) → Rooted (codeWith v e ts)
+unfolding codeWith
+code-rooted-with v (number z) ts = rooted [] _ 1 _ (omega arith) refl
+code-rooted-with v (string t) ts = rooted [] _ 1 _ (omega arith) refl
+code-rooted-with v nothing ts = rooted [] _ 1 _ (omega arith) refl
+code-rooted-with v (truth b) ts = rooted [] _ 1 _ (omega arith) refl
+code-rooted-with v (name x) ts = rooted [] _ 1 _ (omega arith) refl
+code-rooted-with v (table e) ts = rooted (codeWith v e ts) _ _ _ (omega arith) refl
+code-rooted-with v (entry a b) ts = joined-rooted _ (codeWith v a ts) (codeWith v b ts) (omega arith)
+code-rooted-with v (operation o a b) ts = joined-rooted _ (codeWith v a ts) (codeWith v b ts) (tag-small o)
+code-rooted-with v (call f es) ts = rooted (argumentsWith v es ts) _ _ _ (omega arith) refl
+code-rooted-with v (paren e) ts = code-rooted-with v e ts
+
+pub code-some-with : (v : List ℕ → ℕ) (e : Expression) (ts : List Token) → 0 < length (codeWith v e ts)
+code-some-with v e ts = let r = code-rooted-with v e ts in omega (arith, simp length-append at (ap length (r .whole)))
+
 pub code-rooted : (e : Expression) (ts : List Token) → Rooted (codeOf e ts)
-unfolding codeOf
-code-rooted (number z) ts = rooted [] _ 1 _ (omega arith) refl
-code-rooted (string t) ts = rooted [] _ 1 _ (omega arith) refl
-code-rooted nothing ts = rooted [] _ 1 _ (omega arith) refl
-code-rooted (truth b) ts = rooted [] _ 1 _ (omega arith) refl
-code-rooted (name x) ts = rooted [] _ 1 _ (omega arith) refl
-code-rooted (table e) ts = rooted (codeOf e ts) _ _ _ (omega arith) refl
-code-rooted (entry a b) ts = joined-rooted _ (codeOf a ts) (codeOf b ts) (omega arith)
-code-rooted (operation o a b) ts = joined-rooted _ (codeOf a ts) (codeOf b ts) (tag-small o)
-code-rooted (call f es) ts = rooted (codeOfAll es ts) _ _ _ (omega arith) refl
-code-rooted (paren e) ts = code-rooted e ts
+code-rooted e ts = code-rooted-with (slotOf ts) e ts
 
 module _ (e : Expression) (ts : List Token) where
   pub code-some : 0 < length (codeOf e ts)
-  code-some = let r = code-rooted e ts in omega (arith, simp length-append at (ap length (r .whole)))
+  code-some = code-some-with (slotOf ts) e ts
 
   pub root-size : length (codeOf e ts) < 16777216 → sizeIn (getD (codeOf e ts) (length (codeOf e ts) - 1) 0) ≡ length (codeOf e ts)
   root-size h =
@@ -315,21 +322,27 @@ pub record Headed (c : List ℕ) : Type 0 where
 has-head : (tag size n : ℕ) (rest : List ℕ) → tag < 256 → size ≡ length rest + 1 → Headed (word tag size n ∷ rest)
 has-head tag size n rest h e = record { rest = rest; tag = tag; number = n; small = h; whole = rw (e, add-one) }
 
+pub statement-headed-with : (v : List ℕ → ℕ) (s : Statement) (ts : List Token) → Headed (statementWith v s ts)
+unfolding statementWith
+statement-headed-with v (declare p x) ts = has-head _ _ _ _ (omega arith) refl
+statement-headed-with v (assign p x e) ts = has-head _ _ _ _ (omega arith) refl
+statement-headed-with v (update p a b e) ts = has-head _ _ _ _ (omega arith) refl
+statement-headed-with v (when p e s) ts = has-head _ _ _ _ (omega arith) refl
+statement-headed-with v (while p e s) ts = has-head _ _ _ _ (omega arith) refl
+statement-headed-with v (foreach p x e s) ts = has-head _ _ _ _ (omega arith) refl
+statement-headed-with v (return p e) ts = has-head _ _ _ _ (omega arith) refl
+statement-headed-with v (block p ss) ts = has-head _ _ _ _ (omega arith) refl
+statement-headed-with v (act p e) ts = has-head _ _ _ _ (omega arith) refl
+
+pub statement-some-with : (v : List ℕ → ℕ) (s : Statement) (ts : List Token) → 0 < length (statementWith v s ts)
+statement-some-with v s ts = let h = statement-headed-with v s ts in omega (arith, ap length (h .whole))
+
 pub statement-headed : (s : Statement) (ts : List Token) → Headed (codeOfStatement s ts)
-unfolding codeOfStatement
-statement-headed (declare p x) ts = has-head _ _ _ _ (omega arith) refl
-statement-headed (assign p x e) ts = has-head _ _ _ _ (omega arith) refl
-statement-headed (update p a b e) ts = has-head _ _ _ _ (omega arith) refl
-statement-headed (when p e s) ts = has-head _ _ _ _ (omega arith) refl
-statement-headed (while p e s) ts = has-head _ _ _ _ (omega arith) refl
-statement-headed (foreach p x e s) ts = has-head _ _ _ _ (omega arith) refl
-statement-headed (return p e) ts = has-head _ _ _ _ (omega arith) refl
-statement-headed (block p ss) ts = has-head _ _ _ _ (omega arith) refl
-statement-headed (act p e) ts = has-head _ _ _ _ (omega arith) refl
+statement-headed s ts = statement-headed-with (slotOf ts) s ts
 
 module _ (s : Statement) (ts : List Token) where
   pub statement-some : 0 < length (codeOfStatement s ts)
-  statement-some = let h = statement-headed s ts in omega (arith, ap length (h .whole))
+  statement-some = statement-some-with (slotOf ts) s ts
 
   pub head-size : length (codeOfStatement s ts) < 16777216 → sizeIn (getD (codeOfStatement s ts) 0 0) ≡ length (codeOfStatement s ts)
   head-size small =

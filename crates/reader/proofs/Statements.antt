@@ -13,7 +13,7 @@ use Rattle.meaning.specs.Grammar.{textAt, startAt, expect, skip, Inside, ReadEx
 use Rattle.meaning.specs.Grammar.{beginsStatement, iteration, statementsFrom, statements, statementIn, statement, parametersFrom, parameters, procedure, proceduresFrom}
 use Rattle.names.specs.Prepared.{prepared}
 use Rattle.machine.specs.Opcodes.{tagWhen, tagWhile}
-use Rattle.code.specs.Code.{slotOf, codeOf, codeOfStatement, codeOfStatements, joined, headed}
+use Rattle.code.specs.Code.{slotOf, codeOf, codeOfStatement, codeOfStatements, joined, headed, codeWith, statementWith, statementsWith}
 use Rattle.expressions.specs.Words as Words
 use Rattle.statements.specs.Words as Bodies
 use Rattle.definitions.specs.Words as Definitions
@@ -44,7 +44,7 @@ without-joint tag a b = rw (← append-assoc) (without-last (a ++ b) _)
 
 module _ (ts : List Token) (sane : Sane ts) where
   declaration-maps : (i : ℕ) → Maps (λ s. codeOfStatement s ts) (Bodies.declaration (wordsOf ts) i) (declaration ts i)
-  unfolding declaration Bodies.declaration codeOfStatement
+  unfolding declaration Bodies.declaration statementWith
   declaration-maps i =
       maps-if _ _ _ _ _ _ (is-at ts sane _ (i + 1))
       (λ e. expect-maps ts sane _ (i + 2) _ _ (rw (place-at ts sane i, name-home-at ts sane (i + 1) (eqb-true _ _ e))))
@@ -52,14 +52,14 @@ module _ (ts : List Token) (sane : Sane ts) where
 
   returning-maps : {g : Words.ReadPiece} {f : ReadExpression} → Reads ts g f
       → (i : ℕ) → Maps (λ s. codeOfStatement s ts) (Bodies.returning g (wordsOf ts) i) (returning f ts i)
-  unfolding returning Bodies.returning codeOfStatement pieceOf
+  unfolding returning Bodies.returning statementWith pieceOf
   returning-maps r i =
       maps-after _ _ (r (i + 1)) λ e j _. expect-maps ts sane _ j _ _ (rw (place-at ts sane i))
 
   assignment-maps : {g : Words.ReadPiece} {f : ReadExpression} → Reads ts g f
       → (i j : ℕ) (a : Expression) → Names ts i a
       → Maps (λ s. codeOfStatement s ts) (Bodies.assignment g (wordsOf ts) i (pieceOf ts a) j) (assignment f ts (startAt ts i) j (targetOf a))
-  unfolding assignment Bodies.assignment targetOf pieceOf targetNumber codeOf codeOfStatement if_then_else_
+  unfolding assignment Bodies.assignment targetOf pieceOf targetNumber codeWith statementWith if_then_else_
   assignment-maps r i j (name x) n =
       maps-after _ _ (r (j + 1)) λ e m _. expect-maps ts sane _ m _ _ (rw (place-at ts sane i, name-home-at ts sane i (n .0), n .1))
   assignment-maps r i j (entry a b) n =
@@ -75,7 +75,7 @@ module _ (ts : List Token) (sane : Sane ts) where
 
   simple-maps : {g : Words.ReadPiece} {f : ReadExpression} → Reads ts g f → Spelling ts f
       → (i : ℕ) → Maps (λ s. codeOfStatement s ts) (Bodies.simple g (wordsOf ts) i) (simple f ts i)
-  unfolding simple Bodies.simple codeOfStatement
+  unfolding simple Bodies.simple statementWith
   simple-maps r s i =
       maps-after _ _ (r i) λ a j read.
       maps-if _ _ _ _ _ _ (is-at ts sane _ j)
@@ -110,7 +110,7 @@ module _ (ts : List Token) (sane : Sane ts) where
 
   iteration-maps : {g : Words.ReadPiece} {f : ReadExpression} {x : Inside Bodies.Readers} {y : Inside Readers} → Reads ts g f → Levels (Both ts) x y
       → (i : ℕ) → Maps (λ s. codeOfStatement s ts) (Bodies.iteration g x (wordsOf ts) i) (iteration f y ts i)
-  unfolding iteration Bodies.iteration pieceOf codeOfStatement
+  unfolding iteration Bodies.iteration pieceOf statementWith
   iteration-maps r l i =
       maps-after {g = slotOf ts} _ _ (name-maps (i + 1)) λ x i₂ _.
       maps-after _ _ (skip-maps wordIn i₂) λ _ i₃ _.
@@ -124,7 +124,7 @@ module _ (ts : List Token) (sane : Sane ts) where
 
   statements-from-maps : {g : Bodies.ReadCode} {f : ReadStatement} → Codes ts g f
       → (rounds i : ℕ) → Maps (λ ss. codeOfStatements ss ts) (Bodies.statementsFrom rounds g (wordsOf ts) i) (statementsFrom rounds f ts i)
-  unfolding statementsFrom Bodies.statementsFrom codeOfStatements
+  unfolding statementsFrom Bodies.statementsFrom statementsWith
   statements-from-maps c zero i = maps-wrong
   statements-from-maps c (suc rounds) i =
       maps-after _ _ (c i) λ s j _.
@@ -138,7 +138,7 @@ module _ (ts : List Token) (sane : Sane ts) where
   pub statement-in-maps : {g : Words.ReadPiece} {f : ReadExpression} {x : Inside Bodies.Readers} {y : Inside Readers}
       → Reads ts g f → Spelling ts f → Levels (Both ts) x y
       → (i : ℕ) → Maps (λ s. codeOfStatement s ts) (Bodies.statementIn g x (wordsOf ts) i) (statementIn f y ts i)
-  unfolding statementIn Bodies.statementIn codeOfStatement
+  unfolding statementIn Bodies.statementIn statementWith
   statement-in-maps r s l i =
       maps-if _ _ _ _ _ _ (is-at ts sane _ i) (λ _. declaration-maps i)
       λ _. maps-if _ _ _ _ _ _ (is-at ts sane _ i)

@@ -16,7 +16,7 @@ use Rattle.meaning.specs.Grammar.{procedureNamed}
 use Rattle.meaning.specs.Procedure.{isAmong, inLibrary, doubled}
 use Rattle.meaning.specs.Library.{libraryOf}
 use Rattle.machine.specs.Opcodes.{tablePlace, procedureWord, startIn, parametersIn, bodyIn}
-use Rattle.code.specs.Code.{slotOf, codeOfStatements, codeOfProcedure, codeOfProcedures, headWord, tabled, headNamed}
+use Rattle.code.specs.Code.{slotOf, codeOfStatements, codeOfProcedure, codeOfProcedures, headWord, tabled, headNamed, statementsWith}
 use Rattle.reader.proofs.Homes.{same-text, text-same, Occurs, slot-small, slots-apart}
 use Rattle.reader.proofs.Fields.{statement-some}
 use Rattle.reader.proofs.Trees.{Understood, UnderstoodAll}
@@ -24,7 +24,7 @@ use Rattle.reader.proofs.Walk.{Stands, stands-front, stands-back}
 
 -- ---- a procedure's word
 statements-some : (ss : Statements) (ts : List Token) → 0 < length (codeOfStatements ss ts)
-unfolding codeOfStatements
+unfolding statementsWith
 statements-some (only s) ts = statement-some s ts
 statements-some (first s ss) ts = rw length-append (omega (arith, statement-some s ts))
 
@@ -42,9 +42,9 @@ module _ (start parameters size : ℕ) (a : start < 65536) (b : parameters < 655
   unfolding procedureWord
   parameters-told = omega arith
 
-  pub body-told : bodyIn (procedureWord start parameters size) ≡ size
+  pub body-told : size < 65536 → bodyIn (procedureWord start parameters size) ≡ size
   unfolding procedureWord
-  body-told = omega arith
+  body-told few = omega arith
 
 -- ---- the procedure of a name
 pub head-none : (a : ℕ) (fs : List Procedure) (ts : List Token) (x : List ℕ) → procedureNamed x fs ≡ none → headNamed a fs ts x ≡ 0

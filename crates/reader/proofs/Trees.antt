@@ -17,7 +17,7 @@ use Rattle.meaning.specs.Grammar.{good, kindAt, textAt, startAt, is, expect, nu
 use Rattle.meaning.specs.Grammar.{operated, expressionIn, expression, ReadStatement, Readers, declaration, returning, targetOf, assignment, simple, guarded, iteration, statementsFrom, statements}
 use Rattle.meaning.specs.Grammar.{statementIn, statement, parametersFrom, parameters, procedure, proceduresFrom, procedureNamed, withMain, procedures}
 use Rattle.meaning.specs.Integer.{wrap}
-use Rattle.code.specs.Code.{slotOf, codeOf, codeOfAll, codeOfStatement, codeOfStatements, codeOfProcedure, codeOfProcedures}
+use Rattle.code.specs.Code.{slotOf, codeOf, codeOfAll, codeOfStatement, codeOfStatements, codeOfProcedure, codeOfProcedures, argumentsWith, codeWith, statementWith, statementsWith}
 use Rattle.reader.specs.Declarations.{declaredIn, declaredBy, declarations}
 use Rattle.reader.proofs.Homes.{both-true, Occurs, there}
 use Rattle.reader.proofs.Fields.{plain-wrap, minus-wrap}
@@ -86,7 +86,7 @@ module _ (ts : List Token) where
 
   -- ---- expressions
   arguments-from-spelled : {f : ReadExpression} → Spelling ts f → (rounds i : ℕ) → Yields (SpelledAll ts i) (argumentsFrom rounds f ts i)
-  unfolding argumentsFrom codeOfAll KnownAll
+  unfolding argumentsFrom argumentsWith KnownAll
   arguments-from-spelled s zero i = fails
   arguments-from-spelled s (suc rounds) i =
       yields-after _ (s i) λ e j p.
@@ -98,7 +98,7 @@ module _ (ts : List Token) where
       λ _. yields-expect _ j _ (omega arith) λ _ h. record { spans = simp length-append (omega arith); known = (p .known, tt) }
 
   arguments-spelled : {f : ReadExpression} → Spelling ts f → (i : ℕ) → Yields (SpelledAll ts i) (arguments f ts i)
-  unfolding arguments codeOfAll KnownAll
+  unfolding arguments argumentsWith KnownAll
   arguments-spelled s i =
       yields-if _ _ _
       (λ e. yields (record { spans = omega (arith, is-there ts i _ (omega arith) e); known = tt }))
@@ -120,7 +120,7 @@ module _ (ts : List Token) where
   negative-known i e = minus-wrap _ (leb-true (numeral (textAt ts i)) 2147483648 (both-true (is digits ts i) _ e .1))
 
   primary-spelled : {x : Inside ReadExpression} → Inner (Spelling ts) x → (i : ℕ) → Yields (Spelled ts i) (primary x ts i)
-  unfolding primary codeOf Known
+  unfolding primary codeWith Known
   primary-spelled l i =
       yields-if _ _ _
       (λ e. yields (record { spans = alone i digits (omega arith) (both-true _ _ e .0); known = positive-known i e; names = tt }))
@@ -150,7 +150,7 @@ module _ (ts : List Token) where
       λ _. fails
 
   operand-spelled : {x : Inside ReadExpression} → Inner (Spelling ts) x → (i : ℕ) → Yields (Spelled ts i) (operand x ts i)
-  unfolding operand codeOf Known
+  unfolding operand codeWith Known
   operand-spelled l i =
       yields-after _ (primary-spelled l i) λ a j p.
       yields-if _ _ _
@@ -163,7 +163,7 @@ module _ (ts : List Token) where
   operated-spelled : {x : Inside ReadExpression} → Inner (Spelling ts) x → (o : Option Operator) (i : ℕ) (a : Expression) (j : ℕ)
       → Spelled ts i a j
       → Yields (Spelled ts i) (operated o x ts a j)
-  unfolding operated codeOf Known
+  unfolding operated codeWith Known
   operated-spelled l none i a j p = yields p
   operated-spelled l (some o) i a j p =
       yields-after _ (operand-spelled l (j + 1)) λ b m q.
@@ -186,14 +186,14 @@ module _ (ts : List Token) where
   placed i = record { index = i; begins = refl }
 
   declaration-stated : (i : ℕ) → Yields (Stated ts i) (declaration ts i)
-  unfolding declaration codeOfStatement KnownStatement declaredIn
+  unfolding declaration statementWith KnownStatement declaredIn
   declaration-stated i =
       yields-if _ _ _
       (λ e. yields-expect _ (i + 2) _ (omega arith) λ _ h. record { spans = omega arith; known = (placed i, occurs (i + 1) aName e) })
       λ _. fails
 
   returning-stated : {f : ReadExpression} → Spelling ts f → (i : ℕ) → Yields (Stated ts i) (returning f ts i)
-  unfolding returning codeOfStatement KnownStatement declaredIn
+  unfolding returning statementWith KnownStatement declaredIn
   returning-stated s i =
       yields-after _ (s (i + 1)) λ e j p. yields-expect _ j _ (omega arith) λ _ h.
       let p' = p .spans in
@@ -201,7 +201,7 @@ module _ (ts : List Token) where
 
   assignment-stated : {f : ReadExpression} → Spelling ts f → (i j : ℕ) (a : Expression) → Spelled ts i a j
       → Yields (Stated ts i) (assignment f ts (startAt ts i) j (targetOf a))
-  unfolding assignment targetOf codeOf codeOfStatement Known KnownStatement declaredIn
+  unfolding assignment targetOf codeWith statementWith Known KnownStatement declaredIn
   assignment-stated s i j (name x) p =
       yields-after _ (s (j + 1)) λ e m q. yields-expect _ m _ (omega arith) λ _ h.
       let p' = p .spans in
@@ -222,7 +222,7 @@ module _ (ts : List Token) where
   assignment-stated s i j (paren e) p = fails
 
   simple-stated : {f : ReadExpression} → Spelling ts f → (i : ℕ) → Yields (Stated ts i) (simple f ts i)
-  unfolding simple codeOfStatement KnownStatement declaredIn
+  unfolding simple statementWith KnownStatement declaredIn
   simple-stated s i =
       yields-after _ (s i) λ a j p.
       yields-if _ _ _ (λ _. assignment-stated s i j a p)
@@ -249,7 +249,7 @@ module _ (ts : List Token) where
       λ _. fails
 
   iteration-stated : {f : ReadExpression} {x : Inside Readers} → Spelling ts f → Inner (Both ts) x → (i : ℕ) → Yields (Stated ts i) (iteration f x ts i)
-  unfolding iteration codeOfStatement KnownStatement declaredIn
+  unfolding iteration statementWith KnownStatement declaredIn
   iteration-stated s l i =
       yields-after {Q = λ x j. Occurs ts aName x × (j ≡ i + 1 + 1)} _
       (yields-expect aName (i + 1) _ (omega arith) λ e _. (record { index = i + 1; kind = e; text = refl }, refl)) λ x i₂ o.
@@ -265,7 +265,7 @@ module _ (ts : List Token) where
       λ _. fails
 
   statements-from-stated : {f : ReadStatement} → Stating ts f → (rounds i : ℕ) → Yields (StatedAll ts i) (statementsFrom rounds f ts i)
-  unfolding statementsFrom codeOfStatements KnownStatements declaredBy
+  unfolding statementsFrom statementsWith KnownStatements declaredBy
   statements-from-stated s zero i = fails
   statements-from-stated s (suc rounds) i =
       yields-after _ (s i) λ a j p.
@@ -280,7 +280,7 @@ module _ (ts : List Token) where
 
   statement-in-stated : {f : ReadExpression} {x : Inside Readers} → Spelling ts f → Inner (Both ts) x
       → (i : ℕ) → Yields (Stated ts i) (statementIn f x ts i)
-  unfolding statementIn codeOfStatement KnownStatement declaredIn
+  unfolding statementIn statementWith KnownStatement declaredIn
   statement-in-stated s l i =
       yields-if _ _ _ (λ _. declaration-stated i)
       λ _. yields-if _ _ _
@@ -320,12 +320,12 @@ module _ (ts : List Token) where
   parameters-named i =
       yields-if _ _ _ (λ e. yields (record { spans = omega (arith, is-there ts i _ (omega arith) e); known = tt })) (λ _. parameters-from-named (suc (length ts - i)) i)
 
-  -- of a procedure that was read: its names are known, and each `var` and each `foreach` has two tokens more than words, each parameter two tokens
+  -- of a procedure that was read: its names are known, and each `var` and each `foreach` has two tokens more than words, each parameter two tokens, and two stand around them
   pub record Understood (f : Procedure) : Type 0 where
     pub name : Occurs ts aName (f .name)
     pub parameters : KnownNames (f .parameters) ts
     pub body : KnownStatements (f .body) ts
-    pub short : length (codeOfStatements (f .body) ts) + 2 * declarations (f .body) + 2 * length (f .parameters) ≤ length ts
+    pub short : length (codeOfStatements (f .body) ts) + 2 * declarations (f .body) + 2 * length (f .parameters) + 2 ≤ length ts
 
   -- from token i up to token j
   record Stretch (i : ℕ) (f : Procedure) (j : ℕ) : Type 0 where

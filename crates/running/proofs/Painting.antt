@@ -5,111 +5,133 @@ use mathlib.Core.Path.{_≡_, refl, ap, sym, _∙_}
 use mathlib.Core.Bool.{Bool, true, false, _&&_, _||_}
 use mathlib.Core.List.{List, [], _∷_}
 use mathlib.Core.Option.{Option, none, some}
-use lib.ListN.{getD, length, replicate}
+use lib.ListN.{getD, length}
 use lib.IntN.{ℤ, pos}
 use lib.Signed.{mag, ltZ}
-use lib.Dec.{eqb}
-use borrow.Author.Tests.{eq-eqb, lt-ltb, le-ltb}
-use Rattle.meaning.specs.Basics.{bytes}
+use borrow.Author.Tests.{lt-ltb, le-ltb}
+use Rattle.meaning.specs.Basics.{bytes, sameText}
 use Rattle.meaning.specs.Token.{Token}
 use Rattle.meaning.specs.Tree as Tree
 use Rattle.meaning.specs.Grammar.{Reading, wellFormed, malformed, reading}
 use Rattle.meaning.specs.Run as Run
 use Rattle.meaning.specs.Book.{Amounts, nothingYet}
 use Rattle.meaning.specs.Program.{empty, sheet, sized, namedApart, understood, entering, painting}
-use Rattle.meaning.specs.Procedure.{doubled}
-use Rattle.code.specs.Code.{slotOf, codeOfStatements, codeOfProcedures, tabled, headNamed}
+use Rattle.meaning.specs.Procedure.{isAmong, anyTwice, doubled}
+use Rattle.code.specs.Code.{slotOf, codeOfStatements}
 use Rattle.reader.specs.declared.Program.{Program}
 use Rattle.reader.specs.declared.Program.the-variants.{Formed, Malformed}
 use Rattle.reader.specs.Reading.{refused, seen, codedApart, coded, tokensIn}
-use Rattle.reader.proofs.Known.{KnownNames}
-use Rattle.reader.proofs.Walk.{Stands, stands-first, stands-rest}
+use Rattle.reader.proofs.Homes.{same-text}
+use Rattle.reader.proofs.Trees.{procedures-understood}
+use Rattle.reader.proofs.Tables.{parameters-told, head-some, named-understood}
 use Rattle.reader.proofs.Whole.{Read, formed-refused, Whole, whole}
-use Rattle.machine.specs.Opcodes.{startIn, parametersIn, bodyIn}
+use Rattle.numbering.specs.Numbers.{numberIn}
+use Rattle.numbering.specs.Pass as Pass
+use Rattle.numbering.specs.Pass.{numberAll}
+use Rattle.numbering.proofs.Numbered.{Numbered}
+use Rattle.numbering.proofs.Whole.{number-whole}
+use Rattle.machine.specs.Opcodes.{tablePlace, startIn, parametersIn, bodyIn, frameIn}
 use Rattle.machine.specs.Layout.{stepsUsed, stepsGranted, Lent}
 use Rattle.machine.specs.Act.{raw}
 use Rattle.machine.specs.Act as Act
 use Rattle.machine.specs.Evaluate.{Setting, setting}
 use Rattle.machine.specs.Interpret.{bodyAt}
-use Rattle.simulation.specs.Scope.{scopeOf, isIn}
+use Rattle.simulation.specs.Scope.{scopeOf}
+use Rattle.simulation.specs.Sound.{sizeOf}
 use Rattle.simulation.specs.Follows.{Grants, Follows}
 use Rattle.simulation.proofs.Binding.{bind}
 use Rattle.simulation.proofs.Chaining.{regroup}
 use Rattle.simulation.proofs.Results.{failed}
-use Rattle.simulation.proofs.Body.{main-stored, main-takes, main-there, main-owns, body-follows}
+use Rattle.simulation.proofs.Body.{main-takes, main-brief, main-twice, main-frame, main-few, main-names, main-numbers, body-follows}
 use Rattle.running.specs.declared.Ending.{Ending}
 use Rattle.running.specs.declared.Ending.the-variants.{Stopped}
 use Rattle.running.specs.Specified.{paintRead}
 use Rattle.running.specs.Running.{mainBegins, mainFuel, bodyRun, mainEnds, mainRun, shownEnding, Painted, Ran, paintingRun, readingRun, Blank}
-use Rattle.running.proofs.Entering.{enters}
+use Rattle.running.proofs.Entering.{Entered, enters-not, enters}
 use Rattle.running.proofs.Leaving.{main-ends}
 
--- ---- names
-own-first : (x : ℕ) (xs : List ℕ) → isIn x (x ∷ xs) ≡ true
-unfolding isIn
-own-first x xs = rw (eq-eqb x x refl)
-
-own-second : (x y : ℕ) → isIn y (x ∷ y ∷ []) ≡ true
-unfolding isIn
-own-second x y = go (eqb x y)
-  where
-    go : (b : Bool) → b || (eqb y y || false) ≡ true
-    go true = refl
-    go false = rw (eq-eqb y y refl)
-
 -- ---- main's body
+-- whether two names are one
+same-turned : (x y : List ℕ) → sameText y x ≡ sameText x y
+same-turned x y = go (sameText x y) (sameText y x) refl refl
+  where
+    go : (a b : Bool) → sameText x y ≡ a → sameText y x ≡ b → sameText y x ≡ sameText x y
+    go true b p q = rw (same-text x y p)
+    go false true p q = rw (same-text y x q)
+    go false false p q = q ∙ sym p
+
+two-names : (x y : List ℕ) → anyTwice (x ∷ y ∷ []) ≡ sameText x y
+unfolding anyTwice isAmong
+two-names x y = go (sameText y x) ∙ same-turned x y
+  where
+    go : (b : Bool) → (b || false) || (false || false) ≡ b
+    go true = refl
+    go false = refl
+
 module _ (program code g : List ℕ) (short : length program ≤ 32768) (ts : List Token) (m : Tree.Program) (read : Read program ts m) (different : doubled [] (m .procedures) ≡ none)
-    (stands : Stands code 0 (codeOfProcedures (m .procedures) ts)) (table : Stands code 8192 (tabled 0 (m .procedures) ts (replicate 8192 0)))
+    (numbered : Numbered code ts (m .procedures))
     (texts words : List ℕ) (lent : Lent g texts words) (blank : Blank g words)
     (width height : ℤ) (w-small : mag width < 2 ^ 31) (h-small : mag height < 2 ^ 31) {granted : Amounts} (gr : Grants g granted) where
   abbrev e : Setting
   e = setting program code g
 
   abbrev main : ℕ
-  main = headNamed 0 (m .procedures) ts (bytes "main")
+  main = getD code (tablePlace (slotOf ts (bytes "main"))) 0
 
   module _ (x y : List ℕ) (parameters : m .main .parameters ≡ x ∷ y ∷ []) where
-    there : Stands code (startIn main) (slotOf ts x ∷ slotOf ts y ∷ codeOfStatements (m .main .body) ts)
-    there = rw parameters at (main-there e ts m short read different stands table)
-
-    first-slot : getD code (startIn main) 0 ≡ slotOf ts x
-    first-slot = stands-first there
-
-    second-slot : getD code (startIn main + 1) 0 ≡ slotOf ts y
-    second-slot = stands-first (stands-rest there)
-
-    both : KnownNames (x ∷ y ∷ []) ts
-    both = rw parameters at (main-stored e ts m short read different stands table .parameters)
-
-    owns : (slot : ℕ) → isIn slot (slotOf ts x ∷ slotOf ts y ∷ []) ≡ true → isIn slot (scopeOf program ts 0) ≡ true
-    owns = rw parameters at (main-owns e ts m short read different stands table)
-
     two : startIn main + parametersIn main ≡ startIn main + 2
-    two = rw (main-takes e ts m short read different stands table, parameters)
+    two = rw (main-takes e ts m short read different numbered, parameters)
 
     -- its beginning, its body and its return, one after the other
     in-turn : mainRun e main width height (raw texts words)
-        ≡ Act.goOn (mainBegins g (getD code (startIn main) 0) (getD code (startIn main + 1) 0) width height (raw texts words))
+        ≡ Act.goOn (mainBegins g (frameIn main) width height (raw texts words))
         (λ _ r. Act.goOn (bodyAt mainFuel e (startIn main + 2) (bodyIn main) r) (λ _ r′. mainEnds program (r′ .texts) g r′))
     unfolding mainRun bodyRun Act._>>=_ Act.goOn Act.give
     in-turn =
-        regroup (mainBegins g (getD code (startIn main) 0) (getD code (startIn main + 1) 0) width height (raw texts words))
+        regroup (mainBegins g (frameIn main) width height (raw texts words))
         (λ _ r. Act.goOn (bodyAt mainFuel e (startIn main + 2) (bodyIn main) r) (λ _. Act.give tt)) (λ _ r′. mainEnds program (r′ .texts) g r′)
-        ∙ ap (Act.goOn (mainBegins g (getD code (startIn main) 0) (getD code (startIn main + 1) 0) width height (raw texts words)))
+        ∙ ap (Act.goOn (mainBegins g (frameIn main) width height (raw texts words)))
         (λ i _ r. regroup (bodyAt mainFuel e (startIn main + 2) (bodyIn main) r) (λ _. Act.give tt) (λ _ r′. mainEnds program (r′ .texts) g r′) i)
+
+    begins : Follows granted nothingYet (λ _ _ r s total. Entered program ts g r s total) (mainBegins g (frameIn main) width height (raw texts words))
+        (entering (x ∷ y ∷ []) width height empty)
+    begins = by-name (sameText x y) refl
+      where
+        by-name : (b : Bool) → sameText x y ≡ b → Follows granted nothingYet (λ _ _ r s total. Entered program ts g r s total)
+            (mainBegins g (frameIn main) width height (raw texts words)) (entering (x ∷ y ∷ []) width height empty)
+        by-name true q =
+            let t : anyTwice (m .main .parameters) ≡ true = rw (parameters, two-names x y) q in
+            rw (main-twice e ts m short read different numbered t) (enters-not program ts g texts words lent blank x y width height w-small h-small q)
+        by-name false q =
+            let t : anyTwice (m .main .parameters) ≡ false = rw (parameters, two-names x y) q in
+            let names : (k : ℕ) → k < 2 → getD (scopeOf program ts 0) k [] ≡ getD (x ∷ y ∷ []) k [] = rw parameters at (main-names e ts m short read different numbered t) in
+            let numbers : (k : ℕ) → k < 2 → numberIn (scopeOf program ts 0) (getD (x ∷ y ∷ []) k []) ≡ k = rw parameters at (main-numbers e ts m short read different numbered t) in
+            let few : 2 ≤ sizeOf program ts 0 = rw parameters at (main-few e ts m short read different numbered t) in
+            rw (main-frame e ts m short read different numbered t)
+            (enters program ts g texts words lent blank x y width height w-small h-small q (main-brief e ts m short read different numbered) few names (numbers 0 (omega arith))
+            (numbers 1 (omega arith)) gr)
 
     main-paints : Follows granted nothingYet (Painted program g) (mainRun e main width height (raw texts words))
         (paintRead (wellFormed m) width height (suc (stepsGranted g)) empty)
-    unfolding paintRead understood namedApart KnownNames isIn Run._>>=_ Run.goOn Run.give
-    main-paints = rw (in-turn, different, parameters, first-slot, second-slot)
-        (bind (enters program ts g (read .few) texts words lent blank x y (both .0) (both .1 .0) (owns (slotOf ts x) (own-first (slotOf ts x) (slotOf ts y ∷ [])))
-        (owns (slotOf ts y) (own-second (slotOf ts x) (slotOf ts y)))
-        width height w-small h-small gr) (λ _ _ r s total a.
-        bind (rw two at (body-follows e ts m short read different stands table gr mainFuel (suc (stepsGranted g)) (omega arith) (a .related) (a .procedure) (a .calls) (a .stack) (a .unit)
+    unfolding paintRead understood namedApart Run._>>=_ Run.goOn Run.give
+    main-paints = rw (in-turn, different, parameters)
+        (bind begins (λ _ _ r s total a.
+        bind (rw two at (body-follows e ts m short read different numbered gr mainFuel (suc (stepsGranted g)) (omega arith) (a .related) (a .procedure) (a .calls) (a .stack) (a .unit)
         (omega (arith, a .related .stepsTaken)))) (λ f f′ r′ s′ total′ b.
         main-ends program ts g gr (r′ .texts) (b .after .related) (b .after .untouched .calls ∙ a .calls) (b .after .untouched .unit ∙ a .unit) refl)))
 
 -- ---- what reading left
+-- how many parameters main has, by the word that reading gives
+main-parameters : (program code : List ℕ) (d : ℕ) (m : Tree.Program) → length program ≤ 32768 → Whole program code d m → parametersIn d ≡ length (m .main .parameters)
+main-parameters program code d m short s =
+    let ts = tokensIn program in
+    let all = procedures-understood ts m (s .read .behind) (s .read .tree) in
+    let l = head-some 0 (m .procedures) ts (bytes "main") (m .main) (all .main) in
+    let u = named-understood ts (m .procedures) (all .each) (bytes "main") (m .main) (all .main) in
+    rw (s .main, l .word)
+    (parameters-told (l .start) (length (m .main .parameters)) (length (codeOfStatements (m .main .body) ts)) (omega (arith, l .within, all .short, s .read .few))
+    (omega (arith, u .short, s .read .few)))
+
 module _ (program code g texts words : List ℕ) (short : length program ≤ 32768) (width height : ℤ) (r : Program)
     (left : seen r code ≡ coded (tokensIn program) (reading program)) where
   -- ---- a number
@@ -147,7 +169,7 @@ module _ (program code g texts words : List ℕ) (short : length program ≤ 327
     pub read-parameters : getD words stepsUsed 0 ≡ 0 → (parametersIn d ≡ 2 → ⊥) → Ran program g (readingRun program width height g) (Stopped 20 0) texts words
     unfolding paintRead shownEnding understood namedApart entering Run._>>=_ Run.goOn Run.fail Run.give
     read-parameters steps l = by-program (Stopped 20 0) texts words (λ m s. by-names m s (m .main .parameters) refl
-        (λ q. l (rw (s .main) (main-takes (setting program code g) (tokensIn program) m short (s .read) (s .different) (s .stands) (s .table) ∙ q))))
+        (λ q. l (main-parameters program code d m short s ∙ q)))
       where
         by-names : (m : Tree.Program) → Whole program code d m → (xs : List (List ℕ)) → m .main .parameters ≡ xs → (length (m .main .parameters) ≡ 2 → ⊥)
             → Ran program g (paintRead (wellFormed m) width height (suc (stepsGranted g)) empty) (Stopped 20 0) texts words
@@ -156,21 +178,26 @@ module _ (program code g texts words : List ℕ) (short : length program ≤ 327
         by-names m s (x ∷ y ∷ []) q l = absurd (l (rw q))
         by-names m s (x ∷ y ∷ z ∷ xs) q l = record { follows = λ granted gr. rw (s .different, q) (failed 20 0 (raw texts words) steps) }
 
-    pub read-body : parametersIn d ≡ 2 → (lent : Lent g texts words) (blank : Blank g words) → mag width < 2 ^ 31 → mag height < 2 ^ 31
-        → (e : Ending) (ts ws : List ℕ) → shownEnding e ts ws ≡ mainRun (setting program code g) d width height (raw texts words)
-        → Ran program g (readingRun program width height g) e ts ws
-    read-body two lent blank w-small h-small e ts ws h = by-program e ts ws (λ m s. by-names m s (m .main .parameters) refl
-        (sym (main-takes (setting program code g) (tokensIn program) m short (s .read) (s .different) (s .stands) (s .table)) ∙ rw (← s .main) two))
-      where
-        by-names : (m : Tree.Program) → Whole program code d m → (xs : List (List ℕ)) → m .main .parameters ≡ xs → length (m .main .parameters) ≡ 2
-            → Ran program g (paintRead (wellFormed m) width height (suc (stepsGranted g)) empty) e ts ws
-        by-names m s [] q l = absurd (omega (arith, sym (ap (λ (k : List (List ℕ)). length k) q) ∙ l))
-        by-names m s (x ∷ []) q l = absurd (omega (arith, sym (ap (λ (k : List (List ℕ)). length k) q) ∙ l))
-        by-names m s (x ∷ y ∷ []) q l = record {
-          follows = λ granted gr. rw (h, s .main)
-              (main-paints program code g short (tokensIn program) m (s .read) (s .different) (s .stands) (s .table) texts words lent blank width height w-small h-small gr x y q);
-        }
-        by-names m s (x ∷ y ∷ z ∷ xs) q l = absurd (omega (arith, sym (ap (λ (k : List (List ℕ)). length k) q) ∙ l))
+    -- its variables numbered
+    module _ (table code′ table′ : List ℕ) (word : ℕ) (counted : t ≡ length (tokensIn program)) (room : 8192 ≤ length table)
+        (pass : Pass.pass code′ table′ word ≡ numberAll d t code table) where
+      pub read-body : parametersIn d ≡ 2 → (lent : Lent g texts words) (blank : Blank g words) → mag width < 2 ^ 31 → mag height < 2 ^ 31
+          → (e : Ending) (ts ws : List ℕ) → shownEnding e ts ws ≡ mainRun (setting program code′ g) word width height (raw texts words)
+          → Ran program g (readingRun program width height g) e ts ws
+      read-body two lent blank w-small h-small e ts ws h =
+          by-program e ts ws (λ m s. by-names m s (m .main .parameters) refl (sym (main-parameters program code d m short s) ∙ two))
+        where
+          by-names : (m : Tree.Program) → Whole program code d m → (xs : List (List ℕ)) → m .main .parameters ≡ xs → length (m .main .parameters) ≡ 2
+              → Ran program g (paintRead (wellFormed m) width height (suc (stepsGranted g)) empty) e ts ws
+          by-names m s [] q l = absurd (omega (arith, sym (ap (λ (k : List (List ℕ)). length k) q) ∙ l))
+          by-names m s (x ∷ []) q l = absurd (omega (arith, sym (ap (λ (k : List (List ℕ)). length k) q) ∙ l))
+          by-names m s (x ∷ y ∷ []) q l =
+              let n = number-whole program code table d t m short s counted room code′ table′ word pass in
+              record {
+                follows = λ granted gr. rw (h, n .told ∙ sym (n .main .word))
+                    (main-paints program code′ g short (tokensIn program) m (s .read) (s .different) (n .each) texts words lent blank width height w-small h-small gr x y q);
+              }
+          by-names m s (x ∷ y ∷ z ∷ xs) q l = absurd (omega (arith, sym (ap (λ (k : List (List ℕ)). length k) q) ∙ l))
 
 -- ---- the questions before
 module _ (program g ts ws : List ℕ) (width height : ℤ) where

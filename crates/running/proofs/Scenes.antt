@@ -21,7 +21,7 @@ use Rattle.meaning.proofs.BookLaws.{part, spent, spent-append}
 use Rattle.machine.specs.declared.Value.the-variants.{Shape}
 use Rattle.machine.specs.Words.{kindIn, numberIn, unpacked}
 use Rattle.values.proofs.Laws.{by-kind}
-use Rattle.machine.specs.Layout.{declared, shapesUsed, shapesGranted}
+use Rattle.machine.specs.Layout.{declared, shapesUsed, running, frame, shapesGranted}
 use Rattle.machine.specs.Act.{Raw}
 use Rattle.machine.specs.Texts.{textOf}
 use Rattle.machine.specs.Shapes.{isGroupAt, destroyedAt, figureAt}
@@ -30,12 +30,13 @@ use Rattle.machine.specs.Show.{shownFrom, figuresIn}
 use Rattle.machine.specs.declared.Figure.{Figure}
 use Rattle.picture.specs.Parts.{figureFrom}
 use Rattle.scene.specs.Scene.{figureFor, figuresFor, shownBy, wordOf, shownFirst, sceneIn}
-use Rattle.simulation.specs.Meant.{meantValue, meantFigure, listed, slotAt, variableAt, variablesOf, componentsOf}
+use Rattle.machine.specs.Variables.{numberOf}
+use Rattle.simulation.specs.Scope.{scopeOf}
+use Rattle.simulation.specs.Meant.{meantValue, meantFigure, listed, variableAt, frameOf, componentsOf}
 use Rattle.simulation.specs.Sound.{Valid}
 use Rattle.simulation.specs.Follows.{Related}
 use Rattle.simulation.proofs.Listed.{listed-more}
 use Rattle.simulation.proofs.Usable.{figure-found, group-found, destroyed-found}
-use Rattle.simulation.proofs.Declaring.{among-few}
 
 -- ---- what shapes show in a state
 -- those of some shapes that are not destroyed, one after the other
@@ -244,30 +245,35 @@ module _ {program : List ℕ} {ts : List Token} {g : List ℕ} {r : Raw} {s : St
       go false e =
           by-kind w (λ v. among inside s (shapeIn (meantValue program (r .texts) v)) ≡ []) (λ _. refl) (λ _. refl) (λ _. refl) refl (λ _. refl) (λ k. absurd (eqb-false _ _ e k))
 
-  first-shown : (n : ℕ) → among inside s (shapesHeld (listed (variableAt program ts r) 0 n)) ≡ figuresFor program r (shownFirst g (r .words) n)
+  abbrev here : ℕ → Variable
+  here = variableAt program (scopeOf program ts (getD (r .words) running 0)) r (getD (r .words) frame 0)
+
+  first-shown : (n : ℕ) → n ≤ getD (r .words) declared 0 → among inside s (shapesHeld (listed here 0 n)) ≡ figuresFor program r (shownFirst g (r .words) n)
   unfolding listed among shapesHeld shownFirst figuresFor variableAt
-  first-shown zero = refl
-  first-shown (suc n) =
+  first-shown zero l = refl
+  first-shown (suc n) l =
       let q : 0 + n ≡ n = omega arith in
-      ap (λ (l : List Variable). among inside s (shapesHeld l)) (listed-more (variableAt program ts r) 0 n)
-      ∙ ap (among inside s) (held-append (listed (variableAt program ts r) 0 n) (variableAt program ts r (0 + n) ∷ []))
-      ∙ among-append inside s (shapesHeld (listed (variableAt program ts r) 0 n)) (shapesHeld (variableAt program ts r (0 + n) ∷ []))
-      ∙ ap₂ _++_ (first-shown n)
-      (rw q (ap (among inside s) (append-nil (shapeIn (variableAt program ts r n .holds))) ∙ word-shown (wordOf (r .words) n) (h .sound .variables .holds (slotAt (r .words) n))))
+      let v = h .sound .variables .framed in
+      ap (λ (l : List Variable). among inside s (shapesHeld l)) (listed-more here 0 n)
+      ∙ ap (among inside s) (held-append (listed here 0 n) (here (0 + n) ∷ []))
+      ∙ among-append inside s (shapesHeld (listed here 0 n)) (shapesHeld (here (0 + n) ∷ []))
+      ∙ ap₂ _++_ (first-shown n (omega arith))
+      (rw q (ap (among inside s) (append-nil (shapeIn (here n .holds)))
+      ∙ word-shown (wordOf (r .words) n) (v .holds (numberOf (r .words) (getD (r .words) frame 0) n) (omega (arith, v .small n (omega arith))))))
       ∙ sym (for-append program r (shownFirst g (r .words) n) (shownBy g (r .words) (wordOf (r .words) n)))
 
   -- THE LAW
   pub scene-shown : shownAll s ≡ sceneIn program g r
-  unfolding variablesOf
-  scene-shown = ap (λ (l : List Variable). among inside s (shapesHeld l)) (h .variables) ∙ first-shown (getD (r .words) declared 0)
+  unfolding frameOf
+  scene-shown = ap (λ (l : List Variable). among inside s (shapesHeld l)) (h .variables) ∙ first-shown (getD (r .words) declared 0) (omega arith)
 
   pub held-within : length (shapesHeld (s .variables)) ≤ 8192
-  unfolding variablesOf
+  unfolding frameOf
   held-within = omega (
     arith,
     held-few (s .variables),
     ap (λ (l : List Variable). length l) (h .variables),
-    many (variableAt program ts r) 0 (getD (r .words) declared 0),
-    h .sound .variables .few,
-    among-few (r .words) 8192,
+    many here 0 (getD (r .words) declared 0),
+    h .sound .variables .framed .few,
+    h .sound .variables .framed .brief,
   )

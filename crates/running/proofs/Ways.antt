@@ -18,14 +18,17 @@ use borrow.Rule.Slice.PartMut.{midOf, putMid, mid-len}
 use Rattle.meaning.specs.Grammar.{reading}
 use Rattle.reader.specs.declared.Program.{Program}
 use Rattle.reader.specs.declared.Program.the-variants.{Formed, Malformed}
-use Rattle.reader.specs.Reading.{seen, coded, tokensIn}
+use Rattle.reader.specs.Reading.{seen, coded, tokensIn, Kept}
+use Rattle.reader.proofs.Whole.{whole}
+use Rattle.numbering.specs.Pass.{pass, numberAll}
 use Rattle.machine.specs.declared.Value.{Value}
 use Rattle.machine.specs.declared.Value.the-variants.{Integer}
 use Rattle.machine.specs.Words.{packed}
-use Rattle.machine.specs.Opcodes.{startIn, parametersIn, bodyIn}
+use Rattle.machine.specs.Opcodes.{startIn, parametersIn, bodyIn, frameIn}
 use Rattle.machine.specs.Layout.{stepsUsed, callsUsed, shapesGranted, entriesGranted, callsGranted, argumentPlace, shapePlace, entryPlace, componentPlace, Room, Lent}
-use Rattle.machine.specs.Act.{raw, goOn, _>>=_, give, store, passed, Passes, Pays, Gives}
-use Rattle.machine.specs.Variables.{declare, setVariable}
+use Rattle.machine.specs.Act.{raw, goOn, _>>=_, give, fail, refuse, store, passed, Passes, Pays, Gives}
+use Rattle.machine.specs.Variables.{setVariable}
+use Rattle.machine.specs.Procedures.{openFrame}
 use Rattle.stores.proofs.Acts.{after-pass, after-refusal, after-gift}
 use Rattle.machine.specs.Evaluate.{setting}
 use Rattle.machine.specs.declared.Flow.{Flow}
@@ -56,40 +59,44 @@ module _ {width height : ℤ} (f : SFits w32 width) (h : SFits w32 height) where
   no-sheet-if e = e ∙ rw (rw (toZ-ofZ f) at e)
 
 -- ---- `enter`
-module _ (g : List ℕ) (a b : ℕ) (width height : ℤ) (ws ws₁ : List ℕ) (ok : Bool) (h : Passes ws 60 (declare a) ok ws₁) where
-  pub first-refused : not ok ≡ true → Begins ws (mainBegins g a b width height) (Stopped 60 0) ws₁
-  unfolding mainBegins shownEnding
-  first-refused t = record { equal = λ ts. sym (after-refusal _ 0 ts (rw (not-true ok t) at h)) }
+module _ (g : List ℕ) (n : ℕ) (width height : ℤ) (ws : List ℕ) where
+  pub one-name : n ≡ 0 → Begins ws (mainBegins g n width height) (Stopped 60 0) ws
+  unfolding mainBegins shownEnding refuse fail _>>=_ goOn
+  one-name z = record { equal = λ ts. rw (eq-eqb n 0 z) }
 
-  module _ (t : not ok ≡ false) (ok₂ : Bool) (ws₂ : List ℕ) (h₂ : Passes ws₁ 60 (declare b) ok₂ ws₂) where
-    pub second-refused : not ok₂ ≡ true → Begins ws (mainBegins g a b width height) (Stopped 60 0) ws₂
-    unfolding mainBegins shownEnding
-    second-refused t₂ = record { equal = λ ts. sym (after-pass _ 0 ts (rw (not-false ok t) at h) ∙ after-refusal _ 0 ts (rw (not-true ok₂ t₂) at h₂)) }
+  module _ (some : n ≡ 0 → ⊥) (limit : ℕ) (l : limit ≡ callsGranted g) (ok : Bool) (ws₁ : List ℕ) (h : Pays ws callsUsed limit 1 ok ws₁) where
+    paid-then : (ts : List ℕ) → mainBegins g n width height (raw ts ws)
+        ≡ goOn (passed ok 81 0 ts ws₁) (λ _. openFrame 0 2 n 0 >>= λ _. setVariable 0 (packed (Integer width)) >>= λ _. setVariable 1 (packed (Integer height)))
+    unfolding mainBegins refuse give _>>=_ goOn
+    paid-then ts = rw (ne-eqb n 0 some, ← l, ← h .equal 81 0 ts)
 
-    module _ (t₂ : not ok₂ ≡ false) (limit : ℕ) (l : limit ≡ callsGranted g) (ok₃ : Bool) (ws₃ : List ℕ) (h₃ : Pays ws₂ callsUsed limit 1 ok₃ ws₃) where
-      declared-then : (ts : List ℕ) → mainBegins g a b width height (raw ts ws)
-          ≡ goOn (passed ok₃ 81 0 ts ws₃) (λ _. setVariable a (packed (Integer width)) >>= λ _. setVariable b (packed (Integer height)))
-      unfolding mainBegins _>>=_
-      declared-then ts = after-pass _ 0 ts (rw (not-false ok t) at h) ∙ after-pass _ 0 ts (rw (not-false ok₂ t₂) at h₂) ∙ rw (← l, ← h₃ .equal 81 0 ts)
+    pub call-refused : not ok ≡ true → Begins ws (mainBegins g n width height) (Stopped 81 0) ws₁
+    unfolding passed goOn shownEnding
+    call-refused t = record { equal = λ ts. sym (paid-then ts ∙ rw (not-true ok t)) }
 
-      pub call-refused : not ok₃ ≡ true → Begins ws (mainBegins g a b width height) (Stopped 81 0) ws₃
-      unfolding passed goOn shownEnding
-      call-refused t₃ = record { equal = λ ts. sym (declared-then ts ∙ rw (not-true ok₃ t₃)) }
+    module _ (t : not ok ≡ false) (ok₂ : Bool) (ws₂ : List ℕ) (h₂ : Passes ws₁ 20 (openFrame 0 2 n) ok₂ ws₂) where
+      opened-then : (ts : List ℕ) → mainBegins g n width height (raw ts ws)
+          ≡ (openFrame 0 2 n 0 >>= λ _. setVariable 0 (packed (Integer width)) >>= λ _. setVariable 1 (packed (Integer height))) (raw ts ws₁)
+      unfolding passed goOn
+      opened-then ts = paid-then ts ∙ rw (not-false ok t)
 
-      pub both-entered : not ok₃ ≡ false → SFits w32 width → SFits w32 height → (w k : ℕ) (ws₄ ws₅ : List ℕ) → w ≡ packed (Integer (held width)) → Gives ws₃ (setVariable a w) tt ws₄
-          → k ≡ packed (Integer (held height)) → Gives ws₄ (setVariable b k) tt ws₅ → Begins ws (mainBegins g a b width height) Complete ws₅
-      unfolding passed goOn shownEnding
-      both-entered t₃ f f₂ w k ws₄ ws₅ e s e₂ s₂ =
+      pub frame-refused : not ok₂ ≡ true → Begins ws (mainBegins g n width height) (Stopped 20 0) ws₂
+      unfolding shownEnding
+      frame-refused t₂ = record { equal = λ ts. sym (opened-then ts ∙ after-refusal _ 0 ts (rw (not-true ok₂ t₂) at h₂)) }
+
+      pub both-entered : not ok₂ ≡ false → SFits w32 width → SFits w32 height → (w k : ℕ) (ws₃ ws₄ : List ℕ) → w ≡ packed (Integer (held width)) → Gives ws₂ (setVariable 0 w) tt ws₃
+          → k ≡ packed (Integer (held height)) → Gives ws₃ (setVariable 1 k) tt ws₄ → Begins ws (mainBegins g n width height) Complete ws₄
+      unfolding shownEnding
+      both-entered t₂ f f₂ w k ws₃ ws₄ e s e₂ s₂ =
           let d : w ≡ packed (Integer width) = e ∙ rw (toZ-ofZ f) in
           let d₂ : k ≡ packed (Integer height) = e₂ ∙ rw (toZ-ofZ f₂) in
-          record { equal = λ ts. sym (declared-then ts ∙ rw (not-false ok₃ t₃, ← d, ← d₂) (after-gift _ ts s ∙ sym (s₂ .equal ts))) }
+          record { equal = λ ts. sym (opened-then ts ∙ after-pass _ 0 ts (rw (not-false ok₂ t₂) at h₂) ∙ rw (← d, ← d₂) (after-gift _ ts s ∙ sym (s₂ .equal ts))) }
 
 -- ---- `run_body`
-module _ (program code g : List ℕ) (main : ℕ) (width height : ℤ) (f : SFits w32 width) (f₂ : SFits w32 height) (a x y : ℕ) (ea : a ≡ startIn main) (ex : x ≡ getD code a 0) (ey : y
-    ≡ getD code (a + 1) 0)
-    (ts ws ws₁ : List ℕ) (begun : Ending) (begins : Begins ws (mainBegins g x y (held width) (held height)) begun ws₁) where
-  begun-so : shownEnding begun ts ws₁ ≡ mainBegins g (getD code (startIn main) 0) (getD code (startIn main + 1) 0) width height (raw ts ws)
-  begun-so = begins .equal ts ∙ rw (toZ-ofZ f, toZ-ofZ f₂, ex, ey, ea)
+module _ (program code g : List ℕ) (main : ℕ) (width height : ℤ) (f : SFits w32 width) (f₂ : SFits w32 height) (a n : ℕ) (ea : a ≡ startIn main) (en : n ≡ frameIn main)
+    (ts ws ws₁ : List ℕ) (begun : Ending) (begins : Begins ws (mainBegins g n (held width) (held height)) begun ws₁) where
+  begun-so : shownEnding begun ts ws₁ ≡ mainBegins g (frameIn main) width height (raw ts ws)
+  begun-so = begins .equal ts ∙ rw (toZ-ofZ f, toZ-ofZ f₂, en)
 
   pub not-entered : (k p : ℕ) → begun ≡ Stopped k p → shownEnding (Stopped k p) ts ws₁ ≡ bodyRun (setting program code g) main width height (raw ts ws)
   unfolding bodyRun shownEnding _>>=_ goOn
@@ -156,6 +163,17 @@ module _ (program code g : List ℕ) (main : ℕ) (width height : ℤ) (f : SFit
   main-left q y ws₂ b = b .equal ts₁ ∙ sym (rw (← ran-so, q))
 
 -- ---- `run_read`
+-- how many tokens a program has that was read
+counted : (program tokens₁ : List ℕ) (r : Program) → Kept r (tokensIn program) tokens₁ → (main n t : ℕ) → r ≡ Formed main n t → t ≡ length (tokensIn program)
+unfolding Kept
+counted program tokens₁ r kept main n t e = (rw e at kept) .0
+
+pub few-tokens : (program code tokens₁ : List ℕ) (r : Program) → seen r code ≡ coded (tokensIn program) (reading program) → Kept r (tokensIn program) tokens₁
+    → (main n t : ℕ) → r ≡ Formed main n t → t ≤ 8192
+few-tokens program code tokens₁ r left kept main n t e =
+    let w = whole program code main n t (ap (λ (a : Program). seen a code) (sym e) ∙ left) in
+    omega (arith, counted program tokens₁ r kept main n t e, w .1 .read .few)
+
 module _ (program code g tokens unread ts ws : List ℕ) (ready : ReadyToRead program g tokens unread ts ws) (width height : ℤ) (r : Program)
     (left : seen r code ≡ coded (tokensIn program) (reading program)) where
   pub way-malformed : (k i : ℕ) → r ≡ Malformed k i → Ran program g (readingRun program width height g) (Stopped k i) ts ws
@@ -166,12 +184,15 @@ module _ (program code g tokens unread ts ws : List ℕ) (ready : ReadyToRead pr
     way-parameters h =
         read-parameters program code g ts ws (ready .short) width height r left main n t e (ready .blank .front stepsUsed (omega arith)) (λ p. h (q ∙ p))
 
-    pub way-main : k ≡ 2 → SFits w32 width → SFits w32 height → (x : Ending) (ts₁ ws₁ : List ℕ)
-        → shownEnding x ts₁ ws₁ ≡ mainRun (setting program code g) main (held width) (held height) (raw ts ws)
-        → Ran program g (readingRun program width height g) x ts₁ ws₁
-    way-main two f f₂ x ts₁ ws₁ h =
-        read-body program code g ts ws (ready .short) width height r left main n t e (sym q ∙ two) (ready .ready .lent) (ready .blank) (f .sfits) (f₂ .sfits) x ts₁ ws₁
-        (rw (toZ-ofZ f, toZ-ofZ f₂) at h)
+    -- its variables numbered, with the slice of tokens as a table
+    module _ (tokens₁ : List ℕ) (kept : Kept r (tokensIn program) tokens₁) where
+      pub way-main : k ≡ 2 → length tokens₁ ≡ length tokens → (code₁ tokens₂ : List ℕ) (word : ℕ) → pass code₁ tokens₂ word ≡ numberAll main t code tokens₁
+          → SFits w32 width → SFits w32 height → (x : Ending) (ts₁ ws₁ : List ℕ)
+          → shownEnding x ts₁ ws₁ ≡ mainRun (setting program code₁ g) word (held width) (held height) (raw ts ws)
+          → Ran program g (readingRun program width height g) x ts₁ ws₁
+      way-main two long code₁ tokens₂ word numbered f f₂ x ts₁ ws₁ h =
+          read-body program code g ts ws (ready .short) width height r left main n t e tokens₁ code₁ tokens₂ word (counted program tokens₁ r kept main n t e) (omega (arith, long, ready .ready .tokensLong)) numbered
+          (sym q ∙ two) (ready .ready .lent) (ready .blank) (f .sfits) (f₂ .sfits) x ts₁ ws₁ (rw (toZ-ofZ f, toZ-ofZ f₂) at h)
 
 -- ---- `clear_first`
 zero-at : (n i : ℕ) → _≡_ {A = ℕ} (getD (replicate n 0) i 0) 0

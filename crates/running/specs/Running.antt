@@ -4,6 +4,7 @@ use mathlib.Core.Path.{_≡_}
 use mathlib.Core.List.{List}
 use lib.ListN.{length, getD}
 use lib.IntN.{ℤ}
+use lib.Dec.{eqb}
 use Rattle.meaning.specs.Grammar.{reading}
 use Rattle.meaning.specs.Figure.{Figure}
 use Rattle.meaning.specs.State.{State}
@@ -13,10 +14,11 @@ use Rattle.meaning.specs.Program.{empty, painting}
 use Rattle.meaning.specs.Picture.{linesOf}
 use Rattle.machine.specs.declared.Value.the-variants.{Integer}
 use Rattle.machine.specs.Words.{packed}
-use Rattle.machine.specs.Opcodes.{startIn, bodyIn}
+use Rattle.machine.specs.Opcodes.{startIn, bodyIn, frameIn}
 use Rattle.machine.specs.Layout.{stepsUsed, callsUsed, linesLength, stepsGranted, callsGranted, argumentPlace, entryPlace, componentPlace, Room}
-use Rattle.machine.specs.Act.{Raw, raw, Out, done, stop, Act, give, store, spend, _>>_, _>>=_}
-use Rattle.machine.specs.Variables.{declare, setVariable}
+use Rattle.machine.specs.Act.{Raw, raw, Out, done, stop, Act, give, refuse, store, spend, _>>_, _>>=_}
+use Rattle.machine.specs.Variables.{setVariable}
+use Rattle.machine.specs.Procedures.{openFrame}
 use Rattle.machine.specs.Evaluate.{Setting}
 use Rattle.machine.specs.Interpret.{bodyAt}
 use Rattle.machine.specs.Show.{showScene}
@@ -28,14 +30,14 @@ use Rattle.running.specs.Specified.{paintRead}
 use Rattle.running.specs.declared.Ending.{Ending}
 use Rattle.running.specs.declared.Ending.the-variants.{Complete, Stopped}
 
--- ---- main begins, by its parameters' slots: both are declared, 60 if they have one name, main is the first call, and they hold the width and the height
-unfoldable pub mainBegins : List ℕ → ℕ → ℕ → ℤ → ℤ → Act (Unit {0})
-mainBegins g a b width height = do
-  declare a 0
-  declare b 0
+-- ---- main begins, by how many words its variables take: 60 if its parameters have one name, it is the first call, and they hold the width and the height
+unfoldable pub mainBegins : List ℕ → ℕ → ℤ → ℤ → Act (Unit {0})
+mainBegins g n width height = do
+  refuse (eqb n 0) 60 0
   spend callsUsed (callsGranted g) 1 81 0
-  setVariable a (packed (Integer width))
-  setVariable b (packed (Integer height))
+  openFrame 0 2 n 0
+  setVariable 0 (packed (Integer width))
+  setVariable 1 (packed (Integer height))
 
 -- how deep expressions, statements and calls may be inside one another: 64 calls of a program's whole code need less than half of it
 abbrev pub mainFuel : ℕ
@@ -44,7 +46,7 @@ mainFuel = 2097152
 -- main's body, by main's word in the table, with its parameters
 unfoldable pub bodyRun : Setting → ℕ → ℤ → ℤ → Act (Unit {0})
 bodyRun e main width height = do
-  mainBegins (e .grants) (getD (e .code) (startIn main) 0) (getD (e .code) (startIn main + 1) 0) width height
+  mainBegins (e .grants) (frameIn main) width height
   bodyAt mainFuel e (startIn main + 2) (bodyIn main)
   give tt
 

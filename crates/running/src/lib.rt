@@ -33,30 +33,23 @@ fn is_sheet(width: i32, height: i32) -> bool
     0 < width && 0 < height
 }
 
-// Main begins, by its parameters' slots: they hold the width and the height; 60 if they have one name. Main is the first call.
-fn enter(
-    words: &mut [u64],
-    grants: &[u64; 5],
-    a: usize,
-    b: usize,
-    width: i32,
-    height: i32,
-) -> Ending
+// Main begins, by how many words its variables take: its parameters hold the width and the height; 60 if they have one name. Main is the first call.
+fn enter(words: &mut [u64], grants: &[u64; 5], n: usize, width: i32, height: i32) -> Ending
     requires { ⌜ fixedWords ≤ length (now words) ⌝ }
-    ensures { λ r. ⌜ Begins (now (words .entry)) (mainBegins (now (grants .entry)) a b width height) r (now (words .exit)) ⌝ }
+    ensures { λ r. ⌜ Begins (now (words .entry)) (mainBegins (now (grants .entry)) n width height) r (now (words .exit)) ⌝ }
 {
-    if !stores::variables::declare(words, a) {
-        return Ending::Stopped(60, 0);
-    }
-    if !stores::variables::declare(words, b) {
+    if n == 0 {
         return Ending::Stopped(60, 0);
     }
     let limit = grants[granted::CALLS];
     if !stores::counters::spend_one(words, counters::CALLS, limit) {
         return Ending::Stopped(81, 0);
     }
-    stores::variables::set_variable(words, a, values::pack(Value::Integer(width)));
-    stores::variables::set_variable(words, b, values::pack(Value::Integer(height)));
+    if !stores::calls::open_frame(words, 0, 2, n) {
+        return Ending::Stopped(20, 0);
+    }
+    stores::variables::set_variable(words, 0, values::pack(Value::Integer(width)));
+    stores::variables::set_variable(words, 1, values::pack(Value::Integer(height)));
     Ending::Complete
 }
 
@@ -76,9 +69,7 @@ fn run_body(
         ≡ bodyRun (setting (now (program .entry)) (now (code .entry)) (now (grants .entry))) main width height (raw (now (texts .entry)) (now (words .entry))) ⌝ }
 {
     let a = code::start_of(main);
-    let x = stores::words::word_at(code, a) as usize;
-    let y = stores::words::word_at(code, a + 1) as usize;
-    match enter(words, grants, x, y, width, height) {
+    match enter(words, grants, code::frame_of(main), width, height) {
         Ending::Complete => {}
         Ending::Stopped(k, p) => return Ending::Stopped(k, p),
     }
@@ -152,10 +143,11 @@ fn run_read(
 {
     match reader::read(program, tokens, code) {
         Program::Malformed(k, at) => Ending::Stopped(k, at as u64),
-        Program::Formed(main, _, _) => {
+        Program::Formed(main, _, n) => {
             if code::parameters_of(main) != 2 {
                 return Ending::Stopped(20, 0);
             }
+            let main = numbering::number(code, tokens, n, main);
             let r = run_main(program, code, grants, texts, words, main, width, height);
             r
         }

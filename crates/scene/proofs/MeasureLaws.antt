@@ -11,7 +11,8 @@ use borrow.Author.Tests.{ne-eqb, not-true, not-false}
 use Rattle.meaning.specs.Basics.{if_then_else_}
 use Rattle.meaning.specs.Picture.{lineOf}
 use Rattle.machine.specs.Words.{kindIn, kindShape, numberIn, unpacked}
-use Rattle.machine.specs.Layout.{declared, linesLength, stepsUsed, stepsGranted, valuePlace, orderPlace, Room}
+use Rattle.machine.specs.Layout.{declared, linesLength, frame, stepsUsed, stepsGranted, fixedWords, Room}
+use Rattle.machine.specs.Variables.{holdingOf}
 use Rattle.machine.specs.Act.{Raw, raw, Out, done, stop, Act, goOn, _>>=_, give, load, store, held, count, passed, Passes, Gives}
 use Rattle.machine.specs.Shapes.{isGroupAt, destroyedAt}
 use Rattle.machine.specs.Groups.{componentAt, wayPlace}
@@ -126,48 +127,55 @@ module _ (k : Act (Unit {0})) {ws ws′ : List ℕ} {act : Act (Unit {0})} {r : 
   unfolding _>>=_ goOn passed
   after-number z = ap (λ (o : Out (Unit {0})). goOn o (λ _. k)) (sym (h .equal us)) ∙ rw (ne-eqb r 0 z)
 
-pub record Measures (program ts g ws₀ : List ℕ) (n : ℕ) (ws : List ℕ) (k : ℕ) : Type 0 where
+pub record Measures (program ts g ws₀ : List ℕ) (f n : ℕ) (ws : List ℕ) (k : ℕ) : Type 0 where
   pub small : n < 2 ^ 64
-  pub rest : (us : List ℕ) → showFrom (sizeWith program ts) g 0 n (raw us ws₀) ≡ showFrom (sizeWith program ts) g k (n - k) (raw us ws)
+  pub rest : (us : List ℕ) → showFrom (sizeWith program ts) g f 0 n (raw us ws₀) ≡ showFrom (sizeWith program ts) g f k (n - k) (raw us ws)
   pub long : length ws ≡ length ws₀
 
 from-none : (n : ℕ) → n - 0 ≡ n
 from-none n = omega arith
 
-module _ (program ts g ws₀ : List ℕ) (n : ℕ) where
-  pub measures-first : n < 2 ^ 64 → Measures program ts g ws₀ n ws₀ 0
+-- those of the call under way
+abbrev showsAll : List ℕ → List ℕ → List ℕ → List ℕ → Act (Unit {0})
+showsAll program ts g ws = showFrom (sizeWith program ts) g (getD ws frame 0) 0 (getD ws declared 0)
+
+module _ (program ts g ws₀ : List ℕ) (f n : ℕ) where
+  pub measures-first : n < 2 ^ 64 → Measures program ts g ws₀ f n ws₀ 0
   measures-first s = record { small = s; rest = λ us. rw (from-none n); long = refl }
 
-  module _ (ws : List ℕ) (k : ℕ) (a : Measures program ts g ws₀ n ws k) where
+  module _ (ws : List ℕ) (k : ℕ) (a : Measures program ts g ws₀ f n ws k) where
     pub measures-room : Room g ws₀ → Room g ws
     measures-room r = room-same r (a .long)
 
-    pub measures-all : n ≡ getD ws₀ declared 0 → n ≤ k → Finishes ws₀ (showFrom (sizeWith program ts) g 0 (getD ws₀ declared 0)) 0 ws
+    pub measures-long : Room g ws₀ → fixedWords ≤ length ws
+    measures-long r = omega (arith, r .words, a .long)
+
+    pub measures-all : f ≡ getD ws₀ frame 0 → n ≡ getD ws₀ declared 0 → n ≤ k → Finishes ws₀ (showsAll program ts g ws₀) 0 ws
     unfolding showFrom passed give
-    measures-all e h = let q : n - k ≡ 0 = omega arith in record { equal = λ us. rw (← e) (sym (a .rest us ∙ rw q)) }
+    measures-all d e h = let q : n - k ≡ 0 = omega arith in record { equal = λ us. rw (← d, ← e) (sym (a .rest us ∙ rw q)) }
 
-    module _ (r : ℕ) (ws′ : List ℕ) (h : k < n) (d : Finishes ws (showIn (sizeWith program ts) g (unpacked (getD ws (valuePlace (getD ws (orderPlace k) 0)) 0))) r ws′) where
-      turn-is : (us : List ℕ) → showFrom (sizeWith program ts) g k (n - k) (raw us ws)
-          ≡ (showIn (sizeWith program ts) g (unpacked (getD ws (valuePlace (getD ws (orderPlace k) 0)) 0)) >>= λ _. showFrom (sizeWith program ts) g (k + 1) (n - (k + 1))) (raw us ws)
-      unfolding showFrom _>>=_ goOn load
-      turn-is us = let q : n - k ≡ suc (n - (k + 1)) = omega arith in rw q
+    module _ (w r : ℕ) (ws′ : List ℕ) (h : k < n) (i : w ≡ holdingOf ws f k) (d : Finishes ws (showIn (sizeWith program ts) g (unpacked w)) r ws′) where
+      turn-is : (us : List ℕ) → showFrom (sizeWith program ts) g f k (n - k) (raw us ws)
+          ≡ (showIn (sizeWith program ts) g (unpacked w) >>= λ _. showFrom (sizeWith program ts) g f (k + 1) (n - (k + 1))) (raw us ws)
+      unfolding showFrom _>>=_ goOn held
+      turn-is us = let q : n - k ≡ suc (n - (k + 1)) = omega arith in rw (q, i)
 
-      pub measures-more : r ≡ 0 → length ws′ ≡ length ws → Measures program ts g ws₀ n ws′ (k + 1)
+      pub measures-more : r ≡ 0 → length ws′ ≡ length ws → Measures program ts g ws₀ f n ws′ (k + 1)
       measures-more z l = record {
         small = a .small;
-        rest = λ us. a .rest us ∙ turn-is us ∙ after-end (showFrom (sizeWith program ts) g (k + 1) (n - (k + 1))) d us z;
+        rest = λ us. a .rest us ∙ turn-is us ∙ after-end (showFrom (sizeWith program ts) g f (k + 1) (n - (k + 1))) d us z;
         long = l ∙ a .long;
       }
 
-      pub measures-stop : n ≡ getD ws₀ declared 0 → (r ≡ 0 → ⊥) → Finishes ws₀ (showFrom (sizeWith program ts) g 0 (getD ws₀ declared 0)) r ws′
+      pub measures-stop : f ≡ getD ws₀ frame 0 → n ≡ getD ws₀ declared 0 → (r ≡ 0 → ⊥) → Finishes ws₀ (showsAll program ts g ws₀) r ws′
       unfolding passed
-      measures-stop e z = record {
-        equal = λ us. rw (← e, ne-eqb r 0 z) (sym (a .rest us ∙ turn-is us ∙ after-number (showFrom (sizeWith program ts) g (k + 1) (n - (k + 1))) d us z));
+      measures-stop c e z = record {
+        equal = λ us. rw (← c, ← e, ne-eqb r 0 z) (sym (a .rest us ∙ turn-is us ∙ after-number (showFrom (sizeWith program ts) g f (k + 1) (n - (k + 1))) d us z));
       }
 
 -- ---- all
 pub scene-measured : (program ts g ws ws₁ : List ℕ) (r : ℕ) (ws₂ : List ℕ) → ws₁ ≡ set ws linesLength 0
-    → Finishes ws₁ (showFrom (sizeWith program ts) g 0 (getD ws₁ declared 0)) r ws₂ → Finishes ws (showScene (sizeWith program ts) g) r ws₂
+    → Finishes ws₁ (showsAll program ts g ws₁) r ws₂ → Finishes ws (showScene (sizeWith program ts) g) r ws₂
 unfolding showScene _>>=_ goOn load store
 scene-measured program ts g ws ws₁ r ws₂ s h = record { equal = λ us. (rw s at h) .equal us }
 

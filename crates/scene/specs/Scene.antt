@@ -7,11 +7,12 @@ use lib.Dec.{eqb}
 use Rattle.meaning.specs.Basics.{if_then_else_}
 use Rattle.meaning.specs.Figure.{Figure}
 use Rattle.machine.specs.Words.{kindIn, numberIn}
-use Rattle.machine.specs.Layout.{declared, valuePlace, orderPlace, shapesGranted}
+use Rattle.machine.specs.Layout.{declared, frame, shapesGranted}
 use Rattle.machine.specs.Act.{Raw}
 use Rattle.machine.specs.Texts.{textOf}
 use Rattle.machine.specs.Shapes.{destroyedAt, figureAt}
 use Rattle.machine.specs.Show.{figuresIn}
+use Rattle.machine.specs.Variables.{holdingOf}
 use Rattle.picture.specs.Parts.{figureFrom}
 
 -- the figure of the shape numbered i
@@ -30,9 +31,9 @@ unfoldable pub shownBy : List ℕ → List ℕ → ℕ → List ℕ
 shownBy g ws w =
     if eqb (kindIn w) 6 && not (destroyedAt ws (numberIn w)) then (λ _. figuresIn (shapesGranted g) g ws (numberIn w)) else λ _. []
 
--- the word of the k-th declaration's variable
+-- what the k-th declaration's variable holds
 abbrev pub wordOf : List ℕ → ℕ → ℕ
-wordOf ws k = getD ws (valuePlace (getD ws (orderPlace k) 0)) 0
+wordOf ws k = holdingOf ws (getD ws frame 0) k
 
 -- what the variables of the first n declarations add
 unfoldable pub shownFirst : List ℕ → List ℕ → ℕ → List ℕ

@@ -2,14 +2,14 @@
 use crate::lines;
 use machine::counters;
 use machine::kinds;
-use machine::layout;
 use stores::components;
 use stores::shapes;
+use stores::variables;
 use walks::Turn;
 ghost use Prim.Native.Nat.{_≤_};
 ghost use lib.ListN.{length, getD};
 ghost use Rattle.machine.specs.Words.{unpacked};
-ghost use Rattle.machine.specs.Layout.{declared, fixedWords, Room};
+ghost use Rattle.machine.specs.Layout.{declared, frame, fixedWords, Room};
 ghost use Rattle.machine.specs.Act.{Gives, Passes};
 ghost use Rattle.machine.specs.Show.{measure, show, showIn, showFrom, showScene};
 ghost use Rattle.walks.specs.Walks.{Ends, walking, Turned, Under};
@@ -155,13 +155,13 @@ fn measure_variables<'a>(
 ) -> u64
     requires { ⌜ Room (now grants) (now words) ⌝ }
     ensures { λ r. ⌜ Finishes (now (words .entry))
-        (showFrom (sizeWith (now (program .entry)) (now (texts .entry))) (now (grants .entry)) 0 (getD (now (words .entry)) declared 0)) r (now (words .exit)) ⌝ }
+        (showFrom (sizeWith (now (program .entry)) (now (texts .entry))) (now (grants .entry)) (getD (now (words .entry)) frame 0) 0 (getD (now (words .entry)) declared 0)) r (now (words .exit)) ⌝ }
 {
-    let n = words[counters::DECLARED] as usize;
+    let f = variables::frame(words);
+    let n = variables::declared_count(words);
     let mut k = 0;
     while k < n {
-        let slot = words[layout::FIRST_ORDER + k % layout::SLOTS] as usize;
-        let w = words[layout::FIRST_VALUE + slot % layout::SLOTS];
+        let w = variables::holding_of(words, f, k);
         let r = measure_in(program, texts, words, grants, w);
         if r != 0 {
             return r;

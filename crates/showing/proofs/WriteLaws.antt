@@ -16,7 +16,8 @@ use borrow.Author.Tests.{lt-ltb, le-ltb, eq-eqb, ne-eqb}
 use Rattle.meaning.specs.Basics.{if_then_else_, laidOver}
 use Rattle.meaning.specs.Picture.{lineOf, linesOf, pictureOf}
 use Rattle.machine.specs.Words.{kindIn, numberIn}
-use Rattle.machine.specs.Layout.{declared, linesLength, fixedWords, shapesGranted, valuePlace, orderPlace, Room}
+use Rattle.machine.specs.Layout.{declared, linesLength, fixedWords, frame, shapesGranted, argumentPlace, Room}
+use Rattle.machine.specs.Variables.{numberOf}
 use Rattle.machine.specs.Act.{raw}
 use Rattle.machine.specs.Shapes.{isGroupAt, destroyedAt}
 use Rattle.machine.specs.Groups.{componentAt, firstAt}
@@ -201,7 +202,10 @@ module _ (program ts g ws₀ : List ℕ) (n start : ℕ) (before : List ℕ) whe
         }
       where
         word-same : wordOf ws k ≡ wordOf ws₀ k
-        word-same = rw (same-fixed g ws₀ ws (a .unmoved) (orderPlace k) (omega arith)) (same-fixed g ws₀ ws (a .unmoved) (valuePlace (getD ws₀ (orderPlace k) 0)) (omega arith))
+        word-same =
+            let f = getD ws₀ frame 0 in
+            let same = same-fixed g ws₀ ws (a .unmoved) in
+            rw (same frame (omega arith), same (argumentPlace (f + k)) (omega arith), same (argumentPlace (f + numberOf ws₀ f k)) (omega arith))
 
     pub write-all : n ≡ getD ws₀ declared 0 → n ≤ k → Shown program ts g ws₀ (shownFirst g ws₀ (getD ws₀ declared 0)) start before ws now at
     write-all e h = let q : k ≡ getD ws₀ declared 0 = omega (arith, a .upto) in record { wrote = rw (← q) (a .wrote); unmoved = a .unmoved }

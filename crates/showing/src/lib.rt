@@ -25,7 +25,7 @@ fn declared_word(words: &[u64], k: usize) -> u64
     requires { ⌜ fixedWords ≤ length (now words) ⌝ }
     ensures { λ r. ⌜ r ≡ wordOf (now (words .entry)) k ⌝ }
 {
-    variables::word_of(words, variables::slot_at(words, k))
+    variables::holding_of(words, variables::frame(words), k)
 }
 
 // The line of a figure at a depth.

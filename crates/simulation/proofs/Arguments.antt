@@ -10,15 +10,16 @@ use borrow.Author.Tests.{lt-leb}
 use Rattle.meaning.specs.Token.{Token}
 use Rattle.meaning.specs.State.{State}
 use Rattle.meaning.specs.Book.{Amounts}
-use Rattle.machine.specs.Layout.{stepsUsed, shapesUsed, entriesUsed, textUsed, tablesMade, argumentsHeld, callsUsed, entriesMade, componentsMade, stackWords, argumentPlace, firstArgument}
+use Rattle.machine.specs.Layout.{stepsUsed, shapesUsed, entriesUsed, textUsed, tablesMade, declared, argumentsHeld, callsUsed, running, entriesMade, componentsMade, frame}
+use Rattle.machine.specs.Layout.{stackWords, argumentPlace, firstArgument}
 use Rattle.machine.specs.Act.{Raw, raw, done}
 use Rattle.machine.specs.Act as Act
 use Rattle.machine.specs.Stack.{argumentAt, push}
-use Rattle.simulation.specs.Sound.{Counted, Waiting}
+use Rattle.simulation.specs.Sound.{Counted, Variables}
 use Rattle.simulation.specs.Follows.{Related, Later}
-use Rattle.simulation.proofs.Frames.{stays-words, later-trans, untouched-trans, SameWaiting, same-waiting}
+use Rattle.simulation.proofs.Frames.{stays-words, later-trans, untouched-trans, SameVariables, SameWaiting, same-waiting}
 use Rattle.simulation.proofs.Results.{Untouched, After}
-use Rattle.simulation.proofs.Counting.{other, here, Aside, aside, set-untouched, set-related}
+use Rattle.simulation.proofs.Counting.{other, here, Aside, aside, set-untouched, same-variables, set-related}
 
 module _ {program : List ℕ} {ts : List Token} {g : List ℕ} where
   -- ---- one word of the stack, or its height
@@ -55,9 +56,9 @@ module _ {program : List ℕ} {ts : List Token} {g : List ℕ} where
       calls = rw calls-same (c .calls);
     }
 
-    stack-related : SameWaiting program ts r next → Related program ts g next s total
-    stack-related sw =
-        set-related h i x beside stack-later (λ e. omega arith) (λ e. omega arith) made stack-counted sw
+    stack-related : SameVariables program ts r next → SameWaiting program ts r next → Related program ts g next s total
+    stack-related sv sw =
+        set-related h i x beside stack-later sv (λ e. omega arith) made stack-counted sw
         refl refl refl (h .tables ∙ sym (counter tablesMade (omega arith))) refl
         (h .stepsTaken ∙ sym (counter stepsUsed (omega arith))) (h .shapesTaken ∙ sym (counter shapesUsed (omega arith)))
         (h .entriesTaken ∙ sym (counter entriesUsed (omega arith))) (h .textTaken ∙ sym (counter textUsed (omega arith))) (h .callsTaken ∙ sym calls-same)
@@ -71,7 +72,7 @@ module _ (program : List ℕ) (ts : List Token) (g : List ℕ) where
     pub tables : getD (r′ .words) tablesMade 0 ≡ getD (r .words) tablesMade 0
     pub held : getD (r′ .words) argumentsHeld 0 ≡ getD (r .words) argumentsHeld 0 + 1
     pub newest : argumentAt (r′ .words) (getD (r .words) argumentsHeld 0) ≡ w
-    pub untouched : Untouched g r r′
+    pub untouched : Untouched program ts g r r′
 
 module _ {program : List ℕ} {ts : List Token} {g : List ℕ} where
   module _ {r : Raw} {s : State} {total : Amounts} (h : Related program ts g r s total) (room : getD (r .words) argumentsHeld 0 < stackWords) (w : ℕ) where
@@ -88,7 +89,8 @@ module _ {program : List ℕ} {ts : List Token} {g : List ℕ} where
       unit = λ e. omega arith;
       calls = λ e. omega arith;
       running = λ e. omega arith;
-      variables = λ j a b e. omega arith;
+      frame = λ e. omega arith;
+      waiting = λ j a b e. omega arith;
     }
 
     first-few : getD (first .words) argumentsHeld 0 ≤ stackWords
@@ -97,12 +99,13 @@ module _ {program : List ℕ} {ts : List Token} {g : List ℕ} where
     first-later : Later program r first
     first-later = stack-later h (argumentPlace (getD (r .words) argumentsHeld 0)) w (omega arith) on-stack (λ e. omega arith) first-few
 
-    first-untouched : Untouched g r first
+    first-untouched : Untouched program ts g r first
     first-untouched = set-untouched h (argumentPlace (getD (r .words) argumentsHeld 0)) w on-stack (λ k l e. omega arith)
 
     h₁ : Related program ts g first s total
     h₁ = stack-related h (argumentPlace (getD (r .words) argumentsHeld 0)) w (omega arith) on-stack (λ e. omega arith) first-few
-        (same-waiting first-later first-untouched (rw (first-other argumentsHeld (omega arith)) (le-refl _)) (h .sound .waiting) ts)
+        (same-variables h (argumentPlace (getD (r .words) argumentsHeld 0)) w on-stack (λ e. omega arith) (rw (first-other argumentsHeld (omega arith)) (le-refl _)) (λ k l e. omega arith))
+        (same-waiting first-later first-untouched (h .sound .waiting))
 
     abbrev pub pushedOn : Raw
     pushedOn = raw (r .texts) (set (set (r .words) (argumentPlace (getD (r .words) argumentsHeld 0)) w) argumentsHeld (getD (r .words) argumentsHeld 0 + 1))
@@ -113,13 +116,14 @@ module _ {program : List ℕ} {ts : List Token} {g : List ℕ} where
     push-later : Later program first pushedOn
     push-later = stack-later h₁ argumentsHeld _ (omega arith) (aside h₁ argumentsHeld _ (omega arith)) (λ e. omega arith) (omega (arith, height))
 
-    push-untouched : Untouched g first pushedOn
+    push-untouched : Untouched program ts g first pushedOn
     push-untouched = set-untouched h₁ argumentsHeld _ (aside h₁ argumentsHeld _ (omega arith)) (λ k l e. omega arith)
 
     pub pushed : Pushed program ts g r w pushedOn s total
     pushed = record {
       related = stack-related h₁ argumentsHeld _ (omega arith) (aside h₁ argumentsHeld _ (omega arith)) (λ e. omega arith) (omega (arith, height))
-          (same-waiting push-later push-untouched (omega (arith, height, first-other argumentsHeld (omega arith))) (h₁ .sound .waiting) ts);
+          (same-variables h₁ argumentsHeld _ (aside h₁ argumentsHeld _ (omega arith)) (λ e. omega arith) (omega (arith, height, first-other argumentsHeld (omega arith))) (λ k l e. omega arith))
+          (same-waiting push-later push-untouched (h₁ .sound .waiting));
       later = later-trans first-later push-later;
       steps = other h₁ argumentsHeld _ stepsUsed (λ e. omega arith) ∙ first-other stepsUsed (omega arith);
       tables = other h₁ argumentsHeld _ tablesMade (λ e. omega arith) ∙ first-other tablesMade (omega arith);
@@ -135,7 +139,7 @@ module _ {program : List ℕ} {ts : List Token} {g : List ℕ} where
   -- back to as many as there were at r₀
   module _ {r₀ r : Raw} {s : State} {total : Amounts} (h : Related program ts g r s total) (l : Later program r₀ r)
       (spare : getD (r .words) tablesMade 0 + getD (r₀ .words) stepsUsed 0 ≤ getD (r₀ .words) tablesMade 0 + getD (r .words) stepsUsed 0)
-      (low : getD (r₀ .words) argumentsHeld 0 ≤ getD (r .words) argumentsHeld 0) (u : Untouched g r₀ r) (waits : Waiting program (r₀ .words)) where
+      (low : getD (r₀ .words) argumentsHeld 0 ≤ getD (r .words) argumentsHeld 0) (u : Untouched program ts g r₀ r) (v : Variables program ts (r₀ .words)) where
     abbrev pub dropped : Raw
     dropped = raw (r .texts) (set (r .words) argumentsHeld (getD (r₀ .words) argumentsHeld 0))
 
@@ -151,21 +155,25 @@ module _ {program : List ℕ} {ts : List Token} {g : List ℕ} where
     all-later : Later program r₀ dropped
     all-later = later-trans l drop-later
 
-    drop-untouched : Untouched g r₀ dropped
-    drop-untouched = untouched-trans low u (set-untouched h argumentsHeld _ (aside h argumentsHeld _ (omega arith)) (λ k l e. omega arith))
+    last-untouched : Untouched program ts g r dropped
+    last-untouched = set-untouched h argumentsHeld _ (aside h argumentsHeld _ (omega arith)) (λ k l e. omega arith)
 
-    level : getD (r₀ .words) argumentsHeld 0 ≤ getD (dropped .words) argumentsHeld 0
-    level = omega (arith, back)
+    -- the frame stays within what is held
+    still-framed : SameVariables program ts r dropped
+    still-framed = record {
+      count = other h argumentsHeld _ declared (λ e. omega arith);
+      procedure = other h argumentsHeld _ running (λ e. omega arith);
+      place = other h argumentsHeld _ frame (λ e. omega arith);
+      words = λ k m. other h argumentsHeld _ _ (λ e. omega arith);
+      within = rw (back, u .frame, u .running) (v .within);
+    }
 
     pub drops : After program ts g r₀ dropped s total
     drops = record {
-      related = stack-related h argumentsHeld _ (omega arith) (aside h argumentsHeld _ (omega arith)) (λ e. omega arith) few
-          (record {
-            waiting = same-waiting all-later drop-untouched level waits ts .waiting;
-            suspended = same-waiting all-later drop-untouched level waits ts .suspended ∙ sym (same-waiting l u low waits ts .suspended);
-          });
+      related = stack-related h argumentsHeld _ (omega arith) (aside h argumentsHeld _ (omega arith)) (λ e. omega arith) few still-framed
+          (same-waiting drop-later last-untouched (h .sound .waiting));
       later = all-later;
       spare = rw (other h argumentsHeld (getD (r₀ .words) argumentsHeld 0) tablesMade (λ e. omega arith), other h argumentsHeld (getD (r₀ .words) argumentsHeld 0) stepsUsed (λ e. omega arith)) spare;
       held = back;
-      untouched = drop-untouched;
+      untouched = untouched-trans low u last-untouched;
     }

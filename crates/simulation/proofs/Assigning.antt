@@ -1,5 +1,5 @@
 -- Assignments: a shape is copied, anything else is put as it is.
-use Prim.Native.Nat.{ℕ, _+_, _*_, _/_, _%_, _^_, _≤_, _<_}
+use Prim.Native.Nat.{ℕ, _+_, _*_, _/_, _%_, _^_, _<_}
 use native.Mathlib.Omega.{arith}
 use mathlib.Core.Path.{_≡_, refl, ap, sym, _∙_, subst}
 use mathlib.Core.Logic.{_≢_}
@@ -7,12 +7,12 @@ use mathlib.Core.Bool.{Bool, true, false}
 use mathlib.Core.List.{List}
 use mathlib.Core.Option.{Option, some}
 use mathlib.Core.Option as Option
-use lib.ListN.{getD, length, set}
+use lib.ListN.{getD, set}
 use lib.Dec.{eqb}
 use lib.IntN.{pos, negsuc}
 use borrow.Author.Tests.{eqb-true, eqb-false, ne-eqb}
 use Rattle.meaning.specs.Basics.{if_then_else_}
-use Rattle.meaning.specs.Token.{Token, aName}
+use Rattle.meaning.specs.Token.{Token}
 use Rattle.meaning.specs.Integer.{bits}
 use Rattle.meaning.specs.Value as Value
 use Rattle.meaning.specs.State.{State, contentOf, valueIn, isSome, assigned, withVariables}
@@ -20,20 +20,22 @@ use Rattle.meaning.specs.Run as Run
 use Rattle.meaning.specs.Book.{Amounts}
 use Rattle.meaning.specs.Group as Group
 use Rattle.meaning.specs.Execute as Execute
-use Rattle.code.specs.Code.{slotOf}
-use Rattle.reader.proofs.Homes.{Occurs}
+use Rattle.numbering.specs.Numbers.{numberIn}
 use Rattle.machine.specs.declared.Value.{Value}
 use Rattle.machine.specs.declared.Value.the-variants.{Integer, Text, Boolean, Nothing, Table, Shape}
-use Rattle.machine.specs.Words.{kindIn, kindShape, numberIn, packed}
-use Rattle.machine.specs.Layout.{shapesUsed, valuePlace}
+use Rattle.machine.specs.Words.{kindIn, kindShape, packed}
+use Rattle.machine.specs.Words as Words
+use Rattle.machine.specs.Layout.{shapesUsed, running, frame, argumentPlace}
 use Rattle.machine.specs.Act.{Raw, raw}
 use Rattle.machine.specs.Act as Act
 use Rattle.machine.specs.Shapes.{isGroupAt, figureAt}
 use Rattle.machine.specs.Groups.{copyShape}
-use Rattle.machine.specs.Variables.{setVariable}
+use Rattle.machine.specs.Stack.{argumentAt}
+use Rattle.machine.specs.Variables.{withWord, holding, setVariable}
 use Rattle.machine.specs.Evaluate.{Setting}
 use Rattle.machine.specs.declared.Flow.the-variants.{Onward}
 use Rattle.machine.specs.Effects.{copied, assigning}
+use Rattle.simulation.specs.Scope.{scopeOf}
 use Rattle.simulation.specs.Meant.{meantValue, meantWord}
 use Rattle.simulation.specs.Sound.{Valid, Sound}
 use Rattle.simulation.specs.Follows.{Grants, Related, Follows}
@@ -105,7 +107,7 @@ module _ (e : Setting) {ts : List Token} {granted : Amounts} (gr : Grants (e .gr
     unfolding copied if_then_else_ Act.goOn Act.give
     not-copied w n = rw (ne-eqb _ _ n)
 
-    shape-copied : (w i : ℕ) → kindIn w ≡ kindShape → numberIn w ≡ i
+    shape-copied : (w i : ℕ) → kindIn w ≡ kindShape → Words.numberIn w ≡ i
         → Act.goOn (copied (e .grants) p w r) k ≡ Act.goOn (copyShape (e .grants) p i r) (λ v. k (packed v))
     unfolding copied if_then_else_ Act._>>=_ Act.goOn Act.give
     shape-copied w i a b = rw (a, b) (regroup (copyShape (e .grants) p i r) (λ v. Act.give (packed v)) k)
@@ -140,44 +142,54 @@ packed-narrow sound (Shape i) l = omega (arith, shape-small sound i l)
 packed-some : {program : List ℕ} {ts : List Token} {g : List ℕ} {r : Raw} {s : State} {total : Amounts} (h : Related program ts g r s total) (v : Value) → packed v ≢ 0
 packed-some h v q = let k = kind-packed (h .sound) v in omega (arith, rw q at k)
 
-module _ (e : Setting) {ts : List Token} (few : length ts ≤ 8192) {granted : Amounts} (gr : Grants (e .grants) granted) (x : List ℕ) (o : Occurs ts aName x) where
+-- what setting a variable does to the words
+abbrev pub setAt : Raw → ℕ → ℕ → Raw
+setAt r n w = raw (r .texts) (set (r .words) (argumentPlace (getD (r .words) frame 0 + n)) (withWord (argumentAt (r .words) (getD (r .words) frame 0 + n)) w))
+
+-- a name's number in the call under way
+abbrev numberAt : Setting → List Token → List ℕ → Raw → ℕ
+numberAt e ts x r = numberIn (scopeOf (e .program) ts (getD (r .words) running 0)) x
+
+module _ (e : Setting) {ts : List Token} {granted : Amounts} (gr : Grants (e .grants) granted) (x : List ℕ) where
   -- a value put into a declared variable
   puts : {r₀ r : Raw} {s : State} {total : Amounts} (w : Value.Value) {v : Value} {u : Value.Value} → AfterValue (e .program) ts (e .grants) r₀ v u r s total
       → valueIn (s .variables) x ≡ some w
-      → After (e .program) ts (e .grants) r₀ (raw (r .texts) (set (r .words) (valuePlace (slotOf ts x)) (packed v))) (withVariables s (assigned (s .variables) x u)) total
+      → After (e .program) ts (e .grants) r₀ (setAt r (numberAt e ts x r) (packed v)) (withVariables s (assigned (s .variables) x u)) total
   puts {r = r} {s = s} {total = total} w {v} {u} a d =
       let h = a .after .related in
       let back = back-again (h .sound) v (a .valid) in
-      let there : getD (r .words) (valuePlace (slotOf ts x)) 0 ≢ 0 = λ z. let n : some w ≡ Option.none = sym d ∙ undeclared few h x o z in let y : _≡_ {A = ℕ} 0 1 = cc in omega arith in
+      let there : holding (r .words) (numberAt e ts x r) ≢ 0 = λ z. let n : some w ≡ Option.none = sym d ∙ undeclared h x z in let y : _≡_ {A = ℕ} 0 1 = cc in omega arith in
       let m : meantWord (e .program) r (packed v) ≡ u = rw back (sym (a .means)) in
-      onward (a .after) (subst (λ (y : Value.Value). After (e .program) ts (e .grants) r (raw (r .texts) (set (r .words) (valuePlace (slotOf ts x)) (packed v)))
+      onward (a .after) (subst (λ (y : Value.Value). After (e .program) ts (e .grants) r (setAt r (numberAt e ts x r) (packed v))
       (withVariables s (assigned (s .variables) x y)) total) m
-      (put-after few h x o (packed v) there (packed-some h v) (rw back (a .valid)) (packed-narrow (h .sound) v (a .valid))))
+      (put-after h x (packed v) there (packed-some h v) (rw back (a .valid)) (packed-narrow (h .sound) v (a .valid))))
 
   -- a copy put there
   sets : (p : ℕ) {r : Raw} {s : State} {total : Amounts} (h : Related (e .program) ts (e .grants) r s total) (v : Value) → Valid (e .program) (r .words) v
       → (w : Value.Value) → valueIn (s .variables) x ≡ some w
-      → Follows granted total (Flows (e .program) ts (e .grants) r) (Act._>>=_ (copied (e .grants) p (packed v)) (λ c. Act._>>_ (setVariable (slotOf ts x) c) (Act.give Onward)) r)
+      → Follows granted total (Flows (e .program) ts (e .grants) r) (Act._>>=_ (copied (e .grants) p (packed v)) (λ c. Act._>>_ (setVariable (numberAt e ts x r) c) (Act.give Onward)) r)
       (Run._>>=_ (Execute.copied p (meantValue (e .program) (r .texts) v)) (λ u. Run._>>=_ Run.current (λ s′.
       Run._>>_ (Run.become (withVariables s′ (assigned (s′ .variables) x u))) (Run.give Execute.onward))) s)
-  unfolding setVariable Act._>>=_ Act.goOn Act.store Act.give Run._>>=_ Run.goOn Run.current Run.become Run.give
-  sets p h v l w d =
+  unfolding setVariable Act._>>=_ Act.goOn Act.load Act.store Act.give Run._>>=_ Run.goOn Run.current Run.become Run.give
+  sets p {r} h v l w d =
       rw (copied-then e gr h p _ v l)
-      (bind (copies e gr h p v l) (λ c u r′ s′ total′ a. given (record { after = puts w (a .value) (rw (a .variables) d); flow = both-onward })))
+      (bind (copies e gr h p v l) (λ c u r′ s′ total′ a.
+      rw (← a .value .after .untouched .running) (given (record { after = puts w (a .value) (rw (a .variables) d); flow = both-onward }))))
 
   pub assigns : (p : ℕ) {r : Raw} {s : State} {total : Amounts} (h : Related (e .program) ts (e .grants) r s total) (v : Value) → Valid (e .program) (r .words) v
-      → Follows granted total (Flows (e .program) ts (e .grants) r) (assigning (e .grants) p (slotOf ts x) (packed v) r) (Execute.assigning p x (meantValue (e .program) (r .texts) v) s)
-  unfolding assigning Execute.assigning isSome Act._>>=_ Act.goOn Act.load Act.refuse Act.fail Act.give Run._>>=_ Run.goOn Run.current Run.refuse Run.fail Run.give
-  assigns p {r} {s} {total} h v l = go (eqb (getD (r .words) (valuePlace (slotOf ts x)) 0) 0) refl
+      → Follows granted total (Flows (e .program) ts (e .grants) r)
+      (assigning (e .grants) p (numberIn (scopeOf (e .program) ts (getD (r .words) running 0)) x) (packed v) r) (Execute.assigning p x (meantValue (e .program) (r .texts) v) s)
+  unfolding assigning Execute.assigning isSome Act._>>=_ Act.goOn Act.held Act.refuse Act.fail Act.give Run._>>=_ Run.goOn Run.current Run.refuse Run.fail Run.give
+  assigns p {r} {s} {total} h v l = go (eqb (holding (r .words) (numberAt e ts x r)) 0) refl
     where
-      go : (b : Bool) → eqb (getD (r .words) (valuePlace (slotOf ts x)) 0) 0 ≡ b
-          → Follows granted total (Flows (e .program) ts (e .grants) r) (assigning (e .grants) p (slotOf ts x) (packed v) r) (Execute.assigning p x (meantValue (e .program) (r .texts) v) s)
-      go true q = rw (q, undeclared few h x o (eqb-true _ _ q)) (failed 50 p r (steps-told h))
+      go : (b : Bool) → eqb (holding (r .words) (numberAt e ts x r)) 0 ≡ b
+          → Follows granted total (Flows (e .program) ts (e .grants) r) (assigning (e .grants) p (numberAt e ts x r) (packed v) r) (Execute.assigning p x (meantValue (e .program) (r .texts) v) s)
+      go true q = rw (q, undeclared h x (eqb-true _ _ q)) (failed 50 p r (steps-told h))
       go false q =
-          let d = is-declared few h x o (eqb-false _ _ q) in
+          let d = is-declared h x (eqb-false _ _ q) in
           rw (q, d, back-again (h .sound) v l)
           (bind (uses-at h v _ l refl p) (λ _ _ r₁ s₁ total₁ b.
-          at-exactly (Act._>>=_ (copied (e .grants) p (packed v)) (λ c. Act._>>_ (setVariable (slotOf ts x) c) (Act.give Onward)))
+          at-exactly (Act._>>=_ (copied (e .grants) p (packed v)) (λ c. Act._>>_ (setVariable (numberAt e ts x r) c) (Act.give Onward)))
           (Run._>>=_ (Execute.copied p (meantValue (e .program) (r .texts) v)) (λ u. Run._>>=_ Run.current (λ s′.
           Run._>>_ (Run.become (withVariables s′ (assigned (s′ .variables) x u))) (Run.give Execute.onward)))) b
           (sets p h v l _ d)))

@@ -16,15 +16,15 @@ use Rattle.meaning.specs.Group.{each, destroying}
 use Rattle.machine.specs.declared.Value.{Value}
 use Rattle.machine.specs.declared.Value.the-variants.{Integer, Text, Boolean, Nothing, Table, Shape}
 use Rattle.machine.specs.Words.{unpacked}
-use Rattle.machine.specs.Layout.{shapesUsed, declared, callsUsed, framePlace, valuePlace, orderPlace, argumentPlace}
+use Rattle.machine.specs.Layout.{shapesUsed, declared, callsUsed, running, frame, callPlace, argumentPlace}
 use Rattle.machine.specs.Act.{Raw, Out, done, stop, Act}
 use Rattle.machine.specs.Act as Act
 use Rattle.machine.specs.Shapes.{destroyedAt}
 use Rattle.machine.specs.Groups.{destroyAll, destroyLiving}
-use Rattle.machine.specs.Stack.{argumentAt}
-use Rattle.machine.specs.Variables.{wordIn, topIn, countIn, destroyIn, clearFrom, clearWaiting, clearFrames, clearScene}
-use Rattle.simulation.specs.Meant.{meantValue, listed, slotAt, variableAt, variablesOf, waitingAt, frameAt, frameOf, suspendedOf}
-use Rattle.simulation.specs.Sound.{Valid}
+use Rattle.machine.specs.Variables.{numberOf, holdingOf, destroyIn, clearFrom, clearCalls, clearScene}
+use Rattle.simulation.specs.Scope.{scopeOf}
+use Rattle.simulation.specs.Meant.{meantValue, listed, variableAt, frameOf, variablesOf, frameAt, declaredAt, runningAt, waitingOf, suspendedOf}
+use Rattle.simulation.specs.Sound.{Valid, Framed}
 use Rattle.simulation.specs.Follows.{Grants, Related, Follows}
 use Rattle.simulation.proofs.Binding.{bind, give-after}
 use Rattle.simulation.proofs.Listed.{listed-same}
@@ -48,18 +48,15 @@ into X Nothing = Act.give tt
 into X (Table t) = Act.give tt
 into X (Shape i) = living X i
 
-unfoldable pub overFrom : (ℕ → Act (Unit {0})) → ℕ → ℕ → Act (Unit {0})
-overFrom X k zero = Act.give tt
-overFrom X k (suc n) =
-    Act._>>=_ (Act.load (orderPlace k)) (λ slot. Act._>>=_ (Act.load (valuePlace slot)) (λ w. Act._>>_ (into X (unpacked w)) (overFrom X (k + 1) n)))
+-- with those that the variables from the k-th declaration on hold, n of them, in the frame f
+unfoldable pub overFrom : (ℕ → Act (Unit {0})) → ℕ → ℕ → ℕ → Act (Unit {0})
+overFrom X f k zero = Act.give tt
+overFrom X f k (suc n) = Act._>>=_ Act.held (λ ws. Act._>>_ (into X (unpacked (holdingOf ws f k))) (overFrom X f (k + 1) n))
 
-unfoldable pub overWaiting : (ℕ → Act (Unit {0})) → ℕ → ℕ → Act (Unit {0})
-overWaiting X k zero = Act.give tt
-overWaiting X k (suc n) = Act._>>=_ (Act.load (argumentPlace k)) (λ w. Act._>>_ (into X (unpacked (wordIn w))) (overWaiting X (k + 1) n))
-
-unfoldable pub overFrames : (ℕ → Act (Unit {0})) → ℕ → ℕ → Act (Unit {0})
-overFrames X d zero = Act.give tt
-overFrames X d (suc n) = Act._>>=_ (Act.load (framePlace d)) (λ f. Act._>>_ (overWaiting X (topIn f) (countIn f)) (overFrames X (d + 1) n))
+-- of n calls that wait, from the d-th on
+unfoldable pub overCalls : (ℕ → Act (Unit {0})) → ℕ → ℕ → Act (Unit {0})
+overCalls X d zero = Act.give tt
+overCalls X d (suc n) = Act._>>=_ (Act.load (callPlace d)) (λ f. Act._>>=_ (Act.load (callPlace d + 1)) (λ m. Act._>>_ (overFrom X f 0 m) (overCalls X (d + 1) n)))
 
 act-unit : (o : Out (Unit {0})) → Act.goOn o (λ _. Act.give tt) ≡ o
 unfolding Act.goOn Act.give
@@ -118,96 +115,101 @@ module _ (program : List ℕ) (ts : List Token) (g : List ℕ) (granted : Amount
         one false true e = let z : _≡_ {A = ℕ} 0 1 = cc in absurd (omega arith)
         one false false e = d .does h i l
 
-    -- ---- variables of the call under way
-    variables-left : {r r₁ : Raw} {xs : List Meaning.Figure} → Quiet r xs r₁ → (k n : ℕ) → listed (variableAt program ts r₁) k n ≡ listed (variableAt program ts r) k n
+    -- ---- variables of a frame
+    variables-left : {r r₁ : Raw} {xs : List Meaning.Figure} → Quiet r xs r₁ → (names : List (List ℕ)) (f k n : ℕ)
+        → listed (variableAt program names r₁ f) k n ≡ listed (variableAt program names r f) k n
     unfolding variableAt
-    variables-left {r} a k n = listed-same _ _ k n (λ j x y.
-        rw (a .texts, a .low (orderPlace j) (omega arith) (omega arith), a .low (valuePlace (slotAt (r .words) j)) (omega arith) (omega arith)))
+    variables-left {r} a names f k n = listed-same _ _ k n (λ j x y.
+        rw (a .texts, a .low (argumentPlace (f + j)) (omega arith) (omega arith), a .low (argumentPlace (f + numberOf (r .words) f j)) (omega arith) (omega arith)))
 
-    over-follows : (n k : ℕ) {r : Raw} {s : State} {total : Amounts} → Here r s total → (K : Act (Unit {0})) (rest : List ℕ) → Then r K rest
-        → Follows granted total (Leads r) (Act.goOn (overFrom X k n r) (λ _. K)) (each D (shapesHeld (listed (variableAt program ts r) k n) ++ rest) s)
-    unfolding overFrom listed shapesHeld variableAt Act._>>=_ Act.goOn Act.load Act.give
-    over-follows zero k h K rest t = t [] _ _ _ (still h)
-    over-follows (suc n) k {r} {s} {total} h K rest t =
-        let v = unpacked (getD (r .words) (valuePlace (slotAt (r .words) k)) 0) in
-        rw (regroup (into X v r) (λ _. overFrom X (k + 1) n) (λ _. K), append-assoc (shapeIn (meantValue program (r .texts) v)) (shapesHeld (listed (variableAt program ts r) (suc k) n)) rest)
-        (value-follows h v (h .sound .variables .holds (slotAt (r .words) k)) (λ r₁. Act.goOn (overFrom X (k + 1) n r₁) (λ _. K)) (shapesHeld (listed (variableAt program ts r) (suc k) n) ++ rest)
-        (λ xs r₁ s₁ total₁ a.
-        let e : listed (variableAt program ts r₁) (k + 1) n ≡ listed (variableAt program ts r) (suc k) n =
-        variables-left (tells .quiet (a .acc)) (k + 1) n ∙ ap (λ j. listed (variableAt program ts r) j n) (add-one k) in
-        rw e at (over-follows n (k + 1) (a .after .related) K rest (λ ys r₂ s₂ total₂ b. t (xs ++ ys) r₂ s₂ total₂ (chained a b)))))
-
-    -- all of them, and no more
-    pub variables-follow : {r : Raw} {s : State} {total : Amounts} → Here r s total
-        → Follows granted total (Leads r) (overFrom X 0 (getD (r .words) declared 0) r) (each D (shapesHeld (s .variables)) s)
-    unfolding variablesOf each Act.give Run.give
-    variables-follow {r} {s} {total} h =
-        subst (λ (l : List ℕ). Follows granted total (Leads r) (overFrom X 0 (getD (r .words) declared 0) r) (each D l s))
-        (append-nil (shapesHeld (listed (variableAt program ts r) 0 (getD (r .words) declared 0))) ∙ ap shapesHeld (sym (h .variables)))
-        (rw (← act-unit (overFrom X 0 (getD (r .words) declared 0) r))
-        (over-follows (getD (r .words) declared 0) 0 h (Act.give tt) [] (λ xs r₁ s₁ total₁ a. given (still (a .after .related)))))
-
-    -- ---- variables of calls that wait
-    waiting-left : {r r₁ : Raw} {xs : List Meaning.Figure} → Quiet r xs r₁ → (k n : ℕ) → listed (waitingAt program ts r₁) k n ≡ listed (waitingAt program ts r) k n
-    unfolding waitingAt
-    waiting-left a k n = listed-same _ _ k n (λ j x y. rw (a .texts, a .low (argumentPlace j) (omega arith) (omega arith)))
-
-    frames-left : {r r₁ : Raw} {xs : List Meaning.Figure} → Quiet r xs r₁ → (k n : ℕ) → listed (frameOf program ts r₁) k n ≡ listed (frameOf program ts r) k n
-    unfolding frameOf
-    frames-left a k n = listed-same _ _ k n (λ j x y. rw (a .low (framePlace j) (omega arith) (omega arith)) (waiting-left a _ _))
-
-    waits-follow : (n k : ℕ) {r : Raw} {s : State} {total : Amounts} → Here r s total
-        → ((j : ℕ) → k ≤ j → j < k + n → Valid program (r .words) (unpacked (wordIn (argumentAt (r .words) j)))) → (K : Act (Unit {0})) (rest : List ℕ) → Then r K rest
-        → Follows granted total (Leads r) (Act.goOn (overWaiting X k n r) (λ _. K)) (each D (shapesHeld (listed (waitingAt program ts r) k n) ++ rest) s)
-    unfolding overWaiting listed shapesHeld waitingAt Act._>>=_ Act.goOn Act.load Act.give
-    waits-follow zero k h o K rest t = t [] _ _ _ (still h)
-    waits-follow (suc n) k {r} {s} {total} h o K rest t =
-        let v = unpacked (wordIn (argumentAt (r .words) k)) in
-        rw (regroup (into X v r) (λ _. overWaiting X (k + 1) n) (λ _. K), append-assoc (shapeIn (meantValue program (r .texts) v)) (shapesHeld (listed (waitingAt program ts r) (suc k) n)) rest)
-        (value-follows h v (o k (omega arith) (omega arith)) (λ r₁. Act.goOn (overWaiting X (k + 1) n r₁) (λ _. K)) (shapesHeld (listed (waitingAt program ts r) (suc k) n) ++ rest)
+    over-follows : (names : List (List ℕ)) (f n k : ℕ) {r : Raw} {s : State} {total : Amounts} → Here r s total
+        → ((j : ℕ) → k ≤ j → j < k + n → Valid program (r .words) (unpacked (holdingOf (r .words) f j))) → (K : Act (Unit {0})) (rest : List ℕ) → Then r K rest
+        → Follows granted total (Leads r) (Act.goOn (overFrom X f k n r) (λ _. K)) (each D (shapesHeld (listed (variableAt program names r f) k n) ++ rest) s)
+    unfolding overFrom listed shapesHeld variableAt Act._>>=_ Act.goOn Act.held Act.give
+    over-follows names f zero k h o K rest t = t [] _ _ _ (still h)
+    over-follows names f (suc n) k {r} {s} {total} h o K rest t =
+        let v = unpacked (holdingOf (r .words) f k) in
+        rw (
+          regroup (into X v r) (λ _. overFrom X f (k + 1) n) (λ _. K),
+          append-assoc (shapeIn (meantValue program (r .texts) v)) (shapesHeld (listed (variableAt program names r f) (suc k) n)) rest,
+        )
+        (value-follows h v (o k (omega arith) (omega arith)) (λ r₁. Act.goOn (overFrom X f (k + 1) n r₁) (λ _. K)) (shapesHeld (listed (variableAt program names r f) (suc k) n) ++ rest)
         (λ xs r₁ s₁ total₁ a.
         let q = tells .quiet (a .acc) in
-        let e : listed (waitingAt program ts r₁) (k + 1) n ≡ listed (waitingAt program ts r) (suc k) n =
-        waiting-left q (k + 1) n ∙ ap (λ j. listed (waitingAt program ts r) j n) (add-one k) in
-        rw e at (waits-follow n (k + 1) (a .after .related)
-        (λ j x y. rw (q .low (argumentPlace j) (omega arith) (omega arith)) (valid-later (a .after .later) _ (o j (omega arith) (omega arith))))
+        let e : listed (variableAt program names r₁ f) (k + 1) n ≡ listed (variableAt program names r f) (suc k) n =
+        variables-left q names f (k + 1) n ∙ ap (λ j. listed (variableAt program names r f) j n) (add-one k) in
+        rw e at (over-follows names f n (k + 1) (a .after .related)
+        (λ j x y. rw (q .low (argumentPlace (f + j)) (omega arith) (omega arith), q .low (argumentPlace (f + numberOf (r .words) f j)) (omega arith) (omega arith))
+        (valid-later (a .after .later) _ (o j (omega arith) (omega arith))))
         K rest (λ ys r₂ s₂ total₂ b. t (xs ++ ys) r₂ s₂ total₂ (chained a b)))))
 
-    frames-follow : (n f : ℕ) {r : Raw} {s : State} {total : Amounts} → Here r s total → 0 < f → ((j : ℕ) → f ≤ j → j < f + n → j < getD (r .words) callsUsed 0)
+    -- what its declarations' variables hold
+    all-valid : {ws : List ℕ} {f n size : ℕ} → Framed program ws f n size → (j : ℕ) → 0 ≤ j → j < 0 + n → Valid program ws (unpacked (holdingOf ws f j))
+    all-valid v j x y = v .holds _ (omega (arith, v .small j (omega arith)))
+
+    -- all of the call under way, and no more
+    pub variables-follow : {r : Raw} {s : State} {total : Amounts} → Here r s total
+        → Follows granted total (Leads r) (overFrom X (getD (r .words) frame 0) 0 (getD (r .words) declared 0) r) (each D (shapesHeld (s .variables)) s)
+    unfolding frameOf each Act.give Run.give
+    variables-follow {r} {s} {total} h =
+        let f = getD (r .words) frame 0 in
+        let n = getD (r .words) declared 0 in
+        let names = scopeOf program ts (getD (r .words) running 0) in
+        subst (λ (l : List ℕ). Follows granted total (Leads r) (overFrom X f 0 n r) (each D l s))
+        (append-nil (shapesHeld (listed (variableAt program names r f) 0 n)) ∙ ap shapesHeld (sym (h .variables)))
+        (rw (← act-unit (overFrom X f 0 n r))
+        (over-follows names f n 0 h (all-valid (h .sound .variables .framed)) (Act.give tt) [] (λ xs r₁ s₁ total₁ a. given (still (a .after .related)))))
+
+    -- ---- variables of calls that wait
+    calls-left : {r r₁ : Raw} {xs : List Meaning.Figure} → Quiet r xs r₁ → (k n : ℕ) → listed (waitingOf program ts r₁) k n ≡ listed (waitingOf program ts r) k n
+    unfolding waitingOf frameOf
+    calls-left {r} a k n = listed-same _ _ k n (λ j x y.
+        rw (a .low (callPlace j) (omega arith) (omega arith), a .low (callPlace j + 1) (omega arith) (omega arith), a .low (callPlace j + 2) (omega arith) (omega arith))
+        (variables-left a (scopeOf program ts (runningAt (r .words) j)) (frameAt (r .words) j) 0 (declaredAt (r .words) j)))
+
+    waits-follow : (n d : ℕ) {r : Raw} {s : State} {total : Amounts} → Here r s total → 0 < d → ((j : ℕ) → d ≤ j → j < d + n → j < getD (r .words) callsUsed 0)
         → (K : Act (Unit {0})) (rest : List ℕ) → Then r K rest
-        → Follows granted total (Leads r) (Act.goOn (overFrames X f n r) (λ _. K)) (each D (shapesHeldBy (listed (frameOf program ts r) f n) ++ rest) s)
-    unfolding overFrames listed shapesHeldBy frameOf Act._>>=_ Act.goOn Act.load Act.give
-    frames-follow zero f h z o K rest t = t [] _ _ _ (still h)
-    frames-follow (suc n) f {r} {s} {total} h z o K rest t =
-        let w = frameAt (r .words) f in
+        → Follows granted total (Leads r) (Act.goOn (overCalls X d n r) (λ _. K)) (each D (shapesHeldBy (listed (waitingOf program ts r) d n) ++ rest) s)
+    unfolding overCalls listed shapesHeldBy waitingOf frameOf Act._>>=_ Act.goOn Act.load Act.give
+    waits-follow zero d h z o K rest t = t [] _ _ _ (still h)
+    waits-follow (suc n) d {r} {s} {total} h z o K rest t =
+        let f = frameAt (r .words) d in
+        let m = declaredAt (r .words) d in
+        let names = scopeOf program ts (runningAt (r .words) d) in
         rw (
-          regroup (overWaiting X (topIn w) (countIn w) r) (λ _. overFrames X (f + 1) n) (λ _. K),
-          append-assoc (shapesHeld (listed (waitingAt program ts r) (topIn w) (countIn w))) (shapesHeldBy (listed (frameOf program ts r) (suc f) n)) rest,
+          regroup (overFrom X f 0 m r) (λ _. overCalls X (d + 1) n) (λ _. K),
+          append-assoc (shapesHeld (listed (variableAt program names r f) 0 m)) (shapesHeldBy (listed (waitingOf program ts r) (suc d) n)) rest,
         )
-        (waits-follow (countIn w) (topIn w) h (h .sound .waiting .holds f z (o f (omega arith) (omega arith)))
-        (λ r₁. Act.goOn (overFrames X (f + 1) n r₁) (λ _. K)) (shapesHeldBy (listed (frameOf program ts r) (suc f) n) ++ rest)
+        (over-follows names f m 0 h (all-valid (h .sound .waiting .framed d z (o d (omega arith) (omega arith))))
+        (λ r₁. Act.goOn (overCalls X (d + 1) n r₁) (λ _. K)) (shapesHeldBy (listed (waitingOf program ts r) (suc d) n) ++ rest)
         (λ xs r₁ s₁ total₁ a.
-        let e : listed (frameOf program ts r₁) (f + 1) n ≡ listed (frameOf program ts r) (suc f) n =
-        frames-left (tells .quiet (a .acc)) (f + 1) n ∙ ap (λ j. listed (frameOf program ts r) j n) (add-one f) in
-        rw e at (frames-follow n (f + 1) (a .after .related) (omega arith) (λ j x y. rw (a .after .untouched .calls) (o j (omega arith) (omega arith)))
+        let e : listed (waitingOf program ts r₁) (d + 1) n ≡ listed (waitingOf program ts r) (suc d) n =
+        calls-left (tells .quiet (a .acc)) (d + 1) n ∙ ap (λ j. listed (waitingOf program ts r) j n) (add-one d) in
+        rw e at (waits-follow n (d + 1) (a .after .related) (omega arith) (λ j x y. rw (a .after .untouched .calls) (o j (omega arith) (omega arith)))
         K rest (λ ys r₂ s₂ total₂ b. t (xs ++ ys) r₂ s₂ total₂ (chained a b)))))
 
     -- of all calls, from main on
+    abbrev Last : Act (Unit {0})
+    Last r = overFrom X (getD (r .words) frame 0) 0 (getD (r .words) declared 0) r
+
     pub calls-follow : {r : Raw} {s : State} {total : Amounts} → Here r s total
-        → Follows granted total (Leads r) (Act.goOn (overFrames X 1 (getD (r .words) callsUsed 0 - 1) r) (λ _ r₁. overFrom X 0 (getD (r₁ .words) declared 0) r₁))
-        (each D (shapesHeldBy (s .suspended) ++ shapesHeld (s .variables)) s)
-    unfolding suspendedOf variablesOf
+        → Follows granted total (Leads r) (Act.goOn (overCalls X 1 (getD (r .words) callsUsed 0 - 1) r) (λ _. Last)) (each D (shapesHeldBy (s .suspended) ++ shapesHeld (s .variables)) s)
+    unfolding suspendedOf frameOf
     calls-follow {r} {s} {total} h =
         subst (λ (l : List (List Variable)). Follows granted total (Leads r)
-        (Act.goOn (overFrames X 1 (getD (r .words) callsUsed 0 - 1) r) (λ _ r₁. overFrom X 0 (getD (r₁ .words) declared 0) r₁)) (each D (shapesHeldBy l ++ shapesHeld (s .variables)) s))
+        (Act.goOn (overCalls X 1 (getD (r .words) callsUsed 0 - 1) r) (λ _. Last)) (each D (shapesHeldBy l ++ shapesHeld (s .variables)) s))
         (sym (h .suspended))
-        (frames-follow (getD (r .words) callsUsed 0 - 1) 1 h (omega arith) (λ j x y. omega arith) (λ r₁. overFrom X 0 (getD (r₁ .words) declared 0) r₁) (shapesHeld (s .variables))
+        (waits-follow (getD (r .words) callsUsed 0 - 1) 1 h (omega arith) (λ j x y. omega arith) Last (shapesHeld (s .variables))
         (λ xs r₁ s₁ total₁ a.
-        let same : s₁ .variables ≡ s .variables = a .after .related .variables ∙ kept (tells .quiet (a .acc)) ∙ sym (h .variables) in
-        subst (λ (l : List Variable). Follows granted total₁ (Leads r₁) (overFrom X 0 (getD (r₁ .words) declared 0) r₁) (each D (shapesHeld l) s₁)) same (variables-follow (a .after .related))))
+        let u = a .after .untouched in
+        let same : s₁ .variables ≡ s .variables = a .after .related .variables ∙ kept (tells .quiet (a .acc)) (u .frame) (u .running) ∙ sym (h .variables) in
+        subst (λ (l : List Variable). Follows granted total₁ (Leads r₁) (Last r₁) (each D (shapesHeld l) s₁)) same (variables-follow (a .after .related))))
       where
-        kept : {r₁ : Raw} {xs : List Meaning.Figure} → Quiet r xs r₁ → variablesOf program ts r₁ ≡ variablesOf program ts r
-        kept q = rw (q .declared) (variables-left q 0 (getD (r .words) declared 0))
+        kept : {r₁ : Raw} {xs : List Meaning.Figure} → Quiet r xs r₁ → getD (r₁ .words) frame 0 ≡ getD (r .words) frame 0
+            → getD (r₁ .words) running 0 ≡ getD (r .words) running 0 → variablesOf program ts r₁ ≡ variablesOf program ts r
+        kept q e n =
+            rw (q .declared, e, n)
+            (variables-left q (scopeOf program ts (getD (r .words) running 0)) (getD (r .words) frame 0) 0 (getD (r .words) declared 0))
 
 -- ---- shapes destroyed
 module _ (g : List ℕ) (p : ℕ) where
@@ -220,34 +222,28 @@ module _ (g : List ℕ) (p : ℕ) where
   destroyed-in (Table t) = refl
   destroyed-in (Shape i) = refl
 
-  cleared-from : (n k : ℕ) → clearFrom g p k n ≡ overFrom (destroyAll g p) k n
+  cleared-from : (n f k : ℕ) → clearFrom g p f k n ≡ overFrom (destroyAll g p) f k n
   unfolding clearFrom overFrom
-  cleared-from zero k = refl
-  cleared-from (suc n) k =
-      ap (λ (f : ℕ → Act (Unit {0})). Act._>>=_ (Act.load (orderPlace k)) (λ slot. Act._>>=_ (Act.load (valuePlace slot)) f))
-      (λ i w. Act._>>_ (destroyed-in (unpacked w) i) (cleared-from n (k + 1) i))
+  cleared-from zero f k = refl
+  cleared-from (suc n) f k =
+      ap (λ (a : List ℕ → Act (Unit {0})). Act._>>=_ Act.held a) (λ i ws. Act._>>_ (destroyed-in (unpacked (holdingOf ws f k)) i) (cleared-from n f (k + 1) i))
 
-  cleared-waiting : (n k : ℕ) → clearWaiting g p k n ≡ overWaiting (destroyAll g p) k n
-  unfolding clearWaiting overWaiting
-  cleared-waiting zero k = refl
-  cleared-waiting (suc n) k =
-      ap (λ (f : ℕ → Act (Unit {0})). Act._>>=_ (Act.load (argumentPlace k)) f) (λ i w. Act._>>_ (destroyed-in (unpacked (wordIn w)) i) (cleared-waiting n (k + 1) i))
-
-  cleared-frames : (n d : ℕ) → clearFrames g p d n ≡ overFrames (destroyAll g p) d n
-  unfolding clearFrames overFrames
-  cleared-frames zero d = refl
-  cleared-frames (suc n) d =
-      ap (λ (f : ℕ → Act (Unit {0})). Act._>>=_ (Act.load (framePlace d)) f) (λ i f. Act._>>_ (cleared-waiting (countIn f) (topIn f) i) (cleared-frames n (d + 1) i))
+  cleared-calls : (n d : ℕ) → clearCalls g p d n ≡ overCalls (destroyAll g p) d n
+  unfolding clearCalls overCalls
+  cleared-calls zero d = refl
+  cleared-calls (suc n) d =
+      ap (λ (a : ℕ → ℕ → Act (Unit {0})). Act._>>=_ (Act.load (callPlace d)) (λ f. Act._>>=_ (Act.load (callPlace d + 1)) (a f)))
+      (λ i f m. Act._>>_ (cleared-from m f 0 i) (cleared-calls n (d + 1) i))
 
 pub clears : (program : List ℕ) (ts : List Token) (g : List ℕ) {granted : Amounts} (gr : Grants g granted) (p : ℕ) {r : Raw} {s : State} {total : Amounts} → Related program ts g r s total
     → Follows granted total (λ _ xs r′ s′ total′. Reached program ts g Quiet 0 r xs r′ s′ total′) (clearScene g p r)
     (each (λ i. destroying (suc i) p i) (shapesHeldBy (s .suspended) ++ shapesHeld (s .variables)) s)
 unfolding clearScene Act._>>=_ Act.goOn Act.load
 clears program ts g {granted} gr p {r} {s} {total} h =
-    subst (λ (f : ℕ → ℕ → Act (Unit {0})). Follows granted total (λ _ xs r′ s′ total′. Reached program ts g Quiet 0 r xs r′ s′ total′)
-    (Act.goOn (f 1 (getD (r .words) callsUsed 0 - 1) r) (λ _ r₁. clearFrom g p 0 (getD (r₁ .words) declared 0) r₁))
-    (each (λ i. destroying (suc i) p i) (shapesHeldBy (s .suspended) ++ shapesHeld (s .variables)) s)) (sym (λ i d n. cleared-frames g p n d i))
-    (subst (λ (f : ℕ → ℕ → Act (Unit {0})). Follows granted total (λ _ xs r′ s′ total′. Reached program ts g Quiet 0 r xs r′ s′ total′)
-    (Act.goOn (overFrames (destroyAll g p) 1 (getD (r .words) callsUsed 0 - 1) r) (λ _ r₁. f 0 (getD (r₁ .words) declared 0) r₁))
-    (each (λ i. destroying (suc i) p i) (shapesHeldBy (s .suspended) ++ shapesHeld (s .variables)) s)) (sym (λ i k n. cleared-from g p n k i))
+    subst (λ (a : ℕ → ℕ → Act (Unit {0})). Follows granted total (λ _ xs r′ s′ total′. Reached program ts g Quiet 0 r xs r′ s′ total′)
+    (Act.goOn (a 1 (getD (r .words) callsUsed 0 - 1) r) (λ _ r₁. clearFrom g p (getD (r₁ .words) frame 0) 0 (getD (r₁ .words) declared 0) r₁))
+    (each (λ i. destroying (suc i) p i) (shapesHeldBy (s .suspended) ++ shapesHeld (s .variables)) s)) (sym (λ i d n. cleared-calls g p n d i))
+    (subst (λ (a : ℕ → ℕ → ℕ → Act (Unit {0})). Follows granted total (λ _ xs r′ s′ total′. Reached program ts g Quiet 0 r xs r′ s′ total′)
+    (Act.goOn (overCalls (destroyAll g p) 1 (getD (r .words) callsUsed 0 - 1) r) (λ _ r₁. a (getD (r₁ .words) frame 0) 0 (getD (r₁ .words) declared 0) r₁))
+    (each (λ i. destroying (suc i) p i) (shapesHeldBy (s .suspended) ++ shapesHeld (s .variables)) s)) (sym (λ i f k n. cleared-from g p n f k i))
     (calls-follow program ts g granted Quiet quiet-tells (destroyAll g p) (λ i. destroying (suc i) p i) (record { does = λ h i l. destroys-all program ts g gr p h i l }) h))

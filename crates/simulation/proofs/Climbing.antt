@@ -18,11 +18,10 @@ use Rattle.machine.specs.Act.{Raw, Out, done, Act}
 use Rattle.machine.specs.Act as Act
 use Rattle.machine.specs.Groups.{followersAt}
 use Rattle.machine.specs.Loops.{markedAt, markedFrom, unmark, lookBehind}
-use Rattle.simulation.specs.Scope.{isIn}
 use Rattle.simulation.specs.Follows.{Related}
 use Rattle.simulation.proofs.Results.{unmoved}
 use Rattle.simulation.proofs.Marking.{markAt, AfterBut, but-after, own-call, own-word}
-use Rattle.simulation.proofs.Paths.{Path, found-none, found-first}
+use Rattle.simulation.proofs.Paths.{isIn, Path, found-none, found-first}
 use Rattle.simulation.proofs.Remaining.{Stop, slots, remaining, nextUp, Way, Outcome, found, none, Sought}
 use Rattle.simulation.proofs.RemainingLaws.{way-below, way-later, remaining-later}
 use Rattle.simulation.proofs.Searching.{fresh, Ready, sought-from, ready-later, in-store, in-upper, goes-up, look}

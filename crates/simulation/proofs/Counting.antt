@@ -35,8 +35,9 @@ use Rattle.machine.specs.Layout.{
   fixedWords,
   argumentPlace,
   Lent,
+  frame,
   firstArgument,
-  firstFrame,
+  firstCall,
 }
 use Rattle.machine.specs.Act.{Raw, raw}
 use Rattle.machine.specs.Act as Act
@@ -66,14 +67,15 @@ module _ {program : List ℕ} {ts : List Token} {g : List ℕ} {r : Raw} {s : St
   pub here : i < fixedWords → getD words′ i 0 ≡ x
   here l = getD-set-same (r .words) i x 0 (omega (arith, h .sound .lent .room .words))
 
-  -- it lies before the shapes, and is none of the counters of components, loops and calls
+  -- it lies before the shapes, and is none of the counters of components, loops and calls; nor is it a word of a call that waits
   pub record Aside : Type 0 where
     pub low : i < fixedWords
     pub parts : i ≢ componentsMade
     pub unit : i ≢ loopUnit
     pub calls : i ≢ callsUsed
     pub running : i ≢ running
-    pub variables : (j : ℕ) → firstFrame ≤ j → j < firstArgument → j ≢ i
+    pub frame : i ≢ frame
+    pub waiting : (j : ℕ) → firstCall ≤ j → j < firstArgument → j ≢ i
 
   module _ (a : Aside) where
     pub set-rest : SameRest g r (raw (r .texts) words′)
@@ -84,13 +86,18 @@ module _ {program : List ℕ} {ts : List Token} {g : List ℕ} {r : Raw} {s : St
       high = λ j l. other j (λ q. omega (arith, a .low));
     }
 
-    pub set-untouched : ((k : ℕ) → k < getD (r .words) argumentsHeld 0 → argumentPlace k ≢ i) → Untouched g r (raw (r .texts) words′)
-    set-untouched f = untouched-words set-rest (other running (λ q. a .running (sym q))) (λ j x y. other j (a .variables j x y)) (λ k l. other (argumentPlace k) (f k l))
+    pub set-untouched : ((k : ℕ) → k < getD (r .words) argumentsHeld 0 → argumentPlace k ≢ i) → Untouched program ts g r (raw (r .texts) words′)
+    set-untouched f =
+        untouched-words set-rest (other running (λ q. a .running (sym q))) (other frame (λ q. a .frame (sym q))) (λ j x y. other j (a .waiting j x y))
+        (λ k l. other (argumentPlace k) (f k l)) (h .sound .variables)
+
+    pub same-variables : i ≢ declared → getD (r .words) argumentsHeld 0 ≤ getD words′ argumentsHeld 0
+        → ((k : ℕ) → k < getD (r .words) argumentsHeld 0 → argumentPlace k ≢ i) → SameVariables program ts r (raw (r .texts) words′)
+    same-variables n high f =
+        same-words (other declared (λ q. n (sym q))) (other running (λ q. a .running (sym q))) (other frame (λ q. a .frame (sym q))) high
+        (λ k l. other (argumentPlace k) (f k l)) (h .sound .variables)
 
     module _ (l : Later program r (raw (r .texts) words′)) where
-      pub same-variables : i ≢ declared → SameVariables l
-      same-variables n = same-words l (other declared (λ q. n (sym q))) (other running (λ q. a .running (sym q))) (λ j x y. other j (a .variables j x y))
-
       pub same-shapes : i ≢ shapesUsed → SameShapes l
       same-shapes n = record { count = other shapesUsed (λ q. n (sym q)); words = λ k j x y. other _ (λ q. omega (arith, a .low)) }
 
@@ -103,13 +110,13 @@ module _ {program : List ℕ} {ts : List Token} {g : List ℕ} {r : Raw} {s : St
         heads = λ b x. other _ (λ q. omega (arith, a .low));
       }
 
-      pub set-related : {s′ : State} {total′ : Amounts} → i ≢ declared → i ≢ shapesUsed → i ≢ entriesMade
+      pub set-related : {s′ : State} {total′ : Amounts} → SameVariables program ts r (raw (r .texts) words′) → i ≢ shapesUsed → i ≢ entriesMade
           → Counted g words′ → SameWaiting program ts r (raw (r .texts) words′)
           → s′ .variables ≡ s .variables → s′ .suspended ≡ s .suspended → s′ .shapes ≡ s .shapes → s′ .tables ≡ getD words′ tablesMade 0 → s′ .entries ≡ s .entries
           → total′ Run.steps ≡ getD words′ stepsUsed 0 → total′ Run.shapes ≡ getD words′ shapesUsed 0 → total′ Run.entries ≡ getD words′ entriesUsed 0 → total′ Run.textBytes ≡ getD words′ textUsed 0
           → total′ Run.calls ≡ getD words′ callsUsed 0 → Related program ts g (raw (r .texts) words′) s′ total′
       set-related c d f co sw =
-          kept-related h l (lent-set i x (h .sound .lent)) co set-rest (same-variables c) sw (same-shapes d) (same-entries f)
+          kept-related h l (lent-set i x (h .sound .lent)) co set-rest c sw (same-shapes d) (same-entries f)
 
 -- a counter below the calls' is aside
 pub aside : {program : List ℕ} {ts : List Token} {g : List ℕ} {r : Raw} {s : State} {total : Amounts} (h : Related program ts g r s total) (i x : ℕ) → i < callsUsed → Aside h i x
@@ -119,7 +126,8 @@ aside h i x l = record {
   unit = λ e. omega arith;
   calls = λ e. omega arith;
   running = λ e. omega arith;
-  variables = λ j a b e. omega arith;
+  frame = λ e. omega arith;
+  waiting = λ j a b e. omega arith;
 }
 
 -- ---- steps and tables
@@ -149,7 +157,7 @@ module _ {program : List ℕ} {ts : List Token} {g : List ℕ} {r₀ r : Raw} {s
   calls-were : getD (risen .words) callsUsed 0 ≡ getD (r .words) callsUsed 0
   calls-were = was callsUsed (omega arith) (λ e. omega arith)
 
-  untouched : Untouched g r risen
+  untouched : Untouched program ts g r risen
   untouched = set-untouched (a .related) i x (aside (a .related) i x low) (λ k l e. omega arith)
 
   later : Later program r risen
@@ -180,9 +188,10 @@ module _ {program : List ℕ} {ts : List Token} {g : List ℕ} {r₀ r : Raw} {s
       → After program ts g r₀ risen (record { variables = s .variables; suspended = s .suspended; shapes = s .shapes; tables = t; entries = s .entries }) total′
   rises t spare e u v w y z = let h = a .related in record {
     related = set-related h i x (aside h i x low) later
-        (λ q. apart declared (λ e. omega arith) (λ e. omega arith) (sym q)) (λ q. apart shapesUsed (λ e. omega arith) (λ e. omega arith) (sym q))
+        (same-variables h i x (aside h i x low) (λ q. apart declared (λ e. omega arith) (λ e. omega arith) (sym q)) (omega (arith, arguments-were)) (λ k l e. omega arith))
+        (λ q. apart shapesUsed (λ e. omega arith) (λ e. omega arith) (sym q))
         (λ q. apart entriesMade (λ e. omega arith) (λ e. omega arith) (sym q)) counted
-        (same-waiting later untouched (rw arguments-were (le-refl _)) (h .sound .waiting) ts) refl refl refl e refl
+        (same-waiting later untouched (h .sound .waiting)) refl refl refl e refl
         u (v ∙ h .shapesTaken ∙ sym shapes-were) (w ∙ h .entriesTaken ∙ sym entries-were) (y ∙ h .textTaken ∙ sym text-was) (z ∙ h .callsTaken ∙ sym calls-were);
     later = later-trans (a .later) later;
     spare = spare;

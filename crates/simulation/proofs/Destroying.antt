@@ -16,7 +16,7 @@ use Rattle.meaning.specs.Run.{Event, End, result, error, unfinished, Run, run}
 use Rattle.meaning.specs.Run as Run
 use Rattle.meaning.specs.Book.{Amounts, added, shortageOf}
 use Rattle.meaning.specs.Group.{each, destroying}
-use Rattle.machine.specs.Layout.{stepsUsed, shapesUsed, declared, stepsGranted, shapesGranted, fixedWords, shapePlace, firstFrame}
+use Rattle.machine.specs.Layout.{stepsUsed, shapesUsed, declared, stepsGranted, shapesGranted, fixedWords, shapePlace, firstCall}
 use Rattle.machine.specs.Act.{Raw, raw, done, Act}
 use Rattle.machine.specs.Act as Act
 use Rattle.machine.specs.Shapes.{isGroupAt, figureAt, destroyedWord, destroy}
@@ -108,10 +108,10 @@ unit-of us unfinished = refl
 pub run-unit : {A : Type 0} (m : Run A) → Run.goOn (m .takings) (m .end) Run.give ≡ m
 run-unit m = unit-of (m .takings) (m .end)
 
--- ---- texts and the words of variables and the stack stay
+-- ---- texts, the words of calls that wait, and the stack stay
 pub record Quiet {A : Type 0} (r : Raw) (xs : List A) (r′ : Raw) : Type 0 where
   pub texts : r′ .texts ≡ r .texts
-  pub low : (j : ℕ) → firstFrame ≤ j → j < fixedWords → getD (r′ .words) j 0 ≡ getD (r .words) j 0
+  pub low : (j : ℕ) → firstCall ≤ j → j < fixedWords → getD (r′ .words) j 0 ≡ getD (r .words) j 0
   pub declared : getD (r′ .words) declared 0 ≡ getD (r .words) declared 0
 
 pub quiet-nil : {A : Type 0} (r : Raw) → Quiet {A = A} r [] r

@@ -60,11 +60,12 @@ use Rattle.meaning.specs.Execute.{executeAll}
 use Rattle.meaning.specs.Procedure.{found, calling}
 use Rattle.names.specs.Prepared.{numberOf, libraryNumber, procedureNumber}
 use Rattle.machine.specs.Opcodes.{word, sizeIn, numberIn, argumentRoot, firstOperator, tagOf, tagNumber, tagString, tagNone, tagTruth, tagName, tagTable, tagEntry, tagCall, tagArgument}
-use Rattle.code.specs.Code.{slotOf, partOf, truthNumber, codeOf, codeOfAll}
+use Rattle.code.specs.Code.{slotOf, partOf, truthNumber, argumentsWith, codeWith}
 use Rattle.reader.proofs.Homes.{Occurs}
-use Rattle.reader.proofs.Fields.{procedure-small, Told, word-told, tag-small, code-some}
+use Rattle.reader.proofs.Fields.{procedure-small, Told, word-told, tag-small, code-some-with}
 use Rattle.reader.proofs.Known.{Known, KnownAll}
 use Rattle.reader.proofs.Walk.{Stands, Ends, Joint, Argument, ends-word, ends-front, ends-start, ends-joined, stands-argument}
+use Rattle.numbering.specs.Numbers as Numbers
 use Rattle.machine.specs.declared.Value.{Value}
 use Rattle.machine.specs.declared.Value.the-variants.{Integer, Text, Boolean, Nothing}
 use Rattle.machine.specs.Words.{kindIn, kindTable, packed, unpacked}
@@ -82,6 +83,7 @@ use Rattle.machine.specs.Library.{callLibrary}
 use Rattle.machine.specs.Primaries.{leaf, sized, applied, called}
 use Rattle.machine.specs.Evaluate.{Setting, Evaluator, Invoke, argumentAfter, argumentsFrom, invoked, callAt, secondOf, firstOf, operandsAt, expressionBy}
 use Rattle.machine.specs.Interpret.{expressionAt, bodyAt, invokeAt}
+use Rattle.simulation.specs.Scope.{scopeOf}
 use Rattle.simulation.specs.Meant.{meantValue}
 use Rattle.simulation.specs.Sound.{Held, Valid}
 use Rattle.simulation.specs.Follows.{Grants, Related, Follows}
@@ -95,7 +97,7 @@ use Rattle.simulation.proofs.Operators.{operates}
 use Rattle.simulation.proofs.Keys.{back-again}
 use Rattle.simulation.proofs.Lookup.{reads-entry}
 use Rattle.simulation.proofs.Asked.{with-integer, with-table}
-use Rattle.simulation.proofs.Library.{Stacked, calls}
+use Rattle.simulation.proofs.Library.{Stacked, Above, calls}
 use Rattle.simulation.proofs.Chaining.{pushed-then}
 use Rattle.simulation.proofs.Stacking.{AfterArguments, no-more, one-more}
 use Rattle.simulation.proofs.Under.{stepsLeft, Under, under-later, stays, Invokes}
@@ -215,16 +217,29 @@ by-library invoke e w p base n slot l d q =
 
 -- ---- expressions of a call under way, by its procedure and how many calls there are
 -- Twice what the stack holds and the words of the expression's code are at most `room`: an argument is one word of the stack and two of code or more.
-module _ (e : Setting) {ts : List Token} (few : length ts ≤ 8192) (strings : Strings (e .program) ts) {granted : Amounts} (gr : Grants (e .grants) granted)
+module _ (e : Setting) {ts : List Token} (strings : Strings (e .program) ts) {granted : Amounts} (gr : Grants (e .grants) granted)
     (fs : List Procedure) (apart : (f : List ℕ) (l : Library) → libraryOf f ≡ some l → procedureNamed f fs ≡ Option.none)
     (limit w c room reserve : ℕ) (enough : room ≤ 2 * stackWords) (invokes : (fuel : ℕ) → reserve ≤ fuel → Invokes e ts granted fs limit w c room fuel) where
   abbrev Here : Raw → State → Amounts → Type 0
   Here r s total = Related (e .program) ts (e .grants) r s total
 
+  -- code with the numbers of the procedure's variables
+  abbrev numbered : List ℕ → ℕ
+  numbered x = Numbers.numberIn (scopeOf (e .program) ts w) x
+
+  abbrev codeIn : Expression → List ℕ
+  codeIn x = codeWith numbered x ts
+
+  abbrev codeInAll : Arguments → List ℕ
+  codeInAll es = argumentsWith numbered es ts
+
+  some-code : (x : Expression) → 0 < length (codeIn x)
+  some-code x = code-some-with numbered x ts
+
   -- what evaluating the code whose root stands at a place comes to
   abbrev Evaluates : Expression → ℕ → ℕ → ℕ → Type 0
   Evaluates x fuel at p = (r : Raw) (s : State) (total : Amounts) → Here r s total → Under (e .grants) w c limit r
-      → 2 * getD (r .words) argumentsHeld 0 + length (codeOf x ts) ≤ room
+      → 2 * getD (r .words) argumentsHeld 0 + length (codeIn x) ≤ room
       → Follows granted total (Values (e .program) ts (e .grants) r) (expressionAt fuel e at p r) (evaluate (calling limit fs) x p s)
 
   -- ---- each kind of expression, its parts evaluated so
@@ -244,67 +259,67 @@ module _ (e : Setting) {ts : List Token} (few : length ts ≤ 8192) (strings : S
     unfolding Act.give Run.give
     at-once o v u g q x y = begun (λ r₁ s₁ total₁ a. rw (q, g) (given (record { after = a .after; valid = x r₁; means = y r₁ })))
 
-  number-follows : (z : ℤ) → wrap z ≡ z → (fuel at p : ℕ) → Ends (e .code) at (codeOf (number z) ts) → Evaluates (number z) (suc fuel) at p
-  unfolding codeOf evaluate Valid meantValue wrap
+  number-follows : (z : ℤ) → wrap z ≡ z → (fuel at p : ℕ) → Ends (e .code) at (codeIn (number z)) → Evaluates (number z) (suc fuel) at p
+  unfolding codeWith evaluate Valid meantValue wrap
   number-follows z k fuel at p en r s total h un l =
       at-once fuel at p h _ (Integer z) (Value.integer z) (ap (λ y. Act.give (Integer y)) k)
       (by-number _ _ e _ at p 1 (bits z) (told (ends-word [] _ en) (omega arith) (omega arith)))
       (λ r₁. subst (λ y. mag y < 2 ^ 31) k (wrap-range z)) (λ r₁. refl)
 
-  string-follows : (t : List ℕ) → Occurs ts aString t → (fuel at p : ℕ) → Ends (e .code) at (codeOf (string t) ts) → Evaluates (string t) (suc fuel) at p
-  unfolding codeOf evaluate Valid meantValue
+  string-follows : (t : List ℕ) → Occurs ts aString t → (fuel at p : ℕ) → Ends (e .code) at (codeIn (string t)) → Evaluates (string t) (suc fuel) at p
+  unfolding codeWith evaluate Valid meantValue
   string-follows t k fuel at p en r s total h un l =
       at-once fuel at p h _ (Text (2 * partOf ts t)) (Value.string t) refl
       (by-string _ _ e _ at p 1 (partOf ts t) (told (ends-word [] _ en) (omega arith) (omega arith)))
       (λ r₁. strings .held t k _) (λ r₁. ap Value.string (sym (strings .text t k (r₁ .texts))))
 
-  none-follows : (fuel at p : ℕ) → Ends (e .code) at (codeOf nothing ts) → Evaluates nothing (suc fuel) at p
-  unfolding codeOf evaluate Valid meantValue
+  none-follows : (fuel at p : ℕ) → Ends (e .code) at (codeIn nothing) → Evaluates nothing (suc fuel) at p
+  unfolding codeWith evaluate Valid meantValue
   none-follows fuel at p en r s total h un l =
       at-once fuel at p h _ Nothing Value.none refl (by-none _ _ e _ at p 1 0 (told (ends-word [] _ en) (omega arith) (omega arith))) (λ r₁. tt) (λ r₁. refl)
 
-  truth-follows : (b : Bool) (fuel at p : ℕ) → Ends (e .code) at (codeOf (truth b) ts) → Evaluates (truth b) (suc fuel) at p
-  unfolding codeOf evaluate Valid meantValue
+  truth-follows : (b : Bool) (fuel at p : ℕ) → Ends (e .code) at (codeIn (truth b)) → Evaluates (truth b) (suc fuel) at p
+  unfolding codeWith evaluate Valid meantValue
   truth-follows b fuel at p en r s total h un l =
       at-once fuel at p h _ (Boolean b) (Value.boolean b) (ap (λ y. Act.give (Boolean y)) (truth-back b))
       (by-truth _ _ e _ at p 1 (truthNumber b) (told (ends-word [] _ en) (omega arith) (omega arith))) (λ r₁. tt) (λ r₁. refl)
 
-  name-follows : (x : List ℕ) → Known (name x) ts → (fuel at p : ℕ) → Ends (e .code) at (codeOf (name x) ts) → Evaluates (name x) (suc fuel) at p
-  unfolding codeOf evaluate Known
-  name-follows x k fuel at p en r s total h un l =
+  name-follows : (x : List ℕ) (fuel at p : ℕ) → Ends (e .code) at (codeIn (name x)) → Evaluates (name x) (suc fuel) at p
+  unfolding codeWith evaluate
+  name-follows x fuel at p en r s total h un l =
       begun fuel at p h (λ r₁ s₁ total₁ a.
-      rw (by-name (expressionAt fuel e) (invokeAt fuel e) e (getD (e .code) at 0) at p 1 (slotOf ts x) (told (ends-word [] _ en) (omega arith) (omega arith)))
-      (from-here (a .after) (reads-variable few (a .after .related) x k p)))
+      rw (by-name (expressionAt fuel e) (invokeAt fuel e) e (getD (e .code) at 0) at p 1 (numbered x) (told (ends-word [] _ en) (omega arith) (omega arith)))
+      (from-here (a .after) (rw (stays (a .after) un .procedure) at (reads-variable (a .after .related) x {granted = granted} p))))
 
-  table-follows : (x : Expression) (fuel at p : ℕ) → Ends (e .code) at (codeOf (table x) ts) → Evaluates x fuel (at - 1) p → Evaluates (table x) (suc fuel) at p
-  unfolding codeOf evaluate sized Act._>>=_ Run._>>=_
+  table-follows : (x : Expression) (fuel at p : ℕ) → Ends (e .code) at (codeIn (table x)) → Evaluates x fuel (at - 1) p → Evaluates (table x) (suc fuel) at p
+  unfolding codeWith evaluate sized Act._>>=_ Run._>>=_
   table-follows x fuel at p en inner r s total h un l =
       let long = simp length-append at l in
       begun fuel at p h (λ r₁ s₁ total₁ a.
-      rw (by-table (expressionAt fuel e) (invokeAt fuel e) e (getD (e .code) at 0) at p (length (codeOf x ts) + 1) 0
-      (told (ends-word (codeOf x ts) _ en) (omega arith) (omega arith)))
+      rw (by-table (expressionAt fuel e) (invokeAt fuel e) e (getD (e .code) at 0) at p (length (codeIn x) + 1) 0
+      (told (ends-word (codeIn x) _ en) (omega arith) (omega arith)))
       (bind (inner r₁ s₁ total₁ (a .after .related) (stays (a .after) un) (omega (arith, a .after .held))) (λ v u r₂ s₂ total₂ b.
       rw (back-again (b .after .related .sound) v (b .valid), b .means) (with-integer (b .after .related) p v (b .valid) _ _ (λ z w. makes-table (stepped-on a (b .after)) p z)))))
 
-  entry-follows : (x y : Expression) (fuel at p : ℕ) → Joint (e .code) at tagEntry (codeOf x ts) (codeOf y ts)
-      → Evaluates x fuel (at - 1 - length (codeOf y ts)) p → Evaluates y fuel (at - 1) p → Evaluates (entry x y) (suc fuel) at p
-  unfolding codeOf evaluate Act._>>=_ Run._>>=_
+  entry-follows : (x y : Expression) (fuel at p : ℕ) → Joint (e .code) at tagEntry (codeIn x) (codeIn y)
+      → Evaluates x fuel (at - 1 - length (codeIn y)) p → Evaluates y fuel (at - 1) p → Evaluates (entry x y) (suc fuel) at p
+  unfolding codeWith evaluate Act._>>=_ Run._>>=_
   entry-follows x y fuel at p joint left right r s total h un l =
       let long = simp length-append at l in
       begun fuel at p h (λ r₁ s₁ total₁ a.
-      rw (by-entry (expressionAt fuel e) (invokeAt fuel e) e (getD (e .code) at 0) at p _ (length (codeOf y ts)) (told (joint .root) (omega arith) (omega arith)))
+      rw (by-entry (expressionAt fuel e) (invokeAt fuel e) e (getD (e .code) at 0) at p _ (length (codeIn y)) (told (joint .root) (omega arith) (omega arith)))
       (bind (left r₁ s₁ total₁ (a .after .related) (stays (a .after) un) (omega (arith, a .after .held))) (λ v u r₂ s₂ total₂ b.
       rw (back-again (b .after .related .sound) v (b .valid), b .means) (with-table (b .after .related) p v (b .valid) _ _ (λ t w.
       bind (right r₂ s₂ total₂ (b .after .related) (stays (b .after) (stays (a .after) un)) (omega (arith, a .after .held, b .after .held))) (λ k q r₃ s₃ total₃ c.
       rw (c .means) (from-here (onward (a .after) (onward (b .after) (c .after))) (reads-entry (c .after .related) k (c .valid) t p))))))))
 
-  operation-follows : (o : Operator) (x y : Expression) (fuel at p : ℕ) → Joint (e .code) at (tagOf o) (codeOf x ts) (codeOf y ts)
-      → Evaluates x fuel (at - 1 - length (codeOf y ts)) p → Evaluates y fuel (at - 1) p → Evaluates (operation o x y) (suc fuel) at p
-  unfolding codeOf evaluate Act._>>=_ Run._>>=_
+  operation-follows : (o : Operator) (x y : Expression) (fuel at p : ℕ) → Joint (e .code) at (tagOf o) (codeIn x) (codeIn y)
+      → Evaluates x fuel (at - 1 - length (codeIn y)) p → Evaluates y fuel (at - 1) p → Evaluates (operation o x y) (suc fuel) at p
+  unfolding codeWith evaluate Act._>>=_ Run._>>=_
   operation-follows o x y fuel at p joint left right r s total h un l =
       let long = simp length-append at l in
       begun fuel at p h (λ r₁ s₁ total₁ a.
-      rw (by-operator (expressionAt fuel e) (invokeAt fuel e) e (getD (e .code) at 0) at p _ (length (codeOf y ts)) (tagOf o) (operator-tag o)
+      rw (by-operator (expressionAt fuel e) (invokeAt fuel e) e (getD (e .code) at 0) at p _ (length (codeIn y)) (tagOf o) (operator-tag o)
       (told (joint .root) (tag-small o) (omega arith)))
       (bind (left r₁ s₁ total₁ (a .after .related) (stays (a .after) un) (omega (arith, a .after .held))) (λ v u r₂ s₂ total₂ b.
       bind (right r₂ s₂ total₂ (b .after .related) (stays (b .after) (stays (a .after) un)) (omega (arith, a .after .held, b .after .held))) (λ w q r₃ s₃ total₃ c.
@@ -316,45 +331,45 @@ module _ (e : Setting) {ts : List Token} (few : length ts ≤ 8192) (strings : S
   -- ---- arguments and calls
   -- they leave room for what is behind them
   abbrev Argued : Arguments → Raw → List Value.Value → Raw → State → Amounts → Type 0
-  Argued es r us r′ s total = AfterArguments (e .program) ts (e .grants) r us r′ s total × (2 * getD (r′ .words) argumentsHeld 0 ≤ 2 * getD (r .words) argumentsHeld 0 + length (codeOfAll es ts))
+  Argued es r us r′ s total = AfterArguments (e .program) ts (e .grants) r us r′ s total × (2 * getD (r′ .words) argumentsHeld 0 ≤ 2 * getD (r .words) argumentsHeld 0 + length (codeInAll es))
 
   abbrev Pushes : Arguments → ℕ → ℕ → ℕ → ℕ → ℕ → Type 0
   Pushes es fuel rounds a x p = (r : Raw) (s : State) (total : Amounts) → Here r s total → Under (e .grants) w c limit r
-      → 2 * getD (r .words) argumentsHeld 0 + length (codeOfAll es ts) ≤ room
+      → 2 * getD (r .words) argumentsHeld 0 + length (codeInAll es) ≤ room
       → Follows granted total (λ _ us r′ s′ total′. Argued es r us r′ s′ total′)
       (argumentsFrom rounds (expressionAt fuel e) e (argumentAfter e a x) x p r) (evaluateAll (calling limit fs) es p s)
 
   no-argument-follows : (fuel rounds a p : ℕ) → Pushes noArgument fuel (suc rounds) a a p
-  unfolding codeOfAll evaluateAll Act.give Run.give
+  unfolding argumentsWith evaluateAll Act.give Run.give
   no-argument-follows fuel rounds a p r s total h un l =
       rw (by-no-argument (expressionAt fuel e) e rounds a a p 0 (le-refl a)) (given (no-more h, omega arith))
 
-  argument-follows : (y : Expression) (es : Arguments) (fuel rounds a at p : ℕ) → Argument (e .code) a (codeOf y ts) (codeOfAll es ts)
-      → a + length (codeOf y ts) < at → Evaluates y fuel (a + length (codeOf y ts)) p → Pushes es fuel rounds (a + length (codeOf y ts) + 1) at p
+  argument-follows : (y : Expression) (es : Arguments) (fuel rounds a at p : ℕ) → Argument (e .code) a (codeIn y) (codeInAll es)
+      → a + length (codeIn y) < at → Evaluates y fuel (a + length (codeIn y)) p → Pushes es fuel rounds (a + length (codeIn y) + 1) at p
       → Pushes (argument y es) fuel (suc rounds) a at p
-  unfolding codeOfAll evaluateAll Act._>>=_ Act.goOn Run._>>=_
+  unfolding argumentsWith evaluateAll Act._>>=_ Act.goOn Run._>>=_
   argument-follows y es fuel rounds a at p here below one more r s total h un l =
       let long = simp length-append at l in
-      rw (by-argument (expressionAt fuel e) e rounds a at p (length (codeOf y ts)) (told (here .before) (omega arith) (omega arith)) below)
+      rw (by-argument (expressionAt fuel e) e rounds a at p (length (codeIn y)) (told (here .before) (omega arith) (omega arith)) below)
       (bind (one r s total h un (omega arith)) (λ v x r₁ s₁ total₁ b.
-      let free : getD (r₁ .words) argumentsHeld 0 < stackWords = omega (arith, b .after .held, enough, code-some y ts) in
+      let free : getD (r₁ .words) argumentsHeld 0 < stackWords = omega (arith, b .after .held, enough, some-code y) in
       let q = pushed (b .after .related) free (packed v) in
       rw (pushes (b .after .related) free (packed v) p)
-      (give-after (λ us. x ∷ us) (λ _ us r₃ s₃ total₃ c. (one-more b q (c .0), omega (arith, c .1, q .held, b .after .held, code-some y ts, length-append (codeOf y ts) (codeOfAll es ts))))
+      (give-after (λ us. x ∷ us) (λ _ us r₃ s₃ total₃ c. (one-more b q (c .0), omega (arith, c .1, q .held, b .after .held, some-code y, length-append (codeIn y) (codeInAll es))))
       (more (pushedOn (b .after .related) free (packed v)) s₁ total₁ (q .related) (under-later (q .untouched) (q .later) (stays (b .after) un))
-      (omega (arith, q .held, b .after .held, code-some y ts))))))
+      (omega (arith, q .held, b .after .held, some-code y))))))
 
   -- a name that is main's or in the library
   performs : (f : List ℕ) → procedureNumber f ≢ 11 → 0 < limit → (p base n : ℕ) {r : Raw} {s : State} {total : Amounts} → Here r s total
-      → (us : List Value.Value) → Stacked (e .program) r base n us
+      → Above (e .program) ts r base → (us : List Value.Value) → Stacked (e .program) r base n us
       → Follows granted total (Values (e .program) ts (e .grants) r) (callLibrary (e .grants) (procedureNumber f) p base n r) (calling limit fs f p us s)
   unfolding procedureNumber libraryNumber numberOf calling found callLibrary if_then_else_ Act.fail Run.fail
-  performs f d pos p base n {r} {s} {total} h us st = at (limit - 1) (omega arith)
+  performs f d pos p base n {r} {s} {total} h up us st = at (limit - 1) (omega arith)
     where
       by-library-name : (m : ℕ) (l : Option Library) → libraryOf f ≡ l → numberOf l ≢ 11
           → Follows granted total (Values (e .program) ts (e .grants) r) (callLibrary (e .grants) (numberOf l) p base n r)
           (found (λ ss. executeAll (calling m fs) ss m) (procedureNamed f fs) f p us s)
-      by-library-name m (some l) q k = rw (apart f l q, q) (calls e gr (some l) p base n h us st)
+      by-library-name m (some l) q k = rw (apart f l q, q) (calls e gr (some l) p base n h up us st)
       by-library-name m Option.none q k = absurd (k refl)
 
       by-name : (m : ℕ) (b : Bool) → sameText f (bytes "main") ≡ b → cond b 12 (libraryNumber f) ≢ 11
@@ -380,23 +395,23 @@ module _ (e : Setting) {ts : List Token} (few : length ts ≤ 8192) (strings : S
       let same = untouched-trans (omega (arith, c .held)) (c .untouched) (w .after .untouched) in
       record {
         result = v;
-        slices = dropped (w .after .related) l spare low same (h .sound .waiting);
+        slices = dropped (w .after .related) l spare low same (h .sound .variables);
         is = refl;
         holds = record {
-          after = drops (w .after .related) l spare low same (h .sound .waiting);
-          valid = valid-later (drop-later (w .after .related) l spare low same (h .sound .waiting)) v (w .valid);
+          after = drops (w .after .related) l spare low same (h .sound .variables);
+          valid = valid-later (drop-later (w .after .related) l spare low same (h .sound .variables)) v (w .valid);
           means = w .means;
         };
       })
-      (performs f d pos p (getD (r₁ .words) argumentsHeld 0) (c .many) (c .related) us (c .stacked)))
+      (performs f d pos p (getD (r₁ .words) argumentsHeld 0) (c .many) (c .related) (c .above) us (c .stacked)))
 
-  call-follows : (f : List ℕ) (es : Arguments) (fuel at p : ℕ) → Occurs ts aName f → reserve ≤ fuel → Ends (e .code) at (codeOf (call f es) ts)
-      → Pushes es fuel (suc at) (at + 1 - (length (codeOfAll es ts) + 1)) at p → Evaluates (call f es) (suc fuel) at p
-  unfolding codeOf evaluate callAt Act._>>=_ Act.goOn Act.load Run._>>=_
+  call-follows : (f : List ℕ) (es : Arguments) (fuel at p : ℕ) → Occurs ts aName f → reserve ≤ fuel → Ends (e .code) at (codeIn (call f es))
+      → Pushes es fuel (suc at) (at + 1 - (length (codeInAll es) + 1)) at p → Evaluates (call f es) (suc fuel) at p
+  unfolding codeWith evaluate callAt Act._>>=_ Act.goOn Act.load Run._>>=_
   call-follows f es fuel at p o spare en all r s total h un l =
       let long = simp length-append at l in
-      let t = told (ends-word (codeOfAll es ts) _ en) (omega arith) (omega arith) in
-      let begins : at - (length (codeOfAll es ts) + 1 - 1) ≡ at + 1 - (length (codeOfAll es ts) + 1) = omega arith in
+      let t = told (ends-word (codeInAll es) _ en) (omega arith) (omega arith) in
+      let begins : at - (length (codeInAll es) + 1 - 1) ≡ at + 1 - (length (codeInAll es) + 1) = omega arith in
       begun fuel at p h (λ r₁ s₁ total₁ a.
       from-here (a .after)
       (rw (by-call (expressionAt fuel e) (invokeAt fuel e) e (getD (e .code) at 0) at p _ _ t, t .size-is, begins)
@@ -424,50 +439,50 @@ module _ (e : Setting) {ts : List Token} (few : length ts ≤ 8192) (strings : S
               (call-ends f other (omega arith) p h₁ c′)
 
   -- ---- all expressions
-  deeper : (x : Expression) (fuel at p : ℕ) → length (codeOf x ts) + reserve ≤ fuel → Evaluates x (suc (fuel - 1)) at p → Evaluates x fuel at p
+  deeper : (x : Expression) (fuel at p : ℕ) → length (codeIn x) + reserve ≤ fuel → Evaluates x (suc (fuel - 1)) at p → Evaluates x fuel at p
   deeper x fuel at p l f =
-      let z : suc (fuel - 1) ≡ fuel = omega (arith, code-some x ts) in
+      let z : suc (fuel - 1) ≡ fuel = omega (arith, some-code x) in
       subst (λ d. Evaluates x d at p) z f
 
-  longer : (es : Arguments) (fuel rounds a at p : ℕ) → length (codeOfAll es ts) < rounds → Pushes es fuel (suc (rounds - 1)) a at p → Pushes es fuel rounds a at p
+  longer : (es : Arguments) (fuel rounds a at p : ℕ) → length (codeInAll es) < rounds → Pushes es fuel (suc (rounds - 1)) a at p → Pushes es fuel rounds a at p
   longer es fuel rounds a at p l f =
       let z : suc (rounds - 1) ≡ rounds = omega arith in
       subst (λ d. Pushes es fuel d a at p) z f
 
   mutual
-    unfolding codeOf codeOfAll Known KnownAll evaluate
+    unfolding codeWith argumentsWith Known KnownAll evaluate
 
-    pub evaluates : (x : Expression) → Known x ts → (fuel at p : ℕ) → Ends (e .code) at (codeOf x ts) → length (codeOf x ts) + reserve ≤ fuel → Evaluates x fuel at p
+    pub evaluates : (x : Expression) → Known x ts → (fuel at p : ℕ) → Ends (e .code) at (codeIn x) → length (codeIn x) + reserve ≤ fuel → Evaluates x fuel at p
     evaluates (number z) k fuel at p en l = deeper (number z) fuel at p l (number-follows z k (fuel - 1) at p en)
     evaluates (string t) k fuel at p en l = deeper (string t) fuel at p l (string-follows t k (fuel - 1) at p en)
     evaluates nothing k fuel at p en l = deeper nothing fuel at p l (none-follows (fuel - 1) at p en)
     evaluates (truth b) k fuel at p en l = deeper (truth b) fuel at p l (truth-follows b (fuel - 1) at p en)
-    evaluates (name x) k fuel at p en l = deeper (name x) fuel at p l (name-follows x k (fuel - 1) at p en)
+    evaluates (name x) k fuel at p en l = deeper (name x) fuel at p l (name-follows x (fuel - 1) at p en)
     evaluates (table x) k fuel at p en l =
         let long = simp length-append at l in
         deeper (table x) fuel at p l (table-follows x (fuel - 1) at p en
-        (evaluates x k (fuel - 1) (at - 1) p (ends-front (codeOf x ts) _ en (code-some x ts)) (omega arith)))
+        (evaluates x k (fuel - 1) (at - 1) p (ends-front (codeIn x) _ en (some-code x)) (omega arith)))
     evaluates (entry x y) k fuel at p en l =
         let long = simp length-append at l in
-        let joint = ends-joined tagEntry (codeOf x ts) (codeOf y ts) (code-some x ts) (code-some y ts) en in
+        let joint = ends-joined tagEntry (codeIn x) (codeIn y) (some-code x) (some-code y) en in
         deeper (entry x y) fuel at p l (entry-follows x y (fuel - 1) at p joint
-        (evaluates x (k .0) (fuel - 1) (at - 1 - length (codeOf y ts)) p (joint .left) (omega arith))
+        (evaluates x (k .0) (fuel - 1) (at - 1 - length (codeIn y)) p (joint .left) (omega arith))
         (evaluates y (k .1) (fuel - 1) (at - 1) p (joint .right) (omega arith)))
     evaluates (operation o x y) k fuel at p en l =
         let long = simp length-append at l in
-        let joint = ends-joined (tagOf o) (codeOf x ts) (codeOf y ts) (code-some x ts) (code-some y ts) en in
+        let joint = ends-joined (tagOf o) (codeIn x) (codeIn y) (some-code x) (some-code y) en in
         deeper (operation o x y) fuel at p l (operation-follows o x y (fuel - 1) at p joint
-        (evaluates x (k .0) (fuel - 1) (at - 1 - length (codeOf y ts)) p (joint .left) (omega arith))
+        (evaluates x (k .0) (fuel - 1) (at - 1 - length (codeIn y)) p (joint .left) (omega arith))
         (evaluates y (k .1) (fuel - 1) (at - 1) p (joint .right) (omega arith)))
     evaluates (call f es) k fuel at p en l =
         let long = simp length-append at l in
         let last = simp length-append at (en .last) in
         deeper (call f es) fuel at p l (call-follows f es (fuel - 1) at p (k .0) (omega arith) en
-        (pushes-all es (k .1) (fuel - 1) (suc at) (at + 1 - (length (codeOfAll es ts) + 1)) at p (ends-start (codeOfAll es ts) _ en) (omega arith) (omega arith) (omega arith)))
+        (pushes-all es (k .1) (fuel - 1) (suc at) (at + 1 - (length (codeInAll es) + 1)) at p (ends-start (codeInAll es) _ en) (omega arith) (omega arith) (omega arith)))
     evaluates (paren x) k fuel at p en l = evaluates x k fuel at p en l
 
-    pub pushes-all : (es : Arguments) → KnownAll es ts → (fuel rounds a at p : ℕ) → Stands (e .code) a (codeOfAll es ts) → length (codeOfAll es ts) + reserve ≤ fuel
-        → length (codeOfAll es ts) < rounds → a + length (codeOfAll es ts) ≡ at → Pushes es fuel rounds a at p
+    pub pushes-all : (es : Arguments) → KnownAll es ts → (fuel rounds a at p : ℕ) → Stands (e .code) a (codeInAll es) → length (codeInAll es) + reserve ≤ fuel
+        → length (codeInAll es) < rounds → a + length (codeInAll es) ≡ at → Pushes es fuel rounds a at p
     pushes-all noArgument k fuel rounds a at p st l m q =
         let z : a ≡ at = omega arith in
         longer noArgument fuel rounds a at p m (subst (λ i. Pushes noArgument fuel (suc (rounds - 1)) a i p) z (no-argument-follows fuel (rounds - 1) a p))
@@ -475,7 +490,7 @@ module _ (e : Setting) {ts : List Token} (few : length ts ≤ 8192) (strings : S
         let long = simp length-append at l in
         let long′ = simp length-append at m in
         let long″ = simp length-append at q in
-        let here = stands-argument (codeOf x ts) (codeOfAll es ts) st in
+        let here = stands-argument (codeIn x) (codeInAll es) st in
         longer (argument x es) fuel rounds a at p m (argument-follows x es fuel (rounds - 1) a at p here (omega arith)
-        (evaluates x (k .0) fuel (a + length (codeOf x ts)) p (here .one) (omega arith))
-        (pushes-all es (k .1) fuel (rounds - 1) (a + length (codeOf x ts) + 1) at p (here .more) (omega arith) (omega arith) (omega arith)))
+        (evaluates x (k .0) fuel (a + length (codeIn x)) p (here .one) (omega arith))
+        (pushes-all es (k .1) fuel (rounds - 1) (a + length (codeIn x) + 1) at p (here .more) (omega arith) (omega arith) (omega arith)))

@@ -2,9 +2,9 @@
 use Prim.Native.Nat.{ℕ, zero, suc, _+_, _-_, _/_, _%_, _^_, _≤_, _<_}
 use native.Mathlib.Omega.{arith}
 use native.Mathlib.Nat.{le-refl, le-trans, le-of-lt, add-zero}
-use mathlib.Core.Path.{_≡_, refl, ap, ap₂, sym, _∙_}
+use mathlib.Core.Path.{_≡_, refl, ap, sym, _∙_}
 use mathlib.Core.Logic.{_≢_}
-use mathlib.Core.Bool.{Bool, true, false, cond, not}
+use mathlib.Core.Bool.{Bool, true, false, cond}
 use mathlib.Core.List.{List, [], _∷_, _++_}
 use lib.ListN.{length, getD}
 use lib.Dec.{eqb}
@@ -16,9 +16,8 @@ use Rattle.meaning.specs.State.{atom, group, noShape}
 use Rattle.meaning.specs.State as State
 use Rattle.machine.specs.declared.Value.{Value}
 use Rattle.machine.specs.declared.Value.the-variants.{Integer, Text, Boolean, Nothing, Table, Shape}
-use Rattle.machine.specs.Words.{unpacked}
-use Rattle.machine.specs.Layout.{shapesUsed, textUsed, declared, argumentsHeld, callsUsed, running, componentsMade, loopUnit, framePlace}
-use Rattle.machine.specs.Layout.{valuePlace, orderPlace, shapePlace, componentPlace, pathPlace, firstArgument, firstFrame, firstValue}
+use Rattle.machine.specs.Layout.{shapesUsed, textUsed, declared, argumentsHeld, callsUsed, running, componentsMade, loopUnit, frame}
+use Rattle.machine.specs.Layout.{callPlace, shapePlace, componentPlace, pathPlace, firstArgument, firstCall}
 use Rattle.machine.specs.Act.{Raw}
 use Rattle.machine.specs.Texts.{originIn, startIn, sizeIn}
 use Rattle.machine.specs.declared.Figure.{Figure}
@@ -26,9 +25,11 @@ use Rattle.machine.specs.Shapes.{kindGroup, isGroupAt, figureAt, destroyedAt}
 use Rattle.machine.specs.Groups.{componentAt, firstAt, countAt}
 use Rattle.machine.specs.Show.{shownFrom, figuresIn}
 use Rattle.machine.specs.Stack.{argumentAt}
-use Rattle.machine.specs.Variables.{wordIn, topIn, countIn}
-use Rattle.simulation.specs.Meant.{meantValue, meantFigure, listed, slotAt, variableAt, variablesOf, waitingAt, frameAt, frameOf, suspendedOf, componentsOf, contentAt, shapeAt, shapesOf}
-use Rattle.simulation.specs.Sound.{Held, Valid, Proper, declaredAmong, Variables, Waiting, Grouped, Shapes, markIn, Marks}
+use Rattle.machine.specs.Variables.{wordIn, orderIn, numberOf, holdingAt, holdingOf, holding}
+use Rattle.simulation.specs.Scope.{scopeOf}
+use Rattle.simulation.specs.Meant.{meantValue, meantWord, meantFigure, listed, variableAt, frameOf, variablesOf, frameAt, declaredAt, runningAt, waitingOf, suspendedOf}
+use Rattle.simulation.specs.Meant.{componentsOf, contentAt, shapeAt, shapesOf}
+use Rattle.simulation.specs.Sound.{Held, Valid, Proper, Framed, sizeOf, Variables, Waiting, Grouped, Shapes, markIn, Marks}
 use Rattle.simulation.specs.Follows.{Stays, Later}
 use Rattle.simulation.specs.After.{Untouched}
 use Rattle.simulation.proofs.Listed.{listed-same, listed-first, getD-listed}
@@ -127,69 +128,104 @@ module _ {g : List ℕ} {r r′ : Raw} (a : SameRest g r r′) where
   }
 
 -- ---- the calls under way
-pub untouched-refl : (g : List ℕ) (r : Raw) → Untouched g r r
-untouched-refl g r = record {
+pub untouched-refl : (program : List ℕ) (ts : List Token) (g : List ℕ) (r : Raw) → Untouched program ts g r r
+untouched-refl program ts g r = record {
   calls = refl;
-  running = refl;
-  frames = λ d z h. refl;
-  arguments = λ k h. refl;
+  kept = λ d j z h l. refl;
+  below = λ k h. refl;
+  above = λ k h l. refl;
   made = le-refl _;
   components = λ k h. refl;
   unit = refl;
   marks = λ d k x. refl;
-  bound = λ slot n. n;
+  bound = λ i h n. n;
+  running = refl;
+  frame = refl;
 }
 
-pub untouched-trans : {g : List ℕ} {r r′ r″ : Raw} → getD (r .words) argumentsHeld 0 ≤ getD (r′ .words) argumentsHeld 0
-    → Untouched g r r′ → Untouched g r′ r″ → Untouched g r r″
+pub untouched-trans : {program : List ℕ} {ts : List Token} {g : List ℕ} {r r′ r″ : Raw} → getD (r .words) argumentsHeld 0 ≤ getD (r′ .words) argumentsHeld 0
+    → Untouched program ts g r r′ → Untouched program ts g r′ r″ → Untouched program ts g r r″
 untouched-trans h a b = record {
   calls = b .calls ∙ a .calls;
-  running = b .running ∙ a .running;
-  frames = λ d z l. b .frames d z (rw (a .calls) l) ∙ a .frames d z l;
-  arguments = λ k l. b .arguments k (le-trans l h) ∙ a .arguments k l;
+  kept = λ d j z l m. b .kept d j z (rw (a .calls) l) m ∙ a .kept d j z l m;
+  below = λ k l. b .below k (rw (a .frame) l) ∙ a .below k l;
+  above = λ k l m. b .above k (rw (a .frame, a .running) l) (le-trans m h) ∙ a .above k l m;
   made = le-trans (a .made) (b .made);
   components = λ k l. b .components k (le-trans l (a .made)) ∙ a .components k l;
   unit = b .unit ∙ a .unit;
   marks = λ d k x. b .marks d k (rw (a .calls) x) ∙ a .marks d k x;
-  bound = λ slot n. b .bound slot (a .bound slot n);
+  bound = λ i l n. b .bound i (rw (a .running) l) (a .bound i l n);
+  running = b .running ∙ a .running;
+  frame = b .frame ∙ a .frame;
 }
 
-pub untouched-components : {g : List ℕ} {r r′ : Raw} → Untouched g r r′ → SameComponents g r r′
+pub untouched-components : {program : List ℕ} {ts : List Token} {g : List ℕ} {r r′ : Raw} → Untouched program ts g r r′ → SameComponents g r r′
 untouched-components u = record { made = u .made; words = u .components }
 
--- the words of the procedure under way and of calls that wait, and those of the stack
-pub untouched-but : {g : List ℕ} {r r′ : Raw} → SameRest g r r′ → getD (r′ .words) running 0 ≡ getD (r .words) running 0
-    → ((i : ℕ) → firstFrame ≤ i → i < firstValue → getD (r′ .words) i 0 ≡ getD (r .words) i 0)
-    → ((k : ℕ) → k < getD (r .words) argumentsHeld 0 → argumentAt (r′ .words) k ≡ argumentAt (r .words) k)
-    → ((slot : ℕ) → getD (r .words) (valuePlace slot) 0 ≢ 0 → getD (r′ .words) (valuePlace slot) 0 ≢ 0) → Untouched g r r′
-untouched-but a n e s b = record {
+-- the words of calls that wait, and those of the stack below the frame and above it
+pub untouched-but : {program : List ℕ} {ts : List Token} {g : List ℕ} {r r′ : Raw} → SameRest g r r′
+    → getD (r′ .words) running 0 ≡ getD (r .words) running 0 → getD (r′ .words) frame 0 ≡ getD (r .words) frame 0
+    → ((i : ℕ) → firstCall ≤ i → i < firstArgument → getD (r′ .words) i 0 ≡ getD (r .words) i 0)
+    → ((k : ℕ) → k < getD (r .words) frame 0 → argumentAt (r′ .words) k ≡ argumentAt (r .words) k)
+    → ((k : ℕ) → getD (r .words) frame 0 + suc (sizeOf program ts (getD (r .words) running 0)) ≤ k → k < getD (r .words) argumentsHeld 0
+    → argumentAt (r′ .words) k ≡ argumentAt (r .words) k)
+    → ((i : ℕ) → i ≤ sizeOf program ts (getD (r .words) running 0) → holding (r .words) i ≢ 0 → holding (r′ .words) i ≢ 0) → Untouched program ts g r r′
+untouched-but a n f e s t b = record {
   calls = a .calls;
-  running = n;
-  frames = λ d z h. e (framePlace d) (omega arith) (omega arith);
-  arguments = s;
+  kept = λ d j z h l. e (callPlace d + j) (omega arith) (omega arith);
+  below = s;
+  above = t;
   made = omega (arith, a .parts);
   components = λ k l. a .high _ (omega arith);
   unit = a .unit;
   marks = λ d k x. rest-mark a d k;
   bound = b;
+  running = n;
+  frame = f;
 }
 
--- and those of the variables
-pub untouched-words : {g : List ℕ} {r r′ : Raw} → SameRest g r r′ → getD (r′ .words) running 0 ≡ getD (r .words) running 0
-    → ((i : ℕ) → firstFrame ≤ i → i < firstArgument → getD (r′ .words) i 0 ≡ getD (r .words) i 0)
-    → ((k : ℕ) → k < getD (r .words) argumentsHeld 0 → argumentAt (r′ .words) k ≡ argumentAt (r .words) k) → Untouched g r r′
-untouched-words a n e s = untouched-but a n (λ i l m. e i l (omega arith)) s (λ slot z. rw (e (valuePlace slot) (omega arith) (omega arith)) z)
+-- all of the stack, as far as it was held
+pub untouched-words : {program : List ℕ} {ts : List Token} {g : List ℕ} {r r′ : Raw} → SameRest g r r′
+    → getD (r′ .words) running 0 ≡ getD (r .words) running 0 → getD (r′ .words) frame 0 ≡ getD (r .words) frame 0
+    → ((i : ℕ) → firstCall ≤ i → i < firstArgument → getD (r′ .words) i 0 ≡ getD (r .words) i 0)
+    → ((k : ℕ) → k < getD (r .words) argumentsHeld 0 → argumentAt (r′ .words) k ≡ argumentAt (r .words) k)
+    → Variables program ts (r .words) → Untouched program ts g r r′
+untouched-words {r = r} a n f e s v =
+    untouched-but a n f e (λ k l. s k (omega (arith, v .within))) (λ k l m. s k m)
+    (λ i l z. rw (f, s (getD (r .words) frame 0 + i) (omega (arith, v .within))) z)
 
--- the words of calls that wait, and the stack as far as it was held
+-- the words of calls that wait, and the stack below the frame
 pub record SameStack (r r′ : Raw) : Type 0 where
-  pub frames : (d : ℕ) → 0 < d → d < getD (r .words) callsUsed 0 → frameAt (r′ .words) d ≡ frameAt (r .words) d
-  pub arguments : (k : ℕ) → k < getD (r .words) argumentsHeld 0 → argumentAt (r′ .words) k ≡ argumentAt (r .words) k
+  pub kept : (d j : ℕ) → 0 < d → d < getD (r .words) callsUsed 0 → j < 4 → getD (r′ .words) (callPlace d + j) 0 ≡ getD (r .words) (callPlace d + j) 0
+  pub below : (k : ℕ) → k < getD (r .words) frame 0 → argumentAt (r′ .words) k ≡ argumentAt (r .words) k
 
-pub same-stack : {g : List ℕ} {r r′ : Raw} → Untouched g r r′ → SameStack r r′
-same-stack u = record { frames = u .frames; arguments = u .arguments }
+pub same-stack : {program : List ℕ} {ts : List Token} {g : List ℕ} {r r′ : Raw} → Untouched program ts g r r′ → SameStack r r′
+same-stack u = record { kept = u .kept; below = u .below }
+
+-- the variables of the call under way, which stay within what the stack holds
+pub record SameVariables (program : List ℕ) (ts : List Token) (r r′ : Raw) : Type 0 where
+  pub count : getD (r′ .words) declared 0 ≡ getD (r .words) declared 0
+  pub procedure : getD (r′ .words) running 0 ≡ getD (r .words) running 0
+  pub place : getD (r′ .words) frame 0 ≡ getD (r .words) frame 0
+  pub words : (k : ℕ) → k ≤ sizeOf program ts (getD (r .words) running 0)
+      → argumentAt (r′ .words) (getD (r .words) frame 0 + k) ≡ argumentAt (r .words) (getD (r .words) frame 0 + k)
+  pub within : getD (r .words) frame 0 + suc (sizeOf program ts (getD (r .words) running 0)) ≤ getD (r′ .words) argumentsHeld 0
+
+-- if the stack stays as far as it was held
+pub same-words : {program : List ℕ} {ts : List Token} {r r′ : Raw} → getD (r′ .words) declared 0 ≡ getD (r .words) declared 0
+    → getD (r′ .words) running 0 ≡ getD (r .words) running 0 → getD (r′ .words) frame 0 ≡ getD (r .words) frame 0
+    → getD (r .words) argumentsHeld 0 ≤ getD (r′ .words) argumentsHeld 0
+    → ((k : ℕ) → k < getD (r .words) argumentsHeld 0 → argumentAt (r′ .words) k ≡ argumentAt (r .words) k) → Variables program ts (r .words) → SameVariables program ts r r′
+same-words n m f high s v = record {
+  count = n;
+  procedure = m;
+  place = f;
+  words = λ k h. s _ (omega (arith, v .within));
+  within = le-trans (v .within) high;
+}
 
 pub record SameWaiting (program : List ℕ) (ts : List Token) (r r′ : Raw) : Type 0 where
-  pub waiting : Waiting program (r′ .words)
+  pub waiting : Waiting program ts (r′ .words)
   pub suspended : suspendedOf program ts r′ ≡ suspendedOf program ts r
 
 module _ {program : List ℕ} {r r′ : Raw} (l : Later program r r′) where
@@ -211,95 +247,96 @@ module _ {program : List ℕ} {r r′ : Raw} (l : Later program r r′) where
   meant-later (Table t) h = refl
   meant-later (Shape i) h = refl
 
-  -- ---- variables
-  pub record SameVariables : Type 0 where
-    pub count : getD (r′ .words) declared 0 ≡ getD (r .words) declared 0
-    pub procedure : getD (r′ .words) running 0 ≡ getD (r .words) running 0
-    pub slots : (k : ℕ) → k < getD (r .words) declared 0 → slotAt (r′ .words) k ≡ slotAt (r .words) k
-    pub values : (slot : ℕ) → getD (r′ .words) (valuePlace slot) 0 ≡ getD (r .words) (valuePlace slot) 0
+  -- ---- a frame whose words stay
+  module _ {f n size : ℕ} (same : (k : ℕ) → k ≤ size → argumentAt (r′ .words) (f + k) ≡ argumentAt (r .words) (f + k)) (v : Framed program (r .words) f n size) where
+    pub holding-as : (i : ℕ) → i ≤ size → holdingAt (r′ .words) f i ≡ holdingAt (r .words) f i
+    holding-as i h = ap wordIn (same i h)
 
-  -- the words of the procedure under way and of variables
-  pub same-words : getD (r′ .words) declared 0 ≡ getD (r .words) declared 0 → getD (r′ .words) running 0 ≡ getD (r .words) running 0
-      → ((i : ℕ) → firstFrame ≤ i → i < firstArgument → getD (r′ .words) i 0 ≡ getD (r .words) i 0) → SameVariables
-  same-words n m e = record {
-    count = n;
-    procedure = m;
-    slots = λ k h. e (orderPlace k) (omega arith) (omega arith);
-    values = λ slot. e (valuePlace slot) (omega arith) (omega arith);
-  }
+    pub number-as : (k : ℕ) → k < n → numberOf (r′ .words) f k ≡ numberOf (r .words) f k
+    number-as k h = ap orderIn (same k (omega (arith, v .few)))
 
-  module _ (same : SameVariables) where
-    among-same : (n : ℕ) → declaredAmong (r′ .words) n ≡ declaredAmong (r .words) n
-    unfolding declaredAmong
-    among-same zero = refl
-    among-same (suc n) = ap₂ _+_ (ap (λ w. cond (not (eqb w 0)) 1 0) (same .values n)) (among-same n)
+    -- what a declaration's variable holds
+    held-as : (k : ℕ) → k < n → holdingOf (r′ .words) f k ≡ holdingOf (r .words) f k
+    held-as k h = ap (holdingAt (r′ .words) f) (number-as k h) ∙ holding-as (numberOf (r .words) f k) (omega (arith, v .small k h))
 
-    pub variables-kept : (ts : List Token) → Variables program ts (r .words) → Variables program ts (r′ .words)
-    variables-kept ts v = record {
-      few = rw (same .count, among-same 8192) (v .few);
-      small = λ k h. let q = rw (same .count) at h in rw (same .slots k q) (v .small k q);
-      names = λ k h. let q = rw (same .count) at h in rw (same .slots k q) (v .names k q);
-      own = λ k h. let q = rw (same .count) at h in rw (same .slots k q, same .procedure) (v .own k q);
-      there = λ k h. let q = rw (same .count) at h in rw (same .slots k q, same .values (slotAt (r .words) k)) (v .there k q);
-      apart = λ j k a b e.
-          let p = rw (same .count) at a in
-          let q = rw (same .count) at b in
-          v .apart j k p q (sym (same .slots j p) ∙ e ∙ same .slots k q);
-      found = λ slot h n.
-          let q = v .found slot h (rw (same .values slot) at n) in
-          (q .0, rw (same .count) (q .1), same .slots (q .0) (q .1) ∙ q .2);
-      holds = λ slot. rw (same .values slot) (valid-later _ (v .holds slot));
-      narrow = λ slot. rw (same .values slot) (v .narrow slot);
+    pub framed-kept : Framed program (r′ .words) f n size
+    framed-kept = record {
+      brief = v .brief;
+      few = v .few;
+      small = λ k h. rw (number-as k h) (v .small k h);
+      there = λ k h. rw (held-as k h) (v .there k h);
+      apart = λ j k a b e. v .apart j k a b (sym (number-as j a) ∙ e ∙ number-as k b);
+      found = λ i h z.
+          let q = v .found i h (rw (holding-as i h) at z) in
+          (q .0, q .1, number-as (q .0) (q .1) ∙ q .2);
+      holds = λ i h. rw (holding-as i h) (valid-later _ (v .holds i h));
     }
 
-    variable-same : (ts : List Token) → Variables program ts (r .words) → (j : ℕ) → j < getD (r .words) declared 0 → variableAt program ts r′ j ≡ variableAt program ts r j
+    variable-same : (names : List (List ℕ)) (k : ℕ) → k < n → variableAt program names r′ f k ≡ variableAt program names r f k
     unfolding variableAt
-    variable-same ts v j h = rw (same .slots j h, same .values (slotAt (r .words) j), meant-later _ (v .holds (slotAt (r .words) j)))
+    variable-same names k h =
+        let a : getD names (numberOf (r′ .words) f k) [] ≡ getD names (numberOf (r .words) f k) [] = rw (number-as k h) in
+        let b : meantWord program r′ (holdingOf (r′ .words) f k) ≡ meantWord program r (holdingOf (r .words) f k) =
+        rw (held-as k h) (meant-later _ (v .holds (numberOf (r .words) f k) (omega (arith, v .small k h)))) in
+        λ i. record { name = a i; holds = b i }
 
-    pub variables-same : (ts : List Token) → Variables program ts (r .words) → variablesOf program ts r′ ≡ variablesOf program ts r
-    unfolding variablesOf
-    variables-same ts v = rw (same .count) (listed-first (variableAt program ts r′) (variableAt program ts r) (getD (r .words) declared 0) (variable-same ts v))
+    pub frame-same : (names : List (List ℕ)) → frameOf program names r′ f n ≡ frameOf program names r f n
+    unfolding frameOf
+    frame-same names = listed-first (variableAt program names r′ f) (variableAt program names r f) n (variable-same names)
+
+  -- ---- variables
+  module _ {ts : List Token} (same : SameVariables program ts r r′) (v : Variables program ts (r .words)) where
+    pub variables-kept : Variables program ts (r′ .words)
+    variables-kept = record {
+      framed = rw (same .count, same .procedure, same .place) (framed-kept (same .words) (v .framed));
+      within = rw (same .procedure, same .place) (same .within);
+    }
+
+    pub variables-same : variablesOf program ts r′ ≡ variablesOf program ts r
+    variables-same = rw (same .count, same .procedure, same .place) (frame-same (same .words) (v .framed) (scopeOf program ts (getD (r .words) running 0)))
 
   -- ---- calls that wait
-  module _ (u : SameStack r r′) (high : getD (r .words) argumentsHeld 0 ≤ getD (r′ .words) argumentsHeld 0) (w : Waiting program (r .words))
-      (d : ℕ) (z : 0 < d) (h : d < getD (r .words) callsUsed 0) where
-    pub within-kept : topIn (frameAt (r′ .words) d) + countIn (frameAt (r′ .words) d) ≤ getD (r′ .words) argumentsHeld 0
-    within-kept = rw (u .frames d z h) (le-trans (w .within d z h) high)
+  module _ {ts : List Token} (u : SameStack r r′) (w : Waiting program ts (r .words)) where
+    module _ (d : ℕ) (z : 0 < d) (h : d < getD (r .words) callsUsed 0) where
+      frame-kept : frameAt (r′ .words) d ≡ frameAt (r .words) d
+      frame-kept = rw (← add-zero (callPlace d)) (u .kept d 0 z h (omega arith))
 
-    pub holds-kept : (k : ℕ) → topIn (frameAt (r′ .words) d) ≤ k → k < topIn (frameAt (r′ .words) d) + countIn (frameAt (r′ .words) d)
-        → Valid program (r′ .words) (unpacked (wordIn (argumentAt (r′ .words) k)))
-    holds-kept k a b =
-        let a′ = rw (u .frames d z h) at a in
-        let b′ = rw (u .frames d z h) at b in
-        rw (u .arguments k (le-trans b′ (w .within d z h))) (valid-later _ (w .holds d z h k a′ b′))
+      -- its words lie below the frame of the call under way
+      under : (k : ℕ) → k ≤ sizeOf program ts (runningAt (r .words) d) → argumentAt (r′ .words) (frameAt (r .words) d + k) ≡ argumentAt (r .words) (frameAt (r .words) d + k)
+      under k l = u .below _ (omega (arith, w .under d z h))
 
-    waiting-same : (ts : List Token) (k : ℕ) → topIn (frameAt (r .words) d) ≤ k → k < topIn (frameAt (r .words) d) + countIn (frameAt (r .words) d)
-        → waitingAt program ts r′ k ≡ waitingAt program ts r k
-    unfolding waitingAt
-    waiting-same ts k a b = rw (u .arguments k (le-trans b (w .within d z h)), meant-later _ (w .holds d z h k a b))
+      pub waiting-end : frameAt (r′ .words) d + suc (sizeOf program ts (runningAt (r′ .words) d)) ≡ frameAt (r .words) d + suc (sizeOf program ts (runningAt (r .words) d))
+      waiting-end = rw (frame-kept, u .kept d 2 z h (omega arith))
 
-    frame-same : (ts : List Token) → frameOf program ts r′ d ≡ frameOf program ts r d
-    unfolding frameOf
-    frame-same ts =
-        rw (u .frames d z h) (listed-same (waitingAt program ts r′) (waitingAt program ts r) (topIn (frameAt (r .words) d)) (countIn (frameAt (r .words) d)) (λ k a b. waiting-same ts k a b))
+      pub waiting-framed : Framed program (r′ .words) (frameAt (r′ .words) d) (declaredAt (r′ .words) d) (sizeOf program ts (runningAt (r′ .words) d))
+      waiting-framed = rw (frame-kept, u .kept d 1 z h (omega arith), u .kept d 2 z h (omega arith)) (framed-kept under (w .framed d z h))
 
-  module _ (u : SameStack r r′) (high : getD (r .words) argumentsHeld 0 ≤ getD (r′ .words) argumentsHeld 0) (w : Waiting program (r .words)) (ts : List Token) where
-    pub frames-same : listed (frameOf program ts r′) 1 (getD (r .words) callsUsed 0 - 1) ≡ suspendedOf program ts r
+      waiting-same : waitingOf program ts r′ d ≡ waitingOf program ts r d
+      unfolding waitingOf
+      waiting-same =
+          rw (frame-kept, u .kept d 1 z h (omega arith), u .kept d 2 z h (omega arith))
+          (frame-same under (w .framed d z h) (scopeOf program ts (runningAt (r .words) d)))
+
+    pub waiting-below : (d e : ℕ) → 0 < d → d < e → e < getD (r .words) callsUsed 0 → frameAt (r′ .words) d + suc (sizeOf program ts (runningAt (r′ .words) d)) ≤ frameAt (r′ .words) e
+    waiting-below d e z a b = rw (waiting-end d z (le-trans a (le-of-lt b)), frame-kept e (omega arith) b) (w .below d e z a b)
+
+    pub frames-same : listed (waitingOf program ts r′) 1 (getD (r .words) callsUsed 0 - 1) ≡ suspendedOf program ts r
     unfolding suspendedOf
-    frames-same = listed-same (frameOf program ts r′) (frameOf program ts r) 1 (getD (r .words) callsUsed 0 - 1) (λ d a b. frame-same u high w d a (omega arith) ts)
+    frames-same = listed-same (waitingOf program ts r′) (waitingOf program ts r) 1 (getD (r .words) callsUsed 0 - 1) (λ d a b. waiting-same d a (omega arith))
 
-    pub waits-same : getD (r′ .words) callsUsed 0 ≡ getD (r .words) callsUsed 0 → SameWaiting program ts r r′
+    pub waits-same : getD (r′ .words) callsUsed 0 ≡ getD (r .words) callsUsed 0 → getD (r .words) frame 0 ≤ getD (r′ .words) frame 0 → SameWaiting program ts r r′
     unfolding suspendedOf
-    waits-same c = record {
+    waits-same c f = record {
       waiting = record {
-        within = λ d z h. within-kept u high w d z (rw c at h);
-        holds = λ d z h. holds-kept u high w d z (rw c at h);
+        framed = λ d z h. waiting-framed d z (rw c at h);
+        below = λ d e z a b. waiting-below d e z a (rw c at b);
+        under = λ d z h. let q = rw c at h in le-trans (rw (waiting-end d z q) (w .under d z q)) f;
       };
       suspended = rw c frames-same;
     }
 
-  pub same-waiting : {g : List ℕ} → Untouched g r r′ → getD (r .words) argumentsHeld 0 ≤ getD (r′ .words) argumentsHeld 0 → Waiting program (r .words) → (ts : List Token) → SameWaiting program ts r r′
-  same-waiting u high w ts = waits-same (same-stack u) high w ts (u .calls)
+  pub same-waiting : {ts : List Token} {g : List ℕ} → Untouched program ts g r r′ → Waiting program ts (r .words) → SameWaiting program ts r r′
+  same-waiting u w = waits-same (same-stack u) w (u .calls) (omega (arith, u .frame))
 
   -- ---- shapes
   pub proper-later : {f : Figure} → Proper program (getD (r .words) textUsed 0) f → Proper program (getD (r′ .words) textUsed 0) f

@@ -17,7 +17,7 @@ use Rattle.meaning.specs.Run as Run
 use Rattle.meaning.specs.Book.{Amounts, added, resourceNumber, shortageOf}
 use Rattle.meaning.specs.Group as Group
 use Rattle.machine.specs.Layout.{stepsUsed, shapesUsed, entriesUsed, entriesMade, componentsMade, shapesGranted, entriesGranted}
-use Rattle.machine.specs.Layout.{callsGranted, fixedWords, shapePlace, componentPlace, pathPlace, Room, firstFrame}
+use Rattle.machine.specs.Layout.{callsGranted, fixedWords, shapePlace, componentPlace, pathPlace, Room, firstCall}
 use Rattle.machine.specs.Act.{Raw, raw}
 use Rattle.machine.specs.Act as Act
 use Rattle.machine.specs.Shapes.{firstWord, kindGroup, isGroupAt}
@@ -51,7 +51,7 @@ slot-first c n l =
 pub record Source (g ws : List ℕ) (place stride unit : ℕ) (parts : ℕ → ℕ) (many : ℕ) : Type 0 where
   pub gives : (k : ℕ) → k < many → getD ws (place + stride * k) 0 / unit % 2 ^ 32 ≡ parts k
   pub older : (k : ℕ) → k < many → parts k < getD ws shapesUsed 0
-  pub high : (k : ℕ) → k < many → firstFrame ≤ place + stride * k
+  pub high : (k : ℕ) → k < many → firstCall ≤ place + stride * k
   pub new : (k j : ℕ) → k < many → j < 3 → place + stride * k ≢ shapePlace (getD ws shapesUsed 0) + j
   pub slots : (k j : ℕ) → k < many → getD ws componentsMade 0 ≤ j → place + stride * k ≢ componentPlace g j
   pub below : (k : ℕ) → k < many → place + stride * k < pathPlace g 0 0

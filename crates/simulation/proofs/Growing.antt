@@ -40,13 +40,13 @@ use Rattle.machine.specs.Layout.{
   entriesGranted,
   callsGranted,
   fixedWords,
-  framePlace,
-  valuePlace,
+  frame,
+  callPlace,
   argumentPlace,
   shapePlace,
   entryPlace,
   componentPlace,
-  firstFrame,
+  firstCall,
 }
 use Rattle.machine.specs.Act.{Raw, raw}
 use Rattle.machine.specs.Shapes.{firstWord, pairWord, lowNumber, highNumber, isGroupAt, figureAt}
@@ -182,10 +182,10 @@ module _ {program : List ℕ} {ts : List Token} {g : List ℕ} {r : Raw} {s : St
   abbrev n : ℕ
   n = getD (r .words) shapesUsed 0
 
-  counter : (j : ℕ) → j ≢ shapesUsed → j ≢ entriesUsed → j ≢ componentsMade → j < firstFrame → getD ws′ j 0 ≡ getD (r .words) j 0
+  counter : (j : ℕ) → j ≢ shapesUsed → j ≢ entriesUsed → j ≢ componentsMade → j < firstCall → getD ws′ j 0 ≡ getD (r .words) j 0
   counter j x y z l = a .low j x y z (omega arith)
 
-  plain : (j : ℕ) → firstFrame ≤ j → j < fixedWords → getD ws′ j 0 ≡ getD (r .words) j 0
+  plain : (j : ℕ) → firstCall ≤ j → j < fixedWords → getD ws′ j 0 ≡ getD (r .words) j 0
   plain j l m = a .low j (λ e. omega arith) (λ e. omega arith) (λ e. omega arith) m
 
   steps-as : getD ws′ stepsUsed 0 ≡ getD (r .words) stepsUsed 0
@@ -206,6 +206,9 @@ module _ {program : List ℕ} {ts : List Token} {g : List ℕ} {r : Raw} {s : St
   running-as : getD ws′ running 0 ≡ getD (r .words) running 0
   running-as = counter running (λ e. omega arith) (λ e. omega arith) (λ e. omega arith) (omega arith)
 
+  frame-as : getD ws′ frame 0 ≡ getD (r .words) frame 0
+  frame-as = counter frame (λ e. omega arith) (λ e. omega arith) (λ e. omega arith) (omega arith)
+
   pub height-as : getD ws′ argumentsHeld 0 ≡ getD (r .words) argumentsHeld 0
   height-as = counter argumentsHeld (λ e. omega arith) (λ e. omega arith) (λ e. omega arith) (omega arith)
 
@@ -219,24 +222,28 @@ module _ {program : List ℕ} {ts : List Token} {g : List ℕ} {r : Raw} {s : St
     figures = λ i l. stays-words (r .words) ws′ i (λ j k. a .shapes i j l k);
   }
 
-  variables-as : SameVariables grown-later
-  variables-as = same-words grown-later (counter declared (λ e. omega arith) (λ e. omega arith) (λ e. omega arith) (omega arith)) running-as (λ j x y. plain j x (omega arith))
+  variables-as : SameVariables program ts r (raw (r .texts) ws′)
+  variables-as =
+      same-words (counter declared (λ e. omega arith) (λ e. omega arith) (λ e. omega arith) (omega arith)) running-as frame-as (omega (arith, height-as))
+      (λ k l. plain (argumentPlace k) (omega arith) (omega arith)) (h .sound .variables)
 
-  pub grown-untouched : Untouched g r (raw (r .texts) ws′)
+  pub grown-untouched : Untouched program ts g r (raw (r .texts) ws′)
   grown-untouched = record {
     calls = calls-as;
-    running = running-as;
-    frames = λ d z l. plain (framePlace d) (omega arith) (omega arith);
-    arguments = λ k l. plain (argumentPlace k) (omega arith) (omega arith);
+    kept = λ d j z l m. plain (callPlace d + j) (omega arith) (omega arith);
+    below = λ k l. plain (argumentPlace k) (omega arith) (omega arith);
+    above = λ k l m. plain (argumentPlace k) (omega arith) (omega arith);
     made = a .parts .made;
     components = a .parts .words;
     unit = unit-as;
     marks = λ d k x. a .marks d k (omega (arith, h .sound .counted .calls));
-    bound = λ slot n. rw (plain (valuePlace slot) (omega arith) (omega arith)) n;
+    bound = λ i l n. rw (frame-as, plain (argumentPlace (getD (r .words) frame 0 + i)) (omega arith) (omega arith)) n;
+    running = running-as;
+    frame = frame-as;
   }
 
   waiting-as : SameWaiting program ts r (raw (r .texts) ws′)
-  waiting-as = same-waiting grown-later grown-untouched (omega (arith, height-as)) (h .sound .waiting) ts
+  waiting-as = same-waiting grown-later grown-untouched (h .sound .waiting)
 
   entries-as : SameEntries grown-later (h .sound .shapes)
   entries-as = record {
@@ -326,13 +333,13 @@ module _ {program : List ℕ} {ts : List Token} {g : List ℕ} {r : Raw} {s : St
         texts = l .texts;
       };
       counted = grown-counted;
-      variables = variables-kept grown-later variables-as ts (h .sound .variables);
+      variables = variables-kept grown-later variables-as (h .sound .variables);
       waiting = waiting-as .waiting;
       shapes = shapes-now;
       marks = grown-marks;
       entries = entries-kept grown-later (h .sound .shapes) (a .parts) entries-as (h .sound .entries);
     };
-    variables = h .variables ∙ sym (variables-same grown-later variables-as ts (h .sound .variables));
+    variables = h .variables ∙ sym (variables-same grown-later variables-as (h .sound .variables));
     suspended = h .suspended ∙ sym (waiting-as .suspended);
     shapes = rw (h .shapes, e) (sym list-now);
     tables = h .tables ∙ sym tables-as;

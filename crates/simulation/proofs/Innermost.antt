@@ -1,5 +1,5 @@
 -- The unit of the innermost loop changes, and is as before when the loop has ended: nothing else does.
-use Prim.Native.Nat.{ℕ, _-_, _*_, _≤_, _<_}
+use Prim.Native.Nat.{ℕ, _+_, _-_, _*_, _≤_, _<_}
 use native.Mathlib.Omega.{arith}
 use mathlib.Core.Path.{_≡_, refl, sym, _∙_}
 use mathlib.Core.Logic.{_≢_}
@@ -21,8 +21,7 @@ use Rattle.machine.specs.Layout.{
   entriesMade,
   componentsMade,
   loopUnit,
-  framePlace,
-  valuePlace,
+  frame,
   argumentPlace,
 }
 use Rattle.machine.specs.Act.{Raw, raw}
@@ -88,9 +87,10 @@ module _ {program : List ℕ} {ts : List Token} {g : List ℕ} {r : Raw} {s : St
   pub switch-related : Related program ts g switched s total
   switch-related =
       kept-marks h switch-later (lent-set loopUnit x (h .sound .lent)) switch-counted switch-parts switch-marks
-      (same-words switch-later (counter declared (omega arith)) (counter running (omega arith)) (λ j a b. beyond j (omega arith)))
-      (waits-same switch-later (record { frames = λ d z l. beyond (framePlace d) (omega arith); arguments = λ k l. beyond (argumentPlace k) (omega arith) })
-      (omega (arith, counter argumentsHeld (omega arith))) (h .sound .waiting) ts (counter callsUsed (omega arith)))
+      (same-words (counter declared (omega arith)) (counter running (omega arith)) (beyond frame (omega arith)) (omega (arith, counter argumentsHeld (omega arith)))
+      (λ k l. beyond (argumentPlace k) (omega arith)) (h .sound .variables))
+      (waits-same switch-later (record { kept = λ d j z l m. beyond _ (omega arith); below = λ k l. beyond (argumentPlace k) (omega arith) })
+      (h .sound .waiting) (counter callsUsed (omega arith)) (omega (arith, beyond frame (omega arith))))
       (record { count = counter shapesUsed (omega arith); words = λ i j a b. beyond _ (omega arith) })
       (record {
         count = counter entriesMade (omega arith);
@@ -139,15 +139,23 @@ module _ {program : List ℕ} {ts : List Token} {g : List ℕ} {r : Raw} {s : St
         held = out-was argumentsHeld (λ e. omega arith) ∙ a .held ∙ in-was argumentsHeld (λ e. omega arith);
         untouched = record {
           calls = out-was callsUsed (λ e. omega arith) ∙ calls-same;
-          running = out-was running (λ e. omega arith) ∙ a .untouched .running ∙ in-was running (λ e. omega arith);
-          frames = λ d z l. out-was (framePlace d) (λ e. omega arith)
-              ∙ a .untouched .frames d z (rw (in-was callsUsed (λ e. omega arith)) l) ∙ in-was (framePlace d) (λ e. omega arith);
-          arguments = λ k l. out-was (argumentPlace k) (λ e. omega arith)
-              ∙ a .untouched .arguments k (rw (in-was argumentsHeld (λ e. omega arith)) l) ∙ in-was (argumentPlace k) (λ e. omega arith);
+          kept = λ d j z l m. out-was _ (λ e. omega arith)
+              ∙ a .untouched .kept d j z (rw (in-was callsUsed (λ e. omega arith)) l) m ∙ in-was _ (λ e. omega arith);
+          below = λ k l. out-was (argumentPlace k) (λ e. omega arith)
+              ∙ a .untouched .below k (rw (in-was frame (λ e. omega arith)) l) ∙ in-was (argumentPlace k) (λ e. omega arith);
+          above = λ k l m. out-was (argumentPlace k) (λ e. omega arith)
+              ∙ a .untouched .above k (rw (in-was frame (λ e. omega arith), in-was running (λ e. omega arith)) l) (rw (in-was argumentsHeld (λ e. omega arith)) m)
+              ∙ in-was (argumentPlace k) (λ e. omega arith);
           made = omega (arith, a .untouched .made, in-was componentsMade (λ e. omega arith), out-was componentsMade (λ e. omega arith));
           components = λ k l. out-was _ (λ e. omega arith) ∙ a .untouched .components k (rw (in-was componentsMade (λ e. omega arith)) l) ∙ in-was _ (λ e. omega arith);
           unit = unit-now (a .related) u back-fits;
           marks = λ d k l. same-mark (a .related) u back-fits d k ∙ marks-same d k l;
-          bound = λ slot n. rw (out-was (valuePlace slot) (λ e. omega arith)) (a .untouched .bound slot (rw (in-was (valuePlace slot) (λ e. omega arith)) n));
+          bound = λ i l n.
+              let f = getD (r .words) frame 0 in
+              let f′ = getD (r′ .words) frame 0 in
+              rw (out-was frame (λ e. omega arith), out-was (argumentPlace (f′ + i)) (λ e. omega arith))
+              (a .untouched .bound i (rw (in-was running (λ e. omega arith)) l) (rw (in-was frame (λ e. omega arith), in-was (argumentPlace (f + i)) (λ e. omega arith)) n));
+          running = out-was running (λ e. omega arith) ∙ a .untouched .running ∙ in-was running (λ e. omega arith);
+          frame = out-was frame (λ e. omega arith) ∙ a .untouched .frame ∙ in-was frame (λ e. omega arith);
         };
       }

@@ -5,15 +5,15 @@ use native.Mathlib.Nat.{le-trans}
 use mathlib.Core.Path.{_≡_, _∙_}
 use mathlib.Core.Bool.{true}
 use mathlib.Core.List.{List}
-use lib.ListN.{getD, set, length}
-use Rattle.meaning.specs.Token.{Token, aName}
+use lib.ListN.{getD, set}
+use Rattle.meaning.specs.Token.{Token}
 use Rattle.meaning.specs.State.{State}
 use Rattle.meaning.specs.Run as Run
 use Rattle.meaning.specs.Book.{Amounts}
 use Rattle.meaning.specs.Execute.{declaringOnce, binding, turns, iterating}
 use Rattle.meaning.specs.Execute as Execute
-use Rattle.code.specs.Code.{slotOf}
-use Rattle.reader.proofs.Homes.{Occurs}
+use Rattle.meaning.specs.Procedure.{isAmong}
+use Rattle.numbering.specs.Numbers.{numberIn}
 use Rattle.machine.specs.declared.Flow.{Flow}
 use Rattle.machine.specs.Layout.{stepsUsed, shapesUsed, argumentsHeld, callsUsed, running, loopUnit}
 use Rattle.machine.specs.Act.{Raw, raw, Act}
@@ -22,7 +22,7 @@ use Rattle.machine.specs.Shapes.{isGroupAt}
 use Rattle.machine.specs.Variables.{declareOnce}
 use Rattle.machine.specs.Loops.{innerUnit, loopOver}
 use Rattle.simulation.specs.Meant.{componentsOf}
-use Rattle.simulation.specs.Scope.{scopeOf, isIn}
+use Rattle.simulation.specs.Scope.{scopeOf}
 use Rattle.simulation.specs.Follows.{Grants, Related, Follows}
 use Rattle.simulation.proofs.Binding.{bind}
 use Rattle.simulation.proofs.Frames.{group-stays, untouched-components, components-later}
@@ -81,8 +81,8 @@ module _ {program : List ℕ} {ts : List Token} {g : List ℕ} {w c limit base :
       }
 
 -- ---- a loop's variable declared, and the loop; its body has a foreach less
-module _ {program : List ℕ} {ts : List Token} {g : List ℕ} (few : length ts ≤ 8192) {granted : Amounts} (gr : Grants g granted) (x : List ℕ) (o : Occurs ts aName x)
-    (w c limit base n : ℕ) (busy : 0 < c) (any : 0 < n) (own : isIn (slotOf ts x) (scopeOf program ts w) ≡ true) (body : Act Flow) (body′ : Run.Action Execute.Flow)
+module _ {program : List ℕ} {ts : List Token} {g : List ℕ} {granted : Amounts} (gr : Grants g granted) (x : List ℕ)
+    (w c limit base n : ℕ) (busy : 0 < c) (any : 0 < n) (own : isAmong x (scopeOf program ts w) ≡ true) (body : Act Flow) (body′ : Run.Action Execute.Flow)
     (does : (r : Raw) (s : State) (total : Amounts) → Related program ts g r s total → Under g w c limit r → getD (r .words) argumentsHeld 0 ≡ base → Room (n - 1) r
     → Follows granted total (Turns program ts g r) (body r) (body′ s)) (p : ℕ) where
   repeats : Repeats program ts g granted body body′ (Inside g w c limit base (n - 1))
@@ -90,15 +90,15 @@ module _ {program : List ℕ} {ts : List Token} {g : List ℕ} (few : length ts 
 
   pub iterates : {r : Raw} {s : State} {total : Amounts} → Related program ts g r s total → Under g w c limit r → getD (r .words) argumentsHeld 0 ≡ base → Room n r
       → (i : ℕ) → i < getD (r .words) shapesUsed 0 → isGroupAt (r .words) i ≡ true
-      → Follows granted total (Flows program ts g r) (Act._>>_ (declareOnce (slotOf ts x)) (loopOver body g p (slotOf ts x) i) r)
+      → Follows granted total (Flows program ts g r) (Act._>>_ (declareOnce (numberIn (scopeOf program ts w) x)) (loopOver body g p (numberIn (scopeOf program ts w) x) i) r)
       (Run._>>_ (declaringOnce x) (turns (λ i. Run._>>_ (Run.count p) (iterating (suc i) (λ j. Run._>>_ (binding x j) body′) i)) (componentsOf g (r .words) i)) s)
   unfolding Act._>>=_ Run._>>=_
   iterates {r} h un z low i l e =
-      bind (declares-once few h x o (rw (un .procedure) own)) (λ _ _ r₁ s₁ total₁ a.
+      bind (rw (un .procedure) at (declares-once h x {granted = granted} (rw (un .procedure) own))) (λ _ _ r₁ s₁ total₁ a.
       let b = a .after in
       let un₁ = stays b un in
       let low₁ = room-stays b low in
       rw (← components-later (b .later) (h .sound .shapes) (untouched-components (b .untouched)) i l e)
-      (flow-from b (loops-over (b .related) (rw (un₁ .calls) busy) n any (low₁ .few) (low₁ .fits) few gr x o body body′ (Inside g w c limit base (n - 1)) repeats p
-      i (le-trans l (b .later .shapes)) (group-stays (b .later .figures i l) ∙ e) (a .there)
+      (flow-from b (loops-over (b .related) (rw (un₁ .calls) busy) n any (low₁ .few) (low₁ .fits) gr x w body body′ (Inside g w c limit base (n - 1)) repeats p
+      i (le-trans l (b .later .shapes)) (group-stays (b .later .figures i l) ∙ e) (un₁ .procedure) (rw (un .procedure) at (a .there))
       (inside-more (b .related) any (record { under = un₁; held = b .held ∙ z; room = low₁ })))))

@@ -27,7 +27,8 @@ use Rattle.machine.specs.Layout.{
   entriesGranted,
   fixedWords,
   componentPlace,
-  firstValue,
+  frame,
+  firstArgument,
 }
 use Rattle.machine.specs.Act.{Raw, raw}
 use Rattle.simulation.specs.Meant.{meantKey, entriesOf}
@@ -56,7 +57,7 @@ use Rattle.simulation.proofs.Results.{Untouched, After}
 module _ {program : List ℕ} {ts : List Token} {g : List ℕ} {r : Raw} {s : State} {total : Amounts} (h : Related program ts g r s total) (ws′ : List ℕ)
     (low : (j : ℕ) → j ≢ entriesUsed → j ≢ entriesMade → j < fixedWords + 5 * shapesGranted g → getD ws′ j 0 ≡ getD (r .words) j 0)
     (high : (j : ℕ) → componentPlace g 0 ≤ j → getD ws′ j 0 ≡ getD (r .words) j 0) where
-  counter : (j : ℕ) → j ≢ entriesUsed → j ≢ entriesMade → j < firstValue → getD ws′ j 0 ≡ getD (r .words) j 0
+  counter : (j : ℕ) → j ≢ entriesUsed → j ≢ entriesMade → j < firstArgument → getD ws′ j 0 ≡ getD (r .words) j 0
   counter j n m l = low j n m (omega arith)
 
   pub stored-later : Later program r (raw (r .texts) ws′)
@@ -69,9 +70,11 @@ module _ {program : List ℕ} {ts : List Token} {g : List ℕ} {r : Raw} {s : St
     figures = λ i l. stays-words (r .words) ws′ i (λ j k. low _ (λ e. omega arith) (λ e. omega arith) (omega (arith, h .sound .counted .shapes)));
   }
 
-  stored-variables : SameVariables stored-later
-  stored-variables = same-words stored-later (counter declared (λ e. omega arith) (λ e. omega arith) (omega arith)) (counter running (λ e. omega arith) (λ e. omega arith) (omega arith))
-      (λ i a b. low i (λ e. omega arith) (λ e. omega arith) (omega arith))
+  stored-variables : SameVariables program ts r (raw (r .texts) ws′)
+  stored-variables =
+      same-words (counter declared (λ e. omega arith) (λ e. omega arith) (omega arith)) (counter running (λ e. omega arith) (λ e. omega arith) (omega arith))
+      (counter frame (λ e. omega arith) (λ e. omega arith) (omega arith)) (omega (arith, counter argumentsHeld (λ e. omega arith) (λ e. omega arith) (omega arith)))
+      (λ k l. low _ (λ e. omega arith) (λ e. omega arith) (omega arith)) (h .sound .variables)
 
   stored-rest : SameRest g r (raw (r .texts) ws′)
   stored-rest = record {
@@ -84,12 +87,13 @@ module _ {program : List ℕ} {ts : List Token} {g : List ℕ} {r : Raw} {s : St
   pub stored-components : SameComponents g r (raw (r .texts) ws′)
   stored-components = rest-components stored-rest
 
-  stored-untouched : Untouched g r (raw (r .texts) ws′)
-  stored-untouched = untouched-words stored-rest (counter running (λ e. omega arith) (λ e. omega arith) (omega arith))
-      (λ i a b. low i (λ e. omega arith) (λ e. omega arith) (omega arith)) (λ k l. low _ (λ e. omega arith) (λ e. omega arith) (omega arith))
+  stored-untouched : Untouched program ts g r (raw (r .texts) ws′)
+  stored-untouched =
+      untouched-words stored-rest (counter running (λ e. omega arith) (λ e. omega arith) (omega arith)) (counter frame (λ e. omega arith) (λ e. omega arith) (omega arith))
+      (λ i a b. low i (λ e. omega arith) (λ e. omega arith) (omega arith)) (λ k l. low _ (λ e. omega arith) (λ e. omega arith) (omega arith)) (h .sound .variables)
 
   stored-waiting : SameWaiting program ts r (raw (r .texts) ws′)
-  stored-waiting = same-waiting stored-later stored-untouched (omega (arith, counter argumentsHeld (λ e. omega arith) (λ e. omega arith) (omega arith))) (h .sound .waiting) ts
+  stored-waiting = same-waiting stored-later stored-untouched (h .sound .waiting)
 
   stored-shapes : SameShapes stored-later
   stored-shapes = record {
@@ -120,13 +124,13 @@ module _ {program : List ℕ} {ts : List Token} {g : List ℕ} {r : Raw} {s : St
           arguments = rw (counter argumentsHeld (λ e. omega arith) (λ e. omega arith) (omega arith)) (n .arguments);
           calls = rw (counter callsUsed (λ e. omega arith) (λ e. omega arith) (omega arith)) (n .calls);
         };
-        variables = variables-kept stored-later stored-variables ts (h .sound .variables);
+        variables = variables-kept stored-later stored-variables (h .sound .variables);
         waiting = stored-waiting .waiting;
         shapes = shapes-kept stored-later stored-components stored-shapes (h .sound .shapes);
         marks = rest-marks stored-rest (h .sound .marks);
         entries = en;
       };
-      variables = h .variables ∙ sym (variables-same stored-later stored-variables ts (h .sound .variables));
+      variables = h .variables ∙ sym (variables-same stored-later stored-variables (h .sound .variables));
       suspended = h .suspended ∙ sym (stored-waiting .suspended);
       shapes = h .shapes ∙ sym (shapes-same stored-later stored-components stored-shapes (h .sound .shapes));
       tables = h .tables ∙ sym (counter tablesMade (λ e. omega arith) (λ e. omega arith) (omega arith));

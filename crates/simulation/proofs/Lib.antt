@@ -9,6 +9,8 @@ mod Counting
 mod Moving
 mod Arguments
 pub mod Usable
+pub mod Naming
+mod Scopes
 pub mod Variables
 mod Growing
 mod Shapes
@@ -30,7 +32,6 @@ mod Lookup
 mod Library
 pub mod Showing
 mod Stacking
-mod Scopes
 mod Under
 mod Expressions
 pub mod Flows
@@ -56,7 +57,8 @@ mod Looping
 mod Inside
 mod Dispatching
 mod Statements
-mod Suspending
+mod Opening
+mod Lengths
 mod Parameters
 mod Calling
 mod Returning

@@ -29,7 +29,7 @@ use Rattle.names.specs.Prepared.{numberOf}
 use Rattle.machine.specs.declared.Value.{Value}
 use Rattle.machine.specs.declared.Value.the-variants.{Integer, Text, Boolean, Nothing, Table, Shape}
 use Rattle.machine.specs.Words.{packed, unpacked}
-use Rattle.machine.specs.Layout.{shapesUsed, argumentsHeld, argumentPlace}
+use Rattle.machine.specs.Layout.{shapesUsed, argumentsHeld, running, frame, argumentPlace}
 use Rattle.machine.specs.Act.{Raw}
 use Rattle.machine.specs.Act as Act
 use Rattle.machine.specs.Stack.{argumentAt}
@@ -43,7 +43,7 @@ use Rattle.machine.specs.Evaluate.{Setting}
 use Rattle.machine.specs.Library.{drawn, drawnText, connected, labelled, coordinate, destroyed, clearing, allShapes, grouped, perform, callLibrary}
 use Rattle.machine.specs.Arguments.{allUsable, figure, centreX, centreY, connecting, textOn}
 use Rattle.simulation.specs.Meant.{meantValue, meantWord, meantFigure, listed}
-use Rattle.simulation.specs.Sound.{Valid, Proper}
+use Rattle.simulation.specs.Sound.{Valid, Proper, sizeOf}
 use Rattle.simulation.specs.Follows.{Grants, Related, Later, Follows}
 use Rattle.simulation.proofs.Binding.{Relation, bind, give-after, act-after}
 use Rattle.simulation.proofs.Listed.{listed-same, listed-shift}
@@ -70,26 +70,37 @@ module _ (program : List ℕ) where
 module _ {program : List ℕ} where
   -- they stay
   pub stacked-kept : {r r′ : Raw} {base n : ℕ} {us : List Value.Value} → Later program r r′
-      → ((k : ℕ) → k < getD (r .words) argumentsHeld 0 → argumentAt (r′ .words) k ≡ argumentAt (r .words) k) → getD (r .words) argumentsHeld 0 ≤ getD (r′ .words) argumentsHeld 0
+      → ((k : ℕ) → base ≤ k → k < base + n → argumentAt (r′ .words) k ≡ argumentAt (r .words) k) → getD (r .words) argumentsHeld 0 ≤ getD (r′ .words) argumentsHeld 0
       → Stacked program r base n us → Stacked program r′ base n us
   stacked-kept {r} {r′} {base} {n} l e h st = record {
     within = le-trans (st .within) h;
-    valid = λ k x y. rw (e k (omega (arith, st .within))) (valid-later l _ (st .valid k x y));
-    packs = λ k x y. rw (e k (omega (arith, st .within))) (st .packs k x y);
-    are = st .are ∙ listed-same _ _ base n (λ k x y. sym (rw (e k (omega (arith, st .within))) (meant-later l _ (st .valid k x y))));
+    valid = λ k x y. rw (e k x y) (valid-later l _ (st .valid k x y));
+    packs = λ k x y. rw (e k x y) (st .packs k x y);
+    are = st .are ∙ listed-same _ _ base n (λ k x y. sym (rw (e k x y) (meant-later l _ (st .valid k x y))));
   }
 
-module _ {program : List ℕ} {ts : List Token} {g : List ℕ} where
-  pub stacked-later : {r r′ : Raw} {s : State} {total : Amounts} {base n : ℕ} {us : List Value.Value} → After program ts g r r′ s total
-      → Stacked program r base n us → Stacked program r′ base n us
-  stacked-later a st = stacked-kept (a .later) (a .untouched .arguments) (rw (a .held) (le-refl _)) st
+-- those above the frame of the call under way, and those below it
+abbrev pub Above : List ℕ → List Token → Raw → ℕ → Type 0
+Above program ts r base = getD (r .words) frame 0 + suc (sizeOf program ts (getD (r .words) running 0)) ≤ base
 
-  uses-all : {granted : Amounts} (p n base : ℕ) {r : Raw} {s : State} {total : Amounts} → Related program ts g r s total
+module _ {program : List ℕ} {ts : List Token} {g : List ℕ} where
+  pub above-later : {r r′ : Raw} {s : State} {total : Amounts} {base : ℕ} → After program ts g r r′ s total → Above program ts r base → Above program ts r′ base
+  above-later a up = rw (a .untouched .frame, a .untouched .running) up
+
+  pub stacked-later : {r r′ : Raw} {s : State} {total : Amounts} {base n : ℕ} {us : List Value.Value} → After program ts g r r′ s total → Above program ts r base
+      → Stacked program r base n us → Stacked program r′ base n us
+  stacked-later a up st = stacked-kept (a .later) (λ k x y. a .untouched .above k (omega arith) (omega (arith, st .within))) (rw (a .held) (le-refl _)) st
+
+  pub stacked-under : {r r′ : Raw} {s : State} {total : Amounts} {base n : ℕ} {us : List Value.Value} → After program ts g r r′ s total → base + n ≤ getD (r .words) frame 0
+      → Stacked program r base n us → Stacked program r′ base n us
+  stacked-under a low st = stacked-kept (a .later) (λ k x y. a .untouched .below k (omega arith)) (rw (a .held) (le-refl _)) st
+
+  uses-all : {granted : Amounts} (p n base : ℕ) {r : Raw} {s : State} {total : Amounts} → Related program ts g r s total → Above program ts r base
       → (us : List Value.Value) → Stacked program r base n us
       → Follows granted total (Units program ts g r) (allUsable p base n r) (Library.allUsable p us s)
   unfolding allUsable Library.allUsable listed Act._>>=_ Act.give Run._>>=_ Run.give
-  uses-all p zero base h us st = rw (st .are) (given (unmoved h))
-  uses-all p (suc n) base {r} h us st =
+  uses-all p zero base h up us st = rw (st .are) (given (unmoved h))
+  uses-all p (suc n) base {r} h up us st =
       rw (st .are)
       (bind (uses h (unpacked (argumentAt (r .words) base)) _ (st .valid base (omega arith) (omega arith)) refl p) (λ _ _ r₁ s₁ total₁ a.
       let rest : Stacked program r (base + 1) n (listed (λ k. meantWord program r (argumentAt (r .words) k)) (suc base) n) = record {
@@ -98,7 +109,7 @@ module _ {program : List ℕ} {ts : List Token} {g : List ℕ} where
         packs = λ k x y. st .packs k (omega arith) (omega arith);
         are = rw (add-one base);
       } in
-      mapped (λ _ _ r₂ s₂ total₂ b. onward a b) (uses-all p n (base + 1) (a .related) _ (stacked-later a rest))))
+      mapped (λ _ _ r₂ s₂ total₂ b. onward a b) (uses-all p n (base + 1) (a .related) (le-trans (above-later a up) (omega arith)) _ (stacked-later a (le-trans up (omega arith)) rest))))
 
 -- ---- the procedures
 module _ (e : Setting) {ts : List Token} {granted : Amounts} (gr : Grants (e .grants) granted) {r : Raw} {s : State} {total : Amounts}
@@ -338,10 +349,10 @@ number-less drawGroup = refl
 -- a call, its arguments on the stack
 module _ (e : Setting) {ts : List Token} {granted : Amounts} (gr : Grants (e .grants) granted) where
   pub calls : (l : Option Library) (p base n : ℕ) {r : Raw} {s : State} {total : Amounts} → Related (e .program) ts (e .grants) r s total
-      → (us : List Value.Value) → Stacked (e .program) r base n us
+      → Above (e .program) ts r base → (us : List Value.Value) → Stacked (e .program) r base n us
       → Follows granted total (Values (e .program) ts (e .grants) r) (callLibrary (e .grants) (numberOf l) p base n r) (Library.callLibrary l p us s)
   unfolding callLibrary Library.callLibrary numberOf if_then_else_ Act._>>=_ Run._>>=_ Act.fail Run.fail
-  calls (some f) p base n h us st =
+  calls (some f) p base n h up us st =
       rw (number-less f)
-      (bind (uses-all p n base h us st) (λ _ _ r₁ s₁ total₁ a. from-here a (performs e gr (a .related) p base f n us (stacked-later a st))))
-  calls Option.none p base n {r} h us st = failed 20 p r (steps-told h)
+      (bind (uses-all p n base h up us st) (λ _ _ r₁ s₁ total₁ a. from-here a (performs e gr (a .related) p base f n us (stacked-later a up st))))
+  calls Option.none p base n {r} h up us st = failed 20 p r (steps-told h)

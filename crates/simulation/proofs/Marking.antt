@@ -1,5 +1,5 @@
 -- Marks of the loops of the call under way: what stays when one of them changes.
-use Prim.Native.Nat.{ℕ, _+_, _-_, _*_, _%_, _^_, _≤_, _<_}
+use Prim.Native.Nat.{ℕ, suc, _+_, _-_, _*_, _%_, _^_, _≤_, _<_}
 use native.Mathlib.Omega.{arith}
 use native.Mathlib.Nat.{le-trans}
 use mathlib.Core.Path.{_≡_, refl, sym, _∙_}
@@ -28,7 +28,9 @@ use Rattle.machine.specs.Layout.{
   loopUnit,
   entriesGranted,
   callsGranted,
-  valuePlace,
+  frame,
+  callPlace,
+  argumentPlace,
   componentPlace,
   pathPlace,
 }
@@ -37,8 +39,8 @@ use Rattle.machine.specs.Act as Act
 use Rattle.machine.specs.Stack.{argumentAt}
 use Rattle.machine.proofs.Slots.{slot-apart, call-apart, slot-room}
 use Rattle.machine.specs.Loops.{mark, unmark}
-use Rattle.simulation.specs.Meant.{frameAt}
-use Rattle.simulation.specs.Sound.{markIn, Marks}
+use Rattle.machine.specs.Variables.{holding}
+use Rattle.simulation.specs.Sound.{sizeOf, markIn, Marks}
 use Rattle.simulation.specs.Follows.{Related, Later}
 use Rattle.simulation.proofs.Frames.{mark-here, mark-same, stays-words, later-trans, SameComponents, SameStack, SameVariables, same-words, SameWaiting, waits-same, SameShapes}
 use Rattle.simulation.proofs.Holding.{SameEntries}
@@ -57,12 +59,15 @@ pub record AfterBut (program : List ℕ) (ts : List Token) (g : List ℕ) (r r�
   pub held : getD (r′ .words) argumentsHeld 0 ≡ getD (r .words) argumentsHeld 0
   pub calls : getD (r′ .words) callsUsed 0 ≡ getD (r .words) callsUsed 0
   pub procedure : getD (r′ .words) running 0 ≡ getD (r .words) running 0
-  pub frames : (d : ℕ) → 0 < d → d < getD (r .words) callsUsed 0 → frameAt (r′ .words) d ≡ frameAt (r .words) d
-  pub arguments : (k : ℕ) → k < getD (r .words) argumentsHeld 0 → argumentAt (r′ .words) k ≡ argumentAt (r .words) k
+  pub place : getD (r′ .words) frame 0 ≡ getD (r .words) frame 0
+  pub kept : (d j : ℕ) → 0 < d → d < getD (r .words) callsUsed 0 → j < 4 → getD (r′ .words) (callPlace d + j) 0 ≡ getD (r .words) (callPlace d + j) 0
+  pub below : (k : ℕ) → k < getD (r .words) frame 0 → argumentAt (r′ .words) k ≡ argumentAt (r .words) k
+  pub above : (k : ℕ) → getD (r .words) frame 0 + suc (sizeOf program ts (getD (r .words) running 0)) ≤ k → k < getD (r .words) argumentsHeld 0
+      → argumentAt (r′ .words) k ≡ argumentAt (r .words) k
   pub parts : SameComponents g r r′
   pub unit : getD (r′ .words) loopUnit 0 ≡ getD (r .words) loopUnit 0
   pub waits : (d k : ℕ) → d + 1 < getD (r .words) callsUsed 0 → markIn g (r′ .words) d k ≡ markIn g (r .words) d k
-  pub bound : (slot : ℕ) → getD (r .words) (valuePlace slot) 0 ≢ 0 → getD (r′ .words) (valuePlace slot) 0 ≢ 0
+  pub bound : (i : ℕ) → i ≤ sizeOf program ts (getD (r .words) running 0) → holding (r .words) i ≢ 0 → holding (r′ .words) i ≢ 0
 
 module _ {program : List ℕ} {ts : List Token} {g : List ℕ} where
   pub but-after : {r r′ : Raw} {s : State} {total : Amounts} → After program ts g r r′ s total → AfterBut program ts g r r′ s total
@@ -73,8 +78,10 @@ module _ {program : List ℕ} {ts : List Token} {g : List ℕ} where
     held = a .held;
     calls = u .calls;
     procedure = u .running;
-    frames = u .frames;
-    arguments = u .arguments;
+    place = u .frame;
+    kept = u .kept;
+    below = u .below;
+    above = u .above;
     parts = record { made = u .made; words = u .components };
     unit = u .unit;
     waits = λ d k x. u .marks d k (omega arith);
@@ -89,12 +96,14 @@ module _ {program : List ℕ} {ts : List Token} {g : List ℕ} where
     held = b .held ∙ a .held;
     calls = b .calls ∙ a .calls;
     procedure = b .procedure ∙ a .procedure;
-    frames = λ d z l. b .frames d z (rw (a .calls) l) ∙ a .frames d z l;
-    arguments = λ k l. b .arguments k (rw (a .held) l) ∙ a .arguments k l;
+    place = b .place ∙ a .place;
+    kept = λ d j z l m. b .kept d j z (rw (a .calls) l) m ∙ a .kept d j z l m;
+    below = λ k l. b .below k (rw (a .place) l) ∙ a .below k l;
+    above = λ k l m. b .above k (rw (a .place, a .procedure) l) (rw (a .held) m) ∙ a .above k l m;
     parts = record { made = le-trans (a .parts .made) (b .parts .made); words = λ k l. b .parts .words k (le-trans l (a .parts .made)) ∙ a .parts .words k l };
     unit = b .unit ∙ a .unit;
     waits = λ d k x. b .waits d k (rw (a .calls) x) ∙ a .waits d k x;
-    bound = λ slot n. b .bound slot (a .bound slot n);
+    bound = λ i l n. b .bound i (rw (a .procedure) l) (a .bound i l n);
   }
 
   -- where all marks are as they were, all is untouched
@@ -107,14 +116,16 @@ module _ {program : List ℕ} {ts : List Token} {g : List ℕ} where
     held = a .held;
     untouched = record {
       calls = a .calls;
-      running = a .procedure;
-      frames = a .frames;
-      arguments = a .arguments;
+      kept = a .kept;
+      below = a .below;
+      above = a .above;
       made = a .parts .made;
       components = a .parts .words;
       unit = a .unit;
       marks = λ d k x. go d k x (eqb (d + 1) (getD (r .words) callsUsed 0)) refl;
       bound = a .bound;
+      running = a .procedure;
+      frame = a .place;
     };
   }
     where
@@ -178,14 +189,16 @@ module _ {program : List ℕ} {ts : List Token} {g : List ℕ} {r : Raw} {s : St
     words = λ j l. low _ (omega (arith, h .sound .counted .made, h .sound .counted .entries));
   }
 
-  mark-variables : SameVariables mark-later
-  mark-variables = same-words mark-later (low declared (omega arith)) (low running (omega arith)) (λ j a b. low j (omega arith))
+  mark-variables : SameVariables program ts r remarked
+  mark-variables =
+      same-words (low declared (omega arith)) (low running (omega arith)) (low frame (omega arith)) (omega (arith, low argumentsHeld (omega arith)))
+      (λ j l. low _ (omega arith)) (h .sound .variables)
 
   mark-stack : SameStack r remarked
-  mark-stack = record { frames = λ d z l. low _ (omega arith); arguments = λ j l. low _ (omega arith) }
+  mark-stack = record { kept = λ d j z l m. low _ (omega arith); below = λ j l. low _ (omega arith) }
 
   mark-waiting : SameWaiting program ts r remarked
-  mark-waiting = waits-same mark-later mark-stack (omega (arith, low argumentsHeld (omega arith))) (h .sound .waiting) ts calls-as
+  mark-waiting = waits-same mark-later mark-stack (h .sound .waiting) calls-as (omega (arith, low frame (omega arith)))
 
   mark-shapes : SameShapes mark-later
   mark-shapes = record { count = low shapesUsed (omega arith); words = λ i j a b. low _ (omega (arith, h .sound .counted .shapes)) }
@@ -233,12 +246,14 @@ module _ {program : List ℕ} {ts : List Token} {g : List ℕ} {r : Raw} {s : St
     held = low argumentsHeld (omega arith);
     calls = calls-as;
     procedure = low running (omega arith);
-    frames = mark-stack .frames;
-    arguments = mark-stack .arguments;
+    place = low frame (omega arith);
+    kept = mark-stack .kept;
+    below = mark-stack .below;
+    above = λ j l m. low _ (omega arith);
     parts = mark-parts;
     unit = low loopUnit (omega arith);
     waits = λ d j a. call-others d j (omega (arith, c .calls)) (λ e. omega arith);
-    bound = λ slot n. rw (low (valuePlace slot) (omega arith)) n;
+    bound = λ i l n. rw (low frame (omega arith), low (argumentPlace (getD (r .words) frame 0 + i)) (omega arith)) n;
   }
 
 -- ---- the acts

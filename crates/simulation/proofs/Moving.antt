@@ -61,7 +61,7 @@ module _ {program : List ℕ} {ts : List Token} {g : List ℕ} {r : Raw} {s : St
 
   pub moved-related : {vs : List Variable} {sus : List (List Variable)} {total′ : Amounts} → length ws′ ≡ length (r .words)
       → getD ws′ argumentsHeld 0 ≤ stackWords → getD ws′ callsUsed 0 ≤ callsGranted g
-      → Variables program ts ws′ → vs ≡ variablesOf program ts (raw (r .texts) ws′) → Waiting program ws′ → Marks g ws′ → sus ≡ suspendedOf program ts (raw (r .texts) ws′)
+      → Variables program ts ws′ → vs ≡ variablesOf program ts (raw (r .texts) ws′) → Waiting program ts ws′ → Marks g ws′ → sus ≡ suspendedOf program ts (raw (r .texts) ws′)
       → total′ Run.steps ≡ total Run.steps → total′ Run.shapes ≡ total Run.shapes → total′ Run.entries ≡ total Run.entries → total′ Run.textBytes ≡ total Run.textBytes
       → total′ Run.calls ≡ getD ws′ callsUsed 0
       → Related program ts g (raw (r .texts) ws′) (record { variables = vs; suspended = sus; shapes = s .shapes; tables = s .tables; entries = s .entries }) total′

@@ -7,26 +7,26 @@ use mathlib.Core.Path.{_≡_, refl, ap, sym, _∙_}
 use mathlib.Core.Logic.{_≢_}
 use mathlib.Core.Bool.{Bool, true, false}
 use mathlib.Core.List.{List, []}
-use lib.ListN.{getD, set, length}
+use lib.ListN.{getD, set}
 use Rattle.meaning.specs.Basics.{if_then_else_}
-use Rattle.meaning.specs.Token.{Token, aName}
+use Rattle.meaning.specs.Token.{Token}
 use Rattle.meaning.specs.State.{State, isDestroyed}
 use Rattle.meaning.specs.Run as Run
 use Rattle.meaning.specs.Book.{Amounts}
 use Rattle.meaning.specs.Execute.{onward, binding, turns, iterating}
 use Rattle.meaning.specs.Execute as Execute
-use Rattle.code.specs.Code.{slotOf}
-use Rattle.reader.proofs.Homes.{Occurs}
+use Rattle.numbering.specs.Numbers.{numberIn}
 use Rattle.machine.specs.declared.Flow.{Flow}
 use Rattle.machine.specs.declared.Flow.the-variants.{Onward}
-use Rattle.machine.specs.Layout.{shapesUsed, callsUsed, loopUnit, valuePlace}
+use Rattle.machine.specs.Layout.{shapesUsed, callsUsed, running, loopUnit, frame, argumentPlace}
 use Rattle.machine.specs.Act.{Raw, raw, Act}
 use Rattle.machine.specs.Act as Act
 use Rattle.machine.specs.Shapes.{isGroupAt, destroyedAt}
 use Rattle.machine.specs.Groups.{componentAt, firstAt, countAt}
+use Rattle.machine.specs.Variables.{wordIn, holding}
 use Rattle.machine.specs.Loops.{unmarkFrom, following, ownTurn, ownFrom, innerUnit, loopOver}
 use Rattle.simulation.specs.Meant.{listed, componentsOf}
-use Rattle.simulation.specs.Scope.{isIn}
+use Rattle.simulation.specs.Scope.{scopeOf}
 use Rattle.simulation.specs.Follows.{Grants, Related, Later, Follows}
 use Rattle.simulation.proofs.Binding.{bind, act-after}
 use Rattle.simulation.proofs.Listed.{listed-same}
@@ -36,7 +36,7 @@ use Rattle.simulation.proofs.Usable.{destroyed-found}
 use Rattle.simulation.proofs.Counting.{counts}
 use Rattle.simulation.proofs.Flows.{SameFlow, both-onward, both-returned, AfterFlow, Flows, flow-from}
 use Rattle.simulation.proofs.Marking.{markAt, but-after}
-use Rattle.simulation.proofs.Paths.{Path, inner-fits, inner-more}
+use Rattle.simulation.proofs.Paths.{isIn, Path, inner-fits, inner-more}
 use Rattle.simulation.proofs.Innermost.{switched, as-was, unit-now, switch-later, switch-parts, switch-related, mark-was, back-fits, switched-back}
 use Rattle.simulation.proofs.Iterating.{Repeats, Ready, ready-on, path-on, own-turn}
 
@@ -50,19 +50,19 @@ module _ {program : List ℕ} {ts : List Token} {g : List ℕ} {granted : Amount
   passes k k′ (both-returned x y) a h = given a
 
 -- ---- own components
-module _ {program : List ℕ} {ts : List Token} {g : List ℕ} (few : length ts ≤ 8192) {granted : Amounts} (gr : Grants g granted) (x : List ℕ) (o : Occurs ts aName x)
+module _ {program : List ℕ} {ts : List Token} {g : List ℕ} {granted : Amounts} (gr : Grants g granted) (x : List ℕ) (whose : ℕ)
     (body : Act Flow) (body′ : Run.Action Execute.Flow) (P : Raw → Type 0) (repeats : Repeats program ts g granted body body′ P)
     (around : ℕ → ℕ) (unit : ℕ) (fits : 2 * unit ≤ 2 ^ 64) (p : ℕ) where
   abbrev visit : ℕ → Run.Action Execute.Flow
   visit i = Run._>>_ (Run.count p) (iterating (suc i) (λ j. Run._>>_ (binding x j) body′) i)
 
   abbrev Prepared : Raw → Type 0
-  Prepared r = Ready few x o body body′ P repeats around unit fits p r
+  Prepared r = Ready x whose body body′ P repeats around unit fits p r
 
   -- of group i, n from slot k on
   own-from : (i n k : ℕ) {r : Raw} {s : State} {total : Amounts} → Related program ts g r s total → Prepared r → Path g around unit [] r → i < getD (r .words) shapesUsed 0
       → isGroupAt (r .words) i ≡ true → firstAt (r .words) i ≤ k → k + n ≡ firstAt (r .words) i + countAt (r .words) i
-      → Follows granted total (Flows program ts g r) (ownFrom body g p (slotOf ts x) k n r) (turns visit (listed (componentAt g (r .words)) k n) s)
+      → Follows granted total (Flows program ts g r) (ownFrom body g p (numberIn (scopeOf program ts whose) x) k n r) (turns visit (listed (componentAt g (r .words)) k n) s)
   unfolding ownFrom turns listed if_then_else_ Act._>>=_ Act.goOn Act.held Act.give Run._>>=_ Run.goOn Run.current Run.give
   own-from i zero k h q clean l e a b = given (record { after = unmoved h; flow = both-onward })
   own-from i (suc n) k {r} {s} {total} h q clean l e a b =
@@ -76,13 +76,13 @@ module _ {program : List ℕ} {ts : List Token} {g : List ℕ} (few : length ts 
       let list : listed (componentAt g (r₁ .words)) (k + 1) n ≡ listed (componentAt g (r .words)) (suc k) n =
       ap (λ j. listed (componentAt g (r₁ .words)) j n) (add-one k)
       ∙ listed-same _ _ (suc k) n (λ j y y′. component-later (z .later) (h .sound .shapes) same j (omega (arith, group .within))) in
-      passes _ _ (w .flow) w (flow-from z (rw list at (own-from i n (k + 1) (z .related) (ready-on few x o body body′ P repeats around unit fits p (but-after z) q)
-      (path-on few x o body body′ P repeats around unit fits p z q clean) (le-trans l (z .later .shapes)) (group-stays (z .later .figures i l) ∙ e)
+      passes _ _ (w .flow) w (flow-from z (rw list at (own-from i n (k + 1) (z .related) (ready-on x whose body body′ P repeats around unit fits p (but-after z) q)
+      (path-on x whose body body′ P repeats around unit fits p z q clean) (le-trans l (z .later .shapes)) (group-stays (z .later .figures i l) ∙ e)
       (omega (arith, first)) (omega (arith, first, count-later (z .later) (h .sound .shapes) same i l))))))
     where
       one : (t t′ : Bool) → t ≡ t′
           → Follows granted total (Flows program ts g r)
-          ((if t then (λ _. Act.give Onward) else λ _. Act._>>_ (Act.count g p) (ownTurn body g p (slotOf ts x) k (componentAt g (r .words) k))) r)
+          ((if t then (λ _. Act.give Onward) else λ _. Act._>>_ (Act.count g p) (ownTurn body g p (numberIn (scopeOf program ts whose) x) k (componentAt g (r .words) k))) r)
           ((if t′ then (λ _. Run.give onward) else λ _. visit (componentAt g (r .words) k)) s)
       one true true m = given (record { after = unmoved h; flow = both-onward })
       one true false m = let z : _≡_ {A = ℕ} 0 1 = cc in absurd (omega arith)
@@ -94,8 +94,8 @@ module _ {program : List ℕ} {ts : List Token} {g : List ℕ} (few : length ts 
           bind (counts gr h p) (λ _ _ r₁ s₁ total₁ w.
           let z = w .after in
           let first = first-later (z .later) (h .sound .shapes) (untouched-components (z .untouched)) i l in
-          flow-from z (own-turn few x o body body′ P repeats around unit fits p (z .related)
-          (ready-on few x o body body′ P repeats around unit fits p (but-after z) q) (path-on few x o body body′ P repeats around unit fits p z q clean)
+          flow-from z (own-turn x whose body body′ P repeats around unit fits p (z .related)
+          (ready-on x whose body body′ P repeats around unit fits p (but-after z) q) (path-on x whose body body′ P repeats around unit fits p z q clean)
           c (le-trans older (le-trans (le-of-lt l) (z .later .shapes))) k (omega (arith, group .within, z .untouched .made))
           (λ y. omega (arith, z .related .sound .shapes .order c i older (le-trans l (z .later .shapes)) y (group-stays (z .later .figures i l) ∙ e), first))))
 
@@ -125,14 +125,14 @@ module _ {program : List ℕ} {ts : List Token} {g : List ℕ} {r : Raw} {s : St
   unfolding isIn
   clean-within = record { each = λ k. mark-was h within marks-fit k ∙ omega arith; less = marks-less }
 
-  module _ (few : length ts ≤ 8192) {granted : Amounts} (gr : Grants g granted) (x : List ℕ) (o : Occurs ts aName x) (body : Act Flow) (body′ : Run.Action Execute.Flow)
+  module _ {granted : Amounts} (gr : Grants g granted) (x : List ℕ) (whose : ℕ) (body : Act Flow) (body′ : Run.Action Execute.Flow)
       (P : Raw → Type 0) (repeats : Repeats program ts g granted body body′ P) (p : ℕ) where
-    pub loops-over : (i : ℕ) → i < getD (r .words) shapesUsed 0 → isGroupAt (r .words) i ≡ true → getD (r .words) (valuePlace (slotOf ts x)) 0 ≢ 0
+    pub loops-over : (i : ℕ) → i < getD (r .words) shapesUsed 0 → isGroupAt (r .words) i ≡ true → getD (r .words) running 0 ≡ whose → holding (r .words) (numberIn (scopeOf program ts whose) x) ≢ 0
         → P (raw (r .texts) (set (r .words) loopUnit within))
-        → Follows granted total (Flows program ts g r) (loopOver body g p (slotOf ts x) i r)
+        → Follows granted total (Flows program ts g r) (loopOver body g p (numberIn (scopeOf program ts whose) x) i r)
         (turns (λ i. Run._>>_ (Run.count p) (iterating (suc i) (λ j. Run._>>_ (binding x j) body′) i)) (componentsOf g (r .words) i) s)
     unfolding loopOver componentsOf Act._>>=_ Act.goOn Act.held Act.store Act.give
-    loops-over i l e there ready =
+    loops-over i l e procedure there ready =
         let h₁ = switch-related h within marks-fit in
         let later = switch-later h within marks-fit in
         let was = as-was h within marks-fit in
@@ -152,9 +152,13 @@ module _ {program : List ℕ} {ts : List Token} {g : List ℕ} {r : Raw} {s : St
             flow = flow-later (switch-later (w .after .related) (getD (r .words) loopUnit 0) (back-fits h within marks-fit (w .after))) (w .flow);
           };
         })
-        (rw list at (own-from few gr x o body body′ P repeats (markAt g r) within unit-fits p i (countAt (r .words) i) (firstAt (r .words) i) h₁
+        (rw list at (own-from gr x whose body body′ P repeats (markAt g r) within unit-fits p i (countAt (r .words) i) (firstAt (r .words) i) h₁
         (record {
-          there = rw (was (valuePlace (slotOf ts x)) (λ z. omega arith)) there;
+          procedure = was running (λ z. omega arith) ∙ procedure;
+          there =
+              let same : holding (switched h within marks-fit .words) (numberIn (scopeOf program ts whose) x) ≡ holding (r .words) (numberIn (scopeOf program ts whose) x) =
+              rw (was frame (λ z. omega arith)) (ap wordIn (was (argumentPlace (getD (r .words) frame 0 + numberIn (scopeOf program ts whose) x)) (λ z. omega arith))) in
+              rw same there;
           some = rw (was callsUsed (λ z. omega arith)) some;
           unit-is = unit-now h within marks-fit;
           more = ready;

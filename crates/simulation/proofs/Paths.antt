@@ -5,7 +5,7 @@ use native.Mathlib.Nat.{pow-succ', pow-le-pow-right, one-le-pow}
 use mathlib.Core.Path.{_≡_, refl, sym, _∙_}
 use mathlib.Core.Logic.{_≢_}
 use mathlib.Core.Bool.{Bool, true, false, cond, _||_}
-use mathlib.Core.List.{List, _∷_}
+use mathlib.Core.List.{List, [], _∷_}
 use lib.ListN.{getD}
 use lib.Dec.{eqb}
 use borrow.Author.Tests.{eqb-true, eqb-false}
@@ -16,7 +16,6 @@ use Rattle.meaning.specs.Book.{Amounts}
 use Rattle.machine.specs.Layout.{callsUsed, componentsMade, loopUnit}
 use Rattle.machine.specs.Act.{Raw}
 use Rattle.machine.specs.Loops.{markedAt, markedFrom, innerUnit}
-use Rattle.simulation.specs.Scope.{isIn}
 use Rattle.simulation.specs.Follows.{Related}
 use Rattle.simulation.proofs.Results.{After}
 use Rattle.simulation.proofs.Marking.{markAt, remarked, own-now, own-others}
@@ -38,6 +37,11 @@ module _ (g ws : List ℕ) where
       go false e next =
           let q : k ≢ up = eqb-false k up e in
           rw (f k (omega arith) (omega arith)) (next q)
+
+-- whether a number is one of some
+unfoldable pub isIn : ℕ → List ℕ → Bool
+isIn x [] = false
+isIn x (y ∷ ys) = eqb y x || isIn x ys
 
 -- ---- the marks of a path: each slot of it has the unit on top of what loops around added
 pub record Path (g : List ℕ) (around : ℕ → ℕ) (unit : ℕ) (ks : List ℕ) (r : Raw) : Type 0 where

@@ -98,7 +98,7 @@ module _ (program : List ℕ) (ts : List Token) (g : List ℕ) where
 
 module _ {program : List ℕ} {ts : List Token} {g : List ℕ} where
   pub unmoved : {r : Raw} {s : State} {total : Amounts} → Related program ts g r s total → After program ts g r r s total
-  unmoved {r} h = record { related = h; later = later-refl program r; spare = le-refl _; held = refl; untouched = untouched-refl g r }
+  unmoved {r} h = record { related = h; later = later-refl program r; spare = le-refl _; held = refl; untouched = untouched-refl program ts g r }
 
   pub onward : {r r′ r″ : Raw} {s s′ : State} {total total′ : Amounts} → After program ts g r r′ s total → After program ts g r′ r″ s′ total′
       → After program ts g r r″ s′ total′
@@ -137,7 +137,7 @@ module _ {program : List ℕ} {ts : List Token} {g : List ℕ} where
   -- nothing but counters, arguments, texts and marks has changed
   pub kept-marks : {r r′ : Raw} {s s′ : State} {total total′ : Amounts} (h : Related program ts g r s total) (l : Later program r r′)
       → Lent g (r′ .texts) (r′ .words) → Counted g (r′ .words)
-      → SameComponents g r r′ → Marks g (r′ .words) → SameVariables l → SameWaiting program ts r r′ → SameShapes l → SameEntries l (h .sound .shapes)
+      → SameComponents g r r′ → Marks g (r′ .words) → SameVariables program ts r r′ → SameWaiting program ts r r′ → SameShapes l → SameEntries l (h .sound .shapes)
       → s′ .variables ≡ s .variables → s′ .suspended ≡ s .suspended → s′ .shapes ≡ s .shapes → s′ .tables ≡ getD (r′ .words) tablesMade 0 → s′ .entries ≡ s .entries
       → total′ Run.steps ≡ getD (r′ .words) stepsUsed 0 → total′ Run.shapes ≡ getD (r′ .words) shapesUsed 0
       → total′ Run.entries ≡ getD (r′ .words) entriesUsed 0 → total′ Run.textBytes ≡ getD (r′ .words) textUsed 0 → total′ Run.calls ≡ getD (r′ .words) callsUsed 0
@@ -146,13 +146,13 @@ module _ {program : List ℕ} {ts : List Token} {g : List ℕ} where
     sound = record {
       lent = le;
       counted = co;
-      variables = variables-kept l sv ts (h .sound .variables);
+      variables = variables-kept l sv (h .sound .variables);
       waiting = sw .waiting;
       shapes = shapes-kept l parts ss (h .sound .shapes);
       marks = ma;
       entries = entries-kept l (h .sound .shapes) parts se (h .sound .entries);
     };
-    variables = a ∙ h .variables ∙ sym (variables-same l sv ts (h .sound .variables));
+    variables = a ∙ h .variables ∙ sym (variables-same l sv (h .sound .variables));
     suspended = k ∙ h .suspended ∙ sym (sw .suspended);
     shapes = b ∙ h .shapes ∙ sym (shapes-same l parts ss (h .sound .shapes));
     tables = c;
@@ -167,7 +167,7 @@ module _ {program : List ℕ} {ts : List Token} {g : List ℕ} where
   -- nor the marks
   pub kept-related : {r r′ : Raw} {s s′ : State} {total total′ : Amounts} (h : Related program ts g r s total) (l : Later program r r′)
       → Lent g (r′ .texts) (r′ .words) → Counted g (r′ .words)
-      → SameRest g r r′ → SameVariables l → SameWaiting program ts r r′ → SameShapes l → SameEntries l (h .sound .shapes)
+      → SameRest g r r′ → SameVariables program ts r r′ → SameWaiting program ts r r′ → SameShapes l → SameEntries l (h .sound .shapes)
       → s′ .variables ≡ s .variables → s′ .suspended ≡ s .suspended → s′ .shapes ≡ s .shapes → s′ .tables ≡ getD (r′ .words) tablesMade 0 → s′ .entries ≡ s .entries
       → total′ Run.steps ≡ getD (r′ .words) stepsUsed 0 → total′ Run.shapes ≡ getD (r′ .words) shapesUsed 0
       → total′ Run.entries ≡ getD (r′ .words) entriesUsed 0 → total′ Run.textBytes ≡ getD (r′ .words) textUsed 0 → total′ Run.calls ≡ getD (r′ .words) callsUsed 0

@@ -20,7 +20,6 @@ use Rattle.machine.specs.Act as Act
 use Rattle.machine.specs.Shapes.{isGroupAt, destroyedAt}
 use Rattle.machine.specs.Groups.{componentAt, followersAt, firstAt, countAt, wayWord, wayPlace}
 use Rattle.machine.specs.Loops.{hollowAt, mark, unmark, hollow, lookFrom, lookUnder, lookIn}
-use Rattle.simulation.specs.Scope.{isIn}
 use Rattle.simulation.specs.Sound.{Shapes}
 use Rattle.simulation.specs.Follows.{Related}
 use Rattle.simulation.proofs.Frames.{group-stays, component-later, first-later, count-later, figures-none}
@@ -29,7 +28,7 @@ use Rattle.simulation.proofs.Chaining.{regroup}
 use Rattle.simulation.proofs.Walking.{spare-way, spare-after}
 use Rattle.simulation.proofs.Hollowing.{emptied, hollows, Bare, BareFrom, bare-nothing, bare-destroyed, bare-first, bare-group, bare-hollow}
 use Rattle.simulation.proofs.Marking.{markAt, AfterBut, but-after, but-trans, remarked, marks, few-more, mark-is, few-less, unmark-is}
-use Rattle.simulation.proofs.Paths.{Path, path-after, path-marked, path-unmarked}
+use Rattle.simulation.proofs.Paths.{isIn, Path, path-after, path-marked, path-unmarked}
 use Rattle.simulation.proofs.Remaining.{Stop, slots, level, remaining, Level, nextUp, Way, None, Outcome, found, none, Sought}
 use Rattle.simulation.proofs.RemainingLaws.{way-below, level-later, level-stays, way-later, remaining-later}
 use Rattle.simulation.proofs.Looping.{idle}

@@ -17,12 +17,13 @@ use Rattle.meaning.specs.Group.{each, figuresOf}
 use Rattle.machine.specs.declared.Value.{Value}
 use Rattle.machine.specs.declared.Value.the-variants.{Integer, Text, Boolean, Nothing, Table, Shape}
 use Rattle.machine.specs.Words.{unpacked}
-use Rattle.machine.specs.Layout.{stepsUsed, shapesUsed, declared, waitingHeld, linesLength, stepsGranted, shapesGranted, valuePlace, orderPlace}
+use Rattle.machine.specs.Layout.{stepsUsed, shapesUsed, declared, waitingHeld, linesLength, frame, stepsGranted, shapesGranted}
 use Rattle.machine.specs.Act.{Raw, raw, Act}
 use Rattle.machine.specs.Act as Act
 use Rattle.machine.specs.Shapes.{isGroupAt, destroyedAt, figureAt}
 use Rattle.machine.specs.Groups.{wayWord, wayPlace, walkIn}
 use Rattle.machine.specs.Show.{measure, showReached, show, showIn, showFrom, showScene}
+use Rattle.machine.specs.Variables.{holdingOf}
 use Rattle.simulation.specs.Meant.{meantFigure, componentsOf}
 use Rattle.simulation.specs.Follows.{Grants, Related, Follows}
 use Rattle.simulation.proofs.Binding.{act-after}
@@ -224,12 +225,11 @@ module _ (program : List ℕ) (ts : List Token) (g : List ℕ) {granted : Amount
     shown-in (Table t) = refl
     shown-in (Shape i) = λ k r. at-once i r k
 
-    shown-from : (n k : ℕ) → showFrom size g k n ≡ overFrom shown k n
+    shown-from : (n f k : ℕ) → showFrom size g f k n ≡ overFrom shown f k n
     unfolding showFrom overFrom
-    shown-from zero k = refl
-    shown-from (suc n) k =
-        ap (λ (f : ℕ → Act (Unit {0})). Act._>>=_ (Act.load (orderPlace k)) (λ slot. Act._>>=_ (Act.load (valuePlace slot)) f))
-        (λ i w. Act._>>_ (shown-in (unpacked w) i) (shown-from n (k + 1) i))
+    shown-from zero f k = refl
+    shown-from (suc n) f k =
+        ap (λ (a : List ℕ → Act (Unit {0})). Act._>>=_ Act.held a) (λ i ws. Act._>>_ (shown-in (unpacked (holdingOf ws f k)) i) (shown-from n f (k + 1) i))
 
     -- the figures are those of the shapes that main's variables hold, and the lines' length is counted
     shows-scene : {r : Raw} {s : State} {total : Amounts} (h : Here r s total)
@@ -238,9 +238,10 @@ module _ (program : List ℕ) (ts : List Token) (g : List ℕ) {granted : Amount
     unfolding showScene Act._>>=_ Act.goOn Act.load Act.store
     shows-scene {r} {s} {total} h =
         let a = spare-after h linesLength 0 spare-lines in
-        subst (λ (f : ℕ → ℕ → Act (Unit {0})). Follows granted total (λ _ xs r′ s′ total′. Reached program ts g (Lines texts size′) 0 (raw (r .texts) (set (r .words) linesLength 0)) xs r′ s′ total′)
-        (f 0 (getD (set (r .words) linesLength 0) declared 0) (raw (r .texts) (set (r .words) linesLength 0))) (each (λ i. figuresOf (suc i) 0 i) (shapesHeld (s .variables)) s))
-        (sym (λ i k n. shown-from n k i))
+        let ws = set (r .words) linesLength 0 in
+        subst (λ (f : ℕ → ℕ → ℕ → Act (Unit {0})). Follows granted total (λ _ xs r′ s′ total′. Reached program ts g (Lines texts size′) 0 (raw (r .texts) ws) xs r′ s′ total′)
+        (f (getD ws frame 0) 0 (getD ws declared 0) (raw (r .texts) ws)) (each (λ i. figuresOf (suc i) 0 i) (shapesHeld (s .variables)) s))
+        (sym (λ i f k n. shown-from n f k i))
         (variables-follow program ts g granted (Lines texts size′) (tells texts size′) shown (λ i. figuresOf (suc i) 0 i) (record { does = λ h i l. shows h i l }) (a .related))
 
     -- THE LAW: the slices stand for the state still, and hold the length as words add it

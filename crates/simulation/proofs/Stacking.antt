@@ -26,7 +26,7 @@ use Rattle.simulation.proofs.Frames.{later-refl, later-trans, untouched
 use Rattle.simulation.proofs.Results.{Untouched, AfterValue}
 use Rattle.simulation.proofs.Arguments.{Pushed}
 use Rattle.simulation.proofs.Keys.{back-again}
-use Rattle.simulation.proofs.Library.{Stacked}
+use Rattle.simulation.proofs.Library.{Stacked, Above}
 
 -- some more arguments are held, on top of those that were
 module _ (program : List ℕ) (ts : List Token) (g : List ℕ) where
@@ -36,7 +36,8 @@ module _ (program : List ℕ) (ts : List Token) (g : List ℕ) where
     pub later : Later program r r′
     pub spare : getD (r′ .words) tablesMade 0 + getD (r .words) stepsUsed 0 ≤ getD (r .words) tablesMade 0 + getD (r′ .words) stepsUsed 0
     pub held : getD (r′ .words) argumentsHeld 0 ≡ getD (r .words) argumentsHeld 0 + many
-    pub untouched : Untouched g r r′
+    pub untouched : Untouched program ts g r r′
+    pub above : Above program ts r′ (getD (r .words) argumentsHeld 0)
     pub stacked : Stacked program r′ (getD (r .words) argumentsHeld 0) many us
 
 module _ {program : List ℕ} {ts : List Token} {g : List ℕ} where
@@ -48,7 +49,8 @@ module _ {program : List ℕ} {ts : List Token} {g : List ℕ} where
     later = later-refl program r;
     spare = le-refl _;
     held = omega arith;
-    untouched = untouched-refl g r;
+    untouched = untouched-refl program ts g r;
+    above = h .sound .variables .within;
     stacked = record { within = omega arith; valid = λ k x y. absurd (omega arith); packs = λ k x y. absurd (omega arith); are = refl };
   }
 
@@ -60,9 +62,16 @@ module _ {program : List ℕ} {ts : List Token} {g : List ℕ} where
     later₃ : Later program r₁ r₃
     later₃ = later-trans (b .later) (c .later)
 
+    -- they stand above the frame
+    above₁ : Above program ts r₁ (getD (r .words) argumentsHeld 0)
+    above₁ = rw (a .after .held) at (a .after .related .sound .variables .within)
+
+    above₂ : Above program ts r₂ (getD (r .words) argumentsHeld 0)
+    above₂ = rw (b .untouched .frame, b .untouched .running) above₁
+
     own : argumentAt (r₃ .words) (getD (r .words) argumentsHeld 0) ≡ packed v
     own =
-        c .untouched .arguments (getD (r .words) argumentsHeld 0) (omega (arith, base)) ∙ ap (argumentAt (r₂ .words)) (sym (a .after .held)) ∙ b .newest
+        c .untouched .above (getD (r .words) argumentsHeld 0) above₂ (omega (arith, base)) ∙ ap (argumentAt (r₂ .words)) (sym (a .after .held)) ∙ b .newest
 
     own-value : unpacked (argumentAt (r₃ .words) (getD (r .words) argumentsHeld 0)) ≡ v
     own-value = rw own (back-again (a .after .related .sound) v (a .valid))
@@ -79,6 +88,7 @@ module _ {program : List ℕ} {ts : List Token} {g : List ℕ} where
       spare = omega (arith, a .after .spare, b .steps, b .tables, c .spare);
       held = omega (arith, c .held, base);
       untouched = untouched-trans (rw (a .after .held) (le-refl _)) (a .after .untouched) (untouched-trans (omega (arith, b .held)) (b .untouched) (c .untouched));
+      above = rw (c .untouched .frame, c .untouched .running) above₂;
       stacked = record {
         within = omega (arith, c .held, base);
         valid = λ k x y. at k x y (eqb k (getD (r .words) argumentsHeld 0)) refl;

@@ -4,13 +4,13 @@ use native.Mathlib.Omega.{arith}
 use native.Mathlib.Nat.{le-trans}
 use mathlib.Core.Path.{_≡_, refl, ap, _∙_, subst}
 use mathlib.Core.Bool.{Bool, true, false}
-use mathlib.Core.List.{List, [], _∷_, _++_, map}
+use mathlib.Core.List.{List, [], _∷_, _++_}
 use mathlib.Core.Option.{some}
 use mathlib.Core.Option as Option
 use lib.ListN.{getD, length, length-append}
-use borrow.Author.Tests.{eq-eqb, lt-ltb, le-ltb}
+use borrow.Author.Tests.{lt-ltb, le-ltb}
 use Rattle.meaning.specs.Basics.{if_then_else_}
-use Rattle.meaning.specs.Token.{Token, aName}
+use Rattle.meaning.specs.Token.{Token}
 use Rattle.meaning.specs.Tree.{Expression, Statement, declare, assign, update, when, while, foreach, return, block, act, Statements, only, first, Procedure}
 use Rattle.meaning.specs.Grammar.{procedureNamed}
 use Rattle.meaning.specs.State.{State}
@@ -21,16 +21,17 @@ use Rattle.meaning.specs.Evaluate.{evaluate}
 use Rattle.meaning.specs.Execute.{onward, execute}
 use Rattle.meaning.specs.Execute as Execute
 use Rattle.meaning.specs.Library.{Library, libraryOf}
-use Rattle.meaning.specs.Procedure.{calling}
+use Rattle.meaning.specs.Procedure.{isAmong, calling}
 use Rattle.machine.specs.Opcodes.{word, sizeAt, tagUpdate, tagBlock}
-use Rattle.code.specs.Code.{slotOf, codeOf, codeOfStatement, codeOfStatements}
+use Rattle.code.specs.Code.{codeWith, statementWith, statementsWith}
 use Rattle.reader.specs.Sane.{Sane}
 use Rattle.reader.specs.Declarations.{declaredIn, declaredBy}
-use Rattle.reader.proofs.Homes.{Occurs}
-use Rattle.reader.proofs.Fields.{code-rooted, statement-headed, statement-some}
+use Rattle.reader.proofs.Homes.{text-same}
+use Rattle.reader.proofs.Fields.{code-rooted-with, statement-headed-with, statement-some-with}
 use Rattle.reader.proofs.Known.{Placed, Known, KnownStatement, KnownStatements}
 use Rattle.reader.proofs.Walk as Walk
 use Rattle.reader.proofs.Walk.{Stands, stands-front, stands-back, stands-first, stands-rest, ends-word}
+use Rattle.numbering.specs.Numbers.{numberIn}
 use Rattle.machine.specs.Words.{packed}
 use Rattle.machine.specs.Layout.{argumentsHeld, stepsGranted, stackWords}
 use Rattle.machine.specs.Act.{Raw, Act}
@@ -42,7 +43,7 @@ use Rattle.machine.specs.declared.Flow.{Flow}
 use Rattle.machine.specs.declared.Flow.the-variants.{Onward, Returned}
 use Rattle.machine.specs.Execute.{updateValue, updateIn, updateAt, continue, looping, statementsFrom}
 use Rattle.machine.specs.Interpret.{expressionAt, statementAt}
-use Rattle.simulation.specs.Scope.{scopeOf, isIn}
+use Rattle.simulation.specs.Scope.{scopeOf}
 use Rattle.simulation.specs.Follows.{Grants, Related, Follows}
 use Rattle.simulation.proofs.Binding.{bind, Succeeds, act-after}
 use Rattle.simulation.proofs.Results.{given, After, Values, unmoved, still}
@@ -51,7 +52,7 @@ use Rattle.simulation.proofs.Counting.{AfterStep, counts}
 use Rattle.simulation.proofs.Asked.{with-boolean, with-table, with-group}
 use Rattle.simulation.proofs.Usable.{uses}
 use Rattle.simulation.proofs.Chaining.{turning-then}
-use Rattle.simulation.proofs.Scopes.{mapped-left, mapped-right}
+use Rattle.simulation.proofs.Scopes.{among-left, among-right}
 use Rattle.simulation.proofs.Under.{stepsLeft, Under, stays, Invokes}
 use Rattle.simulation.proofs.Expressions.{told, Strings, evaluates}
 use Rattle.simulation.specs.Nesting.{Nests, NestsAll}
@@ -99,6 +100,22 @@ module _ (e : Setting) {ts : List Token} (sane : Sane ts) (strings : Strings (e 
   abbrev Here : Raw → State → Amounts → Type 0
   Here r s total = Related (e .program) ts (e .grants) r s total
 
+  -- code with the numbers of the procedure's variables
+  abbrev numbered : List ℕ → ℕ
+  numbered x = numberIn (scopeOf (e .program) ts w) x
+
+  abbrev codeIn : Expression → List ℕ
+  codeIn x = codeWith numbered x ts
+
+  abbrev statementIn : Statement → List ℕ
+  statementIn d = statementWith numbered d ts
+
+  abbrev statementsIn : Statements → List ℕ
+  statementsIn ds = statementsWith numbered ds ts
+
+  some-code : (d : Statement) → 0 < length (statementIn d)
+  some-code d = statement-some-with numbered d ts
+
   placed : {p : ℕ} → Placed ts p → p < 65536
   placed q = omega (arith, sane .places (q .index), q .begins)
 
@@ -107,18 +124,18 @@ module _ (e : Setting) {ts : List Token} (sane : Sane ts) (strings : Strings (e 
   Fits n = 2 * base + n ≤ room
 
   -- an expression by its root
-  valued : (x : Expression) → Known x ts → (fuel a at p : ℕ) → length (codeOf x ts) + reserve ≤ fuel → Stands (e .code) a (codeOf x ts) → a + length (codeOf x ts) ≡ at + 1
-      → {r : Raw} {s : State} {total : Amounts} → Here r s total → Under (e .grants) w c limit r → getD (r .words) argumentsHeld 0 ≡ base → Fits (length (codeOf x ts))
+  valued : (x : Expression) → Known x ts → (fuel a at p : ℕ) → length (codeIn x) + reserve ≤ fuel → Stands (e .code) a (codeIn x) → a + length (codeIn x) ≡ at + 1
+      → {r : Raw} {s : State} {total : Amounts} → Here r s total → Under (e .grants) w c limit r → getD (r .words) argumentsHeld 0 ≡ base → Fits (length (codeIn x))
       → Follows granted total (Values (e .program) ts (e .grants) r) (expressionAt fuel e at p r) (evaluate (calling limit fs) x p s)
   valued x k fuel a at p deep st q {r} {s} {total} h un z l =
-      evaluates e (sane .few) strings gr fs apart limit w c room reserve enough invokes x k fuel at p (record { start = a; stands = st; last = q }) deep r s total h un (omega (arith, z, l))
+      evaluates e strings gr fs apart limit w c room reserve enough invokes x k fuel at p (record { start = a; stands = st; last = q }) deep r s total h un (omega (arith, z, l))
 
   -- how many words it has
-  sized-at : (x : Expression) (a at : ℕ) → Stands (e .code) a (codeOf x ts) → a + length (codeOf x ts) ≡ at + 1 → Fits (length (codeOf x ts))
-      → sizeAt (e .code) at ≡ length (codeOf x ts)
+  sized-at : (x : Expression) (a at : ℕ) → Stands (e .code) a (codeIn x) → a + length (codeIn x) ≡ at + 1 → Fits (length (codeIn x))
+      → sizeAt (e .code) at ≡ length (codeIn x)
   sized-at x a at st q l =
-      let c = code-rooted x ts in
-      let en : Walk.Ends (e .code) at (c .front ++ (word (c .tag) (length (codeOf x ts)) (c .number) ∷ [])) =
+      let c = code-rooted-with numbered x ts in
+      let en : Walk.Ends (e .code) at (c .front ++ (word (c .tag) (length (codeIn x)) (c .number) ∷ [])) =
       subst (Walk.Ends (e .code) at) (c .whole) (record { start = a; stands = st; last = q }) in
       told (ends-word (c .front) _ en) (c .small) (omega (arith, enough)) .size-is
 
@@ -133,8 +150,8 @@ module _ (e : Setting) {ts : List Token} (sane : Sane ts) (strings : Strings (e 
       → Follows granted total (Flows (e .program) ts (e .grants) r) (o r) (m s)
 
   -- ---- loops
-  module _ (x : Expression) (known : Known x ts) (fuel a at p : ℕ) (deep : length (codeOf x ts) + reserve ≤ fuel) (st : Stands (e .code) a (codeOf x ts))
-      (q : a + length (codeOf x ts) ≡ at + 1) (short : Fits (length (codeOf x ts))) (body : Act Flow) (body′ : Run.Action Execute.Flow)
+  module _ (x : Expression) (known : Known x ts) (fuel a at p : ℕ) (deep : length (codeIn x) + reserve ≤ fuel) (st : Stands (e .code) a (codeIn x))
+      (q : a + length (codeIn x) ≡ at + 1) (short : Fits (length (codeIn x))) (body : Act Flow) (body′ : Run.Action Execute.Flow)
       {n : ℕ} (does : Executes n body body′) where
     turn : (turns m : ℕ) (r₀ r : Raw) (s : State) (total : Amounts)
         → ((r′ : Raw) (s′ : State) (total′ : Amounts) → Here r′ s′ total′ → Under (e .grants) w c limit r′ → getD (r′ .words) argumentsHeld 0 ≡ base → Room n r′
@@ -189,36 +206,42 @@ module _ (e : Setting) {ts : List Token} (sane : Sane ts) (strings : Strings (e 
 
   -- the procedure under way may declare these names
   abbrev Owns : List (List ℕ) → Type 0
-  Owns xs = (slot : ℕ) → isIn slot (map (slotOf ts) xs) ≡ true → isIn slot (scopeOf (e .program) ts w) ≡ true
+  Owns xs = (x : List ℕ) → isAmong x xs ≡ true → isAmong x (scopeOf (e .program) ts w) ≡ true
+
+  owned : (x : List ℕ) → Owns (x ∷ []) → isAmong x (scopeOf (e .program) ts w) ≡ true
+  unfolding isAmong
+  owned x own = own x (rw (text-same x))
 
   module _ (fuel at : ℕ) where
-    declare-does : {n : ℕ} (p : ℕ) (x : List ℕ) → Placed ts p → Occurs ts aName x → Owns (x ∷ []) → Stands (e .code) at (codeOfStatement (declare p x) ts) → Does n (declare p x) (suc fuel) at
-    unfolding codeOfStatement execute statementAt isIn Act._>>=_ Run._>>=_
-    declare-does p x pl o own st r s total h un z low =
+    declare-does : {n : ℕ} (p : ℕ) (x : List ℕ) → Placed ts p → Owns (x ∷ []) → Stands (e .code) at (statementIn (declare p x)) → Does n (declare p x) (suc fuel) at
+    unfolding statementWith execute statementAt Act._>>=_ Run._>>=_
+    declare-does p x pl own st r s total h un z low =
         let t = heads (stands-first st) (omega arith) (omega (arith, enough)) (placed pl) in
-        rw (t .place-is, by-declare (expressionAt fuel e) (statementAt fuel e) e (getD (e .code) at 0) at p _ p (slotOf ts x) t)
+        rw (t .place-is, by-declare (expressionAt fuel e) (statementAt fuel e) e (getD (e .code) at 0) at p _ p (numbered x) t)
         (bind (counts gr h p) (λ _ _ r₁ s₁ total₁ a.
-        turned a (declares (sane .few) (a .after .related) x o (rw (stays (a .after) un .procedure) (own (slotOf ts x) (rw (eq-eqb (slotOf ts x) (slotOf ts x) refl)))) p)))
+        let q = stays (a .after) un .procedure in
+        turned a (rw q at (declares (a .after .related) x {granted = granted} (rw q (owned x own)) p))))
 
     -- an expression behind the word
-    module _ (x : Expression) (known : Known x ts) (short : Fits (length (codeOf x ts))) (deep : length (codeOf x ts) + reserve ≤ fuel) (st : Stands (e .code) (at + 1) (codeOf x ts)) (p : ℕ) where
+    module _ (x : Expression) (known : Known x ts) (short : Fits (length (codeIn x))) (deep : length (codeIn x) + reserve ≤ fuel) (st : Stands (e .code) (at + 1) (codeIn x)) (p : ℕ) where
       behind : {r : Raw} {s : State} {total : Amounts} → Here r s total → Under (e .grants) w c limit r → getD (r .words) argumentsHeld 0 ≡ base
-          → Follows granted total (Values (e .program) ts (e .grants) r) (expressionAt fuel e (at + (length (codeOf x ts) + 1) - 1) p r) (evaluate (calling limit fs) x p s)
-      behind h un z = valued x known fuel (at + 1) (at + (length (codeOf x ts) + 1) - 1) p deep st (omega arith) h un z short
+          → Follows granted total (Values (e .program) ts (e .grants) r) (expressionAt fuel e (at + (length (codeIn x) + 1) - 1) p r) (evaluate (calling limit fs) x p s)
+      behind h un z = valued x known fuel (at + 1) (at + (length (codeIn x) + 1) - 1) p deep st (omega arith) h un z short
 
-    assign-does : {n : ℕ} (p : ℕ) (x : List ℕ) (y : Expression) → Placed ts p → Occurs ts aName x → Known y ts → Fits (length (codeOf y ts)) → length (codeOf y ts) + reserve ≤ fuel
-        → Stands (e .code) at (codeOfStatement (assign p x y) ts) → Does n (assign p x y) (suc fuel) at
-    unfolding codeOfStatement execute statementAt Act._>>=_ Run._>>=_
-    assign-does p x y pl o k short deep st r s total h un z low =
+    assign-does : {n : ℕ} (p : ℕ) (x : List ℕ) (y : Expression) → Placed ts p → Known y ts → Fits (length (codeIn y)) → length (codeIn y) + reserve ≤ fuel
+        → Stands (e .code) at (statementIn (assign p x y)) → Does n (assign p x y) (suc fuel) at
+    unfolding statementWith execute statementAt Act._>>=_ Run._>>=_
+    assign-does p x y pl k short deep st r s total h un z low =
         let t = heads (stands-first st) (omega arith) (omega (arith, enough)) (placed pl) in
-        rw (t .place-is, by-assign (expressionAt fuel e) (statementAt fuel e) e (getD (e .code) at 0) at p _ p (slotOf ts x) t)
+        rw (t .place-is, by-assign (expressionAt fuel e) (statementAt fuel e) e (getD (e .code) at 0) at p _ p (numbered x) t)
         (bind (counts gr h p) (λ _ _ r₁ s₁ total₁ a.
         turned a (bind (behind y k short deep (stands-rest st) p (a .after .related) (stays (a .after) un) (a .after .held ∙ z)) (λ v u r₂ s₂ total₂ b.
-        rw (b .means) (flow-from (b .after) (assigns e (sane .few) gr x o p (b .after .related) v (b .valid)))))))
+        let q = stays (b .after) (stays (a .after) un) .procedure in
+        rw (b .means) (flow-from (b .after) (rw q at (assigns e gr x p (b .after .related) v (b .valid))))))))
 
-    return-does : {n : ℕ} (p : ℕ) (y : Expression) → Placed ts p → Known y ts → Fits (length (codeOf y ts)) → length (codeOf y ts) + reserve ≤ fuel
-        → Stands (e .code) at (codeOfStatement (return p y) ts) → Does n (return p y) (suc fuel) at
-    unfolding codeOfStatement execute statementAt Act._>>=_ Run._>>=_ Act.give Run.give
+    return-does : {n : ℕ} (p : ℕ) (y : Expression) → Placed ts p → Known y ts → Fits (length (codeIn y)) → length (codeIn y) + reserve ≤ fuel
+        → Stands (e .code) at (statementIn (return p y)) → Does n (return p y) (suc fuel) at
+    unfolding statementWith execute statementAt Act._>>=_ Run._>>=_ Act.give Run.give
     return-does p y pl k short deep st r s total h un z low =
         let t = heads (stands-first st) (omega arith) (omega (arith, enough)) (placed pl) in
         rw (t .place-is, by-return (expressionAt fuel e) (statementAt fuel e) e (getD (e .code) at 0) at p _ p 0 t)
@@ -226,9 +249,9 @@ module _ (e : Setting) {ts : List Token} (sane : Sane ts) (strings : Strings (e 
         turned a (bind (behind y k short deep (stands-rest st) p (a .after .related) (stays (a .after) un) (a .after .held ∙ z)) (λ v u r₂ s₂ total₂ b.
         rw (back-again (b .after .related .sound) v (b .valid)) (given (record { after = b .after; flow = both-returned (b .valid) (b .means) }))))))
 
-    act-does : {n : ℕ} (p : ℕ) (y : Expression) → Placed ts p → Known y ts → Fits (length (codeOf y ts)) → length (codeOf y ts) + reserve ≤ fuel
-        → Stands (e .code) at (codeOfStatement (act p y) ts) → Does n (act p y) (suc fuel) at
-    unfolding codeOfStatement execute statementAt Act._>>=_ Run._>>=_ Act.give Run.give
+    act-does : {n : ℕ} (p : ℕ) (y : Expression) → Placed ts p → Known y ts → Fits (length (codeIn y)) → length (codeIn y) + reserve ≤ fuel
+        → Stands (e .code) at (statementIn (act p y)) → Does n (act p y) (suc fuel) at
+    unfolding statementWith execute statementAt Act._>>=_ Run._>>=_ Act.give Run.give
     act-does p y pl k short deep st r s total h un z low =
         let t = heads (stands-first st) (omega arith) (omega (arith, enough)) (placed pl) in
         rw (t .place-is, by-act (expressionAt fuel e) (statementAt fuel e) e (getD (e .code) at 0) at p _ p 0 t)
@@ -236,55 +259,54 @@ module _ (e : Setting) {ts : List Token} (sane : Sane ts) (strings : Strings (e 
         turned a (bind (behind y k short deep (stands-rest st) p (a .after .related) (stays (a .after) un) (a .after .held ∙ z)) (λ v u r₂ s₂ total₂ b.
         given (record { after = b .after; flow = both-onward })))))
 
-    when-does : {n : ℕ} (p : ℕ) (y : Expression) (d : Statement) → Placed ts p → Known y ts → Fits (length (codeOf y ts) + length (codeOfStatement d ts)) → length (codeOf y ts) + reserve ≤ fuel
-        → Stands (e .code) at (codeOfStatement (when p y d) ts) → Does n d fuel (at + length (codeOf y ts) + 1) → Does n (when p y d) (suc fuel) at
-    unfolding codeOfStatement execute statementAt Act._>>=_ Run._>>=_ if_then_else_ Act.give Run.give
+    when-does : {n : ℕ} (p : ℕ) (y : Expression) (d : Statement) → Placed ts p → Known y ts → Fits (length (codeIn y) + length (statementIn d)) → length (codeIn y) + reserve ≤ fuel
+        → Stands (e .code) at (statementIn (when p y d)) → Does n d fuel (at + length (codeIn y) + 1) → Does n (when p y d) (suc fuel) at
+    unfolding statementWith execute statementAt Act._>>=_ Run._>>=_ if_then_else_ Act.give Run.give
     when-does {n} p y d pl k short deep st inner r s total h un z low =
         let rest = stands-rest st in
-        let size : length (codeOf y ts ++ codeOfStatement d ts) ≡ length (codeOf y ts) + length (codeOfStatement d ts) = length-append (codeOf y ts) (codeOfStatement d ts) in
+        let size : length (codeIn y ++ statementIn d) ≡ length (codeIn y) + length (statementIn d) = length-append (codeIn y) (statementIn d) in
         let t = heads (stands-first st) (omega arith) (omega (arith, size, enough)) (placed pl) in
-        rw (t .place-is, by-when (expressionAt fuel e) (statementAt fuel e) e (getD (e .code) at 0) at p _ p (length (codeOf y ts)) t)
+        rw (t .place-is, by-when (expressionAt fuel e) (statementAt fuel e) e (getD (e .code) at 0) at p _ p (length (codeIn y)) t)
         (bind (counts gr h p) (λ _ _ r₁ s₁ total₁ a.
-        turned a (bind (valued y k fuel (at + 1) (at + length (codeOf y ts)) p deep (stands-front (codeOf y ts) (codeOfStatement d ts) rest) (omega arith)
+        turned a (bind (valued y k fuel (at + 1) (at + length (codeIn y)) p deep (stands-front (codeIn y) (statementIn d) rest) (omega arith)
         (a .after .related) (stays (a .after) un) (a .after .held ∙ z) (omega arith)) (λ v u r₂ s₂ total₂ b.
         rw (b .means) (flow-from (b .after) (with-boolean (b .after .related) p v (b .valid) _ _ (λ t.
         branch t r₂ s₂ total₂ (b .after .related) (stays (b .after) (stays (a .after) un)) (b .after .held ∙ a .after .held ∙ z)
         (room-stays (b .after) (room-stays (a .after) low)))))))))
       where
-        branch : (t : Bool) → Ends n (if t then (λ _. statementAt fuel e (at + length (codeOf y ts) + 1)) else λ _. Act.give Onward)
+        branch : (t : Bool) → Ends n (if t then (λ _. statementAt fuel e (at + length (codeIn y) + 1)) else λ _. Act.give Onward)
             (if t then (λ _. execute (calling limit fs) d limit) else λ _. Run.give onward)
         branch true = λ r s total h un z low. ended (inner r s total h un z low)
         branch false = λ r s total h un z low. given (record { after = unmoved h; flow = both-onward })
 
-    while-does : {n : ℕ} (p : ℕ) (y : Expression) (d : Statement) → Placed ts p → Known y ts → Fits (length (codeOf y ts) + length (codeOfStatement d ts)) → length (codeOf y ts) + reserve ≤ fuel
-        → Stands (e .code) at (codeOfStatement (while p y d) ts) → Does n d fuel (at + length (codeOf y ts) + 1) → Does n (while p y d) (suc fuel) at
-    unfolding codeOfStatement execute statementAt
+    while-does : {n : ℕ} (p : ℕ) (y : Expression) (d : Statement) → Placed ts p → Known y ts → Fits (length (codeIn y) + length (statementIn d)) → length (codeIn y) + reserve ≤ fuel
+        → Stands (e .code) at (statementIn (while p y d)) → Does n d fuel (at + length (codeIn y) + 1) → Does n (while p y d) (suc fuel) at
+    unfolding statementWith execute statementAt
     while-does p y d pl k short deep st inner r s total h un z low =
         let rest = stands-rest st in
-        let size : length (codeOf y ts ++ codeOfStatement d ts) ≡ length (codeOf y ts) + length (codeOfStatement d ts) = length-append (codeOf y ts) (codeOfStatement d ts) in
+        let size : length (codeIn y ++ statementIn d) ≡ length (codeIn y) + length (statementIn d) = length-append (codeIn y) (statementIn d) in
         let t = heads (stands-first st) (omega arith) (omega (arith, size, enough)) (placed pl) in
-        rw (t .place-is, by-while (expressionAt fuel e) (statementAt fuel e) e (getD (e .code) at 0) at p _ p (length (codeOf y ts)) t)
-        (loops y k fuel (at + 1) (at + length (codeOf y ts)) p deep (stands-front (codeOf y ts) (codeOfStatement d ts) rest) (omega arith) (omega arith)
-        (statementAt fuel e (at + length (codeOf y ts) + 1)) (execute (calling limit fs) d limit) inner limit (stepsGranted (e .grants) + 1) r s total h un z low (un .turns) (omega arith))
+        rw (t .place-is, by-while (expressionAt fuel e) (statementAt fuel e) e (getD (e .code) at 0) at p _ p (length (codeIn y)) t)
+        (loops y k fuel (at + 1) (at + length (codeIn y)) p deep (stands-front (codeIn y) (statementIn d) rest) (omega arith) (omega arith)
+        (statementAt fuel e (at + length (codeIn y) + 1)) (execute (calling limit fs) d limit) inner limit (stepsGranted (e .grants) + 1) r s total h un z low (un .turns) (omega arith))
 
-    foreach-does : {n : ℕ} (p : ℕ) (x : List ℕ) (y : Expression) (d : Statement) → 0 < n → Placed ts p → Occurs ts aName x → Known y ts → Owns (x ∷ [])
-        → Fits (length (codeOf y ts) + length (codeOfStatement d ts)) → length (codeOf y ts) + reserve ≤ fuel → Stands (e .code) at (codeOfStatement (foreach p x y d) ts)
-        → Does (n - 1) d fuel (at + (length (codeOf y ts) + 1) + 1) → Does n (foreach p x y d) (suc fuel) at
-    unfolding codeOfStatement execute statementAt isIn Act._>>=_ Run._>>=_
-    foreach-does {n} p x y d any pl o k own short deep st inner r s total h un z low =
+    foreach-does : {n : ℕ} (p : ℕ) (x : List ℕ) (y : Expression) (d : Statement) → 0 < n → Placed ts p → Known y ts → Owns (x ∷ [])
+        → Fits (length (codeIn y) + length (statementIn d)) → length (codeIn y) + reserve ≤ fuel → Stands (e .code) at (statementIn (foreach p x y d))
+        → Does (n - 1) d fuel (at + (length (codeIn y) + 1) + 1) → Does n (foreach p x y d) (suc fuel) at
+    unfolding statementWith execute statementAt Act._>>=_ Run._>>=_
+    foreach-does {n} p x y d any pl k own short deep st inner r s total h un z low =
         let rest = stands-rest st in
-        let size : length (codeOf y ts ++ codeOfStatement d ts) ≡ length (codeOf y ts) + length (codeOfStatement d ts) = length-append (codeOf y ts) (codeOfStatement d ts) in
+        let size : length (codeIn y ++ statementIn d) ≡ length (codeIn y) + length (statementIn d) = length-append (codeIn y) (statementIn d) in
         let t = heads (stands-first st) (omega arith) (omega (arith, size, enough)) (placed pl) in
-        let mine : isIn (slotOf ts x) (scopeOf (e .program) ts w) ≡ true = own (slotOf ts x) (rw (eq-eqb (slotOf ts x) (slotOf ts x) refl)) in
-        rw (t .place-is, by-foreach (expressionAt fuel e) (statementAt fuel e) e (getD (e .code) at 0) at p _ p (length (codeOf y ts) + 1) (slotOf ts x) (stands-first rest) t)
+        rw (t .place-is, by-foreach (expressionAt fuel e) (statementAt fuel e) e (getD (e .code) at 0) at p _ p (length (codeIn y) + 1) (numbered x) (stands-first rest) t)
         (bind (counts gr h p) (λ _ _ r₁ s₁ total₁ a.
         let un₁ = stays (a .after) un in
-        turned a (bind (valued y k fuel (at + 1 + 1) (at + (length (codeOf y ts) + 1)) p deep (stands-front (codeOf y ts) (codeOfStatement d ts) (stands-rest rest)) (omega arith)
+        turned a (bind (valued y k fuel (at + 1 + 1) (at + (length (codeIn y) + 1)) p deep (stands-front (codeIn y) (statementIn d) (stands-rest rest)) (omega arith)
         (a .after .related) un₁ (a .after .held ∙ z) (omega arith)) (λ v u r₂ s₂ total₂ b.
         flow-from (b .after) (bind (uses (b .after .related) v u (b .valid) (b .means) p) (λ _ _ r₃ s₃ total₃ f.
         let b₃ = still b f in
         rw (b₃ .means) (flow-from f (with-group (f .related) p v (b₃ .valid) _ _ (λ i l grouped.
-        iterates (sane .few) gr x o w c limit base n busy any mine (statementAt fuel e (at + (length (codeOf y ts) + 1) + 1)) (execute (calling limit fs) d limit) inner p
+        iterates gr x w c limit base n busy any (owned x own) (statementAt fuel e (at + (length (codeIn y) + 1) + 1)) (execute (calling limit fs) d limit) inner p
         (f .related) (stays (b₃ .after) un₁) (b₃ .after .held ∙ a .after .held ∙ z) (room-stays (b₃ .after) (room-stays (a .after) low)) i l grouped)))))))))
 
     -- a.b = c
@@ -295,13 +317,13 @@ module _ (e : Setting) {ts : List Token} (sane : Sane ts) (strings : Strings (e 
     update-by y p n m i j = rw (i, j)
 
     update-does : {n : ℕ} (p : ℕ) (x y v : Expression) → Placed ts p → Known x ts → Known y ts → Known v ts
-        → Fits (length (codeOf x ts) + length (codeOf y ts) + length (codeOf v ts)) → length (codeOf x ts) + length (codeOf y ts) + length (codeOf v ts) + reserve ≤ fuel
-        → Stands (e .code) at (codeOfStatement (update p x y v) ts) → Does n (update p x y v) (suc fuel) at
-    unfolding codeOfStatement execute statementAt Act._>>=_ Run._>>=_
+        → Fits (length (codeIn x) + length (codeIn y) + length (codeIn v)) → length (codeIn x) + length (codeIn y) + length (codeIn v) + reserve ≤ fuel
+        → Stands (e .code) at (statementIn (update p x y v)) → Does n (update p x y v) (suc fuel) at
+    unfolding statementWith execute statementAt Act._>>=_ Run._>>=_
     update-does p x y v pl kx ky kv short deep st r s total h un z low =
-        let a = codeOf x ts in
-        let b = codeOf y ts in
-        let d = codeOf v ts in
+        let a = codeIn x in
+        let b = codeIn y in
+        let d = codeIn v in
         let rest = stands-rest st in
         let more = stands-back a (b ++ d) rest in
         let size : length (a ++ (b ++ d)) ≡ length a + (length b + length d) = length-append a (b ++ d) ∙ ap (λ n. length a + n) (length-append b d) in
@@ -335,9 +357,9 @@ module _ (e : Setting) {ts : List Token} (sane : Sane ts) (strings : Strings (e 
   DoesAll n ds fuel rounds a end = Executes n (statementsFrom rounds (statementAt fuel e) e a end) (Execute.executeAll (calling limit fs) ds limit)
 
   -- one of them: it counts its words
-  statement-size : (d : Statement) (a : ℕ) → Stands (e .code) a (codeOfStatement d ts) → Fits (length (codeOfStatement d ts)) → sizeAt (e .code) a ≡ length (codeOfStatement d ts)
+  statement-size : (d : Statement) (a : ℕ) → Stands (e .code) a (statementIn d) → Fits (length (statementIn d)) → sizeAt (e .code) a ≡ length (statementIn d)
   statement-size d a st l =
-      let c = statement-headed d ts in
+      let c = statement-headed-with numbered d ts in
       told (stands-first (subst (Stands (e .code) a) (c .whole) st)) (c .small) (omega (arith, enough)) .size-is
 
   none-left : (fuel rounds end : ℕ) → statementsFrom rounds (statementAt fuel e) e end end ≡ Act.give Onward
@@ -350,40 +372,40 @@ module _ (e : Setting) {ts : List Token} (sane : Sane ts) (strings : Strings (e 
   unfolding statementsFrom if_then_else_
   by-first fuel rounds a end size x l = rw (lt-ltb a end l, x)
 
-  only-does : {n : ℕ} (d : Statement) (fuel rounds a end : ℕ) → Stands (e .code) a (codeOfStatement d ts) → Fits (length (codeOfStatement d ts))
-      → a + length (codeOfStatement d ts) ≡ end → Does n d fuel a → DoesAll n (only d) fuel (suc rounds) a end
+  only-does : {n : ℕ} (d : Statement) (fuel rounds a end : ℕ) → Stands (e .code) a (statementIn d) → Fits (length (statementIn d))
+      → a + length (statementIn d) ≡ end → Does n d fuel a → DoesAll n (only d) fuel (suc rounds) a end
   unfolding Execute.executeAll Act._>>=_
   only-does d fuel rounds a end st l q does r s total h un z low =
-      rw (by-first fuel rounds a end (length (codeOfStatement d ts)) (statement-size d a st l) (omega (arith, statement-some d ts)), q, none-left fuel rounds end)
+      rw (by-first fuel rounds a end (length (statementIn d)) (statement-size d a st l) (omega (arith, some-code d)), q, none-left fuel rounds end)
       (act-after (λ f. continue f (Act.give Onward)) (λ f f′ r₁ s₁ total₁ w. done-with f f′ r₁ s₁ total₁ w) (does r s total h un z low))
     where
       done-with : (f : Flow) (f′ : Execute.Flow) (r₁ : Raw) (s₁ : State) (total₁ : Amounts) → Turned (e .program) ts (e .grants) r f f′ r₁ s₁ total₁
           → Succeeds (Turns (e .program) ts (e .grants) r) (continue f (Act.give Onward) r₁) f′ s₁ total₁
       done-with f f′ r₁ s₁ total₁ w = flow-done (w .ends .flow) w
 
-  first-does : {n : ℕ} (d : Statement) (ds : Statements) (fuel rounds a end : ℕ) → Stands (e .code) a (codeOfStatement d ts) → Fits (length (codeOfStatement d ts))
-      → a + length (codeOfStatement d ts) < end → Does n d fuel a → DoesAll n ds fuel rounds (a + length (codeOfStatement d ts)) end
+  first-does : {n : ℕ} (d : Statement) (ds : Statements) (fuel rounds a end : ℕ) → Stands (e .code) a (statementIn d) → Fits (length (statementIn d))
+      → a + length (statementIn d) < end → Does n d fuel a → DoesAll n ds fuel rounds (a + length (statementIn d)) end
       → DoesAll n (first d ds) fuel (suc rounds) a end
   unfolding Execute.executeAll Act._>>=_ Run._>>=_
   first-does d ds fuel rounds a end st l q does more r s total h un z low =
-      rw (by-first fuel rounds a end (length (codeOfStatement d ts)) (statement-size d a st l) (omega arith))
+      rw (by-first fuel rounds a end (length (statementIn d)) (statement-size d a st l) (omega arith))
       (bind (does r s total h un z low) (λ f f′ r₁ s₁ total₁ w.
       let a = w .ends .after in
       goes-on _ _ (w .ends .flow) (turned-from a (more r₁ s₁ total₁ (a .related) (stays a un) (a .held ∙ z) (room-stays a low))) w))
 
-  block-does : {n : ℕ} (p : ℕ) (ds : Statements) (fuel at : ℕ) → Placed ts p → Fits (length (codeOfStatements ds ts)) → Stands (e .code) at (codeOfStatement (block p ds) ts)
-      → DoesAll n ds fuel (length (codeOfStatements ds ts) + 1 + 1) (at + 1) (at + (length (codeOfStatements ds ts) + 1)) → Does n (block p ds) (suc fuel) at
-  unfolding codeOfStatement execute statementAt Act._>>=_ Run._>>=_
+  block-does : {n : ℕ} (p : ℕ) (ds : Statements) (fuel at : ℕ) → Placed ts p → Fits (length (statementsIn ds)) → Stands (e .code) at (statementIn (block p ds))
+      → DoesAll n ds fuel (length (statementsIn ds) + 1 + 1) (at + 1) (at + (length (statementsIn ds) + 1)) → Does n (block p ds) (suc fuel) at
+  unfolding statementWith execute statementAt Act._>>=_ Run._>>=_
   block-does p ds fuel at pl short st inner r s total h un z low =
-      let t : Heads (getD (e .code) at 0) tagBlock (length (codeOfStatements ds ts) + 1) p 0 = heads (stands-first st) (omega arith) (omega (arith, enough)) (placed pl) in
+      let t : Heads (getD (e .code) at 0) tagBlock (length (statementsIn ds) + 1) p 0 = heads (stands-first st) (omega arith) (omega (arith, enough)) (placed pl) in
       rw (t .place-is, by-block (expressionAt fuel e) (statementAt fuel e) e (getD (e .code) at 0) at p _ p 0 t)
       (bind (counts gr h p) (λ _ _ r₁ s₁ total₁ a.
       turned a (ended (inner r₁ s₁ total₁ (a .after .related) (stays (a .after) un) (a .after .held ∙ z) (room-stays (a .after) low)))))
 
   -- ---- all statements
-  deeper : {n : ℕ} (d : Statement) (fuel at : ℕ) → length (codeOfStatement d ts) + reserve ≤ fuel → Does n d (suc (fuel - 1)) at → Does n d fuel at
+  deeper : {n : ℕ} (d : Statement) (fuel at : ℕ) → length (statementIn d) + reserve ≤ fuel → Does n d (suc (fuel - 1)) at → Does n d fuel at
   deeper {n} d fuel at l f =
-      let m : suc (fuel - 1) ≡ fuel = omega (arith, statement-some d ts) in
+      let m : suc (fuel - 1) ≡ fuel = omega (arith, some-code d) in
       subst (λ k. Does n d k at) m f
 
   longer : {n : ℕ} (ds : Statements) (fuel rounds a end : ℕ) → 0 < rounds → DoesAll n ds fuel (suc (rounds - 1)) a end → DoesAll n ds fuel rounds a end
@@ -391,19 +413,19 @@ module _ (e : Setting) {ts : List Token} (sane : Sane ts) (strings : Strings (e 
       let m : suc (rounds - 1) ≡ rounds = omega arith in
       subst (λ k. DoesAll n ds fuel k a end) m f
 
-  all-some : (ds : Statements) → 0 < length (codeOfStatements ds ts)
-  unfolding codeOfStatements
-  all-some (only d) = statement-some d ts
-  all-some (first d ds) = simp length-append (omega (arith, statement-some d ts))
+  all-some : (ds : Statements) → 0 < length (statementsIn ds)
+  unfolding statementsWith
+  all-some (only d) = some-code d
+  all-some (first d ds) = simp length-append (omega (arith, some-code d))
 
   mutual
-    unfolding codeOfStatement codeOfStatements KnownStatement KnownStatements declaredIn declaredBy Nests NestsAll
+    unfolding statementWith statementsWith KnownStatement KnownStatements declaredIn declaredBy Nests NestsAll
 
-    pub executes : (n : ℕ) (d : Statement) → Nests n d → KnownStatement d ts → Owns (declaredIn d) → (fuel at : ℕ) → Stands (e .code) at (codeOfStatement d ts)
-        → length (codeOfStatement d ts) + reserve ≤ fuel → Fits (length (codeOfStatement d ts)) → Does n d fuel at
-    executes n (declare p x) ne k own fuel at st l m = deeper (declare p x) fuel at l (declare-does (fuel - 1) at p x (k .0) (k .1) own st)
+    pub executes : (n : ℕ) (d : Statement) → Nests n d → KnownStatement d ts → Owns (declaredIn d) → (fuel at : ℕ) → Stands (e .code) at (statementIn d)
+        → length (statementIn d) + reserve ≤ fuel → Fits (length (statementIn d)) → Does n d fuel at
+    executes n (declare p x) ne k own fuel at st l m = deeper (declare p x) fuel at l (declare-does (fuel - 1) at p x (k .0) own st)
     executes n (assign p x y) ne k own fuel at st l m =
-        deeper (assign p x y) fuel at l (assign-does (fuel - 1) at p x y (k .0) (k .1) (k .2) (omega arith) (omega arith) st)
+        deeper (assign p x y) fuel at l (assign-does (fuel - 1) at p x y (k .0) (k .2) (omega arith) (omega arith) st)
     executes n (update p x y v) ne k own fuel at st l m =
         let long = simp length-append at m in
         let long′ = simp length-append at l in
@@ -411,36 +433,36 @@ module _ (e : Setting) {ts : List Token} (sane : Sane ts) (strings : Strings (e 
     executes n (when p y d) ne k own fuel at st l m =
         let long = simp length-append at m in
         let long′ = simp length-append at l in
-        let there : at + 1 + length (codeOf y ts) ≡ at + length (codeOf y ts) + 1 = omega arith in
-        let here = subst (λ i. Stands (e .code) i (codeOfStatement d ts)) there (stands-back (codeOf y ts) (codeOfStatement d ts) (stands-rest st)) in
+        let there : at + 1 + length (codeIn y) ≡ at + length (codeIn y) + 1 = omega arith in
+        let here = subst (λ i. Stands (e .code) i (statementIn d)) there (stands-back (codeIn y) (statementIn d) (stands-rest st)) in
         deeper (when p y d) fuel at l (when-does (fuel - 1) at p y d (k .0) (k .1) (omega arith) (omega arith) st
-        (executes n d ne (k .2) own (fuel - 1) (at + length (codeOf y ts) + 1) here (omega arith) (omega arith)))
+        (executes n d ne (k .2) own (fuel - 1) (at + length (codeIn y) + 1) here (omega arith) (omega arith)))
     executes n (while p y d) ne k own fuel at st l m =
         let long = simp length-append at m in
         let long′ = simp length-append at l in
-        let there : at + 1 + length (codeOf y ts) ≡ at + length (codeOf y ts) + 1 = omega arith in
-        let here = subst (λ i. Stands (e .code) i (codeOfStatement d ts)) there (stands-back (codeOf y ts) (codeOfStatement d ts) (stands-rest st)) in
+        let there : at + 1 + length (codeIn y) ≡ at + length (codeIn y) + 1 = omega arith in
+        let here = subst (λ i. Stands (e .code) i (statementIn d)) there (stands-back (codeIn y) (statementIn d) (stands-rest st)) in
         deeper (while p y d) fuel at l (while-does (fuel - 1) at p y d (k .0) (k .1) (omega arith) (omega arith) st
-        (executes n d ne (k .2) own (fuel - 1) (at + length (codeOf y ts) + 1) here (omega arith) (omega arith)))
+        (executes n d ne (k .2) own (fuel - 1) (at + length (codeIn y) + 1) here (omega arith) (omega arith)))
     executes n (foreach p x y d) ne k own fuel at st l m =
         let long = simp length-append at m in
         let long′ = simp length-append at l in
-        let there : at + 1 + 1 + length (codeOf y ts) ≡ at + (length (codeOf y ts) + 1) + 1 = omega arith in
-        let here = subst (λ i. Stands (e .code) i (codeOfStatement d ts)) there (stands-back (codeOf y ts) (codeOfStatement d ts) (stands-rest (stands-rest st))) in
-        deeper (foreach p x y d) fuel at l (foreach-does (fuel - 1) at p x y d (ne .0) (k .0) (k .1) (k .2) (λ slot i. own slot (mapped-left (slotOf ts) slot (x ∷ []) (declaredIn d) i))
+        let there : at + 1 + 1 + length (codeIn y) ≡ at + (length (codeIn y) + 1) + 1 = omega arith in
+        let here = subst (λ i. Stands (e .code) i (statementIn d)) there (stands-back (codeIn y) (statementIn d) (stands-rest (stands-rest st))) in
+        deeper (foreach p x y d) fuel at l (foreach-does (fuel - 1) at p x y d (ne .0) (k .0) (k .2) (λ z i. own z (among-left z (x ∷ []) (declaredIn d) i))
         (omega arith) (omega arith) st
-        (executes (n - 1) d (ne .1) (k .3) (λ slot i. own slot (mapped-right (slotOf ts) slot (x ∷ []) (declaredIn d) i)) (fuel - 1) (at + (length (codeOf y ts) + 1) + 1) here
+        (executes (n - 1) d (ne .1) (k .3) (λ z i. own z (among-right z (x ∷ []) (declaredIn d) i)) (fuel - 1) (at + (length (codeIn y) + 1) + 1) here
         (omega arith) (omega arith)))
     executes n (return p y) ne k own fuel at st l m = deeper (return p y) fuel at l (return-does (fuel - 1) at p y (k .0) (k .1) (omega arith) (omega arith) st)
     executes n (block p ds) ne k own fuel at st l m =
         deeper (block p ds) fuel at l (block-does p ds (fuel - 1) at (k .0) (omega arith) st
-        (executes-all n ds ne (k .1) own (fuel - 1) (length (codeOfStatements ds ts) + 1 + 1) (at + 1) (at + (length (codeOfStatements ds ts) + 1)) (stands-rest st)
+        (executes-all n ds ne (k .1) own (fuel - 1) (length (statementsIn ds) + 1 + 1) (at + 1) (at + (length (statementsIn ds) + 1)) (stands-rest st)
         (omega arith) (omega arith) (omega arith) (omega arith)))
     executes n (act p y) ne k own fuel at st l m = deeper (act p y) fuel at l (act-does (fuel - 1) at p y (k .0) (k .1) (omega arith) (omega arith) st)
 
-    pub executes-all : (n : ℕ) (ds : Statements) → NestsAll n ds → KnownStatements ds ts → Owns (declaredBy ds) → (fuel rounds a end : ℕ) → Stands (e .code) a (codeOfStatements ds ts)
-        → length (codeOfStatements ds ts) + reserve ≤ fuel → Fits (length (codeOfStatements ds ts)) → length (codeOfStatements ds ts) < rounds
-        → a + length (codeOfStatements ds ts) ≡ end → DoesAll n ds fuel rounds a end
+    pub executes-all : (n : ℕ) (ds : Statements) → NestsAll n ds → KnownStatements ds ts → Owns (declaredBy ds) → (fuel rounds a end : ℕ) → Stands (e .code) a (statementsIn ds)
+        → length (statementsIn ds) + reserve ≤ fuel → Fits (length (statementsIn ds)) → length (statementsIn ds) < rounds
+        → a + length (statementsIn ds) ≡ end → DoesAll n ds fuel rounds a end
     executes-all n (only d) ne k own fuel rounds a end st l m o q =
         longer (only d) fuel rounds a end (omega arith) (only-does d fuel (rounds - 1) a end st m q (executes n d ne k own fuel a st l m))
     executes-all n (first d ds) ne k own fuel rounds a end st l m o q =
@@ -449,10 +471,10 @@ module _ (e : Setting) {ts : List Token} (sane : Sane ts) (strings : Strings (e 
         let long″ = simp length-append at o in
         let long‴ = simp length-append at q in
         let some = all-some ds in
-        let one = statement-some d ts in
+        let one = some-code d in
         longer (first d ds) fuel rounds a end (omega arith)
-        (first-does d ds fuel (rounds - 1) a end (stands-front (codeOfStatement d ts) (codeOfStatements ds ts) st) (omega arith) (omega arith)
-        (executes n d (ne .0) (k .0) (λ slot i. own slot (mapped-left (slotOf ts) slot (declaredIn d) (declaredBy ds) i)) fuel a
-        (stands-front (codeOfStatement d ts) (codeOfStatements ds ts) st) (omega arith) (omega arith))
-        (executes-all n ds (ne .1) (k .1) (λ slot i. own slot (mapped-right (slotOf ts) slot (declaredIn d) (declaredBy ds) i)) fuel (rounds - 1) (a + length (codeOfStatement d ts)) end
-        (stands-back (codeOfStatement d ts) (codeOfStatements ds ts) st) (omega arith) (omega arith) (omega arith) (omega arith)))
+        (first-does d ds fuel (rounds - 1) a end (stands-front (statementIn d) (statementsIn ds) st) (omega arith) (omega arith)
+        (executes n d (ne .0) (k .0) (λ z i. own z (among-left z (declaredIn d) (declaredBy ds) i)) fuel a
+        (stands-front (statementIn d) (statementsIn ds) st) (omega arith) (omega arith))
+        (executes-all n ds (ne .1) (k .1) (λ z i. own z (among-right z (declaredIn d) (declaredBy ds) i)) fuel (rounds - 1) (a + length (statementIn d)) end
+        (stands-back (statementIn d) (statementsIn ds) st) (omega arith) (omega arith) (omega arith) (omega arith)))

@@ -19,7 +19,8 @@ use Rattle.machine.specs.declared.Value.the-variants.{Text}
 use Rattle.machine.specs.Act.{Raw, raw}
 use Rattle.machine.specs.Act as Act
 use Rattle.machine.specs.Texts.{handle, originIn, startIn, sizeIn, part, textOf, laidAt, joined, putJoined, joinTexts}
-use Rattle.machine.specs.Layout.{stepsUsed, shapesUsed, entriesUsed, textUsed, tablesMade, declared, argumentsHeld, callsUsed, running, entriesMade, componentsMade, loopUnit, textGranted}
+use Rattle.machine.specs.Layout.{stepsUsed, shapesUsed, entriesUsed, textUsed, tablesMade, declared, argumentsHeld, callsUsed, running, entriesMade, componentsMade, loopUnit, frame}
+use Rattle.machine.specs.Layout.{textGranted}
 use Rattle.texts.proofs.Layer.{length-laid, kept-laid, part-laid, part-take, length-part}
 use Rattle.simulation.specs.Meant.{meantValue}
 use Rattle.simulation.specs.Sound.{Held, Valid}
@@ -131,8 +132,10 @@ module _ {program : List ℕ} {ts : List Token} {g : List ℕ} where
       high = λ j l. as-was j (λ e. omega arith);
     }
 
-    grown-untouched : Untouched g r grown
-    grown-untouched = untouched-words grown-rest (as-was running (λ e. omega arith)) (λ j x y. as-was j (λ e. omega arith)) (λ k l. as-was _ (λ e. omega arith))
+    grown-untouched : Untouched program ts g r grown
+    grown-untouched =
+        untouched-words grown-rest (as-was running (λ e. omega arith)) (as-was frame (λ e. omega arith)) (λ j x y. as-was j (λ e. omega arith)) (λ k l. as-was _ (λ e. omega arith))
+        (h .sound .variables)
 
     new-text : textOf program (grown .texts) (handle 1 used size) ≡ both
     new-text =
@@ -158,8 +161,9 @@ module _ {program : List ℕ} {ts : List Token} {g : List ℕ} where
           calls = rw (as-was callsUsed (λ e. omega arith)) (c .calls);
         })
         grown-rest
-        (same-words grown-later (as-was declared (λ e. omega arith)) (as-was running (λ e. omega arith)) (λ j x y. as-was j (λ e. omega arith)))
-        (same-waiting grown-later grown-untouched (omega (arith, as-was argumentsHeld (λ e. omega arith))) (h .sound .waiting) ts)
+        (same-words (as-was declared (λ e. omega arith)) (as-was running (λ e. omega arith)) (as-was frame (λ e. omega arith))
+        (omega (arith, as-was argumentsHeld (λ e. omega arith))) (λ k l. as-was _ (λ e. omega arith)) (h .sound .variables))
+        (same-waiting grown-later grown-untouched (h .sound .waiting))
         (record { count = as-was shapesUsed (λ e. omega arith); words = λ i j x y. as-was _ (λ e. omega arith) })
         (record {
           count = as-was entriesMade (λ e. omega arith);

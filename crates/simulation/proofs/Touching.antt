@@ -13,7 +13,8 @@ use Rattle.meaning.specs.Token.{Token}
 use Rattle.meaning.specs.State.{State, withShapes}
 use Rattle.meaning.specs.State as State
 use Rattle.meaning.specs.Book.{Amounts}
-use Rattle.machine.specs.Layout.{stepsUsed, shapesUsed, entriesUsed, textUsed, tablesMade, declared, argumentsHeld, callsUsed, running, entriesMade, componentsMade, loopUnit, fixedWords, shapePlace}
+use Rattle.machine.specs.Layout.{stepsUsed, shapesUsed, entriesUsed, textUsed, tablesMade, declared, argumentsHeld, callsUsed, running, entriesMade, componentsMade, loopUnit, frame}
+use Rattle.machine.specs.Layout.{fixedWords, shapePlace}
 use Rattle.machine.specs.Act.{Raw, raw}
 use Rattle.machine.specs.Shapes.{isGroupAt}
 use Rattle.machine.specs.Show.{figuresIn}
@@ -79,8 +80,10 @@ module _ {program : List ℕ} {ts : List Token} {g : List ℕ} {r : Raw} {s : St
       figures = λ k m. stays k;
     }
 
-    variables : SameVariables later
-    variables = same-words later (low-was declared (omega arith)) (low-was running (omega arith)) (λ j a b. low-was j (omega arith))
+    variables : SameVariables program ts r touched
+    variables =
+        same-words (low-was declared (omega arith)) (low-was running (omega arith)) (low-was frame (omega arith)) (omega (arith, low-was argumentsHeld (omega arith)))
+        (λ k l. low-was _ (omega arith)) (h .sound .variables)
 
     rest : SameRest g r touched
     rest = record {
@@ -93,11 +96,12 @@ module _ {program : List ℕ} {ts : List Token} {g : List ℕ} {r : Raw} {s : St
     parts : SameComponents g r touched
     parts = rest-components rest
 
-    untouched : Untouched g r touched
-    untouched = untouched-words rest (low-was running (omega arith)) (λ j a b. low-was j (omega arith)) (λ k l. low-was _ (omega arith))
+    untouched : Untouched program ts g r touched
+    untouched =
+        untouched-words rest (low-was running (omega arith)) (low-was frame (omega arith)) (λ j a b. low-was j (omega arith)) (λ k l. low-was _ (omega arith)) (h .sound .variables)
 
     waiting : SameWaiting program ts r touched
-    waiting = same-waiting later untouched (omega (arith, low-was argumentsHeld (omega arith))) (h .sound .waiting) ts
+    waiting = same-waiting later untouched (h .sound .waiting)
 
     entries : SameEntries later (h .sound .shapes)
     entries = record {
@@ -155,13 +159,13 @@ module _ {program : List ℕ} {ts : List Token} {g : List ℕ} {r : Raw} {s : St
               arguments = rw (low-was argumentsHeld (omega arith)) (c .arguments);
               calls = rw (low-was callsUsed (omega arith)) (c .calls);
             };
-            variables = variables-kept later variables ts (h .sound .variables);
+            variables = variables-kept later variables (h .sound .variables);
             waiting = waiting .waiting;
             shapes = shapes;
             marks = rest-marks rest (h .sound .marks);
             entries = entries-kept later (h .sound .shapes) parts entries (h .sound .entries);
           };
-          variables = h .variables ∙ sym (variables-same later variables ts (h .sound .variables));
+          variables = h .variables ∙ sym (variables-same later variables (h .sound .variables));
           suspended = h .suspended ∙ sym (waiting .suspended);
           shapes = e;
           tables = h .tables ∙ sym (low-was tablesMade (omega arith));

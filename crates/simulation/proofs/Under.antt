@@ -30,8 +30,8 @@ pub record Under (g : List ℕ) (w c limit : ℕ) (r : Raw) : Type 0 where
   pub calls : getD (r .words) callsUsed 0 ≡ c
   pub turns : stepsLeft g r < limit
 
-module _ {program : List ℕ} {g : List ℕ} {w c limit : ℕ} where
-  pub under-later : {r r′ : Raw} → Untouched g r r′ → Later program r r′ → Under g w c limit r → Under g w c limit r′
+module _ {program : List ℕ} {ts : List Token} {g : List ℕ} {w c limit : ℕ} where
+  pub under-later : {r r′ : Raw} → Untouched program ts g r r′ → Later program r r′ → Under g w c limit r → Under g w c limit r′
   under-later u l x = record { procedure = u .running ∙ x .procedure; calls = u .calls ∙ x .calls; turns = omega (arith, l .steps, x .turns) }
 
 pub stays : {program : List ℕ} {ts : List Token} {g : List ℕ} {w c limit : ℕ} {r r′ : Raw} {s : State} {total : Amounts} → After program ts g r r′ s total

@@ -1,36 +1,37 @@
--- Variables: looked up by slot as by name.
+-- Variables: looked up by number as by name.
 use Prim.Native.Nat.{ℕ, zero, suc, _+_, _≤_, _<_}
 use native.Mathlib.Omega.{arith}
 use mathlib.Core.Path.{_≡_, refl, ap, sym, _∙_}
 use mathlib.Core.Logic.{_≢_}
 use mathlib.Core.Bool.{Bool, true, false}
-use mathlib.Core.List.{List}
+use mathlib.Core.List.{List, []}
 use mathlib.Core.Option.{Option, some}
 use mathlib.Core.Option as Option
 use lib.ListN.{getD, length}
 use lib.Dec.{eqb}
 use borrow.Author.Tests.{eqb-true, eqb-false}
 use Rattle.meaning.specs.Basics.{if_then_else_, sameText}
-use Rattle.meaning.specs.Token.{Token, aName}
-use Rattle.meaning.specs.Grammar.{textAt}
+use Rattle.meaning.specs.Token.{Token}
 use Rattle.meaning.specs.Value as Value
 use Rattle.meaning.specs.State.{State, Variable, valueIn}
 use Rattle.meaning.specs.Run as Run
 use Rattle.meaning.specs.Book.{Amounts}
 use Rattle.meaning.specs.Evaluate as Evaluate
-use Rattle.code.specs.Code.{slotOf}
-use Rattle.reader.proofs.Homes.{Occurs, occurs-found, slot-small, same-text, text-same}
-use Rattle.machine.specs.declared.Value.{Value}
-use Rattle.machine.specs.Layout.{declared, valuePlace}
+use Rattle.reader.proofs.Homes.{same-text, text-same}
+use Rattle.numbering.specs.Numbers.{numberIn}
+use Rattle.machine.specs.Layout.{declared, running, frame}
 use Rattle.machine.specs.Act.{Raw}
 use Rattle.machine.specs.Act as Act
-use Rattle.machine.specs.Variables.{variable}
-use Rattle.simulation.specs.Meant.{meantWord, listed, slotAt, variableAt, variablesOf}
-use Rattle.simulation.specs.Sound.{Variables}
+use Rattle.machine.specs.Variables.{numberOf, holding, variable}
+use Rattle.simulation.specs.Scope.{scopeOf}
+use Rattle.simulation.specs.Meant.{meantWord, listed, variableAt, frameOf}
+use Rattle.simulation.specs.Sound.{Framed}
 use Rattle.simulation.specs.Follows.{Related, Follows}
 use Rattle.simulation.proofs.Binding.{bind}
 use Rattle.simulation.proofs.Results.{given, failed, Values, unmoved, still, steps-told}
 use Rattle.simulation.proofs.Usable.{uses}
+use Rattle.numbering.proofs.Laws.{number-within, number-name}
+use Rattle.simulation.proofs.Naming.{apart-text, scope-once}
 
 -- ---- looking up
 module _ (f : ℕ → Variable) (x : List ℕ) where
@@ -53,55 +54,55 @@ module _ (f : ℕ → Variable) (x : List ℕ) where
       go true q r = ap some (h k (omega arith) (omega arith) q)
       go false q r = r q
 
-module _ {program : List ℕ} {ts : List Token} {g : List ℕ} (few : length ts ≤ 8192) {r : Raw} {s : State} {total : Amounts} (h : Related program ts g r s total)
-    (x : List ℕ) (o : Occurs ts aName x) where
-  v : Variables program ts (r .words)
-  v = h .sound .variables
+module _ {program : List ℕ} {ts : List Token} {g : List ℕ} {r : Raw} {s : State} {total : Amounts} (h : Related program ts g r s total) (x : List ℕ) where
+  -- the names of the call's variables, and the number of x among them
+  abbrev names : List (List ℕ)
+  names = scopeOf program ts (getD (r .words) running 0)
 
-  pub slot-less : slotOf ts x < 8192
-  slot-less = omega (arith, slot-small ts x o)
+  abbrev number : ℕ
+  number = numberIn names x
 
-  -- a declaration is called x exactly if its slot is x's
-  pub slot-named : (k : ℕ) → k < getD (r .words) declared 0 → textAt ts (slotAt (r .words) k) ≡ x → slotAt (r .words) k ≡ slotOf ts x
-  slot-named k l e = sym (v .names k l) ∙ ap (slotOf ts) e
+  v : Framed program (r .words) (getD (r .words) frame 0) (getD (r .words) declared 0) (length names)
+  v = h .sound .variables .framed
 
-  pub name-slotted : (k : ℕ) → slotAt (r .words) k ≡ slotOf ts x → textAt ts (slotAt (r .words) k) ≡ x
-  name-slotted k e = ap (textAt ts) e ∙ occurs-found ts aName x (omega arith) o .text
+  pub number-less : number ≤ length names
+  number-less = number-within names x
 
-  pub apart-text : (a b : List ℕ) → (a ≡ b → ⊥) → sameText a b ≡ false
-  apart-text a b n = go (sameText a b) refl
-    where
-      go : (t : Bool) → sameText a b ≡ t → t ≡ false
-      go true e = absurd (n (same-text a b e))
-      go false e = refl
+  -- a declaration is called x exactly if its number is x's
+  pub number-named : (k : ℕ) → k < getD (r .words) declared 0 → getD names (numberOf (r .words) (getD (r .words) frame 0) k) [] ≡ x
+      → numberOf (r .words) (getD (r .words) frame 0) k ≡ number
+  number-named k l e = sym (scope-once program ts (getD (r .words) running 0) .is _ (v .small k l)) ∙ ap (numberIn names) e
 
-  pub undeclared : getD (r .words) (valuePlace (slotOf ts x)) 0 ≡ 0 → valueIn (s .variables) x ≡ Option.none
-  unfolding variablesOf variableAt
+  pub name-numbered : (k : ℕ) → k < getD (r .words) declared 0 → numberOf (r .words) (getD (r .words) frame 0) k ≡ number
+      → getD names (numberOf (r .words) (getD (r .words) frame 0) k) [] ≡ x
+  name-numbered k l e = rw e (number-name names x (rw e at (v .small k l)))
+
+  pub undeclared : holding (r .words) number ≡ 0 → valueIn (s .variables) x ≡ Option.none
+  unfolding frameOf variableAt
   undeclared z = rw (h .variables)
-      (none-found (variableAt program ts r) x 0 (getD (r .words) declared 0) (λ j a b.
+      (none-found (variableAt program names r (getD (r .words) frame 0)) x 0 (getD (r .words) declared 0) (λ j a b.
       apart-text _ _ (λ e.
-      let q = slot-named j (omega arith) e in
+      let q = number-named j (omega arith) e in
       v .there j (omega arith) (rw q z))))
 
-  pub is-declared : getD (r .words) (valuePlace (slotOf ts x)) 0 ≢ 0
-      → valueIn (s .variables) x ≡ some (meantWord program r (getD (r .words) (valuePlace (slotOf ts x)) 0))
-  unfolding variablesOf variableAt
+  pub is-declared : holding (r .words) number ≢ 0 → valueIn (s .variables) x ≡ some (meantWord program r (holding (r .words) number))
+  unfolding frameOf variableAt
   is-declared n =
-      let q = v .found (slotOf ts x) slot-less n in
+      let q = v .found number number-less n in
       rw (h .variables)
-      (one-found (variableAt program ts r) x (meantWord program r (getD (r .words) (valuePlace (slotOf ts x)) 0)) 0 (getD (r .words) declared 0)
-      (λ j a b e. rw (slot-named j (omega arith) (same-text _ _ e)))
-      (q .0) (omega arith) (omega (arith, q .1)) (rw (name-slotted (q .0) (q .2)) (text-same x)))
+      (one-found (variableAt program names r (getD (r .words) frame 0)) x (meantWord program r (holding (r .words) number)) 0 (getD (r .words) declared 0)
+      (λ j a b e. rw (number-named j (omega arith) (same-text _ _ e)))
+      (q .0) (omega arith) (omega (arith, q .1)) (rw (name-numbered (q .0) (q .1) (q .2)) (text-same x)))
 
   -- ---- a variable's value
-  pub reads-variable : {granted : Amounts} (p : ℕ) → Follows granted total (Values program ts g r) (variable p (slotOf ts x) r) (Evaluate.variable p x s)
-  unfolding variable Evaluate.variable Evaluate.lookedUp Act._>>=_ Act.goOn Act.load Act.refuse Act.fail Act.give Run._>>=_ Run.goOn Run.current Run.fail Run.give
-  reads-variable p = go (eqb (getD (r .words) (valuePlace (slotOf ts x)) 0) 0) refl
+  pub reads-variable : {granted : Amounts} (p : ℕ) → Follows granted total (Values program ts g r) (variable p number r) (Evaluate.variable p x s)
+  unfolding variable Evaluate.variable Evaluate.lookedUp Act._>>=_ Act.goOn Act.held Act.refuse Act.fail Act.give Run._>>=_ Run.goOn Run.current Run.fail Run.give
+  reads-variable p = go (eqb (holding (r .words) number) 0) refl
     where
-      go : {granted : Amounts} (b : Bool) → eqb (getD (r .words) (valuePlace (slotOf ts x)) 0) 0 ≡ b
-          → Follows granted total (Values program ts g r) (variable p (slotOf ts x) r) (Evaluate.variable p x s)
+      go : {granted : Amounts} (b : Bool) → eqb (holding (r .words) number) 0 ≡ b
+          → Follows granted total (Values program ts g r) (variable p number r) (Evaluate.variable p x s)
       go true e = rw (e, undeclared (eqb-true _ _ e)) (failed 50 p r (steps-told h))
       go false e =
           rw (e, is-declared (eqb-false _ _ e))
-          (bind (uses h _ _ (v .holds (slotOf ts x)) refl p) (λ _ _ r′ s′ total′ a.
-          given (still (record { after = unmoved h; valid = v .holds (slotOf ts x); means = refl }) a)))
+          (bind (uses h _ _ (v .holds number number-less) refl p) (λ _ _ r′ s′ total′ a.
+          given (still (record { after = unmoved h; valid = v .holds number number-less; means = refl }) a)))

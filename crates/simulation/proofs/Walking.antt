@@ -33,7 +33,8 @@ use Rattle.machine.specs.Layout.{
   fixedWords,
   shapePlace,
   entryPlace,
-  firstFrame,
+  firstCall,
+  frame,
 }
 use Rattle.machine.specs.Act.{Raw, raw, Act}
 use Rattle.machine.specs.Act as Act
@@ -73,7 +74,7 @@ module _ {program : List ℕ} {ts : List Token} {g : List ℕ} {r : Raw} {s : St
   counter : (j : ℕ) → j < waitingHeld → getD (next .words) j 0 ≡ getD (r .words) j 0
   counter j l = low j (omega arith) (λ e. omega arith) (λ e. omega arith)
 
-  front : (j : ℕ) → firstFrame ≤ j → j < fixedWords → getD (next .words) j 0 ≡ getD (r .words) j 0
+  front : (j : ℕ) → firstCall ≤ j → j < fixedWords → getD (next .words) j 0 ≡ getD (r .words) j 0
   front j l m = low j m (λ e. omega arith) (λ e. omega arith)
 
   high : (j : ℕ) → entryPlace g 0 ≤ j → getD (next .words) j 0 ≡ getD (r .words) j 0
@@ -97,8 +98,12 @@ module _ {program : List ℕ} {ts : List Token} {g : List ℕ} {r : Raw} {s : St
     high = λ j l. high j (omega arith);
   }
 
-  spare-untouched : Untouched g r next
-  spare-untouched = untouched-words spare-rest (counter running (omega arith)) (λ j a b. front j a (omega arith)) (λ k l. front _ (omega arith) (omega arith))
+  frame-was : getD (next .words) frame 0 ≡ getD (r .words) frame 0
+  frame-was = low frame (omega arith) (λ e. omega arith) (λ e. omega arith)
+
+  spare-untouched : Untouched program ts g r next
+  spare-untouched =
+      untouched-words spare-rest (counter running (omega arith)) frame-was (λ j a b. front j a (omega arith)) (λ k l. front _ (omega arith) (omega arith)) (h .sound .variables)
 
   pub spare-after : After program ts g r (raw (r .texts) (set (r .words) i x)) s total
   spare-after = let c = h .sound .counted in record {
@@ -114,8 +119,9 @@ module _ {program : List ℕ} {ts : List Token} {g : List ℕ} {r : Raw} {s : St
           calls = rw (counter callsUsed (omega arith)) (c .calls);
         })
         spare-rest
-        (same-words spare-later (counter declared (omega arith)) (counter running (omega arith)) (λ j a b. front j a (omega arith)))
-        (same-waiting spare-later spare-untouched (omega (arith, counter argumentsHeld (omega arith))) (h .sound .waiting) ts)
+        (same-words (counter declared (omega arith)) (counter running (omega arith)) frame-was (omega (arith, counter argumentsHeld (omega arith)))
+        (λ k l. front _ (omega arith) (omega arith)) (h .sound .variables))
+        (same-waiting spare-later spare-untouched (h .sound .waiting))
         (record { count = counter shapesUsed (omega arith); words = λ k j a b. other h i x _ (sp .shapes k j b) })
         (record {
           count = counter entriesMade (omega arith);

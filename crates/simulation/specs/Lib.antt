@@ -1,6 +1,6 @@
+pub mod Scope
 pub mod Meant
 pub mod Index
-pub mod Scope
 pub mod Sound
 pub mod Follows
 pub mod After

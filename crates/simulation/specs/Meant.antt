@@ -1,5 +1,5 @@
 -- What the code's values, figures and lent slices stand for.
-use Prim.Native.Nat.{ℕ, zero, suc, _-_}
+use Prim.Native.Nat.{ℕ, zero, suc, _+_, _-_}
 use mathlib.Core.List.{List, [], _∷_}
 use mathlib.Core.Option.{Option, some}
 use mathlib.Core.Option as Option
@@ -7,7 +7,6 @@ use lib.ListN.{getD}
 use lib.Dec.{eqb}
 use Rattle.meaning.specs.Basics.{if_then_else_}
 use Rattle.meaning.specs.Token.{Token}
-use Rattle.meaning.specs.Grammar.{textAt}
 use Rattle.meaning.specs.Figure.{line, ellipse, box, text}
 use Rattle.meaning.specs.Figure as Meaning
 use Rattle.meaning.specs.Value.{integer, string, boolean, none, table, shape}
@@ -17,15 +16,15 @@ use Rattle.meaning.specs.State as State
 use Rattle.machine.specs.declared.Value.{Value}
 use Rattle.machine.specs.declared.Value.the-variants.{Integer, Text, Boolean, Nothing, Table, Shape}
 use Rattle.machine.specs.Words.{unpacked}
-use Rattle.machine.specs.Layout.{shapesUsed, entriesMade, declared, callsUsed, framePlace, valuePlace, orderPlace}
+use Rattle.machine.specs.Layout.{shapesUsed, entriesMade, declared, callsUsed, running, frame, callPlace}
 use Rattle.machine.specs.Act.{Raw}
 use Rattle.machine.specs.Texts.{textOf}
 use Rattle.machine.specs.declared.Figure.{Figure}
 use Rattle.machine.specs.Shapes.{isGroupAt, figureAt, destroyedAt}
 use Rattle.machine.specs.Groups.{componentAt, firstAt, countAt}
-use Rattle.machine.specs.Stack.{argumentAt}
-use Rattle.machine.specs.Variables.{wordIn, slotIn, topIn, countIn}
+use Rattle.machine.specs.Variables.{numberOf, holdingOf}
 use Rattle.machine.specs.Tables.{ownerAt, keyAt, valueAt}
+use Rattle.simulation.specs.Scope.{scopeOf}
 
 -- ---- values and figures: a handle stands for its text, a number for itself
 unfoldable pub meantValue : List ℕ → List ℕ → Value → Value.Value
@@ -52,37 +51,41 @@ unfoldable pub listed : {A : Type 0} → (ℕ → A) → ℕ → ℕ → List A
 listed f k zero = []
 listed f k (suc n) = f k ∷ listed f (suc k) n
 
--- the slot of the k-th declaration
-abbrev pub slotAt : List ℕ → ℕ → ℕ
-slotAt ws k = getD ws (orderPlace k) 0
-
-unfoldable pub variableAt : List ℕ → List Token → Raw → ℕ → Variable
-variableAt program ts r k = record {
-  name = textAt ts (slotAt (r .words) k);
-  holds = meantWord program r (getD (r .words) (valuePlace (slotAt (r .words) k)) 0);
+-- the variable of the k-th declaration in the frame f, whose names these are
+unfoldable pub variableAt : List ℕ → List (List ℕ) → Raw → ℕ → ℕ → Variable
+variableAt program names r f k = record {
+  name = getD names (numberOf (r .words) f k) [];
+  holds = meantWord program r (holdingOf (r .words) f k);
 }
 
--- in the order of their declarations
-unfoldable pub variablesOf : List ℕ → List Token → Raw → List Variable
-variablesOf program ts r = listed (variableAt program ts r) 0 (getD (r .words) declared 0)
+-- n of them, in the order of their declarations
+unfoldable pub frameOf : List ℕ → List (List ℕ) → Raw → ℕ → ℕ → List Variable
+frameOf program names r f n = listed (variableAt program names r f) 0 n
 
--- a variable that waits at a place of the stack
-unfoldable pub waitingAt : List ℕ → List Token → Raw → ℕ → Variable
-waitingAt program ts r k = record {
-  name = textAt ts (slotIn (argumentAt (r .words) k));
-  holds = meantWord program r (wordIn (argumentAt (r .words) k));
-}
+-- those of the call under way
+abbrev pub variablesOf : List ℕ → List Token → Raw → List Variable
+variablesOf program ts r = frameOf program (scopeOf program ts (getD (r .words) running 0)) r (getD (r .words) frame 0) (getD (r .words) declared 0)
 
--- the word of the d-th call that waits, and its variables
+-- the d-th call that waits: its frame, how many variables it has declared, its procedure and the unit of its innermost loop
 abbrev pub frameAt : List ℕ → ℕ → ℕ
-frameAt ws d = getD ws (framePlace d) 0
+frameAt ws d = getD ws (callPlace d) 0
 
-unfoldable pub frameOf : List ℕ → List Token → Raw → ℕ → List Variable
-frameOf program ts r d = listed (waitingAt program ts r) (topIn (frameAt (r .words) d)) (countIn (frameAt (r .words) d))
+abbrev pub declaredAt : List ℕ → ℕ → ℕ
+declaredAt ws d = getD ws (callPlace d + 1) 0
+
+abbrev pub runningAt : List ℕ → ℕ → ℕ
+runningAt ws d = getD ws (callPlace d + 2) 0
+
+abbrev pub unitAt : List ℕ → ℕ → ℕ
+unitAt ws d = getD ws (callPlace d + 3) 0
+
+-- its variables
+unfoldable pub waitingOf : List ℕ → List Token → Raw → ℕ → List Variable
+waitingOf program ts r d = frameOf program (scopeOf program ts (runningAt (r .words) d)) r (frameAt (r .words) d) (declaredAt (r .words) d)
 
 -- of all calls that wait for the one under way, main's first
 unfoldable pub suspendedOf : List ℕ → List Token → Raw → List (List Variable)
-suspendedOf program ts r = listed (frameOf program ts r) 1 (getD (r .words) callsUsed 0 - 1)
+suspendedOf program ts r = listed (waitingOf program ts r) 1 (getD (r .words) callsUsed 0 - 1)
 
 -- the components of a group, by their numbers
 unfoldable pub componentsOf : List ℕ → List ℕ → ℕ → List ℕ

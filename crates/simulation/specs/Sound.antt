@@ -1,5 +1,5 @@
 -- What holds of the lent slices throughout a run.
-use Prim.Native.Nat.{ℕ, zero, suc, _+_, _-_, _*_, _^_, _≤_, _<_}
+use Prim.Native.Nat.{ℕ, suc, _+_, _-_, _*_, _^_, _≤_, _<_}
 use mathlib.Core.Path.{_≡_}
 use mathlib.Core.Logic.{_≢_}
 use mathlib.Core.Bool.{true, false, cond}
@@ -9,8 +9,6 @@ use lib.IntN.{pos}
 use lib.Signed.{mag}
 use lib.Dec.{eqb, ltb}
 use Rattle.meaning.specs.Token.{Token}
-use Rattle.meaning.specs.Grammar.{textAt}
-use Rattle.code.specs.Code.{slotOf}
 use Rattle.machine.specs.declared.Value.{Value}
 use Rattle.machine.specs.declared.Value.the-variants.{Integer, Text, Boolean, Nothing, Table, Shape}
 use Rattle.machine.specs.Words.{packed, unpacked}
@@ -32,7 +30,7 @@ use Rattle.machine.specs.Layout.{
   entriesGranted,
   textGranted,
   callsGranted,
-  valuePlace,
+  frame,
   stackWords,
   shapePlace,
   pathPlace,
@@ -45,11 +43,10 @@ use Rattle.machine.specs.Shapes.{isGroupAt, figureAt}
 use Rattle.machine.specs.Groups.{componentAt, followersAt, firstAt, countAt}
 use Rattle.machine.specs.Show.{figuresIn}
 use Rattle.machine.specs.Loops.{hollowAt}
-use Rattle.machine.specs.Stack.{argumentAt}
-use Rattle.machine.specs.Variables.{isDeclared, wordIn, topIn, countIn}
+use Rattle.machine.specs.Variables.{numberOf, holdingAt, holdingOf}
 use Rattle.machine.specs.Tables.{ownerAt, keyAt, valueAt, isGroupKey}
-use Rattle.simulation.specs.Meant.{slotAt, frameAt, meantKey}
-use Rattle.simulation.specs.Scope.{scopeOf, isIn}
+use Rattle.simulation.specs.Scope.{scopeOf}
+use Rattle.simulation.specs.Meant.{frameAt, declaredAt, runningAt, meantKey}
 use Rattle.simulation.specs.Index.{Indexed}
 
 -- a handle's text lies in the program, or within the used part of the text store
@@ -89,29 +86,31 @@ pub record Counted (g ws : List ℕ) : Type 0 where
   pub calls : getD ws callsUsed 0 ≤ callsGranted g
 
 -- ---- variables
--- how many of the first n slots are declared
-unfoldable pub declaredAmong : List ℕ → ℕ → ℕ
-declaredAmong ws zero = 0
-declaredAmong ws (suc n) = cond (isDeclared ws n) 1 0 + declaredAmong ws n
+-- A frame f with n declarations among so many names. Each declaration has a number of its own, and those are the numbers whose variables hold something; the word
+-- behind the last variable holds nothing.
+pub record Framed (program ws : List ℕ) (f n size : ℕ) : Type 0 where
+  pub brief : size < 8192
+  pub few : n ≤ size
+  pub small : (k : ℕ) → k < n → numberOf ws f k < size
+  pub there : (k : ℕ) → k < n → holdingOf ws f k ≢ 0
+  pub apart : (j k : ℕ) → j < n → k < n → numberOf ws f j ≡ numberOf ws f k → j ≡ k
+  pub found : (i : ℕ) → i ≤ size → holdingAt ws f i ≢ 0 → (k : ℕ) × (k < n) × (numberOf ws f k ≡ i)
+  pub holds : (i : ℕ) → i ≤ size → Valid program ws (unpacked (holdingAt ws f i))
 
--- Each declaration has a slot of its own, the first token of its name, which the procedure under way may declare; and those are the slots whose
--- words are not 0.
+-- how many variables a procedure has, by its word
+abbrev pub sizeOf : List ℕ → List Token → ℕ → ℕ
+sizeOf program ts w = length (scopeOf program ts w)
+
+-- that of the call under way, within what the stack holds
 pub record Variables (program : List ℕ) (ts : List Token) (ws : List ℕ) : Type 0 where
-  pub few : getD ws declared 0 ≤ declaredAmong ws 8192
-  pub small : (k : ℕ) → k < getD ws declared 0 → slotAt ws k < 8192
-  pub names : (k : ℕ) → k < getD ws declared 0 → slotOf ts (textAt ts (slotAt ws k)) ≡ slotAt ws k
-  pub own : (k : ℕ) → k < getD ws declared 0 → isIn (slotAt ws k) (scopeOf program ts (getD ws running 0)) ≡ true
-  pub there : (k : ℕ) → k < getD ws declared 0 → getD ws (valuePlace (slotAt ws k)) 0 ≢ 0
-  pub apart : (j k : ℕ) → j < getD ws declared 0 → k < getD ws declared 0 → slotAt ws j ≡ slotAt ws k → j ≡ k
-  pub found : (slot : ℕ) → slot < 8192 → getD ws (valuePlace slot) 0 ≢ 0 → (k : ℕ) × (k < getD ws declared 0) × (slotAt ws k ≡ slot)
-  pub holds : (slot : ℕ) → Valid program ws (unpacked (getD ws (valuePlace slot) 0))
-  pub narrow : (slot : ℕ) → getD ws (valuePlace slot) 0 < 2 ^ 48
+  pub framed : Framed program ws (getD ws frame 0) (getD ws declared 0) (sizeOf program ts (getD ws running 0))
+  pub within : getD ws frame 0 + suc (sizeOf program ts (getD ws running 0)) ≤ getD ws argumentsHeld 0
 
--- ---- calls that wait: their variables lie within what the stack holds
-pub record Waiting (program ws : List ℕ) : Type 0 where
-  pub within : (d : ℕ) → 0 < d → d < getD ws callsUsed 0 → topIn (frameAt ws d) + countIn (frameAt ws d) ≤ getD ws argumentsHeld 0
-  pub holds : (d : ℕ) → 0 < d → d < getD ws callsUsed 0 → (k : ℕ) → topIn (frameAt ws d) ≤ k → k < topIn (frameAt ws d) + countIn (frameAt ws d)
-      → Valid program ws (unpacked (wordIn (argumentAt ws k)))
+-- ---- calls that wait: each has its frame, below those of later calls
+pub record Waiting (program : List ℕ) (ts : List Token) (ws : List ℕ) : Type 0 where
+  pub framed : (d : ℕ) → 0 < d → d < getD ws callsUsed 0 → Framed program ws (frameAt ws d) (declaredAt ws d) (sizeOf program ts (runningAt ws d))
+  pub below : (d e : ℕ) → 0 < d → d < e → e < getD ws callsUsed 0 → frameAt ws d + suc (sizeOf program ts (runningAt ws d)) ≤ frameAt ws e
+  pub under : (d : ℕ) → 0 < d → d < getD ws callsUsed 0 → frameAt ws d + suc (sizeOf program ts (runningAt ws d)) ≤ getD ws frame 0
 
 -- ---- shapes
 -- a group: its slots are in use, its components are older, and each slot tells how many follow
@@ -155,7 +154,7 @@ pub record Sound (program : List ℕ) (ts : List Token) (g : List ℕ) (r : Raw)
   pub lent : Lent g (r .texts) (r .words)
   pub counted : Counted g (r .words)
   pub variables : Variables program ts (r .words)
-  pub waiting : Waiting program (r .words)
+  pub waiting : Waiting program ts (r .words)
   pub shapes : Shapes program g (r .words)
   pub marks : Marks g (r .words)
   pub entries : Entries program g r

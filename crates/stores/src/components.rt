@@ -67,6 +67,6 @@ pub fn mark_place(words: &[u64], grants: &[u64; 5], k: u32) -> usize
     requires { ⌜ Room (now grants) (now words) ⌝ }
     ensures { λ r. ⌜ r ≡ markPlace (now (grants .entry)) (now (words .entry)) k ⌝ }
 {
-    let d = arithmetic::lowered_word(words[counters::CALLS], 1) % layout::FRAMES as u64;
+    let d = arithmetic::lowered_word(words[counters::CALLS], 1) % layout::CALLS as u64;
     marks_of(grants, k) + d as usize
 }

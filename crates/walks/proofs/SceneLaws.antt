@@ -1,5 +1,5 @@
 -- The scene cleared: what each way through the code does.
-use Prim.Native.Nat.{ℕ, suc, _+_, _-_, _/_, _%_, _^_, _≤_, _<_}
+use Prim.Native.Nat.{ℕ, suc, _+_, _-_, _^_, _≤_, _<_}
 use mathlib.Core.Path.{_≡_, refl, ap, sym, _∙_}
 use mathlib.Core.Bool.{Bool, true, false, not}
 use mathlib.Core.List.{List}
@@ -9,10 +9,10 @@ use lib.Dec.{eqb}
 use borrow.Author.Tests.{ne-eqb, eq-eqb}
 use Rattle.machine.specs.Words.{kindIn, kindShape, numberIn, unpacked}
 use Rattle.values.proofs.Laws.{unpacked-shape, by-kind}
-use Rattle.machine.specs.Layout.{declared, callsUsed, framePlace, valuePlace, orderPlace, argumentPlace, Room}
-use Rattle.machine.specs.Act.{Raw, raw, Out, done, stop, Act, goOn, _>>=_, give, load, passed}
+use Rattle.machine.specs.Layout.{declared, callsUsed, frame, fixedWords, callPlace, Room}
+use Rattle.machine.specs.Act.{Raw, raw, Out, done, stop, Act, goOn, _>>=_, give, load, held, passed}
 use Rattle.machine.specs.Groups.{destroyLiving}
-use Rattle.machine.specs.Variables.{wordIn, topIn, countIn, destroyIn, clearFrom, clearWaiting, clearFrames, clearScene}
+use Rattle.machine.specs.Variables.{holdingOf, destroyIn, clearFrom, clearCalls, clearScene}
 use Rattle.walks.specs.Walks.{Ends}
 use Rattle.walks.proofs.TurnLaws.{room-same}
 
@@ -57,6 +57,9 @@ module _ (act : ℕ → ℕ → ℕ → Act (Unit {0})) (first n : ℕ) (ws₀ :
     pub runs-room : {g : List ℕ} → Room g ws₀ → Room g ws
     runs-room r = room-same r (a .long)
 
+    pub runs-long : {g : List ℕ} → Room g ws₀ → fixedWords ≤ length ws
+    runs-long r = omega (arith, r .words, a .long)
+
 from-none : (n : ℕ) → n - 0 ≡ n
 from-none n = omega arith
 
@@ -73,79 +76,57 @@ module _ (g ws : List ℕ) (w : ℕ) where
   unfolding destroyIn
   destroys-shape i r ws′ h e d = record { equal = λ p ts. d .equal p ts ∙ rw (e, unpacked-shape w h) }
 
--- ---- the call under way
-module _ (g ws₀ : List ℕ) (n : ℕ) (ws : List ℕ) (k : ℕ) (a : Runs (clearFrom g) 0 n ws₀ ws k) where
-  variable-turn : (p m : ℕ) (ts : List ℕ) → clearFrom g p k (suc m) (raw ts ws)
-      ≡ (destroyIn g p (unpacked (getD ws (valuePlace (getD ws (orderPlace k) 0)) 0)) >>= λ _. clearFrom g p (k + 1) m) (raw ts ws)
-  unfolding clearFrom _>>=_ goOn load
-  variable-turn p m ts = refl
+-- ---- the variables in a frame
+abbrev pub clearingFrom : List ℕ → ℕ → ℕ → ℕ → ℕ → Act (Unit {0})
+clearingFrom g f p k m = clearFrom g p f k m
 
-  module _ (r : ℕ) (ws′ : List ℕ) (h : k < n) (d : Ends ws (λ p. destroyIn g p (unpacked (getD ws (valuePlace (getD ws (orderPlace k) 0)) 0))) r ws′) where
-    pub clear-more : r ≡ 0 → length ws′ ≡ length ws → Runs (clearFrom g) 0 n ws₀ ws′ (k + 1)
-    clear-more z l = runs-next (clearFrom g) 0 n ws₀ ws k a _ ws′ h r d variable-turn z l
+module _ (g ws₀ : List ℕ) (f n : ℕ) (ws : List ℕ) (k : ℕ) (a : Runs (clearingFrom g f) 0 n ws₀ ws k) where
+  variable-turn : (w : ℕ) → w ≡ holdingOf ws f k → (p m : ℕ) (ts : List ℕ) → clearFrom g p f k (suc m) (raw ts ws) ≡ (destroyIn g p (unpacked w) >>= λ _. clearFrom g p f (k + 1) m) (raw ts ws)
+  unfolding clearFrom _>>=_ goOn held
+  variable-turn w e p m ts = rw e
 
-    pub clear-stops : n ≡ getD ws₀ declared 0 → (r ≡ 0 → ⊥) → Ends ws₀ (λ p. clearFrom g p 0 (getD ws₀ declared 0)) r ws′
-    clear-stops e z = rw (← e, ← from-none n) (runs-stop (clearFrom g) 0 n ws₀ ws k a _ ws′ h r d variable-turn z)
+  module _ (w r : ℕ) (ws′ : List ℕ) (h : k < n) (e : w ≡ holdingOf ws f k) (d : Ends ws (λ p. destroyIn g p (unpacked w)) r ws′) where
+    pub clear-more : r ≡ 0 → length ws′ ≡ length ws → Runs (clearingFrom g f) 0 n ws₀ ws′ (k + 1)
+    clear-more z l = runs-next (clearingFrom g f) 0 n ws₀ ws k a _ ws′ h r d (variable-turn w e) z l
 
-  pub clear-all : n ≡ getD ws₀ declared 0 → n ≤ k → Ends ws₀ (λ p. clearFrom g p 0 (getD ws₀ declared 0)) 0 ws
+    pub clear-stops : (r ≡ 0 → ⊥) → Ends ws₀ (λ p. clearFrom g p f 0 n) r ws′
+    clear-stops z = rw (from-none n) at (runs-stop (clearingFrom g f) 0 n ws₀ ws k a _ ws′ h r d (variable-turn w e) z)
+
+  pub clear-all : n ≤ k → Ends ws₀ (λ p. clearFrom g p f 0 n) 0 ws
   unfolding clearFrom give
-  clear-all e h = rw (← e, ← from-none n) (runs-last (clearFrom g) 0 n ws₀ ws k a h (λ p ts. refl))
+  clear-all h = rw (from-none n) at (runs-last (clearingFrom g f) 0 n ws₀ ws k a h (λ p ts. refl))
 
--- ---- a call that waits
-unfoldable pub waitingFrom : List ℕ → ℕ → ℕ → ℕ → ℕ → Act (Unit {0})
-waitingFrom g top p k m = clearWaiting g p (top + k) m
+-- ---- all calls that wait
+module _ (g ws₀ : List ℕ) (n : ℕ) (ws : List ℕ) (d : ℕ) (a : Runs (clearCalls g) 1 n ws₀ ws d) where
+  call-turn : (at : ℕ) → at ≡ callPlace d → (p m : ℕ) (ts : List ℕ) → clearCalls g p d (suc m) (raw ts ws)
+      ≡ (clearFrom g p (getD ws (at + 0) 0) 0 (getD ws (at + 1) 0) >>= λ _. clearCalls g p (d + 1) m) (raw ts ws)
+  unfolding clearCalls _>>=_ goOn load
+  call-turn at e p m ts = let z : at + 0 ≡ at = omega arith in rw (z, e)
 
-module _ (g ws₀ : List ℕ) (top n : ℕ) (ws : List ℕ) (k : ℕ) (a : Runs (waitingFrom g top) 0 n ws₀ ws k) where
-  waiting-turn : (at : ℕ) → at ≡ argumentPlace (top + k) → (p m : ℕ) (ts : List ℕ)
-      → waitingFrom g top p k (suc m) (raw ts ws) ≡ (destroyIn g p (unpacked (wordIn (getD ws at 0))) >>= λ _. waitingFrom g top p (k + 1) m) (raw ts ws)
-  unfolding waitingFrom clearWaiting _>>=_ goOn load
-  waiting-turn at i p m ts = let e : top + k + 1 ≡ top + (k + 1) = omega arith in rw (i, e)
+  module _ (at r : ℕ) (ws′ : List ℕ) (h : d < n) (e : at ≡ callPlace d) (q : Ends ws (λ p. clearFrom g p (getD ws (at + 0) 0) 0 (getD ws (at + 1) 0)) r ws′) where
+    pub clear-more-calls : r ≡ 0 → length ws′ ≡ length ws → Runs (clearCalls g) 1 n ws₀ ws′ (d + 1)
+    clear-more-calls z l = runs-next (clearCalls g) 1 n ws₀ ws d a _ ws′ h r q (call-turn at e) z l
 
-  module _ (at r : ℕ) (ws′ : List ℕ) (h : k < n) (i : at ≡ argumentPlace (top + k)) (d : Ends ws (λ p. destroyIn g p (unpacked (wordIn (getD ws at 0)))) r ws′) where
-    pub clear-more-waiting : r ≡ 0 → length ws′ ≡ length ws → Runs (waitingFrom g top) 0 n ws₀ ws′ (k + 1)
-    clear-more-waiting z l = runs-next (waitingFrom g top) 0 n ws₀ ws k a _ ws′ h r d (waiting-turn at i) z l
+    pub clear-stops-calls : n ≡ getD ws₀ callsUsed 0 → (r ≡ 0 → ⊥) → Ends ws₀ (λ p. clearCalls g p 1 (getD ws₀ callsUsed 0 - 1)) r ws′
+    clear-stops-calls i z = rw (← i) (runs-stop (clearCalls g) 1 n ws₀ ws d a _ ws′ h r q (call-turn at e) z)
 
-    pub clear-stops-waiting : (r ≡ 0 → ⊥) → Ends ws₀ (λ p. clearWaiting g p top n) r ws′
-    unfolding waitingFrom
-    clear-stops-waiting z =
-        let e : top + 0 ≡ top = omega arith in
-        rw (e, from-none n) at (runs-stop (waitingFrom g top) 0 n ws₀ ws k a _ ws′ h r d (waiting-turn at i) z)
-
-  pub clear-all-waiting : n ≤ k → Ends ws₀ (λ p. clearWaiting g p top n) 0 ws
-  unfolding waitingFrom clearWaiting give
-  clear-all-waiting h =
-      let e : top + 0 ≡ top = omega arith in
-      rw (e, from-none n) at (runs-last (waitingFrom g top) 0 n ws₀ ws k a h (λ p ts. refl))
-
--- ---- all that wait
-module _ (g ws₀ : List ℕ) (n : ℕ) (ws : List ℕ) (d : ℕ) (a : Runs (clearFrames g) 1 n ws₀ ws d) where
-  frame-turn : (p m : ℕ) (ts : List ℕ) → clearFrames g p d (suc m) (raw ts ws)
-      ≡ (clearWaiting g p (topIn (getD ws (framePlace d) 0)) (countIn (getD ws (framePlace d) 0)) >>= λ _. clearFrames g p (d + 1) m) (raw ts ws)
-  unfolding clearFrames _>>=_ goOn load
-  frame-turn p m ts = refl
-
-  module _ (r : ℕ) (ws′ : List ℕ) (h : d < n) (q : Ends ws (λ p. clearWaiting g p (topIn (getD ws (framePlace d) 0)) (countIn (getD ws (framePlace d) 0))) r ws′) where
-    pub clear-more-frames : r ≡ 0 → length ws′ ≡ length ws → Runs (clearFrames g) 1 n ws₀ ws′ (d + 1)
-    clear-more-frames z l = runs-next (clearFrames g) 1 n ws₀ ws d a _ ws′ h r q frame-turn z l
-
-    pub clear-stops-frames : n ≡ getD ws₀ callsUsed 0 → (r ≡ 0 → ⊥) → Ends ws₀ (λ p. clearFrames g p 1 (getD ws₀ callsUsed 0 - 1)) r ws′
-    clear-stops-frames e z = rw (← e) (runs-stop (clearFrames g) 1 n ws₀ ws d a _ ws′ h r q frame-turn z)
-
-  pub clear-all-frames : n ≡ getD ws₀ callsUsed 0 → n ≤ d → Ends ws₀ (λ p. clearFrames g p 1 (getD ws₀ callsUsed 0 - 1)) 0 ws
-  unfolding clearFrames give
-  clear-all-frames e h = rw (← e) (runs-last (clearFrames g) 1 n ws₀ ws d a h (λ p ts. refl))
+  pub clear-all-calls : n ≡ getD ws₀ callsUsed 0 → n ≤ d → Ends ws₀ (λ p. clearCalls g p 1 (getD ws₀ callsUsed 0 - 1)) 0 ws
+  unfolding clearCalls give
+  clear-all-calls e h = rw (← e) (runs-last (clearCalls g) 1 n ws₀ ws d a h (λ p ts. refl))
 
 -- ---- all
-module _ (g ws : List ℕ) (r : ℕ) (ws₁ : List ℕ) (a : Ends ws (λ p. clearFrames g p 1 (getD ws callsUsed 0 - 1)) r ws₁) where
-  scene-is : (p : ℕ) (ts : List ℕ) → clearScene g p (raw ts ws)
-      ≡ (clearFrames g p 1 (getD ws callsUsed 0 - 1) >>= λ _. (load declared >>= λ n. clearFrom g p 0 n)) (raw ts ws)
+abbrev clearLast : List ℕ → ℕ → Act (Unit {0})
+clearLast g p = load frame >>= λ f. load declared >>= λ n. clearFrom g p f 0 n
+
+module _ (g ws : List ℕ) (r : ℕ) (ws₁ : List ℕ) (a : Ends ws (λ p. clearCalls g p 1 (getD ws callsUsed 0 - 1)) r ws₁) where
+  scene-is : (p : ℕ) (ts : List ℕ) → clearScene g p (raw ts ws) ≡ (clearCalls g p 1 (getD ws callsUsed 0 - 1) >>= λ _. clearLast g p) (raw ts ws)
   unfolding clearScene _>>=_ goOn load
   scene-is p ts = refl
 
-  pub frames-stop : (r ≡ 0 → ⊥) → Ends ws (clearScene g) r ws₁
+  pub calls-stop : (r ≡ 0 → ⊥) → Ends ws (clearScene g) r ws₁
   unfolding passed
-  frames-stop z = record { equal = λ p ts. rw (ne-eqb r 0 z) (sym (scene-is p ts ∙ after-number (load declared >>= λ n. clearFrom g p 0 n) a p ts z)) }
+  calls-stop z = record { equal = λ p ts. rw (ne-eqb r 0 z) (sym (scene-is p ts ∙ after-number (clearLast g p) a p ts z)) }
 
-  pub scene-cleared : (s : ℕ) (ws₂ : List ℕ) → r ≡ 0 → Ends ws₁ (λ p. clearFrom g p 0 (getD ws₁ declared 0)) s ws₂ → Ends ws (clearScene g) s ws₂
+  pub scene-cleared : (f n s : ℕ) (ws₂ : List ℕ) → r ≡ 0 → f ≡ getD ws₁ frame 0 → n ≡ getD ws₁ declared 0 → Ends ws₁ (λ p. clearFrom g p f 0 n) s ws₂ → Ends ws (clearScene g) s ws₂
   unfolding _>>=_ goOn load
-  scene-cleared s ws₂ z b = record { equal = λ p ts. b .equal p ts ∙ sym (scene-is p ts ∙ after-end (load declared >>= λ n. clearFrom g p 0 n) a p ts z) }
+  scene-cleared f n s ws₂ z e d b = record { equal = λ p ts. (rw (e, d) at (b .equal p ts)) ∙ sym (scene-is p ts ∙ after-end (clearLast g p) a p ts z) }

@@ -6,7 +6,7 @@ use reference::Grants;
 pub const TOKEN_WORDS: usize = 8_193;
 pub const CODE_WORDS: usize = 16_384;
 /// How many words a run must be lent besides those for shapes, entries and components.
-pub const RUN_WORDS: usize = 278_608;
+pub const RUN_WORDS: usize = 262_416;
 
 #[path = "../../../rust/src/ffi.rs"]
 mod ffi;

@@ -12,8 +12,8 @@ add-result c = search needs
 returns : tie.Need-returns
 returns c = search leaf-number
 
-word-of-requires : tie.Need-word-of-requires
-word-of-requires c κs = search needs
+holding-requires : tie.Need-holding-requires
+holding-requires c κs = search needs
 
 plain-word-requires : tie.Need-plain-word-requires
 plain-word-requires c κs = search needs
@@ -31,7 +31,7 @@ leaf-word-spec =
     mul-result
     add-result
     returns
-    word-of-requires
+    holding-requires
     plain-word-requires
     returns-2
     returns-3)

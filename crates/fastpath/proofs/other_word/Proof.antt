@@ -12,8 +12,8 @@ text-word-requires c κs = search needs
 returns : tie.Need-returns
 returns c = search other-string
 
-word-of-requires : tie.Need-word-of-requires
-word-of-requires c κs = search needs
+holding-requires : tie.Need-holding-requires
+holding-requires c κs = search needs
 
 living-word-requires : tie.Need-living-word-requires
 living-word-requires c κs = search needs
@@ -31,7 +31,7 @@ other-word-spec =
     mul-text-word
     text-word-requires
     returns
-    word-of-requires
+    holding-requires
     living-word-requires
     returns-2
     returns-3)

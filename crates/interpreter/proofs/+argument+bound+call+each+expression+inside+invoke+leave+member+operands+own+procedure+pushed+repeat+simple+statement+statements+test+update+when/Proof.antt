@@ -121,16 +121,13 @@ use Rattle.primaries.proofs.new_table.Reads as new-table-reads
 use Rattle.primaries.proofs.push_word.Reads as push-word-reads
 use Rattle.procedures.proofs.begin.Reads as begin-reads
 use Rattle.stores.proofs.arguments.arguments_held.Reads as arguments-held-reads
-use Rattle.stores.proofs.calls.loop_unit.Reads as loop-unit-reads
 use Rattle.stores.proofs.calls.resume.Reads as resume-reads
-use Rattle.stores.proofs.calls.running.Reads as running-reads
 use Rattle.stores.proofs.components.component_at.Reads as component-at-reads
 use Rattle.stores.proofs.components.count_at.Reads as count-at-reads
 use Rattle.stores.proofs.components.first_at.Reads as first-at-reads
 use Rattle.stores.proofs.counters.count.Reads as count-reads
 use Rattle.stores.proofs.shapes.is_destroyed.Reads as is-destroyed-reads
 use Rattle.stores.proofs.shapes.is_group.Reads as is-group-reads
-use Rattle.stores.proofs.variables.declared_count.Reads as declared-count-reads
 use Rattle.stores.proofs.variables.set_variable.Reads as set-variable-reads
 use Rattle.stores.proofs.words.word_at.Reads as word-at-reads
 use Rattle.tables.proofs.entries.store_entry.Reads as store-entry-reads
@@ -2190,12 +2187,6 @@ inside-returns-4 t c = looked-in _ _ _ _ _ _ _ _ _ _ _ (c .before .before .befor
 invoke-arguments-held-requires : (t : ℕ) → invoke-lts.Need-arguments-held-requires (
   arguments-held-reads.Asked,
   arguments-held-reads.Learnt,
-  declared-count-reads.Asked,
-  declared-count-reads.Learnt,
-  running-reads.Asked,
-  running-reads.Learnt,
-  loop-unit-reads.Asked,
-  loop-unit-reads.Learnt,
   begin-reads.Asked,
   begin-reads.Learnt,
   table-place-reads.Asked,
@@ -2215,99 +2206,9 @@ invoke-arguments-held-requires : (t : ℕ) → invoke-lts.Need-arguments-held-re
 ) (invoke-at t) invoke.Post
 invoke-arguments-held-requires t c κs = omega (arith, c .before .before .before .before .before .pre .1 .lent .lent .room .words)
 
-invoke-declared-count-requires : (t : ℕ) → invoke-lts.Need-declared-count-requires (
-  arguments-held-reads.Asked,
-  arguments-held-reads.Learnt,
-  declared-count-reads.Asked,
-  declared-count-reads.Learnt,
-  running-reads.Asked,
-  running-reads.Learnt,
-  loop-unit-reads.Asked,
-  loop-unit-reads.Learnt,
-  begin-reads.Asked,
-  begin-reads.Learnt,
-  table-place-reads.Asked,
-  table-place-reads.Learnt,
-  word-at-reads.Asked,
-  word-at-reads.Learnt,
-  start-of-reads.Asked,
-  start-of-reads.Learnt,
-  parameters-of-reads.Asked,
-  parameters-of-reads.Learnt,
-  body-of-reads.Asked,
-  body-of-reads.Learnt,
-  procedure-below t,
-  procedure.Post,
-  resume-reads.Asked,
-  resume-reads.Learnt,
-) (invoke-at t) invoke.Post
-invoke-declared-count-requires t c κs = omega (arith, c .before .before .before .before .before .before .before .pre .1 .lent .lent .room .words)
-
-invoke-running-requires : (t : ℕ) → invoke-lts.Need-running-requires (
-  arguments-held-reads.Asked,
-  arguments-held-reads.Learnt,
-  declared-count-reads.Asked,
-  declared-count-reads.Learnt,
-  running-reads.Asked,
-  running-reads.Learnt,
-  loop-unit-reads.Asked,
-  loop-unit-reads.Learnt,
-  begin-reads.Asked,
-  begin-reads.Learnt,
-  table-place-reads.Asked,
-  table-place-reads.Learnt,
-  word-at-reads.Asked,
-  word-at-reads.Learnt,
-  start-of-reads.Asked,
-  start-of-reads.Learnt,
-  parameters-of-reads.Asked,
-  parameters-of-reads.Learnt,
-  body-of-reads.Asked,
-  body-of-reads.Learnt,
-  procedure-below t,
-  procedure.Post,
-  resume-reads.Asked,
-  resume-reads.Learnt,
-) (invoke-at t) invoke.Post
-invoke-running-requires t c κs = omega (arith, c .before .before .before .before .before .before .before .before .before .pre .1 .lent .lent .room .words)
-
-invoke-loop-unit-requires : (t : ℕ) → invoke-lts.Need-loop-unit-requires (
-  arguments-held-reads.Asked,
-  arguments-held-reads.Learnt,
-  declared-count-reads.Asked,
-  declared-count-reads.Learnt,
-  running-reads.Asked,
-  running-reads.Learnt,
-  loop-unit-reads.Asked,
-  loop-unit-reads.Learnt,
-  begin-reads.Asked,
-  begin-reads.Learnt,
-  table-place-reads.Asked,
-  table-place-reads.Learnt,
-  word-at-reads.Asked,
-  word-at-reads.Learnt,
-  start-of-reads.Asked,
-  start-of-reads.Learnt,
-  parameters-of-reads.Asked,
-  parameters-of-reads.Learnt,
-  body-of-reads.Asked,
-  body-of-reads.Learnt,
-  procedure-below t,
-  procedure.Post,
-  resume-reads.Asked,
-  resume-reads.Learnt,
-) (invoke-at t) invoke.Post
-invoke-loop-unit-requires t c κs = omega (arith, c .before .before .before .before .before .before .before .before .before .before .before .pre .1 .lent .lent .room .words)
-
 invoke-begin-requires : (t : ℕ) → invoke-lts.Need-begin-requires (
   arguments-held-reads.Asked,
   arguments-held-reads.Learnt,
-  declared-count-reads.Asked,
-  declared-count-reads.Learnt,
-  running-reads.Asked,
-  running-reads.Learnt,
-  loop-unit-reads.Asked,
-  loop-unit-reads.Learnt,
   begin-reads.Asked,
   begin-reads.Learnt,
   table-place-reads.Asked,
@@ -2325,17 +2226,15 @@ invoke-begin-requires : (t : ℕ) → invoke-lts.Need-begin-requires (
   resume-reads.Asked,
   resume-reads.Learnt,
 ) (invoke-at t) invoke.Post
-invoke-begin-requires t c κs = record { room = c .before .before .before .before .before .before .before .before .before .before .before .before .before .pre .1 .lent .lent .room; small = c .before .before .before .before .before .before .before .before .before .before .before .before .before .pre .1 .small }
+invoke-begin-requires t c κs = record {
+  room = c .before .before .before .before .before .before .before .pre .1 .lent .lent .room;
+  small = c .before .before .before .before .before .before
+      .before .pre .1 .small;
+}
 
 invoke-enum-told : (t : ℕ) → invoke-lts.Need-enum-told (
   arguments-held-reads.Asked,
   arguments-held-reads.Learnt,
-  declared-count-reads.Asked,
-  declared-count-reads.Learnt,
-  running-reads.Asked,
-  running-reads.Learnt,
-  loop-unit-reads.Asked,
-  loop-unit-reads.Learnt,
   begin-reads.Asked,
   begin-reads.Learnt,
   table-place-reads.Asked,
@@ -2358,12 +2257,6 @@ invoke-enum-told t c = search needs
 invoke-enum-known-k : (t : ℕ) → invoke-lts.Need-enum-known-k (
   arguments-held-reads.Asked,
   arguments-held-reads.Learnt,
-  declared-count-reads.Asked,
-  declared-count-reads.Learnt,
-  running-reads.Asked,
-  running-reads.Learnt,
-  loop-unit-reads.Asked,
-  loop-unit-reads.Learnt,
   begin-reads.Asked,
   begin-reads.Learnt,
   table-place-reads.Asked,
@@ -2386,12 +2279,6 @@ invoke-enum-known-k t c = search needs
 invoke-same-length : (t : ℕ) → invoke-lts.Need-same-length (
   arguments-held-reads.Asked,
   arguments-held-reads.Learnt,
-  declared-count-reads.Asked,
-  declared-count-reads.Learnt,
-  running-reads.Asked,
-  running-reads.Learnt,
-  loop-unit-reads.Asked,
-  loop-unit-reads.Learnt,
   begin-reads.Asked,
   begin-reads.Learnt,
   table-place-reads.Asked,
@@ -2414,12 +2301,6 @@ invoke-same-length t c = search needs
 invoke-returns : (t : ℕ) → invoke-lts.Need-returns (
   arguments-held-reads.Asked,
   arguments-held-reads.Learnt,
-  declared-count-reads.Asked,
-  declared-count-reads.Learnt,
-  running-reads.Asked,
-  running-reads.Learnt,
-  loop-unit-reads.Asked,
-  loop-unit-reads.Learnt,
   begin-reads.Asked,
   begin-reads.Learnt,
   table-place-reads.Asked,
@@ -2437,20 +2318,12 @@ invoke-returns : (t : ℕ) → invoke-lts.Need-returns (
   resume-reads.Asked,
   resume-reads.Learnt,
 ) (invoke-at t) invoke.Post
-invoke-returns t c = begin-stops _ _ _ _ _ _ _ _ _ _ _ _ _ (c .before .before .before .before .before .before .before .before .before .before .before .before .before .arguments-held .ensures)
-    (c .before .before .before .before .before .before .before .before .before .before .before .declared-count .ensures)
-    (c .before .before .before .before .before .before .before .before .before .running .ensures) (c .before .before .before .before .before .before .before .loop-unit .ensures) _ _
-    (c .before .before .before .before .before .begin .ensures) _ _ (c .before .k .given .1)
+invoke-returns t c = begin-stops _ _ _ _ _ _ _ _ _ _ (c .before .before .before .before .before .before .before .arguments-held .ensures) _ _ (c .before .before .before .before .before
+    .begin .ensures) _ _ (c .before .k .given .1)
 
 invoke-table-place-requires : (t : ℕ) → invoke-lts.Need-table-place-requires (
   arguments-held-reads.Asked,
   arguments-held-reads.Learnt,
-  declared-count-reads.Asked,
-  declared-count-reads.Learnt,
-  running-reads.Asked,
-  running-reads.Learnt,
-  loop-unit-reads.Asked,
-  loop-unit-reads.Learnt,
   begin-reads.Asked,
   begin-reads.Learnt,
   table-place-reads.Asked,
@@ -2473,12 +2346,6 @@ invoke-table-place-requires t c κs = search needs
 invoke-word-at-requires : (t : ℕ) → invoke-lts.Need-word-at-requires (
   arguments-held-reads.Asked,
   arguments-held-reads.Learnt,
-  declared-count-reads.Asked,
-  declared-count-reads.Learnt,
-  running-reads.Asked,
-  running-reads.Learnt,
-  loop-unit-reads.Asked,
-  loop-unit-reads.Learnt,
   begin-reads.Asked,
   begin-reads.Learnt,
   table-place-reads.Asked,
@@ -2501,12 +2368,6 @@ invoke-word-at-requires t c κs = search needs
 invoke-start-of-requires : (t : ℕ) → invoke-lts.Need-start-of-requires (
   arguments-held-reads.Asked,
   arguments-held-reads.Learnt,
-  declared-count-reads.Asked,
-  declared-count-reads.Learnt,
-  running-reads.Asked,
-  running-reads.Learnt,
-  loop-unit-reads.Asked,
-  loop-unit-reads.Learnt,
   begin-reads.Asked,
   begin-reads.Learnt,
   table-place-reads.Asked,
@@ -2529,12 +2390,6 @@ invoke-start-of-requires t c κs = search needs
 invoke-parameters-of-requires : (t : ℕ) → invoke-lts.Need-parameters-of-requires (
   arguments-held-reads.Asked,
   arguments-held-reads.Learnt,
-  declared-count-reads.Asked,
-  declared-count-reads.Learnt,
-  running-reads.Asked,
-  running-reads.Learnt,
-  loop-unit-reads.Asked,
-  loop-unit-reads.Learnt,
   begin-reads.Asked,
   begin-reads.Learnt,
   table-place-reads.Asked,
@@ -2557,12 +2412,6 @@ invoke-parameters-of-requires t c κs = search needs
 invoke-add-a : (t : ℕ) → invoke-lts.Need-add-a (
   arguments-held-reads.Asked,
   arguments-held-reads.Learnt,
-  declared-count-reads.Asked,
-  declared-count-reads.Learnt,
-  running-reads.Asked,
-  running-reads.Learnt,
-  loop-unit-reads.Asked,
-  loop-unit-reads.Learnt,
   begin-reads.Asked,
   begin-reads.Learnt,
   table-place-reads.Asked,
@@ -2585,12 +2434,6 @@ invoke-add-a t c = omega (arith, c .before .start-of .ensures .1, c .parameters-
 invoke-body-of-requires : (t : ℕ) → invoke-lts.Need-body-of-requires (
   arguments-held-reads.Asked,
   arguments-held-reads.Learnt,
-  declared-count-reads.Asked,
-  declared-count-reads.Learnt,
-  running-reads.Asked,
-  running-reads.Learnt,
-  loop-unit-reads.Asked,
-  loop-unit-reads.Learnt,
   begin-reads.Asked,
   begin-reads.Learnt,
   table-place-reads.Asked,
@@ -2613,12 +2456,6 @@ invoke-body-of-requires t c κs = search needs
 invoke-add-procedure : (t : ℕ) → invoke-lts.Need-add-procedure (
   arguments-held-reads.Asked,
   arguments-held-reads.Learnt,
-  declared-count-reads.Asked,
-  declared-count-reads.Learnt,
-  running-reads.Asked,
-  running-reads.Learnt,
-  loop-unit-reads.Asked,
-  loop-unit-reads.Learnt,
   begin-reads.Asked,
   begin-reads.Learnt,
   table-place-reads.Asked,
@@ -2641,12 +2478,6 @@ invoke-add-procedure t c = omega (arith, c .before .before .before .before .star
 invoke-add-procedure-2 : (t : ℕ) → invoke-lts.Need-add-procedure-2 (
   arguments-held-reads.Asked,
   arguments-held-reads.Learnt,
-  declared-count-reads.Asked,
-  declared-count-reads.Learnt,
-  running-reads.Asked,
-  running-reads.Learnt,
-  loop-unit-reads.Asked,
-  loop-unit-reads.Learnt,
   begin-reads.Asked,
   begin-reads.Learnt,
   table-place-reads.Asked,
@@ -2669,12 +2500,6 @@ invoke-add-procedure-2 t c = omega (arith, c .before .before .before .before .st
 invoke-procedure-requires : (t : ℕ) → invoke-lts.Need-procedure-requires (
   arguments-held-reads.Asked,
   arguments-held-reads.Learnt,
-  declared-count-reads.Asked,
-  declared-count-reads.Learnt,
-  running-reads.Asked,
-  running-reads.Learnt,
-  loop-unit-reads.Asked,
-  loop-unit-reads.Learnt,
   begin-reads.Asked,
   begin-reads.Learnt,
   table-place-reads.Asked,
@@ -2692,17 +2517,31 @@ invoke-procedure-requires : (t : ℕ) → invoke-lts.Need-procedure-requires (
   resume-reads.Asked,
   resume-reads.Learnt,
 ) (invoke-at t) invoke.Post
-invoke-procedure-requires t c κs = (omega arith, record { lent = record { lent = still-lent-words _ _ _ _ (c .before .before .before .before .before .before .before .before .before .before .before .before .before .before .before .before .before .before .before .before .before .before .before .before .before .pre .1 .lent .lent) (let a0 = c .before .before .before .before .before .before .before .before .before .before .words in omega arith); deep = c .before .before .before .before .before .before .before .before .before .before .before .before .before .before .before .before .before .before .before .before .before .before .before .before .before .pre .1 .lent .deep }; room = omega (arith, c .before .before .before .before .before .before .before .before .before .before .before .before .before .before .before .before .before .before .before .before .before .before .before .before .before .pre .1 .lent .deep, c .before .before .before .before .start-of .ensures .1, c .before .before .before .parameters-of .ensures .1, c .before .before .body-of .ensures .1) })
+invoke-procedure-requires t c κs = (
+  omega arith,
+  record {
+    lent = record {
+      lent = still-lent-words _ _ _ _ (c .before .before .before .before .before .before .before .before .before .before
+          .before .before .before .before .before .before .before .before .before .pre .1 .lent .lent) (let a0 = c .before .before .before .before .before .before .before .before .before .before
+          .words in omega arith);
+      deep = c .before .before .before .before .before .before .before .before .before .before .before .before .before .before .before .before .before .before .before
+          .pre .1 .lent .deep;
+    };
+    room = omega (
+      arith,
+      c .before .before .before .before .before .before .before .before .before .before .before .before .before .before .before .before .before
+          .before .before .pre .1 .lent .deep,
+      c .before .before .before .before .start-of .ensures .1,
+      c .before .before .before .parameters-of .ensures .1,
+      c .before .before .body-of .ensures
+          .1,
+    );
+  },
+)
 
 invoke-enum-known-v : (t : ℕ) → invoke-lts.Need-enum-known-v (
   arguments-held-reads.Asked,
   arguments-held-reads.Learnt,
-  declared-count-reads.Asked,
-  declared-count-reads.Learnt,
-  running-reads.Asked,
-  running-reads.Learnt,
-  loop-unit-reads.Asked,
-  loop-unit-reads.Learnt,
   begin-reads.Asked,
   begin-reads.Learnt,
   table-place-reads.Asked,
@@ -2725,12 +2564,6 @@ invoke-enum-known-v t c = search needs
 invoke-resume-requires : (t : ℕ) → invoke-lts.Need-resume-requires (
   arguments-held-reads.Asked,
   arguments-held-reads.Learnt,
-  declared-count-reads.Asked,
-  declared-count-reads.Learnt,
-  running-reads.Asked,
-  running-reads.Learnt,
-  loop-unit-reads.Asked,
-  loop-unit-reads.Learnt,
   begin-reads.Asked,
   begin-reads.Learnt,
   table-place-reads.Asked,
@@ -2749,18 +2582,15 @@ invoke-resume-requires : (t : ℕ) → invoke-lts.Need-resume-requires (
   resume-reads.Learnt,
 ) (invoke-at t) invoke.Post
 invoke-resume-requires t c κs = let a0 = c .before .before .before .before .before .before .before .before .before .before .before .before .before .before .before .before .before .before
-    .before .words in let a1 = c .before .before .before .before .before .words2 in
-    omega (arith, c .before .before .before .before .before .before .before .before .before .before .before .before .before .before .before .before .before .before .before .before .before .before .before .before .before .before .before .before .before .before .before .before .before .before .pre .1 .lent .lent .room .words)
+    .before .words in let a1 = c .before .before .before .before .before .words2 in omega (
+      arith,
+      c .before .before .before .before .before .before .before .before .before .before .before
+          .before .before .before .before .before .before .before .before .before .before .before .before .before .before .before .before .before .pre .1 .lent .lent .room .words,
+    )
 
 invoke-enum-known-k-2 : (t : ℕ) → invoke-lts.Need-enum-known-k-2 (
   arguments-held-reads.Asked,
   arguments-held-reads.Learnt,
-  declared-count-reads.Asked,
-  declared-count-reads.Learnt,
-  running-reads.Asked,
-  running-reads.Learnt,
-  loop-unit-reads.Asked,
-  loop-unit-reads.Learnt,
   begin-reads.Asked,
   begin-reads.Learnt,
   table-place-reads.Asked,
@@ -2783,12 +2613,6 @@ invoke-enum-known-k-2 t c = search needs
 invoke-same-length-2 : (t : ℕ) → invoke-lts.Need-same-length-2 (
   arguments-held-reads.Asked,
   arguments-held-reads.Learnt,
-  declared-count-reads.Asked,
-  declared-count-reads.Learnt,
-  running-reads.Asked,
-  running-reads.Learnt,
-  loop-unit-reads.Asked,
-  loop-unit-reads.Learnt,
   begin-reads.Asked,
   begin-reads.Learnt,
   table-place-reads.Asked,
@@ -2811,12 +2635,6 @@ invoke-same-length-2 t c = search needs
 invoke-same-length-3 : (t : ℕ) → invoke-lts.Need-same-length-3 (
   arguments-held-reads.Asked,
   arguments-held-reads.Learnt,
-  declared-count-reads.Asked,
-  declared-count-reads.Learnt,
-  running-reads.Asked,
-  running-reads.Learnt,
-  loop-unit-reads.Asked,
-  loop-unit-reads.Learnt,
   begin-reads.Asked,
   begin-reads.Learnt,
   table-place-reads.Asked,
@@ -2839,12 +2657,6 @@ invoke-same-length-3 t c = search needs
 invoke-returns-2 : (t : ℕ) → invoke-lts.Need-returns-2 (
   arguments-held-reads.Asked,
   arguments-held-reads.Learnt,
-  declared-count-reads.Asked,
-  declared-count-reads.Learnt,
-  running-reads.Asked,
-  running-reads.Learnt,
-  loop-unit-reads.Asked,
-  loop-unit-reads.Learnt,
   begin-reads.Asked,
   begin-reads.Learnt,
   table-place-reads.Asked,
@@ -2862,32 +2674,20 @@ invoke-returns-2 : (t : ℕ) → invoke-lts.Need-returns-2 (
   resume-reads.Asked,
   resume-reads.Learnt,
 ) (invoke-at t) invoke.Post
-invoke-returns-2 t c = gives-value _ _ _ _ _ _ _ _ _ _ _ _ _ (c .before .before .before .before .before .before .before .before .before .before .before .before .before .before .before .before
-    .before .before .before .before .before .before .before .before .before .before .before .before .before .before .before .arguments-held .ensures)
-    (c .before .before .before .before .before .before .before .before .before .before .before .before .before .before .before .before .before .before .before .before .before .before .before
-    .before .before .before .before .before .before .declared-count .ensures)
-    (c .before .before .before .before .before .before .before .before .before .before .before .before .before .before .before .before .before .before .before .before .before .before .before
-    .before .before .before .before .running .ensures) (c .before .before .before .before .before .before .before .before .before .before .before .before .before .before .before .before
-    .before .before .before .before .before .before .before .before .before .loop-unit .ensures) _ _
-    (c .before .before .before .before .before .before .before .before .before .before .before .before .before .before .before .before .before .before .before .before .before .before .before
-    .begin .ensures) _ (c .before .before .before .before .before .before .before .before .before .before .before .before .before .before .before .before .before .before .before .enum-told
-    .given .1) _ _ _ _ _ _ (c .before .before .before .before .before .before .before .before .before .before .before .before .before .before .before .before .before .before .table-place
-    .ensures) (c .before .before .before .before .before .before .before .before .before .before .before .before .before .before .before .before .before .word-at .ensures)
-    (c .before .before .before .before .before .before .before .before .before .before .before .before .before .before .before .before .start-of .ensures .0)
-    (c .before .before .before .before .before .before .before .before .before .before .before .before .before .before .before .parameters-of .ensures .0) refl
-    (c .before .before .before .before .before .before .before .before .before .before .before .before .before .before .body-of .ensures .0) _ _ _
-    (c .before .before .before .before .before .before .before .before .before .before .before .procedure .ensures) _ _ (c .before .before .resume .ensures)
-    (c .before .before .before .before .before .v .given .1)
+invoke-returns-2 t c = gives-value _ _ _ _ _ _ _ _ _ _ (c .before .before .before .before .before .before .before .before .before .before .before .before .before .before .before .before
+    .before .before .before .before .before .before .before .before .before .arguments-held .ensures) _ _ (c .before .before .before .before .before .before .before .before .before .before
+    .before .before .before .before .before .before .before .before .before .before .before .before .before .begin .ensures) _ (c .before .before .before .before .before .before .before
+    .before .before .before .before .before .before .before .before .before .before .before .before .enum-told .given .1) _ _ _ _ _ _ (c .before .before .before .before .before .before
+    .before .before .before .before .before .before .before .before .before .before .before .before .table-place .ensures) (c .before .before .before .before .before .before .before .before
+    .before .before .before .before .before .before .before .before .before .word-at .ensures) (c .before .before .before .before .before .before .before .before .before .before .before
+    .before .before .before .before .before .start-of .ensures .0) (c .before .before .before .before .before .before .before .before .before .before .before .before .before .before .before
+    .parameters-of .ensures .0) refl (c .before .before .before .before .before .before .before .before .before .before .before .before .before .before .body-of .ensures .0) _ _ _ (c .before
+    .before .before .before .before .before .before .before .before .before .before .procedure .ensures) _ _ (c .before .before .resume .ensures) (c .before .before .before .before .before
+    .v .given .1)
 
 invoke-same-length-4 : (t : ℕ) → invoke-lts.Need-same-length-4 (
   arguments-held-reads.Asked,
   arguments-held-reads.Learnt,
-  declared-count-reads.Asked,
-  declared-count-reads.Learnt,
-  running-reads.Asked,
-  running-reads.Learnt,
-  loop-unit-reads.Asked,
-  loop-unit-reads.Learnt,
   begin-reads.Asked,
   begin-reads.Learnt,
   table-place-reads.Asked,
@@ -2910,12 +2710,6 @@ invoke-same-length-4 t c = search needs
 invoke-same-length-5 : (t : ℕ) → invoke-lts.Need-same-length-5 (
   arguments-held-reads.Asked,
   arguments-held-reads.Learnt,
-  declared-count-reads.Asked,
-  declared-count-reads.Learnt,
-  running-reads.Asked,
-  running-reads.Learnt,
-  loop-unit-reads.Asked,
-  loop-unit-reads.Learnt,
   begin-reads.Asked,
   begin-reads.Learnt,
   table-place-reads.Asked,
@@ -2938,12 +2732,6 @@ invoke-same-length-5 t c = search needs
 invoke-returns-3 : (t : ℕ) → invoke-lts.Need-returns-3 (
   arguments-held-reads.Asked,
   arguments-held-reads.Learnt,
-  declared-count-reads.Asked,
-  declared-count-reads.Learnt,
-  running-reads.Asked,
-  running-reads.Learnt,
-  loop-unit-reads.Asked,
-  loop-unit-reads.Learnt,
   begin-reads.Asked,
   begin-reads.Learnt,
   table-place-reads.Asked,
@@ -2961,20 +2749,14 @@ invoke-returns-3 : (t : ℕ) → invoke-lts.Need-returns-3 (
   resume-reads.Asked,
   resume-reads.Learnt,
 ) (invoke-at t) invoke.Post
-invoke-returns-3 t c = body-stops _ _ _ _ _ _ _ _ _ _ _ _ _ (c .before .before .before .before .before .before .before .before .before .before .before .before .before .before .before .before
-    .before .before .before .before .before .before .before .before .before .before .before .arguments-held .ensures)
-    (c .before .before .before .before .before .before .before .before .before .before .before .before .before .before .before .before .before .before .before .before .before .before .before
-    .before .before .declared-count .ensures) (c .before .before .before .before .before .before .before .before .before .before .before .before .before .before .before .before .before .before
-    .before .before .before .before .before .running .ensures) (c .before .before .before .before .before .before .before .before .before .before .before .before .before .before .before
-    .before .before .before .before .before .before .loop-unit .ensures) _ _
-    (c .before .before .before .before .before .before .before .before .before .before .before .before .before .before .before .before .before .before .before .begin .ensures) _
-    (c .before .before .before .before .before .before .before .before .before .before .before .before .before .before .before .enum-told .given .1) _ _ _ _ _ _
-    (c .before .before .before .before .before .before .before .before .before .before .before .before .before .before .table-place .ensures)
-    (c .before .before .before .before .before .before .before .before .before .before .before .before .before .word-at .ensures)
-    (c .before .before .before .before .before .before .before .before .before .before .before .before .start-of .ensures .0)
-    (c .before .before .before .before .before .before .before .before .before .before .before .parameters-of .ensures .0) refl
-    (c .before .before .before .before .before .before .before .before .before .before .body-of .ensures .0) _ _ _
-    (c .before .before .before .before .before .before .before .procedure .ensures) _ _ (c .before .k2 .given .1)
+invoke-returns-3 t c = body-stops _ _ _ _ _ _ _ _ _ _ (c .before .before .before .before .before .before .before .before .before .before .before .before .before .before .before .before
+    .before .before .before .before .before .arguments-held .ensures) _ _ (c .before .before .before .before .before .before .before .before .before .before .before .before .before .before
+    .before .before .before .before .before .begin .ensures) _ (c .before .before .before .before .before .before .before .before .before .before .before .before .before .before .before
+    .enum-told .given .1) _ _ _ _ _ _ (c .before .before .before .before .before .before .before .before .before .before .before .before .before .before .table-place .ensures) (c .before
+    .before .before .before .before .before .before .before .before .before .before .before .before .word-at .ensures) (c .before .before .before .before .before .before .before .before
+    .before .before .before .before .start-of .ensures .0) (c .before .before .before .before .before .before .before .before .before .before .before .parameters-of .ensures .0) refl (c
+    .before .before .before .before .before .before .before .before .before .before .body-of .ensures .0) _ _ _ (c .before .before .before .before .before .before .before .procedure
+    .ensures) _ _ (c .before .k2 .given .1)
 
 leave-returns : (t : ℕ) → leave-lts.Need-returns (
   place-of-reads.Asked,
@@ -9503,12 +9285,6 @@ pub +argument+bound+call+each+expression+inside+invoke+leave+member+operands+own
     (λ t. invoke-lts.spec (
       arguments-held-reads.Asked,
       arguments-held-reads.Learnt,
-      declared-count-reads.Asked,
-      declared-count-reads.Learnt,
-      running-reads.Asked,
-      running-reads.Learnt,
-      loop-unit-reads.Asked,
-      loop-unit-reads.Learnt,
       begin-reads.Asked,
       begin-reads.Learnt,
       table-place-reads.Asked,
@@ -9529,9 +9305,6 @@ pub +argument+bound+call+each+expression+inside+invoke+leave+member+operands+own
     (invoke-at t)
     invoke.Post
     (invoke-arguments-held-requires t)
-    (invoke-declared-count-requires t)
-    (invoke-running-requires t)
-    (invoke-loop-unit-requires t)
     (invoke-begin-requires t)
     (invoke-enum-told t)
     (invoke-enum-known-k t)

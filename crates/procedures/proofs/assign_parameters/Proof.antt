@@ -7,25 +7,22 @@ use Rattle.procedures.proofs.assign_parameters.Statement.{statement}
 use Rattle.procedures.proofs.assign_parameters.Tie as tie
 
 abbrev Inv-loop : tie.InvT-loop
-Inv-loop words₀ code grants a base n p k₀ words k = Turns (assigningFrom grants code a base p) 0 n words₀ words k
+Inv-loop words₀ grants base n p k₀ words k = Turns (assigningFrom grants base p) 0 n words₀ words k
 
 abbrev μ-loop : tie.MeasureT-loop
-μ-loop words₀ code grants a base n p k₀ words k = n - k
+μ-loop words₀ grants base n p k₀ words k = n - k
 
 loop-holds : tie.Need-loop-holds Inv-loop μ-loop
 loop-holds c = turns-first _ 0 _ _ (omega arith)
 
-add-word-at : tie.Need-add-word-at Inv-loop μ-loop
-add-word-at c = omega arith
+place-above-requires : tie.Need-place-above-requires Inv-loop μ-loop
+place-above-requires c κs = search needs
 
-word-at-requires : tie.Need-word-at-requires Inv-loop μ-loop
-word-at-requires c κs = search needs
+mul-w : tie.Need-mul-w Inv-loop μ-loop
+mul-w c = omega arith
 
-add-argument : tie.Need-add-argument Inv-loop μ-loop
-add-argument c = omega arith
-
-argument-requires : tie.Need-argument-requires Inv-loop μ-loop
-argument-requires c κs = search needs
+slice-read-w : tie.Need-slice-read-w Inv-loop μ-loop
+slice-read-w c = omega (arith, c .before .before .before .before .before .pre .words, c .before .before .before .loop .inv .long, c .before .place-above .ensures)
 
 assign-requires : tie.Need-assign-requires Inv-loop μ-loop
 assign-requires c κs = search still-room
@@ -61,10 +58,9 @@ assign-parameters-spec =
     Inv-loop
     μ-loop
     loop-holds
-    add-word-at
-    word-at-requires
-    add-argument
-    argument-requires
+    place-above-requires
+    mul-w
+    slice-read-w
     assign-requires
     enum-known-m
     same-length

@@ -1,10 +1,12 @@
-use Rattle.running.proofs.Ways.{way-malformed, way-parameters, way-main}
+use native.Mathlib.Omega.{arith}
+use Rattle.running.proofs.Ways.{way-malformed, way-parameters, few-tokens, way-main}
 use borrow.Author.Needs.{needs}
 use Rattle.running.proofs.run_read.Statement.{statement}
 use Rattle.running.proofs.run_read.Tie as tie
 use Rattle.running.proofs.run_read.Reads as reads
 use Rattle.running.proofs.run_read.Lts as lts
 use Rattle.code.proofs.parameters_of.Reads as parameters-of-reads
+use Rattle.numbering.proofs.number.Reads as number-reads
 use Rattle.reader.proofs.read.Reads as read-reads
 use Rattle.running.proofs.run_main.Reads as run-main-reads
 
@@ -29,9 +31,11 @@ same-length-2 c = search needs
 returns : tie.Need-returns
 returns c = search way-parameters
 
+number-requires : tie.Need-number-requires
+number-requires c κs = few-tokens _ _ _ _ (c .before .before .before .before .before .before .before .before .before .before .before .read .ensures .0) (c .before .before .before .before .before .before .before .before .before .before .before .read .ensures .1) _ _ _ (c .before .before .before .before .before .main .given .1)
+
 run-main-requires : tie.Need-run-main-requires
-run-main-requires c κs = c .before .before .before .before .before .before .before .before .before .before .before .before .before .before .before .before .before .before .before .before .pre
-    .ready .lent
+run-main-requires c κs = search needs
 
 same-length-3 : tie.Need-same-length-3
 same-length-3 c = search needs
@@ -55,7 +59,7 @@ same-length-8 : tie.Need-same-length-8
 same-length-8 c = search needs
 
 returns-3 : tie.Need-returns-3
-returns-3 c = search way-main
+returns-3 c = way-main _ _ _ _ _ _ _ (c .before .before .before .before .before .before .before .before .before .before .before .before .before .before .before .before .before .before .before .before .before .before .before .before .before .before .before .before .before .before .before .before .pre) _ _ _ (c .before .before .before .before .before .before .before .before .before .before .before .before .before .before .before .before .before .before .before .before .before .before .before .before .read .ensures .0) _ _ _ (c .before .before .before .before .before .before .before .before .before .before .before .before .before .before .before .before .before .before .main .given .1) _ (c .before .before .before .before .before .before .before .before .before .before .before .before .before .before .before .before .parameters-of .ensures .0) _ (c .before .before .before .before .before .before .before .before .before .before .before .before .before .before .before .before .before .before .before .before .before .before .before .before .read .ensures .1) (c .before .before .before .before .before .before .before .before .before .before .before .before .before .before .before .if1 .left) (let a = c .before .before .before .before .before .before .before .before .before .before .before .before .before .before .before .before .before .before .before .before .before .before .before .tokens in omega arith) _ _ _ (c .before .before .before .before .before .before .before .before .before .before .before .before .number .ensures) (c .before .before .before .before .before .before .before .before .before .before .before .before .before .before .before .before .before .before .before .before .before .before .before .before .before .before .before .before .before .before .before .before .fits .width) (c .before .before .before .before .before .before .before .before .before .before .before .before .before .before .before .before .before .before .before .before .before .before .before .before .before .before .before .before .before .before .before .before .fits .height) _ _ _ (c .before .before .before .before .run-main .ensures)
 
 pub run-read-spec : {M : Type 1} → statement M
 run-read-spec =
@@ -68,6 +72,7 @@ run-read-spec =
     same-length
     same-length-2
     returns
+    number-requires
     run-main-requires
     same-length-3
     same-length-4

@@ -28,7 +28,7 @@ same-length : tie.Need-same-length
 same-length c = search needs
 
 returns : tie.Need-returns
-returns c = program-drawn _ (replicate 8193 0) (replicate 16384 0) (replicate 354384 0) (replicate 16384 0) _ _ _
+returns c = program-drawn _ (replicate 8193 0) (replicate 16384 0) (replicate 338192 0) (replicate 16384 0) _ _ _
     (c .before .before .before .before .before .before .before .before .before .before .before .before .before .before .before .before .before .before .before .fits .width)
     (c .before .before .before .before .before .before .before .before .before .before .before .before .before .before .before .before .before .before .before .fits .height) refl refl refl
     refl _ _ _ _ (c .before .before .before .before .before .before .before .before .before .before .draw .ensures .0 .answered)

@@ -1,48 +1,35 @@
-use native.Mathlib.Omega.{arith}
-use borrow.Author.Needs.{needs}
-use lib.ListN.{length-set}
 use Rattle.stores.proofs.Laws.{declared-before, declares}
+use lib.ListN.{length-set}
+use borrow.Author.Needs.{needs}
 use Rattle.stores.proofs.variables.declare.Statement.{statement}
 use Rattle.stores.proofs.variables.declare.Tie as tie
 
-add-at : tie.Need-add-at
-add-at c = search needs
+is-declared-requires : tie.Need-is-declared-requires
+is-declared-requires c κs = search needs
 
-mul-if1 : tie.Need-mul-if1
-mul-if1 c = search needs
-
-slice-read-if1 : tie.Need-slice-read-if1
-slice-read-if1 c = search needs
+same-length : tie.Need-same-length
+same-length c = search needs
 
 returns : tie.Need-returns
 returns c = search declared-before
 
-slice-read-k : tie.Need-slice-read-k
-slice-read-k c = search needs
+set-variable-requires : tie.Need-set-variable-requires
+set-variable-requires c κs = search needs
 
-mul-words : tie.Need-mul-words
-mul-words c = search needs
+declared-count-requires : tie.Need-declared-count-requires
+declared-count-requires c κs = search needs
 
-slice-write-words : tie.Need-slice-write-words
-slice-write-words c = search needs
+set-order-requires : tie.Need-set-order-requires
+set-order-requires c κs = search needs
 
 add-words : tie.Need-add-words
 add-words c = search needs
 
-mul-words-2 : tie.Need-mul-words-2
-mul-words-2 c = search needs
+slice-write-words : tie.Need-slice-write-words
+slice-write-words c = search needs
 
-slice-write-words-2 : tie.Need-slice-write-words-2
-slice-write-words-2 c = simp length-set (omega arith)
-
-add-words-2 : tie.Need-add-words-2
-add-words-2 c = search needs
-
-slice-write-words-3 : tie.Need-slice-write-words-3
-slice-write-words-3 c = simp length-set (omega arith)
-
-same-length : tie.Need-same-length
-same-length c = search needs
+same-length-2 : tie.Need-same-length-2
+same-length-2 c = simp length-set (search needs)
 
 returns-2 : tie.Need-returns-2
 returns-2 c = search declares
@@ -51,17 +38,13 @@ pub declare-spec : {M : Type 1} → statement M
 declare-spec =
     tie.close
     (tie.spec
-    add-at
-    mul-if1
-    slice-read-if1
-    returns
-    slice-read-k
-    mul-words
-    slice-write-words
-    add-words
-    mul-words-2
-    slice-write-words-2
-    add-words-2
-    slice-write-words-3
+    is-declared-requires
     same-length
+    returns
+    set-variable-requires
+    declared-count-requires
+    set-order-requires
+    add-words
+    slice-write-words
+    same-length-2
     returns-2)

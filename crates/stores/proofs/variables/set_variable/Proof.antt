@@ -1,10 +1,19 @@
-use borrow.Author.Needs.{needs}
 use Rattle.stores.proofs.Laws.{sets-variable}
+use borrow.Author.Needs.{needs}
 use Rattle.stores.proofs.variables.set_variable.Statement.{statement}
 use Rattle.stores.proofs.variables.set_variable.Tie as tie
 
-add-words : tie.Need-add-words
-add-words c = search needs
+place-of-requires : tie.Need-place-of-requires
+place-of-requires c κs = search needs
+
+mul-with-word : tie.Need-mul-with-word
+mul-with-word c = search needs
+
+slice-read-with-word : tie.Need-slice-read-with-word
+slice-read-with-word c = search needs
+
+with-word-requires : tie.Need-with-word-requires
+with-word-requires c κs = search needs
 
 mul-words : tie.Need-mul-words
 mul-words c = search needs
@@ -19,4 +28,14 @@ returns : tie.Need-returns
 returns c = search sets-variable
 
 pub set-variable-spec : {M : Type 1} → statement M
-set-variable-spec = tie.close (tie.spec add-words mul-words slice-write-words same-length returns)
+set-variable-spec =
+    tie.close
+    (tie.spec
+    place-of-requires
+    mul-with-word
+    slice-read-with-word
+    with-word-requires
+    mul-words
+    slice-write-words
+    same-length
+    returns)
