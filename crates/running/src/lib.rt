@@ -45,11 +45,11 @@ fn enter(words: &mut [u64], grants: &[u64; 5], n: usize, width: i32, height: i32
     if !stores::counters::spend_one(words, counters::CALLS, limit) {
         return Ending::Stopped(81, 0);
     }
-    if !stores::calls::open_frame(words, 0, 2, n) {
+    if !frames::calls::open_frame(words, 0, 2, n) {
         return Ending::Stopped(20, 0);
     }
-    stores::variables::set_variable(words, 0, values::pack(Value::Integer(width)));
-    stores::variables::set_variable(words, 1, values::pack(Value::Integer(height)));
+    frames::variables::set_variable(words, 0, values::pack(Value::Integer(width)));
+    frames::variables::set_variable(words, 1, values::pack(Value::Integer(height)));
     Ending::Complete
 }
 

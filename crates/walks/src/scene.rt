@@ -1,9 +1,9 @@
 // The scene cleared: the shapes that variables hold are destroyed with all in them, call by call from main on.
 use crate::destroying;
+use frames::variables;
 use machine::counters;
-use machine::frames;
+use machine::frame_words;
 use machine::kinds;
-use stores::variables;
 ghost use Prim.Native.Nat.{_-_};
 ghost use lib.ListN.{getD};
 ghost use Rattle.machine.specs.Words.{unpacked};
@@ -48,9 +48,9 @@ fn clear_calls(words: &mut [u64], grants: &[u64; 5]) -> u64
     let calls = words[counters::CALLS] as usize;
     let mut d = 1;
     while d < calls {
-        let at = stores::calls::place_of(d);
-        let f = words[at + frames::FRAME] as usize;
-        let n = words[at + frames::DECLARED] as usize;
+        let at = frames::calls::place_of(d);
+        let f = words[at + frame_words::FRAME] as usize;
+        let n = words[at + frame_words::DECLARED] as usize;
         let r = clear_frame(words, grants, f, n);
         if r != 0 {
             return r;

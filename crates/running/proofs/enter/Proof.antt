@@ -5,9 +5,9 @@ use Rattle.running.proofs.enter.Statement.{statement}
 use Rattle.running.proofs.enter.Tie as tie
 use Rattle.running.proofs.enter.Reads as reads
 use Rattle.running.proofs.enter.Lts as lts
-use Rattle.stores.proofs.calls.open_frame.Reads as open-frame-reads
+use Rattle.frames.proofs.calls.open_frame.Reads as open-frame-reads
 use Rattle.stores.proofs.counters.spend_one.Reads as spend-one-reads
-use Rattle.stores.proofs.variables.set_variable.Reads as set-variable-reads
+use Rattle.frames.proofs.variables.set_variable.Reads as set-variable-reads
 use Rattle.values.proofs.pack.Reads as pack-reads
 
 returns : tie.Need-returns
