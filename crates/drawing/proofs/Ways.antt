@@ -25,8 +25,8 @@ use Rattle.writing.proofs.Decimals.{decimal-short}
 use Rattle.picture.proofs.Frames.{length-head, length-picture}
 use Rattle.scene.specs.Scene.{sceneIn}
 use Rattle.showing.specs.Showing.{Pictured}
-use Rattle.running.specs.declared.Ending.{Ending}
-use Rattle.running.specs.declared.Ending.the-variants.{Complete, Stopped}
+use Rattle.prologue.specs.declared.Ending.{Ending}
+use Rattle.prologue.specs.declared.Ending.the-variants.{Complete, Stopped}
 use Rattle.running.specs.Running.{Painted, Ran, paintingRun}
 use Rattle.lending.specs.Lending.{enough, Ready, called, Performed}
 use Rattle.lending.proofs.Admitted.{draws, performed-nothing, ready, performed, written}

@@ -8,7 +8,7 @@ use Rattle.meaning.specs.Program.{Outcome, drawing, specified}
 use Rattle.meaning.specs.Book.{Answer, nothingYet, book, booked}
 use Rattle.meaning.specs.Call.{granted, outAfterEnd}
 use Rattle.machine.specs.Layout.{stepsGranted}
-use Rattle.running.specs.declared.Ending.the-variants.{Complete}
+use Rattle.prologue.specs.declared.Ending.the-variants.{Complete}
 use Rattle.running.specs.Running.{Ran, paintingRun}
 use Rattle.lending.specs.Lending.{grantsOf}
 

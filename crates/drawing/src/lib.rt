@@ -1,6 +1,6 @@
 // Drawing: a program's picture.
 use answers::Answer;
-use running::Ending;
+use prologue::Ending;
 ghost use mathlib.Core.Path.{_≡_};
 ghost use Rattle.meaning.specs.Program.{drawing};
 ghost use Rattle.meaning.specs.Call.{outAfter};

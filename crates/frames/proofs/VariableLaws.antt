@@ -1,34 +1,23 @@
 -- Variables: what each way through the code does.
-use Prim.Native.Nat.{ℕ, zero, suc, _+_, _-_, _*_, _/_, _%_, _^_, _≤_, _<_}
+use Prim.Native.Nat.{ℕ, _+_, _-_, _/_, _%_}
 use mathlib.Core.Path.{_≡_, refl, ap, sym, _∙_}
 use mathlib.Core.Bool.{Bool, true, false, not}
-use mathlib.Core.List.{List, [], _∷_}
+use mathlib.Core.List.{List}
 use native.Mathlib.Omega.{arith}
-use native.Mathlib.Nat.{le-trans, mul-le-mul-left}
-use lib.ListN.{getD, set, length}
+use lib.ListN.{getD, set}
 use lib.Dec.{eqb}
-use lib.IntN.{ℤ}
-use lib.Signed.{mag}
-use mir.Syntax.{w32}
-use mir.Val.{toZ, ofZ, SFits}
-use mir.Facts.{toZ-ofZ}
-use borrow.Author.Tests.{not-true, not-false, le-leb, lt-leb, ne-eqb, eqb-true, eqb-false}
-use Rattle.meaning.specs.Integer.{bits}
+use borrow.Author.Tests.{ne-eqb}
 use Rattle.machine.specs.declared.Value.{Value}
-use Rattle.machine.specs.declared.Value.the-variants.{Table, Shape}
 use Rattle.machine.specs.declared.Answer.the-variants.{Good, Bad}
 use Rattle.machine.specs.Words.{kindIn, kindNothing, kindShape, numberIn, packed, unpacked}
 use Rattle.values.proofs.Laws.{unpacked-shape, by-kind}
-use Rattle.machine.specs.Layout.{stepsUsed, shapesUsed, tablesMade, declared, argumentsHeld, callsUsed, frame}
-use Rattle.machine.specs.Layout.{stepsGranted, shapesGranted, stackWords, argumentPlace, shapePlace, componentPlace, pathPlace, Room}
-use Rattle.machine.specs.Act.{raw, Out, done, stop, goOn, give, fail, refuse, load, store, held, spend, count, newTable, shown, passed, Answers, Passes, Pays, Gives, _>>=_}
-use Rattle.machine.specs.declared.Figure.{Figure}
-use Rattle.machine.specs.Shapes.{firstWord, pairWord, figureLaid, putFigure, lowNumber, highNumber, figureAt, kindGroup, destroyedAt, isGroupAt, newShape, destroy}
+use Rattle.machine.specs.Layout.{declared, frame}
+use Rattle.machine.specs.Layout.{argumentPlace}
+use Rattle.machine.specs.Act.{raw, Out, done, stop, goOn, give, fail, refuse, load, store, held, shown, passed, Answers, Passes, Gives, _>>=_}
+use Rattle.machine.specs.Shapes.{destroyedAt}
 use Rattle.machine.specs.Variables.{isDead, usable, wordIn, orderIn, withWord, withOrder, holdingAt, numberOf, holdingOf, holding, isDeclared, variable, setVariable, setOrder, declare, declareOnce}
-use Rattle.machine.specs.Groups.{componentAt, followersAt, firstAt, countAt}
-use Rattle.machine.specs.Loops.{markPlace}
-use Rattle.machine.specs.Stack.{argumentAt, push, dropTo}
-use Rattle.stores.proofs.Acts.{wordsIn, not-stopped, paid, short}
+use Rattle.machine.specs.Stack.{argumentAt}
+use Rattle.stores.proofs.Acts.{wordsIn, not-stopped}
 use Rattle.meaning.specs.Basics.{if_then_else_}
 
 module _ (ws : List ℕ) (w : ℕ) where

@@ -4,11 +4,10 @@ use Prim.Native.String.{String}
 use mathlib.Core.Path.{refl}
 use mathlib.Core.List.{List, [], _∷_, _++_}
 use lib.ListN.{replicate}
-use lib.IntN.{pos}
 use Rattle.meaning.specs.Basics.{bytes}
 use Rattle.meaning.specs.Grammar.{Reading, malformed, reading}
 use Rattle.meaning.specs.Program.{Operation, checking, drawing}
-use Rattle.meaning.specs.Book.{Answer, pictured, number}
+use Rattle.meaning.specs.Book.{Answer, number}
 use Rattle.meaning.specs.Call.{Call, answer}
 use Rattle.meaning.proofs.Computing.{everything}
 use Rattle.meaning.proofs.Rows.{Row, _gives_, Hold}

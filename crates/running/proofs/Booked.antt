@@ -10,7 +10,7 @@ use lib.Dec.{leb, eqb}
 use borrow.Author.Tests.{le-leb, lt-leb}
 use Rattle.meaning.specs.Basics.{if_then_else_, laidOver}
 use Rattle.meaning.specs.State.{State}
-use Rattle.meaning.specs.Run.{Resource, steps, shapes, entries, textBytes, calls, picture, Taking, Event, taken, gaveBack, taking, End, result, error, unfinished, Run, run, Action}
+use Rattle.meaning.specs.Run.{Resource, steps, shapes, entries, textBytes, calls, picture, Taking, Event, taken, gaveBack, End, result, error, unfinished, Run, run, Action}
 use Rattle.meaning.specs.Run as Run
 use Rattle.meaning.specs.Figure.{Figure}
 use Rattle.meaning.specs.Picture.{pictureOf}
@@ -24,8 +24,9 @@ use Rattle.machine.specs.Layout.{stepsUsed, stepsGranted}
 use Rattle.machine.specs.Act.{raw, done, stop}
 use Rattle.simulation.specs.Follows.{Grants, Together, gives, lacks, fails}
 use Rattle.scene.specs.Scene.{sceneIn}
-use Rattle.running.specs.declared.Ending.the-variants.{Complete, Stopped}
-use Rattle.running.specs.Running.{shownEnding, Painted, Ran, paintingRun}
+use Rattle.prologue.specs.declared.Ending.the-variants.{Complete, Stopped}
+use Rattle.prologue.specs.Prologue.{shownEnding}
+use Rattle.running.specs.Running.{Painted, Ran, paintingRun}
 use Rattle.lending.specs.Lending.{grantsOf}
 use Rattle.running.proofs.Leaving.{fit-spent}
 

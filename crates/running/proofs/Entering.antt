@@ -38,7 +38,7 @@ use Rattle.simulation.proofs.Results.{given, failed, After}
 use Rattle.simulation.proofs.Variables.{undeclared}
 use Rattle.simulation.proofs.Declaring.{put-after}
 use Rattle.simulation.proofs.Beginning.{Called, opens-main}
-use Rattle.running.specs.Running.{mainBegins, Blank}
+use Rattle.prologue.specs.Prologue.{mainBegins, Blank}
 
 some-none : {u : Value.Value} {A : Type 0} → some u ≡ Option.none → A
 some-none e = let z : _≡_ {A = ℕ} 0 1 = cc in absurd (omega arith)

@@ -43,10 +43,11 @@ use Rattle.simulation.proofs.Binding.{bind}
 use Rattle.simulation.proofs.Chaining.{regroup}
 use Rattle.simulation.proofs.Results.{failed}
 use Rattle.simulation.proofs.Body.{main-takes, main-brief, main-twice, main-frame, main-few, main-names, main-numbers, body-follows}
-use Rattle.running.specs.declared.Ending.{Ending}
-use Rattle.running.specs.declared.Ending.the-variants.{Stopped}
+use Rattle.prologue.specs.declared.Ending.{Ending}
+use Rattle.prologue.specs.declared.Ending.the-variants.{Stopped}
 use Rattle.running.specs.Specified.{paintRead}
-use Rattle.running.specs.Running.{mainBegins, mainFuel, bodyRun, mainEnds, mainRun, shownEnding, Painted, Ran, paintingRun, readingRun, Blank}
+use Rattle.prologue.specs.Prologue.{mainBegins, mainEnds, shownEnding, Blank}
+use Rattle.running.specs.Running.{mainFuel, bodyRun, mainRun, Painted, Ran, paintingRun, readingRun}
 use Rattle.running.proofs.Entering.{Entered, enters-not, enters}
 use Rattle.running.proofs.Leaving.{main-ends}
 

@@ -1,9 +1,9 @@
-use Rattle.running.proofs.Ways.{left-room, left-long, left-short, left-whole}
+use Rattle.prologue.proofs.Ways.{left-room, left-long, left-short, left-whole}
 use borrow.Author.Needs.{needs}
-use Rattle.running.proofs.leave.Statement.{statement}
-use Rattle.running.proofs.leave.Tie as tie
-use Rattle.running.proofs.leave.Reads as reads
-use Rattle.running.proofs.leave.Lts as lts
+use Rattle.prologue.proofs.leave.Statement.{statement}
+use Rattle.prologue.proofs.leave.Tie as tie
+use Rattle.prologue.proofs.leave.Reads as reads
+use Rattle.prologue.proofs.leave.Lts as lts
 use Rattle.scene.proofs.measure_scene.Reads as measure-scene-reads
 
 slice-write-words : tie.Need-slice-write-words

@@ -1,10 +1,10 @@
 use mathlib.Core.Path.{refl}
-use Rattle.running.proofs.Ways.{one-name, call-refused, frame-refused, both-entered}
+use Rattle.prologue.proofs.Ways.{one-name, call-refused, frame-refused, both-entered}
 use borrow.Author.Needs.{needs}
-use Rattle.running.proofs.enter.Statement.{statement}
-use Rattle.running.proofs.enter.Tie as tie
-use Rattle.running.proofs.enter.Reads as reads
-use Rattle.running.proofs.enter.Lts as lts
+use Rattle.prologue.proofs.enter.Statement.{statement}
+use Rattle.prologue.proofs.enter.Tie as tie
+use Rattle.prologue.proofs.enter.Reads as reads
+use Rattle.prologue.proofs.enter.Lts as lts
 use Rattle.frames.proofs.calls.open_frame.Reads as open-frame-reads
 use Rattle.stores.proofs.counters.spend_one.Reads as spend-one-reads
 use Rattle.frames.proofs.variables.set_variable.Reads as set-variable-reads

@@ -2,10 +2,10 @@ use mathlib.Core.Path.{sym}
 use native.Mathlib.Omega.{arith}
 use lib.Seq.{length-take-le}
 use Rattle.machine.specs.Layout.{firstArgument}
-use Rattle.running.proofs.Ways.{both-cleared}
+use Rattle.prologue.proofs.Ways.{both-cleared}
 use borrow.Author.Needs.{needs}
-use Rattle.running.proofs.clear_first.Statement.{statement}
-use Rattle.running.proofs.clear_first.Tie as tie
+use Rattle.prologue.proofs.clear_first.Statement.{statement}
+use Rattle.prologue.proofs.clear_first.Tie as tie
 
 element-copy-out-place-of : tie.Need-element-copy-out-place-of
 element-copy-out-place-of c = search needs
