@@ -21,7 +21,6 @@ use Rattle.machine.specs.Act.{raw, goOn, _>>=_, give, fail, refuse, store, pass
 use Rattle.machine.specs.Variables.{setVariable}
 use Rattle.machine.specs.Procedures.{openFrame}
 use Rattle.stores.proofs.Acts.{after-pass, after-refusal, after-gift}
-use Rattle.machine.specs.declared.Flow.the-variants as flows
 use Rattle.machine.specs.Show.{showScene}
 use Rattle.scene.specs.Measuring.{sizeWith, Finishes}
 use Rattle.prologue.specs.declared.Ending.the-variants.{Complete, Stopped}

@@ -33,8 +33,8 @@ use Rattle.prologue.specs.declared.Ending.{Ending}
 use Rattle.prologue.specs.declared.Ending.the-variants.{Complete, Stopped}
 use Rattle.lending.specs.Lending.{Ready}
 use Rattle.prologue.specs.Prologue.{mainBegins, Begins, mainEnds, shownEnding, Blank}
-use Rattle.running.specs.Running.{mainFuel, bodyRun, mainRun, Ran, paintingRun, readingRun, ReadyToRead}
-use Rattle.running.proofs.Painting.{read-malformed, read-parameters, read-body, no-sheet, too-long, as-read}
+use Rattle.painting.specs.Running.{mainFuel, bodyRun, mainRun, Ran, paintingRun, readingRun, ReadyToRead}
+use Rattle.painting.proofs.Painting.{read-malformed, read-parameters, read-body, no-sheet, too-long, as-read}
 
 -- a signed number handed over, as its bits
 abbrev held : ℤ → ℤ

@@ -11,7 +11,7 @@ ghost use Rattle.machine.specs.Layout.{Lent};
 ghost use Rattle.machine.specs.Evaluate.{setting};
 ghost use Rattle.lending.specs.Lending.{Ready};
 ghost use Rattle.prologue.specs.Prologue.{shownEnding};
-ghost use Rattle.running.specs.Running.{bodyRun, mainRun, Ran, paintingRun, readingRun, ReadyToRead};
+ghost use Rattle.painting.specs.Running.{bodyRun, mainRun, Ran, paintingRun, readingRun, ReadyToRead};
 
 // How deep expressions, statements and calls may be inside one another: 64 calls of a program's whole code need less than half of it.
 const FUEL: usize = 2097152;

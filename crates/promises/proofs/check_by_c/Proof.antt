@@ -1,8 +1,8 @@
--- `demands::check_by_c`: what `img_check` promises and tells is a call that has returned.
+-- `promises::check_by_c`: what `img_check` promises and tells is a call that has returned.
 use borrow.Author.Needs.{needs}
-use Rattle.demands.proofs.Calls.{checked-by-c}
-use Rattle.demands.proofs.check_by_c.Statement.{statement}
-use Rattle.demands.proofs.check_by_c.Tie as tie
+use Rattle.promises.proofs.Calls.{checked-by-c}
+use Rattle.promises.proofs.check_by_c.Statement.{statement}
+use Rattle.promises.proofs.check_by_c.Tie as tie
 
 slice-aggregate-img-check : tie.Need-slice-aggregate-img-check
 slice-aggregate-img-check c = search needs

@@ -1,8 +1,8 @@
--- `demands::draw`: what `drawing::draw` promises is a call that has returned.
+-- `promises::draw`: what `drawing::draw` promises is a call that has returned.
 use borrow.Author.Needs.{needs}
-use Rattle.demands.proofs.Calls.{drawn-so}
-use Rattle.demands.proofs.draw.Statement.{statement}
-use Rattle.demands.proofs.draw.Tie as tie
+use Rattle.promises.proofs.Calls.{drawn-so}
+use Rattle.promises.proofs.draw.Statement.{statement}
+use Rattle.promises.proofs.draw.Tie as tie
 
 draw-requires : tie.Need-draw-requires
 draw-requires c κs = search needs

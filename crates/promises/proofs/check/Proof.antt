@@ -1,8 +1,8 @@
--- `demands::check`: what `checking::check` promises is a call that has returned.
+-- `promises::check`: what `checking::check` promises is a call that has returned.
 use borrow.Author.Needs.{needs}
-use Rattle.demands.proofs.Calls.{checked-so}
-use Rattle.demands.proofs.check.Statement.{statement}
-use Rattle.demands.proofs.check.Tie as tie
+use Rattle.promises.proofs.Calls.{checked-so}
+use Rattle.promises.proofs.check.Statement.{statement}
+use Rattle.promises.proofs.check.Tie as tie
 
 check-requires : tie.Need-check-requires
 check-requires c κs = search needs

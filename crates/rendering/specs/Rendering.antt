@@ -1,4 +1,4 @@
--- What drawing does where enough is lent.
+-- What drawing comes to where enough is lent.
 use Prim.Native.Nat.{ℕ, suc}
 use mathlib.Core.Path.{_≡_}
 use mathlib.Core.List.{List}
@@ -9,7 +9,7 @@ use Rattle.meaning.specs.Book.{Answer, nothingYet, book, booked}
 use Rattle.meaning.specs.Call.{granted, outAfterEnd}
 use Rattle.machine.specs.Layout.{stepsGranted}
 use Rattle.prologue.specs.declared.Ending.the-variants.{Complete}
-use Rattle.running.specs.Running.{Ran, paintingRun}
+use Rattle.painting.specs.Running.{Ran, paintingRun}
 use Rattle.lending.specs.Lending.{grantsOf}
 
 abbrev pub drawingRun : List ℕ → ℤ → ℤ → List ℕ → Run Outcome

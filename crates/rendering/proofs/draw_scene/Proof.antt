@@ -1,7 +1,7 @@
-use Rattle.drawing.proofs.Ways.{scene-room, scene-long, scene-short, scene-drawn}
+use Rattle.rendering.proofs.Ways.{scene-room, scene-long, scene-short, scene-drawn}
 use borrow.Author.Needs.{needs}
-use Rattle.drawing.proofs.draw_scene.Statement.{statement}
-use Rattle.drawing.proofs.draw_scene.Tie as tie
+use Rattle.rendering.proofs.draw_scene.Statement.{statement}
+use Rattle.rendering.proofs.draw_scene.Tie as tie
 
 word-at-requires : tie.Need-word-at-requires
 word-at-requires c κs = search needs

@@ -1,8 +1,8 @@
--- `demands::told` meets its contract, by whether the number is 0.
+-- `promises::told` meets its contract, by whether the number is 0.
 use borrow.Author.Needs.{needs}
-use Rattle.demands.proofs.Calls.{told-picture, told-number}
-use Rattle.demands.proofs.told.Statement.{statement}
-use Rattle.demands.proofs.told.Tie as tie
+use Rattle.promises.proofs.Calls.{told-picture, told-number}
+use Rattle.promises.proofs.told.Statement.{statement}
+use Rattle.promises.proofs.told.Tie as tie
 
 element-copy-out-t6 : tie.Need-element-copy-out-t6
 element-copy-out-t6 c = search needs

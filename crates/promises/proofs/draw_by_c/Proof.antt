@@ -1,8 +1,8 @@
--- `demands::draw_by_c`: what `img_draw` promises and tells is a call that has returned.
+-- `promises::draw_by_c`: what `img_draw` promises and tells is a call that has returned.
 use borrow.Author.Needs.{needs}
-use Rattle.demands.proofs.Calls.{drawn-by-c}
-use Rattle.demands.proofs.draw_by_c.Statement.{statement}
-use Rattle.demands.proofs.draw_by_c.Tie as tie
+use Rattle.promises.proofs.Calls.{drawn-by-c}
+use Rattle.promises.proofs.draw_by_c.Statement.{statement}
+use Rattle.promises.proofs.draw_by_c.Tie as tie
 
 slice-aggregate-img-draw : tie.Need-slice-aggregate-img-draw
 slice-aggregate-img-draw c = search needs

@@ -26,9 +26,9 @@ use Rattle.simulation.specs.Follows.{Grants, Together, gives, lacks, fails}
 use Rattle.scene.specs.Scene.{sceneIn}
 use Rattle.prologue.specs.declared.Ending.the-variants.{Complete, Stopped}
 use Rattle.prologue.specs.Prologue.{shownEnding}
-use Rattle.running.specs.Running.{Painted, Ran, paintingRun}
+use Rattle.painting.specs.Running.{Painted, Ran, paintingRun}
 use Rattle.lending.specs.Lending.{grantsOf}
-use Rattle.running.proofs.Leaving.{fit-spent}
+use Rattle.painting.proofs.Leaving.{fit-spent}
 
 -- ---- takings of which none is a picture
 -- the one that lacks is no picture

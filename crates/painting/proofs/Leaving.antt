@@ -33,8 +33,8 @@ use Rattle.simulation.proofs.Results.{mapped, steps-told}
 use Rattle.simulation.proofs.Beginning.{returns-main}
 use Rattle.simulation.proofs.Showing.{sizes, lineLimit, Sizes, measures}
 use Rattle.prologue.specs.Prologue.{mainEnds}
-use Rattle.running.specs.Running.{Painted}
-use Rattle.running.proofs.Scenes.{shownAll, scene-gathers, by-kind-number, figure-meant, scene-shown, held-within}
+use Rattle.painting.specs.Running.{Painted}
+use Rattle.painting.proofs.Scenes.{shownAll, scene-gathers, by-kind-number, figure-meant, scene-shown, held-within}
 
 -- ---- what takings that fit come to, of a resource of which nothing is given back
 abbrev amountIn : Resource → Booked → ℕ

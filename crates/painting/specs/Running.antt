@@ -20,7 +20,7 @@ use Rattle.simulation.specs.Follows.{Grants, Follows}
 use Rattle.lending.specs.Lending.{Ready}
 use Rattle.scene.specs.Scene.{sceneIn}
 use Rattle.prologue.specs.Prologue.{mainBegins, mainEnds, shownEnding, Blank}
-use Rattle.running.specs.Specified.{paintRead}
+use Rattle.painting.specs.Specified.{paintRead}
 use Rattle.prologue.specs.declared.Ending.{Ending}
 
 -- how deep expressions, statements and calls may be inside one another: 64 calls of a program's whole code need less than half of it

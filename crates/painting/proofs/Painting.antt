@@ -45,11 +45,11 @@ use Rattle.simulation.proofs.Results.{failed}
 use Rattle.simulation.proofs.Body.{main-takes, main-brief, main-twice, main-frame, main-few, main-names, main-numbers, body-follows}
 use Rattle.prologue.specs.declared.Ending.{Ending}
 use Rattle.prologue.specs.declared.Ending.the-variants.{Stopped}
-use Rattle.running.specs.Specified.{paintRead}
+use Rattle.painting.specs.Specified.{paintRead}
 use Rattle.prologue.specs.Prologue.{mainBegins, mainEnds, shownEnding, Blank}
-use Rattle.running.specs.Running.{mainFuel, bodyRun, mainRun, Painted, Ran, paintingRun, readingRun}
-use Rattle.running.proofs.Entering.{Entered, enters-not, enters}
-use Rattle.running.proofs.Leaving.{main-ends}
+use Rattle.painting.specs.Running.{mainFuel, bodyRun, mainRun, Painted, Ran, paintingRun, readingRun}
+use Rattle.painting.proofs.Entering.{Entered, enters-not, enters}
+use Rattle.painting.proofs.Leaving.{main-ends}
 
 -- ---- main's body
 -- whether two names are one
