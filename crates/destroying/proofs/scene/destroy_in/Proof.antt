@@ -1,7 +1,7 @@
-use Rattle.walks.proofs.SceneLaws.{destroys-nothing, destroys-shape}
+use Rattle.destroying.proofs.SceneLaws.{destroys-nothing, destroys-shape}
 use borrow.Author.Needs.{needs}
-use Rattle.walks.proofs.scene.destroy_in.Statement.{statement}
-use Rattle.walks.proofs.scene.destroy_in.Tie as tie
+use Rattle.destroying.proofs.scene.destroy_in.Statement.{statement}
+use Rattle.destroying.proofs.scene.destroy_in.Tie as tie
 
 returns : tie.Need-returns
 returns c = destroys-nothing _ _ _ (c .if1 .taken)

@@ -1,35 +1,26 @@
 -- Destroying: what is done on the way keeps it, and what each way through the code does.
-use Prim.Native.Nat.{ℕ, suc, _+_, _-_, _<_}
+use Prim.Native.Nat.{ℕ, _+_, _-_}
 use mathlib.Core.Path.{_≡_, refl, sym, _∙_}
 use mathlib.Core.Bool.{Bool, true, false, not}
 use mathlib.Core.List.{List}
 use native.Mathlib.Omega.{arith}
-use lib.ListN.{getD, set, length}
+use lib.ListN.{length}
 use lib.Seq.{getD-set-other}
-use lib.Dec.{leb}
 use borrow.Author.Tests.{not-true, not-false}
 use Rattle.meaning.specs.Basics.{if_then_else_}
 use Rattle.machine.specs.Layout.{stepsUsed, stepsGranted, shapePlace}
-use Rattle.machine.specs.Act.{Raw, raw, Out, done, stop, Act, goOn, _>>=_, give, load, store, held, spend, count, passed, Passes, Gives}
-use Rattle.machine.specs.Shapes.{isGroupAt, destroyedAt, destroyedWord, destroy}
+use Rattle.machine.specs.Act.{Raw, raw, done, goOn, _>>=_, give, load, store, held, count, passed, Passes, Gives}
+use Rattle.machine.specs.Shapes.{isGroupAt, destroyedAt, destroy}
 use Rattle.machine.specs.Groups.{componentAt, wayPlace, destroyAll, destroyLiving}
 use Rattle.stores.proofs.Acts.{after-pass, after-refusal, after-gift}
 use Rattle.walks.specs.declared.Turn.{Turn}
 use Rattle.walks.specs.declared.Turn.the-variants.{At, Stopped}
 use Rattle.walks.specs.Walks.{Ends, walking, Turned, Under, backAt, Descended}
-use Rattle.walks.specs.Destroying.{destroyReached, destroyLeft}
-use Rattle.walks.proofs.WalkLaws.{Keeps, keeps-then, keeps-store, Steady}
-use Rattle.walks.proofs.TurnLaws.{turn-climbs, turn-over, turn-stops, turn-figure, turn-group}
+use Rattle.destroying.specs.Destroying.{destroyReached, destroyLeft}
+use Rattle.walks.proofs.WalkLaws.{Keeps, keeps-then, keeps-spend, Steady}
+use Rattle.walks.proofs.TurnLaws.{turn-climbs, turn-stops, turn-figure, turn-group}
 
 -- ---- the way is kept
-pub keeps-spend : (e : ℕ) (r : Raw) (counter granted amount number p : ℕ) → counter < 16 → Keeps e r (spend counter granted amount number p r)
-unfolding Keeps spend if_then_else_
-keeps-spend e r counter granted amount number p h = go (leb (getD (r .words) counter 0 + amount) granted)
-  where
-    go : (b : Bool) → Keeps {A = Unit {0}} e r (if b then (λ _. done (tt {0}) (raw (r .texts) (set (r .words) counter (getD (r .words) counter 0 + amount)))) else λ _. stop number p r)
-    go true = getD-set-other (r .words) counter (wayPlace e) _ 0 (λ q. omega arith)
-    go false = tt
-
 pub keeps-destroy : (e : ℕ) (r : Raw) (c : ℕ) → Keeps e r (destroy c r)
 unfolding Keeps destroy _>>=_ goOn load store
 keeps-destroy e r c = getD-set-other (r .words) (shapePlace c) (wayPlace e) _ 0 (λ q. omega arith)

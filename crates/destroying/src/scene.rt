@@ -1,5 +1,4 @@
 // The scene cleared: the shapes that variables hold are destroyed with all in them, call by call from main on.
-use crate::destroying;
 use frames::variables;
 use machine::counters;
 use machine::frame_words;
@@ -19,7 +18,7 @@ fn destroy_in(words: &mut [u64], grants: &[u64; 5], w: u64) -> u64
     if w % 8 != kinds::SHAPE {
         return 0;
     }
-    let r = destroying::destroy_living(words, grants, values::number_of(w));
+    let r = crate::destroy_living(words, grants, values::number_of(w));
     r
 }
 

@@ -1,9 +1,9 @@
 use Rattle.walks.proofs.TurnLaws.{way-bound, turn-over, descends}
-use Rattle.walks.proofs.DestroyLaws.{climbs-back, steps-short, figure-destroyed, group-destroyed}
+use Rattle.destroying.proofs.DestroyLaws.{climbs-back, steps-short, figure-destroyed, group-destroyed}
 use mathlib.Core.Path.{_∙_}
 use borrow.Author.Needs.{needs}
-use Rattle.walks.proofs.destroying.turn.Statement.{statement}
-use Rattle.walks.proofs.destroying.turn.Tie as tie
+use Rattle.destroying.proofs.turn.Statement.{statement}
+use Rattle.destroying.proofs.turn.Tie as tie
 
 sub-back-at : tie.Need-sub-back-at
 sub-back-at c = search needs

@@ -1,11 +1,11 @@
 use native.Mathlib.Omega.{arith}
 use borrow.Author.Needs.{needs}
 use Rattle.machine.specs.Layout.{shapesGranted}
 use Rattle.walks.specs.Walks.{owed}
-use Rattle.walks.specs.Destroying.{destroyReached, destroyLeft}
+use Rattle.destroying.specs.Destroying.{destroyReached, destroyLeft}
 use Rattle.walks.proofs.TurnLaws.{Going, go-first, under, go-over, go-next, go-less, go-stops}
-use Rattle.walks.proofs.destroying.destroy_within.Statement.{statement}
-use Rattle.walks.proofs.destroying.destroy_within.Tie as tie
+use Rattle.destroying.proofs.destroy_within.Statement.{statement}
+use Rattle.destroying.proofs.destroy_within.Tie as tie
 
 abbrev Inv-loop : tie.InvT-loop
 Inv-loop words₀ grants i d₀ k₀ n₀ words d k n = Going (destroyReached grants) destroyLeft grants i words₀ words d k n

@@ -1,9 +1,9 @@
 use native.Mathlib.Omega.{arith}
 use borrow.Author.Needs.{needs}
 use Prim.Native.Nat.{_-_}
-use Rattle.walks.proofs.SceneLaws.{Runs, runs-first, runs-room, runs-long, clearingFrom, clear-more, clear-stops, clear-all}
-use Rattle.walks.proofs.scene.clear_frame.Statement.{statement}
-use Rattle.walks.proofs.scene.clear_frame.Tie as tie
+use Rattle.destroying.proofs.SceneLaws.{Runs, runs-first, runs-room, runs-long, clearingFrom, clear-more, clear-stops, clear-all}
+use Rattle.destroying.proofs.scene.clear_frame.Statement.{statement}
+use Rattle.destroying.proofs.scene.clear_frame.Tie as tie
 
 abbrev Inv-loop : tie.InvT-loop
 Inv-loop words₀ grants f n k₀ words k = Runs (clearingFrom grants f) 0 n words₀ words k

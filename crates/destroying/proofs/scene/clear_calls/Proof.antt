@@ -3,9 +3,9 @@ use borrow.Author.Needs.{needs}
 use mathlib.Core.Path.{refl}
 use Prim.Native.Nat.{_-_}
 use Rattle.machine.specs.Variables.{clearCalls}
-use Rattle.walks.proofs.SceneLaws.{Runs, runs-first, runs-room, clear-more-calls, clear-stops-calls, clear-all-calls}
-use Rattle.walks.proofs.scene.clear_calls.Statement.{statement}
-use Rattle.walks.proofs.scene.clear_calls.Tie as tie
+use Rattle.destroying.proofs.SceneLaws.{Runs, runs-first, runs-room, clear-more-calls, clear-stops-calls, clear-all-calls}
+use Rattle.destroying.proofs.scene.clear_calls.Statement.{statement}
+use Rattle.destroying.proofs.scene.clear_calls.Tie as tie
 
 abbrev Inv-loop : tie.InvT-loop
 Inv-loop words₀ grants calls d₀ words d = Runs (clearCalls grants) 1 calls words₀ words d

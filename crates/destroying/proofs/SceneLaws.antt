@@ -1,20 +1,18 @@
 -- The scene cleared: what each way through the code does.
 use Prim.Native.Nat.{ℕ, suc, _+_, _-_, _^_, _≤_, _<_}
 use mathlib.Core.Path.{_≡_, refl, ap, sym, _∙_}
-use mathlib.Core.Bool.{Bool, true, false, not}
 use mathlib.Core.List.{List}
 use native.Mathlib.Omega.{arith}
 use lib.ListN.{getD, length}
-use lib.Dec.{eqb}
-use borrow.Author.Tests.{ne-eqb, eq-eqb}
+use borrow.Author.Tests.{ne-eqb}
 use Rattle.machine.specs.Words.{kindIn, kindShape, numberIn, unpacked}
 use Rattle.values.proofs.Laws.{unpacked-shape, by-kind}
 use Rattle.machine.specs.Layout.{declared, callsUsed, frame, fixedWords, callPlace, Room}
-use Rattle.machine.specs.Act.{Raw, raw, Out, done, stop, Act, goOn, _>>=_, give, load, held, passed}
+use Rattle.machine.specs.Act.{raw, Out, done, stop, Act, goOn, _>>=_, give, load, held, passed}
 use Rattle.machine.specs.Groups.{destroyLiving}
 use Rattle.machine.specs.Variables.{holdingOf, destroyIn, clearFrom, clearCalls, clearScene}
 use Rattle.walks.specs.Walks.{Ends}
 use Rattle.walks.proofs.TurnLaws.{room-same}
 
 -- ---- one act and then another
 module _ (k : Act (Unit {0})) {ws ws′ : List ℕ} {act : ℕ → Act (Unit {0})} {r : ℕ} (h : Ends ws act r ws′) (p : ℕ) (ts : List ℕ) where

@@ -1,12 +1,14 @@
 // Shapes destroyed with all in them. A step is counted for each component that is reached.
-use crate::Turn;
+pub mod scene;
+
 use stores::components;
 use stores::counters;
 use stores::shapes;
+use walks::Turn;
 ghost use Rattle.machine.specs.Layout.{Room};
 ghost use Rattle.machine.specs.Groups.{destroyAll, destroyLiving};
 ghost use Rattle.walks.specs.Walks.{Ends, walking, Turned, Under};
-ghost use Rattle.walks.specs.Destroying.{destroyReached, destroyLeft};
+ghost use Rattle.destroying.specs.Destroying.{destroyReached, destroyLeft};
 
 // A turn of the walk.
 fn turn(words: &mut [u64], grants: &[u64; 5], d: u32, k: u32, n: u32) -> Turn
@@ -14,7 +16,7 @@ fn turn(words: &mut [u64], grants: &[u64; 5], d: u32, k: u32, n: u32) -> Turn
     ensures { λ r. ⌜ Turned (destroyReached (now (grants .entry))) destroyLeft (now (grants .entry)) (now (words .entry)) d k n r (now (words .exit)) ⌝ }
 {
     if n == 0 {
-        return crate::back_at(words, d - 1);
+        return walks::back_at(words, d - 1);
     }
     let c = components::component_at(words, grants, k);
     if shapes::is_destroyed(words, c) {
@@ -27,7 +29,7 @@ fn turn(words: &mut [u64], grants: &[u64; 5], d: u32, k: u32, n: u32) -> Turn
     if !shapes::is_group(words, c) {
         return Turn::At(d, k + 1, n - 1);
     }
-    let r = crate::descend(words, grants, d, k, n - 1, c);
+    let r = walks::descend(words, grants, d, k, n - 1, c);
     r
 }
 
@@ -38,7 +40,7 @@ fn destroy_within(words: &mut [u64], grants: &[u64; 5], i: u32) -> u64
 {
     let mut d = 0;
     let mut k = components::first_at(words, i);
-    let mut n = crate::count_within(words, grants, 0, i);
+    let mut n = walks::count_within(words, grants, 0, i);
     while 0 < d + n {
         match turn(words, grants, d, k, n) {
             Turn::At(e, l, m) => {

@@ -1,7 +1,7 @@
-use Rattle.walks.proofs.DestroyLaws.{gone-before, living-gone}
+use Rattle.destroying.proofs.DestroyLaws.{gone-before, living-gone}
 use borrow.Author.Needs.{needs}
-use Rattle.walks.proofs.destroying.destroy_living.Statement.{statement}
-use Rattle.walks.proofs.destroying.destroy_living.Tie as tie
+use Rattle.destroying.proofs.destroy_living.Statement.{statement}
+use Rattle.destroying.proofs.destroy_living.Tie as tie
 
 is-destroyed-requires : tie.Need-is-destroyed-requires
 is-destroyed-requires c κs = search needs

@@ -1,7 +1,7 @@
-use Rattle.walks.proofs.SceneLaws.{calls-stop, scene-cleared}
+use Rattle.destroying.proofs.SceneLaws.{calls-stop, scene-cleared}
 use borrow.Author.Needs.{needs}
-use Rattle.walks.proofs.scene.clear_scene.Statement.{statement}
-use Rattle.walks.proofs.scene.clear_scene.Tie as tie
+use Rattle.destroying.proofs.scene.clear_scene.Statement.{statement}
+use Rattle.destroying.proofs.scene.clear_scene.Tie as tie
 
 clear-calls-requires : tie.Need-clear-calls-requires
 clear-calls-requires c κs = search needs

@@ -1,7 +1,7 @@
-use Rattle.walks.proofs.DestroyLaws.{figure-gone, group-gone}
+use Rattle.destroying.proofs.DestroyLaws.{figure-gone, group-gone}
 use borrow.Author.Needs.{needs}
-use Rattle.walks.proofs.destroying.destroy_all.Statement.{statement}
-use Rattle.walks.proofs.destroying.destroy_all.Tie as tie
+use Rattle.destroying.proofs.destroy_all.Statement.{statement}
+use Rattle.destroying.proofs.destroy_all.Tie as tie
 
 destroy-requires : tie.Need-destroy-requires
 destroy-requires c κs = search needs
