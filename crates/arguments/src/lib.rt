@@ -143,7 +143,7 @@ pub fn all_usable(words: &[u64], base: u64, n: u64) -> bool
 {
     let mut k = 0;
     while k < n {
-        if stores::variables::is_dead(words, argument(words, base, k)) {
+        if frames::variables::is_dead(words, argument(words, base, k)) {
             return false;
         }
         k += 1;

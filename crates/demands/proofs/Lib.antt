@@ -1,3 +1,3 @@
+pub mod Numbered
 pub mod Proved
-pub mod Calls
 pub mod Instances

@@ -1,5 +1,5 @@
--- THE THREE DEMANDS of document 00, said of what checking and drawing promise. proofs/Proved proves each; src/ calls each operation and shows
--- that its promise is the one spoken of here.
+-- THE THREE DEMANDS of document 00, said of what checking and drawing promise. proofs/Proved proves each; the crate `promises` calls each operation and
+-- shows that its promise is the one spoken of here.
 use Prim.Native.Nat.{ℕ, _≤_, _<_}
 use mathlib.Core.Path.{_≡_}
 use mathlib.Core.Logic.{_≢_}

@@ -114,10 +114,10 @@ fn on_mixed(
     requires { ⌜ Lent (now grants) (now texts) (now words) ⌝ }
     ensures { λ r. ⌜ Operates (now (program .entry)) (now (grants .entry)) (now (texts .entry)) (now (words .entry)) tag p a b r (now (texts .exit)) (now (words .exit)) ⌝ }
 {
-    if stores::variables::is_dead(words, a) {
+    if frames::variables::is_dead(words, a) {
         return Answer::Bad(30, p);
     }
-    if stores::variables::is_dead(words, b) {
+    if frames::variables::is_dead(words, b) {
         return Answer::Bad(30, p);
     }
     let r = on_usable(program, grants, texts, words, tag, p, a, b);

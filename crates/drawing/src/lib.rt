@@ -1,12 +1,12 @@
 // Drawing: a program's picture.
 use answers::Answer;
-use running::Ending;
+use prologue::Ending;
 ghost use mathlib.Core.Path.{_≡_};
 ghost use Rattle.meaning.specs.Program.{drawing};
 ghost use Rattle.meaning.specs.Call.{outAfter};
 ghost use Rattle.answers.specs.Answers.{meant};
 ghost use Rattle.lending.specs.Lending.{Ready, called, Performed};
-ghost use Rattle.drawing.specs.Drawing.{Drawn, Scene};
+ghost use Rattle.rendering.specs.Rendering.{Drawn};
 
 // Runs the program and draws its picture into the front of `out`; after a number `out` is as it was. The grants are steps, shapes, entries, text
 // bytes and calls; `tokens` must hold 8,193 words, `code` 16,384, `words` 262,416 + 5 × shapes + (5 + calls) × entries, and `texts` as many bytes as
@@ -63,31 +63,9 @@ fn draw_lent(
 {
     match running::run(program, width, height, grants, tokens, code, words, texts) {
         Ending::Complete => {
-            let r = draw_scene(program, width, height, grants, words, texts, out);
+            let r = rendering::draw_scene(program, width, height, grants, words, texts, out);
             r
         }
         Ending::Stopped(n, p) => Answer::Number(n, p, stores::words::word_at(words, 0), 0),
     }
-}
-
-// The picture of the scene that a run left, or 80 with the length that it needs.
-fn draw_scene<'a>(
-    program: &'a [u8],
-    width: i32,
-    height: i32,
-    grants: &[u64; 5],
-    words: &mut [u64],
-    texts: &'a [u8],
-    out: &mut [u8],
-) -> Answer
-    requires { ⌜ Scene (now program) width height (now grants) (now words) (now texts) ⌝ }
-    ensures { λ r. ⌜ Drawn (now (program .entry)) width height (now (grants .entry)) (now (out .entry)) (meant r) (now (out .exit)) ⌝ }
-{
-    let steps = stores::words::word_at(words, 0);
-    let length = showing::picture_length(words, width, height);
-    if out.len() < length {
-        return Answer::Number(80, 0, steps, length as u64);
-    }
-    showing::write_picture(program, texts, words, grants, width, height, out);
-    Answer::Picture(length as u64, steps)
 }

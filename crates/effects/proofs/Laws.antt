@@ -27,7 +27,7 @@ use Rattle.machine.specs.declared.Outcome.{Outcome}
 use Rattle.machine.specs.declared.Outcome.the-variants as outcome
 use Rattle.machine.specs.Effects.{shownFlow, Flows, declaring, copied, assigning, finishing, outcomeIn}
 use Rattle.stores.proofs.Acts.{after-pass, after-refusal}
-use Rattle.stores.proofs.Laws.{not-dead}
+use Rattle.frames.proofs.VariableLaws.{not-dead}
 
 -- ---- declarations
 module _ (ws : List ℕ) (slot p : ℕ) (ok : Bool) (ws₁ : List ℕ) (h : Passes ws 60 (declare slot) ok ws₁) where

@@ -21,7 +21,7 @@ pub fn declare(words: &mut [u64], slot: usize, p: u64) -> Flow
     requires { ⌜ fixedWords ≤ length (now words) ⌝ }
     ensures { λ r. ⌜ Flows (now (words .entry)) (declaring slot p) r (now (words .exit)) ⌝ }
 {
-    if !stores::variables::declare(words, slot) {
+    if !frames::variables::declare(words, slot) {
         return Flow::Stopped(60, p);
     }
     Flow::Onward
@@ -34,10 +34,10 @@ pub fn put_word(words: &mut [u64], grants: &[u64; 5], slot: usize, k: u64, p: u6
     requires { ⌜ (kindIn k ≡ kindShape → ⊥) ⌝ }
     ensures { λ r. ⌜ Flows (now (words .entry)) (assigning (now (grants .entry)) p slot k) r (now (words .exit)) ⌝ }
 {
-    if !stores::variables::is_declared(words, slot) {
+    if !frames::variables::is_declared(words, slot) {
         return Flow::Stopped(50, p);
     }
-    stores::variables::set_variable(words, slot, k);
+    frames::variables::set_variable(words, slot, k);
     Flow::Onward
 }
 
@@ -47,15 +47,15 @@ fn put_copy(words: &mut [u64], grants: &[u64; 5], slot: usize, k: u64, p: u64) -
     requires { ⌜ kindIn k ≡ kindShape ⌝ }
     ensures { λ r. ⌜ Flows (now (words .entry)) (assigning (now (grants .entry)) p slot k) r (now (words .exit)) ⌝ }
 {
-    if !stores::variables::is_declared(words, slot) {
+    if !frames::variables::is_declared(words, slot) {
         return Flow::Stopped(50, p);
     }
-    if stores::variables::is_dead(words, k) {
+    if frames::variables::is_dead(words, k) {
         return Flow::Stopped(30, p);
     }
     match groups::making::copy_shape(words, grants, p, values::number_of(k)) {
         Answer::Good(v) => {
-            stores::variables::set_variable(words, slot, values::pack(v));
+            frames::variables::set_variable(words, slot, values::pack(v));
             Flow::Onward
         }
         Answer::Bad(n, q) => Flow::Stopped(n, q),
@@ -130,7 +130,7 @@ pub fn open_loop(words: &mut [u64], slot: usize, i: u32) -> u64
     if !stores::shapes::is_group(words, i) {
         return 20;
     }
-    stores::variables::declare_once(words, slot);
+    frames::variables::declare_once(words, slot);
     0
 }
 

@@ -36,7 +36,7 @@ fn leaf_word(words: &[u64], w: u64) -> u64
         return kinds::INTEGER + 8 * (w / 4294967296);
     }
     if head == heads::NAME {
-        return plain_word(stores::variables::holding(words, (w / 4294967296) as usize));
+        return plain_word(frames::variables::holding(words, (w / 4294967296) as usize));
     }
     0
 }
@@ -212,7 +212,7 @@ fn other_word(words: &[u64], w: u64) -> u64
     if head == heads::NAME {
         return living_word(
             words,
-            stores::variables::holding(words, (w / 4294967296) as usize),
+            frames::variables::holding(words, (w / 4294967296) as usize),
         );
     }
     0

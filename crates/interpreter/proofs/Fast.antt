@@ -27,7 +27,7 @@ use Rattle.machine.specs.Layout.{frame, fixedWords, shapePlace, Lent, stepsUsed
 use Rattle.machine.specs.Act.{Raw, raw, Out, done, goOn, _>>=_, give, refuse, spend, shown, Answers}
 use Rattle.machine.specs.Shapes.{destroyedAt}
 use Rattle.machine.specs.Variables.{isDead, usable, wordIn, holding}
-use Rattle.stores.proofs.Laws.{not-dead, dead-shape, found}
+use Rattle.frames.proofs.VariableLaws.{not-dead, dead-shape, found}
 use Rattle.machine.specs.Operate.{withInteger, calculated, compared, remaindered, equality, answered, equated, operateOn, operate}
 use Rattle.values.proofs.Held.{by-number}
 use Rattle.fastpath.specs.Fast.{plainWord, leafWord, operatorWord, wordOn, sizesAgree, operationWord, fastAt, livingWord, otherWord, argumentAt, applies, Values}

@@ -253,7 +253,7 @@ fn invoke(
         size + 1,
     ) {
         Answer::Good(v) => {
-            stores::calls::resume(words, base as u64);
+            frames::calls::resume(words, base as u64);
             Answer::Good(v)
         }
         Answer::Bad(k, q) => Answer::Bad(k, q),
@@ -797,7 +797,7 @@ fn bound(
     ensures { λ r. ⌜ shownFlow r (now (texts .exit)) (now (words .exit))
         ≡ turn (statementAt fuel (setting (now (program .entry)) (now (code .entry)) (now (grants .entry))) b) slot i (raw (now (texts .entry)) (now (words .entry))) ⌝ }
 {
-    stores::variables::set_variable(words, slot, values::pack(Value::Shape(i)));
+    frames::variables::set_variable(words, slot, values::pack(Value::Shape(i)));
     let r = statement(program, code, grants, texts, words, fuel, b);
     r
 }

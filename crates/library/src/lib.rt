@@ -110,7 +110,7 @@ fn destroy(words: &mut [u64], grants: &[u64; 5], p: u64, base: u64, n: u64) -> A
         return Answer::Bad(20, p);
     }
     let i = arguments::shape_at(words, base, 0);
-    let number = walks::destroying::destroy_all(words, grants, i);
+    let number = destroying::destroy_all(words, grants, i);
     if number != 0 {
         return Answer::Bad(number, p);
     }
@@ -124,7 +124,7 @@ fn clear(words: &mut [u64], grants: &[u64; 5], p: u64, n: u64) -> Answer
     if n != 0 {
         return Answer::Bad(20, p);
     }
-    let number = walks::scene::clear_scene(words, grants);
+    let number = destroying::scene::clear_scene(words, grants);
     if number != 0 {
         return Answer::Bad(number, p);
     }

@@ -173,7 +173,7 @@ pub mod procedures {
 }
 
 // A word of a frame: what the variable holds is below this, and the number in the order of declarations counts so much. Which of a call's four words it is.
-pub mod frames {
+pub mod frame_words {
     pub const ORDER: u64 = 281474976710656;
 
     pub const NUMBERS: usize = 65536;

@@ -47,9 +47,6 @@ firstQuestions =
     ∷ sheet drawing (main "1;") (pos 1) (minus 1) gives number 72 0 0 0
     ∷ sheet checking (main "1;") (pos 0) (minus 1) gives pictured 0 0
     ∷ sheet drawing (replicate 32769 32) (pos 0) (pos 1) gives number 72 0 0 0
-    ∷ sheet drawing (replicate 32769 32) (pos 1) (pos 1) gives number 73 0 0 0
-    ∷ sheet checking (replicate 32769 32) (pos 1) (pos 1) gives number 73 0 0 0
-    ∷ sheet checking (replicate 32768 32) (pos 1) (pos 1) gives number 10 32768 0 0
     ∷ sheet drawing (bytes "(") (pos 1) (pos 1) gives number 10 0 0 0
     ∷ sheet drawing (bytes "def main(){x;}") (pos 1) (pos 1) gives number 20 0 0 0
     ∷ sheet drawing (bytes "def main(a){x;}") (pos 1) (pos 1) gives number 20 0 0 0

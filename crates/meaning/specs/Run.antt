@@ -51,7 +51,7 @@ goOn ts unfinished k = run ts unfinished
 -- one action and then another, for which `do` is written
 infixl 1 _>>=_ _>>_
 unfoldable pub _>>=_ : {A B : Type 0} → Action A → (A → Action B) → Action B
-(m >>= k) s = goOn (m s .takings) (m s .end) k
+(m >>= k) s = let r = m s in goOn (r .takings) (r .end) k
 
 abbrev pub _>>_ : {A B : Type 0} → Action A → Action B → Action B
 m >> k = m >>= λ _. k

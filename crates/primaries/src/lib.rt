@@ -45,7 +45,7 @@ pub fn leaf(words: &[u64], w: u64, p: u64) -> Answer
         tags::NONE => Answer::Good(Value::Nothing),
         tags::TRUTH => truth(w),
         _ => {
-            let r = stores::variables::variable(words, p, code::index_of(w));
+            let r = frames::variables::variable(words, p, code::index_of(w));
             r
         }
     }

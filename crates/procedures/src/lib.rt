@@ -51,12 +51,12 @@ pub fn begin(
     if n == 0 {
         return Answer::Bad(60, p);
     }
-    stores::calls::keep(words);
+    frames::calls::keep(words);
     let limit = grants[granted::CALLS];
     if !stores::counters::spend_one(words, counters::CALLS, limit) {
         return Answer::Bad(81, p);
     }
-    if !stores::calls::open_frame(words, top, m, n) {
+    if !frames::calls::open_frame(words, top, m, n) {
         return Answer::Bad(20, p);
     }
     words[counters::RUNNING] = callee as u64 + 1;

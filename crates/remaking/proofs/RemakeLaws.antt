@@ -14,7 +14,7 @@ use Rattle.machine.specs.Groups.{slotWord, unmarked, fillFrom, putGroup, newGro
 use Rattle.machine.proofs.Slots.{zeroed-other}
 use Rattle.walks.specs.Walks.{Doing}
 use Rattle.walks.proofs.WalkLaws.{Keeps, keeps-from, keeps-then, keeps-either, keeps-store, Steady}
-use Rattle.walks.proofs.DestroyLaws.{keeps-spend}
+use Rattle.walks.proofs.WalkLaws.{keeps-spend}
 
 three-sets : (ws : List ℕ) (i x y z e : ℕ) → getD (set (set (set ws (shapePlace i) x) (shapePlace i + 1) y) (shapePlace i + 2) z) (wayPlace e) 0 ≡ getD ws (wayPlace e) 0
 three-sets ws i x y z e =

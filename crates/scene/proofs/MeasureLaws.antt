@@ -24,7 +24,7 @@ use Rattle.walks.specs.declared.Turn.the-variants.{At, Stopped}
 use Rattle.walks.specs.Walks.{Ends, walking, Turned, Under, backAt, Descended}
 use Rattle.walks.proofs.WalkLaws.{Keeps, keeps-then, keeps-either, keeps-store, Steady}
 use Rattle.walks.proofs.TurnLaws.{room-same, turn-climbs, turn-stops, turn-figure, turn-group}
-use Rattle.walks.proofs.DestroyLaws.{keeps-spend}
+use Rattle.walks.proofs.WalkLaws.{keeps-spend}
 use Rattle.scene.specs.Scene.{figureFor}
 use Rattle.scene.specs.Measuring.{lineSize, sizeWith, measureReached, nothingLeft, Finishes}
 

@@ -1,10 +1,10 @@
 // How long the lines of a scene are. A step is counted for each component that is reached.
 use crate::lines;
+use frames::variables;
 use machine::counters;
 use machine::kinds;
 use stores::components;
 use stores::shapes;
-use stores::variables;
 use walks::Turn;
 ghost use Prim.Native.Nat.{_≤_};
 ghost use lib.ListN.{length, getD};

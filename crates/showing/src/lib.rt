@@ -1,11 +1,11 @@
 // The lines of a scene, written by a walk that counts nothing.
+use frames::variables;
 use machine::counters;
 use machine::granted;
 use machine::kinds;
 use scene::lines;
 use stores::components;
 use stores::shapes;
-use stores::variables;
 use walks::Turn;
 ghost use Prim.Native.Nat.{_+_, _≤_};
 ghost use mathlib.Core.Path.{_≡_};

@@ -1,4 +1,3 @@
 pub mod Acts
 pub mod Laws
 pub mod Turns
-mod CallLaws

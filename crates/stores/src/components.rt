@@ -6,7 +6,7 @@ use machine::granted;
 use machine::layout;
 ghost use Prim.Native.Nat.{_+_, _^_, _≤_, _<_};
 ghost use mathlib.Core.Path.{_≡_};
-ghost use lib.ListN.{length, getD};
+ghost use lib.ListN.{getD};
 ghost use Rattle.machine.specs.Layout.{componentPlace, pathPlace, Room};
 ghost use Rattle.machine.specs.Groups.{componentAt, followersAt, firstAt, countAt};
 ghost use Rattle.machine.specs.Loops.{markPlace};

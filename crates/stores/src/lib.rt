@@ -1,8 +1,6 @@
-// The words that are lent for a run: counters, shapes, components of groups, variables, and the arguments of calls under way.
+// The words that are lent for a run: counters, shapes, components of groups, and the stack of arguments.
 pub mod arguments;
-pub mod calls;
 pub mod components;
 pub mod counters;
 pub mod shapes;
-pub mod variables;
 pub mod words;

@@ -114,7 +114,7 @@ pub fn read_entry<'a>(
         return Answer::Bad(20, p);
     }
     let w = words[entry_place(grants, k - 1) + 2];
-    if stores::variables::is_dead(words, w) {
+    if frames::variables::is_dead(words, w) {
         return Answer::Bad(30, p);
     }
     Answer::Good(values::unpack(w))

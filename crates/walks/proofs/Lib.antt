@@ -1,4 +1,2 @@
 pub mod WalkLaws
 pub mod TurnLaws
-pub mod DestroyLaws
-mod SceneLaws

@@ -1,22 +1,20 @@
 -- A walk's loop does what the walk does: what is left at each depth stands in the way's words, and nothing that is done on the way changes them.
-use Prim.Native.Nat.{ℕ, zero, suc, _+_, _-_, _*_, _/_, _%_, _^_, _≤_, _<_}
+use Prim.Native.Nat.{ℕ, zero, suc, _+_, _-_, _*_, _^_, _≤_, _<_}
 use mathlib.Core.Path.{_≡_, refl, ap, sym, _∙_}
 use mathlib.Core.Bool.{Bool, true, false}
 use mathlib.Core.List.{List}
 use native.Mathlib.Omega.{arith}
 use native.Mathlib.Nat.{add-mul, mul-le-mul-right}
-use lib.ListN.{getD, set, length, length-set}
+use lib.ListN.{getD, set, length}
 use lib.Seq.{getD-set-same, getD-set-other}
-use lib.Dec.{eqb, ltb}
+use lib.Dec.{ltb, leb}
 use borrow.Author.Tests.{lt-ltb, le-ltb}
 use Rattle.meaning.specs.Basics.{if_then_else_}
-use Rattle.machine.specs.Layout.{fixedWords, waitingHeld, shapesGranted, shapePlace, Room}
-use Rattle.machine.specs.Act.{Raw, raw, Out, done, stop, Act, goOn, _>>=_, _>>_, give, load, store, held}
+use Rattle.machine.specs.Layout.{waitingHeld, shapesGranted}
+use Rattle.machine.specs.Act.{Raw, raw, Out, done, stop, Act, goOn, _>>=_, _>>_, give, load, store, held, spend}
 use Rattle.machine.specs.Shapes.{isGroupAt, destroyedAt}
 use Rattle.machine.specs.Groups.{componentAt, firstAt, countAt, wayWord, wayPlace, eachFrom, walkIn}
-use Rattle.walks.specs.declared.Turn.{Turn}
-use Rattle.walks.specs.declared.Turn.the-variants.{At, Stopped}
-use Rattle.walks.specs.Walks.{Doing, slotIn, leftIn, visitAt, levelFrom, aboveOf, restOf, restBy, Walks, countWithin, weight, owedAbove, owed, owedBy, unitOf, WalksBy, Turned, Under}
+use Rattle.walks.specs.Walks.{Doing, slotIn, leftIn, visitAt, levelFrom, aboveOf, restOf, countWithin, weight, owedAbove, owed, unitOf}
 
 -- ---- acts that keep a word of the way
 unfoldable pub Keeps : {A : Type 0} → ℕ → Raw → Out A → Type 0
@@ -45,6 +43,14 @@ keeps-either e r false x y h k = k
 pub keeps-store : (e : ℕ) (r : Raw) (i w : ℕ) → (i ≡ wayPlace e → ⊥) → Keeps e r (store i w r)
 unfolding Keeps store
 keeps-store e r i w h = getD-set-other (r .words) i (wayPlace e) w 0 (λ q. h (sym q))
+
+pub keeps-spend : (e : ℕ) (r : Raw) (counter granted amount number p : ℕ) → counter < 16 → Keeps e r (spend counter granted amount number p r)
+unfolding Keeps spend if_then_else_
+keeps-spend e r counter granted amount number p h = go (leb (getD (r .words) counter 0 + amount) granted)
+  where
+    go : (b : Bool) → Keeps {A = Unit {0}} e r (if b then (λ _. done (tt {0}) (raw (r .texts) (set (r .words) counter (getD (r .words) counter 0 + amount)))) else λ _. stop number p r)
+    go true = getD-set-other (r .words) counter (wayPlace e) _ 0 (λ q. omega arith)
+    go false = tt
 
 -- what is done keeps the way, as far as there are shapes
 pub record Steady (g : List ℕ) (reach leave : Doing) : Type 0 where

@@ -1,6 +1,4 @@
 // Walks over all that a group holds, depth first. Nesting is bounded by the shapes alone, so the way down stands in the words that are lent.
-pub mod destroying;
-pub mod scene;
 
 use machine::counters;
 use machine::granted;
@@ -9,7 +7,6 @@ use stores::shapes;
 ghost use Prim.Native.Nat.{_+_, _/_, _^_, _<_};
 ghost use mathlib.Core.Path.{_≡_};
 ghost use lib.ListN.{getD};
-ghost use Rattle.machine.specs.Layout.{Room};
 ghost use Rattle.machine.specs.Groups.{wayWord, wayPlace};
 ghost use Rattle.walks.specs.Walks.{slotIn, leftIn, countWithin, backAt, Descends, Descended, Entered};
 

@@ -121,14 +121,14 @@ use Rattle.primaries.proofs.new_table.Reads as new-table-reads
 use Rattle.primaries.proofs.push_word.Reads as push-word-reads
 use Rattle.procedures.proofs.begin.Reads as begin-reads
 use Rattle.stores.proofs.arguments.arguments_held.Reads as arguments-held-reads
-use Rattle.stores.proofs.calls.resume.Reads as resume-reads
+use Rattle.frames.proofs.calls.resume.Reads as resume-reads
 use Rattle.stores.proofs.components.component_at.Reads as component-at-reads
 use Rattle.stores.proofs.components.count_at.Reads as count-at-reads
 use Rattle.stores.proofs.components.first_at.Reads as first-at-reads
 use Rattle.stores.proofs.counters.count.Reads as count-reads
 use Rattle.stores.proofs.shapes.is_destroyed.Reads as is-destroyed-reads
 use Rattle.stores.proofs.shapes.is_group.Reads as is-group-reads
-use Rattle.stores.proofs.variables.set_variable.Reads as set-variable-reads
+use Rattle.frames.proofs.variables.set_variable.Reads as set-variable-reads
 use Rattle.stores.proofs.words.word_at.Reads as word-at-reads
 use Rattle.tables.proofs.entries.store_entry.Reads as store-entry-reads
 use Rattle.values.proofs.pack.Reads as pack-reads

@@ -9,7 +9,7 @@ use Rattle.code.proofs.body_of.Reads as body-of-reads
 use Rattle.code.proofs.frame_of.Reads as frame-of-reads
 use Rattle.code.proofs.start_of.Reads as start-of-reads
 use Rattle.interpreter.proofs.body.Reads as body-reads
-use Rattle.running.proofs.enter.Reads as enter-reads
+use Rattle.prologue.proofs.enter.Reads as enter-reads
 
 start-of-requires : tie.Need-start-of-requires
 start-of-requires c κs = search needs

@@ -4,7 +4,7 @@ use Rattle.running.proofs.run_main.Statement.{statement}
 use Rattle.running.proofs.run_main.Tie as tie
 use Rattle.running.proofs.run_main.Reads as reads
 use Rattle.running.proofs.run_main.Lts as lts
-use Rattle.running.proofs.leave.Reads as leave-reads
+use Rattle.prologue.proofs.leave.Reads as leave-reads
 use Rattle.running.proofs.run_body.Reads as run-body-reads
 
 run-body-requires : tie.Need-run-body-requires

@@ -8,7 +8,7 @@ use Rattle.showing.proofs.write_variables.Reads as reads
 use Rattle.showing.proofs.write_variables.Lts as lts
 use Rattle.showing.proofs.declared_word.Reads as declared-word-reads
 use Rattle.showing.proofs.write_in.Reads as write-in-reads
-use Rattle.stores.proofs.variables.declared_count.Reads as declared-count-reads
+use Rattle.frames.proofs.variables.declared_count.Reads as declared-count-reads
 
 abbrev Inv-loop : tie.InvT-loop
 Inv-loop program texts words₀ grants out₀ start n at₀ drawn₀ words out at drawn = Writing program texts grants words₀ n start out₀ words out drawn at

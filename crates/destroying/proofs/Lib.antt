@@ -1,0 +1,2 @@
+mod DestroyLaws
+mod SceneLaws

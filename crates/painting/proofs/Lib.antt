@@ -1,0 +1,5 @@
+mod Scenes
+mod Leaving
+mod Entering
+pub mod Painting
+pub mod Booked
