@@ -11,8 +11,7 @@ use Rattle.machine.specs.declared.Value.{Value}
 use Rattle.machine.specs.declared.Answer.the-variants.{Good, Bad}
 use Rattle.machine.specs.Words.{kindIn, kindNothing, kindShape, numberIn, packed, unpacked}
 use Rattle.values.proofs.Laws.{unpacked-shape, by-kind}
-use Rattle.machine.specs.Layout.{declared, frame}
-use Rattle.machine.specs.Layout.{argumentPlace}
+use Rattle.machine.specs.Layout.{declared, frame, argumentPlace}
 use Rattle.machine.specs.Act.{raw, Out, done, stop, goOn, give, fail, refuse, load, store, held, shown, passed, Answers, Passes, Gives, _>>=_}
 use Rattle.machine.specs.Shapes.{destroyedAt}
 use Rattle.machine.specs.Variables.{isDead, usable, wordIn, orderIn, withWord, withOrder, holdingAt, numberOf, holdingOf, holding, isDeclared, variable, setVariable, setOrder, declare, declareOnce}

@@ -34,7 +34,7 @@ bodyRun e main width height = do
   bodyAt mainFuel e (startIn main + 2) (bodyIn main)
   give tt
 
--- both
+-- main from its beginning to its return
 unfoldable pub mainRun : Setting → ℕ → ℤ → ℤ → Act (Unit {0})
 mainRun e main width height = bodyRun e main width height >>= λ _ r. mainEnds (e .program) (r .texts) (e .grants) r
 

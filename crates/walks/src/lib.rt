@@ -1,5 +1,4 @@
 // Walks over all that a group holds, depth first. Nesting is bounded by the shapes alone, so the way down stands in the words that are lent.
-
 use machine::counters;
 use machine::granted;
 use stores::components;
