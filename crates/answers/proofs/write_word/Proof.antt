@@ -1,8 +1,8 @@
--- `img::write_word` meets its contract: past the end there is nothing to write.
+-- `answers::write_word` meets its contract: past the end there is nothing to write.
 use borrow.Author.Needs.{needs}
-use Rattle.img.proofs.Written.{set-past}
-use Rattle.img.proofs.write_word.Statement.{statement}
-use Rattle.img.proofs.write_word.Tie as tie
+use Rattle.answers.proofs.Written.{set-past}
+use Rattle.answers.proofs.write_word.Statement.{statement}
+use Rattle.answers.proofs.write_word.Tie as tie
 
 mul-answer : tie.Need-mul-answer
 mul-answer c = search needs

@@ -1,8 +1,8 @@
--- `img::write_four` meets its contract: one word after another.
+-- `answers::write_four` meets its contract: one word after another.
 use borrow.Author.Needs.{needs}
-use Rattle.img.proofs.Written.{four-writes}
-use Rattle.img.proofs.write_four.Statement.{statement}
-use Rattle.img.proofs.write_four.Tie as tie
+use Rattle.answers.proofs.Written.{four-writes}
+use Rattle.answers.proofs.write_four.Statement.{statement}
+use Rattle.answers.proofs.write_four.Tie as tie
 
 write-word-requires : tie.Need-write-word-requires
 write-word-requires c κs = search needs

@@ -1,8 +1,8 @@
--- `img::write_answer` meets its contract: each case has its four words and its number.
+-- `answers::write_answer` meets its contract: each case has its four words and its number.
 use borrow.Author.Needs.{needs}
-use Rattle.img.proofs.Written.{write-picture, write-number}
-use Rattle.img.proofs.write_answer.Statement.{statement}
-use Rattle.img.proofs.write_answer.Tie as tie
+use Rattle.answers.proofs.Written.{write-picture, write-number}
+use Rattle.answers.proofs.write_answer.Statement.{statement}
+use Rattle.answers.proofs.write_answer.Tie as tie
 
 enum-known-r : tie.Need-enum-known-r
 enum-known-r c = search needs
