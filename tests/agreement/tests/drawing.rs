@@ -59,13 +59,18 @@ fn generated(mut lender: Lender, seeds: Range<u64>) {
 // without the length that is needed.
 #[test]
 fn generated_cases() {
-    generated(Lender::default(), 0..10_000);
+    generated(Lender::default(), 0..4_000);
 }
 
 // The work slices of these are looked at in one of eight calls, which takes half the time.
 #[test]
 fn more_generated_cases() {
-    generated(Lender::seldom(), 10_000..20_000);
+    generated(Lender::seldom(), 4_000..12_000);
+}
+
+#[test]
+fn still_more_generated_cases() {
+    generated(Lender::seldom(), 12_000..20_000);
 }
 
 // Would catch a component's step, shape or entry that falls due at another moment, a group gone through in another order, one destroyed or copied otherwise, and
