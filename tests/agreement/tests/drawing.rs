@@ -10,6 +10,7 @@ use generator::case::{needed, EVENTS};
 use generator::random::Random;
 use generator::{case, groups, heavy, limit, systematic, Case};
 use reference::decisions::rows;
+use reference::operation::with_room;
 use reference::sheet::GRANTS;
 use reference::{run_specified, Answer, End, Grants, Operation};
 use std::collections::BTreeSet;
@@ -44,13 +45,15 @@ fn work(grants: Grants) -> Work {
 /// short, and with out slices of no byte, of exactly the picture's length and one byte less.
 fn generated(mut lender: Lender, seeds: Range<u64>) {
     let count = seeds.end - seeds.start;
-    for seed in seeds {
-        let case = Case {
-            operation: DRAW,
-            ..case(seed)
-        };
-        assert_eq!(lender.misfit_around(&case, seed), None, "seed {seed}");
-    }
+    with_room(|| {
+        for seed in seeds {
+            let case = Case {
+                operation: DRAW,
+                ..case(seed)
+            };
+            assert_eq!(lender.misfit_around(&case, seed), None, "seed {seed}");
+        }
+    });
     assert!(lender.calls() > 6 * count, "only {} calls", lender.calls());
 }
 
@@ -78,11 +81,13 @@ fn still_more_generated_cases() {
 #[test]
 fn programs_with_groups() {
     let mut lender = Lender::seldom();
-    for seed in 0..6_000 {
-        let program = groups::program(&mut Random::new(seed));
-        let case = plain(DRAW, &program);
-        assert_eq!(lender.misfit_around(&case, seed), None, "seed {seed}");
-    }
+    with_room(|| {
+        for seed in 0..6_000 {
+            let program = groups::program(&mut Random::new(seed));
+            let case = plain(DRAW, &program);
+            assert_eq!(lender.misfit_around(&case, seed), None, "seed {seed}");
+        }
+    });
 }
 
 // Would catch a limit off by one, 73, 74, 75 or a constant's range asked in another order, and an out slice that is written before a limit is found to be

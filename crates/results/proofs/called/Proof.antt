@@ -1,7 +1,7 @@
-use Rattle.primaries.proofs.Laws.{library-called, library-stops}
+use Rattle.results.proofs.Laws.{library-called, library-stops}
 use borrow.Author.Needs.{needs}
-use Rattle.primaries.proofs.called.Statement.{statement}
-use Rattle.primaries.proofs.called.Tie as tie
+use Rattle.results.proofs.called.Statement.{statement}
+use Rattle.results.proofs.called.Tie as tie
 
 arguments-held-requires : tie.Need-arguments-held-requires
 arguments-held-requires c κs = search needs

@@ -1,7 +1,7 @@
-use Rattle.primaries.proofs.Laws.{word-refused, word-pushed}
+use Rattle.results.proofs.Laws.{word-refused, word-pushed}
 use borrow.Author.Needs.{needs}
-use Rattle.primaries.proofs.push_word.Statement.{statement}
-use Rattle.primaries.proofs.push_word.Tie as tie
+use Rattle.results.proofs.push_word.Statement.{statement}
+use Rattle.results.proofs.push_word.Tie as tie
 
 push-requires : tie.Need-push-requires
 push-requires c κs = search needs

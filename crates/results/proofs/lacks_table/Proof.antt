@@ -1,7 +1,7 @@
-use Rattle.primaries.proofs.Laws.{needs-none, needs-table}
+use Rattle.results.proofs.Laws.{needs-none, needs-table}
 use borrow.Author.Needs.{needs}
-use Rattle.primaries.proofs.lacks_table.Statement.{statement}
-use Rattle.primaries.proofs.lacks_table.Tie as tie
+use Rattle.results.proofs.lacks_table.Statement.{statement}
+use Rattle.results.proofs.lacks_table.Tie as tie
 
 returns : tie.Need-returns
 returns c = search needs-none

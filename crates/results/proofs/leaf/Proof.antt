@@ -1,7 +1,7 @@
-use Rattle.primaries.proofs.Laws.{is-number, is-string, is-none, is-truth, is-name}
+use Rattle.results.proofs.Laws.{is-number, is-string, is-none, is-truth, is-name}
 use borrow.Author.Needs.{needs}
-use Rattle.primaries.proofs.leaf.Statement.{statement}
-use Rattle.primaries.proofs.leaf.Tie as tie
+use Rattle.results.proofs.leaf.Statement.{statement}
+use Rattle.results.proofs.leaf.Tie as tie
 
 tag-of-requires : tie.Need-tag-of-requires
 tag-of-requires c κs = search needs

@@ -1,7 +1,7 @@
-use Rattle.primaries.proofs.Laws.{is-read, is-operator}
+use Rattle.results.proofs.Laws.{is-read, is-operator}
 use borrow.Author.Needs.{needs}
-use Rattle.primaries.proofs.apply.Statement.{statement}
-use Rattle.primaries.proofs.apply.Tie as tie
+use Rattle.results.proofs.apply.Statement.{statement}
+use Rattle.results.proofs.apply.Tie as tie
 
 number-of-requires : tie.Need-number-of-requires
 number-of-requires c κs = search needs

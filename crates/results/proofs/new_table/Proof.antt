@@ -1,7 +1,7 @@
-use Rattle.primaries.proofs.Laws.{no-size, negative-size, new-table}
+use Rattle.results.proofs.Laws.{no-size, negative-size, new-table}
 use borrow.Author.Needs.{needs}
-use Rattle.primaries.proofs.new_table.Statement.{statement}
-use Rattle.primaries.proofs.new_table.Tie as tie
+use Rattle.results.proofs.new_table.Statement.{statement}
+use Rattle.results.proofs.new_table.Tie as tie
 
 kind-of-requires : tie.Need-kind-of-requires
 kind-of-requires c κs = search needs

@@ -29,7 +29,7 @@ use Rattle.machine.specs.Operate.{withInteger, operate}
 use Rattle.stores.proofs.Acts.{after-pass, after-refusal}
 use Rattle.machine.specs.Library.{callLibrary}
 use Rattle.machine.specs.Primaries.{leaf, sized, lacksTable, applied, pushWord, called}
-use Rattle.primaries.proofs.Acts.{goes-on, stops}
+use Rattle.results.proofs.Acts.{goes-on, stops}
 
 -- a signed local holds bits, and its value is read back from them
 abbrev held : ℤ → ℤ
