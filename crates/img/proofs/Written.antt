@@ -1,40 +1,19 @@
--- Four words written one by one lie over the front of the slice.
-use Prim.Native.Nat.{ℕ, zero, suc, _≤_}
-use mathlib.Core.Path.{_≡_, refl, ap, _∙_}
-use mathlib.Core.List.{List, [], _∷_}
-use native.Mathlib.Nat.{not-suc-le-zero, le-of-suc-le-suc}
-use lib.ListN.{length, set}
+-- An operation's promise and its answer told make what its function for C promises.
+use Prim.Native.Nat.{ℕ}
+use mathlib.Core.Path.{_≡_, _∙_}
+use mathlib.Core.List.{List}
 use lib.IntN.{ℤ}
 use mir.Syntax.{w32}
 use mir.Val.{toZ, ofZ, SFits}
 use mir.Facts.{toZ-ofZ}
-use Rattle.meaning.specs.Basics.{laidOver}
 use Rattle.meaning.specs.Program.{Operation}
 use Rattle.meaning.specs.Call.{Call, outAfter}
 use Rattle.answers.specs.declared.Answer as Declared
-use Rattle.answers.specs.declared.Answer.the-variants.{Picture, Number}
-use Rattle.answers.specs.Answers.{meant}
+use Rattle.answers.specs.Answers.{meant, Told}
 use Rattle.checking.specs.Checking.{Checked}
 use Rattle.formatting.specs.Formatting.{Formatted}
 use Rattle.lending.specs.Lending.{called, Performed}
-use Rattle.img.specs.Numbers.{Told, Checks, Formats, Performs, numbersOf}
-
-four : (a b c d : ℕ) (xs : List ℕ) → set (set (set (set xs 0 a) 1 b) 2 c) 3 d ≡ laidOver (a ∷ b ∷ c ∷ d ∷ []) xs
-unfolding laidOver
-four a b c d [] = refl
-four a b c d (x ∷ []) = refl
-four a b c d (x ∷ y ∷ []) = refl
-four a b c d (x ∷ y ∷ z ∷ []) = refl
-four a b c d (x ∷ y ∷ z ∷ u ∷ xs) = refl
-
-module _ (r : Declared.Answer) (words words′ : List ℕ) where
-  pub write-picture : (l n : ℕ) → r ≡ Picture l n → words′ ≡ set (set (set (set words 0 0) 1 0) 2 n) 3 l → Told (meant r) words words′ 0
-  unfolding numbersOf meant
-  write-picture l n e h = record { written = rw (e, h) (four 0 0 n l words); returned = rw e }
-
-  pub write-number : (m p n l : ℕ) → r ≡ Number m p n l → words′ ≡ set (set (set (set words 0 m) 1 p) 2 n) 3 l → Told (meant r) words words′ m
-  unfolding numbersOf meant
-  write-number m p n l e h = record { written = rw (e, h) (four m p n l words); returned = rw e }
+use Rattle.img.specs.Operations.{Checks, Formats, Performs}
 
 pub checks : (program g tokens code front : List ℕ) (r : Declared.Answer) (tokens′ code′ front′ : List ℕ) (n : ℕ) →
     Checked program g tokens code r tokens′ code′ → Told (meant r) front front′ n → Checks program g tokens code front tokens′ code′ front′ n
@@ -75,15 +54,3 @@ module _ (o : Operation) (program : List ℕ) (width height : ℤ) (f : SFits w3
   pub draws : (out′ : List ℕ) → out′ ≡ outAfter (called o program (held width) (held height) g tokens code words texts out)
       → out′ ≡ outAfter (called o program width height g tokens code words texts out)
   draws out′ h = h ∙ rw (toZ-ofZ f, toZ-ofZ f₂)
-
--- a word that lies past the end
-pub set-past : (xs : List ℕ) (i w : ℕ) → length xs ≤ i → xs ≡ set xs i w
-set-past [] i w h = refl
-set-past (x ∷ xs) zero w h = absurd (not-suc-le-zero h)
-set-past (x ∷ xs) (suc i) w h = ap (_∷_ x) (set-past xs i w (le-of-suc-le-suc h))
-
--- one write after another
-pub four-writes : (a b c d : ℕ) (xs xs₁ xs₂ xs₃ xs₄ : List ℕ) →
-    xs₁ ≡ set xs 0 a → xs₂ ≡ set xs₁ 1 b → xs₃ ≡ set xs₂ 2 c → xs₄ ≡ set xs₃ 3 d → xs₄ ≡ set (set (set (set xs 0 a) 1 b) 2 c) 3 d
-four-writes a b c d xs xs₁ xs₂ xs₃ xs₄ h₁ h₂ h₃ h₄ =
-    h₄ ∙ ap (λ (ys : List ℕ). set ys 3 d) (h₃ ∙ ap (λ (ys : List ℕ). set ys 2 c) (h₂ ∙ ap (λ (ys : List ℕ). set ys 1 b) h₁))

@@ -1,15 +1,12 @@
 // The operations, for C and Rust.
-use answers::Answer;
 ghost use mathlib.Core.Path.{_≡_};
-ghost use lib.ListN.{set};
 ghost use mathlib.Core.List.{[], _∷_};
 ghost use Rattle.meaning.specs.Program.{drawing};
 ghost use Rattle.meaning.specs.Call.{outAfter};
 ghost use Rattle.canonical.specs.Call.{textOut};
 ghost use Rattle.lending.specs.Lending.{called};
 ghost use Rattle.checking.specs.Checking.{calledWith};
-ghost use Rattle.answers.specs.Answers.{meant};
-ghost use Rattle.img.specs.Numbers.{Told, Checks, Formats, Performs};
+ghost use Rattle.img.specs.Operations.{Checks, Formats, Performs};
 
 // Reads the program and says whether it is well formed: checking::check, with its answer in four words at the front of `answer`, as far as that
 // reaches. The words are the number (0: well formed), its place, the steps and the length. The number is returned as well.
@@ -30,7 +27,7 @@ pub extern "C" fn img_check(
 {
     let grants = [steps, shapes, entries, bytes, calls];
     let r = checking::check(program, &grants, tokens, code);
-    write_answer(r, answer)
+    answers::write_answer(r, answer)
 }
 
 // Reads the program and writes its text into the front of `out`: formatting::format, with its answer as above.
@@ -54,7 +51,7 @@ pub extern "C" fn img_text(
 {
     let grants = [steps, shapes, entries, bytes, calls];
     let r = formatting::format(program, &grants, tokens, code, out);
-    write_answer(r, answer)
+    answers::write_answer(r, answer)
 }
 
 // Runs the program and draws its picture into the front of `out`: drawing::draw, with its answer as above.
@@ -94,40 +91,5 @@ pub extern "C" fn img_draw(
         texts,
         out,
     );
-    write_answer(r, answer)
-}
-
-// Writes an answer's four words, and returns its number.
-fn write_answer(r: Answer, answer: &mut [u64]) -> u64
-    ensures { λ n. ⌜ Told (meant r) (now (answer .entry)) (now (answer .exit)) n ⌝ }
-{
-    match r {
-        Answer::Picture(l, n) => {
-            write_four(answer, 0, 0, n, l);
-            0
-        }
-        Answer::Number(m, p, n, l) => {
-            write_four(answer, m, p, n, l);
-            m
-        }
-    }
-}
-
-// Writes four words, as far as the slice reaches.
-fn write_four(answer: &mut [u64], m: u64, p: u64, n: u64, l: u64)
-    ensures { λ _. ⌜ now (answer .exit) ≡ set (set (set (set (now (answer .entry)) 0 m) 1 p) 2 n) 3 l ⌝ }
-{
-    write_word(answer, 0, m);
-    write_word(answer, 1, p);
-    write_word(answer, 2, n);
-    write_word(answer, 3, l);
-}
-
-// Writes one word; past the end it does nothing.
-fn write_word(answer: &mut [u64], i: usize, w: u64)
-    ensures { λ _. ⌜ now (answer .exit) ≡ set (now (answer .entry)) i w ⌝ }
-{
-    if i < answer.len() {
-        answer[i] = w;
-    }
+    answers::write_answer(r, answer)
 }

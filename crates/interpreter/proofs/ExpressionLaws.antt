@@ -20,7 +20,7 @@ use Rattle.machine.specs.Primaries.{leaf, sized, lacksTable, applied, pushWord,
 use Rattle.machine.specs.Evaluate.{Evaluator, Setting, setting, argumentOf, argumentAfter, argumentsFrom, invoked, callAt, secondOf, firstOf, operandsAt, expressionBy}
 use Rattle.machine.specs.Interpret.{expressionAt, invokeAt, bodyAt}
 use Rattle.stores.proofs.Acts.{after-pass, after-refusal}
-use Rattle.primaries.proofs.Acts.{goes-on, stops}
+use Rattle.results.proofs.Acts.{goes-on, stops}
 
 -- what is lent stays as long
 pub still-lent : (g ts ws ts₁ ws₁ : List ℕ) → Lent g ts ws → length ts₁ ≡ length ts → length ws₁ ≡ length ws → Lent g ts₁ ws₁

@@ -29,7 +29,7 @@ use Rattle.machine.specs.Effects.{shownFlow}
 use Rattle.machine.specs.Evaluate.{Evaluator, Setting}
 use Rattle.machine.specs.Execute.{Executor, foreachAt}
 use Rattle.stores.proofs.Acts.{after-pass, after-refusal, after-gift}
-use Rattle.primaries.proofs.Acts.{goes-on, stops}
+use Rattle.results.proofs.Acts.{goes-on, stops}
 use Rattle.effects.proofs.Acts.{flow-on, flow-returns, flow-stops}
 use Rattle.effects.specs.Looped.{orStop, asking, Opens, Enters}
 use Rattle.interpreter.specs.Asked.{Runs}

@@ -34,7 +34,7 @@ use Rattle.machine.specs.Effects.{shownFlow, shownTest, Flows, declaring, finis
 use Rattle.machine.specs.Execute.{Executor, simpleAt, updateValue, updateIn, updateAt, testOf, continue, whenAt, turning, looping, repeatAt, foreachAt, statementsFrom, countedAt, statementBy}
 use Rattle.machine.specs.Interpret.{expressionAt, statementAt, bodyAt, invokeAt}
 use Rattle.stores.proofs.Acts.{after-pass, after-refusal}
-use Rattle.primaries.proofs.Acts.{goes-on, stops}
+use Rattle.results.proofs.Acts.{goes-on, stops}
 use Rattle.effects.proofs.Acts.{flow-on, flow-returns, flow-stops, test-holds, test-fails, test-stops}
 use Rattle.interpreter.proofs.ExpressionLaws as laws
 use Rattle.interpreter.proofs.Fast.{Fast, plain, evaluates, unchanged}

@@ -44,7 +44,7 @@ fn expression(
     let w = stores::words::word_at(code, x);
     let tag = code::tag_of(w);
     if tag < tags::TABLE {
-        return primaries::leaf(words, w, p);
+        return results::leaf(words, w, p);
     }
     if tag == tags::CALL {
         match call(program, code, grants, texts, words, fuel - 1, w, x, p) {
@@ -88,10 +88,10 @@ fn operands(
             let a = values::pack(u);
             let tag = code::tag_of(w);
             if tag == tags::TABLE {
-                let r = primaries::new_table(words, a, p);
+                let r = results::new_table(words, a, p);
                 return r;
             }
-            if primaries::lacks_table(tag, a) {
+            if results::lacks_table(tag, a) {
                 return Answer::Bad(20, p);
             }
             match expression(
@@ -105,7 +105,7 @@ fn operands(
                 p,
             ) {
                 Answer::Good(v) => {
-                    let r = primaries::apply(
+                    let r = results::apply(
                         program,
                         grants,
                         texts,
@@ -164,7 +164,7 @@ fn call(
             base as usize,
         )
     } else {
-        primaries::called(words, grants, number, p, base)
+        results::called(words, grants, number, p, base)
     };
     r
 }
@@ -186,7 +186,7 @@ fn argument(
 {
     let w = fastpath::argument_value(words, code, grants, fuel, y);
     if w != 0 {
-        let r = primaries::push_word(words, w, p);
+        let r = results::push_word(words, w, p);
         return r;
     }
     let r = pushed(program, code, grants, texts, words, fuel, y, p);
@@ -210,7 +210,7 @@ fn pushed(
 {
     match expression(program, code, grants, texts, words, fuel, y, p) {
         Answer::Good(v) => {
-            let r = primaries::push_word(words, values::pack(v), p);
+            let r = results::push_word(words, values::pack(v), p);
             r
         }
         Answer::Bad(n, q) => Answer::Bad(n, q),

@@ -21,13 +21,13 @@ use Rattle.code.specs.Code.{slotOf, codeOfStatements}
 use Rattle.reader.specs.declared.Program.{Program}
 use Rattle.reader.specs.declared.Program.the-variants.{Formed, Malformed}
 use Rattle.reader.specs.Reading.{refused, seen, codedApart, coded, tokensIn}
-use Rattle.reader.proofs.Homes.{same-text}
 use Rattle.reader.proofs.Trees.{procedures-understood}
 use Rattle.reader.proofs.Tables.{parameters-told, head-some, named-understood}
 use Rattle.reader.proofs.Whole.{Read, formed-refused, Whole, whole}
 use Rattle.numbering.specs.Numbers.{numberIn}
 use Rattle.numbering.specs.Pass as Pass
 use Rattle.numbering.specs.Pass.{numberAll}
+use Rattle.numbering.proofs.Laws.{text-turned}
 use Rattle.numbering.proofs.Numbered.{Numbered}
 use Rattle.numbering.proofs.Whole.{number-whole}
 use Rattle.machine.specs.Opcodes.{tablePlace, startIn, parametersIn, bodyIn, frameIn}
@@ -53,17 +53,9 @@ use Rattle.painting.proofs.Leaving.{main-ends}
 
 -- ---- main's body
 -- whether two names are one
-same-turned : (x y : List ℕ) → sameText y x ≡ sameText x y
-same-turned x y = go (sameText x y) (sameText y x) refl refl
-  where
-    go : (a b : Bool) → sameText x y ≡ a → sameText y x ≡ b → sameText y x ≡ sameText x y
-    go true b p q = rw (same-text x y p)
-    go false true p q = rw (same-text y x q)
-    go false false p q = q ∙ sym p
-
 two-names : (x y : List ℕ) → anyTwice (x ∷ y ∷ []) ≡ sameText x y
 unfolding anyTwice isAmong
-two-names x y = go (sameText y x) ∙ same-turned x y
+two-names x y = go (sameText y x) ∙ text-turned y x
   where
     go : (b : Bool) → (b || false) || (false || false) ≡ b
     go true = refl

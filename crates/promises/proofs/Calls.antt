@@ -16,11 +16,11 @@ use Rattle.meaning.specs.Call.{Call, answer, outAfter}
 use Rattle.claims.proofs.Claimed as Claimed
 use Rattle.answers.specs.declared.Answer as Declared
 use Rattle.answers.specs.declared.Answer.the-variants.{Picture, Number}
-use Rattle.answers.specs.Answers.{meant}
+use Rattle.answers.specs.Answers.{meant, numbersOf, Told}
 use Rattle.checking.specs.Checking.{Checked}
 use Rattle.checking.specs.Checking as Checking
 use Rattle.lending.specs.Lending.{called, Performed}
-use Rattle.img.specs.Numbers.{numbersOf, Told, Checks, Performs}
+use Rattle.img.specs.Operations.{Checks, Performs}
 use Rattle.demands.specs.Demands.{Returned, checked, drawn, toldBy}
 use Rattle.demands.proofs.Numbered.{named}
 

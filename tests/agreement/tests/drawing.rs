@@ -10,6 +10,7 @@ use generator::case::{needed, EVENTS};
 use generator::random::Random;
 use generator::{case, groups, heavy, limit, systematic, Case};
 use reference::decisions::rows;
+use reference::operation::with_room;
 use reference::sheet::GRANTS;
 use reference::{run_specified, Answer, End, Grants, Operation};
 use std::collections::BTreeSet;
@@ -42,16 +43,17 @@ fn work(grants: Grants) -> Work {
 
 /// Generated and damaged programs, each with its own grants, at what it takes and one below for each kind, in slices with garbage, longer, and one element
 /// short, and with out slices of no byte, of exactly the picture's length and one byte less.
-fn generated(seeds: Range<u64>) {
-    let mut lender = Lender::default();
+fn generated(mut lender: Lender, seeds: Range<u64>) {
     let count = seeds.end - seeds.start;
-    for seed in seeds {
-        let case = Case {
-            operation: DRAW,
-            ..case(seed)
-        };
-        assert_eq!(lender.misfit_around(&case, seed), None, "seed {seed}");
-    }
+    with_room(|| {
+        for seed in seeds {
+            let case = Case {
+                operation: DRAW,
+                ..case(seed)
+            };
+            assert_eq!(lender.misfit_around(&case, seed), None, "seed {seed}");
+        }
+    });
     assert!(lender.calls() > 6 * count, "only {} calls", lender.calls());
 }
 
@@ -60,24 +62,32 @@ fn generated(seeds: Range<u64>) {
 // without the length that is needed.
 #[test]
 fn generated_cases() {
-    generated(0..10_000);
+    generated(Lender::default(), 0..4_000);
+}
+
+// The work slices of these are looked at in one of eight calls, which takes half the time.
+#[test]
+fn more_generated_cases() {
+    generated(Lender::seldom(), 4_000..12_000);
 }
 
 #[test]
-fn more_generated_cases() {
-    generated(10_000..20_000);
+fn still_more_generated_cases() {
+    generated(Lender::seldom(), 12_000..20_000);
 }
 
 // Would catch a component's step, shape or entry that falls due at another moment, a group gone through in another order, one destroyed or copied otherwise, and
 // places of a loop that are mixed up when its body changes what it goes through.
 #[test]
 fn programs_with_groups() {
-    let mut lender = Lender::default();
-    for seed in 0..6_000 {
-        let program = groups::program(&mut Random::new(seed));
-        let case = plain(DRAW, &program);
-        assert_eq!(lender.misfit_around(&case, seed), None, "seed {seed}");
-    }
+    let mut lender = Lender::seldom();
+    with_room(|| {
+        for seed in 0..6_000 {
+            let program = groups::program(&mut Random::new(seed));
+            let case = plain(DRAW, &program);
+            assert_eq!(lender.misfit_around(&case, seed), None, "seed {seed}");
+        }
+    });
 }
 
 // Would catch a limit off by one, 73, 74, 75 or a constant's range asked in another order, and an out slice that is written before a limit is found to be

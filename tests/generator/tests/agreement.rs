@@ -4,6 +4,7 @@
 
 use generator::random::Random;
 use generator::{case, case_out_of_range, heavy, limit, systematic, Case};
+use reference::operation::with_room;
 use reference::sheet::{GRANTS, OUT_LENGTH};
 use reference::{book, draw, run_specified, Answer, Grants, Operation};
 
@@ -27,11 +28,13 @@ fn text(case: &Case) -> String {
 
 #[test]
 fn counting_agrees_with_the_book() {
-    for seed in 0..CASES {
-        let case = case(seed);
-        let booked = booked(&case, 20_000);
-        assert_eq!(Some(case.answer()), booked, "seed {seed}: {}", text(&case));
-    }
+    with_room(|| {
+        for seed in 0..CASES {
+            let case = case(seed);
+            let booked = booked(&case, 20_000);
+            assert_eq!(Some(case.answer()), booked, "seed {seed}: {}", text(&case));
+        }
+    });
 }
 
 #[test]
@@ -105,22 +108,24 @@ fn settled(answer: &Answer) -> bool {
 #[test]
 fn more_changes_only_a_shortage() {
     let mut pairs = 0;
-    for seed in 0..CASES {
-        let first = case(seed);
-        let answer = first.answer();
-        if !settled(&answer) {
-            continue;
+    with_room(|| {
+        for seed in 0..CASES {
+            let first = case(seed);
+            let answer = first.answer();
+            if !settled(&answer) {
+                continue;
+            }
+            let mut random = Random::new(seed);
+            for _ in 0..3 {
+                let mut second = first.clone();
+                second.grants = larger(first.grants, &mut random);
+                second.out_length += random.below(100) as u64;
+                assert!(first.grants.within(&second.grants));
+                assert_eq!(second.answer(), answer, "seed {seed}: {}", text(&first));
+                pairs += 1;
+            }
         }
-        let mut random = Random::new(seed);
-        for _ in 0..3 {
-            let mut second = first.clone();
-            second.grants = larger(first.grants, &mut random);
-            second.out_length += random.below(100) as u64;
-            assert!(first.grants.within(&second.grants));
-            assert_eq!(second.answer(), answer, "seed {seed}: {}", text(&first));
-            pairs += 1;
-        }
-    }
+    });
     assert!(pairs > 3_000, "only {pairs} pairs");
 }
 
@@ -128,74 +133,78 @@ fn more_changes_only_a_shortage() {
 fn a_shortage_goes_away_with_enough() {
     // Granting what the whole list takes ends as the specified run ends.
     let mut shortages = 0;
-    for seed in 0..CASES {
-        let mut case = case(seed);
-        let Answer::Number {
-            number: 76..=81, ..
-        } = case.answer()
-        else {
-            continue;
-        };
-        shortages += 1;
-        let specified = run_specified(
-            case.operation,
-            &case.program,
-            case.width,
-            case.height,
-            20_000,
-        );
-        let reference::End::Answer(end) = specified.end else {
-            continue;
-        };
-        case.grants = Grants {
-            steps: 20_000,
-            ..Grants::LARGEST
-        };
-        case.out_length = 1 << 20;
-        assert_eq!(case.answer(), end, "seed {seed}: {}", text(&case));
-    }
+    with_room(|| {
+        for seed in 0..CASES {
+            let mut case = case(seed);
+            let Answer::Number {
+                number: 76..=81, ..
+            } = case.answer()
+            else {
+                continue;
+            };
+            shortages += 1;
+            let specified = run_specified(
+                case.operation,
+                &case.program,
+                case.width,
+                case.height,
+                20_000,
+            );
+            let reference::End::Answer(end) = specified.end else {
+                continue;
+            };
+            case.grants = Grants {
+                steps: 20_000,
+                ..Grants::LARGEST
+            };
+            case.out_length = 1 << 20;
+            assert_eq!(case.answer(), end, "seed {seed}: {}", text(&case));
+        }
+    });
     assert!(shortages > 500, "only {shortages} shortages");
 }
 
 #[test]
 fn an_empty_out_slice_tells_the_length() {
     let mut pictures = 0;
-    for seed in 0..CASES {
-        let Case {
-            width,
-            height,
-            grants,
-            program,
-            ..
-        } = case(seed);
-        let told = draw(&program, width, height, grants, 0);
-        let Answer::Number {
-            number: 80,
-            place: 0,
-            steps,
-            length_needed: Some(length),
-        } = told
-        else {
-            // Any other answer does not depend on the out slice.
-            let drawn = draw(&program, width, height, grants, 1 << 30);
-            assert_eq!(told, drawn, "seed {seed}");
-            continue;
-        };
-        pictures += 1;
-        let Answer::Picture {
-            length: drawn_length,
-            steps: drawn_steps,
-            bytes,
-        } = draw(&program, width, height, grants, length)
-        else {
-            panic!("seed {seed}: no picture");
-        };
-        assert_eq!((drawn_length, drawn_steps), (length, steps), "seed {seed}");
-        assert_eq!(bytes.len() as u64, length, "seed {seed}");
-        // One byte short tells the same as an empty one.
-        let short = draw(&program, width, height, grants, length - 1);
-        assert_eq!(short, told, "seed {seed}");
-    }
+    with_room(|| {
+        for seed in 0..CASES {
+            let Case {
+                width,
+                height,
+                grants,
+                program,
+                ..
+            } = case(seed);
+            let told = draw(&program, width, height, grants, 0);
+            let Answer::Number {
+                number: 80,
+                place: 0,
+                steps,
+                length_needed: Some(length),
+            } = told
+            else {
+                // Any other answer does not depend on the out slice.
+                let drawn = draw(&program, width, height, grants, 1 << 30);
+                assert_eq!(told, drawn, "seed {seed}");
+                continue;
+            };
+            pictures += 1;
+            let Answer::Picture {
+                length: drawn_length,
+                steps: drawn_steps,
+                bytes,
+            } = draw(&program, width, height, grants, length)
+            else {
+                panic!("seed {seed}: no picture");
+            };
+            assert_eq!((drawn_length, drawn_steps), (length, steps), "seed {seed}");
+            assert_eq!(bytes.len() as u64, length, "seed {seed}");
+            // One byte short tells the same as an empty one.
+            let short = draw(&program, width, height, grants, length - 1);
+            assert_eq!(short, told, "seed {seed}");
+        }
+    });
     assert!(pictures > 900, "only {pictures} pictures");
 }
 

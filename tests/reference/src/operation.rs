@@ -8,6 +8,7 @@ use crate::shape::Shape;
 use crate::takings::{Left, Stop};
 use crate::tree::Program;
 use crate::writer;
+use std::cell::Cell;
 
 /// The most bytes a program may have.
 pub const PROGRAM_BYTES: usize = 32_768;
@@ -149,12 +150,24 @@ pub fn draw(program: &[u8], width: i32, height: i32, grants: Grants, out_length:
     with_room(|| drawn(program, width, height, grants, out_length))
 }
 
+thread_local! {
+    /// Whether this thread has that much.
+    static ROOMY: Cell<bool> = const { Cell::new(false) };
+}
+
 /// Does something with stack enough for 64 calls under way, each in 64
-/// levels.
-pub(crate) fn with_room<T: Send>(work: impl FnOnce() -> T + Send) -> T {
+/// levels: in a thread of its own, but inside another such work in that one's.
+pub fn with_room<T: Send>(work: impl FnOnce() -> T + Send) -> T {
+    if ROOMY.get() {
+        return work();
+    }
     std::thread::scope(|scope| {
         let thread = std::thread::Builder::new().stack_size(STACK);
-        let thread = thread.spawn_scoped(scope, work).expect("a thread");
+        let roomy = || {
+            ROOMY.set(true);
+            work()
+        };
+        let thread = thread.spawn_scoped(scope, roomy).expect("a thread");
         match thread.join() {
             Ok(done) => done,
             Err(panic) => std::panic::resume_unwind(panic),
