@@ -151,12 +151,12 @@ pub fn draw(program: &[u8], width: i32, height: i32, grants: Grants, out_length:
 }
 
 thread_local! {
-    /// Whether this thread has that much.
+    /// Whether this thread has stack enough for every run.
     static ROOMY: Cell<bool> = const { Cell::new(false) };
 }
 
 /// Does something with stack enough for 64 calls under way, each in 64
-/// levels: in a thread of its own, but inside another such work in that one's.
+/// levels: in a thread of its own, unless this one was made for that.
 pub fn with_room<T: Send>(work: impl FnOnce() -> T + Send) -> T {
     if ROOMY.get() {
         return work();
