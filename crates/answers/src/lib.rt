@@ -1,10 +1,12 @@
 // What an operation hands back, and the words in which C and Rust are told of it.
+#![tactic(auto)]
+
 ghost use Rattle.std.specs.Prelude.{◌≡◌, set};
 ghost use Rattle.answers.specs.Answers.{meant, Told};
 
 // A picture with its length and steps (from checking: well formed, both 0); or a number with its place, the steps counted, and after 80 the
 // length that the picture needs, else 0.
-#[derive(Drop)]
+#[derive(Clone, Copy)]
 pub enum Answer {
     Picture(u64, u64),
     Number(u64, u64, u64, u64),

@@ -1,4 +1,6 @@
 // The arguments of a call: they are held from the one numbered base on.
+#![tactic(auto)]
+
 pub mod figures;
 
 ghost use Rattle.std.specs.Prelude.{◌+◌, ◌≤◌, ◌≡◌, length};

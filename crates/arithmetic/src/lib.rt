@@ -1,5 +1,7 @@
 // Integers of 32 bits: they wrap, division rounds toward zero, a right shift rounds down. Sums, differences and products are
 // computed in 64 bits, where none of them overflows, and their lowest 32 bits kept.
+#![tactic(auto)]
+
 ghost use Rattle.std.specs.Prelude.{◌-◌, ◌≡◌, false, ◌+ℤ◌};
 ghost use Rattle.std.specs.Int.Signed.{lt_z};
 ghost use Rattle.std.specs.Int.{w32};

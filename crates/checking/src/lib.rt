@@ -1,4 +1,6 @@
 // Checking: whether a program is well formed.
+#![tactic(auto)]
+
 ghost use Rattle.std.specs.Prelude.{◌≡◌};
 ghost use Rattle.checking.specs.Checking.{Checked, Lent, read_answer};
 ghost use Rattle.answers.specs.Answers.{meant};

@@ -1,4 +1,6 @@
 // Statements that hold no others, and a foreach up to its body: each function writes from a place on and returns the place behind.
+#![tactic(auto)]
+
 ghost use Rattle.std.specs.Prelude.{◌++◌, ◌≡◌};
 ghost use Rattle.meaning.specs.Basics.{bytes};
 ghost use Rattle.canonical.specs.Text.{apart};

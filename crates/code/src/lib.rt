@@ -1,4 +1,6 @@
 // Words of code.
+#![tactic(auto)]
+
 ghost use Rattle.std.specs.Prelude.{◌≡◌, ◌+◌, ◌-◌, ◌^◌, ◌<◌, ◌≤◌, set};
 ghost use Rattle.machine.specs.Opcodes.{word, procedure_word, tag_in, size_in, number_in, place_in, extra_in, argument_root};
 ghost use Rattle.machine.specs.Opcodes.{library_in, callee_in, table_place, start_in, parameters_in, body_in, frame_in};

@@ -1,5 +1,7 @@
 // Standard input and output of the programs.
 
+#![tactic(auto)]
+
 // Prints a text, and says on standard error if that cannot be done.
 pub fn print(text: &[u8]) {
     if !io::write_all(1, text) {

@@ -1,4 +1,6 @@
 // Procedures and the whole program: the code of each, and the table of them all. `i` is a token, and `n` the first free word.
+#![tactic(auto)]
+
 ghost use Rattle.std.specs.Prelude.{◌≡◌, ◌+◌, ◌-◌, ◌<◌, ◌≤◌, length, replicate};
 ghost use Rattle.machine.specs.Opcodes.{procedure_word};
 ghost use Rattle.expressions.specs.Words.{place_at, home_at, procedure_at, seen, written_code};
@@ -81,7 +83,7 @@ fn read_body(tokens: &[u64], words: &mut [u64], i: usize, n: usize) -> Read
 // ---- all procedures
 // A program: main's word in the table, and how many words the code has. Or the place of the first `def` whose name an earlier one or the library has. Or a
 // number, and the token that fails.
-#[derive(Drop)]
+#[derive(Clone, Copy)]
 pub enum Parsed {
     Whole(u64, usize),
     Twice(usize),

@@ -1,4 +1,6 @@
 // Shapes destroyed with all in them. A step is counted for each component that is reached.
+#![tactic(auto)]
+
 pub mod scene;
 
 ghost use Rattle.machine.specs.Layout.{Room};

@@ -1,4 +1,6 @@
 // An operator on any two values: destroyed shapes and kinds are asked here. A value is handed over as its word.
+#![tactic(auto)]
+
 ghost use Rattle.std.specs.Prelude.{◌≡◌};
 ghost use Rattle.machine.specs.Words.{unpacked};
 ghost use Rattle.machine.specs.Layout.{Room, Lent};

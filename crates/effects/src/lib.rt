@@ -1,4 +1,6 @@
 // What a statement does once its parts are evaluated.
+#![tactic(auto)]
+
 ghost use Rattle.std.specs.Prelude.{ℕ, ◌≤◌, ◌≡◌, List, length, set};
 ghost use Rattle.machine.specs.Opcodes.{tag_in, tag_assign};
 ghost use Rattle.machine.specs.Words.{kind_in, kind_shape};

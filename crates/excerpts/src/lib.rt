@@ -1,4 +1,6 @@
 // The line of a place, and a mark under the place.
+#![tactic(auto)]
+
 ghost use Rattle.std.specs.Prelude.{◌≤◌, min, ◌≡◌, length, drop};
 ghost use Rattle.meaning.specs.Basics.{span};
 ghost use Rattle.writing.specs.Placed.{WroteAt};

@@ -1,5 +1,7 @@
 // Expressions, operands, primaries and arguments, which call each other: the tokens left fall. Token words are read from left to right, and the
 // code of what was read is written. `left` is how many levels may still be opened, `i` a token, and `n` the first free word.
+#![tactic(auto)]
+
 pub mod kinds;
 pub mod token;
 
@@ -13,7 +15,7 @@ use machine::tags;
 
 // What was read: the token behind it, the word behind its code, and what it is as an assignment's left side, 1 a name, 2 an entry, 0 neither.
 // Or a number, and the token that fails.
-#[derive(Drop)]
+#[derive(Clone, Copy)]
 pub enum Read {
     At(usize, usize, u64),
     Wrong(u64, usize),

@@ -1,5 +1,7 @@
 // Expressions of integers worked out at once, as words: constants, variables and operators on integers; and arguments that are strings or
 // shapes. A word of 0 says that this does not apply; nothing has changed then, and the expression is evaluated as any other.
+#![tactic(auto)]
+
 ghost use Rattle.std.specs.Prelude.{◌≤◌, ◌≡◌, length, get_or};
 ghost use Rattle.machine.specs.Opcodes.{tag_divide, tag_remainder, size_at};
 ghost use Rattle.machine.specs.Layout.{fixed_words};

@@ -1,3 +1,5 @@
 // Figures: moved, scaled and compared.
+#![tactic(auto)]
+
 pub mod changes;
 pub mod comparing;

@@ -1,4 +1,6 @@
 // The one text of a program.
+#![tactic(auto)]
+
 ghost use Rattle.std.specs.Prelude.{◌<◌, ◌^◌, ◌≡◌, length};
 ghost use Rattle.checking.specs.Checking.{called_with, Lent};
 ghost use Rattle.phrases.specs.Raw.{source};

@@ -1,4 +1,6 @@
 // Says whether the program on standard input is well formed, and where it is not.
+#![tactic(auto)]
+
 ghost use Rattle.std.specs.Prelude.{◌≤◌, ◌≡◌, length};
 ghost use Rattle.answers.specs.Answers.{meant};
 ghost use Rattle.checking.specs.Checking.{read_answer};

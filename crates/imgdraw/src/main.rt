@@ -1,4 +1,6 @@
 // Draws the program on standard input, on a sheet whose width and height stand in a line before it.
+#![tactic(auto)]
+
 mod draw;
 mod size;
 

@@ -1,4 +1,6 @@
 // Writes the text of the program on standard input: the one way to write it.
+#![tactic(auto)]
+
 ghost use Rattle.std.specs.Prelude.{◌≤◌, ◌≡◌, length};
 ghost use Rattle.sheet.specs.Shown.{Front};
 ghost use Rattle.console.specs.Prints.{Prints};

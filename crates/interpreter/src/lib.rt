@@ -1,5 +1,7 @@
 // Evaluating expressions and executing statements over code, which call each other: a call runs a procedure's body. `fuel` falls at each expression,
 // statement and call that is inside another.
+#![tactic(auto)]
+
 ghost use Rattle.std.specs.Prelude.{◌+◌, ◌≡◌};
 ghost use Rattle.machine.specs.Act.{raw, shown};
 ghost use Rattle.machine.specs.Effects.{shown_flow, shown_test};

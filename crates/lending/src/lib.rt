@@ -1,4 +1,6 @@
 // What is lent and granted for a run.
+#![tactic(auto)]
+
 ghost use Rattle.std.specs.Prelude.{◌≡◌, true, length, replicate};
 ghost use Rattle.meaning.specs.Call.{in_range};
 ghost use Rattle.machine.specs.Layout.{words_needed};

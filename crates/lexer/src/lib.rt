@@ -1,4 +1,6 @@
 // Tokens of a program, as words in a slice that is lent for them.
+#![tactic(auto)]
+
 ghost use Rattle.std.specs.Prelude.{◌≡◌, ◌≤◌, length, set};
 ghost use Rattle.meaning.specs.Token.{tokens_of};
 ghost use Rattle.lexer.specs.Lexing.{class_table, seen, laid_tokens};
@@ -11,7 +13,7 @@ mod front;
 mod table;
 
 // How many tokens a program has; or its first byte at which none begins.
-#[derive(Drop)]
+#[derive(Clone, Copy)]
 pub enum Tokens {
     Found(usize),
     Stray(usize),

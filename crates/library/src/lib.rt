@@ -1,4 +1,6 @@
 // Library procedures, on the arguments of a call: n of them, held from the one numbered base on.
+#![tactic(auto)]
+
 ghost use Rattle.std.specs.Prelude.{◌≤◌, length};
 ghost use Rattle.machine.specs.Layout.{fixed_words, Room};
 ghost use Rattle.machine.specs.Act.{Answers};

@@ -1,7 +1,9 @@
 // The types that the interpreter is written with. What its functions do to the lent slices is said in specs/; there is no function here.
 
+#![tactic(auto)]
+
 // A value. A text is a part of the program or of the text store; tables and shapes are known by their numbers.
-#[derive(Drop)]
+#[derive(Clone, Copy)]
 pub enum Value {
     Integer(i32),
     Text(u64),
@@ -12,14 +14,14 @@ pub enum Value {
 }
 
 // What an evaluation gives: a value, or a number and its place.
-#[derive(Drop)]
+#[derive(Clone, Copy)]
 pub enum Answer {
     Good(Value),
     Bad(u64, u64),
 }
 
 // What a shape that is no group looks like: its kind (shapes), four numbers, and a text's handle, each 0 where it has none.
-#[derive(Drop)]
+#[derive(Clone, Copy)]
 pub struct Figure {
     pub kind: u64,
     pub a: i32,
@@ -30,7 +32,7 @@ pub struct Figure {
 }
 
 // How a statement ends: the next one follows, the procedure returns, or a number and its place.
-#[derive(Drop)]
+#[derive(Clone, Copy)]
 pub enum Flow {
     Onward,
     Returned(Value),
@@ -38,7 +40,7 @@ pub enum Flow {
 }
 
 // Whether a test holds, or a number and its place.
-#[derive(Drop)]
+#[derive(Clone, Copy)]
 pub enum Outcome {
     Yes,
     No,

@@ -1,4 +1,6 @@
 // Token words prepared for reading: digits get their value, names and strings the first token that is spelled like them.
+#![tactic(auto)]
+
 ghost use Rattle.std.specs.Prelude.{◌≡◌, length, replicate};
 ghost use Rattle.names.specs.Prepared.{prepared_all};
 ghost use Rattle.names.specs.Index.{Room, Indexed};

@@ -1,5 +1,7 @@
 // Variables numbered: in the code of each procedure the slots of variables become numbers in the frames of its calls, and its word in the table tells how many
 // words such a frame has.
+#![tactic(auto)]
+
 ghost use Rattle.std.specs.Prelude.{◌≡◌, false, ◌≤◌, ◌<◌};
 ghost use Rattle.numbering.specs.Pass.{words_from, entries, is_entered, number_of, entered, entered_all, slot_follows, slots_in, declared_slots, renumbered_word};
 ghost use Rattle.numbering.specs.Pass.{renumbered_code, framed_word, pass, number_procedure, number_slot, number_all};

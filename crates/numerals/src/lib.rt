@@ -1,4 +1,6 @@
 // Numbers as text, behind a byte string.
+#![tactic(auto)]
+
 mod number;
 
 pub use number::write_number_at;

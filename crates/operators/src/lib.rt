@@ -1,4 +1,6 @@
 // Operators on integers, on a shape and an integer, and equality. A value of any kind is handed over as its word.
+#![tactic(auto)]
+
 pub mod equality;
 pub mod integers;
 pub mod shapes;

@@ -1,4 +1,6 @@
 // Two groups compared pair by pair, depth first. Nesting is bounded by the shapes alone, so the ways down on both sides stand in the words that are lent.
+#![tactic(auto)]
+
 ghost use Rattle.std.specs.Prelude.{◌+◌, ◌≡◌};
 ghost use Rattle.machine.specs.Layout.{Room};
 ghost use Rattle.machine.specs.Groups.{way_word, passed_from};
@@ -10,7 +12,7 @@ use stores::{components, counters, shapes, words};
 
 // Where a comparison of two groups is: its depth, and on each side the slot of the next component and how many are left there;
 // or its verdict, 0 for unequal and 1 for equal, or the number that it stops with.
-#[derive(Drop)]
+#[derive(Clone, Copy)]
 pub enum PairTurn {
     At(u32, u32, u32, u32, u32),
     Settled(u64),

@@ -1,6 +1,8 @@
 // Expressions by their roots, cut as the grammar is: an expression is one operand, or two with an operator's sign between; an operand is one primary, or two with a dot
 // between; a primary is a leaf, or holds expressions. A level of nesting goes once through each of the three, whatever it holds, so that writing takes no more stack than reading.
 // `fuel` falls at each expression inside another.
+#![tactic(auto)]
+
 ghost use Rattle.std.specs.Prelude.{◌≡◌, [], ◌++◌, suc, ◌≤◌, get_or};
 ghost use Rattle.meaning.specs.Byte.{is_name_part};
 ghost use Rattle.machine.specs.Opcodes.{argument_root, tag_entry, first_operator};

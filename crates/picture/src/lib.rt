@@ -1,4 +1,6 @@
 // The bytes of a picture, by the writers of its lines.
+#![tactic(auto)]
+
 mod frame;
 mod line;
 

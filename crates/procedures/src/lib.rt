@@ -1,4 +1,6 @@
 // A call of a procedure of the program begins.
+#![tactic(auto)]
+
 ghost use Rattle.machine.specs.Act.{Answers};
 ghost use Rattle.machine.specs.Procedures.{assign_from, begin};
 ghost use Rattle.machine.specs.Layout.{Room};

@@ -1,4 +1,6 @@
 // Main's prologue and epilogue: the words cleared, its frame with the width and the height, and its return, with the scene that it leaves measured.
+#![tactic(auto)]
+
 ghost use Rattle.std.specs.Prelude.{◌≤◌, length};
 ghost use Rattle.machine.specs.Layout.{fixed_words, Room};
 ghost use Rattle.prologue.specs.Prologue.{main_begins, Begins, main_ends, Blank};
@@ -6,7 +8,7 @@ ghost use Rattle.prologue.specs.Prologue.{main_begins, Begins, main_ends, Blank}
 use machine::{Value, counters, granted, layout};
 
 // How a run ends: main is done, or a number and its place.
-#[derive(Drop)]
+#[derive(Clone, Copy)]
 pub enum Ending {
     Complete,
     Stopped(u64, u64),

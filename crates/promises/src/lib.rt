@@ -1,5 +1,7 @@
 // Each operation, and each function for C, is called here, and the call is shown to have returned in the sense of the three demands: an operation that promised
 // less would be refused.
+#![tactic(auto)]
+
 ghost use Rattle.std.specs.Prelude.{◌≡◌, [], ◌∷◌};
 ghost use Rattle.meaning.specs.Program.{drawing};
 ghost use Rattle.answers.specs.Answers.{meant};

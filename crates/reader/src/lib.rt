@@ -1,4 +1,6 @@
 // Reading a program: its tokens, its names, its grammar.
+#![tactic(auto)]
+
 ghost use Rattle.std.specs.Prelude.{◌≡◌};
 ghost use Rattle.meaning.specs.Grammar.{reading};
 ghost use Rattle.reader.specs.Reading.{Lent, Worded, tokens_in, seen, coded, Kept, place_among};
@@ -8,7 +10,7 @@ use lexer::Tokens;
 use tokens::place_of;
 
 // A program that was read: main's word in the table, how many words its code has, and how many tokens it has. Or a number and its place.
-#[derive(Drop)]
+#[derive(Clone, Copy)]
 pub enum Program {
     Formed(u64, usize, usize),
     Malformed(u64, usize),

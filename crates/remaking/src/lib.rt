@@ -1,5 +1,7 @@
 // Groups made anew by an operator and an integer: the components that are not destroyed first, then a group of the new ones. A step is counted for each
 // component that is reached.
+#![tactic(auto)]
+
 ghost use Rattle.std.specs.Prelude.{◌≡◌};
 ghost use Rattle.machine.specs.Layout.{Room};
 ghost use Rattle.machine.specs.Act.{Answers};

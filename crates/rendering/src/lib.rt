@@ -1,4 +1,6 @@
 // The picture that a completed run comes to.
+#![tactic(auto)]
+
 ghost use Rattle.answers.specs.Answers.{meant};
 ghost use Rattle.rendering.specs.Rendering.{Drawn, Scene};
 

@@ -1,4 +1,6 @@
 // The text around a drawing: the line before the program, and what is shown of an answer.
+#![tactic(auto)]
+
 mod failure;
 mod line;
 mod shown;

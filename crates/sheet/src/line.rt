@@ -6,14 +6,14 @@ ghost use Rattle.meaning.specs.Grammar.{numeral};
 ghost use Rattle.sheet.specs.Lines.{field_of, after_width, after_height, sheet_of};
 
 // What stands in front of a text: a number and how many digits it has; or nothing that will do.
-#[derive(Drop)]
+#[derive(Clone, Copy)]
 pub enum Field {
     Digits(u64, usize),
     Unfit,
 }
 
 // What the input begins with: a width, a height and how many bytes the line has; or no such line.
-#[derive(Drop)]
+#[derive(Clone, Copy)]
 pub enum Sheet {
     Sized(i32, i32, usize),
     Unread,

@@ -1,4 +1,6 @@
 // The lines of a scene, written by a walk that counts nothing.
+#![tactic(auto)]
+
 ghost use Rattle.std.specs.Prelude.{◌+◌, ◌≤◌, ◌≡◌, [], length, get_or};
 ghost use Rattle.meaning.specs.Picture.{picture_of};
 ghost use Rattle.machine.specs.Layout.{declared, lines_length, shapes_granted, fixed_words, Room};

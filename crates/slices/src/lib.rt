@@ -1,4 +1,6 @@
 // Lent slices.
+#![tactic(auto)]
+
 ghost use Rattle.std.specs.Prelude.{◌≤◌, ◌<◌, ◌≡◌, length, replicate};
 
 // How many words are cleared at once. The compiler makes a call of the C library of each part, which takes vector stores up to this length.

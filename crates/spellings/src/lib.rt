@@ -1,4 +1,6 @@
 // The spelling of one word: names, constants and signs, and lists of names. Each function writes from a place on and returns the place behind.
+#![tactic(auto)]
+
 mod leaf;
 mod listing;
 

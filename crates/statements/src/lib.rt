@@ -1,5 +1,7 @@
 // Statements and bodies, which call each other: the levels left or the tokens left fall. A statement's word is written when its parts are.
 // `left` is how many levels may still be opened, `i` a token, and `n` the first free word.
+#![tactic(auto)]
+
 ghost use Rattle.std.specs.Prelude.{◌≡◌, ◌+◌, ◌<◌, length};
 ghost use Rattle.expressions.specs.Words.{kind_at, place_at, signed_at, expression, seen, written_code};
 ghost use Rattle.expressions.specs.Words as Expressions;

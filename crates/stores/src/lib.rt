@@ -1,4 +1,6 @@
 // The words that are lent for a run: counters, shapes, components of groups, and the stack of arguments.
+#![tactic(auto)]
+
 pub mod arguments;
 pub mod components;
 pub mod counters;

@@ -1,4 +1,6 @@
 // Texts: parts of the program or of the text store, known by handles.
+#![tactic(auto)]
+
 ghost use Rattle.std.specs.Prelude.{◌≡◌, length};
 ghost use Rattle.meaning.specs.Basics.{same_text};
 ghost use Rattle.machine.specs.Layout.{Lent};

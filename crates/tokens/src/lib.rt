@@ -1,4 +1,6 @@
 // Tokens as words, their spellings, and the reserved words.
+#![tactic(auto)]
+
 pub mod kind;
 mod text;
 mod word;

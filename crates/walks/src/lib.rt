@@ -1,4 +1,6 @@
 // Walks over all that a group holds, depth first. Nesting is bounded by the shapes alone, so the way down stands in the words that are lent.
+#![tactic(auto)]
+
 ghost use Rattle.std.specs.Prelude.{◌+◌, ◌/◌, ◌^◌, ◌<◌, ◌≡◌, get_or};
 ghost use Rattle.machine.specs.Groups.{way_word, way_place};
 ghost use Rattle.walks.specs.Walks.{slot_in, left_in, count_within, back_at, Descends, Descended, Entered};
@@ -8,7 +10,7 @@ use stores::{components, shapes};
 
 // Where a walk is: its depth, the slot of the next component and how many are left there; or the number that it stops with, or
 // what it found.
-#[derive(Drop)]
+#[derive(Clone, Copy)]
 pub enum Turn {
     At(u32, u32, u32),
     Stopped(u64),

@@ -1,0 +1,5 @@
+use Rattle.arguments.proofs.FigureLaws.{connecting_given}
+use Rattle.arguments.proofs.figures.connecting_figure.Goals as goal
+
+pub returns : goal.returns
+returns c = search connecting_given

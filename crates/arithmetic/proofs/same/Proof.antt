@@ -1,9 +1,0 @@
-use Rattle.arithmetic.proofs.Held.{same_is}
-use Rattle.arithmetic.proofs.same.Statement.{statement}
-use Rattle.arithmetic.proofs.same.Tie as tie
-
-returns : tie.Need-returns
-returns c = same_is _ _ c.ranges.a c.ranges.b
-
-pub same_spec : {M : Type 1} → statement M
-same_spec = tie.close (tie.spec returns)

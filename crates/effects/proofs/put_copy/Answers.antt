@@ -1,0 +1,14 @@
+use Rattle.effects.proofs.Laws.{unknown, shape_dead, copy_put, no_copy}
+use Rattle.effects.proofs.put_copy.Goals as goal
+
+pub returns-then-not-is_declared : goal.returns-then-not-is_declared
+returns-then-not-is_declared c = search unknown
+
+pub returns-then-is_dead : goal.returns-then-is_dead
+returns-then-is_dead c = search shape_dead
+
+pub returns-in-Good : goal.returns-in-Good
+returns-in-Good c = search copy_put
+
+pub returns-in-Bad : goal.returns-in-Bad
+returns-in-Bad c = search no_copy

@@ -1,0 +1,5 @@
+use Rattle.frames.proofs.VariableLaws.{holds_at}
+use Rattle.frames.proofs.variables.holding.Goals as goal
+
+pub returns : goal.returns
+returns c = search holds_at

@@ -1,0 +1,74 @@
+use native.Mathlib.Omega.{arith}
+use mathlib.Core.Path.{◌∙◌}
+use lib.ListN.{length-set}
+use Rattle.groups.proofs.MakingLaws.{no_entry, entries_some, made_less, one_added, component_room, marks_room}
+use Rattle.groups.proofs.making.add_one.Goals as goal
+
+pub returns-then-not-spend : goal.returns-then-not-spend
+returns-then-not-spend c = search no_entry
+
+pub nonzero_rem-k : goal.nonzero_rem-k
+nonzero_rem-k c =
+    let s = c.before.before.before.before.before.before.before.before in
+    let p = c.spend in
+    omega (arith, entries_some s.args.grants.now s.args.words.now 0 0 0 _ _ p.ensures c.if-not-spend.false-raw)
+
+pub overflow_cast-k : goal.overflow_cast-k
+overflow_cast-k c =
+    let s = c.before.before.before.before.before.before.before.before.before.before in
+    let p = c.spend in
+    let l = made_less s.args.grants.now s.args.words.now 0 0 0 _ _ p.ensures c.if-not-spend.false-raw in
+    omega (arith, l, s.requires.room.entries)
+
+pub offset_bounds-words-at : goal.offset_bounds-words-at
+offset_bounds-words-at c =
+    let s = c.before.before.before.before.before.before.before.before.before.before.before.before in
+    let p = c.spend in
+    let l = made_less s.args.grants.now s.args.words.now 0 0 0 _ _ p.ensures c.if-not-spend.false-raw in
+    omega (arith, c.place_of-at.ensures, l, s.requires.room.shapes, s.requires.room.entries)
+
+pub bounds-words-at : goal.bounds-words-at
+bounds-words-at c =
+    let s = c.before.before.before.before.before.before.before.before.before.before.before.before in
+    let p = c.spend in
+    let l = made_less s.args.grants.now s.args.words.now 0 0 0 _ _ p.ensures c.if-not-spend.false-raw in
+    component_room s.args.grants.now s.args.words.now p.new.0 _ _ s.requires.room l c.place_of-at.ensures p.auto.0
+
+pub overflow_cast-k-2 : goal.overflow_cast-k-2
+overflow_cast-k-2 c =
+    let s = c.before.before.before.before.before.before.before.before.before.before.before.before.before.before in
+    let p = c.spend in
+    let l = made_less s.args.grants.now s.args.words.now 0 0 0 _ _ p.ensures c.if-not-spend.false-raw in
+    omega (arith, l, s.requires.room.entries)
+
+pub clear_from-requires : goal.clear_from-requires
+clear_from-requires c =
+    let s = c.before.before.before.before.before.before.before.before.before.before.before.before.before.before.before in
+    let p = c.spend in
+    let l = made_less s.args.grants.now s.args.words.now 0 0 0 _ _ p.ensures c.if-not-spend.false-raw in
+    marks_room s.args.grants.now s.args.words.now p.new.0 _ _ _ _ s.requires.room l c.marks_of.ensures p.auto.0
+
+pub bounds-words-10-2 : goal.bounds-words-10-2
+bounds-words-10-2 c =
+    let s = c.before.before.before.before.before.before.before.before.before.before.before.before.before.before.before.before.before.before in
+    let p = c.spend in
+    omega (
+      arith,
+      s.requires.room.words,
+      p.auto.0,
+      c.clear_from.auto.0,
+      length-set p.new.0 c.place_of-at.result c.slot_word.result,
+    )
+
+pub shape_of-words : goal.shape_of-words
+shape_of-words c =
+    let p = c.spend in
+    length-set c.clear_from.new.0 _ _ ∙ c.clear_from.auto.0 ∙ length-set p.new.0 _ _ ∙ p.auto.0
+
+pub returns : goal.returns
+returns c =
+    let s = c.before.before.before.before.before.before.before.before.before.before.before.before.before.before.before.before.before.before in
+    let p = c.spend in
+    one_added _ _ _ _ _ _ _ p.ensures c.if-not-spend.false-raw _ _ _ _ _ s.requires.room
+    c.word_at-w.ensures c.place_of-at.ensures
+    c.slot_word.ensures c.marks_of.ensures c.clear_from.ensures

@@ -1,0 +1,17 @@
+use native.Mathlib.Omega.{arith}
+use Rattle.groups.proofs.WaitingLaws.{waiting_sources, gather_short, gathers}
+use Rattle.groups.proofs.waiting.gather.Reads as reads
+use Rattle.groups.proofs.waiting.gather.Lts as lts
+use Rattle.arithmetic.proofs.lowered_word.Reads as lowered-word-reads
+use Rattle.groups.proofs.making.make_group.Reads as make-group-reads
+use Rattle.stores.proofs.shapes.place_of.Reads as place-of-reads
+use Rattle.groups.proofs.waiting.gather.Goals as goal
+
+pub make_group-r-requires : goal.make_group-r-requires
+make_group-r-requires c = waiting_sources _ _ _ _ c.requires (omega arith) c.place_of-at.ensures
+
+pub returns-then-r-ne0 : goal.returns-then-r-ne0
+returns-then-r-ne0 c = search gather_short
+
+pub returns : goal.returns
+returns c = search gathers

@@ -1,0 +1,15 @@
+use lib.ListN.{replicate}
+use Rattle.imgdraw.proofs.Whole.{program_drawn}
+use native.Mathlib.Omega.{arith}
+use mathlib.Core.Path.{refl}
+use Rattle.imgdraw.proofs.draw.draw_program.Goals as goal
+
+pub put_answer-requires : goal.put_answer-requires
+put_answer-requires c = let a = c.out-1 in omega (arith, c.requires)
+
+pub returns : goal.returns
+returns c = program_drawn _ (replicate 8193 0) (replicate 16384 0) (replicate 338192 0) (replicate 16384 0) _ _ _
+    c.ranges.width
+    c.ranges.height refl refl refl
+    refl _ _ _ _ c.draw-answer.ensures.0.answered
+    c.draw-answer.ensures.1 c.put_answer.ensures

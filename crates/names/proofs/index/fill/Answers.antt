@@ -1,0 +1,26 @@
+-- `names::index::fill` meets its contract: the index is that of the tokens before i.
+use Prim.Native.Nat.{◌-◌}
+use native.Mathlib.Omega.{arith}
+use Rattle.names.proofs.Noting.{fill_begin, fill_files, fill_next, fill_long, fill_all}
+use Rattle.names.proofs.index.fill.Goals as goal
+
+pub loop-i-init : goal.loop-i-init
+loop-i-init c = search fill_begin
+
+pub file-requires : goal.file-requires
+file-requires c = search fill_files
+
+pub overflow_add-i : goal.overflow_add-i
+overflow_add-i c = omega arith
+
+pub loop-i-smaller : goal.loop-i-smaller
+loop-i-smaller c = omega arith
+
+pub loop-i-preserved : goal.loop-i-preserved
+loop-i-preserved c = search fill_next
+
+pub shape_of-index : goal.shape_of-index
+shape_of-index c = search fill_long
+
+pub returns : goal.returns
+returns c = search fill_all

@@ -1,0 +1,23 @@
+use mir.Facts.{to_z-of_z}
+use Rattle.walks.proofs.TurnLaws.{room_same}
+use Rattle.remaking.proofs.RemakingLaws.{no_step, group_met, figure_met}
+use Rattle.remaking.proofs.reach.Goals as goal
+
+pub returns-then-not-count : goal.returns-then-not-count
+returns-then-not-count c = no_step _ _ _ _ _ _ _ c.count.ensures c.if-not-count.true-raw
+
+pub returns-then-is_group : goal.returns-then-is_group
+returns-then-is_group c =
+    group_met _ _ _ _ _ _ _ c.count.ensures c.if-not-count.false-raw _ c.is_group.ensures c.if-is_group.true
+
+pub renew-r-requires : goal.renew-r-requires
+renew-r-requires c =
+    let a = c.before.before.before.before.before.before.before.before.before.before in
+    (room_same a.requires.0 c.count.auto.0, rw (to_z-of_z a.ranges.by) a.requires.1)
+
+pub returns : goal.returns
+returns c =
+    let a = c.before.before.before.before.before.before.before in
+    let b = c.before.before.before.before.before in
+    figure_met _ _ _ _ _ _ _ a.before.before.before.count.ensures a.if1.false _ b.is_group.ensures a.before.before.before.before.before.before.ranges.by _ _
+    c.if-is_group.false c.renew-r.ensures

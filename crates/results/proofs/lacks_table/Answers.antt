@@ -1,0 +1,7 @@
+use Rattle.results.proofs.lacks_table.Goals as goal
+
+pub returns-then-tag-ge-FIRST_OPERATOR : goal.returns-then-tag-ge-FIRST_OPERATOR
+returns-then-tag-ge-FIRST_OPERATOR c = search rules-none
+
+pub returns : goal.returns
+returns c = search rules-table

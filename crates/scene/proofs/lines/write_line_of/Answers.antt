@@ -1,0 +1,10 @@
+-- `lines::write_line_of` meets its contract: the figure that is handed on is the shape's.
+-- Assumes nothing.
+use Rattle.scene.proofs.Figures.{kind_fits, line_written}
+use Rattle.scene.proofs.lines.write_line_of.Goals as goal
+
+pub overflow_cast-f : goal.overflow_cast-f
+overflow_cast-f c = search kind_fits
+
+pub returns : goal.returns
+returns c = search line_written

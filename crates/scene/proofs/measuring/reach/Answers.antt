@@ -1,0 +1,17 @@
+use Rattle.scene.proofs.MeasureLaws.{no_step, group_met, figure_met}
+use Rattle.scene.proofs.measuring.reach.Reads as reads
+use Rattle.scene.proofs.measuring.reach.Lts as lts
+use Rattle.scene.proofs.measuring.measure.Reads as measure-reads
+use Rattle.stores.proofs.counters.count.Reads as count-reads
+use Rattle.stores.proofs.shapes.is_group.Reads as is-group-reads
+use Rattle.scene.proofs.measuring.reach.Goals as goal
+
+pub returns-then-not-count : goal.returns-then-not-count
+returns-then-not-count c = no_step _ _ _ _ _ _ _ c.count.ensures c.if-not-count.true-raw
+
+pub returns-then-is_group : goal.returns-then-is_group
+returns-then-is_group c = group_met _ _ _ _ _ _ _ c.count.ensures c.if-not-count.false-raw _ c.is_group.ensures c.if-is_group.true
+
+pub returns : goal.returns
+returns c =
+    figure_met _ _ _ _ _ _ _ c.count.ensures c.if-not-count.false-raw _ c.is_group.ensures _ c.if-is_group.false c.measure.ensures

@@ -1,0 +1,37 @@
+use Prim.Native.Nat.{◌-◌}
+use native.Mathlib.Omega.{arith}
+use Rattle.showing.proofs.WriteLaws.{write_first, write_room, write_more, write_all}
+use Rattle.showing.proofs.write_variables.Reads as reads
+use Rattle.showing.proofs.write_variables.Lts as lts
+use Rattle.showing.proofs.declared_word.Reads as declared-word-reads
+use Rattle.showing.proofs.write_in.Reads as write-in-reads
+use Rattle.frames.proofs.variables.declared_count.Reads as declared-count-reads
+use Rattle.showing.proofs.write_variables.Goals as goal
+
+pub loop-drawn-init : goal.loop-drawn-init
+loop-drawn-init c = search write_first
+
+pub declared_word-w-requires : goal.declared_word-w-requires
+declared_word-w-requires c = omega (arith, c.requires.words, c.loop-drawn.invariant.unmoved.long)
+
+pub write_in-at-requires : goal.write_in-at-requires
+write_in-at-requires c = search write_room
+
+pub overflow_add-drawn : goal.overflow_add-drawn
+overflow_add-drawn c = omega arith
+
+pub loop-drawn-smaller : goal.loop-drawn-smaller
+loop-drawn-smaller c = omega arith
+
+pub loop-drawn-preserved : goal.loop-drawn-preserved
+loop-drawn-preserved c =
+    write_more _ _ _ _ _ _ _ _ _ _ _ c.loop-drawn.invariant _ _ _ _ (omega arith) c.loop-drawn-test.true c.declared_word-w.ensures c.write_in-at.ensures
+
+pub shape_of-words : goal.shape_of-words
+shape_of-words c = c.loop-drawn.invariant.unmoved.long
+
+pub shape_of-out : goal.shape_of-out
+shape_of-out c = c.loop-drawn.invariant.kept
+
+pub returns : goal.returns
+returns c = search write_all

@@ -1,0 +1,24 @@
+-- `slices::clear_bytes` meets its contract: the bytes before i are zero.
+use Prim.Native.Nat.{◌-◌}
+use native.Mathlib.Omega.{arith}
+use lib.ListN.{length-set}
+use Rattle.slices.proofs.Clearing.{clear_none, clear_long, clear_more, clear_all}
+use Rattle.slices.proofs.clear_bytes.Goals as goal
+
+pub loop-k-init : goal.loop-k-init
+loop-k-init c = search clear_none
+
+pub bounds-bytes-k : goal.bounds-bytes-k
+bounds-bytes-k c = omega arith
+
+pub loop-k-smaller : goal.loop-k-smaller
+loop-k-smaller c = simp length-set (omega arith)
+
+pub loop-k-preserved : goal.loop-k-preserved
+loop-k-preserved c = search clear_more
+
+pub shape_of-bytes : goal.shape_of-bytes
+shape_of-bytes c = search clear_long
+
+pub returns : goal.returns
+returns c = search clear_all

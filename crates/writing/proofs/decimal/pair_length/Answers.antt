@@ -1,0 +1,12 @@
+-- `writing::decimal::pair_length` meets its contract: each has at most 20 bytes.
+-- Assumes nothing.
+use Prim.Native.Nat.{◌+◌, ◌≤◌}
+use native.Mathlib.Omega.{arith}
+use Rattle.writing.proofs.Writers.{length_pair, pair_short}
+use Rattle.writing.proofs.decimal.pair_length.Goals as goal
+
+pub overflow_add-result : goal.overflow_add-result
+overflow_add-result c = let h : c.before.decimal-length.result + c.decimal-length2.result ≤ 40 = search pair_short in omega arith
+
+pub returns : goal.returns
+returns c = (search length_pair, search pair_short)
