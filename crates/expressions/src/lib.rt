@@ -22,7 +22,7 @@ pub enum Read {
 }
 
 // An operand, or two with one operator.
-#[cycle(read_arguments_read_expression_read_operand_read_primary)]
+#[cycle(reading)]
 pub fn read_expression(tokens: &[u64], words: &mut [u64], i: usize, n: usize, left: usize) -> Read
     requires { Room tokens.now words.old i n }
     ensures { seen result words.new ≡ written (expression left tokens.now i) n words.old }
@@ -42,7 +42,7 @@ pub fn read_expression(tokens: &[u64], words: &mut [u64], i: usize, n: usize, le
 }
 
 // A primary, or two with a dot between.
-#[cycle(read_arguments_read_expression_read_operand_read_primary)]
+#[cycle(reading)]
 fn read_operand(tokens: &[u64], words: &mut [u64], i: usize, n: usize, left: usize) -> Read
     requires { Room tokens.now words.old i n }
     ensures { seen result words.new ≡ written (operand (inside_of left tokens.now) tokens.now i) n words.old }
@@ -79,7 +79,7 @@ fn join(words: &mut [u64], b: Read, tag: u64, n: usize, m: usize, target: u64) -
 }
 
 // A constant, a name, a call, a table creation or a parenthesised expression.
-#[cycle(read_arguments_read_expression_read_operand_read_primary)]
+#[cycle(reading)]
 fn read_primary(tokens: &[u64], words: &mut [u64], i: usize, n: usize, left: usize) -> Read
     requires { Room tokens.now words.old i n }
     ensures { seen result words.new ≡ written (primary (inside_of left tokens.now) tokens.now i) n words.old }
@@ -206,7 +206,7 @@ fn finish(words: &mut [u64], e: Read, tag: u64, n: usize, x: u64) -> Read
 }
 
 // Arguments and the closing parenthesis. The word before each argument holds how many words it has.
-#[cycle(read_arguments_read_expression_read_operand_read_primary)]
+#[cycle(reading)]
 fn read_arguments(tokens: &[u64], words: &mut [u64], i: usize, n: usize, left: usize) -> Read
     requires { Room tokens.now words.old i (n + 1) }
     ensures { seen result words.new ≡ written_code (arguments (expression left tokens.now) tokens.now i) n words.old }

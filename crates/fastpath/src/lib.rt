@@ -99,7 +99,7 @@ fn sizes_agree(w: u64, u: u64, v: u64) -> bool
 
 // ---- expressions
 // An operator on two expressions.
-#[cycle(expression_operation)]
+#[cycle(evaluating)]
 fn operation(code: &[u64], words: &[u64], depth: usize, w: u64, x: usize) -> u64
     requires { fixed_words ≤ length words.now }
     ensures { result ≡ operation_word (fast_at depth code.now words.now) code.now w x }
@@ -122,7 +122,7 @@ fn operation(code: &[u64], words: &[u64], depth: usize, w: u64, x: usize) -> u64
 }
 
 // The expression whose root, the word w, stands at x.
-#[cycle(expression_operation)]
+#[cycle(evaluating)]
 fn expression(code: &[u64], words: &[u64], depth: usize, w: u64, x: usize) -> u64
     requires fixed_words_in_bounds { fixed_words ≤ length words.now }
     requires w_value { w ≡ get_or code.now x 0 }

@@ -13,7 +13,7 @@ use stores::words::word_at;
 use writing::write_bytes_at;
 
 // The statement whose word is at x.
-#[cycle(write_block_write_foreach_write_guarded_write_line_write_statement_write_statements)]
+#[cycle(writing)]
 fn write_statement(
     program: &[u8],
     tokens: &[u64],
@@ -67,7 +67,7 @@ fn write_statement(
 }
 
 // A test whose root is y and the statement behind it.
-#[cycle(write_block_write_foreach_write_guarded_write_line_write_statement_write_statements)]
+#[cycle(writing)]
 fn write_guarded(
     program: &[u8],
     tokens: &[u64],
@@ -87,7 +87,7 @@ fn write_guarded(
 }
 
 // A foreach whose word is at x and the root of whose expression stands so many words behind, and its body.
-#[cycle(write_block_write_foreach_write_guarded_write_line_write_statement_write_statements)]
+#[cycle(writing)]
 fn write_foreach(
     program: &[u8],
     tokens: &[u64],
@@ -110,7 +110,7 @@ fn write_foreach(
 }
 
 // A block of n words, whose own word is at x.
-#[cycle(write_block_write_foreach_write_guarded_write_line_write_statement_write_statements)]
+#[cycle(writing)]
 fn write_block(
     program: &[u8],
     tokens: &[u64],
@@ -141,7 +141,7 @@ fn write_block(
 }
 
 // The statements from `first` up to `end`, at most so many, each with its linefeed.
-#[cycle(write_block_write_foreach_write_guarded_write_line_write_statement_write_statements)]
+#[cycle(writing)]
 pub fn write_statements(
     program: &[u8],
     tokens: &[u64],
@@ -172,7 +172,7 @@ pub fn write_statements(
 }
 
 // The statement whose word is at x, and a linefeed.
-#[cycle(write_block_write_foreach_write_guarded_write_line_write_statement_write_statements)]
+#[cycle(writing)]
 fn write_line(
     program: &[u8],
     tokens: &[u64],

@@ -18,7 +18,7 @@ use machine::{Answer, Flow, Outcome, Value, granted, tags};
 // ---- expressions
 // An expression by its root x, in the statement at p. An answer that is handed on is made anew, here and in `simple`: a copy would be read in other
 // pieces than it was written in, and the processor would wait.
-#[cycle(argument_bound_call_each_expression_inside_invoke_leave_member_operands_own_procedure_pushed_repeat_simple_statement_statements_test_update_when)]
+#[cycle(interpreting)]
 fn expression(
     program: &[u8],
     code: &[u64],
@@ -57,7 +57,7 @@ fn expression(
 }
 
 // A new table by its size, a table read, or an operator.
-#[cycle(argument_bound_call_each_expression_inside_invoke_leave_member_operands_own_procedure_pushed_repeat_simple_statement_statements_test_update_when)]
+#[cycle(interpreting)]
 fn operands(
     program: &[u8],
     code: &[u64],
@@ -124,7 +124,7 @@ fn operands(
 }
 
 // A call, its arguments one after the other.
-#[cycle(argument_bound_call_each_expression_inside_invoke_leave_member_operands_own_procedure_pushed_repeat_simple_statement_statements_test_update_when)]
+#[cycle(interpreting)]
 fn call(
     program: &[u8],
     code: &[u64],
@@ -170,7 +170,7 @@ fn call(
 }
 
 // An argument by its root, pushed: worked out at once where it can be.
-#[cycle(argument_bound_call_each_expression_inside_invoke_leave_member_operands_own_procedure_pushed_repeat_simple_statement_statements_test_update_when)]
+#[cycle(interpreting)]
 fn argument(
     program: &[u8],
     code: &[u64],
@@ -195,7 +195,7 @@ fn argument(
 }
 
 // The same of one that is evaluated as any expression. It is a function of its own so that what its call takes of the stack is free again before the next.
-#[cycle(argument_bound_call_each_expression_inside_invoke_leave_member_operands_own_procedure_pushed_repeat_simple_statement_statements_test_update_when)]
+#[cycle(interpreting)]
 fn pushed(
     program: &[u8],
     code: &[u64],
@@ -220,7 +220,7 @@ fn pushed(
 }
 
 // A procedure of the program by its name's slot, on the arguments from the one numbered base on.
-#[cycle(argument_bound_call_each_expression_inside_invoke_leave_member_operands_own_procedure_pushed_repeat_simple_statement_statements_test_update_when)]
+#[cycle(interpreting)]
 fn invoke(
     program: &[u8],
     code: &[u64],
@@ -264,7 +264,7 @@ fn invoke(
 }
 
 // A procedure's statements from a up to end, one after the other, at most so many, and what they give. A return among them is executed here.
-#[cycle(argument_bound_call_each_expression_inside_invoke_leave_member_operands_own_procedure_pushed_repeat_simple_statement_statements_test_update_when)]
+#[cycle(interpreting)]
 fn procedure(
     program: &[u8],
     code: &[u64],
@@ -303,7 +303,7 @@ fn procedure(
 }
 
 // A return by its word, and the value that it gives: worked out at once where it can be.
-#[cycle(argument_bound_call_each_expression_inside_invoke_leave_member_operands_own_procedure_pushed_repeat_simple_statement_statements_test_update_when)]
+#[cycle(interpreting)]
 fn leave(
     program: &[u8],
     code: &[u64],
@@ -338,7 +338,7 @@ fn leave(
 
 // ---- statements that hold no others
 // A statement of one expression, by its word: worked out at once where it can be. What an assignment then does is so little that the compiler puts it here.
-#[cycle(argument_bound_call_each_expression_inside_invoke_leave_member_operands_own_procedure_pushed_repeat_simple_statement_statements_test_update_when)]
+#[cycle(interpreting)]
 fn simple(
     program: &[u8],
     code: &[u64],
@@ -374,7 +374,7 @@ fn simple(
 }
 
 // An update: the table and the key stand before the value whose root is y.
-#[cycle(argument_bound_call_each_expression_inside_invoke_leave_member_operands_own_procedure_pushed_repeat_simple_statement_statements_test_update_when)]
+#[cycle(interpreting)]
 fn update(
     program: &[u8],
     code: &[u64],
@@ -424,7 +424,7 @@ fn update(
 }
 
 // A test by its root: worked out at once where it can be. The code is lent anew for the same reason.
-#[cycle(argument_bound_call_each_expression_inside_invoke_leave_member_operands_own_procedure_pushed_repeat_simple_statement_statements_test_update_when)]
+#[cycle(interpreting)]
 fn test(
     program: &[u8],
     code: &[u64],
@@ -452,7 +452,7 @@ fn test(
 
 // ---- statements that hold others
 // A statement by the place of its word. A loop counts its steps itself.
-#[cycle(argument_bound_call_each_expression_inside_invoke_leave_member_operands_own_procedure_pushed_repeat_simple_statement_statements_test_update_when)]
+#[cycle(interpreting)]
 fn statement(
     program: &[u8],
     code: &[u64],
@@ -556,7 +556,7 @@ fn statement(
 }
 
 // The statement behind the test whose root is y, if it holds.
-#[cycle(argument_bound_call_each_expression_inside_invoke_leave_member_operands_own_procedure_pushed_repeat_simple_statement_statements_test_update_when)]
+#[cycle(interpreting)]
 fn when(
     program: &[u8],
     code: &[u64],
@@ -583,7 +583,7 @@ fn when(
 }
 
 // The statement behind the test whose root is y, as long as it holds.
-#[cycle(argument_bound_call_each_expression_inside_invoke_leave_member_operands_own_procedure_pushed_repeat_simple_statement_statements_test_update_when)]
+#[cycle(interpreting)]
 fn repeat(
     program: &[u8],
     code: &[u64],
@@ -619,7 +619,7 @@ fn repeat(
 }
 
 // The statements from a up to end, one after the other, at most so many.
-#[cycle(argument_bound_call_each_expression_inside_invoke_leave_member_operands_own_procedure_pushed_repeat_simple_statement_statements_test_update_when)]
+#[cycle(interpreting)]
 fn statements(
     program: &[u8],
     code: &[u64],
@@ -654,7 +654,7 @@ fn statements(
 
 // ---- loops over groups
 // The statement behind the expression whose root is y, for each figure in the group that this gives; the variable has so much for its slot.
-#[cycle(argument_bound_call_each_expression_inside_invoke_leave_member_operands_own_procedure_pushed_repeat_simple_statement_statements_test_update_when)]
+#[cycle(interpreting)]
 fn each(
     program: &[u8],
     code: &[u64],
@@ -687,7 +687,7 @@ fn each(
 }
 
 // The statement at b for each figure in group i, its own components one after the other.
-#[cycle(argument_bound_call_each_expression_inside_invoke_leave_member_operands_own_procedure_pushed_repeat_simple_statement_statements_test_update_when)]
+#[cycle(interpreting)]
 fn own(
     program: &[u8],
     code: &[u64],
@@ -724,7 +724,7 @@ fn own(
 }
 
 // For each figure that the component in slot k is or holds; it is passed over without a step if it is destroyed.
-#[cycle(argument_bound_call_each_expression_inside_invoke_leave_member_operands_own_procedure_pushed_repeat_simple_statement_statements_test_update_when)]
+#[cycle(interpreting)]
 fn member(
     program: &[u8],
     code: &[u64],
@@ -757,7 +757,7 @@ fn member(
 }
 
 // For each figure in group c, the component in slot end.
-#[cycle(argument_bound_call_each_expression_inside_invoke_leave_member_operands_own_procedure_pushed_repeat_simple_statement_statements_test_update_when)]
+#[cycle(interpreting)]
 fn inside(
     program: &[u8],
     code: &[u64],
@@ -798,7 +798,7 @@ fn inside(
 }
 
 // The statement at b with the variable bound to shape i.
-#[cycle(argument_bound_call_each_expression_inside_invoke_leave_member_operands_own_procedure_pushed_repeat_simple_statement_statements_test_update_when)]
+#[cycle(interpreting)]
 fn bound(
     program: &[u8],
     code: &[u64],

@@ -15,7 +15,7 @@ use stores::words::word_at;
 use writing::write_bytes_at;
 
 // The expression whose root is x.
-#[cycle(write_arguments_write_behind_write_between_write_call_write_entry_write_expression_write_operand_write_primary)]
+#[cycle(writing)]
 pub fn write_expression(
     program: &[u8],
     tokens: &[u64],
@@ -58,7 +58,7 @@ pub fn write_expression(
 }
 
 // The same as a part of an operator: in parentheses if it is an operator itself.
-#[cycle(write_arguments_write_behind_write_between_write_call_write_entry_write_expression_write_operand_write_primary)]
+#[cycle(writing)]
 fn write_operand(
     program: &[u8],
     tokens: &[u64],
@@ -91,7 +91,7 @@ fn write_operand(
 }
 
 // A table and a key by their roots with a dot between.
-#[cycle(write_arguments_write_behind_write_between_write_call_write_entry_write_expression_write_operand_write_primary)]
+#[cycle(writing)]
 pub fn write_entry(
     program: &[u8],
     tokens: &[u64],
@@ -111,7 +111,7 @@ pub fn write_entry(
 }
 
 // The expression whose root is x as a part of an entry: in parentheses if it is an operator or an entry itself.
-#[cycle(write_arguments_write_behind_write_between_write_call_write_entry_write_expression_write_operand_write_primary)]
+#[cycle(writing)]
 fn write_primary(
     program: &[u8],
     tokens: &[u64],
@@ -143,7 +143,7 @@ fn write_primary(
 }
 
 // An expression behind some bytes.
-#[cycle(write_arguments_write_behind_write_between_write_call_write_entry_write_expression_write_operand_write_primary)]
+#[cycle(writing)]
 fn write_behind(
     program: &[u8],
     tokens: &[u64],
@@ -162,7 +162,7 @@ fn write_behind(
 }
 
 // An expression between some bytes and others.
-#[cycle(write_arguments_write_behind_write_between_write_call_write_entry_write_expression_write_operand_write_primary)]
+#[cycle(writing)]
 pub fn write_between(
     program: &[u8],
     tokens: &[u64],
@@ -190,7 +190,7 @@ fn argument_at(code: &[u64], a: usize, x: usize) -> usize
 }
 
 // The call whose word, w, is at x.
-#[cycle(write_arguments_write_behind_write_between_write_call_write_entry_write_expression_write_operand_write_primary)]
+#[cycle(writing)]
 fn write_call(
     program: &[u8],
     tokens: &[u64],
@@ -212,7 +212,7 @@ fn write_call(
 }
 
 // The arguments from the one whose root is `first` up to x, with a comma between each two.
-#[cycle(write_arguments_write_behind_write_between_write_call_write_entry_write_expression_write_operand_write_primary)]
+#[cycle(writing)]
 fn write_arguments(
     program: &[u8],
     tokens: &[u64],

@@ -15,7 +15,7 @@ use expressions::{Read, kinds, token};
 use machine::tags;
 
 // By the first token.
-#[cycle(read_block_read_foreach_read_guarded_read_statement_read_statements)]
+#[cycle(reading)]
 pub fn read_statement(tokens: &[u64], words: &mut [u64], i: usize, n: usize, left: usize) -> Read
     requires { Space tokens.now words.old i n }
     ensures { seen result words.new ≡ written_code (statement left tokens.now i) n words.old }
@@ -231,7 +231,7 @@ fn read_simple(tokens: &[u64], words: &mut [u64], i: usize, n: usize, left: usiz
 }
 
 // if or while, at token i: a test and a body, both a level further in. Where a test was read a level was left.
-#[cycle(read_block_read_foreach_read_guarded_read_statement_read_statements)]
+#[cycle(reading)]
 fn read_guarded(
     tokens: &[u64],
     words: &mut [u64],
@@ -257,7 +257,7 @@ fn read_guarded(
 
 // foreach, at token i. The slot of its variable stands behind its word, then its group's code; the body is a level further in. What is asked of the
 // body's first token is asked before, in a function that calls no statement: so a level takes no more of the stack.
-#[cycle(read_block_read_foreach_read_guarded_read_statement_read_statements)]
+#[cycle(reading)]
 fn read_foreach(tokens: &[u64], words: &mut [u64], i: usize, n: usize, left: usize) -> Read
     requires space { Space tokens.now words.old i n }
     requires i_in_bounds { i < length tokens.now }
@@ -275,7 +275,7 @@ fn read_foreach(tokens: &[u64], words: &mut [u64], i: usize, n: usize, left: usi
 }
 
 // { .. } at token i.
-#[cycle(read_block_read_foreach_read_guarded_read_statement_read_statements)]
+#[cycle(reading)]
 fn read_block(tokens: &[u64], words: &mut [u64], i: usize, n: usize, left: usize) -> Read
     requires space { Space tokens.now words.old i n }
     requires i_value { kind_at tokens.now i ≡ 123 }
@@ -289,7 +289,7 @@ fn read_block(tokens: &[u64], words: &mut [u64], i: usize, n: usize, left: usize
 }
 
 // One statement or more, and the closing brace.
-#[cycle(read_block_read_foreach_read_guarded_read_statement_read_statements)]
+#[cycle(reading)]
 pub fn read_statements(tokens: &[u64], words: &mut [u64], i: usize, n: usize, left: usize) -> Read
     requires { Space tokens.now words.old i n }
     ensures { seen result words.new ≡ written_code (statements (statement left tokens.now) tokens.now i) n words.old }

@@ -12,28 +12,28 @@ use borrow.Fn.Kinds.{In}
 use borrow.Fn.PlainCycle.{Measures, is, falls, and}
 use Rattle.phrases.proofs.write_arguments.Reads as write-arguments
 use Rattle.phrases.proofs.write_arguments.Kinds as write-arguments-kinds
-use Rattle.phrases.proofs.+write_arguments_write_behind_write_between_write_call_write_entry_write_expression_write_operand_write_primary.Lts-write_arguments as write-arguments-lts
+use Rattle.phrases.proofs.+writing.Lts-write_arguments as write-arguments-lts
 use Rattle.phrases.proofs.write_behind.Reads as write-behind
 use Rattle.phrases.proofs.write_behind.Kinds as write-behind-kinds
-use Rattle.phrases.proofs.+write_arguments_write_behind_write_between_write_call_write_entry_write_expression_write_operand_write_primary.Lts-write_behind as write-behind-lts
+use Rattle.phrases.proofs.+writing.Lts-write_behind as write-behind-lts
 use Rattle.phrases.proofs.write_between.Reads as write-between
 use Rattle.phrases.proofs.write_between.Kinds as write-between-kinds
-use Rattle.phrases.proofs.+write_arguments_write_behind_write_between_write_call_write_entry_write_expression_write_operand_write_primary.Lts-write_between as write-between-lts
+use Rattle.phrases.proofs.+writing.Lts-write_between as write-between-lts
 use Rattle.phrases.proofs.write_call.Reads as write-call
 use Rattle.phrases.proofs.write_call.Kinds as write-call-kinds
-use Rattle.phrases.proofs.+write_arguments_write_behind_write_between_write_call_write_entry_write_expression_write_operand_write_primary.Lts-write_call as write-call-lts
+use Rattle.phrases.proofs.+writing.Lts-write_call as write-call-lts
 use Rattle.phrases.proofs.write_entry.Reads as write-entry
 use Rattle.phrases.proofs.write_entry.Kinds as write-entry-kinds
-use Rattle.phrases.proofs.+write_arguments_write_behind_write_between_write_call_write_entry_write_expression_write_operand_write_primary.Lts-write_entry as write-entry-lts
+use Rattle.phrases.proofs.+writing.Lts-write_entry as write-entry-lts
 use Rattle.phrases.proofs.write_expression.Reads as write-expression
 use Rattle.phrases.proofs.write_expression.Kinds as write-expression-kinds
-use Rattle.phrases.proofs.+write_arguments_write_behind_write_between_write_call_write_entry_write_expression_write_operand_write_primary.Lts-write_expression as write-expression-lts
+use Rattle.phrases.proofs.+writing.Lts-write_expression as write-expression-lts
 use Rattle.phrases.proofs.write_operand.Reads as write-operand
 use Rattle.phrases.proofs.write_operand.Kinds as write-operand-kinds
-use Rattle.phrases.proofs.+write_arguments_write_behind_write_between_write_call_write_entry_write_expression_write_operand_write_primary.Lts-write_operand as write-operand-lts
+use Rattle.phrases.proofs.+writing.Lts-write_operand as write-operand-lts
 use Rattle.phrases.proofs.write_primary.Reads as write-primary
 use Rattle.phrases.proofs.write_primary.Kinds as write-primary-kinds
-use Rattle.phrases.proofs.+write_arguments_write_behind_write_between_write_call_write_entry_write_expression_write_operand_write_primary.Lts-write_primary as write-primary-lts
+use Rattle.phrases.proofs.+writing.Lts-write_primary as write-primary-lts
 use Rattle.code.proofs.callee_of.Reads as callee-of-reads
 use Rattle.code.proofs.first_argument.Reads as first-argument-reads
 use Rattle.code.proofs.left_of.Reads as left-of-reads
@@ -46,10 +46,10 @@ use Rattle.spellings.proofs.write_name.Reads as write-name-reads
 use Rattle.spellings.proofs.write_sign.Reads as write-sign-reads
 use Rattle.stores.proofs.words.word_at.Reads as word-at-reads
 use Rattle.writing.proofs.write_bytes_at.Reads as write-bytes-at-reads
-use Rattle.phrases.proofs.+write_arguments_write_behind_write_between_write_call_write_entry_write_expression_write_operand_write_primary.{
+use Rattle.phrases.proofs.+writing.{
   statement,
 }
-use Rattle.phrases.proofs.+write_arguments_write_behind_write_between_write_call_write_entry_write_expression_write_operand_write_primary.Tie.{
+use Rattle.phrases.proofs.+writing.Tie.{
   close,
 }
 

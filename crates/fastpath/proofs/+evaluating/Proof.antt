@@ -6,10 +6,10 @@ use borrow.Fn.Kinds.{In}
 use borrow.Fn.PlainCycle.{Measures, is, falls, and}
 use Rattle.fastpath.proofs.expression.Reads as expression
 use Rattle.fastpath.proofs.expression.Kinds as expression-kinds
-use Rattle.fastpath.proofs.+expression_operation.Lts-expression as expression-lts
+use Rattle.fastpath.proofs.+evaluating.Lts-expression as expression-lts
 use Rattle.fastpath.proofs.operation.Reads as operation
 use Rattle.fastpath.proofs.operation.Kinds as operation-kinds
-use Rattle.fastpath.proofs.+expression_operation.Lts-operation as operation-lts
+use Rattle.fastpath.proofs.+evaluating.Lts-operation as operation-lts
 use Rattle.code.proofs.tag_of.Reads as tag-of-reads
 use Rattle.fastpath.proofs.leaf_word.Reads as leaf-word-reads
 use Rattle.code.proofs.left_of.Reads as left-of-reads
@@ -17,8 +17,8 @@ use Rattle.code.proofs.right_of.Reads as right-of-reads
 use Rattle.fastpath.proofs.sizes_agree.Reads as sizes-agree-reads
 use Rattle.fastpath.proofs.word_on.Reads as word-on-reads
 use Rattle.stores.proofs.words.word_at.Reads as word-at-reads
-use Rattle.fastpath.proofs.+expression_operation.{statement}
-use Rattle.fastpath.proofs.+expression_operation.Tie.{close}
+use Rattle.fastpath.proofs.+evaluating.{statement}
+use Rattle.fastpath.proofs.+evaluating.Tie.{close}
 
 abbrev μ-expression : Measures 2 expression-kinds.ps ℕ
 μ-expression κs a = 2 * a.1.1.0

@@ -12,22 +12,22 @@ use borrow.Fn.Kinds.{In}
 use borrow.Fn.PlainCycle.{Measures, is, falls, and}
 use Rattle.formatter.proofs.statement.write_block.Reads as write-block
 use Rattle.formatter.proofs.statement.write_block.Kinds as write-block-kinds
-use Rattle.formatter.proofs.statement.+write_block_write_foreach_write_guarded_write_line_write_statement_write_statements.Lts-write_block as write-block-lts
+use Rattle.formatter.proofs.statement.+writing.Lts-write_block as write-block-lts
 use Rattle.formatter.proofs.statement.write_foreach.Reads as write-foreach
 use Rattle.formatter.proofs.statement.write_foreach.Kinds as write-foreach-kinds
-use Rattle.formatter.proofs.statement.+write_block_write_foreach_write_guarded_write_line_write_statement_write_statements.Lts-write_foreach as write-foreach-lts
+use Rattle.formatter.proofs.statement.+writing.Lts-write_foreach as write-foreach-lts
 use Rattle.formatter.proofs.statement.write_guarded.Reads as write-guarded
 use Rattle.formatter.proofs.statement.write_guarded.Kinds as write-guarded-kinds
-use Rattle.formatter.proofs.statement.+write_block_write_foreach_write_guarded_write_line_write_statement_write_statements.Lts-write_guarded as write-guarded-lts
+use Rattle.formatter.proofs.statement.+writing.Lts-write_guarded as write-guarded-lts
 use Rattle.formatter.proofs.statement.write_line.Reads as write-line
 use Rattle.formatter.proofs.statement.write_line.Kinds as write-line-kinds
-use Rattle.formatter.proofs.statement.+write_block_write_foreach_write_guarded_write_line_write_statement_write_statements.Lts-write_line as write-line-lts
+use Rattle.formatter.proofs.statement.+writing.Lts-write_line as write-line-lts
 use Rattle.formatter.proofs.statement.write_statement.Reads as write-statement
 use Rattle.formatter.proofs.statement.write_statement.Kinds as write-statement-kinds
-use Rattle.formatter.proofs.statement.+write_block_write_foreach_write_guarded_write_line_write_statement_write_statements.Lts-write_statement as write-statement-lts
+use Rattle.formatter.proofs.statement.+writing.Lts-write_statement as write-statement-lts
 use Rattle.formatter.proofs.statement.write_statements.Reads as write-statements
 use Rattle.formatter.proofs.statement.write_statements.Kinds as write-statements-kinds
-use Rattle.formatter.proofs.statement.+write_block_write_foreach_write_guarded_write_line_write_statement_write_statements.Lts-write_statements as write-statements-lts
+use Rattle.formatter.proofs.statement.+writing.Lts-write_statements as write-statements-lts
 use Rattle.code.proofs.extra_of.Reads as extra-of-reads
 use Rattle.code.proofs.last_of.Reads as last-of-reads
 use Rattle.code.proofs.size_of.Reads as size-of-reads
@@ -40,10 +40,10 @@ use Rattle.clauses.proofs.write_iterator.Reads as write-iterator-reads
 use Rattle.clauses.proofs.write_update.Reads as write-update-reads
 use Rattle.stores.proofs.words.word_at.Reads as word-at-reads
 use Rattle.writing.proofs.write_bytes_at.Reads as write-bytes-at-reads
-use Rattle.formatter.proofs.statement.+write_block_write_foreach_write_guarded_write_line_write_statement_write_statements.{
+use Rattle.formatter.proofs.statement.+writing.{
   statement,
 }
-use Rattle.formatter.proofs.statement.+write_block_write_foreach_write_guarded_write_line_write_statement_write_statements.Tie.{
+use Rattle.formatter.proofs.statement.+writing.Tie.{
   close,
 }
 

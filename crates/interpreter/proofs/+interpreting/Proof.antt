@@ -26,64 +26,64 @@ use borrow.Fn.Kinds.{In}
 use borrow.Fn.PlainCycle.{Measures, is, falls, and}
 use Rattle.interpreter.proofs.argument.Reads as argument
 use Rattle.interpreter.proofs.argument.Kinds as argument-kinds
-use Rattle.interpreter.proofs.+argument_bound_call_each_expression_inside_invoke_leave_member_operands_own_procedure_pushed_repeat_simple_statement_statements_test_update_when.Lts-argument as argument-lts
+use Rattle.interpreter.proofs.+interpreting.Lts-argument as argument-lts
 use Rattle.interpreter.proofs.bound.Reads as bound
 use Rattle.interpreter.proofs.bound.Kinds as bound-kinds
-use Rattle.interpreter.proofs.+argument_bound_call_each_expression_inside_invoke_leave_member_operands_own_procedure_pushed_repeat_simple_statement_statements_test_update_when.Lts-bound as bound-lts
+use Rattle.interpreter.proofs.+interpreting.Lts-bound as bound-lts
 use Rattle.interpreter.proofs.call.Reads as call
 use Rattle.interpreter.proofs.call.Kinds as call-kinds
-use Rattle.interpreter.proofs.+argument_bound_call_each_expression_inside_invoke_leave_member_operands_own_procedure_pushed_repeat_simple_statement_statements_test_update_when.Lts-call as call-lts
+use Rattle.interpreter.proofs.+interpreting.Lts-call as call-lts
 use Rattle.interpreter.proofs.each.Reads as each
 use Rattle.interpreter.proofs.each.Kinds as each-kinds
-use Rattle.interpreter.proofs.+argument_bound_call_each_expression_inside_invoke_leave_member_operands_own_procedure_pushed_repeat_simple_statement_statements_test_update_when.Lts-each as each-lts
+use Rattle.interpreter.proofs.+interpreting.Lts-each as each-lts
 use Rattle.interpreter.proofs.expression.Reads as expression
 use Rattle.interpreter.proofs.expression.Kinds as expression-kinds
-use Rattle.interpreter.proofs.+argument_bound_call_each_expression_inside_invoke_leave_member_operands_own_procedure_pushed_repeat_simple_statement_statements_test_update_when.Lts-expression as expression-lts
+use Rattle.interpreter.proofs.+interpreting.Lts-expression as expression-lts
 use Rattle.interpreter.proofs.inside.Reads as inside
 use Rattle.interpreter.proofs.inside.Kinds as inside-kinds
-use Rattle.interpreter.proofs.+argument_bound_call_each_expression_inside_invoke_leave_member_operands_own_procedure_pushed_repeat_simple_statement_statements_test_update_when.Lts-inside as inside-lts
+use Rattle.interpreter.proofs.+interpreting.Lts-inside as inside-lts
 use Rattle.interpreter.proofs.invoke.Reads as invoke
 use Rattle.interpreter.proofs.invoke.Kinds as invoke-kinds
-use Rattle.interpreter.proofs.+argument_bound_call_each_expression_inside_invoke_leave_member_operands_own_procedure_pushed_repeat_simple_statement_statements_test_update_when.Lts-invoke as invoke-lts
+use Rattle.interpreter.proofs.+interpreting.Lts-invoke as invoke-lts
 use Rattle.interpreter.proofs.leave.Reads as leave
 use Rattle.interpreter.proofs.leave.Kinds as leave-kinds
-use Rattle.interpreter.proofs.+argument_bound_call_each_expression_inside_invoke_leave_member_operands_own_procedure_pushed_repeat_simple_statement_statements_test_update_when.Lts-leave as leave-lts
+use Rattle.interpreter.proofs.+interpreting.Lts-leave as leave-lts
 use Rattle.interpreter.proofs.member.Reads as member
 use Rattle.interpreter.proofs.member.Kinds as member-kinds
-use Rattle.interpreter.proofs.+argument_bound_call_each_expression_inside_invoke_leave_member_operands_own_procedure_pushed_repeat_simple_statement_statements_test_update_when.Lts-member as member-lts
+use Rattle.interpreter.proofs.+interpreting.Lts-member as member-lts
 use Rattle.interpreter.proofs.operands.Reads as operands
 use Rattle.interpreter.proofs.operands.Kinds as operands-kinds
-use Rattle.interpreter.proofs.+argument_bound_call_each_expression_inside_invoke_leave_member_operands_own_procedure_pushed_repeat_simple_statement_statements_test_update_when.Lts-operands as operands-lts
+use Rattle.interpreter.proofs.+interpreting.Lts-operands as operands-lts
 use Rattle.interpreter.proofs.own.Reads as own
 use Rattle.interpreter.proofs.own.Kinds as own-kinds
-use Rattle.interpreter.proofs.+argument_bound_call_each_expression_inside_invoke_leave_member_operands_own_procedure_pushed_repeat_simple_statement_statements_test_update_when.Lts-own as own-lts
+use Rattle.interpreter.proofs.+interpreting.Lts-own as own-lts
 use Rattle.interpreter.proofs.procedure.Reads as procedure
 use Rattle.interpreter.proofs.procedure.Kinds as procedure-kinds
-use Rattle.interpreter.proofs.+argument_bound_call_each_expression_inside_invoke_leave_member_operands_own_procedure_pushed_repeat_simple_statement_statements_test_update_when.Lts-procedure as procedure-lts
+use Rattle.interpreter.proofs.+interpreting.Lts-procedure as procedure-lts
 use Rattle.interpreter.proofs.pushed.Reads as pushed
 use Rattle.interpreter.proofs.pushed.Kinds as pushed-kinds
-use Rattle.interpreter.proofs.+argument_bound_call_each_expression_inside_invoke_leave_member_operands_own_procedure_pushed_repeat_simple_statement_statements_test_update_when.Lts-pushed as pushed-lts
+use Rattle.interpreter.proofs.+interpreting.Lts-pushed as pushed-lts
 use Rattle.interpreter.proofs.repeat.Reads as repeat
 use Rattle.interpreter.proofs.repeat.Kinds as repeat-kinds
-use Rattle.interpreter.proofs.+argument_bound_call_each_expression_inside_invoke_leave_member_operands_own_procedure_pushed_repeat_simple_statement_statements_test_update_when.Lts-repeat as repeat-lts
+use Rattle.interpreter.proofs.+interpreting.Lts-repeat as repeat-lts
 use Rattle.interpreter.proofs.simple.Reads as simple
 use Rattle.interpreter.proofs.simple.Kinds as simple-kinds
-use Rattle.interpreter.proofs.+argument_bound_call_each_expression_inside_invoke_leave_member_operands_own_procedure_pushed_repeat_simple_statement_statements_test_update_when.Lts-simple as simple-lts
+use Rattle.interpreter.proofs.+interpreting.Lts-simple as simple-lts
 use Rattle.interpreter.proofs.statement.Reads as statement'
 use Rattle.interpreter.proofs.statement.Kinds as statement-kinds
-use Rattle.interpreter.proofs.+argument_bound_call_each_expression_inside_invoke_leave_member_operands_own_procedure_pushed_repeat_simple_statement_statements_test_update_when.Lts-statement as statement-lts
+use Rattle.interpreter.proofs.+interpreting.Lts-statement as statement-lts
 use Rattle.interpreter.proofs.statements.Reads as statements
 use Rattle.interpreter.proofs.statements.Kinds as statements-kinds
-use Rattle.interpreter.proofs.+argument_bound_call_each_expression_inside_invoke_leave_member_operands_own_procedure_pushed_repeat_simple_statement_statements_test_update_when.Lts-statements as statements-lts
+use Rattle.interpreter.proofs.+interpreting.Lts-statements as statements-lts
 use Rattle.interpreter.proofs.test.Reads as test
 use Rattle.interpreter.proofs.test.Kinds as test-kinds
-use Rattle.interpreter.proofs.+argument_bound_call_each_expression_inside_invoke_leave_member_operands_own_procedure_pushed_repeat_simple_statement_statements_test_update_when.Lts-test as test-lts
+use Rattle.interpreter.proofs.+interpreting.Lts-test as test-lts
 use Rattle.interpreter.proofs.update.Reads as update
 use Rattle.interpreter.proofs.update.Kinds as update-kinds
-use Rattle.interpreter.proofs.+argument_bound_call_each_expression_inside_invoke_leave_member_operands_own_procedure_pushed_repeat_simple_statement_statements_test_update_when.Lts-update as update-lts
+use Rattle.interpreter.proofs.+interpreting.Lts-update as update-lts
 use Rattle.interpreter.proofs.when.Reads as when
 use Rattle.interpreter.proofs.when.Kinds as when-kinds
-use Rattle.interpreter.proofs.+argument_bound_call_each_expression_inside_invoke_leave_member_operands_own_procedure_pushed_repeat_simple_statement_statements_test_update_when.Lts-when as when-lts
+use Rattle.interpreter.proofs.+interpreting.Lts-when as when-lts
 use Rattle.code.proofs.argument_root.Reads as argument-root-reads
 use Rattle.code.proofs.before.Reads as before-reads
 use Rattle.code.proofs.body_of.Reads as body-of-reads
@@ -133,10 +133,10 @@ use Rattle.stores.proofs.words.word_at.Reads as word-at-reads
 use Rattle.tables.proofs.entries.store_entry.Reads as store-entry-reads
 use Rattle.values.proofs.pack.Reads as pack-reads
 use Rattle.values.proofs.unpack.Reads as unpack-reads
-use Rattle.interpreter.proofs.+argument_bound_call_each_expression_inside_invoke_leave_member_operands_own_procedure_pushed_repeat_simple_statement_statements_test_update_when.{
+use Rattle.interpreter.proofs.+interpreting.{
   statement,
 }
-use Rattle.interpreter.proofs.+argument_bound_call_each_expression_inside_invoke_leave_member_operands_own_procedure_pushed_repeat_simple_statement_statements_test_update_when.Tie.{
+use Rattle.interpreter.proofs.+interpreting.Tie.{
   close,
 }
 

@@ -14,16 +14,16 @@ use borrow.Fn.Kinds.{In}
 use borrow.Fn.PlainCycle.{Measures, is, falls, and}
 use Rattle.expressions.proofs.read_arguments.Reads as read_arguments
 use Rattle.expressions.proofs.read_arguments.Kinds as read-arguments-kinds
-use Rattle.expressions.proofs.+read_arguments_read_expression_read_operand_read_primary.Lts-read_arguments as read-arguments-lts
+use Rattle.expressions.proofs.+reading.Lts-read_arguments as read-arguments-lts
 use Rattle.expressions.proofs.read_expression.Reads as read-expression
 use Rattle.expressions.proofs.read_expression.Kinds as read-expression-kinds
-use Rattle.expressions.proofs.+read_arguments_read_expression_read_operand_read_primary.Lts-read_expression as read-expression-lts
+use Rattle.expressions.proofs.+reading.Lts-read_expression as read-expression-lts
 use Rattle.expressions.proofs.read_operand.Reads as read-operand
 use Rattle.expressions.proofs.read_operand.Kinds as read-operand-kinds
-use Rattle.expressions.proofs.+read_arguments_read_expression_read_operand_read_primary.Lts-read_operand as read-operand-lts
+use Rattle.expressions.proofs.+reading.Lts-read_operand as read-operand-lts
 use Rattle.expressions.proofs.read_primary.Reads as read-primary
 use Rattle.expressions.proofs.read_primary.Kinds as read-primary-kinds
-use Rattle.expressions.proofs.+read_arguments_read_expression_read_operand_read_primary.Lts-read_primary as read-primary-lts
+use Rattle.expressions.proofs.+reading.Lts-read_primary as read-primary-lts
 use Rattle.code.proofs.put.Reads as put_reads
 use Rattle.code.proofs.word_of.Reads as word-of-reads
 use Rattle.expressions.proofs.close.Reads as close-reads
@@ -37,10 +37,10 @@ use Rattle.expressions.proofs.token.kind_at.Reads as kind-at-reads
 use Rattle.expressions.proofs.token.callee_at.Reads as callee-at-reads
 use Rattle.expressions.proofs.token.operator_tag.Reads as operator-tag-reads
 use Rattle.expressions.proofs.token.part_at.Reads as part-at-reads
-use Rattle.expressions.proofs.+read_arguments_read_expression_read_operand_read_primary.{
+use Rattle.expressions.proofs.+reading.{
   statement,
 }
-use Rattle.expressions.proofs.+read_arguments_read_expression_read_operand_read_primary.Tie.{
+use Rattle.expressions.proofs.+reading.Tie.{
   close,
 }
 

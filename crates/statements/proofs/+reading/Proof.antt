@@ -14,19 +14,19 @@ use borrow.Fn.Kinds.{In}
 use borrow.Fn.PlainCycle.{Measures, is, falls, and}
 use Rattle.statements.proofs.read_block.Reads as read-block
 use Rattle.statements.proofs.read_block.Kinds as read-block-kinds
-use Rattle.statements.proofs.+read_block_read_foreach_read_guarded_read_statement_read_statements.Lts-read_block as read-block-lts
+use Rattle.statements.proofs.+reading.Lts-read_block as read-block-lts
 use Rattle.statements.proofs.read_foreach.Reads as read-foreach
 use Rattle.statements.proofs.read_foreach.Kinds as read-foreach-kinds
-use Rattle.statements.proofs.+read_block_read_foreach_read_guarded_read_statement_read_statements.Lts-read_foreach as read-foreach-lts
+use Rattle.statements.proofs.+reading.Lts-read_foreach as read-foreach-lts
 use Rattle.statements.proofs.read_guarded.Reads as read-guarded
 use Rattle.statements.proofs.read_guarded.Kinds as read-guarded-kinds
-use Rattle.statements.proofs.+read_block_read_foreach_read_guarded_read_statement_read_statements.Lts-read_guarded as read-guarded-lts
+use Rattle.statements.proofs.+reading.Lts-read_guarded as read-guarded-lts
 use Rattle.statements.proofs.read_statement.Reads as read-statement
 use Rattle.statements.proofs.read_statement.Kinds as read-statement-kinds
-use Rattle.statements.proofs.+read_block_read_foreach_read_guarded_read_statement_read_statements.Lts-read_statement as read-statement-lts
+use Rattle.statements.proofs.+reading.Lts-read_statement as read-statement-lts
 use Rattle.statements.proofs.read_statements.Reads as read-statements
 use Rattle.statements.proofs.read_statements.Kinds as read-statements-kinds
-use Rattle.statements.proofs.+read_block_read_foreach_read_guarded_read_statement_read_statements.Lts-read_statements as read-statements-lts
+use Rattle.statements.proofs.+reading.Lts-read_statements as read-statements-lts
 use Rattle.expressions.proofs.token.kind_at.Reads as kind-at-reads
 use Rattle.statements.proofs.head.Reads as head_reads
 use Rattle.statements.proofs.read_declaration.Reads as read-declaration-reads
@@ -34,10 +34,10 @@ use Rattle.statements.proofs.read_each.Reads as read-each-reads
 use Rattle.statements.proofs.read_return.Reads as read-return-reads
 use Rattle.statements.proofs.read_simple.Reads as read-simple-reads
 use Rattle.statements.proofs.read_test.Reads as read-test-reads
-use Rattle.statements.proofs.+read_block_read_foreach_read_guarded_read_statement_read_statements.{
+use Rattle.statements.proofs.+reading.{
   statement,
 }
-use Rattle.statements.proofs.+read_block_read_foreach_read_guarded_read_statement_read_statements.Tie.{
+use Rattle.statements.proofs.+reading.Tie.{
   close,
 }
 
