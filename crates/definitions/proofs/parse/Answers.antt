@@ -7,13 +7,13 @@ use Rattle.definitions.proofs.Gathering.{gathering_starts, gathering_fails, turn
 use Rattle.definitions.proofs.parse.Goals as goal
 
 pub loop-k-init : goal.loop-k-init
-loop-k-init c = gathering_starts _ _ c.requires.0 c.requires.1
+loop-k-init c = gathering_starts _ _ c.requires.halves c.requires.words_value
 
 pub read_below-p-requires : goal.read_below-p-requires
-read_below-p-requires c = (c.loop-k.invariant.halves, c.loop-k.invariant.behind)
-
-pub shape_of-words-in-Wrong : goal.shape_of-words-in-Wrong
-shape_of-words-in-Wrong c = c.read_below-p.auto.1.0 ∙ c.loop-k.invariant.kept
+read_below-p-requires c = record {
+  halves = c.loop-k.invariant.halves;
+  n_le_i = c.loop-k.invariant.behind;
+}
 
 pub returns-in-Wrong : goal.returns-in-Wrong
 returns-in-Wrong c = gathering_fails _ _ _ _ _ _ _ c.loop-k.invariant _ _ c.read_below-p.ensures _ _
@@ -39,11 +39,6 @@ pub note_main-main-requires : goal.note_main-main-requires
 note_main-main-requires c = let w = turned _ _ _ _ _ _ _ c.loop-k.invariant _ _
     c.read_below-p.ensures _ _ _
     c.in-At.is in omega (arith, w.inside)
-
-pub shape_of-words-then-kind_at-eq0 : goal.shape_of-words-then-kind_at-eq0
-shape_of-words-then-kind_at-eq0 c = c.enter-old.auto.1.0
-    ∙ c.read_below-p.auto.1.0
-    ∙ c.loop-k.invariant.kept
 
 pub returns-then-kind_at-eq0 : goal.returns-then-kind_at-eq0
 returns-then-kind_at-eq0 c = gathering_ends _ _ _ _ _ _ _ c.loop-k.invariant _ _ c.read_below-p.ensures _ _ _

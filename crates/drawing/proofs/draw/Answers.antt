@@ -2,10 +2,16 @@ use Rattle.drawing.proofs.Ways.{draw_refused, out_refused, draw_ready, draw_perf
 use Rattle.drawing.proofs.draw.Goals as goal
 
 pub returns-then-not-is_enough : goal.returns-then-not-is_enough
-returns-then-not-is_enough c = (search draw_refused, search out_refused)
+returns-then-not-is_enough c = record {
+  performed = search draw_refused;
+  out_after = search out_refused;
+}
 
 pub draw_lent-r-requires : goal.draw_lent-r-requires
 draw_lent-r-requires c = search draw_ready
 
 pub returns : goal.returns
-returns c = (draw_performed _ _ _ _ c.args.tokens.now c.args.code.now c.args.words.now c.args.texts.now _ _ c.is_enough.ensures c.if-not-is_enough.false-raw c.ranges.width c.ranges.height _ _ c.draw_lent-r.ensures _ _ _ _ _ _ _ _ c.draw_lent-r.auto.1.1.1.1.0 c.clear.ensures.0 c.draw_lent-r.auto.1.1.1.1.1.0 c.clear.ensures.1.0 c.draw_lent-r.auto.1.1.1.1.1.1.0 c.clear.ensures.1.1.0 c.draw_lent-r.auto.1.1.1.1.1.1.1.0 c.clear.ensures.1.1.1, out_performed _ _ _ _ c.args.tokens.now c.args.code.now c.args.words.now c.args.texts.now _ _ c.is_enough.ensures c.if-not-is_enough.false-raw c.ranges.width c.ranges.height _ _ c.draw_lent-r.ensures)
+returns c = record {
+  performed = draw_performed _ _ _ _ c.args.tokens.now c.args.code.now c.args.words.now c.args.texts.now _ _ c.is_enough.ensures c.if-not-is_enough.false-raw c.ranges.width c.ranges.height _ _ c.draw_lent-r.ensures _ _ _ _ _ _ _ _ c.draw_lent-r.auto.1.1.1.1.0 c.clear.ensures.tokens_after c.draw_lent-r.auto.1.1.1.1.1.0 c.clear.ensures.code_after.0 c.draw_lent-r.auto.1.1.1.1.1.1.0 c.clear.ensures.code_after.1.0 c.draw_lent-r.auto.1.1.1.1.1.1.1.0 c.clear.ensures.code_after.1.1;
+  out_after = out_performed _ _ _ _ c.args.tokens.now c.args.code.now c.args.words.now c.args.texts.now _ _ c.is_enough.ensures c.if-not-is_enough.false-raw c.ranges.width c.ranges.height _ _ c.draw_lent-r.ensures;
+}

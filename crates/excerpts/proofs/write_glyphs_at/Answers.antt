@@ -2,7 +2,7 @@
 -- Assumes nothing.
 use Prim.Native.Nat.{◌-◌}
 use native.Mathlib.Omega.{arith}
-use Rattle.excerpts.proofs.Marking.{show_none, show_kept, show_more, show_all}
+use Rattle.excerpts.proofs.Marking.{show_none, show_more, show_all}
 use Rattle.excerpts.proofs.write_glyphs_at.Goals as goal
 
 pub loop-i-init : goal.loop-i-init
@@ -20,9 +20,6 @@ loop-i-smaller c = omega arith
 pub loop-i-preserved : goal.loop-i-preserved
 loop-i-preserved c = show_more _ _ _ _ _ _ _ c.loop-i.invariant _ _ _ (omega arith)
     c.loop-i-test.true c.glyph.ensures c.write_bytes_at-next.ensures
-
-pub shape_of-out : goal.shape_of-out
-shape_of-out c = show_kept _ _ _ _ _ _ _ c.loop-i.invariant
 
 pub returns : goal.returns
 returns c = show_all _ _ _ _ _ _ _ c.loop-i.invariant c.loop-i-test.false

@@ -8,4 +8,7 @@ use Rattle.lexer.proofs.lex.Goals as goal
 
 pub lex_by-requires : goal.lex_by-requires
 unfolding classes_from class_of is_space is_letter is_digit is_quote is_sign stands_in
-lex_by-requires c = (refl, c.requires)
+lex_by-requires c = record {
+  classes_value = refl;
+  program_len_bound = c.requires;
+}

@@ -3,7 +3,7 @@
 use mathlib.Core.Path.{◌∙◌, sym}
 use Prim.Native.Nat.{◌-◌}
 use native.Mathlib.Omega.{arith}
-use Rattle.lexer.proofs.Going.{start, space, token, ends, same_length as laid_length, ended, refused}
+use Rattle.lexer.proofs.Going.{start, space, token, ends, ended, refused}
 use Rattle.lexer.proofs.lex_by.Goals as goal
 
 pub loop-at-init : goal.loop-at-init
@@ -20,11 +20,6 @@ loop-at-preserved-then-c-eq-WHITE c = space c.args.program.now c.args.tokens.now
     c.loop-at.tokens c.loop-at.at c.loop-at.n c.loop-at.invariant
     c.loop-at-test.true (sym c.class_at-c.ensures ∙ c.if-c-eq-WHITE.true)
 
-pub shape_of-tokens-then-w-eq0 : goal.shape_of-tokens-then-w-eq0
-shape_of-tokens-then-w-eq0 c = laid_length c.args.program.now
-    c.args.tokens.now c.loop-at.tokens
-    c.loop-at.at c.loop-at.n c.loop-at.invariant
-
 pub returns-then-w-eq0 : goal.returns-then-w-eq0
 returns-then-w-eq0 c = refused c.args.program.now
     c.args.tokens.now c.loop-at.tokens
@@ -32,19 +27,19 @@ returns-then-w-eq0 c = refused c.args.program.now
     c.loop-at-test.true (λ e. c.if-c-eq-WHITE.false (c.class_at-c.ensures ∙ e)) _ c.token_at-w.ensures c.if-w-eq0.true
 
 pub overflow_add-n : goal.overflow_add-n
-overflow_add-n c = omega (arith, c.loop-at.invariant.few, c.loop-at-test.true, c.requires.1)
+overflow_add-n c = omega (arith, c.loop-at.invariant.few, c.loop-at-test.true, c.requires.program_len_bound)
 
 pub overflow_add-at-in-loop-at : goal.overflow_add-at-in-loop-at
 overflow_add-at-in-loop-at c = let f = ends c.args.program.now
-    c.requires.1
+    c.requires.program_len_bound
     c.loop-at.at _ _
     c.loop-at-test.true c.token_at-w.ensures
     c.if-w-eq0.false c.token_size-at.ensures in
-    omega (arith, c.requires.1)
+    omega (arith, c.requires.program_len_bound)
 
 pub loop-at-smaller : goal.loop-at-smaller
 loop-at-smaller c = let f = ends c.args.program.now
-    c.requires.1
+    c.requires.program_len_bound
     c.loop-at.at _ _
     c.loop-at-test.true c.token_at-w.ensures
     c.if-w-eq0.false c.token_size-at.ensures in omega arith
@@ -55,14 +50,10 @@ loop-at-preserved c = token c.args.program.now
     c.loop-at.tokens
     c.loop-at.at c.loop-at.n
     c.loop-at.invariant
-    c.requires.1
+    c.requires.program_len_bound
     c.loop-at-test.true
     (λ e. c.if-c-eq-WHITE.false (c.class_at-c.ensures ∙ e)) _ _ _
     c.token_at-w.ensures c.if-w-eq0.false c.token_size-at.ensures c.put.ensures
-
-pub shape_of-tokens : goal.shape_of-tokens
-shape_of-tokens c = laid_length c.args.program.now c.args.tokens.now c.loop-at.tokens c.loop-at.at
-    c.loop-at.n c.loop-at.invariant
 
 pub returns : goal.returns
 returns c = ended c.args.program.now c.args.tokens.now c.loop-at.tokens c.loop-at.at

@@ -1,4 +1,3 @@
-use mathlib.Core.Path.{◌∙◌}
 use Rattle.procedures.proofs.Laws.{still_room, no_procedure, other_number, name_twice, no_call, no_room, begun}
 use native.Mathlib.Omega.{arith}
 use lib.ListN.{length-set}
@@ -24,9 +23,6 @@ bounds-words-12 c = simp length-set (omega arith)
 
 pub assign_parameters-r-requires : goal.assign_parameters-r-requires
 assign_parameters-r-requires c = still_room _ _ _ c.requires.room (simp length-set (omega arith))
-
-pub shape_of-words : goal.shape_of-words
-shape_of-words c = c.assign_parameters-r.auto.0 ∙ simp length-set (omega arith)
 
 pub returns : goal.returns
 returns c = search begun

@@ -8,9 +8,6 @@ use Rattle.prologue.proofs.clear_first.Goals as goal
 pub slice_bounds-clear_words-end-2 : goal.slice_bounds-clear_words-end-2
 slice_bounds-clear_words-end-2 c = sym (length-take-le first_argument c.args.words.now (omega (arith, c.requires.words)))
 
-pub shape_of-words : goal.shape_of-words
-shape_of-words c = let a0 = c.before.words2 in let a1 = c.words-1 in omega arith
-
 pub returns : goal.returns
 returns c =
     let s = c.before.before.before.before.before.before.before.before.before.before.before.before in

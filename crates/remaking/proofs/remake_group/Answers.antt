@@ -1,8 +1,5 @@
-use Rattle.remaking.proofs.RemakingLaws.{long_put, long_after, room_put, number_fits, second_word, walk_stops, group_stops, remakes}
+use Rattle.remaking.proofs.RemakingLaws.{room_put, number_fits, second_word, walk_stops, group_stops, remakes}
 use Rattle.remaking.proofs.remake_group.Goals as goal
-
-pub shape_of-words-then-within-ne0 : goal.shape_of-words-then-within-ne0
-shape_of-words-then-within-ne0 c = search long_put
 
 pub returns-then-within-ne0 : goal.returns-then-within-ne0
 returns-then-within-ne0 c = search walk_stops
@@ -13,17 +10,11 @@ bounds-words-1 c = search second_word
 pub gather-gathered-requires : goal.gather-gathered-requires
 gather-gathered-requires c = search room_put
 
-pub shape_of-words-then-gathered-ne0 : goal.shape_of-words-then-gathered-ne0
-shape_of-words-then-gathered-ne0 c = search long_after
-
 pub returns-then-gathered-ne0 : goal.returns-then-gathered-ne0
 returns-then-gathered-ne0 c = search group_stops
 
 pub overflow_cast-result : goal.overflow_cast-result
 overflow_cast-result c = search (number_fits, room_put)
-
-pub shape_of-words : goal.shape_of-words
-shape_of-words c = search long_after
 
 pub returns : goal.returns
 returns c = search remakes

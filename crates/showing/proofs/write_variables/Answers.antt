@@ -27,11 +27,5 @@ pub loop-drawn-preserved : goal.loop-drawn-preserved
 loop-drawn-preserved c =
     write_more _ _ _ _ _ _ _ _ _ _ _ c.loop-drawn.invariant _ _ _ _ (omega arith) c.loop-drawn-test.true c.declared_word-w.ensures c.write_in-at.ensures
 
-pub shape_of-words : goal.shape_of-words
-shape_of-words c = c.loop-drawn.invariant.unmoved.long
-
-pub shape_of-out : goal.shape_of-out
-shape_of-out c = c.loop-drawn.invariant.kept
-
 pub returns : goal.returns
 returns c = search write_all

@@ -29,20 +29,8 @@ pub loop-d-preserved : goal.loop-d-preserved
 loop-d-preserved c =
     show_next _ _ _ _ _ _ _ _ _ _ _ _ _ c.loop-d.invariant _ _ c.turn.ensures _ _ _ _ _ (search rules) c.write_reached-at.ensures
 
-pub shape_of-words-in-Stopped : goal.shape_of-words-in-Stopped
-shape_of-words-in-Stopped c = absurd (search show_never)
-
-pub shape_of-out-in-Stopped : goal.shape_of-out-in-Stopped
-shape_of-out-in-Stopped c = absurd (search show_never)
-
 pub returns-in-Stopped : goal.returns-in-Stopped
 returns-in-Stopped c = absurd (search show_never)
-
-pub shape_of-words : goal.shape_of-words
-shape_of-words c = c.loop-d.invariant.unmoved.long
-
-pub shape_of-out : goal.shape_of-out
-shape_of-out c = c.loop-d.invariant.kept
 
 pub returns : goal.returns
 returns c = search show_over

@@ -2,7 +2,7 @@
 use Prim.Native.Nat.{◌-◌}
 use native.Mathlib.Omega.{arith}
 use lib.ListN.{length-set}
-use Rattle.slices.proofs.Clearing.{clear_none, clear_long, clear_more, clear_all}
+use Rattle.slices.proofs.Clearing.{clear_none, clear_more, clear_all}
 use Rattle.slices.proofs.clear_bytes.Goals as goal
 
 pub loop-k-init : goal.loop-k-init
@@ -16,9 +16,6 @@ loop-k-smaller c = simp length-set (omega arith)
 
 pub loop-k-preserved : goal.loop-k-preserved
 loop-k-preserved c = search clear_more
-
-pub shape_of-bytes : goal.shape_of-bytes
-shape_of-bytes c = search clear_long
 
 pub returns : goal.returns
 returns c = search clear_all

@@ -2,7 +2,7 @@
 use Prim.Native.Nat.{◌-◌}
 use native.Mathlib.Omega.{arith}
 use lib.ListN.{length-set}
-use Rattle.slices.proofs.Clearing.{clear_none, clear_long, clear_more, clear_all}
+use Rattle.slices.proofs.Clearing.{clear_none, clear_more, clear_all}
 use Rattle.slices.proofs.clear_part.Goals as goal
 
 pub loop-i-init : goal.loop-i-init
@@ -16,9 +16,6 @@ loop-i-smaller c = simp length-set (omega arith)
 
 pub loop-i-preserved : goal.loop-i-preserved
 loop-i-preserved c = search clear_more
-
-pub shape_of-words : goal.shape_of-words
-shape_of-words c = search clear_long
 
 pub returns : goal.returns
 returns c = search clear_all

@@ -20,8 +20,5 @@ pub loop-a-preserved : goal.loop-a-preserved
 loop-a-preserved c = clear_through _ _ _ _ c.loop-a.invariant c.part_end-end.ensures.0
     c.part_end-end.ensures.1 _ c.clear_part.ensures
 
-pub shape_of-words : goal.shape_of-words
-shape_of-words c = search clear_long
-
 pub returns : goal.returns
 returns c = clear_all _ _ _ c.loop-a.invariant (omega (arith, clear_long _ _ _ c.loop-a.invariant))

@@ -27,8 +27,5 @@ loop-i-smaller c = omega arith
 pub loop-i-preserved : goal.loop-i-preserved
 loop-i-preserved c = copy_more _ _ _ _ _ _ _ c.loop-i.invariant _ c.loop-i-test.true (copy_source _ _ _ _ _ _ _ c.loop-i.invariant _ (omega arith))
 
-pub shape_of-texts : goal.shape_of-texts
-shape_of-texts c = copy_length _ _ _ _ _ _ _ c.loop-i.invariant
-
 pub returns : goal.returns
 returns c = copy_all _ _ _ _ _ _ _ c.loop-i.invariant c.loop-i-test.false

@@ -9,28 +9,28 @@ returns-then-not-spend c = search no_text
 pub put_text-end-requires : goal.put_text-end-requires
 put_text-end-requires c = lays_first c.args.program.now _ _ _ 0 _
     c.args.b _ _ _ _
-    c.before.before.before.before.before.before.before.type_size.ensures c.size_of-2.ensures
+    c.size_of.ensures c.size_of-2.ensures
     c.spend.ensures c.if-not-spend.false-raw c.requires
 
 pub put_text-requires : goal.put_text-requires
-put_text-requires c = lays_second _ _ _ _ 0 _ _ _ _ _ _ c.before.before.before.before.before.before.before.before.before.before.before.type_size.ensures
+put_text-requires c = lays_second _ _ _ _ 0 _ _ _ _ _ _ c.size_of.ensures
     c.size_of-2.ensures c.spend.ensures
     c.if-not-spend.false-raw c.requires _ _ c.put_text-end.ensures (search rules)
 
 pub overflow_add-result : goal.overflow_add-result
 overflow_add-result c =
-    omega (arith, used_small c.args.program.now _ _ _ 0 _ _ _ _ _ _ c.before.before.before.before.before.before.before.before.before.before.before.before.before.before.type_size.ensures c.size_of-2.ensures c.spend.ensures c.if-not-spend.false-raw c.requires)
+    omega (arith, used_small c.args.program.now _ _ _ 0 _ _ _ _ _ _ c.size_of.ensures c.size_of-2.ensures c.spend.ensures c.if-not-spend.false-raw c.requires)
 
 pub overflow_mul-result-2 : goal.overflow_mul-result-2
 overflow_mul-result-2 c =
-    omega (arith, used_small c.args.program.now _ _ _ 0 _ _ _ _ _ _ c.before.before.before.before.before.before.before.before.before.before.before.before.before.before.type_size.ensures c.size_of-2.ensures c.spend.ensures c.if-not-spend.false-raw c.requires)
+    omega (arith, used_small c.args.program.now _ _ _ 0 _ _ _ _ _ _ c.size_of.ensures c.size_of-2.ensures c.spend.ensures c.if-not-spend.false-raw c.requires)
 
 pub overflow_add-result-2 : goal.overflow_add-result-2
 overflow_add-result-2 c =
-    omega (arith, used_small c.args.program.now _ _ _ 0 _ _ _ _ _ _ c.before.before.before.before.before.before.before.before.before.before.before.before.before.before.type_size.ensures c.size_of-2.ensures c.spend.ensures c.if-not-spend.false-raw c.requires)
+    omega (arith, used_small c.args.program.now _ _ _ 0 _ _ _ _ _ _ c.size_of.ensures c.size_of-2.ensures c.spend.ensures c.if-not-spend.false-raw c.requires)
 
 pub returns : goal.returns
-returns c = joins _ _ _ _ _ _ _ _ _ _ _ c.before.before.before.before.before.before.before.before.before.before.before.before.before.before.type_size.ensures
+returns c = joins _ _ _ _ _ _ _ _ _ _ _ c.size_of.ensures
     c.size_of-2.ensures
     c.spend.ensures c.if-not-spend.false-raw
     c.requires _ _ _ _

@@ -1,5 +1,4 @@
 use native.Mathlib.Omega.{arith}
-use mathlib.Core.Path.{◌∙◌}
 use lib.ListN.{length-set}
 use Rattle.groups.proofs.MakingLaws.{no_entry, entries_some, made_less, one_added, component_room, marks_room}
 use Rattle.groups.proofs.making.add_one.Goals as goal
@@ -59,11 +58,6 @@ bounds-words-10-2 c =
       c.clear_from.auto.0,
       length-set p.new.0 c.place_of-at.result c.slot_word.result,
     )
-
-pub shape_of-words : goal.shape_of-words
-shape_of-words c =
-    let p = c.spend in
-    length-set c.clear_from.new.0 _ _ ∙ c.clear_from.auto.0 ∙ length-set p.new.0 _ _ ∙ p.auto.0
 
 pub returns : goal.returns
 returns c =

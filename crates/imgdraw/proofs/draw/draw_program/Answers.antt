@@ -11,5 +11,5 @@ pub returns : goal.returns
 returns c = program_drawn _ (replicate 8193 0) (replicate 16384 0) (replicate 338192 0) (replicate 16384 0) _ _ _
     c.ranges.width
     c.ranges.height refl refl refl
-    refl _ _ _ _ c.draw-answer.ensures.0.answered
-    c.draw-answer.ensures.1 c.put_answer.ensures
+    refl _ _ _ _ c.draw-answer.ensures.performed.answered
+    c.draw-answer.ensures.out_after c.put_answer.ensures

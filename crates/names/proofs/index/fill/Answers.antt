@@ -1,7 +1,7 @@
 -- `names::index::fill` meets its contract: the index is that of the tokens before i.
 use Prim.Native.Nat.{◌-◌}
 use native.Mathlib.Omega.{arith}
-use Rattle.names.proofs.Noting.{fill_begin, fill_files, fill_next, fill_long, fill_all}
+use Rattle.names.proofs.Noting.{fill_begin, fill_files, fill_next, fill_all}
 use Rattle.names.proofs.index.fill.Goals as goal
 
 pub loop-i-init : goal.loop-i-init
@@ -18,9 +18,6 @@ loop-i-smaller c = omega arith
 
 pub loop-i-preserved : goal.loop-i-preserved
 loop-i-preserved c = search fill_next
-
-pub shape_of-index : goal.shape_of-index
-shape_of-index c = search fill_long
 
 pub returns : goal.returns
 returns c = search fill_all

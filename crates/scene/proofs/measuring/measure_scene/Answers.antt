@@ -1,5 +1,5 @@
 use Rattle.std.proofs.Common.{refl}
-use Rattle.scene.proofs.MeasureLaws.{scene_measured, room_cleared, long_cleared}
+use Rattle.scene.proofs.MeasureLaws.{scene_measured, room_cleared}
 use Rattle.scene.proofs.measuring.measure_scene.Reads as reads
 use Rattle.scene.proofs.measuring.measure_scene.Lts as lts
 use Rattle.scene.proofs.measuring.measure_variables.Reads as measure-variables-reads
@@ -7,9 +7,6 @@ use Rattle.scene.proofs.measuring.measure_scene.Goals as goal
 
 pub measure_variables-r-requires : goal.measure_variables-r-requires
 measure_variables-r-requires c = room_cleared _ c.requires
-
-pub shape_of-words : goal.shape_of-words
-shape_of-words c = long_cleared c.args.words.now c.measure_variables-r.auto.1.1.0
 
 pub returns : goal.returns
 returns c = scene_measured _ _ _ _ _ _ _ refl c.measure_variables-r.ensures

@@ -1,4 +1,4 @@
-use mathlib.Core.Path.{◌∙◌, refl}
+use mathlib.Core.Path.{refl}
 use native.Mathlib.Omega.{arith}
 use lib.ListN.{length-set}
 use Rattle.tables.proofs.EntryLaws.{no_entry_left, entry_added, puts_entry, bucket_small, made_small}
@@ -22,9 +22,6 @@ bounds-words-9-2 c = simp length-set (omega arith)
 pub put_entry-requires : goal.put_entry-requires
 put_entry-requires c = puts_entry _ _ _ _ _ _ 0 _ _ _ _ c.if-size-used.false refl c.bucket-b.ensures
     c.entry_place-at.ensures c.entry_place-head.ensures c.requires
-
-pub shape_of-words : goal.shape_of-words
-shape_of-words c = c.put_entry.auto.0 ∙ simp length-set
 
 pub returns : goal.returns
 returns c = search entry_added

@@ -9,9 +9,6 @@ loop-i-init c = search hash_first
 pub bounds-s-i : goal.bounds-s-i
 bounds-s-i c = omega arith
 
-pub overflow_cast-s : goal.overflow_cast-s
-overflow_cast-s c = omega (arith, c.shared_slice_known-in-loop-i-1.given c.loop-i.i)
-
 pub overflow_add-i : goal.overflow_add-i
 overflow_add-i c = omega arith
 

@@ -9,4 +9,7 @@ pub overflow_add-result : goal.overflow_add-result
 overflow_add-result c = let h : c.before.decimal-length.result + c.decimal-length2.result ≤ 40 = search pair_short in omega arith
 
 pub returns : goal.returns
-returns c = (search length_pair, search pair_short)
+returns c = record {
+  value = search length_pair;
+  upper_bound = search pair_short;
+}

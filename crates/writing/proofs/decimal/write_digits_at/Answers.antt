@@ -29,9 +29,6 @@ pub loop-i-preserved : goal.loop-i-preserved
 loop-i-preserved c =
     (omega arith, lay_backward _ c.loop-i.invariant.1 (omega arith) (rw c.last_digit.ensures (last_more _ _ (omega arith))))
 
-pub shape_of-out : goal.shape_of-out
-shape_of-out c = kept_backward c.loop-i.invariant.1
-
 pub returns : goal.returns
 returns c =
     let count = c.digit_count-count.ensures in

@@ -26,8 +26,5 @@ loop-i-smaller c = omega arith
 pub loop-i-preserved : goal.loop-i-preserved
 loop-i-preserved c = (omega arith, lay_next c.loop-i.invariant.1 (omega arith))
 
-pub shape_of-out : goal.shape_of-out
-shape_of-out c = kept c.loop-i.invariant.1
-
 pub returns : goal.returns
 returns c = end c.loop-i.invariant.1 (omega arith) c.saturating_add.ensures
