@@ -28,7 +28,7 @@ overflow_add-i c = let w = turned _ _ _ _ _ _ _ c.loop-k.invariant _ _
     c.read_below-p.ensures _ _ _ c.in-At.is in omega (arith, w.inside)
 
 pub enter-old-requires : goal.enter-old-requires
-enter-old-requires c = record { few = c.before.before.before.before.before.before.before.before.before.loop.invariant.halves.few; room = omega (arith, c.loop-k.invariant.halves.room, c.read_below-p.auto.1.0) }
+enter-old-requires c = record { few = c.loop-k.invariant.halves.few; room = omega (arith, c.loop-k.invariant.halves.room, c.read_below-p.auto.words) }
 
 pub note_twice-twice-requires : goal.note_twice-twice-requires
 note_twice-twice-requires c = let w = turned _ _ _ _ _ _ _ c.loop-k.invariant _ _
@@ -57,5 +57,5 @@ loop-k-preserved c = gathering_on _ _ _ _ _ _ _ c.loop-k.invariant _ _
     c.in-At.is _ _
     c.head_word-w.ensures _ c.enter-old.ensures _ _
     c.note_twice-twice.ensures c.note_main-main.ensures _ c.kind_at.ensures c.if-kind_at-eq0.false
-    (c.enter-old.auto.1.0
-    ∙ c.read_below-p.auto.1.0)
+    (c.enter-old.auto.words
+    ∙ c.read_below-p.auto.words)

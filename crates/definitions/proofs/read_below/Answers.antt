@@ -5,4 +5,4 @@ use Rattle.definitions.proofs.read_below.Goals as goal
 
 pub returns : goal.returns
 returns c = below_reads _ _ _ _ _ c.requires.halves c.requires.n_le_i
-    c.read_procedure.auto.1.0 _ c.read_procedure.ensures
+    c.read_procedure.auto.words _ c.read_procedure.ensures

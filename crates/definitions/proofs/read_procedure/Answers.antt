@@ -55,7 +55,7 @@ read_body-s-requires c = body_space _ _ _ _ _ c.kind_at.ensures
     c.kind_at-3.ensures c.if-kind_at-ne-OPEN.false _ _
     c.read_parameters-p.ensures _ _ _ c.in-At.is
     c.requires
-    c.read_parameters-p.auto.1.0
+    c.read_parameters-p.auto.words
 
 pub overflow_sub-result : goal.overflow_sub-result
 overflow_sub-result c = let w = behind_parameters _ _ _ _ _ c.kind_at.ensures c.if-kind_at-ne-DEF.false _ c.kind_at-2.ensures

@@ -21,18 +21,18 @@ returns-then-not-is_group c = figure_destroyed _ _ _ _ _ c.requires c.before.bef
     c.is_destroyed.ensures
     c.if-is_destroyed.false _ _
     c.count.ensures c.if-not-count.false-raw _
-    c.destroy.ensures c.count.auto.0
-    c.destroy.auto.0 _ c.is_group.ensures c.if-not-is_group.true-raw
+    c.destroy.ensures c.count.auto.words
+    c.destroy.auto.words _ c.is_group.ensures c.if-not-is_group.true-raw
 
 pub descend-r-requires : goal.descend-r-requires
 descend-r-requires c = descends _ _ _ _ _ _ c.requires c.before.before.before.before.before.before.before.before.before.before.before.before.before.before.before.before.before.before.if1.false
-    (c.destroy.auto.0 ∙ c.count.auto.0)
+    (c.destroy.auto.words ∙ c.count.auto.words)
 
 pub returns : goal.returns
 returns c = group_destroyed _ _ _ _ _ c.requires c.before.before.before.before.before.before.before.before.before.before.before.before.before.before.before.before.before.before.before.before.before.if1.false _ c.component_at-c.ensures _ c.is_destroyed.ensures c.if-is_destroyed.false _ _
     c.count.ensures
     c.if-not-count.false-raw _
     c.destroy.ensures
-    c.count.auto.0
-    c.destroy.auto.0 _ c.is_group.ensures
+    c.count.auto.words
+    c.destroy.auto.words _ c.is_group.ensures
     c.if-not-is_group.false-raw _ _ c.descend-r.ensures

@@ -27,7 +27,7 @@ pub read_arguments-read_expression-e-requires : goal.read_arguments-read_express
 read_arguments-read_expression-e-requires t c = (omega (arith, c.loop-k.invariant.ahead, c.requires.0), c.loop-k.invariant.room)
 
 pub read_arguments-shape_of-words-in-Wrong : goal.read_arguments-shape_of-words-in-Wrong
-read_arguments-shape_of-words-in-Wrong t c = omega (arith, c.loop-k.invariant.kept, c.read_expression-e.auto.1.0)
+read_arguments-shape_of-words-in-Wrong t c = omega (arith, c.loop-k.invariant.kept, c.read_expression-e.auto.words)
 
 pub read_arguments-returns-in-Wrong : goal.read_arguments-returns-in-Wrong
 read_arguments-returns-in-Wrong t c = going_fails _ _ _ _ _ _ _ _ c.loop-k.invariant _ _
@@ -37,21 +37,21 @@ pub read_arguments-overflow_sub-q : goal.read_arguments-overflow_sub-q
 read_arguments-overflow_sub-q t c =
     let x = turned _ _ _ _ _ _ _ _ c.loop-k.invariant _ _
     c.read_expression-e.ensures _ _ _ c.in-At.is
-    c.read_expression-e.auto.1.0 in
+    c.read_expression-e.auto.words in
     omega (arith, x.some)
 
 pub read_arguments-overflow_sub-q-in-At : goal.read_arguments-overflow_sub-q-in-At
 read_arguments-overflow_sub-q-in-At t c =
     let x = turned _ _ _ _ _ _ _ _ c.loop-k.invariant _ _
     c.read_expression-e.ensures _ _ _ c.in-At.is
-    c.read_expression-e.auto.1.0 in
+    c.read_expression-e.auto.words in
     omega (arith, x.some)
 
 pub read_arguments-word_of-requires : goal.read_arguments-word_of-requires
 read_arguments-word_of-requires t c =
     let x = turned _ _ _ _ _ _ _ _ c.loop-k.invariant _ _
     c.read_expression-e.ensures _ _ _ c.in-At.is
-    c.read_expression-e.auto.1.0 in
+    c.read_expression-e.auto.words in
     omega (arith, x.some, x.size)
 
 pub read_arguments-overflow_add-result-then-kind-eq-CLOSE : goal.read_arguments-overflow_add-result-then-kind-eq-CLOSE
@@ -59,26 +59,26 @@ read_arguments-overflow_add-result-then-kind-eq-CLOSE t c =
     let x = turned _ _ _ _ _ _ _ _ c.loop-k.invariant _ _
     c.read_expression-e.ensures _ _ _
     c.in-At.is
-    c.read_expression-e.auto.1.0 in
+    c.read_expression-e.auto.words in
     omega (arith, x.within, c.loop-k.invariant.room.short)
 
 pub read_arguments-shape_of-words-then-kind-eq-CLOSE : goal.read_arguments-shape_of-words-then-kind-eq-CLOSE
-read_arguments-shape_of-words-then-kind-eq-CLOSE t c = omega (arith, c.loop-k.invariant.kept, c.read_expression-e.auto.1.0)
+read_arguments-shape_of-words-then-kind-eq-CLOSE t c = omega (arith, c.loop-k.invariant.kept, c.read_expression-e.auto.words)
 
 pub read_arguments-returns-then-kind-eq-CLOSE : goal.read_arguments-returns-then-kind-eq-CLOSE
 read_arguments-returns-then-kind-eq-CLOSE t c = going_ends _ _ _ _ _ _ _ _ c.loop-k.invariant _ _
     c.read_expression-e.ensures _ _ _
     c.in-At.is
-    c.read_expression-e.auto.1.0 _ _ _
+    c.read_expression-e.auto.words _ _ _
     c.word_of.ensures c.put.ensures c.kind_at-kind.ensures c.if-kind-eq-CLOSE.true
 
 pub read_arguments-shape_of-words-then-kind-ne-COMMA : goal.read_arguments-shape_of-words-then-kind-ne-COMMA
-read_arguments-shape_of-words-then-kind-ne-COMMA t c = omega (arith, c.loop-k.invariant.kept, c.read_expression-e.auto.1.0)
+read_arguments-shape_of-words-then-kind-ne-COMMA t c = omega (arith, c.loop-k.invariant.kept, c.read_expression-e.auto.words)
 
 pub read_arguments-returns-then-kind-ne-COMMA : goal.read_arguments-returns-then-kind-ne-COMMA
 read_arguments-returns-then-kind-ne-COMMA t c = going_stops _ _ _ _ _ _ _ _ c.loop-k.invariant _ _ c.read_expression-e.ensures _ _ _
     c.in-At.is
-    c.read_expression-e.auto.1.0 _ _ _
+    c.read_expression-e.auto.words _ _ _
     c.word_of.ensures c.put.ensures c.kind_at-kind.ensures
     c.if-kind-eq-CLOSE.false c.if-kind-ne-COMMA.true
 
@@ -87,7 +87,7 @@ read_arguments-overflow_add-at t c =
     let x = turned _ _ _ _ _ _ _ _ c.loop-k.invariant _ _
     c.read_expression-e.ensures _ _ _
     c.in-At.is
-    c.read_expression-e.auto.1.0 in
+    c.read_expression-e.auto.words in
     omega (arith, x.within, c.loop-k.invariant.room.short)
 
 pub read_arguments-loop-k-smaller : goal.read_arguments-loop-k-smaller
@@ -95,14 +95,14 @@ read_arguments-loop-k-smaller t c =
     let x = turned _ _ _ _ _ _ _ _ c.loop-k.invariant _ _
     c.read_expression-e.ensures _ _ _
     c.in-At.is
-    c.read_expression-e.auto.1.0 in
+    c.read_expression-e.auto.words in
     omega (arith, x.ahead, x.within)
 
 pub read_arguments-loop-k-preserved : goal.read_arguments-loop-k-preserved
 read_arguments-loop-k-preserved t c = going_on _ _ _ _ _ _ _ _ c.loop-k.invariant
     _ _ c.read_expression-e.ensures _ _ _
     c.in-At.is
-    c.read_expression-e.auto.1.0 _ _ _
+    c.read_expression-e.auto.words _ _ _
     c.word_of.ensures c.put.ensures c.kind_at-kind.ensures c.if-kind-ne-COMMA.false
 
 pub read_expression-read_operand-a-requires : goal.read_expression-read_operand-a-requires
@@ -115,23 +115,23 @@ read_expression-returns-then-tag-eq0 t c = expression_one _ _ _ _ _ _ _ _ _ _ _ 
 pub read_expression-overflow_add-j : goal.read_expression-overflow_add-j
 read_expression-overflow_add-j t c =
     let o = c.requires.1 in
-    let x = operand_next _ _ _ _ _ _ _ _ _ _ o c.read_operand-a.auto.1.0
+    let x = operand_next _ _ _ _ _ _ _ _ _ _ o c.read_operand-a.auto.words
     c.in-At.is c.read_operand-a.ensures in
     omega (arith, x.within, o.short)
 
 pub read_expression-read_operand-b-requires : goal.read_expression-read_operand-b-requires
 read_expression-read_operand-b-requires t c =
     let o = c.requires.1 in
-    let x = operand_next _ _ _ _ _ _ _ _ _ _ o c.read_operand-a.auto.1.0
+    let x = operand_next _ _ _ _ _ _ _ _ _ _ o c.read_operand-a.auto.words
     c.in-At.is c.read_operand-a.ensures in
     (omega (arith, x.ahead, x.within, c.requires.0), x.room)
 
 pub read_expression-join-requires : goal.read_expression-join-requires
 read_expression-join-requires t c = operand_spare _ _ _ _ _ _ _ _ _ _
     c.requires.1
-    c.read_operand-a.auto.1.0
+    c.read_operand-a.auto.words
     c.in-At.is _ _ _ _ c.operator_tag-tag.ensures
-    c.read_operand-b.auto.1.0 c.read_operand-a.ensures
+    c.read_operand-b.auto.words c.read_operand-a.ensures
     c.read_operand-b.ensures
 
 pub read_expression-returns-in-Wrong : goal.read_expression-returns-in-Wrong
@@ -155,20 +155,20 @@ read_operand-returns-then-kind_at-ne-DOT t c = operand_one _ _ _ _ _ _ _ _ _ _ _
 pub read_operand-overflow_add-j : goal.read_operand-overflow_add-j
 read_operand-overflow_add-j t c =
     let o = c.requires.1 in
-    let x = primary_next _ _ _ _ _ _ _ _ _ _ o c.read_primary-a.auto.1.0 c.in-At.is
+    let x = primary_next _ _ _ _ _ _ _ _ _ _ o c.read_primary-a.auto.words c.in-At.is
     c.read_primary-a.ensures in
     omega (arith, x.within, o.short)
 
 pub read_operand-read_primary-b-requires : goal.read_operand-read_primary-b-requires
 read_operand-read_primary-b-requires t c =
     let o = c.requires.1 in
-    let x = primary_next _ _ _ _ _ _ _ _ _ _ o c.read_primary-a.auto.1.0 c.in-At.is
+    let x = primary_next _ _ _ _ _ _ _ _ _ _ o c.read_primary-a.auto.words c.in-At.is
     c.read_primary-a.ensures in
     (omega (arith, x.ahead, x.within, c.requires.0), x.room)
 
 pub read_operand-join-requires : goal.read_operand-join-requires
-read_operand-join-requires t c = primary_spare _ _ _ _ _ _ _ _ _ _ c.requires.1 c.read_primary-a.auto.1.0
-    c.in-At.is _ _ c.read_primary-b.auto.1.0
+read_operand-join-requires t c = primary_spare _ _ _ _ _ _ _ _ _ _ c.requires.1 c.read_primary-a.auto.words
+    c.in-At.is _ _ c.read_primary-b.auto.words
     c.read_primary-a.ensures c.read_primary-b.ensures
 
 pub read_operand-returns-in-Wrong : goal.read_operand-returns-in-Wrong
@@ -249,7 +249,7 @@ read_primary-read_arguments-es-requires t c =
 
 pub read_primary-finish-requires : goal.read_primary-finish-requires
 read_primary-finish-requires t c = record {
-  spare = call_spare _ _ _ _ _ _ _ c.requires.1 c.read_arguments-es.auto.1.0 c.read_arguments-es.ensures;
+  spare = call_spare _ _ _ _ _ _ _ c.requires.1 c.read_arguments-es.auto.words c.read_arguments-es.ensures;
   x_bound = callee_small c.args.tokens.now c.args.i _ (c.shared_slice_known-1.given c.args.i).fits c.callee_at.ensures;
 }
 
@@ -291,7 +291,7 @@ read_primary-close-requires-in-91 t c = λ z. omega arith
 
 pub read_primary-finish-requires-in-91 : goal.read_primary-finish-requires-in-91
 read_primary-finish-requires-in-91 t c = record {
-  spare = table_spare _ _ _ _ _ _ _ _ c.requires.1 c.read_expression-e-in-91.auto.1.0 c.read_expression-e-in-91.ensures c.close-in-91.ensures;
+  spare = table_spare _ _ _ _ _ _ _ _ c.requires.1 c.read_expression-e-in-91.auto.words c.read_expression-e-in-91.ensures c.close-in-91.ensures;
   x_bound = omega arith;
 }
 
@@ -337,6 +337,6 @@ read_primary-returns-else-left-eq0-3 t c = reads_table _ _ _ _ _ _ _ _ c.kind_at
 
 pub read_primary-returns-in_default : goal.read_primary-returns-in_default
 read_primary-returns-in_default t c =
-    let x = c.in_default.rest in
+    let x = c.in_default.in_default-own.rest in
     reads_other _ _ _ _ _ _ c.kind_at-kind.ensures x.0.0.0.0.0.0.0.0.1 x.0.0.0.0.0.0.0.1 x.0.0.0.0.0.0.1 x.0.0.0.0.0.1 x.0.0.0.0.1
     x.0.0.0.1 x.0.0.1 x.0.1 x.1

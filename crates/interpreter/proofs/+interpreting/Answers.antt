@@ -87,7 +87,7 @@ call-loop-y-init t c = push_first _ _ _ _ _ _ _ _ _ _ _ _ 0 _ c.requires.1.lent
     c.arguments_held-base.ensures c.first_argument-a.ensures c.word_at.ensures c.argument_root-y.ensures
 
 pub call-argument-requires : goal.call-argument-requires
-call-argument-requires t c = (omega arith, record { lent = c.before.before.before.loop.invariant.lent; deep = c.requires.1.deep })
+call-argument-requires t c = (omega arith, record { lent = c.loop-y.invariant.lent; deep = c.requires.1.deep })
 
 pub call-returns-in-Bad : goal.call-returns-in-Bad
 call-returns-in-Bad t c = search push_fails
@@ -102,7 +102,7 @@ call-loop-y-preserved t c = push_next _ _ _ _ _ _ _ _ _ _ _ _ _ c.loop-y.invaria
     omega arith) (let a0 = c.words-1 in omega arith) c.in-Good.is c.word_at-in-loop-y.ensures c.argument_root-y-in-loop-y.ensures
 
 pub call-invoke-r-requires : goal.call-invoke-r-requires
-call-invoke-r-requires t c = (omega arith, record { lent = record { lent = c.before.before.before.before.before.before.loop.invariant.lent; deep = c.before.before.before.before.before.before.before.before.before.before.before.before.before.before.before.before.requires.1.deep }; small = c.callee_of.ensures.1 })
+call-invoke-r-requires t c = (omega arith, record { lent = record { lent = c.loop-y.invariant.lent; deep = c.requires.1.deep }; small = c.callee_of.ensures.1 })
 
 pub call-called-r-requires : goal.call-called-r-requires
 call-called-r-requires t c = c.loop-y.invariant.lent.room
@@ -128,7 +128,7 @@ pub each-overflow_add-y : goal.each-overflow_add-y
 each-overflow_add-y t c = omega (arith, c.requires.1.room)
 
 pub each-own-r-requires : goal.each-own-r-requires
-each-own-r-requires t c = (omega arith, still_runs _ _ _ _ _ (let a0 = c.before.before.before.before.before.before.before.before.before.before.before.before.before.before.before.before.texts in omega arith) (let a0 = c.before.before.before.before.before.before.before.before.before.before.before.before.before.before.words in let a1 = c.words-in-Shape-1 in omega arith) _ _ c.requires.1)
+each-own-r-requires t c = (omega arith, still_runs _ _ _ _ _ (let a0 = c.texts-1 in omega arith) (let a0 = c.words-1 in let a1 = c.words-in-Shape-1 in omega arith) _ _ c.requires.1)
 
 pub each-returns-else-number-ne0 : goal.each-returns-else-number-ne0
 each-returns-else-number-ne0 t c = each_runs _ _ _ _ _ _ _ _ _ _ _ c.expression.ensures _ c.in-Good.is _ c.in-Shape.is _ _
@@ -136,7 +136,7 @@ each-returns-else-number-ne0 t c = each_runs _ _ _ _ _ _ _ _ _ _ _ c.expression.
     c.own-r.ensures
 
 pub each-returns-in_default : goal.each-returns-in_default
-each-returns-in_default t c = each_other _ _ _ _ _ _ _ _ _ _ _ c.expression.ensures _ c.in-Good.is c.in_default.keys2
+each-returns-in_default t c = each_other _ _ _ _ _ _ _ _ _ _ _ c.expression.ensures _ c.in-Good.is c.in_default.in_default-own.keys2
 
 pub each-returns-in-Bad : goal.each-returns-in-Bad
 each-returns-in-Bad t c = each_stops _ _ _ _ _ _ _ _ _ _ _ c.expression.ensures _ _ c.in-Bad.is
@@ -154,7 +154,7 @@ pub expression-returns-then-tag-lt-TABLE : goal.expression-returns-then-tag-lt-T
 expression-returns-then-tag-lt-TABLE t c = search is_leaf
 
 pub expression-call-requires : goal.expression-call-requires
-expression-call-requires t c = (omega arith, record { lent = still_lent_words _ _ _ _ c.before.before.before.before.before.before.before.before.before.before.before.before.before.before.before.before.requires.1.lent (let a0 = c.before.before.before.before.before.before.before.before.words in omega arith); deep = omega (arith, c.requires.1.deep) })
+expression-call-requires t c = (omega arith, record { lent = still_lent_words _ _ _ _ c.requires.1.lent (let a0 = c.words-1 in omega arith); deep = omega (arith, c.requires.1.deep) })
 
 pub expression-returns-in-Good : goal.expression-returns-in-Good
 expression-returns-in-Good t c = is_call _ _ _ _ _ _ _ _ _ _ c.if-fuel-eq0.false c.count.ensures c.if-not-count.false-raw _
@@ -171,7 +171,7 @@ expression-returns-in-Bad t c = is_call _ _ _ _ _ _ _ _ _ _ c.if-fuel-eq0.false 
     c.if-tag-eq-CALL.true c.call.ensures c.in-Bad.is
 
 pub expression-operands-requires : goal.expression-operands-requires
-expression-operands-requires t c = (omega arith, record { lent = still_lent_words _ _ _ _ c.before.before.before.before.before.before.before.before.before.before.before.before.before.before.before.before.requires.1.lent (let a0 = c.before.before.before.before.before.before.before.before.words in omega arith); deep = omega (arith, c.requires.1.deep) })
+expression-operands-requires t c = (omega arith, record { lent = still_lent_words _ _ _ _ c.requires.1.lent (let a0 = c.words-1 in omega arith); deep = omega (arith, c.requires.1.deep) })
 
 pub expression-returns-in-Good-operands : goal.expression-returns-in-Good-operands
 expression-returns-in-Good-operands t c = has_operands _ _ _ _ _ _ _ _ _ _ c.if-fuel-eq0.false c.count.ensures c.if-not-count.false-raw _
@@ -213,7 +213,7 @@ pub inside-bound-requires : goal.inside-bound-requires
 inside-bound-requires t c = (omega arith, c.loop-turns.invariant.runs)
 
 pub inside-unmark_below-requires : goal.inside-unmark_below-requires
-inside-unmark_below-requires t c = still_room _ _ _ _ _ c.before.before.before.before.before.before.before.before.before.before.before.before.before.before.before.loop.invariant.runs.lent (let a0 = c.words-in-loop-turns-1 in omega arith)
+inside-unmark_below-requires t c = still_room _ _ _ _ _ c.loop-turns.invariant.runs.lent (let a0 = c.words-in-loop-turns-1 in omega arith)
 
 pub inside-returns-in-Returned : goal.inside-returns-in-Returned
 inside-returns-in-Returned t c = looked_in _ _ _ _ _ _ _ _ _ _ _ c.look_in-found.ensures
@@ -235,7 +235,7 @@ pub inside-overflow_sub-found-in-loop-turns : goal.inside-overflow_sub-found-in-
 inside-overflow_sub-found-in-loop-turns t c = omega (arith, c.if-found-eq0.false)
 
 pub inside-look_behind-found-requires : goal.inside-look_behind-found-requires
-inside-look_behind-found-requires t c = still_room _ _ _ _ _ c.before.before.before.before.before.before.before.before.before.before.before.before.before.before.loop.invariant.runs.lent (let a0 = c.words-in-loop-turns-1 in omega arith)
+inside-look_behind-found-requires t c = still_room _ _ _ _ _ c.loop-turns.invariant.runs.lent (let a0 = c.words-in-loop-turns-1 in omega arith)
 
 pub inside-loop-turns-smaller : goal.inside-loop-turns-smaller
 inside-loop-turns-smaller t c = omega arith
@@ -291,7 +291,7 @@ invoke-procedure-requires t c = (
 )
 
 pub invoke-resume-requires : goal.invoke-resume-requires
-invoke-resume-requires t c = let a0 = c.before.before.before.before.before.before.before.before.before.before.before.before.before.before.before.before.before.before.before.words in let a1 = c.words-2-1 in omega (
+invoke-resume-requires t c = let a0 = c.words-1 in let a1 = c.words-2-1 in omega (
   arith,
   c.requires.1.lent.lent.room.words,
 )
@@ -327,7 +327,7 @@ leave-returns-then-k-ne0 t c = leave_fast _ _ _ _ _ _ _ _ c.requires.1 c.if-fuel
     c.words-1 in omega arith) c.if-k-ne0.true c.unpack.ensures
 
 pub leave-expression-requires : goal.leave-expression-requires
-leave-expression-requires t c = (omega arith, slow_lent _ _ _ _ _ _ c.before.before.before.before.before.fast-value.ensures c.before.before.if3.false (still_lent _ _ _ _ _ refl (let a0 = c.words-1 in omega arith) _ (deeper_lent _ _ _ _ c.requires.1.runs.lent)))
+leave-expression-requires t c = (omega arith, slow_lent _ _ _ _ _ _ c.fast_value-k.ensures c.if-k-ne0.false (still_lent _ _ _ _ _ refl (let a0 = c.words-1 in omega arith) _ (deeper_lent _ _ _ _ c.requires.1.runs.lent)))
 
 pub leave-returns-in-Good : goal.leave-returns-in-Good
 leave-returns-in-Good t c = leave_done _ _ _ _ _ _ _ _ c.requires.1
@@ -390,10 +390,10 @@ operands-returns-then-lacks_table t c = no_table _ _ _ _ _ _ _ _ c.left_of.ensur
     c.if-tag-eq-TABLE.false _ c.lacks_table.ensures c.if-lacks_table.true
 
 pub operands-expression-requires-in-Good : goal.operands-expression-requires-in-Good
-operands-expression-requires-in-Good t c = (omega arith, still_lent _ _ _ _ _ (let a0 = c.before.before.before.before.before.before.before.before.before.before.before.before.before.before.texts in omega arith) (let a0 = c.words-1 in omega arith) _ c.requires.1)
+operands-expression-requires-in-Good t c = (omega arith, still_lent _ _ _ _ _ (let a0 = c.texts-1 in omega arith) (let a0 = c.words-1 in omega arith) _ c.requires.1)
 
 pub operands-apply-r-requires : goal.operands-apply-r-requires
-operands-apply-r-requires t c = laws.still_lent _ _ _ _ _ c.before.before.before.before.before.before.before.before.before.before.before.before.before.before.before.before.before.before.before.before.before.before.before.before.before.before.before.before.before.before.before.before.before.before.requires.1.lent (let a0 =
+operands-apply-r-requires t c = laws.still_lent _ _ _ _ _ c.requires.1.lent (let a0 =
     c.texts-1 in let a1 = c.texts-in-Good-1 in
     omega arith) (let a0 = c.words-1 in let a1 = c.words-in-Good-1 in omega arith)
 
@@ -559,7 +559,7 @@ pub repeat-overflow_add-y : goal.repeat-overflow_add-y
 repeat-overflow_add-y t c = omega (arith, c.requires.1.room)
 
 pub repeat-statement-requires : goal.repeat-statement-requires
-repeat-statement-requires t c = (omega arith, still_runs _ _ _ _ _ (let a0 = c.before.before.before.before.before.before.before.texts in omega arith) (let a0 = c.before.before.before.before.before.before.before.before.before.before.before.before.before.words in let a1 = c.words-in-loop-turns-1 in omega arith) _ _ c.loop-turns.invariant.runs)
+repeat-statement-requires t c = (omega arith, still_runs _ _ _ _ _ (let a0 = c.texts-1 in omega arith) (let a0 = c.words-1 in let a1 = c.words-in-loop-turns-1 in omega arith) _ _ c.loop-turns.invariant.runs)
 
 pub repeat-loop-turns-smaller : goal.repeat-loop-turns-smaller
 repeat-loop-turns-smaller t c = omega arith
@@ -595,7 +595,10 @@ pub simple-fast_value-k-requires : goal.simple-fast_value-k-requires
 simple-fast_value-k-requires t c = omega (arith, c.requires.1.lent.lent.room.words)
 
 pub simple-put_word-r-requires : goal.simple-put_word-r-requires
-simple-put_word-r-requires t c = (let b = c.words-1 in omega (arith, c.requires.1.lent.lent.room.words), no_shape_lem _ _ _ _ _ _ _ _ c.fast_value-k.ensures c.requires.1.lent c.if-k-ne0.true)
+simple-put_word-r-requires t c = record {
+  fixed_words_in_bounds = let b = c.words-1 in omega (arith, c.requires.1.lent.lent.room.words);
+  fact = no_shape_lem _ _ _ _ _ _ _ _ c.fast_value-k.ensures c.requires.1.lent c.if-k-ne0.true;
+}
 
 pub simple-returns-then-tag_of-eq-ASSIGN : goal.simple-returns-then-tag_of-eq-ASSIGN
 simple-returns-then-tag_of-eq-ASSIGN t c = simple_fast _ _ _ _ _ _ _ _ _ _ c.fast_value-k.ensures
@@ -617,7 +620,7 @@ pub simple-expression-requires : goal.simple-expression-requires
 simple-expression-requires t c = (omega arith, slow_lent _ _ _ _ _ _ c.fast_value-k.ensures c.if-k-ne0.false c.requires.1.lent)
 
 pub simple-finish-requires : goal.simple-finish-requires
-simple-finish-requires t c = still_room _ _ _ _ _ c.before.before.before.before.before.before.before.before.before.before.before.before.before.before.before.before.before.before.before.before.before.before.requires.1.lent (let a0 = c.words-1 in
+simple-finish-requires t c = still_room _ _ _ _ _ c.requires.1.lent (let a0 = c.words-1 in
     let a1 = c.words-2-1 in omega arith)
 
 pub simple-returns-in-Onward : goal.simple-returns-in-Onward
@@ -648,7 +651,7 @@ pub statement-overflow_add-x : goal.statement-overflow_add-x
 statement-overflow_add-x t c = omega (arith, c.requires.1.room, c.extra_of.ensures.1)
 
 pub statement-repeat-r-requires : goal.statement-repeat-r-requires
-statement-repeat-r-requires t c = (omega arith, record { lent = record { lent = c.before.before.before.before.before.before.before.before.before.before.before.before.requires.1.lent.lent; deep = omega (arith, c.before.before.before.before.before.before.before.before.before.before.before.before.requires.1.lent.deep) }; room = omega (arith, c.requires.1.room, c.extra_of.ensures.1, c.if-fuel-eq0.false) })
+statement-repeat-r-requires t c = (omega arith, record { lent = record { lent = c.requires.1.lent.lent; deep = omega (arith, c.requires.1.lent.deep) }; room = omega (arith, c.requires.1.room, c.extra_of.ensures.1, c.if-fuel-eq0.false) })
 
 pub statement-returns-then-tag-eq-WHILE : goal.statement-returns-then-tag-eq-WHILE
 statement-returns-then-tag-eq-WHILE t c = is_loop _ _ _ _ _ _ _ c.if-fuel-eq0.false _
@@ -673,13 +676,13 @@ pub statement-last_of-requires : goal.statement-last_of-requires
 statement-last_of-requires t c = omega (arith, c.requires.1.room)
 
 pub statement-update-r-requires : goal.statement-update-r-requires
-statement-update-r-requires t c = (omega arith, record { lent = still_lent_words _ _ _ _ c.before.before.before.before.before.before.before.before.before.before.before.before.before.before.before.before.before.before.requires.1.lent.lent (let a0 = c.before.before.before.before.before.before.words2 in omega arith); deep = omega (arith, c.requires.1.lent.deep) })
+statement-update-r-requires t c = (omega arith, record { lent = still_lent_words _ _ _ _ c.requires.1.lent.lent (let a0 = c.words-2-1 in omega arith); deep = omega (arith, c.requires.1.lent.deep) })
 
 pub statement-overflow_add-x-in-35 : goal.statement-overflow_add-x-in-35
 statement-overflow_add-x-in-35 t c = omega (arith, c.requires.1.room, c.extra_of-in-35.ensures.1)
 
 pub statement-when-r-requires : goal.statement-when-r-requires
-statement-when-r-requires t c = (omega arith, record { lent = record { lent = still_lent_words _ _ _ _ c.before.before.before.before.before.before.before.before.before.before.before.before.before.before.before.before.before.before.requires.1.lent.lent (let a0 = c.before.before.before.before.before.before.words2 in omega arith); deep = omega (arith, c.before.before.before.before.before.before.before.before.before.before.before.before.before.before.before.before.before.before.requires.1.lent.deep) }; room = omega (arith, c.requires.1.room, c.extra_of-in-35.ensures.1, c.if-fuel-eq0.false) })
+statement-when-r-requires t c = (omega arith, record { lent = record { lent = still_lent_words _ _ _ _ c.requires.1.lent.lent (let a0 = c.words-2-1 in omega arith); deep = omega (arith, c.requires.1.lent.deep) }; room = omega (arith, c.requires.1.room, c.extra_of-in-35.ensures.1, c.if-fuel-eq0.false) })
 
 pub statement-overflow_add-x-in-40 : goal.statement-overflow_add-x-in-40
 statement-overflow_add-x-in-40 t c = omega (arith, c.requires.1.room)
@@ -688,7 +691,7 @@ pub statement-overflow_add-x-in-40-2 : goal.statement-overflow_add-x-in-40-2
 statement-overflow_add-x-in-40-2 t c = omega (arith, c.requires.1.room, c.extra_of-in-40.ensures.1)
 
 pub statement-each-r-requires : goal.statement-each-r-requires
-statement-each-r-requires t c = (omega arith, record { lent = record { lent = still_lent_words _ _ _ _ c.before.before.before.before.before.before.before.before.before.before.before.before.before.before.before.before.before.before.before.requires.1.lent.lent (let a0 = c.before.before.before.before.before.before.before.words2 in omega arith); deep = omega (arith, c.before.before.before.before.before.before.before.before.before.before.before.before.before.before.before.before.before.before.before.requires.1.lent.deep) }; room = omega (arith, c.requires.1.room, c.extra_of-in-40.ensures.1, c.if-fuel-eq0.false) })
+statement-each-r-requires t c = (omega arith, record { lent = record { lent = still_lent_words _ _ _ _ c.requires.1.lent.lent (let a0 = c.words-2-1 in omega arith); deep = omega (arith, c.requires.1.lent.deep) }; room = omega (arith, c.requires.1.room, c.extra_of-in-40.ensures.1, c.if-fuel-eq0.false) })
 
 pub statement-overflow_add-x-in-38 : goal.statement-overflow_add-x-in-38
 statement-overflow_add-x-in-38 t c = omega (arith, c.requires.1.room, c.size_of-n.ensures, c.if-fuel-eq0.false)
@@ -700,10 +703,10 @@ pub statement-overflow_add-n : goal.statement-overflow_add-n
 statement-overflow_add-n t c = omega (arith, c.requires.1.room, c.size_of-n.ensures, c.if-fuel-eq0.false)
 
 pub statement-statements-r-requires : goal.statement-statements-r-requires
-statement-statements-r-requires t c = (omega arith, record { lent = record { lent = still_lent_words _ _ _ _ c.before.before.before.before.before.before.before.before.before.before.before.before.before.before.before.before.before.before.requires.1.lent.lent (let a0 = c.before.before.before.before.before.before.words2 in omega arith); deep = omega (arith, c.before.before.before.before.before.before.before.before.before.before.before.before.before.before.before.before.before.before.requires.1.lent.deep) }; room = omega (arith, c.requires.1.room, c.size_of-n.ensures, c.if-fuel-eq0.false) })
+statement-statements-r-requires t c = (omega arith, record { lent = record { lent = still_lent_words _ _ _ _ c.requires.1.lent.lent (let a0 = c.words-2-1 in omega arith); deep = omega (arith, c.requires.1.lent.deep) }; room = omega (arith, c.requires.1.room, c.size_of-n.ensures, c.if-fuel-eq0.false) })
 
 pub statement-simple-r-requires : goal.statement-simple-r-requires
-statement-simple-r-requires t c = (omega arith, record { lent = record { lent = still_lent_words _ _ _ _ c.before.before.before.before.before.before.before.before.before.before.before.before.before.before.before.before.before.requires.1.lent.lent (let a0 = c.before.before.before.before.before.words2 in omega arith); deep = omega (arith, c.before.before.before.before.before.before.before.before.before.before.before.before.before.before.before.before.before.requires.1.lent.deep) }; room = omega (arith, c.requires.1.room) })
+statement-simple-r-requires t c = (omega arith, record { lent = record { lent = still_lent_words _ _ _ _ c.requires.1.lent.lent (let a0 = c.words-2-1 in omega arith); deep = omega (arith, c.requires.1.lent.deep) }; room = omega (arith, c.requires.1.room) })
 
 pub statement-returns-in-32 : goal.statement-returns-in-32
 statement-returns-in-32 t c = is_declaration _ _ _ _ _ _ _ c.if-fuel-eq0.false _
@@ -756,9 +759,9 @@ statement-returns-in_default t c = is_simple _ _ _ _ _ _ _ c.if-fuel-eq0.false _
     c.tag_of-tag.ensures
     c.if-tag-eq-WHILE.false _ _
     c.count.ensures c.if-not-count.false-raw _
-    c.in_default.rest.0.0.0.0.1 c.in_default.rest.0.0.0.1
-    c.in_default.rest.0.0.1 c.in_default.rest.0.1
-    c.in_default.rest.1 c.simple-r.ensures
+    c.in_default.in_default-own.rest.0.0.0.0.1 c.in_default.in_default-own.rest.0.0.0.1
+    c.in_default.in_default-own.rest.0.0.1 c.in_default.in_default-own.rest.0.1
+    c.in_default.in_default-own.rest.1 c.simple-r.ensures
 
 pub statements-loop-left-init : goal.statements-loop-left-init
 statements-loop-left-init t c = all_first _ _ _ _ _ _ _ _ _ c.requires.1
@@ -824,23 +827,23 @@ pub update-expression-requires : goal.update-expression-requires
 update-expression-requires t c = (omega arith, c.requires.1)
 
 pub update-expression-requires-in-Table : goal.update-expression-requires-in-Table
-update-expression-requires-in-Table t c = (omega arith, still_lent _ _ _ _ _ (let a0 = c.before.before.before.before.before.before.before.before.before.before.before.texts in omega arith) (let a0 = c.words-1 in omega arith) _ c.requires.1)
+update-expression-requires-in-Table t c = (omega arith, still_lent _ _ _ _ _ (let a0 = c.texts-1 in omega arith) (let a0 = c.words-1 in omega arith) _ c.requires.1)
 
 pub update-expression-requires-in-Good-expression : goal.update-expression-requires-in-Good-expression
-update-expression-requires-in-Good-expression t c = (omega (arith, c.before.before.before.before.before.before.before.before.before.before.before.before.before.before.before.before.before.before.before.before.before.before.before.before.before.before.before.before.before.before.before.before.before.before.requires.0), still_lent _ _ _ _ _ (let a0 = c.before.before.before.before.before.before.before.before.before.before.before.before.before.before.before.before.before.before.before.before.before.before.texts in let a1 = c.before.before.before.before.before.before.before.before.before.texts2 in omega arith) (let a0 = c.before.before.before.before.before.before.before.before.before.before.before.before.before.before.before.before.before.before.before.before.words in let a1 = c.words-in-Table-1 in omega arith) _ c.requires.1)
+update-expression-requires-in-Good-expression t c = (omega (arith, c.requires.0), still_lent _ _ _ _ _ (let a0 = c.texts-1 in let a1 = c.texts-in-Table-1 in omega arith) (let a0 = c.words-1 in let a1 = c.words-in-Table-1 in omega arith) _ c.requires.1)
 
 pub update-store_entry-number-requires : goal.update-store_entry-number-requires
-update-store_entry-number-requires t c = still_room _ _ _ _ _ c.before.before.before.before.before.before.before.before.before.before.before.before.before.before.before.before.before.before.before.before.before.before.before.before.before.before.before.before.before.before.before.before.before.before.before.before.before.before.before.before.before.before.before.before.before.requires.1 (let a0 =
+update-store_entry-number-requires t c = still_room _ _ _ _ _ c.requires.1 (let a0 =
     c.words-1 in
     let a1 = c.words-in-Table-1 in
     let a2 = c.words-in-Good-expression-1 in omega arith)
 
 pub update-shape_of-texts-then-number-ne0 : goal.update-shape_of-texts-then-number-ne0
-update-shape_of-texts-then-number-ne0 t c = let a = c.before.before.before.before.before.before.before.before.before.before.before.before.before.before.before.before.before.before.before.before.before.before.before.before.before.before.before.before.before.before.before.before.before.before.before.before.before.before.before.before.before.before.before.before.before.before.slice-known in let b = c.texts-1 in
+update-shape_of-texts-then-number-ne0 t c = let a = c.slice_known-1 in let b = c.texts-1 in
     let d = c.texts-in-Table-1 in let e = c.texts-in-Good-expression-1 in search rules
 
 pub update-shape_of-words-then-number-ne0 : goal.update-shape_of-words-then-number-ne0
-update-shape_of-words-then-number-ne0 t c = let a = c.before.before.before.before.before.before.before.before.before.before.before.before.before.before.before.before.before.before.before.before.before.before.before.before.before.before.before.before.before.before.before.before.before.before.before.before.before.before.before.before.before.before.before.before.before.slice-known2 in let b = c.words-1 in
+update-shape_of-words-then-number-ne0 t c = let a = c.slice_known-2-1 in let b = c.words-1 in
     let d = c.words-in-Table-1 in let e = c.words-in-Good-expression-1 in let f = c.words-in-Good-expression-2-1 in search rules
 
 pub update-returns-then-number-ne0 : goal.update-returns-then-number-ne0
@@ -852,11 +855,11 @@ update-returns-then-number-ne0 t c = update_refused _ _ _ _ _ _ _ _ _ _ _ _ c.wo
     c.if-number-ne0.true
 
 pub update-shape_of-texts-else-number-ne0 : goal.update-shape_of-texts-else-number-ne0
-update-shape_of-texts-else-number-ne0 t c = let a = c.before.before.before.before.before.before.before.before.before.before.before.before.before.before.before.before.before.before.before.before.before.before.before.before.before.before.before.before.before.before.before.before.before.before.before.before.before.before.before.before.before.before.before.before.before.before.slice-known in let b = c.texts-1 in
+update-shape_of-texts-else-number-ne0 t c = let a = c.slice_known-1 in let b = c.texts-1 in
     let d = c.texts-in-Table-1 in let e = c.texts-in-Good-expression-1 in search rules
 
 pub update-shape_of-words-else-number-ne0 : goal.update-shape_of-words-else-number-ne0
-update-shape_of-words-else-number-ne0 t c = let a = c.before.before.before.before.before.before.before.before.before.before.before.before.before.before.before.before.before.before.before.before.before.before.before.before.before.before.before.before.before.before.before.before.before.before.before.before.before.before.before.before.before.before.before.before.before.slice-known2 in let b = c.words-1 in
+update-shape_of-words-else-number-ne0 t c = let a = c.slice_known-2-1 in let b = c.words-1 in
     let d = c.words-in-Table-1 in let e = c.words-in-Good-expression-1 in let f = c.words-in-Good-expression-2-1 in search rules
 
 pub update-returns-else-number-ne0 : goal.update-returns-else-number-ne0
@@ -899,7 +902,7 @@ update-returns-in_default t c = table_other _ _ _ _ _ _ _ _ _ _ _ _ c.word_at.en
     c.before-b.ensures.0
     c.word_at-2.ensures
     c.before-a.ensures.0 _ _ _
-    c.expression.ensures _ c.in-Good.is c.in_default.keys2
+    c.expression.ensures _ c.in-Good.is c.in_default.in_default-own.keys2
 
 pub update-returns-in-Bad : goal.update-returns-in-Bad
 update-returns-in-Bad t c = table_stops _ _ _ _ _ _ _ _ _ _ _ _ c.word_at.ensures
@@ -915,7 +918,7 @@ pub when-overflow_add-y : goal.when-overflow_add-y
 when-overflow_add-y t c = omega (arith, c.requires.1.room)
 
 pub when-statement-requires : goal.when-statement-requires
-when-statement-requires t c = (omega arith, still_runs _ _ _ _ _ (let a0 = c.before.before.before.before.before.before.before.texts in omega arith) (let a0 = c.words-1 in omega arith) _ _ c.requires.1)
+when-statement-requires t c = (omega arith, still_runs _ _ _ _ _ (let a0 = c.texts-1 in omega arith) (let a0 = c.words-1 in omega arith) _ _ c.requires.1)
 
 pub when-returns-in-Onward : goal.when-returns-in-Onward
 when-returns-in-Onward t c = when_holds _ _ _ _ _ _ _ _ _ _ c.test.ensures _ _

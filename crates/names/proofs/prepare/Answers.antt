@@ -11,6 +11,6 @@ fill-requires c = search index_none
 
 pub returns : goal.returns
 returns c =
-    let same = c.fill.auto.1.1.0
-    ∙ c.clear_words.auto.0 in
+    let same = c.fill.auto.index
+    ∙ c.clear_words.auto.words in
     (search rules, c.clear_words-2.ensures ∙ ap (λ (n : ℕ). replicate n 0) same)

@@ -13,7 +13,7 @@ returns-then-is_group c =
 pub renew-r-requires : goal.renew-r-requires
 renew-r-requires c =
     let a = c.before.before.before.before.before.before.before.before.before.before in
-    (room_same a.requires.0 c.count.auto.0, rw (to_z-of_z a.ranges.by) a.requires.1)
+    (room_same a.requires.0 c.count.auto.words, rw (to_z-of_z a.ranges.by) a.requires.1)
 
 pub returns : goal.returns
 returns c =

@@ -90,34 +90,34 @@ pub read_foreach-overflow_sub-left : goal.read_foreach-overflow_sub-left
 read_foreach-overflow_sub-left t c =
     let o = c.requires.1.0 in
     omega
-    (arith, iteration_opens _ _ _ _ _ _ o _ c.read_each-e.ensures _ _ _ c.in-At.is c.read_each-e.auto.1.0)
+    (arith, iteration_opens _ _ _ _ _ _ o _ c.read_each-e.ensures _ _ _ c.in-At.is c.read_each-e.auto.words)
 
 pub read_foreach-read_statement-b-requires : goal.read_foreach-read_statement-b-requires
 read_foreach-read_statement-b-requires t c =
     let o = c.requires.1.0 in
     let p = iterated _ _ _ _ _ _ o _ c.read_each-e.ensures _ _ _ c.in-At.is
-    c.read_each-e.auto.1.0 in
+    c.read_each-e.auto.words in
     (omega (arith, p.ahead, p.within, c.requires.0), p.space)
 
 pub read_foreach-overflow_sub-m : goal.read_foreach-overflow_sub-m
 read_foreach-overflow_sub-m t c =
     let o = c.requires.1.0 in
     let p = iterated _ _ _ _ _ _ o _ c.read_each-e.ensures _ _ _
-    c.in-At.is c.read_each-e.auto.1.0 in
+    c.in-At.is c.read_each-e.auto.words in
     omega (arith, p.some)
 
 pub read_foreach-overflow_sub-m-in-At : goal.read_foreach-overflow_sub-m-in-At
 read_foreach-overflow_sub-m-in-At t c =
     let o = c.requires.1.0 in
     let p = iterated _ _ _ _ _ _ o _ c.read_each-e.ensures _ _ _
-    c.in-At.is c.read_each-e.auto.1.0 in
+    c.in-At.is c.read_each-e.auto.words in
     omega (arith, p.some)
 
 pub read_foreach-head-requires : goal.read_foreach-head-requires
 read_foreach-head-requires t c =
     let o = c.requires.1.0 in
     let p = iterated _ _ _ _ _ _ o _ c.read_each-e.ensures _ _ _
-    c.in-At.is c.read_each-e.auto.1.0 in
+    c.in-At.is c.read_each-e.auto.words in
     parts_code _ _ _ _ _ _ _ _ _ _ c.read_statement-b.ensures (statement_paid _ _ _) (omega (arith, p.some)) (omega (arith, p.space.behind)) o.few
     (omega arith) p.small
 
@@ -132,7 +132,7 @@ read_foreach-returns-in-At t c =
     c.requires.1.0 _
     c.read_each-e.ensures _ _ _
     c.in-At.is
-    c.read_each-e.auto.1.0 _ _ _ _
+    c.read_each-e.auto.words _ _ _ _
     c.read_statement-b.ensures c.head.ensures
 
 pub read_guarded-overflow_add-i : goal.read_guarded-overflow_add-i
@@ -154,34 +154,34 @@ pub read_guarded-overflow_sub-left : goal.read_guarded-overflow_sub-left
 read_guarded-overflow_sub-left t c =
     let o = c.requires.1.0 in
     omega
-    (arith, tested_opens _ _ _ _ _ _ o _ c.read_test-e.ensures _ _ _ c.in-At.is c.read_test-e.auto.1.0)
+    (arith, tested_opens _ _ _ _ _ _ o _ c.read_test-e.ensures _ _ _ c.in-At.is c.read_test-e.auto.words)
 
 pub read_guarded-read_statement-s-requires : goal.read_guarded-read_statement-s-requires
 read_guarded-read_statement-s-requires t c =
     let o = c.requires.1.0 in
     let p = tested _ _ _ _ _ _ o _ c.read_test-e.ensures _ _ _ c.in-At.is
-    c.read_test-e.auto.1.0 in
+    c.read_test-e.auto.words in
     (omega (arith, p.ahead, p.within, c.requires.0), p.space)
 
 pub read_guarded-overflow_sub-m : goal.read_guarded-overflow_sub-m
 read_guarded-overflow_sub-m t c =
     let o = c.requires.1.0 in
     let p = tested _ _ _ _ _ _ o _ c.read_test-e.ensures _ _ _
-    c.in-At.is c.read_test-e.auto.1.0 in
+    c.in-At.is c.read_test-e.auto.words in
     omega (arith, p.some)
 
 pub read_guarded-overflow_sub-m-in-At : goal.read_guarded-overflow_sub-m-in-At
 read_guarded-overflow_sub-m-in-At t c =
     let o = c.requires.1.0 in
     let p = tested _ _ _ _ _ _ o _ c.read_test-e.ensures _ _ _
-    c.in-At.is c.read_test-e.auto.1.0 in
+    c.in-At.is c.read_test-e.auto.words in
     omega (arith, p.some)
 
 pub read_guarded-head-requires : goal.read_guarded-head-requires
 read_guarded-head-requires t c =
     let o = c.requires.1.0 in
     let p = tested _ _ _ _ _ _ o _ c.read_test-e.ensures _ _ _
-    c.in-At.is c.read_test-e.auto.1.0 in
+    c.in-At.is c.read_test-e.auto.words in
     parts_code _ _ _ _ _ _ _ _ _ _ c.read_statement-s.ensures (statement_paid _ _ _) (omega (arith, p.some)) (omega (arith, p.space.behind)) o.few
     c.requires.1.1.1 p.small
 
@@ -195,7 +195,7 @@ read_guarded-returns-in-At t c =
     guarded_reads _ _ _ _ _ _ c.requires.1.0
     _ c.read_test-e.ensures _ _ _
     c.in-At.is
-    c.read_test-e.auto.1.0 _ _ _ _ _
+    c.read_test-e.auto.words _ _ _ _ _
     c.read_statement-s.ensures c.head.ensures
 
 pub read_statement-read_guarded-requires : goal.read_statement-read_guarded-requires
@@ -259,7 +259,7 @@ read_statement-returns-in-123 t c = c.read_block.ensures
 
 pub read_statement-returns-in_default : goal.read_statement-returns-in_default
 read_statement-returns-in_default t c =
-    let x = c.in_default.rest in
+    let x = c.in_default.in_default-own.rest in
     states_simple _ _ _ _ _ _ _ _ c.kind_at-kind.ensures x.0.0.0.0.0.1 x.0.0.0.0.1 x.0.0.0.1 x.0.0.1 x.0.1
     x.1 c.read_simple.ensures
 
@@ -267,7 +267,7 @@ pub read_statements-loop-k-init : goal.read_statements-loop-k-init
 read_statements-loop-k-init t c = going_starts _ _ _ _ _ c.requires.1
 
 pub read_statements-shape_of-words-in-Wrong : goal.read_statements-shape_of-words-in-Wrong
-read_statements-shape_of-words-in-Wrong t c = omega (arith, c.loop-k.invariant.kept, c.read_statement-s.auto.1.0)
+read_statements-shape_of-words-in-Wrong t c = omega (arith, c.loop-k.invariant.kept, c.read_statement-s.auto.words)
 
 pub read_statements-returns-in-Wrong : goal.read_statements-returns-in-Wrong
 read_statements-returns-in-Wrong t c =
@@ -278,29 +278,29 @@ pub read_statements-overflow_add-result : goal.read_statements-overflow_add-resu
 read_statements-overflow_add-result t c =
     let x = turned _ _ _ _ _ _ _ _ c.loop-k.invariant _ _
     c.read_statement-s.ensures _ _ _ c.in-At.is
-    c.read_statement-s.auto.1.0 in
+    c.read_statement-s.auto.words in
     omega (arith, x.within, x.space.few)
 
 pub read_statements-shape_of-words-then-kind_at-eq-CLOSE_BRACE : goal.read_statements-shape_of-words-then-kind_at-eq-CLOSE_BRACE
 read_statements-shape_of-words-then-kind_at-eq-CLOSE_BRACE t c =
     omega
-    (arith, c.loop-k.invariant.kept, c.read_statement-s.auto.1.0)
+    (arith, c.loop-k.invariant.kept, c.read_statement-s.auto.words)
 
 pub read_statements-returns-then-kind_at-eq-CLOSE_BRACE : goal.read_statements-returns-then-kind_at-eq-CLOSE_BRACE
 read_statements-returns-then-kind_at-eq-CLOSE_BRACE t c =
     going_ends _ _ _ _ _ _ _ _ c.loop-k.invariant _ _
     c.read_statement-s.ensures _ _ _ c.in-At.is
-    c.read_statement-s.auto.1.0 _ c.kind_at.ensures c.if-kind_at-eq-CLOSE_BRACE.true
+    c.read_statement-s.auto.words _ c.kind_at.ensures c.if-kind_at-eq-CLOSE_BRACE.true
 
 pub read_statements-loop-k-smaller : goal.read_statements-loop-k-smaller
 read_statements-loop-k-smaller t c =
     let x = turned _ _ _ _ _ _ _ _ c.loop-k.invariant _ _
     c.read_statement-s.ensures _ _ _ c.in-At.is
-    c.read_statement-s.auto.1.0 in
+    c.read_statement-s.auto.words in
     omega (arith, x.ahead, x.within)
 
 pub read_statements-loop-k-preserved : goal.read_statements-loop-k-preserved
 read_statements-loop-k-preserved t c =
     going_on _ _ _ _ _ _ _ _ c.loop-k.invariant _ _
     c.read_statement-s.ensures _ _ _ c.in-At.is
-    c.read_statement-s.auto.1.0 _ c.kind_at.ensures c.if-kind_at-eq-CLOSE_BRACE.false
+    c.read_statement-s.auto.words _ c.kind_at.ensures c.if-kind_at-eq-CLOSE_BRACE.false

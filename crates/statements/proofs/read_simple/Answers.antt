@@ -29,7 +29,7 @@ read_ended-e-requires c =
     let o = c.requires in
     let p = sided _ _ _ _ _ _ o _ c.read_expression-a.ensures _ _ _
     c.in-At.is in
-    sided_room _ _ _ _ _ _ _ _ o p c.read_expression-a.auto.1.0 (omega (arith, p.some, p.paid))
+    sided_room _ _ _ _ _ _ _ _ o p c.read_expression-a.auto.words (omega (arith, p.some, p.paid))
 
 pub head-requires-in-1 : goal.head-requires-in-1
 head-requires-in-1 c =
@@ -57,7 +57,7 @@ read_ended-e-requires-in-2 c =
     let o = c.requires in
     let p = sided _ _ _ _ _ _ o _ c.read_expression-a.ensures _ _ _
     c.in-At.is in
-    sided_room _ _ _ _ _ _ _ _ o p c.read_expression-a.auto.1.0 (omega (arith, p.some, p.paid))
+    sided_room _ _ _ _ _ _ _ _ o p c.read_expression-a.auto.words (omega (arith, p.some, p.paid))
 
 pub head-requires-in-2 : goal.head-requires-in-2
 head-requires-in-2 c =
@@ -87,4 +87,4 @@ returns-in-2 c = simple_updates _ _ _ _ _ _ c.requires _ c.read_expression-a.ens
 pub returns-in_default : goal.returns-in_default
 returns-in_default c = simple_refuses _ _ _ _ _ _ c.requires _
     c.read_expression-a.ensures _ _ _ c.in-At.is _
-    c.kind_at.ensures c.if-kind_at-ne-ASSIGN.false c.in_default.rest.0.1 c.in_default.rest.1
+    c.kind_at.ensures c.if-kind_at-ne-ASSIGN.false c.in_default.in_default-own.rest.0.1 c.in_default.in_default-own.rest.1

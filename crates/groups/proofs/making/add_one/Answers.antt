@@ -55,7 +55,7 @@ bounds-words-10-2 c =
       arith,
       s.requires.room.words,
       p.auto.0,
-      c.clear_from.auto.0,
+      c.clear_from.auto.words,
       length-set p.new.0 c.place_of-at.result c.slot_word.result,
     )
 

@@ -19,11 +19,11 @@ overflow_cast-k c = omega (arith, shape_number _ _ _ _ c.spend.ensures c.if-not-
 pub put_group-requires : goal.put_group-requires
 put_group-requires c = shape_room _ _ _ _ c.spend.ensures c.if-not-spend.false-raw
     c.requires.units.room _ _ refl c.place_of.ensures
-    c.spend.auto.0
+    c.spend.auto.words
 
 pub fill-requires : goal.fill-requires
 fill-requires c = group_sources _ _ _ _ _ _ c.requires
-    (c.put_group.auto.0 ∙ c.spend.auto.0)
+    (c.put_group.auto.words ∙ c.spend.auto.words)
 
 pub returns-then-not-fill : goal.returns-then-not-fill
 returns-then-not-fill c = group_short _ _ _ _ _ _ _ _ c.spend.ensures

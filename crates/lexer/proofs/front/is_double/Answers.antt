@@ -19,4 +19,4 @@ pub returns-in-62 : goal.returns-in-62
 returns-in-62 c = double_62 c.args.b c.args.c c.in-62.is
 
 pub returns-in_default : goal.returns-in_default
-returns-in_default c = let n = c.in_default.rest in double_none c.args.b c.args.c n.0.0.0.0.1 n.0.0.0.1 n.0.0.1 n.0.1 n.1
+returns-in_default c = let n = c.in_default.in_default-own.rest in double_none c.args.b c.args.c n.0.0.0.0.1 n.0.0.0.1 n.0.0.1 n.0.1 n.1

@@ -30,5 +30,5 @@ returns-in-5 c = rw (front_5 c.args.program.now c.args.at c.requires.at_in_bound
 
 pub returns-in_default : goal.returns-in_default
 unfolding front_word
-returns-in_default c = let n = c.in_default.rest in rw (front_none c.args.program.now c.args.at
+returns-in_default c = let n = c.in_default.in_default-own.rest in rw (front_none c.args.program.now c.args.at
     c.requires.at_in_bounds.0 _ (sym c.class_of-c.ensures) n.0.0.0.1 n.0.0.1 n.0.1 n.1)

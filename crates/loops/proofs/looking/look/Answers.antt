@@ -18,7 +18,7 @@ pub loop-d-preserved : goal.loop-d-preserved
 loop-d-preserved c = search looks_next
 
 pub overflow_cast-result : goal.overflow_cast-result
-overflow_cast-result c = let q : c.before.found.given.0.0 < 2 ^ 18 = search found_small in omega (arith, q)
+overflow_cast-result c = let q : c.in-Stopped.found < 2 ^ 18 = search found_small in omega (arith, q)
 
 pub returns-in-Stopped : goal.returns-in-Stopped
 returns-in-Stopped c = search looks_found

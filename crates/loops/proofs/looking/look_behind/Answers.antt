@@ -17,7 +17,7 @@ returns-then-found-ne0 c = search behind_found
 
 pub next_marked-up-requires : goal.next_marked-up-requires
 next_marked-up-requires c = room_same (climb_room _ _ _ _ _ _ _ c.loop-turns.invariant
-    c.requires) c.look_after-found.auto.0
+    c.requires) c.look_after-found.auto.words
 
 pub returns-then-up-eq0 : goal.returns-then-up-eq0
 returns-then-up-eq0 c = search behind_none
@@ -27,7 +27,7 @@ overflow_sub-up c = omega arith
 
 pub unmark-requires : goal.unmark-requires
 unmark-requires c = room_same (climb_room _ _ _ _ _ _ _ c.loop-turns.invariant
-    c.requires) c.look_after-found.auto.0
+    c.requires) c.look_after-found.auto.words
 
 pub overflow_sub-at : goal.overflow_sub-at
 overflow_sub-at c = omega arith

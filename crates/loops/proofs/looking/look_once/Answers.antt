@@ -16,14 +16,14 @@ returns-then-not-is_group c = search look_found
 
 pub enter-r-requires : goal.enter-r-requires
 enter-r-requires c = descends _ _ _ _ _ _ c.requires
-    c.before.before.before.before.before.before.before.before.before.before.before.before.before.if1.false c.mark.auto.0
+    c.before.before.before.before.before.before.before.before.before.before.before.before.before.if1.false c.mark.auto.words
 
 pub returns : goal.returns
 returns c = look_in_group _ _ _ _ _ c.component_at-c.ensures _
     c.is_passed.ensures
     c.if-is_passed.false _
     c.is_group.ensures _ c.mark.ensures
-    c.mark.auto.0 _
+    c.mark.auto.words _
     c.requires
     c.before.before.before.before.before.before.before.before.before.before.before.before.before.before.before.before.if1.false
     c.if-not-is_group.false-raw _ _ c.enter-r.ensures

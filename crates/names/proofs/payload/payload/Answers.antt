@@ -19,4 +19,4 @@ pub returns-in-3 : goal.returns-in-3
 returns-in-3 c = search payload_string
 
 pub returns-in_default : goal.returns-in_default
-returns-in_default c = let n = c.in_default.rest in payload_other _ _ _ n.0.0.1 n.0.1 n.1
+returns-in_default c = let n = c.in_default.in_default-own.rest in payload_other _ _ _ n.0.0.1 n.0.1 n.1

@@ -26,12 +26,12 @@ returns-then-not-reach c =
 pub returns-then-not-is_group : goal.returns-then-not-is_group
 returns-then-not-is_group c =
     figure_measured _ _ _ _ _ _ _ c.requires
-    c.if-n-eq0.false _ c.component_at-c.ensures _ c.is_destroyed.ensures c.if-is_destroyed.false _ _ c.reach.ensures c.if-not-reach.false-raw c.reach.auto.1.1.0 _ c.is_group.ensures c.if-not-is_group.true-raw
+    c.if-n-eq0.false _ c.component_at-c.ensures _ c.is_destroyed.ensures c.if-is_destroyed.false _ _ c.reach.ensures c.if-not-reach.false-raw c.reach.auto.words _ c.is_group.ensures c.if-not-is_group.true-raw
 
 pub descend-r-requires : goal.descend-r-requires
 descend-r-requires c =
-    descends _ _ _ _ _ _ c.requires c.if-n-eq0.false c.reach.auto.1.1.0
+    descends _ _ _ _ _ _ c.requires c.if-n-eq0.false c.reach.auto.words
 
 pub returns : goal.returns
 returns c =
-    group_measured _ _ _ _ _ _ _ c.requires c.if-n-eq0.false _ c.component_at-c.ensures _ c.is_destroyed.ensures c.if-is_destroyed.false _ _ c.reach.ensures c.if-not-reach.false-raw c.reach.auto.1.1.0 _ c.is_group.ensures c.if-not-is_group.false-raw _ _ c.descend-r.ensures
+    group_measured _ _ _ _ _ _ _ c.requires c.if-n-eq0.false _ c.component_at-c.ensures _ c.is_destroyed.ensures c.if-is_destroyed.false _ _ c.reach.ensures c.if-not-reach.false-raw c.reach.auto.words _ c.is_group.ensures c.if-not-is_group.false-raw _ _ c.descend-r.ensures

@@ -83,4 +83,4 @@ pub returns-else-same_text-11 : goal.returns-else-same_text-11
 returns-else-same_text-11 c = sym (kind_7 _ c.in-7.is ∙ rw (sym c.same_text-in-7.ensures ∙ c.if-same_text-11.false))
 
 pub returns-in_default : goal.returns-in_default
-returns-in_default c = let n = c.in_default.rest in sym (kind_other _ n.0.0.0.0.0.1 n.0.0.0.0.1 n.0.0.0.1 n.0.0.1 n.0.1 n.1)
+returns-in_default c = let n = c.in_default.in_default-own.rest in sym (kind_other _ n.0.0.0.0.0.1 n.0.0.0.0.1 n.0.0.0.1 n.0.0.1 n.0.1 n.1)

@@ -7,7 +7,7 @@ use Rattle.writing.proofs.Writers.{length_negative, length_positive}
 use Rattle.writing.proofs.decimal.decimal_length.Goals as goal
 
 pub overflow_add-result : goal.overflow_add-result
-overflow_add-result c = let h : c.before.before.digit-count.result ≤ 20 = search digits_limit in omega arith
+overflow_add-result c = let h : c.digit_count-count.result ≤ 20 = search digits_limit in omega arith
 
 pub returns-then-is_negative : goal.returns-then-is_negative
 returns-then-is_negative c = search length_negative

@@ -6,7 +6,7 @@ use Rattle.writing.proofs.Writers.{length_pair, pair_short}
 use Rattle.writing.proofs.decimal.pair_length.Goals as goal
 
 pub overflow_add-result : goal.overflow_add-result
-overflow_add-result c = let h : c.before.decimal-length.result + c.decimal-length2.result ≤ 40 = search pair_short in omega arith
+overflow_add-result c = let h : c.decimal_length.result + c.decimal_length-2.result ≤ 40 = search pair_short in omega arith
 
 pub returns : goal.returns
 returns c = record {

@@ -20,4 +20,4 @@ pub loop-i-preserved : goal.loop-i-preserved
 loop-i-preserved c = (omega arith, rw c.loop-i.invariant.1 (without_tenth _ _))
 
 pub returns : goal.returns
-returns c = let q : c.before.loop.i ≡ c.before.before.args.count = omega arith in rw (← q) c.loop-i.invariant.1
+returns c = let q : c.loop-i.i ≡ c.args.count = omega arith in rw (← q) c.loop-i.invariant.1
