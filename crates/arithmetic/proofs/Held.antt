@@ -31,7 +31,7 @@ wide z = long (held z)
 
 -- a result that a call gives has 32 bits
 pub given : {r : ℤ} → mag r < 2 ^ 31 → held r ≡ r
-given h = to_z-of_z (record { sfits = h })
+given h = to_z-of_z {w = w32} (record { sfits = h })
 
 -- ---- the lowest 32 bits
 lowest : (z : ℤ) → SFits w64 z → of_z w64 z % 2 ^ 32 ≡ bits z

@@ -13,7 +13,7 @@ use mir.Val.{Fits}
 use borrow.Author.Tests.{le-leb, lt-leb, leb-true, not-true, not-false}
 use Rattle.meaning.specs.Basics.{if◌then◌else◌}
 use Rattle.meaning.specs.Run.{Run}
-use Rattle.meaning.specs.Program.{Operation, Outcome, drawing, specified}
+use Rattle.meaning.specs.Program.{Operation, Outcome, checking, drawing, specified}
 use Rattle.meaning.specs.Book.{nothing_yet, book, Answer, number, booked}
 use Rattle.meaning.specs.Call.{Call, in_range, needed, long_enough, admitted, granted, run_of, answer, work_after, out_after_end, out_after}
 use Rattle.machine.specs.Layout.{steps_granted, shapes_granted, entries_granted, text_granted, calls_granted, fixed_words, words_needed}
@@ -195,6 +195,7 @@ module _ (o : Operation) (runs : Runs o) (program : List ℕ) (width height : �
   asked = go o runs
     where
       go : (o : Operation) → Runs o → admitted (called o program width height g tokens code words texts out) ≡ enough g (length tokens) (length code) (length words) (length texts)
+      go checking x = elim x [ ]
       go drawing draws = refl
 
   module _ (ok : Bool) (e : ok ≡ enough g (length tokens) (length code) (length words) (length texts)) where

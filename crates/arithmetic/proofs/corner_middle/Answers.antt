@@ -3,6 +3,4 @@ use Rattle.arithmetic.proofs.corner_middle.Goals as goal
 
 pub returns : goal.returns
 returns c =
-    let z = c.ranges in
-    let h = c.half in
-    corner_is z.x z.w h.type-inv c.sum.type_inv h.ensures c.sum.ensures
+    corner_is c.ranges.x c.ranges.w c.half.type_inv c.sum.type_inv c.half.ensures c.sum.ensures

@@ -5,10 +5,8 @@ use Rattle.clauses.proofs.write_iterator.Goals as goal
 
 pub returns-then-ends_word : goal.returns-then-ends_word
 returns-then-ends_word c =
-    let z = c.before.before.before.before.before.before.before.before.before.before.before.before.before.before.before.before.before.before.before.before.before in
-    search iterator_spaced
+        search iterator_spaced
 
 pub returns : goal.returns
 returns c =
-    let z = c.before.before.before.before.before.before.before.before.before.before.before.before.before.before.before.before.before.before.before.before.before in
-    search iterator_closed
+        search iterator_closed

@@ -13,5 +13,5 @@ returns c = wrote_excerpt _ _ _ _ _ _ c.requires
     c.line_rest-rest.ensures
     c.least.ensures
     c.least-2.ensures
-    (omega (arith, c.before.before.before.before.before.before.before.before.before.before.before.before.before.before.before))
+    (omega arith)
     c.write_shown_at-next.ensures c.write_mark_at.ensures

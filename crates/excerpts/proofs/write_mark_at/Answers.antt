@@ -5,6 +5,6 @@ use Rattle.excerpts.proofs.Marking.{wrote_mark}
 use Rattle.excerpts.proofs.write_mark_at.Goals as goal
 
 pub returns : goal.returns
-returns c = wrote_mark _ (omega (arith, c.before.before.before.before.before.before.before.before.before.before.before.before.before.before.before.before)) _
+returns c = wrote_mark _ (omega arith) _
     c.write_if_at-a.ensures
     c.write_glyphs_at-b.ensures c.write_bytes_at.ensures

@@ -13,4 +13,4 @@ pub returns : goal.returns
 returns c =
     let same = c.fill.auto.index
     ∙ c.clear_words.auto.words in
-    (search rules, c.clear_words-2.ensures ∙ ap (λ (n : ℕ). replicate n 0) same)
+    record { words = search rules; cleared = c.clear_words-2.ensures ∙ ap (λ (n : ℕ). replicate n 0) same }

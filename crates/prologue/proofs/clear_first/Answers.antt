@@ -10,7 +10,6 @@ slice_bounds-clear_words-end-2 c = sym (length-take-le first_argument c.args.wor
 
 pub returns : goal.returns
 returns c =
-    let s = c.before.before.before.before.before.before.before.before.before.before.before.before in
-    both_cleared s.args.grants.now s.args.words.now _ _ _ _ s.requires
+        both_cleared c.args.grants.now c.args.words.now _ _ _ _ c.requires
     c.place_of-a.ensures c.place_of-b.ensures
     c.clear_words.ensures c.clear_words-2.ensures

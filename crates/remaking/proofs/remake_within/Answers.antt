@@ -11,7 +11,7 @@ pub overflow_add-d : goal.overflow_add-d
 overflow_add-d c = omega (arith, c.loop-d.invariant.walks.few, c.loop-d.invariant.walks.deep, c.requires.0.shapes)
 
 pub turn-requires : goal.turn-requires
-turn-requires c = let a = c.before.before.before.before.before.before.before.before in (search under, rw (to_z-of_z a.ranges.by) a.requires.1)
+turn-requires c = (search under, rw (to_z-of_z c.ranges.by) c.requires.1)
 
 pub loop-d-smaller : goal.loop-d-smaller
 loop-d-smaller c = search go_less

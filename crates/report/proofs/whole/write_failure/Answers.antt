@@ -17,6 +17,6 @@ pub returns : goal.returns
 returns c = failed _ c.args.number _ _ _
     c.least-spot.ensures
     c.locate-p.ensures _
-    (omega (arith, c.before.before.before.before.before.before.before.before.before.before.before.before.before.before.before.before)) refl
+    (omega arith) refl
     c.write_heading_at-a.ensures c.write_line_at-b.ensures
     c.write_sentence_at.ensures

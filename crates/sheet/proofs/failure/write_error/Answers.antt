@@ -5,6 +5,6 @@ use Rattle.sheet.proofs.Errors.{error_written}
 use Rattle.sheet.proofs.failure.write_error.Goals as goal
 
 pub returns : goal.returns
-returns c = error_written _ _ (omega (arith, c.before.before.before.before.before.before.before.before.before.before.before.before.before.before.before.before))
+returns c = error_written _ _ (omega arith)
     c.write_number_at-a.ensures
     c.write_number_at-b.ensures c.write_bytes_at.ensures

@@ -1,6 +1,4 @@
 use Rattle.writing.proofs.Decimals.{Counting}
-use Rattle.writing.proofs.decimal.digit_count.Reads as reads
-use Rattle.writing.proofs.decimal.digit_count.Lts as lts
 use Rattle.writing.proofs.decimal.digit_count.Given as goal
 
 abbrev pub invariant-loop-rest : goal.invariant-loop-rest
