@@ -102,7 +102,7 @@ pub pair_is : {x y : ℤ} {a b : ℕ} → SFits w32 x → SFits w32 y → a ≡ 
 pair_is f g h k = rw (h, k, to_z-of_z f, to_z-of_z g)
 
 back : {z r : ℤ} → mag r < 2 ^ 31 → r ≡ z → to_z w32 (of_z w32 r) ≡ z
-back h e = to_z-of_z (record { sfits = h }) ∙ e
+back h e = to_z-of_z {w = w32} (record { sfits = h }) ∙ e
 
 pub figure_is : (ws : List ℕ) (i at x y z : ℕ) {a b c d : ℤ} → at ≡ shape_place i → x ≡ get_or ws at 0 → y ≡ get_or ws (at + 1) 0 → z ≡ get_or ws (at + 2) 0
     → mag a < 2 ^ 31 → a ≡ low_number y → mag b < 2 ^ 31 → b ≡ high_number y → mag c < 2 ^ 31 → c ≡ low_number z → mag d < 2 ^ 31 → d ≡ high_number z

@@ -18,7 +18,7 @@ held z = to_z w32 (of_z w32 z)
 
 -- what a call gave has 32 bits
 pub back : {r : ℤ} → mag r < 2 ^ 31 → held r ≡ r
-back h = to_z-of_z (record { sfits = h })
+back h = to_z-of_z {w = w32} (record { sfits = h })
 
 pub back_to : {r z : ℤ} → mag r < 2 ^ 31 → r ≡ z → held r ≡ z
 back_to h e = back h ∙ e

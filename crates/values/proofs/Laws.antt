@@ -19,7 +19,7 @@ use Rattle.machine.specs.Words.{kind_in, number_in, handle_in, truth_in, packed,
 
 -- an integer that a call gave, read back from its bits
 pub same_back : {r : ℤ} {n k : ℕ} → mag r < 2 ^ 31 → r ≡ to_z w32 n → n ≡ k → to_z w32 (of_z w32 r) ≡ to_z w32 k
-same_back h e f = to_z-of_z (record { sfits = h }) ∙ e ∙ ap (to_z w32) f
+same_back h e f = to_z-of_z {w = w32} (record { sfits = h }) ∙ e ∙ ap (to_z w32) f
 
 -- ---- packing, by kind
 pub integer_is : {z : ℤ} {r : ℕ} → SFits w32 z → r ≡ bits (to_z w32 (of_z w32 z)) → 1 + 8 * r ≡ packed (Integer z)

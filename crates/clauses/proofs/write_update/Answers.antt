@@ -7,7 +7,7 @@ use Rattle.clauses.proofs.write_update.Goals as goal
 pub returns : goal.returns
 returns c =
     update_written _ _ _ _ _ _ _ _ _
-    (omega (arith, c.before.before.before.before.before.before.before.before.before.before.before.before.before.before.before.before.before.before.well-formed.1.1.1.1.1.0))
+    (omega arith)
     c.word_at.ensures
     c.before-b.ensures.0
     c.word_at-2.ensures

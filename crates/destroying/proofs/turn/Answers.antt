@@ -16,7 +16,7 @@ pub returns-then-not-count : goal.returns-then-not-count
 returns-then-not-count c = search steps_short
 
 pub returns-then-not-is_group : goal.returns-then-not-is_group
-returns-then-not-is_group c = figure_destroyed _ _ _ _ _ c.requires c.before.before.before.before.before.before.before.before.before.before.before.before.before.before.before.before.before.if1.false _
+returns-then-not-is_group c = figure_destroyed _ _ _ _ _ c.requires c.if-n-eq0.false _
     c.component_at-c.ensures _
     c.is_destroyed.ensures
     c.if-is_destroyed.false _ _
@@ -25,11 +25,11 @@ returns-then-not-is_group c = figure_destroyed _ _ _ _ _ c.requires c.before.bef
     c.destroy.auto.words _ c.is_group.ensures c.if-not-is_group.true-raw
 
 pub descend-r-requires : goal.descend-r-requires
-descend-r-requires c = descends _ _ _ _ _ _ c.requires c.before.before.before.before.before.before.before.before.before.before.before.before.before.before.before.before.before.before.if1.false
+descend-r-requires c = descends _ _ _ _ _ _ c.requires c.if-n-eq0.false
     (c.destroy.auto.words ∙ c.count.auto.words)
 
 pub returns : goal.returns
-returns c = group_destroyed _ _ _ _ _ c.requires c.before.before.before.before.before.before.before.before.before.before.before.before.before.before.before.before.before.before.before.before.before.if1.false _ c.component_at-c.ensures _ c.is_destroyed.ensures c.if-is_destroyed.false _ _
+returns c = group_destroyed _ _ _ _ _ c.requires c.if-n-eq0.false _ c.component_at-c.ensures _ c.is_destroyed.ensures c.if-is_destroyed.false _ _
     c.count.ensures
     c.if-not-count.false-raw _
     c.destroy.ensures

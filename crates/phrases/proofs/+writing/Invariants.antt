@@ -27,7 +27,7 @@ abbrev pub decreases-write_primary : goal.decreases-write_primary
 decreases-write_primary l = primary_work l.code.now l.fuel l.x
 
 abbrev pub invariant-write_arguments-loop-y : goal.invariant-write_arguments-loop-y
-invariant-write_arguments-loop-y l = Listing l.program l.tokens l.code l.fuel l.initial.y l.x l.initial.next l.initial.out l.next l.y y
+invariant-write_arguments-loop-y l = Listing l.program l.tokens l.code l.fuel l.initial.y l.x l.initial.next l.initial.out l.out l.next l.y
 
 abbrev pub decreases-write_arguments-loop-y : goal.decreases-write_arguments-loop-y
-decreases-write_arguments-loop-y l = l.x - y
+decreases-write_arguments-loop-y l = l.x - l.y

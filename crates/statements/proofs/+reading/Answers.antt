@@ -9,37 +9,6 @@ use Rattle.statements.proofs.Iterating.{iteration_wrong, iteration_opens, iterat
 use Rattle.statements.proofs.Going.{going_starts, going_fails, turned, going_on, going_ends}
 use Rattle.statements.proofs.+reading.Goals as goal
 
-read-statement-read-declaration-requires :
-    (t : ℕ) → read-statement-lts.Need-read-declaration-requires (
-      kind-at-reads.Asked,
-      kind-at-reads.Learnt,
-      read-declaration-reads.Asked,
-      read-declaration-reads.Learnt,
-      read-guarded-below t,
-      read-guarded.Post,
-      read-return-reads.Asked,
-      read-return-reads.Learnt,
-      read-foreach-below t,
-      read-foreach.Post,
-      read-block-below t,
-      read-block.Post,
-      read-simple-reads.Asked,
-      read-simple-reads.Learnt,
-    ) (read-statement-at t) read-statement.Post
-read-statement-read-declaration-requires t c κs =
-    let o = c.before.before.before.before.before.requires.1 in
-    let w = space_inside _ _ _ _ _ o (sym c.before.before.kind_at_lem.ensures) (λ z. omega (arith, c.before.match.keys1)) in
-    (o, w)
-
-read-statements-read-statement-requires :
-    (t : ℕ) → read-statements-lts.Need-read-statement-requires (
-      read-statement-below t,
-      read-statement.Post,
-      kind-at-reads.Asked,
-      kind-at-reads.Learnt,
-    ) (read-statements-at t) read-statements.Post read-statements-Inv-loop read-statements-μ-loop
-read-statements-read-statement-requires t c κs = (omega (arith, c.before.loop.invariant.ahead, c.before.before.before.before.requires.0), c.before.loop.invariant.space)
-
 pub read_block-returns-then-left-eq0 : goal.read_block-returns-then-left-eq0
 read_block-returns-then-left-eq0 t c = block_none _ _ _ _ _ c.requires.1.1 c.if-left-eq0.true
 
@@ -198,6 +167,12 @@ read_guarded-returns-in-At t c =
     c.read_test-e.auto.words _ _ _ _ _
     c.read_statement-s.ensures c.head.ensures
 
+pub read_statement-read_declaration-requires : goal.read_statement-read_declaration-requires
+read_statement-read_declaration-requires t c =
+    let o = c.requires.1 in
+    let w = space_inside _ _ _ _ _ o (sym c.kind_at-kind.ensures) (λ z. omega (arith, c.in-5.is)) in
+    (o, w)
+
 pub read_statement-read_guarded-requires : goal.read_statement-read_guarded-requires
 read_statement-read_guarded-requires t c =
     let o = c.requires.1 in
@@ -265,6 +240,9 @@ read_statement-returns-in_default t c =
 
 pub read_statements-loop-k-init : goal.read_statements-loop-k-init
 read_statements-loop-k-init t c = going_starts _ _ _ _ _ c.requires.1
+
+pub read_statements-read_statement-s-requires : goal.read_statements-read_statement-s-requires
+read_statements-read_statement-s-requires t c = (omega (arith, c.loop-k.invariant.ahead, c.requires.0), c.loop-k.invariant.space)
 
 pub read_statements-shape_of-words-in-Wrong : goal.read_statements-shape_of-words-in-Wrong
 read_statements-shape_of-words-in-Wrong t c = omega (arith, c.loop-k.invariant.kept, c.read_statement-s.auto.words)

@@ -7,7 +7,7 @@ use Rattle.formatter.proofs.procedure.write_head.Goals as goal
 pub returns : goal.returns
 returns c =
     head_written _ _ _ _ _ _ _ _
-    (omega (arith, c.before.before.before.before.before.before.before.before.before.before.before.before.before.before.before.before.before.before.before.before.before.before.before.before.before.before.before.before.before.before.well-formed.1.1.1.1.1.0))
+    (omega arith)
     c.start_of.ensures.0
     c.parameters_of.ensures.0
     c.slots_at-slots.ensures

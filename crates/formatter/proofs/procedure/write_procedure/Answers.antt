@@ -7,7 +7,7 @@ use Rattle.formatter.proofs.procedure.write_procedure.Goals as goal
 pub returns : goal.returns
 returns c =
     procedure_written _ _ _ _ _ _ _ _ _
-    (omega (arith, c.before.before.before.before.before.before.before.before.before.before.before.before.before.before.before.before.before.before.before.before.before.before.well-formed.1.1.1.1.0))
+    (omega arith)
     c.table_place.ensures
     c.word_at-d.ensures
     c.start_of.ensures.0

@@ -2,303 +2,11 @@
 -- Assumes nothing.
 use native.Mathlib.Omega.{arith}
 use mathlib.Core.Path.{refl}
-use borrow.Author.Rules.{rules}
 use Rattle.spellings.proofs.Chains.{then_two}
 use Rattle.formatter.proofs.Statements.{too_deep, some_fuel, is_declaration, is_assignment, is_update, is_when, is_while, is_foreach}
 use Rattle.formatter.proofs.Statements.{is_return, is_block, is_act, guarded_written, foreach_written, block_written}
 use Rattle.formatter.proofs.Statements.{all_first, room_before, all_short, all_done, all_again}
 use Rattle.formatter.proofs.statement.+writing.Goals as goal
-
-write-guarded-slice-aggregate-write-between :
-    (t : ℕ) → write-guarded-lts.Need-slice-aggregate-write-between (
-      write-between-reads.Asked,
-      write-between-reads.Learnt,
-      write-statement-below t,
-      write-statement.Post,
-    ) (write-guarded-at t) write-guarded.Post
-write-guarded-slice-aggregate-write-between t c = search rules
-
-write-statement-write-declaration-requires :
-    (t : ℕ) → write-statement-lts.Need-write-declaration-requires (
-      word-at-reads.Asked,
-      word-at-reads.Learnt,
-      last-of-reads.Asked,
-      last-of-reads.Learnt,
-      extra-of-reads.Asked,
-      extra-of-reads.Learnt,
-      tag-of-reads.Asked,
-      tag-of-reads.Learnt,
-      write-declaration-reads.Asked,
-      write-declaration-reads.Learnt,
-      write-assignment-reads.Asked,
-      write-assignment-reads.Learnt,
-      write-update-reads.Asked,
-      write-update-reads.Learnt,
-      write-guarded-below t,
-      write-guarded.Post,
-      write-foreach-below t,
-      write-foreach.Post,
-      write-apart-reads.Asked,
-      write-apart-reads.Learnt,
-      size-of-reads.Asked,
-      size-of-reads.Learnt,
-      write-block-below t,
-      write-block.Post,
-      write-between-reads.Asked,
-      write-between-reads.Learnt,
-    ) (write-statement-at t) write-statement.Post
-write-statement-write-declaration-requires t c κs = search rules
-
-write-statement-write-assignment-requires :
-    (t : ℕ) → write-statement-lts.Need-write-assignment-requires (
-      word-at-reads.Asked,
-      word-at-reads.Learnt,
-      last-of-reads.Asked,
-      last-of-reads.Learnt,
-      extra-of-reads.Asked,
-      extra-of-reads.Learnt,
-      tag-of-reads.Asked,
-      tag-of-reads.Learnt,
-      write-declaration-reads.Asked,
-      write-declaration-reads.Learnt,
-      write-assignment-reads.Asked,
-      write-assignment-reads.Learnt,
-      write-update-reads.Asked,
-      write-update-reads.Learnt,
-      write-guarded-below t,
-      write-guarded.Post,
-      write-foreach-below t,
-      write-foreach.Post,
-      write-apart-reads.Asked,
-      write-apart-reads.Learnt,
-      size-of-reads.Asked,
-      size-of-reads.Learnt,
-      write-block-below t,
-      write-block.Post,
-      write-between-reads.Asked,
-      write-between-reads.Learnt,
-    ) (write-statement-at t) write-statement.Post
-write-statement-write-assignment-requires t c κs = search rules
-
-write-statement-slice-aggregate-write-guarded :
-    (t : ℕ) → write-statement-lts.Need-slice-aggregate-write-guarded (
-      word-at-reads.Asked,
-      word-at-reads.Learnt,
-      last-of-reads.Asked,
-      last-of-reads.Learnt,
-      extra-of-reads.Asked,
-      extra-of-reads.Learnt,
-      tag-of-reads.Asked,
-      tag-of-reads.Learnt,
-      write-declaration-reads.Asked,
-      write-declaration-reads.Learnt,
-      write-assignment-reads.Asked,
-      write-assignment-reads.Learnt,
-      write-update-reads.Asked,
-      write-update-reads.Learnt,
-      write-guarded-below t,
-      write-guarded.Post,
-      write-foreach-below t,
-      write-foreach.Post,
-      write-apart-reads.Asked,
-      write-apart-reads.Learnt,
-      size-of-reads.Asked,
-      size-of-reads.Learnt,
-      write-block-below t,
-      write-block.Post,
-      write-between-reads.Asked,
-      write-between-reads.Learnt,
-    ) (write-statement-at t) write-statement.Post
-write-statement-slice-aggregate-write-guarded t c = search rules
-
-write-statement-slice-aggregate-write-guarded-2 :
-    (t : ℕ) → write-statement-lts.Need-slice-aggregate-write-guarded-2 (
-      word-at-reads.Asked,
-      word-at-reads.Learnt,
-      last-of-reads.Asked,
-      last-of-reads.Learnt,
-      extra-of-reads.Asked,
-      extra-of-reads.Learnt,
-      tag-of-reads.Asked,
-      tag-of-reads.Learnt,
-      write-declaration-reads.Asked,
-      write-declaration-reads.Learnt,
-      write-assignment-reads.Asked,
-      write-assignment-reads.Learnt,
-      write-update-reads.Asked,
-      write-update-reads.Learnt,
-      write-guarded-below t,
-      write-guarded.Post,
-      write-foreach-below t,
-      write-foreach.Post,
-      write-apart-reads.Asked,
-      write-apart-reads.Learnt,
-      size-of-reads.Asked,
-      size-of-reads.Learnt,
-      write-block-below t,
-      write-block.Post,
-      write-between-reads.Asked,
-      write-between-reads.Learnt,
-    ) (write-statement-at t) write-statement.Post
-write-statement-slice-aggregate-write-guarded-2 t c = search rules
-
-write-statement-write-guarded-requires-2 :
-    (t : ℕ) → write-statement-lts.Need-write-guarded-requires-2 (
-      word-at-reads.Asked,
-      word-at-reads.Learnt,
-      last-of-reads.Asked,
-      last-of-reads.Learnt,
-      extra-of-reads.Asked,
-      extra-of-reads.Learnt,
-      tag-of-reads.Asked,
-      tag-of-reads.Learnt,
-      write-declaration-reads.Asked,
-      write-declaration-reads.Learnt,
-      write-assignment-reads.Asked,
-      write-assignment-reads.Learnt,
-      write-update-reads.Asked,
-      write-update-reads.Learnt,
-      write-guarded-below t,
-      write-guarded.Post,
-      write-foreach-below t,
-      write-foreach.Post,
-      write-apart-reads.Asked,
-      write-apart-reads.Learnt,
-      size-of-reads.Asked,
-      size-of-reads.Learnt,
-      write-block-below t,
-      write-block.Post,
-      write-between-reads.Asked,
-      write-between-reads.Learnt,
-    ) (write-statement-at t) write-statement.Post
-write-statement-write-guarded-requires-2 t c κs = (
-  omega (arith, c.before.before.before.before.before.before.before.if1.false),
-  record { room = omega (arith, c.before.before.before.before.before.before.before.before.before.before.before.before.requires.1.room, c.before.before.before.before.extra-of.ensures.1, c.before.before.before.before.before.before.before.if1.false) },
-)
-
-write-statement-slice-aggregate-write-apart :
-    (t : ℕ) → write-statement-lts.Need-slice-aggregate-write-apart (
-      word-at-reads.Asked,
-      word-at-reads.Learnt,
-      last-of-reads.Asked,
-      last-of-reads.Learnt,
-      extra-of-reads.Asked,
-      extra-of-reads.Learnt,
-      tag-of-reads.Asked,
-      tag-of-reads.Learnt,
-      write-declaration-reads.Asked,
-      write-declaration-reads.Learnt,
-      write-assignment-reads.Asked,
-      write-assignment-reads.Learnt,
-      write-update-reads.Asked,
-      write-update-reads.Learnt,
-      write-guarded-below t,
-      write-guarded.Post,
-      write-foreach-below t,
-      write-foreach.Post,
-      write-apart-reads.Asked,
-      write-apart-reads.Learnt,
-      size-of-reads.Asked,
-      size-of-reads.Learnt,
-      write-block-below t,
-      write-block.Post,
-      write-between-reads.Asked,
-      write-between-reads.Learnt,
-    ) (write-statement-at t) write-statement.Post
-write-statement-slice-aggregate-write-apart t c = search rules
-
-write-statement-slice-aggregate-write-apart-2 :
-    (t : ℕ) → write-statement-lts.Need-slice-aggregate-write-apart-2 (
-      word-at-reads.Asked,
-      word-at-reads.Learnt,
-      last-of-reads.Asked,
-      last-of-reads.Learnt,
-      extra-of-reads.Asked,
-      extra-of-reads.Learnt,
-      tag-of-reads.Asked,
-      tag-of-reads.Learnt,
-      write-declaration-reads.Asked,
-      write-declaration-reads.Learnt,
-      write-assignment-reads.Asked,
-      write-assignment-reads.Learnt,
-      write-update-reads.Asked,
-      write-update-reads.Learnt,
-      write-guarded-below t,
-      write-guarded.Post,
-      write-foreach-below t,
-      write-foreach.Post,
-      write-apart-reads.Asked,
-      write-apart-reads.Learnt,
-      size-of-reads.Asked,
-      size-of-reads.Learnt,
-      write-block-below t,
-      write-block.Post,
-      write-between-reads.Asked,
-      write-between-reads.Learnt,
-    ) (write-statement-at t) write-statement.Post
-write-statement-slice-aggregate-write-apart-2 t c = search rules
-
-write-statement-slice-aggregate-write-between :
-    (t : ℕ) → write-statement-lts.Need-slice-aggregate-write-between (
-      word-at-reads.Asked,
-      word-at-reads.Learnt,
-      last-of-reads.Asked,
-      last-of-reads.Learnt,
-      extra-of-reads.Asked,
-      extra-of-reads.Learnt,
-      tag-of-reads.Asked,
-      tag-of-reads.Learnt,
-      write-declaration-reads.Asked,
-      write-declaration-reads.Learnt,
-      write-assignment-reads.Asked,
-      write-assignment-reads.Learnt,
-      write-update-reads.Asked,
-      write-update-reads.Learnt,
-      write-guarded-below t,
-      write-guarded.Post,
-      write-foreach-below t,
-      write-foreach.Post,
-      write-apart-reads.Asked,
-      write-apart-reads.Learnt,
-      size-of-reads.Asked,
-      size-of-reads.Learnt,
-      write-block-below t,
-      write-block.Post,
-      write-between-reads.Asked,
-      write-between-reads.Learnt,
-    ) (write-statement-at t) write-statement.Post
-write-statement-slice-aggregate-write-between t c = search rules
-
-write-statement-slice-aggregate-write-between-2 :
-    (t : ℕ) → write-statement-lts.Need-slice-aggregate-write-between-2 (
-      word-at-reads.Asked,
-      word-at-reads.Learnt,
-      last-of-reads.Asked,
-      last-of-reads.Learnt,
-      extra-of-reads.Asked,
-      extra-of-reads.Learnt,
-      tag-of-reads.Asked,
-      tag-of-reads.Learnt,
-      write-declaration-reads.Asked,
-      write-declaration-reads.Learnt,
-      write-assignment-reads.Asked,
-      write-assignment-reads.Learnt,
-      write-update-reads.Asked,
-      write-update-reads.Learnt,
-      write-guarded-below t,
-      write-guarded.Post,
-      write-foreach-below t,
-      write-foreach.Post,
-      write-apart-reads.Asked,
-      write-apart-reads.Learnt,
-      size-of-reads.Asked,
-      size-of-reads.Learnt,
-      write-block-below t,
-      write-block.Post,
-      write-between-reads.Asked,
-      write-between-reads.Learnt,
-    ) (write-statement-at t) write-statement.Post
-write-statement-slice-aggregate-write-between-2 t c = search rules
 
 pub write_block-overflow_add-x : goal.write_block-overflow_add-x
 write_block-overflow_add-x t c = omega (arith, c.requires.1.room)
@@ -315,7 +23,7 @@ write_block-write_statements-end-requires t c = (omega arith, record { room = om
 pub write_block-returns : goal.write_block-returns
 write_block-returns t c =
     block_written _ _ _ _ _ _
-    (omega (arith, c.before.before.before.before.before.before.before.before.before.before.before.before.before.before.before.before.before.before.well-formed.1.1.1.1.1.1.0))
+    (omega arith)
     c.write_bytes_at-inside.ensures
     c.write_statements-end.ensures
     c.write_bytes_at.ensures
@@ -323,7 +31,7 @@ write_block-returns t c =
 pub write_foreach-returns : goal.write_foreach-returns
 write_foreach-returns t c =
     foreach_written _ _ _ _ _ _ _ _
-    (omega (arith, c.before.before.before.before.before.before.before.before.before.before.before.before.before.well-formed.1.1.1.1.1.1.0))
+    (omega arith)
     refl
     c.word_at-slot.ensures
     c.write_iterator-next.ensures
@@ -338,7 +46,7 @@ write_guarded-write_statement-requires t c = (omega arith, c.requires.1)
 pub write_guarded-returns : goal.write_guarded-returns
 write_guarded-returns t c =
     guarded_written _ _ _ _ _ _
-    (omega (arith, c.before.before.before.before.before.before.before.before.before.before.before.before.before.before.well-formed.1.1.1.1.1.1.0))
+    (omega arith)
     c.write_between-next.ensures
     c.write_statement.ensures
 
@@ -348,7 +56,7 @@ write_line-write_statement-end-requires t c = (omega arith, c.requires.1)
 pub write_line-returns : goal.write_line-returns
 write_line-returns t c =
     then_two
-    (omega (arith, c.before.before.before.before.before.before.before.before.before.before.before.before.before.well-formed.1.1.1.1.1.0))
+    (omega arith)
     c.write_statement-end.ensures
     c.write_bytes_at.ensures
 
@@ -379,6 +87,12 @@ write_statement-overflow_add-x-in-36 t c =
       c.requires.1.room,
       c.extra_of-extra.ensures.1,
     )
+
+pub write_statement-write_guarded-requires-in-36 : goal.write_statement-write_guarded-requires-in-36
+write_statement-write_guarded-requires-in-36 t c = (
+  omega (arith, c.if-fuel-eq0.false),
+  record { room = omega (arith, c.requires.1.room, c.extra_of-extra.ensures.1, c.if-fuel-eq0.false) },
+)
 
 pub write_statement-write_block-requires : goal.write_statement-write_block-requires
 write_statement-write_block-requires t c = (

@@ -16,7 +16,7 @@ returns-then-not-is_group c = search look_found
 
 pub enter-r-requires : goal.enter-r-requires
 enter-r-requires c = descends _ _ _ _ _ _ c.requires
-    c.before.before.before.before.before.before.before.before.before.before.before.before.before.if1.false c.mark.auto.words
+    c.if-n-eq0.false c.mark.auto.words
 
 pub returns : goal.returns
 returns c = look_in_group _ _ _ _ _ c.component_at-c.ensures _
@@ -25,5 +25,5 @@ returns c = look_in_group _ _ _ _ _ c.component_at-c.ensures _
     c.is_group.ensures _ c.mark.ensures
     c.mark.auto.words _
     c.requires
-    c.before.before.before.before.before.before.before.before.before.before.before.before.before.before.before.before.if1.false
+    c.if-n-eq0.false
     c.if-not-is_group.false-raw _ _ c.enter-r.ensures

@@ -21,7 +21,7 @@ pub overflow_add-head-2 : goal.overflow_add-head-2
 overflow_add-head-2 c = omega (arith, head_less _ _ _ _ _ _ _ _ c.requires c.if-grants-eq0.false c.entry_place-base.ensures c.bucket-b.ensures)
 
 pub offset_bounds-words-base : goal.offset_bounds-words-base
-offset_bounds-words-base c = omega (arith, head_less _ _ _ _ _ _ _ _ c.requires c.if-grants-eq0.false c.entry_place-base.ensures c.bucket-b.ensures, c.before.before.before.before.before.before.before.well-formed)
+offset_bounds-words-base c = omega (arith, head_less _ _ _ _ _ _ _ _ c.requires c.if-grants-eq0.false c.entry_place-base.ensures c.bucket-b.ensures)
 
 pub bounds-words-base : goal.bounds-words-base
 bounds-words-base c = search head_less
@@ -48,7 +48,7 @@ pub returns-then-entry_matches : goal.returns-then-entry_matches
 returns-then-entry_matches c = search walk_found
 
 pub offset_bounds-words-at : goal.offset_bounds-words-at
-offset_bounds-words-at c = omega (arith, entry_room _ _ _ _ _ _ _ _ c.loop-k.invariant c.loop-k-test.true, c.before.before.before.before.before.before.before.before.before.before.before.before.before.before.well-formed)
+offset_bounds-words-at c = omega (arith, entry_room _ _ _ _ _ _ _ _ c.loop-k.invariant c.loop-k-test.true)
 
 pub bounds-words-at : goal.bounds-words-at
 bounds-words-at c = omega (arith, entry_room _ _ _ _ _ _ _ _ c.loop-k.invariant c.loop-k-test.true)

@@ -12,10 +12,10 @@ pub entry_place-requires : goal.entry_place-requires
 entry_place-requires c = (c.requires.shapes, found_small _ _ _ _ _ _ _ c.requires c.find_entry-k.ensures)
 
 pub overflow_add-w : goal.overflow_add-w
-overflow_add-w c = omega (arith, found_room _ _ _ _ _ _ _ c.requires c.find_entry-k.ensures _ c.if-k-eq0.false c.entry_place.ensures, c.before.before.before.before.before.before.before.before.well-formed)
+overflow_add-w c = omega (arith, found_room _ _ _ _ _ _ _ c.requires c.find_entry-k.ensures _ c.if-k-eq0.false c.entry_place.ensures)
 
 pub offset_bounds-words-entry_place : goal.offset_bounds-words-entry_place
-offset_bounds-words-entry_place c = omega (arith, found_room _ _ _ _ _ _ _ c.requires c.find_entry-k.ensures _ c.if-k-eq0.false c.entry_place.ensures, c.before.before.before.before.before.before.before.before.well-formed)
+offset_bounds-words-entry_place c = omega (arith, found_room _ _ _ _ _ _ _ c.requires c.find_entry-k.ensures _ c.if-k-eq0.false c.entry_place.ensures)
 
 pub bounds-words-entry_place : goal.bounds-words-entry_place
 bounds-words-entry_place c = omega (arith, found_room _ _ _ _ _ _ _ c.requires c.find_entry-k.ensures _ c.if-k-eq0.false c.entry_place.ensures)
