@@ -6,13 +6,13 @@ mod size;
 
 use crate::size::{INPUT, OUT};
 
-fn main() {
+fn main(rt: HostRuntime) {
     let mut bytes = [0u8; INPUT];
-    let n = io::read_full(0, &mut bytes);
+    let n = console::read_full(&rt, &mut bytes);
     let mut out = [0u8; OUT];
     let size = draw::draw_read(&bytes, n, &mut out);
-    console::print(&out[..size]);
+    console::print(&rt, &out[..size]);
     if n == INPUT {
-        console::skip_rest();
+        console::skip_rest(&rt);
     }
 }

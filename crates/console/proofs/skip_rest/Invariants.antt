@@ -1,9 +1,6 @@
--- `console::skip_rest` is safe and ends: the reads that are left are counted down.
+-- `console::skip_rest` ends: the reads that are left are counted down.
 -- Assumes nothing.
 use Rattle.console.proofs.skip_rest.Given as goal
 
-abbrev pub invariant-loop-turns : goal.invariant-loop-turns
-invariant-loop-turns l = Unit {0}
-
 abbrev pub decreases-loop-turns : goal.decreases-loop-turns
-decreases-loop-turns l = l.turns
+decreases-loop-turns g l = l.turns
