@@ -5,7 +5,6 @@ use Rattle.numerals.proofs.Spelled.{number_written}
 use Rattle.numerals.proofs.number.write_number_at.Goals as goal
 
 pub returns : goal.returns
-returns c = number_written _ _ c.ranges.n.fits
-    c.decimal-count.ensures.len.0
-    c.decimal-count.ensures.len.1 (omega arith)
+returns c = number_written _ _ c.ranges.n.fits c.decimal-count.ensures.len
+    c.decimal-count.ensures.digits (omega arith)
     c.write_bytes_at-next.ensures c.write_bytes_at.ensures
