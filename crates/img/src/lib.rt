@@ -1,4 +1,4 @@
-// The operations, for C and Rust.
+// The operations, each with its answer told. The crate img_c has them for C.
 #![tactic(auto)]
 
 ghost use Rattle.std.specs.Prelude.{◌≡◌, [], ◌∷◌};
@@ -11,8 +11,7 @@ ghost use Rattle.img.specs.Operations.{Checks, Formats, Performs};
 
 // Reads the program and says whether it is well formed: checking::check, with its answer in four words at the front of `answer`, as far as that
 // reaches. The words are the number (0: well formed), its place, the steps and the length. The number is returned as well.
-#[unsafe(no_mangle)]
-pub extern "C" fn img_check(
+pub fn img_check(
     program: &[u8],
     steps: u64,
     shapes: u64,
@@ -32,8 +31,7 @@ pub extern "C" fn img_check(
 }
 
 // Reads the program and writes its text into the front of `out`: formatting::format, with its answer as above.
-#[unsafe(no_mangle)]
-pub extern "C" fn img_text(
+pub fn img_text(
     program: &[u8],
     steps: u64,
     shapes: u64,
@@ -56,8 +54,7 @@ pub extern "C" fn img_text(
 }
 
 // Runs the program and draws its picture into the front of `out`: drawing::draw, with its answer as above.
-#[unsafe(no_mangle)]
-pub extern "C" fn img_draw(
+pub fn img_draw(
     program: &[u8],
     width: i32,
     height: i32,
