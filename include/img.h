@@ -1,7 +1,7 @@
 /* IMG drawings: check or draw a program of the IMG language, or write its one
  * text.
  *
- * The functions are in libimg.a, which `rt staticlib img` builds (x86-64).
+ * The functions are in libimg.a, which `tools/build` builds (x86-64).
  * They allocate nothing, keep nothing between calls, and may be called from
  * several threads at once, each with slices of its own.
  *

@@ -1,4 +1,4 @@
-//! Links the proved library. It is looked for in the folder that IMG_LIB_DIR names, else in `target/staticlib`, where `rt staticlib img` puts it, else where
+//! Links the proved library. It is looked for in the folder that IMG_LIB_DIR names, else in `target/staticlib`, where `tools/build` puts it, else where
 //! pkg-config says that it is installed.
 
 use std::env;
@@ -30,7 +30,7 @@ fn main() {
     println!("cargo:rerun-if-changed={}", archive.display());
     if !archive.exists() {
         panic!(
-            "no {}: run `rt staticlib img` at the top of the repository, or let IMG_LIB_DIR name the folder of libimg.a",
+            "no {}: run `tools/build` at the top of the repository, or let IMG_LIB_DIR name the folder of libimg.a",
             archive.display()
         );
     }

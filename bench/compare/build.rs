@@ -1,4 +1,4 @@
-//! Links the proved library, which `rt staticlib img` builds, if it can draw. The variable IMG_LIBRARY names another folder to look in.
+//! Links the proved library, which `tools/build` builds, if it can draw. The variable IMG_LIBRARY names another folder to look in.
 
 use std::path::PathBuf;
 

@@ -1,4 +1,4 @@
-//! Links the proved library, which `rt staticlib img` builds.
+//! Links the proved library, which `tools/build` builds.
 
 use std::path::Path;
 
@@ -8,7 +8,7 @@ fn main() {
     println!("cargo:rerun-if-changed={}", archive.display());
     if !archive.exists() {
         panic!(
-            "no {}: run `rt staticlib img` at the top of the repository first",
+            "no {}: run `tools/build` at the top of the repository first",
             archive.display()
         );
     }

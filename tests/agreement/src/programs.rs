@@ -31,7 +31,7 @@ fn started(name: &str, stack: Option<u32>) -> Child {
         .stdout(Stdio::piped())
         .stderr(Stdio::piped())
         .spawn()
-        .unwrap_or_else(|e| panic!("{}: {e}; `rt check {name}` builds it", program.display()))
+        .unwrap_or_else(|e| panic!("{}: {e}; `tools/build` builds it", program.display()))
 }
 
 /// What a program prints on an input that comes in pieces. It must end well, and with nothing on standard error.
