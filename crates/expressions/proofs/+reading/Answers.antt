@@ -10,13 +10,13 @@ use Rattle.expressions.proofs.Going.{arguments_none, going_starts, going_fails, 
 use Rattle.expressions.proofs.+reading.Goals as goal
 
 pub read_arguments-overflow_add-result : goal.read_arguments-overflow_add-result
-read_arguments-overflow_add-result t c = omega (arith, room_inside _ _ _ _ _ c.requires.1 (sym c.kind_at.ensures) (λ z. omega (arith, c.if-kind_at-eq-CLOSE.true)), c.requires.1.short)
+read_arguments-overflow_add-result t c = omega (arith, room_inside _ _ _ _ _ c.requires (sym c.kind_at.ensures) (λ z. omega (arith, c.if-kind_at-eq-CLOSE.true)), c.requires.short)
 
 pub read_arguments-returns-then-kind_at-eq-CLOSE : goal.read_arguments-returns-then-kind_at-eq-CLOSE
 read_arguments-returns-then-kind_at-eq-CLOSE t c = arguments_none _ _ _ _ _ _ c.kind_at.ensures c.if-kind_at-eq-CLOSE.true
 
 pub read_arguments-loop-k-init : goal.read_arguments-loop-k-init
-read_arguments-loop-k-init t c = going_starts _ _ _ _ _ _ c.kind_at.ensures c.if-kind_at-eq-CLOSE.false c.ranges.i.fits c.requires.1
+read_arguments-loop-k-init t c = going_starts _ _ _ _ _ _ c.kind_at.ensures c.if-kind_at-eq-CLOSE.false c.ranges.i.fits c.requires
 
 pub read_arguments-overflow_add-m : goal.read_arguments-overflow_add-m
 read_arguments-overflow_add-m t c =
@@ -24,7 +24,7 @@ read_arguments-overflow_add-m t c =
     omega (arith, g.fits, g.room.behind)
 
 pub read_arguments-read_expression-e-requires : goal.read_arguments-read_expression-e-requires
-read_arguments-read_expression-e-requires t c = (omega (arith, c.loop-k.invariant.ahead, c.requires.0), c.loop-k.invariant.room)
+read_arguments-read_expression-e-requires t c = (omega (arith, c.loop-k.invariant.ahead), c.loop-k.invariant.room)
 
 pub read_arguments-shape_of-words-in-Wrong : goal.read_arguments-shape_of-words-in-Wrong
 read_arguments-shape_of-words-in-Wrong t c = omega (arith, c.loop-k.invariant.kept, c.read_expression-e.auto.words)
@@ -106,7 +106,7 @@ read_arguments-loop-k-preserved t c = going_on _ _ _ _ _ _ _ _ c.loop-k.invarian
     c.word_of.ensures c.put.ensures c.kind_at-kind.ensures c.if-kind-ne-COMMA.false
 
 pub read_expression-read_operand-a-requires : goal.read_expression-read_operand-a-requires
-read_expression-read_operand-a-requires t c = (omega (arith, c.requires.0), c.requires.1)
+read_expression-read_operand-a-requires t c = (omega (arith), c.requires)
 
 pub read_expression-returns-then-tag-eq0 : goal.read_expression-returns-then-tag-eq0
 read_expression-returns-then-tag-eq0 t c = expression_one _ _ _ _ _ _ _ _ _ _ _ _ c.read_operand-a.ensures
@@ -114,21 +114,21 @@ read_expression-returns-then-tag-eq0 t c = expression_one _ _ _ _ _ _ _ _ _ _ _ 
 
 pub read_expression-overflow_add-j : goal.read_expression-overflow_add-j
 read_expression-overflow_add-j t c =
-    let o = c.requires.1 in
+    let o = c.requires in
     let x = operand_next _ _ _ _ _ _ _ _ _ _ o c.read_operand-a.auto.words
     c.in-At.is c.read_operand-a.ensures in
     omega (arith, x.within, o.short)
 
 pub read_expression-read_operand-b-requires : goal.read_expression-read_operand-b-requires
 read_expression-read_operand-b-requires t c =
-    let o = c.requires.1 in
+    let o = c.requires in
     let x = operand_next _ _ _ _ _ _ _ _ _ _ o c.read_operand-a.auto.words
     c.in-At.is c.read_operand-a.ensures in
-    (omega (arith, x.ahead, x.within, c.requires.0), x.room)
+    (omega (arith, x.ahead, x.within), x.room)
 
 pub read_expression-join-requires : goal.read_expression-join-requires
 read_expression-join-requires t c = operand_spare _ _ _ _ _ _ _ _ _ _
-    c.requires.1
+    c.requires
     c.read_operand-a.auto.words
     c.in-At.is _ _ _ _ c.operator_tag-tag.ensures
     c.read_operand-b.auto.words c.read_operand-a.ensures
@@ -146,7 +146,7 @@ read_expression-returns-else-tag-eq0 t c = expression_two _ _ _ _ _ _ _ _ _ _ _ 
     c.read_operand-b.ensures c.join.ensures
 
 pub read_operand-read_primary-a-requires : goal.read_operand-read_primary-a-requires
-read_operand-read_primary-a-requires t c = (omega (arith, c.requires.0), c.requires.1)
+read_operand-read_primary-a-requires t c = (omega (arith), c.requires)
 
 pub read_operand-returns-then-kind_at-ne-DOT : goal.read_operand-returns-then-kind_at-ne-DOT
 read_operand-returns-then-kind_at-ne-DOT t c = operand_one _ _ _ _ _ _ _ _ _ _ _ c.read_primary-a.ensures c.in-At.is
@@ -154,20 +154,20 @@ read_operand-returns-then-kind_at-ne-DOT t c = operand_one _ _ _ _ _ _ _ _ _ _ _
 
 pub read_operand-overflow_add-j : goal.read_operand-overflow_add-j
 read_operand-overflow_add-j t c =
-    let o = c.requires.1 in
+    let o = c.requires in
     let x = primary_next _ _ _ _ _ _ _ _ _ _ o c.read_primary-a.auto.words c.in-At.is
     c.read_primary-a.ensures in
     omega (arith, x.within, o.short)
 
 pub read_operand-read_primary-b-requires : goal.read_operand-read_primary-b-requires
 read_operand-read_primary-b-requires t c =
-    let o = c.requires.1 in
+    let o = c.requires in
     let x = primary_next _ _ _ _ _ _ _ _ _ _ o c.read_primary-a.auto.words c.in-At.is
     c.read_primary-a.ensures in
-    (omega (arith, x.ahead, x.within, c.requires.0), x.room)
+    (omega (arith, x.ahead, x.within), x.room)
 
 pub read_operand-join-requires : goal.read_operand-join-requires
-read_operand-join-requires t c = primary_spare _ _ _ _ _ _ _ _ _ _ c.requires.1 c.read_primary-a.auto.words
+read_operand-join-requires t c = primary_spare _ _ _ _ _ _ _ _ _ _ c.requires c.read_primary-a.auto.words
     c.in-At.is _ _ c.read_primary-b.auto.words
     c.read_primary-a.ensures c.read_primary-b.ensures
 
@@ -181,41 +181,41 @@ read_operand-returns-else-kind_at-ne-DOT t c = operand_two _ _ _ _ _ _ _ _ _ _ _
 
 pub read_primary-read_digits-requires : goal.read_primary-read_digits-requires
 read_primary-read_digits-requires t c = record {
-  room = c.requires.1;
+  room = c.requires;
   i_value = sym c.kind_at-kind.ensures ∙ c.in-2.is;
 }
 
 pub read_primary-read_negative-requires : goal.read_primary-read_negative-requires
 read_primary-read_negative-requires t c = record {
-  room = c.requires.1;
+  room = c.requires;
   i_value = sym c.kind_at-kind.ensures ∙ c.in-45.is;
 }
 
 pub read_primary-put_leaf-requires : goal.read_primary-put_leaf-requires
-read_primary-put_leaf-requires t c = spot_at _ _ _ _ _ _ _ c.requires.1 c.kind_at-kind.ensures
+read_primary-put_leaf-requires t c = spot_at _ _ _ _ _ _ _ c.requires c.kind_at-kind.ensures
     (λ z. omega (arith, c.in-3.is)) (omega arith)
     (part_small c.args.tokens.now c.args.i _ c.part_at.ensures)
 
 pub read_primary-put_leaf-requires-in-9 : goal.read_primary-put_leaf-requires-in-9
-read_primary-put_leaf-requires-in-9 t c = spot_at _ _ _ _ _ _ _ c.requires.1 c.kind_at-kind.ensures
+read_primary-put_leaf-requires-in-9 t c = spot_at _ _ _ _ _ _ _ c.requires c.kind_at-kind.ensures
     (λ z. omega (arith, c.in-9.is)) (omega arith) (omega arith)
 
 pub read_primary-put_leaf-requires-in-10 : goal.read_primary-put_leaf-requires-in-10
-read_primary-put_leaf-requires-in-10 t c = spot_at _ _ _ _ _ _ _ c.requires.1 c.kind_at-kind.ensures
+read_primary-put_leaf-requires-in-10 t c = spot_at _ _ _ _ _ _ _ c.requires c.kind_at-kind.ensures
     (λ z. omega (arith, c.in-10.is)) (omega arith) (omega arith)
 
 pub read_primary-put_leaf-requires-in-11 : goal.read_primary-put_leaf-requires-in-11
-read_primary-put_leaf-requires-in-11 t c = spot_at _ _ _ _ _ _ _ c.requires.1 c.kind_at-kind.ensures
+read_primary-put_leaf-requires-in-11 t c = spot_at _ _ _ _ _ _ _ c.requires c.kind_at-kind.ensures
     (λ z. omega (arith, c.in-11.is)) (omega arith) (omega arith)
 
 pub read_primary-overflow_add-i : goal.read_primary-overflow_add-i
 read_primary-overflow_add-i t c =
-    let o = c.requires.1 in
+    let o = c.requires in
     let w = room_inside _ _ _ _ _ o (sym c.kind_at-kind.ensures) (λ z. omega (arith, c.in-1.is)) in
     omega (arith, o.short)
 
 pub read_primary-put_leaf-requires-then-kind_at-ne-OPEN : goal.read_primary-put_leaf-requires-then-kind_at-ne-OPEN
-read_primary-put_leaf-requires-then-kind_at-ne-OPEN t c = spot_at _ _ _ _ _ _ _ c.requires.1
+read_primary-put_leaf-requires-then-kind_at-ne-OPEN t c = spot_at _ _ _ _ _ _ _ c.requires
     c.kind_at-kind.ensures (λ z. omega (arith, c.in-1.is)) (omega arith)
     (home_small c.args.tokens.now c.args.i _
     c.home_at.ensures)
@@ -227,7 +227,7 @@ read_primary-returns-then-kind_at-ne-OPEN t c = reads_name _ _ _ _ _ _ _ _ c.kin
 
 pub read_primary-overflow_add-result : goal.read_primary-overflow_add-result
 read_primary-overflow_add-result t c =
-    let o = c.requires.1 in
+    let o = c.requires in
     let w = room_inside _ _ _ _ _ o (sym c.kind_at-kind.ensures) (λ z. omega (arith, c.in-1.is)) in
     omega (arith, o.short)
 
@@ -237,19 +237,19 @@ read_primary-returns-then-left-eq0 t c = reads_no_call _ _ _ _ _ _ c.kind_at-kin
 
 pub read_primary-overflow_add-i-in-1 : goal.read_primary-overflow_add-i-in-1
 read_primary-overflow_add-i-in-1 t c =
-    let o = c.requires.1 in
+    let o = c.requires in
     let w = room_inside _ _ _ _ _ o (sym c.kind_at-kind.ensures) (λ z. omega (arith, c.in-1.is)) in
     omega (arith, o.short)
 
 pub read_primary-read_arguments-es-requires : goal.read_primary-read_arguments-es-requires
 read_primary-read_arguments-es-requires t c =
-    let o = c.requires.1 in
+    let o = c.requires in
     let w = room_inside _ _ _ _ _ o (sym c.kind_at-kind.ensures) (λ z. omega (arith, c.in-1.is)) in
-    (omega (arith, c.requires.0), record { behind = omega (arith, o.behind); wide = o.wide; short = o.short })
+    (omega (arith), record { behind = omega (arith, o.behind); wide = o.wide; short = o.short })
 
 pub read_primary-finish-requires : goal.read_primary-finish-requires
 read_primary-finish-requires t c = record {
-  spare = call_spare _ _ _ _ _ _ _ c.requires.1 c.read_arguments-es.auto.words c.read_arguments-es.ensures;
+  spare = call_spare _ _ _ _ _ _ _ c.requires c.read_arguments-es.auto.words c.read_arguments-es.ensures;
   x_bound = callee_small c.args.tokens.now c.args.i _ (c.shared_slice_known-1.given c.args.i).fits c.callee_at.ensures;
 }
 
@@ -258,15 +258,15 @@ read_primary-returns-then-left-eq0-2 t c = reads_no_paren _ _ _ _ _ _ c.kind_at-
 
 pub read_primary-overflow_add-i-in-40 : goal.read_primary-overflow_add-i-in-40
 read_primary-overflow_add-i-in-40 t c =
-    let o = c.requires.1 in
+    let o = c.requires in
     let w = room_inside _ _ _ _ _ o (sym c.kind_at-kind.ensures) (λ z. omega (arith, c.in-40.is)) in
     omega (arith, o.short)
 
 pub read_primary-read_expression-e-requires : goal.read_primary-read_expression-e-requires
 read_primary-read_expression-e-requires t c =
-    let o = c.requires.1 in
+    let o = c.requires in
     let w = room_inside _ _ _ _ _ o (sym c.kind_at-kind.ensures) (λ z. omega (arith, c.in-40.is)) in
-    (omega (arith, c.requires.0), record { behind = omega (arith, o.behind); wide = o.wide; short = o.short })
+    (omega (arith), record { behind = omega (arith, o.behind); wide = o.wide; short = o.short })
 
 pub read_primary-close-requires : goal.read_primary-close-requires
 read_primary-close-requires t c = λ z. omega arith
@@ -276,22 +276,22 @@ read_primary-returns-then-left-eq0-3 t c = reads_no_table _ _ _ _ _ _ c.kind_at-
 
 pub read_primary-overflow_add-i-in-91 : goal.read_primary-overflow_add-i-in-91
 read_primary-overflow_add-i-in-91 t c =
-    let o = c.requires.1 in
+    let o = c.requires in
     let w = room_inside _ _ _ _ _ o (sym c.kind_at-kind.ensures) (λ z. omega (arith, c.in-91.is)) in
     omega (arith, o.short)
 
 pub read_primary-read_expression-e-requires-in-91 : goal.read_primary-read_expression-e-requires-in-91
 read_primary-read_expression-e-requires-in-91 t c =
-    let o = c.requires.1 in
+    let o = c.requires in
     let w = room_inside _ _ _ _ _ o (sym c.kind_at-kind.ensures) (λ z. omega (arith, c.in-91.is)) in
-    (omega (arith, c.requires.0), record { behind = omega (arith, o.behind); wide = o.wide; short = o.short })
+    (omega (arith), record { behind = omega (arith, o.behind); wide = o.wide; short = o.short })
 
 pub read_primary-close-requires-in-91 : goal.read_primary-close-requires-in-91
 read_primary-close-requires-in-91 t c = λ z. omega arith
 
 pub read_primary-finish-requires-in-91 : goal.read_primary-finish-requires-in-91
 read_primary-finish-requires-in-91 t c = record {
-  spare = table_spare _ _ _ _ _ _ _ _ c.requires.1 c.read_expression-e-in-91.auto.words c.read_expression-e-in-91.ensures c.close-in-91.ensures;
+  spare = table_spare _ _ _ _ _ _ _ _ c.requires c.read_expression-e-in-91.auto.words c.read_expression-e-in-91.ensures c.close-in-91.ensures;
   x_bound = omega arith;
 }
 

@@ -1,4 +1,4 @@
-use lib.ListN.{length}
+use Rattle.std.specs.Prelude.{◌+◌, ◌-◌, ◌*◌, length}
 use Rattle.expressions.proofs.Going.{Going}
 use Rattle.expressions.proofs.+reading.Given as goal
 
