@@ -10,81 +10,81 @@ use Rattle.statements.proofs.Going.{going_starts, going_fails, turned, going_on,
 use Rattle.statements.proofs.+reading.Goals as goal
 
 pub read_block-returns-then-left-eq0 : goal.read_block-returns-then-left-eq0
-read_block-returns-then-left-eq0 t c = block_none _ _ _ _ _ c.requires.1.1 c.if-left-eq0.true
+read_block-returns-then-left-eq0 t c = block_none _ _ _ _ _ c.requires.i_value c.if-left-eq0.true
 
 pub read_block-overflow_add-i : goal.read_block-overflow_add-i
 read_block-overflow_add-i t c =
-    let o = c.requires.1.0 in
-    let w = space_inside _ _ _ _ _ o c.requires.1.1 (λ z. omega arith) in
+    let o = c.requires.space in
+    let w = space_inside _ _ _ _ _ o c.requires.i_value (λ z. omega arith) in
     omega (arith, o.few)
 
 pub read_block-overflow_add-n : goal.read_block-overflow_add-n
 read_block-overflow_add-n t c =
-    let o = c.requires.1.0 in
-    let w = space_inside _ _ _ _ _ o c.requires.1.1 (λ z. omega arith) in
+    let o = c.requires.space in
+    let w = space_inside _ _ _ _ _ o c.requires.i_value (λ z. omega arith) in
     omega (arith, o.behind, o.few)
 
 pub read_block-read_statements-s-requires : goal.read_block-read_statements-s-requires
 read_block-read_statements-s-requires t c =
-    let o = c.requires.1.0 in
-    let w = space_inside _ _ _ _ _ o c.requires.1.1 (λ z. omega arith) in
-    (omega (arith, c.requires.0), record { behind = omega (arith, o.behind); wide = o.wide; few = o.few })
+    let o = c.requires.space in
+    let w = space_inside _ _ _ _ _ o c.requires.i_value (λ z. omega arith) in
+    (omega (arith), record { behind = omega (arith, o.behind); wide = o.wide; few = o.few })
 
 pub read_block-head-requires : goal.read_block-head-requires
-read_block-head-requires t c = block_parts _ _ _ _ _ _ _ c.requires.1.0 c.read_statements-s.ensures
+read_block-head-requires t c = block_parts _ _ _ _ _ _ _ c.requires.space c.read_statements-s.ensures
 
 pub read_block-returns : goal.read_block-returns
 read_block-returns t c =
-    block_reads _ _ _ _ _ c.requires.1.1 _ _ _ _
-    c.requires.1.0
+    block_reads _ _ _ _ _ c.requires.i_value _ _ _ _
+    c.requires.space
     c.if-left-eq0.false c.read_statements-s.ensures
     c.head.ensures
 
 pub read_foreach-overflow_add-i : goal.read_foreach-overflow_add-i
 read_foreach-overflow_add-i t c =
-    let o = c.requires.1.0 in
-    omega (arith, o.behind, o.few, c.requires.1.1)
+    let o = c.requires.space in
+    omega (arith, o.behind, o.few, c.requires.i_in_bounds)
 
 pub read_foreach-overflow_add-n : goal.read_foreach-overflow_add-n
 read_foreach-overflow_add-n t c =
-    let o = c.requires.1.0 in
-    omega (arith, o.behind, o.few, c.requires.1.1)
+    let o = c.requires.space in
+    omega (arith, o.behind, o.few, c.requires.i_in_bounds)
 
 pub read_foreach-read_each-e-requires : goal.read_foreach-read_each-e-requires
 read_foreach-read_each-e-requires t c =
-    let o = c.requires.1.0 in
+    let o = c.requires.space in
     record { behind = omega (arith, o.behind); wide = o.wide; short = omega (arith, o.few) }
 
 pub read_foreach-overflow_sub-left : goal.read_foreach-overflow_sub-left
 read_foreach-overflow_sub-left t c =
-    let o = c.requires.1.0 in
+    let o = c.requires.space in
     omega
     (arith, iteration_opens _ _ _ _ _ _ o _ c.read_each-e.ensures _ _ _ c.in-At.is c.read_each-e.auto.words)
 
 pub read_foreach-read_statement-b-requires : goal.read_foreach-read_statement-b-requires
 read_foreach-read_statement-b-requires t c =
-    let o = c.requires.1.0 in
+    let o = c.requires.space in
     let p = iterated _ _ _ _ _ _ o _ c.read_each-e.ensures _ _ _ c.in-At.is
     c.read_each-e.auto.words in
-    (omega (arith, p.ahead, p.within, c.requires.0), p.space)
+    (omega (arith, p.ahead, p.within), p.space)
 
 pub read_foreach-overflow_sub-m : goal.read_foreach-overflow_sub-m
 read_foreach-overflow_sub-m t c =
-    let o = c.requires.1.0 in
+    let o = c.requires.space in
     let p = iterated _ _ _ _ _ _ o _ c.read_each-e.ensures _ _ _
     c.in-At.is c.read_each-e.auto.words in
     omega (arith, p.some)
 
 pub read_foreach-overflow_sub-m-in-At : goal.read_foreach-overflow_sub-m-in-At
 read_foreach-overflow_sub-m-in-At t c =
-    let o = c.requires.1.0 in
+    let o = c.requires.space in
     let p = iterated _ _ _ _ _ _ o _ c.read_each-e.ensures _ _ _
     c.in-At.is c.read_each-e.auto.words in
     omega (arith, p.some)
 
 pub read_foreach-head-requires : goal.read_foreach-head-requires
 read_foreach-head-requires t c =
-    let o = c.requires.1.0 in
+    let o = c.requires.space in
     let p = iterated _ _ _ _ _ _ o _ c.read_each-e.ensures _ _ _
     c.in-At.is c.read_each-e.auto.words in
     parts_code _ _ _ _ _ _ _ _ _ _ c.read_statement-b.ensures (statement_paid _ _ _) (omega (arith, p.some)) (omega (arith, p.space.behind)) o.few
@@ -92,13 +92,13 @@ read_foreach-head-requires t c =
 
 pub read_foreach-returns-in-Wrong : goal.read_foreach-returns-in-Wrong
 read_foreach-returns-in-Wrong t c =
-    iteration_wrong _ _ _ _ _ _ c.requires.1.0 _
+    iteration_wrong _ _ _ _ _ _ c.requires.space _
     c.read_each-e.ensures _ _ c.in-Wrong.is
 
 pub read_foreach-returns-in-At : goal.read_foreach-returns-in-At
 read_foreach-returns-in-At t c =
     iteration_reads _ _ _ _ _ _
-    c.requires.1.0 _
+    c.requires.space _
     c.read_each-e.ensures _ _ _
     c.in-At.is
     c.read_each-e.auto.words _ _ _ _
@@ -106,62 +106,62 @@ read_foreach-returns-in-At t c =
 
 pub read_guarded-overflow_add-i : goal.read_guarded-overflow_add-i
 read_guarded-overflow_add-i t c =
-    let o = c.requires.1.0 in
-    omega (arith, o.behind, o.few, c.requires.1.1.0)
+    let o = c.requires.space in
+    omega (arith, o.behind, o.few, c.requires.i_in_bounds.0)
 
 pub read_guarded-overflow_add-n : goal.read_guarded-overflow_add-n
 read_guarded-overflow_add-n t c =
-    let o = c.requires.1.0 in
-    omega (arith, o.behind, o.few, c.requires.1.1.0)
+    let o = c.requires.space in
+    omega (arith, o.behind, o.few, c.requires.i_in_bounds.0)
 
 pub read_guarded-read_test-e-requires : goal.read_guarded-read_test-e-requires
 read_guarded-read_test-e-requires t c =
-    let o = c.requires.1.0 in
+    let o = c.requires.space in
     record { behind = omega (arith, o.behind); wide = o.wide; short = omega (arith, o.few) }
 
 pub read_guarded-overflow_sub-left : goal.read_guarded-overflow_sub-left
 read_guarded-overflow_sub-left t c =
-    let o = c.requires.1.0 in
+    let o = c.requires.space in
     omega
     (arith, tested_opens _ _ _ _ _ _ o _ c.read_test-e.ensures _ _ _ c.in-At.is c.read_test-e.auto.words)
 
 pub read_guarded-read_statement-s-requires : goal.read_guarded-read_statement-s-requires
 read_guarded-read_statement-s-requires t c =
-    let o = c.requires.1.0 in
+    let o = c.requires.space in
     let p = tested _ _ _ _ _ _ o _ c.read_test-e.ensures _ _ _ c.in-At.is
     c.read_test-e.auto.words in
-    (omega (arith, p.ahead, p.within, c.requires.0), p.space)
+    (omega (arith, p.ahead, p.within), p.space)
 
 pub read_guarded-overflow_sub-m : goal.read_guarded-overflow_sub-m
 read_guarded-overflow_sub-m t c =
-    let o = c.requires.1.0 in
+    let o = c.requires.space in
     let p = tested _ _ _ _ _ _ o _ c.read_test-e.ensures _ _ _
     c.in-At.is c.read_test-e.auto.words in
     omega (arith, p.some)
 
 pub read_guarded-overflow_sub-m-in-At : goal.read_guarded-overflow_sub-m-in-At
 read_guarded-overflow_sub-m-in-At t c =
-    let o = c.requires.1.0 in
+    let o = c.requires.space in
     let p = tested _ _ _ _ _ _ o _ c.read_test-e.ensures _ _ _
     c.in-At.is c.read_test-e.auto.words in
     omega (arith, p.some)
 
 pub read_guarded-head-requires : goal.read_guarded-head-requires
 read_guarded-head-requires t c =
-    let o = c.requires.1.0 in
+    let o = c.requires.space in
     let p = tested _ _ _ _ _ _ o _ c.read_test-e.ensures _ _ _
     c.in-At.is c.read_test-e.auto.words in
     parts_code _ _ _ _ _ _ _ _ _ _ c.read_statement-s.ensures (statement_paid _ _ _) (omega (arith, p.some)) (omega (arith, p.space.behind)) o.few
-    c.requires.1.1.1 p.small
+    c.requires.i_in_bounds.1 p.small
 
 pub read_guarded-returns-in-Wrong : goal.read_guarded-returns-in-Wrong
 read_guarded-returns-in-Wrong t c =
-    guarded_wrong _ _ _ _ _ _ c.requires.1.0 _
+    guarded_wrong _ _ _ _ _ _ c.requires.space _
     c.read_test-e.ensures _ _ _ c.in-Wrong.is
 
 pub read_guarded-returns-in-At : goal.read_guarded-returns-in-At
 read_guarded-returns-in-At t c =
-    guarded_reads _ _ _ _ _ _ c.requires.1.0
+    guarded_reads _ _ _ _ _ _ c.requires.space
     _ c.read_test-e.ensures _ _ _
     c.in-At.is
     c.read_test-e.auto.words _ _ _ _ _
@@ -169,40 +169,40 @@ read_guarded-returns-in-At t c =
 
 pub read_statement-read_declaration-requires : goal.read_statement-read_declaration-requires
 read_statement-read_declaration-requires t c =
-    let o = c.requires.1 in
+    let o = c.requires in
     let w = space_inside _ _ _ _ _ o (sym c.kind_at-kind.ensures) (λ z. omega (arith, c.in-5.is)) in
-    (o, w)
+    record { space = o; i_in_bounds = w }
 
 pub read_statement-read_guarded-requires : goal.read_statement-read_guarded-requires
 read_statement-read_guarded-requires t c =
-    let o = c.requires.1 in
+    let o = c.requires in
     let w = space_inside _ _ _ _ _ o (sym c.kind_at-kind.ensures) (λ z. omega (arith, c.in-6.is)) in
-    (omega (arith, c.requires.0), (o, (w, omega arith)))
+    (omega (arith), (o, (w, omega arith)))
 
 pub read_statement-read_guarded-requires-in-7 : goal.read_statement-read_guarded-requires-in-7
 read_statement-read_guarded-requires-in-7 t c =
-    let o = c.requires.1 in
+    let o = c.requires in
     let w = space_inside _ _ _ _ _ o (sym c.kind_at-kind.ensures) (λ z. omega (arith, c.in-7.is)) in
-    (omega (arith, c.requires.0), (o, (w, omega arith)))
+    (omega (arith), (o, (w, omega arith)))
 
 pub read_statement-read_return-requires : goal.read_statement-read_return-requires
 read_statement-read_return-requires t c =
-    let o = c.requires.1 in
+    let o = c.requires in
     let w = space_inside _ _ _ _ _ o (sym c.kind_at-kind.ensures) (λ z. omega (arith, c.in-8.is)) in
-    (o, w)
+    record { space = o; i_in_bounds = w }
 
 pub read_statement-read_foreach-requires : goal.read_statement-read_foreach-requires
 read_statement-read_foreach-requires t c =
-    let o = c.requires.1 in
+    let o = c.requires in
     let w = space_inside _ _ _ _ _ o (sym c.kind_at-kind.ensures) (λ z. omega (arith, c.in-12.is)) in
-    (omega (arith, c.requires.0), (o, w))
+    (omega (arith), (o, w))
 
 pub read_statement-read_block-requires : goal.read_statement-read_block-requires
 read_statement-read_block-requires t c =
-    (omega (arith, c.requires.0), (c.requires.1, sym c.kind_at-kind.ensures ∙ c.in-123.is))
+    (omega (arith), (c.requires, sym c.kind_at-kind.ensures ∙ c.in-123.is))
 
 pub read_statement-read_simple-requires : goal.read_statement-read_simple-requires
-read_statement-read_simple-requires t c = c.requires.1
+read_statement-read_simple-requires t c = c.requires
 
 pub read_statement-returns-in-5 : goal.read_statement-returns-in-5
 read_statement-returns-in-5 t c =
@@ -239,10 +239,10 @@ read_statement-returns-in_default t c =
     x.1 c.read_simple.ensures
 
 pub read_statements-loop-k-init : goal.read_statements-loop-k-init
-read_statements-loop-k-init t c = going_starts _ _ _ _ _ c.requires.1
+read_statements-loop-k-init t c = going_starts _ _ _ _ _ c.requires
 
 pub read_statements-read_statement-s-requires : goal.read_statements-read_statement-s-requires
-read_statements-read_statement-s-requires t c = (omega (arith, c.loop-k.invariant.ahead, c.requires.0), c.loop-k.invariant.space)
+read_statements-read_statement-s-requires t c = (omega (arith, c.loop-k.invariant.ahead), c.loop-k.invariant.space)
 
 pub read_statements-shape_of-words-in-Wrong : goal.read_statements-shape_of-words-in-Wrong
 read_statements-shape_of-words-in-Wrong t c = omega (arith, c.loop-k.invariant.kept, c.read_statement-s.auto.words)

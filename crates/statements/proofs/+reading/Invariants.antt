@@ -1,4 +1,4 @@
-use lib.ListN.{length}
+use Rattle.std.specs.Prelude.{◌+◌, ◌-◌, ◌*◌, length}
 use Rattle.statements.proofs.Going.{Going}
 use Rattle.statements.proofs.+reading.Given as goal
 

@@ -10,7 +10,7 @@ returns-then-kind_at-ne-NAME c = declaration_other _ _ _ _ c.requires.space _ c.
 pub head-requires : goal.head-requires
 head-requires c =
     let o = c.requires in
-    parts_closed _ _ _ _ _ _ _ _ _ c.close-e.ensures (omega arith) (omega (arith, o.0.behind, o.1, o.0.few)) (omega arith) (omega (arith, c.home_at.ensures))
+    parts_closed _ _ _ _ _ _ _ _ _ c.close-e.ensures (omega arith) (omega (arith, o.space.behind, o.i_in_bounds, o.space.few)) (omega arith) (omega (arith, c.home_at.ensures))
 
 pub returns : goal.returns
 returns c = declaration_reads _ _ _ _ c.requires.space _
