@@ -79,7 +79,7 @@ write_expression-write_operand-requires-2 t c = (search inner_falls, tt)
 
 pub write_expression-returns : goal.write_expression-returns
 write_expression-returns t c =
-            two_operands _ _ _ _ _ _ _
+    two_operands _ _ _ _ _ _ _
     c.word_at-w.ensures
     c.tag_of-tag.ensures
     _ _

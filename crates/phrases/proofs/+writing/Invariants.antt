@@ -1,3 +1,4 @@
+use Rattle.std.specs.Prelude.{◌+◌, ◌-◌, ◌*◌}
 use Rattle.phrases.proofs.Expressions.{operand_work, primary_work}
 use Rattle.phrases.proofs.Expressions.{Listing}
 use Rattle.phrases.proofs.+writing.Given as goal
