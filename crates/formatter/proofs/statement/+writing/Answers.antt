@@ -9,16 +9,16 @@ use Rattle.formatter.proofs.Statements.{all_first, room_before, all_short, all_d
 use Rattle.formatter.proofs.statement.+writing.Goals as goal
 
 pub write_block-overflow_add-x : goal.write_block-overflow_add-x
-write_block-overflow_add-x t c = omega (arith, c.requires.1.room)
+write_block-overflow_add-x t c = omega (arith, c.requires.room)
 
 pub write_block-overflow_add-x-2 : goal.write_block-overflow_add-x-2
-write_block-overflow_add-x-2 t c = omega (arith, c.requires.1.room)
+write_block-overflow_add-x-2 t c = omega (arith, c.requires.room)
 
 pub write_block-overflow_add-n : goal.write_block-overflow_add-n
-write_block-overflow_add-n t c = omega (arith, c.requires.1.room)
+write_block-overflow_add-n t c = omega (arith, c.requires.room)
 
 pub write_block-write_statements-end-requires : goal.write_block-write_statements-end-requires
-write_block-write_statements-end-requires t c = (omega arith, record { room = omega (arith, c.requires.1.room) })
+write_block-write_statements-end-requires t c = (omega arith, record { room = omega (arith, c.requires.room) })
 
 pub write_block-returns : goal.write_block-returns
 write_block-returns t c =
@@ -38,10 +38,10 @@ write_foreach-returns t c =
     c.write_statement.ensures
 
 pub write_guarded-overflow_add-y : goal.write_guarded-overflow_add-y
-write_guarded-overflow_add-y t c = omega (arith, c.requires.1.room)
+write_guarded-overflow_add-y t c = omega (arith, c.requires.room)
 
 pub write_guarded-write_statement-requires : goal.write_guarded-write_statement-requires
-write_guarded-write_statement-requires t c = (omega arith, c.requires.1)
+write_guarded-write_statement-requires t c = (omega arith, c.requires)
 
 pub write_guarded-returns : goal.write_guarded-returns
 write_guarded-returns t c =
@@ -51,7 +51,7 @@ write_guarded-returns t c =
     c.write_statement.ensures
 
 pub write_line-write_statement-end-requires : goal.write_line-write_statement-end-requires
-write_line-write_statement-end-requires t c = (omega arith, c.requires.1)
+write_line-write_statement-end-requires t c = (omega arith, c.requires)
 
 pub write_line-returns : goal.write_line-returns
 write_line-returns t c =
@@ -64,40 +64,40 @@ pub write_statement-returns-then-fuel-eq0 : goal.write_statement-returns-then-fu
 write_statement-returns-then-fuel-eq0 t c = search too_deep
 
 pub write_statement-last_of-y-requires : goal.write_statement-last_of-y-requires
-write_statement-last_of-y-requires t c = omega (arith, c.requires.1.room)
+write_statement-last_of-y-requires t c = omega (arith, c.requires.room)
 
 pub write_statement-overflow_add-x : goal.write_statement-overflow_add-x
 write_statement-overflow_add-x t c =
     omega (
       arith,
-      c.requires.1.room,
+      c.requires.room,
       c.extra_of-extra.ensures.1,
     )
 
 pub write_statement-write_guarded-requires : goal.write_statement-write_guarded-requires
 write_statement-write_guarded-requires t c = (
   omega (arith, c.if-fuel-eq0.false),
-  record { room = omega (arith, c.requires.1.room, c.extra_of-extra.ensures.1, c.if-fuel-eq0.false) },
+  record { room = omega (arith, c.requires.room, c.extra_of-extra.ensures.1, c.if-fuel-eq0.false) },
 )
 
 pub write_statement-overflow_add-x-in-36 : goal.write_statement-overflow_add-x-in-36
 write_statement-overflow_add-x-in-36 t c =
     omega (
       arith,
-      c.requires.1.room,
+      c.requires.room,
       c.extra_of-extra.ensures.1,
     )
 
 pub write_statement-write_guarded-requires-in-36 : goal.write_statement-write_guarded-requires-in-36
 write_statement-write_guarded-requires-in-36 t c = (
   omega (arith, c.if-fuel-eq0.false),
-  record { room = omega (arith, c.requires.1.room, c.extra_of-extra.ensures.1, c.if-fuel-eq0.false) },
+  record { room = omega (arith, c.requires.room, c.extra_of-extra.ensures.1, c.if-fuel-eq0.false) },
 )
 
 pub write_statement-write_block-requires : goal.write_statement-write_block-requires
 write_statement-write_block-requires t c = (
   omega (arith, c.if-fuel-eq0.false),
-  record { room = omega (arith, c.requires.1.room, c.size_of.ensures, c.if-fuel-eq0.false) },
+  record { room = omega (arith, c.requires.room, c.size_of.ensures, c.if-fuel-eq0.false) },
 )
 
 pub write_statement-overflow_sub-fuel-in_default : goal.write_statement-overflow_sub-fuel-in_default
@@ -131,7 +131,7 @@ pub write_statement-returns-in_default : goal.write_statement-returns-in_default
 write_statement-returns-in_default t c = search is_act
 
 pub write_statements-loop-left-init : goal.write_statements-loop-left-init
-write_statements-loop-left-init t c = all_first _ _ _ _ _ _ _ (omega arith) (omega arith) c.requires.1
+write_statements-loop-left-init t c = all_first _ _ _ _ _ _ _ (omega arith) (omega arith) c.requires
 
 pub write_statements-returns-then-end-x : goal.write_statements-returns-then-end-x
 write_statements-returns-then-end-x t c = all_done _ _ _ _ _ _ _ _ _ c.loop-left.invariant (omega arith) (omega arith)
