@@ -7,7 +7,6 @@ use mathlib.Core.Logic.{⊎_elim}
 use native.Mathlib.Omega.{arith}
 use lib.ListN.{get_or, set, length}
 use denote.Enum.Declared.{tag_of}
-use types.Run.{OneOf}
 use borrow.Author.Tests.{ne_eqb, not-true, not-false}
 use Rattle.meaning.specs.Basics.{if◌then◌else◌}
 use Rattle.machine.specs.contracts.Value as value
@@ -177,11 +176,10 @@ unfolding loop_over ◌>>=◌ go_on held store
 entered_loop body g p slot i ts ws ws₁ first many unit o e f h q = q ∙ rw (h.words, e, f, h.outer)
 
 -- ---- the loop
-not_shape : (p : ℕ) (ts ws : List ℕ) (v : Value) (k : ℕ → Act Flow) → OneOf (0 ∷ 1 ∷ 2 ∷ 3 ∷ 4 ∷ []) (tag_of value.the_type v)
+not_shape : (p : ℕ) (ts ws : List ℕ) (v : Value) (k : ℕ → Act Flow) → ((n : ℕ) → v ≡ Shape n → ⊥)
     → (usable p v >>= λ _. with_group p v k) (raw ts ws) ≡ stop 20 p (raw ts ws)
 unfolding usable is_dead refuse give with_group with_shape fail ◌>>=◌ go_on
-not_shape p ts ws (Shape i) k o =
-    ⊎_elim (λ z. absurd (omega arith)) (⊎_elim (λ z. absurd (omega arith)) (⊎_elim (λ z. absurd (omega arith)) (⊎_elim (λ z. absurd (omega arith)) (λ z. absurd (omega arith))))) o
+not_shape p ts ws (Shape i) k o = absurd (o i refl)
 not_shape p ts ws (Integer z) k o = refl
 not_shape p ts ws (Text h) k o = refl
 not_shape p ts ws (Boolean b) k o = refl
@@ -194,7 +192,7 @@ module _ (eval : Evaluator) (inner : Executor) (e : Setting) (slot y p : ℕ) (t
   each_stops n q f = sym (stops _ h f)
 
   module _ (v : Value) (f : a ≡ Good v) where
-    pub each_other : OneOf (0 ∷ 1 ∷ 2 ∷ 3 ∷ 4 ∷ []) (tag_of value.the_type v) → shown_flow (Stopped 20 p) ts₁ ws₁ ≡ foreach_at eval inner e slot y p (raw ts ws)
+    pub each_other : ((n : ℕ) → v ≡ Shape n → ⊥) → shown_flow (Stopped 20 p) ts₁ ws₁ ≡ foreach_at eval inner e slot y p (raw ts ws)
     unfolding foreach_at ◌>>=◌ shown_flow
     each_other o = sym (goes_on _ h f ∙ not_shape p ts₁ ws₁ v _ o)
 

@@ -8,7 +8,6 @@ use native.Mathlib.Omega.{arith}
 use lib.ListN.{get_or, length, take, drop}
 use borrow.Author.Rules.{part_to_end}
 use denote.Enum.Declared.{tag_of}
-use types.Run.{OneOf}
 use borrow.Author.Tests.{lt-ltb, le-ltb, ne_eqb, not-true, not-false}
 use Rattle.meaning.specs.Basics.{if◌then◌else◌}
 use Rattle.machine.specs.contracts.Value as value
@@ -118,10 +117,9 @@ module _ (program code g : List ℕ) (p : ℕ) (ts ws : List ℕ) (fuel y i : �
   test_refused n q f = sym (stops _ there f)
 
 -- ---- an update
-not_table : {A : Type 0} (p : ℕ) (r : Raw) (v : Value) (k : ℕ → Act A) → OneOf (0 ∷ 1 ∷ 2 ∷ 3 ∷ 5 ∷ []) (tag_of value.the_type v) → with_table p v k r ≡ stop 20 p r
+not_table : {A : Type 0} (p : ℕ) (r : Raw) (v : Value) (k : ℕ → Act A) → ((n : ℕ) → v ≡ Table n → ⊥) → with_table p v k r ≡ stop 20 p r
 unfolding with_table fail
-not_table p r (Table t) k o =
-    ⊎_elim (λ z. absurd (omega arith)) (⊎_elim (λ z. absurd (omega arith)) (⊎_elim (λ z. absurd (omega arith)) (⊎_elim (λ z. absurd (omega arith)) (λ z. absurd (omega arith))))) o
+not_table p r (Table t) k o = absurd (o t refl)
 not_table p r (Integer z) k o = refl
 not_table p r (Text h) k o = refl
 not_table p r (Boolean b) k o = refl
@@ -140,7 +138,7 @@ module _ (program code g : List ℕ) (p : ℕ) (ts ws : List ℕ) (fuel y wy b w
   unfolding update_at ◌>>=◌ shown_flow
   table_stops n q f = sym (rw (← key_is, ← table_is) (stops _ h₁ f))
 
-  pub table_other : (v : Value) → r₁ ≡ Good v → OneOf (0 ∷ 1 ∷ 2 ∷ 3 ∷ 5 ∷ []) (tag_of value.the_type v)
+  pub table_other : (v : Value) → r₁ ≡ Good v → ((n : ℕ) → v ≡ Table n → ⊥)
       → shown_flow (Stopped 20 p) ts₁ ws₁ ≡ update_at (expression_at fuel (setting program code g)) (setting program code g) y p (raw ts ws)
   unfolding update_at ◌>>=◌ shown_flow
   table_other v f o = sym (rw (← key_is, ← table_is) (goes_on _ h₁ f ∙ not_table p (raw ts₁ ws₁) v _ o))

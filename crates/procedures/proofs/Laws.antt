@@ -3,13 +3,9 @@ use Prim.Native.Nat.{ℕ, suc, ◌+◌, ◌-◌, ◌^◌, ◌≤◌, ◌<◌}
 use mathlib.Core.Path.{◌≡◌, refl, sym, ◌∙◌}
 use mathlib.Core.Bool.{Bool, true, false, not}
 use mathlib.Core.List.{List, [], ◌∷◌}
-use mathlib.Core.Logic.{⊎_elim}
 use native.Mathlib.Omega.{arith}
 use lib.ListN.{get_or, set, length}
-use denote.Enum.Declared.{tag_of}
-use types.Run.{OneOf}
 use borrow.Author.Tests.{eq-eqb, ne_eqb, not-true, not-false}
-use Rattle.machine.specs.contracts.Flow as flow
 use Rattle.machine.specs.declared.Value.TheVariants.{Nothing}
 use Rattle.machine.specs.declared.Answer.{Answer}
 use Rattle.machine.specs.declared.Answer.TheVariants.{Good, Bad}
@@ -27,11 +23,11 @@ pub still_room : (g ws ws₁ : List ℕ) → Room g ws → length ws₁ ≡ leng
 still_room g ws ws₁ r l = record { steps = r.steps; shapes = r.shapes; entries = r.entries; text = r.text; calls = r.calls; words = rw l r.words }
 
 -- ---- parameters
-went_on : (ts ws : List ℕ) (f : Flow) (k : Act (Unit {0})) → OneOf (0 ∷ 1 ∷ []) (tag_of flow.the_type f) → go_on (shown_flow f ts ws) (λ _. k) ≡ k (raw ts ws)
+went_on : (ts ws : List ℕ) (f : Flow) (k : Act (Unit {0})) → ((n q : ℕ) → f ≡ Stopped n q → ⊥) → go_on (shown_flow f ts ws) (λ _. k) ≡ k (raw ts ws)
 unfolding go_on shown_flow
 went_on ts ws Onward k o = refl
 went_on ts ws (Returned v) k o = refl
-went_on ts ws (Stopped n q) k o = ⊎_elim (λ z. absurd (omega arith)) (λ z. absurd (omega arith)) o
+went_on ts ws (Stopped n q) k o = absurd (o n q refl)
 
 abbrev pub assigning_from : List ℕ → ℕ → ℕ → ℕ → ℕ → Act (Unit {0})
 assigning_from g base p k m = assign_from g base k m p
@@ -49,7 +45,7 @@ module _ (g : List ℕ) (base n p : ℕ) (ws₀ : List ℕ) where
       unfolding assign_from ◌>>=◌ go_on load
       turn_by m ts = rw (← v, ← f.equal ts)
 
-      pub assign_next : OneOf (0 ∷ 1 ∷ []) (tag_of flow.the_type r) → length ws₁ ≡ length ws → Turns (assigning_from g base p) 0 n ws₀ ws₁ (k + 1)
+      pub assign_next : ((m q : ℕ) → r ≡ Stopped m q → ⊥) → length ws₁ ≡ length ws → Turns (assigning_from g base p) 0 n ws₀ ws₁ (k + 1)
       assign_next o l = turns_next (assigning_from g base p) 0 n ws₀ ws k t ws₁ h (λ m ts. turn_by m ts ∙ went_on ts ws₁ r _ o) l
 
       pub assign_stops : (i q : ℕ) → r ≡ Stopped i q → Answers ws₀ (answered (assign_from g base 0 n p)) (Bad i q) ws₁

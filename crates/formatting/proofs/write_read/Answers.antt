@@ -10,14 +10,12 @@ returns-then-program-gt-LONGEST c = long_written _ _ c.if-program-gt-LONGEST.tru
 pub slice_bounds-write_fitting-end : goal.slice_bounds-write_fitting-end
 slice_bounds-write_fitting-end c = tokens_within _ _ _ c.if-program-gt-LONGEST.false _
     c.read-p.ensures.0 c.read-p.ensures.1 _ _ _ c.in-Formed.is
-    (let a = c.tokens-1 in
-    omega (arith, c.requires.tokens_long))
+    (omega (arith, c.requires.tokens_long))
 
 pub slice_bounds-write_fitting-end-in-Formed : goal.slice_bounds-write_fitting-end-in-Formed
 slice_bounds-write_fitting-end-in-Formed c = let h = tokens_within _ _ _ c.if-program-gt-LONGEST.false _
     c.read-p.ensures.0 c.read-p.ensures.1 _ _ _
-    c.in-Formed.is (let a = c.tokens-1 in
-    omega (arith, c.requires.tokens_long)) in simp length-take (omega arith)
+    c.in-Formed.is (omega (arith, c.requires.tokens_long)) in simp length-take (omega arith)
 
 pub write_fitting-requires : goal.write_fitting-requires
 write_fitting-requires c = raw_bounded _ _ _ c.if-program-gt-LONGEST.false _

@@ -20,42 +20,6 @@ use Rattle.interpreter.proofs.LoopLaws.{turns_short, turns_done, turn_fails, tur
 use Rattle.interpreter.proofs.LoopLaws.{owning_first, owning_ends, owning_fails, owning_returns, owning_again, entered_loop, each_stops, each_other, each_refused, each_runs}
 use Rattle.interpreter.proofs.+interpreting.Goals as goal
 
-abbrev bound_at : ℕ → In 5 bound-kinds.ps
-bound_at t = and 5 bound-kinds.ps (is 5 bound-kinds.ps μ-bound t) bound.Pre
-
-abbrev call_at : ℕ → In 5 call-kinds.ps
-call_at t = and 5 call-kinds.ps (is 5 call-kinds.ps μ-call t) call.Pre
-
-abbrev call_below : ℕ → In 5 call-kinds.ps
-call_below t = and 5 call-kinds.ps (falls 5 call-kinds.ps ◌<◌ μ-call t) call.Pre
-
-abbrev each_at : ℕ → In 5 each-kinds.ps
-each_at t = and 5 each-kinds.ps (is 5 each-kinds.ps μ-each t) each.Pre
-
-abbrev each_below : ℕ → In 5 each-kinds.ps
-each_below t = and 5 each-kinds.ps (falls 5 each-kinds.ps ◌<◌ μ-each t) each.Pre
-
-abbrev member_below : ℕ → In 5 member-kinds.ps
-member_below t = and 5 member-kinds.ps (falls 5 member-kinds.ps ◌<◌ μ-member t) member.Pre
-
-abbrev own_at : ℕ → In 5 own-kinds.ps
-own_at t = and 5 own-kinds.ps (is 5 own-kinds.ps μ-own t) own.Pre
-
-abbrev own_below : ℕ → In 5 own-kinds.ps
-own_below t = and 5 own-kinds.ps (falls 5 own-kinds.ps ◌<◌ μ-own t) own.Pre
-
-abbrev procedure_at : ℕ → In 5 procedure-kinds.ps
-procedure_at t = and 5 procedure-kinds.ps (is 5 procedure-kinds.ps μ-procedure t) procedure.Pre
-
-abbrev pushed_at : ℕ → In 5 pushed-kinds.ps
-pushed_at t = and 5 pushed-kinds.ps (is 5 pushed-kinds.ps μ-pushed t) pushed.Pre
-
-abbrev test_at : ℕ → In 5 test-kinds.ps
-test_at t = and 5 test-kinds.ps (is 5 test-kinds.ps μ-test t) test.Pre
-
-abbrev test_below : ℕ → In 5 test-kinds.ps
-test_below t = and 5 test-kinds.ps (falls 5 test-kinds.ps ◌<◌ μ-test t) test.Pre
-
 pub argument-argument_value-w-requires : goal.argument-argument_value-w-requires
 argument-argument_value-w-requires t c = omega (arith, c.requires.1.lent.room.words)
 
@@ -74,7 +38,7 @@ pub bound-set_variable-requires : goal.bound-set_variable-requires
 bound-set_variable-requires t c = omega (arith, c.requires.1.lent.lent.room.words)
 
 pub bound-statement-r-requires : goal.bound-statement-r-requires
-bound-statement-r-requires t c = (omega arith, still_runs _ _ _ _ _ refl (let a0 = c.words-1 in omega arith) _ _ c.requires.1)
+bound-statement-r-requires t c = (omega arith, still_runs _ _ _ _ _ refl (omega arith) _ _ c.requires.1)
 
 pub bound-returns : goal.bound-returns
 bound-returns t c = bound_to _ _ _ _ _ _ _ _ c.pack.ensures
@@ -99,8 +63,7 @@ call-loop-y-smaller t c = search root_falls
 pub call-loop-y-preserved : goal.call-loop-y-preserved
 call-loop-y-preserved t c = push_next _ _ _ _ _ _ _ _ _ _ _ _ _ c.loop-y.invariant
     c.loop-y-test.true _ _ _
-    c.argument.ensures _ _ _ (let a0 = c.texts-1 in
-    omega arith) (let a0 = c.words-1 in omega arith) c.in-Good.is c.word_at-in-loop-y.ensures c.argument_root-y-in-loop-y.ensures
+    c.argument.ensures _ _ _ (omega arith) (omega arith) c.in-Good.is c.word_at-in-loop-y.ensures c.argument_root-y-in-loop-y.ensures
 
 pub call-invoke-r-requires : goal.call-invoke-r-requires
 call-invoke-r-requires t c = (omega arith, record { lent = record { lent = c.loop-y.invariant.lent; deep = c.requires.1.deep }; small = c.callee_of.ensures.1 })
@@ -118,8 +81,7 @@ pub each-expression-requires : goal.each-expression-requires
 each-expression-requires t c = (omega arith, c.requires.1.lent)
 
 pub each-open_loop-number-requires : goal.each-open_loop-number-requires
-each-open_loop-number-requires t c = let a0 = c.words-1 in
-    omega (arith, c.requires.1.lent.lent.room.words)
+each-open_loop-number-requires t c = omega (arith, c.requires.1.lent.lent.room.words)
 
 pub each-returns-then-number-ne0 : goal.each-returns-then-number-ne0
 each-returns-then-number-ne0 t c = each_refused _ _ _ _ _ _ _ _ _ _ _ c.expression.ensures _ c.in-Good.is _ c.in-Shape.is _ _
@@ -129,7 +91,7 @@ pub each-overflow_add-y : goal.each-overflow_add-y
 each-overflow_add-y t c = omega (arith, c.requires.1.room)
 
 pub each-own-r-requires : goal.each-own-r-requires
-each-own-r-requires t c = (omega arith, still_runs _ _ _ _ _ (let a0 = c.texts-1 in omega arith) (let a0 = c.words-1 in let a1 = c.words-in-Shape-1 in omega arith) _ _ c.requires.1)
+each-own-r-requires t c = (omega arith, still_runs _ _ _ _ _ (omega arith) (omega arith) _ _ c.requires.1)
 
 pub each-returns-else-number-ne0 : goal.each-returns-else-number-ne0
 each-returns-else-number-ne0 t c = each_runs _ _ _ _ _ _ _ _ _ _ _ c.expression.ensures _ c.in-Good.is _ c.in-Shape.is _ _
@@ -137,7 +99,7 @@ each-returns-else-number-ne0 t c = each_runs _ _ _ _ _ _ _ _ _ _ _ c.expression.
     c.own-r.ensures
 
 pub each-returns-in_default : goal.each-returns-in_default
-each-returns-in_default t c = each_other _ _ _ _ _ _ _ _ _ _ _ c.expression.ensures _ c.in-Good.is c.in_default.in_default-own.keys2
+each-returns-in_default t c = each_other _ _ _ _ _ _ _ _ _ _ _ c.expression.ensures _ c.in-Good.is c.in_default.not-Shape
 
 pub each-returns-in-Bad : goal.each-returns-in-Bad
 each-returns-in-Bad t c = each_stops _ _ _ _ _ _ _ _ _ _ _ c.expression.ensures _ _ c.in-Bad.is
@@ -155,7 +117,7 @@ pub expression-returns-then-tag-lt-TABLE : goal.expression-returns-then-tag-lt-T
 expression-returns-then-tag-lt-TABLE t c = search is_leaf
 
 pub expression-call-requires : goal.expression-call-requires
-expression-call-requires t c = (omega arith, record { lent = still_lent_words _ _ _ _ c.requires.1.lent (let a0 = c.words-1 in omega arith); deep = omega (arith, c.requires.1.deep) })
+expression-call-requires t c = (omega arith, record { lent = still_lent_words _ _ _ _ c.requires.1.lent (omega arith); deep = omega (arith, c.requires.1.deep) })
 
 pub expression-returns-in-Good : goal.expression-returns-in-Good
 expression-returns-in-Good t c = is_call _ _ _ _ _ _ _ _ _ _ c.if-fuel-eq0.false c.count.ensures c.if-not-count.false-raw _
@@ -172,7 +134,7 @@ expression-returns-in-Bad t c = is_call _ _ _ _ _ _ _ _ _ _ c.if-fuel-eq0.false 
     c.if-tag-eq-CALL.true c.call.ensures c.in-Bad.is
 
 pub expression-operands-requires : goal.expression-operands-requires
-expression-operands-requires t c = (omega arith, record { lent = still_lent_words _ _ _ _ c.requires.1.lent (let a0 = c.words-1 in omega arith); deep = omega (arith, c.requires.1.deep) })
+expression-operands-requires t c = (omega arith, record { lent = still_lent_words _ _ _ _ c.requires.1.lent (omega arith); deep = omega (arith, c.requires.1.deep) })
 
 pub expression-returns-in-Good-operands : goal.expression-returns-in-Good-operands
 expression-returns-in-Good-operands t c = has_operands _ _ _ _ _ _ _ _ _ _ c.if-fuel-eq0.false c.count.ensures c.if-not-count.false-raw _
@@ -197,8 +159,7 @@ pub inside-overflow_add-turns : goal.inside-overflow_add-turns
 inside-overflow_add-turns t c = omega (arith, c.requires.1.lent.lent.room.steps)
 
 pub inside-loop-turns-init : goal.inside-loop-turns-init
-inside-loop-turns-init t c = turns_first _ _ _ _ _ _ _ _ _ _ _ (still_runs _ _ _ _ _ refl (let a0 = c.words-1 in
-    omega arith) _ _ c.requires.1)
+inside-loop-turns-init t c = turns_first _ _ _ _ _ _ _ _ _ _ _ (still_runs _ _ _ _ _ refl (omega arith) _ _ c.requires.1)
 
 pub inside-returns-then-found-eq0 : goal.inside-returns-then-found-eq0
 inside-returns-then-found-eq0 t c = looked_in _ _ _ _ _ _ _ _ _ _ _ c.look_in-found.ensures
@@ -214,7 +175,7 @@ pub inside-bound-requires : goal.inside-bound-requires
 inside-bound-requires t c = (omega arith, c.loop-turns.invariant.runs)
 
 pub inside-unmark_below-requires : goal.inside-unmark_below-requires
-inside-unmark_below-requires t c = still_room _ _ _ _ _ c.loop-turns.invariant.runs.lent (let a0 = c.words-in-loop-turns-1 in omega arith)
+inside-unmark_below-requires t c = still_room _ _ _ _ _ c.loop-turns.invariant.runs.lent (omega arith)
 
 pub inside-returns-in-Returned : goal.inside-returns-in-Returned
 inside-returns-in-Returned t c = looked_in _ _ _ _ _ _ _ _ _ _ _ c.look_in-found.ensures
@@ -236,7 +197,7 @@ pub inside-overflow_sub-found-in-loop-turns : goal.inside-overflow_sub-found-in-
 inside-overflow_sub-found-in-loop-turns t c = omega (arith, c.if-found-eq0.false)
 
 pub inside-look_behind-found-requires : goal.inside-look_behind-found-requires
-inside-look_behind-found-requires t c = still_room _ _ _ _ _ c.loop-turns.invariant.runs.lent (let a0 = c.words-in-loop-turns-1 in omega arith)
+inside-look_behind-found-requires t c = still_room _ _ _ _ _ c.loop-turns.invariant.runs.lent (omega arith)
 
 pub inside-loop-turns-smaller : goal.inside-loop-turns-smaller
 inside-loop-turns-smaller t c = omega arith
@@ -246,8 +207,7 @@ inside-loop-turns-preserved t c = turn_again _ _ _ _ _ _ _ _ _ _ _ _ _ _ _ c.loo
     c.if-found-eq0.false _
     c.component_at-i.ensures _ _ _
     c.bound.ensures _ _ c.in-Onward.is
-    c.look_behind-found.ensures (let a0 = c.texts-1 in
-    omega arith) (let a0 = c.words-in-loop-turns-1 in let a1 = c.words-in-loop-turns-2-1 in omega arith)
+    c.look_behind-found.ensures (omega arith) (omega arith)
 
 pub inside-returns : goal.inside-returns
 inside-returns t c = looked_in _ _ _ _ _ _ _ _ _ _ _ c.look_in-found.ensures (turns_short _ _ _ _ _ _ _ _ _ _ _ _ _ _ _ c.loop-turns.invariant (omega arith))
@@ -278,7 +238,7 @@ invoke-procedure-requires t c = (
   omega arith,
   record {
     lent = record {
-      lent = still_lent_words _ _ _ _ c.requires.1.lent.lent (let a0 = c.words-1 in omega arith);
+      lent = still_lent_words _ _ _ _ c.requires.1.lent.lent (omega arith);
       deep = c.requires.1.lent.deep;
     };
     room = omega (
@@ -292,7 +252,7 @@ invoke-procedure-requires t c = (
 )
 
 pub invoke-resume-requires : goal.invoke-resume-requires
-invoke-resume-requires t c = let a0 = c.words-1 in let a1 = c.words-2-1 in omega (
+invoke-resume-requires t c = omega (
   arith,
   c.requires.1.lent.lent.room.words,
 )
@@ -317,18 +277,16 @@ pub leave-last_of-y-requires : goal.leave-last_of-y-requires
 leave-last_of-y-requires t c = omega (arith, c.requires.1.runs.room)
 
 pub leave-fast_value-k-requires : goal.leave-fast_value-k-requires
-leave-fast_value-k-requires t c = let a0 = c.words-1 in
-    omega (arith, c.requires.1.runs.lent.lent.room.words)
+leave-fast_value-k-requires t c = omega (arith, c.requires.1.runs.lent.lent.room.words)
 
 pub leave-returns-then-k-ne0 : goal.leave-returns-then-k-ne0
 leave-returns-then-k-ne0 t c = leave_fast _ _ _ _ _ _ _ _ c.requires.1 c.if-fuel-eq0.false _
     c.place_of-p.ensures _ _
     c.count.ensures c.if-not-count.false-raw _ _
-    c.last_of-y.ensures.0 _ c.fast_value-k.ensures _ (let a0 =
-    c.words-1 in omega arith) c.if-k-ne0.true c.unpack.ensures
+    c.last_of-y.ensures.0 _ c.fast_value-k.ensures _ (omega arith) c.if-k-ne0.true c.unpack.ensures
 
 pub leave-expression-requires : goal.leave-expression-requires
-leave-expression-requires t c = (omega arith, slow_lent _ _ _ _ _ _ c.fast_value-k.ensures c.if-k-ne0.false (still_lent _ _ _ _ _ refl (let a0 = c.words-1 in omega arith) _ (deeper_lent _ _ _ _ c.requires.1.runs.lent)))
+leave-expression-requires t c = (omega arith, slow_lent _ _ _ _ _ _ c.fast_value-k.ensures c.if-k-ne0.false (still_lent _ _ _ _ _ refl (omega arith) _ (deeper_lent _ _ _ _ c.requires.1.runs.lent)))
 
 pub leave-returns-in-Good : goal.leave-returns-in-Good
 leave-returns-in-Good t c = leave_done _ _ _ _ _ _ _ _ c.requires.1
@@ -359,7 +317,7 @@ member-returns-then-not-count t c = member_no_step _ _ _ _ _ _ _ _ c.component_a
     c.is_destroyed.ensures c.if-is_destroyed.false _ _ c.count.ensures c.if-not-count.true-raw
 
 pub member-bound-r-requires : goal.member-bound-r-requires
-member-bound-r-requires t c = (omega arith, still_runs _ _ _ _ _ refl (let a0 = c.words-1 in omega arith) _ _ c.requires.1)
+member-bound-r-requires t c = (omega arith, still_runs _ _ _ _ _ refl (omega arith) _ _ c.requires.1)
 
 pub member-returns-then-not-is_group : goal.member-returns-then-not-is_group
 member-returns-then-not-is_group t c = member_figure _ _ _ _ _ _ _ _ c.component_at-c.ensures _ c.is_destroyed.ensures
@@ -369,7 +327,7 @@ member-returns-then-not-is_group t c = member_figure _ _ _ _ _ _ _ _ c.component
     c.if-not-is_group.true-raw c.bound-r.ensures
 
 pub member-inside-r-requires : goal.member-inside-r-requires
-member-inside-r-requires t c = (omega arith, still_runs _ _ _ _ _ refl (let a0 = c.words-1 in omega arith) _ _ c.requires.1)
+member-inside-r-requires t c = (omega arith, still_runs _ _ _ _ _ refl (omega arith) _ _ c.requires.1)
 
 pub member-returns : goal.member-returns
 member-returns t c = member_group _ _ _ _ _ _ _ _ c.component_at-c.ensures _ c.is_destroyed.ensures
@@ -391,17 +349,13 @@ operands-returns-then-lacks_table t c = no_table _ _ _ _ _ _ _ _ c.left_of.ensur
     c.if-tag-eq-TABLE.false _ c.lacks_table.ensures c.if-lacks_table.true
 
 pub operands-expression-requires-in-Good : goal.operands-expression-requires-in-Good
-operands-expression-requires-in-Good t c = (omega arith, still_lent _ _ _ _ _ (let a0 = c.texts-1 in omega arith) (let a0 = c.words-1 in omega arith) _ c.requires.1)
+operands-expression-requires-in-Good t c = (omega arith, still_lent _ _ _ _ _ (omega arith) (omega arith) _ c.requires.1)
 
 pub operands-apply-r-requires : goal.operands-apply-r-requires
-operands-apply-r-requires t c = laws.still_lent _ _ _ _ _ c.requires.1.lent (let a0 =
-    c.texts-1 in let a1 = c.texts-in-Good-1 in
-    omega arith) (let a0 = c.words-1 in let a1 = c.words-in-Good-1 in omega arith)
+operands-apply-r-requires t c = laws.still_lent _ _ _ _ _ c.requires.1.lent (omega arith) (omega arith)
 
 pub operands-shape_of-texts-in-Good-expression : goal.operands-shape_of-texts-in-Good-expression
-operands-shape_of-texts-in-Good-expression t c = let a = c.slice_known-1 in
-    let b = c.texts-1 in
-    let d = c.texts-in-Good-1 in let e = c.texts-in-Good-expression-1 in search rules
+operands-shape_of-texts-in-Good-expression t c = search rules
 
 pub operands-returns-in-Good-expression : goal.operands-returns-in-Good-expression
 operands-returns-in-Good-expression t c = operands_applied _ _ _ _ _ _ _ _ c.left_of.ensures _ _ _
@@ -429,16 +383,14 @@ pub own-enter_loop-unit-requires : goal.own-enter_loop-unit-requires
 own-enter_loop-unit-requires t c = omega (arith, c.requires.1.lent.lent.room.words)
 
 pub own-loop-n-init : goal.own-loop-n-init
-own-loop-n-init t c = owning_first _ _ _ _ _ _ _ _ _ _ _ (still_runs _ _ _ _ _ refl (let a0 = c.words-1 in
-    omega arith) _ _ c.requires.1)
+own-loop-n-init t c = owning_first _ _ _ _ _ _ _ _ _ _ _ (still_runs _ _ _ _ _ refl (omega arith) _ _ c.requires.1)
     (omega (arith, c.first_at-k.ensures, c.count_at-n.ensures))
 
 pub own-member-requires : goal.own-member-requires
 own-member-requires t c = (omega arith, c.loop-n.invariant.runs)
 
 pub own-leave_loop-requires : goal.own-leave_loop-requires
-own-leave_loop-requires t c = let a0 = c.words-in-loop-n-1 in
-    omega (arith, c.loop-n.invariant.runs.lent.lent.room.words)
+own-leave_loop-requires t c = omega (arith, c.loop-n.invariant.runs.lent.lent.room.words)
 
 pub own-returns-in-Returned : goal.own-returns-in-Returned
 own-returns-in-Returned t c = entered_loop _ _ _ _ _ _ _ _ _ _ _ _ c.first_at-k.ensures
@@ -465,7 +417,7 @@ own-loop-n-smaller t c = omega arith
 pub own-loop-n-preserved : goal.own-loop-n-preserved
 own-loop-n-preserved t c = owning_again _ _ _ _ _ _ _ _ _ _ _ _ _ _ _ c.loop-n.invariant
     c.loop-n-test.true _ _ _ c.member.ensures
-    c.in-Onward.is (let a0 = c.texts-1 in omega arith) (let a0 = c.words-in-loop-n-1 in omega arith)
+    c.in-Onward.is (omega arith) (omega arith)
 
 pub own-leave_loop-requires-2 : goal.own-leave_loop-requires-2
 own-leave_loop-requires-2 t c = omega (arith, c.loop-n.invariant.runs.lent.lent.room.words)
@@ -512,9 +464,7 @@ procedure-loop-left-smaller t c = omega arith
 pub procedure-loop-left-preserved : goal.procedure-loop-left-preserved
 procedure-loop-left-preserved t c = all_again _ _ _ _ _ _ _ _ _ _ _ _ _ c.loop-left.invariant c.loop-left-test.true
     c.if-end-at.false _ _ _
-    c.statement.ensures _ _ (let a0 = c.texts-in-loop-left-1 in
-    omega arith) (let a0 = c.words-in-loop-left-1 in
-    omega arith) c.in-Onward.is c.word_at-w.ensures c.size_of-at.ensures
+    c.statement.ensures _ _ (omega arith) (omega arith) c.in-Onward.is c.word_at-w.ensures c.size_of-at.ensures
 
 pub procedure-returns : goal.procedure-returns
 procedure-returns t c = ends_short _ _ _ _ _ _ _ _ _ _ _ _ _ c.loop-left.invariant (omega arith)
@@ -542,7 +492,7 @@ repeat-returns-then-not-count t c = loop_refused _ _ _ _ _ _ _ _ _ _ _ c.loop-tu
     c.count.ensures c.if-not-count.true-raw
 
 pub repeat-test-requires : goal.repeat-test-requires
-repeat-test-requires t c = (omega arith, still_lent _ _ _ _ _ refl (let a0 = c.words-1 in omega arith) _ c.loop-turns.invariant.runs.lent)
+repeat-test-requires t c = (omega arith, still_lent _ _ _ _ _ refl (omega arith) _ c.loop-turns.invariant.runs.lent)
 
 pub repeat-returns-in-No : goal.repeat-returns-in-No
 repeat-returns-in-No t c = loop_ends _ _ _ _ _ _ _ _ _ _ _ c.loop-turns.invariant
@@ -560,7 +510,7 @@ pub repeat-overflow_add-y : goal.repeat-overflow_add-y
 repeat-overflow_add-y t c = omega (arith, c.requires.1.room)
 
 pub repeat-statement-requires : goal.repeat-statement-requires
-repeat-statement-requires t c = (omega arith, still_runs _ _ _ _ _ (let a0 = c.texts-1 in omega arith) (let a0 = c.words-1 in let a1 = c.words-in-loop-turns-1 in omega arith) _ _ c.loop-turns.invariant.runs)
+repeat-statement-requires t c = (omega arith, still_runs _ _ _ _ _ (omega arith) (omega arith) _ _ c.loop-turns.invariant.runs)
 
 pub repeat-loop-turns-smaller : goal.repeat-loop-turns-smaller
 repeat-loop-turns-smaller t c = omega arith
@@ -569,10 +519,7 @@ pub repeat-loop-turns-preserved : goal.repeat-loop-turns-preserved
 repeat-loop-turns-preserved t c = loop_again _ _ _ _ _ _ _ _ _ _ _ c.loop-turns.invariant
     c.loop-turns-test.true _ _ c.count.ensures c.if-not-count.false-raw _ _
     _ c.test.ensures
-    c.in-Yes.is _ _ _ c.statement.ensures (let a0 =
-    c.texts-1 in let a1 = c.texts-in-loop-turns-1 in
-    omega arith) (let a0 = c.words-1 in let a1 = c.words-in-loop-turns-1 in let a2 = c.words-in-loop-turns-2-1 in
-    omega arith) c.in-Onward.is
+    c.in-Yes.is _ _ _ c.statement.ensures (omega arith) (omega arith) c.in-Onward.is
 
 pub repeat-returns-in-Returned : goal.repeat-returns-in-Returned
 repeat-returns-in-Returned t c = loop_returns _ _ _ _ _ _ _ _ _ _ _ c.loop-turns.invariant
@@ -597,7 +544,7 @@ simple-fast_value-k-requires t c = omega (arith, c.requires.1.lent.lent.room.wor
 
 pub simple-put_word-r-requires : goal.simple-put_word-r-requires
 simple-put_word-r-requires t c = record {
-  fixed_words_in_bounds = let b = c.words-1 in omega (arith, c.requires.1.lent.lent.room.words);
+  fixed_words_in_bounds = omega (arith, c.requires.1.lent.lent.room.words);
   fact = no_shape_lem _ _ _ _ _ _ _ _ c.fast_value-k.ensures c.requires.1.lent c.if-k-ne0.true;
 }
 
@@ -621,8 +568,7 @@ pub simple-expression-requires : goal.simple-expression-requires
 simple-expression-requires t c = (omega arith, slow_lent _ _ _ _ _ _ c.fast_value-k.ensures c.if-k-ne0.false c.requires.1.lent)
 
 pub simple-finish-requires : goal.simple-finish-requires
-simple-finish-requires t c = still_room _ _ _ _ _ c.requires.1.lent (let a0 = c.words-1 in
-    let a1 = c.words-2-1 in omega arith)
+simple-finish-requires t c = still_room _ _ _ _ _ c.requires.1.lent (omega arith)
 
 pub simple-returns-in-Onward : goal.simple-returns-in-Onward
 simple-returns-in-Onward t c = simple_done _ _ _ _ _ _ _ _ _ _ c.fast_value-k.ensures c.if-k-ne0.false _ _ _ c.expression.ensures _ _ _ _ _ _ _
@@ -670,20 +616,19 @@ statement-returns-then-not-count t c = statement_no_step _ _ _ _ _ _ _ c.if-fuel
     c.tag_of-tag.ensures c.if-tag-eq-WHILE.false _ _ c.count.ensures c.if-not-count.true-raw
 
 pub statement-declare-r-requires : goal.statement-declare-r-requires
-statement-declare-r-requires t c = let b = c.words-2-1 in
-    omega (arith, c.requires.1.lent.lent.room.words)
+statement-declare-r-requires t c = omega (arith, c.requires.1.lent.lent.room.words)
 
 pub statement-last_of-requires : goal.statement-last_of-requires
 statement-last_of-requires t c = omega (arith, c.requires.1.room)
 
 pub statement-update-r-requires : goal.statement-update-r-requires
-statement-update-r-requires t c = (omega arith, record { lent = still_lent_words _ _ _ _ c.requires.1.lent.lent (let a0 = c.words-2-1 in omega arith); deep = omega (arith, c.requires.1.lent.deep) })
+statement-update-r-requires t c = (omega arith, record { lent = still_lent_words _ _ _ _ c.requires.1.lent.lent (omega arith); deep = omega (arith, c.requires.1.lent.deep) })
 
 pub statement-overflow_add-x-in-35 : goal.statement-overflow_add-x-in-35
 statement-overflow_add-x-in-35 t c = omega (arith, c.requires.1.room, c.extra_of-in-35.ensures.1)
 
 pub statement-when-r-requires : goal.statement-when-r-requires
-statement-when-r-requires t c = (omega arith, record { lent = record { lent = still_lent_words _ _ _ _ c.requires.1.lent.lent (let a0 = c.words-2-1 in omega arith); deep = omega (arith, c.requires.1.lent.deep) }; room = omega (arith, c.requires.1.room, c.extra_of-in-35.ensures.1, c.if-fuel-eq0.false) })
+statement-when-r-requires t c = (omega arith, record { lent = record { lent = still_lent_words _ _ _ _ c.requires.1.lent.lent (omega arith); deep = omega (arith, c.requires.1.lent.deep) }; room = omega (arith, c.requires.1.room, c.extra_of-in-35.ensures.1, c.if-fuel-eq0.false) })
 
 pub statement-overflow_add-x-in-40 : goal.statement-overflow_add-x-in-40
 statement-overflow_add-x-in-40 t c = omega (arith, c.requires.1.room)
@@ -692,7 +637,7 @@ pub statement-overflow_add-x-in-40-2 : goal.statement-overflow_add-x-in-40-2
 statement-overflow_add-x-in-40-2 t c = omega (arith, c.requires.1.room, c.extra_of-in-40.ensures.1)
 
 pub statement-each-r-requires : goal.statement-each-r-requires
-statement-each-r-requires t c = (omega arith, record { lent = record { lent = still_lent_words _ _ _ _ c.requires.1.lent.lent (let a0 = c.words-2-1 in omega arith); deep = omega (arith, c.requires.1.lent.deep) }; room = omega (arith, c.requires.1.room, c.extra_of-in-40.ensures.1, c.if-fuel-eq0.false) })
+statement-each-r-requires t c = (omega arith, record { lent = record { lent = still_lent_words _ _ _ _ c.requires.1.lent.lent (omega arith); deep = omega (arith, c.requires.1.lent.deep) }; room = omega (arith, c.requires.1.room, c.extra_of-in-40.ensures.1, c.if-fuel-eq0.false) })
 
 pub statement-overflow_add-x-in-38 : goal.statement-overflow_add-x-in-38
 statement-overflow_add-x-in-38 t c = omega (arith, c.requires.1.room, c.size_of-n.ensures, c.if-fuel-eq0.false)
@@ -704,10 +649,10 @@ pub statement-overflow_add-n : goal.statement-overflow_add-n
 statement-overflow_add-n t c = omega (arith, c.requires.1.room, c.size_of-n.ensures, c.if-fuel-eq0.false)
 
 pub statement-statements-r-requires : goal.statement-statements-r-requires
-statement-statements-r-requires t c = (omega arith, record { lent = record { lent = still_lent_words _ _ _ _ c.requires.1.lent.lent (let a0 = c.words-2-1 in omega arith); deep = omega (arith, c.requires.1.lent.deep) }; room = omega (arith, c.requires.1.room, c.size_of-n.ensures, c.if-fuel-eq0.false) })
+statement-statements-r-requires t c = (omega arith, record { lent = record { lent = still_lent_words _ _ _ _ c.requires.1.lent.lent (omega arith); deep = omega (arith, c.requires.1.lent.deep) }; room = omega (arith, c.requires.1.room, c.size_of-n.ensures, c.if-fuel-eq0.false) })
 
 pub statement-simple-r-requires : goal.statement-simple-r-requires
-statement-simple-r-requires t c = (omega arith, record { lent = record { lent = still_lent_words _ _ _ _ c.requires.1.lent.lent (let a0 = c.words-2-1 in omega arith); deep = omega (arith, c.requires.1.lent.deep) }; room = omega (arith, c.requires.1.room) })
+statement-simple-r-requires t c = (omega arith, record { lent = record { lent = still_lent_words _ _ _ _ c.requires.1.lent.lent (omega arith); deep = omega (arith, c.requires.1.lent.deep) }; room = omega (arith, c.requires.1.room) })
 
 pub statement-returns-in-32 : goal.statement-returns-in-32
 statement-returns-in-32 t c = is_declaration _ _ _ _ _ _ _ c.if-fuel-eq0.false _
@@ -795,8 +740,7 @@ pub statements-loop-left-preserved : goal.statements-loop-left-preserved
 statements-loop-left-preserved t c = all_again _ _ _ _ _ _ _ _ _ _ _ _ _ c.loop-left.invariant
     c.loop-left-test.true
     c.if-end-at.false _ _ _
-    c.statement.ensures _ _ (let a0 = c.texts-1 in
-    omega arith) (let a0 = c.words-1 in omega arith) c.in-Onward.is c.word_at.ensures c.size_of-at.ensures
+    c.statement.ensures _ _ (omega arith) (omega arith) c.in-Onward.is c.word_at.ensures c.size_of-at.ensures
 
 pub statements-returns : goal.statements-returns
 statements-returns t c = all_short _ _ _ _ _ _ _ _ _ _ _ _ _ c.loop-left.invariant (omega arith)
@@ -828,24 +772,19 @@ pub update-expression-requires : goal.update-expression-requires
 update-expression-requires t c = (omega arith, c.requires.1)
 
 pub update-expression-requires-in-Table : goal.update-expression-requires-in-Table
-update-expression-requires-in-Table t c = (omega arith, still_lent _ _ _ _ _ (let a0 = c.texts-1 in omega arith) (let a0 = c.words-1 in omega arith) _ c.requires.1)
+update-expression-requires-in-Table t c = (omega arith, still_lent _ _ _ _ _ (omega arith) (omega arith) _ c.requires.1)
 
 pub update-expression-requires-in-Good-expression : goal.update-expression-requires-in-Good-expression
-update-expression-requires-in-Good-expression t c = (omega (arith, c.requires.0), still_lent _ _ _ _ _ (let a0 = c.texts-1 in let a1 = c.texts-in-Table-1 in omega arith) (let a0 = c.words-1 in let a1 = c.words-in-Table-1 in omega arith) _ c.requires.1)
+update-expression-requires-in-Good-expression t c = (omega (arith, c.requires.0), still_lent _ _ _ _ _ (omega arith) (omega arith) _ c.requires.1)
 
 pub update-store_entry-number-requires : goal.update-store_entry-number-requires
-update-store_entry-number-requires t c = still_room _ _ _ _ _ c.requires.1 (let a0 =
-    c.words-1 in
-    let a1 = c.words-in-Table-1 in
-    let a2 = c.words-in-Good-expression-1 in omega arith)
+update-store_entry-number-requires t c = still_room _ _ _ _ _ c.requires.1 (omega arith)
 
 pub update-shape_of-texts-then-number-ne0 : goal.update-shape_of-texts-then-number-ne0
-update-shape_of-texts-then-number-ne0 t c = let a = c.slice_known-1 in let b = c.texts-1 in
-    let d = c.texts-in-Table-1 in let e = c.texts-in-Good-expression-1 in search rules
+update-shape_of-texts-then-number-ne0 t c = search rules
 
 pub update-shape_of-words-then-number-ne0 : goal.update-shape_of-words-then-number-ne0
-update-shape_of-words-then-number-ne0 t c = let a = c.slice_known-2-1 in let b = c.words-1 in
-    let d = c.words-in-Table-1 in let e = c.words-in-Good-expression-1 in let f = c.words-in-Good-expression-2-1 in search rules
+update-shape_of-words-then-number-ne0 t c = search rules
 
 pub update-returns-then-number-ne0 : goal.update-returns-then-number-ne0
 update-returns-then-number-ne0 t c = update_refused _ _ _ _ _ _ _ _ _ _ _ _ c.word_at.ensures c.before-b.ensures.0 c.word_at-2.ensures c.before-a.ensures.0 _ _ _ c.expression.ensures _ _ c.in-Good.is
@@ -856,12 +795,10 @@ update-returns-then-number-ne0 t c = update_refused _ _ _ _ _ _ _ _ _ _ _ _ c.wo
     c.if-number-ne0.true
 
 pub update-shape_of-texts-else-number-ne0 : goal.update-shape_of-texts-else-number-ne0
-update-shape_of-texts-else-number-ne0 t c = let a = c.slice_known-1 in let b = c.texts-1 in
-    let d = c.texts-in-Table-1 in let e = c.texts-in-Good-expression-1 in search rules
+update-shape_of-texts-else-number-ne0 t c = search rules
 
 pub update-shape_of-words-else-number-ne0 : goal.update-shape_of-words-else-number-ne0
-update-shape_of-words-else-number-ne0 t c = let a = c.slice_known-2-1 in let b = c.words-1 in
-    let d = c.words-in-Table-1 in let e = c.words-in-Good-expression-1 in let f = c.words-in-Good-expression-2-1 in search rules
+update-shape_of-words-else-number-ne0 t c = search rules
 
 pub update-returns-else-number-ne0 : goal.update-returns-else-number-ne0
 update-returns-else-number-ne0 t c = update_done _ _ _ _ _ _ _ _ _ _ _ _ c.word_at.ensures c.before-b.ensures.0 c.word_at-2.ensures c.before-a.ensures.0 _ _ _ c.expression.ensures _ _ c.in-Good.is
@@ -872,14 +809,10 @@ update-returns-else-number-ne0 t c = update_done _ _ _ _ _ _ _ _ _ _ _ _ c.word_
     c.if-number-ne0.false
 
 pub update-shape_of-texts-in-Bad-expression-2 : goal.update-shape_of-texts-in-Bad-expression-2
-update-shape_of-texts-in-Bad-expression-2 t c = let a = c.slice_known-1 in
-    let b = c.texts-1 in
-    let d = c.texts-in-Table-1 in
-    let e = c.texts-in-Good-expression-1 in search rules
+update-shape_of-texts-in-Bad-expression-2 t c = search rules
 
 pub update-shape_of-words-in-Bad-expression-2 : goal.update-shape_of-words-in-Bad-expression-2
-update-shape_of-words-in-Bad-expression-2 t c = let a = c.slice_known-2-1 in
-    let b = c.words-1 in let d = c.words-in-Table-1 in let e = c.words-in-Good-expression-1 in search rules
+update-shape_of-words-in-Bad-expression-2 t c = search rules
 
 pub update-returns-in-Bad-expression-2 : goal.update-returns-in-Bad-expression-2
 update-returns-in-Bad-expression-2 t c = value_stops _ _ _ _ _ _ _ _ _ _ _ _ c.word_at.ensures
@@ -903,7 +836,7 @@ update-returns-in_default t c = table_other _ _ _ _ _ _ _ _ _ _ _ _ c.word_at.en
     c.before-b.ensures.0
     c.word_at-2.ensures
     c.before-a.ensures.0 _ _ _
-    c.expression.ensures _ c.in-Good.is c.in_default.in_default-own.keys2
+    c.expression.ensures _ c.in-Good.is c.in_default.not-Table
 
 pub update-returns-in-Bad : goal.update-returns-in-Bad
 update-returns-in-Bad t c = table_stops _ _ _ _ _ _ _ _ _ _ _ _ c.word_at.ensures
@@ -919,7 +852,7 @@ pub when-overflow_add-y : goal.when-overflow_add-y
 when-overflow_add-y t c = omega (arith, c.requires.1.room)
 
 pub when-statement-requires : goal.when-statement-requires
-when-statement-requires t c = (omega arith, still_runs _ _ _ _ _ (let a0 = c.texts-1 in omega arith) (let a0 = c.words-1 in omega arith) _ _ c.requires.1)
+when-statement-requires t c = (omega arith, still_runs _ _ _ _ _ (omega arith) (omega arith) _ _ c.requires.1)
 
 pub when-returns-in-Onward : goal.when-returns-in-Onward
 when-returns-in-Onward t c = when_holds _ _ _ _ _ _ _ _ _ _ c.test.ensures _ _

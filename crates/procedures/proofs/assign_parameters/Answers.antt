@@ -26,7 +26,7 @@ pub loop-k-smaller : goal.loop-k-smaller
 loop-k-smaller c = omega arith
 
 pub loop-k-preserved : goal.loop-k-preserved
-loop-k-preserved c = search assign_next
+loop-k-preserved c = search (assign_next, c.in_default.not-Stopped)
 
 pub returns : goal.returns
 returns c = search all_assigned

@@ -13,7 +13,7 @@ pub returns-in-Stopped : goal.returns-in-Stopped
 returns-in-Stopped c = not_entered _ _ _ _ _ _ c.ranges.width c.ranges.height _ _ c.start_of-a.ensures.0 c.frame_of.ensures.0 _ _ _ _ c.enter.ensures _ _ c.in-Stopped.is
 
 pub body-requires : goal.body-requires
-body-requires c = body_starts _ _ _ _ _ _ c.requires (let a = c.words-1 in omega arith) c.start_of-a.ensures.1 (omega (arith, c.body_of.ensures.1))
+body-requires c = body_starts _ _ _ _ _ _ c.requires (omega arith) c.start_of-a.ensures.1 (omega (arith, c.body_of.ensures.1))
 
 pub returns-in-Onward : goal.returns-in-Onward
 returns-in-Onward c = body_onward _ _ _ _ _ _ c.ranges.width c.ranges.height _ _ c.start_of-a.ensures.0 c.frame_of.ensures.0 _ _ _ _ c.enter.ensures c.in-Complete.is _ c.body_of.ensures.0 _ _ _ c.body.ensures c.in-Onward.is

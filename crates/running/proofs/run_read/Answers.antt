@@ -18,4 +18,4 @@ pub returns-in-Malformed : goal.returns-in-Malformed
 returns-in-Malformed c = search way_malformed
 
 pub returns-else-parameters_of-ne2 : goal.returns-else-parameters_of-ne2
-returns-else-parameters_of-ne2 c = way_main _ _ _ _ _ _ _ c.requires _ _ _ c.read.ensures.0 _ _ _ c.in-Formed.is _ c.parameters_of.ensures.0 _ c.read.ensures.1 c.if-parameters_of-ne2.false (let a = c.tokens-1 in omega arith) _ _ _ c.number-main.ensures c.ranges.width c.ranges.height _ _ _ c.run_main-r.ensures
+returns-else-parameters_of-ne2 c = way_main _ _ _ _ _ _ _ c.requires _ _ _ c.read.ensures.0 _ _ _ c.in-Formed.is _ c.parameters_of.ensures.0 _ c.read.ensures.1 c.if-parameters_of-ne2.false (omega arith) _ _ _ c.number-main.ensures c.ranges.width c.ranges.height _ _ _ c.run_main-r.ensures

@@ -5,7 +5,7 @@ use mathlib.Core.Path.{refl}
 use Rattle.imgdraw.proofs.draw.draw_program.Goals as goal
 
 pub put_answer-requires : goal.put_answer-requires
-put_answer-requires c = let a = c.out-1 in omega (arith, c.requires)
+put_answer-requires c = omega (arith, c.requires)
 
 pub returns : goal.returns
 returns c = program_drawn _ (replicate 8193 0) (replicate 16384 0) (replicate 338192 0) (replicate 16384 0) _ _ _
