@@ -12,7 +12,7 @@ use Rattle.meaning.specs.Grammar.{Got, good, after}
 use Rattle.machine.specs.Opcodes.{word}
 use Rattle.expressions.specs.declared.Read.{Read}
 use Rattle.expressions.specs.declared.Read.TheVariants.{At, Wrong}
-use Rattle.expressions.specs.Words.{kind_at, is, Piece, piece, expect, argument_code, arguments_from, arguments, expression, at, seen, written, written_code}
+use Rattle.expressions.specs.Words.{kind_at, is, Piece, expect, argument_code, arguments_from, arguments, expression, at, seen, written, written_code}
 use Rattle.expressions.specs.Room.{Room}
 use Rattle.expressions.proofs.Paid.{expression_paid}
 use Rattle.expressions.proofs.Answers.{take_put_before, Wrote, wrote, erred, same_after, shifted}

@@ -8,7 +8,7 @@ use Rattle.meaning.specs.Basics.{if◌then◌else◌}
 use Rattle.meaning.specs.Grammar.{Got, wrong, after, no_level, opening}
 use Rattle.expressions.specs.declared.Read.{Read}
 use Rattle.expressions.specs.declared.Read.TheVariants.{At, Wrong}
-use Rattle.expressions.specs.Words.{kind_at, home_at, callee_at, part_at, operator_tag, Piece, piece, leaf, arguments, primary, operand, operated, expression_in, expression, inside_of, at}
+use Rattle.expressions.specs.Words.{kind_at, home_at, callee_at, part_at, operator_tag, Piece, leaf, arguments, primary, operand, operated, expression_in, expression, inside_of}
 use Rattle.expressions.specs.Words.{seen, written, written_code}
 use Rattle.expressions.specs.Steps.{closed, finished, combined}
 use Rattle.expressions.proofs.Paid.{expression_levels, inside_levels}

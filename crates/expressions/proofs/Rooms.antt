@@ -10,7 +10,7 @@ use Rattle.meaning.specs.Basics.{if◌then◌else◌}
 use Rattle.meaning.specs.Grammar.{Got, good}
 use Rattle.expressions.specs.declared.Read.{Read}
 use Rattle.expressions.specs.declared.Read.TheVariants.{At, Wrong}
-use Rattle.expressions.specs.Words.{kind_at, is, operator_tag, Piece, piece, arguments, primary, operand, expression, inside_of, seen, written, written_code}
+use Rattle.expressions.specs.Words.{kind_at, is, operator_tag, Piece, arguments, primary, operand, expression, inside_of, seen, written, written_code}
 use Rattle.expressions.specs.Room.{Room, Spot, Spare}
 use Rattle.expressions.specs.Steps.{closed}
 use Rattle.expressions.proofs.Tokens.{token_inside, operator_small}

@@ -7,7 +7,7 @@ use mathlib.Core.Bool.{true}
 use mathlib.Core.List.{List, [], ◌∷◌, ◌++◌, map}
 use lib.ListN.{length, get_or, take, drop}
 use lib.Seq.{drop-drop}
-use Rattle.meaning.specs.Basics.{bytes, if◌then◌else◌}
+use Rattle.meaning.specs.Basics.{bytes}
 use Rattle.meaning.specs.Byte.{is_name_part}
 use Rattle.meaning.specs.Token.{Token, a_name, a_string, found, front, lexed, tokens_of}
 use Rattle.meaning.specs.Grammar.{after_last, kind_at, start_at}

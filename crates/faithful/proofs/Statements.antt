@@ -9,7 +9,6 @@ use Rattle.meaning.specs.Basics.{bytes, if◌then◌else◌}
 use Rattle.meaning.specs.Token.{Token, a_name}
 use Rattle.meaning.specs.Tree.{Expression, Statement, declare, assign, update, when, while, foreach, return, block, act, Statements, only, first}
 use Rattle.canonical.specs.Text.{expression_text, statement_text, statements_text}
-use Rattle.canonical.specs.Text as Text
 use Rattle.machine.specs.Opcodes.{word, tag_in, size_in, extra_in, size_at, tag_declare, tag_assign, tag_update, tag_when, tag_while, tag_foreach, tag_return, tag_block, tag_act}
 use Rattle.code.specs.Code.{slot_of, headed, code_of, code_of_statement, code_of_statements, statement_with, statements_with}
 use Rattle.reader.specs.Sane.{Sane}

@@ -13,7 +13,7 @@ use Rattle.meaning.specs.Tree.{Operator, concatenate, add, subtract, multiply, d
 use Rattle.meaning.specs.Grammar.{kind_at, expect, operator_of, Inside, ReadExpression, arguments_from, arguments, primary, operand, operated, expression_in, expression}
 use Rattle.names.specs.Prepared.{prepared}
 use Rattle.machine.specs.Opcodes.{word, tag_number, tag_string, tag_name, tag_of}
-use Rattle.code.specs.Code.{code_of, code_of_all, arguments_with, code_with}
+use Rattle.code.specs.Code.{code_of_all, arguments_with, code_with}
 use Rattle.expressions.specs.Words as Words
 use Rattle.reader.specs.Coded.{words_of, map_got, target_number, piece_of, inside_of}
 use Rattle.reader.specs.Sane.{Sane}

@@ -14,7 +14,7 @@ use Rattle.meaning.specs.Tree.{Program}
 use Rattle.canonical.specs.Bare.{bare_program}
 use Rattle.canonical.specs.Text.{procedures_text, program_text}
 use Rattle.roundtrip.specs.Claims.{Reads}
-use Rattle.roundtrip.proofs.Words.{tokens, procedures_words}
+use Rattle.roundtrip.proofs.Words.{procedures_words}
 use Rattle.roundtrip.proofs.Sound.{SoundProcedures}
 use Rattle.roundtrip.proofs.Lexes.{Spell, prepend_all}
 use Rattle.roundtrip.proofs.LexesTree.{lexes_procedures}

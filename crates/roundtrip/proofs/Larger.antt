@@ -1,7 +1,7 @@
 -- More memory changes no text: grants make no difference to what is read, and an out slice that is no shorter holds what the other holds.
 use Prim.Native.Nat.{ℕ, ◌≤◌}
 use native.Mathlib.Omega.{arith}
-use mathlib.Core.Path.{◌≡◌, refl, ap, sym, ◌∙◌}
+use mathlib.Core.Path.{◌≡◌, refl, sym, ◌∙◌}
 use mathlib.Core.Logic.{◌≢◌}
 use mathlib.Core.Bool.{Bool, true, false, ◌&&◌}
 use mathlib.Core.List.{List, []}
@@ -9,7 +9,7 @@ use mathlib.Core.Option.{Option, none, some}
 use lib.ListN.{length, take}
 use lib.Dec.{leb, ltb}
 use borrow.Author.Tests.{le-leb, leb-true}
-use Rattle.meaning.specs.Basics.{if◌then◌else◌, laid_over}
+use Rattle.meaning.specs.Basics.{if◌then◌else◌}
 use Rattle.meaning.specs.Tree.{Program}
 use Rattle.meaning.specs.Grammar.{Reading, well_formed, malformed, reading}
 use Rattle.meaning.specs.Procedure.{doubled}

@@ -11,7 +11,7 @@ use borrow.Author.Tests.{eqb-true, ltb-true, ltb-false}
 use Rattle.meaning.specs.Basics.{bytes}
 use Rattle.meaning.specs.Token.{Token, a_name, word_do, close_brace}
 use Rattle.meaning.specs.Grammar.{Got, is, after_last, kind_at, text_at, start_at, Inside, no_level, level, expression, ReadStatement, Readers, declaration, returning, target_of, assignment, simple}
-use Rattle.meaning.specs.Grammar.{guarded, iteration, statements_from, statements, statement_in, statement, parameters_from, parameters, procedure, procedures_from, procedure_named, with_main, procedures}
+use Rattle.meaning.specs.Grammar.{guarded, iteration, statements_from, statement_in, statement, parameters_from, parameters, procedure, procedures_from, procedure_named, with_main, procedures}
 use Rattle.meaning.specs.Tree.{Expression, number, string, nothing, truth, name, table, entry, operation, call, paren, Statement, when, while, Statements, Procedure, Program}
 use Rattle.roundtrip.proofs.Words.{tokens, sign, a_word, joined, enclosed_words, words, levels_in, levels, statement_words}
 use Rattle.roundtrip.proofs.Words.{statements_words, statement_levels, statements_levels, name_words, procedure_words, procedures_words}

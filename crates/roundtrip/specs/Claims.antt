@@ -1,7 +1,7 @@
 -- What is claimed of the text of a program. m and n are the trees of the programs p and q.
 use Rattle.std.specs.Prelude.{ℕ, ◌≤◌, ◌≡◌, ◌≢◌, true, List, ◌++◌, length, take}
 use Rattle.meaning.specs.Basics.{bytes}
-use Rattle.meaning.specs.Token.{Token, Lexed, lexed, stray, tokens_of}
+use Rattle.meaning.specs.Token.{Lexed, lexed, stray, tokens_of}
 use Rattle.meaning.specs.Tree.{Program}
 use Rattle.meaning.specs.Grammar.{well_formed, reading}
 use Rattle.meaning.specs.Program.{checking}

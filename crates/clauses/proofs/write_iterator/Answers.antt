@@ -5,8 +5,8 @@ use Rattle.clauses.proofs.write_iterator.Goals as goal
 
 pub returns-then-ends_word : goal.returns-then-ends_word
 returns-then-ends_word c =
-        search iterator_spaced
+    search iterator_spaced
 
 pub returns : goal.returns
 returns c =
-        search iterator_closed
+    search iterator_closed

@@ -1,6 +1,5 @@
 -- `definitions::parse` meets its contract: the invariant has what was gathered, the measure is the tokens left.
 -- Assumes nothing.
-use Prim.Native.Nat.{◌-◌}
 use mathlib.Core.Path.{◌∙◌}
 use native.Mathlib.Omega.{arith}
 use Rattle.definitions.proofs.Gathering.{gathering_starts, gathering_fails, turned, gathering_ends, gathering_on}

@@ -1,6 +1,5 @@
 -- `definitions::read_parameters` meets its contract: the measure is the tokens left.
 -- Assumes nothing.
-use Prim.Native.Nat.{◌-◌}
 use mathlib.Core.Path.{◌∙◌, sym}
 use native.Mathlib.Omega.{arith}
 use Rattle.expressions.proofs.Tokens.{token_inside}

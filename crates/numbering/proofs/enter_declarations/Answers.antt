@@ -1,4 +1,3 @@
-use Prim.Native.Nat.{◌-◌}
 use Rattle.numbering.proofs.Turns.{declare_none, declare_more, declare_done}
 use Rattle.numbering.proofs.enter_declarations.Goals as goal
 

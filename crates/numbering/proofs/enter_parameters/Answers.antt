@@ -1,4 +1,3 @@
-use Prim.Native.Nat.{◌-◌}
 use Rattle.numbering.proofs.Turns.{enter_none, enter_more, enter_done}
 use Rattle.numbering.proofs.enter_parameters.Goals as goal
 

@@ -1,4 +1,3 @@
-use Prim.Native.Nat.{◌-◌}
 use Rattle.numbering.proofs.Turns.{number_none, number_more, number_done}
 use Rattle.numbering.proofs.number.Goals as goal
 

@@ -1,4 +1,3 @@
-use Prim.Native.Nat.{◌-◌}
 use Rattle.numbering.proofs.Turns.{renumber_none, renumber_more, renumber_all}
 use Rattle.numbering.proofs.renumber.Goals as goal
 

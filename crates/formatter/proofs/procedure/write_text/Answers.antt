@@ -1,7 +1,6 @@
 -- `formatter::procedure::write_text` meets its contract: by the invariant the procedures of the tokens so far are written.
 -- Assumes nothing.
 use native.Mathlib.Omega.{arith}
-use Prim.Native.Nat.{◌-◌}
 use Rattle.formatter.proofs.Procedures.{text_first, text_next, text_end}
 use Rattle.formatter.proofs.procedure.write_text.Goals as goal
 

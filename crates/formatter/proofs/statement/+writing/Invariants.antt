@@ -1,4 +1,4 @@
-use Rattle.std.specs.Prelude.{◌+◌, ◌-◌, ◌*◌}
+use Rattle.std.specs.Prelude.{◌+◌, ◌*◌}
 use Rattle.formatter.proofs.Statements.{Following}
 use Rattle.formatter.proofs.statement.+writing.Given as goal
 

@@ -2,7 +2,6 @@
 -- Assumes nothing.
 use native.Mathlib.Omega.{arith}
 use Rattle.spellings.proofs.Names.{names_first, names_next, names_end}
-use Prim.Native.Nat.{◌-◌}
 use Rattle.spellings.proofs.listing.write_names.Goals as goal
 
 pub loop-i-init : goal.loop-i-init
