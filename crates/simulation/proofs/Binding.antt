@@ -37,6 +37,8 @@ module _ (granted total : Amounts) where
   go (done a r) us (result c s) k k' (gives total' b h) f = record { is = after_fit us b (f a c r s total' h).is }
   go (stop n p r) us (result c s) k k' (lacks t total' b x y z) f = record { is = lacks t total' (after_lack us _ t total' b) x y z }
   go (stop n p r) us (error m q) k k' (lacks t total' b x y z) f = record { is = lacks t total' b x y z }
+  go (done a r) us (error m q) k k' x f = elim x [ ]
+  go (done a r) us unfinished k k' x f = elim x [ ]
   go (stop n p r) us unfinished k k' (lacks t total' b x y z) f = record { is = lacks t total' b x y z }
   go (stop n p r) us (error m q) k k' (fails total' b z) f = record { is = fails total' b z }
 
@@ -62,6 +64,8 @@ module _ {granted total : Amounts} where
       → Together granted total R o us e → Follows granted total P o (Run.go_on us e (λ b. Run.give (f b)))
   unfolding Run.go_on Run.give
   give_together f (done a r) us (result b s) k (gives total' q h) = record { is = gives {us = us ++ []} total' (ap (book granted total) (append-nil us) ∙ q) (k a b r s total' h) }
+  give_together f (done a r) us (error m i) k x = elim x [ ]
+  give_together f (done a r) us unfinished k x = elim x [ ]
   give_together f (stop n p r) us (result b s) k (lacks t total' q x y z) = record { is = lacks {us = us ++ []} t total' (ap (book granted total) (append-nil us) ∙ q) x y z }
   give_together f (stop n p r) us (error m i) k (lacks t total' q x y z) = record { is = lacks t total' q x y z }
   give_together f (stop n p r) us unfinished k (lacks t total' q x y z) = record { is = lacks t total' q x y z }
@@ -77,6 +81,8 @@ module _ {granted total : Amounts} where
       → Together granted total R o us e → Together granted total P (Act.go_on o k) us e
   unfolding Act.go_on
   act_together k (done a r) us (result b s) f (gives total' q h) = let w = f a b r s total' h in rw w.is (gives total' q w.holds)
+  act_together k (done a r) us (error m i) f x = elim x [ ]
+  act_together k (done a r) us unfinished f x = elim x [ ]
   act_together k (stop n p r) us e f (lacks t total' q x y z) = lacks t total' q x y z
   act_together k (stop n p r) us (error m i) f (fails total' q z) = fails total' q z
 

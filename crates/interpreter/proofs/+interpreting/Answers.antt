@@ -18,41 +18,42 @@ use Rattle.interpreter.proofs.StatementLaws.{worked_anew, evaluated_anew}
 use Rattle.interpreter.proofs.LoopLaws.{bound_to, member_passed, member_no_step, member_figure, member_group, turns_first}
 use Rattle.interpreter.proofs.LoopLaws.{turns_short, turns_done, turn_fails, turn_returns, turn_again, looked_in}
 use Rattle.interpreter.proofs.LoopLaws.{owning_first, owning_ends, owning_fails, owning_returns, owning_again, entered_loop, each_stops, each_other, each_refused, each_runs}
+use Rattle.interpreter.proofs.ExpressionLaws as laws
 use Rattle.interpreter.proofs.+interpreting.Goals as goal
 
 pub argument-argument_value-w-requires : goal.argument-argument_value-w-requires
-argument-argument_value-w-requires t c = omega (arith, c.requires.1.lent.room.words)
+argument-argument_value-w-requires t c = omega (arith, c.requires.lent.room.words)
 
 pub argument-returns-then-w-ne0 : goal.argument-returns-then-w-ne0
 argument-returns-then-w-ne0 t c = push_fast _ _ _ _ _ _ _ _ _ _ c.argument_value-w.ensures _ _
-    c.requires.1.lent c.if-w-ne0.true
+    c.requires.lent c.if-w-ne0.true
     c.push_word-r.ensures
 
 pub argument-pushed-r-requires : goal.argument-pushed-r-requires
-argument-pushed-r-requires t c = (omega arith, slow_lent _ _ _ _ _ _ c.argument_value-w.ensures c.if-w-ne0.false c.requires.1)
+argument-pushed-r-requires t c = (omega arith, slow_lent _ _ _ _ _ _ c.argument_value-w.ensures c.if-w-ne0.false c.requires)
 
 pub argument-returns : goal.argument-returns
 argument-returns t c = search push_slow
 
 pub bound-set_variable-requires : goal.bound-set_variable-requires
-bound-set_variable-requires t c = omega (arith, c.requires.1.lent.lent.room.words)
+bound-set_variable-requires t c = omega (arith, c.requires.lent.lent.room.words)
 
 pub bound-statement-r-requires : goal.bound-statement-r-requires
-bound-statement-r-requires t c = (omega arith, still_runs _ _ _ _ _ refl (omega arith) _ _ c.requires.1)
+bound-statement-r-requires t c = (omega arith, still_runs _ _ _ _ _ refl (omega arith) _ _ c.requires)
 
 pub bound-returns : goal.bound-returns
 bound-returns t c = bound_to _ _ _ _ _ _ _ _ c.pack.ensures
     c.set_variable.ensures c.statement-r.ensures
 
 pub call-arguments_held-base-requires : goal.call-arguments_held-base-requires
-call-arguments_held-base-requires t c = omega (arith, c.requires.1.lent.room.words)
+call-arguments_held-base-requires t c = omega (arith, c.requires.lent.room.words)
 
 pub call-loop-y-init : goal.call-loop-y-init
-call-loop-y-init t c = push_first _ _ _ _ _ _ _ _ _ _ _ _ 0 _ c.requires.1.lent
+call-loop-y-init t c = push_first _ _ _ _ _ _ _ _ _ _ _ _ 0 _ c.requires.lent
     c.arguments_held-base.ensures c.first_argument-a.ensures c.word_at.ensures c.argument_root-y.ensures
 
 pub call-argument-requires : goal.call-argument-requires
-call-argument-requires t c = (omega arith, record { lent = c.loop-y.invariant.lent; deep = c.requires.1.deep })
+call-argument-requires t c = (omega arith, record { lent = c.loop-y.invariant.lent; deep = c.requires.deep })
 
 pub call-returns-in-Bad : goal.call-returns-in-Bad
 call-returns-in-Bad t c = search push_fails
@@ -66,7 +67,7 @@ call-loop-y-preserved t c = push_next _ _ _ _ _ _ _ _ _ _ _ _ _ c.loop-y.invaria
     c.argument.ensures _ _ _ (omega arith) (omega arith) c.in-Good.is c.word_at-in-loop-y.ensures c.argument_root-y-in-loop-y.ensures
 
 pub call-invoke-r-requires : goal.call-invoke-r-requires
-call-invoke-r-requires t c = (omega arith, record { lent = record { lent = c.loop-y.invariant.lent; deep = c.requires.1.deep }; small = c.callee_of.ensures.1 })
+call-invoke-r-requires t c = (omega arith, record { lent = record { lent = c.loop-y.invariant.lent; deep = c.requires.deep }; small = c.callee_of.ensures.1 })
 
 pub call-called-r-requires : goal.call-called-r-requires
 call-called-r-requires t c = c.loop-y.invariant.lent.room
@@ -78,20 +79,20 @@ pub call-returns-else-number-eq-OTHER : goal.call-returns-else-number-eq-OTHER
 call-returns-else-number-eq-OTHER t c = search library_called
 
 pub each-expression-requires : goal.each-expression-requires
-each-expression-requires t c = (omega arith, c.requires.1.lent)
+each-expression-requires t c = (omega arith, c.requires.lent)
 
 pub each-open_loop-number-requires : goal.each-open_loop-number-requires
-each-open_loop-number-requires t c = omega (arith, c.requires.1.lent.lent.room.words)
+each-open_loop-number-requires t c = omega (arith, c.requires.lent.lent.room.words)
 
 pub each-returns-then-number-ne0 : goal.each-returns-then-number-ne0
 each-returns-then-number-ne0 t c = each_refused _ _ _ _ _ _ _ _ _ _ _ c.expression.ensures _ c.in-Good.is _ c.in-Shape.is _ _
     c.open_loop-number.ensures c.if-number-ne0.true
 
 pub each-overflow_add-y : goal.each-overflow_add-y
-each-overflow_add-y t c = omega (arith, c.requires.1.room)
+each-overflow_add-y t c = omega (arith, c.requires.room)
 
 pub each-own-r-requires : goal.each-own-r-requires
-each-own-r-requires t c = (omega arith, still_runs _ _ _ _ _ (omega arith) (omega arith) _ _ c.requires.1)
+each-own-r-requires t c = (omega arith, still_runs _ _ _ _ _ (omega arith) (omega arith) _ _ c.requires)
 
 pub each-returns-else-number-ne0 : goal.each-returns-else-number-ne0
 each-returns-else-number-ne0 t c = each_runs _ _ _ _ _ _ _ _ _ _ _ c.expression.ensures _ c.in-Good.is _ c.in-Shape.is _ _
@@ -108,7 +109,7 @@ pub expression-returns-then-fuel-eq0 : goal.expression-returns-then-fuel-eq0
 expression-returns-then-fuel-eq0 t c = search too_deep
 
 pub expression-count-requires : goal.expression-count-requires
-expression-count-requires t c = omega (arith, c.requires.1.lent.room.words)
+expression-count-requires t c = omega (arith, c.requires.lent.room.words)
 
 pub expression-returns-then-not-count : goal.expression-returns-then-not-count
 expression-returns-then-not-count t c = search no_step
@@ -117,7 +118,7 @@ pub expression-returns-then-tag-lt-TABLE : goal.expression-returns-then-tag-lt-T
 expression-returns-then-tag-lt-TABLE t c = search is_leaf
 
 pub expression-call-requires : goal.expression-call-requires
-expression-call-requires t c = (omega arith, record { lent = still_lent_words _ _ _ _ c.requires.1.lent (omega arith); deep = omega (arith, c.requires.1.deep) })
+expression-call-requires t c = (omega arith, record { lent = still_lent_words _ _ _ _ c.requires.lent (omega arith); deep = omega (arith, c.requires.deep) })
 
 pub expression-returns-in-Good : goal.expression-returns-in-Good
 expression-returns-in-Good t c = is_call _ _ _ _ _ _ _ _ _ _ c.if-fuel-eq0.false c.count.ensures c.if-not-count.false-raw _
@@ -134,7 +135,7 @@ expression-returns-in-Bad t c = is_call _ _ _ _ _ _ _ _ _ _ c.if-fuel-eq0.false 
     c.if-tag-eq-CALL.true c.call.ensures c.in-Bad.is
 
 pub expression-operands-requires : goal.expression-operands-requires
-expression-operands-requires t c = (omega arith, record { lent = still_lent_words _ _ _ _ c.requires.1.lent (omega arith); deep = omega (arith, c.requires.1.deep) })
+expression-operands-requires t c = (omega arith, record { lent = still_lent_words _ _ _ _ c.requires.lent (omega arith); deep = omega (arith, c.requires.deep) })
 
 pub expression-returns-in-Good-operands : goal.expression-returns-in-Good-operands
 expression-returns-in-Good-operands t c = has_operands _ _ _ _ _ _ _ _ _ _ c.if-fuel-eq0.false c.count.ensures c.if-not-count.false-raw _
@@ -153,13 +154,13 @@ expression-returns-in-Bad-operands t c = has_operands _ _ _ _ _ _ _ _ _ _ c.if-f
     c.in-Bad-operands.is
 
 pub inside-look_in-found-requires : goal.inside-look_in-found-requires
-inside-look_in-found-requires t c = c.requires.1.lent.lent.room
+inside-look_in-found-requires t c = c.requires.lent.lent.room
 
 pub inside-overflow_add-turns : goal.inside-overflow_add-turns
-inside-overflow_add-turns t c = omega (arith, c.requires.1.lent.lent.room.steps)
+inside-overflow_add-turns t c = omega (arith, c.requires.lent.lent.room.steps)
 
 pub inside-loop-turns-init : goal.inside-loop-turns-init
-inside-loop-turns-init t c = turns_first _ _ _ _ _ _ _ _ _ _ _ (still_runs _ _ _ _ _ refl (omega arith) _ _ c.requires.1)
+inside-loop-turns-init t c = turns_first _ _ _ _ _ _ _ _ _ _ _ (still_runs _ _ _ _ _ refl (omega arith) _ _ c.requires)
 
 pub inside-returns-then-found-eq0 : goal.inside-returns-then-found-eq0
 inside-returns-then-found-eq0 t c = looked_in _ _ _ _ _ _ _ _ _ _ _ c.look_in-found.ensures
@@ -213,12 +214,12 @@ pub inside-returns : goal.inside-returns
 inside-returns t c = looked_in _ _ _ _ _ _ _ _ _ _ _ c.look_in-found.ensures (turns_short _ _ _ _ _ _ _ _ _ _ _ _ _ _ _ c.loop-turns.invariant (omega arith))
 
 pub invoke-arguments_held-top-requires : goal.invoke-arguments_held-top-requires
-invoke-arguments_held-top-requires t c = omega (arith, c.requires.1.lent.lent.room.words)
+invoke-arguments_held-top-requires t c = omega (arith, c.requires.lent.lent.room.words)
 
 pub invoke-begin-requires : goal.invoke-begin-requires
 invoke-begin-requires t c = record {
-  room = c.requires.1.lent.lent.room;
-  small = c.requires.1.small;
+  room = c.requires.lent.lent.room;
+  small = c.requires.small;
 }
 
 pub invoke-returns-in-Bad : goal.invoke-returns-in-Bad
@@ -238,12 +239,12 @@ invoke-procedure-requires t c = (
   omega arith,
   record {
     lent = record {
-      lent = still_lent_words _ _ _ _ c.requires.1.lent.lent (omega arith);
-      deep = c.requires.1.lent.deep;
+      lent = still_lent_words _ _ _ _ c.requires.lent.lent (omega arith);
+      deep = c.requires.lent.deep;
     };
     room = omega (
       arith,
-      c.requires.1.lent.deep,
+      c.requires.lent.deep,
       c.start_of.ensures.1,
       c.parameters_of.ensures.1,
       c.body_of-size.ensures.1,
@@ -254,7 +255,7 @@ invoke-procedure-requires t c = (
 pub invoke-resume-requires : goal.invoke-resume-requires
 invoke-resume-requires t c = omega (
   arith,
-  c.requires.1.lent.lent.room.words,
+  c.requires.lent.lent.room.words,
 )
 
 pub invoke-returns-in-Good-procedure : goal.invoke-returns-in-Good-procedure
@@ -264,39 +265,39 @@ pub invoke-returns-in-Bad-procedure : goal.invoke-returns-in-Bad-procedure
 invoke-returns-in-Bad-procedure t c = body_stops _ _ _ _ _ _ _ _ _ _ c.arguments_held-top.ensures _ _ c.begin.ensures _ c.in-Good.is _ _ _ _ _ _ c.table_place.ensures c.word_at-d.ensures c.start_of.ensures.0 c.parameters_of.ensures.0 refl c.body_of-size.ensures.0 _ _ _ c.procedure.ensures _ _ c.in-Bad-procedure.is
 
 pub leave-returns-then-fuel-eq0 : goal.leave-returns-then-fuel-eq0
-leave-returns-then-fuel-eq0 t c = leave_too_deep _ _ _ _ _ _ _ _ c.requires.1 c.if-fuel-eq0.true
+leave-returns-then-fuel-eq0 t c = leave_too_deep _ _ _ _ _ _ _ _ c.requires c.if-fuel-eq0.true
 
 pub leave-count-requires : goal.leave-count-requires
-leave-count-requires t c = omega (arith, c.requires.1.runs.lent.lent.room.words)
+leave-count-requires t c = omega (arith, c.requires.runs.lent.lent.room.words)
 
 pub leave-returns-then-not-count : goal.leave-returns-then-not-count
-leave-returns-then-not-count t c = leave_no_step _ _ _ _ _ _ _ _ c.requires.1
+leave-returns-then-not-count t c = leave_no_step _ _ _ _ _ _ _ _ c.requires
     c.if-fuel-eq0.false _ c.place_of-p.ensures _ _ c.count.ensures c.if-not-count.true-raw
 
 pub leave-last_of-y-requires : goal.leave-last_of-y-requires
-leave-last_of-y-requires t c = omega (arith, c.requires.1.runs.room)
+leave-last_of-y-requires t c = omega (arith, c.requires.runs.room)
 
 pub leave-fast_value-k-requires : goal.leave-fast_value-k-requires
-leave-fast_value-k-requires t c = omega (arith, c.requires.1.runs.lent.lent.room.words)
+leave-fast_value-k-requires t c = omega (arith, c.requires.runs.lent.lent.room.words)
 
 pub leave-returns-then-k-ne0 : goal.leave-returns-then-k-ne0
-leave-returns-then-k-ne0 t c = leave_fast _ _ _ _ _ _ _ _ c.requires.1 c.if-fuel-eq0.false _
+leave-returns-then-k-ne0 t c = leave_fast _ _ _ _ _ _ _ _ c.requires c.if-fuel-eq0.false _
     c.place_of-p.ensures _ _
     c.count.ensures c.if-not-count.false-raw _ _
     c.last_of-y.ensures.0 _ c.fast_value-k.ensures _ (omega arith) c.if-k-ne0.true c.unpack.ensures
 
 pub leave-expression-requires : goal.leave-expression-requires
-leave-expression-requires t c = (omega arith, slow_lent _ _ _ _ _ _ c.fast_value-k.ensures c.if-k-ne0.false (still_lent _ _ _ _ _ refl (omega arith) _ (deeper_lent _ _ _ _ c.requires.1.runs.lent)))
+leave-expression-requires t c = (omega arith, slow_lent _ _ _ _ _ _ c.fast_value-k.ensures c.if-k-ne0.false (still_lent _ _ _ _ _ refl (omega arith) _ (deeper_lent _ _ _ _ c.requires.runs.lent)))
 
 pub leave-returns-in-Good : goal.leave-returns-in-Good
-leave-returns-in-Good t c = leave_done _ _ _ _ _ _ _ _ c.requires.1
+leave-returns-in-Good t c = leave_done _ _ _ _ _ _ _ _ c.requires
     c.if-fuel-eq0.false _ c.place_of-p.ensures _ _ c.count.ensures c.if-not-count.false-raw _ _ c.last_of-y.ensures.0 _
     c.fast_value-k.ensures
     c.if-k-ne0.false _ _ _
     c.expression.ensures _ _ _ c.in-Good.is c.pack.ensures c.unpack-in-Good.ensures
 
 pub leave-returns-in-Bad : goal.leave-returns-in-Bad
-leave-returns-in-Bad t c = leave_stops _ _ _ _ _ _ _ _ c.requires.1
+leave-returns-in-Bad t c = leave_stops _ _ _ _ _ _ _ _ c.requires
     c.if-fuel-eq0.false _ c.place_of-p.ensures _ _ c.count.ensures c.if-not-count.false-raw _ _
     c.last_of-y.ensures.0 _
     c.fast_value-k.ensures
@@ -304,20 +305,20 @@ leave-returns-in-Bad t c = leave_stops _ _ _ _ _ _ _ _ c.requires.1
     c.in-Bad.is
 
 pub member-component_at-c-requires : goal.member-component_at-c-requires
-member-component_at-c-requires t c = c.requires.1.lent.lent.room
+member-component_at-c-requires t c = c.requires.lent.lent.room
 
 pub member-returns-then-is_destroyed : goal.member-returns-then-is_destroyed
 member-returns-then-is_destroyed t c = member_passed _ _ _ _ _ _ _ _ c.component_at-c.ensures _ c.is_destroyed.ensures c.if-is_destroyed.true
 
 pub member-count-requires : goal.member-count-requires
-member-count-requires t c = omega (arith, c.requires.1.lent.lent.room.words)
+member-count-requires t c = omega (arith, c.requires.lent.lent.room.words)
 
 pub member-returns-then-not-count : goal.member-returns-then-not-count
 member-returns-then-not-count t c = member_no_step _ _ _ _ _ _ _ _ c.component_at-c.ensures _
     c.is_destroyed.ensures c.if-is_destroyed.false _ _ c.count.ensures c.if-not-count.true-raw
 
 pub member-bound-r-requires : goal.member-bound-r-requires
-member-bound-r-requires t c = (omega arith, still_runs _ _ _ _ _ refl (omega arith) _ _ c.requires.1)
+member-bound-r-requires t c = (omega arith, still_runs _ _ _ _ _ refl (omega arith) _ _ c.requires)
 
 pub member-returns-then-not-is_group : goal.member-returns-then-not-is_group
 member-returns-then-not-is_group t c = member_figure _ _ _ _ _ _ _ _ c.component_at-c.ensures _ c.is_destroyed.ensures
@@ -327,7 +328,7 @@ member-returns-then-not-is_group t c = member_figure _ _ _ _ _ _ _ _ c.component
     c.if-not-is_group.true-raw c.bound-r.ensures
 
 pub member-inside-r-requires : goal.member-inside-r-requires
-member-inside-r-requires t c = (omega arith, still_runs _ _ _ _ _ refl (omega arith) _ _ c.requires.1)
+member-inside-r-requires t c = (omega arith, still_runs _ _ _ _ _ refl (omega arith) _ _ c.requires)
 
 pub member-returns : goal.member-returns
 member-returns t c = member_group _ _ _ _ _ _ _ _ c.component_at-c.ensures _ c.is_destroyed.ensures
@@ -337,7 +338,7 @@ member-returns t c = member_group _ _ _ _ _ _ _ _ c.component_at-c.ensures _ c.i
     c.if-not-is_group.false-raw c.inside-r.ensures
 
 pub operands-expression-requires : goal.operands-expression-requires
-operands-expression-requires t c = (omega arith, c.requires.1)
+operands-expression-requires t c = (omega arith, c.requires)
 
 pub operands-returns-then-tag-eq-TABLE : goal.operands-returns-then-tag-eq-TABLE
 operands-returns-then-tag-eq-TABLE t c = search table_made
@@ -349,10 +350,10 @@ operands-returns-then-lacks_table t c = no_table _ _ _ _ _ _ _ _ c.left_of.ensur
     c.if-tag-eq-TABLE.false _ c.lacks_table.ensures c.if-lacks_table.true
 
 pub operands-expression-requires-in-Good : goal.operands-expression-requires-in-Good
-operands-expression-requires-in-Good t c = (omega arith, still_lent _ _ _ _ _ (omega arith) (omega arith) _ c.requires.1)
+operands-expression-requires-in-Good t c = (omega arith, still_lent _ _ _ _ _ (omega arith) (omega arith) _ c.requires)
 
 pub operands-apply-r-requires : goal.operands-apply-r-requires
-operands-apply-r-requires t c = laws.still_lent _ _ _ _ _ c.requires.1.lent (omega arith) (omega arith)
+operands-apply-r-requires t c = laws.still_lent _ _ _ _ _ c.requires.lent (omega arith) (omega arith)
 
 pub operands-shape_of-texts-in-Good-expression : goal.operands-shape_of-texts-in-Good-expression
 operands-shape_of-texts-in-Good-expression t c = search rules
@@ -380,10 +381,10 @@ pub operands-returns-in-Bad : goal.operands-returns-in-Bad
 operands-returns-in-Bad t c = search first_stops
 
 pub own-enter_loop-unit-requires : goal.own-enter_loop-unit-requires
-own-enter_loop-unit-requires t c = omega (arith, c.requires.1.lent.lent.room.words)
+own-enter_loop-unit-requires t c = omega (arith, c.requires.lent.lent.room.words)
 
 pub own-loop-n-init : goal.own-loop-n-init
-own-loop-n-init t c = owning_first _ _ _ _ _ _ _ _ _ _ _ (still_runs _ _ _ _ _ refl (omega arith) _ _ c.requires.1)
+own-loop-n-init t c = owning_first _ _ _ _ _ _ _ _ _ _ _ (still_runs _ _ _ _ _ refl (omega arith) _ _ c.requires)
     (omega (arith, c.first_at-k.ensures, c.count_at-n.ensures))
 
 pub own-member-requires : goal.own-member-requires
@@ -429,7 +430,7 @@ own-returns t c = entered_loop _ _ _ _ _ _ _ _ _ _ _ _ c.first_at-k.ensures
     (owning_ends _ _ _ _ _ _ _ _ _ _ _ _ _ _ _ c.loop-n.invariant _ (omega arith) c.leave_loop-2.ensures)
 
 pub procedure-loop-left-init : goal.procedure-loop-left-init
-procedure-loop-left-init t c = all_first _ _ _ _ _ _ _ _ _ c.requires.1
+procedure-loop-left-init t c = all_first _ _ _ _ _ _ _ _ _ c.requires
 
 pub procedure-returns-then-end-at : goal.procedure-returns-then-end-at
 procedure-returns-then-end-at t c = ends_done _ _ _ _ _ _ _ _ _ _ _ _ _ c.loop-left.invariant c.loop-left-test.true c.if-end-at.true
@@ -456,7 +457,7 @@ procedure-returns-in-Stopped t c = ends_fails _ _ _ _ _ _ _ _ _ _ _ _ _ c.loop-l
     c.statement.ensures _ _ c.in-Stopped.is
 
 pub procedure-overflow_add-at : goal.procedure-overflow_add-at
-procedure-overflow_add-at t c = omega (arith, c.requires.1.room, c.if-end-at.false, c.size_of-at.ensures)
+procedure-overflow_add-at t c = omega (arith, c.requires.room, c.if-end-at.false, c.size_of-at.ensures)
 
 pub procedure-loop-left-smaller : goal.procedure-loop-left-smaller
 procedure-loop-left-smaller t c = omega arith
@@ -470,7 +471,7 @@ pub procedure-returns : goal.procedure-returns
 procedure-returns t c = ends_short _ _ _ _ _ _ _ _ _ _ _ _ _ c.loop-left.invariant (omega arith)
 
 pub pushed-expression-requires : goal.pushed-expression-requires
-pushed-expression-requires t c = (omega arith, c.requires.1)
+pushed-expression-requires t c = (omega arith, c.requires)
 
 pub pushed-returns-in-Good : goal.pushed-returns-in-Good
 pushed-returns-in-Good t c = search push_goes
@@ -479,10 +480,10 @@ pub pushed-returns-in-Bad : goal.pushed-returns-in-Bad
 pushed-returns-in-Bad t c = search push_stops
 
 pub repeat-overflow_add-turns : goal.repeat-overflow_add-turns
-repeat-overflow_add-turns t c = omega (arith, c.requires.1.lent.lent.room.steps)
+repeat-overflow_add-turns t c = omega (arith, c.requires.lent.lent.room.steps)
 
 pub repeat-loop-turns-init : goal.repeat-loop-turns-init
-repeat-loop-turns-init t c = loop_first _ _ _ _ _ _ _ _ c.requires.1
+repeat-loop-turns-init t c = loop_first _ _ _ _ _ _ _ _ c.requires
 
 pub repeat-count-requires : goal.repeat-count-requires
 repeat-count-requires t c = omega (arith, c.loop-turns.invariant.runs.lent.lent.room.words)
@@ -507,7 +508,7 @@ repeat-returns-in-Stopped t c = loop_stops _ _ _ _ _ _ _ _ _ _ _ c.loop-turns.in
     c.in-Stopped.is
 
 pub repeat-overflow_add-y : goal.repeat-overflow_add-y
-repeat-overflow_add-y t c = omega (arith, c.requires.1.room)
+repeat-overflow_add-y t c = omega (arith, c.requires.room)
 
 pub repeat-statement-requires : goal.repeat-statement-requires
 repeat-statement-requires t c = (omega arith, still_runs _ _ _ _ _ (omega arith) (omega arith) _ _ c.loop-turns.invariant.runs)
@@ -537,20 +538,20 @@ pub repeat-returns : goal.repeat-returns
 repeat-returns t c = loop_short _ _ _ _ _ _ _ _ _ _ _ c.loop-turns.invariant (omega arith)
 
 pub simple-last_of-y-requires : goal.simple-last_of-y-requires
-simple-last_of-y-requires t c = omega (arith, c.requires.1.room)
+simple-last_of-y-requires t c = omega (arith, c.requires.room)
 
 pub simple-fast_value-k-requires : goal.simple-fast_value-k-requires
-simple-fast_value-k-requires t c = omega (arith, c.requires.1.lent.lent.room.words)
+simple-fast_value-k-requires t c = omega (arith, c.requires.lent.lent.room.words)
 
 pub simple-put_word-r-requires : goal.simple-put_word-r-requires
 simple-put_word-r-requires t c = record {
-  fixed_words_in_bounds = omega (arith, c.requires.1.lent.lent.room.words);
-  fact = no_shape_lem _ _ _ _ _ _ _ _ c.fast_value-k.ensures c.requires.1.lent c.if-k-ne0.true;
+  fixed_words_in_bounds = omega (arith, c.requires.lent.lent.room.words);
+  fact = no_shape_lem _ _ _ _ _ _ _ _ c.fast_value-k.ensures c.requires.lent c.if-k-ne0.true;
 }
 
 pub simple-returns-then-tag_of-eq-ASSIGN : goal.simple-returns-then-tag_of-eq-ASSIGN
 simple-returns-then-tag_of-eq-ASSIGN t c = simple_fast _ _ _ _ _ _ _ _ _ _ c.fast_value-k.ensures
-    c.requires.1.lent
+    c.requires.lent
     c.if-k-ne0.true _ _ _ _
     c.last_of-y.ensures.0
     (is_assignment _ _ _ _ _ _ c.tag_of.ensures _ _ _ c.if-tag_of-eq-ASSIGN.true
@@ -561,14 +562,14 @@ simple-pass_on-requires t c = λ q. c.if-tag_of-eq-ASSIGN.false (c.tag_of.ensure
 
 pub simple-returns-then-k-ne0 : goal.simple-returns-then-k-ne0
 simple-returns-then-k-ne0 t c = simple_fast _ _ _ _ _ _ _ _ _ _ c.fast_value-k.ensures
-    c.requires.1.lent c.if-k-ne0.true _ _ _ _
+    c.requires.lent c.if-k-ne0.true _ _ _ _
     c.last_of-y.ensures.0 (c.pass_on.ensures _ _ _)
 
 pub simple-expression-requires : goal.simple-expression-requires
-simple-expression-requires t c = (omega arith, slow_lent _ _ _ _ _ _ c.fast_value-k.ensures c.if-k-ne0.false c.requires.1.lent)
+simple-expression-requires t c = (omega arith, slow_lent _ _ _ _ _ _ c.fast_value-k.ensures c.if-k-ne0.false c.requires.lent)
 
 pub simple-finish-requires : goal.simple-finish-requires
-simple-finish-requires t c = still_room _ _ _ _ _ c.requires.1.lent (omega arith)
+simple-finish-requires t c = still_room _ _ _ _ _ c.requires.lent (omega arith)
 
 pub simple-returns-in-Onward : goal.simple-returns-in-Onward
 simple-returns-in-Onward t c = simple_done _ _ _ _ _ _ _ _ _ _ c.fast_value-k.ensures c.if-k-ne0.false _ _ _ c.expression.ensures _ _ _ _ _ _ _
@@ -595,10 +596,10 @@ pub statement-returns-then-fuel-eq0 : goal.statement-returns-then-fuel-eq0
 statement-returns-then-fuel-eq0 t c = search statement_too_deep
 
 pub statement-overflow_add-x : goal.statement-overflow_add-x
-statement-overflow_add-x t c = omega (arith, c.requires.1.room, c.extra_of.ensures.1)
+statement-overflow_add-x t c = omega (arith, c.requires.room, c.extra_of.ensures.1)
 
 pub statement-repeat-r-requires : goal.statement-repeat-r-requires
-statement-repeat-r-requires t c = (omega arith, record { lent = record { lent = c.requires.1.lent.lent; deep = omega (arith, c.requires.1.lent.deep) }; room = omega (arith, c.requires.1.room, c.extra_of.ensures.1, c.if-fuel-eq0.false) })
+statement-repeat-r-requires t c = (omega arith, record { lent = record { lent = c.requires.lent.lent; deep = omega (arith, c.requires.lent.deep) }; room = omega (arith, c.requires.room, c.extra_of.ensures.1, c.if-fuel-eq0.false) })
 
 pub statement-returns-then-tag-eq-WHILE : goal.statement-returns-then-tag-eq-WHILE
 statement-returns-then-tag-eq-WHILE t c = is_loop _ _ _ _ _ _ _ c.if-fuel-eq0.false _
@@ -608,7 +609,7 @@ statement-returns-then-tag-eq-WHILE t c = is_loop _ _ _ _ _ _ _ c.if-fuel-eq0.fa
     c.extra_of.ensures.0 c.repeat-r.ensures
 
 pub statement-count-requires : goal.statement-count-requires
-statement-count-requires t c = omega (arith, c.requires.1.lent.lent.room.words)
+statement-count-requires t c = omega (arith, c.requires.lent.lent.room.words)
 
 pub statement-returns-then-not-count : goal.statement-returns-then-not-count
 statement-returns-then-not-count t c = statement_no_step _ _ _ _ _ _ _ c.if-fuel-eq0.false _
@@ -616,43 +617,43 @@ statement-returns-then-not-count t c = statement_no_step _ _ _ _ _ _ _ c.if-fuel
     c.tag_of-tag.ensures c.if-tag-eq-WHILE.false _ _ c.count.ensures c.if-not-count.true-raw
 
 pub statement-declare-r-requires : goal.statement-declare-r-requires
-statement-declare-r-requires t c = omega (arith, c.requires.1.lent.lent.room.words)
+statement-declare-r-requires t c = omega (arith, c.requires.lent.lent.room.words)
 
 pub statement-last_of-requires : goal.statement-last_of-requires
-statement-last_of-requires t c = omega (arith, c.requires.1.room)
+statement-last_of-requires t c = omega (arith, c.requires.room)
 
 pub statement-update-r-requires : goal.statement-update-r-requires
-statement-update-r-requires t c = (omega arith, record { lent = still_lent_words _ _ _ _ c.requires.1.lent.lent (omega arith); deep = omega (arith, c.requires.1.lent.deep) })
+statement-update-r-requires t c = (omega arith, record { lent = still_lent_words _ _ _ _ c.requires.lent.lent (omega arith); deep = omega (arith, c.requires.lent.deep) })
 
 pub statement-overflow_add-x-in-35 : goal.statement-overflow_add-x-in-35
-statement-overflow_add-x-in-35 t c = omega (arith, c.requires.1.room, c.extra_of-in-35.ensures.1)
+statement-overflow_add-x-in-35 t c = omega (arith, c.requires.room, c.extra_of-in-35.ensures.1)
 
 pub statement-when-r-requires : goal.statement-when-r-requires
-statement-when-r-requires t c = (omega arith, record { lent = record { lent = still_lent_words _ _ _ _ c.requires.1.lent.lent (omega arith); deep = omega (arith, c.requires.1.lent.deep) }; room = omega (arith, c.requires.1.room, c.extra_of-in-35.ensures.1, c.if-fuel-eq0.false) })
+statement-when-r-requires t c = (omega arith, record { lent = record { lent = still_lent_words _ _ _ _ c.requires.lent.lent (omega arith); deep = omega (arith, c.requires.lent.deep) }; room = omega (arith, c.requires.room, c.extra_of-in-35.ensures.1, c.if-fuel-eq0.false) })
 
 pub statement-overflow_add-x-in-40 : goal.statement-overflow_add-x-in-40
-statement-overflow_add-x-in-40 t c = omega (arith, c.requires.1.room)
+statement-overflow_add-x-in-40 t c = omega (arith, c.requires.room)
 
 pub statement-overflow_add-x-in-40-2 : goal.statement-overflow_add-x-in-40-2
-statement-overflow_add-x-in-40-2 t c = omega (arith, c.requires.1.room, c.extra_of-in-40.ensures.1)
+statement-overflow_add-x-in-40-2 t c = omega (arith, c.requires.room, c.extra_of-in-40.ensures.1)
 
 pub statement-each-r-requires : goal.statement-each-r-requires
-statement-each-r-requires t c = (omega arith, record { lent = record { lent = still_lent_words _ _ _ _ c.requires.1.lent.lent (omega arith); deep = omega (arith, c.requires.1.lent.deep) }; room = omega (arith, c.requires.1.room, c.extra_of-in-40.ensures.1, c.if-fuel-eq0.false) })
+statement-each-r-requires t c = (omega arith, record { lent = record { lent = still_lent_words _ _ _ _ c.requires.lent.lent (omega arith); deep = omega (arith, c.requires.lent.deep) }; room = omega (arith, c.requires.room, c.extra_of-in-40.ensures.1, c.if-fuel-eq0.false) })
 
 pub statement-overflow_add-x-in-38 : goal.statement-overflow_add-x-in-38
-statement-overflow_add-x-in-38 t c = omega (arith, c.requires.1.room, c.size_of-n.ensures, c.if-fuel-eq0.false)
+statement-overflow_add-x-in-38 t c = omega (arith, c.requires.room, c.size_of-n.ensures, c.if-fuel-eq0.false)
 
 pub statement-overflow_add-x-in-38-2 : goal.statement-overflow_add-x-in-38-2
-statement-overflow_add-x-in-38-2 t c = omega (arith, c.requires.1.room, c.size_of-n.ensures, c.if-fuel-eq0.false)
+statement-overflow_add-x-in-38-2 t c = omega (arith, c.requires.room, c.size_of-n.ensures, c.if-fuel-eq0.false)
 
 pub statement-overflow_add-n : goal.statement-overflow_add-n
-statement-overflow_add-n t c = omega (arith, c.requires.1.room, c.size_of-n.ensures, c.if-fuel-eq0.false)
+statement-overflow_add-n t c = omega (arith, c.requires.room, c.size_of-n.ensures, c.if-fuel-eq0.false)
 
 pub statement-statements-r-requires : goal.statement-statements-r-requires
-statement-statements-r-requires t c = (omega arith, record { lent = record { lent = still_lent_words _ _ _ _ c.requires.1.lent.lent (omega arith); deep = omega (arith, c.requires.1.lent.deep) }; room = omega (arith, c.requires.1.room, c.size_of-n.ensures, c.if-fuel-eq0.false) })
+statement-statements-r-requires t c = (omega arith, record { lent = record { lent = still_lent_words _ _ _ _ c.requires.lent.lent (omega arith); deep = omega (arith, c.requires.lent.deep) }; room = omega (arith, c.requires.room, c.size_of-n.ensures, c.if-fuel-eq0.false) })
 
 pub statement-simple-r-requires : goal.statement-simple-r-requires
-statement-simple-r-requires t c = (omega arith, record { lent = record { lent = still_lent_words _ _ _ _ c.requires.1.lent.lent (omega arith); deep = omega (arith, c.requires.1.lent.deep) }; room = omega (arith, c.requires.1.room) })
+statement-simple-r-requires t c = (omega arith, record { lent = record { lent = still_lent_words _ _ _ _ c.requires.lent.lent (omega arith); deep = omega (arith, c.requires.lent.deep) }; room = omega (arith, c.requires.room) })
 
 pub statement-returns-in-32 : goal.statement-returns-in-32
 statement-returns-in-32 t c = is_declaration _ _ _ _ _ _ _ c.if-fuel-eq0.false _
@@ -710,7 +711,7 @@ statement-returns-in_default t c = is_simple _ _ _ _ _ _ _ c.if-fuel-eq0.false _
     c.in_default.in_default-own.rest.1 c.simple-r.ensures
 
 pub statements-loop-left-init : goal.statements-loop-left-init
-statements-loop-left-init t c = all_first _ _ _ _ _ _ _ _ _ c.requires.1
+statements-loop-left-init t c = all_first _ _ _ _ _ _ _ _ _ c.requires
 
 pub statements-returns-then-end-at : goal.statements-returns-then-end-at
 statements-returns-then-end-at t c = all_done _ _ _ _ _ _ _ _ _ _ _ _ _ c.loop-left.invariant c.loop-left-test.true c.if-end-at.true
@@ -731,7 +732,7 @@ statements-returns-in-Stopped t c = all_fails _ _ _ _ _ _ _ _ _ _ _ _ _ c.loop-l
     c.in-Stopped.is
 
 pub statements-overflow_add-at : goal.statements-overflow_add-at
-statements-overflow_add-at t c = omega (arith, c.requires.1.room, c.if-end-at.false, c.size_of-at.ensures)
+statements-overflow_add-at t c = omega (arith, c.requires.room, c.if-end-at.false, c.size_of-at.ensures)
 
 pub statements-loop-left-smaller : goal.statements-loop-left-smaller
 statements-loop-left-smaller t c = omega arith
@@ -746,14 +747,14 @@ pub statements-returns : goal.statements-returns
 statements-returns t c = all_short _ _ _ _ _ _ _ _ _ _ _ _ _ c.loop-left.invariant (omega arith)
 
 pub test-fast_value-k-requires : goal.test-fast_value-k-requires
-test-fast_value-k-requires t c = omega (arith, c.requires.1.lent.room.words)
+test-fast_value-k-requires t c = omega (arith, c.requires.lent.room.words)
 
 pub test-returns-then-k-ne0 : goal.test-returns-then-k-ne0
 test-returns-then-k-ne0 t c = test_fast _ _ _ _ _ _ _ _ _ _ (worked_anew _ _ _ _ _ _ _ c.fast_value-k.ensures)
-    c.requires.1 c.if-k-ne0.true _ c.outcome_of.ensures
+    c.requires c.if-k-ne0.true _ c.outcome_of.ensures
 
 pub test-expression-requires : goal.test-expression-requires
-test-expression-requires t c = (omega arith, slow_lent _ _ _ _ _ _ c.fast_value-k.ensures c.if-k-ne0.false c.requires.1)
+test-expression-requires t c = (omega arith, slow_lent _ _ _ _ _ _ c.fast_value-k.ensures c.if-k-ne0.false c.requires)
 
 pub test-returns-in-Good : goal.test-returns-in-Good
 test-returns-in-Good t c = test_says _ _ _ _ _ _ _ _ _ _ (worked_anew _ _ _ _ _ _ _
@@ -769,16 +770,16 @@ test-returns-in-Bad t c = test_refused _ _ _ _ _ _ _ _ _ _ (worked_anew _ _ _ _ 
     (evaluated_anew _ _ _ _ _ _ _ _ c.expression.ensures) _ _ c.in-Bad.is
 
 pub update-expression-requires : goal.update-expression-requires
-update-expression-requires t c = (omega arith, c.requires.1)
+update-expression-requires t c = (omega arith, c.requires)
 
 pub update-expression-requires-in-Table : goal.update-expression-requires-in-Table
-update-expression-requires-in-Table t c = (omega arith, still_lent _ _ _ _ _ (omega arith) (omega arith) _ c.requires.1)
+update-expression-requires-in-Table t c = (omega arith, still_lent _ _ _ _ _ (omega arith) (omega arith) _ c.requires)
 
 pub update-expression-requires-in-Good-expression : goal.update-expression-requires-in-Good-expression
-update-expression-requires-in-Good-expression t c = (omega (arith, c.requires.0), still_lent _ _ _ _ _ (omega arith) (omega arith) _ c.requires.1)
+update-expression-requires-in-Good-expression t c = (omega (arith), still_lent _ _ _ _ _ (omega arith) (omega arith) _ c.requires)
 
 pub update-store_entry-number-requires : goal.update-store_entry-number-requires
-update-store_entry-number-requires t c = still_room _ _ _ _ _ c.requires.1 (omega arith)
+update-store_entry-number-requires t c = still_room _ _ _ _ _ c.requires (omega arith)
 
 pub update-shape_of-texts-then-number-ne0 : goal.update-shape_of-texts-then-number-ne0
 update-shape_of-texts-then-number-ne0 t c = search rules
@@ -846,13 +847,13 @@ update-returns-in-Bad t c = table_stops _ _ _ _ _ _ _ _ _ _ _ _ c.word_at.ensure
     c.expression.ensures _ _ c.in-Bad.is
 
 pub when-test-requires : goal.when-test-requires
-when-test-requires t c = (omega arith, c.requires.1.lent)
+when-test-requires t c = (omega arith, c.requires.lent)
 
 pub when-overflow_add-y : goal.when-overflow_add-y
-when-overflow_add-y t c = omega (arith, c.requires.1.room)
+when-overflow_add-y t c = omega (arith, c.requires.room)
 
 pub when-statement-requires : goal.when-statement-requires
-when-statement-requires t c = (omega arith, still_runs _ _ _ _ _ (omega arith) (omega arith) _ _ c.requires.1)
+when-statement-requires t c = (omega arith, still_runs _ _ _ _ _ (omega arith) (omega arith) _ _ c.requires)
 
 pub when-returns-in-Onward : goal.when-returns-in-Onward
 when-returns-in-Onward t c = when_holds _ _ _ _ _ _ _ _ _ _ c.test.ensures _ _
