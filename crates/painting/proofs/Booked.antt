@@ -119,6 +119,8 @@ module _ (program : List ℕ) (width height : ℤ) (g : List ℕ) (out : List �
   ended_go : (us : List Event) (e : End (List Figure)) → spent picture us ≡ 0 → painted.takings ≡ us → painted.end ≡ e
       → Together amounts nothing_yet (Painted program g) (done tt (raw ts ws)) us e → Ended
   unfolding resource_number
+  ended_go us (error n m) z q h x = elim x [ ]
+  ended_go us unfinished z q h x = elim x [ ]
   ended_go us (result a s) z q h (gives total f w) = record {
     figures = a;
     state = s;
