@@ -1,14 +1,13 @@
 -- From what the operation promises to all that is printed.
 use Prim.Native.Nat.{ℕ, ◌≤◌, ◌<◌}
-use mathlib.Core.Bool.{Bool, true, false, ◌&&◌}
+use mathlib.Core.Bool.{true}
 use mathlib.Core.List.{List, [], ◌∷◌}
-use mathlib.Core.Path.{◌≡◌, ◌∙◌, refl, sym}
+use mathlib.Core.Path.{◌≡◌, refl}
 use native.Mathlib.Decide.{dec_le}
 use native.Mathlib.Omega.{arith}
 use borrow.Author.Tests.{le-leb, lt-leb}
-use lib.ListN.{length, take}
-use lib.Dec.{leb}
-use Rattle.meaning.specs.Basics.{if◌then◌else◌, laid_over}
+use lib.ListN.{length}
+use Rattle.meaning.specs.Basics.{if◌then◌else◌}
 use Rattle.meaning.specs.Book.{Answer, pictured, number, undecided}
 use Rattle.meaning.specs.Call.{in_range, needed, long_enough}
 use Rattle.meaning.proofs.SliceLaws.{laid_front}

