@@ -12,6 +12,6 @@ draw_lent-r-requires c = search draw_ready
 
 pub returns : goal.returns
 returns c = record {
-  performed = draw_performed _ _ _ _ c.args.tokens.now c.args.code.now c.args.words.now c.args.texts.now _ _ c.is_enough.ensures c.if-not-is_enough.false-raw c.ranges.width c.ranges.height _ _ c.draw_lent-r.ensures _ _ _ _ _ _ _ _ c.draw_lent-r.auto.tokens c.clear.ensures.tokens_after c.draw_lent-r.auto.code c.clear.ensures.code_after.0 c.draw_lent-r.auto.words c.clear.ensures.code_after.1.0 c.draw_lent-r.auto.texts c.clear.ensures.code_after.1.1;
+  performed = draw_performed _ _ _ _ c.args.tokens.now c.args.code.now c.args.words.now c.args.texts.now _ _ c.is_enough.ensures c.if-not-is_enough.false-raw c.ranges.width c.ranges.height _ _ c.draw_lent-r.ensures _ _ _ _ _ _ _ _ c.draw_lent-r.auto.tokens c.clear.ensures.tokens_after c.draw_lent-r.auto.code c.clear.ensures.code_after c.draw_lent-r.auto.words c.clear.ensures.words_after c.draw_lent-r.auto.texts c.clear.ensures.texts_after;
   out_after = out_performed _ _ _ _ c.args.tokens.now c.args.code.now c.args.words.now c.args.texts.now _ _ c.is_enough.ensures c.if-not-is_enough.false-raw c.ranges.width c.ranges.height _ _ c.draw_lent-r.ensures;
 }
