@@ -1,7 +1,7 @@
 // The arguments of a call: they are held from the one numbered base on.
 #![tactic(auto)]
 
-pub mod figures;
+pub mod given;
 
 ghost use Rattle.std.specs.Prelude.{◌+◌, ◌≤◌, ◌≡◌, length};
 ghost use Rattle.machine.specs.Layout.{fixed_words};

@@ -7,7 +7,7 @@ ghost use Rattle.machine.specs.Act.{Answers};
 ghost use Rattle.machine.specs.Library.{drawn, drawn_text, connected, labelled, coordinate, destroyed, clearing, grouped, perform, call_library};
 ghost use Rattle.machine.specs.Arguments.{centre_x, centre_y};
 
-use arguments::figures;
+use arguments::given;
 use machine::{Answer, Value, kinds, procedures, shapes};
 
 // Four integers make a figure of a kind.
@@ -21,7 +21,7 @@ fn draw(words: &mut [u64], grants: &[u64; 5], kind: u64, p: u64, base: u64, n: u
     if !arguments::four_integers(words, base) {
         return Answer::Bad(20, p);
     }
-    let f = figures::drawn_figure(words, kind, base);
+    let f = given::drawn_figure(words, kind, base);
     let r = stores::shapes::new_shape(words, grants, p, f);
     r
 }
@@ -36,7 +36,7 @@ fn draw_text(words: &mut [u64], grants: &[u64; 5], p: u64, base: u64, n: u64) ->
     if !arguments::point_and_text(words, base) {
         return Answer::Bad(20, p);
     }
-    let f = figures::text_figure(words, base);
+    let f = given::text_figure(words, base);
     let r = stores::shapes::new_shape(words, grants, p, f);
     r
 }
@@ -51,7 +51,7 @@ fn connect(words: &mut [u64], grants: &[u64; 5], p: u64, base: u64, n: u64) -> A
     if !arguments::two_figures(words, base) {
         return Answer::Bad(20, p);
     }
-    let f = figures::connecting_figure(words, base);
+    let f = given::connecting_figure(words, base);
     let r = stores::shapes::new_shape(words, grants, p, f);
     r
 }
@@ -66,7 +66,7 @@ fn label(words: &mut [u64], grants: &[u64; 5], p: u64, base: u64, n: u64) -> Ans
     if !arguments::figure_and_text(words, base) {
         return Answer::Bad(20, p);
     }
-    let f = figures::label_figure(words, base);
+    let f = given::label_figure(words, base);
     let r = stores::shapes::new_shape(words, grants, p, f);
     r
 }
@@ -81,7 +81,7 @@ fn x_coordinate(words: &[u64], p: u64, base: u64, n: u64) -> Answer
     if !arguments::is_figure(words, base, 0) {
         return Answer::Bad(20, p);
     }
-    Answer::Good(Value::Integer(figures::centre_x(arguments::given_figure(words, base, 0))))
+    Answer::Good(Value::Integer(given::centre_x(arguments::given_figure(words, base, 0))))
 }
 
 fn y_coordinate(words: &[u64], p: u64, base: u64, n: u64) -> Answer
@@ -94,7 +94,7 @@ fn y_coordinate(words: &[u64], p: u64, base: u64, n: u64) -> Answer
     if !arguments::is_figure(words, base, 0) {
         return Answer::Bad(20, p);
     }
-    Answer::Good(Value::Integer(figures::centre_y(arguments::given_figure(words, base, 0))))
+    Answer::Good(Value::Integer(given::centre_y(arguments::given_figure(words, base, 0))))
 }
 
 fn destroy(words: &mut [u64], grants: &[u64; 5], p: u64, base: u64, n: u64) -> Answer

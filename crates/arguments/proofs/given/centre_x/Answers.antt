@@ -1,5 +1,5 @@
 use Rattle.arguments.proofs.FigureLaws.{line_x, box_x, other_x}
-use Rattle.arguments.proofs.figures.centre_x.Goals as goal
+use Rattle.arguments.proofs.given.centre_x.Goals as goal
 
 pub returns-then-f-eq-LINE : goal.returns-then-f-eq-LINE
 returns-then-f-eq-LINE c = search line_x

@@ -1,5 +1,5 @@
 use Rattle.arguments.proofs.FigureLaws.{line_y, box_y, other_y}
-use Rattle.arguments.proofs.figures.centre_y.Goals as goal
+use Rattle.arguments.proofs.given.centre_y.Goals as goal
 
 pub returns-then-f-eq-LINE : goal.returns-then-f-eq-LINE
 returns-then-f-eq-LINE c = search line_y
