@@ -4,14 +4,14 @@ use Prim.Native.String.{String}
 use mathlib.Core.Path.{◌≡◌, refl}
 use mathlib.Core.Bool.{true, false}
 use mathlib.Core.List.{List, [], ◌∷◌, ◌++◌}
-use lib.ListN.{length, replicate}
+use lib.ListN.{replicate}
 use lib.IntN.{pos}
 use Rattle.meaning.specs.Basics.{bytes}
 use Rattle.meaning.specs.Tree.{subtract, number, string, nothing, truth, name, table, operation, call, no_argument, argument, declare}
 use Rattle.meaning.specs.Tree.{assign, update, when, while, foreach, return, block, act, only, first, Procedure}
 use Rattle.meaning.specs.Grammar.{Reading, well_formed, malformed, reading}
 use Rattle.meaning.specs.Program.{checking}
-use Rattle.meaning.specs.Book.{Answer, pictured, number}
+use Rattle.meaning.specs.Book.{pictured, number}
 use Rattle.meaning.specs.Call.{Call}
 use Rattle.meaning.proofs.Computing.{everything}
 use Rattle.meaning.proofs.Rows.{Row, ◌gives◌, Hold}

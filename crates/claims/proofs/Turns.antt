@@ -4,7 +4,6 @@ use mathlib.Core.Path.{◌≡◌, refl, ap, sym, ◌∙◌}
 use mathlib.Core.Bool.{Bool, true, false}
 use mathlib.Core.List.{List, [], ◌∷◌, ◌++◌, append_assoc, append-nil}
 use mathlib.Core.Option.{Option, some}
-use mathlib.Core.Option as Option
 use native.Mathlib.Nat.{not-suc-le-zero, le_of_suc-le-suc}
 use lib.IntN.{ℤ}
 use Rattle.meaning.specs.Basics.{bytes, if◌then◌else◌, same_text}

@@ -1,6 +1,6 @@
 -- A component destroyed where it is reached; nothing is done where a group is left.
 use Rattle.std.specs.Prelude.{ℕ, List}
-use Rattle.machine.specs.Act.{◌>>=◌, ◌>>◌, give, count}
+use Rattle.machine.specs.Act.{◌>>◌, give, count}
 use Rattle.machine.specs.Shapes.{destroy}
 use Rattle.walks.specs.Walks.{Doing}
 

@@ -1,11 +1,10 @@
 -- One law for each way through each function.
-use Prim.Native.Nat.{ℕ, ◌*◌, ◌%◌, ◌^◌}
+use Prim.Native.Nat.{ℕ, ◌*◌, ◌%◌}
 use mathlib.Core.Path.{◌≡◌, refl, sym, ◌∙◌}
 use mathlib.Core.Bool.{Bool, true, false, not}
 use mathlib.Core.List.{List}
 use native.Mathlib.Omega.{arith}
 use lib.ListN.{get_or, set}
-use lib.Dec.{eqb}
 use borrow.Author.Tests.{ne_eqb, not-true, not-false}
 use Rattle.meaning.specs.Basics.{if◌then◌else◌}
 use Rattle.machine.specs.Opcodes.{tag_in, extra_in, tag_assign, tag_return}
@@ -23,7 +22,6 @@ use Rattle.effects.specs.Looped.{or_stop, asking, Opens, Enters}
 use Rattle.machine.specs.Variables.{is_dead, usable, is_declared, declare, declare_once, set_variable}
 use Rattle.machine.specs.declared.Flow.{Flow}
 use Rattle.machine.specs.declared.Flow.TheVariants.{Onward, Returned, Stopped}
-use Rattle.machine.specs.declared.Outcome.{Outcome}
 use Rattle.machine.specs.declared.Outcome.TheVariants as outcome
 use Rattle.machine.specs.Effects.{shown_flow, Flows, declaring, copied, assigning, finishing, outcome_in}
 use Rattle.stores.proofs.Acts.{after_pass, after_refusal}

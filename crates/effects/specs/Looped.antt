@@ -4,7 +4,7 @@ use Rattle.meaning.specs.Basics.{if◌then◌else◌}
 use Rattle.machine.specs.declared.Flow.{Flow}
 use Rattle.machine.specs.declared.Value.TheVariants.{Shape}
 use Rattle.machine.specs.Layout.{loop_unit}
-use Rattle.machine.specs.Act.{raw, Act, ◌>>=◌, ◌>>◌, fail}
+use Rattle.machine.specs.Act.{raw, Act, ◌>>◌, fail}
 use Rattle.machine.specs.Variables.{usable, declare_once}
 use Rattle.machine.specs.Operate.{with_group}
 use Rattle.machine.specs.Loops.{inner_unit}

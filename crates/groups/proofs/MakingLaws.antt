@@ -1,8 +1,8 @@
 -- Groups made: what each way through the code does.
-use Prim.Native.Nat.{ℕ, zero, suc, ◌+◌, ◌-◌, ◌*◌, ◌/◌, ◌%◌, ◌^◌, ◌≤◌, ◌<◌}
+use Prim.Native.Nat.{ℕ, suc, ◌+◌, ◌-◌, ◌*◌, ◌/◌, ◌%◌, ◌^◌, ◌≤◌, ◌<◌}
 use mathlib.Core.Path.{◌≡◌, refl, ap, sym, ◌∙◌}
 use mathlib.Core.Bool.{Bool, true, false, not}
-use mathlib.Core.List.{List, []}
+use mathlib.Core.List.{List}
 use native.Mathlib.Omega.{arith}
 use native.Mathlib.Nat.{mod-lt}
 use lib.ListN.{get_or, set, length, length-set}
@@ -10,18 +10,17 @@ use lib.Seq.{get_or-set_same, get_or-set_other}
 use lib.Dec.{eqb, leb}
 use borrow.Author.Tests.{not-true, not-false, le-leb, lt-leb, ne_eqb}
 use Rattle.meaning.specs.Basics.{if◌then◌else◌}
-use Rattle.machine.specs.declared.Value.{Value}
 use Rattle.machine.specs.declared.Value.TheVariants.{Shape}
 use Rattle.machine.specs.declared.Answer.{Answer}
 use Rattle.machine.specs.declared.Answer.TheVariants.{Good, Bad}
 use Rattle.machine.specs.declared.Figure.{Figure}
 use Rattle.machine.specs.Layout.{shapes_used, entries_used, components_made, shapes_granted, entries_granted, calls_granted, shape_place, component_place, path_place, Room}
-use Rattle.machine.specs.Act.{Raw, raw, Out, done, stop, Act, go_on, ◌>>=◌, give, load, store, held, spend, shown, passed, Passes, Pays, Answers}
+use Rattle.machine.specs.Act.{raw, Out, done, stop, go_on, ◌>>=◌, give, load, store, held, spend, shown, passed, Passes, Pays, Answers}
 use Rattle.machine.specs.Shapes.{is_group_at, figure_at, new_shape}
 use Rattle.machine.specs.Groups.{slot_word, first_at, count_at, zeroed, unmarked, fill_from, group_laid, put_group, new_group, copy_shape}
 use Rattle.machine.proofs.Slots.{zeroed_other, slot_room}
 use Rattle.stores.proofs.Acts.{paid, short, after_pass, after_refusal}
-use Rattle.groups.specs.Making.{add_one, grouping, copy_group, Units, Sources, Adds, making, Makes}
+use Rattle.groups.specs.Making.{add_one, grouping, copy_group, Sources, Adds, making, Makes}
 use Rattle.walks.proofs.TurnLaws.{room_same}
 
 -- ---- a component

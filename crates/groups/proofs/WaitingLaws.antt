@@ -1,19 +1,17 @@
 -- New shapes that wait: what each way through the code does.
 use Prim.Native.Nat.{ℕ, ◌+◌, ◌-◌, ◌/◌, ◌%◌, ◌^◌, ◌<◌}
 use mathlib.Core.Path.{◌≡◌, refl, ap, sym, ◌∙◌}
-use mathlib.Core.Bool.{Bool, true, false}
 use mathlib.Core.List.{List}
 use native.Mathlib.Omega.{arith}
-use lib.ListN.{get_or, set, length}
+use lib.ListN.{get_or, set}
 use lib.Dec.{eqb}
 use borrow.Author.Tests.{ne_eqb}
 use Rattle.machine.specs.Layout.{shapes_used, waiting_held, shape_place, Room}
-use Rattle.machine.specs.Act.{Gives, Raw, raw, Out, done, stop, Act, go_on, ◌>>=◌, ◌>>◌, give, load, store, passed}
-use Rattle.machine.specs.Groups.{new_group, way_place, waiting_place, await, group_waiting, remake_left}
+use Rattle.machine.specs.Act.{Gives, raw, Out, done, stop, go_on, ◌>>=◌, ◌>>◌, give, load, store, passed}
+use Rattle.machine.specs.Groups.{way_place, waiting_place, await, group_waiting, remake_left}
 use Rattle.walks.specs.Walks.{Ends}
 use Rattle.groups.specs.Making.{Sources, making, Makes, gathering}
 use Rattle.groups.proofs.MakingLaws.{number_known}
-use Rattle.stores.proofs.Acts.{after_gift}
 
 pub waits : (ws : List ℕ) (j k at : ℕ) (ws₁ : List ℕ) → k ≡ get_or ws waiting_held 0 % 65536 → at ≡ shape_place k → ws₁ ≡ set ws (at + 4) j → Gives ws (await j) tt (set ws₁ waiting_held (k + 1))
 unfolding await ◌>>=◌ go_on load store

@@ -1,17 +1,17 @@
 -- Looking for the next figure: the loop does what the search does, as with walks.
-use Rattle.std.proofs.Common.{◌≡◌, ℕ, zero, suc, ◌+◌, ◌-◌, ◌*◌, ◌/◌, ◌%◌, ◌^◌, ◌<◌, ◌≤◌, Bool, true, false, not, ◌&&◌, ◌||◌, eqb, ltb, List, [], length, get_or, set, sym, refl, ap, ◌∙◌, arith, length-set, get_or-set_other, get_or-set_same, le-ltb, lt-ltb, eq-eqb, ne_eqb}
+use Rattle.std.proofs.Common.{◌≡◌, ℕ, zero, suc, ◌+◌, ◌-◌, ◌^◌, ◌<◌, Bool, true, false, not, eqb, ltb, List, [], length, get_or, set, sym, refl, ap, ◌∙◌, arith, length-set, get_or-set_other, get_or-set_same, le-ltb, lt-ltb, ne_eqb}
 use borrow.Author.Tests.{not-true, not-false, eqb-false}
 use Rattle.meaning.specs.Basics.{if◌then◌else◌}
-use Rattle.machine.specs.Layout.{fixed_words, calls_used, loop_unit, shapes_granted, entries_granted, shape_place, Room}
+use Rattle.machine.specs.Layout.{shapes_granted, shape_place}
 use Rattle.machine.specs.Act.{Gives, Raw, raw, Out, done, stop, Act, go_on, ◌>>=◌, ◌>>◌, give, load, store, held}
-use Rattle.machine.specs.Shapes.{is_group_at, destroyed_at}
+use Rattle.machine.specs.Shapes.{is_group_at}
 use Rattle.machine.specs.Groups.{component_at, first_at, count_at, way_word, way_place}
-use Rattle.machine.specs.Loops.{hollow_at, hollow, mark_place, mark, unmark, look_from, look_under}
+use Rattle.machine.specs.Loops.{hollow, mark_place, mark, unmark, look_from, look_under}
 use Rattle.walks.specs.declared.Turn.{Turn}
 use Rattle.walks.specs.declared.Turn.TheVariants.{At, Stopped}
-use Rattle.walks.specs.Walks.{slot_in, left_in, Walks, count_within, WalksBy, owed, owed_by, Under, back_at, Entered}
+use Rattle.walks.specs.Walks.{slot_in, left_in, Walks, count_within, WalksBy, owed_by, Under, back_at, Entered}
 use Rattle.walks.proofs.TurnLaws.{room_same, count_small, count_deep, walks_same, way_at, less_one_lem}
-use Rattle.loops.specs.Looking.{passed_over, inside_at, look_level, give_up, look_above, look_rest, look_by, within, SmallBy, Looked, Starts}
+use Rattle.loops.specs.Looking.{passed_over, inside_at, look_level, give_up, look_above, look_rest, look_by, within, SmallBy, Looked}
 use Rattle.walks.proofs.WalkLaws.{Keeps, keeps_from, keeps_then, keeps_either, kept_way, slot_back, left_back, advance_less, climb_less, descend_less, owed_some}
 
 -- ---- the way is kept

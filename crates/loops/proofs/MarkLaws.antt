@@ -1,12 +1,12 @@
 -- Marks, and the searches that use them: what each way through the code does.
-use Rattle.std.proofs.Common.{◌≡◌, ℕ, zero, suc, ◌+◌, ◌-◌, ◌%◌, ◌^◌, ◌<◌, ◌≤◌, Bool, true, false, not, ◌&&◌, ◌||◌, eqb, ltb, leb, List, length, get_or, set, sym, refl, ap, ◌∙◌, arith, ltb-true, le-ltb, lt-ltb, eq-eqb, ne_eqb}
+use Rattle.std.proofs.Common.{◌≡◌, ℕ, suc, ◌+◌, ◌-◌, ◌%◌, ◌^◌, ◌<◌, ◌≤◌, Bool, true, false, not, ◌||◌, eqb, ltb, leb, List, length, get_or, set, sym, refl, ap, ◌∙◌, arith, ltb-true, le-ltb, lt-ltb, ne_eqb}
 use borrow.Author.Tests.{not-true, not-false}
 use Rattle.meaning.specs.Basics.{if◌then◌else◌}
-use Rattle.machine.specs.Layout.{calls_used, loop_unit, shapes_granted, shape_place, Room}
-use Rattle.machine.specs.Act.{Gives, Raw, raw, Out, done, stop, Act, go_on, ◌>>=◌, ◌>>◌, give, load, store, held}
+use Rattle.machine.specs.Layout.{loop_unit, shapes_granted, shape_place, Room}
+use Rattle.machine.specs.Act.{Gives, raw, Out, done, stop, Act, go_on, ◌>>=◌, ◌>>◌, give, store, held}
 use Rattle.machine.specs.Shapes.{is_group_at, destroyed_at}
 use Rattle.machine.specs.Groups.{component_at, followers_at, first_at, count_at}
-use Rattle.machine.specs.Loops.{hollow_at, hollow, mark_place, marked_at, mark, unmark, unmark_from, marked_from, look_from, look_under, look_in, look_behind}
+use Rattle.machine.specs.Loops.{hollow, mark_place, marked_at, mark, unmark, unmark_from, marked_from, look_under, look_in, look_behind}
 use Rattle.stores.proofs.Turns.{Turns, turns_next, turns_last, from_none}
 use Rattle.stores.proofs.Acts.{after_gift}
 use Rattle.walks.specs.declared.Turn.{Turn}

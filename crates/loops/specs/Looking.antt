@@ -1,11 +1,11 @@
 -- Looking for the next figure, as a loop does it: the way is kept as in a walk.
-use Rattle.std.specs.Prelude.{◌≡◌, ℕ, zero, suc, ◌+◌, ◌-◌, ◌%◌, ◌^◌, ◌<◌, ◌≤◌, Bool, ◌&&◌, ◌||◌, List, ◌==◌, nat_lt}
+use Rattle.std.specs.Prelude.{◌≡◌, ℕ, zero, suc, ◌+◌, ◌-◌, ◌%◌, ◌^◌, ◌<◌, Bool, ◌&&◌, ◌||◌, List, ◌==◌, nat_lt}
 use Rattle.meaning.specs.Basics.{if◌then◌else◌}
 use Rattle.machine.specs.Layout.{shapes_granted, Room}
 use Rattle.machine.specs.Act.{raw, Out, done, Act, ◌>>=◌, ◌>>◌, give, load, held}
 use Rattle.machine.specs.Shapes.{is_group_at, destroyed_at}
 use Rattle.machine.specs.Groups.{component_at, followers_at, first_at, count_at, way_place}
-use Rattle.machine.specs.Loops.{hollow_at, hollow, marked_at, mark, unmark, look_from, look_under}
+use Rattle.machine.specs.Loops.{hollow_at, hollow, marked_at, unmark, look_from, look_under}
 use Rattle.walks.specs.declared.Turn.{Turn}
 use Rattle.walks.specs.declared.Turn.TheVariants.{At, Stopped}
 use Rattle.walks.specs.Walks.{slot_in, left_in, WalksBy, owed, owed_by}

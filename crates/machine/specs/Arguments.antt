@@ -5,7 +5,7 @@ use Rattle.meaning.specs.Integer.{sum, half}
 use Rattle.machine.specs.declared.Value.{Value}
 use Rattle.machine.specs.Words.{unpacked}
 use Rattle.machine.specs.Stack.{argument_at}
-use Rattle.machine.specs.Act.{Raw, Act, ◌>>=◌, ◌>>◌, give}
+use Rattle.machine.specs.Act.{Raw, Act, ◌>>◌, give}
 use Rattle.machine.specs.declared.Figure.{Figure}
 use Rattle.machine.specs.Variables.{usable}
 

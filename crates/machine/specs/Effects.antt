@@ -3,7 +3,7 @@ use Rattle.std.specs.Prelude.{ℕ, ◌≡◌, Bool, true, false, not, List, eqb}
 use Rattle.meaning.specs.Basics.{if◌then◌else◌}
 use Rattle.machine.specs.Opcodes.{tag_in, extra_in, tag_assign, tag_return}
 use Rattle.machine.specs.Words.{kind_in, number_in, truth_in, packed, unpacked, kind_truth, kind_shape}
-use Rattle.machine.specs.Act.{Raw, raw, Out, done, stop, Act, ◌>>=◌, ◌>>◌, give, refuse, held}
+use Rattle.machine.specs.Act.{raw, Out, done, stop, Act, ◌>>=◌, ◌>>◌, give, refuse, held}
 use Rattle.machine.specs.Groups.{copy_shape}
 use Rattle.machine.specs.Variables.{usable, is_declared, declare, set_variable}
 use Rattle.machine.specs.declared.Flow.{Flow}

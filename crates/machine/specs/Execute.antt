@@ -2,8 +2,7 @@
 -- inside one are executed, is handed in.
 use Rattle.std.specs.Prelude.{ℕ, zero, suc, ◌+◌, ◌-◌, Bool, get_or, eqb, ltb}
 use Rattle.meaning.specs.Basics.{if◌then◌else◌}
-use Rattle.machine.specs.Opcodes.{tag_in, size_in, place_in, extra_in, size_at, tag_declare, tag_update, tag_when, tag_while, tag_foreach, tag_block}
-use Rattle.machine.specs.declared.Value.{Value}
+use Rattle.machine.specs.Opcodes.{tag_in, size_in, extra_in, size_at, tag_declare, tag_update, tag_when, tag_while, tag_foreach, tag_block}
 use Rattle.machine.specs.Words.{packed}
 use Rattle.machine.specs.Layout.{steps_granted}
 use Rattle.machine.specs.Act.{Act, ◌>>=◌, ◌>>◌, give, fail, count}

@@ -1,7 +1,7 @@
 -- Groups: their components, and walks over all that they hold. A component's slot holds its shape's number and how many components follow it in its group.
 -- A walk goes depth first. At depth d it keeps the slot at which it went down, how many components follow there, and how many new ones waited then, so that
 -- it needs no other memory; b falls at each group inside another, and b + d remains the number of shapes granted.
-use Rattle.std.specs.Prelude.{ℕ, zero, suc, ◌+◌, ◌-◌, ◌*◌, ◌/◌, ◌%◌, ◌^◌, Bool, true, false, ◌&&◌, ◌||◌, List, get_or, set, eqb}
+use Rattle.std.specs.Prelude.{ℕ, zero, suc, ◌+◌, ◌-◌, ◌*◌, ◌/◌, ◌%◌, ◌^◌, Bool, false, ◌&&◌, ◌||◌, List, get_or, set, eqb}
 use Rattle.meaning.specs.Basics.{if◌then◌else◌}
 use Rattle.machine.specs.declared.Value.{Value}
 use Rattle.machine.specs.declared.Value.TheVariants.{Shape}

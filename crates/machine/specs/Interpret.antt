@@ -2,9 +2,8 @@
 -- the answer is 20; no program that was read ends so (simulation, Body.body-follows).
 use Rattle.std.specs.Prelude.{ℕ, zero, suc, ◌+◌, get_or}
 use Rattle.machine.specs.Opcodes.{place_in}
-use Rattle.machine.specs.declared.Value.{Value}
 use Rattle.machine.specs.declared.Flow.{Flow}
-use Rattle.machine.specs.Act.{Act, ◌>>=◌, ◌>>◌, fail, count}
+use Rattle.machine.specs.Act.{Act, ◌>>◌, fail, count}
 use Rattle.machine.specs.Evaluate.{Setting, Evaluator, Invoke, expression_by}
 use Rattle.machine.specs.Execute.{Executor, statements_from, statement_by}
 use Rattle.machine.specs.Procedures.{procedure_at}

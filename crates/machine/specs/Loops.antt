@@ -1,7 +1,7 @@
 -- Loops over groups, whose body runs for each figure in a group, depth first. Between two turns a loop remembers the slot of the figure that was bound; the
 -- slots at which it went down to that are marked: their words, of the call under way, hold what the loop adds to them (Layout.loop_unit), and all that loops
 -- around it add is less. So going up is a look for the next marked slot, and 64 loops of a call share one word a slot.
-use Rattle.std.specs.Prelude.{ℕ, zero, suc, ◌+◌, ◌-◌, ◌*◌, ◌/◌, ◌%◌, ◌^◌, Bool, not, ◌&&◌, ◌||◌, List, get_or, eqb, leb}
+use Rattle.std.specs.Prelude.{ℕ, zero, suc, ◌+◌, ◌-◌, ◌*◌, ◌%◌, ◌^◌, Bool, not, ◌&&◌, ◌||◌, List, get_or, eqb, leb}
 use Rattle.meaning.specs.Basics.{if◌then◌else◌}
 use Rattle.machine.specs.declared.Value.TheVariants.{Shape}
 use Rattle.machine.specs.declared.Flow.{Flow}

@@ -5,11 +5,10 @@ use mathlib.Core.Path.{◌≡◌, refl}
 use mathlib.Core.Bool.{true, false}
 use mathlib.Core.List.{List, [], ◌∷◌, ◌++◌, map}
 use mathlib.Core.Option.{Option, some}
-use mathlib.Core.Option as Option
 use lib.ListN.{replicate}
 use lib.IntN.{pos}
 use Rattle.meaning.specs.Basics.{bytes}
-use Rattle.meaning.specs.Figure.{Figure, line, ellipse, box}
+use Rattle.meaning.specs.Figure.{Figure}
 use Rattle.meaning.specs.Tree.{number, act, only, Procedure}
 use Rattle.meaning.specs.Grammar.{procedure_named}
 use Rattle.meaning.specs.Value.{Value, integer, boolean, none, table, shape}
@@ -23,7 +22,7 @@ use Rattle.meaning.specs.Book.{Booked, all_fit, lacking, nothing_yet, lowered, b
 use Rattle.meaning.specs.Book as Book
 use Rattle.meaning.specs.Call.{Grants, answer}
 use Rattle.meaning.proofs.Computing.{everything}
-use Rattle.meaning.proofs.Rows.{Row, ◌gives◌, Hold, alive, holding, standing}
+use Rattle.meaning.proofs.Rows.{Row, ◌gives◌, Hold, holding, standing}
 use Rattle.meaning.proofs.Readings.{called}
 
 -- so many calls and shapes

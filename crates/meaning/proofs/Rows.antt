@@ -4,7 +4,6 @@ use Prim.Native.String.{String}
 use mathlib.Core.Path.{◌≡◌}
 use mathlib.Core.Bool.{true, false, cond}
 use mathlib.Core.List.{List, [], ◌∷◌, ◌++◌, map}
-use lib.ListN.{replicate}
 use lib.IntN.{ℤ, pos, neg_ℤ}
 use lib.Dec.{eqb}
 use Rattle.meaning.specs.Basics.{bytes}
@@ -13,8 +12,8 @@ use Rattle.meaning.specs.Tree.{Expression, Statement}
 use Rattle.meaning.specs.Grammar.{Got, good, wrong, expression, statement}
 use Rattle.meaning.specs.Figure.{Figure, line, ellipse, box, text}
 use Rattle.meaning.specs.Value.{Value, integer, string, boolean, none, table, shape}
-use Rattle.meaning.specs.State.{State, Shape, Variable, Entry, atom, key_with, content_of, by_content}
-use Rattle.meaning.specs.Run.{End, result, error, unfinished, Action}
+use Rattle.meaning.specs.State.{State, Shape, Variable, atom, key_with, content_of, by_content}
+use Rattle.meaning.specs.Run.{End, result, error, unfinished}
 use Rattle.meaning.specs.Evaluate.{evaluate}
 use Rattle.meaning.specs.Procedure.{calling}
 use Rattle.meaning.specs.Execute.{execute}

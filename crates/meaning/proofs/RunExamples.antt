@@ -1,5 +1,5 @@
 -- Examples of runs: what each statement and expression takes, in order and with its place; what variables hold then; what is shown.
-use Prim.Native.Nat.{ℕ, ◌+◌}
+use Prim.Native.Nat.{ℕ}
 use Prim.Native.String.{String}
 use mathlib.Core.Path.{◌≡◌, refl}
 use mathlib.Core.Bool.{true}

@@ -1,17 +1,15 @@
 -- Laws of variables, shapes and entries.
 use Prim.Native.Nat.{ℕ, suc}
-use mathlib.Core.Path.{◌≡◌, refl, ap, ◌∙◌}
+use mathlib.Core.Path.{◌≡◌, refl, ap}
 use mathlib.Core.Bool.{Bool, true, false, ◌&&◌, and-eq-true_iff}
 use mathlib.Core.List.{List, [], ◌∷◌, ◌++◌}
 use mathlib.Core.Option.{Option, some}
-use mathlib.Core.Option as Option
 use lib.ListN.{length, get_or, length-set}
 use lib.Seq.{get_or-append_seam}
 use lib.Dec.{eqb}
 use borrow.Author.Tests.{eqb-true}
 use Rattle.meaning.specs.Basics.{if◌then◌else◌, same_text}
-use Rattle.meaning.specs.Figure.{Figure}
-use Rattle.meaning.specs.Value.{Value, integer, string, boolean, none, table, shape}
+use Rattle.meaning.specs.Value.{Value, none}
 use Rattle.meaning.specs.State.{State, Variable, Content, Shape, Entry, Key, value_in, is_some, assigned, with_variables, no_shape, with_shape, destroy, same_key, matches, entry_in, overwritten}
 use Rattle.meaning.specs.Run.{run, result, go_on, ◌>>=◌, give, refuse, current, become}
 use Rattle.meaning.specs.Execute.{onward, declaring, storing}

@@ -2,11 +2,9 @@
 -- arguments evaluated, is handed in.
 use Rattle.std.specs.Prelude.{ℕ, List, [], ◌∷◌, ℤ}
 use Rattle.std.proofs.Math.Option.{Option, some}
-use Rattle.std.proofs.Math.Option as Option
 use Rattle.meaning.specs.Integer.{is_negative}
 use Rattle.meaning.specs.Tree.{Expression, number, string, nothing, truth, name, table, entry, operation, call, paren, Arguments, no_argument, argument}
 use Rattle.meaning.specs.Value.{Value}
-use Rattle.meaning.specs.Value as Value
 use Rattle.meaning.specs.State.{Key, value_in, key_of, entry_in, with_new_table}
 use Rattle.meaning.specs.Run.{Action, ◌>>=◌, ◌>>◌, give, fail, count, refuse, current, become}
 use Rattle.meaning.specs.Operator.{usable, with_integer, operate}

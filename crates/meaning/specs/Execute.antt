@@ -1,7 +1,6 @@
 -- What a statement does. n bounds the turns of each loop; a run that needs more is unfinished.
 use Rattle.std.specs.Prelude.{ℕ, zero, suc, not, List, [], ◌∷◌, ◌++◌}
 use Rattle.std.proofs.Math.Option.{Option, some}
-use Rattle.std.proofs.Math.Option as Option
 use Rattle.meaning.specs.Basics.{if◌then◌else◌}
 use Rattle.meaning.specs.Tree.{Statement, declare, assign, update, when, while, foreach, return, block, act, Statements, only, first}
 use Rattle.meaning.specs.Value.{Value, integer, string, boolean, none, table, shape}

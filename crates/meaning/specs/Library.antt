@@ -1,7 +1,6 @@
 -- The library procedures (section 2.2.6 of the IMG specification, less the trigonometric ones).
 use Rattle.std.specs.Prelude.{ℕ, suc, List, [], ◌∷◌, ◌++◌, ℤ}
 use Rattle.std.proofs.Math.Option.{Option, some}
-use Rattle.std.proofs.Math.Option as Option
 use Rattle.meaning.specs.Basics.{bytes, if◌then◌else◌, same_text}
 use Rattle.meaning.specs.Figure.{Figure, line, ellipse, box, text, centre_x, centre_y, connecting, text_on}
 use Rattle.meaning.specs.Value.{Value, integer, none, shape}

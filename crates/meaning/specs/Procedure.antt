@@ -5,7 +5,6 @@ use Rattle.meaning.specs.Basics.{bytes, if◌then◌else◌, same_text}
 use Rattle.meaning.specs.Tree.{Statements, Procedure}
 use Rattle.meaning.specs.Grammar.{procedure_named}
 use Rattle.meaning.specs.Value.{Value}
-use Rattle.meaning.specs.Value as Value
 use Rattle.meaning.specs.State.{fresh, entered, resumed}
 use Rattle.meaning.specs.Run.{calls, Action, run, unfinished, ◌>>=◌, ◌>>◌, give, fail, spend, give_back, refuse, current, become}
 use Rattle.meaning.specs.Library.{Library, library_of, call_library}

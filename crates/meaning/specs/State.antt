@@ -1,7 +1,6 @@
 -- The state of a run: variables, shapes, and the entries of tables.
 use Rattle.std.specs.Prelude.{ℕ, suc, ◌+◌, Bool, true, false, ◌&&◌, cond, List, [], ◌∷◌, ◌++◌, get_or, set, ℤ, pos, eqb}
 use Rattle.std.proofs.Math.Option.{Option, some}
-use Rattle.std.proofs.Math.Option as Option
 use Rattle.meaning.specs.Basics.{if◌then◌else◌, same_text}
 use Rattle.meaning.specs.Integer.{same_integers}
 use Rattle.meaning.specs.Figure.{Figure, line, figure_kind, numbers_of, text_of}

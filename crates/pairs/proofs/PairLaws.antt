@@ -10,7 +10,7 @@ use lib.Dec.{eqb, leb}
 use borrow.Author.Tests.{not-true, not-false, eq-eqb, ne_eqb}
 use Rattle.meaning.specs.Basics.{if◌then◌else◌}
 use Rattle.machine.specs.Layout.{steps_used, steps_granted, shapes_granted, shape_place, Room}
-use Rattle.machine.specs.Act.{Raw, raw, Out, done, stop, Act, go_on, ◌>>=◌, ◌>>◌, give, load, store, held, spend, count, passed, Passes}
+use Rattle.machine.specs.Act.{Raw, raw, Out, done, stop, Act, go_on, ◌>>=◌, give, load, store, held, spend, count, passed, Passes}
 use Rattle.machine.specs.Shapes.{is_group_at, destroyed_at, figure_at}
 use Rattle.machine.specs.Groups.{component_at, first_at, count_at, way_word, way_place, waiting_place, passed_from, pairs_from, alike_at}
 use Rattle.machine.specs.Operate.{same_figure, figures_same}

@@ -3,7 +3,7 @@ use Rattle.std.specs.Prelude.{ℕ, ◌≤◌, ◌<◌, ◌≡◌, List, get_or, 
 use Rattle.machine.specs.declared.Value.TheVariants.{Integer}
 use Rattle.machine.specs.Words.{packed}
 use Rattle.machine.specs.Layout.{calls_used, calls_granted, argument_place, entry_place, component_place}
-use Rattle.machine.specs.Act.{raw, Out, done, stop, Act, refuse, store, spend, ◌>>◌, ◌>>=◌}
+use Rattle.machine.specs.Act.{raw, Out, done, stop, Act, refuse, store, spend, ◌>>◌}
 use Rattle.machine.specs.Variables.{set_variable}
 use Rattle.machine.specs.Procedures.{open_frame}
 use Rattle.machine.specs.Show.{show_scene}

@@ -1,5 +1,5 @@
 -- Making shapes anew keeps the way of a walk.
-use Prim.Native.Nat.{ℕ, zero, suc, ◌+◌, ◌-◌, ◌*◌, ◌/◌, ◌%◌, ◌^◌, ◌<◌}
+use Prim.Native.Nat.{ℕ, zero, suc, ◌+◌, ◌-◌, ◌/◌, ◌%◌, ◌^◌, ◌<◌}
 use mathlib.Core.Path.{◌≡◌, refl, ◌∙◌}
 use mathlib.Core.List.{List}
 use native.Mathlib.Omega.{arith}
@@ -8,12 +8,12 @@ use lib.Seq.{get_or-set_other}
 use Rattle.machine.specs.declared.Figure.{Figure}
 use Rattle.machine.specs.declared.Value.TheVariants.{Shape}
 use Rattle.machine.specs.Layout.{steps_used, shapes_used, entries_used, components_made, waiting_held, steps_granted, shapes_granted, entries_granted, calls_granted, shape_place, component_place, path_place}
-use Rattle.machine.specs.Act.{Raw, raw, Out, done, stop, Act, go_on, ◌>>=◌, ◌>>◌, give, load, store, held, spend, count}
+use Rattle.machine.specs.Act.{Raw, go_on, ◌>>=◌, ◌>>◌, give, load, store, held, spend, count}
 use Rattle.machine.specs.Shapes.{is_group_at, figure_at, put_figure, new_shape}
 use Rattle.machine.specs.Groups.{slot_word, unmarked, fill_from, put_group, new_group, way_place, waiting_place, await, group_waiting, remake_reached, remake_left}
 use Rattle.machine.proofs.Slots.{zeroed_other}
 use Rattle.walks.specs.Walks.{Doing}
-use Rattle.walks.proofs.WalkLaws.{Keeps, keeps_from, keeps_then, keeps_either, keeps_store, Steady}
+use Rattle.walks.proofs.WalkLaws.{Keeps, keeps_then, keeps_either, keeps_store, Steady}
 use Rattle.walks.proofs.WalkLaws.{keeps_spend}
 
 three_sets : (ws : List ℕ) (i x y z e : ℕ) → get_or (set (set (set ws (shape_place i) x) (shape_place i + 1) y) (shape_place i + 2) z) (way_place e) 0 ≡ get_or ws (way_place e) 0

@@ -1,6 +1,6 @@
 -- Lines measured: what each way through the code does.
 -- Assumes nothing.
-use Rattle.std.proofs.Common.{◌≡◌, ℕ, suc, ◌+◌, ◌-◌, ◌%◌, ◌^◌, ◌<◌, ◌≤◌, Bool, true, false, not, eqb, List, length, get_or, set, sym, refl, ap, ◌∙◌, arith, length-set, ne_eqb}
+use Rattle.std.proofs.Common.{◌≡◌, ℕ, suc, ◌+◌, ◌-◌, ◌%◌, ◌^◌, ◌<◌, ◌≤◌, Bool, true, false, not, List, length, get_or, set, sym, refl, ap, ◌∙◌, arith, length-set, ne_eqb}
 use borrow.Author.Tests.{not-true, not-false}
 use Rattle.meaning.specs.Basics.{if◌then◌else◌}
 use Rattle.meaning.specs.Picture.{line_of}
@@ -9,7 +9,7 @@ use Rattle.machine.specs.Layout.{declared, lines_length, frame, steps_used, step
 use Rattle.machine.specs.Variables.{holding_of}
 use Rattle.machine.specs.Act.{Raw, raw, Out, done, stop, Act, go_on, ◌>>=◌, give, load, store, held, count, passed, Passes, Gives}
 use Rattle.machine.specs.Shapes.{is_group_at, destroyed_at}
-use Rattle.machine.specs.Groups.{component_at, way_place}
+use Rattle.machine.specs.Groups.{component_at}
 use Rattle.machine.specs.Show.{measure, show_reached, show, show_in, show_from, show_scene}
 use Rattle.values.proofs.Laws.{unpacked_shape, by_kind}
 use Rattle.stores.proofs.Acts.{after_pass, after_refusal}

@@ -1,17 +1,17 @@
 -- Lines written by a walk: what is shown, and what is yet to be.
 -- Assumes nothing.
-use Prim.Native.Nat.{ℕ, zero, suc, ◌+◌, ◌-◌, ◌*◌, ◌%◌, ◌^◌, ◌≤◌, ◌<◌}
+use Prim.Native.Nat.{ℕ, zero, suc, ◌+◌, ◌-◌, ◌<◌}
 use mathlib.Core.Path.{◌≡◌, refl, ap, sym, ◌∙◌}
 use mathlib.Core.Bool.{Bool, true, false, not}
-use mathlib.Core.List.{List, [], ◌∷◌, ◌++◌, append_assoc, append-nil}
+use mathlib.Core.List.{List, [], ◌∷◌, ◌++◌, append_assoc}
 use native.Mathlib.Omega.{arith}
-use lib.ListN.{get_or, set, length, length-set}
+use lib.ListN.{get_or, length, length-set}
 use lib.Seq.{get_or-set_same, get_or-set_other}
-use lib.Dec.{eqb, ltb}
+use lib.Dec.{ltb}
 use borrow.Author.Tests.{not-true, not-false, lt-ltb, le-ltb}
 use Rattle.meaning.specs.Basics.{if◌then◌else◌}
 use Rattle.meaning.specs.Picture.{lines_of}
-use Rattle.machine.specs.Layout.{fixed_words, shapes_granted, shape_place, component_place, waiting_held, Room}
+use Rattle.machine.specs.Layout.{fixed_words, shapes_granted, shape_place, component_place, waiting_held}
 use Rattle.machine.specs.Words.{number_in}
 use Rattle.machine.specs.Act.{raw, give}
 use Rattle.machine.specs.Shapes.{is_group_at, destroyed_at, figure_at}
@@ -19,8 +19,8 @@ use Rattle.machine.specs.Groups.{component_at, first_at, count_at, way_place, wa
 use Rattle.machine.specs.Show.{shown_from, figures_in}
 use Rattle.picture.proofs.Frames.{lines_append}
 use Rattle.walks.specs.declared.Turn.{Turn}
-use Rattle.walks.specs.declared.Turn.TheVariants.{At, Stopped}
-use Rattle.walks.specs.Walks.{slot_in, left_in, count_within, Walks, Under, Turned, back_at, way_laid, down_in, Descended}
+use Rattle.walks.specs.declared.Turn.TheVariants.{At}
+use Rattle.walks.specs.Walks.{slot_in, left_in, count_within, Walks, Under, back_at, way_laid, down_in, Descended}
 use Rattle.walks.proofs.WalkLaws.{Keeps, Steady, slot_back, left_back}
 use Rattle.walks.proofs.TurnLaws.{turn_climbs, turn_over, turn_figure, turn_group, less_one_lem}
 use Rattle.scene.specs.Scene.{figure_for, figures_for, shown_by}

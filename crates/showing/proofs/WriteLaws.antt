@@ -1,14 +1,13 @@
 -- Lines written: what each way through the code does.
 -- Assumes nothing.
-use Prim.Native.Nat.{ℕ, zero, suc, ◌+◌, ◌-◌, ◌%◌, ◌^◌, ◌≤◌, ◌<◌}
+use Prim.Native.Nat.{ℕ, zero, suc, ◌+◌, ◌-◌, ◌^◌, ◌≤◌, ◌<◌}
 use mathlib.Core.Path.{◌≡◌, refl, ap, sym, ◌∙◌}
-use mathlib.Core.Bool.{Bool, true, false, ◌&&◌, not}
-use mathlib.Core.List.{List, [], ◌∷◌, ◌++◌, append_assoc, append-nil}
+use mathlib.Core.Bool.{Bool, true, false}
+use mathlib.Core.List.{List, [], ◌++◌, append_assoc, append-nil}
 use native.Mathlib.Numerals.{add-one}
 use native.Mathlib.Omega.{arith}
 use lib.IntN.{ℤ}
 use lib.ListN.{get_or, length, take-append-drop}
-use lib.Dec.{eqb, ltb}
 use mir.Syntax.{w32, w64}
 use mir.Val.{Fits, SFits}
 use mir.ValLaws.{to_z-of_z}
@@ -16,7 +15,7 @@ use borrow.Author.Tests.{lt-ltb, le-ltb, eq-eqb, ne_eqb}
 use Rattle.meaning.specs.Basics.{if◌then◌else◌, laid_over}
 use Rattle.meaning.specs.Picture.{line_of, lines_of, picture_of}
 use Rattle.machine.specs.Words.{kind_in, number_in}
-use Rattle.machine.specs.Layout.{declared, lines_length, fixed_words, frame, shapes_granted, argument_place, Room}
+use Rattle.machine.specs.Layout.{declared, lines_length, frame, shapes_granted, argument_place, Room}
 use Rattle.machine.specs.Variables.{number_of}
 use Rattle.machine.specs.Act.{raw}
 use Rattle.machine.specs.Shapes.{is_group_at, destroyed_at}
@@ -34,7 +33,7 @@ use Rattle.walks.proofs.TurnLaws.{room_same, walks_first}
 use Rattle.scene.specs.Scene.{figure_for, figures_for, shown_by, shown_first, scene_in, word_of}
 use Rattle.showing.specs.Showing.{Unmoved, lines_for, figure_within, shown_here, level_shown, above_shown, left_shown, ShownBy, Moved, Shown, Pictured}
 use Rattle.scene.proofs.Figures.{seen}
-use Rattle.showing.proofs.ShowLaws.{unmoved_none, unmoved_then, same_fixed, figures_same, lines_same, lines_more, figure_level, group_level, shown_by_same}
+use Rattle.showing.proofs.ShowLaws.{unmoved_none, unmoved_then, same_fixed, lines_same, lines_more, figure_level, group_level, shown_by_same}
 
 pub writes_nothing : {at : ℕ} {d : List ℕ} → at < 2 ^ 64 → WroteAt at [] d d at
 unfolding laid_at laid_over

@@ -1,5 +1,5 @@
 -- What each way through a turn of a walk does.
-use Prim.Native.Nat.{ℕ, zero, suc, ◌+◌, ◌-◌, ◌*◌, ◌/◌, ◌%◌, ◌^◌, ◌≤◌, ◌<◌}
+use Prim.Native.Nat.{ℕ, zero, suc, ◌+◌, ◌-◌, ◌/◌, ◌%◌, ◌^◌, ◌≤◌, ◌<◌}
 use mathlib.Core.Path.{◌≡◌, refl, ap, sym, ◌∙◌}
 use mathlib.Core.Bool.{Bool, true, false, not}
 use mathlib.Core.List.{List, []}
@@ -10,14 +10,14 @@ use lib.Dec.{eqb, ltb}
 use borrow.Author.Tests.{not-true, not-false, lt-ltb, le-ltb, ltb-true, eqb-true, eqb-false, ne_eqb}
 use Rattle.meaning.specs.Basics.{if◌then◌else◌}
 use Rattle.machine.specs.Layout.{waiting_held, shapes_granted, Room}
-use Rattle.machine.specs.Act.{Raw, raw, Out, done, stop, Act, go_on, ◌>>=◌, give, passed}
+use Rattle.machine.specs.Act.{raw, Out, done, stop, go_on, ◌>>=◌, give, passed}
 use Rattle.machine.specs.Shapes.{is_group_at, destroyed_at}
 use Rattle.machine.specs.Groups.{component_at, first_at, count_at, way_word, way_place, each_from, walk_in}
 use Rattle.walks.specs.declared.Turn.{Turn}
 use Rattle.walks.specs.declared.Turn.TheVariants.{At, Stopped}
 use Rattle.walks.specs.Walks.{Ends, Doing, walking, slot_in, left_in, level_from, above_of, rest_of, rest_by}
 use Rattle.walks.specs.Walks.{Walks, count_within, owed, owed_by, WalksBy, Turned, Under, back_at, way_laid, down_in, Descends, Descended, Entered}
-use Rattle.walks.proofs.WalkLaws.{Keeps, Steady, kept_way, slot_back, left_back, climbs, climb_stops, passes_over, reach_stops, figure_reached, group_reached}
+use Rattle.walks.proofs.WalkLaws.{Steady, kept_way, slot_back, left_back, climbs, climb_stops, passes_over, reach_stops, figure_reached, group_reached}
 use Rattle.walks.proofs.WalkLaws.{level_walk, advance_less, climb_less, descend_less, owed_some}
 
 -- ---- ranges

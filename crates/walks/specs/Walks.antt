@@ -1,6 +1,6 @@
 -- Walks over all that a group holds, as a loop makes them: at depth d, n components are left from slot k on, and what is left at the depths above
 -- stands in the words of the way.
-use Rattle.std.specs.Prelude.{ℕ, zero, suc, ◌+◌, ◌-◌, ◌*◌, ◌/◌, ◌%◌, ◌^◌, ◌≤◌, ◌<◌, ◌≡◌, Bool, List, get_or, set, eqb, ltb}
+use Rattle.std.specs.Prelude.{ℕ, zero, suc, ◌+◌, ◌-◌, ◌*◌, ◌/◌, ◌%◌, ◌^◌, ◌≤◌, ◌<◌, ◌≡◌, List, get_or, set, eqb, ltb}
 use Rattle.meaning.specs.Basics.{if◌then◌else◌}
 use Rattle.machine.specs.Layout.{shapes_granted, Room}
 use Rattle.machine.specs.Act.{raw, Out, stop, Act, ◌>>=◌, ◌>>◌, give, load, store, held, passed}

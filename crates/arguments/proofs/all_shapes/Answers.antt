@@ -1,4 +1,3 @@
-use Prim.Native.Nat.{◌-◌}
 use native.Mathlib.Omega.{arith}
 use Rattle.arguments.proofs.ArgumentLaws.{ask_first, shape_missing, shape_given, shapes_all}
 use Rattle.arguments.proofs.all_shapes.Goals as goal

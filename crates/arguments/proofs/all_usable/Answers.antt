@@ -1,4 +1,3 @@
-use Prim.Native.Nat.{◌-◌}
 use native.Mathlib.Omega.{arith}
 use Rattle.arguments.proofs.ArgumentLaws.{ask_first, ask_dead, ask_more, ask_all}
 use Rattle.arguments.proofs.all_usable.Goals as goal

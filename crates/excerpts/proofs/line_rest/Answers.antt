@@ -1,6 +1,5 @@
 -- `excerpts::line_rest` meets its contract: the bytes before i are the line's.
 -- Assumes nothing.
-use Prim.Native.Nat.{◌-◌}
 use native.Mathlib.Omega.{arith}
 use Rattle.numerals.proofs.Spans.{span_none, span_more, span_stop, span_over}
 use Rattle.excerpts.proofs.Marking.{line_goes_on, line_ends}

@@ -1,6 +1,5 @@
 -- `excerpts::write_glyphs_at` meets its contract: the first i bytes are shown.
 -- Assumes nothing.
-use Prim.Native.Nat.{◌-◌}
 use native.Mathlib.Omega.{arith}
 use Rattle.excerpts.proofs.Marking.{show_none, show_more, show_all}
 use Rattle.excerpts.proofs.write_glyphs_at.Goals as goal

@@ -1,4 +1,3 @@
-use Prim.Native.Nat.{◌+◌, ◌-◌, ◌*◌, ◌<◌}
 use native.Mathlib.Omega.{arith}
 use borrow.Author.Rules.{rules}
 use Rattle.fastpath.proofs.Laws.{too_deep, is_leaf, is_operation, sizes_differ, left_fails, operates}

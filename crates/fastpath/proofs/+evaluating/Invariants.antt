@@ -1,4 +1,4 @@
-use Prim.Native.Nat.{◌+◌, ◌-◌, ◌*◌, ◌<◌}
+use Prim.Native.Nat.{◌+◌, ◌*◌}
 use Rattle.fastpath.proofs.+evaluating.Given as goal
 
 abbrev pub decreases-expression : goal.decreases-expression

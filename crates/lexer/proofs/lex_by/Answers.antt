@@ -1,7 +1,6 @@
 -- `lexer::lex_by` meets its contract: the invariant is `Going`, with a law for each move.
 -- Assumes nothing.
 use mathlib.Core.Path.{◌∙◌, sym}
-use Prim.Native.Nat.{◌-◌}
 use native.Mathlib.Omega.{arith}
 use Rattle.lexer.proofs.Going.{start, space, token, ends, ended, refused}
 use Rattle.lexer.proofs.lex_by.Goals as goal

@@ -1,5 +1,4 @@
 -- `names::rewrite` meets its contract: the words before i are prepared, the others are as they were.
-use Prim.Native.Nat.{◌-◌}
 use native.Mathlib.Omega.{arith}
 use lib.ListN.{length-set}
 use Rattle.names.proofs.Rewriting.{home_few, rewrite_none, rewrite_room, rewrite_more, rewrite_all}

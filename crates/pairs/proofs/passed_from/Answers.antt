@@ -1,4 +1,3 @@
-use Prim.Native.Nat.{◌-◌}
 use native.Mathlib.Omega.{arith}
 use Rattle.pairs.proofs.PairLaws.{pass_first, pass_last, pass_found, pass_next}
 use Rattle.pairs.proofs.passed_from.Goals as goal

@@ -10,6 +10,6 @@ slice_bounds-clear_words-end-2 c = sym (length-take-le first_argument c.args.wor
 
 pub returns : goal.returns
 returns c =
-        both_cleared c.args.grants.now c.args.words.now _ _ _ _ c.requires
+    both_cleared c.args.grants.now c.args.words.now _ _ _ _ c.requires
     c.place_of-a.ensures c.place_of-b.ensures
     c.clear_words.ensures c.clear_words-2.ensures

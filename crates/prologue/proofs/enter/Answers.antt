@@ -1,11 +1,5 @@
 use mathlib.Core.Path.{refl}
 use Rattle.prologue.proofs.Ways.{one_name, call_refused, frame_refused, both_entered}
-use Rattle.prologue.proofs.enter.Reads as reads
-use Rattle.prologue.proofs.enter.Lts as lts
-use Rattle.frames.proofs.calls.open_frame.Reads as open-frame-reads
-use Rattle.stores.proofs.counters.spend_one.Reads as spend-one-reads
-use Rattle.frames.proofs.variables.set_variable.Reads as set-variable-reads
-use Rattle.values.proofs.pack.Reads as pack-reads
 use Rattle.prologue.proofs.enter.Goals as goal
 
 pub returns-then-n-eq0 : goal.returns-then-n-eq0

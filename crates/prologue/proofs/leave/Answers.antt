@@ -1,7 +1,4 @@
 use Rattle.prologue.proofs.Ways.{left_room, left_short, left_whole}
-use Rattle.prologue.proofs.leave.Reads as reads
-use Rattle.prologue.proofs.leave.Lts as lts
-use Rattle.scene.proofs.measure_scene.Reads as measure-scene-reads
 use Rattle.prologue.proofs.leave.Goals as goal
 
 pub measure_scene-r-requires : goal.measure_scene-r-requires

@@ -12,9 +12,9 @@ returns-then-is_group c =
 
 pub renew-r-requires : goal.renew-r-requires
 renew-r-requires c =
-        (room_same c.requires.0 c.count.auto.words, rw (to_z-of_z c.ranges.by) c.requires.1)
+    (room_same c.requires.0 c.count.auto.words, rw (to_z-of_z c.ranges.by) c.requires.1)
 
 pub returns : goal.returns
 returns c =
-            figure_met _ _ _ _ _ _ _ c.count.ensures c.if-not-count.false-raw _ c.is_group.ensures c.ranges.by _ _
+    figure_met _ _ _ _ _ _ _ c.count.ensures c.if-not-count.false-raw _ c.is_group.ensures c.ranges.by _ _
     c.if-is_group.false c.renew-r.ensures

@@ -1,5 +1,3 @@
-use mir.Syntax.{w32}
-use mir.Val.{to_z}
 use Rattle.machine.specs.Layout.{shapes_granted}
 use Rattle.machine.specs.Groups.{remake_left}
 use Rattle.walks.specs.Walks.{owed}

@@ -1,12 +1,5 @@
 use Rattle.walks.proofs.TurnLaws.{way_bound, descends}
 use Rattle.showing.proofs.ShowLaws.{moves_back, moves_over, moves_on, moves_down}
-use Rattle.showing.proofs.turn.Reads as reads
-use Rattle.showing.proofs.turn.Lts as lts
-use Rattle.walks.proofs.back_at.Reads as back-at-reads
-use Rattle.walks.proofs.descend.Reads as descend-reads
-use Rattle.stores.proofs.components.component_at.Reads as component-at-reads
-use Rattle.stores.proofs.shapes.is_destroyed.Reads as is-destroyed-reads
-use Rattle.stores.proofs.shapes.is_group.Reads as is-group-reads
 use Rattle.showing.proofs.turn.Goals as goal
 
 pub back_at-requires : goal.back_at-requires

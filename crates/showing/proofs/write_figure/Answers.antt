@@ -1,7 +1,4 @@
 use Rattle.showing.proofs.WriteLaws.{figure_none, figure_line}
-use Rattle.showing.proofs.write_figure.Reads as reads
-use Rattle.showing.proofs.write_figure.Lts as lts
-use Rattle.scene.proofs.lines.write_line_of.Reads as write-line-of-reads
 use Rattle.showing.proofs.write_figure.Goals as goal
 
 pub returns-then-grants-d : goal.returns-then-grants-d

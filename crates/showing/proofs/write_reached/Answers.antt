@@ -1,10 +1,4 @@
 use Rattle.showing.proofs.WriteLaws.{reached_end, reached_gone, reached_group, reached_figure}
-use Rattle.showing.proofs.write_reached.Reads as reads
-use Rattle.showing.proofs.write_reached.Lts as lts
-use Rattle.showing.proofs.write_figure.Reads as write-figure-reads
-use Rattle.stores.proofs.components.component_at.Reads as component-at-reads
-use Rattle.stores.proofs.shapes.is_destroyed.Reads as is-destroyed-reads
-use Rattle.stores.proofs.shapes.is_group.Reads as is-group-reads
 use Rattle.showing.proofs.write_reached.Goals as goal
 
 pub returns-then-n-eq0 : goal.returns-then-n-eq0

@@ -1,11 +1,5 @@
-use Prim.Native.Nat.{◌-◌}
 use native.Mathlib.Omega.{arith}
 use Rattle.showing.proofs.WriteLaws.{write_first, write_room, write_more, write_all}
-use Rattle.showing.proofs.write_variables.Reads as reads
-use Rattle.showing.proofs.write_variables.Lts as lts
-use Rattle.showing.proofs.declared_word.Reads as declared-word-reads
-use Rattle.showing.proofs.write_in.Reads as write-in-reads
-use Rattle.frames.proofs.variables.declared_count.Reads as declared-count-reads
 use Rattle.showing.proofs.write_variables.Goals as goal
 
 pub loop-drawn-init : goal.loop-drawn-init

@@ -1,10 +1,5 @@
 use Prim.Native.Nat.{◌-◌}
 use Rattle.showing.proofs.WriteLaws.{Writing}
-use Rattle.showing.proofs.write_variables.Reads as reads
-use Rattle.showing.proofs.write_variables.Lts as lts
-use Rattle.showing.proofs.declared_word.Reads as declared-word-reads
-use Rattle.showing.proofs.write_in.Reads as write-in-reads
-use Rattle.frames.proofs.variables.declared_count.Reads as declared-count-reads
 use Rattle.showing.proofs.write_variables.Given as goal
 
 abbrev pub invariant-loop-drawn : goal.invariant-loop-drawn

@@ -1,12 +1,6 @@
 use native.Mathlib.Omega.{arith}
 use borrow.Author.Rules.{rules}
 use Rattle.showing.proofs.WriteLaws.{show_first, show_under, show_over, show_next, show_less, show_never}
-use Rattle.showing.proofs.write_within.Reads as reads
-use Rattle.showing.proofs.write_within.Lts as lts
-use Rattle.walks.proofs.count_within.Reads as count-within-reads
-use Rattle.showing.proofs.turn.Reads as turn-reads
-use Rattle.showing.proofs.write_reached.Reads as write-reached-reads
-use Rattle.stores.proofs.components.first_at.Reads as first-at-reads
 use Rattle.showing.proofs.write_within.Goals as goal
 
 pub loop-d-init : goal.loop-d-init

@@ -1,12 +1,6 @@
 use Rattle.machine.specs.Layout.{shapes_granted}
 use Rattle.walks.specs.Walks.{owed}
 use Rattle.showing.proofs.WriteLaws.{Showing}
-use Rattle.showing.proofs.write_within.Reads as reads
-use Rattle.showing.proofs.write_within.Lts as lts
-use Rattle.walks.proofs.count_within.Reads as count-within-reads
-use Rattle.showing.proofs.turn.Reads as turn-reads
-use Rattle.showing.proofs.write_reached.Reads as write-reached-reads
-use Rattle.stores.proofs.components.first_at.Reads as first-at-reads
 use Rattle.showing.proofs.write_within.Given as goal
 
 abbrev pub invariant-loop-d : goal.invariant-loop-d

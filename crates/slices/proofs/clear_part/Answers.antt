@@ -1,5 +1,4 @@
 -- `slices::clear_part` meets its contract: the words before i are zero.
-use Prim.Native.Nat.{◌-◌}
 use native.Mathlib.Omega.{arith}
 use lib.ListN.{length-set}
 use Rattle.slices.proofs.Clearing.{clear_none, clear_more, clear_all}

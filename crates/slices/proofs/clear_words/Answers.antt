@@ -1,5 +1,4 @@
 -- `slices::clear_words` meets its contract: the words before a are zero.
-use Prim.Native.Nat.{◌-◌}
 use native.Mathlib.Omega.{arith}
 use Rattle.slices.proofs.Clearing.{clear_none, clear_long, clear_all, clear_through}
 use Rattle.slices.proofs.clear_words.Goals as goal

@@ -1,4 +1,3 @@
-use Prim.Native.Nat.{◌-◌}
 use native.Mathlib.Omega.{arith}
 use Rattle.texts.proofs.Layer.{copy_none, copy_more, copy_length, copy_all, copy_source}
 use Rattle.texts.proofs.copy_within.Goals as goal

@@ -1,4 +1,3 @@
-use Prim.Native.Nat.{◌-◌}
 use mathlib.Core.Path.{sym}
 use native.Mathlib.Omega.{arith}
 use Rattle.texts.proofs.Comparison.{other_lengths, compare_first, compare_other, compare_more, compare_all}

@@ -1,6 +1,5 @@
 use native.Mathlib.Omega.{arith}
 use mathlib.Core.Path.{refl}
-use Prim.Native.Nat.{◌-◌}
 use Rattle.destroying.proofs.SceneLaws.{runs_first, runs_room, clear_more_calls, clear_stops_calls, clear_all_calls}
 use Rattle.destroying.proofs.scene.clear_calls.Goals as goal
 

@@ -1,5 +1,4 @@
 use native.Mathlib.Omega.{arith}
-use Prim.Native.Nat.{◌-◌}
 use Rattle.destroying.proofs.SceneLaws.{runs_first, runs_room, runs_long, clear_more, clear_stops, clear_all}
 use Rattle.destroying.proofs.scene.clear_frame.Goals as goal
 

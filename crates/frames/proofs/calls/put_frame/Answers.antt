@@ -1,6 +1,5 @@
 use Rattle.frames.proofs.CallLaws.{frame_more, all_framed}
 use Rattle.stores.proofs.Turns.{turns_first}
-use Prim.Native.Nat.{◌-◌}
 use native.Mathlib.Omega.{arith}
 use Rattle.frames.proofs.calls.put_frame.Goals as goal
 

@@ -1,4 +1,3 @@
-use Prim.Native.Nat.{◌-◌}
 use Rattle.groups.proofs.MakingLaws.{zero_first, zero_next, zero_last}
 use Rattle.groups.proofs.making.clear_from.Goals as goal
 

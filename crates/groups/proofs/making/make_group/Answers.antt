@@ -2,12 +2,6 @@ use native.Mathlib.Omega.{arith}
 use mathlib.Core.Path.{◌∙◌, refl}
 use Rattle.stores.proofs.Laws.{shape_number, shape_room}
 use Rattle.groups.proofs.MakingLaws.{no_group, group_short, group_made, group_sources}
-use Rattle.groups.proofs.making.make_group.Reads as reads
-use Rattle.groups.proofs.making.make_group.Lts as lts
-use Rattle.groups.proofs.making.fill.Reads as fill-reads
-use Rattle.groups.proofs.making.put_group.Reads as put-group-reads
-use Rattle.stores.proofs.counters.spend.Reads as spend-reads
-use Rattle.stores.proofs.shapes.place_of.Reads as place-of-reads
 use Rattle.groups.proofs.making.make_group.Goals as goal
 
 pub returns-then-not-spend : goal.returns-then-not-spend

@@ -1,8 +1,5 @@
 use native.Mathlib.Omega.{arith}
 use Rattle.groups.proofs.MakingLaws.{group_refused, group_answered}
-use Rattle.groups.proofs.making.new_group.Reads as reads
-use Rattle.groups.proofs.making.new_group.Lts as lts
-use Rattle.groups.proofs.making.make_group.Reads as make-group-reads
 use Rattle.groups.proofs.making.new_group.Goals as goal
 
 pub returns-then-number-ne0 : goal.returns-then-number-ne0

@@ -1,10 +1,5 @@
 use native.Mathlib.Omega.{arith}
 use Rattle.groups.proofs.WaitingLaws.{waiting_sources, gather_short, gathers}
-use Rattle.groups.proofs.waiting.gather.Reads as reads
-use Rattle.groups.proofs.waiting.gather.Lts as lts
-use Rattle.arithmetic.proofs.lowered_word.Reads as lowered-word-reads
-use Rattle.groups.proofs.making.make_group.Reads as make-group-reads
-use Rattle.stores.proofs.shapes.place_of.Reads as place-of-reads
 use Rattle.groups.proofs.waiting.gather.Goals as goal
 
 pub make_group-r-requires : goal.make_group-r-requires

@@ -1,10 +1,5 @@
 use native.Mathlib.Omega.{arith}
 use Rattle.groups.proofs.WaitingLaws.{leave_short, leaves}
-use Rattle.groups.proofs.waiting.leave_group.Reads as reads
-use Rattle.groups.proofs.waiting.leave_group.Lts as lts
-use Rattle.groups.proofs.waiting.await_shape.Reads as await-shape-reads
-use Rattle.groups.proofs.waiting.gather.Reads as gather-reads
-use Rattle.walks.proofs.waiting_at.Reads as waiting-at-reads
 use Rattle.groups.proofs.waiting.leave_group.Goals as goal
 
 pub returns-then-r-ne0 : goal.returns-then-r-ne0

@@ -1,7 +1,6 @@
 -- `lexer::class::run_end` meets its contract: the invariant says that the run from the start ends where the run from i ends.
 -- Assumes nothing.
 use mathlib.Core.Path.{◌∙◌, refl, sym}
-use Prim.Native.Nat.{◌-◌}
 use native.Mathlib.Omega.{arith}
 use Rattle.lexer.proofs.Runs.{end_over, end_low, end_high, end_more}
 use Rattle.lexer.proofs.class.run_end.Goals as goal

@@ -1,4 +1,4 @@
-use Rattle.std.proofs.Common.{◌-◌, arith}
+use Rattle.std.proofs.Common.{arith}
 use Rattle.loops.proofs.MarkLaws.{seek_first, seek_last, seek_found, seek_next}
 use Rattle.loops.proofs.looking.marked_from.Goals as goal
 

@@ -1,4 +1,4 @@
-use Rattle.std.proofs.Common.{◌-◌, arith}
+use Rattle.std.proofs.Common.{arith}
 use Rattle.stores.proofs.Turns.{turns_first}
 use Rattle.loops.proofs.MarkLaws.{unmark_more, all_unmarked, still_room}
 use Rattle.loops.proofs.marks.unmark_below.Goals as goal

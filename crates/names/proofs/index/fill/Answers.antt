@@ -1,5 +1,4 @@
 -- `names::index::fill` meets its contract: the index is that of the tokens before i.
-use Prim.Native.Nat.{◌-◌}
 use native.Mathlib.Omega.{arith}
 use Rattle.names.proofs.Noting.{fill_begin, fill_files, fill_next, fill_all}
 use Rattle.names.proofs.index.fill.Goals as goal

@@ -1,5 +1,4 @@
 -- `names::index::hash` meets its contract: what is left to hash is the bytes from i on.
-use Prim.Native.Nat.{◌-◌}
 use native.Mathlib.Omega.{arith}
 use Rattle.names.proofs.Hashing.{hash_begin, hash_more, hash_all}
 use Rattle.names.proofs.index.hash.Goals as goal

@@ -1,5 +1,4 @@
 -- `names::payload::value_of` meets its contract: what is left to read is the digits from i on.
-use Prim.Native.Nat.{◌-◌}
 use native.Mathlib.Omega.{arith}
 use Rattle.names.proofs.Digits.{read_none, read_more, read_all}
 use Rattle.names.proofs.payload.value_of.Goals as goal

@@ -1,6 +1,5 @@
 -- `report::place::locate` meets its contract: p is the position of i.
 -- Assumes nothing.
-use Prim.Native.Nat.{◌-◌}
 use native.Mathlib.Omega.{arith}
 use Rattle.report.proofs.Placing.{locate_none, locate_small, locate_more, locate_all}
 use Rattle.report.proofs.place.locate.Goals as goal

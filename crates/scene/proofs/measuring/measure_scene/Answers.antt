@@ -1,8 +1,5 @@
 use Rattle.std.proofs.Common.{refl}
 use Rattle.scene.proofs.MeasureLaws.{scene_measured, room_cleared}
-use Rattle.scene.proofs.measuring.measure_scene.Reads as reads
-use Rattle.scene.proofs.measuring.measure_scene.Lts as lts
-use Rattle.scene.proofs.measuring.measure_variables.Reads as measure-variables-reads
 use Rattle.scene.proofs.measuring.measure_scene.Goals as goal
 
 pub measure_variables-r-requires : goal.measure_variables-r-requires

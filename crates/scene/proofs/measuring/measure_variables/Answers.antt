@@ -1,4 +1,4 @@
-use Rattle.std.proofs.Common.{◌-◌, arith}
+use Rattle.std.proofs.Common.{arith}
 use Rattle.scene.proofs.MeasureLaws.{measures_first, measures_room, measures_long, measures_more, measures_stop, measures_all}
 use Rattle.scene.proofs.measuring.measure_variables.Goals as goal
 

@@ -1,9 +1,4 @@
 use Rattle.scene.proofs.MeasureLaws.{no_step, group_met, figure_met}
-use Rattle.scene.proofs.measuring.reach.Reads as reads
-use Rattle.scene.proofs.measuring.reach.Lts as lts
-use Rattle.scene.proofs.measuring.measure.Reads as measure-reads
-use Rattle.stores.proofs.counters.count.Reads as count-reads
-use Rattle.stores.proofs.shapes.is_group.Reads as is-group-reads
 use Rattle.scene.proofs.measuring.reach.Goals as goal
 
 pub returns-then-not-count : goal.returns-then-not-count

@@ -1,13 +1,5 @@
 use Rattle.walks.proofs.TurnLaws.{way_bound, turn_over, descends}
 use Rattle.scene.proofs.MeasureLaws.{climbs_back, steps_short, figure_measured, group_measured}
-use Rattle.scene.proofs.measuring.turn.Reads as reads
-use Rattle.scene.proofs.measuring.turn.Lts as lts
-use Rattle.walks.proofs.back_at.Reads as back-at-reads
-use Rattle.walks.proofs.descend.Reads as descend-reads
-use Rattle.scene.proofs.measuring.reach.Reads as reach-reads
-use Rattle.stores.proofs.components.component_at.Reads as component-at-reads
-use Rattle.stores.proofs.shapes.is_destroyed.Reads as is-destroyed-reads
-use Rattle.stores.proofs.shapes.is_group.Reads as is-group-reads
 use Rattle.scene.proofs.measuring.turn.Goals as goal
 
 pub back_at-requires : goal.back_at-requires

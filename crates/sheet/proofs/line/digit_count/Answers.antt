@@ -1,10 +1,8 @@
 -- `sheet::line::digit_count` meets its contract: the bytes before i are digits.
 -- Assumes nothing.
-use Prim.Native.Nat.{◌-◌}
 use mathlib.Core.Path.{sym, ◌∙◌}
 use native.Mathlib.Omega.{arith}
 use borrow.Author.Tests.{not-true, not-false}
-use Rattle.meaning.specs.Byte.{is_digit}
 use Rattle.numerals.proofs.Spans.{span_none, span_more}
 use Rattle.sheet.proofs.Digits.{count_stop, count_over}
 use Rattle.sheet.proofs.line.digit_count.Goals as goal

@@ -1,6 +1,5 @@
 -- `sheet::line::value_of` meets its contract: v is the number that the first i digits write.
 -- Assumes nothing.
-use Prim.Native.Nat.{◌-◌}
 use native.Mathlib.Omega.{arith}
 use Rattle.sheet.proofs.Digits.{value_none, value_fits, value_more, value_all}
 use Rattle.sheet.proofs.line.value_of.Goals as goal

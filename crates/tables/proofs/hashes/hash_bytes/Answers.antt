@@ -1,4 +1,3 @@
-use Prim.Native.Nat.{◌-◌}
 use native.Mathlib.Omega.{arith}
 use Rattle.tables.proofs.HashLaws.{hash_first, hash_more, hash_all}
 use Rattle.tables.proofs.hashes.hash_bytes.Goals as goal

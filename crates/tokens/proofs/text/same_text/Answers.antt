@@ -1,7 +1,6 @@
 -- `tokens::text::same_text` meets its contract: the invariant says that what is left compares as the whole does.
 -- Assumes nothing.
 use mathlib.Core.Path.{◌∙◌, refl, sym}
-use Prim.Native.Nat.{◌-◌}
 use native.Mathlib.Omega.{arith}
 use borrow.Author.Rules.{rules}
 use Rattle.tokens.proofs.Texts.{other_lengths, other_here, same_here, same_over}

@@ -1,7 +1,6 @@
 -- `writing::decimal::without_last` meets its contract: the invariant says how many digits are gone.
 -- Assumes nothing.
 use mathlib.Core.Path.{◌≡◌, sym}
-use Prim.Native.Nat.{◌-◌}
 use native.Mathlib.Nat.{div-one}
 use native.Mathlib.Omega.{arith}
 use Rattle.writing.proofs.Decimals.{without_tenth}

@@ -1,6 +1,5 @@
 -- `writing::place::write_bytes_at` meets its contract: the invariant says which bytes are laid and which are left.
 -- Assumes nothing.
-use Prim.Native.Nat.{◌-◌}
 use native.Mathlib.Omega.{arith}
 use Rattle.writing.proofs.Laying.{begin, lay_next, kept, end}
 use Rattle.writing.proofs.place.write_bytes_at.Goals as goal
