@@ -5,7 +5,7 @@ use mathlib.Core.List.{List}
 use borrow.Author.Tests.{ne_eqb}
 use lib.IntN.{ℤ, pos, ◌+ℤ◌}
 use lib.Signed.{mag}
-use Rattle.meaning.specs.Basics.{if◌then◌else◌}
+use Rattle.meaning.specs.Basics.{if◌then◌otherwise◌}
 use Rattle.meaning.specs.Integer.{sum, half}
 use Rattle.machine.specs.declared.Figure.{Figure}
 use Rattle.values.proofs.Held.{held, back, back_to}
@@ -15,28 +15,28 @@ use Rattle.arguments.specs.Given.{integer_at, handle_at, given_figure, drawn_fig
 -- ---- centres
 module _ (f : Figure) {m : ℤ} (h : mag m < 2 ^ 31) where
   pub line_x : f.kind ≡ 0 → mag f.a < 2 ^ 31 → mag f.c < 2 ^ 31 → m ≡ half (held f.a +ℤ held f.c) → held m ≡ centre_x f
-  unfolding centre_x if◌then◌else◌
+  unfolding centre_x if◌then◌otherwise◌
   line_x k i j e = back_to h e ∙ rw (k, back {r = f.a} i, back {r = f.c} j)
 
   pub line_y : f.kind ≡ 0 → mag f.b < 2 ^ 31 → mag f.d < 2 ^ 31 → m ≡ half (held f.b +ℤ held f.d) → held m ≡ centre_y f
-  unfolding centre_y if◌then◌else◌
+  unfolding centre_y if◌then◌otherwise◌
   line_y k i j e = back_to h e ∙ rw (k, back {r = f.b} i, back {r = f.d} j)
 
   pub box_x : f.kind ≡ 2 → mag f.a < 2 ^ 31 → mag f.c < 2 ^ 31 → m ≡ sum (held f.a) (half (held f.c)) → held m ≡ centre_x f
-  unfolding centre_x if◌then◌else◌
+  unfolding centre_x if◌then◌otherwise◌
   box_x k i j e = back_to h e ∙ rw (k, back {r = f.a} i, back {r = f.c} j)
 
   pub box_y : f.kind ≡ 2 → mag f.b < 2 ^ 31 → mag f.d < 2 ^ 31 → m ≡ sum (held f.b) (half (held f.d)) → held m ≡ centre_y f
-  unfolding centre_y if◌then◌else◌
+  unfolding centre_y if◌then◌otherwise◌
   box_y k i j e = back_to h e ∙ rw (k, back {r = f.b} i, back {r = f.d} j)
 
 module _ (f : Figure) (k : f.kind ≡ 0 → ⊥) (l : f.kind ≡ 2 → ⊥) where
   pub other_x : mag f.a < 2 ^ 31 → held f.a ≡ centre_x f
-  unfolding centre_x if◌then◌else◌
+  unfolding centre_x if◌then◌otherwise◌
   other_x h = back {r = f.a} h ∙ rw (ne_eqb _ _ k, ne_eqb _ _ l)
 
   pub other_y : mag f.b < 2 ^ 31 → held f.b ≡ centre_y f
-  unfolding centre_y if◌then◌else◌
+  unfolding centre_y if◌then◌otherwise◌
   other_y h = back {r = f.b} h ∙ rw (ne_eqb _ _ k, ne_eqb _ _ l)
 
 -- ---- figures

@@ -8,7 +8,7 @@ use lib.ListN.{length, replicate}
 use lib.Dec.{ltb}
 use native.Mathlib.Omega.{arith}
 use borrow.Author.Tests.{lt-ltb, le-ltb, not-true, not-false}
-use Rattle.meaning.specs.Basics.{if◌then◌else◌}
+use Rattle.meaning.specs.Basics.{if◌then◌otherwise◌}
 use Rattle.meaning.specs.Tree.{Procedure, Program}
 use Rattle.meaning.specs.Grammar.{Reading, well_formed, malformed, reading}
 use Rattle.meaning.specs.Run.{go_on, ◌>>=◌, give, fail, refuse}
@@ -46,8 +46,8 @@ answer_read g (malformed n p) = refl
 
 answer_sized : (g : Amounts) (b : Bool) (r : Reading) →
     booked g ((refuse b 73 0 >>= λ _. (understood r >>= λ _. give accepted)) empty)
-    ≡ (if b then (λ _. number 73 0 0 0) else λ _. answer_of r)
-unfolding booked book settled answer_to go_on ◌>>=◌ give fail refuse if◌then◌else◌
+    ≡ (if b then (λ _. number 73 0 0 0) otherwise λ _. answer_of r)
+unfolding booked book settled answer_to go_on ◌>>=◌ give fail refuse if◌then◌otherwise◌
 answer_sized g true r = refl
 answer_sized g false r = answer_read g r
 
@@ -59,21 +59,21 @@ module _ (program g tokens code out : List ℕ) where
   -- after 71 nothing has changed
   module _ (short : enough_to_read g (length tokens) (length code) ≡ false) where
     pub refused_answer : answer (called_with program g tokens code out) ≡ number 71 0 0 0
-    unfolding answer if◌then◌else◌
+    unfolding answer if◌then◌otherwise◌
     refused_answer = rw (asked program g tokens code out ∙ short)
 
     pub refused_work : (work : List ℕ) → work_after (called_with program g tokens code out) work ≡ work
-    unfolding work_after if◌then◌else◌
+    unfolding work_after if◌then◌otherwise◌
     refused_work work = rw (asked program g tokens code out ∙ short)
 
   -- else the program is read, and the slices are cleared at the length they had
   module _ (enough : enough_to_read g (length tokens) (length code) ≡ true) where
     pub admitted_answer : answer (called_with program g tokens code out) ≡ read_answer program
-    unfolding answer if◌then◌else◌
+    unfolding answer if◌then◌otherwise◌
     admitted_answer = rw (asked program g tokens code out ∙ enough) run_answer
 
     pub cleared_work : (work after : List ℕ) (n : ℕ) → n ≡ length work → after ≡ replicate n 0 → after ≡ work_after (called_with program g tokens code out) work
-    unfolding work_after if◌then◌else◌
+    unfolding work_after if◌then◌otherwise◌
     cleared_work work after n e h = h ∙ rw (e, asked program g tokens code out ∙ enough)
 
 pub lent : (g tokens code : List ℕ) → enough_to_read g (length tokens) (length code) ≡ true → Lent tokens code
@@ -110,12 +110,12 @@ module _ (program g tokens code : List ℕ) (ok : Bool) (e : ok ≡ enough_to_re
 -- ---- the ways through `read_answer`
 module _ (program : List ℕ) where
   pub read_long : 32768 < length program → meant (Number 73 0 0 0) ≡ read_answer program
-  unfolding read_answer meant if◌then◌else◌
+  unfolding read_answer meant if◌then◌otherwise◌
   read_long h = rw (lt-ltb 32768 (length program) h)
 
   module _ (short : length program ≤ 32768) (p : Read.Program) (slice : List ℕ) (h : seen p slice ≡ coded (tokens_in program) (reading program)) where
     is_read : read_answer program ≡ answer_of (reading program)
-    unfolding read_answer if◌then◌else◌
+    unfolding read_answer if◌then◌otherwise◌
     is_read = rw (le-ltb 32768 (length program) short)
 
     formed_apart : (d n m : ℕ) (fs : List Procedure) (o : Option ℕ) → seen (Formed d n m) slice ≡ coded_apart (tokens_in program) fs o → pictured 0 0 ≡ answer_apart o

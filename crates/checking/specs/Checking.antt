@@ -1,7 +1,7 @@
 -- The checking operation as a call of the meaning's.
 use Rattle.std.specs.Prelude.{ℕ, ◌≤◌, ◌≡◌, List, [], ◌∷◌, length, pos, ltb}
 use Rattle.std.proofs.Math.Option.{Option, none, some}
-use Rattle.meaning.specs.Basics.{if◌then◌else◌}
+use Rattle.meaning.specs.Basics.{if◌then◌otherwise◌}
 use Rattle.meaning.specs.Grammar.{Reading, well_formed, malformed, reading}
 use Rattle.meaning.specs.Procedure.{doubled}
 use Rattle.meaning.specs.Program.{checking}
@@ -49,4 +49,4 @@ answer_of (malformed n p) = number n p 0 0
 
 -- the answer where the counts are in their ranges and enough is lent
 unfoldable pub read_answer : List ℕ → Answer
-read_answer program = if ltb 32768 (length program) then (λ _. number 73 0 0 0) else λ _. answer_of (reading program)
+read_answer program = if ltb 32768 (length program) then (λ _. number 73 0 0 0) otherwise λ _. answer_of (reading program)

@@ -6,7 +6,7 @@ use mathlib.Core.Bool.{Bool, true, false}
 use mathlib.Core.List.{List}
 use native.Mathlib.Omega.{arith}
 use lib.ListN.{length}
-use Rattle.meaning.specs.Basics.{if◌then◌else◌}
+use Rattle.meaning.specs.Basics.{if◌then◌otherwise◌}
 use Rattle.meaning.specs.Run.{steps, End, result, error, unfinished, Run}
 use Rattle.meaning.specs.Program.{Operation, checking, drawing, Outcome, accepted, drawn, specified, beginning}
 use Rattle.meaning.specs.Book.{nothing_yet, Booked, all_fit, lacking, book, number, undecided, answer_to, settled, booked}
@@ -19,12 +19,12 @@ use Rattle.claims.proofs.Settling.{number_decided, number_no_picture, Settles, s
 
 -- ---- admitted calls
 pub answer_admitted : (c : Call) → admitted c ≡ true → answer c ≡ booked (granted_to c) (run_of c)
-unfolding answer if◌then◌else◌
+unfolding answer if◌then◌otherwise◌
 answer_admitted c e = rw e
 
 pub out_admitted : (c : Call) → admitted c ≡ true →
     out_after c ≡ out_after_end c.operation (book (granted_to c) nothing_yet (run_of c).takings) (run_of c).end c.out
-unfolding out_after if◌then◌else◌
+unfolding out_after if◌then◌otherwise◌
 out_admitted c e = rw e
 
 -- a call's run ends, or has counted more steps than are granted
@@ -37,10 +37,10 @@ run_settles c = settles (granted_to c) (run_of c) (run_ended c)
 
 -- ---- every call is answered
 pub always_answered : AlwaysAnswered
-unfolding answer if◌then◌else◌
+unfolding answer if◌then◌otherwise◌
 always_answered c = by (admitted c)
   where
-    by : (b : Bool) → (if b then (λ _. booked (granted_to c) (run_of c)) else λ _. number 71 0 0 0) ≢ undecided
+    by : (b : Bool) → (if b then (λ _. booked (granted_to c) (run_of c)) otherwise λ _. number 71 0 0 0) ≢ undecided
     by true = booked_decided (granted_to c) (run_of c) (run_ended c)
     by false = number_decided
 
@@ -97,11 +97,11 @@ end_writes_nothing drawing (all_fit total) (error n p) out h = refl
 end_writes_nothing drawing (all_fit total) unfinished out h = refl
 
 pub numbers_write_nothing : NumbersWriteNothing
-unfolding answer out_after if◌then◌else◌ booked
+unfolding answer out_after if◌then◌otherwise◌ booked
 numbers_write_nothing c m p n l = by (admitted c)
   where
-    by : (b : Bool) → (if b then (λ _. booked (granted_to c) (run_of c)) else λ _. number 71 0 0 0) ≡ number m p n l →
+    by : (b : Bool) → (if b then (λ _. booked (granted_to c) (run_of c)) otherwise λ _. number 71 0 0 0) ≡ number m p n l →
         (if b then (λ _. out_after_end c.operation (book (granted_to c) nothing_yet (run_of c).takings) (run_of c).end c.out)
-        else λ _. c.out) ≡ c.out
+        otherwise λ _. c.out) ≡ c.out
     by true h = end_writes_nothing c.operation (book (granted_to c) nothing_yet (run_of c).takings) (run_of c).end c.out h
     by false h = refl

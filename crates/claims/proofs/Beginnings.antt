@@ -10,7 +10,7 @@ use lib.Seq.{length-take-le, take_all, take-take, take-append-le, take-append-ad
 use lib.IntN.{ℤ}
 use lib.Dec.{leb}
 use borrow.Author.Tests.{leb-true, leb-false, le-leb}
-use Rattle.meaning.specs.Basics.{if◌then◌else◌}
+use Rattle.meaning.specs.Basics.{if◌then◌otherwise◌}
 use Rattle.meaning.specs.Run.{Event, unfinished, Run, run}
 use Rattle.meaning.specs.Program.{Operation, Outcome, specified, cut, beginning}
 use Rattle.claims.specs.Claims.{errors, BeginningsExtend, EndedStays}
@@ -21,16 +21,16 @@ use Rattle.claims.proofs.Ends.{Many, Ended, specified_ended}
 module _ {A : Type 0} where
   -- nothing is cut from a run that is short enough
   cut_whole : (n : ℕ) (r : Run A) → length r.takings ≤ n → cut n r ≡ r
-  unfolding cut if◌then◌else◌
+  unfolding cut if◌then◌otherwise◌
   cut_whole n r l = rw (le-leb (length r.takings) n l)
 
   -- a cut is the run, or is unfinished
   cut_cases : (n : ℕ) (r : Run A) (P : Run A → Type 0) → (length r.takings ≤ n → P r) →
       (n < length r.takings → P (run (take n r.takings) unfinished)) → P (cut n r)
-  unfolding cut if◌then◌else◌
+  unfolding cut if◌then◌otherwise◌
   cut_cases n r P h k = by (leb (length r.takings) n) refl
     where
-      by : (b : Bool) → leb (length r.takings) n ≡ b → P (if b then (λ _. r) else λ _. run (take n r.takings) unfinished)
+      by : (b : Bool) → leb (length r.takings) n ≡ b → P (if b then (λ _. r) otherwise λ _. run (take n r.takings) unfinished)
       by true e = h (leb-true _ _ e)
       by false e = k (leb-false _ _ e)
 

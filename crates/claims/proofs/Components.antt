@@ -11,7 +11,7 @@ use lib.Seq.{get_or-append_seam}
 use lib.IntN.{ℤ}
 use lib.Dec.{eqb, ltb}
 use borrow.Author.Tests.{ltb-true, ltb-false, eqb-true, eqb-false}
-use Rattle.meaning.specs.Basics.{bytes, if◌then◌else◌, same_text}
+use Rattle.meaning.specs.Basics.{bytes, if◌then◌otherwise◌, same_text}
 use Rattle.meaning.specs.Figure.{Figure}
 use Rattle.meaning.specs.Tree.{Operator, concatenate, add, subtract, multiply, divide, remainder, shift_right, shift_left, equal, unequal, greater, less}
 use Rattle.meaning.specs.Tree.{Expression, Arguments, no_argument, argument, Statement, declare, assign, update, when, while, foreach, return, block, act, Statements, only, first, Procedure}
@@ -104,12 +104,12 @@ all_later l all_done = all_done
 all_later l (and_next h k) = and_next (below_later l h) (all_later l k)
 
 assigned_below : {n : ℕ} (vs : List Variable) (x : List ℕ) (u : Value) → Below n (shapes_held vs) → Below n (shape_in u) → Below n (shapes_held (assigned vs x u))
-unfolding assigned shapes_held if◌then◌else◌
+unfolding assigned shapes_held if◌then◌otherwise◌
 assigned_below [] x u h k = done
 assigned_below {n} (v ∷ vs) x u h k = by (same_text v.name x) (assigned_below vs x u (below_behind (shape_in v.holds) _ h) k)
   where
     by : (t : Bool) → Below n (shapes_held (assigned vs x u)) →
-        Below n (shapes_held (if t then (λ _. record { name = v.name; holds = u } ∷ vs) else λ _. v ∷ assigned vs x u))
+        Below n (shapes_held (if t then (λ _. record { name = v.name; holds = u } ∷ vs) otherwise λ _. v ∷ assigned vs x u))
     by true q = below_append k (below_behind (shape_in v.holds) _ h)
     by false q = below_append (below_front (shape_in v.holds) _ h) q
 
@@ -131,12 +131,12 @@ waiting_below (us ∷ vss) vs h k = below_append (below_front (shapes_held us) _
 
 overwritten_below : {n : ℕ} (es : List Entry) (t : ℕ) (k : Key) (u : Value) → Below n (shapes_stored es) → Below n (shape_in u) →
     Below n (shapes_stored (overwritten es t k u))
-unfolding overwritten shapes_stored if◌then◌else◌
+unfolding overwritten shapes_stored if◌then◌otherwise◌
 overwritten_below [] t k u h q = done
 overwritten_below {n} (e ∷ es) t k u h q = by (matches e t k) (overwritten_below es t k u (below_behind (shape_in e.holds) _ h) q)
   where
     by : (b : Bool) → Below n (shapes_stored (overwritten es t k u)) →
-        Below n (shapes_stored (if b then (λ _. record { owner = e.owner; key = e.key; holds = u } ∷ es) else λ _. e ∷ overwritten es t k u))
+        Below n (shapes_stored (if b then (λ _. record { owner = e.owner; key = e.key; holds = u } ∷ es) otherwise λ _. e ∷ overwritten es t k u))
     by true r = below_append q (below_behind (shape_in e.holds) _ h)
     by false r = below_append (below_front (shape_in e.holds) _ h) r
 
@@ -151,20 +151,20 @@ FoundThere n Option.none = Unit {0}
 FoundThere n (some v) = Below n (shape_in v)
 
 value_there : (n : ℕ) (vs : List Variable) (x : List ℕ) → Below n (shapes_held vs) → FoundThere n (value_in vs x)
-unfolding value_in shapes_held if◌then◌else◌
+unfolding value_in shapes_held if◌then◌otherwise◌
 value_there n [] x h = tt
 value_there n (v ∷ vs) x h = by (same_text v.name x) (value_there n vs x (below_behind (shape_in v.holds) _ h))
   where
-    by : (t : Bool) → FoundThere n (value_in vs x) → FoundThere n (if t then (λ _. some v.holds) else λ _. value_in vs x)
+    by : (t : Bool) → FoundThere n (value_in vs x) → FoundThere n (if t then (λ _. some v.holds) otherwise λ _. value_in vs x)
     by true q = below_front (shape_in v.holds) _ h
     by false q = q
 
 entry_there : (n : ℕ) (es : List Entry) (t : ℕ) (k : Key) → Below n (shapes_stored es) → FoundThere n (entry_in es t k)
-unfolding entry_in shapes_stored if◌then◌else◌
+unfolding entry_in shapes_stored if◌then◌otherwise◌
 entry_there n [] t k h = tt
 entry_there n (e ∷ es) t k h = by (matches e t k) (entry_there n es t k (below_behind (shape_in e.holds) _ h))
   where
-    by : (b : Bool) → FoundThere n (entry_in es t k) → FoundThere n (if b then (λ _. some e.holds) else λ _. entry_in es t k)
+    by : (b : Bool) → FoundThere n (entry_in es t k) → FoundThere n (if b then (λ _. some e.holds) otherwise λ _. entry_in es t k)
     by true q = below_front (shape_in e.holds) _ h
     by false q = q
 
@@ -309,8 +309,8 @@ quiet {A} {b} {P} {m} h = record { kept = λ s o l. go (m s).end (h.kept s o l) 
     go (error n p) k = tt
     go unfinished k = tt
 
-pub if_keeps : {A : Type 0} {b : ℕ} {P : ℕ → A → Type 0} (t : Bool) {x y : Action A} → Keeps b P x → Keeps b P y → Keeps b P (if t then (λ _. x) else λ _. y)
-unfolding if◌then◌else◌
+pub if_keeps : {A : Type 0} {b : ℕ} {P : ℕ → A → Type 0} (t : Bool) {x y : Action A} → Keeps b P x → Keeps b P y → Keeps b P (if t then (λ _. x) otherwise λ _. y)
+unfolding if◌then◌otherwise◌
 if_keeps true h f = h
 if_keeps false h f = f
 
@@ -700,11 +700,11 @@ looping_keeps b (suc n) p t h =
     if_keeps r (bind_keeps (h c') λ c'' l'' f k. continue_keeps f k (looping_keeps c'' n p t h)) (give_keeps onward λ d m. tt)
 
 declaring_once_keeps : {b : ℕ} (x : List ℕ) → Keeps b Anything (declaring_once x)
-unfolding declaring_once if◌then◌else◌
+unfolding declaring_once if◌then◌otherwise◌
 declaring_once_keeps x = current_keeps λ s o l. by s o (is_declared s x)
   where
     by : (s : State) → Older s → (t : Bool) →
-        Keeps (made s) Anything (become (if t then (λ _. s) else λ _. with_variables s (s.variables ++ (record { name = x; holds = none } ∷ []))))
+        Keeps (made s) Anything (become (if t then (λ _. s) otherwise λ _. with_variables s (s.variables ++ (record { name = x; holds = none } ∷ []))))
     by s o true = quiet (become_keeps s o (le_refl (made s)))
     by s o false = quiet (become_keeps _ (variables_older s _ o (declared_below s.variables x o.held)) (le_refl (made s)))
 

@@ -5,7 +5,7 @@ use mathlib.Core.Bool.{Bool, true, false}
 use mathlib.Core.List.{List, [], ◌∷◌}
 use native.Mathlib.Omega.{arith}
 use native.Mathlib.Nat.{le_refl, le_trans, not-suc-le-zero}
-use Rattle.meaning.specs.Basics.{if◌then◌else◌}
+use Rattle.meaning.specs.Basics.{if◌then◌otherwise◌}
 use Rattle.meaning.specs.Figure.{Figure}
 use Rattle.meaning.specs.State.{State, Content, atom, group, content_of, by_content, components_in, living, is_destroyed, with_shapes, destroy}
 use Rattle.meaning.specs.Run.{steps, Event, End, result, error, unfinished, Run, Action, following, go_on, ◌>>=◌, give, spend, current}
@@ -47,8 +47,8 @@ unfolding current ◌>>=◌ go_on
 current_agree {k = k} {k'} h = record { same = λ s o l. ap (following []) ((h s o l).same s o (le_refl (made s))) }
 
 if_agree : {A : Type 0} {b : ℕ} (t : Bool) {x x' y y' : Action A} → Agree b x x' → Agree b y y' →
-    Agree b (if t then (λ _. x) else λ _. y) (if t then (λ _. x') else λ _. y')
-unfolding if◌then◌else◌
+    Agree b (if t then (λ _. x) otherwise λ _. y) (if t then (λ _. x') otherwise λ _. y')
+unfolding if◌then◌otherwise◌
 if_agree true h f = h
 if_agree false h f = f
 
@@ -126,11 +126,11 @@ figures_agree c (suc b) (suc b') p i l l' =
     (subst (Below (made s)) e (components_there s o i)) (subst (Below i) e (o.components i))
 
 living_below : {n : ℕ} (s : State) (is : List ℕ) → Below n is → Below n (living s is)
-unfolding living if◌then◌else◌
+unfolding living if◌then◌otherwise◌
 living_below s [] done = done
 living_below {n} s (i ∷ is) (next l h) = by (is_destroyed s i) (living_below s is h)
   where
-    by : (t : Bool) → Below n (living s is) → Below n (if t then (λ _. living s is) else λ _. i ∷ living s is)
+    by : (t : Bool) → Below n (living s is) → Below n (if t then (λ _. living s is) otherwise λ _. i ∷ living s is)
     by true k = k
     by false k = next l k
 
@@ -185,8 +185,8 @@ current_safe : Safe current
 unfolding current
 current_safe = record { safe = λ s s' a o e. let q : ◌≡◌ {A = State} s s' = cc in subst Older q o }
 
-if_safe : {A : Type 0} (t : Bool) {x y : Action A} → Safe x → Safe y → Safe (if t then (λ _. x) else λ _. y)
-unfolding if◌then◌else◌
+if_safe : {A : Type 0} (t : Bool) {x y : Action A} → Safe x → Safe y → Safe (if t then (λ _. x) otherwise λ _. y)
+unfolding if◌then◌otherwise◌
 if_safe true h f = h
 if_safe false h f = f
 

@@ -12,7 +12,7 @@ use lib.IntN.{ℤ, pos}
 use lib.Signed.{lt_z}
 use lib.Dec.{eqb}
 use borrow.Author.Tests.{le-ltb}
-use Rattle.meaning.specs.Basics.{bytes, if◌then◌else◌, same_text, stands_in}
+use Rattle.meaning.specs.Basics.{bytes, if◌then◌otherwise◌, same_text, stands_in}
 use Rattle.meaning.specs.Figure.{Figure}
 use Rattle.meaning.specs.Tree.{Operator, concatenate, add, subtract, multiply, divide, remainder, shift_right, shift_left, equal, unequal, greater, less, Expression, Arguments}
 use Rattle.meaning.specs.Tree.{no_argument, argument, Statement, declare, assign, update, when, while, foreach, return, block, act, Statements, only, first, Procedure}
@@ -187,8 +187,8 @@ module _ {ns : List ℕ} {n : ℕ} where
   unfolding become spent
   become_lawful s' = record { plain = λ s. refl; ended = λ s. tt; level = λ s d. still }
 
-  if_lawful : {A : Type 0} (b : Bool) {x y : Action A} → Lawful ns n x → Lawful ns n y → Lawful ns n (if b then (λ _. x) else λ _. y)
-  unfolding if◌then◌else◌
+  if_lawful : {A : Type 0} (b : Bool) {x y : Action A} → Lawful ns n x → Lawful ns n y → Lawful ns n (if b then (λ _. x) otherwise λ _. y)
+  unfolding if◌then◌otherwise◌
   if_lawful true h f = h
   if_lawful false h f = f
 

@@ -7,7 +7,7 @@ use mathlib.Core.List.{List, [], ◌∷◌}
 use native.Mathlib.Omega.{arith}
 use lib.ListN.{length, take}
 use lib.IntN.{ℤ}
-use Rattle.meaning.specs.Basics.{if◌then◌else◌, laid_over}
+use Rattle.meaning.specs.Basics.{if◌then◌otherwise◌, laid_over}
 use Rattle.meaning.specs.State.{State}
 use Rattle.meaning.specs.Run.{steps, picture, Event, taking, End, result, error, unfinished, Run, Action, go_on, ◌>>=◌, give}
 use Rattle.meaning.specs.Run as Run
@@ -28,10 +28,10 @@ pub undecided_no_picture : {l n : ℕ} → undecided ≢ pictured l n
 undecided_no_picture e = let z : ◌≡◌ {A = ℕ} 0 1 = cc in omega arith
 
 pub picture_admitted : (c : Call) (l n : ℕ) → answer c ≡ pictured l n → admitted c ≡ true
-unfolding answer if◌then◌else◌
+unfolding answer if◌then◌otherwise◌
 picture_admitted c l n = by (admitted c)
   where
-    by : (b : Bool) → (if b then (λ _. booked (granted_to c) (run_of c)) else λ _. number 71 0 0 0) ≡ pictured l n → b ≡ true
+    by : (b : Bool) → (if b then (λ _. booked (granted_to c) (run_of c)) otherwise λ _. number 71 0 0 0) ≡ pictured l n → b ≡ true
     by true h = refl
     by false h = absurd (number_no_picture h)
 

@@ -4,7 +4,7 @@ use mathlib.Core.Path.{refl, subst}
 use mathlib.Core.Bool.{Bool, true, false}
 use mathlib.Core.List.{List}
 use mathlib.Core.Option.{Option, none, some}
-use Rattle.meaning.specs.Basics.{bytes, if◌then◌else◌, stands_in}
+use Rattle.meaning.specs.Basics.{bytes, if◌then◌otherwise◌, stands_in}
 use Rattle.meaning.specs.Token.{Token, Lexed, lexed, stray, tokens_of}
 use Rattle.meaning.specs.Tree.{Operator, Expression, Statement, Procedure}
 use Rattle.meaning.specs.Grammar.{Got, good, wrong, after, expect, Inside, no_level, level, opening, ReadExpression, arguments_from, arguments, primary, operand, operated, expression_in, expression}
@@ -57,8 +57,8 @@ module _ {A B : Type 0} where
   opening_low P no_level p h f = wrong_75
   opening_low P (level a) p h f = f a h
 
-if_low : {A : Type 0} (b : Bool) {x y : Got A} → Low x → Low y → Low (if b then (λ _. x) else λ _. y)
-unfolding if◌then◌else◌
+if_low : {A : Type 0} (b : Bool) {x y : Got A} → Low x → Low y → Low (if b then (λ _. x) otherwise λ _. y)
+unfolding if◌then◌otherwise◌
 if_low true h f = h
 if_low false h f = f
 
@@ -200,8 +200,8 @@ unfolding read_of
 read_low program ts (good m i) h = tt
 read_low program ts (wrong n i) h = h.low
 
-if_reading : (b : Bool) (x y : Reading) → LowReading x → LowReading y → LowReading (if b then (λ _. x) else λ _. y)
-unfolding if◌then◌else◌
+if_reading : (b : Bool) (x y : Reading) → LowReading x → LowReading y → LowReading (if b then (λ _. x) otherwise λ _. y)
+unfolding if◌then◌otherwise◌
 if_reading true x y h f = h
 if_reading false x y h f = f
 

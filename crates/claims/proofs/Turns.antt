@@ -6,7 +6,7 @@ use mathlib.Core.List.{List, [], ◌∷◌, ◌++◌, append_assoc, append-nil}
 use mathlib.Core.Option.{Option, some}
 use native.Mathlib.Nat.{not-suc-le-zero, le_of_suc-le-suc}
 use lib.IntN.{ℤ}
-use Rattle.meaning.specs.Basics.{bytes, if◌then◌else◌, same_text}
+use Rattle.meaning.specs.Basics.{bytes, if◌then◌otherwise◌, same_text}
 use Rattle.meaning.specs.Tree.{Expression, Arguments, no_argument, argument, Procedure, Statement, declare, assign, update, when, while, foreach, return, block, act, Statements, only, first}
 use Rattle.meaning.specs.Tree as Tree
 use Rattle.meaning.specs.Grammar.{procedure_named}
@@ -69,8 +69,8 @@ unchanged : {A : Type 0} {m : Action A} → Lengthens m m
 unchanged = record { from = λ s. same refl }
 
 if_lengthens : {A : Type 0} (b : Bool) {x x' y y' : Action A} → Lengthens x x' → Lengthens y y' →
-    Lengthens (if b then (λ _. x) else λ _. y) (if b then (λ _. x') else λ _. y')
-unfolding if◌then◌else◌
+    Lengthens (if b then (λ _. x) otherwise λ _. y) (if b then (λ _. x') otherwise λ _. y')
+unfolding if◌then◌otherwise◌
 if_lengthens true h f = h
 if_lengthens false h f = f
 

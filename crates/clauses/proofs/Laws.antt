@@ -7,7 +7,7 @@ use mathlib.Core.List.{List, [], ◌++◌, append_assoc}
 use borrow.Author.Tests.{lt-ltb, le-ltb, lt-leb, le-leb, ne_eqb}
 use lib.ListN.{length, get_or}
 use lib.Dec.{eqb}
-use Rattle.meaning.specs.Basics.{bytes, if◌then◌else◌}
+use Rattle.meaning.specs.Basics.{bytes, if◌then◌otherwise◌}
 use Rattle.meaning.specs.Byte.{is_name_part}
 use Rattle.canonical.specs.Text.{apart}
 use Rattle.machine.specs.Opcodes.{tag_in, size_in, tag_string, tag_table, tag_entry, first_operator}
@@ -69,17 +69,17 @@ module _ (tag : ℕ) where
 
 module _ (code : List ℕ) (y w tag : ℕ) (i : w ≡ get_or code y 0) (j : tag ≡ tag_in w) {r : Bool} where
   pub operand_own : (tag ≡ tag_entry → ⊥) → r ≡ tag_ends tag → r ≡ operand_ends code y
-  unfolding operand_ends if◌then◌else◌
+  unfolding operand_ends if◌then◌otherwise◌
   operand_own n q = q ∙ rw (← i, ← j, ne_eqb tag 7 n)
 
   pub operand_second : (z v u : ℕ) → tag ≡ tag_entry → z ≡ y - 1 → v ≡ get_or code z 0 → u ≡ tag_in v → r ≡ tag_ends u → r ≡ operand_ends code y
-  unfolding operand_ends if◌then◌else◌
+  unfolding operand_ends if◌then◌otherwise◌
   operand_second z v u e k l m q = q ∙ rw (← i, ← j, e, ← k, ← l, ← m)
 
   pub word_own : tag < first_operator → r ≡ operand_ends code y → r ≡ ends_word code y
-  unfolding ends_word if◌then◌else◌
+  unfolding ends_word if◌then◌otherwise◌
   word_own l q = q ∙ rw (← i, ← j, lt-leb 16 tag l)
 
   pub word_second : (z : ℕ) → first_operator ≤ tag → z ≡ y - 1 → r ≡ operand_ends code z → r ≡ ends_word code y
-  unfolding ends_word if◌then◌else◌
+  unfolding ends_word if◌then◌otherwise◌
   word_second z l k q = q ∙ rw (← i, ← j, le-leb 16 tag l, ← k)

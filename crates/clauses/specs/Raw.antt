@@ -1,6 +1,6 @@
 -- The text of the code of a statement that holds no other, and of a foreach up to its body.
 use Rattle.std.specs.Prelude.{ℕ, ◌-◌, Bool, not, ◌&&◌, cond, List, ◌++◌, get_or, eqb, leb, ltb}
-use Rattle.meaning.specs.Basics.{bytes, if◌then◌else◌}
+use Rattle.meaning.specs.Basics.{bytes, if◌then◌otherwise◌}
 use Rattle.canonical.specs.Text.{apart}
 use Rattle.machine.specs.Opcodes.{tag_in, size_at, tag_string, tag_table, tag_entry, first_operator}
 use Rattle.phrases.specs.Raw.{Source, spelling, Writer, pair_text}
@@ -22,10 +22,10 @@ unfoldable pub tag_ends : ℕ → Bool
 tag_ends tag = ltb tag tag_table && not (eqb tag tag_string)
 
 unfoldable pub operand_ends : List ℕ → ℕ → Bool
-operand_ends code y = if eqb (tag_in (get_or code y 0)) tag_entry then (λ _. tag_ends (tag_in (get_or code (y - 1) 0))) else λ _. tag_ends (tag_in (get_or code y 0))
+operand_ends code y = if eqb (tag_in (get_or code y 0)) tag_entry then (λ _. tag_ends (tag_in (get_or code (y - 1) 0))) otherwise λ _. tag_ends (tag_in (get_or code y 0))
 
 unfoldable pub ends_word : List ℕ → ℕ → Bool
-ends_word code y = if leb first_operator (tag_in (get_or code y 0)) then (λ _. operand_ends code (y - 1)) else λ _. operand_ends code y
+ends_word code y = if leb first_operator (tag_in (get_or code y 0)) then (λ _. operand_ends code (y - 1)) otherwise λ _. operand_ends code y
 
 -- a foreach by its variable's slot and the root of its expression, up to its body
 unfoldable pub iterator_text : Writer → Source → ℕ → ℕ → List ℕ

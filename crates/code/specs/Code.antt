@@ -4,7 +4,7 @@
 -- a body's statements is theirs one after the other. Each word holds how many words its code has. Parentheses leave no word. Behind a foreach's
 -- word stands its variable's number, as a word of its own. A procedure's code is the slots of its parameters and its body's.
 use Rattle.std.specs.Prelude.{ℕ, ◌+◌, ◌*◌, Bool, true, false, List, [], ◌∷◌, ◌++◌, map, length, set}
-use Rattle.meaning.specs.Basics.{if◌then◌else◌, same_text}
+use Rattle.meaning.specs.Basics.{if◌then◌otherwise◌, same_text}
 use Rattle.meaning.specs.Token.{Token, a_name, a_string}
 use Rattle.meaning.specs.Tree.{Expression, number, string, nothing, truth, name, table, entry, operation, call, paren, Arguments, no_argument, argument}
 use Rattle.meaning.specs.Tree.{Statement, declare, assign, update, when, while, foreach, return, block, act, Statements, only, first, Procedure}
@@ -105,4 +105,4 @@ tabled a (f ∷ fs) ts words = tabled (a + length (code_of_procedure f ts)) fs t
 -- the word of the first procedure of a name; 0 if there is none
 unfoldable pub head_named : ℕ → List Procedure → List Token → List ℕ → ℕ
 head_named a [] ts x = 0
-head_named a (f ∷ fs) ts x = if same_text f.name x then (λ _. head_word a f ts) else λ _. head_named (a + length (code_of_procedure f ts)) fs ts x
+head_named a (f ∷ fs) ts x = if same_text f.name x then (λ _. head_word a f ts) otherwise λ _. head_named (a + length (code_of_procedure f ts)) fs ts x

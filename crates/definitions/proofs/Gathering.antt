@@ -9,7 +9,7 @@ use borrow.Author.Tests.{ne_eqb}
 use lib.Dec.{eqb}
 use lib.ListN.{length, get_or, set, take, drop, replicate}
 use lib.Seq.{length-take-le, take-take, take-append-le, drop_at}
-use Rattle.meaning.specs.Basics.{if◌then◌else◌}
+use Rattle.meaning.specs.Basics.{if◌then◌otherwise◌}
 use Rattle.meaning.specs.Token.{ending}
 use Rattle.meaning.specs.Grammar.{Got, good, wrong, after}
 use Rattle.machine.specs.Opcodes.{procedure_word}
@@ -28,7 +28,7 @@ use Rattle.statements.proofs.Written.{same_after}
 -- ---- rounds
 -- a procedure, and what `rest` yields behind it
 abbrev turn : List ℕ → (ℕ → Got (List Head)) → Head → ℕ → Got (List Head)
-turn ws rest h j = if is ending ws j then (λ _. good (h ∷ []) j) else λ _. after (rest j) λ hs m. good (h ∷ hs) m
+turn ws rest h j = if is ending ws j then (λ _. good (h ∷ []) j) otherwise λ _. after (rest j) λ hs m. good (h ∷ hs) m
 
 same_turn : (ws : List ℕ) (f g : ℕ → Got (List Head)) (h : Head) (j : ℕ) → f j ≡ g j → turn ws f h j ≡ turn ws g h j
 same_turn ws f g h j q = rw q
@@ -127,9 +127,9 @@ gather_more end a h (wrong k p) = refl
 
 -- what is answered at the end
 settles_by : (b c : Bool) (end main twice n : ℕ) (s : List ℕ)
-    → seen_whole (if b then (λ _. Misfit 10 end) else λ _. if c then (λ _. Whole main n) else λ _. Twice (twice - 1)) s
-    ≡ (if b then (λ _. failed_whole 10 end) else λ _. if c then (λ _. whole main (take n s) (table_in s)) else λ _. twice_at (twice - 1))
-unfolding seen_whole if◌then◌else◌
+    → seen_whole (if b then (λ _. Misfit 10 end) otherwise λ _. if c then (λ _. Whole main n) otherwise λ _. Twice (twice - 1)) s
+    ≡ (if b then (λ _. failed_whole 10 end) otherwise λ _. if c then (λ _. whole main (take n s) (table_in s)) otherwise λ _. twice_at (twice - 1))
+unfolding seen_whole if◌then◌otherwise◌
 settles_by true c end main twice n s = refl
 settles_by false true end main twice n s = refl
 settles_by false false end main twice n s = refl
@@ -186,13 +186,13 @@ module _ (ws s₀ : List ℕ) (i n main twice : ℕ) (s : List ℕ) (g : Gatheri
 
       module _ (next : ℕ) (x : next ≡ kind_at ws j) where
         pub gathering_ends : (a : Parsed) → next ≡ 0 → a ≡ answered (length ws) main' twice' m → seen_whole a s₂ ≡ written_whole (length ws) nothing (procedures ws)
-        unfolding after if◌then◌else◌ written_whole gather_all
+        unfolding after if◌then◌otherwise◌ written_whole gather_all
         gathering_ends a z f =
             let h = was in
             rw (g.same, rest_turns ws i, h.read, ← x, z, gathered_so, f) (settles (length ws) main' twice' m s₂)
 
         pub gathering_on : (next ≡ 0 → ⊥) → length s₂ ≡ length s → Gathering ws s₀ j m main' twice' s₂
-        unfolding after if◌then◌else◌
+        unfolding after if◌then◌otherwise◌
         gathering_on z l =
             let h = was in
             let y = turned in

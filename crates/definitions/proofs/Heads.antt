@@ -6,7 +6,7 @@ use mathlib.Core.List.{List, ◌++◌, append_assoc}
 use native.Mathlib.Omega.{arith}
 use borrow.Author.Tests.{ne_eqb}
 use lib.ListN.{length, take}
-use Rattle.meaning.specs.Basics.{if◌then◌else◌}
+use Rattle.meaning.specs.Basics.{if◌then◌otherwise◌}
 use Rattle.meaning.specs.Grammar.{Got, good, wrong, after}
 use Rattle.expressions.specs.declared.Read.{Read}
 use Rattle.expressions.specs.declared.Read.TheVariants.{At, Wrong}
@@ -22,11 +22,11 @@ use Rattle.statements.proofs.Written.{wrong_seen}
 -- ---- the body
 module _ (ws : List ℕ) (i n : ℕ) (s₀ : List ℕ) (kind : ℕ) (k : kind ≡ kind_at ws i) where
   pub body_other : (kind ≡ 123 → ⊥) → seen (Wrong 10 i) s₀ ≡ written_code (body ws i) n s₀
-  unfolding body expect after if◌then◌else◌
+  unfolding body expect after if◌then◌otherwise◌
   body_other h = rw (← k, ne_eqb _ _ h) (wrong_seen 10 i n s₀ s₀)
 
   pub body_reads : kind ≡ 123 → (e : Read) (s : List ℕ) → seen e s ≡ written_code (statements (statement 64 ws) ws (i + 1)) n s₀ → seen e s ≡ written_code (body ws i) n s₀
-  unfolding body expect after if◌then◌else◌
+  unfolding body expect after if◌then◌otherwise◌
   body_reads o e s h = rw (← k, o) h
 
 -- ---- the procedure
@@ -43,24 +43,24 @@ inner ws i =
 
 module _ (ws : List ℕ) (i n : ℕ) (s₀ : List ℕ) (first : ℕ) (k : first ≡ kind_at ws i) where
   pub head_other : (first ≡ 4 → ⊥) → seen (Wrong 10 i) s₀ ≡ written_procedure (procedure ws i) n s₀
-  unfolding procedure expect after if◌then◌else◌
+  unfolding procedure expect after if◌then◌otherwise◌
   head_other h = rw (← k, ne_eqb _ _ h) (wrong_head 10 i n s₀ s₀)
 
   module _ (o : first ≡ 4) (name : ℕ) (l : name ≡ kind_at ws (i + 1)) where
     pub head_nameless : (name ≡ 1 → ⊥) → seen (Wrong 10 (i + 1)) s₀ ≡ written_procedure (procedure ws i) n s₀
-    unfolding procedure expect after if◌then◌else◌
+    unfolding procedure expect after if◌then◌otherwise◌
     head_nameless h = rw (← k, o, ← l, ne_eqb _ _ h) (wrong_head 10 (i + 1) n s₀ s₀)
 
     module _ (z : name ≡ 1) (paren : ℕ) (u : paren ≡ kind_at ws (i + 2)) where
       pub head_shut : (paren ≡ 40 → ⊥) → seen (Wrong 10 (i + 2)) s₀ ≡ written_procedure (procedure ws i) n s₀
-      unfolding procedure expect after if◌then◌else◌
+      unfolding procedure expect after if◌then◌otherwise◌
       head_shut h =
           let y : i + 1 + 1 ≡ i + 2 = omega arith in
           rw (← k, o, ← l, z, y, ← u, ne_eqb _ _ h) (wrong_head 10 (i + 2) n s₀ s₀)
 
       module _ (v : paren ≡ 40) where
         opens : procedure ws i ≡ inner ws i
-        unfolding procedure expect after if◌then◌else◌
+        unfolding procedure expect after if◌then◌otherwise◌
         opens =
             let y : i + 1 + 1 ≡ i + 2 = omega arith in
             let x : i + 2 + 1 ≡ i + 3 = omega arith in

@@ -6,7 +6,7 @@ use mathlib.Core.List.{List, [], ◌∷◌, ◌++◌, append-nil}
 use native.Mathlib.Omega.{arith}
 use borrow.Author.Tests.{ne_eqb}
 use lib.ListN.{length, take, set, length-set}
-use Rattle.meaning.specs.Basics.{if◌then◌else◌}
+use Rattle.meaning.specs.Basics.{if◌then◌otherwise◌}
 use Rattle.meaning.specs.Token.{a_name, comma, close_paren}
 use Rattle.meaning.specs.Grammar.{Got, good, after}
 use Rattle.expressions.specs.declared.Read.TheVariants.{At, Wrong}
@@ -21,7 +21,7 @@ use Rattle.statements.proofs.Written.{same_after, wrong_seen}
 -- ---- rounds
 -- a slot, and what `rest` yields behind a comma
 abbrev turn : List ℕ → (ℕ → Got (List ℕ)) → ℕ → ℕ → Got (List ℕ)
-turn ws rest x j = if is comma ws j then (λ _. after (rest (j + 1)) λ xs m. good (x ∷ xs) m) else λ _. expect close_paren ws j (x ∷ [])
+turn ws rest x j = if is comma ws j then (λ _. after (rest (j + 1)) λ xs m. good (x ∷ xs) m) otherwise λ _. expect close_paren ws j (x ∷ [])
 
 same_turn : (ws : List ℕ) (f h : ℕ → Got (List ℕ)) (x j : ℕ) → f (j + 1) ≡ h (j + 1) → turn ws f x j ≡ turn ws h x j
 same_turn ws f h x j q = rw q
@@ -63,18 +63,18 @@ pub record Listing (ws : List ℕ) (i n : ℕ) (s₀ : List ℕ) (p m : ℕ) (s 
 
 module _ (ws : List ℕ) (i n : ℕ) (s : List ℕ) (kind : ℕ) (k : kind ≡ kind_at ws i) where
   pub parameters_none : kind ≡ 41 → seen (At (i + 1) n 0) s ≡ written_code (parameters ws i) n s
-  unfolding parameters if◌then◌else◌ seen written_code
+  unfolding parameters if◌then◌otherwise◌ seen written_code
   parameters_none e =
       let z : n + 0 ≡ n = omega arith in
       rw (← k, e, z, append-nil)
 
   pub listing_starts : Space ws s i n → (kind ≡ 41 → ⊥) → Listing ws i n s i n s
-  unfolding parameters if◌then◌else◌ rest
+  unfolding parameters if◌then◌otherwise◌ rest
   listing_starts o h = record { same = rw (← k, ne_eqb _ _ h); space = o; kept = refl }
 
 module _ (ws : List ℕ) (i n : ℕ) (s₀ : List ℕ) (p m : ℕ) (s : List ℕ) (g : Listing ws i n s₀ p m s) (kind : ℕ) (k : kind ≡ kind_at ws p) where
   pub listing_stops : (kind ≡ 1 → ⊥) → seen (Wrong 10 p) s ≡ written_code (parameters ws i) n s₀
-  unfolding expect after if◌then◌else◌
+  unfolding expect after if◌then◌otherwise◌
   listing_stops h = rw (g.same, rest_turns ws p, ← k, ne_eqb _ _ h) (wrong_seen 10 p m s s)
 
   module _ (o : kind ≡ 1) (x : ℕ) (u : x ≡ home_at ws p) (s₁ : List ℕ) (v : s₁ ≡ set s m x) (next : ℕ) (y : next ≡ kind_at ws (p + 1)) where
@@ -85,17 +85,17 @@ module _ (ws : List ℕ) (i n : ℕ) (s₀ : List ℕ) (p m : ℕ) (s : List ℕ
     put = let h = here in rw v (take_put s m x (omega (arith, g.space.behind, g.space.wide)))
 
     pub listing_fails : (next ≡ 41 → ⊥) → (next ≡ 44 → ⊥) → seen (Wrong 10 (p + 1)) s₁ ≡ written_code (parameters ws i) n s₀
-    unfolding expect after if◌then◌else◌
+    unfolding expect after if◌then◌otherwise◌
     listing_fails h l = rw (g.same, rest_turns ws p, ← k, o, ← y, ne_eqb _ _ l, ne_eqb _ _ h) (wrong_seen 10 (p + 1) m s s₁)
 
     pub listing_ends : next ≡ 41 → seen (At (p + 2) (m + 1) 0) s₁ ≡ written_code (parameters ws i) n s₀
-    unfolding expect after if◌then◌else◌ seen written_code
+    unfolding expect after if◌then◌otherwise◌ seen written_code
     listing_ends h =
         let z : p + 2 ≡ p + 1 + 1 = omega arith in
         rw (g.same, rest_turns ws p, ← k, o, ← y, h, ← u, z) (ap (at (p + 1 + 1) (m + 1) 0) put)
 
     pub listing_on : next ≡ 44 → Listing ws i n s₀ (p + 2) (m + 1) s₁
-    unfolding expect after if◌then◌else◌
+    unfolding expect after if◌then◌otherwise◌
     listing_on h =
         let z : p + 1 + 1 ≡ p + 2 = omega arith in
         let q : rest ws p ≡ after (rest ws (p + 2)) λ xs j. good ((x ∷ []) ++ xs) j = rw (rest_turns ws p, ← k, o, ← y, h, ← u, z) in

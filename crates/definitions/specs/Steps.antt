@@ -1,6 +1,6 @@
 -- What is done with what was read.
 use Rattle.std.specs.Prelude.{ℕ, ◌-◌, ◌≡◌, List, get_or, set, take, eqb}
-use Rattle.meaning.specs.Basics.{if◌then◌else◌}
+use Rattle.meaning.specs.Basics.{if◌then◌otherwise◌}
 use Rattle.expressions.specs.declared.Read.{Read}
 use Rattle.expressions.specs.Words.{seen}
 use Rattle.definitions.specs.declared.Parsed.{Parsed}
@@ -22,5 +22,5 @@ pub record Entered (slot w old : ℕ) (s₀ s : List ℕ) : Type 0 where
 unfoldable pub answered : ℕ → ℕ → ℕ → ℕ → Parsed
 answered end main twice n =
     if eqb main 0 then (λ _. Misfit 10 end)
-    else λ _. if eqb twice 0 then (λ _. Whole main n)
-    else λ _. Twice (twice - 1)
+    otherwise λ _. if eqb twice 0 then (λ _. Whole main n)
+    otherwise λ _. Twice (twice - 1)

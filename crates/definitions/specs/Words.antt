@@ -1,6 +1,6 @@
 -- The grammar of procedures and of the whole program, over prepared token words and with code in place of trees.
 use Rattle.std.specs.Prelude.{ℕ, zero, suc, ◌+◌, ◌-◌, not, ◌&&◌, ◌||◌, List, [], ◌∷◌, ◌++◌, length, get_or, set, take, drop, replicate, eqb, ltb}
-use Rattle.meaning.specs.Basics.{if◌then◌else◌}
+use Rattle.meaning.specs.Basics.{if◌then◌otherwise◌}
 use Rattle.meaning.specs.Token.{ending, a_name, word_def, comma, open_paren, close_paren, open_brace}
 use Rattle.meaning.specs.Grammar.{Got, good, wrong, after}
 use Rattle.machine.specs.Opcodes.{procedure_word}
@@ -30,12 +30,12 @@ parameters_from zero ws i = wrong 10 i
 parameters_from (suc rounds) ws i =
     after (expect a_name ws i (home_at ws i)) λ x j.
     if is comma ws j then (λ _. after (parameters_from rounds ws (j + 1)) λ xs m. good (x ∷ xs) m)
-    else λ _. expect close_paren ws j (x ∷ [])
+    otherwise λ _. expect close_paren ws j (x ∷ [])
 
 unfoldable pub parameters : List ℕ → ℕ → Got (List ℕ)
 parameters ws i =
     if is close_paren ws i then (λ _. good [] (i + 1))
-    else λ _. parameters_from (suc (length ws - i)) ws i
+    otherwise λ _. parameters_from (suc (length ws - i)) ws i
 
 -- the braces and what stands between, from token i on
 unfoldable pub body : List ℕ → ℕ → Got (List ℕ)
@@ -57,7 +57,7 @@ procedures_from zero ws i = wrong 10 i
 procedures_from (suc rounds) ws i =
     after (procedure ws i) λ f j.
     if is ending ws j then (λ _. good (f ∷ []) j)
-    else λ _. after (procedures_from rounds ws j) λ fs m. good (f ∷ fs) m
+    otherwise λ _. after (procedures_from rounds ws j) λ fs m. good (f ∷ fs) m
 
 unfoldable pub procedures : List ℕ → Got (List Head)
 procedures ws = procedures_from (suc (length ws)) ws 0
@@ -72,11 +72,11 @@ pub record Gathered : Type 0 where
 
 -- main's word, where a procedure with a number has the word w
 unfoldable pub main_word : ℕ → ℕ → ℕ → ℕ
-main_word main number w = if eqb main 0 && eqb number 12 then (λ _. w) else λ _. main
+main_word main number w = if eqb main 0 && eqb number 12 then (λ _. w) otherwise λ _. main
 
 -- a `def` at a place p whose name has a number, and the word `old` in the table already
 unfoldable pub first_twice : ℕ → ℕ → ℕ → ℕ → ℕ
-first_twice twice number old p = if eqb twice 0 && (ltb number 11 || not (eqb old 0)) then (λ _. p + 1) else λ _. twice
+first_twice twice number old p = if eqb twice 0 && (ltb number 11 || not (eqb old 0)) then (λ _. p + 1) otherwise λ _. twice
 
 -- the word in the table of a procedure whose code begins at a
 abbrev pub word_at : ℕ → Head → ℕ
@@ -122,8 +122,8 @@ seen_whole (Misfit n p) slice = failed_whole n p
 unfoldable pub settled : ℕ → Gathered → SeenWhole
 settled end a =
     if eqb a.main 0 then (λ _. failed_whole 10 end)
-    else λ _. if eqb a.twice 0 then (λ _. whole a.main a.code a.table)
-    else λ _. twice_at (a.twice - 1)
+    otherwise λ _. if eqb a.twice 0 then (λ _. whole a.main a.code a.table)
+    otherwise λ _. twice_at (a.twice - 1)
 
 unfoldable pub written_whole : ℕ → Gathered → Got (List Head) → SeenWhole
 written_whole end a (good hs j) = settled end (gather_all a hs)

@@ -4,7 +4,7 @@ use native.Mathlib.Omega.{arith}
 use mathlib.Core.Path.{◌≡◌, refl, ap, subst, sym, ◌∙◌}
 use mathlib.Core.Logic.{◌≢◌}
 use mathlib.Core.Bool.{Bool, true, false}
-use Rattle.meaning.specs.Basics.{if◌then◌else◌, stands_in}
+use Rattle.meaning.specs.Basics.{if◌then◌otherwise◌, stands_in}
 use Rattle.meaning.specs.Run.{steps, shapes, entries, text_bytes, calls, picture, Resource, End, result, error, unfinished}
 use Rattle.meaning.specs.Program.{accepted, Outcome}
 use Rattle.meaning.specs.Program as Program
@@ -51,7 +51,7 @@ shortage_named calls z = omega arith
 shortage_named picture z = omega arith
 
 pub named : (c : Call) (m p n l : ℕ) → answer c ≡ number m p n l → m ≢ 0
-unfolding answer if◌then◌else◌ shortage_at
+unfolding answer if◌then◌otherwise◌ shortage_at
 named c m p n l e = by (admitted c) refl
   where
     settled_by : admitted c ≡ true → Settles (granted_to c) (run_of c) → m ≢ 0

@@ -10,7 +10,7 @@ use lib.IntN.{ℤ, pos}
 use lib.Signed.{lt_z}
 use lib.Dec.{ltb, eqb}
 use borrow.Author.Tests.{ltb-true, ltb-false, lt-ltb, le-ltb}
-use Rattle.meaning.specs.Basics.{if◌then◌else◌, laid_over, stands_in}
+use Rattle.meaning.specs.Basics.{if◌then◌otherwise◌, laid_over, stands_in}
 use Rattle.meaning.specs.Grammar.{Reading, well_formed, malformed, reading}
 use Rattle.meaning.specs.State.{State}
 use Rattle.meaning.specs.Run.{steps, picture, Taking, Event, End, result, error, unfinished, Run, run, go_on, ◌>>=◌, give, fail, refuse}
@@ -36,8 +36,8 @@ use Rattle.demands.specs.Demands.{too_long, unreadable, Either, proper, other, N
 -- ---- demand 2
 -- an operation without an out slice leaves none
 no_out : (b : Bool) (c : Call) → c.out ≡ [] → c.operation ≢ drawing
-    → (if b then (λ _. out_after_end c.operation (book (granted_to c) nothing_yet (run_of c).takings) (run_of c).end c.out) else λ _. c.out) ≡ []
-unfolding if◌then◌else◌ out_after_end
+    → (if b then (λ _. out_after_end c.operation (book (granted_to c) nothing_yet (run_of c).takings) (run_of c).end c.out) otherwise λ _. c.out) ≡ []
+unfolding if◌then◌otherwise◌ out_after_end
 no_out true c e n = by c.operation n ∙ e
   where
     by : (o : Operation) → o ≢ drawing → out_after_end o (book (granted_to c) nothing_yet (run_of c).takings) (run_of c).end c.out ≡ c.out
@@ -186,7 +186,7 @@ module _ (c : Call) (a : Answer) {work work' : List (List ℕ)} (out' : List ℕ
   by_painting m p f k e = numbered m p k (answer_admitted c f ∙ ap (booked (granted_to c)) (at_once c (suc c.grants.steps) m p e c.operation runs))
 
   refuses : (m p : ℕ) → Other c m p → Numbered c a out' m p
-  unfolding answer if◌then◌else◌ stands_in
+  unfolding answer if◌then◌otherwise◌ stands_in
   refuses m p (not_lent e) = numbered 71 0 refl (rw e)
   refuses m p (no_sheet f e) = by_painting 72 0 f refl (sheet_refused c _ e)
   refuses m p (too_long f s l) = by_painting 73 0 f refl (length_refused c _ s l)

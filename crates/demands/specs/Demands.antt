@@ -2,7 +2,7 @@
 -- shows that its promise is the one spoken of here.
 use Rattle.std.specs.Prelude.{ℕ, ◌≤◌, ◌<◌, ◌≡◌, ◌≢◌, true, false, ◌&&◌, List, [], ◌∷◌, map, length, take, get_or, ℤ, pos, eqb}
 use Rattle.std.specs.Int.Signed.{lt_z}
-use Rattle.meaning.specs.Basics.{if◌then◌else◌, laid_over}
+use Rattle.meaning.specs.Basics.{if◌then◌otherwise◌, laid_over}
 use Rattle.meaning.specs.Tree as Tree
 use Rattle.meaning.specs.Grammar.{well_formed, malformed, reading}
 use Rattle.meaning.specs.State.{State}
@@ -36,7 +36,7 @@ called_checking = Checking.called
 
 -- the answer that C is told: by the number returned, 0 being none, and the four words of the answer
 unfoldable pub told_by : ℕ → List ℕ → Answer
-told_by n ws = if eqb n 0 then (λ _. pictured (get_or ws 3 0) (get_or ws 2 0)) else λ _. number (get_or ws 0 0) (get_or ws 1 0) (get_or ws 2 0) (get_or ws 3 0)
+told_by n ws = if eqb n 0 then (λ _. pictured (get_or ws 3 0) (get_or ws 2 0)) otherwise λ _. number (get_or ws 0 0) (get_or ws 1 0) (get_or ws 2 0) (get_or ws 3 0)
 
 -- 0, which tells C that there is a picture or that the program is well formed, is no answer's number
 abbrev pub ZeroIsNoNumber : Type 0

@@ -7,7 +7,7 @@ use native.Mathlib.Omega.{arith}
 use lib.ListN.{length}
 use lib.Seq.{get_or-set_other}
 use borrow.Author.Tests.{not-true, not-false}
-use Rattle.meaning.specs.Basics.{if◌then◌else◌}
+use Rattle.meaning.specs.Basics.{if◌then◌otherwise◌}
 use Rattle.machine.specs.Layout.{steps_used, steps_granted, shape_place}
 use Rattle.machine.specs.Act.{Raw, raw, done, go_on, ◌>>=◌, give, load, store, held, count, passed, Passes, Gives}
 use Rattle.machine.specs.Shapes.{is_group_at, destroyed_at, destroy}
@@ -60,18 +60,18 @@ module _ (g ws : List ℕ) (d k n : ℕ) (u : Under g ws d k n) where
 module _ (g ws : List ℕ) (i : ℕ) where
   module _ (ws₁ : List ℕ) (h : Gives ws (destroy i) tt ws₁) (b : Bool) (e : b ≡ is_group_at ws₁ i) where
     pub figure_gone : not b ≡ true → Ends ws (λ p. destroy_all g p i) 0 ws₁
-    unfolding destroy_all ◌>>=◌ go_on give held passed if◌then◌else◌
+    unfolding destroy_all ◌>>=◌ go_on give held passed if◌then◌otherwise◌
     figure_gone t = record { equal = λ p ts. sym (after_gift _ ts h ∙ rw (← e, not-true b t)) }
 
     pub group_gone : (r : ℕ) (ws₂ : List ℕ) → not b ≡ false → Ends ws₁ (walking (destroy_reached g) destroy_left g i) r ws₂ → Ends ws (λ p. destroy_all g p i) r ws₂
-    unfolding destroy_all walking destroy_reached destroy_left ◌>>=◌ go_on held if◌then◌else◌
+    unfolding destroy_all walking destroy_reached destroy_left ◌>>=◌ go_on held if◌then◌otherwise◌
     group_gone r ws₂ t w = record { equal = λ p ts. w.equal p ts ∙ sym (after_gift _ ts h ∙ rw (← e, not-false b t)) }
 
   module _ (b : Bool) (e : b ≡ destroyed_at ws i) where
     pub gone_before : b ≡ true → Ends ws (λ p. destroy_living g p i) 0 ws
-    unfolding destroy_living ◌>>=◌ go_on give held passed if◌then◌else◌
+    unfolding destroy_living ◌>>=◌ go_on give held passed if◌then◌otherwise◌
     gone_before t = record { equal = λ p ts. rw (← e, t) }
 
     pub living_gone : (r : ℕ) (ws' : List ℕ) → b ≡ false → Ends ws (λ p. destroy_all g p i) r ws' → Ends ws (λ p. destroy_living g p i) r ws'
-    unfolding destroy_living ◌>>=◌ go_on held if◌then◌else◌
+    unfolding destroy_living ◌>>=◌ go_on held if◌then◌otherwise◌
     living_gone r ws' t w = record { equal = λ p ts. w.equal p ts ∙ rw (← e, t) }

@@ -9,7 +9,7 @@ use lib.IntN.{ℤ}
 use lib.Signed.{mag}
 use mir.Syntax.{w32}
 use mir.Val.{to_z}
-use Rattle.meaning.specs.Basics.{if◌then◌else◌}
+use Rattle.meaning.specs.Basics.{if◌then◌otherwise◌}
 use Rattle.machine.specs.declared.Value.TheVariants.{Integer, Shape}
 use Rattle.machine.specs.declared.Answer.{Answer}
 use Rattle.machine.specs.declared.Answer.TheVariants.{Bad}
@@ -84,7 +84,7 @@ module _ {g ws : List ℕ} {tag p a b : ℕ} where
 module _ {program g ts ws : List ℕ} {tag p a b : ℕ} {r : Answer} where
   pub by_joining : {ts' ws' : List ℕ} → tag ≡ 16 → shown r ts' ws' ≡ joined program g p (unpacked a) (unpacked b) (raw ts ws)
       → Mixes program g ts ws tag p a b r ts' ws'
-  unfolding operate_on if◌then◌else◌
+  unfolding operate_on if◌then◌otherwise◌
   by_joining t h = record { equal = λ _. h ∙ rw t }
 
   pub by_equality : (n : ℕ) {ws' : List ℕ} → tag ≡ n → Compares program g ts ws n p a b r ws' → Mixes program g ts ws tag p a b r ts ws'

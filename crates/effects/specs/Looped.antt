@@ -1,6 +1,6 @@
 -- What a loop over a group asks before its first turn, and how it begins and ends.
 use Rattle.std.specs.Prelude.{ℕ, ◌≡◌, List, get_or, set, eqb}
-use Rattle.meaning.specs.Basics.{if◌then◌else◌}
+use Rattle.meaning.specs.Basics.{if◌then◌otherwise◌}
 use Rattle.machine.specs.declared.Flow.{Flow}
 use Rattle.machine.specs.declared.Value.TheVariants.{Shape}
 use Rattle.machine.specs.Layout.{loop_unit}
@@ -11,7 +11,7 @@ use Rattle.machine.specs.Loops.{inner_unit}
 
 -- what follows, or a stop with a number
 unfoldable pub or_stop : ℕ → Act Flow → ℕ → Act Flow
-or_stop number next p = if eqb number 0 then (λ _. next) else λ _. fail number p
+or_stop number next p = if eqb number 0 then (λ _. next) otherwise λ _. fail number p
 
 -- shape i has to be a group that is not destroyed; then the variable is declared, if it is not
 unfoldable pub asking : ℕ → ℕ → (ℕ → Act Flow) → ℕ → Act Flow

@@ -6,7 +6,7 @@ use mathlib.Core.List.{List, [], ◌++◌, append-nil}
 use native.Mathlib.Omega.{arith}
 use borrow.Author.Tests.{ne_eqb}
 use lib.ListN.{length, take, set, length-append, length-set}
-use Rattle.meaning.specs.Basics.{if◌then◌else◌}
+use Rattle.meaning.specs.Basics.{if◌then◌otherwise◌}
 use Rattle.meaning.specs.Token.{comma, close_paren}
 use Rattle.meaning.specs.Grammar.{Got, good, after}
 use Rattle.machine.specs.Opcodes.{word}
@@ -22,7 +22,7 @@ use Rattle.expressions.proofs.Answers.{take_put_before, Wrote, wrote, erred, sam
 abbrev turn : List ℕ → (ℕ → Got (List ℕ)) → Piece → ℕ → Got (List ℕ)
 turn ws rest e j =
     if is comma ws j then (λ _. after (rest (j + 1)) λ es m. good (argument_code e.code ++ es) m)
-    else λ _. expect close_paren ws j (argument_code e.code ++ [])
+    otherwise λ _. expect close_paren ws j (argument_code e.code ++ [])
 
 same_turn : (ws : List ℕ) (f h : ℕ → Got (List ℕ)) (e : Piece) (j : ℕ) → f (j + 1) ≡ h (j + 1) → turn ws f e j ≡ turn ws h e j
 same_turn ws f h e j q = rw q
@@ -49,7 +49,7 @@ rest_turns left ws i = same_after (expression left ws i) _ _ λ e j q.
     (enough left ws (length ws - i) (suc (length ws - (j + 1))) (j + 1) (omega (arith, p.ahead, p.within)) (omega (arith, p.ahead, p.within)))
 
 pub arguments_none : (left : ℕ) (ws : List ℕ) (i n : ℕ) (s : List ℕ) (kind : ℕ) → kind ≡ kind_at ws i → kind ≡ 41 → seen (At (i + 1) n 0) s ≡ written_code (arguments (expression left ws) ws i) n s
-unfolding arguments if◌then◌else◌ seen written_code
+unfolding arguments if◌then◌otherwise◌ seen written_code
 arguments_none left ws i n s kind k e =
     let q : n + 0 ≡ n = omega arith in
     rw (← k, e, q, append-nil (take n s))
@@ -64,7 +64,7 @@ pub record Going (left : ℕ) (ws : List ℕ) (i n : ℕ) (s₀ : List ℕ) (p m
   pub kept : length s ≡ length s₀
 
 pub going_starts : (left : ℕ) (ws : List ℕ) (i n : ℕ) (s : List ℕ) (kind : ℕ) → kind ≡ kind_at ws i → (kind ≡ 41 → ⊥) → i < 2 ^ 64 → Room ws s i (n + 1) → Going left ws i n s i n s
-unfolding arguments if◌then◌else◌ rest
+unfolding arguments if◌then◌otherwise◌ rest
 going_starts left ws i n s kind k h f o = record { same = rw (← k, ne_eqb _ _ h); ahead = omega arith; fits = f; room = o; kept = refl }
 
 -- a turn: the argument ended before token j, with the words up to q, and its own word was put before it
@@ -107,7 +107,7 @@ module _ (left : ℕ) (ws : List ℕ) (i n : ℕ) (s₀ : List ℕ) (p m : ℕ) 
           rw (x, v, size) (take_put_before s s₁ y.piece.code m q _ o (omega (arith, z.some)) y.front)
 
       pub going_on : kind ≡ 44 → Going left ws i n s₀ (j + 1) q s₂
-      unfolding after if◌then◌else◌
+      unfolding after if◌then◌otherwise◌
       going_on c =
           let y = wrote e _ (m + 1) s s₁ j q t h u in
           let z = turned in
@@ -125,14 +125,14 @@ module _ (left : ℕ) (ws : List ℕ) (i n : ℕ) (s₀ : List ℕ) (p m : ℕ) 
           }
 
       pub going_ends : kind ≡ 41 → seen (At (j + 1) q 0) s₂ ≡ written_code (arguments (expression left ws) ws i) n s₀
-      unfolding after if◌then◌else◌ expect seen written_code
+      unfolding after if◌then◌otherwise◌ expect seen written_code
       going_ends c =
           let y = wrote e _ (m + 1) s s₁ j q t h u in
           let b : m + length (argument_code y.piece.code ++ []) ≡ q = omega (arith, y.up_to, length-append (argument_code y.piece.code) []) in
           rw (g.same, rest_turns left ws p, y.read, ← k, c, b) (ap (at (j + 1) q 0) (front y ∙ ap (λ l. take m s ++ l) (sym (append-nil (argument_code y.piece.code)))))
 
       pub going_stops : (kind ≡ 41 → ⊥) → (kind ≡ 44 → ⊥) → seen (Wrong 10 j) s₂ ≡ written_code (arguments (expression left ws) ws i) n s₀
-      unfolding after if◌then◌else◌ expect seen written_code
+      unfolding after if◌then◌otherwise◌ expect seen written_code
       going_stops c d =
           let y = wrote e _ (m + 1) s s₁ j q t h u in
           rw (g.same, rest_turns left ws p, y.read, ← k, ne_eqb _ _ c, ne_eqb _ _ d)

@@ -4,7 +4,7 @@ use Prim.Native.Nat.{ℕ, ◌+◌, ◌-◌}
 use mathlib.Core.Path.{◌≡◌, ◌∙◌, sym}
 use mathlib.Core.List.{List}
 use borrow.Author.Tests.{eq-eqb, ne_eqb}
-use Rattle.meaning.specs.Basics.{if◌then◌else◌}
+use Rattle.meaning.specs.Basics.{if◌then◌otherwise◌}
 use Rattle.meaning.specs.Grammar.{Got, wrong, after, no_level, opening}
 use Rattle.expressions.specs.declared.Read.{Read}
 use Rattle.expressions.specs.declared.Read.TheVariants.{At, Wrong}
@@ -25,7 +25,7 @@ module _ (left : ℕ) (ws : List ℕ) (i n : ℕ) (s₀ s : List ℕ) (a : Read)
 
   module _ (j m t tag kind : ℕ) (h : seen a s ≡ written (operand (inside_of left ws) ws i) n s₀) (e : a ≡ At j m t) (k : kind ≡ kind_at ws j) (o : tag ≡ operator_tag kind) where
     pub expression_one : tag ≡ 0 → seen (At j m t) s ≡ written (expression left ws i) n s₀
-    unfolding expression_in operated after if◌then◌else◌
+    unfolding expression_in operated after if◌then◌otherwise◌
     expression_one z =
         let w = wrote a _ n s₀ s j m t h e in
         let q : operator_tag (kind_at ws j) ≡ 0 = cc in
@@ -33,7 +33,7 @@ module _ (left : ℕ) (ws : List ℕ) (i n : ℕ) (s₀ s : List ℕ) (a : Read)
 
     pub expression_two : (b r : Read) (s₂ s₃ : List ℕ) → (tag ≡ 0 → ⊥) → seen b s₂ ≡ written (operand (inside_of left ws) ws (j + 1)) m s → seen r s₃ ≡ combined tag n m 0 (seen b s₂)
         → seen r s₃ ≡ written (expression left ws i) n s₀
-    unfolding expression_in operated after if◌then◌else◌
+    unfolding expression_in operated after if◌then◌otherwise◌
     expression_two b r s₂ s₃ z h₂ h₃ =
         let w = wrote a _ n s₀ s j m t h e in
         let q : operator_tag (kind_at ws j) ≡ tag = cc in
@@ -48,14 +48,14 @@ module _ (left : ℕ) (ws : List ℕ) (i n : ℕ) (s₀ s : List ℕ) (a : Read)
 
   module _ (j m t kind : ℕ) (h : seen a s ≡ written (primary (inside_of left ws) ws i) n s₀) (e : a ≡ At j m t) (k : kind ≡ kind_at ws j) where
     pub operand_one : (kind ≡ 46 → ⊥) → seen (At j m t) s ≡ written (operand (inside_of left ws) ws i) n s₀
-    unfolding operand after if◌then◌else◌
+    unfolding operand after if◌then◌otherwise◌
     operand_one z =
         let w = wrote a _ n s₀ s j m t h e in
         rw (w.read, ← k, ne_eqb _ _ z) (good_seen _ n s₀ j m t s w)
 
     pub operand_two : (b r : Read) (s₂ s₃ : List ℕ) → kind ≡ 46 → seen b s₂ ≡ written (primary (inside_of left ws) ws (j + 1)) m s → seen r s₃ ≡ combined 7 n m 2 (seen b s₂)
         → seen r s₃ ≡ written (operand (inside_of left ws) ws i) n s₀
-    unfolding operand after if◌then◌else◌
+    unfolding operand after if◌then◌otherwise◌
     operand_two b r s₂ s₃ z h₂ h₃ =
         let w = wrote a _ n s₀ s j m t h e in
         let y : seen r s₃ ≡ combined 7 n m 2 (written (primary (inside_of left ws) ws (j + 1)) m s) = cc in

@@ -6,7 +6,7 @@ use mathlib.Core.List.{List, [], ◌∷◌, ◌++◌}
 use borrow.Author.Tests.{eq-eqb, ne_eqb}
 use native.Mathlib.Omega.{arith}
 use lib.ListN.{length, take, set}
-use Rattle.meaning.specs.Basics.{if◌then◌else◌}
+use Rattle.meaning.specs.Basics.{if◌then◌otherwise◌}
 use Rattle.meaning.specs.Grammar.{Got, wrong, no_level}
 use Rattle.machine.specs.Opcodes.{word}
 use Rattle.expressions.specs.declared.Read.{Read}
@@ -50,11 +50,11 @@ module _ (ws : List ℕ) (kind : ℕ) (e : Read) where
   close_wrong k p h = rw h
 
   pub close_at : (j m t found : ℕ) → e ≡ At j m t → found ≡ kind_at ws j → found ≡ kind → At (j + 1) m 0 ≡ closed kind ws e
-  unfolding closed if◌then◌else◌
+  unfolding closed if◌then◌otherwise◌
   close_at j m t found h f q = rw (h, ← f, eq-eqb _ _ q)
 
   pub close_other : (j m t found : ℕ) → e ≡ At j m t → found ≡ kind_at ws j → (found ≡ kind → ⊥) → Wrong 10 j ≡ closed kind ws e
-  unfolding closed if◌then◌else◌
+  unfolding closed if◌then◌otherwise◌
   close_other j m t found h f q = rw (h, ← f, ne_eqb _ _ q)
 
 -- ---- constants

@@ -6,7 +6,7 @@ use mathlib.Core.Bool.{Bool, true, false}
 use mathlib.Core.List.{List}
 use native.Mathlib.Omega.{arith}
 use lib.ListN.{length}
-use Rattle.meaning.specs.Basics.{if◌then◌else◌}
+use Rattle.meaning.specs.Basics.{if◌then◌otherwise◌}
 use Rattle.meaning.specs.Grammar.{Got, good}
 use Rattle.expressions.specs.declared.Read.{Read}
 use Rattle.expressions.specs.declared.Read.TheVariants.{At, Wrong}
@@ -88,11 +88,11 @@ call_spare left ws i n s₀ s es o l h = record {
 
 -- what was closed was read
 closed_at : (k : ℕ) (ws : List ℕ) (e : Read) (j m t : ℕ) → closed k ws e ≡ At j m t → (p : ℕ) × (t₀ : ℕ) × (e ≡ At p m t₀)
-unfolding closed if◌then◌else◌
+unfolding closed if◌then◌otherwise◌
 closed_at k ws (Wrong l p) j m t h = let z : ◌≡◌ {A = ℕ} 0 1 = cc in absurd (omega arith)
 closed_at k ws (At p q t₀) j m t h = go (is k ws p) h
   where
-    go : (b : Bool) → (if b then (λ _. At (p + 1) q 0) else λ _. Wrong 10 p) ≡ At j m t → (p' : ℕ) × (t' : ℕ) × (At p q t₀ ≡ At p' m t')
+    go : (b : Bool) → (if b then (λ _. At (p + 1) q 0) otherwise λ _. Wrong 10 p) ≡ At j m t → (p' : ℕ) × (t' : ℕ) × (At p q t₀ ≡ At p' m t')
     go true g = (p, t₀, cc)
     go false g = let z : ◌≡◌ {A = ℕ} 0 1 = cc in absurd (omega arith)
 

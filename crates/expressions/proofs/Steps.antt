@@ -6,7 +6,7 @@ use mathlib.Core.Bool.{Bool, true, false}
 use mathlib.Core.List.{List, [], ◌∷◌, ◌++◌, append_assoc}
 use native.Mathlib.Omega.{arith}
 use lib.ListN.{length, take, length-append}
-use Rattle.meaning.specs.Basics.{if◌then◌else◌}
+use Rattle.meaning.specs.Basics.{if◌then◌otherwise◌}
 use Rattle.meaning.specs.Grammar.{Got, good, wrong, after}
 use Rattle.machine.specs.Opcodes.{word}
 use Rattle.code.specs.Code.{joined}
@@ -56,8 +56,8 @@ finished_piece (good e j) tag n x s₀ = finished_at e.code s₀ tag n x j e.tar
 
 -- ---- the token that closes
 closed_picks : (b : Bool) (c s₀ s : List ℕ) (n j m : ℕ) → m ≡ n + length c → take m s ≡ take n s₀ ++ c
-    → seen (if b then (λ _. At (j + 1) m 0) else λ _. Wrong 10 j) s ≡ written (if b then (λ _. good (piece c 0) (j + 1)) else λ _. wrong 10 j) n s₀
-unfolding if◌then◌else◌ seen written
+    → seen (if b then (λ _. At (j + 1) m 0) otherwise λ _. Wrong 10 j) s ≡ written (if b then (λ _. good (piece c 0) (j + 1)) otherwise λ _. wrong 10 j) n s₀
+unfolding if◌then◌otherwise◌ seen written
 closed_picks true c s₀ s n j m h f = cc
 closed_picks false c s₀ s n j m h f = refl
 
@@ -70,8 +70,8 @@ closed_reads (At j m t) g k n ws s₀ s h =
 closed_reads (Wrong l p) g k n ws s₀ s h = rw (erred (Wrong l p) g n s₀ s l p h refl) (wrong_seen l p n s₀ s)
 
 expected_picks : (b : Bool) (c : List ℕ) (f : List ℕ → List ℕ) (j : ℕ)
-    → after (if b then (λ _. good (piece c 0) (j + 1)) else λ _. wrong 10 j) (λ x m. good (piece (f x.code) 0) m) ≡ (if b then (λ _. good (piece (f c) 0) (j + 1)) else λ _. wrong 10 j)
-unfolding if◌then◌else◌ after
+    → after (if b then (λ _. good (piece c 0) (j + 1)) otherwise λ _. wrong 10 j) (λ x m. good (piece (f x.code) 0) m) ≡ (if b then (λ _. good (piece (f c) 0) (j + 1)) otherwise λ _. wrong 10 j)
+unfolding if◌then◌otherwise◌ after
 expected_picks true c f j = refl
 expected_picks false c f j = refl
 

@@ -8,14 +8,14 @@ use native.Mathlib.Omega.{arith}
 use borrow.Author.Tests.{ltb-true, ltb-false, ne_eqb}
 use lib.Dec.{eqb, ltb}
 use lib.ListN.{length, get_or, get_or-eq_default}
-use Rattle.meaning.specs.Basics.{if◌then◌else◌}
+use Rattle.meaning.specs.Basics.{if◌then◌otherwise◌}
 use Rattle.expressions.specs.Words.{kind_at, place_at, payload_at, home_at, callee_at, part_at, operator_tag}
 use Rattle.expressions.specs.Room.{Room}
 
 -- ---- choices
 -- what holds on both sides holds of a choice
-pub chosen : {A : Type 0} (P : A → Type 0) (b : Bool) (x y : Unit {0} → A) → (b ≡ true → P (x tt)) → (b ≡ false → P (y tt)) → P (if b then x else y)
-unfolding if◌then◌else◌
+pub chosen : {A : Type 0} (P : A → Type 0) (b : Bool) (x y : Unit {0} → A) → (b ≡ true → P (x tt)) → (b ≡ false → P (y tt)) → P (if b then x otherwise y)
+unfolding if◌then◌otherwise◌
 chosen P true x y f g = f refl
 chosen P false x y f g = g refl
 
@@ -78,7 +78,7 @@ operator_small k =
 pub operator_none : (k : ℕ) → (k ≡ 171 → ⊥) → (k ≡ 43 → ⊥) → (k ≡ 45 → ⊥) → (k ≡ 42 → ⊥) → (k ≡ 47 → ⊥) → (k ≡ 37 → ⊥) → (k ≡ 190 → ⊥) → (k ≡ 188 → ⊥) → (k ≡ 189 → ⊥) → (k ≡ 161 → ⊥)
     → (k ≡ 62 → ⊥) → (k ≡ 60 → ⊥)
     → 0 ≡ operator_tag k
-unfolding operator_tag if◌then◌else◌
+unfolding operator_tag if◌then◌otherwise◌
 operator_none k a b c d e f g h i j l m =
     rw (ne_eqb _ _ a, ne_eqb _ _ b, ne_eqb _ _ c, ne_eqb _ _ d, ne_eqb _ _ e, ne_eqb _ _ f)
     (rw (ne_eqb _ _ g, ne_eqb _ _ h, ne_eqb _ _ i, ne_eqb _ _ j, ne_eqb _ _ l, ne_eqb _ _ m))

@@ -1,6 +1,6 @@
 -- What is done with what was read.
 use Rattle.std.specs.Prelude.{ℕ, ◌+◌, ◌-◌, List, [], ◌∷◌, ◌++◌}
-use Rattle.meaning.specs.Basics.{if◌then◌else◌}
+use Rattle.meaning.specs.Basics.{if◌then◌otherwise◌}
 use Rattle.machine.specs.Opcodes.{word}
 use Rattle.expressions.specs.declared.Read.{Read}
 use Rattle.expressions.specs.declared.Read.TheVariants.{At, Wrong}
@@ -8,7 +8,7 @@ use Rattle.expressions.specs.Words.{is, Seen, at, failed}
 
 -- a token of a kind has to follow
 unfoldable pub closed : ℕ → List ℕ → Read → Read
-closed k ws (At j m t) = if is k ws j then (λ _. At (j + 1) m 0) else λ _. Wrong 10 j
+closed k ws (At j m t) = if is k ws j then (λ _. At (j + 1) m 0) otherwise λ _. Wrong 10 j
 closed k ws (Wrong n p) = Wrong n p
 
 -- a word with a number x behind the words from n on

@@ -1,7 +1,7 @@
 -- The grammar of expressions once more, over prepared token words and with code in place of trees: what the functions here yield.
 -- The crate `reader` shows that it is the meaning's grammar with the code of each tree.
 use Rattle.std.specs.Prelude.{ℕ, zero, suc, ◌+◌, ◌-◌, ◌*◌, ◌/◌, ◌%◌, Bool, ◌&&◌, List, [], ◌∷◌, ◌++◌, length, get_or, take, eqb, leb}
-use Rattle.meaning.specs.Basics.{if◌then◌else◌}
+use Rattle.meaning.specs.Basics.{if◌then◌otherwise◌}
 use Rattle.meaning.specs.Token.{a_name, digits, a_string, word_none, word_true, word_false, dot, comma, open_paren, close_paren, open_bracket, close_bracket, minus, doubled}
 use Rattle.meaning.specs.Grammar.{Got, good, wrong, after, Inside, no_level, level, opening}
 use Rattle.expressions.specs.declared.Read.{Read}
@@ -58,18 +58,18 @@ minus_bits n = (4294967296 - n) % 4294967296
 unfoldable pub operator_tag : ℕ → ℕ
 operator_tag k =
     if eqb k (doubled 43) then (λ _. 16)
-    else λ _. if eqb k 43 then (λ _. 17)
-    else λ _. if eqb k 45 then (λ _. 18)
-    else λ _. if eqb k 42 then (λ _. 19)
-    else λ _. if eqb k 47 then (λ _. 20)
-    else λ _. if eqb k 37 then (λ _. 21)
-    else λ _. if eqb k (doubled 62) then (λ _. 22)
-    else λ _. if eqb k (doubled 60) then (λ _. 23)
-    else λ _. if eqb k (doubled 61) then (λ _. 24)
-    else λ _. if eqb k (doubled 33) then (λ _. 25)
-    else λ _. if eqb k 62 then (λ _. 26)
-    else λ _. if eqb k 60 then (λ _. 27)
-    else λ _. 0
+    otherwise λ _. if eqb k 43 then (λ _. 17)
+    otherwise λ _. if eqb k 45 then (λ _. 18)
+    otherwise λ _. if eqb k 42 then (λ _. 19)
+    otherwise λ _. if eqb k 47 then (λ _. 20)
+    otherwise λ _. if eqb k 37 then (λ _. 21)
+    otherwise λ _. if eqb k (doubled 62) then (λ _. 22)
+    otherwise λ _. if eqb k (doubled 60) then (λ _. 23)
+    otherwise λ _. if eqb k (doubled 61) then (λ _. 24)
+    otherwise λ _. if eqb k (doubled 33) then (λ _. 25)
+    otherwise λ _. if eqb k 62 then (λ _. 26)
+    otherwise λ _. if eqb k 60 then (λ _. 27)
+    otherwise λ _. 0
 
 -- ---- expressions
 -- the code of an expression, and what it is as an assignment's left side: 1 a name, 2 an entry, 0 neither
@@ -87,7 +87,7 @@ abbrev pub ReadPiece : Type 0
 ReadPiece = ℕ → Got Piece
 
 unfoldable pub expect : {A : Type 0} → ℕ → List ℕ → ℕ → A → Got A
-expect k ws j a = if is k ws j then (λ _. good a (j + 1)) else λ _. wrong 10 j
+expect k ws j a = if is k ws j then (λ _. good a (j + 1)) otherwise λ _. wrong 10 j
 
 -- an argument's code with the word before it
 abbrev pub argument_code : List ℕ → List ℕ
@@ -98,12 +98,12 @@ arguments_from zero inner ws i = wrong 10 i
 arguments_from (suc rounds) inner ws i =
     after (inner i) λ e j.
     if is comma ws j then (λ _. after (arguments_from rounds inner ws (j + 1)) λ es m. good (argument_code e.code ++ es) m)
-    else λ _. expect close_paren ws j (argument_code e.code ++ [])
+    otherwise λ _. expect close_paren ws j (argument_code e.code ++ [])
 
 unfoldable pub arguments : ReadPiece → List ℕ → ℕ → Got (List ℕ)
 arguments inner ws i =
     if is close_paren ws i then (λ _. good [] (i + 1))
-    else λ _. arguments_from (suc (length ws - i)) inner ws i
+    otherwise λ _. arguments_from (suc (length ws - i)) inner ws i
 
 abbrev pub call_code : ℕ → List ℕ → List ℕ
 call_code n es = es ++ (word tag_call (length es + 1) n ∷ [])
@@ -114,33 +114,33 @@ table_code c = c ++ (word tag_table (length c + 1) 0 ∷ [])
 unfoldable pub primary : Inside ReadPiece → List ℕ → ℕ → Got Piece
 primary inside ws i =
     if positive_at ws i then (λ _. leaf tag_number (payload_at ws i) 0 (i + 1))
-    else λ _. if signed_at ws i then (λ _.
+    otherwise λ _. if signed_at ws i then (λ _.
     if negative_at ws (i + 1) then (λ _. leaf tag_number (minus_bits (payload_at ws (i + 1))) 0 (i + 2))
-    else λ _. wrong 10 (i + 1))
-    else λ _. if is a_string ws i then (λ _. leaf tag_string (part_at ws i) 0 (i + 1))
-    else λ _. if is word_none ws i then (λ _. leaf tag_none 0 0 (i + 1))
-    else λ _. if is word_true ws i then (λ _. leaf tag_truth 1 0 (i + 1))
-    else λ _. if is word_false ws i then (λ _. leaf tag_truth 0 0 (i + 1))
-    else λ _. if is a_name ws i then (λ _.
+    otherwise λ _. wrong 10 (i + 1))
+    otherwise λ _. if is a_string ws i then (λ _. leaf tag_string (part_at ws i) 0 (i + 1))
+    otherwise λ _. if is word_none ws i then (λ _. leaf tag_none 0 0 (i + 1))
+    otherwise λ _. if is word_true ws i then (λ _. leaf tag_truth 1 0 (i + 1))
+    otherwise λ _. if is word_false ws i then (λ _. leaf tag_truth 0 0 (i + 1))
+    otherwise λ _. if is a_name ws i then (λ _.
     if is open_paren ws (i + 1) then (λ _.
     opening inside (i + 1) λ inner. after (arguments inner ws (i + 2)) λ es j. good (piece (call_code (callee_at ws i) es) 0) j)
-    else λ _. leaf tag_name (home_at ws i) 1 (i + 1))
-    else λ _. if is open_paren ws i then (λ _.
+    otherwise λ _. leaf tag_name (home_at ws i) 1 (i + 1))
+    otherwise λ _. if is open_paren ws i then (λ _.
     opening inside i λ inner. after (inner (i + 1)) λ e j. expect close_paren ws j (piece e.code 0))
-    else λ _. if is open_bracket ws i then (λ _.
+    otherwise λ _. if is open_bracket ws i then (λ _.
     opening inside i λ inner. after (inner (i + 1)) λ e j. expect close_bracket ws j (piece (table_code e.code) 0))
-    else λ _. wrong 10 i
+    otherwise λ _. wrong 10 i
 
 unfoldable pub operand : Inside ReadPiece → List ℕ → ℕ → Got Piece
 operand inside ws i =
     after (primary inside ws i) λ a j.
     if is dot ws j then (λ _. after (primary inside ws (j + 1)) λ b m. good (piece (joined tag_entry a.code b.code) 2) m)
-    else λ _. good a j
+    otherwise λ _. good a j
 
 unfoldable pub operated : ℕ → Inside ReadPiece → List ℕ → Piece → ℕ → Got Piece
 operated tag inside ws a j =
     if eqb tag 0 then (λ _. good a j)
-    else λ _. after (operand inside ws (j + 1)) λ b m. good (piece (joined tag a.code b.code) 0) m
+    otherwise λ _. after (operand inside ws (j + 1)) λ b m. good (piece (joined tag a.code b.code) 0) m
 
 unfoldable pub expression_in : Inside ReadPiece → List ℕ → ℕ → Got Piece
 expression_in inside ws i = after (operand inside ws i) λ a j. operated (operator_tag (kind_at ws j)) inside ws a j

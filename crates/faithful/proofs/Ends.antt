@@ -6,7 +6,7 @@ use mathlib.Core.Bool.{Bool, true, false, ◌||◌, cond}
 use mathlib.Core.List.{List, [], ◌∷◌, ◌++◌, append-nil, append_assoc}
 use lib.ListN.{length, get_or, length-append}
 use borrow.Author.Tests.{le-ltb, le-leb}
-use Rattle.meaning.specs.Basics.{bytes, if◌then◌else◌}
+use Rattle.meaning.specs.Basics.{bytes, if◌then◌otherwise◌}
 use Rattle.meaning.specs.Byte.{is_letter, is_digit, is_name_part}
 use Rattle.meaning.specs.Token.{Token}
 use Rattle.meaning.specs.Picture.{decimal}
@@ -126,13 +126,13 @@ module _ (s : Source) (ts : List Token) (spells : Spells s ts) where
 
   -- as a part of an operator
   no_entry : (e : Expression) (y : ℕ) → is_entry e ≡ false → Known e ts → At y e → operand_ends code y ≡ part_last (enclosed_if (is_operation e) (expression_text e))
-  unfolding operand_ends if◌then◌else◌
+  unfolding operand_ends if◌then◌otherwise◌
   no_entry e y n k h =
       rw (root_tag_lem s ts spells e y h.0 h.1, entry_tag e, n)
       (primary_ends e k ∙ ap (λ (b : Bool). part_last (enclosed_if b (expression_text e))) (or_right (is_operation e) (is_entry e) n))
 
   operand_ends_lem : (e : Expression) (y : ℕ) → Known e ts → At y e → operand_ends code y ≡ part_last (enclosed_if (is_operation e) (expression_text e))
-  unfolding Known code_with root_tag is_operation is_entry enclosed_if expression_text operand_ends if◌then◌else◌
+  unfolding Known code_with root_tag is_operation is_entry enclosed_if expression_text operand_ends if◌then◌otherwise◌
   operand_ends_lem (number z) y k h = no_entry (number z) y refl k h
   operand_ends_lem (string t) y k h = no_entry (string t) y refl k h
   operand_ends_lem nothing y k h = no_entry nothing y refl k h
@@ -150,14 +150,14 @@ module _ (s : Source) (ts : List Token) (spells : Spells s ts) where
   operand_ends_lem (paren e) y k h = operand_ends_lem e y k h
 
   no_operator : (e : Expression) (y : ℕ) → is_operation e ≡ false → Known e ts → At y e → ends_word code y ≡ part_last (expression_text e)
-  unfolding ends_word enclosed_if if◌then◌else◌
+  unfolding ends_word enclosed_if if◌then◌otherwise◌
   no_operator e y n k h =
       rw (root_tag_lem s ts spells e y h.0 h.1, operation_tag e, n)
       (operand_ends_lem e y k h ∙ ap (λ (b : Bool). part_last (enclosed_if b (expression_text e))) n)
 
   -- THE LAST BYTE OF AN EXPRESSION'S TEXT
   pub word_ends : (e : Expression) (y : ℕ) → Known e ts → At y e → ends_word code y ≡ part_last (expression_text e)
-  unfolding Known code_with root_tag is_operation expression_text ends_word if◌then◌else◌
+  unfolding Known code_with root_tag is_operation expression_text ends_word if◌then◌otherwise◌
   word_ends (number z) y k h = no_operator (number z) y refl k h
   word_ends (string t) y k h = no_operator (string t) y refl k h
   word_ends nothing y k h = no_operator nothing y refl k h

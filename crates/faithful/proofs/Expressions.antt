@@ -8,7 +8,7 @@ use lib.ListN.{length, get_or, length-append}
 use lib.IntN.{ℤ}
 use lib.Dec.{eqb, leb}
 use borrow.Author.Tests.{lt-ltb, le-ltb, ne_eqb, le-leb}
-use Rattle.meaning.specs.Basics.{bytes, if◌then◌else◌}
+use Rattle.meaning.specs.Basics.{bytes, if◌then◌otherwise◌}
 use Rattle.meaning.specs.Byte.{is_name_part}
 use Rattle.meaning.specs.Token.{Token, a_name, a_string}
 use Rattle.meaning.specs.Tree.{Operator, concatenate, add, subtract, multiply, divide, remainder, shift_right, shift_left, equal, unequal, greater, less}
@@ -67,7 +67,7 @@ tag_large greater = omega arith
 tag_large less = omega arith
 
 sign_operator : (o : Operator) → sign_text (tag_of o) ≡ operator_text o
-unfolding sign_text tag_of operator_text if◌then◌else◌
+unfolding sign_text tag_of operator_text if◌then◌otherwise◌
 sign_operator concatenate = refl
 sign_operator add = refl
 sign_operator subtract = refl
@@ -82,7 +82,7 @@ sign_operator greater = refl
 sign_operator less = refl
 
 sign_entry : sign_text tag_entry ≡ bytes "."
-unfolding sign_text if◌then◌else◌
+unfolding sign_text if◌then◌otherwise◌
 sign_entry = refl
 
 -- the tag says whether an expression is an operator's or an entry
@@ -149,19 +149,19 @@ joined_small tag a b l = rw joined_length at l
 -- ---- by the word of the root
 module _ (inner : Writer) (s : Source) (x w : ℕ) where
   by_leaf : (tag : ℕ) → tag_in w ≡ tag → tag < 6 → expression_by inner s w x ≡ leaf_text s.program s.tokens w
-  unfolding expression_by if◌then◌else◌
+  unfolding expression_by if◌then◌otherwise◌
   by_leaf tag e l = rw (e, lt-ltb tag 6 l)
 
   by_table : tag_in w ≡ tag_table → expression_by inner s w x ≡ bytes "[" ++ inner (x - 1) ++ bytes "]"
-  unfolding expression_by if◌then◌else◌
+  unfolding expression_by if◌then◌otherwise◌
   by_table e = rw e
 
   by_call : tag_in w ≡ tag_call → expression_by inner s w x ≡ call_text inner s w x
-  unfolding expression_by encloses if◌then◌else◌
+  unfolding expression_by encloses if◌then◌otherwise◌
   by_call e = rw e
 
   by_pair : (tag n : ℕ) → tag_in w ≡ tag → number_in w ≡ n → 6 < tag → encloses tag_entry tag ≡ true → expression_by inner s w x ≡ pair_text inner s tag (x - 1 - n) (x - 1)
-  unfolding expression_by if◌then◌else◌
+  unfolding expression_by if◌then◌otherwise◌
   by_pair tag n e k l d = rw (e, k, le-ltb tag 6 (omega arith), ne_eqb tag 6 (λ q. omega arith), d)
 
 module _ (s : Source) (ts : List Token) (spells : Spells s ts) where
@@ -191,30 +191,30 @@ module _ (s : Source) (ts : List Token) (spells : Spells s ts) where
   tag_leaf tag n l = (word_told tag 1 n l (omega arith)).tag_is
 
   number_says : (z : ℤ) → wrap z ≡ z → Says (number z)
-  unfolding code_with expression_text leaf_text if◌then◌else◌ wrap
+  unfolding code_with expression_text leaf_text if◌then◌otherwise◌ wrap
   number_says z e =
       leaf_says (number z) tag_number (bits z) refl (omega arith)
       (rw (tag_leaf tag_number (bits z) (omega arith), number_leaf tag_number (bits z) (omega arith)) (ap decimal e))
 
   string_says : (t : List ℕ) → Occurs ts a_string t → Says (string t)
-  unfolding code_with expression_text leaf_text if◌then◌else◌
+  unfolding code_with expression_text leaf_text if◌then◌otherwise◌
   string_says t o =
       leaf_says (string t) tag_string (part_of ts t) refl (omega arith)
       (rw (tag_leaf tag_string (part_of ts t) (omega arith), number_leaf tag_string (part_of ts t) (omega arith), spells.strings t o))
 
   nothing_says : Says nothing
-  unfolding code_with expression_text leaf_text if◌then◌else◌
+  unfolding code_with expression_text leaf_text if◌then◌otherwise◌
   nothing_says = leaf_says nothing tag_none 0 refl (omega arith) (rw (tag_leaf tag_none 0 (omega arith)))
 
   truth_says : (b : Bool) → Says (truth b)
-  unfolding code_with expression_text leaf_text if◌then◌else◌
+  unfolding code_with expression_text leaf_text if◌then◌otherwise◌
   truth_says true =
       leaf_says (truth true) tag_truth 1 refl (omega arith) (rw (tag_leaf tag_truth 1 (omega arith), number_leaf tag_truth 1 (omega arith)))
   truth_says false =
       leaf_says (truth false) tag_truth 0 refl (omega arith) (rw (tag_leaf tag_truth 0 (omega arith), number_leaf tag_truth 0 (omega arith)))
 
   name_says : (x : List ℕ) → Occurs ts a_name x → Says (name x)
-  unfolding code_with expression_text leaf_text if◌then◌else◌
+  unfolding code_with expression_text leaf_text if◌then◌otherwise◌
   name_says x o =
       leaf_says (name x) tag_name (slot_of ts x) refl (omega arith)
       (rw (tag_leaf tag_name (slot_of ts x) (omega arith), number_leaf tag_name (slot_of ts x) (omega arith)) (spells.names x o))
@@ -299,14 +299,14 @@ module _ (s : Source) (ts : List Token) (spells : Spells s ts) where
       → arguments_text rounds lead (raw_expression fuel s) s (argument_after s a x) x ≡ led lead (argument_texts es)
 
   none_say : SaysAll no_argument
-  unfolding arguments_with argument_texts arguments_text argument_root if◌then◌else◌
+  unfolding arguments_with argument_texts arguments_text argument_root if◌then◌otherwise◌
   none_say fuel a x zero lead f q e n k r = absurd (omega arith)
   none_say fuel a x (suc rounds) lead f q e n k r =
       let i : a ≡ x = omega arith in
       rw (i, le-ltb (x + size_in (get_or code x 0)) x (omega arith), le-ltb x x (omega arith))
 
   more_say : (e : Expression) (es : Arguments) → Says e → SaysAll es → SaysAll (argument e es)
-  unfolding arguments_with argument_texts arguments_text argument_root if◌then◌else◌
+  unfolding arguments_with argument_texts arguments_text argument_root if◌then◌otherwise◌
   more_say e es h hs fuel a x zero lead f q i n k r = absurd (omega arith)
   more_say e es h hs fuel a x (suc rounds) lead f q i n k r =
       let c = code_of e ts in

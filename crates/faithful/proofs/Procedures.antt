@@ -10,7 +10,7 @@ use lib.ListN.{length, take, drop, replicate, length-map, length-replicate}
 use lib.Seq.{take_at}
 use lib.Dec.{ltb}
 use borrow.Author.Tests.{eq-eqb, ne_eqb, ltb-true, ltb-false}
-use Rattle.meaning.specs.Basics.{bytes, if◌then◌else◌, same_text}
+use Rattle.meaning.specs.Basics.{bytes, if◌then◌otherwise◌, same_text}
 use Rattle.meaning.specs.Token.{Token, ending, a_name, word_def, lexed, tokens_of}
 use Rattle.meaning.specs.Tree.{Procedure}
 use Rattle.meaning.specs.Grammar.{kind_at, procedure_named}
@@ -44,7 +44,7 @@ Own all (f ∷ fs) = (procedure_named f.name all ≡ some f) × Own all fs
 -- names that are not among those before are looked for in the rest
 own_from_lem : (all : List Procedure) (names : List (List ℕ)) (fs : List Procedure) → doubled names fs ≡ none
     → ((x : List ℕ) → is_among x names ≡ false → procedure_named x all ≡ procedure_named x fs) → Own all fs
-unfolding procedure_named is_among if◌then◌else◌
+unfolding procedure_named is_among if◌then◌otherwise◌
 own_from_lem all names [] d h = tt
 own_from_lem all names (f ∷ fs) d h =
     let p = apart names f fs d in (
@@ -138,13 +138,13 @@ module _ (program c : List ℕ) (ts : List Token) (are : tokens_of program ≡ l
 
     -- at a `def`, and at any other token
     def_says : {i j : ℕ} {f : Procedure} → Begins ts i f j → procedure_named f.name all ≡ some f → Raw.procedure_text fuel s i ≡ Text.procedure_text f ++ bytes "\n"
-    unfolding Raw.procedure_text if◌then◌else◌
+    unfolding Raw.procedure_text if◌then◌otherwise◌
     def_says {i} {j} {f} b named =
         let home : Words.home_at (words_of ts) (i + 1) ≡ slot_of ts f.name = name_home_at ts sane (i + 1) b.named ∙ ap (slot_of ts) b.name in
         rw (is_at ts sane word_def i, eq-eqb (kind_at ts i) word_def b.def, home) (named_says f named)
 
     other_says : (i : ℕ) → kind_at ts i ≢ word_def → Raw.procedure_text fuel s i ≡ []
-    unfolding Raw.procedure_text if◌then◌else◌
+    unfolding Raw.procedure_text if◌then◌otherwise◌
     other_says i n = rw (is_at ts sane word_def i, ne_eqb (kind_at ts i) word_def n)
 
     -- tokens that are no `def` are passed

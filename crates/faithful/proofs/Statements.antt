@@ -5,7 +5,7 @@ use mathlib.Core.Path.{◌≡◌, refl, ap, sym, ◌∙◌, subst}
 use mathlib.Core.List.{List, [], ◌∷◌, ◌++◌, append-nil, append_assoc}
 use lib.ListN.{length, get_or, length-append}
 use borrow.Author.Tests.{lt-ltb, le-ltb}
-use Rattle.meaning.specs.Basics.{bytes, if◌then◌else◌}
+use Rattle.meaning.specs.Basics.{bytes, if◌then◌otherwise◌}
 use Rattle.meaning.specs.Token.{Token, a_name}
 use Rattle.meaning.specs.Tree.{Expression, Statement, declare, assign, update, when, while, foreach, return, block, act, Statements, only, first}
 use Rattle.canonical.specs.Text.{expression_text, statement_text, statements_text}
@@ -79,14 +79,14 @@ module _ (s : Source) (ts : List Token) (spells : Spells s ts) (sane : Sane ts) 
 
   -- ---- statements without statements inside
   declare_tells : (p : ℕ) (x : List ℕ) → Placed ts p → Occurs ts a_name x → Tells (declare p x)
-  unfolding statement_with statement_text statement_by if◌then◌else◌
+  unfolding statement_with statement_text statement_by if◌then◌otherwise◌
   declare_tells p x o n zero at f q k = absurd (omega arith)
   declare_tells p x o n (suc fuel) at f q k =
       let h = head at tag_declare p (slot_of ts x) [] o (omega arith) (omega arith) q in
       by_head fuel at _ h.root ∙ rw (h.tag_is, h.extra_is, spells.names x n, spells.apart x n)
 
   assign_tells : (p : ℕ) (x : List ℕ) (e : Expression) → Placed ts p → Occurs ts a_name x → Known e ts → Tells (assign p x e)
-  unfolding statement_with statement_text statement_by if◌then◌else◌ ending_in
+  unfolding statement_with statement_text statement_by if◌then◌otherwise◌ ending_in
   assign_tells p x e o n d zero at f q k = absurd (omega arith)
   assign_tells p x e o n d (suc fuel) at f q k =
       let c = code_of e ts in
@@ -103,7 +103,7 @@ module _ (s : Source) (ts : List Token) (spells : Spells s ts) (sane : Sane ts) 
       )
 
   return_tells : (p : ℕ) (e : Expression) → Placed ts p → Known e ts → Tells (return p e)
-  unfolding statement_with statement_text statement_by if◌then◌else◌
+  unfolding statement_with statement_text statement_by if◌then◌otherwise◌
   return_tells p e o d zero at f q k = absurd (omega arith)
   return_tells p e o d (suc fuel) at f q k =
       let c = code_of e ts in
@@ -113,7 +113,7 @@ module _ (s : Source) (ts : List Token) (spells : Spells s ts) (sane : Sane ts) 
       ∙ rw (h.tag_is, h.size_is, y, expression_says s ts spells e d fuel (at + length c) (omega arith) (ends_behind at c h.behind) (omega arith))
 
   act_tells : (p : ℕ) (e : Expression) → Placed ts p → Known e ts → Tells (act p e)
-  unfolding statement_with statement_text statement_by if◌then◌else◌ ending_in
+  unfolding statement_with statement_text statement_by if◌then◌otherwise◌ ending_in
   act_tells p e o d zero at f q k = absurd (omega arith)
   act_tells p e o d (suc fuel) at f q k =
       let c = code_of e ts in
@@ -123,7 +123,7 @@ module _ (s : Source) (ts : List Token) (spells : Spells s ts) (sane : Sane ts) 
       ∙ rw (h.tag_is, h.size_is, y, expression_says s ts spells e d fuel (at + length c) (omega arith) (ends_behind at c h.behind) (omega arith))
 
   update_tells : (p : ℕ) (a b e : Expression) → Placed ts p → Known a ts → Known b ts → Known e ts → Tells (update p a b e)
-  unfolding statement_with statement_text statement_by if◌then◌else◌ update_text ending_in
+  unfolding statement_with statement_text statement_by if◌then◌otherwise◌ update_text ending_in
   update_tells p a b e o i j d zero at f q k = absurd (omega arith)
   update_tells p a b e o i j d (suc fuel) at f q k =
       let ca = code_of a ts in
@@ -162,21 +162,21 @@ module _ (s : Source) (ts : List Token) (spells : Spells s ts) (sane : Sane ts) 
       rw (expression_says s ts spells e d fuel (x + length c) f (ends_behind x c se) (omega arith), t fuel (x + length c + 1) f sb (omega arith))
 
   when_tells : (p : ℕ) (e : Expression) (b : Statement) → Placed ts p → Known e ts → Tells b → Tells (when p e b)
-  unfolding statement_with statement_text statement_by if◌then◌else◌
+  unfolding statement_with statement_text statement_by if◌then◌otherwise◌
   when_tells p e b o d t zero at f q k = absurd (omega arith)
   when_tells p e b o d t (suc fuel) at f q k =
       let h = head at tag_when p (length (code_of e ts)) (code_of e ts ++ code_of_statement b ts) o (omega arith) (omega arith) q in
       by_head fuel at _ h.root ∙ rw (h.tag_is, h.extra_is) (guarded_tells (bytes "if(") e b d t fuel at (omega arith) h.behind (omega arith))
 
   while_tells : (p : ℕ) (e : Expression) (b : Statement) → Placed ts p → Known e ts → Tells b → Tells (while p e b)
-  unfolding statement_with statement_text statement_by if◌then◌else◌
+  unfolding statement_with statement_text statement_by if◌then◌otherwise◌
   while_tells p e b o d t zero at f q k = absurd (omega arith)
   while_tells p e b o d t (suc fuel) at f q k =
       let h = head at tag_while p (length (code_of e ts)) (code_of e ts ++ code_of_statement b ts) o (omega arith) (omega arith) q in
       by_head fuel at _ h.root ∙ rw (h.tag_is, h.extra_is) (guarded_tells (bytes "while(") e b d t fuel at (omega arith) h.behind (omega arith))
 
   foreach_tells : (p : ℕ) (x : List ℕ) (e : Expression) (b : Statement) → Placed ts p → Occurs ts a_name x → Known e ts → Tells b → Tells (foreach p x e b)
-  unfolding statement_with statement_text statement_by if◌then◌else◌ iterator_text foreach_text
+  unfolding statement_with statement_text statement_by if◌then◌otherwise◌ iterator_text foreach_text
   foreach_tells p x e b o n d t zero at f q k = absurd (omega arith)
   foreach_tells p x e b o n d t (suc fuel) at f q k =
       let c = code_of e ts in
@@ -208,7 +208,7 @@ module _ (s : Source) (ts : List Token) (spells : Spells s ts) (sane : Sane ts) 
 
   -- behind the last nothing is written
   none_left : (rounds fuel end : ℕ) → raw_statements rounds (raw_statement fuel s) s end end ≡ []
-  unfolding raw_statements if◌then◌else◌
+  unfolding raw_statements if◌then◌otherwise◌
   none_left zero fuel end = refl
   none_left (suc rounds) fuel end = rw (le-ltb end end (omega arith))
 
@@ -216,7 +216,7 @@ module _ (s : Source) (ts : List Token) (spells : Spells s ts) (sane : Sane ts) 
   one_tells : (b : Statement) → Tells b → (fuel a end rounds : ℕ) → fuel < 16777216 → Stands code a (code_of_statement b ts) → length (code_of_statement b ts) ≤ fuel → a < end
       → raw_statements (suc rounds) (raw_statement fuel s) s a end
       ≡ statement_text b ++ bytes "\n" ++ raw_statements rounds (raw_statement fuel s) s (a + length (code_of_statement b ts)) end
-  unfolding raw_statements if◌then◌else◌
+  unfolding raw_statements if◌then◌otherwise◌
   one_tells b t fuel a end rounds f q k l = rw (lt-ltb a end l, t fuel a f q k, size_behind b a (omega arith) q)
 
   only_tells : (b : Statement) → Tells b → TellsAll (only b)
@@ -239,7 +239,7 @@ module _ (s : Source) (ts : List Token) (spells : Spells s ts) (sane : Sane ts) 
       ∙ sym (append_assoc (statement_text b ++ bytes "\n") (statements_text ss) (bytes "\n"))
 
   block_tells : (p : ℕ) (ss : Statements) → Placed ts p → TellsAll ss → Tells (block p ss)
-  unfolding statement_with statement_text statement_by if◌then◌else◌
+  unfolding statement_with statement_text statement_by if◌then◌otherwise◌
   block_tells p ss o t zero at f q k = absurd (omega arith)
   block_tells p ss o t (suc fuel) at f q k =
       let cs = code_of_statements ss ts in

@@ -9,7 +9,7 @@ use mathlib.Core.Option.{Option, none, some}
 use lib.ListN.{length}
 use lib.Dec.{ltb}
 use borrow.Author.Tests.{eqb-true, ltb-true, ltb-false}
-use Rattle.meaning.specs.Basics.{bytes, if◌then◌else◌}
+use Rattle.meaning.specs.Basics.{bytes, if◌then◌otherwise◌}
 use Rattle.meaning.specs.Token.{Token, ending, a_name, digits, word_def, minus}
 use Rattle.meaning.specs.Tree.{Operator, Expression, Statement, Procedure, Program}
 use Rattle.meaning.specs.Grammar.{good, kind_at, text_at, is, expect, operator_of, Inside, ReadExpression, arguments_from, arguments, primary, operand, operated, expression_in, expression}
@@ -107,7 +107,7 @@ module _ (ts : List Token) where
 
   -- the sign of an operator is no `def`
   no_operator : (j : ℕ) (o : Operator) → operator_of (kind_at ts j) ≡ some o → kind_at ts j ≢ word_def
-  unfolding operator_of if◌then◌else◌
+  unfolding operator_of if◌then◌otherwise◌
   no_operator j o e q =
       let n : none ≡ some o = subst (λ k. operator_of k ≡ some o) q e in
       let z : ◌≡◌ {A = ℕ} 0 1 = cc in omega arith

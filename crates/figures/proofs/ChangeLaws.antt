@@ -9,7 +9,7 @@ use lib.Signed.{mag}
 use mir.Syntax.{w32}
 use mir.Val.{SFits}
 use mir.Facts.{to_z-of_z}
-use Rattle.meaning.specs.Basics.{if◌then◌else◌}
+use Rattle.meaning.specs.Basics.{if◌then◌otherwise◌}
 use Rattle.meaning.specs.Integer.{sum, difference, product, quotient, is_zero}
 use Rattle.machine.specs.declared.Figure.{Figure}
 use Rattle.machine.specs.Operate.{moved, kept, plus_x, plus_y, minus_x, minus_y, scaled, scaled_up, scaled_down}
@@ -93,40 +93,40 @@ module _ (f : Figure) {n : ℤ} (j : SFits w32 n) {r : Figure} (ka : mag f.a < 2
 -- ---- by tag
 module _ {tag : ℕ} (n : ℤ) where
   pub makes_17 : tag ≡ 17 → 0 ≡ refusal tag n
-  unfolding refusal if◌then◌else◌
+  unfolding refusal if◌then◌otherwise◌
   makes_17 t = rw t
 
   pub makes_18 : tag ≡ 18 → 0 ≡ refusal tag n
-  unfolding refusal if◌then◌else◌
+  unfolding refusal if◌then◌otherwise◌
   makes_18 t = rw t
 
   pub makes_19 : tag ≡ 19 → 0 ≡ refusal tag n
-  unfolding refusal if◌then◌else◌
+  unfolding refusal if◌then◌otherwise◌
   makes_19 t = rw t
 
   pub makes_20 : {b : Bool} → tag ≡ 20 → SFits w32 n → b ≡ is_zero (held n) → b ≡ false → 0 ≡ refusal tag n
-  unfolding refusal if◌then◌else◌
+  unfolding refusal if◌then◌otherwise◌
   makes_20 t j z e = rw (t, test_is is_zero j z e)
 
   pub zero_20 : {b : Bool} → tag ≡ 20 → SFits w32 n → b ≡ is_zero (held n) → b ≡ true → 70 ≡ refusal tag n
-  unfolding refusal if◌then◌else◌
+  unfolding refusal if◌then◌otherwise◌
   zero_20 t j z e = rw (t, test_is is_zero j z e)
 
   pub makes_22 : tag ≡ 22 → 0 ≡ refusal tag n
-  unfolding refusal if◌then◌else◌
+  unfolding refusal if◌then◌otherwise◌
   makes_22 t = rw t
 
   pub makes_23 : tag ≡ 23 → 0 ≡ refusal tag n
-  unfolding refusal if◌then◌else◌
+  unfolding refusal if◌then◌otherwise◌
   makes_23 t = rw t
 
   pub makes_none : (tag ≡ 17 → ⊥) → (tag ≡ 18 → ⊥) → (tag ≡ 19 → ⊥) → (tag ≡ 20 → ⊥) → (tag ≡ 22 → ⊥) → (tag ≡ 23 → ⊥) → 20 ≡ refusal tag n
-  unfolding refusal if◌then◌else◌
+  unfolding refusal if◌then◌otherwise◌
   makes_none a b c d e f = rw (ne_eqb _ _ a, ne_eqb _ _ b, ne_eqb _ _ c, ne_eqb _ _ d, ne_eqb _ _ e, ne_eqb _ _ f)
 
   -- a figure is scaled down by no 0
   pub no_zero : tag ≡ 20 → SFits w32 n → refusal tag n ≡ 0 → is_zero (held n) ≡ false
-  unfolding refusal if◌then◌else◌
+  unfolding refusal if◌then◌otherwise◌
   no_zero t j e = rw (to_z-of_z j) (go (is_zero n) (rw t at e))
     where
       go : (b : Bool) → ◌≡◌ {A = ℕ} (cond b 70 0) 0 → b ≡ false
@@ -135,25 +135,25 @@ module _ {tag : ℕ} (n : ℤ) where
 
   module _ (f : Figure) {r : Figure} (j : SFits w32 n) where
     pub changes_17 : tag ≡ 17 → r ≡ plus_y f (held n) → r ≡ changed tag f n
-    unfolding changed if◌then◌else◌
+    unfolding changed if◌then◌otherwise◌
     changes_17 t e = rw (t, e, to_z-of_z j)
 
     pub changes_18 : tag ≡ 18 → r ≡ minus_y f (held n) → r ≡ changed tag f n
-    unfolding changed if◌then◌else◌
+    unfolding changed if◌then◌otherwise◌
     changes_18 t e = rw (t, e, to_z-of_z j)
 
     pub changes_19 : tag ≡ 19 → r ≡ scaled_up f (held n) → r ≡ changed tag f n
-    unfolding changed if◌then◌else◌
+    unfolding changed if◌then◌otherwise◌
     changes_19 t e = rw (t, e, to_z-of_z j)
 
     pub changes_20 : tag ≡ 20 → r ≡ scaled_down f (held n) → r ≡ changed tag f n
-    unfolding changed if◌then◌else◌
+    unfolding changed if◌then◌otherwise◌
     changes_20 t e = rw (t, e, to_z-of_z j)
 
     pub changes_22 : tag ≡ 22 → r ≡ plus_x f (held n) → r ≡ changed tag f n
-    unfolding changed if◌then◌else◌
+    unfolding changed if◌then◌otherwise◌
     changes_22 t e = rw (t, e, to_z-of_z j)
 
     pub changes_23 : (tag ≡ 17 → ⊥) → (tag ≡ 18 → ⊥) → (tag ≡ 19 → ⊥) → (tag ≡ 20 → ⊥) → (tag ≡ 22 → ⊥) → r ≡ minus_x f (held n) → r ≡ changed tag f n
-    unfolding changed if◌then◌else◌
+    unfolding changed if◌then◌otherwise◌
     changes_23 a b c d g e = rw (ne_eqb _ _ a, ne_eqb _ _ b, ne_eqb _ _ c, ne_eqb _ _ d, ne_eqb _ _ g, e, to_z-of_z j)

@@ -1,6 +1,6 @@
 -- What an operator makes of a figure and an integer.
 use Rattle.std.specs.Prelude.{ℕ, cond, ℤ, eqb}
-use Rattle.meaning.specs.Basics.{if◌then◌else◌}
+use Rattle.meaning.specs.Basics.{if◌then◌otherwise◌}
 use Rattle.meaning.specs.Integer.{is_zero}
 use Rattle.machine.specs.declared.Figure.{Figure}
 use Rattle.machine.specs.Operate.{plus_x, plus_y, minus_x, minus_y, scaled_up, scaled_down}
@@ -9,22 +9,22 @@ use Rattle.machine.specs.Operate.{plus_x, plus_y, minus_x, minus_y, scaled_up, s
 unfoldable pub refusal : ℕ → ℤ → ℕ
 refusal tag n =
     if eqb tag 17 then (λ _. 0)
-    else λ _. if eqb tag 18 then (λ _. 0)
-    else λ _. if eqb tag 19 then (λ _. 0)
-    else λ _. if eqb tag 20 then (λ _. cond (is_zero n) 70 0)
-    else λ _. if eqb tag 22 then (λ _. 0)
-    else λ _. if eqb tag 23 then (λ _. 0)
-    else λ _. 20
+    otherwise λ _. if eqb tag 18 then (λ _. 0)
+    otherwise λ _. if eqb tag 19 then (λ _. 0)
+    otherwise λ _. if eqb tag 20 then (λ _. cond (is_zero n) 70 0)
+    otherwise λ _. if eqb tag 22 then (λ _. 0)
+    otherwise λ _. if eqb tag 23 then (λ _. 0)
+    otherwise λ _. 20
 
 -- the figure that it makes
 unfoldable pub changed : ℕ → Figure → ℤ → Figure
 changed tag s n =
     if eqb tag 17 then (λ _. plus_y s n)
-    else λ _. if eqb tag 18 then (λ _. minus_y s n)
-    else λ _. if eqb tag 19 then (λ _. scaled_up s n)
-    else λ _. if eqb tag 20 then (λ _. scaled_down s n)
-    else λ _. if eqb tag 22 then (λ _. plus_x s n)
-    else λ _. minus_x s n
+    otherwise λ _. if eqb tag 18 then (λ _. minus_y s n)
+    otherwise λ _. if eqb tag 19 then (λ _. scaled_up s n)
+    otherwise λ _. if eqb tag 20 then (λ _. scaled_down s n)
+    otherwise λ _. if eqb tag 22 then (λ _. plus_x s n)
+    otherwise λ _. minus_x s n
 
 -- a figure's first point, and its second if it is a line, in their new places
 unfoldable pub placed : Figure → ℤ → ℤ → ℤ → ℤ → Figure

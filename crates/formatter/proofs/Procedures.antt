@@ -9,7 +9,7 @@ use native.Mathlib.Omega.{arith}
 use borrow.Author.Tests.{ne_eqb}
 use lib.ListN.{length, get_or, take, drop, length-drop, drop_of_length-le}
 use lib.Seq.{take_all, take-nil}
-use Rattle.meaning.specs.Basics.{bytes, if◌then◌else◌}
+use Rattle.meaning.specs.Basics.{bytes, if◌then◌otherwise◌}
 use Rattle.meaning.specs.Token.{word_def}
 use Rattle.canonical.specs.Text.{comma_separated}
 use Rattle.machine.specs.Opcodes.{table_place, start_in, parameters_in, body_in}
@@ -73,13 +73,13 @@ module _ (program tokens code : List ℕ) {at r : ℕ} {d : List ℕ} where
 -- ---- a token
 module _ (program tokens code : List ℕ) (i w kind : ℕ) (a : w ≡ get_or tokens i 0) (b : kind ≡ Tokens.kind_in w) {at : ℕ} {d : List ℕ} where
   pub begins_nothing : (kind ≡ word_def → ⊥) → at < 2 ^ 64 → WroteAt at (procedure_text enough_fuel (source program tokens code) i) d d at
-  unfolding procedure_text if◌then◌else◌
+  unfolding procedure_text if◌then◌otherwise◌
   begins_nothing n h = rw (← a, ← b, ne_eqb _ _ n) (nothing h)
 
   pub begins_procedure : (slot : ℕ) {r : ℕ} {e : List ℕ} → kind ≡ word_def → slot ≡ home_at tokens (i + 1)
       → WroteAt at (procedure_by enough_fuel (source program tokens code) slot (word_at (source program tokens code) (table_place slot))) d e r
       → WroteAt at (procedure_text enough_fuel (source program tokens code) i) d e r
-  unfolding procedure_text if◌then◌else◌
+  unfolding procedure_text if◌then◌otherwise◌
   begins_procedure slot n s p = rw (← a, ← b, n, ← s) p
 
 -- ---- the text

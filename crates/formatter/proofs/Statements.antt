@@ -7,7 +7,7 @@ use native.Mathlib.Numerals.{add-one}
 use native.Mathlib.Omega.{arith}
 use borrow.Author.Tests.{lt-ltb, le-ltb, ne_eqb}
 use lib.ListN.{length, get_or}
-use Rattle.meaning.specs.Basics.{bytes, if◌then◌else◌}
+use Rattle.meaning.specs.Basics.{bytes, if◌then◌otherwise◌}
 use Rattle.canonical.specs.Text.{apart}
 use Rattle.machine.specs.Opcodes.{tag_in, size_in, extra_in, tag_declare, tag_assign, tag_update, tag_when, tag_while, tag_foreach, tag_return, tag_block}
 use Rattle.writing.specs.Placed.{WroteAt}
@@ -38,56 +38,56 @@ module _ (program tokens code : List ℕ) (fuel x : ℕ) where
   module _ (n : fuel ≡ 0 → ⊥) (w tag : ℕ) (i : w ≡ get_or code x 0) (j : tag ≡ tag_in w) {at r : ℕ} {d e : List ℕ} where
     pub is_declaration : (slot : ℕ) → slot ≡ extra_in w → tag ≡ tag_declare → WroteAt at (bytes "var " ++ name_text program tokens slot ++ bytes ";") d e r
         → WroteAt at (raw_statement fuel (source program tokens code) x) d e r
-    unfolding statement_by if◌then◌else◌
+    unfolding statement_by if◌then◌otherwise◌
     is_declaration slot k t p = rw (begun n w i, ← j, t, ← k) p
 
     pub is_assignment : (slot y : ℕ) → y ≡ x + size_in w - 1 → slot ≡ extra_in w → tag ≡ tag_assign
         → WroteAt at (ending_in (raw_expression (fuel - 1) (source program tokens code)) (spelling (source program tokens code) slot ++ bytes "=") y) d e r
         → WroteAt at (raw_statement fuel (source program tokens code) x) d e r
-    unfolding statement_by if◌then◌else◌
+    unfolding statement_by if◌then◌otherwise◌
     is_assignment slot y l k t p = rw (begun n w i, ← j, t, ← k, ← l) p
 
     pub is_update : (y : ℕ) → y ≡ x + size_in w - 1 → tag ≡ tag_update
         → WroteAt at (update_text (raw_expression (fuel - 1) (source program tokens code)) (source program tokens code) y) d e r
         → WroteAt at (raw_statement fuel (source program tokens code) x) d e r
-    unfolding statement_by if◌then◌else◌
+    unfolding statement_by if◌then◌otherwise◌
     is_update y l t p = rw (begun n w i, ← j, t, ← l) p
 
     pub is_when : (extra : ℕ) → extra ≡ extra_in w → tag ≡ tag_when
         → WroteAt at (guarded_text (raw_expression (fuel - 1) (source program tokens code)) (raw_statement (fuel - 1) (source program tokens code)) (bytes "if(") (x + extra)) d e r
         → WroteAt at (raw_statement fuel (source program tokens code) x) d e r
-    unfolding statement_by if◌then◌else◌
+    unfolding statement_by if◌then◌otherwise◌
     is_when extra k t p = rw (begun n w i, ← j, t, ← k) p
 
     pub is_while : (extra : ℕ) → extra ≡ extra_in w → tag ≡ tag_while
         → WroteAt at (guarded_text (raw_expression (fuel - 1) (source program tokens code)) (raw_statement (fuel - 1) (source program tokens code)) (bytes "while(") (x + extra)) d e r
         → WroteAt at (raw_statement fuel (source program tokens code) x) d e r
-    unfolding statement_by if◌then◌else◌
+    unfolding statement_by if◌then◌otherwise◌
     is_while extra k t p = rw (begun n w i, ← j, t, ← k) p
 
     pub is_foreach : (extra : ℕ) → extra ≡ extra_in w → tag ≡ tag_foreach
         → WroteAt at (foreach_text (raw_expression (fuel - 1) (source program tokens code)) (raw_statement (fuel - 1) (source program tokens code)) (source program tokens code)
         (get_or code (x + 1) 0) (x + extra)) d e r
         → WroteAt at (raw_statement fuel (source program tokens code) x) d e r
-    unfolding statement_by if◌then◌else◌
+    unfolding statement_by if◌then◌otherwise◌
     is_foreach extra k t p = rw (begun n w i, ← j, t, ← k) p
 
     pub is_return : (y : ℕ) → y ≡ x + size_in w - 1 → tag ≡ tag_return
         → WroteAt at (bytes "return" ++ apart (raw_expression (fuel - 1) (source program tokens code) y) ++ bytes ";") d e r
         → WroteAt at (raw_statement fuel (source program tokens code) x) d e r
-    unfolding statement_by if◌then◌else◌
+    unfolding statement_by if◌then◌otherwise◌
     is_return y l t p = rw (begun n w i, ← j, t, ← l) p
 
     pub is_block : (size : ℕ) → size ≡ size_in w → tag ≡ tag_block
         → WroteAt at (bytes "{\n" ++ raw_statements (suc size) (raw_statement (fuel - 1) (source program tokens code)) (source program tokens code) (x + 1) (x + size) ++ bytes "}") d e r
         → WroteAt at (raw_statement fuel (source program tokens code) x) d e r
-    unfolding statement_by if◌then◌else◌
+    unfolding statement_by if◌then◌otherwise◌
     is_block size k t p = rw (begun n w i, ← j, t, ← k) p
 
     pub is_act : (y : ℕ) → y ≡ x + size_in w - 1 → (tag ≡ tag_declare → ⊥) → (tag ≡ tag_assign → ⊥) → (tag ≡ tag_update → ⊥) → (tag ≡ tag_when → ⊥) → (tag ≡ tag_while → ⊥)
         → (tag ≡ tag_foreach → ⊥) → (tag ≡ tag_return → ⊥) → (tag ≡ tag_block → ⊥) → WroteAt at ([] ++ raw_expression (fuel - 1) (source program tokens code) y ++ bytes ";") d e r
         → WroteAt at (raw_statement fuel (source program tokens code) x) d e r
-    unfolding statement_by if◌then◌else◌ ending_in
+    unfolding statement_by if◌then◌otherwise◌ ending_in
     is_act y l a b c f g o k m p =
         rw (begun n w i, ← j, ne_eqb _ _ a, ne_eqb _ _ b, ne_eqb _ _ c)
         (rw (ne_eqb _ _ f, ne_eqb _ _ g, ne_eqb _ _ o, ne_eqb _ _ k, ne_eqb _ _ m, ← l) p)
@@ -138,7 +138,7 @@ module _ (program tokens code : List ℕ) (fuel first end rounds : ℕ) {at : �
     all_short l = ends g.writing (none_short l)
 
     none_left : 0 < left → end ≤ x → raw_statements left (raw_statement fuel (source program tokens code)) (source program tokens code) x end ≡ []
-    unfolding raw_statements if◌then◌else◌
+    unfolding raw_statements if◌then◌otherwise◌
     none_left m l = let z : left ≡ suc (left - 1) = omega arith in rw z (rw (le-ltb x end l))
 
     pub all_done : 0 < left → end ≤ x
@@ -149,7 +149,7 @@ module _ (program tokens code : List ℕ) (fuel first end rounds : ℕ) {at : �
       one_more : raw_statements left (raw_statement fuel (source program tokens code)) (source program tokens code) x end
           ≡ (raw_statement fuel (source program tokens code) x ++ bytes "\n")
           ++ raw_statements (left - 1) (raw_statement fuel (source program tokens code)) (source program tokens code) (x + n) end
-      unfolding raw_statements if◌then◌else◌
+      unfolding raw_statements if◌then◌otherwise◌
       one_more = let z : left ≡ suc (left - 1) = omega arith in rw z (rw (lt-ltb x end l, ← z, ← i, ← j))
 
       pub all_again : {after : List ℕ} {last : ℕ} → WroteAt next (raw_statement fuel (source program tokens code) x ++ bytes "\n") now after last

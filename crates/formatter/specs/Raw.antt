@@ -1,6 +1,6 @@
 -- The text of a program's code: what the functions here write. The laws of `faithful` show that it is the program's text.
 use Rattle.std.specs.Prelude.{ℕ, zero, suc, ◌+◌, ◌-◌, List, [], ◌++◌, map, length, take, drop, eqb, ltb}
-use Rattle.meaning.specs.Basics.{bytes, if◌then◌else◌}
+use Rattle.meaning.specs.Basics.{bytes, if◌then◌otherwise◌}
 use Rattle.meaning.specs.Token.{word_def}
 use Rattle.canonical.specs.Text.{comma_separated, apart}
 use Rattle.machine.specs.Opcodes.{tag_in, size_in, extra_in, size_at, table_place, start_in, parameters_in, body_in}
@@ -22,21 +22,21 @@ foreach_text inner body s slot y = iterator_text inner s slot y ++ body (y + 1)
 unfoldable pub raw_statements : ℕ → Writer → Source → ℕ → ℕ → List ℕ
 raw_statements zero body s a end = []
 raw_statements (suc rounds) body s a end =
-    if ltb a end then (λ _. body a ++ bytes "\n" ++ raw_statements rounds body s (a + size_at s.code a) end) else λ _. []
+    if ltb a end then (λ _. body a ++ bytes "\n" ++ raw_statements rounds body s (a + size_at s.code a) end) otherwise λ _. []
 
 -- by the word w at x; the root of a statement's last expression is its last word
 unfoldable pub statement_by : Writer → Writer → Source → ℕ → ℕ → List ℕ
 statement_by inner body s w x =
     let y = x + size_in w - 1 in
     if eqb (tag_in w) tag_declare then (λ _. bytes "var " ++ spelling s (extra_in w) ++ bytes ";")
-    else λ _. if eqb (tag_in w) tag_assign then (λ _. ending_in inner (spelling s (extra_in w) ++ bytes "=") y)
-    else λ _. if eqb (tag_in w) tag_update then (λ _. update_text inner s y)
-    else λ _. if eqb (tag_in w) tag_when then (λ _. guarded_text inner body (bytes "if(") (x + extra_in w))
-    else λ _. if eqb (tag_in w) tag_while then (λ _. guarded_text inner body (bytes "while(") (x + extra_in w))
-    else λ _. if eqb (tag_in w) tag_foreach then (λ _. foreach_text inner body s (word_at s (x + 1)) (x + extra_in w))
-    else λ _. if eqb (tag_in w) tag_return then (λ _. bytes "return" ++ apart (inner y) ++ bytes ";")
-    else λ _. if eqb (tag_in w) tag_block then (λ _. bytes "{\n" ++ raw_statements (suc (size_in w)) body s (x + 1) (x + size_in w) ++ bytes "}")
-    else λ _. ending_in inner [] y
+    otherwise λ _. if eqb (tag_in w) tag_assign then (λ _. ending_in inner (spelling s (extra_in w) ++ bytes "=") y)
+    otherwise λ _. if eqb (tag_in w) tag_update then (λ _. update_text inner s y)
+    otherwise λ _. if eqb (tag_in w) tag_when then (λ _. guarded_text inner body (bytes "if(") (x + extra_in w))
+    otherwise λ _. if eqb (tag_in w) tag_while then (λ _. guarded_text inner body (bytes "while(") (x + extra_in w))
+    otherwise λ _. if eqb (tag_in w) tag_foreach then (λ _. foreach_text inner body s (word_at s (x + 1)) (x + extra_in w))
+    otherwise λ _. if eqb (tag_in w) tag_return then (λ _. bytes "return" ++ apart (inner y) ++ bytes ";")
+    otherwise λ _. if eqb (tag_in w) tag_block then (λ _. bytes "{\n" ++ raw_statements (suc (size_in w)) body s (x + 1) (x + size_in w) ++ bytes "}")
+    otherwise λ _. ending_in inner [] y
 
 unfoldable pub raw_statement : ℕ → Source → ℕ → List ℕ
 raw_statement zero s x = []
@@ -59,7 +59,7 @@ unfoldable pub procedure_text : ℕ → Source → ℕ → List ℕ
 procedure_text fuel s i =
     if is word_def s.tokens i
     then (λ _. procedure_by fuel s (home_at s.tokens (i + 1)) (word_at s (table_place (home_at s.tokens (i + 1)))))
-    else λ _. []
+    otherwise λ _. []
 
 -- the procedures that begin at one of n tokens from i on
 unfoldable pub raw_procedures : ℕ → ℕ → Source → ℕ → List ℕ

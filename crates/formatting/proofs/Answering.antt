@@ -6,7 +6,7 @@ use mathlib.Core.List.{List, [], ◌∷◌, ◌++◌}
 use lib.ListN.{length, take, drop, replicate}
 use native.Mathlib.Omega.{arith}
 use borrow.Author.Tests.{le-leb, lt-leb, not-true, not-false}
-use Rattle.meaning.specs.Basics.{if◌then◌else◌, laid_over}
+use Rattle.meaning.specs.Basics.{if◌then◌otherwise◌, laid_over}
 use Rattle.meaning.specs.Grammar.{reading}
 use Rattle.meaning.specs.Book.{Answer, pictured, number}
 use Rattle.meaning.specs.Call.{answer}
@@ -111,7 +111,7 @@ module _ (t out last : List ℕ) (short : length t < 2 ^ 64) (n : ℕ) (w : Wrot
   kept = ap (λ (xs : List ℕ). xs ++ out) (w.laid ∙ laid_nowhere t)
 
   pub text_too_long : 32768 < n → Fitted t out (Number 82 0 0 n) (last ++ out)
-  unfolding meant answer_with out_with fits if◌then◌else◌
+  unfolding meant answer_with out_with fits if◌then◌otherwise◌
   text_too_long h =
       let k : 32768 < length t = omega (arith, counted) in
       record { answered = rw (lt-leb (length t) 32768 k, counted); out_after = rw (lt-leb (length t) 32768 k) kept }
@@ -121,7 +121,7 @@ module _ (t out last : List ℕ) (short : length t < 2 ^ 64) (n : ℕ) (w : Wrot
     few = omega (arith, counted)
 
     pub out_too_short : length (last ++ out) < n → Fitted t out (Number 82 0 0 n) (last ++ out)
-    unfolding meant answer_with out_with fits if◌then◌else◌
+    unfolding meant answer_with out_with fits if◌then◌otherwise◌
     out_too_short l =
         let k : length out < length t = omega (arith, counted, ap (λ (xs : List ℕ). length xs) kept) in
         record {
@@ -130,7 +130,7 @@ module _ (t out last : List ℕ) (short : length t < 2 ^ 64) (n : ℕ) (w : Wrot
         }
 
     pub text_fits : n ≤ length (last ++ out) → (out' : List ℕ) (m : ℕ) → WroteAt 0 t (last ++ out) out' m → Fitted t out (Picture n 0) out'
-    unfolding meant answer_with out_with fits laid_at if◌then◌else◌
+    unfolding meant answer_with out_with fits laid_at if◌then◌otherwise◌
     text_fits l out' m v =
         let k : length t ≤ length out = omega (arith, counted, ap (λ (xs : List ℕ). length xs) kept) in
         record {

@@ -11,7 +11,7 @@ use Rattle.machine.specs.Layout.{declared, arguments_held, calls_used, running, 
 use Rattle.machine.specs.Act.{go_on, give, fail, refuse, load, store, passed, Passes, Gives, ◌>>=◌}
 use Rattle.machine.specs.Stack.{drop_to}
 use Rattle.machine.specs.Procedures.{keep, recall, first_word, frame_from, open_frame, resume}
-use Rattle.meaning.specs.Basics.{if◌then◌else◌}
+use Rattle.meaning.specs.Basics.{if◌then◌otherwise◌}
 use Rattle.stores.proofs.Turns.{Turns, turns_next, turns_last, from_none}
 
 -- ---- the caller waits, and goes on
@@ -57,11 +57,11 @@ resumed ws ws₁ ws₂ base c e a b = record { equal = λ ts. rw (← e, ← a.e
 -- ---- frames
 module _ (m k : ℕ) where
   pub parameter_word : k < m → kind_nothing + 281474976710656 * (k % 65536) ≡ first_word m k
-  unfolding first_word if◌then◌else◌ packed
+  unfolding first_word if◌then◌otherwise◌ packed
   parameter_word h = rw (lt-ltb k m h)
 
   pub blank_word : m ≤ k → 0 ≡ first_word m k
-  unfolding first_word if◌then◌else◌
+  unfolding first_word if◌then◌otherwise◌
   blank_word h = rw (le-ltb k m h)
 
 module _ (ws₀ : List ℕ) (top m n : ℕ) (ws : List ℕ) (k : ℕ) (g : Turns (frame_from top m) 0 n ws₀ ws k) where

@@ -17,7 +17,7 @@ use Rattle.machine.specs.Shapes.{destroyed_at}
 use Rattle.machine.specs.Variables.{is_dead, usable, word_in, order_in, with_word, with_order, holding_at, number_of, holding_of, holding, is_declared, variable, set_variable, set_order, declare, declare_once}
 use Rattle.machine.specs.Stack.{argument_at}
 use Rattle.stores.proofs.Acts.{words_in, not_stopped}
-use Rattle.meaning.specs.Basics.{if◌then◌else◌}
+use Rattle.meaning.specs.Basics.{if◌then◌otherwise◌}
 
 module _ (ws : List ℕ) (w : ℕ) where
   pub not_dead : (kind_in w ≡ kind_shape → ⊥) → false ≡ is_dead ws (unpacked w)
@@ -82,7 +82,7 @@ module _ (ws : List ℕ) (n : ℕ) where
   declared_done ts ws' e q = not_stopped (sym (rw e at q))
 
   pub declares_once : (ok : Bool) (ws' : List ℕ) → Passes ws 60 (declare n) ok ws' → Gives ws (declare_once n) tt ws'
-  unfolding declare_once ◌>>=◌ go_on held give passed if◌then◌else◌ words_in
+  unfolding declare_once ◌>>=◌ go_on held give passed if◌then◌otherwise◌ words_in
   declares_once ok ws' h = record { equal = λ ts. go ts ok (is_declared ws n) refl (h.equal 0 ts) }
     where
       go : (ts : List ℕ) (ok z : Bool) → is_declared ws n ≡ z → passed ok 60 0 ts ws' ≡ declare n 0 (raw ts ws)

@@ -9,7 +9,7 @@ use lib.ListN.{get_or, set, length, length-set}
 use lib.Seq.{get_or-set_same, get_or-set_other}
 use lib.Dec.{eqb, leb}
 use borrow.Author.Tests.{not-true, not-false, le-leb, lt-leb, ne_eqb}
-use Rattle.meaning.specs.Basics.{if◌then◌else◌}
+use Rattle.meaning.specs.Basics.{if◌then◌otherwise◌}
 use Rattle.machine.specs.declared.Value.TheVariants.{Shape}
 use Rattle.machine.specs.declared.Answer.{Answer}
 use Rattle.machine.specs.declared.Answer.TheVariants.{Good, Bad}
@@ -26,7 +26,7 @@ use Rattle.walks.proofs.TurnLaws.{room_same}
 -- ---- a component
 module _ (g ws : List ℕ) (unit place n : ℕ) (ok : Bool) (ws₁ : List ℕ) (h : Pays ws entries_used (entries_granted g) 1 ok ws₁) where
   pub no_entry : not ok ≡ true → Adds g ws unit place n false ws₁
-  unfolding add_one ◌>>=◌ go_on load spend passed if◌then◌else◌
+  unfolding add_one ◌>>=◌ go_on load spend passed if◌then◌otherwise◌
   no_entry t =
       let q = short (rw (not-true ok t) at h) in
       record {
@@ -44,7 +44,7 @@ module _ (g ws : List ℕ) (unit place n : ℕ) (ok : Bool) (ws₁ : List ℕ) (
     pub one_added : (w at x from : ℕ) (ws₂ : List ℕ) → Room g ws → w ≡ get_or ws₁ place 0 → at ≡ component_place g (get_or ws components_made 0 % entries_granted g) → x ≡ slot_word (w / unit) n
         → from ≡ path_place g 0 (get_or ws components_made 0 % entries_granted g) → ws₂ ≡ zeroed (set ws₁ at x) from (calls_granted g)
         → Adds g ws unit place n true (set ws₂ components_made (get_or ws components_made 0 % entries_granted g + 1))
-    unfolding add_one unmarked ◌>>=◌ go_on load store spend passed if◌then◌else◌
+    unfolding add_one unmarked ◌>>=◌ go_on load store spend passed if◌then◌otherwise◌
     one_added w at x from ws₂ r e f i b c =
         let q = paid (rw (not-false ok t) at h) in
         let l : entries_used < length ws = omega (arith, r.words) in
@@ -91,7 +91,7 @@ marks_room g ws ws₁ k at x from r h e l = rw (length-set ws₁ at x, l, e) (sl
 -- ---- all of them
 fill_one : (g : List ℕ) (p stride unit at m : ℕ) (ts ws : List ℕ)
     → fill_from g p stride unit at (suc m) (raw ts ws) ≡ (add_one g unit at m p >>= λ _. fill_from g p stride unit (at + stride) m) (raw ts ws)
-unfolding fill_from add_one unmarked ◌>>=◌ go_on load store spend if◌then◌else◌
+unfolding fill_from add_one unmarked ◌>>=◌ go_on load store spend if◌then◌otherwise◌
 fill_one g p stride unit at m ts ws = go (leb (get_or ws entries_used 0 + 1) (entries_granted g)) refl
   where
     go : (b : Bool) → leb (get_or ws entries_used 0 + 1) (entries_granted g) ≡ b
@@ -152,7 +152,7 @@ gift_known (stop n p r) i = refl
 
 pub number_known : (g : List ℕ) (p stride unit place n : ℕ) (ts ws : List ℕ)
     → new_group g p stride unit place n (raw ts ws) ≡ go_on (making g stride unit place n p (raw ts ws)) (λ _. give (get_or ws shapes_used 0))
-unfolding making new_group put_group ◌>>=◌ go_on load spend if◌then◌else◌
+unfolding making new_group put_group ◌>>=◌ go_on load spend if◌then◌otherwise◌
 number_known g p stride unit place n ts ws = go (leb (get_or ws shapes_used 0 + 1) (shapes_granted g)) refl
   where
     go : (b : Bool) → leb (get_or ws shapes_used 0 + 1) (shapes_granted g) ≡ b
@@ -162,7 +162,7 @@ number_known g p stride unit place n ts ws = go (leb (get_or ws shapes_used 0 + 
 
 module _ (g ws : List ℕ) (stride unit place n : ℕ) (ok : Bool) (ws₁ : List ℕ) (h : Pays ws shapes_used (shapes_granted g) 1 ok ws₁) where
   pub no_group : not ok ≡ true → Makes g ws stride unit place n 76 ws₁
-  unfolding making new_group ◌>>=◌ go_on load spend passed if◌then◌else◌
+  unfolding making new_group ◌>>=◌ go_on load spend passed if◌then◌otherwise◌
   no_group t =
       let q = short (rw (not-true ok t) at h) in
       record {
@@ -173,7 +173,7 @@ module _ (g ws : List ℕ) (stride unit place n : ℕ) (ok : Bool) (ws₁ : List
   module _ (t : not ok ≡ false) (room : Room g ws) (k at : ℕ) (i : k ≡ get_or ws shapes_used 0) (j : at ≡ shape_place k) (ws₂ : List ℕ)
       (d : ws₂ ≡ group_laid ws₁ at (get_or ws₁ components_made 0) n) (good : Bool) (ws₃ : List ℕ) (f : Passes ws₂ 77 (λ p. fill_from g p stride unit place n) good ws₃) where
     begun : (p : ℕ) (ts : List ℕ) → making g stride unit place n p (raw ts ws) ≡ go_on (go_on (fill_from g p stride unit place n (raw ts ws₂)) (λ _. give k)) (λ x. give tt)
-    unfolding making new_group put_group ◌>>=◌ go_on load spend if◌then◌else◌
+    unfolding making new_group put_group ◌>>=◌ go_on load spend if◌then◌otherwise◌
     begun p ts =
         let q = paid (rw (not-false ok t) at h) in
         rw (d, j, i, q.words, le-leb (get_or ws shapes_used 0 + 1) (shapes_granted g) q.within)
@@ -223,9 +223,9 @@ module _ (g ws : List ℕ) (p i : ℕ) where
 
   module _ (b : Bool) (e : b ≡ is_group_at ws i) (r : Answer) (ws' : List ℕ) where
     pub copies_group : b ≡ true → Answers ws (copy_group g p i ws) r ws' → Answers ws (copy_shape g p i) r ws'
-    unfolding copy_shape copy_group grouping ◌>>=◌ go_on held if◌then◌else◌
+    unfolding copy_shape copy_group grouping ◌>>=◌ go_on held if◌then◌otherwise◌
     copies_group t h = record { equal = λ ts. h.equal ts ∙ rw (← e, t) }
 
     pub copies_figure : (f : Figure) → b ≡ false → f ≡ figure_at ws i → Answers ws (new_shape g p f) r ws' → Answers ws (copy_shape g p i) r ws'
-    unfolding copy_shape ◌>>=◌ go_on held if◌then◌else◌
+    unfolding copy_shape ◌>>=◌ go_on held if◌then◌otherwise◌
     copies_figure f t q h = record { equal = λ ts. h.equal ts ∙ rw (← e, t, q) }

@@ -9,7 +9,7 @@ use native.Mathlib.Omega.{arith}
 use borrow.Author.Tests.{lt-ltb, ne_eqb}
 use lib.ListN.{length, take, length-take}
 use lib.Seq.{take_all}
-use Rattle.meaning.specs.Basics.{if◌then◌else◌}
+use Rattle.meaning.specs.Basics.{if◌then◌otherwise◌}
 use Rattle.checking.specs.Checking.{read_answer}
 use Rattle.meaning.proofs.SliceLaws.{laid_front}
 use Rattle.writing.proofs.Laying.{length_over}
@@ -22,7 +22,7 @@ use Rattle.imgcheck.specs.Reports.{report_of, Reported}
 
 -- a program that is too long is not looked into
 too_long : (program : List ℕ) → 32768 < length program → report_of program ≡ failure_of program 73 0 first false
-unfolding report_of said_of read_answer position_of after_bytes if◌then◌else◌
+unfolding report_of said_of read_answer position_of after_bytes if◌then◌otherwise◌
 too_long program h =
     let q : min 0 (length program) ≡ 0 = omega arith in
     rw (lt-ltb 32768 (length program) h, q, ne_eqb 0 (length program) (λ e. omega arith))

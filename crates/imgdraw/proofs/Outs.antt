@@ -7,7 +7,7 @@ use mathlib.Core.Path.{◌≡◌, ◌∙◌, refl, sym, ap, fun_ext}
 use lib.IntN.{ℤ}
 use lib.ListN.{length, take}
 use lib.Seq.{take-nil}
-use Rattle.meaning.specs.Basics.{if◌then◌else◌, laid_over}
+use Rattle.meaning.specs.Basics.{if◌then◌otherwise◌, laid_over}
 use Rattle.meaning.specs.Run.{Resource, steps, shapes, entries, text_bytes, calls, picture, End, result, error, unfinished, Run}
 use Rattle.meaning.specs.Program.{Outcome, accepted, drawn, drawing}
 use Rattle.meaning.specs.Book.{Amounts, Booked, all_fit, lacking, nothing_yet, book, number, answer_to, settled, booked}
@@ -48,9 +48,9 @@ module _ (out other : List ℕ) (e : length out ≡ length other) where
 
   -- what drawing answers and writes
   same_drawn : (t : Bool) (a b : Amounts) (r : Run Outcome) → a ≡ b
-      → shown_text (if t then (λ _. booked a r) else λ _. number 71 0 0 0) (if t then (λ _. out_after_end drawing (book a nothing_yet r.takings) r.end out) else λ _. out)
-      ≡ shown_text (if t then (λ _. booked b r) else λ _. number 71 0 0 0) (if t then (λ _. out_after_end drawing (book b nothing_yet r.takings) r.end other) else λ _. other)
-  unfolding if◌then◌else◌ booked shown_text
+      → shown_text (if t then (λ _. booked a r) otherwise λ _. number 71 0 0 0) (if t then (λ _. out_after_end drawing (book a nothing_yet r.takings) r.end out) otherwise λ _. out)
+      ≡ shown_text (if t then (λ _. booked b r) otherwise λ _. number 71 0 0 0) (if t then (λ _. out_after_end drawing (book b nothing_yet r.takings) r.end other) otherwise λ _. other)
+  unfolding if◌then◌otherwise◌ booked shown_text
   same_drawn true a b r k = rw k (same_end (book b nothing_yet r.takings) r.end)
   same_drawn false a b r k = refl
 

@@ -7,7 +7,7 @@ use native.Mathlib.Omega.{arith}
 use borrow.Author.Tests.{lt-ltb}
 use lib.ListN.{length, take, length-take}
 use lib.Seq.{take_all}
-use Rattle.meaning.specs.Basics.{if◌then◌else◌}
+use Rattle.meaning.specs.Basics.{if◌then◌otherwise◌}
 use Rattle.checking.specs.Checking.{read_answer}
 use Rattle.sheet.specs.Errors.{error_line}
 use Rattle.sheet.specs.Shown.{Front}
@@ -16,7 +16,7 @@ use Rattle.imgtext.specs.Printed.{input_bytes, printed_for, printed}
 
 -- a program that is too long is not looked into
 too_long : (program : List ℕ) → 32768 < length program → printed program ≡ error_line 73 0
-unfolding printed printed_for read_answer if◌then◌else◌
+unfolding printed printed_for read_answer if◌then◌otherwise◌
 too_long program h = rw (lt-ltb 32768 (length program) h)
 
 -- THE LAW

@@ -7,7 +7,7 @@ use native.Mathlib.Decide.{dec_le}
 use native.Mathlib.Omega.{arith}
 use borrow.Author.Tests.{le-leb, lt-leb}
 use lib.ListN.{length}
-use Rattle.meaning.specs.Basics.{if◌then◌else◌}
+use Rattle.meaning.specs.Basics.{if◌then◌otherwise◌}
 use Rattle.meaning.specs.Book.{Answer, pictured, number, undecided}
 use Rattle.meaning.specs.Call.{in_range, needed, long_enough}
 use Rattle.meaning.proofs.SliceLaws.{laid_front}
@@ -25,17 +25,17 @@ use Rattle.imgtext.specs.Printed.{out_bytes, printed_for, printed}
 -- what is shown of a text that fits, and of one that does not
 module _ (t out : List ℕ) (e : length out ≡ out_bytes) where
   shown_fits : length t ≤ out_bytes → shown_text (answer_with (pictured 0 0) t out) (out_with (pictured 0 0) t out) ≡ t
-  unfolding shown_text answer_with out_with fits if◌then◌else◌
+  unfolding shown_text answer_with out_with fits if◌then◌otherwise◌
   shown_fits h =
       let k : length t ≤ length out = omega (arith, e) in
       rw (le-leb (length t) 32768 h, le-leb (length t) (length out) k) (laid_front t out k)
 
   shown_long : out_bytes < length t → shown_text (answer_with (pictured 0 0) t out) (out_with (pictured 0 0) t out) ≡ error_line 82 0
-  unfolding shown_text answer_with out_with fits if◌then◌else◌
+  unfolding shown_text answer_with out_with fits if◌then◌otherwise◌
   shown_long h = rw (lt-leb (length t) 32768 h)
 
   shown_for : (a : Answer) → shown_text (answer_with a t out) (out_with a t out) ≡ printed_for a t
-  unfolding shown_text answer_with out_with printed_for if◌then◌else◌
+  unfolding shown_text answer_with out_with printed_for if◌then◌otherwise◌
   shown_for (pictured l n) = by (dec_le (length t) out_bytes)
     where
       by : Dec (length t ≤ out_bytes) → shown_text (answer_with (pictured 0 0) t out) (out_with (pictured 0 0) t out) ≡ printed_for (pictured l n) t

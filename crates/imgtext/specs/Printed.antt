@@ -1,6 +1,6 @@
 -- What `imgtext` prints.
 use Rattle.std.specs.Prelude.{ℕ, ◌+◌, List, [], length, leb}
-use Rattle.meaning.specs.Basics.{if◌then◌else◌}
+use Rattle.meaning.specs.Basics.{if◌then◌otherwise◌}
 use Rattle.meaning.specs.Book.{Answer, pictured, number, undecided}
 use Rattle.canonical.specs.Call.{text}
 use Rattle.checking.specs.Checking.{read_answer}
@@ -16,7 +16,7 @@ out_bytes = 32768
 
 -- the text, by checking's answer, or the line of an error; no answer is undecided
 unfoldable pub printed_for : Answer → List ℕ → List ℕ
-printed_for (pictured l n) t = if leb (length t) out_bytes then (λ _. t) else λ _. error_line 82 0
+printed_for (pictured l n) t = if leb (length t) out_bytes then (λ _. t) otherwise λ _. error_line 82 0
 printed_for (number k p n l) t = error_line k p
 printed_for undecided t = []
 

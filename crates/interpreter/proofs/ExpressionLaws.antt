@@ -7,7 +7,7 @@ use native.Mathlib.Omega.{arith}
 use lib.ListN.{get_or, length}
 use lib.Dec.{ltb}
 use borrow.Author.Tests.{lt-ltb, le-ltb, ltb-true, ltb-false, ne_eqb, not-true, not-false}
-use Rattle.meaning.specs.Basics.{if◌then◌else◌}
+use Rattle.meaning.specs.Basics.{if◌then◌otherwise◌}
 use Rattle.machine.specs.Opcodes.{tag_in, size_in, number_in, library_in, callee_in, argument_root, tag_table, tag_call}
 use Rattle.machine.specs.declared.Value.{Value}
 use Rattle.machine.specs.declared.Value.TheVariants.{Nothing}
@@ -44,17 +44,17 @@ module _ (inner : Evaluator) (e : Setting) (w x p : ℕ) (ts ws : List ℕ) (z :
     with_first = rw (← d) (goes_on _ h f ∙ rw (← m))
 
     pub table_made : (r : Answer) (ws₂ : List ℕ) → tag ≡ tag_table → Answers ws₁ (sized p k) r ws₂ → shown r ts₁ ws₂ ≡ operands_at inner e w x p (raw ts ws)
-    unfolding first_of if◌then◌else◌
+    unfolding first_of if◌then◌otherwise◌
     table_made r ws₂ t q = q.equal ts₁ ∙ sym (with_first ∙ rw (← i, t))
 
     module _ (t : tag ≡ tag_table → ⊥) (b : Bool) (o : b ≡ lacks_table tag k) where
       pub no_table : b ≡ true → shown (Bad 20 p) ts₁ ws₁ ≡ operands_at inner e w x p (raw ts ws)
-      unfolding first_of if◌then◌else◌ ◌>>=◌ go_on refuse fail shown
+      unfolding first_of if◌then◌otherwise◌ ◌>>=◌ go_on refuse fail shown
       no_table q = sym (with_first ∙ rw (← i, ne_eqb _ _ t, ← o, q))
 
       module _ (c : b ≡ false) (y : ℕ) (g : y ≡ x - 1) (s : Answer) (ts₂ ws₂ : List ℕ) (l : shown s ts₂ ws₂ ≡ inner y p (raw ts₁ ws₁)) where
         with_second : operands_at inner e w x p (raw ts ws) ≡ go_on (inner y p (raw ts₁ ws₁)) (λ v. applied e.program e.grants tag p k (packed v))
-        unfolding first_of second_of if◌then◌else◌ ◌>>=◌ go_on refuse give
+        unfolding first_of second_of if◌then◌otherwise◌ ◌>>=◌ go_on refuse give
         with_second = with_first ∙ rw (← i, ne_eqb _ _ t, ← o, c, g)
 
         pub second_stops : (n q : ℕ) → s ≡ Bad n q → shown (Bad n q) ts₂ ws₂ ≡ operands_at inner e w x p (raw ts ws)
@@ -97,20 +97,20 @@ module _ (program code g : List ℕ) (x p : ℕ) (ts ws : List ℕ) (fuel : ℕ)
       begun = rw deeper (after_pass _ p ts (rw (not-false ok t) at c) ∙ rw (f, ← deeper))
 
       pub is_leaf : (r : Answer) → tag < tag_table → Answers ws₁ (leaf p w) r ws₁ → shown r ts ws₁ ≡ expression_at fuel (setting program code g) x p (raw ts ws)
-      unfolding expression_by if◌then◌else◌
+      unfolding expression_by if◌then◌otherwise◌
       is_leaf r l h = h.equal ts ∙ sym (begun ∙ rw (← i, lt-ltb tag tag_table l))
 
       module _ (a b : Answer) (ts₂ ws₂ : List ℕ) (l : tag_table ≤ tag) where
         pub is_call : tag ≡ tag_call
             → shown a ts₂ ws₂ ≡ call_at (expression_at (fuel - 1) (setting program code g)) (invoke_at (fuel - 1) (setting program code g)) (setting program code g) w x p (raw ts ws₁)
             → a ≡ b → shown b ts₂ ws₂ ≡ expression_at fuel (setting program code g) x p (raw ts ws)
-        unfolding expression_by if◌then◌else◌
+        unfolding expression_by if◌then◌otherwise◌
         is_call k h e = (rw e at h) ∙ sym (begun ∙ rw (← i, k))
 
         pub has_operands : (tag ≡ tag_call → ⊥)
             → shown a ts₂ ws₂ ≡ operands_at (expression_at (fuel - 1) (setting program code g)) (setting program code g) w x p (raw ts ws₁)
             → a ≡ b → shown b ts₂ ws₂ ≡ expression_at fuel (setting program code g) x p (raw ts ws)
-        unfolding expression_by if◌then◌else◌
+        unfolding expression_by if◌then◌otherwise◌
         has_operands k h e = (rw e at h) ∙ sym (begun ∙ rw (← i, le-ltb tag tag_table l, ne_eqb _ _ k))
 
 -- ---- calls
@@ -127,20 +127,20 @@ pub record Pushing (program code g : List ℕ) (fuel : ℕ) (ts₀ ws₀ : List 
       (λ _. invoked (invoke_at fuel (setting program code g)) (setting program code g) w p base)
 
 root_within : (w a x : ℕ) → argument_root w a x ≤ x
-unfolding argument_root if◌then◌else◌
+unfolding argument_root if◌then◌otherwise◌
 root_within w a x = go (ltb (a + size_in w) x) refl
   where
-    go : (b : Bool) → ltb (a + size_in w) x ≡ b → (if b then (λ _. a + size_in w) else λ _. x) ≤ x
+    go : (b : Bool) → ltb (a + size_in w) x ≡ b → (if b then (λ _. a + size_in w) otherwise λ _. x) ≤ x
     go true q =
         let l : a + size_in w < x = ltb-true _ _ q in
         omega arith
     go false q = omega arith
 
 root_behind : (w a x : ℕ) → a ≤ x → a ≤ argument_root w a x
-unfolding argument_root if◌then◌else◌
+unfolding argument_root if◌then◌otherwise◌
 root_behind w a x m = go (ltb (a + size_in w) x) refl
   where
-    go : (b : Bool) → ltb (a + size_in w) x ≡ b → a ≤ (if b then (λ _. a + size_in w) else λ _. x)
+    go : (b : Bool) → ltb (a + size_in w) x ≡ b → a ≤ (if b then (λ _. a + size_in w) otherwise λ _. x)
     go true q = omega arith
     go false q = m
 
@@ -156,7 +156,7 @@ module _ (program code g : List ℕ) (fuel : ℕ) (ts₀ ws₀ : List ℕ) (w x 
 
   module _ (ts ws : List ℕ) (y : ℕ) (h : Pushing program code g fuel ts₀ ws₀ w x p base ts ws y) where
     ends : (rounds : ℕ) → x ≤ y → arguments_from rounds (expression_at fuel (setting program code g)) (setting program code g) y x p (raw ts ws) ≡ done Nothing (raw ts ws)
-    unfolding arguments_from give if◌then◌else◌
+    unfolding arguments_from give if◌then◌otherwise◌
     ends zero l = refl
     ends (suc rounds) l = rw (le-ltb y x l)
 
@@ -168,19 +168,19 @@ module _ (program code g : List ℕ) (fuel : ℕ) (ts₀ ws₀ : List ℕ) (w x 
 
       pub library_called : (r : Answer) (ws₁ : List ℕ) → (n ≡ 11 → ⊥) → Answers ws (called g n p base) r ws₁
           → shown r ts ws₁ ≡ call_at (expression_at fuel (setting program code g)) (invoke_at fuel (setting program code g)) (setting program code g) w x p (raw ts₀ ws₀)
-      unfolding invoked if◌then◌else◌
+      unfolding invoked if◌then◌otherwise◌
       library_called r ws₁ o q = q.equal ts ∙ sym (ended ∙ rw (← e, ne_eqb _ _ o))
 
       pub procedure_called : (callee : ℕ) (o : Out Value) → n ≡ 11 → callee ≡ callee_in w → o ≡ invoke_at fuel (setting program code g) callee p base (raw ts ws)
           → o ≡ call_at (expression_at fuel (setting program code g)) (invoke_at fuel (setting program code g)) (setting program code g) w x p (raw ts₀ ws₀)
-      unfolding invoked if◌then◌else◌
+      unfolding invoked if◌then◌otherwise◌
       procedure_called callee o k i q = q ∙ sym (ended ∙ rw (← e, k, i))
 
     module _ (l : y < x) (r : Answer) (ts₁ ws₁ : List ℕ) (c : shown r ts₁ ws₁ ≡ argument_of (expression_at fuel (setting program code g)) y p (raw ts ws)) where
       again : (rounds : ℕ) → x < y + rounds
           → arguments_from rounds (expression_at fuel (setting program code g)) (setting program code g) y x p (raw ts ws)
           ≡ go_on (shown r ts₁ ws₁) (λ _. arguments_from (rounds - 1) (expression_at fuel (setting program code g)) (setting program code g) (argument_after (setting program code g) (y + 1) x) x p)
-      unfolding arguments_from if◌then◌else◌ ◌>>=◌
+      unfolding arguments_from if◌then◌otherwise◌ ◌>>=◌
       again zero b = absurd (omega arith)
       again (suc rounds) b =
           let k : suc rounds - 1 ≡ rounds = omega arith in

@@ -11,7 +11,7 @@ use lib.Dec.{eqb, ltb, leb}
 use mir.Syntax.{w32}
 use mir.Val.{to_z}
 use borrow.Author.Tests.{eqb-true, eqb-false, ltb-true, ltb-false, leb-true, le-leb, le-ltb, ne_eqb}
-use Rattle.meaning.specs.Basics.{if◌then◌else◌}
+use Rattle.meaning.specs.Basics.{if◌then◌otherwise◌}
 use Rattle.meaning.specs.Integer.{sum, difference, product, quotient, remainder, shifted_left, shifted_right, is_zero, same_integer}
 use Rattle.arithmetic.proofs.Ranges.{bits_signed, signed_small, sum_small, difference_small, product_small, quotient_small, remainder_small, shifted_left_small, shifted_right_small}
 use Rattle.machine.specs.Opcodes.{tag_in, size_in, size_at, number_in, tag_number, tag_string, tag_name, tag_table, tag_entry, tag_call, first_operator, head_number, head_string, head_name}
@@ -47,12 +47,12 @@ unfolding packed InRange
 integer_plain z h = record { back = ap packed (unpacked_packed (Integer z) h); no_shape_lem = λ q. absurd (omega arith) }
 
 truth_plain : (b : Bool) → Plain (packed (Boolean b))
-unfolding packed unpacked if◌then◌else◌
+unfolding packed unpacked if◌then◌otherwise◌
 truth_plain true = record { back = refl; no_shape_lem = λ q. absurd (omega arith) }
 truth_plain false = record { back = refl; no_shape_lem = λ q. absurd (omega arith) }
 
 truth_back : (b : Bool) → unpacked (packed (Boolean b)) ≡ Boolean b
-unfolding packed unpacked if◌then◌else◌
+unfolding packed unpacked if◌then◌otherwise◌
 truth_back true = refl
 truth_back false = refl
 
@@ -124,60 +124,60 @@ module _ (program g : List ℕ) (p : ℕ) (x y : ℤ) where
   Works tag = (v : ℕ) → operator_word tag x y ≡ v → (v ≡ 0 → ⊥) → Operated program g tag p x y v
 
   works_add : Works tag_add
-  unfolding operator_word operate_on if◌then◌else◌ calculated with_integer ◌>>=◌ go_on refuse give
+  unfolding operator_word operate_on if◌then◌otherwise◌ calculated with_integer ◌>>=◌ go_on refuse give
   works_add v e n = with_integer_lem tag_add (sum x y) (sum_small x y) (λ r. refl) v e
 
   works_subtract : Works tag_subtract
-  unfolding operator_word operate_on if◌then◌else◌ calculated with_integer ◌>>=◌ go_on refuse give
+  unfolding operator_word operate_on if◌then◌otherwise◌ calculated with_integer ◌>>=◌ go_on refuse give
   works_subtract v e n = with_integer_lem tag_subtract (difference x y) (difference_small x y) (λ r. refl) v e
 
   works_multiply : Works tag_multiply
-  unfolding operator_word operate_on if◌then◌else◌ calculated with_integer ◌>>=◌ go_on refuse give
+  unfolding operator_word operate_on if◌then◌otherwise◌ calculated with_integer ◌>>=◌ go_on refuse give
   works_multiply v e n = with_integer_lem tag_multiply (product x y) (product_small x y) (λ r. refl) v e
 
   works_divide : Works tag_divide
-  unfolding operator_word operate_on if◌then◌else◌ calculated with_integer ◌>>=◌ go_on refuse give
+  unfolding operator_word operate_on if◌then◌otherwise◌ calculated with_integer ◌>>=◌ go_on refuse give
   works_divide v e n = go (is_zero y) refl e
     where
-      go : (b : Bool) → is_zero y ≡ b → (if b then (λ _. 0) else λ _. packed (Integer (quotient x y))) ≡ v → Operated program g tag_divide p x y v
+      go : (b : Bool) → is_zero y ≡ b → (if b then (λ _. 0) otherwise λ _. packed (Integer (quotient x y))) ≡ v → Operated program g tag_divide p x y v
       go true q f = absurd (n (sym f))
       go false q f = with_integer_lem tag_divide (quotient x y) (quotient_small x y) (λ r. rw q) v f
 
   works_remainder : Works tag_remainder
-  unfolding operator_word operate_on if◌then◌else◌ remaindered with_integer ◌>>=◌ go_on refuse give
+  unfolding operator_word operate_on if◌then◌otherwise◌ remaindered with_integer ◌>>=◌ go_on refuse give
   works_remainder v e n = go (is_zero y) refl e
     where
-      go : (b : Bool) → is_zero y ≡ b → (if b then (λ _. 0) else λ _. packed (Integer (remainder x y))) ≡ v → Operated program g tag_remainder p x y v
+      go : (b : Bool) → is_zero y ≡ b → (if b then (λ _. 0) otherwise λ _. packed (Integer (remainder x y))) ≡ v → Operated program g tag_remainder p x y v
       go true q f = absurd (n (sym f))
       go false q f = with_integer_lem tag_remainder (remainder x y) (remainder_small x y) (λ r. rw q) v f
 
   works_shift_right : mag x < 2 ^ 31 → Works tag_shift_right
-  unfolding operator_word operate_on if◌then◌else◌ calculated with_integer ◌>>=◌ go_on refuse give
+  unfolding operator_word operate_on if◌then◌otherwise◌ calculated with_integer ◌>>=◌ go_on refuse give
   works_shift_right h v e n = with_integer_lem tag_shift_right (shifted_right x y) (shifted_right_small x y h) (λ r. refl) v e
 
   works_shift_left : Works tag_shift_left
-  unfolding operator_word operate_on if◌then◌else◌ calculated with_integer ◌>>=◌ go_on refuse give
+  unfolding operator_word operate_on if◌then◌otherwise◌ calculated with_integer ◌>>=◌ go_on refuse give
   works_shift_left v e n = with_integer_lem tag_shift_left (shifted_left x y) (shifted_left_small x y) (λ r. refl) v e
 
   works_equal : Works tag_equal
-  unfolding operator_word operate_on if◌then◌else◌ equated equality answered give
+  unfolding operator_word operate_on if◌then◌otherwise◌ equated equality answered give
   works_equal v e n = with_truth tag_equal (same_integer x y) (λ r. refl) v e
 
   works_unequal : Works tag_unequal
-  unfolding operator_word operate_on if◌then◌else◌ equated equality answered give
+  unfolding operator_word operate_on if◌then◌otherwise◌ equated equality answered give
   works_unequal v e n = with_truth tag_unequal (not (same_integer x y)) (λ r. refl) v e
 
   works_greater : Works tag_greater
-  unfolding operator_word operate_on if◌then◌else◌ compared with_integer give
+  unfolding operator_word operate_on if◌then◌otherwise◌ compared with_integer give
   works_greater v e n = with_truth tag_greater (lt_z y x) (λ r. refl) v e
 
   works_less : Works tag_less
-  unfolding operator_word operate_on if◌then◌else◌ compared with_integer give
+  unfolding operator_word operate_on if◌then◌otherwise◌ compared with_integer give
   works_less v e n = with_truth tag_less (lt_z x y) (λ r. refl) v e
 
   no_operator : (tag : ℕ) → (tag ≡ tag_add → ⊥) → (tag ≡ tag_subtract → ⊥) → (tag ≡ tag_multiply → ⊥) → (tag ≡ tag_divide → ⊥) → (tag ≡ tag_remainder → ⊥) → (tag ≡ tag_shift_right → ⊥)
       → (tag ≡ tag_shift_left → ⊥) → (tag ≡ tag_equal → ⊥) → (tag ≡ tag_unequal → ⊥) → (tag ≡ tag_greater → ⊥) → (tag ≡ tag_less → ⊥) → operator_word tag x y ≡ 0
-  unfolding operator_word if◌then◌else◌
+  unfolding operator_word if◌then◌otherwise◌
   no_operator tag a b c d e f h i j k l =
       rw (ne_eqb _ _ a, ne_eqb _ _ b, ne_eqb _ _ c, ne_eqb _ _ d, ne_eqb _ _ e, ne_eqb _ _ f)
       (rw (ne_eqb _ _ h, ne_eqb _ _ i, ne_eqb _ _ j, ne_eqb _ _ k, ne_eqb _ _ l) refl)
@@ -208,11 +208,11 @@ record Combined (program g : List ℕ) (tag p a b v : ℕ) : Type 0 where
   pub operated : Operated program g tag p (to_z w32 (Words.number_in a)) (to_z w32 (Words.number_in b)) v
 
 combines : (program g : List ℕ) (tag p a b v : ℕ) → word_on tag a b ≡ v → (v ≡ 0 → ⊥) → Combined program g tag p a b v
-unfolding word_on if◌then◌else◌
+unfolding word_on if◌then◌otherwise◌
 combines program g tag p a b v h n = go (eqb (kind_in a) 1) (eqb (kind_in b) 1) refl refl h
   where
     go : (i j : Bool) → eqb (kind_in a) 1 ≡ i → eqb (kind_in b) 1 ≡ j
-        → (if i then (λ _. if j then (λ _. operator_word tag (to_z w32 (Words.number_in a)) (to_z w32 (Words.number_in b))) else λ _. 0) else λ _. 0) ≡ v
+        → (if i then (λ _. if j then (λ _. operator_word tag (to_z w32 (Words.number_in a)) (to_z w32 (Words.number_in b))) otherwise λ _. 0) otherwise λ _. 0) ≡ v
         → Combined program g tag p a b v
     go false j q s f = absurd (n (sym f))
     go true false q s f = absurd (n (sym f))
@@ -249,7 +249,7 @@ module _ (program code g ts rest : List ℕ) (u p : ℕ) where
     pub gives : (inner : Evaluator) (invoke : Invoke) (x n : ℕ) → expression_by inner invoke e w x p (raw ts (n ∷ rest)) ≡ done (unpacked v) (raw ts (n ∷ rest))
 
   number_leaf : (w v : ℕ) → w % 2 ^ 32 ≡ head_number → number_in w < 2 ^ 32 → 1 + 8 * number_in w ≡ v → Leaf w v
-  unfolding expression_by leaf if◌then◌else◌ give
+  unfolding expression_by leaf if◌then◌otherwise◌ give
   number_leaf w v h l f =
       let t : tag_in w ≡ tag_number = tag_below w tag_number (omega arith) h in
       let k : kind_in v ≡ 1 = omega arith in
@@ -264,7 +264,7 @@ module _ (program code g ts rest : List ℕ) (u p : ℕ) where
   module _ (w v k : ℕ) (h : w % 2 ^ 32 ≡ head_name) (f : k ≡ holding (u ∷ rest) (number_in w)) (z : k ≡ 0 → ⊥) (q : unpacked v ≡ unpacked k) where
     name_gives : ((m : ℕ) → false ≡ is_dead (m ∷ rest) (unpacked k)) → (inner : Evaluator) (invoke : Invoke) (x n : ℕ)
         → expression_by inner invoke e w x p (raw ts (n ∷ rest)) ≡ done (unpacked v) (raw ts (n ∷ rest))
-    unfolding expression_by leaf if◌then◌else◌ shown
+    unfolding expression_by leaf if◌then◌otherwise◌ shown
     name_gives dead inner invoke x m =
         let t : tag_in w ≡ tag_name = tag_below w tag_name (omega arith) h in
         let d : holding (m ∷ rest) (number_in w) ≡ k = ap word_in (elsewhere rest m u ((get_or (u ∷ rest) frame 0 + number_in w) % 262144)) ∙ sym f in
@@ -274,10 +274,10 @@ module _ (program code g ts rest : List ℕ) (u p : ℕ) where
     name_leaf n c = record { size = one_word w tag_name (omega arith) h; plain = c; gives = name_gives (λ m. not_dead (m ∷ rest) k n) }
 
   plain_leaf : (w v k : ℕ) → w % 2 ^ 32 ≡ head_name → k ≡ holding (u ∷ rest) (number_in w) → plain_word k ≡ v → (v ≡ 0 → ⊥) → Leaf w v
-  unfolding plain_word if◌then◌else◌
+  unfolding plain_word if◌then◌otherwise◌
   plain_leaf w v k h f r n = go (eqb (kind_in k) 1) (eqb (kind_in k) 3) refl refl r
     where
-      go : (i j : Bool) → eqb (kind_in k) 1 ≡ i → eqb (kind_in k) 3 ≡ j → (if i then (λ _. k % 2 ^ 35) else λ _. if j then (λ _. k % 16) else λ _. 0) ≡ v → Leaf w v
+      go : (i j : Bool) → eqb (kind_in k) 1 ≡ i → eqb (kind_in k) 3 ≡ j → (if i then (λ _. k % 2 ^ 35) otherwise λ _. if j then (λ _. k % 16) otherwise λ _. 0) ≡ v → Leaf w v
       go true j q s m =
           let a : kind_in k ≡ 1 = eqb-true _ _ q in
           let b : kind_in v ≡ 1 = cut_kind k v m a in
@@ -289,11 +289,11 @@ module _ (program code g ts rest : List ℕ) (u p : ℕ) where
       go false false q s m = absurd (n (sym m))
 
   leaf_found : (w v : ℕ) → leaf_word (u ∷ rest) w ≡ v → (v ≡ 0 → ⊥) → Leaf w v
-  unfolding leaf_word if◌then◌else◌
+  unfolding leaf_word if◌then◌otherwise◌
   leaf_found w v r n = go (eqb (w % 2 ^ 32) head_number) (eqb (w % 2 ^ 32) head_name) (ltb (number_in w) (2 ^ 32)) refl refl refl r
     where
       go : (i j k : Bool) → eqb (w % 2 ^ 32) head_number ≡ i → eqb (w % 2 ^ 32) head_name ≡ j → ltb (number_in w) (2 ^ 32) ≡ k
-          → (if i then (λ _. if k then (λ _. 1 + 8 * number_in w) else λ _. 0) else λ _. if j then (λ _. plain_word (holding (u ∷ rest) (number_in w))) else λ _. 0) ≡ v
+          → (if i then (λ _. if k then (λ _. 1 + 8 * number_in w) otherwise λ _. 0) otherwise λ _. if j then (λ _. plain_word (holding (u ∷ rest) (number_in w))) otherwise λ _. 0) ≡ v
           → Leaf w v
       go true j true q s l m = number_leaf w v (eqb-true _ _ q) (ltb-true _ _ l) m
       go true j false q s l m = absurd (n (sym m))
@@ -304,7 +304,7 @@ module _ (program code g ts rest : List ℕ) (u p : ℕ) where
   sides : (inner : Evaluator) (invoke : Invoke) (w x a b v l m n : ℕ) → first_operator ≤ tag_in w → Combined program g (tag_in w) p a b v
       → inner (x - 1 - number_in w) p (raw ts (l ∷ rest)) ≡ done (unpacked a) (raw ts (m ∷ rest)) → inner (x - 1) p (raw ts (m ∷ rest)) ≡ done (unpacked b) (raw ts (n ∷ rest))
       → expression_by inner invoke e w x p (raw ts (l ∷ rest)) ≡ done (unpacked v) (raw ts (n ∷ rest))
-  unfolding expression_by operands_at first_of second_of applied if◌then◌else◌ ◌>>=◌ go_on refuse give
+  unfolding expression_by operands_at first_of second_of applied if◌then◌otherwise◌ ◌>>=◌ go_on refuse give
   sides inner invoke w x a b v l m n t c i j =
       let behind = le-ltb (tag_in w) tag_table (omega arith) in
       let no_call = ne_eqb (tag_in w) tag_call (λ q. omega arith) in
@@ -316,7 +316,7 @@ module _ (program code g ts rest : List ℕ) (u p : ℕ) where
 
   counted : (fuel x n : ℕ) → n + 1 ≤ steps_granted g
       → expression_at (suc fuel) e x p (raw ts (n ∷ rest)) ≡ expression_by (expression_at fuel e) (invoke_at fuel e) e (get_or code x 0) x p (raw ts ((n + 1) ∷ rest))
-  unfolding expression_at body_at ◌>>=◌ go_on spend if◌then◌else◌
+  unfolding expression_at body_at ◌>>=◌ go_on spend if◌then◌otherwise◌
   counted fuel x n l = rw (le-leb (n + 1) (steps_granted g) l)
 
   record Found (fuel x v : ℕ) : Type 0 where
@@ -344,15 +344,15 @@ module _ (program code g ts rest : List ℕ) (u p : ℕ) where
         }
 
   runs : (fuel x v : ℕ) → fast_at fuel code (u ∷ rest) x ≡ v → (v ≡ 0 → ⊥) → Found fuel x v
-  unfolding fast_at operation_word if◌then◌else◌
+  unfolding fast_at operation_word if◌then◌otherwise◌
   runs zero x v h n = absurd (n (sym h))
   runs (suc fuel) x v h n = go (λ y a q m. runs fuel y a q m) (ltb (tag_in (get_or code x 0)) first_operator)
       (sizes_agree (get_or code x 0) (get_or code (x - 1 - number_in (get_or code x 0)) 0) (get_or code (x - 1) 0)) refl refl h
     where
       go : ((y a : ℕ) → fast_at fuel code (u ∷ rest) y ≡ a → (a ≡ 0 → ⊥) → Found fuel y a) → (i j : Bool) → ltb (tag_in (get_or code x 0)) first_operator ≡ i
           → sizes_agree (get_or code x 0) (get_or code (x - 1 - number_in (get_or code x 0)) 0) (get_or code (x - 1) 0) ≡ j
-          → (if i then (λ _. leaf_word (u ∷ rest) (get_or code x 0)) else λ _. if j then
-          (λ _. word_on (tag_in (get_or code x 0)) (fast_at fuel code (u ∷ rest) (x - 1 - number_in (get_or code x 0))) (fast_at fuel code (u ∷ rest) (x - 1))) else λ _. 0) ≡ v
+          → (if i then (λ _. leaf_word (u ∷ rest) (get_or code x 0)) otherwise λ _. if j then
+          (λ _. word_on (tag_in (get_or code x 0)) (fast_at fuel code (u ∷ rest) (x - 1 - number_in (get_or code x 0))) (fast_at fuel code (u ∷ rest) (x - 1))) otherwise λ _. 0) ≡ v
           → Found (suc fuel) x v
       go inner true j q s f =
           let c = leaf_found (get_or code x 0) v f n in
@@ -372,17 +372,17 @@ module _ (program code g ts rest : List ℕ) (u p : ℕ) where
     pub gives : (inner : Evaluator) (invoke : Invoke) (x n : ℕ) → expression_by inner invoke e w x p (raw ts (n ∷ rest)) ≡ done (unpacked v) (raw ts (n ∷ rest))
 
   string_leaf : (w v : ℕ) → w % 2 ^ 32 ≡ head_string → number_in w < 2 ^ 32 → packed (Text (2 * number_in w)) ≡ v → Other w v
-  unfolding expression_by leaf if◌then◌else◌ give InRange
+  unfolding expression_by leaf if◌then◌otherwise◌ give InRange
   string_leaf w v h l f =
       let t : tag_in w ≡ tag_string = tag_below w tag_string (omega arith) h in
       let b : unpacked v ≡ Text (2 * number_in w) = rw (← f) (unpacked_packed (Text (2 * number_in w)) (omega arith)) in
       record { size = one_word w tag_string (omega arith) h; back = rw b f; gives = λ inner invoke x n. rw (t, b) }
 
   shape_leaf : (w v k : ℕ) → w % 2 ^ 32 ≡ head_name → k ≡ holding (u ∷ rest) (number_in w) → living_word (u ∷ rest) k ≡ v → (v ≡ 0 → ⊥) → Other w v
-  unfolding living_word if◌then◌else◌ InRange
+  unfolding living_word if◌then◌otherwise◌ InRange
   shape_leaf w v k h f r n = go (eqb (kind_in k) 6) (destroyed_at (u ∷ rest) (Words.number_in k)) refl refl r
     where
-      go : (i j : Bool) → eqb (kind_in k) 6 ≡ i → destroyed_at (u ∷ rest) (Words.number_in k) ≡ j → (if i && not j then (λ _. packed (Shape (Words.number_in k))) else λ _. 0) ≡ v → Other w v
+      go : (i j : Bool) → eqb (kind_in k) 6 ≡ i → destroyed_at (u ∷ rest) (Words.number_in k) ≡ j → (if i && not j then (λ _. packed (Shape (Words.number_in k))) otherwise λ _. 0) ≡ v → Other w v
       go false j q s m = absurd (n (sym m))
       go true true q s m = absurd (n (sym m))
       go true false q s m =
@@ -397,11 +397,11 @@ module _ (program code g ts rest : List ℕ) (u p : ℕ) where
           }
 
   other_found : (w v : ℕ) → other_word (u ∷ rest) w ≡ v → (v ≡ 0 → ⊥) → Other w v
-  unfolding other_word if◌then◌else◌
+  unfolding other_word if◌then◌otherwise◌
   other_found w v r n = go (eqb (w % 2 ^ 32) head_string) (eqb (w % 2 ^ 32) head_name) (ltb (number_in w) (2 ^ 32)) refl refl refl r
     where
       go : (i j k : Bool) → eqb (w % 2 ^ 32) head_string ≡ i → eqb (w % 2 ^ 32) head_name ≡ j → ltb (number_in w) (2 ^ 32) ≡ k
-          → (if i then (λ _. if k then (λ _. packed (Text (2 * number_in w))) else λ _. 0) else λ _. if j then (λ _. living_word (u ∷ rest) (holding (u ∷ rest) (number_in w))) else
+          → (if i then (λ _. if k then (λ _. packed (Text (2 * number_in w))) otherwise λ _. 0) otherwise λ _. if j then (λ _. living_word (u ∷ rest) (holding (u ∷ rest) (number_in w))) otherwise
           λ _. 0) ≡ v
           → Other w v
       go true j true q s l m = string_leaf w v (eqb-true _ _ q) (ltb-true _ _ l) m
@@ -415,12 +415,12 @@ module _ (program code g ts rest : List ℕ) (u p : ℕ) where
         → expression_at fuel e x p (raw ts (n ∷ rest)) ≡ done (unpacked v) (raw ts ((n + size_in (get_or code x 0)) ∷ rest))
 
   hands : (fuel x v : ℕ) → argument_at fuel code (u ∷ rest) x ≡ v → (v ≡ 0 → ⊥) → Handed fuel x v
-  unfolding argument_at if◌then◌else◌
+  unfolding argument_at if◌then◌otherwise◌
   hands zero x v h n = absurd (n (sym h))
   hands (suc fuel) x v h n = go (eqb (other_word (u ∷ rest) (get_or code x 0)) 0) refl h
     where
       go : (i : Bool) → eqb (other_word (u ∷ rest) (get_or code x 0)) 0 ≡ i
-          → (if i then (λ _. fast_at (suc fuel) code (u ∷ rest) x) else λ _. other_word (u ∷ rest) (get_or code x 0)) ≡ v → Handed (suc fuel) x v
+          → (if i then (λ _. fast_at (suc fuel) code (u ∷ rest) x) otherwise λ _. other_word (u ∷ rest) (get_or code x 0)) ≡ v → Handed (suc fuel) x v
       go true q f = let c = runs (suc fuel) x v f n in record { back = c.plain.back; gives = c.gives }
       go false q f =
           let c = other_found (get_or code x 0) v f n in
@@ -438,22 +438,22 @@ record Applied (word steps : ℕ) (g ws : List ℕ) (v : ℕ) (ws₁ : List ℕ)
 
 module _ {word steps : ℕ} (g ws : List ℕ) (v : ℕ) (ws₁ : List ℕ) (h : Values word steps g ws v ws₁) where
   as_applied : (v ≡ 0 → ⊥) → Applied word steps g ws v ws₁
-  unfolding applies if◌then◌else◌
+  unfolding applies if◌then◌otherwise◌
   as_applied n = go (eqb word 0) (leb (get_or ws steps_used 0 + steps) (steps_granted g)) refl h.result h.words
     where
-      go : (i j : Bool) → leb (get_or ws steps_used 0 + steps) (steps_granted g) ≡ j → v ≡ (if not i && j then (λ _. word) else λ _. 0)
-          → ws₁ ≡ (if not i && j then (λ _. set ws steps_used (get_or ws steps_used 0 + steps)) else λ _. ws) → Applied word steps g ws v ws₁
+      go : (i j : Bool) → leb (get_or ws steps_used 0 + steps) (steps_granted g) ≡ j → v ≡ (if not i && j then (λ _. word) otherwise λ _. 0)
+          → ws₁ ≡ (if not i && j then (λ _. set ws steps_used (get_or ws steps_used 0 + steps)) otherwise λ _. ws) → Applied word steps g ws v ws₁
       go true j q f d = absurd (n f)
       go false false q f d = absurd (n f)
       go false true q f d = record { fast = sym f; within = leb-true _ _ q; words = d }
 
   -- where it does not apply, nothing has changed
   pub unchanged : v ≡ 0 → ws₁ ≡ ws
-  unfolding applies if◌then◌else◌
+  unfolding applies if◌then◌otherwise◌
   unchanged z = go (eqb word 0) (leb (get_or ws steps_used 0 + steps) (steps_granted g)) refl h.result h.words
     where
-      go : (i j : Bool) → eqb word 0 ≡ i → v ≡ (if not i && j then (λ _. word) else λ _. 0)
-          → ws₁ ≡ (if not i && j then (λ _. set ws steps_used (get_or ws steps_used 0 + steps)) else λ _. ws) → ws₁ ≡ ws
+      go : (i j : Bool) → eqb word 0 ≡ i → v ≡ (if not i && j then (λ _. word) otherwise λ _. 0)
+          → ws₁ ≡ (if not i && j then (λ _. set ws steps_used (get_or ws steps_used 0 + steps)) otherwise λ _. ws) → ws₁ ≡ ws
       go true j q f d = d
       go false false q f d = d
       go false true q f d = absurd (eqb-false _ _ q (sym f ∙ z))

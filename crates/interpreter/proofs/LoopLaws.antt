@@ -8,7 +8,7 @@ use native.Mathlib.Omega.{arith}
 use lib.ListN.{get_or, set, length}
 use denote.Enum.Declared.{tag_of}
 use borrow.Author.Tests.{ne_eqb, not-true, not-false}
-use Rattle.meaning.specs.Basics.{if◌then◌else◌}
+use Rattle.meaning.specs.Basics.{if◌then◌otherwise◌}
 use Rattle.machine.specs.contracts.Value as value
 use Rattle.machine.specs.declared.Value.{Value}
 use Rattle.machine.specs.declared.Value.TheVariants.{Integer, Text, Boolean, Nothing, Table, Shape}
@@ -43,12 +43,12 @@ bound_to body slot i ts ws k ws₁ o e s h = h ∙ sym (rw (← e) (after_gift (
 -- ---- an own component
 module _ (body : Act Flow) (g : List ℕ) (p slot k : ℕ) (ts ws : List ℕ) (c : ℕ) (e : c ≡ component_at g ws k) (b : Bool) (d : b ≡ destroyed_at ws c) where
   pub member_passed : b ≡ true → shown_flow Onward ts ws ≡ member_at body g p slot k (raw ts ws)
-  unfolding member_at ◌>>=◌ go_on held if◌then◌else◌ give shown_flow
+  unfolding member_at ◌>>=◌ go_on held if◌then◌otherwise◌ give shown_flow
   member_passed t = rw (← e, ← d, t)
 
   module _ (t : b ≡ false) (ok : Bool) (ws₁ : List ℕ) (s : Passes ws 79 (count g) ok ws₁) where
     counted : member_at body g p slot k (raw ts ws) ≡ (count g p >>= λ _. own_turn body g p slot k c) (raw ts ws)
-    unfolding member_at ◌>>=◌ go_on held if◌then◌else◌
+    unfolding member_at ◌>>=◌ go_on held if◌then◌otherwise◌
     counted = rw (← e, ← d, t)
 
     pub member_no_step : not ok ≡ true → shown_flow (Stopped 79 p) ts ws₁ ≡ member_at body g p slot k (raw ts ws)
@@ -60,11 +60,11 @@ module _ (body : Act Flow) (g : List ℕ) (p slot k : ℕ) (ts ws : List ℕ) (c
       entered = counted ∙ after_pass (λ _. own_turn body g p slot k c) p ts (rw (not-false ok u) at s)
 
       pub member_figure : not f ≡ true → o ≡ turn body slot c (raw ts ws₁) → o ≡ member_at body g p slot k (raw ts ws)
-      unfolding own_turn ◌>>=◌ go_on held if◌then◌else◌
+      unfolding own_turn ◌>>=◌ go_on held if◌then◌otherwise◌
       member_figure v h = h ∙ sym (entered ∙ rw (← q, not-true f v))
 
       pub member_group : not f ≡ false → o ≡ inside_at body g p slot k c (raw ts ws₁) → o ≡ member_at body g p slot k (raw ts ws)
-      unfolding own_turn inside_at ◌>>=◌ go_on held if◌then◌else◌
+      unfolding own_turn inside_at ◌>>=◌ go_on held if◌then◌otherwise◌
       member_group v h = h ∙ sym (entered ∙ rw (← q, not-false f v))
 
 -- ---- the figures in one
@@ -87,14 +87,14 @@ module _ (body : Act Flow) (g : List ℕ) (fuel b : ℕ) (ts₀ ws₀ : List ℕ
     turns_short z = sym (l.rest ∙ rw z)
 
     pub turns_done : 0 < turns → found ≡ 0 → shown_flow Onward ts ws ≡ within
-    unfolding turns_from if◌then◌else◌ give shown_flow
+    unfolding turns_from if◌then◌otherwise◌ give shown_flow
     turns_done m z =
         let d : turns ≡ suc (turns - 1) = omega arith in
         sym (l.rest ∙ rw (d, z))
 
     module _ (m : 0 < turns) (n : found ≡ 0 → ⊥) (i : ℕ) (e : i ≡ component_at g ws (found - 1)) (r : Flow) (ts₁ ws₁ : List ℕ) (q : shown_flow r ts₁ ws₁ ≡ turn body slot i (raw ts ws)) where
       one_turn : within ≡ go_on (turn body slot i (raw ts ws)) (λ f. following g end f (look_behind end g end (found - 1) >>= turns_from (turns - 1) body g p slot end))
-      unfolding turns_from if◌then◌else◌ ◌>>=◌ go_on held
+      unfolding turns_from if◌then◌otherwise◌ ◌>>=◌ go_on held
       one_turn =
           let d : turns ≡ suc (turns - 1) = omega arith in
           l.rest ∙ rw d (rw (ne_eqb found 0 n, ← e, ← d))
@@ -202,9 +202,9 @@ module _ (eval : Evaluator) (inner : Executor) (e : Setting) (slot y p : ℕ) (t
       opened = goes_on _ h f ∙ rw j (sym (o.equal (λ k. loop_over (inner (y + 1)) e.grants p slot k) p ts₁))
 
       pub each_refused : (number ≡ 0 → ⊥) → shown_flow (Stopped number p) ts₁ ws₂ ≡ foreach_at eval inner e slot y p (raw ts ws)
-      unfolding or_stop if◌then◌else◌ fail shown_flow
+      unfolding or_stop if◌then◌otherwise◌ fail shown_flow
       each_refused n = sym (opened ∙ rw (ne_eqb number 0 n))
 
       pub each_runs : (s : Out Flow) → number ≡ 0 → s ≡ loop_over (inner (y + 1)) e.grants p slot i (raw ts₁ ws₂) → s ≡ foreach_at eval inner e slot y p (raw ts ws)
-      unfolding or_stop if◌then◌else◌
+      unfolding or_stop if◌then◌otherwise◌
       each_runs s z q = q ∙ sym (opened ∙ rw z)

@@ -9,7 +9,7 @@ use lib.ListN.{get_or, length, take, drop}
 use borrow.Author.Rules.{part_to_end}
 use denote.Enum.Declared.{tag_of}
 use borrow.Author.Tests.{lt-ltb, le-ltb, ne_eqb, not-true, not-false}
-use Rattle.meaning.specs.Basics.{if◌then◌else◌}
+use Rattle.meaning.specs.Basics.{if◌then◌otherwise◌}
 use Rattle.machine.specs.contracts.Value as value
 use Rattle.machine.specs.Opcodes.{tag_in, size_in, place_in, extra_in, tag_declare, tag_update, tag_when, tag_while, tag_foreach, tag_return, tag_block}
 use Rattle.machine.specs.declared.Value.{Value}
@@ -191,51 +191,51 @@ module _ (program code g : List ℕ) (x : ℕ) (ts ws : List ℕ) (fuel : ℕ) w
     pub is_loop : (k : ℕ) (o : Out Flow) → tag ≡ tag_while → k ≡ extra_in w
         → o ≡ repeat_at (expression_at (fuel - 1) (setting program code g)) (statement_at (fuel - 1) (setting program code g)) (setting program code g) (x + k) p (raw ts ws)
         → o ≡ statement_at fuel (setting program code g) x (raw ts ws)
-    unfolding statement_by if◌then◌else◌
+    unfolding statement_by if◌then◌otherwise◌
     is_loop k o t e h = h ∙ sym (begun ∙ rw (← i, t, e))
 
     module _ (m : tag ≡ tag_while → ⊥) (ok : Bool) (ws₁ : List ℕ) (c : Passes ws 79 (count g) ok ws₁) where
       pub statement_no_step : not ok ≡ true → shown_flow (Stopped 79 p) ts ws₁ ≡ statement_at fuel (setting program code g) x (raw ts ws)
-      unfolding statement_by if◌then◌else◌ ◌>>=◌ shown_flow
+      unfolding statement_by if◌then◌otherwise◌ ◌>>=◌ shown_flow
       statement_no_step t = sym (begun ∙ rw (← i, ne_eqb _ _ m) (after_refusal _ p ts (rw (not-true ok t) at c)))
 
       module _ (t : not ok ≡ false) where
         stepped : statement_at fuel (setting program code g) x (raw ts ws)
             ≡ counted_at (expression_at (fuel - 1) (setting program code g)) (statement_at (fuel - 1) (setting program code g)) (setting program code g) w x p (raw ts ws₁)
-        unfolding statement_by if◌then◌else◌ ◌>>=◌
+        unfolding statement_by if◌then◌otherwise◌ ◌>>=◌
         stepped = begun ∙ rw (← i, ne_eqb _ _ m) (after_pass _ p ts (rw (not-false ok t) at c))
 
         pub is_declaration : (k : ℕ) (r : Flow) (ws₂ : List ℕ) → tag ≡ tag_declare → k ≡ extra_in w → Flows ws₁ (declaring k p) r ws₂
             → shown_flow r ts ws₂ ≡ statement_at fuel (setting program code g) x (raw ts ws)
-        unfolding counted_at if◌then◌else◌
+        unfolding counted_at if◌then◌otherwise◌
         is_declaration k r ws₂ q e h = h.equal ts ∙ sym (stepped ∙ rw (← i, q, e))
 
         pub is_update : (y : ℕ) (o : Out Flow) → tag ≡ tag_update → y ≡ x + size_in w - 1 → o ≡ update_at (expression_at (fuel - 1) (setting program code g)) (setting program code g) y p (raw ts ws₁)
             → o ≡ statement_at fuel (setting program code g) x (raw ts ws)
-        unfolding counted_at if◌then◌else◌
+        unfolding counted_at if◌then◌otherwise◌
         is_update y o q e h = h ∙ sym (stepped ∙ rw (← i, q, e))
 
         pub is_when : (k : ℕ) (o : Out Flow) → tag ≡ tag_when → k ≡ extra_in w
             → o ≡ when_at (expression_at (fuel - 1) (setting program code g)) (statement_at (fuel - 1) (setting program code g)) (setting program code g) (x + k) p (raw ts ws₁)
             → o ≡ statement_at fuel (setting program code g) x (raw ts ws)
-        unfolding counted_at if◌then◌else◌
+        unfolding counted_at if◌then◌otherwise◌
         is_when k o q e h = h ∙ sym (stepped ∙ rw (← i, q, e))
 
         pub is_foreach : (k slot : ℕ) (o : Out Flow) → tag ≡ tag_foreach → k ≡ extra_in w → slot ≡ get_or code (x + 1) 0
             → o ≡ foreach_at (expression_at (fuel - 1) (setting program code g)) (statement_at (fuel - 1) (setting program code g)) (setting program code g) slot (x + k) p (raw ts ws₁)
             → o ≡ statement_at fuel (setting program code g) x (raw ts ws)
-        unfolding counted_at if◌then◌else◌
+        unfolding counted_at if◌then◌otherwise◌
         is_foreach k slot o q e f h = h ∙ sym (stepped ∙ rw (← i, q, e, f))
 
         pub is_block : (k : ℕ) (o : Out Flow) → tag ≡ tag_block → k ≡ size_in w
             → o ≡ statements_from (k + 1) (statement_at (fuel - 1) (setting program code g)) (setting program code g) (x + 1) (x + k) (raw ts ws₁)
             → o ≡ statement_at fuel (setting program code g) x (raw ts ws)
-        unfolding counted_at if◌then◌else◌
+        unfolding counted_at if◌then◌otherwise◌
         is_block k o q e h = h ∙ sym (stepped ∙ rw (← i, q, e))
 
         pub is_simple : (o : Out Flow) → (tag ≡ tag_declare → ⊥) → (tag ≡ tag_update → ⊥) → (tag ≡ tag_when → ⊥) → (tag ≡ tag_foreach → ⊥) → (tag ≡ tag_block → ⊥)
             → o ≡ simple_at (expression_at (fuel - 1) (setting program code g)) (setting program code g) w x p (raw ts ws₁) → o ≡ statement_at fuel (setting program code g) x (raw ts ws)
-        unfolding counted_at if◌then◌else◌
+        unfolding counted_at if◌then◌otherwise◌
         is_simple o a b d e f h = h ∙ sym (stepped ∙ rw (← i, ne_eqb _ _ a, ne_eqb _ _ b, ne_eqb _ _ d, ne_eqb _ _ e, ne_eqb _ _ f))
 
 -- ---- a return
@@ -277,11 +277,11 @@ module _ (program code g : List ℕ) (x : ℕ) (ts ws : List ℕ) (fuel w : ℕ)
 -- ---- a statement if a test holds
 module _ (eval : Evaluator) (inner : Executor) (e : Setting) (y p : ℕ) (ts ws : List ℕ) (t : Outcome) (ts₁ ws₁ : List ℕ) (h : shown_test t ts₁ ws₁ ≡ test_of eval e y p (raw ts ws)) where
   pub when_holds : (r s : Flow) (ts₂ ws₂ : List ℕ) → t ≡ outcome.Yes → shown_flow r ts₂ ws₂ ≡ inner (y + 1) (raw ts₁ ws₁) → r ≡ s → shown_flow s ts₂ ws₂ ≡ when_at eval inner e y p (raw ts ws)
-  unfolding when_at ◌>>=◌ if◌then◌else◌
+  unfolding when_at ◌>>=◌ if◌then◌otherwise◌
   when_holds r s ts₂ ws₂ f q b = rw (← b) q ∙ sym (test_holds _ h f)
 
   pub when_not : t ≡ outcome.No → shown_flow Onward ts₁ ws₁ ≡ when_at eval inner e y p (raw ts ws)
-  unfolding when_at ◌>>=◌ if◌then◌else◌ give shown_flow
+  unfolding when_at ◌>>=◌ if◌then◌otherwise◌ give shown_flow
   when_not f = sym (test_fails _ h f)
 
   pub when_stops : (n q : ℕ) → t ≡ outcome.Stopped n q → shown_flow (Stopped n q) ts₁ ws₁ ≡ when_at eval inner e y p (raw ts ws)
@@ -313,7 +313,7 @@ module _ (program code g : List ℕ) (fuel : ℕ) (ts₀ ws₀ : List ℕ) (y p 
     module _ (m : 0 < turns) (ok : Bool) (wsₛ : List ℕ) (c : Passes ws 79 (count g) ok wsₛ) where
       turn_by : whole ≡ go_on (turning (expression_at fuel (setting program code g)) (setting program code g) y p (raw ts ws))
           (λ b. if b then (λ _. statement_at fuel (setting program code g) (y + 1)
-          >>= λ f. continue f (looping (turns - 1) (expression_at fuel (setting program code g)) (setting program code g) y p (statement_at fuel (setting program code g) (y + 1)))) else
+          >>= λ f. continue f (looping (turns - 1) (expression_at fuel (setting program code g)) (setting program code g) y p (statement_at fuel (setting program code g) (y + 1)))) otherwise
           λ _. give Onward)
       unfolding looping ◌>>=◌
       turn_by =
@@ -334,13 +334,13 @@ module _ (program code g : List ℕ) (fuel : ℕ) (ts₀ ws₀ : List ℕ) (y p 
         loop_stops n q f = sym (turn_by ∙ test_stops _ tested f)
 
         pub loop_ends : t ≡ outcome.No → shown_flow Onward ts₁ ws₁ ≡ whole
-        unfolding if◌then◌else◌ give shown_flow
+        unfolding if◌then◌otherwise◌ give shown_flow
         loop_ends f = sym (turn_by ∙ test_fails _ tested f)
 
         module _ (f : t ≡ outcome.Yes) (r : Flow) (ts₂ ws₂ : List ℕ) (q : shown_flow r ts₂ ws₂ ≡ statement_at fuel (setting program code g) (y + 1) (raw ts₁ ws₁)) where
           into : whole ≡ go_on (statement_at fuel (setting program code g) (y + 1) (raw ts₁ ws₁))
               (λ a. continue a (looping (turns - 1) (expression_at fuel (setting program code g)) (setting program code g) y p (statement_at fuel (setting program code g) (y + 1))))
-          unfolding if◌then◌else◌ ◌>>=◌
+          unfolding if◌then◌otherwise◌ ◌>>=◌
           into = turn_by ∙ test_holds _ tested f
 
           pub loop_fails : (n z : ℕ) → r ≡ Stopped n z → shown_flow (Stopped n z) ts₂ ws₂ ≡ whole
@@ -379,7 +379,7 @@ module _ (program code g : List ℕ) (fuel : ℕ) (ts₀ ws₀ : List ℕ) (a en
     all_short z = sym (l.rest ∙ rw z)
 
     pub all_done : 0 < left → end ≤ at → shown_flow Onward ts ws ≡ all
-    unfolding statements_from if◌then◌else◌ give shown_flow
+    unfolding statements_from if◌then◌otherwise◌ give shown_flow
     all_done m b =
         let d : left ≡ suc (left - 1) = omega arith in
         sym (l.rest ∙ rw d (rw (le-ltb at end b)))
@@ -387,7 +387,7 @@ module _ (program code g : List ℕ) (fuel : ℕ) (ts₀ ws₀ : List ℕ) (a en
     module _ (m : 0 < left) (b : at < end) (r : Flow) (ts₁ ws₁ : List ℕ) (q : shown_flow r ts₁ ws₁ ≡ statement_at fuel (setting program code g) at (raw ts ws)) where
       one_more : all ≡ go_on (statement_at fuel (setting program code g) at (raw ts ws))
           (λ f. continue f (statements_from (left - 1) (statement_at fuel (setting program code g)) (setting program code g) (at + size_in (get_or code at 0)) end))
-      unfolding statements_from if◌then◌else◌ ◌>>=◌
+      unfolding statements_from if◌then◌otherwise◌ ◌>>=◌
       one_more =
           let d : left ≡ suc (left - 1) = omega arith in
           l.rest ∙ rw d (rw (lt-ltb at end b, ← d))

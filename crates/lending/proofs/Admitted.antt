@@ -11,7 +11,7 @@ use lib.Dec.{leb}
 use mir.Syntax.{w64}
 use mir.Val.{Fits}
 use borrow.Author.Tests.{le-leb, lt-leb, leb-true, not-true, not-false}
-use Rattle.meaning.specs.Basics.{if◌then◌else◌}
+use Rattle.meaning.specs.Basics.{if◌then◌otherwise◌}
 use Rattle.meaning.specs.Run.{Run}
 use Rattle.meaning.specs.Program.{Operation, Outcome, checking, drawing, specified}
 use Rattle.meaning.specs.Book.{nothing_yet, book, Answer, number, booked}
@@ -205,11 +205,11 @@ module _ (o : Operation) (runs : Runs o) (program : List ℕ) (width height : �
       refused = asked ∙ sym e ∙ not-true ok t
 
       refused_answer : number 71 0 0 0 ≡ answer call
-      unfolding answer if◌then◌else◌
+      unfolding answer if◌then◌otherwise◌
       refused_answer = rw refused
 
       unchanged : (work : List ℕ) → work ≡ work_after call work
-      unfolding work_after if◌then◌else◌
+      unfolding work_after if◌then◌otherwise◌
       unchanged work = rw refused
 
       pub performed_nothing : Performed call (number 71 0 0 0) tokens code words texts tokens code words texts
@@ -249,11 +249,11 @@ module _ (o : Operation) (runs : Runs o) (program : List ℕ) (width height : �
           }
 
       booked_answer : booked (granted (grants_of g) out) (specified o program width height (suc (steps_granted g))) ≡ answer call
-      unfolding answer run_of if◌then◌else◌
+      unfolding answer run_of if◌then◌otherwise◌
       booked_answer = rw accepted
 
       cleared : (work after : List ℕ) (n : ℕ) → n ≡ length work → after ≡ replicate n 0 → after ≡ work_after call work
-      unfolding work_after if◌then◌else◌
+      unfolding work_after if◌then◌otherwise◌
       cleared work after n l h = h ∙ rw (l, accepted)
 
       pub performed : (a : Answer) → a ≡ booked (granted (grants_of g) out) (specified o program width height (suc (steps_granted g)))
@@ -276,5 +276,5 @@ module _ (program : List ℕ) (width height : ℤ) (g tokens code words texts ou
 
   pub written : out_after_end drawing (book (granted (grants_of g) out) nothing_yet whole.takings) whole.end out
       ≡ out_after (called drawing program width height g tokens code words texts out)
-  unfolding out_after run_of if◌then◌else◌
+  unfolding out_after run_of if◌then◌otherwise◌
   written = rw (accepted drawing draws program width height g tokens code words texts out ok e t)

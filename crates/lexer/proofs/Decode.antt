@@ -7,7 +7,7 @@ use Prim.Native.Nat.{ℕ, zero, suc, ◌-◌, ◌^◌, ◌≤◌, ◌<◌}
 use native.Mathlib.Omega.{arith}
 use lib.ListN.{length, get_or, take, drop, length-drop, length-map, get_or-map}
 use lib.Seq.{drop-cons}
-use Rattle.meaning.specs.Basics.{if◌then◌else◌, laid_over}
+use Rattle.meaning.specs.Basics.{if◌then◌otherwise◌, laid_over}
 use Rattle.meaning.specs.Byte.{is_space}
 use Rattle.meaning.specs.Token.{Token, Front, found, nothing, front, Lexed, lexed, stray, prepend, starting, scan, tokens_of}
 use Rattle.meaning.specs.Grammar.{after_last}
@@ -54,8 +54,8 @@ module _ (P : Token → Type 0) (program : List ℕ)
   begins m at (found k n w) rest h e c ts q = one m (record { kind = k; place = at; text = w }) (rest (n - 1)) (holds at k n w h e) (c (n - 1)) ts q
   begins m at nothing rest h e c ts q = let z : ◌≡◌ {A = ℕ} 0 1 = cc in absurd (omega arith)
 
-  by_if : (m : ℕ) (t : Bool) (x y : Unit {0} → Lexed) → Claim m (x tt) → Claim m (y tt) → Claim m (if t then x else y)
-  unfolding if◌then◌else◌
+  by_if : (m : ℕ) (t : Bool) (x y : Unit {0} → Lexed) → Claim m (x tt) → Claim m (y tt) → Claim m (if t then x otherwise y)
+  unfolding if◌then◌otherwise◌
   by_if m true x y p q = p
   by_if m false x y p q = q
 

@@ -9,7 +9,7 @@ use borrow.Author.Tests.{ne_eqb, eqb-true, leb-true, leb-false}
 use lib.Dec.{eqb, leb}
 use lib.ListN.{length, get_or, take, drop, length-drop, get_or-eq_default}
 use lib.Seq.{length-take-le, drop-drop}
-use Rattle.meaning.specs.Basics.{bytes, if◌then◌else◌, same_text, span}
+use Rattle.meaning.specs.Basics.{bytes, if◌then◌otherwise◌, same_text, span}
 use Rattle.meaning.specs.Byte.{is_letter, is_digit, is_name_part, is_quote, is_sign}
 use Rattle.meaning.specs.Token.{Token, Front, found, nothing, found_name, found_digits, found_string, found_sign, is_double, front, word_kind}
 use Rattle.tokens.specs.Words.{size_of, word_of, kind_in, place_in, size_in, text_in, token_in}
@@ -30,8 +30,8 @@ Fit s nothing = Unit {0}
 
 -- by cases of a test
 by_if : (P : Front → Type 0) (t : Bool) (x y : Unit {0} → Front) → (t ≡ true → P (x tt)) → (t ≡ false → P (y tt))
-    → P (if t then x else y)
-unfolding if◌then◌else◌
+    → P (if t then x otherwise y)
+unfolding if◌then◌otherwise◌
 by_if P true x y f g = f refl
 by_if P false x y f g = g refl
 
@@ -123,12 +123,12 @@ unfolding is_double
 lone b n = rw (ne_eqb b 0 n) (and-false (eqb b 33))
 
 -- the sign alone, or none
-single_fits : (b : ℕ) (bs : List ℕ) → (32 < b) × (b < 128) → Fit (b ∷ bs) (if eqb b 33 then (λ _. nothing) else λ _. found b 1 (b ∷ []))
+single_fits : (b : ℕ) (bs : List ℕ) → (32 < b) × (b < 128) → Fit (b ∷ bs) (if eqb b 33 then (λ _. nothing) otherwise λ _. found b 1 (b ∷ []))
 single_fits b bs r =
     by_if (Fit (b ∷ bs)) (eqb b 33) _ _ (λ _. tt) (λ _. plain (b ∷ bs) b 1 (omega arith) (omega arith) (omega arith))
 
 sign_fits : (b : ℕ) (bs : List ℕ) → (32 < b) × (b < 128) → Fit (b ∷ bs) (found_sign b (get_or bs 0 0))
-unfolding if◌then◌else◌
+unfolding if◌then◌otherwise◌
 sign_fits b [] r = rw (lone b (omega arith)) (single_fits b [] r)
 sign_fits b (c ∷ bs) r =
     by_if (Fit (b ∷ c ∷ bs)) (is_double b c) _ _

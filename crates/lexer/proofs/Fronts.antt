@@ -11,7 +11,7 @@ use borrow.Author.Tests.{eq-eqb, ne_eqb, eqb-true, eqb-false}
 use lib.Dec.{eqb}
 use lib.ListN.{length, get_or, take, drop, length-drop}
 use lib.Seq.{drop-cons, get_or-drop}
-use Rattle.meaning.specs.Basics.{bytes, if◌then◌else◌, span, stands_in}
+use Rattle.meaning.specs.Basics.{bytes, if◌then◌otherwise◌, span, stands_in}
 use Rattle.meaning.specs.Byte.{is_letter, is_digit, is_name_part, is_quote, is_sign, class_of}
 use Rattle.meaning.specs.Token.{nothing, found_name, found_digits, found_string, found_sign, is_double, front, word_kind}
 use Rattle.lexer.specs.Lexing.{from_class, front_word}
@@ -51,17 +51,17 @@ module _ (s : List ℕ) (at : ℕ) where
       is_quote_lem _ ∙ ap (λ (x : ℕ). eqb (class_of x) 4) (get_or-drop i s _ 0 ∙ ap (λ (n : ℕ). get_or s n 0) m)
 
   pub no_first : (c : ℕ) → c ≡ class_of (get_or s i 0) → (c ≡ 2 → ⊥) → 0 ≡ front_word at (found_string (drop i s))
-  unfolding front_word if◌then◌else◌
+  unfolding front_word if◌then◌otherwise◌
   no_first c hc n = rw (first, ← hc, ne_eqb c 2 n)
 
   pub no_last : (c e d : ℕ) → c ≡ class_of (get_or s i 0) → c ≡ 2 → e ≡ end_of 2 s i → d ≡ class_of (get_or s e 0) → (d ≡ 4 → ⊥)
       → 0 ≡ front_word at (found_string (drop i s))
-  unfolding front_word if◌then◌else◌
+  unfolding front_word if◌then◌otherwise◌
   no_last c e d hc h2 q hd n = rw (first, ← hc, h2, last e q, ← hd, ne_eqb d 4 n)
 
   pub string_word : (c e d r : ℕ) → c ≡ class_of (get_or s i 0) → c ≡ 2 → e ≡ end_of 2 s i → d ≡ class_of (get_or s e 0) → d ≡ 4
       → r ≡ 3 + 256 * at + 16777216 * (e + 1 - at) → r ≡ front_word at (found_string (drop i s))
-  unfolding front_word if◌then◌else◌
+  unfolding front_word if◌then◌otherwise◌
   string_word c e d r hc h2 q hd h4 hr =
       let m : e + 1 - at ≡ span is_name_part (drop i s) + 2 = omega (arith, span_same (from_class 2) is_name_part name_part (drop i s)) in
       hr ∙ rw (m, first, ← hc, h2, last e q, ← hd, h4)
@@ -115,40 +115,40 @@ double_none b c h33 h43 h60 h61 h62 =
 
 module _ (b c at r : ℕ) where
   pub sign_double : is_double b c ≡ true → r ≡ b + 128 + 256 * at + 16777216 * 2 → r ≡ front_word at (found_sign b c)
-  unfolding front_word if◌then◌else◌
+  unfolding front_word if◌then◌otherwise◌
   sign_double e h = rw (e) h
 
   pub sign_none : is_double b c ≡ false → b ≡ 33 → 0 ≡ front_word at (found_sign b c)
-  unfolding front_word if◌then◌else◌
+  unfolding front_word if◌then◌otherwise◌
   sign_none e h = rw (e, eq-eqb b 33 h)
 
   pub sign_single : is_double b c ≡ false → (b ≡ 33 → ⊥) → r ≡ b + 256 * at + 16777216 * 1 → r ≡ front_word at (found_sign b c)
-  unfolding front_word if◌then◌else◌
+  unfolding front_word if◌then◌otherwise◌
   sign_single e n h = rw (e, ne_eqb b 33 n) h
 
 -- ---- by class
 module _ (s : List ℕ) (at : ℕ) (h : at < length s) where
   pub front_2 : class_of (get_or s at 0) ≡ 2 → front (drop at s) ≡ found_name (drop at s)
-  unfolding front if◌then◌else◌
+  unfolding front if◌then◌otherwise◌
   front_2 e = rw (drop-cons s at 0, is_letter_lem (get_or s at 0), e)
 
   pub front_3 : class_of (get_or s at 0) ≡ 3 → front (drop at s) ≡ found_digits (drop at s)
-  unfolding front if◌then◌else◌
+  unfolding front if◌then◌otherwise◌
   front_3 e = rw (drop-cons s at 0, is_letter_lem (get_or s at 0), is_digit_lem (get_or s at 0), e)
 
   pub front_4 : class_of (get_or s at 0) ≡ 4 → front (drop at s) ≡ found_string (drop (at + 1) s)
-  unfolding front if◌then◌else◌
+  unfolding front if◌then◌otherwise◌
   front_4 e = rw (add-one at, drop-cons s at 0, is_letter_lem (get_or s at 0), is_digit_lem (get_or s at 0), is_quote_lem (get_or s at 0), e)
 
   pub front_5 : class_of (get_or s at 0) ≡ 5 → front (drop at s) ≡ found_sign (get_or s at 0) (get_or s (at + 1) 0)
-  unfolding front if◌then◌else◌
+  unfolding front if◌then◌otherwise◌
   front_5 e =
       let q : get_or (drop (suc at) s) 0 0 ≡ get_or s (at + 1) 0 = get_or-drop (suc at) s 0 0 ∙ ap (λ (n : ℕ). get_or s n 0) (omega arith) in
       rw (drop-cons s at 0, is_letter_lem (get_or s at 0), is_digit_lem (get_or s at 0), is_quote_lem (get_or s at 0), is_sign_lem (get_or s at 0), e, q)
 
   pub front_none : (c : ℕ) → class_of (get_or s at 0) ≡ c → (c ≡ 2 → ⊥) → (c ≡ 3 → ⊥) → (c ≡ 4 → ⊥) → (c ≡ 5 → ⊥)
       → front (drop at s) ≡ nothing
-  unfolding front if◌then◌else◌
+  unfolding front if◌then◌otherwise◌
   front_none c e h2 h3 h4 h5 =
       let b : ℕ = get_or s at 0 in
       let n2 : is_letter b ≡ false = is_letter_lem b ∙ ne_eqb (class_of b) 2 (λ q. h2 (sym e ∙ q)) in

@@ -10,7 +10,7 @@ use native.Mathlib.Omega.{arith}
 use borrow.Author.Tests.{le-leb, lt-leb}
 use lib.ListN.{length, get_or, drop, drop_of_length-le}
 use lib.Seq.{drop-cons}
-use Rattle.meaning.specs.Basics.{if◌then◌else◌, span}
+use Rattle.meaning.specs.Basics.{if◌then◌otherwise◌, span}
 use Rattle.meaning.specs.Byte.{class_of}
 use Rattle.lexer.specs.Lexing.{from_class}
 
@@ -20,11 +20,11 @@ end_of least s i = i + span (from_class least) (drop i s)
 
 module _ (p : ℕ → Bool) (s : List ℕ) (i : ℕ) where
   stop : i < length s → p (get_or s i 0) ≡ false → i + span p (drop i s) ≡ i
-  unfolding span if◌then◌else◌
+  unfolding span if◌then◌otherwise◌
   stop h e = rw (drop-cons s i 0, e) (add-zero i)
 
   more : i < length s → p (get_or s i 0) ≡ true → i + span p (drop i s) ≡ i + 1 + span p (drop (i + 1) s)
-  unfolding span if◌then◌else◌
+  unfolding span if◌then◌otherwise◌
   more h e = rw (drop-cons s i 0, e, add-one i) (omega arith)
 
 module _ (least : ℕ) (s : List ℕ) (i : ℕ) where
@@ -45,8 +45,8 @@ module _ (least : ℕ) (s : List ℕ) (i : ℕ) where
   end_more h l e = more (from_class least) s i h (rw (le-leb _ _ l, le-leb _ _ e))
 
 -- a run is no longer than the list
-if_le : (b : Bool) {m n : ℕ} → m ≤ n → (if b then (λ _. suc m) else λ _. 0) ≤ suc n
-unfolding if◌then◌else◌
+if_le : (b : Bool) {m n : ℕ} → m ≤ n → (if b then (λ _. suc m) otherwise λ _. 0) ≤ suc n
+unfolding if◌then◌otherwise◌
 if_le true h = suc-le-suc h
 if_le false h = zero-le
 
@@ -56,7 +56,7 @@ span_le p [] = zero-le
 span_le p (x ∷ xs) = if_le (p x) (span_le p xs)
 
 pub span_some : (p : ℕ → Bool) (x : ℕ) (xs : List ℕ) → p x ≡ true → 0 < span p (x ∷ xs)
-unfolding span if◌then◌else◌
+unfolding span if◌then◌otherwise◌
 span_some p x xs e = rw e (suc-le-suc zero-le)
 
 -- two tests that agree give runs of one length

@@ -10,7 +10,7 @@ use native.Mathlib.Omega.{arith}
 use borrow.Author.Tests.{ne_eqb}
 use lib.ListN.{length, get_or, drop, drop_of_length-le}
 use lib.Seq.{drop-cons, drop-drop}
-use Rattle.meaning.specs.Basics.{if◌then◌else◌}
+use Rattle.meaning.specs.Basics.{if◌then◌otherwise◌}
 use Rattle.meaning.specs.Byte.{is_space, class_of}
 use Rattle.meaning.specs.Token.{Token, found, nothing, front, Lexed, lexed, stray, prepend, starting, scan}
 use Rattle.lexer.proofs.Classes.{is_space_lem}
@@ -31,21 +31,21 @@ module _ (s : List ℕ) (at : ℕ) where
   at_end h = rw (drop_of_length-le s {i = at} h)
 
   pub at_space : at < length s → class_of (get_or s at 0) ≡ 1 → here s at ≡ here s (at + 1)
-  unfolding scan if◌then◌else◌
+  unfolding scan if◌then◌otherwise◌
   at_space h e = rw (drop-cons s at 0, is_space_lem (get_or s at 0), e, add-one at)
 
   no_space : (class_of (get_or s at 0) ≡ 1 → ⊥) → is_space (get_or s at 0) ≡ false
   no_space n = is_space_lem (get_or s at 0) ∙ ne_eqb _ 1 n
 
   pub at_stray : at < length s → (class_of (get_or s at 0) ≡ 1 → ⊥) → front (drop at s) ≡ nothing → here s at ≡ stray at
-  unfolding scan if◌then◌else◌ starting
+  unfolding scan if◌then◌otherwise◌ starting
   at_stray h n e =
       let q : front (get_or s at 0 ∷ drop (suc at) s) ≡ nothing = ap front (sym (drop-cons s at 0 h)) ∙ e in
       rw (drop-cons s at 0, no_space n, q)
 
   pub at_token : (k n : ℕ) (w : List ℕ) → at < length s → (class_of (get_or s at 0) ≡ 1 → ⊥) → front (drop at s) ≡ found k n w → 0 < n
       → here s at ≡ prepend (record { kind = k; place = at; text = w }) (here s (at + n))
-  unfolding scan if◌then◌else◌ starting
+  unfolding scan if◌then◌otherwise◌ starting
   at_token k n w h c e l =
       let q : front (get_or s at 0 ∷ drop (suc at) s) ≡ found k n w = ap front (sym (drop-cons s at 0 h)) ∙ e in
       let m : suc at + (n - 1) ≡ at + n = omega arith in

@@ -10,7 +10,7 @@ use lib.IntN.{ℤ, pos}
 use lib.Signed.{mag}
 use mir.Syntax.{w32}
 use mir.Val.{to_z}
-use Rattle.meaning.specs.Basics.{if◌then◌else◌}
+use Rattle.meaning.specs.Basics.{if◌then◌otherwise◌}
 use Rattle.machine.specs.declared.Value.{Value}
 use Rattle.machine.specs.declared.Value.TheVariants.{Integer, Nothing}
 use Rattle.machine.specs.declared.Answer.{Answer}
@@ -78,8 +78,8 @@ module _ {A : Type 0} (p : ℕ) (s : Raw) where
   point_or a b c k =
       rw (integer_or p a s _, integer_or p b s _, text_or p c s _) (three_asked (k (int a) (int b) (handle_in c) s) (stop 20 p s) (is a 1) (is b 1) (is c 2))
 
-  no_group : (b c : Bool) (k : Act A) → cond b ((if c then (λ _. fail 20 p) else λ _. k) s) (stop 20 p s) ≡ cond (b && not c) (k s) (stop 20 p s)
-  unfolding if◌then◌else◌ fail
+  no_group : (b c : Bool) (k : Act A) → cond b ((if c then (λ _. fail 20 p) otherwise λ _. k) s) (stop 20 p s) ≡ cond (b && not c) (k s) (stop 20 p s)
+  unfolding if◌then◌otherwise◌ fail
   no_group true true k = refl
   no_group true false k = refl
   no_group false c k = refl
@@ -257,20 +257,20 @@ module _ (g ws : List ℕ) (p base n : ℕ) where
 module _ (ws g : List ℕ) (number p base n : ℕ) where
   pub performs_10 : {r : Answer} {ws' : List ℕ} → (number ≡ 0 → ⊥) → (number ≡ 1 → ⊥) → (number ≡ 2 → ⊥) → (number ≡ 3 → ⊥) → (number ≡ 4 → ⊥) → (number ≡ 5 → ⊥)
       → (number ≡ 6 → ⊥) → (number ≡ 7 → ⊥) → (number ≡ 8 → ⊥) → (number ≡ 9 → ⊥) → Answers ws (grouped g p base n) r ws' → Answers ws (perform g number p base n) r ws'
-  unfolding perform if◌then◌else◌
+  unfolding perform if◌then◌otherwise◌
   performs_10 a b c d e f h i j k l =
       rw (ne_eqb _ _ a, ne_eqb _ _ b, ne_eqb _ _ c, ne_eqb _ _ d, ne_eqb _ _ e) (rw (ne_eqb _ _ f, ne_eqb _ _ h, ne_eqb _ _ i, ne_eqb _ _ j, ne_eqb _ _ k) l)
 
   pub unknown : 11 ≤ number → Answers ws (call_library g number p base n) (Bad 20 p) ws
-  unfolding call_library if◌then◌else◌ fail shown
+  unfolding call_library if◌then◌otherwise◌ fail shown
   unknown h = record { equal = λ ts. rw (le-ltb number 11 h) }
 
   pub dead_argument : {ok : Bool} → number < 11 → Passes ws 30 (λ p. all_usable p base n) ok ws → not ok ≡ true → Answers ws (call_library g number p base n) (Bad 30 p) ws
-  unfolding call_library if◌then◌else◌ shown
+  unfolding call_library if◌then◌otherwise◌ shown
   dead_argument {ok} h u t = record { equal = λ ts. sym (rw (lt-ltb number 11 h) (after_refusal (λ _. perform g number p base n) p ts (rw (not-true ok t) at u))) }
 
   pub performs : {ok : Bool} {r : Answer} {ws' : List ℕ} → number < 11 → Passes ws 30 (λ p. all_usable p base n) ok ws → not ok ≡ false
       → Answers ws (perform g number p base n) r ws' → Answers ws (call_library g number p base n) r ws'
-  unfolding call_library if◌then◌else◌
+  unfolding call_library if◌then◌otherwise◌
   performs {ok} h u t a =
       record { equal = λ ts. a.equal ts ∙ sym (rw (lt-ltb number 11 h) (after_pass (λ _. perform g number p base n) p ts (rw (not-false ok t) at u))) }

@@ -1,7 +1,7 @@
 -- Looking for the next figure: the loop does what the search does, as with walks.
 use Rattle.std.proofs.Common.{◌≡◌, ℕ, zero, suc, ◌+◌, ◌-◌, ◌^◌, ◌<◌, Bool, true, false, not, eqb, ltb, List, [], length, get_or, set, sym, refl, ap, ◌∙◌, arith, length-set, get_or-set_other, get_or-set_same, le-ltb, lt-ltb, ne_eqb}
 use borrow.Author.Tests.{not-true, not-false, eqb-false}
-use Rattle.meaning.specs.Basics.{if◌then◌else◌}
+use Rattle.meaning.specs.Basics.{if◌then◌otherwise◌}
 use Rattle.machine.specs.Layout.{shapes_granted, shape_place}
 use Rattle.machine.specs.Act.{Gives, Raw, raw, Out, done, stop, Act, go_on, ◌>>=◌, ◌>>◌, give, load, store, held}
 use Rattle.machine.specs.Shapes.{is_group_at}
@@ -29,7 +29,7 @@ module _ (g : List ℕ) (e : ℕ) (l : e < shapes_granted g) where
   keeps_hollow c r = get_or-set_other r.words (shape_place c + 2) (way_place e) _ 0 (λ q. omega arith)
 
   found_keeps : (inside : ℕ → Act ℕ) (d k n : ℕ) → ((r : Raw) → Keeps e r (look_from inside g d (k + 1) n r)) → (found : ℕ) (r : Raw)
-      → Keeps e r ((held >>= λ ws. if eqb found 0 then (λ _. unmark g k >> hollow (component_at g ws k) >> look_from inside g d (k + 1) n) else λ _. give found) r)
+      → Keeps e r ((held >>= λ ws. if eqb found 0 then (λ _. unmark g k >> hollow (component_at g ws k) >> look_from inside g d (k + 1) n) otherwise λ _. give found) r)
   unfolding ◌>>=◌ go_on held give Keeps
   found_keeps inside d k n v found r =
       keeps_either e r (eqb found 0) (λ _. unmark g k >> hollow (component_at g r.words k) >> look_from inside g d (k + 1) n) (λ _. give found)
@@ -48,7 +48,7 @@ module _ (g : List ℕ) (e : ℕ) (l : e < shapes_granted g) where
       (keeps_then e r (mark g k) _ (keeps_mark k r) λ a r₁.
       let r₂ = raw r₁.texts (set r₁.words (way_place d) (way_word k n 0)) in
       keeps_from {A = ℕ} e r₁ r₂
-      ((inside c >>= λ found. held >>= λ ws. if eqb found 0 then (λ _. unmark g k >> hollow (component_at g ws k) >> look_from inside g d (k + 1) n) else λ _. give found) r₂)
+      ((inside c >>= λ found. held >>= λ ws. if eqb found 0 then (λ _. unmark g k >> hollow (component_at g ws k) >> look_from inside g d (k + 1) n) otherwise λ _. give found) r₂)
       (get_or-set_other r₁.words (way_place d) (way_place e) _ 0 (λ q. omega arith))
       (keeps_then e r₂ (inside c) _ (v c r₂) (λ found r₃. found_keeps inside d k n (look_keeps inside d h v n (k + 1)) found r₃)))
       refl)
@@ -76,14 +76,14 @@ kept_there e r o a r' h q = rw q at h
 
 -- what was found is what the whole search gives
 found_above : (g : List ℕ) (d found : ℕ) (r : Raw) → (found ≡ 0 → ⊥) → look_above g d found r ≡ done found r
-unfolding look_above give if◌then◌else◌
+unfolding look_above give if◌then◌otherwise◌
 found_above g zero found r h = refl
 found_above g (suc d) found r h = rw (ne_eqb found 0 h)
 
 -- ---- what is left after a turn
 module _ (g : List ℕ) where
   pub level_any : (d k n : ℕ) (r : Raw) → look_level g d k (within g d n) r ≡ look_under (shapes_granted g - d) g d k n r
-  unfolding look_level within look_under look_from inside_at give if◌then◌else◌
+  unfolding look_level within look_under look_from inside_at give if◌then◌otherwise◌
   level_any d k n r = go (shapes_granted g - d) refl
     where
       go : (b : ℕ) → shapes_granted g - d ≡ b → look_level g d k (within g d n) r ≡ look_under b g d k n r
@@ -100,17 +100,17 @@ module _ (g : List ℕ) where
 
   pub look_climbs : (d k : ℕ) (r r' : Raw) → give_up g (slot_in (get_or r.words (way_place d) 0)) r ≡ done tt r'
       → look_rest g (suc d) k 0 r ≡ look_rest g d (slot_in (get_or r.words (way_place d) 0) + 1) (left_in (get_or r.words (way_place d) 0)) r'
-  unfolding look_rest look_level look_above look_from ◌>>=◌ go_on give load if◌then◌else◌
+  unfolding look_rest look_level look_above look_from ◌>>=◌ go_on give load if◌then◌otherwise◌
   look_climbs d k r r' e = rw e
 
   module _ (d k n : ℕ) (r : Raw) (c : ℕ) (e : c ≡ component_at g r.words k) where
     pub look_passes : passed_over r.words c ≡ true → look_rest g d k (suc n) r ≡ look_rest g d (k + 1) n r
-    unfolding look_rest look_level look_from ◌>>=◌ go_on held if◌then◌else◌
+    unfolding look_rest look_level look_from ◌>>=◌ go_on held if◌then◌otherwise◌
     look_passes h = rw (← e, h)
 
     module _ (h : passed_over r.words c ≡ false) where
       pub look_finds : is_group_at r.words c ≡ false → look_rest g d k (suc n) r ≡ done (k + 1) r
-      unfolding look_rest look_level look_from ◌>>=◌ go_on held give if◌then◌else◌
+      unfolding look_rest look_level look_from ◌>>=◌ go_on held give if◌then◌otherwise◌
       look_finds q = rw (← e, h, q) (found_above g d (k + 1) r (λ z. omega arith))
 
   module _ (d k n : ℕ) (r : Raw) (c : ℕ) (e : c ≡ component_at g r.words k) (h : passed_over r.words c ≡ false) (q : is_group_at r.words c ≡ true) (r₁ : Raw) (f : mark g k r ≡ done tt r₁)
@@ -122,14 +122,14 @@ module _ (g : List ℕ) where
     seen = look_under (shapes_granted g - suc d) g (suc d) (first_at below.words c) (count_at below.words c) below
 
     abbrev after : ℕ → Act ℕ
-    after found = held >>= λ ws. if eqb found 0 then (λ _. unmark g k >> hollow (component_at g ws k) >> look_level g d (k + 1) n) else λ _. give found
+    after found = held >>= λ ws. if eqb found 0 then (λ _. unmark g k >> hollow (component_at g ws k) >> look_level g d (k + 1) n) otherwise λ _. give found
 
     looks_down : look_rest g d k (suc n) r ≡ go_on (go_on seen after) (look_above g d)
-    unfolding look_rest look_level look_from inside_at ◌>>=◌ go_on held store if◌then◌else◌
+    unfolding look_rest look_level look_from inside_at ◌>>=◌ go_on held store if◌then◌otherwise◌
     looks_down = let one : d + 1 ≡ suc d = omega arith in rw (← e, h, q, f, one)
 
     looks_back : (found : ℕ) (r₃ : Raw) → seen ≡ done found r₃ → go_on (after found r₃) (look_above g d) ≡ look_above g (suc d) found r₃
-    unfolding look_above give_up ◌>>=◌ go_on held give load if◌then◌else◌
+    unfolding look_above give_up ◌>>=◌ go_on held give load if◌then◌otherwise◌
     looks_back found r₃ s = go (eqb found 0) refl
       where
         way : get_or r₃.words (way_place d) 0 ≡ way_word k n 0

@@ -1,7 +1,7 @@
 -- Marks, and the searches that use them: what each way through the code does.
 use Rattle.std.proofs.Common.{◌≡◌, ℕ, suc, ◌+◌, ◌-◌, ◌%◌, ◌^◌, ◌<◌, ◌≤◌, Bool, true, false, not, ◌||◌, eqb, ltb, leb, List, length, get_or, set, sym, refl, ap, ◌∙◌, arith, ltb-true, le-ltb, lt-ltb, ne_eqb}
 use borrow.Author.Tests.{not-true, not-false}
-use Rattle.meaning.specs.Basics.{if◌then◌else◌}
+use Rattle.meaning.specs.Basics.{if◌then◌otherwise◌}
 use Rattle.machine.specs.Layout.{loop_unit, shapes_granted, shape_place, Room}
 use Rattle.machine.specs.Act.{Gives, raw, Out, done, stop, Act, go_on, ◌>>=◌, ◌>>◌, give, store, held}
 use Rattle.machine.specs.Shapes.{is_group_at, destroyed_at}
@@ -48,11 +48,11 @@ gives_up g ws k c ws₁ at ws₂ e h f s = record { equal = λ ts. sym (after_gi
 
 module _ (g ws : List ℕ) (k : ℕ) (b : Bool) (e : b ≡ marked_at g ws k) where
   pub no_mark : not b ≡ true → Gives ws (clear_mark g k) tt ws
-  unfolding clear_mark ◌>>=◌ go_on held give if◌then◌else◌
+  unfolding clear_mark ◌>>=◌ go_on held give if◌then◌otherwise◌
   no_mark t = record { equal = λ ts. rw (← e, not-true b t) }
 
   pub mark_cleared : (ws' : List ℕ) → not b ≡ false → Gives ws (unmark g k) tt ws' → Gives ws (clear_mark g k) tt ws'
-  unfolding clear_mark ◌>>=◌ go_on held if◌then◌else◌
+  unfolding clear_mark ◌>>=◌ go_on held if◌then◌otherwise◌
   mark_cleared ws' t h = record { equal = λ ts. h.equal ts ∙ rw (← e, not-false b t) }
 
 module _ (g ws₀ : List ℕ) (n : ℕ) (ws : List ℕ) (k : ℕ) (a : Turns (unmark_from g) 0 n ws₀ ws k) where
@@ -81,11 +81,11 @@ module _ (g ws : List ℕ) (from end k : ℕ) (a : Seeks g ws from end k) where
 
   module _ (h : k < end) (b : Bool) (e : b ≡ marked_at g ws k) where
     pub seek_found : b ≡ true → k + 1 ≡ marked_from g ws from (end - from)
-    unfolding marked_from if◌then◌else◌
+    unfolding marked_from if◌then◌otherwise◌
     seek_found t = let z : end - k ≡ suc (end - (k + 1)) = omega arith in sym (a.rest ∙ rw (z, ← e, t))
 
     pub seek_next : b ≡ false → Seeks g ws from end (k + 1)
-    unfolding marked_from if◌then◌else◌
+    unfolding marked_from if◌then◌otherwise◌
     seek_next t = let z : end - k ≡ suc (end - (k + 1)) = omega arith in record { rest = a.rest ∙ rw (z, ← e, t) }
 
 pub none_behind : (g ws : List ℕ) (k end : ℕ) → end ≤ k → 0 ≡ marked_from g ws (k + 1) (end - k - 1)
@@ -98,11 +98,11 @@ one_behind g ws k end r h e = let z : end - k - 1 ≡ end - (k + 1) = omega arit
 -- ---- the parts of a search
 module _ (g : List ℕ) (d n : ℕ) where
   pub is_within : d < shapes_granted g → n ≡ within g d n
-  unfolding within if◌then◌else◌
+  unfolding within if◌then◌otherwise◌
   is_within h = rw (lt-ltb d (shapes_granted g) h)
 
   pub is_beyond : shapes_granted g ≤ d → 0 ≡ within g d n
-  unfolding within if◌then◌else◌
+  unfolding within if◌then◌otherwise◌
   is_beyond h = rw (le-ltb d (shapes_granted g) h)
 
 -- ---- a search's loop
@@ -117,18 +117,18 @@ then_given (done a r) = refl
 then_given (stop n p r) = refl
 
 within_small : (g : List ℕ) (n : ℕ) → within g 0 n ≤ n
-unfolding within if◌then◌else◌
+unfolding within if◌then◌otherwise◌
 within_small g n = go (ltb 0 (shapes_granted g))
   where
-    go : (b : Bool) → (if b then (λ _. n) else λ _. 0) ≤ n
+    go : (b : Bool) → (if b then (λ _. n) otherwise λ _. 0) ≤ n
     go true = omega arith
     go false = omega arith
 
 within_deep : (g : List ℕ) (n : ℕ) → 0 < within g 0 n → 0 < shapes_granted g
-unfolding within if◌then◌else◌
+unfolding within if◌then◌otherwise◌
 within_deep g n h = go (ltb 0 (shapes_granted g)) refl h
   where
-    go : (b : Bool) → ltb 0 (shapes_granted g) ≡ b → 0 < (if b then (λ _. n) else λ _. 0) → 0 < shapes_granted g
+    go : (b : Bool) → ltb 0 (shapes_granted g) ≡ b → 0 < (if b then (λ _. n) otherwise λ _. 0) → 0 < shapes_granted g
     go true e l = ltb-true 0 (shapes_granted g) e
     go false e l = absurd (omega arith)
 
@@ -200,7 +200,7 @@ module _ (g ws : List ℕ) where
 unfoldable goes_on : List ℕ → ℕ → ℕ → ℕ → ℕ → List ℕ → Act ℕ
 goes_on g end at found turns ws =
     let up = marked_from g ws (at + 1) (end - at - 1) in
-    if not (eqb found 0) || eqb up 0 then (λ _. give found) else λ _. unmark g (up - 1) >> look_behind turns g end (up - 1)
+    if not (eqb found 0) || eqb up 0 then (λ _. give found) otherwise λ _. unmark g (up - 1) >> look_behind turns g end (up - 1)
 
 goes_once : (g : List ℕ) (end at found turns : ℕ) (ws ws₁ : List ℕ) → Gives ws (look_after g at) found ws₁ → (ts : List ℕ)
     → look_behind (suc turns) g end at (raw ts ws) ≡ goes_on g end at found turns ws₁ (raw ts ws₁)
@@ -228,16 +228,16 @@ module _ (g : List ℕ) (end k : ℕ) (ws₀ : List ℕ) where
       turn_by ts = let z : turns ≡ suc (turns - 1) = omega arith in a.rest ts ∙ ap (λ t. look_behind t g end at (raw ts ws)) z ∙ goes_once g end at found (turns - 1) ws ws₁ d ts
 
       pub behind_found : (found ≡ 0 → ⊥) → Gives ws₀ (look_behind end g end k) found ws₁
-      unfolding goes_on give if◌then◌else◌
+      unfolding goes_on give if◌then◌otherwise◌
       behind_found z = record { equal = λ ts. sym (turn_by ts ∙ rw (ne_eqb found 0 z)) }
 
       module _ (z : found ≡ 0) (up : ℕ) (u : up ≡ marked_from g ws₁ (at + 1) (end - at - 1)) where
         pub behind_none : up ≡ 0 → Gives ws₀ (look_behind end g end k) 0 ws₁
-        unfolding goes_on give if◌then◌else◌
+        unfolding goes_on give if◌then◌otherwise◌
         behind_none y = record { equal = λ ts. sym (turn_by ts ∙ rw (z, ← u, y)) }
 
         pub behind_next : (ws₂ : List ℕ) → (up ≡ 0 → ⊥) → Gives ws₁ (unmark g (up - 1)) tt ws₂ → length ws₁ ≡ length ws → length ws₂ ≡ length ws₁ → Climbs g end k ws₀ ws₂ (up - 1) (turns - 1)
-        unfolding goes_on ◌>>=◌ go_on if◌then◌else◌
+        unfolding goes_on ◌>>=◌ go_on if◌then◌otherwise◌
         behind_next ws₂ y m l₁ l₂ = record {
           rest = λ ts. turn_by ts ∙ rw (z, ← u, ne_eqb up 0 y) (after_gift (λ _. look_behind (turns - 1) g end (up - 1)) ts m);
           long = l₂ ∙ l₁ ∙ a.long;

@@ -1,6 +1,6 @@
 -- Looking for the next figure, as a loop does it: the way is kept as in a walk.
 use Rattle.std.specs.Prelude.{◌≡◌, ℕ, zero, suc, ◌+◌, ◌-◌, ◌%◌, ◌^◌, ◌<◌, Bool, ◌&&◌, ◌||◌, List, ◌==◌, nat_lt}
-use Rattle.meaning.specs.Basics.{if◌then◌else◌}
+use Rattle.meaning.specs.Basics.{if◌then◌otherwise◌}
 use Rattle.machine.specs.Layout.{shapes_granted, Room}
 use Rattle.machine.specs.Act.{raw, Out, done, Act, ◌>>=◌, ◌>>◌, give, load, held}
 use Rattle.machine.specs.Shapes.{is_group_at, destroyed_at}
@@ -30,7 +30,7 @@ module _ (g : List ℕ) where
   look_above (suc d) found =
       if found == 0
       then (λ _. load (way_place d) >>= λ w. give_up (slot_in w) >> (look_level d (slot_in w + 1) (left_in w) >>= look_above d))
-      else λ _. give found
+      otherwise λ _. give found
 
   unfoldable pub look_rest : ℕ → ℕ → ℕ → Act ℕ
   look_rest d k n = look_level d k n >>= look_above d
@@ -41,7 +41,7 @@ module _ (g : List ℕ) where
 
 -- how many components are counted at a depth
 unfoldable pub within : List ℕ → ℕ → ℕ → ℕ
-within g d n = if nat_lt d (shapes_granted g) then (λ _. n) else λ _. 0
+within g d n = if nat_lt d (shapes_granted g) then (λ _. n) otherwise λ _. 0
 
 -- ---- a turn
 unfoldable pub SmallBy : Turn → Type 0
@@ -66,4 +66,4 @@ look_after g k = held >>= λ ws. look_under (shapes_granted g) g 0 ((k + 1) % 2 
 
 -- a slot marked no longer, if it is
 unfoldable pub clear_mark : List ℕ → ℕ → Act (Unit {0})
-clear_mark g k = held >>= λ ws. if marked_at g ws k then (λ _. unmark g k) else λ _. give tt
+clear_mark g k = held >>= λ ws. if marked_at g ws k then (λ _. unmark g k) otherwise λ _. give tt

@@ -1,6 +1,6 @@
 -- What code does to the two lent slices: it gives a result, or it stops with a number and its place.
 use Rattle.std.specs.Prelude.{ℕ, ◌+◌, ◌%◌, ◌^◌, ◌≡◌, Bool, true, false, List, get_or, set, leb}
-use Rattle.meaning.specs.Basics.{if◌then◌else◌}
+use Rattle.meaning.specs.Basics.{if◌then◌otherwise◌}
 use Rattle.machine.specs.declared.Value.{Value}
 use Rattle.machine.specs.declared.Value.TheVariants.{Table}
 use Rattle.machine.specs.declared.Answer.{Answer}
@@ -59,7 +59,7 @@ unfoldable pub spend : ℕ → ℕ → ℕ → ℕ → ℕ → Act (Unit {0})
 spend counter granted amount number p r =
     if leb (get_or r.words counter 0 + amount) granted
     then (λ _. done tt (raw r.texts (set r.words counter (get_or r.words counter 0 + amount))))
-    else λ _. stop number p r
+    otherwise λ _. stop number p r
 
 -- a step is counted
 abbrev pub count : List ℕ → ℕ → Act (Unit {0})

@@ -1,6 +1,6 @@
 -- The arguments of a library call, which stand in the words, n of them from the one numbered base on, and the figures that are made of them.
 use Rattle.std.specs.Prelude.{ℕ, zero, suc, ◌+◌, ℤ, pos, ◌+ℤ◌, eqb}
-use Rattle.meaning.specs.Basics.{if◌then◌else◌}
+use Rattle.meaning.specs.Basics.{if◌then◌otherwise◌}
 use Rattle.meaning.specs.Integer.{sum, half}
 use Rattle.machine.specs.declared.Value.{Value}
 use Rattle.machine.specs.Words.{unpacked}
@@ -25,14 +25,14 @@ figure k x y z w t = record { kind = k; a = x; b = y; c = z; d = w; text = t }
 unfoldable pub centre_x : Figure → ℤ
 centre_x s =
     if eqb s.kind 0 then (λ _. half (s.a +ℤ s.c))
-    else λ _. if eqb s.kind 2 then (λ _. sum s.a (half s.c))
-    else λ _. s.a
+    otherwise λ _. if eqb s.kind 2 then (λ _. sum s.a (half s.c))
+    otherwise λ _. s.a
 
 unfoldable pub centre_y : Figure → ℤ
 centre_y s =
     if eqb s.kind 0 then (λ _. half (s.b +ℤ s.d))
-    else λ _. if eqb s.kind 2 then (λ _. sum s.b (half s.d))
-    else λ _. s.b
+    otherwise λ _. if eqb s.kind 2 then (λ _. sum s.b (half s.d))
+    otherwise λ _. s.b
 
 unfoldable pub connecting : Figure → Figure → Figure
 connecting s t = figure 0 (centre_x s) (centre_y s) (centre_x t) (centre_y t) 0

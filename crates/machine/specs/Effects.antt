@@ -1,6 +1,6 @@
 -- What a statement does once its parts are evaluated; these are held as words. p is the statement's place.
 use Rattle.std.specs.Prelude.{ℕ, ◌≡◌, Bool, true, false, not, List, eqb}
-use Rattle.meaning.specs.Basics.{if◌then◌else◌}
+use Rattle.meaning.specs.Basics.{if◌then◌otherwise◌}
 use Rattle.machine.specs.Opcodes.{tag_in, extra_in, tag_assign, tag_return}
 use Rattle.machine.specs.Words.{kind_in, number_in, truth_in, packed, unpacked, kind_truth, kind_shape}
 use Rattle.machine.specs.Act.{raw, Out, done, stop, Act, ◌>>=◌, ◌>>◌, give, refuse, held}
@@ -36,7 +36,7 @@ unfoldable pub copied : List ℕ → ℕ → ℕ → Act ℕ
 copied g p k =
     if eqb (kind_in k) kind_shape
     then (λ _. copy_shape g p (number_in k) >>= λ v. give (packed v))
-    else λ _. give k
+    otherwise λ _. give k
 
 unfoldable pub assigning : List ℕ → ℕ → ℕ → ℕ → Act Flow
 assigning g p n k = do
@@ -51,14 +51,14 @@ assigning g p n k = do
 unfoldable pub finishing : List ℕ → ℕ → ℕ → ℕ → Act Flow
 finishing g w k p =
     if eqb (tag_in w) tag_assign then (λ _. assigning g p (extra_in w) k)
-    else λ _. if eqb (tag_in w) tag_return then (λ _. give (Returned (unpacked k)))
-    else λ _. give Onward
+    otherwise λ _. if eqb (tag_in w) tag_return then (λ _. give (Returned (unpacked k)))
+    otherwise λ _. give Onward
 
 -- ---- tests
 unfoldable pub outcome_in : ℕ → ℕ → Outcome
 outcome_in k p =
-    if eqb (kind_in k) kind_truth then (λ _. if truth_in k then (λ _. outcome.Yes) else λ _. outcome.No)
-    else λ _. outcome.Stopped 20 p
+    if eqb (kind_in k) kind_truth then (λ _. if truth_in k then (λ _. outcome.Yes) otherwise λ _. outcome.No)
+    otherwise λ _. outcome.Stopped 20 p
 
 unfoldable pub saying : ℕ → ℕ → Act Bool
 saying k p r = shown_test (outcome_in k p) r.texts r.words

@@ -1,7 +1,7 @@
 -- Expressions over code. x is the root's place in the code, p the statement's place. How its parts are evaluated, and how a procedure of the program is
 -- called, is handed in.
 use Rattle.std.specs.Prelude.{ℕ, zero, suc, ◌+◌, ◌-◌, List, get_or, eqb, ltb}
-use Rattle.meaning.specs.Basics.{if◌then◌else◌}
+use Rattle.meaning.specs.Basics.{if◌then◌otherwise◌}
 use Rattle.machine.specs.Opcodes.{tag_in, size_in, number_in, library_in, callee_in, argument_root, tag_table, tag_call}
 use Rattle.machine.specs.declared.Value.{Value}
 use Rattle.machine.specs.declared.Value.TheVariants.{Nothing}
@@ -40,12 +40,12 @@ argument_after e a x = argument_root (get_or e.code a 0) a x
 unfoldable pub arguments_from : ℕ → Evaluator → Setting → ℕ → ℕ → ℕ → Act Value
 arguments_from zero inner e y x p = give Nothing
 arguments_from (suc rounds) inner e y x p =
-    if ltb y x then (λ _. argument_of inner y p >> arguments_from rounds inner e (argument_after e (y + 1) x) x p) else λ _. give Nothing
+    if ltb y x then (λ _. argument_of inner y p >> arguments_from rounds inner e (argument_after e (y + 1) x) x p) otherwise λ _. give Nothing
 
 -- by the call's word: a procedure of the library, of the program, or main, which is 20
 unfoldable pub invoked : Invoke → Setting → ℕ → ℕ → ℕ → Act Value
 invoked invoke e w p base =
-    if eqb (library_in w) 11 then (λ _. invoke (callee_in w) p base) else λ _. called e.grants (library_in w) p base
+    if eqb (library_in w) 11 then (λ _. invoke (callee_in w) p base) otherwise λ _. called e.grants (library_in w) p base
 
 unfoldable pub call_at : Evaluator → Invoke → Setting → ℕ → ℕ → ℕ → Act Value
 call_at inner invoke e w x p = do
@@ -61,7 +61,7 @@ second_of inner e w a x p = inner (x - 1) p >>= λ v. applied e.program e.grants
 -- a new table, which has no second part, or one of these
 unfoldable pub first_of : Evaluator → Setting → ℕ → ℕ → ℕ → ℕ → Act Value
 first_of inner e w a x p =
-    if eqb (tag_in w) tag_table then (λ _. sized p a) else λ _. refuse (lacks_table (tag_in w) a) 20 p >> second_of inner e w a x p
+    if eqb (tag_in w) tag_table then (λ _. sized p a) otherwise λ _. refuse (lacks_table (tag_in w) a) 20 p >> second_of inner e w a x p
 
 unfoldable pub operands_at : Evaluator → Setting → ℕ → ℕ → ℕ → Act Value
 operands_at inner e w x p = inner (x - 1 - number_in w) p >>= λ v. first_of inner e w (packed v) x p
@@ -71,5 +71,5 @@ operands_at inner e w x p = inner (x - 1 - number_in w) p >>= λ v. first_of inn
 unfoldable pub expression_by : Evaluator → Invoke → Setting → ℕ → ℕ → ℕ → Act Value
 expression_by inner invoke e w x p =
     if ltb (tag_in w) tag_table then (λ _. leaf p w)
-    else λ _. if eqb (tag_in w) tag_call then (λ _. call_at inner invoke e w x p)
-    else λ _. operands_at inner e w x p
+    otherwise λ _. if eqb (tag_in w) tag_call then (λ _. call_at inner invoke e w x p)
+    otherwise λ _. operands_at inner e w x p

@@ -1,7 +1,7 @@
 -- Statements over code. x is the place of a statement's word in the code, y an expression's root. How expressions are evaluated, and how the statements
 -- inside one are executed, is handed in.
 use Rattle.std.specs.Prelude.{ℕ, zero, suc, ◌+◌, ◌-◌, Bool, get_or, eqb, ltb}
-use Rattle.meaning.specs.Basics.{if◌then◌else◌}
+use Rattle.meaning.specs.Basics.{if◌then◌otherwise◌}
 use Rattle.machine.specs.Opcodes.{tag_in, size_in, extra_in, size_at, tag_declare, tag_update, tag_when, tag_while, tag_foreach, tag_block}
 use Rattle.machine.specs.Words.{packed}
 use Rattle.machine.specs.Layout.{steps_granted}
@@ -48,7 +48,7 @@ Executor = ℕ → Act Flow
 
 -- the statement behind a test, if it holds
 unfoldable pub when_at : Evaluator → Executor → Setting → ℕ → ℕ → Act Flow
-when_at eval inner e y p = test_of eval e y p >>= λ b. if b then (λ _. inner (y + 1)) else λ _. give Onward
+when_at eval inner e y p = test_of eval e y p >>= λ b. if b then (λ _. inner (y + 1)) otherwise λ _. give Onward
 
 -- a test that takes a step
 unfoldable pub turning : Evaluator → Setting → ℕ → ℕ → Act Bool
@@ -57,7 +57,7 @@ turning eval e y p = count e.grants p >> test_of eval e y p
 unfoldable pub looping : ℕ → Evaluator → Setting → ℕ → ℕ → Act Flow → Act Flow
 looping zero eval e y p body = fail 79 p
 looping (suc turns) eval e y p body =
-    turning eval e y p >>= λ b. if b then (λ _. body >>= λ f. continue f (looping turns eval e y p body)) else λ _. give Onward
+    turning eval e y p >>= λ b. if b then (λ _. body >>= λ f. continue f (looping turns eval e y p body)) otherwise λ _. give Onward
 
 -- the statement behind a test, as long as it holds; no more turns are begun than steps are granted, so the turns run out where the steps do
 unfoldable pub repeat_at : Evaluator → Executor → Setting → ℕ → ℕ → Act Flow
@@ -67,7 +67,7 @@ repeat_at eval inner e y p = looping (steps_granted e.grants + 1) eval e y p (in
 unfoldable pub statements_from : ℕ → Executor → Setting → ℕ → ℕ → Act Flow
 statements_from zero inner e a end = give Onward
 statements_from (suc rounds) inner e a end =
-    if ltb a end then (λ _. inner a >>= λ f. continue f (statements_from rounds inner e (a + size_at e.code a) end)) else λ _. give Onward
+    if ltb a end then (λ _. inner a >>= λ f. continue f (statements_from rounds inner e (a + size_at e.code a) end)) otherwise λ _. give Onward
 
 -- a loop over the group that the expression with root y gives; the word before the expression is its variable's number
 unfoldable pub foreach_at : Evaluator → Executor → Setting → ℕ → ℕ → ℕ → Act Flow
@@ -80,13 +80,13 @@ foreach_at eval inner e slot y p = do
 unfoldable pub counted_at : Evaluator → Executor → Setting → ℕ → ℕ → ℕ → Act Flow
 counted_at eval inner e w x p =
     if eqb (tag_in w) tag_declare then (λ _. declaring (extra_in w) p)
-    else λ _. if eqb (tag_in w) tag_update then (λ _. update_at eval e (x + size_in w - 1) p)
-    else λ _. if eqb (tag_in w) tag_when then (λ _. when_at eval inner e (x + extra_in w) p)
-    else λ _. if eqb (tag_in w) tag_foreach then (λ _. foreach_at eval inner e (get_or e.code (x + 1) 0) (x + extra_in w) p)
-    else λ _. if eqb (tag_in w) tag_block then (λ _. statements_from (size_in w + 1) inner e (x + 1) (x + size_in w))
-    else λ _. simple_at eval e w x p
+    otherwise λ _. if eqb (tag_in w) tag_update then (λ _. update_at eval e (x + size_in w - 1) p)
+    otherwise λ _. if eqb (tag_in w) tag_when then (λ _. when_at eval inner e (x + extra_in w) p)
+    otherwise λ _. if eqb (tag_in w) tag_foreach then (λ _. foreach_at eval inner e (get_or e.code (x + 1) 0) (x + extra_in w) p)
+    otherwise λ _. if eqb (tag_in w) tag_block then (λ _. statements_from (size_in w + 1) inner e (x + 1) (x + size_in w))
+    otherwise λ _. simple_at eval e w x p
 
 -- by the statement's word; a loop counts its steps itself
 unfoldable pub statement_by : Evaluator → Executor → Setting → ℕ → ℕ → ℕ → Act Flow
 statement_by eval inner e w x p =
-    if eqb (tag_in w) tag_while then (λ _. repeat_at eval inner e (x + extra_in w) p) else λ _. count e.grants p >> counted_at eval inner e w x p
+    if eqb (tag_in w) tag_while then (λ _. repeat_at eval inner e (x + extra_in w) p) otherwise λ _. count e.grants p >> counted_at eval inner e w x p

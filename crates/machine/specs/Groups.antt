@@ -2,7 +2,7 @@
 -- A walk goes depth first. At depth d it keeps the slot at which it went down, how many components follow there, and how many new ones waited then, so that
 -- it needs no other memory; b falls at each group inside another, and b + d remains the number of shapes granted.
 use Rattle.std.specs.Prelude.{ℕ, zero, suc, ◌+◌, ◌-◌, ◌*◌, ◌/◌, ◌%◌, ◌^◌, Bool, false, ◌&&◌, ◌||◌, List, get_or, set, eqb}
-use Rattle.meaning.specs.Basics.{if◌then◌else◌}
+use Rattle.meaning.specs.Basics.{if◌then◌otherwise◌}
 use Rattle.machine.specs.declared.Value.{Value}
 use Rattle.machine.specs.declared.Value.TheVariants.{Shape}
 use Rattle.machine.specs.declared.Figure.{Figure}
@@ -69,7 +69,7 @@ unfoldable pub copy_shape : List ℕ → ℕ → ℕ → Act Value
 copy_shape g p i =
     held >>= λ ws.
     if is_group_at ws i then (λ _. new_group g p 1 1 (component_place g (first_at ws i)) (count_at ws i) >>= λ j. give (Shape j))
-    else λ _. new_shape g p (figure_at ws i)
+    otherwise λ _. new_shape g p (figure_at ws i)
 
 -- ---- walks
 -- the way at a depth: a slot, how many components follow there, and how many new ones waited
@@ -88,7 +88,7 @@ unfoldable pub each_from : (ℕ → ℕ → ℕ → Act (Unit {0})) → List ℕ
 each_from visit g k zero = give tt
 each_from visit g k (suc n) = do
   ws ← held
-  if destroyed_at ws (component_at g ws k) then (λ _. give tt) else λ _. visit k n (component_at g ws k)
+  if destroyed_at ws (component_at g ws k) then (λ _. give tt) otherwise λ _. visit k n (component_at g ws k)
   each_from visit g (k + 1) n
 
 -- all in group i: reach is done with each component, and leave, at its depth, with each group when all in it was reached
@@ -101,18 +101,18 @@ walk_in reach leave (suc b) g d i =
       store (way_place d) (way_word k n m)
       walk_in reach leave b g (d + 1) c
       leave d)
-    else λ _. give tt)) g (first_at ws i) (count_at ws i)
+    otherwise λ _. give tt)) g (first_at ws i) (count_at ws i)
 
 -- ---- destroying: a shape itself, then all in it
 unfoldable pub destroy_all : List ℕ → ℕ → ℕ → Act (Unit {0})
 destroy_all g p i = do
   destroy i
   ws ← held
-  if is_group_at ws i then (λ _. walk_in (λ c. count g p >> destroy c) (λ d. give tt) (shapes_granted g) g 0 i) else λ _. give tt
+  if is_group_at ws i then (λ _. walk_in (λ c. count g p >> destroy c) (λ d. give tt) (shapes_granted g) g 0 i) otherwise λ _. give tt
 
 -- the same of a shape that may be destroyed already
 unfoldable pub destroy_living : List ℕ → ℕ → ℕ → Act (Unit {0})
-destroy_living g p i = held >>= λ ws. if destroyed_at ws i then (λ _. give tt) else λ _. destroy_all g p i
+destroy_living g p i = held >>= λ ws. if destroyed_at ws i then (λ _. give tt) otherwise λ _. destroy_all g p i
 
 -- ---- shapes made anew by f: of a group its components first, each waiting then, and then a group of those that wait
 unfoldable pub await : ℕ → Act (Unit {0})
@@ -134,7 +134,7 @@ unfoldable pub remake_reached : List ℕ → ℕ → (Figure → Figure) → ℕ
 remake_reached g p f c = do
   count g p
   ws ← held
-  if is_group_at ws c then (λ _. give tt) else λ _. new_shape g p (f (figure_at ws c)) >> await (get_or ws shapes_used 0)
+  if is_group_at ws c then (λ _. give tt) otherwise λ _. new_shape g p (f (figure_at ws c)) >> await (get_or ws shapes_used 0)
 
 unfoldable pub remake_left : List ℕ → ℕ → ℕ → Act (Unit {0})
 remake_left g p d = do
@@ -150,13 +150,13 @@ remake_group g p f i = do
   give (Shape j)
 
 unfoldable pub remake : List ℕ → ℕ → (Figure → Figure) → ℕ → Act Value
-remake g p f i = held >>= λ ws. if is_group_at ws i then (λ _. remake_group g p f i) else λ _. new_shape g p (f (figure_at ws i))
+remake g p f i = held >>= λ ws. if is_group_at ws i then (λ _. remake_group g p f i) otherwise λ _. new_shape g p (f (figure_at ws i))
 
 -- ---- equality
 -- how many of n components from slot k on stand before the first that is not destroyed; n if there is none
 unfoldable pub passed_from : List ℕ → List ℕ → ℕ → ℕ → ℕ
 passed_from g ws k zero = 0
-passed_from g ws k (suc n) = if destroyed_at ws (component_at g ws k) then (λ _. suc (passed_from g ws (k + 1) n)) else λ _. 0
+passed_from g ws k (suc n) = if destroyed_at ws (component_at g ws k) then (λ _. suc (passed_from g ws (k + 1) n)) otherwise λ _. 0
 
 -- The pairs of n components from slot k on and m from slot l on, each by `pair`, which is told how many follow on each side; the first that is not alike, or
 -- the end of the shorter, settles it.
@@ -166,9 +166,9 @@ pairs_from pair g k (suc n) l m =
     held >>= λ ws.
     let y = passed_from g ws l m in
     if destroyed_at ws (component_at g ws k) then (λ _. pairs_from pair g (k + 1) n l m)
-    else λ _. if eqb m y then (λ _. give false)
-    else λ _. pair k n (l + y) (m - y - 1) >>= λ b.
-    if b then (λ _. pairs_from pair g (k + 1) n (l + y + 1) (m - y - 1)) else λ _. give false
+    otherwise λ _. if eqb m y then (λ _. give false)
+    otherwise λ _. pair k n (l + y) (m - y - 1) >>= λ b.
+    if b then (λ _. pairs_from pair g (k + 1) n (l + y + 1) (m - y - 1)) otherwise λ _. give false
 
 -- two shapes: two figures by `same`, two groups pair by pair with a step for each; the way is kept on both sides
 unfoldable pub alike_at : (ℕ → ℕ → Act Bool) → ℕ → List ℕ → ℕ → ℕ → ℕ → ℕ → Act Bool
@@ -182,5 +182,5 @@ alike_at same (suc b) g p d i j =
       store (waiting_place d) (way_word l m 0)
       ws' ← held
       alike_at same b g p (d + 1) (component_at g ws' k) (component_at g ws' l)) g (first_at ws i) (count_at ws i) (first_at ws j) (count_at ws j))
-    else λ _. if is_group_at ws i || is_group_at ws j then (λ _. give false)
-    else λ _. same i j
+    otherwise λ _. if is_group_at ws i || is_group_at ws j then (λ _. give false)
+    otherwise λ _. same i j

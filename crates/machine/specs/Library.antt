@@ -1,6 +1,6 @@
 -- Library procedures on values as the code holds them. The arguments of a call stand in the words, n of them from the one numbered base on.
 use Rattle.std.specs.Prelude.{ℕ, zero, suc, ◌+◌, not, List, ℤ, pos, eqb, ltb}
-use Rattle.meaning.specs.Basics.{if◌then◌else◌}
+use Rattle.meaning.specs.Basics.{if◌then◌otherwise◌}
 use Rattle.machine.specs.declared.Value.{Value}
 use Rattle.machine.specs.declared.Value.TheVariants.{Integer, Nothing, Shape}
 use Rattle.machine.specs.Layout.{argument_place}
@@ -14,7 +14,7 @@ use Rattle.machine.specs.Arguments.{argument, all_usable, figure, centre_x, cent
 
 -- ---- procedures
 unfoldable pub with_figure : {A : Type 0} → ℕ → Value → (Figure → Act A) → Act A
-with_figure p v k = with_shape p v λ i. held >>= λ ws. if is_group_at ws i then (λ _. fail 20 p) else λ _. k (figure_at ws i)
+with_figure p v k = with_shape p v λ i. held >>= λ ws. if is_group_at ws i then (λ _. fail 20 p) otherwise λ _. k (figure_at ws i)
 
 -- four integers make a figure of a kind
 unfoldable pub drawn : List ℕ → ℕ → ℕ → ℕ → ℕ → Act Value
@@ -73,18 +73,18 @@ grouped grants p base n = do
 unfoldable pub perform : List ℕ → ℕ → ℕ → ℕ → ℕ → Act Value
 perform grants number p base n =
     if eqb number 0 then (λ _. drawn grants 0 p base n)
-    else λ _. if eqb number 1 then (λ _. drawn grants 1 p base n)
-    else λ _. if eqb number 2 then (λ _. drawn grants 2 p base n)
-    else λ _. if eqb number 3 then (λ _. drawn_text grants p base n)
-    else λ _. if eqb number 4 then (λ _. connected grants p base n)
-    else λ _. if eqb number 5 then (λ _. labelled grants p base n)
-    else λ _. if eqb number 6 then (λ _. coordinate centre_x p base n)
-    else λ _. if eqb number 7 then (λ _. coordinate centre_y p base n)
-    else λ _. if eqb number 8 then (λ _. destroyed grants p base n)
-    else λ _. if eqb number 9 then (λ _. clearing grants p n)
-    else λ _. grouped grants p base n
+    otherwise λ _. if eqb number 1 then (λ _. drawn grants 1 p base n)
+    otherwise λ _. if eqb number 2 then (λ _. drawn grants 2 p base n)
+    otherwise λ _. if eqb number 3 then (λ _. drawn_text grants p base n)
+    otherwise λ _. if eqb number 4 then (λ _. connected grants p base n)
+    otherwise λ _. if eqb number 5 then (λ _. labelled grants p base n)
+    otherwise λ _. if eqb number 6 then (λ _. coordinate centre_x p base n)
+    otherwise λ _. if eqb number 7 then (λ _. coordinate centre_y p base n)
+    otherwise λ _. if eqb number 8 then (λ _. destroyed grants p base n)
+    otherwise λ _. if eqb number 9 then (λ _. clearing grants p n)
+    otherwise λ _. grouped grants p base n
 
 -- a procedure that is not known is 20 and uses no argument
 unfoldable pub call_library : List ℕ → ℕ → ℕ → ℕ → ℕ → Act Value
 call_library grants number p base n =
-    if ltb number 11 then (λ _. all_usable p base n >> perform grants number p base n) else λ _. fail 20 p
+    if ltb number 11 then (λ _. all_usable p base n >> perform grants number p base n) otherwise λ _. fail 20 p

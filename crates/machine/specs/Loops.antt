@@ -2,7 +2,7 @@
 -- slots at which it went down to that are marked: their words, of the call under way, hold what the loop adds to them (Layout.loop_unit), and all that loops
 -- around it add is less. So going up is a look for the next marked slot, and 64 loops of a call share one word a slot.
 use Rattle.std.specs.Prelude.{ℕ, zero, suc, ◌+◌, ◌-◌, ◌*◌, ◌%◌, ◌^◌, Bool, not, ◌&&◌, ◌||◌, List, get_or, eqb, leb}
-use Rattle.meaning.specs.Basics.{if◌then◌else◌}
+use Rattle.meaning.specs.Basics.{if◌then◌otherwise◌}
 use Rattle.machine.specs.declared.Value.TheVariants.{Shape}
 use Rattle.machine.specs.declared.Flow.{Flow}
 use Rattle.machine.specs.declared.Flow.TheVariants.{Onward, Returned, Stopped}
@@ -42,13 +42,13 @@ look_from inside g d k (suc n) =
     held >>= λ ws.
     let c = component_at g ws k in
     if destroyed_at ws c || (is_group_at ws c && hollow_at ws c) then (λ _. look_from inside g d (k + 1) n)
-    else λ _. if is_group_at ws c then (λ _. do
+    otherwise λ _. if is_group_at ws c then (λ _. do
       mark g k
       store (way_place d) (way_word k n 0)
       found ← inside c
       ws' ← held
-      if eqb found 0 then (λ _. unmark g k >> hollow (component_at g ws' k) >> look_from inside g d (k + 1) n) else λ _. give found)
-    else λ _. give (k + 1)
+      if eqb found 0 then (λ _. unmark g k >> hollow (component_at g ws' k) >> look_from inside g d (k + 1) n) otherwise λ _. give found)
+    otherwise λ _. give (k + 1)
 
 unfoldable pub look_under : ℕ → List ℕ → ℕ → ℕ → ℕ → Act ℕ
 look_under zero g d k n = give 0
@@ -61,7 +61,7 @@ look_in g i = held >>= λ ws. look_under (shapes_granted g) g 0 (first_at ws i) 
 -- the first marked slot of n from k on: the one behind it; 0 if there is none
 unfoldable pub marked_from : List ℕ → List ℕ → ℕ → ℕ → ℕ
 marked_from g ws k zero = 0
-marked_from g ws k (suc n) = if marked_at g ws k then (λ _. k + 1) else λ _. marked_from g ws (k + 1) n
+marked_from g ws k (suc n) = if marked_at g ws k then (λ _. k + 1) otherwise λ _. marked_from g ws (k + 1) n
 
 -- behind slot k: among those that follow it in its group, or else behind the next marked slot below `end`; each turn goes further up
 unfoldable pub look_behind : ℕ → List ℕ → ℕ → ℕ → Act ℕ
@@ -71,14 +71,14 @@ look_behind (suc turns) g end k = do
   found ← look_under (shapes_granted g) g 0 ((k + 1) % 2 ^ 16) (followers_at g ws k)
   ws' ← held
   let up = marked_from g ws' (k + 1) (end - k - 1) in
-      if not (eqb found 0) || eqb up 0 then (λ _. give found) else λ _. unmark g (up - 1) >> look_behind turns g end (up - 1)
+      if not (eqb found 0) || eqb up 0 then (λ _. give found) otherwise λ _. unmark g (up - 1) >> look_behind turns g end (up - 1)
 
 -- no slot of n from k on is marked any longer
 unfoldable pub unmark_from : List ℕ → ℕ → ℕ → Act (Unit {0})
 unmark_from g k zero = give tt
 unmark_from g k (suc n) = do
   ws ← held
-  if marked_at g ws k then (λ _. unmark g k) else λ _. give tt
+  if marked_at g ws k then (λ _. unmark g k) otherwise λ _. give tt
   unmark_from g (k + 1) n
 
 -- ---- turns
@@ -97,7 +97,7 @@ unfoldable pub turns_from : ℕ → Act Flow → List ℕ → ℕ → ℕ → �
 turns_from zero body g p slot end found = fail 79 p
 turns_from (suc turns) body g p slot end found =
     if eqb found 0 then (λ _. give Onward)
-    else λ _. do
+    otherwise λ _. do
       ws ← held
       f ← turn body slot (component_at g ws (found - 1))
       following g end f (look_behind end g end (found - 1) >>= turns_from turns body g p slot end)
@@ -106,19 +106,19 @@ turns_from (suc turns) body g p slot end found =
 unfoldable pub own_turn : Act Flow → List ℕ → ℕ → ℕ → ℕ → ℕ → Act Flow
 own_turn body g p slot k c =
     held >>= λ ws.
-    if is_group_at ws c then (λ _. look_in g c >>= turns_from (steps_granted g + 1) body g p slot k) else λ _. turn body slot c
+    if is_group_at ws c then (λ _. look_in g c >>= turns_from (steps_granted g + 1) body g p slot k) otherwise λ _. turn body slot c
 
 -- the group's own components from slot k on, n of them, with a step for each that is not destroyed when it is reached
 unfoldable pub own_from : Act Flow → List ℕ → ℕ → ℕ → ℕ → ℕ → Act Flow
 own_from body g p slot k zero = give Onward
 own_from body g p slot k (suc n) = do
   ws ← held
-  f ← if destroyed_at ws (component_at g ws k) then (λ _. give Onward) else λ _. count g p >> own_turn body g p slot k (component_at g ws k)
+  f ← if destroyed_at ws (component_at g ws k) then (λ _. give Onward) otherwise λ _. count g p >> own_turn body g p slot k (component_at g ws k)
   following g 0 f (own_from body g p slot (k + 1) n)
 
 -- a call's outermost loop adds 1, and each inside another twice as much
 unfoldable pub inner_unit : ℕ → ℕ
-inner_unit u = if eqb u 0 then (λ _. 1) else λ _. 2 * u % 2 ^ 64
+inner_unit u = if eqb u 0 then (λ _. 1) otherwise λ _. 2 * u % 2 ^ 64
 
 -- a loop over group i
 unfoldable pub loop_over : Act Flow → List ℕ → ℕ → ℕ → ℕ → Act Flow

@@ -1,6 +1,6 @@
 -- Words of code: how a word is laid out, and which word each kind of expression and statement has.
 use Rattle.std.specs.Prelude.{ℕ, ◌+◌, ◌*◌, ◌/◌, ◌%◌, List, get_or, ltb}
-use Rattle.meaning.specs.Basics.{if◌then◌else◌}
+use Rattle.meaning.specs.Basics.{if◌then◌otherwise◌}
 use Rattle.meaning.specs.Tree.{Operator, concatenate, add, subtract, multiply, divide, remainder, shift_right, shift_left, equal, unequal, greater, less}
 
 -- A word: 8 bits for its tag, 24 for how many words its code has, 32 for a number that the tag explains.
@@ -29,7 +29,7 @@ size_at code x = size_in (get_or code x 0)
 
 -- the root of the argument whose first word, w, is at a and holds its size; x if it does not end before x
 unfoldable pub argument_root : ℕ → ℕ → ℕ → ℕ
-argument_root w a x = if ltb (a + size_in w) x then (λ _. a + size_in w) else λ _. x
+argument_root w a x = if ltb (a + size_in w) x then (λ _. a + size_in w) otherwise λ _. x
 
 -- ---- calls
 -- a call's number is that of the library's procedure, 0 to 10, or 11, or 12 for main, and the slot of the name

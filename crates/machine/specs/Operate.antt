@@ -1,7 +1,7 @@
 -- Operators on values as the code holds them.
 use Rattle.std.specs.Prelude.{ℕ, Bool, true, false, not, ◌&&◌, cond, List, ℤ, eqb}
 use Rattle.std.specs.Int.Signed.{lt_z}
-use Rattle.meaning.specs.Basics.{if◌then◌else◌, same_text}
+use Rattle.meaning.specs.Basics.{if◌then◌otherwise◌, same_text}
 use Rattle.meaning.specs.Integer.{sum, difference, product, quotient, shifted_left, shifted_right, is_zero, same_integer}
 use Rattle.meaning.specs.Integer as Integer
 use Rattle.machine.specs.Opcodes.{tag_concatenate, tag_add, tag_subtract, tag_multiply, tag_divide, tag_remainder, tag_shift_right, tag_shift_left, tag_equal, tag_unequal, tag_greater, tag_less}
@@ -57,7 +57,7 @@ with_shape p (Table t) k = fail 20 p
 with_shape p (Shape i) k = k i
 
 unfoldable pub with_group : {A : Type 0} → ℕ → Value → (ℕ → Act A) → Act A
-with_group p v k = with_shape p v λ i. held >>= λ ws. if is_group_at ws i then (λ _. k i) else λ _. fail 20 p
+with_group p v k = with_shape p v λ i. held >>= λ ws. if is_group_at ws i then (λ _. k i) otherwise λ _. fail 20 p
 
 -- ---- figures
 -- each x coordinate by f, each y coordinate by g
@@ -191,18 +191,18 @@ equated program grants f p v w r = answered program grants p f (equality program
 unfoldable pub operate_on : List ℕ → List ℕ → ℕ → ℕ → Value → Value → Act Value
 operate_on program grants tag p v w =
     if eqb tag tag_concatenate then (λ _. joined program grants p v w)
-    else λ _. if eqb tag tag_add then (λ _. calculated grants false sum plus_y p v w)
-    else λ _. if eqb tag tag_subtract then (λ _. calculated grants false difference minus_y p v w)
-    else λ _. if eqb tag tag_multiply then (λ _. calculated grants false product scaled_up p v w)
-    else λ _. if eqb tag tag_divide then (λ _. calculated grants true quotient scaled_down p v w)
-    else λ _. if eqb tag tag_remainder then (λ _. remaindered p v w)
-    else λ _. if eqb tag tag_shift_right then (λ _. calculated grants false shifted_right plus_x p v w)
-    else λ _. if eqb tag tag_shift_left then (λ _. calculated grants false shifted_left minus_x p v w)
-    else λ _. if eqb tag tag_equal then (λ _. equated program grants (λ b. b) p v w)
-    else λ _. if eqb tag tag_unequal then (λ _. equated program grants not p v w)
-    else λ _. if eqb tag tag_greater then (λ _. compared (λ a b. lt_z b a) p v w)
-    else λ _. if eqb tag tag_less then (λ _. compared lt_z p v w)
-    else λ _. fail 20 p
+    otherwise λ _. if eqb tag tag_add then (λ _. calculated grants false sum plus_y p v w)
+    otherwise λ _. if eqb tag tag_subtract then (λ _. calculated grants false difference minus_y p v w)
+    otherwise λ _. if eqb tag tag_multiply then (λ _. calculated grants false product scaled_up p v w)
+    otherwise λ _. if eqb tag tag_divide then (λ _. calculated grants true quotient scaled_down p v w)
+    otherwise λ _. if eqb tag tag_remainder then (λ _. remaindered p v w)
+    otherwise λ _. if eqb tag tag_shift_right then (λ _. calculated grants false shifted_right plus_x p v w)
+    otherwise λ _. if eqb tag tag_shift_left then (λ _. calculated grants false shifted_left minus_x p v w)
+    otherwise λ _. if eqb tag tag_equal then (λ _. equated program grants (λ b. b) p v w)
+    otherwise λ _. if eqb tag tag_unequal then (λ _. equated program grants not p v w)
+    otherwise λ _. if eqb tag tag_greater then (λ _. compared (λ a b. lt_z b a) p v w)
+    otherwise λ _. if eqb tag tag_less then (λ _. compared lt_z p v w)
+    otherwise λ _. fail 20 p
 
 -- a shape among the sides must not be destroyed by now
 unfoldable pub operate : List ℕ → List ℕ → ℕ → ℕ → Value → Value → Act Value

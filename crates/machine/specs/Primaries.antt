@@ -2,7 +2,7 @@
 use Rattle.std.specs.Prelude.{ℕ, ◌*◌, ◌-◌, Bool, not, ◌&&◌, List, eqb, ltb}
 use Rattle.std.specs.Int.{w32}
 use Rattle.std.proofs.Common.{to_z}
-use Rattle.meaning.specs.Basics.{if◌then◌else◌}
+use Rattle.meaning.specs.Basics.{if◌then◌otherwise◌}
 use Rattle.meaning.specs.Integer.{is_negative}
 use Rattle.machine.specs.Opcodes.{tag_in, number_in, tag_number, tag_string, tag_none, tag_truth, tag_entry, first_operator}
 use Rattle.machine.specs.declared.Value.{Value}
@@ -21,10 +21,10 @@ use Rattle.machine.specs.Library.{call_library}
 unfoldable pub leaf : ℕ → ℕ → Act Value
 leaf p w =
     if eqb (tag_in w) tag_number then (λ _. give (Integer (to_z w32 (number_in w))))
-    else λ _. if eqb (tag_in w) tag_string then (λ _. give (Text (2 * number_in w)))
-    else λ _. if eqb (tag_in w) tag_none then (λ _. give Nothing)
-    else λ _. if eqb (tag_in w) tag_truth then (λ _. give (Boolean (eqb (number_in w) 1)))
-    else λ _. variable p (number_in w)
+    otherwise λ _. if eqb (tag_in w) tag_string then (λ _. give (Text (2 * number_in w)))
+    otherwise λ _. if eqb (tag_in w) tag_none then (λ _. give Nothing)
+    otherwise λ _. if eqb (tag_in w) tag_truth then (λ _. give (Boolean (eqb (number_in w) 1)))
+    otherwise λ _. variable p (number_in w)
 
 -- a new table by its size: 20 if that is no integer, 40 if it is negative
 unfoldable pub sized : ℕ → ℕ → Act Value
@@ -37,7 +37,7 @@ lacks_table tag a = ltb tag first_operator && not (eqb (kind_in a) kind_table)
 -- a table read or an operator, by its tag, on its two parts
 unfoldable pub applied : List ℕ → List ℕ → ℕ → ℕ → ℕ → ℕ → Act Value
 applied program g tag p a b =
-    if eqb tag tag_entry then (λ _. read_entry program g p (Words.number_in a) b) else λ _. operate program g tag p (unpacked a) (unpacked b)
+    if eqb tag tag_entry then (λ _. read_entry program g p (Words.number_in a) b) otherwise λ _. operate program g tag p (unpacked a) (unpacked b)
 
 -- an argument, pushed
 unfoldable pub push_word : ℕ → ℕ → Act Value

@@ -1,7 +1,7 @@
 -- A procedure of the program called: its variables take the words of the stack above the arguments; what belongs to its caller is kept, and comes back at the
 -- return. p is the place of the statement that calls, base the number of the first argument on the stack, top the stack's height above the last.
 use Rattle.std.specs.Prelude.{ℕ, zero, suc, ◌+◌, ◌-◌, ◌*◌, ◌%◌, ◌^◌, not, List, get_or, eqb, ltb}
-use Rattle.meaning.specs.Basics.{if◌then◌else◌}
+use Rattle.meaning.specs.Basics.{if◌then◌otherwise◌}
 use Rattle.machine.specs.Opcodes.{table_place, start_in, parameters_in, body_in, frame_in}
 use Rattle.machine.specs.declared.Value.{Value}
 use Rattle.machine.specs.declared.Value.TheVariants.{Nothing}
@@ -42,7 +42,7 @@ recall c = do
 -- ---- a frame from top on
 -- its k-th word: m parameters are declared and hold none, the k-th as the variable numbered k
 unfoldable pub first_word : ℕ → ℕ → ℕ
-first_word m k = if ltb k m then (λ _. packed Nothing + 2 ^ 48 * (k % 65536)) else λ _. 0
+first_word m k = if ltb k m then (λ _. packed Nothing + 2 ^ 48 * (k % 65536)) otherwise λ _. 0
 
 -- n words from the k-th on
 unfoldable pub frame_from : ℕ → ℕ → ℕ → ℕ → Act (Unit {0})

@@ -1,6 +1,6 @@
 -- What shapes show: the figures that they are or hold, and the walk that counts these and the bytes of their lines.
 use Rattle.std.specs.Prelude.{ℕ, zero, suc, ◌+◌, ◌%◌, ◌^◌, List, [], ◌∷◌, ◌++◌, get_or}
-use Rattle.meaning.specs.Basics.{if◌then◌else◌}
+use Rattle.meaning.specs.Basics.{if◌then◌otherwise◌}
 use Rattle.machine.specs.declared.Value.{Value}
 use Rattle.machine.specs.declared.Value.TheVariants.{Integer, Text, Boolean, Nothing, Table, Shape}
 use Rattle.machine.specs.Words.{unpacked}
@@ -15,12 +15,12 @@ use Rattle.machine.specs.Variables.{holding_of}
 unfoldable pub shown_from : (ℕ → List ℕ) → List ℕ → List ℕ → ℕ → ℕ → List ℕ
 shown_from inside g ws k zero = []
 shown_from inside g ws k (suc n) =
-    (if destroyed_at ws (component_at g ws k) then (λ _. []) else λ _. inside (component_at g ws k)) ++ shown_from inside g ws (k + 1) n
+    (if destroyed_at ws (component_at g ws k) then (λ _. []) otherwise λ _. inside (component_at g ws k)) ++ shown_from inside g ws (k + 1) n
 
 -- a figure itself, or those that a group holds, depth first; b as in walks
 unfoldable pub figures_in : ℕ → List ℕ → List ℕ → ℕ → List ℕ
 figures_in zero g ws i = []
-figures_in (suc b) g ws i = if is_group_at ws i then (λ _. shown_from (figures_in b g ws) g ws (first_at ws i) (count_at ws i)) else λ _. i ∷ []
+figures_in (suc b) g ws i = if is_group_at ws i then (λ _. shown_from (figures_in b g ws) g ws (first_at ws i) (count_at ws i)) otherwise λ _. i ∷ []
 
 -- ---- the walk: `size` gives how long the line of a figure is; the sum is that of words
 unfoldable pub measure : (Raw → ℕ → ℕ) → ℕ → Act (Unit {0})
@@ -31,14 +31,14 @@ unfoldable pub show_reached : (Raw → ℕ → ℕ) → List ℕ → ℕ → Act
 show_reached size g c = do
   count g 0
   ws ← held
-  if is_group_at ws c then (λ _. give tt) else λ _. measure size c
+  if is_group_at ws c then (λ _. give tt) otherwise λ _. measure size c
 
 unfoldable pub show : (Raw → ℕ → ℕ) → List ℕ → ℕ → Act (Unit {0})
 show size g i =
     held >>= λ ws.
     if destroyed_at ws i then (λ _. give tt)
-    else λ _. if is_group_at ws i then (λ _. walk_in (show_reached size g) (λ d. give tt) (shapes_granted g) g 0 i)
-    else λ _. measure size i
+    otherwise λ _. if is_group_at ws i then (λ _. walk_in (show_reached size g) (λ d. give tt) (shapes_granted g) g 0 i)
+    otherwise λ _. measure size i
 
 unfoldable pub show_in : (Raw → ℕ → ℕ) → List ℕ → Value → Act (Unit {0})
 show_in size g (Integer z) = give tt

@@ -1,6 +1,6 @@
 -- Entries of tables, four words each: the table that owns it (40 bits) and a link, its key, its value, and a word of the index.
 use Rattle.std.specs.Prelude.{ℕ, zero, suc, ◌+◌, ◌-◌, ◌*◌, ◌/◌, ◌%◌, ◌^◌, Bool, ◌&&◌, List, [], ◌∷◌, get_or, set, eqb, leb, ltb}
-use Rattle.meaning.specs.Basics.{if◌then◌else◌, same_text}
+use Rattle.meaning.specs.Basics.{if◌then◌otherwise◌, same_text}
 use Rattle.machine.specs.declared.Value.{Value}
 use Rattle.machine.specs.Words.{kind_in, number_in, handle_in, unpacked}
 use Rattle.machine.specs.Layout.{entries_used, entries_made, entries_granted, shape_place, entry_place}
@@ -21,8 +21,8 @@ same_figure program ts ws i j =
 unfoldable pub same_key : List ℕ → List ℕ → List ℕ → ℕ → ℕ → Bool
 same_key program ts ws a b =
     if eqb (kind_in a) 2 && eqb (kind_in b) 2 then (λ _. same_text (text_of program ts (handle_in a)) (text_of program ts (handle_in b)))
-    else λ _. if eqb (kind_in a) 6 && eqb (kind_in b) 6 then (λ _. same_figure program ts ws (number_in a) (number_in b))
-    else λ _. eqb a b
+    otherwise λ _. if eqb (kind_in a) 6 && eqb (kind_in b) 6 then (λ _. same_figure program ts ws (number_in a) (number_in b))
+    otherwise λ _. eqb a b
 
 -- ---- entries
 abbrev pub owner_at : List ℕ → List ℕ → ℕ → ℕ
@@ -47,8 +47,8 @@ figure_content program ts ws i =
 unfoldable pub content_of : List ℕ → List ℕ → List ℕ → ℕ → List ℕ
 content_of program ts ws key =
     if eqb (kind_in key) 2 then (λ _. text_of program ts (handle_in key))
-    else λ _. if eqb (kind_in key) 6 then (λ _. figure_content program ts ws (number_in key))
-    else λ _. number_in key ∷ []
+    otherwise λ _. if eqb (kind_in key) 6 then (λ _. figure_content program ts ws (number_in key))
+    otherwise λ _. number_in key ∷ []
 
 abbrev pub hashed : ℕ → ℕ → ℕ
 hashed h x = (h * 31 + x) % 2 ^ 32
@@ -76,15 +76,15 @@ unfoldable pub walk : (ℕ → Bool) → (ℕ → ℕ) → ℕ → ℕ → ℕ
 walk meets link zero k = 0
 walk meets link (suc turns) k =
     if eqb k 0 then (λ _. 0)
-    else λ _. if meets (k - 1) then (λ _. k)
-    else λ _. if ltb (link (k - 1)) k then (λ _. walk meets link turns (link (k - 1)))
-    else λ _. 0
+    otherwise λ _. if meets (k - 1) then (λ _. k)
+    otherwise λ _. if ltb (link (k - 1)) k then (λ _. walk meets link turns (link (k - 1)))
+    otherwise λ _. 0
 
 -- the place behind the entry of a table with a key; 0 if there is none
 unfoldable pub find_entry : List ℕ → List ℕ → List ℕ → List ℕ → ℕ → ℕ → ℕ
 find_entry program g ts ws t key =
     let head = get_or ws (head_place g (bucket_of program g ts ws t key)) 0 in
-    if leb head (entries_granted g) then (λ _. walk (matches program g ts ws t key) (link_at g ws) head head) else λ _. 0
+    if leb head (entries_granted g) then (λ _. walk (matches program g ts ws t key) (link_at g ws) head head) otherwise λ _. 0
 
 -- ---- a group is no key
 abbrev pub is_group_key : List ℕ → ℕ → Bool
@@ -122,7 +122,7 @@ add_entry program g t key value p r = (do
 -- the entry is overwritten, or a new one added
 unfoldable pub store_in : List ℕ → List ℕ → ℕ → ℕ → ℕ → ℕ → ℕ → Act (Unit {0})
 store_in program g t key value p found =
-    if eqb found 0 then (λ _. add_entry program g t key value p) else λ _. store (entry_place g (found - 1) + 2) value
+    if eqb found 0 then (λ _. add_entry program g t key value p) otherwise λ _. store (entry_place g (found - 1) + 2) value
 
 unfoldable pub store_entry : List ℕ → List ℕ → ℕ → ℕ → ℕ → ℕ → Act (Unit {0})
 store_entry program g t key value p r =

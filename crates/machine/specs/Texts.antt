@@ -1,6 +1,6 @@
 -- Texts: a part of the program or of the text store. A handle holds which, where and how long: 1, 16 and 16 bits.
 use Rattle.std.specs.Prelude.{ℕ, ◌+◌, ◌*◌, ◌/◌, ◌%◌, List, ◌++◌, take, drop, eqb}
-use Rattle.meaning.specs.Basics.{if◌then◌else◌, laid_over}
+use Rattle.meaning.specs.Basics.{if◌then◌otherwise◌, laid_over}
 use Rattle.machine.specs.declared.Value.{Value}
 use Rattle.machine.specs.declared.Value.TheVariants.{Text}
 use Rattle.machine.specs.Layout.{text_used, text_granted}
@@ -25,7 +25,7 @@ part start size s = take size (drop start s)
 -- the text that a handle stands for: of the program if the origin is 0, else of the text store
 unfoldable pub text_of : List ℕ → List ℕ → ℕ → List ℕ
 text_of program texts h =
-    if eqb (origin_in h) 0 then (λ _. part (start_in h) (size_in h) program) else λ _. part (start_in h) (size_in h) texts
+    if eqb (origin_in h) 0 then (λ _. part (start_in h) (size_in h) program) otherwise λ _. part (start_in h) (size_in h) texts
 
 -- a text laid into the store from a place on, as far as the store reaches
 unfoldable pub laid_at : List ℕ → ℕ → List ℕ → List ℕ

@@ -1,7 +1,7 @@
 -- Variables by number, in the frame of their call: words one after the other on the stack. A word's lower 48 bits are what the variable of that number holds, 0 if
 -- it is not declared; its upper bits are a list of their own, the variables' numbers in the order of their declarations.
 use Rattle.std.specs.Prelude.{ℕ, zero, suc, ◌+◌, ◌-◌, ◌*◌, ◌/◌, ◌%◌, ◌^◌, Bool, false, not, List, get_or, eqb}
-use Rattle.meaning.specs.Basics.{if◌then◌else◌}
+use Rattle.meaning.specs.Basics.{if◌then◌otherwise◌}
 use Rattle.machine.specs.declared.Value.{Value}
 use Rattle.machine.specs.declared.Value.TheVariants.{Integer, Text, Boolean, Nothing, Table, Shape}
 use Rattle.machine.specs.Words.{packed, unpacked}
@@ -88,7 +88,7 @@ declare n p = do
 
 -- declared, if it is not
 unfoldable pub declare_once : ℕ → Act (Unit {0})
-declare_once n = held >>= λ ws. if is_declared ws n then (λ _. give tt) else λ _. declare n 0
+declare_once n = held >>= λ ws. if is_declared ws n then (λ _. give tt) otherwise λ _. declare n 0
 
 -- ---- the scene
 -- the shape that a value is, destroyed with all in it

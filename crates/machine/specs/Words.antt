@@ -2,7 +2,7 @@
 use Rattle.std.specs.Prelude.{ℕ, ◌+◌, ◌*◌, ◌/◌, ◌%◌, ◌^◌, Bool, cond, eqb}
 use Rattle.std.specs.Int.{w32}
 use Rattle.std.proofs.Common.{to_z}
-use Rattle.meaning.specs.Basics.{if◌then◌else◌}
+use Rattle.meaning.specs.Basics.{if◌then◌otherwise◌}
 use Rattle.meaning.specs.Integer.{bits}
 use Rattle.machine.specs.declared.Value.{Value}
 use Rattle.machine.specs.declared.Value.TheVariants.{Integer, Text, Boolean, Nothing, Table, Shape}
@@ -50,8 +50,8 @@ packed (Shape i) = 6 + 8 * i
 unfoldable pub unpacked : ℕ → Value
 unpacked w =
     if eqb (kind_in w) kind_integer then (λ _. Integer (to_z w32 (number_in w)))
-    else λ _. if eqb (kind_in w) kind_text then (λ _. Text (handle_in w))
-    else λ _. if eqb (kind_in w) kind_truth then (λ _. Boolean (truth_in w))
-    else λ _. if eqb (kind_in w) kind_table then (λ _. Table (number_in w))
-    else λ _. if eqb (kind_in w) kind_shape then (λ _. Shape (number_in w))
-    else λ _. Nothing
+    otherwise λ _. if eqb (kind_in w) kind_text then (λ _. Text (handle_in w))
+    otherwise λ _. if eqb (kind_in w) kind_truth then (λ _. Boolean (truth_in w))
+    otherwise λ _. if eqb (kind_in w) kind_table then (λ _. Table (number_in w))
+    otherwise λ _. if eqb (kind_in w) kind_shape then (λ _. Shape (number_in w))
+    otherwise λ _. Nothing

@@ -6,7 +6,7 @@ use mathlib.Core.List.{List, [], ◌∷◌, ◌++◌}
 use native.Mathlib.Omega.{arith}
 use lib.Dec.{eqb}
 use borrow.Author.Tests.{eq-eqb}
-use Rattle.meaning.specs.Basics.{if◌then◌else◌}
+use Rattle.meaning.specs.Basics.{if◌then◌otherwise◌}
 use Rattle.meaning.specs.Run.{Resource, steps, shapes, entries, text_bytes, calls, picture, Taking, Event, taken, gave_back}
 use Rattle.meaning.specs.Book.{Amounts, resource_number, added, lowered, fits, Booked, all_fit, lacking, book}
 
@@ -58,8 +58,8 @@ on_fit (all_fit total) k = k total
 on_fit (lacking t total) k = lacking t total
 
 if_fit : (b : Bool) (x y : Unit {0} → Booked) (k : Amounts → Booked) →
-    on_fit (if b then x else y) k ≡ if b then (λ _. on_fit (x tt) k) else λ _. on_fit (y tt) k
-unfolding if◌then◌else◌
+    on_fit (if b then x otherwise y) k ≡ if b then (λ _. on_fit (x tt) k) otherwise λ _. on_fit (y tt) k
+unfolding if◌then◌otherwise◌
 if_fit true x y k = refl
 if_fit false x y k = refl
 
@@ -73,9 +73,9 @@ book_append g total (gave_back ∷ es) fs = book_append g (lowered total) es fs
 -- one taking: it fits and the book goes on, or it stops
 pub book_cons : (g total : Amounts) (t : Taking) (es : List Event) → fits g total t ≡ true →
     book g total (taken t ∷ es) ≡ book g (added total t) es
-unfolding book if◌then◌else◌
+unfolding book if◌then◌otherwise◌
 book_cons g total t es e = rw e
 
 pub book_stop : (g total : Amounts) (t : Taking) (es : List Event) → fits g total t ≡ false → book g total (taken t ∷ es) ≡ lacking t total
-unfolding book if◌then◌else◌
+unfolding book if◌then◌otherwise◌
 book_stop g total t es e = rw e

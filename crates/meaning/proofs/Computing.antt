@@ -20,7 +20,7 @@ use Rattle.meaning.specs.Book
 use Rattle.meaning.specs.Call
 
 unfoldable pub everything : Unit {0}
-unfolding Basics.if◌then◌else◌ Basics.same_text Basics.stands_in Basics.span Basics.laid_over Byte.is_space Byte.is_letter
+unfolding Basics.if◌then◌otherwise◌ Basics.same_text Basics.stands_in Basics.span Basics.laid_over Byte.is_space Byte.is_letter
     Byte.is_digit Byte.is_name_part Byte.is_quote Byte.is_sign Byte.class_of Token.word_kind Token.is_double Token.front
     Token.prepend Token.starting Token.scan Token.tokens_of Grammar.after Grammar.expect Grammar.numeral_from
     Grammar.operator_of Grammar.opening Grammar.arguments_from Grammar.arguments Grammar.primary Grammar.operand

@@ -8,7 +8,7 @@ use native.Mathlib.Omega.{arith}
 use lib.Dec.{ltb}
 use lib.ListN.{get_or}
 use borrow.Author.Tests.{ltb-true, ltb-false, le-leb}
-use Rattle.meaning.specs.Basics.{bytes, if◌then◌else◌}
+use Rattle.meaning.specs.Basics.{bytes, if◌then◌otherwise◌}
 use Rattle.meaning.specs.Byte.{is_digit}
 use Rattle.meaning.specs.Grammar.{numeral, numeral_from}
 use Rattle.meaning.specs.Picture.{digits_within, digits_of}
@@ -21,11 +21,11 @@ numeral_from_append a (d ∷ ds) es = numeral_from_append (10 * a + (d - 48)) ds
 
 -- One round: the digits of n from those of n / 10. Rounds more than n are enough.
 unfoldable one_round : Bool → List ℕ → ℕ → List ℕ
-unfolding if◌then◌else◌
-one_round t ds n = if t then (λ _. (n + 48) ∷ []) else λ _. ds ++ ((n % 10 + 48) ∷ [])
+unfolding if◌then◌otherwise◌
+one_round t ds n = if t then (λ _. (n + 48) ∷ []) otherwise λ _. ds ++ ((n % 10 + 48) ∷ [])
 
 round_numeral : (t : Bool) (ds : List ℕ) (n : ℕ) → ltb n 10 ≡ t → (10 ≤ n → numeral ds ≡ n / 10) → numeral (one_round t ds n) ≡ n
-unfolding one_round if◌then◌else◌ numeral_from
+unfolding one_round if◌then◌otherwise◌ numeral_from
 round_numeral true ds n e h = omega arith
 round_numeral false ds n e h =
     numeral_from_append 0 ds ((n % 10 + 48) ∷ []) ∙ rw (h (ltb-false n 10 e)) (omega arith)
@@ -54,7 +54,7 @@ all_append [] es h k = k
 all_append (d ∷ ds) es h k = (h.0, all_append ds es h.1 k)
 
 round_digits : (t : Bool) (ds : List ℕ) (n : ℕ) → ltb n 10 ≡ t → AllDigits ds → AllDigits (one_round t ds n)
-unfolding one_round if◌then◌else◌
+unfolding one_round if◌then◌otherwise◌
 round_digits true ds n e h = (digit n (ltb-true n 10 e), tt)
 round_digits false ds n e h = all_append ds ((n % 10 + 48) ∷ []) h (digit (n % 10) (omega arith), tt)
 
@@ -73,7 +73,7 @@ first_append [] es h = absurd (omega arith)
 first_append (d ∷ ds) es h = h
 
 round_first : (t : Bool) (ds : List ℕ) (n : ℕ) → ltb n 10 ≡ t → 0 < n → (10 ≤ n → 48 < get_or ds 0 0) → 48 < get_or (one_round t ds n) 0 0
-unfolding one_round if◌then◌else◌
+unfolding one_round if◌then◌otherwise◌
 round_first true ds n e k h = omega arith
 round_first false ds n e k h = first_append ds ((n % 10 + 48) ∷ []) (h (ltb-false n 10 e))
 
@@ -88,20 +88,20 @@ unfolding digits_of
 first_digits_of n h = let k = within_first (suc n) n (omega arith) h in omega arith
 
 pub digits_of_zero : digits_of 0 ≡ bytes "0"
-unfolding digits_of digits_within if◌then◌else◌
+unfolding digits_of digits_within if◌then◌otherwise◌
 digits_of_zero = refl
 
 -- ---- rounds
 -- more rounds than n change nothing, so what is left with none is never shown
 within_same : (r r' n : ℕ) → n < r → n < r' → digits_within r n ≡ digits_within r' n
-unfolding digits_within if◌then◌else◌
+unfolding digits_within if◌then◌otherwise◌
 within_same zero r' n l l' = absurd (omega arith)
 within_same (suc r) zero n l l' = absurd (omega arith)
 within_same (suc r) (suc r') n l l' = by (ltb n 10) refl (λ k. within_same r r' (n / 10) (omega arith) (omega arith))
   where
     by : (t : Bool) → ltb n 10 ≡ t → (10 ≤ n → digits_within r (n / 10) ≡ digits_within r' (n / 10)) →
-        (if t then (λ _. (n + 48) ∷ []) else λ _. digits_within r (n / 10) ++ ((n % 10 + 48) ∷ []))
-        ≡ (if t then (λ _. (n + 48) ∷ []) else λ _. digits_within r' (n / 10) ++ ((n % 10 + 48) ∷ []))
+        (if t then (λ _. (n + 48) ∷ []) otherwise λ _. digits_within r (n / 10) ++ ((n % 10 + 48) ∷ []))
+        ≡ (if t then (λ _. (n + 48) ∷ []) otherwise λ _. digits_within r' (n / 10) ++ ((n % 10 + 48) ∷ []))
     by true e h = refl
     by false e h = ap (λ (ds : List ℕ). ds ++ ((n % 10 + 48) ∷ [])) (h (ltb-false n 10 e))
 

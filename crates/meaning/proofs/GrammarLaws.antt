@@ -9,7 +9,7 @@ use native.Mathlib.Omega.{arith}
 use lib.ListN.{length, get_or-eq_default}
 use lib.Dec.{eqb, ltb}
 use borrow.Author.Tests.{ltb-true, ltb-false, eqb-true, ne_eqb}
-use Rattle.meaning.specs.Basics.{if◌then◌else◌}
+use Rattle.meaning.specs.Basics.{if◌then◌otherwise◌}
 use Rattle.meaning.specs.Token.{Token, ending, comma, close_brace}
 use Rattle.meaning.specs.Tree.{Operator, Expression, Arguments, argument, Statement, Statements, first, Procedure}
 use Rattle.meaning.specs.Grammar.{Got, good, wrong, after, expect, is, after_last, kind_at, Inside, no_level, level, opening, ReadExpression, arguments_from, arguments, primary, operand}
@@ -55,8 +55,8 @@ module _ {A B : Type 0} where
   opening_ahead P no_level i p h f = bad
   opening_ahead P (level a) i p h f = f a h
 
-if_ahead : {A : Type 0} (b : Bool) {i : ℕ} {x y : Got A} → Ahead i x → Ahead i y → Ahead i (if b then (λ _. x) else λ _. y)
-unfolding if◌then◌else◌
+if_ahead : {A : Type 0} (b : Bool) {i : ℕ} {x y : Got A} → Ahead i x → Ahead i y → Ahead i (if b then (λ _. x) otherwise λ _. y)
+unfolding if◌then◌otherwise◌
 if_ahead true h f = h
 if_ahead false h f = f
 
@@ -186,18 +186,18 @@ module _ {A B : Type 0} where
   after_same i (good a j) k k' h f = f a j h.ahead
   after_same i (wrong n j) k k' h f = refl
 
-if_same : {A : Type 0} (b : Bool) (x y z : Unit {0} → A) → (b ≡ true → x tt ≡ y tt) → (if b then x else z) ≡ (if b then y else z)
-unfolding if◌then◌else◌
+if_same : {A : Type 0} (b : Bool) (x y z : Unit {0} → A) → (b ≡ true → x tt ≡ y tt) → (if b then x otherwise z) ≡ (if b then y otherwise z)
+unfolding if◌then◌otherwise◌
 if_same true x y z h = h refl
 if_same false x y z h = refl
 
-else_same : {A : Type 0} (b : Bool) (x y z : Unit {0} → A) → (b ≡ false → y tt ≡ z tt) → (if b then x else y) ≡ (if b then x else z)
-unfolding if◌then◌else◌
+else_same : {A : Type 0} (b : Bool) (x y z : Unit {0} → A) → (b ≡ false → y tt ≡ z tt) → (if b then x otherwise y) ≡ (if b then x otherwise z)
+unfolding if◌then◌otherwise◌
 else_same true x y z h = refl
 else_same false x y z h = h refl
 
-if_no : {A : Type 0} (b : Bool) (x y : Unit {0} → A) {z : A} → b ≡ false → y tt ≡ z → (if b then x else y) ≡ z
-unfolding if◌then◌else◌
+if_no : {A : Type 0} (b : Bool) (x y : Unit {0} → A) {z : A} → b ≡ false → y tt ≡ z → (if b then x otherwise y) ≡ z
+unfolding if◌then◌otherwise◌
 if_no b x y e h = rw e h
 
 module _ (ts : List Token) where
@@ -277,7 +277,7 @@ module _ (ts : List Token) where
       ap (λ (g : Got (List (List ℕ))). after g λ xs m. good (x ∷ xs) m) (let w = kind_inside 43 j c in parameters_same r r' (j + 1) (omega arith) (omega arith))
 
   procedure_past : (i : ℕ) → length ts ≤ i → procedure ts i ≡ wrong 10 i
-  unfolding procedure expect after if◌then◌else◌
+  unfolding procedure expect after if◌then◌otherwise◌
   procedure_past i l = rw (is_past 3 i l)
 
   procedures_same : (r r' i : ℕ) → length ts - i < r → length ts - i < r' → procedures_from r ts i ≡ procedures_from r' ts i

@@ -8,7 +8,7 @@ use lib.ListN.{length, get_or, length-set}
 use lib.Seq.{get_or-append_seam}
 use lib.Dec.{eqb}
 use borrow.Author.Tests.{eqb-true}
-use Rattle.meaning.specs.Basics.{if◌then◌else◌, same_text}
+use Rattle.meaning.specs.Basics.{if◌then◌otherwise◌, same_text}
 use Rattle.meaning.specs.Value.{Value, none}
 use Rattle.meaning.specs.State.{State, Variable, Content, Shape, Entry, Key, value_in, is_some, assigned, with_variables, no_shape, with_shape, destroy, same_key, matches, entry_in, overwritten}
 use Rattle.meaning.specs.Run.{run, result, go_on, ◌>>=◌, give, refuse, current, become}
@@ -21,7 +21,7 @@ variable x u = record { name = x; holds = u }
 
 -- a name that was not declared is found once it is
 pub value_in_declared : (vs : List Variable) (x : List ℕ) (u : Value) → value_in vs x ≡ Option.none → value_in (vs ++ (variable x u ∷ [])) x ≡ some u
-unfolding value_in if◌then◌else◌
+unfolding value_in if◌then◌otherwise◌
 value_in_declared [] x u e = rw (same_text_same x)
 value_in_declared (v ∷ vs) x u e = go (same_text v.name x) refl (value_in_declared vs x u)
   where
@@ -31,7 +31,7 @@ value_in_declared (v ∷ vs) x u e = go (same_text v.name x) refl (value_in_decl
 
 -- what was assigned to a declared name is read again
 pub value_in_assigned : (vs : List Variable) (x : List ℕ) (u : Value) → is_some (value_in vs x) ≡ true → value_in (assigned vs x u) x ≡ some u
-unfolding value_in assigned is_some if◌then◌else◌
+unfolding value_in assigned is_some if◌then◌otherwise◌
 value_in_assigned [] x u e = cc
 value_in_assigned (v ∷ vs) x u e = go (same_text v.name x) refl (value_in_assigned vs x u)
   where
@@ -40,11 +40,11 @@ value_in_assigned (v ∷ vs) x u e = go (same_text v.name x) refl (value_in_assi
     go false k h = rw (k, value_in, k) (h (rw k at e))
 
 pub length_assigned : (vs : List Variable) (x : List ℕ) (u : Value) → length (assigned vs x u) ≡ length vs
-unfolding assigned if◌then◌else◌
+unfolding assigned if◌then◌otherwise◌
 length_assigned [] x u = refl
 length_assigned (v ∷ vs) x u = go (same_text v.name x) (length_assigned vs x u)
   where
-    go : (t : Bool) → length (assigned vs x u) ≡ length vs → length (if t then (λ _. variable v.name u ∷ vs) else λ _. v ∷ assigned vs x u) ≡ suc (length vs)
+    go : (t : Bool) → length (assigned vs x u) ≡ length vs → length (if t then (λ _. variable v.name u ∷ vs) otherwise λ _. v ∷ assigned vs x u) ≡ suc (length vs)
     go true h = refl
     go false h = ap suc h
 
@@ -57,7 +57,7 @@ declaring_declares p x s e =
 
 -- what other names hold stays
 pub value_in_other : (vs : List Variable) (x y : List ℕ) (u : Value) → same_text x y ≡ false → value_in (assigned vs x u) y ≡ value_in vs y
-unfolding value_in assigned if◌then◌else◌
+unfolding value_in assigned if◌then◌otherwise◌
 value_in_other [] x y u d = refl
 value_in_other (v ∷ vs) x y u d = go (same_text v.name x) refl (value_in_other vs x y u d)
   where
@@ -81,7 +81,7 @@ length_destroy ss i = length-set ss i _
 -- ---- entries
 -- an entry overwritten is read again
 pub entry_in_overwritten : (es : List Entry) (t : ℕ) (k : Key) (u : Value) → is_some (entry_in es t k) ≡ true → entry_in (overwritten es t k u) t k ≡ some u
-unfolding entry_in overwritten is_some if◌then◌else◌
+unfolding entry_in overwritten is_some if◌then◌otherwise◌
 entry_in_overwritten [] t k u e = cc
 entry_in_overwritten (x ∷ xs) t k u e = go (matches x t k) refl (entry_in_overwritten xs t k u)
   where
@@ -92,7 +92,7 @@ entry_in_overwritten (x ∷ xs) t k u e = go (matches x t k) refl (entry_in_over
 -- what other keys and other tables hold stays
 pub entry_in_other : (es : List Entry) (t t' : ℕ) (k k' : Key) (u : Value) → eqb t t' && same_key k k' ≡ false →
     entry_in (overwritten es t k u) t' k' ≡ entry_in es t' k'
-unfolding entry_in overwritten if◌then◌else◌
+unfolding entry_in overwritten if◌then◌otherwise◌
 entry_in_other [] t t' k k' u d = refl
 entry_in_other (x ∷ xs) t t' k k' u d = go (matches x t k) refl (entry_in_other xs t t' k k' u d)
   where
@@ -106,11 +106,11 @@ entry_in_other (x ∷ xs) t t' k k' u d = go (matches x t k) refl (entry_in_othe
 
 -- overwriting keeps the number of entries
 pub length_overwritten : (es : List Entry) (t : ℕ) (k : Key) (u : Value) → length (overwritten es t k u) ≡ length es
-unfolding overwritten if◌then◌else◌
+unfolding overwritten if◌then◌otherwise◌
 length_overwritten [] t k u = refl
 length_overwritten (x ∷ xs) t k u = go (matches x t k) (length_overwritten xs t k u)
   where
-    go : (b : Bool) → length (overwritten xs t k u) ≡ length xs → length (if b then (λ _. record { owner = x.owner; key = x.key; holds = u } ∷ xs) else λ _. x ∷ overwritten xs t k u)
+    go : (b : Bool) → length (overwritten xs t k u) ≡ length xs → length (if b then (λ _. record { owner = x.owner; key = x.key; holds = u } ∷ xs) otherwise λ _. x ∷ overwritten xs t k u)
         ≡ suc (length xs)
     go true h = refl
     go false h = ap suc h

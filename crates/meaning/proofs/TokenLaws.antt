@@ -9,7 +9,7 @@ use lib.ListN.{length, get_or, take, drop}
 use lib.Seq.{drop-drop}
 use lib.Dec.{eqb}
 use borrow.Author.Tests.{eqb-true, ne_eqb}
-use Rattle.meaning.specs.Basics.{bytes, if◌then◌else◌, stands_in, span}
+use Rattle.meaning.specs.Basics.{bytes, if◌then◌otherwise◌, stands_in, span}
 use Rattle.meaning.specs.Byte.{is_space, is_letter, is_digit, is_name_part, is_quote, is_sign}
 use Rattle.meaning.specs.Token.{Token, Front, found, nothing, Lexed, lexed, stray, a_string, word_kind, doubled, is_double, front}
 use Rattle.meaning.specs.Token.{prepend, starting, scan, tokens_of, found_name, found_digits, found_string, found_sign}
@@ -42,8 +42,8 @@ take_again (suc n) [] = refl
 take_again (suc n) (x ∷ xs) = ap (λ (r : List ℕ). x ∷ r) (take_again n xs)
 
 -- a choice between two of which a thing holds
-either : {A : Type 0} (P : A → Type 0) (t : Bool) (x y : Unit {0} → A) → (t ≡ true → P (x tt)) → P (y tt) → P (if t then x else y)
-unfolding if◌then◌else◌
+either : {A : Type 0} (P : A → Type 0) (t : Bool) (x y : Unit {0} → A) → (t ≡ true → P (x tt)) → P (y tt) → P (if t then x otherwise y)
+unfolding if◌then◌otherwise◌
 either P true x y h k = h refl
 either P false x y h k = k
 
@@ -80,11 +80,11 @@ no_double_end b = go (eqb b 0) refl (eqb b 33)
     go true e s = rw (eqb-true b 0 e) (and-false s)
     go false e s = and-false s
 
-single_covers : (b : ℕ) (bs : List ℕ) → is_sign b ≡ true → FrontCover (b ∷ bs) (if eqb b 33 then (λ _. nothing) else λ _. found b 1 (b ∷ []))
+single_covers : (b : ℕ) (bs : List ℕ) → is_sign b ≡ true → FrontCover (b ∷ bs) (if eqb b 33 then (λ _. nothing) otherwise λ _. found b 1 (b ∷ []))
 single_covers b bs e = either (FrontCover (b ∷ bs)) (eqb b 33) (λ _. nothing) (λ _. found b 1 (b ∷ [])) (λ k. tt) (rw (sign_no_string b e))
 
 sign_covers : (b : ℕ) (bs : List ℕ) → is_sign b ≡ true → FrontCover (b ∷ bs) (found_sign b (get_or bs 0 0))
-unfolding if◌then◌else◌
+unfolding if◌then◌otherwise◌
 sign_covers b [] e = rw (no_double_end b) (single_covers b [] e)
 sign_covers b (c ∷ cs) e =
     either (FrontCover (b ∷ c ∷ cs)) (is_double b c) (λ _. found (doubled b) 2 (b ∷ c ∷ [])) _

@@ -9,10 +9,10 @@ bytes String.[] = []
 bytes (String.◌∷◌ c s) = code c ∷ bytes s
 
 -- A choice. Either side stands behind `λ _.`, so that only the chosen one is computed.
-infix 5 if◌then◌else◌
-unfoldable pub if◌then◌else◌ : {A : Type 0} → Bool → (Unit {0} → A) → (Unit {0} → A) → A
-if true then a else b = a tt
-if false then a else b = b tt
+infix 5 if◌then◌otherwise◌
+unfoldable pub if◌then◌otherwise◌ : {A : Type 0} → Bool → (Unit {0} → A) → (Unit {0} → A) → A
+if true then a otherwise b = a tt
+if false then a otherwise b = b tt
 
 -- whether two texts have the same bytes
 unfoldable pub same_text : List ℕ → List ℕ → Bool
@@ -29,7 +29,7 @@ stands_in b (x ∷ xs) = eqb b x || stands_in b xs
 -- how many bytes at the front of a text pass a test
 unfoldable pub span : (ℕ → Bool) → List ℕ → ℕ
 span p [] = 0
-span p (x ∷ xs) = if p x then (λ _. suc (span p xs)) else λ _. 0
+span p (x ∷ xs) = if p x then (λ _. suc (span p xs)) otherwise λ _. 0
 
 -- the front of the second text replaced by the first, as far as it reaches; what stands behind is kept
 unfoldable pub laid_over : List ℕ → List ℕ → List ℕ

@@ -1,6 +1,6 @@
 -- The book: it adds up what a run takes, up to what was granted.
 use Rattle.std.specs.Prelude.{ℕ, ◌+◌, ◌-◌, Bool, cond, List, [], ◌∷◌, length, leb, eqb}
-use Rattle.meaning.specs.Basics.{if◌then◌else◌}
+use Rattle.meaning.specs.Basics.{if◌then◌otherwise◌}
 use Rattle.meaning.specs.Run.{Resource, steps, shapes, entries, text_bytes, calls, picture, Taking, Event, taken, gave_back, End, result, error, unfinished, Run}
 use Rattle.meaning.specs.Program.{Outcome, accepted, drawn}
 
@@ -39,7 +39,7 @@ pub data Booked : Type 0 where
 unfoldable pub book : Amounts → Amounts → List Event → Booked
 book granted total [] = all_fit total
 book granted total (taken t ∷ es) =
-    if fits granted total t then (λ _. book granted (added total t) es) else λ _. lacking t total
+    if fits granted total t then (λ _. book granted (added total t) es) otherwise λ _. lacking t total
 book granted total (gave_back ∷ es) = book granted (lowered total) es
 
 -- ---- answers

@@ -1,6 +1,6 @@
 -- A call of an operation: what it answers, and what each slice holds when it returns.
 use Rattle.std.specs.Prelude.{ℕ, suc, ◌+◌, ◌*◌, Bool, true, false, ◌&&◌, List, [], ◌∷◌, length, replicate, ℤ, leb}
-use Rattle.meaning.specs.Basics.{if◌then◌else◌, laid_over}
+use Rattle.meaning.specs.Basics.{if◌then◌otherwise◌, laid_over}
 use Rattle.meaning.specs.Run.{steps, shapes, entries, text_bytes, calls, picture, End, result, error, unfinished, Run}
 use Rattle.meaning.specs.Program.{Operation, checking, drawing, Outcome, accepted, drawn, specified}
 use Rattle.meaning.specs.Book.{Amounts, Booked, all_fit, lacking, nothing_yet, book, Answer, number, booked}
@@ -65,12 +65,12 @@ unfoldable pub run_of : Call → Run Outcome
 run_of c = specified c.operation c.program c.width c.height (suc c.grants.steps)
 
 unfoldable pub answer : Call → Answer
-answer c = if admitted c then (λ _. booked (granted_to c) (run_of c)) else λ _. number 71 0 0 0
+answer c = if admitted c then (λ _. booked (granted_to c) (run_of c)) otherwise λ _. number 71 0 0 0
 
 -- ---- the slices
 -- a work slice holds zeros; only after 71 it is unchanged
 unfoldable pub work_after : Call → List ℕ → List ℕ
-work_after c work = if admitted c then (λ _. replicate (length work) 0) else λ _. work
+work_after c work = if admitted c then (λ _. replicate (length work) 0) otherwise λ _. work
 
 -- The out slice after a run that ended so: only a picture drawn is written, into its front. A call's run that fits has ended (claim `AlwaysAnswered`), and
 -- drawing ends with a picture or a number (`PicturesFillTheFront`), so the clauses for `unfinished` and `accepted` are never met there.
@@ -85,4 +85,4 @@ out_after_end drawing (all_fit total) unfinished out = out
 unfoldable pub out_after : Call → List ℕ
 out_after c =
     if admitted c then (λ _. out_after_end c.operation (book (granted_to c) nothing_yet (run_of c).takings) (run_of c).end c.out)
-    else λ _. c.out
+    otherwise λ _. c.out

@@ -1,7 +1,7 @@
 -- What a statement does. n bounds the turns of each loop; a run that needs more is unfinished.
 use Rattle.std.specs.Prelude.{ℕ, zero, suc, not, List, [], ◌∷◌, ◌++◌}
 use Rattle.std.proofs.Math.Option.{Option, some}
-use Rattle.meaning.specs.Basics.{if◌then◌else◌}
+use Rattle.meaning.specs.Basics.{if◌then◌otherwise◌}
 use Rattle.meaning.specs.Tree.{Statement, declare, assign, update, when, while, foreach, return, block, act, Statements, only, first}
 use Rattle.meaning.specs.Value.{Value, integer, string, boolean, none, table, shape}
 use Rattle.meaning.specs.State.{Key, is_declared, assigned, with_variables, is_destroyed, content_of, by_content, key_of, entry_in, overwritten, with_entries}
@@ -71,13 +71,13 @@ looping (suc n) p test body = do
   count p
   v ← test
   with_boolean p v λ b.
-      if b then (λ _. body >>= λ f. continue f (looping n p test body)) else λ _. give onward
+      if b then (λ _. body >>= λ f. continue f (looping n p test body)) otherwise λ _. give onward
 
 -- declared, if it is not yet
 unfoldable pub declaring_once : List ℕ → Action (Unit {0})
 declaring_once x = do
   s ← current
-  become (if is_declared s x then (λ _. s) else λ _. with_variables s (s.variables ++ (record { name = x; holds = none } ∷ [])))
+  become (if is_declared s x then (λ _. s) otherwise λ _. with_variables s (s.variables ++ (record { name = x; holds = none } ∷ [])))
 
 -- a variable that is declared holds a shape, which it shares
 unfoldable pub binding : List ℕ → ℕ → Action (Unit {0})
@@ -90,7 +90,7 @@ unfoldable pub turns : (ℕ → Action Flow) → List ℕ → Action Flow
 turns visit [] = give onward
 turns visit (i ∷ is) = do
   s ← current
-  f ← if is_destroyed s i then (λ _. give onward) else λ _. visit i
+  f ← if is_destroyed s i then (λ _. give onward) otherwise λ _. visit i
   continue f (turns visit is)
 
 -- a body for each figure that a shape is or holds, depth first; b as in Group
@@ -118,7 +118,7 @@ unfoldable mutual
   execute invoke (when p e s) n = do
     count p
     v ← evaluate invoke e p
-    with_boolean p v λ b. if b then (λ _. execute invoke s n) else λ _. give onward
+    with_boolean p v λ b. if b then (λ _. execute invoke s n) otherwise λ _. give onward
   execute invoke (while p e s) n = looping n p (evaluate invoke e p) (execute invoke s n)
   execute invoke (foreach p x e t) n = do
     count p

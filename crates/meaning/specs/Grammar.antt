@@ -1,7 +1,7 @@
 -- The grammar, as what reading the tokens from left to right yields: a tree, or the first token that fails.
 use Rattle.std.specs.Prelude.{ℕ, zero, suc, ◌+◌, ◌-◌, ◌*◌, Bool, true, false, ◌&&◌, ◌||◌, List, [], ◌∷◌, length, get_or, eqb, ltb, leb, pos, neg_ℤ}
 use Rattle.std.proofs.Math.Option.{Option, none, some}
-use Rattle.meaning.specs.Basics.{bytes, if◌then◌else◌, same_text}
+use Rattle.meaning.specs.Basics.{bytes, if◌then◌otherwise◌, same_text}
 use Rattle.meaning.specs.Token.{Token, Lexed, lexed, stray, tokens_of, ending, a_name, digits, a_string, word_def, word_var, word_if, word_while, word_return, word_none, word_true, word_false}
 use Rattle.meaning.specs.Token.{word_foreach, word_in, word_do, dot, comma, semicolon, open_paren, close_paren, open_bracket, close_bracket, open_brace, close_brace, becomes, minus, doubled}
 use Rattle.meaning.specs.Tree.{Operator, concatenate, add, subtract, multiply, divide, remainder, shift_right, shift_left, equal, unequal, greater, less}
@@ -37,7 +37,7 @@ after (wrong n p) k = wrong n p
 
 -- a token of a kind has to follow; what was read is a
 unfoldable pub expect : {A : Type 0} → ℕ → List Token → ℕ → A → Got A
-expect k ts j a = if is k ts j then (λ _. good a (j + 1)) else λ _. wrong 10 j
+expect k ts j a = if is k ts j then (λ _. good a (j + 1)) otherwise λ _. wrong 10 j
 
 -- the same where nothing comes of it
 abbrev pub skip : ℕ → List Token → ℕ → Got (Unit {0})
@@ -68,18 +68,18 @@ signed_at ts i = is minus ts i && (is digits ts (i + 1) && eqb (start_at ts (i +
 unfoldable pub operator_of : ℕ → Option Operator
 operator_of k =
     if eqb k (doubled 43) then (λ _. some concatenate)
-    else λ _. if eqb k 43 then (λ _. some add)
-    else λ _. if eqb k 45 then (λ _. some subtract)
-    else λ _. if eqb k 42 then (λ _. some multiply)
-    else λ _. if eqb k 47 then (λ _. some divide)
-    else λ _. if eqb k 37 then (λ _. some remainder)
-    else λ _. if eqb k (doubled 62) then (λ _. some shift_right)
-    else λ _. if eqb k (doubled 60) then (λ _. some shift_left)
-    else λ _. if eqb k (doubled 61) then (λ _. some equal)
-    else λ _. if eqb k (doubled 33) then (λ _. some unequal)
-    else λ _. if eqb k 62 then (λ _. some greater)
-    else λ _. if eqb k 60 then (λ _. some less)
-    else λ _. none
+    otherwise λ _. if eqb k 43 then (λ _. some add)
+    otherwise λ _. if eqb k 45 then (λ _. some subtract)
+    otherwise λ _. if eqb k 42 then (λ _. some multiply)
+    otherwise λ _. if eqb k 47 then (λ _. some divide)
+    otherwise λ _. if eqb k 37 then (λ _. some remainder)
+    otherwise λ _. if eqb k (doubled 62) then (λ _. some shift_right)
+    otherwise λ _. if eqb k (doubled 60) then (λ _. some shift_left)
+    otherwise λ _. if eqb k (doubled 61) then (λ _. some equal)
+    otherwise λ _. if eqb k (doubled 33) then (λ _. some unequal)
+    otherwise λ _. if eqb k 62 then (λ _. some greater)
+    otherwise λ _. if eqb k 60 then (λ _. some less)
+    otherwise λ _. none
 
 -- ---- expressions
 -- how the inside of a level is read: not at all where no level is left
@@ -102,24 +102,24 @@ arguments_from zero inner ts i = wrong 10 i
 arguments_from (suc rounds) inner ts i =
     after (inner i) λ e j.
     if is comma ts j then (λ _. after (arguments_from rounds inner ts (j + 1)) λ es m. good (argument e es) m)
-    else λ _. expect close_paren ts j (argument e no_argument)
+    otherwise λ _. expect close_paren ts j (argument e no_argument)
 
 unfoldable pub arguments : ReadExpression → List Token → ℕ → Got Arguments
 arguments inner ts i =
     if is close_paren ts i then (λ _. good no_argument (i + 1))
-    else λ _. arguments_from (suc (length ts - i)) inner ts i
+    otherwise λ _. arguments_from (suc (length ts - i)) inner ts i
 
 -- a constant whose minus is token i: its digits stand directly behind
 abbrev pub signed_constant : List Token → ℕ → Got Expression
 signed_constant ts i =
-    if negative_at ts (i + 1) then (λ _. good (number (neg_ℤ (pos (numeral (text_at ts (i + 1)))))) (i + 2)) else λ _. wrong 10 (i + 1)
+    if negative_at ts (i + 1) then (λ _. good (number (neg_ℤ (pos (numeral (text_at ts (i + 1)))))) (i + 2)) otherwise λ _. wrong 10 (i + 1)
 
 -- a name, or a call if a parenthesis follows
 abbrev pub name_or_call : Inside ReadExpression → List Token → ℕ → Got Expression
 name_or_call inside ts i =
     if is open_paren ts (i + 1)
     then (λ _. opening inside (i + 1) λ inner. after (arguments inner ts (i + 2)) λ es j. good (call (text_at ts i) es) j)
-    else λ _. good (name (text_at ts i)) (i + 1)
+    otherwise λ _. good (name (text_at ts i)) (i + 1)
 
 -- an expression behind the opening token i, and the token that closes it
 abbrev pub enclosed : ℕ → (Expression → Expression) → Inside ReadExpression → List Token → ℕ → Got Expression
@@ -129,22 +129,22 @@ enclosed closing make inside ts i = opening inside i λ inner. after (inner (i +
 unfoldable pub primary : Inside ReadExpression → List Token → ℕ → Got Expression
 primary inside ts i =
     if positive_at ts i then (λ _. good (number (pos (numeral (text_at ts i)))) (i + 1))
-    else λ _. if signed_at ts i then (λ _. signed_constant ts i)
-    else λ _. if is a_string ts i then (λ _. good (string (text_at ts i)) (i + 1))
-    else λ _. if is word_none ts i then (λ _. good nothing (i + 1))
-    else λ _. if is word_true ts i then (λ _. good (truth true) (i + 1))
-    else λ _. if is word_false ts i then (λ _. good (truth false) (i + 1))
-    else λ _. if is a_name ts i then (λ _. name_or_call inside ts i)
-    else λ _. if is open_paren ts i then (λ _. enclosed close_paren paren inside ts i)
-    else λ _. if is open_bracket ts i then (λ _. enclosed close_bracket table inside ts i)
-    else λ _. wrong 10 i
+    otherwise λ _. if signed_at ts i then (λ _. signed_constant ts i)
+    otherwise λ _. if is a_string ts i then (λ _. good (string (text_at ts i)) (i + 1))
+    otherwise λ _. if is word_none ts i then (λ _. good nothing (i + 1))
+    otherwise λ _. if is word_true ts i then (λ _. good (truth true) (i + 1))
+    otherwise λ _. if is word_false ts i then (λ _. good (truth false) (i + 1))
+    otherwise λ _. if is a_name ts i then (λ _. name_or_call inside ts i)
+    otherwise λ _. if is open_paren ts i then (λ _. enclosed close_paren paren inside ts i)
+    otherwise λ _. if is open_bracket ts i then (λ _. enclosed close_bracket table inside ts i)
+    otherwise λ _. wrong 10 i
 
 -- an operand: a primary, or a primary, a dot and a primary
 unfoldable pub operand : Inside ReadExpression → List Token → ℕ → Got Expression
 operand inside ts i =
     after (primary inside ts i) λ a j.
     if is dot ts j then (λ _. after (primary inside ts (j + 1)) λ b m. good (entry a b) m)
-    else λ _. good a j
+    otherwise λ _. good a j
 
 -- an expression: an operand, or two with one operator
 unfoldable pub operated : Option Operator → Inside ReadExpression → List Token → Expression → ℕ → Got Expression
@@ -172,7 +172,7 @@ pub record Readers : Type 0 where
 unfoldable pub declaration : List Token → ℕ → Got Statement
 declaration ts i =
     if is a_name ts (i + 1) then (λ _. expect semicolon ts (i + 2) (declare (start_at ts i) (text_at ts (i + 1))))
-    else λ _. wrong 10 (i + 1)
+    otherwise λ _. wrong 10 (i + 1)
 
 -- return e;
 unfoldable pub returning : ReadExpression → List Token → ℕ → Got Statement
@@ -207,7 +207,7 @@ unfoldable pub simple : ReadExpression → List Token → ℕ → Got Statement
 simple read ts i =
     after (read i) λ a j.
     if is becomes ts j then (λ _. assignment read ts (start_at ts i) j (target_of a))
-    else λ _. expect semicolon ts j (act (start_at ts i) a)
+    otherwise λ _. expect semicolon ts j (act (start_at ts i) a)
 
 -- (e) and a body, from the parenthesis at token i on, which opens a level
 abbrev pub guarded_in : (Expression → Statement → Statement) → Readers → List Token → ℕ → Got Statement
@@ -220,7 +220,7 @@ guarded_in make inner ts i =
 -- The same behind if or while. The level ends with the test, and the body's first token opens it again.
 unfoldable pub guarded : (Expression → Statement → Statement) → Inside Readers → List Token → ℕ → Got Statement
 guarded make inside ts i =
-    if is open_paren ts i then (λ _. opening inside i λ inner. guarded_in make inner ts i) else λ _. wrong 10 i
+    if is open_paren ts i then (λ _. opening inside i λ inner. guarded_in make inner ts i) otherwise λ _. wrong 10 i
 
 -- whether a statement can begin with token i
 unfoldable pub begins_statement : List Token → ℕ → Bool
@@ -237,7 +237,7 @@ iteration read inside ts i =
     after (skip word_do ts j) λ _ m.
     if begins_statement ts m
     then (λ _. opening inside m λ inner. after (inner.in_statement m) λ s n. good (foreach (start_at ts i) x e s) n)
-    else λ _. wrong 10 m
+    otherwise λ _. wrong 10 m
 
 -- One statement or more and the closing brace. Each statement takes a token at least, so rounds need be no more than the tokens left, as with
 -- arguments (`statements-rounds` of GrammarLaws).
@@ -246,7 +246,7 @@ statements_from zero inner ts i = wrong 10 i
 statements_from (suc rounds) inner ts i =
     after (inner i) λ s j.
     if is close_brace ts j then (λ _. good (only s) (j + 1))
-    else λ _. after (statements_from rounds inner ts j) λ ss m. good (first s ss) m
+    otherwise λ _. after (statements_from rounds inner ts j) λ ss m. good (first s ss) m
 
 abbrev pub statements : ReadStatement → List Token → ℕ → Got Statements
 statements inner ts i = statements_from (suc (length ts - i)) inner ts i
@@ -259,12 +259,12 @@ block_at inside ts i = opening inside i λ inner. after (statements inner.in_sta
 unfoldable pub statement_in : ReadExpression → Inside Readers → List Token → ℕ → Got Statement
 statement_in read inside ts i =
     if is word_var ts i then (λ _. declaration ts i)
-    else λ _. if is word_if ts i then (λ _. guarded (when (start_at ts i)) inside ts (i + 1))
-    else λ _. if is word_while ts i then (λ _. guarded (while (start_at ts i)) inside ts (i + 1))
-    else λ _. if is word_foreach ts i then (λ _. iteration read inside ts i)
-    else λ _. if is word_return ts i then (λ _. returning read ts i)
-    else λ _. if is open_brace ts i then (λ _. block_at inside ts i)
-    else λ _. simple read ts i
+    otherwise λ _. if is word_if ts i then (λ _. guarded (when (start_at ts i)) inside ts (i + 1))
+    otherwise λ _. if is word_while ts i then (λ _. guarded (while (start_at ts i)) inside ts (i + 1))
+    otherwise λ _. if is word_foreach ts i then (λ _. iteration read inside ts i)
+    otherwise λ _. if is word_return ts i then (λ _. returning read ts i)
+    otherwise λ _. if is open_brace ts i then (λ _. block_at inside ts i)
+    otherwise λ _. simple read ts i
 
 unfoldable pub statement : ℕ → List Token → ℕ → Got Statement
 statement zero ts i = statement_in (expression zero ts) no_level ts i
@@ -278,12 +278,12 @@ parameters_from zero ts i = wrong 10 i
 parameters_from (suc rounds) ts i =
     after (expect a_name ts i (text_at ts i)) λ x j.
     if is comma ts j then (λ _. after (parameters_from rounds ts (j + 1)) λ xs m. good (x ∷ xs) m)
-    else λ _. expect close_paren ts j (x ∷ [])
+    otherwise λ _. expect close_paren ts j (x ∷ [])
 
 unfoldable pub parameters : List Token → ℕ → Got (List (List ℕ))
 parameters ts i =
     if is close_paren ts i then (λ _. good [] (i + 1))
-    else λ _. parameters_from (suc (length ts - i)) ts i
+    otherwise λ _. parameters_from (suc (length ts - i)) ts i
 
 -- def f(x, y) { .. } from token i on
 unfoldable pub procedure : List Token → ℕ → Got Procedure
@@ -302,12 +302,12 @@ procedures_from zero ts i = wrong 10 i
 procedures_from (suc rounds) ts i =
     after (procedure ts i) λ f j.
     if is ending ts j then (λ _. good (f ∷ []) j)
-    else λ _. after (procedures_from rounds ts j) λ fs m. good (f ∷ fs) m
+    otherwise λ _. after (procedures_from rounds ts j) λ fs m. good (f ∷ fs) m
 
 -- the first procedure of a name
 unfoldable pub procedure_named : List ℕ → List Procedure → Option Procedure
 procedure_named x [] = none
-procedure_named x (f ∷ fs) = if same_text f.name x then (λ _. some f) else λ _. procedure_named x fs
+procedure_named x (f ∷ fs) = if same_text f.name x then (λ _. some f) otherwise λ _. procedure_named x fs
 
 -- a program without main ends too early
 unfoldable pub with_main : List Token → List Procedure → ℕ → Option Procedure → Got Program
@@ -325,7 +325,7 @@ pub data Reading : Type 0 where
 
 -- the place of token i; behind the last token the program's length
 unfoldable pub place_of : List ℕ → List Token → ℕ → ℕ
-place_of program ts i = if ltb i (length ts) then (λ _. start_at ts i) else λ _. length program
+place_of program ts i = if ltb i (length ts) then (λ _. start_at ts i) otherwise λ _. length program
 
 unfoldable pub read_of : List ℕ → List Token → Got Program → Reading
 read_of program ts (good m i) = well_formed m
@@ -335,7 +335,7 @@ unfoldable pub parsed : List ℕ → Lexed → Reading
 parsed program (stray p) = malformed 10 p
 parsed program (lexed ts) =
     if ltb 8192 (length ts) then (λ _. malformed 74 (start_at ts 8192))
-    else λ _. read_of program ts (procedures ts)
+    otherwise λ _. read_of program ts (procedures ts)
 
 unfoldable pub reading : List ℕ → Reading
 reading program = parsed program (tokens_of program)

@@ -1,7 +1,7 @@
 -- Shapes made and destroyed, and what is done with all that a group holds (section 3.3 of the IMG specification). Components are older than their group, so
 -- b, which falls at each group inside another, never runs out if it is above the shape's number (claims `ComponentsAreOlder`, `DepthsSuffice`).
 use Rattle.std.specs.Prelude.{ℕ, zero, suc, Bool, true, false, List, [], ◌∷◌, ◌++◌, length}
-use Rattle.meaning.specs.Basics.{if◌then◌else◌}
+use Rattle.meaning.specs.Basics.{if◌then◌otherwise◌}
 use Rattle.meaning.specs.Figure.{Figure, same_figure}
 use Rattle.meaning.specs.State.{Content, atom, group, is_destroyed, content_of, by_content, components_in, living, with_shape, with_shapes, destroy}
 use Rattle.meaning.specs.Run.{Action, Resource, shapes, entries, ◌>>=◌, ◌>>◌, give, count, spend, current, become}
@@ -25,7 +25,7 @@ unfoldable pub each : {A : Type 0} → (ℕ → Action (List A)) → List ℕ �
 each visit [] = give []
 each visit (i ∷ is) = do
   s ← current
-  xs ← if is_destroyed s i then (λ _. give []) else λ _. visit i
+  xs ← if is_destroyed s i then (λ _. give []) otherwise λ _. visit i
   ys ← each visit is
   give (xs ++ ys)
 
@@ -57,7 +57,7 @@ unfoldable pub pairwise : (ℕ → ℕ → Action Bool) → List ℕ → List �
 pairwise alike [] [] = give true
 pairwise alike [] (j ∷ js) = give false
 pairwise alike (i ∷ is) [] = give false
-pairwise alike (i ∷ is) (j ∷ js) = alike i j >>= λ b. if b then (λ _. pairwise alike is js) else λ _. give false
+pairwise alike (i ∷ is) (j ∷ js) = alike i j >>= λ b. if b then (λ _. pairwise alike is js) otherwise λ _. give false
 
 -- two figures, or two groups whose undestroyed components are alike, a step for each pair
 unfoldable pub alike : ℕ → ℕ → ℕ → ℕ → Action Bool

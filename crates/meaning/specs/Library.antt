@@ -1,7 +1,7 @@
 -- The library procedures (section 2.2.6 of the IMG specification, less the trigonometric ones).
 use Rattle.std.specs.Prelude.{ℕ, suc, List, [], ◌∷◌, ◌++◌, ℤ}
 use Rattle.std.proofs.Math.Option.{Option, some}
-use Rattle.meaning.specs.Basics.{bytes, if◌then◌else◌, same_text}
+use Rattle.meaning.specs.Basics.{bytes, if◌then◌otherwise◌, same_text}
 use Rattle.meaning.specs.Figure.{Figure, line, ellipse, box, text, centre_x, centre_y, connecting, text_on}
 use Rattle.meaning.specs.Value.{Value, integer, none, shape}
 use Rattle.meaning.specs.State.{Content, atom, group, shapes_held, shapes_held_by}
@@ -15,17 +15,17 @@ pub data Library : Type 0 where
 unfoldable pub library_of : List ℕ → Option Library
 library_of f =
     if same_text f (bytes "drawLine") then (λ _. some draw_line)
-    else λ _. if same_text f (bytes "drawEllipse") then (λ _. some draw_ellipse)
-    else λ _. if same_text f (bytes "drawBox") then (λ _. some draw_box)
-    else λ _. if same_text f (bytes "drawText") then (λ _. some draw_text)
-    else λ _. if same_text f (bytes "drawLineConnectingShapes") then (λ _. some connect_shapes)
-    else λ _. if same_text f (bytes "drawTextOnShape") then (λ _. some draw_text_on_shape)
-    else λ _. if same_text f (bytes "getShapeXCoordinate") then (λ _. some x_coordinate)
-    else λ _. if same_text f (bytes "getShapeYCoordinate") then (λ _. some y_coordinate)
-    else λ _. if same_text f (bytes "destroyShape") then (λ _. some destroy_shape)
-    else λ _. if same_text f (bytes "clearScene") then (λ _. some clear_scene)
-    else λ _. if same_text f (bytes "drawGroup") then (λ _. some draw_group)
-    else λ _. Option.none
+    otherwise λ _. if same_text f (bytes "drawEllipse") then (λ _. some draw_ellipse)
+    otherwise λ _. if same_text f (bytes "drawBox") then (λ _. some draw_box)
+    otherwise λ _. if same_text f (bytes "drawText") then (λ _. some draw_text)
+    otherwise λ _. if same_text f (bytes "drawLineConnectingShapes") then (λ _. some connect_shapes)
+    otherwise λ _. if same_text f (bytes "drawTextOnShape") then (λ _. some draw_text_on_shape)
+    otherwise λ _. if same_text f (bytes "getShapeXCoordinate") then (λ _. some x_coordinate)
+    otherwise λ _. if same_text f (bytes "getShapeYCoordinate") then (λ _. some y_coordinate)
+    otherwise λ _. if same_text f (bytes "destroyShape") then (λ _. some destroy_shape)
+    otherwise λ _. if same_text f (bytes "clearScene") then (λ _. some clear_scene)
+    otherwise λ _. if same_text f (bytes "drawGroup") then (λ _. some draw_group)
+    otherwise λ _. Option.none
 
 -- ---- arguments: a wrong number of them is 20
 unfoldable pub with_none : ℕ → List Value → Action Value → Action Value

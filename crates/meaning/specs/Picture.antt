@@ -1,6 +1,6 @@
 -- The bytes of a picture.
 use Rattle.std.specs.Prelude.{ℕ, zero, suc, ◌+◌, ◌/◌, ◌%◌, List, [], ◌∷◌, ◌++◌, ℤ, pos, negsuc, nat_abs, ◌+ℤ◌, ltb}
-use Rattle.meaning.specs.Basics.{bytes, if◌then◌else◌}
+use Rattle.meaning.specs.Basics.{bytes, if◌then◌otherwise◌}
 use Rattle.meaning.specs.Figure.{Figure, line, ellipse, box, text}
 
 -- ---- numbers
@@ -9,7 +9,7 @@ unfoldable pub digits_within : ℕ → ℕ → List ℕ
 digits_within zero n = []
 digits_within (suc rounds) n =
     if ltb n 10 then (λ _. (n + 48) ∷ [])
-    else λ _. digits_within rounds (n / 10) ++ ((n % 10 + 48) ∷ [])
+    otherwise λ _. digits_within rounds (n / 10) ++ ((n % 10 + 48) ∷ [])
 
 -- no number has more digits than its value and one
 unfoldable pub digits_of : ℕ → List ℕ

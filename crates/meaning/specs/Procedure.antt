@@ -1,7 +1,7 @@
 -- Procedures of the program (section 3.2 of the IMG specification). p is the place of the statement that calls.
 use Rattle.std.specs.Prelude.{ℕ, zero, suc, Bool, true, false, not, ◌||◌, List, [], ◌∷◌, length, eqb}
 use Rattle.std.proofs.Math.Option.{Option, some, none}
-use Rattle.meaning.specs.Basics.{bytes, if◌then◌else◌, same_text}
+use Rattle.meaning.specs.Basics.{bytes, if◌then◌otherwise◌, same_text}
 use Rattle.meaning.specs.Tree.{Statements, Procedure}
 use Rattle.meaning.specs.Grammar.{procedure_named}
 use Rattle.meaning.specs.Value.{Value}
@@ -29,7 +29,7 @@ in_library (some f) = true
 unfoldable pub doubled : List (List ℕ) → List Procedure → Option ℕ
 doubled names [] = none
 doubled names (f ∷ fs) =
-    if is_among f.name names || in_library (library_of f.name) then (λ _. some f.place) else λ _. doubled (f.name ∷ names) fs
+    if is_among f.name names || in_library (library_of f.name) then (λ _. some f.place) otherwise λ _. doubled (f.name ∷ names) fs
 
 -- ---- a call
 -- parameters are assigned like variables, one by one
@@ -70,4 +70,4 @@ unfoldable pub calling : ℕ → List Procedure → Invoke
 calling zero fs x p vs = λ s. run [] unfinished
 calling (suc n) fs x p vs =
     if same_text x (bytes "main") then (λ _. fail 20 p)
-    else λ _. found (λ ss. execute_all (calling n fs) ss n) (procedure_named x fs) x p vs
+    otherwise λ _. found (λ ss. execute_all (calling n fs) ss n) (procedure_named x fs) x p vs

@@ -3,7 +3,7 @@ use Rattle.std.specs.Prelude.{ℕ, suc, not, ◌&&◌, List, [], ◌∷◌, leng
 use Rattle.std.proofs.Math.Option.{Option, none, some}
 use Rattle.std.proofs.Math.ListN as ListN
 use Rattle.std.specs.Int.Signed.{lt_z}
-use Rattle.meaning.specs.Basics.{if◌then◌else◌, same_text}
+use Rattle.meaning.specs.Basics.{if◌then◌otherwise◌, same_text}
 use Rattle.meaning.specs.Tree as Tree
 use Rattle.meaning.specs.Grammar.{Reading, well_formed, malformed, reading}
 use Rattle.meaning.specs.Figure.{Figure}
@@ -92,7 +92,7 @@ specified o program width height n = performing o program width height n empty
 -- ---- its beginnings, one for each number of takings
 -- the first n takings and returns of a run, and its end where there are no more; what is cut off has n of them (claim `BeginningsFill`) and answers no call (`AlwaysAnswered`)
 unfoldable pub cut : {A : Type 0} → ℕ → Run A → Run A
-cut n r = if leb (length r.takings) n then (λ _. r) else λ _. run (ListN.take n r.takings) unfinished
+cut n r = if leb (length r.takings) n then (λ _. r) otherwise λ _. run (ListN.take n r.takings) unfinished
 
 -- each turn of a loop and each call counts a step, so n + 1 are enough for n takings
 unfoldable pub beginning : Operation → List ℕ → ℤ → ℤ → ℕ → Run Outcome

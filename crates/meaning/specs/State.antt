@@ -1,7 +1,7 @@
 -- The state of a run: variables, shapes, and the entries of tables.
 use Rattle.std.specs.Prelude.{ℕ, suc, ◌+◌, Bool, true, false, ◌&&◌, cond, List, [], ◌∷◌, ◌++◌, get_or, set, ℤ, pos, eqb}
 use Rattle.std.proofs.Math.Option.{Option, some}
-use Rattle.meaning.specs.Basics.{if◌then◌else◌, same_text}
+use Rattle.meaning.specs.Basics.{if◌then◌otherwise◌, same_text}
 use Rattle.meaning.specs.Integer.{same_integers}
 use Rattle.meaning.specs.Figure.{Figure, line, figure_kind, numbers_of, text_of}
 use Rattle.meaning.specs.Value.{Value, integer, string, boolean, none, table, shape}
@@ -43,7 +43,7 @@ pub record State : Type 0 where
 -- ---- variables
 unfoldable pub value_in : List Variable → List ℕ → Option Value
 value_in [] x = Option.none
-value_in (v ∷ vs) x = if same_text v.name x then (λ _. some v.holds) else λ _. value_in vs x
+value_in (v ∷ vs) x = if same_text v.name x then (λ _. some v.holds) otherwise λ _. value_in vs x
 
 unfoldable pub is_some : Option Value → Bool
 is_some Option.none = false
@@ -55,7 +55,7 @@ is_declared s x = is_some (value_in s.variables x)
 unfoldable pub assigned : List Variable → List ℕ → Value → List Variable
 assigned [] x u = []
 assigned (v ∷ vs) x u =
-    if same_text v.name x then (λ _. record { name = v.name; holds = u } ∷ vs) else λ _. v ∷ assigned vs x u
+    if same_text v.name x then (λ _. record { name = v.name; holds = u } ∷ vs) otherwise λ _. v ∷ assigned vs x u
 
 abbrev pub with_variables : State → List Variable → State
 with_variables s vs = record { variables = vs; suspended = s.suspended; shapes = s.shapes; tables = s.tables; entries = s.entries }
@@ -104,7 +104,7 @@ destroy ss i = set ss i (record { content = (get_or ss i no_shape).content; dest
 -- those of some shapes that are not destroyed
 unfoldable pub living : State → List ℕ → List ℕ
 living s [] = []
-living s (i ∷ is) = if is_destroyed s i then (λ _. living s is) else λ _. i ∷ living s is
+living s (i ∷ is) = if is_destroyed s i then (λ _. living s is) otherwise λ _. i ∷ living s is
 
 -- the shapes that variables hold, in their order
 unfoldable pub shape_in : Value → List ℕ
@@ -149,13 +149,13 @@ matches e t k = eqb e.owner t && same_key e.key k
 
 unfoldable pub entry_in : List Entry → ℕ → Key → Option Value
 entry_in [] t k = Option.none
-entry_in (e ∷ es) t k = if matches e t k then (λ _. some e.holds) else λ _. entry_in es t k
+entry_in (e ∷ es) t k = if matches e t k then (λ _. some e.holds) otherwise λ _. entry_in es t k
 
 -- the entry with this key overwritten
 unfoldable pub overwritten : List Entry → ℕ → Key → Value → List Entry
 overwritten [] t k u = []
 overwritten (e ∷ es) t k u =
-    if matches e t k then (λ _. record { owner = e.owner; key = e.key; holds = u } ∷ es) else λ _. e ∷ overwritten es t k u
+    if matches e t k then (λ _. record { owner = e.owner; key = e.key; holds = u } ∷ es) otherwise λ _. e ∷ overwritten es t k u
 
 abbrev pub with_entries : State → List Entry → State
 with_entries s es = record { variables = s.variables; suspended = s.suspended; shapes = s.shapes; tables = s.tables; entries = es }

@@ -1,6 +1,6 @@
 -- Tokens.
 use Rattle.std.specs.Prelude.{ℕ, zero, suc, ◌+◌, ◌-◌, Bool, ◌&&◌, ◌||◌, cond, List, [], ◌∷◌, get_or, take, eqb}
-use Rattle.meaning.specs.Basics.{bytes, if◌then◌else◌, same_text, stands_in, span}
+use Rattle.meaning.specs.Basics.{bytes, if◌then◌otherwise◌, same_text, stands_in, span}
 use Rattle.meaning.specs.Byte.{is_space, is_letter, is_digit, is_name_part, is_quote, is_sign}
 
 -- ---- kinds
@@ -126,7 +126,7 @@ found_digits w = let n = span is_digit w in found digits n (take n w)
 abbrev pub found_string : List ℕ → Front
 found_string w =
     let n = span is_name_part w in
-    if is_letter (get_or w 0 0) && is_quote (get_or w n 0) then (λ _. found a_string (n + 2) (take n w)) else λ _. nothing
+    if is_letter (get_or w 0 0) && is_quote (get_or w n 0) then (λ _. found a_string (n + 2) (take n w)) otherwise λ _. nothing
 
 -- ++ >> << == and !=
 unfoldable pub is_double : ℕ → ℕ → Bool
@@ -135,17 +135,17 @@ is_double b c = (eqb b c && stands_in b (bytes "+><=")) || (eqb b 33 && eqb c 61
 abbrev pub found_sign : ℕ → ℕ → Front
 found_sign b c =
     if is_double b c then (λ _. found (doubled b) 2 (b ∷ c ∷ []))
-    else λ _. if eqb b 33 then (λ _. nothing) else λ _. found b 1 (b ∷ [])
+    otherwise λ _. if eqb b 33 then (λ _. nothing) otherwise λ _. found b 1 (b ∷ [])
 
 -- by the first byte
 unfoldable pub front : List ℕ → Front
 front [] = nothing
 front (b ∷ bs) =
     if is_letter b then (λ _. found_name (b ∷ bs))
-    else λ _. if is_digit b then (λ _. found_digits (b ∷ bs))
-    else λ _. if is_quote b then (λ _. found_string bs)
-    else λ _. if is_sign b then (λ _. found_sign b (get_or bs 0 0))
-    else λ _. nothing
+    otherwise λ _. if is_digit b then (λ _. found_digits (b ∷ bs))
+    otherwise λ _. if is_quote b then (λ _. found_string bs)
+    otherwise λ _. if is_sign b then (λ _. found_sign b (get_or bs 0 0))
+    otherwise λ _. nothing
 
 -- ---- all tokens
 -- the tokens of a text, or the place of its first byte at which none begins
@@ -168,7 +168,7 @@ scan k at [] = lexed []
 scan (suc k) at (b ∷ bs) = scan k (suc at) bs
 scan zero at (b ∷ bs) =
     if is_space b then (λ _. scan 0 (suc at) bs)
-    else λ _. starting (front (b ∷ bs)) at (λ k. scan k (suc at) bs)
+    otherwise λ _. starting (front (b ∷ bs)) at (λ k. scan k (suc at) bs)
 
 unfoldable pub tokens_of : List ℕ → Lexed
 tokens_of program = scan 0 0 program

@@ -8,7 +8,7 @@ use native.Mathlib.Omega.{arith}
 use borrow.Author.Tests.{eq-eqb, eqb-true}
 use lib.Dec.{eqb}
 use lib.ListN.{length}
-use Rattle.meaning.specs.Basics.{if◌then◌else◌, same_text}
+use Rattle.meaning.specs.Basics.{if◌then◌otherwise◌, same_text}
 use Rattle.meaning.specs.Token.{Token}
 use Rattle.meaning.specs.Grammar.{kind_at, text_at}
 use Rattle.names.specs.Prepared.{home}
@@ -50,45 +50,45 @@ fits t k x = eqb t.kind k && same_text t.text x
 
 module _ (k : ℕ) (x : List ℕ) where
   pub home_most : (ts : List Token) → home ts k x ≤ length ts
-  unfolding home if◌then◌else◌
+  unfolding home if◌then◌otherwise◌
   home_most [] = omega arith
   home_most (t ∷ ts) = go (fits t k x) (home_most ts)
     where
-      go : (b : Bool) → home ts k x ≤ length ts → (if b then (λ _. 0) else λ _. suc (home ts k x)) ≤ suc (length ts)
+      go : (b : Bool) → home ts k x ≤ length ts → (if b then (λ _. 0) otherwise λ _. suc (home ts k x)) ≤ suc (length ts)
       go true h = omega arith
       go false h = omega arith
 
   -- no token before the home has both
   pub home_least : (ts : List Token) (i : ℕ) → i < length ts → kind_at ts i ≡ k → text_at ts i ≡ x → home ts k x ≤ i
-  unfolding home if◌then◌else◌
+  unfolding home if◌then◌otherwise◌
   home_least [] i h u v = absurd (omega arith)
   home_least (t ∷ ts) zero h u v = rw (u, v, eq-eqb k k refl, same_itself x) (omega arith)
   home_least (t ∷ ts) (suc i) h u v = go (fits t k x) (home_least ts i (omega arith) u v)
     where
-      go : (b : Bool) → home ts k x ≤ i → (if b then (λ _. 0) else λ _. suc (home ts k x)) ≤ suc i
+      go : (b : Bool) → home ts k x ≤ i → (if b then (λ _. 0) otherwise λ _. suc (home ts k x)) ≤ suc i
       go true l = omega arith
       go false l = omega arith
 
   -- the home has both
   pub home_kind : (ts : List Token) → home ts k x < length ts → kind_at ts (home ts k x) ≡ k
-  unfolding home if◌then◌else◌
+  unfolding home if◌then◌otherwise◌
   home_kind [] h = absurd (omega arith)
   home_kind (t ∷ ts) h = go (fits t k x) refl (home_kind ts) h
     where
       go : (b : Bool) → fits t k x ≡ b → (home ts k x < length ts → kind_at ts (home ts k x) ≡ k)
-          → (if b then (λ _. 0) else λ _. suc (home ts k x)) < suc (length ts)
-          → kind_at (t ∷ ts) (if b then (λ _. 0) else λ _. suc (home ts k x)) ≡ k
+          → (if b then (λ _. 0) otherwise λ _. suc (home ts k x)) < suc (length ts)
+          → kind_at (t ∷ ts) (if b then (λ _. 0) otherwise λ _. suc (home ts k x)) ≡ k
       go true e r l = eqb-true t.kind k (and_true (eqb t.kind k) (same_text t.text x) e).0
       go false e r l = r (omega arith)
 
   pub home_text : (ts : List Token) → home ts k x < length ts → text_at ts (home ts k x) ≡ x
-  unfolding home if◌then◌else◌
+  unfolding home if◌then◌otherwise◌
   home_text [] h = absurd (omega arith)
   home_text (t ∷ ts) h = go (fits t k x) refl (home_text ts) h
     where
       go : (b : Bool) → fits t k x ≡ b → (home ts k x < length ts → text_at ts (home ts k x) ≡ x)
-          → (if b then (λ _. 0) else λ _. suc (home ts k x)) < suc (length ts)
-          → text_at (t ∷ ts) (if b then (λ _. 0) else λ _. suc (home ts k x)) ≡ x
+          → (if b then (λ _. 0) otherwise λ _. suc (home ts k x)) < suc (length ts)
+          → text_at (t ∷ ts) (if b then (λ _. 0) otherwise λ _. suc (home ts k x)) ≡ x
       go true e r l = same_equal t.text x (and_true (eqb t.kind k) (same_text t.text x) e).1
       go false e r l = r (omega arith)
 

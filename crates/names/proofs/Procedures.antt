@@ -8,7 +8,7 @@ use mathlib.Core.Option.{Option}
 use borrow.Author.Tests.{ne_eqb, eqb-false}
 use lib.Dec.{eqb}
 use lib.ListN.{length}
-use Rattle.meaning.specs.Basics.{bytes, if◌then◌else◌, same_text}
+use Rattle.meaning.specs.Basics.{bytes, if◌then◌otherwise◌, same_text}
 use Rattle.meaning.specs.Library.{Library, library_of}
 use Rattle.names.specs.Prepared.{number_of, library_number, procedure_number}
 use Rattle.names.specs.Index.{either}
@@ -21,8 +21,8 @@ names =
     bytes "drawTextOnShape" ∷ bytes "getShapeXCoordinate" ∷ bytes "getShapeYCoordinate" ∷ bytes "destroyShape" ∷ bytes "clearScene" ∷
     bytes "drawGroup" ∷ []
 
-number_if : (b : Bool) (f g : Unit {0} → Option Library) → number_of (if b then f else g) ≡ cond b (number_of (f tt)) (number_of (g tt))
-unfolding if◌then◌else◌
+number_if : (b : Bool) (f g : Unit {0} → Option Library) → number_of (if b then f otherwise g) ≡ cond b (number_of (f tt)) (number_of (g tt))
+unfolding if◌then◌otherwise◌
 number_if true f g = refl
 number_if false f g = refl
 

@@ -1,7 +1,7 @@
 -- Token words prepared for reading: digits carry their value, names and strings the first token that is spelled like them.
 use Rattle.std.specs.Prelude.{ℕ, suc, ◌+◌, ◌*◌, min, ◌&&◌, cond, List, [], ◌∷◌, map, eqb}
 use Rattle.std.proofs.Math.Option.{Option, none, some}
-use Rattle.meaning.specs.Basics.{bytes, if◌then◌else◌, same_text}
+use Rattle.meaning.specs.Basics.{bytes, if◌then◌otherwise◌, same_text}
 use Rattle.meaning.specs.Token.{Token, a_name, a_string, digits}
 use Rattle.meaning.specs.Grammar.{numeral}
 use Rattle.meaning.specs.Library.{Library, draw_line, draw_ellipse, draw_box, draw_text, connect_shapes, draw_text_on_shape, x_coordinate, y_coordinate, destroy_shape, clear_scene, draw_group, library_of}
@@ -10,7 +10,7 @@ use Rattle.tokens.specs.Words.{size_of, token_in}
 -- the index of the first token of a kind and a text; how many tokens there are if none is
 unfoldable pub home : List Token → ℕ → List ℕ → ℕ
 home [] k x = 0
-home (t ∷ ts) k x = if eqb t.kind k && same_text t.text x then (λ _. 0) else λ _. suc (home ts k x)
+home (t ∷ ts) k x = if eqb t.kind k && same_text t.text x then (λ _. 0) otherwise λ _. suc (home ts k x)
 
 -- a library procedure's number, by its name; 11 for every other name
 unfoldable pub number_of : Option Library → ℕ

@@ -8,7 +8,7 @@ use lib.ListN.{length, get_or, set, length-append, length-set}
 use lib.Seq.{get_or-set_same, get_or-set_other}
 use lib.Dec.{eqb}
 use borrow.Author.Tests.{eqb-true, eqb-false, eq-eqb, ne_eqb}
-use Rattle.meaning.specs.Basics.{if◌then◌else◌, same_text}
+use Rattle.meaning.specs.Basics.{if◌then◌otherwise◌, same_text}
 use Rattle.meaning.specs.Token.{Token, a_name}
 use Rattle.meaning.specs.Tree.{Statement, declare, assign, update, when, while, foreach, return, block, act, Statements, only, first}
 use Rattle.meaning.specs.Procedure.{is_among}
@@ -48,7 +48,7 @@ module _ (ts : List Token) (few : length ts ≤ 8192) (stamp : ℕ) where
     is_entered_lem x o false q = ne_eqb _ _ (g.free x o q)
 
     pub numbered : (x : List ℕ) → Occurs ts a_name x → number_of e.table stamp e.count (slot_of ts x) ≡ number_in names x
-    unfolding number_of if◌then◌else◌
+    unfolding number_of if◌then◌otherwise◌
     numbered x o = go (is_among x names) refl
       where
         go : (b : Bool) → is_among x names ≡ b → number_of e.table stamp e.count (slot_of ts x) ≡ number_in names x
@@ -122,7 +122,7 @@ module _ (ts : List Token) (few : length ts ≤ 8192) (stamp : ℕ) where
       }
 
     holds_more : (x : List ℕ) → Occurs ts a_name x → Holds (entered stamp (slot_of ts x) e) (with_name names x)
-    unfolding entered with_name if◌then◌else◌
+    unfolding entered with_name if◌then◌otherwise◌
     holds_more x o = go (is_among x names) refl
       where
         go : (b : Bool) → is_among x names ≡ b → Holds (entered stamp (slot_of ts x) e) (with_name names x)

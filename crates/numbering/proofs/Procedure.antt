@@ -6,7 +6,7 @@ use mathlib.Core.Bool.{Bool, true, false}
 use mathlib.Core.List.{List, [], append-nil, map}
 use lib.ListN.{length, get_or}
 use lib.Dec.{eqb}
-use Rattle.meaning.specs.Basics.{if◌then◌else◌}
+use Rattle.meaning.specs.Basics.{if◌then◌otherwise◌}
 use Rattle.meaning.specs.Token.{Token, a_name}
 use Rattle.meaning.specs.Tree.{Procedure}
 use Rattle.meaning.specs.Grammar.{text_at}
@@ -124,12 +124,12 @@ module _ (ts : List Token) (sane : Sane ts) (f : Procedure) (u : Understood ts f
     low_word = omega (arith, short)
 
     framed : framed_word d takes first.count all.count ≡ numbered_word start f ts
-    unfolding framed_word frame_size if◌then◌else◌
+    unfolding framed_word frame_size if◌then◌otherwise◌
     framed = rw (holds_variables.counts, holds_first.counts, ← are_variables) (go (eqb (length (with_names [] f.parameters)) takes))
       where
         go : (b : Bool)
-            → (if b then (λ _. d % 281474976710656 + 281474976710656 * (length variables % 65535 + 1)) else λ _. d)
-            ≡ d + 281474976710656 * (if b then (λ _. suc (length variables)) else λ _. 0)
+            → (if b then (λ _. d % 281474976710656 + 281474976710656 * (length variables % 65535 + 1)) otherwise λ _. d)
+            ≡ d + 281474976710656 * (if b then (λ _. suc (length variables)) otherwise λ _. 0)
         go true = rw low_word (omega (arith, short, few_variables))
         go false = omega arith
 

@@ -10,7 +10,7 @@ use lib.ListN.{length, get_or, set, length-append, length-map}
 use lib.Seq.{get_or-set_other}
 use lib.Dec.{eqb}
 use borrow.Author.Tests.{eqb-true, eqb-false}
-use Rattle.meaning.specs.Basics.{if◌then◌else◌, same_text}
+use Rattle.meaning.specs.Basics.{if◌then◌otherwise◌, same_text}
 use Rattle.meaning.specs.Token.{Token, a_name}
 use Rattle.meaning.specs.Tree.{Procedure}
 use Rattle.meaning.specs.Grammar.{procedure_named, kind_at, text_at}
@@ -29,7 +29,7 @@ code_length f ts = length-append (map (slot_of ts) f.parameters) (code_of_statem
 -- that of the first procedure of a name, among some whose code begins at a
 unfoldable pub start_named : ℕ → List Procedure → List Token → List ℕ → ℕ
 start_named a [] ts x = a
-start_named a (f ∷ fs) ts x = if same_text f.name x then (λ _. a) else λ _. start_named (a + length (code_of_procedure f ts)) fs ts x
+start_named a (f ∷ fs) ts x = if same_text f.name x then (λ _. a) otherwise λ _. start_named (a + length (code_of_procedure f ts)) fs ts x
 
 pub record Lies (a : ℕ) (fs : List Procedure) (ts : List Token) (x : List ℕ) (f : Procedure) : Type 0 where
   pub named : f.name ≡ x
@@ -39,11 +39,11 @@ pub record Lies (a : ℕ) (fs : List Procedure) (ts : List Token) (x : List ℕ)
   pub stands : (code : List ℕ) → Stands code a (code_of_procedures fs ts) → Stands code (start_named a fs ts x) (code_of_procedure f ts)
 
 pub lies : (a : ℕ) (fs : List Procedure) (ts : List Token) (x : List ℕ) (f : Procedure) → procedure_named x fs ≡ some f → Lies a fs ts x f
-unfolding procedure_named start_named head_named code_of_procedures if◌then◌else◌
+unfolding procedure_named start_named head_named code_of_procedures if◌then◌otherwise◌
 lies a [] ts x f e = some_none (sym e)
 lies a (g ∷ fs) ts x f e = go (same_text g.name x) refl e (lies (a + length (code_of_procedure g ts)) fs ts x f)
   where
-    go : (b : Bool) → same_text g.name x ≡ b → (if b then (λ _. some g) else λ _. procedure_named x fs) ≡ some f
+    go : (b : Bool) → same_text g.name x ≡ b → (if b then (λ _. some g) otherwise λ _. procedure_named x fs) ≡ some f
         → (procedure_named x fs ≡ some f → Lies (a + length (code_of_procedure g ts)) fs ts x f) → Lies a (g ∷ fs) ts x f
     go true s q i =
         let w : g ≡ f = cc in
@@ -73,17 +73,17 @@ Apart a m b n = (a + m ≤ b) ⊎ (b + n ≤ a)
 pub starts_apart : (a : ℕ) (fs : List Procedure) (ts : List Token) (x y : List ℕ) (f g : Procedure) → procedure_named x fs ≡ some f → procedure_named y fs ≡ some g
     → (x ≡ y → ⊥)
     → Apart (start_named a fs ts x) (length (code_of_procedure f ts)) (start_named a fs ts y) (length (code_of_procedure g ts))
-unfolding procedure_named start_named if◌then◌else◌
+unfolding procedure_named start_named if◌then◌otherwise◌
 starts_apart a [] ts x y f g p q n = some_none (sym p)
 starts_apart a (h ∷ fs) ts x y f g p q n =
     go (same_text h.name x) refl p (same_text h.name y) refl q (starts_apart (a + length (code_of_procedure h ts)) fs ts x y f g)
   where
-    go : (b : Bool) → same_text h.name x ≡ b → (if b then (λ _. some h) else λ _. procedure_named x fs) ≡ some f
-        → (c : Bool) → same_text h.name y ≡ c → (if c then (λ _. some h) else λ _. procedure_named y fs) ≡ some g
+    go : (b : Bool) → same_text h.name x ≡ b → (if b then (λ _. some h) otherwise λ _. procedure_named x fs) ≡ some f
+        → (c : Bool) → same_text h.name y ≡ c → (if c then (λ _. some h) otherwise λ _. procedure_named y fs) ≡ some g
         → (procedure_named x fs ≡ some f → procedure_named y fs ≡ some g → (x ≡ y → ⊥)
         → Apart (start_named (a + length (code_of_procedure h ts)) fs ts x) (length (code_of_procedure f ts)) (start_named (a + length (code_of_procedure h ts)) fs ts y) (length (code_of_procedure g ts)))
-        → Apart (if b then (λ _. a) else λ _. start_named (a + length (code_of_procedure h ts)) fs ts x) (length (code_of_procedure f ts))
-        (if c then (λ _. a) else λ _. start_named (a + length (code_of_procedure h ts)) fs ts y) (length (code_of_procedure g ts))
+        → Apart (if b then (λ _. a) otherwise λ _. start_named (a + length (code_of_procedure h ts)) fs ts x) (length (code_of_procedure f ts))
+        (if c then (λ _. a) otherwise λ _. start_named (a + length (code_of_procedure h ts)) fs ts y) (length (code_of_procedure g ts))
     go true s e true t k i = absurd (n (sym (same_text_lem h.name x s) ∙ same_text_lem h.name y t))
     go true s e false t k i =
         let w : h ≡ f = cc in
@@ -101,13 +101,13 @@ starts_apart a (h ∷ fs) ts x y f g p q n =
 -- a slot that no procedure has is left
 pub table_free : (a : ℕ) (fs : List Procedure) (ts : List Token) (table : List ℕ) (slot : ℕ)
     → ((x : List ℕ) → (procedure_named x fs ≡ none → ⊥) → slot_of ts x ≡ slot → ⊥) → get_or (tabled a fs ts table) slot 0 ≡ get_or table slot 0
-unfolding tabled procedure_named if◌then◌else◌
+unfolding tabled procedure_named if◌then◌otherwise◌
 table_free a [] ts table slot h = refl
 table_free a (f ∷ fs) ts table slot h =
     table_free (a + length (code_of_procedure f ts)) fs ts (set table (slot_of ts f.name) (head_word a f ts)) slot (λ x p q. h x (go x (same_text f.name x) p) q)
     ∙ get_or-set_other table (slot_of ts f.name) slot (head_word a f ts) 0 (λ q. h f.name (λ e. some_none (rw (text_same f.name) at e)) (sym q))
   where
-    go : (x : List ℕ) (b : Bool) → (procedure_named x fs ≡ none → ⊥) → (if b then (λ _. some f) else λ _. procedure_named x fs) ≡ none → ⊥
+    go : (x : List ℕ) (b : Bool) → (procedure_named x fs ≡ none → ⊥) → (if b then (λ _. some f) otherwise λ _. procedure_named x fs) ≡ none → ⊥
     go x true p e = some_none e
     go x false p e = p e
 

@@ -7,7 +7,7 @@ use mathlib.Core.List.{List, [], ◌∷◌, ◌++◌, append_assoc, map}
 use lib.ListN.{length, length-append}
 use lib.Dec.{eqb}
 use borrow.Author.Tests.{ne_eqb}
-use Rattle.meaning.specs.Basics.{if◌then◌else◌}
+use Rattle.meaning.specs.Basics.{if◌then◌otherwise◌}
 use Rattle.meaning.specs.Token.{Token, a_name}
 use Rattle.meaning.specs.Tree.{Operator, concatenate, add, subtract, multiply, divide, remainder, shift_right, shift_left, equal, unequal, greater, less}
 use Rattle.meaning.specs.Tree.{Expression, number, string, nothing, truth, name, table, entry, operation, call, paren, Arguments, no_argument, argument}
@@ -93,7 +93,7 @@ module _ {v : ℕ → ℕ} where
 
   -- a word that stays, whose size and number are told in two ways
   goes_plain : (tag s s' n n' : ℕ) → Plain tag → s ≡ s' → n ≡ n' → Goes v (word tag s n ∷ []) (word tag s' n' ∷ []) []
-  unfolding declared_slots renumbered_words slots_in slot_follows renumbered_word if◌then◌else◌
+  unfolding declared_slots renumbered_words slots_in slot_follows renumbered_word if◌then◌otherwise◌
   goes_plain tag s s' n n' p e f =
       let t = tag_told tag s n p.small in
       let x : eqb (tag_in (word tag s n)) 5 ≡ false = rw t (ne_eqb tag 5 p.no_name) in
@@ -115,7 +115,7 @@ module _ {v : ℕ → ℕ} where
 
   -- ---- words of variables
   goes_name : (n n' : ℕ) → v n ≡ n' → Goes v (word 5 1 n ∷ []) (word 5 1 n' ∷ []) []
-  unfolding declared_slots renumbered_words slots_in slot_follows renumbered_word if◌then◌else◌
+  unfolding declared_slots renumbered_words slots_in slot_follows renumbered_word if◌then◌otherwise◌
   goes_name n n' e =
       let t = tag_told 5 1 n (omega arith) in
       record {
@@ -125,7 +125,7 @@ module _ {v : ℕ → ℕ} where
       }
 
   goes_declare : (p n n' : ℕ) → p < 65536 → v n ≡ n' → Goes v (headed 32 p n []) (headed 32 p n' []) (n ∷ [])
-  unfolding declared_slots renumbered_words slots_in slot_follows renumbered_word if◌then◌else◌
+  unfolding declared_slots renumbered_words slots_in slot_follows renumbered_word if◌then◌otherwise◌
   goes_declare p n n' l e =
       let t = tag_told 32 1 (p + 65536 * n) (omega arith) in
       record {
@@ -135,7 +135,7 @@ module _ {v : ℕ → ℕ} where
       }
 
   goes_assigned : (size p n n' : ℕ) → size < 16777216 → p < 65536 → v n ≡ n' → Goes v (word 33 size (p + 65536 * n) ∷ []) (word 33 size (p + 65536 * n') ∷ []) []
-  unfolding declared_slots renumbered_words slots_in slot_follows renumbered_word if◌then◌else◌
+  unfolding declared_slots renumbered_words slots_in slot_follows renumbered_word if◌then◌otherwise◌
   goes_assigned size p n n' k l e =
       let t = tag_told 33 size (p + 65536 * n) (omega arith) in
       record {
@@ -151,7 +151,7 @@ module _ {v : ℕ → ℕ} where
 
   -- a foreach's word, and the slot behind it
   goes_each : (s s' n n' x x' : ℕ) → s ≡ s' → n ≡ n' → v x ≡ x' → Goes v (word 40 s n ∷ x ∷ []) (word 40 s' n' ∷ x' ∷ []) (x ∷ [])
-  unfolding declared_slots renumbered_words slots_in slot_follows renumbered_word if◌then◌else◌
+  unfolding declared_slots renumbered_words slots_in slot_follows renumbered_word if◌then◌otherwise◌
   goes_each s s' n n' x x' e f g =
       let t = tag_told 40 s n (omega arith) in
       record {

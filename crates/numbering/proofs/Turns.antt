@@ -8,7 +8,7 @@ use lib.ListN.{get_or, set, length, replicate, length-set}
 use lib.Seq.{get_or-set_other}
 use lib.Dec.{eqb}
 use borrow.Author.Tests.{eq-eqb, ne_eqb}
-use Rattle.meaning.specs.Basics.{if◌then◌else◌}
+use Rattle.meaning.specs.Basics.{if◌then◌otherwise◌}
 use Rattle.machine.specs.Opcodes.{tag_in, number_in, extra_in, table_place, start_in, parameters_in, body_in}
 use Rattle.numbering.specs.Pass.{words_from, put_from, Entries, entries, is_entered, number_of, entered, entered_all, slot_follows, slots_in, declared_slots}
 use Rattle.numbering.specs.Pass.{renumbered_word, renumbered_words, pass, framed_word, renumbered_code, number_procedure, settled, number_slot, number_slots, number_all}
@@ -20,24 +20,24 @@ module _ (table : List ℕ) (stamp slot : ℕ) where
   entered_so w e = rw e
 
   pub number_told : (n w : ℕ) → w ≡ get_or table (slot % 8192) 0 → w / 65536 ≡ stamp → w % 65536 ≡ number_of table stamp n slot
-  unfolding number_of is_entered if◌then◌else◌
+  unfolding number_of is_entered if◌then◌otherwise◌
   number_told n w e q =
       let t : eqb (get_or table (slot % 8192) 0 / 65536) stamp ≡ true = rw (← e) (eq-eqb _ _ q) in
       rw (t, e)
 
   pub number_missing : (n w : ℕ) → w ≡ get_or table (slot % 8192) 0 → (w / 65536 ≡ stamp → ⊥) → n % 65536 ≡ number_of table stamp n slot
-  unfolding number_of is_entered if◌then◌else◌
+  unfolding number_of is_entered if◌then◌otherwise◌
   number_missing n w e q =
       let t : eqb (get_or table (slot % 8192) 0 / 65536) stamp ≡ false = rw (← e) (ne_eqb _ _ q) in
       rw t
 
   pub enter_again : (n : ℕ) (b : Bool) → b ≡ is_entered table stamp slot → b ≡ true → entries table n ≡ entered stamp slot (entries table n)
-  unfolding entered if◌then◌else◌
+  unfolding entered if◌then◌otherwise◌
   enter_again n b e t = rw (sym e ∙ t)
 
   pub enter_new : (n : ℕ) (b : Bool) (after : List ℕ) → b ≡ is_entered table stamp slot → b ≡ false → after ≡ set table (slot % 8192) (65536 * stamp + n % 65536)
       → entries after (n % 65536 + 1) ≡ entered stamp slot (entries table n)
-  unfolding entered if◌then◌else◌
+  unfolding entered if◌then◌otherwise◌
   enter_new n b after e t q = rw (sym e ∙ t, q)
 
 -- ---- a word
@@ -56,14 +56,14 @@ module _ (stamp : ℕ) (b : Bool) (w : ℕ) (table after : List ℕ) (m r : ℕ)
 
   pub word_declares : b ≡ false → (t x : ℕ) → t ≡ tag_in w → t ≡ 32 → x ≡ extra_in w → entries after r ≡ entered stamp x (entries table m)
       → entries after r ≡ entered_all stamp (slots_in b w) (entries table m)
-  unfolding slots_in entered_all if◌then◌else◌
+  unfolding slots_in entered_all if◌then◌otherwise◌
   word_declares e t x u v k q =
       let y : eqb (tag_in w) 32 ≡ true = eq-eqb _ _ (sym u ∙ v) in
       rw (e, y, sym k) q
 
 pub word_idle : (stamp : ℕ) (b : Bool) (w : ℕ) (table : List ℕ) (m : ℕ) → b ≡ false → (t : ℕ) → t ≡ tag_in w → (t ≡ 32 → ⊥)
     → entries table m ≡ entered_all stamp (slots_in b w) (entries table m)
-unfolding slots_in entered_all if◌then◌else◌
+unfolding slots_in entered_all if◌then◌otherwise◌
 word_idle stamp b w table m e t u v =
     let y : eqb (tag_in w) 32 ≡ false = ne_eqb _ _ (λ z. v (u ∙ z)) in
     rw (e, y)
@@ -75,13 +75,13 @@ module _ (v : ℕ → ℕ) (b : Bool) (w : ℕ) where
 
   module _ (word : b ≡ false) (t : ℕ) (tag : t ≡ tag_in w) where
     pub renumber_name : (x r : ℕ) → t ≡ 5 → x ≡ number_in w → r ≡ v x → w % 4294967296 + 4294967296 * r ≡ renumbered_word v b w
-    unfolding renumbered_word if◌then◌else◌
+    unfolding renumbered_word if◌then◌otherwise◌
     renumber_name x r e q k =
         let y : eqb (tag_in w) 5 ≡ true = eq-eqb _ _ (sym tag ∙ e) in
         rw (word, y, k, q)
 
     pub renumber_declare : (x r : ℕ) → (t ≡ 5 → ⊥) → t ≡ 32 → x ≡ extra_in w → r ≡ v x → w % 281474976710656 + 281474976710656 * r ≡ renumbered_word v b w
-    unfolding renumbered_word if◌then◌else◌
+    unfolding renumbered_word if◌then◌otherwise◌
     renumber_declare x r n e q k =
         let y : eqb (tag_in w) 5 ≡ false = ne_eqb _ _ (λ z. n (tag ∙ z)) in
         let z : eqb (tag_in w) 32 ≡ true = eq-eqb _ _ (sym tag ∙ e) in
@@ -89,7 +89,7 @@ module _ (v : ℕ → ℕ) (b : Bool) (w : ℕ) where
 
     pub renumber_assign : (x r : ℕ) → (t ≡ 5 → ⊥) → (t ≡ 32 → ⊥) → eqb t 33 ≡ true → x ≡ extra_in w → r ≡ v x
         → w % 281474976710656 + 281474976710656 * r ≡ renumbered_word v b w
-    unfolding renumbered_word if◌then◌else◌
+    unfolding renumbered_word if◌then◌otherwise◌
     renumber_assign x r n o e q k =
         let y : eqb (tag_in w) 5 ≡ false = ne_eqb _ _ (λ z. n (tag ∙ z)) in
         let z : eqb (tag_in w) 32 ≡ false = ne_eqb _ _ (λ z. o (tag ∙ z)) in
@@ -97,7 +97,7 @@ module _ (v : ℕ → ℕ) (b : Bool) (w : ℕ) where
         rw (word, y, z, u, k, q)
 
     pub renumber_other : (t ≡ 5 → ⊥) → (t ≡ 32 → ⊥) → eqb t 33 ≡ false → w ≡ renumbered_word v b w
-    unfolding renumbered_word if◌then◌else◌
+    unfolding renumbered_word if◌then◌otherwise◌
     renumber_other n o p =
         let x : eqb (tag_in w) 5 ≡ false = ne_eqb _ _ (λ z. n (tag ∙ z)) in
         let y : eqb (tag_in w) 32 ≡ false = ne_eqb _ _ (λ z. o (tag ∙ z)) in
@@ -126,10 +126,10 @@ words_set code i w a (suc n) l = rw (get_or-set_other code i a w 0 (λ e. omega 
 
 -- ---- lengths
 entered_long : (stamp slot : ℕ) (e : Entries) → length (entered stamp slot e).table ≡ length e.table
-unfolding entered if◌then◌else◌
+unfolding entered if◌then◌otherwise◌
 entered_long stamp slot e = go (is_entered e.table stamp slot)
   where
-    go : (b : Bool) → length (if b then (λ _. e) else λ _. entries (set e.table (slot % 8192) (65536 * stamp + e.count % 65536)) (e.count % 65536 + 1)).table
+    go : (b : Bool) → length (if b then (λ _. e) otherwise λ _. entries (set e.table (slot % 8192) (65536 * stamp + e.count % 65536)) (e.count % 65536 + 1)).table
         ≡ length e.table
     go true = refl
     go false = length-set e.table (slot % 8192) (65536 * stamp + e.count % 65536)
@@ -230,11 +230,11 @@ renumber_all stamp a n m table code₀ code slot k g l = renumber_done (number_o
 
 -- ---- a procedure
 pub framed_not : (d n m all : ℕ) → (m ≡ n → ⊥) → d ≡ framed_word d n m all
-unfolding framed_word if◌then◌else◌
+unfolding framed_word if◌then◌otherwise◌
 framed_not d n m all h = rw (ne_eqb m n h)
 
 pub framed_so : (d n m all : ℕ) → m ≡ n → d % 281474976710656 + 281474976710656 * (all % 65535 + 1) ≡ framed_word d n m all
-unfolding framed_word if◌then◌else◌
+unfolding framed_word if◌then◌otherwise◌
 framed_so d n m all h = rw (eq-eqb m n h)
 
 module _ (stamp d : ℕ) (code table : List ℕ) (a n size : ℕ) (start : a ≡ start_in d) (takes : n ≡ parameters_in d) (has : size ≡ body_in d) where
@@ -253,7 +253,7 @@ module _ (stamp d : ℕ) (code table : List ℕ) (a n size : ℕ) (start : a ≡
 -- ---- a slot's procedure
 module _ (main slot found : ℕ) (code table : List ℕ) (place d : ℕ) (at : place ≡ table_place slot) (told : d ≡ get_or code place 0) where
   pub slot_none : d ≡ 0 → pass code table found ≡ number_slot main slot (pass code table found)
-  unfolding number_slot if◌then◌else◌
+  unfolding number_slot if◌then◌otherwise◌
   slot_none z =
       let t : eqb (get_or code (table_place slot) 0) 0 ≡ true = eq-eqb _ _ (ap (λ (i : ℕ). get_or code i 0) (sym at) ∙ sym told ∙ z) in
       rw t
@@ -264,17 +264,17 @@ module _ (main slot found : ℕ) (code table : List ℕ) (place d : ℕ) (at : p
     here = told ∙ ap (λ (i : ℕ). get_or code i 0) at
 
     turned : settled main slot found d (pass code₁ table₁ e) ≡ number_slot main slot (pass code table found)
-    unfolding number_slot if◌then◌else◌
+    unfolding number_slot if◌then◌otherwise◌
     turned =
         let t : eqb (get_or code (table_place slot) 0) 0 ≡ false = ne_eqb _ _ (λ z. some (here ∙ z)) in
         rw (t, ← here, numbered)
 
     pub slot_main : d ≡ main → pass code₂ table₁ e ≡ number_slot main slot (pass code table found)
-    unfolding settled if◌then◌else◌
+    unfolding settled if◌then◌otherwise◌
     slot_main q = rw (eq-eqb d main q) (rw (put, at₂) refl) ∙ turned
 
     pub slot_other : (d ≡ main → ⊥) → pass code₂ table₁ found ≡ number_slot main slot (pass code table found)
-    unfolding settled if◌then◌else◌
+    unfolding settled if◌then◌otherwise◌
     slot_other q = rw (ne_eqb d main q) (rw (put, at₂) refl) ∙ turned
 
 -- ---- all

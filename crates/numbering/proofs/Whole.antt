@@ -11,7 +11,7 @@ use lib.ListN.{length, get_or, set, replicate, length-append, length-map, length
 use lib.Seq.{get_or-set_same, get_or-set_other}
 use lib.Dec.{eqb}
 use borrow.Author.Tests.{eq-eqb, ne_eqb}
-use Rattle.meaning.specs.Basics.{bytes, if◌then◌else◌}
+use Rattle.meaning.specs.Basics.{bytes, if◌then◌otherwise◌}
 use Rattle.meaning.specs.Token.{Token, a_name}
 use Rattle.meaning.specs.Tree.{Statements, only, first, Procedure, Program}
 use Rattle.meaning.specs.Grammar.{procedure_named}
@@ -108,7 +108,7 @@ module _ (ts : List Token) (sane : Sane ts) (fs : List Procedure) (each : Unders
   -- ---- a slot that no procedure has
   module _ (slot : ℕ) (p : Pass) (g : Going slot p) (below : slot < length ts) (lacks : Lacks fs ts slot) where
     idle : number_slot main_word slot p ≡ p
-    unfolding number_slot if◌then◌else◌
+    unfolding number_slot if◌then◌otherwise◌
     idle = let z = g.empty slot (omega (arith, sane.few)) lacks in rw (eq-eqb _ _ z)
 
     turn_none : Going (slot + 1) p
@@ -155,10 +155,10 @@ module _ (ts : List Token) (sane : Sane ts) (fs : List Procedure) (each : Unders
     next = set put (table_place slot) (numbered_word (start x) f ts)
 
     abbrev found : ℕ
-    found = if eqb d main_word then (λ _. numbered_word (start x) f ts) else λ _. p.word
+    found = if eqb d main_word then (λ _. numbered_word (start x) f ts) otherwise λ _. p.word
 
     turned : number_slot main_word slot p ≡ pass next numbered.table found
-    unfolding number_slot settled if◌then◌else◌
+    unfolding number_slot settled if◌then◌otherwise◌
     turned =
         let z : eqb (get_or p.code (table_place slot) 0) 0 ≡ false = rw here (ne_eqb d 0 (λ e. omega (arith, head_positive (start x) f ts))) in
         let c = procedure_code ts sane f (known x f is) (start x) (slot + 1) early p.code p.table untouched.slots untouched.body g.table_long newer in
@@ -236,13 +236,13 @@ module _ (ts : List Token) (sane : Sane ts) (fs : List Procedure) (each : Unders
 
     -- ---- main's word
     found_later : slot + 1 ≤ slot_of ts x₀ → found ≡ main_word
-    unfolding if◌then◌else◌
+    unfolding if◌then◌otherwise◌
     found_later l =
         let n : d ≡ main_word → ⊥ = words_differ x x₀ f f₀ is is₀ (other_name x₀ (λ e. omega arith)) in
         rw (ne_eqb d main_word n) (g.main_later (omega arith))
 
     found_done : slot_of ts x₀ < slot + 1 → found ≡ numbered_word (start x₀) f₀ ts
-    unfolding if◌then◌else◌
+    unfolding if◌then◌otherwise◌
     found_done l = ⊎_elim by_this by_other (eq-or-lt_of_le (omega arith))
       where
         by_this : slot_of ts x₀ ≡ slot → found ≡ numbered_word (start x₀) f₀ ts

@@ -1,6 +1,6 @@
 -- The variables of a procedure, numbered, and its code with these numbers.
 use Rattle.std.specs.Prelude.{ℕ, suc, ◌+◌, ◌*◌, List, [], ◌∷◌, ◌++◌, length, eqb}
-use Rattle.meaning.specs.Basics.{if◌then◌else◌, same_text}
+use Rattle.meaning.specs.Basics.{if◌then◌otherwise◌, same_text}
 use Rattle.meaning.specs.Token.{Token}
 use Rattle.meaning.specs.Tree.{Procedure}
 use Rattle.meaning.specs.Procedure.{is_among}
@@ -10,7 +10,7 @@ use Rattle.reader.specs.Declarations.{declared_by}
 -- ---- names, each once
 -- behind those that there are, unless it is one of them
 unfoldable pub with_name : List (List ℕ) → List ℕ → List (List ℕ)
-with_name xs x = if is_among x xs then (λ _. xs) else λ _. xs ++ (x ∷ [])
+with_name xs x = if is_among x xs then (λ _. xs) otherwise λ _. xs ++ (x ∷ [])
 
 unfoldable pub with_names : List (List ℕ) → List (List ℕ) → List (List ℕ)
 with_names xs [] = xs
@@ -19,7 +19,7 @@ with_names xs (y ∷ ys) = with_names (with_name xs y) ys
 -- which of them a name is; if it is none, how many they are
 unfoldable pub number_in : List (List ℕ) → List ℕ → ℕ
 number_in [] x = 0
-number_in (y ∷ ys) x = if same_text y x then (λ _. 0) else λ _. suc (number_in ys x)
+number_in (y ∷ ys) x = if same_text y x then (λ _. 0) otherwise λ _. suc (number_in ys x)
 
 -- ---- procedures
 -- the variables that a call may have: its parameters, and the names that its body declares
@@ -29,7 +29,7 @@ variables_in f = with_names [] (f.parameters ++ declared_by f.body)
 -- how many words they take in a call, one for all other names among them; 0 if two parameters have one name
 unfoldable pub frame_size : Procedure → ℕ
 frame_size f =
-    if eqb (length (with_names [] f.parameters)) (length f.parameters) then (λ _. suc (length (variables_in f))) else λ _. 0
+    if eqb (length (with_names [] f.parameters)) (length f.parameters) then (λ _. suc (length (variables_in f))) otherwise λ _. 0
 
 -- its word in the table, where its code begins at a
 abbrev pub numbered_word : ℕ → Procedure → List Token → ℕ

@@ -1,6 +1,6 @@
 -- What numbering does to words: a table of numbers by slot, the words of a procedure, and those of all procedures.
 use Rattle.std.specs.Prelude.{ℕ, zero, suc, ◌+◌, ◌*◌, ◌/◌, ◌%◌, Bool, true, false, ◌||◌, List, [], ◌∷◌, ◌++◌, length, get_or, set, replicate, eqb}
-use Rattle.meaning.specs.Basics.{if◌then◌else◌}
+use Rattle.meaning.specs.Basics.{if◌then◌otherwise◌}
 use Rattle.machine.specs.Opcodes.{tag_in, number_in, extra_in, table_place, start_in, parameters_in, body_in, tag_name, tag_declare, tag_assign, tag_foreach}
 
 -- ---- words that stand one after the other
@@ -28,13 +28,13 @@ is_entered table stamp slot = eqb (get_or table (slot % 8192) 0 / 65536) stamp
 
 -- the number of a slot; n if it has none
 unfoldable pub number_of : List ℕ → ℕ → ℕ → ℕ → ℕ
-number_of table stamp n slot = if is_entered table stamp slot then (λ _. get_or table (slot % 8192) 0 % 65536) else λ _. n % 65536
+number_of table stamp n slot = if is_entered table stamp slot then (λ _. get_or table (slot % 8192) 0 % 65536) otherwise λ _. n % 65536
 
 -- a slot gets the next number, unless it has one
 unfoldable pub entered : ℕ → ℕ → Entries → Entries
 entered stamp slot e =
     if is_entered e.table stamp slot then (λ _. e)
-    else λ _. entries (set e.table (slot % 8192) (65536 * stamp + e.count % 65536)) (e.count % 65536 + 1)
+    otherwise λ _. entries (set e.table (slot % 8192) (65536 * stamp + e.count % 65536)) (e.count % 65536 + 1)
 
 unfoldable pub entered_all : ℕ → List ℕ → Entries → Entries
 entered_all stamp [] e = e
@@ -49,7 +49,7 @@ slot_follows false w = eqb (tag_in w) tag_foreach
 -- the slot that a word declares, where it is a slot itself or not
 unfoldable pub slots_in : Bool → ℕ → List ℕ
 slots_in true w = w ∷ []
-slots_in false w = if eqb (tag_in w) tag_declare then (λ _. extra_in w ∷ []) else λ _. []
+slots_in false w = if eqb (tag_in w) tag_declare then (λ _. extra_in w ∷ []) otherwise λ _. []
 
 unfoldable pub declared_slots : Bool → List ℕ → List ℕ
 declared_slots slot [] = []
@@ -60,7 +60,7 @@ unfoldable pub renumbered_word : (ℕ → ℕ) → Bool → ℕ → ℕ
 renumbered_word v true w = v w
 renumbered_word v false w =
     if eqb (tag_in w) tag_name then (λ _. w % 4294967296 + 4294967296 * v (number_in w))
-    else λ _. if eqb (tag_in w) tag_declare || eqb (tag_in w) tag_assign then (λ _. w % 281474976710656 + 281474976710656 * v (extra_in w)) else λ _. w
+    otherwise λ _. if eqb (tag_in w) tag_declare || eqb (tag_in w) tag_assign then (λ _. w % 281474976710656 + 281474976710656 * v (extra_in w)) otherwise λ _. w
 
 unfoldable pub renumbered_words : (ℕ → ℕ) → Bool → List ℕ → List ℕ
 renumbered_words v slot [] = []
@@ -78,7 +78,7 @@ pass code table word = record { code = code; table = table; word = word }
 
 -- the word d of a procedure of which n parameters are entered as m, and all its variables as so many
 unfoldable pub framed_word : ℕ → ℕ → ℕ → ℕ → ℕ
-framed_word d n m all = if eqb m n then (λ _. d % 281474976710656 + 281474976710656 * (all % 65535 + 1)) else λ _. d
+framed_word d n m all = if eqb m n then (λ _. d % 281474976710656 + 281474976710656 * (all % 65535 + 1)) otherwise λ _. d
 
 -- the code of a procedure whose variables are entered as e; its body is n words from a on
 unfoldable pub renumbered_code : ℕ → ℕ → ℕ → Entries → List ℕ → List ℕ
@@ -99,13 +99,13 @@ number_procedure stamp d code table =
 
 -- the procedure of word d stands there anew; main's word, if it is this one, is found
 unfoldable pub settled : ℕ → ℕ → ℕ → ℕ → Pass → Pass
-settled main slot found d p = pass (set p.code (table_place slot) p.word) p.table (if eqb d main then (λ _. p.word) else λ _. found)
+settled main slot found d p = pass (set p.code (table_place slot) p.word) p.table (if eqb d main then (λ _. p.word) otherwise λ _. found)
 
 -- the procedure of a slot, if there is one
 unfoldable pub number_slot : ℕ → ℕ → Pass → Pass
 number_slot main slot p =
     if eqb (get_or p.code (table_place slot) 0) 0 then (λ _. p)
-    else λ _. settled main slot p.word (get_or p.code (table_place slot) 0) (number_procedure (slot + 1) (get_or p.code (table_place slot) 0) p.code p.table)
+    otherwise λ _. settled main slot p.word (get_or p.code (table_place slot) 0) (number_procedure (slot + 1) (get_or p.code (table_place slot) 0) p.code p.table)
 
 -- those of n slots from one on
 unfoldable pub number_slots : ℕ → ℕ → ℕ → Pass → Pass

@@ -8,11 +8,11 @@ use native.Mathlib.Numerals.{add-one}
 use native.Mathlib.Omega.{arith}
 use lib.ListN.{length, get_or, drop, drop_of_length-le}
 use lib.Seq.{drop-cons}
-use Rattle.meaning.specs.Basics.{if◌then◌else◌, span}
+use Rattle.meaning.specs.Basics.{if◌then◌otherwise◌, span}
 
 -- it counts no more bytes than there are
-clause_le : (b : Bool) {m n : ℕ} → m ≤ n → (if b then (λ _. suc m) else λ _. 0) ≤ suc n
-unfolding if◌then◌else◌
+clause_le : (b : Bool) {m n : ℕ} → m ≤ n → (if b then (λ _. suc m) otherwise λ _. 0) ≤ suc n
+unfolding if◌then◌otherwise◌
 clause_le true h = suc-le-suc h
 clause_le false h = zero-le
 
@@ -32,13 +32,13 @@ span_none p s place h = record { begun = omega arith; within = h; counted = refl
 
 module _ (p : ℕ → Bool) (s : List ℕ) (place i : ℕ) (g : Spanning p s place i) where
   pub span_more : i < length s → p (get_or s i 0) ≡ true → Spanning p s place (i + 1)
-  unfolding span if◌then◌else◌
+  unfolding span if◌then◌otherwise◌
   span_more h e =
       let q : span p (drop i s) ≡ suc (span p (drop (i + 1) s)) = rw (drop-cons s i 0, e, add-one i) in
       record { begun = omega (arith, g.begun); within = omega arith; counted = omega (arith, g.counted) }
 
   pub span_stop : i < length s → p (get_or s i 0) ≡ false → i - place ≡ span p (drop place s)
-  unfolding span if◌then◌else◌
+  unfolding span if◌then◌otherwise◌
   span_stop h e =
       let q : span p (drop i s) ≡ 0 = rw (drop-cons s i 0, e) in
       omega (arith, g.counted, g.begun)

@@ -10,7 +10,7 @@ use native.Mathlib.Omega.{arith}
 use borrow.Author.Tests.{lt-ltb, le-ltb}
 use lib.Dec.{lit<}
 use lib.ListN.{length, length-append}
-use Rattle.meaning.specs.Basics.{if◌then◌else◌}
+use Rattle.meaning.specs.Basics.{if◌then◌otherwise◌}
 use Rattle.meaning.specs.Picture.{digits_within, digits_of}
 use Rattle.io.specs.Digits.{last_digits, hex_digit_ascii, IsDigitCount}
 use Rattle.writing.proofs.Laying.{then as joined}
@@ -22,7 +22,7 @@ decimal_glyph d h = rw (lt-ltb d 10 h) (omega arith)
 
 -- k + 1 digits, the first of them no zero
 same : (k rounds n : ℕ) → n < 10 ^ suc k → (0 < k → 10 ^ k ≤ n) → k < rounds → digits_within rounds n ≡ last_digits 10 (suc k) n
-unfolding digits_within if◌then◌else◌
+unfolding digits_within if◌then◌otherwise◌
 same k zero n h f r = absurd (omega arith)
 same zero (suc rounds) n h f r =
     let l : n < 10 = omega arith in

@@ -8,7 +8,7 @@ use lib.ListN.{length, get_or}
 use lib.IntN.{ℤ}
 use lib.Dec.{leb, eqb}
 use borrow.Author.Tests.{le-leb, lt-leb}
-use Rattle.meaning.specs.Basics.{if◌then◌else◌, laid_over}
+use Rattle.meaning.specs.Basics.{if◌then◌otherwise◌, laid_over}
 use Rattle.meaning.specs.State.{State}
 use Rattle.meaning.specs.Run.{Resource, steps, shapes, entries, text_bytes, calls, picture, Taking, Event, taken, gave_back, End, result, error, unfinished, Run, run, Action}
 use Rattle.meaning.specs.Run as Run
@@ -45,12 +45,12 @@ no_length t z = go t.of t.amount z
     go picture n z = z
 
 lack_picture : (g total total' : Amounts) (t : Taking) (us : List Event) → book g total us ≡ lacking t total' → spent picture us ≡ 0 → length_needed t ≡ 0
-unfolding book spent if◌then◌else◌
+unfolding book spent if◌then◌otherwise◌
 lack_picture g total total' t [] b z = absurd (lacking_no_fit (sym b))
 lack_picture g total total' t (gave_back ∷ us) b z = lack_picture g (lowered total) total' t us b z
 lack_picture g total total' t (taken u ∷ us) b z = go (fits g total u) b (λ b. lack_picture g (added total u) total' t us b (omega arith))
   where
-    go : (c : Bool) → (if c then (λ _. book g (added total u) us) else λ _. lacking u total) ≡ lacking t total'
+    go : (c : Bool) → (if c then (λ _. book g (added total u) us) otherwise λ _. lacking u total) ≡ lacking t total'
         → (book g (added total u) us ≡ lacking t total' → length_needed t ≡ 0) → length_needed t ≡ 0
     go true b k = k b
     go false b k = let q : u ≡ t = cc in rw (← q) (no_length u (omega arith))
@@ -151,7 +151,7 @@ module _ (program : List ℕ) (width height : ℤ) (g : List ℕ) (out : List �
     drawn_run = let d = painted_ended in rw (d.end, d.holds.scene)
 
     drawn_book : (c : Bool) → leb (length bytes) (length out) ≡ c
-        → book amounts nothing_yet (painted.takings ++ (taken last ∷ [])) ≡ (if c then (λ _. all_fit (added painted_ended.total last)) else λ _. lacking last painted_ended.total)
+        → book amounts nothing_yet (painted.takings ++ (taken last ∷ [])) ≡ (if c then (λ _. all_fit (added painted_ended.total last)) otherwise λ _. lacking last painted_ended.total)
     unfolding on_fit book fits granted
     drawn_book c e =
         let d = painted_ended in
@@ -164,18 +164,18 @@ module _ (program : List ℕ) (width height : ℤ) (g : List ℕ) (out : List �
 
     module _ (short : length out < length bytes) where
       pub drawn_short : booked amounts whole ≡ number 80 0 (get_or ws steps_used 0) (length bytes)
-      unfolding booked settled shortage_of length_needed resource_number if◌then◌else◌
+      unfolding booked settled shortage_of length_needed resource_number if◌then◌otherwise◌
       drawn_short = rw (drawn_run, drawn_book false (lt-leb _ _ short), painted_ended.holds.told)
 
       pub out_kept : out_after_end drawing (book amounts nothing_yet whole.takings) whole.end out ≡ out
-      unfolding out_after_end if◌then◌else◌
+      unfolding out_after_end if◌then◌otherwise◌
       out_kept = rw (drawn_run, drawn_book false (lt-leb _ _ short))
 
     module _ (long : length bytes ≤ length out) where
       pub drawn_picture : booked amounts whole ≡ pictured (length bytes) (get_or ws steps_used 0)
-      unfolding booked settled answer_to if◌then◌else◌
+      unfolding booked settled answer_to if◌then◌otherwise◌
       drawn_picture = rw (drawn_run, drawn_book true (le-leb _ _ long), steps_kept)
 
       pub out_laid : out_after_end drawing (book amounts nothing_yet whole.takings) whole.end out ≡ laid_over bytes out
-      unfolding out_after_end if◌then◌else◌
+      unfolding out_after_end if◌then◌otherwise◌
       out_laid = rw (drawn_run, drawn_book true (le-leb _ _ long))

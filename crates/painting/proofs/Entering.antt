@@ -11,7 +11,7 @@ use lib.ListN.{get_or, set}
 use lib.IntN.{ℤ}
 use lib.Signed.{mag}
 use borrow.Author.Tests.{ne_eqb}
-use Rattle.meaning.specs.Basics.{if◌then◌else◌, same_text}
+use Rattle.meaning.specs.Basics.{if◌then◌otherwise◌, same_text}
 use Rattle.meaning.specs.Token.{Token}
 use Rattle.meaning.specs.Value.{integer}
 use Rattle.meaning.specs.Value as Value
@@ -71,11 +71,11 @@ variable x u = record { name = x; holds = u }
 
 module _ (x y : List ℕ) (u v : Value.Value) where
   first_assigned : assigned (variable x Value.none ∷ variable y Value.none ∷ []) x u ≡ variable x u ∷ variable y Value.none ∷ []
-  unfolding assigned if◌then◌else◌
+  unfolding assigned if◌then◌otherwise◌
   first_assigned = rw (text_same x)
 
   second_assigned : same_text x y ≡ false → assigned (variable x u ∷ variable y Value.none ∷ []) y v ≡ variable x u ∷ variable y v ∷ []
-  unfolding assigned if◌then◌else◌
+  unfolding assigned if◌then◌otherwise◌
   second_assigned e = rw (e, text_same y)
 
 -- a variable set, by its number
@@ -119,7 +119,7 @@ module _ (program : List ℕ) (ts : List Token) (g : List ℕ) (texts words : Li
       begun = c.related
 
       there_first : holding r.words (number_in (scope_of program ts (get_or r.words running 0)) x) ≢ 0
-      unfolding value_in if◌then◌else◌
+      unfolding value_in if◌then◌otherwise◌
       there_first z =
           let q : value_in both x ≡ Option.none = undeclared begun x z in
           some_none (rw (text_same x) at q)
@@ -144,7 +144,7 @@ module _ (program : List ℕ) (ts : List Token) (g : List ℕ) (texts words : Li
       under_way = first.untouched.running ∙ c.procedure
 
       there_second : holding one.words (number_in (scope_of program ts (get_or one.words running 0)) y) ≢ 0
-      unfolding value_in if◌then◌else◌
+      unfolding value_in if◌then◌otherwise◌
       there_second z =
           let q : value_in half y ≡ Option.none = undeclared first.related y z in
           some_none (rw (apart, text_same y) at q)

@@ -6,7 +6,7 @@ use mathlib.Core.Bool.{Bool, true, false}
 use mathlib.Core.List.{List, [], ◌∷◌}
 use lib.ListN.{get_or, length, drop, length-append, length-take}
 use lib.Dec.{eqb}
-use Rattle.meaning.specs.Basics.{if◌then◌else◌}
+use Rattle.meaning.specs.Basics.{if◌then◌otherwise◌}
 use Rattle.meaning.specs.Token.{Token}
 use Rattle.meaning.specs.Figure.{Figure}
 use Rattle.meaning.specs.Picture.{line_of, lines_of}
@@ -43,12 +43,12 @@ amount_in r (lacking t total) = total r
 
 pub fit_spent : (r : Resource) → eqb (resource_number r) (resource_number calls) ≡ false → (g total total' : Amounts) (us : List Event) → book g total us ≡ all_fit total'
     → total' r ≡ total r + spent r us
-unfolding book spent if◌then◌else◌ added part lowered
+unfolding book spent if◌then◌otherwise◌ added part lowered
 fit_spent r e g total total' [] b = let q : total r ≡ total' r = ap (amount_in r) b in omega arith
 fit_spent r e g total total' (gave_back ∷ us) b = fit_spent r e g (lowered total) total' us b ∙ rw e (omega arith)
 fit_spent r e g total total' (taken t ∷ us) b = go (fits g total t) b (λ b. fit_spent r e g (added total t) total' us b)
   where
-    go : (c : Bool) → (if c then (λ _. book g (added total t) us) else λ _. lacking t total) ≡ all_fit total'
+    go : (c : Bool) → (if c then (λ _. book g (added total t) us) otherwise λ _. lacking t total) ≡ all_fit total'
         → (book g (added total t) us ≡ all_fit total' → total' r ≡ added total t r + spent r us) → total' r ≡ total r + spent r (taken t ∷ us)
     go true b k = k b ∙ omega arith
     go false b k = absurd (lacking_no_fit b)
@@ -82,10 +82,10 @@ lines_size [] = refl
 lines_size (a ∷ xs) = length-append (line_of a) (lines_of xs) ∙ ap (λ n. length (line_of a) + n) (lines_size xs)
 
 text_short : (program texts : List ℕ) (h : ℕ) → length (text_of program texts h) ≤ 65535
-unfolding text_of Texts.part if◌then◌else◌
+unfolding text_of Texts.part if◌then◌otherwise◌
 text_short program texts h = go (eqb (origin_in h) 0)
   where
-    go : (b : Bool) → length (if b then (λ _. Texts.part (start_in h) (size_in h) program) else λ _. Texts.part (start_in h) (size_in h) texts) ≤ 65535
+    go : (b : Bool) → length (if b then (λ _. Texts.part (start_in h) (size_in h) program) otherwise λ _. Texts.part (start_in h) (size_in h) texts) ≤ 65535
     go true = omega (arith, length-take (size_in h) (drop (start_in h) program))
     go false = omega (arith, length-take (size_in h) (drop (start_in h) texts))
 

@@ -8,7 +8,7 @@ use mathlib.Core.List.{List, [], ◌∷◌, ◌++◌, append-nil, append_assoc}
 use lib.ListN.{length, get_or, length-append}
 use lib.Dec.{eqb}
 use borrow.Author.Tests.{eqb-true, eqb-false, ne_eqb}
-use Rattle.meaning.specs.Basics.{if◌then◌else◌}
+use Rattle.meaning.specs.Basics.{if◌then◌otherwise◌}
 use Rattle.meaning.specs.Token.{Token}
 use Rattle.meaning.specs.Figure as Meaning
 use Rattle.meaning.specs.Value as Value
@@ -42,7 +42,7 @@ use Rattle.simulation.proofs.Usable.{figure_found, group_found, destroyed_found}
 -- those of some shapes that are not destroyed, one after the other
 unfoldable pub among : (ℕ → List Meaning.Figure) → State → List ℕ → List Meaning.Figure
 among inside s [] = []
-among inside s (i ∷ is) = (if is_destroyed s i then (λ _. []) else λ _. inside i) ++ among inside s is
+among inside s (i ∷ is) = (if is_destroyed s i then (λ _. []) otherwise λ _. inside i) ++ among inside s is
 
 -- a figure itself, or those in a group; b as in `figures_of`
 unfoldable pub showing : ℕ → State → ℕ → List Meaning.Figure
@@ -72,7 +72,7 @@ one_each (i ∷ is) = omega (arith, one_each is)
 
 module _ (visit : ℕ → Action (List Meaning.Figure)) (inside : ℕ → List Meaning.Figure) (n : ℕ) (s : State) (f : (i : ℕ) → Gathers s n (inside i) (visit i s)) where
   each_gathers : (is : List ℕ) → Gathers s (each_of n is) (among inside s is) (each visit is s)
-  unfolding each among each_of spent if◌then◌else◌ Run.◌>>=◌ Run.go_on Run.current Run.give
+  unfolding each among each_of spent if◌then◌otherwise◌ Run.◌>>=◌ Run.go_on Run.current Run.give
   each_gathers [] = record { end = refl; few = omega arith }
   each_gathers (i ∷ is) =
       let a = one (is_destroyed s i) in
@@ -85,14 +85,14 @@ module _ (visit : ℕ → Action (List Meaning.Figure)) (inside : ℕ → List M
           b.few,
           spent_append steps (first (is_destroyed s i)).takings ((each visit is s).takings ++ []),
           spent_append steps (each visit is s).takings [],
-          length-append (if is_destroyed s i then (λ _. []) else λ _. inside i) (among inside s is),
+          length-append (if is_destroyed s i then (λ _. []) otherwise λ _. inside i) (among inside s is),
         ));
       }
     where
       first : Bool → Run (List Meaning.Figure)
-      first b = (if b then (λ _. Run.give []) else λ _. visit i) s
+      first b = (if b then (λ _. Run.give []) otherwise λ _. visit i) s
 
-      one : (b : Bool) → Gathers s n (if b then (λ _. []) else λ _. inside i) ((if b then (λ _. Run.give []) else λ _. visit i) s)
+      one : (b : Bool) → Gathers s n (if b then (λ _. []) otherwise λ _. inside i) ((if b then (λ _. Run.give []) otherwise λ _. visit i) s)
       one true = record { end = refl; few = omega arith }
       one false = f i
 
@@ -144,12 +144,12 @@ many f k (suc n) = ap suc (many f (suc k) n)
 -- ---- figures by their words
 -- a word of kind 6
 shape_in_lem : (w : ℕ) → kind_in w ≡ 6 → unpacked w ≡ Shape (number_in w)
-unfolding unpacked if◌then◌else◌
+unfolding unpacked if◌then◌otherwise◌
 shape_in_lem w e = rw e
 
 pub by_kind_number : (program texts : List ℕ) (k : ℕ) (f : Figure) → f.kind ≡ k
     → figure_from k f.a f.b f.c f.d (text_of program texts f.text) ≡ meant_figure program texts f
-unfolding figure_from meant_figure if◌then◌else◌
+unfolding figure_from meant_figure if◌then◌otherwise◌
 by_kind_number program texts zero f e = rw e
 by_kind_number program texts (suc zero) f e = rw e
 by_kind_number program texts (suc (suc zero)) f e = rw e
@@ -170,8 +170,8 @@ among_append : (inside : ℕ → List Meaning.Figure) (s : State) (a b : List �
 unfolding among
 among_append inside s [] b = refl
 among_append inside s (i ∷ a) b =
-    ap (λ (l : List Meaning.Figure). (if is_destroyed s i then (λ _. []) else λ _. inside i) ++ l) (among_append inside s a b)
-    ∙ sym (append_assoc (if is_destroyed s i then (λ _. []) else λ _. inside i) (among inside s a) (among inside s b))
+    ap (λ (l : List Meaning.Figure). (if is_destroyed s i then (λ _. []) otherwise λ _. inside i) ++ l) (among_append inside s a b)
+    ∙ sym (append_assoc (if is_destroyed s i then (λ _. []) otherwise λ _. inside i) (among inside s a) (among inside s b))
 
 held_append : (a b : List Variable) → shapes_held (a ++ b) ≡ shapes_held a ++ shapes_held b
 unfolding shapes_held
@@ -181,11 +181,11 @@ held_append (v ∷ a) b = ap (λ (l : List ℕ). shape_in v.holds ++ l) (held_ap
 module _ {program : List ℕ} {ts : List Token} {g : List ℕ} {r : Raw} {s : State} {total : Amounts} (h : Related program ts g r s total) where
   -- one of some shapes, by what is known of those that are older
   one_shown : (inside : ℕ → List Meaning.Figure) (seen : ℕ → List ℕ) (i : ℕ) → i < get_or r.words shapes_used 0 → inside i ≡ figures_for program r (seen i)
-      → (if is_destroyed s i then (λ _. []) else λ _. inside i) ≡ figures_for program r (if destroyed_at r.words i then (λ _. []) else λ _. seen i)
-  unfolding figures_for if◌then◌else◌
+      → (if is_destroyed s i then (λ _. []) otherwise λ _. inside i) ≡ figures_for program r (if destroyed_at r.words i then (λ _. []) otherwise λ _. seen i)
+  unfolding figures_for if◌then◌otherwise◌
   one_shown inside seen i l e = go (is_destroyed s i) (destroyed_at r.words i) (destroyed_found h i l)
     where
-      go : (b c : Bool) → b ≡ c → (if b then (λ _. []) else λ _. inside i) ≡ figures_for program r (if c then (λ _. []) else λ _. seen i)
+      go : (b c : Bool) → b ≡ c → (if b then (λ _. []) otherwise λ _. inside i) ≡ figures_for program r (if c then (λ _. []) otherwise λ _. seen i)
       go true true q = refl
       go true false q = let z : ◌≡◌ {A = ℕ} 0 1 = cc in absurd (omega arith)
       go false true q = let z : ◌≡◌ {A = ℕ} 0 1 = cc in absurd (omega arith)
@@ -203,16 +203,16 @@ module _ {program : List ℕ} {ts : List Token} {g : List ℕ} {r : Raw} {s : St
       let more : among inside s (listed (component_at g r.words) (k + 1) n) ≡ figures_for program r (shown_from seen g r.words (k + 1) n) =
       components_shown inside seen i l f n (k + 1) (λ j x y. o j (omega arith) (omega arith)) in
       ap₂ ◌++◌ (one_shown inside seen c (omega arith) (f c older)) (ap (λ j. among inside s (listed (component_at g r.words) j n)) (sym (add-one k)) ∙ more)
-      ∙ sym (for_append program r (if destroyed_at r.words c then (λ _. []) else λ _. seen c) (shown_from seen g r.words (k + 1) n))
+      ∙ sym (for_append program r (if destroyed_at r.words c then (λ _. []) otherwise λ _. seen c) (shown_from seen g r.words (k + 1) n))
 
   shape_shown : (b b' i : ℕ) → i < b → i < b' → i < get_or r.words shapes_used 0 → showing b s i ≡ figures_for program r (figures_in b' g r.words i)
-  unfolding showing figures_in figures_for by_content components_of if◌then◌else◌
+  unfolding showing figures_in figures_for by_content components_of if◌then◌otherwise◌
   shape_shown zero b' i x y l = absurd (omega arith)
   shape_shown (suc b) zero i x y l = absurd (omega arith)
   shape_shown (suc b) (suc b') i x y l = go (is_group_at r.words i) refl (λ c o. shape_shown b b' c (omega arith) (omega arith) (omega arith))
     where
       go : (t : Bool) → is_group_at r.words i ≡ t → ((c : ℕ) → c < i → showing b s c ≡ figures_for program r (figures_in b' g r.words c)) → showing (suc b) s i ≡ figures_for program r
-          (if t then (λ _. shown_from (figures_in b' g r.words) g r.words (first_at r.words i) (count_at r.words i)) else λ _. i ∷ [])
+          (if t then (λ _. shown_from (figures_in b' g r.words) g r.words (first_at r.words i) (count_at r.words i)) otherwise λ _. i ∷ [])
       go true e f =
           rw (group_found h i l e)
           (components_shown (showing b s) (figures_in b' g r.words) i l f (count_at r.words i)
@@ -225,15 +225,15 @@ module _ {program : List ℕ} {ts : List Token} {g : List ℕ} {r : Raw} {s : St
 
   word_shown : (w : ℕ) → Valid program r.words (unpacked w)
       → among inside s (shape_in (meant_value program r.texts (unpacked w))) ≡ figures_for program r (shown_by g r.words w)
-  unfolding shown_by meant_value shape_in among Valid figures_for if◌then◌else◌
+  unfolding shown_by meant_value shape_in among Valid figures_for if◌then◌otherwise◌
   word_shown w l = go (eqb (kind_in w) 6) refl
     where
-      turned : (b : Bool) (xs : List ℕ) → figures_for program r (if b then (λ _. []) else λ _. xs) ≡ figures_for program r (if not b then (λ _. xs) else λ _. [])
+      turned : (b : Bool) (xs : List ℕ) → figures_for program r (if b then (λ _. []) otherwise λ _. xs) ≡ figures_for program r (if not b then (λ _. xs) otherwise λ _. [])
       turned true xs = refl
       turned false xs = refl
 
       go : (b : Bool) → eqb (kind_in w) 6 ≡ b → among inside s (shape_in (meant_value program r.texts (unpacked w)))
-          ≡ figures_for program r (if b && not (destroyed_at r.words (number_in w)) then (λ _. figures_in (shapes_granted g) g r.words (number_in w)) else λ _. [])
+          ≡ figures_for program r (if b && not (destroyed_at r.words (number_in w)) then (λ _. figures_in (shapes_granted g) g r.words (number_in w)) otherwise λ _. [])
       go true e =
           let i = number_in w in
           let q : unpacked w ≡ Shape (number_in w) = shape_in_lem w (eqb-true _ _ e) in

@@ -8,7 +8,7 @@ use lib.ListN.{get_or, set, length, length-set}
 use lib.Seq.{get_or-set_same, get_or-set_other}
 use lib.Dec.{eqb, leb}
 use borrow.Author.Tests.{not-true, not-false, eq-eqb, ne_eqb}
-use Rattle.meaning.specs.Basics.{if◌then◌else◌}
+use Rattle.meaning.specs.Basics.{if◌then◌otherwise◌}
 use Rattle.machine.specs.Layout.{steps_used, steps_granted, shapes_granted, shape_place, Room}
 use Rattle.machine.specs.Act.{Raw, raw, Out, done, stop, Act, go_on, ◌>>=◌, give, load, store, held, spend, count, passed, Passes}
 use Rattle.machine.specs.Shapes.{is_group_at, destroyed_at, figure_at}
@@ -40,8 +40,8 @@ spares_then {A} {B} q r m k h f = go (m r) h
     go (done a r') e = spares_from q r r' (k a r') e (f a r')
     go (stop n p r') e = tt
 
-spares_either : {A : Type 0} (q : ℕ) (r : Raw) (b : Bool) (x y : Unit {0} → Act A) → Spares q r (x tt r) → Spares q r (y tt r) → Spares q r ((if b then x else y) r)
-unfolding if◌then◌else◌
+spares_either : {A : Type 0} (q : ℕ) (r : Raw) (b : Bool) (x y : Unit {0} → Act A) → Spares q r (x tt r) → Spares q r (y tt r) → Spares q r ((if b then x otherwise y) r)
+unfolding if◌then◌otherwise◌
 spares_either q r true x y h k = h
 spares_either q r false x y h k = k
 
@@ -50,10 +50,10 @@ unfolding Spares
 spared q r o a r' h e = rw e at h
 
 count_spares : (g : List ℕ) (p q : ℕ) → 0 < q → (r : Raw) → Spares q r (count g p r)
-unfolding Spares spend if◌then◌else◌
+unfolding Spares spend if◌then◌otherwise◌
 count_spares g p q h r = go (leb (get_or r.words steps_used 0 + 1) (steps_granted g))
   where
-    go : (b : Bool) → Spares {A = Unit {0}} q r (if b then (λ _. done (tt {0}) (raw r.texts (set r.words steps_used (get_or r.words steps_used 0 + 1)))) else λ _. stop 79 p r)
+    go : (b : Bool) → Spares {A = Unit {0}} q r (if b then (λ _. done (tt {0}) (raw r.texts (set r.words steps_used (get_or r.words steps_used 0 + 1)))) otherwise λ _. stop 79 p r)
     go true = get_or-set_other r.words steps_used q _ 0 (λ e. omega arith)
     go false = tt
 
@@ -90,7 +90,7 @@ module _ (program g : List ℕ) (p q : ℕ) (some : 0 < q) where
 -- ---- two shapes
 module _ (program g ts ws : List ℕ) (d i j : ℕ) where
   pub meet_beyond : shapes_granted g ≤ d → Meets program g ts ws d i j 0
-  unfolding met_by judged alike_at give if◌then◌else◌
+  unfolding met_by judged alike_at give if◌then◌otherwise◌
   meet_beyond h = let z : shapes_granted g - d ≡ 0 = omega arith in record { equal = λ p. rw z; deep = λ e. absurd (omega arith); small = omega arith }
 
   module _ (h : d < shapes_granted g) where
@@ -99,24 +99,24 @@ module _ (program g ts ws : List ℕ) (d i j : ℕ) where
 
     module _ (a : Bool) (e : a ≡ is_group_at ws i) (c : Bool) (f : c ≡ is_group_at ws j) where
       pub meet_groups : a ≡ true → c ≡ true → Meets program g ts ws d i j 2
-      unfolding met_by pair_level pair_at alike_at ◌>>=◌ go_on held if◌then◌else◌
+      unfolding met_by pair_level pair_at alike_at ◌>>=◌ go_on held if◌then◌otherwise◌
       meet_groups t u = record { equal = λ p. sym (alike_below p ∙ rw (← e, ← f, t, u)); deep = λ _. h; small = omega arith }
 
       pub meet_group_left : a ≡ true → c ≡ false → Meets program g ts ws d i j 0
-      unfolding met_by judged alike_at ◌>>=◌ go_on held give if◌then◌else◌
+      unfolding met_by judged alike_at ◌>>=◌ go_on held give if◌then◌otherwise◌
       meet_group_left t u = record { equal = λ p. sym (alike_below p ∙ rw (← e, ← f, t, u)); deep = λ z. absurd (omega arith); small = omega arith }
 
       pub meet_group_right : a ≡ false → c ≡ true → Meets program g ts ws d i j 0
-      unfolding met_by judged alike_at ◌>>=◌ go_on held give if◌then◌else◌
+      unfolding met_by judged alike_at ◌>>=◌ go_on held give if◌then◌otherwise◌
       meet_group_right t u = record { equal = λ p. sym (alike_below p ∙ rw (← e, ← f, t, u)); deep = λ z. absurd (omega arith); small = omega arith }
 
       module _ (t : a ≡ false) (u : c ≡ false) (s : Bool) (v : s ≡ same_figure program ts (figure_at ws i) (figure_at ws j)) where
         pub meet_same : s ≡ true → Meets program g ts ws d i j 1
-        unfolding met_by judged alike_at figures_same ◌>>=◌ go_on held give if◌then◌else◌
+        unfolding met_by judged alike_at figures_same ◌>>=◌ go_on held give if◌then◌otherwise◌
         meet_same x = record { equal = λ p. sym (alike_below p ∙ rw (← e, ← f, t, u, ← v, x)); deep = λ z. absurd (omega arith); small = omega arith }
 
         pub meet_other : s ≡ false → Meets program g ts ws d i j 0
-        unfolding met_by judged alike_at figures_same ◌>>=◌ go_on held give if◌then◌else◌
+        unfolding met_by judged alike_at figures_same ◌>>=◌ go_on held give if◌then◌otherwise◌
         meet_other x = record { equal = λ p. sym (alike_below p ∙ rw (← e, ← f, t, u, ← v, x)); deep = λ z. absurd (omega arith); small = omega arith }
 
 -- ---- one act and then another
@@ -134,7 +134,7 @@ go_then (stop n p r) k l = refl
 module _ (program g : List ℕ) (p : ℕ) where
   -- unequal below is unequal above
   unequal_above : (d : ℕ) (r : Raw) → pair_above program g p d false r ≡ done false r
-  unfolding pair_above give if◌then◌else◌
+  unfolding pair_above give if◌then◌otherwise◌
   unequal_above zero r = refl
   unequal_above (suc d) r = refl
 
@@ -151,21 +151,21 @@ module _ (program g : List ℕ) (p : ℕ) where
         → pair_rest program g p (suc d) k 0 l m r
         ≡ pair_rest program g p d (slot_in (get_or r.words (way_place d) 0) + 1) (left_in (get_or r.words (way_place d) 0))
         (slot_in (get_or r.words (waiting_place d) 0) + 1) (left_in (get_or r.words (waiting_place d) 0)) r
-    unfolding pair_rest pair_level pair_above pairs_from ◌>>=◌ go_on held give load if◌then◌else◌
+    unfolding pair_rest pair_level pair_above pairs_from ◌>>=◌ go_on held give load if◌then◌otherwise◌
     ends_above d e = rw e
 
   module _ (d k n l m : ℕ) (r : Raw) where
     goes_over : destroyed_at r.words (component_at g r.words k) ≡ true → pair_rest program g p d k (suc n) l m r ≡ pair_rest program g p d (k + 1) n l m r
-    unfolding pair_rest pair_level pairs_from ◌>>=◌ go_on held if◌then◌else◌
+    unfolding pair_rest pair_level pairs_from ◌>>=◌ go_on held if◌then◌otherwise◌
     goes_over e = rw e
 
     goes_short : destroyed_at r.words (component_at g r.words k) ≡ false → eqb m (passed_from g r.words l m) ≡ true → pair_rest program g p d k (suc n) l m r ≡ done false r
-    unfolding pair_rest pair_level pairs_from ◌>>=◌ go_on held give if◌then◌else◌
+    unfolding pair_rest pair_level pairs_from ◌>>=◌ go_on held give if◌then◌otherwise◌
     goes_short e f = rw (e, f) (unequal_above d r)
 
     goes_on : destroyed_at r.words (component_at g r.words k) ≡ false → (y : ℕ) → y ≡ passed_from g r.words l m → eqb m y ≡ false
         → pair_rest program g p d k (suc n) l m r ≡ pair_first program g p d k n (l + y) (m - y - 1) r
-    unfolding pair_rest pair_level pairs_from pair_first pair_after ◌>>=◌ go_on held if◌then◌else◌
+    unfolding pair_rest pair_level pairs_from pair_first pair_after ◌>>=◌ go_on held if◌then◌otherwise◌
     goes_on e y q f = rw (e, ← q, f)
 
   -- a pair whose ways are kept
@@ -178,16 +178,16 @@ module _ (program g : List ℕ) (p : ℕ) where
     kept_met = let one : d + 1 ≡ suc d = omega arith in rw one
 
     kept_apart : met ≡ done false r → pair_kept program g p d k n l m r ≡ done false r
-    unfolding pair_after go_on give if◌then◌else◌
+    unfolding pair_after go_on give if◌then◌otherwise◌
     kept_apart e = kept_met ∙ rw e (unequal_above d r)
 
     kept_same : met ≡ done true r → pair_kept program g p d k n l m r ≡ pair_rest program g p d (k + 1) n (l + 1) m r
-    unfolding pair_after pair_rest ◌>>=◌ go_on if◌then◌else◌
+    unfolding pair_after pair_rest ◌>>=◌ go_on if◌then◌otherwise◌
     kept_same e = kept_met ∙ rw e
 
     module _ (w : Kept g r.words d k n l m) where
       comes_back : (b : Bool) (r' : Raw) → met ≡ done b r' → (pair_after program g p d k n l m b >>= pair_above program g p d) r' ≡ pair_above program g p (suc d) b r'
-      unfolding pair_above pair_after ◌>>=◌ go_on give load if◌then◌else◌
+      unfolding pair_above pair_after ◌>>=◌ go_on give load if◌then◌otherwise◌
       comes_back false r' e = unequal_above d r'
       comes_back true r' e =
           let i = component_at g r.words k in
@@ -217,11 +217,11 @@ module _ (program g : List ℕ) (p : ℕ) where
 
 -- ---- those passed over
 pub passed_most : (g ws : List ℕ) (k n : ℕ) → passed_from g ws k n ≤ n
-unfolding passed_from if◌then◌else◌
+unfolding passed_from if◌then◌otherwise◌
 passed_most g ws k zero = omega arith
 passed_most g ws k (suc n) = go (destroyed_at ws (component_at g ws k)) (passed_most g ws (k + 1) n)
   where
-    go : (b : Bool) → passed_from g ws (k + 1) n ≤ n → (if b then (λ _. suc (passed_from g ws (k + 1) n)) else λ _. 0) ≤ suc n
+    go : (b : Bool) → passed_from g ws (k + 1) n ≤ n → (if b then (λ _. suc (passed_from g ws (k + 1) n)) otherwise λ _. 0) ≤ suc n
     go true h = omega arith
     go false h = omega arith
 
@@ -244,7 +244,7 @@ module _ (g ws : List ℕ) (k n : ℕ) where
       next_one = omega arith
 
       pub pass_found : not b ≡ true → y ≡ passed_from g ws k n
-      unfolding passed_from if◌then◌else◌
+      unfolding passed_from if◌then◌otherwise◌
       pass_found t =
           let z : destroyed_at ws (component_at g ws (k + y)) ≡ false = rw (← e) (sym f ∙ not-true b t) in
           let r : passed_from g ws (k + y) (suc (n - (y + 1))) ≡ 0 = rw z in
@@ -252,7 +252,7 @@ module _ (g ws : List ℕ) (k n : ℕ) where
           omega (arith, r, s)
 
       pub pass_next : not b ≡ false → Passed g ws k n (y + 1)
-      unfolding passed_from if◌then◌else◌
+      unfolding passed_from if◌then◌otherwise◌
       pass_next t =
           let z : destroyed_at ws (component_at g ws (k + y)) ≡ true = rw (← e) (sym f ∙ not-false b t) in
           let i : k + y + 1 ≡ k + (y + 1) = omega arith in
@@ -293,7 +293,7 @@ module _ (g ws : List ℕ) (d k l m : ℕ) (a : Pairs g ws d k 0 l m) where
 
   module _ (y : ℕ) (e : y ≡ passed_from g ws l m) where
     pub end_longer : (y ≡ m → ⊥) → PairEnds g ws d k l m (Settled 0)
-    unfolding pair_by judged PairsBy left_by if◌then◌else◌
+    unfolding pair_by judged PairsBy left_by if◌then◌otherwise◌
     end_longer h = record {
       equal = λ program ts p. sym (ends_longer program g p k l m (raw ts ws) d (rw (← e) (ne_eqb m y (λ q. h (sym q)))));
       pairs = tt;
@@ -305,7 +305,7 @@ module _ (g ws : List ℕ) (d k l m : ℕ) (a : Pairs g ws d k 0 l m) where
       same_end = rw (← e) (eq-eqb m y (sym h))
 
       pub end_last : d ≡ 0 → PairEnds g ws d k l m (Settled 1)
-      unfolding pair_by judged PairsBy left_by if◌then◌else◌
+      unfolding pair_by judged PairsBy left_by if◌then◌otherwise◌
       end_last z = rw z (record { equal = λ program ts p. sym (ends_last program g p k l m (raw ts ws) same_end); pairs = tt; less = owed_some (shapes_granted g) ws 0 0 })
 
 -- at a depth above
@@ -366,7 +366,7 @@ module _ (program g ts ws : List ℕ) (d k l m : ℕ) where
       alive = rw (← e) (sym f ∙ t)
 
       pub turn_short : (n : ℕ) → (n ≡ 0 → ⊥) → y ≡ m → Paired program g ts ws d k n l m (Settled 0) ws
-      unfolding pair_by judged PairsBy left_by if◌then◌else◌
+      unfolding pair_by judged PairsBy left_by if◌then◌otherwise◌
       turn_short zero z h = absurd (z refl)
       turn_short (suc n) z h = record {
         equal = λ p. sym (goes_short program g p d k n l m (raw ts ws) alive (rw (← q) (eq-eqb m y (sym h))));
@@ -409,7 +409,7 @@ module _ (program g ts ws : List ℕ) (d k n l m : ℕ) (w : Kept g ws d k n l m
   met_as p = let one : d + 1 ≡ suc d = omega arith in (rw one at s).equal p ∙ rw (e, f)
 
   pub follow_apart : (number ≡ 1 → ⊥) → (number ≡ 2 → ⊥) → Follows program g ts ws d k n l m (Settled 0)
-  unfolding pair_by PairsBy left_by met_by judged if◌then◌else◌
+  unfolding pair_by PairsBy left_by met_by judged if◌then◌otherwise◌
   follow_apart y z =
       let none : number ≡ 0 = omega (arith, s.small, y, z) in
       record {
@@ -419,7 +419,7 @@ module _ (program g ts ws : List ℕ) (d k n l m : ℕ) (w : Kept g ws d k n l m
       }
 
   pub follow_same : number ≡ 1 → Follows program g ts ws d k n l m (At d (k + 1) n (l + 1) m)
-  unfolding pair_by PairsBy left_by met_by judged if◌then◌else◌
+  unfolding pair_by PairsBy left_by met_by judged if◌then◌otherwise◌
   follow_same z =
       let a = w.pairs in
       record {
@@ -438,7 +438,7 @@ module _ (program g ts ws : List ℕ) (d k n l m : ℕ) (w : Kept g ws d k n l m
       }
 
   following_down : number ≡ 2 → Follows program g ts ws d k n l m (At (suc d) (first_at ws i) (count_at ws i) (first_at ws j) (count_at ws j))
-  unfolding pair_by PairsBy left_by met_by judged if◌then◌else◌
+  unfolding pair_by PairsBy left_by met_by judged if◌then◌otherwise◌
   following_down z =
       let a = w.pairs in
       let deep = s.deep z in
@@ -467,7 +467,7 @@ module _ (program g ts ws : List ℕ) (d k n l m : ℕ) (w : Kept g ws d k n l m
 
 module _ (g ws : List ℕ) (d k n l m : ℕ) (a : Pairs g ws d k (n + 1) l (m + 1)) (ok : Bool) (ws₁ : List ℕ) (h : Passes ws 79 (count g) ok ws₁) where
   pub pair_stops : (program ts : List ℕ) → not ok ≡ true → PairedFirst program g ts ws d k n l m (Settled 79) ws₁
-  unfolding pair_by judged PairsBy left_by pair_first pair_at ◌>>=◌ go_on passed if◌then◌else◌
+  unfolding pair_by judged PairsBy left_by pair_first pair_at ◌>>=◌ go_on passed if◌then◌otherwise◌
   pair_stops program ts t = record {
     equal = λ p. let q = (rw (not-true ok t) at h).equal p ts in rw (← q);
     pairs = tt;
@@ -569,7 +569,7 @@ module _ (program g ts ws : List ℕ) (i j v : ℕ) (s : Meets program g ts ws 0
   met_whole p = let z : shapes_granted g - 0 ≡ shapes_granted g = omega arith in rw z at (s.equal p)
 
   pub alike_met : (v ≡ 2 → ⊥) → Alike program g ts ws i j v ws
-  unfolding met_by if◌then◌else◌
+  unfolding met_by if◌then◌otherwise◌
   alike_met h = record { equal = λ p. (rw (ne_eqb v 2 h) at (met_whole p)) }
 
   module _ (h : v ≡ 2) where
@@ -577,5 +577,5 @@ module _ (program g ts ws : List ℕ) (i j v : ℕ) (s : Meets program g ts ws 0
     within_asks r = record { room = r; some = s.deep h }
 
     pub alike_within : (r : ℕ) (ws' : List ℕ) → PairsWithin program g ts ws i j r ws' → Alike program g ts ws i j r ws'
-    unfolding met_by if◌then◌else◌
+    unfolding met_by if◌then◌otherwise◌
     alike_within r ws' w = record { equal = λ p. w.equal p ∙ (rw h at (met_whole p)) }

@@ -1,7 +1,7 @@
 -- Two groups compared pair by pair, as a loop does it: at depth d, n components are left from slot k on and m from slot l on, and what is left at the
 -- depths above stands in the words of the way, on both sides.
 use Rattle.std.specs.Prelude.{ℕ, zero, suc, ◌+◌, ◌-◌, ◌^◌, ◌<◌, ◌≡◌, Bool, false, List, get_or, set, eqb, ltb}
-use Rattle.meaning.specs.Basics.{if◌then◌else◌}
+use Rattle.meaning.specs.Basics.{if◌then◌otherwise◌}
 use Rattle.machine.specs.Layout.{shapes_granted, Room}
 use Rattle.machine.specs.Act.{raw, Out, done, stop, Act, ◌>>=◌, ◌>>◌, give, load, store, held, count}
 use Rattle.machine.specs.Groups.{component_at, first_at, count_at, way_word, way_place, waiting_place, pairs_from, alike_at}
@@ -12,7 +12,7 @@ use Rattle.pairs.specs.declared.PairTurn.TheVariants.{At, Settled}
 
 -- a verdict: 0 unequal, 1 equal, any other the number it stops with
 unfoldable pub judged : ℕ → ℕ → List ℕ → List ℕ → Out Bool
-judged number p ts ws = if ltb 1 number then (λ _. stop number p (raw ts ws)) else λ _. done (eqb number 1) (raw ts ws)
+judged number p ts ws = if ltb 1 number then (λ _. stop number p (raw ts ws)) otherwise λ _. done (eqb number 1) (raw ts ws)
 
 -- both ways kept at a depth
 unfoldable pub both_laid : List ℕ → ℕ → ℕ → ℕ → ℕ → ℕ → List ℕ
@@ -37,14 +37,14 @@ module _ (program g : List ℕ) (p : ℕ) where
   pair_above (suc d) b =
       if b
       then (λ _. load (way_place d) >>= λ w. load (waiting_place d) >>= λ v. pair_level d (slot_in w + 1) (left_in w) (slot_in v + 1) (left_in v) >>= pair_above d)
-      else λ _. give b
+      otherwise λ _. give b
 
   unfoldable pub pair_rest : ℕ → ℕ → ℕ → ℕ → ℕ → Act Bool
   pair_rest d k n l m = pair_level d k n l m >>= pair_above d
 
   -- after a pair; a pair whose ways are kept, and a pair, each with all that is left
   unfoldable pub pair_after : ℕ → ℕ → ℕ → ℕ → ℕ → Bool → Act Bool
-  pair_after d k n l m b = if b then (λ _. pair_level d (k + 1) n (l + 1) m) else λ _. give false
+  pair_after d k n l m b = if b then (λ _. pair_level d (k + 1) n (l + 1) m) otherwise λ _. give false
 
   unfoldable pub pair_kept : ℕ → ℕ → ℕ → ℕ → ℕ → Act Bool
   pair_kept d k n l m =
@@ -62,7 +62,7 @@ module _ (program g : List ℕ) (p : ℕ) where
   unfoldable pub met_by : ℕ → ℕ → ℕ → ℕ → List ℕ → List ℕ → Out Bool
   met_by number d i j ts ws =
       if eqb number 2 then (λ _. pair_level d (first_at ws i) (count_at ws i) (first_at ws j) (count_at ws j) (raw ts ws))
-      else λ _. judged number p ts ws
+      otherwise λ _. judged number p ts ws
 
 -- ---- the places are in their ranges
 pub record Pairs (g ws : List ℕ) (d k n l m : ℕ) : Type 0 where

@@ -8,7 +8,7 @@ use native.Mathlib.Omega.{arith}
 use borrow.Author.Tests.{lt-ltb, le-ltb, le-leb, lt-leb, ne_eqb}
 use lib.Dec.{ltb}
 use lib.ListN.{length, get_or}
-use Rattle.meaning.specs.Basics.{bytes, if◌then◌else◌, laid_over}
+use Rattle.meaning.specs.Basics.{bytes, if◌then◌otherwise◌, laid_over}
 use Rattle.meaning.specs.Byte.{is_name_part}
 use Rattle.canonical.specs.Text.{enclosed_if}
 use Rattle.machine.specs.Opcodes.{tag_in, size_in, number_in, callee_in, argument_root, tag_table, tag_entry, first_operator}
@@ -134,7 +134,7 @@ module _ (program tokens code : List ℕ) where
           → WroteAt m (sign_text tag) e f n
           → WroteAt n (part_text (raw_expression (fuel - 1) (source program tokens code)) (source program tokens code) first_operator last) f g r
           → WroteAt at (raw_expression fuel (source program tokens code) x) d g r
-      unfolding expression_by pair_text part_text if◌then◌else◌
+      unfolding expression_by pair_text part_text if◌then◌otherwise◌
       two_operands first last h n l a b p q s =
           rw (begun fuel x n w i, ← j, le-ltb tag tag_table (omega arith), ne_eqb tag tag_table (λ k. omega arith), operator_in_entry tag l, ← a, ← b)
           (rw (in_operator tag (tag_in (get_or code first 0)) l, in_operator tag (tag_in (get_or code last 0)) l) (then_three h p q s))
@@ -153,7 +153,7 @@ module _ (program tokens code : List ℕ) where
       pub is_entry : (first last : ℕ) {r : ℕ} {e : List ℕ} → tag ≡ tag_entry → (fuel ≡ 0 → ⊥) → first ≡ x - 1 - number_in w → last ≡ x - 1
           → WroteAt at (pair_text (raw_expression (fuel - 1) (source program tokens code)) (source program tokens code) tag_entry first last) d e r
           → WroteAt at (part_text (raw_expression fuel (source program tokens code)) (source program tokens code) first_operator x) d e r
-      unfolding expression_by if◌then◌else◌
+      unfolding expression_by if◌then◌otherwise◌
       is_entry first last k n a b p = bare first_operator (rw (k, entry_in_operator)) (rw (begun fuel x n w i, ← j, k, entry_in_entry, ← a, ← b) p)
 
       -- ---- write_primary
@@ -170,18 +170,18 @@ module _ (program tokens code : List ℕ) where
         module _ (t : b ≡ false) (n : fuel ≡ 0 → ⊥) {r : ℕ} {e : List ℕ} where
           pub is_leaf : tag < tag_table → WroteAt at (leaf_text program tokens w) d e r
               → WroteAt at (part_text (raw_expression fuel (source program tokens code)) (source program tokens code) tag_entry x) d e r
-          unfolding expression_by if◌then◌else◌
+          unfolding expression_by if◌then◌otherwise◌
           is_leaf l p = bare tag_entry (rw (← k) t) (rw (begun fuel x n w i, ← j, lt-ltb tag tag_table l) p)
 
           pub is_table : (last : ℕ) → tag_table ≤ tag → tag ≡ tag_table → last ≡ x - 1
               → WroteAt at (bytes "[" ++ raw_expression (fuel - 1) (source program tokens code) last ++ bytes "]") d e r
               → WroteAt at (part_text (raw_expression fuel (source program tokens code)) (source program tokens code) tag_entry x) d e r
-          unfolding expression_by if◌then◌else◌
+          unfolding expression_by if◌then◌otherwise◌
           is_table last l q m p = bare tag_entry (rw (← k) t) (rw (begun fuel x n w i, ← j, q, ← m) p)
 
           pub is_call : tag_table ≤ tag → (tag ≡ tag_table → ⊥) → WroteAt at (call_text (raw_expression (fuel - 1) (source program tokens code)) (source program tokens code) w x) d e r
               → WroteAt at (part_text (raw_expression fuel (source program tokens code)) (source program tokens code) tag_entry x) d e r
-          unfolding expression_by if◌then◌else◌
+          unfolding expression_by if◌then◌otherwise◌
           is_call l q p = bare tag_entry (rw (← k) t) (rw (begun fuel x n w i, ← j, le-ltb tag tag_table l, ne_eqb tag tag_table q, ← k, t) p)
 
   module _ (fuel : ℕ) {at r : ℕ} {d : List ℕ} where
@@ -203,10 +203,10 @@ module _ (program tokens code : List ℕ) where
 
 -- ---- arguments
 root_behind : (w a x : ℕ) → a ≤ x → a ≤ argument_root w a x
-unfolding argument_root if◌then◌else◌
+unfolding argument_root if◌then◌otherwise◌
 root_behind w a x m = go (ltb (a + size_in w) x) refl
   where
-    go : (b : Bool) → ltb (a + size_in w) x ≡ b → a ≤ (if b then (λ _. a + size_in w) else λ _. x)
+    go : (b : Bool) → ltb (a + size_in w) x ≡ b → a ≤ (if b then (λ _. a + size_in w) otherwise λ _. x)
     go true q = omega arith
     go false q = m
 
@@ -224,14 +224,14 @@ pub record Listing (program tokens code : List ℕ) (fuel second x at : ℕ) (be
 module _ (program tokens code : List ℕ) (fuel first x : ℕ) {at : ℕ} {d : List ℕ} where
   pub no_argument : x ≤ first → at < 2 ^ 64
       → WroteAt at (arguments_text (suc x) [] (raw_expression fuel (source program tokens code)) (source program tokens code) first x) d d at
-  unfolding arguments_text if◌then◌else◌
+  unfolding arguments_text if◌then◌otherwise◌
   no_argument l h = rw (le-ltb first x l) (nothing h)
 
   pub first_listed : (second : ℕ) {next r : ℕ} {e f : List ℕ} → length d < 2 ^ 64 → first < x → second ≡ argument_root (get_or code (first + 1) 0) (first + 1) x
       → WroteAt at (raw_expression fuel (source program tokens code) first) d e next
       → WroteAt next (arguments_text x (bytes ",") (raw_expression fuel (source program tokens code)) (source program tokens code) second x) e f r
       → WroteAt at (arguments_text (suc x) [] (raw_expression fuel (source program tokens code)) (source program tokens code) first x) d f r
-  unfolding arguments_text if◌then◌else◌
+  unfolding arguments_text if◌then◌otherwise◌
   first_listed second h l j p q = rw (lt-ltb first x l, ← j) (then_two h p q)
 
   pub list_first : (second : ℕ) → length d < 2 ^ 64 → at < 2 ^ 64 → first < x → second ≡ argument_root (get_or code (first + 1) 0) (first + 1) x
@@ -245,7 +245,7 @@ module _ (program tokens code : List ℕ) (fuel first x : ℕ) {at : ℕ} {d : L
 
 module _ (program tokens code : List ℕ) (fuel second x y : ℕ) {at next : ℕ} {before now : List ℕ} (g : Listing program tokens code fuel second x at before now next y) where
   none_left : (rounds : ℕ) → x ≤ y → arguments_text rounds (bytes ",") (raw_expression fuel (source program tokens code)) (source program tokens code) y x ≡ []
-  unfolding arguments_text if◌then◌else◌
+  unfolding arguments_text if◌then◌otherwise◌
   none_left zero l = refl
   none_left (suc rounds) l = rw (le-ltb y x l)
 
@@ -256,7 +256,7 @@ module _ (program tokens code : List ℕ) (fuel second x y : ℕ) {at next : ℕ
       → arguments_text rounds (bytes ",") (raw_expression fuel (source program tokens code)) (source program tokens code) y x
       ≡ (bytes "," ++ raw_expression fuel (source program tokens code) y)
       ++ arguments_text (rounds - 1) (bytes ",") (raw_expression fuel (source program tokens code)) (source program tokens code) z x
-  unfolding arguments_text if◌then◌else◌
+  unfolding arguments_text if◌then◌otherwise◌
   one_more zero z l b j = absurd (omega arith)
   one_more (suc rounds) z l b j =
       let q : suc rounds - 1 ≡ rounds = omega arith in

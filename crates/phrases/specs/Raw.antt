@@ -1,6 +1,6 @@
 -- The text of an expression's code: what the functions here write. The laws of `faithful` show that it is the expression's text.
 use Rattle.std.specs.Prelude.{ℕ, zero, suc, ◌+◌, ◌-◌, List, [], ◌++◌, get_or, eqb, ltb}
-use Rattle.meaning.specs.Basics.{bytes, if◌then◌else◌}
+use Rattle.meaning.specs.Basics.{bytes, if◌then◌otherwise◌}
 use Rattle.canonical.specs.Text.{enclosed_if}
 use Rattle.machine.specs.Opcodes.{tag_in, size_in, number_in, argument_root, callee_in, tag_table, tag_entry}
 use Rattle.spellings.specs.Spelling.{name_text, leaf_text, sign_text, encloses}
@@ -42,7 +42,7 @@ argument_after s a x = argument_root (word_at s a) a x
 unfoldable pub arguments_text : ℕ → List ℕ → Writer → Source → ℕ → ℕ → List ℕ
 arguments_text zero lead inner s y x = []
 arguments_text (suc rounds) lead inner s y x =
-    if ltb y x then (λ _. lead ++ inner y ++ arguments_text rounds (bytes ",") inner s (argument_after s (y + 1) x) x) else λ _. []
+    if ltb y x then (λ _. lead ++ inner y ++ arguments_text rounds (bytes ",") inner s (argument_after s (y + 1) x) x) otherwise λ _. []
 
 -- the call whose word, w, is at x
 unfoldable pub call_text : Writer → Source → ℕ → ℕ → List ℕ
@@ -53,9 +53,9 @@ call_text inner s w x =
 unfoldable pub expression_by : Writer → Source → ℕ → ℕ → List ℕ
 expression_by inner s w x =
     if ltb (tag_in w) tag_table then (λ _. leaf_text s.program s.tokens w)
-    else λ _. if eqb (tag_in w) tag_table then (λ _. bytes "[" ++ inner (x - 1) ++ bytes "]")
-    else λ _. if encloses tag_entry (tag_in w) then (λ _. pair_text inner s (tag_in w) (x - 1 - number_in w) (x - 1))
-    else λ _. call_text inner s w x
+    otherwise λ _. if eqb (tag_in w) tag_table then (λ _. bytes "[" ++ inner (x - 1) ++ bytes "]")
+    otherwise λ _. if encloses tag_entry (tag_in w) then (λ _. pair_text inner s (tag_in w) (x - 1 - number_in w) (x - 1))
+    otherwise λ _. call_text inner s w x
 
 -- fuel falls at each expression inside another; there are fewer than there are words of code
 unfoldable pub raw_expression : ℕ → Source → ℕ → List ℕ

@@ -9,7 +9,7 @@ use mir.Syntax.{w32}
 use mir.Val.{to_z, of_z, SFits}
 use mir.Facts.{to_z-of_z}
 use borrow.Author.Tests.{eq-eqb, ne_eqb}
-use Rattle.meaning.specs.Basics.{if◌then◌else◌, laid_over}
+use Rattle.meaning.specs.Basics.{if◌then◌otherwise◌, laid_over}
 use Rattle.meaning.specs.Program.{drawing}
 use Rattle.meaning.specs.Book.{Answer, pictured, number, undecided}
 use Rattle.meaning.specs.Call.{Call, answer, out_after}
@@ -27,15 +27,15 @@ use Rattle.demands.proofs.Numbered.{named}
 -- ---- what C is told is the answer
 module _ (n : ℕ) (ws : List ℕ) where
   pub told_picture : n ≡ 0 → meant (Picture (get_or ws 3 0) (get_or ws 2 0)) ≡ told_by n ws
-  unfolding meant told_by if◌then◌else◌
+  unfolding meant told_by if◌then◌otherwise◌
   told_picture e = rw (eq-eqb n 0 e)
 
   pub told_number : n ≢ 0 → meant (Number (get_or ws 0 0) (get_or ws 1 0) (get_or ws 2 0) (get_or ws 3 0)) ≡ told_by n ws
-  unfolding meant told_by if◌then◌else◌
+  unfolding meant told_by if◌then◌otherwise◌
   told_number e = rw (ne_eqb n 0 e)
 
 told_is : (c : Call) (a : Answer) → answer c ≡ a → (ws : List ℕ) (n : ℕ) → Told a (replicate 4 0) ws n → told_by n ws ≡ a
-unfolding numbers_of laid_over told_by if◌then◌else◌
+unfolding numbers_of laid_over told_by if◌then◌otherwise◌
 told_is c (pictured l k) e ws n t = rw (t.written, t.returned)
 told_is c (number m p k l) e ws n t = rw (t.written, t.returned, ne_eqb m 0 (named c m p k l e))
 told_is c undecided e ws n t = absurd (Claimed.always_answered c e)

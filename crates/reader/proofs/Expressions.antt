@@ -7,7 +7,7 @@ use mathlib.Core.Option.{Option, none, some}
 use lib.ListN.{length, length-map}
 use lib.Dec.{eqb}
 use borrow.Author.Tests.{eqb-true}
-use Rattle.meaning.specs.Basics.{if◌then◌else◌}
+use Rattle.meaning.specs.Basics.{if◌then◌otherwise◌}
 use Rattle.meaning.specs.Token.{Token}
 use Rattle.meaning.specs.Tree.{Operator, concatenate, add, subtract, multiply, divide, remainder, shift_right, shift_left, equal, unequal, greater, less, Expression}
 use Rattle.meaning.specs.Grammar.{kind_at, expect, operator_of, Inside, ReadExpression, arguments_from, arguments, primary, operand, operated, expression_in, expression}
@@ -29,8 +29,8 @@ tag_for (some o) = tag_of o
 tag_if : (b : Bool) (t u : Unit {0} → ℕ) (t' u' : Unit {0} → Option Operator)
     → t tt ≡ tag_for (t' tt)
     → u tt ≡ tag_for (u' tt)
-    → (if b then t else u) ≡ tag_for (if b then t' else u')
-unfolding if◌then◌else◌
+    → (if b then t otherwise u) ≡ tag_for (if b then t' otherwise u')
+unfolding if◌then◌otherwise◌
 tag_if true t u t' u' p q = p
 tag_if false t u t' u' p q = q
 
@@ -119,7 +119,7 @@ module _ (ts : List Token) (sane : Sane ts) where
   pub operated_maps : {x : Inside Words.ReadPiece} {y : Inside ReadExpression} → Levels (Reads ts) x y
       → (o : Option Operator) (a : Expression) (j : ℕ)
       → Maps (piece_of ts) (Words.operated (tag_for o) x (words_of ts) (piece_of ts a) j) (operated o y ts a j)
-  unfolding operated Words.operated tag_for if◌then◌else◌ piece_of code_with target_number
+  unfolding operated Words.operated tag_for if◌then◌otherwise◌ piece_of code_with target_number
   operated_maps l none a j = maps_good refl
   operated_maps l (some o) a j =
       rw (tag_nonzero o) (maps_after _ _ (operand_maps l (j + 1)) λ b m _. maps_good refl)

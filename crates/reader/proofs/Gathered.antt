@@ -9,7 +9,7 @@ use lib.ListN.{length, get_or, set, replicate, length-append, length-map, length
 use lib.Seq.{get_or-set_same, get_or-set_other}
 use lib.Dec.{eqb, ltb}
 use borrow.Author.Tests.{ne_eqb}
-use Rattle.meaning.specs.Basics.{bytes, if◌then◌else◌, same_text}
+use Rattle.meaning.specs.Basics.{bytes, if◌then◌otherwise◌, same_text}
 use Rattle.meaning.specs.Token.{Token, a_name}
 use Rattle.meaning.specs.Tree.{Procedure}
 use Rattle.meaning.specs.Grammar.{Got, good, wrong, after, procedures_from, procedure_named, with_main, procedures, place_of, read_of}
@@ -50,7 +50,7 @@ number_library (some clear_scene) = refl
 number_library (some draw_group) = refl
 
 main_own : in_library (library_of (bytes "main")) ≡ false
-unfolding library_of in_library same_text if◌then◌else◌
+unfolding library_of in_library same_text if◌then◌otherwise◌
 main_own = refl
 
 library_number_lem : (x : List ℕ) → ltb (procedure_number x) 11 ≡ in_library (library_of x)
@@ -115,11 +115,11 @@ module _ (ts : List Token) where
   main_more a f = ap (main_word a.main (procedure_number f.name)) (word_so (length a.code) f)
 
   main_turn : (m : ℕ) (x : List ℕ) (w h : ℕ) → 0 < w
-      → main_or (main_word m (procedure_number x) w) h ≡ main_or m (if same_text x (bytes "main") then (λ _. w) else λ _. h)
-  unfolding main_word if◌then◌else◌
+      → main_or (main_word m (procedure_number x) w) h ≡ main_or m (if same_text x (bytes "main") then (λ _. w) otherwise λ _. h)
+  unfolding main_word if◌then◌otherwise◌
   main_turn m x w h p = rw (main_number x) (go m (same_text x (bytes "main")))
     where
-      go : (n : ℕ) (b : Bool) → main_or (if eqb n 0 && b then (λ _. w) else λ _. n) h ≡ main_or n (if b then (λ _. w) else λ _. h)
+      go : (n : ℕ) (b : Bool) → main_or (if eqb n 0 && b then (λ _. w) otherwise λ _. n) h ≡ main_or n (if b then (λ _. w) otherwise λ _. h)
       go zero true = rw (ne_eqb w 0 (λ e. omega arith))
       go zero false = refl
       go (suc n) true = let z = ne_eqb (suc n) 0 (λ e. omega arith) in rw (z, z)
@@ -134,7 +134,7 @@ module _ (ts : List Token) where
 
   -- ---- names that stand twice
   twice_stays : (hs : List Head) (a : Gathered) → (a.twice ≡ 0 → ⊥) → (gather_all a hs).twice ≡ a.twice
-  unfolding gather_all gather first_twice if◌then◌else◌
+  unfolding gather_all gather first_twice if◌then◌otherwise◌
   twice_stays [] a h = refl
   twice_stays (x ∷ hs) a h =
       let q : (gather a x).twice ≡ a.twice = rw (ne_eqb a.twice 0 h) in
@@ -150,13 +150,13 @@ module _ (ts : List Token) where
   again names x = is_among x names || in_library (library_of x)
 
   twice_turn : (names : List (List ℕ)) (a : Gathered) (f : Procedure) → Understood ts f → Stand names a
-      → (gather a (head_of ts f)).twice ≡ (if again names f.name then (λ _. f.place + 1) else λ _. 0)
+      → (gather a (head_of ts f)).twice ≡ (if again names f.name then (λ _. f.place + 1) otherwise λ _. 0)
   unfolding gather head_of name_of first_twice
   twice_turn names a f u s = rw (s.none_yet, library_number_lem f.name, s.by_slot f.name u.name, or_turned (in_library (library_of f.name)) (is_among f.name names))
 
   stand_more : length ts ≤ 8192 → (names : List (List ℕ)) (a : Gathered) (f : Procedure) → Understood ts f → Stand names a → again names f.name ≡ false
       → Stand (f.name ∷ names) (gather a (head_of ts f))
-  unfolding is_among if◌then◌else◌
+  unfolding is_among if◌then◌otherwise◌
   stand_more few names a f u s e = record {
     none_yet = twice_turn names a f u s ∙ rw e;
     long = ap length (table_more a f) ∙ length-set a.table (slot_of ts f.name) (head_word (length a.code) f ts) ∙ s.long;
@@ -179,13 +179,13 @@ module _ (ts : List Token) where
 
   gathered_twice : length ts ≤ 8192 → (fs : List Procedure) (names : List (List ℕ)) (a : Gathered) → UnderstoodAll ts fs → Stand names a
       → (gather_all a (map (head_of ts) fs)).twice ≡ twice_of (doubled names fs)
-  unfolding gather_all doubled twice_of UnderstoodAll if◌then◌else◌
+  unfolding gather_all doubled twice_of UnderstoodAll if◌then◌otherwise◌
   gathered_twice few [] names a u s = s.none_yet
   gathered_twice few (f ∷ fs) names a u s = go (again names f.name) refl (gathered_twice few fs (f.name ∷ names) (gather a (head_of ts f)) u.1)
     where
       go : (b : Bool) → again names f.name ≡ b
           → (Stand (f.name ∷ names) (gather a (head_of ts f)) → (gather_all (gather a (head_of ts f)) (map (head_of ts) fs)).twice ≡ twice_of (doubled (f.name ∷ names) fs))
-          → (gather_all (gather a (head_of ts f)) (map (head_of ts) fs)).twice ≡ twice_of (if b then (λ _. some f.place) else λ _. doubled (f.name ∷ names) fs)
+          → (gather_all (gather a (head_of ts f)) (map (head_of ts) fs)).twice ≡ twice_of (if b then (λ _. some f.place) otherwise λ _. doubled (f.name ∷ names) fs)
       go true e i =
           let q : (gather a (head_of ts f)).twice ≡ f.place + 1 = twice_turn names a f u.0 s ∙ rw e in
           twice_stays (map (head_of ts) fs) (gather a (head_of ts f)) (λ z. omega arith) ∙ q
@@ -209,7 +209,7 @@ module _ (ts : List Token) where
 
     settled_so : (fs : List Procedure) (j : ℕ) → UnderstoodAll ts fs → (o : Option Procedure) → procedure_named (bytes "main") fs ≡ o → (d : Option ℕ) → doubled [] fs ≡ d
         → to_seen (settled (length ts) (gather_all nothing (map (head_of ts) fs))) ≡ coded ts (read_of program ts (with_main ts fs j o))
-    unfolding to_seen settled coded coded_apart read_of with_main if◌then◌else◌ twice_of
+    unfolding to_seen settled coded coded_apart read_of with_main if◌then◌otherwise◌ twice_of
     settled_so fs j u none n d t =
         let m : (gather_all nothing (map (head_of ts) fs)).main ≡ 0 = gathered_main fs nothing ∙ head_none 0 fs ts (bytes "main") n in
         rw m

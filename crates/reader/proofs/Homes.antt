@@ -8,7 +8,7 @@ use mathlib.Core.List.{List, [], ◌∷◌}
 use lib.ListN.{length}
 use lib.Dec.{eqb}
 use borrow.Author.Tests.{eqb-true, eq-eqb}
-use Rattle.meaning.specs.Basics.{if◌then◌else◌, same_text}
+use Rattle.meaning.specs.Basics.{if◌then◌otherwise◌, same_text}
 use Rattle.meaning.specs.Token.{Token, ending, a_name}
 use Rattle.meaning.specs.Grammar.{kind_at, text_at}
 use Rattle.names.specs.Prepared.{home}
@@ -35,11 +35,11 @@ text_same (x ∷ xs) = rw (eq-eqb x x refl) (text_same xs)
 
 -- ---- homes
 pub home_within : (ts : List Token) (k : ℕ) (x : List ℕ) → home ts k x ≤ length ts
-unfolding home if◌then◌else◌
+unfolding home if◌then◌otherwise◌
 home_within [] k x = zero-le
 home_within (t ∷ ts) k x = go (eqb t.kind k && same_text t.text x) (home_within ts k x)
   where
-    go : (b : Bool) → home ts k x ≤ length ts → (if b then (λ _. 0) else λ _. suc (home ts k x)) ≤ suc (length ts)
+    go : (b : Bool) → home ts k x ≤ length ts → (if b then (λ _. 0) otherwise λ _. suc (home ts k x)) ≤ suc (length ts)
     go true h = zero-le
     go false h = suc-le-suc h
 
@@ -51,7 +51,7 @@ pub record Found (ts : List Token) (k : ℕ) (x : List ℕ) (i h : ℕ) : Type 0
 
 pub home_found : (ts : List Token) (k : ℕ) (x : List ℕ) (i : ℕ) → k ≢ ending → kind_at ts i ≡ k → text_at ts i ≡ x
     → Found ts k x i (home ts k x)
-unfolding home if◌then◌else◌
+unfolding home if◌then◌otherwise◌
 home_found [] k x i k≢ p q = absurd (k≢ (sym p))
 home_found (t ∷ ts) k x zero k≢ p q =
     let here : Found (t ∷ ts) k x zero 0 = record { first = zero-le; kind = p; text = q } in
@@ -60,7 +60,7 @@ home_found (t ∷ ts) k x zero k≢ p q =
 home_found (t ∷ ts) k x (suc i) k≢ p q = go (eqb t.kind k && same_text t.text x) refl (home_found ts k x i k≢ p q)
   where
     go : (b : Bool) → eqb t.kind k && same_text t.text x ≡ b → Found ts k x i (home ts k x)
-        → Found (t ∷ ts) k x (suc i) (if b then (λ _. 0) else λ _. suc (home ts k x))
+        → Found (t ∷ ts) k x (suc i) (if b then (λ _. 0) otherwise λ _. suc (home ts k x))
     go true e f =
         let both = both_true (eqb t.kind k) (same_text t.text x) e in
         record { first = zero-le; kind = eqb-true t.kind k both.0; text = same_text_lem t.text x both.1 }

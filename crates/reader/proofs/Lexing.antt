@@ -7,7 +7,7 @@ use mathlib.Core.List.{List, [], ◌∷◌}
 use lib.ListN.{length, get_or, take, length-take}
 use lib.Dec.{eqb, ltb}
 use borrow.Author.Tests.{eqb-true, ltb-true}
-use Rattle.meaning.specs.Basics.{bytes, if◌then◌else◌, same_text, stands_in, span}
+use Rattle.meaning.specs.Basics.{bytes, if◌then◌otherwise◌, same_text, stands_in, span}
 use Rattle.meaning.specs.Byte.{is_space, is_digit, is_name_part, is_sign}
 use Rattle.meaning.specs.Token.{Token, Front, found, nothing, word_kind, front, Lexed, lexed, stray, prepend, starting, scan, tokens_of}
 use Rattle.meaning.specs.Grammar.{after_last}
@@ -57,8 +57,8 @@ data Fits (size : ℕ) : Front → Type 0 where
   misses : Fits size nothing
 
 fits_if : (size : ℕ) (b : Bool) (t u : Unit {0} → Front) → (b ≡ true → Fits size (t tt)) → (b ≡ false → Fits size (u tt))
-    → Fits size (if b then t else u)
-unfolding if◌then◌else◌
+    → Fits size (if b then t otherwise u)
+unfolding if◌then◌otherwise◌
 fits_if size true t u p q = p refl
 fits_if size false t u p q = q refl
 
@@ -121,14 +121,14 @@ starting_small end size misses at h rest r = bad
 
 scan_small : (end size : ℕ) → 2 ≤ size → (bs : List ℕ) (k at : ℕ) → at + length bs ≤ end → length bs ≤ size
     → AllOf (Small end size) (scan k at bs)
-unfolding scan if◌then◌else◌
+unfolding scan if◌then◌otherwise◌
 scan_small end size two [] k at h s = good none
 scan_small end size two (b ∷ bs) (suc k) at h s = scan_small end size two bs k (suc at) (omega arith) (omega arith)
 scan_small end size two (b ∷ bs) zero at h s =
     go (is_space b) (λ k. scan_small end size two bs k (suc at) (omega arith) (omega arith))
   where
     go : (t : Bool) → ((k : ℕ) → AllOf (Small end size) (scan k (suc at) bs))
-        → AllOf (Small end size) (if t then (λ _. scan 0 (suc at) bs) else λ _. starting (front (b ∷ bs)) at (λ k. scan k (suc at) bs))
+        → AllOf (Small end size) (if t then (λ _. scan 0 (suc at) bs) otherwise λ _. starting (front (b ∷ bs)) at (λ k. scan k (suc at) bs))
     go true r = r 0
     go false r = starting_small end size (front_fits size (b ∷ bs) two s) at (omega arith) _ r
 

@@ -2,7 +2,7 @@
 use Prim.Native.Nat.{ℕ}
 use mathlib.Core.Path.{◌≡◌, refl, ap}
 use mathlib.Core.Bool.{Bool, true, false}
-use Rattle.meaning.specs.Basics.{if◌then◌else◌}
+use Rattle.meaning.specs.Basics.{if◌then◌otherwise◌}
 use Rattle.meaning.specs.Grammar.{Got, good, wrong, after, Inside, no_level, level, opening}
 use Rattle.reader.specs.Coded.{map_got}
 
@@ -20,8 +20,8 @@ after_after (good a j) k l = refl
 after_after (wrong n p) k l = refl
 
 pub after_if : {A B : Type 0} (b : Bool) (t u : Unit {0} → Got A) (k : A → ℕ → Got B)
-    → after (if b then t else u) k ≡ (if b then (λ _. after (t tt) k) else λ _. after (u tt) k)
-unfolding if◌then◌else◌
+    → after (if b then t otherwise u) k ≡ (if b then (λ _. after (t tt) k) otherwise λ _. after (u tt) k)
+unfolding if◌then◌otherwise◌
 after_if true t u k = refl
 after_if false t u k = refl
 
@@ -39,12 +39,12 @@ module _ {A B : Type 0} {f : A → B} where
       → b ≡ c
       → (c ≡ true → Maps f (t' tt) (t tt))
       → (c ≡ false → Maps f (u' tt) (u tt))
-      → Maps f (if b then t' else u') (if c then t else u)
-  unfolding if◌then◌else◌
+      → Maps f (if b then t' otherwise u') (if c then t otherwise u)
+  unfolding if◌then◌otherwise◌
   maps_if b c t u t' u' e p q = rw e (go c p q)
     where
       go : (d : Bool) → (d ≡ true → Maps f (t' tt) (t tt)) → (d ≡ false → Maps f (u' tt) (u tt))
-          → Maps f (if d then t' else u') (if d then t else u)
+          → Maps f (if d then t' otherwise u') (if d then t otherwise u)
       go true p q = p refl
       go false p q = q refl
 

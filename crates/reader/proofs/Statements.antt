@@ -6,7 +6,7 @@ use mathlib.Core.List.{List, [], ◌∷◌, ◌++◌, append_assoc, map}
 use lib.ListN.{length, length-append, length-map}
 use lib.Seq.{take_at}
 use borrow.Author.Tests.{eqb-true}
-use Rattle.meaning.specs.Basics.{if◌then◌else◌}
+use Rattle.meaning.specs.Basics.{if◌then◌otherwise◌}
 use Rattle.meaning.specs.Token.{Token, a_name, word_def, word_in, word_do, open_paren, open_brace}
 use Rattle.meaning.specs.Tree.{Expression, number, string, nothing, truth, name, table, entry, operation, call, paren, Statement, when, while}
 use Rattle.meaning.specs.Grammar.{text_at, start_at, expect, skip, Inside, ReadExpression, ReadStatement, Readers, declaration, returning, target_of, assignment, simple, guarded}
@@ -59,7 +59,7 @@ module _ (ts : List Token) (sane : Sane ts) where
   assignment_maps : {g : Words.ReadPiece} {f : ReadExpression} → Reads ts g f
       → (i j : ℕ) (a : Expression) → Names ts i a
       → Maps (λ s. code_of_statement s ts) (Bodies.assignment g (words_of ts) i (piece_of ts a) j) (assignment f ts (start_at ts i) j (target_of a))
-  unfolding assignment Bodies.assignment target_of piece_of target_number code_with statement_with if◌then◌else◌
+  unfolding assignment Bodies.assignment target_of piece_of target_number code_with statement_with if◌then◌otherwise◌
   assignment_maps r i j (name x) n =
       maps_after _ _ (r (j + 1)) λ e m _. expect_maps ts sane _ m _ _ (rw (place_at ts sane i, name_home_at ts sane i n.0, n.1))
   assignment_maps r i j (entry a b) n =

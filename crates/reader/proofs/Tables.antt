@@ -9,7 +9,7 @@ use lib.ListN.{length, get_or, set, replicate, length-append, length-set, length
 use lib.Seq.{get_or-drop, get_or-set_same, get_or-set_other}
 use lib.Dec.{eqb}
 use borrow.Author.Tests.{ne_eqb}
-use Rattle.meaning.specs.Basics.{if◌then◌else◌, same_text}
+use Rattle.meaning.specs.Basics.{if◌then◌otherwise◌, same_text}
 use Rattle.meaning.specs.Token.{Token, a_name}
 use Rattle.meaning.specs.Tree.{Statements, only, first, Procedure}
 use Rattle.meaning.specs.Grammar.{procedure_named}
@@ -48,13 +48,13 @@ module _ (start parameters size : ℕ) (a : start < 65536) (b : parameters < 655
 
 -- ---- the procedure of a name
 pub head_none : (a : ℕ) (fs : List Procedure) (ts : List Token) (x : List ℕ) → procedure_named x fs ≡ none → head_named a fs ts x ≡ 0
-unfolding procedure_named head_named if◌then◌else◌
+unfolding procedure_named head_named if◌then◌otherwise◌
 head_none a [] ts x e = refl
 head_none a (f ∷ fs) ts x e = go (same_text f.name x) e (head_none (a + length (code_of_procedure f ts)) fs ts x)
   where
-    go : (b : Bool) → (if b then (λ _. some f) else λ _. procedure_named x fs) ≡ none
+    go : (b : Bool) → (if b then (λ _. some f) otherwise λ _. procedure_named x fs) ≡ none
         → (procedure_named x fs ≡ none → head_named (a + length (code_of_procedure f ts)) fs ts x ≡ 0)
-        → (if b then (λ _. head_word a f ts) else λ _. head_named (a + length (code_of_procedure f ts)) fs ts x) ≡ 0
+        → (if b then (λ _. head_word a f ts) otherwise λ _. head_named (a + length (code_of_procedure f ts)) fs ts x) ≡ 0
     go true q r = let z : ◌≡◌ {A = ℕ} 0 1 = cc in absurd (omega arith)
     go false q r = r q
 
@@ -68,11 +68,11 @@ pub record Listed (a : ℕ) (fs : List Procedure) (ts : List Token) (x : List �
   pub within : start + length (code_of_procedure f ts) ≤ a + length (code_of_procedures fs ts)
 
 pub head_some : (a : ℕ) (fs : List Procedure) (ts : List Token) (x : List ℕ) (f : Procedure) → procedure_named x fs ≡ some f → Listed a fs ts x f
-unfolding procedure_named if◌then◌else◌ head_named code_of_procedures
+unfolding procedure_named if◌then◌otherwise◌ head_named code_of_procedures
 head_some a [] ts x f e = let z : ◌≡◌ {A = ℕ} 0 1 = cc in absurd (omega arith)
 head_some a (g ∷ fs) ts x f e = go (same_text g.name x) refl e (head_some (a + length (code_of_procedure g ts)) fs ts x f)
   where
-    go : (b : Bool) → same_text g.name x ≡ b → (if b then (λ _. some g) else λ _. procedure_named x fs) ≡ some f
+    go : (b : Bool) → same_text g.name x ≡ b → (if b then (λ _. some g) otherwise λ _. procedure_named x fs) ≡ some f
         → (procedure_named x fs ≡ some f → Listed (a + length (code_of_procedure g ts)) fs ts x f) → Listed a (g ∷ fs) ts x f
     go true s q i =
         let w : g ≡ f = cc in
@@ -98,11 +98,11 @@ head_some a (g ∷ fs) ts x f e = go (same_text g.name x) refl e (head_some (a +
         }
 
 pub named_understood : (ts : List Token) (fs : List Procedure) → UnderstoodAll ts fs → (x : List ℕ) (f : Procedure) → procedure_named x fs ≡ some f → Understood ts f
-unfolding procedure_named UnderstoodAll if◌then◌else◌
+unfolding procedure_named UnderstoodAll if◌then◌otherwise◌
 named_understood ts [] u x f e = let z : ◌≡◌ {A = ℕ} 0 1 = cc in absurd (omega arith)
 named_understood ts (g ∷ fs) u x f e = go (same_text g.name x) e (named_understood ts fs u.1 x f)
   where
-    go : (b : Bool) → (if b then (λ _. some g) else λ _. procedure_named x fs) ≡ some f → (procedure_named x fs ≡ some f → Understood ts f) → Understood ts f
+    go : (b : Bool) → (if b then (λ _. some g) otherwise λ _. procedure_named x fs) ≡ some f → (procedure_named x fs ≡ some f → Understood ts f) → Understood ts f
     go true q r = let w : g ≡ f = cc in subst (Understood ts) w u.0
     go false q r = r q
 
@@ -111,8 +111,8 @@ either_false : (a b : Bool) → a || b ≡ false → (a ≡ false) × (b ≡ fal
 either_false false b e = (refl, e)
 either_false true b e = let z : ◌≡◌ {A = ℕ} 0 1 = cc in absurd (omega arith)
 
-picked_none : (b : Bool) (p : ℕ) (d : Option ℕ) → (if b then (λ _. some p) else λ _. d) ≡ none → (b ≡ false) × (d ≡ none)
-unfolding if◌then◌else◌
+picked_none : (b : Bool) (p : ℕ) (d : Option ℕ) → (if b then (λ _. some p) otherwise λ _. d) ≡ none → (b ≡ false) × (d ≡ none)
+unfolding if◌then◌otherwise◌
 picked_none true p d e = let z : ◌≡◌ {A = ℕ} 0 1 = cc in absurd (omega arith)
 picked_none false p d e = (refl, e)
 
@@ -130,7 +130,7 @@ apart names f fs e =
     record { new = q.0; own = q.1; rest = p.1 }
 
 lacks : (x : List ℕ) (names : List (List ℕ)) (fs : List Procedure) → is_among x names ≡ true → doubled names fs ≡ none → procedure_named x fs ≡ none
-unfolding procedure_named is_among if◌then◌else◌
+unfolding procedure_named is_among if◌then◌otherwise◌
 lacks x names [] m e = refl
 lacks x names (f ∷ fs) m e =
     let p = apart names f fs e in
@@ -141,7 +141,7 @@ lacks x names (f ∷ fs) m e =
     or_true false = refl
 
     go : (b : Bool) → same_text f.name x ≡ b → is_among f.name names ≡ false → procedure_named x fs ≡ none
-        → (if b then (λ _. some f) else λ _. procedure_named x fs) ≡ none
+        → (if b then (λ _. some f) otherwise λ _. procedure_named x fs) ≡ none
     go true s n q =
         let w : is_among f.name names ≡ is_among x names = ap (λ y. is_among y names) (same_text_lem f.name x s) in
         let z : ◌≡◌ {A = ℕ} 0 1 = cc in absurd (omega arith)
@@ -168,7 +168,7 @@ or_some h t l = rw (ne_eqb h 0 (λ e. omega arith))
 module _ (ts : List Token) (few : length ts ≤ 8192) where
   table_from : (a : ℕ) (names : List (List ℕ)) (fs : List Procedure) (table : List ℕ) → length table ≡ 8192 → UnderstoodAll ts fs → doubled names fs ≡ none
       → (x : List ℕ) → Occurs ts a_name x → get_or (tabled a fs ts table) (slot_of ts x) 0 ≡ or_else (head_named a fs ts x) (get_or table (slot_of ts x) 0)
-  unfolding tabled head_named UnderstoodAll if◌then◌else◌ is_among
+  unfolding tabled head_named UnderstoodAll if◌then◌otherwise◌ is_among
   table_from a names [] table l u e x o = sym (or_zero (get_or table (slot_of ts x) 0))
   table_from a names (f ∷ fs) table l u e x o =
       let p = apart names f fs e in
@@ -178,7 +178,7 @@ module _ (ts : List Token) (few : length ts ≤ 8192) where
     where
       go : (b : Bool) → same_text f.name x ≡ b → doubled (f.name ∷ names) fs ≡ none
           → or_else (head_named (a + length (code_of_procedure f ts)) fs ts x) (get_or (set table (slot_of ts f.name) (head_word a f ts)) (slot_of ts x) 0)
-          ≡ or_else (if b then (λ _. head_word a f ts) else λ _. head_named (a + length (code_of_procedure f ts)) fs ts x) (get_or table (slot_of ts x) 0)
+          ≡ or_else (if b then (λ _. head_word a f ts) otherwise λ _. head_named (a + length (code_of_procedure f ts)) fs ts x) (get_or table (slot_of ts x) 0)
       go true s d =
           let n : f.name ≡ x = same_text_lem f.name x s in
           let none_left = head_none (a + length (code_of_procedure f ts)) fs ts x (lacks x (f.name ∷ names) fs (rw s) d) in

@@ -7,7 +7,7 @@ use native.Mathlib.Nat.{not-suc-le-zero, le_of_suc-le-suc, sub-zero}
 use lib.ListN.{length, get_or, take, drop, replicate, length-map, length-take, length-drop, length-replicate}
 use lib.Seq.{length-take-le, take-length, take-append-le, get_or-take, get_or-drop, ext_get_or}
 use borrow.Author.Tests.{lt-ltb, le-ltb}
-use Rattle.meaning.specs.Basics.{if◌then◌else◌, laid_over}
+use Rattle.meaning.specs.Basics.{if◌then◌otherwise◌, laid_over}
 use Rattle.meaning.specs.Token.{Token, Lexed, lexed, stray, tokens_of}
 use Rattle.meaning.specs.Grammar.{start_at, procedures, place_of, read_of, parsed, reading}
 use Rattle.tokens.specs.Words.{word_of, place_in, token_in}
@@ -90,7 +90,7 @@ many program before slice n l b m h = go (tokens_of program) refl
 
 pub many_read : (program before slice code : List ℕ) (n : ℕ) → Lent program before code → 8192 < n →
     Lexing.seen (Found n) slice ≡ laid_tokens (tokens_of program) before → Reads program (Malformed 74 (place_in (get_or slice 8192 0))) code
-unfolding seen coded reading parsed if◌then◌else◌
+unfolding seen coded reading parsed if◌then◌otherwise◌
 many_read program before slice code n l m h =
     let k = many program before slice n l.short l.tokens_long m h in
     record { is = rw (k.are, k.place, lt-ltb 8192 (length k.tokens) (omega (arith, k.count))) }
@@ -123,7 +123,7 @@ module _ (program words code : List ℕ) (w : Worded program words code) where
   prepared = prepared_words program words ts (ap (map (token_in program)) w.worded ∙ words_decode program ts w.short w.are)
 
   read_so : reading program ≡ read_of program ts (procedures ts)
-  unfolding reading parsed if◌then◌else◌
+  unfolding reading parsed if◌then◌otherwise◌
   read_so = rw (w.are, le-ltb 8192 (length ts) w.few)
 
   places : (i : ℕ) → place_among (words_of ts) i (length program) ≡ place_of program ts i

@@ -8,7 +8,7 @@ use mathlib.Core.Option.{Option, none, some}
 use lib.ListN.{length, take, drop, replicate}
 use lib.Dec.{ltb}
 use borrow.Author.Tests.{ltb-false}
-use Rattle.meaning.specs.Basics.{bytes, if◌then◌else◌}
+use Rattle.meaning.specs.Basics.{bytes, if◌then◌otherwise◌}
 use Rattle.meaning.specs.Token.{Token, Lexed, lexed, stray, tokens_of}
 use Rattle.meaning.specs.Tree.{Program}
 use Rattle.meaning.specs.Grammar.{Got, good, wrong, Reading, well_formed, malformed, read_of, parsed, reading, procedures}
@@ -30,7 +30,7 @@ formed_not : {n p : ℕ} {m : Program} {A : Type 0} → malformed n p ≡ well_f
 formed_not e = let z : ◌≡◌ {A = ℕ} 0 1 = cc in absurd (omega arith)
 
 pub was_read : (program : List ℕ) (m : Program) → reading program ≡ well_formed m → Read program (tokens_in program) m
-unfolding reading parsed tokens_among if◌then◌else◌ read_of
+unfolding reading parsed tokens_among if◌then◌otherwise◌ read_of
 was_read program m is = go (tokens_of program) refl is
   where
     tree : (ts : List Token) (x : Got Program) → procedures ts ≡ x → read_of program ts x ≡ well_formed m → (j : ℕ) × (x ≡ good m j)

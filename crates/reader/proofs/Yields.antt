@@ -3,7 +3,7 @@ use Prim.Native.Nat.{ℕ}
 use native.Mathlib.Omega.{arith}
 use mathlib.Core.Path.{◌≡◌, refl, subst₂}
 use mathlib.Core.Bool.{Bool, true, false}
-use Rattle.meaning.specs.Basics.{if◌then◌else◌}
+use Rattle.meaning.specs.Basics.{if◌then◌otherwise◌}
 use Rattle.meaning.specs.Grammar.{Got, good, wrong, after, Inside, no_level, level, opening}
 
 -- if something was read, then P holds of it and of the index of the token behind
@@ -27,8 +27,8 @@ pub data Inner {I : Type 0} (R : I → Type 0) : Inside I → Type 0 where
 
 module _ {A : Type 0} {P : A → ℕ → Type 0} where
   pub yields_if : (c : Bool) (t u : Unit {0} → Got A) → (c ≡ true → Yields P (t tt)) → (c ≡ false → Yields P (u tt))
-      → Yields P (if c then t else u)
-  unfolding if◌then◌else◌
+      → Yields P (if c then t otherwise u)
+  unfolding if◌then◌otherwise◌
   yields_if true t u p q = p refl
   yields_if false t u p q = q refl
 

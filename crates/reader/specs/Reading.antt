@@ -1,7 +1,7 @@
 -- What reading leaves behind: the program's code, or a number and its place.
 use Rattle.std.specs.Prelude.{ℕ, ◌≤◌, ◌≡◌, List, [], map, length, get_or, take, drop, replicate, ltb}
 use Rattle.std.proofs.Math.Option.{Option, none, some}
-use Rattle.meaning.specs.Basics.{bytes, if◌then◌else◌}
+use Rattle.meaning.specs.Basics.{bytes, if◌then◌otherwise◌}
 use Rattle.meaning.specs.Token.{Token, Lexed, lexed, stray, tokens_of}
 use Rattle.meaning.specs.Tree.{Procedure}
 use Rattle.meaning.specs.Grammar.{Reading, well_formed, malformed}
@@ -59,4 +59,4 @@ Kept (Formed d n k) ts slice = (k ≡ length ts) × (take k slice ≡ words_of t
 Kept (Malformed n p) ts slice = Unit {0}
 
 unfoldable pub place_among : List ℕ → ℕ → ℕ → ℕ
-place_among words i n = if ltb i (length words) then (λ _. place_in (get_or words i 0)) else λ _. n
+place_among words i n = if ltb i (length words) then (λ _. place_in (get_or words i 0)) otherwise λ _. n

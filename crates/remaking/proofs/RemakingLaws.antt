@@ -11,7 +11,7 @@ use borrow.Author.Tests.{ne_eqb, not-true, not-false, leb-true}
 use mir.Syntax.{w32}
 use mir.Val.{Fits, SFits}
 use mir.Facts.{to_z-of_z}
-use Rattle.meaning.specs.Basics.{if◌then◌else◌}
+use Rattle.meaning.specs.Basics.{if◌then◌otherwise◌}
 use Rattle.machine.specs.declared.Value.{Value}
 use Rattle.machine.specs.declared.Value.TheVariants.{Shape}
 use Rattle.machine.specs.declared.Answer.{Answer}
@@ -41,7 +41,7 @@ stops_at n p (done v r) = done v r
 stops_at n p (stop m q r) = stop n p r
 
 made_anywhere : (g : List ℕ) (p q : ℕ) (f : Figure) (r : Raw) → new_shape g p f r ≡ stops_at 76 p (new_shape g q f r)
-unfolding new_shape put_figure load spend give if◌then◌else◌ ◌>>=◌ go_on stops_at
+unfolding new_shape put_figure load spend give if◌then◌otherwise◌ ◌>>=◌ go_on stops_at
 made_anywhere g p q f r = go (leb (get_or r.words shapes_used 0 + 1) (shapes_granted g)) refl
   where
     go : (b : Bool) → leb (get_or r.words shapes_used 0 + 1) (shapes_granted g) ≡ b → new_shape g p f r ≡ stops_at 76 p (new_shape g q f r)
@@ -72,11 +72,11 @@ module _ (g ws : List ℕ) (tag c : ℕ) (n : ℤ) (ok : Bool) (ws₁ : List ℕ
 
   module _ (q : not ok ≡ false) (b : Bool) (e : b ≡ is_group_at ws₁ c) where
     pub group_met : b ≡ true → Ends ws (λ p. remake_reached_by g tag n p c) 0 ws₁
-    unfolding remake_reached_by remake_reached passed ◌>>=◌ go_on held give if◌then◌else◌
+    unfolding remake_reached_by remake_reached passed ◌>>=◌ go_on held give if◌then◌otherwise◌
     group_met t = record { equal = λ p ts. sym (after_pass _ p ts (rw (not-false ok q) at h) ∙ rw (← e, t)) }
 
     pub figure_met : (j : SFits w32 n) (r : ℕ) (ws₂ : List ℕ) → b ≡ false → Ends ws₁ (renewed g tag (H.held n) c ws₁) r ws₂ → Ends ws (λ p. remake_reached_by g tag n p c) r ws₂
-    unfolding remake_reached_by remake_reached renewed ◌>>=◌ go_on held if◌then◌else◌
+    unfolding remake_reached_by remake_reached renewed ◌>>=◌ go_on held if◌then◌otherwise◌
     figure_met j r ws₂ t m = record { equal = λ p ts. (rw (to_z-of_z j) at m).equal p ts ∙ sym (after_pass _ p ts (rw (not-false ok q) at h) ∙ rw (← e, t)) }
 
 -- ---- a turn
@@ -143,7 +143,7 @@ walk_held g ws tag i n j r ws₁ h = rw (to_z-of_z j) at h
 
 module _ (g ws : List ℕ) (m r : ℕ) (ws₁ : List ℕ) (h : Ends ws (gathering g m) r ws₁) (z : r ≡ 0) where
   gathering_stops : leb (get_or ws shapes_used 0 + 1) (shapes_granted g) ≡ false → gathering g m 0 (raw [] ws) ≡ stop 76 0 (raw [] ws)
-  unfolding gathering group_waiting new_group load spend if◌then◌else◌ ◌>>=◌ go_on
+  unfolding gathering group_waiting new_group load spend if◌then◌otherwise◌ ◌>>=◌ go_on
   gathering_stops e = rw e
 
   gathering_done : gathering g m 0 (raw [] ws) ≡ done tt (raw [] ws₁)

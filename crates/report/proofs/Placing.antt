@@ -10,18 +10,18 @@ use borrow.Author.Tests.{eq-eqb, ne_eqb}
 use lib.Dec.{eqb}
 use lib.ListN.{length, get_or, take, drop, drop_of_length-le}
 use lib.Seq.{drop-cons, get_or-take, length-take-le}
-use Rattle.meaning.specs.Basics.{if◌then◌else◌}
+use Rattle.meaning.specs.Basics.{if◌then◌otherwise◌}
 use Rattle.report.specs.declared.place.Position.{Position}
 use Rattle.report.specs.Positions.{Small, after_byte, after_bytes, first, position_of}
 
 -- ---- one byte
 module _ (p : Position) (b : ℕ) where
   pub after_linefeed : b ≡ 10 → record { line = p.line + 1; column = 1 } ≡ after_byte p b
-  unfolding after_byte if◌then◌else◌
+  unfolding after_byte if◌then◌otherwise◌
   after_linefeed e = rw (eq-eqb b 10 e)
 
   pub after_other : (b ≡ 10 → ⊥) → record { line = p.line; column = p.column + 1 } ≡ after_byte p b
-  unfolding after_byte if◌then◌else◌
+  unfolding after_byte if◌then◌otherwise◌
   after_other e = rw (ne_eqb b 10 e)
 
 -- both numbers grow by at most 1, and the column is never 0
@@ -31,10 +31,10 @@ pub record Bounded (p : Position) (n : ℕ) : Type 0 where
   pub some : 1 ≤ p.column
 
 bounded_more : (p : Position) (b n : ℕ) → Bounded p n → Bounded (after_byte p b) (n + 1)
-unfolding after_byte if◌then◌else◌
+unfolding after_byte if◌then◌otherwise◌
 bounded_more p b n g = by (eqb b 10)
   where
-    by : (t : Bool) → Bounded (if t then (λ _. record { line = p.line + 1; column = 1 }) else λ _. record { line = p.line; column = p.column + 1 }) (n + 1)
+    by : (t : Bool) → Bounded (if t then (λ _. record { line = p.line + 1; column = 1 }) otherwise λ _. record { line = p.line; column = p.column + 1 }) (n + 1)
     by true = record { lines = omega (arith, g.lines); columns = omega arith; some = omega arith }
     by false = record { lines = omega (arith, g.lines); columns = omega (arith, g.columns); some = omega arith }
 

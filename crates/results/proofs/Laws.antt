@@ -10,7 +10,7 @@ use mir.Syntax.{w32}
 use mir.Val.{to_z, of_z, SFits}
 use mir.Facts.{to_z-of_z}
 use borrow.Author.Tests.{lt-ltb, le-ltb, ne_eqb, not-true, not-false}
-use Rattle.meaning.specs.Basics.{if◌then◌else◌}
+use Rattle.meaning.specs.Basics.{if◌then◌otherwise◌}
 use Rattle.meaning.specs.Integer.{is_negative}
 use Rattle.machine.specs.Opcodes.{tag_in, number_in, tag_number, tag_string, tag_none, tag_truth, tag_entry, first_operator}
 use Rattle.machine.specs.declared.Value.{Value}
@@ -38,24 +38,24 @@ held z = to_z w32 (of_z w32 z)
 -- ---- constants and variables
 module _ (ws : List ℕ) (p w tag : ℕ) (i : tag ≡ tag_in w) where
   pub is_number : (r : Answer) → tag ≡ tag_number → r ≡ Good (Integer (to_z w32 (number_in w))) → Answers ws (leaf p w) r ws
-  unfolding leaf if◌then◌else◌ give shown
+  unfolding leaf if◌then◌otherwise◌ give shown
   is_number r t h = record { equal = λ ts. rw (h, ← i, t) }
 
   pub is_string : (r : Answer) → tag ≡ tag_string → r ≡ Good (Text (2 * number_in w)) → Answers ws (leaf p w) r ws
-  unfolding leaf if◌then◌else◌ give shown
+  unfolding leaf if◌then◌otherwise◌ give shown
   is_string r t h = record { equal = λ ts. rw (h, ← i, t) }
 
   pub is_none : tag ≡ tag_none → Answers ws (leaf p w) (Good Nothing) ws
-  unfolding leaf if◌then◌else◌ give shown
+  unfolding leaf if◌then◌otherwise◌ give shown
   is_none t = record { equal = λ ts. rw (← i, t) }
 
   pub is_truth : (r : Answer) → tag ≡ tag_truth → r ≡ Good (Boolean (eqb (number_in w) 1)) → Answers ws (leaf p w) r ws
-  unfolding leaf if◌then◌else◌ give shown
+  unfolding leaf if◌then◌otherwise◌ give shown
   is_truth r t h = record { equal = λ ts. rw (h, ← i, t) }
 
   pub is_name : (n : ℕ) (r : Answer) → (tag ≡ tag_number → ⊥) → (tag ≡ tag_string → ⊥) → (tag ≡ tag_none → ⊥) → (tag ≡ tag_truth → ⊥) → n ≡ number_in w
       → Answers ws (variable p n) r ws → Answers ws (leaf p w) r ws
-  unfolding leaf if◌then◌else◌
+  unfolding leaf if◌then◌otherwise◌
   is_name n r a b c d e h = record { equal = λ ts. h.equal ts ∙ rw (← i, ne_eqb _ _ a, ne_eqb _ _ b, ne_eqb _ _ c, ne_eqb _ _ d, e) }
 
 -- ---- operands
@@ -88,11 +88,11 @@ module _ (tag a : ℕ) where
 
 module _ (program g : List ℕ) (tag p a b : ℕ) (ts ws : List ℕ) (o : Out Value) where
   pub is_read : (n : ℕ) → tag ≡ tag_entry → n ≡ Words.number_in a → o ≡ read_entry program g p n b (raw ts ws) → o ≡ applied program g tag p a b (raw ts ws)
-  unfolding applied if◌then◌else◌
+  unfolding applied if◌then◌otherwise◌
   is_read n t e h = h ∙ rw (t, e)
 
   pub is_operator : (tag ≡ tag_entry → ⊥) → o ≡ operate program g tag p (unpacked a) (unpacked b) (raw ts ws) → o ≡ applied program g tag p a b (raw ts ws)
-  unfolding applied if◌then◌else◌
+  unfolding applied if◌then◌otherwise◌
   is_operator n h = h ∙ rw (ne_eqb _ _ n)
 
 -- ---- calls

@@ -7,7 +7,7 @@ use mathlib.Core.List.{List, [], ◌∷◌, append-nil}
 use lib.ListN.{length}
 use lib.Dec.{ltb}
 use borrow.Author.Tests.{ltb-false, le-ltb}
-use Rattle.meaning.specs.Basics.{if◌then◌else◌}
+use Rattle.meaning.specs.Basics.{if◌then◌otherwise◌}
 use Rattle.meaning.specs.Token.{Token, Lexed, lexed, stray, prepend, scan, tokens_of}
 use Rattle.meaning.specs.Grammar.{Got, good, wrong, start_at, procedures, well_formed, malformed, read_of, parsed, reading}
 use Rattle.meaning.specs.Tree.{Program}
@@ -34,7 +34,7 @@ pub record Known (p : List ℕ) (m : Program) : Type 0 where
 
 -- a program that is read has tokens, and these are read
 pub known : (p : List ℕ) (m : Program) → Reads p m → Known p m
-unfolding reading parsed read_of if◌then◌else◌
+unfolding reading parsed read_of if◌then◌otherwise◌
 known p m r = by (tokens_of p) refl r
   where
     got : (ts : List Token) → tokens_of p ≡ lexed ts → length ts ≤ 8192 → (g : Got Program) → procedures ts ≡ g → read_of p ts g ≡ well_formed m → Known p m
@@ -44,7 +44,7 @@ known p m r = by (tokens_of p) refl r
     got ts e l (wrong n j) k w = let z : ◌≡◌ {A = ℕ} 0 1 = cc in absurd (omega arith)
 
     bounded : (ts : List Token) → tokens_of p ≡ lexed ts → (b : Bool) → ltb 8192 (length ts) ≡ b →
-        (if b then (λ _. malformed 74 (start_at ts 8192)) else λ _. read_of p ts (procedures ts)) ≡ well_formed m → Known p m
+        (if b then (λ _. malformed 74 (start_at ts 8192)) otherwise λ _. read_of p ts (procedures ts)) ≡ well_formed m → Known p m
     bounded ts e true l w = let z : ◌≡◌ {A = ℕ} 0 1 = cc in absurd (omega arith)
     bounded ts e false l w = got ts e (ltb-false 8192 (length ts) l) (procedures ts) refl w
 
@@ -92,7 +92,7 @@ text_few p m k =
 -- ---- the text read
 -- the text is read where its tokens are
 again_known : (m : Program) (t : TextTokens m) → length t.tokens ≤ 8192 → (a : AgainProgram t.tokens m) → Reads (program_text m) a.tree
-unfolding reading parsed read_of if◌then◌else◌
+unfolding reading parsed read_of if◌then◌otherwise◌
 again_known m t l a = rw (t.lexes, le-ltb 8192 (length t.tokens) l, a.reads)
 
 -- the text of a program that is read is read as the same tree

@@ -8,7 +8,7 @@ use mathlib.Core.Option.{Option, none, some}
 use lib.ListN.{length}
 use lib.Dec.{ltb}
 use borrow.Author.Tests.{le-ltb}
-use Rattle.meaning.specs.Basics.{if◌then◌else◌}
+use Rattle.meaning.specs.Basics.{if◌then◌otherwise◌}
 use Rattle.meaning.specs.Tree.{Procedure, Program}
 use Rattle.meaning.specs.Grammar.{Reading, well_formed, malformed, reading}
 use Rattle.meaning.specs.Library.{library_of}
@@ -29,7 +29,7 @@ checked long r = (refuse long 73 0 >> (understood r >> give accepted)) empty
 
 -- the answer, from whether the call is admitted, its grants, and the same
 unfoldable pub answered : Bool → Amounts → Bool → Reading → Answer
-answered allowed g long r = if allowed then (λ _. booked g (checked long r)) else λ _. number 71 0 0 0
+answered allowed g long r = if allowed then (λ _. booked g (checked long r)) otherwise λ _. number 71 0 0 0
 
 -- that is the answer of a call of checking
 pub answer_is : (c : Call) → c.operation ≡ checking → answer c ≡ answered (admitted c) (granted_to c) (ltb 32768 (length c.program)) (reading c.program)
@@ -51,7 +51,7 @@ pub record Passed (long : Bool) (r : Reading) : Type 0 where
 
 -- and so has one that is too long or is not read
 passed : (allowed : Bool) (g : Amounts) (long : Bool) (r : Reading) (l s : ℕ) → answered allowed g long r ≡ pictured l s → Passed long r
-unfolding answered checked refuse understood fail give ◌>>=◌ go_on if◌then◌else◌ booked book settled answer_to
+unfolding answered checked refuse understood fail give ◌>>=◌ go_on if◌then◌otherwise◌ booked book settled answer_to
 passed false g long r l s e = let z : ◌≡◌ {A = ℕ} 0 1 = cc in absurd (omega arith)
 passed true g true r l s e = let z : ◌≡◌ {A = ℕ} 0 1 = cc in absurd (omega arith)
 passed true g false (malformed n p) l s e = let z : ◌≡◌ {A = ℕ} 0 1 = cc in absurd (omega arith)
@@ -60,31 +60,31 @@ passed true g false (well_formed m) l s e = record { short = refl; tree = m; rea
 -- programs whose names are apart have one answer
 same_answer : (allowed : Bool) (g : Amounts) (m n : Program) → doubled [] m.procedures ≡ none → doubled [] n.procedures ≡ none →
     answered allowed g false (well_formed m) ≡ answered allowed g false (well_formed n)
-unfolding answered checked refuse understood named_apart give ◌>>=◌ go_on if◌then◌else◌ booked book settled answer_to
+unfolding answered checked refuse understood named_apart give ◌>>=◌ go_on if◌then◌otherwise◌ booked book settled answer_to
 same_answer true g m n a b = rw (a, b)
 same_answer false g m n a b = refl
 
 -- ---- names
 to_bare : (names : List (List ℕ)) (fs : List Procedure) → doubled names fs ≡ none → doubled names (map bare_procedure fs) ≡ none
-unfolding doubled bare_procedure if◌then◌else◌
+unfolding doubled bare_procedure if◌then◌otherwise◌
 to_bare names [] e = refl
 to_bare names (f ∷ fs) e = by (is_among f.name names || in_library (library_of f.name)) (to_bare (f.name ∷ names) fs) e
   where
     by : (b : Bool) → (doubled (f.name ∷ names) fs ≡ none → doubled (f.name ∷ names) (map bare_procedure fs) ≡ none) →
-        (if b then (λ _. some f.place) else λ _. doubled (f.name ∷ names) fs) ≡ none →
-        (if b then (λ _. some 0) else λ _. doubled (f.name ∷ names) (map bare_procedure fs)) ≡ none
+        (if b then (λ _. some f.place) otherwise λ _. doubled (f.name ∷ names) fs) ≡ none →
+        (if b then (λ _. some 0) otherwise λ _. doubled (f.name ∷ names) (map bare_procedure fs)) ≡ none
     by true h e = let z : ◌≡◌ {A = ℕ} 0 1 = cc in absurd (omega arith)
     by false h e = h e
 
 -- and the other way round
 from_bare : (names : List (List ℕ)) (fs : List Procedure) → doubled names (map bare_procedure fs) ≡ none → doubled names fs ≡ none
-unfolding doubled bare_procedure if◌then◌else◌
+unfolding doubled bare_procedure if◌then◌otherwise◌
 from_bare names [] e = refl
 from_bare names (f ∷ fs) e = by (is_among f.name names || in_library (library_of f.name)) (from_bare (f.name ∷ names) fs) e
   where
     by : (b : Bool) → (doubled (f.name ∷ names) (map bare_procedure fs) ≡ none → doubled (f.name ∷ names) fs ≡ none) →
-        (if b then (λ _. some 0) else λ _. doubled (f.name ∷ names) (map bare_procedure fs)) ≡ none →
-        (if b then (λ _. some f.place) else λ _. doubled (f.name ∷ names) fs) ≡ none
+        (if b then (λ _. some 0) otherwise λ _. doubled (f.name ∷ names) (map bare_procedure fs)) ≡ none →
+        (if b then (λ _. some f.place) otherwise λ _. doubled (f.name ∷ names) fs) ≡ none
     by true h e = let z : ◌≡◌ {A = ℕ} 0 1 = cc in absurd (omega arith)
     by false h e = h e
 

@@ -8,7 +8,7 @@ use mathlib.Core.Option.{Option, none, some}
 use lib.ListN.{length, get_or, get_or-append}
 use lib.Dec.{eqb, ltb}
 use borrow.Author.Tests.{eqb-true, ltb-true, ltb-false}
-use Rattle.meaning.specs.Basics.{bytes, if◌then◌else◌, stands_in, span}
+use Rattle.meaning.specs.Basics.{bytes, if◌then◌otherwise◌, stands_in, span}
 use Rattle.meaning.specs.Byte.{is_space, is_letter, is_digit, is_name_part, is_quote}
 use Rattle.meaning.specs.Token.{is_double, front}
 use Rattle.roundtrip.proofs.Scanning.{Lone, letter_no_space, digit_no_space}
@@ -32,12 +32,12 @@ weigh_digit b v d = weigh_token b v (span is_digit v) (digit_no_space b d) (size
 
 -- behind digits a name may go on
 parts_after_digits : (v : List ℕ) → weigh (span is_name_part v) v ≤ weigh (span is_digit v) v
-unfolding span if◌then◌else◌ is_name_part weigh
+unfolding span if◌then◌otherwise◌ is_name_part weigh
 parts_after_digits [] = omega arith
 parts_after_digits (b ∷ v) = by (is_letter b) refl (is_digit b) refl (parts_after_digits v)
   where
     by : (l : Bool) → is_letter b ≡ l → (d : Bool) → is_digit b ≡ d → weigh (span is_name_part v) v ≤ weigh (span is_digit v) v →
-        weigh (if l || d then (λ _. suc (span is_name_part v)) else λ _. 0) (b ∷ v) ≤ weigh (if d then (λ _. suc (span is_digit v)) else λ _. 0) (b ∷ v)
+        weigh (if l || d then (λ _. suc (span is_name_part v)) otherwise λ _. 0) (b ∷ v) ≤ weigh (if d then (λ _. suc (span is_digit v)) otherwise λ _. 0) (b ∷ v)
     by true l true d h = h
     by true l false d h = omega (arith, weigh_letter b v l)
     by false l true d h = h
@@ -45,22 +45,22 @@ parts_after_digits (b ∷ v) = by (is_letter b) refl (is_digit b) refl (parts_af
 
 -- the rest of a name takes no token with it
 parts_fewer : (v : List ℕ) → weigh (span is_name_part v) v ≤ weigh 0 v
-unfolding span if◌then◌else◌ is_name_part weigh
+unfolding span if◌then◌otherwise◌ is_name_part weigh
 parts_fewer [] = omega arith
 parts_fewer (b ∷ v) = by (is_letter b) refl (is_digit b) refl
   where
-    by : (l : Bool) → is_letter b ≡ l → (d : Bool) → is_digit b ≡ d → weigh (if l || d then (λ _. suc (span is_name_part v)) else λ _. 0) (b ∷ v) ≤ weigh 0 (b ∷ v)
+    by : (l : Bool) → is_letter b ≡ l → (d : Bool) → is_digit b ≡ d → weigh (if l || d then (λ _. suc (span is_name_part v)) otherwise λ _. 0) (b ∷ v) ≤ weigh 0 (b ∷ v)
     by true l d e = omega (arith, weigh_letter b v l)
     by false l true e = omega (arith, weigh_digit b v e, parts_after_digits v)
     by false l false e = omega arith
 
 -- nor does the rest of digits
 digits_fewer : (v : List ℕ) → weigh (span is_digit v) v ≤ weigh 0 v
-unfolding span if◌then◌else◌ weigh
+unfolding span if◌then◌otherwise◌ weigh
 digits_fewer [] = omega arith
 digits_fewer (b ∷ v) = by (is_digit b) refl
   where
-    by : (d : Bool) → is_digit b ≡ d → weigh (if d then (λ _. suc (span is_digit v)) else λ _. 0) (b ∷ v) ≤ weigh 0 (b ∷ v)
+    by : (d : Bool) → is_digit b ≡ d → weigh (if d then (λ _. suc (span is_digit v)) otherwise λ _. 0) (b ∷ v) ≤ weigh 0 (b ∷ v)
     by true e = omega (arith, weigh_digit b v e)
     by false e = omega arith
 
@@ -146,23 +146,23 @@ double_fewer x (c ∷ v) b e =
 -- ---- the token at the front of bytes that more bytes stand behind
 -- a run that ends before the end ends there
 span_inside : (f : ℕ → Bool) (u v : List ℕ) → span f u < length u → span f (u ++ v) ≡ span f u
-unfolding span if◌then◌else◌
+unfolding span if◌then◌otherwise◌
 span_inside f [] v l = absurd (omega arith)
 span_inside f (b ∷ u) v l = by (f b) (span_inside f u v) l
   where
-    by : (t : Bool) → (span f u < length u → span f (u ++ v) ≡ span f u) → (if t then (λ _. suc (span f u)) else λ _. 0) < suc (length u) →
-        (if t then (λ _. suc (span f (u ++ v))) else λ _. 0) ≡ (if t then (λ _. suc (span f u)) else λ _. 0)
+    by : (t : Bool) → (span f u < length u → span f (u ++ v) ≡ span f u) → (if t then (λ _. suc (span f u)) otherwise λ _. 0) < suc (length u) →
+        (if t then (λ _. suc (span f (u ++ v))) otherwise λ _. 0) ≡ (if t then (λ _. suc (span f u)) otherwise λ _. 0)
     by true h l = ap suc (h (omega arith))
     by false h l = refl
 
 -- a run up to the end goes on
 span_over : (f : ℕ → Bool) (u v : List ℕ) → length u ≤ span f u → span f (u ++ v) ≡ length u + span f v
-unfolding span if◌then◌else◌
+unfolding span if◌then◌otherwise◌
 span_over f [] v l = omega arith
 span_over f (b ∷ u) v l = by (f b) (span_over f u v) l
   where
-    by : (t : Bool) → (length u ≤ span f u → span f (u ++ v) ≡ length u + span f v) → suc (length u) ≤ (if t then (λ _. suc (span f u)) else λ _. 0) →
-        (if t then (λ _. suc (span f (u ++ v))) else λ _. 0) ≡ suc (length u) + span f v
+    by : (t : Bool) → (length u ≤ span f u → span f (u ++ v) ≡ length u + span f v) → suc (length u) ≤ (if t then (λ _. suc (span f u)) otherwise λ _. 0) →
+        (if t then (λ _. suc (span f (u ++ v))) otherwise λ _. 0) ≡ suc (length u) + span f v
     by true h l = omega (arith, h (omega arith))
     by false h l = absurd (omega arith)
 

@@ -9,7 +9,7 @@ use mathlib.Core.Option.{Option, none, some}
 use lib.ListN.{length, take}
 use lib.Dec.{leb, ltb}
 use borrow.Author.Tests.{le-leb, leb-true}
-use Rattle.meaning.specs.Basics.{if◌then◌else◌}
+use Rattle.meaning.specs.Basics.{if◌then◌otherwise◌}
 use Rattle.meaning.specs.Tree.{Program}
 use Rattle.meaning.specs.Grammar.{Reading, well_formed, malformed, reading}
 use Rattle.meaning.specs.Procedure.{doubled}
@@ -36,7 +36,7 @@ checked_alike g h false (malformed n p) = refl
 checked_alike g h false (well_formed m) = named_alike g h m (doubled [] m.procedures)
 
 answer_alike : (c d : Call) → c.operation ≡ checking → d.operation ≡ checking → c.program ≡ d.program → admitted c ≡ true → admitted d ≡ true → answer d ≡ answer c
-unfolding answered if◌then◌else◌
+unfolding answered if◌then◌otherwise◌
 answer_alike c d e f same a b =
     let one = answer_is c e in
     let two = answer_is d f in
@@ -61,7 +61,7 @@ module _ (t out more : List ℕ) (longer : length out ≤ length more) where
 
   -- a text that fits is there in both
   fitted : fits t out ≡ true → Alike (pictured 0 0)
-  unfolding answer_with out_with if◌then◌else◌
+  unfolding answer_with out_with if◌then◌otherwise◌
   fitted e =
       let k = fits_more e in (
         rw (e, k.1),
@@ -74,7 +74,7 @@ module _ (t out more : List ℕ) (longer : length out ≤ length more) where
       told a b c d h = cc
 
   by_fit : (b : Bool) → fits t out ≡ b → ((n l : ℕ) → answer_with (pictured 0 0) t out ≢ number 82 0 n l) → Alike (pictured 0 0)
-  unfolding answer_with if◌then◌else◌
+  unfolding answer_with if◌then◌otherwise◌
   by_fit true e unless = fitted e
   by_fit false e unless = absurd (unless 0 (length t) (rw e))
 

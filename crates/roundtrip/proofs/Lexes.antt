@@ -5,7 +5,7 @@ use mathlib.Core.Path.{◌≡◌, refl, ap, sym, ◌∙◌, subst}
 use mathlib.Core.Bool.{Bool, true, false, ◌||◌}
 use mathlib.Core.List.{List, [], ◌∷◌, ◌++◌, append_assoc, append-nil}
 use lib.ListN.{length, get_or, length-append}
-use Rattle.meaning.specs.Basics.{bytes, if◌then◌else◌, stands_in}
+use Rattle.meaning.specs.Basics.{bytes, if◌then◌otherwise◌, stands_in}
 use Rattle.meaning.specs.Byte.{is_space, is_letter, is_digit, is_name_part, is_quote, is_sign}
 use Rattle.meaning.specs.Token.{Token, Lexed, a_string, digits, minus, word_kind, is_double, prepend, scan}
 use Rattle.roundtrip.proofs.Words.{Word, plain, negative, sign, a_word}
@@ -67,7 +67,7 @@ unfolding prepend_all
 lexes_nothing {r} = record { at = λ p. record { tokens = []; spells = none; scanned = ap (λ (n : ℕ). scan 0 n r) (omega arith) } }
 
 pub lexes_space : (b : ℕ) (r : List ℕ) → is_space b ≡ true → Lexes [] (b ∷ []) r
-unfolding prepend_all scan if◌then◌else◌
+unfolding prepend_all scan if◌then◌otherwise◌
 lexes_space b r e = record { at = λ p. record { tokens = []; spells = none; scanned = rw e (ap (λ (n : ℕ). scan 0 n r) (omega arith)) } }
 
 -- white space behind a text

@@ -9,7 +9,7 @@ use lib.Seq.{get_or-append-add}
 use lib.IntN.{ℤ, pos, negsuc}
 use lib.Dec.{eqb}
 use borrow.Author.Tests.{eqb-true, not-true}
-use Rattle.meaning.specs.Basics.{bytes, if◌then◌else◌, stands_in, same_text}
+use Rattle.meaning.specs.Basics.{bytes, if◌then◌otherwise◌, stands_in, same_text}
 use Rattle.meaning.specs.Byte.{is_space, is_letter, is_digit, is_name_part, is_quote, is_sign}
 use Rattle.meaning.specs.Token.{found, nothing, word_kind, is_double, front}
 use Rattle.meaning.specs.Grammar.{numeral, numeral_from}
@@ -136,7 +136,7 @@ pair b c r k s e = lexes_one λ p. scan_found b (c ∷ []) r p k 2 (b ∷ c ∷ 
 
 -- an operator
 lexes_operator : (o : Operator) (r : List ℕ) → Begins r → Lexes (a_word (operator_kind o) (operator_text o)) (operator_text o) r
-unfolding signs front if◌then◌else◌ is_double operator_kind operator_text
+unfolding signs front if◌then◌otherwise◌ is_double operator_kind operator_text
 lexes_operator o [] h = absurd h.so
 lexes_operator concatenate (c ∷ r) h = pair 43 43 (c ∷ r) _ refl refl
 lexes_operator add (c ∷ r) h = lexes_sign 43 (c ∷ r) (lone 43 refl) (not_double 43 c h.so.0 refl)

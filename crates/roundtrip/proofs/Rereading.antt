@@ -9,7 +9,7 @@ use lib.ListN.{length}
 use lib.IntN.{ℤ, pos, negsuc}
 use lib.Dec.{eqb, leb}
 use borrow.Author.Tests.{eq-eqb, le-leb}
-use Rattle.meaning.specs.Basics.{if◌then◌else◌}
+use Rattle.meaning.specs.Basics.{if◌then◌otherwise◌}
 use Rattle.meaning.specs.Token.{Token, a_name, digits, open_paren, dot}
 use Rattle.meaning.specs.Grammar.{good, after, expect, is, kind_at, text_at, start_at, numeral, operator_of, Inside, no_level, level, opening}
 use Rattle.meaning.specs.Grammar.{ReadExpression, arguments_from, arguments, primary, operand, operated, expression_in, expression}
@@ -25,7 +25,7 @@ use Rattle.roundtrip.proofs.Stands.{Stands, split}
 
 -- ---- operators
 operator_of_lem : (o : Operator) → operator_of (operator_kind o) ≡ some o
-unfolding operator_of operator_kind if◌then◌else◌
+unfolding operator_of operator_kind if◌then◌otherwise◌
 operator_of_lem concatenate = refl
 operator_of_lem add = refl
 operator_of_lem subtract = refl
@@ -128,7 +128,7 @@ module _ (ts : List Token) where
 
   -- a primary with no dot behind it is an operand
   operand_of : (left i j : ℕ) (e : Expression) → primary (inside_of left) ts i ≡ good e j → is dot ts j ≡ false → operand (inside_of left) ts i ≡ good e j
-  unfolding operand after if◌then◌else◌
+  unfolding operand after if◌then◌otherwise◌
   operand_of left i j e p d = rw (p, d)
 
   -- an operand with no operator behind it is an expression
@@ -147,7 +147,7 @@ module _ (ts : List Token) where
   -- ---- constants
   -- a constant is read as its number
   read_number : (z : ℤ) → Written z → (left i j : ℕ) → Stands ts i (number_words z) j → primary (inside_of left) ts i ≡ good (number z) j
-  unfolding number_words Written primary if◌then◌else◌
+  unfolding number_words Written primary if◌then◌otherwise◌
   read_number (pos n) w left i j h = rw (h.0, h.1, numeral_digits_of n, le-leb n 2147483647 w, h.2)
   read_number (negsuc n) w left i j h =
       rw (h.0, h.1, eq-eqb (start_at ts (i + 1)) (start_at ts i + 1) h.3, h.2, numeral_digits_of (suc n), le-leb (suc n) 2147483648 (omega arith), h.4)
@@ -156,7 +156,7 @@ module _ (ts : List Token) where
   -- an expression in parentheses
   enclosed_is : (e : Expression) → Read e → (left i j : ℕ) → suc (levels e) ≤ left → Stands ts i (sign 40 ++ words e ++ sign 41) j →
       primary (inside_of left) ts i ≡ good (paren (kept e)) j
-  unfolding primary opening after expect if◌then◌else◌ operator_of
+  unfolding primary opening after expect if◌then◌otherwise◌ operator_of
   enclosed_is e f zero i j l h = absurd (omega arith)
   enclosed_is e f (suc left) i j l h =
       let p = split ts (i + 1) (words e) (sign 41) j h.2 in
@@ -181,7 +181,7 @@ module _ (ts : List Token) where
   -- an entry
   read_entry : (a b : Expression) → Read a → Read b → (left i j : ℕ) → levels (entry a b) ≤ left → Stands ts i (words (entry a b)) j → is open_paren ts j ≡ false →
       operand (inside_of left) ts i ≡ good (kept (entry a b)) j
-  unfolding words levels kept operand after if◌then◌else◌
+  unfolding words levels kept operand after if◌then◌otherwise◌
   read_entry a b f g left i j l h k =
       let w = enclosed_words (is_operation a || is_entry a) (words a) in
       let p = split ts i (w ++ sign 46) (enclosed_words (is_operation b || is_entry b) (words b)) j h in
@@ -224,7 +224,7 @@ module _ (ts : List Token) where
   read_arguments_from : (e : Expression) (es : Arguments) (r : ℕ) → Read e → ReadAll es → (left i j : ℕ) → levels e ≤ left → levels_all es ≤ left →
       Stands ts i (joined (words e ∷ argument_words es)) j → kind_at ts j ≡ 41 →
       arguments_from (suc (rounds es r)) (expression left ts) ts i ≡ good (argument (kept e) (kept_all es)) (j + 1)
-  unfolding arguments_from rounds joined argument_words levels_all kept after expect if◌then◌else◌ operator_of
+  unfolding arguments_from rounds joined argument_words levels_all kept after expect if◌then◌otherwise◌ operator_of
   read_arguments_from e no_argument r f fs left i j l ls h k =
       let x = f.as_expression left i j l h (rw k (ends 41 refl refl refl)) in
       rw (x, k)
@@ -239,7 +239,7 @@ module _ (ts : List Token) where
   -- all arguments
   read_arguments : (es : Arguments) → SoundAll es → ReadAll es → (left i j : ℕ) → levels_all es ≤ left → Stands ts i (joined (argument_words es)) j → kind_at ts j ≡ 41 →
       arguments (expression left ts) ts i ≡ good (kept_all es) (j + 1)
-  unfolding arguments joined argument_words levels_all kept if◌then◌else◌ opens Sound
+  unfolding arguments joined argument_words levels_all kept if◌then◌otherwise◌ opens Sound
   read_arguments no_argument s fs left i j l h k =
       let d : kind_at ts i ≡ 41 = subst (λ (n : ℕ). kind_at ts n ≡ 41) (sym h) k in
       rw (d, h)
@@ -259,7 +259,7 @@ module _ (ts : List Token) where
   -- a call
   read_call : (x : List ℕ) (es : Arguments) → SoundAll es → ReadAll es → (left i j : ℕ) → levels (call x es) ≤ left → Stands ts i (words (call x es)) j →
       primary (inside_of left) ts i ≡ good (kept (call x es)) j
-  unfolding words levels kept primary opening after if◌then◌else◌
+  unfolding words levels kept primary opening after if◌then◌otherwise◌
   read_call x es f fs zero i j l h = absurd (omega arith)
   read_call x es f fs (suc left) i j l h =
       let e : i + 1 + 1 ≡ i + 2 = omega arith in
@@ -271,7 +271,7 @@ module _ (ts : List Token) where
   -- a table
   read_table : (e : Expression) → Read e → (left i j : ℕ) → levels (table e) ≤ left → Stands ts i (words (table e)) j →
       primary (inside_of left) ts i ≡ good (table (kept e)) j
-  unfolding words levels primary opening after expect if◌then◌else◌ operator_of
+  unfolding words levels primary opening after expect if◌then◌otherwise◌ operator_of
   read_table e f zero i j l h = absurd (omega arith)
   read_table e f (suc left) i j l h =
       let p = split ts (i + 1) (words e) (sign 93) j h.2 in
@@ -281,12 +281,12 @@ module _ (ts : List Token) where
 
   -- a name that no parenthesis follows
   read_name : (x : List ℕ) (left i j : ℕ) → Stands ts i (a_word a_name x) j → is open_paren ts j ≡ false → primary (inside_of left) ts i ≡ good (name x) j
-  unfolding primary if◌then◌else◌
+  unfolding primary if◌then◌otherwise◌
   read_name x left i j h k = rw (h.0, h.2, k, h.1)
 
   -- ---- all expressions
   mutual
-    unfolding words levels kept Sound is_operation is_entry primary if◌then◌else◌
+    unfolding words levels kept Sound is_operation is_entry primary if◌then◌otherwise◌
 
     pub read : (e : Expression) → Sound e → Read e
     read (number z) h = by_primary (number z) λ left i j l s k. read_number z h left i j s

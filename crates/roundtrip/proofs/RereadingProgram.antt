@@ -6,7 +6,7 @@ use mathlib.Core.Bool.{Bool, true, false}
 use mathlib.Core.List.{List, [], ◌∷◌, ◌++◌, map}
 use mathlib.Core.Option.{Option, none, some}
 use lib.ListN.{length, get_or-eq_default}
-use Rattle.meaning.specs.Basics.{bytes, if◌then◌else◌, same_text}
+use Rattle.meaning.specs.Basics.{bytes, if◌then◌otherwise◌, same_text}
 use Rattle.meaning.specs.Token.{Token}
 use Rattle.meaning.specs.Grammar.{good, after, expect, kind_at, start_at, after_last, parameters_from, parameters, procedure, procedures_from, procedure_named, with_main, procedures}
 use Rattle.meaning.specs.Tree.{Procedure, Program}
@@ -37,13 +37,13 @@ module _ (ts : List Token) where
   -- one parameter or more
   names_from : (x : List ℕ) (xs : List (List ℕ)) (r i j : ℕ) → Stands ts i (joined (name_words (x ∷ xs))) j → kind_at ts j ≡ 41 →
       parameters_from (suc (rounds xs r)) ts i ≡ good (x ∷ xs) (j + 1)
-  unfolding parameters_from rounds joined name_words after expect if◌then◌else◌
+  unfolding parameters_from rounds joined name_words after expect if◌then◌otherwise◌
   names_from x [] r i j h k = rw (h.0, h.2, k, h.1)
   names_from x (y ∷ xs) r i j h k = rw (h.0, h.2.0, names_from y xs r (i + 1 + 1) j h.2.2 k, h.1)
 
   -- all parameters
   read_names : (xs : List (List ℕ)) (i j : ℕ) → Stands ts i (joined (name_words xs)) j → kind_at ts j ≡ 41 → parameters ts i ≡ good xs (j + 1)
-  unfolding parameters joined name_words if◌then◌else◌
+  unfolding parameters joined name_words if◌then◌otherwise◌
   read_names [] i j h k =
       let d : kind_at ts i ≡ 41 = subst (λ (n : ℕ). kind_at ts n ≡ 41) (sym h) k in
       rw (d, h)
@@ -64,7 +64,7 @@ module _ (ts : List Token) where
 
   -- a procedure
   again_procedure : (f : Procedure) → SoundProcedure f → statements_levels f.body ≤ 64 → (i j : ℕ) → Stands ts i (procedure_words f) j → AgainProcedure f i j
-  unfolding procedure_words procedure after expect if◌then◌else◌ bare_procedure
+  unfolding procedure_words procedure after expect if◌then◌otherwise◌ bare_procedure
   again_procedure f g l i j h =
       let a = joined (name_words f.parameters) in
       let b = statements_words f.body in
@@ -113,7 +113,7 @@ module _ (ts : List Token) where
   -- one procedure or more
   again_procedures : (f : Procedure) (fs : List Procedure) (r i : ℕ) → SoundProcedures (f ∷ fs) → Shallow (f ∷ fs) →
       Stands ts i (procedures_words (f ∷ fs)) (length ts) → AgainProcedures f fs r i
-  unfolding procedures_words SoundProcedures Shallow procedures_from procedures_rounds after if◌then◌else◌
+  unfolding procedures_words SoundProcedures Shallow procedures_from procedures_rounds after if◌then◌otherwise◌
   again_procedures f [] r i g l h =
       let p = split ts i (procedure_words f) [] (length ts) h in
       let s : Stands ts i (procedure_words f) (length ts) = subst (Stands ts i (procedure_words f)) p.2 p.1 in
@@ -133,12 +133,12 @@ Bared (some f) = some (bare_procedure f)
 
 -- a procedure is found by its name alone
 named_bare : (x : List ℕ) (fs : List Procedure) → procedure_named x (map bare_procedure fs) ≡ Bared (procedure_named x fs)
-unfolding procedure_named bare_procedure if◌then◌else◌
+unfolding procedure_named bare_procedure if◌then◌otherwise◌
 named_bare x [] = refl
 named_bare x (f ∷ fs) = by (same_text f.name x) (named_bare x fs)
   where
     by : (b : Bool) → procedure_named x (map bare_procedure fs) ≡ Bared (procedure_named x fs) →
-        (if b then (λ _. some (bare_procedure f)) else λ _. procedure_named x (map bare_procedure fs)) ≡ Bared (if b then (λ _. some f) else λ _. procedure_named x fs)
+        (if b then (λ _. some (bare_procedure f)) otherwise λ _. procedure_named x (map bare_procedure fs)) ≡ Bared (if b then (λ _. some f) otherwise λ _. procedure_named x fs)
     by true h = refl
     by false h = h
 

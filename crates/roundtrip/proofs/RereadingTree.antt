@@ -7,7 +7,7 @@ use mathlib.Core.List.{List, ◌++◌}
 use lib.ListN.{length}
 use lib.Dec.{eqb}
 use borrow.Author.Tests.{eqb-true}
-use Rattle.meaning.specs.Basics.{bytes, if◌then◌else◌}
+use Rattle.meaning.specs.Basics.{bytes, if◌then◌otherwise◌}
 use Rattle.meaning.specs.Token.{Token}
 use Rattle.meaning.specs.Grammar.{good, after, expect, kind_at, start_at, operator_of, Inside, no_level, level, opening, expression, Readers, declaration, returning}
 use Rattle.meaning.specs.Grammar.{target_of, assignment, simple, guarded, begins_statement, iteration, statements_from, statements, statement_in, statement}
@@ -40,7 +40,7 @@ module _ (ts : List Token) where
 
   -- a statement that begins with an expression
   simple_is : (left i : ℕ) → opens_at ts i ≡ true → statement left ts i ≡ simple (expression left ts) ts i
-  unfolding statement_in if◌then◌else◌ opens
+  unfolding statement_in if◌then◌otherwise◌ opens
   simple_is left i o =
       let k = kind_at ts i in
       statement_is left i
@@ -61,7 +61,7 @@ module _ (ts : List Token) where
 
   -- a declaration
   again_declare : (p : ℕ) (x : List ℕ) (left i j : ℕ) → Stands ts i (statement_words (declare p x)) j → Again (declare p x) left i j
-  unfolding statement_words statement_in declaration expect if◌then◌else◌ bare_statement
+  unfolding statement_words statement_in declaration expect if◌then◌otherwise◌ bare_statement
   again_declare p x left i j h =
       let e : i + 1 + 1 ≡ i + 2 = omega arith in
       let k : kind_at ts (i + 2) ≡ 59 = subst (λ (n : ℕ). kind_at ts n ≡ 59) e h.2.2.0 in
@@ -74,7 +74,7 @@ module _ (ts : List Token) where
 
   -- a return
   again_return : (p : ℕ) (e : Expression) → Sound e → (left i j : ℕ) → levels e ≤ left → Stands ts i (statement_words (return p e)) j → Again (return p e) left i j
-  unfolding statement_words statement_in returning after expect if◌then◌else◌ bare_statement operator_of
+  unfolding statement_words statement_in returning after expect if◌then◌otherwise◌ bare_statement operator_of
   again_return p e f left i j l h =
       let q = split ts (i + 1) (words e) (sign 59) j h.2 in
       record {
@@ -85,7 +85,7 @@ module _ (ts : List Token) where
 
   -- an expression
   again_act : (p : ℕ) (e : Expression) → Sound e → (left i j : ℕ) → levels e ≤ left → Stands ts i (statement_words (act p e)) j → Again (act p e) left i j
-  unfolding statement_words simple after expect if◌then◌else◌ bare_statement operator_of
+  unfolding statement_words simple after expect if◌then◌otherwise◌ bare_statement operator_of
   again_act p e f left i j l h =
       let q = split ts i (words e) (sign 59) j h in
       record {
@@ -97,7 +97,7 @@ module _ (ts : List Token) where
   -- an assignment
   again_assign : (p : ℕ) (x : List ℕ) (e : Expression) → Named x → Sound e → (left i j : ℕ) → levels e ≤ left → Stands ts i (statement_words (assign p x e)) j →
       Again (assign p x e) left i j
-  unfolding statement_words simple assignment target_of after expect if◌then◌else◌ bare_statement operator_of words levels kept Sound opens
+  unfolding statement_words simple assignment target_of after expect if◌then◌otherwise◌ bare_statement operator_of words levels kept Sound opens
   again_assign p x e g f left i j l h =
       let q = split ts (i + 1 + 1) (words e) (sign 59) j h.2.2 in
       let o : opens_at ts i ≡ true = rw h.0 in
@@ -117,7 +117,7 @@ module _ (ts : List Token) where
   -- an update
   again_update : (p : ℕ) (a b e : Expression) → Sound a → Sound b → Sound e → (left i j : ℕ) → statement_levels (update p a b e) ≤ left →
       Stands ts i (statement_words (update p a b e)) j → Again (update p a b e) left i j
-  unfolding statement_words simple assignment target_of after expect if◌then◌else◌ bare_statement operator_of kept Sound statement_levels
+  unfolding statement_words simple assignment target_of after expect if◌then◌otherwise◌ bare_statement operator_of kept Sound statement_levels
   again_update p a b e f g h left i j l s =
       let q = split ts i (words (entry a b) ++ sign 61 ++ words e) (sign 59) j s in
       let r = split ts i (words (entry a b) ++ sign 61) (words e) q.0 q.1 in
@@ -145,7 +145,7 @@ module _ (ts : List Token) where
       ((m : ℕ) → Stands ts m (statement_words s) j → Again s left m j) →
       kind_at ts i ≡ 40 → Stands ts (i + 1) (words e ++ sign 41 ++ statement_words s) j → (p : ℕ) →
       (t : Statement) × (guarded (make p) (readers_of (suc left)) ts i ≡ good (make p (kept e) t) j) × (bare_statement t ≡ bare_statement s)
-  unfolding guarded opening after expect if◌then◌else◌ operator_of
+  unfolding guarded opening after expect if◌then◌otherwise◌ operator_of
   again_guarded make left i j e s f l g k h p =
       let q = split ts (i + 1) (words e ++ sign 41) (statement_words s) j h in
       let r = split ts (i + 1) (words e) (sign 41) q.0 q.1 in
@@ -156,7 +156,7 @@ module _ (ts : List Token) where
   again_when : (p : ℕ) (e : Expression) (s : Statement) → Sound e → (left i j : ℕ) → statement_levels (when p e s) ≤ left →
       ((left m : ℕ) → statement_levels s ≤ left → Stands ts m (statement_words s) j → Again s left m j) →
       Stands ts i (statement_words (when p e s)) j → Again (when p e s) left i j
-  unfolding statement_words statement_levels statement_in if◌then◌else◌ bare_statement
+  unfolding statement_words statement_levels statement_in if◌then◌otherwise◌ bare_statement
   again_when p e s f zero i j l g h = absurd (omega arith)
   again_when p e s f (suc left) i j l g h =
       let r = again_guarded when left (i + 1) j e s f (omega arith) (λ m k. g left m (omega arith) k) h.2.0 h.2.2 (start_at ts i) in
@@ -166,7 +166,7 @@ module _ (ts : List Token) where
   again_while : (p : ℕ) (e : Expression) (s : Statement) → Sound e → (left i j : ℕ) → statement_levels (while p e s) ≤ left →
       ((left m : ℕ) → statement_levels s ≤ left → Stands ts m (statement_words s) j → Again s left m j) →
       Stands ts i (statement_words (while p e s)) j → Again (while p e s) left i j
-  unfolding statement_words statement_levels statement_in if◌then◌else◌ bare_statement
+  unfolding statement_words statement_levels statement_in if◌then◌otherwise◌ bare_statement
   again_while p e s f zero i j l g h = absurd (omega arith)
   again_while p e s f (suc left) i j l g h =
       let r = again_guarded while left (i + 1) j e s f (omega arith) (λ m k. g left m (omega arith) k) h.2.0 h.2.2 (start_at ts i) in
@@ -200,7 +200,7 @@ module _ (ts : List Token) where
   again_foreach : (p : ℕ) (x : List ℕ) (e : Expression) (s : Statement) → Sound e → SoundStatement s → (left i j : ℕ) → statement_levels (foreach p x e s) ≤ left →
       ((left m : ℕ) → statement_levels s ≤ left → Stands ts m (statement_words s) j → Again s left m j) →
       Stands ts i (statement_words (foreach p x e s)) j → Again (foreach p x e s) left i j
-  unfolding statement_words statement_levels statement_in iteration opening after expect if◌then◌else◌ bare_statement operator_of
+  unfolding statement_words statement_levels statement_in iteration opening after expect if◌then◌otherwise◌ bare_statement operator_of
   again_foreach p x e s f u zero i j l g h = absurd (omega arith)
   again_foreach p x e s f u (suc left) i j l g h =
       let d = a_word 14 (bytes "do") in
@@ -252,13 +252,13 @@ module _ (ts : List Token) where
 
   -- the last statement
   again_only : (s : Statement) (r left i j : ℕ) → Again s left i j → kind_at ts j ≡ 125 → AgainAll (only s) r left i j
-  unfolding rounds statements_from after if◌then◌else◌ bare_statement
+  unfolding rounds statements_from after if◌then◌otherwise◌ bare_statement
   again_only s r left i j a k = record { tree = only a.tree; reads = rw (a.reads, k); same = rw a.same }
 
   -- a statement before others
   again_first : (s : Statement) (ss : Statements) → SoundStatements ss → (r left i m j : ℕ) → Again s left i m → Stands ts m (statements_words ss) j → AgainAll ss r left m j →
       AgainAll (first s ss) r left i j
-  unfolding rounds statements_from after if◌then◌else◌ bare_statement
+  unfolding rounds statements_from after if◌then◌otherwise◌ bare_statement
   again_first s ss f r left i m j a h b =
       record { tree = first a.tree b.tree; reads = rw (a.reads, no_braces ss f m j h, b.reads); same = rw (a.same, b.same) }
 
@@ -272,7 +272,7 @@ module _ (ts : List Token) where
   again_block : (p : ℕ) (ss : Statements) (left i j : ℕ) → statement_levels (block p ss) ≤ left →
       ((left i j : ℕ) → statements_levels ss ≤ left → Stands ts i (statements_words ss) j → kind_at ts j ≡ 125 → AgainAll ss (length ts) left i j) →
       Stands ts i (statement_words (block p ss)) j → Again (block p ss) left i j
-  unfolding statement_words statement_levels statement_in opening after if◌then◌else◌ bare_statement
+  unfolding statement_words statement_levels statement_in opening after if◌then◌otherwise◌ bare_statement
   again_block p ss zero i j l g h = absurd (omega arith)
   again_block p ss (suc left) i j l g h =
       let q = split ts (i + 1) (statements_words ss) (sign 125) j h.2 in

@@ -7,7 +7,7 @@ use mathlib.Core.List.{List, [], ◌∷◌, ◌++◌, append_assoc}
 use lib.ListN.{length, get_or, take, length-append}
 use lib.Dec.{eqb, leb}
 use borrow.Author.Tests.{eqb-true, leb-true, lt-leb}
-use Rattle.meaning.specs.Basics.{bytes, if◌then◌else◌, stands_in, span}
+use Rattle.meaning.specs.Basics.{bytes, if◌then◌otherwise◌, stands_in, span}
 use Rattle.meaning.specs.Byte.{is_space, is_letter, is_digit, is_name_part, is_quote, is_sign}
 use Rattle.meaning.specs.Token.{found, a_string, digits, word_kind, is_double, front, prepend, starting, scan}
 
@@ -43,7 +43,7 @@ skip_bytes (b ∷ x) r at = skip_bytes x r (suc at) ∙ ap (λ (n : ℕ). scan 0
 
 -- a run of bytes that pass a test
 span_all : (f : ℕ → Bool) (x r : List ℕ) → AllPass f x → f (get_or r 0 0) ≡ false → span f (x ++ r) ≡ length x
-unfolding span if◌then◌else◌
+unfolding span if◌then◌otherwise◌
 span_all f [] [] h k = refl
 span_all f [] (c ∷ r) h k = rw k
 span_all f (b ∷ x) r h k = rw h.0 (ap suc (span_all f x r h.1 k))
@@ -57,7 +57,7 @@ take_front (b ∷ x) r = ap (λ (l : List ℕ). b ∷ l) (take_front x r)
 -- the token of a nonempty text that is at the front of some bytes
 pub scan_found : (b : ℕ) (x r : List ℕ) (at k n : ℕ) (w : List ℕ) → is_space b ≡ false → front (b ∷ x ++ r) ≡ found k n w → n ≡ suc (length x) →
     scan 0 at (b ∷ x ++ r) ≡ prepend (record { kind = k; place = at; text = w }) (scan 0 (at + suc (length x)) r)
-unfolding scan starting if◌then◌else◌
+unfolding scan starting if◌then◌otherwise◌
 scan_found b x r at k n w s e l =
     let m : n - 1 ≡ length x = omega arith in
     rw (s, e, m, skip_bytes x r (suc at))
@@ -66,7 +66,7 @@ scan_found b x r at k n w s e l =
 -- a name or a reserved word
 name_front : (b : ℕ) (x r : List ℕ) → is_letter b ≡ true → AllPass is_name_part (b ∷ x) → is_name_part (get_or r 0 0) ≡ false →
     front (b ∷ x ++ r) ≡ found (word_kind (b ∷ x)) (suc (length x)) (b ∷ x)
-unfolding front if◌then◌else◌
+unfolding front if◌then◌otherwise◌
 name_front b x r l h k = rw (l, span_all is_name_part (b ∷ x) r h k, take_front x r)
 
 -- digits
@@ -78,7 +78,7 @@ digit_no_letter b e =
 
 -- the digits of a number
 digits_front : (b : ℕ) (x r : List ℕ) → AllPass is_digit (b ∷ x) → is_digit (get_or r 0 0) ≡ false → front (b ∷ x ++ r) ≡ found digits (suc (length x)) (b ∷ x)
-unfolding front if◌then◌else◌
+unfolding front if◌then◌otherwise◌
 digits_front b x r h k = rw (digit_no_letter b h.0, h.0, span_all is_digit (b ∷ x) r h k, take_front x r)
 
 -- a string
@@ -87,7 +87,7 @@ get_d_behind [] r c = refl
 get_d_behind (b ∷ x) r c = get_d_behind x r c
 
 string_front : (b : ℕ) (x r : List ℕ) → is_letter b ≡ true → AllPass is_name_part (b ∷ x) → front (34 ∷ (b ∷ x ++ 34 ∷ r)) ≡ found a_string (suc (length x) + 2) (b ∷ x)
-unfolding front if◌then◌else◌ is_quote is_letter is_digit is_name_part
+unfolding front if◌then◌otherwise◌ is_quote is_letter is_digit is_name_part
 string_front b x r l h = rw (span_all is_name_part (b ∷ x) (34 ∷ r) h refl, get_d_behind x r 34, l, take_front x (34 ∷ r))
 
 -- a sign of one byte
@@ -101,7 +101,7 @@ pub record Lone (b : ℕ) : Type 0 where
 
 -- it stands alone where no sign of two bytes begins
 lone_front : (b : ℕ) (r : List ℕ) → Lone b → is_double b (get_or r 0 0) ≡ false → front (b ∷ r) ≡ found b 1 (b ∷ [])
-unfolding front if◌then◌else◌
+unfolding front if◌then◌otherwise◌
 lone_front b r h d = rw (h.letter, h.digit, h.quote, h.sign, d, h.bang)
 
 -- most signs are never the first byte of another

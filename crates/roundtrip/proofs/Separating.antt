@@ -8,7 +8,7 @@ use mathlib.Core.Option.{Option, none, some}
 use lib.ListN.{length, get_or}
 use lib.Dec.{eqb}
 use borrow.Author.Tests.{eqb-true}
-use Rattle.meaning.specs.Basics.{bytes, if◌then◌else◌, stands_in, span}
+use Rattle.meaning.specs.Basics.{bytes, if◌then◌otherwise◌, stands_in, span}
 use Rattle.meaning.specs.Byte.{is_space, is_letter, is_digit, is_name_part, is_quote}
 use Rattle.meaning.specs.Token.{is_double, front}
 use Rattle.roundtrip.proofs.LexesTree.{signs}
@@ -18,18 +18,18 @@ use Rattle.roundtrip.proofs.Weights.{string_size, sign_size, sized_letter, sized
 -- ---- spans
 -- a run ends where a byte stops it
 pub span_stop : (f : ℕ → Bool) (u v : List ℕ) → f (get_or v 0 0) ≡ false → span f (u ++ v) ≡ span f u
-unfolding span if◌then◌else◌
+unfolding span if◌then◌otherwise◌
 span_stop f [] [] e = refl
 span_stop f [] (c ∷ v) e = rw e
 span_stop f (b ∷ u) v e = rw (span_stop f u v e)
 
 -- a run is no longer than its bytes
 pub span_le : (f : ℕ → Bool) (u : List ℕ) → span f u ≤ length u
-unfolding span if◌then◌else◌
+unfolding span if◌then◌otherwise◌
 span_le f [] = omega arith
 span_le f (b ∷ u) = by (f b) (span_le f u)
   where
-    by : (t : Bool) → span f u ≤ length u → (if t then (λ _. suc (span f u)) else λ _. 0) ≤ suc (length u)
+    by : (t : Bool) → span f u ≤ length u → (if t then (λ _. suc (span f u)) otherwise λ _. 0) ≤ suc (length u)
     by true h = omega arith
     by false h = omega arith
 

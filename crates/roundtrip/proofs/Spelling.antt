@@ -5,7 +5,7 @@ use mathlib.Core.Path.{◌≡◌, refl, ap, subst}
 use mathlib.Core.Bool.{Bool, true, false, and-eq-true_iff}
 use mathlib.Core.List.{List, [], ◌∷◌}
 use lib.ListN.{get_or, take}
-use Rattle.meaning.specs.Basics.{if◌then◌else◌, stands_in, span}
+use Rattle.meaning.specs.Basics.{if◌then◌otherwise◌, stands_in, span}
 use Rattle.meaning.specs.Byte.{is_space, is_letter, is_name_part, is_quote, is_sign}
 use Rattle.meaning.specs.Token.{Token, a_name, a_string, Front, found, nothing, front, Lexed, lexed, stray, prepend, starting, scan, tokens_of}
 use Rattle.meaning.specs.Grammar.{after_last}
@@ -22,25 +22,25 @@ SpeltFront (found k n w) = Spelt k w
 SpeltFront nothing = Unit {0}
 
 -- a choice between two
-spelt_if : (b : Bool) (t u : Unit {0} → Front) → (b ≡ true → SpeltFront (t tt)) → (b ≡ false → SpeltFront (u tt)) → SpeltFront (if b then t else u)
-unfolding if◌then◌else◌
+spelt_if : (b : Bool) (t u : Unit {0} → Front) → (b ≡ true → SpeltFront (t tt)) → (b ≡ false → SpeltFront (u tt)) → SpeltFront (if b then t otherwise u)
+unfolding if◌then◌otherwise◌
 spelt_if true t u p q = p refl
 spelt_if false t u p q = q refl
 
 -- ---- the token at the front
 -- a run passes its test
 span_pass : (f : ℕ → Bool) (l : List ℕ) → AllPass f (take (span f l) l)
-unfolding span if◌then◌else◌
+unfolding span if◌then◌otherwise◌
 span_pass f [] = tt
 span_pass f (x ∷ xs) = by (f x) refl (span_pass f xs)
   where
-    by : (t : Bool) → f x ≡ t → AllPass f (take (span f xs) xs) → AllPass f (take (if t then (λ _. suc (span f xs)) else λ _. 0) (x ∷ xs))
+    by : (t : Bool) → f x ≡ t → AllPass f (take (span f xs) xs) → AllPass f (take (if t then (λ _. suc (span f xs)) otherwise λ _. 0) (x ∷ xs))
     by true e h = (e, h)
     by false e h = tt
 
 -- a letter and what follows it
 spelled_front : (l : List ℕ) → is_letter (get_or l 0 0) ≡ true → Spelled (take (span is_name_part l) l)
-unfolding span if◌then◌else◌ is_name_part is_letter
+unfolding span if◌then◌otherwise◌ is_name_part is_letter
 spelled_front [] e = let z : ◌≡◌ {A = Bool} false true = e in let w : ◌≡◌ {A = ℕ} 0 1 = cc in absurd (omega arith)
 spelled_front (b ∷ bs) e = record { letter = first_letter; parts = span_pass is_name_part (b ∷ bs) }
   where
@@ -99,13 +99,13 @@ starting_spelt nothing at rest h r = tt
 
 -- all that is scanned
 scan_spelt : (bs : List ℕ) (k at : ℕ) → LexedSpelt (scan k at bs)
-unfolding scan if◌then◌else◌
+unfolding scan if◌then◌otherwise◌
 scan_spelt [] k at = none
 scan_spelt (b ∷ bs) (suc k) at = scan_spelt bs k (suc at)
 scan_spelt (b ∷ bs) zero at = by (is_space b) (λ k. scan_spelt bs k (suc at))
   where
     by : (t : Bool) → ((k : ℕ) → LexedSpelt (scan k (suc at) bs)) →
-        LexedSpelt (if t then (λ _. scan 0 (suc at) bs) else λ _. starting (front (b ∷ bs)) at (λ k. scan k (suc at) bs))
+        LexedSpelt (if t then (λ _. scan 0 (suc at) bs) otherwise λ _. starting (front (b ∷ bs)) at (λ k. scan k (suc at) bs))
     by true r = r 0
     by false r = starting_spelt (front (b ∷ bs)) at _ (front_spelt (b ∷ bs)) r
 

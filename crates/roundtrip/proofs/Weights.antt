@@ -7,7 +7,7 @@ use mathlib.Core.List.{List, [], ◌∷◌}
 use mathlib.Core.Option.{Option, none, some}
 use lib.ListN.{length, get_or, take}
 use lib.Dec.{eqb}
-use Rattle.meaning.specs.Basics.{if◌then◌else◌, span}
+use Rattle.meaning.specs.Basics.{if◌then◌otherwise◌, span}
 use Rattle.meaning.specs.Byte.{is_space, is_letter, is_digit, is_name_part, is_quote, is_sign}
 use Rattle.meaning.specs.Token.{Token, Front, found, nothing, found_string, found_sign, is_double, front, Lexed, lexed, stray, prepend, starting, scan}
 use Rattle.roundtrip.proofs.Scanning.{digit_no_letter}
@@ -54,7 +54,7 @@ prepended t (stray p) ts e = let z : ◌≡◌ {A = ℕ} 0 1 = cc in absurd (ome
 
 -- scanned bytes are clean, and weigh their tokens
 pub weighed : (bs : List ℕ) (k at : ℕ) (ts : List Token) → scan k at bs ≡ lexed ts → Clean k bs × (weigh k bs ≡ length ts)
-unfolding scan starting weigh weigh_at if◌then◌else◌ sized
+unfolding scan starting weigh weigh_at if◌then◌otherwise◌ sized
 weighed [] k at ts e = (tt, empty e)
   where
     empty : lexed [] ≡ lexed ts → 0 ≡ length ts
@@ -62,7 +62,7 @@ weighed [] k at ts e = (tt, empty e)
 weighed (b ∷ bs) (suc k) at ts e = weighed bs k (suc at) ts e
 weighed (b ∷ bs) zero at ts e = by (is_space b) (front (b ∷ bs)) e (λ k us h. weighed bs k (suc at) us h)
   where
-    by : (t : Bool) (f : Front) → (if t then (λ _. scan 0 (suc at) bs) else λ _. starting f at (λ k. scan k (suc at) bs)) ≡ lexed ts →
+    by : (t : Bool) (f : Front) → (if t then (λ _. scan 0 (suc at) bs) otherwise λ _. starting f at (λ k. scan k (suc at) bs)) ≡ lexed ts →
         ((k : ℕ) (us : List Token) → scan k (suc at) bs ≡ lexed us → Clean k bs × (weigh k bs ≡ length us)) →
         CleanAt t (sized f) (Clean 0 bs) (λ k. Clean k bs) × (weigh_at t (sized f) (weigh 0 bs) (λ k. weigh k bs) ≡ length ts)
     by true f e r = r 0 ts e
@@ -101,19 +101,19 @@ sign_size b c = cond (is_double b c) (some 2) (cond (eqb b 33) none (some 1))
 
 -- that is the size of a string
 string_sized : (w : List ℕ) → sized (found_string w) ≡ string_size w
-unfolding sized if◌then◌else◌
+unfolding sized if◌then◌otherwise◌
 string_sized w = by (is_letter (get_or w 0 0) && is_quote (get_or w (span is_name_part w) 0))
   where
-    by : (t : Bool) → sized (if t then (λ _. found 3 (span is_name_part w + 2) (take (span is_name_part w) w)) else λ _. nothing) ≡ cond t (some (span is_name_part w + 2)) none
+    by : (t : Bool) → sized (if t then (λ _. found 3 (span is_name_part w + 2) (take (span is_name_part w) w)) otherwise λ _. nothing) ≡ cond t (some (span is_name_part w + 2)) none
     by true = refl
     by false = refl
 
 -- and of a sign
 sign_sized : (b c : ℕ) → sized (found_sign b c) ≡ sign_size b c
-unfolding sized if◌then◌else◌
+unfolding sized if◌then◌otherwise◌
 sign_sized b c = by (is_double b c) (eqb b 33)
   where
-    by : (s t : Bool) → sized (if s then (λ _. found (b + 128) 2 (b ∷ c ∷ [])) else λ _. if t then (λ _. nothing) else λ _. found b 1 (b ∷ [])) ≡ cond s (some 2) (cond t none (some 1))
+    by : (s t : Bool) → sized (if s then (λ _. found (b + 128) 2 (b ∷ c ∷ [])) otherwise λ _. if t then (λ _. nothing) otherwise λ _. found b 1 (b ∷ [])) ≡ cond s (some 2) (cond t none (some 1))
     by true t = refl
     by false true = refl
     by false false = refl
@@ -130,25 +130,25 @@ part_digit b e = rw (digit_no_letter b e, e)
 
 -- a name or a reserved word
 pub sized_letter : (b : ℕ) (bs : List ℕ) → is_letter b ≡ true → sized (front (b ∷ bs)) ≡ some (suc (span is_name_part bs))
-unfolding front sized if◌then◌else◌ span
+unfolding front sized if◌then◌otherwise◌ span
 sized_letter b bs l = rw (l, part_letter b l)
 
 -- digits
 pub sized_digit : (b : ℕ) (bs : List ℕ) → is_digit b ≡ true → sized (front (b ∷ bs)) ≡ some (suc (span is_digit bs))
-unfolding front sized if◌then◌else◌ span
+unfolding front sized if◌then◌otherwise◌ span
 sized_digit b bs d = rw (digit_no_letter b d, d)
 
 -- a string
 pub sized_quote : (b : ℕ) (bs : List ℕ) → is_letter b ≡ false → is_digit b ≡ false → is_quote b ≡ true → sized (front (b ∷ bs)) ≡ string_size bs
-unfolding front if◌then◌else◌
+unfolding front if◌then◌otherwise◌
 sized_quote b bs l d q = rw (l, d, q) (string_sized bs)
 
 -- a sign
 pub sized_sign : (b : ℕ) (bs : List ℕ) → is_letter b ≡ false → is_digit b ≡ false → is_quote b ≡ false → is_sign b ≡ true → sized (front (b ∷ bs)) ≡ sign_size b (get_or bs 0 0)
-unfolding front if◌then◌else◌
+unfolding front if◌then◌otherwise◌
 sized_sign b bs l d q s = rw (l, d, q, s) (sign_sized b (get_or bs 0 0))
 
 -- no token
 pub sized_other : (b : ℕ) (bs : List ℕ) → is_letter b ≡ false → is_digit b ≡ false → is_quote b ≡ false → is_sign b ≡ false → sized (front (b ∷ bs)) ≡ none
-unfolding front sized if◌then◌else◌
+unfolding front sized if◌then◌otherwise◌
 sized_other b bs l d q s = rw (l, d, q, s)

@@ -5,7 +5,7 @@ use mathlib.Core.Path.{◌≡◌, refl, subst₂}
 use mathlib.Core.Bool.{Bool, true, false}
 use mathlib.Core.List.{List}
 use borrow.Author.Tests.{eqb-true}
-use Rattle.meaning.specs.Basics.{if◌then◌else◌}
+use Rattle.meaning.specs.Basics.{if◌then◌otherwise◌}
 use Rattle.meaning.specs.Token.{Token}
 use Rattle.meaning.specs.Grammar.{Got, good, wrong, after, expect, is, kind_at, Inside, no_level, level, opening}
 
@@ -31,8 +31,8 @@ pub data Inner {I : Type 0} (R : ℕ → I → Type 0) : ℕ → Inside I → Ty
 
 module _ {A : Type 0} {P : A → ℕ → Type 0} where
   -- a choice
-  pub yields_if : (c : Bool) (t u : Unit {0} → Got A) → (c ≡ true → Yields P (t tt)) → (c ≡ false → Yields P (u tt)) → Yields P (if c then t else u)
-  unfolding if◌then◌else◌
+  pub yields_if : (c : Bool) (t u : Unit {0} → Got A) → (c ≡ true → Yields P (t tt)) → (c ≡ false → Yields P (u tt)) → Yields P (if c then t otherwise u)
+  unfolding if◌then◌otherwise◌
   yields_if true t u p q = p refl
   yields_if false t u p q = q refl
 

@@ -2,7 +2,7 @@
 -- Assumes nothing.
 use Rattle.std.proofs.Common.{◌≡◌, ℕ, suc, ◌+◌, ◌-◌, ◌%◌, ◌^◌, ◌<◌, ◌≤◌, Bool, true, false, not, List, length, get_or, set, sym, refl, ap, ◌∙◌, arith, length-set, ne_eqb}
 use borrow.Author.Tests.{not-true, not-false}
-use Rattle.meaning.specs.Basics.{if◌then◌else◌}
+use Rattle.meaning.specs.Basics.{if◌then◌otherwise◌}
 use Rattle.meaning.specs.Picture.{line_of}
 use Rattle.machine.specs.Words.{kind_in, kind_shape, number_in, unpacked}
 use Rattle.machine.specs.Layout.{declared, lines_length, frame, steps_used, steps_granted, fixed_words, Room}
@@ -36,11 +36,11 @@ module _ (program ts g ws : List ℕ) (c : ℕ) (ok : Bool) (ws₁ : List ℕ) (
 
   module _ (q : not ok ≡ false) (b : Bool) (e : b ≡ is_group_at ws₁ c) where
     pub group_met : b ≡ true → Passes ws 79 (λ p. measure_reached program ts g p c) true ws₁
-    unfolding measure_reached passed ◌>>=◌ go_on held give if◌then◌else◌
+    unfolding measure_reached passed ◌>>=◌ go_on held give if◌then◌otherwise◌
     group_met t = record { equal = λ p us. sym (after_pass _ p us (rw (not-false ok q) at h) ∙ rw (← e, t)) }
 
     pub figure_met : (ws₂ : List ℕ) → b ≡ false → Gives ws₁ (measure (size_with program ts) c) tt ws₂ → Passes ws 79 (λ p. measure_reached program ts g p c) true ws₂
-    unfolding measure_reached passed ◌>>=◌ go_on held if◌then◌else◌
+    unfolding measure_reached passed ◌>>=◌ go_on held if◌then◌otherwise◌
     figure_met ws₂ t m = record { equal = λ p us. m.equal us ∙ sym (after_pass _ p us (rw (not-false ok q) at h) ∙ rw (← e, t)) }
 
 -- ---- the way is kept
@@ -52,7 +52,7 @@ pub measuring_steady : (program ts g : List ℕ) → Steady g (measure_reached p
 unfolding measure_reached nothing_left give held Keeps ◌>>=◌ go_on
 measuring_steady program ts g = record {
   reached = λ p c e r l.
-      keeps_then e r (count g p) (λ _. held >>= λ ws. if is_group_at ws c then (λ _. give tt) else λ _. measure (size_with program ts) c)
+      keeps_then e r (count g p) (λ _. held >>= λ ws. if is_group_at ws c then (λ _. give tt) otherwise λ _. measure (size_with program ts) c)
       (keeps_spend e r steps_used (steps_granted g) 1 79 p (omega arith))
       (λ a r'. keeps_either e r' (is_group_at r'.words c) (λ _. give tt) (λ _. measure (size_with program ts) c) refl (keeps_measure (size_with program ts) e r' c));
   left = λ p d e r l. refl;
@@ -85,16 +85,16 @@ module _ (program ts g ws : List ℕ) (d k n : ℕ) (u : Under g ws d k n) where
 -- ---- a shape
 module _ (program ts g ws : List ℕ) (i : ℕ) (b : Bool) (e : b ≡ destroyed_at ws i) where
   pub shape_gone : b ≡ true → Finishes ws (show (size_with program ts) g i) 0 ws
-  unfolding show ◌>>=◌ go_on held give passed if◌then◌else◌
+  unfolding show ◌>>=◌ go_on held give passed if◌then◌otherwise◌
   shape_gone t = record { equal = λ us. rw (← e, t) }
 
   module _ (t : b ≡ false) (a : Bool) (f : a ≡ is_group_at ws i) where
     pub group_shown : (r : ℕ) (ws' : List ℕ) → a ≡ true → Ends ws (walking (measure_reached program ts g) nothing_left g i) r ws' → Finishes ws (show (size_with program ts) g i) r ws'
-    unfolding show show_reached walking measure_reached nothing_left ◌>>=◌ go_on held if◌then◌else◌
+    unfolding show show_reached walking measure_reached nothing_left ◌>>=◌ go_on held if◌then◌otherwise◌
     group_shown r ws' q w = record { equal = λ us. w.equal 0 us ∙ rw (← e, t, ← f, q) }
 
     pub figure_shown : (ws' : List ℕ) → a ≡ false → Gives ws (measure (size_with program ts) i) tt ws' → Finishes ws (show (size_with program ts) g i) 0 ws'
-    unfolding show ◌>>=◌ go_on held passed if◌then◌else◌
+    unfolding show ◌>>=◌ go_on held passed if◌then◌otherwise◌
     figure_shown ws' q m = record { equal = λ us. m.equal us ∙ rw (← e, t, ← f, q) }
 
 -- ---- a value

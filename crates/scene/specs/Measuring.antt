@@ -1,6 +1,6 @@
 -- The walk over a scene that counts its components and the bytes of its lines.
 use Rattle.std.specs.Prelude.{◌≡◌, ℕ, List, length, ◌==◌}
-use Rattle.meaning.specs.Basics.{if◌then◌else◌}
+use Rattle.meaning.specs.Basics.{if◌then◌otherwise◌}
 use Rattle.meaning.specs.Picture.{line_of}
 use Rattle.machine.specs.Act.{Raw, raw, Act, give, held, count, passed, ◌>>=◌, ◌>>◌}
 use Rattle.machine.specs.Shapes.{is_group_at}
@@ -19,7 +19,7 @@ size_with program ts r i = line_size program (raw ts r.words) i
 -- a component reached, at any place; nothing is done where a group is left
 unfoldable pub measure_reached : List ℕ → List ℕ → List ℕ → Doing
 measure_reached program ts g p c =
-    count g p >> (held >>= λ ws. if is_group_at ws c then (λ _. give tt) else λ _. measure (size_with program ts) c)
+    count g p >> (held >>= λ ws. if is_group_at ws c then (λ _. give tt) otherwise λ _. measure (size_with program ts) c)
 
 unfoldable pub nothing_left : Doing
 nothing_left p d = give tt

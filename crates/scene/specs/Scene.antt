@@ -1,6 +1,6 @@
 -- The figures that the stores hold for a picture.
 use Rattle.std.specs.Prelude.{ℕ, zero, suc, not, ◌&&◌, List, [], ◌∷◌, ◌++◌, ◌==◌, slice_index}
-use Rattle.meaning.specs.Basics.{if◌then◌else◌}
+use Rattle.meaning.specs.Basics.{if◌then◌otherwise◌}
 use Rattle.meaning.specs.Figure.{Figure}
 use Rattle.machine.specs.Words.{kind_in, number_in}
 use Rattle.machine.specs.Layout.{declared, frame, shapes_granted}
@@ -25,7 +25,7 @@ figures_for program r (i ∷ more) = figure_for program r i ∷ figures_for prog
 -- the shapes that a variable's word adds: an undestroyed figure, or those in a group
 unfoldable pub shown_by : List ℕ → List ℕ → ℕ → List ℕ
 shown_by g ws w =
-    if kind_in w == 6 && not (destroyed_at ws (number_in w)) then (λ _. figures_in (shapes_granted g) g ws (number_in w)) else λ _. []
+    if kind_in w == 6 && not (destroyed_at ws (number_in w)) then (λ _. figures_in (shapes_granted g) g ws (number_in w)) otherwise λ _. []
 
 -- what the k-th declaration's variable holds
 abbrev pub word_of : List ℕ → ℕ → ℕ

@@ -9,7 +9,7 @@ use native.Mathlib.Nat.{zero-sub, sub-zero, suc-sub-suc}
 use native.Mathlib.Omega.{arith}
 use lib.ListN.{take, drop}
 use lib.Seq.{get_or-take, take-take, take-nil}
-use Rattle.meaning.specs.Basics.{if◌then◌else◌, span}
+use Rattle.meaning.specs.Basics.{if◌then◌otherwise◌, span}
 use Rattle.meaning.specs.Byte.{is_digit}
 use Rattle.sheet.specs.declared.line.Field.{Field}
 use Rattle.sheet.specs.declared.line.Field.TheVariants.{Digits, Unfit}
@@ -18,13 +18,13 @@ use Rattle.sheet.proofs.Fields.{field_long, found}
 
 -- ---- lists
 span_cut : (p : ℕ → Bool) (k : ℕ) (s : List ℕ) → span p (take k s) ≡ min k (span p s)
-unfolding span if◌then◌else◌
+unfolding span if◌then◌otherwise◌
 span_cut p zero s = omega arith
 span_cut p (suc k) [] = omega arith
 span_cut p (suc k) (b ∷ s) = by (p b) (span_cut p k s)
   where
     by : (t : Bool) → span p (take k s) ≡ min k (span p s)
-        → (if t then (λ _. suc (span p (take k s))) else λ _. 0) ≡ min (suc k) (if t then (λ _. suc (span p s)) else λ _. 0)
+        → (if t then (λ _. suc (span p (take k s))) otherwise λ _. 0) ≡ min (suc k) (if t then (λ _. suc (span p s)) otherwise λ _. 0)
     by true e = omega arith
     by false e = omega arith
 

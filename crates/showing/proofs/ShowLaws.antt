@@ -9,7 +9,7 @@ use lib.ListN.{get_or, length, length-set}
 use lib.Seq.{get_or-set_same, get_or-set_other}
 use lib.Dec.{ltb}
 use borrow.Author.Tests.{not-true, not-false, lt-ltb, le-ltb}
-use Rattle.meaning.specs.Basics.{if◌then◌else◌}
+use Rattle.meaning.specs.Basics.{if◌then◌otherwise◌}
 use Rattle.meaning.specs.Picture.{lines_of}
 use Rattle.machine.specs.Layout.{fixed_words, shapes_granted, shape_place, component_place, waiting_held}
 use Rattle.machine.specs.Words.{number_in}
@@ -103,7 +103,7 @@ lines_more program ts ws shapes more = ap lines_of (figures_append program ts ws
 -- ---- a shape at a depth
 module _ (g ws : List ℕ) (d c : ℕ) where
   pub figure_level : is_group_at ws c ≡ false → figures_in (shapes_granted g - d) g ws c ≡ figure_within g d c
-  unfolding figure_within figures_in if◌then◌else◌
+  unfolding figure_within figures_in if◌then◌otherwise◌
   figure_level f = go (shapes_granted g - d) refl
     where
       go : (b : ℕ) → shapes_granted g - d ≡ b → figures_in b g ws c ≡ figure_within g d c
@@ -111,7 +111,7 @@ module _ (g ws : List ℕ) (d c : ℕ) where
       go (suc b) q = let h : ltb d (shapes_granted g) ≡ true = lt-ltb d (shapes_granted g) (omega arith) in rw (h, f)
 
   pub group_level : is_group_at ws c ≡ true → figures_in (shapes_granted g - d) g ws c ≡ level_shown g ws d (first_at ws c) (count_within g ws d c)
-  unfolding level_shown count_within figures_in shown_from if◌then◌else◌
+  unfolding level_shown count_within figures_in shown_from if◌then◌otherwise◌
   group_level f = go (shapes_granted g - d) refl
     where
       go : (b : ℕ) → shapes_granted g - d ≡ b → figures_in b g ws c ≡ level_shown g ws d (first_at ws c) (count_within g ws d c)
@@ -148,7 +148,7 @@ module _ (g ws : List ℕ) (k : ℕ) where
 
   module _ (d c : ℕ) (e : c ≡ component_at g ws k) (b : Bool) (f : b ≡ destroyed_at ws c) where
     over_shown : (n : ℕ) → (n ≡ 0 → ⊥) → b ≡ true → ShownBy g (shown_here g ws d k n) (left_shown g ws d k n) ws (At d (k + 1) (n - 1))
-    unfolding ShownBy shown_here left_shown level_shown shown_from if◌then◌else◌
+    unfolding ShownBy shown_here left_shown level_shown shown_from if◌then◌otherwise◌
     over_shown zero m t = absurd (m refl)
     over_shown (suc n) m t = rw (less_one_lem n, ← e, ← f, t)
 
@@ -159,7 +159,7 @@ module _ (g ws : List ℕ) (k : ℕ) where
 
     module _ (t : b ≡ false) (a : Bool) (i : a ≡ is_group_at ws c) where
       figure_shown : (n : ℕ) → (n ≡ 0 → ⊥) → a ≡ false → ShownBy g (shown_here g ws d k n) (left_shown g ws d k n) ws (At d (k + 1) (n - 1))
-      unfolding ShownBy shown_here left_shown level_shown shown_from if◌then◌else◌
+      unfolding ShownBy shown_here left_shown level_shown shown_from if◌then◌otherwise◌
       figure_shown zero m v = absurd (m refl)
       figure_shown (suc n) m v =
           let one : d + 1 ≡ suc d = omega arith in
@@ -172,12 +172,12 @@ module _ (g ws : List ℕ) (k : ℕ) where
           record { walks = x.walks; less = x.less; unmoved = unmoved_none g ws; shown = figure_shown n m (not-true a v) }
 
       level_more : (n : ℕ) → level_shown g ws d k (suc n) ≡ figures_in (shapes_granted g - suc d) g ws c ++ level_shown g ws d (k + 1) n
-      unfolding level_shown shown_from if◌then◌else◌
+      unfolding level_shown shown_from if◌then◌otherwise◌
       level_more n = rw (← e, ← f, t)
 
       group_shown : (n : ℕ) → Walks g ws d k (suc n) → a ≡ true
           → ShownBy g (shown_here g ws d k (suc n)) (left_shown g ws d k (suc n)) (way_laid ws d k n) (down_in g (way_laid ws d k n) d c)
-      unfolding ShownBy shown_here left_shown above_shown down_in if◌then◌else◌
+      unfolding ShownBy shown_here left_shown above_shown down_in if◌then◌otherwise◌
       group_shown n w v =
           let one : d + 1 ≡ suc d = omega arith in
           let deep : d < shapes_granted g = w.within (omega arith) in

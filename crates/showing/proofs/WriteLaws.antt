@@ -12,7 +12,7 @@ use mir.Syntax.{w32, w64}
 use mir.Val.{Fits, SFits}
 use mir.ValLaws.{to_z-of_z}
 use borrow.Author.Tests.{lt-ltb, le-ltb, eq-eqb, ne_eqb}
-use Rattle.meaning.specs.Basics.{if◌then◌else◌, laid_over}
+use Rattle.meaning.specs.Basics.{if◌then◌otherwise◌, laid_over}
 use Rattle.meaning.specs.Picture.{line_of, lines_of, picture_of}
 use Rattle.machine.specs.Words.{kind_in, number_in}
 use Rattle.machine.specs.Layout.{declared, lines_length, frame, shapes_granted, argument_place, Room}
@@ -45,12 +45,12 @@ writes_nothing {at} {d} h = record {
 -- ---- a figure
 module _ (program ts g ws : List ℕ) (d i : ℕ) where
   pub figure_none : {at : ℕ} {out : List ℕ} → at < 2 ^ 64 → shapes_granted g ≤ d → WroteAt at (lines_for program ts ws (figure_within g d i)) out out at
-  unfolding figure_within figures_for lines_of if◌then◌else◌
+  unfolding figure_within figures_for lines_of if◌then◌otherwise◌
   figure_none l h = rw (le-ltb d (shapes_granted g) h) (writes_nothing l)
 
   pub figure_line : {at r : ℕ} {before after : List ℕ} → d < shapes_granted g → WroteAt at (line_of (figure_for program (raw ts ws) i)) before after r
       → WroteAt at (lines_for program ts ws (figure_within g d i)) before after r
-  unfolding figure_within figures_for lines_of if◌then◌else◌
+  unfolding figure_within figures_for lines_of if◌then◌otherwise◌
   figure_line h w = rw (lt-ltb d (shapes_granted g) h, append-nil (line_of (figure_for program (raw ts ws) i))) w
 
 -- ---- a component
@@ -61,19 +61,19 @@ module _ (program ts g ws : List ℕ) (d k : ℕ) where
 
   module _ (c : ℕ) (e : c ≡ component_at g ws k) (b : Bool) (f : b ≡ destroyed_at ws c) where
     pub reached_gone : (n : ℕ) {at : ℕ} {out : List ℕ} → at < 2 ^ 64 → (n ≡ 0 → ⊥) → b ≡ true → WroteAt at (lines_for program ts ws (shown_here g ws d k n)) out out at
-    unfolding shown_here figures_for lines_of if◌then◌else◌
+    unfolding shown_here figures_for lines_of if◌then◌otherwise◌
     reached_gone zero l m t = absurd (m refl)
     reached_gone (suc n) l m t = rw (← e, ← f, t) (writes_nothing l)
 
     module _ (t : b ≡ false) (a : Bool) (i : a ≡ is_group_at ws c) where
       pub reached_group : (n : ℕ) {at : ℕ} {out : List ℕ} → at < 2 ^ 64 → (n ≡ 0 → ⊥) → a ≡ true → WroteAt at (lines_for program ts ws (shown_here g ws d k n)) out out at
-      unfolding shown_here figures_for lines_of if◌then◌else◌
+      unfolding shown_here figures_for lines_of if◌then◌otherwise◌
       reached_group zero l m v = absurd (m refl)
       reached_group (suc n) l m v = rw (← e, ← f, t, ← i, v) (writes_nothing l)
 
       pub reached_figure : (n : ℕ) {at r : ℕ} {before after : List ℕ} → (n ≡ 0 → ⊥) → a ≡ false → WroteAt at (lines_for program ts ws (figure_within g (d + 1) c)) before after r
           → WroteAt at (lines_for program ts ws (shown_here g ws d k n)) before after r
-      unfolding shown_here if◌then◌else◌
+      unfolding shown_here if◌then◌otherwise◌
       reached_figure zero m v w = absurd (m refl)
       reached_figure (suc n) m v w = rw (← e, ← f, t, ← i, v) w
 
@@ -158,17 +158,17 @@ module _ (program ts g ws : List ℕ) (i : ℕ) (a : Bool) (e : a ≡ is_group_a
 -- ---- a value
 module _ (program ts g ws : List ℕ) (w : ℕ) where
   pub no_shape_lem : {at : ℕ} {out : List ℕ} → at < 2 ^ 64 → (kind_in w ≡ 6 → ⊥) → Shown program ts g ws (shown_by g ws w) at out ws out at
-  unfolding shown_by figures_for lines_of if◌then◌else◌
+  unfolding shown_by figures_for lines_of if◌then◌otherwise◌
   no_shape_lem l h = record { wrote = rw (ne_eqb (kind_in w) 6 h) (writes_nothing l); unmoved = unmoved_none g ws }
 
   module _ (h : kind_in w ≡ 6) (i : ℕ) (e : i ≡ number_in w) (b : Bool) (f : b ≡ destroyed_at ws i) where
     pub shape_gone : {at : ℕ} {out : List ℕ} → at < 2 ^ 64 → b ≡ true → Shown program ts g ws (shown_by g ws w) at out ws out at
-    unfolding shown_by figures_for lines_of if◌then◌else◌
+    unfolding shown_by figures_for lines_of if◌then◌otherwise◌
     shape_gone l t = record { wrote = rw (eq-eqb (kind_in w) 6 h, ← e, ← f, t) (writes_nothing l); unmoved = unmoved_none g ws }
 
     pub shape_written : {at r : ℕ} {before ws' after : List ℕ} → b ≡ false → Shown program ts g ws (figures_in (shapes_granted g) g ws i) at before ws' after r
         → Shown program ts g ws (shown_by g ws w) at before ws' after r
-    unfolding shown_by if◌then◌else◌
+    unfolding shown_by if◌then◌otherwise◌
     shape_written t s = rw (eq-eqb (kind_in w) 6 h, ← e, ← f, t) s
 
 -- ---- the variables

@@ -1,6 +1,6 @@
 -- The walk that writes the lines of a scene, which changes nothing but the words of the way.
 use Rattle.std.specs.Prelude.{ℕ, zero, suc, ◌+◌, ◌-◌, ◌<◌, ◌≡◌, List, [], ◌∷◌, ◌++◌, ℤ, get_or, length, ltb}
-use Rattle.meaning.specs.Basics.{if◌then◌else◌}
+use Rattle.meaning.specs.Basics.{if◌then◌otherwise◌}
 use Rattle.meaning.specs.Picture.{lines_of, picture_of}
 use Rattle.machine.specs.Layout.{shapes_granted}
 use Rattle.machine.specs.Act.{raw}
@@ -24,14 +24,14 @@ lines_for program ts ws shapes = lines_of (figures_for program (raw ts ws) shape
 
 -- a figure at depth d
 unfoldable pub figure_within : List ℕ → ℕ → ℕ → List ℕ
-figure_within g d i = if ltb d (shapes_granted g) then (λ _. i ∷ []) else λ _. []
+figure_within g d i = if ltb d (shapes_granted g) then (λ _. i ∷ []) otherwise λ _. []
 
 -- what a walk shows at depth d in slot k, where n components are left
 unfoldable pub shown_here : List ℕ → List ℕ → ℕ → ℕ → ℕ → List ℕ
 shown_here g ws d k zero = []
 shown_here g ws d k (suc n) =
     if destroyed_at ws (component_at g ws k) then (λ _. [])
-    else λ _. if is_group_at ws (component_at g ws k) then (λ _. []) else λ _. figure_within g (d + 1) (component_at g ws k)
+    otherwise λ _. if is_group_at ws (component_at g ws k) then (λ _. []) otherwise λ _. figure_within g (d + 1) (component_at g ws k)
 
 -- what it has yet to show
 unfoldable pub level_shown : List ℕ → List ℕ → ℕ → ℕ → ℕ → List ℕ

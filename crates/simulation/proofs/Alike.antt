@@ -10,7 +10,7 @@ use mathlib.Core.List.{List, [], ◌∷◌}
 use lib.ListN.{get_or}
 use lib.Dec.{eqb}
 use borrow.Author.Tests.{eqb-true, eqb-false}
-use Rattle.meaning.specs.Basics.{if◌then◌else◌}
+use Rattle.meaning.specs.Basics.{if◌then◌otherwise◌}
 use Rattle.meaning.specs.Token.{Token}
 use Rattle.meaning.specs.State.{State, by_content, is_destroyed, living}
 use Rattle.meaning.specs.Run as Run
@@ -77,43 +77,43 @@ module _ (program : List ℕ) (ts : List Token) (g : List ℕ) where
     rest_of a = record { made = a.made; within = omega (arith, a.within); older = λ j x y. a.older j (omega arith) (omega arith) }
 
     passed_le : (k n : ℕ) → passed_from g r.words k n ≤ n
-    unfolding passed_from if◌then◌else◌
+    unfolding passed_from if◌then◌otherwise◌
     passed_le k zero = omega arith
     passed_le k (suc n) = go (destroyed_at r.words (component_at g r.words k)) (passed_le (k + 1) n)
       where
-        go : (b : Bool) → passed_from g r.words (k + 1) n ≤ n → (if b then (λ _. suc (passed_from g r.words (k + 1) n)) else λ _. 0) ≤ suc n
+        go : (b : Bool) → passed_from g r.words (k + 1) n ≤ n → (if b then (λ _. suc (passed_from g r.words (k + 1) n)) otherwise λ _. 0) ≤ suc n
         go true l = omega arith
         go false l = omega arith
 
     living_none : {i : ℕ} (n k : ℕ) → Slots r i k n → passed_from g r.words k n ≡ n → living s (list r k n) ≡ []
-    unfolding passed_from living listed if◌then◌else◌
+    unfolding passed_from living listed if◌then◌otherwise◌
     living_none zero k a e = refl
     living_none (suc n) k a e =
         go (destroyed_at r.words (component_at g r.words k)) (dead_is a) e
         (λ q. ap (living s) (ap (λ j. list r j n) (sym (add-one k))) ∙ living_none n (k + 1) (rest_of a) q)
       where
-        go : (b : Bool) → is_destroyed s (component_at g r.words k) ≡ b → (if b then (λ _. suc (passed_from g r.words (k + 1) n)) else λ _. 0) ≡ suc n
+        go : (b : Bool) → is_destroyed s (component_at g r.words k) ≡ b → (if b then (λ _. suc (passed_from g r.words (k + 1) n)) otherwise λ _. 0) ≡ suc n
             → (passed_from g r.words (k + 1) n ≡ n → living s (list r (suc k) n) ≡ [])
-            → (if is_destroyed s (component_at g r.words k) then (λ _. living s (list r (suc k) n)) else λ _. component_at g r.words k ∷ living s (list r (suc k) n)) ≡ []
+            → (if is_destroyed s (component_at g r.words k) then (λ _. living s (list r (suc k) n)) otherwise λ _. component_at g r.words k ∷ living s (list r (suc k) n)) ≡ []
         go true d e f = rw d (f (omega arith))
         go false d e f = absurd (omega arith)
 
     living_some : {i : ℕ} (n k : ℕ) → Slots r i k n → passed_from g r.words k n < n
         → living s (list r k n) ≡ component_at g r.words (k + passed_from g r.words k n)
         ∷ living s (list r (k + passed_from g r.words k n + 1) (n - passed_from g r.words k n - 1))
-    unfolding passed_from living listed if◌then◌else◌
+    unfolding passed_from living listed if◌then◌otherwise◌
     living_some zero k a l = absurd (omega arith)
     living_some (suc n) k a l =
         go (destroyed_at r.words (component_at g r.words k)) (dead_is a) l
         (λ q. ap (living s) (ap (λ j. list r j n) (sym (add-one k))) ∙ living_some n (k + 1) (rest_of a) q)
       where
-        go : (b : Bool) → is_destroyed s (component_at g r.words k) ≡ b → (if b then (λ _. suc (passed_from g r.words (k + 1) n)) else λ _. 0) < suc n
+        go : (b : Bool) → is_destroyed s (component_at g r.words k) ≡ b → (if b then (λ _. suc (passed_from g r.words (k + 1) n)) otherwise λ _. 0) < suc n
             → (passed_from g r.words (k + 1) n < n → living s (list r (suc k) n) ≡ component_at g r.words (k + 1 + passed_from g r.words (k + 1) n)
             ∷ living s (list r (k + 1 + passed_from g r.words (k + 1) n + 1) (n - passed_from g r.words (k + 1) n - 1)))
-            → (if is_destroyed s (component_at g r.words k) then (λ _. living s (list r (suc k) n)) else λ _. component_at g r.words k ∷ living s (list r (suc k) n))
-            ≡ component_at g r.words (k + (if b then (λ _. suc (passed_from g r.words (k + 1) n)) else λ _. 0))
-            ∷ living s (list r (k + (if b then (λ _. suc (passed_from g r.words (k + 1) n)) else λ _. 0) + 1)
-            (suc n - (if b then (λ _. suc (passed_from g r.words (k + 1) n)) else λ _. 0) - 1))
+            → (if is_destroyed s (component_at g r.words k) then (λ _. living s (list r (suc k) n)) otherwise λ _. component_at g r.words k ∷ living s (list r (suc k) n))
+            ≡ component_at g r.words (k + (if b then (λ _. suc (passed_from g r.words (k + 1) n)) otherwise λ _. 0))
+            ∷ living s (list r (k + (if b then (λ _. suc (passed_from g r.words (k + 1) n)) otherwise λ _. 0) + 1)
+            (suc n - (if b then (λ _. suc (passed_from g r.words (k + 1) n)) otherwise λ _. 0) - 1))
         go true d l f =
             let x : k + suc (passed_from g r.words (k + 1) n) ≡ k + 1 + passed_from g r.words (k + 1) n = omega arith in
             let y : suc n - suc (passed_from g r.words (k + 1) n) - 1 ≡ n - passed_from g r.words (k + 1) n - 1 = omega arith in
@@ -142,9 +142,9 @@ module _ (program : List ℕ) (ts : List Token) (g : List ℕ) where
       -- behind a pair
       after_pair : (x x' : Bool) → x ≡ x' → {r r₁ : Raw} {s s₁ : State} {total₁ : Amounts} → After program ts g r r₁ s₁ total₁ → s₁ ≡ s → (K : Act Bool) (is js is₁ js₁ : List ℕ)
           → living s₁ is₁ ≡ living s is → living s₁ js₁ ≡ living s js → Alikes r₁ s₁ total₁ (K r₁) (pairwise pair' (living s₁ is₁) (living s₁ js₁) s₁)
-          → Follows granted total₁ (λ b b' r' s' total'. AfterAlike r s b b' r' s' total') ((if x then (λ _. K) else λ _. Act.give false) r₁)
-          ((if x' then (λ _. pairwise pair' (living s is) (living s js)) else λ _. Run.give false) s₁)
-      unfolding if◌then◌else◌ Act.give Run.give
+          → Follows granted total₁ (λ b b' r' s' total'. AfterAlike r s b b' r' s' total') ((if x then (λ _. K) otherwise λ _. Act.give false) r₁)
+          ((if x' then (λ _. pairwise pair' (living s is) (living s js)) otherwise λ _. Run.give false) s₁)
+      unfolding if◌then◌otherwise◌ Act.give Run.give
       after_pair true true e a q K is js is₁ js₁ u v f =
           mapped (λ b b' r' s' total' w. record { after = onward a w.after; state = w.state ∙ q; same = w.same }) (rw (u, v) at f)
       after_pair true false e a q K is js is₁ js₁ u v f = let z : ◌≡◌ {A = ℕ} 0 1 = cc in absurd (omega arith)
@@ -153,7 +153,7 @@ module _ (program : List ℕ) (ts : List Token) (g : List ℕ) where
 
       pairs_follow : (n k l m j : ℕ) (r : Raw) (s : State) (total : Amounts) → Here r s total → Slots r i k n → Slots r j l m
           → Alikes r s total (pairs_from pair g k n l m r) (pairwise pair' (living s (list r k n)) (living s (list r l m)) s)
-      unfolding pairs_from pairwise living listed if◌then◌else◌ Act.◌>>=◌ Act.go_on Act.held Act.give Run.◌>>=◌ Run.give
+      unfolding pairs_from pairwise living listed if◌then◌otherwise◌ Act.◌>>=◌ Act.go_on Act.held Act.give Run.◌>>=◌ Run.give
       pairs_follow zero k l m j r s total h a b = ends (eqb m (passed_from g r.words l m)) refl
         where
           ends : (t : Bool) → eqb m (passed_from g r.words l m) ≡ t → Alikes r s total (Act.done t r) (pairwise pair' [] (living s (list r l m)) s)
@@ -173,10 +173,10 @@ module _ (program : List ℕ) (ts : List Token) (g : List ℕ) where
               → Alikes r₁ s₁ total₁ (pairs_from pair g (k + 1) n (l + passed_from g r.words l m + 1) (m - passed_from g r.words l m - 1) r₁)
               (pairwise pair' (living s₁ (list r₁ (k + 1) n)) (living s₁ (list r₁ (l + passed_from g r.words l m + 1) (m - passed_from g r.words l m - 1))) s₁))
               → Alikes r s total
-              ((if t then (λ _. pairs_from pair g (k + 1) n l m) else λ _. if u then (λ _. Act.give false) else λ _.
+              ((if t then (λ _. pairs_from pair g (k + 1) n l m) otherwise λ _. if u then (λ _. Act.give false) otherwise λ _.
               Act.◌>>=◌ (pair k n (l + passed_from g r.words l m) (m - passed_from g r.words l m - 1)) (λ x.
-              if x then (λ _. pairs_from pair g (k + 1) n (l + passed_from g r.words l m + 1) (m - passed_from g r.words l m - 1)) else λ _. Act.give false)) r)
-              (pairwise pair' (if is_destroyed s (component_at g r.words k) then (λ _. living s (list r (suc k) n)) else λ _. component_at g r.words k ∷ living s (list r (suc k) n))
+              if x then (λ _. pairs_from pair g (k + 1) n (l + passed_from g r.words l m + 1) (m - passed_from g r.words l m - 1)) otherwise λ _. Act.give false)) r)
+              (pairwise pair' (if is_destroyed s (component_at g r.words k) then (λ _. living s (list r (suc k) n)) otherwise λ _. component_at g r.words k ∷ living s (list r (suc k) n))
               (living s (list r l m)) s)
           go true e u f again more = rw (e, ← add-one k) again
           go false e true f again more = rw (e, living_none h m l b (sym (eqb-true _ _ f))) (given (settled h false))
@@ -256,7 +256,7 @@ module _ (program : List ℕ) (ts : List Token) (g : List ℕ) where
           r s total h (record { made = le_of_lt l; within = a.within; older = a.older }) (record { made = le_of_lt m; within = c.within; older = c.older }))
 
       compared : (b b' : ℕ) → Pairs granted i (pair_at b d) (λ c e. Run.◌>>◌ (Run.count p) (alike b' p c e)) → Decides (alike_at (figures_same program) (suc b) g p d i j r) (alike (suc b') p i j s)
-      unfolding alike_at if◌then◌else◌ Act.◌>>=◌ Act.go_on Act.held
+      unfolding alike_at if◌then◌otherwise◌ Act.◌>>=◌ Act.go_on Act.held
       compared b b' pairs = go (is_group_at r.words i) (is_group_at r.words j) refl refl
         where
           go : (x y : Bool) → is_group_at r.words i ≡ x → is_group_at r.words j ≡ y → Decides (alike_at (figures_same program) (suc b) g p d i j r) (alike (suc b') p i j s)

@@ -6,7 +6,7 @@ use mathlib.Core.List.{List}
 use lib.ListN.{get_or}
 use lib.IntN.{ℤ}
 use lib.Signed.{mag}
-use Rattle.meaning.specs.Basics.{if◌then◌else◌}
+use Rattle.meaning.specs.Basics.{if◌then◌otherwise◌}
 use Rattle.meaning.specs.Figure as Meaning
 use Rattle.meaning.specs.State.{State, content_of, by_content}
 use Rattle.meaning.specs.Token.{Token}
@@ -89,11 +89,11 @@ module _ {granted : Amounts} {A B : Type 0} {R : Relation A B} {program : List �
       → ((i : ℕ) → i < get_or r.words shapes_used 0 → is_group_at r.words i ≡ false
       → Follows granted total R (k (figure_at r.words i) r) (k' (meant_figure program r.texts (figure_at r.words i)) s))
       → Follows granted total R (with_figure p v k r) (Operator.with_figure p (meant_value program r.texts v) k' s)
-  unfolding with_figure Operator.with_figure by_content if◌then◌else◌ Act.◌>>=◌ Act.go_on Act.held Act.fail Run.◌>>=◌ Run.go_on Run.current Run.fail
+  unfolding with_figure Operator.with_figure by_content if◌then◌otherwise◌ Act.◌>>=◌ Act.go_on Act.held Act.fail Run.◌>>=◌ Run.go_on Run.current Run.fail
   with_figure_lem v x k k' f = with_shape_lem v x _ _ (λ i l. go i l (is_group_at r.words i) refl)
     where
       go : (i : ℕ) (l : i < get_or r.words shapes_used 0) (t : Bool) → is_group_at r.words i ≡ t
-          → Follows granted total R (Act.◌>>=◌ Act.held (λ ws. if is_group_at ws i then (λ _. Act.fail 20 p) else λ _. k (figure_at ws i)) r)
+          → Follows granted total R (Act.◌>>=◌ Act.held (λ ws. if is_group_at ws i then (λ _. Act.fail 20 p) otherwise λ _. k (figure_at ws i)) r)
           (Run.◌>>=◌ Run.current (λ s. by_content (content_of s i) k' (λ cs. Run.fail 20 p)) s)
       go i l true e = rw (e, group_found h i l e) (failed 20 p r (steps_told h))
       go i l false e = rw (e, figure_found h i l e) (f i l e)
@@ -101,11 +101,11 @@ module _ {granted : Amounts} {A B : Type 0} {R : Relation A B} {program : List �
   pub with_group_lem : (v : Value) → Valid program r.words v → (k : ℕ → Act A) (k' : List ℕ → Action B)
       → ((i : ℕ) → i < get_or r.words shapes_used 0 → is_group_at r.words i ≡ true → Follows granted total R (k i r) (k' (components_of g r.words i) s))
       → Follows granted total R (with_group p v k r) (Operator.with_group p (meant_value program r.texts v) k' s)
-  unfolding with_group Operator.with_group by_content if◌then◌else◌ Act.◌>>=◌ Act.go_on Act.held Act.fail Run.◌>>=◌ Run.go_on Run.current Run.fail
+  unfolding with_group Operator.with_group by_content if◌then◌otherwise◌ Act.◌>>=◌ Act.go_on Act.held Act.fail Run.◌>>=◌ Run.go_on Run.current Run.fail
   with_group_lem v x k k' f = with_shape_lem v x _ _ (λ i l. go i l (is_group_at r.words i) refl)
     where
       go : (i : ℕ) (l : i < get_or r.words shapes_used 0) (t : Bool) → is_group_at r.words i ≡ t
-          → Follows granted total R (Act.◌>>=◌ Act.held (λ ws. if is_group_at ws i then (λ _. k i) else λ _. Act.fail 20 p) r)
+          → Follows granted total R (Act.◌>>=◌ Act.held (λ ws. if is_group_at ws i then (λ _. k i) otherwise λ _. Act.fail 20 p) r)
           (Run.◌>>=◌ Run.current (λ s. by_content (content_of s i) (λ a. Run.fail 20 p) k') s)
       go i l true e = rw (e, group_found h i l e) (f i l e)
       go i l false e = rw (e, figure_found h i l e) (failed 20 p r (steps_told h))

@@ -11,7 +11,7 @@ use lib.ListN.{get_or, set}
 use lib.Dec.{eqb}
 use lib.IntN.{pos, negsuc}
 use borrow.Author.Tests.{eqb-true, eqb-false, ne_eqb}
-use Rattle.meaning.specs.Basics.{if◌then◌else◌}
+use Rattle.meaning.specs.Basics.{if◌then◌otherwise◌}
 use Rattle.meaning.specs.Token.{Token}
 use Rattle.meaning.specs.Integer.{bits}
 use Rattle.meaning.specs.Value as Value
@@ -70,7 +70,7 @@ module _ (e : Setting) {ts : List Token} {granted : Amounts} (gr : Grants e.gran
   -- a figure anew, or a group with the same components
   copies_shape : (i : ℕ) → i < get_or r.words shapes_used 0
       → Follows granted total (λ w u r' s' total'. AfterCopy e.program ts e.grants r s w (Value.shape u) r' s' total') (copy_shape e.grants p i r) (Group.new_shape p (content_of s i) s)
-  unfolding copy_shape if◌then◌else◌ Valid meant_value Act.◌>>=◌ Act.go_on Act.held Act.give
+  unfolding copy_shape if◌then◌otherwise◌ Valid meant_value Act.◌>>=◌ Act.go_on Act.held Act.give
   copies_shape i l = go (is_group_at r.words i) refl
     where
       go : (t : Bool) → is_group_at r.words i ≡ t
@@ -104,12 +104,12 @@ module _ (e : Setting) {ts : List Token} {granted : Amounts} (gr : Grants e.gran
   -- the same by the value's word
   module _ {B : Type 0} (k : ℕ → Act.Act B) where
     not_copied : (w : ℕ) → (kind_in w ≡ kind_shape → ⊥) → Act.go_on (copied e.grants p w r) k ≡ k w r
-    unfolding copied if◌then◌else◌ Act.go_on Act.give
+    unfolding copied if◌then◌otherwise◌ Act.go_on Act.give
     not_copied w n = rw (ne_eqb _ _ n)
 
     shape_copied : (w i : ℕ) → kind_in w ≡ kind_shape → Words.number_in w ≡ i
         → Act.go_on (copied e.grants p w r) k ≡ Act.go_on (copy_shape e.grants p i r) (λ v. k (packed v))
-    unfolding copied if◌then◌else◌ Act.◌>>=◌ Act.go_on Act.give
+    unfolding copied if◌then◌otherwise◌ Act.◌>>=◌ Act.go_on Act.give
     shape_copied w i a b = rw (a, b) (regroup (copy_shape e.grants p i r) (λ v. Act.give (packed v)) k)
 
     copied_then : (v : Value) → Valid e.program r.words v → Act.go_on (copied e.grants p (packed v) r) k ≡ Act.go_on (copy_of e.grants p v r) (λ u. k (packed u))

@@ -7,7 +7,7 @@ use mathlib.Core.Logic.{◌≢◌}
 use mathlib.Core.List.{List, []}
 use lib.ListN.{get_or, set, length, length-set}
 use lib.Seq.{get_or-set_same, get_or-set_other}
-use Rattle.meaning.specs.Basics.{if◌then◌else◌}
+use Rattle.meaning.specs.Basics.{if◌then◌otherwise◌}
 use Rattle.meaning.specs.Token.{Token}
 use Rattle.meaning.specs.State.{State, fresh, with_variables}
 use Rattle.meaning.specs.Run as Run
@@ -122,7 +122,7 @@ module _ (program : List ℕ) (ts : List Token) (g texts words : List ℕ) (lent
   variables_are = rw (opened.place, opened.count, under_way) (opened_variables program now 0 (length xs) size few brief word texts (scope_of program ts 0) xs refl same)
 
   begins : 1 ≤ calls_granted g → Related program ts g begun (with_variables empty (fresh xs)) (added nothing_yet (due Run.calls 1 p))
-  unfolding suspended_of shapes_of entries_of listed last if◌then◌else◌ added resource_number
+  unfolding suspended_of shapes_of entries_of listed last if◌then◌otherwise◌ added resource_number
   begins some = record {
     sound = record {
       lent = record {

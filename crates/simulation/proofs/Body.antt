@@ -6,7 +6,7 @@ use mathlib.Core.Bool.{Bool, true, false}
 use mathlib.Core.List.{List, [], ◌∷◌}
 use mathlib.Core.Option.{none, some}
 use lib.ListN.{get_or, length}
-use Rattle.meaning.specs.Basics.{bytes, if◌then◌else◌, same_text}
+use Rattle.meaning.specs.Basics.{bytes, if◌then◌otherwise◌, same_text}
 use Rattle.meaning.specs.Token.{Token, a_name}
 use Rattle.meaning.specs.Tree.{Procedure, Program}
 use Rattle.meaning.specs.Grammar.{procedure_named}
@@ -41,11 +41,11 @@ use Rattle.simulation.proofs.Quoted.{strings_stand}
 
 -- no procedure has a name of the library
 library_apart : (x : List ℕ) (l : Library) → library_of x ≡ some l → (names : List (List ℕ)) (fs : List Procedure) → doubled names fs ≡ none → procedure_named x fs ≡ none
-unfolding procedure_named if◌then◌else◌ in_library
+unfolding procedure_named if◌then◌otherwise◌ in_library
 library_apart x l e names [] d = refl
 library_apart x l e names (f ∷ fs) d = go (same_text f.name x) refl (library_apart x l e (f.name ∷ names) fs (apart names f fs d).rest)
   where
-    go : (b : Bool) → same_text f.name x ≡ b → procedure_named x fs ≡ none → (if b then (λ _. some f) else λ _. procedure_named x fs) ≡ none
+    go : (b : Bool) → same_text f.name x ≡ b → procedure_named x fs ≡ none → (if b then (λ _. some f) otherwise λ _. procedure_named x fs) ≡ none
     go true q r =
         let n : f.name ≡ x = same_text_lem f.name x q in
         let own : in_library (library_of f.name) ≡ false = (apart names f fs d).own in

@@ -4,7 +4,7 @@ use native.Mathlib.Omega.{arith}
 use mathlib.Core.Path.{◌≡◌, refl, ap, ◌∙◌}
 use mathlib.Core.Bool.{Bool, true, false}
 use borrow.Author.Tests.{ne_eqb}
-use Rattle.meaning.specs.Basics.{if◌then◌else◌}
+use Rattle.meaning.specs.Basics.{if◌then◌otherwise◌}
 use Rattle.meaning.specs.Integer.{bits}
 use Rattle.machine.specs.declared.Value.{Value}
 use Rattle.machine.specs.declared.Value.TheVariants.{Integer, Text, Boolean, Nothing, Table, Shape}
@@ -38,11 +38,11 @@ pushed_then inner y p k =
 
 -- a test by the word of a value, and then more
 no_truth : {A : Type 0} (w p : ℕ) (k : Bool → Act A) → (kind_in w ≡ kind_truth → ⊥) → (r : Raw) → (saying w p >>= k) r ≡ fail 20 p r
-unfolding saying outcome_in if◌then◌else◌ shown_test ◌>>=◌ go_on fail
+unfolding saying outcome_in if◌then◌otherwise◌ shown_test ◌>>=◌ go_on fail
 no_truth w p k n r = rw (ne_eqb _ _ n)
 
 asked : {A : Type 0} (p : ℕ) (v : Value) (k : Bool → Act A) → (saying (packed v) p >>= k) ≡ with_boolean p v k
-unfolding with_boolean saying outcome_in packed if◌then◌else◌ shown_test ◌>>=◌ go_on
+unfolding with_boolean saying outcome_in packed if◌then◌otherwise◌ shown_test ◌>>=◌ go_on
 asked p (Integer z) k =
     let n : (1 + 8 * bits z) % 8 ≡ kind_truth → ⊥ = λ e. absurd (omega arith) in
     λ i r. no_truth (packed (Integer z)) p k n r i

@@ -6,7 +6,7 @@ use mathlib.Core.Path.{◌≡◌, refl, ap, sym, ◌∙◌, subst}
 use mathlib.Core.Bool.{Bool, true, false}
 use mathlib.Core.List.{List, [], ◌++◌, append-nil, append_assoc}
 use lib.ListN.{get_or}
-use Rattle.meaning.specs.Basics.{if◌then◌else◌}
+use Rattle.meaning.specs.Basics.{if◌then◌otherwise◌}
 use Rattle.meaning.specs.Token.{Token}
 use Rattle.meaning.specs.Figure as Meaning
 use Rattle.meaning.specs.State.{State, Variable, is_destroyed, shape_in, shapes_held, shapes_held_by}
@@ -38,7 +38,7 @@ use Rattle.simulation.proofs.Destroying.{Quiet, quiet_nil, quiet_on, destroys_al
 -- ---- acts
 -- with the shape that a value is, unless it is destroyed
 unfoldable pub living : (ℕ → Act (Unit {0})) → ℕ → Act (Unit {0})
-living X i = Act.◌>>=◌ Act.held (λ ws. if destroyed_at ws i then (λ _. Act.give tt) else λ _. X i)
+living X i = Act.◌>>=◌ Act.held (λ ws. if destroyed_at ws i then (λ _. Act.give tt) otherwise λ _. X i)
 
 unfoldable pub into : (ℕ → Act (Unit {0})) → Value → Act (Unit {0})
 into X (Integer z) = Act.give tt
@@ -99,7 +99,7 @@ module _ (program : List ℕ) (ts : List Token) (g : List ℕ) (granted : Amount
 
     value_follows : {r : Raw} {s : State} {total : Amounts} → Here r s total → (v : Value) → Valid program r.words v → (K : Act (Unit {0})) (rest : List ℕ) → Then r K rest
         → Follows granted total (Leads r) (Act.go_on (into X v r) (λ _. K)) (each D (shape_in (meant_value program r.texts v) ++ rest) s)
-    unfolding into living shape_in meant_value Valid each if◌then◌else◌ Act.◌>>=◌ Act.go_on Act.held Act.give Run.◌>>=◌ Run.go_on Run.current Run.give
+    unfolding into living shape_in meant_value Valid each if◌then◌otherwise◌ Act.◌>>=◌ Act.go_on Act.held Act.give Run.◌>>=◌ Run.go_on Run.current Run.give
     value_follows h (Integer z) l K rest k = k [] _ _ _ (still h)
     value_follows h (Text t) l K rest k = k [] _ _ _ (still h)
     value_follows h (Boolean b) l K rest k = k [] _ _ _ (still h)
@@ -109,7 +109,7 @@ module _ (program : List ℕ) (ts : List Token) (g : List ℕ) (granted : Amount
         bind (one (destroyed_at r.words i) (is_destroyed s i) (sym (destroyed_found h i l)))
         (λ _ xs r₁ s₁ total₁ a. give_after (λ ys. xs ++ ys) (λ _ ys r₂ s₂ total₂ b. chained a b) (k xs r₁ s₁ total₁ a))
       where
-        one : (b b' : Bool) → b ≡ b' → Follows granted total (Leads r) ((if b then (λ _. Act.give tt) else λ _. X i) r) ((if b' then (λ _. Run.give []) else λ _. D i) s)
+        one : (b b' : Bool) → b ≡ b' → Follows granted total (Leads r) ((if b then (λ _. Act.give tt) otherwise λ _. X i) r) ((if b' then (λ _. Run.give []) otherwise λ _. D i) s)
         one true true e = given (still h)
         one true false e = let z : ◌≡◌ {A = ℕ} 0 1 = cc in absurd (omega arith)
         one false true e = let z : ◌≡◌ {A = ℕ} 0 1 = cc in absurd (omega arith)

@@ -7,7 +7,7 @@ use mathlib.Core.List.{List, [], ◌∷◌}
 use lib.ListN.{get_or}
 use lib.Dec.{eqb}
 use borrow.Author.Tests.{eq-eqb, le-leb, lt-leb, ne_eqb}
-use Rattle.meaning.specs.Basics.{if◌then◌else◌}
+use Rattle.meaning.specs.Basics.{if◌then◌otherwise◌}
 use Rattle.meaning.specs.Token.{Token}
 use Rattle.meaning.specs.State.{State}
 use Rattle.meaning.specs.Run as Run
@@ -67,12 +67,12 @@ module _ (program : List ℕ) (ts : List Token) (g : List ℕ) (body : ℕ → R
     -- behind slot k
     abbrev resumed : ℕ → ℕ → Act ℕ
     resumed k x = Act.◌>>=◌ Act.held (λ ws'. let up = marked_from g ws' (k + 1) (end - k - 1) in
-        if not (eqb x 0) || eqb up 0 then (λ _. Act.give x) else λ _. Act.◌>>◌ (unmark g (up - 1)) (look_behind turns g end (up - 1)))
+        if not (eqb x 0) || eqb up 0 then (λ _. Act.give x) otherwise λ _. Act.◌>>◌ (unmark g (up - 1)) (look_behind turns g end (up - 1)))
 
     -- nothing was found: up to the next slot on the way
     rise_is : {r : Raw} {at : Stop} {ways : List Stop} → Here (at ∷ ways) r → (k : ℕ) → k < at.slot → (r' : Raw) → unmark g at.slot r ≡ done tt r'
         → resumed k 0 r ≡ look_behind turns g end at.slot r'
-    unfolding Act.◌>>=◌ Act.go_on Act.held if◌then◌else◌
+    unfolding Act.◌>>=◌ Act.go_on Act.held if◌then◌otherwise◌
     rise_is {r} {at} y k l r' e =
         let q : at.slot + 1 - 1 ≡ at.slot = omega arith in
         rw (next_up_lem y k l, ne_eqb (at.slot + 1) 0 (λ e. omega arith), q, e)
@@ -91,14 +91,14 @@ module _ (program : List ℕ) (ts : List Token) (g : List ℕ) (body : ℕ → R
         (sought_from program ts g body around unit end s total a (ap (λ (m : Run.Action Flow). m s) (sym same)) x)
 
     no_more : (k : ℕ) (ways : List Stop) (r : Raw) → Here ways r → k < next_up end ways → end ≤ suc turns + k → Seeking r (remaining g r.words body ways) [] (resumed k 0 r)
-    unfolding Act.◌>>=◌ Act.go_on Act.held Act.give if◌then◌else◌ next_up
+    unfolding Act.◌>>=◌ Act.go_on Act.held Act.give if◌then◌otherwise◌ next_up
     no_more k [] r y l t =
         rw (next_none y k) (record { result = 0; slices = r; is = refl; after = but_after (unmoved y.related); outcome = none (record { path = y.path; rest = refl }) })
     no_more k (at ∷ ways) r y l t = rises y k l t
 
     back : (k : ℕ) (ways : List Stop) (r r₃ : Raw) (x : ℕ) (left : Run.Action Flow) → Here ways r → AfterBut program ts g r r₃ s total
         → k < next_up end ways → end ≤ suc turns + k → Outcome program ts g body around unit end r₃ s left ways x → Seeking r left [] (resumed k x r₃)
-    unfolding Act.◌>>=◌ Act.go_on Act.held Act.give if◌then◌else◌
+    unfolding Act.◌>>=◌ Act.go_on Act.held Act.give if◌then◌otherwise◌
     back k ways r r₃ _ left y a l t (found at up f) =
         rw (ne_eqb (at.slot + 1) 0 (λ z. omega arith)) (record { result = at.slot + 1; slices = r₃; is = refl; after = a; outcome = found at up f })
     back k ways r r₃ _ left y a l t (none f) =

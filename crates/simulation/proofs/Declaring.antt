@@ -9,7 +9,7 @@ use lib.ListN.{get_or, set, length, length-set}
 use lib.Seq.{get_or-set_same, get_or-set_other}
 use lib.Dec.{eqb}
 use borrow.Author.Tests.{eqb-true, eqb-false, ne_eqb}
-use Rattle.meaning.specs.Basics.{if◌then◌else◌, same_text}
+use Rattle.meaning.specs.Basics.{if◌then◌otherwise◌, same_text}
 use Rattle.meaning.specs.Token.{Token}
 use Rattle.meaning.specs.Value as Value
 use Rattle.meaning.specs.State.{State, Variable, is_some, assigned, with_variables}
@@ -192,13 +192,13 @@ assigned_once : (f f' : ℕ → Variable) (x : List ℕ) (u : Value.Value) (k n 
     → ((j : ℕ) → k ≤ j → j < k + n → j ≢ i → same_text (f j).name x ≡ false)
     → f' i ≡ record { name = (f i).name; holds = u } → ((j : ℕ) → k ≤ j → j < k + n → j ≢ i → f' j ≡ f j)
     → assigned (listed f k n) x u ≡ listed f' k n
-unfolding listed assigned if◌then◌else◌
+unfolding listed assigned if◌then◌otherwise◌
 assigned_once f f' x u k zero i a b e h y z = absurd (omega arith)
 assigned_once f f' x u k (suc n) i a b e h y z =
     go (eqb k i) refl (λ d. assigned_once f f' x u (suc k) n i (omega arith) (omega arith) e (λ j v w. h j (omega arith) (omega arith)) y (λ j v w. z j (omega arith) (omega arith)))
   where
     go : (c : Bool) → eqb k i ≡ c → (k ≢ i → assigned (listed f (suc k) n) x u ≡ listed f' (suc k) n)
-        → (if same_text (f k).name x then (λ _. record { name = (f k).name; holds = u } ∷ listed f (suc k) n) else λ _. f k ∷ assigned (listed f (suc k) n) x u)
+        → (if same_text (f k).name x then (λ _. record { name = (f k).name; holds = u } ∷ listed f (suc k) n) otherwise λ _. f k ∷ assigned (listed f (suc k) n) x u)
         ≡ f' k ∷ listed f' (suc k) n
     go true q r =
         let o = eqb-true k i q in
@@ -372,7 +372,7 @@ module _ {program : List ℕ} {ts : List Token} {g : List ℕ} {r : Raw} {s : St
     new_later = changed_later h three new_fill new_there
 
     new_valid : (i : ℕ) → i ≤ size → Valid program three (unpacked (holding_at three f i))
-    unfolding Valid unpacked if◌then◌else◌
+    unfolding Valid unpacked if◌then◌otherwise◌
     new_valid i l = go (eqb i number) refl
       where
         go : (b : Bool) → eqb i number ≡ b → Valid program three (unpacked (holding_at three f i))
@@ -409,7 +409,7 @@ module _ {program : List ℕ} {ts : List Token} {g : List ℕ} {r : Raw} {s : St
               (q.0, omega (arith, q.1), old_number q.0 q.1 ∙ q.2)
 
       new_list : s.variables ++ (record { name = x; holds = Value.none } ∷ []) ≡ frame_of program names (raw r.texts three) f (many + 1)
-      unfolding frame_of variable_at unpacked meant_value if◌then◌else◌
+      unfolding frame_of variable_at unpacked meant_value if◌then◌otherwise◌
       new_list =
           let z : many + 1 ≡ suc many = omega arith in
           let y : 0 + many ≡ many = omega arith in

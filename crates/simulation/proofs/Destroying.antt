@@ -7,7 +7,7 @@ use mathlib.Core.Logic.{◌≢◌}
 use mathlib.Core.Bool.{Bool, true, false}
 use mathlib.Core.List.{List, [], ◌∷◌, append-nil}
 use lib.ListN.{get_or, set}
-use Rattle.meaning.specs.Basics.{if◌then◌else◌}
+use Rattle.meaning.specs.Basics.{if◌then◌otherwise◌}
 use Rattle.meaning.specs.Token.{Token}
 use Rattle.meaning.specs.Figure as Meaning
 use Rattle.meaning.specs.State.{State, no_shape, components_in, with_shapes}
@@ -200,7 +200,7 @@ module _ (program : List ℕ) (ts : List Token) (g : List ℕ) {granted : Amount
   -- a shape itself, then all in it
   pub destroys_all : {r : Raw} {s : State} {total : Amounts} (h : Related program ts g r s total) (i : ℕ) → i < get_or r.words shapes_used 0
       → Follows granted total (λ _ xs r' s' total'. Reached program ts g {A = Meaning.Figure} Quiet 0 r xs r' s' total') (destroy_all g p i r) (destroying (suc i) p i s)
-  unfolding destroy_all destroying each components_in if◌then◌else◌ Any Act.◌>>=◌ Act.go_on Act.held Act.give Run.◌>>=◌ Run.go_on Run.current Run.become Run.give
+  unfolding destroy_all destroying each components_in if◌then◌otherwise◌ Any Act.◌>>=◌ Act.go_on Act.held Act.give Run.◌>>=◌ Run.go_on Run.current Run.become Run.give
   destroys_all {r} {s} {total} h i l = rw (destroy_is h i l) (go (is_group_at r.words i) refl)
     where
       a : After program ts g r (gone h i l) (with_shapes s (State.destroy s.shapes i)) total
@@ -215,7 +215,7 @@ module _ (program : List ℕ) (ts : List Token) (g : List ℕ) {granted : Amount
 
       go : (t : Bool) → is_group_at r.words i ≡ t
           → Follows granted total (λ _ xs r' s' total'. Reached program ts g {A = Meaning.Figure} Quiet 0 r xs r' s' total')
-          ((if is_group_at (gone h i l).words i then (λ _. walk_in (λ c. Act.◌>>◌ (Act.count g p) (destroy c)) (λ d. Act.give tt) (shapes_granted g) g 0 i) else λ _. Act.give tt) (gone h i l))
+          ((if is_group_at (gone h i l).words i then (λ _. walk_in (λ c. Act.◌>>◌ (Act.count g p) (destroy c)) (λ d. Act.give tt) (shapes_granted g) g 0 i) otherwise λ _. Act.give tt) (gone h i l))
           (each (visit' i) (components_in (State.content_of s i)) (with_shapes s (State.destroy s.shapes i)))
       go true e =
           let k = a.later.figures i l in

@@ -15,7 +15,7 @@ use lib.Dec.{eqb}
 use mir.Syntax.{w32}
 use mir.Val.{to_z}
 use borrow.Author.Tests.{eqb-true, eqb-false, ne_eqb, lt-ltb, le-ltb}
-use Rattle.meaning.specs.Basics.{bytes, if◌then◌else◌, same_text}
+use Rattle.meaning.specs.Basics.{bytes, if◌then◌otherwise◌, same_text}
 use Rattle.meaning.specs.Token.{Token, a_name, a_string}
 use Rattle.meaning.specs.Integer.{bits, wrap}
 use Rattle.meaning.proofs.IntegerLaws.{wrap_range}
@@ -118,45 +118,45 @@ entered p a k = go (eqb (kind_in a) kind_table) refl
 
 module _ (inner : Evaluator) (invoke : Invoke) (e : Setting) (w x p size n : ℕ) where
   by_number : Told w tag_number size n → expression_by inner invoke e w x p ≡ Act.give (Integer (to_z w32 n))
-  unfolding expression_by leaf if◌then◌else◌
+  unfolding expression_by leaf if◌then◌otherwise◌
   by_number t = rw (t.tag_is, t.number_is)
 
   by_string : Told w tag_string size n → expression_by inner invoke e w x p ≡ Act.give (Text (2 * n))
-  unfolding expression_by leaf if◌then◌else◌
+  unfolding expression_by leaf if◌then◌otherwise◌
   by_string t = rw (t.tag_is, t.number_is)
 
   by_none : Told w tag_none size n → expression_by inner invoke e w x p ≡ Act.give Nothing
-  unfolding expression_by leaf if◌then◌else◌
+  unfolding expression_by leaf if◌then◌otherwise◌
   by_none t = rw t.tag_is
 
   by_truth : Told w tag_truth size n → expression_by inner invoke e w x p ≡ Act.give (Boolean (eqb n 1))
-  unfolding expression_by leaf if◌then◌else◌
+  unfolding expression_by leaf if◌then◌otherwise◌
   by_truth t = rw (t.tag_is, t.number_is)
 
   by_name : Told w tag_name size n → expression_by inner invoke e w x p ≡ variable p n
-  unfolding expression_by leaf if◌then◌else◌
+  unfolding expression_by leaf if◌then◌otherwise◌
   by_name t = rw (t.tag_is, t.number_is)
 
   by_table : Told w tag_table size 0 → expression_by inner invoke e w x p ≡ Act.◌>>=◌ (inner (x - 1) p) (λ v. sized p (packed v))
-  unfolding expression_by operands_at first_of if◌then◌else◌
+  unfolding expression_by operands_at first_of if◌then◌otherwise◌
   by_table t =
       let z : x - 1 - 0 ≡ x - 1 = omega arith in
       rw (t.tag_is, t.number_is, z)
 
   by_entry : Told w tag_entry size n → expression_by inner invoke e w x p
       ≡ Act.◌>>=◌ (inner (x - 1 - n) p) (λ v. with_table p (unpacked (packed v)) λ t. Act.◌>>=◌ (inner (x - 1) p) (λ k. read_entry e.program e.grants p t (packed k)))
-  unfolding expression_by operands_at first_of second_of applied if◌then◌else◌
+  unfolding expression_by operands_at first_of second_of applied if◌then◌otherwise◌
   by_entry t =
       rw (t.tag_is, t.number_is)
       (ap (λ f. Act.◌>>=◌ (inner (x - 1 - n) p) f) (λ i v. entered p (packed v) (λ u. Act.◌>>=◌ (inner (x - 1) p) (λ k. read_entry e.program e.grants p u (packed k))) i))
 
   by_call : Told w tag_call size n → expression_by inner invoke e w x p ≡ call_at inner invoke e w x p
-  unfolding expression_by if◌then◌else◌
+  unfolding expression_by if◌then◌otherwise◌
   by_call t = rw t.tag_is
 
   by_operator : (tag : ℕ) → first_operator ≤ tag → Told w tag size n → expression_by inner invoke e w x p
       ≡ Act.◌>>=◌ (inner (x - 1 - n) p) (λ v. Act.◌>>=◌ (inner (x - 1) p) (λ u. operate e.program e.grants tag p (unpacked (packed v)) (unpacked (packed u))))
-  unfolding expression_by operands_at first_of second_of applied if◌then◌else◌ Act.◌>>=◌ Act.go_on Act.refuse Act.give
+  unfolding expression_by operands_at first_of second_of applied if◌then◌otherwise◌ Act.◌>>=◌ Act.go_on Act.refuse Act.give
   by_operator tag l t =
       rw (t.tag_is, t.number_is, le-ltb tag tag_table (omega arith), ne_eqb tag tag_call (λ q. omega arith))
       (rw (ne_eqb tag tag_table (λ q. omega arith), le-ltb tag first_operator l, ne_eqb tag tag_entry (λ q. omega arith)))
@@ -188,29 +188,29 @@ pub record Strings (program : List ℕ) (ts : List Token) : Type 0 where
 -- ---- arguments in code
 module _ (inner : Evaluator) (e : Setting) (rounds a x p len : ℕ) where
   root_is : Told (get_or e.code a 0) tag_argument len 0 → a + len < x → argument_after e a x ≡ a + len
-  unfolding argument_root if◌then◌else◌
+  unfolding argument_root if◌then◌otherwise◌
   root_is t l = rw (t.size_is, lt-ltb (a + len) x l)
 
   by_argument : Told (get_or e.code a 0) tag_argument len 0 → a + len < x
       → arguments_from (suc rounds) inner e (argument_after e a x) x p
       ≡ Act.◌>>=◌ (inner (a + len) p) (λ v. Act.◌>>◌ (push (packed v) p) (arguments_from rounds inner e (argument_after e (a + len + 1) x) x p))
-  unfolding arguments_from if◌then◌else◌
+  unfolding arguments_from if◌then◌otherwise◌
   by_argument t l = rw (root_is t l, lt-ltb (a + len) x l) (pushed_then inner (a + len) p (arguments_from rounds inner e (argument_after e (a + len + 1) x) x p))
 
   by_no_argument : x ≤ a → arguments_from (suc rounds) inner e (argument_after e a x) x p ≡ Act.give Nothing
-  unfolding arguments_from argument_root if◌then◌else◌
+  unfolding arguments_from argument_root if◌then◌otherwise◌
   by_no_argument l = rw (le-ltb (a + size_in (get_or e.code a 0)) x (omega arith), le-ltb x x (le_refl x))
 
 -- ---- calls by the word's number
 by_own : (invoke : Invoke) (e : Setting) (w p base slot : ℕ) → number_in w ≡ 11 + 16 * slot → invoked invoke e w p base ≡ invoke slot p base
-unfolding invoked if◌then◌else◌
+unfolding invoked if◌then◌otherwise◌
 by_own invoke e w p base slot q =
     let a : (11 + 16 * slot) % 16 ≡ 11 = omega arith in
     let b : (11 + 16 * slot) / 16 ≡ slot = omega arith in
     rw (q, a, b)
 
 by_library : (invoke : Invoke) (e : Setting) (w p base n slot : ℕ) → n < 16 → n ≢ 11 → number_in w ≡ n + 16 * slot → invoked invoke e w p base ≡ called e.grants n p base
-unfolding invoked if◌then◌else◌
+unfolding invoked if◌then◌otherwise◌
 by_library invoke e w p base n slot l d q =
     let a : (n + 16 * slot) % 16 ≡ n = omega arith in
     rw (q, a, ne_eqb n 11 d)
@@ -363,7 +363,7 @@ module _ (e : Setting) {ts : List Token} (strings : Strings e.program ts) {grant
   performs : (f : List ℕ) → procedure_number f ≢ 11 → 0 < limit → (p base n : ℕ) {r : Raw} {s : State} {total : Amounts} → Here r s total
       → Above e.program ts r base → (us : List Value.Value) → Stacked e.program r base n us
       → Follows granted total (Values e.program ts e.grants r) (call_library e.grants (procedure_number f) p base n r) (calling limit fs f p us s)
-  unfolding procedure_number library_number number_of calling found call_library if◌then◌else◌ Act.fail Run.fail
+  unfolding procedure_number library_number number_of calling found call_library if◌then◌otherwise◌ Act.fail Run.fail
   performs f d pos p base n {r} {s} {total} h up us st = at (limit - 1) (omega arith)
     where
       by_library_name : (m : ℕ) (l : Option Library) → library_of f ≡ l → number_of l ≢ 11

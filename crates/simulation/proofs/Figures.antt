@@ -7,7 +7,7 @@ use mathlib.Core.List.{List}
 use lib.Dec.{eqb}
 use lib.IntN.{ℤ, pos}
 use lib.Signed.{mag}
-use Rattle.meaning.specs.Basics.{if◌then◌else◌}
+use Rattle.meaning.specs.Basics.{if◌then◌otherwise◌}
 use Rattle.meaning.specs.Integer.{half}
 use Rattle.meaning.specs.Figure.{line, ellipse, box, text}
 use Rattle.meaning.specs.Figure as Meaning
@@ -29,19 +29,19 @@ kinds (suc (suc (suc (suc k)))) l a b c d = absurd (omega arith)
 
 module _ (program texts : List ℕ) (f : Figure) where
   pub as_line : f.kind ≡ 0 → meant_figure program texts f ≡ line f.a f.b f.c f.d
-  unfolding meant_figure if◌then◌else◌
+  unfolding meant_figure if◌then◌otherwise◌
   as_line e = rw e
 
   pub as_ellipse : f.kind ≡ 1 → meant_figure program texts f ≡ ellipse f.a f.b f.c f.d
-  unfolding meant_figure if◌then◌else◌
+  unfolding meant_figure if◌then◌otherwise◌
   as_ellipse e = rw e
 
   pub as_box : f.kind ≡ 2 → meant_figure program texts f ≡ box f.a f.b f.c f.d
-  unfolding meant_figure if◌then◌else◌
+  unfolding meant_figure if◌then◌otherwise◌
   as_box e = rw e
 
   pub as_text : f.kind ≡ 3 → meant_figure program texts f ≡ text f.a f.b (text_of program texts f.text)
-  unfolding meant_figure if◌then◌else◌
+  unfolding meant_figure if◌then◌otherwise◌
   as_text e = rw e
 
 -- ---- moved
@@ -99,26 +99,26 @@ module _ (F : ℤ → ℤ) (f : Figure) where
 -- ---- centres
 module _ (program texts : List ℕ) (f : Figure) where
   pub centre_x_lem : f.kind < 4 → centre_x f ≡ Meaning.centre_x (meant_figure program texts f)
-  unfolding centre_x Meaning.centre_x if◌then◌else◌
+  unfolding centre_x Meaning.centre_x if◌then◌otherwise◌
   centre_x_lem l = kinds f.kind l
       (λ e. rw (as_line program texts f e, e)) (λ e. rw (as_ellipse program texts f e, e))
       (λ e. rw (as_box program texts f e, e)) (λ e. rw (as_text program texts f e, e))
 
   pub centre_y_lem : f.kind < 4 → centre_y f ≡ Meaning.centre_y (meant_figure program texts f)
-  unfolding centre_y Meaning.centre_y if◌then◌else◌
+  unfolding centre_y Meaning.centre_y if◌then◌otherwise◌
   centre_y_lem l = kinds f.kind l
       (λ e. rw (as_line program texts f e, e)) (λ e. rw (as_ellipse program texts f e, e))
       (λ e. rw (as_box program texts f e, e)) (λ e. rw (as_text program texts f e, e))
 
 module _ {program : List ℕ} {used : ℕ} {f : Figure} (v : Proper program used f) where
   pub centre_x_range : mag (centre_x f) < 2 ^ 31
-  unfolding centre_x if◌then◌else◌
+  unfolding centre_x if◌then◌otherwise◌
   centre_x_range = kinds f.kind v.kind
       (λ e. rw e (half_sum_range f.a f.c v.a v.c)) (λ e. rw e v.a)
       (λ e. rw e (sum_range f.a (half f.c))) (λ e. rw e v.a)
 
   pub centre_y_range : mag (centre_y f) < 2 ^ 31
-  unfolding centre_y if◌then◌else◌
+  unfolding centre_y if◌then◌otherwise◌
   centre_y_range = kinds f.kind v.kind
       (λ e. rw e (half_sum_range f.b f.d v.b v.d)) (λ e. rw e v.b)
       (λ e. rw e (sum_range f.b (half f.d))) (λ e. rw e v.b)

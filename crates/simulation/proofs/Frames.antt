@@ -8,7 +8,7 @@ use mathlib.Core.Bool.{Bool, true, false, cond}
 use mathlib.Core.List.{List, [], ◌∷◌, ◌++◌}
 use lib.ListN.{length, get_or}
 use lib.Dec.{eqb}
-use Rattle.meaning.specs.Basics.{if◌then◌else◌}
+use Rattle.meaning.specs.Basics.{if◌then◌otherwise◌}
 use borrow.Author.Tests.{lt-ltb, le-ltb}
 use Rattle.meaning.specs.Token.{Token}
 use Rattle.meaning.specs.Value.{string}
@@ -386,12 +386,12 @@ module _ {program : List ℕ} {r r' : Raw} (l : Later program r r') where
           (listed_same _ _ (first_at r.words i) (count_at r.words i) (λ k a b. component_later k (le_trans b (shapes.groups i h n).within)))
 
       pub content_stays : (i : ℕ) → i < get_or r.words shapes_used 0 → content_at program g r' i ≡ content_at program g r i
-      unfolding content_at if◌then◌else◌
+      unfolding content_at if◌then◌otherwise◌
       content_stays i h = rw (group_stays (l.figures i h)) (go (is_group_at r.words i) refl)
         where
           go : (b : Bool) → is_group_at r.words i ≡ b
-              → (if b then (λ _. group (components_of g r'.words i)) else λ _. atom (meant_figure program r'.texts (figure_at r'.words i)))
-              ≡ (if b then (λ _. group (components_of g r.words i)) else λ _. atom (meant_figure program r.texts (figure_at r.words i)))
+              → (if b then (λ _. group (components_of g r'.words i)) otherwise λ _. atom (meant_figure program r'.texts (figure_at r'.words i)))
+              ≡ (if b then (λ _. group (components_of g r.words i)) otherwise λ _. atom (meant_figure program r.texts (figure_at r.words i)))
           go true n = ap group (components_later i h n)
           go false n = ap atom (figure_later i h n)
 
@@ -400,32 +400,32 @@ module _ {program : List ℕ} {r r' : Raw} (l : Later program r r') where
           → ((c : ℕ) → c < i → figures_in b g r.words c ≡ [] → figures_in b g r'.words c ≡ [])
           → k + n ≤ get_or r.words components_made 0 → ((j : ℕ) → k ≤ j → j < k + n → component_at g r.words j < i)
           → shown_from (figures_in b g r.words) g r.words k n ≡ [] → shown_from (figures_in b g r'.words) g r'.words k n ≡ []
-      unfolding shown_from if◌then◌else◌
+      unfolding shown_from if◌then◌otherwise◌
       shown_none b i k zero h f w o e = refl
       shown_none b i k (suc n) h f w o e =
           let c = component_at g r.words k in
           let same : component_at g r'.words k ≡ c = component_later k (omega arith) in
           let older : c < i = o k (omega arith) (omega arith) in
-          let q = append_none (if destroyed_at r.words c then (λ _. []) else λ _. figures_in b g r.words c) (shown_from (figures_in b g r.words) g r.words (k + 1) n) e in
+          let q = append_none (if destroyed_at r.words c then (λ _. []) otherwise λ _. figures_in b g r.words c) (shown_from (figures_in b g r.words) g r.words (k + 1) n) e in
           rw same (both_none
           (one c (destroyed_at r.words c) (destroyed_at r'.words c) refl refl (l.figures c (le_trans older (le_of_lt h))).dead (f c older) q.0)
           (shown_none b i (k + 1) n h f (omega arith) (λ j x y. o j (omega arith) (omega arith)) q.1))
         where
           one : (c : ℕ) (x y : Bool) → destroyed_at r.words c ≡ x → destroyed_at r'.words c ≡ y → (destroyed_at r.words c ≡ true → destroyed_at r'.words c ≡ true)
-              → (figures_in b g r.words c ≡ [] → figures_in b g r'.words c ≡ []) → (if x then (λ _. []) else λ _. figures_in b g r.words c) ≡ []
-              → (if y then (λ _. []) else λ _. figures_in b g r'.words c) ≡ []
+              → (figures_in b g r.words c ≡ [] → figures_in b g r'.words c ≡ []) → (if x then (λ _. []) otherwise λ _. figures_in b g r.words c) ≡ []
+              → (if y then (λ _. []) otherwise λ _. figures_in b g r'.words c) ≡ []
           one c x true p q d f e = refl
           one c true false p q d f e = let z : ◌≡◌ {A = Bool} true false = sym (d p) ∙ q in let y : ◌≡◌ {A = ℕ} 0 1 = cc in absurd (omega arith)
           one c false false p q d f e = f e
 
       pub figures_none : (b i : ℕ) → i < get_or r.words shapes_used 0 → figures_in b g r.words i ≡ [] → figures_in b g r'.words i ≡ []
-      unfolding figures_in if◌then◌else◌
+      unfolding figures_in if◌then◌otherwise◌
       figures_none zero i h e = refl
       figures_none (suc b) i h e = rw (group_stays (l.figures i h)) (go (is_group_at r.words i) refl (λ c o. figures_none b c (le_trans o (le_of_lt h))) e)
         where
           go : (t : Bool) → is_group_at r.words i ≡ t → ((c : ℕ) → c < i → figures_in b g r.words c ≡ [] → figures_in b g r'.words c ≡ [])
-              → (if t then (λ _. shown_from (figures_in b g r.words) g r.words (first_at r.words i) (count_at r.words i)) else λ _. i ∷ []) ≡ []
-              → (if t then (λ _. shown_from (figures_in b g r'.words) g r'.words (first_at r'.words i) (count_at r'.words i)) else λ _. i ∷ []) ≡ []
+              → (if t then (λ _. shown_from (figures_in b g r.words) g r.words (first_at r.words i) (count_at r.words i)) otherwise λ _. i ∷ []) ≡ []
+              → (if t then (λ _. shown_from (figures_in b g r'.words) g r'.words (first_at r'.words i) (count_at r'.words i)) otherwise λ _. i ∷ []) ≡ []
           go true n f e =
               let a = shapes.groups i h n in
               rw (first_later i h, count_later i h)

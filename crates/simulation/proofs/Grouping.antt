@@ -10,7 +10,7 @@ use lib.ListN.{get_or, set, length, length-set}
 use lib.Seq.{get_or-set_same, get_or-set_other}
 use lib.Dec.{eqb, ltb}
 use borrow.Author.Tests.{eqb-true, eqb-false, ltb-true, ltb-false}
-use Rattle.meaning.specs.Basics.{if◌then◌else◌}
+use Rattle.meaning.specs.Basics.{if◌then◌otherwise◌}
 use Rattle.meaning.specs.Token.{Token}
 use Rattle.meaning.specs.State.{State, group, components_in, with_shape}
 use Rattle.meaning.specs.Run as Run
@@ -349,7 +349,7 @@ module _ {program : List ℕ} {ts : List Token} {g : List ℕ} {r : Raw} {s : St
       }
 
       content_is : content_at program g (raw r.texts ws) n ≡ group (listed parts 0 many)
-      unfolding content_at components_of if◌then◌else◌
+      unfolding content_at components_of if◌then◌otherwise◌
       content_is =
           rw (kind_read, first_is, count_is)
           (ap group (listed_shift (component_at g ws) parts c 0 many (λ j l. let z : 0 + j ≡ j = omega arith in rw z (part_at j l))))

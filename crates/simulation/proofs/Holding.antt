@@ -13,7 +13,7 @@ use borrow.Author.Tests.{eqb-true}
 use mir.Syntax.{w32}
 use mir.Val.{to_z}
 use mir.Facts.{to_z_inj}
-use Rattle.meaning.specs.Basics.{if◌then◌else◌}
+use Rattle.meaning.specs.Basics.{if◌then◌otherwise◌}
 use Rattle.meaning.specs.State.{Content, by_content, key_of, figure_key}
 use Rattle.machine.specs.declared.Value.{Value}
 use Rattle.machine.specs.declared.Value.TheVariants.{Integer, Text, Boolean, Nothing, Table, Shape}
@@ -35,11 +35,11 @@ number_back : (a b : ℕ) → to_z w32 (a % 2 ^ 32) ≡ to_z w32 (b % 2 ^ 32) �
 number_back a b e = to_z_inj {w = w32} (omega arith) (omega arith) e
 
 unpacked_text : (key : ℕ) → kind_in key ≡ 2 → unpacked key ≡ Text (handle_in key)
-unfolding unpacked if◌then◌else◌
+unfolding unpacked if◌then◌otherwise◌
 unpacked_text key e = rw e
 
 unpacked_shape : (key : ℕ) → kind_in key ≡ 6 → unpacked key ≡ Shape (number_in key)
-unfolding unpacked if◌then◌else◌
+unfolding unpacked if◌then◌otherwise◌
 unpacked_shape key e = rw e
 
 module _ {program g : List ℕ} {r r' : Raw} (l : Later program r r') (shapes : Shapes program g r.words) where

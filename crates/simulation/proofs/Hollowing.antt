@@ -6,7 +6,7 @@ use mathlib.Core.Logic.{◌≢◌}
 use mathlib.Core.Bool.{Bool, true, false}
 use mathlib.Core.List.{List, [], ◌∷◌, ◌++◌}
 use lib.ListN.{get_or, set}
-use Rattle.meaning.specs.Basics.{if◌then◌else◌}
+use Rattle.meaning.specs.Basics.{if◌then◌otherwise◌}
 use Rattle.meaning.specs.Token.{Token}
 use Rattle.meaning.specs.State.{State}
 use Rattle.meaning.specs.Book.{Amounts}
@@ -71,46 +71,46 @@ unfolding BareFrom shown_from
 bare_nothing g ws k b = refl
 
 pub bare_destroyed : (g ws : List ℕ) (k n : ℕ) → destroyed_at ws (component_at g ws k) ≡ true → BareFrom g ws (k + 1) n → BareFrom g ws k (suc n)
-unfolding BareFrom shown_from if◌then◌else◌
+unfolding BareFrom shown_from if◌then◌otherwise◌
 bare_destroyed g ws k n d rest b = rw d (rest b)
 
 pub bare_first : (g ws : List ℕ) (k n : ℕ) → Bare g ws (component_at g ws k) → BareFrom g ws (k + 1) n → BareFrom g ws k (suc n)
-unfolding Bare BareFrom shown_from if◌then◌else◌
+unfolding Bare BareFrom shown_from if◌then◌otherwise◌
 bare_first g ws k n first rest b = rw (first b, rest b) (go (destroyed_at ws (component_at g ws k)))
   where
-    go : (t : Bool) → (if◌then◌else◌ {A = List ℕ} t (λ _. []) (λ _. [])) ++ [] ≡ []
+    go : (t : Bool) → (if◌then◌otherwise◌ {A = List ℕ} t (λ _. []) (λ _. [])) ++ [] ≡ []
     go true = refl
     go false = refl
 
 pub bare_group : (g ws : List ℕ) (i : ℕ) → is_group_at ws i ≡ true → BareFrom g ws (first_at ws i) (count_at ws i) → Bare g ws i
-unfolding Bare BareFrom figures_in if◌then◌else◌
+unfolding Bare BareFrom figures_in if◌then◌otherwise◌
 bare_group g ws i n all zero = refl
 bare_group g ws i n all (suc b) = rw n (all b)
 
 module _ {program g ws : List ℕ} (shapes : Shapes program g ws) where
   shown_any : (b b' i n k : ℕ) → ((c : ℕ) → c < i → figures_in b g ws c ≡ [] → figures_in b' g ws c ≡ []) → ((j : ℕ) → k ≤ j → j < k + n → component_at g ws j < i)
       → shown_from (figures_in b g ws) g ws k n ≡ [] → shown_from (figures_in b' g ws) g ws k n ≡ []
-  unfolding shown_from if◌then◌else◌
+  unfolding shown_from if◌then◌otherwise◌
   shown_any b b' i zero k f o e = refl
   shown_any b b' i (suc n) k f o e =
       let c = component_at g ws k in
-      let q = append_none (if destroyed_at ws c then (λ _. []) else λ _. figures_in b g ws c) (shown_from (figures_in b g ws) g ws (k + 1) n) e in
+      let q = append_none (if destroyed_at ws c then (λ _. []) otherwise λ _. figures_in b g ws c) (shown_from (figures_in b g ws) g ws (k + 1) n) e in
       rw (one c (destroyed_at ws c) (f c (o k (omega arith) (omega arith))) q.0, shown_any b b' i n (k + 1) f (λ j x y. o j (omega arith) (omega arith)) q.1)
     where
-      one : (c : ℕ) (t : Bool) → (figures_in b g ws c ≡ [] → figures_in b' g ws c ≡ []) → (if t then (λ _. []) else λ _. figures_in b g ws c) ≡ []
-          → (if t then (λ _. []) else λ _. figures_in b' g ws c) ≡ []
+      one : (c : ℕ) (t : Bool) → (figures_in b g ws c ≡ [] → figures_in b' g ws c ≡ []) → (if t then (λ _. []) otherwise λ _. figures_in b g ws c) ≡ []
+          → (if t then (λ _. []) otherwise λ _. figures_in b' g ws c) ≡ []
       one c true f e = refl
       one c false f e = f e
 
   figures_any : (b b' i : ℕ) → i < get_or ws shapes_used 0 → i < b → figures_in b g ws i ≡ [] → figures_in b' g ws i ≡ []
-  unfolding figures_in if◌then◌else◌
+  unfolding figures_in if◌then◌otherwise◌
   figures_any b zero i l x e = refl
   figures_any zero (suc b') i l x e = absurd (omega arith)
   figures_any (suc b) (suc b') i l x e = go (is_group_at ws i) refl (λ c o. figures_any b b' c (omega arith) (omega arith)) e
     where
       go : (t : Bool) → is_group_at ws i ≡ t → ((c : ℕ) → c < i → figures_in b g ws c ≡ [] → figures_in b' g ws c ≡ [])
-          → (if t then (λ _. shown_from (figures_in b g ws) g ws (first_at ws i) (count_at ws i)) else λ _. i ∷ []) ≡ []
-          → (if t then (λ _. shown_from (figures_in b' g ws) g ws (first_at ws i) (count_at ws i)) else λ _. i ∷ []) ≡ []
+          → (if t then (λ _. shown_from (figures_in b g ws) g ws (first_at ws i) (count_at ws i)) otherwise λ _. i ∷ []) ≡ []
+          → (if t then (λ _. shown_from (figures_in b' g ws) g ws (first_at ws i) (count_at ws i)) otherwise λ _. i ∷ []) ≡ []
       go true n f e = shown_any b b' i (count_at ws i) (first_at ws i) f (shapes.groups i l n).older e
       go false n f e = e
 

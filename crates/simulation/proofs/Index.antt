@@ -7,7 +7,7 @@ use native.Mathlib.Omega.{arith}
 use lib.ListN.{get_or}
 use lib.Dec.{eqb}
 use borrow.Author.Tests.{eq-eqb, eqb-true, eqb-false, le-leb}
-use Rattle.meaning.specs.Basics.{if◌then◌else◌}
+use Rattle.meaning.specs.Basics.{if◌then◌otherwise◌}
 use Rattle.machine.specs.Layout.{entries_made, entries_granted}
 use Rattle.machine.specs.Tables.{owner_at, key_at, matches, content_of, hash_from, spread, bucket_of, head_place, link_at, walk, find_entry}
 use Rattle.tables.proofs.KeyLaws.{both, same_content}
@@ -16,12 +16,12 @@ use Rattle.simulation.specs.Index.{last, lies, Indexed}
 
 -- ---- the last that meets a test
 pub last_here : (f : ℕ → Bool) (k : ℕ) → 0 < k → f (k - 1) ≡ true → last f k ≡ k
-unfolding last if◌then◌else◌
+unfolding last if◌then◌otherwise◌
 last_here f zero h e = absurd (omega arith)
 last_here f (suc k) h e = let q : suc k - 1 ≡ k = omega arith in rw (rw q at e)
 
 pub last_below : (f : ℕ → Bool) (k : ℕ) → 0 < k → f (k - 1) ≡ false → last f k ≡ last f (k - 1)
-unfolding last if◌then◌else◌
+unfolding last if◌then◌otherwise◌
 last_below f zero h e = absurd (omega arith)
 last_below f (suc k) h e = let q : suc k - 1 ≡ k = omega arith in rw (q, rw q at e)
 
@@ -30,8 +30,8 @@ unfolding last
 last_none f zero h = refl
 last_none f (suc k) h = absurd (omega arith)
 
-pick_le : (b : Bool) (n m : ℕ) → m ≤ n → (if b then (λ _. suc n) else λ _. m) ≤ suc n
-unfolding if◌then◌else◌
+pick_le : (b : Bool) (n m : ℕ) → m ≤ n → (if b then (λ _. suc n) otherwise λ _. m) ≤ suc n
+unfolding if◌then◌otherwise◌
 pick_le true n m h = omega arith
 pick_le false n m h = omega arith
 
@@ -42,23 +42,23 @@ last_le f (suc n) = pick_le (f n) n (last f n) (last_le f n)
 
 -- what meets a test meets a weaker one, so the last of the weaker one may be gone to first
 pub last_skip : (f g : ℕ → Bool) (n : ℕ) → ((i : ℕ) → f i ≡ true → g i ≡ true) → last f n ≡ last f (last g n)
-unfolding last if◌then◌else◌
+unfolding last if◌then◌otherwise◌
 last_skip f g zero h = refl
 last_skip f g (suc n) h = go (g n) (f n) refl refl (last_skip f g n h)
   where
     go : (x y : Bool) → g n ≡ x → f n ≡ y → last f n ≡ last f (last g n)
-        → (if f n then (λ _. suc n) else λ _. last f n) ≡ last f (if g n then (λ _. suc n) else λ _. last g n)
+        → (if f n then (λ _. suc n) otherwise λ _. last f n) ≡ last f (if g n then (λ _. suc n) otherwise λ _. last g n)
     go true y e u r = rw e
     go false true e u r = let z : ◌≡◌ {A = Bool} false true = sym e ∙ h n u in let w : ◌≡◌ {A = ℕ} 0 1 = cc in absurd (omega arith)
     go false false e u r = rw (e, u) r
 
 pub last_meets : (f : ℕ → Bool) (n : ℕ) → 0 < last f n → f (last f n - 1) ≡ true
-unfolding last if◌then◌else◌
+unfolding last if◌then◌otherwise◌
 last_meets f zero h = absurd (omega arith)
 last_meets f (suc n) h = go (f n) refl (last_meets f n) h
   where
     go : (b : Bool) → f n ≡ b → (0 < last f n → f (last f n - 1) ≡ true)
-        → 0 < (if b then (λ _. suc n) else λ _. last f n) → f ((if b then (λ _. suc n) else λ _. last f n) - 1) ≡ true
+        → 0 < (if b then (λ _. suc n) otherwise λ _. last f n) → f ((if b then (λ _. suc n) otherwise λ _. last f n) - 1) ≡ true
     go true e r l = let q : suc n - 1 ≡ n = omega arith in rw q e
     go false e r l = r l
 
@@ -117,7 +117,7 @@ module _ (program g ts ws : List ℕ) (t key : ℕ) (x : Indexed program g ts ws
       ∙ sym (last_skip meets inside (get_or ws entries_made 0) (match_lies program g ts ws t key)))
 
   pub found_is_last : find_entry program g ts ws t key ≡ last meets (get_or ws entries_made 0)
-  unfolding find_entry if◌then◌else◌
+  unfolding find_entry if◌then◌otherwise◌
   found_is_last = go (eqb (entries_granted g) 0) refl
     where
       go : (b : Bool) → eqb (entries_granted g) 0 ≡ b → find_entry program g ts ws t key ≡ last meets (get_or ws entries_made 0)

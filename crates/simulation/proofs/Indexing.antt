@@ -8,7 +8,7 @@ use native.Mathlib.Numerals.{add-one}
 use lib.ListN.{get_or}
 use lib.Dec.{eqb, ltb}
 use borrow.Author.Tests.{eqb-true, eqb-false, ltb-true, ltb-false}
-use Rattle.meaning.specs.Basics.{if◌then◌else◌}
+use Rattle.meaning.specs.Basics.{if◌then◌otherwise◌}
 use Rattle.machine.specs.Words.{kind_in, number_in, handle_in}
 use Rattle.machine.specs.Layout.{entries_made, entries_granted, entry_place}
 use Rattle.machine.specs.Texts.{text_of}
@@ -20,12 +20,12 @@ use Rattle.simulation.proofs.Index.{last_cong}
 -- ---- contents
 pub content_same : (program ts ts' ws ws' : List ℕ) (key : ℕ) → (kind_in key ≡ 2 → text_of program ts' (handle_in key) ≡ text_of program ts (handle_in key))
     → (kind_in key ≡ 6 → figure_content program ts' ws' (number_in key) ≡ figure_content program ts ws (number_in key)) → content_of program ts' ws' key ≡ content_of program ts ws key
-unfolding content_of if◌then◌else◌
+unfolding content_of if◌then◌otherwise◌
 content_same program ts ts' ws ws' key p q = go (eqb (kind_in key) 2) (eqb (kind_in key) 6) refl refl
   where
     go : (a b : Bool) → eqb (kind_in key) 2 ≡ a → eqb (kind_in key) 6 ≡ b
-        → (if a then (λ _. text_of program ts' (handle_in key)) else λ _. if b then (λ _. figure_content program ts' ws' (number_in key)) else λ _. number_in key ∷ [])
-        ≡ (if a then (λ _. text_of program ts (handle_in key)) else λ _. if b then (λ _. figure_content program ts ws (number_in key)) else λ _. number_in key ∷ [])
+        → (if a then (λ _. text_of program ts' (handle_in key)) otherwise λ _. if b then (λ _. figure_content program ts' ws' (number_in key)) otherwise λ _. number_in key ∷ [])
+        ≡ (if a then (λ _. text_of program ts (handle_in key)) otherwise λ _. if b then (λ _. figure_content program ts ws (number_in key)) otherwise λ _. number_in key ∷ [])
     go true b e f = p (eqb-true _ _ e)
     go false true e f = q (eqb-true _ _ f)
     go false false e f = refl
@@ -64,7 +64,7 @@ index_agrees program g ts ts' ws ws' a u h x = record {
 }
 
 -- ---- one entry more
-last_more : (f : ℕ → Bool) (n : ℕ) → last f (n + 1) ≡ (if f n then (λ _. n + 1) else λ _. last f n)
+last_more : (f : ℕ → Bool) (n : ℕ) → last f (n + 1) ≡ (if f n then (λ _. n + 1) otherwise λ _. last f n)
 unfolding last
 last_more f n = rw (add-one n)
 
@@ -94,10 +94,10 @@ module _ (program g ts ws ws' : List ℕ) (t key : ℕ) (a : Added program g ts 
   old c m l = lies_agree program g ts ts ws ws' n a.agree c m l
 
   begin : (c : ℕ) → c < entries_granted g → get_or ws' (head_place g c) 0 ≡ last (lies program g ts ws' c) (n + 1)
-  unfolding lies if◌then◌else◌
+  unfolding lies if◌then◌otherwise◌
   begin c l = go (eqb b c) refl ∙ sym (rw (last_more (lies program g ts ws' c) n, new_bucket))
     where
-      go : (r : Bool) → eqb b c ≡ r → get_or ws' (head_place g c) 0 ≡ (if r then (λ _. n + 1) else λ _. last (lies program g ts ws' c) n)
+      go : (r : Bool) → eqb b c ≡ r → get_or ws' (head_place g c) 0 ≡ (if r then (λ _. n + 1) otherwise λ _. last (lies program g ts ws' c) n)
       go true e = rw (← eqb-true b c e) a.head
       go false e = a.heads c l (λ q. eqb-false b c e (sym q)) ∙ x.begins c l ∙ sym (old c n (omega arith))
 

@@ -9,7 +9,7 @@ use mathlib.Core.List.{List, [], ◌∷◌}
 use lib.ListN.{get_or}
 use lib.Dec.{ltb}
 use borrow.Author.Tests.{ne_eqb, ltb-true, ltb-false}
-use Rattle.meaning.specs.Basics.{if◌then◌else◌}
+use Rattle.meaning.specs.Basics.{if◌then◌otherwise◌}
 use Rattle.meaning.specs.Token.{Token}
 use Rattle.meaning.specs.Value as Value
 use Rattle.meaning.specs.State.{State, by_content}
@@ -137,7 +137,7 @@ module _ {program : List ℕ} {ts : List Token} {g : List ℕ} {granted : Amount
   from : (turns end : ℕ) (r₀ r : Raw) (s : State) (total : Amounts) (left : Run.Action Execute.Flow) (k : ℕ) → Path g around unit [] r₀ → AfterBut program ts g r₀ r s total → Ready r
       → end ≤ get_or r.words components_made 0 → steps_left g r < turns → Outcome program ts g bound around unit end r s left [] k
       → Follows granted total (Flows program ts g r₀) (turns_from turns body g p (number_in (scope_of program ts whose) x) end k r) (left s)
-  unfolding turns_from if◌then◌else◌ remaining slots Act.◌>>=◌ Act.go_on Act.held Act.give Run.◌>>=◌ Run.give
+  unfolding turns_from if◌then◌otherwise◌ remaining slots Act.◌>>=◌ Act.go_on Act.held Act.give Run.◌>>=◌ Run.give
   from zero end r₀ r s total left k clean a q l e w = absurd (omega arith)
   from (suc turns) end r₀ r s total left k clean a q l e (none w) =
       rw w.rest (given (record { after = after_but a (λ j. w.path.each j ∙ sym (clean.each j)); flow = both_onward }))
@@ -160,12 +160,12 @@ module _ {program : List ℕ} {ts : List Token} {g : List ℕ} {granted : Amount
   -- ---- an own component in slot k
   module _ {r : Raw} {s : State} {total : Amounts} (h : Related program ts g r s total) (q : Ready r) (clean : Path g around unit [] r) (c : ℕ) (l : c < get_or r.words shapes_used 0) where
     own_figure : (k : ℕ) → is_group_at r.words c ≡ false → Follows granted total (Flows program ts g r) (own_turn body g p (number_in (scope_of program ts whose) x) k c r) (iterating (suc c) bound c s)
-    unfolding own_turn iterating by_content if◌then◌else◌ Act.◌>>=◌ Act.go_on Act.held Run.◌>>=◌ Run.go_on Run.current
+    unfolding own_turn iterating by_content if◌then◌otherwise◌ Act.◌>>=◌ Act.go_on Act.held Run.◌>>=◌ Run.go_on Run.current
     own_figure k e = rw (e, figure_found h c l e) (ended (turns_once h q c l))
 
     own_group : (k : ℕ) → k ≤ get_or r.words components_made 0 → first_at r.words c + count_at r.words c ≤ k → is_group_at r.words c ≡ true
         → Follows granted total (Flows program ts g r) (own_turn body g p (number_in (scope_of program ts whose) x) k c r) (iterating (suc c) bound c s)
-    unfolding own_turn if◌then◌else◌ Act.◌>>=◌ Act.go_on Act.held
+    unfolding own_turn if◌then◌otherwise◌ Act.◌>>=◌ Act.go_on Act.held
     own_group k m before e =
         let b = look_in_lem bound k fits h q.some q.unit_is m c l e before clean in
         rw (e, b.is) (from (steps_granted g + 1) k r b.slices s total (iterating (suc c) bound c) b.result clean b.after (ready_on b.after q) (le_trans m b.after.parts.made)

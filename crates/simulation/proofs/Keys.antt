@@ -13,7 +13,7 @@ use lib.Signed.{mag}
 use mir.Syntax.{w32}
 use mir.Val.{to_z}
 use borrow.Author.Tests.{eqb-true, eq-eqb, ne_eqb}
-use Rattle.meaning.specs.Basics.{if◌then◌else◌, same_text}
+use Rattle.meaning.specs.Basics.{if◌then◌otherwise◌, same_text}
 use Rattle.meaning.specs.Token.{Token}
 use Rattle.meaning.specs.Integer.{bits, wrap, same_integer, same_integers}
 use Rattle.meaning.proofs.IntegerLaws.{bits_wrap, wrap_id}
@@ -103,7 +103,7 @@ module _ {program : List ℕ} {ts : List Token} {g : List ℕ} {r : Raw} (sound 
 
   -- a value put into a word comes out again
   pub back_again : (v : Value) → Valid program r.words v → unpacked (packed v) ≡ v
-  unfolding packed Valid wrap kind_of meant_value unpacked if◌then◌else◌
+  unfolding packed Valid wrap kind_of meant_value unpacked if◌then◌otherwise◌
   back_again (Integer z) h =
       let a : (1 + 8 * bits z) / 8 ≡ bits z = omega arith in
       let b : bits z % 2 ^ 32 ≡ bits z = omega (arith, bits_below z) in
@@ -146,7 +146,7 @@ module _ {program : List ℕ} {ts : List Token} {g : List ℕ} {r : Raw} (sound 
 
   figure_made : (i : ℕ) → i < get_or r.words 1 0 → is_group_at r.words i ≡ false
       → (get_or (shapes_of program g r) i no_shape).content ≡ atom (meant_figure program r.texts (figure_at r.words i))
-  unfolding content_at if◌then◌else◌
+  unfolding content_at if◌then◌otherwise◌
   figure_made i l n = content_made program g r i l ∙ rw n
 
   pub is_key : (v : Value) → IsKey v → key_of (record { variables = []; suspended = []; shapes = shapes_of program g r; tables = 0; entries = [] }) (meant_value program r.texts v)
@@ -232,7 +232,7 @@ module _ {program : List ℕ} {ts : List Token} {g : List ℕ} {r : Raw} (sound 
       ∙ ap₂ same_key (sym (figure_keys i l n)) (sym (figure_keys j m o))
 
   pub keys_alike : (v w : Value) → Valid program r.words v → Valid program r.words w → IsKey v → IsKey w → Alike v w
-  unfolding packed meant_value key_among key_of some_key same_key same_integers same_text same_integer Valid Tables.same_key if◌then◌else◌ kind_of
+  unfolding packed meant_value key_among key_of some_key same_key same_integers same_text same_integer Valid Tables.same_key if◌then◌otherwise◌ kind_of
   keys_alike (Integer a) (Integer b) p q x y = integers a b p q
   keys_alike (Integer a) (Text b) p q x y = apart (Integer a) (Text b) x y (λ e. omega arith)
   keys_alike (Integer a) (Boolean b) p q x y = apart (Integer a) (Boolean b) x y (λ e. omega arith)

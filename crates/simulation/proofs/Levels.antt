@@ -6,7 +6,7 @@ use mathlib.Core.Path.{◌≡◌, refl, ap, ◌∙◌}
 use mathlib.Core.Bool.{true, false}
 use mathlib.Core.List.{List, [], ◌∷◌}
 use lib.ListN.{get_or}
-use Rattle.meaning.specs.Basics.{if◌then◌else◌}
+use Rattle.meaning.specs.Basics.{if◌then◌otherwise◌}
 use Rattle.meaning.specs.Token.{Token}
 use Rattle.meaning.specs.State.{State, by_content}
 use Rattle.meaning.specs.Run as Run
@@ -74,12 +74,12 @@ module _ {program : List ℕ} {ts : List Token} {g : List ℕ} {r : Raw} {s : St
 
     module _ (b k n : ℕ) (l : component_at g r.words k < get_or r.words shapes_used 0) where
       level_past : destroyed_at r.words (component_at g r.words k) ≡ true → level g r.words body b k (suc n) s ≡ level g r.words body b (k + 1) n s
-      unfolding level turns listed continue if◌then◌else◌ Run.◌>>=◌ Run.go_on Run.give Run.current
+      unfolding level turns listed continue if◌then◌otherwise◌ Run.◌>>=◌ Run.go_on Run.give Run.current
       level_past d = rw (add-one k, destroyed_found h (component_at g r.words k) l, d)
 
       level_first : destroyed_at r.words (component_at g r.words k) ≡ false
           → level g r.words body b k (suc n) s ≡ after (iterating b body (component_at g r.words k) s) (level g r.words body b (k + 1) n)
-      unfolding level turns listed if◌then◌else◌ Run.◌>>=◌ Run.go_on Run.current
+      unfolding level turns listed if◌then◌otherwise◌ Run.◌>>=◌ Run.go_on Run.current
       level_first d = rw (add-one k, destroyed_found h (component_at g r.words k) l, d)
 
       -- destroyed

@@ -13,7 +13,7 @@ use lib.ListN.{get_or}
 use lib.IntN.{ℤ, pos}
 use lib.Dec.{eqb, ltb}
 use borrow.Author.Tests.{eqb-true, eqb-false, ne_eqb}
-use Rattle.meaning.specs.Basics.{if◌then◌else◌}
+use Rattle.meaning.specs.Basics.{if◌then◌otherwise◌}
 use Rattle.meaning.specs.Token.{Token}
 use Rattle.meaning.specs.Figure.{line, ellipse, box, text}
 use Rattle.meaning.specs.Figure as Meaning
@@ -319,7 +319,7 @@ module _ (e : Setting) {ts : List Token} {granted : Amounts} (gr : Grants e.gran
       }) p gr)))))
 
   performs : (f : Library) (n : ℕ) (us : List Value.Value) → Stacked e.program r base n us → Works (perform e.grants (number_of (some f)) p base n r) (Library.perform f p us s)
-  unfolding perform Library.perform number_of if◌then◌else◌
+  unfolding perform Library.perform number_of if◌then◌otherwise◌
   performs draw_line n us st = rw st.are (draws 0 line (omega arith) (λ x y z w. sym (as_line e.program r.texts (figure 0 x y z w 0) refl)) n st.valid)
   performs draw_ellipse n us st = rw st.are (draws 1 ellipse (omega arith) (λ x y z w. sym (as_ellipse e.program r.texts (figure 1 x y z w 0) refl)) n st.valid)
   performs draw_box n us st = rw st.are (draws 2 box (omega arith) (λ x y z w. sym (as_box e.program r.texts (figure 2 x y z w 0) refl)) n st.valid)
@@ -351,7 +351,7 @@ module _ (e : Setting) {ts : List Token} {granted : Amounts} (gr : Grants e.gran
   pub calls : (l : Option Library) (p base n : ℕ) {r : Raw} {s : State} {total : Amounts} → Related e.program ts e.grants r s total
       → Above e.program ts r base → (us : List Value.Value) → Stacked e.program r base n us
       → Follows granted total (Values e.program ts e.grants r) (call_library e.grants (number_of l) p base n r) (Library.call_library l p us s)
-  unfolding call_library Library.call_library number_of if◌then◌else◌ Act.◌>>=◌ Run.◌>>=◌ Act.fail Run.fail
+  unfolding call_library Library.call_library number_of if◌then◌otherwise◌ Act.◌>>=◌ Run.◌>>=◌ Act.fail Run.fail
   calls (some f) p base n h up us st =
       rw (number_less f)
       (bind (uses_all p n base h up us st) (λ _ _ r₁ s₁ total₁ a. from_here a (performs e gr a.related p base f n us (stacked_later a up st))))

@@ -10,7 +10,7 @@ use mathlib.Core.Option as Option
 use lib.ListN.{get_or}
 use lib.Dec.{eqb}
 use borrow.Author.Tests.{eqb-true, eqb-false}
-use Rattle.meaning.specs.Basics.{if◌then◌else◌}
+use Rattle.meaning.specs.Basics.{if◌then◌otherwise◌}
 use Rattle.meaning.specs.Token.{Token}
 use Rattle.meaning.proofs.KeyLaws.{same_key_iff}
 use Rattle.meaning.specs.Value.{integer, string, boolean, none, table, shape}
@@ -39,11 +39,11 @@ use Rattle.simulation.proofs.Keys.{both_true, IsKey, is_key, keys_alike, value_k
 
 -- ---- the last that meets a test
 pub last_zero : (m : ℕ → Bool) (n : ℕ) → last m n ≡ 0 → (j : ℕ) → j < n → m j ≡ false
-unfolding last if◌then◌else◌
+unfolding last if◌then◌otherwise◌
 last_zero m zero e j l = absurd (omega arith)
 last_zero m (suc n) e j l = go (m n) refl e (last_zero m n)
   where
-    go : (b : Bool) → m n ≡ b → (if b then (λ _. suc n) else λ _. last m n) ≡ 0 → (last m n ≡ 0 → (j : ℕ) → j < n → m j ≡ false) → m j ≡ false
+    go : (b : Bool) → m n ≡ b → (if b then (λ _. suc n) otherwise λ _. last m n) ≡ 0 → (last m n ≡ 0 → (j : ℕ) → j < n → m j ≡ false) → m j ≡ false
     go true q e f = absurd (omega arith)
     go false q e f = at (eqb j n) refl (f e)
       where
@@ -54,18 +54,18 @@ last_zero m (suc n) e j l = go (m n) refl e (last_zero m n)
 -- ---- entries by a function of the index
 module _ (f : ℕ → Entry) (t : ℕ) (key : Key) where
   pub no_entry : (k n : ℕ) → ((j : ℕ) → k ≤ j → j < k + n → matches (f j) t key ≡ false) → entry_in (listed f k n) t key ≡ Option.none
-  unfolding listed entry_in if◌then◌else◌
+  unfolding listed entry_in if◌then◌otherwise◌
   no_entry k zero h = refl
   no_entry k (suc n) h = rw (h k (omega arith) (omega arith)) (no_entry (suc k) n (λ j a b. h j (omega arith) (omega arith)))
 
   pub one_entry : (k n i : ℕ) → k ≤ i → i < k + n → matches (f i) t key ≡ true → ((j : ℕ) → k ≤ j → j < k + n → j ≢ i → matches (f j) t key ≡ false)
       → entry_in (listed f k n) t key ≡ some (f i).holds
-  unfolding listed entry_in if◌then◌else◌
+  unfolding listed entry_in if◌then◌otherwise◌
   one_entry k zero i a b e h = absurd (omega arith)
   one_entry k (suc n) i a b e h = go (eqb k i) refl (λ d. one_entry (suc k) n i (omega arith) (omega arith) e (λ j x y. h j (omega arith) (omega arith)))
     where
       go : (c : Bool) → eqb k i ≡ c → (k ≢ i → entry_in (listed f (suc k) n) t key ≡ some (f i).holds)
-          → (if matches (f k) t key then (λ _. some (f k).holds) else λ _. entry_in (listed f (suc k) n) t key) ≡ some (f i).holds
+          → (if matches (f k) t key then (λ _. some (f k).holds) otherwise λ _. entry_in (listed f (suc k) n) t key) ≡ some (f i).holds
       go true q r = let z = eqb-true k i q in rw (z, e)
       go false q r = let d : k ≢ i = eqb-false k i q in rw (h k (omega arith) (omega arith) d) (r d)
 
@@ -74,13 +74,13 @@ module _ (f : ℕ → Entry) (t : ℕ) (key : Key) where
       → ((j : ℕ) → k ≤ j → j < k + n → j ≢ i → matches (f j) t key ≡ false)
       → f' i ≡ record { owner = (f i).owner; key = (f i).key; holds = u } → ((j : ℕ) → k ≤ j → j < k + n → j ≢ i → f' j ≡ f j)
       → overwritten (listed f k n) t key u ≡ listed f' k n
-  unfolding listed overwritten if◌then◌else◌
+  unfolding listed overwritten if◌then◌otherwise◌
   one_overwritten u f' k zero i a b e h x y = absurd (omega arith)
   one_overwritten u f' k (suc n) i a b e h x y =
       go (eqb k i) refl (λ d. one_overwritten u f' (suc k) n i (omega arith) (omega arith) e (λ j v w. h j (omega arith) (omega arith)) x (λ j v w. y j (omega arith) (omega arith)))
     where
       go : (c : Bool) → eqb k i ≡ c → (k ≢ i → overwritten (listed f (suc k) n) t key u ≡ listed f' (suc k) n)
-          → (if matches (f k) t key then (λ _. record { owner = (f k).owner; key = (f k).key; holds = u } ∷ listed f (suc k) n) else λ _. f k ∷ overwritten (listed f (suc k) n) t key u)
+          → (if matches (f k) t key then (λ _. record { owner = (f k).owner; key = (f k).key; holds = u } ∷ listed f (suc k) n) otherwise λ _. f k ∷ overwritten (listed f (suc k) n) t key u)
           ≡ f' k ∷ listed f' (suc k) n
       go true q r =
           let z = eqb-true k i q in

@@ -10,7 +10,7 @@ use mathlib.Core.List.{List, [], ◌∷◌}
 use lib.ListN.{get_or, length}
 use lib.Dec.{eqb}
 use borrow.Author.Tests.{eqb-true, eqb-false}
-use Rattle.meaning.specs.Basics.{if◌then◌else◌}
+use Rattle.meaning.specs.Basics.{if◌then◌otherwise◌}
 use Rattle.meaning.specs.Token.{Token}
 use Rattle.meaning.specs.Value as Value
 use Rattle.meaning.specs.State.{State, by_content, is_destroyed, is_some, assigned, with_variables}
@@ -51,7 +51,7 @@ module _ {program : List ℕ} {ts : List Token} {g : List ℕ} {r : Raw} {s : St
 
   pub declares_once : {granted : Amounts} → is_among x (scope_of program ts (get_or r.words running 0)) ≡ true
       → Follows granted total (λ _ _ r' s' total'. Once r' s' total') (declare_once (number_in (scope_of program ts (get_or r.words running 0)) x) r) (declaring_once x s)
-  unfolding declare_once declaring_once is_some if◌then◌else◌ Act.◌>>=◌ Act.go_on Act.held Act.give Run.◌>>=◌ Run.go_on Run.current Run.become
+  unfolding declare_once declaring_once is_some if◌then◌otherwise◌ Act.◌>>=◌ Act.go_on Act.held Act.give Run.◌>>=◌ Run.go_on Run.current Run.become
   declares_once {granted} own = go (eqb (holding r.words number) 0) refl
     where
       go : (b : Bool) → eqb (holding r.words number) 0 ≡ b
@@ -85,28 +85,28 @@ module _ {program : List ℕ} {ts : List Token} {g : List ℕ} {r : Raw} {s : St
   pub idle_turns : (visit : ℕ → Run.Action Flow) (inside : ℕ → List ℕ) (i n k : ℕ) → i ≤ get_or r.words shapes_used 0
       → ((c : ℕ) → c < i → inside c ≡ [] → Idle (visit c s)) → ((j : ℕ) → k ≤ j → j < k + n → component_at g r.words j < i)
       → shown_from inside g r.words k n ≡ [] → Idle (turns visit (listed (component_at g r.words) k n) s)
-  unfolding turns shown_from listed continue if◌then◌else◌ Run.◌>>=◌ Run.go_on Run.current Run.give
+  unfolding turns shown_from listed continue if◌then◌otherwise◌ Run.◌>>=◌ Run.go_on Run.current Run.give
   idle_turns visit inside i zero k l f o e = refl
   idle_turns visit inside i (suc n) k l f o e =
       let c = component_at g r.words k in
       let older = o k (omega arith) (omega arith) in
-      let q = append_none (if destroyed_at r.words c then (λ _. []) else λ _. inside c) (shown_from inside g r.words (k + 1) n) e in
+      let q = append_none (if destroyed_at r.words c then (λ _. []) otherwise λ _. inside c) (shown_from inside g r.words (k + 1) n) e in
       one c (destroyed_at r.words c) (destroyed_found h c (le_trans older l)) (f c older) q.0
       (subst (λ j. Idle (turns visit (listed (component_at g r.words) j n) s)) (add-one k)
       (idle_turns visit inside i n (k + 1) l f (λ j x y. o j (omega arith) (omega arith)) q.1))
     where
-      one : (c : ℕ) (b : Bool) → is_destroyed s c ≡ b → (inside c ≡ [] → Idle (visit c s)) → (if b then (λ _. []) else λ _. inside c) ≡ []
+      one : (c : ℕ) (b : Bool) → is_destroyed s c ≡ b → (inside c ≡ [] → Idle (visit c s)) → (if b then (λ _. []) otherwise λ _. inside c) ≡ []
           → Idle (turns visit (listed (component_at g r.words) (suc k) n) s) → Idle (turns visit (c ∷ listed (component_at g r.words) (suc k) n) s)
       one c true d f e again = rw d again
       one c false d f e again = rw (d, f e) again
 
   pub idle : (b b' i : ℕ) → i < get_or r.words shapes_used 0 → i < b → i < b' → figures_in b g r.words i ≡ [] → Idle (iterating b' B i s)
-  unfolding figures_in iterating by_content components_of if◌then◌else◌ Run.◌>>=◌ Run.go_on Run.current
+  unfolding figures_in iterating by_content components_of if◌then◌otherwise◌ Run.◌>>=◌ Run.go_on Run.current
   idle zero b' i l x y e = absurd (omega arith)
   idle (suc b) zero i l x y e = absurd (omega arith)
   idle (suc b) (suc b') i l x y e = go (is_group_at r.words i) refl e (λ c o. idle b b' c (le_trans o (le_of_lt l)) (omega arith) (omega arith))
     where
-      go : (t : Bool) → is_group_at r.words i ≡ t → (if t then (λ _. shown_from (figures_in b g r.words) g r.words (first_at r.words i) (count_at r.words i)) else λ _. i ∷ []) ≡ []
+      go : (t : Bool) → is_group_at r.words i ≡ t → (if t then (λ _. shown_from (figures_in b g r.words) g r.words (first_at r.words i) (count_at r.words i)) otherwise λ _. i ∷ []) ≡ []
           → ((c : ℕ) → c < i → figures_in b g r.words c ≡ [] → Idle (iterating b' B c s)) → Idle (iterating (suc b') B i s)
       go true n e f =
           rw (group_found h i l n)

@@ -10,7 +10,7 @@ use lib.ListN.{get_or, length, length-append, get_or-append}
 use lib.Dec.{ltb}
 use lib.Seq.{get_or-append_seam}
 use borrow.Author.Tests.{ltb-true, ltb-false}
-use Rattle.meaning.specs.Basics.{if◌then◌else◌, same_text}
+use Rattle.meaning.specs.Basics.{if◌then◌otherwise◌, same_text}
 use Rattle.meaning.specs.Token.{Token}
 use Rattle.meaning.specs.Tree.{Procedure}
 use Rattle.meaning.specs.Grammar.{reading}
@@ -33,7 +33,7 @@ pub record Once (names : List (List ℕ)) : Type 0 where
   pub is : (i : ℕ) → i < length names → number_in names (get_or names i []) ≡ i
 
 once_with : (xs : List (List ℕ)) (x : List ℕ) → Once xs → Once (with_name xs x)
-unfolding with_name if◌then◌else◌
+unfolding with_name if◌then◌otherwise◌
 once_with xs x o = go (is_among x xs) refl
   where
     at : is_among x xs ≡ false → (i : ℕ) → i < length (xs ++ (x ∷ [])) → (b : Bool) → ltb i (length xs) ≡ b → number_in (xs ++ (x ∷ [])) (get_or (xs ++ (x ∷ [])) i []) ≡ i
@@ -45,7 +45,7 @@ once_with xs x o = go (is_among x xs) refl
         let last : i ≡ length xs = omega (arith, ltb-false i (length xs) q, length-append xs (x ∷ [])) in
         rw (last, get_or-append_seam xs x [] []) (number_last x xs e)
 
-    go : (b : Bool) → is_among x xs ≡ b → Once (if b then (λ _. xs) else λ _. xs ++ (x ∷ []))
+    go : (b : Bool) → is_among x xs ≡ b → Once (if b then (λ _. xs) otherwise λ _. xs ++ (x ∷ []))
     go true e = o
     go false e = record { is = λ i l. at e i l (ltb i (length xs)) refl }
 

@@ -6,7 +6,7 @@ use mathlib.Core.Bool.{Bool, true, false}
 use mathlib.Core.List.{List, [], ◌∷◌}
 use mathlib.Core.Option.{Option, none, some}
 use lib.ListN.{length}
-use Rattle.meaning.specs.Basics.{bytes, if◌then◌else◌, same_text}
+use Rattle.meaning.specs.Basics.{bytes, if◌then◌otherwise◌, same_text}
 use Rattle.meaning.specs.Token.{Token}
 use Rattle.meaning.specs.Tree.{Expression, Statement, declare, assign, update, when, while, foreach, return, block, act, Statements, only, first, Procedure, Program}
 use Rattle.meaning.specs.Grammar.{Got, good, wrong, expect, start_at, Inside, ReadExpression, ReadStatement, Readers, declaration, returning, Target, variable, element, no_target, target_of, assignment}
@@ -128,10 +128,10 @@ module _ (ts : List Token) where
   Each fs = (x : List ℕ) (f : Procedure) → procedure_named x fs ≡ some f → NestsAll 64 f.body
 
   each_more : (f : Procedure) (fs : List Procedure) → NestsAll 64 f.body → Each fs → Each (f ∷ fs)
-  unfolding procedure_named if◌then◌else◌
+  unfolding procedure_named if◌then◌otherwise◌
   each_more f fs h hs x f' e = go (same_text f.name x) e
     where
-      go : (b : Bool) → (if b then (λ _. some f) else λ _. procedure_named x fs) ≡ some f' → NestsAll 64 f'.body
+      go : (b : Bool) → (if b then (λ _. some f) otherwise λ _. procedure_named x fs) ≡ some f' → NestsAll 64 f'.body
       go true q = let w : f ≡ f' = cc in subst (λ u. NestsAll 64 u.body) w h
       go false q = hs x f' q
 

@@ -10,7 +10,7 @@ use lib.ListN.{get_or, set, length, length-set}
 use lib.Seq.{get_or-set_same, get_or-set_other}
 use lib.Dec.{eqb, ltb}
 use borrow.Author.Tests.{eqb-true, eqb-false, ltb-true, ltb-false, lt-ltb, le-ltb}
-use Rattle.meaning.specs.Basics.{if◌then◌else◌}
+use Rattle.meaning.specs.Basics.{if◌then◌otherwise◌}
 use Rattle.meaning.specs.Value as Value
 use Rattle.meaning.specs.State.{Variable, fresh}
 use Rattle.machine.specs.Words.{packed, unpacked}
@@ -257,11 +257,11 @@ module _ (texts ws : List ℕ) (top m n p : ℕ) (long : fixed_words ≤ length 
 
 -- ---- its variables: m parameters, which hold none
 first_some : (m k : ℕ) → k < m → first_word m k ≡ 4 + 2 ^ 48 * (k % 65536)
-unfolding first_word packed if◌then◌else◌
+unfolding first_word packed if◌then◌otherwise◌
 first_some m k l = rw (lt-ltb k m l)
 
 first_none : (m k : ℕ) → m ≤ k → first_word m k ≡ 0
-unfolding first_word if◌then◌else◌
+unfolding first_word if◌then◌otherwise◌
 first_none m k l = rw (le-ltb k m l)
 
 fresh_listed : (xs : List (List ℕ)) (f : ℕ → Variable) (k : ℕ) → ((j : ℕ) → j < length xs → f (k + j) ≡ record { name = get_or xs j []; holds = Value.none }) → fresh xs ≡ listed f k (length xs)
@@ -292,7 +292,7 @@ module _ (program ws : List ℕ) (top m size : ℕ) (few : m ≤ size) (brief : 
       go false e = rw (holding_none i (ltb-false i m e) h) (b (ltb-false i m e))
 
   pub opened_framed : Framed program ws top m size
-  unfolding Valid unpacked if◌then◌else◌
+  unfolding Valid unpacked if◌then◌otherwise◌
   opened_framed = record {
     brief = brief;
     few = few;
@@ -306,7 +306,7 @@ module _ (program ws : List ℕ) (top m size : ℕ) (few : m ≤ size) (brief : 
   -- what they stand for, by their names
   pub opened_variables : (texts : List ℕ) (names xs : List (List ℕ)) → length xs ≡ m → ((k : ℕ) → k < m → get_or names k [] ≡ get_or xs k [])
       → fresh xs ≡ frame_of program names (raw texts ws) top m
-  unfolding frame_of variable_at unpacked if◌then◌else◌ meant_value
+  unfolding frame_of variable_at unpacked if◌then◌otherwise◌ meant_value
   opened_variables texts names xs size same = rw (← size) (fresh_listed xs (variable_at program names (raw texts ws) top) 0 (λ k l. let q : 0 + k ≡ k = omega arith in rw q (one k (rw (← size) l))))
     where
       one : (k : ℕ) → k < m → variable_at program names (raw texts ws) top k ≡ record { name = get_or xs k []; holds = Value.none }

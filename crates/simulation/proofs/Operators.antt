@@ -8,7 +8,7 @@ use mathlib.Core.List.{List}
 use lib.ListN.{get_or}
 use lib.IntN.{ℤ}
 use lib.Signed.{mag, lt_z}
-use Rattle.meaning.specs.Basics.{if◌then◌else◌}
+use Rattle.meaning.specs.Basics.{if◌then◌otherwise◌}
 use Rattle.meaning.specs.Token.{Token}
 use Rattle.meaning.specs.Integer.{sum, difference, product, quotient, shifted_left, shifted_right, is_zero}
 use Rattle.meaning.proofs.IntegerLaws.{sum_range, difference_range, product_range, quotient_range, remainder_range, shifted_left_range, shifted_right_range, product_zero, quotient_zero}
@@ -241,7 +241,7 @@ module _ (e : Setting) {ts : List Token} {granted : Amounts} (gr : Grants e.gran
       → (v w : Value) → Valid e.program r.words v → Valid e.program r.words w
       → Follows granted total (Values e.program ts e.grants r) (operate_on e.program e.grants (tag_of o) p v w r)
       (Operator.operate_on o p (meant_value e.program r.texts v) (meant_value e.program r.texts w) s)
-  unfolding operate_on Operator.operate_on tag_of if◌then◌else◌
+  unfolding operate_on Operator.operate_on tag_of if◌then◌otherwise◌
   operates_on concatenate p h v w x y = concatenates e gr h p v w x y
   operates_on add p h v w x y = calculates e gr h p false sum plus_y Meaning.plus_y (λ a b l. sum_range a b) makes_plus_y v w x y
   operates_on subtract p h v w x y = calculates e gr h p false difference minus_y Meaning.minus_y (λ a b l. difference_range a b) makes_minus_y v w x y

@@ -8,7 +8,7 @@ use mathlib.Core.Logic.{◌≢◌}
 use mathlib.Core.Bool.{Bool, true, false}
 use mathlib.Core.List.{List, []}
 use lib.ListN.{get_or, set}
-use Rattle.meaning.specs.Basics.{if◌then◌else◌}
+use Rattle.meaning.specs.Basics.{if◌then◌otherwise◌}
 use Rattle.meaning.specs.Token.{Token}
 use Rattle.meaning.specs.State.{State, is_destroyed}
 use Rattle.meaning.specs.Run as Run
@@ -63,7 +63,7 @@ module _ {program : List ℕ} {ts : List Token} {g : List ℕ} {granted : Amount
   own_from_lem : (i n k : ℕ) {r : Raw} {s : State} {total : Amounts} → Related program ts g r s total → Prepared r → Path g around unit [] r → i < get_or r.words shapes_used 0
       → is_group_at r.words i ≡ true → first_at r.words i ≤ k → k + n ≡ first_at r.words i + count_at r.words i
       → Follows granted total (Flows program ts g r) (own_from body g p (number_in (scope_of program ts whose) x) k n r) (turns visit (listed (component_at g r.words) k n) s)
-  unfolding own_from turns listed if◌then◌else◌ Act.◌>>=◌ Act.go_on Act.held Act.give Run.◌>>=◌ Run.go_on Run.current Run.give
+  unfolding own_from turns listed if◌then◌otherwise◌ Act.◌>>=◌ Act.go_on Act.held Act.give Run.◌>>=◌ Run.go_on Run.current Run.give
   own_from_lem i zero k h q clean l e a b = given (record { after = unmoved h; flow = both_onward })
   own_from_lem i (suc n) k {r} {s} {total} h q clean l e a b =
       let c = component_at g r.words k in
@@ -82,8 +82,8 @@ module _ {program : List ℕ} {ts : List Token} {g : List ℕ} {granted : Amount
     where
       one : (t t' : Bool) → t ≡ t'
           → Follows granted total (Flows program ts g r)
-          ((if t then (λ _. Act.give Onward) else λ _. Act.◌>>◌ (Act.count g p) (own_turn body g p (number_in (scope_of program ts whose) x) k (component_at g r.words k))) r)
-          ((if t' then (λ _. Run.give onward) else λ _. visit (component_at g r.words k)) s)
+          ((if t then (λ _. Act.give Onward) otherwise λ _. Act.◌>>◌ (Act.count g p) (own_turn body g p (number_in (scope_of program ts whose) x) k (component_at g r.words k))) r)
+          ((if t' then (λ _. Run.give onward) otherwise λ _. visit (component_at g r.words k)) s)
       one true true m = given (record { after = unmoved h; flow = both_onward })
       one true false m = let z : ◌≡◌ {A = ℕ} 0 1 = cc in absurd (omega arith)
       one false true m = let z : ◌≡◌ {A = ℕ} 0 1 = cc in absurd (omega arith)

@@ -9,7 +9,7 @@ use mathlib.Core.List.{List, [], ◌∷◌}
 use lib.ListN.{get_or}
 use lib.Dec.{eqb}
 use borrow.Author.Tests.{eqb-true, eqb-false}
-use Rattle.meaning.specs.Basics.{if◌then◌else◌}
+use Rattle.meaning.specs.Basics.{if◌then◌otherwise◌}
 use Rattle.meaning.specs.Token.{Token}
 use Rattle.meaning.specs.State.{State}
 use Rattle.meaning.specs.Book.{Amounts}
@@ -23,16 +23,16 @@ use Rattle.simulation.proofs.Marking.{mark_at, remarked, own_now, own_others}
 -- ---- the next marked slot
 module _ (g ws : List ℕ) where
   pub found_none : (k n : ℕ) → ((j : ℕ) → k ≤ j → j < k + n → marked_at g ws j ≡ false) → marked_from g ws k n ≡ 0
-  unfolding marked_from if◌then◌else◌
+  unfolding marked_from if◌then◌otherwise◌
   found_none k zero f = refl
   found_none k (suc n) f = rw (f k (omega arith) (omega arith)) (found_none (k + 1) n (λ j x y. f j (omega arith) (omega arith)))
 
   pub found_first : (k n up : ℕ) → k ≤ up → up < k + n → ((j : ℕ) → k ≤ j → j < up → marked_at g ws j ≡ false) → marked_at g ws up ≡ true → marked_from g ws k n ≡ up + 1
-  unfolding marked_from if◌then◌else◌
+  unfolding marked_from if◌then◌otherwise◌
   found_first k zero up a b f m = absurd (omega arith)
   found_first k (suc n) up a b f m = go (eqb k up) refl (λ d. found_first (k + 1) n up (omega arith) (omega arith) (λ j x y. f j (omega arith) y) m)
     where
-      go : (t : Bool) → eqb k up ≡ t → (k ≢ up → marked_from g ws (k + 1) n ≡ up + 1) → (if marked_at g ws k then (λ _. k + 1) else λ _. marked_from g ws (k + 1) n) ≡ up + 1
+      go : (t : Bool) → eqb k up ≡ t → (k ≢ up → marked_from g ws (k + 1) n ≡ up + 1) → (if marked_at g ws k then (λ _. k + 1) otherwise λ _. marked_from g ws (k + 1) n) ≡ up + 1
       go true e next = let q : k ≡ up = eqb-true k up e in rw (q, m)
       go false e next =
           let q : k ≢ up = eqb-false k up e in
@@ -67,20 +67,20 @@ unit_small n u a b l =
     omega arith
 
 pub inner_fits : (n u : ℕ) → 0 < n → n ≤ 64 → 2 * u ≤ 2 ^ (64 - n) → 2 * inner_unit u ≤ 2 ^ (64 - (n - 1))
-unfolding inner_unit if◌then◌else◌
+unfolding inner_unit if◌then◌otherwise◌
 inner_fits n u a b l = rw (power_more n a b) (go (eqb u 0))
   where
-    go : (t : Bool) → 2 * (if t then (λ _. 1) else λ _. 2 * u % 2 ^ 64) ≤ 2 * 2 ^ (64 - n)
+    go : (t : Bool) → 2 * (if t then (λ _. 1) otherwise λ _. 2 * u % 2 ^ 64) ≤ 2 * 2 ^ (64 - n)
     go true = omega (arith, one-le-pow (64 - n) 2 (omega arith))
     go false =
         let q : 2 * u % 2 ^ 64 ≡ 2 * u = omega (arith, unit_small n u a b l) in
         rw q (omega arith)
 
 pub inner_more : (n u m : ℕ) → 0 < n → n ≤ 64 → 2 * u ≤ 2 ^ (64 - n) → m ≤ 2 * u - 1 → m < inner_unit u
-unfolding inner_unit if◌then◌else◌
+unfolding inner_unit if◌then◌otherwise◌
 inner_more n u m a b l f = go (eqb u 0) refl
   where
-    go : (t : Bool) → eqb u 0 ≡ t → m < (if t then (λ _. 1) else λ _. 2 * u % 2 ^ 64)
+    go : (t : Bool) → eqb u 0 ≡ t → m < (if t then (λ _. 1) otherwise λ _. 2 * u % 2 ^ 64)
     go true e = let q : u ≡ 0 = eqb-true u 0 e in omega arith
     go false e =
         let d : u ≢ 0 = eqb-false u 0 e in

@@ -11,7 +11,7 @@ use mathlib.Core.Option.{Option, none, some}
 use lib.ListN.{get_or, length}
 use lib.Dec.{eqb}
 use borrow.Author.Tests.{eqb-true, eqb-false, eq-eqb, ne_eqb}
-use Rattle.meaning.specs.Basics.{bytes, if◌then◌else◌, same_text}
+use Rattle.meaning.specs.Basics.{bytes, if◌then◌otherwise◌, same_text}
 use Rattle.meaning.specs.Token.{Token, a_name}
 use Rattle.meaning.specs.Tree.{Procedure, Program}
 use Rattle.meaning.specs.Grammar.{well_formed, reading, procedure_named}
@@ -303,7 +303,7 @@ module _ (e : Setting) {ts : List Token} (sane : Sane ts) (strings : Strings e.p
 
   -- ---- all calls
   pub calls_follow : (n : ℕ) → Calls n
-  unfolding calling found call_library if◌then◌else◌ Run.fail
+  unfolding calling found call_library if◌then◌otherwise◌ Run.fail
   calls_follow zero w c room some-call balance fuel deep = record { follows = λ x o own p h₁ args un fewer held. absurd (omega arith) }
   calls_follow (suc n) w c room some-call balance fuel deep = record {
     follows = λ x o own p h₁ args un fewer held.

@@ -4,7 +4,7 @@ use native.Mathlib.Omega.{arith}
 use mathlib.Core.Path.{◌≡◌, ap, sym, ◌∙◌, subst}
 use mathlib.Core.List.{List, [], ◌∷◌}
 use lib.ListN.{get_or, length, take, drop, get_or-map}
-use Rattle.meaning.specs.Basics.{if◌then◌else◌}
+use Rattle.meaning.specs.Basics.{if◌then◌otherwise◌}
 use Rattle.meaning.specs.Token.{Token, a_string, found, front, lexed, tokens_of}
 use Rattle.meaning.specs.Grammar.{after_last, kind_at, text_at, start_at}
 use Rattle.tokens.specs.Words.{size_of, word_of, text_in, token_in}
@@ -100,7 +100,7 @@ module _ (program : List ℕ) (ts : List Token) (short : length program ≤ 3276
     }
 
     handle_text : (texts : List ℕ) → text_of program texts (2 * part_of ts t) ≡ t
-    unfolding text_of part if◌then◌else◌
+    unfolding text_of part if◌then◌otherwise◌
     handle_text texts = rw (even, start_is, size_is) from_start
 
   pub strings_stand : Strings program ts

@@ -10,7 +10,7 @@ use lib.ListN.{get_or, set}
 use lib.Seq.{get_or-set_same, get_or-set_other}
 use lib.Dec.{ltb}
 use borrow.Author.Tests.{ltb-true, ltb-false}
-use Rattle.meaning.specs.Basics.{if◌then◌else◌}
+use Rattle.meaning.specs.Basics.{if◌then◌otherwise◌}
 use Rattle.meaning.specs.Token.{Token}
 use Rattle.meaning.specs.Figure as Meaning
 use Rattle.meaning.specs.State.{State, atom, group, by_content}
@@ -215,7 +215,7 @@ module _ (program : List ℕ) (ts : List Token) (g : List ℕ) {granted : Amount
 
     at_figure : (b c d : ℕ) {r : Raw} {s : State} {total : Amounts} (h : Here r s total) → Room r → (l : c < get_or r.words shapes_used 0) → is_group_at r.words c ≡ false
         → Follows granted total (λ _ js r' s' total'. Leads d r js r' s' total') (remake_reached g p f c r) (visit' (suc b) c s)
-    unfolding remake_reached remade by_content if◌then◌else◌ Room Act.◌>>=◌ Act.go_on Act.held Act.give Run.◌>>=◌ Run.go_on Run.current Run.give shortage_of
+    unfolding remake_reached remade by_content if◌then◌otherwise◌ Room Act.◌>>=◌ Act.go_on Act.held Act.give Run.◌>>=◌ Run.go_on Run.current Run.give shortage_of
     at_figure b c d {r} {s} {total} h w l n =
         subst (λ (m : Run (List ℕ)). Follows granted total (λ _ js r' s' total'. Leads d r js r' s' total') (remake_reached g p f c r) m)
         (sym (run_assoc (Run.count p s).takings (Run.count p s).end (λ _. remade (suc b) p f' c) (λ j. Run.give (j ∷ []))))
@@ -248,7 +248,7 @@ module _ (program : List ℕ) (ts : List Token) (g : List ℕ) {granted : Amount
     -- a group reached counts its step
     enters : (c d : ℕ) {r : Raw} {s : State} {total : Amounts} (h : Here r s total) → c < get_or r.words shapes_used 0 → is_group_at r.words c ≡ true
         → Follows granted total (λ _ _ r' s' total'. Leads d r [] r' s' total') (remake_reached g p f c r) (Run.count p s)
-    unfolding remake_reached if◌then◌else◌ listed Act.◌>>=◌ Act.go_on Act.held Act.give shortage_of
+    unfolding remake_reached if◌then◌otherwise◌ listed Act.◌>>=◌ Act.go_on Act.held Act.give shortage_of
     enters c d {r} {s} {total} h l e =
         act_after {R = λ _ _ r' s' total'. Counted r r' s' total'} _ (λ a b r' s' total' q. record {
           result = tt;
@@ -412,7 +412,7 @@ module _ (program : List ℕ) (ts : List Token) (g : List ℕ) {granted : Amount
           none_wait (groups x.after.related x.acc less₂)))
 
       pub remakes : Makes (remake g p f i r) (remade (suc i) p f' i s)
-      unfolding remake remade by_content if◌then◌else◌ Act.◌>>=◌ Act.go_on Act.held Run.◌>>=◌ Run.go_on Run.current
+      unfolding remake remade by_content if◌then◌otherwise◌ Act.◌>>=◌ Act.go_on Act.held Run.◌>>=◌ Run.go_on Run.current
       remakes = go (is_group_at r.words i) refl
         where
           go : (t : Bool) → is_group_at r.words i ≡ t → Makes (remake g p f i r) (remade (suc i) p f' i s)

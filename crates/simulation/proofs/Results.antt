@@ -8,7 +8,7 @@ use mathlib.Core.List.{List, [], ◌∷◌}
 use lib.ListN.{get_or, set}
 use lib.Dec.{leb}
 use borrow.Author.Tests.{leb-true}
-use Rattle.meaning.specs.Basics.{if◌then◌else◌}
+use Rattle.meaning.specs.Basics.{if◌then◌otherwise◌}
 use Rattle.meaning.specs.Token.{Token}
 use Rattle.meaning.specs.Value as Value
 use Rattle.meaning.specs.State.{State}
@@ -184,7 +184,7 @@ module _ {granted total : Amounts} (resource : Resource) (counter limit amount n
   pub spent : (get_or r.words counter steps_used + amount ≤ limit
       → R tt tt (raw r.texts (set r.words counter (get_or r.words counter steps_used + amount))) s (added total (due resource amount p)))
       → Follows granted total R (Act.spend counter limit amount number p r) (Run.spend resource amount p s)
-  unfolding Act.spend Run.spend if◌then◌else◌ book fits
+  unfolding Act.spend Run.spend if◌then◌otherwise◌ book fits
   spent f = go (leb (get_or r.words counter steps_used + amount) limit) refl
     where
       same : leb (total resource + amount) (granted resource) ≡ leb (get_or r.words counter steps_used + amount) limit
@@ -192,7 +192,7 @@ module _ {granted total : Amounts} (resource : Resource) (counter limit amount n
 
       go : (b : Bool) → leb (get_or r.words counter steps_used + amount) limit ≡ b
           → Follows granted total R
-          (if b then (λ _. done tt (raw r.texts (set r.words counter (get_or r.words counter steps_used + amount)))) else λ _. stop number p r)
+          (if b then (λ _. done tt (raw r.texts (set r.words counter (get_or r.words counter steps_used + amount)))) otherwise λ _. stop number p r)
           (Run.spend resource amount p s)
       go true e = record { is = gives {us = taken (due resource amount p) ∷ []} (added total (due resource amount p)) (rw (same, e)) (f (leb-true _ _ e)) }
       go false e = record { is = lacks {us = taken (due resource amount p) ∷ []} (due resource amount p) total (rw (same, e)) name refl told }

@@ -9,7 +9,7 @@ use mathlib.Core.Option.{some}
 use lib.ListN.{length, get_or, length-append, get_or-append}
 use lib.Dec.{eqb}
 use borrow.Author.Tests.{eqb-true, eqb-false, eq-eqb, ne_eqb}
-use Rattle.meaning.specs.Basics.{if◌then◌else◌, same_text}
+use Rattle.meaning.specs.Basics.{if◌then◌otherwise◌, same_text}
 use Rattle.meaning.specs.Tree.{Procedure}
 use Rattle.meaning.specs.Procedure.{is_among, any_twice}
 use Rattle.meaning.specs.Procedure as Meaning
@@ -50,11 +50,11 @@ module _ (x : List ℕ) where
 module _ (x : List ℕ) (l : List (List ℕ)) where
   -- ---- one name more
   with_known : is_among x l ≡ true → with_name l x ≡ l
-  unfolding with_name if◌then◌else◌
+  unfolding with_name if◌then◌otherwise◌
   with_known e = rw e
 
   with_new : is_among x l ≡ false → with_name l x ≡ l ++ (x ∷ [])
-  unfolding with_name if◌then◌else◌
+  unfolding with_name if◌then◌otherwise◌
   with_new e = rw e
 
   with_long : length (with_name l x) ≤ suc (length l)
@@ -238,7 +238,7 @@ module _ (f : Procedure) where
 
   -- ---- its frame: none if two parameters have one name
   pub size_twice : any_twice f.parameters ≡ true → frame_size f ≡ 0
-  unfolding frame_size if◌then◌else◌
+  unfolding frame_size if◌then◌otherwise◌
   size_twice e =
       let l = clash_some f.parameters [] (twice_is f.parameters ∙ e) in
       let d : length (with_names [] f.parameters) ≢ length f.parameters = λ q. omega arith in
@@ -249,7 +249,7 @@ module _ (f : Procedure) where
     taken = clash_none f.parameters [] (twice_is f.parameters ∙ e)
 
     pub size_once : frame_size f ≡ suc (length (variables_in f))
-    unfolding frame_size if◌then◌else◌
+    unfolding frame_size if◌then◌otherwise◌
     size_once = rw (taken, eq-eqb (length f.parameters) (length f.parameters) refl)
 
     -- parameters come first

@@ -8,7 +8,7 @@ use mathlib.Core.List.{List, [], ◌∷◌}
 use lib.ListN.{get_or, set}
 use lib.Dec.{eqb}
 use borrow.Author.Tests.{ne_eqb}
-use Rattle.meaning.specs.Basics.{if◌then◌else◌}
+use Rattle.meaning.specs.Basics.{if◌then◌otherwise◌}
 use Rattle.meaning.specs.Token.{Token}
 use Rattle.meaning.specs.State.{State}
 use Rattle.meaning.specs.Run as Run
@@ -259,12 +259,12 @@ module _ (program : List ℕ) (ts : List Token) (g : List ℕ) (body : ℕ → R
 
       -- behind the look into a group
       abbrev resumed : ℕ → Act ℕ
-      resumed x = Act.◌>>=◌ Act.held (λ ws'. if eqb x 0 then (λ _. Act.◌>>◌ (Act.◌>>◌ (unmark g k) (hollow (component_at g ws' k))) (look_from (under bound d) g d (k + 1) n)) else λ _. Act.give x)
+      resumed x = Act.◌>>=◌ Act.held (λ ws'. if eqb x 0 then (λ _. Act.◌>>◌ (Act.◌>>◌ (unmark g k) (hollow (component_at g ws' k))) (look_from (under bound d) g d (k + 1) n)) otherwise λ _. Act.give x)
 
       module _ (living : destroyed_at r.words c ≡ false) (grouped : is_group_at r.words c ≡ true) where
         no_more : (left' : Run.Action Flow) (r₃ : Raw) (a : Leads r r₃) → left_at r ways b k (suc n) s ≡ left' s → None program ts g body around unit end r₃ s left' (here ∷ ways)
             → BareFrom g r₃.words (first_at r.words c) (count_at r.words c) → Searched k (suc n) r (left_at r ways b k (suc n)) ways (resumed 0 r₃)
-        unfolding Act.◌>>=◌ Act.go_on Act.held if◌then◌else◌ Bare
+        unfolding Act.◌>>=◌ Act.go_on Act.held if◌then◌otherwise◌ Bare
         no_more left' r₃ a e f bare =
             let y₃ = ready_later y a (here ∷ ways) way_down f.path in
             let l₃ = le_trans made a.later.shapes in
@@ -286,7 +286,7 @@ module _ (program : List ℕ) (ts : List Token) (g : List ℕ) (body : ℕ → R
 
         back : (left' : Run.Action Flow) (x : ℕ) (r₃ : Raw) → Leads r r₃ → left_at r ways b k (suc n) s ≡ left' s → Outcome program ts g body around unit end r₃ s left' (here ∷ ways) x
             → (x ≡ 0 → BareFrom g r₃.words (first_at r.words c) (count_at r.words c)) → Searched k (suc n) r (left_at r ways b k (suc n)) ways (resumed x r₃)
-        unfolding Act.◌>>=◌ Act.go_on Act.held Act.give if◌then◌else◌
+        unfolding Act.◌>>=◌ Act.go_on Act.held Act.give if◌then◌otherwise◌
         back left' _ r₃ a e (found at up f) bare =
             rw (ne_eqb (at.slot + 1) 0 (λ z. omega arith)) (record {
               sought = record { result = at.slot + 1; slices = r₃; is = refl; after = a; outcome = outcome_from e (found at up f) };
@@ -312,7 +312,7 @@ module _ (program : List ℕ) (ts : List Token) (g : List ℕ) (body : ℕ → R
             (back _ x.sought.result x.sought.slices (but_trans a x.sought.after) e x.sought.outcome x.bare)
 
       first_done : Searched k (suc n) r (left_at r ways b k (suc n)) ways (look_from (under bound d) g d k (suc n) r)
-      unfolding look_from Act.◌>>=◌ Act.go_on Act.held Act.give if◌then◌else◌ Bare
+      unfolding look_from Act.◌>>=◌ Act.go_on Act.held Act.give if◌then◌otherwise◌ Bare
       first_done = go (destroyed_at r.words c) refl (is_group_at r.words c) refl (hollow_at r.words c) refl
         where
           go : (x : Bool) → destroyed_at r.words c ≡ x → (t : Bool) → is_group_at r.words c ≡ t → (w : Bool) → hollow_at r.words c ≡ w

@@ -7,7 +7,7 @@ use mathlib.Core.Bool.{Bool, true, false}
 use mathlib.Core.List.{List}
 use lib.ListN.{get_or, set, length}
 use borrow.Author.Tests.{ne_eqb}
-use Rattle.meaning.specs.Basics.{if◌then◌else◌}
+use Rattle.meaning.specs.Basics.{if◌then◌otherwise◌}
 use Rattle.meaning.specs.Token.{Token}
 use Rattle.meaning.specs.Figure as Meaning
 use Rattle.meaning.specs.Value as Value
@@ -126,7 +126,7 @@ module _ {program : List ℕ} {ts : List Token} {g : List ℕ} {r : Raw} {s : St
   }
 
   figure_content_lem : content_at program g (raw r.texts ws') m ≡ atom (meant_figure program r.texts f)
-  unfolding content_at if◌then◌else◌
+  unfolding content_at if◌then◌otherwise◌
   figure_content_lem = rw (no_group, newest)
 
   made_after : (a : Meaning.Figure) (p : ℕ) → a ≡ meant_figure program r.texts f

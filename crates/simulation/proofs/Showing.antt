@@ -6,7 +6,7 @@ use mathlib.Core.Path.{◌≡◌, refl, ap, sym, ◌∙◌, subst}
 use mathlib.Core.Bool.{Bool, true, false}
 use mathlib.Core.List.{List, [], ◌∷◌, ◌++◌}
 use lib.ListN.{get_or, set, length, length-append}
-use Rattle.meaning.specs.Basics.{if◌then◌else◌}
+use Rattle.meaning.specs.Basics.{if◌then◌otherwise◌}
 use Rattle.meaning.specs.Token.{Token}
 use Rattle.meaning.specs.Figure as Meaning
 use Rattle.meaning.specs.State.{State, by_content, shapes_held}
@@ -138,7 +138,7 @@ module _ (program : List ℕ) (ts : List Token) (g : List ℕ) {granted : Amount
 
     at_figure : (b c d : ℕ) {r : Raw} {s : State} {total : Amounts} (h : Here r s total) → c < get_or r.words shapes_used 0 → is_group_at r.words c ≡ false
         → Follows granted total (λ _ xs r' s' total'. Leads d r xs r' s' total') (show_reached size g c r) (visit' (suc b) c s)
-    unfolding show_reached measure figures_of by_content if◌then◌else◌ Act.◌>>=◌ Act.go_on Act.held Act.store Run.◌>>=◌ Run.go_on Run.current Run.give shortage_of
+    unfolding show_reached measure figures_of by_content if◌then◌otherwise◌ Act.◌>>=◌ Act.go_on Act.held Act.store Run.◌>>=◌ Run.go_on Run.current Run.give shortage_of
     at_figure b c d {r} {s} h l n =
         spent_then Run.steps steps_used (steps_granted g) 1 79 0 r s h.steps_taken gr.steps refl (steps_told h) _ _
         (λ fit.
@@ -156,7 +156,7 @@ module _ (program : List ℕ) (ts : List Token) (g : List ℕ) {granted : Amount
 
     enters : (c d : ℕ) {r : Raw} {s : State} {total : Amounts} (h : Here r s total) (l : c < get_or r.words shapes_used 0) → is_group_at r.words c ≡ true
         → Follows granted total (λ _ _ r' s' total'. Leads d r [] r' s' total') (show_reached size g c r) (Run.count 0 s)
-    unfolding show_reached if◌then◌else◌ Act.◌>>=◌ Act.go_on Act.held Act.give shortage_of
+    unfolding show_reached if◌then◌otherwise◌ Act.◌>>=◌ Act.go_on Act.held Act.give shortage_of
     enters c d {r} {s} {total} h l e =
         act_after {R = λ _ _ r' s' total'. Leads d r [] r' s' total'} _ (λ a b r' s' total' q. record {
           result = tt;
@@ -188,11 +188,11 @@ module _ (program : List ℕ) (ts : List Token) (g : List ℕ) {granted : Amount
 
     -- a shape that is not destroyed
     abbrev shown : ℕ → Act (Unit {0})
-    shown i = Act.◌>>=◌ Act.held (λ ws. if is_group_at ws i then (λ _. walk_in (show_reached size g) (λ d. Act.give tt) (shapes_granted g) g 0 i) else λ _. measure size i)
+    shown i = Act.◌>>=◌ Act.held (λ ws. if is_group_at ws i then (λ _. walk_in (show_reached size g) (λ d. Act.give tt) (shapes_granted g) g 0 i) otherwise λ _. measure size i)
 
     shows : {r : Raw} {s : State} {total : Amounts} (h : Here r s total) (i : ℕ) → i < get_or r.words shapes_used 0
         → Follows granted total (λ _ xs r' s' total'. Leads 0 r xs r' s' total') (shown i r) (figures_of (suc i) 0 i s)
-    unfolding figures_of by_content measure if◌then◌else◌ Any Act.◌>>=◌ Act.go_on Act.held Act.store Run.◌>>=◌ Run.go_on Run.current Run.give
+    unfolding figures_of by_content measure if◌then◌otherwise◌ Any Act.◌>>=◌ Act.go_on Act.held Act.store Run.◌>>=◌ Run.go_on Run.current Run.give
     shows {r} {s} {total} h i l = go (is_group_at r.words i) refl
       where
         go : (t : Bool) → is_group_at r.words i ≡ t → Follows granted total (λ _ xs r' s' total'. Leads 0 r xs r' s' total') (shown i r) (figures_of (suc i) 0 i s)
@@ -207,12 +207,12 @@ module _ (program : List ℕ) (ts : List Token) (g : List ℕ) {granted : Amount
 
     -- ---- of all of main's variables
     at_once : (i : ℕ) (r : Raw) → show size g i r ≡ living shown i r
-    unfolding show living if◌then◌else◌ Act.◌>>=◌ Act.go_on Act.held
+    unfolding show living if◌then◌otherwise◌ Act.◌>>=◌ Act.go_on Act.held
     at_once i r = go (destroyed_at r.words i)
       where
-        go : (b : Bool) → (if b then (λ _. Act.give tt) else λ _. if is_group_at r.words i then (λ _. walk_in (show_reached size g) (λ d. Act.give tt)
-            (shapes_granted g) g 0 i) else λ _. measure size i) r
-            ≡ (if b then (λ _. Act.give tt) else λ _. shown i) r
+        go : (b : Bool) → (if b then (λ _. Act.give tt) otherwise λ _. if is_group_at r.words i then (λ _. walk_in (show_reached size g) (λ d. Act.give tt)
+            (shapes_granted g) g 0 i) otherwise λ _. measure size i) r
+            ≡ (if b then (λ _. Act.give tt) otherwise λ _. shown i) r
         go true = refl
         go false = refl
 

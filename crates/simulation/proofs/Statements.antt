@@ -9,7 +9,7 @@ use mathlib.Core.Option.{some}
 use mathlib.Core.Option as Option
 use lib.ListN.{get_or, length, length-append}
 use borrow.Author.Tests.{lt-ltb, le-ltb}
-use Rattle.meaning.specs.Basics.{if◌then◌else◌}
+use Rattle.meaning.specs.Basics.{if◌then◌otherwise◌}
 use Rattle.meaning.specs.Token.{Token}
 use Rattle.meaning.specs.Tree.{Expression, Statement, declare, assign, update, when, while, foreach, return, block, act, Statements, only, first, Procedure}
 use Rattle.meaning.specs.Grammar.{procedure_named}
@@ -160,10 +160,10 @@ module _ (e : Setting) {ts : List Token} (sane : Sane ts) (strings : Strings e.p
         → AfterStep e.program ts e.grants r₀ r s total → Under e.grants w c limit r₀ → get_or r₀.words arguments_held 0 ≡ base → Room n r₀
         → Follows granted total (Turns e.program ts e.grants r₀)
         (Act.◌>>=◌ (expression_at fuel e at p) (λ v. with_boolean p v λ b.
-        if b then (λ _. Act.◌>>=◌ body (λ f. continue f (looping turns (expression_at fuel e) e at p body))) else λ _. Act.give Onward) r)
+        if b then (λ _. Act.◌>>=◌ body (λ f. continue f (looping turns (expression_at fuel e) e at p body))) otherwise λ _. Act.give Onward) r)
         (Run.◌>>=◌ (evaluate (calling limit fs) x p)
-        (λ v. Operator.with_boolean p v λ b. if b then (λ _. Run.◌>>=◌ body' (λ f. Execute.continue f (Execute.looping m p (evaluate (calling limit fs) x p) body'))) else λ _. Run.give onward) s)
-    unfolding Act.◌>>=◌ Run.◌>>=◌ if◌then◌else◌ Act.give Run.give
+        (λ v. Operator.with_boolean p v λ b. if b then (λ _. Run.◌>>=◌ body' (λ f. Execute.continue f (Execute.looping m p (evaluate (calling limit fs) x p) body'))) otherwise λ _. Run.give onward) s)
+    unfolding Act.◌>>=◌ Run.◌>>=◌ if◌then◌otherwise◌ Act.give Run.give
     turn turns m r₀ r s total again b un z low =
         turned b
         (bind (valued x known fuel a at p deep st q b.after.related (stays b.after un) (b.after.held ∙ z) short) (λ v u r₁ s₁ total₁ d.
@@ -171,8 +171,8 @@ module _ (e : Setting) {ts : List Token} (sane : Sane ts) (strings : Strings e.p
       where
         branch : (t : Bool) (r₁ : Raw) (s₁ : State) (total₁ : Amounts) → After e.program ts e.grants r r₁ s₁ total₁
             → Follows granted total₁ (Flows e.program ts e.grants r)
-            ((if t then (λ _. Act.◌>>=◌ body (λ f. continue f (looping turns (expression_at fuel e) e at p body))) else λ _. Act.give Onward) r₁)
-            ((if t then (λ _. Run.◌>>=◌ body' (λ f. Execute.continue f (Execute.looping m p (evaluate (calling limit fs) x p) body'))) else λ _. Run.give onward) s₁)
+            ((if t then (λ _. Act.◌>>=◌ body (λ f. continue f (looping turns (expression_at fuel e) e at p body))) otherwise λ _. Act.give Onward) r₁)
+            ((if t then (λ _. Run.◌>>=◌ body' (λ f. Execute.continue f (Execute.looping m p (evaluate (calling limit fs) x p) body'))) otherwise λ _. Run.give onward) s₁)
         branch true r₁ s₁ total₁ d =
             bind (does r₁ s₁ total₁ d.related (stays d (stays b.after un)) (d.held ∙ b.after.held ∙ z) (room_stays d (room_stays b.after low))) (λ f f' r₂ s₂ total₂ w.
             let g = w.ends in
@@ -185,9 +185,9 @@ module _ (e : Setting) {ts : List Token} (sane : Sane ts) (strings : Strings e.p
 
     by_turn : (turns : ℕ) → looping (suc turns) (expression_at fuel e) e at p body
         ≡ Act.◌>>◌ (Act.count e.grants p) (Act.◌>>=◌ (expression_at fuel e at p) (λ v. with_boolean p v λ b.
-        if b then (λ _. Act.◌>>=◌ body (λ f. continue f (looping turns (expression_at fuel e) e at p body))) else λ _. Act.give Onward))
+        if b then (λ _. Act.◌>>=◌ body (λ f. continue f (looping turns (expression_at fuel e) e at p body))) otherwise λ _. Act.give Onward))
     unfolding looping
-    by_turn turns = turning_then (expression_at fuel e) e at p (λ b. if b then (λ _. Act.◌>>=◌ body (λ f. continue f (looping turns (expression_at fuel e) e at p body))) else λ _. Act.give Onward)
+    by_turn turns = turning_then (expression_at fuel e) e at p (λ b. if b then (λ _. Act.◌>>=◌ body (λ f. continue f (looping turns (expression_at fuel e) e at p body))) otherwise λ _. Act.give Onward)
 
     loops : (m turns : ℕ) (r : Raw) (s : State) (total : Amounts) → Here r s total → Under e.grants w c limit r → get_or r.words arguments_held 0 ≡ base → Room n r
         → steps_left e.grants r < m → steps_left e.grants r < turns
@@ -261,7 +261,7 @@ module _ (e : Setting) {ts : List Token} (sane : Sane ts) (strings : Strings e.p
 
     when_does : {n : ℕ} (p : ℕ) (y : Expression) (d : Statement) → Placed ts p → Known y ts → Fits (length (code_in y) + length (statement_in d)) → length (code_in y) + reserve ≤ fuel
         → Stands e.code at (statement_in (when p y d)) → Does n d fuel (at + length (code_in y) + 1) → Does n (when p y d) (suc fuel) at
-    unfolding statement_with execute statement_at Act.◌>>=◌ Run.◌>>=◌ if◌then◌else◌ Act.give Run.give
+    unfolding statement_with execute statement_at Act.◌>>=◌ Run.◌>>=◌ if◌then◌otherwise◌ Act.give Run.give
     when_does {n} p y d pl k short deep st inner r s total h un z low =
         let rest = stands_rest st in
         let size : length (code_in y ++ statement_in d) ≡ length (code_in y) + length (statement_in d) = length-append (code_in y) (statement_in d) in
@@ -274,8 +274,8 @@ module _ (e : Setting) {ts : List Token} (sane : Sane ts) (strings : Strings e.p
         branch t r₂ s₂ total₂ b.after.related (stays b.after (stays a.after un)) (b.after.held ∙ a.after.held ∙ z)
         (room_stays b.after (room_stays a.after low)))))))))
       where
-        branch : (t : Bool) → Ends n (if t then (λ _. statement_at fuel e (at + length (code_in y) + 1)) else λ _. Act.give Onward)
-            (if t then (λ _. execute (calling limit fs) d limit) else λ _. Run.give onward)
+        branch : (t : Bool) → Ends n (if t then (λ _. statement_at fuel e (at + length (code_in y) + 1)) otherwise λ _. Act.give Onward)
+            (if t then (λ _. execute (calling limit fs) d limit) otherwise λ _. Run.give onward)
         branch true = λ r s total h un z low. ended (inner r s total h un z low)
         branch false = λ r s total h un z low. given (record { after = unmoved h; flow = both_onward })
 
@@ -363,13 +363,13 @@ module _ (e : Setting) {ts : List Token} (sane : Sane ts) (strings : Strings e.p
       (told (stands_first (subst (Stands e.code a) c.whole st)) c.small (omega (arith, enough))).size_is
 
   none_left : (fuel rounds end : ℕ) → statements_from rounds (statement_at fuel e) e end end ≡ Act.give Onward
-  unfolding statements_from if◌then◌else◌
+  unfolding statements_from if◌then◌otherwise◌
   none_left fuel zero end = refl
   none_left fuel (suc rounds) end = rw (le-ltb end end (omega arith))
 
   by_first : (fuel rounds a end size : ℕ) → size_at e.code a ≡ size → a < end → statements_from (suc rounds) (statement_at fuel e) e a end
       ≡ Act.◌>>=◌ (statement_at fuel e a) (λ f. continue f (statements_from rounds (statement_at fuel e) e (a + size) end))
-  unfolding statements_from if◌then◌else◌
+  unfolding statements_from if◌then◌otherwise◌
   by_first fuel rounds a end size x l = rw (lt-ltb a end l, x)
 
   only_does : {n : ℕ} (d : Statement) (fuel rounds a end : ℕ) → Stands e.code a (statement_in d) → Fits (length (statement_in d))

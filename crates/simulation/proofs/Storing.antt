@@ -12,7 +12,7 @@ use lib.ListN.{get_or, set, length, length-set}
 use lib.Seq.{get_or-set_same, get_or-set_other}
 use lib.Dec.{eqb}
 use borrow.Author.Tests.{eqb-true, eqb-false, eq-eqb}
-use Rattle.meaning.specs.Basics.{if◌then◌else◌}
+use Rattle.meaning.specs.Basics.{if◌then◌otherwise◌}
 use Rattle.meaning.specs.Token.{Token}
 use Rattle.meaning.proofs.KeyLaws.{same_key_same}
 use Rattle.meaning.specs.Value as Value
@@ -394,7 +394,7 @@ module _ {program : List ℕ} {ts : List Token} {g : List ℕ} {r : Raw} {s : St
 
     pub stores_key : Stores (store_in program g t (packed v) (packed w) p (find_entry program g r.texts r.words t (packed v)) r)
         (storing p t key (meant_value program r.texts w) (entry_in s.entries t key) s)
-    unfolding store_in if◌then◌else◌
+    unfolding store_in if◌then◌otherwise◌
     stores_key = go (eqb found 0) refl
       where
         go : (b : Bool) → eqb found 0 ≡ b

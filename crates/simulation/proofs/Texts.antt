@@ -7,7 +7,7 @@ use mathlib.Core.Bool.{Bool, true, false, cond}
 use mathlib.Core.List.{List, ◌++◌}
 use lib.ListN.{get_or, set, length, take, length-append}
 use lib.Dec.{eqb}
-use Rattle.meaning.specs.Basics.{if◌then◌else◌}
+use Rattle.meaning.specs.Basics.{if◌then◌otherwise◌}
 use Rattle.meaning.specs.Token.{Token}
 use Rattle.meaning.specs.Value as Value
 use Rattle.meaning.specs.State.{State}
@@ -33,22 +33,22 @@ use Rattle.simulation.proofs.Counting.{lent_set, other, here}
 module _ {program : List ℕ} {used h : ℕ} (v : Held program used h) where
   -- as long as it says, where the used part of the store is there
   pub text_long : (texts : List ℕ) → used ≤ length texts → length (text_of program texts h) ≡ size_in h
-  unfolding text_of if◌then◌else◌
+  unfolding text_of if◌then◌otherwise◌
   text_long texts l = go (eqb (origin_in h) 0) v.inside
     where
       go : (b : Bool) → start_in h + size_in h ≤ cond b (length program) used
-          → length (if b then (λ _. part (start_in h) (size_in h) program) else λ _. part (start_in h) (size_in h) texts) ≡ size_in h
+          → length (if b then (λ _. part (start_in h) (size_in h) program) otherwise λ _. part (start_in h) (size_in h) texts) ≡ size_in h
       go true e = length_part program (start_in h) (size_in h) (omega arith)
       go false e = length_part texts (start_in h) (size_in h) (omega arith)
 
   -- the used part of the store is enough
   pub text_used_lem : (texts : List ℕ) → text_of program (take used texts) h ≡ text_of program texts h
-  unfolding text_of if◌then◌else◌
+  unfolding text_of if◌then◌otherwise◌
   text_used_lem texts = go (eqb (origin_in h) 0) v.inside
     where
       go : (b : Bool) → start_in h + size_in h ≤ cond b (length program) used
-          → (if b then (λ _. part (start_in h) (size_in h) program) else λ _. part (start_in h) (size_in h) (take used texts))
-          ≡ (if b then (λ _. part (start_in h) (size_in h) program) else λ _. part (start_in h) (size_in h) texts)
+          → (if b then (λ _. part (start_in h) (size_in h) program) otherwise λ _. part (start_in h) (size_in h) (take used texts))
+          ≡ (if b then (λ _. part (start_in h) (size_in h) program) otherwise λ _. part (start_in h) (size_in h) texts)
       go true e = refl
       go false e = part_take used (start_in h) (size_in h) texts e
 
@@ -71,7 +71,7 @@ module _ (used n : ℕ) (l : used + n < 65536) where
   held_new program = record { small = omega arith; inside = rw (origin_new, start_new, size_new) (omega arith) }
 
   text_new : (program texts : List ℕ) → text_of program texts (handle 1 used n) ≡ part used n texts
-  unfolding text_of if◌then◌else◌
+  unfolding text_of if◌then◌otherwise◌
   text_new program texts = rw (origin_new, start_new, size_new)
 
 -- ---- two texts joined

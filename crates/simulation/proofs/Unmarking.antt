@@ -8,7 +8,7 @@ use mathlib.Core.List.{List}
 use lib.ListN.{get_or}
 use lib.Dec.{eqb}
 use borrow.Author.Tests.{eqb-true, eqb-false, le-leb, lt-leb}
-use Rattle.meaning.specs.Basics.{if◌then◌else◌}
+use Rattle.meaning.specs.Basics.{if◌then◌otherwise◌}
 use Rattle.meaning.specs.Token.{Token}
 use Rattle.meaning.specs.State.{State}
 use Rattle.meaning.specs.Book.{Amounts}
@@ -33,7 +33,7 @@ module _ (program : List ℕ) (ts : List Token) (g : List ℕ) (s : State) (tota
 
   pub clears : (n k : ℕ) (r : Raw) → Related program ts g r s total → 0 < get_or r.words calls_used 0 → get_or r.words loop_unit 0 ≡ unit → k + n ≤ get_or r.words components_made 0
       → ((j : ℕ) → k ≤ j → j < k + n → mark_at g r j ≡ around j + cond (on j) unit 0) → Cleared k n r (unmark_from g k n r)
-  unfolding unmark_from Act.◌>>=◌ Act.go_on Act.held Act.give if◌then◌else◌
+  unfolding unmark_from Act.◌>>=◌ Act.go_on Act.held Act.give if◌then◌otherwise◌
   clears zero k r h some u l m = record { slices = r; is = refl; after = but_after (unmoved h); clear = λ j x y. absurd (omega arith); before = λ j x. refl; behind = λ j x. refl }
   clears (suc n) k r h some u l m =
       go (on k) (m k (omega arith) (omega arith)) (λ r' h' c u' l' f. clears n (k + 1) r' h' c u' l' f)

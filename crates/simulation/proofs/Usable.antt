@@ -4,7 +4,7 @@ use mathlib.Core.Path.{◌≡◌, refl, ap, sym, ◌∙◌}
 use mathlib.Core.List.{List}
 use lib.ListN.{get_or}
 use mathlib.Core.Bool.{true, false}
-use Rattle.meaning.specs.Basics.{if◌then◌else◌}
+use Rattle.meaning.specs.Basics.{if◌then◌otherwise◌}
 use Rattle.meaning.specs.Token.{Token}
 use Rattle.meaning.specs.Value as Value
 use Rattle.meaning.specs.State.{State, atom, group, no_shape, content_of, is_destroyed}
@@ -33,11 +33,11 @@ module _ {program : List ℕ} {ts : List Token} {g : List ℕ} {r : Raw} {s : St
   content_found i l = ap (λ (a : State.Shape). a.content) (shape_found i l)
 
   pub figure_found : (i : ℕ) → i < get_or r.words shapes_used 0 → is_group_at r.words i ≡ false → content_of s i ≡ atom (meant_figure program r.texts (figure_at r.words i))
-  unfolding content_at if◌then◌else◌
+  unfolding content_at if◌then◌otherwise◌
   figure_found i l n = content_found i l ∙ rw n
 
   pub group_found : (i : ℕ) → i < get_or r.words shapes_used 0 → is_group_at r.words i ≡ true → content_of s i ≡ group (components_of g r.words i)
-  unfolding content_at if◌then◌else◌
+  unfolding content_at if◌then◌otherwise◌
   group_found i l n = content_found i l ∙ rw n
 
   pub destroyed_found : (i : ℕ) → i < get_or r.words shapes_used 0 → is_destroyed s i ≡ destroyed_at r.words i

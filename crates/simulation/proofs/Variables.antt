@@ -10,7 +10,7 @@ use mathlib.Core.Option as Option
 use lib.ListN.{get_or, length}
 use lib.Dec.{eqb}
 use borrow.Author.Tests.{eqb-true, eqb-false}
-use Rattle.meaning.specs.Basics.{if◌then◌else◌, same_text}
+use Rattle.meaning.specs.Basics.{if◌then◌otherwise◌, same_text}
 use Rattle.meaning.specs.Token.{Token}
 use Rattle.meaning.specs.Value as Value
 use Rattle.meaning.specs.State.{State, Variable, value_in}
@@ -36,13 +36,13 @@ use Rattle.simulation.proofs.Naming.{apart_text, scope_once}
 -- ---- looking up
 module _ (f : ℕ → Variable) (x : List ℕ) where
   pub none_found : (k n : ℕ) → ((j : ℕ) → k ≤ j → j < k + n → same_text (f j).name x ≡ false) → value_in (listed f k n) x ≡ Option.none
-  unfolding listed value_in if◌then◌else◌
+  unfolding listed value_in if◌then◌otherwise◌
   none_found k zero h = refl
   none_found k (suc n) h = rw (h k (omega arith) (omega arith)) (none_found (suc k) n (λ j a b. h j (omega arith) (omega arith)))
 
   pub one_found : (u : Value.Value) (k n : ℕ) → ((j : ℕ) → k ≤ j → j < k + n → same_text (f j).name x ≡ true → (f j).holds ≡ u)
       → (i : ℕ) → k ≤ i → i < k + n → same_text (f i).name x ≡ true → value_in (listed f k n) x ≡ some u
-  unfolding listed value_in if◌then◌else◌
+  unfolding listed value_in if◌then◌otherwise◌
   one_found u k zero h i a b e = absurd (omega arith)
   one_found u k (suc n) h i a b e = go (same_text (f k).name x) refl (λ q. one_found u (suc k) n (λ j y z. h j (omega arith) (omega arith)) i (behind q) (omega arith) e)
     where
@@ -50,7 +50,7 @@ module _ (f : ℕ → Variable) (x : List ℕ) where
       behind q = let n : k ≢ i = λ z. let w : true ≡ false = sym e ∙ ap (λ j. same_text (f j).name x) (sym z) ∙ q in let y : ◌≡◌ {A = ℕ} 0 1 = cc in omega arith in omega arith
 
       go : (b : Bool) → same_text (f k).name x ≡ b → (same_text (f k).name x ≡ false → value_in (listed f (suc k) n) x ≡ some u)
-          → (if b then (λ _. some (f k).holds) else λ _. value_in (listed f (suc k) n) x) ≡ some u
+          → (if b then (λ _. some (f k).holds) otherwise λ _. value_in (listed f (suc k) n) x) ≡ some u
       go true q r = ap some (h k (omega arith) (omega arith) q)
       go false q r = r q
 

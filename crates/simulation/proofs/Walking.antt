@@ -8,7 +8,7 @@ use mathlib.Core.Logic.{◌≢◌}
 use mathlib.Core.Bool.{Bool, true, false}
 use mathlib.Core.List.{List, [], ◌++◌}
 use lib.ListN.{get_or, set}
-use Rattle.meaning.specs.Basics.{if◌then◌else◌}
+use Rattle.meaning.specs.Basics.{if◌then◌otherwise◌}
 use Rattle.meaning.specs.Token.{Token}
 use Rattle.meaning.specs.State.{State, is_destroyed}
 use Rattle.meaning.specs.Run as Run
@@ -174,7 +174,7 @@ module _ (program : List ℕ) (ts : List Token) (g : List ℕ) (granted : Amount
     each_follows : (n k : ℕ) {r : Raw} {s : State} {total : Amounts} → Here r s total → Keep r → i ≤ get_or r.words shapes_used 0
         → k + n ≤ get_or r.words components_made 0 → ((j : ℕ) → k ≤ j → j < k + n → component_at g r.words j < i)
         → Follows granted total (Leads d r) (each_from visit g k n r) (each visit' (listed (component_at g r.words) k n) s)
-    unfolding if◌then◌else◌ each_from each listed Act.◌>>=◌ Act.go_on Act.held Act.give Run.◌>>=◌ Run.go_on Run.current Run.give
+    unfolding if◌then◌otherwise◌ each_from each listed Act.◌>>=◌ Act.go_on Act.held Act.give Run.◌>>=◌ Run.go_on Run.current Run.give
     each_follows zero k {r} h w l f o = given (record { after = unmoved h; ways = λ e x y. refl; acc = gathers.nil r })
     each_follows (suc n) k {r} {s} {total} h w l f o =
         let c = component_at g r.words k in
@@ -188,8 +188,8 @@ module _ (program : List ℕ) (ts : List Token) (g : List ℕ) (granted : Amount
         (λ j x y. rw (component_later a.after.later h.sound.shapes u j (omega arith)) (o j (omega arith) (omega arith))))))
       where
         one : (b b' : Bool) → b ≡ b'
-            → Follows granted total (Leads d r) ((if b then (λ _. Act.give tt) else λ _. visit k n (component_at g r.words k)) r)
-            ((if b' then (λ _. Run.give []) else λ _. visit' (component_at g r.words k)) s)
+            → Follows granted total (Leads d r) ((if b then (λ _. Act.give tt) otherwise λ _. visit k n (component_at g r.words k)) r)
+            ((if b' then (λ _. Run.give []) otherwise λ _. visit' (component_at g r.words k)) s)
         one true true e = given (record { after = unmoved h; ways = λ e x y. refl; acc = gathers.nil r })
         one true false e = let z : ◌≡◌ {A = ℕ} 0 1 = cc in absurd (omega arith)
         one false true e = let z : ◌≡◌ {A = ℕ} 0 1 = cc in absurd (omega arith)
@@ -213,7 +213,7 @@ module _ (program : List ℕ) (ts : List Token) (g : List ℕ) (granted : Amount
       (walks : Walks reach leave visit' enter' leave') where
     abbrev inner : ℕ → ℕ → ℕ → ℕ → ℕ → Act (Unit {0})
     inner b d k n c = Act.◌>>◌ (reach c) (Act.◌>>=◌ Act.held (λ ws'. if is_group_at ws' c then (λ _.
-        Act.◌>>=◌ (Act.load waiting_held) (λ m. Act.◌>>◌ (Act.store (way_place d) (way_word k n m)) (Act.◌>>◌ (walk_in reach leave b g (d + 1) c) (leave d)))) else λ _. Act.give tt))
+        Act.◌>>=◌ (Act.load waiting_held) (λ m. Act.◌>>◌ (Act.store (way_place d) (way_word k n m)) (Act.◌>>◌ (walk_in reach leave b g (d + 1) c) (leave d)))) otherwise λ _. Act.give tt))
 
     -- a group further down
     abbrev Deeper : ℕ → ℕ → ℕ → ℕ → Type 0
@@ -222,7 +222,7 @@ module _ (program : List ℕ) (ts : List Token) (g : List ℕ) (granted : Amount
 
     at_atom : (b b' d k n c : ℕ) {r : Raw} {s : State} {total : Amounts} → Here r s total → Keep r → c < get_or r.words shapes_used 0 → is_group_at r.words c ≡ false
         → Follows granted total (Leads d r) (inner b d k n c r) (visit' (suc b') c s)
-    unfolding Act.◌>>=◌ Act.go_on Act.held Act.give if◌then◌else◌
+    unfolding Act.◌>>=◌ Act.go_on Act.held Act.give if◌then◌otherwise◌
     at_atom b b' d k n c {r} h w l e =
         act_after {R = Leads d r} _ (λ a xs r' s' total' q. record { result = tt; slices = r'; is = rw (group_stays (q.after.later.figures c l) ∙ e); holds = q }) (walks.atoms b' c d h w l e)
 
@@ -231,7 +231,7 @@ module _ (program : List ℕ) (ts : List Token) (g : List ℕ) (granted : Amount
         → ((r : Raw) (s : State) (total : Amounts) → Here r s total → Keep r → c < get_or r.words shapes_used 0 → is_group_at r.words c ≡ true
         → Follows granted total (Leads (d + 1) r) (walk_in reach leave b g (d + 1) c r) (each (visit' b') (components_of g r.words c) s))
         → Follows granted total (Leads d r) (inner b d k n c r) (visit' (suc b') c s)
-    unfolding Act.◌>>=◌ Act.go_on Act.held Act.give Act.load Act.store Run.◌>>=◌ if◌then◌else◌
+    unfolding Act.◌>>=◌ Act.go_on Act.held Act.give Act.load Act.store Run.◌>>=◌ if◌then◌otherwise◌
     in_group b b' d k n c deep {r} {s} {total} h w l e again =
         rw (walks.splits b' c h l e)
         (bind (walks.enters c d h w l e) (λ _ _ r₁ s₁ total₁ q.

@@ -1,13 +1,13 @@
 -- The index of entries: what its words say.
 use Rattle.std.specs.Prelude.{ℕ, zero, suc, ◌≤◌, ◌<◌, ◌≡◌, Bool, List, get_or, eqb}
-use Rattle.meaning.specs.Basics.{if◌then◌else◌}
+use Rattle.meaning.specs.Basics.{if◌then◌otherwise◌}
 use Rattle.machine.specs.Layout.{entries_made, entries_granted}
 use Rattle.machine.specs.Tables.{owner_at, key_at, bucket_of, head_place, link_at}
 
 -- the place behind the last of n that meets a test; 0 if none does
 unfoldable pub last : (ℕ → Bool) → ℕ → ℕ
 last f zero = 0
-last f (suc k) = if f k then (λ _. suc k) else λ _. last f k
+last f (suc k) = if f k then (λ _. suc k) otherwise λ _. last f k
 
 -- whether an entry lies in a bucket
 unfoldable pub lies : List ℕ → List ℕ → List ℕ → List ℕ → ℕ → ℕ → Bool

@@ -2,7 +2,7 @@
 use Rattle.std.specs.Prelude.{ℕ, zero, suc, ◌+◌, ◌-◌, List, [], ◌∷◌, get_or, eqb}
 use Rattle.std.proofs.Math.Option.{Option, some}
 use Rattle.std.proofs.Math.Option as Option
-use Rattle.meaning.specs.Basics.{if◌then◌else◌}
+use Rattle.meaning.specs.Basics.{if◌then◌otherwise◌}
 use Rattle.meaning.specs.Token.{Token}
 use Rattle.meaning.specs.Figure.{line, ellipse, box, text}
 use Rattle.meaning.specs.Figure as Meaning
@@ -38,9 +38,9 @@ meant_word program r w = meant_value program r.texts (unpacked w)
 unfoldable pub meant_figure : List ℕ → List ℕ → Figure → Meaning.Figure
 meant_figure program texts f =
     if eqb f.kind 0 then (λ _. line f.a f.b f.c f.d)
-    else λ _. if eqb f.kind 1 then (λ _. ellipse f.a f.b f.c f.d)
-    else λ _. if eqb f.kind 2 then (λ _. box f.a f.b f.c f.d)
-    else λ _. text f.a f.b (text_of program texts f.text)
+    otherwise λ _. if eqb f.kind 1 then (λ _. ellipse f.a f.b f.c f.d)
+    otherwise λ _. if eqb f.kind 2 then (λ _. box f.a f.b f.c f.d)
+    otherwise λ _. text f.a f.b (text_of program texts f.text)
 
 -- ---- the state
 -- f k, f (k + 1) and so on, n of them
@@ -90,7 +90,7 @@ components_of g ws i = listed (component_at g ws) (first_at ws i) (count_at ws i
 
 unfoldable pub content_at : List ℕ → List ℕ → Raw → ℕ → Content
 content_at program g r i =
-    if is_group_at r.words i then (λ _. group (components_of g r.words i)) else λ _. atom (meant_figure program r.texts (figure_at r.words i))
+    if is_group_at r.words i then (λ _. group (components_of g r.words i)) otherwise λ _. atom (meant_figure program r.texts (figure_at r.words i))
 
 unfoldable pub shape_at : List ℕ → List ℕ → Raw → ℕ → State.Shape
 shape_at program g r i = record { content = content_at program g r i; destroyed = destroyed_at r.words i }

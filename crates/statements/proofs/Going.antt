@@ -6,7 +6,7 @@ use mathlib.Core.List.{List, ◌++◌, append_assoc}
 use native.Mathlib.Omega.{arith}
 use borrow.Author.Tests.{ne_eqb}
 use lib.ListN.{length, take, length-append}
-use Rattle.meaning.specs.Basics.{if◌then◌else◌}
+use Rattle.meaning.specs.Basics.{if◌then◌otherwise◌}
 use Rattle.meaning.specs.Token.{close_brace}
 use Rattle.meaning.specs.Grammar.{Got, good, wrong, after}
 use Rattle.expressions.specs.declared.Read.{Read}
@@ -21,7 +21,7 @@ use Rattle.statements.proofs.Written.{same_after}
 -- ---- rounds
 -- a statement, and what `rest` yields behind it
 abbrev turn : List ℕ → (ℕ → Got (List ℕ)) → List ℕ → ℕ → Got (List ℕ)
-turn ws rest s j = if is close_brace ws j then (λ _. good s (j + 1)) else λ _. after (rest j) λ ss m. good (s ++ ss) m
+turn ws rest s j = if is close_brace ws j then (λ _. good s (j + 1)) otherwise λ _. after (rest j) λ ss m. good (s ++ ss) m
 
 same_turn : (ws : List ℕ) (f h : ℕ → Got (List ℕ)) (s : List ℕ) (j : ℕ) → f j ≡ h j → turn ws f s j ≡ turn ws h s j
 same_turn ws f h s j q = rw q
@@ -94,7 +94,7 @@ module _ (left : ℕ) (ws : List ℕ) (i n : ℕ) (s₀ : List ℕ) (p m : ℕ) 
 
     module _ (kind : ℕ) (k : kind ≡ kind_at ws j) where
       pub going_on : (kind ≡ 125 → ⊥) → Going left ws i n s₀ j q s₁
-      unfolding after if◌then◌else◌
+      unfolding after if◌then◌otherwise◌
       going_on c =
           let w = wrote_code e (statement left ws p) m s s₁ j q t h u in
           let y = turned in
@@ -103,7 +103,7 @@ module _ (left : ℕ) (ws : List ℕ) (i n : ℕ) (s₀ : List ℕ) (p m : ℕ) 
           record { same = g.same ∙ r; ahead = omega (arith, g.ahead, y.ahead); space = y.space; kept = omega (arith, g.kept) }
 
       pub going_ends : kind ≡ 125 → seen (At (j + 1) q 0) s₁ ≡ written_code (statements (statement left ws) ws i) n s₀
-      unfolding after if◌then◌else◌ seen written_code
+      unfolding after if◌then◌otherwise◌ seen written_code
       going_ends c =
           let w = wrote_code e (statement left ws p) m s s₁ j q t h u in
           rw (g.same, rest_turns left ws p, w.read, ← k, c, ← w.up_to) (ap (at (j + 1) q 0) w.front)

@@ -9,7 +9,7 @@ use native.Mathlib.Omega.{arith}
 use borrow.Author.Tests.{ne_eqb}
 use lib.Dec.{eqb, leb}
 use lib.ListN.{length, set}
-use Rattle.meaning.specs.Basics.{if◌then◌else◌}
+use Rattle.meaning.specs.Basics.{if◌then◌otherwise◌}
 use Rattle.meaning.specs.Token.{a_name, word_in, word_do}
 use Rattle.meaning.specs.Grammar.{Got, good, wrong, after, no_level, opening}
 use Rattle.code.specs.Code.{headed}
@@ -29,17 +29,17 @@ use Rattle.statements.proofs.Written.{same_after, after_after, chosen_after, exp
 -- ---- x in e do
 members_are : (read : ReadPiece) (ws : List ℕ) (i : ℕ) → kind_at ws i ≡ 1 → kind_at ws (i + 1) ≡ 13
     → members read ws i ≡ after (read (i + 2)) λ e j. expect word_do ws j (home_at ws i ∷ e.code)
-unfolding members expect after if◌then◌else◌
+unfolding members expect after if◌then◌otherwise◌
 members_are read ws i h k = let q : i + 1 + 1 ≡ i + 2 = omega arith in rw (h, k, q)
 
 module _ (left : ℕ) (ws : List ℕ) (i n : ℕ) (s₀ : List ℕ) (kind : ℕ) (k : kind ≡ kind_at ws i) where
   pub members_nameless : (kind ≡ 1 → ⊥) → seen (Wrong 10 i) s₀ ≡ written_code (members (expression left ws) ws i) n s₀
-  unfolding members expect after if◌then◌else◌
+  unfolding members expect after if◌then◌otherwise◌
   members_nameless h = rw (← k, ne_eqb _ _ h) (wrong_seen 10 i n s₀ s₀)
 
   module _ (z : kind ≡ 1) (next : ℕ) (l : next ≡ kind_at ws (i + 1)) where
     pub members_lack : (next ≡ 13 → ⊥) → seen (Wrong 10 (i + 1)) s₀ ≡ written_code (members (expression left ws) ws i) n s₀
-    unfolding members expect after if◌then◌else◌
+    unfolding members expect after if◌then◌otherwise◌
     members_lack h = rw (← k, z, ← l, ne_eqb _ _ h) (wrong_seen 10 (i + 1) n s₀ s₀)
 
     pub members_read : (e r : Read) (x : ℕ) (s₁ s₂ : List ℕ) → next ≡ 13 → n < length s₀ → x ≡ home_at ws i → s₁ ≡ set s₀ n x
@@ -80,10 +80,10 @@ module _ (ws : List ℕ) (i kind : ℕ) (k : kind ≡ kind_at ws i) where
 
 -- ---- foreach from its parts
 expect_passes : {A B : Type 0} (k : ℕ) (ws : List ℕ) (j : ℕ) (a : A) (f : A → ℕ → Got B) → after (expect k ws j a) f ≡ after (skip k ws j) λ _ m. f a m
-unfolding expect after if◌then◌else◌
+unfolding expect after if◌then◌otherwise◌
 expect_passes k ws j a f = go (is k ws j) tt
   where
-    go : (b : Bool) (u : Unit {0}) → after (if b then (λ _. good a (j + 1)) else λ _. wrong 10 j) f ≡ after (if b then (λ _. good u (j + 1)) else λ _. wrong 10 j) λ _ m. f a m
+    go : (b : Bool) (u : Unit {0}) → after (if b then (λ _. good a (j + 1)) otherwise λ _. wrong 10 j) f ≡ after (if b then (λ _. good u (j + 1)) otherwise λ _. wrong 10 j) λ _ m. f a m
     go true u = refl
     go false u = refl
 
@@ -94,7 +94,7 @@ bodied left ws i c m =
     opening (inside_of left ws) m λ inner.
     after (inner.in_statement m) λ s q.
     good (headed 40 (place_at ws i) (length c) (c ++ s)) q)
-    else λ _. wrong 10 m
+    otherwise λ _. wrong 10 m
 
 iteration_bodied : (left : ℕ) (ws : List ℕ) (i : ℕ)
     → iteration (expression left ws) (inside_of left ws) ws i ≡ after (members (expression left ws) ws (i + 1)) (bodied left ws i)
@@ -126,16 +126,16 @@ module _ (left : ℕ) (ws : List ℕ) (i n : ℕ) (s₀ s : List ℕ) (e : Read)
 
   module _ (j m t : ℕ) (q : e ≡ At j m t) (begins : Bool) (b : begins ≡ begins_statement ws j) where
     pub each_stops : not begins ≡ true → seen (Wrong 10 j) s ≡ written_code (each (expression left ws) (inside_of left ws) ws i) n s₀
-    unfolding each after if◌then◌else◌
+    unfolding each after if◌then◌otherwise◌
     each_stops z = let w = wrote_code e _ n s₀ s j m t h q in rw (w.read, ← b, turned_true begins z) (wrong_seen 10 j n s₀ s)
 
     module _ (z : not begins ≡ false) where
       pub each_none : left ≡ 0 → seen (Wrong 75 j) s ≡ written_code (each (expression left ws) (inside_of left ws) ws i) n s₀
-      unfolding each after if◌then◌else◌ opening
+      unfolding each after if◌then◌otherwise◌ opening
       each_none l = let w = wrote_code e _ n s₀ s j m t h q in rw (w.read, ← b, turned_false begins z, inside_none left ws l) (wrong_seen 75 j n s₀ s)
 
       pub each_reads : (left ≡ 0 → ⊥) → seen (At j m 0) s ≡ written_code (each (expression left ws) (inside_of left ws) ws i) n s₀
-      unfolding each after if◌then◌else◌ opening
+      unfolding each after if◌then◌otherwise◌ opening
       each_reads l =
           let w = wrote_code e _ n s₀ s j m t h q in
           rw (w.read, ← b, turned_false begins z, inside_level left ws l) (code_seen _ n s₀ j m s w)
@@ -144,7 +144,7 @@ each_opens : (left : ℕ) (ws : List ℕ) (i : ℕ) (c : List ℕ) (j : ℕ) →
 unfolding each opening after
 each_opens left ws i c j q l = go (members (expression left ws) ws i) (rw (inside_none left ws l) at q)
   where
-    go : (g : Got (List ℕ)) → (after g λ a m. if begins_statement ws m then (λ _. wrong 75 m) else λ _. wrong 10 m) ≡ good c j → ⊥
+    go : (g : Got (List ℕ)) → (after g λ a m. if begins_statement ws m then (λ _. wrong 75 m) otherwise λ _. wrong 10 m) ≡ good c j → ⊥
     go (good a m) e =
         chosen (λ g. g ≡ good c j → ⊥) (begins_statement ws m) _ _ (λ _ f. let y : ◌≡◌ {A = ℕ} 0 1 = cc in omega arith) (λ _ f. let y : ◌≡◌ {A = ℕ} 0 1 = cc in omega arith) e
     go (wrong k p) e = let y : ◌≡◌ {A = ℕ} 0 1 = cc in omega arith

@@ -7,7 +7,7 @@ use native.Mathlib.Omega.{arith}
 use borrow.Author.Tests.{eq-eqb, ne_eqb}
 use lib.ListN.{length, take}
 use lib.Seq.{length-take-le, take-append-add, take-take}
-use Rattle.meaning.specs.Basics.{if◌then◌else◌}
+use Rattle.meaning.specs.Basics.{if◌then◌otherwise◌}
 use Rattle.meaning.specs.Token.{semicolon, open_paren, close_paren}
 use Rattle.meaning.specs.Grammar.{Got, good, wrong, after, level, opening}
 use Rattle.code.specs.Code.{headed}
@@ -69,17 +69,17 @@ module _ (ws : List ℕ) (i n : ℕ) (s₀ s : List ℕ) (left : ℕ) where
 
   module _ (kind : ℕ) (k : kind ≡ kind_at ws i) where
     pub test_other : (kind ≡ 40 → ⊥) → seen (Wrong 10 i) s ≡ written_code (test (Expressions.inside_of left ws) ws i) n s₀
-    unfolding test if◌then◌else◌
+    unfolding test if◌then◌otherwise◌
     test_other h = rw (← k, ne_eqb _ _ h) (wrong_seen 10 i n s₀ s)
 
     module _ (o : kind ≡ 40) where
       pub test_none : left ≡ 0 → seen (Wrong 75 i) s ≡ written_code (test (Expressions.inside_of left ws) ws i) n s₀
-      unfolding test if◌then◌else◌ opening Expressions.inside_of
+      unfolding test if◌then◌otherwise◌ opening Expressions.inside_of
       test_none l = rw (l, ← k, o) (wrong_seen 75 i n s₀ s)
 
       pub test_reads : (e r : Read) → (left ≡ 0 → ⊥) → seen e s ≡ written (expression (left - 1) ws (i + 1)) n s₀ → r ≡ closed 41 ws e
           → seen r s ≡ written_code (test (Expressions.inside_of left ws) ws i) n s₀
-      unfolding test if◌then◌else◌ opening
+      unfolding test if◌then◌otherwise◌ opening
       test_reads e r l h q = rw (inside_levels left ws l, ← k, o, q) (closed_reads e _ 41 n ws s₀ s h)
 
 -- ---- the word before an expression and a semicolon
@@ -92,13 +92,13 @@ closed_headed g d r ws b s₀ s s₁ s₂ tag p n x k l u f h q =
 module _ (ws : List ℕ) (i n : ℕ) (s₀ : List ℕ) (o : Space ws s₀ i n) where
   module _ (kind : ℕ) (k : kind ≡ kind_at ws (i + 1)) where
     pub declaration_other : (kind ≡ 1 → ⊥) → seen (Wrong 10 (i + 1)) s₀ ≡ written_code (declaration ws i) n s₀
-    unfolding declaration if◌then◌else◌
+    unfolding declaration if◌then◌otherwise◌
     declaration_other h = rw (← k, ne_eqb _ _ h) (wrong_seen 10 (i + 1) n s₀ s₀)
 
     pub declaration_reads : (e r : Read) (s : List ℕ) (x : ℕ) → kind ≡ 1 → i < length ws → e ≡ closed 59 ws (At (i + 2) (n + 1) 0) → x ≡ home_at ws (i + 1)
         → seen r s ≡ topped 32 (place_at ws i) n x (seen e s₀)
         → seen r s ≡ written_code (declaration ws i) n s₀
-    unfolding declaration if◌then◌else◌ after
+    unfolding declaration if◌then◌otherwise◌ after
     declaration_reads e r s x h l c u q =
         let d = closed_reads (At (i + 2) (n + 1) 0) _ 59 (n + 1) ws s₀ s₀ (nothing_seen (i + 2) (n + 1) s₀) in
         rw (← k, h, ← u)
@@ -145,7 +145,7 @@ module _ (left : ℕ) (ws : List ℕ) (i n : ℕ) (s₀ s : List ℕ) (o : Space
     module _ (kind : ℕ) (k : kind ≡ kind_at ws j) where
       pub simple_acts : (d r : Read) (s₁ : List ℕ) → (kind ≡ 61 → ⊥) → d ≡ closed 59 ws (At j m t) → seen r s₁ ≡ topped 39 (place_at ws i) n 0 (seen d s)
           → seen r s₁ ≡ written_code (simple (expression left ws) ws i) n s₀
-      unfolding simple after if◌then◌else◌
+      unfolding simple after if◌then◌otherwise◌
       simple_acts d r s₁ z c q =
           let w = wrote a _ (n + 1) s₀ s j m t h e in
           let p = sided in
@@ -156,7 +156,7 @@ module _ (left : ℕ) (ws : List ℕ) (i n : ℕ) (s₀ s : List ℕ) (o : Space
 
       module _ (z : kind ≡ 61) where
         pub simple_refuses : (t ≡ 1 → ⊥) → (t ≡ 2 → ⊥) → seen (Wrong 10 j) s ≡ written_code (simple (expression left ws) ws i) n s₀
-        unfolding simple assignment after if◌then◌else◌
+        unfolding simple assignment after if◌then◌otherwise◌
         simple_refuses f g =
             let w = wrote a _ (n + 1) s₀ s j m t h e in
             let u : (w.piece.target ≡ 1 → ⊥) = (λ q. f (w.targeted ∙ q)) in
@@ -165,7 +165,7 @@ module _ (left : ℕ) (ws : List ℕ) (i n : ℕ) (s₀ s : List ℕ) (o : Space
 
         pub simple_assigns : (d r : Read) (s₁ s₂ : List ℕ) (x : ℕ) → t ≡ 1 → seen d s₁ ≡ written_code (ended (expression left ws) ws (j + 1)) (n + 1) s → x ≡ home_at ws i
             → seen r s₂ ≡ topped 33 (place_at ws i) n x (seen d s₁) → seen r s₂ ≡ written_code (simple (expression left ws) ws i) n s₀
-        unfolding simple assignment ended after if◌then◌else◌
+        unfolding simple assignment ended after if◌then◌otherwise◌
         simple_assigns d r s₁ s₂ x f y u q =
             let w = wrote a _ (n + 1) s₀ s j m t h e in
             let p = sided in
@@ -177,7 +177,7 @@ module _ (left : ℕ) (ws : List ℕ) (i n : ℕ) (s₀ s : List ℕ) (o : Space
 
         pub simple_updates : (d r : Read) (s₁ s₂ : List ℕ) → t ≡ 2 → seen d s₁ ≡ written_code (ended (expression left ws) ws (j + 1)) (m - 1) s
             → seen r s₂ ≡ topped 34 (place_at ws i) n 0 (seen d s₁) → seen r s₂ ≡ written_code (simple (expression left ws) ws i) n s₀
-        unfolding simple assignment without_last ended after if◌then◌else◌
+        unfolding simple assignment without_last ended after if◌then◌otherwise◌
         simple_updates d r s₁ s₂ f y q =
             let w = wrote a _ (n + 1) s₀ s j m t h e in
             let p = sided in
@@ -204,7 +204,7 @@ guarded_tests zero ws tag p i = sym (chosen_after (is open_paren ws i) (λ _. wr
 guarded_tests (suc left) ws tag p i =
     let q : suc left - 1 ≡ left = omega arith in
     rw q (sym (chosen_after (is open_paren ws i) (λ _. after (expression left ws (i + 1)) λ e j. expect close_paren ws j e.code) (λ _. wrong 10 i) _
-    ∙ ap (λ g. if is open_paren ws i then (λ _. g) else λ _. wrong 10 i) (after_after (expression left ws (i + 1)) _ _)))
+    ∙ ap (λ g. if is open_paren ws i then (λ _. g) otherwise λ _. wrong 10 i) (after_after (expression left ws (i + 1)) _ _)))
 
 -- behind what stands between a statement's first token, i, and its body, which begins at token j and word m
 pub record Parted (ws s : List ℕ) (i n j m : ℕ) : Type 0 where
@@ -260,13 +260,13 @@ module _ (left : ℕ) (ws : List ℕ) (i n : ℕ) (s₀ s : List ℕ) (o : Space
 -- ---- statements by their first token
 module _ (left : ℕ) (ws : List ℕ) (i n : ℕ) (s₀ : List ℕ) (k : kind_at ws i ≡ 123) where
   pub block_none : left ≡ 0 → seen (Wrong 75 i) s₀ ≡ written_code (statement left ws i) n s₀
-  unfolding statement_in inside_of opening if◌then◌else◌
+  unfolding statement_in inside_of opening if◌then◌otherwise◌
   block_none l = rw (statement_levels left ws i, l, k) (wrong_seen 75 i n s₀ s₀)
 
   pub block_reads : (b r : Read) (s₁ s₂ : List ℕ) → Space ws s₀ i n → (left ≡ 0 → ⊥)
       → seen b s₁ ≡ written_code (statements (statement (left - 1) ws) ws (i + 1)) (n + 1) s₀
       → seen r s₂ ≡ topped 38 (place_at ws i) n 0 (seen b s₁) → seen r s₂ ≡ written_code (statement left ws i) n s₀
-  unfolding statement_in opening if◌then◌else◌
+  unfolding statement_in opening if◌then◌otherwise◌
   block_reads b r s₁ s₂ o l y u =
       let w = token_inside ws i 123 k (λ z. omega arith) in
       rw (statement_levels left ws i, inside_level left ws l, k)
@@ -279,27 +279,27 @@ block_parts left ws i n s₀ s b o h =
 
 module _ (left : ℕ) (ws : List ℕ) (i n : ℕ) (s₀ s : List ℕ) (r : Read) (kind : ℕ) (k : kind ≡ kind_at ws i) where
   pub states_declaration : kind ≡ 5 → seen r s ≡ written_code (declaration ws i) n s₀ → seen r s ≡ written_code (statement left ws i) n s₀
-  unfolding statement_in if◌then◌else◌
+  unfolding statement_in if◌then◌otherwise◌
   states_declaration e h = rw (statement_levels left ws i, ← k, e) h
 
   pub states_when : kind ≡ 6 → seen r s ≡ written_code (guarded 35 (place_at ws i) (inside_of left ws) ws (i + 1)) n s₀ → seen r s ≡ written_code (statement left ws i) n s₀
-  unfolding statement_in if◌then◌else◌
+  unfolding statement_in if◌then◌otherwise◌
   states_when e h = rw (statement_levels left ws i, ← k, e) h
 
   pub states_while : kind ≡ 7 → seen r s ≡ written_code (guarded 36 (place_at ws i) (inside_of left ws) ws (i + 1)) n s₀ → seen r s ≡ written_code (statement left ws i) n s₀
-  unfolding statement_in if◌then◌else◌
+  unfolding statement_in if◌then◌otherwise◌
   states_while e h = rw (statement_levels left ws i, ← k, e) h
 
   pub states_return : kind ≡ 8 → seen r s ≡ written_code (returning (expression left ws) ws i) n s₀ → seen r s ≡ written_code (statement left ws i) n s₀
-  unfolding statement_in if◌then◌else◌
+  unfolding statement_in if◌then◌otherwise◌
   states_return e h = rw (statement_levels left ws i, ← k, e) h
 
   pub states_foreach : kind ≡ 12 → seen r s ≡ written_code (iteration (expression left ws) (inside_of left ws) ws i) n s₀ → seen r s ≡ written_code (statement left ws i) n s₀
-  unfolding statement_in if◌then◌else◌
+  unfolding statement_in if◌then◌otherwise◌
   states_foreach e h = rw (statement_levels left ws i, ← k, e) h
 
   pub states_simple : (kind ≡ 5 → ⊥) → (kind ≡ 6 → ⊥) → (kind ≡ 7 → ⊥) → (kind ≡ 8 → ⊥) → (kind ≡ 12 → ⊥) → (kind ≡ 123 → ⊥)
       → seen r s ≡ written_code (simple (expression left ws) ws i) n s₀ → seen r s ≡ written_code (statement left ws i) n s₀
-  unfolding statement_in if◌then◌else◌
+  unfolding statement_in if◌then◌otherwise◌
   states_simple h5 h6 h7 h8 h12 h123 h =
       rw (statement_levels left ws i, ← k, ne_eqb _ _ h5, ne_eqb _ _ h6, ne_eqb _ _ h7, ne_eqb _ _ h12, ne_eqb _ _ h8, ne_eqb _ _ h123) h

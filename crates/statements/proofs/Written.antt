@@ -8,7 +8,7 @@ use native.Mathlib.Omega.{arith}
 use borrow.Author.Tests.{eq-eqb, ne_eqb}
 use lib.ListN.{length, take, set, length-append, length-take}
 use lib.Seq.{take-set-lt, set-append_left}
-use Rattle.meaning.specs.Basics.{if◌then◌else◌}
+use Rattle.meaning.specs.Basics.{if◌then◌otherwise◌}
 use Rattle.meaning.specs.Grammar.{Got, good, wrong, after}
 use Rattle.machine.specs.Opcodes.{word}
 use Rattle.code.specs.Code.{headed}
@@ -31,16 +31,16 @@ after_after (good a j) f h = refl
 after_after (wrong k p) f h = refl
 
 pub chosen_after : {A B : Type 0} (b : Bool) (x y : Unit {0} → Got A) (f : A → ℕ → Got B)
-    → after (if b then x else y) f ≡ (if b then (λ _. after (x tt) f) else λ _. after (y tt) f)
-unfolding if◌then◌else◌
+    → after (if b then x otherwise y) f ≡ (if b then (λ _. after (x tt) f) otherwise λ _. after (y tt) f)
+unfolding if◌then◌otherwise◌
 chosen_after true x y f = refl
 chosen_after false x y f = refl
 
 expect_maps : {A B : Type 0} (k : ℕ) (ws : List ℕ) (j : ℕ) (a : A) (f : A → B) → after (expect k ws j a) (λ c q. good (f c) q) ≡ expect k ws j (f a)
-unfolding expect after if◌then◌else◌
+unfolding expect after if◌then◌otherwise◌
 expect_maps k ws j a f = go (is k ws j)
   where
-    go : (b : Bool) → after (if b then (λ _. good a (j + 1)) else λ _. wrong 10 j) (λ c q. good (f c) q) ≡ (if b then (λ _. good (f a) (j + 1)) else λ _. wrong 10 j)
+    go : (b : Bool) → after (if b then (λ _. good a (j + 1)) otherwise λ _. wrong 10 j) (λ c q. good (f c) q) ≡ (if b then (λ _. good (f a) (j + 1)) otherwise λ _. wrong 10 j)
     go true = refl
     go false = refl
 
@@ -79,16 +79,16 @@ module _ (ws : List ℕ) (kind : ℕ) (e : Read) where
   close_wrong k p h = rw h
 
   pub close_at : (j m t found : ℕ) → e ≡ At j m t → found ≡ kind_at ws j → found ≡ kind → At (j + 1) m 0 ≡ closed kind ws e
-  unfolding closed if◌then◌else◌
+  unfolding closed if◌then◌otherwise◌
   close_at j m t found h f q = rw (h, ← f, eq-eqb _ _ q)
 
   pub close_other : (j m t found : ℕ) → e ≡ At j m t → found ≡ kind_at ws j → (found ≡ kind → ⊥) → Wrong 10 j ≡ closed kind ws e
-  unfolding closed if◌then◌else◌
+  unfolding closed if◌then◌otherwise◌
   close_other j m t found h f q = rw (h, ← f, ne_eqb _ _ q)
 
 closed_picks : (b : Bool) (c s₀ s : List ℕ) (n j m : ℕ) → m ≡ n + length c → take m s ≡ take n s₀ ++ c
-    → seen (if b then (λ _. At (j + 1) m 0) else λ _. Wrong 10 j) s ≡ written_code (if b then (λ _. good c (j + 1)) else λ _. wrong 10 j) n s₀
-unfolding if◌then◌else◌ seen written_code
+    → seen (if b then (λ _. At (j + 1) m 0) otherwise λ _. Wrong 10 j) s ≡ written_code (if b then (λ _. good c (j + 1)) otherwise λ _. wrong 10 j) n s₀
+unfolding if◌then◌otherwise◌ seen written_code
 closed_picks true c s₀ s n j m h f = cc
 closed_picks false c s₀ s n j m h f = refl
 
@@ -102,11 +102,11 @@ closed_reads (Wrong l p) g k n ws s₀ s h = rw (erred (Wrong l p) g n s₀ s l 
 
 -- what was closed was read
 pub closed_at : (k : ℕ) (ws : List ℕ) (e : Read) (j m t : ℕ) → closed k ws e ≡ At j m t → (p : ℕ) × (t₀ : ℕ) × (e ≡ At p m t₀)
-unfolding closed if◌then◌else◌
+unfolding closed if◌then◌otherwise◌
 closed_at k ws (Wrong l p) j m t h = let z : ◌≡◌ {A = ℕ} 0 1 = cc in absurd (omega arith)
 closed_at k ws (At p q t₀) j m t h = go (is k ws p) h
   where
-    go : (b : Bool) → (if b then (λ _. At (p + 1) q 0) else λ _. Wrong 10 p) ≡ At j m t → (p' : ℕ) × (t' : ℕ) × (At p q t₀ ≡ At p' m t')
+    go : (b : Bool) → (if b then (λ _. At (p + 1) q 0) otherwise λ _. Wrong 10 p) ≡ At j m t → (p' : ℕ) × (t' : ℕ) × (At p q t₀ ≡ At p' m t')
     go true g = (p, t₀, cc)
     go false g = let z : ◌≡◌ {A = ℕ} 0 1 = cc in absurd (omega arith)
 

@@ -1,6 +1,6 @@
 -- What the smaller functions read, and what is done with what was read.
 use Rattle.std.specs.Prelude.{ℕ, zero, suc, ◌+◌, ◌-◌, ◌*◌, List, ◌∷◌, set}
-use Rattle.meaning.specs.Basics.{if◌then◌else◌}
+use Rattle.meaning.specs.Basics.{if◌then◌otherwise◌}
 use Rattle.meaning.specs.Token.{a_name, word_in, word_do, semicolon, open_paren, close_paren}
 use Rattle.meaning.specs.Grammar.{Got, good, wrong, after, Inside, no_level, level, opening}
 use Rattle.machine.specs.Opcodes.{word}
@@ -20,7 +20,7 @@ ended read ws i = after (read i) λ e j. expect semicolon ws j e.code
 unfoldable pub test : Inside ReadPiece → List ℕ → ℕ → Got (List ℕ)
 test inside ws i =
     if is open_paren ws i then (λ _. opening inside i λ inner. after (inner (i + 1)) λ e j. expect close_paren ws j e.code)
-    else λ _. wrong 10 i
+    otherwise λ _. wrong 10 i
 
 -- x in e do, from token i on: the slot of x, and the code of e
 unfoldable pub members : ReadPiece → List ℕ → ℕ → Got (List ℕ)
@@ -34,7 +34,7 @@ members read ws i =
 unfoldable pub each : ReadPiece → Inside Readers → List ℕ → ℕ → Got (List ℕ)
 each read inside ws i =
     after (members read ws i) λ c j.
-    if begins_statement ws j then (λ _. opening inside j λ _. good c j) else λ _. wrong 10 j
+    if begins_statement ws j then (λ _. opening inside j λ _. good c j) otherwise λ _. wrong 10 j
 
 -- a statement's word at n, before its parts, with a place p and a number x
 unfoldable pub topped : ℕ → ℕ → ℕ → ℕ → Seen → Seen

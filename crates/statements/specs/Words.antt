@@ -1,6 +1,6 @@
 -- The grammar of statements, over prepared token words and with code in place of trees.
 use Rattle.std.specs.Prelude.{ℕ, zero, suc, ◌+◌, ◌-◌, Bool, ◌||◌, List, [], ◌∷◌, ◌++◌, length, take, eqb}
-use Rattle.meaning.specs.Basics.{if◌then◌else◌}
+use Rattle.meaning.specs.Basics.{if◌then◌otherwise◌}
 use Rattle.meaning.specs.Token.{a_name, a_string, word_var, word_if, word_while, word_return, word_none, word_true, word_false, word_foreach, word_in, word_do}
 use Rattle.meaning.specs.Token.{semicolon, open_paren, close_paren, open_bracket, open_brace, close_brace, becomes}
 use Rattle.meaning.specs.Grammar.{Got, good, wrong, after, Inside, no_level, level, opening}
@@ -23,7 +23,7 @@ skip k ws j = expect k ws j tt
 unfoldable pub declaration : List ℕ → ℕ → Got (List ℕ)
 declaration ws i =
     if is a_name ws (i + 1) then (λ _. expect semicolon ws (i + 2) (headed tag_declare (place_at ws i) (home_at ws (i + 1)) []))
-    else λ _. wrong 10 (i + 1)
+    otherwise λ _. wrong 10 (i + 1)
 
 unfoldable pub returning : ReadPiece → List ℕ → ℕ → Got (List ℕ)
 returning read ws i = after (read (i + 1)) λ e j. expect semicolon ws j (headed tag_return (place_at ws i) 0 e.code)
@@ -37,15 +37,15 @@ unfoldable pub assignment : ReadPiece → List ℕ → ℕ → Piece → ℕ →
 assignment read ws i a j =
     if eqb a.target 1 then (λ _.
     after (read (j + 1)) λ e m. expect semicolon ws m (headed tag_assign (place_at ws i) (home_at ws i) e.code))
-    else λ _. if eqb a.target 2 then (λ _.
+    otherwise λ _. if eqb a.target 2 then (λ _.
     after (read (j + 1)) λ e m. expect semicolon ws m (headed tag_update (place_at ws i) 0 (without_last a.code ++ e.code)))
-    else λ _. wrong 10 j
+    otherwise λ _. wrong 10 j
 
 unfoldable pub simple : ReadPiece → List ℕ → ℕ → Got (List ℕ)
 simple read ws i =
     after (read i) λ a j.
     if is becomes ws j then (λ _. assignment read ws i a j)
-    else λ _. expect semicolon ws j (headed tag_act (place_at ws i) 0 a.code)
+    otherwise λ _. expect semicolon ws j (headed tag_act (place_at ws i) 0 a.code)
 
 -- (e) and a body, behind if or while, whose place is p
 unfoldable pub guarded : ℕ → ℕ → Inside Readers → List ℕ → ℕ → Got (List ℕ)
@@ -56,7 +56,7 @@ guarded tag p inside ws i =
     after (expect close_paren ws j e.code) λ c m.
     after (inner.in_statement m) λ s n.
     good (headed tag p (length c) (c ++ s)) n)
-    else λ _. wrong 10 i
+    otherwise λ _. wrong 10 i
 
 -- whether a statement can begin with token i
 unfoldable pub begins_statement : List ℕ → ℕ → Bool
@@ -75,14 +75,14 @@ iteration read inside ws i =
     opening inside m λ inner.
     after (inner.in_statement m) λ s n.
     good (headed tag_foreach (place_at ws i) (length e.code + 1) (x ∷ (e.code ++ s))) n)
-    else λ _. wrong 10 m
+    otherwise λ _. wrong 10 m
 
 unfoldable pub statements_from : ℕ → ReadCode → List ℕ → ℕ → Got (List ℕ)
 statements_from zero inner ws i = wrong 10 i
 statements_from (suc rounds) inner ws i =
     after (inner i) λ s j.
     if is close_brace ws j then (λ _. good s (j + 1))
-    else λ _. after (statements_from rounds inner ws j) λ ss m. good (s ++ ss) m
+    otherwise λ _. after (statements_from rounds inner ws j) λ ss m. good (s ++ ss) m
 
 abbrev pub statements : ReadCode → List ℕ → ℕ → Got (List ℕ)
 statements inner ws i = statements_from (suc (length ws - i)) inner ws i
@@ -90,15 +90,15 @@ statements inner ws i = statements_from (suc (length ws - i)) inner ws i
 unfoldable pub statement_in : ReadPiece → Inside Readers → List ℕ → ℕ → Got (List ℕ)
 statement_in read inside ws i =
     if is word_var ws i then (λ _. declaration ws i)
-    else λ _. if is word_if ws i then (λ _. guarded tag_when (place_at ws i) inside ws (i + 1))
-    else λ _. if is word_while ws i then (λ _. guarded tag_while (place_at ws i) inside ws (i + 1))
-    else λ _. if is word_foreach ws i then (λ _. iteration read inside ws i)
-    else λ _. if is word_return ws i then (λ _. returning read ws i)
-    else λ _. if is open_brace ws i then (λ _.
+    otherwise λ _. if is word_if ws i then (λ _. guarded tag_when (place_at ws i) inside ws (i + 1))
+    otherwise λ _. if is word_while ws i then (λ _. guarded tag_while (place_at ws i) inside ws (i + 1))
+    otherwise λ _. if is word_foreach ws i then (λ _. iteration read inside ws i)
+    otherwise λ _. if is word_return ws i then (λ _. returning read ws i)
+    otherwise λ _. if is open_brace ws i then (λ _.
     opening inside i λ inner.
     after (statements inner.in_statement ws (i + 1)) λ ss j.
     good (headed tag_block (place_at ws i) 0 ss) j)
-    else λ _. simple read ws i
+    otherwise λ _. simple read ws i
 
 unfoldable pub statement : ℕ → List ℕ → ℕ → Got (List ℕ)
 statement zero ws i = statement_in (expression zero ws) no_level ws i

@@ -7,7 +7,7 @@ use native.Mathlib.Omega.{arith}
 use lib.ListN.{get_or, set}
 use lib.Dec.{leb}
 use borrow.Author.Tests.{leb-true, leb-false}
-use Rattle.meaning.specs.Basics.{if◌then◌else◌}
+use Rattle.meaning.specs.Basics.{if◌then◌otherwise◌}
 use Rattle.machine.specs.declared.Value.{Value}
 use Rattle.machine.specs.declared.Answer.TheVariants.{Good, Bad}
 use Rattle.machine.specs.Act.{Raw, raw, Out, done, stop, Act, go_on, ◌>>=◌, spend, shown, passed, Answers, Passes, Pays, Gives}
@@ -60,23 +60,23 @@ pub record Short (ws : List ℕ) (counter granted amount : ℕ) (ws' : List ℕ)
 
 module _ {ws : List ℕ} {counter granted amount : ℕ} {ws' : List ℕ} where
   pub paid : Pays ws counter granted amount true ws' → Paid ws counter granted amount ws'
-  unfolding passed spend if◌then◌else◌ words_in is_done
+  unfolding passed spend if◌then◌otherwise◌ words_in is_done
   paid h = go (leb (get_or ws counter 0 + amount) granted) refl (h.equal 0 0 [])
     where
       go : (b : Bool) → leb (get_or ws counter 0 + amount) granted ≡ b
           → ◌≡◌ {A = Out (Unit {0})} (done tt (raw [] ws'))
-          (if b then (λ _. done tt (raw [] (set ws counter (get_or ws counter 0 + amount)))) else λ _. stop 0 0 (raw [] ws))
+          (if b then (λ _. done tt (raw [] (set ws counter (get_or ws counter 0 + amount)))) otherwise λ _. stop 0 0 (raw [] ws))
           → Paid ws counter granted amount ws'
       go true e q = record { within = leb-true _ _ e; words = ap words_in q }
       go false e q = let x : true ≡ false = ap is_done q in let z : ◌≡◌ {A = ℕ} 0 1 = cc in absurd (omega arith)
 
   pub short : Pays ws counter granted amount false ws' → Short ws counter granted amount ws'
-  unfolding passed spend if◌then◌else◌ words_in is_done
+  unfolding passed spend if◌then◌otherwise◌ words_in is_done
   short h = go (leb (get_or ws counter 0 + amount) granted) refl (h.equal 0 0 [])
     where
       go : (b : Bool) → leb (get_or ws counter 0 + amount) granted ≡ b
           → ◌≡◌ {A = Out (Unit {0})} (stop 0 0 (raw [] ws'))
-          (if b then (λ _. done tt (raw [] (set ws counter (get_or ws counter 0 + amount)))) else λ _. stop 0 0 (raw [] ws))
+          (if b then (λ _. done tt (raw [] (set ws counter (get_or ws counter 0 + amount)))) otherwise λ _. stop 0 0 (raw [] ws))
           → Short ws counter granted amount ws'
       go true e q = let x : false ≡ true = ap is_done q in let z : ◌≡◌ {A = ℕ} 0 1 = cc in absurd (omega arith)
       go false e q = record { beyond = leb-false _ _ e; words = ap words_in q }

@@ -25,7 +25,7 @@ use Rattle.machine.specs.Groups.{component_at, followers_at, first_at, count_at}
 use Rattle.machine.specs.Loops.{mark_place}
 use Rattle.machine.specs.Stack.{push, drop_to}
 use Rattle.stores.proofs.Acts.{paid, short}
-use Rattle.meaning.specs.Basics.{if◌then◌else◌}
+use Rattle.meaning.specs.Basics.{if◌then◌otherwise◌}
 
 -- ---- words
 pub past_end : (ws : List ℕ) (i : ℕ) → length ws ≤ i → 0 ≡ get_or ws i 0
@@ -36,24 +36,24 @@ past_end (w ∷ ws) (suc i) h = past_end ws i (omega arith)
 -- ---- counters
 module _ (ws : List ℕ) (counter granted amount : ℕ) where
   pub used_beyond : granted < get_or ws counter 0 → Pays ws counter granted amount false ws
-  unfolding spend passed if◌then◌else◌
+  unfolding spend passed if◌then◌otherwise◌
   used_beyond h = record { equal = λ n p ts. rw (lt-leb (get_or ws counter 0 + amount) granted (omega arith)) }
 
   pub amount_beyond : get_or ws counter 0 ≤ granted → granted - get_or ws counter 0 < amount → Pays ws counter granted amount false ws
-  unfolding spend passed if◌then◌else◌
+  unfolding spend passed if◌then◌otherwise◌
   amount_beyond l h = record { equal = λ n p ts. rw (lt-leb (get_or ws counter 0 + amount) granted (omega arith)) }
 
   pub pays : get_or ws counter 0 ≤ granted → amount ≤ granted - get_or ws counter 0 → Pays ws counter granted amount true (set ws counter (get_or ws counter 0 + amount))
-  unfolding spend passed if◌then◌else◌
+  unfolding spend passed if◌then◌otherwise◌
   pays l h = record { equal = λ n p ts. rw (le-leb (get_or ws counter 0 + amount) granted (omega arith)) }
 
 module _ (ws : List ℕ) (counter granted : ℕ) where
   pub none_left : granted ≤ get_or ws counter 0 → Pays ws counter granted 1 false ws
-  unfolding spend passed if◌then◌else◌
+  unfolding spend passed if◌then◌otherwise◌
   none_left h = record { equal = λ n p ts. rw (lt-leb (get_or ws counter 0 + 1) granted (omega arith)) }
 
   pub pays_one : get_or ws counter 0 < granted → Pays ws counter granted 1 true (set ws counter (get_or ws counter 0 + 1))
-  unfolding spend passed if◌then◌else◌
+  unfolding spend passed if◌then◌otherwise◌
   pays_one h = record { equal = λ n p ts. rw (le-leb (get_or ws counter 0 + 1) granted (omega arith)) }
 
 pub counts : (ws g ws' : List ℕ) (ok : Bool) → Pays ws steps_used (steps_granted g) 1 ok ws' → Passes ws 79 (count g) ok ws'
@@ -117,13 +117,13 @@ lays_figure ws at f w x y la lb lc ld h k l = rw (h, k, l, back {r = f.a} la ref
 
 module _ (ws g : List ℕ) (p : ℕ) (f : Figure) (ws' : List ℕ) (ok : Bool) (h : Pays ws shapes_used (shapes_granted g) 1 ok ws') where
   pub no_shape_lem : not ok ≡ true → Answers ws (new_shape g p f) (Bad 76 p) ws'
-  unfolding new_shape ◌>>=◌ go_on load spend shown if◌then◌else◌
+  unfolding new_shape ◌>>=◌ go_on load spend shown if◌then◌otherwise◌
   no_shape_lem t =
       let q = short (rw (not-true ok t) at h) in
       record { equal = λ ts. rw (q.words, lt-leb (get_or ws shapes_used 0 + 1) (shapes_granted g) q.beyond) }
 
   pub new_shape_lem : (k at : ℕ) (ws'' : List ℕ) → not ok ≡ false → k ≡ get_or ws shapes_used 0 → at ≡ shape_place k → ws'' ≡ figure_laid ws' at f → Answers ws (new_shape g p f) (Good (Shape k)) ws''
-  unfolding new_shape ◌>>=◌ go_on load put_figure spend give shown if◌then◌else◌
+  unfolding new_shape ◌>>=◌ go_on load put_figure spend give shown if◌then◌otherwise◌
   new_shape_lem k at ws'' t i j d =
       let q = paid (rw (not-false ok t) at h) in
       record { equal = λ ts. rw (d, j, i, q.words, le-leb (get_or ws shapes_used 0 + 1) (shapes_granted g) q.within) }

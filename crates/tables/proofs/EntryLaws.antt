@@ -16,7 +16,7 @@ use Rattle.machine.specs.Variables.{is_dead, usable}
 use Rattle.machine.specs.Tables.{find_entry, read_from, read_entry, bucket_of, entry_laid, put_entry, add_entry, store_in, store_entry, is_group_key}
 use Rattle.tables.specs.Asked.{Puts, putting, Stores}
 use Rattle.tables.proofs.IndexLaws.{bucket_less, found_le}
-use Rattle.meaning.specs.Basics.{if◌then◌else◌}
+use Rattle.meaning.specs.Basics.{if◌then◌otherwise◌}
 
 -- ---- where a found entry stands
 module _ (program g ts ws : List ℕ) (t key k : ℕ) (l : Room g ws) (e : k ≡ find_entry program g ts ws t key) where
@@ -57,14 +57,14 @@ made_small n size l h = omega (arith, let q : n % size < size = mod-lt n (omega 
 
 module _ (program g ts ws : List ℕ) (t key value : ℕ) where
   pub no_entry_left : get_or g 2 0 ≤ get_or ws 2 0 → PassesIn ts ws 77 (add_entry program g t key value) false ws
-  unfolding add_entry ◌>>=◌ go_on load spend passed if◌then◌else◌
+  unfolding add_entry ◌>>=◌ go_on load spend passed if◌then◌otherwise◌
   no_entry_left h = record { equal = λ p. rw (lt-leb (get_or ws 2 0 + 1) (get_or g 2 0) (omega arith)) }
 
   module _ (n b at head : ℕ) (h : get_or ws 2 0 < get_or g 2 0) (m : n ≡ get_or ws entries_made 0 % get_or g 2 0) (e : b ≡ bucket_of program g ts ws t key)
       (f : at ≡ entry_place g n) (d : head ≡ entry_place g b) where
     pub entry_added : (ws' : List ℕ) → ws' ≡ entry_laid (set (set ws 2 (get_or ws 2 0 + 1)) entries_made (n + 1)) at (head + 3) t key value (n + 1)
         → PassesIn ts ws 77 (add_entry program g t key value) true ws'
-    unfolding add_entry put_entry ◌>>=◌ go_on load store spend passed if◌then◌else◌
+    unfolding add_entry put_entry ◌>>=◌ go_on load store spend passed if◌then◌otherwise◌
     entry_added ws' q = record { equal = λ p. rw (q, d, f, m, e, le-leb (get_or ws 2 0 + 1) (get_or g 2 0) (omega arith)) }
 
     pub puts_entry : Room g ws → Puts (set (set ws 2 (get_or ws 2 0 + 1)) entries_made (n + 1)) at (head + 3)
@@ -77,11 +77,11 @@ module _ (program g ts ws : List ℕ) (t key value : ℕ) where
 -- ---- storing
 module _ (program g ts ws : List ℕ) (t key value k : ℕ) (e : k ≡ find_entry program g ts ws t key) where
   pub stores_new : (ok : Bool) (ws' : List ℕ) → k ≡ 0 → PassesIn ts ws 77 (add_entry program g t key value) ok ws' → PassesIn ts ws 77 (putting program g ts ws t key value) ok ws'
-  unfolding putting store_in if◌then◌else◌
+  unfolding putting store_in if◌then◌otherwise◌
   stores_new ok ws' z h = record { equal = λ p. h.equal p ∙ rw (← e, z) }
 
   pub stores_old : (at : ℕ) → (k ≡ 0 → ⊥) → at ≡ entry_place g (k - 1) → PassesIn ts ws 77 (putting program g ts ws t key value) true (set ws (at + 2) value)
-  unfolding putting store_in store passed if◌then◌else◌
+  unfolding putting store_in store passed if◌then◌otherwise◌
   stores_old at n f = record { equal = λ p. rw (← e, ne_eqb _ _ n, f) }
 
 module _ (program g ts ws : List ℕ) (t key value : ℕ) (a : Bool) (e₀ : a ≡ is_group_key ws key) where

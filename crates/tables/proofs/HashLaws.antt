@@ -10,7 +10,7 @@ use Rattle.machine.specs.Words.{number_in}
 use Rattle.machine.specs.Layout.{shape_place}
 use Rattle.machine.specs.Texts.{text_of}
 use Rattle.machine.specs.Tables.{figure_content, content_of, hashed, hash_from}
-use Rattle.meaning.specs.Basics.{if◌then◌else◌}
+use Rattle.meaning.specs.Basics.{if◌then◌otherwise◌}
 
 -- ---- a loop that hashes byte by byte: i are taken in
 pub record Hashing (s : List ℕ) (h hash i : ℕ) : Type 0 where
@@ -41,13 +41,13 @@ module _ (program ts ws : List ℕ) (h : ℕ) where
   hash_figure i at w k x y z r text a b c d e u f g t o = o ∙ rw (t, g, f, e, d, c, b, a)
 
   pub hash_text : (key r : ℕ) (text : List ℕ) → key % 8 ≡ 2 → text ≡ text_of program ts (key / 8) → r ≡ hash_from h text → r ≡ hash_from h (content_of program ts ws key)
-  unfolding content_of if◌then◌else◌
+  unfolding content_of if◌then◌otherwise◌
   hash_text key r text k t o = o ∙ rw (t, k)
 
   pub hash_shape : (key i r : ℕ) → key % 8 ≡ 6 → i ≡ number_in key → r ≡ hash_from h (figure_content program ts ws i) → r ≡ hash_from h (content_of program ts ws key)
-  unfolding content_of if◌then◌else◌
+  unfolding content_of if◌then◌otherwise◌
   hash_shape key i r k e o = o ∙ rw (e, k)
 
   pub hash_other : (key n r : ℕ) → (key % 8 ≡ 2 → ⊥) → (key % 8 ≡ 6 → ⊥) → n ≡ number_in key → r ≡ hashed h n → r ≡ hash_from h (content_of program ts ws key)
-  unfolding content_of if◌then◌else◌ hash_from
+  unfolding content_of if◌then◌otherwise◌ hash_from
   hash_other key n r k l e o = o ∙ rw (e, ne_eqb _ _ k, ne_eqb _ _ l)

@@ -8,7 +8,7 @@ use native.Mathlib.Nat.{le_of_lt, le_refl, le_trans, mul-le-mul_right, mod-lt, d
 use lib.ListN.{length, get_or}
 use lib.Dec.{eqb, ltb, leb}
 use borrow.Author.Tests.{ne_eqb, le-leb, lt-leb, lt-ltb, le-ltb, leb-true, ltb-true}
-use Rattle.meaning.specs.Basics.{if◌then◌else◌}
+use Rattle.meaning.specs.Basics.{if◌then◌otherwise◌}
 use Rattle.machine.specs.Layout.{entry_place, entries_granted, Room}
 use Rattle.machine.specs.Tables.{matches, content_of, hash_from, spread, bucket_of, head_place, link_at, walk, find_entry}
 use Rattle.tables.specs.Asked.{matches_at}
@@ -35,33 +35,33 @@ bucket_is program g ts ws t key h e = rw e
 -- ---- walks
 module _ (f : ℕ → Bool) (link : ℕ → ℕ) where
   pub walk_done : (n k : ℕ) → k ≤ 0 → walk f link n k ≡ 0
-  unfolding walk if◌then◌else◌
+  unfolding walk if◌then◌otherwise◌
   walk_done zero k h = refl
   walk_done (suc n) zero h = refl
   walk_done (suc n) (suc k) h = absurd (omega arith)
 
   pub walk_here : (n k : ℕ) → 0 < k → k ≤ n → f (k - 1) ≡ true → walk f link n k ≡ k
-  unfolding walk if◌then◌else◌
+  unfolding walk if◌then◌otherwise◌
   walk_here zero k p h e = absurd (omega arith)
   walk_here (suc n) k p h e = rw (ne_eqb k 0 (λ z. omega arith), e)
 
   pub walk_next : (n k : ℕ) → 0 < k → k ≤ n → f (k - 1) ≡ false → link (k - 1) < k → walk f link n k ≡ walk f link (n - 1) (link (k - 1))
-  unfolding walk if◌then◌else◌
+  unfolding walk if◌then◌otherwise◌
   walk_next zero k p h e l = absurd (omega arith)
   walk_next (suc n) k p h e l = let q : suc n - 1 ≡ n = omega arith in rw (q, ne_eqb k 0 (λ z. omega arith), e, lt-ltb (link (k - 1)) k l)
 
   pub walk_stray : (n k : ℕ) → 0 < k → k ≤ n → f (k - 1) ≡ false → k ≤ link (k - 1) → walk f link n k ≡ 0
-  unfolding walk if◌then◌else◌
+  unfolding walk if◌then◌otherwise◌
   walk_stray zero k p h e l = absurd (omega arith)
   walk_stray (suc n) k p h e l = rw (ne_eqb k 0 (λ z. omega arith), e, le-ltb (link (k - 1)) k l)
 
   pub walk_le : (n k : ℕ) → walk f link n k ≤ k
-  unfolding walk if◌then◌else◌
+  unfolding walk if◌then◌otherwise◌
   walk_le zero k = omega arith
   walk_le (suc n) k = go (eqb k 0) (f (k - 1)) (ltb (link (k - 1)) k) refl (walk_le n (link (k - 1)))
     where
       go : (a b c : Bool) → ltb (link (k - 1)) k ≡ c → walk f link n (link (k - 1)) ≤ link (k - 1)
-          → (if a then (λ _. 0) else λ _. if b then (λ _. k) else λ _. if c then (λ _. walk f link n (link (k - 1))) else λ _. 0) ≤ k
+          → (if a then (λ _. 0) otherwise λ _. if b then (λ _. k) otherwise λ _. if c then (λ _. walk f link n (link (k - 1))) otherwise λ _. 0) ≤ k
       go true b c e m = omega arith
       go false true c e m = le_refl k
       go false false true e m = omega (arith, ltb-true (link (k - 1)) k e)
@@ -79,10 +79,10 @@ pub record Walking (program g ts ws : List ℕ) (t key base k : ℕ) : Type 0 wh
 module _ (program g ts ws : List ℕ) (t key : ℕ) where
   -- no more is found than was granted
   pub found_le : find_entry program g ts ws t key ≤ entries_granted g
-  unfolding find_entry if◌then◌else◌
+  unfolding find_entry if◌then◌otherwise◌
   found_le = go (get_or ws (head_place g (bucket_of program g ts ws t key)) 0) (leb (get_or ws (head_place g (bucket_of program g ts ws t key)) 0) (entries_granted g)) refl
     where
-      go : (h : ℕ) (b : Bool) → leb h (entries_granted g) ≡ b → (if b then (λ _. walk (matches program g ts ws t key) (link_at g ws) h h) else λ _. 0) ≤ entries_granted g
+      go : (h : ℕ) (b : Bool) → leb h (entries_granted g) ≡ b → (if b then (λ _. walk (matches program g ts ws t key) (link_at g ws) h h) otherwise λ _. 0) ≤ entries_granted g
       go h true e = le_trans (walk_le (matches program g ts ws t key) (link_at g ws) h h) (leb-true h (entries_granted g) e)
       go h false e = omega arith
 
@@ -98,13 +98,13 @@ module _ (program g ts ws : List ℕ) (t key : ℕ) where
     head_there = omega arith
 
     pub head_stray : get_or g 2 0 < get_or ws (base + 4 * b + 3) 0 → 0 ≡ find_entry program g ts ws t key
-    unfolding find_entry if◌then◌else◌
+    unfolding find_entry if◌then◌otherwise◌
     head_stray l =
         let m = rw head_there at l in
         rw (lt-leb (get_or ws (head_place g (bucket_of program g ts ws t key)) 0) (entries_granted g) m)
 
     pub walk_begin : Room g ws → get_or ws (base + 4 * b + 3) 0 ≤ get_or g 2 0 → Walking program g ts ws t key base (get_or ws (base + 4 * b + 3) 0)
-    unfolding find_entry if◌then◌else◌
+    unfolding find_entry if◌then◌otherwise◌
     walk_begin l h =
         let m = rw head_there at h in
         record {

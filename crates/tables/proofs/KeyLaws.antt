@@ -7,7 +7,7 @@ use native.Mathlib.Omega.{arith}
 use lib.ListN.{get_or}
 use lib.Dec.{eqb}
 use borrow.Author.Tests.{eq-eqb, ne_eqb, eqb-true, not-true, not-false}
-use Rattle.meaning.specs.Basics.{if◌then◌else◌, same_text}
+use Rattle.meaning.specs.Basics.{if◌then◌otherwise◌, same_text}
 use Rattle.machine.specs.Words.{kind_in, number_in, handle_in}
 use Rattle.machine.specs.Layout.{shape_place}
 use Rattle.machine.specs.Texts.{text_of}
@@ -56,12 +56,12 @@ clash n h e f = absurd (h (eqb-true _ n e ∙ sym (eqb-true _ n f)))
 
 module _ (program ts ws : List ℕ) (a b : ℕ) where
   pub other_kinds_lem : (a % 8 ≡ b % 8 → ⊥) → false ≡ same_key program ts ws a b
-  unfolding same_key if◌then◌else◌
+  unfolding same_key if◌then◌otherwise◌
   other_kinds_lem h = go (eqb (kind_in a) 2) (eqb (kind_in b) 2) (eqb (kind_in a) 6) (eqb (kind_in b) 6) refl refl refl refl
     where
       go : (p q r s : Bool) → eqb (kind_in a) 2 ≡ p → eqb (kind_in b) 2 ≡ q → eqb (kind_in a) 6 ≡ r → eqb (kind_in b) 6 ≡ s
           → false ≡ if p && q then (λ _. same_text (text_of program ts (handle_in a)) (text_of program ts (handle_in b)))
-          else λ _. if r && s then (λ _. same_figure program ts ws (number_in a) (number_in b)) else λ _. eqb a b
+          otherwise λ _. if r && s then (λ _. same_figure program ts ws (number_in a) (number_in b)) otherwise λ _. eqb a b
       go true true r s e f g k = clash 2 h e f
       go true false true true e f g k = clash 6 h g k
       go true false true false e f g k = sym (ne_eqb a b (λ z. h (ap (λ (n : ℕ). n % 8) z)))
@@ -72,15 +72,15 @@ module _ (program ts ws : List ℕ) (a b : ℕ) where
 
   module _ (e : a % 8 ≡ b % 8) where
     pub text_keys : (z : Bool) → a % 8 ≡ 2 → z ≡ same_text (text_of program ts (a / 8)) (text_of program ts (b / 8)) → z ≡ same_key program ts ws a b
-    unfolding same_key if◌then◌else◌
+    unfolding same_key if◌then◌otherwise◌
     text_keys z f h = h ∙ rw (← e, f)
 
     pub shape_keys : (z : Bool) (i j : ℕ) → a % 8 ≡ 6 → i ≡ number_in a → j ≡ number_in b → z ≡ same_figure program ts ws i j → z ≡ same_key program ts ws a b
-    unfolding same_key if◌then◌else◌
+    unfolding same_key if◌then◌otherwise◌
     shape_keys z i j f p q h = h ∙ rw (p, q, ← e, f)
 
     pub other_keys : (a % 8 ≡ 2 → ⊥) → (a % 8 ≡ 6 → ⊥) → eqb a b ≡ same_key program ts ws a b
-    unfolding same_key if◌then◌else◌
+    unfolding same_key if◌then◌otherwise◌
     other_keys f g = rw (ne_eqb _ _ f, ne_eqb _ _ g)
 
 -- ---- entries
@@ -121,7 +121,7 @@ same_figure_lem program ts ws i j e = go (get_or ws (shape_place i) 0) (get_or w
         rw (k, l, m, t)
 
 pub same_content : (program ts ws : List ℕ) (a b : ℕ) → same_key program ts ws a b ≡ true → content_of program ts ws a ≡ content_of program ts ws b
-unfolding same_key content_of if◌then◌else◌
+unfolding same_key content_of if◌then◌otherwise◌
 same_content program ts ws a b = go (eqb (kind_in a) 2) (eqb (kind_in b) 2) (eqb (kind_in a) 6) (eqb (kind_in b) 6) refl refl refl refl
   where
     words : eqb a b ≡ true → content_of program ts ws a ≡ content_of program ts ws b
@@ -129,7 +129,7 @@ same_content program ts ws a b = go (eqb (kind_in a) 2) (eqb (kind_in b) 2) (eqb
 
     go : (p q r s : Bool) → eqb (kind_in a) 2 ≡ p → eqb (kind_in b) 2 ≡ q → eqb (kind_in a) 6 ≡ r → eqb (kind_in b) 6 ≡ s
         → (if p && q then (λ _. same_text (text_of program ts (handle_in a)) (text_of program ts (handle_in b)))
-        else λ _. if r && s then (λ _. same_figure program ts ws (number_in a) (number_in b)) else λ _. eqb a b) ≡ true
+        otherwise λ _. if r && s then (λ _. same_figure program ts ws (number_in a) (number_in b)) otherwise λ _. eqb a b) ≡ true
         → content_of program ts ws a ≡ content_of program ts ws b
     go true true r s e f g k h = rw (e, f) (same_eq _ _ h)
     go true false true true e f g k h = two_kinds (kind_in a) e g

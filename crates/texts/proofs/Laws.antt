@@ -8,7 +8,7 @@ use borrow.Author.Tests.{ne_eqb, eqb-true, eqb-false, le-leb, lt-leb, not-true, 
 use lib.Dec.{eqb}
 use lib.ListN.{length, get_or, take, drop, length-take, length-drop, drop_of_length-le}
 use lib.Seq.{take_all, take-nil, length-take-le}
-use Rattle.meaning.specs.Basics.{if◌then◌else◌, same_text}
+use Rattle.meaning.specs.Basics.{if◌then◌otherwise◌, same_text}
 use Rattle.machine.specs.declared.Value.TheVariants.{Text}
 use Rattle.machine.specs.declared.Answer.TheVariants.{Good, Bad}
 use Rattle.machine.specs.Layout.{Lent}
@@ -38,11 +38,11 @@ module _ (s : List ℕ) (start size : ℕ) where
 -- ---- the text of a handle
 module _ (program texts : List ℕ) (h start size : ℕ) (e : start ≡ start_in h) (f : size ≡ size_in h) (r : List ℕ) where
   pub of_program : h % 2 ≡ 0 → r ≡ part start size program → r ≡ text_of program texts h
-  unfolding text_of if◌then◌else◌
+  unfolding text_of if◌then◌otherwise◌
   of_program o q = q ∙ rw (e, f, o)
 
   pub of_store : (h % 2 ≡ 0 → ⊥) → r ≡ part start size texts → r ≡ text_of program texts h
-  unfolding text_of if◌then◌else◌
+  unfolding text_of if◌then◌otherwise◌
   of_store o q = q ∙ rw (e, f, ne_eqb _ _ o)
 
 module _ (program texts : List ℕ) (a b : ℕ) where
@@ -91,7 +91,7 @@ module _ (program texts : List ℕ) (used at h start size n : ℕ) (e : start �
 module _ (program texts words grants : List ℕ) (p a b x y : ℕ) (words' : List ℕ) (ok : Bool)
     (e : x ≡ size_in a) (f : y ≡ size_in b) (h : Pays words 3 (get_or grants 3 0) (x + y) ok words') where
   pub no_text : not ok ≡ true → shown (Bad 78 p) texts words' ≡ join_texts program grants p a b (raw texts words)
-  unfolding join_texts ◌>>=◌ go_on load spend shown if◌then◌else◌
+  unfolding join_texts ◌>>=◌ go_on load spend shown if◌then◌otherwise◌
   no_text t =
       let q = short (rw (not-true ok t) at h) in
       rw (q.words, ← e, ← f, lt-leb (get_or words 3 0 + (x + y)) (get_or grants 3 0) q.beyond)
@@ -107,10 +107,10 @@ module _ (program texts words grants : List ℕ) (p a b x y : ℕ) (words' : Lis
     lays_first = record { behind = omega arith; fits = omega (arith, within, l.texts) }
 
     text_short : (d : List ℕ) (c : ℕ) → length (text_of program d c) ≤ size_in c
-    unfolding text_of if◌then◌else◌ part
+    unfolding text_of if◌then◌otherwise◌ part
     text_short d c = go (eqb (origin_in c) 0)
       where
-        go : (o : Bool) → length (if o then (λ _. part (start_in c) (size_in c) program) else λ _. part (start_in c) (size_in c) d) ≤ size_in c
+        go : (o : Bool) → length (if o then (λ _. part (start_in c) (size_in c) program) otherwise λ _. part (start_in c) (size_in c) d) ≤ size_in c
         go true = simp length-take (omega arith)
         go false = simp length-take (omega arith)
 
@@ -122,7 +122,7 @@ module _ (program texts words grants : List ℕ) (p a b x y : ℕ) (words' : Lis
 
     pub joins : (end end' : ℕ) (texts' texts'' : List ℕ) → Laid program texts (get_or words 3 0) (get_or words 3 0) a end texts' → Laid program texts' (get_or words 3 0) end b end' texts''
         → shown (Good (Text (1 + 2 * (get_or words 3 0 + 65536 * (x + y))))) texts'' words' ≡ join_texts program grants p a b (raw texts words)
-    unfolding join_texts put_joined ◌>>=◌ go_on load give spend shown if◌then◌else◌
+    unfolding join_texts put_joined ◌>>=◌ go_on load give spend shown if◌then◌otherwise◌
     joins end end' texts' texts'' g k =
         let q = paid (rw (not-false ok t) at h) in
         let s : take (get_or words 3 0) texts' ≡ take (get_or words 3 0) texts =

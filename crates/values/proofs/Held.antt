@@ -2,7 +2,7 @@
 use Prim.Native.Nat.{ℕ, ◌^◌, ◌<◌}
 use mathlib.Core.Path.{◌≡◌, ◌∙◌, refl, sym}
 use mathlib.Core.Bool.{Bool, true, false}
-use Rattle.meaning.specs.Basics.{if◌then◌else◌}
+use Rattle.meaning.specs.Basics.{if◌then◌otherwise◌}
 use Rattle.machine.specs.Act.{Raw, Out, Act}
 use borrow.Author.Tests.{eqb-true, eqb-false}
 use lib.Dec.{eqb}
@@ -30,14 +30,14 @@ pub test_is : {y : ℤ} {b c : Bool} (f : ℤ → Bool) → SFits w32 y → b �
 test_is f j z e = rw (← to_z-of_z j) (sym z ∙ e)
 
 -- whichever way a choice goes
-pub either : {A : Type 0} (b : Bool) (f g : Act A) (r : Raw) {o : Out A} → f r ≡ o → g r ≡ o → (if b then (λ _. f) else λ _. g) r ≡ o
-unfolding if◌then◌else◌
+pub either : {A : Type 0} (b : Bool) (f g : Act A) (r : Raw) {o : Out A} → f r ≡ o → g r ≡ o → (if b then (λ _. f) otherwise λ _. g) r ≡ o
+unfolding if◌then◌otherwise◌
 either true f g r h k = h
 either false f g r h k = k
 
 -- the second way
-pub past : {A : Type 0} {b : Bool} → b ≡ false → (f g : Act A) (r : Raw) {o : Out A} → g r ≡ o → (if b then (λ _. f) else λ _. g) r ≡ o
-unfolding if◌then◌else◌
+pub past : {A : Type 0} {b : Bool} → b ≡ false → (f g : Act A) (r : Raw) {o : Out A} → g r ≡ o → (if b then (λ _. f) otherwise λ _. g) r ≡ o
+unfolding if◌then◌otherwise◌
 past e f g r h = rw e h
 
 -- a number is this one, or it is another

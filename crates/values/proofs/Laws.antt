@@ -10,7 +10,7 @@ use lib.Signed.{mag}
 use mir.Syntax.{w32}
 use mir.Val.{to_z, of_z, SFits}
 use mir.Facts.{to_z-of_z}
-use Rattle.meaning.specs.Basics.{if◌then◌else◌}
+use Rattle.meaning.specs.Basics.{if◌then◌otherwise◌}
 use Rattle.meaning.specs.Integer.{bits}
 use Rattle.arithmetic.proofs.Ranges.{bits_below, signed_bits}
 use Rattle.machine.specs.declared.Value.{Value}
@@ -69,62 +69,62 @@ module _ {v : Value} {r : ℕ} where
 -- ---- unpacking, by kind
 module _ (w : ℕ) where
   pub as_integer : {z : ℤ} → kind_in w ≡ 1 → mag z < 2 ^ 31 → z ≡ to_z w32 (number_in w) → Integer (to_z w32 (of_z w32 z)) ≡ unpacked w
-  unfolding unpacked if◌then◌else◌
+  unfolding unpacked if◌then◌otherwise◌
   as_integer {z} e h f = rw (to_z-of_z {w = w32} {z = z} (record { sfits = h }), e, f)
 
   pub as_text : kind_in w ≡ 2 → Text (w / 8) ≡ unpacked w
-  unfolding unpacked if◌then◌else◌
+  unfolding unpacked if◌then◌otherwise◌
   as_text e = rw e
 
   pub as_truth : {b : Bool} → kind_in w ≡ 3 → b ≡ truth_in w → Boolean b ≡ unpacked w
-  unfolding unpacked if◌then◌else◌
+  unfolding unpacked if◌then◌otherwise◌
   as_truth e f = rw (e, f)
 
   pub as_table : {t : ℕ} → kind_in w ≡ 5 → t ≡ number_in w → Table t ≡ unpacked w
-  unfolding unpacked if◌then◌else◌
+  unfolding unpacked if◌then◌otherwise◌
   as_table e f = rw (e, f)
 
   pub as_shape : {i : ℕ} → kind_in w ≡ 6 → i ≡ number_in w → Shape i ≡ unpacked w
-  unfolding unpacked if◌then◌else◌
+  unfolding unpacked if◌then◌otherwise◌
   as_shape e f = rw (e, f)
 
   pub as_nothing : (kind_in w ≡ 1 → ⊥) → (kind_in w ≡ 2 → ⊥) → (kind_in w ≡ 3 → ⊥) → (kind_in w ≡ 5 → ⊥) → (kind_in w ≡ 6 → ⊥) → Nothing ≡ unpacked w
-  unfolding unpacked if◌then◌else◌
+  unfolding unpacked if◌then◌otherwise◌
   as_nothing a b c d e = rw (ne_eqb _ _ a, ne_eqb _ _ b, ne_eqb _ _ c, ne_eqb _ _ d, ne_eqb _ _ e)
 
 -- ---- values by their words
 module _ (w : ℕ) where
   pub unpacked_integer : kind_in w ≡ 1 → unpacked w ≡ Integer (to_z w32 (number_in w))
-  unfolding unpacked if◌then◌else◌
+  unfolding unpacked if◌then◌otherwise◌
   unpacked_integer e = rw e
 
   pub unpacked_text : kind_in w ≡ 2 → unpacked w ≡ Text (handle_in w)
-  unfolding unpacked if◌then◌else◌
+  unfolding unpacked if◌then◌otherwise◌
   unpacked_text e = rw e
 
   pub unpacked_truth : kind_in w ≡ 3 → unpacked w ≡ Boolean (truth_in w)
-  unfolding unpacked if◌then◌else◌
+  unfolding unpacked if◌then◌otherwise◌
   unpacked_truth e = rw e
 
   pub unpacked_table : kind_in w ≡ 5 → unpacked w ≡ Table (number_in w)
-  unfolding unpacked if◌then◌else◌
+  unfolding unpacked if◌then◌otherwise◌
   unpacked_table e = rw e
 
   pub unpacked_shape : kind_in w ≡ 6 → unpacked w ≡ Shape (number_in w)
-  unfolding unpacked if◌then◌else◌
+  unfolding unpacked if◌then◌otherwise◌
   unpacked_shape e = rw e
 
   -- what holds of every kind of value, where the word is of that kind, holds of the word's value
   pub by_kind : (P : Value → Type 0) → (kind_in w ≡ 1 → P (Integer (to_z w32 (number_in w)))) → (kind_in w ≡ 2 → P (Text (handle_in w)))
       → (kind_in w ≡ 3 → P (Boolean (truth_in w))) → P Nothing → (kind_in w ≡ 5 → P (Table (number_in w))) → (kind_in w ≡ 6 → P (Shape (number_in w))) → P (unpacked w)
-  unfolding unpacked if◌then◌else◌
+  unfolding unpacked if◌then◌otherwise◌
   by_kind P a b c d e f = go (eqb (kind_in w) 1) (eqb (kind_in w) 2) (eqb (kind_in w) 3) (eqb (kind_in w) 5) (eqb (kind_in w) 6)
       (λ q. a (eqb-true _ _ q)) (λ q. b (eqb-true _ _ q)) (λ q. c (eqb-true _ _ q)) (λ q. e (eqb-true _ _ q)) (λ q. f (eqb-true _ _ q))
     where
       go : (i j k l m : Bool) → (i ≡ true → P (Integer (to_z w32 (number_in w)))) → (j ≡ true → P (Text (handle_in w))) → (k ≡ true → P (Boolean (truth_in w)))
           → (l ≡ true → P (Table (number_in w))) → (m ≡ true → P (Shape (number_in w)))
-          → P (if i then (λ _. Integer (to_z w32 (number_in w))) else λ _. if j then (λ _. Text (handle_in w)) else λ _. if k then (λ _. Boolean (truth_in w))
-          else λ _. if l then (λ _. Table (number_in w)) else λ _. if m then (λ _. Shape (number_in w)) else λ _. Nothing)
+          → P (if i then (λ _. Integer (to_z w32 (number_in w))) otherwise λ _. if j then (λ _. Text (handle_in w)) otherwise λ _. if k then (λ _. Boolean (truth_in w))
+          otherwise λ _. if l then (λ _. Table (number_in w)) otherwise λ _. if m then (λ _. Shape (number_in w)) otherwise λ _. Nothing)
       go true j k l m a b c e f = a refl
       go false true k l m a b c e f = b refl
       go false false true l m a b c e f = c refl
@@ -152,7 +152,7 @@ small : (n : ℕ) → n < 2 ^ 32 → n % 2 ^ 32 ≡ n
 small n h = omega arith
 
 pub unpacked_packed : (v : Value) → InRange v → unpacked (packed v) ≡ v
-unfolding packed unpacked InRange if◌then◌else◌
+unfolding packed unpacked InRange if◌then◌otherwise◌
 unpacked_packed (Integer z) h =
     rw (kind_is 1 (bits z) (omega arith), above_is 1 (bits z) (omega arith), small (bits z) (bits_below z), signed_bits z h)
 unpacked_packed (Text h) l =

@@ -8,7 +8,7 @@ use lib.ListN.{get_or, set, length, length-set}
 use lib.Seq.{get_or-set_same, get_or-set_other}
 use lib.Dec.{eqb, ltb}
 use borrow.Author.Tests.{not-true, not-false, lt-ltb, le-ltb, ltb-true, eqb-true, eqb-false, ne_eqb}
-use Rattle.meaning.specs.Basics.{if◌then◌else◌}
+use Rattle.meaning.specs.Basics.{if◌then◌otherwise◌}
 use Rattle.machine.specs.Layout.{waiting_held, shapes_granted, Room}
 use Rattle.machine.specs.Act.{raw, Out, done, stop, go_on, ◌>>=◌, give, passed}
 use Rattle.machine.specs.Shapes.{is_group_at, destroyed_at}
@@ -25,18 +25,18 @@ pub room_same : {g ws ws' : List ℕ} → Room g ws → length ws' ≡ length ws
 room_same r l = record { steps = r.steps; shapes = r.shapes; entries = r.entries; text = r.text; calls = r.calls; words = rw l r.words }
 
 pub count_small : (g ws : List ℕ) (d i : ℕ) → count_within g ws d i < 2 ^ 16
-unfolding count_within if◌then◌else◌
+unfolding count_within if◌then◌otherwise◌
 count_small g ws d i = go (ltb d (shapes_granted g))
   where
-    go : (b : Bool) → (if b then (λ _. count_at ws i) else λ _. 0) < 2 ^ 16
+    go : (b : Bool) → (if b then (λ _. count_at ws i) otherwise λ _. 0) < 2 ^ 16
     go true = omega arith
     go false = omega arith
 
 pub count_deep : (g ws : List ℕ) (d i : ℕ) → 0 < count_within g ws d i → d < shapes_granted g
-unfolding count_within if◌then◌else◌
+unfolding count_within if◌then◌otherwise◌
 count_deep g ws d i h = go (ltb d (shapes_granted g)) refl h
   where
-    go : (b : Bool) → ltb d (shapes_granted g) ≡ b → 0 < (if b then (λ _. count_at ws i) else λ _. 0) → d < shapes_granted g
+    go : (b : Bool) → ltb d (shapes_granted g) ≡ b → 0 < (if b then (λ _. count_at ws i) otherwise λ _. 0) → d < shapes_granted g
     go true e l = ltb-true d (shapes_granted g) e
     go false e l = absurd (omega arith)
 
@@ -243,11 +243,11 @@ descends g ws ws' d k n u z l = record { room = room_same u.walks.room l; deep =
 -- ---- the parts of a walk
 module _ (g ws : List ℕ) (d i : ℕ) where
   pub count_is : (n : ℕ) → d < shapes_granted g → n ≡ count_at ws i → n ≡ count_within g ws d i
-  unfolding count_within if◌then◌else◌
+  unfolding count_within if◌then◌otherwise◌
   count_is n h e = e ∙ rw (lt-ltb d (shapes_granted g) h)
 
   pub count_none : shapes_granted g ≤ d → 0 ≡ count_within g ws d i
-  unfolding count_within if◌then◌else◌
+  unfolding count_within if◌then◌otherwise◌
   count_none h = rw (le-ltb d (shapes_granted g) h)
 
 pub back_is : (ws : List ℕ) (d at w : ℕ) → at ≡ way_place d → w ≡ get_or ws at 0 → ◌≡◌ {A = Turn} (At d (w % 4294967296 + 1) (w / 4294967296 % 65536)) (back_at ws d)

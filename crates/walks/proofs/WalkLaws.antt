@@ -9,7 +9,7 @@ use lib.ListN.{get_or, set, length}
 use lib.Seq.{get_or-set_same, get_or-set_other}
 use lib.Dec.{ltb, leb}
 use borrow.Author.Tests.{lt-ltb, le-ltb}
-use Rattle.meaning.specs.Basics.{if◌then◌else◌}
+use Rattle.meaning.specs.Basics.{if◌then◌otherwise◌}
 use Rattle.machine.specs.Layout.{waiting_held, shapes_granted}
 use Rattle.machine.specs.Act.{Raw, raw, Out, done, stop, Act, go_on, ◌>>=◌, ◌>>◌, give, load, store, held, spend}
 use Rattle.machine.specs.Shapes.{is_group_at, destroyed_at}
@@ -34,8 +34,8 @@ keeps_then {A} {B} e r m k h f = go (m r) h
     go (done a r') q = keeps_from e r r' (k a r') q (f a r')
     go (stop n p r') q = tt
 
-pub keeps_either : {A : Type 0} (e : ℕ) (r : Raw) (b : Bool) (x y : Unit {0} → Act A) → Keeps e r (x tt r) → Keeps e r (y tt r) → Keeps e r ((if b then x else y) r)
-unfolding if◌then◌else◌
+pub keeps_either : {A : Type 0} (e : ℕ) (r : Raw) (b : Bool) (x y : Unit {0} → Act A) → Keeps e r (x tt r) → Keeps e r (y tt r) → Keeps e r ((if b then x otherwise y) r)
+unfolding if◌then◌otherwise◌
 keeps_either e r true x y h k = h
 keeps_either e r false x y h k = k
 
@@ -45,10 +45,10 @@ unfolding Keeps store
 keeps_store e r i w h = get_or-set_other r.words i (way_place e) w 0 (λ q. h (sym q))
 
 pub keeps_spend : (e : ℕ) (r : Raw) (counter granted amount number p : ℕ) → counter < 16 → Keeps e r (spend counter granted amount number p r)
-unfolding Keeps spend if◌then◌else◌
+unfolding Keeps spend if◌then◌otherwise◌
 keeps_spend e r counter granted amount number p h = go (leb (get_or r.words counter 0 + amount) granted)
   where
-    go : (b : Bool) → Keeps {A = Unit {0}} e r (if b then (λ _. done (tt {0}) (raw r.texts (set r.words counter (get_or r.words counter 0 + amount)))) else λ _. stop number p r)
+    go : (b : Bool) → Keeps {A = Unit {0}} e r (if b then (λ _. done (tt {0}) (raw r.texts (set r.words counter (get_or r.words counter 0 + amount)))) otherwise λ _. stop number p r)
     go true = get_or-set_other r.words counter (way_place e) _ 0 (λ q. omega arith)
     go false = tt
 
@@ -62,7 +62,7 @@ module _ (g : List ℕ) (reach leave : Doing) (s : Steady g reach leave) (p e : 
   unfolding each_from ◌>>=◌ go_on held give Keeps
   each_keeps visit v zero k r = refl
   each_keeps visit v (suc n) k r =
-      keeps_then e r (if destroyed_at r.words (component_at g r.words k) then (λ _. give tt) else λ _. visit k n (component_at g r.words k)) (λ _. each_from visit g (k + 1) n)
+      keeps_then e r (if destroyed_at r.words (component_at g r.words k) then (λ _. give tt) otherwise λ _. visit k n (component_at g r.words k)) (λ _. each_from visit g (k + 1) n)
       (keeps_either e r (destroyed_at r.words (component_at g r.words k)) (λ _. give tt) (λ _. visit k n (component_at g r.words k)) refl (v k n (component_at g r.words k) r))
       (λ a r'. each_keeps visit v n (k + 1) r')
 
@@ -120,22 +120,22 @@ module _ (reach leave : Doing) (g : List ℕ) (p : ℕ) where
   module _ (d k n : ℕ) (r : Raw) where
     -- the component is destroyed
     pub passes_over : destroyed_at r.words (component_at g r.words k) ≡ true → rest_of reach leave g p d k (suc n) r ≡ rest_of reach leave g p d (k + 1) n r
-    unfolding rest_of level_from each_from ◌>>=◌ go_on give held if◌then◌else◌
+    unfolding rest_of level_from each_from ◌>>=◌ go_on give held if◌then◌otherwise◌
     passes_over h = rw h
 
     -- it is reached
     module _ (c : ℕ) (e : c ≡ component_at g r.words k) (h : destroyed_at r.words c ≡ false) where
       pub reach_stops : (m q : ℕ) (r' : Raw) → reach p c r ≡ stop m q r' → rest_of reach leave g p d k (suc n) r ≡ stop m q r'
-      unfolding rest_of level_from each_from visit_at ◌>>=◌ go_on give held if◌then◌else◌
+      unfolding rest_of level_from each_from visit_at ◌>>=◌ go_on give held if◌then◌otherwise◌
       reach_stops m q r' f = rw (← e, h, f)
 
       pub figure_reached : (r' : Raw) → reach p c r ≡ done tt r' → is_group_at r'.words c ≡ false → rest_of reach leave g p d k (suc n) r ≡ rest_of reach leave g p d (k + 1) n r'
-      unfolding rest_of level_from each_from visit_at ◌>>=◌ go_on give held if◌then◌else◌
+      unfolding rest_of level_from each_from visit_at ◌>>=◌ go_on give held if◌then◌otherwise◌
       figure_reached r' f q = rw (← e, h, f, q)
 
   -- the walk into a group at depth d
   pub level_walk : (d c : ℕ) (r : Raw) → level_from reach leave g p d (first_at r.words c) (count_within g r.words d c) r ≡ walk_in (reach p) (leave p) (shapes_granted g - d) g d c r
-  unfolding level_from count_within walk_in visit_at each_from ◌>>=◌ go_on give held if◌then◌else◌
+  unfolding level_from count_within walk_in visit_at each_from ◌>>=◌ go_on give held if◌then◌otherwise◌
   level_walk d c r = go (shapes_granted g - d) refl
     where
       go : (b : ℕ) → shapes_granted g - d ≡ b
@@ -172,7 +172,7 @@ module _ (reach leave : Doing) (g : List ℕ) (p : ℕ) where
     above = above_of reach leave g p d
 
     goes_down : rest_of reach leave g p d k (suc n) r ≡ go_on (go_on (go_on walked (λ _. leave p d)) (λ _. next)) (λ _. above)
-    unfolding rest_of level_from each_from visit_at ◌>>=◌ go_on give held load store if◌then◌else◌
+    unfolding rest_of level_from each_from visit_at ◌>>=◌ go_on give held load store if◌then◌otherwise◌
     goes_down = let one : d + 1 ≡ suc d = omega arith in rw (← e, h, f, q, one)
 
     comes_back : (r₃ : Raw) → walked ≡ done tt r₃ → (leave p d >> (next >> above)) r₃ ≡ above_of reach leave g p (suc d) r₃

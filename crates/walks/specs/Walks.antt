@@ -1,7 +1,7 @@
 -- Walks over all that a group holds, as a loop makes them: at depth d, n components are left from slot k on, and what is left at the depths above
 -- stands in the words of the way.
 use Rattle.std.specs.Prelude.{ℕ, zero, suc, ◌+◌, ◌-◌, ◌*◌, ◌/◌, ◌%◌, ◌^◌, ◌≤◌, ◌<◌, ◌≡◌, List, get_or, set, eqb, ltb}
-use Rattle.meaning.specs.Basics.{if◌then◌else◌}
+use Rattle.meaning.specs.Basics.{if◌then◌otherwise◌}
 use Rattle.machine.specs.Layout.{shapes_granted, Room}
 use Rattle.machine.specs.Act.{raw, Out, stop, Act, ◌>>=◌, ◌>>◌, give, load, store, held, passed}
 use Rattle.machine.specs.Shapes.{is_group_at}
@@ -38,7 +38,7 @@ module _ (reach leave : Doing) (g : List ℕ) (p : ℕ) where
     store (way_place d) (way_word k n m)
     walk_in (reach p) (leave p) b g (d + 1) c
     leave p d)
-      else λ _. give tt)
+      otherwise λ _. give tt)
 
   unfoldable pub level_from : ℕ → ℕ → ℕ → Act (Unit {0})
   level_from d k n = each_from (visit_at (shapes_granted g - suc d) d) g k n
@@ -65,7 +65,7 @@ pub record Walks (g ws : List ℕ) (d k n : ℕ) : Type 0 where
 
 -- how many components are counted below depth d
 unfoldable pub count_within : List ℕ → List ℕ → ℕ → ℕ → ℕ
-count_within g ws d i = if ltb d (shapes_granted g) then (λ _. count_at ws i) else λ _. 0
+count_within g ws d i = if ltb d (shapes_granted g) then (λ _. count_at ws i) otherwise λ _. 0
 
 -- ---- how much is left: at each depth more than all below it can hold
 unfoldable pub unit_of : ℕ → ℕ

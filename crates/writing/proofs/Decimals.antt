@@ -14,32 +14,32 @@ use lib.ListN.{length, take, length-append}
 use lib.Seq.{take_at}
 use mir.Syntax.{w32, w64}
 use mir.Val.{SFits}
-use Rattle.meaning.specs.Basics.{if◌then◌else◌}
+use Rattle.meaning.specs.Basics.{if◌then◌otherwise◌}
 use Rattle.meaning.specs.Picture.{digits_within, digits_of, decimal}
 use Rattle.writing.specs.Digits.{is_negative}
 
 -- ---- the digits of a number are those of its tenth and one more
 -- rounds beyond the number's value change nothing
 within : (rounds more n : ℕ) → n < rounds → n < more → digits_within rounds n ≡ digits_within more n
-unfolding digits_within if◌then◌else◌
+unfolding digits_within if◌then◌otherwise◌
 within zero more n h k = absurd (omega arith)
 within (suc rounds) zero n h k = absurd (omega arith)
 within (suc rounds) (suc more) n h k = by (ltb n 10) refl (within rounds more (n / 10))
   where
     by : (b : Bool) → ltb n 10 ≡ b → (n / 10 < rounds → n / 10 < more → digits_within rounds (n / 10) ≡ digits_within more (n / 10))
-        → (if b then (λ _. (n + 48) ∷ []) else λ _. digits_within rounds (n / 10) ++ ((n % 10 + 48) ∷ []))
-        ≡ (if b then (λ _. (n + 48) ∷ []) else λ _. digits_within more (n / 10) ++ ((n % 10 + 48) ∷ []))
+        → (if b then (λ _. (n + 48) ∷ []) otherwise λ _. digits_within rounds (n / 10) ++ ((n % 10 + 48) ∷ []))
+        ≡ (if b then (λ _. (n + 48) ∷ []) otherwise λ _. digits_within more (n / 10) ++ ((n % 10 + 48) ∷ []))
     by true e less = refl
     by false e less =
         let l = ltb-false n 10 e in
         ap (λ (b : List ℕ). b ++ (n % 10 + 48) ∷ []) (less (omega arith) (omega arith))
 
 digits_one : (n : ℕ) → n < 10 → digits_of n ≡ (n % 10 + 48) ∷ []
-unfolding digits_of digits_within if◌then◌else◌
+unfolding digits_of digits_within if◌then◌otherwise◌
 digits_one n h = let q : n % 10 ≡ n = omega arith in rw (lt-ltb n 10 h, q)
 
 digits_more : (n : ℕ) → 10 ≤ n → digits_of n ≡ digits_of (n / 10) ++ (n % 10 + 48) ∷ []
-unfolding digits_of digits_within if◌then◌else◌
+unfolding digits_of digits_within if◌then◌otherwise◌
 digits_more n h =
     rw (le-ltb n 10 h) (ap (λ (b : List ℕ). b ++ (n % 10 + 48) ∷ []) (within n (suc (n / 10)) (n / 10) (omega arith) (omega arith)))
 
