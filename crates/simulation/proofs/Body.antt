@@ -36,7 +36,8 @@ use Rattle.simulation.proofs.Flows.{Flows}
 use Rattle.simulation.proofs.Nesting.{procedures_nest}
 use Rattle.simulation.proofs.Scopes.{size_twice, size_once, parameters_few, parameter_name, parameter_number}
 use Rattle.simulation.proofs.Inside.{room_first}
-use Rattle.simulation.proofs.Performing.{Stored, frame_short, starts, takes, has, framed, Procedures, main_scope, body_does, calls_follow}
+use Rattle.simulation.proofs.Performing.{Stored, frame_short, starts, takes, has, framed, Procedures, main_scope, body_does}
+use Rattle.simulation.proofs.Invoking.{calls_follow}
 use Rattle.simulation.proofs.Quoted.{strings_stand}
 
 -- no procedure has a name of the library

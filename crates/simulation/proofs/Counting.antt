@@ -16,7 +16,6 @@ use Rattle.meaning.specs.Run.{run, result}
 use Rattle.meaning.specs.Run as Run
 use Rattle.meaning.specs.Book.{Amounts, added, resource_number, shortage_of}
 use Rattle.meaning.specs.Evaluate as Evaluate
-use Rattle.machine.specs.declared.Value.{Value}
 use Rattle.machine.specs.declared.Value.TheVariants.{Table}
 use Rattle.machine.specs.Layout.{
   steps_used,

@@ -19,7 +19,6 @@ use Rattle.meaning.specs.Execute.{declaring}
 use Rattle.meaning.specs.Procedure.{is_among}
 use Rattle.reader.proofs.Homes.{text_same}
 use Rattle.numbering.specs.Numbers.{number_in}
-use Rattle.machine.specs.declared.Value.{Value}
 use Rattle.machine.specs.Words.{packed, unpacked}
 use Rattle.machine.specs.Layout.{steps_used, tables_made, declared, arguments_held, calls_used, running, components_made, loop_unit, frame, argument_place, stack_words, fixed_words, first_argument}
 use Rattle.machine.specs.Act.{Raw, raw, done, stop}

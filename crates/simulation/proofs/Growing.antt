@@ -21,7 +21,6 @@ use Rattle.meaning.specs.State.{State, with_shape}
 use Rattle.meaning.specs.State as State
 use Rattle.meaning.specs.Run as Run
 use Rattle.meaning.specs.Book.{Amounts}
-use Rattle.machine.specs.declared.Value.TheVariants.{Shape}
 use Rattle.machine.specs.Layout.{
   steps_used,
   shapes_used,

@@ -63,6 +63,7 @@ mod Parameters
 mod Calling
 mod Returning
 pub mod Performing
+pub mod Invoking
 mod Quoted
 pub mod Body
 pub mod Beginning

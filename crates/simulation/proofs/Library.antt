@@ -8,7 +8,6 @@ use mathlib.Core.Logic.{◌≢◌}
 use mathlib.Core.Bool.{Bool, true, false}
 use mathlib.Core.List.{List, [], ◌∷◌}
 use mathlib.Core.Option.{Option, some}
-use mathlib.Core.Option as Option
 use lib.ListN.{get_or}
 use lib.IntN.{ℤ, pos}
 use lib.Dec.{eqb, ltb}

@@ -1,9 +1,8 @@
 -- Names by number: each has one of its own.
-use Prim.Native.Nat.{ℕ, suc, ◌≤◌, ◌<◌}
+use Prim.Native.Nat.{ℕ, ◌<◌}
 use native.Mathlib.Omega.{arith}
-use native.Mathlib.Nat.{le_of_suc-le-suc}
-use mathlib.Core.Path.{◌≡◌, refl, ap, ◌∙◌}
-use mathlib.Core.Bool.{Bool, true, false, ◌||◌}
+use mathlib.Core.Path.{◌≡◌, refl, ◌∙◌}
+use mathlib.Core.Bool.{Bool, true, false}
 use mathlib.Core.List.{List, [], ◌∷◌, ◌++◌}
 use mathlib.Core.Option.{Option, none, some}
 use lib.ListN.{get_or, length, length-append, get_or-append}
@@ -16,7 +15,7 @@ use Rattle.meaning.specs.Tree.{Procedure}
 use Rattle.meaning.specs.Grammar.{reading}
 use Rattle.meaning.specs.Procedure.{is_among}
 use Rattle.reader.specs.Declarations.{declared_by}
-use Rattle.reader.proofs.Homes.{same_text_lem, text_same}
+use Rattle.reader.proofs.Homes.{same_text_lem}
 use Rattle.numbering.specs.Numbers.{with_name, with_names, number_in, variables_in}
 use Rattle.numbering.proofs.Laws.{number_front, number_last}
 use Rattle.simulation.specs.Scope.{own_names, under_way, scope_of}

@@ -10,7 +10,7 @@ use Rattle.meaning.specs.Basics.{bytes, if◌then◌otherwise◌, same_text}
 use Rattle.meaning.specs.Token.{Token}
 use Rattle.meaning.specs.Tree.{Expression, Statement, declare, assign, update, when, while, foreach, return, block, act, Statements, only, first, Procedure, Program}
 use Rattle.meaning.specs.Grammar.{Got, good, wrong, expect, start_at, Inside, ReadExpression, ReadStatement, Readers, declaration, returning, Target, variable, element, no_target, target_of, assignment}
-use Rattle.meaning.specs.Grammar.{simple, guarded, iteration, statements_from, statements, statement_in, expression, statement, procedure, procedures_from, procedure_named, with_main, procedures}
+use Rattle.meaning.specs.Grammar.{simple, guarded, iteration, statements_from, statement_in, expression, statement, procedure, procedures_from, procedure_named, with_main, procedures}
 use Rattle.reader.proofs.Yields.{Yields, yields, fails, yielded, Inner, closed, opened, yields_if, yields_after, yields_opening}
 use Rattle.simulation.specs.Nesting.{Nests, NestsAll}
 

@@ -1,5 +1,5 @@
 -- Procedures of the program: a call of one follows what it means, however deep calls are inside one another.
-use Prim.Native.Nat.{ℕ, zero, suc, ◌+◌, ◌-◌, ◌*◌, ◌≤◌, ◌<◌}
+use Prim.Native.Nat.{ℕ, suc, ◌+◌, ◌-◌, ◌*◌, ◌≤◌, ◌<◌}
 use native.Mathlib.Omega.{arith}
 use native.Mathlib.Nat.{add-zero}
 use native.Mathlib.Numerals.{add-one}
@@ -9,9 +9,8 @@ use mathlib.Core.Bool.{Bool, true, false, cond}
 use mathlib.Core.List.{List, []}
 use mathlib.Core.Option.{Option, none, some}
 use lib.ListN.{get_or, length}
-use lib.Dec.{eqb}
-use borrow.Author.Tests.{eqb-true, eqb-false, eq-eqb, ne_eqb}
-use Rattle.meaning.specs.Basics.{bytes, if◌then◌otherwise◌, same_text}
+use borrow.Author.Tests.{eq-eqb, ne_eqb}
+use Rattle.meaning.specs.Basics.{bytes, same_text}
 use Rattle.meaning.specs.Token.{Token, a_name}
 use Rattle.meaning.specs.Tree.{Procedure, Program}
 use Rattle.meaning.specs.Grammar.{well_formed, reading, procedure_named}
@@ -19,9 +18,9 @@ use Rattle.meaning.specs.Value as Value
 use Rattle.meaning.specs.State.{State, entered, fresh, resumed}
 use Rattle.meaning.specs.Run as Run
 use Rattle.meaning.specs.Book.{Amounts, added, shortage_of}
-use Rattle.meaning.specs.Library.{Library, library_of, call_library}
+use Rattle.meaning.specs.Library.{Library, library_of}
 use Rattle.meaning.specs.Execute.{execute_all}
-use Rattle.meaning.specs.Procedure.{any_twice, assigning_all, returned_by, invoking, found, calling}
+use Rattle.meaning.specs.Procedure.{any_twice, assigning_all, returned_by, calling}
 use Rattle.names.specs.Prepared.{number_of, library_number, procedure_number}
 use Rattle.machine.specs.Opcodes.{table_place, start_in, parameters_in, body_in, frame_in}
 use Rattle.code.specs.Code.{slot_of, statements_with, code_of_statements}
@@ -124,7 +123,7 @@ own_number (some Library.destroy_shape) e = absurd (omega arith)
 own_number (some Library.clear_scene) e = absurd (omega arith)
 own_number (some Library.draw_group) e = absurd (omega arith)
 
-own_name : (x : List ℕ) → procedure_number x ≡ 11 → (same_text x (bytes "main") ≡ false) × (library_of x ≡ none)
+pub own_name : (x : List ℕ) → procedure_number x ≡ 11 → (same_text x (bytes "main") ≡ false) × (library_of x ≡ none)
 unfolding procedure_number library_number
 own_name x e = go (same_text x (bytes "main")) e
   where
@@ -144,11 +143,11 @@ module _ (e : Setting) (ts : List Token) (m : Program) (read : reading e.program
 
 module _ (e : Setting) {ts : List Token} (sane : Sane ts) (strings : Strings e.program ts) {granted : Amounts} (gr : Grants e.grants granted) (m : Program)
     (ps : Procedures e ts m) where
-  abbrev Here : Raw → State → Amounts → Type 0
+  abbrev pub Here : Raw → State → Amounts → Type 0
   Here r s total = Related e.program ts e.grants r s total
 
   -- how calls are performed, n deep: `room` is at most 8192 words for each call, and as much fuel is left for each call that may still be made
-  abbrev Calls : ℕ → Type 0
+  abbrev pub Calls : ℕ → Type 0
   Calls n = (w c room : ℕ) → 0 < c → room ≤ 8192 * c → (fuel : ℕ) → 8192 * (64 - c) ≤ fuel → Invokes e ts granted m.procedures n w c room fuel
 
   -- ---- a body, in a call whose frame is the last on the stack
@@ -176,16 +175,16 @@ module _ (e : Setting) {ts : List Token} (sane : Sane ts) (strings : Strings e.p
       {r₁ r : Raw} {s₁ s : State} {total₁ total : Amounts} {us : List Value.Value} (h₁ : Here r₁ s₁ total₁) (args : AfterArguments e.program ts e.grants r₁ us r s total)
       (c room : ℕ) (some-call : 0 < c) (balance : room ≤ 8192 * c) (calls_are : get_or r.words calls_used 0 ≡ c) (turns : steps_left e.grants r < n)
       (held : 2 * get_or r.words arguments_held 0 ≤ room) (deep : 8192 * (64 - c) ≤ fuel) where
-    st : Stored e ts x f
+    pub st : Stored e ts x f
     st = ps.known x f o named
 
     h : Here r s total
     h = args.related
 
-    abbrev base : ℕ
+    abbrev pub base : ℕ
     base = get_or r₁.words arguments_held 0
 
-    abbrev top : ℕ
+    abbrev pub top : ℕ
     top = get_or r.words arguments_held 0
 
     abbrev w : ℕ
@@ -198,10 +197,10 @@ module _ (e : Setting) {ts : List Token} (sane : Sane ts) (strings : Strings e.p
     size_is = ap length scope_is
 
     -- ---- parameters assigned, the body, and the return
-    abbrev inside : Act Value
+    abbrev pub inside : Act Value
     inside = Act.◌>>=◌ (body_at fuel e (st.code.start + length f.parameters) (length (numbered_body f ts))) (λ flow. Act.◌>>◌ (resume base) (result_of flow))
 
-    abbrev inside' : Run.Action Value.Value
+    abbrev pub inside' : Run.Action Value.Value
     inside' = Run.◌>>=◌ Run.current (λ s. Run.◌>>◌ (Run.become (entered s (fresh f.parameters))) (Run.◌>>◌ (assigning_all p f.parameters us)
         (Run.◌>>=◌ (execute_all (calling n m.procedures) f.body n) (λ flow. Run.◌>>=◌ Run.current (λ s'.
         Run.◌>>◌ (Run.become (resumed s s')) (Run.◌>>◌ Run.give_back (Run.give (returned_by flow))))))))
@@ -234,17 +233,17 @@ module _ (e : Setting) {ts : List Token} (sane : Sane ts) (strings : Strings e.p
     given_many : top - base ≡ args.many
     given_many = omega (arith, args.held)
 
-    us_many : length us ≡ args.many
+    pub us_many : length us ≡ args.many
     us_many = ap length args.stacked.are ∙ length_listed _ base args.many
 
-    abbrev begins : Out (Unit {0})
+    abbrev pub begins : Out (Unit {0})
     begins = begin e.grants e.code (slot_of ts x) top p base r
 
-    by_word : invoke_at fuel e (slot_of ts x) p base r ≡ Act.go_on begins (λ _. inside)
+    pub by_word : invoke_at fuel e (slot_of ts x) p base r ≡ Act.go_on begins (λ _. inside)
     unfolding procedure_at Act.◌>>=◌ Act.go_on Act.load
     by_word = rw (starts st, takes st, has st)
 
-    begin_wrong : args.many ≢ length f.parameters → begins ≡ stop 20 p r
+    pub begin_wrong : args.many ≢ length f.parameters → begins ≡ stop 20 p r
     unfolding begin Act.◌>>=◌ Act.go_on Act.refuse Act.give Act.fail
     begin_wrong d = rw (ne_eqb _ 0 (there st), takes st, given_many, ne_eqb args.many (length f.parameters) d)
 
@@ -265,7 +264,7 @@ module _ (e : Setting) {ts : List Token} (sane : Sane ts) (strings : Strings e.p
         let some : suc (length (variables_in f)) ≢ 0 = λ k. omega arith in
         rw (ne_eqb _ 0 (there st), takes st, given_many, eq-eqb args.many (length f.parameters) q, framed st, z, ne_eqb _ 0 some, (kept h).is)
 
-    begins_so : args.many ≡ length f.parameters → (t : Bool) → any_twice f.parameters ≡ t → Follows granted total (Values e.program ts e.grants r₁) (Act.go_on begins (λ _. inside))
+    pub begins_so : args.many ≡ length f.parameters → (t : Bool) → any_twice f.parameters ≡ t → Follows granted total (Values e.program ts e.grants r₁) (Act.go_on begins (λ _. inside))
         (Run.◌>>◌ (Run.refuse t 60 p) (Run.◌>>◌ (Run.spend Run.calls 1 p) inside') s)
     unfolding Act.◌>>=◌ Act.go_on Run.◌>>=◌ Run.go_on Run.refuse Run.fail Run.give shortage_of Act.store
     begins_so same true twice = rw (begin_twice same (size_twice f twice)) (failed 60 p r (steps_told h))
@@ -281,41 +280,3 @@ module _ (e : Setting) {ts : List Token} (sane : Sane ts) (strings : Strings e.p
         let names : (k : ℕ) → k < length f.parameters → get_or (scope_of e.program ts w) k [] ≡ get_or f.parameters k [] = λ k l. rw scope_is (parameter_name f once k l) in
         let b = begun h w p f.parameters some_calls less fit few brief names in
         rw (← size_is, (opened h w p f.parameters some_calls less fit few brief names).is) (called_with {r₂ = within h w p f.parameters some_calls less fit few brief names} fewer once b same)))
-
-    performed : Follows granted total (Values e.program ts e.grants r₁) (invoke_at fuel e (slot_of ts x) p (get_or r₁.words arguments_held 0) r)
-        (invoking (λ ss. execute_all (calling n m.procedures) ss n) f p us s)
-    unfolding invoking Run.◌>>=◌ Run.go_on Run.refuse Run.fail Run.give Act.go_on
-    performed = rw by_word (go (eqb args.many (length f.parameters)) refl)
-      where
-        go : (t : Bool) → eqb args.many (length f.parameters) ≡ t
-            → Follows granted total (Values e.program ts e.grants r₁) (Act.go_on begins (λ _. inside)) (invoking (λ ss. execute_all (calling n m.procedures) ss n) f p us s)
-        go true q =
-            let same : args.many ≡ length f.parameters = eqb-true args.many (length f.parameters) q in
-            rw (us_many, q) (begins_so same (any_twice f.parameters) refl)
-        go false q =
-            let other : args.many ≢ length f.parameters = eqb-false args.many (length f.parameters) q in
-            rw (begin_wrong other, us_many, q) (failed 20 p r (steps_told h))
-
-  -- ---- a name that no procedure has
-  not_there : (fuel : ℕ) (x : List ℕ) → Occurs ts a_name x → procedure_named x m.procedures ≡ none → (p base : ℕ) (r : Raw) → invoke_at fuel e (slot_of ts x) p base r ≡ stop 20 p r
-  unfolding procedure_at begin Act.◌>>=◌ Act.go_on Act.load Act.refuse Act.fail
-  not_there fuel x o named p base r = rw (ps.unknown x o named)
-
-  -- ---- all calls
-  pub calls_follow : (n : ℕ) → Calls n
-  unfolding calling found call_library if◌then◌otherwise◌ Run.fail
-  calls_follow zero w c room some-call balance fuel deep = record { follows = λ x o own p h₁ args un fewer held. absurd (omega arith) }
-  calls_follow (suc n) w c room some-call balance fuel deep = record {
-    follows = λ x o own p h₁ args un fewer held.
-        by_name (calls_follow n) x o (own_name x own) p h₁ args un.calls (omega arith) held (procedure_named x m.procedures) refl;
-  }
-    where
-      by_name : Calls n → (x : List ℕ) → Occurs ts a_name x → (same_text x (bytes "main") ≡ false) × (library_of x ≡ none) → (p : ℕ)
-          {r₁ r : Raw} {s₁ s : State} {total₁ total : Amounts} {us : List Value.Value} → Here r₁ s₁ total₁ → AfterArguments e.program ts e.grants r₁ us r s total
-          → get_or r.words calls_used 0 ≡ c → steps_left e.grants r < n → 2 * get_or r.words arguments_held 0 ≤ room
-          → (f : Option Procedure) → procedure_named x m.procedures ≡ f
-          → Follows granted total (Values e.program ts e.grants r₁) (invoke_at fuel e (slot_of ts x) p (get_or r₁.words arguments_held 0) r) (calling (suc n) m.procedures x p us s)
-      by_name again x o plain p {r₁} {r} h₁ args b turns held none q =
-          rw (plain.0, q, plain.1, not_there fuel x o q p (get_or r₁.words arguments_held 0) r) (failed 20 p r (steps_told args.related))
-      by_name again x o plain p {r₁} {r} h₁ args b turns held (some f) q =
-          rw (plain.0, q) (performed n fuel again x o f q p h₁ args c room some-call balance b turns held deep)

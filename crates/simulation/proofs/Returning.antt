@@ -17,7 +17,6 @@ use Rattle.meaning.specs.Run as Run
 use Rattle.meaning.specs.Book.{Amounts, lowered, resource_number}
 use Rattle.meaning.specs.Execute as Execute
 use Rattle.meaning.specs.Procedure.{returned_by}
-use Rattle.machine.specs.declared.Value.{Value}
 use Rattle.machine.specs.declared.Flow.{Flow}
 use Rattle.machine.specs.Layout.{
   steps_used,
