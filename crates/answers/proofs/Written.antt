@@ -1,9 +1,8 @@
 -- Four words written one by one lie over the front of the slice.
-use Prim.Native.Nat.{ℕ, zero, suc, ◌≤◌}
+use Prim.Native.Nat.{ℕ}
 use mathlib.Core.Path.{◌≡◌, refl, ap, ◌∙◌}
 use mathlib.Core.List.{List, [], ◌∷◌}
-use native.Mathlib.Nat.{not-suc-le-zero, le_of_suc-le-suc}
-use lib.ListN.{length, set}
+use lib.ListN.{set}
 use Rattle.meaning.specs.Basics.{laid_over}
 use Rattle.answers.specs.declared.Answer as Declared
 use Rattle.answers.specs.declared.Answer.TheVariants.{Picture, Number}
@@ -25,12 +24,6 @@ module _ (r : Declared.Answer) (words words' : List ℕ) where
   pub write_number : (m p n l : ℕ) → r ≡ Number m p n l → words' ≡ set (set (set (set words 0 m) 1 p) 2 n) 3 l → Told (meant r) words words' m
   unfolding numbers_of meant
   write_number m p n l e h = record { written = rw (e, h) (four m p n l words); returned = rw e }
-
--- a word that lies past the end
-pub set_past : (xs : List ℕ) (i w : ℕ) → length xs ≤ i → xs ≡ set xs i w
-set_past [] i w h = refl
-set_past (x ∷ xs) zero w h = absurd (not-suc-le-zero h)
-set_past (x ∷ xs) (suc i) w h = ap (◌∷◌ x) (set_past xs i w (le_of_suc-le-suc h))
 
 -- one write after another
 pub four_writes : (a b c d : ℕ) (xs xs₁ xs₂ xs₃ xs₄ : List ℕ) →

@@ -4,6 +4,8 @@
 ghost use Rattle.std.specs.Prelude.{◌≡◌, set};
 ghost use Rattle.answers.specs.Answers.{meant, Told};
 
+use slices::put;
+
 // A picture with its length and steps (from checking: well formed, both 0); or a number with its place, the steps counted, and after 80 the
 // length that the picture needs, else 0.
 #[derive(Clone, Copy)]
@@ -32,17 +34,8 @@ pub fn write_answer(r: Answer, answer: &mut [u64]) -> u64
 fn write_four(answer: &mut [u64], m: u64, p: u64, n: u64, l: u64)
     ensures { answer.new ≡ set (set (set (set answer.old 0 m) 1 p) 2 n) 3 l }
 {
-    write_word(answer, 0, m);
-    write_word(answer, 1, p);
-    write_word(answer, 2, n);
-    write_word(answer, 3, l);
-}
-
-// Writes one word; past the end it does nothing.
-fn write_word(answer: &mut [u64], i: usize, w: u64)
-    ensures { answer.new ≡ set answer.old i w }
-{
-    if i < answer.len() {
-        answer[i] = w;
-    }
+    put(answer, 0, m);
+    put(answer, 1, p);
+    put(answer, 2, n);
+    put(answer, 3, l);
 }

@@ -1,7 +1,7 @@
 // Words of code.
 #![tactic(auto)]
 
-ghost use Rattle.std.specs.Prelude.{◌≡◌, ◌+◌, ◌-◌, ◌^◌, ◌<◌, ◌≤◌, set};
+ghost use Rattle.std.specs.Prelude.{◌≡◌, ◌+◌, ◌-◌, ◌^◌, ◌<◌, ◌≤◌};
 ghost use Rattle.machine.specs.Opcodes.{word, procedure_word, tag_in, size_in, number_in, place_in, extra_in, argument_root};
 ghost use Rattle.machine.specs.Opcodes.{library_in, callee_in, table_place, start_in, parameters_in, body_in, frame_in};
 
@@ -170,10 +170,4 @@ pub fn before(w: u64, y: usize) -> usize
 }
 
 // A store, which past the end does nothing.
-pub fn put(code: &mut [u64], n: usize, w: u64)
-    ensures { code.new ≡ set code.old n w }
-{
-    if n < code.len() {
-        code[n] = w;
-    }
-}
+pub use slices::put;

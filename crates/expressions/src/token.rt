@@ -1,15 +1,10 @@
 // Token words, each read as 0 behind the last.
-ghost use Rattle.std.specs.Prelude.{◌≡◌, get_or};
+ghost use Rattle.std.specs.Prelude.{◌≡◌};
 ghost use Rattle.expressions.specs.Words.{kind_at, place_at, payload_at, home_at, procedure_at, callee_at, part_at, operator_tag};
 
 use crate::kinds;
 use machine::tags;
-
-pub fn word_at(tokens: &[u64], i: usize) -> u64
-    ensures { result ≡ get_or tokens.now i 0 }
-{
-    if i < tokens.len() { tokens[i] } else { 0 }
-}
+pub use slices::word_at;
 
 pub fn kind_at(tokens: &[u64], i: usize) -> u64
     ensures { result ≡ kind_at tokens.now i }

@@ -1,10 +1,11 @@
 // Tokens of a program, as words in a slice that is lent for them.
 #![tactic(auto)]
 
-ghost use Rattle.std.specs.Prelude.{◌≡◌, ◌≤◌, length, set};
+ghost use Rattle.std.specs.Prelude.{◌≡◌, ◌≤◌, length};
 ghost use Rattle.meaning.specs.Token.{tokens_of};
 ghost use Rattle.lexer.specs.Lexing.{class_table, seen, laid_tokens};
 
+use slices::put;
 use table::{CLASSES, WHITE};
 use tokens::token_size;
 
@@ -51,13 +52,4 @@ fn lex_by(classes: &[u8; 256], program: &[u8], tokens: &mut [u64]) -> Tokens
         at += token_size(w);
     }
     Tokens::Found(n)
-}
-
-// Stores a word; past the end, nothing.
-fn put(tokens: &mut [u64], i: usize, w: u64)
-    ensures { tokens.new ≡ set tokens.old i w }
-{
-    if i < tokens.len() {
-        tokens[i] = w;
-    }
 }

@@ -1,8 +1,8 @@
 -- What each way through the code does.
-use Prim.Native.Nat.{ℕ, zero, suc, ◌+◌, ◌-◌, ◌*◌, ◌/◌, ◌%◌, ◌^◌, ◌≤◌, ◌<◌}
+use Prim.Native.Nat.{ℕ, ◌+◌, ◌-◌, ◌*◌, ◌/◌, ◌%◌, ◌^◌, ◌≤◌, ◌<◌}
 use mathlib.Core.Path.{◌≡◌, refl, ◌∙◌}
 use mathlib.Core.Bool.{Bool, true, false, not}
-use mathlib.Core.List.{List, [], ◌∷◌}
+use mathlib.Core.List.{List}
 use native.Mathlib.Omega.{arith}
 use native.Mathlib.Nat.{le_trans, mul-le-mul_left}
 use lib.ListN.{get_or, set, length}
@@ -26,12 +26,6 @@ use Rattle.machine.specs.Loops.{mark_place}
 use Rattle.machine.specs.Stack.{push, drop_to}
 use Rattle.stores.proofs.Acts.{paid, short}
 use Rattle.meaning.specs.Basics.{if◌then◌otherwise◌}
-
--- ---- words
-pub past_end : (ws : List ℕ) (i : ℕ) → length ws ≤ i → 0 ≡ get_or ws i 0
-past_end [] i h = refl
-past_end (w ∷ ws) zero h = absurd (omega arith)
-past_end (w ∷ ws) (suc i) h = past_end ws i (omega arith)
 
 -- ---- counters
 module _ (ws : List ℕ) (counter granted amount : ℕ) where

@@ -5,8 +5,8 @@ use Rattle.answers.proofs.write_four.Goals as goal
 pub returns : goal.returns
 returns c =
     let z = c.args in
-    four_writes z.m z.p z.n z.l z.answer.now c.write_word.new.answer c.write_word-2.new.answer
-    c.write_word-3.new.answer _
-    c.write_word.ensures
-    c.write_word-2.ensures c.write_word-3.ensures
-    c.write_word-4.ensures
+    four_writes z.m z.p z.n z.l z.answer.now c.put.new.words c.put-2.new.words
+    c.put-3.new.words _
+    c.put.ensures
+    c.put-2.ensures c.put-3.ensures
+    c.put-4.ensures

@@ -1,7 +1,0 @@
--- `token::word_at` meets its contract: behind the last token the word is 0. Assumes nothing.
-use mathlib.Core.Path.{sym}
-use lib.ListN.{get_or-eq_default}
-use Rattle.expressions.proofs.token.word_at.Goals as goal
-
-pub returns-else-i-tokens : goal.returns-else-i-tokens
-returns-else-i-tokens c = sym (get_or-eq_default c.args.tokens.now 0 c.if-i-tokens.false)
