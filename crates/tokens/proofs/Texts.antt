@@ -1,16 +1,15 @@
--- Parts of a program, and their comparison.
+-- The comparison of texts.
 -- Assumes nothing.
-use mathlib.Core.Path.{◌≡◌, ◌∙◌, refl, sym, ap}
+use mathlib.Core.Path.{◌≡◌, refl, ap}
 use mathlib.Core.Bool.{Bool, true, false, ◌&&◌, cond}
 use mathlib.Core.List.{List, [], ◌∷◌}
 use Prim.Native.String.{String}
-use Prim.Native.Nat.{ℕ, suc, ◌+◌, ◌-◌, ◌≤◌, ◌<◌, min}
-use native.Mathlib.Numerals.{add-one}
+use Prim.Native.Nat.{ℕ, suc, ◌+◌, ◌-◌, ◌≤◌, ◌<◌}
 use native.Mathlib.Omega.{arith}
-use borrow.Author.Tests.{eq-eqb, ne_eqb, leb-true, leb-false}
-use lib.Dec.{eqb, leb}
-use lib.ListN.{length, get_or, take, drop, drop_of_length-le, length-drop}
-use lib.Seq.{drop-cons, take_all, take-nil}
+use borrow.Author.Tests.{ne_eqb}
+use lib.Dec.{eqb}
+use lib.Pointwise.{pointwise}
+use lib.ListN.{length, take, drop}
 use Rattle.meaning.specs.Basics.{bytes, same_text}
 use Rattle.meaning.specs.Token.{word_kind}
 use Rattle.tokens.specs.Words.{text_in}
@@ -20,26 +19,19 @@ and-false : (b : Bool) → b && false ≡ false
 and-false true = refl
 and-false false = refl
 
-pub other_lengths : (x y : List ℕ) → (length x ≡ length y → ⊥) → same_text x y ≡ false
+other_lengths : (x y : List ℕ) → (length x ≡ length y → ⊥) → same_text x y ≡ false
 unfolding same_text
 other_lengths [] [] h = absurd (h refl)
 other_lengths [] (b ∷ y) h = refl
 other_lengths (a ∷ x) [] h = refl
 other_lengths (a ∷ x) (b ∷ y) h = rw (other_lengths x y (λ e. h (ap suc e))) (and-false (eqb a b))
 
-module _ (x y : List ℕ) (i : ℕ) where
-  pub other_here : i < length x → i < length y → (get_or x i 0 ≡ get_or y i 0 → ⊥) → same_text (drop i x) (drop i y) ≡ false
-  unfolding same_text
-  other_here h k n = rw (drop-cons x i 0, drop-cons y i 0, ne_eqb _ _ n)
-
-  pub same_here : i < length x → i < length y → get_or x i 0 ≡ get_or y i 0
-      → same_text (drop i x) (drop i y) ≡ same_text (drop (i + 1) x) (drop (i + 1) y)
-  unfolding same_text
-  same_here h k e = rw (drop-cons x i 0, drop-cons y i 0, eq-eqb _ _ e, add-one i)
-
-  pub same_over : length x ≤ i → length y ≤ i → same_text (drop i x) (drop i y) ≡ true
-  unfolding same_text
-  same_over h k = rw (drop_of_length-le x {i = i} h, drop_of_length-le y {i = i} k)
+pub same_bytes : (x y : List ℕ) → pointwise eqb x y ≡ same_text x y
+unfolding same_text
+same_bytes [] [] = refl
+same_bytes [] (b ∷ y) = refl
+same_bytes (a ∷ x) [] = refl
+same_bytes (a ∷ x) (b ∷ y) = ap (λ (t : Bool). eqb a b && t) (same_bytes x y)
 
 -- ---- reserved words, by their length
 module _ (w : List ℕ) where
@@ -154,39 +146,6 @@ module _ (w : List ℕ) where
         far "in" (omega arith),
         far "do" (omega arith),
       )
-
--- ---- parts
-by_order : (P : Type 0) (m n : ℕ) → (m ≤ n → P) → (n < m → P) → P
-by_order P m n f g = go (leb m n) refl
-  where
-    go : (b : Bool) → leb m n ≡ b → P
-    go true e = f (leb-true m n e)
-    go false e = g (leb-false m n e)
-
-take_least : (n : ℕ) (l : List ℕ) → take (min n (length l)) l ≡ take n l
-take_least n l =
-    by_order (take (min n (length l)) l ≡ take n l) n (length l)
-    (λ h. let q : min n (length l) ≡ n = omega arith in ap (λ (m : ℕ). take m l) q)
-    (λ h. take_all (min n (length l)) l (omega arith) ∙ sym (take_all n l (omega arith)))
-
--- a part whose ends are clipped to the program is what `take` and `drop` leave of it
-module _ (s : List ℕ) (start end : ℕ) where
-  empty : min end (length s) ≤ start → take (end - start) (drop start s) ≡ []
-  empty h =
-      by_order (take (end - start) (drop start s) ≡ []) end start
-      (λ l. let q : end - start ≡ 0 = omega arith in ap (λ (m : ℕ). take m (drop start s)) q)
-      (λ l. ap (take (end - start)) (drop_of_length-le s {i = start} (omega arith)) ∙ take-nil (end - start))
-
-  pub clipped : (e b : ℕ) → e ≡ min end (length s) → b ≡ min start e → take (e - b) (drop b s) ≡ take (end - start) (drop start s)
-  clipped e b he hb =
-      by_order (take (e - b) (drop b s) ≡ take (end - start) (drop start s)) start e
-      (λ h.
-      let q : b ≡ start = omega arith in
-      let m : e - start ≡ min (end - start) (length (drop start s)) = omega (arith, length-drop start s) in
-      rw (q, m) (take_least (end - start) (drop start s)))
-      (λ h.
-      let m : e - b ≡ 0 = omega arith in
-      rw m (sym (empty (omega arith))))
 
 -- the text of a word's token
 module _ (program : List ℕ) (k p n : ℕ) where

@@ -9,33 +9,16 @@ use crate::kind;
 pub fn spelling(program: &[u8], start: usize, end: usize) -> &[u8]
     ensures { result.now ≡ take (end - start) (drop start program.now) }
 {
-    let e = least(end, program.len());
-    let s = least(start, e);
+    let e = end.min(program.len());
+    let s = start.min(e);
     &program[s..e]
-}
-
-// The least of two numbers.
-fn least(x: usize, y: usize) -> usize
-    ensures { result ≡ min x y }
-{
-    if x < y { x } else { y }
 }
 
 // Whether two texts have the same bytes.
 pub fn same_text(x: &[u8], y: &[u8]) -> bool
     ensures { result ≡ same_text x.now y.now }
 {
-    if x.len() != y.len() {
-        return false;
-    }
-    let mut i = 0;
-    while i < x.len() {
-        if x[i] != y[i] {
-            return false;
-        }
-        i += 1;
-    }
-    true
+    x == y
 }
 
 // The kind of a name or a reserved word.
