@@ -1,22 +1,22 @@
 -- What each way through the code does, and what a joined text holds.
-use mathlib.Core.Path.{◌≡◌, ◌∙◌, refl, sym, ap}
+use mathlib.Core.Path.{◌≡◌, ◌∙◌, sym}
 use mathlib.Core.Bool.{Bool, true, false, not}
-use mathlib.Core.List.{List, []}
-use Prim.Native.Nat.{ℕ, zero, suc, ◌+◌, ◌-◌, ◌*◌, ◌%◌, ◌≤◌, ◌<◌}
+use mathlib.Core.List.{List, [], ◌++◌}
+use Prim.Native.Nat.{ℕ, ◌+◌, ◌-◌, ◌*◌, ◌%◌, ◌≤◌, ◌<◌}
 use native.Mathlib.Omega.{arith}
-use borrow.Author.Tests.{ne_eqb, eqb-true, eqb-false, le-leb, lt-leb, not-true, not-false}
+use borrow.Author.Tests.{ne_eqb, le-leb, lt-leb, not-true, not-false}
 use lib.Dec.{eqb}
 use lib.ListN.{length, get_or, take, drop, length-take, length-drop, drop_of_length-le}
-use lib.Seq.{take_all, take-nil, length-take-le}
-use Rattle.meaning.specs.Basics.{if◌then◌otherwise◌, same_text}
+use lib.Seq.{take_all, take-nil, take-take, length-take-le}
+use Rattle.meaning.specs.Basics.{if◌then◌otherwise◌, same_text, laid_over}
 use Rattle.machine.specs.declared.Value.TheVariants.{Text}
 use Rattle.machine.specs.declared.Answer.TheVariants.{Good, Bad}
 use Rattle.machine.specs.Layout.{Lent}
 use Rattle.machine.specs.Act.{raw, go_on, load, give, spend, shown, Pays, ◌>>=◌}
 use Rattle.machine.specs.Texts.{origin_in, start_in, size_in, part, text_of, laid_at, joined, put_joined, join_texts}
 use Rattle.stores.proofs.Acts.{paid, short}
-use Rattle.texts.specs.Laying.{Clipped, Lays, Laid}
-use Rattle.texts.proofs.Layer.{laid_laid, kept_laid, part_take, part_clip, length_part}
+use Rattle.texts.specs.Laying.{Lays, Laid}
+use Rattle.texts.proofs.Layer.{laid_laid, kept_laid, over_is}
 use Rattle.texts.proofs.Comparison.{same_self}
 
 -- ---- a part of a slice
@@ -54,38 +54,28 @@ module _ (program texts : List ℕ) (a b : ℕ) where
   same_texts x y r e f h = rw (← e, ← f) h
 
 -- ---- a text laid into the store
--- a part that was clipped is the part
-clipped_part : (d : List ℕ) (start size n : ℕ) → Clipped (length d) start size n → part start n d ≡ part start size d
-clipped_part d start size n c = go (eqb n size) refl
+text_short : (program d : List ℕ) (h : ℕ) → length (text_of program d h) ≤ size_in h
+unfolding text_of if◌then◌otherwise◌ part
+text_short program d h = go (eqb (origin_in h) 0)
   where
-    go : (b : Bool) → eqb n size ≡ b → part start n d ≡ part start size d
-    go true e = ap (λ (k : ℕ). part start k d) (eqb-true n size e)
-    go false e = part_clip start n size d c.most (eqb-false n size e) (c.rest (eqb-false n size e))
+    go : (o : Bool) → length (if o then (λ _. part (start_in h) (size_in h) program) otherwise λ _. part (start_in h) (size_in h) d) ≤ size_in h
+    go true = simp length-take (omega arith)
+    go false = simp length-take (omega arith)
 
--- what is read of the store lies in the part used
-used_part : (d : List ℕ) (used start n : ℕ) → n ≤ used - start → part start n d ≡ part start n (take used d)
-unfolding part
-used_part d used start zero h = refl
-used_part d used start (suc n) h = sym (part_take used start (suc n) d (omega arith))
+module _ (program texts : List ℕ) (used at h : ℕ) (y : Lays texts used at h) (before behind x : List ℕ)
+    (e : before ≡ take at texts) (f : behind ≡ drop at texts) (t : x ≡ text_of program (take used before) h) where
+  pub text_fits : length x ≤ length behind
+  text_fits = rw (t, f) (omega (arith, text_short program (take used before) h, length-drop at texts, y.fits))
 
-module _ (program texts : List ℕ) (used at h start size n : ℕ) (e : start ≡ start_in h) (f : size ≡ size_in h) (after : List ℕ) where
-  text_in_program : h % 2 ≡ 0 → text_of program (take used texts) h ≡ part start size program
-  text_in_program o = sym (of_program program (take used texts) h start size e f (part start size program) o refl)
+  pub text_room : length (take (length x) behind) ≡ length x
+  text_room = length-take-le (length x) behind text_fits
 
-  text_in_store : (h % 2 ≡ 0 → ⊥) → text_of program (take used texts) h ≡ part start size (take used texts)
-  text_in_store o = sym (of_store program (take used texts) h start size e f (part start size (take used texts)) o refl)
-
-  pub lays_program : h % 2 ≡ 0 → Clipped (length program) start size n → after ≡ laid_at texts at (part start n program) → Laid program texts used at h (at + n) after
-  lays_program o c l =
-      let q : text_of program (take used texts) h ≡ part start n program = text_in_program o ∙ sym (clipped_part program start size n c) in
-      record { upto = rw (q, length_part program start n c.within); holds = rw q l }
-
-  pub lays_store : Lays texts used at h → (h % 2 ≡ 0 → ⊥) → Clipped used start size n → after ≡ laid_at texts at (part start n texts) → Laid program texts used at h (at + n) after
-  lays_store y o c l =
-      let k : length (take used texts) ≡ used = length-take-le used texts (omega (arith, y.behind, y.fits)) in
-      let q : text_of program (take used texts) h ≡ part start n (take used texts) =
-      text_in_store o ∙ sym (clipped_part (take used texts) start size n (rw k c)) in
-      record { upto = rw (q, length_part (take used texts) start n (rw k c.within)); holds = rw q (l ∙ rw (used_part texts used start n c.within)) }
+  pub text_lays : (out : List ℕ) → out ≡ x → Laid program texts used at h (at + length x) (before ++ (out ++ drop (length x) behind))
+  unfolding laid_at
+  text_lays out q =
+      let r : x ≡ text_of program (take used texts) h = t ∙ rw (e, take-take used at texts y.behind) in
+      let s : x ++ drop (length x) behind ≡ laid_over x (drop at texts) = over_is x behind text_fits ∙ rw f in
+      record { upto = rw (← r); holds = rw (← r, q, s, e) }
 
 -- ---- two texts joined
 module _ (program texts words grants : List ℕ) (p a b x y : ℕ) (words' : List ℕ) (ok : Bool)
@@ -106,18 +96,10 @@ module _ (program texts words grants : List ℕ) (p a b x y : ℕ) (words' : Lis
     pub lays_first : Lays texts (get_or words 3 0) (get_or words 3 0) a
     lays_first = record { behind = omega arith; fits = omega (arith, within, l.texts) }
 
-    text_short : (d : List ℕ) (c : ℕ) → length (text_of program d c) ≤ size_in c
-    unfolding text_of if◌then◌otherwise◌ part
-    text_short d c = go (eqb (origin_in c) 0)
-      where
-        go : (o : Bool) → length (if o then (λ _. part (start_in c) (size_in c) program) otherwise λ _. part (start_in c) (size_in c) d) ≤ size_in c
-        go true = simp length-take (omega arith)
-        go false = simp length-take (omega arith)
-
     pub lays_second : (end : ℕ) (texts' : List ℕ) → Laid program texts (get_or words 3 0) (get_or words 3 0) a end texts' → length texts' ≡ length texts → Lays texts' (get_or words 3 0) end b
     lays_second end texts' g k = record {
       behind = omega (arith, g.upto);
-      fits = omega (arith, g.upto, within, l.texts, text_short (take (get_or words 3 0) texts) a);
+      fits = omega (arith, g.upto, within, l.texts, text_short program (take (get_or words 3 0) texts) a);
     }
 
     pub joins : (end end' : ℕ) (texts' texts'' : List ℕ) → Laid program texts (get_or words 3 0) (get_or words 3 0) a end texts' → Laid program texts' (get_or words 3 0) end b end' texts''
@@ -130,5 +112,5 @@ module _ (program texts words grants : List ℕ) (p a b x y : ℕ) (words' : Lis
         let z : texts'' ≡ laid_at texts (get_or words 3 0) (joined program texts (get_or words 3 0) a b) =
         k.holds ∙ rw (s, g.upto, g.holds)
         (laid_laid texts (get_or words 3 0) (text_of program (take (get_or words 3 0) texts) a) (text_of program (take (get_or words 3 0) texts) b)
-        (omega (arith, within, l.texts, text_short (take (get_or words 3 0) texts) a))) in
+        (omega (arith, within, l.texts, text_short program (take (get_or words 3 0) texts) a))) in
         rw (z, q.words, ← e, ← f, le-leb (get_or words 3 0 + (x + y)) (get_or grants 3 0) q.within)

@@ -1,23 +1,15 @@
 -- A text laid over a list from a place on, and parts of lists.
 use mathlib.Core.Path.{◌≡◌, ◌∙◌, refl, sym, ap}
 use mathlib.Core.List.{List, [], ◌∷◌, ◌++◌}
-use Prim.Native.Nat.{ℕ, zero, suc, ◌+◌, ◌-◌, ◌≤◌, ◌<◌}
+use Prim.Native.Nat.{ℕ, zero, suc, ◌+◌, ◌-◌, ◌≤◌}
 use native.Mathlib.Nat.{le_of_suc-le-suc, not-suc-le-zero}
 use native.Mathlib.Omega.{arith}
-use native.Mathlib.Numerals.{add-one}
-use lib.ListN.{length, set, get_or, take, drop, length-append, length-drop, take-append-drop}
-use lib.Seq.{take_all, take_at, take-take, take-suc, get_or-drop, get_or-take, length-take-le}
+use lib.ListN.{length, take, drop, length-append, length-drop, take-append-drop}
+use lib.Seq.{take_all, take_at, take-take, length-take-le}
 use Rattle.meaning.specs.Basics.{laid_over}
 use Rattle.machine.specs.Texts.{part, laid_at}
 
 -- ---- over the front
-over_more : (xs : List ℕ) (x : ℕ) (d : List ℕ) → laid_over (xs ++ x ∷ []) d ≡ set (laid_over xs d) (length xs) x
-unfolding laid_over
-over_more [] x [] = refl
-over_more [] x (y ∷ d) = refl
-over_more (a ∷ xs) x [] = refl
-over_more (a ∷ xs) x (y ∷ d) = ap (λ (l : List ℕ). a ∷ l) (over_more xs x d)
-
 length_over : (xs d : List ℕ) → length (laid_over xs d) ≡ length d
 unfolding laid_over
 length_over [] d = refl
@@ -37,24 +29,18 @@ over_front [] d h = refl
 over_front (x ∷ xs) [] h = absurd (not-suc-le-zero h)
 over_front (x ∷ xs) (y ∷ d) h = ap (λ (l : List ℕ). x ∷ l) (over_front xs d (le_of_suc-le-suc h))
 
--- ---- from a place on
-laid_nil : (d : List ℕ) (at : ℕ) → laid_at d at [] ≡ d
-unfolding laid_at laid_over
-laid_nil d at = take-append-drop at d
+pub over_is : (xs d : List ℕ) → length xs ≤ length d → xs ++ drop (length xs) d ≡ laid_over xs d
+unfolding laid_over
+over_is [] d h = refl
+over_is (x ∷ xs) [] h = absurd (not-suc-le-zero h)
+over_is (x ∷ xs) (y ∷ d) h = ap (λ (l : List ℕ). x ∷ l) (over_is xs d (le_of_suc-le-suc h))
 
+-- ---- from a place on
 pub length_laid : (d : List ℕ) (at : ℕ) (xs : List ℕ) → length (laid_at d at xs) ≡ length d
 unfolding laid_at
 length_laid d at xs =
     length-append (take at d) (laid_over xs (drop at d)) ∙ ap (λ (n : ℕ). length (take at d) + n) (length_over xs (drop at d))
     ∙ sym (length-append (take at d) (drop at d)) ∙ ap (λ (l : List ℕ). length l) (take-append-drop at d)
-
-laid_more : (d : List ℕ) (at : ℕ) (xs : List ℕ) (x : ℕ) → at ≤ length d → laid_at d at (xs ++ x ∷ []) ≡ set (laid_at d at xs) (at + length xs) x
-unfolding laid_at
-laid_more d zero xs x h = let q : 0 + length xs ≡ length xs = omega arith in rw q (over_more xs x d)
-laid_more [] (suc a) xs x h = absurd (omega arith)
-laid_more (y ∷ d) (suc a) xs x h =
-    let q : suc a + length xs ≡ suc (a + length xs) = omega arith in
-    rw q (ap (λ (l : List ℕ). y ∷ l) (laid_more d a xs x (omega arith)))
 
 -- one text, and then another behind it
 pub laid_laid : (d : List ℕ) (at : ℕ) (xs ys : List ℕ) → at + length xs ≤ length d → laid_at (laid_at d at xs) (at + length xs) ys ≡ laid_at d at (xs ++ ys)
@@ -99,50 +85,3 @@ part_clip a n k d h i e =
 pub length_part : (d : List ℕ) (a n : ℕ) → n ≤ length d - a → length (part a n d) ≡ n
 unfolding part
 length_part d a n h = length-take-le n (drop a d) (omega (arith, length-drop a d))
-
-part_zero : (d : List ℕ) (a : ℕ) → part a 0 d ≡ []
-unfolding part
-part_zero d a = refl
-
-part_more : (d : List ℕ) (a i : ℕ) → a + i < length d → part a (i + 1) d ≡ part a i d ++ get_or d (a + i) 0 ∷ []
-unfolding part
-part_more d a i h = rw (add-one i, take-suc (drop a d) i 0 (omega (arith, length-drop a d)), get_or-drop a d i 0)
-
-get_d_kept : (d e : List ℕ) (at j : ℕ) → take at e ≡ take at d → j < at → get_or e j 0 ≡ get_or d j 0
-get_d_kept d e at j k h = sym (get_or-take at e j 0 h) ∙ ap (λ (l : List ℕ). get_or l j 0) k ∙ get_or-take at d j 0 h
-
--- ---- a loop that copies a part, byte by byte: i of n are copied
-pub record Copying (source before after : List ℕ) (start n at i : ℕ) : Type 0 where
-  pub few : i ≤ n
-  pub within : n ≤ length source - start
-  pub room : at + n ≤ length before
-  pub holds : after ≡ laid_at before at (part start i source)
-
-module _ (source d : List ℕ) (start n at : ℕ) where
-  pub copy_none : n ≤ length source - start → at + n ≤ length d → Copying source d d start n at 0
-  copy_none h r = record { few = omega arith; within = h; room = r; holds = sym (rw (part_zero source start) (laid_nil d at)) }
-
-  module _ (out : List ℕ) (i : ℕ) (g : Copying source d out start n at i) where
-    pub copy_length : length out ≡ length d
-    copy_length = rw g.holds (length_laid _ _ _)
-
-    pub copy_more : (x : ℕ) → i < n → x ≡ get_or source (start + i) 0 → Copying source d (set out (at + i) x) start n at (i + 1)
-    copy_more x h e = record {
-      few = omega arith;
-      within = g.within;
-      room = g.room;
-      holds = rw (
-        g.holds,
-        e,
-        part_more source start i (omega (arith, g.within)),
-        laid_more d at (part start i source) (get_or source (start + i) 0) (omega (arith, g.room)),
-        length_part source start i (omega (arith, g.within)),
-      );
-    }
-
-    pub copy_all : n ≤ i → out ≡ laid_at d at (part start n source)
-    copy_all h = let q : i ≡ n = omega (arith, g.few) in rw q at g.holds
-
-    -- what lies before is still there to be read
-    pub copy_source : (j : ℕ) → j < at → get_or out j 0 ≡ get_or d j 0
-    copy_source j l = get_d_kept d out at j (rw g.holds (kept_laid d at _ (omega (arith, g.room)))) l

@@ -6,7 +6,7 @@ ghost use Rattle.meaning.specs.Basics.{same_text};
 ghost use Rattle.machine.specs.Layout.{Lent};
 ghost use Rattle.machine.specs.Act.{raw, shown};
 ghost use Rattle.machine.specs.Texts.{start_in, size_in, part, text_of, laid_at, join_texts};
-ghost use Rattle.texts.specs.Laying.{Clipped, Copies, Lays, Laid};
+ghost use Rattle.texts.specs.Laying.{Lays, Laid};
 
 use machine::{Answer, Value, counters, granted};
 
@@ -49,23 +49,6 @@ pub fn text_of<'a>(program: &'a [u8], texts: &'a [u8], h: u64) -> &'a [u8]
     part_of(texts, start, size)
 }
 
-// Whether two texts have the same bytes.
-fn same_bytes(x: &[u8], y: &[u8]) -> bool
-    ensures { result ≡ same_text x.now y.now }
-{
-    if x.len() != y.len() {
-        return false;
-    }
-    let mut i = 0;
-    while i < x.len() {
-        if x[i] != y[i] {
-            return false;
-        }
-        i += 1;
-    }
-    true
-}
-
 // Whether two handles' texts are the same.
 pub fn same_text<'a>(program: &'a [u8], texts: &'a [u8], a: u64, b: u64) -> bool
     ensures { result ≡ same_text (text_of program.now texts.now a) (text_of program.now texts.now b) }
@@ -73,45 +56,7 @@ pub fn same_text<'a>(program: &'a [u8], texts: &'a [u8], a: u64, b: u64) -> bool
     if a == b {
         return true;
     }
-    same_bytes(text_of(program, texts, a), text_of(program, texts, b))
-}
-
-// How much of a part lies within a length.
-fn clipped(len: usize, start: usize, size: usize) -> usize
-    ensures { Clipped len start size result }
-{
-    if len <= start {
-        return 0;
-    }
-    if len - start < size {
-        len - start
-    } else {
-        size
-    }
-}
-
-// Copies a part of a slice into another.
-fn copy_part(from: &[u8], start: usize, n: usize, texts: &mut [u8], at: usize)
-    requires { Copies (length from.now) start n at (length texts.old) }
-    ensures { texts.new ≡ laid_at texts.old at (part start n from.now) }
-{
-    let mut i = 0;
-    while i < n {
-        texts[at + i] = from[start + i];
-        i += 1;
-    }
-}
-
-// Copies a part of a slice behind it.
-fn copy_within(texts: &mut [u8], start: usize, n: usize, at: usize)
-    requires { Copies at start n at (length texts.old) }
-    ensures { texts.new ≡ laid_at texts.old at (part start n texts.old) }
-{
-    let mut i = 0;
-    while i < n {
-        texts[at + i] = texts[start + i];
-        i += 1;
-    }
+    tokens::same_text(text_of(program, texts, a), text_of(program, texts, b))
 }
 
 // Copies a handle's text behind what is used of the store, and says where it ends.
@@ -119,16 +64,10 @@ fn put_text(program: &[u8], texts: &mut [u8], used: usize, at: usize, h: u64) ->
     requires { Lays texts.old used at h }
     ensures { Laid program.now texts.old used at h result texts.new }
 {
-    let start = start_of(h);
-    let size = size_of(h);
-    if h % 2 == 0 {
-        let n = clipped(program.len(), start, size);
-        copy_part(program, start, n, texts, at);
-        return at + n;
-    }
-    let n = clipped(used, start, size);
-    copy_within(texts, start, n, at);
-    at + n
+    let (before, behind) = texts.split_at_mut(at);
+    let text = text_of(program, &before[..used], h);
+    behind[..text.len()].copy_from_slice(text);
+    at + text.len()
 }
 
 // Two texts, one behind the other; 78 if there are not enough text bytes left. Nothing is written then.
