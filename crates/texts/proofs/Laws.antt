@@ -1,13 +1,13 @@
 -- What each way through the code does, and what a joined text holds.
-use mathlib.Core.Path.{◌≡◌, ◌∙◌, sym}
+use mathlib.Core.Path.{◌≡◌, ◌∙◌}
 use mathlib.Core.Bool.{Bool, true, false, not}
-use mathlib.Core.List.{List, [], ◌++◌}
-use Prim.Native.Nat.{ℕ, ◌+◌, ◌-◌, ◌*◌, ◌%◌, ◌≤◌, ◌<◌}
+use mathlib.Core.List.{List, ◌++◌}
+use Prim.Native.Nat.{ℕ, ◌+◌, ◌*◌, ◌%◌, ◌≤◌, ◌<◌}
 use native.Mathlib.Omega.{arith}
 use borrow.Author.Tests.{ne_eqb, le-leb, lt-leb, not-true, not-false}
 use lib.Dec.{eqb}
-use lib.ListN.{length, get_or, take, drop, length-take, length-drop, drop_of_length-le}
-use lib.Seq.{take_all, take-nil, take-take, length-take-le}
+use lib.ListN.{length, get_or, take, drop, length-take, length-drop}
+use lib.Seq.{take-take, length-take-le}
 use Rattle.meaning.specs.Basics.{if◌then◌otherwise◌, same_text, laid_over}
 use Rattle.machine.specs.declared.Value.TheVariants.{Text}
 use Rattle.machine.specs.declared.Answer.TheVariants.{Good, Bad}
@@ -18,22 +18,6 @@ use Rattle.stores.proofs.Acts.{paid, short}
 use Rattle.texts.specs.Laying.{Lays, Laid}
 use Rattle.texts.proofs.Layer.{laid_laid, kept_laid, over_is}
 use Rattle.texts.proofs.Comparison.{same_self}
-
--- ---- a part of a slice
-module _ (s : List ℕ) (start size : ℕ) where
-  pub part_none : length s ≤ start → [] ≡ part start size s
-  unfolding part
-  part_none h = sym (rw (drop_of_length-le s {i = start} h) (take-nil size))
-
-  pub part_rest : length s - start < size → take (length s - start) (drop start s) ≡ part start size s
-  unfolding part
-  part_rest h =
-      let e : length (drop start s) ≡ length s - start = length-drop start s in
-      take_all (length s - start) (drop start s) (omega arith) ∙ sym (take_all size (drop start s) (omega arith))
-
-  pub part_whole : take (start + size - start) (drop start s) ≡ part start size s
-  unfolding part
-  part_whole = let q : start + size - start ≡ size = omega arith in rw q
 
 -- ---- the text of a handle
 module _ (program texts : List ℕ) (h start size : ℕ) (e : start ≡ start_in h) (f : size ≡ size_in h) (r : List ℕ) where

@@ -27,13 +27,8 @@ pub fn size_of(h: u64) -> usize
 fn part_of(s: &[u8], start: usize, size: usize) -> &[u8]
     ensures { result.now ≡ part start size s.now }
 {
-    if s.len() <= start {
-        return &s[0..0];
-    }
-    if s.len() - start < size {
-        return &s[start..];
-    }
-    let end = start + size;
+    let start = start.min(s.len());
+    let end = start + size.min(s.len() - start);
     &s[start..end]
 }
 

@@ -1,11 +1,9 @@
-use Rattle.texts.proofs.Laws.{part_none, part_rest, part_whole}
+-- `texts::part_of` meets its contract: a start and a size that are clipped leave what `take` and `drop` leave.
+use Rattle.std.proofs.lemmas.Grind.{common_steps}
+use native.Mathlib.Omega.{arith}
+use Rattle.machine.specs.Texts.{part}
 use Rattle.texts.proofs.part_of.Goals as goal
 
-pub returns-then-s-start : goal.returns-then-s-start
-returns-then-s-start c = search part_none
-
-pub returns-then-s-start-2 : goal.returns-then-s-start-2
-returns-then-s-start-2 c = search part_rest
-
 pub returns : goal.returns
-returns c = search part_whole
+unfolding part
+returns c = grind (arith, common_steps)
