@@ -21,63 +21,34 @@ pub fn same_text(x: &[u8], y: &[u8]) -> bool
     x == y
 }
 
-// The kind of a name or a reserved word.
+// The kind of a name or a reserved word. Of a `match` on byte strings a proof is told their lengths alone.
+#[tactic(auto, unfolding(meaning::specs::Token::word_kind))]
 pub fn word_kind(w: &[u8]) -> u8
     ensures { result ≡ word_kind w.now }
 {
-    let n = w.len();
-    match n {
-        2 => {
-            if same_text(w, b"if") {
-                return kind::IF;
-            }
-            if same_text(w, b"in") {
-                return kind::IN;
-            }
-            if same_text(w, b"do") {
-                return kind::DO;
-            }
-            kind::NAME
-        }
-        3 => {
-            if same_text(w, b"def") {
-                return kind::DEF;
-            }
-            if same_text(w, b"var") {
-                return kind::VAR;
-            }
-            kind::NAME
-        }
-        4 => {
-            if same_text(w, b"none") {
-                return kind::NONE;
-            }
-            if same_text(w, b"true") {
-                return kind::TRUE;
-            }
-            kind::NAME
-        }
-        5 => {
-            if same_text(w, b"while") {
-                return kind::WHILE;
-            }
-            if same_text(w, b"false") {
-                return kind::FALSE;
-            }
-            kind::NAME
-        }
-        6 => {
-            if same_text(w, b"return") {
-                return kind::RETURN;
-            }
-            kind::NAME
-        }
-        7 => {
-            if same_text(w, b"foreach") {
-                return kind::FOREACH;
-            }
-            kind::NAME
-        }
-        _ => kind::NAME,
+    if same_text(w, b"def") {
+        kind::DEF
+    } else if same_text(w, b"var") {
+        kind::VAR
+    } else if same_text(w, b"if") {
+        kind::IF
+    } else if same_text(w, b"while") {
+        kind::WHILE
+    } else if same_text(w, b"return") {
+        kind::RETURN
+    } else if same_text(w, b"none") {
+        kind::NONE
+    } else if same_text(w, b"true") {
+        kind::TRUE
+    } else if same_text(w, b"false") {
+        kind::FALSE
+    } else if same_text(w, b"foreach") {
+        kind::FOREACH
+    } else if same_text(w, b"in") {
+        kind::IN
+    } else if same_text(w, b"do") {
+        kind::DO
+    } else {
+        kind::NAME
     }
 }
