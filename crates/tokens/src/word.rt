@@ -35,6 +35,7 @@ pub fn token_size(w: u64) -> usize
 }
 
 // The text of a word's token, of a string without the quotes.
+#[tactic(auto, unfolding(crate::specs::Words::token_in, crate::specs::Words::text_in))]
 pub fn token_text(program: &[u8], w: u64) -> &[u8]
     ensures { result.now ≡ (token_in program.now w).text }
 {
