@@ -11,7 +11,7 @@ use Rattle.meaning.specs.Basics.{if◌then◌otherwise◌, laid_over}
 use Rattle.meaning.specs.Byte.{is_space}
 use Rattle.meaning.specs.Token.{Token, Front, found, nothing, front, Lexed, lexed, stray, prepend, starting, scan, tokens_of}
 use Rattle.meaning.specs.Grammar.{after_last}
-use Rattle.lexer.specs.declared.Tokens.TheVariants.{Found}
+use Rattle.std.specs.declared.result.Result.TheVariants.{Ok}
 use Rattle.tokens.specs.Words.{word_of, text_in, token_in}
 use Rattle.lexer.specs.Lexing.{seen, laid_tokens}
 use Rattle.lexer.proofs.Fits.{decoded, word_small}
@@ -120,13 +120,13 @@ pub record Held (program slice : List ℕ) (n : ℕ) : Type 0 where
   pub count : length tokens ≡ n
   pub words : take n slice ≡ map word_of tokens
 
-pub held : (program before slice : List ℕ) (n : ℕ) → seen (Found n) slice ≡ laid_tokens (tokens_of program) before → n ≤ length before → Held program slice n
+pub held : (program before slice : List ℕ) (n : ℕ) → seen (Ok n) slice ≡ laid_tokens (tokens_of program) before → n ≤ length before → Held program slice n
 unfolding seen laid_tokens
 held program before slice n h l = go (tokens_of program) refl
   where
     go : (r : Lexed) → tokens_of program ≡ r → Held program slice n
     go (lexed ts) e =
-        let q : seen (Found n) slice ≡ laid_tokens (lexed ts) before = h ∙ ap (λ (x : Lexed). laid_tokens x before) e in
+        let q : seen (Ok n) slice ≡ laid_tokens (lexed ts) before = h ∙ ap (λ (x : Lexed). laid_tokens x before) e in
         let c : n ≡ length ts = cc in
         let s : slice ≡ laid_over (map word_of ts) before = cc in
         record {
@@ -136,6 +136,6 @@ held program before slice n h l = go (tokens_of program) refl
           words = rw (s, c ∙ sym (length-map ts word_of)) (laid_front (map word_of ts) before (omega (arith, length-map ts word_of)));
         }
     go (stray p) e =
-        let q : seen (Found n) slice ≡ laid_tokens (stray p) before = h ∙ ap (λ (x : Lexed). laid_tokens x before) e in
+        let q : seen (Ok n) slice ≡ laid_tokens (stray p) before = h ∙ ap (λ (x : Lexed). laid_tokens x before) e in
         let z : ◌≡◌ {A = ℕ} 0 1 = cc in
         absurd (omega arith)

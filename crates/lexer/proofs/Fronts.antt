@@ -14,6 +14,7 @@ use lib.Seq.{drop-cons, get_or-drop}
 use Rattle.meaning.specs.Basics.{bytes, if◌then◌otherwise◌, span, stands_in}
 use Rattle.meaning.specs.Byte.{is_letter, is_digit, is_name_part, is_quote, is_sign, class_of}
 use Rattle.meaning.specs.Token.{nothing, found_name, found_digits, found_string, found_sign, is_double, front, word_kind}
+use Rattle.std.specs.declared.option.Option.TheVariants.{Some, None}
 use Rattle.lexer.specs.Lexing.{from_class, front_word}
 use Rattle.lexer.proofs.Classes.{is_letter_lem, is_digit_lem, is_quote_lem, is_sign_lem, name_part, digit_part}
 use Rattle.lexer.proofs.Runs.{end_of, span_le, span_same}
@@ -30,13 +31,13 @@ module _ (s : List ℕ) (at : ℕ) where
   digits_size e q = omega (arith, span_same (from_class 3) is_digit digit_part (drop at s))
 
   pub name_word : (e k r : ℕ) → e ≡ end_of 2 s at → k ≡ word_kind (take (e - at) (drop at s)) → r ≡ k + 256 * at + 16777216 * (e - at)
-      → r ≡ front_word at (found_name (drop at s))
+      → Some r ≡ front_word at (found_name (drop at s))
   unfolding front_word
-  name_word e k r q hk hr = hr ∙ rw (hk, name_size e q)
+  name_word e k r q hk hr = rw (hr, hk, name_size e q)
 
-  pub digits_word : (e r : ℕ) → e ≡ end_of 3 s at → r ≡ 2 + 256 * at + 16777216 * (e - at) → r ≡ front_word at (found_digits (drop at s))
+  pub digits_word : (e r : ℕ) → e ≡ end_of 3 s at → r ≡ 2 + 256 * at + 16777216 * (e - at) → Some r ≡ front_word at (found_digits (drop at s))
   unfolding front_word
-  digits_word e r q hr = hr ∙ rw (digits_size e q)
+  digits_word e r q hr = rw (hr, digits_size e q)
 
   -- ---- strings: i is the place behind the quote
   abbrev i : ℕ
@@ -50,21 +51,21 @@ module _ (s : List ℕ) (at : ℕ) where
       let m : i + span is_name_part (drop i s) ≡ e = omega (arith, span_same (from_class 2) is_name_part name_part (drop i s)) in
       is_quote_lem _ ∙ ap (λ (x : ℕ). eqb (class_of x) 4) (get_or-drop i s _ 0 ∙ ap (λ (n : ℕ). get_or s n 0) m)
 
-  pub no_first : (c : ℕ) → c ≡ class_of (get_or s i 0) → (c ≡ 2 → ⊥) → 0 ≡ front_word at (found_string (drop i s))
+  pub no_first : (c : ℕ) → c ≡ class_of (get_or s i 0) → (c ≡ 2 → ⊥) → None ≡ front_word at (found_string (drop i s))
   unfolding front_word if◌then◌otherwise◌
   no_first c hc n = rw (first, ← hc, ne_eqb c 2 n)
 
   pub no_last : (c e d : ℕ) → c ≡ class_of (get_or s i 0) → c ≡ 2 → e ≡ end_of 2 s i → d ≡ class_of (get_or s e 0) → (d ≡ 4 → ⊥)
-      → 0 ≡ front_word at (found_string (drop i s))
+      → None ≡ front_word at (found_string (drop i s))
   unfolding front_word if◌then◌otherwise◌
   no_last c e d hc h2 q hd n = rw (first, ← hc, h2, last e q, ← hd, ne_eqb d 4 n)
 
   pub string_word : (c e d r : ℕ) → c ≡ class_of (get_or s i 0) → c ≡ 2 → e ≡ end_of 2 s i → d ≡ class_of (get_or s e 0) → d ≡ 4
-      → r ≡ 3 + 256 * at + 16777216 * (e + 1 - at) → r ≡ front_word at (found_string (drop i s))
+      → r ≡ 3 + 256 * at + 16777216 * (e + 1 - at) → Some r ≡ front_word at (found_string (drop i s))
   unfolding front_word if◌then◌otherwise◌
   string_word c e d r hc h2 q hd h4 hr =
       let m : e + 1 - at ≡ span is_name_part (drop i s) + 2 = omega (arith, span_same (from_class 2) is_name_part name_part (drop i s)) in
-      hr ∙ rw (m, first, ← hc, h2, last e q, ← hd, h4)
+      rw (hr, m, first, ← hc, h2, last e q, ← hd, h4)
 
 -- ---- signs
 and-false : (t u : Bool) → u ≡ t && false || u
@@ -113,18 +114,18 @@ unfolding is_double stands_in
 double_none b c h33 h43 h60 h61 h62 =
     rw (ne_eqb b 33 h33, ne_eqb b 43 h43, ne_eqb b 60 h60, ne_eqb b 61 h61, ne_eqb b 62 h62) (and-false (eqb b c) false)
 
-module _ (b c at r : ℕ) where
-  pub sign_double : is_double b c ≡ true → r ≡ b + 128 + 256 * at + 16777216 * 2 → r ≡ front_word at (found_sign b c)
+module _ (b c at : ℕ) where
+  pub sign_double : (r : ℕ) → is_double b c ≡ true → r ≡ b + 128 + 256 * at + 16777216 * 2 → Some r ≡ front_word at (found_sign b c)
   unfolding front_word if◌then◌otherwise◌
-  sign_double e h = rw (e) h
+  sign_double r e h = rw (e, h)
 
-  pub sign_none : is_double b c ≡ false → b ≡ 33 → 0 ≡ front_word at (found_sign b c)
+  pub sign_none : is_double b c ≡ false → b ≡ 33 → None ≡ front_word at (found_sign b c)
   unfolding front_word if◌then◌otherwise◌
   sign_none e h = rw (e, eq-eqb b 33 h)
 
-  pub sign_single : is_double b c ≡ false → (b ≡ 33 → ⊥) → r ≡ b + 256 * at + 16777216 * 1 → r ≡ front_word at (found_sign b c)
+  pub sign_single : (r : ℕ) → is_double b c ≡ false → (b ≡ 33 → ⊥) → r ≡ b + 256 * at + 16777216 * 1 → Some r ≡ front_word at (found_sign b c)
   unfolding front_word if◌then◌otherwise◌
-  sign_single e n h = rw (e, ne_eqb b 33 n) h
+  sign_single r e n h = rw (e, ne_eqb b 33 n, h)
 
 -- ---- by class
 module _ (s : List ℕ) (at : ℕ) (h : at < length s) where

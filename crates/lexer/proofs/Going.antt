@@ -8,7 +8,8 @@ use lib.ListN.{length, get_or, set, drop, length-append, length-map}
 use Rattle.meaning.specs.Basics.{laid_over}
 use Rattle.meaning.specs.Byte.{class_of}
 use Rattle.meaning.specs.Token.{Token, Front, found, nothing, front, lexed, stray, tokens_of}
-use Rattle.lexer.specs.declared.Tokens.TheVariants.{Found, Stray}
+use Rattle.std.specs.declared.option.Option.TheVariants.{Some, None}
+use Rattle.std.specs.declared.result.Result.TheVariants.{Ok, Err}
 use Rattle.tokens.specs.Words.{word_of, size_in}
 use Rattle.lexer.specs.Lexing.{front_word, seen, laid_tokens}
 use Rattle.lexer.proofs.Fits.{fits, end_within, word_is, size_told}
@@ -23,30 +24,32 @@ record Begun (s : List ℕ) (at w : ℕ) : Type 0 where
   is : front (drop at s) ≡ found kind size text
   word : w ≡ kind + 256 * at + 16777216 * size
 
-begun : (s : List ℕ) (at w : ℕ) → w ≡ front_word at (front (drop at s)) → (w ≡ 0 → ⊥) → Begun s at w
+begun : (s : List ℕ) (at w : ℕ) → front_word at (front (drop at s)) ≡ Some w → Begun s at w
 unfolding front_word
-begun s at w e n = go (front (drop at s)) refl
+begun s at w e = go (front (drop at s)) refl
   where
     go : (f : Front) → front (drop at s) ≡ f → Begun s at w
-    go (found k m t) q = record { kind = k; size = m; text = t; is = q; word = e ∙ ap (front_word at) q }
-    go nothing q = absurd (n (e ∙ ap (front_word at) q))
+    go (found k m t) q =
+        let p : Some (k + 256 * at + 16777216 * m) ≡ Some w = sym (ap (front_word at) q) ∙ e in
+        record { kind = k; size = m; text = t; is = q; word = cc }
+    go nothing q =
+        let p : None ≡ Some w = sym (ap (front_word at) q) ∙ e in
+        cc
 
--- the word 0 is no token's
-none_begun : (s : List ℕ) (at w : ℕ) → w ≡ front_word at (front (drop at s)) → w ≡ 0 → front (drop at s) ≡ nothing
+none_begun : (s : List ℕ) (at : ℕ) → front_word at (front (drop at s)) ≡ None → front (drop at s) ≡ nothing
 unfolding front_word
-none_begun s at w e z = go (front (drop at s)) refl
+none_begun s at e = go (front (drop at s)) refl
   where
     go : (f : Front) → front (drop at s) ≡ f → front (drop at s) ≡ nothing
     go (found k m t) q =
-        let f = fits (drop at s) k m t q in
-        let p : w ≡ k + 256 * at + 16777216 * m = e ∙ ap (front_word at) q in
-        absurd (omega (arith, f.kind_some))
+        let p : Some (k + 256 * at + 16777216 * m) ≡ None = sym (ap (front_word at) q) ∙ e in
+        cc
     go nothing q = q
 
 module _ (s : List ℕ) (small : length s ≤ 32768) (at w z : ℕ) (h : at < length s)
-    (e : w ≡ front_word at (front (drop at s))) (n : w ≡ 0 → ⊥) (hz : z ≡ size_in w) where
+    (e : front_word at (front (drop at s)) ≡ Some w) (hz : z ≡ size_in w) where
   abbrev b : Begun s at w
-  b = begun s at w e n
+  b = begun s at w e
 
   size_is : z ≡ b.size
   size_is = hz ∙ ap size_in b.word ∙ size_told s small at b.kind b.size b.text h b.is
@@ -96,15 +99,15 @@ module _ (s tokens₀ : List ℕ) where
     }
 
     pub token : length s ≤ 32768 → at < length s → (class_of (get_or s at 0) ≡ 1 → ⊥) → (w z : ℕ) (tokens' : List ℕ)
-        → w ≡ front_word at (front (drop at s)) → (w ≡ 0 → ⊥) → z ≡ size_in w
+        → front_word at (front (drop at s)) ≡ Some w → z ≡ size_in w
         → tokens' ≡ set tokens n w → Going s tokens₀ tokens' (at + z) (n + 1)
-    token small h c w z tokens' e m hz ht =
-        let b = begun s at w e m in
+    token small h c w z tokens' e hz ht =
+        let b = begun s at w e in
         let k : ℕ = b.kind in
         let t : List ℕ = b.text in
-        let q : z ≡ b.size = size_is s small at w z h e m hz in
+        let q : z ≡ b.size = size_is s small at w z h e hz in
         let is : front (drop at s) ≡ found k z t = b.is ∙ ap (λ (x : ℕ). found k x t) (sym q) in
-        let f = ends s small at w z h e m hz in
+        let f = ends s small at w z h e hz in
         let x : Token = record { kind = k; place = at; text = t } in
         let v : w ≡ word_of x = b.word ∙ ap (λ (j : ℕ). k + 256 * at + 16777216 * j) (sym q) ∙ sym (word_is s small at k z t h is) in
         record {
@@ -119,15 +122,15 @@ module _ (s tokens₀ : List ℕ) where
     pub same_length : length tokens ≡ length tokens₀
     same_length = rw g.held (laid_length _ _)
 
-    pub ended : length s ≤ at → seen (Found n) tokens ≡ laid_tokens (tokens_of s) tokens₀
+    pub ended : length s ≤ at → seen (Ok n) tokens ≡ laid_tokens (tokens_of s) tokens₀
     unfolding seen laid_tokens prepend_all
     ended h =
         let q : tokens_of s ≡ lexed g.done = g.rest ∙ ap (prepend_all g.done) (at_end s at h) ∙ ap lexed (append-nil g.done) in
         rw (q, g.held, g.count)
 
-    pub refused : at < length s → (class_of (get_or s at 0) ≡ 1 → ⊥) → (w : ℕ) → w ≡ front_word at (front (drop at s)) → w ≡ 0
-        → seen (Stray at) tokens ≡ laid_tokens (tokens_of s) tokens₀
+    pub refused : at < length s → (class_of (get_or s at 0) ≡ 1 → ⊥) → front_word at (front (drop at s)) ≡ None
+        → seen (Err (record { place = at })) tokens ≡ laid_tokens (tokens_of s) tokens₀
     unfolding seen laid_tokens prepend_all
-    refused h c w e z =
-        let q : tokens_of s ≡ stray at = g.rest ∙ ap (prepend_all g.done) (at_stray s at h c (none_begun s at w e z)) in
+    refused h c e =
+        let q : tokens_of s ≡ stray at = g.rest ∙ ap (prepend_all g.done) (at_stray s at h c (none_begun s at e)) in
         rw q

@@ -10,7 +10,7 @@ use crate::table::DIGIT;
 pub fn byte_at(program: &[u8], i: usize) -> u8
     ensures { result ≡ get_or program.now i 0 }
 {
-    if i < program.len() { program[i] } else { 0 }
+    program.get(i).copied().unwrap_or(0)
 }
 
 // The class of a byte.

@@ -13,15 +13,14 @@ mod class;
 mod front;
 mod table;
 
-// How many tokens a program has; or its first byte at which none begins.
-#[derive(Clone, Copy)]
-pub enum Tokens {
-    Found(usize),
-    Stray(usize),
+// The first byte at which no token begins.
+#[derive(Clone, Copy, Debug, PartialEq, Eq)]
+pub struct Stray {
+    pub place: usize,
 }
 
 // Lays the tokens' words into the slice, as many as it holds, and counts them all; stops at the first stray byte.
-pub fn lex(program: &[u8], tokens: &mut [u64]) -> Tokens
+pub fn lex(program: &[u8], tokens: &mut [u64]) -> Result<usize, Stray>
     requires { length program.now ≤ 32768 }
     ensures { seen result tokens.new ≡ laid_tokens (tokens_of program.now) tokens.old }
 {
@@ -30,7 +29,7 @@ pub fn lex(program: &[u8], tokens: &mut [u64]) -> Tokens
 }
 
 // The same, by the table of classes.
-fn lex_by(classes: &[u8; 256], program: &[u8], tokens: &mut [u64]) -> Tokens
+fn lex_by(classes: &[u8; 256], program: &[u8], tokens: &mut [u64]) -> Result<usize, Stray>
     requires classes_value { classes.now ≡ class_table }
     requires program_len_bound { length program.now ≤ 32768 }
     ensures { seen result tokens.new ≡ laid_tokens (tokens_of program.now) tokens.old }
@@ -43,13 +42,12 @@ fn lex_by(classes: &[u8; 256], program: &[u8], tokens: &mut [u64]) -> Tokens
             at += 1;
             continue;
         }
-        let w = front::token_at(classes, program, at);
-        if w == 0 {
-            return Tokens::Stray(at);
-        }
+        let Some(w) = front::token_at(classes, program, at) else {
+            return Err(Stray { place: at });
+        };
         put(tokens, n, w);
         n += 1;
         at += token_size(w);
     }
-    Tokens::Found(n)
+    Ok(n)
 }

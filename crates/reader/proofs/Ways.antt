@@ -11,8 +11,9 @@ use Rattle.meaning.specs.Basics.{if◌then◌otherwise◌, laid_over}
 use Rattle.meaning.specs.Token.{Token, Lexed, lexed, stray, tokens_of}
 use Rattle.meaning.specs.Grammar.{start_at, procedures, place_of, read_of, parsed, reading}
 use Rattle.tokens.specs.Words.{word_of, place_in, token_in}
-use Rattle.lexer.specs.declared.Tokens.{Tokens}
-use Rattle.lexer.specs.declared.Tokens.TheVariants.{Found, Stray}
+use Rattle.std.specs.declared.result.Result.{Result}
+use Rattle.std.specs.declared.result.Result.TheVariants.{Ok, Err}
+use Rattle.lexer.specs.declared.Stray.{Stray}
 use Rattle.lexer.specs.Lexing.{laid_tokens}
 use Rattle.lexer.specs.Lexing as Lexing
 use Rattle.lexer.proofs.Decode.{held, words_decode, word_decodes}
@@ -42,19 +43,19 @@ abbrev pub Left : List ℕ → Program → List ℕ → List ℕ → Type 0
 Left program r words code = (seen r code ≡ coded (tokens_in program) (reading program)) × Kept r (tokens_in program) words
 
 -- ---- tokens
-stray_lexed : (program before slice : List ℕ) (p : ℕ) → Lexing.seen (Stray p) slice ≡ laid_tokens (tokens_of program) before → tokens_of program ≡ stray p
+stray_lexed : (program before slice : List ℕ) (p : ℕ) → Lexing.seen (Err (record { place = p })) slice ≡ laid_tokens (tokens_of program) before → tokens_of program ≡ stray p
 unfolding Lexing.seen laid_tokens
 stray_lexed program before slice p h = go (tokens_of program) refl
   where
     go : (r : Lexed) → tokens_of program ≡ r → tokens_of program ≡ stray p
-    go (lexed ts) e = absurd (let q : Lexing.seen (Stray p) slice ≡ laid_tokens (lexed ts) before = h ∙ ap (λ (x : Lexed). laid_tokens x before) e in
+    go (lexed ts) e = absurd (let q : Lexing.seen (Err (record { place = p })) slice ≡ laid_tokens (lexed ts) before = h ∙ ap (λ (x : Lexed). laid_tokens x before) e in
         let z : ◌≡◌ {A = ℕ} 0 1 = cc in omega arith)
     go (stray q) e =
-        let k : Lexing.seen (Stray p) slice ≡ laid_tokens (stray q) before = h ∙ ap (λ (x : Lexed). laid_tokens x before) e in
+        let k : Lexing.seen (Err (record { place = p })) slice ≡ laid_tokens (stray q) before = h ∙ ap (λ (x : Lexed). laid_tokens x before) e in
         let z : q ≡ p = cc in e ∙ ap stray z
 
 -- a byte at which no token begins
-pub stray_read : (program before slice code : List ℕ) (p : ℕ) → Lexing.seen (Stray p) slice ≡ laid_tokens (tokens_of program) before →
+pub stray_read : (program before slice code : List ℕ) (p : ℕ) → Lexing.seen (Err (record { place = p })) slice ≡ laid_tokens (tokens_of program) before →
     Reads program (Malformed 10 p) code
 unfolding seen coded reading parsed
 stray_read program before slice code p h = record { is = rw (stray_lexed program before slice p h) }
@@ -74,22 +75,22 @@ pub record Many (program slice : List ℕ) (n : ℕ) : Type 0 where
   pub place : place_in (get_or slice 8192 0) ≡ start_at tokens 8192
 
 many : (program before slice : List ℕ) (n : ℕ) → length program ≤ 32768 → 8193 ≤ length before → 8192 < n →
-    Lexing.seen (Found n) slice ≡ laid_tokens (tokens_of program) before → Many program slice n
+    Lexing.seen (Ok n) slice ≡ laid_tokens (tokens_of program) before → Many program slice n
 unfolding Lexing.seen laid_tokens token_in
 many program before slice n l b m h = go (tokens_of program) refl
   where
     go : (r : Lexed) → tokens_of program ≡ r → Many program slice n
-    go (stray q) e = absurd (let k : Lexing.seen (Found n) slice ≡ laid_tokens (stray q) before = h ∙ ap (λ (x : Lexed). laid_tokens x before) e in
+    go (stray q) e = absurd (let k : Lexing.seen (Ok n) slice ≡ laid_tokens (stray q) before = h ∙ ap (λ (x : Lexed). laid_tokens x before) e in
         let z : ◌≡◌ {A = ℕ} 0 1 = cc in omega arith)
     go (lexed ts) e =
-        let q : Lexing.seen (Found n) slice ≡ laid_tokens (lexed ts) before = h ∙ ap (λ (x : Lexed). laid_tokens x before) e in
+        let q : Lexing.seen (Ok n) slice ≡ laid_tokens (lexed ts) before = h ∙ ap (λ (x : Lexed). laid_tokens x before) e in
         let c : n ≡ length ts = cc in
         let s : slice ≡ laid_over (map word_of ts) before = cc in
         let g : get_or slice 8192 0 ≡ get_or (map word_of ts) 8192 0 = rw s (laid_at (map word_of ts) before 8192 (rw length-map (omega arith)) (omega arith)) in
         record { tokens = ts; are = e; count = sym c; place = ap place_in g ∙ ap (λ (t : Token). t.place) (word_decodes program ts l e 8192) }
 
 pub many_read : (program before slice code : List ℕ) (n : ℕ) → Lent program before code → 8192 < n →
-    Lexing.seen (Found n) slice ≡ laid_tokens (tokens_of program) before → Reads program (Malformed 74 (place_in (get_or slice 8192 0))) code
+    Lexing.seen (Ok n) slice ≡ laid_tokens (tokens_of program) before → Reads program (Malformed 74 (place_in (get_or slice 8192 0))) code
 unfolding seen coded reading parsed if◌then◌otherwise◌
 many_read program before slice code n l m h =
     let k = many program before slice n l.short l.tokens_long m h in
@@ -97,7 +98,7 @@ many_read program before slice code n l m h =
 
 -- at most 8,192 tokens
 pub few_worded : (program before slice code : List ℕ) (n : ℕ) → Lent program before code → n ≤ 8192 →
-    Lexing.seen (Found n) slice ≡ laid_tokens (tokens_of program) before → Worded program (take n slice) code
+    Lexing.seen (Ok n) slice ≡ laid_tokens (tokens_of program) before → Worded program (take n slice) code
 few_worded program before slice code n l m h =
     let k = held program before slice n h (omega (arith, l.tokens_long)) in
     record { short = l.short; tokens = k.tokens; are = k.are; worded = k.words; few = omega (arith, k.count); code_long = l.code_long }
@@ -188,20 +189,20 @@ module _ (program words code : List ℕ) (w : Worded program words code) where
           (answer _ (rw e (ap (refused k) (sym (p ∙ ap (λ (xs : List ℕ). place_among xs i (length program)) given_words ∙ places program words code w i)))), tt)
 
 -- ---- the ways through `read`
-module _ (program before code : List ℕ) (l : Lent program before code) (r : Tokens) (slice : List ℕ)
+module _ (program before code : List ℕ) (l : Lent program before code) (r : Result ℕ Stray) (slice : List ℕ)
     (h : Lexing.seen r slice ≡ laid_tokens (tokens_of program) before) where
-  pub read_stray : (p : ℕ) → r ≡ Stray p → (words last : List ℕ) → Left program (Malformed 10 p) words last
+  pub read_stray : (e : Stray) → r ≡ Err e → (words last : List ℕ) → Left program (Malformed 10 e.place) words last
   unfolding Kept
-  read_stray p e words last = ((stray_read program before slice last p (ap (λ (x : Tokens). Lexing.seen x slice) (sym e) ∙ h)).is, tt)
+  read_stray e q words last = ((stray_read program before slice last e.place (ap (λ (x : Result ℕ Stray). Lexing.seen x slice) (sym q) ∙ h)).is, tt)
 
-  pub read_many : (n : ℕ) → r ≡ Found n → 8192 < n → (q : ℕ) → q ≡ place_in (get_or slice 8192 0) → (words last : List ℕ) →
+  pub read_many : (n : ℕ) → r ≡ Ok n → 8192 < n → (q : ℕ) → q ≡ place_in (get_or slice 8192 0) → (words last : List ℕ) →
       Left program (Malformed 74 q) words last
   unfolding seen Kept
   read_many n e m q p words last =
-      (ap (refused 74) p ∙ (many_read program before slice code n l m (ap (λ (x : Tokens). Lexing.seen x slice) (sym e) ∙ h)).is, tt)
+      (ap (refused 74) p ∙ (many_read program before slice code n l m (ap (λ (x : Result ℕ Stray). Lexing.seen x slice) (sym e) ∙ h)).is, tt)
 
-  pub read_few : (n : ℕ) → r ≡ Found n → n ≤ 8192 → Worded program (take (n - 0) slice) code
-  read_few n e m = simp sub-zero (few_worded program before slice code n l m (ap (λ (x : Tokens). Lexing.seen x slice) (sym e) ∙ h))
+  pub read_few : (n : ℕ) → r ≡ Ok n → n ≤ 8192 → Worded program (take (n - 0) slice) code
+  read_few n e m = simp sub-zero (few_worded program before slice code n l m (ap (λ (x : Result ℕ Stray). Lexing.seen x slice) (sym e) ∙ h))
 
 -- what stands behind the tokens' words does not matter
 kept_before : (r : Program) (us : List Token) (front back : List ℕ) → Kept r us front → Kept r us (front ++ back)

@@ -6,7 +6,6 @@ ghost use Rattle.meaning.specs.Grammar.{reading};
 ghost use Rattle.reader.specs.Reading.{Lent, Worded, tokens_in, seen, coded, Kept, place_among};
 
 use definitions::Parsed;
-use lexer::Tokens;
 use tokens::place_of;
 
 // A program that was read: main's word in the table, how many words its code has, and how many tokens it has. Or a number and its place.
@@ -24,8 +23,8 @@ pub fn read(program: &[u8], tokens: &mut [u64], code: &mut [u64]) -> Program
 {
     let found = lexer::lex(program, tokens);
     match found {
-        Tokens::Stray(p) => Program::Malformed(10, p),
-        Tokens::Found(n) => {
+        Err(stray) => Program::Malformed(10, stray.place),
+        Ok(n) => {
             if 8192 < n {
                 return Program::Malformed(74, place_of(tokens[8192]));
             }

@@ -4,16 +4,16 @@ use Rattle.reader.proofs.read.Goals as goal
 
 pub returns-then-n-gt8192 : goal.returns-then-n-gt8192
 returns-then-n-gt8192 c = read_many _ _ _ c.requires _ _
-    c.lex-found.ensures _ c.in-Found.is c.if-n-gt8192.true _
+    c.lex-found.ensures _ c.in-Ok.is c.if-n-gt8192.true _
     c.place_of.ensures _ _
 
 pub parse-requires : goal.parse-requires
 parse-requires c = read_few _ _ _ c.requires _ _
-    c.lex-found.ensures _ c.in-Found.is c.if-n-gt8192.false
+    c.lex-found.ensures _ c.in-Ok.is c.if-n-gt8192.false
 
-pub returns-in-Stray : goal.returns-in-Stray
-returns-in-Stray c = read_stray _ _ _ c.requires _ _ c.lex-found.ensures _
-    c.in-Stray.is _ _
+pub returns-in-Err : goal.returns-in-Err
+returns-in-Err c = read_stray _ _ _ c.requires _ _ c.lex-found.ensures _
+    c.in-Err.is _ _
 
 pub returns-else-n-gt8192 : goal.returns-else-n-gt8192
 returns-else-n-gt8192 c = read_parsed _ _ _ _ _ c.parse.ensures
