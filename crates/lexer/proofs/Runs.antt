@@ -8,6 +8,7 @@ use native.Mathlib.Numerals.{add-one}
 use native.Mathlib.Nat.{add-zero}
 use native.Mathlib.Omega.{arith}
 use borrow.Author.Tests.{le-leb, lt-leb}
+use mathlib.Core.Logic.{◌⊎◌, ⊎_elim}
 use lib.ListN.{length, get_or, drop, drop_of_length-le}
 use lib.Seq.{drop-cons}
 use Rattle.meaning.specs.Basics.{if◌then◌otherwise◌, span}
@@ -32,13 +33,18 @@ module _ (least : ℕ) (s : List ℕ) (i : ℕ) where
   unfolding span
   end_over h = rw (drop_of_length-le s {i = i} h) (add-zero i)
 
-  pub end_low : i < length s → class_of (get_or s i 0) < least → end_of least s i ≡ i
+  end_low : i < length s → class_of (get_or s i 0) < least → end_of least s i ≡ i
   unfolding from_class
   end_low h e = stop (from_class least) s i h (rw (lt-leb _ _ e))
 
-  pub end_high : i < length s → least ≤ class_of (get_or s i 0) → 3 < class_of (get_or s i 0) → end_of least s i ≡ i
+  end_high : i < length s → least ≤ class_of (get_or s i 0) → 3 < class_of (get_or s i 0) → end_of least s i ≡ i
   unfolding from_class
   end_high h l e = stop (from_class least) s i h (rw (le-leb _ _ l, lt-leb _ _ e))
+
+  pub end_out : i < length s → (c : ℕ) → c ≡ class_of (get_or s i 0) → (c < least) ⊎ ((least ≤ c) × (3 < c)) → end_of least s i ≡ i
+  end_out h c q e =
+      ⊎_elim (λ (l : c < least). end_low h (rw q at l))
+      (λ (l : (least ≤ c) × (3 < c)). end_high h (rw q at l.0) (rw q at l.1)) e
 
   pub end_more : i < length s → least ≤ class_of (get_or s i 0) → class_of (get_or s i 0) ≤ 3 → end_of least s i ≡ end_of least s (i + 1)
   unfolding from_class

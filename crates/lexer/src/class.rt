@@ -35,16 +35,11 @@ pub fn run_end(classes: &[u8; 256], program: &[u8], from: usize, least: u8) -> u
     requires { classes.now ≡ class_table }
     ensures { result ≡ from + span (from_class least) (drop from program.now) }
 {
-    let mut i = from;
-    while i < program.len() {
-        let c = class_at(classes, program, i);
-        if c < least {
+    for i in from..program.len() {
+        let c = class_of(classes, program[i]);
+        if c < least || DIGIT < c {
             return i;
         }
-        if DIGIT < c {
-            return i;
-        }
-        i += 1;
     }
-    i
+    from.max(program.len())
 }
