@@ -119,27 +119,20 @@ pub fn frame_of(d: u64) -> usize
 pub fn left_of(w: u64, x: usize) -> usize
     ensures { result ≡ x - 1 - number_in w }
 {
-    let n = index_of(w);
-    if x <= n {
-        return 0;
-    }
-    x - n - 1
+    x.saturating_sub(1).saturating_sub(index_of(w))
 }
 
 pub fn right_of(x: usize) -> usize
     ensures { result ≡ x - 1 }
 {
-    if x == 0 {
-        return 0;
-    }
-    x - 1
+    x.saturating_sub(1)
 }
 
 // The first word of the arguments of the call whose root, w, is at x.
 pub fn first_argument(w: u64, x: usize) -> usize
     ensures { result ≡ x - (size_in w - 1) }
 {
-    arithmetic::lowered(x, arithmetic::lowered(size_of(w), 1))
+    x.saturating_sub(size_of(w).saturating_sub(1))
 }
 
 // The root of the argument whose first word, w, is at a; x if it does not end before x.
@@ -159,14 +152,14 @@ pub fn last_of(w: u64, x: usize) -> usize
     requires { x < 2 ^ 62 }
     ensures { (result ≡ x + size_in w - 1) × (result < 2 ^ 63) }
 {
-    arithmetic::lowered(x + size_of(w), 1)
+    (x + size_of(w)).saturating_sub(1)
 }
 
 // The place before the code of the expression whose root, w, is at y.
 pub fn before(w: u64, y: usize) -> usize
     ensures { (result ≡ y - size_in w) × (result ≤ y) }
 {
-    arithmetic::lowered(y, size_of(w))
+    y.saturating_sub(size_of(w))
 }
 
 // A store, which past the end does nothing.
