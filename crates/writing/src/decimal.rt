@@ -6,21 +6,12 @@ ghost use Rattle.writing.specs.Digits.{pair};
 
 use crate::place::write_bytes_at;
 
-// How many digits n has: counted by four, then by two, then by one. The library has no logarithm by ten.
+// How many digits n has: one more than its logarithm by ten, and 0 has one.
+#[tactic(auto, using(crate::proofs::Decimals::digits_by_power))]
 fn digit_count(n: u64) -> usize
     ensures { result ≡ length (digits_of n) }
 {
-    let mut rest = n;
-    let mut count = 0;
-    while 9999 < rest {
-        rest = rest / 10000;
-        count += 4;
-    }
-    if 99 < rest {
-        rest = rest / 100;
-        count += 2;
-    }
-    if 9 < rest { count + 2 } else { count + 1 }
+    n.max(1).ilog10() as usize + 1
 }
 
 // n without its last digits, as many as asked.
