@@ -12,7 +12,7 @@ pub fn print(rt: &(impl Print + Eprint), text: &[u8]) {
     }
 }
 
-// Reads until the slice is full, the input ends or a read fails, and says how many bytes came.
+// Reads until the slice is full, the input ends or a read fails, and says how many bytes came: the library's `read_exact` does not say that.
 pub fn read_full(rt: &impl Input, bytes: &mut [u8]) -> usize
     ensures { result ≤ length bytes.new }
 {
@@ -37,11 +37,9 @@ fn skip_some(rt: &impl Input) -> bool {
 // Reads what is left of the input and forgets it, so that whoever writes it can write it all. It stops after 65,536 reads, 4 GiB at most, since the
 // input may have no end.
 pub fn skip_rest(rt: &impl Input) {
-    let mut turns: u64 = 65536;
-    while turns > 0 {
+    for _ in 0..65536 {
         if !skip_some(rt) {
             return;
         }
-        turns -= 1;
     }
 }

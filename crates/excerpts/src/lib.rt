@@ -1,7 +1,7 @@
 // The line of a place, and a mark under the place.
 #![tactic(auto)]
 
-ghost use Rattle.std.specs.Prelude.{◌≤◌, min, ◌≡◌, length, drop};
+ghost use Rattle.std.specs.Prelude.{◌≤◌, ◌≡◌, length, drop};
 ghost use Rattle.meaning.specs.Basics.{span};
 ghost use Rattle.writing.specs.Placed.{WroteAt};
 ghost use Rattle.excerpts.specs.Excerpts.{glyph_of, glyphs_of, in_line, optional, shown_line, mark_line, Around, excerpt_of};
@@ -29,11 +29,9 @@ fn write_glyphs_at(out: &mut [u8], at: usize, bytes: &[u8], marking: bool) -> us
     ensures { WroteAt at (glyphs_of marking bytes.now) out.old out.new result }
 {
     let mut next = at;
-    let mut i = 0;
-    while i < bytes.len() {
-        let one = [glyph(bytes[i], marking)];
+    for b in bytes {
+        let one = [glyph(*b, marking)];
         next = writing::write_bytes_at(out, next, &one);
-        i += 1;
     }
     next
 }
@@ -71,20 +69,12 @@ fn line_rest(program: &[u8], place: usize) -> usize
     requires { place ≤ length program.now }
     ensures { result ≡ span in_line (drop place program.now) }
 {
-    let mut i = place;
-    while i < program.len() {
+    for i in place..program.len() {
         if program[i] == b'\n' {
             return i - place;
         }
-        i += 1;
     }
-    i - place
-}
-
-pub fn least(m: usize, n: usize) -> usize
-    ensures { result ≡ min m n }
-{
-    if m < n { m } else { n }
+    program.len() - place
 }
 
 // At most 60 bytes of the line before the place are shown, and at most 20 from the place on.
@@ -99,8 +89,8 @@ pub fn write_excerpt_at(
     ensures { WroteAt at (excerpt_of program.now place behind) out.old out.new result }
 {
     let rest = line_rest(program, place);
-    let start = place - least(behind, 60);
-    let end = place + least(rest, 20);
+    let start = place - behind.min(60);
+    let end = place + rest.min(20);
     let next = write_shown_at(out, at, &program[start..end], 60 < behind, 20 < rest);
     write_mark_at(out, next, &program[start..place], 60 < behind)
 }

@@ -1,5 +1,5 @@
 // Procedures, each at its def among the tokens.
-ghost use Rattle.std.specs.Prelude.{◌≡◌, ◌++◌, ◌<◌, min, length, take, drop};
+ghost use Rattle.std.specs.Prelude.{◌≡◌, ◌++◌, ◌<◌, length, take, drop};
 ghost use Rattle.meaning.specs.Basics.{bytes};
 ghost use Rattle.canonical.specs.Text.{comma_separated};
 ghost use Rattle.machine.specs.Opcodes.{table_place, start_in, parameters_in};
@@ -17,19 +17,13 @@ use writing::write_bytes_at;
 const ENOUGH_FUEL: usize = 8193;
 
 // ---- parameters
-fn least(x: usize, y: usize) -> usize
-    ensures { result ≡ min x y }
-{
-    if x < y { x } else { y }
-}
-
 // So many words of the code from a place on, as far as it reaches.
 fn slots_at(code: &[u64], start: usize, count: usize) -> &[u64]
     requires { (start < 65536) × (count < 65536) }
     ensures { result.now ≡ take count (drop start code.now) }
 {
-    let end = least(start + count, code.len());
-    let first = least(start, end);
+    let end = (start + count).min(code.len());
+    let first = start.min(end);
     &code[first..end]
 }
 
@@ -111,10 +105,8 @@ pub fn write_text(program: &[u8], tokens: &[u64], code: &[u64], out: &mut [u8]) 
     ensures { WroteAt 0 (raw_text (source program.now tokens.now code.now)) out.old out.new result }
 {
     let mut at = 0;
-    let mut i = 0;
-    while i < tokens.len() {
+    for i in 0..tokens.len() {
         at = write_begun(program, tokens, code, i, out, at);
-        i += 1;
     }
     at
 }

@@ -159,9 +159,7 @@ pub fn write_statements(
 {
     let mut next = at;
     let mut x = first;
-    let mut left = rounds;
-    while 0 < left {
-        left -= 1;
+    for _ in 0..rounds {
         if end <= x {
             return next;
         }

@@ -10,11 +10,11 @@ use borrow.Author.Tests.{lt-ltb}
 use lib.IntN.{ℤ}
 use lib.ListN.{length, take, drop, replicate, length-take, length-replicate}
 use lib.Seq.{take_all}
+use Rattle.std.specs.Prelude.{Option, Some, None}
 use Rattle.meaning.specs.Run.{Action, ◌>>=◌, ◌>>◌, fail, refuse, go_on}
 use Rattle.meaning.specs.Program.{Outcome, drawing, sheet, sized, painting, performing, specified, empty}
 use Rattle.meaning.specs.Call.{answer, out_after, run_of, admitted}
 use Rattle.sheet.specs.declared.line.Sheet.{Sheet}
-use Rattle.sheet.specs.declared.line.Sheet.TheVariants.{Sized, Unread}
 use Rattle.sheet.specs.Lines.{sheet_of}
 use Rattle.sheet.proofs.Fields.{sheet_ends}
 use Rattle.sheet.proofs.Cuts.{drop_cut, sheet_cut}
@@ -47,12 +47,13 @@ program_cut m p w h out l = by (dec_le (length p) m)
     by (yes k) = rw (take_all m p k)
     by (no k) = let e = length-take m p in same_text_lem (take m p) p w h (omega arith) (omega arith) out
 
-input_cut : (input out : List ℕ) (r : Sheet) → r ≡ sheet_of input → printed_on (take input_bytes input) out r ≡ printed_on input out r
+input_cut : (input out : List ℕ) (r : Option Sheet) → r ≡ sheet_of input → printed_on (take input_bytes input) out r ≡ printed_on input out r
 unfolding printed_on
-input_cut input out (Sized w h n) e =
-    let k = (sheet_ends input (Sized w h n) w h n e refl).few in
-    rw (drop_cut n input_bytes input) (program_cut (input_bytes - n) (drop n input) w h out (omega arith))
-input_cut input out Unread e = refl
+input_cut input out (Some s) e =
+    let n = s.line_length in
+    let k = (sheet_ends input (Some s) s e refl).few in
+    rw (drop_cut n input_bytes input) (program_cut (input_bytes - n) (drop n input) s.width s.height out (omega arith))
+input_cut input out None e = refl
 
 -- THE LAW
 pub enough : (input : List ℕ) → printed (take input_bytes input) ≡ printed input

@@ -7,13 +7,13 @@ use mathlib.Core.Path.{◌≡◌, ◌∙◌, refl, sym, ap, fun_ext}
 use lib.IntN.{ℤ}
 use lib.ListN.{length, take}
 use lib.Seq.{take-nil}
+use Rattle.std.specs.Prelude.{Option, Some, None}
 use Rattle.meaning.specs.Basics.{if◌then◌otherwise◌, laid_over}
 use Rattle.meaning.specs.Run.{Resource, steps, shapes, entries, text_bytes, calls, picture, End, result, error, unfinished, Run}
 use Rattle.meaning.specs.Program.{Outcome, accepted, drawn, drawing}
 use Rattle.meaning.specs.Book.{Amounts, Booked, all_fit, lacking, nothing_yet, book, number, answer_to, settled, booked}
 use Rattle.meaning.specs.Call.{Grants, granted, answer, out_after_end, out_after, admitted, run_of}
 use Rattle.sheet.specs.declared.line.Sheet.{Sheet}
-use Rattle.sheet.specs.declared.line.Sheet.TheVariants.{Sized, Unread}
 use Rattle.sheet.specs.Lines.{sheet_of}
 use Rattle.sheet.specs.Shown.{shown_text}
 use Rattle.imgdraw.specs.Printed.{call_of, drawn_text, printed_on, printed_of}
@@ -58,10 +58,10 @@ module _ (out other : List ℕ) (e : length out ≡ length other) where
   unfolding drawn_text answer out_after admitted run_of
   same_text_lem p w h = same_drawn _ _ _ _ (same_grants _)
 
-  same_sheet : (input : List ℕ) (s : Sheet) → printed_on input out s ≡ printed_on input other s
+  same_sheet : (input : List ℕ) (s : Option Sheet) → printed_on input out s ≡ printed_on input other s
   unfolding printed_on
-  same_sheet input (Sized w h n) = same_text_lem _ w h
-  same_sheet input Unread = refl
+  same_sheet input (Some s) = same_text_lem _ s.width s.height
+  same_sheet input None = refl
 
   pub same_printed : (input : List ℕ) → printed_of input out ≡ printed_of input other
   unfolding printed_of

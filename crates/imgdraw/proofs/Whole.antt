@@ -10,13 +10,13 @@ use lib.Seq.{take_all}
 use mir.Syntax.{w32}
 use mir.Val.{SFits, to_z, of_z}
 use mir.ValLaws.{to_z-of_z}
+use Rattle.std.specs.Prelude.{Option, Some, None}
 use Rattle.meaning.specs.Program.{drawing}
 use Rattle.meaning.specs.Call.{Call, needed, answer, out_after}
 use Rattle.answers.specs.declared.Answer as Declared
 use Rattle.answers.specs.Answers.{meant}
 use Rattle.lending.specs.Lending.{called}
 use Rattle.sheet.specs.declared.line.Sheet.{Sheet}
-use Rattle.sheet.specs.declared.line.Sheet.TheVariants.{Sized, Unread}
 use Rattle.sheet.specs.Errors.{ErrorWritten}
 use Rattle.sheet.specs.Lines.{sheet_of}
 use Rattle.sheet.specs.Shown.{shown_text, Front}
@@ -49,16 +49,17 @@ program_drawn program tokens code words texts out w h f g i j k l a out₁ after
     same_call program tokens code words texts out (held w) (held h) i j k l ∙ rw (to_z-of_z w32 w f, to_z-of_z w32 h g) in
     drawn_front (call_of program w h out) a (e ∙ ap answer q) (o ∙ ap out_after q) t
 
-module _ (input out : List ℕ) (s : Sheet) (e : s ≡ sheet_of input) {after : List ℕ} {r : ℕ} where
-  pub whole_unread : s ≡ Unread → 64 ≤ length out → ErrorWritten 72 0 out after r → Front (printed_of input out) after r
+module _ (input out : List ℕ) (s : Option Sheet) (e : s ≡ sheet_of input) {after : List ℕ} {r : ℕ} where
+  pub whole_unread : s ≡ None → 64 ≤ length out → ErrorWritten 72 0 out after r → Front (printed_of input out) after r
   unfolding printed_of printed_on
   whole_unread k h w = rw (sym e ∙ k) (error_line_lem 72 0 r out after h w)
 
   -- a call hands a signed number on as its bits, and the program as a part of the input
-  pub whole_drawn : (x y : ℤ) (n : ℕ) → s ≡ Sized x y n → SFits w32 x → SFits w32 y
-      → Front (drawn_text (call_of (take (length input - n) (drop n input)) (to_z w32 (of_z w32 x)) (to_z w32 (of_z w32 y)) out)) after r
+  pub whole_drawn : (t : Sheet) → s ≡ Some t → SFits w32 t.width → SFits w32 t.height
+      → Front (drawn_text (call_of (take (length input - t.line_length) (drop t.line_length input)) (held t.width) (held t.height) out)) after r
       → Front (printed_of input out) after r
   unfolding printed_of printed_on
-  whole_drawn x y n k fx fy f =
+  whole_drawn t k fx fy f =
+      let n = t.line_length in
       let rest : take (length input - n) (drop n input) ≡ drop n input = take_all (length input - n) (drop n input) (omega (arith, length-drop n input)) in
-      rw (sym e ∙ k) (rw (rest, to_z-of_z w32 x fx, to_z-of_z w32 y fy) at f)
+      rw (sym e ∙ k) (rw (rest, to_z-of_z w32 t.width fx, to_z-of_z w32 t.height fy) at f)

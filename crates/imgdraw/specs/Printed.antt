@@ -1,9 +1,8 @@
 -- What `imgdraw` prints.
-use Rattle.std.specs.Prelude.{ℕ, List, ℤ, drop, replicate}
+use Rattle.std.specs.Prelude.{ℕ, List, ℤ, Option, Some, None, drop, replicate}
 use Rattle.meaning.specs.Call.{Call, needed, answer, out_after}
 use Rattle.meaning.specs.Program.{drawing}
 use Rattle.sheet.specs.declared.line.Sheet.{Sheet}
-use Rattle.sheet.specs.declared.line.Sheet.TheVariants.{Sized, Unread}
 use Rattle.sheet.specs.Lines.{sheet_of}
 use Rattle.sheet.specs.Errors.{error_line}
 use Rattle.sheet.specs.Shown.{shown_text}
@@ -24,9 +23,9 @@ call_of program w h out = record {
 unfoldable pub drawn_text : Call → List ℕ
 drawn_text c = shown_text (answer c) (out_after c)
 
-unfoldable pub printed_on : List ℕ → List ℕ → Sheet → List ℕ
-printed_on input out (Sized w h n) = drawn_text (call_of (drop n input) w h out)
-printed_on input out Unread = error_line 72 0
+unfoldable pub printed_on : List ℕ → List ℕ → Option Sheet → List ℕ
+printed_on input out (Some s) = drawn_text (call_of (drop s.line_length input) s.width s.height out)
+printed_on input out None = error_line 72 0
 
 -- all that is printed for an input, with a given out slice
 unfoldable pub printed_of : List ℕ → List ℕ → List ℕ

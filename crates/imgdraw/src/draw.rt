@@ -6,7 +6,6 @@ ghost use Rattle.imgdraw.specs.Sizes.{input_bytes, out_bytes};
 ghost use Rattle.imgdraw.specs.Printed.{call_of, drawn_text, printed_of, printed};
 
 use crate::size::{CODE, GRANTS, TEXTS, TOKENS, WORDS};
-use sheet::Sheet;
 
 // Draws with the counts that every drawing is granted, and work slices that are long enough for them.
 fn draw_program(program: &[u8], width: i32, height: i32, out: &mut [u8]) -> usize
@@ -39,8 +38,8 @@ fn draw_sheet(input: &[u8], out: &mut [u8]) -> usize
 {
     let s = sheet::read_sheet(input);
     match s {
-        Sheet::Unread => sheet::write_error(out, 72, 0),
-        Sheet::Sized(width, height, n) => draw_program(&input[n..], width, height, out),
+        None => sheet::write_error(out, 72, 0),
+        Some(sheet) => draw_program(&input[sheet.line_length..], sheet.width, sheet.height, out),
     }
 }
 

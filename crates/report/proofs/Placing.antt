@@ -9,7 +9,7 @@ use native.Mathlib.Omega.{arith}
 use borrow.Author.Tests.{eq-eqb, ne_eqb}
 use lib.Dec.{eqb}
 use lib.ListN.{length, get_or, take, drop, drop_of_length-le}
-use lib.Seq.{drop-cons, get_or-take, length-take-le}
+use lib.Seq.{drop-cons, length-take-le}
 use Rattle.meaning.specs.Basics.{if◌then◌otherwise◌}
 use Rattle.report.specs.declared.place.Position.{Position}
 use Rattle.report.specs.Positions.{Small, after_byte, after_bytes, first, position_of}
@@ -51,34 +51,27 @@ position_bounded program place h =
     rw (length-take-le place program h) at
     (bounded_all (take place program) first 1 (record { lines = omega arith; columns = omega arith; some = omega arith }))
 
--- ---- the loop: p is the position of i
-pub record Locating (program : List ℕ) (place : ℕ) (p : Position) (i : ℕ) : Type 0 where
-  pub few : i ≤ place
-  pub rest : after_bytes p (drop i (take place program)) ≡ position_of program place
+-- ---- the loop: p is the position behind the first i bytes
+pub record Locating (bs : List ℕ) (p : Position) (i : ℕ) : Type 0 where
+  pub rest : after_bytes p (drop i bs) ≡ after_bytes first bs
   pub bounds : Bounded p (1 + i)
 
-pub locate_none : (program : List ℕ) (place : ℕ) → Locating program place first 0
-unfolding position_of
-locate_none program place = record { few = omega arith; rest = refl; bounds = record { lines = omega arith; columns = omega arith; some = omega arith } }
+pub locate_none : (bs : List ℕ) → Locating bs first 0
+locate_none bs = record { rest = refl; bounds = record { lines = omega arith; columns = omega arith; some = omega arith } }
 
-module _ (program : List ℕ) (place : ℕ) (p : Position) (i : ℕ) (g : Locating program place p i) where
-  pub locate_small : length program < 2 ^ 63 → i < place → place ≤ length program → Small p
-  locate_small s h l = record { few_lines = omega (arith, g.bounds.lines); few_columns = omega (arith, g.bounds.columns) }
+module _ (bs : List ℕ) (p : Position) (i : ℕ) (g : Locating bs p i) where
+  pub locate_small : 1 + i < 2 ^ 63 → Small p
+  locate_small h = record { few_lines = omega (arith, g.bounds.lines); few_columns = omega (arith, g.bounds.columns) }
 
-  pub locate_more : (r : Position) → i < place → place ≤ length program → r ≡ after_byte p (get_or program i 0) → Locating program place r (i + 1)
+  pub locate_more : (r : Position) → i < length bs → r ≡ after_byte p (get_or bs i 0) → Locating bs r (i + 1)
   unfolding after_bytes
-  locate_more r h l e =
-      let n : length (take place program) ≡ place = length-take-le place program l in
-      let k : i < length (take place program) = omega arith in
+  locate_more r h e =
       let q : 1 + (i + 1) ≡ 1 + i + 1 = omega arith in
       record {
-        few = omega arith;
-        rest = rw (e, add-one i) (rw (drop-cons (take place program) i 0 k, get_or-take place program i 0 h) at g.rest);
-        bounds = rw (e, q) (bounded_more p (get_or program i 0) (1 + i) g.bounds);
+        rest = rw (e, add-one i) (rw (drop-cons bs i 0 h) at g.rest);
+        bounds = rw (e, q) (bounded_more p (get_or bs i 0) (1 + i) g.bounds);
       }
 
-  pub locate_all : place ≤ i → place ≤ length program → p ≡ position_of program place
+  pub locate_all : length bs ≤ i → p ≡ after_bytes first bs
   unfolding after_bytes
-  locate_all h l =
-      let n : length (take place program) ≡ place = length-take-le place program l in
-      rw (drop_of_length-le (take place program) {i = i} (omega arith)) at g.rest
+  locate_all h = rw (drop_of_length-le bs {i = i} h) at g.rest

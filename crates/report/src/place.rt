@@ -31,10 +31,8 @@ pub fn locate(program: &[u8], place: usize) -> Position
     ensures { result ≡ position_of program.now place }
 {
     let mut p = Position { line: 1, column: 1 };
-    let mut i = 0;
-    while i < place {
-        p = after(p, program[i]);
-        i += 1;
+    for b in &program[..place] {
+        p = after(p, *b);
     }
     p
 }

@@ -8,7 +8,7 @@ use crate::heading::write_heading_at;
 use crate::place::locate;
 use crate::sentence::write_sentence_at;
 use answers::Answer;
-use excerpts::{least, write_excerpt_at};
+use excerpts::write_excerpt_at;
 
 // The line of the place, unless the number is about the whole program.
 fn write_line_at(
@@ -32,7 +32,7 @@ fn write_failure(out: &mut [u8], program: &[u8], number: u64, place: u64) -> usi
     ensures { Failed program.now number place out.old out.new result }
 {
     let at = place as usize;
-    let spot = least(at, program.len());
+    let spot = at.min(program.len());
     let p = locate(program, spot);
     let column = p.column;
     let a = write_heading_at(out, 0, number, place, p);

@@ -9,10 +9,10 @@ use native.Mathlib.Nat.{zero-sub, sub-zero, suc-sub-suc}
 use native.Mathlib.Omega.{arith}
 use lib.ListN.{take, drop}
 use lib.Seq.{get_or-take, take-take, take-nil}
+use Rattle.std.specs.Prelude.{Option, Some, None}
 use Rattle.meaning.specs.Basics.{if◌then◌otherwise◌, span}
 use Rattle.meaning.specs.Byte.{is_digit}
 use Rattle.sheet.specs.declared.line.Field.{Field}
-use Rattle.sheet.specs.declared.line.Field.TheVariants.{Digits, Unfit}
 use Rattle.sheet.specs.Lines.{field_with, field_of, after_height, with_height, after_width, with_width, sheet_of}
 use Rattle.sheet.proofs.Fields.{field_long, found}
 
@@ -49,25 +49,25 @@ field_cut k s h = by (dec_le (span is_digit s) 10)
         ∙ field_long s (span is_digit s) refl (omega arith) (omega arith)
 
 -- ---- the line
-height_cut : (k : ℕ) (s : List ℕ) (w n : ℕ) (f : Field) → 22 ≤ k → n ≤ 10 → f ≡ field_of (drop (n + 1) s)
-    → with_height (take k s) w n f ≡ with_height s w n f
+height_cut : (k : ℕ) (s : List ℕ) (w n : ℕ) (r : Option Field) → 22 ≤ k → n ≤ 10 → r ≡ field_of (drop (n + 1) s)
+    → with_height (take k s) w n r ≡ with_height s w n r
 unfolding with_height after_height
-height_cut k s w n (Digits h m) l e g =
-    let d = (found (drop (n + 1) s) (Digits h m) h m g refl).few in
-    rw (get_or-take k s (n + 1 + m) 0 (omega arith))
-height_cut k s w n Unfit l e g = refl
+height_cut k s w n (Some f) l e g =
+    let d = (found (drop (n + 1) s) (Some f) f g refl).few in
+    rw (get_or-take k s (n + 1 + f.digits) 0 (omega arith))
+height_cut k s w n None l e g = refl
 
-width_cut : (k : ℕ) (s : List ℕ) (f : Field) → 22 ≤ k → f ≡ field_of s → with_width (take k s) f ≡ with_width s f
+width_cut : (k : ℕ) (s : List ℕ) (r : Option Field) → 22 ≤ k → r ≡ field_of s → with_width (take k s) r ≡ with_width s r
 unfolding with_width after_width
-width_cut k s (Digits w n) l g =
-    let d = (found s (Digits w n) w n g refl).few in
+width_cut k s (Some f) l g =
+    let d = (found s (Some f) f g refl).few in
     rw (
-      get_or-take k s n 0 (omega arith),
-      drop_cut (n + 1) k s,
-      field_cut (k - (n + 1)) (drop (n + 1) s) (omega arith),
-      height_cut k s w n (field_of (drop (n + 1) s)) l d refl,
+      get_or-take k s f.digits 0 (omega arith),
+      drop_cut (f.digits + 1) k s,
+      field_cut (k - (f.digits + 1)) (drop (f.digits + 1) s) (omega arith),
+      height_cut k s f.value f.digits (field_of (drop (f.digits + 1) s)) l d refl,
     )
-width_cut k s Unfit l g = refl
+width_cut k s None l g = refl
 
 pub sheet_cut : (k : ℕ) (s : List ℕ) → 22 ≤ k → sheet_of (take k s) ≡ sheet_of s
 unfolding sheet_of

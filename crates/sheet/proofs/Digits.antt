@@ -4,27 +4,15 @@ use Prim.Native.Nat.{ℕ, ◌+◌, ◌-◌, ◌*◌, ◌^◌, ◌≤◌, ◌<◌
 use mathlib.Core.Bool.{false}
 use mathlib.Core.List.{List}
 use mathlib.Core.Path.{◌≡◌, refl}
-use native.Mathlib.Nat.{pow-suc, pow-le-pow_right}
+use native.Mathlib.Nat.{pow-suc}
 use native.Mathlib.Numerals.{add-one}
 use native.Mathlib.Omega.{arith}
-use borrow.Author.Tests.{le-leb, lt-leb}
-use lib.Dec.{leb}
 use lib.ListN.{length, get_or, drop, drop_of_length-le}
 use lib.Seq.{drop-cons}
 use Rattle.meaning.specs.Basics.{span}
 use Rattle.meaning.specs.Byte.{is_digit}
 use Rattle.meaning.specs.Grammar.{numeral, numeral_from}
 use Rattle.numerals.proofs.Spans.{Spanning, span_stop, span_over}
-
--- ---- one digit
-module _ (b : ℕ) where
-  pub digit_low : b < 48 → false ≡ is_digit b
-  unfolding is_digit
-  digit_low h = rw (lt-leb 48 b h)
-
-  pub digit_high : 48 ≤ b → leb b 57 ≡ is_digit b
-  unfolding is_digit
-  digit_high h = rw (le-leb 48 b h)
 
 -- ---- how many
 module _ (s : List ℕ) (i : ℕ) (g : Spanning is_digit s 0 i) where
@@ -44,9 +32,6 @@ pub value_none : (x : List ℕ) → Valued x 0 0
 value_none x = record { few = omega arith; rest = refl; small = omega arith }
 
 module _ (x : List ℕ) (v i : ℕ) (g : Valued x v i) where
-  pub value_fits : length x ≤ 10 → i < length x → v ≤ 23 * 10 ^ 9
-  value_fits h l = omega (arith, g.small, pow-le-pow_right {n = 10} (omega arith) {i = i} {j = 9} (omega arith))
-
   pub value_more : (d : ℕ) → get_or x i 0 < 256 → i < length x → d ≡ get_or x i 0 - 48 → Valued x (10 * v + d) (i + 1)
   unfolding numeral_from
   value_more d b l e = record {

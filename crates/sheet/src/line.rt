@@ -5,50 +5,38 @@ ghost use Rattle.meaning.specs.Byte.{is_digit};
 ghost use Rattle.meaning.specs.Grammar.{numeral};
 ghost use Rattle.sheet.specs.Lines.{field_of, after_width, after_height, sheet_of};
 
-// What stands in front of a text: a number and how many digits it has; or nothing that will do.
+// A number that stands in front of a text, and how many digits write it.
 #[derive(Clone, Copy)]
-pub enum Field {
-    Digits(u64, usize),
-    Unfit,
+pub struct Field {
+    pub value: u64,
+    pub digits: usize,
 }
 
-// What the input begins with: a width, a height and how many bytes the line has; or no such line.
+// What the input begins with: a width, a height and how many bytes their line has.
 #[derive(Clone, Copy)]
-pub enum Sheet {
-    Sized(i32, i32, usize),
-    Unread,
+pub struct Sheet {
+    pub width: i32,
+    pub height: i32,
+    pub line_length: usize,
 }
 
+#[tactic(auto, unfolding(meaning::specs::Byte::is_digit))]
 fn is_digit(b: u8) -> bool
     ensures { result ≡ is_digit b }
 {
-    if b < 48 {
-        return false;
-    }
-    b <= 57
+    b.is_ascii_digit()
 }
 
 // How many digits stand in front.
 fn digit_count(s: &[u8]) -> usize
     ensures { result ≡ span is_digit s.now }
 {
-    let mut i = 0;
-    while i < s.len() {
-        if !is_digit(s[i]) {
+    for (i, b) in s.iter().enumerate() {
+        if !is_digit(*b) {
             return i;
         }
-        i += 1;
     }
-    i
-}
-
-fn digit(d: u8) -> u64
-    ensures { result ≡ d - 48 }
-{
-    if d < 48 {
-        return 0;
-    }
-    (d - 48) as u64
+    s.len()
 }
 
 // The number that at most ten digits write.
@@ -57,70 +45,70 @@ fn value_of(digits: &[u8]) -> u64
     ensures { result ≡ numeral digits.now }
 {
     let mut v: u64 = 0;
-    let mut i = 0;
-    while i < digits.len() {
-        v = 10 * v + digit(digits[i]);
-        i += 1;
+    for d in digits {
+        v = 10 * v + d.saturating_sub(48) as u64;
     }
     v
 }
 
-// A number of 1 to 10 digits, at most 2,147,483,647.
-fn read_field(s: &[u8]) -> Field
+// A number of 1 to 10 digits, at most 2,147,483,647; none if no such number stands in front.
+fn read_field(s: &[u8]) -> Option<Field>
     ensures { result ≡ field_of s.now }
 {
     let n = digit_count(s);
     if n < 1 {
-        return Field::Unfit;
+        return None;
     }
     if 10 < n {
-        return Field::Unfit;
+        return None;
     }
     let v = value_of(&s[..n]);
     if 2147483647 < v {
-        return Field::Unfit;
+        return None;
     }
-    Field::Digits(v, n)
+    Some(Field {
+        value: v,
+        digits: n,
+    })
 }
 
 fn byte_at(s: &[u8], i: usize) -> u8
     ensures { result ≡ get_or s.now i 0 }
 {
-    if i < s.len() { s[i] } else { 0 }
+    s.get(i).copied().unwrap_or(0)
 }
 
 // Behind a height that ends at a place.
-fn ended(s: &[u8], w: u64, h: u64, end: usize) -> Sheet
+fn ended(s: &[u8], w: u64, h: u64, end: usize) -> Option<Sheet>
     requires { (w ≤ 2147483647) × (h ≤ 2147483647) × (end ≤ length s.now) }
     ensures { result ≡ after_height s.now w h end }
 {
     if byte_at(s, end) != b'\n' {
-        return Sheet::Unread;
+        return None;
     }
-    Sheet::Sized(w as i32, h as i32, end + 1)
+    Some(Sheet {
+        width: w as i32,
+        height: h as i32,
+        line_length: end + 1,
+    })
 }
 
 // Behind a width of n digits.
-fn behind(s: &[u8], w: u64, n: usize) -> Sheet
+fn behind(s: &[u8], w: u64, n: usize) -> Option<Sheet>
     requires { (w ≤ 2147483647) × (n ≤ length s.now) }
     ensures { result ≡ after_width s.now w n }
 {
     if byte_at(s, n) != b' ' {
-        return Sheet::Unread;
+        return None;
     }
-    let height = read_field(&s[n + 1..]);
-    match height {
-        Field::Unfit => Sheet::Unread,
-        Field::Digits(h, m) => ended(s, w, h, n + 1 + m),
-    }
+    let height = read_field(&s[n + 1..])?;
+    ended(s, w, height.value, n + 1 + height.digits)
 }
 
-pub fn read_sheet(s: &[u8]) -> Sheet
+// The line before the program; none if the input begins with no such line.
+pub fn read_sheet(s: &[u8]) -> Option<Sheet>
     ensures { result ≡ sheet_of s.now }
 {
-    let width = read_field(s);
-    match width {
-        Field::Unfit => Sheet::Unread,
-        Field::Digits(w, n) => behind(s, w, n),
-    }
+    let width = read_field(s)?;
+    behind(s, width.value, width.digits)
 }

@@ -106,13 +106,9 @@ pub fn encloses(outer: u64, inner: u64) -> bool
 }
 
 // Whether a byte is a letter or a digit.
+#[tactic(auto, unfolding(meaning::specs::Byte::is_name_part, meaning::specs::Byte::is_letter, meaning::specs::Byte::is_digit))]
 pub fn is_name_part(b: u8) -> bool
     ensures { result ≡ is_name_part b }
 {
-    match b {
-        b'0'..=b'9' => true,
-        b'A'..=b'Z' => true,
-        b'a'..=b'z' => true,
-        _ => false,
-    }
+    b.is_ascii_alphanumeric()
 }

@@ -39,10 +39,8 @@ pub fn write_names(
         out.old out.new result }
 {
     let mut next = at;
-    let mut i = 0;
-    while i < slots.len() {
-        next = write_listed(program, tokens, slots[i] as usize, 0 < i, out, next);
-        i += 1;
+    for (i, slot) in slots.iter().enumerate() {
+        next = write_listed(program, tokens, *slot as usize, 0 < i, out, next);
     }
     next
 }

@@ -3,9 +3,9 @@
 use mathlib.Core.Bool.{Bool, true, false}
 use mathlib.Core.List.{List, [], ◌∷◌, ◌++◌, append-nil, append_assoc}
 use mathlib.Core.Path.{◌≡◌, ◌∙◌, refl, sym, ap}
-use Prim.Native.Nat.{ℕ, zero, suc, ◌+◌, ◌-◌, ◌/◌, ◌%◌, ◌^◌, ◌≤◌, ◌<◌}
+use Prim.Native.Nat.{ℕ, zero, suc, ◌+◌, ◌-◌, ◌/◌, ◌%◌, ◌^◌, ◌*◌, max, ◌≤◌, ◌<◌}
 use native.Mathlib.Decide.{dec_lt}
-use native.Mathlib.Nat.{pow-suc, pow-succ', one-le-pow, div-div-eq-div-mul, div-one}
+use native.Mathlib.Nat.{pow-suc, pow-succ', one-le-pow, div-div-eq-div-mul, div-one, div-lt_iff_lt-mul}
 use native.Mathlib.Omega.{arith}
 use borrow.Author.Tests.{lt-ltb, le-ltb, ltb-false}
 use lib.Dec.{ltb, lit<}
@@ -98,37 +98,19 @@ length_without (suc k) n h =
     let r = rw (tenth_without n k) at (length_without k (n / 10) (omega arith)) in
     omega (arith, length_more n l)
 
--- a loop that counts the digits of n: those of rest are left
-pub record Counting (n rest count : ℕ) : Type 0 where
-  pub counted : count + length (digits_of rest) ≡ length (digits_of n)
+-- one more than the logarithm by ten, where 0 counts as 1
+pub digits_by_power : (n k : ℕ) → 10 ^ k ≤ max n 1 → max n 1 < 10 * 10 ^ k → k + 1 ≡ length (digits_of n)
+digits_by_power n k h l = by (dec_lt 0 n)
+  where
+    counted : (m : ℕ) → 10 ^ k ≤ m → m < 10 * 10 ^ k → k + 1 ≡ length (digits_of m)
+    counted m h l = omega (arith, length_without k m h, ap (λ (b : List ℕ). length b) (digits_one (m / 10 ^ k) ((div-lt_iff_lt-mul (one-le-pow k 10 (lit< tt))).1 l)))
 
-pub count_begin : (n : ℕ) → Counting n n 0
-count_begin n = record { counted = omega arith }
-
--- at most two are left
-pub record Few (n rest count : ℕ) : Type 0 where
-  pub counting : Counting n rest count
-  pub less : rest < 100
-
-module _ {n rest count : ℕ} (g : Counting n rest count) where
-  -- k at once
-  pub count_more : (k : ℕ) → 10 ^ k ≤ rest → Counting n (rest / 10 ^ k) (count + k)
-  count_more k h = record { counted = omega (arith, g.counted, length_without k rest h) }
-
-  pub count_two : {rest' count' : ℕ} → 100 ≤ rest → rest < 10000 → rest' ≡ rest / 100 → count' ≡ count + 2 → Few n rest' count'
-  count_two h l p q = rw (p, q) (record { counting = count_more 2 h; less = omega arith })
-
-  pub count_none : {rest' count' : ℕ} → rest < 100 → rest' ≡ rest → count' ≡ count → Few n rest' count'
-  count_none h p q = rw (p, q) (record { counting = g; less = h })
-
-  pub count_small : n < 2 ^ 64 → count ≤ 19
-  count_small h = omega (arith, g.counted, digits_some rest, digits_limit {n = n} refl h)
-
-  pub count_one : rest < 10 → count + 1 ≡ length (digits_of n)
-  count_one h = omega (arith, g.counted, digits_some rest, digits_short rest 0 h)
-
-pub few_two : {n rest count : ℕ} → Few n rest count → 10 ≤ rest → count + 2 ≡ length (digits_of n)
-few_two {rest = rest} f h = omega (arith, f.counting.counted, length_more rest h, digits_some (rest / 10), digits_short rest 1 f.less)
+    by : Dec (0 < n) → k + 1 ≡ length (digits_of n)
+    by (yes p) = let q : max n 1 ≡ n = omega arith in counted n (rw q at h) (rw q at l)
+    by (no p) =
+        let q : n ≡ 0 = omega arith in
+        let m : max n 1 ≡ 1 = omega arith in
+        rw (q, digits_one 0 (omega arith)) (rw (digits_one 1 (omega arith)) at (counted 1 (rw m at h) (rw m at l)))
 
 -- ---- the last digits of a number, as many as asked
 unfoldable pub last_digits : ℕ → ℕ → List ℕ

@@ -2,27 +2,28 @@
 -- Assumes nothing.
 use mathlib.Core.Bool.{Bool, true, false}
 use mathlib.Core.List.{List, [], ◌∷◌, ◌++◌}
-use mathlib.Core.Path.{◌≡◌, ◌∙◌, sym, ap}
+use mathlib.Core.Path.{◌≡◌, ◌∙◌, sym}
 use Prim.Native.Nat.{ℕ, ◌+◌, ◌^◌, ◌≤◌, ◌<◌}
 use native.Mathlib.Omega.{arith}
-use lib.IntN.{ℤ, nat_abs}
+use lib.IntN.{ℤ, pos, nat_abs}
 use lib.ListN.{length}
+use lib.Signed.{lt_z}
 use mir.Syntax.{w64}
 use mir.Val.{SFits}
 use Rattle.meaning.specs.Picture.{digits_of, decimal}
-use Rattle.writing.specs.Digits.{is_negative, pair}
+use Rattle.writing.specs.Digits.{pair}
 use Rattle.writing.specs.Placed.{WroteAt}
 use Rattle.writing.proofs.Decimals.{decimal_negative, decimal_positive, decimal_limit}
 use Rattle.writing.proofs.Laying.{then}
-use Rattle.writing.proofs.Signs.{seen_wide, handed_wide}
+use Rattle.writing.proofs.Signs.{seen_wide, handed_wide, sign}
 
 -- ---- a number of 64 bits
-module _ (z : ℤ) {n : ℕ} {t : Bool} (f : SFits w64 z) (m : n ≡ nat_abs (seen_wide z)) (s : t ≡ is_negative (seen_wide z)) where
+module _ (z : ℤ) {n : ℕ} {t : Bool} (f : SFits w64 z) (m : n ≡ nat_abs (seen_wide z)) (s : t ≡ lt_z (seen_wide z) (pos 0)) where
   split : t ≡ true → decimal z ≡ (45 ∷ []) ++ digits_of n
-  split e = rw (decimal_negative z (sym (s ∙ ap is_negative (handed_wide z f)) ∙ e), m, handed_wide z f)
+  split e = rw (decimal_negative z (sym (s ∙ sign z f) ∙ e), m, handed_wide z f)
 
   whole : t ≡ false → decimal z ≡ digits_of n
-  whole e = rw (decimal_positive z (sym (s ∙ ap is_negative (handed_wide z f)) ∙ e), m, handed_wide z f)
+  whole e = rw (decimal_positive z (sym (s ∙ sign z f) ∙ e), m, handed_wide z f)
 
   pub length_negative : {count : ℕ} → count ≡ length (digits_of n) → t ≡ true → count + 1 ≡ length (decimal z)
   length_negative k e = rw (split e) (omega arith)

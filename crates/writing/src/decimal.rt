@@ -1,26 +1,17 @@
 // Numbers in decimal.
-ghost use Rattle.std.specs.Prelude.{◌≡◌, ◌+◌, ◌/◌, ◌%◌, ◌≤◌, ◌^◌, length, nat_abs};
+ghost use Rattle.std.specs.Prelude.{◌≡◌, ◌+◌, ◌/◌, ◌%◌, ◌≤◌, ◌^◌, length};
 ghost use Rattle.meaning.specs.Picture.{digits_of, decimal};
 ghost use Rattle.writing.specs.Placed.{WroteAt};
-ghost use Rattle.writing.specs.Digits.{is_negative, pair};
+ghost use Rattle.writing.specs.Digits.{pair};
 
-use crate::place::{room, saturating_add, write_bytes_at};
+use crate::place::write_bytes_at;
 
-// How many digits n has: counted by four, then by two, then by one.
+// How many digits n has: one more than its logarithm by ten, and 0 has one.
+#[tactic(auto, using(crate::proofs::Decimals::digits_by_power))]
 fn digit_count(n: u64) -> usize
     ensures { result ≡ length (digits_of n) }
 {
-    let mut rest = n;
-    let mut count = 0;
-    while 9999 < rest {
-        rest = rest / 10000;
-        count += 4;
-    }
-    if 99 < rest {
-        rest = rest / 100;
-        count += 2;
-    }
-    if 9 < rest { count + 2 } else { count + 1 }
+    n.max(1).ilog10() as usize + 1
 }
 
 // n without its last digits, as many as asked.
@@ -28,10 +19,8 @@ fn without_last(n: u64, count: usize) -> u64
     ensures { result ≡ n / 10 ^ count }
 {
     let mut rest = n;
-    let mut i = 0;
-    while i < count {
+    for _ in 0..count {
         rest = rest / 10;
-        i += 1;
     }
     rest
 }
@@ -47,47 +36,28 @@ fn write_digits_at(out: &mut [u8], at: usize, n: u64) -> usize
     ensures { WroteAt at (digits_of n) out.old out.new result }
 {
     let count = digit_count(n);
-    let fits = room(out.len(), at, count);
+    let fits = count.min(out.len().saturating_sub(at));
     let mut rest = without_last(n, count - fits);
-    let mut i = fits;
-    while 0 < i {
-        i -= 1;
+    for i in (0..fits).rev() {
         out[at + i] = last_digit(rest);
         rest = rest / 10;
     }
-    saturating_add(at, count)
-}
-
-fn is_negative(z: i64) -> bool
-    ensures { result ≡ is_negative z }
-{
-    z < 0
-}
-
-// The opposite of the least number does not fit; what a negative number lacks to -1 does.
-fn magnitude(z: i64) -> u64
-    ensures { result ≡ nat_abs z }
-{
-    if z < 0 {
-        ((-1 - z) as u64) + 1
-    } else {
-        z as u64
-    }
+    at.saturating_add(count)
 }
 
 // How many bytes a number has in decimal.
 pub fn decimal_length(z: i64) -> usize
     ensures { result ≡ length (decimal z) }
 {
-    let count = digit_count(magnitude(z));
-    if is_negative(z) { count + 1 } else { count }
+    let count = digit_count(z.unsigned_abs());
+    if z.is_negative() { count + 1 } else { count }
 }
 
 pub fn write_decimal_at(out: &mut [u8], at: usize, z: i64) -> usize
     ensures { WroteAt at (decimal z) out.old out.new result }
 {
-    let n = magnitude(z);
-    if is_negative(z) {
+    let n = z.unsigned_abs();
+    if z.is_negative() {
         let next = write_bytes_at(out, at, b"-");
         return write_digits_at(out, next, n);
     }

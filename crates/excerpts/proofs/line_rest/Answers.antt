@@ -8,26 +8,11 @@ use Rattle.excerpts.proofs.line_rest.Goals as goal
 pub loop-i-init : goal.loop-i-init
 loop-i-init c = span_none _ _ _ c.requires
 
-pub bounds-program-i : goal.bounds-program-i
-bounds-program-i c = omega arith
-
-pub overflow_sub-result : goal.overflow_sub-result
-overflow_sub-result c = omega arith
-
 pub returns-then-program-i-eq10 : goal.returns-then-program-i-eq10
 returns-then-program-i-eq10 c = span_stop _ _ _ _ c.loop-i.invariant c.loop-i-test.true (line_ends _ c.if-program-i-eq10.true)
-
-pub overflow_add-i : goal.overflow_add-i
-overflow_add-i c = omega arith
-
-pub loop-i-smaller : goal.loop-i-smaller
-loop-i-smaller c = omega arith
 
 pub loop-i-preserved : goal.loop-i-preserved
 loop-i-preserved c = span_more _ _ _ _ c.loop-i.invariant c.loop-i-test.true (line_goes_on _ c.if-program-i-eq10.false)
 
-pub overflow_sub-result-2 : goal.overflow_sub-result-2
-overflow_sub-result-2 c = omega arith
-
 pub returns : goal.returns
-returns c = span_over _ _ _ _ c.loop-i.invariant c.loop-i-test.false
+returns c = let all = span_over _ _ _ _ c.loop-i.invariant c.loop-i-test.false in omega arith

@@ -7,12 +7,6 @@ use Rattle.formatter.proofs.procedure.write_text.Goals as goal
 pub loop-i-init : goal.loop-i-init
 loop-i-init c = text_first _ _ _ (omega arith)
 
-pub overflow_add-i : goal.overflow_add-i
-overflow_add-i c = omega arith
-
-pub loop-i-smaller : goal.loop-i-smaller
-loop-i-smaller c = omega arith
-
 pub loop-i-preserved : goal.loop-i-preserved
 loop-i-preserved c = text_next _ _ _ _ c.loop-i.invariant c.loop-i-test.true c.write_begun-at.ensures
 

@@ -1,7 +1,8 @@
 -- The functions on statements that hold others meet their contracts; in each the measure is the fuel, and then which calls which.
 -- Assumes nothing.
+use Prim.Native.Nat.{◌+◌, ◌-◌}
 use native.Mathlib.Omega.{arith}
-use mathlib.Core.Path.{refl}
+use mathlib.Core.Path.{◌≡◌, refl}
 use Rattle.spellings.proofs.Chains.{then_two}
 use Rattle.formatter.proofs.Statements.{too_deep, some_fuel, is_declaration, is_assignment, is_update, is_when, is_while, is_foreach}
 use Rattle.formatter.proofs.Statements.{is_return, is_block, is_act, guarded_written, foreach_written, block_written}
@@ -130,38 +131,39 @@ write_statement-returns-in-38 t c = search is_block
 pub write_statement-returns-in_default : goal.write_statement-returns-in_default
 write_statement-returns-in_default t c = search is_act
 
-pub write_statements-loop-left-init : goal.write_statements-loop-left-init
-write_statements-loop-left-init t c = all_first _ _ _ _ _ _ _ (omega arith) (omega arith) c.requires
+pub write_statements-loop-init : goal.write_statements-loop-init
+write_statements-loop-init t c =
+    let all : c.args.rounds - 0 ≡ c.args.rounds = omega arith in
+    rw all (all_first _ _ _ _ _ _ _ (omega arith) (omega arith) c.requires)
 
 pub write_statements-returns-then-end-x : goal.write_statements-returns-then-end-x
-write_statements-returns-then-end-x t c = all_done _ _ _ _ _ _ _ _ _ c.loop-left.invariant (omega arith) (omega arith)
+write_statements-returns-then-end-x t c = all_done _ _ _ _ _ _ _ _ _ c.loop.invariant (omega arith) (omega arith)
 
 pub write_statements-write_line-next-requires : goal.write_statements-write_line-next-requires
-write_statements-write_line-next-requires t c = (omega arith, room_before _ _ _ _ _ _ _ _ _ c.loop-left.invariant (omega (arith, c.if-end-x.false)))
+write_statements-write_line-next-requires t c = (omega arith, room_before _ _ _ _ _ _ _ _ _ c.loop.invariant (omega (arith, c.if-end-x.false)))
 
 pub write_statements-overflow_add-x : goal.write_statements-overflow_add-x
 write_statements-overflow_add-x t c =
     omega (
       arith,
-      c.loop-left.invariant.room.room,
+      c.loop.invariant.room.room,
       c.size_of-x.ensures,
       c.if-end-x.false,
     )
 
-pub write_statements-loop-left-smaller : goal.write_statements-loop-left-smaller
-write_statements-loop-left-smaller t c = omega arith
-
-pub write_statements-loop-left-preserved : goal.write_statements-loop-left-preserved
-write_statements-loop-left-preserved t c =
-    all_again _ _ _ _ _ _ _ _ _
-    c.loop-left.invariant
+pub write_statements-loop-preserved : goal.write_statements-loop-preserved
+write_statements-loop-preserved t c =
+    let one_less : c.args.rounds - (c.loop.counter + 1) ≡ c.args.rounds - c.loop.counter - 1 = omega arith in
+    rw one_less
+    (all_again _ _ _ _ _ _ _ _ _
+    c.loop.invariant
     (omega arith)
     (omega (arith, c.if-end-x.false))
     _
     _
     c.word_at.ensures
     c.size_of-x.ensures
-    c.write_line-next.ensures
+    c.write_line-next.ensures)
 
 pub write_statements-returns : goal.write_statements-returns
-write_statements-returns t c = all_short _ _ _ _ _ _ _ _ _ c.loop-left.invariant (omega arith)
+write_statements-returns t c = all_short _ _ _ _ _ _ _ _ _ c.loop.invariant (omega arith)

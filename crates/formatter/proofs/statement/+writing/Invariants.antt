@@ -1,4 +1,4 @@
-use Rattle.std.specs.Prelude.{◌+◌, ◌*◌}
+use Rattle.std.specs.Prelude.{◌+◌, ◌-◌, ◌*◌}
 use Rattle.formatter.proofs.Statements.{Following}
 use Rattle.formatter.proofs.statement.+writing.Given as goal
 
@@ -20,10 +20,6 @@ decreases-write_statement l = 4 * l.fuel
 abbrev pub decreases-write_statements : goal.decreases-write_statements
 decreases-write_statements l = 4 * l.fuel + 2
 
-abbrev pub invariant-write_statements-loop-left : goal.invariant-write_statements-loop-left
-invariant-write_statements-loop-left l =
-    Following l.program l.tokens l.code l.fuel l.first l.end l.rounds l.at l.initial.out l.out l.next l.x l.left
-
-abbrev pub decreases-write_statements-loop-left : goal.decreases-write_statements-loop-left
-decreases-write_statements-loop-left l =
-    l.left
+abbrev pub invariant-write_statements-loop : goal.invariant-write_statements-loop
+invariant-write_statements-loop l =
+    Following l.program l.tokens l.code l.fuel l.first l.end l.rounds l.at l.initial.out l.out l.next l.x (l.rounds - l.counter)

@@ -7,15 +7,15 @@ use Rattle.report.proofs.whole.write_failure.Goals as goal
 
 pub overflow_sub-column : goal.overflow_sub-column
 overflow_sub-column c = column_some _ c.args.number _ _ _
-    c.least-spot.ensures c.locate-p.ensures
+    c.min-spot.ensures c.locate-p.ensures
 
 pub write_line_at-b-requires : goal.write_line_at-b-requires
 write_line_at-b-requires c = around _ c.args.number _ _ _
-    c.least-spot.ensures c.locate-p.ensures
+    c.min-spot.ensures c.locate-p.ensures
 
 pub returns : goal.returns
 returns c = failed _ c.args.number _ _ _
-    c.least-spot.ensures
+    c.min-spot.ensures
     c.locate-p.ensures _
     (omega arith) refl
     c.write_heading_at-a.ensures c.write_line_at-b.ensures

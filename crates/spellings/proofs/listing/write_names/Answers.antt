@@ -7,12 +7,6 @@ use Rattle.spellings.proofs.listing.write_names.Goals as goal
 pub loop-i-init : goal.loop-i-init
 loop-i-init c = names_first _ _ _ (omega arith) (omega arith)
 
-pub overflow_add-i : goal.overflow_add-i
-overflow_add-i c = omega arith
-
-pub loop-i-smaller : goal.loop-i-smaller
-loop-i-smaller c = omega arith
-
 pub loop-i-preserved : goal.loop-i-preserved
 loop-i-preserved c = names_next _ _ _ _ c.loop-i.invariant (omega arith) c.write_listed-next.ensures
 

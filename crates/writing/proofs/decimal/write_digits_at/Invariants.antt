@@ -1,4 +1,3 @@
-use Prim.Native.Nat.{◌≤◌}
 use lib.ListN.{take}
 use Rattle.meaning.specs.Picture.{digits_of}
 use Rattle.writing.proofs.Decimals.{last_digits}
@@ -6,7 +5,4 @@ use Rattle.writing.proofs.Laying.{Backward}
 use Rattle.writing.proofs.decimal.write_digits_at.Given as goal
 
 abbrev pub invariant-loop-i : goal.invariant-loop-i
-invariant-loop-i l = (l.i ≤ l.fits) × Backward l.at (take l.fits (digits_of l.n)) (last_digits l.i l.rest) l.initial.out l.out l.i
-
-abbrev pub decreases-loop-i : goal.decreases-loop-i
-decreases-loop-i l = l.i
+invariant-loop-i l = Backward l.at (take l.fits (digits_of l.n)) (last_digits l.i l.rest) l.initial.out l.out l.i
