@@ -12,10 +12,6 @@ pub record Room (words index : List ℕ) : Type 0 where
   pub room : 16384 ≤ length index
 
 -- ---- a token whose home is known
--- a number for one name, and another for the rest
-unfoldable pub either : List ℕ → List ℕ → ℕ → ℕ → ℕ
-either w name n other = cond (same_text w name) n other
-
 unfoldable pub payload_with : ℕ → List ℕ → ℕ → ℕ
 payload_with k x h =
     cond (eqb k digits) (min (numeral x) 4294967295)

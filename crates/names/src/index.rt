@@ -10,10 +10,8 @@ pub fn fill(program: &[u8], tokens: &[u64], index: &mut [u64])
     requires { Indexed program.now tokens.now index.old 0 }
     ensures { Indexed program.now tokens.now index.new (length tokens.now) }
 {
-    let mut i = 0;
-    while i < tokens.len() {
+    for i in 0..tokens.len() {
         file(program, tokens, index, i);
-        i += 1;
     }
 }
 
@@ -33,14 +31,11 @@ fn file(program: &[u8], tokens: &[u64], index: &mut [u64], i: usize)
 }
 
 // Whether a kind is that of names or of strings.
+#[tactic(auto, unfolding(crate::specs::Index::named))]
 fn is_named(kind: u8) -> bool
     ensures { result ≡ named kind }
 {
-    match kind {
-        kind::NAME => true,
-        kind::STRING => true,
-        _ => false,
-    }
+    kind == kind::NAME || kind == kind::STRING
 }
 
 // The bucket of a kind and a text.
@@ -56,10 +51,8 @@ fn hash(from: u64, x: &[u8]) -> u64
     ensures { result ≡ hash_from from x.now }
 {
     let mut h = from;
-    let mut i = 0;
-    while i < x.len() {
-        h = mix(h, x[i]);
-        i += 1;
+    for b in x {
+        h = mix(h, *b);
     }
     h
 }
