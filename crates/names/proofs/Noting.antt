@@ -12,9 +12,11 @@ use borrow.Author.Tests.{eq-eqb, ne_eqb, eqb-true, eqb-false}
 use lib.Dec.{eqb}
 use lib.ListN.{length, get_or, set, replicate, length-set, length-replicate, get_or-replicate}
 use lib.Seq.{get_or-set_same, get_or-set_other}
+use Rattle.std.specs.declared.option.Option.{Option}
+use Rattle.std.specs.declared.option.Option.TheVariants.{Some, None}
 use Rattle.tokens.specs.Words.{token_in, kind_in}
 use Rattle.names.specs.Index.{Room, bucket_of, named, home_of, bucket_at, is_entry, lies, last, found, link_at, home_at}
-use Rattle.names.specs.Index.{Indexed, Looks, Files, Notes, noted}
+use Rattle.names.specs.Index.{Indexed, Looks, Files, Notes, noted, behind}
 use Rattle.names.proofs.Homes.{and-false}
 use Rattle.names.proofs.Last.{last_le}
 use Rattle.names.proofs.Entries.{own_home, older_home, place_few}
@@ -214,11 +216,13 @@ module _ (p ws ix₀ : List ℕ) where
         rw q g.index
 
 -- ---- the stores
-module _ (ix : List ℕ) (i b j : ℕ) where
-  pub note_own : j ≡ 0 → set (set ix (8192 + i) (get_or ix b 0 + 65536 * i)) b (i + 1) ≡ noted ix i b j
+module _ (ix : List ℕ) (i b : ℕ) (e : Option ℕ) where
+  pub note_own : e ≡ None → set (set ix (8192 + i) (get_or ix b 0 + 65536 * i)) b (i + 1) ≡ noted ix i b (behind e)
   unfolding noted
-  note_own e = rw e
+  note_own q = rw q
 
-  pub note_older : (j ≡ 0 → ⊥) → set ix (8192 + i) (65536 * (j - 1)) ≡ noted ix i b j
+  pub note_older : (h : ℕ) → e ≡ Some h → set ix (8192 + i) (65536 * h) ≡ noted ix i b (behind e)
   unfolding noted
-  note_older n = rw (ne_eqb j 0 n)
+  note_older h q =
+      let m : suc h - 1 ≡ h = omega arith in
+      rw (q, ne_eqb (suc h) 0 (λ z. omega arith), m)

@@ -34,7 +34,7 @@ module _ (p ws₀ ix : List ℕ) where
   word_at : (i : ℕ) → i < length ws₀ → get_or (prepared_all p ws₀) i 0 ≡ prepared (map (token_in p) ws₀) (token_in p (get_or ws₀ i 0))
   word_at i h = prepared_at p ws₀ i h ∙ ap (prepared (map (token_in p) ws₀)) (get_d_map (token_in p) ws₀ i 0 after_last h)
 
-  module _ (ws : List ℕ) (i : ℕ) (g : Rewriting p ws₀ ix ws i) (here : i < length ws) where
+  module _ (ws : List ℕ) (i : ℕ) (g : Rewriting p ws₀ ix ws i) (here : i < length ws₀) where
     pub rewrite_room : 8192 + i < length ix
     rewrite_room = omega (arith, g.long, g.index.few, g.index.room)
 
@@ -42,10 +42,9 @@ module _ (p ws₀ ix : List ℕ) where
     right : (h r : ℕ) → h ≡ home_at ix i → r ≡ word_with (token_in p (get_or ws i 0)) h → r ≡ get_or (prepared_all p ws₀) i 0
     unfolding home_of token_in
     right h r u e =
-        let l : i < length ws₀ = omega (arith, g.long) in
         e ∙ ap (λ (w : ℕ). word_with (token_in p w) h) (g.rest i (omega arith))
-        ∙ word_prepared (map (token_in p) ws₀) (token_in p (get_or ws₀ i 0)) h (λ n. u ∙ g.index.homes i l n)
-        ∙ sym (word_at i l)
+        ∙ word_prepared (map (token_in p) ws₀) (token_in p (get_or ws₀ i 0)) h (λ n. u ∙ g.index.homes i here n)
+        ∙ sym (word_at i here)
 
     pub rewrite_more : (h r : ℕ) → h ≡ home_at ix i → r ≡ word_with (token_in p (get_or ws i 0)) h → Rewriting p ws₀ ix (set ws i r) (i + 1)
     rewrite_more h r u e =
@@ -53,13 +52,13 @@ module _ (p ws₀ ix : List ℕ) where
           index = g.index;
           long = length-set ws i r ∙ g.long;
           done = λ m l k.
-              ⊎_elim (λ (q : m ≡ i). rw q (get_or-set_same ws i r 0 here ∙ right h r u e))
+              ⊎_elim (λ (q : m ≡ i). rw q (get_or-set_same ws i r 0 (omega (arith, g.long)) ∙ right h r u e))
               (λ (q : m < i). get_or-set_other ws i m r 0 (λ z. omega arith) ∙ g.done m q k)
               (eq-or-lt_of_le (omega arith));
           rest = λ m l. get_or-set_other ws i m r 0 (λ z. omega arith) ∙ g.rest m (omega arith);
         }
 
-  pub rewrite_all : (ws : List ℕ) (i : ℕ) → Rewriting p ws₀ ix ws i → length ws ≤ i → ws ≡ prepared_all p ws₀
+  pub rewrite_all : (ws : List ℕ) (i : ℕ) → Rewriting p ws₀ ix ws i → length ws₀ ≤ i → ws ≡ prepared_all p ws₀
   unfolding prepared_all
   rewrite_all ws i g h =
       ext_get_or 0 ws (map (prepared (map (token_in p) ws₀)) (map (token_in p) ws₀))

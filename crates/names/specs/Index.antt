@@ -1,5 +1,7 @@
 -- The index of names and strings, by which each token's home is found, and the word of a token whose home is known.
 use Rattle.std.specs.Prelude.{ℕ, zero, suc, ◌+◌, ◌-◌, ◌*◌, ◌/◌, ◌%◌, ◌≤◌, ◌<◌, min, ◌≡◌, Bool, true, ◌&&◌, ◌||◌, cond, List, [], ◌∷◌, map, length, get_or, set, eqb}
+use Rattle.std.specs.declared.option.Option.{Option}
+use Rattle.std.specs.declared.option.Option.TheVariants.{Some, None}
 use Rattle.meaning.specs.Basics.{same_text}
 use Rattle.meaning.specs.Token.{Token, a_name, a_string, digits}
 use Rattle.meaning.specs.Grammar.{numeral}
@@ -12,10 +14,6 @@ pub record Room (words index : List ℕ) : Type 0 where
   pub room : 16384 ≤ length index
 
 -- ---- a token whose home is known
--- a number for one name, and another for the rest
-unfoldable pub either : List ℕ → List ℕ → ℕ → ℕ → ℕ
-either w name n other = cond (same_text w name) n other
-
 unfoldable pub payload_with : ℕ → List ℕ → ℕ → ℕ
 payload_with k x h =
     cond (eqb k digits) (min (numeral x) 4294967295)
@@ -74,6 +72,11 @@ last f (suc i) = cond (f i) (suc i) (last f i)
 -- the place behind the entry of a kind and a text among the first n tokens
 unfoldable pub found : List ℕ → List ℕ → ℕ → ℕ → List ℕ → ℕ
 found p ws n k x = last (meets p ws k x) n
+
+-- the place behind an index; 0 if there is none
+abbrev pub behind : Option ℕ → ℕ
+behind None = 0
+behind (Some i) = suc i
 
 -- ---- the index of the first n tokens
 unfoldable pub link_at : List ℕ → ℕ → ℕ

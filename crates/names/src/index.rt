@@ -1,7 +1,7 @@
 // The index of names and strings. Words 0 to 8191 begin the buckets: the place behind the bucket's newest entry, 0 if it has none. Word 8192 + i is
 // of token i: the place behind the next older entry of its bucket, and above 16 bits its home. An entry is the first token of its kind and text.
 ghost use Rattle.std.specs.Prelude.{◌≡◌, ◌+◌, ◌<◌, length};
-ghost use Rattle.names.specs.Index.{mixed, hash_from, bucket_of, named, spelled, found, link_at, home_at, Indexed, Looks, Files, Notes, noted};
+ghost use Rattle.names.specs.Index.{mixed, hash_from, bucket_of, named, spelled, found, behind, link_at, home_at, Indexed, Looks, Files, Notes, noted};
 
 use tokens::{kind, kind_of, same_text, token_text};
 
@@ -10,10 +10,8 @@ pub fn fill(program: &[u8], tokens: &[u64], index: &mut [u64])
     requires { Indexed program.now tokens.now index.old 0 }
     ensures { Indexed program.now tokens.now index.new (length tokens.now) }
 {
-    let mut i = 0;
-    while i < tokens.len() {
+    for i in 0..tokens.len() {
         file(program, tokens, index, i);
-        i += 1;
     }
 }
 
@@ -27,20 +25,17 @@ fn file(program: &[u8], tokens: &[u64], index: &mut [u64], i: usize)
     if is_named(kind) {
         let x = token_text(program, w);
         let b = bucket(kind, x);
-        let j = find(program, tokens, index, i, kind, x, b);
-        note(index, i, b, j);
+        let entry = find(program, tokens, index, i, kind, x, b);
+        note(index, i, b, entry);
     }
 }
 
 // Whether a kind is that of names or of strings.
+#[tactic(auto, unfolding(crate::specs::Index::named))]
 fn is_named(kind: u8) -> bool
     ensures { result ≡ named kind }
 {
-    match kind {
-        kind::NAME => true,
-        kind::STRING => true,
-        _ => false,
-    }
+    kind == kind::NAME || kind == kind::STRING
 }
 
 // The bucket of a kind and a text.
@@ -56,10 +51,8 @@ fn hash(from: u64, x: &[u8]) -> u64
     ensures { result ≡ hash_from from x.now }
 {
     let mut h = from;
-    let mut i = 0;
-    while i < x.len() {
-        h = mix(h, x[i]);
-        i += 1;
+    for b in x {
+        h = mix(h, *b);
     }
     h
 }
@@ -72,7 +65,7 @@ fn mix(h: u64, b: u8) -> u64
     (h + b as u64) * 2654435761 % 4294967296
 }
 
-// The place behind the entry of a kind and a text among the first n tokens; 0 if there is none. Their bucket is b.
+// The entry of a kind and a text among the first n tokens. Their bucket is b.
 fn find(
     program: &[u8],
     tokens: &[u64],
@@ -81,18 +74,18 @@ fn find(
     kind: u8,
     x: &[u8],
     b: usize,
-) -> usize
+) -> Option<usize>
     requires { Looks program.now tokens.now index.now n kind x.now b }
-    ensures { result ≡ found program.now tokens.now n kind x.now }
+    ensures { behind result ≡ found program.now tokens.now n kind x.now }
 {
-    let mut j = index[b] as usize;
-    while 0 < j {
-        if is_spelled(program, tokens[j - 1], kind, x) {
-            return j;
+    let mut next = index[b] as usize;
+    while let Some(j) = next.checked_sub(1) {
+        if is_spelled(program, tokens[j], kind, x) {
+            return Some(j);
         }
-        j = link_at(index, j - 1);
+        next = link_at(index, j);
     }
-    0
+    None
 }
 
 // Whether the token of a word is of a kind and a text.
@@ -122,17 +115,18 @@ pub fn home_at(index: &[u64], i: usize) -> u64
     index[8192 + i] / 65536 % 65536
 }
 
-// Notes the home of token i, whose bucket is b: the entry before place j, or the token itself, which is then entered.
-fn note(index: &mut [u64], i: usize, b: usize, j: usize)
-    requires { Notes index.old i b j }
-    ensures { index.new ≡ noted index.old i b j }
+// Notes the home of token i, whose bucket is b: the entry that was found, or the token itself, which is then entered.
+fn note(index: &mut [u64], i: usize, b: usize, entry: Option<usize>)
+    requires { Notes index.old i b (behind entry) }
+    ensures { index.new ≡ noted index.old i b (behind entry) }
 {
-    if j == 0 {
-        let newest = i as u64 + 1;
-        let older = index[b];
-        index[8192 + i] = older + 65536 * (i as u64);
-        index[b] = newest;
-        return;
+    match entry {
+        Some(home) => index[8192 + i] = 65536 * (home as u64),
+        None => {
+            let newest = i as u64 + 1;
+            let older = index[b];
+            index[8192 + i] = older + 65536 * (i as u64);
+            index[b] = newest;
+        }
     }
-    index[8192 + i] = 65536 * (j as u64 - 1);
 }

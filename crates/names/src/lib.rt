@@ -26,10 +26,7 @@ fn rewrite(program: &[u8], tokens: &mut [u64], index: &[u64])
     requires { Indexed program.now tokens.old index.now (length tokens.old) }
     ensures { tokens.new ≡ prepared_all program.now tokens.old }
 {
-    let mut i = 0;
-    while i < tokens.len() {
-        let home = index::home_at(index, i);
-        tokens[i] = payload::word_with(program, tokens[i], home);
-        i += 1;
+    for (i, w) in tokens.iter_mut().enumerate() {
+        *w = payload::word_with(program, *w, index::home_at(index, i));
     }
 }

@@ -35,11 +35,9 @@ fn payload(kind: u8, x: &[u8], home: u64) -> u64
 fn value_of(x: &[u8]) -> u64
     ensures { result ≡ min (numeral x.now) 4294967295 }
 {
-    let mut v: u64 = 0;
-    let mut i = 0;
-    while i < x.len() {
-        v = with_digit(v, x[i]);
-        i += 1;
+    let mut v = 0;
+    for d in x {
+        v = with_digit(v, *d);
     }
     v
 }
@@ -49,16 +47,5 @@ fn with_digit(v: u64, d: u8) -> u64
     requires { v < 4294967296 }
     ensures { result ≡ min (10 * v + (d - 48)) 4294967295 }
 {
-    let n = 10 * v + digit(d);
-    if n < 4294967295 { n } else { 4294967295 }
-}
-
-// The value of a digit.
-fn digit(d: u8) -> u64
-    ensures { result ≡ d - 48 }
-{
-    if d < 48 {
-        return 0;
-    }
-    (d - 48) as u64
+    (10 * v + d.saturating_sub(b'0') as u64).min(4294967295)
 }

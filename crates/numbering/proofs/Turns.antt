@@ -41,14 +41,6 @@ module _ (table : List ℕ) (stamp slot : ℕ) where
   enter_new n b after e t q = rw (sym e ∙ t, q)
 
 -- ---- a word
-pub follows_slot : (b : Bool) (w : ℕ) → b ≡ true → false ≡ slot_follows b w
-unfolding slot_follows
-follows_slot b w e = rw e
-
-pub follows_word : (b : Bool) (w t : ℕ) → b ≡ false → t ≡ tag_in w → eqb t 40 ≡ slot_follows b w
-unfolding slot_follows
-follows_word b w t e q = rw (e, q)
-
 module _ (stamp : ℕ) (b : Bool) (w : ℕ) (table after : List ℕ) (m r : ℕ) where
   pub word_slot : b ≡ true → entries after r ≡ entered stamp w (entries table m) → entries after r ≡ entered_all stamp (slots_in b w) (entries table m)
   unfolding slots_in entered_all

@@ -47,23 +47,19 @@ fn enter_parameters(code: &[u64], table: &mut [u64], stamp: u64, a: usize, n: us
     ensures { entries table.new result ≡ entered_all stamp (words_from code.now a n) (entries table.old 0) }
 {
     let mut m = 0;
-    let mut k = 0;
-    while k < n {
+    for k in 0..n {
         let slot = stores::words::word_at(code, a + k) as usize;
         m = enter(table, stamp, slot, m);
-        k += 1;
     }
     m
 }
 
 // Whether a slot stands behind a word, itself a slot or not.
+#[tactic(auto, unfolding(crate::specs::Pass::slot_follows))]
 fn slot_follows(slot: bool, w: u64) -> bool
     ensures { result ≡ slot_follows slot w }
 {
-    if slot {
-        return false;
-    }
-    code::tag_of(w) == tags::FOREACH
+    !slot && code::tag_of(w) == tags::FOREACH
 }
 
 // Enters what a word declares, m variables being entered already; how many then are.
@@ -94,12 +90,10 @@ fn enter_declarations(
 {
     let mut all = m;
     let mut slot = false;
-    let mut k = 0;
-    while k < n {
+    for k in 0..n {
         let w = stores::words::word_at(code, a + k);
         all = enter_word(table, stamp, slot, w, all);
         slot = slot_follows(slot, w);
-        k += 1;
     }
     all
 }
@@ -129,12 +123,10 @@ fn renumber(code: &mut [u64], table: &[u64], stamp: u64, a: usize, n: usize, m: 
     ensures { code.new ≡ renumbered_code stamp a n (entries table.now m) code.old }
 {
     let mut slot = false;
-    let mut k = 0;
-    while k < n {
+    for k in 0..n {
         let w = stores::words::word_at(code, a + k);
         code::put(code, a + k, renumbered(table, stamp, slot, w, m));
         slot = slot_follows(slot, w);
-        k += 1;
     }
 }
 
@@ -184,10 +176,8 @@ pub fn number(code: &mut [u64], table: &mut [u64], n: usize, main: u64) -> u64
 {
     slices::clear_words(table);
     let mut found = main;
-    let mut slot = 0;
-    while slot < n {
+    for slot in 0..n {
         found = number_slot(code, table, slot, main, found);
-        slot += 1;
     }
     found
 }

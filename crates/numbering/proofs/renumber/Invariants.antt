@@ -1,10 +1,6 @@
-use Prim.Native.Nat.{◌-◌}
 use Rattle.numbering.specs.Pass.{number_of}
 use Rattle.numbering.proofs.Turns.{Renumbering}
 use Rattle.numbering.proofs.renumber.Given as goal
 
 abbrev pub invariant-loop-k : goal.invariant-loop-k
 invariant-loop-k l = Renumbering (number_of l.table l.stamp l.m) l.initial.code l.a l.n l.code l.slot l.k
-
-abbrev pub decreases-loop-k : goal.decreases-loop-k
-decreases-loop-k l = l.n - l.k

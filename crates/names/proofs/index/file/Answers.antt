@@ -2,8 +2,8 @@
 use Rattle.names.proofs.Noting.{files_look, files_note, filed, skip}
 use Rattle.names.proofs.index.file.Goals as goal
 
-pub find-j-requires : goal.find-j-requires
-find-j-requires c = search files_look
+pub find-entry-requires : goal.find-entry-requires
+find-entry-requires c = search files_look
 
 pub note-requires : goal.note-requires
 note-requires c = search files_note

@@ -1,5 +1,4 @@
 -- `names::index::fill` meets its contract: the index is that of the tokens before i.
-use native.Mathlib.Omega.{arith}
 use Rattle.names.proofs.Noting.{fill_begin, fill_files, fill_next, fill_all}
 use Rattle.names.proofs.index.fill.Goals as goal
 
@@ -8,12 +7,6 @@ loop-i-init c = search fill_begin
 
 pub file-requires : goal.file-requires
 file-requires c = search fill_files
-
-pub overflow_add-i : goal.overflow_add-i
-overflow_add-i c = omega arith
-
-pub loop-i-smaller : goal.loop-i-smaller
-loop-i-smaller c = omega arith
 
 pub loop-i-preserved : goal.loop-i-preserved
 loop-i-preserved c = search fill_next
