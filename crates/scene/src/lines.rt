@@ -1,5 +1,5 @@
 // The line of a shape.
-ghost use Rattle.std.specs.Prelude.{◌≡◌, length};
+ghost use Rattle.std.specs.Prelude.{◌≡◌, ◌<◌, length};
 ghost use Rattle.meaning.specs.Picture.{line_of};
 ghost use Rattle.machine.specs.Act.{raw};
 ghost use Rattle.writing.specs.Placed.{WroteAt};
@@ -8,7 +8,7 @@ ghost use Rattle.scene.specs.Scene.{figure_for};
 // What the line of a shape shows.
 fn shape_of(f: machine::Figure) -> picture::Shape
     requires { f.kind < 256 }
-    ensures { (s : List ℕ) → figure_of result s ≡ figure_from f.kind f.a f.b f.c f.d s }
+    ensures { result ≡ record { kind = f.kind; a = f.a; b = f.b; c = f.c; d = f.d } }
 {
     picture::Shape {
         kind: f.kind as u8,
