@@ -5,8 +5,6 @@ ghost use Rattle.numerals.specs.Numbers.{NumberAt};
 pub fn write_number_at(out: &mut [u8], at: usize, lead: &[u8], n: u64) -> usize
     ensures { NumberAt at lead.now n out.old out.new result }
 {
-    let mut text = [0u8; 20];
-    let count = io::decimal(n, &mut text);
     let next = writing::write_bytes_at(out, at, lead);
-    writing::write_bytes_at(out, next, &text[..count])
+    writing::write_digits_at(out, next, n)
 }

@@ -231,6 +231,7 @@ fn write_arguments(
     }
     let mut next = write_expression(program, tokens, code, fuel, first, out, at);
     let mut y = argument_at(code, first + 1, x);
+    // each argument tells where the next one's root is
     while y < x {
         next = write_behind(program, tokens, code, fuel, b",", y, out, next);
         y = argument_at(code, y + 1, x);

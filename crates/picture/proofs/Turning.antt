@@ -1,15 +1,16 @@
 -- The laws of turned numbers: how far they reach, and that the machine's are these.
 -- Assumes nothing.
 use mathlib.Core.Bool.{Bool, true, false, cond}
-use mathlib.Core.Path.{◌≡◌, ◌∙◌, refl, sym, ap}
+use mathlib.Core.Path.{◌≡◌, ◌∙◌, refl, sym}
 use Prim.Native.Nat.{ℕ, zero, suc, ◌+◌, ◌-◌, ◌≤◌, ◌<◌, ◌^◌}
 use native.Mathlib.Omega.{arith}
 use borrow.Author.Tests.{ltb-true}
 use lib.Dec.{ltb}
-use lib.IntN.{ℤ, pos, negsuc, nat_abs, sub_ℕ, ◌+ℤ◌, ◌-ℤ◌}
+use lib.IntN.{ℤ, pos, negsuc, nat_abs, sub_ℕ, ◌+ℤ◌}
 use lib.Signed.{lt_z}
 use mir.Syntax.{w32, w64}
 use mir.Val.{SFits, to_z}
+use mir.ValLaws.{to_z_pos}
 use Rattle.meaning.specs.Picture.{side_start, absolute}
 use Rattle.writing.proofs.Signs.{seen, handed, seen_wide, handed_wide, handed_both}
 use Rattle.picture.specs.Parts.{shown_start, shown_size}
@@ -54,13 +55,7 @@ near_fits : (z : ℤ) → nat_abs z ≤ 2 ^ 32 → SFits w64 z
 near_fits (pos n) h = record { sfits = omega arith }
 near_fits (negsuc n) h = record { sfits = omega arith }
 
-pub start_handed : (k : ℕ) (x w : ℤ) → SFits w32 x → SFits w32 w → seen_wide (shown_start k x w) ≡ shown_start k x w
-start_handed k x w fx fw = handed_wide (shown_start k x w) (near_fits (shown_start k x w) (start_near k x w fx fw))
-
-pub size_handed : (k : ℕ) (z : ℤ) → SFits w32 z → seen_wide (shown_size k z) ≡ shown_size k z
-size_handed k z f = handed_wide (shown_size k z) (near_fits (shown_size k z) (size_near k z f))
-
--- ---- the machine's sums and opposites
+-- ---- the machine's sums
 start_sum : (x w : ℤ) → lt_z w (pos 0) ≡ true → side_start x w ≡ x +ℤ w
 unfolding side_start
 start_sum x (pos n) e = let h = ltb-true n 0 e in absurd (omega arith)
@@ -70,16 +65,6 @@ start_same : (x w : ℤ) → lt_z w (pos 0) ≡ false → side_start x w ≡ x
 unfolding side_start
 start_same x (pos n) e = refl
 start_same x (negsuc n) e = let z : true ≡ false = e in let y : ◌≡◌ {A = ℕ} 0 1 = cc in absurd (omega arith)
-
-absolute_opposite : (z : ℤ) → lt_z z (pos 0) ≡ true → to_z w64 0 -ℤ z ≡ absolute z
-unfolding absolute
-absolute_opposite (pos n) e = let h = ltb-true n 0 e in absurd (omega arith)
-absolute_opposite (negsuc n) e = let q : 0 + suc n ≡ suc n = omega arith in ap pos q
-
-absolute_same : (z : ℤ) → lt_z z (pos 0) ≡ false → absolute z ≡ z
-unfolding absolute
-absolute_same (pos n) e = refl
-absolute_same (negsuc n) e = let z : true ≡ false = e in let y : ◌≡◌ {A = ℕ} 0 1 = cc in absurd (omega arith)
 
 -- numbers of 32 bits, and what is made of them with 64
 module _ (x w : ℤ) (fx : SFits w32 x) (fw : SFits w32 w) where
@@ -94,19 +79,6 @@ module _ (x w : ℤ) (fx : SFits w32 x) (fw : SFits w32 w) where
 
   pub start_kept : lt_z (seen w) (pos 0) ≡ false → seen_wide (seen x) ≡ side_start x w
   start_kept e = handed_both x fx ∙ sym (start_same x w (rw (handed w fw) at e))
-
-module _ (z : ℤ) (f : SFits w32 z) where
-  opposite : lt_z (seen z) (pos 0) ≡ true → to_z w64 0 -ℤ seen_wide (seen z) ≡ absolute z
-  opposite e = rw (handed_both z f) (absolute_opposite z (rw (handed z f) at e))
-
-  pub opposite_fits : lt_z (seen z) (pos 0) ≡ true → SFits w64 (to_z w64 0 -ℤ seen_wide (seen z))
-  opposite_fits e = rw (opposite e) (near_fits (absolute z) (absolute_near z f))
-
-  pub opposite_is : lt_z (seen z) (pos 0) ≡ true → seen_wide (to_z w64 0 -ℤ seen_wide (seen z)) ≡ absolute z
-  opposite_is e = handed_wide (to_z w64 0 -ℤ seen_wide (seen z)) (opposite_fits e) ∙ opposite e
-
-  pub opposite_kept : lt_z (seen z) (pos 0) ≡ false → seen_wide (seen z) ≡ absolute z
-  opposite_kept e = handed_both z f ∙ sym (absolute_same z (rw (handed z f) at e))
 
 -- ---- by the kind
 place_same : (k : ℕ) (x w : ℤ) → (k ≡ 2 → ⊥) → shown_start k x w ≡ x
@@ -129,7 +101,7 @@ pub shows_number : (k : ℕ) (z : ℤ) → SFits w32 z → k ≡ 0 → seen_wide
 unfolding shown_size
 shows_number k z f e = rw e (handed_both z f)
 
-pub shows_size : (k : ℕ) (z : ℤ) {r : ℤ} → SFits w32 z → (k ≡ 0 → ⊥) → r ≡ absolute (seen z) → seen_wide r ≡ shown_size k z
-unfolding shown_size
+pub shows_size : (k : ℕ) (z : ℤ) {n : ℕ} → SFits w32 z → (k ≡ 0 → ⊥) → n ≡ nat_abs (seen z) → to_z w64 n ≡ shown_size k z
+unfolding shown_size absolute
 shows_size zero z f n p = absurd (n refl)
-shows_size (suc k) z f n p = rw (p, handed z f) (handed_wide (absolute z) (near_fits (absolute z) (absolute_near z f)))
+shows_size (suc k) z f n p = rw (p, handed z f) (to_z_pos w64 (nat_abs z) (omega (arith, near z f)))

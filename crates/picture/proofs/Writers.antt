@@ -1,23 +1,24 @@
 -- What the calls of each writer come to together. A call hands a number on as its bits, which `seen` and `seen_wide` read back.
 -- Assumes nothing.
 use mathlib.Core.List.{List}
-use mathlib.Core.Path.{◌≡◌}
-use Prim.Native.Nat.{ℕ, ◌+◌, ◌-◌, ◌*◌, ◌^◌, ◌≤◌, ◌<◌}
+use mathlib.Core.Path.{◌≡◌, ◌∙◌}
+use Prim.Native.Nat.{ℕ, ◌+◌, ◌*◌, ◌^◌, ◌≤◌, ◌<◌}
 use native.Mathlib.Omega.{arith}
-use borrow.Rule.Slice.PartMut.{put_mid}
 use lib.IntN.{ℤ}
-use lib.ListN.{length, take, drop}
+use lib.ListN.{length}
 use mir.Syntax.{w32, w64}
 use mir.Val.{SFits}
 use Rattle.meaning.specs.Basics.{bytes}
 use Rattle.meaning.specs.Figure.{Figure, line, ellipse, box, text}
 use Rattle.meaning.specs.Picture.{decimal, plain_line, line_of}
 use Rattle.writing.specs.Digits.{pair}
-use Rattle.writing.specs.Placed.{saturated, Wrote, WroteAt}
+use Rattle.writing.specs.Placed.{Wrote, WroteAt}
 use Rattle.writing.proofs.Decimals.{decimal_limit}
-use Rattle.writing.proofs.Laying.{then, from_front, lent, past}
-use Rattle.writing.proofs.Signs.{seen, handed, seen_wide, handed_wide, handed_both}
-use Rattle.picture.specs.Parts.{figure_from, shown_start, shown_size, head, element}
+use Rattle.writing.proofs.Laying.{then, from_front}
+use Rattle.writing.proofs.Signs.{seen, seen_wide, handed_wide, handed_both}
+use Rattle.picture.specs.declared.line.Shape.{Shape}
+use Rattle.picture.specs.declared.line.Shown.{Shown}
+use Rattle.picture.specs.Parts.{figure_from, figure_of, Shows, head, element}
 use Rattle.picture.proofs.Frames.{head_parts, length_head}
 use Rattle.picture.proofs.Lines.{
   figure_line,
@@ -36,7 +37,6 @@ use Rattle.picture.proofs.Lines.{
   length_text,
   line_from,
 }
-use Rattle.picture.proofs.Turning.{start_handed, size_handed}
 
 -- ---- elements
 pub wrote_element : (a b c d : ℤ) (l m n o : List ℕ) {before e₁ e₂ e₃ e₄ e₅ : List ℕ} {p₁ p₂ p₃ p₄ r : ℕ}
@@ -118,42 +118,16 @@ counted_other k a b c d s fa fb n₀ n₁ n₂ p =
     rw (figure_text k a b c d s n₀ n₁ n₂, length_text a b s, p, handed_wide a fa, handed_wide b fb) (omega arith)
 
 -- ---- the line with its numbers turned
-module _ (k : ℕ) (a b c d : ℤ) (s : List ℕ) {x y w h : ℤ}
-    (fa : SFits w32 a) (fb : SFits w32 b) (fc : SFits w32 c) (fd : SFits w32 d)
-    (ex : x ≡ shown_start k (seen a) (seen c)) (ey : y ≡ shown_start k (seen b) (seen d))
-    (ew : w ≡ shown_size k (seen c)) (eh : h ≡ shown_size k (seen d)) where
-  at_x : seen_wide x ≡ shown_start k a c
-  at_x = rw (ex, handed a fa, handed c fc) (start_handed k a c fa fc)
+module _ (f : Shape) (n : Shown) (s : List ℕ) (g : Shows f n) where
+  is_turned : line_of (figure_of f s) ≡ plain_line (figure_from f.kind n.a n.b n.c n.d s)
+  is_turned = line_from f.kind f.a f.b f.c f.d s ∙ rw (g.at_a, g.at_b, g.at_c, g.at_d)
 
-  at_y : seen_wide y ≡ shown_start k b d
-  at_y = rw (ey, handed b fb, handed d fd) (start_handed k b d fb fd)
+  pub wrote_turned : {before after : List ℕ} {r : ℕ} → Wrote (plain_line (figure_from f.kind n.a n.b n.c n.d s)) before after r
+      → Wrote (line_of (figure_of f s)) before after r
+  wrote_turned p = rw is_turned p
 
-  at_w : seen_wide w ≡ shown_size k c
-  at_w = rw (ew, handed c fc) (size_handed k c fc)
-
-  at_h : seen_wide h ≡ shown_size k d
-  at_h = rw (eh, handed d fd) (size_handed k d fd)
-
-  pub wrote_turned : {before after : List ℕ} {r : ℕ}
-      → Wrote (plain_line (figure_from k (seen_wide x) (seen_wide y) (seen_wide w) (seen_wide h) s)) before after r
-      → Wrote (line_of (figure_from k a b c d s)) before after r
-  wrote_turned p = rw (line_from k a b c d s) (rw (at_x, at_y, at_w, at_h) at p)
-
-  pub counted_turned : {r : ℕ} → r ≡ length (plain_line (figure_from k (seen_wide x) (seen_wide y) (seen_wide w) (seen_wide h) s))
-      → r ≡ length (line_of (figure_from k a b c d s))
-  counted_turned p = rw (line_from k a b c d s) (rw (at_x, at_y, at_w, at_h) at p)
-
--- ---- the line in the rest of a picture
-module _ (k : ℕ) (a b c d : ℤ) (s : List ℕ) {at n r : ℕ} {before : List ℕ}
-    (fa : SFits w32 a) (fb : SFits w32 b) (fc : SFits w32 c) (fd : SFits w32 d) where
-  pub lent_line : {last : List ℕ} → at ≤ length before
-      → Wrote (line_of (figure_from k (seen a) (seen b) (seen c) (seen d) s)) (take (length before - at) (drop at before)) last n
-      → r ≡ saturated (at + n) → WroteAt at (line_of (figure_from k a b c d s)) before (put_mid at (length before - at) before last) r
-  lent_line h w e = lent h (rw (handed a fa, handed b fb, handed c fc, handed d fd) at w) e
-
-  pub past_line : length before < at → n ≡ length (line_of (figure_from k (seen a) (seen b) (seen c) (seen d) s))
-      → r ≡ saturated (at + n) → WroteAt at (line_of (figure_from k a b c d s)) before before r
-  past_line h w e = past h (rw (handed a fa, handed b fb, handed c fc, handed d fd) at w) e
+  pub counted_turned : {r : ℕ} → r ≡ length (plain_line (figure_from f.kind n.a n.b n.c n.d s)) → r ≡ length (line_of (figure_of f s))
+  counted_turned p = rw is_turned p
 
 -- ---- the head
 module _ (w h : ℤ) (fw : SFits w32 w) (fh : SFits w32 h) where

@@ -5,4 +5,4 @@ mod frame;
 mod line;
 
 pub use frame::{head_length, tail_length, write_head_at, write_tail_at};
-pub use line::{line_length, write_line, write_line_at};
+pub use line::{Shape, line_length, write_line, write_line_at};

@@ -3,16 +3,35 @@ ghost use Rattle.std.specs.Prelude.{◌≡◌, length};
 ghost use Rattle.meaning.specs.Figure.{text};
 ghost use Rattle.meaning.specs.Picture.{plain_line, side_start, absolute, line_of};
 ghost use Rattle.writing.specs.Placed.{Wrote, WroteAt};
-ghost use Rattle.picture.specs.Parts.{figure_from, shown_start, shown_size, element};
+ghost use Rattle.picture.specs.Parts.{figure_from, figure_of, shown_start, shown_size, Shows, element};
 
-use writing::{pair_length, saturating_add, write_bytes_at, write_pair_at};
+use writing::{pair_length, write_bytes_at, write_pair_at};
 
-// ---- kinds of figures by their numbers; any other is a text
+// ---- kinds of figures by their numbers, as the words of shapes have them; any other is a text
 const LINE: u8 = 0;
 
 const ELLIPSE: u8 = 1;
 
 const BOX: u8 = 2;
+
+// A figure by its kind's number and its four numbers; of these a text has two.
+#[derive(Clone, Copy)]
+pub struct Shape {
+    pub kind: u8,
+    pub a: i32,
+    pub b: i32,
+    pub c: i32,
+    pub d: i32,
+}
+
+// The numbers that its line shows.
+#[derive(Clone, Copy)]
+pub struct Shown {
+    pub a: i64,
+    pub b: i64,
+    pub c: i64,
+    pub d: i64,
+}
 
 // Where a side begins: a negative size leads back from its place.
 fn side_start(x: i32, size: i32) -> i64
@@ -23,16 +42,6 @@ fn side_start(x: i32, size: i32) -> i64
         start + (size as i64)
     } else {
         start
-    }
-}
-
-fn magnitude(size: i32) -> i64
-    ensures { result ≡ absolute size }
-{
-    if size < 0 {
-        0 - (size as i64)
-    } else {
-        size as i64
     }
 }
 
@@ -53,7 +62,18 @@ fn shown_size(kind: u8, size: i32) -> i64
     if kind == LINE {
         size as i64
     } else {
-        magnitude(size)
+        size.unsigned_abs() as i64
+    }
+}
+
+fn shown_numbers(f: Shape) -> Shown
+    ensures { Shows f result }
+{
+    Shown {
+        a: shown_start(f.kind, f.a, f.c),
+        b: shown_start(f.kind, f.b, f.d),
+        c: shown_size(f.kind, f.c),
+        d: shown_size(f.kind, f.d),
     }
 }
 
@@ -90,100 +110,80 @@ fn write_text(out: &mut [u8], x: i64, y: i64, bytes: &[u8]) -> usize
 }
 
 // A line with the numbers as they are.
-fn write_plain(out: &mut [u8], kind: u8, a: i64, b: i64, c: i64, d: i64, text: &[u8]) -> usize
-    ensures { Wrote (plain_line (figure_from kind a b c d text.now)) out.old out.new result }
+fn write_plain(out: &mut [u8], kind: u8, n: Shown, text: &[u8]) -> usize
+    ensures { Wrote (plain_line (figure_from kind n.a n.b n.c n.d text.now)) out.old out.new result }
 {
     match kind {
         LINE => write_element(
             out,
             b"<line x1=\"",
-            a,
+            n.a,
             b"\" y1=\"",
-            b,
+            n.b,
             b"\" x2=\"",
-            c,
+            n.c,
             b"\" y2=\"",
-            d,
+            n.d,
         ),
         ELLIPSE => write_element(
             out,
             b"<ellipse cx=\"",
-            a,
+            n.a,
             b"\" cy=\"",
-            b,
+            n.b,
             b"\" rx=\"",
-            c,
+            n.c,
             b"\" ry=\"",
-            d,
+            n.d,
         ),
         BOX => write_element(
             out,
             b"<rect x=\"",
-            a,
+            n.a,
             b"\" y=\"",
-            b,
+            n.b,
             b"\" width=\"",
-            c,
+            n.c,
             b"\" height=\"",
-            d,
+            n.d,
         ),
-        _ => write_text(out, a, b, text),
+        _ => write_text(out, n.a, n.b, text),
     }
 }
 
 // How many bytes it has: those of every line of its kind, and those of its numbers and text.
-fn plain_length(kind: u8, a: i64, b: i64, c: i64, d: i64, text: &[u8]) -> usize
-    ensures { result ≡ length (plain_line (figure_from kind a b c d text.now)) }
+fn plain_length(kind: u8, n: Shown, text: &[u8]) -> usize
+    ensures { result ≡ length (plain_line (figure_from kind n.a n.b n.c n.d text.now)) }
 {
     match kind {
-        LINE => 32 + pair_length(a, b) + pair_length(c, d),
-        ELLIPSE => 35 + pair_length(a, b) + pair_length(c, d),
-        BOX => 37 + pair_length(a, b) + pair_length(c, d),
-        _ => 24 + pair_length(a, b) + text.len(),
+        LINE => 32 + pair_length(n.a, n.b) + pair_length(n.c, n.d),
+        ELLIPSE => 35 + pair_length(n.a, n.b) + pair_length(n.c, n.d),
+        BOX => 37 + pair_length(n.a, n.b) + pair_length(n.c, n.d),
+        _ => 24 + pair_length(n.a, n.b) + text.len(),
     }
 }
 
-// The line of a figure, given by its kind's number, its numbers and its text. The slice is the unwritten rest of a picture.
-pub fn write_line(out: &mut [u8], kind: u8, a: i32, b: i32, c: i32, d: i32, text: &[u8]) -> usize
-    ensures { Wrote (line_of (figure_from kind a b c d text.now)) out.old out.new result }
+// The line of a figure, given without its text, and of its text. The slice is the unwritten rest of a picture.
+pub fn write_line(out: &mut [u8], f: Shape, text: &[u8]) -> usize
+    ensures { Wrote (line_of (figure_of f text.now)) out.old out.new result }
 {
-    let x = shown_start(kind, a, c);
-    let y = shown_start(kind, b, d);
-    let w = shown_size(kind, c);
-    let h = shown_size(kind, d);
-    write_plain(out, kind, x, y, w, h, text)
+    write_plain(out, f.kind, shown_numbers(f), text)
 }
 
 // How many bytes the line of a figure has.
-pub fn line_length(kind: u8, a: i32, b: i32, c: i32, d: i32, text: &[u8]) -> usize
-    ensures { result ≡ length (line_of (figure_from kind a b c d text.now)) }
+pub fn line_length(f: Shape, text: &[u8]) -> usize
+    ensures { result ≡ length (line_of (figure_of f text.now)) }
 {
-    plain_length(
-        kind,
-        shown_start(kind, a, c),
-        shown_start(kind, b, d),
-        shown_size(kind, c),
-        shown_size(kind, d),
-        text,
-    )
+    plain_length(f.kind, shown_numbers(f), text)
 }
 
 // The line from a place on, lent what follows the place; the place behind the line.
-pub fn write_line_at(
-    out: &mut [u8],
-    at: usize,
-    kind: u8,
-    a: i32,
-    b: i32,
-    c: i32,
-    d: i32,
-    text: &[u8],
-) -> usize
-    ensures { WroteAt at (line_of (figure_from kind a b c d text.now)) out.old out.new result }
+pub fn write_line_at(out: &mut [u8], at: usize, f: Shape, text: &[u8]) -> usize
+    ensures { WroteAt at (line_of (figure_of f text.now)) out.old out.new result }
 {
     if out.len() < at {
-        return saturating_add(at, line_length(kind, a, b, c, d, text));
+        return at.saturating_add(line_length(f, text));
     }
-    let filled = write_line(&mut out[at..], kind, a, b, c, d, text);
-    saturating_add(at, filled)
+    let filled = write_line(&mut out[at..], f, text);
+    at.saturating_add(filled)
 }

@@ -142,16 +142,16 @@ from_front {b} {d} {after} {r} h p = record {
 }
 
 -- lent what follows a place
-pub lent : {at n r : ℕ} {b d last : List ℕ} → at ≤ length d → Wrote b (take (length d - at) (drop at d)) last n → r ≡ saturated (at + n)
+pub lent : {at n r : ℕ} {b d last : List ℕ} → at ≤ length d → Wrote b (take (length d - at) (drop at d)) last n → r ≡ min (at + n) (2 ^ 64 - 1)
     → WroteAt at b d (put_mid at (length d - at) d last) r
-unfolding laid_at
+unfolding laid_at saturated
 lent {at} {n} {r} {b} {d} h w e =
     let l = length-drop at d in
     let whole : take (length d - at) (drop at d) ≡ drop at d = take_all (length d - at) (drop at d) (omega arith) in
     let none : drop (length d - at) (drop at d) ≡ [] = drop_of_length-le (drop at d) {i = length d - at} (omega arith) in
     record {
       laid = rw (w.laid, whole, none) (ap (λ (l : List ℕ). take at d ++ l) (append-nil (laid_over b (drop at d))));
-      ends = e ∙ ap (λ (m : ℕ). saturated (at + m)) w.counts;
+      ends = rw (← w.counts) e;
     }
 
 -- as many as there is room for are copied
@@ -169,8 +169,8 @@ unfolding saturated
 beyond {at} {r} {b} {d} h o e = rw o (record { laid = sym (at_beyond at b d h); ends = e })
 
 -- past the end
-pub past : {at n r : ℕ} {b d : List ℕ} → length d < at → n ≡ length b → r ≡ saturated (at + n) → WroteAt at b d d r
-past {at} {n} {r} {b} {d} h w e = record { laid = sym (at_beyond at b d (omega arith)); ends = e ∙ ap (λ (m : ℕ). saturated (at + m)) w }
+pub past : {at n r : ℕ} {b d : List ℕ} → length d < at → n ≡ length b → r ≡ min (at + n) (2 ^ 64 - 1) → WroteAt at b d d r
+past h w e = beyond (omega arith) refl (rw (← w) e)
 
 -- ---- a loop that writes b from its end to its front: what stands behind the first i bytes is laid, they are left
 pub record Backward (at : ℕ) (b rest before now : List ℕ) (i : ℕ) : Type 0 where

@@ -32,7 +32,7 @@ fn last_digit(n: u64) -> u8
 }
 
 // The digits of n, from the last that fits to the first: each is the remainder of a division by ten.
-fn write_digits_at(out: &mut [u8], at: usize, n: u64) -> usize
+pub fn write_digits_at(out: &mut [u8], at: usize, n: u64) -> usize
     ensures { WroteAt at (digits_of n) out.old out.new result }
 {
     let count = digit_count(n);

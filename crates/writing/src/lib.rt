@@ -5,5 +5,5 @@
 mod decimal;
 mod place;
 
-pub use decimal::{decimal_length, pair_length, write_decimal_at, write_pair_at};
+pub use decimal::{decimal_length, pair_length, write_decimal_at, write_digits_at, write_pair_at};
 pub use place::{saturating_add, write_bytes, write_bytes_at};

@@ -1,10 +1,13 @@
--- `numerals::number::write_number_at` meets its contract: what `io::decimal` put in front of its text are the number's digits.
+-- `numerals::number::write_number_at` meets its contract: one after the other, and 64 bits have at most 20 digits.
 -- Assumes nothing.
+use mathlib.Core.Path.{refl}
 use native.Mathlib.Omega.{arith}
-use Rattle.numerals.proofs.Spelled.{number_written}
+use Rattle.writing.proofs.Decimals.{digits_limit}
+use Rattle.writing.proofs.Laying.{then as joined}
 use Rattle.numerals.proofs.number.write_number_at.Goals as goal
 
 pub returns : goal.returns
-returns c = number_written _ _ c.ranges.n.fits c.decimal-count.ensures.len
-    c.decimal-count.ensures.digits (omega arith)
-    c.write_bytes_at-next.ensures c.write_bytes_at.ensures
+returns c = record {
+  wrote = joined (omega arith) c.write_bytes_at-next.ensures c.write_digits_at.ensures;
+  short = digits_limit refl c.ranges.n.fits;
+}

@@ -3,8 +3,8 @@
 use Rattle.scene.proofs.Figures.{kind_fits, line_counted}
 use Rattle.scene.proofs.lines.line_length_of.Goals as goal
 
-pub overflow_cast-f : goal.overflow_cast-f
-overflow_cast-f c = search kind_fits
+pub shape_of-requires : goal.shape_of-requires
+shape_of-requires c = search kind_fits
 
 pub returns : goal.returns
 returns c = search line_counted
