@@ -58,6 +58,11 @@ exits y z g f e r s q i h =
     let p = err_from_is_err_and r i in
     rw (p.1, p.2) (refused z e s (rw (q, erred y g e s h)))
 
+-- Where it goes on, what is made of what was read is what stands behind.
+pub after_good : {A B : Type 0} (g : Got A) (a : A) (j : ℕ) → g ≡ good a j → (f : A → ℕ → Got B) → after g f ≡ f a j
+unfolding after
+after_good g a j q f = rw q
+
 -- a piece that was read, from the word n on
 pub record Wrote (g : Got Piece) (n : ℕ) (s₀ : List ℕ) (r : Read) (s : List ℕ) : Type 0 where
   pub piece : Piece
