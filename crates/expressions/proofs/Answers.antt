@@ -50,13 +50,18 @@ unfolding seen
 erred y (good a j) e s h = absurd (y.rightly a j _ _ h)
 erred y (wrong k p) e s h = let q : failed e.number e.token ≡ failed k p = h ∙ y.wrongly k p in cc
 
--- Where the first reading fails, what is made of it fails the same: each exit by `?`.
+-- Where the first reading fails, what is made of it fails the same.
+pub fails : {A B : Type 0} {w : Got A → Seen} {h : Got B} → Says w → (g : Got A) (f : A → ℕ → Got B) (e : Misfit) (s : List ℕ) → h ≡ after g f → seen (Err e) s ≡ w g
+    → h ≡ wrong e.number e.token
+unfolding after
+fails y g f e s q h = rw (q, erred y g e s h)
+
+-- each exit by `?`
 pub exits : {A B : Type 0} {w : Got A → Seen} {v : Got B → Seen} {h : Got B} → Says w → Says v → (g : Got A) (f : A → ℕ → Got B) (e : Misfit) (r : Result Read Misfit) (s : List ℕ)
     → h ≡ after g f → IsErrAnd r (λ x. x ≡ e) → seen (Err e) s ≡ w g → seen r s ≡ v h
-unfolding after
 exits y z g f e r s q i h =
     let p = err_from_is_err_and r i in
-    rw (p.1, p.2) (refused z e s (rw (q, erred y g e s h)))
+    rw (p.1, p.2) (refused z e s (fails y g f e s q h))
 
 -- Where it goes on, what is made of what was read is what stands behind.
 pub after_good : {A B : Type 0} (g : Got A) (a : A) (j : ℕ) → g ≡ good a j → (f : A → ℕ → Got B) → after g f ≡ f a j
