@@ -21,8 +21,9 @@ use Rattle.answers.specs.declared.Answer.TheVariants.{Picture, Number}
 use Rattle.answers.specs.Answers.{meant}
 use Rattle.lending.specs.Lending.{enough_to_read}
 use Rattle.lending.proofs.Admitted.{can_read}
+use Rattle.std.specs.Prelude.{Ok, Err}
 use Rattle.reader.specs.declared.Program as Read
-use Rattle.reader.specs.declared.Program.TheVariants.{Formed, Malformed}
+use Rattle.reader.specs.declared.Malformed.{Malformed}
 use Rattle.reader.specs.Reading.{tokens_in, seen, coded_apart, coded}
 use Rattle.checking.specs.Checking.{called_with, Checked, Lent, answer_apart, answer_of, read_answer}
 
@@ -113,39 +114,41 @@ module _ (program : List ℕ) where
   unfolding read_answer meant if◌then◌otherwise◌
   read_long h = rw (lt-ltb 32768 (length program) h)
 
-  module _ (short : length program ≤ 32768) (p : Read.Program) (slice : List ℕ) (h : seen p slice ≡ coded (tokens_in program) (reading program)) where
+  module _ (short : length program ≤ 32768) (slice : List ℕ) where
     is_read : read_answer program ≡ answer_of (reading program)
     unfolding read_answer if◌then◌otherwise◌
     is_read = rw (le-ltb 32768 (length program) short)
 
-    formed_apart : (d n m : ℕ) (fs : List Procedure) (o : Option ℕ) → seen (Formed d n m) slice ≡ coded_apart (tokens_in program) fs o → pictured 0 0 ≡ answer_apart o
-    unfolding seen coded_apart answer_apart
-    formed_apart d n m fs none k = refl
-    formed_apart d n m fs (some q) k = absurd (let z : ◌≡◌ {A = ℕ} 0 1 = cc in omega arith)
+    module _ (p : Read.Program) where
+      formed_apart : (fs : List Procedure) (o : Option ℕ) → seen (Ok p) slice ≡ coded_apart (tokens_in program) fs o → pictured 0 0 ≡ answer_apart o
+      unfolding seen coded_apart answer_apart
+      formed_apart fs none k = refl
+      formed_apart fs (some q) k = absurd (let z : ◌≡◌ {A = ℕ} 0 1 = cc in omega arith)
 
-    pub read_formed : (d n m : ℕ) → p ≡ Formed d n m → meant (Picture 0 0) ≡ read_answer program
-    unfolding meant seen coded answer_of
-    read_formed d n m e = go (reading program) (ap (λ (x : Read.Program). seen x slice) (sym e) ∙ h) ∙ sym is_read
-      where
-        go : (r : Reading) → seen (Formed d n m) slice ≡ coded (tokens_in program) r → pictured 0 0 ≡ answer_of r
-        go (well_formed q) k = formed_apart d n m q.procedures (doubled [] q.procedures) k
-        go (malformed i q) k = absurd (let z : ◌≡◌ {A = ℕ} 0 1 = cc in omega arith)
+      pub read_formed : seen (Ok p) slice ≡ coded (tokens_in program) (reading program) → meant (Picture 0 0) ≡ read_answer program
+      unfolding meant seen coded answer_of
+      read_formed h = go (reading program) h ∙ sym is_read
+        where
+          go : (r : Reading) → seen (Ok p) slice ≡ coded (tokens_in program) r → pictured 0 0 ≡ answer_of r
+          go (well_formed q) k = formed_apart q.procedures (doubled [] q.procedures) k
+          go (malformed i q) k = absurd (let z : ◌≡◌ {A = ℕ} 0 1 = cc in omega arith)
 
-    malformed_apart : (k i : ℕ) (fs : List Procedure) (o : Option ℕ) → seen (Malformed k i) slice ≡ coded_apart (tokens_in program) fs o → number k i 0 0 ≡ answer_apart o
-    unfolding seen coded_apart answer_apart
-    malformed_apart k i fs none g = absurd (let z : ◌≡◌ {A = ℕ} 0 1 = cc in omega arith)
-    malformed_apart k i fs (some q) g =
-        let x : k ≡ 60 = cc in
-        let y : i ≡ q = cc in
-        rw (x, y)
+    module _ (m : Malformed) where
+      malformed_apart : (fs : List Procedure) (o : Option ℕ) → seen (Err m) slice ≡ coded_apart (tokens_in program) fs o → number m.number m.place 0 0 ≡ answer_apart o
+      unfolding seen coded_apart answer_apart
+      malformed_apart fs none g = absurd (let z : ◌≡◌ {A = ℕ} 0 1 = cc in omega arith)
+      malformed_apart fs (some q) g =
+          let x : m.number ≡ 60 = cc in
+          let y : m.place ≡ q = cc in
+          rw (x, y)
 
-    pub read_malformed : (k i : ℕ) → p ≡ Malformed k i → meant (Number k i 0 0) ≡ read_answer program
-    unfolding meant seen coded answer_of
-    read_malformed k i e = go (reading program) (ap (λ (x : Read.Program). seen x slice) (sym e) ∙ h) ∙ sym is_read
-      where
-        go : (r : Reading) → seen (Malformed k i) slice ≡ coded (tokens_in program) r → number k i 0 0 ≡ answer_of r
-        go (well_formed q) g = malformed_apart k i q.procedures (doubled [] q.procedures) g
-        go (malformed j q) g =
-            let x : k ≡ j = cc in
-            let y : i ≡ q = cc in
-            rw (x, y)
+      pub read_malformed : seen (Err m) slice ≡ coded (tokens_in program) (reading program) → meant (Number m.number m.place 0 0) ≡ read_answer program
+      unfolding meant seen coded answer_of
+      read_malformed h = go (reading program) h ∙ sym is_read
+        where
+          go : (r : Reading) → seen (Err m) slice ≡ coded (tokens_in program) r → number m.number m.place 0 0 ≡ answer_of r
+          go (well_formed q) g = malformed_apart q.procedures (doubled [] q.procedures) g
+          go (malformed j q) g =
+              let x : m.number ≡ j = cc in
+              let y : m.place ≡ q = cc in
+              rw (x, y)

@@ -6,7 +6,6 @@ ghost use Rattle.checking.specs.Checking.{Checked, Lent, read_answer};
 ghost use Rattle.answers.specs.Answers.{meant};
 
 use answers::Answer;
-use reader::Program;
 
 // Reads the program and says whether it is well formed. The grants are steps, shapes, entries, text bytes and calls, of which it takes nothing: it asks
 // whether they are in their ranges. `tokens` must hold 8,193 words and `code` 16,384; both hold zeros afterwards, and keep what they had after 71.
@@ -30,9 +29,8 @@ fn read_answer(program: &[u8], tokens: &mut [u64], code: &mut [u64]) -> Answer
     if 32768 < program.len() {
         return Answer::Number(73, 0, 0, 0);
     }
-    let p = reader::read(program, tokens, code);
-    match p {
-        Program::Formed(_, _, _) => Answer::Picture(0, 0),
-        Program::Malformed(k, at) => Answer::Number(k, at as u64, 0, 0),
+    match reader::read(program, tokens, code) {
+        Ok(_) => Answer::Picture(0, 0),
+        Err(m) => Answer::Number(m.number, m.place as u64, 0, 0),
     }
 }

@@ -9,21 +9,24 @@ use borrow.Author.Tests.{ne_eqb}
 use lib.Dec.{eqb}
 use lib.ListN.{length, get_or, set, take, drop, replicate}
 use lib.Seq.{length-take-le, take-take, take-append-le, drop_at}
+use Rattle.std.specs.Prelude.{Option, Some, None, Result, Ok, Err, IsErrAnd}
+use Rattle.std.proofs.lemmas.Result.{err_from_is_err_and}
 use Rattle.meaning.specs.Basics.{if◌then◌otherwise◌}
 use Rattle.meaning.specs.Token.{ending}
 use Rattle.meaning.specs.Grammar.{Got, good, wrong, after}
 use Rattle.machine.specs.Opcodes.{procedure_word}
-use Rattle.expressions.specs.declared.Read.{Read}
-use Rattle.expressions.specs.declared.Read.TheVariants.{At, Wrong}
-use Rattle.expressions.specs.Words.{kind_at, place_at, home_at, procedure_at, is, seen}
+use Rattle.expressions.specs.declared.Misfit.{Misfit}
+use Rattle.expressions.specs.Words.{kind_at, place_at, home_at, procedure_at, is}
+use Rattle.expressions.proofs.Answers.{same_after, after_good}
+use Rattle.definitions.specs.declared.Procedure.{Procedure}
 use Rattle.definitions.specs.declared.Parsed.{Parsed}
-use Rattle.definitions.specs.declared.Parsed.TheVariants.{Whole, Twice, Misfit}
-use Rattle.definitions.specs.Words.{Head, procedure, procedures_from, procedures, Gathered, main_word, first_twice, word_at, gather, gather_all, nothing, written_procedure, table_in, whole}
-use Rattle.definitions.specs.Words.{twice_at, failed_whole, seen_whole, settled, written_whole}
+use Rattle.definitions.specs.declared.Unread.{Unread}
+use Rattle.definitions.specs.declared.Unread.TheVariants as Unread
+use Rattle.definitions.specs.Words.{Head, procedure, procedures_from, procedures, Gathered, main_word, first_twice, word_at, gather, gather_all, nothing, table_in, SeenProcedure}
+use Rattle.definitions.specs.Words.{up_to, failed_procedure, seen_procedure, written_procedure, seen_whole, settled, settled_by, written_whole}
 use Rattle.definitions.specs.Room.{Halves}
 use Rattle.definitions.specs.Steps.{Below, Entered, answered}
 use Rattle.definitions.proofs.Paid.{procedure_paid}
-use Rattle.statements.proofs.Written.{same_after}
 
 -- ---- rounds
 -- a procedure, and what `rest` yields behind it
@@ -55,46 +58,43 @@ rest_turns ws i = same_after (procedure ws i) _ _ λ f j q.
 
 -- ---- the loop
 -- what was gathered, by the slice
-abbrev sofar : ℕ → ℕ → ℕ → List ℕ → Gathered
+abbrev sofar : ℕ → Option ℕ → Option ℕ → List ℕ → Gathered
 sofar n main twice s = record { code = take n s; table = table_in s; main = main; twice = twice }
 
 -- procedures were read up to token i and word n
-pub record Gathering (ws s₀ : List ℕ) (i n main twice : ℕ) (s : List ℕ) : Type 0 where
+pub record Gathering (ws s₀ : List ℕ) (i n : ℕ) (main twice : Option ℕ) (s : List ℕ) : Type 0 where
   pub same : written_whole (length ws) nothing (procedures ws) ≡ written_whole (length ws) (sofar n main twice s) (rest ws i)
   pub behind : n ≤ i
   pub full : n ≤ 8192
   pub halves : Halves ws s
   pub kept : length s ≡ length s₀
 
-pub gathering_starts : (ws s : List ℕ) → Halves ws s → table_in s ≡ replicate 8192 0 → Gathering ws s 0 0 0 0 s
+pub gathering_starts : (ws s : List ℕ) → Halves ws s → table_in s ≡ replicate 8192 0 → Gathering ws s 0 0 None None s
 unfolding procedures rest
 gathering_starts ws s h e =
     let z : length ws - 0 ≡ length ws = omega arith in
     record { same = rw (e, z); behind = omega arith; full = omega arith; halves = h; kept = refl }
 
 -- a procedure that was read
-pub record Read-head (ws : List ℕ) (i n : ℕ) (s₀ : List ℕ) (j m t : ℕ) (s : List ℕ) : Type 0 where
+pub record Read-head (ws : List ℕ) (i n : ℕ) (s₀ : List ℕ) (p : Procedure) (s : List ℕ) : Type 0 where
   pub head : Head
-  pub read : procedure ws i ≡ good head j
-  pub up_to : m ≡ n + length head.slots + length head.body
-  pub counted : t ≡ length head.slots
-  pub front : take m s ≡ take n s₀ ++ (head.slots ++ head.body)
+  pub read : procedure ws i ≡ good head p.token
+  pub up_to : p.word ≡ n + length head.slots + length head.body
+  pub counted : p.parameters ≡ length head.slots
+  pub front : take p.word s ≡ take n s₀ ++ (head.slots ++ head.body)
 
-wrote_head : (r : Read) (ws : List ℕ) (i n : ℕ) (s₀ s : List ℕ) (j m t : ℕ) (g : Got Head) → procedure ws i ≡ g → seen r s ≡ written_procedure g n s₀ → r ≡ At j m t → Read-head ws i n s₀ j m t s
-unfolding seen written_procedure
-wrote_head r ws i n s₀ s j m t (good h j') e q u =
-    let k : seen (At j m t) s ≡ written_procedure (good h j') n s₀ = rw u at q in
-    record { head = h; read = e ∙ ap (good h) cc; up_to = cc; counted = cc; front = cc }
-wrote_head r ws i n s₀ s j m t (wrong k p) e q u =
-    let k' : seen (At j m t) s ≡ written_procedure (wrong k p) n s₀ = rw u at q in
-    let z : ◌≡◌ {A = ℕ} 0 1 = cc in absurd (omega arith)
+wrote_head : (ws : List ℕ) (i n : ℕ) (s₀ s : List ℕ) (p : Procedure) → seen_procedure (Ok p) s ≡ written_procedure (procedure ws i) n s₀ → Read-head ws i n s₀ p s
+unfolding seen_procedure written_procedure
+wrote_head ws i n s₀ s p h = go (procedure ws i) refl h
+  where
+    go : (g : Got Head) → procedure ws i ≡ g → seen_procedure (Ok p) s ≡ written_procedure g n s₀ → Read-head ws i n s₀ p s
+    go (good d j) e q = record { head = d; read = e ∙ ap (good d) cc; up_to = cc; counted = cc; front = cc }
+    go (wrong k a) e q = let z : ◌≡◌ {A = ℕ} 0 1 = cc in absurd (omega arith)
 
-erred_head : (r : Read) (n : ℕ) (s₀ s : List ℕ) (k p : ℕ) (g : Got Head) → seen r s ≡ written_procedure g n s₀ → r ≡ Wrong k p → g ≡ wrong k p
-unfolding seen written_procedure
-erred_head r n s₀ s k p (good h j) q u =
-    let l : seen (Wrong k p) s ≡ written_procedure (good h j) n s₀ = rw u at q in
-    let z : ◌≡◌ {A = ℕ} 0 1 = cc in absurd (omega arith)
-erred_head r n s₀ s k p (wrong k' p') q u = let l : seen (Wrong k p) s ≡ written_procedure (wrong k' p') n s₀ = rw u at q in cc
+erred_head : (g : Got Head) (n : ℕ) (s₀ s : List ℕ) (e : Misfit) → seen_procedure (Err e) s ≡ written_procedure g n s₀ → g ≡ wrong e.number e.token
+unfolding seen_procedure written_procedure
+erred_head (good h j) n s₀ s e q = let z : ◌≡◌ {A = ℕ} 0 1 = cc in absurd (omega arith)
+erred_head (wrong k p) n s₀ s e q = cc
 
 -- ---- a procedure's code in the lower half
 module _ (ws : List ℕ) (i n : ℕ) (s₀ p : List ℕ) (h : Halves ws s₀) (b : n ≤ i) (l : length p ≡ length (take 8192 s₀)) where
@@ -104,16 +104,16 @@ module _ (ws : List ℕ) (i n : ℕ) (s₀ p : List ℕ) (h : Halves ws s₀) (b
   upper : table_in (p ++ drop 8192 s₀) ≡ table_in s₀
   upper = ap (take 8192) (drop_at p (drop 8192 s₀) 8192 lower)
 
-  pub below_reads : (r : Read) → seen r p ≡ written_procedure (procedure ws i) n (take 8192 s₀) → Below r ws i n s₀ (p ++ drop 8192 s₀)
-  unfolding seen written_procedure
-  below_reads (At j m t) q =
-      let w = wrote_head (At j m t) ws i n (take 8192 s₀) p j m t (procedure ws i) refl q refl in
-      let d = procedure_paid ws i w.head j w.read in
-      let f : take m (p ++ drop 8192 s₀) ≡ take n s₀ ++ (w.head.slots ++ w.head.body) =
-      take-append-le m p (drop 8192 s₀) (omega (arith, lower, d.paid, d.within, w.up_to, h.few)) ∙ w.front
+  pub below_reads : (r : Result Procedure Misfit) → seen_procedure r p ≡ written_procedure (procedure ws i) n (take 8192 s₀) → Below r ws i n s₀ (p ++ drop 8192 s₀)
+  unfolding seen_procedure written_procedure
+  below_reads (Ok a) q =
+      let w = wrote_head ws i n (take 8192 s₀) p a q in
+      let d = procedure_paid ws i w.head a.token w.read in
+      let f : take a.word (p ++ drop 8192 s₀) ≡ take n s₀ ++ (w.head.slots ++ w.head.body) =
+      take-append-le a.word p (drop 8192 s₀) (omega (arith, lower, d.paid, d.within, w.up_to, h.few)) ∙ w.front
       ∙ ap (λ a. a ++ (w.head.slots ++ w.head.body)) (take-take n 8192 s₀ (omega (arith, d.paid, d.within, h.few))) in
       record { reads = rw (w.read, f, ← w.up_to, ← w.counted); table = upper }
-  below_reads (Wrong k a) q = record { reads = rw (erred_head (Wrong k a) n (take 8192 s₀) p k a (procedure ws i) q refl); table = upper }
+  below_reads (Err e) q = record { reads = rw (erred_head (procedure ws i) n (take 8192 s₀) p e q); table = upper }
 
 -- ---- a turn
 word_so : (k n m t w : ℕ) (h : Head) → k ≡ n → m ≡ n + length h.slots + length h.body → t ≡ length h.slots → w ≡ procedure_word n t (m - n - t) → word_at k h ≡ w
@@ -126,40 +126,38 @@ gather_more end a h (good hs j) = refl
 gather_more end a h (wrong k p) = refl
 
 -- what is answered at the end
-settles_by : (b c : Bool) (end main twice n : ℕ) (s : List ℕ)
-    → seen_whole (if b then (λ _. Misfit 10 end) otherwise λ _. if c then (λ _. Whole main n) otherwise λ _. Twice (twice - 1)) s
-    ≡ (if b then (λ _. failed_whole 10 end) otherwise λ _. if c then (λ _. whole main (take n s) (table_in s)) otherwise λ _. twice_at (twice - 1))
-unfolding seen_whole if◌then◌otherwise◌
-settles_by true c end main twice n s = refl
-settles_by false true end main twice n s = refl
-settles_by false false end main twice n s = refl
+settles : (end : ℕ) (main twice : Option ℕ) (n : ℕ) (s : List ℕ) → seen_whole (answered end main twice n) s ≡ settled end (sofar n main twice s)
+unfolding answered settled_by seen_whole
+settles end None twice n s = refl
+settles end (Some main) None n s = refl
+settles end (Some main) (Some p) n s = refl
 
-settles : (end main twice n : ℕ) (s : List ℕ) → seen_whole (answered end main twice n) s ≡ settled end (sofar n main twice s)
-unfolding answered settled
-settles end main twice n s = settles_by (eqb main 0) (eqb twice 0) end main twice n s
-
-module _ (ws s₀ : List ℕ) (i n main twice : ℕ) (s : List ℕ) (g : Gathering ws s₀ i n main twice s) (r : Read) (s₁ : List ℕ) (b : Below r ws i n s s₁) where
-  pub gathering_fails : (k p : ℕ) → r ≡ Wrong k p → seen_whole (Misfit k p) s₁ ≡ written_whole (length ws) nothing (procedures ws)
+module _ (ws s₀ : List ℕ) (i n : ℕ) (main twice : Option ℕ) (s : List ℕ) (g : Gathering ws s₀ i n main twice s) (s₁ : List ℕ) where
+  -- an exit by `?`
+  pub gathering_fails : (e : Misfit) (r : Result Parsed Unread) → Below (Err e) ws i n s s₁ → IsErrAnd r (λ u. u ≡ Unread.Misfit e)
+      → seen_whole r s₁ ≡ written_whole (length ws) nothing (procedures ws)
   unfolding after seen_whole written_whole
-  gathering_fails k p u = rw (g.same, rest_turns ws i, erred_head r n s s₁ k p (procedure ws i) b.reads u)
+  gathering_fails e r b y =
+      let p = err_from_is_err_and r y in
+      rw (p.1, p.2) (rw (g.same, rest_turns ws i, erred_head (procedure ws i) n s s₁ e b.reads))
 
-  module _ (j m t : ℕ) (u : r ≡ At j m t) where
-    was : Read-head ws i n s j m t s₁
-    was = wrote_head r ws i n s s₁ j m t (procedure ws i) refl b.reads u
+  module _ (r : Procedure) (b : Below (Ok r) ws i n s s₁) where
+    was : Read-head ws i n s r s₁
+    was = wrote_head ws i n s s₁ r b.reads
 
     -- where it ends
     pub record Turned : Type 0 where
       pub inside : i + 1 < length ws
-      pub ahead : i < j
-      pub within : j ≤ length ws
-      pub behind : m ≤ j
-      pub order : n + t ≤ m
-      pub full : m ≤ 8192
+      pub ahead : i < r.token
+      pub within : r.token ≤ length ws
+      pub behind : r.word ≤ r.token
+      pub order : n + r.parameters ≤ r.word
+      pub full : r.word ≤ 8192
 
     pub turned : Turned
     turned =
         let w = was in
-        let p = procedure_paid ws i w.head j w.read in
+        let p = procedure_paid ws i w.head r.token w.read in
         record {
           inside = omega (arith, p.paid, p.within);
           ahead = omega (arith, p.paid);
@@ -169,35 +167,35 @@ module _ (ws s₀ : List ℕ) (i n main twice : ℕ) (s : List ℕ) (g : Gatheri
           full = omega (arith, p.paid, p.within, w.up_to, g.behind, g.halves.few);
         }
 
-    module _ (w old : ℕ) (wd : w ≡ procedure_word n t (m - n - t)) (s₂ : List ℕ) (e : Entered (home_at ws (i + 1)) w old s₁ s₂) (twice' main' : ℕ)
+    module _ (w old : ℕ) (wd : w ≡ procedure_word n r.parameters (r.word - n - r.parameters)) (s₂ : List ℕ) (e : Entered (home_at ws (i + 1)) w old s₁ s₂) (twice' main' : Option ℕ)
         (tw : twice' ≡ first_twice twice (procedure_at ws (i + 1)) old (place_at ws i)) (mw : main' ≡ main_word main (procedure_at ws (i + 1)) w) where
-      gathered_so : gather (sofar n main twice s) was.head ≡ sofar m main' twice' s₂
+      gathered_so : gather (sofar n main twice s) was.head ≡ sofar r.word main' twice' s₂
       unfolding gather
       gathered_so =
           let h = was in
-          let p = procedure_paid ws i h.head j h.read in
+          let p = procedure_paid ws i h.head r.token h.read in
           let l : length (take n s) ≡ n = length-take-le n s (omega (arith, g.full, g.halves.room)) in
-          let v : word_at (length (take n s)) h.head ≡ w = word_so (length (take n s)) n m t w h.head l h.up_to h.counted wd in
-          let c : take m s₂ ≡ take n s ++ (h.head.slots ++ h.head.body) =
-          sym (take-take m 8192 s₂ turned.full) ∙ ap (take m) e.code ∙ take-take m 8192 s₁ turned.full ∙ h.front in
+          let v : word_at (length (take n s)) h.head ≡ w = word_so (length (take n s)) n r.word r.parameters w h.head l h.up_to h.counted wd in
+          let c : take r.word s₂ ≡ take n s ++ (h.head.slots ++ h.head.body) =
+          sym (take-take r.word 8192 s₂ turned.full) ∙ ap (take r.word) e.code ∙ take-take r.word 8192 s₁ turned.full ∙ h.front in
           let d : table_in s₂ ≡ set (table_in s) (home_at ws (i + 1)) w = e.table ∙ ap (λ x. set x (home_at ws (i + 1)) w) b.table in
           let q : old ≡ get_or (table_in s) (home_at ws (i + 1)) 0 = e.stood ∙ ap (λ x. get_or x (home_at ws (i + 1)) 0) b.table in
           rw (p.name, p.place, v, c, d, tw, mw, q)
 
-      module _ (next : ℕ) (x : next ≡ kind_at ws j) where
-        pub gathering_ends : (a : Parsed) → next ≡ 0 → a ≡ answered (length ws) main' twice' m → seen_whole a s₂ ≡ written_whole (length ws) nothing (procedures ws)
+      module _ (next : ℕ) (x : next ≡ kind_at ws r.token) where
+        pub gathering_ends : (a : Result Parsed Unread) → next ≡ 0 → a ≡ answered (length ws) main' twice' r.word → seen_whole a s₂ ≡ written_whole (length ws) nothing (procedures ws)
         unfolding after if◌then◌otherwise◌ written_whole gather_all
         gathering_ends a z f =
             let h = was in
-            rw (g.same, rest_turns ws i, h.read, ← x, z, gathered_so, f) (settles (length ws) main' twice' m s₂)
+            rw (g.same, rest_turns ws i, h.read, ← x, z, gathered_so, f) (settles (length ws) main' twice' r.word s₂)
 
-        pub gathering_on : (next ≡ 0 → ⊥) → length s₂ ≡ length s → Gathering ws s₀ j m main' twice' s₂
+        pub gathering_on : (next ≡ 0 → ⊥) → length s₂ ≡ length s → Gathering ws s₀ r.token r.word main' twice' s₂
         unfolding after if◌then◌otherwise◌
         gathering_on z l =
             let h = was in
             let y = turned in
-            let q : written_whole (length ws) (sofar n main twice s) (rest ws i) ≡ written_whole (length ws) (sofar m main' twice' s₂) (rest ws j) =
-            rw (rest_turns ws i, h.read, ← x, ne_eqb _ _ z) (gather_more (length ws) _ h.head (rest ws j) ∙ ap (λ a. written_whole (length ws) a (rest ws j)) gathered_so) in
+            let q : written_whole (length ws) (sofar n main twice s) (rest ws i) ≡ written_whole (length ws) (sofar r.word main' twice' s₂) (rest ws r.token) =
+            rw (rest_turns ws i, h.read, ← x, ne_eqb _ _ z) (gather_more (length ws) _ h.head (rest ws r.token) ∙ ap (λ a. written_whole (length ws) a (rest ws r.token)) gathered_so) in
             record {
               same = g.same ∙ q;
               behind = y.behind;

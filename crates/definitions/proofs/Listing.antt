@@ -6,17 +6,18 @@ use mathlib.Core.List.{List, [], ◌∷◌, ◌++◌, append-nil}
 use native.Mathlib.Omega.{arith}
 use borrow.Author.Tests.{ne_eqb}
 use lib.ListN.{length, take, set, length-set}
+use Rattle.std.specs.Prelude.{Ok, Err}
 use Rattle.meaning.specs.Basics.{if◌then◌otherwise◌}
 use Rattle.meaning.specs.Token.{a_name, comma, close_paren}
 use Rattle.meaning.specs.Grammar.{Got, good, after}
-use Rattle.expressions.specs.declared.Read.TheVariants.{At, Wrong}
+use Rattle.expressions.specs.declared.Target.TheVariants.{Neither}
 use Rattle.expressions.specs.Words.{kind_at, home_at, is, expect, at, seen, written_code}
 use Rattle.expressions.proofs.Tokens.{chosen, token_inside}
-use Rattle.expressions.proofs.Answers.{take_put, shifted}
+use Rattle.expressions.proofs.Pays.{kind_inside}
+use Rattle.expressions.proofs.Answers.{take_put, says_code, refused, same_after, shifted}
 use Rattle.definitions.specs.Words.{parameters_from, parameters}
 use Rattle.statements.specs.Room.{Space}
-use Rattle.statements.proofs.Paid.{kind_inside, expect_good}
-use Rattle.statements.proofs.Written.{same_after, wrong_seen}
+use Rattle.statements.proofs.Paid.{expect_good}
 
 -- ---- rounds
 -- a slot, and what `rest` yields behind a comma
@@ -62,7 +63,7 @@ pub record Listing (ws : List ℕ) (i n : ℕ) (s₀ : List ℕ) (p m : ℕ) (s 
   pub kept : length s ≡ length s₀
 
 module _ (ws : List ℕ) (i n : ℕ) (s : List ℕ) (kind : ℕ) (k : kind ≡ kind_at ws i) where
-  pub parameters_none : kind ≡ 41 → seen (At (i + 1) n 0) s ≡ written_code (parameters ws i) n s
+  pub parameters_none : kind ≡ 41 → seen (Ok (record { token = i + 1; word = n; target = Neither })) s ≡ written_code (parameters ws i) n s
   unfolding parameters if◌then◌otherwise◌ seen written_code
   parameters_none e =
       let z : n + 0 ≡ n = omega arith in
@@ -73,9 +74,9 @@ module _ (ws : List ℕ) (i n : ℕ) (s : List ℕ) (kind : ℕ) (k : kind ≡ k
   listing_starts o h = record { same = rw (← k, ne_eqb _ _ h); space = o; kept = refl }
 
 module _ (ws : List ℕ) (i n : ℕ) (s₀ : List ℕ) (p m : ℕ) (s : List ℕ) (g : Listing ws i n s₀ p m s) (kind : ℕ) (k : kind ≡ kind_at ws p) where
-  pub listing_stops : (kind ≡ 1 → ⊥) → seen (Wrong 10 p) s ≡ written_code (parameters ws i) n s₀
+  pub listing_stops : (kind ≡ 1 → ⊥) → seen (Err (record { number = 10; token = p })) s ≡ written_code (parameters ws i) n s₀
   unfolding expect after if◌then◌otherwise◌
-  listing_stops h = rw (g.same, rest_turns ws p, ← k, ne_eqb _ _ h) (wrong_seen 10 p m s s)
+  listing_stops h = rw g.same (refused (says_code m s) _ s (rw (rest_turns ws p, ← k, ne_eqb _ _ h)))
 
   module _ (o : kind ≡ 1) (x : ℕ) (u : x ≡ home_at ws p) (s₁ : List ℕ) (v : s₁ ≡ set s m x) (next : ℕ) (y : next ≡ kind_at ws (p + 1)) where
     here : p < length ws
@@ -84,15 +85,15 @@ module _ (ws : List ℕ) (i n : ℕ) (s₀ : List ℕ) (p m : ℕ) (s : List ℕ
     put : take (m + 1) s₁ ≡ take m s ++ (x ∷ [])
     put = let h = here in rw v (take_put s m x (omega (arith, g.space.behind, g.space.wide)))
 
-    pub listing_fails : (next ≡ 41 → ⊥) → (next ≡ 44 → ⊥) → seen (Wrong 10 (p + 1)) s₁ ≡ written_code (parameters ws i) n s₀
+    pub listing_fails : (next ≡ 41 → ⊥) → (next ≡ 44 → ⊥) → seen (Err (record { number = 10; token = p + 1 })) s₁ ≡ written_code (parameters ws i) n s₀
     unfolding expect after if◌then◌otherwise◌
-    listing_fails h l = rw (g.same, rest_turns ws p, ← k, o, ← y, ne_eqb _ _ l, ne_eqb _ _ h) (wrong_seen 10 (p + 1) m s s₁)
+    listing_fails h l = rw g.same (refused (says_code m s) _ s₁ (rw (rest_turns ws p, ← k, o, ← y, ne_eqb _ _ l, ne_eqb _ _ h)))
 
-    pub listing_ends : next ≡ 41 → seen (At (p + 2) (m + 1) 0) s₁ ≡ written_code (parameters ws i) n s₀
+    pub listing_ends : next ≡ 41 → seen (Ok (record { token = p + 2; word = m + 1; target = Neither })) s₁ ≡ written_code (parameters ws i) n s₀
     unfolding expect after if◌then◌otherwise◌ seen written_code
     listing_ends h =
         let z : p + 2 ≡ p + 1 + 1 = omega arith in
-        rw (g.same, rest_turns ws p, ← k, o, ← y, h, ← u, z) (ap (at (p + 1 + 1) (m + 1) 0) put)
+        rw (g.same, rest_turns ws p, ← k, o, ← y, h, ← u, z) (ap (at (p + 1 + 1) (m + 1) Neither) put)
 
     pub listing_on : next ≡ 44 → Listing ws i n s₀ (p + 2) (m + 1) s₁
     unfolding expect after if◌then◌otherwise◌

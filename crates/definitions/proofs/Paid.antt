@@ -12,7 +12,8 @@ use Rattle.expressions.proofs.Tokens.{chosen}
 use Rattle.expressions.proofs.Paid.{Paid}
 use Rattle.statements.specs.Words.{skip, statements, statement}
 use Rattle.statements.specs.Steps.{inside_of}
-use Rattle.statements.proofs.Paid.{kind_inside, Pays, pays, over, on, statements_from_pay, expect_good, skip_good, inside_pays}
+use Rattle.expressions.proofs.Pays.{kind_inside}
+use Rattle.statements.proofs.Paid.{Pays, pays, over, on, statements_from_pay, expect_good, skip_good, inside_pays}
 use Rattle.definitions.specs.Words.{name_at, Head, parameters_from, parameters, body, procedure}
 
 -- read from a later token on

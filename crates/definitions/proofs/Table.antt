@@ -9,10 +9,10 @@ use borrow.Author.Tests.{ne_eqb, lt-ltb, le-ltb}
 use lib.Dec.{ltb}
 use lib.ListN.{length, get_or, set, take, drop, length-take, get_or-eq_default}
 use lib.Seq.{set_out, take-set-le, take-set-lt, drop-set-add, get_or-take, get_or-drop}
+use Rattle.std.specs.Prelude.{Option, Some, None, is_some}
 use Rattle.meaning.specs.Basics.{if◌then◌otherwise◌}
-use Rattle.definitions.specs.declared.Parsed.TheVariants.{Whole, Twice, Misfit}
 use Rattle.definitions.specs.Words.{main_word, first_twice, table_in}
-use Rattle.definitions.specs.Steps.{Entered, answered}
+use Rattle.definitions.specs.Steps.{Entered}
 
 -- ---- a word written into the table
 table_length : (s : List ℕ) → length (table_in s) ≤ 8192
@@ -36,48 +36,41 @@ or_true : (b : Bool) → b || true ≡ true
 or_true true = refl
 or_true false = refl
 
-module _ (twice number old p : ℕ) where
-  pub twice_kept : (twice ≡ 0 → ⊥) → twice ≡ first_twice twice number old p
-  unfolding first_twice if◌then◌otherwise◌
-  twice_kept h = rw (ne_eqb _ _ h)
+none_yet : (o : Option ℕ) (b : Bool) → b ≡ is_some o → b ≡ false → o ≡ None
+none_yet None b h e = refl
+none_yet (Some q) b h e = let y : ◌≡◌ {A = ℕ} 0 1 = cc in absurd (omega arith)
 
-  module _ (z : twice ≡ 0) where
-    pub twice_again : (old ≡ 0 → ⊥) → p + 1 ≡ first_twice twice number old p
-    unfolding first_twice if◌then◌otherwise◌
-    twice_again h = rw (z, ne_eqb _ _ h, or_true (ltb number 11))
+module _ (number old p : ℕ) where
+  pub twice_kept : (twice : Option ℕ) (b : Bool) → b ≡ is_some twice → b ≡ true → twice ≡ first_twice twice number old p
+  unfolding first_twice
+  twice_kept None b h e = let z : ◌≡◌ {A = ℕ} 0 1 = cc in absurd (omega arith)
+  twice_kept (Some q) b h e = refl
 
-    pub twice_library : number < 11 → p + 1 ≡ first_twice twice number old p
+  module _ (twice : Option ℕ) (b : Bool) (h : b ≡ is_some twice) (e : b ≡ false) where
+    pub twice_again : (old ≡ 0 → ⊥) → Some p ≡ first_twice twice number old p
     unfolding first_twice if◌then◌otherwise◌
-    twice_library h = rw (z, lt-ltb _ _ h)
+    twice_again z = rw (none_yet twice b h e, ne_eqb _ _ z, or_true (ltb number 11))
 
-    pub twice_none : old ≡ 0 → 11 ≤ number → 0 ≡ first_twice twice number old p
+    pub twice_library : number < 11 → Some p ≡ first_twice twice number old p
     unfolding first_twice if◌then◌otherwise◌
-    twice_none o h = rw (z, le-ltb _ _ h, o)
+    twice_library l = rw (none_yet twice b h e, lt-ltb _ _ l)
+
+    pub twice_none : old ≡ 0 → 11 ≤ number → None ≡ first_twice twice number old p
+    unfolding first_twice if◌then◌otherwise◌
+    twice_none o l = rw (none_yet twice b h e, le-ltb _ _ l, o)
 
 -- ---- main
-module _ (main number w : ℕ) where
-  pub main_kept : (main ≡ 0 → ⊥) → main ≡ main_word main number w
-  unfolding main_word if◌then◌otherwise◌
-  main_kept h = rw (ne_eqb _ _ h)
+module _ (number w : ℕ) where
+  pub main_kept : (main : Option ℕ) (b : Bool) → b ≡ is_some main → b ≡ true → main ≡ main_word main number w
+  unfolding main_word
+  main_kept None b h e = let z : ◌≡◌ {A = ℕ} 0 1 = cc in absurd (omega arith)
+  main_kept (Some m) b h e = refl
 
-  pub main_now : main ≡ 0 → number ≡ 12 → w ≡ main_word main number w
-  unfolding main_word if◌then◌otherwise◌
-  main_now z e = rw (z, e)
+  module _ (main : Option ℕ) (b : Bool) (h : b ≡ is_some main) (e : b ≡ false) where
+    pub main_now : number ≡ 12 → Some w ≡ main_word main number w
+    unfolding main_word if◌then◌otherwise◌
+    main_now q = rw (none_yet main b h e, q)
 
-  pub main_other : main ≡ 0 → (number ≡ 12 → ⊥) → main ≡ main_word main number w
-  unfolding main_word if◌then◌otherwise◌
-  main_other z h = rw (ne_eqb number 12 h, z)
-
--- ---- the answer
-module _ (end main twice n : ℕ) where
-  pub settle_none : main ≡ 0 → Misfit 10 end ≡ answered end main twice n
-  unfolding answered if◌then◌otherwise◌
-  settle_none h = rw h
-
-  pub settle_whole : (main ≡ 0 → ⊥) → twice ≡ 0 → Whole main n ≡ answered end main twice n
-  unfolding answered if◌then◌otherwise◌
-  settle_whole h z = rw (ne_eqb _ _ h, z)
-
-  pub settle_twice : (main ≡ 0 → ⊥) → (twice ≡ 0 → ⊥) → Twice (twice - 1) ≡ answered end main twice n
-  unfolding answered if◌then◌otherwise◌
-  settle_twice h z = rw (ne_eqb _ _ h, ne_eqb _ _ z)
+    pub main_other : (number ≡ 12 → ⊥) → None ≡ main_word main number w
+    unfolding main_word if◌then◌otherwise◌
+    main_other q = rw (none_yet main b h e, ne_eqb number 12 q)

@@ -1,13 +1,16 @@
 -- The grammar of procedures and of the whole program, over prepared token words and with code in place of trees.
-use Rattle.std.specs.Prelude.{ℕ, zero, suc, ◌+◌, ◌-◌, not, ◌&&◌, ◌||◌, List, [], ◌∷◌, ◌++◌, length, get_or, set, take, drop, replicate, eqb, ltb}
+use Rattle.std.specs.Prelude.{ℕ, zero, suc, ◌+◌, ◌-◌, not, ◌&&◌, ◌||◌, List, [], ◌∷◌, ◌++◌, length, get_or, set, take, drop, replicate, eqb, ltb, Option, Some, None, Result, Ok, Err}
 use Rattle.meaning.specs.Basics.{if◌then◌otherwise◌}
 use Rattle.meaning.specs.Token.{ending, a_name, word_def, comma, open_paren, close_paren, open_brace}
 use Rattle.meaning.specs.Grammar.{Got, good, wrong, after}
 use Rattle.machine.specs.Opcodes.{procedure_word}
-use Rattle.expressions.specs.Words.{place_at, home_at, procedure_at, is, expect, Seen, at, failed}
+use Rattle.expressions.specs.Words.{place_at, home_at, procedure_at, is, expect}
 use Rattle.statements.specs.Words.{skip, statements, statement}
 use Rattle.definitions.specs.declared.Parsed.{Parsed}
-use Rattle.definitions.specs.declared.Parsed.TheVariants.{Whole, Twice, Misfit}
+use Rattle.definitions.specs.declared.Procedure.{Procedure}
+use Rattle.definitions.specs.declared.Unread.{Unread}
+use Rattle.definitions.specs.declared.Unread.TheVariants.{Twice, Misfit}
+use Rattle.expressions.specs.declared.Misfit as Expressions
 
 -- ---- a procedure
 -- the number and the slot of its name
@@ -62,21 +65,23 @@ procedures_from (suc rounds) ws i =
 unfoldable pub procedures : List ℕ → Got (List Head)
 procedures ws = procedures_from (suc (length ws)) ws 0
 
--- What is gathered from procedure to procedure: the code, the table, main's word, 0 while there is none, and one more than the place of the first `def`
--- whose name an earlier one or the library has, 0 while there is none.
+-- What is gathered from procedure to procedure: the code, the table, main's word, and the place of the first `def` whose name an earlier one or the
+-- library has.
 pub record Gathered : Type 0 where
   pub code : List ℕ
   pub table : List ℕ
-  pub main : ℕ
-  pub twice : ℕ
+  pub main : Option ℕ
+  pub twice : Option ℕ
 
 -- main's word, where a procedure with a number has the word w
-unfoldable pub main_word : ℕ → ℕ → ℕ → ℕ
-main_word main number w = if eqb main 0 && eqb number 12 then (λ _. w) otherwise λ _. main
+unfoldable pub main_word : Option ℕ → ℕ → ℕ → Option ℕ
+main_word (Some m) number w = Some m
+main_word None number w = if eqb number 12 then (λ _. Some w) otherwise λ _. None
 
 -- a `def` at a place p whose name has a number, and the word `old` in the table already
-unfoldable pub first_twice : ℕ → ℕ → ℕ → ℕ → ℕ
-first_twice twice number old p = if eqb twice 0 && (ltb number 11 || not (eqb old 0)) then (λ _. p + 1) otherwise λ _. twice
+unfoldable pub first_twice : Option ℕ → ℕ → ℕ → ℕ → Option ℕ
+first_twice (Some q) number old p = Some q
+first_twice None number old p = if ltb number 11 || not (eqb old 0) then (λ _. Some p) otherwise λ _. None
 
 -- the word in the table of a procedure whose code begins at a
 abbrev pub word_at : ℕ → Head → ℕ
@@ -95,13 +100,22 @@ gather_all a [] = a
 gather_all a (h ∷ hs) = gather_all (gather a h) hs
 
 abbrev pub nothing : Gathered
-nothing = record { code = []; table = replicate 8192 0; main = 0; twice = 0 }
+nothing = record { code = []; table = replicate 8192 0; main = None; twice = None }
 
 -- ---- what the code's answers say
+-- a procedure that was read, with the first words of the slice
+pub data SeenProcedure : Type 0 where
+  up_to : ℕ → ℕ → ℕ → List ℕ → SeenProcedure
+  failed_procedure : ℕ → ℕ → SeenProcedure
+
+unfoldable pub seen_procedure : Result Procedure Expressions.Misfit → List ℕ → SeenProcedure
+seen_procedure (Ok p) slice = up_to p.token p.word p.parameters (take p.word slice)
+seen_procedure (Err e) slice = failed_procedure e.number e.token
+
 -- a procedure's code, behind the first n words of a slice: the slots of its parameters, and its body's
-unfoldable pub written_procedure : Got Head → ℕ → List ℕ → Seen
-written_procedure (good h j) n slice = at j (n + length h.slots + length h.body) (length h.slots) (take n slice ++ (h.slots ++ h.body))
-written_procedure (wrong k p) n slice = failed k p
+unfoldable pub written_procedure : Got Head → ℕ → List ℕ → SeenProcedure
+written_procedure (good h j) n slice = up_to j (n + length h.slots + length h.body) (length h.slots) (take n slice ++ (h.slots ++ h.body))
+written_procedure (wrong k p) n slice = failed_procedure k p
 
 -- the table stands in words 8192 to 16383
 abbrev pub table_in : List ℕ → List ℕ
@@ -113,17 +127,19 @@ pub data SeenWhole : Type 0 where
   twice_at : ℕ → SeenWhole
   failed_whole : ℕ → ℕ → SeenWhole
 
-unfoldable pub seen_whole : Parsed → List ℕ → SeenWhole
-seen_whole (Whole w n) slice = whole w (take n slice) (table_in slice)
-seen_whole (Twice p) slice = twice_at p
-seen_whole (Misfit n p) slice = failed_whole n p
+unfoldable pub seen_whole : Result Parsed Unread → List ℕ → SeenWhole
+seen_whole (Ok p) slice = whole p.main (take p.words slice) (table_in slice)
+seen_whole (Err (Twice p)) slice = twice_at p
+seen_whole (Err (Misfit e)) slice = failed_whole e.number e.token
 
 -- main has to be there, and each name once, in that order; the program ends at token `end`
-unfoldable pub settled : ℕ → Gathered → SeenWhole
-settled end a =
-    if eqb a.main 0 then (λ _. failed_whole 10 end)
-    otherwise λ _. if eqb a.twice 0 then (λ _. whole a.main a.code a.table)
-    otherwise λ _. twice_at (a.twice - 1)
+unfoldable pub settled_by : Option ℕ → Option ℕ → ℕ → Gathered → SeenWhole
+settled_by None twice end a = failed_whole 10 end
+settled_by (Some main) None end a = whole main a.code a.table
+settled_by (Some main) (Some p) end a = twice_at p
+
+abbrev pub settled : ℕ → Gathered → SeenWhole
+settled end a = settled_by a.main a.twice end a
 
 unfoldable pub written_whole : ℕ → Gathered → Got (List Head) → SeenWhole
 written_whole end a (good hs j) = settled end (gather_all a hs)

@@ -6,16 +6,18 @@ use mathlib.Core.List.{List, [], ◌++◌, append-nil}
 use native.Mathlib.Omega.{arith}
 use borrow.Author.Tests.{ne_eqb}
 use lib.ListN.{length, take, set, length-append, length-set}
+use Rattle.std.specs.Prelude.{Result, Ok, Err, IsErrAnd}
 use Rattle.meaning.specs.Basics.{if◌then◌otherwise◌}
 use Rattle.meaning.specs.Token.{comma, close_paren}
-use Rattle.meaning.specs.Grammar.{Got, good, after}
+use Rattle.meaning.specs.Grammar.{Got, good, wrong, after}
 use Rattle.machine.specs.Opcodes.{word}
 use Rattle.expressions.specs.declared.Read.{Read}
-use Rattle.expressions.specs.declared.Read.TheVariants.{At, Wrong}
+use Rattle.expressions.specs.declared.Misfit.{Misfit}
+use Rattle.expressions.specs.declared.Target.TheVariants.{Neither}
 use Rattle.expressions.specs.Words.{kind_at, is, Piece, expect, argument_code, arguments_from, arguments, expression, at, seen, written, written_code}
 use Rattle.expressions.specs.Room.{Room}
 use Rattle.expressions.proofs.Paid.{expression_paid}
-use Rattle.expressions.proofs.Answers.{take_put_before, Wrote, wrote, erred, same_after, shifted}
+use Rattle.expressions.proofs.Answers.{take_put_before, says, says_code, refused, exits, Wrote, wrote, same_after, shifted}
 
 -- ---- rounds
 -- an argument, and what `rest` yields behind a comma
@@ -48,7 +50,7 @@ rest_turns left ws i = same_after (expression left ws i) _ _ λ e j q.
     same_turn ws (arguments_from (length ws - i) (expression left ws) ws) (rest left ws) e j
     (enough left ws (length ws - i) (suc (length ws - (j + 1))) (j + 1) (omega (arith, p.ahead, p.within)) (omega (arith, p.ahead, p.within)))
 
-pub arguments_none : (left : ℕ) (ws : List ℕ) (i n : ℕ) (s : List ℕ) (kind : ℕ) → kind ≡ kind_at ws i → kind ≡ 41 → seen (At (i + 1) n 0) s ≡ written_code (arguments (expression left ws) ws i) n s
+pub arguments_none : (left : ℕ) (ws : List ℕ) (i n : ℕ) (s : List ℕ) (kind : ℕ) → kind ≡ kind_at ws i → kind ≡ 41 → seen (Ok (record { token = i + 1; word = n; target = Neither })) s ≡ written_code (arguments (expression left ws) ws i) n s
 unfolding arguments if◌then◌otherwise◌ seen written_code
 arguments_none left ws i n s kind k e =
     let q : n + 0 ≡ n = omega arith in
@@ -76,17 +78,17 @@ pub record Turned (ws s₁ : List ℕ) (p m j q : ℕ) : Type 0 where
   pub size : q < m + 16777216
   pub paid : q + 1 ≤ j + 1
 
-module _ (left : ℕ) (ws : List ℕ) (i n : ℕ) (s₀ : List ℕ) (p m : ℕ) (s : List ℕ) (g : Going left ws i n s₀ p m s) (e : Read) (s₁ : List ℕ) (h : seen e s₁
-    ≡ written (expression left ws p) (m + 1) s) where
-  pub going_fails : (k a : ℕ) → e ≡ Wrong k a → seen (Wrong k a) s₁ ≡ written_code (arguments (expression left ws) ws i) n s₀
-  unfolding after seen written_code
-  going_fails k a u = rw (g.same, rest_turns left ws p, erred e _ (m + 1) s s₁ k a h u)
+module _ (left : ℕ) (ws : List ℕ) (i n : ℕ) (s₀ : List ℕ) (p m : ℕ) (s : List ℕ) (g : Going left ws i n s₀ p m s) where
+  -- an exit by `?`: the rest fails as its first argument does
+  pub going_fails : (e : Misfit) (r : Result Read Misfit) (s₁ : List ℕ) → IsErrAnd r (λ x. x ≡ e) → seen (Err e) s₁ ≡ written (expression left ws p) (m + 1) s
+      → seen r s₁ ≡ written_code (arguments (expression left ws) ws i) n s₀
+  going_fails e r s₁ y h = rw g.same (exits (says (m + 1) s) (says_code m s) _ _ e r s₁ (rest_turns left ws p) y h)
 
-  module _ (j q t : ℕ) (u : e ≡ At j q t) (l : length s₁ ≡ length s) where
-    pub turned : Turned ws s₁ p m j q
+  module _ (e : Read) (s₁ : List ℕ) (h : seen (Ok e) s₁ ≡ written (expression left ws p) (m + 1) s) (l : length s₁ ≡ length s) where
+    pub turned : Turned ws s₁ p m e.token e.word
     turned =
-        let w = wrote e _ (m + 1) s s₁ j q t h u in
-        let y = expression_paid left ws p w.piece j w.read in
+        let w = wrote _ (m + 1) s s₁ e h in
+        let y = expression_paid left ws p w.piece e.token w.read in
         let o = g.room in
         record {
           ahead = y.ahead;
@@ -97,24 +99,24 @@ module _ (left : ℕ) (ws : List ℕ) (i n : ℕ) (s₀ : List ℕ) (p m : ℕ) 
           paid = omega (arith, w.up_to, y.paid, o.behind);
         }
 
-    module _ (w kind : ℕ) (s₂ : List ℕ) (v : w ≡ word 9 (q - m - 1) 0) (x : s₂ ≡ set s₁ m w) (k : kind ≡ kind_at ws j) where
-      -- the words up to q hold the argument with its word
-      front : (y : Wrote (expression left ws p) (m + 1) s j q t s₁) → take q s₂ ≡ take m s ++ argument_code y.piece.code
+    module _ (w kind : ℕ) (s₂ : List ℕ) (v : w ≡ word 9 (e.word - m - 1) 0) (x : s₂ ≡ set s₁ m w) (k : kind ≡ kind_at ws e.token) where
+      -- the words up to there hold the argument with its word
+      front : (y : Wrote (expression left ws p) (m + 1) s e s₁) → take e.word s₂ ≡ take m s ++ argument_code y.piece.code
       front y =
           let z = turned in
           let o : m < length s = omega (arith, z.place) in
-          let size : q - m - 1 ≡ length y.piece.code = omega (arith, y.up_to) in
-          rw (x, v, size) (take_put_before s s₁ y.piece.code m q _ o (omega (arith, z.some)) y.front)
+          let size : e.word - m - 1 ≡ length y.piece.code = omega (arith, y.up_to) in
+          rw (x, v, size) (take_put_before s s₁ y.piece.code m e.word _ o (omega (arith, z.some)) y.front)
 
-      pub going_on : kind ≡ 44 → Going left ws i n s₀ (j + 1) q s₂
+      pub going_on : kind ≡ 44 → Going left ws i n s₀ (e.token + 1) e.word s₂
       unfolding after if◌then◌otherwise◌
       going_on c =
-          let y = wrote e _ (m + 1) s s₁ j q t h u in
+          let y = wrote _ (m + 1) s s₁ e h in
           let z = turned in
           let o = g.room in
-          let b : q ≡ m + length (argument_code y.piece.code) = omega (arith, y.up_to) in
-          let r : written_code (rest left ws p) m s ≡ written_code (rest left ws (j + 1)) q s₂ =
-          rw (rest_turns left ws p, y.read, ← k, c) (shifted (rest left ws (j + 1)) (argument_code y.piece.code) s s₂ m q b (front y)) in
+          let b : e.word ≡ m + length (argument_code y.piece.code) = omega (arith, y.up_to) in
+          let r : written_code (rest left ws p) m s ≡ written_code (rest left ws (e.token + 1)) e.word s₂ =
+          rw (rest_turns left ws p, y.read, ← k, c) (shifted (rest left ws (e.token + 1)) (argument_code y.piece.code) s s₂ m e.word b (front y)) in
           let d : length s₂ ≡ length s₁ = rw x (length-set s₁ m w) in
           record {
             same = g.same ∙ r;
@@ -124,15 +126,16 @@ module _ (left : ℕ) (ws : List ℕ) (i n : ℕ) (s₀ : List ℕ) (p m : ℕ) 
             kept = omega (arith, g.kept);
           }
 
-      pub going_ends : kind ≡ 41 → seen (At (j + 1) q 0) s₂ ≡ written_code (arguments (expression left ws) ws i) n s₀
+      pub going_ends : kind ≡ 41 → seen (Ok (record { token = e.token + 1; word = e.word; target = Neither })) s₂ ≡ written_code (arguments (expression left ws) ws i) n s₀
       unfolding after if◌then◌otherwise◌ expect seen written_code
       going_ends c =
-          let y = wrote e _ (m + 1) s s₁ j q t h u in
-          let b : m + length (argument_code y.piece.code ++ []) ≡ q = omega (arith, y.up_to, length-append (argument_code y.piece.code) []) in
-          rw (g.same, rest_turns left ws p, y.read, ← k, c, b) (ap (at (j + 1) q 0) (front y ∙ ap (λ l. take m s ++ l) (sym (append-nil (argument_code y.piece.code)))))
+          let y = wrote _ (m + 1) s s₁ e h in
+          let b : m + length (argument_code y.piece.code ++ []) ≡ e.word = omega (arith, y.up_to, length-append (argument_code y.piece.code) []) in
+          rw (g.same, rest_turns left ws p, y.read, ← k, c, b)
+          (ap (at (e.token + 1) e.word Neither) (front y ∙ ap (λ l. take m s ++ l) (sym (append-nil (argument_code y.piece.code)))))
 
-      pub going_stops : (kind ≡ 41 → ⊥) → (kind ≡ 44 → ⊥) → seen (Wrong 10 j) s₂ ≡ written_code (arguments (expression left ws) ws i) n s₀
-      unfolding after if◌then◌otherwise◌ expect seen written_code
+      pub going_stops : (kind ≡ 41 → ⊥) → (kind ≡ 44 → ⊥) → seen (Err (record { number = 10; token = e.token })) s₂ ≡ written_code (arguments (expression left ws) ws i) n s₀
+      unfolding after if◌then◌otherwise◌ expect
       going_stops c d =
-          let y = wrote e _ (m + 1) s s₁ j q t h u in
-          rw (g.same, rest_turns left ws p, y.read, ← k, ne_eqb _ _ c, ne_eqb _ _ d)
+          let y = wrote _ (m + 1) s s₁ e h in
+          rw g.same (refused (says_code m s) _ s₂ (rw (rest_turns left ws p, y.read, ← k, ne_eqb _ _ c, ne_eqb _ _ d)))

@@ -4,7 +4,7 @@ pub mod Paid
 pub mod Answers
 mod Primaries
 mod Puts
-mod Steps
-mod Rooms
+pub mod Steps
+pub mod Rooms
 mod Moves
 mod Going

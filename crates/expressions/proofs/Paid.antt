@@ -5,11 +5,12 @@ use mathlib.Core.Path.{◌≡◌, refl, subst}
 use mathlib.Core.Bool.{true}
 use mathlib.Core.List.{List, [], ◌++◌}
 use native.Mathlib.Omega.{arith}
-use lib.Dec.{eqb}
 use lib.ListN.{length, length-append}
+use Rattle.std.specs.Prelude.{Option, Some, None}
 use Rattle.meaning.specs.Token.{dot, comma, close_paren}
 use Rattle.meaning.specs.Grammar.{Got, good, after, Inside, no_level, level, opening}
 use Rattle.code.specs.Code.{joined}
+use Rattle.expressions.specs.declared.Target.TheVariants.{Neither}
 use Rattle.expressions.specs.Words.{kind_at, callee_at, is, positive_at, signed_at, negative_at, operator_tag, Piece, piece, ReadPiece, expect, argument_code, arguments_from, arguments}
 use Rattle.expressions.specs.Words.{call_code, table_code, primary, operand, operated, expression_in, expression, inside_of}
 use Rattle.expressions.proofs.Tokens.{chosen, both_left}
@@ -63,7 +64,7 @@ module _ (inside : Inside ReadPiece) (ws : List ℕ) (ok : Holds (PaysAll ws) in
   leaf_pays i k q = let w = kind_inside ws i k q in omega arith
 
   bracketed_pays : (i p k : ℕ) (f : List ℕ → List ℕ) → ((c : List ℕ) → length c ≤ length (f c)) → ((c : List ℕ) → length (f c) ≤ length c + 1)
-      → PaysPiece ws i (opening inside p λ inner. after (inner (i + 1)) λ e j. expect (suc k) ws j (piece (f e.code) 0))
+      → PaysPiece ws i (opening inside p λ inner. after (inner (i + 1)) λ e j. expect (suc k) ws j (piece (f e.code) Neither))
   bracketed_pays i p k f low high =
       opened (PaysPiece ws i) (PaysAll ws) inside p _ ok tt λ inner pays.
       then_pays code_size 1 code_size 1 ws i (i + 1) (inner (i + 1)) _ (pays (i + 1)) λ e j q.
@@ -99,13 +100,17 @@ module _ (inside : Inside ReadPiece) (ws : List ℕ) (ok : Holds (PaysAll ws) in
       omega (arith, joined_size 7 a.code b.code))
       (λ _. p)
 
+  operated_pays : (i j : ℕ) (o : Option ℕ) (a : Piece) → PaysPiece ws i (good a j) → PaysPiece ws i (operated o inside ws a j)
+  unfolding operated
+  operated_pays i j None a p = p
+  operated_pays i j (Some tag) a p =
+      then_pays code_size 1 code_size 1 ws i (j + 1) (operand inside ws (j + 1)) _ (operand_pays (j + 1)) λ b m q.
+      omega (arith, joined_size tag a.code b.code)
+
   pub expression_in_pays : (i : ℕ) → PaysPiece ws i (expression_in inside ws i)
-  unfolding expression_in operated
+  unfolding expression_in
   expression_in_pays i =
-      then_pays code_size 1 code_size 1 ws i i (operand inside ws i) _ (operand_pays i) λ a j p.
-      chosen (PaysPiece ws i) (eqb (operator_tag (kind_at ws j)) 0) _ _ (λ _. p)
-      (λ _. then_pays code_size 1 code_size 1 ws i (j + 1) (operand inside ws (j + 1)) _ (operand_pays (j + 1)) λ b m q.
-      omega (arith, joined_size (operator_tag (kind_at ws j)) a.code b.code))
+      then_pays code_size 1 code_size 1 ws i i (operand inside ws i) _ (operand_pays i) λ a j p. operated_pays i j (operator_tag (kind_at ws j)) a p
 
 -- ---- levels
 -- an expression is read with the inside of its level

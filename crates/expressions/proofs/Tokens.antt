@@ -1,7 +1,8 @@
 -- Tokens by their words: where one stands, the bounds of what its word holds, and the tag of an operator.
 -- Assumes nothing.
 use Prim.Native.Nat.{ℕ, ◌+◌, ◌-◌, ◌*◌, ◌/◌, ◌%◌, ◌^◌, ◌<◌, ◌≤◌}
-use mathlib.Core.Path.{◌≡◌, ◌∙◌, refl, ap}
+use Rattle.std.specs.Prelude.{Option, Some, None}
+use mathlib.Core.Path.{◌≡◌, ◌∙◌, refl, sym, ap, subst}
 use mathlib.Core.Bool.{Bool, true, false, ◌&&◌}
 use mathlib.Core.List.{List}
 use native.Mathlib.Omega.{arith}
@@ -59,25 +60,32 @@ pub callee_small : (ws : List ℕ) (i x : ℕ) → get_or ws i 0 < 2 ^ 64 → x 
 callee_small ws i x h e = omega arith
 
 -- ---- operators
-pub operator_small : (kind : ℕ) → operator_tag kind < 256
+abbrev SmallTag : Option ℕ → Type 0
+SmallTag None = Unit {0}
+SmallTag (Some t) = t < 256
+
+operator_smalls : (kind : ℕ) → SmallTag (operator_tag kind)
 unfolding operator_tag
-operator_small k =
-    chosen (λ t. t < 256) (eqb k 171) _ _ (λ _. omega arith) λ _.
-    chosen (λ t. t < 256) (eqb k 43) _ _ (λ _. omega arith) λ _.
-    chosen (λ t. t < 256) (eqb k 45) _ _ (λ _. omega arith) λ _.
-    chosen (λ t. t < 256) (eqb k 42) _ _ (λ _. omega arith) λ _.
-    chosen (λ t. t < 256) (eqb k 47) _ _ (λ _. omega arith) λ _.
-    chosen (λ t. t < 256) (eqb k 37) _ _ (λ _. omega arith) λ _.
-    chosen (λ t. t < 256) (eqb k 190) _ _ (λ _. omega arith) λ _.
-    chosen (λ t. t < 256) (eqb k 188) _ _ (λ _. omega arith) λ _.
-    chosen (λ t. t < 256) (eqb k 189) _ _ (λ _. omega arith) λ _.
-    chosen (λ t. t < 256) (eqb k 161) _ _ (λ _. omega arith) λ _.
-    chosen (λ t. t < 256) (eqb k 62) _ _ (λ _. omega arith) λ _.
-    chosen (λ t. t < 256) (eqb k 60) _ _ (λ _. omega arith) λ _. omega arith
+operator_smalls k =
+    chosen SmallTag (eqb k 171) _ _ (λ _. omega arith) λ _.
+    chosen SmallTag (eqb k 43) _ _ (λ _. omega arith) λ _.
+    chosen SmallTag (eqb k 45) _ _ (λ _. omega arith) λ _.
+    chosen SmallTag (eqb k 42) _ _ (λ _. omega arith) λ _.
+    chosen SmallTag (eqb k 47) _ _ (λ _. omega arith) λ _.
+    chosen SmallTag (eqb k 37) _ _ (λ _. omega arith) λ _.
+    chosen SmallTag (eqb k 190) _ _ (λ _. omega arith) λ _.
+    chosen SmallTag (eqb k 188) _ _ (λ _. omega arith) λ _.
+    chosen SmallTag (eqb k 189) _ _ (λ _. omega arith) λ _.
+    chosen SmallTag (eqb k 161) _ _ (λ _. omega arith) λ _.
+    chosen SmallTag (eqb k 62) _ _ (λ _. omega arith) λ _.
+    chosen SmallTag (eqb k 60) _ _ (λ _. omega arith) λ _. tt
+
+pub operator_small : (kind tag : ℕ) → Some tag ≡ operator_tag kind → tag < 256
+operator_small kind tag q = subst SmallTag (sym q) (operator_smalls kind)
 
 pub operator_none : (k : ℕ) → (k ≡ 171 → ⊥) → (k ≡ 43 → ⊥) → (k ≡ 45 → ⊥) → (k ≡ 42 → ⊥) → (k ≡ 47 → ⊥) → (k ≡ 37 → ⊥) → (k ≡ 190 → ⊥) → (k ≡ 188 → ⊥) → (k ≡ 189 → ⊥) → (k ≡ 161 → ⊥)
     → (k ≡ 62 → ⊥) → (k ≡ 60 → ⊥)
-    → 0 ≡ operator_tag k
+    → None ≡ operator_tag k
 unfolding operator_tag if◌then◌otherwise◌
 operator_none k a b c d e f g h i j l m =
     rw (ne_eqb _ _ a, ne_eqb _ _ b, ne_eqb _ _ c, ne_eqb _ _ d, ne_eqb _ _ e, ne_eqb _ _ f)

@@ -1,7 +1,6 @@
 -- What the functions that read and write require.
 use Rattle.std.specs.Prelude.{ℕ, ◌+◌, ◌<◌, ◌≤◌, ◌≡◌, List, length}
 use Rattle.expressions.specs.declared.Read.{Read}
-use Rattle.expressions.specs.declared.Read.TheVariants.{At}
 
 -- Reading from token i, writing from word n: a word for each token is enough room, and no code has more words than its size can say.
 pub record Room (tokens words : List ℕ) (i n : ℕ) : Type 0 where
@@ -17,7 +16,7 @@ pub record Spot (words : List ℕ) (i n tag x : ℕ) : Type 0 where
   pub small_number : x < 4294967296
 
 -- one word behind what was read and written, of which the words from m on are the last part and those from n on all
-pub record Spare (words : List ℕ) (a : Read) (n m tag : ℕ) : Type 0 where
+pub record Spare (words : List ℕ) (b : Read) (n m tag : ℕ) : Type 0 where
   pub order : n ≤ m
   pub small_tag : tag < 256
-  pub spare : (j e t : ℕ) → a ≡ At j e t → (m ≤ e) × (e < length words) × (e < n + 16777215)
+  pub spare : (m ≤ b.word) × (b.word < length words) × (b.word < n + 16777215)

@@ -1,11 +1,13 @@
 -- The grammar of expressions once more, over prepared token words and with code in place of trees: what the functions here yield.
 -- The crate `reader` shows that it is the meaning's grammar with the code of each tree.
-use Rattle.std.specs.Prelude.{ℕ, zero, suc, ◌+◌, ◌-◌, ◌*◌, ◌/◌, ◌%◌, Bool, ◌&&◌, List, [], ◌∷◌, ◌++◌, length, get_or, take, eqb, leb}
+use Rattle.std.specs.Prelude.{ℕ, zero, suc, ◌+◌, ◌-◌, ◌*◌, ◌/◌, ◌%◌, Bool, ◌&&◌, List, [], ◌∷◌, ◌++◌, length, get_or, take, eqb, leb, Option, Some, None, Result, Ok, Err}
 use Rattle.meaning.specs.Basics.{if◌then◌otherwise◌}
 use Rattle.meaning.specs.Token.{a_name, digits, a_string, word_none, word_true, word_false, dot, comma, open_paren, close_paren, open_bracket, close_bracket, minus, doubled}
 use Rattle.meaning.specs.Grammar.{Got, good, wrong, after, Inside, no_level, level, opening}
 use Rattle.expressions.specs.declared.Read.{Read}
-use Rattle.expressions.specs.declared.Read.TheVariants.{At, Wrong}
+use Rattle.expressions.specs.declared.Misfit.{Misfit}
+use Rattle.expressions.specs.declared.Target.{Target}
+use Rattle.expressions.specs.declared.Target.TheVariants.{Neither, Name, Entry}
 use Rattle.machine.specs.Opcodes.{word, tag_number, tag_string, tag_none, tag_truth, tag_name, tag_table, tag_entry, tag_call, tag_argument}
 use Rattle.code.specs.Code.{joined}
 
@@ -54,33 +56,33 @@ negative_at ws i = is digits ws i && leb (payload_at ws i) 2147483648
 abbrev pub minus_bits : ℕ → ℕ
 minus_bits n = (4294967296 - n) % 4294967296
 
--- the tag of an operator's kind, 0 if it is none
-unfoldable pub operator_tag : ℕ → ℕ
+-- the tag of an operator's kind
+unfoldable pub operator_tag : ℕ → Option ℕ
 operator_tag k =
-    if eqb k (doubled 43) then (λ _. 16)
-    otherwise λ _. if eqb k 43 then (λ _. 17)
-    otherwise λ _. if eqb k 45 then (λ _. 18)
-    otherwise λ _. if eqb k 42 then (λ _. 19)
-    otherwise λ _. if eqb k 47 then (λ _. 20)
-    otherwise λ _. if eqb k 37 then (λ _. 21)
-    otherwise λ _. if eqb k (doubled 62) then (λ _. 22)
-    otherwise λ _. if eqb k (doubled 60) then (λ _. 23)
-    otherwise λ _. if eqb k (doubled 61) then (λ _. 24)
-    otherwise λ _. if eqb k (doubled 33) then (λ _. 25)
-    otherwise λ _. if eqb k 62 then (λ _. 26)
-    otherwise λ _. if eqb k 60 then (λ _. 27)
-    otherwise λ _. 0
+    if eqb k (doubled 43) then (λ _. Some 16)
+    otherwise λ _. if eqb k 43 then (λ _. Some 17)
+    otherwise λ _. if eqb k 45 then (λ _. Some 18)
+    otherwise λ _. if eqb k 42 then (λ _. Some 19)
+    otherwise λ _. if eqb k 47 then (λ _. Some 20)
+    otherwise λ _. if eqb k 37 then (λ _. Some 21)
+    otherwise λ _. if eqb k (doubled 62) then (λ _. Some 22)
+    otherwise λ _. if eqb k (doubled 60) then (λ _. Some 23)
+    otherwise λ _. if eqb k (doubled 61) then (λ _. Some 24)
+    otherwise λ _. if eqb k (doubled 33) then (λ _. Some 25)
+    otherwise λ _. if eqb k 62 then (λ _. Some 26)
+    otherwise λ _. if eqb k 60 then (λ _. Some 27)
+    otherwise λ _. None
 
 -- ---- expressions
--- the code of an expression, and what it is as an assignment's left side: 1 a name, 2 an entry, 0 neither
+-- the code of an expression, and what it is as an assignment's left side
 pub record Piece : Type 0 where
   pub code : List ℕ
-  pub target : ℕ
+  pub target : Target
 
-abbrev pub piece : List ℕ → ℕ → Piece
+abbrev pub piece : List ℕ → Target → Piece
 piece c t = record { code = c; target = t }
 
-abbrev pub leaf : ℕ → ℕ → ℕ → ℕ → Got Piece
+abbrev pub leaf : ℕ → ℕ → Target → ℕ → Got Piece
 leaf tag n target j = good (piece (word tag 1 n ∷ []) target) j
 
 abbrev pub ReadPiece : Type 0
@@ -113,34 +115,33 @@ table_code c = c ++ (word tag_table (length c + 1) 0 ∷ [])
 
 unfoldable pub primary : Inside ReadPiece → List ℕ → ℕ → Got Piece
 primary inside ws i =
-    if positive_at ws i then (λ _. leaf tag_number (payload_at ws i) 0 (i + 1))
+    if positive_at ws i then (λ _. leaf tag_number (payload_at ws i) Neither (i + 1))
     otherwise λ _. if signed_at ws i then (λ _.
-    if negative_at ws (i + 1) then (λ _. leaf tag_number (minus_bits (payload_at ws (i + 1))) 0 (i + 2))
+    if negative_at ws (i + 1) then (λ _. leaf tag_number (minus_bits (payload_at ws (i + 1))) Neither (i + 2))
     otherwise λ _. wrong 10 (i + 1))
-    otherwise λ _. if is a_string ws i then (λ _. leaf tag_string (part_at ws i) 0 (i + 1))
-    otherwise λ _. if is word_none ws i then (λ _. leaf tag_none 0 0 (i + 1))
-    otherwise λ _. if is word_true ws i then (λ _. leaf tag_truth 1 0 (i + 1))
-    otherwise λ _. if is word_false ws i then (λ _. leaf tag_truth 0 0 (i + 1))
+    otherwise λ _. if is a_string ws i then (λ _. leaf tag_string (part_at ws i) Neither (i + 1))
+    otherwise λ _. if is word_none ws i then (λ _. leaf tag_none 0 Neither (i + 1))
+    otherwise λ _. if is word_true ws i then (λ _. leaf tag_truth 1 Neither (i + 1))
+    otherwise λ _. if is word_false ws i then (λ _. leaf tag_truth 0 Neither (i + 1))
     otherwise λ _. if is a_name ws i then (λ _.
     if is open_paren ws (i + 1) then (λ _.
-    opening inside (i + 1) λ inner. after (arguments inner ws (i + 2)) λ es j. good (piece (call_code (callee_at ws i) es) 0) j)
-    otherwise λ _. leaf tag_name (home_at ws i) 1 (i + 1))
+    opening inside (i + 1) λ inner. after (arguments inner ws (i + 2)) λ es j. good (piece (call_code (callee_at ws i) es) Neither) j)
+    otherwise λ _. leaf tag_name (home_at ws i) Name (i + 1))
     otherwise λ _. if is open_paren ws i then (λ _.
-    opening inside i λ inner. after (inner (i + 1)) λ e j. expect close_paren ws j (piece e.code 0))
+    opening inside i λ inner. after (inner (i + 1)) λ e j. expect close_paren ws j (piece e.code Neither))
     otherwise λ _. if is open_bracket ws i then (λ _.
-    opening inside i λ inner. after (inner (i + 1)) λ e j. expect close_bracket ws j (piece (table_code e.code) 0))
+    opening inside i λ inner. after (inner (i + 1)) λ e j. expect close_bracket ws j (piece (table_code e.code) Neither))
     otherwise λ _. wrong 10 i
 
 unfoldable pub operand : Inside ReadPiece → List ℕ → ℕ → Got Piece
 operand inside ws i =
     after (primary inside ws i) λ a j.
-    if is dot ws j then (λ _. after (primary inside ws (j + 1)) λ b m. good (piece (joined tag_entry a.code b.code) 2) m)
+    if is dot ws j then (λ _. after (primary inside ws (j + 1)) λ b m. good (piece (joined tag_entry a.code b.code) Entry) m)
     otherwise λ _. good a j
 
-unfoldable pub operated : ℕ → Inside ReadPiece → List ℕ → Piece → ℕ → Got Piece
-operated tag inside ws a j =
-    if eqb tag 0 then (λ _. good a j)
-    otherwise λ _. after (operand inside ws (j + 1)) λ b m. good (piece (joined tag a.code b.code) 0) m
+unfoldable pub operated : Option ℕ → Inside ReadPiece → List ℕ → Piece → ℕ → Got Piece
+operated None inside ws a j = good a j
+operated (Some tag) inside ws a j = after (operand inside ws (j + 1)) λ b m. good (piece (joined tag a.code b.code) Neither) m
 
 unfoldable pub expression_in : Inside ReadPiece → List ℕ → ℕ → Got Piece
 expression_in inside ws i = after (operand inside ws i) λ a j. operated (operator_tag (kind_at ws j)) inside ws a j
@@ -157,12 +158,12 @@ inside_of (suc left) ws = level (expression left ws)
 -- ---- what the code's answers say
 -- what was read, with the first words of the slice; where nothing was, those are left open
 pub data Seen : Type 0 where
-  at : ℕ → ℕ → ℕ → List ℕ → Seen
+  at : ℕ → ℕ → Target → List ℕ → Seen
   failed : ℕ → ℕ → Seen
 
-unfoldable pub seen : Read → List ℕ → Seen
-seen (At j m t) slice = at j m t (take m slice)
-seen (Wrong n p) slice = failed n p
+unfoldable pub seen : Result Read Misfit → List ℕ → Seen
+seen (Ok r) slice = at r.token r.word r.target (take r.word slice)
+seen (Err e) slice = failed e.number e.token
 
 -- code written behind the first n words of a slice
 unfoldable pub written : Got Piece → ℕ → List ℕ → Seen
@@ -170,5 +171,5 @@ written (good e j) n slice = at j (n + length e.code) e.target (take n slice ++ 
 written (wrong k p) n slice = failed k p
 
 unfoldable pub written_code : Got (List ℕ) → ℕ → List ℕ → Seen
-written_code (good c j) n slice = at j (n + length c) 0 (take n slice ++ c)
+written_code (good c j) n slice = at j (n + length c) Neither (take n slice ++ c)
 written_code (wrong k p) n slice = failed k p

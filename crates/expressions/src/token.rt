@@ -1,6 +1,6 @@
 // Token words, each read as 0 behind the last.
 ghost use Rattle.std.specs.Prelude.{◌≡◌};
-ghost use Rattle.expressions.specs.Words.{kind_at, place_at, payload_at, home_at, procedure_at, callee_at, part_at, operator_tag};
+ghost use Rattle.expressions.specs.Words.{kind_at, place_at, payload_at, home_at, procedure_at, callee_at, part_at, signed_at, operator_tag};
 
 use crate::kinds;
 use machine::tags;
@@ -47,6 +47,14 @@ pub fn callee_at(tokens: &[u64], i: usize) -> u64
     x / 4294967296 + 16 * (x / 65536 % 65536)
 }
 
+// Whether digits stand directly behind the minus that is token i.
+pub fn is_signed(tokens: &[u64], i: usize) -> bool
+    requires { kind_at tokens.now i ≡ 45 }
+    ensures { result ≡ signed_at tokens.now i }
+{
+    kind_at(tokens, i + 1) == kinds::DIGITS && place_at(tokens, i + 1) == place_at(tokens, i) + 1
+}
+
 // Where the text of the string that token i is stands in the program, and how long it is, of the first token with that string.
 pub fn part_at(tokens: &[u64], i: usize) -> u64
     ensures { result ≡ part_at tokens.now i }
@@ -59,11 +67,11 @@ pub fn part_at(tokens: &[u64], i: usize) -> u64
     place_at(tokens, home) + 1 + 65536 * (size - 2)
 }
 
-// The tag of an operator, 0 for any other kind of token.
-pub fn operator_tag(kind: u64) -> u64
+// The tag of an operator; none for any other kind of token.
+pub fn operator_tag(kind: u64) -> Option<u64>
     ensures { result ≡ operator_tag kind }
 {
-    match kind {
+    let tag = match kind {
         kinds::TWO_PLUS => tags::CONCATENATE,
         kinds::PLUS => tags::ADD,
         kinds::MINUS => tags::SUBTRACT,
@@ -76,6 +84,7 @@ pub fn operator_tag(kind: u64) -> u64
         kinds::UNEQUAL => tags::UNEQUAL,
         kinds::GREATER => tags::GREATER,
         kinds::LESS => tags::LESS,
-        _ => 0,
-    }
+        _ => return None,
+    };
+    Some(tag)
 }

@@ -2,15 +2,15 @@
 use Prim.Native.Nat.{ℕ, ◌≤◌}
 use native.Mathlib.Nat.{zero-add}
 use native.Mathlib.Omega.{arith}
-use mathlib.Core.Path.{◌≡◌, ap, sym, ◌∙◌, subst}
+use mathlib.Core.Path.{◌≡◌, ◌∙◌}
 use mathlib.Core.List.{List}
 use lib.ListN.{length, take, length-map}
 use Rattle.meaning.specs.Tree.{Program}
 use Rattle.meaning.specs.Grammar.{reading}
 use Rattle.canonical.specs.Text.{program_text}
 use Rattle.canonical.specs.Call.{text_read, text}
+use Rattle.std.specs.Prelude.{Ok}
 use Rattle.reader.specs.declared.Program as Declared
-use Rattle.reader.specs.declared.Program.TheVariants.{Formed}
 use Rattle.reader.specs.Coded.{words_of}
 use Rattle.reader.specs.Reading.{tokens_in, seen, coded, Kept}
 use Rattle.reader.proofs.Lexing.{lexed_sane}
@@ -34,20 +34,19 @@ whole_says program code d m short w =
     (length (words_of ts)) (zero-add (length (words_of ts)) ∙ length-map ts _)
 
 -- ---- behind `reader::read`
-module _ (program words code : List ℕ) (short : length program ≤ 32768) (r : Declared.Program) (left : seen r code ≡ coded (tokens_in program) (reading program))
-    (kept : Kept r (tokens_in program) words) (d n k : ℕ) (is : r ≡ Formed d n k) where
-  so : (m : Program) × Whole program code d m
-  so = whole program code d n k (ap (λ (x : Declared.Program). seen x code) (sym is) ∙ left)
+module _ (program words code : List ℕ) (short : length program ≤ 32768) (r : Declared.Program) (left : seen (Ok r) code ≡ coded (tokens_in program) (reading program))
+    (kept : Kept (Ok r) (tokens_in program) words) where
+  so : (m : Program) × Whole program code r.main m
+  so = whole program code r left
 
   -- there are at most 8,192 tokens
-  pub tokens_counted : k ≤ 8192
+  pub tokens_counted : r.tokens ≤ 8192
   unfolding Kept
-  tokens_counted = let h = subst (λ (x : Declared.Program). Kept x (tokens_in program) words) is kept in omega (arith, h.0, so.1.read.few)
+  tokens_counted = omega (arith, kept.0, so.1.read.few)
 
   -- WHAT IS WRITTEN IS THE TEXT
-  pub faithful : raw_text (source program (take k words) code) ≡ text program
+  pub faithful : raw_text (source program (take r.tokens words) code) ≡ text program
   unfolding Kept text_read
   faithful =
-      let h = subst (λ (x : Declared.Program). Kept x (tokens_in program) words) is kept in
       let w = so.1 in
-      rw (h.1, w.read.is) (whole_says program code d so.0 short w)
+      rw (kept.1, w.read.is) (whole_says program code r.main so.0 short w)

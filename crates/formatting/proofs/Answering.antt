@@ -18,8 +18,9 @@ use Rattle.lending.specs.Lending.{enough_to_read}
 use Rattle.writing.specs.Placed.{laid_at, saturated, WroteAt}
 use Rattle.checking.specs.Checking.{called_with, Lent, read_answer}
 use Rattle.checking.proofs.Answered.{refused_answer, refused_work, admitted_answer, cleared_work, lent, read_long, read_formed, read_malformed}
+use Rattle.std.specs.Prelude.{Ok, Err}
 use Rattle.reader.specs.declared.Program as Declared
-use Rattle.reader.specs.declared.Program.TheVariants.{Formed, Malformed}
+use Rattle.reader.specs.declared.Malformed.{Malformed}
 use Rattle.reader.specs.Reading.{tokens_in, seen, coded, Kept}
 use Rattle.reader.proofs.Whole.{whole}
 use Rattle.phrases.specs.Raw.{source}
@@ -80,22 +81,22 @@ module _ (program out : List ℕ) where
   text_written t r out' e s f = record { answered = rw (sym e, sym s) f.answered; out_after = rw (sym e, sym s) f.out_after }
 
 -- behind `reader::read`
-module _ (program words code : List ℕ) (short : length program ≤ 32768) (p : Declared.Program) (left : seen p code ≡ coded (tokens_in program) (reading program))
-    (kept : Kept p (tokens_in program) words) (d n k : ℕ) (is : p ≡ Formed d n k) where
-  pub tokens_within : 8193 ≤ length words → k ≤ length words
-  tokens_within h = omega (arith, tokens_counted program words code short p left kept d n k is)
+module _ (program words code : List ℕ) (short : length program ≤ 32768) (p : Declared.Program) (left : seen (Ok p) code ≡ coded (tokens_in program) (reading program))
+    (kept : Kept (Ok p) (tokens_in program) words) where
+  pub tokens_within : 8193 ≤ length words → p.tokens ≤ length words
+  tokens_within h = omega (arith, tokens_counted program words code short p left kept)
 
-  pub raw_bounded : length (raw_text (source program (take k words) code)) < 2 ^ 64
+  pub raw_bounded : length (raw_text (source program (take p.tokens words) code)) < 2 ^ 64
   raw_bounded =
-      let w = whole program code d n k (ap (λ (x : Declared.Program). seen x code) (sym is) ∙ left) in
-      rw (faithful program words code short p left kept d n k is) (text_bounded program w.0 short w.1.read)
+      let w = whole program code p left in
+      rw (faithful program words code short p left kept) (text_bounded program w.0 short w.1.read)
 
-  pub formed_written : (out : List ℕ) (r : Answered.Answer) (out' : List ℕ) → Fitted (raw_text (source program (take k words) code)) out r out' → Written program out r out'
-  formed_written out r out' f = text_written program out _ r out' (read_formed program short p code left d n k is) (faithful program words code short p left kept d n k is) f
+  pub formed_written : (out : List ℕ) (r : Answered.Answer) (out' : List ℕ) → Fitted (raw_text (source program (take p.tokens words) code)) out r out' → Written program out r out'
+  formed_written out r out' f = text_written program out _ r out' (read_formed program short code p left) (faithful program words code short p left kept) f
 
-pub malformed_written : (program out code : List ℕ) → length program ≤ 32768 → (p : Declared.Program) → seen p code ≡ coded (tokens_in program) (reading program)
-    → (k i : ℕ) → p ≡ Malformed k i → Written program out (Number k i 0 0) out
-malformed_written program out code short p left k i is = number_written program out k i (read_malformed program short p code left k i is)
+pub malformed_written : (program out code : List ℕ) → length program ≤ 32768 → (m : Malformed) → seen (Err m) code ≡ coded (tokens_in program) (reading program)
+    → Written program out (Number m.number m.place 0 0) out
+malformed_written program out code short m left = number_written program out m.number m.place (read_malformed program short code m left)
 
 pub long_written : (program out : List ℕ) → 32768 < length program → Written program out (Number 73 0 0 0) out
 long_written program out h = number_written program out 73 0 (read_long program h)

@@ -8,7 +8,6 @@ ghost use Rattle.formatter.specs.Raw.{raw_text};
 ghost use Rattle.formatting.specs.Formatting.{Formatted, Written, Fitted};
 
 use answers::Answer;
-use reader::Program;
 
 // A text is at most as long as a program may be.
 const LONGEST: usize = 32768;
@@ -42,10 +41,9 @@ fn write_read(program: &[u8], tokens: &mut [u64], code: &mut [u64], out: &mut [u
     if LONGEST < program.len() {
         return Answer::Number(73, 0, 0, 0);
     }
-    let p = reader::read(program, tokens, code);
-    match p {
-        Program::Formed(_, _, n) => write_fitting(program, &tokens[..n], code, out),
-        Program::Malformed(k, at) => Answer::Number(k, at as u64, 0, 0),
+    match reader::read(program, tokens, code) {
+        Ok(p) => write_fitting(program, &tokens[..p.tokens], code, out),
+        Err(m) => Answer::Number(m.number, m.place as u64, 0, 0),
     }
 }
 

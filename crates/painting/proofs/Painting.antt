@@ -18,8 +18,9 @@ use Rattle.meaning.specs.Book.{Amounts, nothing_yet}
 use Rattle.meaning.specs.Program.{empty, sheet, sized, named_apart, understood, entering, painting}
 use Rattle.meaning.specs.Procedure.{is_among, any_twice, doubled}
 use Rattle.code.specs.Code.{slot_of, code_of_statements}
+use Rattle.std.specs.Prelude.{Ok, Err}
 use Rattle.reader.specs.declared.Program.{Program}
-use Rattle.reader.specs.declared.Program.TheVariants.{Formed, Malformed}
+use Rattle.reader.specs.declared.Malformed.{Malformed}
 use Rattle.reader.specs.Reading.{refused, seen, coded_apart, coded, tokens_in}
 use Rattle.reader.proofs.Trees.{procedures_understood}
 use Rattle.reader.proofs.Tables.{parameters_told, head_some, named_understood}
@@ -125,46 +126,46 @@ main_parameters program code d m short s =
     (parameters_told l.start (length m.main.parameters) (length (code_of_statements m.main.body ts)) (omega (arith, l.within, all.short, s.read.few))
     (omega (arith, u.short, s.read.few)))
 
-module _ (program code g texts words : List ℕ) (short : length program ≤ 32768) (width height : ℤ) (r : Program)
-    (left : seen r code ≡ coded (tokens_in program) (reading program)) where
+module _ (program code g texts words : List ℕ) (short : length program ≤ 32768) (width height : ℤ) where
   -- ---- a number
   module _ (steps : get_or words steps_used 0 ≡ 0) where
-    pub read_malformed : (k i : ℕ) → r ≡ Malformed k i → Ran program g (reading_run program width height g) (Stopped k i) texts words
+    pub read_malformed : (r : Malformed) → seen (Err r) code ≡ coded (tokens_in program) (reading program)
+        → Ran program g (reading_run program width height g) (Stopped r.number r.place) texts words
     unfolding seen coded coded_apart paint_read shown_ending understood named_apart Run.◌>>=◌ Run.go_on Run.fail
-    read_malformed k i q = go (reading program) (ap (λ (a : Program). seen a code) (sym q) ∙ left)
+    read_malformed r left = go (reading program) left
       where
-        by_name : (m : Tree.Program) (n : Option ℕ) → doubled [] m.procedures ≡ n → refused k i ≡ coded_apart (tokens_in program) m.procedures n
-            → Ran program g (paint_read (well_formed m) width height (suc (steps_granted g)) empty) (Stopped k i) texts words
+        by_name : (m : Tree.Program) (n : Option ℕ) → doubled [] m.procedures ≡ n → refused r.number r.place ≡ coded_apart (tokens_in program) m.procedures n
+            → Ran program g (paint_read (well_formed m) width height (suc (steps_granted g)) empty) (Stopped r.number r.place) texts words
         by_name m none d h = formed_refused (sym h)
         by_name m (some p) d h =
-            let x : k ≡ 60 = cc in
-            let y : i ≡ p = cc in
+            let x : r.number ≡ 60 = cc in
+            let y : r.place ≡ p = cc in
             record { follows = λ granted gr. rw (x, y, d) (failed 60 p (raw texts words) steps) }
 
-        go : (m : Reading) → seen (Malformed k i) code ≡ coded (tokens_in program) m
-            → Ran program g (paint_read m width height (suc (steps_granted g)) empty) (Stopped k i) texts words
+        go : (m : Reading) → seen (Err r) code ≡ coded (tokens_in program) m
+            → Ran program g (paint_read m width height (suc (steps_granted g)) empty) (Stopped r.number r.place) texts words
         go (well_formed m) h = by_name m (doubled [] m.procedures) refl h
         go (malformed n p) h =
-            let x : k ≡ n = cc in
-            let y : i ≡ p = cc in
+            let x : r.number ≡ n = cc in
+            let y : r.place ≡ p = cc in
             record { follows = λ granted gr. rw (x, y) (failed n p (raw texts words) steps) }
 
   -- ---- a program
-  module _ (d n t : ℕ) (is-formed : r ≡ Formed d n t) where
+  module _ (r : Program) (left : seen (Ok r) code ≡ coded (tokens_in program) (reading program)) where
     abbrev Shows : Ending → List ℕ → List ℕ → Type 0
-    Shows e ts ws = (m : Tree.Program) → Whole program code d m → Ran program g (paint_read (well_formed m) width height (suc (steps_granted g)) empty) e ts ws
+    Shows e ts ws = (m : Tree.Program) → Whole program code r.main m → Ran program g (paint_read (well_formed m) width height (suc (steps_granted g)) empty) e ts ws
 
     by_program : (e : Ending) (ts ws : List ℕ) → Shows e ts ws → Ran program g (reading_run program width height g) e ts ws
     by_program e ts ws f =
-        let w = whole program code d n t (ap (λ (a : Program). seen a code) (sym is-formed) ∙ left) in
+        let w = whole program code r left in
         rw w.1.read.is (f w.0 w.1)
 
-    pub read_parameters : get_or words steps_used 0 ≡ 0 → (parameters_in d ≡ 2 → ⊥) → Ran program g (reading_run program width height g) (Stopped 20 0) texts words
+    pub read_parameters : get_or words steps_used 0 ≡ 0 → (parameters_in r.main ≡ 2 → ⊥) → Ran program g (reading_run program width height g) (Stopped 20 0) texts words
     unfolding paint_read shown_ending understood named_apart entering Run.◌>>=◌ Run.go_on Run.fail Run.give
     read_parameters steps l = by_program (Stopped 20 0) texts words (λ m s. by_names m s m.main.parameters refl
-        (λ q. l (main_parameters program code d m short s ∙ q)))
+        (λ q. l (main_parameters program code r.main m short s ∙ q)))
       where
-        by_names : (m : Tree.Program) → Whole program code d m → (xs : List (List ℕ)) → m.main.parameters ≡ xs → (length m.main.parameters ≡ 2 → ⊥)
+        by_names : (m : Tree.Program) → Whole program code r.main m → (xs : List (List ℕ)) → m.main.parameters ≡ xs → (length m.main.parameters ≡ 2 → ⊥)
             → Ran program g (paint_read (well_formed m) width height (suc (steps_granted g)) empty) (Stopped 20 0) texts words
         by_names m s [] q l = record { follows = λ granted gr. rw (s.different, q) (failed 20 0 (raw texts words) steps) }
         by_names m s (x ∷ []) q l = record { follows = λ granted gr. rw (s.different, q) (failed 20 0 (raw texts words) steps) }
@@ -172,20 +173,20 @@ module _ (program code g texts words : List ℕ) (short : length program ≤ 327
         by_names m s (x ∷ y ∷ z ∷ xs) q l = record { follows = λ granted gr. rw (s.different, q) (failed 20 0 (raw texts words) steps) }
 
     -- its variables numbered
-    module _ (table code' table' : List ℕ) (word : ℕ) (counted : t ≡ length (tokens_in program)) (room : 8192 ≤ length table)
-        (pass : Pass.pass code' table' word ≡ number_all d t code table) where
-      pub read_body : parameters_in d ≡ 2 → (lent : Lent g texts words) (blank : Blank g words) → mag width < 2 ^ 31 → mag height < 2 ^ 31
+    module _ (table code' table' : List ℕ) (word : ℕ) (counted : r.tokens ≡ length (tokens_in program)) (room : 8192 ≤ length table)
+        (pass : Pass.pass code' table' word ≡ number_all r.main r.tokens code table) where
+      pub read_body : parameters_in r.main ≡ 2 → (lent : Lent g texts words) (blank : Blank g words) → mag width < 2 ^ 31 → mag height < 2 ^ 31
           → (e : Ending) (ts ws : List ℕ) → shown_ending e ts ws ≡ main_run (setting program code' g) word width height (raw texts words)
           → Ran program g (reading_run program width height g) e ts ws
       read_body two lent blank w-small h-small e ts ws h =
-          by_program e ts ws (λ m s. by_names m s m.main.parameters refl (sym (main_parameters program code d m short s) ∙ two))
+          by_program e ts ws (λ m s. by_names m s m.main.parameters refl (sym (main_parameters program code r.main m short s) ∙ two))
         where
-          by_names : (m : Tree.Program) → Whole program code d m → (xs : List (List ℕ)) → m.main.parameters ≡ xs → length m.main.parameters ≡ 2
+          by_names : (m : Tree.Program) → Whole program code r.main m → (xs : List (List ℕ)) → m.main.parameters ≡ xs → length m.main.parameters ≡ 2
               → Ran program g (paint_read (well_formed m) width height (suc (steps_granted g)) empty) e ts ws
           by_names m s [] q l = absurd (omega (arith, sym (ap (λ (k : List (List ℕ)). length k) q) ∙ l))
           by_names m s (x ∷ []) q l = absurd (omega (arith, sym (ap (λ (k : List (List ℕ)). length k) q) ∙ l))
           by_names m s (x ∷ y ∷ []) q l =
-              let n = number_whole program code table d t m short s counted room code' table' word pass in
+              let n = number_whole program code table r.main r.tokens m short s counted room code' table' word pass in
               record {
                 follows = λ granted gr. rw (h, n.told ∙ sym n.main.word)
                     (main_paints program code' g short (tokens_in program) m s.read s.different n.each texts words lent blank width height w-small h-small gr x y q);

@@ -5,8 +5,9 @@ use mathlib.Core.Bool.{Bool, true, false}
 use mathlib.Core.List.{List, [], ◌∷◌}
 use mathlib.Core.Option.{Option, none, some}
 use lib.ListN.{length, length-map}
-use lib.Dec.{eqb}
 use borrow.Author.Tests.{eqb-true}
+use Rattle.std.specs.Prelude.{Some, None}
+use Rattle.std.specs.Prelude as Std
 use Rattle.meaning.specs.Basics.{if◌then◌otherwise◌}
 use Rattle.meaning.specs.Token.{Token}
 use Rattle.meaning.specs.Tree.{Operator, concatenate, add, subtract, multiply, divide, remainder, shift_right, shift_left, equal, unequal, greater, less, Expression}
@@ -14,19 +15,19 @@ use Rattle.meaning.specs.Grammar.{kind_at, expect, operator_of, Inside, ReadExpr
 use Rattle.names.specs.Prepared.{prepared}
 use Rattle.machine.specs.Opcodes.{word, tag_number, tag_string, tag_name, tag_of}
 use Rattle.code.specs.Code.{code_of_all, arguments_with, code_with}
+use Rattle.expressions.specs.declared.Target.TheVariants.{Neither, Name}
 use Rattle.expressions.specs.Words as Words
-use Rattle.reader.specs.Coded.{words_of, map_got, target_number, piece_of, inside_of}
+use Rattle.reader.specs.Coded.{words_of, map_got, side_of, piece_of, inside_of}
 use Rattle.reader.specs.Sane.{Sane}
 use Rattle.reader.proofs.Fields.{kind_at_lem, is_at, positive_at_lem, negative_at_lem, signed_at_lem, positive_bits, negative_bits, part_at, name_home_at, callee_at}
 use Rattle.reader.proofs.Mapped.{Maps, Levels, neither, both, maps_good, maps_wrong, maps_if, maps_after, maps_opening}
 
 -- ---- operators
--- an operator's tag, 0 for none
-unfoldable pub tag_for : Option Operator → ℕ
-tag_for none = 0
-tag_for (some o) = tag_of o
+unfoldable pub tag_for : Option Operator → Std.Option ℕ
+tag_for none = None
+tag_for (some o) = Some (tag_of o)
 
-tag_if : (b : Bool) (t u : Unit {0} → ℕ) (t' u' : Unit {0} → Option Operator)
+tag_if : (b : Bool) (t u : Unit {0} → Std.Option ℕ) (t' u' : Unit {0} → Option Operator)
     → t tt ≡ tag_for (t' tt)
     → u tt ≡ tag_for (u' tt)
     → (if b then t otherwise u) ≡ tag_for (if b then t' otherwise u')
@@ -39,21 +40,6 @@ unfolding Words.operator_tag operator_of tag_for tag_of
 operator_tag k =
     tag_if _ _ _ _ _ refl (tag_if _ _ _ _ _ refl (tag_if _ _ _ _ _ refl (tag_if _ _ _ _ _ refl (tag_if _ _ _ _ _ refl (tag_if _ _ _ _ _ refl
     (tag_if _ _ _ _ _ refl (tag_if _ _ _ _ _ refl (tag_if _ _ _ _ _ refl (tag_if _ _ _ _ _ refl (tag_if _ _ _ _ _ refl (tag_if _ _ _ _ _ refl refl)))))))))))
-
-pub tag_nonzero : (o : Operator) → eqb (tag_of o) 0 ≡ false
-unfolding tag_of
-tag_nonzero concatenate = refl
-tag_nonzero add = refl
-tag_nonzero subtract = refl
-tag_nonzero multiply = refl
-tag_nonzero divide = refl
-tag_nonzero remainder = refl
-tag_nonzero shift_right = refl
-tag_nonzero shift_left = refl
-tag_nonzero equal = refl
-tag_nonzero unequal = refl
-tag_nonzero greater = refl
-tag_nonzero less = refl
 
 -- two readers of expressions, the first over words
 abbrev pub Reads : List Token → Words.ReadPiece → ReadExpression → Type 0
@@ -83,24 +69,24 @@ module _ (ts : List Token) (sane : Sane ts) where
 
   pub primary_maps : {x : Inside Words.ReadPiece} {y : Inside ReadExpression} → Levels (Reads ts) x y
       → (i : ℕ) → Maps (piece_of ts) (Words.primary x (words_of ts) i) (primary y ts i)
-  unfolding primary Words.primary piece_of code_with target_number
+  unfolding primary Words.primary piece_of code_with side_of
   primary_maps l i =
       maps_if _ _ _ _ _ _ (positive_at_lem ts sane i)
-      (λ e. maps_good (ap (λ n. Words.piece (word tag_number 1 n ∷ []) 0) (positive_bits ts sane i e)))
+      (λ e. maps_good (ap (λ n. Words.piece (word tag_number 1 n ∷ []) Neither) (positive_bits ts sane i e)))
       λ _. maps_if _ _ _ _ _ _ (signed_at_lem ts sane i)
       (λ _. maps_if _ _ _ _ _ _ (negative_at_lem ts sane (i + 1))
-      (λ e. maps_good (ap (λ n. Words.piece (word tag_number 1 n ∷ []) 0) (negative_bits ts sane (i + 1) e)))
+      (λ e. maps_good (ap (λ n. Words.piece (word tag_number 1 n ∷ []) Neither) (negative_bits ts sane (i + 1) e)))
       λ _. maps_wrong)
       λ _. maps_if _ _ _ _ _ _ (is_at ts sane _ i)
-      (λ e. maps_good (ap (λ n. Words.piece (word tag_string 1 n ∷ []) 0) (part_at ts sane i (eqb-true _ _ e))))
+      (λ e. maps_good (ap (λ n. Words.piece (word tag_string 1 n ∷ []) Neither) (part_at ts sane i (eqb-true _ _ e))))
       λ _. maps_if _ _ _ _ _ _ (is_at ts sane _ i) (λ _. maps_good refl)
       λ _. maps_if _ _ _ _ _ _ (is_at ts sane _ i) (λ _. maps_good refl)
       λ _. maps_if _ _ _ _ _ _ (is_at ts sane _ i) (λ _. maps_good refl)
       λ _. maps_if _ _ _ _ _ _ (is_at ts sane _ i)
       (λ e. maps_if _ _ _ _ _ _ (is_at ts sane _ (i + 1))
       (λ _. maps_opening _ _ _ l λ g f r. maps_after _ _ (arguments_maps r (i + 2)) λ es j _.
-      maps_good (ap (λ n. Words.piece (Words.call_code n (code_of_all es ts)) 0) (callee_at ts sane i (eqb-true _ _ e))))
-      λ _. maps_good (ap (λ n. Words.piece (word tag_name 1 n ∷ []) 1) (name_home_at ts sane i (eqb-true _ _ e))))
+      maps_good (ap (λ n. Words.piece (Words.call_code n (code_of_all es ts)) Neither) (callee_at ts sane i (eqb-true _ _ e))))
+      λ _. maps_good (ap (λ n. Words.piece (word tag_name 1 n ∷ []) Name) (name_home_at ts sane i (eqb-true _ _ e))))
       λ _. maps_if _ _ _ _ _ _ (is_at ts sane _ i)
       (λ _. maps_opening _ _ _ l λ g f r. maps_after _ _ (r (i + 1)) λ e j _. expect_maps _ j _ _ refl)
       λ _. maps_if _ _ _ _ _ _ (is_at ts sane _ i)
@@ -109,7 +95,7 @@ module _ (ts : List Token) (sane : Sane ts) where
 
   pub operand_maps : {x : Inside Words.ReadPiece} {y : Inside ReadExpression} → Levels (Reads ts) x y
       → (i : ℕ) → Maps (piece_of ts) (Words.operand x (words_of ts) i) (operand y ts i)
-  unfolding operand Words.operand piece_of code_with target_number
+  unfolding operand Words.operand piece_of code_with side_of
   operand_maps l i =
       maps_after _ _ (primary_maps l i) λ a j _.
       maps_if _ _ _ _ _ _ (is_at ts sane _ j)
@@ -119,10 +105,10 @@ module _ (ts : List Token) (sane : Sane ts) where
   pub operated_maps : {x : Inside Words.ReadPiece} {y : Inside ReadExpression} → Levels (Reads ts) x y
       → (o : Option Operator) (a : Expression) (j : ℕ)
       → Maps (piece_of ts) (Words.operated (tag_for o) x (words_of ts) (piece_of ts a) j) (operated o y ts a j)
-  unfolding operated Words.operated tag_for if◌then◌otherwise◌ piece_of code_with target_number
+  unfolding operated Words.operated tag_for if◌then◌otherwise◌ piece_of code_with side_of
   operated_maps l none a j = maps_good refl
   operated_maps l (some o) a j =
-      rw (tag_nonzero o) (maps_after _ _ (operand_maps l (j + 1)) λ b m _. maps_good refl)
+      maps_after _ _ (operand_maps l (j + 1)) λ b m _. maps_good refl
 
   pub expression_in_maps : {x : Inside Words.ReadPiece} {y : Inside ReadExpression} → Levels (Reads ts) x y
       → (i : ℕ) → Maps (piece_of ts) (Words.expression_in x (words_of ts) i) (expression_in y ts i)

@@ -9,6 +9,8 @@ use lib.ListN.{length, get_or, set, replicate, length-append, length-map, length
 use lib.Seq.{get_or-set_same, get_or-set_other}
 use lib.Dec.{eqb, ltb}
 use borrow.Author.Tests.{ne_eqb}
+use Rattle.std.specs.Prelude.{Some, None}
+use Rattle.std.specs.Prelude as Std
 use Rattle.meaning.specs.Basics.{bytes, if◌then◌otherwise◌, same_text}
 use Rattle.meaning.specs.Token.{Token, a_name}
 use Rattle.meaning.specs.Tree.{Procedure}
@@ -17,7 +19,7 @@ use Rattle.meaning.specs.Procedure.{is_among, in_library, doubled}
 use Rattle.meaning.specs.Library.{Library, library_of, draw_line, draw_ellipse, draw_box, draw_text, connect_shapes, draw_text_on_shape, x_coordinate, y_coordinate, destroy_shape, clear_scene, draw_group}
 use Rattle.names.specs.Prepared.{number_of, library_number, procedure_number}
 use Rattle.code.specs.Code.{slot_of, code_of_procedure, code_of_procedures, head_word, tabled, head_named}
-use Rattle.definitions.specs.Words.{Head, Gathered, main_word, first_twice, word_at, gather, gather_all, nothing, SeenWhole, whole, twice_at, failed_whole, settled, written_whole}
+use Rattle.definitions.specs.Words.{Head, Gathered, main_word, first_twice, word_at, gather, gather_all, nothing, SeenWhole, whole, twice_at, failed_whole, settled, settled_by, written_whole}
 use Rattle.reader.specs.Coded.{map_got, name_of, head_of}
 use Rattle.reader.specs.Reading.{Seen, formed, refused, coded_apart, coded}
 use Rattle.reader.proofs.Homes.{same_text_lem, text_same, Occurs, slot_small, slots_apart}
@@ -73,9 +75,9 @@ zero_at (suc n) zero = refl
 zero_at (suc n) (suc i) = zero_at n i
 
 -- one more than a place, 0 for none
-unfoldable twice_of : Option ℕ → ℕ
-twice_of none = 0
-twice_of (some p) = p + 1
+unfoldable twice_of : Option ℕ → Std.Option ℕ
+twice_of none = None
+twice_of (some p) = Some p
 
 -- ---- what is gathered
 module _ (ts : List Token) where
@@ -102,28 +104,29 @@ module _ (ts : List Token) where
   gathered_table [] a = refl
   gathered_table (f ∷ fs) a = gathered_table fs (gather a (head_of ts f)) ∙ rw (code_more a f, table_more a f)
 
-  -- main's word so far, or the next one
-  abbrev main_or : ℕ → ℕ → ℕ
-  main_or m h = cond (eqb m 0) h m
+  -- main's word so far, or the next one, 0 if there is none
+  unfoldable pub main_or : Std.Option ℕ → ℕ → Std.Option ℕ
+  main_or (Some m) h = Some m
+  main_or None h = if eqb h 0 then (λ _. None) otherwise λ _. Some h
 
-  main_kept : (m : ℕ) → main_or m 0 ≡ m
-  main_kept zero = refl
-  main_kept (suc m) = rw (ne_eqb (suc m) 0 (λ e. omega arith))
+  main_kept : (m : Std.Option ℕ) → main_or m 0 ≡ m
+  unfolding main_or if◌then◌otherwise◌
+  main_kept None = refl
+  main_kept (Some m) = refl
 
   main_more : (a : Gathered) (f : Procedure) → (gather a (head_of ts f)).main ≡ main_word a.main (procedure_number f.name) (head_word (length a.code) f ts)
   unfolding gather head_of name_of
   main_more a f = ap (main_word a.main (procedure_number f.name)) (word_so (length a.code) f)
 
-  main_turn : (m : ℕ) (x : List ℕ) (w h : ℕ) → 0 < w
+  main_turn : (m : Std.Option ℕ) (x : List ℕ) (w h : ℕ) → 0 < w
       → main_or (main_word m (procedure_number x) w) h ≡ main_or m (if same_text x (bytes "main") then (λ _. w) otherwise λ _. h)
-  unfolding main_word if◌then◌otherwise◌
-  main_turn m x w h p = rw (main_number x) (go m (same_text x (bytes "main")))
+  unfolding main_word main_or if◌then◌otherwise◌
+  main_turn (Some m) x w h p = refl
+  main_turn None x w h p = rw (main_number x) (go (same_text x (bytes "main")))
     where
-      go : (n : ℕ) (b : Bool) → main_or (if eqb n 0 && b then (λ _. w) otherwise λ _. n) h ≡ main_or n (if b then (λ _. w) otherwise λ _. h)
-      go zero true = rw (ne_eqb w 0 (λ e. omega arith))
-      go zero false = refl
-      go (suc n) true = let z = ne_eqb (suc n) 0 (λ e. omega arith) in rw (z, z)
-      go (suc n) false = let z = ne_eqb (suc n) 0 (λ e. omega arith) in rw (z, z)
+      go : (b : Bool) → main_or (if b then (λ _. Some w) otherwise λ _. None) h ≡ main_or None (if b then (λ _. w) otherwise λ _. h)
+      go true = rw (ne_eqb w 0 (λ e. omega arith))
+      go false = refl
 
   pub gathered_main : (fs : List Procedure) (a : Gathered) → (gather_all a (map (head_of ts) fs)).main ≡ main_or a.main (head_named (length a.code) fs ts (bytes "main"))
   unfolding gather_all head_named
@@ -133,16 +136,14 @@ module _ (ts : List Token) where
       ∙ rw (code_more a f, main_more a f) (main_turn a.main f.name (head_word (length a.code) f ts) _ (head_positive (length a.code) f ts))
 
   -- ---- names that stand twice
-  twice_stays : (hs : List Head) (a : Gathered) → (a.twice ≡ 0 → ⊥) → (gather_all a hs).twice ≡ a.twice
-  unfolding gather_all gather first_twice if◌then◌otherwise◌
-  twice_stays [] a h = refl
-  twice_stays (x ∷ hs) a h =
-      let q : (gather a x).twice ≡ a.twice = rw (ne_eqb a.twice 0 h) in
-      twice_stays hs (gather a x) (λ e. h (sym q ∙ e)) ∙ q
+  twice_stays : (hs : List Head) (a : Gathered) (p : ℕ) → a.twice ≡ Some p → (gather_all a hs).twice ≡ Some p
+  unfolding gather_all gather first_twice
+  twice_stays [] a p h = h
+  twice_stays (x ∷ hs) a p h = twice_stays hs (gather a x) p (rw h)
 
   -- the table says which names stand already
   record Stand (names : List (List ℕ)) (a : Gathered) : Type 0 where
-    none_yet : a.twice ≡ 0
+    none_yet : a.twice ≡ None
     long : length a.table ≡ 8192
     by_slot : (x : List ℕ) → Occurs ts a_name x → not (eqb (get_or a.table (slot_of ts x) 0) 0) ≡ is_among x names
 
@@ -150,7 +151,7 @@ module _ (ts : List Token) where
   again names x = is_among x names || in_library (library_of x)
 
   twice_turn : (names : List (List ℕ)) (a : Gathered) (f : Procedure) → Understood ts f → Stand names a
-      → (gather a (head_of ts f)).twice ≡ (if again names f.name then (λ _. f.place + 1) otherwise λ _. 0)
+      → (gather a (head_of ts f)).twice ≡ (if again names f.name then (λ _. Some f.place) otherwise λ _. None)
   unfolding gather head_of name_of first_twice
   twice_turn names a f u s = rw (s.none_yet, library_number_lem f.name, s.by_slot f.name u.name, or_turned (in_library (library_of f.name)) (is_among f.name names))
 
@@ -187,8 +188,8 @@ module _ (ts : List Token) where
           → (Stand (f.name ∷ names) (gather a (head_of ts f)) → (gather_all (gather a (head_of ts f)) (map (head_of ts) fs)).twice ≡ twice_of (doubled (f.name ∷ names) fs))
           → (gather_all (gather a (head_of ts f)) (map (head_of ts) fs)).twice ≡ twice_of (if b then (λ _. some f.place) otherwise λ _. doubled (f.name ∷ names) fs)
       go true e i =
-          let q : (gather a (head_of ts f)).twice ≡ f.place + 1 = twice_turn names a f u.0 s ∙ rw e in
-          twice_stays (map (head_of ts) fs) (gather a (head_of ts f)) (λ z. omega arith) ∙ q
+          let q : (gather a (head_of ts f)).twice ≡ Some f.place = twice_turn names a f u.0 s ∙ rw e in
+          twice_stays (map (head_of ts) fs) (gather a (head_of ts f)) f.place q
       go false e i = i (stand_more few names a f u.0 s e)
 
   first_stand : Stand [] nothing
@@ -209,24 +210,26 @@ module _ (ts : List Token) where
 
     settled_so : (fs : List Procedure) (j : ℕ) → UnderstoodAll ts fs → (o : Option Procedure) → procedure_named (bytes "main") fs ≡ o → (d : Option ℕ) → doubled [] fs ≡ d
         → to_seen (settled (length ts) (gather_all nothing (map (head_of ts) fs))) ≡ coded ts (read_of program ts (with_main ts fs j o))
-    unfolding to_seen settled coded coded_apart read_of with_main if◌then◌otherwise◌ twice_of
+    unfolding to_seen settled_by coded coded_apart read_of with_main main_or if◌then◌otherwise◌ twice_of
     settled_so fs j u none n d t =
-        let m : (gather_all nothing (map (head_of ts) fs)).main ≡ 0 = gathered_main fs nothing ∙ head_none 0 fs ts (bytes "main") n in
+        let m : (gather_all nothing (map (head_of ts) fs)).main ≡ None = gathered_main fs nothing ∙ rw (head_none 0 fs ts (bytes "main") n) in
         rw m
-    settled_so fs j u (some f) n none t =
-        let m : (gather_all nothing (map (head_of ts) fs)).main ≡ head_named 0 fs ts (bytes "main") = gathered_main fs nothing in
-        let q : head_named 0 fs ts (bytes "main") ≡ 0 → ⊥ = λ z. omega (arith, (head_some 0 fs ts (bytes "main") f n).some) in
-        let w : (gather_all nothing (map (head_of ts) fs)).twice ≡ 0 = gathered_twice few fs [] nothing u first_stand ∙ ap twice_of t in
-        let c : (gather_all nothing (map (head_of ts) fs)).code ≡ code_of_procedures fs ts = gathered_code fs nothing in
-        let b : (gather_all nothing (map (head_of ts) fs)).table ≡ tabled 0 fs ts (replicate 8192 0) = gathered_table fs nothing in
-        rw (m, ne_eqb _ _ q, w, t, c, b)
-    settled_so fs j u (some f) n (some p) t =
-        let m : (gather_all nothing (map (head_of ts) fs)).main ≡ head_named 0 fs ts (bytes "main") = gathered_main fs nothing in
-        let q : head_named 0 fs ts (bytes "main") ≡ 0 → ⊥ = λ z. omega (arith, (head_some 0 fs ts (bytes "main") f n).some) in
-        let w : (gather_all nothing (map (head_of ts) fs)).twice ≡ p + 1 = gathered_twice few fs [] nothing u first_stand ∙ ap twice_of t in
-        let z : p + 1 ≡ 0 → ⊥ = λ e. omega arith in
-        let y : p + 1 - 1 ≡ p = omega arith in
-        rw (m, ne_eqb _ _ q, w, t, ne_eqb _ _ z) (ap (refused 60) y)
+    settled_so fs j u (some f) n d t = by_name d t
+      where
+        main_some : (gather_all nothing (map (head_of ts) fs)).main ≡ Some (head_named 0 fs ts (bytes "main"))
+        main_some =
+            let q : head_named 0 fs ts (bytes "main") ≡ 0 → ⊥ = λ z. omega (arith, (head_some 0 fs ts (bytes "main") f n).some) in
+            gathered_main fs nothing ∙ rw (ne_eqb _ _ q)
+
+        by_name : (d : Option ℕ) → doubled [] fs ≡ d → to_seen (settled (length ts) (gather_all nothing (map (head_of ts) fs))) ≡ coded ts (read_of program ts (with_main ts fs j (some f)))
+        by_name none t =
+            let w : (gather_all nothing (map (head_of ts) fs)).twice ≡ None = gathered_twice few fs [] nothing u first_stand ∙ ap twice_of t in
+            let c : (gather_all nothing (map (head_of ts) fs)).code ≡ code_of_procedures fs ts = gathered_code fs nothing in
+            let b : (gather_all nothing (map (head_of ts) fs)).table ≡ tabled 0 fs ts (replicate 8192 0) = gathered_table fs nothing in
+            rw (main_some, w, t, c, b)
+        by_name (some p) t =
+            let w : (gather_all nothing (map (head_of ts) fs)).twice ≡ Some p = gathered_twice few fs [] nothing u first_stand ∙ ap twice_of t in
+            rw (main_some, w, t)
 
     wrong_so : (k p : ℕ) → to_seen (failed_whole k p) ≡ coded ts (read_of program ts (wrong k p))
     unfolding to_seen coded read_of

@@ -17,7 +17,7 @@ use Rattle.code.specs.Code.{slot_of, code_of, code_of_statement, code_of_stateme
 use Rattle.expressions.specs.Words as Words
 use Rattle.statements.specs.Words as Bodies
 use Rattle.definitions.specs.Words as Definitions
-use Rattle.reader.specs.Coded.{words_of, map_got, target_number, piece_of, name_of, head_of}
+use Rattle.reader.specs.Coded.{words_of, map_got, side_of, piece_of, name_of, head_of}
 use Rattle.reader.specs.Sane.{Sane}
 use Rattle.reader.proofs.Fields.{kind_at_lem, is_at, positive_at_lem, signed_at_lem, place_at, name_home_at, procedure_at}
 use Rattle.reader.proofs.Mapped.{Maps, Levels, neither, both, maps_good, maps_wrong, maps_if, maps_after, maps_opening, after_after}
@@ -58,8 +58,8 @@ module _ (ts : List Token) (sane : Sane ts) where
 
   assignment_maps : {g : Words.ReadPiece} {f : ReadExpression} → Reads ts g f
       → (i j : ℕ) (a : Expression) → Names ts i a
-      → Maps (λ s. code_of_statement s ts) (Bodies.assignment g (words_of ts) i (piece_of ts a) j) (assignment f ts (start_at ts i) j (target_of a))
-  unfolding assignment Bodies.assignment target_of piece_of target_number code_with statement_with if◌then◌otherwise◌
+      → Maps (λ s. code_of_statement s ts) (Bodies.assignment g (words_of ts) i (side_of a) (code_of a ts) j) (assignment f ts (start_at ts i) j (target_of a))
+  unfolding assignment Bodies.assignment target_of piece_of side_of code_with statement_with if◌then◌otherwise◌
   assignment_maps r i j (name x) n =
       maps_after _ _ (r (j + 1)) λ e m _. expect_maps ts sane _ m _ _ (rw (place_at ts sane i, name_home_at ts sane i n.0, n.1))
   assignment_maps r i j (entry a b) n =
@@ -75,12 +75,12 @@ module _ (ts : List Token) (sane : Sane ts) where
 
   simple_maps : {g : Words.ReadPiece} {f : ReadExpression} → Reads ts g f → Spelling ts f
       → (i : ℕ) → Maps (λ s. code_of_statement s ts) (Bodies.simple g (words_of ts) i) (simple f ts i)
-  unfolding simple Bodies.simple statement_with
+  unfolding simple Bodies.simple statement_with piece_of
   simple_maps r s i =
       maps_after _ _ (r i) λ a j read.
       maps_if _ _ _ _ _ _ (is_at ts sane _ j)
       (λ _. assignment_maps r i j a (yielded (s i) read).names)
-      λ _. expect_maps ts sane _ j _ _ (unfold piece_of in rw (place_at ts sane i))
+      λ _. expect_maps ts sane _ j _ _ (rw (place_at ts sane i))
 
   guarded_maps : {x : Inside Bodies.Readers} {y : Inside Readers} → Levels (Both ts) x y
       → (tag p : ℕ) (make : Expression → Statement → Statement)

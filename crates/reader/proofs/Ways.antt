@@ -7,6 +7,7 @@ use native.Mathlib.Nat.{not-suc-le-zero, le_of_suc-le-suc, sub-zero}
 use lib.ListN.{length, get_or, take, drop, replicate, length-map, length-take, length-drop, length-replicate}
 use lib.Seq.{length-take-le, take-length, take-append-le, get_or-take, get_or-drop, ext_get_or}
 use borrow.Author.Tests.{lt-ltb, le-ltb}
+use Rattle.expressions.specs.declared.Misfit as Expressions
 use Rattle.meaning.specs.Basics.{if◌then◌otherwise◌, laid_over}
 use Rattle.meaning.specs.Token.{Token, Lexed, lexed, stray, tokens_of}
 use Rattle.meaning.specs.Grammar.{start_at, procedures, place_of, read_of, parsed, reading}
@@ -20,12 +21,13 @@ use Rattle.lexer.proofs.Decode.{held, words_decode, word_decodes}
 use Rattle.names.specs.Prepared.{prepared_all}
 use Rattle.names.specs.Index.{Room}
 use Rattle.definitions.specs.declared.Parsed.{Parsed}
-use Rattle.definitions.specs.declared.Parsed.TheVariants.{Whole, Twice, Misfit}
+use Rattle.definitions.specs.declared.Unread.{Unread}
+use Rattle.definitions.specs.declared.Unread.TheVariants.{Twice, Misfit}
 use Rattle.definitions.specs.Words.{nothing, table_in, seen_whole, written_whole}
 use Rattle.definitions.specs.Words as Definitions
 use Rattle.definitions.specs.Room.{Halves}
 use Rattle.reader.specs.declared.Program.{Program}
-use Rattle.reader.specs.declared.Program.TheVariants.{Formed, Malformed}
+use Rattle.reader.specs.declared.Malformed.{Malformed}
 use Rattle.reader.specs.Coded.{words_of}
 use Rattle.reader.specs.Reading.{Lent, Worded, tokens_among, tokens_in, Seen, refused, seen, coded, Kept, place_among}
 use Rattle.reader.specs.Sane.{Sane}
@@ -35,11 +37,11 @@ use Rattle.reader.proofs.Gathered.{zero_at, to_seen, whole_law}
 use Rattle.reader.proofs.Lexing.{lexed_sane}
 
 -- an answer is what the meaning reads
-pub record Reads (program : List ℕ) (r : Program) (code : List ℕ) : Type 0 where
+pub record Reads (program : List ℕ) (r : Result Program Malformed) (code : List ℕ) : Type 0 where
   pub is : seen r code ≡ coded (tokens_in program) (reading program)
 
 -- what `read` and `parse` leave
-abbrev pub Left : List ℕ → Program → List ℕ → List ℕ → Type 0
+abbrev pub Left : List ℕ → Result Program Malformed → List ℕ → List ℕ → Type 0
 Left program r words code = (seen r code ≡ coded (tokens_in program) (reading program)) × Kept r (tokens_in program) words
 
 -- ---- tokens
@@ -56,7 +58,7 @@ stray_lexed program before slice p h = go (tokens_of program) refl
 
 -- a byte at which no token begins
 pub stray_read : (program before slice code : List ℕ) (p : ℕ) → Lexing.seen (Err (record { place = p })) slice ≡ laid_tokens (tokens_of program) before →
-    Reads program (Malformed 10 p) code
+    Reads program (Err (record { number = 10; place = p })) code
 unfolding seen coded reading parsed
 stray_read program before slice code p h = record { is = rw (stray_lexed program before slice p h) }
 
@@ -90,7 +92,7 @@ many program before slice n l b m h = go (tokens_of program) refl
         record { tokens = ts; are = e; count = sym c; place = ap place_in g ∙ ap (λ (t : Token). t.place) (word_decodes program ts l e 8192) }
 
 pub many_read : (program before slice code : List ℕ) (n : ℕ) → Lent program before code → 8192 < n →
-    Lexing.seen (Ok n) slice ≡ laid_tokens (tokens_of program) before → Reads program (Malformed 74 (place_in (get_or slice 8192 0))) code
+    Lexing.seen (Ok n) slice ≡ laid_tokens (tokens_of program) before → Reads program (Err (record { number = 74; place = place_in (get_or slice 8192 0) })) code
 unfolding seen coded reading parsed if◌then◌otherwise◌
 many_read program before slice code n l m h =
     let k = many program before slice n l.short l.tokens_long m h in
@@ -142,20 +144,7 @@ module _ (program words code : List ℕ) (w : Worded program words code) where
 
 -- ---- the ways through `parse`
 module _ (program words code : List ℕ) (w : Worded program words code) where
-  words_few : length words ≤ 8192
-  words_few = rw (w.worded, length-map) w.few
-
-  pub names_room : Room words code
-  names_room = record { few = words_few; room = w.code_long }
-
   module _ (ws blank : List ℕ) (given : ws ≡ prepared_all program words) (zeros : blank ≡ replicate (length code) 0) where
-    prepared_length : length ws ≡ length words
-    unfolding prepared_all
-    prepared_length = rw (given, length-map, length-map)
-
-    pub halves : Halves ws blank
-    halves = record { few = omega (arith, prepared_length, words_few); room = rw (zeros, length-replicate) w.code_long }
-
     -- the table is cleared
     pub clear : table_in blank ≡ replicate 8192 0
     clear = rw zeros (cleared (length code) w.code_long)
@@ -169,34 +158,34 @@ module _ (program words code : List ℕ) (w : Worded program words code) where
         let so : ws ≡ words_of (tokens_in program) = given_words ∙ ap words_of (sym (among program words code w)) in
         (ap (λ (xs : List ℕ). length xs) so ∙ length-map (tokens_in program) _, take-length ws ∙ so)
 
-    module _ (r : Parsed) (slice : List ℕ) (h : seen_whole r slice ≡ written_whole (length ws) nothing (Definitions.procedures ws)) where
+    module _ (r : Result Parsed Unread) (slice : List ℕ) (h : seen_whole r slice ≡ written_whole (length ws) nothing (Definitions.procedures ws)) where
       answer : (a : Seen) → to_seen w.tokens program w.few (seen_whole r slice) ≡ a → a ≡ coded (tokens_in program) (reading program)
       answer a e =
           let l : length ws ≡ length w.tokens = rw (given_words, length-map) in
           sym e ∙ ap (to_seen w.tokens program w.few) (h ∙ rw (l, given_words)) ∙ ways program words code w
 
-      pub parse_formed : (d n : ℕ) → r ≡ Whole d n → Left program (Formed d n (length ws)) ws slice
+      pub parse_formed : (p : Parsed) → r ≡ Ok p → Left program (Ok (record { main = p.main; words = p.words; tokens = length ws })) ws slice
       unfolding to_seen seen_whole seen Kept
-      parse_formed d n e = (answer _ (rw e), given_kept)
+      parse_formed p e = (answer _ (rw e), given_kept)
 
-      pub parse_twice : (p : ℕ) → r ≡ Twice p → Left program (Malformed 60 p) ws slice
+      pub parse_twice : (p : ℕ) → r ≡ Err (Twice p) → Left program (Err (record { number = 60; place = p })) ws slice
       unfolding to_seen seen_whole seen Kept
       parse_twice p e = (answer _ (rw e), tt)
 
-      pub parse_misfit : (k i q : ℕ) → r ≡ Misfit k i → q ≡ place_among ws i (length program) → Left program (Malformed k q) ws slice
+      pub parse_misfit : (m : Expressions.Misfit) (q : ℕ) → r ≡ Err (Misfit m) → q ≡ place_among ws m.token (length program) → Left program (Err (record { number = m.number; place = q })) ws slice
       unfolding to_seen seen_whole seen Kept
-      parse_misfit k i q e p =
-          (answer _ (rw e (ap (refused k) (sym (p ∙ ap (λ (xs : List ℕ). place_among xs i (length program)) given_words ∙ places program words code w i)))), tt)
+      parse_misfit m q e p =
+          (answer _ (rw e (ap (refused m.number) (sym (p ∙ ap (λ (xs : List ℕ). place_among xs m.token (length program)) given_words ∙ places program words code w m.token)))), tt)
 
 -- ---- the ways through `read`
 module _ (program before code : List ℕ) (l : Lent program before code) (r : Result ℕ Stray) (slice : List ℕ)
     (h : Lexing.seen r slice ≡ laid_tokens (tokens_of program) before) where
-  pub read_stray : (e : Stray) → r ≡ Err e → (words last : List ℕ) → Left program (Malformed 10 e.place) words last
+  pub read_stray : (e : Stray) → r ≡ Err e → (words last : List ℕ) → Left program (Err (record { number = 10; place = e.place })) words last
   unfolding Kept
   read_stray e q words last = ((stray_read program before slice last e.place (ap (λ (x : Result ℕ Stray). Lexing.seen x slice) (sym q) ∙ h)).is, tt)
 
   pub read_many : (n : ℕ) → r ≡ Ok n → 8192 < n → (q : ℕ) → q ≡ place_in (get_or slice 8192 0) → (words last : List ℕ) →
-      Left program (Malformed 74 q) words last
+      Left program (Err (record { number = 74; place = q })) words last
   unfolding seen Kept
   read_many n e m q p words last =
       (ap (refused 74) p ∙ (many_read program before slice code n l m (ap (λ (x : Result ℕ Stray). Lexing.seen x slice) (sym e) ∙ h)).is, tt)
@@ -205,12 +194,12 @@ module _ (program before code : List ℕ) (l : Lent program before code) (r : Re
   read_few n e m = simp sub-zero (few_worded program before slice code n l m (ap (λ (x : Result ℕ Stray). Lexing.seen x slice) (sym e) ∙ h))
 
 -- what stands behind the tokens' words does not matter
-kept_before : (r : Program) (us : List Token) (front back : List ℕ) → Kept r us front → Kept r us (front ++ back)
+kept_before : (r : Result Program Malformed) (us : List Token) (front back : List ℕ) → Kept r us front → Kept r us (front ++ back)
 unfolding Kept
-kept_before (Formed d n k) us front back h =
-    let l : length (take k front) ≡ length us = ap (λ (xs : List ℕ). length xs) h.1 ∙ length-map us _ in
-    (h.0, take-append-le k front back (omega (arith, h.0, sym (length-take k front) ∙ l)) ∙ h.1)
-kept_before (Malformed n p) us front back h = tt
+kept_before (Ok p) us front back h =
+    let l : length (take p.tokens front) ≡ length us = ap (λ (xs : List ℕ). length xs) h.1 ∙ length-map us _ in
+    (h.0, take-append-le p.tokens front back (omega (arith, h.0, sym (length-take p.tokens front) ∙ l)) ∙ h.1)
+kept_before (Err m) us front back h = tt
 
-pub read_parsed : (program : List ℕ) (r : Program) (front back code : List ℕ) → Left program r front code → Left program r (front ++ back) code
+pub read_parsed : (program : List ℕ) (r : Result Program Malformed) (front back code : List ℕ) → Left program r front code → Left program r (front ++ back) code
 read_parsed program r front back code h = (h.0, kept_before r (tokens_in program) front back h.1)

@@ -8,13 +8,14 @@ use mathlib.Core.Option.{Option, none, some}
 use lib.ListN.{length, take, drop, replicate}
 use lib.Dec.{ltb}
 use borrow.Author.Tests.{ltb-false}
+use Rattle.std.specs.Prelude.{Ok}
 use Rattle.meaning.specs.Basics.{bytes, if◌then◌otherwise◌}
 use Rattle.meaning.specs.Token.{Token, Lexed, lexed, stray, tokens_of}
 use Rattle.meaning.specs.Tree.{Program}
 use Rattle.meaning.specs.Grammar.{Got, good, wrong, Reading, well_formed, malformed, read_of, parsed, reading, procedures}
 use Rattle.meaning.specs.Procedure.{doubled}
 use Rattle.code.specs.Code.{code_of_procedures, tabled, head_named}
-use Rattle.reader.specs.declared.Program.TheVariants.{Formed}
+use Rattle.reader.specs.declared.Program as Declared
 use Rattle.reader.specs.Reading.{tokens_among, tokens_in, formed, refused, seen, coded_apart, coded}
 use Rattle.reader.proofs.Walk.{Stands, stands_taken, stands_behind}
 
@@ -62,23 +63,23 @@ same_formed e = (cc, cc, cc)
 pub formed_refused : {d k p : ℕ} {c t : List ℕ} {A : Type 0} → formed d c t ≡ refused k p → A
 formed_refused e = let z : ◌≡◌ {A = ℕ} 0 1 = cc in absurd (omega arith)
 
-pub whole : (program code : List ℕ) (d n k : ℕ) → seen (Formed d n k) code ≡ coded (tokens_in program) (reading program) → (m : Program) × Whole program code d m
+pub whole : (program code : List ℕ) (p : Declared.Program) → seen (Ok p) code ≡ coded (tokens_in program) (reading program) → (m : Program) × Whole program code p.main m
 unfolding seen coded coded_apart
-whole program code d n k left = go (reading program) refl left
+whole program code p left = go (reading program) refl left
   where
     by_name : (m : Program) → reading program ≡ well_formed m → (o : Option ℕ) → doubled [] m.procedures ≡ o
-        → formed d (take n code) (take 8192 (drop 8192 code)) ≡ coded_apart (tokens_in program) m.procedures o → Whole program code d m
+        → formed p.main (take p.words code) (take 8192 (drop 8192 code)) ≡ coded_apart (tokens_in program) m.procedures o → Whole program code p.main m
     by_name m q none a h =
         let c = same_formed h in
         record {
           read = was_read program m q;
           different = a;
           main = c.0;
-          stands = stands_taken n code _ c.1;
+          stands = stands_taken p.words code _ c.1;
           table = stands_behind 8192 8192 code _ c.2;
         }
-    by_name m q (some p) a h = formed_refused h
+    by_name m q (some z) a h = formed_refused h
 
-    go : (r : Reading) → reading program ≡ r → seen (Formed d n k) code ≡ coded (tokens_in program) r → (m : Program) × Whole program code d m
+    go : (r : Reading) → reading program ≡ r → seen (Ok p) code ≡ coded (tokens_in program) r → (m : Program) × Whole program code p.main m
     go (well_formed m) q h = (m, by_name m q (doubled [] m.procedures) refl h)
-    go (malformed i p) q h = formed_refused h
+    go (malformed i z) q h = formed_refused h

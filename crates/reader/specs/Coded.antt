@@ -5,8 +5,11 @@ use Rattle.meaning.specs.Tree.{Expression, number, string, nothing, truth, name,
 use Rattle.meaning.specs.Grammar.{Got, good, wrong, Inside, no_level, level, ReadExpression, expression}
 use Rattle.names.specs.Prepared.{procedure_number, prepared}
 use Rattle.code.specs.Code.{slot_of, code_of, code_of_statements}
+use Rattle.expressions.specs.declared.Target.{Target}
+use Rattle.expressions.specs.declared.Target.TheVariants.{Neither, Name, Entry}
 use Rattle.expressions.specs.Words.{Piece, piece}
-use Rattle.definitions.specs.Words.{Name, Head}
+use Rattle.definitions.specs.Words.{Head}
+use Rattle.definitions.specs.Words as Definitions
 
 -- the words of some tokens
 abbrev pub words_of : List Token → List ℕ
@@ -16,23 +19,23 @@ unfoldable pub map_got : {A B : Type 0} → (A → B) → Got A → Got B
 map_got f (good a j) = good (f a) j
 map_got f (wrong n p) = wrong n p
 
--- an expression as an assignment's left side: 1 a name, 2 an entry, 0 neither
-unfoldable pub target_number : Expression → ℕ
-target_number (name x) = 1
-target_number (entry a b) = 2
-target_number (number z) = 0
-target_number (string w) = 0
-target_number nothing = 0
-target_number (truth b) = 0
-target_number (table e) = 0
-target_number (operation o a b) = 0
-target_number (call f es) = 0
-target_number (paren e) = 0
+-- what an expression is as an assignment's left side
+unfoldable pub side_of : Expression → Target
+side_of (name x) = Name
+side_of (entry a b) = Entry
+side_of (number z) = Neither
+side_of (string w) = Neither
+side_of nothing = Neither
+side_of (truth b) = Neither
+side_of (table e) = Neither
+side_of (operation o a b) = Neither
+side_of (call f es) = Neither
+side_of (paren e) = Neither
 
 unfoldable pub piece_of : List Token → Expression → Piece
-piece_of ts e = piece (code_of e ts) (target_number e)
+piece_of ts e = piece (code_of e ts) (side_of e)
 
-unfoldable pub name_of : List Token → List ℕ → Name
+unfoldable pub name_of : List Token → List ℕ → Definitions.Name
 name_of ts x = record { number = procedure_number x; slot = slot_of ts x }
 
 unfoldable pub head_of : List Token → Procedure → Head

@@ -1,5 +1,5 @@
 -- What reading leaves behind: the program's code, or a number and its place.
-use Rattle.std.specs.Prelude.{ℕ, ◌≤◌, ◌≡◌, List, [], map, length, get_or, take, drop, replicate, ltb}
+use Rattle.std.specs.Prelude.{ℕ, ◌≤◌, ◌≡◌, List, [], map, length, get_or, take, drop, replicate, ltb, Result, Ok, Err}
 use Rattle.std.proofs.Math.Option.{Option, none, some}
 use Rattle.meaning.specs.Basics.{bytes, if◌then◌otherwise◌}
 use Rattle.meaning.specs.Token.{Token, Lexed, lexed, stray, tokens_of}
@@ -9,7 +9,7 @@ use Rattle.meaning.specs.Procedure.{doubled}
 use Rattle.tokens.specs.Words.{word_of, place_in}
 use Rattle.code.specs.Code.{code_of_procedures, tabled, head_named}
 use Rattle.reader.specs.declared.Program.{Program}
-use Rattle.reader.specs.declared.Program.TheVariants.{Formed, Malformed}
+use Rattle.reader.specs.declared.Malformed.{Malformed}
 use Rattle.reader.specs.Coded.{words_of}
 
 -- ---- what is lent
@@ -40,9 +40,9 @@ pub data Seen : Type 0 where
   formed : ℕ → List ℕ → List ℕ → Seen
   refused : ℕ → ℕ → Seen
 
-unfoldable pub seen : Program → List ℕ → Seen
-seen (Formed d n k) slice = formed d (take n slice) (take 8192 (drop 8192 slice))
-seen (Malformed n p) slice = refused n p
+unfoldable pub seen : Result Program Malformed → List ℕ → Seen
+seen (Ok p) slice = formed p.main (take p.words slice) (take 8192 (drop 8192 slice))
+seen (Err m) slice = refused m.number m.place
 
 -- the procedures of a program, or 60 where two have one name
 unfoldable pub coded_apart : List Token → List Procedure → Option ℕ → Seen
@@ -54,9 +54,9 @@ coded ts (well_formed m) = coded_apart ts m.procedures (doubled [] m.procedures)
 coded ts (malformed n p) = refused n p
 
 -- Where a program was read, the words of its tokens are the first of a slice, and the answer says how many they are.
-unfoldable pub Kept : Program → List Token → List ℕ → Type 0
-Kept (Formed d n k) ts slice = (k ≡ length ts) × (take k slice ≡ words_of ts)
-Kept (Malformed n p) ts slice = Unit {0}
+unfoldable pub Kept : Result Program Malformed → List Token → List ℕ → Type 0
+Kept (Ok p) ts slice = (p.tokens ≡ length ts) × (take p.tokens slice ≡ words_of ts)
+Kept (Err m) ts slice = Unit {0}
 
 unfoldable pub place_among : List ℕ → ℕ → ℕ → ℕ
 place_among words i n = if ltb i (length words) then (λ _. place_in (get_or words i 0)) otherwise λ _. n

@@ -12,8 +12,9 @@ use mir.Val.{to_z, of_z, SFits}
 use mir.Facts.{to_z-of_z}
 use borrow.Author.Tests.{not-true, not-false}
 use Rattle.meaning.specs.Grammar.{reading}
+use Rattle.std.specs.Prelude.{Ok, Err}
 use Rattle.reader.specs.declared.Program.{Program}
-use Rattle.reader.specs.declared.Program.TheVariants.{Formed, Malformed}
+use Rattle.reader.specs.declared.Malformed.{Malformed}
 use Rattle.reader.specs.Reading.{seen, coded, tokens_in, Kept}
 use Rattle.reader.proofs.Whole.{whole}
 use Rattle.numbering.specs.Pass.{pass, number_all}
@@ -100,34 +101,33 @@ module _ (program code g : List ℕ) (main : ℕ) (width height : ℤ) (f : SFit
 
 -- ---- `run_read`
 -- how many tokens a program has that was read
-counted : (program tokens₁ : List ℕ) (r : Program) → Kept r (tokens_in program) tokens₁ → (main n t : ℕ) → r ≡ Formed main n t → t ≡ length (tokens_in program)
+counted : (program tokens₁ : List ℕ) (r : Program) → Kept (Ok r) (tokens_in program) tokens₁ → r.tokens ≡ length (tokens_in program)
 unfolding Kept
-counted program tokens₁ r kept main n t e = (rw e at kept).0
+counted program tokens₁ r kept = kept.0
 
-pub few_tokens : (program code tokens₁ : List ℕ) (r : Program) → seen r code ≡ coded (tokens_in program) (reading program) → Kept r (tokens_in program) tokens₁
-    → (main n t : ℕ) → r ≡ Formed main n t → t ≤ 8192
-few_tokens program code tokens₁ r left kept main n t e =
-    let w = whole program code main n t (ap (λ (a : Program). seen a code) (sym e) ∙ left) in
-    omega (arith, counted program tokens₁ r kept main n t e, w.1.read.few)
+pub few_tokens : (program code tokens₁ : List ℕ) (r : Program) → seen (Ok r) code ≡ coded (tokens_in program) (reading program) → Kept (Ok r) (tokens_in program) tokens₁
+    → r.tokens ≤ 8192
+few_tokens program code tokens₁ r left kept =
+    let w = whole program code r left in
+    omega (arith, counted program tokens₁ r kept, w.1.read.few)
 
-module _ (program code g tokens unread ts ws : List ℕ) (ready : ReadyToRead program g tokens unread ts ws) (width height : ℤ) (r : Program)
-    (left : seen r code ≡ coded (tokens_in program) (reading program)) where
-  pub way_malformed : (k i : ℕ) → r ≡ Malformed k i → Ran program g (reading_run program width height g) (Stopped k i) ts ws
-  way_malformed k i e = read_malformed program code g ts ws ready.short width height r left (ready.blank.front steps_used (omega arith)) k i e
+module _ (program code g tokens unread ts ws : List ℕ) (ready : ReadyToRead program g tokens unread ts ws) (width height : ℤ) where
+  pub way_malformed : (r : Malformed) → seen (Err r) code ≡ coded (tokens_in program) (reading program)
+      → Ran program g (reading_run program width height g) (Stopped r.number r.place) ts ws
+  way_malformed r left = read_malformed program code g ts ws ready.short width height (ready.blank.front steps_used (omega arith)) r left
 
-  module _ (main n t : ℕ) (e : r ≡ Formed main n t) (k : ℕ) (q : k ≡ parameters_in main) where
+  module _ (r : Program) (left : seen (Ok r) code ≡ coded (tokens_in program) (reading program)) (k : ℕ) (q : k ≡ parameters_in r.main) where
     pub way_parameters : (k ≡ 2 → ⊥) → Ran program g (reading_run program width height g) (Stopped 20 0) ts ws
-    way_parameters h =
-        read_parameters program code g ts ws ready.short width height r left main n t e (ready.blank.front steps_used (omega arith)) (λ p. h (q ∙ p))
+    way_parameters h = read_parameters program code g ts ws ready.short width height r left (ready.blank.front steps_used (omega arith)) (λ p. h (q ∙ p))
 
     -- its variables numbered, with the slice of tokens as a table
-    module _ (tokens₁ : List ℕ) (kept : Kept r (tokens_in program) tokens₁) where
-      pub way_main : k ≡ 2 → length tokens₁ ≡ length tokens → (code₁ tokens₂ : List ℕ) (word : ℕ) → pass code₁ tokens₂ word ≡ number_all main t code tokens₁
+    module _ (tokens₁ : List ℕ) (kept : Kept (Ok r) (tokens_in program) tokens₁) where
+      pub way_main : k ≡ 2 → length tokens₁ ≡ length tokens → (code₁ tokens₂ : List ℕ) (word : ℕ) → pass code₁ tokens₂ word ≡ number_all r.main r.tokens code tokens₁
           → SFits w32 width → SFits w32 height → (x : Ending) (ts₁ ws₁ : List ℕ)
           → shown_ending x ts₁ ws₁ ≡ main_run (setting program code₁ g) word (held width) (held height) (raw ts ws)
           → Ran program g (reading_run program width height g) x ts₁ ws₁
       way_main two long code₁ tokens₂ word numbered f f₂ x ts₁ ws₁ h =
-          read_body program code g ts ws ready.short width height r left main n t e tokens₁ code₁ tokens₂ word (counted program tokens₁ r kept main n t e) (omega (arith, long, ready.ready.tokens_long)) numbered
+          read_body program code g ts ws ready.short width height r left tokens₁ code₁ tokens₂ word (counted program tokens₁ r kept) (omega (arith, long, ready.ready.tokens_long)) numbered
           (sym q ∙ two) ready.ready.lent ready.blank f.sfits f₂.sfits x ts₁ ws₁ (rw (to_z-of_z f, to_z-of_z f₂) at h)
 
 -- ---- `run`

@@ -12,7 +12,6 @@ ghost use Rattle.painting.specs.Running.{body_run, main_run, Ran, painting_run, 
 
 use machine::Flow;
 use prologue::Ending;
-use reader::Program;
 
 // How deep expressions, statements and calls may be inside one another: 64 calls of a program's whole code need less than half of it.
 const FUEL: usize = 2097152;
@@ -100,12 +99,12 @@ fn run_read(
         result texts.new words.new }
 {
     match reader::read(program, tokens, code) {
-        Program::Malformed(k, at) => Ending::Stopped(k, at as u64),
-        Program::Formed(main, _, n) => {
-            if code::parameters_of(main) != 2 {
+        Err(m) => Ending::Stopped(m.number, m.place as u64),
+        Ok(p) => {
+            if code::parameters_of(p.main) != 2 {
                 return Ending::Stopped(20, 0);
             }
-            let main = numbering::number(code, tokens, n, main);
+            let main = numbering::number(code, tokens, p.tokens, p.main);
             let r = run_main(program, code, grants, texts, words, main, width, height);
             r
         }

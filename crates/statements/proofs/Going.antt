@@ -1,22 +1,23 @@
 -- The loop over statements: what is left from the start is what is left from here.
 -- Assumes nothing.
 use Prim.Native.Nat.{ℕ, zero, suc, ◌+◌, ◌-◌, ◌<◌, ◌≤◌}
-use mathlib.Core.Path.{◌≡◌, ◌∙◌, refl, sym, ap}
-use mathlib.Core.List.{List, ◌++◌, append_assoc}
+use mathlib.Core.Path.{◌≡◌, ◌∙◌, refl, ap}
+use mathlib.Core.List.{List, ◌++◌}
 use native.Mathlib.Omega.{arith}
 use borrow.Author.Tests.{ne_eqb}
-use lib.ListN.{length, take, length-append}
+use lib.ListN.{length}
+use Rattle.std.specs.Prelude.{Result, Ok, Err, IsErrAnd}
 use Rattle.meaning.specs.Basics.{if◌then◌otherwise◌}
 use Rattle.meaning.specs.Token.{close_brace}
 use Rattle.meaning.specs.Grammar.{Got, good, wrong, after}
 use Rattle.expressions.specs.declared.Read.{Read}
-use Rattle.expressions.specs.declared.Read.TheVariants.{At, Wrong}
+use Rattle.expressions.specs.declared.Misfit.{Misfit}
+use Rattle.expressions.specs.declared.Target.TheVariants.{Neither}
 use Rattle.expressions.specs.Words.{kind_at, is, at, seen, written_code}
-use Rattle.expressions.proofs.Answers.{wrote_code, erred_code}
+use Rattle.expressions.proofs.Answers.{says_code, exits, wrote_code, same_after, shifted}
 use Rattle.statements.specs.Words.{statements_from, statements, statement}
 use Rattle.statements.specs.Room.{Space}
 use Rattle.statements.proofs.Paid.{statement_paid}
-use Rattle.statements.proofs.Written.{same_after}
 
 -- ---- rounds
 -- a statement, and what `rest` yields behind it
@@ -60,31 +61,23 @@ pub going_starts : (left : ℕ) (ws : List ℕ) (i n : ℕ) (s : List ℕ) → S
 unfolding rest
 going_starts left ws i n s o = record { same = refl; ahead = omega arith; space = o; kept = refl }
 
--- a list put before what is read
-shifted : (g : Got (List ℕ)) (c s s₁ : List ℕ) (m q : ℕ) → q ≡ m + length c → take q s₁ ≡ take m s ++ c
-    → written_code (after g λ cs j. good (c ++ cs) j) m s ≡ written_code g q s₁
-unfolding written_code after
-shifted (wrong k p) c s s₁ m q h f = refl
-shifted (good cs j) c s s₁ m q h f =
-    let u : m + length (c ++ cs) ≡ q + length cs = omega (arith, length-append c cs) in
-    rw (u, f) (ap (at j (q + length cs) 0) (sym (append_assoc (take m s) c cs)))
-
 -- a turn: the statement ended before token j, with the words up to q
 pub record Turned (ws s : List ℕ) (p j q : ℕ) : Type 0 where
   pub ahead : p < j
   pub within : j ≤ length ws
   pub space : Space ws s j q
 
-module _ (left : ℕ) (ws : List ℕ) (i n : ℕ) (s₀ : List ℕ) (p m : ℕ) (s : List ℕ) (g : Going left ws i n s₀ p m s) (e : Read) (s₁ : List ℕ) (h : seen e s₁ ≡ written_code (statement left ws p) m s) where
-  pub going_fails : (k a : ℕ) → e ≡ Wrong k a → seen (Wrong k a) s₁ ≡ written_code (statements (statement left ws) ws i) n s₀
-  unfolding after seen written_code
-  going_fails k a u = rw (g.same, rest_turns left ws p, erred_code e (statement left ws p) m s s₁ k a h u)
+module _ (left : ℕ) (ws : List ℕ) (i n : ℕ) (s₀ : List ℕ) (p m : ℕ) (s : List ℕ) (g : Going left ws i n s₀ p m s) where
+  -- an exit by `?`: the rest fails as its first statement does
+  pub going_fails : (e : Misfit) (r : Result Read Misfit) (s₁ : List ℕ) → IsErrAnd r (λ x. x ≡ e) → seen (Err e) s₁ ≡ written_code (statement left ws p) m s
+      → seen r s₁ ≡ written_code (statements (statement left ws) ws i) n s₀
+  going_fails e r s₁ y h = rw g.same (exits (says_code m s) (says_code m s) _ _ e r s₁ (rest_turns left ws p) y h)
 
-  module _ (j q t : ℕ) (u : e ≡ At j q t) (l : length s₁ ≡ length s) where
-    pub turned : Turned ws s₁ p j q
+  module _ (e : Read) (s₁ : List ℕ) (h : seen (Ok e) s₁ ≡ written_code (statement left ws p) m s) (l : length s₁ ≡ length s) where
+    pub turned : Turned ws s₁ p e.token e.word
     turned =
-        let w = wrote_code e (statement left ws p) m s s₁ j q t h u in
-        let y = statement_paid left ws p w.code j w.read in
+        let w = wrote_code _ m s s₁ e h in
+        let y = statement_paid left ws p w.code e.token w.read in
         let o = g.space in
         record {
           ahead = y.ahead;
@@ -92,18 +85,18 @@ module _ (left : ℕ) (ws : List ℕ) (i n : ℕ) (s₀ : List ℕ) (p m : ℕ) 
           space = record { behind = omega (arith, w.up_to, y.paid, o.behind); wide = omega (arith, o.wide); few = o.few };
         }
 
-    module _ (kind : ℕ) (k : kind ≡ kind_at ws j) where
-      pub going_on : (kind ≡ 125 → ⊥) → Going left ws i n s₀ j q s₁
+    module _ (kind : ℕ) (k : kind ≡ kind_at ws e.token) where
+      pub going_on : (kind ≡ 125 → ⊥) → Going left ws i n s₀ e.token e.word s₁
       unfolding after if◌then◌otherwise◌
       going_on c =
-          let w = wrote_code e (statement left ws p) m s s₁ j q t h u in
+          let w = wrote_code _ m s s₁ e h in
           let y = turned in
-          let r : written_code (rest left ws p) m s ≡ written_code (rest left ws j) q s₁ =
-          rw (rest_turns left ws p, w.read, ← k, ne_eqb _ _ c) (shifted (rest left ws j) w.code s s₁ m q w.up_to w.front) in
+          let r : written_code (rest left ws p) m s ≡ written_code (rest left ws e.token) e.word s₁ =
+          rw (rest_turns left ws p, w.read, ← k, ne_eqb _ _ c) (shifted (rest left ws e.token) w.code s s₁ m e.word w.up_to w.front) in
           record { same = g.same ∙ r; ahead = omega (arith, g.ahead, y.ahead); space = y.space; kept = omega (arith, g.kept) }
 
-      pub going_ends : kind ≡ 125 → seen (At (j + 1) q 0) s₁ ≡ written_code (statements (statement left ws) ws i) n s₀
+      pub going_ends : kind ≡ 125 → seen (Ok (record { token = e.token + 1; word = e.word; target = Neither })) s₁ ≡ written_code (statements (statement left ws) ws i) n s₀
       unfolding after if◌then◌otherwise◌ seen written_code
       going_ends c =
-          let w = wrote_code e (statement left ws p) m s s₁ j q t h u in
-          rw (g.same, rest_turns left ws p, w.read, ← k, c, ← w.up_to) (ap (at (j + 1) q 0) w.front)
+          let w = wrote_code _ m s s₁ e h in
+          rw (g.same, rest_turns left ws p, w.read, ← k, c, ← w.up_to) (ap (at (e.token + 1) e.word Neither) w.front)

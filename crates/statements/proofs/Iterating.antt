@@ -7,24 +7,23 @@ use mathlib.Core.List.{List, [], ◌∷◌, ◌++◌}
 use native.Mathlib.Numerals.{add-one}
 use native.Mathlib.Omega.{arith}
 use borrow.Author.Tests.{ne_eqb}
-use lib.Dec.{eqb, leb}
+use lib.Dec.{leb}
 use lib.ListN.{length, set}
+use Rattle.std.specs.Prelude.{Result, Ok, Err}
 use Rattle.meaning.specs.Basics.{if◌then◌otherwise◌}
 use Rattle.meaning.specs.Token.{a_name, word_in, word_do}
 use Rattle.meaning.specs.Grammar.{Got, good, wrong, after, no_level, opening}
 use Rattle.code.specs.Code.{headed}
 use Rattle.expressions.specs.declared.Read.{Read}
-use Rattle.expressions.specs.declared.Read.TheVariants.{At, Wrong}
-use Rattle.expressions.specs.Words.{kind_at, place_at, home_at, payload_at, is, signed_at, ReadPiece, expect, expression, seen, written, written_code}
+use Rattle.expressions.specs.declared.Misfit.{Misfit}
+use Rattle.expressions.specs.Words.{kind_at, place_at, home_at, payload_at, signed_at, is, ReadPiece, expect, expression, seen, written, written_code}
 use Rattle.expressions.specs.Steps.{closed}
 use Rattle.expressions.proofs.Tokens.{chosen}
-use Rattle.expressions.proofs.Answers.{take_put, shifted, wrote_code, erred_code}
+use Rattle.expressions.proofs.Answers.{take_put, says_code, refused, wrote_code, same_after, shifted}
 use Rattle.statements.specs.Words.{skip, begins_statement, iteration, statement}
-use Rattle.statements.specs.Room.{Space}
-use Rattle.statements.specs.Steps.{inside_of, members, each, topped}
-use Rattle.statements.proofs.Paid.{each_paid}
-use Rattle.statements.proofs.Moves.{inside_level, Parted, parted}
-use Rattle.statements.proofs.Written.{same_after, after_after, chosen_after, expects_after, wrong_seen, code_seen, closed_reads, topped_writes}
+use Rattle.statements.specs.Steps.{inside_of, members, each}
+use Rattle.statements.proofs.Moves.{inside_level}
+use Rattle.statements.proofs.Written.{after_after, chosen_after, expects_after, closed_reads}
 
 -- ---- x in e do
 members_are : (read : ReadPiece) (ws : List ℕ) (i : ℕ) → kind_at ws i ≡ 1 → kind_at ws (i + 1) ≡ 13
@@ -33,31 +32,28 @@ unfolding members expect after if◌then◌otherwise◌
 members_are read ws i h k = let q : i + 1 + 1 ≡ i + 2 = omega arith in rw (h, k, q)
 
 module _ (left : ℕ) (ws : List ℕ) (i n : ℕ) (s₀ : List ℕ) (kind : ℕ) (k : kind ≡ kind_at ws i) where
-  pub members_nameless : (kind ≡ 1 → ⊥) → seen (Wrong 10 i) s₀ ≡ written_code (members (expression left ws) ws i) n s₀
+  pub members_nameless : (kind ≡ 1 → ⊥) → seen (Err (record { number = 10; token = i })) s₀ ≡ written_code (members (expression left ws) ws i) n s₀
   unfolding members expect after if◌then◌otherwise◌
-  members_nameless h = rw (← k, ne_eqb _ _ h) (wrong_seen 10 i n s₀ s₀)
+  members_nameless h = refused (says_code n s₀) _ s₀ (rw (← k, ne_eqb _ _ h))
 
   module _ (z : kind ≡ 1) (next : ℕ) (l : next ≡ kind_at ws (i + 1)) where
-    pub members_lack : (next ≡ 13 → ⊥) → seen (Wrong 10 (i + 1)) s₀ ≡ written_code (members (expression left ws) ws i) n s₀
+    pub members_lack : (next ≡ 13 → ⊥) → seen (Err (record { number = 10; token = i + 1 })) s₀ ≡ written_code (members (expression left ws) ws i) n s₀
     unfolding members expect after if◌then◌otherwise◌
-    members_lack h = rw (← k, z, ← l, ne_eqb _ _ h) (wrong_seen 10 (i + 1) n s₀ s₀)
+    members_lack h = refused (says_code n s₀) _ s₀ (rw (← k, z, ← l, ne_eqb _ _ h))
 
-    pub members_read : (e r : Read) (x : ℕ) (s₁ s₂ : List ℕ) → next ≡ 13 → n < length s₀ → x ≡ home_at ws i → s₁ ≡ set s₀ n x
-        → seen e s₂ ≡ written (expression left ws (i + 2)) (n + 1) s₁ → r ≡ closed 14 ws e
-        → seen r s₂ ≡ written_code (members (expression left ws) ws i) n s₀
-    members_read e r x s₁ s₂ y b f g h q =
-        let c = shifted (after (expression left ws (i + 2)) λ a j. expect word_do ws j a.code) (x ∷ []) s₀ s₁ n (n + 1) refl (rw g (take_put s₀ n x b)) in
-        rw (members_are (expression left ws) ws i (sym k ∙ z) (sym l ∙ y), ← f, q)
-        (closed_reads e _ 14 (n + 1) ws s₁ s₂ h ∙ sym c ∙ ap (λ a. written_code a n s₀) (expects_after (expression left ws (i + 2)) word_do ws (λ a. x ∷ a)))
+    module _ (y : next ≡ 13) where
+      pub members_after : members (expression left ws) ws i ≡ after (expression left ws (i + 2)) λ e j. expect word_do ws j (home_at ws i ∷ e.code)
+      members_after = members_are (expression left ws) ws i (sym k ∙ z) (sym l ∙ y)
+
+      pub members_read : (e : Read) (r : Result Read Misfit) (x : ℕ) (s₁ s₂ : List ℕ) → n < length s₀ → x ≡ home_at ws i → s₁ ≡ set s₀ n x
+          → seen (Ok e) s₂ ≡ written (expression left ws (i + 2)) (n + 1) s₁ → r ≡ closed 14 ws e
+          → seen r s₂ ≡ written_code (members (expression left ws) ws i) n s₀
+      members_read e r x s₁ s₂ b f g h q =
+          let c = shifted (after (expression left ws (i + 2)) λ a j. expect word_do ws j a.code) (x ∷ []) s₀ s₁ n (n + 1) refl (rw g (take_put s₀ n x b)) in
+          rw (members_after, ← f)
+          (closed_reads e r _ 14 (n + 1) ws s₁ s₂ h q ∙ sym c ∙ ap (λ a. written_code a n s₀) (expects_after (expression left ws (i + 2)) word_do ws (λ a. x ∷ a)))
 
 -- ---- whether a statement can begin
-module _ (ws : List ℕ) (i : ℕ) (k : kind_at ws i ≡ 45) (next : ℕ) (l : next ≡ kind_at ws (i + 1)) where
-  pub signed_not : (next ≡ 2 → ⊥) → false ≡ signed_at ws i
-  signed_not h = rw (k, ← l, ne_eqb _ _ h)
-
-  pub signed_by : (p q : ℕ) → next ≡ 2 → p ≡ place_at ws (i + 1) → q ≡ place_at ws i → eqb p (q + 1) ≡ signed_at ws i
-  signed_by p q h a b = rw (k, ← l, h, ← a, ← b)
-
 or_none : (b : Bool) → b || false ≡ b
 or_none true = refl
 or_none false = refl
@@ -119,26 +115,28 @@ turned_false true e = refl
 turned_false false e = sym e
 
 -- ---- up to the body
-module _ (left : ℕ) (ws : List ℕ) (i n : ℕ) (s₀ s : List ℕ) (e : Read) (h : seen e s ≡ written_code (members (expression left ws) ws i) n s₀) where
-  pub each_wrong : (k p : ℕ) → e ≡ Wrong k p → seen (Wrong k p) s ≡ written_code (each (expression left ws) (inside_of left ws) ws i) n s₀
-  unfolding each after
-  each_wrong k p q = rw (erred_code e _ n s₀ s k p h q) (wrong_seen k p n s₀ s)
+pub each_after : (left : ℕ) (ws : List ℕ) (i : ℕ) → each (expression left ws) (inside_of left ws) ws i ≡ after (members (expression left ws) ws i) λ c j.
+    if begins_statement ws j then (λ _. opening (inside_of left ws) j λ _. good c j) otherwise λ _. wrong 10 j
+unfolding each
+each_after left ws i = refl
 
-  module _ (j m t : ℕ) (q : e ≡ At j m t) (begins : Bool) (b : begins ≡ begins_statement ws j) where
-    pub each_stops : not begins ≡ true → seen (Wrong 10 j) s ≡ written_code (each (expression left ws) (inside_of left ws) ws i) n s₀
-    unfolding each after if◌then◌otherwise◌
-    each_stops z = let w = wrote_code e _ n s₀ s j m t h q in rw (w.read, ← b, turned_true begins z) (wrong_seen 10 j n s₀ s)
+module _ (left : ℕ) (ws : List ℕ) (i n : ℕ) (s₀ s : List ℕ) (e : Read) (h : seen (Ok e) s ≡ written_code (members (expression left ws) ws i) n s₀) (begins : Bool)
+    (b : begins ≡ begins_statement ws e.token) where
+  pub each_stops : not begins ≡ true → seen (Err (record { number = 10; token = e.token })) s ≡ written_code (each (expression left ws) (inside_of left ws) ws i) n s₀
+  unfolding after if◌then◌otherwise◌
+  each_stops z = let w = wrote_code _ n s₀ s e h in refused (says_code n s₀) _ s (rw (each_after, w.read, ← b, turned_true begins z))
 
-    module _ (z : not begins ≡ false) where
-      pub each_none : left ≡ 0 → seen (Wrong 75 j) s ≡ written_code (each (expression left ws) (inside_of left ws) ws i) n s₀
-      unfolding each after if◌then◌otherwise◌ opening
-      each_none l = let w = wrote_code e _ n s₀ s j m t h q in rw (w.read, ← b, turned_false begins z, inside_none left ws l) (wrong_seen 75 j n s₀ s)
+  module _ (z : not begins ≡ false) where
+    pub each_none : left ≡ 0 → seen (Err (record { number = 75; token = e.token })) s ≡ written_code (each (expression left ws) (inside_of left ws) ws i) n s₀
+    unfolding after if◌then◌otherwise◌ opening
+    each_none l = let w = wrote_code _ n s₀ s e h in refused (says_code n s₀) _ s (rw (each_after, w.read, ← b, turned_false begins z, inside_none left ws l))
 
-      pub each_reads : (left ≡ 0 → ⊥) → seen (At j m 0) s ≡ written_code (each (expression left ws) (inside_of left ws) ws i) n s₀
-      unfolding each after if◌then◌otherwise◌ opening
-      each_reads l =
-          let w = wrote_code e _ n s₀ s j m t h q in
-          rw (w.read, ← b, turned_false begins z, inside_level left ws l) (code_seen _ n s₀ j m s w)
+    pub each_reads : (left ≡ 0 → ⊥) → seen (Ok e) s ≡ written_code (each (expression left ws) (inside_of left ws) ws i) n s₀
+    unfolding after if◌then◌otherwise◌ opening
+    each_reads l =
+        let w = wrote_code _ n s₀ s e h in
+        let q : seen (Ok e) s ≡ written_code (good w.code e.token) n s₀ = rw w.read at h in
+        rw (each_after, w.read, ← b, turned_false begins z, inside_level left ws l) q
 
 each_opens : (left : ℕ) (ws : List ℕ) (i : ℕ) (c : List ℕ) (j : ℕ) → each (expression left ws) (inside_of left ws) ws i ≡ good c j → left ≡ 0 → ⊥
 unfolding each opening after
@@ -151,7 +149,7 @@ each_opens left ws i c j q l = go (members (expression left ws) ws i) (rw (insid
 
 -- ---- foreach
 -- what stands between, and a body a level further in
-iteration_each : (left : ℕ) (ws : List ℕ) (i : ℕ)
+pub iteration_each : (left : ℕ) (ws : List ℕ) (i : ℕ)
     → iteration (expression left ws) (inside_of left ws) ws i
     ≡ after (each (expression left ws) (inside_of left ws) ws (i + 1)) λ c m. after (statement (left - 1) ws m) λ s q. good (headed 40 (place_at ws i) (length c) (c ++ s)) q
 unfolding each inside_of opening after
@@ -163,27 +161,6 @@ iteration_each (suc left) ws i =
     iteration_bodied (suc left) ws i ∙ sym (after_after (members (expression (suc left) ws) ws (i + 1)) _ _
     ∙ same_after (members (expression (suc left) ws) ws (i + 1)) _ _ λ c m _. rw q (chosen_after (begins_statement ws m) _ _ _))
 
-module _ (left : ℕ) (ws : List ℕ) (i n : ℕ) (s₀ s : List ℕ) (o : Space ws s₀ i n) (e : Read)
-    (h : seen e s ≡ written_code (each (expression left ws) (inside_of left ws) ws (i + 1)) (n + 1) s₀) where
-  pub iteration_wrong : (k p : ℕ) → e ≡ Wrong k p → seen (Wrong k p) s ≡ written_code (iteration (expression left ws) (inside_of left ws) ws i) n s₀
-  unfolding after
-  iteration_wrong k p q = rw (iteration_each left ws i, erred_code e _ (n + 1) s₀ s k p h q) (wrong_seen k p n s₀ s)
-
-  module _ (j m t : ℕ) (q : e ≡ At j m t) (l : length s ≡ length s₀) where
-    pub iteration_opens : left ≡ 0 → ⊥
-    iteration_opens = let w = wrote_code e _ (n + 1) s₀ s j m t h q in each_opens left ws (i + 1) w.code j w.read
-
-    pub iterated : Parted ws s i n j m
-    iterated = parted _ ws i n s₀ s o e h (each_paid left ws (i + 1)) j m t q l
-
-    pub iteration_reads : (d r : Read) (s₁ s₂ : List ℕ) → seen d s₁ ≡ written_code (statement (left - 1) ws j) m s
-        → seen r s₂ ≡ topped 40 (place_at ws i) n (m - n - 1) (seen d s₁)
-        → seen r s₂ ≡ written_code (iteration (expression left ws) (inside_of left ws) ws i) n s₀
-    unfolding after
-    iteration_reads d r s₁ s₂ y u =
-        let w = wrote_code e _ (n + 1) s₀ s j m t h q in
-        let p = iterated in
-        let f : m - n - 1 ≡ length w.code = omega (arith, w.up_to) in
-        let k : n < length s₀ = omega (arith, o.behind, o.wide, p.ahead, p.within) in
-        rw (iteration_each left ws i, w.read, ← f)
-        (u ∙ ap (topped 40 (place_at ws i) n (m - n - 1)) y ∙ topped_writes _ w.code s₀ s 40 (place_at ws i) n (m - n - 1) m k w.up_to w.front)
+pub iteration_opens : (left : ℕ) (ws : List ℕ) (i n : ℕ) (s₀ s : List ℕ) (e : Read) → seen (Ok e) s ≡ written_code (each (expression left ws) (inside_of left ws) ws i) n s₀
+    → left ≡ 0 → ⊥
+iteration_opens left ws i n s₀ s e h = let w = wrote_code _ n s₀ s e h in each_opens left ws i w.code e.token w.read

@@ -2,27 +2,23 @@
 -- Assumes nothing.
 use Prim.Native.Nat.{ℕ, zero, suc, ◌+◌, ◌-◌, ◌<◌, ◌≤◌}
 use mathlib.Core.Path.{◌≡◌, ◌∙◌, refl, sym, subst}
-use mathlib.Core.Bool.{true}
 use mathlib.Core.List.{List, [], ◌++◌}
 use native.Mathlib.Omega.{arith}
-use borrow.Author.Tests.{eqb-true}
-use lib.Dec.{eqb}
 use lib.ListN.{length, length-append}
 use lib.Seq.{length-take-le}
 use Rattle.meaning.specs.Token.{a_name, word_var, word_if, word_while, word_return, word_foreach, word_in, word_do, semicolon, open_paren, close_paren, open_brace, close_brace, becomes}
 use Rattle.meaning.specs.Grammar.{Got, good, wrong, after, Inside, no_level, level, opening}
 use Rattle.code.specs.Code.{headed}
+use Rattle.expressions.specs.declared.Target.{Target}
+use Rattle.expressions.specs.declared.Target.TheVariants.{Neither, Name, Entry}
 use Rattle.expressions.specs.Words.{place_at, home_at, is, Piece, ReadPiece, expect, expression}
 use Rattle.expressions.specs.Words as Expressions
-use Rattle.expressions.proofs.Tokens.{chosen, token_inside}
+use Rattle.expressions.proofs.Tokens.{chosen}
+use Rattle.expressions.proofs.Pays.{kind_inside}
 use Rattle.expressions.proofs.Paid.{Paid, expression_paid}
 use Rattle.statements.specs.Words.{ReadCode, Readers, declaration, returning, without_last, assignment, simple, guarded, begins_statement, iteration}
 use Rattle.statements.specs.Words.{skip, statements_from, statements, statement_in, statement}
 use Rattle.statements.specs.Steps.{inside_of, ended, test, members, each}
-
--- what has a kind is a token
-pub kind_inside : (ws : List ℕ) (i k : ℕ) → is (suc k) ws i ≡ true → i < length ws
-kind_inside ws i k e = token_inside ws i (suc k) (eqb-true _ _ e) (λ z. omega arith)
 
 -- ---- what is read
 abbrev pub Pays : List ℕ → ℕ → Got (List ℕ) → Type 0
@@ -130,17 +126,17 @@ module _ (ws : List ℕ) (read : ReadPiece) (ok : PaysPiece ws read) where
       let w = ok j e m q in
       expect_pays ws i m k _ w.some (omega (arith, w.ahead)) (omega (arith, w.paid))
 
-  assignment_pays : (i j : ℕ) (a : Piece) → Paid a.code ws i j → Pays ws i (assignment read ws i a j)
+  assignment_pays : (i j : ℕ) (t : Target) (c : List ℕ) → Paid c ws i j → Pays ws i (assignment read ws i t c j)
   unfolding assignment
-  assignment_pays i j a w =
-      chosen (Pays ws i) (eqb a.target 1) _ _ (λ _. headed_pays i (j + 1) 33 _ _ [] (omega (arith, w.ahead))) λ _.
-      chosen (Pays ws i) (eqb a.target 2) _ _ (λ _. headed_pays i (j + 1) 34 _ 0 (without_last a.code) (omega (arith, w.paid, without_size a.code))) λ _. tt
+  assignment_pays i j Name c w = headed_pays i (j + 1) 33 _ _ [] (omega (arith, w.ahead))
+  assignment_pays i j Entry c w = headed_pays i (j + 1) 34 _ 0 (without_last c) (omega (arith, w.paid, without_size c))
+  assignment_pays i j Neither c w = tt
 
   simple_pays : (i : ℕ) → Pays ws i (simple read ws i)
   unfolding simple
   simple_pays i = on ws i (read i) _ λ a j q.
       let w = ok i a j q in
-      chosen (Pays ws i) (is becomes ws j) _ _ (λ _. assignment_pays i j a w)
+      chosen (Pays ws i) (is becomes ws j) _ _ (λ _. assignment_pays i j a.target a.code w)
       (λ _. expect_pays ws i j 58 _ (omega arith) (omega (arith, w.ahead)) (omega (arith, w.paid)))
 
   -- x in e do

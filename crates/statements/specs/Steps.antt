@@ -4,6 +4,7 @@ use Rattle.meaning.specs.Basics.{if◌then◌otherwise◌}
 use Rattle.meaning.specs.Token.{a_name, word_in, word_do, semicolon, open_paren, close_paren}
 use Rattle.meaning.specs.Grammar.{Got, good, wrong, after, Inside, no_level, level, opening}
 use Rattle.machine.specs.Opcodes.{word}
+use Rattle.expressions.specs.declared.Target.TheVariants.{Neither}
 use Rattle.expressions.specs.Words.{home_at, is, ReadPiece, expect, expression, Seen, at, failed}
 use Rattle.statements.specs.Words.{Readers, skip, begins_statement, statement}
 
@@ -38,5 +39,5 @@ each read inside ws i =
 
 -- a statement's word at n, before its parts, with a place p and a number x
 unfoldable pub topped : ℕ → ℕ → ℕ → ℕ → Seen → Seen
-topped tag p n x (at j m t xs) = at j m 0 (set xs n (word tag (m - n) (p + 65536 * x)))
+topped tag p n x (at j m t xs) = at j m Neither (set xs n (word tag (m - n) (p + 65536 * x)))
 topped tag p n x (failed k q) = failed k q

@@ -1,11 +1,13 @@
 -- The grammar of statements, over prepared token words and with code in place of trees.
-use Rattle.std.specs.Prelude.{ℕ, zero, suc, ◌+◌, ◌-◌, Bool, ◌||◌, List, [], ◌∷◌, ◌++◌, length, take, eqb}
+use Rattle.std.specs.Prelude.{ℕ, zero, suc, ◌+◌, ◌-◌, Bool, ◌||◌, List, [], ◌∷◌, ◌++◌, length, take}
 use Rattle.meaning.specs.Basics.{if◌then◌otherwise◌}
 use Rattle.meaning.specs.Token.{a_name, a_string, word_var, word_if, word_while, word_return, word_none, word_true, word_false, word_foreach, word_in, word_do}
 use Rattle.meaning.specs.Token.{semicolon, open_paren, close_paren, open_bracket, open_brace, close_brace, becomes}
 use Rattle.meaning.specs.Grammar.{Got, good, wrong, after, Inside, no_level, level, opening}
 use Rattle.machine.specs.Opcodes.{tag_declare, tag_assign, tag_update, tag_when, tag_while, tag_return, tag_block, tag_act, tag_foreach}
 use Rattle.code.specs.Code.{headed}
+use Rattle.expressions.specs.declared.Target.{Target}
+use Rattle.expressions.specs.declared.Target.TheVariants.{Neither, Name, Entry}
 use Rattle.expressions.specs.Words.{place_at, home_at, is, positive_at, signed_at, Piece, ReadPiece, expect, expression}
 
 -- ---- statements
@@ -32,19 +34,16 @@ returning read ws i = after (read (i + 1)) λ e j. expect semicolon ws j (headed
 unfoldable pub without_last : List ℕ → List ℕ
 without_last c = take (length c - 1) c
 
--- = e; where token j is the sign and a the left side, which begins at token i
-unfoldable pub assignment : ReadPiece → List ℕ → ℕ → Piece → ℕ → Got (List ℕ)
-assignment read ws i a j =
-    if eqb a.target 1 then (λ _.
-    after (read (j + 1)) λ e m. expect semicolon ws m (headed tag_assign (place_at ws i) (home_at ws i) e.code))
-    otherwise λ _. if eqb a.target 2 then (λ _.
-    after (read (j + 1)) λ e m. expect semicolon ws m (headed tag_update (place_at ws i) 0 (without_last a.code ++ e.code)))
-    otherwise λ _. wrong 10 j
+-- = e; where token j is the sign, and the left side, which begins at token i, has the code c
+unfoldable pub assignment : ReadPiece → List ℕ → ℕ → Target → List ℕ → ℕ → Got (List ℕ)
+assignment read ws i Name c j = after (read (j + 1)) λ e m. expect semicolon ws m (headed tag_assign (place_at ws i) (home_at ws i) e.code)
+assignment read ws i Entry c j = after (read (j + 1)) λ e m. expect semicolon ws m (headed tag_update (place_at ws i) 0 (without_last c ++ e.code))
+assignment read ws i Neither c j = wrong 10 j
 
 unfoldable pub simple : ReadPiece → List ℕ → ℕ → Got (List ℕ)
 simple read ws i =
     after (read i) λ a j.
-    if is becomes ws j then (λ _. assignment read ws i a j)
+    if is becomes ws j then (λ _. assignment read ws i a.target a.code j)
     otherwise λ _. expect semicolon ws j (headed tag_act (place_at ws i) 0 a.code)
 
 -- (e) and a body, behind if or while, whose place is p

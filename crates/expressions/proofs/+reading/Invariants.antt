@@ -14,8 +14,8 @@ decreases-read_operand l = 4 * (length l.tokens.now - l.i) + 1
 abbrev pub decreases-read_primary : goal.decreases-read_primary
 decreases-read_primary l = 4 * (length l.tokens.now - l.i) + 0
 
-abbrev pub invariant-read_arguments-loop-k : goal.invariant-read_arguments-loop-k
-invariant-read_arguments-loop-k l = Going l.left l.tokens l.i l.n l.initial.words l.at l.m l.words
+abbrev pub invariant-read_arguments-loop-e : goal.invariant-read_arguments-loop-e
+invariant-read_arguments-loop-e l = Going l.left l.tokens l.i l.n l.initial.words l.at l.m l.words
 
-abbrev pub decreases-read_arguments-loop-k : goal.decreases-read_arguments-loop-k
-decreases-read_arguments-loop-k l = length l.tokens - l.at
+abbrev pub decreases-read_arguments-loop-e : goal.decreases-read_arguments-loop-e
+decreases-read_arguments-loop-e l = length l.tokens - l.at

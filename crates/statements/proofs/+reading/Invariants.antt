@@ -17,8 +17,8 @@ decreases-read_statement l = 3 * (length l.tokens.now - l.i) + 1
 abbrev pub decreases-read_statements : goal.decreases-read_statements
 decreases-read_statements l = 3 * (length l.tokens.now - l.i) + 2
 
-abbrev pub invariant-read_statements-loop-k : goal.invariant-read_statements-loop-k
-invariant-read_statements-loop-k l = Going l.left l.tokens l.i l.n l.initial.words l.at l.m l.words
+abbrev pub invariant-read_statements-loop-e : goal.invariant-read_statements-loop-e
+invariant-read_statements-loop-e l = Going l.left l.tokens l.i l.n l.initial.words l.at l.m l.words
 
-abbrev pub decreases-read_statements-loop-k : goal.decreases-read_statements-loop-k
-decreases-read_statements-loop-k l = length l.tokens - l.at
+abbrev pub decreases-read_statements-loop-e : goal.decreases-read_statements-loop-e
+decreases-read_statements-loop-e l = length l.tokens - l.at
