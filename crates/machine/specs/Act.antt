@@ -1,10 +1,12 @@
 -- What code does to the two lent slices: it gives a result, or it stops with a number and its place.
-use Rattle.std.specs.Prelude.{ℕ, ◌+◌, ◌%◌, ◌^◌, ◌≡◌, Bool, true, false, List, get_or, set, leb}
+use Rattle.std.specs.Prelude.{ℕ, ◌+◌, ◌%◌, ◌^◌, ◌≡◌, Bool, true, false, List, Result, Ok, Err, get_or, set, leb}
 use Rattle.meaning.specs.Basics.{if◌then◌otherwise◌}
 use Rattle.machine.specs.declared.Value.{Value}
 use Rattle.machine.specs.declared.Value.TheVariants.{Table}
 use Rattle.machine.specs.declared.Answer.{Answer}
 use Rattle.machine.specs.declared.Answer.TheVariants.{Good, Bad}
+use Rattle.machine.specs.declared.Fault.{Fault}
+use Rattle.machine.specs.Fault.{number_of, place_of}
 use Rattle.machine.specs.Layout.{steps_used, steps_granted, tables_made}
 
 -- the text store and the words
@@ -73,6 +75,19 @@ new_table = do
   give (Table (t % 2 ^ 32))
 
 -- ---- what code answers
+-- a result, or why it stopped, with the slices then
+unfoldable pub out_of : {A : Type 0} → Result A Fault → List ℕ → List ℕ → Out A
+out_of (Ok a) ts ws = done a (raw ts ws)
+out_of (Err e) ts ws = stop (number_of e) (place_of e) (raw ts ws)
+
+-- Code that is handed both slices does what an act does: with the slices before and after, it answers so.
+pub record DoesIn {A : Type 0} (ts ws : List ℕ) (act : Act A) (answer : Result A Fault) (ts' ws' : List ℕ) : Type 0 where
+  pub equal : out_of answer ts' ws' ≡ act (raw ts ws)
+
+-- Code that is handed the words alone does what an act does, whatever the text store holds.
+pub record Does {A : Type 0} (before : List ℕ) (act : Act A) (answer : Result A Fault) (after : List ℕ) : Type 0 where
+  pub equal : (ts : List ℕ) → out_of answer ts after ≡ act (raw ts before)
+
 unfoldable pub shown : Answer → List ℕ → List ℕ → Out Value
 shown (Good v) ts ws = done v (raw ts ws)
 shown (Bad n p) ts ws = stop n p (raw ts ws)

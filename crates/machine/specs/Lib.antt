@@ -20,3 +20,4 @@ pub mod Loops
 pub mod Execute
 pub mod Procedures
 pub mod Interpret
+pub mod Fault

@@ -2,6 +2,9 @@
 
 #![tactic(auto)]
 
+ghost use Rattle.std.specs.Prelude.{◌≡◌};
+ghost use Rattle.machine.specs.Fault.{number_of, place_of};
+
 // A value. A text is a part of the program or of the text store; tables and shapes are known by their numbers.
 #[derive(Clone, Copy)]
 pub enum Value {
@@ -18,6 +21,70 @@ pub enum Value {
 pub enum Answer {
     Good(Value),
     Bad(u64, u64),
+}
+
+// Why a run stops, with the place that it names.
+#[derive(Clone, Copy)]
+pub enum Fault {
+    Misuse(u64),
+    Destroyed(u64),
+    NegativeSize(u64),
+    Undeclared(u64),
+    DeclaredTwice(u64),
+    DivisionByZero(u64),
+    NoSheet(u64),
+    TooLong(u64),
+    NoShapeLeft(u64),
+    NoEntryLeft(u64),
+    NoTextLeft(u64),
+    NoStepLeft(u64),
+    NoCallLeft(u64),
+    Numbered(u64, u64),
+}
+
+impl Fault {
+    // Its number in the language.
+    pub fn number(self) -> u64
+        ensures { result ≡ number_of self }
+    {
+        match self {
+            Fault::Misuse(_) => 20,
+            Fault::Destroyed(_) => 30,
+            Fault::NegativeSize(_) => 40,
+            Fault::Undeclared(_) => 50,
+            Fault::DeclaredTwice(_) => 60,
+            Fault::DivisionByZero(_) => 70,
+            Fault::NoSheet(_) => 72,
+            Fault::TooLong(_) => 73,
+            Fault::NoShapeLeft(_) => 76,
+            Fault::NoEntryLeft(_) => 77,
+            Fault::NoTextLeft(_) => 78,
+            Fault::NoStepLeft(_) => 79,
+            Fault::NoCallLeft(_) => 81,
+            Fault::Numbered(n, _) => n,
+        }
+    }
+
+    pub fn place(self) -> u64
+        ensures { result ≡ place_of self }
+    {
+        match self {
+            Fault::Misuse(p) => p,
+            Fault::Destroyed(p) => p,
+            Fault::NegativeSize(p) => p,
+            Fault::Undeclared(p) => p,
+            Fault::DeclaredTwice(p) => p,
+            Fault::DivisionByZero(p) => p,
+            Fault::NoSheet(p) => p,
+            Fault::TooLong(p) => p,
+            Fault::NoShapeLeft(p) => p,
+            Fault::NoEntryLeft(p) => p,
+            Fault::NoTextLeft(p) => p,
+            Fault::NoStepLeft(p) => p,
+            Fault::NoCallLeft(p) => p,
+            Fault::Numbered(_, p) => p,
+        }
+    }
 }
 
 // What a shape that is no group looks like: its kind (shapes), four numbers, and a text's handle, each 0 where it has none.
