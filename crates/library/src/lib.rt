@@ -108,11 +108,10 @@ fn destroy(words: &mut [u64], grants: &[u64; 5], p: u64, base: u64, n: u64) -> A
         return Answer::Bad(20, p);
     }
     let i = arguments::shape_at(words, base, 0);
-    let number = destroying::destroy_all(words, grants, i);
-    if number != 0 {
-        return Answer::Bad(number, p);
+    match destroying::destroy_all(words, grants, p, i) {
+        Ok(_) => Answer::Good(Value::Nothing),
+        Err(e) => Answer::Bad(e.number(), e.place()),
     }
-    Answer::Good(Value::Nothing)
 }
 
 fn clear(words: &mut [u64], grants: &[u64; 5], p: u64, n: u64) -> Answer
@@ -122,11 +121,10 @@ fn clear(words: &mut [u64], grants: &[u64; 5], p: u64, n: u64) -> Answer
     if n != 0 {
         return Answer::Bad(20, p);
     }
-    let number = destroying::scene::clear_scene(words, grants);
-    if number != 0 {
-        return Answer::Bad(number, p);
+    match destroying::scene::clear_scene(words, grants, p) {
+        Ok(_) => Answer::Good(Value::Nothing),
+        Err(e) => Answer::Bad(e.number(), e.place()),
     }
-    Answer::Good(Value::Nothing)
 }
 
 // A group of shapes, whose numbers stand above the kinds in the arguments' words.

@@ -1,5 +1,5 @@
 -- How acts go on after what code answered: a law for each way, with the text store and of the words alone.
-use Rattle.std.specs.Prelude.{ℕ, ◌≡◌, Bool, true, false, List, Result, Ok, Err}
+use Rattle.std.specs.Prelude.{ℕ, ◌≡◌, Bool, true, false, List, Result, Ok, Err, get_or, set}
 use Rattle.std.specs.Result.{IsErrAnd}
 use mathlib.Core.Path.{refl, ap, sym, ◌∙◌}
 use Rattle.meaning.specs.Basics.{if◌then◌otherwise◌}
@@ -107,3 +107,12 @@ given a = record { equal = λ ts. refl }
 pub failed : {A : Type 0} {ws : List ℕ} (e : Fault) → Does {A = A} ws (fail (number_of e) (place_of e)) (Err e) ws
 unfolding fail out_of
 failed e = record { equal = λ ts. refl }
+
+-- a word that is loaded, and one that is stored
+pub loaded : {ws : List ℕ} (i : ℕ) → Does ws (load i) (Ok (get_or ws i 0)) ws
+unfolding load out_of
+loaded i = record { equal = λ ts. refl }
+
+pub stored : {ws : List ℕ} (i w : ℕ) → Does ws (store i w) (Ok tt) (set ws i w)
+unfolding store out_of
+stored i w = record { equal = λ ts. refl }
