@@ -1,11 +1,11 @@
 -- How acts go on after what code answered: a law for each way, with the text store and of the words alone.
 use Rattle.std.specs.Prelude.{ℕ, ◌≡◌, Bool, true, false, List, Result, Ok, Err, get_or, set}
 use Rattle.std.specs.Result.{IsErrAnd}
-use mathlib.Core.Path.{refl, ap, sym, ◌∙◌}
+use mathlib.Core.Path.{refl, ap, ◌∙◌}
 use Rattle.meaning.specs.Basics.{if◌then◌otherwise◌}
 use Rattle.machine.specs.declared.Fault.{Fault}
 use Rattle.machine.specs.Fault.{number_of, place_of}
-use Rattle.machine.specs.Act.{Raw, raw, Out, done, Act, go_on, ◌>>=◌, refuse, give, fail, load, store, held, out_of, DoesIn, Does, Gives}
+use Rattle.machine.specs.Act.{Out, Act, go_on, ◌>>=◌, refuse, give, fail, load, store, held, out_of, DoesIn, Does, Gives}
 
 -- what the exit of a `?` returns
 pub passed_on : {A : Type 0} {e : Fault} (s : Result A Fault) → IsErrAnd s (λ y. y ≡ e) → s ≡ Err e
@@ -61,6 +61,10 @@ module _ {B : Type 0} {ws ws' : List ℕ} {s : Result B Fault} where
   unfolding ◌>>=◌ go_on held
   holding k h = record { equal = h.equal }
 
+  pub loading : (i : ℕ) (k : ℕ → Act B) → Does ws (k (get_or ws i 0)) s ws' → Does ws (load i >>= k) s ws'
+  unfolding ◌>>=◌ go_on load
+  loading i k h = record { equal = h.equal }
+
   module _ (b : Bool) where
     pub allowed : (n p : ℕ) (k : Unit {0} → Act B) → b ≡ false → Does ws (k tt) s ws' → Does ws (refuse b n p >>= k) s ws'
     unfolding ◌>>=◌ go_on refuse give
@@ -78,6 +82,10 @@ module _ {B : Type 0} {ws ws' ts ts' : List ℕ} {s : Result B Fault} where
   pub holding_in : (k : List ℕ → Act B) → DoesIn ts ws (k ws) s ts' ws' → DoesIn ts ws (held >>= k) s ts' ws'
   unfolding ◌>>=◌ go_on held
   holding_in k h = record { equal = h.equal }
+
+  pub loading_in : (i : ℕ) (k : ℕ → Act B) → DoesIn ts ws (k (get_or ws i 0)) s ts' ws' → DoesIn ts ws (load i >>= k) s ts' ws'
+  unfolding ◌>>=◌ go_on load
+  loading_in i k h = record { equal = h.equal }
 
   module _ (b : Bool) where
     pub allowed_in : (n p : ℕ) (k : Unit {0} → Act B) → b ≡ false → DoesIn ts ws (k tt) s ts' ws' → DoesIn ts ws (refuse b n p >>= k) s ts' ws'
@@ -108,11 +116,7 @@ pub failed : {A : Type 0} {ws : List ℕ} (e : Fault) → Does {A = A} ws (fail 
 unfolding fail out_of
 failed e = record { equal = λ ts. refl }
 
--- a word that is loaded, and one that is stored
-pub loaded : {ws : List ℕ} (i : ℕ) → Does ws (load i) (Ok (get_or ws i 0)) ws
-unfolding load out_of
-loaded i = record { equal = λ ts. refl }
-
+-- a word that is stored
 pub stored : {ws : List ℕ} (i w : ℕ) → Does ws (store i w) (Ok tt) (set ws i w)
 unfolding store out_of
 stored i w = record { equal = λ ts. refl }
