@@ -9,11 +9,12 @@ use borrow.Author.Tests.{ne_eqb, not-true, not-false}
 use Rattle.meaning.specs.Basics.{if◌then◌otherwise◌}
 use Rattle.machine.specs.Opcodes.{tag_in, extra_in, tag_assign, tag_return}
 use Rattle.machine.specs.declared.Value.{Value}
-use Rattle.machine.specs.declared.Answer.{Answer}
-use Rattle.machine.specs.declared.Answer.TheVariants.{Good, Bad}
+use Rattle.std.specs.Prelude.{Result, Ok, Err}
+use Rattle.machine.specs.declared.Fault.{Fault}
+use Rattle.machine.specs.Fault.{number_of, place_of}
 use Rattle.machine.specs.Words.{kind_in, number_in, truth_in, packed, unpacked, kind_truth, kind_shape}
 use Rattle.machine.specs.Layout.{loop_unit}
-use Rattle.machine.specs.Act.{held, go_on, ◌>>=◌, give, fail, refuse, shown, Answers, Passes, Gives}
+use Rattle.machine.specs.Act.{held, go_on, ◌>>=◌, give, fail, refuse, out_of, Does, Passes, Gives}
 use Rattle.machine.specs.Shapes.{is_group_at, destroyed_at}
 use Rattle.machine.specs.Groups.{copy_shape}
 use Rattle.machine.specs.Operate.{with_shape, with_group}
@@ -55,13 +56,13 @@ module _ (ws g : List ℕ) (slot k p : ℕ) (ok : Bool) (d : ok ≡ is_declared 
   shape_dead b t e u = record { equal = λ ts. rw (known_is t, ← e, u) }
 
   module _ (t : not ok ≡ false) (l : Bool) (d₁ : l ≡ is_dead ws (unpacked k)) (u : l ≡ false) (i : kind_in k ≡ kind_shape) (n : ℕ) (m : n ≡ number_in k)
-      (a : Answer) (ws₁ : List ℕ) (o : Answers ws (copy_shape g p n) a ws₁) where
-    pub no_copy : (l q : ℕ) → a ≡ Bad l q → Flows ws (assigning g p slot k) (Stopped l q) ws₁
-    unfolding assigning copied usable if◌then◌otherwise◌ ◌>>=◌ go_on held refuse give shown_flow shown
-    no_copy l q b = record { equal = λ ts. sym (rw (known_is t, ← d₁, u, i, ← m, ← o.equal ts, b)) }
+      (a : Result Value Fault) (ws₁ : List ℕ) (o : Does ws (copy_shape g p n) a ws₁) where
+    pub no_copy : (e : Fault) (l q : ℕ) → a ≡ Err e → l ≡ number_of e → q ≡ place_of e → Flows ws (assigning g p slot k) (Stopped l q) ws₁
+    unfolding assigning copied usable if◌then◌otherwise◌ ◌>>=◌ go_on held refuse give shown_flow out_of
+    no_copy e l q b v w = record { equal = λ ts. sym (rw (known_is t, ← d₁, u, i, ← m, ← o.equal ts, b, v, w)) }
 
-    pub copy_put : (v : Value) (c : ℕ) (ws₂ : List ℕ) → a ≡ Good v → c ≡ packed v → Gives ws₁ (set_variable slot c) tt ws₂ → Flows ws (assigning g p slot k) Onward ws₂
-    unfolding assigning copied usable if◌then◌otherwise◌ ◌>>=◌ go_on held refuse give shown_flow shown
+    pub copy_put : (v : Value) (c : ℕ) (ws₂ : List ℕ) → a ≡ Ok v → c ≡ packed v → Gives ws₁ (set_variable slot c) tt ws₂ → Flows ws (assigning g p slot k) Onward ws₂
+    unfolding assigning copied usable if◌then◌otherwise◌ ◌>>=◌ go_on held refuse give shown_flow out_of
     copy_put v c ws₂ b r s = record { equal = λ ts. sym (rw (known_is t, ← d₁, u, i, ← m, ← o.equal ts, b, ← r, ← s.equal ts)) }
 
 -- ---- statements of one expression

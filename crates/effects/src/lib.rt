@@ -9,7 +9,7 @@ ghost use Rattle.machine.specs.Loops.{inner_unit};
 ghost use Rattle.machine.specs.Effects.{Flows, declaring, assigning, finishing, outcome_in};
 ghost use Rattle.effects.specs.Looped.{Opens, Enters};
 
-use machine::{Answer, Flow, Outcome, counters, kinds, tags};
+use machine::{Flow, Outcome, counters, kinds, tags};
 
 // ---- declarations
 pub fn declare(words: &mut [u64], slot: usize, p: u64) -> Flow
@@ -49,11 +49,11 @@ fn put_copy(words: &mut [u64], grants: &[u64; 5], slot: usize, k: u64, p: u64) -
         return Flow::Stopped(30, p);
     }
     match groups::making::copy_shape(words, grants, p, values::number_of(k)) {
-        Answer::Good(v) => {
+        Ok(v) => {
             frames::variables::set_variable(words, slot, values::pack(v));
             Flow::Onward
         }
-        Answer::Bad(n, q) => Flow::Stopped(n, q),
+        Err(e) => Flow::Stopped(e.number(), e.place()),
     }
 }
 

@@ -9,19 +9,20 @@ use lib.Signed.{mag}
 use mir.Syntax.{w32}
 use mir.Val.{SFits}
 use mir.Facts.{to_z-of_z}
+use Rattle.std.specs.Prelude.{Ok, Err}
+use Rattle.machine.specs.declared.Fault.TheVariants.{Misuse, DivisionByZero}
 use Rattle.meaning.specs.Basics.{if◌then◌otherwise◌}
 use Rattle.meaning.specs.Integer.{sum, difference, product, quotient, is_zero}
 use Rattle.machine.specs.declared.Figure.{Figure}
 use Rattle.machine.specs.Operate.{moved, kept, plus_x, plus_y, minus_x, minus_y, scaled, scaled_up, scaled_down}
-use Rattle.figures.specs.Changes.{placed, renumbered, refusal, changed}
+use Rattle.figures.specs.Changes.{placed, renumbered, refusal, unless, changed}
 use Rattle.values.proofs.Held.{held, back, back_by, test_is}
 
 -- ---- points in other places, and other numbers
 module _ (f : Figure) {x y : ℤ} (z w : ℤ) (i : SFits w32 x) (j : SFits w32 y) where
-  pub line_placed : SFits w32 z → SFits w32 w → f.kind ≡ 0
-      → ◌≡◌ {A = Figure} (record { kind = f.kind; a = held x; b = held y; c = held z; d = held w; text = f.text }) (placed f x y z w)
-  unfolding placed
-  line_placed k l e = rw (to_z-of_z i, to_z-of_z j, to_z-of_z k, to_z-of_z l, e)
+  pub line_placed : {r : Figure} → SFits w32 z → SFits w32 w → f.kind ≡ 0 → r ≡ renumbered f (held x) (held y) (held z) (held w) → r ≡ placed f x y z w
+  unfolding placed renumbered
+  line_placed k l e h = h ∙ rw (to_z-of_z i, to_z-of_z j, to_z-of_z k, to_z-of_z l, e)
 
   pub other_placed : mag f.c < 2 ^ 31 → mag f.d < 2 ^ 31 → (f.kind ≡ 0 → ⊥)
       → ◌≡◌ {A = Figure} (record { kind = f.kind; a = held x; b = held y; c = held f.c; d = held f.d; text = f.text }) (placed f x y z w)
@@ -91,39 +92,40 @@ module _ (f : Figure) {n : ℤ} (j : SFits w32 n) {r : Figure} (ka : mag f.a < 2
   scaled_down_is t p h q i s k u l = scales quotient f j ka kb kc kd t p h q i s k u l
 
 -- ---- by tag
-module _ {tag : ℕ} (n : ℤ) where
-  pub makes_17 : tag ≡ 17 → 0 ≡ refusal tag n
-  unfolding refusal if◌then◌otherwise◌
+module _ {tag : ℕ} (n : ℤ) (p : ℕ) where
+  pub makes_17 : tag ≡ 17 → Ok tt ≡ unless (refusal tag n) p
+  unfolding refusal unless if◌then◌otherwise◌
   makes_17 t = rw t
 
-  pub makes_18 : tag ≡ 18 → 0 ≡ refusal tag n
-  unfolding refusal if◌then◌otherwise◌
+  pub makes_18 : tag ≡ 18 → Ok tt ≡ unless (refusal tag n) p
+  unfolding refusal unless if◌then◌otherwise◌
   makes_18 t = rw t
 
-  pub makes_19 : tag ≡ 19 → 0 ≡ refusal tag n
-  unfolding refusal if◌then◌otherwise◌
+  pub makes_19 : tag ≡ 19 → Ok tt ≡ unless (refusal tag n) p
+  unfolding refusal unless if◌then◌otherwise◌
   makes_19 t = rw t
 
-  pub makes_20 : {b : Bool} → tag ≡ 20 → SFits w32 n → b ≡ is_zero (held n) → b ≡ false → 0 ≡ refusal tag n
-  unfolding refusal if◌then◌otherwise◌
+  pub makes_20 : {b : Bool} → tag ≡ 20 → SFits w32 n → b ≡ is_zero (held n) → b ≡ false → Ok tt ≡ unless (refusal tag n) p
+  unfolding refusal unless if◌then◌otherwise◌
   makes_20 t j z e = rw (t, test_is is_zero j z e)
 
-  pub zero_20 : {b : Bool} → tag ≡ 20 → SFits w32 n → b ≡ is_zero (held n) → b ≡ true → 70 ≡ refusal tag n
-  unfolding refusal if◌then◌otherwise◌
+  pub zero_20 : {b : Bool} → tag ≡ 20 → SFits w32 n → b ≡ is_zero (held n) → b ≡ true → Err (DivisionByZero p) ≡ unless (refusal tag n) p
+  unfolding refusal unless if◌then◌otherwise◌
   zero_20 t j z e = rw (t, test_is is_zero j z e)
 
-  pub makes_22 : tag ≡ 22 → 0 ≡ refusal tag n
-  unfolding refusal if◌then◌otherwise◌
+  pub makes_22 : tag ≡ 22 → Ok tt ≡ unless (refusal tag n) p
+  unfolding refusal unless if◌then◌otherwise◌
   makes_22 t = rw t
 
-  pub makes_23 : tag ≡ 23 → 0 ≡ refusal tag n
-  unfolding refusal if◌then◌otherwise◌
+  pub makes_23 : tag ≡ 23 → Ok tt ≡ unless (refusal tag n) p
+  unfolding refusal unless if◌then◌otherwise◌
   makes_23 t = rw t
 
-  pub makes_none : (tag ≡ 17 → ⊥) → (tag ≡ 18 → ⊥) → (tag ≡ 19 → ⊥) → (tag ≡ 20 → ⊥) → (tag ≡ 22 → ⊥) → (tag ≡ 23 → ⊥) → 20 ≡ refusal tag n
-  unfolding refusal if◌then◌otherwise◌
+  pub makes_none : (tag ≡ 17 → ⊥) → (tag ≡ 18 → ⊥) → (tag ≡ 19 → ⊥) → (tag ≡ 20 → ⊥) → (tag ≡ 22 → ⊥) → (tag ≡ 23 → ⊥) → Err (Misuse p) ≡ unless (refusal tag n) p
+  unfolding refusal unless if◌then◌otherwise◌
   makes_none a b c d e f = rw (ne_eqb _ _ a, ne_eqb _ _ b, ne_eqb _ _ c, ne_eqb _ _ d, ne_eqb _ _ e, ne_eqb _ _ f)
 
+module _ {tag : ℕ} (n : ℤ) where
   -- a figure is scaled down by no 0
   pub no_zero : tag ≡ 20 → SFits w32 n → refusal tag n ≡ 0 → is_zero (held n) ≡ false
   unfolding refusal if◌then◌otherwise◌

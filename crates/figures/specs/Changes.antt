@@ -1,7 +1,9 @@
 -- What an operator makes of a figure and an integer.
-use Rattle.std.specs.Prelude.{ℕ, cond, ℤ, eqb}
+use Rattle.std.specs.Prelude.{ℕ, cond, ℤ, eqb, Result, Ok, Err}
 use Rattle.meaning.specs.Basics.{if◌then◌otherwise◌}
 use Rattle.meaning.specs.Integer.{is_zero}
+use Rattle.machine.specs.declared.Fault.{Fault}
+use Rattle.machine.specs.declared.Fault.TheVariants.{Misuse, DivisionByZero}
 use Rattle.machine.specs.declared.Figure.{Figure}
 use Rattle.machine.specs.Operate.{plus_x, plus_y, minus_x, minus_y, scaled_up, scaled_down}
 
@@ -15,6 +17,13 @@ refusal tag n =
     otherwise λ _. if eqb tag 22 then (λ _. 0)
     otherwise λ _. if eqb tag 23 then (λ _. 0)
     otherwise λ _. 20
+
+-- what stops then, at a place
+unfoldable pub unless : ℕ → ℕ → Result (Unit {0}) Fault
+unless number p =
+    if eqb number 0 then (λ _. Ok tt)
+    otherwise λ _. if eqb number 70 then (λ _. Err (DivisionByZero p))
+    otherwise λ _. Err (Misuse p)
 
 -- the figure that it makes
 unfoldable pub changed : ℕ → Figure → ℤ → Figure

@@ -2,32 +2,18 @@
 ghost use Rattle.std.specs.Prelude.{◌≡◌, false};
 ghost use Rattle.meaning.specs.Integer.{is_zero};
 ghost use Rattle.machine.specs.Operate.{plus_x, plus_y, minus_x, minus_y, scaled_up, scaled_down};
-ghost use Rattle.figures.specs.Changes.{placed, renumbered, refusal, changed};
+ghost use Rattle.figures.specs.Changes.{placed, renumbered, refusal, unless, changed};
 
-use machine::{Figure, shapes, tags};
+use machine::{Fault, Figure, shapes, tags};
 
 // A figure with its first point in another place, and its second if it is a line.
 fn placed(f: Figure, x: i32, y: i32, z: i32, w: i32) -> Figure
     ensures { result ≡ placed f x y z w }
 {
     if f.kind == shapes::LINE {
-        return Figure {
-            kind: f.kind,
-            a: x,
-            b: y,
-            c: z,
-            d: w,
-            text: f.text,
-        };
+        return renumbered(f, x, y, z, w);
     }
-    Figure {
-        kind: f.kind,
-        a: x,
-        b: y,
-        c: f.c,
-        d: f.d,
-        text: f.text,
-    }
+    Figure { a: x, b: y, ..f }
 }
 
 // A figure with other numbers.
@@ -35,12 +21,11 @@ fn renumbered(f: Figure, x: i32, y: i32, z: i32, w: i32) -> Figure
     ensures { result ≡ renumbered f x y z w }
 {
     Figure {
-        kind: f.kind,
         a: x,
         b: y,
         c: z,
         d: w,
-        text: f.text,
+        ..f
     }
 }
 
@@ -97,23 +82,23 @@ fn scaled_down(f: Figure, n: i32) -> Figure
     renumbered(f, x, y, z, w)
 }
 
-// Why an operator makes no shape of a shape and n: 20, or 70 for a division by 0. 0 if it makes one.
-pub fn refusal(tag: u64, n: i32) -> u64
-    ensures { result ≡ refusal tag n }
+// Whether an operator makes a shape of a shape and n.
+pub fn allowed(tag: u64, n: i32, p: u64) -> Result<(), Fault>
+    ensures { result ≡ unless (refusal tag n) p }
 {
     match tag {
-        tags::ADD => 0,
-        tags::SUBTRACT => 0,
-        tags::MULTIPLY => 0,
+        tags::ADD => Ok(()),
+        tags::SUBTRACT => Ok(()),
+        tags::MULTIPLY => Ok(()),
         tags::DIVIDE => {
             if arithmetic::is_zero(n) {
-                return 70;
+                return Err(Fault::DivisionByZero(p));
             }
-            0
+            Ok(())
         }
-        tags::SHIFT_RIGHT => 0,
-        tags::SHIFT_LEFT => 0,
-        _ => 20,
+        tags::SHIFT_RIGHT => Ok(()),
+        tags::SHIFT_LEFT => Ok(()),
+        _ => Err(Fault::Misuse(p)),
     }
 }
 

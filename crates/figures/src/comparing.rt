@@ -9,31 +9,20 @@ use machine::Figure;
 fn same_pair(x: i32, y: i32, z: i32, w: i32) -> bool
     ensures { result ≡ same_pair x y z w }
 {
-    if !arithmetic::same(x, z) {
-        return false;
-    }
-    arithmetic::same(y, w)
+    arithmetic::same(x, z) && arithmetic::same(y, w)
 }
 
 fn same_numbers(f: Figure, g: Figure) -> bool
     ensures { result ≡ same_numbers f g }
 {
-    if !same_pair(f.a, f.b, g.a, g.b) {
-        return false;
-    }
-    same_pair(f.c, f.d, g.c, g.d)
+    same_pair(f.a, f.b, g.a, g.b) && same_pair(f.c, f.d, g.c, g.d)
 }
 
+// No derived equality: texts are compared by their bytes.
 fn same_figure<'a>(program: &'a [u8], texts: &'a [u8], f: Figure, g: Figure) -> bool
     ensures { result ≡ same_figure program.now texts.now f g }
 {
-    if f.kind != g.kind {
-        return false;
-    }
-    if !same_numbers(f, g) {
-        return false;
-    }
-    texts::same_text(program, texts, f.text, g.text)
+    f.kind == g.kind && same_numbers(f, g) && texts::same_text(program, texts, f.text, g.text)
 }
 
 pub fn same_shape<'a>(program: &'a [u8], texts: &'a [u8], words: &[u64], i: u32, j: u32) -> bool

@@ -1,10 +1,10 @@
 -- What making groups asks, and what its parts do.
-use Rattle.std.specs.Prelude.{ℕ, ◌+◌, ◌/◌, ◌%◌, ◌^◌, ◌≤◌, ◌<◌, ◌≡◌, Bool, true, List, get_or}
+use Rattle.std.specs.Prelude.{ℕ, ◌+◌, ◌/◌, ◌%◌, ◌^◌, ◌≤◌, ◌<◌, ◌≡◌, List, Result, Ok, get_or}
+use Rattle.machine.specs.declared.Fault.{Fault}
 use Rattle.machine.specs.declared.Value.{Value}
 use Rattle.machine.specs.declared.Value.TheVariants.{Shape}
-use Rattle.machine.specs.Layout.{shapes_used, entries_used, components_made, entries_granted, component_place, Room}
-use Rattle.machine.specs.Act.{Passes, Act, ◌>>=◌, ◌>>◌, give, load, store, spend}
-use Rattle.walks.specs.Walks.{Ends}
+use Rattle.machine.specs.Layout.{entries_used, components_made, entries_granted, component_place, Room}
+use Rattle.machine.specs.Act.{Does, Act, ◌>>=◌, ◌>>◌, give, load, store, spend}
 use Rattle.machine.specs.Groups.{slot_word, first_at, count_at, unmarked, new_group, group_waiting}
 
 -- the component whose number stands above so many bits, unit, of the word at a place, with n behind it, on no loop's way
@@ -33,17 +33,13 @@ unfoldable pub copy_group : List ℕ → ℕ → ℕ → List ℕ → Act Value
 copy_group g p i ws = grouping g p 1 1 (component_place g (first_at ws i)) (count_at ws i)
 
 -- a component added, and what it says of the entries used
-pub record Adds (g ws : List ℕ) (unit place n : ℕ) (ok : Bool) (ws' : List ℕ) : Type 0 where
-  pub passes : Passes ws 77 (add_one g unit place n) ok ws'
-  pub used : ok ≡ true → (get_or ws' entries_used 0 ≡ get_or ws entries_used 0 + 1) × (get_or ws entries_used 0 < 2 ^ 16)
+pub record Adds (g : List ℕ) (p : ℕ) (ws : List ℕ) (unit place n : ℕ) (answer : Result (Unit {0}) Fault) (ws' : List ℕ) : Type 0 where
+  pub does : Does ws (add_one g unit place n p) answer ws'
+  pub used : answer ≡ Ok tt → (get_or ws' entries_used 0 ≡ get_or ws entries_used 0 + 1) × (get_or ws entries_used 0 < 2 ^ 16)
 
 -- a group made, whatever its number
 unfoldable pub making : List ℕ → ℕ → ℕ → ℕ → ℕ → ℕ → Act (Unit {0})
 making g stride unit place n p = new_group g p stride unit place n >>= λ j. give tt
-
-pub record Makes (g ws : List ℕ) (stride unit place n number : ℕ) (ws' : List ℕ) : Type 0 where
-  pub ends : Ends ws (making g stride unit place n) number ws'
-  pub within : number ≡ 0 → get_or ws shapes_used 0 < 2 ^ 16
 
 -- a group of those that wait, whatever its number
 unfoldable pub gathering : List ℕ → ℕ → ℕ → Act (Unit {0})

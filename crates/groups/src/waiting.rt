@@ -27,12 +27,13 @@ pub fn gather(words: &mut [u64], grants: &[u64; 5], m: u32) -> u64
 {
     let n = arithmetic::lowered_word(words[counters::WAITING], m as u64);
     let at = shapes::place_of(m) + 4;
-    let r = making::make_group(words, grants, layout::SHAPE_WORDS, 1, at, n);
-    if r != 0 {
-        return r;
+    match making::make_group(words, grants, 0, layout::SHAPE_WORDS, 1, at, n) {
+        Ok(_) => {
+            words[counters::WAITING] = m as u64;
+            0
+        }
+        Err(e) => e.number(),
     }
-    words[counters::WAITING] = m as u64;
-    0
 }
 
 // A group whose components were all made anew is left: its own group waits.

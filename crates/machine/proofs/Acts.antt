@@ -5,7 +5,7 @@ use mathlib.Core.Path.{refl, ap, ◌∙◌}
 use Rattle.meaning.specs.Basics.{if◌then◌otherwise◌}
 use Rattle.machine.specs.declared.Fault.{Fault}
 use Rattle.machine.specs.Fault.{number_of, place_of}
-use Rattle.machine.specs.Act.{Out, Act, go_on, ◌>>=◌, refuse, give, fail, load, store, held, out_of, DoesIn, Does, Gives}
+use Rattle.machine.specs.Act.{raw, Out, Act, go_on, ◌>>=◌, refuse, give, fail, load, store, held, out_of, DoesIn, Does, Gives}
 
 -- what the exit of a `?` returns
 pub passed_on : {A : Type 0} {e : Fault} (s : Result A Fault) → IsErrAnd s (λ y. y ≡ e) → s ≡ Err e
@@ -46,6 +46,15 @@ module _ {A B : Type 0} {act : Act A} {ws ws' : List ℕ} (k : A → Act B) wher
 
   pub stops : {s : Result B Fault} {e : Fault} → Does ws act (Err e) ws' → IsErrAnd s (λ y. y ≡ e) → Does ws (act >>= k) s ws'
   stops h i = whatever (λ ts. stops_in k (in_both h ts) i)
+
+  -- what is left to do behind it
+  pub onward : {a : A} (ts : List ℕ) → Does ws act (Ok a) ws' → (act >>= k) (raw ts ws) ≡ k a (raw ts ws')
+  unfolding ◌>>=◌ go_on out_of
+  onward ts h = ap (λ (o : Out A). go_on o k) (sym (h.equal ts))
+
+-- what is left does what was to be done
+pub carried : {A : Type 0} {act act' : Act A} {ws ws' ws'' : List ℕ} {s : Result A Fault} → ((ts : List ℕ) → act (raw ts ws) ≡ act' (raw ts ws')) → Does ws' act' s ws'' → Does ws act s ws''
+carried e h = record { equal = λ ts. h.equal ts ∙ sym (e ts) }
 
 pub last : {A : Type 0} {act : Act A} {ws ws' : List ℕ} {s : Result A Fault} {e : Fault} → Does ws act (Err e) ws' → IsErrAnd s (λ y. y ≡ e) → Does ws act s ws'
 last h i = whatever (λ ts. last_in (in_both h ts) i)

@@ -12,13 +12,15 @@ use mir.Syntax.{w32}
 use mir.Val.{Fits, SFits}
 use mir.Facts.{to_z-of_z}
 use Rattle.meaning.specs.Basics.{if◌then◌otherwise◌}
+use Rattle.std.specs.Prelude.{Result, Ok, Err}
+use Rattle.machine.specs.declared.Fault.{Fault}
 use Rattle.machine.specs.declared.Value.{Value}
 use Rattle.machine.specs.declared.Value.TheVariants.{Shape}
 use Rattle.machine.specs.declared.Answer.{Answer}
 use Rattle.machine.specs.declared.Answer.TheVariants.{Good, Bad}
 use Rattle.machine.specs.declared.Figure.{Figure}
 use Rattle.machine.specs.Layout.{shapes_used, shapes_granted, waiting_held, Room}
-use Rattle.machine.specs.Act.{Raw, raw, Out, done, stop, go_on, ◌>>=◌, give, load, store, held, spend, count, shown, passed, Answers, Passes, Gives}
+use Rattle.machine.specs.Act.{Does, out_of, Raw, raw, Out, done, stop, go_on, ◌>>=◌, give, load, store, held, spend, count, shown, passed, Answers, Passes, Gives}
 use Rattle.machine.specs.Shapes.{is_group_at, destroyed_at, figure_at, put_figure, new_shape}
 use Rattle.machine.specs.Groups.{component_at, new_group, way_place, await, group_waiting, remake_reached, remake_left, remake_group}
 use Rattle.stores.proofs.Acts.{after_pass, after_refusal, not_stopped}
@@ -48,20 +50,20 @@ made_anywhere g p q f r = go (leb (get_or r.words shapes_used 0 + 1) (shapes_gra
     go true e = rw e
     go false e = rw e
 
-module _ (g ws : List ℕ) (tag c : ℕ) {n : ℤ} (j : SFits w32 n) (f fs : Figure) (i : fs ≡ figure_at ws c) (e : f ≡ changed tag fs (H.held n)) (q : ℕ) (r : Answer) (ws₁ : List ℕ)
-    (h : Answers ws (new_shape g q f) r ws₁) where
-  renewed_is : (p : ℕ) (ts : List ℕ) → renewed g tag n c ws p (raw ts ws) ≡ go_on (stops_at 76 p (shown r ts ws₁)) (λ _. await (get_or ws shapes_used 0))
+module _ (g ws : List ℕ) (tag c : ℕ) {n : ℤ} (j : SFits w32 n) (f fs : Figure) (i : fs ≡ figure_at ws c) (e : f ≡ changed tag fs (H.held n)) (q : ℕ) (r : Result Value Fault) (ws₁ : List ℕ)
+    (h : Does ws (new_shape g q f) r ws₁) where
+  renewed_is : (p : ℕ) (ts : List ℕ) → renewed g tag n c ws p (raw ts ws) ≡ go_on (stops_at 76 p (out_of r ts ws₁)) (λ _. await (get_or ws shapes_used 0))
   unfolding renewed changing ◌>>=◌
   renewed_is p ts =
       let x : f ≡ changed tag (figure_at ws c) n = e ∙ rw (i, to_z-of_z j) in
       ap (λ o. go_on o (λ _. await (get_or ws shapes_used 0))) (rw (← x) (made_anywhere g p q f (raw ts ws)) ∙ ap (stops_at 76 p) (sym (h.equal ts)))
 
-  pub no_shape_lem : {m s : ℕ} → r ≡ Bad m s → Ends ws (renewed g tag n c ws) 76 ws₁
-  unfolding go_on shown passed stops_at
+  pub no_shape_lem : {x : Fault} → r ≡ Err x → Ends ws (renewed g tag n c ws) 76 ws₁
+  unfolding go_on out_of passed stops_at
   no_shape_lem t = record { equal = λ p ts. sym (renewed_is p ts ∙ rw t) }
 
-  pub renews : {v : Value} (ws₂ : List ℕ) → r ≡ Good v → Gives ws₁ (await (get_or ws shapes_used 0)) tt ws₂ → Ends ws (renewed g tag n c ws) 0 ws₂
-  unfolding go_on shown passed stops_at
+  pub renews : {v : Value} (ws₂ : List ℕ) → r ≡ Ok v → Gives ws₁ (await (get_or ws shapes_used 0)) tt ws₂ → Ends ws (renewed g tag n c ws) 0 ws₂
+  unfolding go_on out_of passed stops_at
   renews ws₂ t a = record { equal = λ p ts. a.equal ts ∙ sym (renewed_is p ts ∙ rw t) }
 
 -- ---- a component

@@ -24,11 +24,11 @@ fn renew(words: &mut [u64], grants: &[u64; 5], tag: u64, by: i32, c: u32) -> u64
     let j = words[counters::SHAPES];
     let f = changes::changed(tag, shapes::figure_at(words, c), by);
     match shapes::new_shape(words, grants, 0, f) {
-        Answer::Good(_) => {
+        Ok(_) => {
             waiting::await_shape(words, j);
             0
         }
-        Answer::Bad(_, _) => 76,
+        Err(_) => 76,
     }
 }
 

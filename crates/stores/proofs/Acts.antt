@@ -83,6 +83,17 @@ module _ {ws : List ℕ} {counter granted amount : ℕ} {ws' : List ℕ} where
       go true e q = record { within = leb-true _ _ e; words = ap words_in q }
       go false e q = let x : true ≡ false = ap is_done q in let z : ◌≡◌ {A = ℕ} 0 1 = cc in absurd (omega arith)
 
+  pub covered : (n p : ℕ) → Does ws (spend counter granted amount n p) (Ok tt) ws' → Paid ws counter granted amount ws'
+  unfolding out_of spend if◌then◌otherwise◌ words_in is_done
+  covered n p h = go (leb (get_or ws counter 0 + amount) granted) refl (h.equal [])
+    where
+      go : (b : Bool) → leb (get_or ws counter 0 + amount) granted ≡ b
+          → ◌≡◌ {A = Out (Unit {0})} (done tt (raw [] ws'))
+          (if b then (λ _. done tt (raw [] (set ws counter (get_or ws counter 0 + amount)))) otherwise λ _. stop n p (raw [] ws))
+          → Paid ws counter granted amount ws'
+      go true e q = record { within = leb-true _ _ e; words = ap words_in q }
+      go false e q = let x : true ≡ false = ap is_done q in let z : ◌≡◌ {A = ℕ} 0 1 = cc in absurd (omega arith)
+
   pub short : Pays ws counter granted amount false ws' → Short ws counter granted amount ws'
   unfolding passed spend if◌then◌otherwise◌ words_in is_done
   short h = go (leb (get_or ws counter 0 + amount) granted) refl (h.equal 0 0 [])

@@ -1,7 +1,7 @@
 -- What each way through the code does.
 use Prim.Native.Nat.{ℕ, zero, suc, ◌+◌, ◌-◌, ◌*◌, ◌/◌, ◌%◌, ◌^◌, ◌≤◌, ◌<◌}
 use mathlib.Core.Path.{◌≡◌, refl, ◌∙◌}
-use mathlib.Core.Bool.{Bool, true, false, not}
+use mathlib.Core.Bool.{Bool, true, false}
 use mathlib.Core.List.{List, [], ◌∷◌}
 use native.Mathlib.Omega.{arith}
 use native.Mathlib.Nat.{le_trans, mul-le-mul_left}
@@ -12,19 +12,19 @@ use lib.Signed.{mag}
 use mir.Syntax.{w32}
 use mir.Val.{to_z, of_z, SFits}
 use mir.Facts.{to_z-of_z}
-use borrow.Author.Tests.{not-true, not-false, le-leb, lt-leb}
+use borrow.Author.Tests.{le-leb, lt-leb}
 use Rattle.meaning.specs.Integer.{bits}
-use Rattle.machine.specs.declared.Value.TheVariants.{Table, Shape}
-use Rattle.machine.specs.declared.Answer.TheVariants.{Good, Bad}
+use Rattle.machine.specs.declared.Value.TheVariants.{Table}
 use Rattle.machine.specs.Layout.{steps_used, shapes_used, tables_made, arguments_held, calls_used}
 use Rattle.machine.specs.Layout.{steps_granted, shapes_granted, stack_words, argument_place, shape_place, component_place, path_place, Room}
-use Rattle.machine.specs.Act.{go_on, give, fail, refuse, load, store, spend, count, new_table, shown, passed, Answers, Passes, Pays, Gives, ◌>>=◌}
+use Rattle.machine.specs.Act.{go_on, give, fail, refuse, load, store, spend, count, new_table, passed, Does, Passes, Pays, Gives, ◌>>=◌}
 use Rattle.machine.specs.declared.Figure.{Figure}
-use Rattle.machine.specs.Shapes.{first_word, pair_word, figure_laid, put_figure, low_number, high_number, figure_at, kind_group, destroyed_at, is_group_at, new_shape, destroy}
+use Rattle.machine.specs.Shapes.{first_word, pair_word, figure_laid, put_figure, low_number, high_number, figure_at, kind_group, destroyed_at, is_group_at, destroy}
 use Rattle.machine.specs.Groups.{component_at, followers_at, first_at, count_at}
 use Rattle.machine.specs.Loops.{mark_place}
 use Rattle.machine.specs.Stack.{push, drop_to}
-use Rattle.stores.proofs.Acts.{paid, short}
+use Rattle.stores.proofs.Acts.{covered}
+use Rattle.std.specs.Prelude.{Ok}
 use Rattle.meaning.specs.Basics.{if◌then◌otherwise◌}
 
 -- ---- words
@@ -115,26 +115,17 @@ pub lays_figure : (ws : List ℕ) (at : ℕ) (f : Figure) (w x y : ℕ) → mag 
     → set (set (set ws at w) (at + 1) x) (at + 2) y ≡ figure_laid ws at f
 lays_figure ws at f w x y la lb lc ld h k l = rw (h, k, l, back {r = f.a} la refl, back {r = f.b} lb refl, back {r = f.c} lc refl, back {r = f.d} ld refl)
 
-module _ (ws g : List ℕ) (p : ℕ) (f : Figure) (ws' : List ℕ) (ok : Bool) (h : Pays ws shapes_used (shapes_granted g) 1 ok ws') where
-  pub no_shape_lem : not ok ≡ true → Answers ws (new_shape g p f) (Bad 76 p) ws'
-  unfolding new_shape ◌>>=◌ go_on load spend shown if◌then◌otherwise◌
-  no_shape_lem t =
-      let q = short (rw (not-true ok t) at h) in
-      record { equal = λ ts. rw (q.words, lt-leb (get_or ws shapes_used 0 + 1) (shapes_granted g) q.beyond) }
-
-  pub new_shape_lem : (k at : ℕ) (ws'' : List ℕ) → not ok ≡ false → k ≡ get_or ws shapes_used 0 → at ≡ shape_place k → ws'' ≡ figure_laid ws' at f → Answers ws (new_shape g p f) (Good (Shape k)) ws''
-  unfolding new_shape ◌>>=◌ go_on load put_figure spend give shown if◌then◌otherwise◌
-  new_shape_lem k at ws'' t i j d =
-      let q = paid (rw (not-false ok t) at h) in
-      record { equal = λ ts. rw (d, j, i, q.words, le-leb (get_or ws shapes_used 0 + 1) (shapes_granted g) q.within) }
+pub puts_figure : {ws ws' : List ℕ} (f : Figure) (i : ℕ) {at : ℕ} → at ≡ shape_place i → ws' ≡ figure_laid ws at f → Gives ws (put_figure (shape_place i) f) tt ws'
+unfolding put_figure
+puts_figure f i e h = record { equal = λ ts. rw (h, e) }
 
 -- there is room for one more
-module _ (ws g ws' : List ℕ) (ok : Bool) (h : Pays ws shapes_used (shapes_granted g) 1 ok ws') (t : not ok ≡ false) (r : Room g ws) where
+module _ {ws g ws' : List ℕ} (n p : ℕ) (h : Does ws (spend shapes_used (shapes_granted g) 1 n p) (Ok tt) ws') (r : Room g ws) where
   pub shape_number : get_or ws shapes_used 0 < 65536
-  shape_number = omega (arith, (paid (rw (not-false ok t) at h)).within, r.shapes)
+  shape_number = omega (arith, (covered n p h).within, r.shapes)
 
-  pub shape_room : (k at : ℕ) → k ≡ get_or ws shapes_used 0 → at ≡ shape_place k → length ws' ≡ length ws → at + 3 ≤ length ws'
-  shape_room k at i j l = omega (arith, (paid (rw (not-false ok t) at h)).within, r.words)
+  pub shape_room : (at : ℕ) → at ≡ shape_place (get_or ws shapes_used 0) → length ws' ≡ length ws → at + 3 ≤ length ws'
+  shape_room at j l = omega (arith, (covered n p h).within, r.words)
 
 -- ---- arguments
 module _ (ws : List ℕ) (w : ℕ) where

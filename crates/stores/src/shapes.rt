@@ -1,11 +1,11 @@
 // Shapes.
 ghost use Rattle.std.specs.Prelude.{◌+◌, ◌≤◌, ◌≡◌, length};
 ghost use Rattle.machine.specs.Layout.{Room, shape_place};
-ghost use Rattle.machine.specs.Act.{Answers, Gives};
+ghost use Rattle.machine.specs.Act.{Does, Gives};
 ghost use Rattle.machine.specs.Shapes.{first_word, pair_word, figure_laid, low_number, high_number, destroyed_at, is_group_at, figure_at, new_shape, destroy};
 
 use crate::{counters, words};
-use machine::{Answer, Figure, Value, granted, layout};
+use machine::{Fault, Figure, Value, granted, layout};
 
 // Where a shape's words stand.
 pub fn place_of(i: u32) -> usize
@@ -82,19 +82,22 @@ fn put_figure(words: &mut [u64], at: usize, f: Figure)
     words[at + 2] = y;
 }
 
-// A new shape; 76 if none is left.
-pub fn new_shape(words: &mut [u64], grants: &[u64; 5], p: u64, f: Figure) -> Answer
+// A new shape, if one is left.
+pub fn new_shape(words: &mut [u64], grants: &[u64; 5], p: u64, f: Figure) -> Result<Value, Fault>
     requires { Room grants.now words.old }
-    ensures { Answers words.old (new_shape grants.now p f) result words.new }
+    ensures { Does words.old (new_shape grants.now p f) result words.new }
 {
     let i = words[machine::counters::SHAPES];
     let limit = grants[granted::SHAPES];
-    if !counters::spend_one(words, machine::counters::SHAPES, limit) {
-        return Answer::Bad(76, p);
-    }
+    counters::pay_one(
+        words,
+        machine::counters::SHAPES,
+        limit,
+        Fault::NoShapeLeft(p),
+    )?;
     let k = i as u32;
     put_figure(words, place_of(k), f);
-    Answer::Good(Value::Shape(k))
+    Ok(Value::Shape(k))
 }
 
 pub fn destroy(words: &mut [u64], i: u32)

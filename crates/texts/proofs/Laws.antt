@@ -1,20 +1,19 @@
 -- What each way through the code does, and what a joined text holds.
 use mathlib.Core.Path.{◌≡◌, ◌∙◌, refl, sym, ap}
-use mathlib.Core.Bool.{Bool, true, false, not}
+use mathlib.Core.Bool.{Bool, true, false}
 use mathlib.Core.List.{List, []}
 use Prim.Native.Nat.{ℕ, zero, suc, ◌+◌, ◌-◌, ◌*◌, ◌%◌, ◌≤◌, ◌<◌}
 use native.Mathlib.Omega.{arith}
-use borrow.Author.Tests.{ne_eqb, eqb-true, eqb-false, le-leb, lt-leb, not-true, not-false}
+use borrow.Author.Tests.{ne_eqb, eqb-true, eqb-false}
 use lib.Dec.{eqb}
 use lib.ListN.{length, get_or, take, drop, length-take, length-drop, drop_of_length-le}
 use lib.Seq.{take_all, take-nil, length-take-le}
 use Rattle.meaning.specs.Basics.{if◌then◌otherwise◌, same_text}
-use Rattle.machine.specs.declared.Value.TheVariants.{Text}
-use Rattle.machine.specs.declared.Answer.TheVariants.{Good, Bad}
+use Rattle.std.specs.Prelude.{Ok}
 use Rattle.machine.specs.Layout.{Lent}
-use Rattle.machine.specs.Act.{raw, go_on, load, give, spend, shown, Pays, ◌>>=◌}
-use Rattle.machine.specs.Texts.{origin_in, start_in, size_in, part, text_of, laid_at, joined, put_joined, join_texts}
-use Rattle.stores.proofs.Acts.{paid, short}
+use Rattle.machine.specs.Act.{spend, out_of, DoesIn, Does}
+use Rattle.machine.specs.Texts.{origin_in, start_in, size_in, part, text_of, laid_at, joined, put_joined}
+use Rattle.stores.proofs.Acts.{covered}
 use Rattle.texts.specs.Laying.{Clipped, Lays, Laid}
 use Rattle.texts.proofs.Layer.{laid_laid, kept_laid, part_take, part_clip, length_part}
 use Rattle.texts.proofs.Comparison.{same_self}
@@ -88,17 +87,11 @@ module _ (program texts : List ℕ) (used at h start size n : ℕ) (e : start �
       record { upto = rw (q, length_part (take used texts) start n (rw k c.within)); holds = rw q (l ∙ rw (used_part texts used start n c.within)) }
 
 -- ---- two texts joined
-module _ (program texts words grants : List ℕ) (p a b x y : ℕ) (words' : List ℕ) (ok : Bool)
-    (e : x ≡ size_in a) (f : y ≡ size_in b) (h : Pays words 3 (get_or grants 3 0) (x + y) ok words') where
-  pub no_text : not ok ≡ true → shown (Bad 78 p) texts words' ≡ join_texts program grants p a b (raw texts words)
-  unfolding join_texts ◌>>=◌ go_on load spend shown if◌then◌otherwise◌
-  no_text t =
-      let q = short (rw (not-true ok t) at h) in
-      rw (q.words, ← e, ← f, lt-leb (get_or words 3 0 + (x + y)) (get_or grants 3 0) q.beyond)
-
-  module _ (t : not ok ≡ false) (l : Lent grants texts words) where
+module _ (program texts words grants : List ℕ) (p a b x y : ℕ) (words' : List ℕ) (e : x ≡ size_in a) (f : y ≡ size_in b)
+    (h : Does words (spend 3 (get_or grants 3 0) (x + y) 78 p) (Ok tt) words') where
+  module _ (l : Lent grants texts words) where
     within : get_or words 3 0 + (x + y) ≤ get_or grants 3 0
-    within = (paid (rw (not-false ok t) at h)).within
+    within = (covered 78 p h).within
 
     pub used_small : get_or words 3 0 + (x + y) < 65536
     used_small = omega (arith, within, l.room.text)
@@ -121,14 +114,13 @@ module _ (program texts words grants : List ℕ) (p a b x y : ℕ) (words' : Lis
     }
 
     pub joins : (end end' : ℕ) (texts' texts'' : List ℕ) → Laid program texts (get_or words 3 0) (get_or words 3 0) a end texts' → Laid program texts' (get_or words 3 0) end b end' texts''
-        → shown (Good (Text (1 + 2 * (get_or words 3 0 + 65536 * (x + y))))) texts'' words' ≡ join_texts program grants p a b (raw texts words)
-    unfolding join_texts put_joined ◌>>=◌ go_on load give spend shown if◌then◌otherwise◌
+        → DoesIn texts words' (put_joined program (get_or words 3 0) a b) (Ok tt) texts'' words'
+    unfolding put_joined out_of
     joins end end' texts' texts'' g k =
-        let q = paid (rw (not-false ok t) at h) in
         let s : take (get_or words 3 0) texts' ≡ take (get_or words 3 0) texts =
         rw g.holds (kept_laid texts (get_or words 3 0) _ (omega (arith, within, l.texts))) in
         let z : texts'' ≡ laid_at texts (get_or words 3 0) (joined program texts (get_or words 3 0) a b) =
         k.holds ∙ rw (s, g.upto, g.holds)
         (laid_laid texts (get_or words 3 0) (text_of program (take (get_or words 3 0) texts) a) (text_of program (take (get_or words 3 0) texts) b)
         (omega (arith, within, l.texts, text_short (take (get_or words 3 0) texts) a))) in
-        rw (z, q.words, ← e, ← f, le-leb (get_or words 3 0 + (x + y)) (get_or grants 3 0) q.within)
+        record { equal = rw z }

@@ -4,11 +4,11 @@
 ghost use Rattle.std.specs.Prelude.{◌≡◌, length};
 ghost use Rattle.meaning.specs.Basics.{same_text};
 ghost use Rattle.machine.specs.Layout.{Lent};
-ghost use Rattle.machine.specs.Act.{raw, shown};
+ghost use Rattle.machine.specs.Act.{DoesIn};
 ghost use Rattle.machine.specs.Texts.{start_in, size_in, part, text_of, laid_at, join_texts};
 ghost use Rattle.texts.specs.Laying.{Clipped, Copies, Lays, Laid};
 
-use machine::{Answer, Value, counters, granted};
+use machine::{Fault, Value, counters, granted};
 
 // Where a handle's text starts, and how long it is.
 fn start_of(h: u64) -> usize
@@ -131,7 +131,7 @@ fn put_text(program: &[u8], texts: &mut [u8], used: usize, at: usize, h: u64) ->
     at + n
 }
 
-// Two texts, one behind the other; 78 if there are not enough text bytes left. Nothing is written then.
+// Two texts, one behind the other. Nothing is written if there are not enough text bytes left.
 pub fn join_texts(
     program: &[u8],
     texts: &mut [u8],
@@ -140,18 +140,16 @@ pub fn join_texts(
     p: u64,
     a: u64,
     b: u64,
-) -> Answer
+) -> Result<Value, Fault>
     requires { Lent grants.now texts.old words.old }
-    ensures { shown result texts.new words.new ≡ join_texts program.now grants.now p a b (raw texts.old words.old) }
+    ensures { DoesIn texts.old words.old (join_texts program.now grants.now p a b) result texts.new words.new }
 {
     let used = words[counters::TEXT];
     let granted = grants[granted::TEXT];
-    let size = size_of(a) + size_of(b);
-    if !stores::counters::spend(words, counters::TEXT, granted, size as u64) {
-        return Answer::Bad(78, p);
-    }
+    let size = (size_of(a) + size_of(b)) as u64;
+    stores::counters::pay(words, counters::TEXT, granted, size, Fault::NoTextLeft(p))?;
     let at = used as usize;
     let end = put_text(program, texts, at, at, a);
     put_text(program, texts, at, end, b);
-    Answer::Good(Value::Text(1 + 2 * (used + 65536 * size as u64)))
+    Ok(Value::Text(1 + 2 * (used + 65536 * size)))
 }

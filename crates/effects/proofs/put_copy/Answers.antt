@@ -7,8 +7,8 @@ returns-then-not-is_declared c = search unknown
 pub returns-then-is_dead : goal.returns-then-is_dead
 returns-then-is_dead c = search shape_dead
 
-pub returns-in-Good : goal.returns-in-Good
-returns-in-Good c = search copy_put
+pub returns-in-Ok : goal.returns-in-Ok
+returns-in-Ok c = search copy_put
 
-pub returns-in-Bad : goal.returns-in-Bad
-returns-in-Bad c = search no_copy
+pub returns-in-Err : goal.returns-in-Err
+returns-in-Err c = search no_copy

@@ -1,8 +1,8 @@
 use Rattle.remaking.proofs.RemakingLaws.{no_shape_lem, renews}
 use Rattle.remaking.proofs.renew.Goals as goal
 
-pub returns-in-Good : goal.returns-in-Good
-returns-in-Good c = search renews
+pub returns-in-Ok : goal.returns-in-Ok
+returns-in-Ok c = search renews
 
-pub returns-in-Bad : goal.returns-in-Bad
-returns-in-Bad c = search no_shape_lem
+pub returns-in-Err : goal.returns-in-Err
+returns-in-Err c = search no_shape_lem

@@ -1,8 +1,10 @@
-use Rattle.groups.proofs.MakingLaws.{copied_group, copy_sources}
+use Rattle.groups.specs.Making.{copy_group}
+use Rattle.groups.proofs.MakingLaws.{copy_sources}
 use Rattle.groups.proofs.making.copy_group.Goals as goal
 
-pub new_group-r-requires : goal.new_group-r-requires
-new_group-r-requires c = search copy_sources
+pub new_group-requires : goal.new_group-requires
+new_group-requires c = search copy_sources
 
 pub returns : goal.returns
-returns c = search copied_group
+unfolding copy_group
+returns c = rw (← c.first_at.ensures, ← c.place_of-at.ensures, ← c.count_at-n.ensures) c.new_group.ensures

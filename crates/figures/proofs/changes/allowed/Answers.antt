@@ -1,5 +1,5 @@
 use Rattle.figures.proofs.ChangeLaws.{makes_17, makes_18, makes_19, makes_20, zero_20, makes_22, makes_23, makes_none}
-use Rattle.figures.proofs.changes.refusal.Goals as goal
+use Rattle.figures.proofs.changes.allowed.Goals as goal
 
 pub returns-then-is_zero : goal.returns-then-is_zero
 returns-then-is_zero c = search zero_20
